@@ -1,0 +1,7 @@
+// x
+use text::Refusal;
+
+pub enum Assembled {
+    Accepted(u16),
+    Refused(Refusal),
+}

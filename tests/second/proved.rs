@@ -1,0 +1,86 @@
+//! The proved library behind safe functions. It is linked in when this is built with `--cfg proved`; without that the
+//! generators and the second program can still be run by themselves.
+
+/// Text, memory, labels (number * 65536 + address), and the answer: 0, first stack word, 0; or number, place, line.
+pub type Assemble = fn(&[u8], &mut [u16], &mut [u32], &mut [u64; 3]);
+
+/// Memory, first stack word, input, output, budget, and the answer: stop, count, taken, written, A, B, C, P, G.
+pub type Run = fn(&mut [u16], u16, &[u8], &mut [u8], u64, &mut [u64; 9]);
+
+#[derive(Clone, Copy)]
+pub struct Library {
+    pub assemble: Assemble,
+    pub run: Run,
+}
+
+#[cfg(not(proved))]
+pub fn library() -> Option<Library> {
+    None
+}
+
+#[cfg(proved)]
+pub fn library() -> Option<Library> {
+    Some(Library { assemble: linked::assemble, run: linked::run })
+}
+
+#[cfg(proved)]
+mod linked {
+    extern "C" {
+        fn morkvasil_assemble(
+            text: *const u8,
+            text_len: usize,
+            memory: *mut u16,
+            memory_len: usize,
+            labels: *mut u32,
+            labels_len: usize,
+            answer: *mut u64,
+            answer_len: usize,
+        );
+        fn morkvasil_run(
+            memory: *mut u16,
+            memory_len: usize,
+            first: u16,
+            input: *const u8,
+            input_len: usize,
+            output: *mut u8,
+            output_len: usize,
+            budget: u64,
+            answer: *mut u64,
+            answer_len: usize,
+        );
+    }
+
+    pub fn assemble(text: &[u8], memory: &mut [u16], labels: &mut [u32], answer: &mut [u64; 3]) {
+        // Sound: every pointer comes from a slice that lives through the call, with that slice's own length.
+        unsafe {
+            morkvasil_assemble(
+                text.as_ptr(),
+                text.len(),
+                memory.as_mut_ptr(),
+                memory.len(),
+                labels.as_mut_ptr(),
+                labels.len(),
+                answer.as_mut_ptr(),
+                answer.len(),
+            );
+        }
+    }
+
+    pub fn run(memory: &mut [u16], first: u16, input: &[u8], output: &mut [u8], budget: u64, answer: &mut [u64; 9]) {
+        // Sound: as above.
+        unsafe {
+            morkvasil_run(
+                memory.as_mut_ptr(),
+                memory.len(),
+                first,
+                input.as_ptr(),
+                input.len(),
+                output.as_mut_ptr(),
+                output.len(),
+                budget,
+                answer.as_mut_ptr(),
+                answer.len(),
+            );
+        }
+    }
+}
