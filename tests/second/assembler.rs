@@ -129,7 +129,9 @@ fn fill_in(layout: &Layout, memory_len: usize) -> Result<Vec<u16>, Fault> {
         let find = |label: i64| addresses.get(&(label as u16)).copied().ok_or((22, *place));
         match item {
             Item::Begin | Item::End | Item::Label(_) => {}
-            Item::Instruction(word, Operand::Number(number)) if short(*number) => memory[*address] = word | *number as u16,
+            Item::Instruction(word, Operand::Number(number)) if short(*number) => {
+                memory[*address] = word | *number as u16
+            }
             Item::Instruction(word, operand) => {
                 memory[*address] = word | 512;
                 memory[*address + 1] = match operand {

@@ -64,14 +64,20 @@ fn compare_all(library: Option<Library>, cases: u64) -> Result<String, String> {
         let case = generate::good_text(seed);
         let wanted = compare_text(library, &case, seed).map_err(|report| headed("good text", number, seed, &report))?;
         if let Some(refusal) = wanted.refusal {
-            return Err(headed("good text", number, seed, &format!("the second assembler refuses it: {refusal:?}\n{}", told_text(&case))));
+            return Err(headed(
+                "good text",
+                number,
+                seed,
+                &format!("the second assembler refuses it: {refusal:?}\n{}", told_text(&case)),
+            ));
         }
         *texts.entry(0).or_default() += 1;
     }
     for number in 0..cases {
         let seed = (1 << 32) + number;
         let case = generate::damaged_text(seed);
-        let wanted = compare_text(library, &case, seed).map_err(|report| headed("damaged text", number, seed, &report))?;
+        let wanted =
+            compare_text(library, &case, seed).map_err(|report| headed("damaged text", number, seed, &report))?;
         *texts.entry(wanted.refusal.map_or(0, |refusal| refusal.number)).or_default() += 1;
     }
     for number in 0..cases {
@@ -84,14 +90,18 @@ fn compare_all(library: Option<Library>, cases: u64) -> Result<String, String> {
         }
     }
     let least = cases / 100;
-    let told_texts = format!("{} texts ({} accepted, {})", 2 * cases, often(&texts, 0), enough(&texts, &REFUSALS, least)?);
+    let told_texts =
+        format!("{} texts ({} accepted, {})", 2 * cases, often(&texts, 0), enough(&texts, &REFUSALS, least)?);
     let told_images = format!("{cases} images ({})", enough(&stops, &STOPS, least)?);
     if library.is_some() {
         return Ok(format!("compared {told_texts} and {told_images}: all equal"));
     }
-    let listed: Vec<u64> = (0..7).chain((1..=28).filter(|act| !matches!(act, 20..=21 | 24..=26)).map(|act| 100 + act)).collect();
+    let listed: Vec<u64> =
+        (0..7).chain((1..=28).filter(|act| !matches!(act, 20..=21 | 24..=26)).map(|act| 100 + act)).collect();
     let done = enough(&acts, &listed, least / 4)?;
-    Ok(format!("made {told_texts} and {told_images}\ninstructions done (functions 0 to 6; 100 and the number of X): {done}"))
+    Ok(format!(
+        "made {told_texts} and {told_images}\ninstructions done (functions 0 to 6; 100 and the number of X): {done}"
+    ))
 }
 
 fn headed(kind: &str, number: u64, seed: u64, report: &str) -> String {
@@ -120,7 +130,8 @@ fn compare_text(library: Option<Library>, case: &TextCase, seed: u64) -> Result<
         Some(refusal) => [refusal.number, refusal.place as u64, refusal.line as u64],
         None => [0, u64::from(wanted.first_stack_word), 0],
     };
-    let wanted_labels: Vec<u32> = wanted.labels.iter().map(|&(number, address)| u32::from(number) * 65536 + u32::from(address)).collect();
+    let wanted_labels: Vec<u32> =
+        wanted.labels.iter().map(|&(number, address)| u32::from(number) * 65536 + u32::from(address)).collect();
     // Junk beforehand, so that words left alone show.
     let mut random = Random::new(!seed);
     let mut memory: Vec<u16> = (0..case.memory_len).map(|_| random.word()).collect();
@@ -139,7 +150,11 @@ fn compare_text(library: Option<Library>, case: &TextCase, seed: u64) -> Result<
 
 fn told_text(case: &TextCase) -> String {
     let TextCase { text, memory_len, label_room } = case;
-    format!("memory {memory_len} words, {label_room} label records, text of {} bytes:\n\"{}\"\n", text.len(), text.escape_ascii())
+    format!(
+        "memory {memory_len} words, {label_room} label records, text of {} bytes:\n\"{}\"\n",
+        text.len(),
+        text.escape_ascii()
+    )
 }
 
 /// The first entry in which two answers differ, and how many do.
@@ -194,7 +209,11 @@ fn compare_image(library: Option<Library>, case: &ImageCase, seed: u64) -> Resul
     for budget in 0..wanted.count.saturating_add(2).min(case.budget) {
         let (ran, memory, output) = second_run(case, budget);
         if (numbers(&ran), memory, output) != proved_run(library, case, budget, junk) {
-            _ = writeln!(report, "they differ from budget {budget} on, where the second program gives {:?}", numbers(&ran));
+            _ = writeln!(
+                report,
+                "they differ from budget {budget} on, where the second program gives {:?}",
+                numbers(&ran)
+            );
             break;
         }
     }

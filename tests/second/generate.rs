@@ -219,7 +219,8 @@ fn operand(random: &mut Random, labels: &[i64], item: &mut Vec<u8>) -> usize {
         }
         _ => {
             let number = match random.below(8) {
-                0 => random.pick(&[0, 1, 510, 511, 512, 513, 32767, 32768, 65534, 65535, -1, -2, -511, -512, -32767, -32768]),
+                0 => random
+                    .pick(&[0, 1, 510, 511, 512, 513, 32767, 32768, 65534, 65535, -1, -2, -511, -512, -32767, -32768]),
                 1 => random.between(0, 65535),
                 2 => random.between(-32768, -1),
                 3 => random.between(0, 511),
@@ -354,7 +355,11 @@ fn soup(random: &mut Random) -> TextCase {
     let length = random.below(40);
     let mut text = if random.one_in(5) { Vec::new() } else { b"$ ".to_vec() };
     for _ in 0..length {
-        let byte = if random.one_in(60) { random.byte() } else { random.pick(b"$Z  \n LSAJTFKXDIPGC0123456789:::'\"*-/LLL111   ") };
+        let byte = if random.one_in(60) {
+            random.byte()
+        } else {
+            random.pick(b"$Z  \n LSAJTFKXDIPGC0123456789:::'\"*-/LLL111   ")
+        };
         text.push(byte);
     }
     TextCase { text, memory_len: random.pick(&MEMORY_LENGTHS[4..9]), label_room: random.below(4) }
@@ -408,13 +413,18 @@ fn damage_items(random: &mut Random, draft: &mut Draft) {
             draft.words += 2;
         }
         9 => {
-            let labelled: Vec<usize> = (0..draft.items.len()).filter(|&index| draft.items[index].ends_with(b":")).collect();
+            let labelled: Vec<usize> =
+                (0..draft.items.len()).filter(|&index| draft.items[index].ends_with(b":")).collect();
             if !labelled.is_empty() {
                 draft.items.remove(random.pick(&labelled));
             }
         }
         10 => {
-            let number = if random.one_in(3) { hundreds(random) } else { random.pick(&["0", "000", "32768", "65536", "65537"]).to_string() };
+            let number = if random.one_in(3) {
+                hundreds(random)
+            } else {
+                random.pick(&["0", "000", "32768", "65536", "65537"]).to_string()
+            };
             let item = match random.below(4) {
                 0 => format!("{number}:"),
                 1 => format!("JL{number}"),
@@ -441,10 +451,11 @@ fn damage_items(random: &mut Random, draft: &mut Draft) {
         }
         13 => {
             let item = random.pick(&[
-                "DI5", "DP1", "D", "L", "SI", "LIPG1", "LPI1", "L-", "L--1", "L+1", "X+", "XR", "C", "C5", "C'A'", "L\"A\"", "L''",
-                "L'''", "L'*'", "L'AB'", "L'*Q'", "L'*", "L'\n'", "C\"*Q\"", "C\"\n\"", "C\"A\"B", "G1", "GL1", "G1L", "G-1L2", "G1L-2",
-                "G1 L2", "JL", "JL-5", "-5:", "5", "5 :", "5/:", ":", "::", "H1", "l1", "\t", "\r", "LIP2:", "L1L2", "L1\t", "ZZ", "Z$", "$Z",
-                "L99999x", "0x:", "DL0x", "IP2", "P2", "L'\u{7f}'", "L'\u{1f}'", "C\"\u{7f}\"", "C\"\u{80}\"",
+                "DI5", "DP1", "D", "L", "SI", "LIPG1", "LPI1", "L-", "L--1", "L+1", "X+", "XR", "C", "C5", "C'A'",
+                "L\"A\"", "L''", "L'''", "L'*'", "L'AB'", "L'*Q'", "L'*", "L'\n'", "C\"*Q\"", "C\"\n\"", "C\"A\"B",
+                "G1", "GL1", "G1L", "G-1L2", "G1L-2", "G1 L2", "JL", "JL-5", "-5:", "5", "5 :", "5/:", ":", "::", "H1",
+                "l1", "\t", "\r", "LIP2:", "L1L2", "L1\t", "ZZ", "Z$", "$Z", "L99999x", "0x:", "DL0x", "IP2", "P2",
+                "L'\u{7f}'", "L'\u{1f}'", "C\"\u{7f}\"", "C\"\u{80}\"",
             ]);
             insert(random, draft, item.as_bytes().to_vec());
         }
@@ -490,7 +501,10 @@ fn damage_bytes(random: &mut Random, text: &mut Vec<u8>) {
         }
         _ => {
             text.truncate(place);
-            let tail = random.pick(&[" L'", " L'A", " L'*", " L'*N", " C\"", " C\"AB", " C\"*", " D-", " JL", " G1L", " 12", " /", " C", " LI", " Z", "Z'"]);
+            let tail = random.pick(&[
+                " L'", " L'A", " L'*", " L'*N", " C\"", " C\"AB", " C\"*", " D-", " JL", " G1L", " 12", " /", " C",
+                " LI", " Z", "Z'",
+            ]);
             text.extend_from_slice(tail.as_bytes());
         }
     }

@@ -19,6 +19,7 @@ const MEMORY_WORDS: usize = 32_768;
 const LABEL_ROOM: usize = 32_767;
 const OUTPUT_ROOM: usize = 1 << 24;
 const BUDGET: u64 = 1_000_000_000;
+const USAGE: &str = "usage: second FILE [BUDGET] < input, or second --image FILE OUT";
 
 fn main() -> ExitCode {
     let arguments: Vec<String> = std::env::args().skip(1).collect();
@@ -26,8 +27,11 @@ fn main() -> ExitCode {
     let done = match arguments[..] {
         ["--image", file, out] => write_image(file, out),
         [file] => run_file(file, BUDGET),
-        [file, budget] if budget.parse::<u64>().is_ok() => run_file(file, budget.parse().unwrap_or(BUDGET)),
-        _ => Err("usage: second FILE [BUDGET] < input, or second --image FILE OUT".to_string()),
+        [file, budget] => match budget.parse() {
+            Ok(budget) => run_file(file, budget),
+            Err(_) => Err(USAGE.to_string()),
+        },
+        _ => Err(USAGE.to_string()),
     };
     match done {
         Ok(code) => code,

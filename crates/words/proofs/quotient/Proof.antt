@@ -2,53 +2,37 @@ use Rattle.words.proofs.Laws.{by-zero, magnitude-positive, quot-minus, 
 use borrow.Author.Needs.{needs}
 use Rattle.words.proofs.quotient.Statement.{statement}
 use Rattle.words.proofs.quotient.Tie as tie
-use Rattle.words.proofs.quotient.Reads as reads
-use Rattle.words.proofs.quotient.Lts as lts
-use Rattle.words.proofs.magnitude.Reads as magnitude-reads
-use Rattle.words.proofs.negative.Reads as negative-reads
-use Rattle.words.proofs.signed.Reads as signed-reads
 
--- src/lib.rt:76:9
 returns : tie.Need-returns
 returns c = by-zero _ _ (c .if1 .taken)
 
--- src/lib.rt:78:13
 magnitude-requires : tie.Need-magnitude-requires
 magnitude-requires c κs = search needs
 
--- src/lib.rt:78:28
 magnitude-requires-2 : tie.Need-magnitude-requires-2
 magnitude-requires-2 c κs = search needs
 
--- src/lib.rt:78:13
 div-n : tie.Need-div-n
 div-n c = rw (c .magnitude2 .ensures) (magnitude-positive _ (search needs) (c .before .before .if1 .left))
 
--- src/lib.rt:79:8
 negative-requires : tie.Need-negative-requires
 negative-requires c κs = search needs
 
--- src/lib.rt:80:36
 negative-requires-2 : tie.Need-negative-requires-2
 negative-requires-2 c κs = search needs
 
--- src/lib.rt:80:28
 signed-requires : tie.Need-signed-requires
 signed-requires c κs = search needs
 
--- src/lib.rt:80:9
 returns-2 : tie.Need-returns-2
 returns-2 c = quot-minus _ _ (c .before .before .before .before .before .before .if1 .left) (c .before .before .before .before .before .magnitude .ensures) (c .before .before .before .before .magnitude2 .ensures) (c .before .before .before .negative .ensures) (c .before .before .if2 .taken) (c .before .negative2 .ensures) (c .signed .ensures)
 
--- src/lib.rt:82:24
 negative-requires-3 : tie.Need-negative-requires-3
 negative-requires-3 c κs = search needs
 
--- src/lib.rt:82:17
 signed-requires-2 : tie.Need-signed-requires-2
 signed-requires-2 c κs = search needs
 
--- src/lib.rt:72:1
 returns-3 : tie.Need-returns-3
 returns-3 c = quot-plus _ _ (c .before .before .before .before .before .before .if1 .left) (c .before .before .before .before .before .magnitude .ensures) (c .before .before .before .before .magnitude2 .ensures) (c .before .before .before .negative .ensures) (c .before .before .if2 .left) (c .before .negative3 .ensures) (c .signed2 .ensures)
 

@@ -2,18 +2,13 @@ use Rattle.words.proofs.Laws.{shl-in, shl-out}
 use borrow.Author.Needs.{needs}
 use Rattle.words.proofs.shift_left.Statement.{statement}
 use Rattle.words.proofs.shift_left.Tie as tie
-use Rattle.words.proofs.shift_left.Reads as reads
-use Rattle.words.proofs.shift_left.Lts as lts
 
--- src/lib.rt:147:17
 shl-result : tie.Need-shl-result
 shl-result c = search needs
 
--- src/lib.rt:144:1
 returns : tie.Need-returns
 returns c = shl-in _ _ (c .if1 .taken)
 
--- src/lib.rt:144:1
 returns-2 : tie.Need-returns-2
 returns-2 c = shl-out _ _ (c .if1 .left)
 

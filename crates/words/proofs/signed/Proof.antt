@@ -2,19 +2,13 @@ use Rattle.words.proofs.Laws.{signed-minus, signed-plus}
 use borrow.Author.Needs.{needs}
 use Rattle.words.proofs.signed.Statement.{statement}
 use Rattle.words.proofs.signed.Tie as tie
-use Rattle.words.proofs.signed.Reads as reads
-use Rattle.words.proofs.signed.Lts as lts
-use Rattle.words.proofs.negation.Reads as negation-reads
 
--- src/lib.rt:69:16
 negation-requires : tie.Need-negation-requires
 negation-requires c κs = search needs
 
--- src/lib.rt:66:1
 returns : tie.Need-returns
 returns c = signed-minus _ (search needs) (c .before .if1 .taken) (c .negation .ensures)
 
--- src/lib.rt:66:1
 returns-2 : tie.Need-returns-2
 returns-2 c = signed-plus _ (search needs) (c .if1 .left)
 

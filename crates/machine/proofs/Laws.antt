@@ -1,0 +1,235 @@
+-- What the functions' answers cite: from an enum's answer back to the outcome that it stands for, and each act's
+-- outcome from those of its parts.
+use Prim.Native.Nat.{ℕ, zero, suc, _+_, _-_, _/_, _%_, _<_, _≤_}
+use mathlib.Core.Path.{_≡_, refl, sym, ap, _∙_}
+use mathlib.Core.Bool.{Bool, true, false, cond}
+use mathlib.Core.List.{List}
+use native.Mathlib.Omega.{arith}
+use lib.ListN.{length, getD, set, length-set}
+use borrow.Author.Tests.{lt-ltb, le-ltb, eq-eqb, ne-eqb}
+use Rattle.words.specs.Words.{add}
+use Rattle.machine.specs.Outcome.{Out, ok, stop, _>>=_, read, write}
+use Rattle.machine.specs.State.{State, at, withA, withC, framed, took, wrote}
+use Rattle.machine.specs.Fetch.{Fetch, fetch, bit}
+use Rattle.machine.specs.Acts.{indirected, returned, search, switched, received, sent}
+use Rattle.machine.specs.Step.{Turn, done, finished, stopped, turn, keep, stored, called, jumped}
+use Rattle.machine.specs.Answers.{asWord, asFetched, asActed, asTurn, left, Turns}
+use Rattle.machine.specs.declared.Registers.{Registers}
+use Rattle.machine.specs.declared.Word.{Word}
+use Rattle.machine.specs.declared.Word.the-variants as W
+use Rattle.machine.specs.declared.Turn as D
+use Rattle.machine.specs.declared.Turn.the-variants as T
+use Rattle.machine.specs.declared.Fetched.{Fetched}
+use Rattle.machine.specs.declared.Fetched.the-variants as F
+
+-- ---- words: a callee's answer, matched
+
+pub is-ok : (o : Out ℕ) {r : Word} {v : ℕ} → r ≡ asWord o → r ≡ W.Is v → o ≡ ok v
+unfolding asWord
+is-ok (ok a) p q = cc
+is-ok (stop k) p q = let z : _≡_ {A = ℕ} 0 1 = cc in absurd (omega arith)
+
+pub is-stop : (o : Out ℕ) {r : Word} {k : ℕ} → r ≡ asWord o → r ≡ W.Stopped k → o ≡ stop k
+unfolding asWord
+is-stop (ok a) p q = let z : _≡_ {A = ℕ} 0 1 = cc in absurd (omega arith)
+is-stop (stop k) p q = cc
+
+-- ---- reads and writes, within the memory and past it
+
+module _ (m : List ℕ) (i : ℕ) where
+  pub read-in : i < length m → read m i ≡ ok (getD m i 0)
+  unfolding read
+  read-in h = simp (lt-ltb _ _ h)
+
+  pub read-past : length m ≤ i → read m i ≡ stop 32
+  unfolding read
+  read-past h = simp (le-ltb _ _ h)
+
+  pub write-in : (v : ℕ) → i < length m → write m i v ≡ ok (set m i v)
+  unfolding write
+  write-in v h = simp (lt-ltb _ _ h)
+
+  pub write-past : (v : ℕ) → length m ≤ i → write m i v ≡ stop 32
+  unfolding write
+  write-past v h = simp (le-ltb _ _ h)
+
+-- ---- the fetch, from what its callees ensure and how each was matched
+
+module _ (r : Registers) (m : List ℕ) {a : Word} (pa : a ≡ asWord (read m (r .c))) where
+  pub fetch-past : {k : ℕ} → a ≡ W.Stopped k → F.Stopped k ≡ asFetched (fetch r m)
+  unfolding fetch asFetched
+  fetch-past q = simp (is-stop _ pa q)
+
+  module _ {b : Word} {w i : ℕ} (qa : a ≡ W.Is w) (hi : i ≡ add (r .c) 1) (pb : b ≡ asWord (cond (bit 512 w) (read m i) (ok (w % 512)))) where
+    pub fetch-half : {k : ℕ} → b ≡ W.Stopped k → F.Stopped k ≡ asFetched (fetch r m)
+    unfolding fetch asFetched
+    fetch-half qb = simp (is-ok _ pa qa, ← hi, is-stop _ pb qb)
+
+    module _ {d : Word} {n p g t y : ℕ} (qb : b ≡ W.Is n)
+        (hp : p ≡ cond (bit 2048 w) (r .p) 0) (hg : g ≡ cond (bit 1024 w) (r .g) 0) (ht : t ≡ add n p) (hy : y ≡ add t g)
+        (pd : d ≡ asWord (cond (bit 4096 w) (read m y) (ok y))) where
+      pub fetch-operand-past : {k : ℕ} → d ≡ W.Stopped k → F.Stopped k ≡ asFetched (fetch r m)
+      unfolding fetch asFetched
+      fetch-operand-past qd = simp (is-ok _ pa qa, ← hi, is-ok _ pb qb, ← hp, ← hg, ← ht, ← hy, is-stop _ pd qd)
+
+      pub fetch-whole : {x s e : ℕ} → d ≡ W.Is x → s ≡ cond (bit 512 w) 2 1 → e ≡ add (r .c) s → F.One (w / 8192) x e ≡ asFetched (fetch r m)
+      unfolding fetch asFetched
+      fetch-whole qd hs he = simp (is-ok _ pa qa, ← hi, is-ok _ pb qb, ← hp, ← hg, ← ht, ← hy, is-ok _ pd qd, ← hs, ← he)
+
+-- ---- a turn, from an outcome
+
+pub turned : {s : State} {o : Out State} {r : Registers} {m out : List ℕ} → o ≡ ok (at r m out) → {r′ : Registers} → r′ ≡ r → Turns s (turn o) (T.Done r′) m out
+unfolding asTurn left
+turned e q = record { answers = simp (e, q); stores = simp e; writes = simp e }
+
+pub turned-stop : {s : State} {o : Out State} {k : ℕ} → o ≡ stop k → Turns s (turn o) (T.Stopped k) (s .mem) (s .out)
+unfolding asTurn left
+turned-stop e = record { answers = simp e; stores = simp e; writes = simp e }
+
+pub kept : (s : State) (o : Out Registers) {d : D.Turn} → d ≡ asActed o → Turns s (keep s o) d (s .mem) (s .out)
+unfolding keep asActed asTurn left
+kept s (ok r) e = record { answers = e; stores = refl; writes = refl }
+kept s (stop k) e = record { answers = e; stores = refl; writes = refl }
+
+pub kept-to : (s : State) {r r′ : Registers} → r′ ≡ r → Turns s (keep s (ok r)) (T.Done r′) (s .mem) (s .out)
+unfolding keep asTurn left
+kept-to s e = record { answers = ap T.Done e; stores = refl; writes = refl }
+
+-- A given a value v that a callee gave as v′
+pub kept-a : (s : State) {v v′ : ℕ} {r′ : Registers} → r′ ≡ withA v′ (s .regs) → v′ ≡ v → Turns s (keep s (ok (withA v (s .regs)))) (T.Done r′) (s .mem) (s .out)
+kept-a s e q = kept-to s (e ∙ ap (λ (x : ℕ). withA x (s .regs)) q)
+
+pub kept-finished : (s : State) → Turns s (finished s) (T.Finished (s .regs)) (s .mem) (s .out)
+unfolding asTurn left
+kept-finished s = record { answers = refl; stores = refl; writes = refl }
+
+-- ---- acts 1 and 4
+
+module _ (r : Registers) (m : List ℕ) where
+  pub indirect-past : {a : Word} {k : ℕ} → a ≡ asWord (read m (r .a)) → a ≡ W.Stopped k → T.Stopped k ≡ asActed (indirected r m)
+  unfolding indirected asActed
+  indirect-past p q = simp (is-stop _ p q)
+
+  pub indirect-in : {a : Word} {v : ℕ} {t : Registers} → a ≡ asWord (read m (r .a)) → a ≡ W.Is v → t ≡ withA v r → T.Done t ≡ asActed (indirected r m)
+  unfolding indirected asActed
+  indirect-in p q e = simp (is-ok _ p q, e)
+
+  module _ {a : Word} {i : ℕ} (hi : i ≡ add (r .p) 1) (pa : a ≡ asWord (read m i)) where
+    pub back-past : {k : ℕ} → a ≡ W.Stopped k → T.Stopped k ≡ asActed (returned r m)
+    unfolding returned asActed
+    back-past q = simp (← hi, is-stop _ pa q)
+
+    module _ {c : ℕ} {b : Word} (qa : a ≡ W.Is c) (pb : b ≡ asWord (read m (r .p))) where
+      pub back-half : {k : ℕ} → b ≡ W.Stopped k → T.Stopped k ≡ asActed (returned r m)
+      unfolding returned asActed
+      back-half q = simp (← hi, is-ok _ pa qa, is-stop _ pb q)
+
+      pub back-in : {p : ℕ} {t : Registers} → b ≡ W.Is p → t ≡ framed p c r → T.Done t ≡ asActed (returned r m)
+      unfolding returned asActed
+      back-in q e = simp (← hi, is-ok _ pa qa, is-ok _ pb q, e)
+
+-- ---- S, K, act 28 and the jumps
+
+module _ (x : ℕ) (r : Registers) (m out : List ℕ) where
+  pub stored-in : x < length m → stored x (at r m out) ≡ ok (at r (set m x (r .a)) out)
+  unfolding stored
+  stored-in h = simp (write-in m x (r .a) h)
+
+  pub stored-past : length m ≤ x → stored x (at r m out) ≡ stop 32
+  unfolding stored
+  stored-past h = simp (write-past m x (r .a) h)
+
+  module _ {q : ℕ} (hq : q ≡ add (r .p) x) where
+    pub called-past : length m ≤ q → called x (at r m out) ≡ stop 32
+    unfolding called
+    called-past h = simp (← hq, write-past m q (r .p) h)
+
+    module _ {j : ℕ} (hj : j ≡ add q 1) where
+      pub called-in : q < length m → j < length m → called x (at r m out) ≡ ok (at (framed q (r .a) r) (set (set m q (r .p)) j (r .c)) out)
+      unfolding called
+      called-in h k = simp (← hq, ← hj, write-in m q (r .p) h, write-in (set m q (r .p)) j (r .c) (simp length-set k))
+
+      pub called-half : q < length m → length m ≤ j → called x (at r m out) ≡ stop 32
+      unfolding called
+      called-half h k = simp (← hq, ← hj, write-in m q (r .p) h, write-past (set m q (r .p)) j (r .c) (simp length-set k))
+
+module _ (r : Registers) (m out : List ℕ) where
+  pub sent-in : r .written < length out → sent (at r m out) ≡ ok (at (wrote r) m (set out (r .written) (r .a % 256)))
+  unfolding sent
+  sent-in h = simp (lt-ltb _ _ h)
+
+  pub sent-full : length out ≤ r .written → sent (at r m out) ≡ stop 35
+  unfolding sent
+  sent-full h = simp (le-ltb _ _ h)
+
+pub jump-taken : {go : Bool} (x : ℕ) (r : Registers) {t : Registers} → go ≡ true → t ≡ withC x r → t ≡ jumped go x r
+unfolding jumped
+jump-taken x r e q = rw e q
+
+pub jump-passed : {go : Bool} (x : ℕ) (r : Registers) → go ≡ false → r ≡ jumped go x r
+unfolding jumped
+jump-passed x r e = rw e refl
+
+-- ---- act 27
+
+pub received-byte : (r : Registers) (input : List ℕ) → r .taken < length input → took (getD input (r .taken) 0) r ≡ received r input
+unfolding received
+received-byte r input h = simp (lt-ltb _ _ h)
+
+pub received-end : (r : Registers) (input : List ℕ) {t : Registers} → length input ≤ r .taken → t ≡ withA 65535 r → t ≡ received r input
+unfolding received
+received-end r input h e = simp (le-ltb _ _ h) e
+
+-- ---- act 23: one pair passed, the pair found, a number past the memory
+
+module _ (m : List ℕ) (a d : ℕ) where
+  search-next : (n i : ℕ) {v j : ℕ} → 0 < n → read m i ≡ ok v → (v ≡ a → ⊥) → j ≡ add i 2 → search m a d n i ≡ search m a d (n - 1) j
+  unfolding search
+  search-next zero i h e ne q = absurd (omega arith)
+  search-next (suc k) i h e ne q = let s : suc k - 1 ≡ k = omega arith in simp (e, ne-eqb _ _ ne, q, s)
+
+  search-hit : (n i : ℕ) {v : ℕ} → 0 < n → read m i ≡ ok v → v ≡ a → search m a d n i ≡ read m (add i 1)
+  unfolding search
+  search-hit zero i h e q = absurd (omega arith)
+  search-hit (suc k) i h e q = simp (e, eq-eqb _ _ q)
+
+  search-past : (n i : ℕ) {k : ℕ} → 0 < n → read m i ≡ stop k → search m a d n i ≡ stop k
+  unfolding search
+  search-past zero i h e = absurd (omega arith)
+  search-past (suc l) i h e = simp e
+
+-- where the whole search is what is left of it, of n pairs from i on
+module _ (m : List ℕ) (a d n i : ℕ) {o : Out ℕ} (inv : o ≡ search m a d n i) where
+  pub find-none : n ≤ 0 → W.Is d ≡ asWord o
+  unfolding search asWord
+  find-none z = let e : n ≡ 0 = omega arith in let q : o ≡ search m a d 0 i = rw e at inv in simp q
+
+  module _ (h : 0 < n) {w : Word} (p : w ≡ asWord (read m i)) where
+    pub find-stops : {k : ℕ} → w ≡ W.Stopped k → W.Stopped k ≡ asWord o
+    unfolding asWord
+    find-stops q = simp (inv, search-past m a d n i h (is-stop _ p q))
+
+    pub find-hits : {v j : ℕ} {r : Word} → w ≡ W.Is v → v ≡ a → j ≡ add i 1 → r ≡ asWord (read m j) → r ≡ asWord o
+    find-hits q e hj hr = simp (inv, search-hit m a d n i h (is-ok _ p q) e, ← hj) hr
+
+    pub find-goes : {v j : ℕ} → w ≡ W.Is v → (v ≡ a → ⊥) → j ≡ add i 2 → o ≡ search m a d (n - 1) j
+    find-goes q e hj = inv ∙ search-next m a d n i h (is-ok _ p q) e hj
+
+module _ (r : Registers) (m : List ℕ) {a : Word} (pa : a ≡ asWord (read m (r .c))) where
+  pub switch-count-past : {k : ℕ} → a ≡ W.Stopped k → T.Stopped k ≡ asActed (switched r m)
+  unfolding switched asActed
+  switch-count-past q = simp (is-stop _ pa q)
+
+  module _ {n i : ℕ} {b : Word} (qa : a ≡ W.Is n) (hi : i ≡ add (r .c) 1) (pb : b ≡ asWord (read m i)) where
+    pub switch-default-past : {k : ℕ} → b ≡ W.Stopped k → T.Stopped k ≡ asActed (switched r m)
+    unfolding switched asActed
+    switch-default-past q = simp (is-ok _ pa qa, ← hi, is-stop _ pb q)
+
+    module _ {d j : ℕ} {e : Word} (qb : b ≡ W.Is d) (hj : j ≡ add (r .c) 2) (pe : e ≡ asWord (search m (r .a) d n j)) where
+      pub switch-pair-past : {k : ℕ} → e ≡ W.Stopped k → T.Stopped k ≡ asActed (switched r m)
+      unfolding switched asActed
+      switch-pair-past q = simp (is-ok _ pa qa, ← hi, is-ok _ pb qb, ← hj, is-stop _ pe q)
+
+      pub switch-to : {c : ℕ} {t : Registers} → e ≡ W.Is c → t ≡ withC c r → T.Done t ≡ asActed (switched r m)
+      unfolding switched asActed
+      switch-to q h = simp (is-ok _ pa qa, ← hi, is-ok _ pb qb, ← hj, is-ok _ pe q, h)

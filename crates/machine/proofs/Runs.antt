@@ -1,0 +1,155 @@
+-- One instruction, and a run of them: what `step`, `go` and `resume` cite.
+use Prim.Native.Nat.{ℕ, zero, suc, _+_, _-_, _<_, _≤_}
+use mathlib.Core.Path.{_≡_, refl, sym, ap, _∙_}
+use mathlib.Core.List.{List}
+use native.Mathlib.Omega.{arith}
+use borrow.Author.Tests.{le-leb, lt-leb}
+use lib.ListN.{length}
+use Rattle.machine.specs.Outcome.{Out, ok, stop}
+use Rattle.machine.specs.State.{State, at, withC, startRegisters}
+use Rattle.machine.specs.Fetch.{Fetch, fetch}
+use Rattle.machine.specs.Step.{Turn, done, finished, stopped, functionOf, execute, step}
+use Rattle.machine.specs.Run.{Outcome, after, onTurn, steps, resume, run}
+use Rattle.machine.specs.Answers.{asFetched, asTurn, left, Turns, Ends}
+use Rattle.machine.specs.declared.Registers.{Registers}
+use Rattle.machine.specs.declared.Ran.{Ran}
+use Rattle.machine.specs.declared.Fetched.{Fetched}
+use Rattle.machine.specs.declared.Fetched.the-variants as F
+use Rattle.machine.specs.declared.Turn as D
+use Rattle.machine.specs.declared.Turn.the-variants as T
+
+-- ---- one instruction, from the fetch's answer, matched
+
+fetched-one : (o : Out Fetch) {a : Fetched} {f x c : ℕ} → a ≡ asFetched o → a ≡ F.One f x c → o ≡ ok (record { function = f; operand = x; past = c })
+unfolding asFetched
+fetched-one (ok t) {f = f} {x = x} {c = c} p q =
+    let e : t .function ≡ f = cc in
+    let g : t .operand ≡ x = cc in
+    let h : t .past ≡ c = cc in
+    λ i. ok (record { function = e i; operand = g i; past = h i })
+fetched-one (stop k) p q = let z : _≡_ {A = ℕ} 0 1 = cc in absurd (omega arith)
+
+fetched-stop : (o : Out Fetch) {a : Fetched} {k : ℕ} → a ≡ asFetched o → a ≡ F.Stopped k → o ≡ stop k
+unfolding asFetched
+fetched-stop (ok t) p q = let z : _≡_ {A = ℕ} 0 1 = cc in absurd (omega arith)
+fetched-stop (stop k) p q = cc
+
+-- a turn said from a state with other registers
+from-other : (r r′ : Registers) (m out : List ℕ) (t : Turn) {d : D.Turn} {m′ o′ : List ℕ} → Turns (at r′ m out) t d m′ o′ → Turns (at r m out) t d m′ o′
+unfolding left
+from-other r r′ m out (done t) h = record { answers = h .answers; stores = h .stores; writes = h .writes }
+from-other r r′ m out (finished t) h = record { answers = h .answers; stores = h .stores; writes = h .writes }
+from-other r r′ m out (stopped k) h = record { answers = h .answers; stores = h .stores; writes = h .writes }
+
+module _ (input : List ℕ) (r : Registers) (m out : List ℕ) {a : Fetched} (p : a ≡ asFetched (fetch r m)) where
+  pub step-stop : {k : ℕ} → a ≡ F.Stopped k → Turns (at r m out) (step input (at r m out)) (T.Stopped k) m out
+  unfolding step asTurn left
+  step-stop q = let e = fetched-stop (fetch r m) p q in record { answers = simp e; stores = simp e; writes = simp e }
+
+  pub step-one : {f x c : ℕ} {r′ : Registers} {d : D.Turn} {m′ o′ : List ℕ} → a ≡ F.One f x c → r′ ≡ withC c r
+      → Turns (at r′ m out) (execute input (functionOf f) x (at r′ m out)) d m′ o′ → Turns (at r m out) (step input (at r m out)) d m′ o′
+  unfolding step
+  step-one {f} {x} {c} q e h =
+      let z : step input (at r m out) ≡ execute input (functionOf f) x (at (withC c r) m out) = simp (fetched-one (fetch r m) p q) in
+      rw z (from-other r (withC c r) m out (execute input (functionOf f) x (at (withC c r) m out)) (rw e at h))
+
+-- ---- a turn's answer, matched
+
+turned-done : {s : State} (t : Turn) {d : D.Turn} {r : Registers} {m out : List ℕ} → Turns s t d m out → d ≡ T.Done r → t ≡ done (at r m out)
+unfolding asTurn left
+turned-done (done t) {r = r} h q =
+    let e : t .regs ≡ r = cc (h .answers) in
+    λ i. done (record { regs = e i; mem = sym (h .stores) i; out = sym (h .writes) i })
+turned-done (finished t) h q = let z : _≡_ {A = ℕ} 0 1 = cc (h .answers) in absurd (omega arith)
+turned-done (stopped k) h q = let z : _≡_ {A = ℕ} 0 1 = cc (h .answers) in absurd (omega arith)
+
+turned-finished : {s : State} (t : Turn) {d : D.Turn} {r : Registers} {m out : List ℕ} → Turns s t d m out → d ≡ T.Finished r → t ≡ finished (at r m out)
+unfolding asTurn left
+turned-finished (finished t) {r = r} h q =
+    let e : t .regs ≡ r = cc (h .answers) in
+    λ i. finished (record { regs = e i; mem = sym (h .stores) i; out = sym (h .writes) i })
+turned-finished (done t) h q = let z : _≡_ {A = ℕ} 0 1 = cc (h .answers) in absurd (omega arith)
+turned-finished (stopped k) h q = let z : _≡_ {A = ℕ} 0 1 = cc (h .answers) in absurd (omega arith)
+
+record Stuck (s : State) (t : Turn) (k : ℕ) (m out : List ℕ) : Type 0 where
+  stops : t ≡ stopped k
+  stores : m ≡ s .mem
+  writes : out ≡ s .out
+
+turned-stopped : {s : State} (t : Turn) {d : D.Turn} {k : ℕ} {m out : List ℕ} → Turns s t d m out → d ≡ T.Stopped k → Stuck s t k m out
+unfolding asTurn left
+turned-stopped (done t) h q = let z : _≡_ {A = ℕ} 0 1 = cc (h .answers) in absurd (omega arith)
+turned-stopped (finished t) h q = let z : _≡_ {A = ℕ} 0 1 = cc (h .answers) in absurd (omega arith)
+turned-stopped (stopped k) h q = record { stops = cc (h .answers); stores = h .stores; writes = h .writes }
+
+-- ---- a run's first turn
+
+pub steps-turn : (input : List ℕ) (n : ℕ) (s : State) → 0 < n → steps input n s ≡ onTurn s (step input s) (λ t. steps input (n - 1) t)
+unfolding steps
+steps-turn input zero s h = absurd (omega arith)
+steps-turn input (suc n) s h = let z : suc n - 1 ≡ n = omega arith in simp z
+
+after-after : (a b c : ℕ) (o : Outcome) → a + b ≡ c → after a (after b o) ≡ after c o
+after-after a b c o e = let z : a + (b + o .count) ≡ c + o .count = omega arith in λ i. record { stop = o .stop; count = z i; state = o .state }
+
+-- ---- the loop: the whole run is what is left of it, after the instructions done
+
+pub record Left (input : List ℕ) (budget : ℕ) (s₀ : State) (rest : ℕ) (s : State) : Type 0 where
+  pub within : rest ≤ budget
+  pub whole : steps input budget s₀ ≡ after (budget - rest) (steps input rest s)
+
+pub left-all : (input : List ℕ) (n : ℕ) (s : State) → Left input n s n s
+left-all input n s =
+    let z : steps input n s .count ≡ n - n + steps input n s .count = omega arith in
+    record { within = omega arith; whole = λ i. record { stop = steps input n s .stop; count = z i; state = steps input n s .state } }
+
+module _ (input : List ℕ) (n : ℕ) (s₀ : State) (rest : ℕ) (r : Registers) (m out : List ℕ) (h : Left input n s₀ rest (at r m out)) where
+  pub left-out : rest ≤ 0 → Ends (steps input n s₀) (record { stop = 31; count = n; registers = r }) m out
+  unfolding steps
+  left-out z =
+      let e : rest ≡ 0 = omega arith in
+      let q : steps input n s₀ ≡ after (n - 0) (steps input 0 (at r m out)) = rw e at (h .whole) in
+      rw q (record { stops = refl; counts = omega arith; leaves = refl; stores = refl; writes = refl })
+
+  module _ (pos : 0 < rest) {d : D.Turn} {m′ out′ : List ℕ} (did : Turns (at r m out) (step input (at r m out)) d m′ out′) where
+    first : {t : Turn} → step input (at r m out) ≡ t → steps input n s₀ ≡ after (n - rest) (onTurn (at r m out) t (λ u. steps input (rest - 1) u))
+    first e = h .whole ∙ ap (after (n - rest)) (steps-turn input rest (at r m out) pos ∙ ap (λ (t : Turn). onTurn (at r m out) t (λ u. steps input (rest - 1) u)) e)
+
+    pub left-go : {t : Registers} → d ≡ T.Done t → Left input n s₀ (rest - 1) (at t m′ out′)
+    left-go q =
+        let le = h .within in
+        record {
+          within = omega arith;
+          whole = first (turned-done _ did q) ∙ after-after (n - rest) 1 (n - (rest - 1)) _ (omega arith);
+        }
+
+    pub left-finish : {t : Registers} → d ≡ T.Finished t → Ends (steps input n s₀) (record { stop = 30; count = n - rest + 1; registers = t }) m′ out′
+    left-finish q = rw (first (turned-finished _ did q)) (record { stops = refl; counts = refl; leaves = refl; stores = refl; writes = refl })
+
+    pub left-stop : {k : ℕ} → d ≡ T.Stopped k → Ends (steps input n s₀) (record { stop = k; count = n - rest; registers = r }) m′ out′
+    left-stop q =
+        let e = turned-stopped _ did q in
+        rw (first (e .stops)) (record { stops = refl; counts = omega arith; leaves = refl; stores = e .stores; writes = e .writes })
+
+-- ---- the memory's length
+
+module _ (input : List ℕ) (n : ℕ) (r : Registers) (m out : List ℕ) where
+  refused : resume input n (at r m out) ≡ record { stop = 24; count = 0; state = at r m out }
+      → Ends (resume input n (at r m out)) (record { stop = 24; count = 0; registers = r }) m out
+  refused e = rw e (record { stops = refl; counts = refl; leaves = refl; stores = refl; writes = refl })
+
+  pub resume-short : length m < 512 → Ends (resume input n (at r m out)) (record { stop = 24; count = 0; registers = r }) m out
+  unfolding resume
+  resume-short h = refused (simp (lt-leb 512 (length m) h))
+
+  pub resume-long : 512 ≤ length m → 32768 < length m → Ends (resume input n (at r m out)) (record { stop = 24; count = 0; registers = r }) m out
+  unfolding resume
+  resume-long h k = refused (simp (le-leb 512 (length m) h, lt-leb (length m) 32768 k))
+
+  pub resume-goes : {e : Ran} {m′ out′ : List ℕ} → 512 ≤ length m → length m ≤ 32768 → Ends (steps input n (at r m out)) e m′ out′ → Ends (resume input n (at r m out)) e m′ out′
+  unfolding resume
+  resume-goes h k z = simp (le-leb 512 (length m) h, le-leb (length m) 32768 k) z
+
+pub run-starts : (input : List ℕ) (n first : ℕ) (m out : List ℕ) {r : Registers} {e : Ran} {m′ out′ : List ℕ} → r ≡ startRegisters first
+    → Ends (resume input n (at r m out)) e m′ out′ → Ends (run first m input out n) e m′ out′
+run-starts input n first m out q h = rw q at h

@@ -1,0 +1,62 @@
+-- What the code's enums say of the definitions' outcomes.
+use Prim.Native.Nat.{ℕ}
+use mathlib.Core.Path.{_≡_}
+use mathlib.Core.List.{List}
+use Rattle.words.specs.declared.Divided.{Divided}
+use Rattle.words.specs.declared.Divided.the-variants.{Is, ByZero}
+use Rattle.machine.specs.Outcome.{Out, ok, stop}
+use Rattle.machine.specs.State.{State}
+use Rattle.machine.specs.Fetch.{Fetch}
+use Rattle.machine.specs.Step as S
+use Rattle.machine.specs.Run.{Outcome}
+use Rattle.machine.specs.declared.Registers.{Registers}
+use Rattle.machine.specs.declared.Ran.{Ran}
+use Rattle.machine.specs.declared.Turn.{Turn}
+use Rattle.machine.specs.declared.Turn.the-variants as T
+use Rattle.machine.specs.declared.Word.{Word}
+use Rattle.machine.specs.declared.Word.the-variants as W
+use Rattle.machine.specs.declared.Fetched.{Fetched}
+use Rattle.machine.specs.declared.Fetched.the-variants as F
+
+unfoldable pub asWord : Out ℕ → Word
+asWord (ok v) = W.Is v
+asWord (stop k) = W.Stopped k
+
+-- a quotient or a remainder; 33: zero divisor
+unfoldable pub asQuotient : Divided → Word
+asQuotient (Is v) = W.Is v
+asQuotient ByZero = W.Stopped 33
+
+unfoldable pub asFetched : Out Fetch → Fetched
+asFetched (ok f) = F.One (f .function) (f .operand) (f .past)
+asFetched (stop k) = F.Stopped k
+
+-- an act on the registers alone
+unfoldable pub asActed : Out Registers → Turn
+asActed (ok r) = T.Done r
+asActed (stop k) = T.Stopped k
+
+unfoldable pub asTurn : S.Turn → Turn
+asTurn (S.done t) = T.Done (t .regs)
+asTurn (S.finished t) = T.Finished (t .regs)
+asTurn (S.stopped k) = T.Stopped k
+
+-- where a turn leaves the state: a stop leaves it as it was
+unfoldable pub left : State → S.Turn → State
+left s (S.done t) = t
+left s (S.finished t) = t
+left s (S.stopped k) = s
+
+-- an answer, and the lent memory and output at exit, are what a turn from a state gives
+pub record Turns (s : State) (turn : S.Turn) (answer : Turn) (memory output : List ℕ) : Type 0 where
+  pub answers : answer ≡ asTurn turn
+  pub stores : memory ≡ left s turn .mem
+  pub writes : output ≡ left s turn .out
+
+-- a run's answer, and the lent memory and output at exit, are what the definition gives
+pub record Ends (outcome : Outcome) (answer : Ran) (memory output : List ℕ) : Type 0 where
+  pub stops : answer .stop ≡ outcome .stop
+  pub counts : answer .count ≡ outcome .count
+  pub leaves : answer .registers ≡ outcome .state .regs
+  pub stores : memory ≡ outcome .state .mem
+  pub writes : output ≡ outcome .state .out

@@ -1,0 +1,43 @@
+-- A run by its budget (document 01, "Machine" and "Stops").
+use Prim.Native.Nat.{ℕ, zero, suc, _+_}
+use mathlib.Core.Bool.{Bool, true, false, cond}
+use mathlib.Core.List.{List}
+use lib.ListN.{length}
+use lib.Dec.{leb}
+use Rattle.machine.specs.State.{State, at, startRegisters}
+use Rattle.machine.specs.Step.{Turn, done, finished, stopped, step}
+
+-- the stop, the number of instructions done, and the state at the end: registers, memory, output, input taken, output written
+pub record Outcome : Type 0 where
+  pub stop : ℕ
+  pub count : ℕ
+  pub state : State
+
+abbrev pub after : ℕ → Outcome → Outcome
+after n o = record { stop = o .stop; count = n + o .count; state = o .state }
+
+-- 30: finished, which is counted. On any other stop the state is the one before the instruction met
+abbrev pub onTurn : State → Turn → (State → Outcome) → Outcome
+onTurn s (done t) more = after 1 (more t)
+onTurn s (finished t) more = record { stop = 30; count = 1; state = t }
+onTurn s (stopped k) more = record { stop = k; count = 0; state = s }
+
+-- at most so many instructions; 31: budget
+unfoldable pub steps : List ℕ → (budget : ℕ) → State → Outcome
+steps input zero s = record { stop = 31; count = 0; state = s }
+steps input (suc n) s = onTurn s (step input s) (λ t. steps input n t)
+
+abbrev pub both : Bool → Bool → Bool
+both true b = b
+both false b = false
+
+-- from any registers; 24: memory of a length other than 512 to 32,768, count 0, nothing changed
+unfoldable pub resume : List ℕ → (budget : ℕ) → State → Outcome
+resume input n s =
+    cond (both (leb 512 (length (s .mem))) (leb (length (s .mem)) 32768))
+    (steps input n s)
+    (record { stop = 24; count = 0; state = s })
+
+-- from the start
+abbrev pub run : (first : ℕ) (memory input output : List ℕ) (budget : ℕ) → Outcome
+run first memory input output n = resume input n (at (startRegisters first) memory output)

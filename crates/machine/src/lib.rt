@@ -1,0 +1,441 @@
+// The MINICODE machine: one instruction, and a run of them by its budget.
+//
+// `specs/` has the machine of document 01 as definitions, a file for each of its parts; every function here is proved
+// to do what its definition says, for any registers, memory, input and output. `run` starts an image; `resume` goes on
+// from any registers, so a run that stopped for budget or for room can be carried on.
+ghost use mathlib.Core.Path.{_≡_};
+ghost use mathlib.Core.Bool.{cond};
+ghost use lib.Dec.{eqb};
+ghost use Rattle.machine.specs.Outcome.{Out, ok, read};
+ghost use Rattle.machine.specs.State.{at, startRegisters, withA, withC, loaded, framed};
+ghost use Rattle.machine.specs.Fetch.{fetch};
+ghost use Rattle.machine.specs.Acts.{actOf, indirected, returned, search, switched, received, sent};
+ghost use Rattle.machine.specs.Step.{turn, stored, called, jumped, perform, functionOf, execute, step};
+ghost use Rattle.machine.specs.Run.{steps, resume, run};
+ghost use Rattle.machine.specs.Answers.{asWord, asQuotient, asFetched, asActed, Turns, Ends};
+ghost use Rattle.machine.specs.Numbers.{valueOf};
+use words::Divided;
+
+// The registers, and the places reached in the input and the output.
+pub struct Registers {
+    pub a: u16,
+    pub b: u16,
+    pub c: u16,
+    pub p: u16,
+    pub g: u16,
+    pub taken: usize,
+    pub written: usize,
+}
+
+// A word, or the number of the stop.
+pub enum Word {
+    Is(u16),
+    Stopped(u16),
+}
+
+// An instruction's function, its operand and the address past it, or the number of the stop.
+pub enum Fetched {
+    One(u16, u16, u16),
+    Stopped(u16),
+}
+
+// What one instruction leaves in the registers, or the number of the stop that left it undone.
+pub enum Turn {
+    Done(Registers),
+    Finished(Registers),
+    Stopped(u16),
+}
+
+// How a run ended: document 01's stop, the number of instructions done, and the registers.
+pub struct Ran {
+    pub stop: u16,
+    pub count: u64,
+    pub registers: Registers,
+}
+
+fn word_at(memory: &[u16], i: u16) -> Word
+    ensures { λ r. ⌜ r ≡ asWord (read (now (memory .entry)) i) ⌝ }
+{
+    let at = i as usize;
+    if at < memory.len() {
+        Word::Is(memory[at])
+    } else {
+        Word::Stopped(32)
+    }
+}
+
+fn when(bit: u16, x: u16, y: u16) -> u16
+    ensures { λ r. ⌜ r ≡ cond (eqb bit 1) x y ⌝ }
+{
+    if bit == 1 { x } else { y }
+}
+
+// The word at i where the bit is set, else x itself.
+fn word_or(memory: &[u16], bit: u16, i: u16, x: u16) -> Word
+    ensures { λ r. ⌜ r ≡ asWord (cond (eqb bit 1) (read (now (memory .entry)) i) (ok x)) ⌝ }
+{
+    if bit == 1 {
+        word_at(memory, i)
+    } else {
+        Word::Is(x)
+    }
+}
+
+fn quotient_word(d: Divided) -> Word
+    ensures { λ r. ⌜ r ≡ asQuotient d ⌝ }
+{
+    match d {
+        Divided::Is(v) => Word::Is(v),
+        Divided::ByZero => Word::Stopped(33),
+    }
+}
+
+// What the acts 5 to 19 make of B and A.
+fn value(n: u16, b: u16, a: u16) -> Word
+    ensures { λ r. ⌜ r ≡ asWord (valueOf (actOf n) b a) ⌝ }
+{
+    match n {
+        5 => Word::Is(words::product(b, a)),
+        6 => quotient_word(words::quotient(b, a)),
+        7 => quotient_word(words::remainder(b, a)),
+        8 => Word::Is(words::sum(b, a)),
+        9 => Word::Is(words::difference(b, a)),
+        10 => Word::Is(words::equal(b, a)),
+        11 => Word::Is(words::unequal(b, a)),
+        12 => Word::Is(words::less(b, a)),
+        13 => Word::Is(words::at_least(b, a)),
+        14 => Word::Is(words::greater(b, a)),
+        15 => Word::Is(words::at_most(b, a)),
+        16 => Word::Is(words::shift_left(b, a)),
+        17 => Word::Is(words::shift_right(b, a)),
+        18 => Word::Is(b & a),
+        19 => Word::Is(b | a),
+        _ => Word::Stopped(34),
+    }
+}
+
+// The address beside the first number equal to a among n pairs from `from` on, or the default.
+fn find(memory: &[u16], a: u16, default: u16, n: u16, from: u16) -> Word
+    ensures { λ r. ⌜ r ≡ asWord (search (now (memory .entry)) a default n from) ⌝ }
+{
+    let mut i = from;
+    let mut left = n;
+    while left > 0 {
+        match word_at(memory, i) {
+            Word::Stopped(k) => {
+                return Word::Stopped(k);
+            }
+            Word::Is(v) => {
+                if v == a {
+                    return word_at(memory, words::sum(i, 1));
+                }
+            }
+        }
+        i = words::sum(i, 2);
+        left -= 1;
+    }
+    Word::Is(default)
+}
+
+impl Registers {
+    // The registers at the start of a run.
+    fn start(first: u16) -> Self
+        ensures { λ r. ⌜ r ≡ startRegisters first ⌝ }
+    {
+        Registers {
+            a: 0,
+            b: 0,
+            c: 0,
+            p: first,
+            g: 16,
+            taken: 0,
+            written: 0,
+        }
+    }
+
+    // The instruction at C.
+    fn fetch(self, memory: &[u16]) -> Fetched
+        ensures { λ r. ⌜ r ≡ asFetched (fetch self (now (memory .entry))) ⌝ }
+    {
+        let c = self.c;
+        match word_at(memory, c) {
+            Word::Stopped(k) => Fetched::Stopped(k),
+            Word::Is(w) => {
+                let long = w / 512 % 2;
+                match word_or(memory, long, words::sum(c, 1), w % 512) {
+                    Word::Stopped(k) => Fetched::Stopped(k),
+                    Word::Is(n) => {
+                        let p = when(w / 2048 % 2, self.p, 0);
+                        let g = when(w / 1024 % 2, self.g, 0);
+                        let y = words::sum(words::sum(n, p), g);
+                        match word_or(memory, w / 4096 % 2, y, y) {
+                            Word::Stopped(k) => Fetched::Stopped(k),
+                            Word::Is(x) => Fetched::One(
+                                w / 8192,
+                                x,
+                                words::sum(c, when(long, 2, 1)),
+                            ),
+                        }
+                    }
+                }
+            }
+        }
+    }
+
+    fn load(mut self, x: u16) -> Self
+        ensures { λ r. ⌜ r ≡ loaded x self ⌝ }
+    {
+        self.b = self.a;
+        self.a = x;
+        self
+    }
+
+    fn with_a(mut self, v: u16) -> Self
+        ensures { λ r. ⌜ r ≡ withA v self ⌝ }
+    {
+        self.a = v;
+        self
+    }
+
+    fn with_c(mut self, v: u16) -> Self
+        ensures { λ r. ⌜ r ≡ withC v self ⌝ }
+    {
+        self.c = v;
+        self
+    }
+
+    fn framed(mut self, p: u16, c: u16) -> Self
+        ensures { λ r. ⌜ r ≡ framed p c self ⌝ }
+    {
+        self.p = p;
+        self.c = c;
+        self
+    }
+
+    fn jump(self, go: bool, x: u16) -> Self
+        ensures { λ r. ⌜ r ≡ jumped go x self ⌝ }
+    {
+        if go { self.with_c(x) } else { self }
+    }
+
+    // X1.
+    fn indirect(self, memory: &[u16]) -> Turn
+        ensures { λ r. ⌜ r ≡ asActed (indirected self (now (memory .entry))) ⌝ }
+    {
+        match word_at(memory, self.a) {
+            Word::Stopped(k) => Turn::Stopped(k),
+            Word::Is(v) => Turn::Done(self.with_a(v)),
+        }
+    }
+
+    // X4.
+    fn back(self, memory: &[u16]) -> Turn
+        ensures { λ r. ⌜ r ≡ asActed (returned self (now (memory .entry))) ⌝ }
+    {
+        match word_at(memory, words::sum(self.p, 1)) {
+            Word::Stopped(k) => Turn::Stopped(k),
+            Word::Is(c) => match word_at(memory, self.p) {
+                Word::Stopped(k) => Turn::Stopped(k),
+                Word::Is(p) => Turn::Done(self.framed(p, c)),
+            },
+        }
+    }
+
+    // X23.
+    fn switch(self, memory: &[u16]) -> Turn
+        ensures { λ r. ⌜ r ≡ asActed (switched self (now (memory .entry))) ⌝ }
+    {
+        let c = self.c;
+        match word_at(memory, c) {
+            Word::Stopped(k) => Turn::Stopped(k),
+            Word::Is(n) => match word_at(memory, words::sum(c, 1)) {
+                Word::Stopped(k) => Turn::Stopped(k),
+                Word::Is(default) => match find(memory, self.a, default, n, words::sum(c, 2)) {
+                    Word::Stopped(k) => Turn::Stopped(k),
+                    Word::Is(to) => Turn::Done(self.with_c(to)),
+                },
+            },
+        }
+    }
+
+    // X27.
+    fn rdch(self, input: &[u8]) -> Self
+        ensures { λ r. ⌜ r ≡ received self (now (input .entry)) ⌝ }
+    {
+        let taken = self.taken;
+        if taken < input.len() {
+            let mut r = self;
+            r.a = input[taken] as u16;
+            r.taken = taken + 1;
+            r
+        } else {
+            self.with_a(65535)
+        }
+    }
+
+    // X28.
+    fn wrch(self, memory: &mut [u16], output: &mut [u8]) -> Turn
+        ensures { λ r. ⌜ Turns (at self (now (memory .entry)) (now (output .entry))) (turn (sent (at self (now (memory .entry)) (now (output .entry))))) r (now (memory .exit)) (now (output .exit)) ⌝ }
+    {
+        let written = self.written;
+        if written < output.len() {
+            output[written] = (self.a % 256) as u8;
+            let mut r = self;
+            r.written = written + 1;
+            Turn::Done(r)
+        } else {
+            Turn::Stopped(35)
+        }
+    }
+
+    // S.
+    fn store(self, x: u16, memory: &mut [u16], output: &mut [u8]) -> Turn
+        ensures { λ r. ⌜ Turns (at self (now (memory .entry)) (now (output .entry))) (turn (stored x (at self (now (memory .entry)) (now (output .entry))))) r (now (memory .exit)) (now (output .exit)) ⌝ }
+    {
+        let i = x as usize;
+        let a = self.a;
+        if i < memory.len() {
+            memory[i] = a;
+            Turn::Done(self)
+        } else {
+            Turn::Stopped(32)
+        }
+    }
+
+    // K.
+    fn call(self, x: u16, memory: &mut [u16], output: &mut [u8]) -> Turn
+        ensures { λ r. ⌜ Turns (at self (now (memory .entry)) (now (output .entry))) (turn (called x (at self (now (memory .entry)) (now (output .entry))))) r (now (memory .exit)) (now (output .exit)) ⌝ }
+    {
+        let frame = words::sum(self.p, x);
+        let p = self.p;
+        let c = self.c;
+        let i = frame as usize;
+        let j = words::sum(frame, 1) as usize;
+        if i < memory.len() {
+            if j < memory.len() {
+                memory[i] = p;
+                memory[j] = c;
+                Turn::Done(self.framed(frame, self.a))
+            } else {
+                Turn::Stopped(32)
+            }
+        } else {
+            Turn::Stopped(32)
+        }
+    }
+
+    // X.
+    fn perform(self, n: u16, memory: &mut [u16], input: &[u8], output: &mut [u8]) -> Turn
+        ensures { λ r. ⌜ Turns (at self (now (memory .entry)) (now (output .entry))) (perform (now (input .entry)) (actOf n) (at self (now (memory .entry)) (now (output .entry)))) r (now (memory .exit)) (now (output .exit)) ⌝ }
+    {
+        match n {
+            1 => self.indirect(memory),
+            2 => Turn::Done(self.with_a(words::negation(self.a))),
+            3 => Turn::Done(self.with_a(words::complement(self.a))),
+            4 => self.back(memory),
+            22 => Turn::Finished(self),
+            23 => self.switch(memory),
+            27 => Turn::Done(self.rdch(input)),
+            28 => self.wrch(memory, output),
+            _ => match value(n, self.b, self.a) {
+                Word::Stopped(k) => Turn::Stopped(k),
+                Word::Is(v) => Turn::Done(self.with_a(v)),
+            },
+        }
+    }
+
+    // The function f with its operand x, C being past the instruction.
+    fn execute(self, f: u16, x: u16, memory: &mut [u16], input: &[u8], output: &mut [u8]) -> Turn
+        ensures { λ r. ⌜ Turns (at self (now (memory .entry)) (now (output .entry))) (execute (now (input .entry)) (functionOf f) x (at self (now (memory .entry)) (now (output .entry)))) r (now (memory .exit)) (now (output .exit)) ⌝ }
+    {
+        match f {
+            0 => Turn::Done(self.load(x)),
+            1 => self.store(x, memory, output),
+            2 => Turn::Done(self.with_a(words::sum(self.a, x))),
+            3 => Turn::Done(self.with_c(x)),
+            4 => Turn::Done(self.jump(self.a != 0, x)),
+            5 => Turn::Done(self.jump(self.a == 0, x)),
+            6 => self.call(x, memory, output),
+            _ => self.perform(x, memory, input, output),
+        }
+    }
+
+    // One instruction.
+    pub fn step(self, memory: &mut [u16], input: &[u8], output: &mut [u8]) -> Turn
+        ensures { λ r. ⌜ Turns (at self (now (memory .entry)) (now (output .entry))) (step (now (input .entry)) (at self (now (memory .entry)) (now (output .entry)))) r (now (memory .exit)) (now (output .exit)) ⌝ }
+    {
+        match self.fetch(memory) {
+            Fetched::Stopped(k) => Turn::Stopped(k),
+            Fetched::One(f, x, past) => self.with_c(past).execute(f, x, memory, input, output),
+        }
+    }
+}
+
+// Instructions until a stop; what is left of the budget falls by one each.
+fn go(start: Registers, memory: &mut [u16], input: &[u8], output: &mut [u8], budget: u64) -> Ran
+    ensures { λ r. ⌜ Ends (steps (now (input .entry)) budget (at start (now (memory .entry)) (now (output .entry)))) r (now (memory .exit)) (now (output .exit)) ⌝ }
+{
+    let mut r = start;
+    let mut left = budget;
+    while left > 0 {
+        match r.step(memory, input, output) {
+            Turn::Stopped(k) => {
+                return Ran {
+                    stop: k,
+                    count: budget - left,
+                    registers: r,
+                };
+            }
+            Turn::Finished(t) => {
+                return Ran {
+                    stop: 30,
+                    count: budget - left + 1,
+                    registers: t,
+                };
+            }
+            Turn::Done(t) => {
+                r = t;
+                left -= 1;
+            }
+        }
+    }
+    Ran {
+        stop: 31,
+        count: budget,
+        registers: r,
+    }
+}
+
+// Goes on from any registers and places. Memory of a length outside 512 to 32,768 is refused 24.
+pub fn resume(
+    registers: Registers,
+    memory: &mut [u16],
+    input: &[u8],
+    output: &mut [u8],
+    budget: u64,
+) -> Ran
+    ensures { λ r. ⌜ Ends (resume (now (input .entry)) budget (at registers (now (memory .entry)) (now (output .entry)))) r (now (memory .exit)) (now (output .exit)) ⌝ }
+{
+    if memory.len() < 512 {
+        return Ran {
+            stop: 24,
+            count: 0,
+            registers: registers,
+        };
+    }
+    if memory.len() > 32768 {
+        return Ran {
+            stop: 24,
+            count: 0,
+            registers: registers,
+        };
+    }
+    go(registers, memory, input, output, budget)
+}
+
+// Runs an image from its start, with its first stack word.
+pub fn run(memory: &mut [u16], first: u16, input: &[u8], output: &mut [u8], budget: u64) -> Ran
+    ensures { λ r. ⌜ Ends (run first (now (memory .entry)) (now (input .entry)) (now (output .entry)) budget) r (now (memory .exit)) (now (output .exit)) ⌝ }
+{
+    resume(Registers::start(first), memory, input, output, budget)
+}
