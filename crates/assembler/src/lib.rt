@@ -1,7 +1,0 @@
-// x
-use text::Refusal;
-
-pub enum Assembled {
-    Accepted(u16),
-    Refused(Refusal),
-}

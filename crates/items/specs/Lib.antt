@@ -1,6 +1,0 @@
-pub mod Item
-pub mod Reader
-pub mod Read
-pub mod Scan
-pub mod Next
-pub mod Answers

@@ -1,0 +1,137 @@
+-- Runs by their budgets: a run of n + m instructions is the run of n, then of m where the first stopped for budget; output only grows,
+-- so that a smaller budget writes a beginning of what a larger one writes.
+use Prim.Native.Nat.{ℕ, zero, suc, _+_, _-_, _<_, _≤_}
+use mathlib.Core.Path.{_≡_, refl, sym, ap, _∙_}
+use mathlib.Core.Bool.{Bool, true, false, cond}
+use mathlib.Core.List.{List}
+use native.Mathlib.Omega.{arith}
+use native.Mathlib.Nat.{le-trans, le-refl, lt-of-lt-of-le}
+use lib.Dec.{eqb, leb}
+use lib.ListN.{length, getD, length-set}
+use lib.Seq.{getD-set-other}
+use borrow.Author.Tests.{ne-eqb}
+use Rattle.machine.specs.State.{State}
+use Rattle.machine.specs.Step.{Turn, done, finished, stopped, step}
+use Rattle.machine.specs.Run.{Outcome, after, onTurn, steps, both, resume}
+use Rattle.machine.proofs.Shape.{Shape, quiet, one-more, ends, halts, Quiet, OneMore, shape}
+
+-- a run that stopped for budget, carried on
+abbrev pub carriedOn : Outcome → (State → Outcome) → Outcome
+carriedOn o more = cond (eqb (o .stop) 31) (after (o .count) (more (o .state))) o
+
+after-carried : (o : Outcome) (more : State → Outcome) → after 1 (carriedOn o more) ≡ carriedOn (after 1 o) more
+after-carried o more = go (eqb (o .stop) 31) refl
+  where
+    go : (b : Bool) → eqb (o .stop) 31 ≡ b → after 1 (carriedOn o more) ≡ carriedOn (after 1 o) more
+    go true e =
+        let r = more (o .state) in
+        let z : 1 + (o .count + r .count) ≡ 1 + o .count + r .count = omega arith in
+        rw e (λ i. record { stop = r .stop; count = z i; state = r .state })
+    go false e = rw e refl
+
+turn-carried : (s : State) {t : Turn} → Shape s t → (f g h : State → Outcome) → ((u : State) → f u ≡ carriedOn (g u) h)
+    → onTurn s t f ≡ carriedOn (onTurn s t g) h
+turn-carried s (quiet {t = t} q) f g h e = ap (after 1) (e t) ∙ after-carried (g t) h
+turn-carried s (one-more {t = t} q) f g h e = ap (after 1) (e t) ∙ after-carried (g t) h
+turn-carried s (ends q) f g h e = refl
+turn-carried s (halts {k = k} l) f g h e = rw (ne-eqb k 31 (λ z. absurd (omega arith))) refl
+
+pub steps-add : (input : List ℕ) (n m : ℕ) (s : State) → steps input (n + m) s ≡ carriedOn (steps input n s) (λ t. steps input m t)
+unfolding steps
+steps-add input zero m s =
+    let e : zero + m ≡ m = omega arith in
+    let z : steps input m s .count ≡ 0 + steps input m s .count = omega arith in
+    rw e (λ i. record { stop = steps input m s .stop; count = z i; state = steps input m s .state })
+steps-add input (suc n) m s =
+    let e : suc n + m ≡ suc (n + m) = omega arith in
+    rw e (turn-carried s (shape input s) (λ t. steps input (n + m) t) (λ t. steps input n t) (λ t. steps input m t) (λ u. steps-add input n m u))
+
+-- ---- output only grows
+
+-- from s to t: what was written stays, what is past the written bytes keeps what it held
+pub record Grows (s t : State) : Type 0 where
+  pub memory : length (t .mem) ≡ length (s .mem)
+  pub room : length (t .out) ≡ length (s .out)
+  pub place : s .regs .written ≤ t .regs .written
+  pub kept : (i : ℕ) → i < s .regs .written → getD (t .out) i 0 ≡ getD (s .out) i 0
+  pub held : (i : ℕ) → t .regs .written ≤ i → getD (t .out) i 0 ≡ getD (s .out) i 0
+
+pub grows-not : (s : State) → Grows s s
+grows-not s = record { memory = refl; room = refl; place = le-refl (s .regs .written); kept = λ i h. refl; held = λ i h. refl }
+
+pub grows-on : {s t u : State} → Grows s t → Grows t u → Grows s u
+grows-on g h =
+    record {
+      memory = h .memory ∙ g .memory;
+      room = h .room ∙ g .room;
+      place = le-trans (g .place) (h .place);
+      kept = λ i l. h .kept i (lt-of-lt-of-le l (g .place)) ∙ g .kept i l;
+      held = λ i l. h .held i l ∙ g .held i (le-trans (h .place) l);
+    }
+
+grows-quiet : {s t : State} → Quiet s t → Grows s t
+grows-quiet {s} {t} q =
+    record {
+      memory = q .memory;
+      room = ap length (q .output);
+      place = let e = q .place in omega arith;
+      kept = λ i l. ap (λ (o : List ℕ). getD o i 0) (q .output);
+      held = λ i l. ap (λ (o : List ℕ). getD o i 0) (q .output);
+    }
+
+grows-one : {s t : State} → OneMore s t → Grows s t
+grows-one {s} {t} q =
+    let w = s .regs .written in
+    let p = q .place in
+    record {
+      memory = q .memory;
+      room = ap length (q .output) ∙ length-set (s .out) w (q .byte);
+      place = omega arith;
+      kept = λ i l. ap (λ (o : List ℕ). getD o i 0) (q .output) ∙ getD-set-other (s .out) w i (q .byte) 0 (λ e. absurd (omega arith));
+      held = λ i l. ap (λ (o : List ℕ). getD o i 0) (q .output) ∙ getD-set-other (s .out) w i (q .byte) 0 (λ e. absurd (omega arith));
+    }
+
+grows-turn : (s : State) {t : Turn} → Shape s t → (f : State → Outcome) → ((u : State) → Grows u (f u .state)) → Grows s (onTurn s t f .state)
+grows-turn s (quiet {t = t} q) f h = grows-on (grows-quiet q) (h t)
+grows-turn s (one-more {t = t} q) f h = grows-on (grows-one q) (h t)
+grows-turn s (ends q) f h = grows-quiet q
+grows-turn s (halts l) f h = grows-not s
+
+pub steps-grow : (input : List ℕ) (n : ℕ) (s : State) → Grows s (steps input n s .state)
+unfolding steps
+steps-grow input zero s = grows-not s
+steps-grow input (suc n) s = grows-turn s (shape input s) (λ t. steps input n t) (λ u. steps-grow input n u)
+
+grows-carried : (o : Outcome) (f : State → Outcome) → Grows (o .state) (f (o .state) .state) → Grows (o .state) (carriedOn o f .state)
+grows-carried o f h = go (eqb (o .stop) 31) refl
+  where
+    go : (b : Bool) → eqb (o .stop) 31 ≡ b → Grows (o .state) (carriedOn o f .state)
+    go true e = rw e h
+    go false e = rw e (grows-not (o .state))
+
+-- a smaller budget writes a beginning of what a larger one writes
+pub budget-beginning : (input : List ℕ) {n n′ : ℕ} (s : State) → n ≤ n′ → Grows (steps input n s .state) (steps input n′ s .state)
+budget-beginning input {n} {n′} s h =
+    let e : n′ ≡ n + (n′ - n) = omega arith in
+    rw (e, steps-add input n (n′ - n) s) (grows-carried (steps input n s) (λ t. steps input (n′ - n) t) (steps-grow input (n′ - n) (steps input n s .state)))
+
+-- ---- the same of `resume`, whose memory keeps its length
+
+abbrev fits : ℕ → Bool
+fits n = both (leb 512 n) (leb n 32768)
+
+pub resume-add : (input : List ℕ) (n m : ℕ) (s : State) → resume input (n + m) s ≡ carriedOn (resume input n s) (λ t. resume input m t)
+unfolding resume
+resume-add input n m s = go (fits (length (s .mem))) refl
+  where
+    go : (b : Bool) → fits (length (s .mem)) ≡ b → resume input (n + m) s ≡ carriedOn (resume input n s) (λ t. resume input m t)
+    go true e = simp (e, steps-grow input n s .memory) (steps-add input n m s)
+    go false e = simp e
+
+pub resume-grows : (input : List ℕ) (n : ℕ) (s : State) → Grows s (resume input n s .state)
+unfolding resume
+resume-grows input n s = go (fits (length (s .mem))) refl
+  where
+    go : (b : Bool) → fits (length (s .mem)) ≡ b → Grows s (resume input n s .state)
+    go true e = rw e (steps-grow input n s)
+    go false e = rw e (grows-not s)

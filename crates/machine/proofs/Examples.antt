@@ -1,0 +1,111 @@
+-- Worked examples by computation: small images, each stop, and closed instances of the laws.
+use Prim.Native.Nat.{ℕ, _+_, _-_, _≤_}
+use mathlib.Core.Path.{_≡_, refl}
+use mathlib.Core.Bool.{cond}
+use mathlib.Core.List.{List, [], _∷_, _++_}
+use lib.Dec.{lit≤}
+use lib.ListN.{length, getD, take, drop, replicate}
+use Rattle.words.specs.Words.{value, wordOf, mul, quot, rem, below, shl, shr}
+use Rattle.machine.specs.Outcome.{read, write}
+use Rattle.machine.specs.State.{State, at, startRegisters}
+use Rattle.machine.specs.Fetch.{fetch}
+use Rattle.machine.specs.Acts.{indirected, returned, combined, search, switched, received, sent}
+use Rattle.machine.specs.Step.{keep, stored, called, jumped, perform, execute, step}
+use Rattle.machine.specs.Run.{Outcome, steps, resume, run}
+use Rattle.machine.proofs.Budget.{Grows, carriedOn, resume-add, budget-beginning}
+
+-- a memory of 512 words that begins with these
+image : List ℕ → List ℕ
+image ws = ws ++ replicate (512 - length ws) 0
+
+-- words 0 to 7 of every image, START in global 1 at 416, and from there L65 X28 X4: it writes A and returns
+letter : List ℕ
+letter =
+    5121 ∷ 49154 ∷ 57366 ∷ 57371 ∷ 57348 ∷ 6146 ∷ 57372 ∷ 57348 ∷
+    (replicate 9 0 ++ (416 ∷ (replicate 398 0 ++ (65 ∷ 57372 ∷ 57348 ∷ replicate 93 0))))
+
+-- L200; A-1; T1; X22: two hundred turns of two instructions
+countdown : List ℕ
+countdown = image (200 ∷ 16896 ∷ 65535 ∷ 32769 ∷ 57366 ∷ [])
+
+-- L2; X23 with two numbers: 1 goes to 20, 2 to 30, any other to 40
+choice : ℕ → List ℕ
+choice n = image (n ∷ 57367 ∷ 2 ∷ 40 ∷ 1 ∷ 20 ∷ 2 ∷ 30 ∷ [])
+
+-- the run of an image from its start, with the first stack word 100, no input and one byte of room that holds 7
+ran : ℕ → List ℕ → Outcome
+ran budget m = run 100 m [] (7 ∷ []) budget
+
+record Runs : Type 0 where
+  -- finished: six instructions, C past the X22 at 2, one byte written
+  stops : ran 100 letter .stop ≡ 30
+  counts : ran 100 letter .count ≡ 6
+  at-finish : ran 100 letter .state .regs .c ≡ 3
+  writes : ran 100 letter .state .out ≡ 65 ∷ []
+  written : ran 100 letter .state .regs .written ≡ 1
+  loops : ran 1000 countdown .count ≡ 402
+  -- 31: the budget is over; the jump at 3 is not done
+  budget : ran 3 countdown .stop ≡ 31
+  budget-count : ran 3 countdown .count ≡ 3
+  -- 32: L600 I, an operand past the memory; C stands before it
+  operand-past : ran 9 (image (4608 ∷ 600 ∷ [])) .stop ≡ 32
+  operand-undone : ran 9 (image (4608 ∷ 600 ∷ [])) .state .regs .c ≡ 0
+  -- 32: C past the memory at the next fetch; the jump was done and counted
+  jump-past : ran 9 (image (25088 ∷ 600 ∷ [])) .count ≡ 1
+  jump-past-stop : ran 9 (image (25088 ∷ 600 ∷ [])) .stop ≡ 32
+  -- 33: 0 / 0
+  zero-divisor : ran 9 (image (57350 ∷ [])) .stop ≡ 33
+  -- 34: X20
+  unlisted : ran 9 (image (57364 ∷ [])) .stop ≡ 34
+  -- 35: a second byte
+  output-full : ran 9 (image (65 ∷ 57372 ∷ 57372 ∷ [])) .stop ≡ 35
+  output-full-kept : ran 9 (image (65 ∷ 57372 ∷ 57372 ∷ [])) .state .out ≡ 65 ∷ []
+  -- 32: K411 stores at 511 and 512, so at neither
+  half-call : ran 9 (image (49563 ∷ [])) .stop ≡ 32
+  half-call-kept : getD (ran 9 (image (49563 ∷ [])) .state .mem) 511 9 ≡ 0
+  -- a switch on 1, 2 and 3
+  switch-one : ran 2 (choice 1) .state .regs .c ≡ 20
+  switch-two : ran 2 (choice 2) .state .regs .c ≡ 30
+  switch-none : ran 2 (choice 3) .state .regs .c ≡ 40
+  -- the end of the input is -1
+  end-of-input : ran 1 (image (57371 ∷ [])) .state .regs .a ≡ 65535
+  -- 24: memory of 511 words; nothing changed
+  short-memory : ran 9 (replicate 511 0) .stop ≡ 24
+  short-memory-count : ran 9 (replicate 511 0) .count ≡ 0
+
+runs : Runs
+unfolding image letter countdown choice ran value wordOf mul quot rem below shl shr read write fetch indirected returned combined search switched received sent keep stored called jumped perform execute step steps resume
+runs =
+    record {
+      stops = refl;
+      counts = refl;
+      at-finish = refl;
+      writes = refl;
+      written = refl;
+      loops = refl;
+      budget = refl;
+      budget-count = refl;
+      operand-past = refl;
+      operand-undone = refl;
+      jump-past = refl;
+      jump-past-stop = refl;
+      zero-divisor = refl;
+      unlisted = refl;
+      output-full = refl;
+      output-full-kept = refl;
+      half-call = refl;
+      half-call-kept = refl;
+      switch-one = refl;
+      switch-two = refl;
+      switch-none = refl;
+      end-of-input = refl;
+      short-memory = refl;
+      short-memory-count = refl;
+    }
+
+-- closed instances of the laws of Budget: the letter's run of 2 + 98 instructions, and of 2 against 100
+carried : run 100 letter [] (7 ∷ []) (2 + 98) ≡ carriedOn (run 100 letter [] (7 ∷ []) 2) (λ t. resume [] 98 t)
+carried = resume-add [] 2 98 (at (startRegisters 100) letter (7 ∷ []))
+
+begun : Grows (steps [] 2 (at (startRegisters 100) letter (7 ∷ [])) .state) (steps [] 100 (at (startRegisters 100) letter (7 ∷ [])) .state)
+begun = budget-beginning [] (at (startRegisters 100) letter (7 ∷ [])) (lit≤ tt)

@@ -1,0 +1,143 @@
+-- Runs by their room: with less room for output a run does the same until it stops 35, having written a beginning.
+use Prim.Native.Nat.{ℕ, zero, suc, _+_, _%_, _<_, _≤_}
+use mathlib.Core.Path.{_≡_, refl, sym, ap, _∙_}
+use mathlib.Core.Bool.{Bool, true, false, cond}
+use mathlib.Core.List.{List}
+use native.Mathlib.Omega.{arith}
+use native.Mathlib.Decide.{ℕ-discrete}
+use native.Mathlib.Nat.{le-refl, lt-of-lt-of-le, eq-or-lt-of-le, le-of-suc-le-suc}
+use lib.Dec.{ltb, eqb}
+use lib.ListN.{length, getD, set, length-set}
+use lib.Seq.{getD-set-same, getD-set-other}
+use borrow.Author.Tests.{ltb-true, lt-ltb}
+use Rattle.machine.specs.Outcome.{Out, ok, stop, _>>=_, write}
+use Rattle.machine.specs.State.{State, at, withC}
+use Rattle.machine.specs.Fetch.{Fetch, fetch}
+use Rattle.machine.specs.Acts.{Act, unlisted, indirect, negate, invert, back, finish, switch, rdch, wrch, dyadic, actOf, combined, sent}
+use Rattle.machine.specs.Step.{Turn, done, finished, stopped, turn, keep, stored, called, perform, Function, L, S, A, J, T, F, K, X, functionOf, execute, onFetch, step}
+use Rattle.machine.specs.Run.{Outcome, after, onTurn, steps}
+use Rattle.machine.specs.declared.Registers.{Registers}
+use Rattle.machine.proofs.Shape.{Yields, gives, stops, yields-bind, Any, SameWritten, yields-indirected, yields-returned, yields-switched, yields-received, yields-jumped, Sound, sound-act}
+use Rattle.machine.proofs.Budget.{Grows, steps-grow}
+
+-- two outputs that agree on the bytes written, the second with at least as much room
+pub record Roomier (written : ℕ) (o o′ : List ℕ) : Type 0 where
+  pub room : length o ≤ length o′
+  pub same : (i : ℕ) → i < written → getD o i 0 ≡ getD o′ i 0
+
+-- two turns alike but for the output's room, or the first stopped for it
+data Alike : Turn → Turn → Type 0 where
+  both-done : (r : Registers) (m : List ℕ) {o o′ : List ℕ} → Roomier (r .written) o o′ → Alike (done (at r m o)) (done (at r m o′))
+  both-finished : (r : Registers) (m : List ℕ) {o o′ : List ℕ} → Roomier (r .written) o o′ → Alike (finished (at r m o)) (finished (at r m o′))
+  both-stopped : (k : ℕ) → Alike (stopped k) (stopped k)
+  full : (t : Turn) → Alike (stopped 35) t
+
+module _ (r : Registers) {o o′ : List ℕ} (h : Roomier (r .written) o o′) where
+  moved : {r′ : Registers} → SameWritten r r′ → Roomier (r′ .written) o o′
+  moved e = record { room = h .room; same = λ i l. h .same i (let z = e .same in omega arith) }
+
+  alike-keep : (m : List ℕ) {p : Out Registers} → Yields (SameWritten r) p → Alike (keep (at r m o) p) (keep (at r m o′) p)
+  unfolding keep
+  alike-keep m (gives {a = r′} e) = both-done r′ m (moved e)
+  alike-keep m (stops {k = k} l) = both-stopped k
+
+  -- a memory written, and other registers that leave the output's place
+  alike-memory : {r′ : Registers} → SameWritten r r′ → (p : Out (List ℕ)) → Alike (turn (p >>= λ m. ok (at r′ m o))) (turn (p >>= λ m. ok (at r′ m o′)))
+  alike-memory {r′} e (ok m) = both-done r′ m (moved e)
+  alike-memory e (stop k) = both-stopped k
+
+  alike-memories : {r′ : Registers} → SameWritten r r′ → (p : Out (List ℕ)) (f : List ℕ → Out (List ℕ))
+      → Alike (turn (p >>= λ m. (f m >>= λ n. ok (at r′ n o)))) (turn (p >>= λ m. (f m >>= λ n. ok (at r′ n o′))))
+  alike-memories e (ok m) f = alike-memory e (f m)
+  alike-memories e (stop k) f = both-stopped k
+
+  alike-stored : (x : ℕ) (m : List ℕ) → Alike (turn (stored x (at r m o))) (turn (stored x (at r m o′)))
+  unfolding stored
+  alike-stored x m = alike-memory (record { same = refl }) (write m x (r .a))
+
+  alike-called : (x : ℕ) (m : List ℕ) → Alike (turn (called x (at r m o))) (turn (called x (at r m o′)))
+  unfolding called
+  alike-called x m = alike-memories (record { same = refl }) (write m _ (r .p)) (λ n. write n _ (r .c))
+
+  one-byte : (v : ℕ) → r .written < length o → Roomier (r .written + 1) (set o (r .written) v) (set o′ (r .written) v)
+  one-byte v l =
+      record {
+        room = let a = length-set o (r .written) v in let b = length-set o′ (r .written) v in let c = h .room in omega arith;
+        same = λ i k. go i k (ℕ-discrete i (r .written));
+      }
+    where
+      go : (i : ℕ) → i < r .written + 1 → Dec (i ≡ r .written) → getD (set o (r .written) v) i 0 ≡ getD (set o′ (r .written) v) i 0
+      go i k (yes e) = rw e (getD-set-same o (r .written) v 0 l ∙ sym (getD-set-same o′ (r .written) v 0 (lt-of-lt-of-le l (h .room))))
+      go i k (no e) = getD-set-other o (r .written) i v 0 e ∙ h .same i (omega arith) ∙ sym (getD-set-other o′ (r .written) i v 0 e)
+
+  alike-sent : (m : List ℕ) → Alike (turn (sent (at r m o))) (turn (sent (at r m o′)))
+  unfolding sent
+  alike-sent m = go (ltb (r .written) (length o)) refl
+    where
+      go : (b : Bool) → ltb (r .written) (length o) ≡ b → Alike (turn (sent (at r m o))) (turn (sent (at r m o′)))
+      go true e =
+          let l = ltb-true _ _ e in
+          rw (e, lt-ltb (r .written) (length o′) (lt-of-lt-of-le l (h .room))) (both-done _ m (one-byte (r .a % 256) l))
+      go false e = rw e (full _)
+
+  alike-perform : (input : List ℕ) (a : Act) (m : List ℕ) → Sound a → Alike (perform input a (at r m o)) (perform input a (at r m o′))
+  unfolding perform combined
+  alike-perform input unlisted m k = both-stopped 34
+  alike-perform input indirect m k = alike-keep m (yields-indirected r m)
+  alike-perform input negate m k = alike-keep m (gives (record { same = refl }))
+  alike-perform input invert m k = alike-keep m (gives (record { same = refl }))
+  alike-perform input back m k = alike-keep m (yields-returned r m)
+  alike-perform input finish m k = both-finished r m h
+  alike-perform input switch m k = alike-keep m (yields-switched r m)
+  alike-perform input rdch m k = alike-keep m (gives (yields-received r input))
+  alike-perform input wrch m k = alike-sent m
+  alike-perform input (dyadic f) m k = alike-keep m (yields-bind (k (r .b) (r .a)) (λ v _. gives (record { same = refl })))
+
+  alike-execute : (input : List ℕ) (f : Function) (x : ℕ) (m : List ℕ) → Alike (execute input f x (at r m o)) (execute input f x (at r m o′))
+  unfolding execute
+  alike-execute input L x m = alike-keep m (gives (record { same = refl }))
+  alike-execute input S x m = alike-stored x m
+  alike-execute input A x m = alike-keep m (gives (record { same = refl }))
+  alike-execute input J x m = alike-keep m (gives (record { same = refl }))
+  alike-execute input T x m = alike-keep m (gives (yields-jumped _ x r))
+  alike-execute input F x m = alike-keep m (gives (yields-jumped _ x r))
+  alike-execute input K x m = alike-called x m
+  alike-execute input X x m = alike-perform input (actOf x) m (sound-act x)
+
+module _ (input : List ℕ) (r : Registers) (m : List ℕ) {o o′ : List ℕ} (h : Roomier (r .written) o o′) where
+  alike-fetched : (p : Out Fetch) → Alike (onFetch input (at r m o) p) (onFetch input (at r m o′) p)
+  alike-fetched (ok f) = alike-execute (withC (f .past) r) (record { room = h .room; same = h .same }) input (functionOf (f .function)) (f .operand) m
+  alike-fetched (stop k) = both-stopped k
+
+  alike : Alike (step input (at r m o)) (step input (at r m o′))
+  unfolding step
+  alike = alike-fetched (fetch r m)
+
+-- ---- a run with less room: the same but for the room, or stopped 35 having written a beginning
+
+pub data Beginning : Outcome → Outcome → Type 0 where
+  whole : (k n : ℕ) (r : Registers) (m : List ℕ) {o o′ : List ℕ} → Roomier (r .written) o o′
+      → Beginning (record { stop = k; count = n; state = at r m o }) (record { stop = k; count = n; state = at r m o′ })
+  cut : (n : ℕ) (s : State) (x : Outcome) → s .regs .written ≤ x .state .regs .written
+      → ((i : ℕ) → i < s .regs .written → getD (s .out) i 0 ≡ getD (x .state .out) i 0)
+      → Beginning (record { stop = 35; count = n; state = s }) x
+
+one-later : {x y : Outcome} → Beginning x y → Beginning (after 1 x) (after 1 y)
+one-later (whole k n r m h) = whole k (1 + n) r m h
+one-later (cut n s x h k) = cut (1 + n) s (after 1 x) h k
+
+turn-beginning : (r : Registers) (m : List ℕ) {o o′ : List ℕ} → Roomier (r .written) o o′ → (f : State → Outcome)
+    → ((r₁ : Registers) (m₁ o₁ o₂ : List ℕ) → Roomier (r₁ .written) o₁ o₂ → Beginning (f (at r₁ m₁ o₁)) (f (at r₁ m₁ o₂)))
+    → {t t′ : Turn} → Alike t t′ → Grows (at r m o′) (onTurn (at r m o′) t′ f .state)
+    → Beginning (onTurn (at r m o) t f) (onTurn (at r m o′) t′ f)
+turn-beginning r m h f ih (both-done r₁ m₁ {o = o₁} {o′ = o₂} k) g = one-later (ih r₁ m₁ o₁ o₂ k)
+turn-beginning r m h f ih (both-finished r₁ m₁ k) g = whole 30 1 r₁ m₁ k
+turn-beginning r m h f ih (both-stopped k) g = whole k 0 r m h
+turn-beginning r m {o} h f ih (full t) g = cut 0 (at r m o) _ (g .place) (λ i l. h .same i l ∙ sym (g .kept i l))
+
+pub room-beginning : (input : List ℕ) (n : ℕ) (r : Registers) (m o o′ : List ℕ) → Roomier (r .written) o o′
+    → Beginning (steps input n (at r m o)) (steps input n (at r m o′))
+unfolding steps
+room-beginning input zero r m o o′ h = whole 31 0 r m h
+room-beginning input (suc n) r m o o′ h =
+    turn-beginning r m h (λ t. steps input n t) (λ r₁ m₁ o₁ o₂ k. room-beginning input n r₁ m₁ o₁ o₂ k) (alike input r m h) (steps-grow input (suc n) (at r m o′))
