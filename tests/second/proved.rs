@@ -34,7 +34,6 @@ mod linked {
             labels: *mut u32,
             labels_len: usize,
             answer: *mut u64,
-            answer_len: usize,
         );
         fn morkvasil_run(
             memory: *mut u16,
@@ -46,12 +45,12 @@ mod linked {
             output_len: usize,
             budget: u64,
             answer: *mut u64,
-            answer_len: usize,
         );
     }
 
     pub fn assemble(text: &[u8], memory: &mut [u16], labels: &mut [u32], answer: &mut [u64; 3]) {
-        // Sound: every pointer comes from a slice that lives through the call, with that slice's own length.
+        // Sound: every pointer comes from a slice that lives through the call, with that slice's own length; the answer's
+        // length is fixed on both sides.
         unsafe {
             morkvasil_assemble(
                 text.as_ptr(),
@@ -61,7 +60,6 @@ mod linked {
                 labels.as_mut_ptr(),
                 labels.len(),
                 answer.as_mut_ptr(),
-                answer.len(),
             );
         }
     }
@@ -79,7 +77,6 @@ mod linked {
                 output.len(),
                 budget,
                 answer.as_mut_ptr(),
-                answer.len(),
             );
         }
     }

@@ -139,7 +139,7 @@ fn find(memory: &[u16], a: u16, default: u16, n: u16, from: u16) -> Word
 
 impl Registers {
     // The registers at the start of a run.
-    fn start(first: u16) -> Self
+    pub fn start(first: u16) -> Self
         ensures { λ r. ⌜ r ≡ startRegisters first ⌝ }
     {
         Registers {
