@@ -1,5 +1,6 @@
 #!/usr/bin/env bash
-# The second program: its hand-checked answers, the examples, and what its generators make.
+# Compares the proved library with the second program, which is written from the rules alone: hand-checked answers, the
+# manual's examples, and generated texts and images, in every word, label, register and byte.
 set -euo pipefail
 cd "$(dirname "$0")/.."
 mkdir -p target/tests
@@ -7,5 +8,8 @@ rustc -O --edition 2021 --test tests/second/selftest.rs -o target/tests/selftest
 target/tests/selftest --quiet
 rustc -O --edition 2021 tests/second/second.rs -o target/tests/second
 tests/run-examples.sh target/tests/second
-rustc -O --edition 2021 tests/second/compare.rs -o target/tests/compare
-target/tests/compare --self-check
+rt check testbed minicode > target/tests/check.log 2>&1 || { tail -n 40 target/tests/check.log; exit 1; }
+tests/run-examples.sh target/bin/minicode
+rt staticlib testbed > target/tests/staticlib.log 2>&1 || { tail -n 40 target/tests/staticlib.log; exit 1; }
+rustc -O --edition 2021 --cfg proved tests/second/compare.rs -L target/staticlib -l static=testbed -o target/tests/compare
+target/tests/compare

@@ -1,10 +1,14 @@
 -- From the library's answers to the exported numbers.
 use mathlib.Core.List.{List, [], _∷_}
+use mathlib.Core.Path.{_≡_, sym, ap, _∙_}
 use Prim.Native.Nat.{ℕ}
+use lib.ListN.{length}
+use Rattle.assembler.specs.Assemble.{Assembles, assembled}
+use Rattle.assembler.specs.declared.Assembled.{Assembled}
 use Rattle.machine.specs.Run.{Outcome}
 use Rattle.machine.specs.Answers.{Ends}
 use Rattle.machine.specs.declared.Ran.{Ran}
-use Rattle.testbed.specs.Exported.{RunExported}
+use Rattle.testbed.specs.Exported.{AssembleExported, RunExported, assembleNumbers}
 
 pub run-exported : {o : Outcome} {r : Ran} {memory output : List ℕ} → Ends o r memory output
     → RunExported o memory output
@@ -15,3 +19,8 @@ run-exported e =
       writes = e .writes;
       answers = λ i. e .stops i ∷ e .counts i ∷ e .leaves i .taken ∷ e .leaves i .written ∷ e .leaves i .a ∷ e .leaves i .b ∷ e .leaves i .c ∷ e .leaves i .p ∷ e .leaves i .g ∷ [];
     }
+
+-- an assembly's answer, matched
+pub assemble-exported : {text memory table : List ℕ} {answer matched : Assembled} {memory′ table′ : List ℕ} → Assembles text memory table answer memory′ table′
+    → answer ≡ matched → AssembleExported (assembled text (length memory) (length table)) memory′ table′ (assembleNumbers matched)
+assemble-exported e q = record { fills = e .fills; tables = e .tables; answers = ap assembleNumbers (sym q ∙ e .answers) }

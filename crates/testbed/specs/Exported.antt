@@ -3,6 +3,9 @@ use Prim.Native.Nat.{ℕ}
 use mathlib.Core.Path.{_≡_}
 use mathlib.Core.List.{List, [], _∷_}
 use Rattle.machine.specs.Run.{Outcome, run}
+use Rattle.assembler.specs.Assemble.{Assembly}
+use Rattle.assembler.specs.declared.Assembled.{Assembled}
+use Rattle.assembler.specs.declared.Assembled.the-variants.{Accepted, Refused}
 
 -- stop, count, taken, written, A, B, C, P, G
 abbrev pub runNumbers : Outcome → List ℕ
@@ -14,3 +17,13 @@ pub record RunExported (outcome : Outcome) (memory output answer : List ℕ) : T
   pub stores : memory ≡ outcome .state .mem
   pub writes : output ≡ outcome .state .out
   pub answers : answer ≡ runNumbers outcome
+
+-- 0 and the first stack word; or the refusal's number, place and line
+abbrev pub assembleNumbers : Assembled → List ℕ
+assembleNumbers (Accepted first) = 0 ∷ first ∷ 0 ∷ []
+assembleNumbers (Refused r) = r .number ∷ r .place ∷ r .line ∷ []
+
+pub record AssembleExported (assembly : Assembly) (memory table answer : List ℕ) : Type 0 where
+  pub fills : memory ≡ assembly .memory
+  pub tables : table ≡ assembly .table
+  pub answers : answer ≡ assembleNumbers (assembly .answer)

@@ -1,7 +1,30 @@
 // The library's functions exported on numbers and slices, for the comparison with the second program (tests/).
 ghost use mathlib.Core.Path.{_≡_};
+ghost use lib.ListN.{length};
+ghost use Rattle.assembler.specs.Assemble.{assembled};
 ghost use Rattle.machine.specs.Run.{run};
-ghost use Rattle.testbed.specs.Exported.{RunExported};
+ghost use Rattle.testbed.specs.Exported.{AssembleExported, RunExported};
+use assembler::Assembled;
+
+#[no_mangle]
+pub extern "C" fn morkvasil_assemble(
+    text: &[u8],
+    memory: &mut [u16],
+    labels: &mut [u32],
+    answer: &mut [u64; 3],
+)
+    ensures { λ _. ⌜ AssembleExported (assembled (now (text .entry)) (length (now (memory .entry))) (length (now (labels .entry)))) (now (memory .exit)) (now (labels .exit)) (now (answer .exit)) ⌝ }
+{
+    let assembly = assembler::assemble(text, memory, labels);
+    match assembly {
+        Assembled::Accepted(first) => {
+            *answer = [0, first as u64, 0];
+        }
+        Assembled::Refused(r) => {
+            *answer = [r.number as u64, r.place as u64, r.line as u64];
+        }
+    }
+}
 
 #[no_mangle]
 pub extern "C" fn morkvasil_run(

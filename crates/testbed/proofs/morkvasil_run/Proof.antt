@@ -2,47 +2,34 @@ use Rattle.testbed.proofs.Answers.{run-exported}
 use borrow.Author.Needs.{needs}
 use Rattle.testbed.proofs.morkvasil_run.Statement.{statement}
 use Rattle.testbed.proofs.morkvasil_run.Tie as tie
-use Rattle.testbed.proofs.morkvasil_run.Reads as reads
-use Rattle.testbed.proofs.morkvasil_run.Lts as lts
-use Rattle.machine.proofs.run.Reads as run-reads
 
--- src/lib.rt:17:9
 run-requires : tie.Need-run-requires
 run-requires c κs = search needs
 
--- src/lib.rt:20:9
 cast-t13 : tie.Need-cast-t13
 cast-t13 c = search needs
 
--- src/lib.rt:24:9
 cast-t16 : tie.Need-cast-t16
 cast-t16 c = search needs
 
--- src/lib.rt:25:9
 cast-t17 : tie.Need-cast-t17
 cast-t17 c = search needs
 
--- src/lib.rt:26:9
 cast-t18 : tie.Need-cast-t18
 cast-t18 c = search needs
 
--- src/lib.rt:27:9
 cast-t19 : tie.Need-cast-t19
 cast-t19 c = search needs
 
--- src/lib.rt:28:9
 cast-t20 : tie.Need-cast-t20
 cast-t20 c = search needs
 
--- src/lib.rt:6:1
 same-length : tie.Need-same-length
 same-length c = search needs
 
--- src/lib.rt:6:1
 same-length-2 : tie.Need-same-length-2
 same-length-2 c = search needs
 
--- src/lib.rt:6:1
 returns : tie.Need-returns
 returns c = run-exported (c .before .before .before .before .before .before .before .before .before .before .before .before .run .ensures)
 

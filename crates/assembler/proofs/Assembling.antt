@@ -1,0 +1,168 @@
+-- Both passes together: each way through `assemble` gives what the definition says.
+use Prim.Native.Nat.{ℕ, zero, suc, _+_, _-_, _*_, _/_, _%_, _<_, _≤_}
+use mathlib.Core.Path.{_≡_, refl, sym, ap, _∙_}
+use mathlib.Core.Bool.{Bool, true, false, cond}
+use mathlib.Core.List.{List, [], _∷_, _++_, map}
+use native.Mathlib.Omega.{arith}
+use native.Mathlib.Nat.{sub-zero}
+use lib.Dec.{leb}
+use lib.ListN.{length, replicate, take, length-append, length-replicate}
+use lib.Seq.{length-take-le}
+use borrow.Author.Tests.{le-leb, lt-leb}
+use Rattle.items.specs.Item.{Placed}
+use Rattle.items.specs.Scan.{Ending, whole, unreadable, Scan, ends, scan}
+use Rattle.assembler.specs.Layout.{Label, Laid, laid, refused, lay, unknowns}
+use Rattle.assembler.specs.Assemble.{start, noGlobals, image, packed, Assembly, refuse, accept, onLaid, assembled, Assembles}
+use Rattle.assembler.specs.Passes.{recordOf, records, Table, afterEnding, laidBy, Lays, filled, FitsAll, asWritten, WritesAll, Ready, Gives}
+use Rattle.assembler.specs.declared.Assembled.{Assembled}
+use Rattle.assembler.specs.declared.Assembled.the-variants.{Accepted}
+use Rattle.assembler.specs.declared.Placing.{Placing}
+use Rattle.assembler.specs.declared.Placing.the-variants as P
+use Rattle.assembler.specs.declared.Written.{Written}
+use Rattle.assembler.specs.declared.Written.the-variants as W
+use Rattle.assembler.proofs.Lookup.{length-records}
+use Rattle.assembler.proofs.Image.{Ends, laid-ends, image-is}
+
+-- ---- what the first pass's answer says of the layout and the ending
+
+laid-was : (e : Ending) (o : Laid) {labels : List Label} {end : ℕ} → laid labels end ≡ afterEnding e o → (e ≡ whole) × (o ≡ laid labels end)
+unfolding afterEnding
+laid-was whole o h = (refl, sym h)
+laid-was (unreadable p) (laid ls n) h = let z : _≡_ {A = ℕ} 0 1 = cc in absurd (omega arith)
+laid-was (unreadable p) (refused k q) h = let z : _≡_ {A = ℕ} 0 1 = cc in absurd (omega arith)
+
+module _ (text : List ℕ) (memory room number place : ℕ) where
+  same-refusal : {n p : ℕ} → refused number place ≡ refused n p → refuse text memory room number place ≡ refuse text memory room n p
+  same-refusal {n} {p} h =
+      let y : number ≡ n = cc in
+      let z : place ≡ p = cc in
+      rw (y, z)
+
+  refused-was : (o : Laid) (e : Ending) (items : List Placed) → refused number place ≡ afterEnding e o
+      → refuse text memory room number place ≡ onLaid text memory room o (record { items = items; ending = e })
+  unfolding afterEnding
+  refused-was (refused n p) whole items h = same-refusal h
+  refused-was (refused n p) (unreadable q) items h = same-refusal h
+  refused-was (laid ls n) whole items h = let z : _≡_ {A = ℕ} 0 1 = cc in absurd (omega arith)
+  refused-was (laid ls n) (unreadable q) items h = same-refusal h
+
+-- ---- the table of an accepted text
+
+packed-records : (keys : List ℕ) → map packed (records keys) ≡ keys
+unfolding records
+packed-records [] = refl
+packed-records (k ∷ ks) = let z : k / 65536 * 65536 + k % 65536 ≡ k = omega arith in rw z (ap (λ (l : List ℕ). k ∷ l) (packed-records ks))
+
+table-is : (count : ℕ) (table : List ℕ) → Table count table
+    → table ≡ map packed (records (take count table)) ++ replicate (length table - length (records (take count table))) 0
+table-is count table t =
+    let n : length (records (take count table)) ≡ count = length-records (take count table) ∙ length-take-le count table (t .fits) in
+    rw (n, packed-records) (t .zeros)
+
+-- ---- the passes' answers
+
+length-fixed : (n : ℕ) → 416 ≤ n → length (start ++ noGlobals ++ replicate (n - 416) 0) ≡ n
+unfolding noGlobals
+length-fixed n h = let z : length (replicate {A = ℕ} (n - 416) 0) ≡ n - 416 = length-replicate (n - 416) 0 in omega arith
+
+module _ (text m₀ table : List ℕ) (s : Scan) {layout : Placing} {table₁ : List ℕ} (l : Lays (length m₀) s table layout table₁) where
+  -- what is to be given
+  abbrev wanted : Assembly
+  wanted = onLaid text (length m₀) (length table) (lay (length m₀) (length table) 416 [] (s .items)) s
+
+  pub gives-fault : {number place : ℕ} {answer : Assembled} {m′ t′ : List ℕ} → layout ≡ P.Fault number place
+      → Gives (refuse text (length m₀) (length table₁) number place) answer m′ t′ → Gives wanted answer m′ t′
+  unfolding laidBy
+  gives-fault {number} {place} q g =
+      let h : refused number place ≡ afterEnding (s .ending) (lay (length m₀) (length table) 416 [] (s .items)) = (rw q at (l .answers)) in
+      let e : refuse text (length m₀) (length table) number place ≡ wanted = refused-was text (length m₀) (length table) number place (lay (length m₀) (length table) 416 [] (s .items)) (s .ending) (s .items) h in
+      rw (← e, ← l .same) g
+
+  module _ {count end : ℕ} (q : layout ≡ P.Placed count end) (b : 416 ≤ length m₀) where
+    pub placed-table : Table count table₁
+    placed-table = l .tabled count end q .0
+
+    laid-is : (s .ending ≡ whole) × (lay (length m₀) (length table) 416 [] (s .items) ≡ laid (records (take count table₁)) end)
+    unfolding laidBy
+    laid-is = laid-was (s .ending) (lay (length m₀) (length table) 416 [] (s .items)) (rw q at (l .answers))
+
+    placed-ends : Ends (length m₀) 416 (s .items) end
+    placed-ends = laid-ends (length m₀) (length table) 416 [] (s .items) b (laid-is .1)
+
+    module _ {m₁ : List ℕ} (f : m₁ ≡ start ++ noGlobals ++ replicate (length m₀ - 416) 0) where
+      length-start : length m₁ ≡ length m₀
+      length-start = ap length f ∙ length-fixed (length m₀) b
+
+      pub placed-fits : (416 ≤ length m₁) × FitsAll (length m₁) 416 (s .items)
+      placed-fits = rw length-start (b, placed-ends .fits)
+
+      module _ {written : Written} {m₂ : List ℕ} (w′ : WritesAll (records (take (count - 0) table₁)) s m₁ written m₂) where
+        w : WritesAll (records (take count table₁)) s m₁ written m₂
+        w = rw sub-zero at w′
+
+        known-all : (us : List ℕ) → W.Whole ≡ asWritten us → us ≡ []
+        unfolding asWritten
+        known-all [] h = refl
+        known-all (u ∷ us) h = let z : _≡_ {A = ℕ} 0 1 = cc in absurd (omega arith)
+
+        pub gives-image : written ≡ W.Whole → Gives wanted (Accepted end) m₂ table₁
+        unfolding accept
+        gives-image h =
+            let u : unknowns (records (take count table₁)) (s .items) ≡ [] = known-all _ (sym h ∙ w .answers) in
+            let i : m₂ ≡ image (length m₀) (records (take count table₁)) (s .items) end = w .writes h ∙ rw f (image-is (length m₀) (records (take count table₁)) (s .items) end b placed-ends) in
+            rw (laid-is .1, laid-is .0, u)
+            (record {
+              answers = refl;
+              fills = i;
+              tables = rw (← l .same) (table-is count table₁ placed-table);
+            })
+
+        unknown-first : (us : List ℕ) {place : ℕ} → W.Unknown place ≡ asWritten us → (v : List ℕ) × (us ≡ place ∷ v)
+        unfolding asWritten
+        unknown-first [] h = let z : _≡_ {A = ℕ} 0 1 = cc in absurd (omega arith)
+        unknown-first (u ∷ us) {place} h = let z : u ≡ place = cc in (us, rw z)
+
+        pub gives-unknown : {place : ℕ} {answer : Assembled} {m′ t′ : List ℕ} → written ≡ W.Unknown place
+            → Gives (refuse text (length m₂) (length table₁) 22 place) answer m′ t′ → Gives wanted answer m′ t′
+        gives-unknown {place} h g =
+            let u : (v : List ℕ) × (unknowns (records (take count table₁)) (s .items) ≡ place ∷ v) = unknown-first _ (sym h ∙ w .answers) in
+            let n : length m₂ ≡ length m₀ = w .same ∙ length-start in
+            rw (laid-is .1, laid-is .0, u .1) (rw (n, l .same) at g)
+
+-- ---- the whole
+
+-- from a memory and a table that were cleared
+module _ (text m₀ t₀ : List ℕ) {m₁ t₁ : List ℕ} (m : m₁ ≡ replicate (length m₀) 0) (t : t₁ ≡ replicate (length t₀) 0) where
+  memory-length : length m₁ ≡ length m₀
+  memory-length = ap length m ∙ length-replicate (length m₀) 0
+
+  table-length : length t₁ ≡ length t₀
+  table-length = ap length t ∙ length-replicate (length t₀) 0
+
+  pub is-ready : 512 ≤ length m₁ → length m₁ ≤ 32768 → Ready m₁ t₁
+  is-ready h k = record { least = h; most = k; memory-zeros = rw memory-length m; table-zeros = rw table-length t }
+
+  module _ {answer : Assembled} {m′ t′ : List ℕ} where
+    assembles : {a : Assembly} → a ≡ assembled text (length m₁) (length t₁) → Gives a answer m′ t′ → Assembles text m₀ t₀ answer m′ t′
+    assembles e g =
+        let h : Gives (assembled text (length m₀) (length t₀)) answer m′ t′ = rw (e, memory-length, table-length) at g in
+        record { answers = h .answers; fills = h .fills; tables = h .tables }
+
+    pub assembles-short : length m₁ < 512 → Gives (refuse text (length m₁) (length t₁) 24 0) answer m′ t′ → Assembles text m₀ t₀ answer m′ t′
+    unfolding assembled
+    assembles-short h g = assembles (rw (lt-leb 512 (length m₁) h)) g
+
+    pub assembles-long : 512 ≤ length m₁ → 32768 < length m₁ → Gives (refuse text (length m₁) (length t₁) 24 0) answer m′ t′ → Assembles text m₀ t₀ answer m′ t′
+    unfolding assembled
+    assembles-long h k g = assembles (rw (le-leb 512 (length m₁) h, lt-leb (length m₁) 32768 k)) g
+
+    module _ (h : 512 ≤ length m₁) (k : length m₁ ≤ 32768) where
+      pub assembles-from : (s : Scan) → scan text ≡ s
+          → Gives (onLaid text (length m₁) (length t₁) (lay (length m₁) (length t₁) 416 [] (s .items)) s) answer m′ t′ → Assembles text m₀ t₀ answer m′ t′
+      unfolding assembled
+      assembles-from s e g = assembles (rw (le-leb 512 (length m₁) h, le-leb (length m₁) 32768 k, e)) g
+
+      pub assembles-not : {place : ℕ} → scan text ≡ ends (unreadable place) → Gives (refuse text (length m₁) (length t₁) 20 place) answer m′ t′
+          → Assembles text m₀ t₀ answer m′ t′
+      unfolding lay
+      assembles-not {place} e g = assembles-from (ends (unreadable place)) e g

@@ -1,0 +1,14 @@
+pub mod Lists
+pub mod Lookup
+pub mod Operands
+pub mod Faults
+pub mod Noting
+pub mod Reading
+pub mod Laying
+pub mod Writing
+pub mod Fixed
+pub mod Strings
+pub mod Filling
+pub mod Image
+pub mod Assembling
+pub mod Examples

@@ -1,0 +1,123 @@
+-- A label's record: what a new key adds to the table, and that an item without fault may be noted.
+use Prim.Native.Nat.{ℕ, zero, suc, _+_, _-_, _*_, _/_, _%_, _<_, _≤_}
+use mathlib.Core.Path.{_≡_, refl, sym, ap, _∙_}
+use mathlib.Core.Bool.{Bool, true, false, cond}
+use mathlib.Core.List.{List, [], _∷_, _++_, map, append-assoc}
+use native.Mathlib.Omega.{arith}
+use native.Mathlib.Nat.{sub-zero}
+use native.Mathlib.Numerals.{add-one}
+use lib.Arith.{digits-div, digits-mod}
+use lib.Dec.{leb, ltb}
+use lib.ListN.{length, set, replicate, take, length-set}
+use lib.Seq.{length-take-le, take-suc-set, set-at}
+use borrow.Author.Tests.{leb-false, ltb-false}
+use Rattle.items.specs.Item as I
+use Rattle.items.specs.declared.Item.{Item}
+use Rattle.items.specs.declared.Item.the-variants as C
+use Rattle.assembler.specs.Words.{labelInRange, inRange, size}
+use Rattle.assembler.specs.Layout.{Label, defined, noted, misplaced, fault}
+use Rattle.assembler.specs.Passes.{itemOf, blank, recordOf, records, labelFault, beyond, Table, Notable, Notes, Zeros}
+use Rattle.assembler.proofs.Operands.{label-range}
+use Rattle.assembler.proofs.Lookup.{length-records}
+
+pub no-labels : (table : List ℕ) → Zeros table → Table 0 table
+no-labels table z = record { fits = omega arith; zeros = rw sub-zero z }
+
+-- ---- one key more
+
+module _ (table : List ℕ) (count key : ℕ) (t : Table count table) (h : count < length table) where
+  first-keys : take (count + 1) (set table count key) ≡ take count table ++ (key ∷ [])
+  first-keys = rw add-one (take-suc-set table count key h)
+
+  one-key : Table (count + 1) (set table count key)
+  one-key =
+      let left : length table - count ≡ suc (length table - (count + 1)) = omega arith in
+      let before : table ≡ take count table ++ (0 ∷ replicate (length table - (count + 1)) 0) = t .zeros ∙ rw left refl in
+      let stored : set table count key ≡ take count table ++ (key ∷ replicate (length table - (count + 1)) 0) =
+      ap (λ (l : List ℕ). set l count key) before
+      ∙ set-at (take count table) 0 (replicate (length table - (count + 1)) 0) key count (length-take-le count table (t .fits)) in
+      record {
+        fits = rw length-set (omega arith);
+        zeros = stored ∙ sym (rw (first-keys, length-set, append-assoc));
+      }
+
+records-append : (a b : List ℕ) → records (a ++ b) ≡ records a ++ records b
+unfolding records
+records-append [] b = refl
+records-append (k ∷ a) b = ap (λ (l : List Label). recordOf k ∷ l) (records-append a b)
+
+one-record : (n at : ℕ) → at < 65536 → records ((n * 65536 + at) ∷ []) ≡ record { number = n; address = at } ∷ []
+unfolding records
+one-record n at h =
+    let p : (n * 65536 + at) / 65536 ≡ n = digits-div n h in
+    let q : (n * 65536 + at) % 65536 ≡ at = digits-mod n h in
+    rw (p, q)
+
+pub note-label : (at : ℕ) (item : Item) (count : ℕ) (table : List ℕ) {n : ℕ} → Notable at item count table → item ≡ C.Label n
+    → Notes at (itemOf blank item) count table (count + 1) (set table count (n * 65536 + at))
+unfolding itemOf noted
+note-label at item count table {n} r e =
+    let f : (n < 65536) × (count < length table) = r .free n e in
+    record {
+      same = length-set table count (n * 65536 + at);
+      tabled = one-key table count (n * 65536 + at) (r .tabled) (f .1);
+      notes = rw (e, first-keys table count (n * 65536 + at) (r .tabled) (f .1), records-append, one-record n at (r .low));
+    }
+
+-- any other item leaves the table as it is
+pub note-other : (at : ℕ) (i : I.Item) (count : ℕ) (table : List ℕ) → Table count table
+    → noted at (records (take count table)) i ≡ records (take count table) → Notes at i count table count table
+note-other at i count table t e = record { same = refl; tabled = t; notes = sym e }
+
+-- ---- what an item without fault satisfies
+
+module _ (memory room at : ℕ) (labels : List Label) where
+  pub no-fault-ranged : (i : I.Item) → fault memory room at labels i ≡ 0 → inRange i ≡ true
+  unfolding fault
+  no-fault-ranged i h = go (inRange i) refl
+    where
+      go : (t : Bool) → inRange i ≡ t → inRange i ≡ true
+      go true e = e
+      go false e = let z : _≡_ {A = ℕ} 23 0 = rw e at h in absurd (omega arith)
+
+  no-fault-placed : (i : I.Item) → fault memory room at labels i ≡ 0 → misplaced memory room at labels i ≡ 0
+  unfolding fault
+  no-fault-placed i h = rw (no-fault-ranged i h) at h
+
+  label-placed : (n : ℕ) → labelFault room labels n ≡ 0 → (defined labels n ≡ false) × (length labels < room)
+  label-placed n h = go (defined labels n) (leb room (length labels)) refl refl
+    where
+      go : (d f : Bool) → defined labels n ≡ d → leb room (length labels) ≡ f → (defined labels n ≡ false) × (length labels < room)
+      go true f p q = let z : _≡_ {A = ℕ} 21 0 = rw p at h in absurd (omega arith)
+      go false true p q = let z : _≡_ {A = ℕ} 25 0 = rw (p, q) at h in absurd (omega arith)
+      go false false p q = (p, leb-false _ _ q)
+
+  within : (words : ℕ) → beyond memory at words ≡ 0 → at + words ≤ memory
+  within words h = go (ltb memory (at + words)) refl
+    where
+      go : (t : Bool) → ltb memory (at + words) ≡ t → at + words ≤ memory
+      go true e = let z : _≡_ {A = ℕ} 24 0 = rw e at h in absurd (omega arith)
+      go false e = ltb-false _ _ e
+
+  pub no-fault-label : (n : ℕ) → fault memory room at labels (I.label n) ≡ 0 → (n ≤ 32767) × (length labels < room)
+  unfolding misplaced inRange
+  no-fault-label n h = (label-range n (no-fault-ranged (I.label n) h) .1, label-placed n (no-fault-placed (I.label n) h) .1)
+
+  pub no-fault-fits : (i : I.Item) → fault memory room at labels i ≡ 0 → at ≤ memory → at + size i ≤ memory
+  unfolding misplaced size
+  no-fault-fits (I.label n) h l = omega arith
+  no-fault-fits (I.instruction f i b x) h l = within (size (I.instruction f i b x)) (no-fault-placed (I.instruction f i b x) h)
+  no-fault-fits (I.constant x) h l = within (size (I.constant x)) (no-fault-placed (I.constant x) h)
+  no-fault-fits (I.string cs) h l = within (size (I.string cs)) (no-fault-placed (I.string cs) h)
+  no-fault-fits (I.global n m) h l = omega arith
+
+pub may-note : (memory at : ℕ) (item : Item) (count : ℕ) (table : List ℕ) → Table count table → at < 65536
+    → fault memory (length table) at (records (take count table)) (itemOf blank item) ≡ 0 → Notable at item count table
+unfolding itemOf
+may-note memory at item count table t low h = record { tabled = t; low = low; free = free }
+  where
+    free : (n : ℕ) → item ≡ C.Label n → (n < 65536) × (count < length table)
+    free n e =
+        let z : (n ≤ 32767) × (length (records (take count table)) < length table) = no-fault-label memory (length table) at (records (take count table)) n (rw e at h) in
+        let l : length (records (take count table)) ≡ count = length-records (take count table) ∙ length-take-le count table (t .fits) in
+        (omega arith, omega arith)

@@ -1,0 +1,23 @@
+-- Operands in range.
+use Prim.Native.Nat.{ℕ, _+_, _-_, _%_, _<_, _≤_}
+use mathlib.Core.Path.{_≡_, refl, sym, ap, _∙_}
+use mathlib.Core.Bool.{Bool, true, false, cond}
+use native.Mathlib.Omega.{arith}
+use lib.Dec.{leb, ltb}
+use borrow.Author.Tests.{leb-true}
+use Rattle.items.specs.Item.{Operand, number, address}
+use Rattle.assembler.specs.Words.{both, labelInRange, operandInRange}
+
+pub number-below : (minus : Bool) {size : ℕ} → operandInRange (number minus size) ≡ true → size < 65536
+unfolding operandInRange
+number-below true {size} h = let z : size ≤ 32768 = leb-true _ _ h in omega arith
+number-below false {size} h = let z : size ≤ 65535 = leb-true _ _ h in omega arith
+
+pub both-true : (a b : Bool) → both a b ≡ true → (a ≡ true) × (b ≡ true)
+both-true true b h = (refl, h)
+both-true false b h = (h, let z : _≡_ {A = ℕ} 0 1 = cc in absurd (omega arith))
+
+pub label-range : (n : ℕ) → labelInRange n ≡ true → (1 ≤ n) × (n ≤ 32767)
+label-range n h =
+    let b : (leb 1 n ≡ true) × (leb n 32767 ≡ true) = both-true (leb 1 n) (leb n 32767) h in
+    (leb-true 1 n (b .0), leb-true n 32767 (b .1))

@@ -1,0 +1,97 @@
+-- A string's words: the loop that decodes two characters and stores one word a turn.
+use Prim.Native.Nat.{ℕ, zero, suc, _+_, _-_, _*_, _/_, _<_, _≤_}
+use mathlib.Core.Path.{_≡_, refl, sym, ap, _∙_}
+use mathlib.Core.List.{List, [], _∷_, _++_}
+use native.Mathlib.Omega.{arith}
+use native.Mathlib.Numerals.{add-one}
+use lib.ListN.{length, set, drop, length-set, length-drop}
+use lib.Seq.{sets, drop-drop}
+use Rattle.text.specs.Quoted.{Quoted, closed, faulty, quoted, Character, is, closing, bad, character}
+use Rattle.text.proofs.Quotes.{Written, is-written, onward, quoted-next, quoted-end, quoted-bad}
+use Rattle.assembler.specs.Words.{pairs}
+use Rattle.assembler.specs.Passes.{charactersOf, letters, Quoting, Spelling}
+
+-- ---- the characters from a place on, by what stands there
+
+module _ (text : List ℕ) (place : ℕ) (q : Quoting text place) where
+  -- a character, and the characters after it
+  record Follows (v w : ℕ) : Type 0 where
+    pub letters-are : letters text place ≡ v ∷ letters text (place + w)
+    pub quoting : Quoting text (place + w)
+
+  follows : {v w : ℕ} → character 34 (drop place text) ≡ is v w → Follows v w
+  unfolding letters
+  follows {v} {w} e = go (quoted 34 0 (drop (place + w) text)) refl
+    where
+      here : quoted 34 0 (drop place text) ≡ onward v w (quoted 34 0 (drop (place + w) text))
+      here = quoted-next 34 (drop place text) e ∙ rw drop-drop
+
+      go : (r : Quoted) → quoted 34 0 (drop (place + w) text) ≡ r → Follows v w
+      go (closed cs n) f =
+          record {
+            letters-are = rw (here, f);
+            quoting = record { width = n; reads = rw f };
+          }
+      go faulty f =
+          let y : closed (letters text place) (q .width) ≡ faulty = sym (q .reads) ∙ here ∙ rw f in
+          let z : _≡_ {A = ℕ} 0 1 = cc in
+          absurd (omega arith)
+
+  no-letters : character 34 (drop place text) ≡ closing → letters text place ≡ []
+  unfolding letters
+  no-letters e = rw (quoted-end 34 (drop place text) e)
+
+  pub not-bad : character 34 (drop place text) ≡ bad → ⊥
+  not-bad e =
+      let y : closed (letters text place) (q .width) ≡ faulty = sym (q .reads) ∙ quoted-bad 34 (drop place text) e in
+      let z : _≡_ {A = ℕ} 0 1 = cc in
+      omega arith
+
+pub past-character : (text : List ℕ) (place : ℕ) {v w : ℕ} → character 34 (drop place text) ≡ is v w → (place + w ≤ length text) × (1 ≤ w)
+past-character text place {v} {w} e =
+    let r : Written (length (drop place text)) v w = is-written 34 (drop place text) e in
+    let l : length (drop place text) ≡ length text - place = length-drop place text in
+    (omega arith, omega arith)
+
+-- ---- what the loop keeps
+
+pub record Spells (text : List ℕ) (memory₀ : List ℕ) (at from first place to high : ℕ) (memory : List ℕ) : Type 0 where
+  pub spelling : Spelling text place high to memory
+  pub same : length memory ≡ length memory₀
+  pub so-far : sets memory₀ at (pairs first (letters text from)) ≡ sets memory to (pairs high (letters text place))
+
+module _ (text : List ℕ) (memory₀ : List ℕ) (at from first place to high : ℕ) (memory : List ℕ) (s : Spells text memory₀ at from first place to high memory) where
+  quoting : Quoting text place
+  quoting = s .spelling .quoting
+
+  pub spells-end : {word : ℕ} → character 34 (drop place text) ≡ closing → word ≡ high * 256 + 0
+      → set memory to word ≡ sets memory₀ at (pairs first (letters text from))
+  unfolding pairs
+  spells-end {word} e h =
+      let w : word ≡ high * 256 = omega arith in
+      sym (s .so-far ∙ rw (no-letters text place quoting e, w))
+
+  module _ {low width word : ℕ} (e : character 34 (drop place text) ≡ is low width) (h : word ≡ high * 256 + low) where
+    next : Follows text place quoting low width
+    next = follows text place quoting e
+
+    pub second-bad : character 34 (drop (place + width) text) ≡ bad → ⊥
+    second-bad f = not-bad text (place + width) (next .quoting) f
+
+    pub spells-odd : character 34 (drop (place + width) text) ≡ closing → set memory to word ≡ sets memory₀ at (pairs first (letters text from))
+    unfolding pairs
+    spells-odd f = sym (s .so-far ∙ rw (next .letters-are, no-letters text (place + width) (next .quoting) f, h))
+
+    pub spells-on : {v width′ high′ : ℕ} → character 34 (drop (place + width) text) ≡ is v width′ → high′ ≡ v → high′ < 256
+        → Spells text memory₀ at from first (place + width + width′) (to + 1) high′ (set memory to word)
+    unfolding pairs
+    spells-on {v} {width′} {high′} f k b =
+        let after : Follows text (place + width) (next .quoting) v width′ = follows text (place + width) (next .quoting) f in
+        let both : letters text place ≡ low ∷ v ∷ letters text (place + width + width′) = next .letters-are ∙ rw (after .letters-are) in
+        let n : length (letters text place) ≡ suc (suc (length (letters text (place + width + width′)))) = ap length both in
+        let l : length (set memory to word) ≡ length memory = length-set memory to word in
+        record {
+          spelling = record { quoting = after .quoting; byte = b; fits = omega (arith, s .spelling .fits) };
+          same = l ∙ s .same;
+          so-far = s .so-far ∙ rw (both, h, k, add-one);
+        }

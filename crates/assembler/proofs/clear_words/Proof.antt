@@ -1,0 +1,55 @@
+use Rattle.assembler.proofs.Lists.{zeros-more, zeros-all}
+use Prim.Native.Nat.{_≤_, _-_}
+use mathlib.Core.Path.{_≡_}
+use mathlib.Core.List.{_++_}
+use lib.ListN.{length, replicate, drop}
+use borrow.Author.Fill.{fill-none, fill-more}
+use borrow.Author.Needs.{needs}
+use native.Mathlib.Omega.{arith}
+use Rattle.assembler.proofs.clear_words.Statement.{statement}
+use Rattle.assembler.proofs.clear_words.Tie as tie
+
+abbrev Inv-loop : tie.InvT-loop
+Inv-loop memory₀ i₀ memory i = (i ≤ length memory₀) × (memory ≡ replicate i 0 ++ drop i memory₀) × (length memory ≡ length memory₀)
+
+abbrev μ-loop : tie.MeasureT-loop
+μ-loop memory₀ i₀ memory i = length memory₀ - i
+
+loop-holds : tie.Need-loop-holds Inv-loop μ-loop
+loop-holds c = (omega arith, fill-none _ 0, search needs)
+
+mul-memory : tie.Need-mul-memory Inv-loop μ-loop
+mul-memory c = search needs
+
+slice-write-memory : tie.Need-slice-write-memory Inv-loop μ-loop
+slice-write-memory c = search needs
+
+add-i : tie.Need-add-i Inv-loop μ-loop
+add-i c = search needs
+
+loop-less : tie.Need-loop-less Inv-loop μ-loop
+loop-less c = search needs
+
+loop-again : tie.Need-loop-again Inv-loop μ-loop
+loop-again c = (search needs, zeros-more _ _ (c .before .loop .inv .1) (search needs), search needs)
+
+same-length : tie.Need-same-length Inv-loop μ-loop
+same-length c = search needs
+
+returns : tie.Need-returns Inv-loop μ-loop
+returns c = zeros-all (c .before .before .args .memory .now) (c .before .loop .i) (c .before .loop .inv .1) (search needs) (search needs)
+
+pub clear-words-spec : {M : Type 1} → statement M
+clear-words-spec =
+    tie.close
+    (tie.spec
+    Inv-loop
+    μ-loop
+    loop-holds
+    mul-memory
+    slice-write-memory
+    add-i
+    loop-less
+    loop-again
+    same-length
+    returns)

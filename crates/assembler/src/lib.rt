@@ -1,0 +1,510 @@
+// The assembler: MINICODE text into the machine's memory, with a lent table of labels (document 01, "Assembly text").
+//
+// Two passes over the items. The first finds each label's address and every fault but an unknown label; the second
+// writes the words. A record of the table is one number, the label's number times 65,536 and its address.
+use items::Base;
+use items::Item;
+use items::Next;
+use items::Operand;
+use items::Start;
+use text::Character;
+use text::Refusal;
+ghost use Prim.Native.Nat.{_+_, _-_, _*_, _<_, _≤_};
+ghost use mathlib.Core.Path.{_≡_};
+ghost use mathlib.Core.Bool.{true};
+ghost use mathlib.Core.List.{[], _++_};
+ghost use lib.ListN.{length, replicate, take, drop};
+ghost use lib.Seq.{sets};
+ghost use Rattle.items.specs.Item as I;
+ghost use Rattle.items.specs.Scan.{body};
+ghost use Rattle.assembler.specs.Words.{labelInRange, operandInRange, inRange, signed, short, size, indirectBit, baseBit, pairs};
+ghost use Rattle.assembler.specs.Layout.{fault, lay};
+ghost use Rattle.assembler.specs.Assemble.{Assembles, refuse, onLaid, start, noGlobals};
+ghost use Rattle.assembler.specs.Passes.{operandOf, baseOf, itemOf, blank, records, asFound, labelFault, beyond, Notable, Notes, Lays, valueOf, Sound, Writable, Writes, letters, Spelling, itemAt, Spelled, FitsAll, WritesAll, Zeros, Ready, Gives};
+
+pub enum Assembled {
+    Accepted(u16),
+    Refused(Refusal),
+}
+
+// A label's address, if the table has it; or an operand's word.
+enum Found {
+    At(u16),
+    Missing,
+}
+
+// What the first pass gives: the number of labels and the address past the last item, or a refusal's number and place.
+enum Placing {
+    Placed(usize, usize),
+    Fault(u16, usize),
+}
+
+// What writing an item gives: the address past it, or that its label is unknown.
+enum Step {
+    To(usize),
+    Unknown,
+}
+
+// What the second pass gives: the first item whose label is unknown, if there is one.
+enum Written {
+    Whole,
+    Unknown(usize),
+}
+
+fn clear_words(memory: &mut [u16])
+    ensures { λ r. ⌜ now (memory .exit) ≡ replicate (length (now (memory .entry))) 0 ⌝ }
+{
+    let mut i: usize = 0;
+    while i < memory.len() {
+        memory[i] = 0;
+        i += 1;
+    }
+}
+
+fn clear_labels(labels: &mut [u32])
+    ensures { λ r. ⌜ now (labels .exit) ≡ replicate (length (now (labels .entry))) 0 ⌝ }
+{
+    let mut i: usize = 0;
+    while i < labels.len() {
+        labels[i] = 0;
+        i += 1;
+    }
+}
+
+fn find(labels: &[u32], number: u32) -> Found
+    ensures { λ r. ⌜ r ≡ asFound (records (now (labels .entry))) number ⌝ }
+{
+    let mut i: usize = 0;
+    while i < labels.len() {
+        let key = labels[i];
+        if key / 65536 == number {
+            return Found::At((key % 65536) as u16);
+        }
+        i += 1;
+    }
+    Found::Missing
+}
+
+fn label_in_range(number: u32) -> bool
+    ensures { λ r. ⌜ r ≡ labelInRange number ⌝ }
+{
+    if 1 <= number { number <= 32767 } else { false }
+}
+
+fn operand_in_range(x: Operand) -> bool
+    ensures { λ r. ⌜ r ≡ operandInRange (operandOf x) ⌝ }
+{
+    match x {
+        Operand::Number(minus, size) => if minus { size <= 32768 } else { size <= 65535 },
+        Operand::Address(number) => label_in_range(number),
+    }
+}
+
+fn in_range(item: Item) -> bool
+    ensures { λ r. ⌜ r ≡ inRange (itemOf blank item) ⌝ }
+{
+    match item {
+        Item::Label(number) => label_in_range(number),
+        Item::Instruction(_, _, _, x) => operand_in_range(x),
+        Item::Constant(x) => operand_in_range(x),
+        Item::String(_) => true,
+        Item::Global(n, m) => if n <= 399 { label_in_range(m) } else { false },
+    }
+}
+
+// The word of a number that is in range.
+fn signed(minus: bool, size: u32) -> u16
+    requires { ⌜ size < 65536 ⌝ }
+    ensures { λ r. ⌜ r ≡ signed minus size ⌝ }
+{
+    if minus {
+        words::negation(size as u16)
+    } else {
+        size as u16
+    }
+}
+
+fn short(x: Operand) -> bool
+    requires { ⌜ operandInRange (operandOf x) ≡ true ⌝ }
+    ensures { λ r. ⌜ r ≡ short (operandOf x) ⌝ }
+{
+    match x {
+        Operand::Number(minus, size) => signed(minus, size) < 512,
+        Operand::Address(_) => false,
+    }
+}
+
+// The number of words that an item makes.
+fn size(item: Item) -> usize
+    requires { ⌜ inRange (itemOf blank item) ≡ true ⌝ }
+    ensures { λ r. ⌜ r ≡ size (itemOf blank item) ⌝ }
+{
+    match item {
+        Item::Label(_) => 0,
+        Item::Instruction(_, _, _, x) => if short(x) { 1 } else { 2 },
+        Item::Constant(_) => 1,
+        Item::String(length) => length / 2 + 1,
+        Item::Global(_, _) => 0,
+    }
+}
+
+// A label twice, or one for which there is no record.
+fn label_fault(labels: &[u32], count: usize, number: u32) -> u16
+    requires { ⌜ count ≤ length (now labels) ⌝ }
+    ensures { λ r. ⌜ r ≡ labelFault (length (now (labels .entry))) (records (take count (now (labels .entry)))) number ⌝ }
+{
+    match find(&labels[0..count], number) {
+        Found::At(_) => 21,
+        Found::Missing => if labels.len() <= count { 25 } else { 0 },
+    }
+}
+
+// Whether some words from an address on reach past the memory.
+fn beyond(memory: usize, at: usize, words: usize) -> u16
+    requires { ⌜ at ≤ memory ⌝ }
+    ensures { λ r. ⌜ r ≡ beyond memory at words ⌝ }
+{
+    if memory - at < words { 24 } else { 0 }
+}
+
+// The refusal of an item that is to stand at an address, after the labels so far; 0 for none.
+fn fault(memory: usize, labels: &[u32], count: usize, at: usize, item: Item) -> u16
+    requires { ⌜ (count ≤ length (now labels)) × (at ≤ memory) ⌝ }
+    ensures { λ r. ⌜ r ≡ fault memory (length (now (labels .entry))) at (records (take count (now (labels .entry)))) (itemOf blank item) ⌝ }
+{
+    if !in_range(item) {
+        return 23;
+    }
+    match item {
+        Item::Label(number) => label_fault(labels, count, number),
+        Item::Instruction(_, _, _, _) => beyond(memory, at, size(item)),
+        Item::Constant(_) => beyond(memory, at, size(item)),
+        Item::String(_) => beyond(memory, at, size(item)),
+        Item::Global(_, _) => 0,
+    }
+}
+
+// Gives a label its record, and the number of records then.
+fn note(labels: &mut [u32], count: usize, at: usize, item: Item) -> usize
+    requires { ⌜ Notable at item count (now labels) ⌝ }
+    ensures { λ r. ⌜ Notes at (itemOf blank item) count (now (labels .entry)) r (now (labels .exit)) ⌝ }
+{
+    match item {
+        Item::Label(number) => {
+            labels[count] = number * 65536 + at as u32;
+            count + 1
+        }
+        Item::Instruction(_, _, _, _) => count,
+        Item::Constant(_) => count,
+        Item::String(_) => count,
+        Item::Global(_, _) => count,
+    }
+}
+
+// The first pass: each label into the table, and the first refusal, undefined labels apart.
+fn lay_out(text: &[u8], from: usize, memory: usize, labels: &mut [u32]) -> Placing
+    requires { ⌜ (416 ≤ memory) × (memory ≤ 32768) × Zeros (now labels) ⌝ }
+    ensures { λ r. ⌜ Lays memory (body 0 from (drop from (now (text .entry)))) (now (labels .entry)) r (now (labels .exit)) ⌝ }
+{
+    let mut place = from;
+    let mut at: usize = 416;
+    let mut count: usize = 0;
+    loop {
+        let next = items::next_in(text, place);
+        match next {
+            Next::Whole => {
+                return Placing::Placed(count, at);
+            }
+            Next::Unreadable(first) => {
+                return Placing::Fault(20, first);
+            }
+            Next::One(first, item, past) => {
+                let number = fault(memory, labels, count, at, item);
+                if number != 0 {
+                    return Placing::Fault(number, first);
+                }
+                count = note(labels, count, at, item);
+                at += size(item);
+                place = past;
+            }
+        }
+    }
+}
+
+// An operand's word, if its label is known.
+fn value(labels: &[u32], x: Operand) -> Found
+    requires { ⌜ operandInRange (operandOf x) ≡ true ⌝ }
+    ensures { λ r. ⌜ r ≡ valueOf (records (now (labels .entry))) (operandOf x) ⌝ }
+{
+    match x {
+        Operand::Number(minus, size) => Found::At(signed(minus, size)),
+        Operand::Address(number) => find(labels, number),
+    }
+}
+
+fn indirect_bit(indirect: bool) -> u16
+    ensures { λ r. ⌜ (r ≡ indirectBit indirect) × (r ≤ 4096) ⌝ }
+{
+    if indirect { 4096 } else { 0 }
+}
+
+fn base_bit(base: Base) -> u16
+    ensures { λ r. ⌜ (r ≡ baseBit (baseOf base)) × (r ≤ 2048) ⌝ }
+{
+    match base {
+        Base::Plain => 0,
+        Base::P => 2048,
+        Base::G => 1024,
+    }
+}
+
+// An instruction's word but for its address.
+fn head(function: u16, indirect: bool, base: Base) -> u16
+    requires { ⌜ function < 8 ⌝ }
+    ensures { λ r. ⌜ (r ≡ function * 8192 + indirectBit indirect + baseBit (baseOf base)) × (r ≤ 63488) ⌝ }
+{
+    function * 8192 + indirect_bit(indirect) + base_bit(base)
+}
+
+fn write_instruction(
+    memory: &mut [u16],
+    at: usize,
+    labels: &[u32],
+    function: u16,
+    indirect: bool,
+    base: Base,
+    x: Operand,
+) -> Step
+    requires { ⌜ Writable (I.instruction function indirect (baseOf base) (operandOf x)) at (now memory) ⌝ }
+    ensures { λ r. ⌜ Writes (records (now (labels .entry))) (I.instruction function indirect (baseOf base) (operandOf x)) at (now (memory .entry)) r (now (memory .exit)) ⌝ }
+{
+    let word = head(function, indirect, base);
+    let found = value(labels, x);
+    match found {
+        Found::Missing => Step::Unknown,
+        Found::At(operand) => {
+            if short(x) {
+                memory[at] = word + operand;
+                return Step::To(at + 1);
+            }
+            memory[at] = word + 512;
+            memory[at + 1] = operand;
+            Step::To(at + 2)
+        }
+    }
+}
+
+fn write_constant(memory: &mut [u16], at: usize, labels: &[u32], x: Operand) -> Step
+    requires { ⌜ Writable (I.constant (operandOf x)) at (now memory) ⌝ }
+    ensures { λ r. ⌜ Writes (records (now (labels .entry))) (I.constant (operandOf x)) at (now (memory .entry)) r (now (memory .exit)) ⌝ }
+{
+    let found = value(labels, x);
+    match found {
+        Found::Missing => Step::Unknown,
+        Found::At(word) => {
+            memory[at] = word;
+            Step::To(at + 1)
+        }
+    }
+}
+
+fn write_global(memory: &mut [u16], at: usize, labels: &[u32], global: u32, number: u32) -> Step
+    requires { ⌜ Writable (I.global global number) at (now memory) ⌝ }
+    ensures { λ r. ⌜ Writes (records (now (labels .entry))) (I.global global number) at (now (memory .entry)) r (now (memory .exit)) ⌝ }
+{
+    let found = find(labels, number);
+    match found {
+        Found::Missing => Step::Unknown,
+        Found::At(address) => {
+            memory[16 + global as usize] = address;
+            Step::To(at)
+        }
+    }
+}
+
+// Two bytes of a string as a word.
+fn pair(high: u16, low: u8) -> u16
+    requires { ⌜ high < 256 ⌝ }
+    ensures { λ r. ⌜ r ≡ high * 256 + low ⌝ }
+{
+    high * 256 + low as u16
+}
+
+// A string's words: `first`, its length, and its characters, which begin at a place.
+fn write_string(memory: &mut [u16], at: usize, text: &[u8], from: usize, first: u16)
+    requires { ⌜ Spelling (now text) from first at (now memory) ⌝ }
+    ensures { λ r. ⌜ now (memory .exit) ≡ sets (now (memory .entry)) at (pairs first (letters (now (text .entry)) from)) ⌝ }
+{
+    let mut place = from;
+    let mut to = at;
+    let mut high = first;
+    loop {
+        let one = text::character_at(text, place, b'"');
+        match one {
+            Character::Bad => {
+                return;
+            }
+            Character::Closing => {
+                memory[to] = pair(high, 0);
+                return;
+            }
+            Character::Is(low, width) => {
+                memory[to] = pair(high, low);
+                place += width;
+            }
+        }
+        let two = text::character_at(text, place, b'"');
+        match two {
+            Character::Bad => {
+                return;
+            }
+            Character::Closing => {
+                return;
+            }
+            Character::Is(next, width) => {
+                high = wide(next);
+                place += width;
+                to += 1;
+            }
+        }
+    }
+}
+
+fn wide(byte: u8) -> u16
+    ensures { λ r. ⌜ (r ≡ byte) × (r < 256) ⌝ }
+{
+    byte as u16
+}
+
+fn write_item(
+    memory: &mut [u16],
+    at: usize,
+    labels: &[u32],
+    text: &[u8],
+    place: usize,
+    item: Item,
+) -> Step
+    requires { ⌜ Writable (itemAt (now text) place item) at (now memory) × Spelled (now text) place item ⌝ }
+    ensures { λ r. ⌜ Writes (records (now (labels .entry))) (itemAt (now (text .entry)) place item) at (now (memory .entry)) r (now (memory .exit)) ⌝ }
+{
+    match item {
+        Item::Label(_) => Step::To(at),
+        Item::Instruction(function, indirect, base, x) => write_instruction(
+            memory,
+            at,
+            labels,
+            function,
+            indirect,
+            base,
+            x,
+        ),
+        Item::Constant(x) => write_constant(memory, at, labels, x),
+        Item::String(length) => {
+            write_string(memory, at, text, place + 2, length as u16);
+            Step::To(at + (length / 2 + 1))
+        }
+        Item::Global(global, number) => write_global(memory, at, labels, global, number),
+    }
+}
+
+// The second pass: the words of every item, up to one whose label is unknown.
+fn write_items(memory: &mut [u16], labels: &[u32], text: &[u8], from: usize) -> Written
+    requires { ⌜ (416 ≤ length (now memory)) × FitsAll (length (now memory)) 416 (body 0 from (drop from (now text)) .items) ⌝ }
+    ensures { λ r. ⌜ WritesAll (records (now (labels .entry))) (body 0 from (drop from (now (text .entry)))) (now (memory .entry)) r (now (memory .exit)) ⌝ }
+{
+    let mut place = from;
+    let mut at: usize = 416;
+    loop {
+        let next = items::next_in(text, place);
+        match next {
+            Next::Whole => {
+                return Written::Whole;
+            }
+            Next::Unreadable(_) => {
+                return Written::Whole;
+            }
+            Next::One(first, item, past) => {
+                let step = write_item(memory, at, labels, text, first, item);
+                match step {
+                    Step::Unknown => {
+                        return Written::Unknown(first);
+                    }
+                    Step::To(address) => {
+                        at = address;
+                        place = past;
+                    }
+                }
+            }
+        }
+    }
+}
+
+// Words 0 to 7, and globals 13 and 14: the words that do not come from the text.
+fn write_start(memory: &mut [u16])
+    requires { ⌜ Zeros (now memory) × (416 ≤ length (now memory)) ⌝ }
+    ensures { λ r. ⌜ now (memory .exit) ≡ start ++ noGlobals ++ replicate (length (now (memory .entry)) - 416) 0 ⌝ }
+{
+    memory[0] = 5121;
+    memory[1] = 49154;
+    memory[2] = 57366;
+    memory[3] = 57371;
+    memory[4] = 57348;
+    memory[5] = 6146;
+    memory[6] = 57372;
+    memory[7] = 57348;
+    memory[29] = 3;
+    memory[30] = 5;
+}
+
+// A refusal leaves zeros in the memory and in the table.
+fn refuse(
+    text: &[u8],
+    memory: &mut [u16],
+    labels: &mut [u32],
+    number: u16,
+    place: usize,
+) -> Assembled
+    ensures { λ r. ⌜ Gives (refuse (now (text .entry)) (length (now (memory .entry))) (length (now (labels .entry))) number place) r (now (memory .exit)) (now (labels .exit)) ⌝ }
+{
+    clear_words(memory);
+    clear_labels(labels);
+    let refusal = text::refuse(text, number, place);
+    Assembled::Refused(refusal)
+}
+
+// Both passes, from past `$` on.
+fn assemble_from(text: &[u8], from: usize, memory: &mut [u16], labels: &mut [u32]) -> Assembled
+    requires { ⌜ Ready (now memory) (now labels) ⌝ }
+    ensures { λ r. ⌜ Gives (onLaid (now (text .entry)) (length (now (memory .entry))) (length (now (labels .entry))) (lay (length (now (memory .entry))) (length (now (labels .entry))) 416 [] (body 0 from (drop from (now (text .entry))) .items)) (body 0 from (drop from (now (text .entry))))) r (now (memory .exit)) (now (labels .exit)) ⌝ }
+{
+    let layout = lay_out(text, from, memory.len(), labels);
+    match layout {
+        Placing::Fault(number, place) => refuse(text, memory, labels, number, place),
+        Placing::Placed(count, end) => {
+            write_start(memory);
+            let written = write_items(memory, &labels[0..count], text, from);
+            match written {
+                Written::Unknown(place) => refuse(text, memory, labels, 22, place),
+                Written::Whole => Assembled::Accepted(end as u16),
+            }
+        }
+    }
+}
+
+pub fn assemble(text: &[u8], memory: &mut [u16], labels: &mut [u32]) -> Assembled
+    ensures { λ r. ⌜ Assembles (now (text .entry)) (now (memory .entry)) (now (labels .entry)) r (now (memory .exit)) (now (labels .exit)) ⌝ }
+{
+    clear_words(memory);
+    clear_labels(labels);
+    if memory.len() < 512 {
+        return refuse(text, memory, labels, 24, 0);
+    }
+    if memory.len() > 32768 {
+        return refuse(text, memory, labels, 24, 0);
+    }
+    let first = items::start_in(text);
+    match first {
+        Start::Unreadable(place) => refuse(text, memory, labels, 20, place),
+        Start::From(from) => assemble_from(text, from, memory, labels),
+    }
+}

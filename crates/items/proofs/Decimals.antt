@@ -1,0 +1,80 @@
+-- Decimals, digit by digit.
+use Prim.Native.Nat.{ℕ, suc, _+_, _-_, _*_, _<_, _≤_}
+use mathlib.Core.Path.{_≡_, refl, sym, _∙_}
+use mathlib.Core.Bool.{Bool, true, false, cond}
+use mathlib.Core.List.{List}
+use native.Mathlib.Omega.{arith}
+use lib.Dec.{leb}
+use lib.ListN.{length, getD, drop}
+use borrow.Author.Tests.{le-leb, lt-leb, leb-true}
+use Rattle.text.proofs.Bytes.{at-byte, past-end}
+use Rattle.items.specs.Item.{capped}
+use Rattle.items.specs.Reader.{Got, got, nothing, head, isDigit, digits, digitCount, decimal}
+use Rattle.items.specs.Parts.{asDecimal}
+use Rattle.items.specs.declared.ReadDecimal.{ReadDecimal}
+use Rattle.items.proofs.Places.{Reads, head-in}
+use Rattle.items.specs.declared.ReadDecimal.the-variants as D
+
+pub below-digits : (c : ℕ) → c < 48 → isDigit c ≡ false
+below-digits c h = rw (lt-leb 48 c h)
+
+pub from-digits : (c : ℕ) → 48 ≤ c → isDigit c ≡ leb c 57
+from-digits c h = rw (le-leb 48 c h)
+
+pub digit-bounds : (c : ℕ) → isDigit c ≡ true → (48 ≤ c) × (c ≤ 57)
+digit-bounds c = low (leb 48 c) refl
+  where
+    low : (t : Bool) → leb 48 c ≡ t → cond t (leb c 57) false ≡ true → (48 ≤ c) × (c ≤ 57)
+    low true k e = (leb-true 48 c k, leb-true c 57 e)
+    low false k e = absurd (let z : _≡_ {A = ℕ} 0 1 = cc in omega arith)
+
+-- what one digit more asks for
+pub digit-ready : {n : ℕ} (c : ℕ) → n ≤ 65536 → isDigit c ≡ true → (n ≤ 65536) × (48 ≤ c) × (c ≤ 57)
+digit-ready c h e = let d : (48 ≤ c) × (c ≤ 57) = digit-bounds c e in (h, d .0, d .1)
+
+-- a turn of the loop over digits, at the byte c
+module _ (text : List ℕ) (i n : ℕ) where
+  pub digits-end : length text ≤ i → (digits n (drop i text) ≡ n) × (digitCount (drop i text) ≡ 0)
+  unfolding digits digitCount
+  digits-end h = (past-end (digits n) text i h, past-end digitCount text i h)
+
+  module _ (h : i < length text) {c : ℕ} (e : c ≡ head (drop i text)) where
+    here : getD text i 0 ≡ c
+    here = sym (head-in text i h) ∙ sym e
+
+    pub digits-stop : isDigit c ≡ false → (digits n (drop i text) ≡ n) × (digitCount (drop i text) ≡ 0)
+    unfolding digits digitCount
+    digits-stop k = (at-byte (digits n) text i h here ∙ rw k, at-byte digitCount text i h here ∙ rw k)
+
+    pub digits-more : isDigit c ≡ true → (digits n (drop i text) ≡ digits (capped (n * 10 + (c - 48))) (drop (i + 1) text)) × (digitCount (drop i text) ≡ suc (digitCount (drop (i + 1) text)))
+    unfolding digits digitCount
+    digits-more k = (at-byte (digits n) text i h here ∙ rw k, at-byte digitCount text i h here ∙ rw k)
+
+-- ---- the answer, from the definition and back
+
+module _ (text : List ℕ) (at : ℕ) where
+  module _ {c : ℕ} (e : c ≡ head (drop at text)) where
+    pub no-decimal : isDigit c ≡ false → D.Nothing ≡ asDecimal at (decimal (drop at text))
+    unfolding decimal asDecimal
+    no-decimal k = rw (← e, k)
+
+    pub a-decimal : {n i : ℕ} → isDigit c ≡ true → n ≡ digits 0 (drop at text) → i ≡ at + digitCount (drop at text) → D.Got n i ≡ asDecimal at (decimal (drop at text))
+    unfolding decimal asDecimal
+    a-decimal k p q = rw (← e, k, p, q)
+
+  module _ {r : ReadDecimal} (e : r ≡ asDecimal at (decimal (drop at text))) where
+    pub decimal-reads : {v p : ℕ} → r ≡ D.Got v p → Reads decimal text at v p
+    unfolding asDecimal
+    decimal-reads {v} {p} k = by (decimal (drop at text)) refl e
+      where
+        by : (g : Got ℕ) → decimal (drop at text) ≡ g → r ≡ asDecimal at g → Reads decimal text at v p
+        by (got a n) d j = record { width = n; reading = cc; ends = cc }
+        by nothing d j = absurd (let z : _≡_ {A = ℕ} 0 1 = cc in omega arith)
+
+    pub decimal-fails : r ≡ D.Nothing → decimal (drop at text) ≡ nothing
+    unfolding asDecimal
+    decimal-fails k = by (decimal (drop at text)) e
+      where
+        by : (g : Got ℕ) → r ≡ asDecimal at g → g ≡ nothing
+        by (got a n) j = absurd (let z : _≡_ {A = ℕ} 0 1 = cc in omega arith)
+        by nothing j = refl

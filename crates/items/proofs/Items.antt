@@ -1,0 +1,299 @@
+-- Items by their parts: each answer of the code, from what its readers of parts answered.
+use Prim.Native.Nat.{ℕ, suc, _+_, _-_, _<_, _≤_}
+use mathlib.Core.Path.{_≡_, refl, sym, ap, _∙_}
+use mathlib.Core.Bool.{Bool, true, false}
+use mathlib.Core.List.{List, [], _∷_}
+use native.Mathlib.Omega.{arith}
+use lib.Dec.{ltb}
+use lib.ListN.{length, drop}
+use lib.Seq.{drop-drop}
+use borrow.Author.Tests.{ne-eqb, lt-ltb, le-ltb, le-leb, lt-leb, ltb-true, ltb-false}
+use Rattle.text.specs.Quoted.{Quoted, closed, faulty, is, closing, bad, character, quoted}
+use Rattle.text.proofs.Bytes.{Unlike}
+use Rattle.text.proofs.Quotes.{onward, quoted-next, quoted-end, quoted-bad}
+use Rattle.items.specs.Reader.{Got, got, nothing, Reader, wide, head, byte, optional, isDigit, decimal}
+use Rattle.items.specs.Read.{ended, quotedString, operand, base, labelItem, instructionItem, constantItem, stringItem, globalItem, functionOf, item}
+use Rattle.items.specs.Answers.{asItem}
+use Rattle.items.specs.Parts.{asItemAt, asStringAt, globalLabel}
+use Rattle.items.specs.declared.Operand.{Operand}
+use Rattle.items.specs.declared.Based.{Based}
+use Rattle.items.specs.declared.Item.{Item}
+use Rattle.items.specs.declared.ReadItem.{ReadItem}
+use Rattle.items.specs.declared.ReadString.{ReadString}
+use Rattle.items.proofs.Places.{Reads, onto, head-past, byte-reads, byte-fails}
+use Rattle.items.proofs.Operands.{OperandRead, BaseRead}
+use Rattle.items.specs.Item as I
+use Rattle.items.specs.declared.Item.the-variants as K
+use Rattle.items.specs.declared.ReadItem.the-variants as C
+use Rattle.items.specs.declared.ReadString.the-variants as S
+
+-- ---- the answer, from a reading and back
+
+module _ (reader : Reader I.Item) (text : List ℕ) (at : ℕ) where
+  pub an-item : {i : I.Item} {p : ℕ} → Reads reader text at i p → C.Got (asItem i) p ≡ asItemAt at (reader (drop at text))
+  unfolding asItemAt
+  an-item h = rw (h .reading, h .ends)
+
+  pub no-item : reader (drop at text) ≡ nothing → C.Nothing ≡ asItemAt at (reader (drop at text))
+  unfolding asItemAt
+  no-item h = rw h
+
+-- an answer that stands for an item that was read
+pub record ItemRead (text : List ℕ) (at : ℕ) (r : Item) (past : ℕ) : Type 0 where
+  pub value : I.Item
+  pub same : r ≡ asItem value
+  pub reads : Reads item text at value past
+
+module _ (text : List ℕ) (at : ℕ) {r : ReadItem} (e : r ≡ asItemAt at (item (drop at text))) where
+  pub item-reads : {i : Item} {p : ℕ} → r ≡ C.Got i p → ItemRead text at i p
+  unfolding asItemAt
+  item-reads {i} {p} k = by (item (drop at text)) refl e
+    where
+      by : (g : Got I.Item) → item (drop at text) ≡ g → r ≡ asItemAt at g → ItemRead text at i p
+      by (got x n) d j = record { value = x; same = cc; reads = record { width = n; reading = d; ends = cc } }
+      by nothing d j = absurd (let z : _≡_ {A = ℕ} 0 1 = cc in omega arith)
+
+  pub item-fails : r ≡ C.Nothing → item (drop at text) ≡ nothing
+  unfolding asItemAt
+  item-fails k = by (item (drop at text)) e
+    where
+      by : (g : Got I.Item) → r ≡ asItemAt at g → g ≡ nothing
+      by (got x n) j = absurd (let z : _≡_ {A = ℕ} 0 1 = cc in omega arith)
+      by nothing j = refl
+
+-- the same item, n bytes on
+moved : {p : ℕ} (n at : ℕ) → p ≡ at + n → (g : Got I.Item) → asItemAt p g ≡ asItemAt at (wide n g)
+unfolding asItemAt
+moved n at e (got i m) = ap (C.Got (asItem i)) (omega arith)
+moved n at e nothing = refl
+
+-- ---- labels, instructions, constants and globals
+
+module _ (text : List ℕ) (at : ℕ) where
+  module _ {n p : ℕ} (h : Reads decimal text at n p) where
+    pub label-reads : head (drop p text) ≡ 58 → Reads labelItem text at (I.label n) (p + 1)
+    unfolding labelItem
+    label-reads e =
+        let b : Reads (byte 58) text p true (p + 1) = byte-reads text p 58 e in
+        record { width = h .width + (b .width + 0); reading = rw (h .reading, onto h, b .reading); ends = omega arith }
+
+    pub label-fails : (head (drop p text) ≡ 58 → ⊥) → labelItem (drop at text) ≡ nothing
+    unfolding labelItem
+    label-fails e = rw (h .reading, onto h, byte-fails text p 58 e)
+
+    pub global-goes : asItemAt p (globalLabel n (drop p text)) ≡ asItemAt at (globalItem (drop at text))
+    unfolding globalItem globalLabel
+    global-goes = moved (h .width) at (h .ends) (globalLabel n (drop p text)) ∙ rw (h .reading, onto h)
+
+  pub label-none : decimal (drop at text) ≡ nothing → labelItem (drop at text) ≡ nothing
+  unfolding labelItem
+  label-none e = rw e
+
+  pub global-none : decimal (drop at text) ≡ nothing → globalItem (drop at text) ≡ nothing
+  unfolding globalItem
+  global-none e = rw e
+
+  module _ (n : ℕ) where
+    module _ (b : Reads (byte 76) text at true (at + 1)) where
+      pub global-reads : {m p : ℕ} → Reads decimal text (at + 1) m p → Reads ended text p true p → Reads (globalLabel n) text at (I.global n m) p
+      unfolding globalLabel
+      global-reads h k = record { width = b .width + (h .width + (k .width + 0)); reading = rw (b .reading, onto b, h .reading, onto h, k .reading); ends = omega arith }
+
+      pub global-open : {m p : ℕ} → Reads decimal text (at + 1) m p → ended (drop p text) ≡ nothing → globalLabel n (drop at text) ≡ nothing
+      unfolding globalLabel
+      global-open h k = rw (b .reading, onto b, h .reading, onto h, k)
+
+      pub global-unlabelled : decimal (drop (at + 1) text) ≡ nothing → globalLabel n (drop at text) ≡ nothing
+      unfolding globalLabel
+      global-unlabelled h = rw (b .reading, onto b, h)
+
+    pub global-short : (head (drop at text) ≡ 76 → ⊥) → globalLabel n (drop at text) ≡ nothing
+    unfolding globalLabel
+    global-short h = rw (byte-fails text at 76 h)
+
+  module _ {x : I.Operand} {p : ℕ} (h : Reads operand text at x p) where
+    pub constant-reads : Reads ended text p true p → Reads constantItem text at (I.constant x) p
+    unfolding constantItem
+    constant-reads k = record { width = h .width + (k .width + 0); reading = rw (h .reading, onto h, k .reading); ends = omega arith }
+
+    pub constant-open : ended (drop p text) ≡ nothing → constantItem (drop at text) ≡ nothing
+    unfolding constantItem
+    constant-open k = rw (h .reading, onto h, k)
+
+  pub constant-none : operand (drop at text) ≡ nothing → constantItem (drop at text) ≡ nothing
+  unfolding constantItem
+  constant-none e = rw e
+
+  module _ (f : ℕ) {i : Bool} {b : I.Base} {s t : ℕ} (hi : Reads (optional 73) text at i s) (hb : Reads base text s b t) where
+    pub instruction-reads : {x : I.Operand} {p : ℕ} → Reads operand text t x p → Reads ended text p true p → Reads (instructionItem f) text at (I.instruction f i b x) p
+    unfolding instructionItem
+    instruction-reads h k =
+        record { width = hi .width + (hb .width + (h .width + (k .width + 0))); reading = rw (hi .reading, onto hi, hb .reading, onto hb, h .reading, onto h, k .reading); ends = omega arith }
+
+    pub instruction-open : {x : I.Operand} {p : ℕ} → Reads operand text t x p → ended (drop p text) ≡ nothing → instructionItem f (drop at text) ≡ nothing
+    unfolding instructionItem
+    instruction-open h k = rw (hi .reading, onto hi, hb .reading, onto hb, h .reading, onto h, k)
+
+    pub instruction-none : operand (drop t text) ≡ nothing → instructionItem f (drop at text) ≡ nothing
+    unfolding instructionItem
+    instruction-none h = rw (hi .reading, onto hi, hb .reading, onto hb, h)
+
+-- what the code answers for them: the operand and the base by its own values
+module _ (text : List ℕ) (at : ℕ) {p : ℕ} {o : Operand} where
+  pub a-constant : OperandRead text at o p → Reads ended text p true p → C.Got (K.Constant o) p ≡ asItemAt at (constantItem (drop at text))
+  unfolding asItem
+  a-constant h k = rw (h .same) (an-item constantItem text at (constant-reads text at (h .reads) k))
+
+  pub an-instruction : (f : ℕ) {i : Bool} {s : ℕ} {b : Based} → Reads (optional 73) text at i s → BaseRead text s b → OperandRead text (b .past) o p → Reads ended text p true p → C.Got (K.Instruction f i (b .base) o) p ≡ asItemAt at (instructionItem f (drop at text))
+  unfolding asItem
+  an-instruction f hi hb h k = rw (hb .same, h .same) (an-item (instructionItem f) text at (instruction-reads text at f hi (hb .reads) (h .reads) k))
+
+-- ---- strings
+
+-- characters counted so far, before those that are read
+abbrev pub added : ℕ → ReadString → ReadString
+added n (S.Got m p) = S.Got (n + m) p
+added n S.Nothing = S.Nothing
+
+pub added-none : (r : ReadString) → r ≡ added 0 r
+added-none (S.Got m p) = ap (λ (k : ℕ). S.Got k p) (omega arith)
+added-none S.Nothing = refl
+
+added-more : (n : ℕ) (r : ReadString) → added n (added 1 r) ≡ added (n + 1) r
+added-more n (S.Got m p) = ap (λ (k : ℕ). S.Got k p) (omega arith)
+added-more n S.Nothing = refl
+
+module _ (text : List ℕ) (i n : ℕ) where
+  pub characters-more : {v w : ℕ} → character 34 (drop i text) ≡ is v w → added n (asStringAt i (quoted 34 0 (drop i text))) ≡ added (n + 1) (asStringAt (i + w) (quoted 34 0 (drop (i + w) text)))
+  unfolding asStringAt
+  characters-more {v} {w} e =
+      rw (quoted-next 34 (drop i text) e, drop-drop w i text) (ap (added n) (by (quoted 34 0 (drop (i + w) text))) ∙ added-more n (asStringAt (i + w) (quoted 34 0 (drop (i + w) text))))
+    where
+      by : (q : Quoted) → asStringAt i (onward v w q) ≡ added 1 (asStringAt (i + w) q)
+      by (closed cs m) = let a : suc (length cs) ≡ 1 + length cs = omega arith in let b : i + (w + m) ≡ i + w + m = omega arith in cc
+      by faulty = refl
+
+  pub characters-end : character 34 (drop i text) ≡ closing → S.Got n (i + 1) ≡ added n (asStringAt i (quoted 34 0 (drop i text)))
+  unfolding asStringAt
+  characters-end e = rw (quoted-end 34 (drop i text) e) (ap (λ (k : ℕ). S.Got k (i + 1)) (omega arith))
+
+  pub characters-bad : character 34 (drop i text) ≡ bad → S.Nothing ≡ added n (asStringAt i (quoted 34 0 (drop i text)))
+  unfolding asStringAt
+  characters-bad e = rw (quoted-bad 34 (drop i text) e)
+
+-- an answer that stands for a string that was read
+pub record StringRead (text : List ℕ) (at n past : ℕ) : Type 0 where
+  pub characters : List ℕ
+  pub width : ℕ
+  pub reading : quoted 34 0 (drop at text) ≡ closed characters width
+  pub same : n ≡ length characters
+  pub ends : past ≡ at + width
+
+module _ (text : List ℕ) (at : ℕ) {r : ReadString} (e : r ≡ asStringAt at (quoted 34 0 (drop at text))) where
+  pub characters-read : {n p : ℕ} → r ≡ S.Got n p → StringRead text at n p
+  unfolding asStringAt
+  characters-read {n} {p} k = by (quoted 34 0 (drop at text)) refl e
+    where
+      by : (q : Quoted) → quoted 34 0 (drop at text) ≡ q → r ≡ asStringAt at q → StringRead text at n p
+      by (closed cs w) d j = record { characters = cs; width = w; reading = d; same = cc; ends = cc }
+      by faulty d j = absurd (let z : _≡_ {A = ℕ} 0 1 = cc in omega arith)
+
+  pub characters-fail : r ≡ S.Nothing → quoted 34 0 (drop at text) ≡ faulty
+  unfolding asStringAt
+  characters-fail k = by (quoted 34 0 (drop at text)) e
+    where
+      by : (q : Quoted) → r ≡ asStringAt at q → q ≡ faulty
+      by (closed cs w) j = absurd (let z : _≡_ {A = ℕ} 0 1 = cc in omega arith)
+      by faulty j = refl
+
+module _ (text : List ℕ) (at : ℕ) where
+  module _ (b : Reads (byte 34) text at true (at + 1)) where
+    module _ {n p : ℕ} (h : StringRead text (at + 1) n p) where
+      string-onto : drop (h .width) (drop (at + 1) text) ≡ drop p text
+      string-onto = drop-drop (h .width) (at + 1) text ∙ ap (λ (k : ℕ). drop k text) (sym (h .ends))
+
+      pub string-reads : n ≤ 255 → Reads ended text p true p → Reads stringItem text at (I.string (h .characters)) p
+      unfolding stringItem quotedString
+      string-reads l k =
+          let m : length (h .characters) ≤ 255 = omega arith in
+          record {
+            width = b .width + (h .width + (k .width + 0));
+            reading = rw (b .reading, onto b, h .reading, le-leb _ _ m, string-onto, k .reading);
+            ends = omega arith;
+          }
+
+      pub string-open : n ≤ 255 → ended (drop p text) ≡ nothing → stringItem (drop at text) ≡ nothing
+      unfolding stringItem quotedString
+      string-open l k =
+          let m : length (h .characters) ≤ 255 = omega arith in
+          rw (b .reading, onto b, h .reading, le-leb _ _ m, string-onto, k)
+
+      pub string-long : 255 < n → stringItem (drop at text) ≡ nothing
+      unfolding stringItem quotedString
+      string-long l =
+          let m : 255 < length (h .characters) = omega arith in
+          rw (b .reading, onto b, h .reading, lt-leb _ _ m)
+
+    pub string-faulty : quoted 34 0 (drop (at + 1) text) ≡ faulty → stringItem (drop at text) ≡ nothing
+    unfolding stringItem quotedString
+    string-faulty h = rw (b .reading, onto b, h)
+
+  pub string-none : (head (drop at text) ≡ 34 → ⊥) → stringItem (drop at text) ≡ nothing
+  unfolding stringItem
+  string-none h = rw (byte-fails text at 34 h)
+
+  pub a-string : {n p : ℕ} → Reads (byte 34) text at true (at + 1) → StringRead text (at + 1) n p → n ≤ 255 → Reads ended text p true p → C.Got (K.String n) p ≡ asItemAt at (stringItem (drop at text))
+  unfolding asItem
+  a-string b h l k = rw (h .same) (an-item stringItem text at (string-reads b h l k))
+
+-- ---- one item, by the byte that it begins with
+
+module _ (text : List ℕ) (at : ℕ) {c : ℕ} (e : c ≡ head (drop at text)) where
+  pub item-label : isDigit c ≡ true → labelItem (drop at text) ≡ item (drop at text)
+  unfolding item
+  item-label k = rw (← e, k)
+
+  pub item-constant : c ≡ 68 → asItemAt (at + 1) (constantItem (drop (at + 1) text)) ≡ asItemAt at (item (drop at text))
+  unfolding item
+  item-constant k = moved 1 at refl (constantItem (drop (at + 1) text)) ∙ rw (← e, k, drop-drop 1 at text)
+
+  pub item-string : c ≡ 67 → asItemAt (at + 1) (stringItem (drop (at + 1) text)) ≡ asItemAt at (item (drop at text))
+  unfolding item
+  item-string k = moved 1 at refl (stringItem (drop (at + 1) text)) ∙ rw (← e, k, drop-drop 1 at text)
+
+  pub item-global : c ≡ 71 → asItemAt (at + 1) (globalItem (drop (at + 1) text)) ≡ asItemAt at (item (drop at text))
+  unfolding item
+  item-global k = moved 1 at refl (globalItem (drop (at + 1) text)) ∙ rw (← e, k, drop-drop 1 at text)
+
+  module _ (d : isDigit c ≡ false) (u : Unlike c (71 ∷ 67 ∷ 68 ∷ [])) {f : ℕ} (h : f ≡ functionOf c) where
+    pub item-function : f < 8 → asItemAt (at + 1) (instructionItem f (drop (at + 1) text)) ≡ asItemAt at (item (drop at text))
+    unfolding item
+    item-function k =
+        moved 1 at refl (instructionItem f (drop (at + 1) text)) ∙
+        rw (← e, d, ne-eqb c 68 (u .0 .0 .1), ne-eqb c 67 (u .0 .1), ne-eqb c 71 (u .1), ← h, lt-ltb f 8 k, drop-drop 1 at text)
+
+    pub item-none : 8 ≤ f → item (drop at text) ≡ nothing
+    unfolding item
+    item-none k = rw (← e, d, ne-eqb c 68 (u .0 .0 .1), ne-eqb c 67 (u .0 .1), ne-eqb c 71 (u .1), ← h, le-ltb f 8 k)
+
+  pub function-inside : {f : ℕ} → f ≡ functionOf c → f < 8 → at < length text
+  unfolding functionOf
+  function-inside h k = go (ltb at (length text)) refl
+    where
+      go : (t : Bool) → ltb at (length text) ≡ t → at < length text
+      go true l = ltb-true at (length text) l
+      go false l = absurd (omega (arith, rw (e, head-past text at (ltb-false at (length text) l)) at h))
+
+pub no-function : (c : ℕ) → Unlike c (88 ∷ 75 ∷ 70 ∷ 84 ∷ 74 ∷ 65 ∷ 83 ∷ 76 ∷ []) → functionOf c ≡ 8
+unfolding functionOf
+no-function c h =
+    rw (
+      ne-eqb c 76 (h .0 .0 .0 .0 .0 .0 .0 .1),
+      ne-eqb c 83 (h .0 .0 .0 .0 .0 .0 .1),
+      ne-eqb c 65 (h .0 .0 .0 .0 .0 .1),
+      ne-eqb c 74 (h .0 .0 .0 .0 .1),
+      ne-eqb c 84 (h .0 .0 .0 .1),
+      ne-eqb c 70 (h .0 .0 .1),
+      ne-eqb c 75 (h .0 .1),
+      ne-eqb c 88 (h .1),
+    )

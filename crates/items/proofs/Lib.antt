@@ -1,0 +1,10 @@
+pub mod Places
+pub mod Gaps
+pub mod Decimals
+pub mod Operands
+pub mod Items
+pub mod Elements
+pub mod Sound
+pub mod Scans
+pub mod Examples
+pub mod Rendered

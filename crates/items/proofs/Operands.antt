@@ -1,0 +1,201 @@
+-- Operands and bases, by the byte that they begin with.
+use Prim.Native.Nat.{ℕ, _+_, _-_}
+use mathlib.Core.Path.{_≡_, refl, ap, _∙_}
+use mathlib.Core.Bool.{Bool, true, false, cond}
+use mathlib.Core.List.{List, [], _∷_}
+use native.Mathlib.Omega.{arith}
+use native.Mathlib.Nat.{add-zero}
+use lib.Dec.{eqb}
+use lib.ListN.{drop}
+use lib.Seq.{drop-drop}
+use borrow.Author.Tests.{eq-eqb, ne-eqb}
+use Rattle.text.specs.Quoted.{is, closing, bad, character, Quoted, closed, faulty, quoted}
+use Rattle.text.proofs.Bytes.{Unlike}
+use Rattle.text.proofs.Quotes.{onward, quoted-next, quoted-end, quoted-bad}
+use Rattle.items.specs.Reader.{Got, got, nothing, Reader, wide, head, byte, decimal}
+use Rattle.items.specs.Read.{asCharacter, quotedCharacter, negative, quotation, labelled, positive, operand, base}
+use Rattle.items.specs.Answers.{asOperand, asBase}
+use Rattle.items.specs.Parts.{asOperandAt, asBased}
+use Rattle.items.specs.declared.Operand.{Operand}
+use Rattle.items.specs.declared.ReadOperand.{ReadOperand}
+use Rattle.items.specs.declared.Based.{Based}
+use Rattle.items.proofs.Places.{Reads, onto, byte-reads}
+use Rattle.items.specs.Item as I
+use Rattle.items.specs.declared.ReadOperand.the-variants as A
+use Rattle.items.specs.declared.Base.the-variants as B
+
+-- ---- the answer, from a reading and back
+
+module _ (reader : Reader I.Operand) (text : List ℕ) (at : ℕ) where
+  pub an-operand : {x : I.Operand} {p : ℕ} → Reads reader text at x p → A.Got (asOperand x) p ≡ asOperandAt at (reader (drop at text))
+  unfolding asOperandAt
+  an-operand h = rw (h .reading, h .ends)
+
+  pub no-operand : reader (drop at text) ≡ nothing → A.Nothing ≡ asOperandAt at (reader (drop at text))
+  unfolding asOperandAt
+  no-operand h = rw h
+
+-- an answer o stands for an operand that was read
+pub record OperandRead (text : List ℕ) (at : ℕ) (o : Operand) (past : ℕ) : Type 0 where
+  pub value : I.Operand
+  pub same : o ≡ asOperand value
+  pub reads : Reads operand text at value past
+
+module _ (text : List ℕ) (at : ℕ) {r : ReadOperand} (e : r ≡ asOperandAt at (operand (drop at text))) where
+  pub operand-reads : {o : Operand} {p : ℕ} → r ≡ A.Got o p → OperandRead text at o p
+  unfolding asOperandAt
+  operand-reads {o} {p} k = by (operand (drop at text)) refl e
+    where
+      by : (g : Got I.Operand) → operand (drop at text) ≡ g → r ≡ asOperandAt at g → OperandRead text at o p
+      by (got x n) d j = record { value = x; same = cc; reads = record { width = n; reading = d; ends = cc } }
+      by nothing d j = absurd (let z : _≡_ {A = ℕ} 0 1 = cc in omega arith)
+
+  pub operand-fails : r ≡ A.Nothing → operand (drop at text) ≡ nothing
+  unfolding asOperandAt
+  operand-fails k = by (operand (drop at text)) e
+    where
+      by : (g : Got I.Operand) → r ≡ asOperandAt at g → g ≡ nothing
+      by (got x n) j = absurd (let z : _≡_ {A = ℕ} 0 1 = cc in omega arith)
+      by nothing j = refl
+
+-- ---- each kind of operand
+
+module _ (text : List ℕ) (at : ℕ) {v p : ℕ} where
+  pub negative-reads : head (drop at text) ≡ 45 → Reads decimal text (at + 1) v p → Reads negative text at (I.number true v) p
+  unfolding negative
+  negative-reads e h =
+      let b : Reads (byte 45) text at true (at + 1) = byte-reads text at 45 e in
+      record { width = b .width + (h .width + 0); reading = rw (b .reading, onto b, h .reading); ends = omega arith }
+
+  pub labelled-reads : head (drop at text) ≡ 76 → Reads decimal text (at + 1) v p → Reads labelled text at (I.address v) p
+  unfolding labelled
+  labelled-reads e h =
+      let b : Reads (byte 76) text at true (at + 1) = byte-reads text at 76 e in
+      record { width = b .width + (h .width + 0); reading = rw (b .reading, onto b, h .reading); ends = omega arith }
+
+  pub positive-reads : Reads decimal text at v p → Reads positive text at (I.number false v) p
+  unfolding positive
+  positive-reads h = record { width = h .width + 0; reading = rw (h .reading); ends = omega arith }
+
+module _ (text : List ℕ) (at : ℕ) where
+  pub negative-fails : head (drop at text) ≡ 45 → decimal (drop (at + 1) text) ≡ nothing → negative (drop at text) ≡ nothing
+  unfolding negative
+  negative-fails e h = let b : Reads (byte 45) text at true (at + 1) = byte-reads text at 45 e in rw (b .reading, onto b, h)
+
+  pub labelled-fails : head (drop at text) ≡ 76 → decimal (drop (at + 1) text) ≡ nothing → labelled (drop at text) ≡ nothing
+  unfolding labelled
+  labelled-fails e h = let b : Reads (byte 76) text at true (at + 1) = byte-reads text at 76 e in rw (b .reading, onto b, h)
+
+  pub positive-fails : decimal (drop at text) ≡ nothing → positive (drop at text) ≡ nothing
+  unfolding positive
+  positive-fails h = rw h
+
+-- a quoted character: one character and the closing quote
+abbrev one : List ℕ → Got I.Operand
+one bytes = asCharacter (quoted 39 0 bytes)
+
+wide-character : (bytes : List ℕ) → head bytes ≡ 39 → quotation bytes ≡ wide 1 (one (drop 1 bytes))
+unfolding quotation quotedCharacter byte
+wide-character bytes e = rw (eq-eqb _ 39 e)
+
+module _ (bytes : List ℕ) where
+  module _ {v w : ℕ} (e : character 39 bytes ≡ is v w) where
+    one-is : character 39 (drop w bytes) ≡ closing → one bytes ≡ got (I.number false v) (w + 1)
+    one-is h = rw (quoted-next 39 bytes e, quoted-end 39 (drop w bytes) h)
+
+    two-are : {u z : ℕ} → character 39 (drop w bytes) ≡ is u z → one bytes ≡ nothing
+    two-are {u} {z} h = rw (quoted-next 39 bytes e, quoted-next 39 (drop w bytes) h) (by (quoted 39 0 (drop z (drop w bytes))))
+      where
+        by : (q : Quoted) → asCharacter (onward v w (onward u z q)) ≡ nothing
+        by (closed cs n) = refl
+        by faulty = refl
+
+    one-open : character 39 (drop w bytes) ≡ bad → one bytes ≡ nothing
+    one-open h = rw (quoted-next 39 bytes e, quoted-bad 39 (drop w bytes) h)
+
+  none-is : character 39 bytes ≡ closing → one bytes ≡ nothing
+  none-is h = rw (quoted-end 39 bytes h)
+
+  bad-is : character 39 bytes ≡ bad → one bytes ≡ nothing
+  bad-is h = rw (quoted-bad 39 bytes h)
+
+module _ (text : List ℕ) (at : ℕ) (e : head (drop at text) ≡ 39) where
+  opened : quotation (drop at text) ≡ wide 1 (one (drop (at + 1) text))
+  opened = wide-character (drop at text) e ∙ ap (λ (l : List ℕ). wide 1 (one l)) (drop-drop 1 at text)
+
+  module _ {v w : ℕ} (f : character 39 (drop (at + 1) text) ≡ is v w) where
+    next : drop w (drop (at + 1) text) ≡ drop (at + 1 + w) text
+    next = drop-drop w (at + 1) text
+
+    pub quotation-reads : character 39 (drop (at + 1 + w) text) ≡ closing → Reads quotation text at (I.number false v) (at + 1 + w + 1)
+    quotation-reads h = record { width = 1 + (w + 1); reading = opened ∙ rw (one-is (drop (at + 1) text) f (rw next h)); ends = omega arith }
+
+    pub quotation-two : {u z : ℕ} → character 39 (drop (at + 1 + w) text) ≡ is u z → quotation (drop at text) ≡ nothing
+    quotation-two {u} {z} h = opened ∙ rw (two-are (drop (at + 1) text) f {u = u} {z = z} (rw next h))
+
+    pub quotation-open : character 39 (drop (at + 1 + w) text) ≡ bad → quotation (drop at text) ≡ nothing
+    quotation-open h = opened ∙ rw (one-open (drop (at + 1) text) f (rw next h))
+
+  pub quotation-none : character 39 (drop (at + 1) text) ≡ closing → quotation (drop at text) ≡ nothing
+  quotation-none h = opened ∙ rw (none-is (drop (at + 1) text) h)
+
+  pub quotation-bad : character 39 (drop (at + 1) text) ≡ bad → quotation (drop at text) ≡ nothing
+  quotation-bad h = opened ∙ rw (bad-is (drop (at + 1) text) h)
+
+-- ---- by the byte at the head
+
+module _ (bytes : List ℕ) {c : ℕ} (e : c ≡ head bytes) where
+  pub operand-minus : c ≡ 45 → operand bytes ≡ negative bytes
+  unfolding operand
+  operand-minus k = rw (← e, k)
+
+  pub operand-quote : c ≡ 39 → operand bytes ≡ quotation bytes
+  unfolding operand
+  operand-quote k = rw (← e, k)
+
+  pub operand-label : c ≡ 76 → operand bytes ≡ labelled bytes
+  unfolding operand
+  operand-label k = rw (← e, k)
+
+  pub operand-plain : Unlike c (76 ∷ 39 ∷ 45 ∷ []) → operand bytes ≡ positive bytes
+  unfolding operand
+  operand-plain h = rw (← e, ne-eqb c 45 (h .0 .0 .1), ne-eqb c 39 (h .0 .1), ne-eqb c 76 (h .1))
+
+  pub base-p : c ≡ 80 → base bytes ≡ got I.P 1
+  unfolding base
+  base-p k = rw (← e, k)
+
+  pub base-g : c ≡ 71 → base bytes ≡ got I.G 1
+  unfolding base
+  base-g k = rw (← e, k)
+
+  pub base-none : Unlike c (71 ∷ 80 ∷ []) → base bytes ≡ got I.none 0
+  unfolding base
+  base-none h = rw (← e, ne-eqb c 80 (h .0 .1), ne-eqb c 71 (h .1))
+
+pub based-none : (at : ℕ) (bytes : List ℕ) → base bytes ≡ got I.none 0 → record { base = B.Plain; past = at } ≡ asBased at (base bytes)
+unfolding asBased asBase
+based-none at bytes h = rw (h, add-zero)
+
+-- a base is always read
+pub record BaseRead (text : List ℕ) (at : ℕ) (r : Based) : Type 0 where
+  pub value : I.Base
+  pub same : r .base ≡ asBase value
+  pub reads : Reads base text at value (r .past)
+
+base-got : (bytes : List ℕ) → base bytes ≡ nothing → ⊥
+unfolding base
+base-got bytes = by (eqb (head bytes) 80) (eqb (head bytes) 71)
+  where
+    by : (s t : Bool) → cond s (got I.P 1) (cond t (got I.G 1) (got I.none 0)) ≡ nothing → ⊥
+    by true t k = let z : _≡_ {A = ℕ} 0 1 = cc in omega arith
+    by false true k = let z : _≡_ {A = ℕ} 0 1 = cc in omega arith
+    by false false k = let z : _≡_ {A = ℕ} 0 1 = cc in omega arith
+
+pub base-reads : (text : List ℕ) (at : ℕ) {r : Based} → r ≡ asBased at (base (drop at text)) → BaseRead text at r
+unfolding asBased
+base-reads text at {r} e = by (base (drop at text)) refl e
+  where
+    by : (g : Got I.Base) → base (drop at text) ≡ g → r ≡ asBased at g → BaseRead text at r
+    by (got b n) d j = record { value = b; same = ap (λ (x : Based). x .base) j; reads = record { width = n; reading = d; ends = ap (λ (x : Based). x .past) j } }
+    by nothing d j = absurd (base-got (drop at text) d)

@@ -1,0 +1,135 @@
+-- Readers at a place of a text: the byte there, and reading on from place to place.
+use Prim.Native.Nat.{ℕ, _+_, _<_, _≤_}
+use mathlib.Core.Path.{_≡_, refl, sym, ap, _∙_}
+use mathlib.Core.Bool.{Bool, true, false, cond}
+use mathlib.Core.List.{List, [], _∷_}
+use native.Mathlib.Omega.{arith}
+use lib.Dec.{eqb, ltb}
+use lib.ListN.{length, getD, drop}
+use lib.Seq.{drop-drop}
+use borrow.Author.Tests.{ltb-true, ltb-false, eq-eqb, ne-eqb, eqb-true, eqb-false}
+use Rattle.text.proofs.Bytes.{at-byte, past-end, Unlike}
+use Rattle.items.specs.Reader.{Got, got, nothing, Reader, wide, onGot, head, byte, optional}
+use Rattle.items.specs.Read.{ended}
+use Rattle.items.specs.Scan.{mark}
+use Rattle.items.specs.Parts.{isGot}
+
+-- ---- the byte at a place
+
+module _ (text : List ℕ) (at : ℕ) where
+  pub head-in : at < length text → head (drop at text) ≡ getD text at 0
+  unfolding head
+  head-in h = at-byte head text at h refl
+
+  pub head-past : length text ≤ at → head (drop at text) ≡ 256
+  unfolding head
+  head-past h = past-end head text at h
+
+  pub inside : {c : ℕ} → head (drop at text) ≡ c → c < 256 → at < length text
+  inside {c} e h = go (ltb at (length text)) refl
+    where
+      go : (t : Bool) → ltb at (length text) ≡ t → at < length text
+      go true k = ltb-true at (length text) k
+      go false k = absurd (omega (arith, head-past (ltb-false at (length text) k)))
+
+-- ---- one reader after another
+
+-- the reader reads the value there, up to the place past it
+pub record Reads {A : Type 0} (reader : Reader A) (text : List ℕ) (at : ℕ) (value : A) (past : ℕ) : Type 0 where
+  pub width : ℕ
+  pub reading : reader (drop at text) ≡ got value width
+  pub ends : past ≡ at + width
+
+-- what follows the part that was read
+pub onto : {A : Type 0} {reader : Reader A} {text : List ℕ} {at : ℕ} {value : A} {past : ℕ} (h : Reads reader text at value past) → drop (h .width) (drop at text) ≡ drop past text
+onto {text = text} {at = at} h = drop-drop (h .width) at text ∙ ap (λ (n : ℕ). drop n text) (sym (h .ends))
+
+-- ---- a byte that is wanted, or may stand there; an item's end
+
+module _ (text : List ℕ) (at c : ℕ) where
+  pub byte-reads : head (drop at text) ≡ c → Reads (byte c) text at true (at + 1)
+  unfolding byte
+  byte-reads e = record { width = 1; reading = rw (eq-eqb _ c e); ends = refl }
+
+  pub byte-fails : (head (drop at text) ≡ c → ⊥) → byte c (drop at text) ≡ nothing
+  unfolding byte
+  byte-fails e = rw (ne-eqb _ c e)
+
+  pub optional-reads : {t : Bool} {p : ℕ} → t ≡ eqb (head (drop at text)) c → p ≡ at + cond (eqb (head (drop at text)) c) 1 0 → Reads (optional c) text at t p
+  unfolding optional
+  optional-reads e h = record { width = cond (eqb (head (drop at text)) c) 1 0; reading = rw e (by (eqb (head (drop at text)) c)); ends = h }
+    where
+      by : (t : Bool) → cond t (got true 1) (got false 0) ≡ got t (cond t 1 0)
+      by true = refl
+      by false = refl
+
+-- by the byte at the head alone
+pub ended-by : (bytes : List ℕ) (c : ℕ) → head bytes ≡ c → ended bytes ≡ ended (c ∷ [])
+unfolding ended head
+ended-by bytes c e = rw e
+
+pub not-ended : (bytes : List ℕ) {c : ℕ} → c ≡ head bytes → Unlike c (256 ∷ 47 ∷ 10 ∷ 32 ∷ []) → ended bytes ≡ nothing
+unfolding ended
+not-ended bytes e h =
+    rw (← e, ne-eqb _ 32 (h .0 .0 .0 .1), ne-eqb _ 10 (h .0 .0 .1), ne-eqb _ 47 (h .0 .1), ne-eqb _ 256 (h .1))
+
+-- an item's end takes no byte
+ended-got : (bytes : List ℕ) → isGot (ended bytes) ≡ true → ended bytes ≡ got true 0
+unfolding ended isGot
+ended-got bytes =
+    either (eqb (head bytes) 32) (either (eqb (head bytes) 10) (either (eqb (head bytes) 47) (either (eqb (head bytes) 256) none)))
+  where
+    none : isGot nothing ≡ true → nothing ≡ got true 0
+    none e = absurd (let z : _≡_ {A = ℕ} 0 1 = cc in omega arith)
+
+    either : (t : Bool) {other : Got Bool} → (isGot other ≡ true → other ≡ got true 0) → isGot (cond t (got true 0) other) ≡ true → cond t (got true 0) other ≡ got true 0
+    either true p e = refl
+    either false p e = p e
+
+pub got-none : (g : Got Bool) → isGot g ≡ false → g ≡ nothing
+unfolding isGot
+got-none (got a n) k = absurd (let z : _≡_ {A = ℕ} 0 1 = cc in omega arith)
+got-none nothing k = refl
+
+module _ (text : List ℕ) (at : ℕ) {t : Bool} (e : t ≡ isGot (ended (drop at text))) where
+  pub ended-reads : t ≡ true → Reads ended text at true at
+  ended-reads h = record { width = 0; reading = ended-got (drop at text) (sym e ∙ h); ends = omega arith }
+
+  pub ended-fails : t ≡ false → ended (drop at text) ≡ nothing
+  ended-fails h = got-none (ended (drop at text)) (sym e ∙ h)
+
+-- $ or Z: the byte c that ends as items do
+wide-got : (n : ℕ) (g : Got Bool) → isGot (wide n g) ≡ isGot g
+unfolding isGot
+wide-got n (got a m) = refl
+wide-got n nothing = refl
+
+module _ (text : List ℕ) (at c : ℕ) where
+  pub mark-at : head (drop at text) ≡ c → isGot (ended (drop (at + 1) text)) ≡ isGot (mark c (drop at text))
+  unfolding mark byte
+  mark-at e = rw (eq-eqb _ c e, drop-drop 1 at text) (sym (wide-got 1 (ended (drop (at + 1) text))))
+
+  pub mark-not : (head (drop at text) ≡ c → ⊥) → mark c (drop at text) ≡ nothing
+  unfolding mark
+  mark-not h = rw (byte-fails text at c h)
+
+pub mark-got : (c : ℕ) (bytes : List ℕ) → isGot (mark c bytes) ≡ true → mark c bytes ≡ got true 1
+unfolding mark byte isGot
+mark-got c bytes = by (eqb (head bytes) c)
+  where
+    wider : (g : Got Bool) → (isGot g ≡ true → g ≡ got true 0) → isGot (wide 1 g) ≡ true → wide 1 g ≡ got true 1
+    wider g f e = ap (wide 1) (f (sym (wide-got 1 g) ∙ e))
+
+    by : (t : Bool) → isGot (onGot (cond t (got true 1) nothing) (λ _ n. wide n (ended (drop n bytes)))) ≡ true → onGot (cond t (got true 1) nothing) (λ _ n. wide n (ended (drop n bytes))) ≡ got true 1
+    by true e = wider (ended (drop 1 bytes)) (ended-got (drop 1 bytes)) e
+    by false e = absurd (let z : _≡_ {A = ℕ} 0 1 = cc in omega arith)
+
+pub mark-inside : (text : List ℕ) (at c : ℕ) → isGot (mark c (drop at text)) ≡ true → c < 256 → at < length text
+mark-inside text at c e h = by (eqb (head (drop at text)) c) refl
+  where
+    never : mark c (drop at text) ≡ nothing → ⊥
+    never k = let g : got true 1 ≡ nothing = sym (mark-got c (drop at text) e) ∙ k in let z : _≡_ {A = ℕ} 0 1 = cc in omega arith
+
+    by : (t : Bool) → eqb (head (drop at text)) c ≡ t → at < length text
+    by true k = inside text at (eqb-true _ c k) h
+    by false k = absurd (never (mark-not text at c (eqb-false _ c k)))

@@ -1,0 +1,73 @@
+use Prim.Native.Nat.{_+_, _-_, _≤_}
+use mathlib.Core.Path.{_≡_, _∙_, sym}
+use lib.ListN.{length, drop}
+use native.Mathlib.Omega.{arith}
+use borrow.Author.Needs.{needs}
+use Rattle.text.specs.Quoted.{quoted}
+use Rattle.text.proofs.Answers.{when-is, when-closing, when-bad}
+use Rattle.text.proofs.Quotes.{is-inside, closing-inside}
+use Rattle.items.specs.Parts.{asStringAt}
+use Rattle.items.proofs.Items.{added, added-none, characters-more, characters-end, characters-bad}
+use Rattle.items.proofs.characters_at.Statement.{statement}
+use Rattle.items.proofs.characters_at.Tie as tie
+
+abbrev Inv-loop : tie.InvT-loop
+Inv-loop text at n₀ i₀ n i = (n + at ≤ i) × (asStringAt at (quoted 34 0 (drop at text)) ≡ added n (asStringAt i (quoted 34 0 (drop i text))))
+
+abbrev μ-loop : tie.MeasureT-loop
+μ-loop text at n₀ i₀ n i = length text - i
+
+loop-holds : tie.Need-loop-holds Inv-loop μ-loop
+loop-holds c = (omega arith, added-none _)
+
+character-at-requires : tie.Need-character-at-requires Inv-loop μ-loop
+character-at-requires c κs = search needs
+
+enum-known-c : tie.Need-enum-known-c Inv-loop μ-loop
+enum-known-c c = search needs
+
+add-n : tie.Need-add-n Inv-loop μ-loop
+add-n c = omega (arith, is-inside 34 (c .before .before .before .before .before .before .args .text .now) (c .before .before .before .before .loop .i) (when-is _ (c .before .before .before .character-at .ensures) (c .before .c .given .1)))
+
+add-i : tie.Need-add-i Inv-loop μ-loop
+add-i c = omega (arith, is-inside 34 (c .before .before .before .before .before .before .args .text .now) (c .before .before .before .before .loop .i) (when-is _ (c .before .before .before .character-at .ensures) (c .before .c .given .1)))
+
+loop-less : tie.Need-loop-less Inv-loop μ-loop
+loop-less c = omega (arith, is-inside 34 (c .before .before .before .before .before .before .args .text .now) (c .before .before .before .before .loop .i) (when-is _ (c .before .before .before .character-at .ensures) (c .before .c .given .1)))
+
+loop-again : tie.Need-loop-again Inv-loop μ-loop
+loop-again c = (omega (arith, is-inside 34 (c .before .before .before .before .before .before .args .text .now) (c .before .before .before .before .loop .i) (when-is _ (c .before .before .before .character-at .ensures) (c .before .c .given .1))), c .before .before .before .before .loop .inv .1 ∙ characters-more (c .before .before .before .before .before .before .args .text .now) (c .before .before .before .before .loop .i) (c .before .before .before .before .loop .n) (when-is _ (c .before .before .before .character-at .ensures) (c .before .c .given .1)))
+
+enum-told : tie.Need-enum-told Inv-loop μ-loop
+enum-told c = search needs
+
+add-t7 : tie.Need-add-t7 Inv-loop μ-loop
+add-t7 c = omega (arith, closing-inside 34 (c .before .before .before .before .before .args .text .now) (c .before .before .before .loop .i) (when-closing _ (c .before .before .character-at .ensures) (c .enum-told .given .1)))
+
+returns : tie.Need-returns Inv-loop μ-loop
+returns c = characters-end (c .before .before .before .before .before .args .text .now) (c .before .before .before .loop .i) (c .before .before .before .loop .n) (when-closing _ (c .before .before .character-at .ensures) (c .enum-told .given .1)) ∙ sym (c .before .before .before .loop .inv .1)
+
+enum-told-2 : tie.Need-enum-told-2 Inv-loop μ-loop
+enum-told-2 c = search needs
+
+returns-2 : tie.Need-returns-2 Inv-loop μ-loop
+returns-2 c = characters-bad (c .before .before .before .before .before .args .text .now) (c .before .before .before .loop .i) (c .before .before .before .loop .n) (when-bad _ (c .before .before .character-at .ensures) (c .enum-told2 .given .1)) ∙ sym (c .before .before .before .loop .inv .1)
+
+pub characters-at-spec : {M : Type 1} → statement M
+characters-at-spec =
+    tie.close
+    (tie.spec
+    Inv-loop
+    μ-loop
+    loop-holds
+    character-at-requires
+    enum-known-c
+    add-n
+    add-i
+    loop-less
+    loop-again
+    enum-told
+    add-t7
+    returns
+    enum-told-2
+    returns-2)

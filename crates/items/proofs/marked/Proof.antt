@@ -1,0 +1,27 @@
+use mathlib.Core.Path.{_∙_, sym, ap}
+use native.Mathlib.Omega.{arith}
+use borrow.Author.Tests.{eqb-true, eqb-false}
+use Rattle.items.specs.Parts.{isGot}
+use Rattle.items.proofs.Places.{inside, mark-at, mark-not}
+use borrow.Author.Needs.{needs}
+use Rattle.items.proofs.marked.Statement.{statement}
+use Rattle.items.proofs.marked.Tie as tie
+
+has-requires : tie.Need-has-requires
+has-requires c κs = search needs
+
+add-ended : tie.Need-add-ended
+add-ended c = omega (arith, inside (c .before .before .before .args .text .now) (c .before .before .before .args .at) (eqb-true _ _ (sym (c .before .has .ensures) ∙ c .if1 .taken)) (omega arith))
+
+ended-requires : tie.Need-ended-requires
+ended-requires c κs = search needs
+
+returns : tie.Need-returns
+returns c = c .ended .ensures ∙ mark-at (c .before .before .before .before .args .text .now) (c .before .before .before .before .args .at) _ (eqb-true _ _ (sym (c .before .before .has .ensures) ∙ c .before .if1 .taken))
+
+returns-2 : tie.Need-returns-2
+unfolding isGot
+returns-2 c = sym (ap isGot (mark-not (c .before .before .before .args .text .now) (c .before .before .before .args .at) _ (eqb-false _ _ (sym (c .before .has .ensures) ∙ c .if1 .left))))
+
+pub marked-spec : {M : Type 1} → statement M
+marked-spec = tie.close (tie.spec has-requires add-ended ended-requires returns returns-2)

@@ -1,0 +1,22 @@
+use mathlib.Core.Path.{_∙_, sym}
+use native.Mathlib.Omega.{arith}
+use borrow.Author.Tests.{eqb-true}
+use Rattle.items.proofs.Places.{inside}
+use borrow.Author.Needs.{needs}
+use Rattle.items.proofs.past_byte.Statement.{statement}
+use Rattle.items.proofs.past_byte.Tie as tie
+
+has-requires : tie.Need-has-requires
+has-requires c κs = search needs
+
+add-result : tie.Need-add-result
+add-result c = omega (arith, inside (c .before .before .before .args .text .now) (c .before .before .before .args .at) (eqb-true _ _ (sym (c .before .has .ensures) ∙ c .if1 .taken)) (omega arith))
+
+returns : tie.Need-returns
+returns c = rw (sym (c .before .has .ensures) ∙ c .if1 .taken)
+
+returns-2 : tie.Need-returns-2
+returns-2 c = rw (sym (c .before .has .ensures) ∙ c .if1 .left) (omega arith)
+
+pub past-byte-spec : {M : Type 1} → statement M
+past-byte-spec = tie.close (tie.spec has-requires add-result returns returns-2)

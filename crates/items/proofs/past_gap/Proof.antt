@@ -1,0 +1,60 @@
+use borrow.Author.Tests.{not-true, not-false}
+use Prim.Native.Nat.{_+_, _-_}
+use mathlib.Core.Path.{_≡_}
+use mathlib.Core.Bool.{false}
+use lib.ListN.{length, drop}
+use native.Mathlib.Omega.{arith}
+use borrow.Author.Needs.{needs}
+use Rattle.items.specs.Scan.{gaps}
+use Rattle.items.proofs.Gaps.{gap-end, gap-stops, gap-goes}
+use Rattle.items.proofs.past_gap.Statement.{statement}
+use Rattle.items.proofs.past_gap.Tie as tie
+
+abbrev Inv-loop : tie.InvT-loop
+Inv-loop text at comment₀ i₀ comment i = i + gaps comment (drop i text) ≡ at + gaps false (drop at text)
+
+abbrev μ-loop : tie.MeasureT-loop
+μ-loop text at comment₀ i₀ comment i = length text - i
+
+loop-holds : tie.Need-loop-holds Inv-loop μ-loop
+loop-holds c = search needs
+
+shared-slice-read-c : tie.Need-shared-slice-read-c Inv-loop μ-loop
+shared-slice-read-c c = search needs
+
+in-gap-requires : tie.Need-in-gap-requires Inv-loop μ-loop
+in-gap-requires c κs = search needs
+
+returns : tie.Need-returns Inv-loop μ-loop
+returns c = omega (arith, gap-stops (c .before .before .before .before .before .before .args .text .now) (c .before .before .before .before .loop .i) (c .before .before .before .before .loop .comment) (omega arith) (c .before .in-gap .ensures) (not-true _ (c .if1 .taken)))
+
+in-comment-requires : tie.Need-in-comment-requires Inv-loop μ-loop
+in-comment-requires c κs = search needs
+
+add-i : tie.Need-add-i Inv-loop μ-loop
+add-i c = omega arith
+
+loop-less : tie.Need-loop-less Inv-loop μ-loop
+loop-less c = omega arith
+
+loop-again : tie.Need-loop-again Inv-loop μ-loop
+loop-again c = omega (arith, gap-goes (c .before .before .before .before .before .before .before .args .text .now) (c .before .before .before .before .before .loop .i) (c .before .before .before .before .before .loop .comment) (omega arith) (c .before .before .in-gap .ensures) (not-false _ (c .before .if1 .left)) (c .in-comment .ensures))
+
+returns-2 : tie.Need-returns-2 Inv-loop μ-loop
+returns-2 c = omega (arith, gap-end (c .before .before .before .args .text .now) (c .before .loop .i) (c .before .loop .comment) (omega arith))
+
+pub past-gap-spec : {M : Type 1} → statement M
+past-gap-spec =
+    tie.close
+    (tie.spec
+    Inv-loop
+    μ-loop
+    loop-holds
+    shared-slice-read-c
+    in-gap-requires
+    returns
+    in-comment-requires
+    add-i
+    loop-less
+    loop-again
+    returns-2)

@@ -1,0 +1,89 @@
+use Prim.Native.Nat.{_+_}
+use native.Mathlib.Omega.{arith}
+use Rattle.text.proofs.Answers.{when-is, when-closing, when-bad}
+use Rattle.text.proofs.Quotes.{is-inside, closing-inside}
+use Rattle.items.specs.Read.{quotation}
+use Rattle.items.specs.Answers.{asOperand}
+use Rattle.items.proofs.Places.{inside}
+use Rattle.items.proofs.Operands.{an-operand, no-operand, quotation-reads, quotation-two, quotation-open, quotation-none, quotation-bad}
+use borrow.Author.Needs.{needs}
+use Rattle.items.proofs.quotation.Statement.{statement}
+use Rattle.items.proofs.quotation.Tie as tie
+
+add-character-at : tie.Need-add-character-at
+add-character-at c = omega (arith, inside (c .before .args .text .now) (c .before .args .at) (c .before .pre) (omega arith))
+
+character-at-requires : tie.Need-character-at-requires
+character-at-requires c κs = search needs
+
+enum-known-first : tie.Need-enum-known-first
+enum-known-first c = search needs
+
+add-end : tie.Need-add-end
+add-end c = omega (arith, inside (c .before .before .before .before .before .args .text .now) (c .before .before .before .before .before .args .at) (c .before .before .before .before .before .pre) (omega arith))
+
+add-end-2 : tie.Need-add-end-2
+add-end-2 c = omega (arith, is-inside 39 (c .before .before .before .before .before .args .text .now) ((c .before .before .before .before .before .args .at) + 1) (when-is _ (c .before .before .before .character-at .ensures) (c .before .first .given .1)))
+
+character-at-requires-2 : tie.Need-character-at-requires-2
+character-at-requires-2 c κs = search needs
+
+enum-told : tie.Need-enum-told
+enum-told c = search needs
+
+cast-t12 : tie.Need-cast-t12
+cast-t12 c = search needs
+
+add-t14 : tie.Need-add-t14
+add-t14 c = omega (arith, closing-inside 39 (c .before .before .before .before .before .before .before .before .args .text .now) ((c .before .before .before .before .before .before .before .before .args .at) + 1 + c .before .before .before .before .first .given .0 .1 .0) (when-closing _ (c .before .before .character-at2 .ensures) (c .enum-told .given .1)))
+
+enum-told-2 : tie.Need-enum-told-2
+enum-told-2 c = search needs
+
+enum-told-3 : tie.Need-enum-told-3
+enum-told-3 c = search needs
+
+enum-told-4 : tie.Need-enum-told-4
+enum-told-4 c = search needs
+
+enum-told-5 : tie.Need-enum-told-5
+enum-told-5 c = search needs
+
+returns : tie.Need-returns
+unfolding asOperand
+returns c = an-operand quotation (c .before .before .before .before .before .before .before .before .args .text .now) (c .before .before .before .before .before .before .before .before .args .at) (quotation-reads (c .before .before .before .before .before .before .before .before .args .text .now) (c .before .before .before .before .before .before .before .before .args .at) (c .before .before .before .before .before .before .before .before .pre) (when-is _ (c .before .before .before .before .before .before .character-at .ensures) (c .before .before .before .before .first .given .1)) (when-closing _ (c .before .before .character-at2 .ensures) (c .enum-told .given .1)))
+
+returns-2 : tie.Need-returns-2
+returns-2 c = no-operand quotation (c .before .before .before .before .before .before .before .before .args .text .now) (c .before .before .before .before .before .before .before .before .args .at) (quotation-two (c .before .before .before .before .before .before .before .before .args .text .now) (c .before .before .before .before .before .before .before .before .args .at) (c .before .before .before .before .before .before .before .before .pre) (when-is _ (c .before .before .before .before .before .before .character-at .ensures) (c .before .before .before .before .first .given .1)) (when-is _ (c .before .before .character-at2 .ensures) (c .enum-told2 .given .1)))
+
+returns-3 : tie.Need-returns-3
+returns-3 c = no-operand quotation (c .before .before .before .before .before .before .before .before .args .text .now) (c .before .before .before .before .before .before .before .before .args .at) (quotation-open (c .before .before .before .before .before .before .before .before .args .text .now) (c .before .before .before .before .before .before .before .before .args .at) (c .before .before .before .before .before .before .before .before .pre) (when-is _ (c .before .before .before .before .before .before .character-at .ensures) (c .before .before .before .before .first .given .1)) (when-bad _ (c .before .before .character-at2 .ensures) (c .enum-told3 .given .1)))
+
+returns-4 : tie.Need-returns-4
+returns-4 c = no-operand quotation (c .before .before .before .before .args .text .now) (c .before .before .before .before .args .at) (quotation-none (c .before .before .before .before .args .text .now) (c .before .before .before .before .args .at) (c .before .before .before .before .pre) (when-closing _ (c .before .before .character-at .ensures) (c .enum-told4 .given .1)))
+
+returns-5 : tie.Need-returns-5
+returns-5 c = no-operand quotation (c .before .before .before .before .args .text .now) (c .before .before .before .before .args .at) (quotation-bad (c .before .before .before .before .args .text .now) (c .before .before .before .before .args .at) (c .before .before .before .before .pre) (when-bad _ (c .before .before .character-at .ensures) (c .enum-told5 .given .1)))
+
+pub quotation-spec : {M : Type 1} → statement M
+quotation-spec =
+    tie.close
+    (tie.spec
+    add-character-at
+    character-at-requires
+    enum-known-first
+    add-end
+    add-end-2
+    character-at-requires-2
+    enum-told
+    cast-t12
+    add-t14
+    enum-told-2
+    enum-told-3
+    enum-told-4
+    enum-told-5
+    returns
+    returns-2
+    returns-3
+    returns-4
+    returns-5)

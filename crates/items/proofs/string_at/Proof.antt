@@ -1,0 +1,59 @@
+use Prim.Native.Nat.{_+_}
+use mathlib.Core.Path.{_∙_, sym}
+use native.Mathlib.Omega.{arith}
+use borrow.Author.Tests.{eqb-true, eqb-false, not-true, not-false}
+use Rattle.items.specs.Read.{stringItem}
+use Rattle.items.proofs.Places.{inside, byte-reads, ended-reads, ended-fails}
+use Rattle.items.proofs.Items.{no-item, characters-read, characters-fail, a-string, string-open, string-long, string-faulty, string-none}
+use borrow.Author.Needs.{needs}
+use Rattle.items.proofs.string_at.Statement.{statement}
+use Rattle.items.proofs.string_at.Tie as tie
+
+has-requires : tie.Need-has-requires
+has-requires c κs = search needs
+
+returns : tie.Need-returns
+returns c = no-item stringItem (c .before .before .before .args .text .now) (c .before .before .before .args .at) (string-none (c .before .before .before .args .text .now) (c .before .before .before .args .at) (eqb-false _ _ (sym (c .before .has .ensures) ∙ not-true _ (c .if1 .taken))))
+
+add-characters-at : tie.Need-add-characters-at
+add-characters-at c = omega (arith, inside (c .before .before .before .args .text .now) (c .before .before .before .args .at) (eqb-true _ 34 (sym (c .before .has .ensures) ∙ not-false _ (c .if1 .left))) (omega arith))
+
+characters-at-requires : tie.Need-characters-at-requires
+characters-at-requires c κs = search needs
+
+enum-known-s : tie.Need-enum-known-s
+enum-known-s c = search needs
+
+returns-2 : tie.Need-returns-2
+returns-2 c = no-item stringItem (c .before .before .before .before .before .before .before .before .args .text .now) (c .before .before .before .before .before .before .before .before .args .at) (string-long (c .before .before .before .before .before .before .before .before .args .text .now) (c .before .before .before .before .before .before .before .before .args .at) (byte-reads (c .before .before .before .before .before .before .before .before .args .text .now) (c .before .before .before .before .before .before .before .before .args .at) 34 (eqb-true _ _ (sym (c .before .before .before .before .before .before .has .ensures) ∙ not-false _ (c .before .before .before .before .before .if1 .left)))) (characters-read (c .before .before .before .before .before .before .before .before .args .text .now) ((c .before .before .before .before .before .before .before .before .args .at) + 1) (c .before .before .before .before .characters-at .ensures) (c .before .before .s .given .1)) (c .if2 .taken))
+
+ended-requires : tie.Need-ended-requires
+ended-requires c κs = search needs
+
+returns-3 : tie.Need-returns-3
+returns-3 c = a-string (c .before .before .before .before .before .before .before .before .before .before .args .text .now) (c .before .before .before .before .before .before .before .before .before .before .args .at) (byte-reads (c .before .before .before .before .before .before .before .before .before .before .args .text .now) (c .before .before .before .before .before .before .before .before .before .before .args .at) 34 (eqb-true _ _ (sym (c .before .before .before .before .before .before .before .before .has .ensures) ∙ not-false _ (c .before .before .before .before .before .before .before .if1 .left)))) (characters-read (c .before .before .before .before .before .before .before .before .before .before .args .text .now) ((c .before .before .before .before .before .before .before .before .before .before .args .at) + 1) (c .before .before .before .before .before .before .characters-at .ensures) (c .before .before .before .before .s .given .1)) (c .before .before .if2 .left) (ended-reads (c .before .before .before .before .before .before .before .before .before .before .args .text .now) (c .before .before .before .before .s .given .0 .1 .0) (c .before .ended .ensures) (c .if3 .taken))
+
+enum-told : tie.Need-enum-told
+enum-told c = search needs
+
+returns-4 : tie.Need-returns-4
+returns-4 c = no-item stringItem (c .before .before .before .before .before .before .before .before .before .before .args .text .now) (c .before .before .before .before .before .before .before .before .before .before .args .at) (string-open (c .before .before .before .before .before .before .before .before .before .before .args .text .now) (c .before .before .before .before .before .before .before .before .before .before .args .at) (byte-reads (c .before .before .before .before .before .before .before .before .before .before .args .text .now) (c .before .before .before .before .before .before .before .before .before .before .args .at) 34 (eqb-true _ _ (sym (c .before .before .before .before .before .before .before .before .has .ensures) ∙ not-false _ (c .before .before .before .before .before .before .before .if1 .left)))) (characters-read (c .before .before .before .before .before .before .before .before .before .before .args .text .now) ((c .before .before .before .before .before .before .before .before .before .before .args .at) + 1) (c .before .before .before .before .before .before .characters-at .ensures) (c .before .before .before .before .s .given .1)) (c .before .before .if2 .left) (ended-fails (c .before .before .before .before .before .before .before .before .before .before .args .text .now) (c .before .before .before .before .s .given .0 .1 .0) (c .before .ended .ensures) (c .if3 .left)))
+
+returns-5 : tie.Need-returns-5
+returns-5 c = no-item stringItem (c .before .before .before .before .before .before .args .text .now) (c .before .before .before .before .before .before .args .at) (string-faulty (c .before .before .before .before .before .before .args .text .now) (c .before .before .before .before .before .before .args .at) (byte-reads (c .before .before .before .before .before .before .args .text .now) (c .before .before .before .before .before .before .args .at) 34 (eqb-true _ _ (sym (c .before .before .before .before .has .ensures) ∙ not-false _ (c .before .before .before .if1 .left)))) (characters-fail (c .before .before .before .before .before .before .args .text .now) ((c .before .before .before .before .before .before .args .at) + 1) (c .before .before .characters-at .ensures) (c .enum-told .given .1)))
+
+pub string-at-spec : {M : Type 1} → statement M
+string-at-spec =
+    tie.close
+    (tie.spec
+    has-requires
+    returns
+    add-characters-at
+    characters-at-requires
+    enum-known-s
+    returns-2
+    ended-requires
+    returns-3
+    enum-told
+    returns-4
+    returns-5)

@@ -1,0 +1,5 @@
+pub mod Bytes
+pub mod Lines
+pub mod Quotes
+pub mod Answers
+pub mod Examples

@@ -1,0 +1,54 @@
+use mathlib.Core.Path.{sym, refl, ap, _∙_}
+use Rattle.text.specs.Quoted.{character}
+use Rattle.text.specs.Answers.{asCharacter}
+use Rattle.text.proofs.Bytes.{at-byte, past-end}
+use Rattle.text.proofs.Quotes.{at-quote, at-asterisk, at-control, at-high, at-plain}
+use borrow.Author.Needs.{needs}
+use Rattle.text.proofs.character_at.Statement.{statement}
+use Rattle.text.proofs.character_at.Tie as tie
+
+returns : tie.Need-returns
+unfolding character asCharacter
+returns c = sym (ap asCharacter (past-end (character _) _ _ (c .if1 .taken)))
+
+shared-slice-read-c : tie.Need-shared-slice-read-c
+shared-slice-read-c c = search needs
+
+returns-2 : tie.Need-returns-2
+unfolding asCharacter
+returns-2 c = sym (ap asCharacter (at-byte (character _) _ _ (c .before .before .if1 .left) refl ∙ at-quote _ _ _ (c .if2 .taken)))
+
+add-escape : tie.Need-add-escape
+add-escape c = search needs
+
+escape-requires : tie.Need-escape-requires
+escape-requires c κs = search needs
+
+returns-3 : tie.Need-returns-3
+returns-3 c = c .escape .ensures ∙ sym (ap asCharacter (at-byte (character _) _ _ (c .before .before .before .before .if1 .left) refl ∙ at-asterisk _ _ _ (c .before .before .if2 .left) (c .before .if3 .taken)))
+
+returns-4 : tie.Need-returns-4
+unfolding asCharacter
+returns-4 c = sym (ap asCharacter (at-byte (character _) _ _ (c .before .before .before .before .if1 .left) refl ∙ at-control _ _ _ (c .before .before .if2 .left) (c .before .if3 .left) (c .if4 .taken)))
+
+returns-5 : tie.Need-returns-5
+unfolding asCharacter
+returns-5 c = sym (ap asCharacter (at-byte (character _) _ _ (c .before .before .before .before .before .if1 .left) refl ∙ at-high _ _ _ (c .before .before .before .if2 .left) (c .before .before .if3 .left) (c .if5 .taken)))
+
+returns-6 : tie.Need-returns-6
+unfolding asCharacter
+returns-6 c = sym (ap asCharacter (at-byte (character _) _ _ (c .before .before .before .before .before .if1 .left) refl ∙ at-plain _ _ _ (c .before .before .before .if2 .left) (c .before .before .if3 .left) (c .before .if4 .left) (c .if5 .left)))
+
+pub character-at-spec : {M : Type 1} → statement M
+character-at-spec =
+    tie.close
+    (tie.spec
+    returns
+    shared-slice-read-c
+    returns-2
+    add-escape
+    escape-requires
+    returns-3
+    returns-4
+    returns-5
+    returns-6)

@@ -1,0 +1,55 @@
+use Prim.Native.Nat.{_≤_, _+_, _-_}
+use mathlib.Core.Path.{_≡_}
+use native.Mathlib.Omega.{arith}
+use lib.ListN.{length}
+use mathlib.Core.Logic.{⊎-elim}
+use borrow.Author.Needs.{needs}
+use Rattle.text.specs.Line.{lineOf}
+use Rattle.text.proofs.Lines.{between, between-all, between-none, between-past, between-newline, between-other}
+use Rattle.text.proofs.line_of.Statement.{statement}
+use Rattle.text.proofs.line_of.Tie as tie
+
+abbrev Inv-loop : tie.InvT-loop
+Inv-loop text place line₀ i₀ line i = (i ≤ length text) × (i ≤ place) × (1 ≤ line) × (line + between text place i ≡ lineOf text place) × (line ≤ i + 1)
+
+abbrev μ-loop : tie.MeasureT-loop
+μ-loop text place line₀ i₀ line i = length text - i
+
+loop-holds : tie.Need-loop-holds Inv-loop μ-loop
+loop-holds c = omega (arith, between-all (c .args .text .now) (c .args .place))
+
+returns : tie.Need-returns Inv-loop μ-loop
+returns c = omega (arith, between-none (c .before .before .before .args .text .now) (c .before .before .before .args .place) (c .before .before .loop .i) (c .if1 .taken))
+
+shared-slice-read-if2 : tie.Need-shared-slice-read-if2 Inv-loop μ-loop
+shared-slice-read-if2 c = search needs
+
+add-line : tie.Need-add-line Inv-loop μ-loop
+add-line c = omega arith
+
+add-i : tie.Need-add-i Inv-loop μ-loop
+add-i c = omega arith
+
+loop-less : tie.Need-loop-less Inv-loop μ-loop
+loop-less c = omega arith
+
+loop-again : tie.Need-loop-again Inv-loop μ-loop
+loop-again c = ⊎-elim (λ w. omega (arith, between-newline (c .before .before .before .before .before .args .text .now) (c .before .before .before .before .before .args .place) (c .before .before .before .before .loop .i) (omega arith) (omega arith) (w .0 .taken))) (λ w. omega (arith, between-other (c .before .before .before .before .before .args .text .now) (c .before .before .before .before .before .args .place) (c .before .before .before .before .loop .i) (omega arith) (omega arith) (w .0 .left))) (c .if2 .came)
+
+returns-2 : tie.Need-returns-2 Inv-loop μ-loop
+returns-2 c = omega (arith, between-past (c .before .before .args .text .now) (c .before .before .args .place) (c .before .loop .i) (omega arith))
+
+pub line-of-spec : {M : Type 1} → statement M
+line-of-spec =
+    tie.close
+    (tie.spec
+    Inv-loop
+    μ-loop
+    loop-holds
+    returns
+    shared-slice-read-if2
+    add-line
+    add-i
+    loop-less
+    loop-again
+    returns-2)
