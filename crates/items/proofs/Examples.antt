@@ -8,6 +8,7 @@ use Rattle.items.specs.Item.{number, address, none, P, Item, Placed, lab
 use Rattle.items.specs.Reader.{got, nothing, head, byte, optional, digits, digitCount, decimal}
 use Rattle.items.specs.Read.{ended, quotedCharacter, quotedString, negative, quotation, labelled, positive, operand, base, labelItem, instructionItem, constantItem, stringItem, globalItem, functionOf, item}
 use Rattle.items.specs.Scan.{gaps, whole, unreadable, Scan, mark, trailing, body, scan}
+use Rattle.items.specs.Next.{one, over, elementAt, nextIn, from, not as unbegun, startIn}
 
 abbrev at : ℕ → Item → Placed
 at p i = record { place = p; item = i }
@@ -97,8 +98,16 @@ Texts = map scan (
     stops 0 [] ∷
     read (at 2 (label 1) ∷ at 4 (instruction 7 false none (number false 22)) ∷ []) ∷ []
 
+-- the same text `$ 12: LIP2 Z` one item at a time, from past $, and from past the end
+abbrev Steps : Type 0
+Steps = map (nextIn (36 ∷ 32 ∷ 49 ∷ 50 ∷ 58 ∷ 32 ∷ 76 ∷ 73 ∷ 80 ∷ 50 ∷ 32 ∷ 90 ∷ [])) (1 ∷ 5 ∷ 10 ∷ 99 ∷ [])
+    ≡ one 2 (label 12) 5 ∷ one 6 (instruction 0 true P (number false 2)) 10 ∷ over whole ∷ over (unreadable 99) ∷ []
+
+abbrev Starts : Type 0
+Starts = map startIn ((47 ∷ 10 ∷ 32 ∷ 36 ∷ 10 ∷ []) ∷ (32 ∷ 68 ∷ 49 ∷ []) ∷ []) ≡ from 4 ∷ unbegun 1 ∷ []
+
 -- ----
 
-examples : Readable × Unreadable × Capped × Texts
-unfolding quoted character escape head byte optional digits digitCount decimal ended quotedCharacter quotedString negative quotation labelled positive operand base labelItem instructionItem constantItem stringItem globalItem functionOf item gaps mark trailing body scan
-examples = (refl, refl, refl, refl)
+examples : Readable × Unreadable × Capped × Texts × Steps × Starts
+unfolding quoted character escape head byte optional digits digitCount decimal ended quotedCharacter quotedString negative quotation labelled positive operand base labelItem instructionItem constantItem stringItem globalItem functionOf item gaps mark trailing body scan elementAt nextIn startIn
+examples = (refl, refl, refl, refl, refl, refl)

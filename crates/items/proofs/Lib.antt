@@ -8,3 +8,4 @@ pub mod Sound
 pub mod Scans
 pub mod Examples
 pub mod Rendered
+pub mod Answers

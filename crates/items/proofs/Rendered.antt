@@ -1,4 +1,4 @@
--- What is rendered is read back: an item alone, and a whole text.
+-- What is rendered is read back: an item alone, and a whole text. Every item that is read (`Sound`) can be rendered.
 use Prim.Native.Nat.{ℕ, zero, suc, _+_, _-_, _*_, _/_, _%_, _<_, _≤_}
 use mathlib.Core.Path.{_≡_, refl, sym, ap, _∙_}
 use mathlib.Core.Bool.{Bool, true, false, cond}
@@ -10,16 +10,17 @@ use lib.ListN.{length, drop, length-append}
 use lib.Seq.{drop-drop, drop-append-seam, drop-append-add}
 use borrow.Author.Tests.{ltb-true, ltb-false, leb-true, eqb-true, eqb-false, ne-eqb, le-leb}
 use Rattle.text.specs.Quoted.{is, character, escape, closed, quoted}
-use Rattle.text.proofs.Quotes.{at-quote, at-plain, quoted-next, quoted-end}
+use Rattle.text.specs.Values.{writable}
+use Rattle.text.proofs.Quotes.{Writable, at-quote, at-plain, quoted-next, quoted-end}
 use Rattle.items.specs.Item.{capped, Operand, number, address, Base, none, P, G, Item, Placed, label, instruction, constant, string, global}
 use Rattle.items.specs.Reader.{got, wide, head, byte, optional, isDigit, digits, digitCount, decimal}
 use Rattle.items.specs.Read.{ended, quotedString, negative, labelled, positive, operand, base, labelItem, instructionItem, constantItem, stringItem, globalItem, functionOf, item}
 use Rattle.items.specs.Scan.{gaps, whole, goesOn, mark, trailing, body, scan}
 use Rattle.items.specs.Next.{one, elementAt}
-use Rattle.items.specs.Render.{numeral, numeralOf, operandText, baseText, indirectText, letter, characterText, writable, charactersText, render, renderLines, renderAll}
+use Rattle.items.specs.Render.{numeral, numeralOf, operandText, baseText, indirectText, letter, characterText, charactersText, render, renderLines, renderAll}
 use Rattle.items.proofs.Decimals.{digit-bounds}
 use Rattle.items.proofs.Scans.{onNext, body-element}
-use Rattle.items.proofs.Sound.{SoundOperand, SoundInstruction, SoundGlobal}
+use Rattle.items.proofs.Sound.{SoundOperand, SoundString, SoundInstruction, SoundGlobal, Sound}
 
 -- ---- numerals
 
@@ -163,10 +164,6 @@ character-text c rest w =
     plain : (c ≡ 34 → ⊥) → (c ≡ 42 → ⊥) → (32 ≤ c) × (c ≤ 126) → Shows rest c (c ∷ [])
     plain n34 n42 b = record { shows = at-plain 34 c rest n34 n42 (b .0) (b .1) }
 
-abbrev pub Writable : List ℕ → Type 0
-Writable [] = Unit {0}
-Writable (c ∷ cs) = (writable c ≡ true) × Writable cs
-
 characters-text : (cs rest : List ℕ) → Writable cs → quoted 34 0 (charactersText cs ++ (34 ∷ rest)) ≡ closed cs (length (charactersText cs) + 1)
 unfolding charactersText
 characters-text [] rest w = quoted-end 34 (34 ∷ rest) (at-quote 34 34 rest refl)
@@ -176,18 +173,6 @@ characters-text (c ∷ cs) rest w =
     (ap (closed (c ∷ cs)) (omega arith))
 
 -- ---- items
-
-pub record PrintsString (characters : List ℕ) : Type 0 where
-  pub short : length characters ≤ 255
-  pub writable : Writable characters
-
--- the items that print: those that can be read
-abbrev pub Prints : Item → Type 0
-Prints (label n) = n ≤ 65536
-Prints (instruction f i b x) = SoundInstruction f x
-Prints (constant x) = SoundOperand x
-Prints (string cs) = PrintsString cs
-Prints (global n m) = SoundGlobal n m
 
 module _ (rest : List ℕ) where
   label-text : (n : ℕ) → n ≤ 65536 → item (render (label n) ++ (10 ∷ rest)) ≡ got (label n) (length (render (label n)))
@@ -206,10 +191,10 @@ module _ (rest : List ℕ) where
       rw (append-assoc, decimal-text n (76 ∷ (numeralOf m ++ (10 ∷ rest))) (h .first) refl, drop-append-seam (numeralOf n) (76 ∷ (numeralOf m ++ (10 ∷ rest))), decimal-text m (10 ∷ rest) (h .second) refl, drop-append-seam (numeralOf m) (10 ∷ rest), length-append (numeralOf n) (76 ∷ numeralOf m))
       (ap (got (global n m)) (omega arith))
 
-  string-text : (cs : List ℕ) → PrintsString cs → item (render (string cs) ++ (10 ∷ rest)) ≡ got (string cs) (length (render (string cs)))
+  string-text : (cs : List ℕ) → SoundString cs → item (render (string cs) ++ (10 ∷ rest)) ≡ got (string cs) (length (render (string cs)))
   unfolding render item stringItem quotedString ended byte head
   string-text cs h =
-      rw (append-assoc, characters-text cs (10 ∷ rest) (h .writable), le-leb _ _ (h .short), drop-append-add (charactersText cs) (34 ∷ 10 ∷ rest) 1, length-append (charactersText cs) (34 ∷ []))
+      rw (append-assoc, characters-text cs (10 ∷ rest) (h .each), le-leb _ _ (h .short), drop-append-add (charactersText cs) (34 ∷ 10 ∷ rest) 1, length-append (charactersText cs) (34 ∷ []))
       (ap (got (string cs)) (omega arith))
 
 -- a function's letter, from A to X, begins its instruction
@@ -251,7 +236,7 @@ instruction-text rest f i b x h =
     begins : (c : ℕ) → (c ≡ 45 → ⊥) → (c ≡ 76 → ⊥) → isDigit c ≡ false → head (operandText x ++ (10 ∷ rest)) ≡ c → ⊥
     begins c m l d = operand-begins (10 ∷ rest) refl c m l d x (h .sound)
 
-pub rendered-item : (i : Item) (rest : List ℕ) → Prints i → item (render i ++ (10 ∷ rest)) ≡ got i (length (render i))
+pub rendered-item : (i : Item) (rest : List ℕ) → Sound i → item (render i ++ (10 ∷ rest)) ≡ got i (length (render i))
 rendered-item (label n) rest h = label-text rest n h
 rendered-item (instruction f i b x) rest h = instruction-text rest f i b x h
 rendered-item (constant x) rest h = constant-text rest x h
@@ -278,7 +263,7 @@ unfolding head
 digit-begins [] e = absurd (let z : _≡_ {A = ℕ} 0 1 = cc in omega arith)
 digit-begins (c ∷ r) e = let b : (48 ≤ c) × (c ≤ 57) = digit-bounds c e in begins-with c r (b .0) (omega arith)
 
-item-begins : (i : Item) (rest : List ℕ) → Prints i → Begins (render i ++ rest)
+item-begins : (i : Item) (rest : List ℕ) → Sound i → Begins (render i ++ rest)
 unfolding render
 item-begins (label n) rest h = rw append-assoc (digit-begins _ (numeral-of n h .first (58 ∷ rest)))
 item-begins (instruction f i b x) rest h =
@@ -288,9 +273,9 @@ item-begins (constant x) rest h = begins-with 68 _ (omega arith) (omega arith)
 item-begins (string cs) rest h = begins-with 67 _ (omega arith) (omega arith)
 item-begins (global n m) rest h = begins-with 71 _ (omega arith) (omega arith)
 
-abbrev pub AllPrint : List Item → Type 0
-AllPrint [] = Unit {0}
-AllPrint (i ∷ items) = Prints i × AllPrint items
+abbrev pub AllSound : List Item → Type 0
+AllSound [] = Unit {0}
+AllSound (i ∷ items) = Sound i × AllSound items
 
 -- the items of a rendered text at their places
 unfoldable pub places : ℕ → List Item → List Placed
@@ -305,12 +290,12 @@ last-line : (p : ℕ) → body 0 p (10 ∷ 90 ∷ 10 ∷ []) ≡ record { items 
 unfolding body gaps mark byte ended trailing head
 last-line p = refl
 
-item-element : (p : ℕ) (i : Item) (rest : List ℕ) → Prints i → elementAt p (render i ++ (10 ∷ rest)) ≡ one p i (p + length (render i))
+item-element : (p : ℕ) (i : Item) (rest : List ℕ) → Sound i → elementAt p (render i ++ (10 ∷ rest)) ≡ one p i (p + length (render i))
 unfolding elementAt
 item-element p i rest h = rw (ne-eqb _ 90 (item-begins i (10 ∷ rest) h .no-end), rendered-item i rest h)
 
 -- from the newline before a line on
-body-lines : (text : List ℕ) (items : List Item) (p : ℕ) → drop p text ≡ 10 ∷ renderLines items → AllPrint items → body 0 p (drop p text) ≡ record { items = places (p + 1) items; ending = whole }
+body-lines : (text : List ℕ) (items : List Item) (p : ℕ) → drop p text ≡ 10 ∷ renderLines items → AllSound items → body 0 p (drop p text) ≡ record { items = places (p + 1) items; ending = whole }
 unfolding renderLines places
 body-lines text [] p e h = rw e (last-line p)
 body-lines text (i ∷ items) p e h =
@@ -334,7 +319,7 @@ body-lines text (i ∷ items) p e h =
     element : elementAt (p + 1) line ≡ one (p + 1) i (p + 1 + length (render i))
     element = item-element (p + 1) i (renderLines items) (h .0)
 
-pub rendered : (items : List Item) → AllPrint items → scan (renderAll items) ≡ record { items = places 2 items; ending = whole }
+pub rendered : (items : List Item) → AllSound items → scan (renderAll items) ≡ record { items = places 2 items; ending = whole }
 unfolding scan renderAll gaps mark byte ended head
 rendered items h = body-lines (36 ∷ 10 ∷ renderLines items) items 1 refl h
 
@@ -362,9 +347,9 @@ sample-text : renderAll sample ≡
 unfolding sample numeral numeralOf operandText baseText indirectText letter characterText charactersText render renderLines renderAll
 sample-text = refl
 
-sample-prints : AllPrint sample
+sample-sound : AllSound sample
 unfolding sample writable
-sample-prints = (
+sample-sound = (
   omega arith,
   (
     record { eight = omega arith; sound = omega arith },
@@ -373,7 +358,7 @@ sample-prints = (
       (
         omega arith,
         (
-          record { short = omega arith; writable = (refl, (refl, (refl, (refl, tt)))) },
+          record { short = omega arith; each = (refl, (refl, (refl, (refl, tt)))) },
           (record { first = omega arith; second = omega arith }, tt),
         ),
       ),
@@ -382,4 +367,4 @@ sample-prints = (
 )
 
 sample-read : scan (renderAll sample) ≡ record { items = places 2 sample; ending = whole }
-sample-read = rendered sample sample-prints
+sample-read = rendered sample sample-sound

@@ -6,11 +6,11 @@ use mathlib.Core.Bool.{Bool, true, false, cond}
 use mathlib.Core.List.{List, [], _∷_}
 use native.Mathlib.Omega.{arith}
 use lib.Dec.{eqb, leb, ltb}
-use lib.ListN.{length, getD, drop, length-drop}
+use lib.ListN.{length, drop, length-drop}
 use lib.Seq.{drop-drop}
 use borrow.Author.Tests.{eqb-true, ltb-true, leb-true}
 use Rattle.text.specs.Quoted.{Quoted, closed, faulty, quoted}
-use Rattle.text.proofs.Quotes.{Closed, is-closed}
+use Rattle.text.proofs.Quotes.{Writable, ascii, Closed, is-closed}
 use Rattle.items.specs.Item.{capped, Operand, number, address, Item, label, instruction, constant, string, global}
 use Rattle.items.specs.Reader.{Got, got, nothing, wide, onGot, head, byte, optional, isDigit, digits, digitCount, decimal}
 use Rattle.items.specs.Read.{ended, asCharacter, quotedCharacter, asString, quotedString, negative, quotation, labelled, positive, operand, base, labelItem, instructionItem, constantItem, stringItem, globalItem, functionOf, past, item}
@@ -25,7 +25,7 @@ SoundOperand (address n) = n ≤ 65536
 
 pub record SoundString (characters : List ℕ) : Type 0 where
   pub short : length characters ≤ 255
-  pub ascii : (k : ℕ) → getD characters k 0 ≤ 126
+  pub each : Writable characters
 
 pub record SoundInstruction (function : ℕ) (x : Operand) : Type 0 where
   pub eight : function < 8
@@ -159,7 +159,7 @@ character-meets bytes = by (quoted 39 0 bytes) refl
     by (closed [] w) e = fails
     by (closed (c ∷ []) w) e =
         let k : Closed 0 (length bytes) (c ∷ []) w = is-closed 39 0 bytes e in
-        gives (omega (arith, k .ascii 0)) (omega arith) (omega arith)
+        gives (omega (arith, ascii (c ∷ []) (k .each) 0)) (omega arith) (omega arith)
     by (closed (c ∷ d ∷ cs) w) e = fails
     by faulty e = fails
 
@@ -251,7 +251,7 @@ characters-meet c d bytes = by (quoted 34 0 bytes) refl
     by (closed cs w) e =
         let k : Closed 0 (length bytes) cs w = is-closed 34 0 bytes e in
         either (leb (length cs) 255)
-        (λ l. gives (record { sound = record { short = leb-true (length cs) 255 l; ascii = k .ascii }; quotes = record { width = w; reading = e } }) (omega arith) (omega arith))
+        (λ l. gives (record { sound = record { short = leb-true (length cs) 255 l; each = k .each }; quotes = record { width = w; reading = e } }) (omega arith) (omega arith))
         fails
 
 string-meets : (c : ℕ) (bytes : List ℕ) → Meets (length bytes) 2 (Stands (c ∷ bytes)) (stringItem bytes)

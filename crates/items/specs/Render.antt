@@ -3,7 +3,7 @@ use Prim.Native.Nat.{ℕ, zero, suc, _+_, _/_, _%_}
 use mathlib.Core.Bool.{Bool, true, false, cond}
 use mathlib.Core.List.{List, [], _∷_, _++_}
 use lib.ListN.{getD}
-use lib.Dec.{eqb, leb, ltb}
+use lib.Dec.{eqb, ltb}
 use Rattle.items.specs.Item.{Operand, number, address, Base, none, P, G, Item, label, instruction, constant, string, global}
 
 -- the last digit after those of n / 10; fuel above n is enough
@@ -32,7 +32,7 @@ indirectText false = []
 unfoldable pub letter : ℕ → ℕ
 letter f = getD (76 ∷ 83 ∷ 65 ∷ 74 ∷ 84 ∷ 70 ∷ 75 ∷ 88 ∷ []) f 0
 
--- a character of a string: by its escape if it has none but that
+-- a character of a string, by its escape where it needs one
 unfoldable pub characterText : ℕ → List ℕ
 characterText c =
     cond (eqb c 10) (42 ∷ 78 ∷ [])
@@ -43,12 +43,6 @@ characterText c =
     (cond (eqb c 42) (42 ∷ 42 ∷ [])
     (cond (eqb c 34) (42 ∷ 34 ∷ [])
     (c ∷ [])))))))
-
--- whether a character can be written
-unfoldable pub writable : ℕ → Bool
-writable c =
-    cond (leb 32 c) (leb c 126)
-    (cond (eqb c 8) true (cond (eqb c 9) true (cond (eqb c 10) true (cond (eqb c 12) true (eqb c 13)))))
 
 unfoldable pub charactersText : List ℕ → List ℕ
 charactersText [] = []

@@ -5,9 +5,10 @@ use mathlib.Core.Bool.{Bool, true, false, cond}
 use mathlib.Core.List.{List, [], _∷_}
 use native.Mathlib.Omega.{arith}
 use lib.ListN.{length, getD, drop, length-drop}
-use lib.Dec.{T, eqb, leb, leb→le}
-use borrow.Author.Tests.{eq-eqb, ne-eqb, le-leb, lt-leb, leb-true}
+use lib.Dec.{eqb, leb}
+use borrow.Author.Tests.{eq-eqb, ne-eqb, le-leb, lt-leb, leb-true, leb-false}
 use Rattle.text.proofs.Bytes.{Unlike}
+use Rattle.text.specs.Values.{writable}
 use Rattle.text.specs.Quoted.{Character, is, closing, bad, escape, character, Quoted, closed, faulty, wider, after, onCharacter, quoted}
 
 -- ---- the character at the head, by the head
@@ -58,7 +59,25 @@ no-escape c r h =
 pub record Written (n value width : ℕ) : Type 0 where
   pub some : 1 ≤ width
   pub within : width ≤ n
-  pub ascii : value ≤ 126
+  pub one : writable value ≡ true
+
+-- each of some characters can be written
+abbrev pub Writable : List ℕ → Type 0
+Writable [] = Unit {0}
+Writable (c ∷ cs) = (writable c ≡ true) × Writable cs
+
+writable-ascii : (c : ℕ) → writable c ≡ true → c ≤ 126
+unfolding writable
+writable-ascii c = by (leb 32 c) refl
+  where
+    by : (t : Bool) → leb 32 c ≡ t → cond t (leb c 126) (cond (eqb c 8) true (cond (eqb c 9) true (cond (eqb c 10) true (cond (eqb c 12) true (eqb c 13))))) ≡ true → c ≤ 126
+    by true l h = leb-true c 126 h
+    by false l h = omega (arith, leb-false 32 c l)
+
+pub ascii : (characters : List ℕ) → Writable characters → (k : ℕ) → getD characters k 0 ≤ 126
+ascii [] w k = omega arith
+ascii (c ∷ cs) w zero = writable-ascii c (w .0)
+ascii (c ∷ cs) w (suc k) = ascii cs (w .1) k
 
 abbrev pub IfIs : ℕ → Character → Type 0
 IfIs n (is v w) = Written n v w
@@ -74,22 +93,22 @@ either true p q = p refl
 either false p q = q
 
 escape-written : (bytes : List ℕ) → Fits (suc (length bytes)) (escape bytes)
-unfolding escape
+unfolding escape writable
 escape-written [] = record { fits = tt }
 escape-written (c ∷ r) =
-    one 78 10 tt (one 83 32 tt (one 84 9 tt (one 66 8 tt (one 80 12 tt (one 67 13 tt (one 42 42 tt (one 39 39 tt (one 34 34 tt (record { fits = tt })))))))))
+    one 78 10 refl (one 83 32 refl (one 84 9 refl (one 66 8 refl (one 80 12 refl (one 67 13 refl (one 42 42 refl (one 39 39 refl (one 34 34 refl (record { fits = tt })))))))))
   where
-    one : (k v : ℕ) {other : Character} → T (leb v 126) → Fits (suc (suc (length r))) other → Fits (suc (suc (length r))) (cond (eqb c k) (is v 2) other)
-    one k v small p = either (eqb c k) (λ _. record { fits = record { some = omega arith; within = omega arith; ascii = leb→le v 126 small } }) p
+    one : (k v : ℕ) {other : Character} → writable v ≡ true → Fits (suc (suc (length r))) other → Fits (suc (suc (length r))) (cond (eqb c k) (is v 2) other)
+    one k v w p = either (eqb c k) (λ _. record { fits = record { some = omega arith; within = omega arith; one = w } }) p
 
 character-written : (quote : ℕ) (bytes : List ℕ) → Fits (length bytes) (character quote bytes)
-unfolding character
+unfolding character writable
 character-written quote [] = record { fits = tt }
 character-written quote (c ∷ r) =
     either (eqb c quote) (λ _. record { fits = tt })
     (either (eqb c 42) (λ _. escape-written r)
     (either (leb 32 c)
-    (λ _. either (leb c 126) (λ h. record { fits = record { some = omega arith; within = omega arith; ascii = leb-true c 126 h } }) (record { fits = tt }))
+    (λ l. either (leb c 126) (λ h. record { fits = record { some = omega arith; within = omega arith; one = rw (l, h) } }) (record { fits = tt }))
     (record { fits = tt })))
 
 pub is-written : (quote : ℕ) (bytes : List ℕ) {v w : ℕ} → character quote bytes ≡ is v w → Written (length bytes) v w
@@ -167,23 +186,19 @@ pub record Closed (k n : ℕ) (characters : List ℕ) (width : ℕ) : Type 0 whe
   -- the quote, and at least a byte for each character
   pub enough : k + 1 + length characters ≤ width
   pub within : width ≤ n
-  pub ascii : (i : ℕ) → getD characters i 0 ≤ 126
+  pub each : Writable characters
 
 abbrev IfClosed : (k n : ℕ) → Quoted → Type 0
 IfClosed k n (closed cs w) = Closed k n cs w
 IfClosed k n faulty = Unit {0}
 
 wider-closed : (k n : ℕ) (q : Quoted) → IfClosed k n q → IfClosed (suc k) (suc n) (wider q)
-wider-closed k n (closed cs w) h = record { enough = omega arith; within = omega arith; ascii = h .ascii }
+wider-closed k n (closed cs w) h = record { enough = omega arith; within = omega arith; each = h .each }
 wider-closed k n faulty h = tt
 
-after-closed : (v k n : ℕ) (q : Quoted) → v ≤ 126 → IfClosed k n q → IfClosed 0 (suc n) (after v q)
-after-closed v k n (closed cs w) small h = record { enough = omega arith; within = omega arith; ascii = each }
-  where
-    each : (i : ℕ) → getD (v ∷ cs) i 0 ≤ 126
-    each zero = small
-    each (suc i) = h .ascii i
-after-closed v k n faulty small h = tt
+after-closed : (v k n : ℕ) (q : Quoted) → writable v ≡ true → IfClosed k n q → IfClosed 0 (suc n) (after v q)
+after-closed v k n (closed cs w) one h = record { enough = omega arith; within = omega arith; each = (one, h .each) }
+after-closed v k n faulty one h = tt
 
 quoted-each : (quote k : ℕ) (bytes : List ℕ) → IfClosed k (length bytes) (quoted quote k bytes)
 unfolding quoted
@@ -192,8 +207,8 @@ quoted-each quote (suc k) (c ∷ r) = wider-closed k (length r) (quoted quote k 
 quoted-each quote zero (c ∷ r) = by (character quote (c ∷ r)) (character-written quote (c ∷ r)) (λ k. quoted-each quote k r)
   where
     by : (ch : Character) → Fits (suc (length r)) ch → ((k : ℕ) → IfClosed k (length r) (quoted quote k r)) → IfClosed 0 (suc (length r)) (onCharacter ch (λ k. quoted quote k r))
-    by (is v w) f more = after-closed v (w - 1) (length r) (quoted quote (w - 1) r) (f .fits .ascii) (more (w - 1))
-    by closing f more = record { enough = omega arith; within = omega arith; ascii = λ i. omega arith }
+    by (is v w) f more = after-closed v (w - 1) (length r) (quoted quote (w - 1) r) (f .fits .one) (more (w - 1))
+    by closing f more = record { enough = omega arith; within = omega arith; each = tt }
     by bad f more = tt
 
 pub is-closed : (quote k : ℕ) (bytes : List ℕ) {cs : List ℕ} {w : ℕ} → quoted quote k bytes ≡ closed cs w → Closed k (length bytes) cs w

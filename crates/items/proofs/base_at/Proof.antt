@@ -13,21 +13,36 @@ byte-at-requires : tie.Need-byte-at-requires
 byte-at-requires c κs = search needs
 
 add-t6 : tie.Need-add-t6
-add-t6 c = omega (arith, inside (c .before .before .before .args .text .now) (c .before .before .before .args .at) (sym (c .before .byte-at .ensures) ∙ c .match .keys1) (omega arith))
+add-t6 c =
+    let text = c .before .before .before .args .text .now in
+    let at = c .before .before .before .args .at in
+    omega (arith, inside text at (sym (c .before .byte-at .ensures) ∙ c .match .keys1) (omega arith))
 
 add-t8 : tie.Need-add-t8
-add-t8 c = omega (arith, inside (c .before .before .before .args .text .now) (c .before .before .before .args .at) (sym (c .before .byte-at .ensures) ∙ c .match .keys2) (omega arith))
+add-t8 c =
+    let text = c .before .before .before .args .text .now in
+    let at = c .before .before .before .args .at in
+    omega (arith, inside text at (sym (c .before .byte-at .ensures) ∙ c .match .keys2) (omega arith))
 
 returns : tie.Need-returns
 unfolding asBased asBase
-returns c = sym (ap (asBased (c .before .before .before .args .at)) (base-p (drop (c .before .before .before .args .at) (c .before .before .before .args .text .now)) (c .before .byte-at .ensures) (c .match .keys1)))
+returns c =
+    let text = c .before .before .before .args .text .now in
+    let at = c .before .before .before .args .at in
+    sym (ap (asBased at) (base-p (drop at text) (c .before .byte-at .ensures) (c .match .keys1)))
 
 returns-2 : tie.Need-returns-2
 unfolding asBased asBase
-returns-2 c = sym (ap (asBased (c .before .before .before .args .at)) (base-g (drop (c .before .before .before .args .at) (c .before .before .before .args .text .now)) (c .before .byte-at .ensures) (c .match .keys2)))
+returns-2 c =
+    let text = c .before .before .before .args .text .now in
+    let at = c .before .before .before .args .at in
+    sym (ap (asBased at) (base-g (drop at text) (c .before .byte-at .ensures) (c .match .keys2)))
 
 returns-3 : tie.Need-returns-3
-returns-3 c = based-none (c .before .before .before .args .at) (drop (c .before .before .before .args .at) (c .before .before .before .args .text .now)) (base-none (drop (c .before .before .before .args .at) (c .before .before .before .args .text .now)) (c .before .byte-at .ensures) (c .match .rest))
+returns-3 c =
+    let text = c .before .before .before .args .text .now in
+    let at = c .before .before .before .args .at in
+    based-none at (drop at text) (base-none (drop at text) (c .before .byte-at .ensures) (c .match .rest))
 
 pub base-at-spec : {M : Type 1} → statement M
 base-at-spec = tie.close (tie.spec byte-at-requires add-t6 add-t8 returns returns-2 returns-3)

@@ -27,31 +27,70 @@ enum-known-c : tie.Need-enum-known-c Inv-loop μ-loop
 enum-known-c c = search needs
 
 add-n : tie.Need-add-n Inv-loop μ-loop
-add-n c = omega (arith, is-inside 34 (c .before .before .before .before .before .before .args .text .now) (c .before .before .before .before .loop .i) (when-is _ (c .before .before .before .character-at .ensures) (c .before .c .given .1)))
+add-n c =
+    let text = c .before .before .before .before .before .before .args .text .now in
+    omega (
+      arith,
+      is-inside 34 text (c .before .before .before .before .loop .i)
+          (when-is _ (c .before .before .before .character-at .ensures) (c .before .c .given .1)),
+    )
 
 add-i : tie.Need-add-i Inv-loop μ-loop
-add-i c = omega (arith, is-inside 34 (c .before .before .before .before .before .before .args .text .now) (c .before .before .before .before .loop .i) (when-is _ (c .before .before .before .character-at .ensures) (c .before .c .given .1)))
+add-i c =
+    let text = c .before .before .before .before .before .before .args .text .now in
+    omega (
+      arith,
+      is-inside 34 text (c .before .before .before .before .loop .i)
+          (when-is _ (c .before .before .before .character-at .ensures) (c .before .c .given .1)),
+    )
 
 loop-less : tie.Need-loop-less Inv-loop μ-loop
-loop-less c = omega (arith, is-inside 34 (c .before .before .before .before .before .before .args .text .now) (c .before .before .before .before .loop .i) (when-is _ (c .before .before .before .character-at .ensures) (c .before .c .given .1)))
+loop-less c =
+    let text = c .before .before .before .before .before .before .args .text .now in
+    omega (
+      arith,
+      is-inside 34 text (c .before .before .before .before .loop .i)
+          (when-is _ (c .before .before .before .character-at .ensures) (c .before .c .given .1)),
+    )
 
 loop-again : tie.Need-loop-again Inv-loop μ-loop
-loop-again c = (omega (arith, is-inside 34 (c .before .before .before .before .before .before .args .text .now) (c .before .before .before .before .loop .i) (when-is _ (c .before .before .before .character-at .ensures) (c .before .c .given .1))), c .before .before .before .before .loop .inv .1 ∙ characters-more (c .before .before .before .before .before .before .args .text .now) (c .before .before .before .before .loop .i) (c .before .before .before .before .loop .n) (when-is _ (c .before .before .before .character-at .ensures) (c .before .c .given .1)))
+loop-again c =
+    let text = c .before .before .before .before .before .before .args .text .now in (
+      omega (
+        arith,
+        is-inside 34 text (c .before .before .before .before .loop .i)
+            (when-is _ (c .before .before .before .character-at .ensures) (c .before .c .given .1)),
+      ),
+      c .before .before .before .before .loop .inv .1 ∙
+          characters-more text (c .before .before .before .before .loop .i) (c .before .before .before .before .loop .n)
+          (when-is _ (c .before .before .before .character-at .ensures) (c .before .c .given .1)),
+    )
 
 enum-told : tie.Need-enum-told Inv-loop μ-loop
 enum-told c = search needs
 
 add-t7 : tie.Need-add-t7 Inv-loop μ-loop
-add-t7 c = omega (arith, closing-inside 34 (c .before .before .before .before .before .args .text .now) (c .before .before .before .loop .i) (when-closing _ (c .before .before .character-at .ensures) (c .enum-told .given .1)))
+add-t7 c =
+    let text = c .before .before .before .before .before .args .text .now in
+    omega
+    (arith, closing-inside 34 text (c .before .before .before .loop .i) (when-closing _ (c .before .before .character-at .ensures) (c .enum-told .given .1)))
 
 returns : tie.Need-returns Inv-loop μ-loop
-returns c = characters-end (c .before .before .before .before .before .args .text .now) (c .before .before .before .loop .i) (c .before .before .before .loop .n) (when-closing _ (c .before .before .character-at .ensures) (c .enum-told .given .1)) ∙ sym (c .before .before .before .loop .inv .1)
+returns c =
+    let text = c .before .before .before .before .before .args .text .now in
+    characters-end text (c .before .before .before .loop .i) (c .before .before .before .loop .n)
+    (when-closing _ (c .before .before .character-at .ensures) (c .enum-told .given .1)) ∙
+    sym (c .before .before .before .loop .inv .1)
 
 enum-told-2 : tie.Need-enum-told-2 Inv-loop μ-loop
 enum-told-2 c = search needs
 
 returns-2 : tie.Need-returns-2 Inv-loop μ-loop
-returns-2 c = characters-bad (c .before .before .before .before .before .args .text .now) (c .before .before .before .loop .i) (c .before .before .before .loop .n) (when-bad _ (c .before .before .character-at .ensures) (c .enum-told2 .given .1)) ∙ sym (c .before .before .before .loop .inv .1)
+returns-2 c =
+    let text = c .before .before .before .before .before .args .text .now in
+    characters-bad text (c .before .before .before .loop .i) (c .before .before .before .loop .n)
+    (when-bad _ (c .before .before .character-at .ensures) (c .enum-told2 .given .1)) ∙
+    sym (c .before .before .before .loop .inv .1)
 
 pub characters-at-spec : {M : Type 1} → statement M
 characters-at-spec =

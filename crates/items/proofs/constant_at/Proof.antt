@@ -16,16 +16,30 @@ ended-requires : tie.Need-ended-requires
 ended-requires c κs = search needs
 
 returns : tie.Need-returns
-returns c = a-constant (c .before .before .before .before .before .before .before .args .text .now) (c .before .before .before .before .before .before .before .args .at) (operand-reads (c .before .before .before .before .before .before .before .args .text .now) (c .before .before .before .before .before .before .before .args .at) (c .before .before .before .before .before .operand-at .ensures) (c .before .before .before .x .given .1)) (ended-reads (c .before .before .before .before .before .before .before .args .text .now) (c .before .before .before .x .given .0 .1 .0) (c .before .ended .ensures) (c .if1 .taken))
+returns c =
+    let text = c .before .before .before .before .before .before .before .args .text .now in
+    let at = c .before .before .before .before .before .before .before .args .at in
+    a-constant text at
+    (operand-reads text at (c .before .before .before .before .before .operand-at .ensures) (c .before .before .before .x .given .1))
+    (ended-reads text (c .before .before .before .x .given .0 .1 .0) (c .before .ended .ensures) (c .if1 .taken))
 
 enum-told : tie.Need-enum-told
 enum-told c = search needs
 
 returns-2 : tie.Need-returns-2
-returns-2 c = no-item constantItem (c .before .before .before .before .before .before .before .args .text .now) (c .before .before .before .before .before .before .before .args .at) (constant-open (c .before .before .before .before .before .before .before .args .text .now) (c .before .before .before .before .before .before .before .args .at) (operand-reads (c .before .before .before .before .before .before .before .args .text .now) (c .before .before .before .before .before .before .before .args .at) (c .before .before .before .before .before .operand-at .ensures) (c .before .before .before .x .given .1) .reads) (ended-fails (c .before .before .before .before .before .before .before .args .text .now) (c .before .before .before .x .given .0 .1 .0) (c .before .ended .ensures) (c .if1 .left)))
+returns-2 c =
+    let text = c .before .before .before .before .before .before .before .args .text .now in
+    let at = c .before .before .before .before .before .before .before .args .at in
+    no-item constantItem text at
+    (constant-open text at
+    (operand-reads text at (c .before .before .before .before .before .operand-at .ensures) (c .before .before .before .x .given .1) .reads)
+    (ended-fails text (c .before .before .before .x .given .0 .1 .0) (c .before .ended .ensures) (c .if1 .left)))
 
 returns-3 : tie.Need-returns-3
-returns-3 c = no-item constantItem (c .before .before .before .before .args .text .now) (c .before .before .before .before .args .at) (constant-none (c .before .before .before .before .args .text .now) (c .before .before .before .before .args .at) (operand-fails (c .before .before .before .before .args .text .now) (c .before .before .before .before .args .at) (c .before .before .operand-at .ensures) (c .enum-told .given .1)))
+returns-3 c =
+    let text = c .before .before .before .before .args .text .now in
+    let at = c .before .before .before .before .args .at in
+    no-item constantItem text at (constant-none text at (operand-fails text at (c .before .before .operand-at .ensures) (c .enum-told .given .1)))
 
 pub constant-at-spec : {M : Type 1} → statement M
 constant-at-spec =

@@ -22,7 +22,10 @@ is-digit-requires : tie.Need-is-digit-requires Inv-loop μ-loop
 is-digit-requires c κs = search needs
 
 returns : tie.Need-returns Inv-loop μ-loop
-returns c = no-decimal (c .before .before .before .before .args .text .now) (c .before .before .before .before .args .at) (c .before .before .byte-at .ensures) (sym (c .before .is-digit .ensures) ∙ not-true _ (c .if1 .taken))
+returns c =
+    let text = c .before .before .before .before .args .text .now in
+    let at = c .before .before .before .before .args .at in
+    no-decimal text at (c .before .before .byte-at .ensures) (sym (c .before .is-digit .ensures) ∙ not-true _ (c .if1 .taken))
 
 loop-holds : tie.Need-loop-holds Inv-loop μ-loop
 loop-holds c = search needs
@@ -34,7 +37,23 @@ is-digit-requires-2 : tie.Need-is-digit-requires-2 Inv-loop μ-loop
 is-digit-requires-2 c κs = search needs
 
 returns-2 : tie.Need-returns-2 Inv-loop μ-loop
-returns-2 c = a-decimal (c .before .before .before .before .before .before .before .before .before .args .text .now) (c .before .before .before .before .before .before .before .before .before .args .at) (c .before .before .before .before .before .before .before .byte-at .ensures) (sym (c .before .before .before .before .before .before .is-digit .ensures) ∙ not-false _ (c .before .before .before .before .before .if1 .left)) (sym (digits-stop (c .before .before .before .before .before .before .before .before .before .args .text .now) (c .before .before .before .before .loop .i) (c .before .before .before .before .loop .n) (omega arith) (c .before .before .byte-at2 .ensures) (sym (c .before .is-digit2 .ensures) ∙ not-true _ (c .if2 .taken)) .0) ∙ c .before .before .before .before .loop .inv .1) (omega (arith, digits-stop (c .before .before .before .before .before .before .before .before .before .args .text .now) (c .before .before .before .before .loop .i) (c .before .before .before .before .loop .n) (omega arith) (c .before .before .byte-at2 .ensures) (sym (c .before .is-digit2 .ensures) ∙ not-true _ (c .if2 .taken)) .1))
+returns-2 c =
+    let text = c .before .before .before .before .before .before .before .before .before .args .text .now in
+    let at = c .before .before .before .before .before .before .before .before .before .args .at in
+    a-decimal text at
+    (c .before .before .before .before .before .before .before .byte-at .ensures)
+    (sym (c .before .before .before .before .before .before .is-digit .ensures) ∙ not-false _ (c .before .before .before .before .before .if1 .left))
+    (sym
+    (digits-stop text (c .before .before .before .before .loop .i) (c .before .before .before .before .loop .n) (omega arith)
+    (c .before .before .byte-at2 .ensures)
+    (sym (c .before .is-digit2 .ensures) ∙ not-true _ (c .if2 .taken)) .0) ∙
+    c .before .before .before .before .loop .inv .1)
+    (omega (
+      arith,
+      digits-stop text (c .before .before .before .before .loop .i) (c .before .before .before .before .loop .n)
+          (omega arith) (c .before .before .byte-at2 .ensures)
+          (sym (c .before .is-digit2 .ensures) ∙ not-true _ (c .if2 .taken)) .1,
+    ))
 
 and-digit-requires : tie.Need-and-digit-requires Inv-loop μ-loop
 and-digit-requires c κs = digit-ready _ (omega arith) (sym (c .before .is-digit2 .ensures) ∙ not-false _ (c .if2 .left))
@@ -46,10 +65,31 @@ loop-less : tie.Need-loop-less Inv-loop μ-loop
 loop-less c = omega arith
 
 loop-again : tie.Need-loop-again Inv-loop μ-loop
-loop-again c = (omega (arith, c .and-digit .ensures), rw (c .and-digit .ensures) (sym (digits-more (c .before .before .before .before .before .before .before .before .before .before .args .text .now) (c .before .before .before .before .before .loop .i) (c .before .before .before .before .before .loop .n) (omega arith) (c .before .before .before .byte-at2 .ensures) (sym (c .before .before .is-digit2 .ensures) ∙ not-false _ (c .before .if2 .left)) .0) ∙ c .before .before .before .before .before .loop .inv .1), omega (arith, digits-more (c .before .before .before .before .before .before .before .before .before .before .args .text .now) (c .before .before .before .before .before .loop .i) (c .before .before .before .before .before .loop .n) (omega arith) (c .before .before .before .byte-at2 .ensures) (sym (c .before .before .is-digit2 .ensures) ∙ not-false _ (c .before .if2 .left)) .1))
+loop-again c =
+    let text = c .before .before .before .before .before .before .before .before .before .before .args .text .now in (
+      omega (arith, c .and-digit .ensures),
+      rw (c .and-digit .ensures)
+          (sym
+          (digits-more text (c .before .before .before .before .before .loop .i)
+          (c .before .before .before .before .before .loop .n) (omega arith) (c .before .before .before .byte-at2 .ensures)
+          (sym (c .before .before .is-digit2 .ensures) ∙ not-false _ (c .before .if2 .left)) .0) ∙
+          c .before .before .before .before .before .loop .inv .1),
+      omega (
+        arith,
+        digits-more text (c .before .before .before .before .before .loop .i)
+            (c .before .before .before .before .before .loop .n) (omega arith) (c .before .before .before .byte-at2 .ensures)
+            (sym (c .before .before .is-digit2 .ensures) ∙ not-false _ (c .before .if2 .left)) .1,
+      ),
+    )
 
 returns-3 : tie.Need-returns-3 Inv-loop μ-loop
-returns-3 c = a-decimal (c .before .before .before .before .before .before .args .text .now) (c .before .before .before .before .before .before .args .at) (c .before .before .before .before .byte-at .ensures) (sym (c .before .before .before .is-digit .ensures) ∙ not-false _ (c .before .before .if1 .left)) (sym (digits-end (c .before .before .before .before .before .before .args .text .now) (c .before .loop .i) (c .before .loop .n) (omega arith) .0) ∙ c .before .loop .inv .1) (omega (arith, digits-end (c .before .before .before .before .before .before .args .text .now) (c .before .loop .i) (c .before .loop .n) (omega arith) .1))
+returns-3 c =
+    let text = c .before .before .before .before .before .before .args .text .now in
+    let at = c .before .before .before .before .before .before .args .at in
+    a-decimal text at (c .before .before .before .before .byte-at .ensures)
+    (sym (c .before .before .before .is-digit .ensures) ∙ not-false _ (c .before .before .if1 .left))
+    (sym (digits-end text (c .before .loop .i) (c .before .loop .n) (omega arith) .0) ∙ c .before .loop .inv .1)
+    (omega (arith, digits-end text (c .before .loop .i) (c .before .loop .n) (omega arith) .1))
 
 pub decimal-at-spec : {M : Type 1} → statement M
 decimal-at-spec =

@@ -19,10 +19,17 @@ enum-told : tie.Need-enum-told
 enum-told c = search needs
 
 returns : tie.Need-returns
-returns c = c .labelled-global .ensures ∙ global-goes (c .before .before .before .before .before .before .args .text .now) (c .before .before .before .before .before .before .args .at) (decimal-reads (c .before .before .before .before .before .before .args .text .now) (c .before .before .before .before .before .before .args .at) (c .before .before .before .before .decimal-at .ensures) (c .before .before .n .given .1))
+returns c =
+    let text = c .before .before .before .before .before .before .args .text .now in
+    let at = c .before .before .before .before .before .before .args .at in
+    c .labelled-global .ensures ∙
+    global-goes text at (decimal-reads text at (c .before .before .before .before .decimal-at .ensures) (c .before .before .n .given .1))
 
 returns-2 : tie.Need-returns-2
-returns-2 c = no-item globalItem (c .before .before .before .before .args .text .now) (c .before .before .before .before .args .at) (global-none (c .before .before .before .before .args .text .now) (c .before .before .before .before .args .at) (decimal-fails (c .before .before .before .before .args .text .now) (c .before .before .before .before .args .at) (c .before .before .decimal-at .ensures) (c .enum-told .given .1)))
+returns-2 c =
+    let text = c .before .before .before .before .args .text .now in
+    let at = c .before .before .before .before .args .at in
+    no-item globalItem text at (global-none text at (decimal-fails text at (c .before .before .decimal-at .ensures) (c .enum-told .given .1)))
 
 pub global-at-spec : {M : Type 1} → statement M
 global-at-spec =

@@ -25,16 +25,52 @@ ended-requires : tie.Need-ended-requires
 ended-requires c κs = search needs
 
 returns : tie.Need-returns
-returns c = an-instruction (c .before .before .before .before .before .before .before .before .before .before .args .text .now) (c .before .before .before .before .before .before .before .before .before .before .args .at) _ (optional-reads (c .before .before .before .before .before .before .before .before .before .before .args .text .now) (c .before .before .before .before .before .before .before .before .before .before .args .at) 73 (c .before .before .before .before .before .before .before .before .has .ensures) (c .before .before .before .before .before .before .before .past-byte .ensures)) (base-reads (c .before .before .before .before .before .before .before .before .before .before .args .text .now) (c .before .before .before .before .before .before .before .past-byte .result) (c .before .before .before .before .before .before .base-at .ensures)) (operand-reads (c .before .before .before .before .before .before .before .before .before .before .args .text .now) (c .before .before .before .before .before .before .base-at .result .past) (c .before .before .before .before .before .operand-at .ensures) (c .before .before .before .x .given .1)) (ended-reads (c .before .before .before .before .before .before .before .before .before .before .args .text .now) (c .before .before .before .x .given .0 .1 .0) (c .before .ended .ensures) (c .if1 .taken))
+returns c =
+    let text = c .before .before .before .before .before .before .before .before .before .before .args .text .now in
+    let at = c .before .before .before .before .before .before .before .before .before .before .args .at in
+    an-instruction text at _
+    (optional-reads text at 73
+    (c .before .before .before .before .before .before .before .before .has .ensures)
+    (c .before .before .before .before .before .before .before .past-byte .ensures))
+    (base-reads text
+    (c .before .before .before .before .before .before .before .past-byte .result)
+    (c .before .before .before .before .before .before .base-at .ensures))
+    (operand-reads text
+    (c .before .before .before .before .before .before .base-at .result .past)
+    (c .before .before .before .before .before .operand-at .ensures)
+    (c .before .before .before .x .given .1))
+    (ended-reads text (c .before .before .before .x .given .0 .1 .0) (c .before .ended .ensures) (c .if1 .taken))
 
 enum-told : tie.Need-enum-told
 enum-told c = search needs
 
 returns-2 : tie.Need-returns-2
-returns-2 c = no-item (instructionItem _) (c .before .before .before .before .before .before .before .before .before .before .args .text .now) (c .before .before .before .before .before .before .before .before .before .before .args .at) (instruction-open (c .before .before .before .before .before .before .before .before .before .before .args .text .now) (c .before .before .before .before .before .before .before .before .before .before .args .at) _ (optional-reads (c .before .before .before .before .before .before .before .before .before .before .args .text .now) (c .before .before .before .before .before .before .before .before .before .before .args .at) 73 (c .before .before .before .before .before .before .before .before .has .ensures) (c .before .before .before .before .before .before .before .past-byte .ensures)) (base-reads (c .before .before .before .before .before .before .before .before .before .before .args .text .now) (c .before .before .before .before .before .before .before .past-byte .result) (c .before .before .before .before .before .before .base-at .ensures) .reads) (operand-reads (c .before .before .before .before .before .before .before .before .before .before .args .text .now) (c .before .before .before .before .before .before .base-at .result .past) (c .before .before .before .before .before .operand-at .ensures) (c .before .before .before .x .given .1) .reads) (ended-fails (c .before .before .before .before .before .before .before .before .before .before .args .text .now) (c .before .before .before .x .given .0 .1 .0) (c .before .ended .ensures) (c .if1 .left)))
+returns-2 c =
+    let text = c .before .before .before .before .before .before .before .before .before .before .args .text .now in
+    let at = c .before .before .before .before .before .before .before .before .before .before .args .at in
+    no-item (instructionItem _) text at
+    (instruction-open text at _
+    (optional-reads text at 73
+    (c .before .before .before .before .before .before .before .before .has .ensures)
+    (c .before .before .before .before .before .before .before .past-byte .ensures))
+    (base-reads text
+    (c .before .before .before .before .before .before .before .past-byte .result)
+    (c .before .before .before .before .before .before .base-at .ensures) .reads)
+    (operand-reads text
+    (c .before .before .before .before .before .before .base-at .result .past)
+    (c .before .before .before .before .before .operand-at .ensures)
+    (c .before .before .before .x .given .1) .reads)
+    (ended-fails text (c .before .before .before .x .given .0 .1 .0) (c .before .ended .ensures) (c .if1 .left)))
 
 returns-3 : tie.Need-returns-3
-returns-3 c = no-item (instructionItem _) (c .before .before .before .before .before .before .before .args .text .now) (c .before .before .before .before .before .before .before .args .at) (instruction-none (c .before .before .before .before .before .before .before .args .text .now) (c .before .before .before .before .before .before .before .args .at) _ (optional-reads (c .before .before .before .before .before .before .before .args .text .now) (c .before .before .before .before .before .before .before .args .at) 73 (c .before .before .before .before .before .has .ensures) (c .before .before .before .before .past-byte .ensures)) (base-reads (c .before .before .before .before .before .before .before .args .text .now) (c .before .before .before .before .past-byte .result) (c .before .before .before .base-at .ensures) .reads) (operand-fails (c .before .before .before .before .before .before .before .args .text .now) (c .before .before .before .base-at .result .past) (c .before .before .operand-at .ensures) (c .enum-told .given .1)))
+returns-3 c =
+    let text = c .before .before .before .before .before .before .before .args .text .now in
+    let at = c .before .before .before .before .before .before .before .args .at in
+    no-item (instructionItem _) text at
+    (instruction-none text at _
+    (optional-reads text at 73 (c .before .before .before .before .before .has .ensures) (c .before .before .before .before .past-byte .ensures))
+    (base-reads text (c .before .before .before .before .past-byte .result) (c .before .before .before .base-at .ensures) .reads)
+    (operand-fails text (c .before .before .before .base-at .result .past) (c .before .before .operand-at .ensures) (c .enum-told .given .1)))
 
 pub instruction-at-spec : {M : Type 1} → statement M
 instruction-at-spec =

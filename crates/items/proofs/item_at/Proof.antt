@@ -18,22 +18,36 @@ label-at-requires : tie.Need-label-at-requires
 label-at-requires c κs = search needs
 
 returns : tie.Need-returns
-returns c = c .label-at .ensures ∙ ap (asItemAt (c .before .before .before .before .before .args .at)) (item-label (c .before .before .before .before .before .args .text .now) (c .before .before .before .before .before .args .at) (c .before .before .before .byte-at .ensures) (sym (c .before .before .is-digit .ensures) ∙ c .before .if1 .taken))
+returns c =
+    let text = c .before .before .before .before .before .args .text .now in
+    let at = c .before .before .before .before .before .args .at in
+    c .label-at .ensures ∙
+    ap (asItemAt at)
+    (item-label text at (c .before .before .before .byte-at .ensures) (sym (c .before .before .is-digit .ensures) ∙ c .before .if1 .taken))
 
 add-constant-at : tie.Need-add-constant-at
-add-constant-at c = omega (arith, inside (c .before .before .before .before .before .args .text .now) (c .before .before .before .before .before .args .at) (sym (c .before .before .before .byte-at .ensures) ∙ c .match .keys1) (omega arith))
+add-constant-at c =
+    let text = c .before .before .before .before .before .args .text .now in
+    let at = c .before .before .before .before .before .args .at in
+    omega (arith, inside text at (sym (c .before .before .before .byte-at .ensures) ∙ c .match .keys1) (omega arith))
 
 constant-at-requires : tie.Need-constant-at-requires
 constant-at-requires c κs = search needs
 
 add-string-at : tie.Need-add-string-at
-add-string-at c = omega (arith, inside (c .before .before .before .before .before .args .text .now) (c .before .before .before .before .before .args .at) (sym (c .before .before .before .byte-at .ensures) ∙ c .match .keys2) (omega arith))
+add-string-at c =
+    let text = c .before .before .before .before .before .args .text .now in
+    let at = c .before .before .before .before .before .args .at in
+    omega (arith, inside text at (sym (c .before .before .before .byte-at .ensures) ∙ c .match .keys2) (omega arith))
 
 string-at-requires : tie.Need-string-at-requires
 string-at-requires c κs = search needs
 
 add-global-at : tie.Need-add-global-at
-add-global-at c = omega (arith, inside (c .before .before .before .before .before .args .text .now) (c .before .before .before .before .before .args .at) (sym (c .before .before .before .byte-at .ensures) ∙ c .match .keys3) (omega arith))
+add-global-at c =
+    let text = c .before .before .before .before .before .args .text .now in
+    let at = c .before .before .before .before .before .args .at in
+    omega (arith, inside text at (sym (c .before .before .before .byte-at .ensures) ∙ c .match .keys3) (omega arith))
 
 global-at-requires : tie.Need-global-at-requires
 global-at-requires c κs = search needs
@@ -42,25 +56,51 @@ function-of-requires : tie.Need-function-of-requires
 function-of-requires c κs = search needs
 
 add-instruction-at : tie.Need-add-instruction-at
-add-instruction-at c = omega (arith, function-inside (c .before .before .before .before .before .before .before .args .text .now) (c .before .before .before .before .before .before .before .args .at) (c .before .before .before .before .before .byte-at .ensures) (c .before .function-of .ensures) (c .if2 .taken))
+add-instruction-at c =
+    let text = c .before .before .before .before .before .before .before .args .text .now in
+    let at = c .before .before .before .before .before .before .before .args .at in
+    omega (arith, function-inside text at (c .before .before .before .before .before .byte-at .ensures) (c .before .function-of .ensures) (c .if2 .taken))
 
 instruction-at-requires : tie.Need-instruction-at-requires
 instruction-at-requires c κs = search needs
 
 returns-2 : tie.Need-returns-2
-returns-2 c = c .instruction-at .ensures ∙ item-function (c .before .before .before .before .before .before .before .before .args .text .now) (c .before .before .before .before .before .before .before .before .args .at) (c .before .before .before .before .before .before .byte-at .ensures) (sym (c .before .before .before .before .before .is-digit .ensures) ∙ c .before .before .before .before .if1 .left) (c .before .before .before .match .rest) (c .before .before .function-of .ensures) (c .before .if2 .taken)
+returns-2 c =
+    let text = c .before .before .before .before .before .before .before .before .args .text .now in
+    let at = c .before .before .before .before .before .before .before .before .args .at in
+    c .instruction-at .ensures ∙
+    item-function text at
+    (c .before .before .before .before .before .before .byte-at .ensures)
+    (sym (c .before .before .before .before .before .is-digit .ensures) ∙ c .before .before .before .before .if1 .left)
+    (c .before .before .before .match .rest) (c .before .before .function-of .ensures) (c .before .if2 .taken)
 
 returns-3 : tie.Need-returns-3
-returns-3 c = c .constant-at .ensures ∙ item-constant (c .before .before .before .before .before .before .args .text .now) (c .before .before .before .before .before .before .args .at) (c .before .before .before .before .byte-at .ensures) (c .before .match .keys1)
+returns-3 c =
+    let text = c .before .before .before .before .before .before .args .text .now in
+    let at = c .before .before .before .before .before .before .args .at in
+    c .constant-at .ensures ∙ item-constant text at (c .before .before .before .before .byte-at .ensures) (c .before .match .keys1)
 
 returns-4 : tie.Need-returns-4
-returns-4 c = c .string-at .ensures ∙ item-string (c .before .before .before .before .before .before .args .text .now) (c .before .before .before .before .before .before .args .at) (c .before .before .before .before .byte-at .ensures) (c .before .match .keys2)
+returns-4 c =
+    let text = c .before .before .before .before .before .before .args .text .now in
+    let at = c .before .before .before .before .before .before .args .at in
+    c .string-at .ensures ∙ item-string text at (c .before .before .before .before .byte-at .ensures) (c .before .match .keys2)
 
 returns-5 : tie.Need-returns-5
-returns-5 c = c .global-at .ensures ∙ item-global (c .before .before .before .before .before .before .args .text .now) (c .before .before .before .before .before .before .args .at) (c .before .before .before .before .byte-at .ensures) (c .before .match .keys3)
+returns-5 c =
+    let text = c .before .before .before .before .before .before .args .text .now in
+    let at = c .before .before .before .before .before .before .args .at in
+    c .global-at .ensures ∙ item-global text at (c .before .before .before .before .byte-at .ensures) (c .before .match .keys3)
 
 returns-6 : tie.Need-returns-6
-returns-6 c = no-item item (c .before .before .before .before .before .before .before .args .text .now) (c .before .before .before .before .before .before .before .args .at) (item-none (c .before .before .before .before .before .before .before .args .text .now) (c .before .before .before .before .before .before .before .args .at) (c .before .before .before .before .before .byte-at .ensures) (sym (c .before .before .before .before .is-digit .ensures) ∙ c .before .before .before .if1 .left) (c .before .before .match .rest) (c .before .function-of .ensures) (c .if2 .left))
+returns-6 c =
+    let text = c .before .before .before .before .before .before .before .args .text .now in
+    let at = c .before .before .before .before .before .before .before .args .at in
+    no-item item text at
+    (item-none text at
+    (c .before .before .before .before .before .byte-at .ensures)
+    (sym (c .before .before .before .before .is-digit .ensures) ∙ c .before .before .before .if1 .left)
+    (c .before .before .match .rest) (c .before .function-of .ensures) (c .if2 .left))
 
 pub item-at-spec : {M : Type 1} → statement M
 item-at-spec =

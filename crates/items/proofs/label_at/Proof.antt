@@ -20,20 +20,38 @@ has-requires : tie.Need-has-requires
 has-requires c κs = search needs
 
 add-t9 : tie.Need-add-t9
-add-t9 c = omega (arith, inside (c .before .before .before .before .before .before .before .args .text .now) (c .before .before .before .n .given .0 .1 .0) (eqb-true _ 58 (sym (c .before .has .ensures) ∙ c .if1 .taken)) (omega arith))
+add-t9 c =
+    let text = c .before .before .before .before .before .before .before .args .text .now in
+    omega
+    (arith, inside text (c .before .before .before .n .given .0 .1 .0) (eqb-true _ 58 (sym (c .before .has .ensures) ∙ c .if1 .taken)) (omega arith))
 
 returns : tie.Need-returns
 unfolding asItem
-returns c = an-item labelItem (c .before .before .before .before .before .before .before .args .text .now) (c .before .before .before .before .before .before .before .args .at) (label-reads (c .before .before .before .before .before .before .before .args .text .now) (c .before .before .before .before .before .before .before .args .at) (decimal-reads (c .before .before .before .before .before .before .before .args .text .now) (c .before .before .before .before .before .before .before .args .at) (c .before .before .before .before .before .decimal-at .ensures) (c .before .before .before .n .given .1)) (eqb-true _ _ (sym (c .before .has .ensures) ∙ c .if1 .taken)))
+returns c =
+    let text = c .before .before .before .before .before .before .before .args .text .now in
+    let at = c .before .before .before .before .before .before .before .args .at in
+    an-item labelItem text at
+    (label-reads text at
+    (decimal-reads text at (c .before .before .before .before .before .decimal-at .ensures) (c .before .before .before .n .given .1))
+    (eqb-true _ _ (sym (c .before .has .ensures) ∙ c .if1 .taken)))
 
 enum-told : tie.Need-enum-told
 enum-told c = search needs
 
 returns-2 : tie.Need-returns-2
-returns-2 c = no-item labelItem (c .before .before .before .before .before .before .before .args .text .now) (c .before .before .before .before .before .before .before .args .at) (label-fails (c .before .before .before .before .before .before .before .args .text .now) (c .before .before .before .before .before .before .before .args .at) (decimal-reads (c .before .before .before .before .before .before .before .args .text .now) (c .before .before .before .before .before .before .before .args .at) (c .before .before .before .before .before .decimal-at .ensures) (c .before .before .before .n .given .1)) (eqb-false _ _ (sym (c .before .has .ensures) ∙ c .if1 .left)))
+returns-2 c =
+    let text = c .before .before .before .before .before .before .before .args .text .now in
+    let at = c .before .before .before .before .before .before .before .args .at in
+    no-item labelItem text at
+    (label-fails text at
+    (decimal-reads text at (c .before .before .before .before .before .decimal-at .ensures) (c .before .before .before .n .given .1))
+    (eqb-false _ _ (sym (c .before .has .ensures) ∙ c .if1 .left)))
 
 returns-3 : tie.Need-returns-3
-returns-3 c = no-item labelItem (c .before .before .before .before .args .text .now) (c .before .before .before .before .args .at) (label-none (c .before .before .before .before .args .text .now) (c .before .before .before .before .args .at) (decimal-fails (c .before .before .before .before .args .text .now) (c .before .before .before .before .args .at) (c .before .before .decimal-at .ensures) (c .enum-told .given .1)))
+returns-3 c =
+    let text = c .before .before .before .before .args .text .now in
+    let at = c .before .before .before .before .args .at in
+    no-item labelItem text at (label-none text at (decimal-fails text at (c .before .before .decimal-at .ensures) (c .enum-told .given .1)))
 
 pub label-at-spec : {M : Type 1} → statement M
 label-at-spec =

@@ -15,10 +15,16 @@ has-requires : tie.Need-has-requires
 has-requires c κs = search needs
 
 returns : tie.Need-returns
-returns c = no-item (globalLabel _) (c .before .before .before .args .text .now) (c .before .before .before .args .at) (global-short (c .before .before .before .args .text .now) (c .before .before .before .args .at) _ (eqb-false _ _ (sym (c .before .has .ensures) ∙ not-true _ (c .if1 .taken))))
+returns c =
+    let text = c .before .before .before .args .text .now in
+    let at = c .before .before .before .args .at in
+    no-item (globalLabel _) text at (global-short text at _ (eqb-false _ _ (sym (c .before .has .ensures) ∙ not-true _ (c .if1 .taken))))
 
 add-decimal-at : tie.Need-add-decimal-at
-add-decimal-at c = omega (arith, inside (c .before .before .before .args .text .now) (c .before .before .before .args .at) (eqb-true _ 76 (sym (c .before .has .ensures) ∙ not-false _ (c .if1 .left))) (omega arith))
+add-decimal-at c =
+    let text = c .before .before .before .args .text .now in
+    let at = c .before .before .before .args .at in
+    omega (arith, inside text at (eqb-true _ 76 (sym (c .before .has .ensures) ∙ not-false _ (c .if1 .left))) (omega arith))
 
 decimal-at-requires : tie.Need-decimal-at-requires
 decimal-at-requires c κs = search needs
@@ -31,16 +37,40 @@ ended-requires c κs = search needs
 
 returns-2 : tie.Need-returns-2
 unfolding asItem
-returns-2 c = an-item (globalLabel _) (c .before .before .before .before .before .before .before .before .before .args .text .now) (c .before .before .before .before .before .before .before .before .before .args .at) (global-reads (c .before .before .before .before .before .before .before .before .before .args .text .now) (c .before .before .before .before .before .before .before .before .before .args .at) _ (byte-reads (c .before .before .before .before .before .before .before .before .before .args .text .now) (c .before .before .before .before .before .before .before .before .before .args .at) _ (eqb-true _ _ (sym (c .before .before .before .before .before .before .before .has .ensures) ∙ not-false _ (c .before .before .before .before .before .before .if1 .left)))) (decimal-reads (c .before .before .before .before .before .before .before .before .before .args .text .now) ((c .before .before .before .before .before .before .before .before .before .args .at) + 1) (c .before .before .before .before .before .decimal-at .ensures) (c .before .before .before .m .given .1)) (ended-reads (c .before .before .before .before .before .before .before .before .before .args .text .now) _ (c .before .ended .ensures) (c .if2 .taken)))
+returns-2 c =
+    let text = c .before .before .before .before .before .before .before .before .before .args .text .now in
+    let at = c .before .before .before .before .before .before .before .before .before .args .at in
+    an-item (globalLabel _) text at
+    (global-reads text at _
+    (byte-reads text at _
+    (eqb-true _ _
+    (sym (c .before .before .before .before .before .before .before .has .ensures) ∙ not-false _ (c .before .before .before .before .before .before .if1 .left))))
+    (decimal-reads text (at + 1) (c .before .before .before .before .before .decimal-at .ensures) (c .before .before .before .m .given .1))
+    (ended-reads text _ (c .before .ended .ensures) (c .if2 .taken)))
 
 enum-told : tie.Need-enum-told
 enum-told c = search needs
 
 returns-3 : tie.Need-returns-3
-returns-3 c = no-item (globalLabel _) (c .before .before .before .before .before .before .before .before .before .args .text .now) (c .before .before .before .before .before .before .before .before .before .args .at) (global-open (c .before .before .before .before .before .before .before .before .before .args .text .now) (c .before .before .before .before .before .before .before .before .before .args .at) _ (byte-reads (c .before .before .before .before .before .before .before .before .before .args .text .now) (c .before .before .before .before .before .before .before .before .before .args .at) _ (eqb-true _ _ (sym (c .before .before .before .before .before .before .before .has .ensures) ∙ not-false _ (c .before .before .before .before .before .before .if1 .left)))) (decimal-reads (c .before .before .before .before .before .before .before .before .before .args .text .now) ((c .before .before .before .before .before .before .before .before .before .args .at) + 1) (c .before .before .before .before .before .decimal-at .ensures) (c .before .before .before .m .given .1)) (ended-fails (c .before .before .before .before .before .before .before .before .before .args .text .now) (c .before .before .before .m .given .0 .1 .0) (c .before .ended .ensures) (c .if2 .left)))
+returns-3 c =
+    let text = c .before .before .before .before .before .before .before .before .before .args .text .now in
+    let at = c .before .before .before .before .before .before .before .before .before .args .at in
+    no-item (globalLabel _) text at
+    (global-open text at _
+    (byte-reads text at _
+    (eqb-true _ _
+    (sym (c .before .before .before .before .before .before .before .has .ensures) ∙ not-false _ (c .before .before .before .before .before .before .if1 .left))))
+    (decimal-reads text (at + 1) (c .before .before .before .before .before .decimal-at .ensures) (c .before .before .before .m .given .1))
+    (ended-fails text (c .before .before .before .m .given .0 .1 .0) (c .before .ended .ensures) (c .if2 .left)))
 
 returns-4 : tie.Need-returns-4
-returns-4 c = no-item (globalLabel _) (c .before .before .before .before .before .before .args .text .now) (c .before .before .before .before .before .before .args .at) (global-unlabelled (c .before .before .before .before .before .before .args .text .now) (c .before .before .before .before .before .before .args .at) _ (byte-reads (c .before .before .before .before .before .before .args .text .now) (c .before .before .before .before .before .before .args .at) _ (eqb-true _ _ (sym (c .before .before .before .before .has .ensures) ∙ not-false _ (c .before .before .before .if1 .left)))) (decimal-fails (c .before .before .before .before .before .before .args .text .now) ((c .before .before .before .before .before .before .args .at) + 1) (c .before .before .decimal-at .ensures) (c .enum-told .given .1)))
+returns-4 c =
+    let text = c .before .before .before .before .before .before .args .text .now in
+    let at = c .before .before .before .before .before .before .args .at in
+    no-item (globalLabel _) text at
+    (global-unlabelled text at _
+    (byte-reads text at _ (eqb-true _ _ (sym (c .before .before .before .before .has .ensures) ∙ not-false _ (c .before .before .before .if1 .left))))
+    (decimal-fails text (at + 1) (c .before .before .decimal-at .ensures) (c .enum-told .given .1)))
 
 pub labelled-global-spec : {M : Type 1} → statement M
 labelled-global-spec =

@@ -10,19 +10,33 @@ marked-requires : tie.Need-marked-requires
 marked-requires c κs = search needs
 
 returns : tie.Need-returns
-returns c = last-unread (c .before .before .before .args .text .now) (c .before .before .before .args .at) (c .before .before .before .pre) (c .before .marked .ensures) (not-true _ (c .if1 .taken))
+returns c =
+    let text = c .before .before .before .args .text .now in
+    let at = c .before .before .before .args .at in
+    last-unread text at (c .before .before .before .pre) (c .before .marked .ensures) (not-true _ (c .if1 .taken))
 
 add-past-gap : tie.Need-add-past-gap
-add-past-gap c = omega (arith, inside (c .before .before .before .args .text .now) (c .before .before .before .args .at) (c .before .before .before .pre) (omega arith))
+add-past-gap c =
+    let text = c .before .before .before .args .text .now in
+    let at = c .before .before .before .args .at in
+    omega (arith, inside text at (c .before .before .before .pre) (omega arith))
 
 past-gap-requires : tie.Need-past-gap-requires
 past-gap-requires c κs = search needs
 
 returns-2 : tie.Need-returns-2
-returns-2 c = last-whole (c .before .before .before .before .before .args .text .now) (c .before .before .before .before .before .args .at) (c .before .before .before .before .before .pre) (c .before .before .before .marked .ensures) (not-false _ (c .before .before .if1 .left)) (c .before .past-gap .ensures) (c .if2 .taken)
+returns-2 c =
+    let text = c .before .before .before .before .before .args .text .now in
+    let at = c .before .before .before .before .before .args .at in
+    last-whole text at (c .before .before .before .before .before .pre) (c .before .before .before .marked .ensures)
+    (not-false _ (c .before .before .if1 .left)) (c .before .past-gap .ensures) (c .if2 .taken)
 
 returns-3 : tie.Need-returns-3
-returns-3 c = last-more (c .before .before .before .before .before .args .text .now) (c .before .before .before .before .before .args .at) (c .before .before .before .before .before .pre) (c .before .before .before .marked .ensures) (not-false _ (c .before .before .if1 .left)) (c .before .past-gap .ensures) (c .if2 .left)
+returns-3 c =
+    let text = c .before .before .before .before .before .args .text .now in
+    let at = c .before .before .before .before .before .args .at in
+    last-more text at (c .before .before .before .before .before .pre) (c .before .before .before .marked .ensures)
+    (not-false _ (c .before .before .if1 .left)) (c .before .past-gap .ensures) (c .if2 .left)
 
 pub last-at-spec : {M : Type 1} → statement M
 last-at-spec =

@@ -11,17 +11,26 @@ has-requires : tie.Need-has-requires
 has-requires c κs = search needs
 
 add-ended : tie.Need-add-ended
-add-ended c = omega (arith, inside (c .before .before .before .args .text .now) (c .before .before .before .args .at) (eqb-true _ _ (sym (c .before .has .ensures) ∙ c .if1 .taken)) (omega arith))
+add-ended c =
+    let text = c .before .before .before .args .text .now in
+    let at = c .before .before .before .args .at in
+    omega (arith, inside text at (eqb-true _ _ (sym (c .before .has .ensures) ∙ c .if1 .taken)) (omega arith))
 
 ended-requires : tie.Need-ended-requires
 ended-requires c κs = search needs
 
 returns : tie.Need-returns
-returns c = c .ended .ensures ∙ mark-at (c .before .before .before .before .args .text .now) (c .before .before .before .before .args .at) _ (eqb-true _ _ (sym (c .before .before .has .ensures) ∙ c .before .if1 .taken))
+returns c =
+    let text = c .before .before .before .before .args .text .now in
+    let at = c .before .before .before .before .args .at in
+    c .ended .ensures ∙ mark-at text at _ (eqb-true _ _ (sym (c .before .before .has .ensures) ∙ c .before .if1 .taken))
 
 returns-2 : tie.Need-returns-2
 unfolding isGot
-returns-2 c = sym (ap isGot (mark-not (c .before .before .before .args .text .now) (c .before .before .before .args .at) _ (eqb-false _ _ (sym (c .before .has .ensures) ∙ c .if1 .left))))
+returns-2 c =
+    let text = c .before .before .before .args .text .now in
+    let at = c .before .before .before .args .at in
+    sym (ap isGot (mark-not text at _ (eqb-false _ _ (sym (c .before .has .ensures) ∙ c .if1 .left))))
 
 pub marked-spec : {M : Type 1} → statement M
 marked-spec = tie.close (tie.spec has-requires add-ended ended-requires returns returns-2)

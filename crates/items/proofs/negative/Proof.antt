@@ -23,10 +23,20 @@ enum-told c = search needs
 
 returns : tie.Need-returns
 unfolding asOperand
-returns c = an-operand negative (c .before .before .before .before .before .args .text .now) (c .before .before .before .before .before .args .at) (negative-reads (c .before .before .before .before .before .args .text .now) (c .before .before .before .before .before .args .at) (c .before .before .before .before .before .pre) (decimal-reads (c .before .before .before .before .before .args .text .now) ((c .before .before .before .before .before .args .at) + 1) (c .before .before .before .decimal-at .ensures) (c .before .n .given .1)))
+returns c =
+    let text = c .before .before .before .before .before .args .text .now in
+    let at = c .before .before .before .before .before .args .at in
+    an-operand negative text at
+    (negative-reads text at (c .before .before .before .before .before .pre)
+    (decimal-reads text (at + 1) (c .before .before .before .decimal-at .ensures) (c .before .n .given .1)))
 
 returns-2 : tie.Need-returns-2
-returns-2 c = no-operand negative (c .before .before .before .before .args .text .now) (c .before .before .before .before .args .at) (negative-fails (c .before .before .before .before .args .text .now) (c .before .before .before .before .args .at) (c .before .before .before .before .pre) (decimal-fails (c .before .before .before .before .args .text .now) ((c .before .before .before .before .args .at) + 1) (c .before .before .decimal-at .ensures) (c .enum-told .given .1)))
+returns-2 c =
+    let text = c .before .before .before .before .args .text .now in
+    let at = c .before .before .before .before .args .at in
+    no-operand negative text at
+    (negative-fails text at (c .before .before .before .before .pre)
+    (decimal-fails text (at + 1) (c .before .before .decimal-at .ensures) (c .enum-told .given .1)))
 
 pub negative-spec : {M : Type 1} → statement M
 negative-spec =

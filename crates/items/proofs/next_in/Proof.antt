@@ -17,7 +17,10 @@ last-at-requires : tie.Need-last-at-requires
 last-at-requires c κs = eqb-true _ _ (sym (c .before .has .ensures) ∙ c .if1 .taken)
 
 returns : tie.Need-returns
-returns c = c .last-at .ensures ∙ ap asNext (next-at (c .before .before .before .before .before .args .text .now) (c .before .before .before .before .before .args .at) (c .before .before .before .past-gap .ensures))
+returns c =
+    let text = c .before .before .before .before .before .args .text .now in
+    let at = c .before .before .before .before .before .args .at in
+    c .last-at .ensures ∙ ap asNext (next-at text at (c .before .before .before .past-gap .ensures))
 
 item-at-requires : tie.Need-item-at-requires
 item-at-requires c κs = search needs
@@ -29,10 +32,26 @@ enum-told : tie.Need-enum-told
 enum-told c = search needs
 
 returns-2 : tie.Need-returns-2
-returns-2 c = element-one (c .before .before .before .before .before .before .before .before .args .text .now) (c .before .before .before .before .before .before .past-gap .result) (eqb-false _ _ (sym (c .before .before .before .before .before .has .ensures) ∙ c .before .before .before .before .if1 .left)) (item-reads (c .before .before .before .before .before .before .before .before .args .text .now) (c .before .before .before .before .before .before .past-gap .result) (c .before .before .before .item-at .ensures) (c .before .i .given .1)) ∙ ap asNext (next-at (c .before .before .before .before .before .before .before .before .args .text .now) (c .before .before .before .before .before .before .before .before .args .at) (c .before .before .before .before .before .before .past-gap .ensures))
+returns-2 c =
+    let text = c .before .before .before .before .before .before .before .before .args .text .now in
+    let at = c .before .before .before .before .before .before .before .before .args .at in
+    element-one text
+    (c .before .before .before .before .before .before .past-gap .result)
+    (eqb-false _ _ (sym (c .before .before .before .before .before .has .ensures) ∙ c .before .before .before .before .if1 .left))
+    (item-reads text
+    (c .before .before .before .before .before .before .past-gap .result)
+    (c .before .before .before .item-at .ensures) (c .before .i .given .1)) ∙
+    ap asNext (next-at text at (c .before .before .before .before .before .before .past-gap .ensures))
 
 returns-3 : tie.Need-returns-3
-returns-3 c = element-none (c .before .before .before .before .before .before .before .args .text .now) (c .before .before .before .before .before .past-gap .result) (eqb-false _ _ (sym (c .before .before .before .before .has .ensures) ∙ c .before .before .before .if1 .left)) (item-fails (c .before .before .before .before .before .before .before .args .text .now) (c .before .before .before .before .before .past-gap .result) (c .before .before .item-at .ensures) (c .enum-told .given .1)) ∙ ap asNext (next-at (c .before .before .before .before .before .before .before .args .text .now) (c .before .before .before .before .before .before .before .args .at) (c .before .before .before .before .before .past-gap .ensures))
+returns-3 c =
+    let text = c .before .before .before .before .before .before .before .args .text .now in
+    let at = c .before .before .before .before .before .before .before .args .at in
+    element-none text
+    (c .before .before .before .before .before .past-gap .result)
+    (eqb-false _ _ (sym (c .before .before .before .before .has .ensures) ∙ c .before .before .before .if1 .left))
+    (item-fails text (c .before .before .before .before .before .past-gap .result) (c .before .before .item-at .ensures) (c .enum-told .given .1)) ∙
+    ap asNext (next-at text at (c .before .before .before .before .before .past-gap .ensures))
 
 pub next-in-spec : {M : Type 1} → statement M
 next-in-spec =

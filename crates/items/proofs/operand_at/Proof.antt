@@ -22,16 +22,28 @@ positive-requires : tie.Need-positive-requires
 positive-requires c κs = search needs
 
 returns : tie.Need-returns
-returns c = c .negative .ensures ∙ sym (ap (asOperandAt (c .before .before .before .before .args .at)) (operand-minus (drop (c .before .before .before .before .args .at) (c .before .before .before .before .args .text .now)) (c .before .before .byte-at .ensures) (c .before .match .keys1)))
+returns c =
+    let text = c .before .before .before .before .args .text .now in
+    let at = c .before .before .before .before .args .at in
+    c .negative .ensures ∙ sym (ap (asOperandAt at) (operand-minus (drop at text) (c .before .before .byte-at .ensures) (c .before .match .keys1)))
 
 returns-2 : tie.Need-returns-2
-returns-2 c = c .quotation .ensures ∙ sym (ap (asOperandAt (c .before .before .before .before .args .at)) (operand-quote (drop (c .before .before .before .before .args .at) (c .before .before .before .before .args .text .now)) (c .before .before .byte-at .ensures) (c .before .match .keys2)))
+returns-2 c =
+    let text = c .before .before .before .before .args .text .now in
+    let at = c .before .before .before .before .args .at in
+    c .quotation .ensures ∙ sym (ap (asOperandAt at) (operand-quote (drop at text) (c .before .before .byte-at .ensures) (c .before .match .keys2)))
 
 returns-3 : tie.Need-returns-3
-returns-3 c = c .labelled .ensures ∙ sym (ap (asOperandAt (c .before .before .before .before .args .at)) (operand-label (drop (c .before .before .before .before .args .at) (c .before .before .before .before .args .text .now)) (c .before .before .byte-at .ensures) (c .before .match .keys3)))
+returns-3 c =
+    let text = c .before .before .before .before .args .text .now in
+    let at = c .before .before .before .before .args .at in
+    c .labelled .ensures ∙ sym (ap (asOperandAt at) (operand-label (drop at text) (c .before .before .byte-at .ensures) (c .before .match .keys3)))
 
 returns-4 : tie.Need-returns-4
-returns-4 c = c .positive .ensures ∙ sym (ap (asOperandAt (c .before .before .before .before .args .at)) (operand-plain (drop (c .before .before .before .before .args .at) (c .before .before .before .before .args .text .now)) (c .before .before .byte-at .ensures) (c .before .match .rest)))
+returns-4 c =
+    let text = c .before .before .before .before .args .text .now in
+    let at = c .before .before .before .before .args .at in
+    c .positive .ensures ∙ sym (ap (asOperandAt at) (operand-plain (drop at text) (c .before .before .byte-at .ensures) (c .before .match .rest)))
 
 pub operand-at-spec : {M : Type 1} → statement M
 operand-at-spec =

@@ -10,7 +10,10 @@ has-requires : tie.Need-has-requires
 has-requires c κs = search needs
 
 add-result : tie.Need-add-result
-add-result c = omega (arith, inside (c .before .before .before .args .text .now) (c .before .before .before .args .at) (eqb-true _ _ (sym (c .before .has .ensures) ∙ c .if1 .taken)) (omega arith))
+add-result c =
+    let text = c .before .before .before .args .text .now in
+    let at = c .before .before .before .args .at in
+    omega (arith, inside text at (eqb-true _ _ (sym (c .before .has .ensures) ∙ c .if1 .taken)) (omega arith))
 
 returns : tie.Need-returns
 returns c = rw (sym (c .before .has .ensures) ∙ c .if1 .taken)

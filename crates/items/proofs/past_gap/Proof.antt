@@ -26,7 +26,13 @@ in-gap-requires : tie.Need-in-gap-requires Inv-loop μ-loop
 in-gap-requires c κs = search needs
 
 returns : tie.Need-returns Inv-loop μ-loop
-returns c = omega (arith, gap-stops (c .before .before .before .before .before .before .args .text .now) (c .before .before .before .before .loop .i) (c .before .before .before .before .loop .comment) (omega arith) (c .before .in-gap .ensures) (not-true _ (c .if1 .taken)))
+returns c =
+    let text = c .before .before .before .before .before .before .args .text .now in
+    omega (
+      arith,
+      gap-stops text (c .before .before .before .before .loop .i) (c .before .before .before .before .loop .comment)
+          (omega arith) (c .before .in-gap .ensures) (not-true _ (c .if1 .taken)),
+    )
 
 in-comment-requires : tie.Need-in-comment-requires Inv-loop μ-loop
 in-comment-requires c κs = search needs
@@ -38,7 +44,14 @@ loop-less : tie.Need-loop-less Inv-loop μ-loop
 loop-less c = omega arith
 
 loop-again : tie.Need-loop-again Inv-loop μ-loop
-loop-again c = omega (arith, gap-goes (c .before .before .before .before .before .before .before .args .text .now) (c .before .before .before .before .before .loop .i) (c .before .before .before .before .before .loop .comment) (omega arith) (c .before .before .in-gap .ensures) (not-false _ (c .before .if1 .left)) (c .in-comment .ensures))
+loop-again c =
+    let text = c .before .before .before .before .before .before .before .args .text .now in
+    omega (
+      arith,
+      gap-goes text (c .before .before .before .before .before .loop .i)
+          (c .before .before .before .before .before .loop .comment) (omega arith) (c .before .before .in-gap .ensures)
+          (not-false _ (c .before .if1 .left)) (c .in-comment .ensures),
+    )
 
 returns-2 : tie.Need-returns-2 Inv-loop μ-loop
 returns-2 c = omega (arith, gap-end (c .before .before .before .args .text .now) (c .before .loop .i) (c .before .loop .comment) (omega arith))

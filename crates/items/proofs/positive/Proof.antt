@@ -17,10 +17,16 @@ enum-told c = search needs
 
 returns : tie.Need-returns
 unfolding asOperand
-returns c = an-operand positive (c .before .before .before .before .before .args .text .now) (c .before .before .before .before .before .args .at) (positive-reads (c .before .before .before .before .before .args .text .now) (c .before .before .before .before .before .args .at) (decimal-reads (c .before .before .before .before .before .args .text .now) (c .before .before .before .before .before .args .at) (c .before .before .before .decimal-at .ensures) (c .before .n .given .1)))
+returns c =
+    let text = c .before .before .before .before .before .args .text .now in
+    let at = c .before .before .before .before .before .args .at in
+    an-operand positive text at (positive-reads text at (decimal-reads text at (c .before .before .before .decimal-at .ensures) (c .before .n .given .1)))
 
 returns-2 : tie.Need-returns-2
-returns-2 c = no-operand positive (c .before .before .before .before .args .text .now) (c .before .before .before .before .args .at) (positive-fails (c .before .before .before .before .args .text .now) (c .before .before .before .before .args .at) (decimal-fails (c .before .before .before .before .args .text .now) (c .before .before .before .before .args .at) (c .before .before .decimal-at .ensures) (c .enum-told .given .1)))
+returns-2 c =
+    let text = c .before .before .before .before .args .text .now in
+    let at = c .before .before .before .before .args .at in
+    no-operand positive text at (positive-fails text at (decimal-fails text at (c .before .before .decimal-at .ensures) (c .enum-told .given .1)))
 
 pub positive-spec : {M : Type 1} → statement M
 positive-spec = tie.close (tie.spec decimal-at-requires enum-known-n enum-told returns returns-2)

@@ -20,10 +20,16 @@ enum-known-first : tie.Need-enum-known-first
 enum-known-first c = search needs
 
 add-end : tie.Need-add-end
-add-end c = omega (arith, inside (c .before .before .before .before .before .args .text .now) (c .before .before .before .before .before .args .at) (c .before .before .before .before .before .pre) (omega arith))
+add-end c =
+    let text = c .before .before .before .before .before .args .text .now in
+    let at = c .before .before .before .before .before .args .at in
+    omega (arith, inside text at (c .before .before .before .before .before .pre) (omega arith))
 
 add-end-2 : tie.Need-add-end-2
-add-end-2 c = omega (arith, is-inside 39 (c .before .before .before .before .before .args .text .now) ((c .before .before .before .before .before .args .at) + 1) (when-is _ (c .before .before .before .character-at .ensures) (c .before .first .given .1)))
+add-end-2 c =
+    let text = c .before .before .before .before .before .args .text .now in
+    let at = c .before .before .before .before .before .args .at in
+    omega (arith, is-inside 39 text (at + 1) (when-is _ (c .before .before .before .character-at .ensures) (c .before .first .given .1)))
 
 character-at-requires-2 : tie.Need-character-at-requires-2
 character-at-requires-2 c κs = search needs
@@ -35,7 +41,15 @@ cast-t12 : tie.Need-cast-t12
 cast-t12 c = search needs
 
 add-t14 : tie.Need-add-t14
-add-t14 c = omega (arith, closing-inside 39 (c .before .before .before .before .before .before .before .before .args .text .now) ((c .before .before .before .before .before .before .before .before .args .at) + 1 + c .before .before .before .before .first .given .0 .1 .0) (when-closing _ (c .before .before .character-at2 .ensures) (c .enum-told .given .1)))
+add-t14 c =
+    let text = c .before .before .before .before .before .before .before .before .args .text .now in
+    let at = c .before .before .before .before .before .before .before .before .args .at in
+    omega (
+      arith,
+      closing-inside 39 text
+          (at + 1 + c .before .before .before .before .first .given .0 .1 .0)
+          (when-closing _ (c .before .before .character-at2 .ensures) (c .enum-told .given .1)),
+    )
 
 enum-told-2 : tie.Need-enum-told-2
 enum-told-2 c = search needs
@@ -51,19 +65,48 @@ enum-told-5 c = search needs
 
 returns : tie.Need-returns
 unfolding asOperand
-returns c = an-operand quotation (c .before .before .before .before .before .before .before .before .args .text .now) (c .before .before .before .before .before .before .before .before .args .at) (quotation-reads (c .before .before .before .before .before .before .before .before .args .text .now) (c .before .before .before .before .before .before .before .before .args .at) (c .before .before .before .before .before .before .before .before .pre) (when-is _ (c .before .before .before .before .before .before .character-at .ensures) (c .before .before .before .before .first .given .1)) (when-closing _ (c .before .before .character-at2 .ensures) (c .enum-told .given .1)))
+returns c =
+    let text = c .before .before .before .before .before .before .before .before .args .text .now in
+    let at = c .before .before .before .before .before .before .before .before .args .at in
+    an-operand quotation text at
+    (quotation-reads text at
+    (c .before .before .before .before .before .before .before .before .pre)
+    (when-is _ (c .before .before .before .before .before .before .character-at .ensures) (c .before .before .before .before .first .given .1))
+    (when-closing _ (c .before .before .character-at2 .ensures) (c .enum-told .given .1)))
 
 returns-2 : tie.Need-returns-2
-returns-2 c = no-operand quotation (c .before .before .before .before .before .before .before .before .args .text .now) (c .before .before .before .before .before .before .before .before .args .at) (quotation-two (c .before .before .before .before .before .before .before .before .args .text .now) (c .before .before .before .before .before .before .before .before .args .at) (c .before .before .before .before .before .before .before .before .pre) (when-is _ (c .before .before .before .before .before .before .character-at .ensures) (c .before .before .before .before .first .given .1)) (when-is _ (c .before .before .character-at2 .ensures) (c .enum-told2 .given .1)))
+returns-2 c =
+    let text = c .before .before .before .before .before .before .before .before .args .text .now in
+    let at = c .before .before .before .before .before .before .before .before .args .at in
+    no-operand quotation text at
+    (quotation-two text at
+    (c .before .before .before .before .before .before .before .before .pre)
+    (when-is _ (c .before .before .before .before .before .before .character-at .ensures) (c .before .before .before .before .first .given .1))
+    (when-is _ (c .before .before .character-at2 .ensures) (c .enum-told2 .given .1)))
 
 returns-3 : tie.Need-returns-3
-returns-3 c = no-operand quotation (c .before .before .before .before .before .before .before .before .args .text .now) (c .before .before .before .before .before .before .before .before .args .at) (quotation-open (c .before .before .before .before .before .before .before .before .args .text .now) (c .before .before .before .before .before .before .before .before .args .at) (c .before .before .before .before .before .before .before .before .pre) (when-is _ (c .before .before .before .before .before .before .character-at .ensures) (c .before .before .before .before .first .given .1)) (when-bad _ (c .before .before .character-at2 .ensures) (c .enum-told3 .given .1)))
+returns-3 c =
+    let text = c .before .before .before .before .before .before .before .before .args .text .now in
+    let at = c .before .before .before .before .before .before .before .before .args .at in
+    no-operand quotation text at
+    (quotation-open text at
+    (c .before .before .before .before .before .before .before .before .pre)
+    (when-is _ (c .before .before .before .before .before .before .character-at .ensures) (c .before .before .before .before .first .given .1))
+    (when-bad _ (c .before .before .character-at2 .ensures) (c .enum-told3 .given .1)))
 
 returns-4 : tie.Need-returns-4
-returns-4 c = no-operand quotation (c .before .before .before .before .args .text .now) (c .before .before .before .before .args .at) (quotation-none (c .before .before .before .before .args .text .now) (c .before .before .before .before .args .at) (c .before .before .before .before .pre) (when-closing _ (c .before .before .character-at .ensures) (c .enum-told4 .given .1)))
+returns-4 c =
+    let text = c .before .before .before .before .args .text .now in
+    let at = c .before .before .before .before .args .at in
+    no-operand quotation text at
+    (quotation-none text at (c .before .before .before .before .pre) (when-closing _ (c .before .before .character-at .ensures) (c .enum-told4 .given .1)))
 
 returns-5 : tie.Need-returns-5
-returns-5 c = no-operand quotation (c .before .before .before .before .args .text .now) (c .before .before .before .before .args .at) (quotation-bad (c .before .before .before .before .args .text .now) (c .before .before .before .before .args .at) (c .before .before .before .before .pre) (when-bad _ (c .before .before .character-at .ensures) (c .enum-told5 .given .1)))
+returns-5 c =
+    let text = c .before .before .before .before .args .text .now in
+    let at = c .before .before .before .before .args .at in
+    no-operand quotation text at
+    (quotation-bad text at (c .before .before .before .before .pre) (when-bad _ (c .before .before .character-at .ensures) (c .enum-told5 .given .1)))
 
 pub quotation-spec : {M : Type 1} → statement M
 quotation-spec =

@@ -13,7 +13,9 @@ marked-requires : tie.Need-marked-requires
 marked-requires c κs = search needs
 
 add-t4 : tie.Need-add-t4
-add-t4 c = omega (arith, mark-inside (c .before .before .before .before .args .text .now) (c .before .before .past-gap .result) 36 (sym (c .before .marked .ensures) ∙ c .if1 .taken) (omega arith))
+add-t4 c =
+    let text = c .before .before .before .before .args .text .now in
+    omega (arith, mark-inside text (c .before .before .past-gap .result) 36 (sym (c .before .marked .ensures) ∙ c .if1 .taken) (omega arith))
 
 returns : tie.Need-returns
 returns c = start-from (c .before .before .before .before .args .text .now) (c .before .before .past-gap .ensures) (c .before .marked .ensures) (c .if1 .taken)

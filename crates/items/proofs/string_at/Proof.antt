@@ -13,10 +13,16 @@ has-requires : tie.Need-has-requires
 has-requires c κs = search needs
 
 returns : tie.Need-returns
-returns c = no-item stringItem (c .before .before .before .args .text .now) (c .before .before .before .args .at) (string-none (c .before .before .before .args .text .now) (c .before .before .before .args .at) (eqb-false _ _ (sym (c .before .has .ensures) ∙ not-true _ (c .if1 .taken))))
+returns c =
+    let text = c .before .before .before .args .text .now in
+    let at = c .before .before .before .args .at in
+    no-item stringItem text at (string-none text at (eqb-false _ _ (sym (c .before .has .ensures) ∙ not-true _ (c .if1 .taken))))
 
 add-characters-at : tie.Need-add-characters-at
-add-characters-at c = omega (arith, inside (c .before .before .before .args .text .now) (c .before .before .before .args .at) (eqb-true _ 34 (sym (c .before .has .ensures) ∙ not-false _ (c .if1 .left))) (omega arith))
+add-characters-at c =
+    let text = c .before .before .before .args .text .now in
+    let at = c .before .before .before .args .at in
+    omega (arith, inside text at (eqb-true _ 34 (sym (c .before .has .ensures) ∙ not-false _ (c .if1 .left))) (omega arith))
 
 characters-at-requires : tie.Need-characters-at-requires
 characters-at-requires c κs = search needs
@@ -25,22 +31,56 @@ enum-known-s : tie.Need-enum-known-s
 enum-known-s c = search needs
 
 returns-2 : tie.Need-returns-2
-returns-2 c = no-item stringItem (c .before .before .before .before .before .before .before .before .args .text .now) (c .before .before .before .before .before .before .before .before .args .at) (string-long (c .before .before .before .before .before .before .before .before .args .text .now) (c .before .before .before .before .before .before .before .before .args .at) (byte-reads (c .before .before .before .before .before .before .before .before .args .text .now) (c .before .before .before .before .before .before .before .before .args .at) 34 (eqb-true _ _ (sym (c .before .before .before .before .before .before .has .ensures) ∙ not-false _ (c .before .before .before .before .before .if1 .left)))) (characters-read (c .before .before .before .before .before .before .before .before .args .text .now) ((c .before .before .before .before .before .before .before .before .args .at) + 1) (c .before .before .before .before .characters-at .ensures) (c .before .before .s .given .1)) (c .if2 .taken))
+returns-2 c =
+    let text = c .before .before .before .before .before .before .before .before .args .text .now in
+    let at = c .before .before .before .before .before .before .before .before .args .at in
+    no-item stringItem text at
+    (string-long text at
+    (byte-reads text at 34
+    (eqb-true _ _ (sym (c .before .before .before .before .before .before .has .ensures) ∙ not-false _ (c .before .before .before .before .before .if1 .left))))
+    (characters-read text (at + 1) (c .before .before .before .before .characters-at .ensures) (c .before .before .s .given .1))
+    (c .if2 .taken))
 
 ended-requires : tie.Need-ended-requires
 ended-requires c κs = search needs
 
 returns-3 : tie.Need-returns-3
-returns-3 c = a-string (c .before .before .before .before .before .before .before .before .before .before .args .text .now) (c .before .before .before .before .before .before .before .before .before .before .args .at) (byte-reads (c .before .before .before .before .before .before .before .before .before .before .args .text .now) (c .before .before .before .before .before .before .before .before .before .before .args .at) 34 (eqb-true _ _ (sym (c .before .before .before .before .before .before .before .before .has .ensures) ∙ not-false _ (c .before .before .before .before .before .before .before .if1 .left)))) (characters-read (c .before .before .before .before .before .before .before .before .before .before .args .text .now) ((c .before .before .before .before .before .before .before .before .before .before .args .at) + 1) (c .before .before .before .before .before .before .characters-at .ensures) (c .before .before .before .before .s .given .1)) (c .before .before .if2 .left) (ended-reads (c .before .before .before .before .before .before .before .before .before .before .args .text .now) (c .before .before .before .before .s .given .0 .1 .0) (c .before .ended .ensures) (c .if3 .taken))
+returns-3 c =
+    let text = c .before .before .before .before .before .before .before .before .before .before .args .text .now in
+    let at = c .before .before .before .before .before .before .before .before .before .before .args .at in
+    a-string text at
+    (byte-reads text at 34
+    (eqb-true _ _
+    (sym (c .before .before .before .before .before .before .before .before .has .ensures) ∙
+    not-false _ (c .before .before .before .before .before .before .before .if1 .left))))
+    (characters-read text (at + 1) (c .before .before .before .before .before .before .characters-at .ensures) (c .before .before .before .before .s .given .1))
+    (c .before .before .if2 .left)
+    (ended-reads text (c .before .before .before .before .s .given .0 .1 .0) (c .before .ended .ensures) (c .if3 .taken))
 
 enum-told : tie.Need-enum-told
 enum-told c = search needs
 
 returns-4 : tie.Need-returns-4
-returns-4 c = no-item stringItem (c .before .before .before .before .before .before .before .before .before .before .args .text .now) (c .before .before .before .before .before .before .before .before .before .before .args .at) (string-open (c .before .before .before .before .before .before .before .before .before .before .args .text .now) (c .before .before .before .before .before .before .before .before .before .before .args .at) (byte-reads (c .before .before .before .before .before .before .before .before .before .before .args .text .now) (c .before .before .before .before .before .before .before .before .before .before .args .at) 34 (eqb-true _ _ (sym (c .before .before .before .before .before .before .before .before .has .ensures) ∙ not-false _ (c .before .before .before .before .before .before .before .if1 .left)))) (characters-read (c .before .before .before .before .before .before .before .before .before .before .args .text .now) ((c .before .before .before .before .before .before .before .before .before .before .args .at) + 1) (c .before .before .before .before .before .before .characters-at .ensures) (c .before .before .before .before .s .given .1)) (c .before .before .if2 .left) (ended-fails (c .before .before .before .before .before .before .before .before .before .before .args .text .now) (c .before .before .before .before .s .given .0 .1 .0) (c .before .ended .ensures) (c .if3 .left)))
+returns-4 c =
+    let text = c .before .before .before .before .before .before .before .before .before .before .args .text .now in
+    let at = c .before .before .before .before .before .before .before .before .before .before .args .at in
+    no-item stringItem text at
+    (string-open text at
+    (byte-reads text at 34
+    (eqb-true _ _
+    (sym (c .before .before .before .before .before .before .before .before .has .ensures) ∙ not-false _ (c .before .before .before .before .before .before .before .if1 .left))))
+    (characters-read text (at + 1) (c .before .before .before .before .before .before .characters-at .ensures) (c .before .before .before .before .s .given .1))
+    (c .before .before .if2 .left)
+    (ended-fails text (c .before .before .before .before .s .given .0 .1 .0) (c .before .ended .ensures) (c .if3 .left)))
 
 returns-5 : tie.Need-returns-5
-returns-5 c = no-item stringItem (c .before .before .before .before .before .before .args .text .now) (c .before .before .before .before .before .before .args .at) (string-faulty (c .before .before .before .before .before .before .args .text .now) (c .before .before .before .before .before .before .args .at) (byte-reads (c .before .before .before .before .before .before .args .text .now) (c .before .before .before .before .before .before .args .at) 34 (eqb-true _ _ (sym (c .before .before .before .before .has .ensures) ∙ not-false _ (c .before .before .before .if1 .left)))) (characters-fail (c .before .before .before .before .before .before .args .text .now) ((c .before .before .before .before .before .before .args .at) + 1) (c .before .before .characters-at .ensures) (c .enum-told .given .1)))
+returns-5 c =
+    let text = c .before .before .before .before .before .before .args .text .now in
+    let at = c .before .before .before .before .before .before .args .at in
+    no-item stringItem text at
+    (string-faulty text at
+    (byte-reads text at 34 (eqb-true _ _ (sym (c .before .before .before .before .has .ensures) ∙ not-false _ (c .before .before .before .if1 .left))))
+    (characters-fail text (at + 1) (c .before .before .characters-at .ensures) (c .enum-told .given .1)))
 
 pub string-at-spec : {M : Type 1} → statement M
 string-at-spec =

@@ -25,19 +25,36 @@ escape-requires : tie.Need-escape-requires
 escape-requires c κs = search needs
 
 returns-3 : tie.Need-returns-3
-returns-3 c = c .escape .ensures ∙ sym (ap asCharacter (at-byte (character _) _ _ (c .before .before .before .before .if1 .left) refl ∙ at-asterisk _ _ _ (c .before .before .if2 .left) (c .before .if3 .taken)))
+returns-3 c =
+    c .escape .ensures ∙
+    sym
+    (ap asCharacter
+    (at-byte (character _) _ _ (c .before .before .before .before .if1 .left) refl ∙ at-asterisk _ _ _ (c .before .before .if2 .left) (c .before .if3 .taken)))
 
 returns-4 : tie.Need-returns-4
 unfolding asCharacter
-returns-4 c = sym (ap asCharacter (at-byte (character _) _ _ (c .before .before .before .before .if1 .left) refl ∙ at-control _ _ _ (c .before .before .if2 .left) (c .before .if3 .left) (c .if4 .taken)))
+returns-4 c =
+    sym
+    (ap asCharacter
+    (at-byte (character _) _ _ (c .before .before .before .before .if1 .left) refl ∙
+    at-control _ _ _ (c .before .before .if2 .left) (c .before .if3 .left) (c .if4 .taken)))
 
 returns-5 : tie.Need-returns-5
 unfolding asCharacter
-returns-5 c = sym (ap asCharacter (at-byte (character _) _ _ (c .before .before .before .before .before .if1 .left) refl ∙ at-high _ _ _ (c .before .before .before .if2 .left) (c .before .before .if3 .left) (c .if5 .taken)))
+returns-5 c =
+    sym
+    (ap asCharacter
+    (at-byte (character _) _ _ (c .before .before .before .before .before .if1 .left) refl ∙
+    at-high _ _ _ (c .before .before .before .if2 .left) (c .before .before .if3 .left) (c .if5 .taken)))
 
 returns-6 : tie.Need-returns-6
 unfolding asCharacter
-returns-6 c = sym (ap asCharacter (at-byte (character _) _ _ (c .before .before .before .before .before .if1 .left) refl ∙ at-plain _ _ _ (c .before .before .before .if2 .left) (c .before .before .if3 .left) (c .before .if4 .left) (c .if5 .left)))
+returns-6 c =
+    sym
+    (ap asCharacter
+    (at-byte (character _) _ _ (c .before .before .before .before .before .if1 .left) refl ∙
+    at-plain _ _ _ (c .before .before .before .if2 .left) (c .before .before .if3 .left) (c .before .if4 .left)
+    (c .if5 .left)))
 
 pub character-at-spec : {M : Type 1} → statement M
 character-at-spec =

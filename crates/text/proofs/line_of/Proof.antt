@@ -19,7 +19,9 @@ loop-holds : tie.Need-loop-holds Inv-loop μ-loop
 loop-holds c = omega (arith, between-all (c .args .text .now) (c .args .place))
 
 returns : tie.Need-returns Inv-loop μ-loop
-returns c = omega (arith, between-none (c .before .before .before .args .text .now) (c .before .before .before .args .place) (c .before .before .loop .i) (c .if1 .taken))
+returns c =
+    let text = c .before .before .before .args .text .now in
+    omega (arith, between-none text (c .before .before .before .args .place) (c .before .before .loop .i) (c .if1 .taken))
 
 shared-slice-read-if2 : tie.Need-shared-slice-read-if2 Inv-loop μ-loop
 shared-slice-read-if2 c = search needs
@@ -34,7 +36,20 @@ loop-less : tie.Need-loop-less Inv-loop μ-loop
 loop-less c = omega arith
 
 loop-again : tie.Need-loop-again Inv-loop μ-loop
-loop-again c = ⊎-elim (λ w. omega (arith, between-newline (c .before .before .before .before .before .args .text .now) (c .before .before .before .before .before .args .place) (c .before .before .before .before .loop .i) (omega arith) (omega arith) (w .0 .taken))) (λ w. omega (arith, between-other (c .before .before .before .before .before .args .text .now) (c .before .before .before .before .before .args .place) (c .before .before .before .before .loop .i) (omega arith) (omega arith) (w .0 .left))) (c .if2 .came)
+loop-again c =
+    let text = c .before .before .before .before .before .args .text .now in
+    ⊎-elim
+    (λ w. omega (
+      arith,
+      between-newline text (c .before .before .before .before .before .args .place)
+          (c .before .before .before .before .loop .i) (omega arith) (omega arith) (w .0 .taken),
+    ))
+    (λ w. omega (
+      arith,
+      between-other text (c .before .before .before .before .before .args .place)
+          (c .before .before .before .before .loop .i) (omega arith) (omega arith) (w .0 .left),
+    ))
+    (c .if2 .came)
 
 returns-2 : tie.Need-returns-2 Inv-loop μ-loop
 returns-2 c = omega (arith, between-past (c .before .before .args .text .now) (c .before .before .args .place) (c .before .loop .i) (omega arith))
