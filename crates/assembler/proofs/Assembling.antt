@@ -1,19 +1,17 @@
 -- Both passes together: each way through `assemble` gives what the definition says.
-use Prim.Native.Nat.{ℕ, zero, suc, _+_, _-_, _*_, _/_, _%_, _<_, _≤_}
+use Prim.Native.Nat.{ℕ, _+_, _-_, _*_, _/_, _%_, _<_, _≤_}
 use mathlib.Core.Path.{_≡_, refl, sym, ap, _∙_}
-use mathlib.Core.Bool.{Bool, true, false, cond}
 use mathlib.Core.List.{List, [], _∷_, _++_, map}
 use native.Mathlib.Omega.{arith}
 use native.Mathlib.Nat.{sub-zero}
-use lib.Dec.{leb}
-use lib.ListN.{length, replicate, take, length-append, length-replicate}
+use lib.ListN.{length, replicate, take, length-replicate}
 use lib.Seq.{length-take-le}
 use borrow.Author.Tests.{le-leb, lt-leb}
 use Rattle.items.specs.Item.{Placed}
 use Rattle.items.specs.Scan.{Ending, whole, unreadable, Scan, ends, scan}
 use Rattle.assembler.specs.Layout.{Label, Laid, laid, refused, lay, unknowns}
 use Rattle.assembler.specs.Assemble.{start, noGlobals, image, packed, Assembly, refuse, accept, onLaid, assembled, Assembles}
-use Rattle.assembler.specs.Passes.{recordOf, records, Table, afterEnding, laidBy, Lays, filled, FitsAll, asWritten, WritesAll, Ready, Gives}
+use Rattle.assembler.specs.Passes.{records, Table, afterEnding, laidBy, Lays, FitsAll, asWritten, WritesAll, Ready, Gives}
 use Rattle.assembler.specs.declared.Assembled.{Assembled}
 use Rattle.assembler.specs.declared.Assembled.the-variants.{Accepted}
 use Rattle.assembler.specs.declared.Placing.{Placing}
@@ -61,7 +59,7 @@ table-is count table t =
 
 -- ---- the passes' answers
 
-length-fixed : (n : ℕ) → 416 ≤ n → length (start ++ noGlobals ++ replicate (n - 416) 0) ≡ n
+pub length-fixed : (n : ℕ) → 416 ≤ n → length (start ++ noGlobals ++ replicate (n - 416) 0) ≡ n
 unfolding noGlobals
 length-fixed n h = let z : length (replicate {A = ℕ} (n - 416) 0) ≡ n - 416 = length-replicate (n - 416) 0 in omega arith
 

@@ -1,13 +1,19 @@
--- An item's fault: out of range, or by what `misplaced` says of one in range.
-use Prim.Native.Nat.{ℕ}
-use mathlib.Core.Path.{_≡_, refl, sym}
-use mathlib.Core.Bool.{Bool, true, false, cond}
+-- An item's fault: out of range, or by what `misplaced` says of one in range; and what an item without fault satisfies.
+use Prim.Native.Nat.{ℕ, _+_, _<_, _≤_}
+use mathlib.Core.Path.{_≡_, refl}
+use mathlib.Core.Bool.{Bool, true, false}
 use mathlib.Core.List.{List}
-use Rattle.items.specs.Item.{Item}
-use Rattle.assembler.specs.Words.{inRange}
-use Rattle.assembler.specs.Layout.{Label, misplaced, fault}
+use native.Mathlib.Omega.{arith}
+use lib.Dec.{leb, ltb}
+use lib.ListN.{length}
+use borrow.Author.Tests.{leb-false, ltb-false}
+use Rattle.items.specs.Item as I
+use Rattle.assembler.specs.Words.{inRange, size}
+use Rattle.assembler.specs.Layout.{Label, defined, misplaced, fault}
+use Rattle.assembler.specs.Passes.{labelFault, beyond}
+use Rattle.assembler.proofs.Operands.{label-range}
 
-module _ (memory room at : ℕ) (labels : List Label) (i : Item) where
+module _ (memory room at : ℕ) (labels : List Label) (i : I.Item) where
   pub fault-out : inRange i ≡ false → 23 ≡ fault memory room at labels i
   unfolding fault
   fault-out h = rw h
@@ -15,3 +21,45 @@ module _ (memory room at : ℕ) (labels : List Label) (i : Item) where
   pub fault-in : {r : ℕ} → inRange i ≡ true → r ≡ misplaced memory room at labels i → r ≡ fault memory room at labels i
   unfolding fault
   fault-in h e = rw h e
+
+-- ---- what an item without fault satisfies
+
+module _ (memory room at : ℕ) (labels : List Label) where
+  pub no-fault-ranged : (i : I.Item) → fault memory room at labels i ≡ 0 → inRange i ≡ true
+  unfolding fault
+  no-fault-ranged i h = go (inRange i) refl
+    where
+      go : (t : Bool) → inRange i ≡ t → inRange i ≡ true
+      go true e = e
+      go false e = let z : _≡_ {A = ℕ} 23 0 = rw e at h in absurd (omega arith)
+
+  pub no-fault-placed : (i : I.Item) → fault memory room at labels i ≡ 0 → misplaced memory room at labels i ≡ 0
+  unfolding fault
+  no-fault-placed i h = rw (no-fault-ranged i h) at h
+
+  pub label-placed : (n : ℕ) → labelFault room labels n ≡ 0 → (defined labels n ≡ false) × (length labels < room)
+  label-placed n h = go (defined labels n) (leb room (length labels)) refl refl
+    where
+      go : (d f : Bool) → defined labels n ≡ d → leb room (length labels) ≡ f → (defined labels n ≡ false) × (length labels < room)
+      go true f p q = let z : _≡_ {A = ℕ} 21 0 = rw p at h in absurd (omega arith)
+      go false true p q = let z : _≡_ {A = ℕ} 25 0 = rw (p, q) at h in absurd (omega arith)
+      go false false p q = (p, leb-false _ _ q)
+
+  within : (words : ℕ) → beyond memory at words ≡ 0 → at + words ≤ memory
+  within words h = go (ltb memory (at + words)) refl
+    where
+      go : (t : Bool) → ltb memory (at + words) ≡ t → at + words ≤ memory
+      go true e = let z : _≡_ {A = ℕ} 24 0 = rw e at h in absurd (omega arith)
+      go false e = ltb-false _ _ e
+
+  pub no-fault-label : (n : ℕ) → fault memory room at labels (I.label n) ≡ 0 → (n ≤ 32767) × (length labels < room)
+  unfolding misplaced inRange
+  no-fault-label n h = (label-range n (no-fault-ranged (I.label n) h) .1, label-placed n (no-fault-placed (I.label n) h) .1)
+
+  pub no-fault-fits : (i : I.Item) → fault memory room at labels i ≡ 0 → at ≤ memory → at + size i ≤ memory
+  unfolding misplaced size
+  no-fault-fits (I.label n) h l = omega arith
+  no-fault-fits (I.instruction f i b x) h l = within (size (I.instruction f i b x)) (no-fault-placed (I.instruction f i b x) h)
+  no-fault-fits (I.constant x) h l = within (size (I.constant x)) (no-fault-placed (I.constant x) h)
+  no-fault-fits (I.string cs) h l = within (size (I.string cs)) (no-fault-placed (I.string cs) h)
+  no-fault-fits (I.global n m) h l = omega arith

@@ -1,18 +1,18 @@
 -- The second pass: what its loop keeps, and what each of its answers gives.
-use Prim.Native.Nat.{ℕ, zero, suc, _+_, _-_, _<_, _≤_}
+use Prim.Native.Nat.{ℕ, _+_, _≤_}
 use mathlib.Core.Path.{_≡_, refl, sym, ap, _∙_}
-use mathlib.Core.Bool.{Bool, true, false, cond}
-use mathlib.Core.List.{List, [], _∷_, _++_}
+use mathlib.Core.Bool.{Bool, true, false}
+use mathlib.Core.List.{List}
 use native.Mathlib.Omega.{arith}
 use lib.ListN.{length, drop}
 use Rattle.items.specs.Item as I
-use Rattle.items.specs.Scan.{Ending, Scan, ends, goesOn, body}
-use Rattle.items.specs.Answers.{asItem}
+use Rattle.items.specs.Scan.{Ending, ends, body}
+use Rattle.items.proofs.Answers.{StringKept, when-string}
 use Rattle.items.specs.declared.Item.{Item}
 use Rattle.items.specs.declared.Item.the-variants as C
 use Rattle.assembler.specs.Words.{inRange, size}
 use Rattle.assembler.specs.Layout.{Label, known, unknowns}
-use Rattle.assembler.specs.Passes.{itemOf, put, filled, Writable, Writes, letters, Quoting, itemAt, Spelled, FitsAll, asWritten, WritesAll}
+use Rattle.assembler.specs.Passes.{filled, Writable, Writes, letters, Quoting, itemAt, Spelled, FitsAll, asWritten, WritesAll}
 use Rattle.assembler.specs.declared.Step.{Step}
 use Rattle.assembler.specs.declared.Step.the-variants as S
 use Rattle.assembler.specs.declared.Written.the-variants as W
@@ -40,14 +40,6 @@ module _ (labels : List Label) (i : I.Item) (at : ℕ) (memory : List ℕ) {answ
       go : (t : Bool) → known labels i ≡ t → (known labels i ≡ true) × (address ≡ at + size i)
       go true e = let y : S.To address ≡ S.To (at + size i) = sym q ∙ w .answers ∙ rw e in (e, cc)
       go false e = let y : S.To address ≡ S.Unknown = sym q ∙ w .answers ∙ rw e in let z : _≡_ {A = ℕ} 0 1 = cc in absurd (omega arith)
-
-was-string : {T : Type 0} (i : I.Item) {n : ℕ} → asItem i ≡ C.String n → ((cs : List ℕ) → i ≡ I.string cs → length cs ≡ n → T) → T
-unfolding asItem
-was-string (I.string cs) e k = k cs refl (cc)
-was-string (I.label m) e k = let z : _≡_ {A = ℕ} 0 1 = cc in absurd (omega arith)
-was-string (I.instruction f i b x) e k = let z : _≡_ {A = ℕ} 0 1 = cc in absurd (omega arith)
-was-string (I.constant x) e k = let z : _≡_ {A = ℕ} 0 1 = cc in absurd (omega arith)
-was-string (I.global m l) e k = let z : _≡_ {A = ℕ} 0 1 = cc in absurd (omega arith)
 
 pub filling-start : (labels : List Label) (text memory : List ℕ) (from : ℕ) → 416 ≤ length memory
     → FitsAll (length memory) 416 (body 0 from (drop from text) .items) → Filling labels text memory from from 416 memory
@@ -87,8 +79,8 @@ module _ (labels : List Label) (text memory₀ : List ℕ) (from place at : ℕ)
       where
         found : (n : ℕ) → item ≡ C.String n → Quoting text (first + 2) × (length (letters text (first + 2)) ≡ n) × (first + 2 ≤ length text)
         found n e =
-            was-string (i .read) (sym (i .same) ∙ e)
-            (λ cs f g. (i .spelled cs f .0, ap length (i .spelled cs f .1) ∙ g, i .spelled cs f .2))
+            let k : StringKept (i .read) n = when-string (i .read) (i .same) e in
+            (i .spelled (k .characters) (k .item) .0, ap length (i .spelled (k .characters) (k .item) .1) ∙ sym (k .same-length), i .spelled (k .characters) (k .item) .2)
 
     module _ {answer : Step} {memory′ : List ℕ} (w : Writes labels (itemAt text first item) at memory answer memory′) where
       written : Writes labels (i .read) at memory answer memory′

@@ -1,18 +1,18 @@
 -- The memory after every item is the image: items written one after another are words in a row, and globals beside them.
-use Prim.Native.Nat.{ℕ, zero, suc, _+_, _-_, _*_, _/_, _<_, _≤_}
-use mathlib.Core.Path.{_≡_, refl, sym, ap, _∙_}
+use Prim.Native.Nat.{ℕ, zero, suc, _+_, _-_, _/_, _<_, _≤_}
+use mathlib.Core.Path.{_≡_, refl, ap, _∙_}
 use mathlib.Core.Bool.{Bool, true, false, cond}
 use mathlib.Core.List.{List, [], _∷_, _++_, append-assoc, append-nil}
 use native.Mathlib.Omega.{arith}
 use native.Mathlib.Nat.{sub-zero}
-use lib.ListN.{length, set, replicate, take, drop, length-append, length-replicate, length-set, replicate-append-replicate}
+use lib.ListN.{length, set, replicate, drop, length-append, length-replicate, length-set, replicate-append-replicate}
 use lib.Seq.{sets, sets-eq, set-append-left, take-at, drop-at, drop-append-add}
 use Rattle.items.specs.Item as I
 use Rattle.assembler.specs.Words.{short, inRange, size, pairs, words}
-use Rattle.assembler.specs.Layout.{Label, addressOf, noted, Laid, laid, refused, onFault, fault, lay}
+use Rattle.assembler.specs.Layout.{Label, addressOf, noted, laid, refused, fault, lay}
 use Rattle.assembler.specs.Assemble.{start, noGlobals, globalsAfter, globals, program, image}
 use Rattle.assembler.specs.Passes.{put, filled, FitsAll}
-use Rattle.assembler.proofs.Noting.{no-fault-ranged, no-fault-fits}
+use Rattle.assembler.proofs.Faults.{no-fault-ranged, no-fault-fits}
 use Rattle.assembler.proofs.Writing.{global-range}
 
 -- ---- lists

@@ -1,20 +1,19 @@
 -- The first pass: what its loop keeps, and what each of its answers gives.
-use Prim.Native.Nat.{ℕ, zero, suc, _+_, _-_, _<_, _≤_}
-use mathlib.Core.Path.{_≡_, refl, sym, ap, _∙_}
-use mathlib.Core.Bool.{Bool, true, false, cond}
-use mathlib.Core.List.{List, [], _∷_, _++_}
+use Prim.Native.Nat.{ℕ, zero, suc, _+_, _≤_}
+use mathlib.Core.Path.{_≡_, refl, sym, _∙_}
+use mathlib.Core.Bool.{true}
+use mathlib.Core.List.{List, []}
 use native.Mathlib.Omega.{arith}
 use lib.ListN.{length, take, drop}
 use Rattle.items.specs.Item as I
 use Rattle.items.specs.Scan.{Ending, whole, unreadable, Scan, ends, goesOn, body}
-use Rattle.items.specs.Answers.{asItem}
 use Rattle.items.specs.declared.Item.{Item}
 use Rattle.assembler.specs.Words.{inRange, size}
-use Rattle.assembler.specs.Layout.{Label, noted, Laid, laid, refused, fault, lay}
+use Rattle.assembler.specs.Layout.{Label, noted, Laid, refused, fault, lay}
 use Rattle.assembler.specs.Passes.{itemOf, blank, records, Table, Notes, afterEnding, laidBy, Lays, Zeros}
-use Rattle.assembler.specs.declared.Placing.{Placing}
 use Rattle.assembler.specs.declared.Placing.the-variants as P
-use Rattle.assembler.proofs.Noting.{no-labels, no-fault-fits, no-fault-ranged}
+use Rattle.assembler.proofs.Noting.{no-labels}
+use Rattle.assembler.proofs.Faults.{no-fault-fits, no-fault-ranged}
 use Rattle.assembler.proofs.Reading.{Reads, size-blank, noted-blank, fault-blank}
 
 -- what the pass is to give from an address, some labels and a scan on

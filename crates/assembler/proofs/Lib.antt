@@ -1,4 +1,4 @@
-pub mod Lists
+pub mod Cleared
 pub mod Lookup
 pub mod Operands
 pub mod Faults
@@ -6,9 +6,9 @@ pub mod Noting
 pub mod Reading
 pub mod Laying
 pub mod Writing
-pub mod Fixed
 pub mod Strings
 pub mod Filling
 pub mod Image
 pub mod Assembling
+pub mod Acceptance
 pub mod Examples

@@ -1,23 +1,19 @@
--- A label's record: what a new key adds to the table, and that an item without fault may be noted.
-use Prim.Native.Nat.{ℕ, zero, suc, _+_, _-_, _*_, _/_, _%_, _<_, _≤_}
+-- A label's record: what a new key adds to the table, and which items may be noted.
+use Prim.Native.Nat.{ℕ, suc, _+_, _-_, _*_, _/_, _%_, _<_, _≤_}
 use mathlib.Core.Path.{_≡_, refl, sym, ap, _∙_}
-use mathlib.Core.Bool.{Bool, true, false, cond}
-use mathlib.Core.List.{List, [], _∷_, _++_, map, append-assoc}
+use mathlib.Core.List.{List, [], _∷_, _++_, append-assoc}
 use native.Mathlib.Omega.{arith}
 use native.Mathlib.Nat.{sub-zero}
 use native.Mathlib.Numerals.{add-one}
 use lib.Arith.{digits-div, digits-mod}
-use lib.Dec.{leb, ltb}
 use lib.ListN.{length, set, replicate, take, length-set}
 use lib.Seq.{length-take-le, take-suc-set, set-at}
-use borrow.Author.Tests.{leb-false, ltb-false}
 use Rattle.items.specs.Item as I
 use Rattle.items.specs.declared.Item.{Item}
 use Rattle.items.specs.declared.Item.the-variants as C
-use Rattle.assembler.specs.Words.{labelInRange, inRange, size}
-use Rattle.assembler.specs.Layout.{Label, defined, noted, misplaced, fault}
-use Rattle.assembler.specs.Passes.{itemOf, blank, recordOf, records, labelFault, beyond, Table, Notable, Notes, Zeros}
-use Rattle.assembler.proofs.Operands.{label-range}
+use Rattle.assembler.specs.Layout.{Label, noted, fault}
+use Rattle.assembler.specs.Passes.{itemOf, blank, recordOf, records, Table, Notable, Notes, Zeros}
+use Rattle.assembler.proofs.Faults.{no-fault-label}
 use Rattle.assembler.proofs.Lookup.{length-records}
 
 pub no-labels : (table : List ℕ) → Zeros table → Table 0 table
@@ -69,47 +65,7 @@ pub note-other : (at : ℕ) (i : I.Item) (count : ℕ) (table : List ℕ) → Ta
     → noted at (records (take count table)) i ≡ records (take count table) → Notes at i count table count table
 note-other at i count table t e = record { same = refl; tabled = t; notes = sym e }
 
--- ---- what an item without fault satisfies
-
-module _ (memory room at : ℕ) (labels : List Label) where
-  pub no-fault-ranged : (i : I.Item) → fault memory room at labels i ≡ 0 → inRange i ≡ true
-  unfolding fault
-  no-fault-ranged i h = go (inRange i) refl
-    where
-      go : (t : Bool) → inRange i ≡ t → inRange i ≡ true
-      go true e = e
-      go false e = let z : _≡_ {A = ℕ} 23 0 = rw e at h in absurd (omega arith)
-
-  no-fault-placed : (i : I.Item) → fault memory room at labels i ≡ 0 → misplaced memory room at labels i ≡ 0
-  unfolding fault
-  no-fault-placed i h = rw (no-fault-ranged i h) at h
-
-  label-placed : (n : ℕ) → labelFault room labels n ≡ 0 → (defined labels n ≡ false) × (length labels < room)
-  label-placed n h = go (defined labels n) (leb room (length labels)) refl refl
-    where
-      go : (d f : Bool) → defined labels n ≡ d → leb room (length labels) ≡ f → (defined labels n ≡ false) × (length labels < room)
-      go true f p q = let z : _≡_ {A = ℕ} 21 0 = rw p at h in absurd (omega arith)
-      go false true p q = let z : _≡_ {A = ℕ} 25 0 = rw (p, q) at h in absurd (omega arith)
-      go false false p q = (p, leb-false _ _ q)
-
-  within : (words : ℕ) → beyond memory at words ≡ 0 → at + words ≤ memory
-  within words h = go (ltb memory (at + words)) refl
-    where
-      go : (t : Bool) → ltb memory (at + words) ≡ t → at + words ≤ memory
-      go true e = let z : _≡_ {A = ℕ} 24 0 = rw e at h in absurd (omega arith)
-      go false e = ltb-false _ _ e
-
-  pub no-fault-label : (n : ℕ) → fault memory room at labels (I.label n) ≡ 0 → (n ≤ 32767) × (length labels < room)
-  unfolding misplaced inRange
-  no-fault-label n h = (label-range n (no-fault-ranged (I.label n) h) .1, label-placed n (no-fault-placed (I.label n) h) .1)
-
-  pub no-fault-fits : (i : I.Item) → fault memory room at labels i ≡ 0 → at ≤ memory → at + size i ≤ memory
-  unfolding misplaced size
-  no-fault-fits (I.label n) h l = omega arith
-  no-fault-fits (I.instruction f i b x) h l = within (size (I.instruction f i b x)) (no-fault-placed (I.instruction f i b x) h)
-  no-fault-fits (I.constant x) h l = within (size (I.constant x)) (no-fault-placed (I.constant x) h)
-  no-fault-fits (I.string cs) h l = within (size (I.string cs)) (no-fault-placed (I.string cs) h)
-  no-fault-fits (I.global n m) h l = omega arith
+-- ---- an item without fault may be noted
 
 pub may-note : (memory at : ℕ) (item : Item) (count : ℕ) (table : List ℕ) → Table count table → at < 65536
     → fault memory (length table) at (records (take count table)) (itemOf blank item) ≡ 0 → Notable at item count table

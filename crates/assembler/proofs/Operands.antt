@@ -1,11 +1,11 @@
 -- Operands in range.
-use Prim.Native.Nat.{ℕ, _+_, _-_, _%_, _<_, _≤_}
-use mathlib.Core.Path.{_≡_, refl, sym, ap, _∙_}
-use mathlib.Core.Bool.{Bool, true, false, cond}
+use Prim.Native.Nat.{ℕ, _<_, _≤_}
+use mathlib.Core.Path.{_≡_, refl}
+use mathlib.Core.Bool.{Bool, true, false}
 use native.Mathlib.Omega.{arith}
-use lib.Dec.{leb, ltb}
+use lib.Dec.{leb}
 use borrow.Author.Tests.{leb-true}
-use Rattle.items.specs.Item.{Operand, number, address}
+use Rattle.items.specs.Item.{number}
 use Rattle.assembler.specs.Words.{both, labelInRange, operandInRange}
 
 pub number-below : (minus : Bool) {size : ℕ} → operandInRange (number minus size) ≡ true → size < 65536

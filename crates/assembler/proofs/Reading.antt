@@ -1,12 +1,11 @@
 -- What `items::next_in` answers, as the passes use it: the item that stands next, and the scan from past it.
-use Prim.Native.Nat.{ℕ, zero, suc, _+_, _-_, _<_, _≤_}
-use mathlib.Core.Path.{_≡_, refl, sym, ap, _∙_}
-use mathlib.Core.Bool.{Bool, true, false, cond}
-use mathlib.Core.List.{List, [], _∷_, _++_}
+use Prim.Native.Nat.{ℕ, _+_, _-_, _<_, _≤_}
+use mathlib.Core.Path.{_≡_, refl, ap, _∙_}
+use mathlib.Core.List.{List}
 use native.Mathlib.Omega.{arith}
-use lib.ListN.{length, replicate, drop, length-replicate, length-drop}
+use lib.ListN.{length, drop, length-replicate, length-drop}
 use Rattle.items.specs.Item as I
-use Rattle.items.specs.Scan.{Ending, whole, unreadable, ends, goesOn, body, scan}
+use Rattle.items.specs.Scan.{whole, unreadable, ends, goesOn, body, scan}
 use Rattle.items.specs.Next as N
 use Rattle.items.specs.Answers.{asOperand, asBase, asItem, asNext, asStart}
 use Rattle.items.specs.declared.Item.{Item}
@@ -15,7 +14,8 @@ use Rattle.items.specs.declared.Next.the-variants as M
 use Rattle.items.specs.declared.Start.{Start}
 use Rattle.items.specs.declared.Start.the-variants as A
 use Rattle.items.proofs.Sound as G
-use Rattle.items.proofs.Scans.{body-next, scan-start}
+use Rattle.items.proofs.Answers.{OneRead, when-one, when-whole, when-unreadable, when-from, when-not-begun}
+use Rattle.items.proofs.Scans.{onNext, body-next, scan-start}
 use Rattle.text.proofs.Quotes.{Closed, is-closed}
 use Rattle.assembler.specs.Words.{inRange, size}
 use Rattle.assembler.specs.Layout.{Label, noted, misplaced, fault}
@@ -120,64 +120,30 @@ spelled-string text place {cs} b =
 
 module _ (text : List ℕ) (from : ℕ) {r : Next} (p : r ≡ asNext (N.nextIn text from)) where
   pub reads-one : {place : ℕ} {item : Item} {past : ℕ} → r ≡ M.One place item past → Reads text from place item past
-  unfolding asNext
-  reads-one {place} {item} {past} q = go (N.nextIn text from) refl p
-    where
-      go : (n : N.Next) → N.nextIn text from ≡ n → r ≡ asNext n → Reads text from place item past
-      go (N.one o i k) e h =
-          let g : G.NextGiven text from o i k = G.next-given text from e in
-          let x : place ≡ o = cc in
-          let y : item ≡ asItem i = cc in
-          let z : past ≡ k = cc in
-          rw (x, y, z)
-          (record {
-            read = i;
-            same = refl;
-            goes-on = body-next text from ∙ rw e;
-            onward = omega (arith, g .from, g .some);
-            within = g .within;
-            sound = sound-item i (g .stands .sound);
-            spelled = λ cs f. spelled-string text (o + 2) (G.next-string text from (rw f at e));
-          })
-      go (N.over whole) e h = let z : _≡_ {A = ℕ} 0 1 = cc in absurd (omega arith)
-      go (N.over (unreadable o)) e h = let z : _≡_ {A = ℕ} 0 1 = cc in absurd (omega arith)
-
-  over-is : {e : Ending} → N.nextIn text from ≡ N.over e → body 0 from (drop from text) ≡ ends e
-  over-is h = body-next text from ∙ rw h
+  reads-one {place} {item} {past} q =
+      let o : OneRead (N.nextIn text from) place item past = when-one (N.nextIn text from) p q in
+      let g : G.NextGiven text from place (o .value) past = G.next-given text from (o .next) in
+      record {
+        read = o .value;
+        same = o .same;
+        goes-on = body-next text from ∙ ap (onNext text) (o .next);
+        onward = omega (arith, g .from, g .some);
+        within = g .within;
+        sound = sound-item (o .value) (g .stands .sound);
+        spelled = λ cs f. spelled-string text (place + 2) (G.next-string text from (rw f at (o .next)));
+      }
 
   pub reads-whole : r ≡ M.Whole → body 0 from (drop from text) ≡ ends whole
-  unfolding asNext
-  reads-whole q = over-is (go (N.nextIn text from) p)
-    where
-      go : (n : N.Next) → r ≡ asNext n → n ≡ N.over whole
-      go (N.one o i k) h = let z : _≡_ {A = ℕ} 0 1 = cc in absurd (omega arith)
-      go (N.over whole) h = refl
-      go (N.over (unreadable o)) h = let z : _≡_ {A = ℕ} 0 1 = cc in absurd (omega arith)
+  reads-whole q = body-next text from ∙ rw (when-whole (N.nextIn text from) p q)
 
   pub reads-not : {place : ℕ} → r ≡ M.Unreadable place → body 0 from (drop from text) ≡ ends (unreadable place)
-  unfolding asNext
-  reads-not {place} q = over-is (go (N.nextIn text from) p)
-    where
-      go : (n : N.Next) → r ≡ asNext n → n ≡ N.over (unreadable place)
-      go (N.one o i k) h = let z : _≡_ {A = ℕ} 0 1 = cc in absurd (omega arith)
-      go (N.over whole) h = let z : _≡_ {A = ℕ} 0 1 = cc in absurd (omega arith)
-      go (N.over (unreadable o)) h = let z : o ≡ place = cc in rw z
+  reads-not q = body-next text from ∙ rw (when-unreadable (N.nextIn text from) p q)
 
 -- ---- where the items begin
 
 module _ (text : List ℕ) {r : Start} (p : r ≡ asStart (N.startIn text)) where
   pub begins : {place : ℕ} → r ≡ A.From place → scan text ≡ body 0 place (drop place text)
-  unfolding asStart
-  begins {place} q = scan-start text ∙ rw (go (N.startIn text) p)
-    where
-      go : (n : N.Start) → r ≡ asStart n → n ≡ N.from place
-      go (N.from o) h = let z : o ≡ place = cc in rw z
-      go (N.not o) h = let z : _≡_ {A = ℕ} 0 1 = cc in absurd (omega arith)
+  begins q = scan-start text ∙ rw (when-from (N.startIn text) p q)
 
   pub begins-not : {place : ℕ} → r ≡ A.Unreadable place → scan text ≡ ends (unreadable place)
-  unfolding asStart
-  begins-not {place} q = scan-start text ∙ rw (go (N.startIn text) p)
-    where
-      go : (n : N.Start) → r ≡ asStart n → n ≡ N.not place
-      go (N.from o) h = let z : _≡_ {A = ℕ} 0 1 = cc in absurd (omega arith)
-      go (N.not o) h = let z : o ≡ place = cc in rw z
+  begins-not q = scan-start text ∙ rw (when-not-begun (N.startIn text) p q)

@@ -1,15 +1,15 @@
 -- A string's words: the loop that decodes two characters and stores one word a turn.
-use Prim.Native.Nat.{ℕ, zero, suc, _+_, _-_, _*_, _/_, _<_, _≤_}
+use Prim.Native.Nat.{ℕ, suc, _+_, _-_, _*_, _<_, _≤_}
 use mathlib.Core.Path.{_≡_, refl, sym, ap, _∙_}
-use mathlib.Core.List.{List, [], _∷_, _++_}
+use mathlib.Core.List.{List, [], _∷_}
 use native.Mathlib.Omega.{arith}
 use native.Mathlib.Numerals.{add-one}
 use lib.ListN.{length, set, drop, length-set, length-drop}
 use lib.Seq.{sets, drop-drop}
-use Rattle.text.specs.Quoted.{Quoted, closed, faulty, quoted, Character, is, closing, bad, character}
+use Rattle.text.specs.Quoted.{Quoted, closed, faulty, quoted, is, closing, bad, character}
 use Rattle.text.proofs.Quotes.{Written, is-written, onward, quoted-next, quoted-end, quoted-bad}
 use Rattle.assembler.specs.Words.{pairs}
-use Rattle.assembler.specs.Passes.{charactersOf, letters, Quoting, Spelling}
+use Rattle.assembler.specs.Passes.{letters, Quoting, Spelling}
 
 -- ---- the characters from a place on, by what stands there
 

@@ -1,14 +1,14 @@
 -- An item's words in the memory: each kind of item, known or not.
-use Prim.Native.Nat.{ℕ, zero, suc, _+_, _-_, _*_, _/_, _<_, _≤_}
+use Prim.Native.Nat.{ℕ, _+_, _*_, _/_, _<_, _≤_}
 use mathlib.Core.Path.{_≡_, refl, sym, ap, _∙_}
 use mathlib.Core.Bool.{Bool, true, false, cond}
-use mathlib.Core.List.{List, [], _∷_, _++_}
+use mathlib.Core.List.{List}
 use native.Mathlib.Omega.{arith}
 use native.Mathlib.Numerals.{add-one}
-use lib.Dec.{eqb, leb, ltb}
+use lib.Dec.{eqb, leb}
 use lib.ListN.{length, set, length-set}
 use lib.Seq.{sets, length-sets}
-use borrow.Author.Tests.{eq-eqb, ne-eqb, leb-true, ltb-true}
+use borrow.Author.Tests.{ne-eqb, leb-true, ltb-true}
 use Rattle.items.specs.Item as I
 use Rattle.assembler.specs.Words.{labelInRange, operandInRange, inRange, short, signed, size, indirectBit, baseBit, operandWord, words, pairs}
 use Rattle.assembler.specs.Layout.{Label, defined, addressOf, usedBy, uses, known}
@@ -21,7 +21,7 @@ use Rattle.assembler.proofs.Lookup.{was-at, was-missing}
 
 -- ---- an item that is known, and one that is not
 
-length-put : (labels : List Label) (at : ℕ) (memory : List ℕ) (i : I.Item) → length (put labels at memory i) ≡ length memory
+pub length-put : (labels : List Label) (at : ℕ) (memory : List ℕ) (i : I.Item) → length (put labels at memory i) ≡ length memory
 unfolding put
 length-put labels at memory (I.label n) = refl
 length-put labels at memory (I.instruction f i b x) = length-sets memory at (words (addressOf labels) (I.instruction f i b x))

@@ -20,7 +20,7 @@ ghost use Rattle.items.specs.Scan.{body};
 ghost use Rattle.assembler.specs.Words.{labelInRange, operandInRange, inRange, signed, short, size, indirectBit, baseBit, pairs};
 ghost use Rattle.assembler.specs.Layout.{fault, lay};
 ghost use Rattle.assembler.specs.Assemble.{Assembles, refuse, onLaid, start, noGlobals};
-ghost use Rattle.assembler.specs.Passes.{operandOf, baseOf, itemOf, blank, records, asFound, labelFault, beyond, Notable, Notes, Lays, valueOf, Sound, Writable, Writes, letters, Spelling, itemAt, Spelled, FitsAll, WritesAll, Zeros, Ready, Gives};
+ghost use Rattle.assembler.specs.Passes.{operandOf, baseOf, itemOf, blank, records, asFound, labelFault, beyond, Notable, Notes, Lays, valueOf, Writable, Writes, letters, Spelling, itemAt, Spelled, FitsAll, WritesAll, Zeros, Ready, Gives};
 
 pub enum Assembled {
     Accepted(u16),

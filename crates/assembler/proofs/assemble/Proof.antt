@@ -1,4 +1,3 @@
-use native.Mathlib.Omega.{arith}
 use Rattle.assembler.proofs.Reading.{begins, begins-not}
 use Rattle.assembler.proofs.Assembling.{is-ready, assembles-short, assembles-long, assembles-from, assembles-not}
 use borrow.Author.Needs.{needs}

@@ -1,4 +1,3 @@
-use mathlib.Core.Path.{refl}
 use Rattle.assembler.specs.Passes.{baseOf}
 use native.Mathlib.Omega.{arith}
 use borrow.Author.Needs.{needs}

@@ -1,9 +1,10 @@
-use Rattle.assembler.proofs.Lists.{zeros-more, zeros-all}
+-- The words before `i` are zeros, and the others as they were.
+use Rattle.assembler.proofs.Cleared.{zeros-more, zeros-all}
 use Prim.Native.Nat.{_≤_, _-_}
 use mathlib.Core.Path.{_≡_}
 use mathlib.Core.List.{_++_}
 use lib.ListN.{length, replicate, drop}
-use borrow.Author.Fill.{fill-none, fill-more}
+use borrow.Author.Fill.{fill-none}
 use borrow.Author.Needs.{needs}
 use native.Mathlib.Omega.{arith}
 use Rattle.assembler.proofs.clear_words.Statement.{statement}

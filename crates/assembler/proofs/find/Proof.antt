@@ -1,3 +1,4 @@
+-- What the keys from `i` on give is what all of them give.
 use Prim.Native.Nat.{_≤_, _-_}
 use mathlib.Core.Path.{_≡_, refl}
 use lib.ListN.{length, drop}

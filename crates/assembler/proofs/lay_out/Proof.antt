@@ -1,10 +1,11 @@
+-- What the layout of the items from `place` on gives, after the labels so far, is what all of them give (`Laying`).
 use Prim.Native.Nat.{_-_}
 use mathlib.Core.Path.{sym, _∙_}
 use lib.ListN.{length}
 use borrow.Author.Needs.{needs}
 use native.Mathlib.Omega.{arith}
 use Rattle.assembler.proofs.Noting.{may-note}
-use Rattle.assembler.proofs.Reading.{Reads, reads-one, reads-whole, reads-not}
+use Rattle.assembler.proofs.Reading.{reads-one, reads-whole, reads-not}
 use Rattle.assembler.proofs.Laying.{Laying, laying-start, laying-whole, laying-not, laying-fault, laying-in-range, laying-size, laying-on}
 use Rattle.assembler.proofs.lay_out.Statement.{statement}
 use Rattle.assembler.proofs.lay_out.Tie as tie

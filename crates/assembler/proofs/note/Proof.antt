@@ -2,7 +2,6 @@ use Rattle.assembler.specs.Passes.{itemOf}
 use Rattle.assembler.specs.Layout.{noted}
 use Rattle.assembler.proofs.Noting.{note-label, note-other}
 use native.Mathlib.Omega.{arith}
-use mathlib.Core.Path.{refl}
 use borrow.Author.Needs.{needs}
 use Rattle.assembler.proofs.note.Statement.{statement}
 use Rattle.assembler.proofs.note.Tie as tie

@@ -1,4 +1,4 @@
-use Rattle.assembler.specs.Words.{operandInRange, short}
+use Rattle.assembler.specs.Words.{short}
 use Rattle.assembler.specs.Passes.{operandOf}
 use Rattle.assembler.proofs.Operands.{number-below}
 use borrow.Author.Needs.{needs}

@@ -1,5 +1,5 @@
 use Rattle.assembler.specs.Words.{inRange, size}
-use Rattle.assembler.specs.Passes.{itemOf, blank}
+use Rattle.assembler.specs.Passes.{itemOf}
 use lib.ListN.{length-replicate}
 use native.Mathlib.Numerals.{add-one}
 use borrow.Author.Needs.{needs}

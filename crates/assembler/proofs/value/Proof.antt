@@ -1,5 +1,4 @@
 use Rattle.assembler.specs.Passes.{operandOf, valueOf}
-use Rattle.assembler.specs.Words.{operandInRange}
 use Rattle.assembler.proofs.Operands.{number-below}
 use mathlib.Core.Path.{ap}
 use Rattle.assembler.specs.declared.Found.the-variants.{At}

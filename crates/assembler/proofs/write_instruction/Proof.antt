@@ -1,5 +1,4 @@
 use Rattle.assembler.specs.Words.{inRange}
-use Rattle.assembler.specs.Passes.{operandOf}
 use Rattle.assembler.proofs.Writing.{short-below, first-fits, second-fits, instruction-unknown, instruction-short, instruction-long}
 use mathlib.Core.Path.{sym, _∙_}
 use native.Mathlib.Omega.{arith}

@@ -1,9 +1,10 @@
+-- The items from `place` on, written from `at` on, make what all of them make (`Filling`).
 use Prim.Native.Nat.{_-_}
 use lib.ListN.{length}
 use borrow.Author.Needs.{needs}
 use native.Mathlib.Omega.{arith}
 use Rattle.assembler.specs.Passes.{records}
-use Rattle.assembler.proofs.Reading.{Reads, reads-one, reads-whole, reads-not}
+use Rattle.assembler.proofs.Reading.{reads-one, reads-whole, reads-not}
 use Rattle.assembler.proofs.Filling.{Filling, filling-start, filling-end, filling-writable, filling-spelled, filling-unknown, filling-on}
 use Rattle.assembler.proofs.write_items.Statement.{statement}
 use Rattle.assembler.proofs.write_items.Tie as tie

@@ -1,4 +1,4 @@
-use Rattle.assembler.proofs.Fixed.{fixed-is}
+use Rattle.assembler.proofs.Cleared.{fixed-is}
 use native.Mathlib.Omega.{arith}
 use lib.ListN.{length-set}
 use borrow.Author.Needs.{needs}

@@ -1,10 +1,10 @@
+-- The words of the characters from `place` on, written from `to` on, make what all of them make (`Spells`).
 use Prim.Native.Nat.{_+_}
 use Prim.Native.Nat.{_-_}
 use mathlib.Core.Path.{refl}
-use lib.ListN.{length, drop, length-set}
+use lib.ListN.{length}
 use borrow.Author.Needs.{needs}
 use native.Mathlib.Omega.{arith}
-use Rattle.text.specs.Quoted.{character}
 use Rattle.text.proofs.Answers.{when-is, when-closing, when-bad}
 use Rattle.assembler.proofs.Strings.{Spells, not-bad, past-character, spells-end, second-bad, spells-odd, spells-on}
 use Rattle.assembler.proofs.write_string.Statement.{statement}

@@ -1,0 +1,77 @@
+-- Worked examples: texts and their trees.
+use Prim.Native.Nat.{ℕ}
+use mathlib.Core.Path.{_≡_, refl}
+use mathlib.Core.Bool.{true, false}
+use mathlib.Core.List.{List, [], _∷_}
+use Rattle.language.specs.Kinds as K
+use Rattle.language.specs.Tree as T
+use Rattle.language.specs.Tree.{Name, Command, Expression, Constant, Declaration, noExpressions, andExpression, noSuffixes, noOperations, operation, command, noRepeats, noCommands, andCommand, noLocals}
+use Rattle.language.specs.Source.{Read, read}
+use Rattle.language.proofs.Texts.{programIn}
+
+-- a name of one byte
+abbrev at : (place : ℕ) → Name
+at place = record { place = place; width = 1 }
+
+abbrev name : (place : ℕ) → Expression
+name place = T.name (at place)
+
+abbrev constant : (place value : ℕ) → Constant
+constant place value = record { place = place; minus = false; simple = T.literal value }
+
+-- F is a routine
+abbrev routine : Command → Read
+routine c = read (T.functions (record { name = at 4; parameters = []; body = T.routine c } ∷ []) ∷ [])
+
+-- a command with neither labels nor REPEAT forms
+abbrev plain : T.Unlabelled → Command
+plain u = command [] u noRepeats
+
+abbrev called : (place : ℕ) → T.Unlabelled
+called place = T.callCommand (T.suffixed (name place) (T.call noExpressions noSuffixes))
+
+-- a dangling REPEAT takes the call, not the IF
+dangling :
+    programIn "LET F() BE IF A DO B() REPEAT" ≡
+    routine (plain (T.guarded K.IF (name 14) (command [] (called 19) (T.repeat noRepeats))))
+unfolding programIn
+dangling = refl
+
+-- and here the block
+block :
+    programIn "LET F() BE $( IF A DO B() $) REPEATWHILE C" ≡
+    routine (command [] (T.block noLocals (andCommand (plain (T.guarded K.IF (name 17) (plain (called 22)))) noCommands)) (T.repeatOn K.REPEATWHILE (name 41) noRepeats))
+unfolding programIn
+block = refl
+
+-- two labels before one command: both reach it
+labels :
+    programIn "LET F() BE SWITCHON A INTO $( CASE 1: CASE 2: B(); DEFAULT: $)" ≡
+    routine (plain (T.switchon (name 20) (andCommand (command (T.case 30 (constant 35 1) ∷ T.case 38 (constant 43 2) ∷ []) (called 46) noRepeats) (andCommand (command (T.default 51 ∷ []) T.empty noRepeats) noCommands))))
+unfolding programIn
+labels = refl
+
+-- a chain of one binding is a list; brackets are kept, with their place
+chain :
+    programIn "LET F() BE A := B+C-(D)" ≡
+    routine (plain (T.assignment (andExpression (name 11) noExpressions) (andExpression (T.dyadic (name 16) (operation K.PLUS (name 18) (operation K.MINUS (T.bracketed 20 (name 21)) noOperations))) noExpressions)))
+unfolding programIn
+chain = refl
+
+-- declarations: TRUE is 65535, and a constant's place is that of its minus
+declarations :
+    programIn "GLOBAL $( A:1; B:-M $) MANIFEST $( M=TRUE $) LET G(X) = X" ≡
+    read (
+    T.globals (record { name = at 10; constant = constant 12 1 } ∷ record { name = at 15; constant = record { place = 17; minus = true; simple = T.known (at 18) } } ∷ []) ∷
+    T.manifests (record { name = at 35; constant = constant 37 65535 } ∷ []) ∷
+    T.functions (record { name = at 49; parameters = at 51 ∷ []; body = T.value (name 56) } ∷ []) ∷
+    [])
+unfolding programIn
+declarations = refl
+
+-- local declarations
+locals :
+    programIn "LET F() BE $( LET A, B = 1, 2; LET C = VEC 9 $)" ≡
+    routine (plain (T.block (T.values (at 18 ∷ at 21 ∷ []) (andExpression (T.number 25 1) (andExpression (T.number 28 2) noExpressions)) (T.vector (at 35) (constant 43 9) noLocals)) noCommands))
+unfolding programIn
+locals = refl

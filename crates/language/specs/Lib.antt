@@ -1,0 +1,12 @@
+pub mod Bytes
+pub mod Kinds
+pub mod Symbols
+pub mod Brackets
+pub mod Tree
+pub mod Depth
+pub mod Reader
+pub mod Binding
+pub mod Expressions
+pub mod Commands
+pub mod Grammar
+pub mod Source
