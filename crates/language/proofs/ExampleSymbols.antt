@@ -31,7 +31,7 @@ unfolding symbolsIn
 characters = refl
 
 -- a string's value is the number of its characters
-strings : symbolsIn "\"\" \"IT'S*N\" \"*\"\"" ≡ good (symbol K.STRING 0 0 ∷ symbol K.STRING 5 3 ∷ symbol K.STRING 1 12 ∷ [])
+strings : symbolsIn "\"\" \"IT'S*N\" \"*\"\"" ≡ good (symbol K.STRING 0 0 ∷ symbol K.STRING 1 3 ∷ symbol K.STRING 2 12 ∷ [])
 unfolding symbolsIn
 strings = refl
 
