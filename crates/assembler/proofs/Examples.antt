@@ -1,11 +1,10 @@
 -- Worked examples by computation: whole texts, their images and their refusals.
 use Prim.Native.Nat.{ℕ}
-use Prim.Native.Char.{code}
-use Prim.Native.String as S
 use Prim.Native.String.{String}
 use mathlib.Core.Path.{_≡_, refl}
 use mathlib.Core.List.{List, [], _∷_, _++_}
 use lib.ListN.{take, drop, replicate}
+use Rattle.text.specs.Written.{bytes}
 use Rattle.text.specs.Line.{refusal, lineOf, newlines}
 use Rattle.text.specs.Quoted.{quoted, character, escape}
 use Rattle.items.specs.Reader.{head, byte, optional, digits, digitCount, decimal}
@@ -16,11 +15,6 @@ use Rattle.assembler.specs.Layout.{defined, addressOf, noted, misplaced,
 use Rattle.assembler.specs.Assemble.{noGlobals, globalsAfter, globals, program, image, refuse, accept, assembled}
 use Rattle.assembler.specs.declared.Assembled.{Assembled}
 use Rattle.assembler.specs.declared.Assembled.the-variants.{Accepted, Refused}
-
--- a text's bytes
-abbrev bytes : String → List ℕ
-bytes S.[] = []
-bytes (S._∷_ c s) = code c ∷ bytes s
 
 -- the answer to a text, with a memory of 512 words and a table of two labels
 abbrev answer : String → Assembled

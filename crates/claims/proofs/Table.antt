@@ -1,18 +1,36 @@
 -- The rows that document 01 marks P under "Proved table": one table, one proved claim about the definitions.
 use Prim.Native.Nat.{ℕ, _≤_}
+use Prim.Native.String.{String}
 use mathlib.Core.Path.{_≡_, refl}
-use mathlib.Core.List.{List}
-use lib.ListN.{length}
+use mathlib.Core.List.{List, [], _∷_}
+use lib.ListN.{length, take, drop}
 use borrow.Author.Tests.{le-leb}
 use Rattle.words.specs.Words.{value, wordOf, quot, rem}
 use Rattle.machine.specs.Run.{Outcome, steps, resume, run}
+use Rattle.text.specs.Written.{bytes}
+use Rattle.text.specs.Quoted.{quoted, character, escape}
+use Rattle.items.specs.Reader.{head, byte, optional, digits, digitCount, decimal}
+use Rattle.items.specs.Read.{ended, quotedCharacter, quotedString, negative, quotation, labelled, positive, operand, base, labelItem, instructionItem, constantItem, stringItem, globalItem, functionOf, item}
+use Rattle.items.specs.Scan.{gaps, mark, trailing, body, scan}
+use Rattle.assembler.specs.Words.{operandInRange, inRange, short, size, pairs, operandWord, words}
+use Rattle.assembler.specs.Layout.{defined, addressOf, noted, misplaced, fault, lay, uses, known, unknowns}
+use Rattle.assembler.specs.Assemble.{noGlobals, globalsAfter, globals, program, image, refuse, accept, assembled}
 
 -- a memory that a run takes
 record Fits (memory : List ℕ) : Type 0 where
   long : 512 ≤ length memory
   short : length memory ≤ 32768
 
+-- the program words, so many, that one item makes in a memory of 512 words
+abbrev made : (count : ℕ) → (text : String) → List ℕ
+made n text = take n (drop 416 (assembled (bytes text) 512 0 .memory))
+
 record ProvedTable : Type 0 where
+  -- LIP2 is 6146; K4 is 49156; A-1 is 16896, 65535; "HELLO" is 1352, 17740, 19535
+  load : made 1 "$ LIP2 Z" ≡ 6146 ∷ []
+  call : made 1 "$ K4 Z" ≡ 49156 ∷ []
+  add : made 2 "$ A-1 Z" ≡ 16896 ∷ 65535 ∷ []
+  string : made 3 "$ C\"HELLO\" Z" ≡ 1352 ∷ 17740 ∷ 19535 ∷ []
   -- 7 / -2 is -3, remainder 1
   quotient : quot 7 65534 ≡ 65533
   remainder : rem 7 65534 ≡ 1
@@ -21,7 +39,7 @@ record ProvedTable : Type 0 where
   budget-count : (first : ℕ) (memory input output : List ℕ) → Fits memory → run first memory input output 0 .count ≡ 0
 
 proved-table : ProvedTable
-unfolding value wordOf quot rem steps resume
+unfolding value wordOf quot rem steps resume quoted character escape head byte optional digits digitCount decimal ended quotedCharacter quotedString negative quotation labelled positive operand base labelItem instructionItem constantItem stringItem globalItem functionOf item gaps mark trailing body scan operandInRange inRange short size pairs operandWord words defined addressOf noted misplaced fault lay uses known unknowns noGlobals globalsAfter globals program image refuse accept assembled
 proved-table =
     record {
       quotient = refl;

@@ -30,7 +30,7 @@ characters : symbolsIn "'A' '*N' '**' '\"' '*''" ≡ good (symbol K.NUMBER 65 0 
 unfolding symbolsIn
 characters = refl
 
--- a string's value is the number of its characters
+-- a string's value is its position among the strings
 strings : symbolsIn "\"\" \"IT'S*N\" \"*\"\"" ≡ good (symbol K.STRING 0 0 ∷ symbol K.STRING 1 3 ∷ symbol K.STRING 2 12 ∷ [])
 unfolding symbolsIn
 strings = refl
