@@ -42,6 +42,10 @@ proved-table : ProvedTable
 unfolding value wordOf quot rem steps resume quoted character escape head byte optional digits digitCount decimal ended quotedCharacter quotedString negative quotation labelled positive operand base labelItem instructionItem constantItem stringItem globalItem functionOf item gaps mark trailing body scan operandInRange inRange short size pairs operandWord words defined addressOf noted misplaced fault lay uses known unknowns noGlobals globalsAfter globals program image refuse accept assembled
 proved-table =
     record {
+      load = refl;
+      call = refl;
+      add = refl;
+      string = refl;
       quotient = refl;
       remainder = refl;
       budget-stop = λ first memory input output h. simp (le-leb 512 (length memory) (h .long), le-leb (length memory) 32768 (h .short));
