@@ -6,7 +6,7 @@ use mathlib.Core.List.{List, [], _∷_}
 use mathlib.Core.Option.{Option}
 use native.Mathlib.Omega.{arith}
 use lib.ListN.{length}
-use lib.Dec.{eqb, ltb}
+use lib.Dec.{eqb}
 use Rattle.language.specs.Kinds as K
 use Rattle.language.specs.Binding.{LOOSEST, isLabel, isGuard, isLeave, isRepeat, isDeclaration, goesOnAssignment, beginsCommand}
 use Rattle.language.specs.Tree as T
@@ -283,7 +283,7 @@ declared =
 
 whole : (p : Program) → LowProgram p → Gives LowProgram (G.whole p)
 unfolding G.whole
-whole p q = gives-cond (λ s at. ltb at (length (s .symbols))) _ _ gives-unexpected (gives-return p q)
+whole p q = gives-cond (is K.NOTHING) _ _ (gives-return p q) gives-unexpected
 
 no-program : LowProgram []
 unfolding programDepth

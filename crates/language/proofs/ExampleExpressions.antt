@@ -1,7 +1,7 @@
 -- Worked examples: how expressions group.
 use Prim.Native.Nat.{ℕ}
 use mathlib.Core.Path.{_≡_, refl}
-use Rattle.language.specs.Bytes.{bytes}
+use Rattle.text.specs.Written.{bytes}
 use Rattle.language.specs.Kinds as K
 use Rattle.language.proofs.Texts.{verdict}
 use Rattle.language.proofs.Shapes.{Shape, named, number, one, two, called, none, and, grouped}

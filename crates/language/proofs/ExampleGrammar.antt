@@ -2,7 +2,7 @@
 use Prim.Native.Nat.{ℕ}
 use mathlib.Core.Path.{_≡_, refl}
 use mathlib.Core.List.{List, [], _∷_, _++_}
-use Rattle.language.specs.Bytes.{bytes}
+use Rattle.text.specs.Written.{bytes}
 use Rattle.language.proofs.Texts.{verdict, verdictOf, times}
 
 -- a name is not looked up here
@@ -174,3 +174,34 @@ monadic-65 = refl
 wrong-65 : verdictOf (bytes "LET F()=" ++ (times 64 (bytes "-") ++ bytes "*A")) ≡ (6, 72)
 unfolding verdictOf times
 wrong-65 = refl
+
+-- REPEAT forms and labels open no level, but a REPEATWHILE's condition stands in its command's level
+repeats-64 : verdictOf (bytes "LET F() BE " ++ (times 63 (bytes "IF A DO ") ++ bytes "RETURN REPEAT REPEATWHILE A")) ≡ (0, 0)
+unfolding verdictOf times
+repeats-64 = refl
+
+repeats-65 : verdictOf (bytes "LET F() BE " ++ (times 63 (bytes "IF A DO ") ++ bytes "RETURN REPEATWHILE (A)")) ≡ (7, 534)
+unfolding verdictOf times
+repeats-65 = refl
+
+labels-64 : verdictOf (bytes "LET F() BE " ++ (times 63 (bytes "IF A DO ") ++ bytes "CASE 1: DEFAULT: RETURN")) ≡ (0, 0)
+unfolding verdictOf times
+labels-64 = refl
+
+-- a constant's minus opens a level, and so does VALOF, before its command
+minus-65 : verdictOf (bytes "LET F() BE " ++ (times 63 (bytes "IF A DO ") ++ bytes "$( LET V = VEC -1 $)")) ≡ (7, 530)
+unfolding verdictOf times
+minus-65 = refl
+
+valof-64 : verdictOf (bytes "LET F()=" ++ (times 32 (bytes "VALOF RESULTIS ") ++ bytes "1")) ≡ (0, 0)
+unfolding verdictOf times
+valof-64 = refl
+
+valof-65 : verdictOf (bytes "LET F()=" ++ (times 33 (bytes "VALOF RESULTIS ") ++ bytes "1")) ≡ (7, 488)
+unfolding verdictOf times
+valof-65 = refl
+
+-- an empty command takes no REPEAT, but the IF around it does
+around : verdict "LET F() BE SWITCHON A INTO $( IF B DO CASE 1: REPEAT $)" ≡ (0, 0)
+unfolding verdict
+around = refl

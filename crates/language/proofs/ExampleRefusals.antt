@@ -4,7 +4,7 @@ use mathlib.Core.Path.{_≡_, refl}
 use mathlib.Core.Bool.{true, false}
 use mathlib.Core.List.{List, [], _∷_, _++_}
 use lib.ListN.{replicate}
-use Rattle.language.specs.Bytes.{bytes}
+use Rattle.text.specs.Written.{bytes}
 use Rattle.language.specs.Source.{refused, tooLong, scratchTooShort, readSource}
 use Rattle.language.proofs.Texts.{numberAndPlace, answer, verdict, verdictOf, times}
 

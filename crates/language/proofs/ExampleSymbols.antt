@@ -4,7 +4,7 @@ use mathlib.Core.Path.{_≡_, refl}
 use mathlib.Core.List.{List, [], _∷_}
 use Rattle.language.specs.Kinds as K
 use Rattle.language.specs.Symbols.{Symbol}
-use Rattle.language.specs.Brackets.{good}
+use Rattle.language.specs.Source.{good}
 use Rattle.language.proofs.Texts.{symbolsIn}
 
 abbrev symbol : (kind value place : ℕ) → Symbol
@@ -49,3 +49,8 @@ gained = refl
 not-gained : symbolsIn "F (X) LOOP\nA\n+B" ≡ good (symbol K.NAME 1 0 ∷ symbol K.OPEN 0 2 ∷ symbol K.NAME 1 3 ∷ symbol K.CLOSE 0 4 ∷ symbol K.LOOP 4 6 ∷ symbol K.NAME 1 11 ∷ symbol K.PLUS 0 13 ∷ symbol K.NAME 1 14 ∷ [])
 unfolding symbolsIn
 not-gained = refl
+
+-- carriage return separates and ends no line
+carriage-return : symbolsIn "A\rB" ≡ good (symbol K.NAME 1 0 ∷ symbol K.NAME 1 2 ∷ [])
+unfolding symbolsIn
+carriage-return = refl

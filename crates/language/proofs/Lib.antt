@@ -9,3 +9,7 @@ pub mod ExampleTexts
 pub mod Gives
 pub mod Depths
 pub mod CommandDepths
+pub mod Local
+pub mod Locality
+pub mod Ladder
+mod Whole

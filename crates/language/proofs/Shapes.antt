@@ -3,7 +3,7 @@ use Prim.Native.Nat.{ℕ}
 use Prim.Native.String.{String, _++_}
 use mathlib.Core.List.{List, [], _∷_}
 use lib.ListN.{take, drop}
-use Rattle.language.specs.Bytes.{bytes}
+use Rattle.text.specs.Written.{bytes}
 use Rattle.language.specs.Kinds.{PLING}
 use Rattle.language.specs.Tree as T
 use Rattle.language.specs.Tree.{Expression, Expressions, Suffixes, Operations, Declaration, Function, Body, Program}

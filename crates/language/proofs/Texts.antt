@@ -5,18 +5,21 @@ use Rattle.text.specs.Line.{lineOf, newlines}
 use Rattle.text.specs.Quoted as Q
 use Rattle.text.specs.Quoted.{quoted, escape}
 use Prim.Native.String.{String}
-use Rattle.language.specs.Bytes.{classOf, bytes}
-use Rattle.language.specs.Kinds.{reserved, signs}
+use Rattle.text.specs.Written.{bytes}
+use Rattle.language.specs.Bytes.{classOf}
+use Rattle.language.specs.Kinds.{reserved, signs, member}
 use Rattle.language.specs.Symbols as S
 use Rattle.language.specs.Symbols.{begins, wordWidth, kindIn, kindOf, word, digits, valueOf, decimal, octal, string, signIn, toLineEnd, comment, sign, signOrComment, byClass, scanFrom, scan}
-use Rattle.language.specs.Brackets.{closing, bracket, brackets, member, endsLine, beginsLine, linesDiffer, gains, semicolonsAfter, semicolons, numbered, Symbols, symbolsOf}
+use Rattle.language.specs.Brackets.{closing, bracket, brackets}
+use Rattle.language.specs.Strings.{numbered}
+use Rattle.language.specs.Semicolons.{endsLine, beginsLine, linesDiffer, gains, semicolonsAfter, semicolons}
 use Rattle.language.specs.Tree.{withSuffixes, withOperations, endsInCall, isCall, count}
 use Rattle.language.specs.Reader.{unexpected, any, here, the, optional, aName, manyUpTo, many, moreUpTo, items, furtherItems, oneUpToClose, upToClose}
 use Rattle.language.specs.Binding.{bindingOf, isMonadic, reachOf, isSuffix, isLabel, isGuard, isLeave, isRepeat, goesOnAssignment, isDeclaration, beginsExpression, beginsCommand}
 use Rattle.language.specs.Expressions.{opening, numeral, truth, quotation, named, bracketed, valof, primary, monadic, arguments, subscript, index, suffix, suffixed, operand, operation, mostOf, operations, chain, products, sums, relations, shifts, conjunctions, disjunctions, expression, literal, truthLiteral, known, simple, positive, negative, constant}
 use Rattle.language.specs.Commands.{test, guarded, by, optionalBy, for, listed, switchon, resultis, leave, further, vector, values, given, furtherName, local, semicolonEnd, commandsToEnd, block, furtherSide, assignment, callCommand, afterExpression, assignmentOrCall, unlabelled, repeat, repeatOn, repeatForm, repeated, emptyCommand, case, default, label, afterLabels, command}
 use Rattle.language.specs.Grammar.{within, item, globals, manifests, value, routine, body, parameter, function, andFunction, functions, declaration, declared, whole, program, treeOf}
-use Rattle.language.specs.Source.{Read, read, refused, tooLong, scratchTooShort, readSymbols, parsed, readSource}
+use Rattle.language.specs.Source.{Symbols, symbolsOf, Read, read, refused, tooLong, scratchTooShort, readSymbols, parsed, readSource}
 
 -- a text's symbols, or its refusal
 unfoldable pub symbolsIn : String → Symbols

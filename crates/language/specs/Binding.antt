@@ -4,7 +4,7 @@ use mathlib.Core.Bool.{Bool, true, false, cond}
 use mathlib.Core.List.{List, [], _∷_}
 use lib.Dec.{eqb}
 use Rattle.language.specs.Kinds as K
-use Rattle.language.specs.Brackets.{member}
+use Rattle.language.specs.Kinds.{member}
 
 -- the binding of a dyadic operator, tightest first: 1 for * / REM, 2 for + -, 3 for a relation, 4 for << >>, 5 for &, 6 for |;
 -- 0 for any other symbol. (A primary, then calls and dyadic !, then monadic ! and @ bind tighter than these.)

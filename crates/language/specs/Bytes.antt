@@ -1,24 +1,15 @@
 -- The bytes of the source (document 01, "Symbols": "A table of 256 entries gives each byte its class").
 -- A byte is a number from 0 to 255. Its class says which symbols it may start; here the classes are given by ranges, and the
--- compiler's table is proved equal to this. A text in quotes, as `bytes "LET"`, is written for the list of its bytes.
+-- compiler's table is proved equal to this.
 use Prim.Native.Nat.{ℕ}
-use Prim.Native.Char.{code}
-use Prim.Native.String as S
-use Prim.Native.String.{String}
 use mathlib.Core.Bool.{Bool, true, false, cond}
-use mathlib.Core.List.{List, [], _∷_}
 use lib.Dec.{eqb, leb}
-
-abbrev pub bytes : String → List ℕ
-bytes S.[] = []
-bytes (S._∷_ c s) = code c ∷ bytes s
 
 abbrev pub both : Bool → Bool → Bool
 both true b = b
 both false b = false
 
--- the classes
--- no symbol starts with it
+-- The classes. No symbol starts with it
 abbrev pub NONE : ℕ
 NONE = 0
 
@@ -57,14 +48,14 @@ SEPARATOR = 8
 abbrev pub NEWLINE : ℕ
 NEWLINE = 9
 
-abbrev pub from_to_ : (low high byte : ℕ) → Bool
-from_to_ low high c = both (leb low c) (leb c high)
+abbrev pub between : (low high byte : ℕ) → Bool
+between low high c = both (leb low c) (leb c high)
 
 -- a byte's class. The signs start with $ & ( ) * + , - / : ; < = > ! @ | ~
 unfoldable pub classOf : ℕ → ℕ
 classOf c =
-    cond (from_to_ 65 90 c) LETTER
-    (cond (from_to_ 48 57 c) DIGIT
+    cond (between 65 90 c) LETTER
+    (cond (between 48 57 c) DIGIT
     (cond (eqb c 46) DOT
     (cond (eqb c 35) HASH
     (cond (eqb c 39) QUOTE
@@ -76,9 +67,9 @@ classOf c =
     (cond (eqb c 33) SIGN
     (cond (eqb c 36) SIGN
     (cond (eqb c 38) SIGN
-    (cond (from_to_ 40 45 c) SIGN
+    (cond (between 40 45 c) SIGN
     (cond (eqb c 47) SIGN
-    (cond (from_to_ 58 62 c) SIGN
+    (cond (between 58 62 c) SIGN
     (cond (eqb c 64) SIGN
     (cond (eqb c 124) SIGN
     (cond (eqb c 126) SIGN

@@ -4,8 +4,7 @@
 use Prim.Native.Nat.{ℕ, zero, suc}
 use mathlib.Core.Bool.{Bool, true, false, cond}
 use mathlib.Core.List.{List, [], _∷_}
-use lib.ListN.{length}
-use lib.Dec.{eqb, ltb}
+use lib.Dec.{eqb}
 use Rattle.language.specs.Kinds as K
 use Rattle.language.specs.Binding.{LOOSEST, isDeclaration}
 use Rattle.language.specs.Tree as T
@@ -110,7 +109,7 @@ declared = do
 
 -- nothing stands after the program
 unfoldable pub whole : Program → Reader Program
-whole p s at = cond (ltb at (length (s .symbols))) (unexpected s at) (ok p at)
+whole p s at = cond (is K.NOTHING s at) (ok p at) (unexpected s at)
 
 -- { declaration [;] }
 unfoldable pub program : Reader Program

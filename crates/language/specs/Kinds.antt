@@ -3,8 +3,10 @@
 -- for the end of the text. THEN has no kind of its own: it is the symbol DO. A character is a number. The tables at the end
 -- give each word and each sign its spelling.
 use Prim.Native.Nat.{ℕ}
+use mathlib.Core.Bool.{Bool, true, false, cond}
 use mathlib.Core.List.{List, [], _∷_}
-use Rattle.language.specs.Bytes.{bytes}
+use lib.Dec.{eqb}
+use Rattle.text.specs.Written.{bytes}
 
 -- the end of the text
 abbrev pub NOTHING : ℕ
@@ -293,3 +295,8 @@ signs =
     record { spelling = bytes ";"; kind = SEMICOLON } ∷
     record { spelling = bytes ":"; kind = COLON } ∷
     []
+
+-- whether a kind is one of a list
+unfoldable pub member : (kind : ℕ) → List ℕ → Bool
+member kind [] = false
+member kind (k ∷ ks) = cond (eqb kind k) true (member kind ks)

@@ -2,6 +2,8 @@ pub mod Bytes
 pub mod Kinds
 pub mod Symbols
 pub mod Brackets
+pub mod Strings
+pub mod Semicolons
 pub mod Tree
 pub mod Depth
 pub mod Reader
@@ -10,3 +12,14 @@ pub mod Expressions
 pub mod Commands
 pub mod Grammar
 pub mod Source
+pub mod Names
+pub mod Constants
+pub mod Resolved
+pub mod Resolve
+pub mod Faults
+pub mod Heights
+pub mod Program
+pub mod Operators
+pub mod State
+pub mod Run
+pub mod Whole

@@ -1,14 +1,30 @@
--- From a source to its tree, in the order of the refusals (document 01, "Refusal numbers": 1; 15 for scratch; 2 to 5 over the whole
--- text; 6 and 7).
+-- From a source to its symbols and its tree, in the order of the refusals (document 01, "Refusal numbers": 1; 15 for scratch; 2 to 5
+-- over the whole text; 6 and 7).
 use Prim.Native.Nat.{ℕ, _+_, _*_}
-use mathlib.Core.Bool.{Bool, true, false, cond}
-use mathlib.Core.List.{List}
+use mathlib.Core.Bool.{Bool, cond}
+use mathlib.Core.List.{List, []}
 use lib.ListN.{length}
 use lib.Dec.{ltb}
-use Rattle.language.specs.Brackets.{Symbols, good, faulty, symbolsOf}
+use Rattle.language.specs.Symbols.{Symbol, Fault, none, fault, Scan, scan}
+use Rattle.language.specs.Brackets.{firstFault, brackets}
+use Rattle.language.specs.Strings.{numbered}
+use Rattle.language.specs.Semicolons.{semicolons}
 use Rattle.language.specs.Tree.{Program}
 use Rattle.language.specs.Reader.{Source, Out, ok, no, placeAt}
 use Rattle.language.specs.Grammar.{treeOf}
+
+-- a text's symbols, or its refusal
+pub data Symbols : Type 0 where
+  good : List Symbol → Symbols
+  faulty : (number place : ℕ) → Symbols
+
+abbrev pub onFault : Fault → List Symbol → Symbols
+onFault none ss = good ss
+onFault (fault number place) ss = faulty number place
+
+unfoldable pub symbolsOf : List ℕ → Symbols
+symbolsOf text =
+    onFault (firstFault (length text) (brackets [] (scan text .symbols)) (scan text .ending)) (semicolons text (numbered 0 (scan text .symbols)))
 
 -- source is at most 16,384 bytes
 unfoldable pub tooLong : List ℕ → Bool

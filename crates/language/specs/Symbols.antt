@@ -2,8 +2,8 @@
 -- The text is read from left to right. At each place that belongs to no symbol before it stands an element: a symbol, a gap
 -- (a separator or a comment), or neither, which is refused 2, 3 or 4 at that place. A symbol is its kind, its value and the
 -- place of its first byte. The value of a number or character is that number, of a word its length, of a string the number of
--- its characters (Brackets then puts its position among the strings there), of a sign 0. A name's bytes and a string's
--- characters are found again from the place.
+-- its characters (Strings then puts its position among the strings there), of a sign 0. A name's bytes and a string's characters
+-- are found again from the place.
 use Prim.Native.Nat.{ℕ, zero, suc, _+_, _-_, _*_}
 use mathlib.Core.Bool.{Bool, true, false, cond}
 use mathlib.Core.List.{List, [], _∷_}

@@ -1,0 +1,66 @@
+-- Whole texts as they are written, for the examples: their refusals and their source runs.
+use Prim.Native.Nat.{ℕ, _+_}
+use Prim.Native.String.{String}
+use mathlib.Core.List.{List, [], _∷_}
+use Rattle.text.specs.Written.{bytes}
+use Rattle.language.specs.Tree.{placeOf}
+use Rattle.language.specs.Names.{sameBytes, lookup, inBlock}
+use Rattle.language.specs.Constants.{judge}
+use Rattle.language.specs.Resolve as R
+use Rattle.language.specs.Resolve.{declareAll, sideOf, under, scopeAfter, labelsOf}
+use Rattle.language.specs.Faults.{twice, misplaced, among, seenAfter, doubled, inExpression}
+use Rattle.language.specs.Heights as H
+use Rattle.language.specs.Heights.{greatest, largestHeight, heightsOf}
+use Rattle.language.specs.Program as P
+use Rattle.language.specs.Program.{Refused, accepted, refused, globalsAfter, manifestsAfter, functionsAfter, declaredBy, resolved, functionFaults, globalFaults, manifestFaults, takenAfter, onwards, groupNameFaults, groupFaults, groupOf, faultsFrom, functionsFrom, faultsOfProgram, functionsOf, heightFaults, hasStart, leastFrom, rulesRefuse}
+use Rattle.language.specs.Resolved.{Fun}
+use Rattle.language.specs.Operators.{monadic, dyadic}
+use Rattle.language.specs.State.{Value, State, Result, unfinished, undefined, finished, returned, ok, bind}
+use Rattle.language.specs.Run.{Placement, hasCase, hasDefault, from, selected, nth, positionOf, called, arguments, evaluated, assigned, assignedAll, sequence, cases, declared, executed, turned, sem}
+use Rattle.language.specs.Whole.{onRead, funs, functionsIn, stringsAmong, stringsIn, globalsWith, stringCell, cellsAtStart, runWith}
+use Rattle.words.specs.Words.{value, wordOf, mul, quot, rem, below, shl, shr}
+use Rattle.assembler.specs.Words.{pairs}
+use Rattle.assembler.specs.Assemble.{noGlobals}
+use Rattle.language.proofs.Texts.{answer}
+
+abbrev numberAndPlace : Refused → ℕ × ℕ
+numberAndPlace accepted = (0, 0)
+numberAndPlace (refused number place) = (number, place)
+
+-- a text's refusal, with scratch enough for any text: its number and place, or 0 and 0
+unfoldable pub judgedBytes : List ℕ → ℕ × ℕ
+unfolding answer placeOf sameBytes lookup inBlock judge declareAll sideOf under scopeAfter R.heightAfter labelsOf R.expression twice misplaced among seenAfter doubled inExpression H.count H.heightAfter H.ofExpr heightsOf greatest largestHeight globalsAfter manifestsAfter functionsAfter declaredBy resolved functionFaults globalFaults manifestFaults takenAfter onwards groupNameFaults groupFaults groupOf faultsFrom functionsFrom faultsOfProgram functionsOf heightFaults hasStart leastFrom rulesRefuse
+judgedBytes text = numberAndPlace (onRead text (answer text))
+
+unfoldable pub judged : String → ℕ × ℕ
+unfolding judgedBytes
+judged text = judgedBytes (bytes text)
+
+-- ---- source runs, with functions' entries from 1000 on, strings from 2000 on, each with room for the longest, and the stack from 20,000 on
+
+unfoldable everyFrom : (first apart : ℕ) → {A : Type 0} → List A → List ℕ
+everyFrom first apart [] = []
+everyFrom first apart (x ∷ xs) = first ∷ everyFrom (first + apart) apart xs
+
+unfoldable placed : List Fun → List (List ℕ) → Placement
+unfolding everyFrom
+placed functions strings = record { entries = everyFrom 1000 1 functions; strings = everyFrom 2000 200 strings; first = 20000 }
+
+-- the steps, the input taken and the output of a run that ends; nothing of one that does not
+pub data Told : Type 0 where
+  told : (steps taken : ℕ) (output : List ℕ) → Told
+  undefined-act not-over : Told
+
+abbrev tellState : State → Told
+tellState s = told (s .steps) (s .taken) (s .output)
+
+abbrev tell : Result Value → Told
+tell unfinished = not-over
+tell undefined = undefined-act
+tell (finished s) = tellState s
+tell (returned s) = tellState s
+tell (ok v s) = tellState s
+
+unfoldable pub ranBytes : (fuel : ℕ) → List ℕ → (input : List ℕ) → Told
+unfolding answer placeOf sameBytes lookup inBlock judge declareAll sideOf under scopeAfter R.heightAfter labelsOf R.expression H.count H.heightAfter globalsAfter manifestsAfter functionsAfter declaredBy resolved takenAfter onwards groupOf functionsFrom functionsOf funs functionsIn stringsAmong stringsIn globalsWith stringCell cellsAtStart runWith monadic dyadic bind hasCase hasDefault from selected nth positionOf called arguments evaluated assigned assignedAll sequence cases declared executed turned sem value wordOf mul quot rem below shl shr noGlobals pairs placed
+ranBytes fuel text input = tell (runWith fuel (functionsIn text) (stringsIn text) (placed (functionsIn text) (stringsIn text)) 32768 input)
