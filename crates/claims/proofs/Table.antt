@@ -1,7 +1,7 @@
 -- The rows that document 01 marks P under "Proved table": one table, one proved claim about the definitions.
 use Prim.Native.Nat.{ℕ, _≤_}
 use Prim.Native.String.{String}
-use mathlib.Core.Path.{_≡_, refl}
+use mathlib.Core.Path.{_≡_, refl, _∙_}
 use mathlib.Core.List.{List, [], _∷_}
 use lib.ListN.{length, take, drop}
 use borrow.Author.Tests.{le-leb}
@@ -15,6 +15,13 @@ use Rattle.items.specs.Scan.{gaps, mark, trailing, body, scan}
 use Rattle.assembler.specs.Words.{operandInRange, inRange, short, size, pairs, operandWord, words}
 use Rattle.assembler.specs.Layout.{defined, addressOf, noted, misplaced, fault, lay, uses, known, unknowns}
 use Rattle.assembler.specs.Assemble.{noGlobals, globalsAfter, globals, program, image, refuse, accept, assembled}
+use Rattle.language.specs.Kinds.{NAME, NUMBER, OPEN, CLOSE, SEMICOLON}
+use Rattle.language.specs.Symbols.{Symbol}
+use Rattle.language.specs.Source.{Symbols, good, faulty, symbolsOf}
+use Rattle.language.specs.Program.{Refused, refused}
+use Rattle.language.specs.Whole.{refusalOf}
+use Rattle.language.proofs.Texts.{symbolsIn, symbols-are}
+use Rattle.language.proofs.Whole.{empty-source}
 
 -- a memory that a run takes
 record Fits (memory : List ℕ) : Type 0 where
@@ -25,6 +32,9 @@ record Fits (memory : List ℕ) : Type 0 where
 abbrev made : (count : ℕ) → (text : String) → List ℕ
 made n text = take n (drop 416 (assembled (bytes text) 512 0 .memory))
 
+abbrev symbol : (kind value place : ℕ) → Symbol
+symbol kind value place = record { kind = kind; value = value; place = place }
+
 record ProvedTable : Type 0 where
   -- LIP2 is 6146; K4 is 49156; A-1 is 16896, 65535; "HELLO" is 1352, 17740, 19535
   load : made 1 "$ LIP2 Z" ≡ 6146 ∷ []
@@ -34,12 +44,19 @@ record ProvedTable : Type 0 where
   -- 7 / -2 is -3, remainder 1
   quotient : quot 7 65534 ≡ 65533
   remainder : rem 7 65534 ≡ 1
+  -- F, newline, (X) gains a semicolon
+  semicolon : symbolsOf (bytes "F\n(X)") ≡ good (symbol NAME 1 0 ∷ symbol SEMICOLON 0 2 ∷ symbol OPEN 0 2 ∷ symbol NAME 1 3 ∷ symbol CLOSE 0 4 ∷ [])
+  -- empty source, with 64 scratch entries: 14 at 0
+  empty : refusalOf [] 64 ≡ refused 14 0
+  -- 32767 passes, 32768 is 3
+  largest : symbolsOf (bytes "32767") ≡ good (symbol NUMBER 32767 0 ∷ [])
+  too-large : symbolsOf (bytes "32768") ≡ faulty 3 0
   -- budget 0 stops 31, count 0
   budget-stop : (first : ℕ) (memory input output : List ℕ) → Fits memory → run first memory input output 0 .stop ≡ 31
   budget-count : (first : ℕ) (memory input output : List ℕ) → Fits memory → run first memory input output 0 .count ≡ 0
 
 proved-table : ProvedTable
-unfolding value wordOf quot rem steps resume quoted character escape head byte optional digits digitCount decimal ended quotedCharacter quotedString negative quotation labelled positive operand base labelItem instructionItem constantItem stringItem globalItem functionOf item gaps mark trailing body scan operandInRange inRange short size pairs operandWord words defined addressOf noted misplaced fault lay uses known unknowns noGlobals globalsAfter globals program image refuse accept assembled
+unfolding symbolsIn value wordOf quot rem steps resume quoted character escape head byte optional digits digitCount decimal ended quotedCharacter quotedString negative quotation labelled positive operand base labelItem instructionItem constantItem stringItem globalItem functionOf item gaps mark trailing body scan operandInRange inRange short size pairs operandWord words defined addressOf noted misplaced fault lay uses known unknowns noGlobals globalsAfter globals program image refuse accept assembled
 proved-table =
     record {
       load = refl;
@@ -48,6 +65,10 @@ proved-table =
       string = refl;
       quotient = refl;
       remainder = refl;
+      semicolon = symbols-are "F\n(X)" ∙ refl;
+      empty = empty-source;
+      largest = symbols-are "32767" ∙ refl;
+      too-large = symbols-are "32768" ∙ refl;
       budget-stop = λ first memory input output h. simp (le-leb 512 (length memory) (h .long), le-leb (length memory) 32768 (h .short));
       budget-count = λ first memory input output h. simp (le-leb 512 (length memory) (h .long), le-leb (length memory) 32768 (h .short));
     }

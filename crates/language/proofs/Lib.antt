@@ -12,4 +12,6 @@ pub mod CommandDepths
 pub mod Local
 pub mod Locality
 pub mod Ladder
-mod Whole
+pub mod Whole
+pub mod ExampleRules
+pub mod ExampleRuns

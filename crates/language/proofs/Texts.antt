@@ -1,5 +1,6 @@
 -- Texts as they are written, for the examples: what the definitions give for a text in quotes.
 use Prim.Native.Nat.{ℕ, zero, suc}
+use mathlib.Core.Path.{_≡_, refl}
 use mathlib.Core.List.{List, [], _++_}
 use Rattle.text.specs.Line.{lineOf, newlines}
 use Rattle.text.specs.Quoted as Q
@@ -52,3 +53,8 @@ verdictOf text = numberAndPlace (answer text)
 unfoldable pub times : ℕ → List ℕ → List ℕ
 times zero bs = []
 times (suc n) bs = bs ++ times n bs
+
+-- these are the definitions', for texts in quotes
+pub symbols-are : (text : String) → symbolsOf (bytes text) ≡ symbolsIn text
+unfolding symbolsIn
+symbols-are text = refl

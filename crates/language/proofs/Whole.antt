@@ -1,6 +1,7 @@
 -- Whole texts as they are written, for the examples: their refusals and their source runs.
 use Prim.Native.Nat.{ℕ, _+_}
 use Prim.Native.String.{String}
+use mathlib.Core.Path.{_≡_, refl}
 use mathlib.Core.List.{List, [], _∷_}
 use Rattle.text.specs.Written.{bytes}
 use Rattle.language.specs.Tree.{placeOf}
@@ -17,7 +18,7 @@ use Rattle.language.specs.Resolved.{Fun}
 use Rattle.language.specs.Operators.{monadic, dyadic}
 use Rattle.language.specs.State.{Value, State, Result, unfinished, undefined, finished, returned, ok, bind}
 use Rattle.language.specs.Run.{Placement, hasCase, hasDefault, from, selected, nth, positionOf, called, arguments, evaluated, assigned, assignedAll, sequence, cases, declared, executed, turned, sem}
-use Rattle.language.specs.Whole.{onRead, funs, functionsIn, stringsAmong, stringsIn, globalsWith, stringCell, cellsAtStart, runWith}
+use Rattle.language.specs.Whole.{refusalOf, onRead, funs, functionsIn, stringsAmong, stringsIn, globalsWith, stringCell, cellsAtStart, runWith}
 use Rattle.words.specs.Words.{value, wordOf, mul, quot, rem, below, shl, shr}
 use Rattle.assembler.specs.Words.{pairs}
 use Rattle.assembler.specs.Assemble.{noGlobals}
@@ -64,3 +65,13 @@ tell (ok v s) = tellState s
 unfoldable pub ranBytes : (fuel : ℕ) → List ℕ → (input : List ℕ) → Told
 unfolding answer placeOf sameBytes lookup inBlock judge declareAll sideOf under scopeAfter R.heightAfter labelsOf R.expression H.count H.heightAfter globalsAfter manifestsAfter functionsAfter declaredBy resolved takenAfter onwards groupOf functionsFrom functionsOf funs functionsIn stringsAmong stringsIn globalsWith stringCell cellsAtStart runWith monadic dyadic bind hasCase hasDefault from selected nth positionOf called arguments evaluated assigned assignedAll sequence cases declared executed turned sem value wordOf mul quot rem below shl shr noGlobals pairs placed
 ranBytes fuel text input = tell (runWith fuel (functionsIn text) (stringsIn text) (placed (functionsIn text) (stringsIn text)) 32768 input)
+
+-- a run with fuel for the examples
+unfoldable pub ran : (text input : String) → Told
+unfolding ranBytes
+ran text input = ranBytes 100 (bytes text) (bytes input)
+
+-- the empty source, with 64 scratch entries
+pub empty-source : refusalOf [] 64 ≡ refused 14 0
+unfolding refusalOf answer judgedBytes
+empty-source = refl

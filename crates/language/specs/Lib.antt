@@ -23,3 +23,5 @@ pub mod Operators
 pub mod State
 pub mod Run
 pub mod Whole
+pub mod Faithful
+pub mod Placed
