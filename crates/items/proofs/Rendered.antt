@@ -164,7 +164,7 @@ character-text c rest w =
     plain : (c ≡ 34 → ⊥) → (c ≡ 42 → ⊥) → (32 ≤ c) × (c ≤ 126) → Shows rest c (c ∷ [])
     plain n34 n42 b = record { shows = at-plain 34 c rest n34 n42 (b .0) (b .1) }
 
-characters-text : (cs rest : List ℕ) → Writable cs → quoted 34 0 (charactersText cs ++ (34 ∷ rest)) ≡ closed cs (length (charactersText cs) + 1)
+pub characters-text : (cs rest : List ℕ) → Writable cs → quoted 34 0 (charactersText cs ++ (34 ∷ rest)) ≡ closed cs (length (charactersText cs) + 1)
 unfolding charactersText
 characters-text [] rest w = quoted-end 34 (34 ∷ rest) (at-quote 34 34 rest refl)
 characters-text (c ∷ cs) rest w =

@@ -1,5 +1,9 @@
 -- Worked examples of refusals 8 to 14 and 16: the number and place of a whole text's refusal, or 0 and 0.
+use Prim.Native.Nat.{ℕ}
 use mathlib.Core.Path.{_≡_, refl}
+use mathlib.Core.List.{List, [], _∷_}
+use Rattle.text.specs.Line.{newlines, lineOf}
+use Rattle.text.specs.Written.{bytes}
 use Rattle.language.proofs.Whole.{judged}
 
 -- 8: name unknown
@@ -191,3 +195,8 @@ returns-from-valof = refl
 break-through-switch : judged "GLOBAL $( START:1; RDCH:13; WRCH:14; A:20 $) LET START() BE WHILE A DO SWITCHON A INTO $( CASE 1: BREAK $)" ≡ (0, 0)
 unfolding judged
 break-through-switch = refl
+
+-- `refused 8 at 15 line 1`
+line-one : lineOf (bytes "LET START() BE FOO()") 15 ≡ 1
+unfolding lineOf newlines
+line-one = refl

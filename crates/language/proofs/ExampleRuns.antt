@@ -50,6 +50,18 @@ loop-in-for : written (ran "GLOBAL $( START:1; RDCH:13; WRCH:14; A:20 $) LET STA
 unfolding ran
 loop-in-for = refl
 
+loop-in-until : written (ran "GLOBAL $( START:1; RDCH:13; WRCH:14; A:20 $) LET START() BE $( LET N = '0' UNTIL N = '4' DO $( N := N + 1; IF N = '2' DO LOOP; WRCH(N) $) $)" "") ≡ bytes "134"
+unfolding ran
+loop-in-until = refl
+
+loop-in-repeat : written (ran "GLOBAL $( START:1; RDCH:13; WRCH:14; A:20 $) LET START() BE $( LET N = '0' $( N := N + 1; IF N = '2' DO LOOP; IF N = '4' DO BREAK; WRCH(N) $) REPEAT $)" "") ≡ bytes "13"
+unfolding ran
+loop-in-repeat = refl
+
+loop-in-repeatwhile : written (ran "GLOBAL $( START:1; RDCH:13; WRCH:14; A:20 $) LET START() BE $( LET N = '0' $( N := N + 1; IF N = '2' DO LOOP; WRCH(N) $) REPEATWHILE N < '4' $)" "") ≡ bytes "134"
+unfolding ran
+loop-in-repeatwhile = refl
+
 loop-in-repeatuntil : written (ran "GLOBAL $( START:1; RDCH:13; WRCH:14; A:20 $) LET START() BE $( LET N = '0' $( N := N + 1; IF N = '2' DO LOOP; WRCH(N) $) REPEATUNTIL N = '4' $)" "") ≡ bytes "134"
 unfolding ran
 loop-in-repeatuntil = refl

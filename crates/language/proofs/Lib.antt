@@ -15,3 +15,5 @@ pub mod Ladder
 pub mod Whole
 pub mod ExampleRules
 pub mod ExampleRuns
+pub mod Printed
+pub mod ExamplePrinted

@@ -25,3 +25,4 @@ pub mod Run
 pub mod Whole
 pub mod Faithful
 pub mod Placed
+pub mod Print

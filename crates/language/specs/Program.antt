@@ -171,6 +171,11 @@ faultsOfProgram text p = faultsFrom text begin p
 unfoldable pub functionsOf : List ℕ → Program → List Named
 functionsOf text p = functionsFrom text begin p
 
+-- the largest height of each function, in text order
+unfoldable pub largestHeights : List Named → List ℕ
+largestHeights [] = []
+largestHeights (f ∷ fs) = largestHeight (f .fun) ∷ largestHeights fs
+
 -- 16: height over 8,192 words, at the function's name
 unfoldable pub heightFaults : List Named → List Fault
 heightFaults [] = []

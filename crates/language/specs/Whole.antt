@@ -17,7 +17,7 @@ use Rattle.language.specs.Program.{Refused, accepted, refused, rulesRefu
 use Rattle.language.specs.State.{Cell, gone, holds, Value, State, Result, unfinished, undefined, finished, returned, ok}
 use Rattle.language.specs.Run.{Placement, Sem, called, sem}
 
--- ---- refusals: 1; 15 for scratch; 2 to 5; 6 and 7; 8 to 13; 16; 14. (15 for the text is the compiler's: it depends on its text)
+-- ---- refusals: 1; 15 for scratch; 2 to 5; 6 and 7; 8 to 13; 16; 14; 15 for text
 
 abbrev pub onRead : List ℕ → S.Read → Refused
 onRead source (S.read p) = rulesRefuse source p
@@ -25,6 +25,14 @@ onRead source (S.refused number place) = refused number place
 
 unfoldable pub refusalOf : (source : List ℕ) (scratch : ℕ) → Refused
 refusalOf source scratch = onRead source (readSource source scratch)
+
+-- all of them: the compiler supplies its text's length, and is lent room for so many bytes
+abbrev pub unlessFits : (size room : ℕ) → Refused → Refused
+unlessFits size room (refused number place) = refused number place
+unlessFits size room accepted = cond (ltb room size) (refused 15 0) accepted
+
+unfoldable pub refusalIn : (source : List ℕ) (scratch size room : ℕ) → Refused
+refusalIn source scratch size room = unlessFits size room (refusalOf source scratch)
 
 -- ---- what a source means: its functions in text order and its strings' characters in text order
 
