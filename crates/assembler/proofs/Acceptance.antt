@@ -1,7 +1,7 @@
 -- What an accepted text satisfies: the bounds of the image, and a table of labels that differ.
 use Prim.Native.Nat.{ℕ, zero, suc, _+_, _-_, _<_, _≤_}
 use mathlib.Core.Path.{_≡_, refl, sym, ap, _∙_}
-use mathlib.Core.Bool.{Bool, true, false}
+use mathlib.Core.Bool.{Bool, true, false, _&&_}
 use mathlib.Core.List.{List, [], _∷_, _++_}
 use native.Mathlib.Omega.{arith}
 use lib.Dec.{eqb, leb}
@@ -10,7 +10,7 @@ use borrow.Author.Tests.{eqb-false, ne-eqb, leb-true}
 use Rattle.text.specs.Line.{refusal}
 use Rattle.items.specs.Item as I
 use Rattle.items.specs.Scan.{Ending, whole, unreadable, scan}
-use Rattle.assembler.specs.Words.{both, inRange, size}
+use Rattle.assembler.specs.Words.{inRange, size}
 use Rattle.assembler.specs.Layout.{Label, defined, noted, Laid, laid, refused, misplaced, fault, lay, unknowns}
 use Rattle.assembler.specs.Assemble.{start, noGlobals, image, refuse, accept, onUnknowns, onEnding, onLaid, assembled}
 use Rattle.assembler.specs.Passes.{put, filled}
@@ -162,9 +162,9 @@ module _ (text : List ℕ) (memory room : ℕ) {end : ℕ} where
 
   pub acceptance : assembled text memory room .answer ≡ Accepted end → Acceptance text memory room end
   unfolding assembled refuse
-  acceptance h = go (both (leb 512 memory) (leb memory 32768)) refl
+  acceptance h = go (leb 512 memory && leb memory 32768) refl
     where
-      go : (t : Bool) → both (leb 512 memory) (leb memory 32768) ≡ t → Acceptance text memory room end
+      go : (t : Bool) → leb 512 memory && leb memory 32768 ≡ t → Acceptance text memory room end
       go true e =
           let b : (leb 512 memory ≡ true) × (leb memory 32768 ≡ true) = both-true (leb 512 memory) (leb memory 32768) e in
           by-layout (leb-true 512 memory (b .0)) (leb-true memory 32768 (b .1)) (rw e)

@@ -1,19 +1,19 @@
 -- Operands in range.
 use Prim.Native.Nat.{ℕ, _<_, _≤_}
 use mathlib.Core.Path.{_≡_, refl}
-use mathlib.Core.Bool.{Bool, true, false}
+use mathlib.Core.Bool.{Bool, true, false, _&&_}
 use native.Mathlib.Omega.{arith}
 use lib.Dec.{leb}
 use borrow.Author.Tests.{leb-true}
 use Rattle.items.specs.Item.{number}
-use Rattle.assembler.specs.Words.{both, labelInRange, operandInRange}
+use Rattle.assembler.specs.Words.{labelInRange, operandInRange}
 
 pub number-below : (minus : Bool) {size : ℕ} → operandInRange (number minus size) ≡ true → size < 65536
 unfolding operandInRange
 number-below true {size} h = let z : size ≤ 32768 = leb-true _ _ h in omega arith
 number-below false {size} h = let z : size ≤ 65535 = leb-true _ _ h in omega arith
 
-pub both-true : (a b : Bool) → both a b ≡ true → (a ≡ true) × (b ≡ true)
+pub both-true : (a b : Bool) → (a && b) ≡ true → (a ≡ true) × (b ≡ true)
 both-true true b h = (refl, h)
 both-true false b h = (h, let z : _≡_ {A = ℕ} 0 1 = cc in absurd (omega arith))
 

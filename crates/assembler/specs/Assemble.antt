@@ -1,6 +1,6 @@
 -- What `assemble` answers and leaves in the lent memory and label table (document 01, "Start", "Assembly text", "Refusal numbers").
 use Prim.Native.Nat.{ℕ, zero, suc, _+_, _-_, _*_}
-use mathlib.Core.Bool.{Bool, true, false, cond}
+use mathlib.Core.Bool.{cond, _&&_}
 use mathlib.Core.Path.{_≡_}
 use mathlib.Core.List.{List, [], _∷_, _++_, map}
 use lib.ListN.{length, set, replicate}
@@ -8,7 +8,7 @@ use lib.Dec.{leb}
 use Rattle.text.specs.Line.{refusal}
 use Rattle.items.specs.Item.{Item, label, instruction, constant, string, global, Placed}
 use Rattle.items.specs.Scan.{Ending, whole, unreadable, Scan, scan}
-use Rattle.assembler.specs.Words.{both, words}
+use Rattle.assembler.specs.Words.{words}
 use Rattle.assembler.specs.Layout.{Label, addressOf, Laid, laid, refused, lay, unknowns}
 use Rattle.assembler.specs.declared.Assembled.{Assembled}
 use Rattle.assembler.specs.declared.Assembled.the-variants.{Accepted, Refused}
@@ -82,7 +82,7 @@ module _ (text : List ℕ) (memory room : ℕ) where
   -- memory of a length outside 512 to 32,768 is refused 24 at 0; then text order
   unfoldable pub assembled : Assembly
   assembled =
-      cond (both (leb 512 memory) (leb memory 32768))
+      cond (leb 512 memory && leb memory 32768)
       (onLaid (lay memory room 416 [] (scan text .items)) (scan text))
       (refuse 24 0)
 

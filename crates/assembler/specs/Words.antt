@@ -1,19 +1,15 @@
 -- What an item means: its size, its words, and the numbers it may hold (document 01, "Machine" and "Assembly text").
 use Prim.Native.Nat.{ℕ, suc, _+_, _-_, _*_, _/_}
-use mathlib.Core.Bool.{Bool, true, false, cond}
+use mathlib.Core.Bool.{Bool, true, false, cond, _&&_}
 use mathlib.Core.List.{List, [], _∷_}
 use lib.ListN.{length}
 use lib.Dec.{eqb, leb, ltb}
 use Rattle.words.specs.Words.{neg}
 use Rattle.items.specs.Item.{Operand, number, address, Base, none, P, G, Item, label, instruction, constant, string, global}
 
-abbrev pub both : Bool → Bool → Bool
-both true b = b
-both false b = false
-
 -- numbers -32768 to 65535, labels 1 to 32767, globals 0 to 399: any other is refused 23
 abbrev pub labelInRange : ℕ → Bool
-labelInRange n = both (leb 1 n) (leb n 32767)
+labelInRange n = leb 1 n && leb n 32767
 
 unfoldable pub operandInRange : Operand → Bool
 operandInRange (number true size) = leb size 32768
@@ -25,7 +21,7 @@ inRange (label n) = labelInRange n
 inRange (instruction f i b x) = operandInRange x
 inRange (constant x) = operandInRange x
 inRange (string cs) = true
-inRange (global n m) = both (leb n 399) (labelInRange m)
+inRange (global n m) = leb n 399 && labelInRange m
 
 -- a number's word
 abbrev pub signed : Bool → ℕ → ℕ

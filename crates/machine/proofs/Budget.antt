@@ -2,7 +2,7 @@
 -- so that a smaller budget writes a beginning of what a larger one writes.
 use Prim.Native.Nat.{ℕ, zero, suc, _+_, _-_, _<_, _≤_}
 use mathlib.Core.Path.{_≡_, refl, sym, ap, _∙_}
-use mathlib.Core.Bool.{Bool, true, false, cond}
+use mathlib.Core.Bool.{Bool, true, false, cond, _&&_}
 use mathlib.Core.List.{List}
 use native.Mathlib.Omega.{arith}
 use native.Mathlib.Nat.{le-trans, le-refl, lt-of-lt-of-le}
@@ -12,7 +12,7 @@ use lib.Seq.{getD-set-other}
 use borrow.Author.Tests.{ne-eqb}
 use Rattle.machine.specs.State.{State}
 use Rattle.machine.specs.Step.{Turn, done, finished, stopped, step}
-use Rattle.machine.specs.Run.{Outcome, after, onTurn, steps, both, resume}
+use Rattle.machine.specs.Run.{Outcome, after, onTurn, steps, resume}
 use Rattle.machine.proofs.Shape.{Shape, quiet, one-more, ends, halts, Quiet, OneMore, shape}
 
 -- a run that stopped for budget, carried on
@@ -118,7 +118,7 @@ budget-beginning input {n} {n′} s h =
 -- ---- the same of `resume`, whose memory keeps its length
 
 abbrev fits : ℕ → Bool
-fits n = both (leb 512 n) (leb n 32768)
+fits n = leb 512 n && leb n 32768
 
 pub resume-add : (input : List ℕ) (n m : ℕ) (s : State) → resume input (n + m) s ≡ carriedOn (resume input n s) (λ t. resume input m t)
 unfolding resume

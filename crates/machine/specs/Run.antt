@@ -1,6 +1,6 @@
 -- A run by its budget (document 01, "Machine" and "Stops").
 use Prim.Native.Nat.{ℕ, zero, suc, _+_}
-use mathlib.Core.Bool.{Bool, true, false, cond}
+use mathlib.Core.Bool.{cond, _&&_}
 use mathlib.Core.List.{List}
 use lib.ListN.{length}
 use lib.Dec.{leb}
@@ -27,14 +27,10 @@ unfoldable pub steps : List ℕ → (budget : ℕ) → State → Outcome
 steps input zero s = record { stop = 31; count = 0; state = s }
 steps input (suc n) s = onTurn s (step input s) (λ t. steps input n t)
 
-abbrev pub both : Bool → Bool → Bool
-both true b = b
-both false b = false
-
 -- from any registers; 24: memory of a length other than 512 to 32,768, count 0, nothing changed
 unfoldable pub resume : List ℕ → (budget : ℕ) → State → Outcome
 resume input n s =
-    cond (both (leb 512 (length (s .mem))) (leb (length (s .mem)) 32768))
+    cond (leb 512 (length (s .mem)) && leb (length (s .mem)) 32768)
     (steps input n s)
     (record { stop = 24; count = 0; state = s })
 
