@@ -4,6 +4,10 @@ use mathlib.Core.Path.{_≡_}
 use mathlib.Core.List.{List, [], _∷_}
 use Rattle.machine.specs.Run.{Outcome, run}
 use Rattle.assembler.specs.Assemble.{Assembly}
+use Rattle.text.specs.Line.{lineOf}
+use Rattle.symbols.specs.Read.{symbolsRead}
+use Rattle.symbols.specs.declared.SymbolsRead.{SymbolsRead}
+use Rattle.symbols.specs.declared.SymbolsRead.the-variants as Y
 use Rattle.assembler.specs.declared.Assembled.{Assembled}
 use Rattle.assembler.specs.declared.Assembled.the-variants.{Accepted, Refused}
 
@@ -27,3 +31,14 @@ pub record AssembleExported (assembly : Assembly) (memory table answer : List �
   pub fills : memory ≡ assembly .memory
   pub tables : table ≡ assembly .table
   pub answers : answer ≡ assembleNumbers (assembly .answer)
+
+-- 0 and the number of symbols; or the refusal's number, place and line
+abbrev pub symbolNumbers : (text : List ℕ) → SymbolsRead → List ℕ
+symbolNumbers text Y.TooLong = 1 ∷ 0 ∷ 1 ∷ []
+symbolNumbers text Y.TooShort = 15 ∷ 0 ∷ 1 ∷ []
+symbolNumbers text (Y.Read count) = 0 ∷ count ∷ 0 ∷ []
+symbolNumbers text (Y.Refused number place) = number ∷ place ∷ lineOf text place ∷ []
+
+pub record SymbolsExported (text scratch scratch′ answer : List ℕ) : Type 0 where
+  pub leaves : scratch′ ≡ symbolsRead text scratch .scratch
+  pub answers : answer ≡ symbolNumbers text (symbolsRead text scratch .answer)

@@ -3,8 +3,9 @@ ghost use mathlib.Core.Path.{_≡_};
 ghost use lib.ListN.{length};
 ghost use Rattle.assembler.specs.Assemble.{assembled};
 ghost use Rattle.machine.specs.Run.{run};
-ghost use Rattle.testbed.specs.Exported.{AssembleExported, RunExported};
+ghost use Rattle.testbed.specs.Exported.{AssembleExported, RunExported, SymbolsExported};
 use assembler::Assembled;
+use symbols::SymbolsRead;
 
 #[no_mangle]
 pub extern "C" fn morkvasil_assemble(
@@ -50,4 +51,26 @@ pub extern "C" fn morkvasil_run(
         r.p as u64,
         r.g as u64,
     ];
+}
+
+#[no_mangle]
+pub extern "C" fn morkvasil_symbols(text: &[u8], scratch: &mut [u32], answer: &mut [u64; 3])
+    ensures { λ _. ⌜ SymbolsExported (now (text .entry)) (now (scratch .entry)) (now (scratch .exit)) (now (answer .exit)) ⌝ }
+{
+    let read = symbols::read_symbols(text, scratch);
+    match read {
+        SymbolsRead::TooLong => {
+            *answer = [1, 0, 1];
+        }
+        SymbolsRead::TooShort => {
+            *answer = [15, 0, 1];
+        }
+        SymbolsRead::Read(count) => {
+            *answer = [0, count as u64, 0];
+        }
+        SymbolsRead::Refused { number, place } => {
+            let line = text::line_of(text, place);
+            *answer = [number as u64, place as u64, line as u64];
+        }
+    }
 }

@@ -1,0 +1,13 @@
+pub mod Table
+pub mod Classes
+pub mod Spelling
+pub mod Runs
+pub mod Numbers
+pub mod Quotations
+pub mod Heads
+pub mod Lines
+pub mod Scanning
+pub mod Matching
+pub mod Small
+pub mod Writing
+pub mod Reading

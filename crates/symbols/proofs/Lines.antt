@@ -1,0 +1,266 @@
+-- What stands at a place is at least a byte, ends within the text, and holds no newline, unless it is a gap of that one byte.
+use Prim.Native.Nat.{ℕ, zero, suc, _+_, _-_, _<_, _≤_}
+use mathlib.Core.Path.{_≡_, refl, sym, ap, _∙_}
+use mathlib.Core.Bool.{Bool, true, false, cond}
+use mathlib.Core.List.{List, [], _∷_}
+use native.Mathlib.Omega.{arith}
+use lib.Dec.{eqb, leb, ltb}
+use lib.ListN.{length, getD, take, drop}
+use borrow.Author.Tests.{eq-eqb, ne-eqb, eqb-true, leb-true, ltb-true, lt-ltb}
+use Rattle.text.specs.Line.{newlines}
+use Rattle.text.specs.Quoted as Q
+use Rattle.text.specs.Quoted.{Quoted, closed, faulty, quoted}
+use Rattle.text.proofs.Quotes.{Written, is-written, ascii, Closed, is-closed}
+use Rattle.language.specs.Bytes.{both, classOf, between, LETTER, DIGIT, HASH, QUOTE, DOUBLE, SIGN, SEPARATOR, NEWLINE}
+use Rattle.language.specs.Kinds.{Spelled, NUMBER, STRING, reserved, signs}
+use Rattle.language.specs.Symbols.{Element, symbol, gap, wrong, begins, inWord, wordWidth, same, kindIn, kindOf, word, digitOf, digits, valueOf, decimal, octal, asCharacter, character, asString, string, signIn, sign, toLineEnd, comment, signOrComment, byClass}
+use Rattle.symbols.proofs.Runs.{Run, word-run, digits-run, comment-run, run-within, run-line}
+use Rattle.symbols.proofs.Numbers.{from-digits}
+use Rattle.symbols.proofs.Table.{every}
+
+-- ---- characters between quotes
+
+either : {A : Type 0} (P : A → Type 0) (t : Bool) {a b : A} → (t ≡ true → P a) → (t ≡ false → P b) → P (cond t a b)
+either P true p q = p refl
+either P false p q = q refl
+
+abbrev CharacterLine : List ℕ → Q.Character → Type 0
+CharacterLine bs (Q.is v w) = newlines (take w bs) ≡ 0
+CharacterLine bs Q.closing = newlines (take 1 bs) ≡ 0
+CharacterLine bs Q.bad = Unit {0}
+
+record OneLine (bs : List ℕ) (ch : Q.Character) : Type 0 where
+  pub line : CharacterLine bs ch
+
+escape-line : (bs : List ℕ) → OneLine (42 ∷ bs) (Q.escape bs)
+unfolding Q.escape newlines
+escape-line [] = record { line = tt }
+escape-line (c ∷ r) =
+    one 78 10 refl (one 83 32 refl (one 84 9 refl (one 66 8 refl (one 80 12 refl (one 67 13 refl (one 42 42 refl (one 39 39 refl (one 34 34 refl (record { line = tt })))))))))
+  where
+    one : (k v : ℕ) {other : Q.Character} → eqb k 10 ≡ false → OneLine (42 ∷ c ∷ r) other → OneLine (42 ∷ c ∷ r) (cond (eqb c k) (Q.is v 2) other)
+    one k v n p = either (OneLine (42 ∷ c ∷ r)) (eqb c k) (λ e. record { line = rw (eqb-true c k e, n) }) (λ e. p)
+
+character-line : (quote : ℕ) → eqb quote 10 ≡ false → (bs : List ℕ) → CharacterLine bs (Q.character quote bs)
+unfolding Q.character newlines
+character-line quote n [] = tt
+character-line quote n (c ∷ r) =
+    either (CharacterLine (c ∷ r)) (eqb c quote) (λ e. rw (eqb-true c quote e, n))
+    (λ _. either (CharacterLine (c ∷ r)) (eqb c 42) (λ e. rw (eqb-true c 42 e) (escape-line r .line))
+    (λ _. either (CharacterLine (c ∷ r)) (leb 32 c)
+    (λ l. either (CharacterLine (c ∷ r)) (leb c 126) (λ h. rw (ne-eqb c 10 (λ e. omega (arith, leb-true 32 c l)))) (λ _. tt))
+    (λ _. tt)))
+
+-- the newlines of a quotation are those of the bytes passed over first
+abbrev QuotedLine : (k : ℕ) → List ℕ → Quoted → Type 0
+QuotedLine k bs (closed cs n) = newlines (take n bs) ≡ newlines (take k bs)
+QuotedLine k bs faulty = Unit {0}
+
+wider-line : (c : ℕ) (r : List ℕ) (k : ℕ) (q : Quoted) → QuotedLine k r q → QuotedLine (suc k) (c ∷ r) (Q.wider q)
+unfolding newlines
+wider-line c r k (closed cs m) h = rw h
+wider-line c r k faulty h = tt
+
+after-line : (v w c : ℕ) (r : List ℕ) (q : Quoted) → newlines (take (suc w) (c ∷ r)) ≡ 0 → QuotedLine w r q → QuotedLine 0 (c ∷ r) (Q.after v q)
+unfolding newlines
+after-line v w c r (closed cs m) h k = rw k h
+after-line v w c r faulty h k = tt
+
+quoted-line : (quote : ℕ) → eqb quote 10 ≡ false → (k : ℕ) (bs : List ℕ) → QuotedLine k bs (quoted quote k bs)
+unfolding quoted newlines
+quoted-line quote n k [] = tt
+quoted-line quote n (suc k) (c ∷ r) = wider-line c r k (quoted quote k r) (quoted-line quote n k r)
+quoted-line quote n zero (c ∷ r) = by (Q.character quote (c ∷ r)) refl (character-line quote n (c ∷ r)) (λ k. quoted-line quote n k r)
+  where
+    by : (ch : Q.Character) → Q.character quote (c ∷ r) ≡ ch → CharacterLine (c ∷ r) ch → ((k : ℕ) → QuotedLine k r (quoted quote k r)) → QuotedLine 0 (c ∷ r) (Q.onCharacter ch (λ k. quoted quote k r))
+    by (Q.is v zero) e h more = absurd (let w : Written (suc (length r)) v zero = is-written quote (c ∷ r) e in omega arith)
+    by (Q.is v (suc w)) e h more = let z : suc w - 1 ≡ w = omega arith in rw z (after-line v w c r (quoted quote w r) h (more w))
+    by Q.closing e h more = h
+    by Q.bad e h more = tt
+
+-- ---- what stands at a place
+
+-- so many bytes at the head, with so many newlines
+pub record Stood (bs : List ℕ) (lines width : ℕ) : Type 0 where
+  pub some : 1 ≤ width
+  pub within : width ≤ length bs
+  pub line : newlines (take width bs) ≡ lines
+
+abbrev pub Given : List ℕ → (lines : ℕ) → Element → Type 0
+Given bs lines (symbol k v w) = Stood bs 0 w × (k < 62) × (v ≤ 65535 + w)
+Given bs lines (gap w) = Stood bs lines w
+Given bs lines (wrong n) = Unit {0}
+
+both-left : (a b : Bool) → both a b ≡ true → a ≡ true
+both-left true b e = refl
+both-left false b e = e
+
+both-right : (a b : Bool) → both a b ≡ true → b ≡ true
+both-right true b e = e
+both-right false b e = let z : _≡_ {A = ℕ} 0 1 = cc in absurd (omega arith)
+
+-- every kind of a word and of a sign is below 62, and every sign is a byte or more, on one line
+abbrev known : Spelled → Bool
+known s = ltb (s .kind) 62
+
+abbrev onOneLine : Spelled → Bool
+onOneLine s = both (leb 1 (length (s .spelling))) (both (eqb (newlines (s .spelling)) 0) (known s))
+
+kind-known : (ws : List Spelled) (bs : List ℕ) → every known (record { spelling = []; kind = 0 }) ws ≡ true → kindIn ws bs < 62
+unfolding kindIn
+kind-known [] bs t = omega arith
+kind-known (w ∷ ws) bs t = by (same (w .spelling) bs) (ltb-true (w .kind) 62 (both-left (known w) _ t)) (kind-known ws bs (both-right (known w) _ t))
+  where
+    by : (b : Bool) → w .kind < 62 → kindIn ws bs < 62 → elim b [ true ↦ w .kind | false ↦ kindIn ws bs ] < 62
+    by true h k = h
+    by false h k = k
+
+begins-within : (ss bs : List ℕ) → begins ss bs ≡ true → (length ss ≤ length bs) × (newlines (take (length ss) bs) ≡ newlines ss)
+unfolding begins newlines
+begins-within [] bs e = (omega arith, refl)
+begins-within (s ∷ ss) [] e = let z : _≡_ {A = ℕ} 0 1 = cc in absurd (omega arith)
+begins-within (s ∷ ss) (b ∷ bs) e =
+    let k : s ≡ b = eqb-true s b (both-left (eqb s b) (begins ss bs) e) in
+    let h : (length ss ≤ length bs) × (newlines (take (length ss) bs) ≡ newlines ss) = begins-within ss bs (both-right (eqb s b) (begins ss bs) e) in
+    (omega (arith, h .0), rw (k, h .1))
+
+sign-given : (ss : List Spelled) (bs : List ℕ) (lines : ℕ) → every onOneLine (record { spelling = []; kind = 0 }) ss ≡ true → Given bs lines (signIn ss bs)
+unfolding signIn
+sign-given [] bs lines t = tt
+sign-given (s ∷ ss) bs lines t = by (begins (s .spelling) bs) refl (both-left (onOneLine s) _ t) (sign-given ss bs lines (both-right (onOneLine s) _ t))
+  where
+    by : (b : Bool) → begins (s .spelling) bs ≡ b → onOneLine s ≡ true → Given bs lines (signIn ss bs)
+        → Given bs lines (elim b [ true ↦ symbol (s .kind) 0 (length (s .spelling)) | false ↦ signIn ss bs ])
+    by true e o h =
+        let w : (length (s .spelling) ≤ length bs) × (newlines (take (length (s .spelling)) bs) ≡ newlines (s .spelling)) = begins-within (s .spelling) bs e in
+        let p : both (eqb (newlines (s .spelling)) 0) (known s) ≡ true = both-right (leb 1 (length (s .spelling))) _ o in (
+          record {
+            some = leb-true 1 (length (s .spelling)) (both-left (leb 1 (length (s .spelling))) _ o);
+            within = w .0;
+            line = w .1 ∙ eqb-true (newlines (s .spelling)) 0 (both-left (eqb (newlines (s .spelling)) 0) _ p);
+          },
+          ltb-true (s .kind) 62 (both-right (eqb (newlines (s .spelling)) 0) (known s) p),
+          omega arith,
+        )
+    by false e o h = h
+
+run-stood : {p : ℕ → Bool} {f : List ℕ → ℕ} → Run p f → (c : ℕ) (r : List ℕ) → p c ≡ true → p 10 ≡ false → Stood (c ∷ r) 0 (f (c ∷ r))
+run-stood {p} {f} run c r e n =
+    let k : f (c ∷ r) ≡ suc (f r) = run .some c r ∙ rw e in
+    record { some = omega (arith, k); within = run-within run (c ∷ r); line = run-line run n (c ∷ r) }
+
+-- after a byte that is no newline
+past-stood : (c : ℕ) (r : List ℕ) {n : ℕ} → (c ≡ 10 → ⊥) → n ≤ length r → newlines (take n r) ≡ 0 → Stood (c ∷ r) 0 (suc n)
+unfolding newlines
+past-stood c r h w e = record { some = omega arith; within = omega arith; line = rw (ne-eqb c 10 h) e }
+
+other-class : (c m : ℕ) → classOf c ≡ m → (m ≡ 9 → ⊥) → c ≡ 10 → ⊥
+unfolding classOf
+other-class c m e h k = h (sym e ∙ ap classOf k)
+
+-- a byte that is neither a letter nor a digit
+abbrev others : ℕ → ℕ
+others c = cond (eqb c 46) 3 (cond (eqb c 35) 4 (cond (eqb c 39) 5 (cond (eqb c 34) 6 (cond (eqb c 32) 8 (cond (eqb c 9) 8 (cond (eqb c 13) 8 (cond (eqb c 10) 9 (cond (eqb c 33) 7 (cond (eqb c 36) 7 (cond (eqb c 38) 7 (cond (between 40 45 c) 7 (cond (eqb c 47) 7 (cond (between 58 62 c) 7 (cond (eqb c 64) 7 (cond (eqb c 124) 7 (cond (eqb c 126) 7 0))))))))))))))))
+
+-- a byte of the class of digits is a digit
+digit-class : (c : ℕ) → classOf c ≡ 2 → digitOf 10 c ≡ true
+unfolding classOf
+digit-class c = by (between 65 90 c) (between 48 57 c) refl
+  where
+    low : between 48 57 c ≡ true → digitOf 10 c ≡ true
+    low e =
+        let l : 48 ≤ c = leb-true 48 c (both-left (leb 48 c) (leb c 57) e) in
+        let h : c ≤ 57 = leb-true c 57 (both-right (leb 48 c) (leb c 57) e) in
+        from-digits 10 c l ∙ lt-ltb c 58 (omega arith)
+
+    never : (t : Bool) (k : ℕ) {n : ℕ} → (k ≡ 2 → ⊥) → (n ≡ 2 → ⊥) → cond t k n ≡ 2 → ⊥
+    never true k a b = a
+    never false k a b = b
+
+    rest : others c ≡ 2 → ⊥
+    rest = never (eqb c 46) 3 (λ e. omega arith) (never (eqb c 35) 4 (λ e. omega arith) (never (eqb c 39) 5 (λ e. omega arith) (never (eqb c 34) 6 (λ e. omega arith) (never (eqb c 32) 8 (λ e. omega arith) (never (eqb c 9) 8 (λ e. omega arith) (never (eqb c 13) 8 (λ e. omega arith) (never (eqb c 10) 9 (λ e. omega arith) (never (eqb c 33) 7 (λ e. omega arith) (never (eqb c 36) 7 (λ e. omega arith) (never (eqb c 38) 7 (λ e. omega arith) (never (between 40 45 c) 7 (λ e. omega arith) (never (eqb c 47) 7 (λ e. omega arith) (never (between 58 62 c) 7 (λ e. omega arith) (never (eqb c 64) 7 (λ e. omega arith) (never (eqb c 124) 7 (λ e. omega arith) (never (eqb c 126) 7 (λ e. omega arith) (λ e. omega arith)))))))))))))))))
+
+    by : (a b : Bool) → between 48 57 c ≡ b → cond a 1 (cond b 2 (others c)) ≡ 2 → digitOf 10 c ≡ true
+    by true b e k = absurd (omega arith)
+    by false true e k = low e
+    by false false e k = absurd (rest k)
+
+-- ---- by the class of the first byte
+
+module _ (c : ℕ) (r : List ℕ) (lines : ℕ) where
+  word-given : classOf c ≡ 1 → Given (c ∷ r) lines (word (c ∷ r))
+  unfolding word kindOf reserved classOf
+  word-given e = (run-stood word-run c r (ap inWord e) refl, kind-known reserved (take (wordWidth (c ∷ r)) (c ∷ r)) refl, omega arith)
+
+  decimal-given : classOf c ≡ 2 → Given (c ∷ r) lines (decimal (c ∷ r))
+  unfolding decimal
+  decimal-given e =
+      either (Given (c ∷ r) lines) (leb (valueOf 10 0 (c ∷ r)) 32767)
+      (λ h. (run-stood (digits-run 10) c r (digit-class c e) refl, omega arith, omega (arith, leb-true (valueOf 10 0 (c ∷ r)) 32767 h)))
+      (λ _. tt)
+
+  module _ (n : c ≡ 10 → ⊥) where
+    octal-given : Given (c ∷ r) lines (octal r)
+    unfolding octal
+    octal-given =
+        either (Given (c ∷ r) lines) (both (leb 1 (digits 8 r)) (leb (valueOf 8 0 r) 65535))
+        (λ h. (
+          past-stood c r n (run-within (digits-run 8) r) (run-line (digits-run 8) refl r),
+          omega arith,
+          omega (arith, leb-true (valueOf 8 0 r) 65535 (both-right (leb 1 (digits 8 r)) _ h)),
+        ))
+        (λ _. tt)
+
+    character-given : Given (c ∷ r) lines (character r)
+    unfolding character newlines
+    character-given = by (quoted 39 0 r) (λ cs w e. is-closed 39 0 r e) (quoted-line 39 refl 0 r)
+      where
+        by : (q : Quoted) → ((cs : List ℕ) (w : ℕ) → q ≡ closed cs w → Closed 0 (length r) cs w) → QuotedLine 0 r q → Given (c ∷ r) lines (asCharacter q)
+        by (closed [] w) h k = tt
+        by (closed (v ∷ []) w) h k = let d : Closed 0 (length r) (v ∷ []) w = h (v ∷ []) w refl in (past-stood c r n (d .within) k, omega arith, omega (arith, ascii (v ∷ []) (d .each) 0))
+        by (closed (v ∷ u ∷ cs) w) h k = tt
+        by faulty h k = tt
+
+    string-given : Given (c ∷ r) lines (string r)
+    unfolding string newlines
+    string-given = by (quoted 34 0 r) (λ cs w e. is-closed 34 0 r e) (quoted-line 34 refl 0 r)
+      where
+        by : (q : Quoted) → ((cs : List ℕ) (w : ℕ) → q ≡ closed cs w → Closed 0 (length r) cs w) → QuotedLine 0 r q → Given (c ∷ r) lines (asString q)
+        by (closed cs w) h k =
+            either (Given (c ∷ r) lines) (leb (length cs) 255)
+            (λ l. (past-stood c r n (h cs w refl .within) k, omega arith, omega (arith, leb-true (length cs) 255 l)))
+            (λ _. tt)
+        by faulty h k = tt
+
+module _ (c : ℕ) (r : List ℕ) where
+  abbrev here : ℕ
+  here = cond (eqb c 10) 1 0
+
+  one-given : Stood (c ∷ r) here 1
+  unfolding newlines
+  one-given = record { some = omega arith; within = omega arith; line = refl }
+
+  comment-given : begins (47 ∷ 47 ∷ []) (c ∷ r) ≡ true → Given (c ∷ r) here (comment (c ∷ r))
+  unfolding comment begins
+  comment-given e =
+      let k : 47 ≡ c = eqb-true 47 c (both-left (eqb 47 c) _ e) in
+      let n : eqb c 10 ≡ false = ne-eqb c 10 (λ j. omega arith) in
+      rw n (run-stood comment-run c r (rw n) refl)
+
+  sign-or-comment-given : Given (c ∷ r) here (signOrComment (c ∷ r))
+  unfolding signOrComment sign signs newlines
+  sign-or-comment-given =
+      either (Given (c ∷ r) here) (begins (47 ∷ 47 ∷ []) (c ∷ r)) comment-given
+      (λ _. sign-given signs (c ∷ r) here refl)
+
+  pub element-given : Given (c ∷ r) here (byClass (classOf c) (c ∷ r))
+  unfolding byClass
+  element-given =
+      either (Given (c ∷ r) here) (eqb (classOf c) LETTER) (λ e. word-given c r here (eqb-true _ _ e))
+      (λ _. either (Given (c ∷ r) here) (eqb (classOf c) DIGIT) (λ e. decimal-given c r here (eqb-true _ _ e))
+      (λ _. either (Given (c ∷ r) here) (eqb (classOf c) HASH) (λ e. octal-given c r here (other-class c 4 (eqb-true _ _ e) (λ k. omega arith)))
+      (λ _. either (Given (c ∷ r) here) (eqb (classOf c) QUOTE) (λ e. character-given c r here (other-class c 5 (eqb-true _ _ e) (λ k. omega arith)))
+      (λ _. either (Given (c ∷ r) here) (eqb (classOf c) DOUBLE) (λ e. string-given c r here (other-class c 6 (eqb-true _ _ e) (λ k. omega arith)))
+      (λ _. either (Given (c ∷ r) here) (eqb (classOf c) SIGN) (λ _. sign-or-comment-given)
+      (λ _. either (Given (c ∷ r) here) (eqb (classOf c) SEPARATOR) (λ _. one-given)
+      (λ _. either (Given (c ∷ r) here) (eqb (classOf c) NEWLINE) (λ _. one-given) (λ _. tt))))))))

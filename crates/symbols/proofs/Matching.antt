@@ -1,0 +1,178 @@
+-- Brackets: the stack in scratch as the definitions' list, and the first refusal, one symbol at a time.
+use Prim.Native.Nat.{ℕ, zero, suc, _+_, _-_, _<_, _≤_}
+use mathlib.Core.Path.{_≡_, refl, sym, ap, _∙_}
+use mathlib.Core.Bool.{Bool, true, false, cond}
+use mathlib.Core.List.{List, [], _∷_}
+use native.Mathlib.Omega.{arith}
+use native.Mathlib.Numerals.{add-one}
+use lib.Dec.{eqb}
+use lib.ListN.{length, getD, set, length-set}
+use lib.Seq.{sets, getD-set-same, getD-set-other}
+use borrow.Author.Tests.{eq-eqb, ne-eqb}
+use Rattle.text.proofs.Bytes.{Unlike}
+use Rattle.language.specs.Symbols.{none, fault, Scan, ends, goesOn, scanFrom, scan}
+use Rattle.language.specs.Symbols as S
+use Rattle.language.specs.Brackets as B
+use Rattle.language.specs.Brackets.{matched, unmatched, brackets, firstFault}
+use Rattle.symbols.specs.Answers.{asFault}
+use Rattle.symbols.specs.Parts.{symbolOf, scanBy, Found, IfOne, Finds, stacked, wanting, asMatching, AtMost, Matches, faultFrom, Faults}
+use Rattle.symbols.specs.declared.Next.{Next}
+use Rattle.symbols.specs.declared.Next.the-variants as N
+use Rattle.symbols.specs.declared.Fault.the-variants as F
+use Rattle.symbols.specs.declared.Depth.{Depth}
+use Rattle.symbols.specs.declared.Depth.the-variants as D
+use Rattle.symbols.proofs.Scanning.{scanAt}
+
+-- ---- the stack
+
+stacked-set : (s : List ℕ) (i v d : ℕ) → d ≤ i → stacked (set s i v) d ≡ stacked s d
+stacked-set s i v zero h = refl
+stacked-set s i v (suc d) h = rw (getD-set-other s i d v 0 (λ e. omega arith), stacked-set s i v d (omega arith))
+
+module _ (s : List ℕ) (depth kind : ℕ) (h : depth ≡ 0 → ⊥) where
+  pub on-top : getD s (depth - 1) 0 ≡ kind → D.Is (depth - 1) ≡ wanting s depth kind
+  on-top = go depth h
+    where
+      go : (d : ℕ) → (d ≡ 0 → ⊥) → getD s (d - 1) 0 ≡ kind → D.Is (d - 1) ≡ wanting s d kind
+      go zero h e = absurd (h refl)
+      go (suc d) h e = let z : suc d - 1 ≡ d = omega arith in rw (z, eq-eqb kind (getD s d 0) (sym (ap (λ (n : ℕ). getD s n 0) (sym z) ∙ e)))
+
+  pub not-on-top : (getD s (depth - 1) 0 ≡ kind → ⊥) → D.Unmatched ≡ wanting s depth kind
+  not-on-top = go depth h
+    where
+      go : (d : ℕ) → (d ≡ 0 → ⊥) → (getD s (d - 1) 0 ≡ kind → ⊥) → D.Unmatched ≡ wanting s d kind
+      go zero h e = refl
+      go (suc d) h e = let z : suc d - 1 ≡ d = omega arith in rw (ne-eqb kind (getD s d 0) (λ k. e (ap (λ (n : ℕ). getD s n 0) z ∙ sym k)))
+
+-- ---- the stack after a symbol
+
+module _ (s : List ℕ) (depth : ℕ) where
+  -- an opening bracket
+  module _ (kind wanted : ℕ) (b : (ws : List ℕ) (value place : ℕ) → B.bracket ws (symbolOf kind value place) ≡ matched (wanted ∷ ws)) where
+    pub match-open : {k : ℕ} {r : Depth} {s′ : List ℕ} → k ≡ kind → depth < length s → r ≡ D.Is (depth + 1) → s′ ≡ sets s depth (wanted ∷ []) → Matches k depth s r s′
+    unfolding asMatching AtMost
+    match-open e h p q =
+        rw (e, p, q) (record {
+          same = length-set s depth wanted;
+          gives = λ value place. rw (add-one, getD-set-same s depth wanted 0 h, stacked-set s depth wanted depth (omega arith)) (sym (b (stacked s depth) value place));
+          low = omega arith;
+        })
+
+  -- a closing one
+  module _ (kind : ℕ) (b : (ws : List ℕ) (value place : ℕ) → B.bracket ws (symbolOf kind value place) ≡ B.closing ws (symbolOf kind value place)) where
+    pub match-close : {k : ℕ} {r : Depth} → k ≡ kind → r ≡ wanting s depth kind → Matches k depth s r s
+    unfolding asMatching AtMost B.closing
+    match-close e p = rw (e, p) (record { same = refl; gives = λ value place. go depth value place ∙ sym (b (stacked s depth) value place); low = low depth })
+      where
+        go : (d value place : ℕ) → asMatching place (wanting s d kind) s ≡ B.closing (stacked s d) (symbolOf kind value place)
+        go zero value place = refl
+        go (suc d) value place = by (eqb kind (getD s d 0))
+          where
+            by : (t : Bool) → asMatching place (cond t (D.Is d) D.Unmatched) s ≡ cond t (matched (stacked s d)) (unmatched place)
+            by true = refl
+            by false = refl
+
+        low : (d : ℕ) → AtMost (d + 1) (wanting s d kind)
+        low zero = tt
+        low (suc d) = by (eqb kind (getD s d 0))
+          where
+            by : (t : Bool) → AtMost (suc d + 1) (cond t (D.Is d) D.Unmatched)
+            by true = omega arith
+            by false = tt
+
+  pub match-other : (k : ℕ) → Unlike k (58 ∷ 52 ∷ 57 ∷ 51 ∷ []) → Matches k depth s (D.Is depth) s
+  unfolding asMatching AtMost B.bracket
+  match-other k u =
+      record {
+        same = refl;
+        gives = λ value place. rw (ne-eqb k 51 (u .0 .0 .0 .1), ne-eqb k 57 (u .0 .0 .1), ne-eqb k 52 (u .0 .1), ne-eqb k 58 (u .1));
+        low = omega arith;
+      }
+
+pub opens-round : (ws : List ℕ) (value place : ℕ) → B.bracket ws (symbolOf 51 value place) ≡ matched (52 ∷ ws)
+unfolding B.bracket
+opens-round ws value place = refl
+
+pub opens-block : (ws : List ℕ) (value place : ℕ) → B.bracket ws (symbolOf 57 value place) ≡ matched (58 ∷ ws)
+unfolding B.bracket
+opens-block ws value place = refl
+
+pub closes-round : (ws : List ℕ) (value place : ℕ) → B.bracket ws (symbolOf 52 value place) ≡ B.closing ws (symbolOf 52 value place)
+unfolding B.bracket
+closes-round ws value place = refl
+
+pub closes-block : (ws : List ℕ) (value place : ℕ) → B.bracket ws (symbolOf 58 value place) ≡ B.closing ws (symbolOf 58 value place)
+unfolding B.bracket
+closes-block ws value place = refl
+
+-- ---- what the loop over the symbols keeps
+
+pub record Going (text s₀ : List ℕ) (at depth : ℕ) (s : List ℕ) : Type 0 where
+  pub same : length s ≡ length s₀
+  pub low : depth ≤ at
+  pub within : at ≤ length text
+  pub faults : faultFrom text [] (scan text) ≡ faultFrom text (stacked s depth) (scanAt text at)
+
+pub going-start : (text s : List ℕ) → Going text s 0 0 s
+unfolding scan
+going-start text s = record { same = refl; low = omega arith; within = omega arith; faults = refl }
+
+module _ (text s₀ : List ℕ) (at depth : ℕ) (s : List ℕ) (g : Going text s₀ at depth s) {next : Next} (f : Finds text at next) where
+  scan-is : {n : Next} → next ≡ n → scanAt text at ≡ scanBy text n
+  scan-is e = f .scans ∙ ap (scanBy text) e
+
+  pub going-wrong : {number place : ℕ} → next ≡ N.Wrong number place → Faults text s₀ (F.At number place) s
+  unfolding faultFrom scanBy asFault brackets
+  going-wrong e = record { same = g .same; answers = sym (ap asFault (g .faults ∙ ap (faultFrom text (stacked s depth)) (scan-is e))) }
+
+  module _ (e : next ≡ N.End) where
+    ended : faultFrom text [] (scan text) ≡ firstFault (length text) (matched (stacked s depth)) none
+    unfolding faultFrom scanBy brackets
+    ended = g .faults ∙ ap (faultFrom text (stacked s depth)) (scan-is e)
+
+    pub going-whole : depth ≡ 0 → Faults text s₀ F.Nowhere s
+    unfolding asFault
+    going-whole z = record { same = g .same; answers = sym (ap asFault (ended ∙ ap (λ (d : ℕ). firstFault (length text) (matched (stacked s d)) none) z)) }
+
+    pub going-open : (depth ≡ 0 → ⊥) → Faults text s₀ (F.At 5 (length text)) s
+    unfolding asFault
+    going-open n = record { same = g .same; answers = sym (ap asFault (ended ∙ go depth n)) }
+      where
+        go : (d : ℕ) → (d ≡ 0 → ⊥) → firstFault (length text) (matched (stacked s d)) none ≡ fault 5 (length text)
+        go zero h = absurd (h refl)
+        go (suc d) h = refl
+
+  module _ {kind value place past : ℕ} {newline : Bool} (e : next ≡ N.One kind value place past newline) where
+    found : Found text at kind value place past newline
+    unfolding IfOne
+    found = rw e at (f .found)
+
+    on-symbol : faultFrom text [] (scan text) ≡ faultFrom text (stacked s depth) (goesOn (symbolOf kind value place) (scanAt text past))
+    unfolding scanBy
+    on-symbol = g .faults ∙ ap (faultFrom text (stacked s depth)) (scan-is e)
+
+    pub stack-fits : length text ≤ length s₀ → depth < length s
+    stack-fits h = omega (arith, found .after, found .some, found .within, g .same, g .low)
+
+    pub going-less : length text - past < length text - at
+    going-less = omega (arith, found .after, found .some, found .within)
+
+    module _ {after : Depth} {s′ : List ℕ} (m : Matches kind depth s after s′) where
+      pub going-unmatched : after ≡ D.Unmatched → Faults text s₀ (F.At 5 place) s′
+      unfolding faultFrom asMatching asFault brackets
+      going-unmatched u =
+          let b : B.bracket (stacked s depth) (symbolOf kind value place) ≡ unmatched place = sym (m .gives value place) ∙ ap (λ (d : Depth). asMatching place d s′) u in
+          let d : faultFrom text [] (scan text) ≡ fault 5 place = on-symbol ∙ rw b in
+          record { same = m .same ∙ g .same; answers = sym (ap asFault d) }
+
+      pub going-on : {d : ℕ} → after ≡ D.Is d → Going text s₀ past d s′
+      unfolding faultFrom asMatching AtMost brackets
+      going-on {d} u =
+          let b : B.bracket (stacked s depth) (symbolOf kind value place) ≡ matched (stacked s′ d) = sym (m .gives value place) ∙ ap (λ (d : Depth). asMatching place d s′) u in
+          let l : d ≤ depth + 1 = rw u at (m .low) in
+          record {
+            same = m .same ∙ g .same;
+            low = omega (arith, found .after, found .some, g .low);
+            within = found .within;
+            faults = on-symbol ∙ rw b;
+          }

@@ -1,0 +1,74 @@
+-- Runs of bytes that pass a test: the letters of a word, the digits of a number, the bytes of a comment.
+use Prim.Native.Nat.{ℕ, suc, _+_, _<_, _≤_}
+use mathlib.Core.Path.{_≡_, refl, sym, ap, _∙_}
+use mathlib.Core.Bool.{Bool, true, false, not, cond}
+use mathlib.Core.List.{List, [], _∷_}
+use native.Mathlib.Omega.{arith}
+use lib.Dec.{eqb}
+use lib.ListN.{length, getD, take, drop}
+use borrow.Author.Tests.{eq-eqb, ne-eqb, eqb-true}
+use Rattle.text.specs.Line.{newlines}
+use Rattle.text.proofs.Bytes.{at-byte, past-end}
+use Rattle.language.specs.Bytes.{classOf}
+use Rattle.language.specs.Symbols.{inWord, wordWidth, digitOf, digits, toLineEnd}
+
+-- f is the number of bytes at the head that pass the test p
+pub record Run (p : ℕ → Bool) (f : List ℕ → ℕ) : Type 0 where
+  pub none : f [] ≡ 0
+  pub some : (c : ℕ) (r : List ℕ) → f (c ∷ r) ≡ cond (p c) (suc (f r)) 0
+
+by-test : (t : Bool) (n : ℕ) → elim t [ true ↦ suc n | false ↦ 0 ] ≡ cond t (suc n) 0
+by-test true n = refl
+by-test false n = refl
+
+pub word-run : Run (λ c. inWord (classOf c)) wordWidth
+unfolding wordWidth
+word-run = record { none = refl; some = λ c r. by-test (inWord (classOf c)) (wordWidth r) }
+
+pub digits-run : (base : ℕ) → Run (digitOf base) (digits base)
+unfolding digits
+digits-run base = record { none = refl; some = λ c r. by-test (digitOf base c) (digits base r) }
+
+abbrev pub inComment : ℕ → Bool
+inComment c = not (eqb c 10)
+
+pub comment-run : Run inComment toLineEnd
+unfolding toLineEnd
+comment-run = record { none = refl; some = λ c r. by (eqb c 10) (toLineEnd r) }
+  where
+    by : (t : Bool) (n : ℕ) → elim t [ true ↦ 0 | false ↦ suc n ] ≡ cond (not t) (suc n) 0
+    by true n = refl
+    by false n = refl
+
+module _ {p : ℕ → Bool} {f : List ℕ → ℕ} (run : Run p f) where
+  -- ---- at a place of a text
+  module _ (text : List ℕ) (i : ℕ) where
+    pub run-end : length text ≤ i → f (drop i text) ≡ 0
+    run-end h = past-end f text i h ∙ run .none
+
+    module _ (h : i < length text) where
+      pub run-stop : p (getD text i 0) ≡ false → f (drop i text) ≡ 0
+      run-stop e = at-byte f text i h refl ∙ run .some _ _ ∙ rw e
+
+      pub run-more : p (getD text i 0) ≡ true → f (drop i text) ≡ suc (f (drop (i + 1) text))
+      run-more e = at-byte f text i h refl ∙ run .some _ _ ∙ rw e
+
+  -- ---- all of them
+  pub run-within : (bytes : List ℕ) → f bytes ≤ length bytes
+  run-within [] = omega (arith, run .none)
+  run-within (c ∷ r) = rw (run .some c r) (by (p c) (run-within r))
+    where
+      by : (t : Bool) {n : ℕ} → n ≤ length r → cond t (suc n) 0 ≤ suc (length r)
+      by true h = omega arith
+      by false h = omega arith
+
+  -- a run of bytes other than a newline is on one line
+  pub run-line : p 10 ≡ false → (bytes : List ℕ) → newlines (take (f bytes) bytes) ≡ 0
+  unfolding newlines
+  run-line out [] = rw (run .none)
+  run-line out (c ∷ r) = rw (run .some c r) (by (p c) refl (eqb c 10) refl (run-line out r))
+    where
+      by : (t : Bool) → p c ≡ t → (u : Bool) → eqb c 10 ≡ u → newlines (take (f r) r) ≡ 0 → newlines (take (cond t (suc (f r)) 0) (c ∷ r)) ≡ 0
+      by false e u k h = refl
+      by true e true k h = let z : c ≡ 10 = eqb-true c 10 k in absurd (let y : false ≡ true = sym out ∙ ap p (sym z) ∙ e in let x : _≡_ {A = ℕ} 0 1 = cc in omega arith)
+      by true e false k h = rw k h

@@ -1,0 +1,172 @@
+-- From symbol to symbol: a scan is what stands at its place and the scan of the rest, and lines are counted on the way.
+use Prim.Native.Nat.{ℕ, zero, suc, _+_, _-_, _<_, _≤_}
+use mathlib.Core.Path.{_≡_, refl, sym, ap, _∙_}
+use mathlib.Core.Bool.{Bool, true, false, not, cond}
+use mathlib.Core.List.{List, [], _∷_, _++_}
+use native.Mathlib.Omega.{arith}
+use native.Mathlib.Numerals.{add-one}
+use native.Mathlib.Nat.{add-zero}
+use lib.Dec.{eqb}
+use lib.ListN.{length, getD, take, drop, length-drop, drop-of-length-le}
+use lib.Seq.{drop-cons, drop-drop, take-add}
+use borrow.Author.Tests.{eq-eqb, ne-eqb, eqb-true, eqb-false}
+use Rattle.text.specs.Line.{newlines, lineOf}
+use Rattle.language.specs.Bytes.{classOf}
+use Rattle.language.specs.Symbols.{Element, symbol, gap, wrong, byClass, none, fault, Scan, ends, goesOn, onElement, scanFrom}
+use Rattle.symbols.specs.Answers.{asElement}
+use Rattle.symbols.specs.Parts.{orNewline, broken, symbolOf, scanBy, Found, IfOne, Finds}
+use Rattle.symbols.specs.declared.elements.Element as C
+use Rattle.symbols.specs.declared.elements.Element.the-variants as E
+use Rattle.symbols.specs.declared.Next.the-variants as N
+use Rattle.symbols.proofs.Lines.{Stood, Given, element-given}
+
+-- ---- from the code's answer back to the element
+
+pub when-symbol : (e : Element) {r : C.Element} {k v w : ℕ} → r ≡ asElement e → r ≡ E.Symbol k v w → e ≡ symbol k v w
+unfolding asElement
+when-symbol (symbol a b c) p q = cc
+when-symbol (gap a) p q = absurd (let z : _≡_ {A = ℕ} 0 1 = cc in omega arith)
+when-symbol (wrong a) p q = absurd (let z : _≡_ {A = ℕ} 0 1 = cc in omega arith)
+
+pub when-gap : (e : Element) {r : C.Element} {w : ℕ} → r ≡ asElement e → r ≡ E.Gap w → e ≡ gap w
+unfolding asElement
+when-gap (symbol a b c) p q = absurd (let z : _≡_ {A = ℕ} 0 1 = cc in omega arith)
+when-gap (gap a) p q = cc
+when-gap (wrong a) p q = absurd (let z : _≡_ {A = ℕ} 0 1 = cc in omega arith)
+
+pub when-wrong : (e : Element) {r : C.Element} {n : ℕ} → r ≡ asElement e → r ≡ E.Wrong n → e ≡ wrong n
+unfolding asElement
+when-wrong (symbol a b c) p q = absurd (let z : _≡_ {A = ℕ} 0 1 = cc in omega arith)
+when-wrong (gap a) p q = absurd (let z : _≡_ {A = ℕ} 0 1 = cc in omega arith)
+when-wrong (wrong a) p q = cc
+
+-- ---- lines
+
+newlines-append : (a b : List ℕ) → newlines (a ++ b) ≡ newlines a + newlines b
+unfolding newlines
+newlines-append [] b = let z : newlines b ≡ 0 + newlines b = omega arith in z
+newlines-append (c ∷ a) b = by (eqb c 10) (newlines-append a b)
+  where
+    by : (t : Bool) → newlines (a ++ b) ≡ newlines a + newlines b → cond t (suc (newlines (a ++ b))) (newlines (a ++ b)) ≡ cond t (suc (newlines a)) (newlines a) + newlines b
+    by true e = omega arith
+    by false e = e
+
+pub line-past : (text : List ℕ) (i w : ℕ) → lineOf text (i + w) ≡ lineOf text i + newlines (take w (drop i text))
+unfolding lineOf
+line-past text i w =
+    let e : newlines (take (i + w) text) ≡ newlines (take i text) + newlines (take w (drop i text)) = ap newlines (take-add i w text) ∙ newlines-append (take i text) (take w (drop i text)) in
+    omega arith
+
+line-after : (text : List ℕ) (at i : ℕ) → at ≤ i → lineOf text at ≤ lineOf text i
+line-after text at i h = let e : at + (i - at) ≡ i = omega arith in omega (arith, ap (lineOf text) e, line-past text at (i - at))
+
+-- ---- the scan
+
+scan-over : (k place : ℕ) (bs : List ℕ) → scanFrom k place bs ≡ scanFrom 0 (place + k) (drop k bs)
+unfolding scanFrom
+scan-over zero place bs = rw (add-zero place)
+scan-over (suc k) place [] = refl
+scan-over (suc k) place (c ∷ r) = let e : place + suc k ≡ suc place + k = omega arith in rw e (scan-over k (suc place) r)
+
+abbrev pub elementAt : List ℕ → ℕ → Element
+elementAt text i = byClass (classOf (getD text i 0)) (drop i text)
+
+abbrev pub scanAt : List ℕ → ℕ → Scan
+scanAt text i = scanFrom 0 i (drop i text)
+
+module _ (text : List ℕ) (i : ℕ) where
+  pub scan-end : length text ≤ i → scanAt text i ≡ ends none
+  unfolding scanFrom
+  scan-end h = rw (drop-of-length-le text h)
+
+  module _ (h : i < length text) where
+    cons : drop i text ≡ getD text i 0 ∷ drop (i + 1) text
+    cons = drop-cons text i 0 h ∙ rw add-one
+
+    scan-here : scanAt text i ≡ onElement i (elementAt text i) (λ k. scanFrom k (suc i) (drop (i + 1) text))
+    unfolding scanFrom
+    scan-here = rw cons
+
+    scan-rest : (w : ℕ) → 1 ≤ w → scanFrom (w - 1) (suc i) (drop (i + 1) text) ≡ scanAt text (i + w)
+    scan-rest w o =
+        let a : suc i + (w - 1) ≡ i + w = omega arith in
+        let b : i + 1 + (w - 1) ≡ i + w = omega arith in
+        scan-over (w - 1) (suc i) (drop (i + 1) text) ∙ rw (a, drop-drop (w - 1) (i + 1) text, b)
+
+    given-here : Given (drop i text) (cond (eqb (getD text i 0) 10) 1 0) (elementAt text i)
+    given-here = rw cons (element-given (getD text i 0) (drop (i + 1) text))
+
+    module _ {k v w : ℕ} (e : elementAt text i ≡ symbol k v w) where
+      pub symbol-given : Stood (drop i text) 0 w × (k < 62) × (v ≤ 65535 + w)
+      symbol-given = rw e at given-here
+
+      pub scan-symbol : scanAt text i ≡ goesOn (symbolOf k v i) (scanAt text (i + w))
+      scan-symbol = scan-here ∙ rw e (ap (goesOn (symbolOf k v i)) (scan-rest w (symbol-given .0 .some)))
+
+      pub symbol-inside : i + w ≤ length text
+      symbol-inside = let g : Stood (drop i text) 0 w = symbol-given .0 in omega (arith, g .within, length-drop i text)
+
+    module _ {w : ℕ} (e : elementAt text i ≡ gap w) where
+      pub gap-given : Stood (drop i text) (cond (eqb (getD text i 0) 10) 1 0) w
+      gap-given = rw e at given-here
+
+      pub scan-gap : scanAt text i ≡ scanAt text (i + w)
+      scan-gap = scan-here ∙ rw e (scan-rest w (gap-given .some))
+
+    pub scan-wrong : {n : ℕ} → elementAt text i ≡ wrong n → scanAt text i ≡ ends (fault n i)
+    scan-wrong e = scan-here ∙ rw e
+
+-- ---- the search for the next symbol, from a place on
+
+pub record Seeking (text : List ℕ) (at i : ℕ) (newline : Bool) : Type 0 where
+  pub after : at ≤ i
+  pub within : i ≤ length text
+  pub scans : scanAt text at ≡ scanAt text i
+  pub breaks : newline ≡ broken text at i
+
+pub seek-start : (text : List ℕ) (at : ℕ) → at ≤ length text → Seeking text at at false
+seek-start text at h = record { after = omega arith; within = h; scans = refl; breaks = sym (ap not (eq-eqb (lineOf text at) (lineOf text at) refl)) }
+
+module _ (text : List ℕ) (at i : ℕ) {newline : Bool} (s : Seeking text at i newline) where
+  pub seek-end : length text ≤ i → Finds text at N.End
+  unfolding scanBy IfOne
+  seek-end h = record { scans = s .scans ∙ scan-end text i h; found = tt }
+
+  module _ (h : i < length text) where
+    pub seek-wrong : {n : ℕ} → elementAt text i ≡ wrong n → Finds text at (N.Wrong n i)
+    unfolding scanBy IfOne
+    seek-wrong e = record { scans = s .scans ∙ scan-wrong text i h e; found = tt }
+
+    pub seek-symbol : {k v w : ℕ} → elementAt text i ≡ symbol k v w → Finds text at (N.One k v i (i + w) newline)
+    unfolding scanBy IfOne
+    seek-symbol {k} {v} {w} e =
+        let g : Stood (drop i text) 0 w × (k < 62) × (v ≤ 65535 + w) = symbol-given text i h e in
+        record {
+          scans = s .scans ∙ scan-symbol text i h e;
+          found = record {
+            after = s .after;
+            some = omega (arith, g .0 .some);
+            within = omega (arith, g .0 .within, length-drop i text);
+            known = g .1;
+            small = omega (arith, g .2);
+            breaks = s .breaks;
+            line = omega (arith, line-past text i w, g .0 .line);
+          };
+        }
+
+    module _ {w : ℕ} (e : elementAt text i ≡ gap w) where
+      pub gap-inside : (1 ≤ w) × (i + w ≤ length text)
+      gap-inside = let g : Stood (drop i text) _ w = gap-given text i h e in (g .some, omega (arith, g .within, length-drop i text))
+
+      pub seek-gap : Seeking text at (i + w) (orNewline newline (getD text i 0))
+      seek-gap =
+          record {
+            after = omega (arith, s .after);
+            within = gap-inside .1;
+            scans = s .scans ∙ scan-gap text i h e;
+            breaks = by (eqb (getD text i 0) 10) (gap-given text i h e .line);
+          }
+        where
+          by : (t : Bool) → newlines (take w (drop i text)) ≡ cond t 1 0 → cond t true newline ≡ broken text at (i + w)
+          by true k = sym (ap not (ne-eqb (lineOf text at) (lineOf text (i + w)) (λ j. omega (arith, line-past text i w, line-after text at i (s .after)))))
+          by false k = let z : lineOf text (i + w) ≡ lineOf text i = omega (arith, line-past text i w) in rw z (s .breaks)

@@ -1,0 +1,33 @@
+-- The tables of kinds that end and begin a line, and the tests on lengths.
+use Prim.Native.Nat.{ℕ, _+_, _-_, _*_, _/_, _<_, _≤_}
+use mathlib.Core.Path.{_≡_, refl, sym, ap, _∙_}
+use mathlib.Core.Bool.{Bool, true, false, cond}
+use native.Mathlib.Omega.{arith}
+use lib.Dec.{eqb, ltb}
+use lib.ListN.{getD}
+use borrow.Author.Tests.{lt-ltb, le-ltb, ltb-true, ltb-false}
+use Rattle.language.specs.Semicolons.{endsLine, beginsLine}
+use Rattle.symbols.proofs.Table.{tabulate, tabulate-at}
+
+abbrev pub mark : Bool → ℕ
+mark t = cond t 49 48
+
+-- a table of such marks
+module _ (f : ℕ → Bool) (n : ℕ) where
+  pub marked : (k : ℕ) → k < n → eqb (getD (tabulate (λ k. mark (f k)) 0 n) k 0) 49 ≡ f k
+  marked k h = let z : 0 + k ≡ k = omega arith in rw (tabulate-at (λ k. mark (f k)) 0 n k h, z) (by (f k))
+    where
+      by : (t : Bool) → eqb (mark t) 49 ≡ t
+      by true = refl
+      by false = refl
+
+module _ (room size : ℕ) where
+  pub room-short : room < 64 → true ≡ ltb room (8 * size + 64)
+  room-short h = sym (lt-ltb room (8 * size + 64) (omega arith))
+
+  pub room-rest : 64 ≤ room → ltb ((room - 64) / 8) size ≡ ltb room (8 * size + 64)
+  room-rest h = by (ltb ((room - 64) / 8) size) refl
+    where
+      by : (t : Bool) → ltb ((room - 64) / 8) size ≡ t → t ≡ ltb room (8 * size + 64)
+      by true e = sym (lt-ltb room (8 * size + 64) (omega (arith, ltb-true ((room - 64) / 8) size e)))
+      by false e = sym (le-ltb room (8 * size + 64) (omega (arith, ltb-false ((room - 64) / 8) size e)))

@@ -1,0 +1,53 @@
+use Prim.Native.Nat.{_-_, _≤_}
+use mathlib.Core.Path.{_≡_}
+use native.Mathlib.Omega.{arith}
+use lib.ListN.{length}
+use borrow.Author.Needs.{needs}
+use Rattle.symbols.proofs.Writing.{cleared, clear-start, clear-more, clear-all}
+use Rattle.symbols.proofs.clear_from.Statement.{statement}
+use Rattle.symbols.proofs.clear_from.Tie as tie
+
+abbrev Inv-loop : tie.InvT-loop
+Inv-loop scratch₀ from i₀ scratch i = (from ≤ i) × (i ≤ length scratch₀) × (scratch ≡ cleared scratch₀ from i) × (length scratch ≡ length scratch₀)
+
+abbrev μ-loop : tie.MeasureT-loop
+μ-loop scratch₀ from i₀ scratch i = length scratch₀ - i
+
+loop-holds : tie.Need-loop-holds Inv-loop μ-loop
+loop-holds c = (omega arith, c .pre, clear-start (c .args .scratch .now) (c .args .from), search needs)
+
+mul-scratch : tie.Need-mul-scratch Inv-loop μ-loop
+mul-scratch c = search needs
+
+slice-write-scratch : tie.Need-slice-write-scratch Inv-loop μ-loop
+slice-write-scratch c = search needs
+
+add-i : tie.Need-add-i Inv-loop μ-loop
+add-i c = search needs
+
+loop-less : tie.Need-loop-less Inv-loop μ-loop
+loop-less c = search needs
+
+loop-again : tie.Need-loop-again Inv-loop μ-loop
+loop-again c = (search needs, search needs, clear-more (c .before .before .args .scratch .now) (c .before .before .args .from) (c .before .loop .i) (c .before .loop .inv .0) (c .before .loop .inv .2) (search needs), search needs)
+
+same-length : tie.Need-same-length Inv-loop μ-loop
+same-length c = search needs
+
+returns : tie.Need-returns Inv-loop μ-loop
+returns c = clear-all (c .before .before .args .scratch .now) (c .before .before .args .from) (c .before .loop .i) (c .before .loop .inv .0) (c .before .loop .inv .2) (search needs) (search needs)
+
+pub clear-from-spec : {M : Type 1} → statement M
+clear-from-spec =
+    tie.close
+    (tie.spec
+    Inv-loop
+    μ-loop
+    loop-holds
+    mul-scratch
+    slice-write-scratch
+    add-i
+    loop-less
+    loop-again
+    same-length
+    returns)

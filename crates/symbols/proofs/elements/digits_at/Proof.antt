@@ -1,0 +1,73 @@
+use Prim.Native.Nat.{ℕ, _+_, _-_, _≤_}
+use mathlib.Core.Path.{_≡_, _∙_, sym, ap, refl}
+use native.Mathlib.Omega.{arith}
+use lib.ListN.{length, drop}
+use borrow.Author.Tests.{not-true, not-false}
+use borrow.Author.Needs.{needs}
+use Rattle.language.specs.Symbols.{digits, valueOf}
+use Rattle.symbols.specs.Parts.{capped}
+use Rattle.symbols.proofs.Runs.{digits-run, run-end, run-stop, run-more}
+use Rattle.symbols.proofs.Numbers.{digit-from, capped-within, value-end, value-stop, value-more}
+use Rattle.symbols.proofs.elements.digits_at.Statement.{statement}
+use Rattle.symbols.proofs.elements.digits_at.Tie as tie
+
+abbrev Inv-loop : tie.InvT-loop
+Inv-loop text at base n₀ i₀ n i = (at ≤ i) × (n ≤ 65536) × (i + digits base (drop i text) ≡ at + digits base (drop at text)) × (capped (valueOf base n (drop i text)) ≡ capped (valueOf base 0 (drop at text)))
+
+abbrev μ-loop : tie.MeasureT-loop
+μ-loop text at base n₀ i₀ n i = length text - i
+
+loop-holds : tie.Need-loop-holds Inv-loop μ-loop
+loop-holds c = (search needs, search needs, refl, refl)
+
+shared-slice-read-wide : tie.Need-shared-slice-read-wide Inv-loop μ-loop
+shared-slice-read-wide c = search needs
+
+wide-requires : tie.Need-wide-requires Inv-loop μ-loop
+wide-requires c κs = search needs
+
+is-digit-requires : tie.Need-is-digit-requires Inv-loop μ-loop
+is-digit-requires c κs = c .before .before .before .before .before .pre .1
+
+sub-t12 : tie.Need-sub-t12 Inv-loop μ-loop
+sub-t12 c = search needs
+
+returns : tie.Need-returns Inv-loop μ-loop
+returns c = (omega (arith, run-stop (digits-run (c .before .before .before .before .before .before .before .args .base)) (c .before .before .before .before .before .before .before .args .text .now) (c .before .before .before .before .before .loop .i) (omega arith) (rw (c .before .before .wide .ensures .0) at (sym (c .before .is-digit .ensures) ∙ not-true _ (c .if1 .taken)))), sym (value-stop (c .before .before .before .before .before .before .before .args .base) (c .before .before .before .before .before .loop .n) (c .before .before .before .before .before .before .before .args .text .now) (c .before .before .before .before .before .loop .i) (omega arith) (c .before .before .wide .ensures .0) (sym (c .before .is-digit .ensures) ∙ not-true _ (c .if1 .taken)) (c .before .before .before .before .before .loop .inv .1)) ∙ c .before .before .before .before .before .loop .inv .3)
+
+and-digit-requires : tie.Need-and-digit-requires Inv-loop μ-loop
+and-digit-requires c κs = (c .before .before .before .before .before .before .before .pre .1, c .before .before .before .before .before .loop .inv .1, digit-from (c .before .before .before .before .before .before .before .args .base) _ (sym (c .before .is-digit .ensures) ∙ not-false _ (c .if1 .left)), c .before .before .wide .ensures .1)
+
+add-i : tie.Need-add-i Inv-loop μ-loop
+add-i c = search needs
+
+loop-less : tie.Need-loop-less Inv-loop μ-loop
+loop-less c = search needs
+
+loop-again : tie.Need-loop-again Inv-loop μ-loop
+loop-again c = (omega arith, rw (c .and-digit .ensures) (capped-within _), omega (arith, run-more (digits-run (c .before .before .before .before .before .before .before .before .args .base)) (c .before .before .before .before .before .before .before .before .args .text .now) (c .before .before .before .before .before .before .loop .i) (omega arith) (rw (c .before .before .before .wide .ensures .0) at (sym (c .before .before .is-digit .ensures) ∙ not-false _ (c .before .if1 .left)))), ap (λ (m : ℕ). capped (valueOf (c .before .before .before .before .before .before .before .before .args .base) m (drop (c .before .before .before .before .before .before .loop .i + 1) (c .before .before .before .before .before .before .before .before .args .text .now)))) (c .and-digit .ensures) ∙ sym (value-more (c .before .before .before .before .before .before .before .before .args .base) (c .before .before .before .before .before .before .loop .n) (c .before .before .before .before .before .before .before .before .args .text .now) (c .before .before .before .before .before .before .loop .i) (omega arith) (c .before .before .before .wide .ensures .0) (c .before .before .before .before .before .before .before .before .pre .0) (sym (c .before .before .is-digit .ensures) ∙ not-false _ (c .before .if1 .left))) ∙ c .before .before .before .before .before .before .loop .inv .3)
+
+sub-t13 : tie.Need-sub-t13 Inv-loop μ-loop
+sub-t13 c = search needs
+
+returns-2 : tie.Need-returns-2 Inv-loop μ-loop
+returns-2 c = (omega (arith, run-end (digits-run (c .before .before .before .args .base)) (c .before .before .before .args .text .now) (c .before .loop .i) (omega arith)), sym (value-end (c .before .before .before .args .base) (c .before .loop .n) (c .before .before .before .args .text .now) (c .before .loop .i) (omega arith) (c .before .loop .inv .1)) ∙ c .before .loop .inv .3)
+
+pub digits-at-spec : {M : Type 1} → statement M
+digits-at-spec =
+    tie.close
+    (tie.spec
+    Inv-loop
+    μ-loop
+    loop-holds
+    shared-slice-read-wide
+    wide-requires
+    is-digit-requires
+    sub-t12
+    returns
+    and-digit-requires
+    add-i
+    loop-less
+    loop-again
+    sub-t13
+    returns-2)

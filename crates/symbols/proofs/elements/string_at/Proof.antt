@@ -1,0 +1,82 @@
+use Prim.Native.Nat.{_+_, _-_, _≤_}
+use mathlib.Core.Path.{_≡_, _∙_, sym, ap}
+use native.Mathlib.Omega.{arith}
+use lib.ListN.{length, drop}
+use borrow.Author.Needs.{needs}
+use Rattle.text.specs.Quoted.{quoted}
+use Rattle.text.proofs.Answers.{when-is, when-closing, when-bad}
+use Rattle.text.proofs.Quotes.{is-inside, closing-inside}
+use Rattle.language.specs.Symbols.{string}
+use Rattle.symbols.specs.Answers.{asElement}
+use Rattle.symbols.proofs.Quotations.{stringAfter, string-start, string-more, a-string, long-string, bad-string}
+use Rattle.symbols.proofs.elements.string_at.Statement.{statement}
+use Rattle.symbols.proofs.elements.string_at.Tie as tie
+
+abbrev Inv-loop : tie.InvT-loop
+Inv-loop text at n₀ i₀ n i = (n + at ≤ i) × (i ≤ length text) × (string (drop at text) ≡ stringAfter n (i - at) (quoted 34 0 (drop i text)))
+
+abbrev μ-loop : tie.MeasureT-loop
+μ-loop text at n₀ i₀ n i = length text - i
+
+loop-holds : tie.Need-loop-holds Inv-loop μ-loop
+loop-holds c = (omega arith, c .before .pre, string-start _ (omega arith))
+
+character-at-requires : tie.Need-character-at-requires Inv-loop μ-loop
+character-at-requires c κs = search needs
+
+enum-known-c : tie.Need-enum-known-c Inv-loop μ-loop
+enum-known-c c = search needs
+
+add-n : tie.Need-add-n Inv-loop μ-loop
+add-n c = omega (arith, is-inside 34 (c .before .before .before .before .before .before .args .text .now) (c .before .before .before .before .loop .i) (when-is _ (c .before .before .before .character-at .ensures) (c .before .c .given .1)))
+
+add-i : tie.Need-add-i Inv-loop μ-loop
+add-i c = omega (arith, is-inside 34 (c .before .before .before .before .before .before .args .text .now) (c .before .before .before .before .loop .i) (when-is _ (c .before .before .before .character-at .ensures) (c .before .c .given .1)))
+
+loop-less : tie.Need-loop-less Inv-loop μ-loop
+loop-less c = omega (arith, is-inside 34 (c .before .before .before .before .before .before .args .text .now) (c .before .before .before .before .loop .i) (when-is _ (c .before .before .before .character-at .ensures) (c .before .c .given .1)))
+
+loop-again : tie.Need-loop-again Inv-loop μ-loop
+loop-again c = (omega (arith, is-inside 34 (c .before .before .before .before .before .before .args .text .now) (c .before .before .before .before .loop .i) (when-is _ (c .before .before .before .character-at .ensures) (c .before .c .given .1))), is-inside 34 (c .before .before .before .before .before .before .args .text .now) (c .before .before .before .before .loop .i) (when-is _ (c .before .before .before .character-at .ensures) (c .before .c .given .1)) .1, c .before .before .before .before .loop .inv .2 ∙ string-more (c .before .before .before .before .before .before .args .text .now) (c .before .before .before .before .loop .i) (c .before .before .before .before .loop .n) (c .before .before .before .before .loop .i - c .before .before .before .before .before .before .args .at) (when-is _ (c .before .before .before .character-at .ensures) (c .before .c .given .1)) (omega (arith, c .before .before .before .before .loop .inv .0)))
+
+enum-told : tie.Need-enum-told Inv-loop μ-loop
+enum-told c = search needs
+
+sub-t8 : tie.Need-sub-t8 Inv-loop μ-loop
+sub-t8 c = search needs
+
+add-t9 : tie.Need-add-t9 Inv-loop μ-loop
+add-t9 c = omega (arith, closing-inside 34 (c .before .before .before .before .before .before .args .text .now) (c .before .before .before .before .loop .i) (when-closing _ (c .before .before .before .character-at .ensures) (c .before .enum-told .given .1)))
+
+returns : tie.Need-returns Inv-loop μ-loop
+returns c = a-string (c .before .before .before .before .before .before .args .text .now) (c .before .before .before .before .loop .i) (c .before .before .before .before .loop .n) (c .before .before .before .before .loop .i - c .before .before .before .before .before .before .args .at) (when-closing _ (c .before .before .before .character-at .ensures) (c .before .enum-told .given .1)) (c .if1 .taken) ∙ ap asElement (sym (c .before .before .before .before .loop .inv .2))
+
+returns-2 : tie.Need-returns-2 Inv-loop μ-loop
+returns-2 c = long-string (c .before .before .before .before .before .before .args .text .now) (c .before .before .before .before .loop .i) (c .before .before .before .before .loop .n) (c .before .before .before .before .loop .i - c .before .before .before .before .before .before .args .at) (when-closing _ (c .before .before .before .character-at .ensures) (c .before .enum-told .given .1)) (c .if1 .left) ∙ ap asElement (sym (c .before .before .before .before .loop .inv .2))
+
+enum-told-2 : tie.Need-enum-told-2 Inv-loop μ-loop
+enum-told-2 c = search needs
+
+returns-3 : tie.Need-returns-3 Inv-loop μ-loop
+returns-3 c = bad-string (c .before .before .before .before .before .args .text .now) (c .before .before .before .loop .i) (c .before .before .before .loop .n) (c .before .before .before .loop .i - c .before .before .before .before .before .args .at) (when-bad _ (c .before .before .character-at .ensures) (c .enum-told2 .given .1)) ∙ ap asElement (sym (c .before .before .before .loop .inv .2))
+
+pub string-at-spec : {M : Type 1} → statement M
+string-at-spec =
+    tie.close
+    (tie.spec
+    Inv-loop
+    μ-loop
+    loop-holds
+    character-at-requires
+    enum-known-c
+    add-n
+    add-i
+    loop-less
+    loop-again
+    enum-told
+    sub-t8
+    add-t9
+    returns
+    returns-2
+    enum-told-2
+    returns-3)

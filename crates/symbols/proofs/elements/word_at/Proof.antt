@@ -1,0 +1,19 @@
+use native.Mathlib.Omega.{arith}
+use lib.ListN.{drop, length-drop}
+use Rattle.symbols.proofs.Runs.{word-run, run-within}
+use Rattle.symbols.proofs.Heads.{a-word}
+use borrow.Author.Needs.{needs}
+use Rattle.symbols.proofs.elements.word_at.Statement.{statement}
+use Rattle.symbols.proofs.elements.word_at.Tie as tie
+
+word-width-requires : tie.Need-word-width-requires
+word-width-requires c κs = search needs
+
+kind-of-requires : tie.Need-kind-of-requires
+kind-of-requires c κs = omega (arith, run-within word-run (drop (c .before .before .args .at) (c .before .before .args .text .now)), length-drop (c .before .before .args .at) (c .before .before .args .text .now), c .word-width .ensures)
+
+returns : tie.Need-returns
+returns c = a-word (drop (c .before .before .before .args .at) (c .before .before .before .args .text .now)) (c .before .word-width .ensures) (c .kind-of .ensures)
+
+pub word-at-spec : {M : Type 1} → statement M
+word-at-spec = tie.close (tie.spec word-width-requires kind-of-requires returns)

@@ -1,0 +1,71 @@
+use native.Mathlib.Omega.{arith}
+use mathlib.Core.Path.{_∙_, sym}
+use Rattle.symbols.proofs.Reading.{short-text, long, short, refused, written}
+use borrow.Author.Needs.{needs}
+use Rattle.symbols.proofs.read_symbols.Statement.{statement}
+use Rattle.symbols.proofs.read_symbols.Tie as tie
+
+too-long-requires : tie.Need-too-long-requires
+too-long-requires c κs = search needs
+
+returns : tie.Need-returns
+returns c = long _ _ (sym (c .before .too-long .ensures) ∙ c .if1 .taken)
+
+mul-if2 : tie.Need-mul-if2
+mul-if2 c = omega (arith, short-text _ (sym (c .before .too-long .ensures) ∙ c .if1 .left))
+
+returns-2 : tie.Need-returns-2
+returns-2 c = short _ _ (sym (c .before .before .too-long .ensures) ∙ c .before .if1 .left) (c .if2 .taken)
+
+first-fault-requires : tie.Need-first-fault-requires
+first-fault-requires c κs = search needs
+
+enum-known-fault : tie.Need-enum-known-fault
+enum-known-fault c = search needs
+
+clear-from-requires : tie.Need-clear-from-requires
+clear-from-requires c κs = search needs
+
+enum-told : tie.Need-enum-told
+enum-told c = search needs
+
+write-symbols-requires : tie.Need-write-symbols-requires
+write-symbols-requires c κs = (short-text _ (sym (c .before .before .before .before .before .before .before .before .before .too-long .ensures) ∙ c .before .before .before .before .before .before .before .before .if1 .left), omega (arith, c .before .before .before .before .before .first-fault .ensures .same, c .before .before .before .before .before .before .before .if2 .left))
+
+mul-clear-from : tie.Need-mul-clear-from
+mul-clear-from c = search needs
+
+clear-from-requires-2 : tie.Need-clear-from-requires-2
+clear-from-requires-2 c κs = search needs
+
+same-length : tie.Need-same-length
+same-length c = search needs
+
+returns-3 : tie.Need-returns-3
+returns-3 c = refused _ _ (sym (c .before .before .before .before .before .before .before .before .before .before .before .before .before .too-long .ensures) ∙ c .before .before .before .before .before .before .before .before .before .before .before .before .if1 .left) (c .before .before .before .before .before .before .before .before .before .before .before .if2 .left) (c .before .before .before .before .before .before .before .before .before .first-fault .ensures) (c .before .before .before .before .before .fault .given .1) (c .before .before .clear-from .ensures)
+
+same-length-2 : tie.Need-same-length-2
+same-length-2 c = search needs
+
+returns-4 : tie.Need-returns-4
+returns-4 c = written _ _ (sym (c .before .before .before .before .before .before .before .before .before .before .before .before .before .before .before .before .too-long .ensures) ∙ c .before .before .before .before .before .before .before .before .before .before .before .before .before .before .before .if1 .left) (c .before .before .before .before .before .before .before .before .before .before .before .before .before .before .if2 .left) (c .before .before .before .before .before .before .before .before .before .before .before .before .first-fault .ensures) (c .before .before .before .before .before .before .before .before .enum-told .given .1) (c .before .before .before .before .before .before .write-symbols .ensures) (c .before .before .clear-from2 .ensures)
+
+pub read-symbols-spec : {M : Type 1} → statement M
+read-symbols-spec =
+    tie.close
+    (tie.spec
+    too-long-requires
+    returns
+    mul-if2
+    returns-2
+    first-fault-requires
+    enum-known-fault
+    clear-from-requires
+    enum-told
+    write-symbols-requires
+    mul-clear-from
+    clear-from-requires-2
+    same-length
+    returns-3
+    same-length-2
+    returns-4)

@@ -1,0 +1,79 @@
+use Rattle.symbols.specs.Spellings.{spellingAt}
+use Prim.Native.Nat.{_+_, _-_, _≤_}
+use mathlib.Core.Path.{_≡_, _∙_, sym}
+use native.Mathlib.Omega.{arith}
+use lib.ListN.{length, drop}
+use borrow.Author.Needs.{needs}
+use Rattle.language.specs.Symbols.{begins}
+use Rattle.symbols.proofs.Spelling.{short-row, letter-is, begins-past, begins-differs, begins-more, begins-start, begins-whole}
+use Rattle.symbols.proofs.spellings.begins_at.Statement.{statement}
+use Rattle.symbols.proofs.spellings.begins_at.Tie as tie
+
+abbrev Inv-loop : tie.InvT-loop
+Inv-loop text at row size i₀ i = (i ≤ length (spellingAt row)) × (at + i ≤ length text) × (begins (spellingAt row) (drop at text) ≡ begins (drop i (spellingAt row)) (drop (at + i) text))
+
+abbrev μ-loop : tie.MeasureT-loop
+μ-loop text at row size i₀ i = length (spellingAt row) - i
+
+entry-requires : tie.Need-entry-requires Inv-loop μ-loop
+entry-requires c κs = search needs
+
+loop-holds : tie.Need-loop-holds Inv-loop μ-loop
+loop-holds c = (omega arith, omega arith, begins-start _ (c .before .before .args .text .now) (c .before .before .args .at))
+
+add-if1 : tie.Need-add-if1 Inv-loop μ-loop
+add-if1 c = omega arith
+
+returns : tie.Need-returns Inv-loop μ-loop
+returns c = sym (c .before .before .loop .inv .2 ∙ begins-past (spellingAt (c .before .before .before .before .before .args .row)) (c .before .before .before .before .before .args .text .now) (c .before .before .loop .i) (c .before .before .before .before .before .args .at + c .before .before .loop .i) (omega (arith, c .before .before .before .entry .ensures)) (c .if1 .taken))
+
+add-wide : tie.Need-add-wide Inv-loop μ-loop
+add-wide c = omega arith
+
+shared-slice-read-wide : tie.Need-shared-slice-read-wide Inv-loop μ-loop
+shared-slice-read-wide c = omega arith
+
+wide-requires : tie.Need-wide-requires Inv-loop μ-loop
+wide-requires c κs = search needs
+
+add-entry : tie.Need-add-entry Inv-loop μ-loop
+add-entry c = omega (arith, short-row (c .before .before .before .before .before .before .before .args .row) (c .before .before .before .before .before .before .before .pre .1))
+
+entry-requires-2 : tie.Need-entry-requires-2 Inv-loop μ-loop
+entry-requires-2 c κs = (c .before .before .before .before .before .before .before .pre .1, omega (arith, short-row (c .before .before .before .before .before .before .before .args .row) (c .before .before .before .before .before .before .before .pre .1), c .before .before .before .before .before .entry .ensures))
+
+returns-2 : tie.Need-returns-2 Inv-loop μ-loop
+returns-2 c = sym (c .before .before .before .before .before .before .loop .inv .2 ∙ begins-differs (spellingAt (c .before .before .before .before .before .before .before .before .before .args .row)) (c .before .before .before .before .before .before .before .before .before .args .text .now) (c .before .before .before .before .before .before .loop .i) (c .before .before .before .before .before .before .before .before .before .args .at + c .before .before .before .before .before .before .loop .i) (omega (arith, c .before .before .before .before .before .before .before .entry .ensures)) (omega arith) (λ e. c .if2 .taken (c .before .before .wide .ensures .0 ∙ e ∙ sym (c .before .entry2 .ensures ∙ letter-is _ _))))
+
+add-i : tie.Need-add-i Inv-loop μ-loop
+add-i c = omega arith
+
+loop-less : tie.Need-loop-less Inv-loop μ-loop
+loop-less c = omega (arith, c .before .before .before .before .before .before .before .entry .ensures)
+
+loop-again : tie.Need-loop-again Inv-loop μ-loop
+loop-again c = let next : c .before .before .before .before .before .before .before .before .before .args .at + (c .before .before .before .before .before .before .loop .i + 1) ≡ c .before .before .before .before .before .before .before .before .before .args .at + c .before .before .before .before .before .before .loop .i + 1 = omega arith in (omega (arith, c .before .before .before .before .before .before .before .entry .ensures), omega arith, c .before .before .before .before .before .before .loop .inv .2 ∙ begins-more (spellingAt (c .before .before .before .before .before .before .before .before .before .args .row)) (c .before .before .before .before .before .before .before .before .before .args .text .now) (c .before .before .before .before .before .before .loop .i) (c .before .before .before .before .before .before .before .before .before .args .at + c .before .before .before .before .before .before .loop .i) (omega (arith, c .before .before .before .before .before .before .before .entry .ensures)) (omega arith) (sym (c .before .before .wide .ensures .0) ∙ c .if2 .left ∙ c .before .entry2 .ensures ∙ letter-is _ _) next)
+
+returns-3 : tie.Need-returns-3 Inv-loop μ-loop
+returns-3 c = sym (c .before .loop .inv .2 ∙ begins-whole (spellingAt (c .before .before .before .before .args .row)) _ (c .before .loop .i) (omega (arith, c .before .before .entry .ensures)))
+
+pub begins-at-spec : {M : Type 1} → statement M
+begins-at-spec =
+    tie.close
+    (tie.spec
+    Inv-loop
+    μ-loop
+    entry-requires
+    loop-holds
+    add-if1
+    returns
+    add-wide
+    shared-slice-read-wide
+    wide-requires
+    add-entry
+    entry-requires-2
+    returns-2
+    add-i
+    loop-less
+    loop-again
+    returns-3)

@@ -1,0 +1,22 @@
+use Rattle.symbols.specs.Spellings.{spellingAt}
+use mathlib.Core.Path.{_∙_, sym}
+use Rattle.symbols.proofs.Spelling.{same-not, same-is}
+use native.Mathlib.Omega.{arith}
+use borrow.Author.Needs.{needs}
+use Rattle.symbols.proofs.spellings.is_row.Statement.{statement}
+use Rattle.symbols.proofs.spellings.is_row.Tie as tie
+
+entry-requires : tie.Need-entry-requires
+entry-requires c κs = search needs
+
+returns : tie.Need-returns
+returns c = sym (same-not (spellingAt (c .before .before .before .args .row)) (c .before .before .before .args .text .now) (c .before .before .before .args .at) (c .before .before .before .args .width) (c .before .before .before .pre .0) (λ e. c .if1 .taken (c .before .entry .ensures ∙ e)))
+
+begins-at-requires : tie.Need-begins-at-requires
+begins-at-requires c κs = (omega arith, c .before .before .before .pre .1)
+
+returns-2 : tie.Need-returns-2
+returns-2 c = c .begins-at .ensures ∙ sym (same-is (spellingAt (c .before .before .before .before .args .row)) (c .before .before .before .before .args .text .now) (c .before .before .before .before .args .at) (c .before .before .before .before .args .width) (c .before .before .before .before .pre .0) (sym (c .before .before .entry .ensures) ∙ c .before .if1 .left))
+
+pub is-row-spec : {M : Type 1} → statement M
+is-row-spec = tie.close (tie.spec entry-requires returns begins-at-requires returns-2)

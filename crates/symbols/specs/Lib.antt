@@ -1,0 +1,4 @@
+pub mod Answers
+pub mod Spellings
+pub mod Parts
+pub mod Read

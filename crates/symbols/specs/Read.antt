@@ -1,0 +1,35 @@
+-- What `read_symbols` answers, and what scratch then holds: the symbols, three entries each (kind, value, place), and zeros. A source that is
+-- too long, or scratch of fewer than three entries a byte, leaves scratch as it was; a refusal leaves zeros.
+use Prim.Native.Nat.{ℕ, _-_, _*_}
+use mathlib.Core.Path.{_≡_}
+use mathlib.Core.Bool.{cond}
+use mathlib.Core.List.{List, [], _∷_, _++_}
+use lib.ListN.{length, replicate}
+use lib.Dec.{ltb}
+use Rattle.language.specs.Symbols.{Symbol}
+use Rattle.language.specs.Source.{Symbols, good, faulty, symbolsOf}
+use Rattle.language.specs.Source.{tooLong}
+use Rattle.symbols.specs.declared.SymbolsRead.{SymbolsRead}
+use Rattle.symbols.specs.declared.SymbolsRead.the-variants.{TooLong, TooShort, Read, Refused}
+
+unfoldable pub entries : List Symbol → List ℕ
+entries [] = []
+entries (s ∷ r) = s .kind ∷ s .value ∷ s .place ∷ entries r
+
+pub record Outcome : Type 0 where
+  pub answer : SymbolsRead
+  pub scratch : List ℕ
+
+abbrev pub outcome : (room : ℕ) → Symbols → Outcome
+outcome room (good ss) = record { answer = Read (length ss); scratch = entries ss ++ replicate (room - length (entries ss)) 0 }
+outcome room (faulty number place) = record { answer = Refused number place; scratch = replicate room 0 }
+
+unfoldable pub symbolsRead : (text scratch : List ℕ) → Outcome
+symbolsRead text scratch =
+    cond (tooLong text) (record { answer = TooLong; scratch = scratch })
+    (cond (ltb (length scratch) (length text * 3)) (record { answer = TooShort; scratch = scratch })
+    (outcome (length scratch) (symbolsOf text)))
+
+pub record Reads (text scratch : List ℕ) (answer : SymbolsRead) (scratch′ : List ℕ) : Type 0 where
+  pub answers : answer ≡ symbolsRead text scratch .answer
+  pub leaves : scratch′ ≡ symbolsRead text scratch .scratch

@@ -1,0 +1,18 @@
+-- The code's table of spellings: a row for each reserved word and each sign, in the order of the definitions' lists.
+use Prim.Native.Nat.{ℕ}
+use mathlib.Core.List.{List, [], _∷_, _++_}
+use lib.ListN.{length, getD}
+use Rattle.language.specs.Kinds.{Spelled, reserved, signs}
+
+unfoldable pub spelled : List Spelled
+spelled = reserved ++ signs
+
+abbrev pub spelledAt : (row : ℕ) → Spelled
+spelledAt row = getD spelled row (record { spelling = []; kind = 0 })
+
+abbrev pub spellingAt : (row : ℕ) → List ℕ
+spellingAt row = spelledAt row .spelling
+
+-- a row: the kind, the length and the bytes, then blanks
+abbrev pub entryOf : (row column : ℕ) → ℕ
+entryOf row column = getD (spelledAt row .kind ∷ length (spellingAt row) ∷ spellingAt row) column 32

@@ -1,0 +1,250 @@
+// What stands at a place of a text: a symbol, a gap, or neither. One function for each part of document 01's "Symbols".
+use crate::spellings;
+use text::Character;
+ghost use Prim.Native.Nat.{_+_, _-_, _*_, _<_, _≤_};
+ghost use mathlib.Core.Path.{_≡_};
+ghost use lib.ListN.{length, getD, drop};
+ghost use Rattle.text.specs.Quoted.{quoted};
+ghost use Rattle.language.specs.Bytes.{classOf};
+ghost use Rattle.language.specs.Symbols.{inWord, wordWidth, word, digitOf, digits, valueOf, decimal, octal, character, string, toLineEnd, comment, signOrComment, byClass};
+ghost use Rattle.symbols.specs.Answers.{asElement};
+ghost use Rattle.symbols.specs.Parts.{capped, slashes};
+
+// A symbol's kind, its value and the number of bytes that write it; the bytes of a gap; or a refusal's number.
+pub enum Element {
+    Symbol(usize, usize, usize),
+    Gap(usize),
+    Wrong(u16),
+}
+
+// How many digits stand at a place, and their value; 65,536 stands for all that are larger.
+struct Digits {
+    count: usize,
+    value: usize,
+}
+
+// The class of each byte, as a digit.
+const CLASSES: [u8; 256] = *b"00000000089008000000000000000000\
+    87647075777777372222222222777770\
+    71111111111111111111111111100000\
+    00000000000000000000000000007070\
+    00000000000000000000000000000000\
+    00000000000000000000000000000000\
+    00000000000000000000000000000000\
+    00000000000000000000000000000000";
+
+pub fn wide(byte: u8) -> usize
+    ensures { λ r. ⌜ (r ≡ byte) × (r < 256) ⌝ }
+{
+    byte as usize
+}
+
+fn class_of(byte: u8) -> u8
+    ensures { λ r. ⌜ r ≡ classOf byte ⌝ }
+{
+    CLASSES[byte as usize] - b'0'
+}
+
+// Whether a byte may stand in a word: a capital, a digit or a dot.
+fn in_word(byte: u8) -> bool
+    ensures { λ r. ⌜ r ≡ inWord (classOf byte) ⌝ }
+{
+    let class = class_of(byte);
+    if class < 1 {
+        return false;
+    }
+    class <= 3
+}
+
+fn word_width(text: &[u8], at: usize) -> usize
+    ensures { λ r. ⌜ r ≡ wordWidth (drop at (now (text .entry))) ⌝ }
+{
+    let mut i = at;
+    while i < text.len() {
+        if !in_word(text[i]) {
+            return i - at;
+        }
+        i += 1;
+    }
+    i - at
+}
+
+fn word_at(text: &[u8], at: usize) -> Element
+    requires { ⌜ at ≤ length (now text) ⌝ }
+    ensures { λ r. ⌜ r ≡ asElement (word (drop at (now (text .entry)))) ⌝ }
+{
+    let width = word_width(text, at);
+    Element::Symbol(spellings::kind_of(text, at, width), width, width)
+}
+
+fn is_digit(base: usize, c: usize) -> bool
+    requires { ⌜ base ≤ 10 ⌝ }
+    ensures { λ r. ⌜ r ≡ digitOf base c ⌝ }
+{
+    if c < 48 {
+        return false;
+    }
+    c < 48 + base
+}
+
+// A number of one digit more.
+fn and_digit(base: usize, n: usize, c: usize) -> usize
+    requires { ⌜ (base ≤ 10) × (n ≤ 65536) × (48 ≤ c) × (c < 256) ⌝ }
+    ensures { λ r. ⌜ r ≡ capped (n * base + (c - 48)) ⌝ }
+{
+    let more = n * base + (c - 48);
+    if more < 65536 {
+        return more;
+    }
+    65536
+}
+
+fn digits_at(text: &[u8], at: usize, base: usize) -> Digits
+    requires { ⌜ (1 ≤ base) × (base ≤ 10) ⌝ }
+    ensures { λ r. ⌜ (r .count ≡ digits base (drop at (now (text .entry)))) × (r .value ≡ capped (valueOf base 0 (drop at (now (text .entry))))) ⌝ }
+{
+    let mut n: usize = 0;
+    let mut i = at;
+    while i < text.len() {
+        let c = wide(text[i]);
+        if !is_digit(base, c) {
+            return Digits {
+                count: i - at,
+                value: n,
+            };
+        }
+        n = and_digit(base, n, c);
+        i += 1;
+    }
+    Digits {
+        count: i - at,
+        value: n,
+    }
+}
+
+fn decimal_at(text: &[u8], at: usize) -> Element
+    ensures { λ r. ⌜ r ≡ asElement (decimal (drop at (now (text .entry)))) ⌝ }
+{
+    let number = digits_at(text, at, 10);
+    if number.value <= 32767 {
+        return Element::Symbol(60, number.value, number.count);
+    }
+    Element::Wrong(3)
+}
+
+// What follows #.
+fn octal_at(text: &[u8], at: usize) -> Element
+    ensures { λ r. ⌜ r ≡ asElement (octal (drop at (now (text .entry)))) ⌝ }
+{
+    let number = digits_at(text, at, 8);
+    if number.count < 1 {
+        return Element::Wrong(3);
+    }
+    if number.value <= 65535 {
+        return Element::Symbol(60, number.value, number.count + 1);
+    }
+    Element::Wrong(3)
+}
+
+// What follows a single quote.
+fn character_at(text: &[u8], at: usize) -> Element
+    requires { ⌜ at ≤ length (now text) ⌝ }
+    ensures { λ r. ⌜ r ≡ asElement (character (drop at (now (text .entry)))) ⌝ }
+{
+    let first = text::character_at(text, at, b'\'');
+    match first {
+        Character::Is(value, width) => {
+            let second = text::character_at(text, at + width, b'\'');
+            match second {
+                Character::Closing => Element::Symbol(60, wide(value), width + 2),
+                Character::Is(_, _) => Element::Wrong(4),
+                Character::Bad => Element::Wrong(4),
+            }
+        }
+        Character::Closing => Element::Wrong(4),
+        Character::Bad => Element::Wrong(4),
+    }
+}
+
+// What follows a double quote.
+fn string_at(text: &[u8], at: usize) -> Element
+    requires { ⌜ at ≤ length (now text) ⌝ }
+    ensures { λ r. ⌜ r ≡ asElement (string (drop at (now (text .entry)))) ⌝ }
+{
+    let mut n: usize = 0;
+    let mut i = at;
+    loop {
+        let c = text::character_at(text, i, b'"');
+        match c {
+            Character::Is(_, width) => {
+                n += 1;
+                i += width;
+            }
+            Character::Closing => {
+                if n <= 255 {
+                    return Element::Symbol(61, n, i - at + 2);
+                }
+                return Element::Wrong(4);
+            }
+            Character::Bad => {
+                return Element::Wrong(4);
+            }
+        }
+    }
+}
+
+fn comment_at(text: &[u8], at: usize) -> Element
+    ensures { λ r. ⌜ r ≡ asElement (comment (drop at (now (text .entry)))) ⌝ }
+{
+    let mut i = at;
+    while i < text.len() {
+        if text[i] == b'\n' {
+            return Element::Gap(i - at);
+        }
+        i += 1;
+    }
+    Element::Gap(i - at)
+}
+
+// Whether two slashes stand at a place.
+fn begins_comment(text: &[u8], at: usize) -> bool
+    requires { ⌜ at < length (now text) ⌝ }
+    ensures { λ r. ⌜ r ≡ slashes (drop at (now (text .entry))) ⌝ }
+{
+    if text[at] != b'/' {
+        return false;
+    }
+    if text.len() <= at + 1 {
+        return false;
+    }
+    text[at + 1] == b'/'
+}
+
+fn sign_or_comment(text: &[u8], at: usize) -> Element
+    requires { ⌜ at < length (now text) ⌝ }
+    ensures { λ r. ⌜ r ≡ asElement (signOrComment (drop at (now (text .entry)))) ⌝ }
+{
+    if begins_comment(text, at) {
+        return comment_at(text, at);
+    }
+    spellings::sign_at(text, at)
+}
+
+// By the class of the byte there.
+pub fn element_at(text: &[u8], at: usize) -> Element
+    requires { ⌜ at < length (now text) ⌝ }
+    ensures { λ r. ⌜ r ≡ asElement (byClass (classOf (getD (now (text .entry)) at 0)) (drop at (now (text .entry)))) ⌝ }
+{
+    let class = class_of(text[at]);
+    match class {
+        1 => word_at(text, at),
+        2 => decimal_at(text, at),
+        4 => octal_at(text, at + 1),
+        5 => character_at(text, at + 1),
+        6 => string_at(text, at + 1),
+        7 => sign_or_comment(text, at),
+        8 => Element::Gap(1),
+        9 => Element::Gap(1),
+        _ => Element::Wrong(2),
+    }
+}

@@ -1,0 +1,346 @@
+// From source bytes to symbols in lent scratch, by the rules of document 01's "Symbols".
+//
+// `read_symbols` goes over the text twice: first for a refusal, with the open brackets on a stack in scratch, then for
+// the symbols, which it writes there. Both times it goes from symbol to symbol by `next_symbol`.
+mod elements;
+mod spellings;
+
+use crate::elements::Element;
+ghost use Prim.Native.Nat.{_+_, _*_, _-_, _<_, _≤_};
+ghost use mathlib.Core.Path.{_≡_};
+ghost use mathlib.Core.Bool.{cond};
+ghost use mathlib.Core.List.{[], _∷_, _++_};
+ghost use lib.ListN.{length, replicate, take};
+ghost use lib.Seq.{sets};
+ghost use lib.Dec.{eqb};
+ghost use Rattle.language.specs.Source.{tooLong, scratchTooShort};
+ghost use Rattle.language.specs.Semicolons.{endsLine, beginsLine};
+ghost use Rattle.symbols.specs.Read.{Reads};
+ghost use Rattle.symbols.specs.Parts.{Finds, Matches, Faults, wanting, Writes, orNewline, gain, WritesAll};
+
+// The symbols' number, or why there are none.
+pub enum SymbolsRead {
+    TooLong,
+    TooShort,
+    Read(usize),
+    Refused { number: u16, place: usize },
+}
+
+// A symbol with its place and the place past it, and whether a newline stands before it; the end; or a refusal.
+enum Next {
+    One {
+        kind: usize,
+        value: usize,
+        place: usize,
+        past: usize,
+        newline: bool,
+    },
+    End,
+    Wrong(u16, usize),
+}
+
+// The first refusal.
+enum Fault {
+    Nowhere,
+    At(u16, usize),
+}
+
+// The number of open brackets.
+enum Depth {
+    Is(usize),
+    Unmatched,
+}
+
+// Of each kind, whether a semicolon is inserted after it, and before it, where a line ends between.
+const ENDS_LINE: [u8; 62] = *b"00000000011000000000100000000011011000000000000000001000001111";
+
+const BEGINS_LINE: [u8; 62] = *b"00000001100001001111000100101111111000000000000000010000010100";
+
+// Refusal 1.
+pub fn too_long(text: &[u8]) -> bool
+    ensures { λ r. ⌜ r ≡ tooLong (now (text .entry)) ⌝ }
+{
+    16384 < text.len()
+}
+
+// Refusal 15, as far as scratch goes.
+pub fn scratch_too_short(text: &[u8], scratch: &[u32]) -> bool
+    ensures { λ r. ⌜ r ≡ scratchTooShort (now (text .entry)) (length (now (scratch .entry))) ⌝ }
+{
+    let room = scratch.len();
+    if room < 64 {
+        return true;
+    }
+    (room - 64) / 8 < text.len()
+}
+
+fn or_newline(newline: bool, byte: u8) -> bool
+    ensures { λ r. ⌜ r ≡ orNewline newline byte ⌝ }
+{
+    if byte == b'\n' {
+        return true;
+    }
+    newline
+}
+
+// The first symbol from a place on.
+fn next_symbol(text: &[u8], at: usize) -> Next
+    requires { ⌜ at ≤ length (now text) ⌝ }
+    ensures { λ r. ⌜ Finds (now (text .entry)) at r ⌝ }
+{
+    let mut newline = false;
+    let mut i = at;
+    while i < text.len() {
+        let element = elements::element_at(text, i);
+        match element {
+            Element::Symbol(kind, value, width) => {
+                return Next::One {
+                    kind: kind,
+                    value: value,
+                    place: i,
+                    past: i + width,
+                    newline: newline,
+                };
+            }
+            Element::Wrong(number) => {
+                return Next::Wrong(number, i);
+            }
+            Element::Gap(width) => {
+                newline = or_newline(newline, text[i]);
+                i += width;
+            }
+        }
+    }
+    Next::End
+}
+
+// An opening bracket: the one that closes it goes on the stack.
+fn opening(scratch: &mut [u32], depth: usize, wanted: u32) -> Depth
+    requires { ⌜ depth < length (now scratch) ⌝ }
+    ensures { λ r. ⌜ (r ≡ Depth.Is (depth + 1)) × (now (scratch .exit) ≡ sets (now (scratch .entry)) depth (wanted ∷ [])) ⌝ }
+{
+    scratch[depth] = wanted;
+    Depth::Is(depth + 1)
+}
+
+// A closing bracket, which has to be the one on top of the stack.
+fn closing(scratch: &[u32], depth: usize, kind: u32) -> Depth
+    requires { ⌜ depth ≤ length (now scratch) ⌝ }
+    ensures { λ r. ⌜ r ≡ wanting (now (scratch .entry)) depth kind ⌝ }
+{
+    if depth == 0 {
+        return Depth::Unmatched;
+    }
+    if scratch[depth - 1] == kind {
+        return Depth::Is(depth - 1);
+    }
+    Depth::Unmatched
+}
+
+// The stack after a symbol.
+fn bracket(scratch: &mut [u32], depth: usize, kind: usize) -> Depth
+    requires { ⌜ depth < length (now scratch) ⌝ }
+    ensures { λ r. ⌜ Matches kind depth (now (scratch .entry)) r (now (scratch .exit)) ⌝ }
+{
+    match kind {
+        51 => opening(scratch, depth, 52),
+        57 => opening(scratch, depth, 58),
+        52 => closing(scratch, depth, 52),
+        58 => closing(scratch, depth, 58),
+        _ => Depth::Is(depth),
+    }
+}
+
+fn first_fault(text: &[u8], scratch: &mut [u32]) -> Fault
+    requires { ⌜ length (now text) ≤ length (now scratch) ⌝ }
+    ensures { λ r. ⌜ Faults (now (text .entry)) (now (scratch .entry)) r (now (scratch .exit)) ⌝ }
+{
+    let mut at: usize = 0;
+    let mut depth: usize = 0;
+    loop {
+        let next = next_symbol(text, at);
+        match next {
+            Next::Wrong(number, place) => {
+                return Fault::At(number, place);
+            }
+            Next::End => {
+                if depth == 0 {
+                    return Fault::Nowhere;
+                }
+                return Fault::At(5, text.len());
+            }
+            Next::One {
+                kind,
+                value: _,
+                place,
+                past,
+                newline: _,
+            } => {
+                let after = bracket(scratch, depth, kind);
+                match after {
+                    Depth::Unmatched => {
+                        return Fault::At(5, place);
+                    }
+                    Depth::Is(open) => {
+                        depth = open;
+                        at = past;
+                    }
+                }
+            }
+        }
+    }
+}
+
+fn ends_line(kind: usize) -> bool
+    requires { ⌜ kind < 62 ⌝ }
+    ensures { λ r. ⌜ r ≡ endsLine kind ⌝ }
+{
+    ENDS_LINE[kind] == b'1'
+}
+
+fn begins_line(kind: usize) -> bool
+    requires { ⌜ kind < 62 ⌝ }
+    ensures { λ r. ⌜ r ≡ beginsLine kind ⌝ }
+{
+    BEGINS_LINE[kind] == b'1'
+}
+
+// Whether a semicolon is inserted between two kinds of symbols, by whether a newline stands there.
+fn gains(before: usize, kind: usize, newline: bool) -> bool
+    requires { ⌜ (before < 62) × (kind < 62) ⌝ }
+    ensures { λ r. ⌜ r ≡ gain before kind newline ⌝ }
+{
+    if !ends_line(before) {
+        return false;
+    }
+    if !begins_line(kind) {
+        return false;
+    }
+    newline
+}
+
+// A string's value is its position among the strings.
+fn numbered(kind: usize, value: usize, strings: usize) -> usize
+    ensures { λ r. ⌜ r ≡ cond (eqb kind 61) strings value ⌝ }
+{
+    if kind == 61 {
+        return strings;
+    }
+    value
+}
+
+fn strings_past(kind: usize, strings: usize) -> usize
+    requires { ⌜ strings < 16384 ⌝ }
+    ensures { λ r. ⌜ r ≡ cond (eqb kind 61) (strings + 1) strings ⌝ }
+{
+    if kind == 61 {
+        return strings + 1;
+    }
+    strings
+}
+
+// A symbol's three entries.
+fn put(scratch: &mut [u32], count: usize, kind: usize, value: usize, place: usize)
+    requires { ⌜ (count * 3 + 3 ≤ length (now scratch)) × (kind < 65536) × (value < 131072) × (place < 65536) ⌝ }
+    ensures { λ r. ⌜ now (scratch .exit) ≡ sets (now (scratch .entry)) (count * 3) (kind ∷ value ∷ place ∷ []) ⌝ }
+{
+    let base = count * 3;
+    scratch[base] = kind as u32;
+    scratch[base + 1] = value as u32;
+    scratch[base + 2] = place as u32;
+}
+
+// A symbol after `count` others, with a semicolon before it or not; the number of symbols then.
+fn write(
+    scratch: &mut [u32],
+    count: usize,
+    semicolon: bool,
+    kind: usize,
+    value: usize,
+    place: usize,
+) -> usize
+    requires { ⌜ (count * 3 + cond semicolon 6 3 ≤ length (now scratch)) × (kind < 65536) × (value < 131072) × (place < 65536) ⌝ }
+    ensures { λ r. ⌜ Writes count semicolon kind value place (now (scratch .entry)) r (now (scratch .exit)) ⌝ }
+{
+    if semicolon {
+        put(scratch, count, 54, 0, place);
+        put(scratch, count + 1, kind, value, place);
+        return count + 2;
+    }
+    put(scratch, count, kind, value, place);
+    count + 1
+}
+
+// The symbols' number.
+fn write_symbols(text: &[u8], scratch: &mut [u32]) -> usize
+    requires { ⌜ (length (now text) ≤ 16384) × (length (now text) * 3 ≤ length (now scratch)) ⌝ }
+    ensures { λ r. ⌜ WritesAll (now (text .entry)) (now (scratch .entry)) r (now (scratch .exit)) ⌝ }
+{
+    let mut at: usize = 0;
+    let mut count: usize = 0;
+    let mut before: usize = 0;
+    let mut strings: usize = 0;
+    loop {
+        let next = next_symbol(text, at);
+        match next {
+            Next::Wrong(_, _) => {
+                return count;
+            }
+            Next::End => {
+                return count;
+            }
+            Next::One {
+                kind,
+                value,
+                place,
+                past,
+                newline,
+            } => {
+                let semicolon = gains(before, kind, newline);
+                let number = numbered(kind, value, strings);
+                count = write(scratch, count, semicolon, kind, number, place);
+                strings = strings_past(kind, strings);
+                before = kind;
+                at = past;
+            }
+        }
+    }
+}
+
+fn clear_from(scratch: &mut [u32], from: usize)
+    requires { ⌜ from ≤ length (now scratch) ⌝ }
+    ensures { λ r. ⌜ now (scratch .exit) ≡ take from (now (scratch .entry)) ++ replicate (length (now (scratch .entry)) - from) 0 ⌝ }
+{
+    let mut i = from;
+    while i < scratch.len() {
+        scratch[i] = 0;
+        i += 1;
+    }
+}
+
+// A source's symbols into scratch, which needs three entries a byte.
+pub fn read_symbols(text: &[u8], scratch: &mut [u32]) -> SymbolsRead
+    ensures { λ r. ⌜ Reads (now (text .entry)) (now (scratch .entry)) r (now (scratch .exit)) ⌝ }
+{
+    if too_long(text) {
+        return SymbolsRead::TooLong;
+    }
+    if scratch.len() < text.len() * 3 {
+        return SymbolsRead::TooShort;
+    }
+    let fault = first_fault(text, scratch);
+    match fault {
+        Fault::At(number, place) => {
+            clear_from(scratch, 0);
+            SymbolsRead::Refused {
+                number: number,
+                place: place,
+            }
+        }
+        Fault::Nowhere => {
+            let count = write_symbols(text, scratch);
+            clear_from(scratch, count * 3);
+            SymbolsRead::Read(count)
+        }
+    }
+}

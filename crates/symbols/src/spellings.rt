@@ -1,0 +1,140 @@
+// The words and signs by their spellings: which one stands at a place of a text.
+//
+// `kind_of` alone decides whether a word is reserved, and `sign_at` which sign stands at a place.
+use crate::elements::Element;
+use crate::elements::wide;
+ghost use Prim.Native.Nat.{_+_, _<_, _≤_};
+ghost use mathlib.Core.Path.{_≡_};
+ghost use lib.ListN.{length, take, drop};
+ghost use Rattle.language.specs.Symbols.{begins, same, kindOf, sign};
+ghost use Rattle.symbols.specs.Spellings.{spellingAt, entryOf};
+ghost use Rattle.symbols.specs.Answers.{asElement};
+
+// A row of 13 bytes for each word, in 01's order, then for each sign, those of two bytes first: its kind, its length,
+// and its bytes, followed by blanks.
+const SPELLINGS: [u8; 767] = *b"\x01\x06GLOBAL     \
+    \x02\x08MANIFEST   \
+    \x03\x03LET        \
+    \x04\x03AND        \
+    \x05\x02BE         \
+    \x06\x03VEC        \
+    \x07\x05VALOF      \
+    \x08\x08RESULTIS   \
+    \x09\x04TRUE       \
+    \x0a\x05FALSE      \
+    \x0b\x03NOT        \
+    \x0c\x03REM        \
+    \x0d\x04TEST       \
+    \x0e\x04THEN       \
+    \x0e\x02DO         \
+    \x0f\x02OR         \
+    \x10\x02IF         \
+    \x11\x06UNLESS     \
+    \x12\x05WHILE      \
+    \x13\x05UNTIL      \
+    \x14\x06REPEAT     \
+    \x15\x0bREPEATWHILE\
+    \x16\x0bREPEATUNTIL\
+    \x17\x03FOR        \
+    \x18\x02TO         \
+    \x19\x02BY         \
+    \x1a\x08SWITCHON   \
+    \x1b\x04INTO       \
+    \x1c\x04CASE       \
+    \x1d\x07DEFAULT    \
+    \x1e\x07ENDCASE    \
+    \x1f\x05BREAK      \
+    \x20\x04LOOP       \
+    \x21\x06RETURN     \
+    \x22\x06FINISH     \
+    \x28\x02~=         \
+    \x2a\x02<=         \
+    \x2c\x02>=         \
+    \x2d\x02<<         \
+    \x2e\x02>>         \
+    \x38\x02:=         \
+    \x39\x02$(         \
+    \x3a\x02$)         \
+    \x23\x01+          \
+    \x24\x01-          \
+    \x25\x01*          \
+    \x26\x01/          \
+    \x27\x01=          \
+    \x29\x01<          \
+    \x2b\x01>          \
+    \x2f\x01&          \
+    \x30\x01|          \
+    \x31\x01!          \
+    \x32\x01@          \
+    \x33\x01(          \
+    \x34\x01)          \
+    \x35\x01,          \
+    \x36\x01;          \
+    \x37\x01:          ";
+
+fn entry(row: usize, column: usize) -> usize
+    requires { ⌜ (row < 59) × (column < 13) ⌝ }
+    ensures { λ r. ⌜ r ≡ entryOf row column ⌝ }
+{
+    wide(SPELLINGS[row * 13 + column])
+}
+
+// Whether a row's spelling stands at a place.
+fn begins_at(text: &[u8], at: usize, row: usize) -> bool
+    requires { ⌜ (at ≤ length (now text)) × (row < 59) ⌝ }
+    ensures { λ r. ⌜ r ≡ begins (spellingAt row) (drop at (now (text .entry))) ⌝ }
+{
+    let size = entry(row, 1);
+    let mut i: usize = 0;
+    while i < size {
+        if text.len() <= at + i {
+            return false;
+        }
+        if wide(text[at + i]) != entry(row, i + 2) {
+            return false;
+        }
+        i += 1;
+    }
+    true
+}
+
+// Whether the bytes at a place, `width` of them, are a row's spelling.
+fn is_row(text: &[u8], at: usize, width: usize, row: usize) -> bool
+    requires { ⌜ (at + width ≤ length (now text)) × (row < 59) ⌝ }
+    ensures { λ r. ⌜ r ≡ same (spellingAt row) (take width (drop at (now (text .entry)))) ⌝ }
+{
+    if entry(row, 1) != width {
+        return false;
+    }
+    begins_at(text, at, row)
+}
+
+// The kind of a word, `width` bytes at a place: that of a reserved word, or a name's.
+pub fn kind_of(text: &[u8], at: usize, width: usize) -> usize
+    requires { ⌜ at + width ≤ length (now text) ⌝ }
+    ensures { λ r. ⌜ r ≡ kindOf (take width (drop at (now (text .entry)))) ⌝ }
+{
+    let mut row: usize = 0;
+    while row < 35 {
+        if is_row(text, at, width, row) {
+            return entry(row, 0);
+        }
+        row += 1;
+    }
+    59
+}
+
+// The longest sign at a place.
+pub fn sign_at(text: &[u8], at: usize) -> Element
+    requires { ⌜ at ≤ length (now text) ⌝ }
+    ensures { λ r. ⌜ r ≡ asElement (sign (drop at (now (text .entry)))) ⌝ }
+{
+    let mut row: usize = 35;
+    while row < 59 {
+        if begins_at(text, at, row) {
+            return Element::Symbol(entry(row, 0), 0, entry(row, 1));
+        }
+        row += 1;
+    }
+    Element::Wrong(2)
+}
