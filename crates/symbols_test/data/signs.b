@@ -1,0 +1,1 @@
+<<=>>=<=>=:=:~=|!@,;&$($)()+-*/=<>THEN DO REPEATWHILE REPEATED A.1	UNTIL//last
