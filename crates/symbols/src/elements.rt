@@ -11,7 +11,7 @@ ghost use Rattle.symbols.specs.Answers.{asElement};
 ghost use Rattle.symbols.specs.Parts.{capped, slashes};
 
 // A symbol's kind, its value and the number of bytes that write it; the bytes of a gap; or a refusal's number.
-pub enum Element {
+pub(crate) enum Element {
     Symbol(usize, usize, usize),
     Gap(usize),
     Wrong(u16),
@@ -33,7 +33,7 @@ const CLASSES: [u8; 256] = *b"00000000089008000000000000000000\
     00000000000000000000000000000000\
     00000000000000000000000000000000";
 
-pub fn wide(byte: u8) -> usize
+pub(crate) fn wide(byte: u8) -> usize
     ensures { λ r. ⌜ (r ≡ byte) × (r < 256) ⌝ }
 {
     byte as usize
@@ -231,7 +231,7 @@ fn sign_or_comment(text: &[u8], at: usize) -> Element
 }
 
 // By the class of the byte there.
-pub fn element_at(text: &[u8], at: usize) -> Element
+pub(crate) fn element_at(text: &[u8], at: usize) -> Element
     requires { ⌜ at < length (now text) ⌝ }
     ensures { λ r. ⌜ r ≡ asElement (byClass (classOf (getD (now (text .entry)) at 0)) (drop at (now (text .entry)))) ⌝ }
 {

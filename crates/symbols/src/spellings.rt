@@ -110,7 +110,7 @@ fn is_row(text: &[u8], at: usize, width: usize, row: usize) -> bool
 }
 
 // The kind of a word, `width` bytes at a place: that of a reserved word, or a name's.
-pub fn kind_of(text: &[u8], at: usize, width: usize) -> usize
+pub(crate) fn kind_of(text: &[u8], at: usize, width: usize) -> usize
     requires { ⌜ at + width ≤ length (now text) ⌝ }
     ensures { λ r. ⌜ r ≡ kindOf (take width (drop at (now (text .entry)))) ⌝ }
 {
@@ -125,7 +125,7 @@ pub fn kind_of(text: &[u8], at: usize, width: usize) -> usize
 }
 
 // The longest sign at a place.
-pub fn sign_at(text: &[u8], at: usize) -> Element
+pub(crate) fn sign_at(text: &[u8], at: usize) -> Element
     requires { ⌜ at ≤ length (now text) ⌝ }
     ensures { λ r. ⌜ r ≡ asElement (sign (drop at (now (text .entry)))) ⌝ }
 {
