@@ -3,7 +3,7 @@
 -- not reserved, and whose strings have at most 255 characters, each of which can be written (`Prints`).
 use Prim.Native.Nat.{ℕ, zero, suc, _+_, _-_, _*_, _/_, _%_, _<_, _≤_}
 use mathlib.Core.Path.{_≡_, refl, sym, ap, subst, _∙_}
-use mathlib.Core.Bool.{Bool, true, false, not, cond}
+use mathlib.Core.Bool.{Bool, true, false, not, cond, _&&_}
 use mathlib.Core.List.{List, [], _∷_, _++_, append-assoc, append-nil}
 use native.Mathlib.Omega.{arith}
 use native.Mathlib.Nat.{div-add-mod'}
@@ -16,7 +16,7 @@ use Rattle.text.specs.Quoted.{quoted}
 use Rattle.text.proofs.Quotes.{Writable}
 use Rattle.items.specs.Render.{characterText, charactersText}
 use Rattle.items.proofs.Rendered.{characters-text}
-use Rattle.language.specs.Bytes.{both, LETTER, classOf}
+use Rattle.language.specs.Bytes.{LETTER, classOf}
 use Rattle.language.specs.Kinds as K
 use Rattle.language.specs.Kinds.{member, reserved, signs}
 use Rattle.language.specs.Symbols as S
@@ -717,7 +717,7 @@ not-gained : (text : List ℕ) → OneLine text → (a b : Symbol) → gains tex
 unfolding gains linesDiffer
 not-gained text h a b = rw (line-one text h (a .place), line-one text h (b .place)) (go (endsLine (a .kind)) (beginsLine (b .kind)))
   where
-    go : (t u : Bool) → both t (both u false) ≡ false
+    go : (t u : Bool) → (t && (u && false)) ≡ false
     go true true = refl
     go true false = refl
     go false u = refl

@@ -2,12 +2,8 @@
 -- A byte is a number from 0 to 255. Its class says which symbols it may start; here the classes are given by ranges, and the
 -- compiler's table is proved equal to this.
 use Prim.Native.Nat.{ℕ}
-use mathlib.Core.Bool.{Bool, true, false, cond}
+use mathlib.Core.Bool.{Bool, true, false, cond, _&&_}
 use lib.Dec.{eqb, leb}
-
-abbrev pub both : Bool → Bool → Bool
-both true b = b
-both false b = false
 
 -- The classes. No symbol starts with it
 abbrev pub NONE : ℕ
@@ -49,7 +45,7 @@ abbrev pub NEWLINE : ℕ
 NEWLINE = 9
 
 abbrev pub between : (low high byte : ℕ) → Bool
-between low high c = both (leb low c) (leb c high)
+between low high c = leb low c && leb c high
 
 -- a byte's class. The signs start with $ & ( ) * + , - / : ; < = > ! @ | ~
 unfoldable pub classOf : ℕ → ℕ

@@ -1,11 +1,10 @@
 -- Inserted semicolons (document 01, "Inserted semicolon"): between symbols on different lines, the first from one list of kinds, the
 -- second from another.
 use Prim.Native.Nat.{ℕ}
-use mathlib.Core.Bool.{Bool, true, false, not}
+use mathlib.Core.Bool.{Bool, true, false, not, _&&_}
 use mathlib.Core.List.{List, [], _∷_}
 use lib.Dec.{eqb}
 use Rattle.text.specs.Line.{lineOf}
-use Rattle.language.specs.Bytes.{both}
 use Rattle.language.specs.Kinds as K
 use Rattle.language.specs.Kinds.{member}
 use Rattle.language.specs.Symbols.{Symbol}
@@ -32,7 +31,7 @@ linesDiffer text a b = not (eqb (lineOf text (a .place)) (lineOf text (b .place)
 
 -- a semicolon is inserted between two symbols. Its place and line are those of the second
 unfoldable pub gains : List ℕ → Symbol → Symbol → Bool
-gains text a b = both (endsLine (a .kind)) (both (beginsLine (b .kind)) (linesDiffer text a b))
+gains text a b = endsLine (a .kind) && (beginsLine (b .kind) && linesDiffer text a b)
 
 abbrev pub semicolon : Symbol → Symbol
 semicolon s = record { kind = K.SEMICOLON; value = 0; place = s .place }

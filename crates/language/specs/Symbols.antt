@@ -5,12 +5,12 @@
 -- its characters (Strings then puts its position among the strings there), of a sign 0. A name's bytes and a string's characters
 -- are found again from the place.
 use Prim.Native.Nat.{ℕ, zero, suc, _+_, _-_, _*_}
-use mathlib.Core.Bool.{Bool, true, false, cond}
+use mathlib.Core.Bool.{Bool, true, false, cond, _&&_}
 use mathlib.Core.List.{List, [], _∷_}
 use lib.ListN.{length, take, drop}
 use lib.Dec.{eqb, leb, ltb}
 use Rattle.text.specs.Quoted.{Quoted, closed, faulty, quoted}
-use Rattle.language.specs.Bytes.{both, LETTER, DIGIT, DOT, HASH, QUOTE, DOUBLE, SIGN, SEPARATOR, NEWLINE, classOf}
+use Rattle.language.specs.Bytes.{LETTER, DIGIT, DOT, HASH, QUOTE, DOUBLE, SIGN, SEPARATOR, NEWLINE, classOf}
 use Rattle.language.specs.Kinds.{Spelled, NAME, NUMBER, STRING, reserved, signs}
 
 pub record Symbol : Type 0 where
@@ -28,11 +28,11 @@ pub data Element : Type 0 where
 unfoldable pub begins : (spelling : List ℕ) → List ℕ → Bool
 begins [] bs = true
 begins (s ∷ ss) [] = false
-begins (s ∷ ss) (b ∷ bs) = both (eqb s b) (begins ss bs)
+begins (s ∷ ss) (b ∷ bs) = eqb s b && begins ss bs
 
 -- Words. A word is the longest run of capitals, digits and dots that starts with a capital
 abbrev pub inWord : (class : ℕ) → Bool
-inWord class = both (leb LETTER class) (leb class DOT)
+inWord class = leb LETTER class && leb class DOT
 
 unfoldable pub wordWidth : List ℕ → ℕ
 wordWidth [] = 0
@@ -40,7 +40,7 @@ wordWidth (c ∷ r) = elim (inWord (classOf c)) [ true ↦ suc (wordWidth r) | f
 
 -- the kind of a word: it is reserved if it is one of 01's words, else a name
 abbrev pub same : List ℕ → List ℕ → Bool
-same ss bs = both (eqb (length ss) (length bs)) (begins ss bs)
+same ss bs = eqb (length ss) (length bs) && begins ss bs
 
 unfoldable pub kindIn : List Spelled → List ℕ → ℕ
 kindIn [] bs = NAME
@@ -54,7 +54,7 @@ word bs = symbol (kindOf (take (wordWidth bs) bs)) (wordWidth bs) (wordWidth bs)
 
 -- Numbers. The digits of a base are the bytes from 48 (the digit 0) on; how many stand at the head, and their value
 abbrev pub digitOf : (base byte : ℕ) → Bool
-digitOf base c = both (leb 48 c) (ltb c (48 + base))
+digitOf base c = leb 48 c && ltb c (48 + base)
 
 unfoldable pub digits : (base : ℕ) → List ℕ → ℕ
 digits base [] = 0
@@ -71,7 +71,7 @@ decimal bs = cond (leb (valueOf 10 0 bs) 32767) (symbol NUMBER (valueOf 10 0 bs)
 -- # and octal digits, at least one, to #177777; from past the # on
 unfoldable pub octal : List ℕ → Element
 octal bs =
-    cond (both (leb 1 (digits 8 bs)) (leb (valueOf 8 0 bs) 65535))
+    cond (leb 1 (digits 8 bs) && leb (valueOf 8 0 bs) 65535)
     (symbol NUMBER (valueOf 8 0 bs) (suc (digits 8 bs)))
     (wrong 3)
 

@@ -1,7 +1,7 @@
 -- What stands at a place, by the class of the byte there; words and comments.
 use Prim.Native.Nat.{ℕ, suc, _+_, _<_, _≤_}
 use mathlib.Core.Path.{_≡_, refl, sym, ap, _∙_}
-use mathlib.Core.Bool.{Bool, true, false, cond}
+use mathlib.Core.Bool.{Bool, true, false, cond, _&&_}
 use mathlib.Core.List.{List, [], _∷_}
 use native.Mathlib.Omega.{arith}
 use lib.Dec.{eqb, leb}
@@ -9,7 +9,7 @@ use lib.ListN.{length, getD, take, drop}
 use lib.Seq.{drop-drop}
 use borrow.Author.Tests.{eq-eqb, ne-eqb, eqb-true, eqb-false, le-leb, lt-leb}
 use Rattle.text.proofs.Bytes.{at-byte, past-end, Unlike}
-use Rattle.language.specs.Bytes.{both, classOf}
+use Rattle.language.specs.Bytes.{classOf}
 use Rattle.language.specs.Symbols.{Element, symbol, wrong, begins, inWord, wordWidth, kindOf, word, toLineEnd, comment, sign, signOrComment, byClass}
 use Rattle.symbols.specs.Parts.{slashes}
 use Rattle.symbols.specs.Answers.{asElement}
@@ -40,7 +40,7 @@ swapped a b = go (eqb a b) refl
     go true e = sym (eq-eqb b a (sym (eqb-true a b e)))
     go false e = sym (ne-eqb b a (λ k. eqb-false a b e (sym k)))
 
-alone : (t : Bool) → both t true ≡ t
+alone : (t : Bool) → (t && true) ≡ t
 alone true = refl
 alone false = refl
 

@@ -1,7 +1,7 @@
 -- What stands at a place is at least a byte, ends within the text, and holds no newline, unless it is a gap of that one byte.
 use Prim.Native.Nat.{ℕ, zero, suc, _+_, _-_, _<_, _≤_}
 use mathlib.Core.Path.{_≡_, refl, sym, ap, _∙_}
-use mathlib.Core.Bool.{Bool, true, false, cond}
+use mathlib.Core.Bool.{Bool, true, false, cond, _&&_}
 use mathlib.Core.List.{List, [], _∷_}
 use native.Mathlib.Omega.{arith}
 use lib.Dec.{eqb, leb, ltb}
@@ -11,7 +11,7 @@ use Rattle.text.specs.Line.{newlines}
 use Rattle.text.specs.Quoted as Q
 use Rattle.text.specs.Quoted.{Quoted, closed, faulty, quoted}
 use Rattle.text.proofs.Quotes.{Written, is-written, ascii, Closed, is-closed}
-use Rattle.language.specs.Bytes.{both, classOf, between, LETTER, DIGIT, HASH, QUOTE, DOUBLE, SIGN, SEPARATOR, NEWLINE}
+use Rattle.language.specs.Bytes.{classOf, between, LETTER, DIGIT, HASH, QUOTE, DOUBLE, SIGN, SEPARATOR, NEWLINE}
 use Rattle.language.specs.Kinds.{Spelled, NUMBER, STRING, reserved, signs}
 use Rattle.language.specs.Symbols.{Element, symbol, gap, wrong, begins, inWord, wordWidth, same, kindIn, kindOf, word, digitOf, digits, valueOf, decimal, octal, asCharacter, character, asString, string, signIn, sign, toLineEnd, comment, signOrComment, byClass}
 use Rattle.symbols.proofs.Runs.{Run, word-run, digits-run, comment-run, run-within, run-line}
@@ -91,11 +91,11 @@ Given bs lines (symbol k v w) = Stood bs 0 w × (k < 62) × (v ≤ 65535 + w)
 Given bs lines (gap w) = Stood bs lines w
 Given bs lines (wrong n) = Unit {0}
 
-both-left : (a b : Bool) → both a b ≡ true → a ≡ true
+both-left : (a b : Bool) → (a && b) ≡ true → a ≡ true
 both-left true b e = refl
 both-left false b e = e
 
-both-right : (a b : Bool) → both a b ≡ true → b ≡ true
+both-right : (a b : Bool) → (a && b) ≡ true → b ≡ true
 both-right true b e = e
 both-right false b e = let z : _≡_ {A = ℕ} 0 1 = cc in absurd (omega arith)
 
@@ -104,7 +104,7 @@ abbrev known : Spelled → Bool
 known s = ltb (s .kind) 62
 
 abbrev onOneLine : Spelled → Bool
-onOneLine s = both (leb 1 (length (s .spelling))) (both (eqb (newlines (s .spelling)) 0) (known s))
+onOneLine s = (leb 1 (length (s .spelling)) && (eqb (newlines (s .spelling)) 0 && known s))
 
 kind-known : (ws : List Spelled) (bs : List ℕ) → every known (record { spelling = []; kind = 0 }) ws ≡ true → kindIn ws bs < 62
 unfolding kindIn
@@ -133,7 +133,7 @@ sign-given (s ∷ ss) bs lines t = by (begins (s .spelling) bs) refl (both-left 
         → Given bs lines (elim b [ true ↦ symbol (s .kind) 0 (length (s .spelling)) | false ↦ signIn ss bs ])
     by true e o h =
         let w : (length (s .spelling) ≤ length bs) × (newlines (take (length (s .spelling)) bs) ≡ newlines (s .spelling)) = begins-within (s .spelling) bs e in
-        let p : both (eqb (newlines (s .spelling)) 0) (known s) ≡ true = both-right (leb 1 (length (s .spelling))) _ o in (
+        let p : (eqb (newlines (s .spelling)) 0 && known s) ≡ true = both-right (leb 1 (length (s .spelling))) _ o in (
           record {
             some = leb-true 1 (length (s .spelling)) (both-left (leb 1 (length (s .spelling))) _ o);
             within = w .0;
@@ -203,7 +203,7 @@ module _ (c : ℕ) (r : List ℕ) (lines : ℕ) where
     octal-given : Given (c ∷ r) lines (octal r)
     unfolding octal
     octal-given =
-        either (Given (c ∷ r) lines) (both (leb 1 (digits 8 r)) (leb (valueOf 8 0 r) 65535))
+        either (Given (c ∷ r) lines) (leb 1 (digits 8 r) && leb (valueOf 8 0 r) 65535)
         (λ h. (
           past-stood c r n (run-within (digits-run 8) r) (run-line (digits-run 8) refl r),
           omega arith,

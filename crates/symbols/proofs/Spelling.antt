@@ -1,7 +1,7 @@
 -- The table of spellings, and the search of a word or a sign in it, one row at a time.
 use Prim.Native.Nat.{ℕ, suc, _+_, _*_, _/_, _%_, _<_, _≤_}
 use mathlib.Core.Path.{_≡_, refl, sym, ap, _∙_}
-use mathlib.Core.Bool.{Bool, true, false, cond}
+use mathlib.Core.Bool.{Bool, true, false, cond, _&&_}
 use mathlib.Core.List.{List, [], _∷_, _++_}
 use native.Mathlib.Omega.{arith}
 use native.Mathlib.Numerals.{add-one}
@@ -11,7 +11,6 @@ use lib.Dec.{eqb, leb, leb→le}
 use lib.ListN.{length, getD, take, drop, length-take, drop-of-length-le, List·getD-append, length-drop}
 use lib.Seq.{drop-cons, length-take-le}
 use borrow.Author.Tests.{eq-eqb, ne-eqb}
-use Rattle.language.specs.Bytes.{both}
 use Rattle.language.specs.Kinds.{Spelled, reserved, signs}
 use Rattle.language.specs.Symbols.{Element, symbol, wrong, begins, same, kindIn, kindOf, signIn, sign}
 use Rattle.symbols.specs.Spellings.{spelled, spelledAt, spellingAt, entryOf}
@@ -76,7 +75,7 @@ begins-take : (ss bs : List ℕ) → begins ss (take (length ss) bs) ≡ begins 
 unfolding begins
 begins-take [] bs = refl
 begins-take (s ∷ ss) [] = refl
-begins-take (s ∷ ss) (b ∷ bs) = ap (both (eqb s b)) (begins-take ss bs)
+begins-take (s ∷ ss) (b ∷ bs) = ap (λ (t : Bool). eqb s b && t) (begins-take ss bs)
 
 module _ (ss text : List ℕ) (at width : ℕ) (h : at + width ≤ length text) where
   taken : length (take width (drop at text)) ≡ width

@@ -1,13 +1,12 @@
 -- Tables: one whose entries a function gives, which antt computes and compares with the code's, and a test that every entry of one passes.
 use Prim.Native.Nat.{ℕ, zero, suc, _+_, _<_}
 use mathlib.Core.Path.{_≡_, refl, ap, _∙_, sym}
-use mathlib.Core.Bool.{Bool, true, false}
+use mathlib.Core.Bool.{Bool, true, false, _&&_}
 use mathlib.Core.List.{List, [], _∷_}
 use native.Mathlib.Omega.{arith}
 use native.Mathlib.Nat.{add-zero, le-of-suc-le-suc, not-suc-le-zero}
 use lib.Dec.{T}
 use lib.ListN.{length, getD}
-use Rattle.language.specs.Bytes.{both}
 
 abbrev pub tabulate : (ℕ → ℕ) → (from count : ℕ) → List ℕ
 tabulate f i zero = []
@@ -21,17 +20,17 @@ tabulate-at f i (suc n) (suc k) h = tabulate-at f (suc i) n k (le-of-suc-le-suc 
 module _ {A : Type 0} (f : A → Bool) (d : A) where
   abbrev pub every : List A → Bool
   every [] = true
-  every (x ∷ xs) = both (f x) (every xs)
+  every (x ∷ xs) = f x && every xs
 
   pub each : (xs : List A) → T (every xs) → (k : ℕ) → k < length xs → T (f (getD xs k d))
   each [] t k h = absurd (not-suc-le-zero h)
   each (x ∷ xs) t zero h = first (f x) (every xs) t
     where
-      first : (a b : Bool) → T (both a b) → T a
+      first : (a b : Bool) → T (a && b) → T a
       first true b t = tt
       first false b t = t
   each (x ∷ xs) t (suc k) h = each xs (rest (f x) (every xs) t) k (le-of-suc-le-suc h)
     where
-      rest : (a b : Bool) → T (both a b) → T b
+      rest : (a b : Bool) → T (a && b) → T b
       rest true b t = t
       rest false b t = absurd t

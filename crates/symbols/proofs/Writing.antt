@@ -1,7 +1,7 @@
 -- Writing the symbols: entries appended in threes, semicolons by the line of the symbol before, and strings counted.
 use Prim.Native.Nat.{ℕ, zero, suc, _+_, _-_, _*_, _<_, _≤_}
 use mathlib.Core.Path.{_≡_, refl, sym, ap, _∙_}
-use mathlib.Core.Bool.{Bool, true, false, not, cond}
+use mathlib.Core.Bool.{Bool, true, false, not, cond, _&&_}
 use mathlib.Core.List.{List, [], _∷_, _++_, append-assoc, append-nil}
 use native.Mathlib.Omega.{arith}
 use native.Mathlib.Numerals.{add-one, add-two}
@@ -10,7 +10,6 @@ use lib.ListN.{length, getD, set, take, drop, replicate, length-append, length-r
 use lib.Seq.{sets, sets-eq, length-sets, take-at, length-take-le, set-at, drop-cons, take-append-le, take-take}
 use borrow.Author.Tests.{eq-eqb, ltb-true, ltb-false}
 use Rattle.text.specs.Line.{lineOf}
-use Rattle.language.specs.Bytes.{both}
 use Rattle.language.specs.Symbols.{Symbol, none, fault, Fault, Scan, ends, goesOn, scan}
 use Rattle.language.specs.Kinds.{member}
 use Rattle.language.specs.Semicolons.{endsLine, beginsLine, linesDiffer, gains, inserted, semicolonsAfter, semicolons}
@@ -172,7 +171,7 @@ module _ (text s₀ : List ℕ) (at count before strings : ℕ) (s : List ℕ) (
               let n : newline ≡ true = last (endsLine before) (beginsLine kind) (sym g ∙ k) in
               omega (arith, apart n, found .some, p .room)
             where
-              last : (a b : Bool) → both a (both b newline) ≡ true → newline ≡ true
+              last : (a b : Bool) → (a && (b && newline)) ≡ true → newline ≡ true
               last true true q = q
               last true false q = let w : _≡_ {A = ℕ} 0 1 = cc in absurd (omega arith)
               last false b q = let w : _≡_ {A = ℕ} 0 1 = cc in absurd (omega arith)

@@ -1,12 +1,11 @@
 -- What the parts of `read_symbols` give, beside language's own definitions.
 use Prim.Native.Nat.{ℕ, zero, suc, _+_, _*_, _<_, _≤_}
 use mathlib.Core.Path.{_≡_}
-use mathlib.Core.Bool.{Bool, true, not, cond}
+use mathlib.Core.Bool.{Bool, true, not, cond, _&&_}
 use mathlib.Core.List.{List, [], _∷_, _++_}
 use lib.Dec.{eqb, ltb}
 use lib.ListN.{length, getD, take, drop}
 use Rattle.text.specs.Line.{lineOf}
-use Rattle.language.specs.Bytes.{both}
 use Rattle.language.specs.Symbols.{Symbol, none, fault, Scan, ends, goesOn, scanFrom, scan, begins}
 use Rattle.language.specs.Symbols as S
 use Rattle.language.specs.Brackets as B
@@ -101,7 +100,7 @@ pub record Faults (text s : List ℕ) (answer : Fault) (s′ : List ℕ) : Type 
 -- ---- writing
 
 abbrev pub gain : (before kind : ℕ) (newline : Bool) → Bool
-gain before kind newline = both (endsLine before) (both (beginsLine kind) newline)
+gain before kind newline = endsLine before && (beginsLine kind && newline)
 
 -- a symbol and the semicolon before it, if there is one, after `count` others
 pub record Writes (count : ℕ) (semicolon : Bool) (kind value place : ℕ) (s : List ℕ) (count′ : ℕ) (s′ : List ℕ) : Type 0 where
