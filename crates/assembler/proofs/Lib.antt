@@ -11,4 +11,5 @@ pub mod Filling
 pub mod Image
 pub mod Assembling
 pub mod Acceptance
+pub mod Rendering
 pub mod Examples
