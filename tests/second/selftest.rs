@@ -2,10 +2,15 @@
 //! Built with `rustc --test`.
 
 mod assembler;
+mod grammar;
 mod machine;
+mod symbols;
 
 use assembler::{assemble, Assembly};
+use grammar::read_source;
 use machine::{resume, run, Ran, Registers};
+use std::path::{Path, PathBuf};
+use symbols::{kind::*, read_symbols, Symbol};
 
 const PROGRAM: usize = 416;
 
@@ -305,4 +310,489 @@ fn carried_on() {
     assert_eq!((ended.stop, ended.count, ended.taken, ended.written), (30, 4, 9, 9));
     let write = Registers { c: 5, ..past };
     assert_eq!(resume(write, 0, 9, &mut memory, b"", &mut output, 100).stop, 35);
+}
+
+// ---------------------------------------------------------------------------------------------------------------------
+// Sources
+
+/// Kind, value and place of each symbol.
+fn symbols_of(text: &str) -> Vec<(u32, u32, u32)> {
+    let symbols = read_symbols(text.as_bytes()).unwrap_or_else(|refusal| panic!("{text:?} {refusal:?}"));
+    symbols.iter().map(|&Symbol { kind, value, place }| (kind, value, place)).collect()
+}
+
+fn kinds_of(text: &str) -> Vec<u32> {
+    symbols_of(text).iter().map(|symbol| symbol.0).collect()
+}
+
+/// Number, place and line of a source's refusal up to 7.
+fn refusal_of(text: &[u8]) -> Option<(u64, usize, usize)> {
+    read_source(text).err().map(|refusal| (refusal.number, refusal.place, refusal.line))
+}
+
+/// A source that is refused where the mark `^` stands; the mark is taken out first.
+fn refused_at_mark(number: u64, marked: &str) {
+    let place = marked.find('^').unwrap_or_else(|| panic!("no mark in {marked:?}"));
+    let text = marked.replacen('^', "", 1);
+    let line = 1 + marked[..place].matches('\n').count();
+    assert_eq!(refusal_of(text.as_bytes()), Some((number, place, line)), "{marked:?}");
+}
+
+fn reads(text: &str) {
+    assert_eq!(refusal_of(text.as_bytes()), None, "{text:?}");
+}
+
+/// How a source is read, every operator in brackets and every inner command in a block, without its head and tail.
+fn read_between(head: &str, part: &str, tail: &str) -> String {
+    let text = format!("{head}{part}{tail}");
+    let tree = read_source(text.as_bytes()).unwrap_or_else(|refusal| panic!("{text:?} {refusal:?}"));
+    let told = tree.to_text(text.as_bytes());
+    told[head.len()..told.len() - tail.len()].to_string()
+}
+
+fn bracketed(expression: &str) -> String {
+    read_between("LET F() = ", expression, "")
+}
+
+fn blocked(commands: &str) -> String {
+    read_between("LET F() BE $( ", commands, " $)")
+}
+
+#[test]
+fn reading_s1_first_error() {
+    refused_at_mark(2, "LET LET ^% )");
+    refused_at_mark(5, "LET LET ^) %");
+    refused_at_mark(3, "LET ^99999 %");
+    refused_at_mark(2, "( ^% ");
+    refused_at_mark(4, "(\n^'% $)");
+    // These come before all of the grammar.
+    refused_at_mark(5, "; ; ; (^");
+}
+
+#[test]
+fn text_length() {
+    assert_eq!(refusal_of(b""), None);
+    assert_eq!(refusal_of(&[b' '; 16_384]), None);
+    assert_eq!(refusal_of(&[b'\n'; 16_385]), Some((1, 0, 1)));
+    assert_eq!(refusal_of(&[b'%'; 16_385]), Some((1, 0, 1)));
+    assert_eq!(refusal_of(&[b'%'; 16_384]), Some((2, 0, 1)));
+}
+
+#[test]
+fn reading_s2_bytes_that_start_nothing() {
+    for byte in 0..=255u8 {
+        let wanted = match byte {
+            b' ' | b'\t' | b'\r' | b'\n' | b'A'..=b'Z' | b'0'..=b'9' => None,
+            b'+' | b'-' | b'*' | b'/' | b'=' | b'<' | b'>' | b'&' | b'|' | b'!' | b'@' | b',' | b';' | b':' => None,
+            b'(' => Some((5, 3, 2)),
+            b')' => Some((5, 2, 2)),
+            b'#' => Some((3, 2, 2)),
+            b'\'' | b'"' => Some((4, 2, 2)),
+            _ => Some((2, 2, 2)),
+        };
+        let refused = read_symbols(&[b'A', b'\n', byte]).err();
+        assert_eq!(refused.map(|refusal| (refusal.number, refusal.place, refusal.line)), wanted, "{byte}");
+    }
+    refused_at_mark(2, "^~<");
+    refused_at_mark(2, "A ^~");
+    refused_at_mark(2, "^$ (");
+    refused_at_mark(2, "A ^$");
+    refused_at_mark(2, "A^b");
+    assert_eq!(kinds_of("A // a small letter, ~ $ ' \" ( and % \u{e9}\n~="), [NAME, UNEQUAL]);
+}
+
+#[test]
+fn reading_s3_words() {
+    let words =
+        "GLOBAL MANIFEST LET AND BE VEC VALOF RESULTIS TRUE FALSE NOT REM TEST DO OR IF UNLESS WHILE UNTIL REPEAT \
+                 REPEATWHILE REPEATUNTIL FOR TO BY SWITCHON INTO CASE DEFAULT ENDCASE BREAK LOOP RETURN FINISH";
+    assert_eq!(kinds_of(words), (1..=34).collect::<Vec<u32>>());
+    let signs = "+ - * / = ~= < <= > >= << >> & | ! @ ( ) , ; : := $( $)";
+    assert_eq!(kinds_of(signs), (35..=58).collect::<Vec<u32>>());
+    assert_eq!(symbols_of("LETTER LET. DO1"), [(NAME, 6, 0), (NAME, 4, 7), (NAME, 3, 12)]);
+    assert_eq!(symbols_of("A1.B..2 FOR"), [(NAME, 7, 0), (FOR, 3, 8)]);
+    refused_at_mark(2, "A ^.B");
+    // The longest sign is taken.
+    assert_eq!(kinds_of("<<=<=>>=>=:=:<>~=="), [45, 39, 42, 46, 39, 44, 56, 55, 41, 43, 40, 39]);
+}
+
+#[test]
+fn reading_s4_numbers() {
+    assert_eq!(symbols_of("0 32767 00000000000032767"), [(60, 0, 0), (60, 32767, 2), (60, 32767, 8)]);
+    assert_eq!(symbols_of("#0 #177777 #0000000177777"), [(60, 0, 0), (60, 65535, 3), (60, 65535, 11)]);
+    assert_eq!(symbols_of("#178"), [(60, 15, 0), (60, 8, 3)]);
+    assert_eq!(symbols_of("12A"), [(60, 12, 0), (59, 1, 2)]);
+    for number in ["32768", "65536", "0099999", "99999999999999999999999", "#", "#8", "# 1", "#A", "#200000", "##1"] {
+        refused_at_mark(3, &format!("A ^{number}"));
+    }
+    refused_at_mark(3, "LET F() = -^32768");
+}
+
+#[test]
+fn reading_s5_characters_and_strings() {
+    for (character, value) in
+        [("A", 65), (" ", 32), ("~", 126), ("\"", 34), ("/", 47), ("*'", 39), ("*\"", 34), ("**", 42)]
+    {
+        assert_eq!(symbols_of(&format!("'{character}'")), [(NUMBER, value, 0)]);
+    }
+    for (character, value) in [("*N", 10), ("*S", 32), ("*T", 9), ("*B", 8), ("*P", 12), ("*C", 13)] {
+        assert_eq!(symbols_of(&format!("'{character}'")), [(NUMBER, value, 0)]);
+    }
+    assert_eq!(symbols_of("'A''B'"), [(NUMBER, 65, 0), (NUMBER, 66, 3)]);
+    assert_eq!(symbols_of("\"\" A \"'*\"**\" \"//\""), [(61, 0, 0), (59, 1, 3), (61, 1, 5), (61, 2, 13)]);
+    for text in [
+        "'", "''", "'''", "'A", "'AB'", "'*'", "'*", "'*N", "'*Q'", "'*n'", "'*1'", "'\t'", "'\n'", "'\u{1f}'",
+        "'\u{7f}'", "'\u{e9}'", "'*N*N'", "\"", "\"A", "\"*\"", "\"*", "\"*Q\"", "\"*n\"", "\"\t\"", "\"A\nB\"",
+        "\"\u{7f}\"", "\"\u{1f}\"", "\"\u{80}\"",
+    ] {
+        refused_at_mark(4, &format!("A \n ^{text}"));
+    }
+    for part in ["A", "*N", "'", "*\""] {
+        assert_eq!(symbols_of(&format!("\"{}\"", part.repeat(255))), [(STRING, 0, 0)]);
+        refused_at_mark(4, &format!("^\"{}\"", part.repeat(256)));
+    }
+}
+
+#[test]
+fn reading_s6_comments() {
+    assert_eq!(kinds_of("A // B\nC"), [NAME, SEMICOLON, NAME]);
+    assert_eq!(kinds_of("A / / B // C \r D\r\n// E"), [NAME, SLASH, SLASH, NAME]);
+    assert_eq!(kinds_of("//"), []);
+    assert_eq!(kinds_of("///\n/"), [SLASH]);
+    assert_eq!(kinds_of("A\rB"), [NAME, NAME]);
+}
+
+#[test]
+fn reading_s7_brackets() {
+    refused_at_mark(5, "^)");
+    refused_at_mark(5, "( ) ^$)");
+    refused_at_mark(5, "( ^$) )");
+    refused_at_mark(5, "$( ( ^$)");
+    refused_at_mark(5, "$( ^) $)");
+    refused_at_mark(5, "(\n ^");
+    refused_at_mark(5, "$( ( )^");
+    reads("LET F() BE $( $( G((1), (2)) $) $)");
+}
+
+#[test]
+fn reading_s8_inserted_semicolons() {
+    let firsts = [
+        "BREAK", "RETURN", "FINISH", "ENDCASE", "REPEAT", "$( $)", "( )", "A", "\"\"", "1", "#1", "'A'", "TRUE",
+        "FALSE",
+    ];
+    let other_firsts = [
+        "LOOP", "REPEATWHILE", "DO", "OR", "VALOF", "RESULTIS", "NOT", "DEFAULT", "INTO", "BE", ";", ":", ":=", ",",
+        "+", "!", "@", "=",
+    ];
+    let seconds = [
+        "TEST", "FOR", "IF", "UNLESS", "UNTIL", "WHILE", "SWITCHON", "RESULTIS", "CASE", "DEFAULT", "BREAK", "LOOP",
+        "ENDCASE", "RETURN", "FINISH", "$( $)", "( )", "VALOF", "A",
+    ];
+    let other_seconds = [
+        "REPEAT", "REPEATWHILE", "DO", "THEN", "OR", "LET", "AND", "VEC", "TRUE", "1", "'A'", "\"\"", "NOT", "-", "!",
+        "@", ";", ":=", "TO", "BY", "INTO", "GLOBAL",
+    ];
+    let inserts = |first: &str, second: &str| {
+        let symbols = |between: &str| kinds_of(&format!("{first}{between}{second}"));
+        assert!(symbols(" ") == symbols("\r") && symbols("\n") == symbols(" // ( \n\n\t"), "{first} {second}");
+        symbols("\n").len() - symbols(" ").len() == 1
+    };
+    for first in firsts {
+        assert!(seconds.iter().all(|second| inserts(first, second)), "{first}");
+        assert!(!other_seconds.iter().any(|second| inserts(first, second)), "{first}");
+    }
+    for first in other_firsts {
+        assert!(!seconds.iter().any(|second| inserts(first, second)), "{first}");
+    }
+    assert_eq!(kinds_of("$(\n(\nA\n)\n$)"), [BEGIN, OPEN, NAME, CLOSE, END]);
+    // Its place is that of the symbol before which it stands.
+    assert_eq!(symbols_of("F\n\n (X)")[..3], [(NAME, 1, 0), (SEMICOLON, 0, 4), (OPEN, 0, 4)]);
+    refused_at_mark(6, "LET F() BE G\n ^(X)");
+}
+
+#[test]
+fn reading_s9_lines() {
+    refused_at_mark(6, "LET F() BE\n\n^");
+    refused_at_mark(6, "\r\n\n^1\n");
+    refused_at_mark(5, "\n(\n\n^");
+}
+
+#[test]
+fn reading_s10_then_and_characters() {
+    assert_eq!(symbols_of("THEN DO"), [(DO, 4, 0), (DO, 2, 5)]);
+    reads("MANIFEST $( A = 'A'; B = -'*N' $) LET F() BE $( LET V = VEC 'A'; IF A THEN BREAK $)");
+}
+
+#[test]
+fn reading_g1_binding() {
+    assert_eq!(bracketed("A!F(X)"), "(A ! F)(X)");
+    assert_eq!(bracketed("F(X)!A!B(Y)()"), "((F(X) ! A) ! B)(Y)()");
+    assert_eq!(bracketed("!A!B(C)"), "(! (A ! B)(C))");
+    assert_eq!(bracketed("A | B & NOT C << D + E"), "(A | (B & (NOT (C << (D + E)))))");
+    assert_eq!(bracketed("A - B - C + D"), "(((A - B) - C) + D)");
+    assert_eq!(bracketed("A / B * C REM D"), "(((A / B) * C) REM D)");
+    assert_eq!(bracketed("A + B * C ! D = E - F << G + H >> I"), "((((A + (B * (C ! D))) = (E - F)) << (G + H)) >> I)");
+    assert_eq!(bracketed("NOT A = B & C | D & E"), "(((NOT (A = B)) & C) | (D & E))");
+    assert_eq!(bracketed("-A * B + C"), "((- (A * B)) + C)");
+    assert_eq!(bracketed("(A + B) * \"S*N\"(TRUE, FALSE)"), "((A + B) * \"S*N\"(TRUE, FALSE))");
+}
+
+#[test]
+fn reading_g2_monadic_operators() {
+    assert_eq!(bracketed("A * - B * C"), "(A * (- (B * C)))");
+    assert_eq!(bracketed("A * NOT B + C"), "(A * (NOT (B + C)))");
+    assert_eq!(bracketed("A * NOT B + C & D"), "((A * (NOT (B + C))) & D)");
+    assert_eq!(bracketed("A ! - B * C + D"), "((A ! (- (B * C))) + D)");
+    assert_eq!(bracketed("! - A * B"), "(! (- (A * B)))");
+    assert_eq!(bracketed("- ! A * B"), "(- ((! A) * B))");
+    assert_eq!(bracketed("@ ! A ! B + C"), "((@ (! (A ! B))) + C)");
+    assert_eq!(bracketed("A << NOT B << C"), "(A << (NOT (B << C)))");
+    assert_eq!(bracketed("A = NOT B = C"), "(A = (NOT (B = C)))");
+    assert_eq!(bracketed("NOT NOT - + A"), "(NOT (NOT (- (+ A))))");
+    // An operand that NOT begins may stand before a relation, once NOT's own operand can take no more.
+    assert_eq!(bracketed("NOT A >> 5 = 14"), "((NOT (A >> 5)) = 14)");
+    assert_eq!(bracketed("A * NOT B < C < D"), "((A * (NOT (B < C))) < D)");
+}
+
+#[test]
+fn reading_g3_valof() {
+    assert_eq!(bracketed("1 + VALOF $( RESULTIS 1 $) * 2"), "(1 + ((VALOF $( RESULTIS 1 $)) * 2))");
+    assert_eq!(bracketed("VALOF WHILE G DO LOOP\n(3)"), "(VALOF $( WHILE G DO $( LOOP $) $))(3)");
+    assert_eq!(bracketed("A ! VALOF RESULTIS B ! C"), "(A ! (VALOF $( RESULTIS (B ! C) $)))");
+    assert_eq!(blocked("VALOF BREAK (3)"), "(VALOF $( BREAK $))(3)");
+    refused_at_mark(6, "LET F() BE $( VALOF G() ^$)");
+}
+
+#[test]
+fn reading_g4_ladder() {
+    refused_at_mark(6, "LET F() = A >> 5 ^= 14");
+    refused_at_mark(6, "LET F() = 1 < A ^< 3");
+    refused_at_mark(6, "LET F() = A = NOT B = C ^~= D");
+    assert_eq!(bracketed("14 = A >> 5"), "((14 = A) >> 5)");
+    assert_eq!(bracketed("A >> 5 & B = 14"), "((A >> 5) & (B = 14))");
+}
+
+#[test]
+fn reading_g4a_longest_reading() {
+    refused_at_mark(6, "LET F() = VALOF F() + 1^");
+    refused_at_mark(6, "LET F() = G(VALOF F(), 3^)");
+    refused_at_mark(6, "LET F() BE $( LET A = B -C ^:= 1 $)");
+    assert_eq!(blocked("LET B, C = VALOF A := 1, 2"), "LET B, C = (VALOF $( A := 1 $)), 2; ");
+    assert_eq!(bracketed("G(VALOF A := 1, 2)"), "G((VALOF $( A := 1 $)), 2)");
+    assert_eq!(blocked("A\n!B := 1"), "(A ! B) := 1");
+    assert_eq!(blocked("LET A = 1 @B := 2"), "LET A = 1; (@ B) := 2");
+    // After labels, what can begin a command begins one.
+    refused_at_mark(6, "LET F() = VALOF CASE 1: + 2^");
+    assert_eq!(bracketed("VALOF CASE 1: * 2"), "((VALOF $( CASE 1:  $)) * 2)");
+}
+
+#[test]
+fn reading_g5_places() {
+    for commands in [
+        "A, B := 1^;",
+        "A := 1^, 2",
+        "A^;",
+        "A + F()^;",
+        "LET F^(A) = 1",
+        "LET V, W = ^VEC 1",
+        "(F())^;",
+        "A, F() ^;",
+        "F()^G()",
+        "F() + 1^;",
+        "-F()^;",
+        "F()!A^;",
+        "LET A = 1 ^AND B = 2",
+        "LET A ^:= 1",
+        "IF A ^A := 1",
+        "IF ^DO A := 1",
+        "TEST A DO B := 1 ^; C := 2",
+        "FOR ^1 = 1 TO 2 DO BREAK",
+        "FOR I = 1 TO 2 BY ^+1 DO BREAK",
+        "FOR I ^TO 2 DO BREAK",
+        "SWITCHON A INTO ^F()",
+        "^REPEAT",
+        "F() REPEATWHILE ^;",
+        "A = 1^;",
+        "A := 1 ^LET B = 2",
+        "A := 1; ^LET B = 2",
+        "^GLOBAL $( A:1 $)",
+        "F(^,)",
+        "F(1,^)",
+        "F(1 ^2)",
+        "A := (^)",
+        "^OR",
+        "BREAK ^1",
+        "^, A := 1",
+    ] {
+        refused_at_mark(6, &format!("LET F() BE $( {commands} $)"));
+    }
+    for text in [
+        "LET START()^", "LET START() BE^", "LET START() BE A^", "LET START() BE FOO(^,)", "LET A ^= 1",
+        "LET A^, B = 1", "LET F(^1) = 1", "LET F(A ^B) = 1", "LET F(A,^) = 1", "LET F() ^:= 1", "^A := 1",
+        "LET F() = 1 ^2", "LET F() = ^",
+    ] {
+        refused_at_mark(6, text);
+    }
+    reads("LET F() BE 1 + 2, G() := 3, 4");
+    reads("LET F() BE F() := 1");
+}
+
+#[test]
+fn reading_g6_labels() {
+    assert_eq!(blocked("CASE 1: CASE -A: DEFAULT: F()"), "CASE 1: CASE -A: DEFAULT: F()");
+    assert_eq!(blocked("CASE TRUE: ; DEFAULT:"), "CASE TRUE: ; DEFAULT: ");
+    let told = "TEST A DO $( CASE 1:  $) OR $( DEFAULT: $(  $) $)";
+    assert_eq!(blocked("TEST A DO CASE 1: OR DEFAULT: $( $)"), told);
+    assert_eq!(bracketed("F(VALOF CASE 1: , 2)"), "F((VALOF $( CASE 1:  $)), 2)");
+    for commands in ["CASE 1: ; ^;", "CASE 1 ^F()", "CASE ^: F()", "CASE ^(1): F()", "DEFAULT ^1:"] {
+        refused_at_mark(6, &format!("LET F() BE $( {commands} $)"));
+    }
+}
+
+#[test]
+fn reading_g7_repeat() {
+    let told = "IF A DO $( $( $( $( F() $) REPEAT $) REPEATWHILE B $) REPEATUNTIL C $)";
+    assert_eq!(blocked("IF A DO F() REPEAT REPEATWHILE B REPEATUNTIL C"), told);
+    assert_eq!(blocked("A := B + C REPEAT; $( $) REPEAT"), "$( A := (B + C) $) REPEAT; $(  $) REPEAT");
+    assert_eq!(blocked("A := VALOF F() REPEAT"), "A := (VALOF $( $( F() $) REPEAT $))");
+    // A command that ends in an empty one may be repeated; the empty one may not.
+    assert_eq!(blocked("IF A DO CASE 1: REPEAT"), "$( IF A DO $( CASE 1:  $) $) REPEAT");
+}
+
+#[test]
+fn reading_g8_lists_and_semicolons() {
+    for text in [
+        "GLOBAL $( ^$)",
+        "MANIFEST $(^;$)",
+        "LET F() BE SWITCHON A INTO $( ^$)",
+        "LET F() BE SWITCHON A INTO $( ^LET A = 1; CASE 1: $)",
+        "GLOBAL $( A^=1 $)",
+        "MANIFEST $( A^:1 $)",
+        "GLOBAL $( A:1;^; $)",
+        "GLOBAL $( A:1 ^B:2 $)",
+        "MANIFEST $( A=1 ^+ 1 $)",
+        "LET A() = 1; ^AND B() = 2",
+        "LET A() = 1;^;",
+        "^;",
+        "LET F() BE $( ; ^F() $)",
+        "LET F() BE $( ;^; $)",
+        "LET F() BE $( LET A = 1; ; ^A := 2 $)",
+        "LET F() BE $( A := 1;^; $)",
+    ] {
+        refused_at_mark(6, text);
+    }
+    for text in [
+        "GLOBAL $( A:1 $)",
+        "GLOBAL $( A:1;B:2; $);MANIFEST $( A=1\nB=-TRUE;$)",
+        "LET F() = 1 AND G() BE $( $); LET H() = 2;",
+        "LET F() BE $( ; $)",
+        "LET F() BE $( LET A = 1 $)",
+        "LET F() BE $( LET A = 1; $)",
+        "LET F() BE $( LET A = 1; ; $)",
+        "LET F() BE $( LET A = 1 LET V = VEC 2 A := 2; $)",
+        "LET F() BE SWITCHON A INTO $( F(); $)",
+        "LET F(A, B) BE FINISH",
+    ] {
+        reads(text);
+    }
+}
+
+#[test]
+fn reading_g8a_empty_and_constants() {
+    refused_at_mark(6, "LET F() BE SWITCHON A INTO $( CASE 1: ^REPEAT $)");
+    for constant in ["-^-1", "^+1", "^(1)", "^\"\"", "^NOT 1", "-^(1)", "^@A", "1^!2", "A^(1)"] {
+        refused_at_mark(6, &format!("MANIFEST $( A = {constant} $)"));
+    }
+    refused_at_mark(3, "MANIFEST $( A = -^32768 $)");
+}
+
+#[test]
+fn reading_g9_g10_levels() {
+    // What stands before and how many levels it holds, what opens one level (the mark at its first symbol), the inmost
+    // part, what closes a level, and what stands after.
+    for (head, held, open, inmost, close, tail) in [
+        ("LET F() = ", 0, "^(", "1", ")", ""),
+        ("LET F() = ", 0, "F^(", "1", ")", ""),
+        ("LET F() = ", 0, "^-", "1", "", ""),
+        ("LET F() = ", 0, "^+", "1", "", ""),
+        ("LET F() = ", 0, "^!", "A", "", ""),
+        ("LET F() = ", 0, "^@", "A", "", " + (1)"),
+        ("LET F() = ", 0, "^NOT ", "A", "", ""),
+        ("LET F() BE A := ", 1, "^(", "1", ")", " REPEATWHILE (1)"),
+        ("LET F() BE ", 0, "^IF A DO ", "CASE 1:", "", ""),
+        ("LET F() BE ", 0, "^$( ", "", "$)", " LET G() BE BREAK"),
+        ("LET F() BE ", 0, "^SWITCHON A INTO $( CASE 1: ", "CASE 2:", "$)", ""),
+        ("LET F() BE ", 0, "^FOR I = A TO B DO DEFAULT: ", "CASE 1:", "", ""),
+        ("LET F() BE $( LET A = 1; G((2)); G(", 3, "^(", "1", ")", ") REPEAT; G((3)) $)"),
+    ] {
+        let plain = open.replace('^', "");
+        let nest = |inner: &str, many: usize| {
+            format!("{head}{}{inner}{inmost}{}{tail}", plain.repeat(63 - held), close.repeat(63 - held + many))
+        };
+        reads(&nest(&plain, 1));
+        refused_at_mark(7, &nest(&format!("{plain}{open}"), 2));
+    }
+    // VALOF and its command are a level each.
+    let valofs = "VALOF RESULTIS ".repeat(31);
+    reads(&format!("LET F() = {valofs} VALOF RESULTIS 1"));
+    refused_at_mark(7, &format!("LET F() = {valofs} VALOF RESULTIS ^-1"));
+    refused_at_mark(7, &format!("LET F() = {valofs} (VALOF ^BREAK)"));
+    reads(&format!("LET F() = {valofs} (VALOF CASE 1:)"));
+    // A constant's minus is a level where it stands; a label's stands outside its command's.
+    let ifs = "IF A DO ".repeat(63);
+    reads(&format!("LET F() BE {ifs} CASE -1: CASE 2: BREAK"));
+    refused_at_mark(7, &format!("LET F() BE {ifs} FOR I = 1 TO 2 BY ^-1 DO CASE 1:"));
+    refused_at_mark(7, &format!("LET F() BE {ifs} $( LET V = VEC ^-1 $)"));
+    refused_at_mark(7, &format!("LET F() BE {ifs} IF A DO CASE ^-1:"));
+    // The condition of a REPEAT form is within its command's level.
+    reads(&format!("LET F() BE {ifs} BREAK REPEATWHILE A"));
+    refused_at_mark(7, &format!("LET F() BE {ifs} BREAK REPEATWHILE ^(A)"));
+    // A symbol that may not stand there is 6, deep as it is.
+    refused_at_mark(6, &format!("LET F() BE {ifs} IF A DO ^;"));
+    refused_at_mark(7, &format!("LET F() BE {ifs} IF A DO ^A"));
+    refused_at_mark(6, &format!("LET F() BE {ifs} A := ^* 2"));
+    // Levels are given back.
+    let deepest = format!("{}1{}", "(".repeat(63), ")".repeat(63));
+    reads(&format!("LET F() BE A, B := {deepest} + {deepest}, {deepest} LET G() = ({deepest})"));
+}
+
+// ---------------------------------------------------------------------------------------------------------------------
+// The vectors
+
+/// The folder of the vectors, from the repository's root.
+fn vectors() -> PathBuf {
+    PathBuf::from("tests/vectors")
+}
+
+fn file(path: &Path) -> Vec<u8> {
+    std::fs::read(path).unwrap_or_else(|error| panic!("{}: {error}", path.display()))
+}
+
+#[test]
+fn vectors_texts() {
+    let folder = vectors();
+    let expected = String::from_utf8(file(&folder.join("texts/expected"))).expect("plain text");
+    for line in expected.lines() {
+        let (name, answer) = line.split_once(' ').expect("a name and an answer");
+        let text = file(&folder.join(format!("texts/{name}.b")));
+        let wanted = match answer.split(' ').collect::<Vec<&str>>()[..] {
+            ["refused", number, "at", place, "line", line] => {
+                let [number, place, line] =
+                    [number, place, line].map(|field| field.parse::<usize>().expect("a number"));
+                (number <= 7).then_some((number as u64, place, line))
+            }
+            _ => None,
+        };
+        assert_eq!(refusal_of(&text), wanted, "{line}");
+    }
+}
+
+#[test]
+fn vectors_runs() {
+    let folder = vectors();
+    let expected = String::from_utf8(file(&folder.join("runs/expected"))).expect("plain text");
+    for line in expected.lines() {
+        let name = line.split(' ').next().expect("a name");
+        assert_eq!(refusal_of(&file(&folder.join(format!("runs/{name}.b")))), None, "{line}");
+    }
 }
