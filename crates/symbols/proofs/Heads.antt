@@ -1,16 +1,14 @@
 -- What stands at a place, by the class of the byte there; words and comments.
-use Prim.Native.Nat.{ℕ, suc, _+_, _<_, _≤_}
-use mathlib.Core.Path.{_≡_, refl, sym, ap, _∙_}
-use mathlib.Core.Bool.{Bool, true, false, cond, _&&_}
+use Prim.Native.Nat.{ℕ, _+_, _<_, _≤_}
+use mathlib.Core.Path.{_≡_, refl, sym, _∙_}
+use mathlib.Core.Bool.{Bool, true, false, _&&_}
 use mathlib.Core.List.{List, [], _∷_}
-use native.Mathlib.Omega.{arith}
 use lib.Dec.{eqb, leb}
 use lib.ListN.{length, getD, take, drop}
-use lib.Seq.{drop-drop}
 use borrow.Author.Tests.{eq-eqb, ne-eqb, eqb-true, eqb-false, le-leb, lt-leb}
 use Rattle.text.proofs.Bytes.{at-byte, past-end, Unlike}
 use Rattle.language.specs.Bytes.{classOf}
-use Rattle.language.specs.Symbols.{Element, symbol, wrong, begins, inWord, wordWidth, kindOf, word, toLineEnd, comment, sign, signOrComment, byClass}
+use Rattle.language.specs.Symbols.{wrong, begins, inWord, wordWidth, kindOf, word, toLineEnd, comment, sign, signOrComment, byClass}
 use Rattle.symbols.specs.Parts.{slashes}
 use Rattle.symbols.specs.Answers.{asElement}
 use Rattle.symbols.specs.declared.elements.Element.the-variants as E

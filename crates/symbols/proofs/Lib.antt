@@ -8,6 +8,8 @@ pub mod Heads
 pub mod Lines
 pub mod Scanning
 pub mod Matching
-pub mod Small
+pub mod Tests
+pub mod Semicolons
 pub mod Writing
 pub mod Reading
+pub mod Examples

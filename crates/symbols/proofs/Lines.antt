@@ -1,19 +1,19 @@
 -- What stands at a place is at least a byte, ends within the text, and holds no newline, unless it is a gap of that one byte.
 use Prim.Native.Nat.{ℕ, zero, suc, _+_, _-_, _<_, _≤_}
 use mathlib.Core.Path.{_≡_, refl, sym, ap, _∙_}
-use mathlib.Core.Bool.{Bool, true, false, cond, _&&_}
+use mathlib.Core.Bool.{Bool, true, false, not, cond, _&&_}
 use mathlib.Core.List.{List, [], _∷_}
 use native.Mathlib.Omega.{arith}
-use lib.Dec.{eqb, leb, ltb}
-use lib.ListN.{length, getD, take, drop}
-use borrow.Author.Tests.{eq-eqb, ne-eqb, eqb-true, leb-true, ltb-true, lt-ltb}
+use lib.Dec.{T, T-not, eqb, leb, ltb}
+use lib.ListN.{length, take}
+use borrow.Author.Tests.{ne-eqb, eqb-true, leb-true, ltb-true, lt-ltb}
 use Rattle.text.specs.Line.{newlines}
 use Rattle.text.specs.Quoted as Q
 use Rattle.text.specs.Quoted.{Quoted, closed, faulty, quoted}
 use Rattle.text.proofs.Quotes.{Written, is-written, ascii, Closed, is-closed}
-use Rattle.language.specs.Bytes.{classOf, between, LETTER, DIGIT, HASH, QUOTE, DOUBLE, SIGN, SEPARATOR, NEWLINE}
-use Rattle.language.specs.Kinds.{Spelled, NUMBER, STRING, reserved, signs}
-use Rattle.language.specs.Symbols.{Element, symbol, gap, wrong, begins, inWord, wordWidth, same, kindIn, kindOf, word, digitOf, digits, valueOf, decimal, octal, asCharacter, character, asString, string, signIn, sign, toLineEnd, comment, signOrComment, byClass}
+use Rattle.language.specs.Bytes.{between, classOf, LETTER, DIGIT, HASH, QUOTE, DOUBLE, SIGN, SEPARATOR, NEWLINE}
+use Rattle.language.specs.Kinds.{Spelled, reserved, signs}
+use Rattle.language.specs.Symbols.{Element, symbol, gap, wrong, begins, inWord, wordWidth, same, kindIn, kindOf, word, digitOf, digits, valueOf, decimal, octal, asCharacter, character, asString, string, signIn, sign, comment, signOrComment, byClass}
 use Rattle.symbols.proofs.Runs.{Run, word-run, digits-run, comment-run, run-within, run-line}
 use Rattle.symbols.proofs.Numbers.{from-digits}
 use Rattle.symbols.proofs.Table.{every}
@@ -160,7 +160,24 @@ other-class c m e h k = h (sym e ∙ ap classOf k)
 
 -- a byte that is neither a letter nor a digit
 abbrev others : ℕ → ℕ
-others c = cond (eqb c 46) 3 (cond (eqb c 35) 4 (cond (eqb c 39) 5 (cond (eqb c 34) 6 (cond (eqb c 32) 8 (cond (eqb c 9) 8 (cond (eqb c 13) 8 (cond (eqb c 10) 9 (cond (eqb c 33) 7 (cond (eqb c 36) 7 (cond (eqb c 38) 7 (cond (between 40 45 c) 7 (cond (eqb c 47) 7 (cond (between 58 62 c) 7 (cond (eqb c 64) 7 (cond (eqb c 124) 7 (cond (eqb c 126) 7 0))))))))))))))))
+others c =
+    cond (eqb c 46) 3
+    (cond (eqb c 35) 4
+    (cond (eqb c 39) 5
+    (cond (eqb c 34) 6
+    (cond (eqb c 32) 8
+    (cond (eqb c 9) 8
+    (cond (eqb c 13) 8
+    (cond (eqb c 10) 9
+    (cond (eqb c 33) 7
+    (cond (eqb c 36) 7
+    (cond (eqb c 38) 7
+    (cond (between 40 45 c) 7
+    (cond (eqb c 47) 7
+    (cond (between 58 62 c) 7
+    (cond (eqb c 64) 7
+    (cond (eqb c 124) 7
+    (cond (eqb c 126) 7 0))))))))))))))))
 
 -- a byte of the class of digits is a digit
 digit-class : (c : ℕ) → classOf c ≡ 2 → digitOf 10 c ≡ true
@@ -173,12 +190,29 @@ digit-class c = by (between 65 90 c) (between 48 57 c) refl
         let h : c ≤ 57 = leb-true c 57 (both-right (leb 48 c) (leb c 57) e) in
         from-digits 10 c l ∙ lt-ltb c 58 (omega arith)
 
-    never : (t : Bool) (k : ℕ) {n : ℕ} → (k ≡ 2 → ⊥) → (n ≡ 2 → ⊥) → cond t k n ≡ 2 → ⊥
-    never true k a b = a
+    never : (t : Bool) (k : ℕ) {n : ℕ} → T (not (eqb k 2)) → (n ≡ 2 → ⊥) → cond t k n ≡ 2 → ⊥
+    never true k a b = λ e. T-not (eqb k 2) a (rw e tt)
     never false k a b = b
 
     rest : others c ≡ 2 → ⊥
-    rest = never (eqb c 46) 3 (λ e. omega arith) (never (eqb c 35) 4 (λ e. omega arith) (never (eqb c 39) 5 (λ e. omega arith) (never (eqb c 34) 6 (λ e. omega arith) (never (eqb c 32) 8 (λ e. omega arith) (never (eqb c 9) 8 (λ e. omega arith) (never (eqb c 13) 8 (λ e. omega arith) (never (eqb c 10) 9 (λ e. omega arith) (never (eqb c 33) 7 (λ e. omega arith) (never (eqb c 36) 7 (λ e. omega arith) (never (eqb c 38) 7 (λ e. omega arith) (never (between 40 45 c) 7 (λ e. omega arith) (never (eqb c 47) 7 (λ e. omega arith) (never (between 58 62 c) 7 (λ e. omega arith) (never (eqb c 64) 7 (λ e. omega arith) (never (eqb c 124) 7 (λ e. omega arith) (never (eqb c 126) 7 (λ e. omega arith) (λ e. omega arith)))))))))))))))))
+    rest =
+        never (eqb c 46) 3 tt
+        (never (eqb c 35) 4 tt
+        (never (eqb c 39) 5 tt
+        (never (eqb c 34) 6 tt
+        (never (eqb c 32) 8 tt
+        (never (eqb c 9) 8 tt
+        (never (eqb c 13) 8 tt
+        (never (eqb c 10) 9 tt
+        (never (eqb c 33) 7 tt
+        (never (eqb c 36) 7 tt
+        (never (eqb c 38) 7 tt
+        (never (between 40 45 c) 7 tt
+        (never (eqb c 47) 7 tt
+        (never (between 58 62 c) 7 tt
+        (never (eqb c 64) 7 tt
+        (never (eqb c 124) 7 tt
+        (never (eqb c 126) 7 tt (λ e. omega arith)))))))))))))))))
 
     by : (a b : Bool) → between 48 57 c ≡ b → cond a 1 (cond b 2 (others c)) ≡ 2 → digitOf 10 c ≡ true
     by true b e k = absurd (omega arith)

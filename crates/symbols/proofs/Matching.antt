@@ -10,8 +10,7 @@ use lib.ListN.{length, getD, set, length-set}
 use lib.Seq.{sets, getD-set-same, getD-set-other}
 use borrow.Author.Tests.{eq-eqb, ne-eqb}
 use Rattle.text.proofs.Bytes.{Unlike}
-use Rattle.language.specs.Symbols.{none, fault, Scan, ends, goesOn, scanFrom, scan}
-use Rattle.language.specs.Symbols as S
+use Rattle.language.specs.Symbols.{none, fault, goesOn, scan}
 use Rattle.language.specs.Brackets as B
 use Rattle.language.specs.Brackets.{matched, unmatched, brackets, firstFault}
 use Rattle.symbols.specs.Answers.{asFault}

@@ -2,7 +2,7 @@
 use Prim.Native.Nat.{ℕ, suc, _+_, _-_, _*_, _<_, _≤_}
 use mathlib.Core.Path.{_≡_, refl, sym, ap, _∙_}
 use mathlib.Core.Logic.{_⊎_, inl, inr, ⊎-elim}
-use mathlib.Core.Bool.{Bool, true, false, cond, _&&_}
+use mathlib.Core.Bool.{Bool, true, false, _&&_}
 use mathlib.Core.List.{List, [], _∷_}
 use native.Mathlib.Omega.{arith}
 use native.Mathlib.Nat.{mul-le-mul, le-mul-of-pos-right}
@@ -10,7 +10,7 @@ use lib.Dec.{leb, ltb}
 use lib.ListN.{length, getD, drop}
 use borrow.Author.Tests.{lt-ltb, le-ltb, le-leb, lt-leb, leb-true, ltb-true, ltb-false}
 use Rattle.text.proofs.Bytes.{at-byte, past-end}
-use Rattle.language.specs.Symbols.{symbol, wrong, digitOf, digits, valueOf, decimal, octal}
+use Rattle.language.specs.Symbols.{digitOf, digits, valueOf, decimal, octal}
 use Rattle.symbols.specs.Parts.{capped}
 use Rattle.symbols.specs.Answers.{asElement}
 use Rattle.symbols.specs.declared.elements.Element.the-variants as E
@@ -28,7 +28,7 @@ digit-from base c e = go (leb 48 c) refl
   where
     go : (t : Bool) → leb 48 c ≡ t → 48 ≤ c
     go true k = leb-true 48 c k
-    go false k = let y : false ≡ true = sym (ap (λ (t : Bool). (t && ltb c (48 + base))) k) ∙ e in let z : _≡_ {A = ℕ} 0 1 = cc in absurd (omega arith)
+    go false k = let y : false ≡ true = sym (ap (λ (t : Bool). (t && (ltb c (48 + base)))) k) ∙ e in let z : _≡_ {A = ℕ} 0 1 = cc in absurd (omega arith)
 
 -- ---- large values
 

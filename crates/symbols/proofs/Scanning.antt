@@ -9,12 +9,12 @@ use native.Mathlib.Nat.{add-zero}
 use lib.Dec.{eqb}
 use lib.ListN.{length, getD, take, drop, length-drop, drop-of-length-le}
 use lib.Seq.{drop-cons, drop-drop, take-add}
-use borrow.Author.Tests.{eq-eqb, ne-eqb, eqb-true, eqb-false}
+use borrow.Author.Tests.{eq-eqb, ne-eqb}
 use Rattle.text.specs.Line.{newlines, lineOf}
 use Rattle.language.specs.Bytes.{classOf}
 use Rattle.language.specs.Symbols.{Element, symbol, gap, wrong, byClass, none, fault, Scan, ends, goesOn, onElement, scanFrom}
 use Rattle.symbols.specs.Answers.{asElement}
-use Rattle.symbols.specs.Parts.{orNewline, broken, symbolOf, scanBy, Found, IfOne, Finds}
+use Rattle.symbols.specs.Parts.{orNewline, broken, symbolOf, scanBy, IfOne, Finds}
 use Rattle.symbols.specs.declared.elements.Element as C
 use Rattle.symbols.specs.declared.elements.Element.the-variants as E
 use Rattle.symbols.specs.declared.Next.the-variants as N
@@ -103,6 +103,9 @@ module _ (text : List ℕ) (i : ℕ) where
       pub scan-symbol : scanAt text i ≡ goesOn (symbolOf k v i) (scanAt text (i + w))
       scan-symbol = scan-here ∙ rw e (ap (goesOn (symbolOf k v i)) (scan-rest w (symbol-given .0 .some)))
 
+      pub symbol-line : lineOf text (i + w) ≡ lineOf text i
+      symbol-line = let g : Stood (drop i text) 0 w = symbol-given .0 in omega (arith, line-past text i w, g .line)
+
       pub symbol-inside : i + w ≤ length text
       symbol-inside = let g : Stood (drop i text) 0 w = symbol-given .0 in omega (arith, g .within, length-drop i text)
 
@@ -146,11 +149,11 @@ module _ (text : List ℕ) (at i : ℕ) {newline : Bool} (s : Seeking text at i 
           found = record {
             after = s .after;
             some = omega (arith, g .0 .some);
-            within = omega (arith, g .0 .within, length-drop i text);
+            within = symbol-inside text i h e;
             known = g .1;
             small = omega (arith, g .2);
             breaks = s .breaks;
-            line = omega (arith, line-past text i w, g .0 .line);
+            line = symbol-line text i h e;
           };
         }
 

@@ -1,24 +1,22 @@
--- Writing the symbols: entries appended in threes, semicolons by the line of the symbol before, and strings counted.
-use Prim.Native.Nat.{ℕ, zero, suc, _+_, _-_, _*_, _<_, _≤_}
+-- Writing the symbols: their entries are appended in threes, and what follows them is cleared.
+use Prim.Native.Nat.{ℕ, _+_, _-_, _*_, _<_, _≤_}
 use mathlib.Core.Path.{_≡_, refl, sym, ap, _∙_}
-use mathlib.Core.Bool.{Bool, true, false, not, cond, _&&_}
+use mathlib.Core.Bool.{Bool, true, false, cond}
 use mathlib.Core.List.{List, [], _∷_, _++_, append-assoc, append-nil}
 use native.Mathlib.Omega.{arith}
 use native.Mathlib.Numerals.{add-one, add-two}
-use lib.Dec.{eqb, ltb}
+use lib.Dec.{eqb}
 use lib.ListN.{length, getD, set, take, drop, replicate, length-append, length-replicate, drop-of-length-le, replicate-append-replicate, take-append-drop}
-use lib.Seq.{sets, sets-eq, length-sets, take-at, length-take-le, set-at, drop-cons, take-append-le, take-take}
-use borrow.Author.Tests.{eq-eqb, ltb-true, ltb-false}
-use Rattle.text.specs.Line.{lineOf}
-use Rattle.language.specs.Symbols.{Symbol, none, fault, Fault, Scan, ends, goesOn, scan}
-use Rattle.language.specs.Kinds.{member}
-use Rattle.language.specs.Semicolons.{endsLine, beginsLine, linesDiffer, gains, inserted, semicolonsAfter, semicolons}
+use lib.Seq.{sets, sets-eq, length-sets, take-at, length-take-le, set-at, drop-cons}
+use Rattle.language.specs.Symbols.{Symbol, Fault, Scan, ends, scan}
+use Rattle.language.specs.Semicolons.{inserted, semicolonsAfter}
 use Rattle.language.specs.Strings.{numbered}
 use Rattle.symbols.specs.Read.{entries}
-use Rattle.symbols.specs.Parts.{broken, symbolOf, scanBy, Found, IfOne, Finds, gain, Writes, symbolsIn, WritesAll}
+use Rattle.symbols.specs.Parts.{symbolOf, scanBy, Found, IfOne, Finds, gain, Writes, symbolsIn, WritesAll}
 use Rattle.symbols.specs.declared.Next.{Next}
 use Rattle.symbols.specs.declared.Next.the-variants as N
 use Rattle.symbols.proofs.Scanning.{scanAt}
+use Rattle.symbols.proofs.Semicolons.{following, first-after, following-symbol, few}
 
 -- ---- entries
 
@@ -66,46 +64,30 @@ module _ (s : List ℕ) (count kind value place : ℕ) where
             ap (λ (l : List ℕ). l ++ (kind ∷ value ∷ place ∷ [])) a ∙ append-assoc (take (count * 3) s) (54 ∷ 0 ∷ place ∷ []) (kind ∷ value ∷ place ∷ []);
       }
 
--- ---- semicolons and strings
+-- ---- a symbol and the semicolon before it
 
 entries-inserted : (t : Bool) (s : Symbol) (r : List Symbol) → entries (inserted t s (s ∷ r)) ≡ entries (inserted t s (s ∷ [])) ++ entries r
 unfolding entries
 entries-inserted true s r = refl
 entries-inserted false s r = refl
 
--- only the kind and the line of the symbol before count
-after-line : (text : List ℕ) (kind v w a b : ℕ) (ss : List Symbol) → lineOf text a ≡ lineOf text b → semicolonsAfter text (symbolOf kind v a) ss ≡ semicolonsAfter text (symbolOf kind w b) ss
-unfolding semicolonsAfter gains linesDiffer
-after-line text kind v w a b [] e = refl
-after-line text kind v w a b (s ∷ r) e = rw e
-
--- no semicolon is inserted before the first symbol
-first-after : (text : List ℕ) (place : ℕ) (ss : List Symbol) → semicolons text ss ≡ semicolonsAfter text (symbolOf 0 0 place) ss
-unfolding semicolons semicolonsAfter gains endsLine member
-first-after text place [] = refl
-first-after text place (s ∷ r) = refl
-
-numbered-one : (k kind value place : ℕ) (r : List Symbol) {number k′ : ℕ} → number ≡ cond (eqb kind 61) k value → k′ ≡ cond (eqb kind 61) (k + 1) k
-    → numbered k (symbolOf kind value place ∷ r) ≡ symbolOf kind number place ∷ numbered k′ r
-unfolding numbered
-numbered-one k kind value place r p q = rw (p, q) (by (eqb kind 61))
-  where
-    by : (t : Bool) → cond t (symbolOf kind k place ∷ numbered (suc k) r) (symbolOf kind value place ∷ numbered k r) ≡ symbolOf kind (cond t k value) place ∷ numbered (cond t (k + 1) k) r
-    by true = rw add-one
-    by false = refl
+length-inserted : (t : Bool) (s : Symbol) → length (entries (inserted t s (s ∷ []))) ≡ cond t 6 3
+unfolding entries
+length-inserted true s = refl
+length-inserted false s = refl
 
 -- ---- what the loop over the symbols keeps
 
-abbrev rest : (text : List ℕ) (at before strings : ℕ) → Scan → List ℕ
-rest text at before strings s = entries (semicolonsAfter text (symbolOf before 0 at) (numbered strings (s .symbols)))
+abbrev rest : (text : List ℕ) (at before strings : ℕ) → List ℕ
+rest text at before strings = entries (following text before at strings (scanAt text at .symbols))
 
 pub record Putting (text s₀ : List ℕ) (at count before strings : ℕ) (s : List ℕ) : Type 0 where
   pub same : length s ≡ length s₀
   pub within : at ≤ length text
-  pub room : count ≤ at
-  pub few : strings ≤ count
+  pub fits : count * 3 ≤ length s
+  pub strings-few : strings ≤ count
   pub known : before < 62
-  pub writes : take (count * 3) s ++ rest text at before strings (scanAt text at) ≡ entries (symbolsIn text)
+  pub writes : take (count * 3) s ++ rest text at before strings ≡ entries (symbolsIn text)
 
 pub putting-start : (text s : List ℕ) → Putting text s 0 0 0 0 s
 unfolding symbolsIn scan
@@ -113,25 +95,29 @@ putting-start text s =
     record {
       same = refl;
       within = omega arith;
-      room = omega arith;
-      few = omega arith;
+      fits = omega arith;
+      strings-few = omega arith;
       known = omega arith;
       writes = ap entries (sym (first-after text 0 (numbered 0 (scan text .symbols))));
     }
 
-module _ (text s₀ : List ℕ) (at count before strings : ℕ) (s : List ℕ) (p : Putting text s₀ at count before strings s) (fits : length text * 3 ≤ length s₀) {next : Next} (f : Finds text at next) where
+module _ (text s₀ : List ℕ) (at count before strings : ℕ) (s : List ℕ) (p : Putting text s₀ at count before strings s) (room : length text * 3 ≤ length s₀) {next : Next} (f : Finds text at next) where
   scan-is : {n : Next} → next ≡ n → scanAt text at ≡ scanBy text n
   scan-is e = f .scans ∙ ap (scanBy text) e
+
+  taken : length (take (count * 3) s) ≡ count * 3
+  taken = length-take-le (count * 3) s (p .fits)
 
   ended : {e : Fault} → scanAt text at ≡ ends e → WritesAll text s₀ count s
   unfolding entries numbered semicolonsAfter
   ended {e} k =
-      let w : take (count * 3) s ≡ entries (symbolsIn text) = sym (append-nil (take (count * 3) s)) ∙ ap (λ (t : Scan). take (count * 3) s ++ rest text at before strings t) (sym k) ∙ p .writes in
-      let l : length (take (count * 3) s) ≡ count * 3 = length-take-le (count * 3) s (omega (arith, p .same, p .room, p .within)) in
+      let w : take (count * 3) s ≡ entries (symbolsIn text) =
+      sym (append-nil (take (count * 3) s)) ∙
+      ap (λ (t : Scan). take (count * 3) s ++ entries (following text before at strings (t .symbols))) (sym k) ∙ p .writes in
       record {
         same = p .same;
-        counts = omega (arith, ap length w, length-entries (symbolsIn text));
-        fits = omega (arith, p .same, p .room, p .within);
+        counts = omega (arith, taken, ap length w, length-entries (symbolsIn text));
+        fits = omega (arith, p .same, p .fits);
         writes = w;
       }
 
@@ -148,90 +134,99 @@ module _ (text s₀ : List ℕ) (at count before strings : ℕ) (s : List ℕ) (
     unfolding IfOne
     found = rw e at (f .found)
 
-    -- a newline stands between two places on different lines
-    apart : newline ≡ true → at < place
-    apart t = go (ltb at place) refl
-      where
-        go : (b : Bool) → ltb at place ≡ b → at < place
-        go true k = ltb-true at place k
-        go false k =
-            let z : at ≡ place = omega (arith, ltb-false at place k, found .after) in
-            let y : broken text at place ≡ false = ap not (eq-eqb (lineOf text at) (lineOf text place) (ap (lineOf text) z)) in
-            let x : true ≡ false = sym t ∙ found .breaks ∙ y in
-            let w : _≡_ {A = ℕ} 0 1 = cc in
-            absurd (omega arith)
+    pub putting-less : length text - past < length text - at
+    putting-less = omega (arith, found .after, found .some, found .within)
 
     module _ {semicolon : Bool} (g : semicolon ≡ gain before kind newline) where
-      -- a symbol and its semicolon are no more than the bytes up to its end
-      pub counted : count + cond semicolon 2 1 ≤ past
-      counted = go semicolon refl
-        where
-          go : (t : Bool) → semicolon ≡ t → count + cond t 2 1 ≤ past
-          go true k =
-              let n : newline ≡ true = last (endsLine before) (beginsLine kind) (sym g ∙ k) in
-              omega (arith, apart n, found .some, p .room)
-            where
-              last : (a b : Bool) → (a && (b && newline)) ≡ true → newline ≡ true
-              last true true q = q
-              last true false q = let w : _≡_ {A = ℕ} 0 1 = cc in absurd (omega arith)
-              last false b q = let w : _≡_ {A = ℕ} 0 1 = cc in absurd (omega arith)
-          go false k = omega (arith, found .after, found .some, p .room)
+      -- the rest, from this symbol on
+      next-entries : {number strings′ : ℕ} → number ≡ cond (eqb kind 61) strings value → strings′ ≡ cond (eqb kind 61) (strings + 1) strings
+          → rest text at before strings ≡ entries (inserted semicolon (symbolOf kind number place) (symbolOf kind number place ∷ [])) ++ rest text past kind strings′
+      unfolding scanBy
+      next-entries {number} {strings′} m n =
+          ap entries (following-symbol text before at strings past (scan-is e) m n (found .line)) ∙
+          ap (λ (t : Bool). entries (inserted t (symbolOf kind number place) (symbolOf kind number place ∷ following text kind past strings′ (scanAt text past .symbols)))) (sym (g ∙ ap (gain before kind) (found .breaks))) ∙
+          entries-inserted semicolon (symbolOf kind number place) _
 
+      -- there is room for it, since the symbols are no more than the bytes
       pub room-for : count * 3 + cond semicolon 6 3 ≤ length s
-      room-for = go semicolon counted
-        where
-          go : (t : Bool) → count + cond t 2 1 ≤ past → count * 3 + cond t 6 3 ≤ length s
-          go true k = omega (arith, found .within, p .same)
-          go false k = omega (arith, found .within, p .same)
+      room-for =
+          let number = cond (eqb kind 61) strings value in
+          let strings′ = cond (eqb kind 61) (strings + 1) strings in
+          omega (
+            arith,
+            taken,
+            p .same,
+            few text,
+            length-entries (symbolsIn text),
+            simp length-append at (ap length (p .writes)),
+            simp length-append at (ap length (next-entries refl refl)),
+            length-inserted semicolon (symbolOf kind number place),
+          )
 
       module _ {number strings′ count′ : ℕ} {s′ : List ℕ} (m : number ≡ cond (eqb kind 61) strings value) (n : strings′ ≡ cond (eqb kind 61) (strings + 1) strings)
           (w : Writes count semicolon kind number place s count′ s′) where
-        symbols-are : rest text at before strings (scanAt text at) ≡ entries (inserted semicolon (symbolOf kind number place) (symbolOf kind number place ∷ [])) ++ rest text past kind strings′ (scanAt text past)
-        unfolding scanBy semicolonsAfter gains linesDiffer
-        symbols-are =
-            ap (rest text at before strings) (scan-is e) ∙
-            ap (λ (l : List Symbol). entries (semicolonsAfter text (symbolOf before 0 at) l)) (numbered-one strings kind value place (scanAt text past .symbols) m n) ∙
-            ap (λ (t : Bool). entries (inserted t (symbolOf kind number place) (symbolOf kind number place ∷ semicolonsAfter text (symbolOf kind number place) (numbered strings′ (scanAt text past .symbols))))) (sym (g ∙ ap (gain before kind) (found .breaks))) ∙
-            entries-inserted semicolon (symbolOf kind number place) _ ∙
-            ap (λ (l : List Symbol). entries (inserted semicolon (symbolOf kind number place) (symbolOf kind number place ∷ [])) ++ entries l)
-            (after-line text kind number 0 place past (numbered strings′ (scanAt text past .symbols)) (sym (found .line)))
+        fits-more : count′ * 3 ≤ length s′
+        fits-more = go semicolon room-for (w .counts)
+          where
+            go : (t : Bool) → count * 3 + cond t 6 3 ≤ length s → count′ ≡ count + cond t 2 1 → count′ * 3 ≤ length s′
+            go true h k = omega (arith, w .same)
+            go false h k = omega (arith, w .same)
 
-        few-more : strings′ ≤ count′
-        few-more = go (eqb kind 61) semicolon n (w .counts)
+        strings-more : strings′ ≤ count′
+        strings-more = go (eqb kind 61) semicolon n (w .counts)
           where
             go : (a b : Bool) → strings′ ≡ cond a (strings + 1) strings → count′ ≡ count + cond b 2 1 → strings′ ≤ count′
-            go true true h k = omega (arith, p .few)
-            go true false h k = omega (arith, p .few)
-            go false true h k = omega (arith, p .few)
-            go false false h k = omega (arith, p .few)
+            go true true h k = omega (arith, p .strings-few)
+            go true false h k = omega (arith, p .strings-few)
+            go false true h k = omega (arith, p .strings-few)
+            go false false h k = omega (arith, p .strings-few)
 
         pub putting-on : Putting text s₀ past count′ kind strings′ s′
         putting-on =
             record {
               same = w .same ∙ p .same;
               within = found .within;
-              room = omega (arith, counted, w .counts);
-              few = few-more;
+              fits = fits-more;
+              strings-few = strings-more;
               known = found .known;
               writes =
-                  ap (λ (l : List ℕ). l ++ rest text past kind strings′ (scanAt text past)) (w .writes) ∙
+                  ap (λ (l : List ℕ). l ++ rest text past kind strings′) (w .writes) ∙
                   append-assoc (take (count * 3) s) _ _ ∙
-                  ap (λ (l : List ℕ). take (count * 3) s ++ l) (sym symbols-are) ∙ p .writes;
+                  ap (λ (l : List ℕ). take (count * 3) s ++ l) (sym (next-entries m n)) ∙ p .writes;
             }
 
-    -- what `write` and the count of strings ask for
-    pub number-fits : length text ≤ 16384 → {number : ℕ} → number ≡ cond (eqb kind 61) strings value → number < 131072
-    number-fits h {number} m = go (eqb kind 61) m
-      where
-        go : (t : Bool) → number ≡ cond t strings value → number < 131072
-        go true k = omega (arith, p .few, p .room, p .within)
-        go false k = omega (arith, found .small, found .within)
+      -- what `write` and the count of strings ask for
+      module _ (h : length text ≤ 16384) where
+        counted : count < 16384
+        counted =
+            let number = cond (eqb kind 61) strings value in
+            omega (
+              arith,
+              taken,
+              few text,
+              length-entries (symbolsIn text),
+              simp length-append at (ap length (p .writes)),
+              simp length-append at (ap length (next-entries refl refl)),
+              length-inserted semicolon (symbolOf kind number place),
+              some semicolon,
+            )
+          where
+            some : (t : Bool) → 3 ≤ cond t 6 3
+            some true = omega arith
+            some false = omega arith
 
-    pub place-fits : length text ≤ 16384 → (place < 65536) × (strings < 16384)
-    place-fits h = (omega (arith, found .some, found .within), omega (arith, p .few, p .room, found .after, found .some, found .within))
+        pub strings-fit : strings < 16384
+        strings-fit = omega (arith, p .strings-few, counted)
 
-    pub putting-less : length text - past < length text - at
-    putting-less = omega (arith, found .after, found .some, found .within)
+        pub number-fits : {number : ℕ} → number ≡ cond (eqb kind 61) strings value → number < 131072
+        number-fits {number} m = go (eqb kind 61) m
+          where
+            go : (t : Bool) → number ≡ cond t strings value → number < 131072
+            go true k = omega (arith, strings-fit)
+            go false k = omega (arith, found .small, found .within)
+
+        pub place-fits : place < 65536
+        place-fits = omega (arith, found .some, found .within)
 
 -- ---- zeros from a place on
 

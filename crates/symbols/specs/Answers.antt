@@ -1,5 +1,4 @@
 -- What the code's enums say of the definitions' values.
-use Prim.Native.Nat.{ℕ}
 use Rattle.language.specs.Symbols as S
 use Rattle.symbols.specs.declared.elements.Element.{Element}
 use Rattle.symbols.specs.declared.elements.Element.the-variants as E

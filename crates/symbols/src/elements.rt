@@ -1,4 +1,6 @@
 // What stands at a place of a text: a symbol, a gap, or neither. One function for each part of document 01's "Symbols".
+use crate::kinds::NUMBER;
+use crate::kinds::STRING;
 use crate::spellings;
 use text::Character;
 ghost use Prim.Native.Nat.{_+_, _-_, _*_, _<_, _≤_};
@@ -22,6 +24,25 @@ struct Digits {
     count: usize,
     value: usize,
 }
+
+// The classes of bytes. A dot stands in words only.
+const LETTER: u8 = 1;
+
+const DIGIT: u8 = 2;
+
+const DOT: u8 = 3;
+
+const HASH: u8 = 4;
+
+const QUOTE: u8 = 5;
+
+const DOUBLE: u8 = 6;
+
+const SIGN: u8 = 7;
+
+const SEPARATOR: u8 = 8;
+
+const NEWLINE: u8 = 9;
 
 // The class of each byte, as a digit.
 const CLASSES: [u8; 256] = *b"00000000089008000000000000000000\
@@ -50,10 +71,10 @@ fn in_word(byte: u8) -> bool
     ensures { λ r. ⌜ r ≡ inWord (classOf byte) ⌝ }
 {
     let class = class_of(byte);
-    if class < 1 {
+    if class < LETTER {
         return false;
     }
-    class <= 3
+    class <= DOT
 }
 
 fn word_width(text: &[u8], at: usize) -> usize
@@ -127,7 +148,7 @@ fn decimal_at(text: &[u8], at: usize) -> Element
 {
     let number = digits_at(text, at, 10);
     if number.value <= 32767 {
-        return Element::Symbol(60, number.value, number.count);
+        return Element::Symbol(NUMBER, number.value, number.count);
     }
     Element::Wrong(3)
 }
@@ -141,7 +162,7 @@ fn octal_at(text: &[u8], at: usize) -> Element
         return Element::Wrong(3);
     }
     if number.value <= 65535 {
-        return Element::Symbol(60, number.value, number.count + 1);
+        return Element::Symbol(NUMBER, number.value, number.count + 1);
     }
     Element::Wrong(3)
 }
@@ -156,7 +177,7 @@ fn character_at(text: &[u8], at: usize) -> Element
         Character::Is(value, width) => {
             let second = text::character_at(text, at + width, b'\'');
             match second {
-                Character::Closing => Element::Symbol(60, wide(value), width + 2),
+                Character::Closing => Element::Symbol(NUMBER, wide(value), width + 2),
                 Character::Is(_, _) => Element::Wrong(4),
                 Character::Bad => Element::Wrong(4),
             }
@@ -182,7 +203,7 @@ fn string_at(text: &[u8], at: usize) -> Element
             }
             Character::Closing => {
                 if n <= 255 {
-                    return Element::Symbol(61, n, i - at + 2);
+                    return Element::Symbol(STRING, n, i - at + 2);
                 }
                 return Element::Wrong(4);
             }
@@ -237,14 +258,14 @@ pub(crate) fn element_at(text: &[u8], at: usize) -> Element
 {
     let class = class_of(text[at]);
     match class {
-        1 => word_at(text, at),
-        2 => decimal_at(text, at),
-        4 => octal_at(text, at + 1),
-        5 => character_at(text, at + 1),
-        6 => string_at(text, at + 1),
-        7 => sign_or_comment(text, at),
-        8 => Element::Gap(1),
-        9 => Element::Gap(1),
+        LETTER => word_at(text, at),
+        DIGIT => decimal_at(text, at),
+        HASH => octal_at(text, at + 1),
+        QUOTE => character_at(text, at + 1),
+        DOUBLE => string_at(text, at + 1),
+        SIGN => sign_or_comment(text, at),
+        SEPARATOR => Element::Gap(1),
+        NEWLINE => Element::Gap(1),
         _ => Element::Wrong(2),
     }
 }

@@ -3,9 +3,17 @@
 // `read_symbols` goes over the text twice: first for a refusal, with the open brackets on a stack in scratch, then for
 // the symbols, which it writes there. Both times it goes from symbol to symbol by `next_symbol`.
 mod elements;
+mod kinds;
 mod spellings;
 
 use crate::elements::Element;
+use crate::kinds::BEGIN;
+use crate::kinds::CLOSE;
+use crate::kinds::END;
+use crate::kinds::KINDS;
+use crate::kinds::OPEN;
+use crate::kinds::SEMICOLON;
+use crate::kinds::STRING;
 ghost use Prim.Native.Nat.{_+_, _*_, _-_, _<_, _≤_};
 ghost use mathlib.Core.Path.{_≡_};
 ghost use mathlib.Core.Bool.{cond};
@@ -52,9 +60,9 @@ enum Depth {
 }
 
 // Of each kind, whether a semicolon is inserted after it, and before it, where a line ends between.
-const ENDS_LINE: [u8; 62] = *b"00000000011000000000100000000011011000000000000000001000001111";
+const ENDS_LINE: [u8; KINDS] = *b"00000000011000000000100000000011011000000000000000001000001111";
 
-const BEGINS_LINE: [u8; 62] = *b"00000001100001001111000100101111111000000000000000010000010100";
+const BEGINS_LINE: [u8; KINDS] = *b"00000001100001001111000100101111111000000000000000010000010100";
 
 // Refusal 1.
 pub fn too_long(text: &[u8]) -> bool
@@ -143,10 +151,10 @@ fn bracket(scratch: &mut [u32], depth: usize, kind: usize) -> Depth
     ensures { λ r. ⌜ Matches kind depth (now (scratch .entry)) r (now (scratch .exit)) ⌝ }
 {
     match kind {
-        51 => opening(scratch, depth, 52),
-        57 => opening(scratch, depth, 58),
-        52 => closing(scratch, depth, 52),
-        58 => closing(scratch, depth, 58),
+        OPEN => opening(scratch, depth, CLOSE as u32),
+        BEGIN => opening(scratch, depth, END as u32),
+        CLOSE => closing(scratch, depth, CLOSE as u32),
+        END => closing(scratch, depth, END as u32),
         _ => Depth::Is(depth),
     }
 }
@@ -223,7 +231,7 @@ fn gains(before: usize, kind: usize, newline: bool) -> bool
 fn numbered(kind: usize, value: usize, strings: usize) -> usize
     ensures { λ r. ⌜ r ≡ cond (eqb kind 61) strings value ⌝ }
 {
-    if kind == 61 {
+    if kind == STRING {
         return strings;
     }
     value
@@ -233,7 +241,7 @@ fn strings_past(kind: usize, strings: usize) -> usize
     requires { ⌜ strings < 16384 ⌝ }
     ensures { λ r. ⌜ r ≡ cond (eqb kind 61) (strings + 1) strings ⌝ }
 {
-    if kind == 61 {
+    if kind == STRING {
         return strings + 1;
     }
     strings
@@ -263,7 +271,7 @@ fn write(
     ensures { λ r. ⌜ Writes count semicolon kind value place (now (scratch .entry)) r (now (scratch .exit)) ⌝ }
 {
     if semicolon {
-        put(scratch, count, 54, 0, place);
+        put(scratch, count, SEMICOLON, 0, place);
         put(scratch, count + 1, kind, value, place);
         return count + 2;
     }

@@ -3,6 +3,7 @@
 // `kind_of` alone decides whether a word is reserved, and `sign_at` which sign stands at a place.
 use crate::elements::Element;
 use crate::elements::wide;
+use crate::kinds::NAME;
 ghost use Prim.Native.Nat.{_+_, _<_, _≤_};
 ghost use mathlib.Core.Path.{_≡_};
 ghost use lib.ListN.{length, take, drop};
@@ -121,7 +122,7 @@ pub(crate) fn kind_of(text: &[u8], at: usize, width: usize) -> usize
         }
         row += 1;
     }
-    59
+    NAME
 }
 
 // The longest sign at a place.

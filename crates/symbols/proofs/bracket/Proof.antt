@@ -3,14 +3,26 @@ use borrow.Author.Needs.{needs}
 use Rattle.symbols.proofs.bracket.Statement.{statement}
 use Rattle.symbols.proofs.bracket.Tie as tie
 
+cast-opening : tie.Need-cast-opening
+cast-opening c = search needs
+
 opening-requires : tie.Need-opening-requires
 opening-requires c κs = search needs
+
+cast-opening-2 : tie.Need-cast-opening-2
+cast-opening-2 c = search needs
 
 opening-requires-2 : tie.Need-opening-requires-2
 opening-requires-2 c κs = search needs
 
+cast-closing : tie.Need-cast-closing
+cast-closing c = search needs
+
 closing-requires : tie.Need-closing-requires
 closing-requires c κs = search needs
+
+cast-closing-2 : tie.Need-cast-closing-2
+cast-closing-2 c = search needs
 
 closing-requires-2 : tie.Need-closing-requires-2
 closing-requires-2 c κs = search needs
@@ -19,13 +31,21 @@ same-length : tie.Need-same-length
 same-length c = search needs
 
 returns : tie.Need-returns
-returns c = match-open _ _ 51 52 opens-round (c .before .before .before .before .match .keys1) (c .before .before .before .before .before .before .pre) (c .before .before .opening .ensures .0) (c .before .before .opening .ensures .1)
+returns c =
+    let match′ = c .before .before .before .before .match in
+    let pre = c .before .before .before .before .before .before .pre in
+    let opening = c .before .before .opening in
+    match-open _ _ 51 52 opens-round (match′ .keys1) pre (opening .ensures .0) (opening .ensures .1)
 
 same-length-2 : tie.Need-same-length-2
 same-length-2 c = search needs
 
 returns-2 : tie.Need-returns-2
-returns-2 c = match-open _ _ 57 58 opens-block (c .before .before .before .before .match .keys2) (c .before .before .before .before .before .before .pre) (c .before .before .opening2 .ensures .0) (c .before .before .opening2 .ensures .1)
+returns-2 c =
+    let match′ = c .before .before .before .before .match in
+    let pre = c .before .before .before .before .before .before .pre in
+    let opening2 = c .before .before .opening2 in
+    match-open _ _ 57 58 opens-block (match′ .keys2) pre (opening2 .ensures .0) (opening2 .ensures .1)
 
 same-length-3 : tie.Need-same-length-3
 same-length-3 c = search needs
@@ -46,9 +66,13 @@ pub bracket-spec : {M : Type 1} → statement M
 bracket-spec =
     tie.close
     (tie.spec
+    cast-opening
     opening-requires
+    cast-opening-2
     opening-requires-2
+    cast-closing
     closing-requires
+    cast-closing-2
     closing-requires-2
     same-length
     returns

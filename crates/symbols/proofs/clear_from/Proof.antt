@@ -29,13 +29,19 @@ loop-less : tie.Need-loop-less Inv-loop μ-loop
 loop-less c = search needs
 
 loop-again : tie.Need-loop-again Inv-loop μ-loop
-loop-again c = (search needs, search needs, clear-more (c .before .before .args .scratch .now) (c .before .before .args .from) (c .before .loop .i) (c .before .loop .inv .0) (c .before .loop .inv .2) (search needs), search needs)
+loop-again c =
+    let args = c .before .before .args in
+    let loop = c .before .loop in
+    (search needs, search needs, clear-more (args .scratch .now) (args .from) (loop .i) (loop .inv .0) (loop .inv .2) (search needs), search needs)
 
 same-length : tie.Need-same-length Inv-loop μ-loop
 same-length c = search needs
 
 returns : tie.Need-returns Inv-loop μ-loop
-returns c = clear-all (c .before .before .args .scratch .now) (c .before .before .args .from) (c .before .loop .i) (c .before .loop .inv .0) (c .before .loop .inv .2) (search needs) (search needs)
+returns c =
+    let args = c .before .before .args in
+    let loop = c .before .loop in
+    clear-all (args .scratch .now) (args .from) (loop .i) (loop .inv .0) (loop .inv .2) (search needs) (search needs)
 
 pub clear-from-spec : {M : Type 1} → statement M
 clear-from-spec =

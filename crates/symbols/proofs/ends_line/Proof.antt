@@ -1,6 +1,6 @@
 use Rattle.language.specs.Semicolons.{endsLine}
 use Rattle.language.specs.Kinds.{member}
-use Rattle.symbols.proofs.Small.{marked}
+use Rattle.symbols.proofs.Tests.{marked}
 use borrow.Author.Needs.{needs}
 use Rattle.symbols.proofs.ends_line.Statement.{statement}
 use Rattle.symbols.proofs.ends_line.Tie as tie

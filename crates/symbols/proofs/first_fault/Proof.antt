@@ -24,7 +24,10 @@ same-length : tie.Need-same-length Inv-loop μ-loop
 same-length c = c .before .before .before .before .loop .inv .same
 
 returns : tie.Need-returns Inv-loop μ-loop
-returns c = going-wrong _ _ _ _ _ (c .before .before .before .before .loop .inv) (c .before .before .before .next-symbol .ensures) (c .before .next .given .1)
+returns c =
+    let loop = c .before .before .before .before .loop in
+    let next-symbol = c .before .before .before .next-symbol in
+    going-wrong _ _ _ _ _ (loop .inv) (next-symbol .ensures) (c .before .next .given .1)
 
 enum-told : tie.Need-enum-told Inv-loop μ-loop
 enum-told c = search needs
@@ -33,37 +36,67 @@ same-length-2 : tie.Need-same-length-2 Inv-loop μ-loop
 same-length-2 c = c .before .before .before .before .loop .inv .same
 
 returns-2 : tie.Need-returns-2 Inv-loop μ-loop
-returns-2 c = going-whole _ _ _ _ _ (c .before .before .before .before .loop .inv) (c .before .before .before .next-symbol .ensures) (c .before .enum-told .given .1) (c .if1 .taken)
+returns-2 c =
+    let loop = c .before .before .before .before .loop in
+    let next-symbol = c .before .before .before .next-symbol in
+    going-whole _ _ _ _ _ (loop .inv) (next-symbol .ensures) (c .before .enum-told .given .1) (c .if1 .taken)
 
 same-length-3 : tie.Need-same-length-3 Inv-loop μ-loop
 same-length-3 c = c .before .before .before .before .loop .inv .same
 
 returns-3 : tie.Need-returns-3 Inv-loop μ-loop
-returns-3 c = going-open _ _ _ _ _ (c .before .before .before .before .loop .inv) (c .before .before .before .next-symbol .ensures) (c .before .enum-told .given .1) (c .if1 .left)
+returns-3 c =
+    let loop = c .before .before .before .before .loop in
+    let next-symbol = c .before .before .before .next-symbol in
+    going-open _ _ _ _ _ (loop .inv) (next-symbol .ensures) (c .before .enum-told .given .1) (c .if1 .left)
 
 enum-known-next-2 : tie.Need-enum-known-next-2 Inv-loop μ-loop
 enum-known-next-2 c = search needs
 
 bracket-requires : tie.Need-bracket-requires Inv-loop μ-loop
-bracket-requires c κs = stack-fits _ _ _ _ _ (c .before .before .before .before .before .loop .inv) (c .before .before .before .before .next-symbol .ensures) (c .before .before .next2 .given .1) (c .before .before .before .before .before .before .before .before .pre)
+bracket-requires c κs =
+    let loop = c .before .before .before .before .before .loop in
+    let next-symbol = c .before .before .before .before .next-symbol in
+    let next2 = c .before .before .next2 in
+    let pre = c .before .before .before .before .before .before .before .before .pre in
+    stack-fits _ _ _ _ _ (loop .inv) (next-symbol .ensures) (next2 .given .1) pre
 
 enum-told-2 : tie.Need-enum-told-2 Inv-loop μ-loop
 enum-told-2 c = search needs
 
 same-length-4 : tie.Need-same-length-4 Inv-loop μ-loop
-same-length-4 c = going-unmatched _ _ _ _ _ (c .before .before .before .before .before .before .before .before .before .before .loop .inv) (c .before .before .before .before .before .before .before .before .before .next-symbol .ensures) (c .before .before .before .before .before .before .before .next2 .given .1) (c .before .before .before .before .bracket .ensures) (c .enum-told2 .given .1) .same
+same-length-4 c =
+    let loop = c .before .before .before .before .before .before .before .before .before .before .loop in
+    let next-symbol = c .before .before .before .before .before .before .before .before .before .next-symbol in
+    let next2 = c .before .before .before .before .before .before .before .next2 in
+    let bracket = c .before .before .before .before .bracket in
+    going-unmatched _ _ _ _ _ (loop .inv) (next-symbol .ensures) (next2 .given .1) (bracket .ensures) (c .enum-told2 .given .1) .same
 
 returns-4 : tie.Need-returns-4 Inv-loop μ-loop
-returns-4 c = going-unmatched _ _ _ _ _ (c .before .before .before .before .before .before .before .before .before .before .loop .inv) (c .before .before .before .before .before .before .before .before .before .next-symbol .ensures) (c .before .before .before .before .before .before .before .next2 .given .1) (c .before .before .before .before .bracket .ensures) (c .enum-told2 .given .1)
+returns-4 c =
+    let loop = c .before .before .before .before .before .before .before .before .before .before .loop in
+    let next-symbol = c .before .before .before .before .before .before .before .before .before .next-symbol in
+    let next2 = c .before .before .before .before .before .before .before .next2 in
+    let bracket = c .before .before .before .before .bracket in
+    going-unmatched _ _ _ _ _ (loop .inv) (next-symbol .ensures) (next2 .given .1) (bracket .ensures) (c .enum-told2 .given .1)
 
 enum-known-after : tie.Need-enum-known-after Inv-loop μ-loop
 enum-known-after c = search needs
 
 loop-less : tie.Need-loop-less Inv-loop μ-loop
-loop-less c = going-less _ _ _ _ _ (c .before .before .before .before .before .before .before .before .before .before .before .loop .inv) (c .before .before .before .before .before .before .before .before .before .before .next-symbol .ensures) (c .before .before .before .before .before .before .before .before .next2 .given .1)
+loop-less c =
+    let loop = c .before .before .before .before .before .before .before .before .before .before .before .loop in
+    let next-symbol = c .before .before .before .before .before .before .before .before .before .before .next-symbol in
+    let next2 = c .before .before .before .before .before .before .before .before .next2 in
+    going-less _ _ _ _ _ (loop .inv) (next-symbol .ensures) (next2 .given .1)
 
 loop-again : tie.Need-loop-again Inv-loop μ-loop
-loop-again c = going-on _ _ _ _ _ (c .before .before .before .before .before .before .before .before .before .before .before .loop .inv) (c .before .before .before .before .before .before .before .before .before .before .next-symbol .ensures) (c .before .before .before .before .before .before .before .before .next2 .given .1) (c .before .before .before .before .before .bracket .ensures) (c .before .after .given .1)
+loop-again c =
+    let loop = c .before .before .before .before .before .before .before .before .before .before .before .loop in
+    let next-symbol = c .before .before .before .before .before .before .before .before .before .before .next-symbol in
+    let next2 = c .before .before .before .before .before .before .before .before .next2 in
+    let bracket = c .before .before .before .before .before .bracket in
+    going-on _ _ _ _ _ (loop .inv) (next-symbol .ensures) (next2 .given .1) (bracket .ensures) (c .before .after .given .1)
 
 pub first-fault-spec : {M : Type 1} → statement M
 first-fault-spec =

@@ -14,10 +14,16 @@ begins-line-requires : tie.Need-begins-line-requires
 begins-line-requires c κs = search needs
 
 returns-2 : tie.Need-returns-2
-returns-2 c = rw (sym (c .before .before .before .ends-line .ensures) ∙ not-false _ (c .before .before .if1 .left), sym (c .before .begins-line .ensures) ∙ not-true _ (c .if2 .taken))
+returns-2 c =
+    let ends-line = c .before .before .before .ends-line in
+    let if1 = c .before .before .if1 in
+    rw (sym (ends-line .ensures) ∙ not-false _ (if1 .left), sym (c .before .begins-line .ensures) ∙ not-true _ (c .if2 .taken))
 
 returns-3 : tie.Need-returns-3
-returns-3 c = rw (sym (c .before .before .before .ends-line .ensures) ∙ not-false _ (c .before .before .if1 .left), sym (c .before .begins-line .ensures) ∙ not-false _ (c .if2 .left))
+returns-3 c =
+    let ends-line = c .before .before .before .ends-line in
+    let if1 = c .before .before .if1 in
+    rw (sym (ends-line .ensures) ∙ not-false _ (if1 .left), sym (c .before .begins-line .ensures) ∙ not-false _ (c .if2 .left))
 
 pub gains-spec : {M : Type 1} → statement M
 gains-spec =

@@ -1,5 +1,4 @@
 use Prim.Native.Nat.{_-_}
-use mathlib.Core.Path.{_≡_}
 use native.Mathlib.Omega.{arith}
 use lib.ListN.{length}
 use borrow.Author.Needs.{needs}
@@ -23,16 +22,31 @@ enum-known-element : tie.Need-enum-known-element Inv-loop μ-loop
 enum-known-element c = search needs
 
 add-t13 : tie.Need-add-t13 Inv-loop μ-loop
-add-t13 c = omega (arith, symbol-inside (c .before .before .before .before .before .before .before .args .text .now) (c .before .before .before .before .before .loop .i) (c .before .before .before .before .loop-test .taken) (when-symbol (elementAt (c .before .before .before .before .before .before .before .args .text .now) (c .before .before .before .before .before .loop .i)) (c .before .before .before .element-at .ensures) (c .before .element .given .1)))
+add-t13 c =
+    let args = c .before .before .before .before .before .before .before .args in
+    let loop = c .before .before .before .before .before .loop in
+    let loop-test = c .before .before .before .before .loop-test in
+    let element-at = c .before .before .before .element-at in
+    omega (arith, symbol-inside (args .text .now) (loop .i) (loop-test .taken) (when-symbol (elementAt (args .text .now) (loop .i)) (element-at .ensures) (c .before .element .given .1)))
 
 returns : tie.Need-returns Inv-loop μ-loop
-returns c = seek-symbol _ _ _ (c .before .before .before .before .before .loop .inv) (c .before .before .before .before .loop-test .taken) (when-symbol (elementAt (c .before .before .before .before .before .before .before .args .text .now) (c .before .before .before .before .before .loop .i)) (c .before .before .before .element-at .ensures) (c .before .element .given .1))
+returns c =
+    let loop = c .before .before .before .before .before .loop in
+    let loop-test = c .before .before .before .before .loop-test in
+    let args = c .before .before .before .before .before .before .before .args in
+    let element-at = c .before .before .before .element-at in
+    seek-symbol _ _ _ (loop .inv) (loop-test .taken) (when-symbol (elementAt (args .text .now) (loop .i)) (element-at .ensures) (c .before .element .given .1))
 
 enum-known-element-2 : tie.Need-enum-known-element-2 Inv-loop μ-loop
 enum-known-element-2 c = search needs
 
 returns-2 : tie.Need-returns-2 Inv-loop μ-loop
-returns-2 c = seek-wrong _ _ _ (c .before .before .before .before .before .loop .inv) (c .before .before .before .before .loop-test .taken) (when-wrong (elementAt (c .before .before .before .before .before .before .before .args .text .now) (c .before .before .before .before .before .loop .i)) (c .before .before .before .element-at .ensures) (c .before .element2 .given .1))
+returns-2 c =
+    let loop = c .before .before .before .before .before .loop in
+    let loop-test = c .before .before .before .before .loop-test in
+    let args = c .before .before .before .before .before .before .before .args in
+    let element-at = c .before .before .before .element-at in
+    seek-wrong _ _ _ (loop .inv) (loop-test .taken) (when-wrong (elementAt (args .text .now) (loop .i)) (element-at .ensures) (c .before .element2 .given .1))
 
 enum-known-element-3 : tie.Need-enum-known-element-3 Inv-loop μ-loop
 enum-known-element-3 c = search needs
@@ -44,13 +58,31 @@ or-newline-requires : tie.Need-or-newline-requires Inv-loop μ-loop
 or-newline-requires c κs = search needs
 
 add-i : tie.Need-add-i Inv-loop μ-loop
-add-i c = omega (arith, gap-inside (c .before .before .before .before .before .before .before .before .before .args .text .now) (c .before .before .before .before .before .before .before .before .before .args .at) (c .before .before .before .before .before .before .before .loop .i) (c .before .before .before .before .before .before .before .loop .inv) (c .before .before .before .before .before .before .loop-test .taken) (when-gap (elementAt (c .before .before .before .before .before .before .before .before .before .args .text .now) (c .before .before .before .before .before .before .before .loop .i)) (c .before .before .before .before .before .element-at .ensures) (c .before .before .before .element3 .given .1)))
+add-i c =
+    let args = c .before .before .before .before .before .before .before .before .before .args in
+    let loop = c .before .before .before .before .before .before .before .loop in
+    let loop-test = c .before .before .before .before .before .before .loop-test in
+    let element-at = c .before .before .before .before .before .element-at in
+    let element3 = c .before .before .before .element3 in
+    omega (arith, gap-inside (args .text .now) (args .at) (loop .i) (loop .inv) (loop-test .taken) (when-gap (elementAt (args .text .now) (loop .i)) (element-at .ensures) (element3 .given .1)))
 
 loop-less : tie.Need-loop-less Inv-loop μ-loop
-loop-less c = omega (arith, gap-inside (c .before .before .before .before .before .before .before .before .before .args .text .now) (c .before .before .before .before .before .before .before .before .before .args .at) (c .before .before .before .before .before .before .before .loop .i) (c .before .before .before .before .before .before .before .loop .inv) (c .before .before .before .before .before .before .loop-test .taken) (when-gap (elementAt (c .before .before .before .before .before .before .before .before .before .args .text .now) (c .before .before .before .before .before .before .before .loop .i)) (c .before .before .before .before .before .element-at .ensures) (c .before .before .before .element3 .given .1)))
+loop-less c =
+    let args = c .before .before .before .before .before .before .before .before .before .args in
+    let loop = c .before .before .before .before .before .before .before .loop in
+    let loop-test = c .before .before .before .before .before .before .loop-test in
+    let element-at = c .before .before .before .before .before .element-at in
+    let element3 = c .before .before .before .element3 in
+    omega (arith, gap-inside (args .text .now) (args .at) (loop .i) (loop .inv) (loop-test .taken) (when-gap (elementAt (args .text .now) (loop .i)) (element-at .ensures) (element3 .given .1)))
 
 loop-again : tie.Need-loop-again Inv-loop μ-loop
-loop-again c = rw (c .or-newline .ensures) (seek-gap _ _ _ (c .before .before .before .before .before .before .before .loop .inv) (c .before .before .before .before .before .before .loop-test .taken) (when-gap (elementAt (c .before .before .before .before .before .before .before .before .before .args .text .now) (c .before .before .before .before .before .before .before .loop .i)) (c .before .before .before .before .before .element-at .ensures) (c .before .before .before .element3 .given .1)))
+loop-again c =
+    let loop = c .before .before .before .before .before .before .before .loop in
+    let loop-test = c .before .before .before .before .before .before .loop-test in
+    let args = c .before .before .before .before .before .before .before .before .before .args in
+    let element-at = c .before .before .before .before .before .element-at in
+    let element3 = c .before .before .before .element3 in
+    rw (c .or-newline .ensures) (seek-gap _ _ _ (loop .inv) (loop-test .taken) (when-gap (elementAt (args .text .now) (loop .i)) (element-at .ensures) (element3 .given .1)))
 
 returns-3 : tie.Need-returns-3 Inv-loop μ-loop
 returns-3 c = seek-end _ _ _ (c .before .loop .inv) (c .loop-test .left)

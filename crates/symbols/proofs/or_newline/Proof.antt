@@ -1,4 +1,3 @@
-use mathlib.Core.Path.{sym}
 use borrow.Author.Tests.{eq-eqb, ne-eqb}
 use Rattle.symbols.proofs.or_newline.Statement.{statement}
 use Rattle.symbols.proofs.or_newline.Tie as tie

@@ -30,7 +30,12 @@ enum-told : tie.Need-enum-told
 enum-told c = search needs
 
 write-symbols-requires : tie.Need-write-symbols-requires
-write-symbols-requires c κs = (short-text _ (sym (c .before .before .before .before .before .before .before .before .before .too-long .ensures) ∙ c .before .before .before .before .before .before .before .before .if1 .left), omega (arith, c .before .before .before .before .before .first-fault .ensures .same, c .before .before .before .before .before .before .before .if2 .left))
+write-symbols-requires c κs =
+    let too-long = c .before .before .before .before .before .before .before .before .before .too-long in
+    let if1 = c .before .before .before .before .before .before .before .before .if1 in
+    let first-fault = c .before .before .before .before .before .first-fault in
+    let if2 = c .before .before .before .before .before .before .before .if2 in
+    (short-text _ (sym (too-long .ensures) ∙ if1 .left), omega (arith, first-fault .ensures .same, if2 .left))
 
 mul-clear-from : tie.Need-mul-clear-from
 mul-clear-from c = search needs
@@ -42,13 +47,28 @@ same-length : tie.Need-same-length
 same-length c = search needs
 
 returns-3 : tie.Need-returns-3
-returns-3 c = refused _ _ (sym (c .before .before .before .before .before .before .before .before .before .before .before .before .before .too-long .ensures) ∙ c .before .before .before .before .before .before .before .before .before .before .before .before .if1 .left) (c .before .before .before .before .before .before .before .before .before .before .before .if2 .left) (c .before .before .before .before .before .before .before .before .before .first-fault .ensures) (c .before .before .before .before .before .fault .given .1) (c .before .before .clear-from .ensures)
+returns-3 c =
+    let too-long = c .before .before .before .before .before .before .before .before .before .before .before .before .before .too-long in
+    let if1 = c .before .before .before .before .before .before .before .before .before .before .before .before .if1 in
+    let if2 = c .before .before .before .before .before .before .before .before .before .before .before .if2 in
+    let first-fault = c .before .before .before .before .before .before .before .before .before .first-fault in
+    let fault = c .before .before .before .before .before .fault in
+    let clear-from = c .before .before .clear-from in
+    refused _ _ (sym (too-long .ensures) ∙ if1 .left) (if2 .left) (first-fault .ensures) (fault .given .1) (clear-from .ensures)
 
 same-length-2 : tie.Need-same-length-2
 same-length-2 c = search needs
 
 returns-4 : tie.Need-returns-4
-returns-4 c = written _ _ (sym (c .before .before .before .before .before .before .before .before .before .before .before .before .before .before .before .before .too-long .ensures) ∙ c .before .before .before .before .before .before .before .before .before .before .before .before .before .before .before .if1 .left) (c .before .before .before .before .before .before .before .before .before .before .before .before .before .before .if2 .left) (c .before .before .before .before .before .before .before .before .before .before .before .before .first-fault .ensures) (c .before .before .before .before .before .before .before .before .enum-told .given .1) (c .before .before .before .before .before .before .write-symbols .ensures) (c .before .before .clear-from2 .ensures)
+returns-4 c =
+    let too-long = c .before .before .before .before .before .before .before .before .before .before .before .before .before .before .before .before .too-long in
+    let if1 = c .before .before .before .before .before .before .before .before .before .before .before .before .before .before .before .if1 in
+    let if2 = c .before .before .before .before .before .before .before .before .before .before .before .before .before .before .if2 in
+    let first-fault = c .before .before .before .before .before .before .before .before .before .before .before .before .first-fault in
+    let enum-told = c .before .before .before .before .before .before .before .before .enum-told in
+    let write-symbols = c .before .before .before .before .before .before .write-symbols in
+    let clear-from2 = c .before .before .clear-from2 in
+    written _ _ (sym (too-long .ensures) ∙ if1 .left) (if2 .left) (first-fault .ensures) (enum-told .given .1) (write-symbols .ensures) (clear-from2 .ensures)
 
 pub read-symbols-spec : {M : Type 1} → statement M
 read-symbols-spec =

@@ -1,6 +1,6 @@
 use Rattle.language.specs.Source.{scratchTooShort}
 use lib.ListN.{length}
-use Rattle.symbols.proofs.Small.{room-short, room-rest}
+use Rattle.symbols.proofs.Tests.{room-short, room-rest}
 use Rattle.symbols.proofs.scratch_too_short.Statement.{statement}
 use Rattle.symbols.proofs.scratch_too_short.Tie as tie
 

@@ -1,8 +1,8 @@
+use Rattle.symbols.proofs.Writing.{Putting, putting-start, putting-wrong, putting-end, found, room-for, number-fits, place-fits, strings-fit, putting-on, putting-less}
 use Prim.Native.Nat.{_-_}
 use native.Mathlib.Omega.{arith}
 use lib.ListN.{length}
 use borrow.Author.Needs.{needs}
-use Rattle.symbols.proofs.Writing.{Putting, putting-start, putting-wrong, putting-end, found, room-for, number-fits, place-fits, putting-on, putting-less}
 use Rattle.symbols.proofs.write_symbols.Statement.{statement}
 use Rattle.symbols.proofs.write_symbols.Tie as tie
 
@@ -25,7 +25,11 @@ same-length : tie.Need-same-length Inv-loop μ-loop
 same-length c = c .before .before .before .loop .inv .same
 
 returns : tie.Need-returns Inv-loop μ-loop
-returns c = putting-wrong _ _ _ _ _ _ _ (c .before .before .before .loop .inv) (c .before .before .before .before .before .before .pre .1) (c .before .before .next-symbol .ensures) (c .enum-told .given .1)
+returns c =
+    let loop = c .before .before .before .loop in
+    let pre = c .before .before .before .before .before .before .pre in
+    let next-symbol = c .before .before .next-symbol in
+    putting-wrong _ _ _ _ _ _ _ (loop .inv) (pre .1) (next-symbol .ensures) (c .enum-told .given .1)
 
 enum-told-2 : tie.Need-enum-told-2 Inv-loop μ-loop
 enum-told-2 c = search needs
@@ -34,28 +38,65 @@ same-length-2 : tie.Need-same-length-2 Inv-loop μ-loop
 same-length-2 c = c .before .before .before .loop .inv .same
 
 returns-2 : tie.Need-returns-2 Inv-loop μ-loop
-returns-2 c = putting-end _ _ _ _ _ _ _ (c .before .before .before .loop .inv) (c .before .before .before .before .before .before .pre .1) (c .before .before .next-symbol .ensures) (c .enum-told2 .given .1)
+returns-2 c =
+    let loop = c .before .before .before .loop in
+    let pre = c .before .before .before .before .before .before .pre in
+    let next-symbol = c .before .before .next-symbol in
+    putting-end _ _ _ _ _ _ _ (loop .inv) (pre .1) (next-symbol .ensures) (c .enum-told2 .given .1)
 
 enum-known-next : tie.Need-enum-known-next Inv-loop μ-loop
 enum-known-next c = search needs
 
 gains-requires : tie.Need-gains-requires Inv-loop μ-loop
-gains-requires c κs = (c .before .before .before .before .loop .inv .known, found _ _ _ _ _ _ _ (c .before .before .before .before .loop .inv) (c .before .before .before .before .before .before .before .pre .1) (c .before .before .before .next-symbol .ensures) (c .before .next .given .1) .known)
+gains-requires c κs =
+    let loop = c .before .before .before .before .loop in
+    let pre = c .before .before .before .before .before .before .before .pre in
+    let next-symbol = c .before .before .before .next-symbol in
+    (loop .inv .known, found _ _ _ _ _ _ _ (loop .inv) (pre .1) (next-symbol .ensures) (c .before .next .given .1) .known)
 
 numbered-requires : tie.Need-numbered-requires Inv-loop μ-loop
 numbered-requires c κs = search needs
 
 write-requires : tie.Need-write-requires Inv-loop μ-loop
-write-requires c κs = (room-for _ _ _ _ _ _ _ (c .before .before .before .before .before .before .before .loop .inv) (c .before .before .before .before .before .before .before .before .before .before .pre .1) (c .before .before .before .before .before .before .next-symbol .ensures) (c .before .before .before .before .next .given .1) (c .before .before .gains .ensures), omega (arith, found _ _ _ _ _ _ _ (c .before .before .before .before .before .before .before .loop .inv) (c .before .before .before .before .before .before .before .before .before .before .pre .1) (c .before .before .before .before .before .before .next-symbol .ensures) (c .before .before .before .before .next .given .1) .known), number-fits _ _ _ _ _ _ _ (c .before .before .before .before .before .before .before .loop .inv) (c .before .before .before .before .before .before .before .before .before .before .pre .1) (c .before .before .before .before .before .before .next-symbol .ensures) (c .before .before .before .before .next .given .1) (c .before .before .before .before .before .before .before .before .before .before .pre .0) (c .before .numbered .ensures), place-fits _ _ _ _ _ _ _ (c .before .before .before .before .before .before .before .loop .inv) (c .before .before .before .before .before .before .before .before .before .before .pre .1) (c .before .before .before .before .before .before .next-symbol .ensures) (c .before .before .before .before .next .given .1) (c .before .before .before .before .before .before .before .before .before .before .pre .0) .0)
+write-requires c κs =
+    let loop = c .before .before .before .before .before .before .before .loop in
+    let pre = c .before .before .before .before .before .before .before .before .before .before .pre in
+    let next-symbol = c .before .before .before .before .before .before .next-symbol in
+    let next = c .before .before .before .before .next in
+    let gains = c .before .before .gains in (
+      room-for _ _ _ _ _ _ _ (loop .inv) (pre .1) (next-symbol .ensures) (next .given .1) (gains .ensures),
+      omega (arith, found _ _ _ _ _ _ _ (loop .inv) (pre .1) (next-symbol .ensures) (next .given .1) .known),
+      number-fits _ _ _ _ _ _ _ (loop .inv) (pre .1) (next-symbol .ensures) (next .given .1) (gains .ensures) (pre .0) (c .before .numbered .ensures),
+      place-fits _ _ _ _ _ _ _ (loop .inv) (pre .1) (next-symbol .ensures) (next .given .1) (gains .ensures) (pre .0),
+    )
 
 strings-past-requires : tie.Need-strings-past-requires Inv-loop μ-loop
-strings-past-requires c κs = place-fits _ _ _ _ _ _ _ (c .before .before .before .before .before .before .before .before .before .before .loop .inv) (c .before .before .before .before .before .before .before .before .before .before .before .before .before .pre .1) (c .before .before .before .before .before .before .before .before .before .next-symbol .ensures) (c .before .before .before .before .before .before .before .next .given .1) (c .before .before .before .before .before .before .before .before .before .before .before .before .before .pre .0) .1
+strings-past-requires c κs =
+    let loop = c .before .before .before .before .before .before .before .before .before .before .loop in
+    let pre = c .before .before .before .before .before .before .before .before .before .before .before .before .before .pre in
+    let next-symbol = c .before .before .before .before .before .before .before .before .before .next-symbol in
+    let next = c .before .before .before .before .before .before .before .next in
+    let gains = c .before .before .before .before .before .gains in
+    strings-fit _ _ _ _ _ _ _ (loop .inv) (pre .1) (next-symbol .ensures) (next .given .1) (gains .ensures) (pre .0)
 
 loop-less : tie.Need-loop-less Inv-loop μ-loop
-loop-less c = putting-less _ _ _ _ _ _ _ (c .before .before .before .before .before .before .before .before .before .before .before .loop .inv) (c .before .before .before .before .before .before .before .before .before .before .before .before .before .before .pre .1) (c .before .before .before .before .before .before .before .before .before .before .next-symbol .ensures) (c .before .before .before .before .before .before .before .before .next .given .1)
+loop-less c =
+    let loop = c .before .before .before .before .before .before .before .before .before .before .before .loop in
+    let pre = c .before .before .before .before .before .before .before .before .before .before .before .before .before .before .pre in
+    let next-symbol = c .before .before .before .before .before .before .before .before .before .before .next-symbol in
+    let next = c .before .before .before .before .before .before .before .before .next in
+    putting-less _ _ _ _ _ _ _ (loop .inv) (pre .1) (next-symbol .ensures) (next .given .1)
 
 loop-again : tie.Need-loop-again Inv-loop μ-loop
-loop-again c = putting-on _ _ _ _ _ _ _ (c .before .before .before .before .before .before .before .before .before .before .before .loop .inv) (c .before .before .before .before .before .before .before .before .before .before .before .before .before .before .pre .1) (c .before .before .before .before .before .before .before .before .before .before .next-symbol .ensures) (c .before .before .before .before .before .before .before .before .next .given .1) (c .before .before .before .before .before .before .gains .ensures) (c .before .before .before .before .before .numbered .ensures) (c .strings-past .ensures) (c .before .before .before .write .ensures)
+loop-again c =
+    let loop = c .before .before .before .before .before .before .before .before .before .before .before .loop in
+    let pre = c .before .before .before .before .before .before .before .before .before .before .before .before .before .before .pre in
+    let next-symbol = c .before .before .before .before .before .before .before .before .before .before .next-symbol in
+    let next = c .before .before .before .before .before .before .before .before .next in
+    let gains = c .before .before .before .before .before .before .gains in
+    let numbered = c .before .before .before .before .before .numbered in
+    let write = c .before .before .before .write in
+    putting-on _ _ _ _ _ _ _ (loop .inv) (pre .1) (next-symbol .ensures) (next .given .1) (gains .ensures) (numbered .ensures) (c .strings-past .ensures) (write .ensures)
 
 pub write-symbols-spec : {M : Type 1} → statement M
 write-symbols-spec =

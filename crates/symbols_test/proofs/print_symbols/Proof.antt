@@ -1,5 +1,3 @@
-use mathlib.Core.Path.{_≡_}
-use native.Mathlib.Omega.{arith}
 use borrow.Author.Needs.{needs}
 use Rattle.symbols_test.proofs.print_symbols.Statement.{statement}
 use Rattle.symbols_test.proofs.print_symbols.Tie as tie

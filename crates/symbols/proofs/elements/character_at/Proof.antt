@@ -14,7 +14,10 @@ enum-known-first : tie.Need-enum-known-first
 enum-known-first c = search needs
 
 add-character-at : tie.Need-add-character-at
-add-character-at c = omega (arith, is-inside 39 (c .before .before .before .before .before .args .text .now) (c .before .before .before .before .before .args .at) (when-is _ (c .before .before .before .character-at .ensures) (c .before .first .given .1)))
+add-character-at c =
+    let args = c .before .before .before .before .before .args in
+    let character-at = c .before .before .before .character-at in
+    omega (arith, is-inside 39 (args .text .now) (args .at) (when-is _ (character-at .ensures) (c .before .first .given .1)))
 
 character-at-requires-2 : tie.Need-character-at-requires-2
 character-at-requires-2 c κs = search needs
@@ -26,7 +29,11 @@ wide-requires : tie.Need-wide-requires
 wide-requires c κs = search needs
 
 add-t11 : tie.Need-add-t11
-add-t11 c = omega (arith, closing-inside 39 (c .before .before .before .before .before .before .before .before .before .args .text .now) (c .before .before .before .before .before .before .before .before .before .args .at + c .before .before .before .before .before .first .given .0 .1 .0) (when-closing _ (c .before .before .before .character-at2 .ensures) (c .before .enum-told .given .1)))
+add-t11 c =
+    let args = c .before .before .before .before .before .before .before .before .before .args in
+    let first = c .before .before .before .before .before .first in
+    let character-at2 = c .before .before .before .character-at2 in
+    omega (arith, closing-inside 39 (args .text .now) (args .at + first .given .0 .1 .0) (when-closing _ (character-at2 .ensures) (c .before .enum-told .given .1)))
 
 enum-told-2 : tie.Need-enum-told-2
 enum-told-2 c = search needs
@@ -41,19 +48,40 @@ enum-told-5 : tie.Need-enum-told-5
 enum-told-5 c = search needs
 
 returns : tie.Need-returns
-returns c = rw (c .wide .ensures .0) (a-character (c .before .before .before .before .before .before .before .before .before .args .text .now) (c .before .before .before .before .before .before .before .before .before .args .at) (when-is _ (c .before .before .before .before .before .before .before .character-at .ensures) (c .before .before .before .before .before .first .given .1)) (when-closing _ (c .before .before .before .character-at2 .ensures) (c .before .enum-told .given .1)))
+returns c =
+    let args = c .before .before .before .before .before .before .before .before .before .args in
+    let character-at = c .before .before .before .before .before .before .before .character-at in
+    let first = c .before .before .before .before .before .first in
+    let character-at2 = c .before .before .before .character-at2 in
+    rw (c .wide .ensures .0) (a-character (args .text .now) (args .at) (when-is _ (character-at .ensures) (first .given .1)) (when-closing _ (character-at2 .ensures) (c .before .enum-told .given .1)))
 
 returns-2 : tie.Need-returns-2
-returns-2 c = two-characters (c .before .before .before .before .before .before .before .before .args .text .now) (c .before .before .before .before .before .before .before .before .args .at) (when-is _ (c .before .before .before .before .before .before .character-at .ensures) (c .before .before .before .before .first .given .1)) (when-is _ (c .before .before .character-at2 .ensures) (c .enum-told2 .given .1))
+returns-2 c =
+    let args = c .before .before .before .before .before .before .before .before .args in
+    let character-at = c .before .before .before .before .before .before .character-at in
+    let first = c .before .before .before .before .first in
+    let character-at2 = c .before .before .character-at2 in
+    two-characters (args .text .now) (args .at) (when-is _ (character-at .ensures) (first .given .1)) (when-is _ (character-at2 .ensures) (c .enum-told2 .given .1))
 
 returns-3 : tie.Need-returns-3
-returns-3 c = not-closed (c .before .before .before .before .before .before .before .before .args .text .now) (c .before .before .before .before .before .before .before .before .args .at) (when-is _ (c .before .before .before .before .before .before .character-at .ensures) (c .before .before .before .before .first .given .1)) (when-bad _ (c .before .before .character-at2 .ensures) (c .enum-told3 .given .1))
+returns-3 c =
+    let args = c .before .before .before .before .before .before .before .before .args in
+    let character-at = c .before .before .before .before .before .before .character-at in
+    let first = c .before .before .before .before .first in
+    let character-at2 = c .before .before .character-at2 in
+    not-closed (args .text .now) (args .at) (when-is _ (character-at .ensures) (first .given .1)) (when-bad _ (character-at2 .ensures) (c .enum-told3 .given .1))
 
 returns-4 : tie.Need-returns-4
-returns-4 c = empty-character (c .before .before .before .before .args .text .now) (c .before .before .before .before .args .at) (when-closing _ (c .before .before .character-at .ensures) (c .enum-told4 .given .1))
+returns-4 c =
+    let args = c .before .before .before .before .args in
+    let character-at = c .before .before .character-at in
+    empty-character (args .text .now) (args .at) (when-closing _ (character-at .ensures) (c .enum-told4 .given .1))
 
 returns-5 : tie.Need-returns-5
-returns-5 c = bad-character (c .before .before .before .before .args .text .now) (c .before .before .before .before .args .at) (when-bad _ (c .before .before .character-at .ensures) (c .enum-told5 .given .1))
+returns-5 c =
+    let args = c .before .before .before .before .args in
+    let character-at = c .before .before .character-at in
+    bad-character (args .text .now) (args .at) (when-bad _ (character-at .ensures) (c .enum-told5 .given .1))
 
 pub character-at-spec : {M : Type 1} → statement M
 character-at-spec =

@@ -1,4 +1,3 @@
-use mathlib.Core.Path.{refl}
 use Rattle.symbols.proofs.Classes.{class-digit, class-is}
 use Rattle.language.specs.Bytes.{classOf}
 use borrow.Author.Needs.{needs}

@@ -27,7 +27,10 @@ sub-t8 : tie.Need-sub-t8 Inv-loop μ-loop
 sub-t8 c = search needs
 
 returns : tie.Need-returns Inv-loop μ-loop
-returns c = a-comment _ (omega (arith, run-stop comment-run (c .before .before .before .before .args .text .now) (c .before .before .before .loop .i) (omega arith) (ap not (eq-eqb _ 10 (c .if1 .taken)))))
+returns c =
+    let args = c .before .before .before .before .args in
+    let loop = c .before .before .before .loop in
+    a-comment _ (omega (arith, run-stop comment-run (args .text .now) (loop .i) (omega arith) (ap not (eq-eqb _ 10 (c .if1 .taken)))))
 
 add-i : tie.Need-add-i Inv-loop μ-loop
 add-i c = search needs
@@ -36,7 +39,10 @@ loop-less : tie.Need-loop-less Inv-loop μ-loop
 loop-less c = search needs
 
 loop-again : tie.Need-loop-again Inv-loop μ-loop
-loop-again c = omega (arith, run-more comment-run (c .before .before .before .before .args .text .now) (c .before .before .before .loop .i) (omega arith) (ap not (ne-eqb _ 10 (c .if1 .left))))
+loop-again c =
+    let args = c .before .before .before .before .args in
+    let loop = c .before .before .before .loop in
+    omega (arith, run-more comment-run (args .text .now) (loop .i) (omega arith) (ap not (ne-eqb _ 10 (c .if1 .left))))
 
 sub-t9 : tie.Need-sub-t9 Inv-loop μ-loop
 sub-t9 c = search needs

@@ -33,10 +33,21 @@ sub-t12 : tie.Need-sub-t12 Inv-loop μ-loop
 sub-t12 c = search needs
 
 returns : tie.Need-returns Inv-loop μ-loop
-returns c = (omega (arith, run-stop (digits-run (c .before .before .before .before .before .before .before .args .base)) (c .before .before .before .before .before .before .before .args .text .now) (c .before .before .before .before .before .loop .i) (omega arith) (rw (c .before .before .wide .ensures .0) at (sym (c .before .is-digit .ensures) ∙ not-true _ (c .if1 .taken)))), sym (value-stop (c .before .before .before .before .before .before .before .args .base) (c .before .before .before .before .before .loop .n) (c .before .before .before .before .before .before .before .args .text .now) (c .before .before .before .before .before .loop .i) (omega arith) (c .before .before .wide .ensures .0) (sym (c .before .is-digit .ensures) ∙ not-true _ (c .if1 .taken)) (c .before .before .before .before .before .loop .inv .1)) ∙ c .before .before .before .before .before .loop .inv .3)
+returns c =
+    let args = c .before .before .before .before .before .before .before .args in
+    let loop = c .before .before .before .before .before .loop in
+    let wide = c .before .before .wide in (
+      omega (arith, run-stop (digits-run (args .base)) (args .text .now) (loop .i) (omega arith) (rw (wide .ensures .0) at (sym (c .before .is-digit .ensures) ∙ not-true _ (c .if1 .taken)))),
+      sym (value-stop (args .base) (loop .n) (args .text .now) (loop .i) (omega arith) (wide .ensures .0) (sym (c .before .is-digit .ensures) ∙ not-true _ (c .if1 .taken)) (loop .inv .1)) ∙ loop .inv .3,
+    )
 
 and-digit-requires : tie.Need-and-digit-requires Inv-loop μ-loop
-and-digit-requires c κs = (c .before .before .before .before .before .before .before .pre .1, c .before .before .before .before .before .loop .inv .1, digit-from (c .before .before .before .before .before .before .before .args .base) _ (sym (c .before .is-digit .ensures) ∙ not-false _ (c .if1 .left)), c .before .before .wide .ensures .1)
+and-digit-requires c κs =
+    let pre = c .before .before .before .before .before .before .before .pre in
+    let loop = c .before .before .before .before .before .loop in
+    let args = c .before .before .before .before .before .before .before .args in
+    let wide = c .before .before .wide in
+    (pre .1, loop .inv .1, digit-from (args .base) _ (sym (c .before .is-digit .ensures) ∙ not-false _ (c .if1 .left)), wide .ensures .1)
 
 add-i : tie.Need-add-i Inv-loop μ-loop
 add-i c = search needs
@@ -45,13 +56,28 @@ loop-less : tie.Need-loop-less Inv-loop μ-loop
 loop-less c = search needs
 
 loop-again : tie.Need-loop-again Inv-loop μ-loop
-loop-again c = (omega arith, rw (c .and-digit .ensures) (capped-within _), omega (arith, run-more (digits-run (c .before .before .before .before .before .before .before .before .args .base)) (c .before .before .before .before .before .before .before .before .args .text .now) (c .before .before .before .before .before .before .loop .i) (omega arith) (rw (c .before .before .before .wide .ensures .0) at (sym (c .before .before .is-digit .ensures) ∙ not-false _ (c .before .if1 .left)))), ap (λ (m : ℕ). capped (valueOf (c .before .before .before .before .before .before .before .before .args .base) m (drop (c .before .before .before .before .before .before .loop .i + 1) (c .before .before .before .before .before .before .before .before .args .text .now)))) (c .and-digit .ensures) ∙ sym (value-more (c .before .before .before .before .before .before .before .before .args .base) (c .before .before .before .before .before .before .loop .n) (c .before .before .before .before .before .before .before .before .args .text .now) (c .before .before .before .before .before .before .loop .i) (omega arith) (c .before .before .before .wide .ensures .0) (c .before .before .before .before .before .before .before .before .pre .0) (sym (c .before .before .is-digit .ensures) ∙ not-false _ (c .before .if1 .left))) ∙ c .before .before .before .before .before .before .loop .inv .3)
+loop-again c =
+    let args = c .before .before .before .before .before .before .before .before .args in
+    let loop = c .before .before .before .before .before .before .loop in
+    let wide = c .before .before .before .wide in
+    let is-digit = c .before .before .is-digit in
+    let pre = c .before .before .before .before .before .before .before .before .pre in (
+      omega arith,
+      rw (c .and-digit .ensures) (capped-within _),
+      omega (arith, run-more (digits-run (args .base)) (args .text .now) (loop .i) (omega arith) (rw (wide .ensures .0) at (sym (is-digit .ensures) ∙ not-false _ (c .before .if1 .left)))),
+      ap (λ (m : ℕ). capped (valueOf (args .base) m (drop (loop .i + 1) (args .text .now)))) (c .and-digit .ensures) ∙ sym (value-more (args .base) (loop .n) (args .text .now) (loop .i) (omega arith) (wide .ensures .0) (pre .0) (sym (is-digit .ensures) ∙ not-false _ (c .before .if1 .left))) ∙ loop .inv .3,
+    )
 
 sub-t13 : tie.Need-sub-t13 Inv-loop μ-loop
 sub-t13 c = search needs
 
 returns-2 : tie.Need-returns-2 Inv-loop μ-loop
-returns-2 c = (omega (arith, run-end (digits-run (c .before .before .before .args .base)) (c .before .before .before .args .text .now) (c .before .loop .i) (omega arith)), sym (value-end (c .before .before .before .args .base) (c .before .loop .n) (c .before .before .before .args .text .now) (c .before .loop .i) (omega arith) (c .before .loop .inv .1)) ∙ c .before .loop .inv .3)
+returns-2 c =
+    let args = c .before .before .before .args in
+    let loop = c .before .loop in (
+      omega (arith, run-end (digits-run (args .base)) (args .text .now) (loop .i) (omega arith)),
+      sym (value-end (args .base) (loop .n) (args .text .now) (loop .i) (omega arith) (loop .inv .1)) ∙ loop .inv .3,
+    )
 
 pub digits-at-spec : {M : Type 1} → statement M
 digits-at-spec =

@@ -53,15 +53,24 @@ returns-2 c = c .decimal-at .ensures ∙ ap asElement (of-class _ _ (c .before .
 
 returns-3 : tie.Need-returns-3
 unfolding byClass
-returns-3 c = c .octal-at .ensures ∙ ap (λ (l : List ℕ). asElement (octal l)) (sym (drop-drop 1 (c .before .before .before .before .before .args .at) (c .before .before .before .before .before .args .text .now))) ∙ ap asElement (of-class _ _ (c .before .before .class-of .ensures) 4 (c .before .match .keys3))
+returns-3 c =
+    let args = c .before .before .before .before .before .args in
+    let class-of = c .before .before .class-of in
+    c .octal-at .ensures ∙ ap (λ (l : List ℕ). asElement (octal l)) (sym (drop-drop 1 (args .at) (args .text .now))) ∙ ap asElement (of-class _ _ (class-of .ensures) 4 (c .before .match .keys3))
 
 returns-4 : tie.Need-returns-4
 unfolding byClass
-returns-4 c = c .character-at .ensures ∙ ap (λ (l : List ℕ). asElement (character l)) (sym (drop-drop 1 (c .before .before .before .before .before .args .at) (c .before .before .before .before .before .args .text .now))) ∙ ap asElement (of-class _ _ (c .before .before .class-of .ensures) 5 (c .before .match .keys4))
+returns-4 c =
+    let args = c .before .before .before .before .before .args in
+    let class-of = c .before .before .class-of in
+    c .character-at .ensures ∙ ap (λ (l : List ℕ). asElement (character l)) (sym (drop-drop 1 (args .at) (args .text .now))) ∙ ap asElement (of-class _ _ (class-of .ensures) 5 (c .before .match .keys4))
 
 returns-5 : tie.Need-returns-5
 unfolding byClass
-returns-5 c = c .string-at .ensures ∙ ap (λ (l : List ℕ). asElement (string l)) (sym (drop-drop 1 (c .before .before .before .before .before .args .at) (c .before .before .before .before .before .args .text .now))) ∙ ap asElement (of-class _ _ (c .before .before .class-of .ensures) 6 (c .before .match .keys5))
+returns-5 c =
+    let args = c .before .before .before .before .before .args in
+    let class-of = c .before .before .class-of in
+    c .string-at .ensures ∙ ap (λ (l : List ℕ). asElement (string l)) (sym (drop-drop 1 (args .at) (args .text .now))) ∙ ap asElement (of-class _ _ (class-of .ensures) 6 (c .before .match .keys5))
 
 returns-6 : tie.Need-returns-6
 unfolding byClass
@@ -69,15 +78,21 @@ returns-6 c = c .sign-or-comment .ensures ∙ ap asElement (of-class _ _ (c .bef
 
 returns-7 : tie.Need-returns-7
 unfolding byClass asElement
-returns-7 c = ap asElement (of-class (drop (c .before .before .before .before .args .at) (c .before .before .before .before .args .text .now)) _ (c .before .class-of .ensures) 8 (c .match .keys7))
+returns-7 c =
+    let args = c .before .before .before .before .args in
+    ap asElement (of-class (drop (args .at) (args .text .now)) _ (c .before .class-of .ensures) 8 (c .match .keys7))
 
 returns-8 : tie.Need-returns-8
 unfolding byClass asElement
-returns-8 c = ap asElement (of-class (drop (c .before .before .before .before .args .at) (c .before .before .before .before .args .text .now)) _ (c .before .class-of .ensures) 9 (c .match .keys8))
+returns-8 c =
+    let args = c .before .before .before .before .args in
+    ap asElement (of-class (drop (args .at) (args .text .now)) _ (c .before .class-of .ensures) 9 (c .match .keys8))
 
 returns-9 : tie.Need-returns-9
 unfolding asElement
-returns-9 c = ap asElement (no-class (drop (c .before .before .before .before .args .at) (c .before .before .before .before .args .text .now)) _ (c .before .class-of .ensures) (c .match .rest))
+returns-9 c =
+    let args = c .before .before .before .before .args in
+    ap asElement (no-class (drop (args .at) (args .text .now)) _ (c .before .class-of .ensures) (c .match .rest))
 
 pub element-at-spec : {M : Type 1} → statement M
 element-at-spec =

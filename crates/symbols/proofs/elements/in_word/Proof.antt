@@ -1,5 +1,3 @@
-use mathlib.Core.Path.{_∙_, sym, ap}
-use Prim.Native.Nat.{ℕ}
 use Rattle.symbols.proofs.Heads.{below-words, from-words}
 use borrow.Author.Needs.{needs}
 use Rattle.symbols.proofs.elements.in_word.Statement.{statement}

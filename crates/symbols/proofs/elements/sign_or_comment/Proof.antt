@@ -1,5 +1,4 @@
 use mathlib.Core.Path.{_∙_, sym, ap}
-use lib.ListN.{drop}
 use Rattle.symbols.specs.Answers.{asElement}
 use Rattle.symbols.proofs.Heads.{is-comment, is-sign}
 use borrow.Author.Needs.{needs}

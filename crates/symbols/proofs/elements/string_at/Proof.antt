@@ -28,16 +28,36 @@ enum-known-c : tie.Need-enum-known-c Inv-loop μ-loop
 enum-known-c c = search needs
 
 add-n : tie.Need-add-n Inv-loop μ-loop
-add-n c = omega (arith, is-inside 34 (c .before .before .before .before .before .before .args .text .now) (c .before .before .before .before .loop .i) (when-is _ (c .before .before .before .character-at .ensures) (c .before .c .given .1)))
+add-n c =
+    let args = c .before .before .before .before .before .before .args in
+    let loop = c .before .before .before .before .loop in
+    let character-at = c .before .before .before .character-at in
+    omega (arith, is-inside 34 (args .text .now) (loop .i) (when-is _ (character-at .ensures) (c .before .c .given .1)))
 
 add-i : tie.Need-add-i Inv-loop μ-loop
-add-i c = omega (arith, is-inside 34 (c .before .before .before .before .before .before .args .text .now) (c .before .before .before .before .loop .i) (when-is _ (c .before .before .before .character-at .ensures) (c .before .c .given .1)))
+add-i c =
+    let args = c .before .before .before .before .before .before .args in
+    let loop = c .before .before .before .before .loop in
+    let character-at = c .before .before .before .character-at in
+    omega (arith, is-inside 34 (args .text .now) (loop .i) (when-is _ (character-at .ensures) (c .before .c .given .1)))
 
 loop-less : tie.Need-loop-less Inv-loop μ-loop
-loop-less c = omega (arith, is-inside 34 (c .before .before .before .before .before .before .args .text .now) (c .before .before .before .before .loop .i) (when-is _ (c .before .before .before .character-at .ensures) (c .before .c .given .1)))
+loop-less c =
+    let args = c .before .before .before .before .before .before .args in
+    let loop = c .before .before .before .before .loop in
+    let character-at = c .before .before .before .character-at in
+    omega (arith, is-inside 34 (args .text .now) (loop .i) (when-is _ (character-at .ensures) (c .before .c .given .1)))
 
 loop-again : tie.Need-loop-again Inv-loop μ-loop
-loop-again c = (omega (arith, is-inside 34 (c .before .before .before .before .before .before .args .text .now) (c .before .before .before .before .loop .i) (when-is _ (c .before .before .before .character-at .ensures) (c .before .c .given .1))), is-inside 34 (c .before .before .before .before .before .before .args .text .now) (c .before .before .before .before .loop .i) (when-is _ (c .before .before .before .character-at .ensures) (c .before .c .given .1)) .1, c .before .before .before .before .loop .inv .2 ∙ string-more (c .before .before .before .before .before .before .args .text .now) (c .before .before .before .before .loop .i) (c .before .before .before .before .loop .n) (c .before .before .before .before .loop .i - c .before .before .before .before .before .before .args .at) (when-is _ (c .before .before .before .character-at .ensures) (c .before .c .given .1)) (omega (arith, c .before .before .before .before .loop .inv .0)))
+loop-again c =
+    let args = c .before .before .before .before .before .before .args in
+    let loop = c .before .before .before .before .loop in
+    let character-at = c .before .before .before .character-at in
+    let c′ = c .before .c in (
+      omega (arith, is-inside 34 (args .text .now) (loop .i) (when-is _ (character-at .ensures) (c′ .given .1))),
+      is-inside 34 (args .text .now) (loop .i) (when-is _ (character-at .ensures) (c′ .given .1)) .1,
+      loop .inv .2 ∙ string-more (args .text .now) (loop .i) (loop .n) (loop .i - args .at) (when-is _ (character-at .ensures) (c′ .given .1)) (omega (arith, loop .inv .0)),
+    )
 
 enum-told : tie.Need-enum-told Inv-loop μ-loop
 enum-told c = search needs
@@ -46,19 +66,35 @@ sub-t8 : tie.Need-sub-t8 Inv-loop μ-loop
 sub-t8 c = search needs
 
 add-t9 : tie.Need-add-t9 Inv-loop μ-loop
-add-t9 c = omega (arith, closing-inside 34 (c .before .before .before .before .before .before .args .text .now) (c .before .before .before .before .loop .i) (when-closing _ (c .before .before .before .character-at .ensures) (c .before .enum-told .given .1)))
+add-t9 c =
+    let args = c .before .before .before .before .before .before .args in
+    let loop = c .before .before .before .before .loop in
+    let character-at = c .before .before .before .character-at in
+    omega (arith, closing-inside 34 (args .text .now) (loop .i) (when-closing _ (character-at .ensures) (c .before .enum-told .given .1)))
 
 returns : tie.Need-returns Inv-loop μ-loop
-returns c = a-string (c .before .before .before .before .before .before .args .text .now) (c .before .before .before .before .loop .i) (c .before .before .before .before .loop .n) (c .before .before .before .before .loop .i - c .before .before .before .before .before .before .args .at) (when-closing _ (c .before .before .before .character-at .ensures) (c .before .enum-told .given .1)) (c .if1 .taken) ∙ ap asElement (sym (c .before .before .before .before .loop .inv .2))
+returns c =
+    let args = c .before .before .before .before .before .before .args in
+    let loop = c .before .before .before .before .loop in
+    let character-at = c .before .before .before .character-at in
+    a-string (args .text .now) (loop .i) (loop .n) (loop .i - args .at) (when-closing _ (character-at .ensures) (c .before .enum-told .given .1)) (c .if1 .taken) ∙ ap asElement (sym (loop .inv .2))
 
 returns-2 : tie.Need-returns-2 Inv-loop μ-loop
-returns-2 c = long-string (c .before .before .before .before .before .before .args .text .now) (c .before .before .before .before .loop .i) (c .before .before .before .before .loop .n) (c .before .before .before .before .loop .i - c .before .before .before .before .before .before .args .at) (when-closing _ (c .before .before .before .character-at .ensures) (c .before .enum-told .given .1)) (c .if1 .left) ∙ ap asElement (sym (c .before .before .before .before .loop .inv .2))
+returns-2 c =
+    let args = c .before .before .before .before .before .before .args in
+    let loop = c .before .before .before .before .loop in
+    let character-at = c .before .before .before .character-at in
+    long-string (args .text .now) (loop .i) (loop .n) (loop .i - args .at) (when-closing _ (character-at .ensures) (c .before .enum-told .given .1)) (c .if1 .left) ∙ ap asElement (sym (loop .inv .2))
 
 enum-told-2 : tie.Need-enum-told-2 Inv-loop μ-loop
 enum-told-2 c = search needs
 
 returns-3 : tie.Need-returns-3 Inv-loop μ-loop
-returns-3 c = bad-string (c .before .before .before .before .before .args .text .now) (c .before .before .before .loop .i) (c .before .before .before .loop .n) (c .before .before .before .loop .i - c .before .before .before .before .before .args .at) (when-bad _ (c .before .before .character-at .ensures) (c .enum-told2 .given .1)) ∙ ap asElement (sym (c .before .before .before .loop .inv .2))
+returns-3 c =
+    let args = c .before .before .before .before .before .args in
+    let loop = c .before .before .before .loop in
+    let character-at = c .before .before .character-at in
+    bad-string (args .text .now) (loop .i) (loop .n) (loop .i - args .at) (when-bad _ (character-at .ensures) (c .enum-told2 .given .1)) ∙ ap asElement (sym (loop .inv .2))
 
 pub string-at-spec : {M : Type 1} → statement M
 string-at-spec =

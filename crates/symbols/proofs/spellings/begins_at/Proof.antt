@@ -25,7 +25,11 @@ add-if1 : tie.Need-add-if1 Inv-loop μ-loop
 add-if1 c = omega arith
 
 returns : tie.Need-returns Inv-loop μ-loop
-returns c = sym (c .before .before .loop .inv .2 ∙ begins-past (spellingAt (c .before .before .before .before .before .args .row)) (c .before .before .before .before .before .args .text .now) (c .before .before .loop .i) (c .before .before .before .before .before .args .at + c .before .before .loop .i) (omega (arith, c .before .before .before .entry .ensures)) (c .if1 .taken))
+returns c =
+    let loop = c .before .before .loop in
+    let args = c .before .before .before .before .before .args in
+    let entry = c .before .before .before .entry in
+    sym (loop .inv .2 ∙ begins-past (spellingAt (args .row)) (args .text .now) (loop .i) (args .at + loop .i) (omega (arith, entry .ensures)) (c .if1 .taken))
 
 add-wide : tie.Need-add-wide Inv-loop μ-loop
 add-wide c = omega arith
@@ -37,13 +41,25 @@ wide-requires : tie.Need-wide-requires Inv-loop μ-loop
 wide-requires c κs = search needs
 
 add-entry : tie.Need-add-entry Inv-loop μ-loop
-add-entry c = omega (arith, short-row (c .before .before .before .before .before .before .before .args .row) (c .before .before .before .before .before .before .before .pre .1))
+add-entry c =
+    let args = c .before .before .before .before .before .before .before .args in
+    let pre = c .before .before .before .before .before .before .before .pre in
+    omega (arith, short-row (args .row) (pre .1))
 
 entry-requires-2 : tie.Need-entry-requires-2 Inv-loop μ-loop
-entry-requires-2 c κs = (c .before .before .before .before .before .before .before .pre .1, omega (arith, short-row (c .before .before .before .before .before .before .before .args .row) (c .before .before .before .before .before .before .before .pre .1), c .before .before .before .before .before .entry .ensures))
+entry-requires-2 c κs =
+    let pre = c .before .before .before .before .before .before .before .pre in
+    let args = c .before .before .before .before .before .before .before .args in
+    let entry = c .before .before .before .before .before .entry in
+    (pre .1, omega (arith, short-row (args .row) (pre .1), entry .ensures))
 
 returns-2 : tie.Need-returns-2 Inv-loop μ-loop
-returns-2 c = sym (c .before .before .before .before .before .before .loop .inv .2 ∙ begins-differs (spellingAt (c .before .before .before .before .before .before .before .before .before .args .row)) (c .before .before .before .before .before .before .before .before .before .args .text .now) (c .before .before .before .before .before .before .loop .i) (c .before .before .before .before .before .before .before .before .before .args .at + c .before .before .before .before .before .before .loop .i) (omega (arith, c .before .before .before .before .before .before .before .entry .ensures)) (omega arith) (λ e. c .if2 .taken (c .before .before .wide .ensures .0 ∙ e ∙ sym (c .before .entry2 .ensures ∙ letter-is _ _))))
+returns-2 c =
+    let loop = c .before .before .before .before .before .before .loop in
+    let args = c .before .before .before .before .before .before .before .before .before .args in
+    let entry = c .before .before .before .before .before .before .before .entry in
+    let wide = c .before .before .wide in
+    sym (loop .inv .2 ∙ begins-differs (spellingAt (args .row)) (args .text .now) (loop .i) (args .at + loop .i) (omega (arith, entry .ensures)) (omega arith) (λ e. c .if2 .taken (wide .ensures .0 ∙ e ∙ sym (c .before .entry2 .ensures ∙ letter-is _ _))))
 
 add-i : tie.Need-add-i Inv-loop μ-loop
 add-i c = omega arith
@@ -52,10 +68,18 @@ loop-less : tie.Need-loop-less Inv-loop μ-loop
 loop-less c = omega (arith, c .before .before .before .before .before .before .before .entry .ensures)
 
 loop-again : tie.Need-loop-again Inv-loop μ-loop
-loop-again c = let next : c .before .before .before .before .before .before .before .before .before .args .at + (c .before .before .before .before .before .before .loop .i + 1) ≡ c .before .before .before .before .before .before .before .before .before .args .at + c .before .before .before .before .before .before .loop .i + 1 = omega arith in (omega (arith, c .before .before .before .before .before .before .before .entry .ensures), omega arith, c .before .before .before .before .before .before .loop .inv .2 ∙ begins-more (spellingAt (c .before .before .before .before .before .before .before .before .before .args .row)) (c .before .before .before .before .before .before .before .before .before .args .text .now) (c .before .before .before .before .before .before .loop .i) (c .before .before .before .before .before .before .before .before .before .args .at + c .before .before .before .before .before .before .loop .i) (omega (arith, c .before .before .before .before .before .before .before .entry .ensures)) (omega arith) (sym (c .before .before .wide .ensures .0) ∙ c .if2 .left ∙ c .before .entry2 .ensures ∙ letter-is _ _) next)
+loop-again c =
+    let args = c .before .before .before .before .before .before .before .before .before .args in
+    let loop = c .before .before .before .before .before .before .loop in
+    let entry = c .before .before .before .before .before .before .before .entry in
+    let wide = c .before .before .wide in
+    let next : args .at + (loop .i + 1) ≡ args .at + loop .i + 1 = omega arith in (omega (arith, entry .ensures), omega arith, loop .inv .2 ∙ begins-more (spellingAt (args .row)) (args .text .now) (loop .i) (args .at + loop .i) (omega (arith, entry .ensures)) (omega arith) (sym (wide .ensures .0) ∙ c .if2 .left ∙ c .before .entry2 .ensures ∙ letter-is _ _) next)
 
 returns-3 : tie.Need-returns-3 Inv-loop μ-loop
-returns-3 c = sym (c .before .loop .inv .2 ∙ begins-whole (spellingAt (c .before .before .before .before .args .row)) _ (c .before .loop .i) (omega (arith, c .before .before .entry .ensures)))
+returns-3 c =
+    let args = c .before .before .before .before .args in
+    let entry = c .before .before .entry in
+    sym (c .before .loop .inv .2 ∙ begins-whole (spellingAt (args .row)) _ (c .before .loop .i) (omega (arith, entry .ensures)))
 
 pub begins-at-spec : {M : Type 1} → statement M
 begins-at-spec =

@@ -1,4 +1,4 @@
-use mathlib.Core.Path.{refl, _∙_}
+use mathlib.Core.Path.{_∙_}
 use Rattle.language.specs.Kinds.{reserved, signs}
 use Rattle.symbols.specs.Spellings.{spelled}
 use Rattle.symbols.proofs.Spelling.{entry-is}

@@ -25,7 +25,11 @@ entry-requires : tie.Need-entry-requires Inv-loop μ-loop
 entry-requires c κs = search needs
 
 returns : tie.Need-returns Inv-loop μ-loop
-returns c = c .entry .ensures ∙ sym (c .before .before .before .before .loop .inv .1 ∙ kind-here _ _ (c .before .before .before .loop-test .taken) (sym (c .before .before .is-row .ensures) ∙ c .before .if1 .taken))
+returns c =
+    let loop = c .before .before .before .before .loop in
+    let loop-test = c .before .before .before .loop-test in
+    let is-row = c .before .before .is-row in
+    c .entry .ensures ∙ sym (loop .inv .1 ∙ kind-here _ _ (loop-test .taken) (sym (is-row .ensures) ∙ c .before .if1 .taken))
 
 add-row : tie.Need-add-row Inv-loop μ-loop
 add-row c = omega arith
@@ -34,7 +38,10 @@ loop-less : tie.Need-loop-less Inv-loop μ-loop
 loop-less c = omega arith
 
 loop-again : tie.Need-loop-again Inv-loop μ-loop
-loop-again c = (omega arith, c .before .before .before .loop .inv .1 ∙ kind-next _ _ (c .before .before .loop-test .taken) (sym (c .before .is-row .ensures) ∙ c .if1 .left))
+loop-again c =
+    let loop = c .before .before .before .loop in
+    let loop-test = c .before .before .loop-test in
+    (omega arith, loop .inv .1 ∙ kind-next _ _ (loop-test .taken) (sym (c .before .is-row .ensures) ∙ c .if1 .left))
 
 returns-2 : tie.Need-returns-2 Inv-loop μ-loop
 returns-2 c = sym (c .before .loop .inv .1 ∙ kind-end _ _ (c .loop-test .left))

@@ -29,7 +29,12 @@ entry-requires-2 : tie.Need-entry-requires-2 Inv-loop μ-loop
 entry-requires-2 c κs = search needs
 
 returns : tie.Need-returns Inv-loop μ-loop
-returns c = a-sign _ _ (c .before .before .before .before .loop-test .taken) (c .before .entry .ensures) (c .entry2 .ensures) (c .before .before .before .before .before .loop .inv .1) (sym (c .before .before .before .begins-at .ensures) ∙ c .before .before .if1 .taken)
+returns c =
+    let loop-test = c .before .before .before .before .loop-test in
+    let loop = c .before .before .before .before .before .loop in
+    let begins-at = c .before .before .before .begins-at in
+    let if1 = c .before .before .if1 in
+    a-sign _ _ (loop-test .taken) (c .before .entry .ensures) (c .entry2 .ensures) (loop .inv .1) (sym (begins-at .ensures) ∙ if1 .taken)
 
 add-row : tie.Need-add-row Inv-loop μ-loop
 add-row c = omega arith
@@ -38,7 +43,10 @@ loop-less : tie.Need-loop-less Inv-loop μ-loop
 loop-less c = omega arith
 
 loop-again : tie.Need-loop-again Inv-loop μ-loop
-loop-again c = (omega arith, c .before .before .before .loop .inv .1 ∙ sign-next _ _ (c .before .before .loop-test .taken) (sym (c .before .begins-at .ensures) ∙ c .if1 .left))
+loop-again c =
+    let loop = c .before .before .before .loop in
+    let loop-test = c .before .before .loop-test in
+    (omega arith, loop .inv .1 ∙ sign-next _ _ (loop-test .taken) (sym (c .before .begins-at .ensures) ∙ c .if1 .left))
 
 returns-2 : tie.Need-returns-2 Inv-loop μ-loop
 unfolding asElement

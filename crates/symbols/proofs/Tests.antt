@@ -1,12 +1,11 @@
--- The tables of kinds that end and begin a line, and the tests on lengths.
+-- The small tests: kinds that end and begin a line, by their tables, and the room in scratch.
 use Prim.Native.Nat.{ℕ, _+_, _-_, _*_, _/_, _<_, _≤_}
-use mathlib.Core.Path.{_≡_, refl, sym, ap, _∙_}
+use mathlib.Core.Path.{_≡_, refl, sym}
 use mathlib.Core.Bool.{Bool, true, false, cond}
 use native.Mathlib.Omega.{arith}
 use lib.Dec.{eqb, ltb}
 use lib.ListN.{getD}
 use borrow.Author.Tests.{lt-ltb, le-ltb, ltb-true, ltb-false}
-use Rattle.language.specs.Semicolons.{endsLine, beginsLine}
 use Rattle.symbols.proofs.Table.{tabulate, tabulate-at}
 
 abbrev pub mark : Bool → ℕ
