@@ -56,6 +56,8 @@ fn show(source: &[u8]) {
             say_number(number as u64);
             say(b" at ");
             say_number(place as u64);
+            say(b" line ");
+            say_number(text::line_of(source, place) as u64);
             say(b"\n");
         }
         SymbolsRead::Read(count) => print_symbols(&scratch, count),
