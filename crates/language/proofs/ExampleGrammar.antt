@@ -205,3 +205,22 @@ valof-65 = refl
 around : verdict "LET F() BE SWITCHON A INTO $( IF B DO CASE 1: REPEAT $)" ≡ (0, 0)
 unfolding verdict
 around = refl
+
+-- NOT may begin a relation's left operand, as it may any; a second relation cannot follow
+not-related : verdict "LET F() = NOT A >> 5 = 14" ≡ (0, 0)
+unfolding verdict
+not-related = refl
+
+related-twice : verdict "LET F() = A = NOT B = C ~= D" ≡ (6, 24)
+unfolding verdict
+related-twice = refl
+
+-- an empty command at the end of a VALOF: a symbol that begins no command belongs to what is outside
+empty-in-valof : verdict "LET F() = VALOF CASE 1: * 2" ≡ (0, 0)
+unfolding verdict
+empty-in-valof = refl
+
+-- an expression may be a left side, so what cannot follow is the semicolon
+relation-alone : verdict "LET F() BE $( A = 1; RETURN $)" ≡ (6, 19)
+unfolding verdict
+relation-alone = refl
