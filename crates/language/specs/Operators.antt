@@ -3,8 +3,7 @@ use Prim.Native.Nat.{ℕ}
 use mathlib.Core.Bool.{Bool, cond}
 use mathlib.Core.Option.{Option, none, some}
 use lib.Dec.{eqb}
-use lib.Bits.{bitAnd, bitOr}
-use Rattle.words.specs.Words.{add, sub, neg, complement, mul, quot, rem, eq, ne, lt, ge, gt, le, shl, shr}
+use Rattle.words.specs.Words.{add, sub, neg, complement, mul, quot, rem, eq, ne, lt, ge, gt, le, conj, disj, shl, shr}
 use Rattle.language.specs.Kinds.{PLUS, MINUS, STAR, SLASH, REM, EQUAL, UNEQUAL, LESS, ATMOST, MORE, ATLEAST, LEFT, RIGHT, AMPERSAND, BAR, NOT}
 
 -- monadic + - and NOT
@@ -27,5 +26,5 @@ dyadic o v w =
     (cond (eqb o ATLEAST) (some (ge v w))
     (cond (eqb o LEFT) (some (shl v w))
     (cond (eqb o RIGHT) (some (shr v w))
-    (cond (eqb o AMPERSAND) (some (bitAnd v w))
-    (cond (eqb o BAR) (some (bitOr v w)) none))))))))))))))
+    (cond (eqb o AMPERSAND) (some (conj v w))
+    (cond (eqb o BAR) (some (disj v w)) none))))))))))))))

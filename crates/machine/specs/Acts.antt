@@ -4,8 +4,7 @@ use mathlib.Core.Bool.{Bool, cond}
 use mathlib.Core.List.{List, [], _∷_}
 use lib.ListN.{length, getD, set}
 use lib.Dec.{ltb, eqb}
-use lib.Bits.{bitAnd, bitOr}
-use Rattle.words.specs.Words.{add, sub, neg, complement, mul, quot, rem, eq, ne, lt, ge, gt, le, shl, shr}
+use Rattle.words.specs.Words.{add, sub, neg, complement, mul, quot, rem, eq, ne, lt, ge, gt, le, conj, disj, shl, shr}
 use Rattle.machine.specs.Outcome.{Out, ok, stop, _>>=_, read}
 use Rattle.machine.specs.State.{State, at, withA, withC, framed, took, wrote}
 use Rattle.machine.specs.declared.Registers.{Registers}
@@ -29,7 +28,7 @@ acts =
     unlisted ∷ indirect ∷ negate ∷ invert ∷ back
     ∷ dyadic (always mul) ∷ dyadic (unlessZero quot) ∷ dyadic (unlessZero rem) ∷ dyadic (always add) ∷ dyadic (always sub)
     ∷ dyadic (always eq) ∷ dyadic (always ne) ∷ dyadic (always lt) ∷ dyadic (always ge) ∷ dyadic (always gt)
-    ∷ dyadic (always le) ∷ dyadic (always shl) ∷ dyadic (always shr) ∷ dyadic (always bitAnd) ∷ dyadic (always bitOr)
+    ∷ dyadic (always le) ∷ dyadic (always shl) ∷ dyadic (always shr) ∷ dyadic (always conj) ∷ dyadic (always disj)
     ∷ unlisted ∷ unlisted ∷ finish ∷ switch ∷ unlisted
     ∷ unlisted ∷ unlisted ∷ rdch ∷ wrch ∷ []
 

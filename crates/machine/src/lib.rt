@@ -108,8 +108,8 @@ fn value(n: u16, b: u16, a: u16) -> Word
         15 => Word::Is(words::at_most(b, a)),
         16 => Word::Is(words::shift_left(b, a)),
         17 => Word::Is(words::shift_right(b, a)),
-        18 => Word::Is(b & a),
-        19 => Word::Is(b | a),
+        18 => Word::Is(words::conjunction(b, a)),
+        19 => Word::Is(words::disjunction(b, a)),
         _ => Word::Stopped(34),
     }
 }

@@ -3,8 +3,7 @@ use Prim.Native.Nat.{ℕ}
 use mathlib.Core.Path.{_≡_, refl}
 use native.Mathlib.Omega.{arith}
 use lib.Dec.{lit<}
-use lib.Bits.{bitAnd, bitOr}
-use Rattle.words.specs.Words.{value, wordOf, add, sub, neg, complement, mul, quot, rem, below, eq, ne, lt, ge, gt, le, shl, shr}
+use Rattle.words.specs.Words.{value, wordOf, add, sub, neg, complement, mul, quot, rem, below, eq, ne, lt, ge, gt, le, conj, disj, shl, shr}
 use Rattle.words.proofs.Division.{Divides, divides}
 
 -- sums, differences, negation and products wrap at 65,536
@@ -87,10 +86,10 @@ unfolding shr
 shifts-all-right = refl
 
 -- and, or: bit by bit
-ands : bitAnd 12 10 ≡ 8
+ands : conj 12 10 ≡ 8
 ands = refl
 
-ors : bitOr 12 10 ≡ 14
+ors : disj 12 10 ≡ 14
 ors = refl
 
 -- a closed instance of the law of division: -7 by 2

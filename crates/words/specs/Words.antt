@@ -4,6 +4,7 @@
 use Prim.Native.Nat.{ℕ, suc, _+_, _-_, _*_, _/_, _%_, _^_}
 use mathlib.Core.Bool.{Bool, true, false, not, cond}
 use lib.Dec.{ltb, eqb}
+use lib.Bits.{bitAnd, bitOr}
 use lib.IntN.{ℤ, pos, negsuc}
 use lib.Signed.{ltZ, quotZ, remZ}
 
@@ -71,6 +72,13 @@ gt x y = truth (below y x)
 
 abbrev pub le : ℕ → ℕ → ℕ
 le x y = truth (not (below y x))
+
+-- and, or: bit by bit
+abbrev pub conj : ℕ → ℕ → ℕ
+conj x y = bitAnd x y
+
+abbrev pub disj : ℕ → ℕ → ℕ
+disj x y = bitOr x y
 
 -- shifts fill with zeros; a count, unsigned, of 16 or more gives 0
 unfoldable pub shl : ℕ → ℕ → ℕ

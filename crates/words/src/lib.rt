@@ -1,14 +1,14 @@
 // Sixteen-bit arithmetic: sums, products, quotients, signed relations and shifts of words.
 //
 // The machine's acts and the definition of the source run both stand on `specs/Words.antt`; each function here is
-// proved equal to its definition there. `and` and `or` of words are the language's own `&` and `|`.
+// proved equal to its definition there.
 use std::num::wrapping_add_u16;
 use std::num::wrapping_sub_u16;
 ghost use mathlib.Core.Path.{_≡_};
 ghost use mathlib.Core.Bool.{not, cond};
 ghost use lib.IntN.{pos, negℤ, natAbs};
 ghost use lib.Signed.{nonNeg};
-ghost use Rattle.words.specs.Words.{value, wordOf, add, sub, neg, complement, mul, quot, rem, truth, below, eq, ne, lt, ge, gt, le, shl, shr};
+ghost use Rattle.words.specs.Words.{value, wordOf, add, sub, neg, complement, mul, quot, rem, truth, below, eq, ne, lt, ge, gt, le, conj, disj, shl, shr};
 ghost use Rattle.words.specs.Answers.{divided};
 
 // A quotient or a remainder.
@@ -139,6 +139,18 @@ pub fn at_most(x: u16, y: u16) -> u16
     ensures { λ r. ⌜ r ≡ le x y ⌝ }
 {
     truth(!below(y, x))
+}
+
+pub fn conjunction(x: u16, y: u16) -> u16
+    ensures { λ r. ⌜ r ≡ conj x y ⌝ }
+{
+    x & y
+}
+
+pub fn disjunction(x: u16, y: u16) -> u16
+    ensures { λ r. ⌜ r ≡ disj x y ⌝ }
+{
+    x | y
 }
 
 pub fn shift_left(x: u16, n: u16) -> u16

@@ -51,6 +51,12 @@ shift-left-requires c κs = search needs
 shift-right-requires : tie.Need-shift-right-requires
 shift-right-requires c κs = search needs
 
+conjunction-requires : tie.Need-conjunction-requires
+conjunction-requires c κs = search needs
+
+disjunction-requires : tie.Need-disjunction-requires
+disjunction-requires c κs = search needs
+
 returns : tie.Need-returns
 unfolding valueOf
 returns c = value-is _ _ 5 (c .before .match .keys1) (ap ok (c .product .ensures))
@@ -105,11 +111,11 @@ returns-13 c = value-is _ _ 17 (c .before .match .keys13) (ap ok (c .shift-right
 
 returns-14 : tie.Need-returns-14
 unfolding valueOf
-returns-14 c = value-is _ _ 18 (c .match .keys14) refl
+returns-14 c = value-is _ _ 18 (c .before .match .keys14) (ap ok (c .conjunction .ensures))
 
 returns-15 : tie.Need-returns-15
 unfolding valueOf
-returns-15 c = value-is _ _ 19 (c .match .keys15) refl
+returns-15 c = value-is _ _ 19 (c .before .match .keys15) (ap ok (c .disjunction .ensures))
 
 returns-16 : tie.Need-returns-16
 returns-16 c = value-not _ _ (c .match .rest)
@@ -133,6 +139,8 @@ value-spec =
     at-most-requires
     shift-left-requires
     shift-right-requires
+    conjunction-requires
+    disjunction-requires
     returns
     returns-2
     returns-3
