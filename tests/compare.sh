@@ -1,6 +1,6 @@
 #!/usr/bin/env bash
 # Compares the proved library with the second program, which is written from the rules alone: hand-checked answers, the
-# manual's examples, and generated texts, images and sources, in every word, label, register, symbol and byte.
+# manual's examples, and generated texts, images and sources, in every word, label, register, symbol, tree and byte.
 set -euo pipefail
 cd "$(dirname "$0")/.."
 mkdir -p target/tests
@@ -13,6 +13,6 @@ tests/run-examples.sh target/bin/minicode
 rt staticlib testbed > target/tests/staticlib.log 2>&1 || { tail -n 40 target/tests/staticlib.log; exit 1; }
 rustc -O --edition 2021 --cfg proved tests/second/compare.rs -L target/staticlib -l static=testbed -o target/tests/compare
 target/tests/compare
-rustc -O --edition 2021 --cfg proved --cfg symbols_only tests/second/sources_compare.rs -L target/staticlib -l static=testbed \
+rustc -O --edition 2021 --cfg proved tests/second/sources_compare.rs -L target/staticlib -l static=testbed \
     -o target/tests/sources_compare
-target/tests/sources_compare 30000
+target/tests/sources_compare 20000

@@ -9,50 +9,24 @@ mod assembler;
 mod generate;
 mod machine;
 mod proved;
+mod random;
+mod telling;
 
 use assembler::Assembly;
-use generate::{ImageCase, Random, TextCase};
+use generate::{ImageCase, TextCase};
 use machine::Ran;
 use proved::Library;
-use std::collections::BTreeMap;
+use random::Random;
 use std::fmt::Write;
 use std::process::ExitCode;
+use telling::{enough, headed, often, Tally};
 
 const CASES: u64 = 40_000;
 const REFUSALS: [u64; 6] = [20, 21, 22, 23, 24, 25];
 const STOPS: [u64; 7] = [24, 30, 31, 32, 33, 34, 35];
 
-/// How often each number came up; 0 is an accepted text.
-type Tally = BTreeMap<u64, u64>;
-
 fn main() -> ExitCode {
-    let mut self_check = false;
-    let mut cases = CASES;
-    for argument in std::env::args().skip(1) {
-        match argument.parse() {
-            Ok(number) => cases = number,
-            Err(_) if argument == "--self-check" => self_check = true,
-            Err(_) => {
-                eprintln!("usage: compare [--self-check] [CASES]");
-                return ExitCode::from(2);
-            }
-        }
-    }
-    let library = if self_check { None } else { proved::library() };
-    if library.is_none() && !self_check {
-        eprintln!("built without the proved library: only --self-check can be run");
-        return ExitCode::from(2);
-    }
-    match compare_all(library, cases) {
-        Ok(summary) => {
-            println!("{summary}");
-            ExitCode::SUCCESS
-        }
-        Err(report) => {
-            println!("{report}");
-            ExitCode::FAILURE
-        }
-    }
+    telling::run("compare", CASES, proved::library(), compare_all)
 }
 
 fn compare_all(library: Option<Library>, cases: u64) -> Result<String, String> {
@@ -102,24 +76,6 @@ fn compare_all(library: Option<Library>, cases: u64) -> Result<String, String> {
     Ok(format!(
         "made {told_texts} and {told_images}\ninstructions done (functions 0 to 6; 100 and the number of X): {done}"
     ))
-}
-
-fn headed(kind: &str, number: u64, seed: u64, report: &str) -> String {
-    format!("DIFFERENCE in {kind} {number} (seed {seed})\n{report}")
-}
-
-fn often(tally: &Tally, number: u64) -> u64 {
-    tally.get(&number).copied().unwrap_or(0)
-}
-
-/// The counts of all the numbers wanted, or a complaint if one of them is below the least.
-fn enough(tally: &Tally, wanted: &[u64], least: u64) -> Result<String, String> {
-    let counts: Vec<String> = wanted.iter().map(|&number| format!("{number}: {}", often(tally, number))).collect();
-    let counts = counts.join(", ");
-    match wanted.iter().find(|&&number| often(tally, number) < least.max(1)) {
-        Some(number) => Err(format!("{number} came up too rarely to be tested: {counts}")),
-        None => Ok(counts),
-    }
 }
 
 /// The second program's answer, if the library's is the same in every detail.

@@ -7,43 +7,53 @@ const MOST_LEVELS: u32 = 64;
 /// The kind met where the symbols have ended.
 const NOTHING: u32 = 0;
 
+/// A place is that of a part's first symbol; a tree has those that refusals of it are told with.
+#[derive(Debug, PartialEq)]
 pub struct Tree {
     pub declarations: Vec<Declaration>,
 }
 
+#[derive(Debug, PartialEq)]
 pub enum Declaration {
     Globals(Vec<(Symbol, Constant)>),
     Manifests(Vec<(Symbol, Constant)>),
     Functions(Vec<Function>),
 }
 
+#[derive(Debug, PartialEq)]
 pub struct Function {
     pub name: Symbol,
     pub parameters: Vec<Symbol>,
     pub body: Body,
 }
 
+#[derive(Debug, PartialEq)]
 pub enum Body {
     Value(Expression),
     Routine(Command),
 }
 
 /// A number, TRUE, FALSE or a name, or one of these negated.
+#[derive(Debug, PartialEq)]
 pub struct Constant {
+    pub place: u32,
     pub negated: bool,
     pub symbol: Symbol,
 }
 
+#[derive(Debug, PartialEq)]
 pub struct Command {
     pub labels: Vec<Label>,
     pub action: Action,
 }
 
+#[derive(Debug, PartialEq)]
 pub enum Label {
-    Case(Constant),
-    Default,
+    Case(u32, Constant),
+    Default(u32),
 }
 
+#[derive(Debug, PartialEq)]
 pub enum Action {
     /// Nothing; only after a label.
     Empty,
@@ -54,26 +64,29 @@ pub enum Action {
     When(u32, Expression, Box<Command>),
     For(Symbol, Expression, Expression, Option<Constant>, Box<Command>),
     Switch(Expression, Vec<Command>),
-    Result(Expression),
-    /// BREAK, LOOP, ENDCASE, RETURN or FINISH.
-    Leave(u32),
+    Result(u32, Expression),
+    /// BREAK, LOOP, ENDCASE, RETURN or FINISH, and its place.
+    Leave(u32, u32),
     Block(Vec<Local>, Vec<Command>),
     Repeat(Box<Action>),
     /// REPEATWHILE or REPEATUNTIL.
     RepeatWhen(u32, Box<Action>, Expression),
 }
 
+#[derive(Debug, PartialEq)]
 pub enum Local {
     Vector(Symbol, Constant),
     Values(Vec<Symbol>, Vec<Expression>),
 }
 
+#[derive(Debug, PartialEq)]
 pub enum Expression {
     /// A number, string, TRUE, FALSE or name.
     Plain(Symbol),
-    Bracketed(Box<Expression>),
-    Valof(Box<Command>),
-    Monadic(u32, Box<Expression>),
+    Bracketed(u32, Box<Expression>),
+    Valof(u32, Box<Command>),
+    /// The operator and its place.
+    Monadic(u32, u32, Box<Expression>),
     Dyadic(u32, Box<Expression>, Box<Expression>),
     Call(Box<Expression>, Vec<Expression>),
 }
@@ -210,11 +223,12 @@ impl Reader<'_> {
     fn constant(&mut self) -> Read<Constant> {
         if self.kind() == MINUS {
             return self.level(|reader| {
-                reader.want(MINUS)?;
-                Ok(Constant { negated: true, symbol: reader.constant_symbol()? })
+                let place = reader.want(MINUS)?.place;
+                Ok(Constant { place, negated: true, symbol: reader.constant_symbol()? })
             });
         }
-        Ok(Constant { negated: false, symbol: self.constant_symbol()? })
+        let symbol = self.constant_symbol()?;
+        Ok(Constant { place: symbol.place, negated: false, symbol })
     }
 
     fn constant_symbol(&mut self) -> Read<Symbol> {
@@ -239,10 +253,11 @@ impl Reader<'_> {
     fn command(&mut self) -> Read<Command> {
         let mut labels = Vec::new();
         loop {
+            let place = self.place() as u32;
             if self.take(CASE) {
-                labels.push(Label::Case(self.constant()?));
+                labels.push(Label::Case(place, self.constant()?));
             } else if self.take(DEFAULT) {
-                labels.push(Label::Default);
+                labels.push(Label::Default(place));
             } else {
                 break;
             }
@@ -285,6 +300,7 @@ impl Reader<'_> {
         if begins_expression(kind) {
             return self.call_or_assignment();
         }
+        let place = self.place() as u32;
         self.next += 1;
         match kind {
             TEST => {
@@ -310,10 +326,10 @@ impl Reader<'_> {
                 self.want(BEGIN)?;
                 Ok(Action::Switch(value, self.commands()?))
             }
-            RESULTIS => Ok(Action::Result(self.expression()?)),
+            RESULTIS => Ok(Action::Result(place, self.expression()?)),
             BEGIN => self.block(),
             // What is left of the symbols that begin an action.
-            _ => Ok(Action::Leave(kind)),
+            _ => Ok(Action::Leave(kind, place)),
         }
     }
 
@@ -469,14 +485,14 @@ impl Reader<'_> {
             NOT => self.monadic(Self::shifts),
             kind @ (NUMBER | STRING | TRUE | FALSE | NAME) => Ok(Expression::Plain(self.want(kind)?)),
             OPEN => self.level(|reader| {
-                reader.want(OPEN)?;
+                let place = reader.want(OPEN)?.place;
                 let inner = reader.inner_expression()?;
                 reader.want(CLOSE)?;
-                Ok(Expression::Bracketed(inner))
+                Ok(Expression::Bracketed(place, inner))
             }),
             VALOF => self.level(|reader| {
-                reader.want(VALOF)?;
-                Ok(Expression::Valof(reader.inner_command()?))
+                let place = reader.want(VALOF)?.place;
+                Ok(Expression::Valof(place, reader.inner_command()?))
             }),
             _ => self.unexpected(),
         }
@@ -484,9 +500,8 @@ impl Reader<'_> {
 
     fn monadic(&mut self, operand: fn(&mut Self) -> Read<Expression>) -> Read<Expression> {
         self.level(|reader| {
-            let operator = reader.kind();
-            reader.next += 1;
-            Ok(Expression::Monadic(operator, Box::new(operand(reader)?)))
+            let operator = reader.want(reader.kind())?;
+            Ok(Expression::Monadic(operator.kind, operator.place, Box::new(operand(reader)?)))
         })
     }
 }
@@ -576,12 +591,14 @@ impl Writer<'_> {
         match expression {
             Expression::Plain(symbol) => self.symbol(symbol),
             // Every other form has brackets of its own or needs none; a call needs them after a `!`.
-            Expression::Bracketed(inner) => match **inner {
+            Expression::Bracketed(_, inner) => match **inner {
                 Expression::Call(..) => format!("({})", self.expression(inner)),
                 _ => self.expression(inner),
             },
-            Expression::Valof(command) => format!("(VALOF {})", self.inner(command)),
-            Expression::Monadic(operator, operand) => format!("({} {})", spelled(*operator), self.expression(operand)),
+            Expression::Valof(_, command) => format!("(VALOF {})", self.inner(command)),
+            Expression::Monadic(operator, _, operand) => {
+                format!("({} {})", spelled(*operator), self.expression(operand))
+            }
             Expression::Dyadic(operator, left, right) => {
                 format!("({} {} {})", self.expression(left), spelled(*operator), self.expression(right))
             }
@@ -605,8 +622,8 @@ impl Writer<'_> {
 
     fn command(&self, command: &Command) -> String {
         let labels = joined(&command.labels, "", |label| match label {
-            Label::Case(constant) => format!("CASE {}: ", self.constant(constant)),
-            Label::Default => "DEFAULT: ".to_string(),
+            Label::Case(_, constant) => format!("CASE {}: ", self.constant(constant)),
+            Label::Default(_) => "DEFAULT: ".to_string(),
         });
         labels + &self.action(&command.action)
     }
@@ -630,8 +647,8 @@ impl Writer<'_> {
             Action::Switch(value, commands) => {
                 format!("SWITCHON {} INTO $( {} $)", self.expression(value), self.commands(commands))
             }
-            Action::Result(value) => format!("RESULTIS {}", self.expression(value)),
-            Action::Leave(kind) => spelled(*kind).to_string(),
+            Action::Result(_, value) => format!("RESULTIS {}", self.expression(value)),
+            Action::Leave(kind, _) => spelled(*kind).to_string(),
             Action::Block(locals, commands) => {
                 let locals = joined(locals, "", |local| match local {
                     Local::Vector(name, size) => format!("LET {} = VEC {}; ", self.symbol(name), self.constant(size)),

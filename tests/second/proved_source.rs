@@ -1,15 +1,14 @@
-//! The proved library's reader of sources behind safe functions. It is linked in when this is built with `--cfg proved`
-//! (and `--cfg symbols_only`, if the library has no tree to give); without that the generators and the second reader can
-//! still be run by themselves.
+//! The proved library's reader of sources behind safe functions. It is linked in when this is built with `--cfg proved`;
+//! without that the generators and the second reader can still be run by themselves.
 
-/// Text, scratch, and the answer. Symbols: 0, their count, 0, with kind, value and place of each in the scratch. Tree: 0, 0,
-/// 0. Refused: number, place, line.
+/// Text, scratch, and the answer. Symbols: 0, their count, 0, with kind, value and place of each in the scratch. Tree: 0,
+/// its end, 0, with the symbols in the scratch and the tree behind them. Refused: number, place, line.
 pub type Read = fn(&[u8], &mut [u32], &mut [u64; 3]);
 
 #[derive(Clone, Copy)]
 pub struct Library {
     pub symbols: Read,
-    pub tree: Option<Read>,
+    pub tree: Read,
 }
 
 #[cfg(not(proved))]
@@ -17,21 +16,15 @@ pub fn library() -> Option<Library> {
     None
 }
 
-#[cfg(all(proved, symbols_only))]
+#[cfg(proved)]
 pub fn library() -> Option<Library> {
-    Some(Library { symbols: linked::symbols, tree: None })
-}
-
-#[cfg(all(proved, not(symbols_only)))]
-pub fn library() -> Option<Library> {
-    Some(Library { symbols: linked::symbols, tree: Some(linked::tree) })
+    Some(Library { symbols: linked::symbols, tree: linked::tree })
 }
 
 #[cfg(proved)]
 mod linked {
     extern "C" {
         fn morkvasil_symbols(text: *const u8, text_len: usize, scratch: *mut u32, scratch_len: usize, answer: *mut u64);
-        #[cfg(not(symbols_only))]
         fn morkvasil_tree(text: *const u8, text_len: usize, scratch: *mut u32, scratch_len: usize, answer: *mut u64);
     }
 
@@ -43,7 +36,6 @@ mod linked {
         }
     }
 
-    #[cfg(not(symbols_only))]
     pub fn tree(text: &[u8], scratch: &mut [u32], answer: &mut [u64; 3]) {
         // Sound: as above.
         unsafe {

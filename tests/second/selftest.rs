@@ -4,13 +4,14 @@
 mod assembler;
 mod grammar;
 mod machine;
+mod postfix;
 mod symbols;
 
 use assembler::{assemble, Assembly};
 use grammar::read_source;
 use machine::{resume, run, Ran, Registers};
 use std::path::{Path, PathBuf};
-use symbols::{kind::*, read_symbols, Symbol};
+use symbols::{kind::*, read_symbols, Refusal, Symbol};
 
 const PROGRAM: usize = 416;
 
@@ -794,5 +795,54 @@ fn vectors_runs() {
     for line in expected.lines() {
         let name = line.split(' ').next().expect("a name");
         assert_eq!(refusal_of(&file(&folder.join(format!("runs/{name}.b")))), None, "{line}");
+    }
+}
+
+// ---------------------------------------------------------------------------------------------------------------------
+// Trees in scratch
+
+/// What the proved reader's test program must print, held to this reader's trees and refusals.
+#[test]
+fn tree_test_output() {
+    let folder = PathBuf::from("crates/tree_test");
+    let output = std::fs::read_to_string(folder.join("stdout")).expect("what the test program prints");
+    let mut lines = output.lines().peekable();
+    let mut files = 0;
+    while let Some(heading) = lines.next() {
+        let name = heading.strip_suffix(':').expect("a file's name");
+        let text = std::fs::read(folder.join("data").join(name)).expect("a source");
+        let told = lines.next().expect("a result");
+        match read_source(&text) {
+            Err(refusal) => {
+                let Refusal { number, place, line } = refusal;
+                assert_eq!(told, format!("refused {number} at {place} line {line}"), "{name}");
+            }
+            Ok(tree) => {
+                let mut entries = Vec::new();
+                while let Some((position, line)) = lines.peek().and_then(|line| line.split_once(": ")) {
+                    assert_eq!(position, entries.len().to_string(), "{name}");
+                    entries.extend(line.split(' ').map(|entry| entry.parse::<u32>().expect("an entry")));
+                    lines.next();
+                }
+                let symbols = read_symbols(&text).expect("symbols");
+                assert_eq!(told, format!("{} symbols, {} entries", symbols.len(), entries.len()), "{name}");
+                assert_eq!(postfix::decode(&symbols, &entries), Ok(tree), "{name}");
+                damaged_entries(&symbols, &entries);
+            }
+        }
+        files += 1;
+    }
+    assert_eq!(files, std::fs::read_dir(folder.join("data")).expect("the sources").count());
+}
+
+/// No entry may be another one.
+fn damaged_entries(symbols: &[Symbol], entries: &[u32]) {
+    let tree = postfix::decode(symbols, entries);
+    for place in 0..entries.len() {
+        for other in [0, 1, entries[place] + 1, entries[place] + 4, u32::MAX] {
+            let mut damaged = entries.to_vec();
+            damaged[place] = other;
+            assert!(other == entries[place] || postfix::decode(symbols, &damaged) != tree, "entry {place} as {other}");
+        }
     }
 }

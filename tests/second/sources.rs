@@ -2,47 +2,8 @@
 //! Six kinds: good programs over the whole grammar, the same damaged at symbols, with a doubtful phrase put in, and damaged
 //! at bytes, nests about the deepest allowed, and chains as long as a text may be.
 
+use crate::random::Random;
 use crate::symbols::{kind::*, semicolon_between, LONGEST_STRING, LONGEST_TEXT, SIGNS, WORDS};
-
-/// A small xorshift generator.
-pub struct Random {
-    state: u64,
-}
-
-impl Random {
-    pub fn new(seed: u64) -> Random {
-        // The multiplication spreads neighbouring seeds; a state of zero would stay zero.
-        let mut random = Random { state: seed.wrapping_add(1).wrapping_mul(0x9E37_79B9_7F4A_7C15) | 1 };
-        for _ in 0..4 {
-            random.next();
-        }
-        random
-    }
-
-    pub fn next(&mut self) -> u64 {
-        self.state ^= self.state << 13;
-        self.state ^= self.state >> 7;
-        self.state ^= self.state << 17;
-        self.state.wrapping_mul(0x2545_F491_4F6C_DD1D) >> 16
-    }
-
-    /// A number from 0 to `bound - 1`.
-    fn below(&mut self, bound: usize) -> usize {
-        (self.next() % bound as u64) as usize
-    }
-
-    fn one_in(&mut self, many: usize) -> bool {
-        self.below(many) == 0
-    }
-
-    fn pick<T: Copy>(&mut self, choices: &[T]) -> T {
-        choices[self.below(choices.len())]
-    }
-
-    fn byte(&mut self) -> u8 {
-        self.next() as u8
-    }
-}
 
 /// A text and, where its maker knows, the refusal it must get: 0 for none.
 pub struct Case {
@@ -70,12 +31,12 @@ pub const KINDS: [Kind; 6] = [
 // Symbols and layout
 
 #[derive(Clone)]
-struct Token {
+pub struct Token {
     kind: u32,
-    text: Vec<u8>,
+    pub text: Vec<u8>,
 }
 
-fn token(text: &[u8]) -> Token {
+pub fn token(text: &[u8]) -> Token {
     let listed = WORDS.iter().chain(&SIGNS).find(|(spelling, _)| spelling.as_bytes() == text);
     let kind = match (listed, text[0]) {
         (Some(&(_, kind)), _) => kind,
@@ -87,7 +48,7 @@ fn token(text: &[u8]) -> Token {
 }
 
 /// Tokens written with blanks between them.
-fn tokens(written: &str) -> Vec<Token> {
+pub fn tokens(written: &str) -> Vec<Token> {
     written.split_ascii_whitespace().map(|text| token(text.as_bytes())).collect()
 }
 
@@ -1014,7 +975,7 @@ fn damage_bytes(random: &mut Random, text: &mut Vec<u8>) {
 /// What stands around a part within a part: the symbols before it, those after it, the levels that the first ones open
 /// and still hold, and whether the part is a command. Neither before nor after it are more than three levels open at once,
 /// and nothing after it could be taken into the part.
-struct Wrap {
+pub struct Wrap {
     before: &'static str,
     after: &'static str,
     levels: usize,
@@ -1025,10 +986,13 @@ const fn wrap(before: &'static str, after: &'static str, levels: usize, holds_co
     Wrap { before, after, levels, holds_command }
 }
 
+const ROUND_BRACKET: Wrap = wrap("(", ")", 1, false);
+const PLAIN_BLOCK: Wrap = wrap("$(", "$)", 1, true);
+
 /// The first of these bind so tightly that they may follow a monadic operator without ending its level.
 const TIGHT_WRAPS: usize = 11;
-const EXPRESSION_WRAPS: [Wrap; 37] = [
-    wrap("(", ")", 1, false),
+pub const EXPRESSION_WRAPS: [Wrap; 37] = [
+    ROUND_BRACKET,
     wrap("F (", ")", 1, false),
     wrap("A ! F ( 1 ,", ")", 1, false),
     wrap("-", "", 1, false),
@@ -1069,7 +1033,7 @@ const EXPRESSION_WRAPS: [Wrap; 37] = [
     wrap("NOT A & NOT B + @", "", 2, false),
 ];
 
-const COMMAND_WRAPS: [Wrap; 28] = [
+pub const COMMAND_WRAPS: [Wrap; 30] = [
     wrap("A :=", "", 1, false),
     wrap("A , B := 1 ,", "", 1, false),
     wrap("RESULTIS", "", 1, false),
@@ -1089,21 +1053,32 @@ const COMMAND_WRAPS: [Wrap; 28] = [
     wrap("TEST A DO F ( ) OR RESULTIS", "", 2, false),
     wrap("IF A DO", "", 1, true),
     wrap("UNLESS A DO", "", 1, true),
+    wrap("UNTIL A THEN", "", 1, true),
     wrap("WHILE - A DO CASE 1 :", "", 1, true),
     wrap("TEST A DO", "OR BREAK", 1, true),
     wrap("TEST A DO BREAK OR", "", 1, true),
     wrap("FOR I = 1 TO 2 BY - 1 DO", "", 1, true),
     wrap("SWITCHON A INTO $(", "$)", 1, true),
     wrap("SWITCHON A INTO $( CASE 1 : CASE - 2 :", "; DEFAULT : BREAK ; $)", 1, true),
-    wrap("$(", "$)", 1, true),
+    PLAIN_BLOCK,
     wrap("$( LET A = ( 1 ) ;", "; $)", 1, true),
+    wrap("$( LET V = VEC - 1 ;", "$)", 1, true),
     wrap("$( F ( ) ; DEFAULT :", "; F ( 1 ) $)", 1, true),
 ];
 
 /// Parts that open so many levels at most, the deepest being their own.
-const EXPRESSION_LEAVES: [(&str, usize); 7] =
-    [("A", 0), ("1", 0), ("\"S\"", 0), ("A ! 2 + 3", 0), ("F ( )", 1), ("- 1", 1), ("VALOF CASE 1 :", 1)];
-const COMMAND_LEAVES: [(&str, usize); 8] = [
+const EXPRESSION_LEAVES: [(&str, usize); 9] = [
+    ("A", 0),
+    ("1", 0),
+    ("\"S\"", 0),
+    ("A ! 2 + 3", 0),
+    ("F ( )", 1),
+    ("- 1", 1),
+    ("VALOF CASE 1 :", 1),
+    ("( - A )", 2),
+    ("VALOF CASE - 1 :", 2),
+];
+const COMMAND_LEAVES: [(&str, usize); 10] = [
     ("CASE 1 :", 0),
     ("DEFAULT : CASE A :", 0),
     ("CASE - 1 :", 1),
@@ -1111,6 +1086,8 @@ const COMMAND_LEAVES: [(&str, usize); 8] = [
     ("A := 1", 1),
     ("DEFAULT : $( $)", 1),
     ("F ( )", 2),
+    ("A ! - 1 := 2", 2),
+    ("$( LET V = VEC - 1 $)", 2),
     ("CASE - 1 : FOR I = 1 TO 2 BY - 1 DO CASE 3 :", 2),
 ];
 
@@ -1158,14 +1135,33 @@ fn nested(random: &mut Random, levels: usize) -> Vec<Token> {
     nested_in(random, levels, true)
 }
 
-fn nested_in(random: &mut Random, levels: usize, mut command: bool) -> Vec<Token> {
+fn nested_in(random: &mut Random, levels: usize, command: bool) -> Vec<Token> {
     // Either one form of each sort over and over, or all of them mixed.
     let only = random.one_in(2).then(|| (random.below(EXPRESSION_WRAPS.len()), random.below(COMMAND_WRAPS.len())));
+    let innermost = random.below(3);
+    nest_of(random, levels, command, only, innermost)
+}
+
+/// A command or an expression that opens exactly so many levels, its innermost part no more than two of them. `only` gives
+/// one wrap of each sort, expressions' first, to use over and over.
+pub fn nest_of(
+    random: &mut Random,
+    levels: usize,
+    mut command: bool,
+    only: Option<(usize, usize)>,
+    innermost: usize,
+) -> Vec<Token> {
     let mut before: Vec<Token> = Vec::new();
     let mut after = Vec::new();
     let mut left = levels;
-    while left > 2 {
-        let wrap = if command {
+    while left > innermost {
+        // What the other wraps hold beside the part may open more levels than are left.
+        let plain = left <= 2;
+        let wrap = if command && plain {
+            &PLAIN_BLOCK
+        } else if plain {
+            &ROUND_BRACKET
+        } else if command {
             &COMMAND_WRAPS[only.map_or_else(|| random.below(COMMAND_WRAPS.len()), |(_, index)| index)]
         } else {
             let monadic = before.last().is_some_and(|token| matches!(token.kind, PLUS | MINUS | SHRIEK | AT | NOT));
@@ -1179,12 +1175,7 @@ fn nested_in(random: &mut Random, levels: usize, mut command: bool) -> Vec<Token
     }
     let leaves: &[(&str, usize)] = if command { &COMMAND_LEAVES } else { &EXPRESSION_LEAVES };
     let fitting: Vec<&str> = leaves.iter().filter(|(_, levels)| *levels == left).map(|(leaf, _)| *leaf).collect();
-    if fitting.is_empty() {
-        // Two levels more than an expression's leaf opens.
-        before.extend(tokens("( - A )"));
-    } else {
-        before.extend(tokens(random.pick(&fitting)));
-    }
+    before.extend(tokens(random.pick(&fitting)));
     before.extend(after.into_iter().rev().flatten());
     before
 }
@@ -1193,13 +1184,13 @@ fn nested_in(random: &mut Random, levels: usize, mut command: bool) -> Vec<Token
 // Chains
 
 /// A beginning, parts any of which may follow any other, and an end.
-struct Chain {
+pub struct Chain {
     head: &'static str,
-    links: &'static [&'static str],
+    pub links: &'static [&'static str],
     tail: &'static str,
 }
 
-const CHAINS: [Chain; 26] = [
+pub const CHAINS: [Chain; 26] = [
     Chain { head: "LET F() = 1", links: &["+1"], tail: "" },
     Chain { head: "LET F() = A", links: &["*2", "/B", " REM C"], tail: "" },
     Chain { head: "LET F() = A", links: &["&B", "|C", "<<1", ">>2", "&D=1", "|NOT E", "+ - 1", "*@A"], tail: "" },
@@ -1228,6 +1219,8 @@ const CHAINS: [Chain; 26] = [
     Chain { head: "LET A", links: &["A", "1", "."], tail: "() = 1" },
 ];
 
+pub const CHAIN_FAULTS: [&str; 11] = [" 1", ")", " $)", ";;", " %", "32768", " AND", ",", " :=", " LET", "'"];
+
 fn chain(seed: u64) -> Case {
     let mut random = Random::new(seed);
     let limit = match random.below(4) {
@@ -1241,7 +1234,7 @@ fn chain(seed: u64) -> Case {
     match random.below(4) {
         0 => {
             // A fault that only a reader of the whole chain meets.
-            let fault = random.pick(&[" 1", ")", " $)", ";;", " %", "32768", " AND", ",", " :=", " LET", "'"]);
+            let fault = random.pick(&CHAIN_FAULTS);
             text.extend_from_slice(fault.as_bytes());
             expected = None;
         }
@@ -1256,29 +1249,39 @@ fn chain(seed: u64) -> Case {
 }
 
 fn links(random: &mut Random, limit: usize) -> Vec<u8> {
-    let Chain { head, links, tail } = &CHAINS[random.below(CHAINS.len())];
-    let mut text = head.as_bytes().to_vec();
-    let links = if random.one_in(2) { links } else { &links[..1] };
-    loop {
-        let link = random.pick(links);
-        if text.len() + link.len() + tail.len() > limit {
-            break;
+    let chain = &CHAINS[random.below(CHAINS.len())];
+    let links = if random.one_in(2) { chain.links } else { &chain.links[..1] };
+    chain.text(limit, |_| random.pick(links))
+}
+
+impl Chain {
+    /// The chain with as many links as its length allows, each chosen by its number.
+    pub fn text(&self, limit: usize, mut link: impl FnMut(usize) -> &'static str) -> Vec<u8> {
+        let mut text = self.head.as_bytes().to_vec();
+        for number in 0.. {
+            let link = link(number);
+            if text.len() + link.len() + self.tail.len() > limit {
+                break;
+            }
+            text.extend_from_slice(link.as_bytes());
         }
-        text.extend_from_slice(link.as_bytes());
+        text.extend_from_slice(self.tail.as_bytes());
+        text
     }
-    text.extend_from_slice(tail.as_bytes());
-    text
 }
 
 /// An assignment or local declaration of many names and as many values.
 fn equal_lists(random: &mut Random, limit: usize) -> Vec<u8> {
     let many = (limit / 4).saturating_sub(20) + 1;
+    equal_list(many, random.one_in(2)).into_bytes()
+}
+
+pub fn equal_list(many: usize, assigned: bool) -> String {
     let names = vec!["A"; many].join(",");
     let values = vec!["1"; many].join(",");
-    let text = if random.one_in(2) {
+    if assigned {
         format!("LET F() BE {names} := {values}")
     } else {
         format!("LET F() BE $( LET {names} = {values} $)")
-    };
-    text.into_bytes()
+    }
 }

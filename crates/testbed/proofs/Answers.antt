@@ -1,6 +1,6 @@
 -- From the library's answers to the exported numbers.
 use mathlib.Core.List.{List, [], _∷_}
-use mathlib.Core.Path.{_≡_, sym, ap, subst, _∙_}
+use mathlib.Core.Path.{_≡_, refl, sym, ap, subst, _∙_}
 use Prim.Native.Nat.{ℕ}
 use lib.ListN.{length}
 use Rattle.assembler.specs.Assemble.{Assembles, assembled}
@@ -12,7 +12,10 @@ use Rattle.text.specs.Line.{lineOf}
 use Rattle.symbols.specs.declared.SymbolsRead.the-variants.{Refused}
 use Rattle.symbols.specs.Read.{Reads}
 use Rattle.symbols.specs.declared.SymbolsRead.{SymbolsRead}
-use Rattle.testbed.specs.Exported.{AssembleExported, RunExported, SymbolsExported, assembleNumbers, symbolNumbers}
+use Rattle.tree.specs.Read.{ReadsTree}
+use Rattle.tree.specs.declared.TreeRead.{TreeRead}
+use Rattle.tree.specs.declared.TreeRead.the-variants as T
+use Rattle.testbed.specs.Exported.{AssembleExported, RunExported, SymbolsExported, TreeAnswered, AfterSymbols, TreeExported, assembleNumbers, symbolNumbers, treeNumbers}
 
 pub run-exported : {o : Outcome} {r : Ran} {memory output : List ℕ} → Ends o r memory output
     → RunExported o memory output
@@ -39,3 +42,28 @@ pub symbols-refused : {text scratch : List ℕ} {answer : SymbolsRead} {number p
     → answer ≡ Refused number place → line ≡ lineOf text place → SymbolsExported text scratch scratch′ (number ∷ place ∷ line ∷ [])
 symbols-refused {text} {scratch} {number = number} {place = place} {scratch′ = scratch′} e q h =
     subst (λ (l : ℕ). SymbolsExported text scratch scratch′ (number ∷ place ∷ l ∷ [])) (sym h) (symbols-exported e q)
+
+-- a tree's answer, matched
+pub tree-answered : {text : List ℕ} {count : ℕ} {scratch : List ℕ} {answer matched : TreeRead} {scratch′ : List ℕ} → ReadsTree scratch count (length text) answer scratch′
+    → answer ≡ matched → TreeAnswered text count scratch scratch′ (treeNumbers text matched)
+tree-answered {text} e q = record { leaves = e .leaves; answers = ap (treeNumbers text) (sym q ∙ e .answers) }
+
+-- with the line that was found
+pub tree-refused : {text : List ℕ} {count : ℕ} {scratch : List ℕ} {answer : TreeRead} {number place line : ℕ} {scratch′ : List ℕ} → ReadsTree scratch count (length text) answer scratch′
+    → answer ≡ T.Refused number place → line ≡ lineOf text place → TreeAnswered text count scratch scratch′ (number ∷ place ∷ line ∷ [])
+tree-refused {text} {count} {scratch} {number = number} {place = place} {scratch′ = scratch′} e q h =
+    subst (λ (l : ℕ). TreeAnswered text count scratch scratch′ (number ∷ place ∷ l ∷ [])) (sym h) (tree-answered e q)
+
+-- what comes after the symbols, whose answer is matched
+pub after-symbols : {text scratch : List ℕ} {answer matched : SymbolsRead} {between scratch′ numbers : List ℕ} → Reads text scratch answer between
+    → answer ≡ matched → AfterSymbols text between scratch′ numbers matched → TreeExported text scratch scratch′ numbers
+after-symbols {text} {matched = matched} {scratch′ = scratch′} {numbers = numbers} e q h =
+    record {
+      after = subst (AfterSymbols text _ scratch′ numbers) (sym q ∙ e .answers)
+          (subst (λ (s : List ℕ). AfterSymbols text s scratch′ numbers matched) (e .leaves) h);
+    }
+
+-- a refused symbol, with the line that was found
+pub symbol-refused : {text scratch : List ℕ} {answer : SymbolsRead} {number place line : ℕ} {scratch′ : List ℕ} → Reads text scratch answer scratch′
+    → answer ≡ Refused number place → line ≡ lineOf text place → TreeExported text scratch scratch′ (number ∷ place ∷ line ∷ [])
+symbol-refused {number = number} {place = place} e q h = after-symbols e q (refl, ap (λ (l : ℕ). number ∷ place ∷ l ∷ []) h)

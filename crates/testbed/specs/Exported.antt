@@ -2,12 +2,16 @@
 use Prim.Native.Nat.{ℕ}
 use mathlib.Core.Path.{_≡_}
 use mathlib.Core.List.{List, [], _∷_}
+use lib.ListN.{length}
 use Rattle.machine.specs.Run.{Outcome, run}
 use Rattle.assembler.specs.Assemble.{Assembly}
 use Rattle.text.specs.Line.{lineOf}
 use Rattle.symbols.specs.Read.{symbolsRead}
 use Rattle.symbols.specs.declared.SymbolsRead.{SymbolsRead}
 use Rattle.symbols.specs.declared.SymbolsRead.the-variants as Y
+use Rattle.tree.specs.Read.{treeRead, unfit, Leaves}
+use Rattle.tree.specs.declared.TreeRead.{TreeRead}
+use Rattle.tree.specs.declared.TreeRead.the-variants as T
 use Rattle.assembler.specs.declared.Assembled.{Assembled}
 use Rattle.assembler.specs.declared.Assembled.the-variants.{Accepted, Refused}
 
@@ -42,3 +46,24 @@ symbolNumbers text (Y.Refused number place) = number ∷ place ∷ lineOf text p
 pub record SymbolsExported (text scratch scratch′ answer : List ℕ) : Type 0 where
   pub leaves : scratch′ ≡ symbolsRead text scratch .scratch
   pub answers : answer ≡ symbolNumbers text (symbolsRead text scratch .answer)
+
+-- 0 and the tree's end; or the refusal's number, place and line
+abbrev pub treeNumbers : (text : List ℕ) → TreeRead → List ℕ
+treeNumbers text T.TooShort = 15 ∷ 0 ∷ 1 ∷ []
+treeNumbers text (T.Read end) = 0 ∷ end ∷ 0 ∷ []
+treeNumbers text (T.Refused number place) = number ∷ place ∷ lineOf text place ∷ []
+
+-- so many symbols stand in scratch, of that text
+pub record TreeAnswered (text : List ℕ) (count : ℕ) (scratch scratch′ answer : List ℕ) : Type 0 where
+  pub leaves : Leaves scratch count (length text) scratch′ (unfit (length scratch) count)
+  pub answers : answer ≡ treeNumbers text (treeRead scratch count (length text))
+
+-- after the reading of symbols: a refusal of theirs, or what is said of the tree
+abbrev pub AfterSymbols : (text scratch scratch′ answer : List ℕ) → SymbolsRead → Type 0
+AfterSymbols text s s′ answer Y.TooLong = (s′ ≡ s) × (answer ≡ symbolNumbers text Y.TooLong)
+AfterSymbols text s s′ answer Y.TooShort = (s′ ≡ s) × (answer ≡ symbolNumbers text Y.TooShort)
+AfterSymbols text s s′ answer (Y.Read count) = TreeAnswered text count s s′ answer
+AfterSymbols text s s′ answer (Y.Refused number place) = (s′ ≡ s) × (answer ≡ symbolNumbers text (Y.Refused number place))
+
+pub record TreeExported (text scratch scratch′ answer : List ℕ) : Type 0 where
+  pub after : AfterSymbols text (symbolsRead text scratch .scratch) scratch′ answer (symbolsRead text scratch .answer)

@@ -3,9 +3,10 @@ ghost use mathlib.Core.Path.{_≡_};
 ghost use lib.ListN.{length};
 ghost use Rattle.assembler.specs.Assemble.{assembled};
 ghost use Rattle.machine.specs.Run.{run};
-ghost use Rattle.testbed.specs.Exported.{AssembleExported, RunExported, SymbolsExported};
+ghost use Rattle.testbed.specs.Exported.{AssembleExported, RunExported, SymbolsExported, TreeExported, TreeAnswered};
 use assembler::Assembled;
 use symbols::SymbolsRead;
+use tree::TreeRead;
 
 #[no_mangle]
 pub extern "C" fn morkvasil_assemble(
@@ -68,6 +69,45 @@ pub extern "C" fn morkvasil_symbols(text: &[u8], scratch: &mut [u32], answer: &m
         SymbolsRead::Read(count) => {
             *answer = [0, count as u64, 0];
         }
+        SymbolsRead::Refused { number, place } => {
+            let line = text::line_of(text, place);
+            *answer = [number as u64, place as u64, line as u64];
+        }
+    }
+}
+
+// The tree of so many symbols, which stand in scratch.
+fn answer_tree(text: &[u8], scratch: &mut [u32], count: usize, answer: &mut [u64; 3])
+    ensures { λ _. ⌜ TreeAnswered (now (text .entry)) count (now (scratch .entry)) (now (scratch .exit)) (now (answer .exit)) ⌝ }
+{
+    let read = tree::read_tree(scratch, count, text.len());
+    match read {
+        TreeRead::TooShort => {
+            *answer = [15, 0, 1];
+        }
+        TreeRead::Read(end) => {
+            *answer = [0, end as u64, 0];
+        }
+        TreeRead::Refused { number, place } => {
+            let line = text::line_of(text, place);
+            *answer = [number as u64, place as u64, line as u64];
+        }
+    }
+}
+
+#[no_mangle]
+pub extern "C" fn morkvasil_tree(text: &[u8], scratch: &mut [u32], answer: &mut [u64; 3])
+    ensures { λ _. ⌜ TreeExported (now (text .entry)) (now (scratch .entry)) (now (scratch .exit)) (now (answer .exit)) ⌝ }
+{
+    let read = symbols::read_symbols(text, scratch);
+    match read {
+        SymbolsRead::TooLong => {
+            *answer = [1, 0, 1];
+        }
+        SymbolsRead::TooShort => {
+            *answer = [15, 0, 1];
+        }
+        SymbolsRead::Read(count) => answer_tree(text, scratch, count, answer),
         SymbolsRead::Refused { number, place } => {
             let line = text::line_of(text, place);
             *answer = [number as u64, place as u64, line as u64];

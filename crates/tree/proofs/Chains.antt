@@ -1,0 +1,141 @@
+-- Chains: a first part, and then a list of operations or of suffixes.
+use Prim.Native.Nat.{ℕ, suc, _+_, _-_, _≤_, _<_}
+use mathlib.Core.Path.{_≡_, refl, sym, ap, _∙_}
+use mathlib.Core.Bool.{Bool, true, false, cond}
+use mathlib.Core.List.{List, [], _∷_, _++_, append-assoc, append-nil}
+use native.Mathlib.Omega.{arith}
+use lib.ListN.{length, length-append}
+use lib.Dec.{eqb}
+use borrow.Author.Tests.{eq-eqb, ne-eqb}
+use Rattle.language.specs.Tree as T
+use Rattle.language.specs.Tree.{Expressions, Suffixes, Operations, withOperations, withSuffixes}
+use Rattle.language.specs.Reader.{Source, Out, ok, no, onOut, kindAt, manyUpTo, many}
+use Rattle.language.specs.Binding.{bindingOf, isSuffix, RELATION}
+use Rattle.language.specs.Expressions as E
+use Rattle.language.specs.Expressions.{Inside}
+use Rattle.language.specs.Grammar.{within}
+use Rattle.tree.specs.Reads.{Lies, KindHere, Goes, Puts, PutsSuffix, EndedSoFar, Ended, PutsOne, CountedSoFar, Counted, Reads, Adds, recordFrom, freeOf, rightOf, furtherMost}
+use Rattle.tree.specs.Post.{closed, flag, post, postExpressions, postSuffixes, postOperations}
+use Rattle.tree.proofs.Steps.{follow, bind, here, added, adds-on, goes-on, _then_, nothing}
+use Rattle.tree.proofs.Lists.{turn, last}
+use Rattle.tree.proofs.Symbols.{inside as among, stays}
+use Rattle.tree.proofs.Readers.{chain-is, nests, parts, post-dyadic, post-suffixed}
+use Rattle.tree.proofs.Classes.{binding-positive, suffix-positive}
+use Rattle.tree.specs.declared.Answer.{Answer}
+
+-- the words of a chain, part by part
+pub chained : (a w c whole : List ℕ) (z v p k : ℕ) → z ≡ length a + (length w + length c) → v ≡ length a → whole ≡ w ++ c → a ++ (w ++ (c ++ (z ∷ v ∷ p ∷ k ∷ []))) ≡ closed (a ++ whole) (length a) p k
+chained a w c whole z v p k ez ev e =
+    parts a w c z v p k (omega (arith, length-append a (w ++ c), length-append w c))
+    ∙ ap (λ (x : List ℕ). closed (a ++ x) v p k) (sym e)
+    ∙ ap (λ (y : ℕ). closed (a ++ whole) y p k) ev
+
+pub grown : (w c whole : List ℕ) → whole ≡ w ++ c → 0 < length w → 0 < length whole
+grown w c whole e h = let q : length whole ≡ length w + length c = ap length e ∙ length-append w c in omega arith
+
+most-by : (n m : ℕ) → m ≡ n → 0 < n → (c : Bool) → cond c 1 m ≡ suc (cond c 0 (n - 1))
+most-by n m e h true = refl
+most-by n m e h false = omega arith
+
+most-is : (inner : Inside) (src : Source) (b n : ℕ) → length (src .symbols) ≡ n → 0 < n → E.mostOf inner b src ≡ suc (furtherMost b n)
+unfolding E.mostOf furtherMost
+most-is inner src b n e h = most-by n (length (src .symbols)) e h (eqb b RELATION)
+
+module _ (inner : Inside) (right : ℕ) (src : Source) (b : ℕ) where
+  no-operations : (at : ℕ) → (bindingOf (kindAt src at) ≡ b → ⊥) → E.operations inner b (E.expression inner right) src at ≡ ok T.noOperations at
+  unfolding E.operations
+  no-operations at h =
+      last T.noOperations (λ kind. eqb (bindingOf kind) b) (E.operation inner (E.expression inner right)) src (E.mostOf inner b src) at (ne-eqb (bindingOf (kindAt src at)) b h)
+
+  first-operation : (n at : ℕ) → length (src .symbols) ≡ n → 0 < n → bindingOf (kindAt src at) ≡ b → E.operations inner b (E.expression inner right) src at ≡ onOut (E.operation inner (E.expression inner right) src at) (λ put q. onOut (manyUpTo (furtherMost b n) T.noOperations (λ kind. eqb (bindingOf kind) b) (E.operation inner (E.expression inner right)) src q) (λ more w. ok (put more) w))
+  unfolding E.operations
+  first-operation n at e h q =
+      ap (λ (m : ℕ). manyUpTo m T.noOperations (λ kind. eqb (bindingOf kind) b) (E.operation inner (E.expression inner right)) src at) (most-is inner src b n e h)
+      ∙ turn T.noOperations (λ kind. eqb (bindingOf kind) b) (E.operation inner (E.expression inner right)) src (furtherMost b n) at (eq-eqb (bindingOf (kindAt src at)) b q)
+
+module _ {src : Source} {n : ℕ} {s₀ : List ℕ} (l : Lies src n s₀) (size x b : ℕ) (pos : b ≡ 0 → ⊥) (six : b ≤ 6) {s s₁ : List ℕ} {r r₁ : Answer} {kind : ℕ} (k : KindHere src r₁ kind) (d₁ : Reads (E.expression (within x) (b - 1) src) post s s₁ r r₁) where
+  pub expression-one : (bindingOf kind ≡ b → ⊥) → Reads (E.expression (within x) b src) post s s₁ r r₁
+  unfolding withOperations
+  expression-one h =
+      here _ (λ at free e. chain-is (within x) src b at pos six)
+      (bind size post d₁ stays (λ e q. here (λ m. ok e m) (λ at free y. ap (λ (o : Out Operations). onOut o (λ os q. ok (withOperations e os) q)) (no-operations (within x) (rightOf b) src b at (λ z. h (ap bindingOf (k .here at free y) ∙ z)))) (nothing (record { same = append-nil (post e) }))))
+
+  pub expression-more : {s₂ s₃ s₄ : List ℕ} {r₂ r₃ r₄ : Answer} {lo value right : ℕ} → right ≡ rightOf b → bindingOf kind ≡ b → lo ≡ freeOf size r → value ≡ freeOf size r₁ - lo → Goes (E.operation (within x) (E.expression (within x) right) src) (Puts postOperations) s₁ s₂ r₁ r₂ → Reads (manyUpTo (furtherMost b n) T.noOperations (λ kind. eqb (bindingOf kind) b) (E.operation (within x) (E.expression (within x) right)) src) postOperations s₂ s₃ r₂ r₃ → Adds (recordFrom lo value 0 64) s₃ s₄ r₃ r₄ → Reads (E.expression (within x) b src) post s s₄ r r₄
+  expression-more {s₂} {s₃} {s₄} {r₂} {r₃} {r₄} {lo} {value} {right} er hb lo-is ev d₂ d₃ d₄ =
+      let kp : 0 < kind = binding-positive kind (omega arith) in
+      here _ (λ at free e. chain-is (within x) src b at pos six ∙ ap (λ (y : ℕ). onOut (E.expression (within x) (b - 1) src at) (λ e m. onOut (E.operations (within x) b (E.expression (within x) y) src m) (λ os q. ok (withOperations e os) q))) (sym er))
+      (bind size post d₁ (goes-on d₂ then goes-on d₃ then adds-on d₄) (λ e q₁. here _ (λ at free y.
+      let i : at < n = among l at (omega (arith, k .here at free y)) in
+      ap (λ (o : Out Operations). onOut o (λ os q. ok (withOperations e os) q)) (first-operation (within x) right src b n at (l .count) (omega arith) (sym (ap bindingOf (k .here at free y)) ∙ hb)) ∙ nests (E.operation (within x) (E.expression (within x) right) src at) (λ q. manyUpTo (furtherMost b n) T.noOperations (λ kind. eqb (bindingOf kind) b) (E.operation (within x) (E.expression (within x) right)) src q) (λ os q. ok (withOperations e os) q))
+      (follow size d₂ (goes-on d₃ then adds-on d₄) (λ put w h q₂. bind size postOperations d₃ (adds-on d₄) (λ os q₃. added size d₄ (record { same = chained (post e) w (postOperations os) (postOperations (put os)) (freeOf size r₃ - lo) value 0 64 (omega arith) (omega arith) (h .puts os) ∙ sym (post-dyadic e (put os) (grown w (postOperations os) (postOperations (put os)) (h .puts os) (h .some))) }))))))
+
+module _ (inner : Inside) (src : Source) where
+  no-suffixes : (at : ℕ) → isSuffix (kindAt src at) ≡ false → many T.noSuffixes isSuffix (E.suffix inner) src at ≡ ok T.noSuffixes at
+  unfolding many
+  no-suffixes at h = last T.noSuffixes isSuffix (E.suffix inner) src (length (src .symbols)) at h
+
+  first-suffix : (n at : ℕ) → length (src .symbols) ≡ n → 0 < n → isSuffix (kindAt src at) ≡ true → many T.noSuffixes isSuffix (E.suffix inner) src at ≡ onOut (E.suffix inner src at) (λ put q. onOut (manyUpTo (n - 1) T.noSuffixes isSuffix (E.suffix inner) src q) (λ more w. ok (put more) w))
+  unfolding many
+  first-suffix n at e h q =
+      let y : length (src .symbols) ≡ suc (n - 1) = omega arith in
+      ap (λ (m : ℕ). manyUpTo m T.noSuffixes isSuffix (E.suffix inner) src at) y ∙ turn T.noSuffixes isSuffix (E.suffix inner) src (n - 1) at q
+
+module _ {src : Source} {n : ℕ} {s₀ : List ℕ} (l : Lies src n s₀) (size x : ℕ) {s s₁ : List ℕ} {r r₁ : Answer} {kind : ℕ} (k : KindHere src r₁ kind) (d₁ : Reads (E.primary (within x) src) post s s₁ r r₁) where
+  pub suffixed-one : isSuffix kind ≡ false → Reads (E.suffixed (within x) src) post s s₁ r r₁
+  unfolding E.suffixed withSuffixes
+  suffixed-one h =
+      bind size post d₁ stays (λ e q. here (λ m. ok e m) (λ at free y. ap (λ (o : Out Suffixes). onOut o (λ ss q. ok (withSuffixes e ss) q)) (no-suffixes (within x) src at (sym (ap isSuffix (k .here at free y)) ∙ h))) (nothing (record { same = append-nil (post e) })))
+
+  pub suffixed-more : {s₂ s₃ s₄ : List ℕ} {r₂ r₃ r₄ : Answer} {lo value place : ℕ} {first last : Bool} → isSuffix kind ≡ true → lo ≡ freeOf size r → value ≡ freeOf size r₁ - lo → place ≡ flag last → Goes (E.suffix (within x) src) (PutsSuffix first) s₁ s₂ r₁ r₂ → Goes (manyUpTo (n - 1) T.noSuffixes isSuffix (E.suffix (within x)) src) (Ended first last) s₂ s₃ r₂ r₃ → Adds (recordFrom lo value place 63) s₃ s₄ r₃ r₄ → Reads (E.suffixed (within x) src) post s s₄ r r₄
+  unfolding E.suffixed
+  suffixed-more {s₂} {s₃} {s₄} {r₂} {r₃} {r₄} {lo} {value} {place} {first} {last} hb lo-is ev ep d₂ d₃ d₄ =
+      let kp : 0 < kind = suffix-positive kind hb in
+      bind size post d₁ (goes-on d₂ then goes-on d₃ then adds-on d₄) (λ e q₁. here _ (λ at free y.
+      let i : at < n = among l at (omega (arith, k .here at free y)) in
+      ap (λ (o : Out Suffixes). onOut o (λ ss q. ok (withSuffixes e ss) q)) (first-suffix (within x) src n at (l .count) (omega arith) (sym (ap isSuffix (k .here at free y)) ∙ hb)) ∙ nests (E.suffix (within x) src at) (λ q. manyUpTo (n - 1) T.noSuffixes isSuffix (E.suffix (within x)) src q) (λ ss q. ok (withSuffixes e ss) q))
+      (follow size d₂ (goes-on d₃ then adds-on d₄) (λ put w h q₂. follow size d₃ (adds-on d₄) (λ ss v g q₃. added size d₄ (record { same = ap (λ (u : List ℕ). post e ++ (w ++ (u ++ recordFrom lo value place 63 (freeOf size r₃)))) (g .same) ∙ chained (post e) w (postSuffixes ss) (postSuffixes (put ss)) (freeOf size r₃ - lo) value place 63 (omega (arith, ap length (g .same))) (omega arith) (h .puts ss) ∙ ap (λ (p : ℕ). closed (post e ++ postSuffixes (put ss)) (length (post e)) p 63) (ep ∙ ap flag (sym (h .ends false ss ∙ g .ends))) ∙ sym (post-suffixed e (put ss) (grown w (postSuffixes ss) (postSuffixes (put ss)) (h .puts ss) (h .some))) })))))
+
+-- suffixes so far
+pub suffix-first : {b : Bool} → EndedSoFar b b (λ ss. ss) []
+suffix-first = record { puts = λ rest. refl; ends = λ rest. refl }
+
+pub suffix-next : {b c d : Bool} (put put′ : Suffixes → Suffixes) (w w′ : List ℕ) → EndedSoFar b c put w → PutsSuffix d put′ w′ → EndedSoFar b d (λ ss. put (put′ ss)) (w ++ w′)
+suffix-next {b} {c} {d} put put′ w w′ h g =
+    record { puts = λ rest. h .puts (put′ rest) ∙ ap (λ (l : List ℕ). w ++ l) (g .puts rest) ∙ sym (append-assoc w w′ (postSuffixes rest)); ends = λ rest. h .ends (put′ rest) ∙ g .ends c rest }
+
+pub suffix-last : {b c : Bool} (put : Suffixes → Suffixes) (ss : Suffixes) (w v : List ℕ) → EndedSoFar b c put w → Ended c c ss v → Ended b c (put ss) (w ++ v)
+suffix-last put ss w v h g =
+    record { same = ap (λ (l : List ℕ). w ++ l) (g .same) ∙ sym (h .puts ss); ends = h .ends ss ∙ g .ends }
+
+pub no-suffix-ended : {b : Bool} → Ended b b T.noSuffixes []
+unfolding postSuffixes T.endsInCall
+no-suffix-ended = record { same = refl; ends = refl }
+
+-- expressions so far
+pub expression-first : CountedSoFar 0 (λ es. es) []
+expression-first = record { puts = λ rest. refl; many = λ rest. omega arith }
+
+pub expression-next : {m : ℕ} (put put′ : Expressions → Expressions) (w w′ : List ℕ) → CountedSoFar m put w → PutsOne put′ w′ → CountedSoFar (m + 1) (λ es. put (put′ es)) (w ++ w′)
+expression-next {m} put put′ w w′ h g =
+    record { puts = λ rest. h .puts (put′ rest) ∙ ap (λ (l : List ℕ). w ++ l) (g .puts rest) ∙ sym (append-assoc w w′ (postExpressions rest)); many = λ rest. omega (arith, h .many (put′ rest), g .one rest) }
+
+pub expression-last : {m : ℕ} (put : Expressions → Expressions) (es : Expressions) (w v : List ℕ) → CountedSoFar m put w → Counted 0 es v → Counted m (put es) (w ++ v)
+expression-last put es w v h g =
+    record { same = ap (λ (l : List ℕ). w ++ l) (g .same) ∙ sym (h .puts es); many = omega (arith, h .many es, g .many) }
+
+pub no-expression-counted : Counted 0 T.noExpressions []
+unfolding postExpressions T.count
+no-expression-counted = record { same = refl; many = refl }
+
+pub expression-none : (src : Source) (x b : ℕ) {s s₁ : List ℕ} {r r₁ : Answer} → b ≡ 0 → Reads (E.operand (within x) src) post s s₁ r r₁ → Reads (E.expression (within x) b src) post s s₁ r r₁
+unfolding E.expression
+expression-none src x b h d = here _ (λ at free e. ap (λ (y : ℕ). E.expression (within x) y src at) h) d
+
+-- no items
+pub no-operation-words : postOperations T.noOperations ≡ []
+unfolding postOperations
+no-operation-words = refl
+
+pub no-expression-words : postExpressions T.noExpressions ≡ []
+unfolding postExpressions
+no-expression-words = refl

@@ -1,0 +1,153 @@
+-- The source that scratch holds: its symbols lie there. What the reading of it makes of scratch, and when scratch is fit for it.
+use Prim.Native.Nat.{ℕ, zero, suc, _+_, _*_, _-_, _/_, _≤_, _<_, _^_}
+use mathlib.Core.Path.{_≡_, refl, sym, ap, subst, _∙_}
+use mathlib.Core.Bool.{Bool, true, false, cond}
+use mathlib.Core.List.{List, _++_}
+use native.Mathlib.Omega.{arith}
+use lib.ListN.{length, take, getD, drop, List·getD-eq-default}
+use lib.Seq.{getD-drop}
+use lib.Dec.{ltb}
+use borrow.Author.Tests.{ltb-true, ltb-false, lt-ltb, le-ltb}
+use Rattle.language.specs.Symbols.{Symbol}
+use Rattle.language.specs.Reader.{Out, ok, no, placeAt}
+use Rattle.language.specs.Tree.{Program}
+use Rattle.language.specs.Grammar.{treeOf, program}
+use Rattle.tree.specs.Post.{postProgram}
+use Rattle.tree.specs.Reads.{Lies, Ready, Is, Wrote, GoesBy, Reads, nextOf, lowOf, reach}
+use Rattle.tree.specs.Read.{decoded, sourceIn, unfit, answerOf, treeRead, Stands, Leaves, ReadsTree}
+use Rattle.tree.proofs.Symbols.{lies-still}
+use Rattle.tree.specs.declared.Answer.{Answer}
+use Rattle.tree.specs.declared.Answer.the-variants.{Read, Refused}
+use Rattle.tree.specs.declared.TreeRead.{TreeRead}
+use Rattle.tree.specs.declared.TreeRead.the-variants.{TooShort, Read as ReadTo, Refused as RefusedAt}
+
+-- the symbol that stands from an entry on
+abbrev symbolFrom : List ℕ → ℕ → Symbol
+symbolFrom s j = record { kind = getD s j 0; value = getD s (j + 1) 0; place = getD s (j + 2) 0 }
+
+dropped : (s : List ℕ) (i j k : ℕ) → j ≡ i + 3 → getD (drop 3 s) (i + k) 0 ≡ getD s (j + k) 0
+dropped s i j k e = getD-drop 3 s (i + k) 0 ∙ ap (λ (x : ℕ). getD s x 0) (omega arith)
+
+shifted : (s : List ℕ) (i j : ℕ) → j ≡ i + 3 → symbolFrom (drop 3 s) i ≡ symbolFrom s j
+shifted s i j e =
+    ap (λ (x : ℕ). record { kind = x; value = getD (drop 3 s) (i + 1) 0; place = getD (drop 3 s) (i + 2) 0 }) (getD-drop 3 s i 0 ∙ ap (λ (x : ℕ). getD s x 0) (omega arith))
+    ∙ ap (λ (x : ℕ). record { kind = getD s j 0; value = x; place = getD (drop 3 s) (i + 2) 0 }) (dropped s i j 1 e)
+    ∙ ap (λ (x : ℕ). record { kind = getD s j 0; value = getD s (j + 1) 0; place = x }) (dropped s i j 2 e)
+
+decoded-length : (n : ℕ) (s : List ℕ) → length (decoded n s) ≡ n
+unfolding decoded
+decoded-length zero s = refl
+decoded-length (suc n) s = ap suc (decoded-length n (drop 3 s))
+
+decoded-at : (n : ℕ) (s : List ℕ) (d : Symbol) (i : ℕ) → i < n → getD (decoded n s) i d ≡ symbolFrom s (i * 3)
+unfolding decoded
+decoded-at zero s d i h = absurd (omega arith)
+decoded-at (suc n) s d zero h = refl
+decoded-at (suc n) s d (suc i) h =
+    decoded-at n (drop 3 s) d i (omega arith) ∙ shifted s (i * 3) (suc i * 3) (omega arith)
+
+pub lies : (s : List ℕ) (n size : ℕ) → Lies (sourceIn s n size) n s
+unfolding sourceIn
+lies s n size =
+    record {
+      count = decoded-length n s;
+      kinds = λ i h. sym (ap (λ (x : Symbol). x .kind) (decoded-at n s _ i h));
+      values = λ i h. sym (ap (λ (x : Symbol). x .value) (decoded-at n s _ i h));
+      places = λ i h. sym (ap (λ (x : Symbol). x .place) (decoded-at n s _ i h));
+    }
+
+-- past the symbols, the place is the text's size
+pub place-past : (s : List ℕ) (n size at : ℕ) → n ≤ at → size ≡ placeAt (sourceIn s n size) at
+unfolding sourceIn
+place-past s n size at h =
+    sym (ap (λ (x : Symbol). x .place) (List·getD-eq-default (decoded n s) _ (omega (arith, decoded-length n s))))
+
+-- places stay where the symbols do
+module _ (s s′ : List ℕ) (n size at : ℕ) (e : take (n * 3) s′ ≡ take (n * 3) s) where
+  keptBy : (b : Bool) → ltb at n ≡ b → placeAt (sourceIn s′ n size) at ≡ placeAt (sourceIn s n size) at
+  keptBy true q =
+      let h : at < n = ltb-true at n q in
+      sym (lies s′ n size .places at h) ∙ lies-still (lies s n size) e .places at h
+  keptBy false q =
+      let h : n ≤ at = ltb-false at n q in
+      sym (place-past s′ n size at h) ∙ place-past s n size at h
+
+  place-kept : placeAt (sourceIn s′ n size) at ≡ placeAt (sourceIn s n size) at
+  place-kept = keptBy (ltb at n) refl
+
+-- whether scratch is fit
+module _ (room count : ℕ) where
+  pub unfit-long : 2 ^ 32 - 1 < room → true ≡ unfit room count
+  unfolding unfit
+  unfit-long h = sym (ap (λ (b : Bool). cond (ltb room (count * 8 + 64)) true b) (lt-ltb (2 ^ 32 - 1) room h) ∙ anyhow (ltb room (count * 8 + 64)))
+    where
+      anyhow : (b : Bool) → cond b true true ≡ true
+      anyhow true = refl
+      anyhow false = refl
+
+  pub unfit-few : room < count * 8 + 64 → true ≡ unfit room count
+  unfolding unfit
+  unfit-few h = sym (ap (λ (b : Bool). cond b true (ltb (2 ^ 32 - 1) room)) (lt-ltb room (count * 8 + 64) h))
+
+  unfit-not : room ≤ 2 ^ 32 - 1 → count * 8 + 64 ≤ room → false ≡ unfit room count
+  unfolding unfit
+  unfit-not h q =
+      sym (ap (λ (b : Bool). cond b true (ltb (2 ^ 32 - 1) room)) (le-ltb room (count * 8 + 64) q) ∙ le-ltb (2 ^ 32 - 1) room h)
+
+  restBy : (b : Bool) → ltb ((room - 64) / 8) count ≡ b → room ≤ 2 ^ 32 - 1 → 64 ≤ room → b ≡ unfit room count
+  restBy true e h q = unfit-few (omega (arith, ltb-true ((room - 64) / 8) count e))
+  restBy false e h q = unfit-not h (omega (arith, ltb-false ((room - 64) / 8) count e))
+
+  pub unfit-rest : room ≤ 2 ^ 32 - 1 → 64 ≤ room → ltb ((room - 64) / 8) count ≡ unfit room count
+  unfit-rest h q = restBy (ltb ((room - 64) / 8) count) refl h q
+
+  fitBy : (b c : Bool) → ltb room (count * 8 + 64) ≡ b → ltb (2 ^ 32 - 1) room ≡ c → cond b true c ≡ false → (count * 8 + 64 ≤ room) × (room < 2 ^ 32)
+  fitBy true c e f g = let z : _≡_ {A = ℕ} 1 0 = ap (λ (b : Bool). cond b 1 0) g in absurd (omega arith)
+  fitBy false true e f g = let z : _≡_ {A = ℕ} 1 0 = ap (λ (b : Bool). cond b 1 0) g in absurd (omega arith)
+  fitBy false false e f g = (ltb-false room (count * 8 + 64) e, omega (arith, ltb-false (2 ^ 32 - 1) room f))
+
+  fit-is : unfit room count ≡ false → (count * 8 + 64 ≤ room) × (room < 2 ^ 32)
+  unfolding unfit
+  fit-is h = fitBy (ltb room (count * 8 + 64)) (ltb (2 ^ 32 - 1) room) refl refl h
+
+-- the reading may begin
+pub starts : (s : List ℕ) (n : ℕ) → unfit (length s) n ≡ false → Ready 0 s n (Read 0 (n * 3))
+unfolding nextOf lowOf reach
+starts s n h =
+    let f = fit-is (length s) n h in
+    record { placed = omega arith; above = omega arith; room = omega (arith, f); wide = omega (arith, f); small = f .1 }
+
+-- what is read
+pub too-short : (s : List ℕ) (n size : ℕ) → unfit (length s) n ≡ true → ReadsTree s n size TooShort s
+unfolding treeRead
+too-short s n size h =
+    record {
+      answers = sym (ap (λ (b : Bool). cond b TooShort (answerOf (sourceIn s n size) n (treeOf (sourceIn s n size)))) h);
+      leaves = subst (λ (b : Bool). Leaves s n size s b) (sym h) refl;
+    }
+
+module _ {s s′ : List ℕ} {n size : ℕ} (fit : unfit (length s) n ≡ false) where
+  answered : {answer : TreeRead} (o : Out Program) → treeOf (sourceIn s n size) ≡ o → answer ≡ answerOf (sourceIn s n size) n o → Stands n o s s′ → ReadsTree s n size answer s′
+  unfolding treeRead
+  answered o e a w =
+      record {
+        answers = a ∙ ap (answerOf (sourceIn s n size) n) (sym e) ∙ sym (ap (λ (b : Bool). cond b TooShort (answerOf (sourceIn s n size) n (treeOf (sourceIn s n size)))) fit);
+        leaves = subst (λ (b : Bool). Leaves s n size s′ b) (sym fit) (subst (λ (x : Out Program). Stands n x s s′) (sym e) w);
+      }
+
+  wrote : (next free : ℕ) → Wrote (program (sourceIn s n size) 0) (Is postProgram) (n * 3) s s′ next free → ReadsTree s n size (ReadTo free) s′
+  unfolding treeOf
+  wrote next free w =
+      let q : free ≡ n * 3 + length (postProgram (w .tree)) = w .size ∙ ap (λ (x : List ℕ). n * 3 + length x) (w .says .same) in
+      answered (ok (w .tree) next) (w .is) (ap ReadTo q)
+      (ap (λ (x : ℕ). take x s′) (sym q) ∙ w .written ∙ ap (λ (x : List ℕ). take (n * 3) s ++ x) (w .says .same))
+
+  module _ {r : Answer} (d : Reads (program (sourceIn s n size)) postProgram s s′ (Read 0 (n * 3)) r) where
+    pub tree-read : {next free : ℕ} → r ≡ Read next free → ReadsTree s n size (ReadTo free) s′
+    tree-read {next} {free} e =
+        wrote next free (subst (λ (x : Answer). GoesBy (program (sourceIn s n size)) (Is postProgram) s s′ (Read 0 (n * 3)) x) e (d .by))
+
+    pub tree-refused : {number at place : ℕ} → r ≡ Refused number at → take (n * 3) s′ ≡ take (n * 3) s → place ≡ placeAt (sourceIn s′ n size) at → ReadsTree s n size (RefusedAt number place) s′
+    unfolding treeOf
+    tree-refused {number} {at} {place} e k p =
+        answered (no number at) (subst (λ (x : Answer). GoesBy (program (sourceIn s n size)) (Is postProgram) s s′ (Read 0 (n * 3)) x) e (d .by)) (ap (RefusedAt number) (p ∙ place-kept s s′ n size at k)) k

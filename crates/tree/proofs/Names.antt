@@ -1,0 +1,68 @@
+-- Names, one and after commas, and what may be left out: a symbol, and BY with its constant.
+use Prim.Native.Nat.{ℕ, _+_}
+use mathlib.Core.Path.{_≡_, refl, sym, ap, _∙_}
+use mathlib.Core.Bool.{Bool, true, false, cond}
+use mathlib.Core.List.{List, []}
+use mathlib.Core.Option.{none, some}
+use native.Mathlib.Omega.{arith}
+use borrow.Author.Tests.{eq-eqb, ne-eqb}
+use Rattle.language.specs.Kinds as K
+use Rattle.language.specs.Tree.{Name}
+use Rattle.language.specs.Reader.{Source, Out, ok, no, onOut, kindAt, valueAt, the, optional, aName}
+use Rattle.language.specs.Expressions as E
+use Rattle.language.specs.Commands as C
+use Rattle.language.specs.Grammar.{within, readers}
+use Rattle.tree.specs.Reads.{Lies, Here, KindHere, Goes, Puts, Reads, aFurtherName}
+use Rattle.tree.specs.Post.{leaf, postName, postNames, postConstant, postBy}
+use Rattle.tree.proofs.Steps.{bind, here, goes-on, nothing}
+use Rattle.tree.proofs.Symbols.{mapped, the-is, stays}
+use Rattle.tree.proofs.Leaves.{name-at, nameOf}
+use Rattle.tree.specs.declared.Answer.{Answer}
+
+same-name : (o : Out Name) → o ≡ onOut o (λ y m. ok y m)
+same-name (ok y m) = refl
+same-name (no k p) = refl
+
+pub a-name-read : {src : Source} {n : ℕ} {s s′ : List ℕ} {r r′ : Answer} {value : ℕ} → Lies src n s → Here (valueAt src) n r value → Reads (the K.NAME src) (λ place. leaf value place K.NAME) s s′ r r′ → Reads (aName src) postName s s′ r r′
+unfolding postName
+a-name-read {src} {value = value} l h d =
+    here _ (λ at free e. same-name (aName src at) ∙ name-at l h (λ y m. ok y m) at free e) (mapped (λ place. nameOf place value) (λ _. refl) d)
+
+-- a comma and a name
+pub further-name-read : (src : Source) {s s₁ : List ℕ} {r r₀ r₁ : Answer} → Reads (the K.COMMA src) (λ _. []) s s r r₀ → Reads (aName src) postName s s₁ r₀ r₁ → Goes (aFurtherName src) (Puts postNames) s s₁ r r₁
+unfolding aFurtherName postName postNames
+further-name-read src c d =
+    bind 0 (λ _. []) c (goes-on d) (λ _ _. bind 0 postName d stays (λ y _. nothing (record { puts = λ rest. refl; some = omega arith })))
+
+pub no-name-words : postNames [] ≡ []
+unfolding postNames
+no-name-words = refl
+
+-- a symbol, if it stands here
+module _ (src : Source) (kind : ℕ) {s : List ℕ} {r : Answer} {x : ℕ} (k : KindHere src r x) where
+  pub optional-here : {r′ : Answer} → x ≡ kind → Reads (the kind src) (λ _. []) s s r r′ → Reads (optional kind src) (λ _. []) s s r r′
+  unfolding optional
+  optional-here q d =
+      here _ (λ at free e. let y : kindAt src at ≡ kind = sym (k .here at free e) ∙ q in
+      ap (λ (b : Bool). cond b (ok true (at + 1)) (ok false at)) (eq-eqb (kindAt src at) kind y) ∙ sym (ap (λ (o : Out ℕ). onOut o (λ _ m. ok true m)) (the-is src kind at y)))
+      (mapped (λ _. true) (λ _. refl) d)
+
+  pub optional-not : (x ≡ kind → ⊥) → Reads (optional kind src) (λ _. []) s s r r
+  unfolding optional
+  optional-not q =
+      here (λ m. ok false m) (λ at free e. ap (λ (b : Bool). cond b (ok true (at + 1)) (ok false at)) (ne-eqb (kindAt src at) kind (λ y. q (k .here at free e ∙ y))))
+      (nothing (record { same = refl }))
+
+-- BY and a constant, if BY stands here
+module _ (src : Source) (x : ℕ) {s : List ℕ} {r : Answer} {kind : ℕ} (k : KindHere src r kind) where
+  pub by-read : {s₁ : List ℕ} {r₀ r₁ : Answer} → kind ≡ K.BY → Reads (the K.BY src) (λ _. []) s s r r₀ → Reads (E.constant (within x) src) postConstant s s₁ r₀ r₁ → Reads (C.optionalBy (readers (within x)) src) postBy s s₁ r r₁
+  unfolding C.optionalBy C.by postBy
+  by-read q a d =
+      here (C.by (readers (within x)) src) (λ at free e. ap (λ (b : Bool). cond b (C.by (readers (within x)) src at) (ok none at)) (eq-eqb (kindAt src at) K.BY (sym (k .here at free e) ∙ q)))
+      (bind 0 (λ _. []) a (goes-on d) (λ _ _. mapped some (λ _. refl) d))
+
+  pub no-by : (kind ≡ K.BY → ⊥) → Reads (C.optionalBy (readers (within x)) src) postBy s s r r
+  unfolding C.optionalBy postBy
+  no-by q =
+      here (λ m. ok none m) (λ at free e. ap (λ (b : Bool). cond b (C.by (readers (within x)) src at) (ok none at)) (ne-eqb (kindAt src at) K.BY (λ y. q (k .here at free e ∙ y))))
+      (nothing (record { same = refl }))

@@ -1,0 +1,61 @@
+use mathlib.Core.Path.{refl}
+use native.Mathlib.Omega.{arith}
+use Rattle.tree.proofs.Helpers.{smaller, fitted, enlarged, weaker, both, then-grows, base, low}
+use Rattle.tree.proofs.Symbols.{lies-still}
+use Rattle.tree.proofs.Programs.{declared-read}
+use borrow.Author.Needs.{needs}
+use Rattle.tree.proofs.declared.Statement.{statement}
+use Rattle.tree.proofs.declared.Tie as tie
+use Rattle.tree.proofs.declared.Reads as reads
+use Rattle.tree.proofs.declared.Lts as lts
+use Rattle.tree.proofs.declaration.Reads as declaration-reads
+use Rattle.tree.proofs.expect.Reads as expect-reads
+use Rattle.tree.proofs.free_of.Reads as free-of-reads
+use Rattle.tree.proofs.mark.Reads as mark-reads
+use Rattle.tree.proofs.optional.Reads as optional-reads
+use Rattle.tree.proofs.seal.Reads as seal-reads
+
+-- src/lib.rt:896:9
+free-of-requires : tie.Need-free-of-requires
+free-of-requires c κs = search needs
+
+-- src/lib.rt:897:9
+expect-requires : tie.Need-expect-requires
+expect-requires c κs = search needs
+
+-- src/lib.rt:898:9
+mark-requires : tie.Need-mark-requires
+mark-requires c κs = search needs
+
+-- src/lib.rt:899:9
+declaration-requires : tie.Need-declaration-requires
+declaration-requires c κs = search needs
+
+-- src/lib.rt:900:5
+seal-requires : tie.Need-seal-requires
+seal-requires c κs = (smaller (fitted (enlarged (fitted (c .before .before .before .before .before .before .before .before .before .before .before .before .before .before .pre .0) (c .before .before .before .before .before .before .before .before .before .expect .ensures .0) refl (omega arith)) (c .before .before .before .before .before .before .before .mark .ensures .0) (c .before .before .before .before .before .before .before .mark .kept .0) (omega arith) (omega arith)) (c .before .before .before .declaration .ensures .0) (c .before .before .before .declaration .kept .0) (omega arith)) (omega arith), omega (arith, base (c .before .before .before .before .before .before .before .before .before .before .before .before .before .before .pre .0), c .before .before .before .before .before .before .before .before .before .before .before .free-of .ensures))
+
+-- src/lib.rt:901:5
+optional-requires : tie.Need-optional-requires
+optional-requires c κs = search needs
+
+-- src/lib.rt:892:1
+same-length : tie.Need-same-length
+same-length c = search needs
+
+-- src/lib.rt:892:1
+returns : tie.Need-returns
+returns c = (weaker (omega arith) (both (both (both (then-grows (c .before .before .before .before .before .before .before .before .before .before .before .before .before .before .expect .ensures .0) (c .before .before .before .before .before .before .before .before .before .before .before .before .mark .ensures .0) (omega arith)) (c .before .before .before .before .before .before .before .before .declaration .ensures .0)) (c .before .before .before .before .seal .ensures .0)) (c .optional .ensures .0)), λ src l k h. (let l₁ = lies-still l (c .before .before .before .before .before .before .before .before .before .before .before .before .mark .ensures .0 .kept) in let l₃ = lies-still (lies-still l₁ (c .before .before .before .before .before .before .before .before .declaration .ensures .0 .kept)) (c .before .before .before .before .seal .ensures .0 .kept) in declared-read src _ k h (c .before .before .before .before .before .before .before .before .before .before .before .before .before .before .before .before .free-of .ensures) (low (fitted (c .before .before .before .before .before .before .before .before .before .before .before .before .before .before .before .before .before .before .before .pre .0) (c .before .before .before .before .before .before .before .before .before .before .before .before .before .before .expect .ensures .0) refl (omega arith))) (c .before .before .before .before .before .before .before .before .before .before .before .before .before .before .expect .ensures .1 src l) (c .before .before .before .before .before .before .before .before .before .before .before .before .mark .ensures .1) (c .before .before .before .before .before .before .before .before .declaration .ensures .1 src l₁ h) (c .before .before .before .before .seal .ensures .1) (c .optional .ensures .1 src l₃)))
+
+pub declared-spec : {M : Type 1} → statement M
+declared-spec =
+    tie.close
+    (tie.spec
+    free-of-requires
+    expect-requires
+    mark-requires
+    declaration-requires
+    seal-requires
+    optional-requires
+    same-length
+    returns)

@@ -1,0 +1,3 @@
+pub mod Post
+pub mod Reads
+pub mod Read

@@ -1,0 +1,48 @@
+-- What `read_tree` answers, and what scratch then holds: the symbols, and after them the tree (`Post`) if there is one. What stands
+-- behind these is not said. Scratch that is too short, or longer than an entry can count, stays as it was.
+use Prim.Native.Nat.{ℕ, zero, suc, _+_, _-_, _*_, _^_}
+use mathlib.Core.Path.{_≡_}
+use mathlib.Core.Bool.{Bool, true, false, cond}
+use mathlib.Core.List.{List, [], _∷_, _++_}
+use lib.ListN.{length, getD, take, drop}
+use lib.Dec.{ltb}
+use Rattle.language.specs.Symbols.{Symbol}
+use Rattle.language.specs.Reader.{Source, Out, ok, no, placeAt}
+use Rattle.language.specs.Tree.{Program}
+use Rattle.language.specs.Grammar.{treeOf}
+use Rattle.tree.specs.Post.{postProgram}
+use Rattle.tree.specs.declared.TreeRead.{TreeRead}
+use Rattle.tree.specs.declared.TreeRead.the-variants.{TooShort, Read, Refused}
+
+-- so many symbols, three entries each: kind, value, place
+unfoldable pub decoded : (count : ℕ) → List ℕ → List Symbol
+decoded zero s = []
+decoded (suc n) s = record { kind = getD s 0 0; value = getD s 1 0; place = getD s 2 0 } ∷ decoded n (drop 3 s)
+
+-- the source that scratch holds, of a text of that length
+unfoldable pub sourceIn : (scratch : List ℕ) → (count size : ℕ) → Source
+sourceIn scratch count size = record { symbols = decoded count scratch; size = size }
+
+-- eight entries a symbol and 64 are enough for the symbols and the tree
+unfoldable pub unfit : (room count : ℕ) → Bool
+unfit room count = cond (ltb room (count * 8 + 64)) true (ltb (2 ^ 32 - 1) room)
+
+abbrev pub answerOf : Source → (count : ℕ) → Out Program → TreeRead
+answerOf src count (ok p next) = Read (count * 3 + length (postProgram p))
+answerOf src count (no number at) = Refused number (placeAt src at)
+
+unfoldable pub treeRead : (scratch : List ℕ) → (count size : ℕ) → TreeRead
+treeRead scratch count size =
+    cond (unfit (length scratch) count) TooShort (answerOf (sourceIn scratch count size) count (treeOf (sourceIn scratch count size)))
+
+abbrev pub Stands : (count : ℕ) → Out Program → (scratch scratch′ : List ℕ) → Type 0
+Stands count (ok p next) s s′ = take (count * 3 + length (postProgram p)) s′ ≡ take (count * 3) s ++ postProgram p
+Stands count (no number at) s s′ = take (count * 3) s′ ≡ take (count * 3) s
+
+abbrev pub Leaves : (scratch : List ℕ) → (count size : ℕ) → (scratch′ : List ℕ) → Bool → Type 0
+Leaves s count size s′ unfit =
+    elim unfit [ true ↦ s′ ≡ s | false ↦ Stands count (treeOf (sourceIn s count size)) s s′ ]
+
+pub record ReadsTree (scratch : List ℕ) (count size : ℕ) (answer : TreeRead) (scratch′ : List ℕ) : Type 0 where
+  pub answers : answer ≡ treeRead scratch count size
+  pub leaves : Leaves scratch count size scratch′ (unfit (length scratch) count)

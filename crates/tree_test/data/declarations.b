@@ -1,0 +1,6 @@
+GLOBAL $( START:1; OUT : 150
+  LAST: -1 $)
+MANIFEST $( A=TRUE; B = FALSE; C = -B; D='*N'; $);
+LET START() BE OUT(A)
+LET PAIR(X, Y) = X AND SELF(X) = X
+AND NOTHING() BE $( $)

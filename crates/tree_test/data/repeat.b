@@ -1,0 +1,1 @@
+LET F() BE $( CASE 1: REPEAT $)

@@ -1,0 +1,127 @@
+//! Sources that leave nothing to chance: programs damaged at every symbol in every way, nests of every form about the deepest
+//! allowed, chains of every link as long as a text may be, and the sources that a reader needs most stack for.
+
+use crate::random::Random;
+use crate::sources::{equal_list, nest_of, token, tokens, Case, Token};
+use crate::sources::{CHAINS, CHAIN_FAULTS, COMMAND_WRAPS, EXPRESSION_WRAPS};
+use crate::symbols::{LONGEST_TEXT, SIGNS, WORDS};
+
+/// A sweep: its name, and a function that hands each of its cases on.
+pub struct Sweep {
+    pub name: &'static str,
+    pub each: fn(&mut dyn FnMut(Case) -> Result<(), String>) -> Result<(), String>,
+}
+
+pub const SWEEPS: [Sweep; 3] = [
+    Sweep { name: "damaged at every symbol", each: damaged },
+    Sweep { name: "nests of every form", each: nests },
+    Sweep { name: "chains of every link", each: chains },
+];
+
+/// Between them they have every construct.
+const PROGRAMS: [&str; 8] = [
+    "GLOBAL $( A : 1 ; B : - 2 $) ; MANIFEST $( C = TRUE ; D = - C ; $) LET F ( ) = 1 ;",
+    "LET F ( A , B ) BE RETURN AND G ( ) = A ! 1 ( B , 2 ) ! ( C ) AND H ( A ) BE $( $)",
+    "LET F ( ) BE $( LET V = VEC 3 LET A , B = 1 , \"S\" ; A , V ! 1 := B , - 2 ; F ( ) ; $)",
+    "LET F ( ) BE $( TEST A DO LOOP OR BREAK ; IF A DO UNLESS B DO FINISH ; WHILE A DO UNTIL B DO ENDCASE $)",
+    "LET F ( ) BE FOR I = 1 TO A + 2 BY - 1 DO A := I REPEAT REPEATWHILE B REPEATUNTIL C",
+    "LET F ( ) BE SWITCHON A INTO $( CASE 1 : CASE - B : DEFAULT : ; CASE FALSE : F ( 1 ) ( ) ; $)",
+    "LET F ( ) = A * - B REM C + NOT D < E << 2 & @ A ! 1 | VALOF $( LET A = 1 RESULTIS TRUE $) ( 3 ) >= + ! 4",
+    "LET F ( ) = A | B & C >> D - E / VALOF RESULTIS ( F ( G ( ) , NOT 1 ) ) ~= \"\"",
+];
+
+fn spaced(tokens: &[Token]) -> Vec<u8> {
+    tokens.iter().map(|token| token.text.as_slice()).collect::<Vec<_>>().join(&b' ')
+}
+
+/// Every symbol in turn taken out, doubled, replaced by and preceded by every other; the text ended there.
+fn damaged(check: &mut dyn FnMut(Case) -> Result<(), String>) -> Result<(), String> {
+    let spellings = WORDS.iter().chain(&SIGNS).map(|(spelling, _)| *spelling).chain(["A", "1", "\"S\""]);
+    let every: Vec<Token> = spellings.map(|spelling| token(spelling.as_bytes())).collect();
+    for program in PROGRAMS {
+        let whole = tokens(program);
+        check(Case { text: spaced(&whole), expected: Some(0) })?;
+        let mut changed = |place: usize, taken: usize, put: &[Token]| {
+            let text = spaced(&[&whole[..place], put, &whole[place + taken..]].concat());
+            check(Case { text, expected: None })
+        };
+        for place in 0..whole.len() {
+            changed(place, 1, &[])?;
+            changed(place, 0, &whole[place..=place])?;
+            changed(place, whole.len() - place, &[])?;
+            for other in &every {
+                changed(place, 1, std::slice::from_ref(other))?;
+                changed(place, 0, std::slice::from_ref(other))?;
+            }
+        }
+    }
+    Ok(())
+}
+
+/// Each form over and over, with one of the other sort where it needs one; and mixtures of all.
+fn nests(check: &mut dyn FnMut(Case) -> Result<(), String>) -> Result<(), String> {
+    let mut random = Random::new(0);
+    let (expressions, commands) = (EXPRESSION_WRAPS.len(), COMMAND_WRAPS.len());
+    let alone = (0..expressions).map(|index| Some((index, index % commands)));
+    let alone = alone.chain((0..commands).map(|index| Some((index * 5 % expressions, index))));
+    for only in alone.chain([None; 20]) {
+        for (head, command) in [("LET F ( ) BE", true), ("LET F ( ) =", false)] {
+            for levels in [63, 64, 65] {
+                for innermost in 0..3 {
+                    let mut all = tokens(head);
+                    all.extend(nest_of(&mut random, levels, command, only, innermost));
+                    check(Case { text: spaced(&all), expected: Some(if levels > 64 { 7 } else { 0 }) })?;
+                }
+            }
+        }
+    }
+    Ok(())
+}
+
+/// Each link by itself and all of them in turn, good and with a fault at the end.
+fn chains(check: &mut dyn FnMut(Case) -> Result<(), String>) -> Result<(), String> {
+    let mut faults = CHAIN_FAULTS.iter().cycle();
+    let mut both = |make: &dyn Fn(usize) -> Vec<u8>| {
+        check(Case { text: make(LONGEST_TEXT), expected: Some(0) })?;
+        let fault = faults.next().map_or("", |fault| fault);
+        let text = [make(LONGEST_TEXT - fault.len()).as_slice(), fault.as_bytes()].concat();
+        check(Case { text, expected: None })
+    };
+    for chain in &CHAINS {
+        for only in chain.links {
+            both(&|limit| chain.text(limit, |_| only))?;
+        }
+        both(&|limit| chain.text(limit, |number| chain.links[number % chain.links.len()]))?;
+    }
+    for assigned in [true, false] {
+        both(&|limit| equal_list(limit / 4 - 20, assigned).into_bytes())?;
+    }
+    Ok(())
+}
+
+/// Forms that take a reader by recursion through as many functions as one level can: what stands before the part within,
+/// what after it, and the levels opened. The part is an expression.
+const STEEP_FORMS: [(&str, &str, usize); 8] = [
+    ("(", ")", 1),
+    ("A|A|A&A&A<<A<<A+A+A*A*A!A(1)(1,", ")", 1),
+    ("A|A|A&A&A=A+A+A*A*A!A(1)(1,", ")", 1),
+    ("A|A|A&A&A<<A<<A+A+A*A*A!A!NOT A<<A<<A+A+A*A*A!A!-A*A*A!A!!A!A(1,", ")", 4),
+    ("A|A|A&A&A<<A<<A+A+A*A*A!A!VALOF CASE 1:DEFAULT:BREAK REPEAT REPEATWHILE ", "", 2),
+    ("A|A|A&A&A<<A<<A+A+A*A*A!A!VALOF CASE 1:$(A();A,A:=A,(", ")$)", 4),
+    ("VALOF TEST A DO DEFAULT:BREAK OR DEFAULT:A,A:=A,", "", 3),
+    ("VALOF $(LET A=1 LET A,A=A,", "$)", 2),
+];
+
+/// Each of the steep forms to the deepest level allowed and no deeper, in a text as long as may be.
+pub fn steepest() -> Vec<Vec<u8>> {
+    let steep = |&(before, after, levels): &(&str, &str, usize)| {
+        let times = 64 / levels;
+        let head = ["LET F()=", &before.repeat(times)].concat();
+        let tail = after.repeat(times);
+        let links = (LONGEST_TEXT - head.len() - tail.len() - 1) / 2;
+        let mut text = [head.as_str(), "1", &"+1".repeat(links), &tail].concat().into_bytes();
+        text.resize(LONGEST_TEXT, b' ');
+        text
+    };
+    STEEP_FORMS.iter().map(steep).collect()
+}
