@@ -13,8 +13,8 @@ use Rattle.language.specs.Reader.{Out, ok, no, placeAt}
 use Rattle.language.specs.Tree.{Program}
 use Rattle.language.specs.Grammar.{treeOf, program}
 use Rattle.tree.specs.Post.{postProgram}
-use Rattle.tree.specs.Reads.{Lies, Ready, Is, Wrote, GoesBy, Reads, nextOf, lowOf, reach}
-use Rattle.tree.specs.Read.{decoded, sourceIn, unfit, answerOf, treeRead, Stands, Leaves, ReadsTree}
+use Rattle.tree.specs.Reads.{Lies, Ready, Fits, Is, Wrote, GoesBy, Reads, nextOf, lowOf, live, reach}
+use Rattle.tree.specs.Read.{decoded, sourceIn, unfit, answerOf, treeRead, Stands, Leaves, Within, ReadsTree}
 use Rattle.tree.proofs.Symbols.{lies-still}
 use Rattle.tree.specs.declared.Answer.{Answer}
 use Rattle.tree.specs.declared.Answer.the-variants.{Read, Refused}
@@ -124,30 +124,40 @@ too-short s n size h =
     record {
       answers = sym (ap (λ (b : Bool). cond b TooShort (answerOf (sourceIn s n size) n (treeOf (sourceIn s n size)))) h);
       leaves = subst (λ (b : Bool). Leaves s n size s b) (sym h) refl;
+      room = tt;
     }
 
+-- the tree ends within the room
+within : {s s′ : List ℕ} {n next free : ℕ} {r : Answer} → Fits 0 s s′ n (Read 0 (n * 3)) r → r ≡ Read next free → free ≤ n * 8
+unfolding reach live
+within {n = n} {next} {free} f e =
+    let h : reach n (Read next free) + live (Read next free) * 0 ≤ reach n (Read 0 (n * 3)) = subst (λ (x : Answer). reach n x + live x * 0 ≤ reach n (Read 0 (n * 3))) e (f .less) in
+    omega arith
+
 module _ {s s′ : List ℕ} {n size : ℕ} (fit : unfit (length s) n ≡ false) where
-  answered : {answer : TreeRead} (o : Out Program) → treeOf (sourceIn s n size) ≡ o → answer ≡ answerOf (sourceIn s n size) n o → Stands n o s s′ → ReadsTree s n size answer s′
+  answered : {answer : TreeRead} (o : Out Program) → treeOf (sourceIn s n size) ≡ o → answer ≡ answerOf (sourceIn s n size) n o → Stands n o s s′ → Within (n * 8) answer → ReadsTree s n size answer s′
   unfolding treeRead
-  answered o e a w =
+  answered o e a w h =
       record {
         answers = a ∙ ap (answerOf (sourceIn s n size) n) (sym e) ∙ sym (ap (λ (b : Bool). cond b TooShort (answerOf (sourceIn s n size) n (treeOf (sourceIn s n size)))) fit);
         leaves = subst (λ (b : Bool). Leaves s n size s′ b) (sym fit) (subst (λ (x : Out Program). Stands n x s s′) (sym e) w);
+        room = h;
       }
 
-  wrote : (next free : ℕ) → Wrote (program (sourceIn s n size) 0) (Is postProgram) (n * 3) s s′ next free → ReadsTree s n size (ReadTo free) s′
+  wrote : (next free : ℕ) → Wrote (program (sourceIn s n size) 0) (Is postProgram) (n * 3) s s′ next free → free ≤ n * 8 → ReadsTree s n size (ReadTo free) s′
   unfolding treeOf
-  wrote next free w =
+  wrote next free w h =
       let q : free ≡ n * 3 + length (postProgram (w .tree)) = w .size ∙ ap (λ (x : List ℕ). n * 3 + length x) (w .says .same) in
       answered (ok (w .tree) next) (w .is) (ap ReadTo q)
       (ap (λ (x : ℕ). take x s′) (sym q) ∙ w .written ∙ ap (λ (x : List ℕ). take (n * 3) s ++ x) (w .says .same))
+      h
 
   module _ {r : Answer} (d : Reads (program (sourceIn s n size)) postProgram s s′ (Read 0 (n * 3)) r) where
-    pub tree-read : {next free : ℕ} → r ≡ Read next free → ReadsTree s n size (ReadTo free) s′
-    tree-read {next} {free} e =
-        wrote next free (subst (λ (x : Answer). GoesBy (program (sourceIn s n size)) (Is postProgram) s s′ (Read 0 (n * 3)) x) e (d .by))
+    pub tree-read : {next free : ℕ} → Fits 0 s s′ n (Read 0 (n * 3)) r → r ≡ Read next free → ReadsTree s n size (ReadTo free) s′
+    tree-read {next} {free} f e =
+        wrote next free (subst (λ (x : Answer). GoesBy (program (sourceIn s n size)) (Is postProgram) s s′ (Read 0 (n * 3)) x) e (d .by)) (within f e)
 
     pub tree-refused : {number at place : ℕ} → r ≡ Refused number at → take (n * 3) s′ ≡ take (n * 3) s → place ≡ placeAt (sourceIn s′ n size) at → ReadsTree s n size (RefusedAt number place) s′
     unfolding treeOf
     tree-refused {number} {at} {place} e k p =
-        answered (no number at) (subst (λ (x : Answer). GoesBy (program (sourceIn s n size)) (Is postProgram) s s′ (Read 0 (n * 3)) x) e (d .by)) (ap (RefusedAt number) (p ∙ place-kept s s′ n size at k)) k
+        answered (no number at) (subst (λ (x : Answer). GoesBy (program (sourceIn s n size)) (Is postProgram) s s′ (Read 0 (n * 3)) x) e (d .by)) (ap (RefusedAt number) (p ∙ place-kept s s′ n size at k)) k tt

@@ -18,3 +18,4 @@ pub mod Lets
 pub mod Assignments
 pub mod Decoded
 pub mod Programs
+pub mod Stages

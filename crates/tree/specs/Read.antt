@@ -1,6 +1,6 @@
 -- What `read_tree` answers, and what scratch then holds: the symbols, and after them the tree (`Post`) if there is one. What stands
 -- behind these is not said. Scratch that is too short, or longer than an entry can count, stays as it was.
-use Prim.Native.Nat.{ℕ, zero, suc, _+_, _-_, _*_, _^_}
+use Prim.Native.Nat.{ℕ, zero, suc, _+_, _-_, _*_, _≤_, _^_}
 use mathlib.Core.Path.{_≡_}
 use mathlib.Core.Bool.{Bool, true, false, cond}
 use mathlib.Core.List.{List, [], _∷_, _++_}
@@ -43,6 +43,13 @@ abbrev pub Leaves : (scratch : List ℕ) → (count size : ℕ) → (scratch′ 
 Leaves s count size s′ unfit =
     elim unfit [ true ↦ s′ ≡ s | false ↦ Stands count (treeOf (sourceIn s count size)) s s′ ]
 
+-- symbols and tree together take at most eight entries a symbol
+abbrev pub Within : (most : ℕ) → TreeRead → Type 0
+Within most TooShort = Unit {0}
+Within most (Read end) = end ≤ most
+Within most (Refused number place) = Unit {0}
+
 pub record ReadsTree (scratch : List ℕ) (count size : ℕ) (answer : TreeRead) (scratch′ : List ℕ) : Type 0 where
   pub answers : answer ≡ treeRead scratch count size
   pub leaves : Leaves scratch count size scratch′ (unfit (length scratch) count)
+  pub room : Within (count * 8) answer

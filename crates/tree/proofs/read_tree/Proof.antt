@@ -48,7 +48,7 @@ same-length-2 c = search needs
 
 -- src/lib.rt:970:1
 returns-2 : tie.Need-returns-2
-returns-2 c = tree-read (sym (c .before .before .before .before .before .before .before .before .unfit .ensures) ∙ c .before .before .before .before .before .before .before .if1 .left) (c .before .before .before .before .before .program .ensures .1 _ (lies _ _ _)) (c .before .free .given .1)
+returns-2 c = tree-read (sym (c .before .before .before .before .before .before .before .before .unfit .ensures) ∙ c .before .before .before .before .before .before .before .if1 .left) (c .before .before .before .before .before .program .ensures .1 _ (lies _ _ _)) (c .before .before .before .before .before .program .ensures .0) (c .before .free .given .1)
 
 -- src/lib.rt:970:1
 same-length-3 : tie.Need-same-length-3
