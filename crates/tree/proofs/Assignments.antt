@@ -19,7 +19,7 @@ use Rattle.tree.proofs.Steps.{follow, bind, look, here, again, added, a
 use Rattle.tree.proofs.Symbols.{stays}
 use Rattle.tree.proofs.Blocks.{four}
 use Rattle.tree.proofs.Lets.{argument-first}
-use Rattle.tree.specs.declared.Answer.{Answer}
+use Rattle.tree.specs.declared.scratch.Answer.{Answer}
 
 -- {, expression} := expression {, expression}, after the first side
 pub assignment-read : (src : Source) (size x lo : ℕ) {n v p t : ℕ} {s s₁ s₂ s₃ s₄ : List ℕ} {r r₁ r₂ r₃ r₄ r₅ : Answer} (e : Expression) → length (src .symbols) ≡ n → freeOf size r ≡ lo + length (post e) → v ≡ freeOf size r - lo → p ≡ freeOf size r₁ - lo → Goes (manyUpTo n T.noExpressions isComma (aFurther x) src) (Counted t) s s₁ r r₁ → Reads (the K.ASSIGN src) (λ _. []) s₁ s₁ r₁ r₂ → Goes (anArgument x src) PutsOne s₁ s₂ r₂ r₃ → Reads (C.further (readers (within x)) t src) postExpressions s₂ s₃ r₃ r₄ → Adds (recordFrom lo v p K.ASSIGN) s₃ s₄ r₄ r₅ → Goes (C.assignment (readers (within x)) e src) (After e) s s₄ r r₅

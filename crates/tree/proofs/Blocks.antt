@@ -26,7 +26,7 @@ use Rattle.tree.proofs.Chains.{grown}
 use Rattle.tree.proofs.Classes.{label-positive}
 use Rattle.tree.proofs.Commands.{two, three}
 use Rattle.tree.proofs.Readers.{deeper, shut-at, item-alone, put-first, nests}
-use Rattle.tree.specs.declared.Answer.{Answer}
+use Rattle.tree.specs.declared.scratch.Answer.{Answer}
 
 -- ---- a command after its labels, if there are any
 

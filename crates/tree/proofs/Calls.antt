@@ -13,8 +13,8 @@ use Rattle.language.specs.Tree.{Expression, isCall, endsInCall}
 use Rattle.tree.specs.Reads.{Ready, CallHere}
 use Rattle.tree.specs.Post.{SUFFIXED, closed, flag, post, postName, postCommand, postSuffixes, postOperations}
 use Rattle.tree.proofs.Helpers.{free-is, free-of-refused, room-is}
-use Rattle.tree.specs.declared.Answer.{Answer}
-use Rattle.tree.specs.declared.Answer.the-variants.{Read, Refused}
+use Rattle.tree.specs.declared.scratch.Answer.{Answer}
+use Rattle.tree.specs.declared.scratch.Answer.the-variants.{Read, Refused}
 
 -- an expression's words end in its record, whose place and kind say whether it is a call
 abbrev called : (place kind : ℕ) → Bool

@@ -18,7 +18,7 @@ use Rattle.tree.specs.Post.{item, closed, postConstant, postLabels}
 use Rattle.tree.proofs.Steps.{bind, here, added, adds-on, goes-on, _then_, nothing}
 use Rattle.tree.proofs.Lists.{sealed}
 use Rattle.tree.proofs.Symbols.{placed, stays}
-use Rattle.tree.specs.declared.Answer.{Answer}
+use Rattle.tree.specs.declared.scratch.Answer.{Answer}
 
 pub no-label-words : postLabels [] ≡ []
 unfolding postLabels

@@ -21,7 +21,7 @@ use Rattle.tree.proofs.Lists.{turn, last}
 use Rattle.tree.proofs.Symbols.{inside as among, stays}
 use Rattle.tree.proofs.Readers.{chain-is, nests, parts, post-dyadic, post-suffixed}
 use Rattle.tree.proofs.Classes.{binding-positive, suffix-positive}
-use Rattle.tree.specs.declared.Answer.{Answer}
+use Rattle.tree.specs.declared.scratch.Answer.{Answer}
 
 -- the words of a chain, part by part
 pub chained : (a w c whole : List ℕ) (z v p k : ℕ) → z ≡ length a + (length w + length c) → v ≡ length a → whole ≡ w ++ c → a ++ (w ++ (c ++ (z ∷ v ∷ p ∷ k ∷ []))) ≡ closed (a ++ whole) (length a) p k

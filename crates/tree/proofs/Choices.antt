@@ -13,7 +13,7 @@ use Rattle.language.specs.Grammar.{within}
 use Rattle.tree.specs.Reads.{KindHere, Goes, PutsSuffix, Reads, atomic}
 use Rattle.tree.specs.Post.{post}
 use Rattle.tree.proofs.Steps.{here}
-use Rattle.tree.specs.declared.Answer.{Answer}
+use Rattle.tree.specs.declared.scratch.Answer.{Answer}
 
 module _ (src : Source) (x : ℕ) {s s′ : List ℕ} {r r′ : Answer} {kind : ℕ} (k : KindHere src r kind) where
   pub operand-monadic : isMonadic kind ≡ true → Reads (E.monadic (within x) src) post s s′ r r′ → Reads (E.operand (within x) src) post s s′ r r′

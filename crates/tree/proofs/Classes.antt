@@ -6,7 +6,6 @@ use native.Mathlib.Omega.{arith}
 use mathlib.Core.List.{[], _∷_}
 use Rattle.text.proofs.Bytes.{Unlike}
 use borrow.Author.Tests.{ne-eqb}
-use Rattle.language.specs.Kinds as K
 use Rattle.language.specs.Kinds.{member}
 use Rattle.language.specs.Binding.{bindingOf, isMonadic, isSuffix, isGuard, isLeave, isRepeat, isLabel, isDeclaration, goesOnAssignment, beginsExpression, beginsCommand, reachOf}
 

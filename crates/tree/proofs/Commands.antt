@@ -25,8 +25,8 @@ use Rattle.tree.proofs.Chains.{chained, grown}
 use Rattle.text.proofs.Bytes.{Unlike}
 use Rattle.tree.proofs.Classes.{repeat-positive, unlike5}
 use Rattle.tree.proofs.Readers.{any-the, item-read, put-first, nests}
-use Rattle.tree.specs.declared.Answer.{Answer}
-use Rattle.tree.specs.declared.Answer.the-variants.{Read}
+use Rattle.tree.specs.declared.scratch.Answer.{Answer}
+use Rattle.tree.specs.declared.scratch.Answer.the-variants.{Read}
 
 -- two or three parts and a record
 pub two : (a b : List ℕ) (z v p k : ℕ) → z ≡ length a + length b → a ++ (b ++ (z ∷ v ∷ p ∷ k ∷ [])) ≡ closed (a ++ b) v p k

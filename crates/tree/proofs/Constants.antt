@@ -18,7 +18,7 @@ use Rattle.tree.proofs.Steps.{bind, here, added, adds-on, goes-on, stop
 use Rattle.tree.proofs.Symbols.{placed, mapped, the-is}
 use Rattle.tree.proofs.Leaves.{known, valued, name-at, nameOf, same-out}
 use Rattle.tree.proofs.Readers.{deeper, shut-at}
-use Rattle.tree.specs.declared.Answer.{Answer}
+use Rattle.tree.specs.declared.scratch.Answer.{Answer}
 
 abbrev minus : ℕ → Simple → Constant
 minus p x = record { place = p; minus = true; simple = x }

@@ -16,8 +16,8 @@ use Rattle.tree.specs.Post.{postProgram}
 use Rattle.tree.specs.Reads.{Lies, Ready, Fits, Is, Wrote, GoesBy, Reads, nextOf, lowOf, live, reach}
 use Rattle.tree.specs.Read.{decoded, sourceIn, unfit, answerOf, treeRead, Stands, Leaves, Within, ReadsTree}
 use Rattle.tree.proofs.Symbols.{lies-still}
-use Rattle.tree.specs.declared.Answer.{Answer}
-use Rattle.tree.specs.declared.Answer.the-variants.{Read, Refused}
+use Rattle.tree.specs.declared.scratch.Answer.{Answer}
+use Rattle.tree.specs.declared.scratch.Answer.the-variants.{Read, Refused}
 use Rattle.tree.specs.declared.TreeRead.{TreeRead}
 use Rattle.tree.specs.declared.TreeRead.the-variants.{TooShort, Read as ReadTo, Refused as RefusedAt}
 

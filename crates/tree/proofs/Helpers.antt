@@ -6,8 +6,8 @@ use native.Mathlib.Omega.{arith}
 use lib.ListN.{length, take, set, length-set}
 use lib.Seq.{take-suc-set, take-take, take-append-le, length-take-le}
 use Rattle.tree.specs.Reads.{Ready, Fits, Grows, Refuses, Adds, Seals, nextOf, freeOf, lowOf, live, reach}
-use Rattle.tree.specs.declared.Answer.{Answer}
-use Rattle.tree.specs.declared.Answer.the-variants.{Read, Refused}
+use Rattle.tree.specs.declared.scratch.Answer.{Answer}
+use Rattle.tree.specs.declared.scratch.Answer.the-variants.{Read, Refused}
 
 -- one entry and then the next
 pub put2 : (s : List ℕ) (i x y : ℕ) → i + 2 ≤ length s → take (i + 2) (set (set s i x) (i + 1) y) ≡ take i s ++ (x ∷ y ∷ [])

@@ -15,8 +15,8 @@ use Rattle.tree.specs.Reads.{Lies, Here, KindHere, Reads, Refuses, Adds,
 use Rattle.tree.specs.Post.{leaf, post, postName, postUnlabelled, postPositive, postConstant}
 use Rattle.tree.proofs.Steps.{bind, here, added, adds-on, stopped}
 use Rattle.tree.proofs.Symbols.{placed, mapped, the-is, inside}
-use Rattle.tree.specs.declared.Answer.{Answer}
-use Rattle.tree.specs.declared.Answer.the-variants.{Read}
+use Rattle.tree.specs.declared.scratch.Answer.{Answer}
+use Rattle.tree.specs.declared.scratch.Answer.the-variants.{Read}
 
 module _ {src : Source} {n : ℕ} {s : List ℕ} (l : Lies src n s) {r : Answer} where
   -- a symbol and its record

@@ -21,7 +21,7 @@ use Rattle.tree.proofs.Steps.{follow, bind, here, added, adds-on, goes-
 use Rattle.tree.proofs.Lists.{sealed}
 use Rattle.tree.proofs.Symbols.{stays}
 use Rattle.tree.proofs.Readers.{parts}
-use Rattle.tree.specs.declared.Answer.{Answer}
+use Rattle.tree.specs.declared.scratch.Answer.{Answer}
 
 -- ---- {, expression}, so many of them
 

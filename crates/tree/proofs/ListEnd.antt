@@ -13,8 +13,8 @@ use Rattle.tree.specs.Reads.{KindHere, GoesBy, Goes, Puts, Reads, Refuse
 use Rattle.tree.proofs.Steps.{follow, bind, here, goes-on, stopped, nothing}
 use Rattle.tree.proofs.Symbols.{mapped, the-is, stays}
 use Rattle.tree.proofs.Lists.{so, not-so}
-use Rattle.tree.specs.declared.Answer.{Answer}
-use Rattle.tree.specs.declared.Answer.the-variants.{Read, Refused}
+use Rattle.tree.specs.declared.scratch.Answer.{Answer}
+use Rattle.tree.specs.declared.scratch.Answer.the-variants.{Read, Refused}
 
 -- where a reader ends
 past : {A : Type 0} → Out A → ℕ

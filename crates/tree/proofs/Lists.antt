@@ -10,8 +10,8 @@ use Rattle.language.specs.Reader.{Source, Out, ok, no, Reader, onOut, manyUpTo,
 use Rattle.tree.specs.Reads.{Wrote, GoesBy, Goes, Puts, Reads, PartlyBy, PartlyAs, Partly, AddsBy, Adds, SealsBy, Seals, freeOf}
 use Rattle.tree.proofs.Steps.{here, nothing}
 use Rattle.tree.specs.Post.{item}
-use Rattle.tree.specs.declared.Answer.{Answer}
-use Rattle.tree.specs.declared.Answer.the-variants.{Read, Refused}
+use Rattle.tree.specs.declared.scratch.Answer.{Answer}
+use Rattle.tree.specs.declared.scratch.Answer.the-variants.{Read, Refused}
 
 set-between : (a b : List ℕ) (i x z : ℕ) → i ≡ length a → set (a ++ (x ∷ b)) i z ≡ a ++ (z ∷ b)
 set-between [] b zero x z e = refl

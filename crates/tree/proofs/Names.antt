@@ -17,7 +17,7 @@ use Rattle.tree.specs.Post.{leaf, postName, postNames, postConstant, pos
 use Rattle.tree.proofs.Steps.{bind, here, goes-on, nothing}
 use Rattle.tree.proofs.Symbols.{mapped, the-is, stays}
 use Rattle.tree.proofs.Leaves.{name-at, nameOf}
-use Rattle.tree.specs.declared.Answer.{Answer}
+use Rattle.tree.specs.declared.scratch.Answer.{Answer}
 
 same-name : (o : Out Name) → o ≡ onOut o (λ y m. ok y m)
 same-name (ok y m) = refl

@@ -24,7 +24,7 @@ use Rattle.tree.proofs.Symbols.{mapped, the-is, stays}
 use Rattle.tree.proofs.Lists.{sealed}
 use Rattle.tree.proofs.ListEnd.{listed-items}
 use Rattle.tree.proofs.Readers.{parts, nests}
-use Rattle.tree.specs.declared.Answer.{Answer}
+use Rattle.tree.specs.declared.scratch.Answer.{Answer}
 
 -- the words that stand in an item before those of the items after it
 abbrev Inside : {A : Type 0} → (enc : A → List ℕ) → (tag : ℕ) → (put : A → A) → (words : List ℕ) → Type 0

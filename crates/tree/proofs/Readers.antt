@@ -19,8 +19,8 @@ use Rattle.tree.specs.Post.{item, closed, flag, post, postExpressions, p
 use Rattle.tree.proofs.Steps.{follow, bind, here, added, adds-on, goes-on, _then_, nothing, stopped}
 use Rattle.tree.proofs.Lists.{sealed}
 use Rattle.tree.proofs.Symbols.{placed, mapped, the-is, stays}
-use Rattle.tree.specs.declared.Answer.{Answer}
-use Rattle.tree.specs.declared.Answer.the-variants.{Read}
+use Rattle.tree.specs.declared.scratch.Answer.{Answer}
+use Rattle.tree.specs.declared.scratch.Answer.the-variants.{Read}
 
 -- a level is left, or none
 pub deeper : (x : ℕ) → (x ≡ 0 → ⊥) → within x ≡ inside (readers (within (x - 1)))

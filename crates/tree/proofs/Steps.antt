@@ -6,8 +6,8 @@ use native.Mathlib.Omega.{arith}
 use lib.ListN.{length, take, length-append}
 use Rattle.language.specs.Reader.{Out, ok, no, onOut}
 use Rattle.tree.specs.Reads.{GoesBy, Goes, Is, Reads, PassesBy, Passes, RefusesBy, Refuses, AddsBy, Adds, freeOf}
-use Rattle.tree.specs.declared.Answer.{Answer}
-use Rattle.tree.specs.declared.Answer.the-variants.{Read, Refused}
+use Rattle.tree.specs.declared.scratch.Answer.{Answer}
+use Rattle.tree.specs.declared.scratch.Answer.the-variants.{Read, Refused}
 
 -- refusals stay
 passes-goesBy : {A : Type 0} (read : ℕ → Out A) (Says : A → List ℕ → Type 0) (s s′ : List ℕ) (r r′ : Answer) → GoesBy read Says s s′ r r′ → PassesBy r r′

@@ -8,13 +8,12 @@ use lib.ListN.{take, getD, List·getD-eq-default}
 use lib.Seq.{getD-take}
 use lib.Dec.{eqb, ltb}
 use borrow.Author.Tests.{eq-eqb, ne-eqb, eqb-true, ltb-true, ltb-false}
-use Rattle.language.specs.Kinds as K
 use Rattle.language.specs.Symbols.{Symbol}
 use Rattle.language.specs.Reader.{Source, Out, ok, no, onOut, kindAt, valueAt, placeAt, is, unexpected, the}
 use Rattle.tree.specs.Reads.{Lies, Here, KindHere, Goes, Is, Reads, PassesBy, Passes, nextOf}
 use Rattle.tree.proofs.Steps.{bind, here, nothing}
-use Rattle.tree.specs.declared.Answer.{Answer}
-use Rattle.tree.specs.declared.Answer.the-variants.{Read, Refused}
+use Rattle.tree.specs.declared.scratch.Answer.{Answer}
+use Rattle.tree.specs.declared.scratch.Answer.the-variants.{Read, Refused}
 
 tag : Answer → ℕ
 tag (Read at free) = 0

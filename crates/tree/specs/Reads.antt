@@ -15,8 +15,8 @@ use Rattle.language.specs.Grammar.{within, readers, function, andFunction}
 use Rattle.language.specs.Grammar.{item as itemOf}
 use Rattle.tree.specs.Post.{closed, item, post, postName, postNames, bodyWord, postProgram, postExpressions, postSuffixes, postUnlabelled, postRepeats, postLocals, postBody, repeated}
 use Rattle.language.specs.Reader.{Source, Out, ok, no, Reader, onOut, _>>=_, return, is, unexpected, any, the, aName, many, items, kindAt, valueAt, placeAt}
-use Rattle.tree.specs.declared.Answer.{Answer}
-use Rattle.tree.specs.declared.Answer.the-variants.{Read, Refused}
+use Rattle.tree.specs.declared.scratch.Answer.{Answer}
+use Rattle.tree.specs.declared.scratch.Answer.the-variants.{Read, Refused}
 
 -- the source's symbols, which are n, stand at the front of scratch: kind, value and place of each
 pub record Lies (src : Source) (n : ℕ) (s : List ℕ) : Type 0 where
@@ -111,6 +111,15 @@ pub record Puts {A : Type 0} (enc : A → List ℕ) (put : A → A) (words : Lis
 -- a tree is read and written in its own form
 abbrev pub Reads : {A : Type 0} → (ℕ → Out A) → (A → List ℕ) → List ℕ → List ℕ → Answer → Answer → Type 0
 Reads read enc s s′ r r′ = Goes read (Is enc) s s′ r r′
+
+-- what a reader ensures: of the room, and of every source whose symbols stand in scratch
+abbrev pub Reading : {A : Type 0} → (k : ℕ) → Reader A → (A → List ℕ → Type 0) → List ℕ → List ℕ → (n : ℕ) → Answer → Answer → Type 0
+Reading k read Says s s′ n r r′ = Fits k s s′ n r r′ × ((src : Source) → Lies src n s → Goes (read src) Says s s′ r r′)
+
+-- the same where a symbol of that kind stands first
+abbrev pub ReadingAt : {A : Type 0} → (kind k : ℕ) → Reader A → (A → List ℕ → Type 0) → List ℕ → List ℕ → (n : ℕ) → Answer → Answer → Type 0
+ReadingAt kind k read Says s s′ n r r′ =
+    Fits k s s′ n r r′ × ((src : Source) → Lies src n s → KindHere src r kind → Goes (read src) Says s s′ r r′)
 
 -- a list's items so far, and what is said of them: `rest` reads what is still to come
 pub record Part {A : Type 0} (out : Out A) (rest : ℕ → Out A) (Says : (A → A) → List ℕ → Type 0) (free : ℕ) (s s′ : List ℕ) (next nf : ℕ) : Type 0 where

@@ -7,31 +7,24 @@ use Rattle.tree.proofs.place_at.Tie as tie
 use Rattle.tree.proofs.place_at.Reads as reads
 use Rattle.tree.proofs.place_at.Lts as lts
 
--- src/lib.rt:953:19
 mul-result : tie.Need-mul-result
 mul-result c = search needs
 
--- src/lib.rt:953:19
 add-result : tie.Need-add-result
 add-result c = search needs
 
--- src/lib.rt:953:17
 mul-result-2 : tie.Need-mul-result-2
 mul-result-2 c = search needs
 
--- src/lib.rt:953:17
 shared-slice-read-result : tie.Need-shared-slice-read-result
 shared-slice-read-result c = search needs
 
--- src/lib.rt:953:17
 cast-result : tie.Need-cast-result
 cast-result c = omega (arith, c .shared-slice-known .given (c .before .before .args .at * 3 + 2))
 
--- src/lib.rt:949:1
 returns : tie.Need-returns
 returns c = lies _ _ _ .places _ (c .before .if1 .taken)
 
--- src/lib.rt:949:1
 returns-2 : tie.Need-returns-2
 returns-2 c = place-past _ _ _ _ (c .if1 .left)
 

@@ -7,54 +7,42 @@ use Rattle.tree.proofs.read_tree.Tie as tie
 use Rattle.tree.proofs.read_tree.Reads as reads
 use Rattle.tree.proofs.read_tree.Lts as lts
 use Rattle.tree.proofs.place_at.Reads as place-at-reads
-use Rattle.tree.proofs.program.Reads as program-reads
+use Rattle.tree.proofs.declarations.program.Reads as program-reads
 use Rattle.tree.proofs.unfit.Reads as unfit-reads
 
--- src/lib.rt:973:8
 unfit-requires : tie.Need-unfit-requires
 unfit-requires c κs = search needs
 
--- src/lib.rt:974:9
 same-length : tie.Need-same-length
 same-length c = search needs
 
--- src/lib.rt:974:9
 returns : tie.Need-returns
 returns c = too-short _ _ _ (sym (c .before .unfit .ensures) ∙ c .if1 .taken)
 
--- src/lib.rt:976:51
 mul-t13 : tie.Need-mul-t13
 mul-t13 c = (let h = starts (c .before .before .before .before .before .args .scratch .now) (c .before .before .before .before .before .args .count) (sym (c .before .before .unfit .ensures) ∙ c .before .if1 .left) in omega (arith, h .wide, h .small))
 
--- src/lib.rt:976:11
 program-requires : tie.Need-program-requires
 program-requires c κs = starts _ _ (sym (c .before .before .unfit .ensures) ∙ c .before .if1 .left)
 
--- src/lib.rt:977:25
 enum-known-free : tie.Need-enum-known-free
 enum-known-free c = search needs
 
--- src/lib.rt:978:25
 enum-known-number : tie.Need-enum-known-number
 enum-known-number c = search needs
 
--- src/lib.rt:980:20
 place-at-requires : tie.Need-place-at-requires
 place-at-requires c κs = (let h = starts (c .before .before .before .before .before .before .before .before .before .before .before .before .args .scratch .now) (c .before .before .before .before .before .before .before .before .before .before .before .before .args .count) (sym (c .before .before .before .before .before .before .before .before .before .unfit .ensures) ∙ c .before .before .before .before .before .before .before .before .if1 .left) in omega (arith, h .wide, c .before .before .before .before .before .before .program .kept .0))
 
--- src/lib.rt:970:1
 same-length-2 : tie.Need-same-length-2
 same-length-2 c = search needs
 
--- src/lib.rt:970:1
 returns-2 : tie.Need-returns-2
 returns-2 c = tree-read (sym (c .before .before .before .before .before .before .before .before .unfit .ensures) ∙ c .before .before .before .before .before .before .before .if1 .left) (c .before .before .before .before .before .program .ensures .1 _ (lies _ _ _)) (c .before .before .before .before .before .program .ensures .0) (c .before .free .given .1)
 
--- src/lib.rt:970:1
 same-length-3 : tie.Need-same-length-3
 same-length-3 c = search needs
 
--- src/lib.rt:970:1
 returns-3 : tie.Need-returns-3
 returns-3 c = tree-refused (sym (c .before .before .before .before .before .before .before .before .before .before .unfit .ensures) ∙ c .before .before .before .before .before .before .before .before .before .if1 .left) (c .before .before .before .before .before .before .before .program .ensures .1 _ (lies _ _ _)) (c .before .before .before .number .given .1) (c .before .before .before .before .before .before .before .program .ensures .0 .kept) (c .place-at .ensures)
 

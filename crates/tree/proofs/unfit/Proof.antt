@@ -5,15 +5,12 @@ use Rattle.tree.proofs.unfit.Tie as tie
 use Rattle.tree.proofs.unfit.Reads as reads
 use Rattle.tree.proofs.unfit.Lts as lts
 
--- src/lib.rt:961:9
 returns : tie.Need-returns
 returns c = unfit-long _ _ (c .if1 .taken)
 
--- src/lib.rt:964:9
 returns-2 : tie.Need-returns-2
 returns-2 c = unfit-few _ _ (omega (arith, c .if2 .taken))
 
--- src/lib.rt:956:1
 returns-3 : tie.Need-returns-3
 returns-3 c = unfit-rest _ _ (omega (arith, c .before .if1 .left)) (omega (arith, c .if2 .left))
 

@@ -1,0 +1,22 @@
+use borrow.Author.Tests.{eq-eqb, ne-eqb}
+use Rattle.tree.specs.Reads.{furtherMost}
+use borrow.Author.Needs.{needs}
+use Rattle.tree.proofs.binding.further_most.Statement.{statement}
+use Rattle.tree.proofs.binding.further_most.Tie as tie
+use Rattle.tree.proofs.binding.further_most.Reads as reads
+use Rattle.tree.proofs.binding.further_most.Lts as lts
+use Rattle.tree.proofs.scratch.less.Reads as less-reads
+
+less-requires : tie.Need-less-requires
+less-requires c κs = search needs
+
+returns : tie.Need-returns
+unfolding furtherMost
+returns c = rw (eq-eqb _ _ (c .if1 .taken))
+
+returns-2 : tie.Need-returns-2
+unfolding furtherMost
+returns-2 c = rw (ne-eqb _ _ (c .before .if1 .left)) (c .less .ensures)
+
+pub further-most-spec : {M : Type 1} → statement M
+further-most-spec = tie.close (tie.spec less-requires returns returns-2)

@@ -1,0 +1,19 @@
+use Rattle.tree.proofs.Leaves.{leave-read}
+use borrow.Author.Needs.{needs}
+use Rattle.tree.proofs.parts.leave.Statement.{statement}
+use Rattle.tree.proofs.parts.leave.Tie as tie
+use Rattle.tree.proofs.parts.leave.Reads as reads
+use Rattle.tree.proofs.parts.leave.Lts as lts
+use Rattle.tree.proofs.parts.leaf.Reads as leaf-reads
+
+leaf-requires : tie.Need-leaf-requires
+leaf-requires c κs = search needs
+
+same-length : tie.Need-same-length
+same-length c = search needs
+
+returns : tie.Need-returns
+returns c = (c .before .before .leaf .ensures .0, λ src l k. leave-read k (c .before .before .leaf .ensures .1 src l))
+
+pub leave-spec : {M : Type 1} → statement M
+leave-spec = tie.close (tie.spec leaf-requires same-length returns)

@@ -1,0 +1,59 @@
+use native.Mathlib.Omega.{arith}
+use lib.ListN.{length-set}
+use mathlib.Core.Path.{refl}
+use mathlib.Core.List.{[], _∷_}
+use Rattle.tree.proofs.Helpers.{room-is, put2, added-grows, added-adds, adds-refused, refused-grows}
+use borrow.Author.Needs.{needs}
+use Rattle.tree.proofs.scratch.mark.Statement.{statement}
+use Rattle.tree.proofs.scratch.mark.Tie as tie
+use Rattle.tree.proofs.scratch.mark.Reads as reads
+use Rattle.tree.proofs.scratch.mark.Lts as lts
+
+enum-known-r : tie.Need-enum-known-r
+enum-known-r c = search needs
+
+mul-s : tie.Need-mul-s
+mul-s c = omega (arith, room-is (c .before .before .before .pre) (c .before .r .given .1))
+
+slice-write-s : tie.Need-slice-write-s
+slice-write-s c = omega (arith, room-is (c .before .before .before .pre) (c .before .r .given .1))
+
+add-s : tie.Need-add-s
+add-s c = omega (arith, room-is (c .before .before .before .pre) (c .before .r .given .1))
+
+mul-s-2 : tie.Need-mul-s-2
+mul-s-2 c = omega (arith, room-is (c .before .before .before .pre) (c .before .r .given .1))
+
+slice-write-s-2 : tie.Need-slice-write-s-2
+slice-write-s-2 c = simp length-set (omega (arith, room-is (c .before .before .before .pre) (c .before .r .given .1)))
+
+add-t10 : tie.Need-add-t10
+add-t10 c = omega (arith, room-is (c .before .before .before .pre) (c .before .r .given .1))
+
+enum-known-r-2 : tie.Need-enum-known-r-2
+enum-known-r-2 c = search needs
+
+same-length : tie.Need-same-length
+same-length c = search needs
+
+returns : tie.Need-returns
+returns c = (added-grows (c .before .before .before .pre) (c .before .r .given .1) (λ _. 0 ∷ (c .before .before .before .args .tag) ∷ []) _ 2 _ refl refl (omega arith) (put2 _ _ _ _ (room-is (c .before .before .before .pre) (c .before .r .given .1) .0)), added-adds (c .before .before .before .pre) (c .before .r .given .1) (λ _. 0 ∷ (c .before .before .before .args .tag) ∷ []) _ 2 _ refl refl (omega arith) (put2 _ _ _ _ (room-is (c .before .before .before .pre) (c .before .r .given .1) .0)))
+
+returns-2 : tie.Need-returns-2
+returns-2 c = (refused-grows (c .before .before .before .pre), adds-refused (c .before .r2 .given .1))
+
+pub mark-spec : {M : Type 1} → statement M
+mark-spec =
+    tie.close
+    (tie.spec
+    enum-known-r
+    mul-s
+    slice-write-s
+    add-s
+    mul-s-2
+    slice-write-s-2
+    add-t10
+    enum-known-r-2
+    same-length
+    returns
+    returns-2)

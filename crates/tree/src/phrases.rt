@@ -1,0 +1,715 @@
+// Expressions and commands: a cycle of functions, since an expression may hold a command (VALOF) and a command expressions.
+//
+// Each function takes an answer, the state of the reading so far, and gives the next one; a refusal is passed on as it is, so that a
+// construct is a few lines, one for each part. `levels` is how many levels are left; every round of the cycle takes one.
+// The names are short because the proof of a cycle is named after all its functions, and that name may have 250 bytes.
+use crate::binding::LOOSEST;
+use crate::binding::begins_command;
+use crate::binding::binding_of;
+use crate::binding::further_most;
+use crate::binding::goes_on_assignment;
+use crate::binding::is_guard;
+use crate::binding::is_label;
+use crate::binding::is_leave;
+use crate::binding::is_monadic;
+use crate::binding::is_repeat;
+use crate::binding::is_suffix;
+use crate::binding::is_vector;
+use crate::binding::reach_of;
+use crate::binding::right_of;
+use crate::kinds::ASSIGN;
+use crate::kinds::BEGIN;
+use crate::kinds::CLOSE;
+use crate::kinds::COMMA;
+use crate::kinds::DO;
+use crate::kinds::DYADIC;
+use crate::kinds::END;
+use crate::kinds::EQUAL;
+use crate::kinds::FOR;
+use crate::kinds::INTO;
+use crate::kinds::LABELLED;
+use crate::kinds::LET;
+use crate::kinds::MONADIC;
+use crate::kinds::OPEN;
+use crate::kinds::OR;
+use crate::kinds::PLING;
+use crate::kinds::REPEAT;
+use crate::kinds::REPEATED;
+use crate::kinds::RESULTIS;
+use crate::kinds::SEMICOLON;
+use crate::kinds::SUFFIXED;
+use crate::kinds::SWITCHON;
+use crate::kinds::TEST;
+use crate::kinds::TO;
+use crate::kinds::VALOF;
+use crate::parts::a_name;
+use crate::parts::atom;
+use crate::parts::further_names;
+use crate::parts::label;
+use crate::parts::labels;
+use crate::parts::leave;
+use crate::parts::optional_by;
+use crate::parts::vector;
+use crate::scratch::Answer;
+use crate::scratch::expect;
+use crate::scratch::flag;
+use crate::scratch::free_of;
+use crate::scratch::is_call;
+use crate::scratch::kind_here;
+use crate::scratch::less;
+use crate::scratch::mark;
+use crate::scratch::node;
+use crate::scratch::optional;
+use crate::scratch::place_here;
+use crate::scratch::refuse;
+use crate::scratch::seal;
+ghost use Prim.Native.Nat.{_+_, _-_, _<_, _≤_};
+ghost use mathlib.Core.Path.{_≡_};
+ghost use mathlib.Core.Bool.{true, false};
+ghost use mathlib.Core.List.{List, _∷_};
+ghost use lib.ListN.{length};
+ghost use lib.Dec.{eqb};
+ghost use Rattle.language.specs.Kinds as K;
+ghost use Rattle.language.specs.Tree as T;
+ghost use Rattle.language.specs.Reader.{Source, the, optional, manyUpTo, moreUpTo, isComma, upToClose};
+ghost use Rattle.language.specs.Binding.{bindingOf, isSuffix, isRepeat, isLabel};
+ghost use Rattle.language.specs.Expressions as E;
+ghost use Rattle.language.specs.Grammar.{within, readers};
+ghost use Rattle.language.specs.Commands as C;
+ghost use Rattle.tree.specs.Post.{item, flag, post, postNames, postExpressions, postOperations, postCommand, postCommands, postUnlabelled, postRepeats, postLocals};
+ghost use Rattle.tree.specs.Reads.{Lies, Ready, Fits, Grows, KindHere, Goes, Puts, PutsSuffix, PutsOne, Reads, Passes, freeOf, furtherMost, anArgument, aFurther, repeatedOnly, postRepeatedOnly, bodyAfter, Ended, Counted, After, Gives, Reading, ReadingAt, Is};
+
+// What follows the first suffix: where it ends, and whether the last suffix is a call.
+struct SuffixesRead {
+    end: Answer,
+    call: bool,
+}
+
+// Expressions after the first of a list: where they end, and how many they are.
+struct FurtherRead {
+    end: Answer,
+    count: usize,
+}
+
+// An expression whose dyadic operators bind no more loosely than that.
+pub(crate) fn expr(s: &mut [u32], n: usize, levels: usize, binding: u32, r: Answer) -> Answer
+    requires { ⌜ Ready 0 (now s) n r × (binding ≤ 6) ⌝ }
+    ensures { λ a. ⌜ Reading 1 (E.expression (within levels) binding) (Is post) (now (s .entry)) (now (s .exit)) n r a ⌝ }
+{
+    if binding == 0 {
+        return term(s, n, levels, r);
+    }
+    let lo = free_of(s, r);
+    let left = expr(s, n, levels, binding - 1, r);
+    let kind = kind_here(s, n, left);
+    if binding_of(kind) != binding {
+        return left;
+    }
+    let size = less(free_of(s, left), lo);
+    let right = right_of(binding);
+    let first = dyadic(s, n, levels, right, kind, left);
+    let last = chain(s, n, levels, binding, right, first);
+    node(s, n, last, lo, size as u32, 0, DYADIC)
+}
+
+// operator operand
+fn dyadic(s: &mut [u32], n: usize, levels: usize, right: u32, kind: u32, r: Answer) -> Answer
+    requires { ⌜ Ready 0 (now s) n r × (right ≤ 6) × (0 < kind) ⌝ }
+    ensures { λ a. ⌜ ReadingAt kind 4 (E.operation (within levels) (E.expression (within levels) right)) (Puts postOperations) (now (s .entry)) (now (s .exit)) n r a ⌝ }
+{
+    let lo = free_of(s, r);
+    let operator = expect(s, n, r, kind);
+    let begun = mark(s, n, operator, kind);
+    let a = expr(s, n, levels, right, begun);
+    seal(s, n, a, lo);
+    a
+}
+
+// The operations after the first: there is at most one relation.
+fn chain(s: &mut [u32], n: usize, levels: usize, binding: u32, right: u32, r: Answer) -> Answer
+    requires { ⌜ Ready 0 (now s) n r × (right ≤ 6) × (0 < binding) ⌝ }
+    ensures { λ a. ⌜ Reading 0 (manyUpTo (furtherMost binding n) T.noOperations (λ kind. eqb (bindingOf kind) binding) (E.operation (within levels) (E.expression (within levels) right))) (Is postOperations) (now (s .entry)) (now (s .exit)) n r a ⌝ }
+{
+    let mut turns = further_most(binding, n);
+    let mut a = r;
+    while turns > 0 {
+        let kind = kind_here(s, n, a);
+        if binding_of(kind) != binding {
+            return a;
+        }
+        a = dyadic(s, n, levels, right, kind, a);
+        turns -= 1;
+    }
+    a
+}
+
+// An operand of the operators that bind tightest.
+fn term(s: &mut [u32], n: usize, levels: usize, r: Answer) -> Answer
+    requires { ⌜ Ready 0 (now s) n r ⌝ }
+    ensures { λ a. ⌜ Reading 1 (E.operand (within levels)) (Is post) (now (s .entry)) (now (s .exit)) n r a ⌝ }
+{
+    let kind = kind_here(s, n, r);
+    if is_monadic(kind) {
+        monad(s, n, levels, kind, r)
+    } else {
+        suffixed(s, n, levels, r)
+    }
+}
+
+// ! @ + - or NOT, and its operand.
+fn monad(s: &mut [u32], n: usize, levels: usize, kind: u32, r: Answer) -> Answer
+    requires { ⌜ Ready 0 (now s) n r × (0 < kind) ⌝ }
+    ensures { λ a. ⌜ ReadingAt kind 1 (E.monadic (within levels)) (Is post) (now (s .entry)) (now (s .exit)) n r a ⌝ }
+{
+    if levels == 0 {
+        return refuse(s, n, r, 7);
+    }
+    let lo = free_of(s, r);
+    let place = place_here(s, n, r);
+    let operator = expect(s, n, r, kind);
+    let a = expr(s, n, levels - 1, reach_of(kind), operator);
+    node(s, n, a, lo, kind, place, MONADIC)
+}
+
+// primary { ( arguments ) | ! primary }
+fn suffixed(s: &mut [u32], n: usize, levels: usize, r: Answer) -> Answer
+    requires { ⌜ Ready 0 (now s) n r ⌝ }
+    ensures { λ a. ⌜ Reading 1 (E.suffixed (within levels)) (Is post) (now (s .entry)) (now (s .exit)) n r a ⌝ }
+{
+    let lo = free_of(s, r);
+    let primary = primary(s, n, levels, r);
+    let kind = kind_here(s, n, primary);
+    if is_suffix(kind) {
+        let size = less(free_of(s, primary), lo);
+        let first = suffix(s, n, levels, kind, primary);
+        let last = suffixes(s, n, levels, kind == OPEN, first);
+        let end = last.end;
+        return node(s, n, end, lo, size as u32, flag(last.call), SUFFIXED);
+    }
+    primary
+}
+
+// ( arguments ) | ! primary
+fn suffix(s: &mut [u32], n: usize, levels: usize, kind: u32, r: Answer) -> Answer
+    requires { ⌜ Ready 0 (now s) n r ⌝ }
+    ensures { λ a. ⌜ ReadingAt kind 4 (E.suffix (within levels)) (PutsSuffix (eqb kind K.OPEN)) (now (s .entry)) (now (s .exit)) n r a ⌝ }
+{
+    if kind == OPEN {
+        call(s, n, levels, r)
+    } else {
+        index(s, n, levels, r)
+    }
+}
+
+// The suffixes after the first, which is a call or is not.
+fn suffixes(s: &mut [u32], n: usize, levels: usize, first: bool, r: Answer) -> SuffixesRead
+    requires { ⌜ Ready 0 (now s) n r ⌝ }
+    ensures { λ a. ⌜ Reading 0 (manyUpTo (n - 1) T.noSuffixes isSuffix (E.suffix (within levels))) (Ended first (a .call)) (now (s .entry)) (now (s .exit)) n r (a .end) ⌝ }
+{
+    let mut turns = less(n, 1);
+    let mut call = first;
+    let mut a = r;
+    while turns > 0 {
+        let kind = kind_here(s, n, a);
+        if is_suffix(kind) {
+            a = suffix(s, n, levels, kind, a);
+            call = kind == OPEN;
+            turns -= 1;
+        } else {
+            return SuffixesRead { end: a, call };
+        }
+    }
+    SuffixesRead { end: a, call }
+}
+
+// ( [expression {, expression}] ), after what is called.
+fn call(s: &mut [u32], n: usize, levels: usize, r: Answer) -> Answer
+    requires { ⌜ Ready 0 (now s) n r ⌝ }
+    ensures { λ a. ⌜ Reading 4 (E.arguments (within levels)) (PutsSuffix true) (now (s .entry)) (now (s .exit)) n r a ⌝ }
+{
+    if levels == 0 {
+        return refuse(s, n, r, 7);
+    }
+    let lo = free_of(s, r);
+    let open = expect(s, n, r, OPEN);
+    let begun = mark(s, n, open, OPEN);
+    let a = passed(s, n, levels - 1, begun);
+    seal(s, n, a, lo);
+    a
+}
+
+// [expression {, expression}] )
+fn passed(s: &mut [u32], n: usize, levels: usize, r: Answer) -> Answer
+    requires { ⌜ Ready 3 (now s) n r ⌝ }
+    ensures { λ a. ⌜ Reading 4 (upToClose T.noExpressions (anArgument levels)) (Is postExpressions) (now (s .entry)) (now (s .exit)) n r a ⌝ }
+{
+    let kind = kind_here(s, n, r);
+    if kind == CLOSE {
+        return expect(s, n, r, CLOSE);
+    }
+    let first = arg(s, n, levels, r);
+    let last = commas(s, n, levels, first);
+    let end = last.end;
+    expect(s, n, end, CLOSE)
+}
+
+// An argument, as an item.
+fn arg(s: &mut [u32], n: usize, levels: usize, r: Answer) -> Answer
+    requires { ⌜ Ready 2 (now s) n r ⌝ }
+    ensures { λ a. ⌜ Grows 1 (now (s .entry)) (now (s .exit)) n r a × ((src : Source) → Lies src n (now (s .entry)) → Goes (anArgument levels src) PutsOne (now (s .entry)) (now (s .exit)) r a) ⌝ }
+{
+    let lo = free_of(s, r);
+    let begun = mark(s, n, r, 0);
+    let a = expr(s, n, levels, LOOSEST, begun);
+    seal(s, n, a, lo);
+    a
+}
+
+// {, expression}
+fn commas(s: &mut [u32], n: usize, levels: usize, r: Answer) -> FurtherRead
+    requires { ⌜ Ready 0 (now s) n r ⌝ }
+    ensures { λ a. ⌜ Reading 0 (manyUpTo n T.noExpressions isComma (aFurther levels)) (Counted (a .count)) (now (s .entry)) (now (s .exit)) n r (a .end) ⌝ }
+{
+    let mut turns = n;
+    let mut count: usize = 0;
+    let mut a = r;
+    while turns > 0 {
+        let kind = kind_here(s, n, a);
+        if kind != COMMA {
+            return FurtherRead { end: a, count };
+        }
+        let comma = expect(s, n, a, COMMA);
+        a = arg(s, n, levels, comma);
+        count += 1;
+        turns -= 1;
+    }
+    FurtherRead { end: a, count }
+}
+
+// ! primary
+fn index(s: &mut [u32], n: usize, levels: usize, r: Answer) -> Answer
+    requires { ⌜ Ready 0 (now s) n r ⌝ }
+    ensures { λ a. ⌜ Reading 4 (E.index (within levels)) (PutsSuffix false) (now (s .entry)) (now (s .exit)) n r a ⌝ }
+{
+    let lo = free_of(s, r);
+    let pling = expect(s, n, r, PLING);
+    let begun = mark(s, n, pling, PLING);
+    let a = key(s, n, levels, begun);
+    seal(s, n, a, lo);
+    a
+}
+
+// A monadic operator may begin any operand.
+fn key(s: &mut [u32], n: usize, levels: usize, r: Answer) -> Answer
+    requires { ⌜ Ready 0 (now s) n r ⌝ }
+    ensures { λ a. ⌜ Reading 1 (E.subscript (within levels)) (Is post) (now (s .entry)) (now (s .exit)) n r a ⌝ }
+{
+    let kind = kind_here(s, n, r);
+    if is_monadic(kind) {
+        monad(s, n, levels, kind, r)
+    } else {
+        primary(s, n, levels, r)
+    }
+}
+
+// number | string | TRUE | FALSE | name | ( expression ) | VALOF command
+fn primary(s: &mut [u32], n: usize, levels: usize, r: Answer) -> Answer
+    requires { ⌜ Ready 0 (now s) n r ⌝ }
+    ensures { λ a. ⌜ Reading 1 (E.primary (within levels)) (Is post) (now (s .entry)) (now (s .exit)) n r a ⌝ }
+{
+    let kind = kind_here(s, n, r);
+    match kind {
+        OPEN => round(s, n, levels, r),
+        VALOF => valof(s, n, levels, r),
+        _ => atom(s, n, r, kind),
+    }
+}
+
+// ( expression )
+fn round(s: &mut [u32], n: usize, levels: usize, r: Answer) -> Answer
+    requires { ⌜ Ready 0 (now s) n r ⌝ }
+    ensures { λ a. ⌜ Reading 1 (E.bracketed (within levels)) (Is post) (now (s .entry)) (now (s .exit)) n r a ⌝ }
+{
+    if levels == 0 {
+        return refuse(s, n, r, 7);
+    }
+    let lo = free_of(s, r);
+    let place = place_here(s, n, r);
+    let open = expect(s, n, r, OPEN);
+    let inner = expr(s, n, levels - 1, LOOSEST, open);
+    let a = expect(s, n, inner, CLOSE);
+    node(s, n, a, lo, 0, place, OPEN)
+}
+
+// VALOF command
+fn valof(s: &mut [u32], n: usize, levels: usize, r: Answer) -> Answer
+    requires { ⌜ Ready 0 (now s) n r ⌝ }
+    ensures { λ a. ⌜ Reading 1 (E.valof (within levels)) (Is post) (now (s .entry)) (now (s .exit)) n r a ⌝ }
+{
+    if levels == 0 {
+        return refuse(s, n, r, 7);
+    }
+    let lo = free_of(s, r);
+    let place = place_here(s, n, r);
+    let word = expect(s, n, r, VALOF);
+    let a = command(s, n, levels - 1, word);
+    node(s, n, a, lo, 0, place, VALOF)
+}
+
+// A command, with its labels before it.
+pub(crate) fn command(s: &mut [u32], n: usize, levels: usize, r: Answer) -> Answer
+    requires { ⌜ Ready 0 (now s) n r ⌝ }
+    ensures { λ a. ⌜ Reading 0 (C.command (within levels)) (Is postCommand) (now (s .entry)) (now (s .exit)) n r a ⌝ }
+{
+    let kind = kind_here(s, n, r);
+    if is_label(kind) {
+        return labelled(s, n, levels, kind, r);
+    }
+    body(s, n, levels, false, r)
+}
+
+// Labels and what follows them.
+fn labelled(s: &mut [u32], n: usize, levels: usize, kind: u32, r: Answer) -> Answer
+    requires { ⌜ Ready 0 (now s) n r ⌝ }
+    ensures { λ a. ⌜ Fits 0 (now (s .entry)) (now (s .exit)) n r a × ((src : Source) → Lies src n (now (s .entry)) → KindHere src r kind → isLabel kind ≡ true → Reads (C.command (within levels) src) postCommand (now (s .entry)) (now (s .exit)) r a) ⌝ }
+{
+    let lo = free_of(s, r);
+    let first = label(s, n, levels, kind, r);
+    let last = labels(s, n, levels, first);
+    let size = less(free_of(s, last), lo);
+    let a = body(s, n, levels, true, last);
+    node(s, n, a, lo, size as u32, 0, LABELLED)
+}
+
+// unlabelled { REPEAT form }, whose first symbol opens a level; or an empty command, after labels.
+fn body(s: &mut [u32], n: usize, levels: usize, labelled: bool, r: Answer) -> Answer
+    requires { ⌜ Ready 0 (now s) n r ⌝ }
+    ensures { λ a. ⌜ Reading 0 (bodyAfter labelled levels) (Is postRepeatedOnly) (now (s .entry)) (now (s .exit)) n r a ⌝ }
+{
+    let kind = kind_here(s, n, r);
+    if begins_command(kind) {
+        if levels == 0 {
+            return refuse(s, n, r, 7);
+        }
+        return repeated(s, n, levels - 1, r);
+    }
+    if labelled {
+        return r;
+    }
+    refuse(s, n, r, 6)
+}
+
+// unlabelled { REPEAT form }
+fn repeated(s: &mut [u32], n: usize, levels: usize, r: Answer) -> Answer
+    requires { ⌜ Ready 0 (now s) n r ⌝ }
+    ensures { λ a. ⌜ Reading 0 (repeatedOnly levels) (Is postRepeatedOnly) (now (s .entry)) (now (s .exit)) n r a ⌝ }
+{
+    let lo = free_of(s, r);
+    let body = plain(s, n, levels, r);
+    let kind = kind_here(s, n, body);
+    if is_repeat(kind) {
+        let size = less(free_of(s, body), lo);
+        let first = form(s, n, levels, kind, body);
+        let last = forms(s, n, levels, first);
+        return node(s, n, last, lo, size as u32, 0, REPEATED);
+    }
+    body
+}
+
+// The REPEAT forms after the first.
+fn forms(s: &mut [u32], n: usize, levels: usize, r: Answer) -> Answer
+    requires { ⌜ Ready 0 (now s) n r ⌝ }
+    ensures { λ a. ⌜ Reading 0 (manyUpTo (n - 1) T.noRepeats isRepeat (C.repeatForm (readers (within levels)))) (Is postRepeats) (now (s .entry)) (now (s .exit)) n r a ⌝ }
+{
+    let mut turns = less(n, 1);
+    let mut a = r;
+    while turns > 0 {
+        let kind = kind_here(s, n, a);
+        if is_repeat(kind) {
+            a = form(s, n, levels, kind, a);
+            turns -= 1;
+        } else {
+            return a;
+        }
+    }
+    a
+}
+
+// REPEAT | REPEATWHILE expression | REPEATUNTIL expression
+fn form(s: &mut [u32], n: usize, levels: usize, kind: u32, r: Answer) -> Answer
+    requires { ⌜ Ready 0 (now s) n r × (0 < kind) ⌝ }
+    ensures { λ a. ⌜ ReadingAt kind 3 (C.repeatForm (readers (within levels))) (Puts postRepeats) (now (s .entry)) (now (s .exit)) n r a ⌝ }
+{
+    let lo = free_of(s, r);
+    let word = expect(s, n, r, kind);
+    let begun = mark(s, n, word, kind);
+    if kind == REPEAT {
+        return begun;
+    }
+    let a = expr(s, n, levels, LOOSEST, begun);
+    seal(s, n, a, lo);
+    a
+}
+
+// A command without its labels and REPEAT forms, by its first symbol.
+fn plain(s: &mut [u32], n: usize, levels: usize, r: Answer) -> Answer
+    requires { ⌜ Ready 0 (now s) n r ⌝ }
+    ensures { λ a. ⌜ Reading 1 (C.unlabelled (readers (within levels))) (Is postUnlabelled) (now (s .entry)) (now (s .exit)) n r a ⌝ }
+{
+    let kind = kind_here(s, n, r);
+    if is_guard(kind) {
+        return guard(s, n, levels, kind, r);
+    }
+    if is_leave(kind) {
+        return leave(s, n, r, kind);
+    }
+    match kind {
+        TEST => test(s, n, levels, r),
+        FOR => for_to(s, n, levels, r),
+        SWITCHON => switch(s, n, levels, r),
+        RESULTIS => result(s, n, levels, r),
+        BEGIN => block(s, n, levels, r),
+        _ => simple(s, n, levels, r),
+    }
+}
+
+// TEST expression DO command OR command
+fn test(s: &mut [u32], n: usize, levels: usize, r: Answer) -> Answer
+    requires { ⌜ Ready 0 (now s) n r ⌝ }
+    ensures { λ a. ⌜ Reading 1 (C.test (readers (within levels))) (Is postUnlabelled) (now (s .entry)) (now (s .exit)) n r a ⌝ }
+{
+    let lo = free_of(s, r);
+    let word = expect(s, n, r, TEST);
+    let condition = expr(s, n, levels, LOOSEST, word);
+    let then = expect(s, n, condition, DO);
+    let first = command(s, n, levels, then);
+    let or = expect(s, n, first, OR);
+    let a = command(s, n, levels, or);
+    node(s, n, a, lo, 0, 0, TEST)
+}
+
+// IF expression DO command, and so UNLESS, WHILE and UNTIL
+fn guard(s: &mut [u32], n: usize, levels: usize, kind: u32, r: Answer) -> Answer
+    requires { ⌜ Ready 0 (now s) n r × (0 < kind) ⌝ }
+    ensures { λ a. ⌜ ReadingAt kind 1 (C.guarded (readers (within levels))) (Is postUnlabelled) (now (s .entry)) (now (s .exit)) n r a ⌝ }
+{
+    let lo = free_of(s, r);
+    let word = expect(s, n, r, kind);
+    let condition = expr(s, n, levels, LOOSEST, word);
+    let then = expect(s, n, condition, DO);
+    let a = command(s, n, levels, then);
+    node(s, n, a, lo, 0, 0, kind)
+}
+
+// RESULTIS expression
+fn result(s: &mut [u32], n: usize, levels: usize, r: Answer) -> Answer
+    requires { ⌜ Ready 0 (now s) n r ⌝ }
+    ensures { λ a. ⌜ Reading 1 (C.resultis (readers (within levels))) (Is postUnlabelled) (now (s .entry)) (now (s .exit)) n r a ⌝ }
+{
+    let lo = free_of(s, r);
+    let place = place_here(s, n, r);
+    let word = expect(s, n, r, RESULTIS);
+    let a = expr(s, n, levels, LOOSEST, word);
+    node(s, n, a, lo, 0, place, RESULTIS)
+}
+
+// FOR name = expression TO expression [BY constant] DO command
+fn for_to(s: &mut [u32], n: usize, levels: usize, r: Answer) -> Answer
+    requires { ⌜ Ready 0 (now s) n r ⌝ }
+    ensures { λ a. ⌜ Reading 1 (C.for (readers (within levels))) (Is postUnlabelled) (now (s .entry)) (now (s .exit)) n r a ⌝ }
+{
+    let lo = free_of(s, r);
+    let word = expect(s, n, r, FOR);
+    let name = a_name(s, n, word);
+    let equal = expect(s, n, name, EQUAL);
+    let first = expr(s, n, levels, LOOSEST, equal);
+    let to = expect(s, n, first, TO);
+    let limit = expr(s, n, levels, LOOSEST, to);
+    let by = optional_by(s, n, levels, limit);
+    let size = less(free_of(s, by), free_of(s, limit));
+    let then = expect(s, n, by, DO);
+    let a = command(s, n, levels, then);
+    node(s, n, a, lo, size as u32, 0, FOR)
+}
+
+// SWITCHON expression INTO $( command { ; command } [;] $)
+fn switch(s: &mut [u32], n: usize, levels: usize, r: Answer) -> Answer
+    requires { ⌜ Ready 0 (now s) n r ⌝ }
+    ensures { λ a. ⌜ Reading 1 (C.switchon (readers (within levels))) (Is postUnlabelled) (now (s .entry)) (now (s .exit)) n r a ⌝ }
+{
+    let lo = free_of(s, r);
+    let word = expect(s, n, r, SWITCHON);
+    let value = expr(s, n, levels, LOOSEST, word);
+    let size = less(free_of(s, value), lo);
+    let into = expect(s, n, value, INTO);
+    let begin = expect(s, n, into, BEGIN);
+    let first = listed(s, n, levels, begin);
+    let a = list(s, n, levels, first);
+    node(s, n, a, lo, size as u32, 0, SWITCHON)
+}
+
+// A command, as an item.
+fn listed(s: &mut [u32], n: usize, levels: usize, r: Answer) -> Answer
+    requires { ⌜ Ready 2 (now s) n r ⌝ }
+    ensures { λ a. ⌜ Grows 2 (now (s .entry)) (now (s .exit)) n r a × ((src : Source) → Lies src n (now (s .entry)) → Goes (C.listed (readers (within levels)) src) (Puts postCommands) (now (s .entry)) (now (s .exit)) r a) ⌝ }
+{
+    let lo = free_of(s, r);
+    let begun = mark(s, n, r, 0);
+    let a = command(s, n, levels, begun);
+    seal(s, n, a, lo);
+    a
+}
+
+// { ; command } [;] $)
+fn list(s: &mut [u32], n: usize, levels: usize, r: Answer) -> Answer
+    requires { ⌜ Ready 0 (now s) n r ⌝ }
+    ensures { λ a. ⌜ Reading 5 (moreUpTo n T.noCommands (C.listed (readers (within levels)))) (Is postCommands) (now (s .entry)) (now (s .exit)) n r a ⌝ }
+{
+    let mut turns = n;
+    let mut a = r;
+    while turns > 0 {
+        let here = kind_here(s, n, a);
+        if here == END {
+            return expect(s, n, a, END);
+        }
+        let semicolon = expect(s, n, a, SEMICOLON);
+        let kind = kind_here(s, n, semicolon);
+        if kind == END {
+            return expect(s, n, semicolon, END);
+        }
+        a = listed(s, n, levels, semicolon);
+        turns -= 1;
+    }
+    refuse(s, n, a, 6)
+}
+
+// [ command { ; command } ] [;] $)
+fn to_end(s: &mut [u32], n: usize, levels: usize, r: Answer) -> Answer
+    requires { ⌜ Ready 2 (now s) n r ⌝ }
+    ensures { λ a. ⌜ Reading 3 (C.commandsToEnd (readers (within levels))) (Is postCommands) (now (s .entry)) (now (s .exit)) n r a ⌝ }
+{
+    let kind = kind_here(s, n, r);
+    match kind {
+        END => expect(s, n, r, END),
+        SEMICOLON => {
+            let semicolon = expect(s, n, r, SEMICOLON);
+            expect(s, n, semicolon, END)
+        }
+        _ => {
+            let first = listed(s, n, levels, r);
+            list(s, n, levels, first)
+        }
+    }
+}
+
+// $( { LET local [;] } [ command { ; command } ] [;] $)
+fn block(s: &mut [u32], n: usize, levels: usize, r: Answer) -> Answer
+    requires { ⌜ Ready 0 (now s) n r ⌝ }
+    ensures { λ a. ⌜ Reading 1 (C.block (readers (within levels))) (Is postUnlabelled) (now (s .entry)) (now (s .exit)) n r a ⌝ }
+{
+    let lo = free_of(s, r);
+    let begin = expect(s, n, r, BEGIN);
+    let locals = locals(s, n, levels, begin);
+    let size = less(free_of(s, locals), lo);
+    let a = to_end(s, n, levels, locals);
+    node(s, n, a, lo, size as u32, 0, BEGIN)
+}
+
+// { LET local [;] }
+fn locals(s: &mut [u32], n: usize, levels: usize, r: Answer) -> Answer
+    requires { ⌜ Ready 0 (now s) n r ⌝ }
+    ensures { λ a. ⌜ Reading 0 (manyUpTo n T.noLocals (λ kind. eqb kind K.LET) (C.local (readers (within levels)))) (Is postLocals) (now (s .entry)) (now (s .exit)) n r a ⌝ }
+{
+    let mut turns = n;
+    let mut a = r;
+    while turns > 0 {
+        let kind = kind_here(s, n, a);
+        if kind != LET {
+            return a;
+        }
+        a = local(s, n, levels, a);
+        turns -= 1;
+    }
+    a
+}
+
+// LET ( name = VEC constant | name {, name} = expression {, expression} ) [;]
+fn local(s: &mut [u32], n: usize, levels: usize, r: Answer) -> Answer
+    requires { ⌜ Ready 0 (now s) n r ⌝ }
+    ensures { λ a. ⌜ Reading 4 (C.local (readers (within levels))) (Puts postLocals) (now (s .entry)) (now (s .exit)) n r a ⌝ }
+{
+    let lo = free_of(s, r);
+    let word = expect(s, n, r, LET);
+    let begun = mark(s, n, word, LET);
+    let start = free_of(s, begun);
+    let first = a_name(s, n, begun);
+    let names = further_names(s, n, first);
+    let further = less(free_of(s, names), free_of(s, first)) / 4;
+    let equal = expect(s, n, names, EQUAL);
+    let value = given(s, n, levels, start, further, equal);
+    let a = optional(s, n, SEMICOLON, value);
+    seal(s, n, a, lo);
+    a
+}
+
+// What a local declaration gives its names, which begin at start.
+fn given(s: &mut [u32], n: usize, levels: usize, start: usize, further: usize, r: Answer) -> Answer
+    requires { ⌜ Ready 5 (now s) n r ⌝ }
+    ensures { λ a. ⌜ Grows 5 (now (s .entry)) (now (s .exit)) n r a × ((src : Source) → Lies src n (now (s .entry)) → Passes r a × ((name : T.Name) (names : List T.Name) → further ≡ length names → freeOf (length (now (s .entry))) r ≡ start + length (postNames (name ∷ names)) → Goes (C.given (readers (within levels)) name names src) (Gives (name ∷ names)) (now (s .entry)) (now (s .exit)) r a)) ⌝ }
+{
+    let kind = kind_here(s, n, r);
+    if is_vector(kind, further) {
+        return vector(s, n, levels, start, r);
+    }
+    let size = less(free_of(s, r), start);
+    let first = arg(s, n, levels, r);
+    let last = rest(s, n, levels, further, first);
+    node(s, n, last, start, size as u32, 0, LET)
+}
+
+// {, expression}, so many of them
+fn rest(s: &mut [u32], n: usize, levels: usize, number: usize, r: Answer) -> Answer
+    requires { ⌜ Ready 0 (now s) n r ⌝ }
+    ensures { λ a. ⌜ Reading 0 (C.further (readers (within levels)) number) (Is postExpressions) (now (s .entry)) (now (s .exit)) n r a ⌝ }
+{
+    let mut left = number;
+    let mut a = r;
+    while left > 0 {
+        let comma = expect(s, n, a, COMMA);
+        a = arg(s, n, levels, comma);
+        left -= 1;
+    }
+    a
+}
+
+// {, expression} := expression {, expression}, after the first expression, which begins at lo; as many right as left
+fn assign(s: &mut [u32], n: usize, levels: usize, lo: usize, r: Answer) -> Answer
+    requires { ⌜ Ready 0 (now s) n r ⌝ }
+    ensures { λ a. ⌜ Fits 0 (now (s .entry)) (now (s .exit)) n r a × ((src : Source) → Lies src n (now (s .entry)) → Passes r a × ((e : T.Expression) → freeOf (length (now (s .entry))) r ≡ lo + length (post e) → Goes (C.assignment (readers (within levels)) e src) (After e) (now (s .entry)) (now (s .exit)) r a)) ⌝ }
+{
+    let size = less(free_of(s, r), lo);
+    let left = commas(s, n, levels, r);
+    let end = left.end;
+    let all = less(free_of(s, end), lo);
+    let word = expect(s, n, end, ASSIGN);
+    let first = arg(s, n, levels, word);
+    let last = rest(s, n, levels, left.count, first);
+    node(s, n, last, lo, size as u32, all as u32, ASSIGN)
+}
+
+// An assignment, or an expression that is a call.
+fn simple(s: &mut [u32], n: usize, levels: usize, r: Answer) -> Answer
+    requires { ⌜ Ready 0 (now s) n r ⌝ }
+    ensures { λ a. ⌜ Reading 1 (C.assignmentOrCall (readers (within levels))) (Is postUnlabelled) (now (s .entry)) (now (s .exit)) n r a ⌝ }
+{
+    let lo = free_of(s, r);
+    let first = expr(s, n, levels, LOOSEST, r);
+    let kind = kind_here(s, n, first);
+    if goes_on_assignment(kind) {
+        return assign(s, n, levels, lo, first);
+    }
+    if is_call(s, n, first) {
+        return first;
+    }
+    refuse(s, n, first, 6)
+}

@@ -1,0 +1,186 @@
+// The state of the reading, and the functions that read and write single entries of scratch. The symbols stand at its front, three
+// entries each; the tree behind them.
+use crate::kinds::NOTHING;
+use crate::kinds::SUFFIXED;
+ghost use Prim.Native.Nat.{_+_, _-_, _*_, _<_, _≤_};
+ghost use mathlib.Core.Path.{_≡_};
+ghost use mathlib.Core.Bool.{false};
+ghost use mathlib.Core.List.{[], _∷_};
+ghost use lib.ListN.{length};
+ghost use Rattle.language.specs.Reader.{Source, valueAt, placeAt, the, optional};
+ghost use Rattle.tree.specs.Post.{item, flag};
+ghost use Rattle.tree.specs.Reads.{Lies, Ready, Fits, Grows, Here, KindHere, Refuses, Adds, recordFrom, Seals, freeOf, CallHere, Reading, Is};
+
+pub(crate) enum Answer {
+    // the position of the next symbol, and the next free entry
+    Read(usize, usize),
+    // a refusal's number, and the position of the symbol refused
+    Refused(u16, usize),
+}
+
+// a - b, or 0.
+pub(crate) fn less(a: usize, b: usize) -> usize
+    ensures { λ r. ⌜ r ≡ a - b ⌝ }
+{
+    if b < a { a - b } else { 0 }
+}
+
+pub(crate) fn kind_here(s: &[u32], n: usize, r: Answer) -> u32
+    requires { ⌜ Ready 0 (now s) n r ⌝ }
+    ensures { λ k. ⌜ ((src : Source) → Lies src n (now (s .entry)) → KindHere src r k) ⌝ }
+{
+    match r {
+        Answer::Read(at, _) => if at < n { s[at * 3] } else { NOTHING },
+        Answer::Refused(_, _) => NOTHING,
+    }
+}
+
+pub(crate) fn value_here(s: &[u32], n: usize, r: Answer) -> u32
+    requires { ⌜ Ready 0 (now s) n r ⌝ }
+    ensures { λ v. ⌜ ((src : Source) → Lies src n (now (s .entry)) → Here (valueAt src) n r v) ⌝ }
+{
+    match r {
+        Answer::Read(at, _) => if at < n { s[at * 3 + 1] } else { 0 },
+        Answer::Refused(_, _) => 0,
+    }
+}
+
+pub(crate) fn place_here(s: &[u32], n: usize, r: Answer) -> u32
+    requires { ⌜ Ready 0 (now s) n r ⌝ }
+    ensures { λ p. ⌜ ((src : Source) → Lies src n (now (s .entry)) → Here (placeAt src) n r p) ⌝ }
+{
+    match r {
+        Answer::Read(at, _) => if at < n { s[at * 3 + 2] } else { 0 },
+        Answer::Refused(_, _) => 0,
+    }
+}
+
+// The next free entry.
+pub(crate) fn free_of(s: &[u32], r: Answer) -> usize
+    ensures { λ f. ⌜ f ≡ freeOf (length (now (s .entry))) r ⌝ }
+{
+    match r {
+        Answer::Read(_, free) => free,
+        Answer::Refused(_, _) => s.len(),
+    }
+}
+
+pub(crate) fn refuse(s: &[u32], n: usize, r: Answer, number: u16) -> Answer
+    requires { ⌜ Ready 0 (now s) n r ⌝ }
+    ensures { λ a. ⌜ Fits 5 (now (s .entry)) (now (s .entry)) n r a × Refuses number r a ⌝ }
+{
+    match r {
+        Answer::Read(at, _) => Answer::Refused(number, at),
+        Answer::Refused(k, p) => Answer::Refused(k, p),
+    }
+}
+
+// The symbol here is of that kind, or it is refused.
+pub(crate) fn expect(s: &[u32], n: usize, r: Answer, kind: u32) -> Answer
+    requires { ⌜ Ready 0 (now s) n r × (0 < kind) ⌝ }
+    ensures { λ a. ⌜ Reading 5 (the kind) (Is (λ _. [])) (now (s .entry)) (now (s .entry)) n r a ⌝ }
+{
+    match r {
+        Answer::Read(at, free) => {
+            if at < n {
+                if s[at * 3] == kind {
+                    return Answer::Read(at + 1, free);
+                }
+            }
+            Answer::Refused(6, at)
+        }
+        Answer::Refused(k, p) => Answer::Refused(k, p),
+    }
+}
+
+// [symbol]
+pub(crate) fn optional(s: &[u32], n: usize, kind: u32, r: Answer) -> Answer
+    requires { ⌜ Ready 0 (now s) n r × (0 < kind) ⌝ }
+    ensures { λ a. ⌜ Reading 0 (optional kind) (Is (λ _. [])) (now (s .entry)) (now (s .entry)) n r a ⌝ }
+{
+    let here = kind_here(s, n, r);
+    if here == kind {
+        return expect(s, n, r, kind);
+    }
+    r
+}
+
+// Writes a record behind what stands from lo on.
+pub(crate) fn node(
+    s: &mut [u32],
+    n: usize,
+    r: Answer,
+    lo: usize,
+    value: u32,
+    place: u32,
+    kind: u32,
+) -> Answer
+    requires { ⌜ Ready 4 (now s) n r ⌝ }
+    ensures { λ a. ⌜ Grows 4 (now (s .entry)) (now (s .exit)) n r a × Adds (recordFrom lo value place kind) (now (s .entry)) (now (s .exit)) r a ⌝ }
+{
+    match r {
+        Answer::Read(at, free) => {
+            s[free] = less(free, lo) as u32;
+            s[free + 1] = value;
+            s[free + 2] = place;
+            s[free + 3] = kind;
+            Answer::Read(at, free + 4)
+        }
+        Answer::Refused(k, p) => Answer::Refused(k, p),
+    }
+}
+
+// Begins an item of a list: its size, which is set later, and its tag.
+pub(crate) fn mark(s: &mut [u32], n: usize, r: Answer, tag: u32) -> Answer
+    requires { ⌜ Ready 2 (now s) n r ⌝ }
+    ensures { λ a. ⌜ Grows 2 (now (s .entry)) (now (s .exit)) n r a × Adds (λ _. 0 ∷ tag ∷ []) (now (s .entry)) (now (s .exit)) r a ⌝ }
+{
+    match r {
+        Answer::Read(at, free) => {
+            s[free] = 0;
+            s[free + 1] = tag;
+            Answer::Read(at, free + 2)
+        }
+        Answer::Refused(k, p) => Answer::Refused(k, p),
+    }
+}
+
+// Sets the size of the item that begins at lo.
+pub(crate) fn seal(s: &mut [u32], n: usize, r: Answer, lo: usize)
+    requires { ⌜ Ready 0 (now s) n r × (n * 3 ≤ lo) ⌝ }
+    ensures { λ _. ⌜ Fits 0 (now (s .entry)) (now (s .exit)) n r r × Seals lo (now (s .entry)) (now (s .exit)) r ⌝ }
+{
+    match r {
+        Answer::Read(_, free) => {
+            if lo < free {
+                s[lo] = less(less(free, lo), 2) as u32;
+            }
+        }
+        Answer::Refused(_, _) => {}
+    }
+}
+
+pub(crate) fn flag(b: bool) -> u32
+    ensures { λ x. ⌜ x ≡ flag b ⌝ }
+{
+    if b { 1 } else { 0 }
+}
+
+// Whether the expression that ends at the next free entry is a call: its record says so.
+pub(crate) fn is_call(s: &[u32], n: usize, r: Answer) -> bool
+    requires { ⌜ Ready 0 (now s) n r ⌝ }
+    ensures { λ b. ⌜ CallHere (now (s .entry)) r b ⌝ }
+{
+    match r {
+        Answer::Read(_, free) => {
+            if free < 2 {
+                return false;
+            }
+            if s[free - 1] == SUFFIXED {
+                return s[free - 2] == 1;
+            }
+            false
+        }
+        Answer::Refused(_, _) => false,
+    }
+}
