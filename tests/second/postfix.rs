@@ -12,6 +12,7 @@ const SUFFIXED: u32 = 63;
 const DYADIC: u32 = 64;
 const LABELLED: u32 = 65;
 const REPEATED: u32 = 66;
+const CALLED: u32 = 67;
 
 const RECORD: usize = 4;
 
@@ -303,7 +304,7 @@ impl Decoder<'_> {
                 let locals = items(locals)?.into_iter().map(|(tag, item)| self.local(tag, item));
                 Ok(Action::Block(locals.collect::<Decoded<_>>()?, self.commands(commands)?))
             }
-            SUFFIXED => Ok(Action::Call(self.expression(entries)?)),
+            CALLED => Ok(Action::Call(self.expression(entries)?)),
             kind => Err(format!("kind {kind} for a command")),
         }
     }
@@ -343,19 +344,22 @@ impl Decoder<'_> {
                 let place = self.stands(node.value, node.place)?;
                 Ok(Expression::Monadic(node.value, place, Box::new(self.expression(node.parts)?)))
             }
-            SUFFIXED => self.suffixed(node),
+            SUFFIXED | CALLED => self.suffixed(node),
             DYADIC => self.dyadic(node),
             kind => Err(format!("kind {kind} for an expression")),
         }
     }
 
-    /// A primary and all its calls and indexes; the place says whether the last of these is a call.
+    /// A primary and all its calls and indexes; the kind says whether the last of these is a call.
     fn suffixed(&self, node: Node) -> Decoded<Expression> {
         let (primary, suffixes) = split(node.parts, node.value as usize)?;
+        node.wants(node.value, only(primary)?.place)?;
         let suffixes = items(suffixes)?;
         let calls = suffixes.last().is_some_and(|&(tag, _)| tag == OPEN);
-        node.wants(node.value, u32::from(calls))?;
-        if suffixes.is_empty() || matches!(only(primary)?.kind, MONADIC | SUFFIXED | DYADIC) {
+        if calls != (node.kind == CALLED) {
+            return Err(format!("kind {} for suffixes", node.kind));
+        }
+        if suffixes.is_empty() || matches!(only(primary)?.kind, MONADIC | SUFFIXED | CALLED | DYADIC) {
             return Err("suffixes that are none, or not of a primary".to_string());
         }
         suffixes.into_iter().try_fold(self.expression(primary)?, |left, (tag, suffix)| match tag {
@@ -367,8 +371,8 @@ impl Decoder<'_> {
 
     /// All the operators of one binding that follow one another.
     fn dyadic(&self, node: Node) -> Decoded<Expression> {
-        node.wants(node.value, 0)?;
         let (first, operations) = split(node.parts, node.value as usize)?;
+        node.wants(node.value, only(first)?.place)?;
         let operations = items(operations)?;
         let bindings = || operations.iter().map(|&(operator, _)| binding(operator));
         let common = bindings().next().flatten().ok_or("operations that are none")?;

@@ -49,9 +49,9 @@ module _ (src : Source) (size x : ℕ) {s s₁ : List ℕ} {r r₁ : Answer} {ki
     pub call-alone : call ≡ true → Reads (C.assignmentOrCall (readers (within x)) src) postUnlabelled s s₁ r r₁
     unfolding C.assignmentOrCall C.afterExpression C.callCommand postUnlabelled
     call-alone h =
-        look size post d stays (λ e v q₁. here (λ m. ok (T.callCommand e) m) (λ at free y. rw (sym (ap goesOnAssignment (k .here at free y)) ∙ q, sym (c .here at free (v .before) e y (v .seen at free y)) ∙ h) refl) (nothing (record { same = append-nil (post e) })))
+        look size post d stays (λ e v q₁. here (λ m. ok (T.callCommand e) m) (λ at free y. rw (sym (ap goesOnAssignment (k .here at free y)) ∙ q, sym (c .here (v .next) (v .free) (v .before) e (v .reads) (v .stands)) ∙ h) refl) (nothing (record { same = append-nil (post e) })))
 
     pub no-call : {r₂ : Answer} → call ≡ false → Refuses 6 r₁ r₂ → Passes r₁ r₂ → Reads (C.assignmentOrCall (readers (within x)) src) postUnlabelled s s₁ r r₂
     unfolding C.assignmentOrCall C.afterExpression C.callCommand unexpected
     no-call h g p =
-        look size post d p (λ e v q₁. stopped (λ at free y. rw (sym (ap goesOnAssignment (k .here at free y)) ∙ q, sym (c .here at free (v .before) e y (v .seen at free y)) ∙ h) refl) g)
+        look size post d p (λ e v q₁. stopped (λ at free y. rw (sym (ap goesOnAssignment (k .here at free y)) ∙ q, sym (c .here (v .next) (v .free) (v .before) e (v .reads) (v .stands)) ∙ h) refl) g)

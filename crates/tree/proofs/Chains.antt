@@ -14,9 +14,9 @@ use Rattle.language.specs.Binding.{bindingOf, isSuffix, RELATION}
 use Rattle.language.specs.Expressions as E
 use Rattle.language.specs.Expressions.{Inside}
 use Rattle.language.specs.Grammar.{within}
-use Rattle.tree.specs.Reads.{Lies, KindHere, Goes, Puts, PutsSuffix, EndedSoFar, Ended, PutsOne, CountedSoFar, Counted, Reads, Adds, recordFrom, freeOf, rightOf, furtherMost}
-use Rattle.tree.specs.Post.{closed, flag, post, postExpressions, postSuffixes, postOperations}
-use Rattle.tree.proofs.Steps.{follow, bind, here, added, adds-on, goes-on, _then_, nothing}
+use Rattle.tree.specs.Reads.{Lies, KindHere, Goes, Puts, PlaceHere, PutsSuffix, EndedSoFar, Ended, PutsOne, CountedSoFar, Counted, Reads, Adds, recordFrom, freeOf, rightOf, furtherMost}
+use Rattle.tree.specs.Post.{closed, suffixedKind, post, postExpressions, postSuffixes, postOperations}
+use Rattle.tree.proofs.Steps.{follow, bind, look, here, added, adds-on, goes-on, _then_, nothing}
 use Rattle.tree.proofs.Lists.{turn, last}
 use Rattle.tree.proofs.Symbols.{inside as among, stays}
 use Rattle.tree.proofs.Readers.{chain-is, nests, parts, post-dyadic, post-suffixed}
@@ -60,14 +60,14 @@ module _ {src : Source} {n : ℕ} {s₀ : List ℕ} (l : Lies src n s₀) (size 
       here _ (λ at free e. chain-is (within x) src b at pos six)
       (bind size post d₁ stays (λ e q. here (λ m. ok e m) (λ at free y. ap (λ (o : Out Operations). onOut o (λ os q. ok (withOperations e os) q)) (no-operations (within x) (rightOf b) src b at (λ z. h (ap bindingOf (k .here at free y) ∙ z)))) (nothing (record { same = append-nil (post e) }))))
 
-  pub expression-more : {s₂ s₃ s₄ : List ℕ} {r₂ r₃ r₄ : Answer} {lo value right : ℕ} → right ≡ rightOf b → bindingOf kind ≡ b → lo ≡ freeOf size r → value ≡ freeOf size r₁ - lo → Goes (E.operation (within x) (E.expression (within x) right) src) (Puts postOperations) s₁ s₂ r₁ r₂ → Reads (manyUpTo (furtherMost b n) T.noOperations (λ kind. eqb (bindingOf kind) b) (E.operation (within x) (E.expression (within x) right)) src) postOperations s₂ s₃ r₂ r₃ → Adds (recordFrom lo value 0 64) s₃ s₄ r₃ r₄ → Reads (E.expression (within x) b src) post s s₄ r r₄
-  expression-more {s₂} {s₃} {s₄} {r₂} {r₃} {r₄} {lo} {value} {right} er hb lo-is ev d₂ d₃ d₄ =
+  pub expression-more : {s₂ s₃ s₄ : List ℕ} {r₂ r₃ r₄ : Answer} {lo value place right : ℕ} → right ≡ rightOf b → bindingOf kind ≡ b → lo ≡ freeOf size r → value ≡ freeOf size r₁ - lo → PlaceHere s₁ r₁ place → Goes (E.operation (within x) (E.expression (within x) right) src) (Puts postOperations) s₁ s₂ r₁ r₂ → Reads (manyUpTo (furtherMost b n) T.noOperations (λ kind. eqb (bindingOf kind) b) (E.operation (within x) (E.expression (within x) right)) src) postOperations s₂ s₃ r₂ r₃ → Adds (recordFrom lo value place 64) s₃ s₄ r₃ r₄ → Reads (E.expression (within x) b src) post s s₄ r r₄
+  expression-more {s₂} {s₃} {s₄} {r₂} {r₃} {r₄} {lo} {value} {place} {right} er hb lo-is ev ep d₂ d₃ d₄ =
       let kp : 0 < kind = binding-positive kind (omega arith) in
       here _ (λ at free e. chain-is (within x) src b at pos six ∙ ap (λ (y : ℕ). onOut (E.expression (within x) (b - 1) src at) (λ e m. onOut (E.operations (within x) b (E.expression (within x) y) src m) (λ os q. ok (withOperations e os) q))) (sym er))
-      (bind size post d₁ (goes-on d₂ then goes-on d₃ then adds-on d₄) (λ e q₁. here _ (λ at free y.
+      (look size post d₁ (goes-on d₂ then goes-on d₃ then adds-on d₄) (λ e v q₁. here _ (λ at free y.
       let i : at < n = among l at (omega (arith, k .here at free y)) in
       ap (λ (o : Out Operations). onOut o (λ os q. ok (withOperations e os) q)) (first-operation (within x) right src b n at (l .count) (omega arith) (sym (ap bindingOf (k .here at free y)) ∙ hb)) ∙ nests (E.operation (within x) (E.expression (within x) right) src at) (λ q. manyUpTo (furtherMost b n) T.noOperations (λ kind. eqb (bindingOf kind) b) (E.operation (within x) (E.expression (within x) right)) src q) (λ os q. ok (withOperations e os) q))
-      (follow size d₂ (goes-on d₃ then adds-on d₄) (λ put w h q₂. bind size postOperations d₃ (adds-on d₄) (λ os q₃. added size d₄ (record { same = chained (post e) w (postOperations os) (postOperations (put os)) (freeOf size r₃ - lo) value 0 64 (omega arith) (omega arith) (h .puts os) ∙ sym (post-dyadic e (put os) (grown w (postOperations os) (postOperations (put os)) (h .puts os) (h .some))) }))))))
+      (follow size d₂ (goes-on d₃ then adds-on d₄) (λ put w h q₂. bind size postOperations d₃ (adds-on d₄) (λ os q₃. added size d₄ (record { same = chained (post e) w (postOperations os) (postOperations (put os)) (freeOf size r₃ - lo) value place 64 (omega arith) (omega arith) (h .puts os) ∙ ap (λ (p : ℕ). closed (post e ++ postOperations (put os)) (length (post e)) p 64) (ep .here (v .next) (v .free) (v .before) e (v .reads) (v .stands)) ∙ sym (post-dyadic e (put os) (grown w (postOperations os) (postOperations (put os)) (h .puts os) (h .some))) }))))))
 
 module _ (inner : Inside) (src : Source) where
   no-suffixes : (at : ℕ) → isSuffix (kindAt src at) ≡ false → many T.noSuffixes isSuffix (E.suffix inner) src at ≡ ok T.noSuffixes at
@@ -86,14 +86,14 @@ module _ {src : Source} {n : ℕ} {s₀ : List ℕ} (l : Lies src n s₀) (size 
   suffixed-one h =
       bind size post d₁ stays (λ e q. here (λ m. ok e m) (λ at free y. ap (λ (o : Out Suffixes). onOut o (λ ss q. ok (withSuffixes e ss) q)) (no-suffixes (within x) src at (sym (ap isSuffix (k .here at free y)) ∙ h))) (nothing (record { same = append-nil (post e) })))
 
-  pub suffixed-more : {s₂ s₃ s₄ : List ℕ} {r₂ r₃ r₄ : Answer} {lo value place : ℕ} {first last : Bool} → isSuffix kind ≡ true → lo ≡ freeOf size r → value ≡ freeOf size r₁ - lo → place ≡ flag last → Goes (E.suffix (within x) src) (PutsSuffix first) s₁ s₂ r₁ r₂ → Goes (manyUpTo (n - 1) T.noSuffixes isSuffix (E.suffix (within x)) src) (Ended first last) s₂ s₃ r₂ r₃ → Adds (recordFrom lo value place 63) s₃ s₄ r₃ r₄ → Reads (E.suffixed (within x) src) post s s₄ r r₄
+  pub suffixed-more : {s₂ s₃ s₄ : List ℕ} {r₂ r₃ r₄ : Answer} {lo value place tag : ℕ} {first last : Bool} → isSuffix kind ≡ true → lo ≡ freeOf size r → value ≡ freeOf size r₁ - lo → PlaceHere s₁ r₁ place → tag ≡ suffixedKind last → Goes (E.suffix (within x) src) (PutsSuffix first) s₁ s₂ r₁ r₂ → Goes (manyUpTo (n - 1) T.noSuffixes isSuffix (E.suffix (within x)) src) (Ended first last) s₂ s₃ r₂ r₃ → Adds (recordFrom lo value place tag) s₃ s₄ r₃ r₄ → Reads (E.suffixed (within x) src) post s s₄ r r₄
   unfolding E.suffixed
-  suffixed-more {s₂} {s₃} {s₄} {r₂} {r₃} {r₄} {lo} {value} {place} {first} {last} hb lo-is ev ep d₂ d₃ d₄ =
+  suffixed-more {s₂} {s₃} {s₄} {r₂} {r₃} {r₄} {lo} {value} {place} {tag} {first} {last} hb lo-is ev ep et d₂ d₃ d₄ =
       let kp : 0 < kind = suffix-positive kind hb in
-      bind size post d₁ (goes-on d₂ then goes-on d₃ then adds-on d₄) (λ e q₁. here _ (λ at free y.
+      look size post d₁ (goes-on d₂ then goes-on d₃ then adds-on d₄) (λ e z q₁. here _ (λ at free y.
       let i : at < n = among l at (omega (arith, k .here at free y)) in
       ap (λ (o : Out Suffixes). onOut o (λ ss q. ok (withSuffixes e ss) q)) (first-suffix (within x) src n at (l .count) (omega arith) (sym (ap isSuffix (k .here at free y)) ∙ hb)) ∙ nests (E.suffix (within x) src at) (λ q. manyUpTo (n - 1) T.noSuffixes isSuffix (E.suffix (within x)) src q) (λ ss q. ok (withSuffixes e ss) q))
-      (follow size d₂ (goes-on d₃ then adds-on d₄) (λ put w h q₂. follow size d₃ (adds-on d₄) (λ ss v g q₃. added size d₄ (record { same = ap (λ (u : List ℕ). post e ++ (w ++ (u ++ recordFrom lo value place 63 (freeOf size r₃)))) (g .same) ∙ chained (post e) w (postSuffixes ss) (postSuffixes (put ss)) (freeOf size r₃ - lo) value place 63 (omega (arith, ap length (g .same))) (omega arith) (h .puts ss) ∙ ap (λ (p : ℕ). closed (post e ++ postSuffixes (put ss)) (length (post e)) p 63) (ep ∙ ap flag (sym (h .ends false ss ∙ g .ends))) ∙ sym (post-suffixed e (put ss) (grown w (postSuffixes ss) (postSuffixes (put ss)) (h .puts ss) (h .some))) })))))
+      (follow size d₂ (goes-on d₃ then adds-on d₄) (λ put w h q₂. follow size d₃ (adds-on d₄) (λ ss v g q₃. added size d₄ (record { same = ap (λ (u : List ℕ). post e ++ (w ++ (u ++ recordFrom lo value place tag (freeOf size r₃)))) (g .same) ∙ chained (post e) w (postSuffixes ss) (postSuffixes (put ss)) (freeOf size r₃ - lo) value place tag (omega (arith, ap length (g .same))) (omega arith) (h .puts ss) ∙ ap (λ (p : ℕ). closed (post e ++ postSuffixes (put ss)) (length (post e)) p tag) (ep .here (z .next) (z .free) (z .before) e (z .reads) (z .stands)) ∙ ap (λ (p : ℕ). closed (post e ++ postSuffixes (put ss)) (length (post e)) (T.placeOf e) p) (et ∙ ap suffixedKind (sym (h .ends false ss ∙ g .ends))) ∙ sym (post-suffixed e (put ss) (grown w (postSuffixes ss) (postSuffixes (put ss)) (h .puts ss) (h .some))) })))))
 
 -- suffixes so far
 pub suffix-first : {b : Bool} → EndedSoFar b b (λ ss. ss) []

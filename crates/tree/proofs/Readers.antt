@@ -15,7 +15,7 @@ use Rattle.language.specs.Expressions as E
 use Rattle.language.specs.Expressions.{Inside, inside, shut, opening}
 use Rattle.language.specs.Grammar.{within, readers}
 use Rattle.tree.specs.Reads.{Lies, Here, KindHere, Goes, Is, Puts, PutsSuffix, PutsOne, Reads, Refuses, Adds, recordFrom, Seals, freeOf, anArgument, aFurther, rightOf}
-use Rattle.tree.specs.Post.{item, closed, flag, post, postExpressions, postSuffixes, postOperations, postCommand}
+use Rattle.tree.specs.Post.{item, closed, suffixedKind, post, postExpressions, postSuffixes, postOperations, postCommand}
 use Rattle.tree.proofs.Steps.{follow, bind, here, added, adds-on, goes-on, _then_, nothing, stopped}
 use Rattle.tree.proofs.Lists.{sealed}
 use Rattle.tree.proofs.Symbols.{placed, mapped, the-is, stays}
@@ -163,12 +163,12 @@ pub parts : (a b c : List ℕ) (z v p k : ℕ) → z ≡ length (a ++ (b ++ c)) 
 parts a b c z v p k e =
     ap (λ (w : List ℕ). a ++ w) (sym (append-assoc b c (z ∷ v ∷ p ∷ k ∷ []))) ∙ sym (append-assoc a (b ++ c) (z ∷ v ∷ p ∷ k ∷ [])) ∙ ap (λ (y : ℕ). (a ++ (b ++ c)) ++ (y ∷ v ∷ p ∷ k ∷ [])) e
 
-pub post-dyadic : (e : Expression) (os : Operations) → 0 < length (postOperations os) → post (withOperations e os) ≡ closed (post e ++ postOperations os) (length (post e)) 0 64
+pub post-dyadic : (e : Expression) (os : Operations) → 0 < length (postOperations os) → post (withOperations e os) ≡ closed (post e ++ postOperations os) (length (post e)) (T.placeOf e) 64
 unfolding withOperations post postOperations
 post-dyadic e T.noOperations h = absurd (omega arith)
 post-dyadic e (T.operation o d os) h = refl
 
-pub post-suffixed : (e : Expression) (ss : Suffixes) → 0 < length (postSuffixes ss) → post (withSuffixes e ss) ≡ closed (post e ++ postSuffixes ss) (length (post e)) (flag (T.endsInCall false ss)) 63
+pub post-suffixed : (e : Expression) (ss : Suffixes) → 0 < length (postSuffixes ss) → post (withSuffixes e ss) ≡ closed (post e ++ postSuffixes ss) (length (post e)) (T.placeOf e) (suffixedKind (T.endsInCall false ss))
 unfolding withSuffixes post postSuffixes
 post-suffixed e T.noSuffixes h = absurd (omega arith)
 post-suffixed e (T.call es ss) h = refl

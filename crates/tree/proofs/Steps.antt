@@ -41,13 +41,11 @@ _then_ {r} {r′} {r″} d e = record { by = thenBy r r′ r″ (d .by) (e .by) 
 
 -- what stands last in scratch
 pub record Last (s : List ℕ) (r : Answer) (words : List ℕ) : Type 0 where
+  pub next : ℕ
+  pub free : ℕ
   pub before : List ℕ
-  pub seen : (at free : ℕ) → r ≡ Read at free → take free s ≡ before ++ words
-
-last-read : (s s′ w : List ℕ) (m free nf : ℕ) → take nf s′ ≡ take free s ++ w → Last s′ (Read m nf) w
-unfolding freeOf
-last-read s s′ w m free nf e =
-    record { before = take free s; seen = λ at f q. ap (λ (x : ℕ). take x s′) (sym (ap (freeOf 0) q)) ∙ e }
+  pub reads : r ≡ Read next free
+  pub stands : take free s ≡ before ++ words
 
 -- one part and then another. What is written for the whole is what the first part wrote and then what the second writes
 module _ {A C : Type 0} (read : ℕ → Out A) (First : A → List ℕ → Type 0) (next : A → ℕ → Out C) (Says : C → List ℕ → Type 0) (s₀ s₁ s₂ : List ℕ) (n : ℕ) where
@@ -60,9 +58,9 @@ module _ {A C : Type 0} (read : ℕ → Out A) (First : A → List ℕ → Type 
   bindBy (Refused k p) r₁ r₂ d g f = thenBy (Refused k p) r₁ r₂ d g
   bindBy (Read at free) (Refused k p) r₂ d g f = refusedBy at free (Refused k p) r₂ k p d g
   bindBy (Read at free) (Read m nf) (Refused k p) d g f =
-      ap (λ (o : Out A). onOut o next) (d .is) ∙ f (d .tree) (d .words) (d .says) (last-read s₀ s₁ (d .words) m free nf (d .written)) (d .size)
+      ap (λ (o : Out A). onOut o next) (d .is) ∙ f (d .tree) (d .words) (d .says) (record { next = m; free = nf; before = take free s₀; reads = refl; stands = d .written }) (d .size)
   bindBy (Read at free) (Read m nf) (Read q mf) d g f =
-      let w = f (d .tree) (d .words) (d .says) (last-read s₀ s₁ (d .words) m free nf (d .written)) (d .size) in
+      let w = f (d .tree) (d .words) (d .says) (record { next = m; free = nf; before = take free s₀; reads = refl; stands = d .written }) (d .size) in
       record {
         tree = w .tree;
         words = d .words ++ w .words;

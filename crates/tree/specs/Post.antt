@@ -10,14 +10,21 @@ use mathlib.Core.Option.{Option, none, some}
 use lib.ListN.{length}
 use Rattle.language.specs.Kinds as K
 use Rattle.language.specs.Tree as T
-use Rattle.language.specs.Tree.{Name, Simple, Constant, Label, Expression, Expressions, Suffixes, Operations, Command, Commands, Unlabelled, Repeats, Locals, Item, Body, Function, Program, endsInCall}
+use Rattle.language.specs.Tree.{Name, Simple, Constant, Label, Expression, Expressions, Suffixes, Operations, Command, Commands, Unlabelled, Repeats, Locals, Item, Body, Function, Program, endsInCall, placeOf}
 
 -- kinds of nodes that are no kind of symbol
 abbrev pub MONADIC : ℕ
 MONADIC = 62
 
+-- a primary with suffixes, by whether the last of them is a call
 abbrev pub SUFFIXED : ℕ
 SUFFIXED = 63
+
+abbrev pub CALLED : ℕ
+CALLED = 67
+
+unfoldable pub suffixedKind : (call : Bool) → ℕ
+suffixedKind call = cond call CALLED SUFFIXED
 
 abbrev pub DYADIC : ℕ
 DYADIC = 64
@@ -32,10 +39,6 @@ REPEATED = 66
 -- what stands before a record, and the record
 abbrev pub closed : (contents : List ℕ) (value place kind : ℕ) → List ℕ
 closed w v p k = w ++ (length w ∷ v ∷ p ∷ k ∷ [])
-
--- 1 or 0
-unfoldable pub flag : Bool → ℕ
-flag b = cond b 1 0
 
 -- a node without children
 abbrev pub leaf : (value place kind : ℕ) → List ℕ
@@ -83,8 +86,8 @@ unfoldable pub repeated : (command forms : List ℕ) → List ℕ
 repeated w [] = w
 repeated w (x ∷ rs) = closed (w ++ (x ∷ rs)) (length w) 0 REPEATED
 
--- The place of a record with suffixes says whether the last of them is a call. The names of a local have their size as the value of
--- its record, whose kind says whether it is a vector.
+-- An expression's record has the place of its first symbol. The names of a local have their size as the value of its record, whose
+-- kind says whether it is a vector.
 unfoldable mutual
   pub post : Expression → List ℕ
   post (T.number place v) = leaf v place K.NUMBER
@@ -93,8 +96,8 @@ unfoldable mutual
   post (T.bracketed place e) = closed (post e) 0 place K.OPEN
   post (T.valof place c) = closed (postCommand c) 0 place K.VALOF
   post (T.monadic place o e) = closed (post e) o place MONADIC
-  post (T.suffixed e ss) = closed (post e ++ postSuffixes ss) (length (post e)) (flag (endsInCall false ss)) SUFFIXED
-  post (T.dyadic e os) = closed (post e ++ postOperations os) (length (post e)) 0 DYADIC
+  post (T.suffixed e ss) = closed (post e ++ postSuffixes ss) (length (post e)) (placeOf e) (suffixedKind (endsInCall false ss))
+  post (T.dyadic e os) = closed (post e ++ postOperations os) (length (post e)) (placeOf e) DYADIC
 
   pub postExpressions : Expressions → List ℕ
   postExpressions T.noExpressions = []

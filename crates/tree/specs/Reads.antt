@@ -7,7 +7,7 @@ use mathlib.Core.List.{List, [], _∷_, _++_}
 use lib.ListN.{length, take, getD, set}
 use lib.Dec.{eqb}
 use Rattle.language.specs.Kinds as K
-use Rattle.language.specs.Tree.{Name, Expression, Expressions, andExpression, count, isCall, Suffixes, endsInCall, Unlabelled, leave, empty, Repeats, noRepeats, Locals, Body, Item, Function, Declaration, globals, manifests, functions, Program}
+use Rattle.language.specs.Tree.{placeOf, Name, Expression, Expressions, andExpression, count, isCall, Suffixes, endsInCall, Unlabelled, leave, empty, Repeats, noRepeats, Locals, Body, Item, Function, Declaration, globals, manifests, functions, Program}
 use Rattle.language.specs.Binding.{RELATION, LOOSEST, isRepeat, beginsCommand}
 use Rattle.language.specs.Expressions.{Readers, opening, numeral, quotation, truth, named, expression}
 use Rattle.language.specs.Commands.{unlabelled, repeatForm}
@@ -279,9 +279,13 @@ pub record Counted (number : ℕ) (es : Expressions) (words : List ℕ) : Type 0
   pub same : words ≡ postExpressions es
   pub many : count es ≡ number
 
--- whether what is read last is a call
+-- whether the expression that is read last is a call
 pub record CallHere (s : List ℕ) (r : Answer) (call : Bool) : Type 0 where
   pub here : (at free : ℕ) (before : List ℕ) (e : Expression) → r ≡ Read at free → take free s ≡ before ++ post e → call ≡ isCall e
+
+-- the place of the expression that is read last
+pub record PlaceHere (s : List ℕ) (r : Answer) (place : ℕ) : Type 0 where
+  pub here : (at free : ℕ) (before : List ℕ) (e : Expression) → r ≡ Read at free → take free s ≡ before ++ post e → place ≡ placeOf e
 
 -- the words of an assignment after its first side, and of a local after its names
 pub record After (e : Expression) (u : Unlabelled) (words : List ℕ) : Type 0 where

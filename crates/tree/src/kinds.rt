@@ -134,3 +134,6 @@ pub(crate) const DYADIC: u32 = 64;
 pub(crate) const LABELLED: u32 = 65;
 
 pub(crate) const REPEATED: u32 = 66;
+
+// A record of suffixes of which the last is a call.
+pub(crate) const CALLED: u32 = 67;

@@ -37,7 +37,6 @@ use crate::kinds::REPEAT;
 use crate::kinds::REPEATED;
 use crate::kinds::RESULTIS;
 use crate::kinds::SEMICOLON;
-use crate::kinds::SUFFIXED;
 use crate::kinds::SWITCHON;
 use crate::kinds::TEST;
 use crate::kinds::TO;
@@ -52,7 +51,6 @@ use crate::parts::optional_by;
 use crate::parts::vector;
 use crate::scratch::Answer;
 use crate::scratch::expect;
-use crate::scratch::flag;
 use crate::scratch::free_of;
 use crate::scratch::is_call;
 use crate::scratch::kind_here;
@@ -61,8 +59,10 @@ use crate::scratch::mark;
 use crate::scratch::node;
 use crate::scratch::optional;
 use crate::scratch::place_here;
+use crate::scratch::place_of;
 use crate::scratch::refuse;
 use crate::scratch::seal;
+use crate::scratch::suffixed_kind;
 ghost use Prim.Native.Nat.{_+_, _-_, _<_, _≤_};
 ghost use mathlib.Core.Path.{_≡_};
 ghost use mathlib.Core.Bool.{true, false};
@@ -76,7 +76,7 @@ ghost use Rattle.language.specs.Binding.{bindingOf, isSuffix, isRepeat, isLabel
 ghost use Rattle.language.specs.Expressions as E;
 ghost use Rattle.language.specs.Grammar.{within, readers};
 ghost use Rattle.language.specs.Commands as C;
-ghost use Rattle.tree.specs.Post.{item, flag, post, postNames, postExpressions, postOperations, postCommand, postCommands, postUnlabelled, postRepeats, postLocals};
+ghost use Rattle.tree.specs.Post.{item, post, postNames, postExpressions, postOperations, postCommand, postCommands, postUnlabelled, postRepeats, postLocals};
 ghost use Rattle.tree.specs.Reads.{Lies, Ready, Fits, Grows, KindHere, Goes, Puts, PutsSuffix, PutsOne, Reads, Passes, freeOf, furtherMost, anArgument, aFurther, repeatedOnly, postRepeatedOnly, bodyAfter, Ended, Counted, After, Gives, Reading, ReadingAt, Is};
 
 // What follows the first suffix: where it ends, and whether the last suffix is a call.
@@ -106,10 +106,11 @@ pub(crate) fn expr(s: &mut [u32], n: usize, levels: usize, binding: u32, r: Answ
         return left;
     }
     let size = less(free_of(s, left), lo);
+    let place = place_of(s, n, left);
     let right = right_of(binding);
     let first = dyadic(s, n, levels, right, kind, left);
     let last = chain(s, n, levels, binding, right, first);
-    node(s, n, last, lo, size as u32, 0, DYADIC)
+    node(s, n, last, lo, size as u32, place, DYADIC)
 }
 
 // operator operand
@@ -181,10 +182,11 @@ fn suffixed(s: &mut [u32], n: usize, levels: usize, r: Answer) -> Answer
     let kind = kind_here(s, n, primary);
     if is_suffix(kind) {
         let size = less(free_of(s, primary), lo);
+        let place = place_of(s, n, primary);
         let first = suffix(s, n, levels, kind, primary);
         let last = suffixes(s, n, levels, kind == OPEN, first);
         let end = last.end;
-        return node(s, n, end, lo, size as u32, flag(last.call), SUFFIXED);
+        return node(s, n, end, lo, size as u32, place, suffixed_kind(last.call));
     }
     primary
 }

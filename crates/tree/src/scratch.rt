@@ -1,5 +1,6 @@
 // The state of the reading, and the functions that read and write single entries of scratch. The symbols stand at its front, three
 // entries each; the tree behind them.
+use crate::kinds::CALLED;
 use crate::kinds::NOTHING;
 use crate::kinds::SUFFIXED;
 ghost use Prim.Native.Nat.{_+_, _-_, _*_, _<_, _≤_};
@@ -8,8 +9,8 @@ ghost use mathlib.Core.Bool.{false};
 ghost use mathlib.Core.List.{[], _∷_};
 ghost use lib.ListN.{length};
 ghost use Rattle.language.specs.Reader.{Source, valueAt, placeAt, the, optional};
-ghost use Rattle.tree.specs.Post.{item, flag};
-ghost use Rattle.tree.specs.Reads.{Lies, Ready, Fits, Grows, Here, KindHere, Refuses, Adds, recordFrom, Seals, freeOf, CallHere, Reading, Is};
+ghost use Rattle.tree.specs.Post.{item, suffixedKind};
+ghost use Rattle.tree.specs.Reads.{Lies, Ready, Fits, Grows, Here, KindHere, Refuses, Adds, recordFrom, Seals, freeOf, CallHere, PlaceHere, Reading, Is};
 
 pub(crate) enum Answer {
     // the position of the next symbol, and the next free entry
@@ -160,10 +161,11 @@ pub(crate) fn seal(s: &mut [u32], n: usize, r: Answer, lo: usize)
     }
 }
 
-pub(crate) fn flag(b: bool) -> u32
-    ensures { λ x. ⌜ x ≡ flag b ⌝ }
+// The kind of a record with suffixes, by whether the last of them is a call.
+pub(crate) fn suffixed_kind(call: bool) -> u32
+    ensures { λ x. ⌜ x ≡ suffixedKind call ⌝ }
 {
-    if b { 1 } else { 0 }
+    if call { CALLED } else { SUFFIXED }
 }
 
 // Whether the expression that ends at the next free entry is a call: its record says so.
@@ -172,15 +174,22 @@ pub(crate) fn is_call(s: &[u32], n: usize, r: Answer) -> bool
     ensures { λ b. ⌜ CallHere (now (s .entry)) r b ⌝ }
 {
     match r {
-        Answer::Read(_, free) => {
-            if free < 2 {
-                return false;
-            }
-            if s[free - 1] == SUFFIXED {
-                return s[free - 2] == 1;
-            }
+        Answer::Read(_, free) => if free < 1 {
             false
-        }
+        } else {
+            s[free - 1] == CALLED
+        },
         Answer::Refused(_, _) => false,
+    }
+}
+
+// The place of the expression that ends at the next free entry.
+pub(crate) fn place_of(s: &[u32], n: usize, r: Answer) -> u32
+    requires { ⌜ Ready 0 (now s) n r ⌝ }
+    ensures { λ p. ⌜ PlaceHere (now (s .entry)) r p ⌝ }
+{
+    match r {
+        Answer::Read(_, free) => if free < 2 { 0 } else { s[free - 2] },
+        Answer::Refused(_, _) => 0,
     }
 }

@@ -146,17 +146,10 @@ use Rattle.tree.proofs.phrases.+arg+assign+block+body+call+chain+comman
 use Rattle.tree.proofs.phrases.valof.Reads as valof
 use Rattle.tree.proofs.phrases.valof.Kinds as valof-kinds
 use Rattle.tree.proofs.phrases.+arg+assign+block+body+call+chain+command+commas+dyadic+expr+for_to+form+forms+given+guard+index+key+labelled+list+listed+local+locals+monad+passed+plain+primary+repeated+rest+result+round+simple+suffix+suffixed+suffixes+switch+term+test+to_end+valof.Lts-valof as valof-lts
-use Rattle.tree.proofs.parts.a_name.Reads as a-name-reads
-use Rattle.tree.proofs.parts.atom.Reads as atom-reads
 use Rattle.tree.proofs.binding.begins_command.Reads as begins-command-reads
 use Rattle.tree.proofs.binding.binding_of.Reads as binding-of-reads
-use Rattle.tree.proofs.scratch.expect.Reads as expect-reads
-use Rattle.tree.proofs.scratch.flag.Reads as flag-reads
-use Rattle.tree.proofs.scratch.free_of.Reads as free-of-reads
 use Rattle.tree.proofs.binding.further_most.Reads as further-most-reads
-use Rattle.tree.proofs.parts.further_names.Reads as further-names-reads
 use Rattle.tree.proofs.binding.goes_on_assignment.Reads as goes-on-assignment-reads
-use Rattle.tree.proofs.scratch.is_call.Reads as is-call-reads
 use Rattle.tree.proofs.binding.is_guard.Reads as is-guard-reads
 use Rattle.tree.proofs.binding.is_label.Reads as is-label-reads
 use Rattle.tree.proofs.binding.is_leave.Reads as is-leave-reads
@@ -164,21 +157,29 @@ use Rattle.tree.proofs.binding.is_monadic.Reads as is-monadic-reads
 use Rattle.tree.proofs.binding.is_repeat.Reads as is-repeat-reads
 use Rattle.tree.proofs.binding.is_suffix.Reads as is-suffix-reads
 use Rattle.tree.proofs.binding.is_vector.Reads as is-vector-reads
-use Rattle.tree.proofs.scratch.kind_here.Reads as kind-here-reads
+use Rattle.tree.proofs.binding.reach_of.Reads as reach-of-reads
+use Rattle.tree.proofs.binding.right_of.Reads as right-of-reads
+use Rattle.tree.proofs.parts.a_name.Reads as a-name-reads
+use Rattle.tree.proofs.parts.atom.Reads as atom-reads
+use Rattle.tree.proofs.parts.further_names.Reads as further-names-reads
 use Rattle.tree.proofs.parts.label.Reads as label-reads
 use Rattle.tree.proofs.parts.labels.Reads as labels-reads
 use Rattle.tree.proofs.parts.leave.Reads as leave-reads
+use Rattle.tree.proofs.parts.optional_by.Reads as optional-by-reads
+use Rattle.tree.proofs.parts.vector.Reads as vector-reads
+use Rattle.tree.proofs.scratch.expect.Reads as expect-reads
+use Rattle.tree.proofs.scratch.free_of.Reads as free-of-reads
+use Rattle.tree.proofs.scratch.is_call.Reads as is-call-reads
+use Rattle.tree.proofs.scratch.kind_here.Reads as kind-here-reads
 use Rattle.tree.proofs.scratch.less.Reads as less-reads
 use Rattle.tree.proofs.scratch.mark.Reads as mark-reads
 use Rattle.tree.proofs.scratch.node.Reads as node-reads
 use Rattle.tree.proofs.scratch.optional.Reads as optional-reads
-use Rattle.tree.proofs.parts.optional_by.Reads as optional-by-reads
 use Rattle.tree.proofs.scratch.place_here.Reads as place-here-reads
-use Rattle.tree.proofs.binding.reach_of.Reads as reach-of-reads
+use Rattle.tree.proofs.scratch.place_of.Reads as place-of-reads
 use Rattle.tree.proofs.scratch.refuse.Reads as refuse-reads
-use Rattle.tree.proofs.binding.right_of.Reads as right-of-reads
 use Rattle.tree.proofs.scratch.seal.Reads as seal-reads
-use Rattle.tree.proofs.parts.vector.Reads as vector-reads
+use Rattle.tree.proofs.scratch.suffixed_kind.Reads as suffixed-kind-reads
 use Rattle.tree.proofs.phrases.+arg+assign+block+body+call+chain+command+commas+dyadic+expr+for_to+form+forms+given+guard+index+key+labelled+list+listed+local+locals+monad+passed+plain+primary+repeated+rest+result+round+simple+suffix+suffixed+suffixes+switch+term+test+to_end+valof.{statement}
 use Rattle.tree.proofs.phrases.+arg+assign+block+body+call+chain+command+commas+dyadic+expr+for_to+form+forms+given+guard+index+key+labelled+list+listed+local+locals+monad+passed+plain+primary+repeated+rest+result+round+simple+suffix+suffixed+suffixes+switch+term+test+to_end+valof.Tie.{close}
 
@@ -565,7 +566,7 @@ abbrev dyadic-cs : ℕ → dyadic-lts.Claims
 dyadic-cs t = (free-of-reads.Asked, free-of-reads.Learnt, expect-reads.Asked, expect-reads.Learnt, mark-reads.Asked, mark-reads.Learnt, expr-below t, expr.Post, seal-reads.Asked, seal-reads.Learnt)
 
 abbrev expr-cs : ℕ → expr-lts.Claims
-expr-cs t = (term-below t, term.Post, free-of-reads.Asked, free-of-reads.Learnt, expr-below t, expr.Post, kind-here-reads.Asked, kind-here-reads.Learnt, binding-of-reads.Asked, binding-of-reads.Learnt, less-reads.Asked, less-reads.Learnt, right-of-reads.Asked, right-of-reads.Learnt, dyadic-below t, dyadic.Post, chain-below t, chain.Post, node-reads.Asked, node-reads.Learnt)
+expr-cs t = (term-below t, term.Post, free-of-reads.Asked, free-of-reads.Learnt, expr-below t, expr.Post, kind-here-reads.Asked, kind-here-reads.Learnt, binding-of-reads.Asked, binding-of-reads.Learnt, less-reads.Asked, less-reads.Learnt, place-of-reads.Asked, place-of-reads.Learnt, right-of-reads.Asked, right-of-reads.Learnt, dyadic-below t, dyadic.Post, chain-below t, chain.Post, node-reads.Asked, node-reads.Learnt)
 
 abbrev for-to-cs : ℕ → for-to-lts.Claims
 for-to-cs t = (free-of-reads.Asked, free-of-reads.Learnt, expect-reads.Asked, expect-reads.Learnt, a-name-reads.Asked, a-name-reads.Learnt, expr-below t, expr.Post, optional-by-reads.Asked, optional-by-reads.Learnt, less-reads.Asked, less-reads.Learnt, command-below t, command.Post, node-reads.Asked, node-reads.Learnt)
@@ -634,7 +635,7 @@ abbrev suffix-cs : ℕ → suffix-lts.Claims
 suffix-cs t = (call-below t, call.Post, index-below t, index.Post)
 
 abbrev suffixed-cs : ℕ → suffixed-lts.Claims
-suffixed-cs t = (free-of-reads.Asked, free-of-reads.Learnt, primary-below t, primary.Post, kind-here-reads.Asked, kind-here-reads.Learnt, is-suffix-reads.Asked, is-suffix-reads.Learnt, less-reads.Asked, less-reads.Learnt, suffix-below t, suffix.Post, suffixes-below t, suffixes.Post, flag-reads.Asked, flag-reads.Learnt, node-reads.Asked, node-reads.Learnt)
+suffixed-cs t = (free-of-reads.Asked, free-of-reads.Learnt, primary-below t, primary.Post, kind-here-reads.Asked, kind-here-reads.Learnt, is-suffix-reads.Asked, is-suffix-reads.Learnt, less-reads.Asked, less-reads.Learnt, place-of-reads.Asked, place-of-reads.Learnt, suffix-below t, suffix.Post, suffixes-below t, suffixes.Post, suffixed-kind-reads.Asked, suffixed-kind-reads.Learnt, node-reads.Asked, node-reads.Learnt)
 
 abbrev suffixes-cs : ℕ → suffixes-lts.Claims
 suffixes-cs t = (less-reads.Asked, less-reads.Learnt, kind-here-reads.Asked, kind-here-reads.Learnt, is-suffix-reads.Asked, is-suffix-reads.Learnt, suffix-below t, suffix.Post)
@@ -981,26 +982,29 @@ expr-free-of-requires-2 t c κs = tt
 expr-less-requires : (t : ℕ) → expr-lts.Need-less-requires (expr-cs t) (expr-at t) expr.Post
 expr-less-requires t c κs = tt
 
+expr-place-of-requires : (t : ℕ) → expr-lts.Need-place-of-requires (expr-cs t) (expr-at t) expr.Post
+expr-place-of-requires t c κs = smaller (fitted (c .before .before .before .before .before .before .before .before .before .before .before .before .before .before .before .before .pre .1 .0) (c .before .before .before .before .before .before .before .before .before .before .expr .ensures .0) (c .before .before .before .before .before .before .before .before .before .before .expr .kept .0) (omega arith)) (omega arith)
+
 expr-right-of-requires : (t : ℕ) → expr-lts.Need-right-of-requires (expr-cs t) (expr-at t) expr.Post
-expr-right-of-requires t c κs = omega (arith, c .before .before .before .before .before .before .before .before .before .before .before .before .before .before .before .pre .0, c .before .before .before .before .before .before .before .before .before .before .before .before .before .before .before .pre .1, c .less .ensures, c .before .free-of2 .ensures, c .before .before .before .before .before .before .before .before .before .expr .ensures .0, c .before .before .before .before .before .before .before .before .before .expr .kept .0, alive (c .before .before .before .before .before .before .before .before .before .expr .result), c .before .before .before .before .before .before .before .before .before .before .before .free-of .ensures)
+expr-right-of-requires t c κs = omega (arith, c .before .before .before .before .before .before .before .before .before .before .before .before .before .before .before .before .before .pre .0, c .before .before .before .before .before .before .before .before .before .before .before .before .before .before .before .before .before .pre .1, c .before .before .less .ensures, c .before .before .before .free-of2 .ensures, c .before .before .before .before .before .before .before .before .before .before .before .expr .ensures .0, c .before .before .before .before .before .before .before .before .before .before .before .expr .kept .0, alive (c .before .before .before .before .before .before .before .before .before .before .before .expr .result), c .before .before .before .before .before .before .before .before .before .before .before .before .before .free-of .ensures)
 
 expr-dyadic-requires : (t : ℕ) → expr-lts.Need-dyadic-requires (expr-cs t) (expr-at t) expr.Post
-expr-dyadic-requires t c κs = omega (arith, c .before .before .before .before .before .before .before .before .before .before .before .before .before .before .before .before .before .pre .0, c .before .before .before .before .before .before .before .before .before .before .before .before .before .before .before .before .before .pre .1, c .before .right-of .ensures .1, c .before .before .less .ensures, c .before .before .before .free-of2 .ensures, c .before .before .before .before .before .before .before .before .before .before .before .expr .ensures .0, c .before .before .before .before .before .before .before .before .before .before .before .expr .kept .0, alive (c .before .before .before .before .before .before .before .before .before .before .before .expr .result), c .before .before .before .before .before .before .before .before .before .before .before .before .before .free-of .ensures, binding-positive (c .before .before .before .before .before .before .before .kind-here .result) (omega (arith, c .before .before .before .before .before .before .binding-of .ensures, c .before .before .before .before .before .if2 .left, c .before .before .before .before .before .before .before .before .before .before .before .before .before .before .before .if1 .left)))
+expr-dyadic-requires t c κs = omega (arith, c .before .before .before .before .before .before .before .before .before .before .before .before .before .before .before .before .before .before .before .pre .0, c .before .before .before .before .before .before .before .before .before .before .before .before .before .before .before .before .before .before .before .pre .1, c .before .right-of .ensures .1, c .before .before .before .before .less .ensures, c .before .before .before .before .before .free-of2 .ensures, c .before .before .before .before .before .before .before .before .before .before .before .before .before .expr .ensures .0, c .before .before .before .before .before .before .before .before .before .before .before .before .before .expr .kept .0, alive (c .before .before .before .before .before .before .before .before .before .before .before .before .before .expr .result), c .before .before .before .before .before .before .before .before .before .before .before .before .before .before .before .free-of .ensures, binding-positive (c .before .before .before .before .before .before .before .before .before .kind-here .result) (omega (arith, c .before .before .before .before .before .before .before .before .binding-of .ensures, c .before .before .before .before .before .before .before .if2 .left, c .before .before .before .before .before .before .before .before .before .before .before .before .before .before .before .before .before .if1 .left)))
 
 expr-chain-requires : (t : ℕ) → expr-lts.Need-chain-requires (expr-cs t) (expr-at t) expr.Post
-expr-chain-requires t c κs = omega (arith, c .before .before .before .before .before .before .before .before .before .before .before .before .before .before .before .before .before .before .before .before .before .pre .0, c .before .before .before .before .before .before .before .before .before .before .before .before .before .before .before .before .before .before .before .before .before .pre .1, c .before .before .before .dyadic .ensures .0, c .before .before .before .dyadic .kept .0, alive (c .before .before .before .dyadic .result), c .before .before .before .before .before .right-of .ensures .1, c .before .before .before .before .before .before .less .ensures, c .before .before .before .before .before .before .before .free-of2 .ensures, c .before .before .before .before .before .before .before .before .before .before .before .before .before .before .before .expr .ensures .0, c .before .before .before .before .before .before .before .before .before .before .before .before .before .before .before .expr .kept .0, alive (c .before .before .before .before .before .before .before .before .before .before .before .before .before .before .before .expr .result), c .before .before .before .before .before .before .before .before .before .before .before .before .before .before .before .before .before .free-of .ensures)
+expr-chain-requires t c κs = omega (arith, c .before .before .before .before .before .before .before .before .before .before .before .before .before .before .before .before .before .before .before .before .before .before .before .pre .0, c .before .before .before .before .before .before .before .before .before .before .before .before .before .before .before .before .before .before .before .before .before .before .before .pre .1, c .before .before .before .dyadic .ensures .0, c .before .before .before .dyadic .kept .0, alive (c .before .before .before .dyadic .result), c .before .before .before .before .before .right-of .ensures .1, c .before .before .before .before .before .before .before .before .less .ensures, c .before .before .before .before .before .before .before .before .before .free-of2 .ensures, c .before .before .before .before .before .before .before .before .before .before .before .before .before .before .before .before .before .expr .ensures .0, c .before .before .before .before .before .before .before .before .before .before .before .before .before .before .before .before .before .expr .kept .0, alive (c .before .before .before .before .before .before .before .before .before .before .before .before .before .before .before .before .before .expr .result), c .before .before .before .before .before .before .before .before .before .before .before .before .before .before .before .before .before .before .before .free-of .ensures)
 
 expr-cast-node : (t : ℕ) → expr-lts.Need-cast-node (expr-cs t) (expr-at t) expr.Post
-expr-cast-node t c = omega (arith, c .before .before .before .before .before .before .before .before .before .before .less .ensures, c .before .before .before .before .before .before .before .before .before .before .before .free-of2 .ensures, low (fitted (c .before .before .before .before .before .before .before .before .before .before .before .before .before .before .before .before .before .before .before .before .before .before .before .before .before .pre .1 .0) (c .before .before .before .before .before .before .before .before .before .before .before .before .before .before .before .before .before .before .before .expr .ensures .0) (c .before .before .before .before .before .before .before .before .before .before .before .before .before .before .before .before .before .before .before .expr .kept .0) (omega arith)), c .before .before .before .before .before .before .before .before .before .before .before .before .before .before .before .before .before .before .before .expr .kept .0, c .before .before .before .before .before .before .before .before .before .before .before .before .before .before .before .before .before .before .before .before .before .before .before .before .before .pre .1 .0 .small)
+expr-cast-node t c = omega (arith, c .before .before .before .before .before .before .before .before .before .before .before .before .less .ensures, c .before .before .before .before .before .before .before .before .before .before .before .before .before .free-of2 .ensures, low (fitted (c .before .before .before .before .before .before .before .before .before .before .before .before .before .before .before .before .before .before .before .before .before .before .before .before .before .before .before .pre .1 .0) (c .before .before .before .before .before .before .before .before .before .before .before .before .before .before .before .before .before .before .before .before .before .expr .ensures .0) (c .before .before .before .before .before .before .before .before .before .before .before .before .before .before .before .before .before .before .before .before .before .expr .kept .0) (omega arith)), c .before .before .before .before .before .before .before .before .before .before .before .before .before .before .before .before .before .before .before .before .before .expr .kept .0, c .before .before .before .before .before .before .before .before .before .before .before .before .before .before .before .before .before .before .before .before .before .before .before .before .before .before .before .pre .1 .0 .small)
 
 expr-node-requires : (t : ℕ) → expr-lts.Need-node-requires (expr-cs t) (expr-at t) expr.Post
-expr-node-requires t c κs = omega (arith, c .before .before .before .before .before .before .before .before .before .before .before .before .before .before .before .before .before .before .before .before .before .before .before .before .before .pre .0, c .before .before .before .before .before .before .before .before .before .before .before .before .before .before .before .before .before .before .before .before .before .before .before .before .before .pre .1, c .before .before .before .chain .ensures .0, c .before .before .before .chain .kept .0, alive (c .before .before .before .chain .result), c .before .before .before .before .before .before .before .dyadic .ensures .0, c .before .before .before .before .before .before .before .dyadic .kept .0, alive (c .before .before .before .before .before .before .before .dyadic .result), c .before .before .before .before .before .before .before .before .before .right-of .ensures .1, c .before .before .before .before .before .before .before .before .before .before .less .ensures, c .before .before .before .before .before .before .before .before .before .before .before .free-of2 .ensures, c .before .before .before .before .before .before .before .before .before .before .before .before .before .before .before .before .before .before .before .expr .ensures .0, c .before .before .before .before .before .before .before .before .before .before .before .before .before .before .before .before .before .before .before .expr .kept .0, alive (c .before .before .before .before .before .before .before .before .before .before .before .before .before .before .before .before .before .before .before .expr .result), c .before .before .before .before .before .before .before .before .before .before .before .before .before .before .before .before .before .before .before .before .before .free-of .ensures)
+expr-node-requires t c κs = omega (arith, c .before .before .before .before .before .before .before .before .before .before .before .before .before .before .before .before .before .before .before .before .before .before .before .before .before .before .before .pre .0, c .before .before .before .before .before .before .before .before .before .before .before .before .before .before .before .before .before .before .before .before .before .before .before .before .before .before .before .pre .1, c .before .before .before .chain .ensures .0, c .before .before .before .chain .kept .0, alive (c .before .before .before .chain .result), c .before .before .before .before .before .before .before .dyadic .ensures .0, c .before .before .before .before .before .before .before .dyadic .kept .0, alive (c .before .before .before .before .before .before .before .dyadic .result), c .before .before .before .before .before .before .before .before .before .right-of .ensures .1, c .before .before .before .before .before .before .before .before .before .before .before .before .less .ensures, c .before .before .before .before .before .before .before .before .before .before .before .before .before .free-of2 .ensures, c .before .before .before .before .before .before .before .before .before .before .before .before .before .before .before .before .before .before .before .before .before .expr .ensures .0, c .before .before .before .before .before .before .before .before .before .before .before .before .before .before .before .before .before .before .before .before .before .expr .kept .0, alive (c .before .before .before .before .before .before .before .before .before .before .before .before .before .before .before .before .before .before .before .before .before .expr .result), c .before .before .before .before .before .before .before .before .before .before .before .before .before .before .before .before .before .before .before .before .before .before .before .free-of .ensures)
 
 expr-same-length-3 : (t : ℕ) → expr-lts.Need-same-length-3 (expr-cs t) (expr-at t) expr.Post
-expr-same-length-3 t c = search needs
+expr-same-length-3 t c = c .before .before .node .kept .0 ∙ c .before .before .before .before .before .before .chain .kept .0 ∙ c .before .before .before .before .before .before .before .before .before .before .dyadic .kept .0 ∙ c .before .before .before .before .before .before .before .before .before .before .before .before .before .before .before .before .before .before .before .before .before .before .before .before .expr .kept .0
 
 expr-returns-3 : (t : ℕ) → expr-lts.Need-returns-3 (expr-cs t) (expr-at t) expr.Post
-expr-returns-3 t c = (then-grows (both (both (c .before .before .before .before .before .before .before .before .before .before .before .before .before .before .before .before .before .before .before .before .before .before .expr .ensures .0) (c .before .before .before .before .before .before .before .before .before .before .dyadic .ensures .0)) (c .before .before .before .before .before .before .chain .ensures .0)) (c .before .before .node .ensures .0) (omega arith), λ src l. (let l₁ = lies-still l (c .before .before .before .before .before .before .before .before .before .before .before .before .before .before .before .before .before .before .before .before .before .before .expr .ensures .0 .kept) in let l₂ = lies-still l₁ (c .before .before .before .before .before .before .before .before .before .before .dyadic .ensures .0 .kept) in expression-more l₁ _ _ _ (c .before .before .before .before .before .before .before .before .before .before .before .before .before .before .before .before .before .before .before .before .before .before .before .before .before .before .if1 .left) (c .before .before .before .before .before .before .before .before .before .before .before .before .before .before .before .before .before .before .before .before .before .before .before .before .before .before .before .before .pre .1 .1) (c .before .before .before .before .before .before .before .before .before .before .before .before .before .before .before .before .before .before .kind-here .ensures src l₁) (c .before .before .before .before .before .before .before .before .before .before .before .before .before .before .before .before .before .before .before .before .before .before .expr .ensures .1 src l) (c .before .before .before .before .before .before .before .before .before .before .before .before .right-of .ensures .0) (sym (c .before .before .before .before .before .before .before .before .before .before .before .before .before .before .before .before .before .binding-of .ensures) ∙ c .before .before .before .before .before .before .before .before .before .before .before .before .before .before .before .before .if2 .left) (c .before .before .before .before .before .before .before .before .before .before .before .before .before .before .before .before .before .before .before .before .before .before .before .before .free-of .ensures) (c .before .before .before .before .before .before .before .before .before .before .before .before .before .less .ensures ∙ ap (λ (y : ℕ). y - c .before .before .before .before .before .before .before .before .before .before .before .before .before .before .before .before .before .before .before .before .before .before .before .before .free-of .result) (c .before .before .before .before .before .before .before .before .before .before .before .before .before .before .free-of2 .ensures ∙ ap (λ (z : ℕ). freeOf z (c .before .before .before .before .before .before .before .before .before .before .before .before .before .before .before .before .before .before .before .before .before .before .expr .result)) (c .before .before .before .before .before .before .before .before .before .before .before .before .before .before .before .before .before .before .before .before .before .before .expr .kept .0))) (c .before .before .before .before .before .before .before .before .before .before .dyadic .ensures .1 src l₁ (c .before .before .before .before .before .before .before .before .before .before .before .before .before .before .before .before .before .before .kind-here .ensures src l₁)) (c .before .before .before .before .before .before .chain .ensures .1 src l₂) (c .before .before .node .ensures .1)))
+expr-returns-3 t c = (then-grows (both (both (c .before .before .before .before .before .before .before .before .before .before .before .before .before .before .before .before .before .before .before .before .before .before .before .before .expr .ensures .0) (c .before .before .before .before .before .before .before .before .before .before .dyadic .ensures .0)) (c .before .before .before .before .before .before .chain .ensures .0)) (c .before .before .node .ensures .0) (omega arith), λ src l. (let l₁ = lies-still l (c .before .before .before .before .before .before .before .before .before .before .before .before .before .before .before .before .before .before .before .before .before .before .before .before .expr .ensures .0 .kept) in let l₂ = lies-still l₁ (c .before .before .before .before .before .before .before .before .before .before .dyadic .ensures .0 .kept) in expression-more l₁ _ _ _ (c .before .before .before .before .before .before .before .before .before .before .before .before .before .before .before .before .before .before .before .before .before .before .before .before .before .before .before .before .if1 .left) (c .before .before .before .before .before .before .before .before .before .before .before .before .before .before .before .before .before .before .before .before .before .before .before .before .before .before .before .before .before .before .pre .1 .1) (c .before .before .before .before .before .before .before .before .before .before .before .before .before .before .before .before .before .before .before .before .kind-here .ensures src l₁) (c .before .before .before .before .before .before .before .before .before .before .before .before .before .before .before .before .before .before .before .before .before .before .before .before .expr .ensures .1 src l) (c .before .before .before .before .before .before .before .before .before .before .before .before .right-of .ensures .0) (sym (c .before .before .before .before .before .before .before .before .before .before .before .before .before .before .before .before .before .before .before .binding-of .ensures) ∙ c .before .before .before .before .before .before .before .before .before .before .before .before .before .before .before .before .before .before .if2 .left) (c .before .before .before .before .before .before .before .before .before .before .before .before .before .before .before .before .before .before .before .before .before .before .before .before .before .before .free-of .ensures) (c .before .before .before .before .before .before .before .before .before .before .before .before .before .before .before .less .ensures ∙ ap (λ (y : ℕ). y - c .before .before .before .before .before .before .before .before .before .before .before .before .before .before .before .before .before .before .before .before .before .before .before .before .before .before .free-of .result) (c .before .before .before .before .before .before .before .before .before .before .before .before .before .before .before .before .free-of2 .ensures ∙ ap (λ (z : ℕ). freeOf z (c .before .before .before .before .before .before .before .before .before .before .before .before .before .before .before .before .before .before .before .before .before .before .before .before .expr .result)) (c .before .before .before .before .before .before .before .before .before .before .before .before .before .before .before .before .before .before .before .before .before .before .before .before .expr .kept .0))) (c .before .before .before .before .before .before .before .before .before .before .before .before .before .place-of .ensures) (c .before .before .before .before .before .before .before .before .before .before .dyadic .ensures .1 src l₁ (c .before .before .before .before .before .before .before .before .before .before .before .before .before .before .before .before .before .before .before .before .kind-here .ensures src l₁)) (c .before .before .before .before .before .before .chain .ensures .1 src l₂) (c .before .before .node .ensures .1)))
 
 for-to-free-of-requires : (t : ℕ) → for-to-lts.Need-free-of-requires (for-to-cs t) (for-to-at t) for-to.Post
 for-to-free-of-requires t c κs = tt
@@ -1794,26 +1798,29 @@ suffixed-free-of-requires-2 t c κs = tt
 suffixed-less-requires : (t : ℕ) → suffixed-lts.Need-less-requires (suffixed-cs t) (suffixed-at t) suffixed.Post
 suffixed-less-requires t c κs = tt
 
+suffixed-place-of-requires : (t : ℕ) → suffixed-lts.Need-place-of-requires (suffixed-cs t) (suffixed-at t) suffixed.Post
+suffixed-place-of-requires t c κs = smaller (fitted (c .before .before .before .before .before .before .before .before .before .before .before .before .before .before .before .pre .1) (c .before .before .before .before .before .before .before .before .before .before .primary .ensures .0) (c .before .before .before .before .before .before .before .before .before .before .primary .kept .0) (omega arith)) (omega arith)
+
 suffixed-suffix-requires : (t : ℕ) → suffixed-lts.Need-suffix-requires (suffixed-cs t) (suffixed-at t) suffixed.Post
-suffixed-suffix-requires t c κs = (omega (arith, c .before .before .before .before .before .before .before .before .before .before .before .before .before .before .before .pre .0), smaller (fitted (c .before .before .before .before .before .before .before .before .before .before .before .before .before .before .before .pre .1) (c .before .before .before .before .before .before .before .before .before .before .primary .ensures .0) (c .before .before .before .before .before .before .before .before .before .before .primary .kept .0) (omega arith)) (omega arith))
+suffixed-suffix-requires t c κs = (omega (arith, c .before .before .before .before .before .before .before .before .before .before .before .before .before .before .before .before .before .pre .0), smaller (fitted (c .before .before .before .before .before .before .before .before .before .before .before .before .before .before .before .before .before .pre .1) (c .before .before .before .before .before .before .before .before .before .before .before .before .primary .ensures .0) (c .before .before .before .before .before .before .before .before .before .before .before .before .primary .kept .0) (omega arith)) (omega arith))
 
 suffixed-suffixes-requires : (t : ℕ) → suffixed-lts.Need-suffixes-requires (suffixed-cs t) (suffixed-at t) suffixed.Post
-suffixed-suffixes-requires t c κs = (omega (arith, c .before .before .before .before .before .before .before .before .before .before .before .before .before .before .before .before .before .before .before .pre .0), smaller (fitted (fitted (c .before .before .before .before .before .before .before .before .before .before .before .before .before .before .before .before .before .before .before .pre .1) (c .before .before .before .before .before .before .before .before .before .before .before .before .before .before .primary .ensures .0) (c .before .before .before .before .before .before .before .before .before .before .before .before .before .before .primary .kept .0) (omega arith)) (c .before .before .before .suffix .ensures .0) (c .before .before .before .suffix .kept .0) (omega arith)) (omega arith))
+suffixed-suffixes-requires t c κs = (omega (arith, c .before .before .before .before .before .before .before .before .before .before .before .before .before .before .before .before .before .before .before .before .before .pre .0), smaller (fitted (fitted (c .before .before .before .before .before .before .before .before .before .before .before .before .before .before .before .before .before .before .before .before .before .pre .1) (c .before .before .before .before .before .before .before .before .before .before .before .before .before .before .before .before .primary .ensures .0) (c .before .before .before .before .before .before .before .before .before .before .before .before .before .before .before .before .primary .kept .0) (omega arith)) (c .before .before .before .suffix .ensures .0) (c .before .before .before .suffix .kept .0) (omega arith)) (omega arith))
 
 suffixed-cast-node : (t : ℕ) → suffixed-lts.Need-cast-node (suffixed-cs t) (suffixed-at t) suffixed.Post
-suffixed-cast-node t c = omega (arith, c .before .before .before .before .before .before .before .before .before .less .ensures, c .before .before .before .before .before .before .before .before .before .before .free-of2 .ensures, low (fitted (c .before .before .before .before .before .before .before .before .before .before .before .before .before .before .before .before .before .before .before .before .before .before .before .pre .1) (c .before .before .before .before .before .before .before .before .before .before .before .before .before .before .before .before .before .before .primary .ensures .0) (c .before .before .before .before .before .before .before .before .before .before .before .before .before .before .before .before .before .before .primary .kept .0) (omega arith)), c .before .before .before .before .before .before .before .before .before .before .before .before .before .before .before .before .before .before .primary .kept .0, c .before .before .before .before .before .before .before .before .before .before .before .before .before .before .before .before .before .before .before .before .before .before .before .pre .1 .small)
+suffixed-cast-node t c = omega (arith, c .before .before .before .before .before .before .before .before .before .before .before .less .ensures, c .before .before .before .before .before .before .before .before .before .before .before .before .free-of2 .ensures, low (fitted (c .before .before .before .before .before .before .before .before .before .before .before .before .before .before .before .before .before .before .before .before .before .before .before .before .before .pre .1) (c .before .before .before .before .before .before .before .before .before .before .before .before .before .before .before .before .before .before .before .before .primary .ensures .0) (c .before .before .before .before .before .before .before .before .before .before .before .before .before .before .before .before .before .before .before .before .primary .kept .0) (omega arith)), c .before .before .before .before .before .before .before .before .before .before .before .before .before .before .before .before .before .before .before .before .primary .kept .0, c .before .before .before .before .before .before .before .before .before .before .before .before .before .before .before .before .before .before .before .before .before .before .before .before .before .pre .1 .small)
 
-suffixed-flag-requires : (t : ℕ) → suffixed-lts.Need-flag-requires (suffixed-cs t) (suffixed-at t) suffixed.Post
-suffixed-flag-requires t c κs = tt
+suffixed-suffixed-kind-requires : (t : ℕ) → suffixed-lts.Need-suffixed-kind-requires (suffixed-cs t) (suffixed-at t) suffixed.Post
+suffixed-suffixed-kind-requires t c κs = tt
 
 suffixed-node-requires : (t : ℕ) → suffixed-lts.Need-node-requires (suffixed-cs t) (suffixed-at t) suffixed.Post
-suffixed-node-requires t c κs = smaller (fitted (fitted (fitted (c .before .before .before .before .before .before .before .before .before .before .before .before .before .before .before .before .before .before .before .before .before .before .before .before .pre .1) (c .before .before .before .before .before .before .before .before .before .before .before .before .before .before .before .before .before .before .before .primary .ensures .0) (c .before .before .before .before .before .before .before .before .before .before .before .before .before .before .before .before .before .before .before .primary .kept .0) (omega arith)) (c .before .before .before .before .before .before .before .before .suffix .ensures .0) (c .before .before .before .before .before .before .before .before .suffix .kept .0) (omega arith)) (c .before .before .before .before .suffixes .ensures .0) (c .before .before .before .before .suffixes .kept .0) (omega arith)) (omega arith)
+suffixed-node-requires t c κs = smaller (fitted (fitted (fitted (c .before .before .before .before .before .before .before .before .before .before .before .before .before .before .before .before .before .before .before .before .before .before .before .before .before .before .pre .1) (c .before .before .before .before .before .before .before .before .before .before .before .before .before .before .before .before .before .before .before .before .before .primary .ensures .0) (c .before .before .before .before .before .before .before .before .before .before .before .before .before .before .before .before .before .before .before .before .before .primary .kept .0) (omega arith)) (c .before .before .before .before .before .before .before .before .suffix .ensures .0) (c .before .before .before .before .before .before .before .before .suffix .kept .0) (omega arith)) (c .before .before .before .before .suffixes .ensures .0) (c .before .before .before .before .suffixes .kept .0) (omega arith)) (omega arith)
 
 suffixed-same-length : (t : ℕ) → suffixed-lts.Need-same-length (suffixed-cs t) (suffixed-at t) suffixed.Post
-suffixed-same-length t c = search needs
+suffixed-same-length t c = c .before .before .node .kept .0 ∙ c .before .before .before .before .before .before .before .suffixes .kept .0 ∙ c .before .before .before .before .before .before .before .before .before .before .before .suffix .kept .0 ∙ c .before .before .before .before .before .before .before .before .before .before .before .before .before .before .before .before .before .before .before .before .before .before .before .before .primary .kept .0
 
 suffixed-returns : (t : ℕ) → suffixed-lts.Need-returns (suffixed-cs t) (suffixed-at t) suffixed.Post
-suffixed-returns t c = (then-grows (both (both (c .before .before .before .before .before .before .before .before .before .before .before .before .before .before .before .before .before .before .before .before .before .before .primary .ensures .0) (c .before .before .before .before .before .before .before .before .before .before .before .suffix .ensures .0)) (c .before .before .before .before .before .before .before .suffixes .ensures .0)) (c .before .before .node .ensures .0) (omega arith), λ src l. (let l₁ = lies-still l (c .before .before .before .before .before .before .before .before .before .before .before .before .before .before .before .before .before .before .before .before .before .before .primary .ensures .0 .kept) in let l₂ = lies-still l₁ (c .before .before .before .before .before .before .before .before .before .before .before .suffix .ensures .0 .kept) in suffixed-more l₁ _ _ (c .before .before .before .before .before .before .before .before .before .before .before .before .before .before .before .before .before .before .kind-here .ensures src l₁) (c .before .before .before .before .before .before .before .before .before .before .before .before .before .before .before .before .before .before .before .before .before .before .primary .ensures .1 src l) (sym (c .before .before .before .before .before .before .before .before .before .before .before .before .before .before .before .before .before .is-suffix .ensures) ∙ c .before .before .before .before .before .before .before .before .before .before .before .before .before .before .before .before .if1 .taken) (c .before .before .before .before .before .before .before .before .before .before .before .before .before .before .before .before .before .before .before .before .before .before .before .before .free-of .ensures) (c .before .before .before .before .before .before .before .before .before .before .before .before .before .less .ensures ∙ ap (λ (y : ℕ). y - c .before .before .before .before .before .before .before .before .before .before .before .before .before .before .before .before .before .before .before .before .before .before .before .before .free-of .result) (c .before .before .before .before .before .before .before .before .before .before .before .before .before .before .free-of2 .ensures ∙ ap (λ (z : ℕ). freeOf z (c .before .before .before .before .before .before .before .before .before .before .before .before .before .before .before .before .before .before .before .before .before .before .primary .result)) (c .before .before .before .before .before .before .before .before .before .before .before .before .before .before .before .before .before .before .before .before .before .before .primary .kept .0))) (c .before .before .before .flag .ensures) (c .before .before .before .before .before .before .before .before .before .before .before .suffix .ensures .1 src l₁ (c .before .before .before .before .before .before .before .before .before .before .before .before .before .before .before .before .before .before .kind-here .ensures src l₁)) (c .before .before .before .before .before .before .before .suffixes .ensures .1 src l₂) (c .before .before .node .ensures .1)))
+suffixed-returns t c = (then-grows (both (both (c .before .before .before .before .before .before .before .before .before .before .before .before .before .before .before .before .before .before .before .before .before .before .before .before .primary .ensures .0) (c .before .before .before .before .before .before .before .before .before .before .before .suffix .ensures .0)) (c .before .before .before .before .before .before .before .suffixes .ensures .0)) (c .before .before .node .ensures .0) (omega arith), λ src l. (let l₁ = lies-still l (c .before .before .before .before .before .before .before .before .before .before .before .before .before .before .before .before .before .before .before .before .before .before .before .before .primary .ensures .0 .kept) in let l₂ = lies-still l₁ (c .before .before .before .before .before .before .before .before .before .before .before .suffix .ensures .0 .kept) in suffixed-more l₁ _ _ (c .before .before .before .before .before .before .before .before .before .before .before .before .before .before .before .before .before .before .before .before .kind-here .ensures src l₁) (c .before .before .before .before .before .before .before .before .before .before .before .before .before .before .before .before .before .before .before .before .before .before .before .before .primary .ensures .1 src l) (sym (c .before .before .before .before .before .before .before .before .before .before .before .before .before .before .before .before .before .before .before .is-suffix .ensures) ∙ c .before .before .before .before .before .before .before .before .before .before .before .before .before .before .before .before .before .before .if1 .taken) (c .before .before .before .before .before .before .before .before .before .before .before .before .before .before .before .before .before .before .before .before .before .before .before .before .before .before .free-of .ensures) (c .before .before .before .before .before .before .before .before .before .before .before .before .before .before .before .less .ensures ∙ ap (λ (y : ℕ). y - c .before .before .before .before .before .before .before .before .before .before .before .before .before .before .before .before .before .before .before .before .before .before .before .before .before .before .free-of .result) (c .before .before .before .before .before .before .before .before .before .before .before .before .before .before .before .before .free-of2 .ensures ∙ ap (λ (z : ℕ). freeOf z (c .before .before .before .before .before .before .before .before .before .before .before .before .before .before .before .before .before .before .before .before .before .before .before .before .primary .result)) (c .before .before .before .before .before .before .before .before .before .before .before .before .before .before .before .before .before .before .before .before .before .before .before .before .primary .kept .0))) (c .before .before .before .before .before .before .before .before .before .before .before .before .before .place-of .ensures) (c .before .before .before .suffixed-kind .ensures) (c .before .before .before .before .before .before .before .before .before .before .before .suffix .ensures .1 src l₁ (c .before .before .before .before .before .before .before .before .before .before .before .before .before .before .before .before .before .before .before .before .kind-here .ensures src l₁)) (c .before .before .before .before .before .before .before .suffixes .ensures .1 src l₂) (c .before .before .node .ensures .1)))
 
 suffixed-same-length-2 : (t : ℕ) → suffixed-lts.Need-same-length-2 (suffixed-cs t) (suffixed-at t) suffixed.Post
 suffixed-same-length-2 t c = search needs
@@ -2207,6 +2214,7 @@ pub +arg+assign+block+body+call+chain+command+commas+dyadic+expr+for-to+form+for
     (expr-returns-2 t)
     (expr-free-of-requires-2 t)
     (expr-less-requires t)
+    (expr-place-of-requires t)
     (expr-right-of-requires t)
     (expr-dyadic-requires t)
     (expr-chain-requires t)
@@ -2549,10 +2557,11 @@ pub +arg+assign+block+body+call+chain+command+commas+dyadic+expr+for-to+form+for
     (suffixed-is-suffix-requires t)
     (suffixed-free-of-requires-2 t)
     (suffixed-less-requires t)
+    (suffixed-place-of-requires t)
     (suffixed-suffix-requires t)
     (suffixed-suffixes-requires t)
     (suffixed-cast-node t)
-    (suffixed-flag-requires t)
+    (suffixed-suffixed-kind-requires t)
     (suffixed-node-requires t)
     (suffixed-same-length t)
     (suffixed-returns t)
