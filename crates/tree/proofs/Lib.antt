@@ -19,3 +19,4 @@ pub mod Assignments
 pub mod Decoded
 pub mod Programs
 pub mod Stages
+pub mod Examples

@@ -1,0 +1,152 @@
+-- Worked examples by computation: what small texts leave in scratch, and what is refused.
+use Prim.Native.Nat.{ℕ}
+use Prim.Native.String.{String}
+use mathlib.Core.Path.{_≡_, refl}
+use mathlib.Core.Bool.{false}
+use mathlib.Core.List.{List, [], _∷_, _++_}
+use native.Mathlib.Omega.{arith}
+use lib.ListN.{length, take, drop, replicate}
+use Rattle.text.specs.Written.{bytes}
+use Rattle.language.specs.Symbols.{Symbol}
+use Rattle.language.specs.Tree.{placeOf}
+use Rattle.language.specs.Source.{Symbols, good, faulty, symbolsOf, Read, read, refused, parsed}
+use Rattle.language.proofs.Texts.{symbolsIn, answer, times}
+use Rattle.symbols.specs.Read.{entries, outcome}
+use Rattle.tree.specs.Post.{suffixedKind, postName, postNames, postPositive, postConstant, postLabels, labelled, repeated, post, postBody, bodyWord, postFunctions, postProgram}
+use Rattle.tree.specs.Read.{decoded, sourceIn, unfit, treeRead}
+use Rattle.tree.specs.declared.TreeRead.{TreeRead}
+use Rattle.tree.specs.declared.TreeRead.the-variants as Answers
+use Rattle.tree.proofs.Stages.{enough, asAnswer, stages}
+
+-- the entries of a text's tree; none if it is refused
+abbrev entriesOf : Read → List ℕ
+entriesOf (read p) = postProgram p
+entriesOf (refused number place) = []
+
+unfoldable treeIn : String → List ℕ
+unfolding answer suffixedKind placeOf postName postNames postPositive postConstant postLabels labelled repeated post postBody bodyWord postFunctions postProgram
+treeIn text = entriesOf (parsed (bytes text))
+
+-- so many entries of the body, where a text is one function without parameters: LET, the function's item and its name are eight
+unfoldable bodyIn : (size : ℕ) → String → List ℕ
+unfolding treeIn
+bodyIn size text = take size (drop 8 (treeIn text))
+
+-- what is answered for a text, with so many entries of scratch
+abbrev then : (room size : ℕ) → Symbols → TreeRead
+then room size (good ss) = treeRead (outcome room (good ss) .scratch) (length ss) size
+then room size (faulty number place) = Answers.Refused number place
+
+unfoldable answerWith : (room : ℕ) → (text : List ℕ) → TreeRead
+unfolding treeIn decoded sourceIn unfit treeRead entries
+answerWith room text = then room (length text) (symbolsOf text)
+
+-- ---- the whole
+
+-- the six symbols of LET F() = 1: kind, value and place of each
+abbrev six : List ℕ
+six =
+    (3 ∷ 3 ∷ 0 ∷ []) ++ (59 ∷ 1 ∷ 4 ∷ []) ++ (51 ∷ 0 ∷ 5 ∷ []) ++ (52 ∷ 0 ∷ 6 ∷ []) ++ (39 ∷ 0 ∷ 8 ∷ []) ++ (60 ∷ 1 ∷ 10 ∷ [])
+
+-- they stand at the beginning of scratch of 8 * 6 + 64 entries, and zeros after them
+whole-before : outcome 112 (symbolsIn "LET F() = 1") .scratch ≡ six ++ replicate 94 0
+unfolding symbolsIn entries
+whole-before = refl
+
+-- there 18 entries of symbols and 16 of the tree end at 34
+whole : treeRead (six ++ replicate 94 0) 6 11 ≡ Answers.Read 34
+unfolding answerWith
+whole = refl
+
+-- and these are the 16: 14 and LET, 12 and 0, the name F, the number 1, and the record of a function that is = its body
+whole-entries :
+    treeIn "LET F() = 1" ≡
+    (14 ∷ 3 ∷ []) ++ (12 ∷ 0 ∷ []) ++ (0 ∷ 1 ∷ 4 ∷ 59 ∷ []) ++ (0 ∷ 1 ∷ 10 ∷ 60 ∷ []) ++ (8 ∷ 0 ∷ 0 ∷ 39 ∷ [])
+unfolding treeIn
+whole-entries = refl
+
+-- ---- two labels before one command
+
+-- a label: the size of what follows, CASE, the number, and the record with the label's place
+abbrev case-48 : List ℕ
+case-48 = (8 ∷ 28 ∷ []) ++ (0 ∷ 48 ∷ 35 ∷ 60 ∷ []) ++ (4 ∷ 0 ∷ 30 ∷ 28 ∷ [])
+
+abbrev case-5 : List ℕ
+case-5 = (8 ∷ 28 ∷ []) ++ (0 ∷ 5 ∷ 44 ∷ 60 ∷ []) ++ (4 ∷ 0 ∷ 39 ∷ 28 ∷ [])
+
+-- F(): the name, a call with no arguments, and the record: a name of 4 entries, the place of F, and a call is last
+abbrev called : List ℕ
+called = (0 ∷ 1 ∷ 47 ∷ 59 ∷ []) ++ (0 ∷ 51 ∷ []) ++ (6 ∷ 4 ∷ 47 ∷ 67 ∷ [])
+
+-- both labels stand before the call, and the record says that they take 20 entries
+labels :
+    bodyIn 44 "LET F() BE SWITCHON X INTO $( CASE 48: CASE 5: F() $)" ≡
+    (0 ∷ 1 ∷ 20 ∷ 59 ∷ []) ++ (34 ∷ 0 ∷ []) ++ case-48 ++ case-5 ++ called ++ (30 ∷ 20 ∷ 0 ∷ 65 ∷ []) ++ (40 ∷ 4 ∷ 0 ∷ 26 ∷ [])
+unfolding bodyIn
+labels = refl
+
+-- ---- expressions
+
+-- a chain is one record, with the place of A: A, and the items - B and - C
+chain :
+    bodyIn 20 "LET F() = A-B-C" ≡
+    (0 ∷ 1 ∷ 10 ∷ 59 ∷ []) ++ (4 ∷ 36 ∷ 0 ∷ 1 ∷ 12 ∷ 59 ∷ []) ++ (4 ∷ 36 ∷ 0 ∷ 1 ∷ 14 ∷ 59 ∷ []) ++ (16 ∷ 4 ∷ 10 ∷ 64 ∷ [])
+unfolding bodyIn
+chain = refl
+
+-- a call with two arguments, and an index, which is last: the record's kind is 63
+index-last :
+    bodyIn 28 "LET G() = F(A,B)!C" ≡
+    (0 ∷ 1 ∷ 10 ∷ 59 ∷ []) ++ (12 ∷ 51 ∷ 4 ∷ 0 ∷ 0 ∷ 1 ∷ 12 ∷ 59 ∷ 4 ∷ 0 ∷ 0 ∷ 1 ∷ 14 ∷ 59 ∷ []) ++ (4 ∷ 49 ∷ 0 ∷ 1 ∷ 17 ∷ 59 ∷ []) ++ (24 ∷ 4 ∷ 10 ∷ 63 ∷ [])
+unfolding bodyIn
+index-last = refl
+
+-- an index and then a call: 67
+call-last :
+    bodyIn 22 "LET G() = F!A(B)" ≡
+    (0 ∷ 1 ∷ 10 ∷ 59 ∷ []) ++ (4 ∷ 49 ∷ 0 ∷ 1 ∷ 12 ∷ 59 ∷ []) ++ (6 ∷ 51 ∷ 4 ∷ 0 ∷ 0 ∷ 1 ∷ 14 ∷ 59 ∷ []) ++ (18 ∷ 4 ∷ 10 ∷ 67 ∷ [])
+unfolding bodyIn
+call-last = refl
+
+-- ---- refused
+
+-- an expression is wanted at the end: 6, and the place is the text's length
+at-end : answerWith 136 (bytes "LET F() =") ≡ Answers.Refused 6 9
+unfolding answerWith
+at-end = refl
+
+-- 64 minuses nest; the 65th is 7, at its place
+levels-64 : answerWith 648 (bytes "LET F()=" ++ (times 64 (bytes "-") ++ bytes "A")) ≡ Answers.Read 482
+unfolding answerWith times
+levels-64 = refl
+
+levels-65 : answerWith 656 (bytes "LET F()=" ++ (times 65 (bytes "-") ++ bytes "A")) ≡ Answers.Refused 7 72
+unfolding answerWith times
+levels-65 = refl
+
+-- one entry fewer than 8 * 6 + 64
+too-short : treeRead (six ++ replicate 93 0) 6 11 ≡ Answers.TooShort
+unfolding answerWith
+too-short = refl
+
+-- ---- the laws of both stages, for LET F() = 1
+
+abbrev text : List ℕ
+text = bytes "LET F() = 1"
+
+abbrev symbols : List Symbol
+symbols = decoded 6 six
+
+symbols-are : symbolsOf text ≡ good symbols
+unfolding symbolsIn decoded
+symbols-are = refl
+
+-- 8 * 11 + 64 entries are enough
+enough-here : unfit 152 6 ≡ false
+unfolding decoded
+enough-here = enough text symbols 152 symbols-are (omega arith) (omega arith)
+
+-- and with them the answer is what the definition of both stages says
+stages-here : treeRead (outcome 152 (good symbols) .scratch) 6 11 ≡ asAnswer 6 (parsed text)
+unfolding decoded
+stages-here = stages text symbols 152 symbols-are (omega arith) (omega arith)
