@@ -1,3 +1,8 @@
+-- Expressions and commands: one proof, since they call one another.
+-- The measure is 64 for each level left and a rank below 64: a call that opens a level takes one, and every other call goes to a
+-- smaller rank. An expression's rank grows with its binding: 20 and four for each step of it. Below stand its operands, from 16 to 9;
+-- above it lists of expressions, 50 to 52, what commands are made of, 51 to 59, a command 55, and 60 and 61 for what stands after labels.
+-- Each need is answered by a law of the files beside this one: `Fits` by what the parts leave, then what they read.
 use Rattle.tree.proofs.Steps.{here, again, nothing, goes-on, adds-on, refuses-on, _then_}
 use Rattle.tree.proofs.Helpers.{alive, base, low, fitted, enlarged, smaller, weaker, both, then-grows, grows-then, grows-fits, grows-more, as-grows, itself}
 use Rattle.tree.proofs.Symbols.{lies-still}
