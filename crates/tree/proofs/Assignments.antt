@@ -13,7 +13,8 @@ use Rattle.language.specs.Binding.{LOOSEST, goesOnAssignment}
 use Rattle.language.specs.Expressions as E
 use Rattle.language.specs.Commands as C
 use Rattle.language.specs.Grammar.{within, readers}
-use Rattle.tree.specs.Reads.{KindHere, Goes, Is, PutsOne, Counted, Reads, Refuses, Adds, recordFrom, anArgument, aFurther, CallHere, After, Passes, freeOf}
+use Rattle.tree.specs.Reads.{KindHere, Goes, Is, Reads, Refuses, Adds, recordFrom, Passes, freeOf}
+use Rattle.tree.specs.Between.{PutsOne, Counted, anArgument, aFurther, CallHere, After}
 use Rattle.tree.specs.Post.{closed, post, postExpressions, postSides, postFirst, postUnlabelled}
 use Rattle.tree.proofs.Steps.{follow, bind, look, here, again, added, adds-on, goes-on, _then_, nothing, stopped}
 use Rattle.tree.proofs.Symbols.{stays}

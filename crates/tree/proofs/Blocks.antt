@@ -16,7 +16,8 @@ use Rattle.language.specs.Expressions as E
 use Rattle.language.specs.Expressions.{Inside, inside, shut, opening}
 use Rattle.language.specs.Commands as C
 use Rattle.language.specs.Grammar.{within, readers}
-use Rattle.tree.specs.Reads.{Lies, KindHere, Goes, Puts, Reads, Refuses, Adds, recordFrom, Seals, freeOf, Repeated, repeatedBy, repeatedOnly, postRepeatedOnly, opened, bodyAfter}
+use Rattle.tree.specs.Reads.{Lies, KindHere, Goes, Puts, Reads, Refuses, Adds, recordFrom, Seals, freeOf}
+use Rattle.tree.specs.Between.{Repeated, repeatedBy, repeatedOnly, postRepeatedOnly, opened, bodyAfter}
 use Rattle.tree.specs.Post.{closed, post, postName, postBy, postLabels, postCommand, postCommands, postUnlabelled, postRepeats, postLocals, labelled, repeated}
 use Rattle.tree.proofs.Steps.{follow, bind, here, added, adds-on, goes-on, _then_, nothing, stopped}
 use Rattle.tree.proofs.Symbols.{mapped, the-is, inside as among}

@@ -9,7 +9,8 @@ use lib.Seq.{getD-take, length-take-le, getD-append-add}
 use lib.Dec.{eqb}
 use Rattle.language.specs.Tree as T
 use Rattle.language.specs.Tree.{Expression, isCall, endsInCall, placeOf}
-use Rattle.tree.specs.Reads.{Ready, CallHere, PlaceHere}
+use Rattle.tree.specs.Reads.{Ready}
+use Rattle.tree.specs.Between.{CallHere, PlaceHere}
 use Rattle.tree.specs.Post.{CALLED, suffixedKind, closed, post, postName, postCommand, postSuffixes, postOperations}
 use Rattle.tree.proofs.Helpers.{free-is, free-of-refused, room-is}
 use Rattle.tree.specs.declared.scratch.Answer.{Answer}

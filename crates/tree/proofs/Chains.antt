@@ -8,13 +8,14 @@ use lib.ListN.{length, length-append}
 use lib.Dec.{eqb}
 use borrow.Author.Tests.{eq-eqb, ne-eqb}
 use Rattle.language.specs.Tree as T
-use Rattle.language.specs.Tree.{Expressions, Suffixes, Operations, withOperations, withSuffixes}
+use Rattle.language.specs.Tree.{Expressions, Suffixes, Operations, withOperations, withSuffixes, count, endsInCall}
 use Rattle.language.specs.Reader.{Source, Out, ok, no, onOut, kindAt, manyUpTo, many}
 use Rattle.language.specs.Binding.{bindingOf, isSuffix, RELATION}
 use Rattle.language.specs.Expressions as E
 use Rattle.language.specs.Expressions.{Inside}
 use Rattle.language.specs.Grammar.{within}
-use Rattle.tree.specs.Reads.{Lies, KindHere, Goes, Puts, PlaceHere, PutsSuffix, EndedSoFar, Ended, PutsOne, CountedSoFar, Counted, Reads, Adds, recordFrom, freeOf, rightOf, furtherMost}
+use Rattle.tree.specs.Reads.{Lies, KindHere, Goes, Puts, Reads, Adds, recordFrom, freeOf}
+use Rattle.tree.specs.Between.{PlaceHere, PutsSuffix, Ended, PutsOne, Counted, rightOf, furtherMost}
 use Rattle.tree.specs.Post.{closed, suffixedKind, post, postExpressions, postSuffixes, postOperations}
 use Rattle.tree.proofs.Steps.{follow, bind, look, here, added, adds-on, goes-on, _then_, nothing}
 use Rattle.tree.proofs.Lists.{turn, last}
@@ -95,7 +96,11 @@ module _ {src : Source} {n : ℕ} {s₀ : List ℕ} (l : Lies src n s₀) (size 
       ap (λ (o : Out Suffixes). onOut o (λ ss q. ok (withSuffixes e ss) q)) (first-suffix (within x) src n at (l .count) (omega arith) (sym (ap isSuffix (k .here at free y)) ∙ hb)) ∙ nests (E.suffix (within x) src at) (λ q. manyUpTo (n - 1) T.noSuffixes isSuffix (E.suffix (within x)) src q) (λ ss q. ok (withSuffixes e ss) q))
       (follow size d₂ (goes-on d₃ then adds-on d₄) (λ put w h q₂. follow size d₃ (adds-on d₄) (λ ss v g q₃. added size d₄ (record { same = ap (λ (u : List ℕ). post e ++ (w ++ (u ++ recordFrom lo value place tag (freeOf size r₃)))) (g .same) ∙ chained (post e) w (postSuffixes ss) (postSuffixes (put ss)) (freeOf size r₃ - lo) value place tag (omega (arith, ap length (g .same))) (omega arith) (h .puts ss) ∙ ap (λ (p : ℕ). closed (post e ++ postSuffixes (put ss)) (length (post e)) p tag) (ep .here (z .next) (z .free) (z .before) e (z .reads) (z .stands)) ∙ ap (λ (p : ℕ). closed (post e ++ postSuffixes (put ss)) (length (post e)) (T.placeOf e) p) (et ∙ ap suffixedKind (sym (h .ends false ss ∙ g .ends))) ∙ sym (post-suffixed e (put ss) (grown w (postSuffixes ss) (postSuffixes (put ss)) (h .puts ss) (h .some))) })))))
 
--- suffixes so far
+-- suffixes so far: whether the last of all is a call, where `before` says so of the one before them
+pub record EndedSoFar (before last : Bool) (put : Suffixes → Suffixes) (words : List ℕ) : Type 0 where
+  pub puts : (rest : Suffixes) → postSuffixes (put rest) ≡ words ++ postSuffixes rest
+  pub ends : (rest : Suffixes) → endsInCall before (put rest) ≡ endsInCall last rest
+
 pub suffix-first : {b : Bool} → EndedSoFar b b (λ ss. ss) []
 suffix-first = record { puts = λ rest. refl; ends = λ rest. refl }
 
@@ -111,7 +116,11 @@ pub no-suffix-ended : {b : Bool} → Ended b b T.noSuffixes []
 unfolding postSuffixes T.endsInCall
 no-suffix-ended = record { same = refl; ends = refl }
 
--- expressions so far
+-- expressions so far: how many they are
+pub record CountedSoFar (number : ℕ) (put : Expressions → Expressions) (words : List ℕ) : Type 0 where
+  pub puts : (rest : Expressions) → postExpressions (put rest) ≡ words ++ postExpressions rest
+  pub many : (rest : Expressions) → count (put rest) ≡ count rest + number
+
 pub expression-first : CountedSoFar 0 (λ es. es) []
 expression-first = record { puts = λ rest. refl; many = λ rest. omega arith }
 

@@ -10,7 +10,8 @@ use Rattle.language.specs.Reader.{Source, kindAt}
 use Rattle.language.specs.Binding.{isMonadic}
 use Rattle.language.specs.Expressions as E
 use Rattle.language.specs.Grammar.{within}
-use Rattle.tree.specs.Reads.{KindHere, Goes, PutsSuffix, Reads, atomic}
+use Rattle.tree.specs.Reads.{KindHere, Goes, Reads}
+use Rattle.tree.specs.Between.{PutsSuffix, atomic}
 use Rattle.tree.specs.Post.{post}
 use Rattle.tree.proofs.Steps.{here}
 use Rattle.tree.specs.declared.scratch.Answer.{Answer}

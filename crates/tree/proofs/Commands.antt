@@ -16,7 +16,8 @@ use Rattle.language.specs.Binding.{LOOSEST, isRepeat, isGuard, isLeave}
 use Rattle.language.specs.Expressions as E
 use Rattle.language.specs.Commands as C
 use Rattle.language.specs.Grammar.{within, readers}
-use Rattle.tree.specs.Reads.{Lies, Here, KindHere, Goes, Puts, Reads, Adds, recordFrom, Seals, freeOf, leaving, repeatedBy, repeatedOnly, postRepeatedOnly}
+use Rattle.tree.specs.Reads.{Lies, Here, KindHere, Goes, Puts, Reads, Adds, recordFrom, Seals, freeOf}
+use Rattle.tree.specs.Between.{leaving, repeatedBy, repeatedOnly, postRepeatedOnly}
 use Rattle.tree.specs.Post.{closed, post, postCommand, postUnlabelled, postRepeats, repeated}
 use Rattle.tree.proofs.Steps.{follow, bind, here, added, adds-on, goes-on, _then_, nothing}
 use Rattle.tree.proofs.Symbols.{placed, stays, inside as among}

@@ -11,7 +11,8 @@ use Rattle.language.specs.Tree as T
 use Rattle.language.specs.Tree.{Simple, Constant}
 use Rattle.language.specs.Reader.{Source, Out, ok, no, onOut, kindAt, valueAt, placeAt, is, unexpected, any, here as place-here, the, aName}
 use Rattle.language.specs.Expressions.{numeral, quotation, truth, named, literal, truthLiteral, known as knownName, simple, positive}
-use Rattle.tree.specs.Reads.{Lies, Here, KindHere, Reads, Refuses, Adds, recordFrom, freeOf, atomic, leaving}
+use Rattle.tree.specs.Reads.{Lies, Here, KindHere, Reads, Refuses, Adds, recordFrom, freeOf}
+use Rattle.tree.specs.Between.{atomic, leaving}
 use Rattle.tree.specs.Post.{leaf, post, postName, postUnlabelled, postPositive, postConstant}
 use Rattle.tree.proofs.Steps.{bind, here, added, adds-on, stopped}
 use Rattle.tree.proofs.Symbols.{placed, mapped, the-is, inside}

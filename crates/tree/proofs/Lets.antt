@@ -15,7 +15,9 @@ use Rattle.language.specs.Binding.{LOOSEST}
 use Rattle.language.specs.Expressions as E
 use Rattle.language.specs.Commands as C
 use Rattle.language.specs.Grammar.{within, readers}
-use Rattle.tree.specs.Reads.{KindHere, Goes, Puts, PutsOne, Before, Passes, Reads, Adds, recordFrom, Seals, anArgument, aFurther, aFurtherName, Gives, freeOf}
+use Rattle.tree.specs.Reads.{KindHere, Goes, Puts, Passes, Reads, Adds, recordFrom, Seals, freeOf}
+use Rattle.tree.specs.Between.{PutsOne, anArgument, aFurther, aFurtherName, Gives}
+use Rattle.tree.proofs.Lists.{Before}
 use Rattle.tree.specs.Post.{item, closed, postName, postNames, postConstant, postExpressions, postLocals}
 use Rattle.tree.proofs.Steps.{follow, bind, here, added, adds-on, goes-on, _then_, nothing}
 use Rattle.tree.proofs.Lists.{sealed}

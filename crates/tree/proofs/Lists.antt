@@ -7,11 +7,35 @@ use native.Mathlib.Omega.{arith}
 use lib.ListN.{length, take, set, length-append}
 use lib.Seq.{length-take-le}
 use Rattle.language.specs.Reader.{Source, Out, ok, no, Reader, onOut, manyUpTo, kindAt}
-use Rattle.tree.specs.Reads.{Wrote, GoesBy, Goes, Puts, Reads, PartlyBy, PartlyAs, Partly, AddsBy, Adds, SealsBy, Seals, freeOf}
+use Rattle.tree.specs.Reads.{Wrote, GoesBy, Goes, Puts, Reads, AddsBy, Adds, SealsBy, Seals, freeOf}
 use Rattle.tree.proofs.Steps.{here, nothing}
 use Rattle.tree.specs.Post.{item}
 use Rattle.tree.specs.declared.scratch.Answer.{Answer}
 use Rattle.tree.specs.declared.scratch.Answer.the-variants.{Read, Refused}
+
+-- a list's items so far, and what is said of them: `rest` reads what is still to come
+pub record Part {A : Type 0} (out : Out A) (rest : ℕ → Out A) (Says : (A → A) → List ℕ → Type 0) (free : ℕ) (s s′ : List ℕ) (next nf : ℕ) : Type 0 where
+  pub put : A → A
+  pub words : List ℕ
+  pub is : out ≡ onOut (rest next) (λ more m. ok (put more) m)
+  pub says : Says put words
+  pub written : take nf s′ ≡ take free s ++ words
+  pub size : nf ≡ free + length words
+
+abbrev pub PartlyBy : {A : Type 0} → (ℕ → Out A) → (ℕ → Out A) → ((A → A) → List ℕ → Type 0) → List ℕ → List ℕ → Answer → Answer → Type 0
+PartlyBy read rest Says s s′ (Refused number at) r′ = r′ ≡ Refused number at
+PartlyBy read rest Says s s′ (Read at free) (Refused number p) = read at ≡ no number p
+PartlyBy read rest Says s s′ (Read at free) (Read next nf) = Part (read at) rest Says free s s′ next nf
+
+pub record PartlyAs {A : Type 0} (read rest : ℕ → Out A) (Says : (A → A) → List ℕ → Type 0) (s s′ : List ℕ) (r r′ : Answer) : Type 0 where
+  pub by : PartlyBy read rest Says s s′ r r′
+
+-- the words of the items so far stand before those of the items after them
+pub record Before {A : Type 0} (enc : A → List ℕ) (put : A → A) (words : List ℕ) : Type 0 where
+  pub puts : (rest : A) → enc (put rest) ≡ words ++ enc rest
+
+abbrev pub Partly : {A : Type 0} → (ℕ → Out A) → (ℕ → Out A) → (A → List ℕ) → List ℕ → List ℕ → Answer → Answer → Type 0
+Partly read rest enc s s′ r r′ = PartlyAs read rest (Before enc) s s′ r r′
 
 set-between : (a b : List ℕ) (i x z : ℕ) → i ≡ length a → set (a ++ (x ∷ b)) i z ≡ a ++ (z ∷ b)
 set-between [] b zero x z e = refl

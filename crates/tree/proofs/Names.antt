@@ -12,7 +12,8 @@ use Rattle.language.specs.Reader.{Source, Out, ok, no, onOut, kindAt, valueAt, 
 use Rattle.language.specs.Expressions as E
 use Rattle.language.specs.Commands as C
 use Rattle.language.specs.Grammar.{within, readers}
-use Rattle.tree.specs.Reads.{Lies, Here, KindHere, Goes, Puts, Reads, aFurtherName}
+use Rattle.tree.specs.Reads.{Lies, Here, KindHere, Goes, Puts, Reads}
+use Rattle.tree.specs.Between.{aFurtherName}
 use Rattle.tree.specs.Post.{leaf, postName, postNames, postConstant, postBy}
 use Rattle.tree.proofs.Steps.{bind, here, goes-on, nothing}
 use Rattle.tree.proofs.Symbols.{mapped, the-is, stays}

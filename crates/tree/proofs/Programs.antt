@@ -17,7 +17,8 @@ use Rattle.language.specs.Expressions as E
 use Rattle.language.specs.Commands as C
 use Rattle.language.specs.Grammar as G
 use Rattle.language.specs.Grammar.{within}
-use Rattle.tree.specs.Reads.{KindHere, Goes, Puts, Reads, Refuses, Adds, recordFrom, Seals, Passes, freeOf, aFurtherName, Bodies, itemList, functionList, globalsAfter, manifestsAfter, functionsAfter, declarationAfter, Declares}
+use Rattle.tree.specs.Reads.{KindHere, Goes, Puts, Reads, Refuses, Adds, recordFrom, Seals, Passes, freeOf}
+use Rattle.tree.specs.Between.{aFurtherName, Bodies, itemList, functionList, globalsAfter, manifestsAfter, functionsAfter, declarationAfter, Declares}
 use Rattle.tree.specs.Post.{item, closed, post, postName, postNames, postConstant, postCommand, postItems, postBody, bodyWord, postFunctions, postProgram}
 use Rattle.tree.proofs.Steps.{follow, bind, here, added, adds-on, goes-on, _then_, nothing, stopped}
 use Rattle.tree.proofs.Symbols.{mapped, the-is, stays}

@@ -14,7 +14,8 @@ use Rattle.language.specs.Binding.{reachOf, LOOSEST}
 use Rattle.language.specs.Expressions as E
 use Rattle.language.specs.Expressions.{Inside, inside, shut, opening}
 use Rattle.language.specs.Grammar.{within, readers}
-use Rattle.tree.specs.Reads.{Lies, Here, KindHere, Goes, Is, Puts, PutsSuffix, PutsOne, Reads, Refuses, Adds, recordFrom, Seals, freeOf, anArgument, aFurther, rightOf}
+use Rattle.tree.specs.Reads.{Lies, Here, KindHere, Goes, Is, Puts, Reads, Refuses, Adds, recordFrom, Seals, freeOf}
+use Rattle.tree.specs.Between.{PutsSuffix, PutsOne, anArgument, aFurther, rightOf}
 use Rattle.tree.specs.Post.{item, closed, suffixedKind, post, postExpressions, postSuffixes, postOperations, postCommand}
 use Rattle.tree.proofs.Steps.{follow, bind, here, added, adds-on, goes-on, _then_, nothing, stopped}
 use Rattle.tree.proofs.Lists.{sealed}

@@ -1,3 +1,4 @@
 pub mod Post
 pub mod Reads
+pub mod Between
 pub mod Read

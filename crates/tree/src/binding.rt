@@ -57,7 +57,7 @@ ghost use lib.Dec.{eqb};
 ghost use Rattle.language.specs.Kinds as K;
 ghost use Rattle.language.specs.Reader.{the};
 ghost use Rattle.language.specs.Binding.{bindingOf, isMonadic, isSuffix, isGuard, isLeave, isRepeat, isLabel, isDeclaration, goesOnAssignment, beginsExpression, beginsCommand, reachOf};
-ghost use Rattle.tree.specs.Reads.{rightOf, furtherMost};
+ghost use Rattle.tree.specs.Between.{rightOf, furtherMost};
 
 pub(crate) const LOOSEST: u32 = 6;
 

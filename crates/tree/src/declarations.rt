@@ -40,7 +40,8 @@ ghost use Rattle.language.specs.Reader.{Source, the, optional, manyUpTo, moreUp
 ghost use Rattle.language.specs.Binding.{isDeclaration};
 ghost use Rattle.language.specs.Grammar as G;
 ghost use Rattle.tree.specs.Post.{item, postName, postNames, postItems, postFunctions, postProgram};
-ghost use Rattle.tree.specs.Reads.{Lies, Ready, Fits, KindHere, Goes, Puts, Passes, freeOf, itemList, Bodies, functionList, declarationAfter, Declares, Reading, Is};
+ghost use Rattle.tree.specs.Reads.{Lies, Ready, Fits, KindHere, Goes, Puts, Passes, freeOf, Reading, Is};
+ghost use Rattle.tree.specs.Between.{itemList, Bodies, functionList, declarationAfter, Declares};
 
 // Commands, brackets and expressions nest to 64 levels.
 const LEVELS: usize = 64;

@@ -35,7 +35,8 @@ ghost use Rattle.language.specs.Expressions as E;
 ghost use Rattle.language.specs.Grammar.{within, readers};
 ghost use Rattle.language.specs.Commands as C;
 ghost use Rattle.tree.specs.Post.{closed, leaf, post, postName, postNames, postBy, postLabels, postUnlabelled, postConstant};
-ghost use Rattle.tree.specs.Reads.{Lies, Ready, Fits, Grows, KindHere, Goes, Puts, Reads, Passes, freeOf, atomic, leaving, aFurtherName, Gives, Reading, ReadingAt, Is};
+ghost use Rattle.tree.specs.Reads.{Lies, Ready, Fits, Grows, KindHere, Goes, Puts, Reads, Passes, freeOf, Reading, ReadingAt, Is};
+ghost use Rattle.tree.specs.Between.{atomic, leaving, aFurtherName, Gives};
 
 // A symbol that is a leaf of the tree.
 fn leaf(s: &mut [u32], n: usize, r: Answer, kind: u32, value: u32, tag: u32) -> Answer

@@ -77,7 +77,8 @@ ghost use Rattle.language.specs.Expressions as E;
 ghost use Rattle.language.specs.Grammar.{within, readers};
 ghost use Rattle.language.specs.Commands as C;
 ghost use Rattle.tree.specs.Post.{item, post, postNames, postExpressions, postOperations, postCommand, postCommands, postUnlabelled, postRepeats, postLocals};
-ghost use Rattle.tree.specs.Reads.{Lies, Ready, Fits, Grows, KindHere, Goes, Puts, PutsSuffix, PutsOne, Reads, Passes, freeOf, furtherMost, anArgument, aFurther, repeatedOnly, postRepeatedOnly, bodyAfter, Ended, Counted, After, Gives, Reading, ReadingAt, Is};
+ghost use Rattle.tree.specs.Reads.{Lies, Ready, Fits, Grows, KindHere, Goes, Puts, Reads, Passes, freeOf, Reading, ReadingAt, Is};
+ghost use Rattle.tree.specs.Between.{PutsSuffix, PutsOne, furtherMost, anArgument, aFurther, repeatedOnly, postRepeatedOnly, bodyAfter, Ended, Counted, After, Gives};
 
 // What follows the first suffix: where it ends, and whether the last suffix is a call.
 struct SuffixesRead {

@@ -10,7 +10,8 @@ ghost use mathlib.Core.List.{[], _∷_};
 ghost use lib.ListN.{length};
 ghost use Rattle.language.specs.Reader.{Source, valueAt, placeAt, the, optional};
 ghost use Rattle.tree.specs.Post.{item, suffixedKind};
-ghost use Rattle.tree.specs.Reads.{Lies, Ready, Fits, Grows, Here, KindHere, Refuses, Adds, recordFrom, Seals, freeOf, CallHere, PlaceHere, Reading, Is};
+ghost use Rattle.tree.specs.Reads.{Lies, Ready, Fits, Grows, Here, KindHere, Refuses, Adds, recordFrom, Seals, freeOf, Reading, Is};
+ghost use Rattle.tree.specs.Between.{CallHere, PlaceHere};
 
 pub(crate) enum Answer {
     // the position of the next symbol, and the next free entry

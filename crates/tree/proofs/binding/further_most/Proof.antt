@@ -1,5 +1,5 @@
 use borrow.Author.Tests.{eq-eqb, ne-eqb}
-use Rattle.tree.specs.Reads.{furtherMost}
+use Rattle.tree.specs.Between.{furtherMost}
 use borrow.Author.Needs.{needs}
 use Rattle.tree.proofs.binding.further_most.Statement.{statement}
 use Rattle.tree.proofs.binding.further_most.Tie as tie

@@ -4,7 +4,8 @@ use Prim.Native.Nat.{_-_}
 use mathlib.Core.List.{[]}
 use lib.ListN.{length}
 use Rattle.tree.proofs.Symbols.{lies-still}
-use Rattle.tree.specs.Reads.{Lies, Fits, Partly}
+use Rattle.tree.specs.Reads.{Lies, Fits}
+use Rattle.tree.proofs.Lists.{Partly}
 use mathlib.Core.Path.{_≡_, refl, sym, ap, _∙_}
 use Rattle.tree.proofs.Helpers.{itself, fitted, weaker, both}
 use Rattle.language.specs.Reader.{Source, manyUpTo}

@@ -6,7 +6,9 @@ use lib.ListN.{length}
 use borrow.Author.Tests.{eq-eqb, ne-eqb}
 use Prim.Native.Nat.{_-_}
 use Rattle.language.specs.Reader.{Source, manyUpTo, isComma}
-use Rattle.tree.specs.Reads.{Lies, Fits, Partly, aFurtherName}
+use Rattle.tree.specs.Reads.{Lies, Fits}
+use Rattle.tree.specs.Between.{aFurtherName}
+use Rattle.tree.proofs.Lists.{Partly}
 use Rattle.tree.specs.Post.{postNames}
 use Rattle.tree.proofs.Helpers.{fitted, smaller, weaker, both, itself}
 use Rattle.tree.proofs.Symbols.{lies-still}

@@ -8,7 +8,8 @@ use Rattle.language.specs.Reader.{Source, manyUpTo}
 use Rattle.language.specs.Binding.{isLabel}
 use Rattle.language.specs.Commands as C
 use Rattle.language.specs.Grammar.{within}
-use Rattle.tree.specs.Reads.{Lies, Fits, Reads, Partly}
+use Rattle.tree.specs.Reads.{Lies, Fits, Reads}
+use Rattle.tree.proofs.Lists.{Partly}
 use Rattle.tree.specs.Post.{postLabels}
 use Rattle.tree.proofs.Helpers.{fitted, weaker, both, itself}
 use Rattle.tree.proofs.Symbols.{lies-still}

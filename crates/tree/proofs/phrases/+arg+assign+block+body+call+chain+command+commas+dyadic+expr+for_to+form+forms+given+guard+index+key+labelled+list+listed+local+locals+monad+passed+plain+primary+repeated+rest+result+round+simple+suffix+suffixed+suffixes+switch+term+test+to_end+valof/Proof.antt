@@ -6,10 +6,10 @@
 use Rattle.tree.proofs.Steps.{here, again, nothing, goes-on, adds-on, refuses-on, _then_}
 use Rattle.tree.proofs.Helpers.{alive, base, low, fitted, enlarged, smaller, weaker, both, then-grows, grows-then, grows-fits, grows-more, as-grows, itself}
 use Rattle.tree.proofs.Symbols.{lies-still}
-use Rattle.tree.proofs.Lists.{begins, more, closes, ends, begins-as, more-as, closes-as, turned, last, spent}
+use Rattle.tree.proofs.Lists.{Partly, PartlyAs, begins, more, closes, ends, begins-as, more-as, closes-as, turned, last, spent}
 use Rattle.tree.proofs.ListEnd.{list-end, list-semicolon-end, list-more, semicolon-item, list-spent}
 use Rattle.tree.proofs.Classes.{binding-positive, monadic-positive, guard-positive, leave-positive, repeat-positive, unlike2}
-use Rattle.tree.proofs.Chains.{expression-none, expression-one, expression-more, suffixed-one, suffixed-more, suffix-first, suffix-next, suffix-last, no-suffix-ended, expression-first, expression-next, expression-last, no-expression-counted, no-operation-words, no-expression-words}
+use Rattle.tree.proofs.Chains.{CountedSoFar, EndedSoFar, expression-none, expression-one, expression-more, suffixed-one, suffixed-more, suffix-first, suffix-next, suffix-last, no-suffix-ended, expression-first, expression-next, expression-last, no-expression-counted, no-operation-words, no-expression-words}
 use Rattle.tree.proofs.Choices.{operand-monadic, operand-suffixed, subscript-monadic, subscript-primary, suffix-arguments, suffix-index, primary-bracketed, primary-valof, primary-atom}
 use Rattle.tree.proofs.Readers.{bracketed-shut, valof-shut, monadic-shut, arguments-shut, bracketed-read, valof-read, monadic-read, operation-read, index-read, arguments-read, argument-read, no-arguments, some-arguments, further-read}
 use Rattle.tree.proofs.Commands.{resultis-read, guarded-read, test-read, repeat-read, repeat-on-read, no-repeat-words, repeated-one, repeated-more, unlabelled-guarded, unlabelled-test, unlabelled-resultis, unlabelled-leave, unlabelled-for, unlabelled-switchon, unlabelled-block, unlabelled-other}
@@ -30,7 +30,8 @@ use Rattle.language.specs.Commands as C
 use Rattle.language.specs.Grammar.{within, readers}
 use Rattle.tree.specs.Post.{postExpressions, postOperations, postCommands, postRepeats, postLocals}
 use Prim.Native.Nat.{_+_, _*_, _-_}
-use Rattle.tree.specs.Reads.{Reads, Lies, Fits, Partly, PartlyAs, CountedSoFar, EndedSoFar, Ended, Goes, Is, aFurther, freeOf}
+use Rattle.tree.specs.Reads.{Reads, Lies, Fits, Goes, Is, freeOf}
+use Rattle.tree.specs.Between.{Ended, aFurther}
 use Prim.Native.Nat.{ℕ, _<_}
 use borrow.Fn.Kinds.{In}
 use borrow.Fn.PlainCycle.{Measures, is, falls, and}
