@@ -157,7 +157,7 @@ fn good(seed: u64) -> Case {
     Case { text, expected: Some(expected) }
 }
 
-fn program(random: &mut Random) -> Vec<Token> {
+pub fn program(random: &mut Random) -> Vec<Token> {
     let most = random.pick(&[20, 60, 60, 150, 400]);
     let mut maker = Maker { random, tokens: Vec::new(), most };
     let declarations = match maker.random.below(10) {
@@ -679,7 +679,7 @@ fn damage_place(random: &mut Random, tokens: &[Token]) -> usize {
 }
 
 /// Any symbol, mostly not a bracket; each kind as often.
-fn any_token(random: &mut Random) -> Token {
+pub fn any_token(random: &mut Random) -> Token {
     loop {
         let made = match random.below(64) {
             0..=34 => token(random.pick(&WORDS).0.as_bytes()),

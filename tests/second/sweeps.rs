@@ -2,7 +2,7 @@
 //! allowed, chains of every link as long as a text may be, and the sources that a reader needs most stack for.
 
 use crate::random::Random;
-use crate::sources::{equal_list, nest_of, token, tokens, Case, Token};
+use crate::sources::{any_token, equal_list, nest_of, program, token, tokens, Case, Token};
 use crate::sources::{CHAINS, CHAIN_FAULTS, COMMAND_WRAPS, EXPRESSION_WRAPS};
 use crate::symbols::{LONGEST_TEXT, SIGNS, WORDS};
 
@@ -12,8 +12,9 @@ pub struct Sweep {
     pub each: fn(&mut dyn FnMut(Case) -> Result<(), String>) -> Result<(), String>,
 }
 
-pub const SWEEPS: [Sweep; 3] = [
+pub const SWEEPS: [Sweep; 4] = [
     Sweep { name: "damaged at every symbol", each: damaged },
+    Sweep { name: "generated and damaged at every symbol", each: generated },
     Sweep { name: "nests of every form", each: nests },
     Sweep { name: "chains of every link", each: chains },
 ];
@@ -52,6 +53,24 @@ fn damaged(check: &mut dyn FnMut(Case) -> Result<(), String>) -> Result<(), Stri
             for other in &every {
                 changed(place, 1, std::slice::from_ref(other))?;
                 changed(place, 0, std::slice::from_ref(other))?;
+            }
+        }
+    }
+    Ok(())
+}
+
+const GENERATED: u64 = 40;
+
+/// Every symbol of generated programs in turn taken out, doubled, and replaced by any other.
+fn generated(check: &mut dyn FnMut(Case) -> Result<(), String>) -> Result<(), String> {
+    for seed in 0..GENERATED {
+        let mut random = Random::new(seed);
+        let whole = program(&mut random);
+        for place in 0..whole.len() {
+            let doubled = [whole[place].clone(), whole[place].clone()];
+            for put in [&[][..], &doubled, &[any_token(&mut random)]] {
+                let text = spaced(&[&whole[..place], put, &whole[place + 1..]].concat());
+                check(Case { text, expected: None })?;
             }
         }
     }
