@@ -4,26 +4,8 @@ use borrow.Author.Needs.{needs}
 use Rattle.assembler.proofs.base_bit.Statement.{statement}
 use Rattle.assembler.proofs.base_bit.Tie as tie
 
-enum-told : tie.Need-enum-told
-enum-told c = search needs
-
-enum-told-2 : tie.Need-enum-told-2
-enum-told-2 c = search needs
-
-enum-told-3 : tie.Need-enum-told-3
-enum-told-3 c = search needs
-
-returns : tie.Need-returns
-unfolding baseOf
-returns c = (rw (c .enum-told .given .1), omega arith)
-
-returns-2 : tie.Need-returns-2
-unfolding baseOf
-returns-2 c = (rw (c .enum-told2 .given .1), omega arith)
-
-returns-3 : tie.Need-returns-3
-unfolding baseOf
-returns-3 c = (rw (c .enum-told3 .given .1), omega arith)
-
 pub base-bit-spec : {M : Type 1} → statement M
-base-bit-spec = tie.close (tie.spec enum-told enum-told-2 enum-told-3 returns returns-2 returns-3)
+unfolding baseOf
+base-bit-spec =
+    tie.close (tie.spec (search needs) (search needs) (search needs) (λ c. (rw (c .enum-told .given .1), omega arith))
+    (λ c. (rw (c .enum-told2 .given .1), omega arith)) (λ c. (rw (c .enum-told3 .given .1), omega arith)))

@@ -5,9 +5,6 @@ use borrow.Author.Needs.{needs}
 use Rattle.assembler.proofs.beyond.Statement.{statement}
 use Rattle.assembler.proofs.beyond.Tie as tie
 
-sub-if1 : tie.Need-sub-if1
-sub-if1 c = search needs
-
 returns : tie.Need-returns
 returns c = simp (lt-ltb (c .before .args .memory) (c .before .args .at + c .before .args .words) (omega arith))
 
@@ -15,4 +12,4 @@ returns-2 : tie.Need-returns-2
 returns-2 c = simp (le-ltb (c .before .args .memory) (c .before .args .at + c .before .args .words) (omega arith))
 
 pub beyond-spec : {M : Type 1} → statement M
-beyond-spec = tie.close (tie.spec sub-if1 returns returns-2)
+beyond-spec = tie.close (tie.spec (search needs) returns returns-2)

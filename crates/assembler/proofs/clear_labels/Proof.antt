@@ -16,41 +16,13 @@ Inv-loop labels₀ i₀ labels i = (i ≤ length labels₀) × (labels ≡ repli
 abbrev μ-loop : tie.MeasureT-loop
 μ-loop labels₀ i₀ labels i = length labels₀ - i
 
-loop-holds : tie.Need-loop-holds Inv-loop μ-loop
-loop-holds c = (omega arith, fill-none _ 0, search needs)
-
-mul-labels : tie.Need-mul-labels Inv-loop μ-loop
-mul-labels c = search needs
-
-slice-write-labels : tie.Need-slice-write-labels Inv-loop μ-loop
-slice-write-labels c = search needs
-
-add-i : tie.Need-add-i Inv-loop μ-loop
-add-i c = search needs
-
-loop-less : tie.Need-loop-less Inv-loop μ-loop
-loop-less c = search needs
-
 loop-again : tie.Need-loop-again Inv-loop μ-loop
 loop-again c = (search needs, zeros-more _ _ (c .before .loop .inv .1) (search needs), search needs)
-
-same-length : tie.Need-same-length Inv-loop μ-loop
-same-length c = search needs
 
 returns : tie.Need-returns Inv-loop μ-loop
 returns c = zeros-all (c .before .before .args .labels .now) (c .before .loop .i) (c .before .loop .inv .1) (search needs) (search needs)
 
 pub clear-labels-spec : {M : Type 1} → statement M
 clear-labels-spec =
-    tie.close
-    (tie.spec
-    Inv-loop
-    μ-loop
-    loop-holds
-    mul-labels
-    slice-write-labels
-    add-i
-    loop-less
-    loop-again
-    same-length
-    returns)
+    tie.close (tie.spec Inv-loop μ-loop (λ c. (omega arith, fill-none _ 0, search needs))
+    (search needs) (search needs) (search needs) (search needs) loop-again (search needs) returns)

@@ -16,41 +16,13 @@ Inv-loop memory₀ i₀ memory i = (i ≤ length memory₀) × (memory ≡ repli
 abbrev μ-loop : tie.MeasureT-loop
 μ-loop memory₀ i₀ memory i = length memory₀ - i
 
-loop-holds : tie.Need-loop-holds Inv-loop μ-loop
-loop-holds c = (omega arith, fill-none _ 0, search needs)
-
-mul-memory : tie.Need-mul-memory Inv-loop μ-loop
-mul-memory c = search needs
-
-slice-write-memory : tie.Need-slice-write-memory Inv-loop μ-loop
-slice-write-memory c = search needs
-
-add-i : tie.Need-add-i Inv-loop μ-loop
-add-i c = search needs
-
-loop-less : tie.Need-loop-less Inv-loop μ-loop
-loop-less c = search needs
-
 loop-again : tie.Need-loop-again Inv-loop μ-loop
 loop-again c = (search needs, zeros-more _ _ (c .before .loop .inv .1) (search needs), search needs)
-
-same-length : tie.Need-same-length Inv-loop μ-loop
-same-length c = search needs
 
 returns : tie.Need-returns Inv-loop μ-loop
 returns c = zeros-all (c .before .before .args .memory .now) (c .before .loop .i) (c .before .loop .inv .1) (search needs) (search needs)
 
 pub clear-words-spec : {M : Type 1} → statement M
 clear-words-spec =
-    tie.close
-    (tie.spec
-    Inv-loop
-    μ-loop
-    loop-holds
-    mul-memory
-    slice-write-memory
-    add-i
-    loop-less
-    loop-again
-    same-length
-    returns)
+    tie.close (tie.spec Inv-loop μ-loop (λ c. (omega arith, fill-none _ 0, search needs))
+    (search needs) (search needs) (search needs) (search needs) loop-again (search needs) returns)

@@ -7,88 +7,49 @@ use borrow.Author.Needs.{needs}
 use Rattle.assembler.proofs.fault.Statement.{statement}
 use Rattle.assembler.proofs.fault.Tie as tie
 
-in-range-requires : tie.Need-in-range-requires
-in-range-requires c κs = search needs
-
 returns : tie.Need-returns
-returns c = fault-out _ _ _ _ _ (sym (c .before .in-range .ensures) ∙ not-true _ (c .if1 .taken))
-
-enum-known-item : tie.Need-enum-known-item
-enum-known-item c = search needs
-
-label-fault-requires : tie.Need-label-fault-requires
-label-fault-requires c κs = search needs
-
-enum-told : tie.Need-enum-told
-enum-told c = search needs
+returns c = fault-out _ _ _ _ _ (sym (c .before .in-range .ensures) ∙ (search not-true))
 
 size-requires : tie.Need-size-requires
-size-requires c κs = sym (c .before .before .before .in-range .ensures) ∙ not-false _ (c .before .before .if1 .left)
-
-beyond-requires : tie.Need-beyond-requires
-beyond-requires c κs = c .before .before .before .before .before .before .pre .1
-
-enum-told-2 : tie.Need-enum-told-2
-enum-told-2 c = search needs
+size-requires c κs = sym (c .before .before .before .in-range .ensures) ∙ (search not-false)
 
 size-requires-2 : tie.Need-size-requires-2
-size-requires-2 c κs = sym (c .before .before .before .in-range .ensures) ∙ not-false _ (c .before .before .if1 .left)
-
-beyond-requires-2 : tie.Need-beyond-requires-2
-beyond-requires-2 c κs = c .before .before .before .before .before .before .pre .1
-
-enum-told-3 : tie.Need-enum-told-3
-enum-told-3 c = search needs
+size-requires-2 c κs = sym (c .before .before .before .in-range .ensures) ∙ (search not-false)
 
 size-requires-3 : tie.Need-size-requires-3
-size-requires-3 c κs = sym (c .before .before .before .in-range .ensures) ∙ not-false _ (c .before .before .if1 .left)
-
-beyond-requires-3 : tie.Need-beyond-requires-3
-beyond-requires-3 c κs = c .before .before .before .before .before .before .pre .1
-
-enum-told-4 : tie.Need-enum-told-4
-enum-told-4 c = search needs
+size-requires-3 c κs = sym (c .before .before .before .in-range .ensures) ∙ (search not-false)
 
 returns-2 : tie.Need-returns-2
 unfolding misplaced itemOf
-returns-2 c = fault-in _ _ _ _ _ (sym (c .before .before .before .before .before .in-range .ensures) ∙ not-false _ (c .before .before .before .before .if1 .left)) (rw (c .before .before .item .given .1) (c .label-fault .ensures))
+returns-2 c =
+    fault-in _ _ _ _ _ (sym (c .before .before .before .before .before .in-range .ensures) ∙ (search not-false))
+    (rw (c .before .before .item .given .1) (c .label-fault .ensures))
 
 returns-3 : tie.Need-returns-3
 unfolding misplaced itemOf
-returns-3 c = fault-in _ _ _ _ _ (sym (c .before .before .before .before .before .in-range .ensures) ∙ not-false _ (c .before .before .before .before .if1 .left)) (rw (c .before .before .enum-told .given .1) (rw (c .before .size .ensures, c .before .before .enum-told .given .1) at (c .beyond .ensures)))
+returns-3 c =
+    fault-in _ _ _ _ _ (sym (c .before .before .before .before .before .in-range .ensures) ∙ (search not-false))
+    (rw (c .before .before .enum-told .given .1) (rw (c .before .size .ensures, c .before .before .enum-told .given .1) at (c .beyond .ensures)))
 
 returns-4 : tie.Need-returns-4
 unfolding misplaced itemOf
-returns-4 c = fault-in _ _ _ _ _ (sym (c .before .before .before .before .before .in-range .ensures) ∙ not-false _ (c .before .before .before .before .if1 .left)) (rw (c .before .before .enum-told2 .given .1) (rw (c .before .size2 .ensures, c .before .before .enum-told2 .given .1) at (c .beyond2 .ensures)))
+returns-4 c =
+    fault-in _ _ _ _ _ (sym (c .before .before .before .before .before .in-range .ensures) ∙ (search not-false))
+    (rw (c .before .before .enum-told2 .given .1) (rw (c .before .size2 .ensures, c .before .before .enum-told2 .given .1) at (c .beyond2 .ensures)))
 
 returns-5 : tie.Need-returns-5
 unfolding misplaced itemOf
-returns-5 c = fault-in _ _ _ _ _ (sym (c .before .before .before .before .before .in-range .ensures) ∙ not-false _ (c .before .before .before .before .if1 .left)) (rw (c .before .before .enum-told3 .given .1) (rw (c .before .size3 .ensures, c .before .before .enum-told3 .given .1) at (c .beyond3 .ensures)))
+returns-5 c =
+    fault-in _ _ _ _ _ (sym (c .before .before .before .before .before .in-range .ensures) ∙ (search not-false))
+    (rw (c .before .before .enum-told3 .given .1) (rw (c .before .size3 .ensures, c .before .before .enum-told3 .given .1) at (c .beyond3 .ensures)))
 
 returns-6 : tie.Need-returns-6
 unfolding misplaced itemOf
-returns-6 c = fault-in _ _ _ _ _ (sym (c .before .before .before .in-range .ensures) ∙ not-false _ (c .before .before .if1 .left)) (rw (c .enum-told4 .given .1))
+returns-6 c = fault-in _ _ _ _ _ (sym (c .before .before .before .in-range .ensures) ∙ (search not-false)) (rw (c .enum-told4 .given .1))
 
 pub fault-spec : {M : Type 1} → statement M
 fault-spec =
     tie.close
-    (tie.spec
-    in-range-requires
-    returns
-    enum-known-item
-    label-fault-requires
-    enum-told
-    size-requires
-    beyond-requires
-    enum-told-2
-    size-requires-2
-    beyond-requires-2
-    enum-told-3
-    size-requires-3
-    beyond-requires-3
-    enum-told-4
-    returns-2
-    returns-3
-    returns-4
-    returns-5
-    returns-6)
+    (tie.spec (search needs) returns (search needs) (search needs) (search needs) size-requires (search needs)
+    (search needs) size-requires-2 (search needs) (search needs) size-requires-3 (search needs) (search needs)
+    returns-2 returns-3 returns-4 returns-5 returns-6)

@@ -15,73 +15,44 @@ Inv-loop memory₀ labels text from place₀ at₀ memory place at = Filling (re
 abbrev μ-loop : tie.MeasureT-loop
 μ-loop memory₀ labels text from place₀ at₀ memory place at = length text - place
 
-loop-holds : tie.Need-loop-holds Inv-loop μ-loop
-loop-holds c = filling-start _ _ _ _ (c .before .before .before .pre .0) (c .before .before .before .pre .1)
-
-next-in-requires : tie.Need-next-in-requires Inv-loop μ-loop
-next-in-requires c κs = search needs
-
-enum-told : tie.Need-enum-told Inv-loop μ-loop
-enum-told c = search needs
-
-same-length : tie.Need-same-length Inv-loop μ-loop
-same-length c = search needs
-
 returns : tie.Need-returns Inv-loop μ-loop
-returns c = filling-end _ _ _ _ _ _ _ (c .before .before .before .loop .inv) (reads-whole _ _ (c .before .before .next-in .ensures) (c .enum-told .given .1))
-
-enum-told-2 : tie.Need-enum-told-2 Inv-loop μ-loop
-enum-told-2 c = search needs
-
-same-length-2 : tie.Need-same-length-2 Inv-loop μ-loop
-same-length-2 c = search needs
+returns c =
+    filling-end _ _ _ _ _ _ _ (c .before .before .before .loop .inv) (reads-whole _ _ (c .before .before .next-in .ensures) (c .enum-told .given .1))
 
 returns-2 : tie.Need-returns-2 Inv-loop μ-loop
-returns-2 c = filling-end _ _ _ _ _ _ _ (c .before .before .before .loop .inv) (reads-not _ _ (c .before .before .next-in .ensures) (c .enum-told2 .given .1))
-
-enum-known-next : tie.Need-enum-known-next Inv-loop μ-loop
-enum-known-next c = search needs
+returns-2 c =
+    filling-end _ _ _ _ _ _ _ (c .before .before .before .loop .inv) (reads-not _ _ (c .before .before .next-in .ensures) (c .enum-told2 .given .1))
 
 write-item-requires : tie.Need-write-item-requires Inv-loop μ-loop
-write-item-requires c κs = (filling-writable _ _ _ _ _ _ _ (c .before .before .before .before .before .loop .inv) (reads-one _ _ (c .before .before .before .before .next-in .ensures) (c .before .before .next .given .1)), filling-spelled _ _ _ _ _ _ _ (c .before .before .before .before .before .loop .inv) (reads-one _ _ (c .before .before .before .before .next-in .ensures) (c .before .before .next .given .1)))
-
-enum-told-3 : tie.Need-enum-told-3 Inv-loop μ-loop
-enum-told-3 c = search needs
-
-same-length-3 : tie.Need-same-length-3 Inv-loop μ-loop
-same-length-3 c = search needs
+write-item-requires c κs = (
+  filling-writable _ _ _ _ _ _ _ (c .before .before .before .before .before .loop .inv)
+      (reads-one _ _ (c .before .before .before .before .next-in .ensures) (c .before .before .next .given .1)),
+  filling-spelled _ _ _ _ _ _ _
+      (c .before .before .before .before .before .loop .inv)
+      (reads-one _ _ (c .before .before .before .before .next-in .ensures) (c .before .before .next .given .1)),
+)
 
 returns-3 : tie.Need-returns-3 Inv-loop μ-loop
-returns-3 c = filling-unknown _ _ _ _ _ _ _ (c .before .before .before .before .before .before .before .before .before .before .loop .inv) (reads-one _ _ (c .before .before .before .before .before .before .before .before .before .next-in .ensures) (c .before .before .before .before .before .before .before .next .given .1)) (c .before .before .before .before .write-item .ensures) (c .enum-told3 .given .1)
-
-enum-known-step : tie.Need-enum-known-step Inv-loop μ-loop
-enum-known-step c = search needs
+returns-3 c =
+    filling-unknown _ _ _ _ _ _ _ (c .before .before .before .before .before .before .before .before .before .before .loop .inv)
+    (reads-one _ _ (c .before .before .before .before .before .before .before .before .before .next-in .ensures)
+    (c .before .before .before .before .before .before .before .next .given .1)) (c .before .before .before .before .write-item .ensures)
+    (c .enum-told3 .given .1)
 
 loop-less : tie.Need-loop-less Inv-loop μ-loop
-loop-less c = omega (arith, reads-one _ _ (c .before .before .before .before .before .before .before .before .before .before .next-in .ensures) (c .before .before .before .before .before .before .before .before .next .given .1) .onward, reads-one _ _ (c .before .before .before .before .before .before .before .before .before .before .next-in .ensures) (c .before .before .before .before .before .before .before .before .next .given .1) .within)
-
-loop-again : tie.Need-loop-again Inv-loop μ-loop
-loop-again c = filling-on _ _ _ _ _ _ _ (c .before .before .before .before .before .before .before .before .before .before .before .loop .inv) (reads-one _ _ (c .before .before .before .before .before .before .before .before .before .before .next-in .ensures) (c .before .before .before .before .before .before .before .before .next .given .1)) (c .before .before .before .before .before .write-item .ensures) (c .before .step .given .1)
+loop-less c =
+    omega (
+      arith,
+      reads-one _ _ (c .before .before .before .before .before .before .before .before .before .before .next-in .ensures)
+          (c .before .before .before .before .before .before .before .before .next .given .1) .onward,
+      reads-one _ _
+          (c .before .before .before .before .before .before .before .before .before .before .next-in .ensures)
+          (c .before .before .before .before .before .before .before .before .next .given .1) .within,
+    )
 
 pub write-items-spec : {M : Type 1} → statement M
 write-items-spec =
-    tie.close
-    (tie.spec
-    Inv-loop
-    μ-loop
-    loop-holds
-    next-in-requires
-    enum-told
-    same-length
-    returns
-    enum-told-2
-    same-length-2
-    returns-2
-    enum-known-next
-    write-item-requires
-    enum-told-3
-    same-length-3
-    returns-3
-    enum-known-step
-    loop-less
-    loop-again)
+    tie.close (tie.spec Inv-loop μ-loop (λ c. search filling-start)
+    (search needs) (search needs) (search needs) returns (search needs) (search needs) returns-2 (search needs)
+    write-item-requires (search needs) (search needs) returns-3 (search needs) loop-less
+    (λ c. search (filling-on, reads-one)))

@@ -5,55 +5,10 @@ use borrow.Author.Needs.{needs}
 use Rattle.assembler.proofs.write_start.Statement.{statement}
 use Rattle.assembler.proofs.write_start.Tie as tie
 
-slice-write-memory : tie.Need-slice-write-memory
-slice-write-memory c = search needs
-
-slice-write-memory-2 : tie.Need-slice-write-memory-2
-slice-write-memory-2 c = simp length-set (omega arith)
-
-slice-write-memory-3 : tie.Need-slice-write-memory-3
-slice-write-memory-3 c = simp length-set (omega arith)
-
-slice-write-memory-4 : tie.Need-slice-write-memory-4
-slice-write-memory-4 c = simp length-set (omega arith)
-
-slice-write-memory-5 : tie.Need-slice-write-memory-5
-slice-write-memory-5 c = simp length-set (omega arith)
-
-slice-write-memory-6 : tie.Need-slice-write-memory-6
-slice-write-memory-6 c = simp length-set (omega arith)
-
-slice-write-memory-7 : tie.Need-slice-write-memory-7
-slice-write-memory-7 c = simp length-set (omega arith)
-
-slice-write-memory-8 : tie.Need-slice-write-memory-8
-slice-write-memory-8 c = simp length-set (omega arith)
-
-slice-write-memory-9 : tie.Need-slice-write-memory-9
-slice-write-memory-9 c = simp length-set (omega arith)
-
-slice-write-memory-10 : tie.Need-slice-write-memory-10
-slice-write-memory-10 c = simp length-set (omega arith)
-
-same-length : tie.Need-same-length
-same-length c = search needs
-
-returns : tie.Need-returns
-returns c = fixed-is _ (c .pre .0) (c .pre .1)
-
 pub write-start-spec : {M : Type 1} → statement M
 write-start-spec =
-    tie.close
-    (tie.spec
-    slice-write-memory
-    slice-write-memory-2
-    slice-write-memory-3
-    slice-write-memory-4
-    slice-write-memory-5
-    slice-write-memory-6
-    slice-write-memory-7
-    slice-write-memory-8
-    slice-write-memory-9
-    slice-write-memory-10
-    same-length
-    returns)
+    tie.close (tie.spec (search needs) (λ c. simp length-set (omega arith)) (λ c. simp length-set (omega arith))
+    (λ c. simp length-set (omega arith)) (λ c. simp length-set (omega arith)) (λ c. simp length-set (omega arith))
+    (λ c. simp length-set (omega arith)) (λ c. simp length-set (omega arith)) (λ c. simp length-set (omega arith))
+    (λ c. simp length-set (omega arith))
+    (search needs) (λ c. search fixed-is))

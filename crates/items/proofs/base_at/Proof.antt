@@ -9,9 +9,6 @@ use borrow.Author.Needs.{needs}
 use Rattle.items.proofs.base_at.Statement.{statement}
 use Rattle.items.proofs.base_at.Tie as tie
 
-byte-at-requires : tie.Need-byte-at-requires
-byte-at-requires c κs = search needs
-
 add-t6 : tie.Need-add-t6
 add-t6 c =
     let text = c .before .before .before .args .text .now in
@@ -38,11 +35,5 @@ returns-2 c =
     let at = c .before .before .before .args .at in
     sym (ap (asBased at) (base-g (drop at text) (c .before .byte-at .ensures) (c .match .keys2)))
 
-returns-3 : tie.Need-returns-3
-returns-3 c =
-    let text = c .before .before .before .args .text .now in
-    let at = c .before .before .before .args .at in
-    based-none at (drop at text) (base-none (drop at text) (c .before .byte-at .ensures) (c .match .rest))
-
 pub base-at-spec : {M : Type 1} → statement M
-base-at-spec = tie.close (tie.spec byte-at-requires add-t6 add-t8 returns returns-2 returns-3)
+base-at-spec = tie.close (tie.spec (search needs) add-t6 add-t8 returns returns-2 (λ c. search (based-none, base-none)))

@@ -17,15 +17,6 @@ Inv-loop text at n₀ i₀ n i = (n + at ≤ i) × (asStringAt at (quoted 34 0 (
 abbrev μ-loop : tie.MeasureT-loop
 μ-loop text at n₀ i₀ n i = length text - i
 
-loop-holds : tie.Need-loop-holds Inv-loop μ-loop
-loop-holds c = (omega arith, added-none _)
-
-character-at-requires : tie.Need-character-at-requires Inv-loop μ-loop
-character-at-requires c κs = search needs
-
-enum-known-c : tie.Need-enum-known-c Inv-loop μ-loop
-enum-known-c c = search needs
-
 add-n : tie.Need-add-n Inv-loop μ-loop
 add-n c =
     let text = c .before .before .before .before .before .before .args .text .now in
@@ -56,57 +47,33 @@ loop-less c =
 loop-again : tie.Need-loop-again Inv-loop μ-loop
 loop-again c =
     let text = c .before .before .before .before .before .before .args .text .now in (
-      omega (
-        arith,
-        is-inside 34 text (c .before .before .before .before .loop .i)
-            (when-is _ (c .before .before .before .character-at .ensures) (c .before .c .given .1)),
-      ),
-      c .before .before .before .before .loop .inv .1 ∙
-          characters-more text (c .before .before .before .before .loop .i) (c .before .before .before .before .loop .n)
-          (when-is _ (c .before .before .before .character-at .ensures) (c .before .c .given .1)),
+      omega
+          (arith, is-inside 34 text (c .before .before .before .before .loop .i) (when-is _ (c .before .before .before .character-at .ensures) (c .before .c .given .1))),
+      c .before .before .before .before .loop .inv .1 ∙ characters-more text (c .before .before .before .before .loop .i)
+          (c .before .before .before .before .loop .n) (when-is _ (c .before .before .before .character-at .ensures) (c .before .c .given .1)),
     )
-
-enum-told : tie.Need-enum-told Inv-loop μ-loop
-enum-told c = search needs
 
 add-t7 : tie.Need-add-t7 Inv-loop μ-loop
 add-t7 c =
     let text = c .before .before .before .before .before .args .text .now in
-    omega
-    (arith, closing-inside 34 text (c .before .before .before .loop .i) (when-closing _ (c .before .before .character-at .ensures) (c .enum-told .given .1)))
+    omega (
+      arith,
+      closing-inside 34 text (c .before .before .before .loop .i)
+          (when-closing _ (c .before .before .character-at .ensures) (c .enum-told .given .1)),
+    )
 
 returns : tie.Need-returns Inv-loop μ-loop
 returns c =
     let text = c .before .before .before .before .before .args .text .now in
-    characters-end text (c .before .before .before .loop .i) (c .before .before .before .loop .n)
-    (when-closing _ (c .before .before .character-at .ensures) (c .enum-told .given .1)) ∙
-    sym (c .before .before .before .loop .inv .1)
-
-enum-told-2 : tie.Need-enum-told-2 Inv-loop μ-loop
-enum-told-2 c = search needs
+    characters-end text (c .before .before .before .loop .i) (c .before .before .before .loop .n) (search when-closing) ∙ sym (search needs)
 
 returns-2 : tie.Need-returns-2 Inv-loop μ-loop
 returns-2 c =
     let text = c .before .before .before .before .before .args .text .now in
-    characters-bad text (c .before .before .before .loop .i) (c .before .before .before .loop .n)
-    (when-bad _ (c .before .before .character-at .ensures) (c .enum-told2 .given .1)) ∙
-    sym (c .before .before .before .loop .inv .1)
+    characters-bad text (c .before .before .before .loop .i) (c .before .before .before .loop .n) (search when-bad) ∙ sym (search needs)
 
 pub characters-at-spec : {M : Type 1} → statement M
 characters-at-spec =
-    tie.close
-    (tie.spec
-    Inv-loop
-    μ-loop
-    loop-holds
-    character-at-requires
-    enum-known-c
-    add-n
-    add-i
-    loop-less
-    loop-again
-    enum-told
-    add-t7
-    returns
-    enum-told-2
+    tie.close (tie.spec Inv-loop μ-loop (λ c. (omega arith, added-none _))
+    (search needs) (search needs) add-n add-i loop-less loop-again (search needs) add-t7 returns (search needs)
     returns-2)

@@ -10,74 +10,47 @@ use Rattle.items.proofs.decimal_at.Statement.{statement}
 use Rattle.items.proofs.decimal_at.Tie as tie
 
 abbrev Inv-loop : tie.InvT-loop
-Inv-loop text at first n₀ i₀ n i = (n ≤ 65536) × (digits n (drop i text) ≡ digits 0 (drop at text)) × (i + digitCount (drop i text) ≡ at + digitCount (drop at text))
+Inv-loop text at first n₀ i₀ n i =
+    (n ≤ 65536) × (digits n (drop i text) ≡ digits 0 (drop at text)) × (i + digitCount (drop i text) ≡ at + digitCount (drop at text))
 
 abbrev μ-loop : tie.MeasureT-loop
 μ-loop text at first n₀ i₀ n i = length text - i
-
-byte-at-requires : tie.Need-byte-at-requires Inv-loop μ-loop
-byte-at-requires c κs = search needs
-
-is-digit-requires : tie.Need-is-digit-requires Inv-loop μ-loop
-is-digit-requires c κs = search needs
 
 returns : tie.Need-returns Inv-loop μ-loop
 returns c =
     let text = c .before .before .before .before .args .text .now in
     let at = c .before .before .before .before .args .at in
-    no-decimal text at (c .before .before .byte-at .ensures) (sym (c .before .is-digit .ensures) ∙ not-true _ (c .if1 .taken))
-
-loop-holds : tie.Need-loop-holds Inv-loop μ-loop
-loop-holds c = search needs
-
-byte-at-requires-2 : tie.Need-byte-at-requires-2 Inv-loop μ-loop
-byte-at-requires-2 c κs = search needs
-
-is-digit-requires-2 : tie.Need-is-digit-requires-2 Inv-loop μ-loop
-is-digit-requires-2 c κs = search needs
+    no-decimal text at (c .before .before .byte-at .ensures) (sym (c .before .is-digit .ensures) ∙ (search not-true))
 
 returns-2 : tie.Need-returns-2 Inv-loop μ-loop
 returns-2 c =
     let text = c .before .before .before .before .before .before .before .before .before .args .text .now in
     let at = c .before .before .before .before .before .before .before .before .before .args .at in
-    a-decimal text at
-    (c .before .before .before .before .before .before .before .byte-at .ensures)
-    (sym (c .before .before .before .before .before .before .is-digit .ensures) ∙ not-false _ (c .before .before .before .before .before .if1 .left))
+    a-decimal text at (c .before .before .before .before .before .before .before .byte-at .ensures)
+    (sym (c .before .before .before .before .before .before .is-digit .ensures) ∙ (search not-false))
     (sym
     (digits-stop text (c .before .before .before .before .loop .i) (c .before .before .before .before .loop .n) (omega arith)
-    (c .before .before .byte-at2 .ensures)
-    (sym (c .before .is-digit2 .ensures) ∙ not-true _ (c .if2 .taken)) .0) ∙
+    (c .before .before .byte-at2 .ensures) (sym (c .before .is-digit2 .ensures) ∙ (search not-true)) .0) ∙
     c .before .before .before .before .loop .inv .1)
     (omega (
       arith,
-      digits-stop text (c .before .before .before .before .loop .i) (c .before .before .before .before .loop .n)
-          (omega arith) (c .before .before .byte-at2 .ensures)
-          (sym (c .before .is-digit2 .ensures) ∙ not-true _ (c .if2 .taken)) .1,
+      digits-stop text (c .before .before .before .before .loop .i) (c .before .before .before .before .loop .n) (omega arith)
+          (c .before .before .byte-at2 .ensures) (sym (c .before .is-digit2 .ensures) ∙ not-true _ (c .if2 .taken)) .1,
     ))
 
 and-digit-requires : tie.Need-and-digit-requires Inv-loop μ-loop
-and-digit-requires c κs = digit-ready _ (omega arith) (sym (c .before .is-digit2 .ensures) ∙ not-false _ (c .if2 .left))
-
-add-i : tie.Need-add-i Inv-loop μ-loop
-add-i c = omega arith
-
-loop-less : tie.Need-loop-less Inv-loop μ-loop
-loop-less c = omega arith
+and-digit-requires c κs = digit-ready _ (omega arith) (sym (c .before .is-digit2 .ensures) ∙ (search not-false))
 
 loop-again : tie.Need-loop-again Inv-loop μ-loop
 loop-again c =
     let text = c .before .before .before .before .before .before .before .before .before .before .args .text .now in (
-      omega (arith, c .and-digit .ensures),
+      omega arith,
       rw (c .and-digit .ensures)
-          (sym
-          (digits-more text (c .before .before .before .before .before .loop .i)
-          (c .before .before .before .before .before .loop .n) (omega arith) (c .before .before .before .byte-at2 .ensures)
-          (sym (c .before .before .is-digit2 .ensures) ∙ not-false _ (c .before .if2 .left)) .0) ∙
-          c .before .before .before .before .before .loop .inv .1),
+          (sym (digits-more text (c .before .before .before .before .before .loop .i) (c .before .before .before .before .before .loop .n) (omega arith) (c .before .before .before .byte-at2 .ensures) (sym (c .before .before .is-digit2 .ensures) ∙ (search not-false)) .0) ∙ c .before .before .before .before .before .loop .inv .1),
       omega (
         arith,
-        digits-more text (c .before .before .before .before .before .loop .i)
-            (c .before .before .before .before .before .loop .n) (omega arith) (c .before .before .before .byte-at2 .ensures)
+        digits-more text (c .before .before .before .before .before .loop .i) (c .before .before .before .before .before .loop .n)
+            (omega arith) (c .before .before .before .byte-at2 .ensures)
             (sym (c .before .before .is-digit2 .ensures) ∙ not-false _ (c .before .if2 .left)) .1,
       ),
     )
@@ -86,26 +59,12 @@ returns-3 : tie.Need-returns-3 Inv-loop μ-loop
 returns-3 c =
     let text = c .before .before .before .before .before .before .args .text .now in
     let at = c .before .before .before .before .before .before .args .at in
-    a-decimal text at (c .before .before .before .before .byte-at .ensures)
-    (sym (c .before .before .before .is-digit .ensures) ∙ not-false _ (c .before .before .if1 .left))
+    a-decimal text at (c .before .before .before .before .byte-at .ensures) (sym (c .before .before .before .is-digit .ensures) ∙ (search not-false))
     (sym (digits-end text (c .before .loop .i) (c .before .loop .n) (omega arith) .0) ∙ c .before .loop .inv .1)
     (omega (arith, digits-end text (c .before .loop .i) (c .before .loop .n) (omega arith) .1))
 
 pub decimal-at-spec : {M : Type 1} → statement M
 decimal-at-spec =
     tie.close
-    (tie.spec
-    Inv-loop
-    μ-loop
-    byte-at-requires
-    is-digit-requires
-    returns
-    loop-holds
-    byte-at-requires-2
-    is-digit-requires-2
-    returns-2
-    and-digit-requires
-    add-i
-    loop-less
-    loop-again
-    returns-3)
+    (tie.spec Inv-loop μ-loop (search needs) (search needs) returns (search needs) (search needs) (search needs)
+    returns-2 and-digit-requires (λ c. omega arith) (λ c. omega arith) loop-again returns-3)

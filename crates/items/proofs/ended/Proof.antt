@@ -8,9 +8,6 @@ use borrow.Author.Needs.{needs}
 use Rattle.items.proofs.ended.Statement.{statement}
 use Rattle.items.proofs.ended.Tie as tie
 
-byte-at-requires : tie.Need-byte-at-requires
-byte-at-requires c κs = search needs
-
 returns : tie.Need-returns
 unfolding ended isGot head
 returns c =
@@ -47,4 +44,4 @@ returns-5 c =
     sym (ap isGot (not-ended (drop at text) (c .before .byte-at .ensures) (c .match .rest)))
 
 pub ended-spec : {M : Type 1} → statement M
-ended-spec = tie.close (tie.spec byte-at-requires returns returns-2 returns-3 returns-4 returns-5)
+ended-spec = tie.close (tie.spec (search needs) returns returns-2 returns-3 returns-4 returns-5)

@@ -6,24 +6,6 @@ use borrow.Author.Needs.{needs}
 use Rattle.items.proofs.instruction_at.Statement.{statement}
 use Rattle.items.proofs.instruction_at.Tie as tie
 
-has-requires : tie.Need-has-requires
-has-requires c κs = search needs
-
-past-byte-requires : tie.Need-past-byte-requires
-past-byte-requires c κs = search needs
-
-base-at-requires : tie.Need-base-at-requires
-base-at-requires c κs = search needs
-
-operand-at-requires : tie.Need-operand-at-requires
-operand-at-requires c κs = search needs
-
-enum-known-x : tie.Need-enum-known-x
-enum-known-x c = search needs
-
-ended-requires : tie.Need-ended-requires
-ended-requires c κs = search needs
-
 returns : tie.Need-returns
 returns c =
     let text = c .before .before .before .before .before .before .before .before .before .before .args .text .now in
@@ -40,9 +22,6 @@ returns c =
     (c .before .before .before .before .before .operand-at .ensures)
     (c .before .before .before .x .given .1))
     (ended-reads text (c .before .before .before .x .given .0 .1 .0) (c .before .ended .ensures) (c .if1 .taken))
-
-enum-told : tie.Need-enum-told
-enum-told c = search needs
 
 returns-2 : tie.Need-returns-2
 returns-2 c =
@@ -75,14 +54,5 @@ returns-3 c =
 pub instruction-at-spec : {M : Type 1} → statement M
 instruction-at-spec =
     tie.close
-    (tie.spec
-    has-requires
-    past-byte-requires
-    base-at-requires
-    operand-at-requires
-    enum-known-x
-    ended-requires
-    returns
-    enum-told
-    returns-2
-    returns-3)
+    (tie.spec (search needs) (search needs) (search needs) (search needs) (search needs) (search needs) returns
+    (search needs) returns-2 returns-3)

@@ -11,9 +11,6 @@ use borrow.Author.Needs.{needs}
 use Rattle.items.proofs.labelled_global.Statement.{statement}
 use Rattle.items.proofs.labelled_global.Tie as tie
 
-has-requires : tie.Need-has-requires
-has-requires c κs = search needs
-
 returns : tie.Need-returns
 returns c =
     let text = c .before .before .before .args .text .now in
@@ -26,15 +23,6 @@ add-decimal-at c =
     let at = c .before .before .before .args .at in
     omega (arith, inside text at (eqb-true _ 76 (sym (c .before .has .ensures) ∙ not-false _ (c .if1 .left))) (omega arith))
 
-decimal-at-requires : tie.Need-decimal-at-requires
-decimal-at-requires c κs = search needs
-
-enum-known-m : tie.Need-enum-known-m
-enum-known-m c = search needs
-
-ended-requires : tie.Need-ended-requires
-ended-requires c κs = search needs
-
 returns-2 : tie.Need-returns-2
 unfolding asItem
 returns-2 c =
@@ -44,12 +32,10 @@ returns-2 c =
     (global-reads text at _
     (byte-reads text at _
     (eqb-true _ _
-    (sym (c .before .before .before .before .before .before .before .has .ensures) ∙ not-false _ (c .before .before .before .before .before .before .if1 .left))))
+    (sym (c .before .before .before .before .before .before .before .has .ensures) ∙ not-false _
+    (c .before .before .before .before .before .before .if1 .left))))
     (decimal-reads text (at + 1) (c .before .before .before .before .before .decimal-at .ensures) (c .before .before .before .m .given .1))
     (ended-reads text _ (c .before .ended .ensures) (c .if2 .taken)))
-
-enum-told : tie.Need-enum-told
-enum-told c = search needs
 
 returns-3 : tie.Need-returns-3
 returns-3 c =
@@ -59,7 +45,8 @@ returns-3 c =
     (global-open text at _
     (byte-reads text at _
     (eqb-true _ _
-    (sym (c .before .before .before .before .before .before .before .has .ensures) ∙ not-false _ (c .before .before .before .before .before .before .if1 .left))))
+    (sym (c .before .before .before .before .before .before .before .has .ensures) ∙ not-false _
+    (c .before .before .before .before .before .before .if1 .left))))
     (decimal-reads text (at + 1) (c .before .before .before .before .before .decimal-at .ensures) (c .before .before .before .m .given .1))
     (ended-fails text (c .before .before .before .m .given .0 .1 .0) (c .before .ended .ensures) (c .if2 .left)))
 
@@ -74,15 +61,5 @@ returns-4 c =
 
 pub labelled-global-spec : {M : Type 1} → statement M
 labelled-global-spec =
-    tie.close
-    (tie.spec
-    has-requires
-    returns
-    add-decimal-at
-    decimal-at-requires
-    enum-known-m
-    ended-requires
-    returns-2
-    enum-told
-    returns-3
-    returns-4)
+    tie.close (tie.spec (search needs) returns add-decimal-at (search needs) (search needs) (search needs) returns-2
+    (search needs) returns-3 returns-4)

@@ -7,17 +7,11 @@ use borrow.Author.Needs.{needs}
 use Rattle.items.proofs.marked.Statement.{statement}
 use Rattle.items.proofs.marked.Tie as tie
 
-has-requires : tie.Need-has-requires
-has-requires c κs = search needs
-
 add-ended : tie.Need-add-ended
 add-ended c =
     let text = c .before .before .before .args .text .now in
     let at = c .before .before .before .args .at in
     omega (arith, inside text at (eqb-true _ _ (sym (c .before .has .ensures) ∙ c .if1 .taken)) (omega arith))
-
-ended-requires : tie.Need-ended-requires
-ended-requires c κs = search needs
 
 returns : tie.Need-returns
 returns c =
@@ -33,4 +27,4 @@ returns-2 c =
     sym (ap isGot (mark-not text at _ (eqb-false _ _ (sym (c .before .has .ensures) ∙ c .if1 .left))))
 
 pub marked-spec : {M : Type 1} → statement M
-marked-spec = tie.close (tie.spec has-requires add-ended ended-requires returns returns-2)
+marked-spec = tie.close (tie.spec (search needs) add-ended (search needs) returns returns-2)

@@ -16,41 +16,22 @@ Inv-loop text at comment₀ i₀ comment i = i + gaps comment (drop i text) ≡ 
 abbrev μ-loop : tie.MeasureT-loop
 μ-loop text at comment₀ i₀ comment i = length text - i
 
-loop-holds : tie.Need-loop-holds Inv-loop μ-loop
-loop-holds c = search needs
-
-shared-slice-read-c : tie.Need-shared-slice-read-c Inv-loop μ-loop
-shared-slice-read-c c = search needs
-
-in-gap-requires : tie.Need-in-gap-requires Inv-loop μ-loop
-in-gap-requires c κs = search needs
-
 returns : tie.Need-returns Inv-loop μ-loop
 returns c =
     let text = c .before .before .before .before .before .before .args .text .now in
     omega (
       arith,
-      gap-stops text (c .before .before .before .before .loop .i) (c .before .before .before .before .loop .comment)
-          (omega arith) (c .before .in-gap .ensures) (not-true _ (c .if1 .taken)),
+      gap-stops text (c .before .before .before .before .loop .i) (c .before .before .before .before .loop .comment) (omega arith)
+          (c .before .in-gap .ensures) (not-true _ (c .if1 .taken)),
     )
-
-in-comment-requires : tie.Need-in-comment-requires Inv-loop μ-loop
-in-comment-requires c κs = search needs
-
-add-i : tie.Need-add-i Inv-loop μ-loop
-add-i c = omega arith
-
-loop-less : tie.Need-loop-less Inv-loop μ-loop
-loop-less c = omega arith
 
 loop-again : tie.Need-loop-again Inv-loop μ-loop
 loop-again c =
     let text = c .before .before .before .before .before .before .before .args .text .now in
     omega (
       arith,
-      gap-goes text (c .before .before .before .before .before .loop .i)
-          (c .before .before .before .before .before .loop .comment) (omega arith) (c .before .before .in-gap .ensures)
-          (not-false _ (c .before .if1 .left)) (c .in-comment .ensures),
+      gap-goes text (c .before .before .before .before .before .loop .i) (c .before .before .before .before .before .loop .comment)
+          (omega arith) (c .before .before .in-gap .ensures) (not-false _ (c .before .if1 .left)) (c .in-comment .ensures),
     )
 
 returns-2 : tie.Need-returns-2 Inv-loop μ-loop
@@ -59,15 +40,5 @@ returns-2 c = omega (arith, gap-end (c .before .before .before .args .text .now)
 pub past-gap-spec : {M : Type 1} → statement M
 past-gap-spec =
     tie.close
-    (tie.spec
-    Inv-loop
-    μ-loop
-    loop-holds
-    shared-slice-read-c
-    in-gap-requires
-    returns
-    in-comment-requires
-    add-i
-    loop-less
-    loop-again
-    returns-2)
+    (tie.spec Inv-loop μ-loop (search needs) (search needs) (search needs) returns (search needs) (λ c. omega arith)
+    (λ c. omega arith) loop-again returns-2)

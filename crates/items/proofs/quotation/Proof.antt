@@ -13,12 +13,6 @@ use Rattle.items.proofs.quotation.Tie as tie
 add-character-at : tie.Need-add-character-at
 add-character-at c = omega (arith, inside (c .before .args .text .now) (c .before .args .at) (c .before .pre) (omega arith))
 
-character-at-requires : tie.Need-character-at-requires
-character-at-requires c κs = search needs
-
-enum-known-first : tie.Need-enum-known-first
-enum-known-first c = search needs
-
 add-end : tie.Need-add-end
 add-end c =
     let text = c .before .before .before .before .before .args .text .now in
@@ -31,15 +25,6 @@ add-end-2 c =
     let at = c .before .before .before .before .before .args .at in
     omega (arith, is-inside 39 text (at + 1) (when-is _ (c .before .before .before .character-at .ensures) (c .before .first .given .1)))
 
-character-at-requires-2 : tie.Need-character-at-requires-2
-character-at-requires-2 c κs = search needs
-
-enum-told : tie.Need-enum-told
-enum-told c = search needs
-
-cast-t12 : tie.Need-cast-t12
-cast-t12 c = search needs
-
 add-t14 : tie.Need-add-t14
 add-t14 c =
     let text = c .before .before .before .before .before .before .before .before .args .text .now in
@@ -50,18 +35,6 @@ add-t14 c =
           (at + 1 + c .before .before .before .before .first .given .0 .1 .0)
           (when-closing _ (c .before .before .character-at2 .ensures) (c .enum-told .given .1)),
     )
-
-enum-told-2 : tie.Need-enum-told-2
-enum-told-2 c = search needs
-
-enum-told-3 : tie.Need-enum-told-3
-enum-told-3 c = search needs
-
-enum-told-4 : tie.Need-enum-told-4
-enum-told-4 c = search needs
-
-enum-told-5 : tie.Need-enum-told-5
-enum-told-5 c = search needs
 
 returns : tie.Need-returns
 unfolding asOperand
@@ -99,7 +72,8 @@ returns-4 c =
     let text = c .before .before .before .before .args .text .now in
     let at = c .before .before .before .before .args .at in
     no-operand quotation text at
-    (quotation-none text at (c .before .before .before .before .pre) (when-closing _ (c .before .before .character-at .ensures) (c .enum-told4 .given .1)))
+    (quotation-none text at (c .before .before .before .before .pre)
+    (when-closing _ (c .before .before .character-at .ensures) (c .enum-told4 .given .1)))
 
 returns-5 : tie.Need-returns-5
 returns-5 c =
@@ -110,23 +84,6 @@ returns-5 c =
 
 pub quotation-spec : {M : Type 1} → statement M
 quotation-spec =
-    tie.close
-    (tie.spec
-    add-character-at
-    character-at-requires
-    enum-known-first
-    add-end
-    add-end-2
-    character-at-requires-2
-    enum-told
-    cast-t12
-    add-t14
-    enum-told-2
-    enum-told-3
-    enum-told-4
-    enum-told-5
-    returns
-    returns-2
-    returns-3
-    returns-4
-    returns-5)
+    tie.close (tie.spec add-character-at (search needs) (search needs) add-end add-end-2 (search needs) (search needs)
+    (search needs) add-t14 (search needs) (search needs) (search needs) (search needs) returns returns-2 returns-3
+    returns-4 returns-5)

@@ -9,9 +9,6 @@ use borrow.Author.Needs.{needs}
 use Rattle.items.proofs.string_at.Statement.{statement}
 use Rattle.items.proofs.string_at.Tie as tie
 
-has-requires : tie.Need-has-requires
-has-requires c κs = search needs
-
 returns : tie.Need-returns
 returns c =
     let text = c .before .before .before .args .text .now in
@@ -24,12 +21,6 @@ add-characters-at c =
     let at = c .before .before .before .args .at in
     omega (arith, inside text at (eqb-true _ 34 (sym (c .before .has .ensures) ∙ not-false _ (c .if1 .left))) (omega arith))
 
-characters-at-requires : tie.Need-characters-at-requires
-characters-at-requires c κs = search needs
-
-enum-known-s : tie.Need-enum-known-s
-enum-known-s c = search needs
-
 returns-2 : tie.Need-returns-2
 returns-2 c =
     let text = c .before .before .before .before .before .before .before .before .args .text .now in
@@ -37,12 +28,10 @@ returns-2 c =
     no-item stringItem text at
     (string-long text at
     (byte-reads text at 34
-    (eqb-true _ _ (sym (c .before .before .before .before .before .before .has .ensures) ∙ not-false _ (c .before .before .before .before .before .if1 .left))))
+    (eqb-true _ _
+    (sym (c .before .before .before .before .before .before .has .ensures) ∙ not-false _ (c .before .before .before .before .before .if1 .left))))
     (characters-read text (at + 1) (c .before .before .before .before .characters-at .ensures) (c .before .before .s .given .1))
     (c .if2 .taken))
-
-ended-requires : tie.Need-ended-requires
-ended-requires c κs = search needs
 
 returns-3 : tie.Need-returns-3
 returns-3 c =
@@ -53,12 +42,10 @@ returns-3 c =
     (eqb-true _ _
     (sym (c .before .before .before .before .before .before .before .before .has .ensures) ∙
     not-false _ (c .before .before .before .before .before .before .before .if1 .left))))
-    (characters-read text (at + 1) (c .before .before .before .before .before .before .characters-at .ensures) (c .before .before .before .before .s .given .1))
+    (characters-read text (at + 1) (c .before .before .before .before .before .before .characters-at .ensures)
+    (c .before .before .before .before .s .given .1))
     (c .before .before .if2 .left)
     (ended-reads text (c .before .before .before .before .s .given .0 .1 .0) (c .before .ended .ensures) (c .if3 .taken))
-
-enum-told : tie.Need-enum-told
-enum-told c = search needs
 
 returns-4 : tie.Need-returns-4
 returns-4 c =
@@ -68,8 +55,10 @@ returns-4 c =
     (string-open text at
     (byte-reads text at 34
     (eqb-true _ _
-    (sym (c .before .before .before .before .before .before .before .before .has .ensures) ∙ not-false _ (c .before .before .before .before .before .before .before .if1 .left))))
-    (characters-read text (at + 1) (c .before .before .before .before .before .before .characters-at .ensures) (c .before .before .before .before .s .given .1))
+    (sym (c .before .before .before .before .before .before .before .before .has .ensures) ∙ not-false _
+    (c .before .before .before .before .before .before .before .if1 .left))))
+    (characters-read text (at + 1) (c .before .before .before .before .before .before .characters-at .ensures)
+    (c .before .before .before .before .s .given .1))
     (c .before .before .if2 .left)
     (ended-fails text (c .before .before .before .before .s .given .0 .1 .0) (c .before .ended .ensures) (c .if3 .left)))
 
@@ -79,21 +68,12 @@ returns-5 c =
     let at = c .before .before .before .before .before .before .args .at in
     no-item stringItem text at
     (string-faulty text at
-    (byte-reads text at 34 (eqb-true _ _ (sym (c .before .before .before .before .has .ensures) ∙ not-false _ (c .before .before .before .if1 .left))))
+    (byte-reads text at 34
+    (eqb-true _ _ (sym (c .before .before .before .before .has .ensures) ∙ not-false _ (c .before .before .before .if1 .left))))
     (characters-fail text (at + 1) (c .before .before .characters-at .ensures) (c .enum-told .given .1)))
 
 pub string-at-spec : {M : Type 1} → statement M
 string-at-spec =
     tie.close
-    (tie.spec
-    has-requires
-    returns
-    add-characters-at
-    characters-at-requires
-    enum-known-s
-    returns-2
-    ended-requires
-    returns-3
-    enum-told
-    returns-4
-    returns-5)
+    (tie.spec (search needs) returns add-characters-at (search needs) (search needs) returns-2 (search needs) returns-3
+    (search needs) returns-4 returns-5)

@@ -13,29 +13,11 @@ Inv-loop scratch₀ from i₀ scratch i = (from ≤ i) × (i ≤ length scratch�
 abbrev μ-loop : tie.MeasureT-loop
 μ-loop scratch₀ from i₀ scratch i = length scratch₀ - i
 
-loop-holds : tie.Need-loop-holds Inv-loop μ-loop
-loop-holds c = (omega arith, c .pre, clear-start (c .args .scratch .now) (c .args .from), search needs)
-
-mul-scratch : tie.Need-mul-scratch Inv-loop μ-loop
-mul-scratch c = search needs
-
-slice-write-scratch : tie.Need-slice-write-scratch Inv-loop μ-loop
-slice-write-scratch c = search needs
-
-add-i : tie.Need-add-i Inv-loop μ-loop
-add-i c = search needs
-
-loop-less : tie.Need-loop-less Inv-loop μ-loop
-loop-less c = search needs
-
 loop-again : tie.Need-loop-again Inv-loop μ-loop
 loop-again c =
     let args = c .before .before .args in
     let loop = c .before .loop in
     (search needs, search needs, clear-more (args .scratch .now) (args .from) (loop .i) (loop .inv .0) (loop .inv .2) (search needs), search needs)
-
-same-length : tie.Need-same-length Inv-loop μ-loop
-same-length c = search needs
 
 returns : tie.Need-returns Inv-loop μ-loop
 returns c =
@@ -45,15 +27,5 @@ returns c =
 
 pub clear-from-spec : {M : Type 1} → statement M
 clear-from-spec =
-    tie.close
-    (tie.spec
-    Inv-loop
-    μ-loop
-    loop-holds
-    mul-scratch
-    slice-write-scratch
-    add-i
-    loop-less
-    loop-again
-    same-length
-    returns)
+    tie.close (tie.spec Inv-loop μ-loop (λ c. (omega arith, c .pre, search clear-start, search needs))
+    (search needs) (search needs) (search needs) (search needs) loop-again (search needs) returns)

@@ -5,12 +5,6 @@ use borrow.Author.Needs.{needs}
 use Rattle.symbols.proofs.ends_line.Statement.{statement}
 use Rattle.symbols.proofs.ends_line.Tie as tie
 
-array-read-result : tie.Need-array-read-result
-array-read-result c = search needs
-
-returns : tie.Need-returns
-unfolding endsLine member
-returns c = marked endsLine 62 (c .args .kind) (c .pre)
-
 pub ends-line-spec : {M : Type 1} → statement M
-ends-line-spec = tie.close (tie.spec array-read-result returns)
+unfolding endsLine member
+ends-line-spec = tie.close (tie.spec (search needs) (λ c. marked endsLine 62 (c .args .kind) (c .pre)))

@@ -4,14 +4,8 @@ use borrow.Author.Needs.{needs}
 use Rattle.symbols.proofs.gains.Statement.{statement}
 use Rattle.symbols.proofs.gains.Tie as tie
 
-ends-line-requires : tie.Need-ends-line-requires
-ends-line-requires c κs = search needs
-
 returns : tie.Need-returns
 returns c = rw (sym (c .before .ends-line .ensures) ∙ not-true _ (c .if1 .taken))
-
-begins-line-requires : tie.Need-begins-line-requires
-begins-line-requires c κs = search needs
 
 returns-2 : tie.Need-returns-2
 returns-2 c =
@@ -26,5 +20,4 @@ returns-3 c =
     rw (sym (ends-line .ensures) ∙ not-false _ (if1 .left), sym (c .before .begins-line .ensures) ∙ not-false _ (c .if2 .left))
 
 pub gains-spec : {M : Type 1} → statement M
-gains-spec =
-    tie.close (tie.spec ends-line-requires returns begins-line-requires returns-2 returns-3)
+gains-spec = tie.close (tie.spec (search needs) returns (search needs) returns-2 returns-3)

@@ -6,11 +6,13 @@ use Rattle.symbols.proofs.write.Tie as tie
 
 put-requires : tie.Need-put-requires
 put-requires c κs =
-    let pre = c .before .before .before .pre in
-    (let h = rw (c .before .if1 .taken) at (pre .0) in omega (arith, h), omega arith, omega arith, pre .3)
-
-add-put : tie.Need-add-put
-add-put c = search needs
+    let pre = c .before .before .before .pre in (
+      let h = rw (c .before .if1 .taken) at (pre .0) in
+          omega (arith, h),
+      omega arith,
+      omega arith,
+      pre .3,
+    )
 
 put-requires-2 : tie.Need-put-requires-2
 put-requires-2 c κs =
@@ -18,17 +20,12 @@ put-requires-2 c κs =
     let pre = c .before .before .before .before .before .before .before .pre in
     let args = c .before .before .before .before .before .before .before .args in
     let put = c .before .before .before .put in (
-      let h = rw (if1 .taken) at (pre .0) in omega (arith, h, put-length (args .scratch .now) (args .count) 54 0 (args .place) (omega (arith, h)) (put .ensures)),
+      let h = rw (if1 .taken) at (pre .0) in omega
+          (arith, h, put-length (args .scratch .now) (args .count) 54 0 (args .place) (omega (arith, h)) (put .ensures)),
       pre .1,
       pre .2,
       pre .3,
     )
-
-add-result : tie.Need-add-result
-add-result c = search needs
-
-same-length : tie.Need-same-length
-same-length c = search needs
 
 returns : tie.Need-returns
 returns c =
@@ -40,14 +37,13 @@ returns c =
 
 put-requires-3 : tie.Need-put-requires-3
 put-requires-3 c κs =
-    let pre = c .before .before .before .pre in
-    (let h = rw (c .before .if1 .left) at (pre .0) in omega (arith, h), pre .1, pre .2, pre .3)
-
-add-result-2 : tie.Need-add-result-2
-add-result-2 c = search needs
-
-same-length-2 : tie.Need-same-length-2
-same-length-2 c = search needs
+    let pre = c .before .before .before .pre in (
+      let h = rw (c .before .if1 .left) at (pre .0) in
+          omega (arith, h),
+      pre .1,
+      pre .2,
+      pre .3,
+    )
 
 returns-2 : tie.Need-returns-2
 returns-2 c =
@@ -58,15 +54,5 @@ returns-2 c =
 
 pub write-spec : {M : Type 1} → statement M
 write-spec =
-    tie.close
-    (tie.spec
-    put-requires
-    add-put
-    put-requires-2
-    add-result
-    same-length
-    returns
-    put-requires-3
-    add-result-2
-    same-length-2
-    returns-2)
+    tie.close (tie.spec put-requires (search needs) put-requires-2 (search needs) (search needs) returns put-requires-3
+    (search needs) (search needs) returns-2)

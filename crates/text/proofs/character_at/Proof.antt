@@ -11,25 +11,17 @@ returns : tie.Need-returns
 unfolding character asCharacter
 returns c = sym (ap asCharacter (past-end (character _) _ _ (c .if1 .taken)))
 
-shared-slice-read-c : tie.Need-shared-slice-read-c
-shared-slice-read-c c = search needs
-
 returns-2 : tie.Need-returns-2
 unfolding asCharacter
 returns-2 c = sym (ap asCharacter (at-byte (character _) _ _ (c .before .before .if1 .left) refl ∙ at-quote _ _ _ (c .if2 .taken)))
-
-add-escape : tie.Need-add-escape
-add-escape c = search needs
-
-escape-requires : tie.Need-escape-requires
-escape-requires c κs = search needs
 
 returns-3 : tie.Need-returns-3
 returns-3 c =
     c .escape .ensures ∙
     sym
     (ap asCharacter
-    (at-byte (character _) _ _ (c .before .before .before .before .if1 .left) refl ∙ at-asterisk _ _ _ (c .before .before .if2 .left) (c .before .if3 .taken)))
+    (at-byte (character _) _ _ (c .before .before .before .before .if1 .left) refl ∙ at-asterisk _ _ _ (c .before .before .if2 .left)
+    (c .before .if3 .taken)))
 
 returns-4 : tie.Need-returns-4
 unfolding asCharacter
@@ -59,13 +51,4 @@ returns-6 c =
 pub character-at-spec : {M : Type 1} → statement M
 character-at-spec =
     tie.close
-    (tie.spec
-    returns
-    shared-slice-read-c
-    returns-2
-    add-escape
-    escape-requires
-    returns-3
-    returns-4
-    returns-5
-    returns-6)
+    (tie.spec returns (search needs) returns-2 (search needs) (search needs) returns-3 returns-4 returns-5 returns-6)

@@ -13,9 +13,6 @@ returns : tie.Need-returns
 unfolding escape asCharacter
 returns c = sym (past-end (λ (l : List ℕ). asCharacter (escape l)) _ _ (c .if1 .taken))
 
-shared-slice-read-c : tie.Need-shared-slice-read-c
-shared-slice-read-c c = search needs
-
 returns-2 : tie.Need-returns-2
 unfolding escape asCharacter
 returns-2 c = sym (at-byte (λ (l : List ℕ). asCharacter (escape l)) _ _ (c .before .before .if1 .left) (c .match .keys1))
@@ -54,21 +51,11 @@ returns-10 c = sym (at-byte (λ (l : List ℕ). asCharacter (escape l)) _ _ (c .
 
 returns-11 : tie.Need-returns-11
 unfolding asCharacter
-returns-11 c = sym (at-byte (λ (l : List ℕ). asCharacter (escape l)) _ _ (c .before .before .if1 .left) refl ∙ ap asCharacter (no-escape _ _ (c .match .rest)))
+returns-11 c =
+    sym (at-byte (λ (l : List ℕ). asCharacter (escape l)) _ _ (c .before .before .if1 .left) refl ∙ ap asCharacter (no-escape _ _ (c .match .rest)))
 
 pub escape-spec : {M : Type 1} → statement M
 escape-spec =
     tie.close
-    (tie.spec
-    returns
-    shared-slice-read-c
-    returns-2
-    returns-3
-    returns-4
-    returns-5
-    returns-6
-    returns-7
-    returns-8
-    returns-9
-    returns-10
-    returns-11)
+    (tie.spec returns (search needs) returns-2 returns-3 returns-4 returns-5 returns-6 returns-7 returns-8 returns-9
+    returns-10 returns-11)

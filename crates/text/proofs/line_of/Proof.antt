@@ -10,7 +10,8 @@ use Rattle.text.proofs.line_of.Statement.{statement}
 use Rattle.text.proofs.line_of.Tie as tie
 
 abbrev Inv-loop : tie.InvT-loop
-Inv-loop text place line₀ i₀ line i = (i ≤ length text) × (i ≤ place) × (1 ≤ line) × (line + between text place i ≡ lineOf text place) × (line ≤ i + 1)
+Inv-loop text place line₀ i₀ line i =
+    (i ≤ length text) × (i ≤ place) × (1 ≤ line) × (line + between text place i ≡ lineOf text place) × (line ≤ i + 1)
 
 abbrev μ-loop : tie.MeasureT-loop
 μ-loop text place line₀ i₀ line i = length text - i
@@ -22,18 +23,6 @@ returns : tie.Need-returns Inv-loop μ-loop
 returns c =
     let text = c .before .before .before .args .text .now in
     omega (arith, between-none text (c .before .before .before .args .place) (c .before .before .loop .i) (c .if1 .taken))
-
-shared-slice-read-if2 : tie.Need-shared-slice-read-if2 Inv-loop μ-loop
-shared-slice-read-if2 c = search needs
-
-add-line : tie.Need-add-line Inv-loop μ-loop
-add-line c = omega arith
-
-add-i : tie.Need-add-i Inv-loop μ-loop
-add-i c = omega arith
-
-loop-less : tie.Need-loop-less Inv-loop μ-loop
-loop-less c = omega arith
 
 loop-again : tie.Need-loop-again Inv-loop μ-loop
 loop-again c =
@@ -56,15 +45,5 @@ returns-2 c = omega (arith, between-past (c .before .before .args .text .now) (c
 
 pub line-of-spec : {M : Type 1} → statement M
 line-of-spec =
-    tie.close
-    (tie.spec
-    Inv-loop
-    μ-loop
-    loop-holds
-    returns
-    shared-slice-read-if2
-    add-line
-    add-i
-    loop-less
-    loop-again
-    returns-2)
+    tie.close (tie.spec Inv-loop μ-loop loop-holds returns (search needs) (λ c. omega arith) (λ c. omega arith)
+    (λ c. omega arith) loop-again returns-2)

@@ -5,14 +5,8 @@ use borrow.Author.Needs.{needs}
 use Rattle.words.proofs.at_least.Statement.{statement}
 use Rattle.words.proofs.at_least.Tie as tie
 
-below-requires : tie.Need-below-requires
-below-requires c κs = search needs
-
-truth-requires : tie.Need-truth-requires
-truth-requires c κs = search needs
-
 returns : tie.Need-returns
 returns c = c .truth .ensures ∙ ap (λ (t : Bool). truth (not t)) (c .before .below .ensures)
 
 pub at-least-spec : {M : Type 1} → statement M
-at-least-spec = tie.close (tie.spec below-requires truth-requires returns)
+at-least-spec = tie.close (tie.spec (search needs) (search needs) returns)

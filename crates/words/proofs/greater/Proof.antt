@@ -4,14 +4,6 @@ use borrow.Author.Needs.{needs}
 use Rattle.words.proofs.greater.Statement.{statement}
 use Rattle.words.proofs.greater.Tie as tie
 
-below-requires : tie.Need-below-requires
-below-requires c κs = search needs
-
-truth-requires : tie.Need-truth-requires
-truth-requires c κs = search needs
-
-returns : tie.Need-returns
-returns c = c .truth .ensures ∙ ap truth (c .before .below .ensures)
-
 pub greater-spec : {M : Type 1} → statement M
-greater-spec = tie.close (tie.spec below-requires truth-requires returns)
+greater-spec =
+    tie.close (tie.spec (search needs) (search needs) (λ c. c .truth .ensures ∙ ap truth (c .before .below .ensures)))

@@ -2,8 +2,5 @@ use Rattle.words.proofs.Laws.{negative-is}
 use Rattle.words.proofs.negative.Statement.{statement}
 use Rattle.words.proofs.negative.Tie as tie
 
-returns : tie.Need-returns
-returns c = negative-is _
-
 pub negative-spec : {M : Type 1} → statement M
-negative-spec = tie.close (tie.spec returns)
+negative-spec = tie.close (tie.spec (λ _. negative-is _))

@@ -35,28 +35,16 @@ same-length : tie.Need-same-length
 same-length c = search needs
 
 returns : tie.Need-returns
-returns c = turned (called-in _ _ _ _ (c .before .before .before .before .sum .ensures) (c .before .before .before .sum2 .ensures) (c .before .before .if1 .taken) (c .before .if2 .taken)) (c .framed .ensures)
+returns c = search (turned, called-in)
 
 returns-2 : tie.Need-returns-2
-returns-2 c = turned-stop (called-half _ _ _ _ (c .before .before .before .sum .ensures) (c .before .before .sum2 .ensures) (c .before .if1 .taken) (c .if2 .left))
+returns-2 c = search (turned-stop, called-half)
 
 returns-3 : tie.Need-returns-3
-returns-3 c = turned-stop (called-past _ _ _ _ (c .before .before .sum .ensures) (c .if1 .left))
+returns-3 c = search (turned-stop, called-past)
 
 pub call-spec : {M : Type 1} → statement M
 call-spec =
     tie.close
-    (tie.spec
-    sum-requires
-    cast-i
-    sum-requires-2
-    cast-j
-    mul-memory
-    slice-write-memory
-    mul-memory-2
-    slice-write-memory-2
-    framed-requires
-    same-length
-    returns
-    returns-2
-    returns-3)
+    (tie.spec sum-requires cast-i sum-requires-2 cast-j mul-memory slice-write-memory mul-memory-2 slice-write-memory-2
+    framed-requires same-length returns returns-2 returns-3)

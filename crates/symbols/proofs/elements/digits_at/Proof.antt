@@ -12,33 +12,23 @@ use Rattle.symbols.proofs.elements.digits_at.Statement.{statement}
 use Rattle.symbols.proofs.elements.digits_at.Tie as tie
 
 abbrev Inv-loop : tie.InvT-loop
-Inv-loop text at base n₀ i₀ n i = (at ≤ i) × (n ≤ 65536) × (i + digits base (drop i text) ≡ at + digits base (drop at text)) × (capped (valueOf base n (drop i text)) ≡ capped (valueOf base 0 (drop at text)))
+Inv-loop text at base n₀ i₀ n i =
+    (at ≤ i) × (n ≤ 65536) × (i + digits base (drop i text) ≡ at + digits base (drop at text)) ×
+    (capped (valueOf base n (drop i text)) ≡ capped (valueOf base 0 (drop at text)))
 
 abbrev μ-loop : tie.MeasureT-loop
 μ-loop text at base n₀ i₀ n i = length text - i
-
-loop-holds : tie.Need-loop-holds Inv-loop μ-loop
-loop-holds c = (search needs, search needs, refl, refl)
-
-shared-slice-read-wide : tie.Need-shared-slice-read-wide Inv-loop μ-loop
-shared-slice-read-wide c = search needs
-
-wide-requires : tie.Need-wide-requires Inv-loop μ-loop
-wide-requires c κs = search needs
-
-is-digit-requires : tie.Need-is-digit-requires Inv-loop μ-loop
-is-digit-requires c κs = c .before .before .before .before .before .pre .1
-
-sub-t12 : tie.Need-sub-t12 Inv-loop μ-loop
-sub-t12 c = search needs
 
 returns : tie.Need-returns Inv-loop μ-loop
 returns c =
     let args = c .before .before .before .before .before .before .before .args in
     let loop = c .before .before .before .before .before .loop in
     let wide = c .before .before .wide in (
-      omega (arith, run-stop (digits-run (args .base)) (args .text .now) (loop .i) (omega arith) (rw (wide .ensures .0) at (sym (c .before .is-digit .ensures) ∙ not-true _ (c .if1 .taken)))),
-      sym (value-stop (args .base) (loop .n) (args .text .now) (loop .i) (omega arith) (wide .ensures .0) (sym (c .before .is-digit .ensures) ∙ not-true _ (c .if1 .taken)) (loop .inv .1)) ∙ loop .inv .3,
+      omega
+          (arith, run-stop (digits-run (args .base)) (args .text .now) (loop .i) (omega arith) (rw (wide .ensures .0) at (sym (c .before .is-digit .ensures) ∙ not-true _ (c .if1 .taken)))),
+      sym
+          (value-stop (args .base) (loop .n) (args .text .now) (loop .i) (omega arith) (wide .ensures .0)
+          (sym (c .before .is-digit .ensures) ∙ not-true _ (c .if1 .taken)) (loop .inv .1)) ∙ loop .inv .3,
     )
 
 and-digit-requires : tie.Need-and-digit-requires Inv-loop μ-loop
@@ -49,12 +39,6 @@ and-digit-requires c κs =
     let wide = c .before .before .wide in
     (pre .1, loop .inv .1, digit-from (args .base) _ (sym (c .before .is-digit .ensures) ∙ not-false _ (c .if1 .left)), wide .ensures .1)
 
-add-i : tie.Need-add-i Inv-loop μ-loop
-add-i c = search needs
-
-loop-less : tie.Need-loop-less Inv-loop μ-loop
-loop-less c = search needs
-
 loop-again : tie.Need-loop-again Inv-loop μ-loop
 loop-again c =
     let args = c .before .before .before .before .before .before .before .before .args in
@@ -64,12 +48,12 @@ loop-again c =
     let pre = c .before .before .before .before .before .before .before .before .pre in (
       omega arith,
       rw (c .and-digit .ensures) (capped-within _),
-      omega (arith, run-more (digits-run (args .base)) (args .text .now) (loop .i) (omega arith) (rw (wide .ensures .0) at (sym (is-digit .ensures) ∙ not-false _ (c .before .if1 .left)))),
-      ap (λ (m : ℕ). capped (valueOf (args .base) m (drop (loop .i + 1) (args .text .now)))) (c .and-digit .ensures) ∙ sym (value-more (args .base) (loop .n) (args .text .now) (loop .i) (omega arith) (wide .ensures .0) (pre .0) (sym (is-digit .ensures) ∙ not-false _ (c .before .if1 .left))) ∙ loop .inv .3,
+      omega
+          (arith, run-more (digits-run (args .base)) (args .text .now) (loop .i) (omega arith) (rw (wide .ensures .0) at (sym (is-digit .ensures) ∙ not-false _ (c .before .if1 .left)))),
+      ap (λ (m : ℕ). capped (valueOf (args .base) m (drop (loop .i + 1) (args .text .now)))) (c .and-digit .ensures) ∙ sym
+          (value-more (args .base) (loop .n) (args .text .now) (loop .i) (omega arith) (wide .ensures .0) (pre .0)
+          (sym (is-digit .ensures) ∙ not-false _ (c .before .if1 .left))) ∙ loop .inv .3,
     )
-
-sub-t13 : tie.Need-sub-t13 Inv-loop μ-loop
-sub-t13 c = search needs
 
 returns-2 : tie.Need-returns-2 Inv-loop μ-loop
 returns-2 c =
@@ -81,19 +65,6 @@ returns-2 c =
 
 pub digits-at-spec : {M : Type 1} → statement M
 digits-at-spec =
-    tie.close
-    (tie.spec
-    Inv-loop
-    μ-loop
-    loop-holds
-    shared-slice-read-wide
-    wide-requires
-    is-digit-requires
-    sub-t12
-    returns
-    and-digit-requires
-    add-i
-    loop-less
-    loop-again
-    sub-t13
-    returns-2)
+    tie.close (tie.spec Inv-loop μ-loop (λ c. (search needs, search needs, refl, refl))
+    (search needs) (search needs) (search needs) (search needs) returns and-digit-requires (search needs)
+    (search needs) loop-again (search needs) returns-2)

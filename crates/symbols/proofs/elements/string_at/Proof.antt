@@ -5,7 +5,7 @@ use lib.ListN.{length, drop}
 use borrow.Author.Needs.{needs}
 use Rattle.text.specs.Quoted.{quoted}
 use Rattle.text.proofs.Answers.{when-is, when-closing, when-bad}
-use Rattle.text.proofs.Quotes.{is-inside, closing-inside}
+use Rattle.text.proofs.Quotes.{is-inside}
 use Rattle.language.specs.Symbols.{string}
 use Rattle.symbols.specs.Answers.{asElement}
 use Rattle.symbols.proofs.Quotations.{stringAfter, string-start, string-more, a-string, long-string, bad-string}
@@ -20,19 +20,6 @@ abbrev μ-loop : tie.MeasureT-loop
 
 loop-holds : tie.Need-loop-holds Inv-loop μ-loop
 loop-holds c = (omega arith, c .before .pre, string-start _ (omega arith))
-
-character-at-requires : tie.Need-character-at-requires Inv-loop μ-loop
-character-at-requires c κs = search needs
-
-enum-known-c : tie.Need-enum-known-c Inv-loop μ-loop
-enum-known-c c = search needs
-
-add-n : tie.Need-add-n Inv-loop μ-loop
-add-n c =
-    let args = c .before .before .before .before .before .before .args in
-    let loop = c .before .before .before .before .loop in
-    let character-at = c .before .before .before .character-at in
-    omega (arith, is-inside 34 (args .text .now) (loop .i) (when-is _ (character-at .ensures) (c .before .c .given .1)))
 
 add-i : tie.Need-add-i Inv-loop μ-loop
 add-i c =
@@ -55,64 +42,29 @@ loop-again c =
     let character-at = c .before .before .before .character-at in
     let c′ = c .before .c in (
       omega (arith, is-inside 34 (args .text .now) (loop .i) (when-is _ (character-at .ensures) (c′ .given .1))),
-      is-inside 34 (args .text .now) (loop .i) (when-is _ (character-at .ensures) (c′ .given .1)) .1,
-      loop .inv .2 ∙ string-more (args .text .now) (loop .i) (loop .n) (loop .i - args .at) (when-is _ (character-at .ensures) (c′ .given .1)) (omega (arith, loop .inv .0)),
+      is-inside 34 (args .text .now)
+          (loop .i) (when-is _ (character-at .ensures) (c′ .given .1)) .1,
+      loop .inv .2 ∙ string-more (args .text .now) (loop .i) (loop .n)
+          (loop .i - args .at) (when-is _ (character-at .ensures) (c′ .given .1)) (omega arith),
     )
-
-enum-told : tie.Need-enum-told Inv-loop μ-loop
-enum-told c = search needs
-
-sub-t8 : tie.Need-sub-t8 Inv-loop μ-loop
-sub-t8 c = search needs
-
-add-t9 : tie.Need-add-t9 Inv-loop μ-loop
-add-t9 c =
-    let args = c .before .before .before .before .before .before .args in
-    let loop = c .before .before .before .before .loop in
-    let character-at = c .before .before .before .character-at in
-    omega (arith, closing-inside 34 (args .text .now) (loop .i) (when-closing _ (character-at .ensures) (c .before .enum-told .given .1)))
 
 returns : tie.Need-returns Inv-loop μ-loop
 returns c =
-    let args = c .before .before .before .before .before .before .args in
     let loop = c .before .before .before .before .loop in
-    let character-at = c .before .before .before .character-at in
-    a-string (args .text .now) (loop .i) (loop .n) (loop .i - args .at) (when-closing _ (character-at .ensures) (c .before .enum-told .given .1)) (c .if1 .taken) ∙ ap asElement (sym (loop .inv .2))
+    (search (a-string, when-closing)) ∙ ap asElement (sym (loop .inv .2))
 
 returns-2 : tie.Need-returns-2 Inv-loop μ-loop
 returns-2 c =
-    let args = c .before .before .before .before .before .before .args in
     let loop = c .before .before .before .before .loop in
-    let character-at = c .before .before .before .character-at in
-    long-string (args .text .now) (loop .i) (loop .n) (loop .i - args .at) (when-closing _ (character-at .ensures) (c .before .enum-told .given .1)) (c .if1 .left) ∙ ap asElement (sym (loop .inv .2))
-
-enum-told-2 : tie.Need-enum-told-2 Inv-loop μ-loop
-enum-told-2 c = search needs
+    (search (long-string, when-closing)) ∙ ap asElement (sym (loop .inv .2))
 
 returns-3 : tie.Need-returns-3 Inv-loop μ-loop
 returns-3 c =
-    let args = c .before .before .before .before .before .args in
     let loop = c .before .before .before .loop in
-    let character-at = c .before .before .character-at in
-    bad-string (args .text .now) (loop .i) (loop .n) (loop .i - args .at) (when-bad _ (character-at .ensures) (c .enum-told2 .given .1)) ∙ ap asElement (sym (loop .inv .2))
+    (search (bad-string, when-bad)) ∙ ap asElement (sym (loop .inv .2))
 
 pub string-at-spec : {M : Type 1} → statement M
 string-at-spec =
     tie.close
-    (tie.spec
-    Inv-loop
-    μ-loop
-    loop-holds
-    character-at-requires
-    enum-known-c
-    add-n
-    add-i
-    loop-less
-    loop-again
-    enum-told
-    sub-t8
-    add-t9
-    returns
-    returns-2
-    enum-told-2
-    returns-3)
+    (tie.spec Inv-loop μ-loop loop-holds (search needs) (search needs) (λ c. omega arith) add-i loop-less loop-again
+    (search needs) (search needs) (λ c. omega arith) returns returns-2 (search needs) returns-3)
