@@ -10,17 +10,14 @@ use borrow.Author.Tests.{lt-ltb, le-ltb, eq-eqb, ne-eqb}
 use Rattle.words.specs.Words.{add}
 use Rattle.machine.specs.Outcome.{Out, ok, stop, _>>=_, read, write}
 use Rattle.machine.specs.State.{State, at, withA, withC, framed, took, wrote}
-use Rattle.machine.specs.Fetch.{Fetch, fetch, bit}
 use Rattle.machine.specs.Acts.{indirected, returned, search, switched, received, sent}
 use Rattle.machine.specs.Step.{Turn, done, finished, stopped, turn, keep, stored, called, jumped}
-use Rattle.machine.specs.Answers.{asWord, asFetched, asActed, asTurn, left, Turns}
+use Rattle.machine.specs.Answers.{asWord, asActed, asTurn, left, Turns}
 use Rattle.machine.specs.declared.Registers.{Registers}
 use Rattle.machine.specs.declared.Word.{Word}
 use Rattle.machine.specs.declared.Word.the-variants as W
 use Rattle.machine.specs.declared.Turn as D
 use Rattle.machine.specs.declared.Turn.the-variants as T
-use Rattle.machine.specs.declared.Fetched.{Fetched}
-use Rattle.machine.specs.declared.Fetched.the-variants as F
 
 -- ---- words: a callee's answer, matched
 
@@ -52,29 +49,6 @@ module _ (m : List ℕ) (i : ℕ) where
   pub write-past : (v : ℕ) → length m ≤ i → write m i v ≡ stop 32
   unfolding write
   write-past v h = simp (le-ltb _ _ h)
-
--- ---- the fetch, from what its callees ensure and how each was matched
-
-module _ (r : Registers) (m : List ℕ) {a : Word} (pa : a ≡ asWord (read m (r .c))) where
-  pub fetch-past : {k : ℕ} → a ≡ W.Stopped k → F.Stopped k ≡ asFetched (fetch r m)
-  unfolding fetch asFetched
-  fetch-past q = simp (is-stop _ pa q)
-
-  module _ {b : Word} {w i : ℕ} (qa : a ≡ W.Is w) (hi : i ≡ add (r .c) 1) (pb : b ≡ asWord (cond (bit 512 w) (read m i) (ok (w % 512)))) where
-    pub fetch-half : {k : ℕ} → b ≡ W.Stopped k → F.Stopped k ≡ asFetched (fetch r m)
-    unfolding fetch asFetched
-    fetch-half qb = simp (is-ok _ pa qa, ← hi, is-stop _ pb qb)
-
-    module _ {d : Word} {n p g t y : ℕ} (qb : b ≡ W.Is n)
-        (hp : p ≡ cond (bit 2048 w) (r .p) 0) (hg : g ≡ cond (bit 1024 w) (r .g) 0) (ht : t ≡ add n p) (hy : y ≡ add t g)
-        (pd : d ≡ asWord (cond (bit 4096 w) (read m y) (ok y))) where
-      pub fetch-operand-past : {k : ℕ} → d ≡ W.Stopped k → F.Stopped k ≡ asFetched (fetch r m)
-      unfolding fetch asFetched
-      fetch-operand-past qd = simp (is-ok _ pa qa, ← hi, is-ok _ pb qb, ← hp, ← hg, ← ht, ← hy, is-stop _ pd qd)
-
-      pub fetch-whole : {x s e : ℕ} → d ≡ W.Is x → s ≡ cond (bit 512 w) 2 1 → e ≡ add (r .c) s → F.One (w / 8192) x e ≡ asFetched (fetch r m)
-      unfolding fetch asFetched
-      fetch-whole qd hs he = simp (is-ok _ pa qa, ← hi, is-ok _ pb qb, ← hp, ← hg, ← ht, ← hy, is-ok _ pd qd, ← hs, ← he)
 
 -- ---- a turn, from an outcome
 

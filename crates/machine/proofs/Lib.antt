@@ -1,4 +1,5 @@
 pub mod Laws
+pub mod Fetching
 pub mod Table
 pub mod Numbers
 pub mod Runs

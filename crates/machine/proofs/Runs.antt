@@ -20,19 +20,24 @@ use Rattle.machine.specs.declared.Turn.the-variants as T
 
 -- ---- one instruction, from the fetch's answer, matched
 
-fetched-one : (o : Out Fetch) {a : Fetched} {f x c : ℕ} → a ≡ asFetched o → a ≡ F.One f x c → o ≡ ok (record { function = f; operand = x; past = c })
+-- the registers r with C past the fetched instruction are r′
+record One (r : Registers) (o : Out Fetch) (f x : ℕ) (r′ : Registers) : Type 0 where
+  past : ℕ
+  fetched : o ≡ ok (record { function = f; operand = x; past = past })
+  moved : r′ ≡ withC past r
+
+fetched-one : (r : Registers) (o : Out Fetch) {a : Fetched} {f x : ℕ} {r′ : Registers} → a ≡ asFetched r o → a ≡ F.One f x r′ → One r o f x r′
 unfolding asFetched
-fetched-one (ok t) {f = f} {x = x} {c = c} p q =
+fetched-one r (ok t) {f = f} {x = x} p q =
     let e : t .function ≡ f = cc in
     let g : t .operand ≡ x = cc in
-    let h : t .past ≡ c = cc in
-    λ i. ok (record { function = e i; operand = g i; past = h i })
-fetched-one (stop k) p q = let z : _≡_ {A = ℕ} 0 1 = cc in absurd (omega arith)
+    record { past = t .past; fetched = λ i. ok (record { function = e i; operand = g i; past = t .past }); moved = cc }
+fetched-one r (stop k) p q = let z : _≡_ {A = ℕ} 0 1 = cc in absurd (omega arith)
 
-fetched-stop : (o : Out Fetch) {a : Fetched} {k : ℕ} → a ≡ asFetched o → a ≡ F.Stopped k → o ≡ stop k
+fetched-stop : (r : Registers) (o : Out Fetch) {a : Fetched} {k : ℕ} → a ≡ asFetched r o → a ≡ F.Stopped k → o ≡ stop k
 unfolding asFetched
-fetched-stop (ok t) p q = let z : _≡_ {A = ℕ} 0 1 = cc in absurd (omega arith)
-fetched-stop (stop k) p q = cc
+fetched-stop r (ok t) p q = let z : _≡_ {A = ℕ} 0 1 = cc in absurd (omega arith)
+fetched-stop r (stop k) p q = cc
 
 -- a turn said from a state with other registers
 from-other : (r r′ : Registers) (m out : List ℕ) (t : Turn) {d : D.Turn} {m′ o′ : List ℕ} → Turns (at r′ m out) t d m′ o′ → Turns (at r m out) t d m′ o′
@@ -41,17 +46,21 @@ from-other r r′ m out (done t) h = record { answers = h .answers; stores = h .
 from-other r r′ m out (finished t) h = record { answers = h .answers; stores = h .stores; writes = h .writes }
 from-other r r′ m out (stopped k) h = record { answers = h .answers; stores = h .stores; writes = h .writes }
 
-module _ (input : List ℕ) (r : Registers) (m out : List ℕ) {a : Fetched} (p : a ≡ asFetched (fetch r m)) where
+module _ (input : List ℕ) (r : Registers) (m out : List ℕ) {a : Fetched} (p : a ≡ asFetched r (fetch r m)) where
   pub step-stop : {k : ℕ} → a ≡ F.Stopped k → Turns (at r m out) (step input (at r m out)) (T.Stopped k) m out
   unfolding step asTurn left
-  step-stop q = let e = fetched-stop (fetch r m) p q in record { answers = simp e; stores = simp e; writes = simp e }
+  step-stop q = let e = fetched-stop r (fetch r m) p q in record { answers = simp e; stores = simp e; writes = simp e }
 
-  pub step-one : {f x c : ℕ} {r′ : Registers} {d : D.Turn} {m′ o′ : List ℕ} → a ≡ F.One f x c → r′ ≡ withC c r
+  step-from : {f x c : ℕ} {r′ : Registers} {d : D.Turn} {m′ o′ : List ℕ} → fetch r m ≡ ok (record { function = f; operand = x; past = c }) → r′ ≡ withC c r
       → Turns (at r′ m out) (execute input (functionOf f) x (at r′ m out)) d m′ o′ → Turns (at r m out) (step input (at r m out)) d m′ o′
   unfolding step
-  step-one {f} {x} {c} q e h =
-      let z : step input (at r m out) ≡ execute input (functionOf f) x (at (withC c r) m out) = simp (fetched-one (fetch r m) p q) in
+  step-from {f} {x} {c} g e h =
+      let z : step input (at r m out) ≡ execute input (functionOf f) x (at (withC c r) m out) = simp g in
       rw z (from-other r (withC c r) m out (execute input (functionOf f) x (at (withC c r) m out)) (rw e at h))
+
+  pub step-one : {f x : ℕ} {r′ : Registers} {d : D.Turn} {m′ o′ : List ℕ} → a ≡ F.One f x r′
+      → Turns (at r′ m out) (execute input (functionOf f) x (at r′ m out)) d m′ o′ → Turns (at r m out) (step input (at r m out)) d m′ o′
+  step-one q h = let one = fetched-one r (fetch r m) p q in step-from (one .fetched) (one .moved) h
 
 -- ---- a turn's answer, matched
 

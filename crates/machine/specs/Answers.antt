@@ -5,7 +5,7 @@ use mathlib.Core.List.{List}
 use Rattle.words.specs.declared.Divided.{Divided}
 use Rattle.words.specs.declared.Divided.the-variants.{Is, ByZero}
 use Rattle.machine.specs.Outcome.{Out, ok, stop}
-use Rattle.machine.specs.State.{State}
+use Rattle.machine.specs.State.{State, withC}
 use Rattle.machine.specs.Fetch.{Fetch}
 use Rattle.machine.specs.Step as S
 use Rattle.machine.specs.Run.{Outcome}
@@ -27,9 +27,10 @@ unfoldable pub asQuotient : Divided → Word
 asQuotient (Is v) = W.Is v
 asQuotient ByZero = W.Stopped 33
 
-unfoldable pub asFetched : Out Fetch → Fetched
-asFetched (ok f) = F.One (f .function) (f .operand) (f .past)
-asFetched (stop k) = F.Stopped k
+-- a fetch with registers: C goes past the instruction
+unfoldable pub asFetched : Registers → Out Fetch → Fetched
+asFetched r (ok f) = F.One (f .function) (f .operand) (withC (f .past) r)
+asFetched r (stop k) = F.Stopped k
 
 -- an act on the registers alone
 unfoldable pub asActed : Out Registers → Turn

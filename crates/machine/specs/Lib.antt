@@ -1,6 +1,7 @@
 pub mod Outcome
 pub mod State
 pub mod Fetch
+pub mod Forms
 pub mod Acts
 pub mod Step
 pub mod Run

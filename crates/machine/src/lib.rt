@@ -9,6 +9,7 @@ ghost use lib.Dec.{eqb};
 ghost use Rattle.machine.specs.Outcome.{Out, ok, read};
 ghost use Rattle.machine.specs.State.{at, startRegisters, withA, withC, loaded, framed};
 ghost use Rattle.machine.specs.Fetch.{fetch};
+ghost use Rattle.machine.specs.Forms.{fetchedAt, fetchedFrom, decoded};
 ghost use Rattle.machine.specs.Acts.{actOf, indirected, returned, search, switched, received, sent};
 ghost use Rattle.machine.specs.Step.{turn, stored, called, jumped, perform, functionOf, execute, step};
 ghost use Rattle.machine.specs.Run.{steps, resume, run};
@@ -33,9 +34,9 @@ pub enum Word {
     Stopped(u16),
 }
 
-// An instruction's function, its operand and the address past it, or the number of the stop.
+// An instruction's function, its operand and the registers with C past it, or the number of the stop.
 pub enum Fetched {
-    One(u16, u16, u16),
+    One(u16, u16, Registers),
     Stopped(u16),
 }
 
@@ -68,17 +69,6 @@ fn when(bit: u16, x: u16, y: u16) -> u16
     ensures { λ r. ⌜ r ≡ cond (eqb bit 1) x y ⌝ }
 {
     if bit == 1 { x } else { y }
-}
-
-// The word at i where the bit is set, else x itself.
-fn word_or(memory: &[u16], bit: u16, i: u16, x: u16) -> Word
-    ensures { λ r. ⌜ r ≡ asWord (cond (eqb bit 1) (read (now (memory .entry)) i) (ok x)) ⌝ }
-{
-    if bit == 1 {
-        word_at(memory, i)
-    } else {
-        Word::Is(x)
-    }
 }
 
 fn quotient_word(d: Divided) -> Word
@@ -153,63 +143,136 @@ impl Registers {
         }
     }
 
-    // The instruction at C.
-    fn fetch(self, memory: &[u16]) -> Fetched
-        ensures { λ r. ⌜ r ≡ asFetched (fetch self (now (memory .entry))) ⌝ }
+    // The function f with the word at i as its operand.
+    fn reading(self, memory: &[u16], f: u16, i: u16, past: u16) -> Fetched
+        ensures { λ r. ⌜ r ≡ asFetched self (fetchedAt (now (memory .entry)) f i past) ⌝ }
+    {
+        match word_at(memory, i) {
+            Word::Stopped(k) => {
+                return Fetched::Stopped(k);
+            }
+            Word::Is(x) => {
+                return Fetched::One(f, x, self.with_c(past));
+            }
+        }
+    }
+
+    // The function of w with its operand, from the number n.
+    fn operand(self, memory: &[u16], w: u16, n: u16, past: u16) -> Fetched
+        ensures { λ r. ⌜ r ≡ asFetched self (fetchedFrom self (now (memory .entry)) w n past) ⌝ }
+    {
+        let p = when(w / 2048 % 2, self.p, 0);
+        let g = when(w / 1024 % 2, self.g, 0);
+        let y = words::sum(words::sum(n, p), g);
+        if w / 4096 % 2 == 1 {
+            return self.reading(memory, w / 8192, y, past);
+        }
+        Fetched::One(w / 8192, y, self.with_c(past))
+    }
+
+    // The instruction at C, whose word is w.
+    fn decode(self, memory: &[u16], w: u16) -> Fetched
+        ensures { λ r. ⌜ r ≡ asFetched self (decoded self (now (memory .entry)) w) ⌝ }
     {
         let c = self.c;
-        match word_at(memory, c) {
-            Word::Stopped(k) => Fetched::Stopped(k),
+        if w / 512 % 2 == 1 {
+            match word_at(memory, words::sum(c, 1)) {
+                Word::Stopped(k) => {
+                    return Fetched::Stopped(k);
+                }
+                Word::Is(n) => {
+                    return self.operand(memory, w, n, words::sum(c, 2));
+                }
+            }
+        }
+        self.operand(memory, w, w % 512, words::sum(c, 1))
+    }
+
+    // The instruction at C. L, LIP, SP and X with a short address, the commonest, are told by one test of the word.
+    fn fetch(self, memory: &[u16]) -> Fetched
+        ensures { λ r. ⌜ r ≡ asFetched self (fetch self (now (memory .entry))) ⌝ }
+    {
+        match word_at(memory, self.c) {
+            Word::Stopped(k) => {
+                return Fetched::Stopped(k);
+            }
             Word::Is(w) => {
-                let long = w / 512 % 2;
-                match word_or(memory, long, words::sum(c, 1), w % 512) {
-                    Word::Stopped(k) => Fetched::Stopped(k),
-                    Word::Is(n) => {
-                        let p = when(w / 2048 % 2, self.p, 0);
-                        let g = when(w / 1024 % 2, self.g, 0);
-                        let y = words::sum(words::sum(n, p), g);
-                        match word_or(memory, w / 4096 % 2, y, y) {
-                            Word::Stopped(k) => Fetched::Stopped(k),
-                            Word::Is(x) => Fetched::One(
-                                w / 8192,
-                                x,
-                                words::sum(c, when(long, 2, 1)),
-                            ),
-                        }
+                let past = words::sum(self.c, 1);
+                match w / 512 {
+                    0 => {
+                        return Fetched::One(0, w % 512, self.with_c(past));
+                    }
+                    12 => {
+                        return self.reading(memory, 0, words::sum(w % 512, self.p), past);
+                    }
+                    20 => {
+                        return Fetched::One(1, words::sum(w % 512, self.p), self.with_c(past));
+                    }
+                    112 => {
+                        return Fetched::One(7, w % 512, self.with_c(past));
+                    }
+                    _ => {
+                        return self.decode(memory, w);
                     }
                 }
             }
         }
     }
 
-    fn load(mut self, x: u16) -> Self
+    fn load(self, x: u16) -> Self
         ensures { λ r. ⌜ r ≡ loaded x self ⌝ }
     {
-        self.b = self.a;
-        self.a = x;
-        self
+        Registers {
+            a: x,
+            b: self.a,
+            c: self.c,
+            p: self.p,
+            g: self.g,
+            taken: self.taken,
+            written: self.written,
+        }
     }
 
-    fn with_a(mut self, v: u16) -> Self
+    fn with_a(self, v: u16) -> Self
         ensures { λ r. ⌜ r ≡ withA v self ⌝ }
     {
-        self.a = v;
-        self
+        Registers {
+            a: v,
+            b: self.b,
+            c: self.c,
+            p: self.p,
+            g: self.g,
+            taken: self.taken,
+            written: self.written,
+        }
     }
 
-    fn with_c(mut self, v: u16) -> Self
+    fn with_c(self, v: u16) -> Self
         ensures { λ r. ⌜ r ≡ withC v self ⌝ }
     {
-        self.c = v;
-        self
+        Registers {
+            a: self.a,
+            b: self.b,
+            c: v,
+            p: self.p,
+            g: self.g,
+            taken: self.taken,
+            written: self.written,
+        }
     }
 
-    fn framed(mut self, p: u16, c: u16) -> Self
+    fn framed(self, p: u16, c: u16) -> Self
         ensures { λ r. ⌜ r ≡ framed p c self ⌝ }
     {
-        self.p = p;
-        self.c = c;
-        self
+        Registers {
+            a: self.a,
+            b: self.b,
+            c: c,
+            p: p,
+            g: self.g,
+            taken: self.taken,
+            written: self.written,
+        }
     }
 
     fn jump(self, go: bool, x: u16) -> Self
@@ -366,7 +429,7 @@ impl Registers {
     {
         match self.fetch(memory) {
             Fetched::Stopped(k) => Turn::Stopped(k),
-            Fetched::One(f, x, past) => self.with_c(past).execute(f, x, memory, input, output),
+            Fetched::One(f, x, r) => r.execute(f, x, memory, input, output),
         }
     }
 }
