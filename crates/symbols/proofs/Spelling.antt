@@ -13,7 +13,7 @@ use lib.Seq.{drop-cons, length-take-le}
 use borrow.Author.Tests.{eq-eqb, ne-eqb}
 use Rattle.language.specs.Kinds.{Spelled, reserved, signs}
 use Rattle.language.specs.Symbols.{Element, symbol, wrong, begins, same, kindIn, kindOf, signIn, sign}
-use Rattle.symbols.specs.Spellings.{spelled, spelledAt, spellingAt, entryOf}
+use Rattle.symbols.specs.Spellings.{spelled, spelledAt, spellingAt, entryOf, Rows}
 use Rattle.symbols.specs.Answers.{asElement}
 use Rattle.symbols.specs.declared.elements.Element.the-variants as E
 use Rattle.symbols.proofs.Table.{tabulate, tabulate-at, each}
@@ -23,12 +23,15 @@ use Rattle.symbols.proofs.Table.{tabulate, tabulate-at, each}
 abbrev pub entryFor : ℕ → ℕ
 entryFor k = entryOf (k / 13) (k % 13)
 
-pub entry-is : (row column : ℕ) → row < 59 → column < 13 → getD (tabulate entryFor 0 767) (row * 13 + column) 0 ≡ entryOf row column
+entry-is : (row column : ℕ) → row < 59 → column < 13 → getD (tabulate entryFor 0 767) (row * 13 + column) 0 ≡ entryOf row column
 entry-is row column h k =
     let z : 0 + (row * 13 + column) ≡ row * 13 + column = omega arith in
     let e : (row * 13 + column) / 13 ≡ row = digits-div row k in
     let m : (row * 13 + column) % 13 ≡ column = digits-mod row k in
     tabulate-at entryFor 0 767 (row * 13 + column) (omega arith) ∙ rw (z, e, m)
+
+pub all-rows-hold : Rows (tabulate entryFor 0 767)
+all-rows-hold = record { holds = entry-is }
 
 short : Spelled → Bool
 short s = leb (length (s .spelling)) 11

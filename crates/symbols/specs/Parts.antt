@@ -6,6 +6,7 @@ use mathlib.Core.List.{List, [], _∷_, _++_}
 use lib.Dec.{eqb, ltb}
 use lib.ListN.{length, getD, take, drop}
 use Rattle.text.specs.Line.{lineOf}
+use Rattle.language.specs.Bytes.{classOf}
 use Rattle.language.specs.Symbols.{Symbol, none, fault, Scan, ends, goesOn, scanFrom, scan, begins}
 use Rattle.language.specs.Symbols as S
 use Rattle.language.specs.Brackets as B
@@ -25,6 +26,10 @@ use Rattle.symbols.specs.declared.Depth.the-variants as D
 -- a value that may be large: 65,536 stands for all that are larger
 unfoldable pub capped : ℕ → ℕ
 capped n = cond (ltb n 65536) n 65536
+
+-- a list that holds each byte's class, as a digit
+pub record Classes (table : List ℕ) : Type 0 where
+  pub holds : (byte : ℕ) → byte < 256 → getD table byte 0 ≡ 48 + classOf byte
 
 abbrev pub slashes : List ℕ → Bool
 slashes bytes = begins (47 ∷ 47 ∷ []) bytes

@@ -10,7 +10,8 @@ ghost use Rattle.text.specs.Quoted.{quoted};
 ghost use Rattle.language.specs.Bytes.{classOf};
 ghost use Rattle.language.specs.Symbols.{inWord, wordWidth, word, digitOf, digits, valueOf, decimal, octal, character, string, toLineEnd, comment, signOrComment, byClass};
 ghost use Rattle.symbols.specs.Answers.{asElement};
-ghost use Rattle.symbols.specs.Parts.{capped, slashes};
+ghost use Rattle.symbols.specs.Parts.{capped, slashes, Classes};
+ghost use Rattle.symbols.specs.Spellings.{Rows};
 
 // A symbol's kind, its value and the number of bytes that write it; the bytes of a gap; or a refusal's number.
 pub(crate) enum Element {
@@ -44,7 +45,7 @@ const SEPARATOR: u8 = 8;
 
 const NEWLINE: u8 = 9;
 
-// The class of each byte, as a digit.
+// The class of each byte, as a digit. `read_symbols` makes the table and lends it.
 const CLASSES: [u8; 256] = *b"00000000089008000000000000000000\
     87647075777777372222222222777770\
     71111111111111111111111111100000\
@@ -60,29 +61,38 @@ pub(crate) fn wide(byte: u8) -> usize
     byte as usize
 }
 
-fn class_of(byte: u8) -> u8
+pub(crate) fn all_classes() -> [u8; 256]
+    ensures { λ r. ⌜ Classes r ⌝ }
+{
+    CLASSES
+}
+
+fn class_of(classes: &[u8; 256], byte: u8) -> u8
+    requires { ⌜ Classes (now classes) ⌝ }
     ensures { λ r. ⌜ r ≡ classOf byte ⌝ }
 {
-    CLASSES[byte as usize] - b'0'
+    classes[byte as usize] - b'0'
 }
 
 // Whether a byte may stand in a word: a capital, a digit or a dot.
-fn in_word(byte: u8) -> bool
+fn in_word(classes: &[u8; 256], byte: u8) -> bool
+    requires { ⌜ Classes (now classes) ⌝ }
     ensures { λ r. ⌜ r ≡ inWord (classOf byte) ⌝ }
 {
-    let class = class_of(byte);
+    let class = class_of(classes, byte);
     if class < LETTER {
         return false;
     }
     class <= DOT
 }
 
-fn word_width(text: &[u8], at: usize) -> usize
+fn word_width(classes: &[u8; 256], text: &[u8], at: usize) -> usize
+    requires { ⌜ Classes (now classes) ⌝ }
     ensures { λ r. ⌜ r ≡ wordWidth (drop at (now (text .entry))) ⌝ }
 {
     let mut i = at;
     while i < text.len() {
-        if !in_word(text[i]) {
+        if !in_word(classes, text[i]) {
             return i - at;
         }
         i += 1;
@@ -90,12 +100,12 @@ fn word_width(text: &[u8], at: usize) -> usize
     i - at
 }
 
-fn word_at(text: &[u8], at: usize) -> Element
-    requires { ⌜ at ≤ length (now text) ⌝ }
+fn word_at(classes: &[u8; 256], table: &[u8; 767], text: &[u8], at: usize) -> Element
+    requires { ⌜ (at ≤ length (now text)) × Classes (now classes) × Rows (now table) ⌝ }
     ensures { λ r. ⌜ r ≡ asElement (word (drop at (now (text .entry)))) ⌝ }
 {
-    let width = word_width(text, at);
-    Element::Symbol(spellings::kind_of(text, at, width), width, width)
+    let width = word_width(classes, text, at);
+    Element::Symbol(spellings::kind_of(table, text, at, width), width, width)
 }
 
 fn is_digit(base: usize, c: usize) -> bool
@@ -241,29 +251,29 @@ fn begins_comment(text: &[u8], at: usize) -> bool
     text[at + 1] == b'/'
 }
 
-fn sign_or_comment(text: &[u8], at: usize) -> Element
-    requires { ⌜ at < length (now text) ⌝ }
+fn sign_or_comment(table: &[u8; 767], text: &[u8], at: usize) -> Element
+    requires { ⌜ (at < length (now text)) × Rows (now table) ⌝ }
     ensures { λ r. ⌜ r ≡ asElement (signOrComment (drop at (now (text .entry)))) ⌝ }
 {
     if begins_comment(text, at) {
         return comment_at(text, at);
     }
-    spellings::sign_at(text, at)
+    spellings::sign_at(table, text, at)
 }
 
 // By the class of the byte there.
-pub(crate) fn element_at(text: &[u8], at: usize) -> Element
-    requires { ⌜ at < length (now text) ⌝ }
+pub(crate) fn element_at(classes: &[u8; 256], table: &[u8; 767], text: &[u8], at: usize) -> Element
+    requires { ⌜ (at < length (now text)) × Classes (now classes) × Rows (now table) ⌝ }
     ensures { λ r. ⌜ r ≡ asElement (byClass (classOf (getD (now (text .entry)) at 0)) (drop at (now (text .entry)))) ⌝ }
 {
-    let class = class_of(text[at]);
+    let class = class_of(classes, text[at]);
     match class {
-        LETTER => word_at(text, at),
+        LETTER => word_at(classes, table, text, at),
         DIGIT => decimal_at(text, at),
         HASH => octal_at(text, at + 1),
         QUOTE => character_at(text, at + 1),
         DOUBLE => string_at(text, at + 1),
-        SIGN => sign_or_comment(text, at),
+        SIGN => sign_or_comment(table, text, at),
         SEPARATOR => Element::Gap(1),
         NEWLINE => Element::Gap(1),
         _ => Element::Wrong(2),

@@ -24,7 +24,8 @@ ghost use lib.Dec.{eqb};
 ghost use Rattle.language.specs.Source.{tooLong, scratchTooShort};
 ghost use Rattle.language.specs.Semicolons.{endsLine, beginsLine};
 ghost use Rattle.symbols.specs.Read.{Reads};
-ghost use Rattle.symbols.specs.Parts.{Finds, Matches, Faults, wanting, Writes, orNewline, gain, WritesAll};
+ghost use Rattle.symbols.specs.Parts.{Classes, Finds, Matches, Faults, wanting, Writes, orNewline, gain, WritesAll};
+ghost use Rattle.symbols.specs.Spellings.{Rows};
 
 // The symbols' number, or why there are none.
 pub enum SymbolsRead {
@@ -92,14 +93,14 @@ fn or_newline(newline: bool, byte: u8) -> bool
 }
 
 // The first symbol from a place on.
-fn next_symbol(text: &[u8], at: usize) -> Next
-    requires { ⌜ at ≤ length (now text) ⌝ }
+fn next_symbol(classes: &[u8; 256], table: &[u8; 767], text: &[u8], at: usize) -> Next
+    requires { ⌜ (at ≤ length (now text)) × Classes (now classes) × Rows (now table) ⌝ }
     ensures { λ r. ⌜ Finds (now (text .entry)) at r ⌝ }
 {
     let mut newline = false;
     let mut i = at;
     while i < text.len() {
-        let element = elements::element_at(text, i);
+        let element = elements::element_at(classes, table, text, i);
         match element {
             Element::Symbol(kind, value, width) => {
                 return Next::One {
@@ -159,14 +160,14 @@ fn bracket(scratch: &mut [u32], depth: usize, kind: usize) -> Depth
     }
 }
 
-fn first_fault(text: &[u8], scratch: &mut [u32]) -> Fault
-    requires { ⌜ length (now text) ≤ length (now scratch) ⌝ }
+fn first_fault(classes: &[u8; 256], table: &[u8; 767], text: &[u8], scratch: &mut [u32]) -> Fault
+    requires { ⌜ (length (now text) ≤ length (now scratch)) × Classes (now classes) × Rows (now table) ⌝ }
     ensures { λ r. ⌜ Faults (now (text .entry)) (now (scratch .entry)) r (now (scratch .exit)) ⌝ }
 {
     let mut at: usize = 0;
     let mut depth: usize = 0;
     loop {
-        let next = next_symbol(text, at);
+        let next = next_symbol(classes, table, text, at);
         match next {
             Next::Wrong(number, place) => {
                 return Fault::At(number, place);
@@ -280,8 +281,8 @@ fn write(
 }
 
 // The symbols' number.
-fn write_symbols(text: &[u8], scratch: &mut [u32]) -> usize
-    requires { ⌜ (length (now text) ≤ 16384) × (length (now text) * 3 ≤ length (now scratch)) ⌝ }
+fn write_symbols(classes: &[u8; 256], table: &[u8; 767], text: &[u8], scratch: &mut [u32]) -> usize
+    requires { ⌜ (length (now text) ≤ 16384) × (length (now text) * 3 ≤ length (now scratch)) × Classes (now classes) × Rows (now table) ⌝ }
     ensures { λ r. ⌜ WritesAll (now (text .entry)) (now (scratch .entry)) r (now (scratch .exit)) ⌝ }
 {
     let mut at: usize = 0;
@@ -289,7 +290,7 @@ fn write_symbols(text: &[u8], scratch: &mut [u32]) -> usize
     let mut before: usize = 0;
     let mut strings: usize = 0;
     loop {
-        let next = next_symbol(text, at);
+        let next = next_symbol(classes, table, text, at);
         match next {
             Next::Wrong(_, _) => {
                 return count;
@@ -336,7 +337,9 @@ pub fn read_symbols(text: &[u8], scratch: &mut [u32]) -> SymbolsRead
     if scratch.len() < text.len() * 3 {
         return SymbolsRead::TooShort;
     }
-    let fault = first_fault(text, scratch);
+    let classes = elements::all_classes();
+    let table = spellings::all_rows();
+    let fault = first_fault(&classes, &table, text, scratch);
     match fault {
         Fault::At(number, place) => {
             clear_from(scratch, 0);
@@ -346,7 +349,7 @@ pub fn read_symbols(text: &[u8], scratch: &mut [u32]) -> SymbolsRead
             }
         }
         Fault::Nowhere => {
-            let count = write_symbols(text, scratch);
+            let count = write_symbols(&classes, &table, text, scratch);
             clear_from(scratch, count * 3);
             SymbolsRead::Read(count)
         }

@@ -8,11 +8,11 @@ ghost use Prim.Native.Nat.{_+_, _<_, _≤_};
 ghost use mathlib.Core.Path.{_≡_};
 ghost use lib.ListN.{length, take, drop};
 ghost use Rattle.language.specs.Symbols.{begins, same, kindOf, sign};
-ghost use Rattle.symbols.specs.Spellings.{spellingAt, entryOf};
+ghost use Rattle.symbols.specs.Spellings.{spellingAt, entryOf, Rows};
 ghost use Rattle.symbols.specs.Answers.{asElement};
 
 // A row of 13 bytes for each word, in 01's order, then for each sign, those of two bytes first: its kind, its length,
-// and its bytes, followed by blanks.
+// and its bytes, followed by blanks. `read_symbols` makes the table once and lends it.
 const SPELLINGS: [u8; 767] = *b"\x01\x06GLOBAL     \
     \x02\x08MANIFEST   \
     \x03\x03LET        \
@@ -73,25 +73,31 @@ const SPELLINGS: [u8; 767] = *b"\x01\x06GLOBAL     \
     \x36\x01;          \
     \x37\x01:          ";
 
-fn entry(row: usize, column: usize) -> usize
-    requires { ⌜ (row < 59) × (column < 13) ⌝ }
+pub(crate) fn all_rows() -> [u8; 767]
+    ensures { λ r. ⌜ Rows r ⌝ }
+{
+    SPELLINGS
+}
+
+fn entry(table: &[u8; 767], row: usize, column: usize) -> usize
+    requires { ⌜ (row < 59) × (column < 13) × Rows (now table) ⌝ }
     ensures { λ r. ⌜ r ≡ entryOf row column ⌝ }
 {
-    wide(SPELLINGS[row * 13 + column])
+    wide(table[row * 13 + column])
 }
 
 // Whether a row's spelling stands at a place.
-fn begins_at(text: &[u8], at: usize, row: usize) -> bool
-    requires { ⌜ (at ≤ length (now text)) × (row < 59) ⌝ }
+fn begins_at(table: &[u8; 767], text: &[u8], at: usize, row: usize) -> bool
+    requires { ⌜ (at ≤ length (now text)) × (row < 59) × Rows (now table) ⌝ }
     ensures { λ r. ⌜ r ≡ begins (spellingAt row) (drop at (now (text .entry))) ⌝ }
 {
-    let size = entry(row, 1);
+    let size = entry(table, row, 1);
     let mut i: usize = 0;
     while i < size {
         if text.len() <= at + i {
             return false;
         }
-        if wide(text[at + i]) != entry(row, i + 2) {
+        if wide(text[at + i]) != entry(table, row, i + 2) {
             return false;
         }
         i += 1;
@@ -100,25 +106,25 @@ fn begins_at(text: &[u8], at: usize, row: usize) -> bool
 }
 
 // Whether the bytes at a place, `width` of them, are a row's spelling.
-fn is_row(text: &[u8], at: usize, width: usize, row: usize) -> bool
-    requires { ⌜ (at + width ≤ length (now text)) × (row < 59) ⌝ }
+fn is_row(table: &[u8; 767], text: &[u8], at: usize, width: usize, row: usize) -> bool
+    requires { ⌜ (at + width ≤ length (now text)) × (row < 59) × Rows (now table) ⌝ }
     ensures { λ r. ⌜ r ≡ same (spellingAt row) (take width (drop at (now (text .entry)))) ⌝ }
 {
-    if entry(row, 1) != width {
+    if entry(table, row, 1) != width {
         return false;
     }
-    begins_at(text, at, row)
+    begins_at(table, text, at, row)
 }
 
 // The kind of a word, `width` bytes at a place: that of a reserved word, or a name's.
-pub(crate) fn kind_of(text: &[u8], at: usize, width: usize) -> usize
-    requires { ⌜ at + width ≤ length (now text) ⌝ }
+pub(crate) fn kind_of(table: &[u8; 767], text: &[u8], at: usize, width: usize) -> usize
+    requires { ⌜ (at + width ≤ length (now text)) × Rows (now table) ⌝ }
     ensures { λ r. ⌜ r ≡ kindOf (take width (drop at (now (text .entry)))) ⌝ }
 {
     let mut row: usize = 0;
     while row < 35 {
-        if is_row(text, at, width, row) {
-            return entry(row, 0);
+        if is_row(table, text, at, width, row) {
+            return entry(table, row, 0);
         }
         row += 1;
     }
@@ -126,14 +132,14 @@ pub(crate) fn kind_of(text: &[u8], at: usize, width: usize) -> usize
 }
 
 // The longest sign at a place.
-pub(crate) fn sign_at(text: &[u8], at: usize) -> Element
-    requires { ⌜ at ≤ length (now text) ⌝ }
+pub(crate) fn sign_at(table: &[u8; 767], text: &[u8], at: usize) -> Element
+    requires { ⌜ (at ≤ length (now text)) × Rows (now table) ⌝ }
     ensures { λ r. ⌜ r ≡ asElement (sign (drop at (now (text .entry)))) ⌝ }
 {
     let mut row: usize = 35;
     while row < 59 {
-        if begins_at(text, at, row) {
-            return Element::Symbol(entry(row, 0), 0, entry(row, 1));
+        if begins_at(table, text, at, row) {
+            return Element::Symbol(entry(table, row, 0), 0, entry(table, row, 1));
         }
         row += 1;
     }

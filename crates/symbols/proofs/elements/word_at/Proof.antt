@@ -6,10 +6,16 @@ use borrow.Author.Needs.{needs}
 use Rattle.symbols.proofs.elements.word_at.Statement.{statement}
 use Rattle.symbols.proofs.elements.word_at.Tie as tie
 
+word-width-requires : tie.Need-word-width-requires
+word-width-requires c κs = search needs
+
 kind-of-requires : tie.Need-kind-of-requires
-kind-of-requires c κs =
-    let args = c .before .before .args in
-    omega (arith, run-within word-run (drop (args .at) (args .text .now)), length-drop (args .at) (args .text .now))
+kind-of-requires c κs = (omega (arith, run-within word-run (drop (c .before .before .args .at) (c .before .before .args .text .now)), length-drop (c .before .before .args .at) (c .before .before .args .text .now), c .word-width .ensures), c .before .before .pre .2)
+
+returns : tie.Need-returns
+returns c =
+    let args = c .before .before .before .args in
+    a-word (drop (args .at) (args .text .now)) (c .before .word-width .ensures) (c .kind-of .ensures)
 
 pub word-at-spec : {M : Type 1} → statement M
-word-at-spec = tie.close (tie.spec (search needs) kind-of-requires (λ c. search a-word))
+word-at-spec = tie.close (tie.spec word-width-requires kind-of-requires returns)

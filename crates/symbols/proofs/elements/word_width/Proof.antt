@@ -10,10 +10,10 @@ use Rattle.symbols.proofs.elements.word_width.Statement.{statement}
 use Rattle.symbols.proofs.elements.word_width.Tie as tie
 
 abbrev Inv-loop : tie.InvT-loop
-Inv-loop text at i₀ i = (at ≤ i) × (i + wordWidth (drop i text) ≡ at + wordWidth (drop at text))
+Inv-loop classes text at i₀ i = (at ≤ i) × (i + wordWidth (drop i text) ≡ at + wordWidth (drop at text))
 
 abbrev μ-loop : tie.MeasureT-loop
-μ-loop text at i₀ i = length text - i
+μ-loop classes text at i₀ i = length text - i
 
 returns : tie.Need-returns Inv-loop μ-loop
 returns c =
