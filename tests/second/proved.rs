@@ -25,13 +25,21 @@ pub fn library() -> Option<Library> {
 
 #[cfg(proved)]
 mod linked {
+    /// A record of the library's label table: two words, the first first.
+    #[repr(C)]
+    #[derive(Clone, Copy)]
+    struct Label {
+        number: u16,
+        address: u16,
+    }
+
     extern "C" {
         fn morkvasil_assemble(
             text: *const u8,
             text_len: usize,
             memory: *mut u16,
             memory_len: usize,
-            labels: *mut u32,
+            labels: *mut Label,
             labels_len: usize,
             answer: *mut u64,
         );
@@ -49,6 +57,8 @@ mod linked {
     }
 
     pub fn assemble(text: &[u8], memory: &mut [u16], labels: &mut [u32], answer: &mut [u64; 3]) {
+        let mut records: Vec<Label> =
+            labels.iter().map(|&key| Label { number: (key >> 16) as u16, address: key as u16 }).collect();
         // Sound: every pointer comes from a slice that lives through the call, with that slice's own length; the answer's
         // length is fixed on both sides.
         unsafe {
@@ -57,10 +67,13 @@ mod linked {
                 text.len(),
                 memory.as_mut_ptr(),
                 memory.len(),
-                labels.as_mut_ptr(),
-                labels.len(),
+                records.as_mut_ptr(),
+                records.len(),
                 answer.as_mut_ptr(),
             );
+        }
+        for (key, record) in labels.iter_mut().zip(&records) {
+            *key = u32::from(record.number) << 16 | u32::from(record.address);
         }
     }
 

@@ -1,7 +1,7 @@
 -- Both passes together: each way through `assemble` gives what the definition says.
 use Prim.Native.Nat.{ℕ, _+_, _-_, _*_, _/_, _%_, _<_, _≤_}
 use mathlib.Core.Path.{_≡_, refl, sym, ap, _∙_}
-use mathlib.Core.List.{List, [], _∷_, _++_, map}
+use mathlib.Core.List.{List, [], _∷_, _++_}
 use native.Mathlib.Omega.{arith}
 use native.Mathlib.Nat.{sub-zero}
 use lib.ListN.{length, replicate, take, length-replicate}
@@ -9,9 +9,10 @@ use lib.Seq.{length-take-le}
 use borrow.Author.Tests.{le-leb, lt-leb}
 use Rattle.items.specs.Item.{Placed}
 use Rattle.items.specs.Scan.{Ending, whole, unreadable, Scan, ends, scan}
-use Rattle.assembler.specs.Layout.{Label, Laid, laid, refused, lay, unknowns}
-use Rattle.assembler.specs.Assemble.{start, noGlobals, image, packed, Assembly, refuse, accept, onLaid, assembled, Assembles}
-use Rattle.assembler.specs.Passes.{records, Table, afterEnding, laidBy, Lays, FitsAll, asWritten, WritesAll, Ready, Gives}
+use Rattle.assembler.specs.declared.Label.{Label}
+use Rattle.assembler.specs.Layout.{vacant, Laid, laid, refused, lay, unknowns}
+use Rattle.assembler.specs.Assemble.{start, noGlobals, image, Assembly, refuse, accept, onLaid, assembled}
+use Rattle.assembler.specs.Passes.{records, Table, afterEnding, laidBy, Lays, FitsAll, asWritten, WritesAll, Ready, Gives, AssemblesKeys}
 use Rattle.assembler.specs.declared.Assembled.{Assembled}
 use Rattle.assembler.specs.declared.Assembled.the-variants.{Accepted}
 use Rattle.assembler.specs.declared.Placing.{Placing}
@@ -19,6 +20,8 @@ use Rattle.assembler.specs.declared.Placing.the-variants as P
 use Rattle.assembler.specs.declared.Written.{Written}
 use Rattle.assembler.specs.declared.Written.the-variants as W
 use Rattle.assembler.proofs.Lookup.{length-records}
+use Rattle.assembler.proofs.Noting.{records-append}
+use Rattle.assembler.proofs.Records.{vacant-records}
 use Rattle.assembler.proofs.Image.{Ends, laid-ends, image-is}
 
 -- ---- what the first pass's answer says of the layout and the ending
@@ -46,16 +49,13 @@ module _ (text : List ℕ) (memory room number place : ℕ) where
 
 -- ---- the table of an accepted text
 
-packed-records : (keys : List ℕ) → map packed (records keys) ≡ keys
-unfolding records
-packed-records [] = refl
-packed-records (k ∷ ks) = let z : k / 65536 * 65536 + k % 65536 ≡ k = omega arith in rw z (ap (λ (l : List ℕ). k ∷ l) (packed-records ks))
-
 table-is : (count : ℕ) (table : List ℕ) → Table count table
-    → table ≡ map packed (records (take count table)) ++ replicate (length table - length (records (take count table))) 0
+    → records table ≡ records (take count table) ++ replicate (length table - length (records (take count table))) vacant
 table-is count table t =
     let n : length (records (take count table)) ≡ count = length-records (take count table) ∙ length-take-le count table (t .fits) in
-    rw (n, packed-records) (t .zeros)
+    ap records (t .zeros) ∙ records-append (take count table) (replicate (length table - count) 0)
+    ∙ ap (λ (l : List Label). records (take count table) ++ l) (vacant-records (length table - count))
+    ∙ rw n refl
 
 -- ---- the passes' answers
 
@@ -141,26 +141,24 @@ module _ (text m₀ t₀ : List ℕ) {m₁ t₁ : List ℕ} (m : m₁ ≡ replic
   is-ready h k = record { least = h; most = k; memory-zeros = rw memory-length m; table-zeros = rw table-length t }
 
   module _ {answer : Assembled} {m′ t′ : List ℕ} where
-    assembles : {a : Assembly} → a ≡ assembled text (length m₁) (length t₁) → Gives a answer m′ t′ → Assembles text m₀ t₀ answer m′ t′
-    assembles e g =
-        let h : Gives (assembled text (length m₀) (length t₀)) answer m′ t′ = rw (e, memory-length, table-length) at g in
-        record { answers = h .answers; fills = h .fills; tables = h .tables }
+    assembles : {a : Assembly} → a ≡ assembled text (length m₁) (length t₁) → Gives a answer m′ t′ → AssemblesKeys text m₀ t₀ answer m′ t′
+    assembles e g = record { gives = rw (e, memory-length, table-length) at g }
 
-    pub assembles-short : length m₁ < 512 → Gives (refuse text (length m₁) (length t₁) 24 0) answer m′ t′ → Assembles text m₀ t₀ answer m′ t′
+    pub assembles-short : length m₁ < 512 → Gives (refuse text (length m₁) (length t₁) 24 0) answer m′ t′ → AssemblesKeys text m₀ t₀ answer m′ t′
     unfolding assembled
     assembles-short h g = assembles (rw (lt-leb 512 (length m₁) h)) g
 
-    pub assembles-long : 512 ≤ length m₁ → 32768 < length m₁ → Gives (refuse text (length m₁) (length t₁) 24 0) answer m′ t′ → Assembles text m₀ t₀ answer m′ t′
+    pub assembles-long : 512 ≤ length m₁ → 32768 < length m₁ → Gives (refuse text (length m₁) (length t₁) 24 0) answer m′ t′ → AssemblesKeys text m₀ t₀ answer m′ t′
     unfolding assembled
     assembles-long h k g = assembles (rw (le-leb 512 (length m₁) h, lt-leb (length m₁) 32768 k)) g
 
     module _ (h : 512 ≤ length m₁) (k : length m₁ ≤ 32768) where
       pub assembles-from : (s : Scan) → scan text ≡ s
-          → Gives (onLaid text (length m₁) (length t₁) (lay (length m₁) (length t₁) 416 [] (s .items)) s) answer m′ t′ → Assembles text m₀ t₀ answer m′ t′
+          → Gives (onLaid text (length m₁) (length t₁) (lay (length m₁) (length t₁) 416 [] (s .items)) s) answer m′ t′ → AssemblesKeys text m₀ t₀ answer m′ t′
       unfolding assembled
       assembles-from s e g = assembles (rw (le-leb 512 (length m₁) h, le-leb (length m₁) 32768 k, e)) g
 
       pub assembles-not : {place : ℕ} → scan text ≡ ends (unreadable place) → Gives (refuse text (length m₁) (length t₁) 20 place) answer m′ t′
-          → Assembles text m₀ t₀ answer m′ t′
+          → AssemblesKeys text m₀ t₀ answer m′ t′
       unfolding lay
       assembles-not {place} e g = assembles-from (ends (unreadable place)) e g

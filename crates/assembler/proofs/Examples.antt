@@ -11,8 +11,9 @@ use Rattle.items.specs.Reader.{head, byte, optional, digits, digitCount, decima
 use Rattle.items.specs.Read.{ended, quotedCharacter, quotedString, negative, quotation, labelled, positive, operand, base, labelItem, instructionItem, constantItem, stringItem, globalItem, functionOf, item}
 use Rattle.items.specs.Scan.{gaps, mark, trailing, body, scan}
 use Rattle.assembler.specs.Words.{operandInRange, inRange, short, size, pairs, operandWord, words}
-use Rattle.assembler.specs.Layout.{defined, addressOf, noted, misplaced, fault, lay, uses, known, unknowns}
+use Rattle.assembler.specs.Layout.{vacant, defined, addressOf, noted, misplaced, fault, lay, uses, known, unknowns}
 use Rattle.assembler.specs.Assemble.{noGlobals, globalsAfter, globals, program, image, refuse, accept, assembled}
+use Rattle.assembler.specs.declared.Label.{Label}
 use Rattle.assembler.specs.declared.Assembled.{Assembled}
 use Rattle.assembler.specs.declared.Assembled.the-variants.{Accepted, Refused}
 
@@ -22,6 +23,9 @@ answer text = assembled (bytes text) 512 2 .answer
 
 abbrev refused : (number place line : ℕ) → Assembled
 refused number place line = Refused (record { number = number; place = place; line = line })
+
+abbrev labelled-at : (number address : ℕ) → Label
+labelled-at number address = record { number = number; address = address }
 
 -- what a text makes from an address on
 abbrev made : String → (from count : ℕ) → List ℕ
@@ -48,7 +52,7 @@ pub record Accepted-texts : Type 0 where
   -- the last G for a number counts, 13 and 14 too
   pub last-global : made "$ 1: D1 2: D2 G5L1 G5L2 G13L1 Z" 21 9 ≡ 417 ∷ 0 ∷ 0 ∷ 0 ∷ 0 ∷ 0 ∷ 0 ∷ 0 ∷ 416 ∷ []
   -- labels in text order, with their addresses
-  pub table : assembled (bytes "$ 7: D1 D2 3: Z") 512 3 .table ≡ 459_168 ∷ 197_026 ∷ 0 ∷ []
+  pub table : assembled (bytes "$ 7: D1 D2 3: Z") 512 3 .table ≡ labelled-at 7 416 ∷ labelled-at 3 418 ∷ vacant ∷ []
 
 -- ---- refused texts: number, place and line
 
@@ -81,7 +85,7 @@ pub record Refused-texts : Type 0 where
   pub unreadable-first : answer "$ Q D65536 Z" ≡ refused 20 2 1
   -- nothing of a refused text stays
   pub no-words : made "$ 1: D1 G1L1 JL7 Z" 0 418 ≡ replicate 418 0
-  pub no-labels : assembled (bytes "$ 1: D1 JL7 Z") 512 2 .table ≡ 0 ∷ 0 ∷ []
+  pub no-labels : assembled (bytes "$ 1: D1 JL7 Z") 512 2 .table ≡ vacant ∷ vacant ∷ []
 
 -- ---- the memory's length
 
@@ -94,7 +98,7 @@ pub record Lengths : Type 0 where
   pub too-long : assembled (bytes "$ Z") 32769 0 .answer ≡ refused 24 0 1
   -- a program may fill the memory, and a last label may stand past it
   pub full : assembled (long 191 " 1: Z") 512 1 .answer ≡ Accepted 512
-  pub last-label : assembled (long 191 " 1: Z") 512 1 .table ≡ 66_048 ∷ []
+  pub last-label : assembled (long 191 " 1: Z") 512 1 .table ≡ labelled-at 1 512 ∷ []
   -- the first item that does not fit
   pub over : assembled (long 192 " Z") 512 0 .answer ≡ refused 24 2 1
   pub next-over : assembled (long 191 "\nD1 D2 Z") 512 0 .answer ≡ refused 24 197 2

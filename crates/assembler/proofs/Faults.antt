@@ -9,7 +9,8 @@ use lib.ListN.{length}
 use borrow.Author.Tests.{leb-false, ltb-false}
 use Rattle.items.specs.Item as I
 use Rattle.assembler.specs.Words.{inRange, size}
-use Rattle.assembler.specs.Layout.{Label, defined, misplaced, fault}
+use Rattle.assembler.specs.declared.Label.{Label}
+use Rattle.assembler.specs.Layout.{defined, misplaced, fault}
 use Rattle.assembler.specs.Passes.{labelFault, beyond}
 use Rattle.assembler.proofs.Operands.{label-range}
 

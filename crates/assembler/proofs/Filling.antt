@@ -11,7 +11,8 @@ use Rattle.items.proofs.Answers.{StringKept, when-string}
 use Rattle.items.specs.declared.Item.{Item}
 use Rattle.items.specs.declared.Item.the-variants as C
 use Rattle.assembler.specs.Words.{inRange, size}
-use Rattle.assembler.specs.Layout.{Label, known, unknowns}
+use Rattle.assembler.specs.declared.Label.{Label}
+use Rattle.assembler.specs.Layout.{known, unknowns}
 use Rattle.assembler.specs.Passes.{filled, Writable, Writes, letters, Quoting, itemAt, Spelled, FitsAll, asWritten, WritesAll}
 use Rattle.assembler.specs.declared.Step.{Step}
 use Rattle.assembler.specs.declared.Step.the-variants as S

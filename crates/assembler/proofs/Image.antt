@@ -9,7 +9,8 @@ use lib.ListN.{length, set, replicate, drop, length-append, length-replicate, le
 use lib.Seq.{sets, sets-eq, set-append-left, take-at, drop-at, drop-append-add}
 use Rattle.items.specs.Item as I
 use Rattle.assembler.specs.Words.{short, inRange, size, pairs, words}
-use Rattle.assembler.specs.Layout.{Label, addressOf, noted, laid, refused, fault, lay}
+use Rattle.assembler.specs.declared.Label.{Label}
+use Rattle.assembler.specs.Layout.{addressOf, noted, laid, refused, fault, lay}
 use Rattle.assembler.specs.Assemble.{start, noGlobals, globalsAfter, globals, program, image}
 use Rattle.assembler.specs.Passes.{put, filled, FitsAll}
 use Rattle.assembler.proofs.Faults.{no-fault-ranged, no-fault-fits}

@@ -9,7 +9,8 @@ use Rattle.items.specs.Item as I
 use Rattle.items.specs.Scan.{Ending, whole, unreadable, Scan, ends, goesOn, body}
 use Rattle.items.specs.declared.Item.{Item}
 use Rattle.assembler.specs.Words.{inRange, size}
-use Rattle.assembler.specs.Layout.{Label, noted, Laid, refused, fault, lay}
+use Rattle.assembler.specs.declared.Label.{Label}
+use Rattle.assembler.specs.Layout.{noted, Laid, refused, fault, lay}
 use Rattle.assembler.specs.Passes.{itemOf, blank, records, Table, Notes, afterEnding, laidBy, Lays, Zeros}
 use Rattle.assembler.specs.declared.Placing.the-variants as P
 use Rattle.assembler.proofs.Noting.{no-labels}

@@ -1,6 +1,10 @@
 pub mod Cleared
 pub mod Lookup
 pub mod Operands
+pub mod Records
+pub mod Numbered
+pub mod Local
+pub mod Turns
 pub mod Faults
 pub mod Noting
 pub mod Reading

@@ -9,7 +9,8 @@ use native.Mathlib.Numerals.{add-one}
 use lib.ListN.{length, getD, take, drop, drop-of-length-le, length-map}
 use lib.Seq.{drop-cons, length-take-le}
 use borrow.Author.Tests.{eq-eqb, ne-eqb, le-leb, lt-leb}
-use Rattle.assembler.specs.Layout.{Label, defined, addressOf}
+use Rattle.assembler.specs.declared.Label.{Label}
+use Rattle.assembler.specs.Layout.{defined, addressOf}
 use Rattle.assembler.specs.Passes.{recordOf, records, asFound, labelFault}
 use Rattle.assembler.specs.declared.Found.{Found}
 use Rattle.assembler.specs.declared.Found.the-variants.{At, Missing}

@@ -11,7 +11,8 @@ use lib.Seq.{length-take-le, take-suc-set, set-at}
 use Rattle.items.specs.Item as I
 use Rattle.items.specs.declared.Item.{Item}
 use Rattle.items.specs.declared.Item.the-variants as C
-use Rattle.assembler.specs.Layout.{Label, noted, fault}
+use Rattle.assembler.specs.declared.Label.{Label}
+use Rattle.assembler.specs.Layout.{noted, fault}
 use Rattle.assembler.specs.Passes.{itemOf, blank, recordOf, records, Table, Notable, Notes, Zeros}
 use Rattle.assembler.proofs.Faults.{no-fault-label}
 use Rattle.assembler.proofs.Lookup.{length-records}
@@ -37,7 +38,7 @@ module _ (table : List ℕ) (count key : ℕ) (t : Table count table) (h : count
         zeros = stored ∙ sym (rw (first-keys, length-set, append-assoc));
       }
 
-records-append : (a b : List ℕ) → records (a ++ b) ≡ records a ++ records b
+pub records-append : (a b : List ℕ) → records (a ++ b) ≡ records a ++ records b
 unfolding records
 records-append [] b = refl
 records-append (k ∷ a) b = ap (λ (l : List Label). recordOf k ∷ l) (records-append a b)

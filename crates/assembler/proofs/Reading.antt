@@ -18,7 +18,8 @@ use Rattle.items.proofs.Answers.{OneRead, when-one, when-whole, when-unreadable
 use Rattle.items.proofs.Scans.{onNext, body-next, scan-start}
 use Rattle.text.proofs.Quotes.{Closed, is-closed}
 use Rattle.assembler.specs.Words.{inRange, size}
-use Rattle.assembler.specs.Layout.{Label, noted, misplaced, fault}
+use Rattle.assembler.specs.declared.Label.{Label}
+use Rattle.assembler.specs.Layout.{noted, misplaced, fault}
 use Rattle.assembler.specs.Passes.{operandOf, baseOf, itemOf, blank, Sound, letters, Quoting}
 
 -- ---- the code's items are the definitions' ones

@@ -17,7 +17,8 @@ use Rattle.items.specs.Render.{render, renderAll}
 use Rattle.items.proofs.Sound.{Sound}
 use Rattle.items.proofs.Rendered.{AllSound, places, rendered}
 use Rattle.assembler.specs.Words.{operandInRange, inRange, size}
-use Rattle.assembler.specs.Layout.{Label, defined, noted, Laid, laid, refused, onFault, misplaced, fault, lay, uses, known, unknowns}
+use Rattle.assembler.specs.declared.Label.{Label}
+use Rattle.assembler.specs.Layout.{defined, noted, Laid, laid, refused, onFault, misplaced, fault, lay, uses, known, unknowns}
 use Rattle.assembler.specs.Assemble.{Assembly, refuse, accept, onUnknowns, onEnding, onLaid, assembled}
 use Rattle.assembler.specs.declared.Assembled.the-variants.{Accepted, Refused}
 

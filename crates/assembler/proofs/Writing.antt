@@ -11,7 +11,8 @@ use lib.Seq.{sets, length-sets}
 use borrow.Author.Tests.{ne-eqb, leb-true, ltb-true}
 use Rattle.items.specs.Item as I
 use Rattle.assembler.specs.Words.{labelInRange, operandInRange, inRange, short, signed, size, indirectBit, baseBit, operandWord, words, pairs}
-use Rattle.assembler.specs.Layout.{Label, defined, addressOf, usedBy, uses, known}
+use Rattle.assembler.specs.declared.Label.{Label}
+use Rattle.assembler.specs.Layout.{defined, addressOf, usedBy, uses, known}
 use Rattle.assembler.specs.Passes.{asFound, valueOf, put, Writable, Writes, letters, Quoting, Spelling}
 use Rattle.assembler.specs.declared.Found.{Found}
 use Rattle.assembler.specs.declared.Found.the-variants.{At, Missing}

@@ -2,14 +2,15 @@
 use Prim.Native.Nat.{ℕ, zero, suc, _+_, _-_, _*_}
 use mathlib.Core.Bool.{cond, _&&_}
 use mathlib.Core.Path.{_≡_}
-use mathlib.Core.List.{List, [], _∷_, _++_, map}
+use mathlib.Core.List.{List, [], _∷_, _++_}
 use lib.ListN.{length, set, replicate}
 use lib.Dec.{leb}
 use Rattle.text.specs.Line.{refusal}
 use Rattle.items.specs.Item.{Item, label, instruction, constant, string, global, Placed}
 use Rattle.items.specs.Scan.{Ending, whole, unreadable, Scan, scan}
 use Rattle.assembler.specs.Words.{words}
-use Rattle.assembler.specs.Layout.{Label, addressOf, Laid, laid, refused, lay, unknowns}
+use Rattle.assembler.specs.Layout.{vacant, addressOf, Laid, laid, refused, lay, unknowns}
+use Rattle.assembler.specs.declared.Label.{Label}
 use Rattle.assembler.specs.declared.Assembled.{Assembled}
 use Rattle.assembler.specs.declared.Assembled.the-variants.{Accepted, Refused}
 
@@ -42,20 +43,16 @@ program labels (p ∷ ps) = words (addressOf labels) (p .item) ++ program labels
 unfoldable pub image : ℕ → List Label → List Placed → ℕ → List ℕ
 image memory labels items end = start ++ globals labels noGlobals items ++ program labels items ++ replicate (memory - end) 0
 
--- a record of the table as one number
-abbrev pub packed : Label → ℕ
-packed l = l .number * 65536 + l .address
-
 -- the answer, the memory and the label table
 pub record Assembly : Type 0 where
   pub answer : Assembled
   pub memory : List ℕ
-  pub table : List ℕ
+  pub table : List Label
 
 module _ (text : List ℕ) (memory room : ℕ) where
   -- refused: memory and label table are all zeros
   unfoldable pub refuse : (number place : ℕ) → Assembly
-  refuse number place = record { answer = Refused (refusal text number place); memory = replicate memory 0; table = replicate room 0 }
+  refuse number place = record { answer = Refused (refusal text number place); memory = replicate memory 0; table = replicate room vacant }
 
   -- accepted: labels in text order in the table, and the first stack word
   unfoldable pub accept : List Label → (end : ℕ) → List Placed → Assembly
@@ -63,7 +60,7 @@ module _ (text : List ℕ) (memory room : ℕ) where
       record {
         answer = Accepted end;
         memory = image memory labels items end;
-        table = map packed labels ++ replicate (room - length labels) 0;
+        table = labels ++ replicate (room - length labels) vacant;
       }
 
   -- 22 by first use, once nothing else is refused
@@ -87,7 +84,7 @@ module _ (text : List ℕ) (memory room : ℕ) where
       (refuse 24 0)
 
 -- what the function answers and leaves is what the definition gives
-pub record Assembles (text memory table : List ℕ) (answer : Assembled) (memory′ table′ : List ℕ) : Type 0 where
+pub record Assembles (text memory : List ℕ) (table : List Label) (answer : Assembled) (memory′ : List ℕ) (table′ : List Label) : Type 0 where
   pub answers : answer ≡ assembled text (length memory) (length table) .answer
   pub fills : memory′ ≡ assembled text (length memory) (length table) .memory
   pub tables : table′ ≡ assembled text (length memory) (length table) .table

@@ -6,11 +6,11 @@ use lib.ListN.{length}
 use lib.Dec.{eqb, leb, ltb}
 use Rattle.items.specs.Item.{Operand, number, address, Item, label, instruction, constant, string, global, Placed}
 use Rattle.assembler.specs.Words.{inRange, size}
+use Rattle.assembler.specs.declared.Label.{Label}
 
--- a record of the label table
-pub record Label : Type 0 where
-  pub number : ℕ
-  pub address : ℕ
+-- the record of no label: labels' numbers begin at 1
+abbrev pub vacant : Label
+vacant = record { number = 0; address = 0 }
 
 -- whether a label is in the table, and its address there
 unfoldable pub defined : List Label → ℕ → Bool

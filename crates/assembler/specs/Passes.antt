@@ -1,10 +1,10 @@
 -- What the parts of `assemble` give: the code's items as the definitions have them, a table's keys as records, and what each
 -- pass answers and leaves.
-use Prim.Native.Nat.{ℕ, suc, _+_, _-_, _/_, _%_, _<_, _≤_}
+use Prim.Native.Nat.{ℕ, zero, suc, _+_, _-_, _/_, _%_, _<_, _≤_}
 use mathlib.Core.Bool.{true, cond}
 use mathlib.Core.Path.{_≡_}
 use mathlib.Core.List.{List, [], _∷_, _++_, map}
-use lib.ListN.{length, set, replicate, take, drop}
+use lib.ListN.{length, getD, set, replicate, take, drop}
 use lib.Dec.{leb, ltb}
 use lib.Seq.{sets}
 use Rattle.text.specs.Quoted.{Quoted, closed, faulty, quoted}
@@ -17,8 +17,9 @@ use Rattle.items.specs.declared.Base.the-variants as B
 use Rattle.items.specs.declared.Item.{Item}
 use Rattle.items.specs.declared.Item.the-variants as C
 use Rattle.assembler.specs.Words.{inRange, signed, size, words}
-use Rattle.assembler.specs.Layout.{Label, defined, addressOf, noted, Laid, laid, refused, lay, known, unknowns}
-use Rattle.assembler.specs.Assemble.{Assembly}
+use Rattle.assembler.specs.Layout.{defined, addressOf, noted, Laid, laid, refused, lay, known, unknowns}
+use Rattle.assembler.specs.Assemble.{Assembly, assembled}
+use Rattle.assembler.specs.declared.Label.{Label}
 use Rattle.assembler.specs.declared.Found.{Found}
 use Rattle.assembler.specs.declared.Found.the-variants.{At, Missing}
 use Rattle.assembler.specs.declared.Placing.{Placing}
@@ -195,4 +196,26 @@ pub record Ready (memory table : List ℕ) : Type 0 where
 pub record Gives (a : Assembly) (answer : Assembled) (memory table : List ℕ) : Type 0 where
   pub answers : answer ≡ a .answer
   pub fills : memory ≡ a .memory
-  pub tables : table ≡ a .table
+  pub tables : records table ≡ a .table
+
+-- the whole on keys
+pub record AssemblesKeys (text memory table : List ℕ) (answer : Assembled) (memory′ table′ : List ℕ) : Type 0 where
+  pub gives : Gives (assembled text (length memory) (length table)) answer memory′ table′
+
+-- ---- the lent records
+
+-- so many records of the keys, with vacant ones past the last key
+unfoldable pub tableOf : List ℕ → ℕ → List Label
+tableOf keys zero = []
+tableOf keys (suc n) = tableOf keys n ++ (recordOf (getD keys n 0) ∷ [])
+
+-- the passes' answer for a table of so many records, with the keys to fill it from
+pub record Serves (a : Assembly) (room : ℕ) (answer : Assembled) (memory keys : List ℕ) : Type 0 where
+  pub answers : answer ≡ a .answer
+  pub fills : memory ≡ a .memory
+  pub tables : tableOf keys room ≡ a .table
+
+-- what a program is given that needs no table
+pub record Loads (a : Assembly) (answer : Assembled) (memory : List ℕ) : Type 0 where
+  pub answers : answer ≡ a .answer
+  pub fills : memory ≡ a .memory

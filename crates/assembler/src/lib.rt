@@ -1,7 +1,8 @@
 // The assembler: MINICODE text into the machine's memory, with a lent table of labels (document 01, "Assembly text").
 //
 // Two passes over the items. The first finds each label's address and every fault but an unknown label; the second
-// writes the words. A record of the table is one number, the label's number times 65,536 and its address.
+// writes the words. In the passes a label's record is one number, a key: the label's number times 65,536 and its address.
+// The lent records are filled from the keys at the end.
 use items::Base;
 use items::Item;
 use items::Next;
@@ -13,14 +14,21 @@ ghost use Prim.Native.Nat.{_+_, _-_, _*_, _<_, _≤_};
 ghost use mathlib.Core.Path.{_≡_};
 ghost use mathlib.Core.Bool.{true};
 ghost use mathlib.Core.List.{[], _++_};
-ghost use lib.ListN.{length, replicate, take, drop};
+ghost use lib.ListN.{length, getD, replicate, take, drop};
 ghost use lib.Seq.{sets};
 ghost use Rattle.items.specs.Item as I;
 ghost use Rattle.items.specs.Scan.{body};
 ghost use Rattle.assembler.specs.Words.{labelInRange, operandInRange, inRange, signed, short, size, indirectBit, baseBit, pairs};
 ghost use Rattle.assembler.specs.Layout.{fault, lay};
-ghost use Rattle.assembler.specs.Assemble.{Assembles, refuse, onLaid, start, noGlobals};
-ghost use Rattle.assembler.specs.Passes.{operandOf, baseOf, itemOf, blank, records, asFound, labelFault, beyond, Notable, Notes, Lays, valueOf, Writable, Writes, letters, Spelling, itemAt, Spelled, FitsAll, WritesAll, Zeros, Ready, Gives};
+ghost use Rattle.assembler.specs.Assemble.{Assembles, assembled, refuse, onLaid, start, noGlobals};
+ghost use Rattle.assembler.specs.Passes.{operandOf, baseOf, itemOf, blank, records, asFound, labelFault, beyond, Notable, Notes, Lays, valueOf, Writable, Writes, letters, Spelling, itemAt, Spelled, FitsAll, WritesAll, Zeros, Ready, Gives, AssemblesKeys, recordOf, tableOf, Serves, Loads};
+
+// A record of the label table.
+#[repr(C)]
+pub struct Label {
+    pub number: u16,
+    pub address: u16,
+}
 
 pub enum Assembled {
     Accepted(u16),
@@ -491,8 +499,9 @@ fn assemble_from(text: &[u8], from: usize, memory: &mut [u16], labels: &mut [u32
     }
 }
 
-pub fn assemble(text: &[u8], memory: &mut [u16], labels: &mut [u32]) -> Assembled
-    ensures { λ r. ⌜ Assembles (now (text .entry)) (now (memory .entry)) (now (labels .entry)) r (now (memory .exit)) (now (labels .exit)) ⌝ }
+// With a table of keys.
+fn assemble_keys(text: &[u8], memory: &mut [u16], labels: &mut [u32]) -> Assembled
+    ensures { λ r. ⌜ AssemblesKeys (now (text .entry)) (now (memory .entry)) (now (labels .entry)) r (now (memory .exit)) (now (labels .exit)) ⌝ }
 {
     clear_words(memory);
     clear_labels(labels);
@@ -507,4 +516,77 @@ pub fn assemble(text: &[u8], memory: &mut [u16], labels: &mut [u32]) -> Assemble
         Start::Unreadable(place) => refuse(text, memory, labels, 20, place),
         Start::From(from) => assemble_from(text, from, memory, labels),
     }
+}
+
+// With as many of the keys as a table of `room` records needs: there are no more than 32,767 labels.
+fn assemble_for(text: &[u8], memory: &mut [u16], keys: &mut [u32], room: usize) -> Assembled
+    requires { ⌜ length (now keys) ≡ 32767 ⌝ }
+    ensures { λ r. ⌜ Serves (assembled (now (text .entry)) (length (now (memory .entry))) room) room r (now (memory .exit)) (now (keys .exit)) ⌝ }
+{
+    if room < 32767 {
+        return assemble_keys(text, memory, &mut keys[0..room]);
+    }
+    assemble_keys(text, memory, keys)
+}
+
+fn no_keys() -> [u32; 32767]
+    ensures { λ r. ⌜ 32767 ≡ length r ⌝ }
+{
+    [0; 32767]
+}
+
+fn record_of(key: u32) -> Label
+    ensures { λ r. ⌜ r ≡ recordOf key ⌝ }
+{
+    Label {
+        number: (key / 65536) as u16,
+        address: (key % 65536) as u16,
+    }
+}
+
+// The record of a key, and a vacant one past the last.
+fn record_at(keys: &[u32], i: usize) -> Label
+    ensures { λ r. ⌜ r ≡ recordOf (getD (now (keys .entry)) i 0) ⌝ }
+{
+    if i < keys.len() {
+        record_of(keys[i])
+    } else {
+        record_of(0)
+    }
+}
+
+fn fill(labels: &mut [Label], keys: &[u32])
+    ensures { λ _. ⌜ now (labels .exit) ≡ tableOf (now (keys .entry)) (length (now (labels .entry))) ⌝ }
+{
+    let mut i: usize = 0;
+    while i < labels.len() {
+        labels[i] = record_at(keys, i);
+        i += 1;
+    }
+}
+
+pub fn assemble(text: &[u8], memory: &mut [u16], labels: &mut [Label]) -> Assembled
+    ensures { λ r. ⌜ Assembles (now (text .entry)) (now (memory .entry)) (now (labels .entry)) r (now (memory .exit)) (now (labels .exit)) ⌝ }
+{
+    let mut keys = no_keys();
+    let answer = assemble_for(text, memory, &mut keys, labels.len());
+    fill(labels, &keys);
+    answer
+}
+
+fn no_labels() -> [Label; 32767]
+    ensures { λ r. ⌜ 32767 ≡ length r ⌝ }
+{
+    [Label {
+        number: 0,
+        address: 0,
+    }; 32767]
+}
+
+// For a caller that needs no table: one for every label is lent to `assemble`.
+pub fn load(text: &[u8], memory: &mut [u16]) -> Assembled
+    ensures { λ r. ⌜ Loads (assembled (now (text .entry)) (length (now (memory .entry))) 32767) r (now (memory .exit)) ⌝ }
+{
+    let mut labels = no_labels();
+    assemble(text, memory, &mut labels)
 }

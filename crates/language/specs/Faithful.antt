@@ -6,15 +6,15 @@
 -- written exactly the source run's bytes, taken exactly as many bytes of the input, and each global and string word ends equal to the
 -- source run's. For every smaller budget it either stops as finished with all this so, or stops for budget having written a beginning of
 -- those bytes; with less room, too, it has written such a beginning."
-use Prim.Native.Nat.{ℕ, zero, suc, _+_, _*_, _/_, _%_, _≤_, _<_}
+use Prim.Native.Nat.{ℕ, zero, suc, _+_, _*_, _≤_, _<_}
 use mathlib.Core.Path.{_≡_}
-use mathlib.Core.Bool.{cond}
 use mathlib.Core.Logic.{_⊎_}
 use mathlib.Core.List.{List, [], _∷_}
 use lib.ListN.{length, getD, take}
-use lib.Dec.{eqb}
 use Rattle.machine.specs.Run.{Outcome, run}
+use Rattle.assembler.specs.Layout.{addressOf}
 use Rattle.assembler.specs.Assemble.{Assembly, assembled}
+use Rattle.assembler.specs.declared.Label.{Label}
 use Rattle.assembler.specs.declared.Assembled.the-variants.{Accepted}
 use Rattle.language.specs.State.{holds, State}
 use Rattle.language.specs.Run.{Placement}
@@ -22,18 +22,13 @@ use Rattle.language.specs.Whole.{functionsIn, stringsIn, SourceRunEnds}
 
 -- ---- the placement is what the assembler answers: labels' addresses in its table, and the first stack word
 
--- a label's address in the table, whose entries are a label's number times 65,536 and its address
-unfoldable pub addressIn : (table : List ℕ) (label : ℕ) → ℕ
-addressIn [] n = 0
-addressIn (k ∷ ks) n = cond (eqb (k / 65536) n) (k % 65536) (addressIn ks n)
-
 -- the addresses of so many labels, from one on
-unfoldable pub addressesFrom : (table : List ℕ) (label count : ℕ) → List ℕ
+unfoldable pub addressesFrom : (table : List Label) (label count : ℕ) → List ℕ
 addressesFrom table n zero = []
-addressesFrom table n (suc k) = addressIn table n ∷ addressesFrom table (suc n) k
+addressesFrom table n (suc k) = addressOf table n ∷ addressesFrom table (suc n) k
 
 -- the functions are labelled 1, 2 and on, then the string constants, each in source order
-abbrev pub placementOf : (source table : List ℕ) (first : ℕ) → Placement
+abbrev pub placementOf : (source : List ℕ) (table : List Label) (first : ℕ) → Placement
 placementOf source table first =
     record {
       entries = addressesFrom table 1 (length (functionsIn source));

@@ -1,26 +1,22 @@
 -- The rules on the compiler's text: labels, placement, refusals and sizes (document 01, "Places" and "Refusal numbers").
-use Prim.Native.Nat.{ℕ, suc, _+_, _*_, _-_, _/_, _≤_, _<_}
+use Prim.Native.Nat.{ℕ, suc, _+_, _*_, _-_, _≤_, _<_}
 use mathlib.Core.Path.{_≡_}
 use mathlib.Core.Bool.{Bool, true, false, cond}
 use mathlib.Core.Logic.{_⊎_}
 use mathlib.Core.List.{List, [], _∷_}
 use lib.ListN.{length, getD, take, drop}
-use lib.Dec.{eqb}
 use Rattle.text.specs.declared.Refusal.{Refusal}
 use Rattle.items.specs.Item.{Item, label, instruction, constant, string, global, Placed}
 use Rattle.items.specs.Scan.{scan}
 use Rattle.assembler.specs.Words.{pairs}
+use Rattle.assembler.specs.Layout.{defined}
 use Rattle.assembler.specs.Assemble.{Assembly, assembled}
+use Rattle.assembler.specs.declared.Label.{Label}
 use Rattle.assembler.specs.declared.Assembled.the-variants.{Accepted, Refused}
 use Rattle.language.specs.Symbols as Y
 use Rattle.language.specs.Whole.{functionsIn, stringsIn}
 use Rattle.language.specs.Run.{Placement}
 use Rattle.language.specs.Faithful.{placementOf}
-
--- whether a label is in the table
-unfoldable pub inTable : (table : List ℕ) (label : ℕ) → Bool
-inTable [] n = false
-inTable (k ∷ ks) n = cond (eqb (k / 65536) n) true (inTable ks n)
 
 -- the words of a string constant
 abbrev pub wordsOf : List ℕ → List ℕ
@@ -31,9 +27,9 @@ stringWords [] = 0
 stringWords (cs ∷ strings) = length (wordsOf cs) + stringWords strings
 
 -- ---- the placement, wherever the text is assembled
-pub record WellPlaced (source : List ℕ) (place : Placement) (table image : List ℕ) : Type 0 where
+pub record WellPlaced (source : List ℕ) (place : Placement) (table : List Label) (image : List ℕ) : Type 0 where
   -- every function and every string has its label
-  pub labelled : (n : ℕ) → 1 ≤ n → n ≤ length (functionsIn source) + length (stringsIn source) → inTable table n ≡ true
+  pub labelled : (n : ℕ) → 1 ≤ n → n ≤ length (functionsIn source) + length (stringsIn source) → defined table n ≡ true
   -- entries differ, from 3 and 5 too
   pub entries-differ : (i j : ℕ) → i < length (place .entries) → j < length (place .entries)
       → getD (place .entries) i 0 ≡ getD (place .entries) j 0 → i ≡ j

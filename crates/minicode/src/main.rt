@@ -28,12 +28,6 @@ fn words() -> [u16; 32768]
     [0; 32768]
 }
 
-fn table() -> [u32; 32767]
-    ensures { λ r. ⌜ 32767 ≡ length r ⌝ }
-{
-    [0; 32767]
-}
-
 fn say(text: &[u8]) {
     io::write_all(STDERR_FILENO, text);
 }
@@ -149,8 +143,7 @@ fn go(start: Registers, memory: &mut [u16], input: &[u8], output: &mut [u8], bud
 // Assembles the text and runs the image.
 fn assemble_and_run(source: &[u8], input: &[u8], budget: u64) {
     let mut memory = words();
-    let mut labels = table();
-    match assembler::assemble(source, &mut memory, &mut labels) {
+    match assembler::load(source, &mut memory) {
         Assembled::Refused(r) => print_refusal(r),
         Assembled::Accepted(first) => {
             let mut output = io::large_buffer();

@@ -4,6 +4,7 @@ use mathlib.Core.Path.{_≡_, refl, sym, ap, subst, _∙_}
 use Prim.Native.Nat.{ℕ}
 use lib.ListN.{length}
 use Rattle.assembler.specs.Assemble.{Assembles, assembled}
+use Rattle.assembler.specs.declared.Label.{Label}
 use Rattle.assembler.specs.declared.Assembled.{Assembled}
 use Rattle.machine.specs.Run.{Outcome}
 use Rattle.machine.specs.Answers.{Ends}
@@ -27,10 +28,10 @@ run-exported e =
       answers = λ i. e .stops i ∷ e .counts i ∷ e .leaves i .taken ∷ e .leaves i .written ∷ e .leaves i .a ∷ e .leaves i .b ∷ e .leaves i .c ∷ e .leaves i .p ∷ e .leaves i .g ∷ [];
     }
 
--- an assembly's answer, matched
-pub assemble-exported : {text memory table : List ℕ} {answer matched : Assembled} {memory′ table′ : List ℕ} → Assembles text memory table answer memory′ table′
-    → answer ≡ matched → AssembleExported (assembled text (length memory) (length table)) memory′ table′ (assembleNumbers matched)
-assemble-exported e q = record { fills = e .fills; tables = e .tables; answers = ap assembleNumbers (sym q ∙ e .answers) }
+-- an assembly's answer, told
+pub assemble-exported : {text memory : List ℕ} {table : List Label} {answer : Assembled} {memory′ : List ℕ} {table′ : List Label} {numbers : List ℕ} → Assembles text memory table answer memory′ table′
+    → numbers ≡ assembleNumbers answer → AssembleExported (assembled text (length memory) (length table)) memory′ table′ numbers
+assemble-exported e q = record { fills = e .fills; tables = e .tables; answers = q ∙ ap assembleNumbers (e .answers) }
 
 -- a reading's answer, matched
 pub symbols-exported : {text scratch : List ℕ} {answer matched : SymbolsRead} {scratch′ : List ℕ} → Reads text scratch answer scratch′

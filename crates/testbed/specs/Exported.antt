@@ -12,6 +12,7 @@ use Rattle.symbols.specs.declared.SymbolsRead.the-variants as Y
 use Rattle.tree.specs.Read.{treeRead, unfit, Leaves}
 use Rattle.tree.specs.declared.TreeRead.{TreeRead}
 use Rattle.tree.specs.declared.TreeRead.the-variants as T
+use Rattle.assembler.specs.declared.Label.{Label}
 use Rattle.assembler.specs.declared.Assembled.{Assembled}
 use Rattle.assembler.specs.declared.Assembled.the-variants.{Accepted, Refused}
 
@@ -31,7 +32,7 @@ abbrev pub assembleNumbers : Assembled → List ℕ
 assembleNumbers (Accepted first) = 0 ∷ first ∷ 0 ∷ []
 assembleNumbers (Refused r) = r .number ∷ r .place ∷ r .line ∷ []
 
-pub record AssembleExported (assembly : Assembly) (memory table answer : List ℕ) : Type 0 where
+pub record AssembleExported (assembly : Assembly) (memory : List ℕ) (table : List Label) (answer : List ℕ) : Type 0 where
   pub fills : memory ≡ assembly .memory
   pub tables : table ≡ assembly .table
   pub answers : answer ≡ assembleNumbers (assembly .answer)

@@ -3,8 +3,9 @@ ghost use mathlib.Core.Path.{_≡_};
 ghost use lib.ListN.{length};
 ghost use Rattle.assembler.specs.Assemble.{assembled};
 ghost use Rattle.machine.specs.Run.{run};
-ghost use Rattle.testbed.specs.Exported.{AssembleExported, RunExported, SymbolsExported, TreeExported, TreeAnswered};
+ghost use Rattle.testbed.specs.Exported.{assembleNumbers, AssembleExported, RunExported, SymbolsExported, TreeExported, TreeAnswered};
 use assembler::Assembled;
+use assembler::Label;
 use symbols::SymbolsRead;
 use tree::TreeRead;
 
@@ -12,12 +13,18 @@ use tree::TreeRead;
 pub extern "C" fn morkvasil_assemble(
     text: &[u8],
     memory: &mut [u16],
-    labels: &mut [u32],
+    labels: &mut [Label],
     answer: &mut [u64; 3],
 )
     ensures { λ _. ⌜ AssembleExported (assembled (now (text .entry)) (length (now (memory .entry))) (length (now (labels .entry)))) (now (memory .exit)) (now (labels .exit)) (now (answer .exit)) ⌝ }
 {
     let assembly = assembler::assemble(text, memory, labels);
+    tell(assembly, answer);
+}
+
+fn tell(assembly: Assembled, answer: &mut [u64; 3])
+    ensures { λ _. ⌜ now (answer .exit) ≡ assembleNumbers assembly ⌝ }
+{
     match assembly {
         Assembled::Accepted(first) => {
             *answer = [0, first as u64, 0];
