@@ -13,7 +13,8 @@ use Rattle.items.specs.Scan.{Ending, whole, unreadable, scan}
 use Rattle.assembler.specs.Words.{inRange, size}
 use Rattle.assembler.specs.declared.Label.{Label}
 use Rattle.assembler.specs.Layout.{defined, noted, Laid, laid, refused, misplaced, fault, lay, unknowns}
-use Rattle.assembler.specs.Assemble.{start, noGlobals, image, refuse, accept, onUnknowns, onEnding, onLaid, assembled}
+use Rattle.assembler.specs.Assemble.{start, image, refuse, accept, onUnknowns, onEnding, onLaid, assembled}
+use Rattle.words.specs.Globals.{noGlobals}
 use Rattle.assembler.specs.Passes.{put, filled}
 use Rattle.assembler.specs.declared.Assembled.the-variants.{Accepted, Refused}
 use Rattle.assembler.proofs.Operands.{both-true, label-range}

@@ -11,7 +11,8 @@ use Rattle.items.specs.Item.{Placed}
 use Rattle.items.specs.Scan.{Ending, whole, unreadable, Scan, ends, scan}
 use Rattle.assembler.specs.declared.Label.{Label}
 use Rattle.assembler.specs.Layout.{vacant, Laid, laid, refused, lay, unknowns}
-use Rattle.assembler.specs.Assemble.{start, noGlobals, image, Assembly, refuse, accept, onLaid, assembled}
+use Rattle.assembler.specs.Assemble.{start, image, Assembly, refuse, accept, onLaid, assembled}
+use Rattle.words.specs.Globals.{noGlobals}
 use Rattle.assembler.specs.Passes.{records, Table, afterEnding, laidBy, Lays, FitsAll, asWritten, WritesAll, Ready, Gives, AssemblesKeys}
 use Rattle.assembler.specs.declared.Assembled.{Assembled}
 use Rattle.assembler.specs.declared.Assembled.the-variants.{Accepted}

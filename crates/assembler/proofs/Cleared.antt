@@ -6,7 +6,8 @@ use native.Mathlib.Omega.{arith}
 use lib.ListN.{length, set, replicate, drop, drop-of-length-le, replicate-append-replicate}
 use lib.Seq.{sets}
 use borrow.Author.Fill.{fill-more}
-use Rattle.assembler.specs.Assemble.{start, noGlobals}
+use Rattle.assembler.specs.Assemble.{start}
+use Rattle.words.specs.Globals.{noGlobals}
 use Rattle.assembler.specs.Passes.{Zeros}
 
 -- ---- clearing: what the loop keeps, and where it ends

@@ -10,9 +10,11 @@ use Rattle.text.specs.Quoted.{quoted, character, escape}
 use Rattle.items.specs.Reader.{head, byte, optional, digits, digitCount, decimal}
 use Rattle.items.specs.Read.{ended, quotedCharacter, quotedString, negative, quotation, labelled, positive, operand, base, labelItem, instructionItem, constantItem, stringItem, globalItem, functionOf, item}
 use Rattle.items.specs.Scan.{gaps, mark, trailing, body, scan}
-use Rattle.assembler.specs.Words.{operandInRange, inRange, short, size, pairs, operandWord, words}
+use Rattle.assembler.specs.Words.{operandInRange, inRange, short, size, operandWord, words}
+use Rattle.text.specs.Packed.{pairs}
 use Rattle.assembler.specs.Layout.{vacant, defined, addressOf, noted, misplaced, fault, lay, uses, known, unknowns}
-use Rattle.assembler.specs.Assemble.{noGlobals, globalsAfter, globals, program, image, refuse, accept, assembled}
+use Rattle.assembler.specs.Assemble.{globalsAfter, globals, program, image, refuse, accept, assembled}
+use Rattle.words.specs.Globals.{noGlobals}
 use Rattle.assembler.specs.declared.Label.{Label}
 use Rattle.assembler.specs.declared.Assembled.{Assembled}
 use Rattle.assembler.specs.declared.Assembled.the-variants.{Accepted, Refused}

@@ -8,10 +8,12 @@ use native.Mathlib.Nat.{sub-zero}
 use lib.ListN.{length, set, replicate, drop, length-append, length-replicate, length-set, replicate-append-replicate}
 use lib.Seq.{sets, sets-eq, set-append-left, take-at, drop-at, drop-append-add}
 use Rattle.items.specs.Item as I
-use Rattle.assembler.specs.Words.{short, inRange, size, pairs, words}
+use Rattle.assembler.specs.Words.{short, inRange, size, words}
+use Rattle.text.proofs.Packed.{length-pairs}
 use Rattle.assembler.specs.declared.Label.{Label}
 use Rattle.assembler.specs.Layout.{addressOf, noted, laid, refused, fault, lay}
-use Rattle.assembler.specs.Assemble.{start, noGlobals, globalsAfter, globals, program, image}
+use Rattle.assembler.specs.Assemble.{start, globalsAfter, globals, program, image}
+use Rattle.words.specs.Globals.{noGlobals}
 use Rattle.assembler.specs.Passes.{put, filled, FitsAll}
 use Rattle.assembler.proofs.Faults.{no-fault-ranged, no-fault-fits}
 use Rattle.assembler.proofs.Writing.{global-range}
@@ -39,13 +41,7 @@ over-zeros front ws k h =
 
 -- ---- an item's words are as many as its size
 
-length-pairs : (high : ℕ) (cs : List ℕ) → length (pairs high cs) ≡ suc (length cs / 2)
-unfolding pairs
-length-pairs high [] = refl
-length-pairs high (c ∷ []) = refl
-length-pairs high (c ∷ d ∷ cs) = let e : length (pairs d cs) ≡ suc (length cs / 2) = length-pairs d cs in omega arith
-
-length-words : (at : ℕ → ℕ) (i : I.Item) → length (words at i) ≡ size i
+pub length-words : (at : ℕ → ℕ) (i : I.Item) → length (words at i) ≡ size i
 unfolding words size
 length-words at (I.label n) = refl
 length-words at (I.instruction f i b x) = go _ _ _ (short x)

@@ -8,7 +8,7 @@ use lib.ListN.{length, set, drop, length-set, length-drop}
 use lib.Seq.{sets, drop-drop}
 use Rattle.text.specs.Quoted.{Quoted, closed, faulty, quoted, is, closing, bad, character}
 use Rattle.text.proofs.Quotes.{Written, is-written, onward, quoted-next, quoted-end, quoted-bad}
-use Rattle.assembler.specs.Words.{pairs}
+use Rattle.text.specs.Packed.{pairs}
 use Rattle.assembler.specs.Passes.{letters, Quoting, Spelling}
 
 -- ---- the characters from a place on, by what stands there

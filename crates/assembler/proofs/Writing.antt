@@ -10,7 +10,8 @@ use lib.ListN.{length, set, length-set}
 use lib.Seq.{sets, length-sets}
 use borrow.Author.Tests.{ne-eqb, leb-true, ltb-true}
 use Rattle.items.specs.Item as I
-use Rattle.assembler.specs.Words.{labelInRange, operandInRange, inRange, short, signed, size, indirectBit, baseBit, operandWord, words, pairs}
+use Rattle.assembler.specs.Words.{labelInRange, operandInRange, inRange, short, signed, size, indirectBit, baseBit, operandWord, words}
+use Rattle.text.specs.Packed.{pairs}
 use Rattle.assembler.specs.declared.Label.{Label}
 use Rattle.assembler.specs.Layout.{defined, addressOf, usedBy, uses, known}
 use Rattle.assembler.specs.Passes.{asFound, valueOf, put, Writable, Writes, letters, Quoting, Spelling}

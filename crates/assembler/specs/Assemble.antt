@@ -5,6 +5,7 @@ use mathlib.Core.Path.{_≡_}
 use mathlib.Core.List.{List, [], _∷_, _++_}
 use lib.ListN.{length, set, replicate}
 use lib.Dec.{leb}
+use Rattle.words.specs.Globals.{noGlobals}
 use Rattle.text.specs.Line.{refusal}
 use Rattle.items.specs.Item.{Item, label, instruction, constant, string, global, Placed}
 use Rattle.items.specs.Scan.{Ending, whole, unreadable, Scan, scan}
@@ -17,10 +18,6 @@ use Rattle.assembler.specs.declared.Assembled.the-variants.{Accepted, Re
 -- words 0 to 7, and the eight zeros after them
 abbrev pub start : List ℕ
 start = 5121 ∷ 49154 ∷ 57366 ∷ 57371 ∷ 57348 ∷ 6146 ∷ 57372 ∷ 57348 ∷ 0 ∷ 0 ∷ 0 ∷ 0 ∷ 0 ∷ 0 ∷ 0 ∷ 0 ∷ []
-
--- globals 0 to 399 before any G item: zero, but 13 holds 3 and 14 holds 5
-unfoldable pub noGlobals : List ℕ
-noGlobals = set (set (replicate 400 0) 13 3) 14 5
 
 -- the last G for a number counts
 unfoldable pub globalsAfter : List Label → List ℕ → Item → List ℕ

@@ -5,6 +5,7 @@ use mathlib.Core.List.{List, [], _∷_}
 use lib.ListN.{length}
 use lib.Dec.{eqb, leb, ltb}
 use Rattle.words.specs.Words.{neg}
+use Rattle.text.specs.Packed.{packed}
 use Rattle.items.specs.Item.{Operand, number, address, Base, none, P, G, Item, label, instruction, constant, string, global}
 
 -- numbers -32768 to 65535, labels 1 to 32767, globals 0 to 399: any other is refused 23
@@ -51,12 +52,6 @@ baseBit none = 0
 baseBit P = 2048
 baseBit G = 1024
 
--- the bytes of a string, its length first, two a word, high half first; an unused low half is 0
-unfoldable pub pairs : (high : ℕ) → List ℕ → List ℕ
-pairs high [] = (high * 256) ∷ []
-pairs high (c ∷ []) = (high * 256 + c) ∷ []
-pairs high (c ∷ d ∷ cs) = (high * 256 + c) ∷ pairs d cs
-
 -- an item's program words, where `at` gives a label's address
 module _ (at : ℕ → ℕ) where
   unfoldable pub operandWord : Operand → ℕ
@@ -71,5 +66,5 @@ module _ (at : ℕ → ℕ) where
       ((f * 8192 + indirectBit i + baseBit b + operandWord x) ∷ [])
       ((f * 8192 + indirectBit i + baseBit b + 512) ∷ operandWord x ∷ [])
   words (constant x) = operandWord x ∷ []
-  words (string cs) = pairs (length cs) cs
+  words (string cs) = packed cs
   words (global n m) = []

@@ -18,9 +18,11 @@ ghost use lib.ListN.{length, getD, replicate, take, drop};
 ghost use lib.Seq.{sets};
 ghost use Rattle.items.specs.Item as I;
 ghost use Rattle.items.specs.Scan.{body};
-ghost use Rattle.assembler.specs.Words.{labelInRange, operandInRange, inRange, signed, short, size, indirectBit, baseBit, pairs};
+ghost use Rattle.assembler.specs.Words.{labelInRange, operandInRange, inRange, signed, short, size, indirectBit, baseBit};
+ghost use Rattle.text.specs.Packed.{pairs};
 ghost use Rattle.assembler.specs.Layout.{fault, lay};
-ghost use Rattle.assembler.specs.Assemble.{Assembles, assembled, refuse, onLaid, start, noGlobals};
+ghost use Rattle.assembler.specs.Assemble.{Assembles, assembled, refuse, onLaid, start};
+ghost use Rattle.words.specs.Globals.{noGlobals};
 ghost use Rattle.assembler.specs.Passes.{operandOf, baseOf, itemOf, blank, records, asFound, labelFault, beyond, Notable, Notes, Lays, valueOf, Writable, Writes, letters, Spelling, itemAt, Spelled, FitsAll, WritesAll, Zeros, Ready, Gives, AssemblesKeys, recordOf, tableOf, Serves, Loads};
 
 // A record of the label table.

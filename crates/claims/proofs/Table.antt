@@ -12,9 +12,11 @@ use Rattle.text.specs.Quoted.{quoted, character, escape}
 use Rattle.items.specs.Reader.{head, byte, optional, digits, digitCount, decimal}
 use Rattle.items.specs.Read.{ended, quotedCharacter, quotedString, negative, quotation, labelled, positive, operand, base, labelItem, instructionItem, constantItem, stringItem, globalItem, functionOf, item}
 use Rattle.items.specs.Scan.{gaps, mark, trailing, body, scan}
-use Rattle.assembler.specs.Words.{operandInRange, inRange, short, size, pairs, operandWord, words}
+use Rattle.assembler.specs.Words.{operandInRange, inRange, short, size, operandWord, words}
+use Rattle.text.specs.Packed.{pairs}
 use Rattle.assembler.specs.Layout.{defined, addressOf, noted, misplaced, fault, lay, uses, known, unknowns}
-use Rattle.assembler.specs.Assemble.{noGlobals, globalsAfter, globals, program, image, refuse, accept, assembled}
+use Rattle.assembler.specs.Assemble.{globalsAfter, globals, program, image, refuse, accept, assembled}
+use Rattle.words.specs.Globals.{noGlobals}
 use Rattle.language.specs.Kinds.{NAME, NUMBER, OPEN, CLOSE, SEMICOLON}
 use Rattle.language.specs.Symbols.{Symbol}
 use Rattle.language.specs.Source.{Symbols, good, faulty, symbolsOf}

@@ -20,8 +20,8 @@ use Rattle.language.specs.State.{Value, State, Result, unfinished, undef
 use Rattle.language.specs.Run.{Placement, hasCase, hasDefault, from, selected, nth, positionOf, called, arguments, evaluated, assigned, assignedAll, sequence, cases, declared, executed, turned, sem}
 use Rattle.language.specs.Whole.{refusalOf, onRead, funs, functionsIn, stringsAmong, stringsIn, globalsWith, stringCell, cellsAtStart, runWith}
 use Rattle.words.specs.Words.{value, wordOf, mul, quot, rem, below, shl, shr}
-use Rattle.assembler.specs.Words.{pairs}
-use Rattle.assembler.specs.Assemble.{noGlobals}
+use Rattle.text.specs.Packed.{pairs}
+use Rattle.words.specs.Globals.{noGlobals}
 use Rattle.language.proofs.Texts.{answer}
 
 abbrev numberAndPlace : Refused → ℕ × ℕ

@@ -8,7 +8,7 @@ use lib.ListN.{length, getD, take, drop}
 use Rattle.text.specs.declared.Refusal.{Refusal}
 use Rattle.items.specs.Item.{Item, label, instruction, constant, string, global, Placed}
 use Rattle.items.specs.Scan.{scan}
-use Rattle.assembler.specs.Words.{pairs}
+use Rattle.text.specs.Packed.{pairs}
 use Rattle.assembler.specs.Layout.{defined}
 use Rattle.assembler.specs.Assemble.{Assembly, assembled}
 use Rattle.assembler.specs.declared.Label.{Label}

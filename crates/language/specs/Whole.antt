@@ -6,8 +6,8 @@ use mathlib.Core.List.{List, [], _∷_, _++_}
 use lib.ListN.{length, getD, set, drop}
 use lib.Dec.{eqb, leb, ltb}
 use Rattle.text.specs.Quoted.{Quoted, closed, faulty, quoted}
-use Rattle.assembler.specs.Words.{pairs}
-use Rattle.assembler.specs.Assemble.{noGlobals}
+use Rattle.text.specs.Packed.{pairs}
+use Rattle.words.specs.Globals.{noGlobals}
 use Rattle.language.specs.Kinds.{STRING}
 use Rattle.language.specs.Symbols.{Symbol}
 use Rattle.language.specs.Source as S

@@ -3,3 +3,4 @@ pub mod Line
 pub mod Quoted
 pub mod Answers
 pub mod Values
+pub mod Packed
