@@ -69,15 +69,15 @@ pub kept-to : (s : State) {r r′ : Registers} → r′ ≡ r → Turns s (keep 
 unfolding keep asTurn left
 kept-to s e = record { answers = ap T.Done e; stores = refl; writes = refl }
 
--- A given a value v that a callee gave as v′
-pub kept-a : (s : State) {v v′ : ℕ} {r′ : Registers} → r′ ≡ withA v′ (s .regs) → v′ ≡ v → Turns s (keep s (ok (withA v (s .regs)))) (T.Done r′) (s .mem) (s .out)
-kept-a s e q = kept-to s (e ∙ ap (λ (x : ℕ). withA x (s .regs)) q)
-
 pub kept-finished : (s : State) → Turns s (finished s) (T.Finished (s .regs)) (s .mem) (s .out)
 unfolding asTurn left
 kept-finished s = record { answers = refl; stores = refl; writes = refl }
 
--- ---- acts 1 and 4
+-- ---- A, and acts 1 to 4
+
+-- A given a value v that a callee gave as v′
+pub put-a : (r : Registers) {v v′ : ℕ} {t : Registers} → t ≡ withA v′ r → v′ ≡ v → t ≡ withA v r
+put-a r e q = e ∙ ap (λ (x : ℕ). withA x r) q
 
 module _ (r : Registers) (m : List ℕ) where
   pub indirect-past : {a : Word} {k : ℕ} → a ≡ asWord (read m (r .a)) → a ≡ W.Stopped k → T.Stopped k ≡ asActed (indirected r m)
