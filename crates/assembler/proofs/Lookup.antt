@@ -1,17 +1,19 @@
 -- The table of labels: looking a number up among its keys, and what a new key adds.
-use Prim.Native.Nat.{ℕ, _+_, _-_, _/_, _%_, _<_, _≤_}
+use Prim.Native.Nat.{ℕ, zero, suc, _+_, _-_, _/_, _%_, _<_, _≤_}
 use mathlib.Core.Path.{_≡_, refl, sym, _∙_}
 use mathlib.Core.Bool.{Bool, true, false}
-use mathlib.Core.List.{List, _∷_}
+use mathlib.Core.List.{List, [], _∷_, _++_}
 use native.Mathlib.Omega.{arith}
 use native.Mathlib.Nat.{sub-zero}
 use native.Mathlib.Numerals.{add-one}
-use lib.ListN.{length, getD, take, drop, drop-of-length-le, length-map}
+use lib.ListN.{length, getD, replicate, take, drop, drop-of-length-le, length-map}
 use lib.Seq.{drop-cons, length-take-le}
+use lib.Dec.{eqb}
 use borrow.Author.Tests.{eq-eqb, ne-eqb, le-leb, lt-leb}
 use Rattle.assembler.specs.declared.Label.{Label}
-use Rattle.assembler.specs.Layout.{defined, addressOf}
-use Rattle.assembler.specs.Passes.{recordOf, records, asFound, labelFault}
+use Rattle.assembler.specs.Layout.{vacant, defined, addressOf}
+use Rattle.assembler.specs.Assemble.{lookedUp}
+use Rattle.assembler.specs.Passes.{recordOf, records, asFound, toldBy, labelFault}
 use Rattle.assembler.specs.declared.Found.{Found}
 use Rattle.assembler.specs.declared.Found.the-variants.{At, Missing}
 
@@ -71,3 +73,48 @@ module _ (keys : List ℕ) (count n : ℕ) {f : Found} (h : count ≤ length key
 
   pub fault-none : f ≡ Missing → count < length keys → 0 ≡ labelFault (length keys) (records (take count keys)) n
   fault-none q l = rw (was-missing _ n p q, count-is, lt-leb _ _ l)
+
+-- ---- the public look-up, in the records from a place on
+
+first-told : (l : Label) (ls : List Label) → lookedUp (l ∷ ls) (l .number) ≡ toldBy l
+unfolding lookedUp defined addressOf
+first-told l ls = go (eqb (l .number) 0) refl
+  where
+    go : (b : Bool) → eqb (l .number) 0 ≡ b → lookedUp (l ∷ ls) (l .number) ≡ toldBy l
+    go true e = simp (eq-eqb (l .number) (l .number) refl, e)
+    go false e = simp (eq-eqb (l .number) (l .number) refl, e)
+
+first-other : (l : Label) (ls : List Label) (n : ℕ) → (l .number ≡ n → ⊥) → lookedUp (l ∷ ls) n ≡ lookedUp ls n
+unfolding lookedUp defined addressOf
+first-other l ls n e = simp (ne-eqb (l .number) n e)
+
+pub looked-none : (labels : List Label) (n : ℕ) → lookedUp labels n ≡ lookedUp (drop 0 labels) n
+looked-none labels n = refl
+
+module _ (labels : List Label) (n i : ℕ) (inv : lookedUp labels n ≡ lookedUp (drop i labels) n) where
+  pub looked-at : {r : Found} → i < length labels → getD labels i vacant .number ≡ n → r ≡ toldBy (getD labels i vacant) → r ≡ lookedUp labels n
+  looked-at h e q =
+      let t : lookedUp (getD labels i vacant ∷ drop (suc i) labels) n ≡ toldBy (getD labels i vacant) = rw (← e) (first-told (getD labels i vacant) (drop (suc i) labels)) in
+      sym (inv ∙ rw (drop-cons labels i vacant h) t ∙ sym q)
+
+  pub looked-on : i < length labels → (getD labels i vacant .number ≡ n → ⊥) → lookedUp labels n ≡ lookedUp (drop (i + 1) labels) n
+  looked-on h e = inv ∙ rw (add-one i, drop-cons labels i vacant h) (first-other _ _ n e)
+
+  pub looked-past : {r : Found} → length labels ≤ i → r ≡ Missing → r ≡ lookedUp labels n
+  unfolding lookedUp defined
+  looked-past h q = q ∙ sym (inv ∙ rw (drop-of-length-le labels h))
+
+-- in a table of labels with vacant records behind them, a label is found where the labels have it
+none-vacant : (more n : ℕ) → (n ≡ 0 → ⊥) → lookedUp (replicate more vacant) n ≡ Missing
+unfolding lookedUp defined
+none-vacant zero n h = refl
+none-vacant (suc more) n h = first-other vacant (replicate more vacant) n (λ e. h (sym e)) ∙ none-vacant more n h
+
+pub looked-in-labels : (labels : List Label) (more n : ℕ) → (n ≡ 0 → ⊥) → lookedUp (labels ++ replicate more vacant) n ≡ asFound labels n
+unfolding lookedUp defined addressOf asFound
+looked-in-labels [] more n h = none-vacant more n h
+looked-in-labels (l ∷ ls) more n h = go (eqb (l .number) n) refl (looked-in-labels ls more n h)
+  where
+    go : (b : Bool) → eqb (l .number) n ≡ b → lookedUp (ls ++ replicate more vacant) n ≡ asFound ls n → lookedUp (l ∷ (ls ++ replicate more vacant)) n ≡ asFound (l ∷ ls) n
+    go true e rest = simp (e, ne-eqb n 0 h)
+    go false e rest = simp e rest

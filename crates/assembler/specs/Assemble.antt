@@ -1,17 +1,19 @@
 -- What `assemble` answers and leaves in the lent memory and label table (document 01, "Start", "Assembly text", "Refusal numbers").
 use Prim.Native.Nat.{ℕ, zero, suc, _+_, _-_, _*_}
-use mathlib.Core.Bool.{cond, _&&_}
+use mathlib.Core.Bool.{not, cond, _&&_}
 use mathlib.Core.Path.{_≡_}
 use mathlib.Core.List.{List, [], _∷_, _++_}
 use lib.ListN.{length, set, replicate}
-use lib.Dec.{leb}
+use lib.Dec.{eqb, leb}
 use Rattle.words.specs.Globals.{noGlobals}
 use Rattle.text.specs.Line.{refusal}
 use Rattle.items.specs.Item.{Item, label, instruction, constant, string, global, Placed}
 use Rattle.items.specs.Scan.{Ending, whole, unreadable, Scan, scan}
 use Rattle.assembler.specs.Words.{words}
-use Rattle.assembler.specs.Layout.{vacant, addressOf, Laid, laid, refused, lay, unknowns}
+use Rattle.assembler.specs.Layout.{vacant, defined, addressOf, Laid, laid, refused, lay, unknowns}
 use Rattle.assembler.specs.declared.Label.{Label}
+use Rattle.assembler.specs.declared.Found.{Found}
+use Rattle.assembler.specs.declared.Found.the-variants.{At, Missing}
 use Rattle.assembler.specs.declared.Assembled.{Assembled}
 use Rattle.assembler.specs.declared.Assembled.the-variants.{Accepted, Refused}
 
@@ -79,6 +81,10 @@ module _ (text : List ℕ) (memory room : ℕ) where
       cond (leb 512 memory && leb memory 32768)
       (onLaid (lay memory room 416 [] (scan text .items)) (scan text))
       (refuse 24 0)
+
+-- a label's address in a table, if it is there; 0 is no label's number, but that of the vacant records
+unfoldable pub lookedUp : List Label → ℕ → Found
+lookedUp table n = cond (defined table n && not (eqb n 0)) (At (addressOf table n)) Missing
 
 -- document 01's numbers of an answer: 0, the first stack word, and no line; or the refusal's number, byte place and line
 abbrev pub numbers : Assembled → List ℕ

@@ -5,7 +5,7 @@ use mathlib.Core.Bool.{true, cond}
 use mathlib.Core.Path.{_≡_}
 use mathlib.Core.List.{List, [], _∷_, _++_, map}
 use lib.ListN.{length, getD, set, replicate, take, drop}
-use lib.Dec.{leb, ltb}
+use lib.Dec.{eqb, leb, ltb}
 use lib.Seq.{sets}
 use Rattle.text.specs.Quoted.{Quoted, closed, faulty, quoted}
 use Rattle.items.specs.Item as I
@@ -60,6 +60,10 @@ records keys = map recordOf keys
 
 unfoldable pub asFound : List Label → ℕ → Found
 asFound labels n = cond (defined labels n) (At (addressOf labels n)) Missing
+
+-- what a record with the number looked for says
+abbrev pub toldBy : Label → Found
+toldBy label = cond (eqb (label .number) 0) Missing (At (label .address))
 
 -- the two causes of `misplaced`
 abbrev pub labelFault : (room : ℕ) → List Label → ℕ → ℕ

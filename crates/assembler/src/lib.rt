@@ -2,7 +2,7 @@
 //
 // Two passes over the items. The first finds each label's address and every fault but an unknown label; the second
 // writes the words. In the passes a label's record is one number, a key: the label's number times 65,536 and its address.
-// The lent records are filled from the keys at the end.
+// The lent records are filled from the keys at the end; `look_up` finds a label in them.
 use items::Base;
 use items::Item;
 use items::Next;
@@ -21,9 +21,9 @@ ghost use Rattle.items.specs.Scan.{body};
 ghost use Rattle.assembler.specs.Words.{labelInRange, operandInRange, inRange, signed, short, size, indirectBit, baseBit};
 ghost use Rattle.text.specs.Packed.{pairs};
 ghost use Rattle.assembler.specs.Layout.{fault, lay};
-ghost use Rattle.assembler.specs.Assemble.{Assembles, assembled, refuse, onLaid, start};
+ghost use Rattle.assembler.specs.Assemble.{Assembles, assembled, lookedUp, refuse, onLaid, start};
 ghost use Rattle.words.specs.Globals.{noGlobals};
-ghost use Rattle.assembler.specs.Passes.{operandOf, baseOf, itemOf, blank, records, asFound, labelFault, beyond, Notable, Notes, Lays, valueOf, Writable, Writes, letters, Spelling, itemAt, Spelled, FitsAll, WritesAll, Zeros, Ready, Gives, AssemblesKeys, recordOf, tableOf, Serves, Loads};
+ghost use Rattle.assembler.specs.Passes.{operandOf, baseOf, itemOf, blank, records, asFound, labelFault, beyond, Notable, Notes, Lays, valueOf, Writable, Writes, letters, Spelling, itemAt, Spelled, FitsAll, WritesAll, Zeros, Ready, Gives, AssemblesKeys, recordOf, tableOf, Serves, Loads, toldBy};
 
 // A record of the label table.
 #[repr(C)]
@@ -38,7 +38,7 @@ pub enum Assembled {
 }
 
 // A label's address, if the table has it; or an operand's word.
-enum Found {
+pub enum Found {
     At(u16),
     Missing,
 }
@@ -565,6 +565,37 @@ fn fill(labels: &mut [Label], keys: &[u32])
         labels[i] = record_at(keys, i);
         i += 1;
     }
+}
+
+// What a record with the number looked for says. Vacant records have the number 0, which is no label's.
+fn told(label: Label) -> Found
+    ensures { λ r. ⌜ r ≡ toldBy label ⌝ }
+{
+    if label.number == 0 {
+        return Found::Missing;
+    }
+    Found::At(label.address)
+}
+
+fn missing() -> Found
+    ensures { λ r. ⌜ r ≡ Found.Missing ⌝ }
+{
+    Found::Missing
+}
+
+// A label's address in a table, if it has a record there: the first one counts.
+pub fn look_up(labels: &[Label], number: u16) -> Found
+    ensures { λ r. ⌜ r ≡ lookedUp (now (labels .entry)) number ⌝ }
+{
+    let mut i: usize = 0;
+    while i < labels.len() {
+        let label = labels[i];
+        if label.number == number {
+            return told(label);
+        }
+        i += 1;
+    }
+    missing()
 }
 
 pub fn assemble(text: &[u8], memory: &mut [u16], labels: &mut [Label]) -> Assembled
