@@ -13,9 +13,10 @@ use Rattle.items.specs.Scan.{gaps, mark, trailing, body, scan}
 use Rattle.assembler.specs.Words.{operandInRange, inRange, short, size, operandWord, words}
 use Rattle.text.specs.Packed.{pairs}
 use Rattle.assembler.specs.Layout.{vacant, defined, addressOf, noted, misplaced, fault, lay, uses, known, unknowns}
-use Rattle.assembler.specs.Assemble.{globalsAfter, globals, program, image, refuse, accept, assembled}
+use Rattle.assembler.specs.Assemble.{globalsAfter, globals, program, image, refuse, accept, assembled, lookedUp}
 use Rattle.words.specs.Globals.{noGlobals}
 use Rattle.assembler.specs.declared.Label.{Label}
+use Rattle.assembler.specs.declared.Found.the-variants.{At, Missing}
 use Rattle.assembler.specs.declared.Assembled.{Assembled}
 use Rattle.assembler.specs.declared.Assembled.the-variants.{Accepted, Refused}
 
@@ -55,6 +56,10 @@ pub record Accepted-texts : Type 0 where
   pub last-global : made "$ 1: D1 2: D2 G5L1 G5L2 G13L1 Z" 21 9 ≡ 417 ∷ 0 ∷ 0 ∷ 0 ∷ 0 ∷ 0 ∷ 0 ∷ 0 ∷ 416 ∷ []
   -- labels in text order, with their addresses
   pub table : assembled (bytes "$ 7: D1 D2 3: Z") 512 3 .table ≡ labelled-at 7 416 ∷ labelled-at 3 418 ∷ vacant ∷ []
+  -- looked up there: a label that it has, one that it lacks, and 0, which is no label's number
+  pub looked-up : lookedUp (assembled (bytes "$ 7: D1 D2 3: Z") 512 3 .table) 3 ≡ At 418
+  pub not-there : lookedUp (assembled (bytes "$ 7: D1 D2 3: Z") 512 3 .table) 4 ≡ Missing
+  pub no-label : lookedUp (assembled (bytes "$ 7: D1 D2 3: Z") 512 3 .table) 0 ≡ Missing
 
 -- ---- refused texts: number, place and line
 
@@ -107,9 +112,9 @@ pub record Lengths : Type 0 where
 
 -- every one of them, by computation
 pub examples : Accepted-texts × Refused-texts × Lengths
-unfolding refusal lineOf newlines quoted character escape head byte optional digits digitCount decimal ended quotedCharacter quotedString negative quotation labelled positive operand base labelItem instructionItem constantItem stringItem globalItem functionOf item gaps mark trailing body scan operandInRange inRange short size pairs operandWord words defined addressOf noted misplaced fault lay uses known unknowns noGlobals globalsAfter globals program image refuse accept assembled
+unfolding refusal lineOf newlines quoted character escape head byte optional digits digitCount decimal ended quotedCharacter quotedString negative quotation labelled positive operand base labelItem instructionItem constantItem stringItem globalItem functionOf item gaps mark trailing body scan operandInRange inRange short size pairs operandWord words defined addressOf noted misplaced fault lay uses known unknowns noGlobals globalsAfter globals program image refuse accept assembled lookedUp
 examples = (
-  record { mixed = refl; mixed-words = refl; empty = refl; start-words = refl; start-globals = refl; bounds = refl; short-limit = refl; label-long = refl; quoted-character = refl; half-filled = refl; last-global = refl; table = refl },
+  record { mixed = refl; mixed-words = refl; empty = refl; start-words = refl; start-globals = refl; bounds = refl; short-limit = refl; label-long = refl; quoted-character = refl; half-filled = refl; last-global = refl; table = refl; looked-up = refl; not-there = refl; no-label = refl },
   record { no-text = refl; no-dollar = refl; no-z = refl; tab = refl; after-z = refl; third-line = refl; label-twice = refl; unknown = refl; unknown-global = refl; unknown-then-range = refl; unknown-then-no-z = refl; label-zero = refl; label-large = refl; label-item-large = refl; global-large = refl; number-large = refl; number-huge = refl; number-small = refl; table-full = refl; twice-and-full = refl; range-first = refl; twice-first = refl; unreadable-first = refl; no-words = refl; no-labels = refl },
   record { too-short = refl; too-long = refl; full = refl; last-label = refl; over = refl; next-over = refl },
 )
