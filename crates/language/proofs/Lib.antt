@@ -7,6 +7,7 @@ pub mod ExampleGrammar
 pub mod ExampleTrees
 pub mod ExampleTexts
 pub mod Gives
+pub mod Depth
 pub mod Depths
 pub mod CommandDepths
 pub mod Local
@@ -15,5 +16,3 @@ pub mod Ladder
 pub mod Whole
 pub mod ExampleRules
 pub mod ExampleRuns
-pub mod Printed
-pub mod ExamplePrinted

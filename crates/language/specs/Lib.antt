@@ -5,7 +5,6 @@ pub mod Brackets
 pub mod Strings
 pub mod Semicolons
 pub mod Tree
-pub mod Depth
 pub mod Reader
 pub mod Binding
 pub mod Expressions
@@ -23,6 +22,3 @@ pub mod Operators
 pub mod State
 pub mod Run
 pub mod Whole
-pub mod Faithful
-pub mod Placed
-pub mod Print

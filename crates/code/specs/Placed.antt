@@ -13,10 +13,10 @@ use Rattle.assembler.specs.Layout.{defined}
 use Rattle.assembler.specs.Assemble.{Assembly, assembled}
 use Rattle.assembler.specs.declared.Label.{Label}
 use Rattle.assembler.specs.declared.Assembled.the-variants.{Accepted, Refused}
 use Rattle.language.specs.Symbols as Y
 use Rattle.language.specs.Whole.{functionsIn, stringsIn}
 use Rattle.language.specs.Run.{Placement}
-use Rattle.language.specs.Faithful.{placementOf}
+use Rattle.code.specs.Faithful.{placementOf}
 
 -- the words of a string constant
 abbrev pub wordsOf : List ℕ → List ℕ
