@@ -11,6 +11,7 @@ use mathlib.Core.Path.{_≡_}
 use mathlib.Core.Logic.{_⊎_}
 use mathlib.Core.List.{List, [], _∷_}
 use lib.ListN.{length, getD, take}
+use Rattle.text.specs.Packed.{packed}
 use Rattle.machine.specs.Run.{Outcome, run}
 use Rattle.assembler.specs.Layout.{addressOf}
 use Rattle.assembler.specs.Assemble.{Assembly, assembled}
@@ -38,17 +39,22 @@ placementOf source table first =
 
 -- ---- what a run of the machine owes a source run that ended in a state
 
+-- a word ends equal: the source run's holds what the machine's is
+pub record SameWord (s : State) (o : Outcome) (address : ℕ) : Type 0 where
+  pub same : s .cells address ≡ holds (getD (o .state .mem) address 0)
+
 -- it has written exactly the source run's bytes, taken as many of the input, and each global and string word ends equal
-pub record Agrees (s : State) (first : ℕ) (o : Outcome) : Type 0 where
+pub record Agrees (strings : List (List ℕ)) (place : Placement) (s : State) (o : Outcome) : Type 0 where
   pub bytes : take (o .state .regs .written) (o .state .out) ≡ s .output
   pub taken : o .state .regs .taken ≡ s .taken
-  pub words : (address value : ℕ) → address < first → s .cells address ≡ holds value → getD (o .state .mem) address 0 ≡ value
+  pub globals : (n : ℕ) → n < 400 → SameWord s o (16 + n)
+  pub constants : (k i : ℕ) → k < length strings → i < length (packed (getD strings k [])) → SameWord s o (getD (place .strings) k 0 + i)
 
 -- it stops as finished, with a count no greater than sixteen times the steps and sixteen more, and agrees
-pub record Finishes (s : State) (first : ℕ) (o : Outcome) : Type 0 where
+pub record Finishes (strings : List (List ℕ)) (place : Placement) (s : State) (o : Outcome) : Type 0 where
   pub stops : o .stop ≡ 30
   pub counts : o .count ≤ 16 * s .steps + 16
-  pub agrees : Agrees s first o
+  pub agrees : Agrees strings place s o
 
 -- it has written a beginning of the source run's bytes
 pub record Begins (s : State) (o : Outcome) : Type 0 where
@@ -61,10 +67,11 @@ pub record Pauses (s : State) (o : Outcome) : Type 0 where
   pub begins : Begins s o
 
 -- a run of an image with some output room and a budget, against a source run that ended in `s`
-pub record Follows (s : State) (first : ℕ) (image input output : List ℕ) (budget : ℕ) : Type 0 where
-  pub enough : length (s .output) ≤ length output → 16 * s .steps + 16 ≤ budget → Finishes s first (run first image input output budget)
-  pub any-budget : length (s .output) ≤ length output → Finishes s first (run first image input output budget) ⊎ Pauses s (run first image input output budget)
-  pub any-room : Begins s (run first image input output budget)
+pub record Follows (strings : List (List ℕ)) (place : Placement) (s : State) (image input output : List ℕ) (budget : ℕ) : Type 0 where
+  pub enough : length (s .output) ≤ length output → 16 * s .steps + 16 ≤ budget → Finishes strings place s (run (place .first) image input output budget)
+  pub any-budget : length (s .output) ≤ length output
+      → Finishes strings place s (run (place .first) image input output budget) ⊎ Pauses s (run (place .first) image input output budget)
+  pub any-room : Begins s (run (place .first) image input output budget)
 
 -- for every memory and label table with which the text is assembled, every input, and every source run that ends and uses none of the
 -- memory's last eight words
@@ -72,4 +79,5 @@ pub record Faithful (source text : List ℕ) : Type 0 where
   pub follows : (memory room first : ℕ) → assembled text memory room .answer ≡ Accepted first
       → (input : List ℕ) (s : State) → SourceRunEnds source (placementOf source (assembled text memory room .table) first) memory input s
       → s .used + 8 ≤ memory
-      → (output : List ℕ) (budget : ℕ) → Follows s first (assembled text memory room .memory) input output budget
+      → (output : List ℕ) (budget : ℕ)
+      → Follows (stringsIn source) (placementOf source (assembled text memory room .table) first) s (assembled text memory room .memory) input output budget

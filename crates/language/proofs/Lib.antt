@@ -16,3 +16,13 @@ pub mod Ladder
 pub mod Whole
 pub mod ExampleRules
 pub mod ExampleRuns
+pub mod Tokens
+pub mod Takes
+pub mod ReadTokens
+pub mod SymbolFacts
+pub mod Widths
+pub mod Formed
+pub mod Resolving
+pub mod Leaving
+pub mod Forming
+pub mod Accepted
