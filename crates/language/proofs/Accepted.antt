@@ -19,7 +19,8 @@ use Rattle.language.specs.Grammar.{treeOf}
 use Rattle.language.specs.Program.{Refused, accepted, refused, leastOr, rulesRefuse, faultsOfProgram, functionsOf, heightFaults}
 use Rattle.language.specs.Run.{noFun}
 use Rattle.language.specs.Whole.{refusalOf, onRead, funs, functionsIn, stringsIn, stringsAmong}
-use Rattle.language.proofs.Tokens.{FineProgram, programTokens}
+use Rattle.language.specs.Fine.{FineProgram}
+use Rattle.language.proofs.Tokens.{programTokens}
 use Rattle.language.proofs.Takes.{Of, given, refused}
 use Rattle.language.proofs.ReadTokens.{program}
 use Rattle.language.proofs.SymbolFacts.{scan-length, cost, cost-length, symbolsNow, sourceNow, counts, cost-now}

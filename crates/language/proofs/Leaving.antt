@@ -19,7 +19,7 @@ use Rattle.language.specs.Resolve.{declareAll, ofMeaning, sideOf, target
 use Rattle.language.specs.Resolved as R
 use Rattle.language.specs.Resolved.{Expr, Exprs, Target, Pairs, Cmd, Cmds, Cases, Locals, Body}
 use Rattle.language.specs.Faults.{unlessSide, misplaced, byFaults, twice, doubled, Leavable, inLoop, inSwitch, inValof, repeated, unless, leaves, inExpression, inSuffixes, inOperations, inExpressions, inRightSides, inSides, inCommand, inCase, inRepeats, inUnlabelled, inLocals, inCommands, inCases}
-use Rattle.language.proofs.Tokens.{Fine, FineList, FineSuffixes, FineOperations, FineCommand, FineCommands, FineUnlabelled, FineRepeats, FineLocals}
+use Rattle.language.specs.Fine.{Fine, FineList, FineSuffixes, FineOperations, FineCommand, FineCommands, FineUnlabelled, FineRepeats, FineLocals}
 
 -- ---- no refusal at all is none on either side
 
@@ -274,7 +274,7 @@ module _ (strings : ℕ) (text : List ℕ) where
     leave-u s l h T.empty n f s′ h′ = tt
     leave-u s l h (T.assignment left right) n f s′ h′ =
         leave-pairs (E.sides text s′ (h′ + 1) left) (E.sides text s′ h′ right) (leave-sides s l (h + 1) left (none-left _ _ n) (f .0) s′ (h′ + 1)) (leave-right s l h right (none-right (inSides text s l (h + 1) left) _ n) (f .1) s′ h′)
-    leave-u s l h (T.callCommand e) n f s′ h′ = leave-e s l h e n f s′ h′
+    leave-u s l h (T.callCommand e) n f s′ h′ = leave-e s l h e n (f .0) s′ h′
     leave-u s l h (T.test e c d) n f s′ h′ =
         let m = none-left (inExpression text s l h e ++ inCommand text s l h c) (inCommand text s l h d) n in (
           leave-e s l h e (none-left _ (inCommand text s l h c) m) (f .0) s′ h′,

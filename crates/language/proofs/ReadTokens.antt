@@ -12,17 +12,18 @@ use Rattle.language.specs.Kinds as K
 use Rattle.language.specs.Kinds.{member}
 use Rattle.language.specs.Binding.{bindingOf, LOOSEST, isMonadic, reachOf, isSuffix, isLabel, isGuard, isLeave, isRepeat, isDeclaration, goesOnAssignment, beginsCommand}
 use Rattle.language.specs.Tree as T
-use Rattle.language.specs.Tree.{Name, Label, Expression, Expressions, Suffixes, Operations, Commands, Unlabelled, Function, withSuffixes, withOperations, isCall, count}
-use Rattle.language.specs.Reader.{Source, Out, ok, Reader, onOut, kindAt, is, unexpected, here, the, optional, many, items, furtherItems}
+use Rattle.language.specs.Tree.{Name, Simple, Label, Expression, Expressions, Suffixes, Operations, Commands, Unlabelled, Function, withSuffixes, withOperations, isCall, count}
+use Rattle.language.specs.Reader.{Source, Out, ok, Reader, onOut, kindAt, placeAt, is, unexpected, here, the, optional, many, items, furtherItems}
 use Rattle.language.specs.Expressions as E
 use Rattle.language.specs.Expressions.{Readers, Inside, shut, inside, opening}
 use Rattle.language.specs.Commands as C
 use Rattle.language.specs.Grammar as G
 use Rattle.language.specs.Grammar.{within, treeOf}
 use Rattle.language.specs.Symbols.{Symbol}
-use Rattle.language.proofs.Tokens.{begun, begun-started, labelCount, labelsTokens, byTokens, tokens, listTokens, suffixesTokens, operationsTokens, commandTokens, commandsTokens, unlabelledTokens, repeatsTokens, localsTokens, bodyTokens, functionsTokens, declarationTokens, programTokens, FineSimple, FineConstant, FineBy, FineLabels, Fine, FineList, FineSuffixes, FineOperations, FineCommand, FineCommands, FineUnlabelled, FineRepeats, FineLocals, FineBody, FineFunctions, FineItems, FineDeclaration, FineProgram}
+use Rattle.language.specs.Fine.{labelCount, FineConstant, FineBy, FineLabels, Fine, FineList, FineSuffixes, FineOperations, FineCommand, FineCommands, FineUnlabelled, FineRepeats, FineLocals, FineBody, FineFunctions, FineItems, FineDeclaration, FineProgram}
+use Rattle.language.proofs.Tokens.{begun, begun-not-empty, labels-tokens, labelsTokens, byTokens, tokens, listTokens, suffixesTokens, operationsTokens, commandTokens, commandsTokens, unlabelledTokens, repeatsTokens, localsTokens, bodyTokens, functionsTokens, declarationTokens, programTokens}
 use Rattle.language.proofs.Takes as X
-use Rattle.language.proofs.Takes.{Counts, Solid, Of, given, refused, OfPut, puts, refuses, Any, whatever, Symbolic, it-is}
+use Rattle.language.proofs.Takes.{Counts, Solid, Of, given, refused, OfPut, puts, refuses, Any, whatever, Symbolic, it-is, NameHere, stands-here}
 
 -- ---- kinds that are symbols, and no semicolons
 
@@ -201,8 +202,14 @@ module _ {loops : ℕ} (s : Source) (strings : ℕ) (c : ℕ → ℕ) (k : Count
     with-suffixes : (e : Expression) (ss : Suffixes) → Fine strings e → FineSuffixes strings ss → Fine strings (withSuffixes e ss) × ((tokens loops) (withSuffixes e ss) ≤ (tokens loops) e + (suffixesTokens loops) ss)
     unfolding withSuffixes Fine tokens FineSuffixes suffixesTokens
     with-suffixes e T.noSuffixes p f = (p, omega arith)
-    with-suffixes e (T.call es ss) p f = ((p, f), omega arith)
-    with-suffixes e (T.index d ss) p f = ((p, f), omega arith)
+    with-suffixes e (T.call es ss) p f = ((p, f, λ z. clash z), omega arith)
+      where
+        clash : T.call es ss ≡ T.noSuffixes → ⊥
+        clash z = let y : _≡_ {A = ℕ} 0 1 = cc in omega arith
+    with-suffixes e (T.index d ss) p f = ((p, f, λ z. clash z), omega arith)
+      where
+        clash : T.index d ss ≡ T.noSuffixes → ⊥
+        clash z = let y : _≡_ {A = ℕ} 0 1 = cc in omega arith
 
     suffixed : (at : ℕ) → OE at (E.suffixed inner s at)
     unfolding E.suffixed FineSuffixes suffixesTokens
@@ -227,7 +234,10 @@ module _ {loops : ℕ} (s : Source) (strings : ℕ) (c : ℕ → ℕ) (k : Count
     with-operations : (e : Expression) (os : Operations) → Fine strings e → FineOperations strings os → Fine strings (withOperations e os) × ((tokens loops) (withOperations e os) ≤ (tokens loops) e + (operationsTokens loops) os)
     unfolding withOperations Fine tokens FineOperations operationsTokens
     with-operations e T.noOperations p f = (p, omega arith)
-    with-operations e (T.operation o d os) p f = ((p, f), omega arith)
+    with-operations e (T.operation o d os) p f = ((p, f, λ z. clash z), omega arith)
+      where
+        clash : T.operation o d os ≡ T.noOperations → ⊥
+        clash z = let y : _≡_ {A = ℕ} 0 1 = cc in omega arith
 
     chain : (b : ℕ) (left right : Reader Expression) → 1 ≤ b → ((n : ℕ) → OE n (left s n)) → ((n : ℕ) → OE n (right s n)) → (at : ℕ) → OE at (E.chain b left right s at)
     unfolding E.chain E.operations FineOperations operationsTokens
@@ -282,22 +292,33 @@ module _ {loops : ℕ} (s : Source) (strings : ℕ) (c : ℕ → ℕ) (k : Count
 
   -- ---- constants
 
-  simple : (at : ℕ) → O FineSimple (λ _. 1) at (E.simple s at)
+  -- what stands in a constant, at a position
+  record FineSimple (at : ℕ) (x : Simple) : Type 0 where
+    small : (v : ℕ) → x ≡ T.literal v → v < 65536
+    here : (n : Name) → x ≡ T.known n → placeAt s at ≡ n .place
+
+  fine-literal : (at v : ℕ) → v < 65536 → FineSimple at (T.literal v)
+  fine-literal at v l = record { small = λ w e. let z : v ≡ w = cc in omega arith; here = λ n e. let z : _≡_ {A = ℕ} 0 1 = cc in absurd (omega arith) }
+
+  fine-known : (at : ℕ) (n : Name) → NameHere s strings c k at n → FineSimple at (T.known n)
+  fine-known at n (stands-here p) = record { small = λ v e. let z : _≡_ {A = ℕ} 0 1 = cc in absurd (omega arith); here = λ m e. let z : n ≡ m = cc in sym p ∙ ap (λ (x : Name). x .place) z }
+
+  simple : (at : ℕ) → O (FineSimple at) (λ _. 1) at (E.simple s at)
   unfolding E.simple E.literal E.truthLiteral E.known
   simple at =
       X.either s strings c k (is K.NUMBER s at) (λ e. number at (eqb-true _ _ e))
       (λ _. X.either s strings c k (is K.TRUE s at) (λ e. fixed 65535 at (omega arith) (solid-at at K.TRUE (eqb-true _ _ e) (omega arith, λ z. omega arith)))
       (λ _. X.either s strings c k (is K.FALSE s at) (λ e. fixed 0 at (omega arith) (solid-at at K.FALSE (eqb-true _ _ e) (omega arith, λ z. omega arith)))
-      (λ _. X.take s strings c k (X.a-name s strings c k at) λ n next q l. X.got s strings c k tt (omega arith))))
+      (λ _. X.take s strings c k (X.a-name s strings c k at) λ n next q l. X.got s strings c k (fine-known at n q) (omega arith))))
     where
-      number : (at : ℕ) → kindAt s at ≡ K.NUMBER → O FineSimple (λ _. 1) at (E.literal s at)
+      number : (at : ℕ) → kindAt s at ≡ K.NUMBER → O (FineSimple at) (λ _. 1) at (E.literal s at)
       number at e = X.take s strings c k (X.any-one s strings c k at (solid-at at K.NUMBER e (omega arith, λ z. omega arith))) λ x next q l. it x q next l
         where
-          it : (x : _) → Symbolic s strings c k at x → (next : ℕ) → c at + 1 ≤ c next → O FineSimple (λ _. 1) at (ok (T.literal (x .value)) next)
-          it x (it-is q) next l = X.got s strings c k (rw q (k .numbers at e)) (omega arith)
+          it : (x : _) → Symbolic s strings c k at x → (next : ℕ) → c at + 1 ≤ c next → O (FineSimple at) (λ _. 1) at (ok (T.literal (x .value)) next)
+          it x (it-is q) next l = X.got s strings c k (fine-literal at (x .value) (rw q (k .numbers at e))) (omega arith)
 
-      fixed : (v at : ℕ) → v < 65536 → Solid (kindAt s at) → O FineSimple (λ _. 1) at (E.truthLiteral v s at)
-      fixed v at l h = X.take s strings c k (X.any-one s strings c k at h) λ x next q m. X.got s strings c k l (omega arith)
+      fixed : (v at : ℕ) → v < 65536 → Solid (kindAt s at) → O (FineSimple at) (λ _. 1) at (E.truthLiteral v s at)
+      fixed v at l h = X.take s strings c k (X.any-one s strings c k at h) λ x next q m. X.got s strings c k (fine-literal at v l) (omega arith)
 
   constant : {inner : Inside} → InnerOf inner → (at : ℕ) → O FineConstant (λ _. 1) at (E.constant inner s at)
   unfolding E.constant E.negative E.positive here
@@ -305,21 +326,16 @@ module _ {loops : ℕ} (s : Source) (strings : ℕ) (c : ℕ → ℕ) (k : Count
       X.either s strings c k (is K.MINUS s at)
       (λ _. opened _ i λ r j.
       X.take s strings c k (the-one K.MINUS at (omega arith, λ z. omega arith)) λ place n₁ _ l₁.
-      X.take s strings c k (simple n₁) λ x n₂ q l₂. X.got s strings c k q (omega arith))
-      (λ _. X.take s strings c k (simple at) λ x n₂ q l₂. X.got s strings c k q (omega arith))
+      X.take s strings c k (simple n₁) λ x n₂ q l₂.
+      X.got s strings c k (record { small = q .small; place = λ n e f. let z : _≡_ {A = ℕ} 0 1 = cc in absurd (omega arith) }) (omega arith))
+      (λ _. X.take s strings c k (simple at) λ x n₂ q l₂. X.got s strings c k (record { small = q .small; place = λ n e f. q .here n e }) (omega arith))
 
   -- ---- commands
-
-  label-tokens-of : (ls : List Label) → length ls ≤ labelsTokens ls
-  unfolding labelsTokens
-  label-tokens-of [] = omega arith
-  label-tokens-of (T.case place x ∷ ls) = omega (arith, label-tokens-of ls)
-  label-tokens-of (T.default place ∷ ls) = omega (arith, label-tokens-of ls)
 
   label-tokens : (cs : Commands) → labelCount cs ≤ (commandsTokens loops) cs
   unfolding labelCount commandsTokens
   label-tokens T.noCommands = omega arith
-  label-tokens (T.andCommand (T.command ls u rs) cs) = omega (arith, label-tokens-of ls, label-tokens cs)
+  label-tokens (T.andCommand (T.command ls u rs) cs) = omega (arith, labels-tokens ls, label-tokens cs)
 
   abbrev OU : ℕ → Out Unlabelled → Type 0
   OU at o = O (λ u. FineUnlabelled strings u × (begun u ≡ true)) (unlabelledTokens loops) at o
@@ -399,7 +415,10 @@ module _ {loops : ℕ} (s : Source) (strings : ℕ) (c : ℕ → ℕ) (k : Count
 
     leave : (at : ℕ) → isLeave (kindAt s at) ≡ true → OU at (C.leave r s at)
     unfolding C.leave FineUnlabelled unlabelledTokens
-    leave at h = X.take s strings c k (X.any-one s strings c k at (leave-solid (kindAt s at) h)) λ x n₁ _ l₁. X.got s strings c k (tt, refl) (omega arith)
+    leave at h = X.take s strings c k (X.any-one s strings c k at (leave-solid (kindAt s at) h)) λ x n₁ i l₁. X.got s strings c k (leaving i, refl) (omega arith)
+      where
+        leaving : {x : Symbol} → Symbolic s strings c k at x → isLeave (x .kind) ≡ true
+        leaving (it-is e) = rw e h
 
     -- so many expressions
     record Further (n : ℕ) (es : Expressions) : Type 0 where
@@ -479,20 +498,20 @@ module _ {loops : ℕ} (s : Source) (strings : ℕ) (c : ℕ → ℕ) (k : Count
         X.putting s strings c k ((tokens loops) e) (λ es f. (p, f)) (λ es. omega arith) (omega arith)
 
     assignment : (e : Expression) (at at₀ : ℕ) → Fine strings e → c at₀ + (tokens loops) e ≤ c at → OU at₀ (C.assignment r e s at)
-    unfolding C.assignment FineUnlabelled unlabelledTokens FineList listTokens
+    unfolding C.assignment FineUnlabelled unlabelledTokens FineList listTokens count
     assignment e at at₀ f h =
         X.take s strings c k (X.further-of s strings c k (FineList strings) (listTokens loops) T.noExpressions tt (omega arith) (C.furtherSide r) further-side at) λ es n₁ p l₁.
         X.take s strings c k (the-one K.ASSIGN n₁ (omega arith, λ z. omega arith)) λ _ n₂ _ l₂.
         X.take s strings c k (j .expressions LOOSEST n₂) λ d n₃ q l₃.
         X.take s strings c k (further (count es) n₃) λ ds n₄ t l₄.
-        X.got s strings c k (((f, p), (q, t .fine)), refl) (omega arith)
+        X.got s strings c k (((f, p), (q, t .fine), omega arith, ap suc (sym (t .many-of-them))), refl) (omega arith)
 
     assignment-or-call : (at : ℕ) → OU at (C.assignmentOrCall r s at)
     unfolding C.assignmentOrCall C.afterExpression C.callCommand FineUnlabelled unlabelledTokens unexpected
     assignment-or-call at =
         X.take s strings c k (j .expressions LOOSEST at) λ e n₁ p l₁.
         X.either s strings c k (goesOnAssignment (kindAt s n₁)) (λ _. assignment e n₁ at p l₁)
-        (λ _. X.either s strings c k (isCall e) (λ _. X.got s strings c k (p, refl) l₁) (λ _. refused))
+        (λ _. X.either s strings c k (isCall e) (λ h. X.got s strings c k ((p, h), refl) l₁) (λ _. refused))
 
     unlabelled : (at : ℕ) → OU at (C.unlabelled r s at)
     unfolding C.unlabelled
@@ -520,12 +539,12 @@ module _ {loops : ℕ} (s : Source) (strings : ℕ) (c : ℕ → ℕ) (k : Count
     repeated ls at at₀ f h =
         X.take s strings c k (unlabelled at) λ u n₁ p l₁.
         X.take s strings c k (X.many-of s strings c k (FineRepeats strings) (repeatsTokens loops) T.noRepeats tt (omega arith) (C.repeatForm r) isRepeat repeat-form n₁) λ rs n₂ q l₂.
-        X.got s strings c k (f, p .0, q, omega (arith, begun-started u (p .1))) (omega arith)
+        X.got s strings c k (f, p .0, q, record { labels = λ e. absurd (begun-not-empty u (p .1) e); alone = λ e. absurd (begun-not-empty u (p .1) e) }) (omega arith)
 
   empty-command : (ls : List Label) (at at₀ : ℕ) → FineLabels ls → c at₀ + labelsTokens ls ≤ c at → O (FineCommand strings) (commandTokens loops) at₀ (C.emptyCommand ls s at)
   unfolding C.emptyCommand unexpected FineCommand FineUnlabelled FineRepeats commandTokens unlabelledTokens repeatsTokens
   empty-command [] at at₀ f h = refused
-  empty-command (l ∷ ls) at at₀ f h = X.got s strings c k (f, tt, tt, omega (arith, label-tokens-of (l ∷ ls))) (omega arith)
+  empty-command (l ∷ ls) at at₀ f h = X.got s strings c k (f, tt, tt, record { labels = λ e. omega arith; alone = λ e. refl }) (omega arith)
 
   -- a label of so many symbols
   record Labelled (n : ℕ) (l : Label) : Type 0 where

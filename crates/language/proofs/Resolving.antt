@@ -21,7 +21,7 @@ use Rattle.language.specs.Resolved as R
 use Rattle.language.specs.Resolved.{Expr, Exprs, Cmd, Locals}
 use Rattle.language.specs.Heights as H
 use Rattle.language.specs.Resolved.{casesOf, caseCount}
-use Rattle.language.proofs.Tokens.{labelCount, FineSimple, FineConstant, FineBy, FineLabels, Fine, FineList, FineSuffixes, FineOperations, FineCommand, FineCommands, FineUnlabelled, FineRepeats, FineLocals}
+use Rattle.language.specs.Fine.{labelCount, FineConstant, FineBy, FineLabels, Fine, FineList, FineSuffixes, FineOperations, FineCommand, FineCommands, FineUnlabelled, FineRepeats, FineLocals}
 use Rattle.language.proofs.Formed.{FormedCases, FormedE, FormedA, FormedT, FormedP, FormedC, FormedB, FormedS, FormedL}
 
 -- ---- scopes
@@ -82,7 +82,7 @@ WordJudged (refused fs) = Unit {0}
 
 pub judge-word : (f h : ℕ) (text : List ℕ) (s : Scope) (c : Constant) → Scoped f h s → FineConstant c → WordJudged (judge text s c)
 unfolding judge
-judge-word f h text s c p q = go (c .simple) q
+judge-word f h text s c p q = go (c .simple) refl
   where
     found : (n : Name) (x : Found) → KnownFound f h x → WordJudged (ofFound c n x)
     found n N.unknown k = tt
@@ -91,9 +91,9 @@ judge-word f h text s c p q = go (c .simple) q
     found n (N.known (N.global j)) k = tt
     found n (N.known (N.function j)) k = tt
 
-    go : (x : Simple) → FineSimple x → WordJudged (ofSimple text s c x)
-    go (T.literal v) l = signed-word (c .minus) v l
-    go (T.known n) l = found n (lookup text s n) (lookup-known f h text s n p)
+    go : (x : Simple) → c .simple ≡ x → WordJudged (ofSimple text s c x)
+    go (T.literal v) e = signed-word (c .minus) v (q .small v e)
+    go (T.known n) e = found n (lookup text s n) (lookup-known f h text s n p)
 
 pub word-below : (j : Judged) → WordJudged j → judgedWord j < 65536
 word-below (good v) l = l
@@ -344,7 +344,7 @@ module _ (functions strings : ℕ) (text : List ℕ) where
     form-u s h T.empty sc f = tt
     form-u s h (T.assignment left right) sc f =
         formed-pairs h (E.sides text s (h + 1) left) (E.sides text s h right) (form-sides s (h + 1) left (scoped-up functions s (omega arith) sc) (f .0)) (form-sides s h right sc (f .1))
-    form-u s h (T.callCommand e) sc f = form-e s h e sc f
+    form-u s h (T.callCommand e) sc f = form-e s h e sc (f .0)
     form-u s h (T.test e c d) sc f = (form-e s h e sc (f .0), form-c s h c sc (f .1), form-c s h d sc (f .2))
     form-u s h (T.guarded w e c) sc f = formed-guard h (E.expression text s h e) (E.command text s h c) (eqb w IF) (eqb w WHILE) (eqb w UNTIL) (form-e s h e sc (f .0)) (form-c s h c sc (f .1))
     form-u s h (T.for n e d k c) sc f = (

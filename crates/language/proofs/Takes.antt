@@ -8,7 +8,8 @@ use borrow.Author.Tests.{eqb-true}
 use Rattle.language.specs.Kinds.{COMMA, SEMICOLON, CLOSE, END, NAME, NUMBER, STRING}
 use Rattle.language.specs.Symbols.{Symbol}
 use Rattle.language.specs.Binding.{isRepeat}
-use Rattle.language.specs.Reader.{Source, Out, ok, no, Reader, onOut, symbolAt, kindAt, valueAt, is, unexpected, any, the, optional, aName, manyUpTo, many, moreUpTo, items, isComma, furtherItems, oneUpToClose, upToClose}
+use Rattle.language.specs.Tree.{Name}
+use Rattle.language.specs.Reader.{Source, Out, ok, no, Reader, onOut, symbolAt, kindAt, valueAt, placeAt, is, unexpected, any, the, optional, aName, manyUpTo, many, moreUpTo, items, isComma, furtherItems, oneUpToClose, upToClose}
 
 -- a count of the symbols before a position, semicolons apart; and what is known of the symbols' values
 pub record Counts (loops : ℕ) (s : Source) (strings : ℕ) (c : ℕ → ℕ) : Type 0 where
@@ -83,9 +84,12 @@ module _ {loops : ℕ} (s : Source) (strings : ℕ) (c : ℕ → ℕ) (k : Count
   unfolding optional
   optional-semicolon at = either (is SEMICOLON s at) (λ e. got whatever (omega (arith, k .up at))) (λ e. got whatever (omega arith))
 
-  pub a-name : (at : ℕ) → Of Any (λ _. 1) at (aName s at)
+  pub data NameHere (at : ℕ) (n : Name) : Type 0 where
+    stands-here : n .place ≡ placeAt s at → NameHere at n
+
+  pub a-name : (at : ℕ) → Of (NameHere at) (λ _. 1) at (aName s at)
   unfolding aName unexpected
-  a-name at = either (is NAME s at) (λ e. got whatever (omega (arith, solid at NAME (eqb-true _ _ e) (omega arith, λ z. omega arith)))) (λ e. refused)
+  a-name at = either (is NAME s at) (λ e. got (stands-here refl) (omega (arith, solid at NAME (eqb-true _ _ e) (omega arith, λ z. omega arith)))) (λ e. refused)
 
   pub data Symbolic (at : ℕ) (x : Symbol) : Type 0 where
     it-is : x ≡ symbolAt s at → Symbolic at x

@@ -1,4 +1,4 @@
--- How many symbols a tree is written with at least, inserted semicolons apart, and what is known of its numbers and strings.
+-- How many symbols a tree is written with at least, inserted semicolons apart.
 use Prim.Native.Nat.{ℕ, _+_, _≤_, _<_}
 use mathlib.Core.Path.{_≡_, refl}
 use mathlib.Core.Bool.{Bool, true, false, cond}
@@ -6,8 +6,8 @@ use mathlib.Core.List.{List, [], _∷_}
 use native.Mathlib.Omega.{arith}
 use mathlib.Core.Option.{Option, none, some}
 use lib.ListN.{length}
-use Rattle.language.specs.Binding.{isGuard}
 use Rattle.language.specs.Tree as T
+use Rattle.language.specs.Fine.{EmptyAfterLabels}
 use Rattle.language.specs.Tree.{Simple, Constant, Label, Expression, Expressions, Suffixes, Operations, Command, Commands, Unlabelled, Repeats, Locals, Body, Function, Declaration, Item, Program}
 
 unfoldable pub labelsTokens : List Label → ℕ
@@ -35,8 +35,37 @@ begun (T.block ls cs) = true
 abbrev pub started : Unlabelled → ℕ
 started u = cond (begun u) 1 0
 
+not-begun : (u : Unlabelled) → begun u ≡ false → u ≡ T.empty
+not-begun T.empty e = refl
+not-begun (T.assignment l r) e = let z : _≡_ {A = ℕ} 0 1 = cc in absurd (omega arith)
+not-begun (T.callCommand x) e = let z : _≡_ {A = ℕ} 0 1 = cc in absurd (omega arith)
+not-begun (T.test x c d) e = let z : _≡_ {A = ℕ} 0 1 = cc in absurd (omega arith)
+not-begun (T.guarded w x c) e = let z : _≡_ {A = ℕ} 0 1 = cc in absurd (omega arith)
+not-begun (T.for n x d k c) e = let z : _≡_ {A = ℕ} 0 1 = cc in absurd (omega arith)
+not-begun (T.switchon x cs) e = let z : _≡_ {A = ℕ} 0 1 = cc in absurd (omega arith)
+not-begun (T.resultis place x) e = let z : _≡_ {A = ℕ} 0 1 = cc in absurd (omega arith)
+not-begun (T.leave w place) e = let z : _≡_ {A = ℕ} 0 1 = cc in absurd (omega arith)
+not-begun (T.block ls cs) e = let z : _≡_ {A = ℕ} 0 1 = cc in absurd (omega arith)
+
 pub begun-started : (u : Unlabelled) → begun u ≡ true → 1 ≤ started u
 begun-started u e = rw e (omega arith)
+
+pub begun-not-empty : (u : Unlabelled) → begun u ≡ true → u ≡ T.empty → ⊥
+begun-not-empty u e z = let b : begun T.empty ≡ true = rw z at e in let y : _≡_ {A = ℕ} 0 1 = cc in omega arith
+
+pub labels-tokens : (ls : List Label) → length ls ≤ labelsTokens ls
+unfolding labelsTokens
+labels-tokens [] = omega arith
+labels-tokens (T.case place x ∷ ls) = omega (arith, labels-tokens ls)
+labels-tokens (T.default place ∷ ls) = omega (arith, labels-tokens ls)
+
+-- a command has a label or a symbol of its own
+pub not-bare : {ls : List Label} {u : Unlabelled} {rs : Repeats} → EmptyAfterLabels ls u rs → 1 ≤ labelsTokens ls + started u
+not-bare {ls} {u} f = go (begun u) refl
+  where
+    go : (b : Bool) → begun u ≡ b → 1 ≤ labelsTokens ls + cond b 1 0
+    go true e = omega arith
+    go false e = omega (arith, f .labels (not-begun u e), labels-tokens ls)
 
 -- a REPEAT form is counted as so many
 module _ (loops : ℕ) where
@@ -124,104 +153,6 @@ module _ (loops : ℕ) where
       go : (b : Bool) → begun u ≡ b → cond b 1 0 ≤ unlabelledTokens u
       go true e = begun-tokens u e
       go false e = omega arith
-
--- the labels before the commands of a list
-unfoldable pub labelCount : Commands → ℕ
-labelCount T.noCommands = 0
-labelCount (T.andCommand (T.command ls u rs) cs) = length ls + labelCount cs
-
--- ---- numbers are words, strings are among those of the text, and no SWITCHON has too many labels
-
-abbrev pub FineSimple : Simple → Type 0
-FineSimple (T.literal v) = v < 65536
-FineSimple (T.known n) = Unit {0}
-
-abbrev pub FineConstant : Constant → Type 0
-FineConstant k = FineSimple (k .simple)
-
-abbrev pub FineBy : Option Constant → Type 0
-FineBy none = Unit {0}
-FineBy (some k) = FineConstant k
-
-unfoldable pub FineLabels : List Label → Type 0
-FineLabels [] = Unit {0}
-FineLabels (T.case place k ∷ ls) = FineConstant k × FineLabels ls
-FineLabels (T.default place ∷ ls) = FineLabels ls
-
-module _ (strings : ℕ) where
-  unfoldable mutual
-    pub Fine : Expression → Type 0
-    Fine (T.number place v) = v < 65536
-    Fine (T.string place k) = k < strings
-    Fine (T.name n) = Unit {0}
-    Fine (T.bracketed place e) = Fine e
-    Fine (T.valof place c) = FineCommand c
-    Fine (T.monadic place o e) = Fine e
-    Fine (T.suffixed e ss) = Fine e × FineSuffixes ss
-    Fine (T.dyadic e os) = Fine e × FineOperations os
-
-    pub FineList : Expressions → Type 0
-    FineList T.noExpressions = Unit {0}
-    FineList (T.andExpression e es) = Fine e × FineList es
-
-    pub FineSuffixes : Suffixes → Type 0
-    FineSuffixes T.noSuffixes = Unit {0}
-    FineSuffixes (T.call es ss) = FineList es × FineSuffixes ss
-    FineSuffixes (T.index e ss) = Fine e × FineSuffixes ss
-
-    pub FineOperations : Operations → Type 0
-    FineOperations T.noOperations = Unit {0}
-    FineOperations (T.operation o e os) = Fine e × FineOperations os
-
-    pub FineCommand : Command → Type 0
-    FineCommand (T.command ls u rs) = FineLabels ls × FineUnlabelled u × FineRepeats rs × (1 ≤ labelsTokens ls + started u)
-
-    pub FineCommands : Commands → Type 0
-    FineCommands T.noCommands = Unit {0}
-    FineCommands (T.andCommand c cs) = FineCommand c × FineCommands cs
-
-    pub FineUnlabelled : Unlabelled → Type 0
-    FineUnlabelled T.empty = Unit {0}
-    FineUnlabelled (T.assignment left right) = FineList left × FineList right
-    FineUnlabelled (T.callCommand e) = Fine e
-    FineUnlabelled (T.test e c d) = Fine e × FineCommand c × FineCommand d
-    FineUnlabelled (T.guarded w e c) = Fine e × FineCommand c × (isGuard w ≡ true)
-    FineUnlabelled (T.for n e d k c) = Fine e × Fine d × FineBy k × FineCommand c
-    FineUnlabelled (T.switchon e cs) = Fine e × FineCommands cs × (labelCount cs ≤ 65535)
-    FineUnlabelled (T.resultis place e) = Fine e
-    FineUnlabelled (T.leave w place) = Unit {0}
-    FineUnlabelled (T.block ls cs) = FineLocals ls × FineCommands cs
-
-    pub FineRepeats : Repeats → Type 0
-    FineRepeats T.noRepeats = Unit {0}
-    FineRepeats (T.repeat rs) = FineRepeats rs
-    FineRepeats (T.repeatOn w e rs) = Fine e × FineRepeats rs
-
-    pub FineLocals : Locals → Type 0
-    FineLocals T.noLocals = Unit {0}
-    FineLocals (T.vector n k ls) = FineConstant k × FineLocals ls
-    FineLocals (T.values ns es ls) = FineList es × FineLocals ls × (T.count es ≡ length ns)
-
-  abbrev pub FineBody : Body → Type 0
-  FineBody (T.value e) = Fine e
-  FineBody (T.routine c) = FineCommand c
-
-  unfoldable pub FineFunctions : List Function → Type 0
-  FineFunctions [] = Unit {0}
-  FineFunctions (f ∷ fs) = FineBody (f .body) × FineFunctions fs
-
-  unfoldable pub FineItems : List Item → Type 0
-  FineItems [] = Unit {0}
-  FineItems (i ∷ is) = FineConstant (i .constant) × FineItems is
-
-  abbrev pub FineDeclaration : Declaration → Type 0
-  FineDeclaration (T.globals is) = FineItems is
-  FineDeclaration (T.manifests is) = FineItems is
-  FineDeclaration (T.functions fs) = FineFunctions fs
-
-  unfoldable pub FineProgram : Program → Type 0
-  FineProgram [] = Unit {0}
-  FineProgram (d ∷ ds) = FineDeclaration d × FineProgram ds
 
 -- ---- a function is written with four symbols more than its parameters and body: its name, brackets, and = or BE
 

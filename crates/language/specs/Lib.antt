@@ -11,6 +11,7 @@ pub mod Expressions
 pub mod Commands
 pub mod Grammar
 pub mod Source
+pub mod Fine
 pub mod Names
 pub mod Constants
 pub mod Resolved
