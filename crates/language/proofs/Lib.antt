@@ -16,3 +16,5 @@ pub mod Ladder
 pub mod Whole
 pub mod ExampleRules
 pub mod ExampleRuns
+pub mod Runs
+pub mod Held
