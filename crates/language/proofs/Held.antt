@@ -1,6 +1,6 @@
 -- A word below a call's frame that holds a value keeps holding one, whatever the call does: further frames stand above it, and elsewhere a
 -- value is only written over a value. So where a source run ends, the globals and the strings, below the stack, all hold values.
-use Prim.Native.Nat.{ℕ, zero, suc, _+_, _-_, _≤_, _<_}
+use Prim.Native.Nat.{ℕ, zero, suc, _+_, _≤_, _<_}
 use mathlib.Core.Path.{_≡_, refl}
 use mathlib.Core.Bool.{Bool, true, false, cond}
 use mathlib.Core.List.{List, [], _∷_}
@@ -10,8 +10,8 @@ use lib.ListN.{length, getD}
 use borrow.Author.Tests.{le-leb, lt-ltb, le-ltb}
 use Rattle.text.specs.Packed.{pairs}
 use Rattle.language.specs.Resolved.{Fun}
-use Rattle.language.specs.State.{Cell, holds, Value, State, Result, unfinished, undefined, finished, returned, ok}
-use Rattle.language.specs.Run.{Placement, called, sem, reach}
+use Rattle.language.specs.State.{Cell, holds, State, Result, unfinished, undefined, finished, returned, ok}
+use Rattle.language.specs.Run.{Placement, called, sem}
 use Rattle.language.specs.Whole.{atStart, cellsAtStart, stringCell, runWith, Over, byReturn, byFinish}
 use Rattle.language.proofs.Runs.{Held, held, after, Relation, Closed, Related, in-called, in-sem}
 

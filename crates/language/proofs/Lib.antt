@@ -17,4 +17,5 @@ pub mod Whole
 pub mod ExampleRules
 pub mod ExampleRuns
 pub mod Runs
+pub mod Fuel
 pub mod Held
