@@ -17,5 +17,6 @@ pub mod Whole
 pub mod ExampleRules
 pub mod ExampleRuns
 pub mod Runs
+pub mod Limits
 pub mod Fuel
 pub mod Held
