@@ -26,3 +26,7 @@ pub mod Resolving
 pub mod Leaving
 pub mod Forming
 pub mod Accepted
+pub mod Runs
+pub mod Limits
+pub mod Fuel
+pub mod Held
