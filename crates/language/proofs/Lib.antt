@@ -20,3 +20,4 @@ pub mod Runs
 pub mod Limits
 pub mod Fuel
 pub mod Held
+pub mod ExampleEnds
