@@ -30,3 +30,4 @@ pub mod Runs
 pub mod Limits
 pub mod Fuel
 pub mod Held
+pub mod ExampleEnds

@@ -2,7 +2,7 @@
 use Prim.Native.Nat.{ℕ, zero, suc, _+_, _≤_, _<_}
 use mathlib.Core.Path.{_≡_, refl, ap, _∙_}
 use mathlib.Core.Bool.{Bool, true, false, cond}
-use mathlib.Core.List.{List}
+use mathlib.Core.List.{List, []}
 use native.Mathlib.Omega.{arith}
 use native.Mathlib.Nat.{le-refl, le-trans}
 use lib.Dec.{leb, ltb}
@@ -10,6 +10,7 @@ use borrow.Author.Tests.{leb-false, ltb-true, ltb-false}
 use Rattle.language.specs.Resolved.{Expr, Cmd, Fun}
 use Rattle.language.specs.State.{State, Result, unfinished, undefined, finished, returned, ok}
 use Rattle.language.specs.Run.{Placement, Sem, Loop, reach, called, sem}
+use Rattle.language.specs.Whole.{atStart, runWith, Over, byReturn, byFinish}
 use Rattle.language.proofs.Runs.{after, Relation, Closed, Related, in-called, in-sem}
 
 -- two results: the first one uses at least n, and where it uses no more than the limit the second is the same
@@ -70,6 +71,10 @@ module _ (limit : ℕ) where
         goes-on = λ b m f. both-after b m f;
       }
 
+  over-both : {A : Type 0} {n : ℕ} {x y : Result A} {s : State} → Both limit n x y → Over x s → s .used ≤ limit → Over y s
+  over-both {s = s} (b-finished m e) byFinish l = rw (e l) byFinish
+  over-both {s = s} (b-ok m e) byReturn l = rw (e l) byReturn
+
   module _ (functions : List Fun) (place : Placement) (memory : ℕ) (fits : limit ≤ memory) (input : List ℕ) where
     -- parts that agree
     pub record Agreeing (q r : Sem) : Type 0 where
@@ -96,3 +101,8 @@ module _ (limit : ℕ) where
           run = λ c p h s. both-related fuel .run c p h s (omega arith);
           turn = λ l p h s. both-related fuel .turn l p h s (omega arith);
         }
+
+    pub over-within : (fuel : ℕ) (strings : List (List ℕ)) {s : State} → Over (runWith fuel functions strings place memory input) s → s .used ≤ limit
+        → Over (runWith fuel functions strings place limit input) s
+    unfolding runWith
+    over-within fuel strings over l = over-both (both-called _ _ (both-sem fuel) _ (place .first + 2) [] (atStart functions strings place)) over l

@@ -1,6 +1,6 @@
 -- One induction over all forms of the source run. A relation between two results that come of one state is `Closed` where it bears what the
 -- forms do: end, change the state, reach a height, and go on from one result to the next. If the meanings of the parts are so related
--- (`Related`), then so are an expression, a command, a turn of a loop and a call of them. The laws of all runs are its instances.
+-- (`Related`), then so are an expression, a command, a turn of a loop and a call of them. `Limits`, `Fuel` and `Held` are its instances.
 use Prim.Native.Nat.{ℕ, suc, _+_, _≤_, _<_}
 use mathlib.Core.Path.{_≡_, refl}
 use mathlib.Core.Bool.{Bool, true, false, cond}
