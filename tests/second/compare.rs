@@ -32,6 +32,7 @@ fn main() -> ExitCode {
 fn compare_all(library: Option<Library>, cases: u64) -> Result<String, String> {
     let mut texts = Tally::new();
     let mut stops = Tally::new();
+    let mut resumed = Tally::new();
     let mut acts = Tally::new();
     for number in 0..cases {
         let seed = number;
@@ -59,6 +60,9 @@ fn compare_all(library: Option<Library>, cases: u64) -> Result<String, String> {
         let case = generate::image(seed);
         let wanted = compare_image(library, &case, seed).map_err(|report| headed("image", number, seed, &report))?;
         *stops.entry(wanted.stop).or_default() += 1;
+        let wanted_on = compare_resumed(library, &case, wanted.count, seed)
+            .map_err(|report| headed("resumed image", number, seed, &report))?;
+        *resumed.entry(wanted_on.stop).or_default() += 1;
         if library.is_none() {
             carry_on(&case, wanted, &mut acts).map_err(|report| headed("image", number, seed, &report))?;
         }
@@ -66,7 +70,11 @@ fn compare_all(library: Option<Library>, cases: u64) -> Result<String, String> {
     let least = cases / 100;
     let told_texts =
         format!("{} texts ({} accepted, {})", 2 * cases, often(&texts, 0), enough(&texts, &REFUSALS, least)?);
-    let told_images = format!("{cases} images ({})", enough(&stops, &STOPS, least)?);
+    let told_images = format!(
+        "{cases} images ({}; carried on {})",
+        enough(&stops, &STOPS, least)?,
+        enough(&resumed, &STOPS, least)?
+    );
     if library.is_some() {
         return Ok(format!("compared {told_texts} and {told_images}: all equal"));
     }
@@ -173,6 +181,57 @@ fn compare_image(library: Option<Library>, case: &ImageCase, seed: u64) -> Resul
             break;
         }
     }
+    Err(report)
+}
+
+/// The second machine's answer to a case carried on from where some budget left it, sometimes with other registers and
+/// places, if the library's is the same in every detail.
+fn compare_resumed(library: Option<Library>, case: &ImageCase, count: u64, seed: u64) -> Result<Ran, String> {
+    let mut random = Random::new(!seed);
+    let (start, memory, output) = second_run(case, random.next() % (count + 1));
+    let machine::Registers { a, b, c, p, g } = start.registers;
+    let mut words = [a, b, c, p, g];
+    let mut places = [start.taken, start.written];
+    if random.one_in(2) {
+        let (word, place) = (random.below(5), random.below(2));
+        words[word] = random.word();
+        places[place] = random.pick(&[0, case.input.len(), case.output.len(), case.output.len() + 1, usize::MAX]);
+    }
+    let [a, b, c, p, g] = words;
+    let (mut wanted_memory, mut wanted_output) = (memory.clone(), output.clone());
+    let registers = machine::Registers { a, b, c, p, g };
+    let [taken, written] = places;
+    let wanted = machine::resume(
+        registers,
+        taken,
+        written,
+        &mut wanted_memory,
+        &case.input,
+        &mut wanted_output,
+        case.budget,
+    );
+    let Some(library) = library else { return Ok(wanted) };
+    let (mut given_memory, mut given_output) = (memory, output);
+    let mut answer = [!seed; 9];
+    (library.resume)(
+        words,
+        taken,
+        written,
+        &mut given_memory,
+        &case.input,
+        &mut given_output,
+        case.budget,
+        &mut answer,
+    );
+    if answer == numbers(&wanted) && given_memory == wanted_memory && given_output == wanted_output {
+        return Ok(wanted);
+    }
+    let mut report = told_image(case);
+    _ = writeln!(report, "carried on from A, B, C, P, G {words:?}, taken and written {places:?}");
+    _ = writeln!(report, "stop, count, taken, written, A, B, C, P, G:");
+    _ = writeln!(report, "second program: {:?}\nproved library: {answer:?}", numbers(&wanted));
+    report += &told_difference("memory", &wanted_memory, &given_memory);
+    report += &told_difference("output", &wanted_output, &given_output);
     Err(report)
 }
 

@@ -7,10 +7,14 @@ pub type Assemble = fn(&[u8], &mut [u16], &mut [u32], &mut [u64; 3]);
 /// Memory, first stack word, input, output, budget, and the answer: stop, count, taken, written, A, B, C, P, G.
 pub type Run = fn(&mut [u16], u16, &[u8], &mut [u8], u64, &mut [u64; 9]);
 
+/// The same from registers and places: A, B, C, P, G, and the bytes taken and written.
+pub type Resume = fn([u16; 5], usize, usize, &mut [u16], &[u8], &mut [u8], u64, &mut [u64; 9]);
+
 #[derive(Clone, Copy)]
 pub struct Library {
     pub assemble: Assemble,
     pub run: Run,
+    pub resume: Resume,
 }
 
 #[cfg(not(proved))]
@@ -20,7 +24,7 @@ pub fn library() -> Option<Library> {
 
 #[cfg(proved)]
 pub fn library() -> Option<Library> {
-    Some(Library { assemble: linked::assemble, run: linked::run })
+    Some(Library { assemble: linked::assemble, run: linked::run, resume: linked::resume })
 }
 
 #[cfg(proved)]
@@ -47,6 +51,23 @@ mod linked {
             memory: *mut u16,
             memory_len: usize,
             first: u16,
+            input: *const u8,
+            input_len: usize,
+            output: *mut u8,
+            output_len: usize,
+            budget: u64,
+            answer: *mut u64,
+        );
+        fn morkvasil_resume(
+            a: u16,
+            b: u16,
+            c: u16,
+            p: u16,
+            g: u16,
+            taken: usize,
+            written: usize,
+            memory: *mut u16,
+            memory_len: usize,
             input: *const u8,
             input_len: usize,
             output: *mut u8,
@@ -84,6 +105,39 @@ mod linked {
                 memory.as_mut_ptr(),
                 memory.len(),
                 first,
+                input.as_ptr(),
+                input.len(),
+                output.as_mut_ptr(),
+                output.len(),
+                budget,
+                answer.as_mut_ptr(),
+            );
+        }
+    }
+
+    #[allow(clippy::too_many_arguments)]
+    pub fn resume(
+        [a, b, c, p, g]: [u16; 5],
+        taken: usize,
+        written: usize,
+        memory: &mut [u16],
+        input: &[u8],
+        output: &mut [u8],
+        budget: u64,
+        answer: &mut [u64; 9],
+    ) {
+        // Sound: as above.
+        unsafe {
+            morkvasil_resume(
+                a,
+                b,
+                c,
+                p,
+                g,
+                taken,
+                written,
+                memory.as_mut_ptr(),
+                memory.len(),
                 input.as_ptr(),
                 input.len(),
                 output.as_mut_ptr(),

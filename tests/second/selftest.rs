@@ -782,7 +782,8 @@ fn vectors_texts() {
                     [number, place, line].map(|field| field.parse::<usize>().expect("a number"));
                 (number <= 7).then_some((number as u64, place, line))
             }
-            _ => None,
+            ["accepted"] => None,
+            _ => panic!("neither a refusal nor `accepted`: {line}"),
         };
         assert_eq!(refusal_of(&text), wanted, "{line}");
     }
@@ -793,7 +794,10 @@ fn vectors_runs() {
     let folder = vectors();
     let expected = String::from_utf8(file(&folder.join("runs/expected"))).expect("plain text");
     for line in expected.lines() {
-        let name = line.split(' ').next().expect("a name");
+        let [name, "steps", steps, "taken", taken] = line.split(' ').collect::<Vec<&str>>()[..] else {
+            panic!("not a run's steps and input taken: {line}")
+        };
+        [steps, taken].map(|field| field.parse::<u64>().expect("a number"));
         assert_eq!(refusal_of(&file(&folder.join(format!("runs/{name}.b")))), None, "{line}");
     }
 }

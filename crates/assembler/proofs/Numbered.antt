@@ -15,7 +15,7 @@ use Rattle.items.specs.Scan.{Ending, whole, unreadable, Scan, scan}
 use Rattle.assembler.specs.Words.{inRange, size}
 use Rattle.assembler.specs.declared.Label.{Label}
 use Rattle.assembler.specs.Layout.{vacant, defined, noted, Laid, laid, refused, onFault, misplaced, fault, lay, unknowns}
-use Rattle.assembler.specs.Assemble.{Assembly, refuse, accept, onUnknowns, onEnding, onLaid, assembled, Assembles}
+use Rattle.assembler.specs.Assemble.{Assembly, refuse, accept, onUnknowns, onEnding, onLaid, assembled, numbers, Assembles}
 use Rattle.assembler.specs.Passes.{records, tableOf, Gives, AssemblesKeys, Serves, Loads}
 use Rattle.assembler.specs.declared.Assembled.{Assembled}
 use Rattle.assembler.proofs.Operands.{label-range}
@@ -221,11 +221,11 @@ module _ (text : List ℕ) (memory limit room : ℕ) (r : limit ≤ room) where
 
 pub assembles : {text memory : List ℕ} {labels : List Label} {answer : Assembled} {memory′ keys : List ℕ} {labels′ : List Label}
     → Serves (assembled text (length memory) (length labels)) (length labels) answer memory′ keys → labels′ ≡ tableOf keys (length labels) → Assembles text memory labels answer memory′ labels′
-assembles s e = record { answers = s .answers; fills = s .fills; tables = e ∙ s .tables }
+assembles s e = record { answers = s .answers; tells = ap numbers (s .answers); fills = s .fills; tables = e ∙ s .tables }
 
 pub loads : {text memory : List ℕ} (room : ℕ) {labels : List Label} {answer : Assembled} {memory′ : List ℕ} {labels′ : List Label}
     → room ≡ length labels → Assembles text memory labels answer memory′ labels′ → Loads (assembled text (length memory) room) answer memory′
-loads {text} {memory} room {labels} {answer} {memory′} e a = subst (λ (n : ℕ). Loads (assembled text (length memory) n) answer memory′) (sym e) (record { answers = a .answers; fills = a .fills })
+loads {text} {memory} room {labels} {answer} {memory′} e a = subst (λ (n : ℕ). Loads (assembled text (length memory) n) answer memory′) (sym e) (record { answers = a .answers; tells = a .tells; fills = a .fills })
 
 module _ (text memory : List ℕ) {answer : Assembled} {memory′ : List ℕ} where
   pub serves-within : (keys : List ℕ) (room : ℕ) → length keys ≡ 32767 → room < 32767 → {part part′ : List ℕ} (rest : List ℕ) → part ≡ take (room - 0) keys → length part′ ≡ length part

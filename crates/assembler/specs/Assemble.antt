@@ -80,8 +80,14 @@ module _ (text : List ℕ) (memory room : ℕ) where
       (onLaid (lay memory room 416 [] (scan text .items)) (scan text))
       (refuse 24 0)
 
+-- document 01's numbers of an answer: 0, the first stack word, and no line; or the refusal's number, byte place and line
+abbrev pub numbers : Assembled → List ℕ
+numbers (Accepted first) = 0 ∷ first ∷ 0 ∷ []
+numbers (Refused r) = r .number ∷ r .place ∷ r .line ∷ []
+
 -- what the function answers and leaves is what the definition gives
 pub record Assembles (text memory : List ℕ) (table : List Label) (answer : Assembled) (memory′ : List ℕ) (table′ : List Label) : Type 0 where
   pub answers : answer ≡ assembled text (length memory) (length table) .answer
+  pub tells : numbers answer ≡ numbers (assembled text (length memory) (length table) .answer)
   pub fills : memory′ ≡ assembled text (length memory) (length table) .memory
   pub tables : table′ ≡ assembled text (length memory) (length table) .table

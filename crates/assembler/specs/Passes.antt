@@ -18,7 +18,7 @@ use Rattle.items.specs.declared.Item.{Item}
 use Rattle.items.specs.declared.Item.the-variants as C
 use Rattle.assembler.specs.Words.{inRange, signed, size, words}
 use Rattle.assembler.specs.Layout.{defined, addressOf, noted, Laid, laid, refused, lay, known, unknowns}
-use Rattle.assembler.specs.Assemble.{Assembly, assembled}
+use Rattle.assembler.specs.Assemble.{Assembly, assembled, numbers}
 use Rattle.assembler.specs.declared.Label.{Label}
 use Rattle.assembler.specs.declared.Found.{Found}
 use Rattle.assembler.specs.declared.Found.the-variants.{At, Missing}
@@ -218,4 +218,5 @@ pub record Serves (a : Assembly) (room : ℕ) (answer : Assembled) (memory keys 
 -- what a program is given that needs no table
 pub record Loads (a : Assembly) (answer : Assembled) (memory : List ℕ) : Type 0 where
   pub answers : answer ≡ a .answer
+  pub tells : numbers answer ≡ numbers (a .answer)
   pub fills : memory ≡ a .memory

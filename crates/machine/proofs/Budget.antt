@@ -10,9 +10,9 @@ use lib.Dec.{eqb, leb}
 use lib.ListN.{length, getD, length-set}
 use lib.Seq.{getD-set-other}
 use borrow.Author.Tests.{ne-eqb}
-use Rattle.machine.specs.State.{State}
+use Rattle.machine.specs.State.{State, at, startRegisters}
 use Rattle.machine.specs.Step.{Turn, done, finished, stopped, step}
-use Rattle.machine.specs.Run.{Outcome, after, onTurn, steps, resume}
+use Rattle.machine.specs.Run.{Outcome, after, onTurn, steps, resume, run}
 use Rattle.machine.proofs.Shape.{Shape, quiet, one-more, ends, halts, Quiet, OneMore, shape}
 
 -- a run that stopped for budget, carried on
@@ -48,16 +48,17 @@ steps-add input (suc n) m s =
 
 -- ---- output only grows
 
--- from s to t: what was written stays, what is past the written bytes keeps what it held
+-- from s to t: what was written stays, what is past the written bytes keeps what it held, and what fitted the room still fits
 pub record Grows (s t : State) : Type 0 where
   pub memory : length (t .mem) ≡ length (s .mem)
   pub room : length (t .out) ≡ length (s .out)
   pub place : s .regs .written ≤ t .regs .written
   pub kept : (i : ℕ) → i < s .regs .written → getD (t .out) i 0 ≡ getD (s .out) i 0
   pub held : (i : ℕ) → t .regs .written ≤ i → getD (t .out) i 0 ≡ getD (s .out) i 0
+  pub within : s .regs .written ≤ length (s .out) → t .regs .written ≤ length (s .out)
 
 pub grows-not : (s : State) → Grows s s
-grows-not s = record { memory = refl; room = refl; place = le-refl (s .regs .written); kept = λ i h. refl; held = λ i h. refl }
+grows-not s = record { memory = refl; room = refl; place = le-refl (s .regs .written); kept = λ i h. refl; held = λ i h. refl; within = λ h. h }
 
 pub grows-on : {s t u : State} → Grows s t → Grows t u → Grows s u
 grows-on g h =
@@ -67,6 +68,7 @@ grows-on g h =
       place = le-trans (g .place) (h .place);
       kept = λ i l. h .kept i (lt-of-lt-of-le l (g .place)) ∙ g .kept i l;
       held = λ i l. h .held i l ∙ g .held i (le-trans (h .place) l);
+      within = λ l. let a = g .within l in let e = g .room in let b = h .within (omega arith) in omega arith;
     }
 
 grows-quiet : {s t : State} → Quiet s t → Grows s t
@@ -77,6 +79,7 @@ grows-quiet {s} {t} q =
       place = let e = q .place in omega arith;
       kept = λ i l. ap (λ (o : List ℕ). getD o i 0) (q .output);
       held = λ i l. ap (λ (o : List ℕ). getD o i 0) (q .output);
+      within = λ l. let e = q .place in omega arith;
     }
 
 grows-one : {s t : State} → OneMore s t → Grows s t
@@ -89,6 +92,7 @@ grows-one {s} {t} q =
       place = omega arith;
       kept = λ i l. ap (λ (o : List ℕ). getD o i 0) (q .output) ∙ getD-set-other (s .out) w i (q .byte) 0 (λ e. absurd (omega arith));
       held = λ i l. ap (λ (o : List ℕ). getD o i 0) (q .output) ∙ getD-set-other (s .out) w i (q .byte) 0 (λ e. absurd (omega arith));
+      within = λ l. let h = q .room in omega arith;
     }
 
 grows-turn : (s : State) {t : Turn} → Shape s t → (f : State → Outcome) → ((u : State) → Grows u (f u .state)) → Grows s (onTurn s t f .state)
@@ -135,3 +139,7 @@ resume-grows input n s = go (fits (length (s .mem))) refl
     go : (b : Bool) → fits (length (s .mem)) ≡ b → Grows s (resume input n s .state)
     go true e = rw e (steps-grow input n s)
     go false e = rw e (grows-not s)
+
+-- a run from the start writes no more bytes than the output has room for
+pub run-within : (first : ℕ) (memory input output : List ℕ) (n : ℕ) → run first memory input output n .state .regs .written ≤ length output
+run-within first memory input output n = resume-grows input n (at (startRegisters first) memory output) .within (omega arith)

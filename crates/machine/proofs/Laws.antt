@@ -12,7 +12,7 @@ use Rattle.machine.specs.Outcome.{Out, ok, stop, _>>=_, read, write}
 use Rattle.machine.specs.State.{State, at, withA, withC, framed, took, wrote}
 use Rattle.machine.specs.Acts.{indirected, returned, search, switched, received, sent}
 use Rattle.machine.specs.Step.{Turn, done, finished, stopped, turn, keep, stored, called, jumped}
-use Rattle.machine.specs.Answers.{asWord, asActed, asTurn, left, Turns}
+use Rattle.machine.specs.Answers.{asWord, asActed, asTurn, numberOf, registersOf, left, Turns}
 use Rattle.machine.specs.declared.Registers.{Registers}
 use Rattle.machine.specs.declared.Word.{Word}
 use Rattle.machine.specs.declared.Word.the-variants as W
@@ -52,32 +52,42 @@ module _ (m : List ℕ) (i : ℕ) where
 
 -- ---- a turn, from an outcome
 
+left-registers : (s : State) (t : Turn) → registersOf (s .regs) (asTurn t) ≡ left s t .regs
+unfolding asTurn left
+left-registers s (done t) = refl
+left-registers s (finished t) = refl
+left-registers s (stopped k) = refl
+
+pub turns : (s : State) (t : Turn) {d : D.Turn} {m o : List ℕ} → d ≡ asTurn t → m ≡ left s t .mem → o ≡ left s t .out → Turns s t d m o
+turns s t e f g =
+    record { answers = e; stops = ap numberOf e; leaves = ap (registersOf (s .regs)) e ∙ left-registers s t; stores = f; writes = g }
+
 pub turned : {s : State} {o : Out State} {r : Registers} {m out : List ℕ} → o ≡ ok (at r m out) → {r′ : Registers} → r′ ≡ r → Turns s (turn o) (T.Done r′) m out
 unfolding asTurn left
-turned e q = record { answers = simp (e, q); stores = simp e; writes = simp e }
+turned e q = turns _ _ (simp (e, q)) (simp e) (simp e)
 
 pub turned-stop : {s : State} {o : Out State} {k : ℕ} → o ≡ stop k → Turns s (turn o) (T.Stopped k) (s .mem) (s .out)
 unfolding asTurn left
-turned-stop e = record { answers = simp e; stores = simp e; writes = simp e }
+turned-stop e = turns _ _ (simp e) (simp e) (simp e)
 
 pub kept : (s : State) (o : Out Registers) {d : D.Turn} → d ≡ asActed o → Turns s (keep s o) d (s .mem) (s .out)
 unfolding keep asActed asTurn left
-kept s (ok r) e = record { answers = e; stores = refl; writes = refl }
-kept s (stop k) e = record { answers = e; stores = refl; writes = refl }
+kept s (ok r) e = turns s _ e refl refl
+kept s (stop k) e = turns s _ e refl refl
 
 pub kept-to : (s : State) {r r′ : Registers} → r′ ≡ r → Turns s (keep s (ok r)) (T.Done r′) (s .mem) (s .out)
 unfolding keep asTurn left
-kept-to s e = record { answers = ap T.Done e; stores = refl; writes = refl }
-
--- A given a value v that a callee gave as v′
-pub kept-a : (s : State) {v v′ : ℕ} {r′ : Registers} → r′ ≡ withA v′ (s .regs) → v′ ≡ v → Turns s (keep s (ok (withA v (s .regs)))) (T.Done r′) (s .mem) (s .out)
-kept-a s e q = kept-to s (e ∙ ap (λ (x : ℕ). withA x (s .regs)) q)
+kept-to s e = turns s _ (ap T.Done e) refl refl
 
 pub kept-finished : (s : State) → Turns s (finished s) (T.Finished (s .regs)) (s .mem) (s .out)
 unfolding asTurn left
-kept-finished s = record { answers = refl; stores = refl; writes = refl }
+kept-finished s = turns s _ refl refl refl
 
--- ---- acts 1 and 4
+-- ---- A, and acts 1 to 4
+
+-- A given a value v that a callee gave as v′
+pub put-a : (r : Registers) {v v′ : ℕ} {t : Registers} → t ≡ withA v′ r → v′ ≡ v → t ≡ withA v r
+put-a r e q = e ∙ ap (λ (x : ℕ). withA x r) q
 
 module _ (r : Registers) (m : List ℕ) where
   pub indirect-past : {a : Word} {k : ℕ} → a ≡ asWord (read m (r .a)) → a ≡ W.Stopped k → T.Stopped k ≡ asActed (indirected r m)

@@ -7,7 +7,7 @@ use lib.Dec.{T as IsT, eqb}
 use Rattle.words.specs.Answers.{divided}
 use Rattle.words.specs.declared.Divided.{Divided}
 use Rattle.words.specs.declared.Divided.the-variants.{Is, ByZero}
-use Rattle.machine.specs.Outcome.{Out, ok, stop, _>>=_}
+use Rattle.machine.specs.Outcome.{Out, ok, stop}
 use Rattle.machine.specs.State.{State, withA}
 use Rattle.machine.specs.Acts.{Act, unlisted, indirect, negate, invert, back, finish, switch, rdch, wrch, dyadic, acts, actOf, combined}
 use Rattle.machine.specs.Step.{keep, perform, Function, L, S, A, J, T, F, K, X, functions, functionOf, execute}
@@ -106,8 +106,7 @@ isValued rdch = false
 isValued wrch = false
 isValued (dyadic f) = true
 
-valued : (o : Act) (input : List ℕ) (s : State) → isValued o ≡ true
-    → perform input o s ≡ keep s (valueOf o (s .regs .b) (s .regs .a) >>= λ v. ok (withA v (s .regs)))
+valued : (o : Act) (input : List ℕ) (s : State) → isValued o ≡ true → perform input o s ≡ keep s (combined (valueOf o) (s .regs))
 unfolding isValued valueOf perform combined keep
 valued unlisted input s e = refl
 valued indirect input s e = absurd (subst IsT (sym e) tt)
@@ -120,18 +119,19 @@ valued rdch input s e = absurd (subst IsT (sym e) tt)
 valued wrch input s e = absurd (subst IsT (sym e) tt)
 valued (dyadic f) input s e = refl
 
-module _ {n : ℕ} (input : List ℕ) (s : State) (h : Absent n others) {w : Word} (p : w ≡ asWord (valueOf (actOf n) (s .regs .b) (s .regs .a))) where
-  by-value : perform input (actOf n) s ≡ keep s (valueOf (actOf n) (s .regs .b) (s .regs .a) >>= λ v. ok (withA v (s .regs)))
-  unfolding isValued
-  by-value = valued (actOf n) input s (rule isValued unlisted refl others acts tt n h)
+module _ (f : ℕ → ℕ → Out ℕ) (r : Registers) {w : Word} (p : w ≡ asWord (f (r .b) (r .a))) where
+  pub combine-value : {v : ℕ} {t : Registers} → w ≡ W.Is v → t ≡ withA v r → R.Done t ≡ asActed (combined f r)
+  unfolding combined asActed
+  combine-value q e = simp (is-ok _ p q, e)
 
-  pub act-value : {v : ℕ} {r : Registers} → w ≡ W.Is v → r ≡ withA v (s .regs) → Turns s (perform input (actOf n) s) (R.Done r) (s .mem) (s .out)
-  unfolding asActed
-  act-value q e = rw by-value (kept s _ (simp (is-ok _ p q, e)))
+  pub combine-stop : {k : ℕ} → w ≡ W.Stopped k → R.Stopped k ≡ asActed (combined f r)
+  unfolding combined asActed
+  combine-stop q = simp (is-stop _ p q)
 
-  pub act-stop : {k : ℕ} → w ≡ W.Stopped k → Turns s (perform input (actOf n) s) (R.Stopped k) (s .mem) (s .out)
-  unfolding asActed
-  act-stop q = rw by-value (kept s _ (simp (is-stop _ p q)))
+pub act-combined : {n : ℕ} {d : D.Turn} (input : List ℕ) (s : State) → Absent n others → d ≡ asActed (combined (valueOf (actOf n)) (s .regs))
+    → Turns s (perform input (actOf n) s) d (s .mem) (s .out)
+unfolding isValued
+act-combined {n} input s h e = rw (valued (actOf n) input s (rule isValued unlisted refl others acts tt n h)) (kept s _ e)
 
 -- ---- the functions
 

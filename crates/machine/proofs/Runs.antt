@@ -17,6 +17,7 @@ use Rattle.machine.specs.declared.Fetched.{Fetched}
 use Rattle.machine.specs.declared.Fetched.the-variants as F
 use Rattle.machine.specs.declared.Turn as D
 use Rattle.machine.specs.declared.Turn.the-variants as T
+use Rattle.machine.proofs.Laws.{turns}
 
 -- ---- one instruction, from the fetch's answer, matched
 
@@ -42,14 +43,14 @@ fetched-stop r (stop k) p q = cc
 -- a turn said from a state with other registers
 from-other : (r r′ : Registers) (m out : List ℕ) (t : Turn) {d : D.Turn} {m′ o′ : List ℕ} → Turns (at r′ m out) t d m′ o′ → Turns (at r m out) t d m′ o′
 unfolding left
-from-other r r′ m out (done t) h = record { answers = h .answers; stores = h .stores; writes = h .writes }
-from-other r r′ m out (finished t) h = record { answers = h .answers; stores = h .stores; writes = h .writes }
-from-other r r′ m out (stopped k) h = record { answers = h .answers; stores = h .stores; writes = h .writes }
+from-other r r′ m out (done t) h = turns _ _ (h .answers) (h .stores) (h .writes)
+from-other r r′ m out (finished t) h = turns _ _ (h .answers) (h .stores) (h .writes)
+from-other r r′ m out (stopped k) h = turns _ _ (h .answers) (h .stores) (h .writes)
 
 module _ (input : List ℕ) (r : Registers) (m out : List ℕ) {a : Fetched} (p : a ≡ asFetched r (fetch r m)) where
   pub step-stop : {k : ℕ} → a ≡ F.Stopped k → Turns (at r m out) (step input (at r m out)) (T.Stopped k) m out
   unfolding step asTurn left
-  step-stop q = let e = fetched-stop r (fetch r m) p q in record { answers = simp e; stores = simp e; writes = simp e }
+  step-stop q = let e = fetched-stop r (fetch r m) p q in turns _ _ (simp e) (simp e) (simp e)
 
   step-from : {f x c : ℕ} {r′ : Registers} {d : D.Turn} {m′ o′ : List ℕ} → fetch r m ≡ ok (record { function = f; operand = x; past = c }) → r′ ≡ withC c r
       → Turns (at r′ m out) (execute input (functionOf f) x (at r′ m out)) d m′ o′ → Turns (at r m out) (step input (at r m out)) d m′ o′

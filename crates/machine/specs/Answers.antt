@@ -42,6 +42,18 @@ asTurn (S.done t) = T.Done (t .regs)
 asTurn (S.finished t) = T.Finished (t .regs)
 asTurn (S.stopped k) = T.Stopped k
 
+-- document 01's numbers of an answer: 30 finished, or the stop, and 0 where the run goes on; and the registers, which a stop leaves as
+-- they were
+abbrev pub numberOf : Turn → ℕ
+numberOf (T.Done r) = 0
+numberOf (T.Finished r) = 30
+numberOf (T.Stopped k) = k
+
+abbrev pub registersOf : Registers → Turn → Registers
+registersOf r (T.Done t) = t
+registersOf r (T.Finished t) = t
+registersOf r (T.Stopped k) = r
+
 -- where a turn leaves the state: a stop leaves it as it was
 unfoldable pub left : State → S.Turn → State
 left s (S.done t) = t
@@ -51,6 +63,8 @@ left s (S.stopped k) = s
 -- an answer, and the lent memory and output at exit, are what a turn from a state gives
 pub record Turns (s : State) (turn : S.Turn) (answer : Turn) (memory output : List ℕ) : Type 0 where
   pub answers : answer ≡ asTurn turn
+  pub stops : numberOf answer ≡ numberOf (asTurn turn)
+  pub leaves : registersOf (s .regs) answer ≡ left s turn .regs
   pub stores : memory ≡ left s turn .mem
   pub writes : output ≡ left s turn .out
 

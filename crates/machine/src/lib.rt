@@ -6,11 +6,12 @@
 ghost use mathlib.Core.Path.{_≡_};
 ghost use mathlib.Core.Bool.{cond};
 ghost use lib.Dec.{eqb};
+ghost use Rattle.words.specs.Words.{add, neg, complement};
 ghost use Rattle.machine.specs.Outcome.{Out, ok, read};
 ghost use Rattle.machine.specs.State.{at, startRegisters, withA, withC, loaded, framed};
 ghost use Rattle.machine.specs.Fetch.{fetch};
 ghost use Rattle.machine.specs.Forms.{fetchedAt, fetchedFrom, decoded};
-ghost use Rattle.machine.specs.Acts.{actOf, indirected, returned, search, switched, received, sent};
+ghost use Rattle.machine.specs.Acts.{actOf, indirected, returned, combined, search, switched, received, sent};
 ghost use Rattle.machine.specs.Step.{turn, stored, called, jumped, perform, functionOf, execute, step};
 ghost use Rattle.machine.specs.Run.{steps, resume, run};
 ghost use Rattle.machine.specs.Answers.{asWord, asQuotient, asFetched, asActed, Turns, Ends};
@@ -219,6 +220,7 @@ impl Registers {
         }
     }
 
+    // L.
     fn load(self, x: u16) -> Self
         ensures { λ r. ⌜ r ≡ loaded x self ⌝ }
     {
@@ -275,6 +277,14 @@ impl Registers {
         }
     }
 
+    // A.
+    fn add(self, x: u16) -> Self
+        ensures { λ r. ⌜ r ≡ withA (add (self .a) x) self ⌝ }
+    {
+        self.with_a(words::sum(self.a, x))
+    }
+
+    // J, T and F, where the test holds.
     fn jump(self, go: bool, x: u16) -> Self
         ensures { λ r. ⌜ r ≡ jumped go x self ⌝ }
     {
@@ -291,6 +301,20 @@ impl Registers {
         }
     }
 
+    // X2.
+    fn negate(self) -> Self
+        ensures { λ r. ⌜ r ≡ withA (neg (self .a)) self ⌝ }
+    {
+        self.with_a(words::negation(self.a))
+    }
+
+    // X3.
+    fn invert(self) -> Self
+        ensures { λ r. ⌜ r ≡ withA (complement (self .a)) self ⌝ }
+    {
+        self.with_a(words::complement(self.a))
+    }
+
     // X4.
     fn back(self, memory: &[u16]) -> Turn
         ensures { λ r. ⌜ r ≡ asActed (returned self (now (memory .entry))) ⌝ }
@@ -301,6 +325,16 @@ impl Registers {
                 Word::Stopped(k) => Turn::Stopped(k),
                 Word::Is(p) => Turn::Done(self.framed(p, c)),
             },
+        }
+    }
+
+    // X5 to X19; 34 for a number that is not listed.
+    fn combine(self, n: u16) -> Turn
+        ensures { λ r. ⌜ r ≡ asActed (combined (valueOf (actOf n)) self) ⌝ }
+    {
+        match value(n, self.b, self.a) {
+            Word::Stopped(k) => Turn::Stopped(k),
+            Word::Is(v) => Turn::Done(self.with_a(v)),
         }
     }
 
@@ -393,17 +427,14 @@ impl Registers {
     {
         match n {
             1 => self.indirect(memory),
-            2 => Turn::Done(self.with_a(words::negation(self.a))),
-            3 => Turn::Done(self.with_a(words::complement(self.a))),
+            2 => Turn::Done(self.negate()),
+            3 => Turn::Done(self.invert()),
             4 => self.back(memory),
             22 => Turn::Finished(self),
             23 => self.switch(memory),
             27 => Turn::Done(self.rdch(input)),
             28 => self.wrch(memory, output),
-            _ => match value(n, self.b, self.a) {
-                Word::Stopped(k) => Turn::Stopped(k),
-                Word::Is(v) => Turn::Done(self.with_a(v)),
-            },
+            _ => self.combine(n),
         }
     }
 
@@ -414,8 +445,8 @@ impl Registers {
         match f {
             0 => Turn::Done(self.load(x)),
             1 => self.store(x, memory, output),
-            2 => Turn::Done(self.with_a(words::sum(self.a, x))),
-            3 => Turn::Done(self.with_c(x)),
+            2 => Turn::Done(self.add(x)),
+            3 => Turn::Done(self.jump(true, x)),
             4 => Turn::Done(self.jump(self.a != 0, x)),
             5 => Turn::Done(self.jump(self.a == 0, x)),
             6 => self.call(x, memory, output),

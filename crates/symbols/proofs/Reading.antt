@@ -12,10 +12,11 @@ use Rattle.language.specs.Symbols.{none, fault, scan}
 use Rattle.language.specs.Source.{good, faulty, onFault, symbolsOf}
 use Rattle.language.specs.Source.{tooLong}
 use Rattle.symbols.specs.Answers.{asFault}
-use Rattle.symbols.specs.Read.{entries, outcome, symbolsRead, Reads}
+use Rattle.symbols.specs.Read.{entries, outcome, symbolsRead, numbers, Reads}
 use Rattle.symbols.specs.Parts.{faultFrom, Faults, symbolsIn, WritesAll}
 use Rattle.symbols.specs.declared.Fault.{Fault}
 use Rattle.symbols.specs.declared.Fault.the-variants as F
+use Rattle.symbols.specs.declared.SymbolsRead.{SymbolsRead}
 use Rattle.symbols.specs.declared.SymbolsRead.the-variants.{TooLong, TooShort, Read, Refused}
 use Rattle.symbols.proofs.Writing.{length-entries}
 
@@ -34,14 +35,17 @@ unfolding tooLong
 short-text text e = ltb-false 16384 (length text) e
 
 module _ (text s : List ℕ) where
+  reads : {answer : SymbolsRead} {s′ : List ℕ} → answer ≡ symbolsRead text s .answer → s′ ≡ symbolsRead text s .scratch → Reads text s answer s′
+  reads e h = record { answers = e; tells = ap (numbers text) e; leaves = h }
+
   pub long : tooLong text ≡ true → Reads text s TooLong s
   unfolding symbolsRead
-  long e = record { answers = rw e; leaves = rw e }
+  long e = reads (rw e) (rw e)
 
   module _ (e : tooLong text ≡ false) where
     pub short : length s < length text * 3 → Reads text s TooShort s
     unfolding symbolsRead
-    short h = let k : ltb (length s) (length text * 3) ≡ true = lt-ltb _ _ h in record { answers = rw (e, k); leaves = rw (e, k) }
+    short h = let k : ltb (length s) (length text * 3) ≡ true = lt-ltb _ _ h in reads (rw (e, k)) (rw (e, k))
 
     module _ (h : length text * 3 ≤ length s) where
       enough : symbolsRead text s ≡ outcome (length s) (symbolsOf text)
@@ -55,7 +59,7 @@ module _ (text s : List ℕ) where
             let a : faultFrom text [] (scan text) ≡ fault number place = when-at (faultFrom text [] (scan text)) (f .answers) k in
             let b : symbolsOf text ≡ faulty number place = ap (λ (t : S.Fault). onFault t (symbolsIn text)) a in
             let n : length s₁ - 0 ≡ length s = omega (arith, f .same) in
-            record { answers = rw (enough, b); leaves = q ∙ rw (enough, b, n) }
+            reads (rw (enough, b)) (q ∙ rw (enough, b, n))
 
         module _ (k : r ≡ F.Nowhere) where
           is-good : symbolsOf text ≡ good (symbolsIn text)
@@ -65,4 +69,4 @@ module _ (text s : List ℕ) where
           pub written : {count : ℕ} {s₂ s₃ : List ℕ} → WritesAll text s₁ count s₂ → s₃ ≡ take (count * 3) s₂ ++ replicate (length s₂ - count * 3) 0 → Reads text s (Read count) s₃
           written {count} {s₂} w q =
               let n : length s₂ - count * 3 ≡ length s - length (entries (symbolsIn text)) = omega (arith, w .same, f .same, w .counts, length-entries (symbolsIn text)) in
-              record { answers = rw (enough, is-good, ← w .counts); leaves = q ∙ rw (enough, is-good, w .writes, n) }
+              reads (rw (enough, is-good, ← w .counts)) (q ∙ rw (enough, is-good, w .writes, n))

@@ -6,9 +6,9 @@ use mathlib.Core.Bool.{cond}
 use mathlib.Core.List.{List, [], _∷_, _++_}
 use lib.ListN.{length, replicate}
 use lib.Dec.{ltb}
+use Rattle.text.specs.Line.{lineOf}
 use Rattle.language.specs.Symbols.{Symbol}
-use Rattle.language.specs.Source.{Symbols, good, faulty, symbolsOf}
-use Rattle.language.specs.Source.{tooLong}
+use Rattle.language.specs.Source.{Symbols, good, faulty, symbolsOf, tooLong}
 use Rattle.symbols.specs.declared.SymbolsRead.{SymbolsRead}
 use Rattle.symbols.specs.declared.SymbolsRead.the-variants.{TooLong, TooShort, Read, Refused}
 
@@ -30,6 +30,15 @@ symbolsRead text scratch =
     (cond (ltb (length scratch) (length text * 3)) (record { answer = TooShort; scratch = scratch })
     (outcome (length scratch) (symbolsOf text)))
 
+-- document 01's numbers of an answer: 1 and 15 with place 0 and line 1; 0, the number of symbols, and no line; or the refusal's number, byte
+-- place and line
+abbrev pub numbers : (text : List ℕ) → SymbolsRead → List ℕ
+numbers text TooLong = 1 ∷ 0 ∷ 1 ∷ []
+numbers text TooShort = 15 ∷ 0 ∷ 1 ∷ []
+numbers text (Read count) = 0 ∷ count ∷ 0 ∷ []
+numbers text (Refused number place) = number ∷ place ∷ lineOf text place ∷ []
+
 pub record Reads (text scratch : List ℕ) (answer : SymbolsRead) (scratch′ : List ℕ) : Type 0 where
   pub answers : answer ≡ symbolsRead text scratch .answer
+  pub tells : numbers text answer ≡ numbers text (symbolsRead text scratch .answer)
   pub leaves : scratch′ ≡ symbolsRead text scratch .scratch

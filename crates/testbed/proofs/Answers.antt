@@ -3,6 +3,7 @@ use mathlib.Core.List.{List, [], _∷_}
 use mathlib.Core.Path.{_≡_, refl, sym, ap, subst, _∙_}
 use Prim.Native.Nat.{ℕ}
 use lib.ListN.{length}
+use Rattle.assembler.specs.Assemble as A
 use Rattle.assembler.specs.Assemble.{Assembles, assembled}
 use Rattle.assembler.specs.declared.Label.{Label}
 use Rattle.assembler.specs.declared.Assembled.{Assembled}
@@ -11,32 +12,32 @@ use Rattle.machine.specs.Answers.{Ends}
 use Rattle.machine.specs.declared.Ran.{Ran}
 use Rattle.text.specs.Line.{lineOf}
 use Rattle.symbols.specs.declared.SymbolsRead.the-variants.{Refused}
+use Rattle.symbols.specs.Read as S
 use Rattle.symbols.specs.Read.{Reads}
 use Rattle.symbols.specs.declared.SymbolsRead.{SymbolsRead}
 use Rattle.tree.specs.Read.{ReadsTree}
 use Rattle.tree.specs.declared.TreeRead.{TreeRead}
 use Rattle.tree.specs.declared.TreeRead.the-variants as T
-use Rattle.testbed.specs.Exported.{AssembleExported, RunExported, SymbolsExported, TreeAnswered, AfterSymbols, TreeExported, assembleNumbers, symbolNumbers, treeNumbers}
+use Rattle.testbed.specs.Exported.{AssembleExported, RunExported, SymbolsExported, TreeAnswered, AfterSymbols, TreeExported, ranNumbers, treeNumbers}
 
-pub run-exported : {o : Outcome} {r : Ran} {memory output : List ℕ} → Ends o r memory output
-    → RunExported o memory output
-    (r .stop ∷ r .count ∷ r .registers .taken ∷ r .registers .written ∷ r .registers .a ∷ r .registers .b ∷ r .registers .c ∷ r .registers .p ∷ r .registers .g ∷ [])
-run-exported e =
+-- a run's answer, told
+pub run-exported : {o : Outcome} {r : Ran} {memory output numbers : List ℕ} → Ends o r memory output → numbers ≡ ranNumbers r → RunExported o memory output numbers
+run-exported e q =
     record {
       stores = e .stores;
       writes = e .writes;
-      answers = λ i. e .stops i ∷ e .counts i ∷ e .leaves i .taken ∷ e .leaves i .written ∷ e .leaves i .a ∷ e .leaves i .b ∷ e .leaves i .c ∷ e .leaves i .p ∷ e .leaves i .g ∷ [];
+      answers = q ∙ λ i. e .stops i ∷ e .counts i ∷ e .leaves i .taken ∷ e .leaves i .written ∷ e .leaves i .a ∷ e .leaves i .b ∷ e .leaves i .c ∷ e .leaves i .p ∷ e .leaves i .g ∷ [];
     }
 
 -- an assembly's answer, told
 pub assemble-exported : {text memory : List ℕ} {table : List Label} {answer : Assembled} {memory′ : List ℕ} {table′ : List Label} {numbers : List ℕ} → Assembles text memory table answer memory′ table′
-    → numbers ≡ assembleNumbers answer → AssembleExported (assembled text (length memory) (length table)) memory′ table′ numbers
-assemble-exported e q = record { fills = e .fills; tables = e .tables; answers = q ∙ ap assembleNumbers (e .answers) }
+    → numbers ≡ A.numbers answer → AssembleExported (assembled text (length memory) (length table)) memory′ table′ numbers
+assemble-exported e q = record { fills = e .fills; tables = e .tables; answers = q ∙ e .tells }
 
 -- a reading's answer, matched
 pub symbols-exported : {text scratch : List ℕ} {answer matched : SymbolsRead} {scratch′ : List ℕ} → Reads text scratch answer scratch′
-    → answer ≡ matched → SymbolsExported text scratch scratch′ (symbolNumbers text matched)
-symbols-exported {text} e q = record { leaves = e .leaves; answers = ap (symbolNumbers text) (sym q ∙ e .answers) }
+    → answer ≡ matched → SymbolsExported text scratch scratch′ (S.numbers text matched)
+symbols-exported {text} e q = record { leaves = e .leaves; answers = ap (S.numbers text) (sym q) ∙ e .tells }
 
 -- with the line that was found
 pub symbols-refused : {text scratch : List ℕ} {answer : SymbolsRead} {number place line : ℕ} {scratch′ : List ℕ} → Reads text scratch answer scratch′

@@ -3,9 +3,13 @@ use Prim.Native.Nat.{ℕ}
 use mathlib.Core.Path.{_≡_}
 use mathlib.Core.List.{List, [], _∷_}
 use lib.ListN.{length}
-use Rattle.machine.specs.Run.{Outcome, run}
+use Rattle.machine.specs.Run.{Outcome}
+use Rattle.machine.specs.declared.Ran.{Ran}
+use Rattle.machine.specs.declared.Registers.{Registers}
+use Rattle.assembler.specs.Assemble as A
 use Rattle.assembler.specs.Assemble.{Assembly}
 use Rattle.text.specs.Line.{lineOf}
+use Rattle.symbols.specs.Read as S
 use Rattle.symbols.specs.Read.{symbolsRead}
 use Rattle.symbols.specs.declared.SymbolsRead.{SymbolsRead}
 use Rattle.symbols.specs.declared.SymbolsRead.the-variants as Y
@@ -13,40 +17,30 @@ use Rattle.tree.specs.Read.{treeRead, unfit, Leaves}
 use Rattle.tree.specs.declared.TreeRead.{TreeRead}
 use Rattle.tree.specs.declared.TreeRead.the-variants as T
 use Rattle.assembler.specs.declared.Label.{Label}
-use Rattle.assembler.specs.declared.Assembled.{Assembled}
-use Rattle.assembler.specs.declared.Assembled.the-variants.{Accepted, Refused}
+
+abbrev pub registersOf : (a b c p g taken written : ℕ) → Registers
+registersOf a b c p g taken written = record { a = a; b = b; c = c; p = p; g = g; taken = taken; written = written }
 
 -- stop, count, taken, written, A, B, C, P, G
-abbrev pub runNumbers : Outcome → List ℕ
-runNumbers o =
-    o .stop ∷ o .count ∷ o .state .regs .taken ∷ o .state .regs .written
-    ∷ o .state .regs .a ∷ o .state .regs .b ∷ o .state .regs .c ∷ o .state .regs .p ∷ o .state .regs .g ∷ []
+abbrev runNumbers : (stop count : ℕ) → Registers → List ℕ
+runNumbers stop count r = stop ∷ count ∷ r .taken ∷ r .written ∷ r .a ∷ r .b ∷ r .c ∷ r .p ∷ r .g ∷ []
+
+abbrev pub ranNumbers : Ran → List ℕ
+ranNumbers ran = runNumbers (ran .stop) (ran .count) (ran .registers)
 
 pub record RunExported (outcome : Outcome) (memory output answer : List ℕ) : Type 0 where
   pub stores : memory ≡ outcome .state .mem
   pub writes : output ≡ outcome .state .out
-  pub answers : answer ≡ runNumbers outcome
-
--- 0 and the first stack word; or the refusal's number, place and line
-abbrev pub assembleNumbers : Assembled → List ℕ
-assembleNumbers (Accepted first) = 0 ∷ first ∷ 0 ∷ []
-assembleNumbers (Refused r) = r .number ∷ r .place ∷ r .line ∷ []
+  pub answers : answer ≡ runNumbers (outcome .stop) (outcome .count) (outcome .state .regs)
 
 pub record AssembleExported (assembly : Assembly) (memory : List ℕ) (table : List Label) (answer : List ℕ) : Type 0 where
   pub fills : memory ≡ assembly .memory
   pub tables : table ≡ assembly .table
-  pub answers : answer ≡ assembleNumbers (assembly .answer)
-
--- 0 and the number of symbols; or the refusal's number, place and line
-abbrev pub symbolNumbers : (text : List ℕ) → SymbolsRead → List ℕ
-symbolNumbers text Y.TooLong = 1 ∷ 0 ∷ 1 ∷ []
-symbolNumbers text Y.TooShort = 15 ∷ 0 ∷ 1 ∷ []
-symbolNumbers text (Y.Read count) = 0 ∷ count ∷ 0 ∷ []
-symbolNumbers text (Y.Refused number place) = number ∷ place ∷ lineOf text place ∷ []
+  pub answers : answer ≡ A.numbers (assembly .answer)
 
 pub record SymbolsExported (text scratch scratch′ answer : List ℕ) : Type 0 where
   pub leaves : scratch′ ≡ symbolsRead text scratch .scratch
-  pub answers : answer ≡ symbolNumbers text (symbolsRead text scratch .answer)
+  pub answers : answer ≡ S.numbers text (symbolsRead text scratch .answer)
 
 -- 0 and the tree's end; or the refusal's number, place and line
 abbrev pub treeNumbers : (text : List ℕ) → TreeRead → List ℕ
@@ -61,10 +55,10 @@ pub record TreeAnswered (text : List ℕ) (count : ℕ) (scratch scratch′ answ
 
 -- after the reading of symbols: a refusal of theirs, or what is said of the tree
 abbrev pub AfterSymbols : (text scratch scratch′ answer : List ℕ) → SymbolsRead → Type 0
-AfterSymbols text s s′ answer Y.TooLong = (s′ ≡ s) × (answer ≡ symbolNumbers text Y.TooLong)
-AfterSymbols text s s′ answer Y.TooShort = (s′ ≡ s) × (answer ≡ symbolNumbers text Y.TooShort)
+AfterSymbols text s s′ answer Y.TooLong = (s′ ≡ s) × (answer ≡ S.numbers text Y.TooLong)
+AfterSymbols text s s′ answer Y.TooShort = (s′ ≡ s) × (answer ≡ S.numbers text Y.TooShort)
 AfterSymbols text s s′ answer (Y.Read count) = TreeAnswered text count s s′ answer
-AfterSymbols text s s′ answer (Y.Refused number place) = (s′ ≡ s) × (answer ≡ symbolNumbers text (Y.Refused number place))
+AfterSymbols text s s′ answer (Y.Refused number place) = (s′ ≡ s) × (answer ≡ S.numbers text (Y.Refused number place))
 
 pub record TreeExported (text scratch scratch′ answer : List ℕ) : Type 0 where
   pub after : AfterSymbols text (symbolsRead text scratch .scratch) scratch′ answer (symbolsRead text scratch .answer)

@@ -1,11 +1,14 @@
 // The library's functions exported on numbers and slices, for the comparison with the second program (tests/).
 ghost use mathlib.Core.Path.{_≡_};
 ghost use lib.ListN.{length};
-ghost use Rattle.assembler.specs.Assemble.{assembled};
-ghost use Rattle.machine.specs.Run.{run};
-ghost use Rattle.testbed.specs.Exported.{assembleNumbers, AssembleExported, RunExported, SymbolsExported, TreeExported, TreeAnswered};
+ghost use Rattle.assembler.specs.Assemble.{assembled, numbers};
+ghost use Rattle.machine.specs.Run.{resume, run};
+ghost use Rattle.machine.specs.State.{at};
+ghost use Rattle.testbed.specs.Exported.{registersOf, ranNumbers, AssembleExported, RunExported, SymbolsExported, TreeExported, TreeAnswered};
 use assembler::Assembled;
 use assembler::Label;
+use machine::Ran;
+use machine::Registers;
 use symbols::SymbolsRead;
 use tree::TreeRead;
 
@@ -23,7 +26,7 @@ pub extern "C" fn morkvasil_assemble(
 }
 
 fn tell(assembly: Assembled, answer: &mut [u64; 3])
-    ensures { λ _. ⌜ now (answer .exit) ≡ assembleNumbers assembly ⌝ }
+    ensures { λ _. ⌜ now (answer .exit) ≡ numbers assembly ⌝ }
 {
     match assembly {
         Assembled::Accepted(first) => {
@@ -47,6 +50,42 @@ pub extern "C" fn morkvasil_run(
     ensures { λ _. ⌜ RunExported (run first (now (memory .entry)) (now (input .entry)) (now (output .entry)) budget) (now (memory .exit)) (now (output .exit)) (now (answer .exit)) ⌝ }
 {
     let ran = machine::run(memory, first, input, output, budget);
+    tell_run(ran, answer);
+}
+
+#[no_mangle]
+pub extern "C" fn morkvasil_resume(
+    a: u16,
+    b: u16,
+    c: u16,
+    p: u16,
+    g: u16,
+    taken: usize,
+    written: usize,
+    memory: &mut [u16],
+    input: &[u8],
+    output: &mut [u8],
+    budget: u64,
+    answer: &mut [u64; 9],
+)
+    ensures { λ _. ⌜ RunExported (resume (now (input .entry)) budget (at (registersOf a b c p g taken written) (now (memory .entry)) (now (output .entry)))) (now (memory .exit)) (now (output .exit)) (now (answer .exit)) ⌝ }
+{
+    let registers = Registers {
+        a: a,
+        b: b,
+        c: c,
+        p: p,
+        g: g,
+        taken: taken,
+        written: written,
+    };
+    let ran = machine::resume(registers, memory, input, output, budget);
+    tell_run(ran, answer);
+}
+
+fn tell_run(ran: Ran, answer: &mut [u64; 9])
+    ensures { λ _. ⌜ now (answer .exit) ≡ ranNumbers ran ⌝ }
+{
     let r = ran.registers;
     *answer = [
         ran.stop as u64,

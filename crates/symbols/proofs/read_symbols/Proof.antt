@@ -5,9 +5,6 @@ use borrow.Author.Needs.{needs}
 use Rattle.symbols.proofs.read_symbols.Statement.{statement}
 use Rattle.symbols.proofs.read_symbols.Tie as tie
 
-too-long-requires : tie.Need-too-long-requires
-too-long-requires c κs = search needs
-
 returns : tie.Need-returns
 returns c = long _ _ (sym (c .before .too-long .ensures) ∙ c .if1 .taken)
 
@@ -17,83 +14,50 @@ mul-if2 c = omega (arith, short-text _ (sym (c .before .too-long .ensures) ∙ c
 returns-2 : tie.Need-returns-2
 returns-2 c = short _ _ (sym (c .before .before .too-long .ensures) ∙ c .before .if1 .left) (c .if2 .taken)
 
-all-classes-requires : tie.Need-all-classes-requires
-all-classes-requires c κs = search needs
-
-all-rows-requires : tie.Need-all-rows-requires
-all-rows-requires c κs = search needs
-
-first-fault-requires : tie.Need-first-fault-requires
-first-fault-requires c κs = search needs
-
-enum-known-fault : tie.Need-enum-known-fault
-enum-known-fault c = search needs
-
-clear-from-requires : tie.Need-clear-from-requires
-clear-from-requires c κs = search needs
-
 enum-told : tie.Need-enum-told
 enum-told c = search needs
 
 write-symbols-requires : tie.Need-write-symbols-requires
 write-symbols-requires c κs =
-    let too-long = c .before .before .before .before .before .before .before .before .before .before .before .before .before .before .before .too-long in
+    let too-long = c .before .before .before .before .before .before .before .before .before .before .before .before .before .before .before .too-long
+    in
     let if1 = c .before .before .before .before .before .before .before .before .before .before .before .before .before .before .if1 in
-    let first-fault = c .before .before .before .before .before .before .before .first-fault in
-    let if2 = c .before .before .before .before .before .before .before .before .before .before .before .before .before .if2 in
-    (short-text _ (sym (too-long .ensures) ∙ if1 .left), omega (arith, first-fault .ensures .same, if2 .left), c .before .before .before .before .before .before .before .before .before .before .before .before .all-classes .ensures, c .before .before .before .before .before .before .before .before .before .before .before .all-rows .ensures)
-
-mul-clear-from : tie.Need-mul-clear-from
-mul-clear-from c = search needs
-
-clear-from-requires-2 : tie.Need-clear-from-requires-2
-clear-from-requires-2 c κs = search needs
-
-same-length : tie.Need-same-length
-same-length c = search needs
+    (short-text _ (sym (too-long .ensures) ∙ if1 .left), omega arith, search needs, search needs)
 
 returns-3 : tie.Need-returns-3
 returns-3 c =
-    let too-long = c .before .before .before .before .before .before .before .before .before .before .before .before .before .before .before .before .before .too-long in
-    let if1 = c .before .before .before .before .before .before .before .before .before .before .before .before .before .before .before .before .if1 in
+    let too-long =
+    c .before .before .before .before .before .before .before .before .before .before .before .before .before .before .before .before .before .too-long
+    in
+    let if1 = c .before .before .before .before .before .before .before .before .before .before .before .before .before .before .before .before .if1
+    in
     let if2 = c .before .before .before .before .before .before .before .before .before .before .before .before .before .before .before .if2 in
     let first-fault = c .before .before .before .before .before .before .before .before .before .first-fault in
     let fault = c .before .before .before .before .before .fault in
     let clear-from = c .before .before .clear-from in
     refused _ _ (sym (too-long .ensures) ∙ if1 .left) (if2 .left) (first-fault .ensures) (fault .given .1) (clear-from .ensures)
 
-same-length-2 : tie.Need-same-length-2
-same-length-2 c = search needs
-
 returns-4 : tie.Need-returns-4
 returns-4 c =
-    let too-long = c .before .before .before .before .before .before .before .before .before .before .before .before .before .before .before .before .before .before .before .before .before .before .too-long in
-    let if1 = c .before .before .before .before .before .before .before .before .before .before .before .before .before .before .before .before .before .before .before .before .before .if1 in
-    let if2 = c .before .before .before .before .before .before .before .before .before .before .before .before .before .before .before .before .before .before .before .before .if2 in
-    let first-fault = c .before .before .before .before .before .before .before .before .before .before .before .before .before .before .first-fault in
+    let too-long =
+    c .before .before .before .before .before .before .before .before .before .before .before .before .before .before .before .before .before .before .before .before .before .before .too-long
+    in
+    let if1 =
+    c .before .before .before .before .before .before .before .before .before .before .before .before .before .before .before .before .before .before .before .before .before .if1
+    in
+    let if2 =
+    c .before .before .before .before .before .before .before .before .before .before .before .before .before .before .before .before .before .before .before .before .if2
+    in
+    let first-fault = c .before .before .before .before .before .before .before .before .before .before .before .before .before .before .first-fault
+    in
     let enum-told = c .before .before .before .before .before .before .before .before .before .before .enum-told in
     let write-symbols = c .before .before .before .before .before .before .write-symbols in
     let clear-from2 = c .before .before .clear-from2 in
-    written _ _ (sym (too-long .ensures) ∙ if1 .left) (if2 .left) (first-fault .ensures) (enum-told .given .1) (write-symbols .ensures) (clear-from2 .ensures)
+    written _ _ (sym (too-long .ensures) ∙ if1 .left) (if2 .left) (first-fault .ensures) (enum-told .given .1) (write-symbols .ensures)
+    (clear-from2 .ensures)
 
 pub read-symbols-spec : {M : Type 1} → statement M
 read-symbols-spec =
-    tie.close
-    (tie.spec
-    too-long-requires
-    returns
-    mul-if2
-    returns-2
-    all-classes-requires
-    all-rows-requires
-    first-fault-requires
-    enum-known-fault
-    clear-from-requires
-    enum-told
-    write-symbols-requires
-    mul-clear-from
-    clear-from-requires-2
-    same-length
-    returns-3
-    same-length-2
-    returns-4)
+    tie.close (tie.spec (λ c κs. search needs) returns mul-if2 returns-2 (λ c κs. search needs) (λ c κs. search needs)
+    (λ c κs. search needs) (λ c. search needs) (λ c κs. search needs) enum-told write-symbols-requires
+    (λ c. search needs) (λ c κs. search needs) (λ c. search needs) returns-3 (λ c. search needs) returns-4)

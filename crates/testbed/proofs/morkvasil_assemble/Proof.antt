@@ -39,7 +39,7 @@ use denote.Triple.Table.{entered, cited}
 use denote.Triple.Walked.{says, Stays, stay-none-slice, gave-slice, gave-ref, walkOf, goes-none-slice, goes-gave-slice, goes-gave-ref, Walks, ends-at, walked, walk-meets}
 use Rattle.assembler.specs.declared.Label.{Label}
 use Rattle.assembler.specs.declared.Assembled.{Assembled}
-use Rattle.assembler.specs.Assemble.{assembled, Assembles}
+use Rattle.assembler.specs.Assemble.{assembled, numbers, Assembles}
 use Rattle.assembler.proofs.Label as T
 use Rattle.assembler.proofs.Assembled as E
 use Rattle.assembler.proofs.Assembled.Laws as E′
@@ -47,7 +47,7 @@ use Rattle.assembler.proofs.assemble as assemble
 use Rattle.assembler.proofs.assemble.Symbol as assemble-def
 use Rattle.assembler.proofs.assemble.Symbol.{name as #assemble}
 use Rattle.assembler.proofs.assemble.Met as assemble-thm
-use Rattle.testbed.specs.Exported.{AssembleExported, assembleNumbers}
+use Rattle.testbed.specs.Exported.{AssembleExported}
 use Rattle.testbed.proofs.Answers.{assemble-exported}
 use Rattle.testbed.proofs.tell as tell
 use Rattle.testbed.proofs.tell.Symbol as tell-def
@@ -173,8 +173,8 @@ module _ {M : Type 1} (𝓤 : URA M) (H : Heap 𝓤) (A : Atoms 𝓤) (W : Given
         -- [what `tell` asks; the tokens; the table's last list; …; the memory's; text; _11; …]
         calls-at ! fm (Tell 𝓤 H A at-mem run) known-tell (to-tell r w) (and-then ! (load ! (from ! (stop !)) (look ! 18 refl)) (and-then ! (load ! (from ! (stop !)) (look ! 6 refl)) (no-more !))) (λ w′.
         use1 W (later (some (λ (r′ : Unit {0}). ((‵ (flft κ₃ q₃) ⊛ ‵ ftrue) ⊛ ‵ (unit .own r′ (w′ ∷ []))) ⊛ raw (ensured 𝓤 H A tell.ended (tell.clauses 𝓤 H A at-mem run) (κ₃, tt) (t-args r) tt r′)))) (id⊢ 𝓤 _) $ await ! tt $ pick ! (λ r′.
-        split ! $ move ! (1 ∷ []) $ use1 W (some (λ (ws : Unit {0} × (List ℕ × Unit {0})). ‵ (lasts tell.ended (κ₃, tt) (t-args r) ws) ⊛ raw (fact 𝓤 (ws .1 .0 ≡ assembleNumbers r)))) (id⊢ 𝓤 _) $ pick ! (λ ws.
-        split ! $ move ! (1 ∷ []) $ heard ! (ws .1 .0 ≡ assembleNumbers r) (λ told. fsplit ! $ drop ! $ fsplit ! $
+        split ! $ move ! (1 ∷ []) $ use1 W (some (λ (ws : Unit {0} × (List ℕ × Unit {0})). ‵ (lasts tell.ended (κ₃, tt) (t-args r) ws) ⊛ raw (fact 𝓤 (ws .1 .0 ≡ numbers r)))) (id⊢ 𝓤 _) $ pick ! (λ ws.
+        split ! $ move ! (1 ∷ []) $ heard ! (ws .1 .0 ≡ numbers r) (λ told. fsplit ! $ drop ! $ fsplit ! $
         -- [the answer's last list; true; κ₃'s token and the result; the tokens; the table's last list; …; the memory's; text; _11; …]
         move ! (2 ∷ []) $ split ! $ move ! (1 ∷ []) $ peeks ! unit (Is unit) (shows 𝓤 H A unit) r′ (w′ ∷ []) (λ is′.
         land ! (from ! (stop !)) (init ! 11 refl (nothing-lawful 𝓤 H A W .typed r′ _ is′ .0)) $ drop ! $

@@ -1,6 +1,6 @@
 use Rattle.machine.specs.Step.{perform}
-use Rattle.machine.proofs.Laws.{kept, kept-to, kept-a, kept-finished}
-use Rattle.machine.proofs.Numbers.{act-at, act-value, act-stop}
+use Rattle.machine.proofs.Laws.{kept, kept-to, kept-finished}
+use Rattle.machine.proofs.Numbers.{act-at, act-combined}
 use borrow.Author.Needs.{needs}
 use Rattle.machine.proofs.Registers.perform.Statement.{statement}
 use Rattle.machine.proofs.Registers.perform.Tie as tie
@@ -10,8 +10,8 @@ unfolding perform
 perform-spec =
     tie.close
     (tie.spec (search needs) (search needs) (search needs) (search needs) (search needs) (search needs) (search needs)
-    (search needs) (search needs) (search needs) (search needs) (search needs) (search needs) (search needs)
-    (λ c. search (needs, act-at, kept)) (λ c. search (act-at, kept-a)) (λ c. search (act-at, kept-a))
+    (search needs) (search needs) (λ c. search (needs, act-at, kept)) (λ c. search (act-at, kept-to))
+    (λ c. search (act-at, kept-to))
     (search needs) (λ c. search (needs, act-at, kept)) (λ c. search (act-at, kept-finished))
     (search needs) (λ c. search (needs, act-at, kept)) (λ c. search (act-at, kept-to))
-    (search needs) (search needs) (λ c. search act-at) (λ c. search act-stop) (λ c. search act-value))
+    (search needs) (search needs) (λ c. search act-at) (λ c. search act-combined))

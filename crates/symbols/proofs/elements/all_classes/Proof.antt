@@ -3,9 +3,6 @@ use Rattle.symbols.proofs.Classes.{all-classes-hold}
 use Rattle.symbols.proofs.elements.all_classes.Statement.{statement}
 use Rattle.symbols.proofs.elements.all_classes.Tie as tie
 
-returns : tie.Need-returns
-unfolding classOf
-returns c = all-classes-hold
-
 pub all-classes-spec : {M : Type 1} → statement M
-all-classes-spec = tie.close (tie.spec returns)
+unfolding classOf
+all-classes-spec = tie.close (tie.spec (λ _. all-classes-hold))

@@ -41,9 +41,7 @@ returns-3 c =
     let args = c .before .before .before .before .before .before .before .before .args in
     let character-at = c .before .before .before .before .before .before .character-at in
     let first = c .before .before .before .before .first in
-    let character-at2 = c .before .before .character-at2 in
-    not-closed (args .text .now) (args .at) (when-is _ (character-at .ensures) (first .given .1))
-    (when-bad _ (character-at2 .ensures) (c .enum-told3 .given .1))
+    not-closed (args .text .now) (args .at) (when-is _ (character-at .ensures) (first .given .1)) (search when-bad)
 
 pub character-at-spec : {M : Type 1} → statement M
 character-at-spec =

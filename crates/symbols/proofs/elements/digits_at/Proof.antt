@@ -28,7 +28,7 @@ returns c =
           (arith, run-stop (digits-run (args .base)) (args .text .now) (loop .i) (omega arith) (rw (wide .ensures .0) at (sym (c .before .is-digit .ensures) ∙ not-true _ (c .if1 .taken)))),
       sym
           (value-stop (args .base) (loop .n) (args .text .now) (loop .i) (omega arith) (wide .ensures .0)
-          (sym (c .before .is-digit .ensures) ∙ not-true _ (c .if1 .taken)) (loop .inv .1)) ∙ loop .inv .3,
+          (sym (c .before .is-digit .ensures) ∙ (search not-true)) (loop .inv .1)) ∙ loop .inv .3,
     )
 
 and-digit-requires : tie.Need-and-digit-requires Inv-loop μ-loop
@@ -37,7 +37,7 @@ and-digit-requires c κs =
     let loop = c .before .before .before .before .before .loop in
     let args = c .before .before .before .before .before .before .before .args in
     let wide = c .before .before .wide in
-    (pre .1, loop .inv .1, digit-from (args .base) _ (sym (c .before .is-digit .ensures) ∙ not-false _ (c .if1 .left)), wide .ensures .1)
+    (pre .1, loop .inv .1, digit-from (args .base) _ (sym (c .before .is-digit .ensures) ∙ (search not-false)), wide .ensures .1)
 
 loop-again : tie.Need-loop-again Inv-loop μ-loop
 loop-again c =
@@ -52,7 +52,7 @@ loop-again c =
           (arith, run-more (digits-run (args .base)) (args .text .now) (loop .i) (omega arith) (rw (wide .ensures .0) at (sym (is-digit .ensures) ∙ not-false _ (c .before .if1 .left)))),
       ap (λ (m : ℕ). capped (valueOf (args .base) m (drop (loop .i + 1) (args .text .now)))) (c .and-digit .ensures) ∙ sym
           (value-more (args .base) (loop .n) (args .text .now) (loop .i) (omega arith) (wide .ensures .0) (pre .0)
-          (sym (is-digit .ensures) ∙ not-false _ (c .before .if1 .left))) ∙ loop .inv .3,
+          (sym (is-digit .ensures) ∙ (search not-false))) ∙ loop .inv .3,
     )
 
 returns-2 : tie.Need-returns-2 Inv-loop μ-loop

@@ -5,22 +5,12 @@ use borrow.Author.Needs.{needs}
 use Rattle.symbols.proofs.elements.sign_or_comment.Statement.{statement}
 use Rattle.symbols.proofs.elements.sign_or_comment.Tie as tie
 
-begins-comment-requires : tie.Need-begins-comment-requires
-begins-comment-requires c κs = search needs
-
-comment-at-requires : tie.Need-comment-at-requires
-comment-at-requires c κs = search needs
-
 returns : tie.Need-returns
 returns c = c .comment-at .ensures ∙ ap asElement (sym (is-comment _ (sym (c .before .before .begins-comment .ensures) ∙ c .before .if1 .taken)))
-
-sign-at-requires : tie.Need-sign-at-requires
-sign-at-requires c κs = search needs
 
 returns-2 : tie.Need-returns-2
 returns-2 c = c .sign-at .ensures ∙ ap asElement (sym (is-sign _ (sym (c .before .before .begins-comment .ensures) ∙ c .before .if1 .left)))
 
 pub sign-or-comment-spec : {M : Type 1} → statement M
 sign-or-comment-spec =
-    tie.close
-    (tie.spec begins-comment-requires comment-at-requires returns sign-at-requires returns-2)
+    tie.close (tie.spec (λ c κs. search needs) (λ c κs. search needs) returns (λ c κs. search needs) returns-2)

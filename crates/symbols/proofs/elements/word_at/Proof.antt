@@ -6,16 +6,12 @@ use borrow.Author.Needs.{needs}
 use Rattle.symbols.proofs.elements.word_at.Statement.{statement}
 use Rattle.symbols.proofs.elements.word_at.Tie as tie
 
-word-width-requires : tie.Need-word-width-requires
-word-width-requires c κs = search needs
-
 kind-of-requires : tie.Need-kind-of-requires
-kind-of-requires c κs = (omega (arith, run-within word-run (drop (c .before .before .args .at) (c .before .before .args .text .now)), length-drop (c .before .before .args .at) (c .before .before .args .text .now), c .word-width .ensures), c .before .before .pre .2)
-
-returns : tie.Need-returns
-returns c =
-    let args = c .before .before .before .args in
-    a-word (drop (args .at) (args .text .now)) (c .before .word-width .ensures) (c .kind-of .ensures)
+kind-of-requires c κs = (
+  omega
+      (arith, run-within word-run (drop (c .before .before .args .at) (c .before .before .args .text .now)), length-drop (c .before .before .args .at) (c .before .before .args .text .now)),
+  c .before .before .pre .2,
+)
 
 pub word-at-spec : {M : Type 1} → statement M
-word-at-spec = tie.close (tie.spec word-width-requires kind-of-requires returns)
+word-at-spec = tie.close (tie.spec (λ c κs. search needs) kind-of-requires (λ c. search a-word))

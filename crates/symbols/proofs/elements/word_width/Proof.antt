@@ -15,29 +15,11 @@ Inv-loop classes text at i₀ i = (at ≤ i) × (i + wordWidth (drop i text) ≡
 abbrev μ-loop : tie.MeasureT-loop
 μ-loop classes text at i₀ i = length text - i
 
-loop-holds : tie.Need-loop-holds Inv-loop μ-loop
-loop-holds c = search needs
-
-shared-slice-read-in-word : tie.Need-shared-slice-read-in-word Inv-loop μ-loop
-shared-slice-read-in-word c = search needs
-
-in-word-requires : tie.Need-in-word-requires Inv-loop μ-loop
-in-word-requires c κs = search needs
-
-sub-result : tie.Need-sub-result Inv-loop μ-loop
-sub-result c = search needs
-
 returns : tie.Need-returns Inv-loop μ-loop
 returns c =
     let args = c .before .before .before .before .before .before .args in
     let loop = c .before .before .before .before .loop in
     omega (arith, run-stop word-run (args .text .now) (loop .i) (omega arith) (sym (c .before .in-word .ensures) ∙ not-true _ (c .if1 .taken)))
-
-add-i : tie.Need-add-i Inv-loop μ-loop
-add-i c = search needs
-
-loop-less : tie.Need-loop-less Inv-loop μ-loop
-loop-less c = search needs
 
 loop-again : tie.Need-loop-again Inv-loop μ-loop
 loop-again c =
@@ -45,25 +27,11 @@ loop-again c =
     let loop = c .before .before .before .before .loop in
     omega (arith, run-more word-run (args .text .now) (loop .i) (omega arith) (sym (c .before .in-word .ensures) ∙ not-false _ (c .if1 .left)))
 
-sub-result-2 : tie.Need-sub-result-2 Inv-loop μ-loop
-sub-result-2 c = search needs
-
 returns-2 : tie.Need-returns-2 Inv-loop μ-loop
 returns-2 c = omega (arith, run-end word-run (c .before .before .before .args .text .now) (c .before .loop .i) (omega arith))
 
 pub word-width-spec : {M : Type 1} → statement M
 word-width-spec =
     tie.close
-    (tie.spec
-    Inv-loop
-    μ-loop
-    loop-holds
-    shared-slice-read-in-word
-    in-word-requires
-    sub-result
-    returns
-    add-i
-    loop-less
-    loop-again
-    sub-result-2
-    returns-2)
+    (tie.spec Inv-loop μ-loop (λ c. search needs) (λ c. search needs) (λ c κs. search needs) (λ c. search needs)
+    returns (λ c. search needs) (λ c. search needs) loop-again (λ c. search needs) returns-2)

@@ -10,58 +10,35 @@ use Rattle.symbols.proofs.spellings.begins_at.Statement.{statement}
 use Rattle.symbols.proofs.spellings.begins_at.Tie as tie
 
 abbrev Inv-loop : tie.InvT-loop
-Inv-loop table text at row size i₀ i = (i ≤ length (spellingAt row)) × (at + i ≤ length text) × (begins (spellingAt row) (drop at text) ≡ begins (drop i (spellingAt row)) (drop (at + i) text))
+Inv-loop table text at row size i₀ i =
+    (i ≤ length (spellingAt row)) × (at + i ≤ length text) ×
+    (begins (spellingAt row) (drop at text) ≡ begins (drop i (spellingAt row)) (drop (at + i) text))
 
 abbrev μ-loop : tie.MeasureT-loop
 μ-loop table text at row size i₀ i = length (spellingAt row) - i
-
-entry-requires : tie.Need-entry-requires Inv-loop μ-loop
-entry-requires c κs = search needs
-
-loop-holds : tie.Need-loop-holds Inv-loop μ-loop
-loop-holds c = (omega arith, omega arith, begins-start _ (c .before .before .args .text .now) (c .before .before .args .at))
-
-add-if1 : tie.Need-add-if1 Inv-loop μ-loop
-add-if1 c = omega arith
 
 returns : tie.Need-returns Inv-loop μ-loop
 returns c =
     let loop = c .before .before .loop in
     let args = c .before .before .before .before .before .args in
-    let entry = c .before .before .before .entry in
-    sym (loop .inv .2 ∙ begins-past (spellingAt (args .row)) (args .text .now) (loop .i) (args .at + loop .i) (omega (arith, entry .ensures)) (c .if1 .taken))
-
-add-wide : tie.Need-add-wide Inv-loop μ-loop
-add-wide c = omega arith
-
-shared-slice-read-wide : tie.Need-shared-slice-read-wide Inv-loop μ-loop
-shared-slice-read-wide c = omega arith
-
-wide-requires : tie.Need-wide-requires Inv-loop μ-loop
-wide-requires c κs = search needs
-
-add-entry : tie.Need-add-entry Inv-loop μ-loop
-add-entry c =
-    let args = c .before .before .before .before .before .before .before .args in
-    let pre = c .before .before .before .before .before .before .before .pre in
-    omega (arith, short-row (args .row) (pre .1))
+    sym (loop .inv .2 ∙ begins-past (spellingAt (args .row)) (args .text .now) (loop .i) (args .at + loop .i) (omega arith) (c .if1 .taken))
 
 entry-requires-2 : tie.Need-entry-requires-2 Inv-loop μ-loop
-entry-requires-2 c κs = (c .before .before .before .before .before .before .before .pre .1, omega (arith, short-row (c .before .before .before .before .before .before .before .args .row) (c .before .before .before .before .before .before .before .pre .1), c .before .before .before .before .before .entry .ensures), c .before .before .before .before .before .before .before .pre .2)
+entry-requires-2 c κs = (
+  search needs,
+  omega
+      (arith, short-row (c .before .before .before .before .before .before .before .args .row) (c .before .before .before .before .before .before .before .pre .1)),
+  search needs,
+)
 
 returns-2 : tie.Need-returns-2 Inv-loop μ-loop
 returns-2 c =
     let loop = c .before .before .before .before .before .before .loop in
     let args = c .before .before .before .before .before .before .before .before .before .args in
-    let entry = c .before .before .before .before .before .before .before .entry in
     let wide = c .before .before .wide in
-    sym (loop .inv .2 ∙ begins-differs (spellingAt (args .row)) (args .text .now) (loop .i) (args .at + loop .i) (omega (arith, entry .ensures)) (omega arith) (λ e. c .if2 .taken (wide .ensures .0 ∙ e ∙ sym (c .before .entry2 .ensures ∙ letter-is _ _))))
-
-add-i : tie.Need-add-i Inv-loop μ-loop
-add-i c = omega arith
-
-loop-less : tie.Need-loop-less Inv-loop μ-loop
-loop-less c = omega (arith, c .before .before .before .before .before .before .before .entry .ensures)
+    sym
+    (loop .inv .2 ∙ begins-differs (spellingAt (args .row)) (args .text .now) (loop .i) (args .at + loop .i) (omega arith) (omega arith)
+    (λ e. c .if2 .taken (wide .ensures .0 ∙ e ∙ sym (c .before .entry2 .ensures ∙ letter-is _ _))))
 
 loop-again : tie.Need-loop-again Inv-loop μ-loop
 loop-again c =
@@ -69,31 +46,21 @@ loop-again c =
     let loop = c .before .before .before .before .before .before .loop in
     let entry = c .before .before .before .before .before .before .before .entry in
     let wide = c .before .before .wide in
-    let next : args .at + (loop .i + 1) ≡ args .at + loop .i + 1 = omega arith in (omega (arith, entry .ensures), omega arith, loop .inv .2 ∙ begins-more (spellingAt (args .row)) (args .text .now) (loop .i) (args .at + loop .i) (omega (arith, entry .ensures)) (omega arith) (sym (wide .ensures .0) ∙ c .if2 .left ∙ c .before .entry2 .ensures ∙ letter-is _ _) next)
+    let next : args .at + (loop .i + 1) ≡ args .at + loop .i + 1 = omega arith in (
+      omega (arith, entry .ensures),
+      omega arith,
+      loop .inv .2 ∙ begins-more (spellingAt (args .row)) (args .text .now) (loop .i)
+          (args .at + loop .i) (omega (arith, entry .ensures)) (omega arith)
+          (sym (wide .ensures .0) ∙ c .if2 .left ∙ c .before .entry2 .ensures ∙ letter-is _ _) next,
+    )
 
 returns-3 : tie.Need-returns-3 Inv-loop μ-loop
 returns-3 c =
     let args = c .before .before .before .before .args in
-    let entry = c .before .before .entry in
-    sym (c .before .loop .inv .2 ∙ begins-whole (spellingAt (args .row)) _ (c .before .loop .i) (omega (arith, entry .ensures)))
+    sym (c .before .loop .inv .2 ∙ begins-whole (spellingAt (args .row)) _ (c .before .loop .i) (omega arith))
 
 pub begins-at-spec : {M : Type 1} → statement M
 begins-at-spec =
-    tie.close
-    (tie.spec
-    Inv-loop
-    μ-loop
-    entry-requires
-    loop-holds
-    add-if1
-    returns
-    add-wide
-    shared-slice-read-wide
-    wide-requires
-    add-entry
-    entry-requires-2
-    returns-2
-    add-i
-    loop-less
-    loop-again
-    returns-3)
+    tie.close (tie.spec Inv-loop μ-loop (λ c κs. search needs) (λ c. (omega arith, omega arith, search begins-start))
+    (λ c. omega arith) returns (λ c. omega arith) (λ c. omega arith) (λ c κs. search needs) (λ c. omega arith)
+    entry-requires-2 returns-2 (λ c. omega arith) (λ c. omega arith) loop-again returns-3)

@@ -15,15 +15,6 @@ Inv-loop table text at width row₀ row = (row ≤ 35) × (kindOf (take width (d
 abbrev μ-loop : tie.MeasureT-loop
 μ-loop table text at width row₀ row = 35 - row
 
-loop-holds : tie.Need-loop-holds Inv-loop μ-loop
-loop-holds c = (omega arith, kind-start _)
-
-is-row-requires : tie.Need-is-row-requires Inv-loop μ-loop
-is-row-requires c κs = (c .before .before .before .pre .0, omega arith, c .before .before .before .pre .1)
-
-entry-requires : tie.Need-entry-requires Inv-loop μ-loop
-entry-requires c κs = (omega arith, omega arith, c .before .before .before .before .before .pre .1)
-
 returns : tie.Need-returns Inv-loop μ-loop
 returns c =
     let loop = c .before .before .before .before .loop in
@@ -31,32 +22,15 @@ returns c =
     let is-row = c .before .before .is-row in
     c .entry .ensures ∙ sym (loop .inv .1 ∙ kind-here _ _ (loop-test .taken) (sym (is-row .ensures) ∙ c .before .if1 .taken))
 
-add-row : tie.Need-add-row Inv-loop μ-loop
-add-row c = omega arith
-
-loop-less : tie.Need-loop-less Inv-loop μ-loop
-loop-less c = omega arith
-
 loop-again : tie.Need-loop-again Inv-loop μ-loop
 loop-again c =
     let loop = c .before .before .before .loop in
     let loop-test = c .before .before .loop-test in
     (omega arith, loop .inv .1 ∙ kind-next _ _ (loop-test .taken) (sym (c .before .is-row .ensures) ∙ c .if1 .left))
 
-returns-2 : tie.Need-returns-2 Inv-loop μ-loop
-returns-2 c = sym (c .before .loop .inv .1 ∙ kind-end _ _ (c .loop-test .left))
-
 pub kind-of-spec : {M : Type 1} → statement M
 kind-of-spec =
     tie.close
-    (tie.spec
-    Inv-loop
-    μ-loop
-    loop-holds
-    is-row-requires
-    entry-requires
-    returns
-    add-row
-    loop-less
-    loop-again
-    returns-2)
+    (tie.spec Inv-loop μ-loop (λ c. (omega arith, kind-start _)) (λ c κs. (search needs, omega arith, search needs))
+    (λ c κs. (omega arith, omega arith, search needs)) returns (λ c. omega arith) (λ c. omega arith) loop-again
+    (λ c. sym (c .before .loop .inv .1 ∙ (search kind-end))))

@@ -16,18 +16,6 @@ Inv-loop table text at row₀ row = (row ≤ 59) × (sign (drop at text) ≡ sig
 abbrev μ-loop : tie.MeasureT-loop
 μ-loop table text at row₀ row = 59 - row
 
-loop-holds : tie.Need-loop-holds Inv-loop μ-loop
-loop-holds c = (omega arith, sign-start _)
-
-begins-at-requires : tie.Need-begins-at-requires Inv-loop μ-loop
-begins-at-requires c κs = (c .before .before .before .pre .0, omega arith, c .before .before .before .pre .1)
-
-entry-requires : tie.Need-entry-requires Inv-loop μ-loop
-entry-requires c κs = (omega arith, omega arith, c .before .before .before .before .before .pre .1)
-
-entry-requires-2 : tie.Need-entry-requires-2 Inv-loop μ-loop
-entry-requires-2 c κs = (omega arith, omega arith, c .before .before .before .before .before .before .pre .1)
-
 returns : tie.Need-returns Inv-loop μ-loop
 returns c =
     let loop-test = c .before .before .before .before .loop-test in
@@ -35,12 +23,6 @@ returns c =
     let begins-at = c .before .before .before .begins-at in
     let if1 = c .before .before .if1 in
     a-sign _ _ (loop-test .taken) (c .before .entry .ensures) (c .entry2 .ensures) (loop .inv .1) (sym (begins-at .ensures) ∙ if1 .taken)
-
-add-row : tie.Need-add-row Inv-loop μ-loop
-add-row c = omega arith
-
-loop-less : tie.Need-loop-less Inv-loop μ-loop
-loop-less c = omega arith
 
 loop-again : tie.Need-loop-again Inv-loop μ-loop
 loop-again c =
@@ -55,15 +37,6 @@ returns-2 c = ap asElement (sym (c .before .loop .inv .1 ∙ sign-end _ _ (c .lo
 pub sign-at-spec : {M : Type 1} → statement M
 sign-at-spec =
     tie.close
-    (tie.spec
-    Inv-loop
-    μ-loop
-    loop-holds
-    begins-at-requires
-    entry-requires
-    entry-requires-2
-    returns
-    add-row
-    loop-less
-    loop-again
-    returns-2)
+    (tie.spec Inv-loop μ-loop (λ c. (omega arith, sign-start _)) (λ c κs. (search needs, omega arith, search needs))
+    (λ c κs. (omega arith, omega arith, search needs)) (λ c κs. (omega arith, omega arith, search needs)) returns
+    (λ c. omega arith) (λ c. omega arith) loop-again returns-2)

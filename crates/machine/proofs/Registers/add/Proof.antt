@@ -1,0 +1,7 @@
+use Rattle.machine.proofs.Laws.{put-a}
+use borrow.Author.Needs.{needs}
+use Rattle.machine.proofs.Registers.add.Statement.{statement}
+use Rattle.machine.proofs.Registers.add.Tie as tie
+
+pub add-spec : {M : Type 1} → statement M
+add-spec = tie.close (tie.spec (search needs) (search needs) (λ c. search put-a))

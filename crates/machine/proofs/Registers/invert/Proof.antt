@@ -1,0 +1,7 @@
+use Rattle.machine.proofs.Laws.{put-a}
+use borrow.Author.Needs.{needs}
+use Rattle.machine.proofs.Registers.invert.Statement.{statement}
+use Rattle.machine.proofs.Registers.invert.Tie as tie
+
+pub invert-spec : {M : Type 1} → statement M
+invert-spec = tie.close (tie.spec (search needs) (search needs) (λ c. search put-a))

@@ -1,0 +1,7 @@
+use Rattle.machine.proofs.Laws.{put-a}
+use borrow.Author.Needs.{needs}
+use Rattle.machine.proofs.Registers.negate.Statement.{statement}
+use Rattle.machine.proofs.Registers.negate.Tie as tie
+
+pub negate-spec : {M : Type 1} → statement M
+negate-spec = tie.close (tie.spec (search needs) (search needs) (λ c. search put-a))
