@@ -40,7 +40,7 @@ assignment-read src size x lo {n} {v} {p} {t} {s} {s₁} {s₂} {s₃} {s₄} {r
     }))))))
 
 -- an expression, and what it begins
-module _ (src : Source) (size x : ℕ) {s s₁ : List ℕ} {r r₁ : Answer} {kind : ℕ} (k : KindHere src r₁ kind) (d : Reads (E.expression (within x) 6 src) post s s₁ r r₁) where
+module _ (src : Source) (size x : ℕ) {s s₁ : List ℕ} {r r₁ : Answer} {kind : ℕ} (k : KindHere src r₁ kind) (d : Reads (E.expression (within x) LOOSEST src) post s s₁ r r₁) where
   pub assignment-first : {lo : ℕ} {s₂ : List ℕ} {r₂ : Answer} → lo ≡ freeOf size r → goesOnAssignment kind ≡ true → Passes r₁ r₂ → ((e : Expression) → freeOf size r₁ ≡ lo + length (post e) → Goes (C.assignment (readers (within x)) e src) (After e) s₁ s₂ r₁ r₂) → Reads (C.assignmentOrCall (readers (within x)) src) postUnlabelled s s₂ r r₂
   unfolding C.assignmentOrCall C.afterExpression
   assignment-first lo-is q p g =

@@ -11,7 +11,7 @@ use Rattle.language.specs.Kinds as K
 use Rattle.language.specs.Tree as T
 use Rattle.language.specs.Tree.{Label, Command, Unlabelled}
 use Rattle.language.specs.Reader.{Source, Out, ok, no, onOut, kindAt, unexpected, any, the, aName, manyUpTo, many, moreUpTo}
-use Rattle.language.specs.Binding.{isLabel, isRepeat, beginsCommand}
+use Rattle.language.specs.Binding.{LOOSEST, isLabel, isRepeat, beginsCommand}
 use Rattle.language.specs.Expressions as E
 use Rattle.language.specs.Expressions.{Inside, inside, shut, opening}
 use Rattle.language.specs.Commands as C
@@ -138,7 +138,7 @@ five a b c d f z v p k e =
     ap (λ (w : List ℕ). a ++ (b ++ (c ++ w))) (sym (append-assoc d f (z ∷ v ∷ p ∷ k ∷ []))) ∙ four a b c (d ++ f) z v p k (omega (arith, length-append d f))
 
 module _ {src : Source} {n : ℕ} {s : List ℕ} (l : Lies src n s) {r : Answer} (size x : ℕ) {lo : ℕ} (lo-is : lo ≡ freeOf size r) where
-  pub for-read : {value : ℕ} {s₂ s₄ s₆ s₇ s₉ t : List ℕ} {r₁ r₂ r₃ r₄ r₅ r₆ r₇ r₈ r₉ q : Answer} → Reads (the K.FOR src) (λ _. []) s s r r₁ → Reads (aName src) postName s s₂ r₁ r₂ → Reads (the K.EQUAL src) (λ _. []) s₂ s₂ r₂ r₃ → Reads (E.expression (within x) 6 src) post s₂ s₄ r₃ r₄ → Reads (the K.TO src) (λ _. []) s₄ s₄ r₄ r₅ → Reads (E.expression (within x) 6 src) post s₄ s₆ r₅ r₆ → Reads (C.optionalBy (readers (within x)) src) postBy s₆ s₇ r₆ r₇ → Reads (the K.DO src) (λ _. []) s₇ s₇ r₇ r₈ → Reads (C.command (within x) src) postCommand s₇ s₉ r₈ r₉ → value ≡ freeOf size r₇ - freeOf size r₆ → Adds (recordFrom lo value 0 K.FOR) s₉ t r₉ q → Reads (C.for (readers (within x)) src) postUnlabelled s t r q
+  pub for-read : {value : ℕ} {s₂ s₄ s₆ s₇ s₉ t : List ℕ} {r₁ r₂ r₃ r₄ r₅ r₆ r₇ r₈ r₉ q : Answer} → Reads (the K.FOR src) (λ _. []) s s r r₁ → Reads (aName src) postName s s₂ r₁ r₂ → Reads (the K.EQUAL src) (λ _. []) s₂ s₂ r₂ r₃ → Reads (E.expression (within x) LOOSEST src) post s₂ s₄ r₃ r₄ → Reads (the K.TO src) (λ _. []) s₄ s₄ r₄ r₅ → Reads (E.expression (within x) LOOSEST src) post s₄ s₆ r₅ r₆ → Reads (C.optionalBy (readers (within x)) src) postBy s₆ s₇ r₆ r₇ → Reads (the K.DO src) (λ _. []) s₇ s₇ r₇ r₈ → Reads (C.command (within x) src) postCommand s₇ s₉ r₈ r₉ → value ≡ freeOf size r₇ - freeOf size r₆ → Adds (recordFrom lo value 0 K.FOR) s₉ t r₉ q → Reads (C.for (readers (within x)) src) postUnlabelled s t r q
   unfolding C.for postUnlabelled
   for-read {value} a b c d f g h i j v k =
       let kp = goes-on j then adds-on k in
@@ -150,7 +150,7 @@ module _ {src : Source} {n : ℕ} {s : List ℕ} (l : Lies src n s) {r : Answer}
       let cp = goes-on c then dp in
       bind size (λ _. []) a (goes-on b then cp) (λ _ q₁. bind size postName b cp (λ m q₂. bind size (λ _. []) c dp (λ _ q₃. bind size post d fp (λ e q₄. bind size (λ _. []) f gp (λ _ q₅. bind size post g hp (λ y q₆. bind size postBy h ip (λ o q₇. bind size (λ _. []) i kp (λ _ q₈. bind size postCommand j (adds-on k) (λ z q₉. added size k (record { same = five (postName m) (post e) (post y) (postBy o) (postCommand z) _ value 0 K.FOR (omega arith) ∙ ap (λ (u : ℕ). closed (postName m ++ (post e ++ (post y ++ (postBy o ++ postCommand z)))) u 0 K.FOR) (omega arith) }))))))))))
 
-  pub switchon-read : {value : ℕ} {s₂ s₅ s₆ t : List ℕ} {r₁ r₂ r₃ r₄ r₅ r₆ q : Answer} → Reads (the K.SWITCHON src) (λ _. []) s s r r₁ → Reads (E.expression (within x) 6 src) post s s₂ r₁ r₂ → Reads (the K.INTO src) (λ _. []) s₂ s₂ r₂ r₃ → Reads (the K.BEGIN src) (λ _. []) s₂ s₂ r₃ r₄ → Goes (C.listed (readers (within x)) src) (Puts postCommands) s₂ s₅ r₄ r₅ → Reads (moreUpTo n T.noCommands (C.listed (readers (within x))) src) postCommands s₅ s₆ r₅ r₆ → value ≡ freeOf size r₂ - lo → Adds (recordFrom lo value 0 K.SWITCHON) s₆ t r₆ q → Reads (C.switchon (readers (within x)) src) postUnlabelled s t r q
+  pub switchon-read : {value : ℕ} {s₂ s₅ s₆ t : List ℕ} {r₁ r₂ r₃ r₄ r₅ r₆ q : Answer} → Reads (the K.SWITCHON src) (λ _. []) s s r r₁ → Reads (E.expression (within x) LOOSEST src) post s s₂ r₁ r₂ → Reads (the K.INTO src) (λ _. []) s₂ s₂ r₂ r₃ → Reads (the K.BEGIN src) (λ _. []) s₂ s₂ r₃ r₄ → Goes (C.listed (readers (within x)) src) (Puts postCommands) s₂ s₅ r₄ r₅ → Reads (moreUpTo n T.noCommands (C.listed (readers (within x))) src) postCommands s₅ s₆ r₅ r₆ → value ≡ freeOf size r₂ - lo → Adds (recordFrom lo value 0 K.SWITCHON) s₆ t r₆ q → Reads (C.switchon (readers (within x)) src) postUnlabelled s t r q
   unfolding C.switchon postUnlabelled
   switchon-read {value} a b c d f g v k =
       let fg = listed-items T.noCommands (C.listed (readers (within x))) src (l .count) f g in

@@ -10,7 +10,7 @@ use borrow.Author.Tests.{eq-eqb, ne-eqb}
 use Rattle.language.specs.Tree as T
 use Rattle.language.specs.Tree.{Expressions, Suffixes, Operations, withOperations, withSuffixes, count, endsInCall}
 use Rattle.language.specs.Reader.{Source, Out, ok, no, onOut, kindAt, manyUpTo, many}
-use Rattle.language.specs.Binding.{bindingOf, isSuffix, RELATION}
+use Rattle.language.specs.Binding.{bindingOf, isSuffix, RELATION, NEGATION, LOOSEST}
 use Rattle.language.specs.Expressions as E
 use Rattle.language.specs.Expressions.{Inside}
 use Rattle.language.specs.Grammar.{within}
@@ -38,36 +38,36 @@ most-by : (n m : ℕ) → m ≡ n → 0 < n → (c : Bool) → cond c 1 m ≡ su
 most-by n m e h true = refl
 most-by n m e h false = omega arith
 
-most-is : (inner : Inside) (src : Source) (b n : ℕ) → length (src .symbols) ≡ n → 0 < n → E.mostOf inner b src ≡ suc (furtherMost b n)
+most-is : (src : Source) (b n : ℕ) → length (src .symbols) ≡ n → 0 < n → E.mostOf b src ≡ suc (furtherMost b n)
 unfolding E.mostOf furtherMost
-most-is inner src b n e h = most-by n (length (src .symbols)) e h (eqb b RELATION)
+most-is src b n e h = most-by n (length (src .symbols)) e h (eqb b RELATION)
 
 module _ (inner : Inside) (right : ℕ) (src : Source) (b : ℕ) where
-  no-operations : (at : ℕ) → (bindingOf (kindAt src at) ≡ b → ⊥) → E.operations inner b (E.expression inner right) src at ≡ ok T.noOperations at
+  no-operations : (at : ℕ) → (bindingOf (kindAt src at) ≡ b → ⊥) → E.operations b (E.expression inner right) src at ≡ ok T.noOperations at
   unfolding E.operations
   no-operations at h =
-      last T.noOperations (λ kind. eqb (bindingOf kind) b) (E.operation inner (E.expression inner right)) src (E.mostOf inner b src) at (ne-eqb (bindingOf (kindAt src at)) b h)
+      last T.noOperations (λ kind. eqb (bindingOf kind) b) (E.operation (E.expression inner right)) src (E.mostOf b src) at (ne-eqb (bindingOf (kindAt src at)) b h)
 
-  first-operation : (n at : ℕ) → length (src .symbols) ≡ n → 0 < n → bindingOf (kindAt src at) ≡ b → E.operations inner b (E.expression inner right) src at ≡ onOut (E.operation inner (E.expression inner right) src at) (λ put q. onOut (manyUpTo (furtherMost b n) T.noOperations (λ kind. eqb (bindingOf kind) b) (E.operation inner (E.expression inner right)) src q) (λ more w. ok (put more) w))
+  first-operation : (n at : ℕ) → length (src .symbols) ≡ n → 0 < n → bindingOf (kindAt src at) ≡ b → E.operations b (E.expression inner right) src at ≡ onOut (E.operation (E.expression inner right) src at) (λ put q. onOut (manyUpTo (furtherMost b n) T.noOperations (λ kind. eqb (bindingOf kind) b) (E.operation (E.expression inner right)) src q) (λ more w. ok (put more) w))
   unfolding E.operations
   first-operation n at e h q =
-      ap (λ (m : ℕ). manyUpTo m T.noOperations (λ kind. eqb (bindingOf kind) b) (E.operation inner (E.expression inner right)) src at) (most-is inner src b n e h)
-      ∙ turn T.noOperations (λ kind. eqb (bindingOf kind) b) (E.operation inner (E.expression inner right)) src (furtherMost b n) at (eq-eqb (bindingOf (kindAt src at)) b q)
+      ap (λ (m : ℕ). manyUpTo m T.noOperations (λ kind. eqb (bindingOf kind) b) (E.operation (E.expression inner right)) src at) (most-is src b n e h)
+      ∙ turn T.noOperations (λ kind. eqb (bindingOf kind) b) (E.operation (E.expression inner right)) src (furtherMost b n) at (eq-eqb (bindingOf (kindAt src at)) b q)
 
-module _ {src : Source} {n : ℕ} {s₀ : List ℕ} (l : Lies src n s₀) (size x b : ℕ) (pos : b ≡ 0 → ⊥) (six : b ≤ 6) {s s₁ : List ℕ} {r r₁ : Answer} {kind : ℕ} (k : KindHere src r₁ kind) (d₁ : Reads (E.expression (within x) (b - 1) src) post s s₁ r r₁) where
+module _ {src : Source} {n : ℕ} {s₀ : List ℕ} (l : Lies src n s₀) (size x b : ℕ) (pos : b ≡ 0 → ⊥) (rung : b ≡ NEGATION → ⊥) (most : b ≤ LOOSEST) {s s₁ : List ℕ} {r r₁ : Answer} {kind : ℕ} (k : KindHere src r₁ kind) (d₁ : Reads (E.expression (within x) (b - 1) src) post s s₁ r r₁) where
   pub expression-one : (bindingOf kind ≡ b → ⊥) → Reads (E.expression (within x) b src) post s s₁ r r₁
   unfolding withOperations
   expression-one h =
-      here _ (λ at free e. chain-is (within x) src b at pos six)
+      here _ (λ at free e. chain-is (within x) src b at pos rung most)
       (bind size post d₁ stays (λ e q. here (λ m. ok e m) (λ at free y. ap (λ (o : Out Operations). onOut o (λ os q. ok (withOperations e os) q)) (no-operations (within x) (rightOf b) src b at (λ z. h (ap bindingOf (k .here at free y) ∙ z)))) (nothing (record { same = append-nil (post e) }))))
 
-  pub expression-more : {s₂ s₃ s₄ : List ℕ} {r₂ r₃ r₄ : Answer} {lo value place right : ℕ} → right ≡ rightOf b → bindingOf kind ≡ b → lo ≡ freeOf size r → value ≡ freeOf size r₁ - lo → PlaceHere s₁ r₁ place → Goes (E.operation (within x) (E.expression (within x) right) src) (Puts postOperations) s₁ s₂ r₁ r₂ → Reads (manyUpTo (furtherMost b n) T.noOperations (λ kind. eqb (bindingOf kind) b) (E.operation (within x) (E.expression (within x) right)) src) postOperations s₂ s₃ r₂ r₃ → Adds (recordFrom lo value place 64) s₃ s₄ r₃ r₄ → Reads (E.expression (within x) b src) post s s₄ r r₄
+  pub expression-more : {s₂ s₃ s₄ : List ℕ} {r₂ r₃ r₄ : Answer} {lo value place right : ℕ} → right ≡ rightOf b → bindingOf kind ≡ b → lo ≡ freeOf size r → value ≡ freeOf size r₁ - lo → PlaceHere s₁ r₁ place → Goes (E.operation (E.expression (within x) right) src) (Puts postOperations) s₁ s₂ r₁ r₂ → Reads (manyUpTo (furtherMost b n) T.noOperations (λ kind. eqb (bindingOf kind) b) (E.operation (E.expression (within x) right)) src) postOperations s₂ s₃ r₂ r₃ → Adds (recordFrom lo value place 64) s₃ s₄ r₃ r₄ → Reads (E.expression (within x) b src) post s s₄ r r₄
   expression-more {s₂} {s₃} {s₄} {r₂} {r₃} {r₄} {lo} {value} {place} {right} er hb lo-is ev ep d₂ d₃ d₄ =
       let kp : 0 < kind = binding-positive kind (omega arith) in
-      here _ (λ at free e. chain-is (within x) src b at pos six ∙ ap (λ (y : ℕ). onOut (E.expression (within x) (b - 1) src at) (λ e m. onOut (E.operations (within x) b (E.expression (within x) y) src m) (λ os q. ok (withOperations e os) q))) (sym er))
+      here _ (λ at free e. chain-is (within x) src b at pos rung most ∙ ap (λ (y : ℕ). onOut (E.expression (within x) (b - 1) src at) (λ e m. onOut (E.operations b (E.expression (within x) y) src m) (λ os q. ok (withOperations e os) q))) (sym er))
       (look size post d₁ (goes-on d₂ then goes-on d₃ then adds-on d₄) (λ e v q₁. here _ (λ at free y.
       let i : at < n = among l at (omega (arith, k .here at free y)) in
-      ap (λ (o : Out Operations). onOut o (λ os q. ok (withOperations e os) q)) (first-operation (within x) right src b n at (l .count) (omega arith) (sym (ap bindingOf (k .here at free y)) ∙ hb)) ∙ nests (E.operation (within x) (E.expression (within x) right) src at) (λ q. manyUpTo (furtherMost b n) T.noOperations (λ kind. eqb (bindingOf kind) b) (E.operation (within x) (E.expression (within x) right)) src q) (λ os q. ok (withOperations e os) q))
+      ap (λ (o : Out Operations). onOut o (λ os q. ok (withOperations e os) q)) (first-operation (within x) right src b n at (l .count) (omega arith) (sym (ap bindingOf (k .here at free y)) ∙ hb)) ∙ nests (E.operation (E.expression (within x) right) src at) (λ q. manyUpTo (furtherMost b n) T.noOperations (λ kind. eqb (bindingOf kind) b) (E.operation (E.expression (within x) right)) src q) (λ os q. ok (withOperations e os) q))
       (follow size d₂ (goes-on d₃ then adds-on d₄) (λ put w h q₂. bind size postOperations d₃ (adds-on d₄) (λ os q₃. added size d₄ (record { same = chained (post e) w (postOperations os) (postOperations (put os)) (freeOf size r₃ - lo) value place 64 (omega arith) (omega arith) (h .puts os) ∙ ap (λ (p : ℕ). closed (post e ++ postOperations (put os)) (length (post e)) p 64) (ep .here (v .next) (v .free) (v .before) e (v .reads) (v .stands)) ∙ sym (post-dyadic e (put os) (grown w (postOperations os) (postOperations (put os)) (h .puts os) (h .some))) }))))))
 
 module _ (inner : Inside) (src : Source) where

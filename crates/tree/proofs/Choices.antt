@@ -1,15 +1,17 @@
 -- Choices by the symbol here.
-use Prim.Native.Nat.{ℕ}
+use Prim.Native.Nat.{ℕ, _-_}
 use mathlib.Core.Path.{_≡_, refl, sym, ap, subst, _∙_}
 use mathlib.Core.Bool.{Bool, true, false, cond}
 use mathlib.Core.List.{List}
+use native.Mathlib.Omega.{arith}
 use lib.Dec.{eqb}
 use borrow.Author.Tests.{eq-eqb, ne-eqb}
 use Rattle.language.specs.Kinds as K
 use Rattle.language.specs.Reader.{Source, kindAt}
-use Rattle.language.specs.Binding.{isMonadic}
+use Rattle.language.specs.Binding.{isMonadic, NEGATION}
 use Rattle.language.specs.Expressions as E
 use Rattle.language.specs.Grammar.{within}
+use Rattle.language.proofs.Ladder.{negation}
 use Rattle.tree.specs.Reads.{KindHere, Goes, Reads}
 use Rattle.tree.specs.Between.{PutsSuffix, atomic}
 use Rattle.tree.specs.Post.{post}
@@ -36,6 +38,16 @@ module _ (src : Source) (x : ℕ) {s s′ : List ℕ} {r r′ : Answer} {kind : 
   unfolding E.subscript
   subscript-primary q d =
       here _ (λ at free e. ap (λ (b : Bool). cond b (E.monadic (within x) src at) (E.primary (within x) src at)) (sym (ap isMonadic (k .here at free e)) ∙ q)) d
+
+  -- the rung of NOT
+  pub expression-not : (b : ℕ) → b ≡ NEGATION → kind ≡ K.NOT → Reads (E.monadic (within x) src) post s s′ r r′ → Reads (E.expression (within x) b src) post s s′ r r′
+  expression-not b h q d =
+      here _ (λ at free e. ap (λ (y : ℕ). E.expression (within x) y src at) h ∙ negation (within x) src at ∙ ap (λ (c : Bool). cond c (E.monadic (within x) src at) (E.expression (within x) 4 src at)) (eq-eqb (kindAt src at) K.NOT (sym (k .here at free e) ∙ q))) d
+
+  pub expression-shift : (b : ℕ) → b ≡ NEGATION → (kind ≡ K.NOT → ⊥) → Reads (E.expression (within x) (b - 1) src) post s s′ r r′ → Reads (E.expression (within x) b src) post s s′ r r′
+  expression-shift b h q d =
+      let z : 4 ≡ b - 1 = omega arith in
+      here _ (λ at free e. ap (λ (y : ℕ). E.expression (within x) y src at) h ∙ negation (within x) src at ∙ ap (λ (c : Bool). cond c (E.monadic (within x) src at) (E.expression (within x) 4 src at)) (ne-eqb (kindAt src at) K.NOT (λ y. q (k .here at free e ∙ y))) ∙ ap (λ (y : ℕ). E.expression (within x) y src at) z) d
 
   pub suffix-arguments : kind ≡ K.OPEN → Goes (E.arguments (within x) src) (PutsSuffix true) s s′ r r′ → Goes (E.suffix (within x) src) (PutsSuffix (eqb kind K.OPEN)) s s′ r r′
   unfolding E.suffix

@@ -39,19 +39,19 @@ three a b c z v p k e =
     ap (λ (w : List ℕ). a ++ w) (sym (append-assoc b c (z ∷ v ∷ p ∷ k ∷ []))) ∙ two a (b ++ c) z v p k (omega (arith, length-append b c))
 
 module _ {src : Source} {n : ℕ} {s : List ℕ} (l : Lies src n s) {r : Answer} (size x : ℕ) {lo : ℕ} (lo-is : lo ≡ freeOf size r) where
-  pub resultis-read : {p : ℕ} {s₂ s₃ : List ℕ} {r₁ r₂ r₃ : Answer} → Here (placeAt src) n r p → Reads (the K.RESULTIS src) (λ _. []) s s r r₁ → Reads (E.expression (within x) 6 src) post s s₂ r₁ r₂ → Adds (recordFrom lo 0 p K.RESULTIS) s₂ s₃ r₂ r₃ → Reads (C.resultis (readers (within x)) src) postUnlabelled s s₃ r r₃
+  pub resultis-read : {p : ℕ} {s₂ s₃ : List ℕ} {r₁ r₂ r₃ : Answer} → Here (placeAt src) n r p → Reads (the K.RESULTIS src) (λ _. []) s s r r₁ → Reads (E.expression (within x) LOOSEST src) post s s₂ r₁ r₂ → Adds (recordFrom lo 0 p K.RESULTIS) s₂ s₃ r₂ r₃ → Reads (C.resultis (readers (within x)) src) postUnlabelled s s₃ r r₃
   unfolding C.resultis postUnlabelled
   resultis-read {p} h a b d =
       here _ (placed l h K.RESULTIS (omega arith) (λ place m. onOut (E.expression (within x) LOOSEST src m) (λ e w. ok (T.resultis place e) w)))
       (bind size (λ _. []) a (goes-on b then adds-on d) (λ _ q₁. bind size post b (adds-on d) (λ e q₂. added size d (record { same = ap (λ (z : ℕ). post e ++ (z ∷ 0 ∷ p ∷ K.RESULTIS ∷ [])) (omega arith) }))))
 
-  pub guarded-read : {kind : ℕ} {s₂ s₄ s₅ : List ℕ} {r₁ r₂ r₃ r₄ r₅ : Answer} → KindHere src r kind → Reads (the kind src) (λ _. []) s s r r₁ → Reads (E.expression (within x) 6 src) post s s₂ r₁ r₂ → Reads (the K.DO src) (λ _. []) s₂ s₂ r₂ r₃ → Reads (C.command (within x) src) postCommand s₂ s₄ r₃ r₄ → Adds (recordFrom lo 0 0 kind) s₄ s₅ r₄ r₅ → Reads (C.guarded (readers (within x)) src) postUnlabelled s s₅ r r₅
+  pub guarded-read : {kind : ℕ} {s₂ s₄ s₅ : List ℕ} {r₁ r₂ r₃ r₄ r₅ : Answer} → KindHere src r kind → Reads (the kind src) (λ _. []) s s r r₁ → Reads (E.expression (within x) LOOSEST src) post s s₂ r₁ r₂ → Reads (the K.DO src) (λ _. []) s₂ s₂ r₂ r₃ → Reads (C.command (within x) src) postCommand s₂ s₄ r₃ r₄ → Adds (recordFrom lo 0 0 kind) s₄ s₅ r₄ r₅ → Reads (C.guarded (readers (within x)) src) postUnlabelled s s₅ r r₅
   unfolding C.guarded any postUnlabelled
   guarded-read {kind} k a b c d f =
       here _ (any-the k (λ y _ m. onOut (E.expression (within x) LOOSEST src m) (λ e q. onOut (the K.DO src q) (λ _ w. onOut (C.command (within x) src w) (λ c u. ok (T.guarded y e c) u)))))
       (bind size (λ _. []) a (goes-on b then goes-on c then goes-on d then adds-on f) (λ _ q₁. bind size post b (goes-on c then goes-on d then adds-on f) (λ e q₂. bind size (λ _. []) c (goes-on d then adds-on f) (λ _ q₃. bind size postCommand d (adds-on f) (λ y q₄. added size f (record { same = two (post e) (postCommand y) _ 0 0 kind (omega arith) }))))))
 
-  pub test-read : {s₂ s₄ s₆ s₇ : List ℕ} {r₁ r₂ r₃ r₄ r₅ r₆ r₇ : Answer} → Reads (the K.TEST src) (λ _. []) s s r r₁ → Reads (E.expression (within x) 6 src) post s s₂ r₁ r₂ → Reads (the K.DO src) (λ _. []) s₂ s₂ r₂ r₃ → Reads (C.command (within x) src) postCommand s₂ s₄ r₃ r₄ → Reads (the K.OR src) (λ _. []) s₄ s₄ r₄ r₅ → Reads (C.command (within x) src) postCommand s₄ s₆ r₅ r₆ → Adds (recordFrom lo 0 0 K.TEST) s₆ s₇ r₆ r₇ → Reads (C.test (readers (within x)) src) postUnlabelled s s₇ r r₇
+  pub test-read : {s₂ s₄ s₆ s₇ : List ℕ} {r₁ r₂ r₃ r₄ r₅ r₆ r₇ : Answer} → Reads (the K.TEST src) (λ _. []) s s r r₁ → Reads (E.expression (within x) LOOSEST src) post s s₂ r₁ r₂ → Reads (the K.DO src) (λ _. []) s₂ s₂ r₂ r₃ → Reads (C.command (within x) src) postCommand s₂ s₄ r₃ r₄ → Reads (the K.OR src) (λ _. []) s₄ s₄ r₄ r₅ → Reads (C.command (within x) src) postCommand s₄ s₆ r₅ r₆ → Adds (recordFrom lo 0 0 K.TEST) s₆ s₇ r₆ r₇ → Reads (C.test (readers (within x)) src) postUnlabelled s s₇ r r₇
   unfolding C.test postUnlabelled
   test-read a b c d f g i =
       bind size (λ _. []) a (goes-on b then goes-on c then goes-on d then goes-on f then goes-on g then adds-on i) (λ _ q₁. bind size post b (goes-on c then goes-on d then goes-on f then goes-on g then adds-on i) (λ e q₂. bind size (λ _. []) c (goes-on d then goes-on f then goes-on g then adds-on i) (λ _ q₃. bind size postCommand d (goes-on f then goes-on g then adds-on i) (λ y q₄. bind size (λ _. []) f (goes-on g then adds-on i) (λ _ q₅. bind size postCommand g (adds-on i) (λ z q₆. added size i (record { same = three (post e) (postCommand y) (postCommand z) _ 0 0 K.TEST (omega arith) })))))))
@@ -65,7 +65,7 @@ module _ (src : Source) {r : Answer} (size x : ℕ) {kind : ℕ} (k : KindHere s
       (λ at free e. ap (λ (b : Bool). cond b (C.repeat (readers (within x)) src at) (C.repeatOn (readers (within x)) src at)) (eq-eqb (kindAt src at) K.REPEAT (sym (k .here at free e) ∙ q)) ∙ ap (λ (y : ℕ). onOut (the y src at) (λ _ m. ok T.repeat m)) (sym q))
       (bind size (λ _. []) c (adds-on a) (λ _ _. added size a (record { puts = λ rest. ap (λ (y : ℕ). 0 ∷ y ∷ postRepeats rest) (sym q); some = omega arith })))
 
-  pub repeat-on-read : {lo : ℕ} {s₂ s₃ : List ℕ} {r₂ : Answer} → lo ≡ freeOf size r → (kind ≡ K.REPEAT → ⊥) → freeOf size r₀ ≤ length s → Reads (the kind src) (λ _. []) s s r r₀ → Adds (λ _. 0 ∷ kind ∷ []) s s₁ r₀ r₁ → Reads (E.expression (within x) 6 src) post s₁ s₂ r₁ r₂ → Seals lo s₂ s₃ r₂ → Goes (C.repeatForm (readers (within x)) src) (Puts postRepeats) s s₃ r r₂
+  pub repeat-on-read : {lo : ℕ} {s₂ s₃ : List ℕ} {r₂ : Answer} → lo ≡ freeOf size r → (kind ≡ K.REPEAT → ⊥) → freeOf size r₀ ≤ length s → Reads (the kind src) (λ _. []) s s r r₀ → Adds (λ _. 0 ∷ kind ∷ []) s s₁ r₀ r₁ → Reads (E.expression (within x) LOOSEST src) post s₁ s₂ r₁ r₂ → Seals lo s₂ s₃ r₂ → Goes (C.repeatForm (readers (within x)) src) (Puts postRepeats) s s₃ r r₂
   unfolding C.repeatForm C.repeatOn any postRepeats
   repeat-on-read lo-is q le c a d b =
       here (C.repeatOn (readers (within x)) src) (λ at free e. ap (λ (b : Bool). cond b (C.repeat (readers (within x)) src at) (C.repeatOn (readers (within x)) src at)) (ne-eqb (kindAt src at) K.REPEAT (λ y. q (k .here at free e ∙ y))))

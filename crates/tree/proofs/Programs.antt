@@ -12,7 +12,7 @@ use Rattle.language.specs.Kinds.{member}
 use Rattle.language.specs.Tree as T
 use Rattle.language.specs.Tree.{Name, Body}
 use Rattle.language.specs.Reader.{Source, Out, ok, no, onOut, kindAt, unexpected, the, optional, aName, manyUpTo, many, moreUpTo, items, isComma, furtherItems, oneUpToClose, upToClose}
-use Rattle.language.specs.Binding.{isDeclaration}
+use Rattle.language.specs.Binding.{LOOSEST, isDeclaration}
 use Rattle.language.specs.Expressions as E
 use Rattle.language.specs.Commands as C
 use Rattle.language.specs.Grammar as G
@@ -76,7 +76,7 @@ body-words name names b z v e q =
     record { same = ap (λ (x : ℕ). closed (postName name ++ (postNames names ++ postBody b)) x 0 (bodyWord b)) (sym q) ∙ sym (parts (postName name) (postNames names) (postBody b) z v 0 (bodyWord b) (omega (arith, length-append (postName name) (postNames names ++ postBody b), length-append (postNames names) (postBody b)))) }
 
 module _ (src : Source) {s : List ℕ} {r : Answer} {kind : ℕ} (k : KindHere src r kind) (size start : ℕ) {value : ℕ} (name : Name) (names : List Name) (before : freeOf size r ≡ start + (length (postName name) + length (postNames names))) (sized : value ≡ length (postNames names)) {s₂ s₃ : List ℕ} {r₁ r₂ r₃ : Answer} where
-  pub body-value : kind ≡ K.EQUAL → Reads (the K.EQUAL src) (λ _. []) s s r r₁ → Reads (E.expression (within 64) 6 src) post s s₂ r₁ r₂ → Adds (recordFrom start value 0 K.EQUAL) s₂ s₃ r₂ r₃ → Goes (G.body src) (Bodies name names) s s₃ r r₃
+  pub body-value : kind ≡ K.EQUAL → Reads (the K.EQUAL src) (λ _. []) s s r r₁ → Reads (E.expression (within 64) LOOSEST src) post s s₂ r₁ r₂ → Adds (recordFrom start value 0 K.EQUAL) s₂ s₃ r₂ r₃ → Goes (G.body src) (Bodies name names) s s₃ r r₃
   unfolding G.body G.value postBody bodyWord
   body-value q a b d =
       here (G.value src) (λ at free e. ap (λ (z : Bool). cond z (G.value src at) (G.routine src at)) (eq-eqb (kindAt src at) K.EQUAL (sym (k .here at free e) ∙ q)))

@@ -10,7 +10,7 @@ use Rattle.language.specs.Kinds as K
 use Rattle.language.specs.Tree as T
 use Rattle.language.specs.Tree.{Expression, Suffixes, Operations, withOperations, withSuffixes}
 use Rattle.language.specs.Reader.{Source, Out, ok, no, onOut, kindAt, placeAt, is, any, the, manyUpTo, many, isComma, furtherItems, oneUpToClose, upToClose}
-use Rattle.language.specs.Binding.{reachOf, LOOSEST}
+use Rattle.language.specs.Binding.{reachOf, NEGATION, LOOSEST}
 use Rattle.language.specs.Expressions as E
 use Rattle.language.specs.Expressions.{Inside, inside, shut, opening}
 use Rattle.language.specs.Grammar.{within, readers}
@@ -59,7 +59,7 @@ any-the {C} {src} {r} {kind} k F at free e =
     ap (λ (y : ℕ). F y (placeAt src at) (at + 1)) (sym q) ∙ sym (ap (λ (o : Out ℕ). onOut o (F kind)) (the-is src kind at (sym q)))
 
 module _ {src : Source} {n : ℕ} {s : List ℕ} (l : Lies src n s) {r : Answer} (size : ℕ) (x : ℕ) {lo p : ℕ} (lo-is : lo ≡ freeOf size r) (h : Here (placeAt src) n r p) (deep : x ≡ 0 → ⊥) {s₂ s₃ : List ℕ} {r₁ r₂ r₄ : Answer} where
-  pub bracketed-read : {r₃ : Answer} → Reads (the K.OPEN src) (λ _. []) s s r r₁ → Reads (E.expression (within (x - 1)) 6 src) post s s₂ r₁ r₂ → Reads (the K.CLOSE src) (λ _. []) s₂ s₂ r₂ r₃ → Adds (recordFrom lo 0 p K.OPEN) s₂ s₃ r₃ r₄ → Reads (E.bracketed (within x) src) post s s₃ r r₄
+  pub bracketed-read : {r₃ : Answer} → Reads (the K.OPEN src) (λ _. []) s s r r₁ → Reads (E.expression (within (x - 1)) LOOSEST src) post s s₂ r₁ r₂ → Reads (the K.CLOSE src) (λ _. []) s₂ s₂ r₂ r₃ → Adds (recordFrom lo 0 p K.OPEN) s₂ s₃ r₃ r₄ → Reads (E.bracketed (within x) src) post s s₃ r r₄
   unfolding E.bracketed opening post
   bracketed-read a b c d =
       here (E.bracketed (inside (readers (within (x - 1)))) src) (λ at free e. ap (λ (i : Inside). E.bracketed i src at) (deeper x deep))
@@ -97,7 +97,7 @@ pub put-first : {A B : Type 0} (F : B → A → A) (tag : ℕ) (enc : B → List
 put-first F tag enc encs law e = record { puts = law e; some = omega arith }
 
 module _ (src : Source) {r : Answer} (size : ℕ) (x : ℕ) {lo : ℕ} (lo-is : lo ≡ freeOf size r) {s s₁ s₂ s₃ : List ℕ} {r₁ r₂ : Answer} where
-  pub operation-read : {r₀ : Answer} {kind : ℕ} (right : ℕ) → freeOf size r₀ ≤ length s → KindHere src r kind → Reads (the kind src) (λ _. []) s s r r₀ → Adds (λ _. 0 ∷ kind ∷ []) s s₁ r₀ r₁ → Reads (E.expression (within x) right src) post s₁ s₂ r₁ r₂ → Seals lo s₂ s₃ r₂ → Goes (E.operation (within x) (E.expression (within x) right) src) (Puts postOperations) s s₃ r r₂
+  pub operation-read : {r₀ : Answer} {kind : ℕ} (right : ℕ) → freeOf size r₀ ≤ length s → KindHere src r kind → Reads (the kind src) (λ _. []) s s r r₀ → Adds (λ _. 0 ∷ kind ∷ []) s s₁ r₀ r₁ → Reads (E.expression (within x) right src) post s₁ s₂ r₁ r₂ → Seals lo s₂ s₃ r₂ → Goes (E.operation (E.expression (within x) right) src) (Puts postOperations) s s₃ r r₂
   unfolding E.operation any postOperations
   operation-read {kind = kind} right le k c a d b =
       here _ (any-the k (λ y _ m. onOut (E.expression (within x) right src m) (λ e q. ok (T.operation y e) q)))
@@ -114,7 +114,7 @@ module _ (src : Source) {r : Answer} (size : ℕ) (x : ℕ) {lo : ℕ} (lo-is : 
       here (E.arguments (inside (readers (within (x - 1)))) src) (λ at free e. ap (λ (i : Inside). E.arguments i src at) (deeper x deep))
       (item-read T.call K.OPEN size postExpressions (λ e. record { puts = λ rest. refl; some = omega arith; ends = λ b rest. refl }) lo-is le c a d b)
 
-  pub argument-read : freeOf size r ≤ length s → Adds (λ _. 0 ∷ 0 ∷ []) s s₁ r r₁ → Reads (E.expression (within x) 6 src) post s₁ s₂ r₁ r₂ → Seals lo s₂ s₃ r₂ → Goes (anArgument x src) PutsOne s s₃ r r₂
+  pub argument-read : freeOf size r ≤ length s → Adds (λ _. 0 ∷ 0 ∷ []) s s₁ r r₁ → Reads (E.expression (within x) LOOSEST src) post s₁ s₂ r₁ r₂ → Seals lo s₂ s₃ r₂ → Goes (anArgument x src) PutsOne s s₃ r r₂
   unfolding anArgument postExpressions T.count
   argument-read le a d b =
       item-alone T.andExpression 0 size post (λ e. record { puts = λ rest. refl; one = λ rest. omega arith }) lo-is le a d b
@@ -140,16 +140,17 @@ unfolding aFurther
 further-read src x size c a = bind size (λ _. []) c (goes-on a) (λ _ q. a)
 
 -- chains of operators
-pub chain-is : (inner : Inside) (src : Source) (b at : ℕ) → (b ≡ 0 → ⊥) → b ≤ 6 → E.expression inner b src at ≡ onOut (E.expression inner (b - 1) src at) (λ e m. onOut (E.operations inner b (E.expression inner (rightOf b)) src m) (λ os q. ok (withOperations e os) q))
+pub chain-is : (inner : Inside) (src : Source) (b at : ℕ) → (b ≡ 0 → ⊥) → (b ≡ NEGATION → ⊥) → b ≤ LOOSEST → E.expression inner b src at ≡ onOut (E.expression inner (b - 1) src at) (λ e m. onOut (E.operations b (E.expression inner (rightOf b)) src m) (λ os q. ok (withOperations e os) q))
 unfolding E.expression E.products E.sums E.relations E.shifts E.conjunctions E.disjunctions E.chain rightOf
-chain-is inner src zero at h g = absurd (h refl)
-chain-is inner src (suc zero) at h g = refl
-chain-is inner src (suc (suc zero)) at h g = refl
-chain-is inner src (suc (suc (suc zero))) at h g = refl
-chain-is inner src (suc (suc (suc (suc zero)))) at h g = refl
-chain-is inner src (suc (suc (suc (suc (suc zero))))) at h g = refl
-chain-is inner src (suc (suc (suc (suc (suc (suc zero)))))) at h g = refl
-chain-is inner src (suc (suc (suc (suc (suc (suc (suc b))))))) at h g = absurd (omega arith)
+chain-is inner src zero at h m g = absurd (h refl)
+chain-is inner src (suc zero) at h m g = refl
+chain-is inner src (suc (suc zero)) at h m g = refl
+chain-is inner src (suc (suc (suc zero))) at h m g = refl
+chain-is inner src (suc (suc (suc (suc zero)))) at h m g = refl
+chain-is inner src (suc (suc (suc (suc (suc zero))))) at h m g = absurd (m refl)
+chain-is inner src (suc (suc (suc (suc (suc (suc zero)))))) at h m g = refl
+chain-is inner src (suc (suc (suc (suc (suc (suc (suc zero))))))) at h m g = refl
+chain-is inner src (suc (suc (suc (suc (suc (suc (suc (suc b)))))))) at h m g = absurd (omega arith)
 
 nest : {A C : Type 0} (o : Out A) (put : A → A) (G : A → ℕ → Out C) → onOut (onOut o (λ more w. ok (put more) w)) G ≡ onOut o (λ more w. G (put more) w)
 nest (ok a m) put G = refl

@@ -4,6 +4,7 @@
 // construct is a few lines, one for each part. `levels` is how many levels are left; every round of the cycle takes one.
 // The names are short because the proof of a cycle is named after all its functions, and that name may have 250 bytes.
 use crate::binding::LOOSEST;
+use crate::binding::NEGATION;
 use crate::binding::begins_command;
 use crate::binding::binding_of;
 use crate::binding::further_most;
@@ -30,6 +31,7 @@ use crate::kinds::INTO;
 use crate::kinds::LABELLED;
 use crate::kinds::LET;
 use crate::kinds::MONADIC;
+use crate::kinds::NOT;
 use crate::kinds::OPEN;
 use crate::kinds::OR;
 use crate::kinds::PLING;
@@ -72,6 +74,7 @@ ghost use lib.Dec.{eqb};
 ghost use Rattle.language.specs.Kinds as K;
 ghost use Rattle.language.specs.Tree as T;
 ghost use Rattle.language.specs.Reader.{Source, the, optional, manyUpTo, moreUpTo, isComma, upToClose};
+ghost use Rattle.language.specs.Binding as B;
 ghost use Rattle.language.specs.Binding.{bindingOf, isSuffix, isRepeat, isLabel};
 ghost use Rattle.language.specs.Expressions as E;
 ghost use Rattle.language.specs.Grammar.{within, readers};
@@ -92,13 +95,21 @@ struct FurtherRead {
     count: usize,
 }
 
-// An expression whose dyadic operators bind no more loosely than that.
+// An expression whose dyadic operators bind no more loosely than that. At the rung of NOT stands NOT and its operand, or a shift
+// expression.
 pub(crate) fn expr(s: &mut [u32], n: usize, levels: usize, binding: u32, r: Answer) -> Answer
-    requires { ⌜ Ready 0 (now s) n r × (binding ≤ 6) ⌝ }
+    requires { ⌜ Ready 0 (now s) n r × (binding ≤ B.LOOSEST) ⌝ }
     ensures { λ a. ⌜ Reading 1 (E.expression (within levels) binding) (Is post) (now (s .entry)) (now (s .exit)) n r a ⌝ }
 {
     if binding == 0 {
         return term(s, n, levels, r);
+    }
+    if binding == NEGATION {
+        let first = kind_here(s, n, r);
+        if first == NOT {
+            return monad(s, n, levels, first, r);
+        }
+        return expr(s, n, levels, binding - 1, r);
     }
     let lo = free_of(s, r);
     let left = expr(s, n, levels, binding - 1, r);
@@ -116,8 +127,8 @@ pub(crate) fn expr(s: &mut [u32], n: usize, levels: usize, binding: u32, r: Answ
 
 // operator operand
 fn dyadic(s: &mut [u32], n: usize, levels: usize, right: u32, kind: u32, r: Answer) -> Answer
-    requires { ⌜ Ready 0 (now s) n r × (right ≤ 6) × (0 < kind) ⌝ }
-    ensures { λ a. ⌜ ReadingAt kind 4 (E.operation (within levels) (E.expression (within levels) right)) (Puts postOperations) (now (s .entry)) (now (s .exit)) n r a ⌝ }
+    requires { ⌜ Ready 0 (now s) n r × (right ≤ B.LOOSEST) × (0 < kind) ⌝ }
+    ensures { λ a. ⌜ ReadingAt kind 4 (E.operation (E.expression (within levels) right)) (Puts postOperations) (now (s .entry)) (now (s .exit)) n r a ⌝ }
 {
     let lo = free_of(s, r);
     let operator = expect(s, n, r, kind);
@@ -129,8 +140,8 @@ fn dyadic(s: &mut [u32], n: usize, levels: usize, right: u32, kind: u32, r: Answ
 
 // The operations after the first: there is at most one relation.
 fn chain(s: &mut [u32], n: usize, levels: usize, binding: u32, right: u32, r: Answer) -> Answer
-    requires { ⌜ Ready 0 (now s) n r × (right ≤ 6) × (0 < binding) ⌝ }
-    ensures { λ a. ⌜ Reading 0 (manyUpTo (furtherMost binding n) T.noOperations (λ kind. eqb (bindingOf kind) binding) (E.operation (within levels) (E.expression (within levels) right))) (Is postOperations) (now (s .entry)) (now (s .exit)) n r a ⌝ }
+    requires { ⌜ Ready 0 (now s) n r × (right ≤ B.LOOSEST) × (0 < binding) ⌝ }
+    ensures { λ a. ⌜ Reading 0 (manyUpTo (furtherMost binding n) T.noOperations (λ kind. eqb (bindingOf kind) binding) (E.operation (E.expression (within levels) right))) (Is postOperations) (now (s .entry)) (now (s .exit)) n r a ⌝ }
 {
     let mut turns = further_most(binding, n);
     let mut a = r;

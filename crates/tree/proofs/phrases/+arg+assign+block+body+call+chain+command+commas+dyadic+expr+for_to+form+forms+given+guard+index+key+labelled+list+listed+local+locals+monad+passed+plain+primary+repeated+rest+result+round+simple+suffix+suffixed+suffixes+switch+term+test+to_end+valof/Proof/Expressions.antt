@@ -8,7 +8,7 @@ use Rattle.tree.proofs.Symbols.{lies-still}
 use Rattle.tree.proofs.Lists.{Partly, PartlyAs, begins, more, ends, begins-as, more-as, closes-as, turned, last, spent}
 use Rattle.tree.proofs.Classes.{binding-positive, monadic-positive, unlike2}
 use Rattle.tree.proofs.Chains.{CountedSoFar, EndedSoFar, expression-none, expression-one, expression-more, suffixed-one, suffixed-more, suffix-first, suffix-next, suffix-last, no-suffix-ended, expression-first, expression-next, expression-last, no-expression-counted, no-operation-words, no-expression-words}
-use Rattle.tree.proofs.Choices.{operand-monadic, operand-suffixed, subscript-monadic, subscript-primary, suffix-arguments, suffix-index, primary-bracketed, primary-valof, primary-atom}
+use Rattle.tree.proofs.Choices.{expression-not, expression-shift, operand-monadic, operand-suffixed, subscript-monadic, subscript-primary, suffix-arguments, suffix-index, primary-bracketed, primary-valof, primary-atom}
 use Rattle.tree.proofs.Readers.{bracketed-shut, valof-shut, monadic-shut, arguments-shut, bracketed-read, valof-read, monadic-read, operation-read, index-read, arguments-read, argument-read, no-arguments, some-arguments, further-read}
 use Rattle.tree.proofs.Lets.{value-turn, value-last, value-next}
 use borrow.Author.Tests.{eq-eqb, ne-eqb}
@@ -152,7 +152,7 @@ abbrev chain-cs : ℕ → chain-lts.Claims
 chain-cs t = (further-most-reads.Asked, further-most-reads.Learnt, kind-here-reads.Asked, kind-here-reads.Learnt, binding-of-reads.Asked, binding-of-reads.Learnt, dyadic-below t, dyadic.Post)
 
 abbrev chain-Inv-loop : chain-lts.InvT-loop
-chain-Inv-loop s₀ n levels binding right turns₀ a₀ s turns a = Fits 0 s₀ s n a₀ a × (length s ≡ length s₀) × ((src : Source) → Lies src n s₀ → Partly (manyUpTo turns₀ T.noOperations (λ kind. eqb (bindingOf kind) binding) (E.operation (within levels) (E.expression (within levels) right)) src) (manyUpTo turns T.noOperations (λ kind. eqb (bindingOf kind) binding) (E.operation (within levels) (E.expression (within levels) right)) src) postOperations s₀ s a₀ a)
+chain-Inv-loop s₀ n levels binding right turns₀ a₀ s turns a = Fits 0 s₀ s n a₀ a × (length s ≡ length s₀) × ((src : Source) → Lies src n s₀ → Partly (manyUpTo turns₀ T.noOperations (λ kind. eqb (bindingOf kind) binding) (E.operation (E.expression (within levels) right)) src) (manyUpTo turns T.noOperations (λ kind. eqb (bindingOf kind) binding) (E.operation (E.expression (within levels) right)) src) postOperations s₀ s a₀ a)
 
 abbrev chain-μ-loop : chain-lts.MeasureT-loop
 chain-μ-loop s₀ n levels binding right turns₀ a₀ s turns a = turns
@@ -173,7 +173,7 @@ chain-same-length : (t : ℕ) → chain-lts.Need-same-length (chain-cs t) (chain
 chain-same-length t c = search needs
 
 chain-returns : (t : ℕ) → chain-lts.Need-returns (chain-cs t) (chain-at t) chain.Post chain-Inv-loop chain-μ-loop
-chain-returns t c = (c .before .before .before .before .before .loop .inv .0, λ src l. subst (λ (m : ℕ). Reads (manyUpTo m T.noOperations (λ kind. eqb (bindingOf kind) (c .before .before .before .before .before .before .before .before .args .binding)) (E.operation (within (c .before .before .before .before .before .before .before .before .args .levels)) (E.expression (within (c .before .before .before .before .before .before .before .before .args .levels)) (c .before .before .before .before .before .before .before .before .args .right))) src) postOperations (c .before .before .before .before .before .before .before .before .args .s .now) (c .before .before .before .before .before .loop .s) (c .before .before .before .before .before .before .before .before .args .r) (c .before .before .before .before .before .loop .a)) (c .before .before .before .before .before .before .further-most .ensures) (ends T.noOperations no-operation-words (λ at free e. last T.noOperations (λ kind. eqb (bindingOf kind) (c .before .before .before .before .before .before .before .before .args .binding)) (E.operation (within (c .before .before .before .before .before .before .before .before .args .levels)) (E.expression (within (c .before .before .before .before .before .before .before .before .args .levels)) (c .before .before .before .before .before .before .before .before .args .right))) src _ at (ne-eqb _ _ (λ z. c .if1 .taken (c .before .binding-of .ensures ∙ ap bindingOf (c .before .before .kind-here .ensures src (lies-still l (c .before .before .before .before .before .loop .inv .0 .kept)) .here at free e) ∙ z)))) (c .before .before .before .before .before .loop .inv .2 src l)))
+chain-returns t c = (c .before .before .before .before .before .loop .inv .0, λ src l. subst (λ (m : ℕ). Reads (manyUpTo m T.noOperations (λ kind. eqb (bindingOf kind) (c .before .before .before .before .before .before .before .before .args .binding)) (E.operation (E.expression (within (c .before .before .before .before .before .before .before .before .args .levels)) (c .before .before .before .before .before .before .before .before .args .right))) src) postOperations (c .before .before .before .before .before .before .before .before .args .s .now) (c .before .before .before .before .before .loop .s) (c .before .before .before .before .before .before .before .before .args .r) (c .before .before .before .before .before .loop .a)) (c .before .before .before .before .before .before .further-most .ensures) (ends T.noOperations no-operation-words (λ at free e. last T.noOperations (λ kind. eqb (bindingOf kind) (c .before .before .before .before .before .before .before .before .args .binding)) (E.operation (E.expression (within (c .before .before .before .before .before .before .before .before .args .levels)) (c .before .before .before .before .before .before .before .before .args .right))) src _ at (ne-eqb _ _ (λ z. c .if1 .taken (c .before .binding-of .ensures ∙ ap bindingOf (c .before .before .kind-here .ensures src (lies-still l (c .before .before .before .before .before .loop .inv .0 .kept)) .here at free e) ∙ z)))) (c .before .before .before .before .before .loop .inv .2 src l)))
 
 chain-dyadic-requires : (t : ℕ) → chain-lts.Need-dyadic-requires (chain-cs t) (chain-at t) chain.Post chain-Inv-loop chain-μ-loop
 chain-dyadic-requires t c κs = omega (arith, c .before .before .before .before .before .before .before .before .before .pre .0, c .before .before .before .before .before .before .before .before .before .pre .1, c .before .before .before .before .before .before .loop .inv .0, c .before .before .before .before .before .before .loop .inv .1, alive (c .before .before .before .before .before .before .loop .a), c .before .before .before .before .before .before .before .further-most .ensures, binding-positive (c .before .before .before .kind-here .result) (omega (arith, c .before .before .binding-of .ensures, c .before .if1 .left, c .before .before .before .before .before .before .before .before .before .pre .1)))
@@ -185,13 +185,13 @@ chain-loop-less : (t : ℕ) → chain-lts.Need-loop-less (chain-cs t) (chain-at 
 chain-loop-less t c = omega arith
 
 chain-loop-again : (t : ℕ) → chain-lts.Need-loop-again (chain-cs t) (chain-at t) chain.Post chain-Inv-loop chain-μ-loop
-chain-loop-again t c = (weaker (omega arith) (both (c .before .before .before .before .before .before .before .before .before .loop .inv .0) (c .before .before .dyadic .ensures .0)), c .before .before .dyadic .kept .0 ∙ c .before .before .before .before .before .before .before .before .before .loop .inv .1, λ src l. more (manyUpTo (c .before .before .before .before .before .before .before .before .before .loop .turns - 1) T.noOperations (λ kind. eqb (bindingOf kind) (c .before .before .before .before .before .before .before .before .before .before .before .before .args .binding)) (E.operation (within (c .before .before .before .before .before .before .before .before .before .before .before .before .args .levels)) (E.expression (within (c .before .before .before .before .before .before .before .before .before .before .before .before .args .levels)) (c .before .before .before .before .before .before .before .before .before .before .before .before .args .right))) src) (λ at free e. turned T.noOperations (λ kind. eqb (bindingOf kind) (c .before .before .before .before .before .before .before .before .before .before .before .before .args .binding)) (E.operation (within (c .before .before .before .before .before .before .before .before .before .before .before .before .args .levels)) (E.expression (within (c .before .before .before .before .before .before .before .before .before .before .before .before .args .levels)) (c .before .before .before .before .before .before .before .before .before .before .before .before .args .right))) src (c .before .before .before .before .before .before .before .before .before .loop .turns) at (omega arith) (eq-eqb _ _ (sym (c .before .before .before .before .before .binding-of .ensures ∙ ap bindingOf (c .before .before .before .before .before .before .kind-here .ensures src (lies-still l (c .before .before .before .before .before .before .before .before .before .loop .inv .0 .kept)) .here at free e)) ∙ c .before .before .before .before .if1 .left))) (c .before .before .before .before .before .before .before .before .before .loop .inv .2 src l) (c .before .before .dyadic .ensures .1 src (lies-still l (c .before .before .before .before .before .before .before .before .before .loop .inv .0 .kept)) (c .before .before .before .before .before .before .kind-here .ensures src (lies-still l (c .before .before .before .before .before .before .before .before .before .loop .inv .0 .kept)))))
+chain-loop-again t c = (weaker (omega arith) (both (c .before .before .before .before .before .before .before .before .before .loop .inv .0) (c .before .before .dyadic .ensures .0)), c .before .before .dyadic .kept .0 ∙ c .before .before .before .before .before .before .before .before .before .loop .inv .1, λ src l. more (manyUpTo (c .before .before .before .before .before .before .before .before .before .loop .turns - 1) T.noOperations (λ kind. eqb (bindingOf kind) (c .before .before .before .before .before .before .before .before .before .before .before .before .args .binding)) (E.operation (E.expression (within (c .before .before .before .before .before .before .before .before .before .before .before .before .args .levels)) (c .before .before .before .before .before .before .before .before .before .before .before .before .args .right))) src) (λ at free e. turned T.noOperations (λ kind. eqb (bindingOf kind) (c .before .before .before .before .before .before .before .before .before .before .before .before .args .binding)) (E.operation (E.expression (within (c .before .before .before .before .before .before .before .before .before .before .before .before .args .levels)) (c .before .before .before .before .before .before .before .before .before .before .before .before .args .right))) src (c .before .before .before .before .before .before .before .before .before .loop .turns) at (omega arith) (eq-eqb _ _ (sym (c .before .before .before .before .before .binding-of .ensures ∙ ap bindingOf (c .before .before .before .before .before .before .kind-here .ensures src (lies-still l (c .before .before .before .before .before .before .before .before .before .loop .inv .0 .kept)) .here at free e)) ∙ c .before .before .before .before .if1 .left))) (c .before .before .before .before .before .before .before .before .before .loop .inv .2 src l) (c .before .before .dyadic .ensures .1 src (lies-still l (c .before .before .before .before .before .before .before .before .before .loop .inv .0 .kept)) (c .before .before .before .before .before .before .kind-here .ensures src (lies-still l (c .before .before .before .before .before .before .before .before .before .loop .inv .0 .kept)))))
 
 chain-same-length-2 : (t : ℕ) → chain-lts.Need-same-length-2 (chain-cs t) (chain-at t) chain.Post chain-Inv-loop chain-μ-loop
 chain-same-length-2 t c = search needs
 
 chain-returns-2 : (t : ℕ) → chain-lts.Need-returns-2 (chain-cs t) (chain-at t) chain.Post chain-Inv-loop chain-μ-loop
-chain-returns-2 t c = (c .before .loop .inv .0, λ src l. subst (λ (m : ℕ). Reads (manyUpTo m T.noOperations (λ kind. eqb (bindingOf kind) (c .before .before .before .before .args .binding)) (E.operation (within (c .before .before .before .before .args .levels)) (E.expression (within (c .before .before .before .before .args .levels)) (c .before .before .before .before .args .right))) src) postOperations (c .before .before .before .before .args .s .now) (c .before .loop .s) (c .before .before .before .before .args .r) (c .before .loop .a)) (c .before .before .further-most .ensures) (ends T.noOperations no-operation-words (λ at free e. spent T.noOperations (λ kind. eqb (bindingOf kind) (c .before .before .before .before .args .binding)) (E.operation (within (c .before .before .before .before .args .levels)) (E.expression (within (c .before .before .before .before .args .levels)) (c .before .before .before .before .args .right))) src _ at (omega arith)) (c .before .loop .inv .2 src l)))
+chain-returns-2 t c = (c .before .loop .inv .0, λ src l. subst (λ (m : ℕ). Reads (manyUpTo m T.noOperations (λ kind. eqb (bindingOf kind) (c .before .before .before .before .args .binding)) (E.operation (E.expression (within (c .before .before .before .before .args .levels)) (c .before .before .before .before .args .right))) src) postOperations (c .before .before .before .before .args .s .now) (c .before .loop .s) (c .before .before .before .before .args .r) (c .before .loop .a)) (c .before .before .further-most .ensures) (ends T.noOperations no-operation-words (λ at free e. spent T.noOperations (λ kind. eqb (bindingOf kind) (c .before .before .before .before .args .binding)) (E.operation (E.expression (within (c .before .before .before .before .args .levels)) (c .before .before .before .before .args .right))) src _ at (omega arith)) (c .before .loop .inv .2 src l)))
 
 pub chain-ok : {M : Type 1} (t : ℕ) → chain-lts.Closed (chain-cs t) (chain-at t) chain.Post M
 chain-ok t = chain-lts.spec (chain-cs t) (chain-at t) chain.Post chain-Inv-loop chain-μ-loop (chain-further-most-requires t) (chain-loop-holds t) (chain-kind-here-requires t) (chain-binding-of-requires t) (chain-same-length t) (chain-returns t) (chain-dyadic-requires t) (chain-sub-turns t) (chain-loop-less t) (chain-loop-again t) (chain-same-length-2 t) (chain-returns-2 t)
@@ -272,7 +272,7 @@ pub dyadic-ok : {M : Type 1} (t : ℕ) → dyadic-lts.Closed (dyadic-cs t) (dyad
 dyadic-ok t = dyadic-lts.spec (dyadic-cs t) (dyadic-at t) dyadic.Post (dyadic-free-of-requires t) (dyadic-expect-requires t) (dyadic-mark-requires t) (dyadic-expr-requires t) (dyadic-seal-requires t) (dyadic-same-length t) (dyadic-returns t)
 
 abbrev expr-cs : ℕ → expr-lts.Claims
-expr-cs t = (term-below t, term.Post, free-of-reads.Asked, free-of-reads.Learnt, expr-below t, expr.Post, kind-here-reads.Asked, kind-here-reads.Learnt, binding-of-reads.Asked, binding-of-reads.Learnt, less-reads.Asked, less-reads.Learnt, place-of-reads.Asked, place-of-reads.Learnt, right-of-reads.Asked, right-of-reads.Learnt, dyadic-below t, dyadic.Post, chain-below t, chain.Post, node-reads.Asked, node-reads.Learnt)
+expr-cs t = (term-below t, term.Post, kind-here-reads.Asked, kind-here-reads.Learnt, monad-below t, monad.Post, expr-below t, expr.Post, free-of-reads.Asked, free-of-reads.Learnt, binding-of-reads.Asked, binding-of-reads.Learnt, less-reads.Asked, less-reads.Learnt, place-of-reads.Asked, place-of-reads.Learnt, right-of-reads.Asked, right-of-reads.Learnt, dyadic-below t, dyadic.Post, chain-below t, chain.Post, node-reads.Asked, node-reads.Learnt)
 
 expr-term-requires : (t : ℕ) → expr-lts.Need-term-requires (expr-cs t) (expr-at t) expr.Post
 expr-term-requires t c κs = omega (arith, c .before .before .before .pre .0, c .before .before .before .pre .1)
@@ -283,26 +283,50 @@ expr-same-length t c = search needs
 expr-returns : (t : ℕ) → expr-lts.Need-returns (expr-cs t) (expr-at t) expr.Post
 expr-returns t c = (c .before .before .term .ensures .0, λ src l. expression-none src _ _ (c .before .before .before .before .if1 .taken) (c .before .before .term .ensures .1 src l))
 
-expr-free-of-requires : (t : ℕ) → expr-lts.Need-free-of-requires (expr-cs t) (expr-at t) expr.Post
-expr-free-of-requires t c κs = tt
-
-expr-sub-expr : (t : ℕ) → expr-lts.Need-sub-expr (expr-cs t) (expr-at t) expr.Post
-expr-sub-expr t c = omega (arith, c .before .before .before .before .before .pre .0, c .before .before .before .before .before .pre .1, c .before .free-of .ensures)
-
-expr-expr-requires : (t : ℕ) → expr-lts.Need-expr-requires (expr-cs t) (expr-at t) expr.Post
-expr-expr-requires t c κs = omega (arith, c .before .before .before .before .before .pre .0, c .before .before .before .before .before .pre .1, c .before .free-of .ensures)
-
 expr-kind-here-requires : (t : ℕ) → expr-lts.Need-kind-here-requires (expr-cs t) (expr-at t) expr.Post
-expr-kind-here-requires t c κs = omega (arith, c .before .before .before .before .before .before .before .before .before .pre .0, c .before .before .before .before .before .before .before .before .before .pre .1, c .before .before .before .expr .ensures .0, c .before .before .before .expr .kept .0, alive (c .before .before .before .expr .result), c .before .before .before .before .before .free-of .ensures)
+expr-kind-here-requires t c κs = c .before .before .before .before .pre .1 .0
 
-expr-binding-of-requires : (t : ℕ) → expr-lts.Need-binding-of-requires (expr-cs t) (expr-at t) expr.Post
-expr-binding-of-requires t c κs = tt
+expr-monad-requires : (t : ℕ) → expr-lts.Need-monad-requires (expr-cs t) (expr-at t) expr.Post
+expr-monad-requires t c κs = omega (arith, c .before .before .before .before .before .before .before .pre .0, c .before .before .before .before .before .before .before .pre .1, c .before .before .before .before .if2 .taken, c .before .if3 .taken)
 
 expr-same-length-2 : (t : ℕ) → expr-lts.Need-same-length-2 (expr-cs t) (expr-at t) expr.Post
 expr-same-length-2 t c = search needs
 
 expr-returns-2 : (t : ℕ) → expr-lts.Need-returns-2 (expr-cs t) (expr-at t) expr.Post
-expr-returns-2 t c = (c .before .before .before .before .before .before .expr .ensures .0, λ src l. (let l₁ = lies-still l (c .before .before .before .before .before .before .expr .ensures .0 .kept) in expression-one l₁ 0 _ _ (c .before .before .before .before .before .before .before .before .before .before .if1 .left) (c .before .before .before .before .before .before .before .before .before .before .before .before .pre .1 .1) (c .before .before .kind-here .ensures src l₁) (c .before .before .before .before .before .before .expr .ensures .1 src l) (λ z. c .if2 .taken (c .before .binding-of .ensures ∙ z))))
+expr-returns-2 t c = (c .before .before .monad .ensures .0, λ src l. expression-not src _ (c .before .before .before .before .before .kind-here .ensures src l) _ (c .before .before .before .before .before .before .before .if2 .taken) (c .before .before .before .before .if3 .taken) (c .before .before .monad .ensures .1 src l (c .before .before .before .before .before .kind-here .ensures src l)))
+
+expr-sub-expr : (t : ℕ) → expr-lts.Need-sub-expr (expr-cs t) (expr-at t) expr.Post
+expr-sub-expr t c = omega (arith, c .before .before .before .before .if2 .taken)
+
+expr-expr-requires : (t : ℕ) → expr-lts.Need-expr-requires (expr-cs t) (expr-at t) expr.Post
+expr-expr-requires t c κs = omega (arith, c .before .before .before .before .before .before .before .pre .0, c .before .before .before .before .before .before .before .pre .1, c .before .before .before .before .if2 .taken)
+
+expr-same-length-3 : (t : ℕ) → expr-lts.Need-same-length-3 (expr-cs t) (expr-at t) expr.Post
+expr-same-length-3 t c = search needs
+
+expr-returns-3 : (t : ℕ) → expr-lts.Need-returns-3 (expr-cs t) (expr-at t) expr.Post
+expr-returns-3 t c = (c .before .before .expr .ensures .0, λ src l. expression-shift src _ (c .before .before .before .before .before .kind-here .ensures src l) _ (c .before .before .before .before .before .before .before .if2 .taken) (c .before .before .before .before .if3 .left) (c .before .before .expr .ensures .1 src l))
+
+expr-free-of-requires : (t : ℕ) → expr-lts.Need-free-of-requires (expr-cs t) (expr-at t) expr.Post
+expr-free-of-requires t c κs = tt
+
+expr-sub-expr-2 : (t : ℕ) → expr-lts.Need-sub-expr-2 (expr-cs t) (expr-at t) expr.Post
+expr-sub-expr-2 t c = omega (arith, c .before .before .before .before .before .before .pre .0, c .before .before .before .before .before .before .pre .1, c .before .free-of .ensures)
+
+expr-expr-requires-2 : (t : ℕ) → expr-lts.Need-expr-requires-2 (expr-cs t) (expr-at t) expr.Post
+expr-expr-requires-2 t c κs = omega (arith, c .before .before .before .before .before .before .pre .0, c .before .before .before .before .before .before .pre .1, c .before .free-of .ensures)
+
+expr-kind-here-requires-2 : (t : ℕ) → expr-lts.Need-kind-here-requires-2 (expr-cs t) (expr-at t) expr.Post
+expr-kind-here-requires-2 t c κs = omega (arith, c .before .before .before .before .before .before .before .before .before .before .pre .0, c .before .before .before .before .before .before .before .before .before .before .pre .1, c .before .before .before .expr2 .ensures .0, c .before .before .before .expr2 .kept .0, alive (c .before .before .before .expr2 .result), c .before .before .before .before .before .free-of .ensures)
+
+expr-binding-of-requires : (t : ℕ) → expr-lts.Need-binding-of-requires (expr-cs t) (expr-at t) expr.Post
+expr-binding-of-requires t c κs = tt
+
+expr-same-length-4 : (t : ℕ) → expr-lts.Need-same-length-4 (expr-cs t) (expr-at t) expr.Post
+expr-same-length-4 t c = search needs
+
+expr-returns-4 : (t : ℕ) → expr-lts.Need-returns-4 (expr-cs t) (expr-at t) expr.Post
+expr-returns-4 t c = (c .before .before .before .before .before .before .expr2 .ensures .0, λ src l. (let l₁ = lies-still l (c .before .before .before .before .before .before .expr2 .ensures .0 .kept) in expression-one l₁ 0 _ _ (c .before .before .before .before .before .before .before .before .before .before .before .if1 .left) (c .before .before .before .before .before .before .before .before .before .before .if2 .left) (c .before .before .before .before .before .before .before .before .before .before .before .before .before .pre .1 .1) (c .before .before .kind-here2 .ensures src l₁) (c .before .before .before .before .before .before .expr2 .ensures .1 src l) (λ z. c .if4 .taken (c .before .binding-of .ensures ∙ z))))
 
 expr-free-of-requires-2 : (t : ℕ) → expr-lts.Need-free-of-requires-2 (expr-cs t) (expr-at t) expr.Post
 expr-free-of-requires-2 t c κs = tt
@@ -311,31 +335,31 @@ expr-less-requires : (t : ℕ) → expr-lts.Need-less-requires (expr-cs t) (expr
 expr-less-requires t c κs = tt
 
 expr-place-of-requires : (t : ℕ) → expr-lts.Need-place-of-requires (expr-cs t) (expr-at t) expr.Post
-expr-place-of-requires t c κs = smaller (fitted (c .before .before .before .before .before .before .before .before .before .before .before .before .before .before .before .before .pre .1 .0) (c .before .before .before .before .before .before .before .before .before .before .expr .ensures .0) (c .before .before .before .before .before .before .before .before .before .before .expr .kept .0) (omega arith)) (omega arith)
+expr-place-of-requires t c κs = smaller (fitted (c .before .before .before .before .before .before .before .before .before .before .before .before .before .before .before .before .before .pre .1 .0) (c .before .before .before .before .before .before .before .before .before .before .expr2 .ensures .0) (c .before .before .before .before .before .before .before .before .before .before .expr2 .kept .0) (omega arith)) (omega arith)
 
 expr-right-of-requires : (t : ℕ) → expr-lts.Need-right-of-requires (expr-cs t) (expr-at t) expr.Post
-expr-right-of-requires t c κs = omega (arith, c .before .before .before .before .before .before .before .before .before .before .before .before .before .before .before .before .before .pre .0, c .before .before .before .before .before .before .before .before .before .before .before .before .before .before .before .before .before .pre .1, c .before .before .less .ensures, c .before .before .before .free-of2 .ensures, c .before .before .before .before .before .before .before .before .before .before .before .expr .ensures .0, c .before .before .before .before .before .before .before .before .before .before .before .expr .kept .0, alive (c .before .before .before .before .before .before .before .before .before .before .before .expr .result), c .before .before .before .before .before .before .before .before .before .before .before .before .before .free-of .ensures)
+expr-right-of-requires t c κs = omega (arith, c .before .before .before .before .before .before .before .before .before .before .before .before .before .before .before .before .before .before .pre .0, c .before .before .before .before .before .before .before .before .before .before .before .before .before .before .before .before .before .before .pre .1, c .before .before .less .ensures, c .before .before .before .free-of2 .ensures, c .before .before .before .before .before .before .before .before .before .before .before .expr2 .ensures .0, c .before .before .before .before .before .before .before .before .before .before .before .expr2 .kept .0, alive (c .before .before .before .before .before .before .before .before .before .before .before .expr2 .result), c .before .before .before .before .before .before .before .before .before .before .before .before .before .free-of .ensures)
 
 expr-dyadic-requires : (t : ℕ) → expr-lts.Need-dyadic-requires (expr-cs t) (expr-at t) expr.Post
-expr-dyadic-requires t c κs = omega (arith, c .before .before .before .before .before .before .before .before .before .before .before .before .before .before .before .before .before .before .before .pre .0, c .before .before .before .before .before .before .before .before .before .before .before .before .before .before .before .before .before .before .before .pre .1, c .before .right-of .ensures .1, c .before .before .before .before .less .ensures, c .before .before .before .before .before .free-of2 .ensures, c .before .before .before .before .before .before .before .before .before .before .before .before .before .expr .ensures .0, c .before .before .before .before .before .before .before .before .before .before .before .before .before .expr .kept .0, alive (c .before .before .before .before .before .before .before .before .before .before .before .before .before .expr .result), c .before .before .before .before .before .before .before .before .before .before .before .before .before .before .before .free-of .ensures, binding-positive (c .before .before .before .before .before .before .before .before .before .kind-here .result) (omega (arith, c .before .before .before .before .before .before .before .before .binding-of .ensures, c .before .before .before .before .before .before .before .if2 .left, c .before .before .before .before .before .before .before .before .before .before .before .before .before .before .before .before .before .if1 .left)))
+expr-dyadic-requires t c κs = omega (arith, c .before .before .before .before .before .before .before .before .before .before .before .before .before .before .before .before .before .before .before .before .pre .0, c .before .before .before .before .before .before .before .before .before .before .before .before .before .before .before .before .before .before .before .before .pre .1, c .before .right-of .ensures .1, c .before .before .before .before .less .ensures, c .before .before .before .before .before .free-of2 .ensures, c .before .before .before .before .before .before .before .before .before .before .before .before .before .expr2 .ensures .0, c .before .before .before .before .before .before .before .before .before .before .before .before .before .expr2 .kept .0, alive (c .before .before .before .before .before .before .before .before .before .before .before .before .before .expr2 .result), c .before .before .before .before .before .before .before .before .before .before .before .before .before .before .before .free-of .ensures, binding-positive (c .before .before .before .before .before .before .before .before .before .kind-here2 .result) (omega (arith, c .before .before .before .before .before .before .before .before .binding-of .ensures, c .before .before .before .before .before .before .before .if4 .left, c .before .before .before .before .before .before .before .before .before .before .before .before .before .before .before .before .before .before .if1 .left)))
 
 expr-chain-requires : (t : ℕ) → expr-lts.Need-chain-requires (expr-cs t) (expr-at t) expr.Post
-expr-chain-requires t c κs = omega (arith, c .before .before .before .before .before .before .before .before .before .before .before .before .before .before .before .before .before .before .before .before .before .before .before .pre .0, c .before .before .before .before .before .before .before .before .before .before .before .before .before .before .before .before .before .before .before .before .before .before .before .pre .1, c .before .before .before .dyadic .ensures .0, c .before .before .before .dyadic .kept .0, alive (c .before .before .before .dyadic .result), c .before .before .before .before .before .right-of .ensures .1, c .before .before .before .before .before .before .before .before .less .ensures, c .before .before .before .before .before .before .before .before .before .free-of2 .ensures, c .before .before .before .before .before .before .before .before .before .before .before .before .before .before .before .before .before .expr .ensures .0, c .before .before .before .before .before .before .before .before .before .before .before .before .before .before .before .before .before .expr .kept .0, alive (c .before .before .before .before .before .before .before .before .before .before .before .before .before .before .before .before .before .expr .result), c .before .before .before .before .before .before .before .before .before .before .before .before .before .before .before .before .before .before .before .free-of .ensures)
+expr-chain-requires t c κs = omega (arith, c .before .before .before .before .before .before .before .before .before .before .before .before .before .before .before .before .before .before .before .before .before .before .before .before .pre .0, c .before .before .before .before .before .before .before .before .before .before .before .before .before .before .before .before .before .before .before .before .before .before .before .before .pre .1, c .before .before .before .dyadic .ensures .0, c .before .before .before .dyadic .kept .0, alive (c .before .before .before .dyadic .result), c .before .before .before .before .before .right-of .ensures .1, c .before .before .before .before .before .before .before .before .less .ensures, c .before .before .before .before .before .before .before .before .before .free-of2 .ensures, c .before .before .before .before .before .before .before .before .before .before .before .before .before .before .before .before .before .expr2 .ensures .0, c .before .before .before .before .before .before .before .before .before .before .before .before .before .before .before .before .before .expr2 .kept .0, alive (c .before .before .before .before .before .before .before .before .before .before .before .before .before .before .before .before .before .expr2 .result), c .before .before .before .before .before .before .before .before .before .before .before .before .before .before .before .before .before .before .before .free-of .ensures)
 
 expr-cast-node : (t : ℕ) → expr-lts.Need-cast-node (expr-cs t) (expr-at t) expr.Post
-expr-cast-node t c = omega (arith, c .before .before .before .before .before .before .before .before .before .before .before .before .less .ensures, c .before .before .before .before .before .before .before .before .before .before .before .before .before .free-of2 .ensures, low (fitted (c .before .before .before .before .before .before .before .before .before .before .before .before .before .before .before .before .before .before .before .before .before .before .before .before .before .before .before .pre .1 .0) (c .before .before .before .before .before .before .before .before .before .before .before .before .before .before .before .before .before .before .before .before .before .expr .ensures .0) (c .before .before .before .before .before .before .before .before .before .before .before .before .before .before .before .before .before .before .before .before .before .expr .kept .0) (omega arith)), c .before .before .before .before .before .before .before .before .before .before .before .before .before .before .before .before .before .before .before .before .before .expr .kept .0, c .before .before .before .before .before .before .before .before .before .before .before .before .before .before .before .before .before .before .before .before .before .before .before .before .before .before .before .pre .1 .0 .small)
+expr-cast-node t c = omega (arith, c .before .before .before .before .before .before .before .before .before .before .before .before .less .ensures, c .before .before .before .before .before .before .before .before .before .before .before .before .before .free-of2 .ensures, low (fitted (c .before .before .before .before .before .before .before .before .before .before .before .before .before .before .before .before .before .before .before .before .before .before .before .before .before .before .before .before .pre .1 .0) (c .before .before .before .before .before .before .before .before .before .before .before .before .before .before .before .before .before .before .before .before .before .expr2 .ensures .0) (c .before .before .before .before .before .before .before .before .before .before .before .before .before .before .before .before .before .before .before .before .before .expr2 .kept .0) (omega arith)), c .before .before .before .before .before .before .before .before .before .before .before .before .before .before .before .before .before .before .before .before .before .expr2 .kept .0, c .before .before .before .before .before .before .before .before .before .before .before .before .before .before .before .before .before .before .before .before .before .before .before .before .before .before .before .before .pre .1 .0 .small)
 
 expr-node-requires : (t : ℕ) → expr-lts.Need-node-requires (expr-cs t) (expr-at t) expr.Post
-expr-node-requires t c κs = omega (arith, c .before .before .before .before .before .before .before .before .before .before .before .before .before .before .before .before .before .before .before .before .before .before .before .before .before .before .before .pre .0, c .before .before .before .before .before .before .before .before .before .before .before .before .before .before .before .before .before .before .before .before .before .before .before .before .before .before .before .pre .1, c .before .before .before .chain .ensures .0, c .before .before .before .chain .kept .0, alive (c .before .before .before .chain .result), c .before .before .before .before .before .before .before .dyadic .ensures .0, c .before .before .before .before .before .before .before .dyadic .kept .0, alive (c .before .before .before .before .before .before .before .dyadic .result), c .before .before .before .before .before .before .before .before .before .right-of .ensures .1, c .before .before .before .before .before .before .before .before .before .before .before .before .less .ensures, c .before .before .before .before .before .before .before .before .before .before .before .before .before .free-of2 .ensures, c .before .before .before .before .before .before .before .before .before .before .before .before .before .before .before .before .before .before .before .before .before .expr .ensures .0, c .before .before .before .before .before .before .before .before .before .before .before .before .before .before .before .before .before .before .before .before .before .expr .kept .0, alive (c .before .before .before .before .before .before .before .before .before .before .before .before .before .before .before .before .before .before .before .before .before .expr .result), c .before .before .before .before .before .before .before .before .before .before .before .before .before .before .before .before .before .before .before .before .before .before .before .free-of .ensures)
+expr-node-requires t c κs = omega (arith, c .before .before .before .before .before .before .before .before .before .before .before .before .before .before .before .before .before .before .before .before .before .before .before .before .before .before .before .before .pre .0, c .before .before .before .before .before .before .before .before .before .before .before .before .before .before .before .before .before .before .before .before .before .before .before .before .before .before .before .before .pre .1, c .before .before .before .chain .ensures .0, c .before .before .before .chain .kept .0, alive (c .before .before .before .chain .result), c .before .before .before .before .before .before .before .dyadic .ensures .0, c .before .before .before .before .before .before .before .dyadic .kept .0, alive (c .before .before .before .before .before .before .before .dyadic .result), c .before .before .before .before .before .before .before .before .before .right-of .ensures .1, c .before .before .before .before .before .before .before .before .before .before .before .before .less .ensures, c .before .before .before .before .before .before .before .before .before .before .before .before .before .free-of2 .ensures, c .before .before .before .before .before .before .before .before .before .before .before .before .before .before .before .before .before .before .before .before .before .expr2 .ensures .0, c .before .before .before .before .before .before .before .before .before .before .before .before .before .before .before .before .before .before .before .before .before .expr2 .kept .0, alive (c .before .before .before .before .before .before .before .before .before .before .before .before .before .before .before .before .before .before .before .before .before .expr2 .result), c .before .before .before .before .before .before .before .before .before .before .before .before .before .before .before .before .before .before .before .before .before .before .before .free-of .ensures)
 
-expr-same-length-3 : (t : ℕ) → expr-lts.Need-same-length-3 (expr-cs t) (expr-at t) expr.Post
-expr-same-length-3 t c = c .before .before .node .kept .0 ∙ c .before .before .before .before .before .before .chain .kept .0 ∙ c .before .before .before .before .before .before .before .before .before .before .dyadic .kept .0 ∙ c .before .before .before .before .before .before .before .before .before .before .before .before .before .before .before .before .before .before .before .before .before .before .before .before .expr .kept .0
+expr-same-length-5 : (t : ℕ) → expr-lts.Need-same-length-5 (expr-cs t) (expr-at t) expr.Post
+expr-same-length-5 t c = c .before .before .node .kept .0 ∙ c .before .before .before .before .before .before .chain .kept .0 ∙ c .before .before .before .before .before .before .before .before .before .before .dyadic .kept .0 ∙ c .before .before .before .before .before .before .before .before .before .before .before .before .before .before .before .before .before .before .before .before .before .before .before .before .expr2 .kept .0
 
-expr-returns-3 : (t : ℕ) → expr-lts.Need-returns-3 (expr-cs t) (expr-at t) expr.Post
-expr-returns-3 t c = (then-grows (both (both (c .before .before .before .before .before .before .before .before .before .before .before .before .before .before .before .before .before .before .before .before .before .before .before .before .expr .ensures .0) (c .before .before .before .before .before .before .before .before .before .before .dyadic .ensures .0)) (c .before .before .before .before .before .before .chain .ensures .0)) (c .before .before .node .ensures .0) (omega arith), λ src l. (let l₁ = lies-still l (c .before .before .before .before .before .before .before .before .before .before .before .before .before .before .before .before .before .before .before .before .before .before .before .before .expr .ensures .0 .kept) in let l₂ = lies-still l₁ (c .before .before .before .before .before .before .before .before .before .before .dyadic .ensures .0 .kept) in expression-more l₁ _ _ _ (c .before .before .before .before .before .before .before .before .before .before .before .before .before .before .before .before .before .before .before .before .before .before .before .before .before .before .before .before .if1 .left) (c .before .before .before .before .before .before .before .before .before .before .before .before .before .before .before .before .before .before .before .before .before .before .before .before .before .before .before .before .before .before .pre .1 .1) (c .before .before .before .before .before .before .before .before .before .before .before .before .before .before .before .before .before .before .before .before .kind-here .ensures src l₁) (c .before .before .before .before .before .before .before .before .before .before .before .before .before .before .before .before .before .before .before .before .before .before .before .before .expr .ensures .1 src l) (c .before .before .before .before .before .before .before .before .before .before .before .before .right-of .ensures .0) (sym (c .before .before .before .before .before .before .before .before .before .before .before .before .before .before .before .before .before .before .before .binding-of .ensures) ∙ c .before .before .before .before .before .before .before .before .before .before .before .before .before .before .before .before .before .before .if2 .left) (c .before .before .before .before .before .before .before .before .before .before .before .before .before .before .before .before .before .before .before .before .before .before .before .before .before .before .free-of .ensures) (c .before .before .before .before .before .before .before .before .before .before .before .before .before .before .before .less .ensures ∙ ap (λ (y : ℕ). y - c .before .before .before .before .before .before .before .before .before .before .before .before .before .before .before .before .before .before .before .before .before .before .before .before .before .before .free-of .result) (c .before .before .before .before .before .before .before .before .before .before .before .before .before .before .before .before .free-of2 .ensures ∙ ap (λ (z : ℕ). freeOf z (c .before .before .before .before .before .before .before .before .before .before .before .before .before .before .before .before .before .before .before .before .before .before .before .before .expr .result)) (c .before .before .before .before .before .before .before .before .before .before .before .before .before .before .before .before .before .before .before .before .before .before .before .before .expr .kept .0))) (c .before .before .before .before .before .before .before .before .before .before .before .before .before .place-of .ensures) (c .before .before .before .before .before .before .before .before .before .before .dyadic .ensures .1 src l₁ (c .before .before .before .before .before .before .before .before .before .before .before .before .before .before .before .before .before .before .before .before .kind-here .ensures src l₁)) (c .before .before .before .before .before .before .chain .ensures .1 src l₂) (c .before .before .node .ensures .1)))
+expr-returns-5 : (t : ℕ) → expr-lts.Need-returns-5 (expr-cs t) (expr-at t) expr.Post
+expr-returns-5 t c = (then-grows (both (both (c .before .before .before .before .before .before .before .before .before .before .before .before .before .before .before .before .before .before .before .before .before .before .before .before .expr2 .ensures .0) (c .before .before .before .before .before .before .before .before .before .before .dyadic .ensures .0)) (c .before .before .before .before .before .before .chain .ensures .0)) (c .before .before .node .ensures .0) (omega arith), λ src l. (let l₁ = lies-still l (c .before .before .before .before .before .before .before .before .before .before .before .before .before .before .before .before .before .before .before .before .before .before .before .before .expr2 .ensures .0 .kept) in let l₂ = lies-still l₁ (c .before .before .before .before .before .before .before .before .before .before .dyadic .ensures .0 .kept) in expression-more l₁ _ _ _ (c .before .before .before .before .before .before .before .before .before .before .before .before .before .before .before .before .before .before .before .before .before .before .before .before .before .before .before .before .before .if1 .left) (c .before .before .before .before .before .before .before .before .before .before .before .before .before .before .before .before .before .before .before .before .before .before .before .before .before .before .before .before .if2 .left) (c .before .before .before .before .before .before .before .before .before .before .before .before .before .before .before .before .before .before .before .before .before .before .before .before .before .before .before .before .before .before .before .pre .1 .1) (c .before .before .before .before .before .before .before .before .before .before .before .before .before .before .before .before .before .before .before .before .kind-here2 .ensures src l₁) (c .before .before .before .before .before .before .before .before .before .before .before .before .before .before .before .before .before .before .before .before .before .before .before .before .expr2 .ensures .1 src l) (c .before .before .before .before .before .before .before .before .before .before .before .before .right-of .ensures .0) (sym (c .before .before .before .before .before .before .before .before .before .before .before .before .before .before .before .before .before .before .before .binding-of .ensures) ∙ c .before .before .before .before .before .before .before .before .before .before .before .before .before .before .before .before .before .before .if4 .left) (c .before .before .before .before .before .before .before .before .before .before .before .before .before .before .before .before .before .before .before .before .before .before .before .before .before .before .free-of .ensures) (c .before .before .before .before .before .before .before .before .before .before .before .before .before .before .before .less .ensures ∙ ap (λ (y : ℕ). y - c .before .before .before .before .before .before .before .before .before .before .before .before .before .before .before .before .before .before .before .before .before .before .before .before .before .before .free-of .result) (c .before .before .before .before .before .before .before .before .before .before .before .before .before .before .before .before .free-of2 .ensures ∙ ap (λ (z : ℕ). freeOf z (c .before .before .before .before .before .before .before .before .before .before .before .before .before .before .before .before .before .before .before .before .before .before .before .before .expr2 .result)) (c .before .before .before .before .before .before .before .before .before .before .before .before .before .before .before .before .before .before .before .before .before .before .before .before .expr2 .kept .0))) (c .before .before .before .before .before .before .before .before .before .before .before .before .before .place-of .ensures) (c .before .before .before .before .before .before .before .before .before .before .dyadic .ensures .1 src l₁ (c .before .before .before .before .before .before .before .before .before .before .before .before .before .before .before .before .before .before .before .before .kind-here2 .ensures src l₁)) (c .before .before .before .before .before .before .chain .ensures .1 src l₂) (c .before .before .node .ensures .1)))
 
 pub expr-ok : {M : Type 1} (t : ℕ) → expr-lts.Closed (expr-cs t) (expr-at t) expr.Post M
-expr-ok t = expr-lts.spec (expr-cs t) (expr-at t) expr.Post (expr-term-requires t) (expr-same-length t) (expr-returns t) (expr-free-of-requires t) (expr-sub-expr t) (expr-expr-requires t) (expr-kind-here-requires t) (expr-binding-of-requires t) (expr-same-length-2 t) (expr-returns-2 t) (expr-free-of-requires-2 t) (expr-less-requires t) (expr-place-of-requires t) (expr-right-of-requires t) (expr-dyadic-requires t) (expr-chain-requires t) (expr-cast-node t) (expr-node-requires t) (expr-same-length-3 t) (expr-returns-3 t)
+expr-ok t = expr-lts.spec (expr-cs t) (expr-at t) expr.Post (expr-term-requires t) (expr-same-length t) (expr-returns t) (expr-kind-here-requires t) (expr-monad-requires t) (expr-same-length-2 t) (expr-returns-2 t) (expr-sub-expr t) (expr-expr-requires t) (expr-same-length-3 t) (expr-returns-3 t) (expr-free-of-requires t) (expr-sub-expr-2 t) (expr-expr-requires-2 t) (expr-kind-here-requires-2 t) (expr-binding-of-requires t) (expr-same-length-4 t) (expr-returns-4 t) (expr-free-of-requires-2 t) (expr-less-requires t) (expr-place-of-requires t) (expr-right-of-requires t) (expr-dyadic-requires t) (expr-chain-requires t) (expr-cast-node t) (expr-node-requires t) (expr-same-length-5 t) (expr-returns-5 t)
 
 abbrev index-cs : ℕ → index-lts.Claims
 index-cs t = (free-of-reads.Asked, free-of-reads.Learnt, expect-reads.Asked, expect-reads.Learnt, mark-reads.Asked, mark-reads.Learnt, key-below t, key.Post, seal-reads.Asked, seal-reads.Learnt)
