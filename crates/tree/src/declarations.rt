@@ -16,7 +16,7 @@ use crate::kinds::SEMICOLON;
 use crate::parts::a_name;
 use crate::parts::constant;
 use crate::parts::further_names;
-use crate::phrases::command;
+use crate::phrases::cmd;
 use crate::phrases::expr;
 use crate::scratch::Answer;
 use crate::scratch::expect;
@@ -119,7 +119,7 @@ fn function_body(s: &mut [u32], n: usize, start: usize, size: u32, r: Answer) ->
         return node(s, n, value, start, size, 0, EQUAL);
     }
     let word = expect(s, n, r, BE);
-    let routine = command(s, n, LEVELS, word);
+    let routine = cmd(s, n, LEVELS, word);
     node(s, n, routine, start, size, 0, BE)
 }
 

@@ -2,7 +2,7 @@
 //
 // Each function takes an answer, the state of the reading so far, and gives the next one; a refusal is passed on as it is, so that a
 // construct is a few lines, one for each part. `levels` is how many levels are left; every round of the cycle takes one.
-// The names are short because the proof of a cycle is named after all its functions, and that name may have 250 bytes.
+// The names are short because the proof of a cycle is named after all its functions, and that name may have 200 bytes (README).
 use crate::binding::LOOSEST;
 use crate::binding::NEGATION;
 use crate::binding::begins_command;
@@ -120,13 +120,13 @@ pub(crate) fn expr(s: &mut [u32], n: usize, levels: usize, binding: u32, r: Answ
     let size = less(free_of(s, left), lo);
     let place = place_of(s, n, left);
     let right = right_of(binding);
-    let first = dyadic(s, n, levels, right, kind, left);
-    let last = chain(s, n, levels, binding, right, first);
+    let first = op(s, n, levels, right, kind, left);
+    let last = run(s, n, levels, binding, right, first);
     node(s, n, last, lo, size as u32, place, DYADIC)
 }
 
 // operator operand
-fn dyadic(s: &mut [u32], n: usize, levels: usize, right: u32, kind: u32, r: Answer) -> Answer
+fn op(s: &mut [u32], n: usize, levels: usize, right: u32, kind: u32, r: Answer) -> Answer
     requires { ⌜ Ready 0 (now s) n r × (right ≤ B.LOOSEST) × (0 < kind) ⌝ }
     ensures { λ a. ⌜ ReadingAt kind 4 (E.operation (E.expression (within levels) right)) (Puts postOperations) (now (s .entry)) (now (s .exit)) n r a ⌝ }
 {
@@ -139,7 +139,7 @@ fn dyadic(s: &mut [u32], n: usize, levels: usize, right: u32, kind: u32, r: Answ
 }
 
 // The operations after the first: there is at most one relation.
-fn chain(s: &mut [u32], n: usize, levels: usize, binding: u32, right: u32, r: Answer) -> Answer
+fn run(s: &mut [u32], n: usize, levels: usize, binding: u32, right: u32, r: Answer) -> Answer
     requires { ⌜ Ready 0 (now s) n r × (right ≤ B.LOOSEST) × (0 < binding) ⌝ }
     ensures { λ a. ⌜ Reading 0 (manyUpTo (furtherMost binding n) T.noOperations (λ kind. eqb (bindingOf kind) binding) (E.operation (E.expression (within levels) right))) (Is postOperations) (now (s .entry)) (now (s .exit)) n r a ⌝ }
 {
@@ -150,7 +150,7 @@ fn chain(s: &mut [u32], n: usize, levels: usize, binding: u32, right: u32, r: An
         if binding_of(kind) != binding {
             return a;
         }
-        a = dyadic(s, n, levels, right, kind, a);
+        a = op(s, n, levels, right, kind, a);
         turns -= 1;
     }
     a
@@ -165,7 +165,7 @@ fn term(s: &mut [u32], n: usize, levels: usize, r: Answer) -> Answer
     if is_monadic(kind) {
         monad(s, n, levels, kind, r)
     } else {
-        suffixed(s, n, levels, r)
+        whole(s, n, levels, r)
     }
 }
 
@@ -185,18 +185,18 @@ fn monad(s: &mut [u32], n: usize, levels: usize, kind: u32, r: Answer) -> Answer
 }
 
 // primary { ( arguments ) | ! primary }
-fn suffixed(s: &mut [u32], n: usize, levels: usize, r: Answer) -> Answer
+fn whole(s: &mut [u32], n: usize, levels: usize, r: Answer) -> Answer
     requires { ⌜ Ready 0 (now s) n r ⌝ }
     ensures { λ a. ⌜ Reading 1 (E.suffixed (within levels)) (Is post) (now (s .entry)) (now (s .exit)) n r a ⌝ }
 {
     let lo = free_of(s, r);
-    let primary = primary(s, n, levels, r);
+    let primary = unit(s, n, levels, r);
     let kind = kind_here(s, n, primary);
     if is_suffix(kind) {
         let size = less(free_of(s, primary), lo);
         let place = place_of(s, n, primary);
-        let first = suffix(s, n, levels, kind, primary);
-        let last = suffixes(s, n, levels, kind == OPEN, first);
+        let first = tail(s, n, levels, kind, primary);
+        let last = tails(s, n, levels, kind == OPEN, first);
         let end = last.end;
         return node(s, n, end, lo, size as u32, place, suffixed_kind(last.call));
     }
@@ -204,7 +204,7 @@ fn suffixed(s: &mut [u32], n: usize, levels: usize, r: Answer) -> Answer
 }
 
 // ( arguments ) | ! primary
-fn suffix(s: &mut [u32], n: usize, levels: usize, kind: u32, r: Answer) -> Answer
+fn tail(s: &mut [u32], n: usize, levels: usize, kind: u32, r: Answer) -> Answer
     requires { ⌜ Ready 0 (now s) n r ⌝ }
     ensures { λ a. ⌜ ReadingAt kind 4 (E.suffix (within levels)) (PutsSuffix (eqb kind K.OPEN)) (now (s .entry)) (now (s .exit)) n r a ⌝ }
 {
@@ -216,7 +216,7 @@ fn suffix(s: &mut [u32], n: usize, levels: usize, kind: u32, r: Answer) -> Answe
 }
 
 // The suffixes after the first, which is a call or is not.
-fn suffixes(s: &mut [u32], n: usize, levels: usize, first: bool, r: Answer) -> SuffixesRead
+fn tails(s: &mut [u32], n: usize, levels: usize, first: bool, r: Answer) -> SuffixesRead
     requires { ⌜ Ready 0 (now s) n r ⌝ }
     ensures { λ a. ⌜ Reading 0 (manyUpTo (n - 1) T.noSuffixes isSuffix (E.suffix (within levels))) (Ended first (a .call)) (now (s .entry)) (now (s .exit)) n r (a .end) ⌝ }
 {
@@ -226,7 +226,7 @@ fn suffixes(s: &mut [u32], n: usize, levels: usize, first: bool, r: Answer) -> S
     while turns > 0 {
         let kind = kind_here(s, n, a);
         if is_suffix(kind) {
-            a = suffix(s, n, levels, kind, a);
+            a = tail(s, n, levels, kind, a);
             call = kind == OPEN;
             turns -= 1;
         } else {
@@ -247,13 +247,13 @@ fn call(s: &mut [u32], n: usize, levels: usize, r: Answer) -> Answer
     let lo = free_of(s, r);
     let open = expect(s, n, r, OPEN);
     let begun = mark(s, n, open, OPEN);
-    let a = passed(s, n, levels - 1, begun);
+    let a = pass(s, n, levels - 1, begun);
     seal(s, n, a, lo);
     a
 }
 
 // [expression {, expression}] )
-fn passed(s: &mut [u32], n: usize, levels: usize, r: Answer) -> Answer
+fn pass(s: &mut [u32], n: usize, levels: usize, r: Answer) -> Answer
     requires { ⌜ Ready 3 (now s) n r ⌝ }
     ensures { λ a. ⌜ Reading 4 (upToClose T.noExpressions (anArgument levels)) (Is postExpressions) (now (s .entry)) (now (s .exit)) n r a ⌝ }
 {
@@ -262,7 +262,7 @@ fn passed(s: &mut [u32], n: usize, levels: usize, r: Answer) -> Answer
         return expect(s, n, r, CLOSE);
     }
     let first = arg(s, n, levels, r);
-    let last = commas(s, n, levels, first);
+    let last = also(s, n, levels, first);
     let end = last.end;
     expect(s, n, end, CLOSE)
 }
@@ -280,7 +280,7 @@ fn arg(s: &mut [u32], n: usize, levels: usize, r: Answer) -> Answer
 }
 
 // {, expression}
-fn commas(s: &mut [u32], n: usize, levels: usize, r: Answer) -> FurtherRead
+fn also(s: &mut [u32], n: usize, levels: usize, r: Answer) -> FurtherRead
     requires { ⌜ Ready 0 (now s) n r ⌝ }
     ensures { λ a. ⌜ Reading 0 (manyUpTo n T.noExpressions isComma (aFurther levels)) (Counted (a .count)) (now (s .entry)) (now (s .exit)) n r (a .end) ⌝ }
 {
@@ -322,25 +322,25 @@ fn key(s: &mut [u32], n: usize, levels: usize, r: Answer) -> Answer
     if is_monadic(kind) {
         monad(s, n, levels, kind, r)
     } else {
-        primary(s, n, levels, r)
+        unit(s, n, levels, r)
     }
 }
 
 // number | string | TRUE | FALSE | name | ( expression ) | VALOF command
-fn primary(s: &mut [u32], n: usize, levels: usize, r: Answer) -> Answer
+fn unit(s: &mut [u32], n: usize, levels: usize, r: Answer) -> Answer
     requires { ⌜ Ready 0 (now s) n r ⌝ }
     ensures { λ a. ⌜ Reading 1 (E.primary (within levels)) (Is post) (now (s .entry)) (now (s .exit)) n r a ⌝ }
 {
     let kind = kind_here(s, n, r);
     match kind {
-        OPEN => round(s, n, levels, r),
+        OPEN => nest(s, n, levels, r),
         VALOF => valof(s, n, levels, r),
         _ => atom(s, n, r, kind),
     }
 }
 
 // ( expression )
-fn round(s: &mut [u32], n: usize, levels: usize, r: Answer) -> Answer
+fn nest(s: &mut [u32], n: usize, levels: usize, r: Answer) -> Answer
     requires { ⌜ Ready 0 (now s) n r ⌝ }
     ensures { λ a. ⌜ Reading 1 (E.bracketed (within levels)) (Is post) (now (s .entry)) (now (s .exit)) n r a ⌝ }
 {
@@ -366,24 +366,24 @@ fn valof(s: &mut [u32], n: usize, levels: usize, r: Answer) -> Answer
     let lo = free_of(s, r);
     let place = place_here(s, n, r);
     let word = expect(s, n, r, VALOF);
-    let a = command(s, n, levels - 1, word);
+    let a = cmd(s, n, levels - 1, word);
     node(s, n, a, lo, 0, place, VALOF)
 }
 
 // A command, with its labels before it.
-pub(crate) fn command(s: &mut [u32], n: usize, levels: usize, r: Answer) -> Answer
+pub(crate) fn cmd(s: &mut [u32], n: usize, levels: usize, r: Answer) -> Answer
     requires { ⌜ Ready 0 (now s) n r ⌝ }
     ensures { λ a. ⌜ Reading 0 (C.command (within levels)) (Is postCommand) (now (s .entry)) (now (s .exit)) n r a ⌝ }
 {
     let kind = kind_here(s, n, r);
     if is_label(kind) {
-        return labelled(s, n, levels, kind, r);
+        return cases(s, n, levels, kind, r);
     }
     body(s, n, levels, false, r)
 }
 
 // Labels and what follows them.
-fn labelled(s: &mut [u32], n: usize, levels: usize, kind: u32, r: Answer) -> Answer
+fn cases(s: &mut [u32], n: usize, levels: usize, kind: u32, r: Answer) -> Answer
     requires { ⌜ Ready 0 (now s) n r ⌝ }
     ensures { λ a. ⌜ Fits 0 (now (s .entry)) (now (s .exit)) n r a × ((src : Source) → Lies src n (now (s .entry)) → KindHere src r kind → isLabel kind ≡ true → Reads (C.command (within levels) src) postCommand (now (s .entry)) (now (s .exit)) r a) ⌝ }
 {
@@ -405,7 +405,7 @@ fn body(s: &mut [u32], n: usize, levels: usize, labelled: bool, r: Answer) -> An
         if levels == 0 {
             return refuse(s, n, r, 7);
         }
-        return repeated(s, n, levels - 1, r);
+        return redo(s, n, levels - 1, r);
     }
     if labelled {
         return r;
@@ -414,7 +414,7 @@ fn body(s: &mut [u32], n: usize, levels: usize, labelled: bool, r: Answer) -> An
 }
 
 // unlabelled { REPEAT form }
-fn repeated(s: &mut [u32], n: usize, levels: usize, r: Answer) -> Answer
+fn redo(s: &mut [u32], n: usize, levels: usize, r: Answer) -> Answer
     requires { ⌜ Ready 0 (now s) n r ⌝ }
     ensures { λ a. ⌜ Reading 0 (repeatedOnly levels) (Is postRepeatedOnly) (now (s .entry)) (now (s .exit)) n r a ⌝ }
 {
@@ -472,18 +472,18 @@ fn plain(s: &mut [u32], n: usize, levels: usize, r: Answer) -> Answer
 {
     let kind = kind_here(s, n, r);
     if is_guard(kind) {
-        return guard(s, n, levels, kind, r);
+        return when(s, n, levels, kind, r);
     }
     if is_leave(kind) {
         return leave(s, n, r, kind);
     }
     match kind {
         TEST => test(s, n, levels, r),
-        FOR => for_to(s, n, levels, r),
-        SWITCHON => switch(s, n, levels, r),
-        RESULTIS => result(s, n, levels, r),
+        FOR => step(s, n, levels, r),
+        SWITCHON => pick(s, n, levels, r),
+        RESULTIS => give(s, n, levels, r),
         BEGIN => block(s, n, levels, r),
-        _ => simple(s, n, levels, r),
+        _ => bare(s, n, levels, r),
     }
 }
 
@@ -496,14 +496,14 @@ fn test(s: &mut [u32], n: usize, levels: usize, r: Answer) -> Answer
     let word = expect(s, n, r, TEST);
     let condition = expr(s, n, levels, LOOSEST, word);
     let then = expect(s, n, condition, DO);
-    let first = command(s, n, levels, then);
+    let first = cmd(s, n, levels, then);
     let or = expect(s, n, first, OR);
-    let a = command(s, n, levels, or);
+    let a = cmd(s, n, levels, or);
     node(s, n, a, lo, 0, 0, TEST)
 }
 
 // IF expression DO command, and so UNLESS, WHILE and UNTIL
-fn guard(s: &mut [u32], n: usize, levels: usize, kind: u32, r: Answer) -> Answer
+fn when(s: &mut [u32], n: usize, levels: usize, kind: u32, r: Answer) -> Answer
     requires { ⌜ Ready 0 (now s) n r × (0 < kind) ⌝ }
     ensures { λ a. ⌜ ReadingAt kind 1 (C.guarded (readers (within levels))) (Is postUnlabelled) (now (s .entry)) (now (s .exit)) n r a ⌝ }
 {
@@ -511,12 +511,12 @@ fn guard(s: &mut [u32], n: usize, levels: usize, kind: u32, r: Answer) -> Answer
     let word = expect(s, n, r, kind);
     let condition = expr(s, n, levels, LOOSEST, word);
     let then = expect(s, n, condition, DO);
-    let a = command(s, n, levels, then);
+    let a = cmd(s, n, levels, then);
     node(s, n, a, lo, 0, 0, kind)
 }
 
 // RESULTIS expression
-fn result(s: &mut [u32], n: usize, levels: usize, r: Answer) -> Answer
+fn give(s: &mut [u32], n: usize, levels: usize, r: Answer) -> Answer
     requires { ⌜ Ready 0 (now s) n r ⌝ }
     ensures { λ a. ⌜ Reading 1 (C.resultis (readers (within levels))) (Is postUnlabelled) (now (s .entry)) (now (s .exit)) n r a ⌝ }
 {
@@ -528,7 +528,7 @@ fn result(s: &mut [u32], n: usize, levels: usize, r: Answer) -> Answer
 }
 
 // FOR name = expression TO expression [BY constant] DO command
-fn for_to(s: &mut [u32], n: usize, levels: usize, r: Answer) -> Answer
+fn step(s: &mut [u32], n: usize, levels: usize, r: Answer) -> Answer
     requires { ⌜ Ready 0 (now s) n r ⌝ }
     ensures { λ a. ⌜ Reading 1 (C.for (readers (within levels))) (Is postUnlabelled) (now (s .entry)) (now (s .exit)) n r a ⌝ }
 {
@@ -542,12 +542,12 @@ fn for_to(s: &mut [u32], n: usize, levels: usize, r: Answer) -> Answer
     let by = optional_by(s, n, levels, limit);
     let size = less(free_of(s, by), free_of(s, limit));
     let then = expect(s, n, by, DO);
-    let a = command(s, n, levels, then);
+    let a = cmd(s, n, levels, then);
     node(s, n, a, lo, size as u32, 0, FOR)
 }
 
 // SWITCHON expression INTO $( command { ; command } [;] $)
-fn switch(s: &mut [u32], n: usize, levels: usize, r: Answer) -> Answer
+fn pick(s: &mut [u32], n: usize, levels: usize, r: Answer) -> Answer
     requires { ⌜ Ready 0 (now s) n r ⌝ }
     ensures { λ a. ⌜ Reading 1 (C.switchon (readers (within levels))) (Is postUnlabelled) (now (s .entry)) (now (s .exit)) n r a ⌝ }
 {
@@ -557,19 +557,19 @@ fn switch(s: &mut [u32], n: usize, levels: usize, r: Answer) -> Answer
     let size = less(free_of(s, value), lo);
     let into = expect(s, n, value, INTO);
     let begin = expect(s, n, into, BEGIN);
-    let first = listed(s, n, levels, begin);
+    let first = item(s, n, levels, begin);
     let a = list(s, n, levels, first);
     node(s, n, a, lo, size as u32, 0, SWITCHON)
 }
 
 // A command, as an item.
-fn listed(s: &mut [u32], n: usize, levels: usize, r: Answer) -> Answer
+fn item(s: &mut [u32], n: usize, levels: usize, r: Answer) -> Answer
     requires { ⌜ Ready 2 (now s) n r ⌝ }
     ensures { λ a. ⌜ Grows 2 (now (s .entry)) (now (s .exit)) n r a × ((src : Source) → Lies src n (now (s .entry)) → Goes (C.listed (readers (within levels)) src) (Puts postCommands) (now (s .entry)) (now (s .exit)) r a) ⌝ }
 {
     let lo = free_of(s, r);
     let begun = mark(s, n, r, 0);
-    let a = command(s, n, levels, begun);
+    let a = cmd(s, n, levels, begun);
     seal(s, n, a, lo);
     a
 }
@@ -591,14 +591,14 @@ fn list(s: &mut [u32], n: usize, levels: usize, r: Answer) -> Answer
         if kind == END {
             return expect(s, n, semicolon, END);
         }
-        a = listed(s, n, levels, semicolon);
+        a = item(s, n, levels, semicolon);
         turns -= 1;
     }
     refuse(s, n, a, 6)
 }
 
 // [ command { ; command } ] [;] $)
-fn to_end(s: &mut [u32], n: usize, levels: usize, r: Answer) -> Answer
+fn till(s: &mut [u32], n: usize, levels: usize, r: Answer) -> Answer
     requires { ⌜ Ready 2 (now s) n r ⌝ }
     ensures { λ a. ⌜ Reading 3 (C.commandsToEnd (readers (within levels))) (Is postCommands) (now (s .entry)) (now (s .exit)) n r a ⌝ }
 {
@@ -610,7 +610,7 @@ fn to_end(s: &mut [u32], n: usize, levels: usize, r: Answer) -> Answer
             expect(s, n, semicolon, END)
         }
         _ => {
-            let first = listed(s, n, levels, r);
+            let first = item(s, n, levels, r);
             list(s, n, levels, first)
         }
     }
@@ -623,14 +623,14 @@ fn block(s: &mut [u32], n: usize, levels: usize, r: Answer) -> Answer
 {
     let lo = free_of(s, r);
     let begin = expect(s, n, r, BEGIN);
-    let locals = locals(s, n, levels, begin);
+    let locals = lets(s, n, levels, begin);
     let size = less(free_of(s, locals), lo);
-    let a = to_end(s, n, levels, locals);
+    let a = till(s, n, levels, locals);
     node(s, n, a, lo, size as u32, 0, BEGIN)
 }
 
 // { LET local [;] }
-fn locals(s: &mut [u32], n: usize, levels: usize, r: Answer) -> Answer
+fn lets(s: &mut [u32], n: usize, levels: usize, r: Answer) -> Answer
     requires { ⌜ Ready 0 (now s) n r ⌝ }
     ensures { λ a. ⌜ Reading 0 (manyUpTo n T.noLocals (λ kind. eqb kind K.LET) (C.local (readers (within levels)))) (Is postLocals) (now (s .entry)) (now (s .exit)) n r a ⌝ }
 {
@@ -660,14 +660,14 @@ fn local(s: &mut [u32], n: usize, levels: usize, r: Answer) -> Answer
     let names = further_names(s, n, first);
     let further = less(free_of(s, names), free_of(s, first)) / 4;
     let equal = expect(s, n, names, EQUAL);
-    let value = given(s, n, levels, start, further, equal);
+    let value = init(s, n, levels, start, further, equal);
     let a = optional(s, n, SEMICOLON, value);
     seal(s, n, a, lo);
     a
 }
 
 // What a local declaration gives its names, which begin at start.
-fn given(s: &mut [u32], n: usize, levels: usize, start: usize, further: usize, r: Answer) -> Answer
+fn init(s: &mut [u32], n: usize, levels: usize, start: usize, further: usize, r: Answer) -> Answer
     requires { ⌜ Ready 5 (now s) n r ⌝ }
     ensures { λ a. ⌜ Grows 5 (now (s .entry)) (now (s .exit)) n r a × ((src : Source) → Lies src n (now (s .entry)) → Passes r a × ((name : T.Name) (names : List T.Name) → further ≡ length names → freeOf (length (now (s .entry))) r ≡ start + length (postNames (name ∷ names)) → Goes (C.given (readers (within levels)) name names src) (Gives (name ∷ names)) (now (s .entry)) (now (s .exit)) r a)) ⌝ }
 {
@@ -697,12 +697,12 @@ fn rest(s: &mut [u32], n: usize, levels: usize, number: usize, r: Answer) -> Ans
 }
 
 // {, expression} := expression {, expression}, after the first expression, which begins at lo; as many right as left
-fn assign(s: &mut [u32], n: usize, levels: usize, lo: usize, r: Answer) -> Answer
+fn set(s: &mut [u32], n: usize, levels: usize, lo: usize, r: Answer) -> Answer
     requires { ⌜ Ready 0 (now s) n r ⌝ }
     ensures { λ a. ⌜ Fits 0 (now (s .entry)) (now (s .exit)) n r a × ((src : Source) → Lies src n (now (s .entry)) → Passes r a × ((e : T.Expression) → freeOf (length (now (s .entry))) r ≡ lo + length (post e) → Goes (C.assignment (readers (within levels)) e src) (After e) (now (s .entry)) (now (s .exit)) r a)) ⌝ }
 {
     let size = less(free_of(s, r), lo);
-    let left = commas(s, n, levels, r);
+    let left = also(s, n, levels, r);
     let end = left.end;
     let all = less(free_of(s, end), lo);
     let word = expect(s, n, end, ASSIGN);
@@ -712,7 +712,7 @@ fn assign(s: &mut [u32], n: usize, levels: usize, lo: usize, r: Answer) -> Answe
 }
 
 // An assignment, or an expression that is a call.
-fn simple(s: &mut [u32], n: usize, levels: usize, r: Answer) -> Answer
+fn bare(s: &mut [u32], n: usize, levels: usize, r: Answer) -> Answer
     requires { ⌜ Ready 0 (now s) n r ⌝ }
     ensures { λ a. ⌜ Reading 1 (C.assignmentOrCall (readers (within levels))) (Is postUnlabelled) (now (s .entry)) (now (s .exit)) n r a ⌝ }
 {
@@ -720,7 +720,7 @@ fn simple(s: &mut [u32], n: usize, levels: usize, r: Answer) -> Answer
     let first = expr(s, n, levels, LOOSEST, r);
     let kind = kind_here(s, n, first);
     if goes_on_assignment(kind) {
-        return assign(s, n, levels, lo, first);
+        return set(s, n, levels, lo, first);
     }
     if is_call(s, n, first) {
         return first;
