@@ -97,14 +97,14 @@ chain = refl
 -- a call with two arguments, and an index, which is last: the record's kind is 63
 index-last :
     bodyIn 28 "LET G() = F(A,B)!C" ≡
-    (0 ∷ 1 ∷ 10 ∷ 59 ∷ []) ++ (12 ∷ 51 ∷ 4 ∷ 0 ∷ 0 ∷ 1 ∷ 12 ∷ 59 ∷ 4 ∷ 0 ∷ 0 ∷ 1 ∷ 14 ∷ 59 ∷ []) ++ (4 ∷ 49 ∷ 0 ∷ 1 ∷ 17 ∷ 59 ∷ []) ++ (24 ∷ 4 ∷ 10 ∷ 63 ∷ [])
+    (0 ∷ 1 ∷ 10 ∷ 59 ∷ []) ++ (4 ∷ 0 ∷ 0 ∷ 1 ∷ 12 ∷ 59 ∷ 4 ∷ 0 ∷ 0 ∷ 1 ∷ 14 ∷ 59 ∷ 12 ∷ 51 ∷ []) ++ (0 ∷ 1 ∷ 17 ∷ 59 ∷ 4 ∷ 49 ∷ []) ++ (24 ∷ 4 ∷ 10 ∷ 63 ∷ [])
 unfolding bodyIn
 index-last = refl
 
 -- an index and then a call: 67
 call-last :
     bodyIn 22 "LET G() = F!A(B)" ≡
-    (0 ∷ 1 ∷ 10 ∷ 59 ∷ []) ++ (4 ∷ 49 ∷ 0 ∷ 1 ∷ 12 ∷ 59 ∷ []) ++ (6 ∷ 51 ∷ 4 ∷ 0 ∷ 0 ∷ 1 ∷ 14 ∷ 59 ∷ []) ++ (18 ∷ 4 ∷ 10 ∷ 67 ∷ [])
+    (0 ∷ 1 ∷ 10 ∷ 59 ∷ []) ++ (0 ∷ 1 ∷ 12 ∷ 59 ∷ 4 ∷ 49 ∷ []) ++ (4 ∷ 0 ∷ 0 ∷ 1 ∷ 14 ∷ 59 ∷ 6 ∷ 51 ∷ []) ++ (18 ∷ 4 ∷ 10 ∷ 67 ∷ [])
 unfolding bodyIn
 call-last = refl
 

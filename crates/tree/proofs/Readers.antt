@@ -4,7 +4,7 @@ use mathlib.Core.Path.{_≡_, refl, sym, ap, subst, _∙_}
 use mathlib.Core.Bool.{Bool, true, false, cond}
 use mathlib.Core.List.{List, [], _∷_, _++_, append-assoc, append-nil}
 use native.Mathlib.Omega.{arith}
-use lib.ListN.{length}
+use lib.ListN.{length, length-append}
 use borrow.Author.Tests.{eq-eqb, ne-eqb}
 use Rattle.language.specs.Kinds as K
 use Rattle.language.specs.Tree as T
@@ -14,9 +14,9 @@ use Rattle.language.specs.Binding.{reachOf, NEGATION, LOOSEST}
 use Rattle.language.specs.Expressions as E
 use Rattle.language.specs.Expressions.{Inside, inside, shut, opening}
 use Rattle.language.specs.Grammar.{within, readers}
-use Rattle.tree.specs.Reads.{Lies, Here, KindHere, Goes, Is, Puts, Reads, Refuses, Adds, recordFrom, Seals, freeOf}
+use Rattle.tree.specs.Reads.{Lies, Here, KindHere, Goes, Is, Puts, Reads, Refuses, Adds, recordFrom, behindFrom, Seals, freeOf}
 use Rattle.tree.specs.Between.{PutsSuffix, PutsOne, anArgument, aFurther, rightOf}
-use Rattle.tree.specs.Post.{item, closed, suffixedKind, post, postExpressions, postSuffixes, postOperations, postCommand}
+use Rattle.tree.specs.Post.{item, behind, closed, suffixedKind, post, postExpressions, postSuffixes, postOperations, postCommand}
 use Rattle.tree.proofs.Steps.{follow, bind, here, added, adds-on, goes-on, _then_, nothing, stopped}
 use Rattle.tree.proofs.Lists.{sealed}
 use Rattle.tree.proofs.Symbols.{placed, mapped, the-is, stays}
@@ -92,9 +92,20 @@ module _ {A B : Type 0} (F : B → A → A) (tag size : ℕ) {body : ℕ → Out
   item-read lo-is le c a d b =
       bind size (λ _. []) c (adds-on a then goes-on d) (λ _ q. item-alone (omega arith) le a d b)
 
+-- a suffix, its two entries behind it
+module _ {A B : Type 0} (F : B → A → A) (tag size : ℕ) {first : ℕ → Out ℕ} {body : ℕ → Out B} (enc : B → List ℕ) {lo : ℕ} {s s₁ s₂ : List ℕ} {Says : (A → A) → List ℕ → Type 0} (law : (e : B) → Says (F e) (behind tag (enc e))) where
+  pub behind-read : {r r₀ r₁ r₂ : Answer} → lo ≡ freeOf size r → Reads first (λ _. []) s s r r₀ → Reads body enc s s₁ r₀ r₁ → Adds (behindFrom lo tag) s₁ s₂ r₁ r₂ → Goes (λ m. onOut (first m) (λ _ q. onOut (body q) (λ e w. ok (F e) w))) Says s s₂ r r₂
+  behind-read {r} {r₀} {r₁} lo-is c d b =
+      bind size (λ _. []) c (goes-on d then adds-on b) (λ _ q₁. bind size enc d (adds-on b) (λ e q₂.
+      let z : length (enc e) ≡ freeOf size r₁ - lo = omega arith in
+      added size b (subst (λ (y : ℕ). Says (F e) (enc e ++ (y ∷ tag ∷ []))) z (law e))))
+
 -- an item's words stand before those of the items after it
 pub put-first : {A B : Type 0} (F : B → A → A) (tag : ℕ) (enc : B → List ℕ) (encs : A → List ℕ) → ((e : B) (rest : A) → encs (F e rest) ≡ item tag (enc e) ++ encs rest) → (e : B) → Puts encs (F e) (item tag (enc e))
 put-first F tag enc encs law e = record { puts = law e; some = omega arith }
+
+some-behind : (tag : ℕ) (w : List ℕ) → 0 < length (behind tag w)
+some-behind tag w = omega (arith, length-append w (length w ∷ tag ∷ []))
 
 module _ (src : Source) {r : Answer} (size : ℕ) (x : ℕ) {lo : ℕ} (lo-is : lo ≡ freeOf size r) {s s₁ s₂ s₃ : List ℕ} {r₁ r₂ : Answer} where
   pub operation-read : {r₀ : Answer} {kind : ℕ} (right : ℕ) → freeOf size r₀ ≤ length s → KindHere src r kind → Reads (the kind src) (λ _. []) s s r r₀ → Adds (λ _. 0 ∷ kind ∷ []) s s₁ r₀ r₁ → Reads (E.expression (within x) right src) post s₁ s₂ r₁ r₂ → Seals lo s₂ s₃ r₂ → Goes (E.operation (E.expression (within x) right) src) (Puts postOperations) s s₃ r r₂
@@ -103,21 +114,22 @@ module _ (src : Source) {r : Answer} (size : ℕ) (x : ℕ) {lo : ℕ} (lo-is : 
       here _ (any-the k (λ y _ m. onOut (E.expression (within x) right src m) (λ e q. ok (T.operation y e) q)))
       (item-read (T.operation kind) kind size post (put-first (T.operation kind) kind post postOperations (λ e rest. refl)) lo-is le c a d b)
 
-  pub index-read : {r₀ : Answer} → freeOf size r₀ ≤ length s → Reads (the K.PLING src) (λ _. []) s s r r₀ → Adds (λ _. 0 ∷ K.PLING ∷ []) s s₁ r₀ r₁ → Reads (E.subscript (within x) src) post s₁ s₂ r₁ r₂ → Seals lo s₂ s₃ r₂ → Goes (E.index (within x) src) (PutsSuffix false) s s₃ r r₂
-  unfolding E.index postSuffixes T.endsInCall
-  index-read le c a d b =
-      item-read T.index K.PLING size post (λ e. record { puts = λ rest. refl; some = omega arith; ends = λ b rest. refl }) lo-is le c a d b
-
-  pub arguments-read : {r₀ : Answer} → (x ≡ 0 → ⊥) → freeOf size r₀ ≤ length s → Reads (the K.OPEN src) (λ _. []) s s r r₀ → Adds (λ _. 0 ∷ K.OPEN ∷ []) s s₁ r₀ r₁ → Reads (upToClose T.noExpressions (anArgument (x - 1)) src) postExpressions s₁ s₂ r₁ r₂ → Seals lo s₂ s₃ r₂ → Goes (E.arguments (within x) src) (PutsSuffix true) s s₃ r r₂
-  unfolding E.arguments opening postSuffixes anArgument T.endsInCall
-  arguments-read deep le c a d b =
-      here (E.arguments (inside (readers (within (x - 1)))) src) (λ at free e. ap (λ (i : Inside). E.arguments i src at) (deeper x deep))
-      (item-read T.call K.OPEN size postExpressions (λ e. record { puts = λ rest. refl; some = omega arith; ends = λ b rest. refl }) lo-is le c a d b)
-
   pub argument-read : freeOf size r ≤ length s → Adds (λ _. 0 ∷ 0 ∷ []) s s₁ r r₁ → Reads (E.expression (within x) LOOSEST src) post s₁ s₂ r₁ r₂ → Seals lo s₂ s₃ r₂ → Goes (anArgument x src) PutsOne s s₃ r r₂
   unfolding anArgument postExpressions T.count
   argument-read le a d b =
       item-alone T.andExpression 0 size post (λ e. record { puts = λ rest. refl; one = λ rest. omega arith }) lo-is le a d b
+
+module _ (src : Source) {r : Answer} (size : ℕ) (x : ℕ) {lo : ℕ} (lo-is : lo ≡ freeOf size r) {s s₁ s₂ : List ℕ} {r₁ r₂ : Answer} where
+  pub index-read : {r₀ : Answer} → Reads (the K.PLING src) (λ _. []) s s r r₀ → Reads (E.subscript (within x) src) post s s₁ r₀ r₁ → Adds (behindFrom lo K.PLING) s₁ s₂ r₁ r₂ → Goes (E.index (within x) src) (PutsSuffix false) s s₂ r r₂
+  unfolding E.index postSuffixes T.endsInCall
+  index-read c d b =
+      behind-read T.index K.PLING size post (λ e. record { puts = λ rest. refl; some = some-behind K.PLING (post e); ends = λ b rest. refl }) lo-is c d b
+
+  pub arguments-read : {r₀ : Answer} → (x ≡ 0 → ⊥) → Reads (the K.OPEN src) (λ _. []) s s r r₀ → Reads (upToClose T.noExpressions (anArgument (x - 1)) src) postExpressions s s₁ r₀ r₁ → Adds (behindFrom lo K.OPEN) s₁ s₂ r₁ r₂ → Goes (E.arguments (within x) src) (PutsSuffix true) s s₂ r r₂
+  unfolding E.arguments opening postSuffixes anArgument T.endsInCall
+  arguments-read deep c d b =
+      here (E.arguments (inside (readers (within (x - 1)))) src) (λ at free e. ap (λ (i : Inside). E.arguments i src at) (deeper x deep))
+      (behind-read T.call K.OPEN size postExpressions (λ e. record { puts = λ rest. refl; some = some-behind K.OPEN (postExpressions e); ends = λ b rest. refl }) lo-is c d b)
 
 -- the list of arguments up to the bracket
 module _ (src : Source) (x : ℕ) {s : List ℕ} {r : Answer} {kind : ℕ} (k : KindHere src r kind) where

@@ -2,7 +2,8 @@
 --   size of what stands before the record, value, place, kind.
 -- So from a node's end its record is found, from the record its last child's end, and from each child's size the child before it.
 -- The items of a list each have two entries in front, the size of what follows them and a tag: so a walk goes forwards over a list,
--- item by item. A node that holds a first part and then a list has that part's size as its value.
+-- item by item. Suffixes have the two entries behind, the size of what stands before them and the tag, since a walk goes from the last
+-- suffix in. A node that holds a first part and then a list has that part's size as its value.
 use Prim.Native.Nat.{ℕ, _+_}
 use mathlib.Core.Bool.{Bool, false, cond}
 use mathlib.Core.List.{List, [], _∷_, _++_}
@@ -47,6 +48,10 @@ leaf v p k = closed [] v p k
 -- an item of a list
 abbrev pub item : (tag : ℕ) → (contents : List ℕ) → List ℕ
 item tag w = length w ∷ tag ∷ w
+
+-- a suffix
+abbrev pub behind : (tag : ℕ) → (contents : List ℕ) → List ℕ
+behind tag w = w ++ (length w ∷ tag ∷ [])
 
 unfoldable pub postName : Name → List ℕ
 postName n = leaf (n .width) (n .place) K.NAME
@@ -105,8 +110,8 @@ unfoldable mutual
 
   pub postSuffixes : Suffixes → List ℕ
   postSuffixes T.noSuffixes = []
-  postSuffixes (T.call es ss) = item K.OPEN (postExpressions es) ++ postSuffixes ss
-  postSuffixes (T.index e ss) = item K.PLING (post e) ++ postSuffixes ss
+  postSuffixes (T.call es ss) = behind K.OPEN (postExpressions es) ++ postSuffixes ss
+  postSuffixes (T.index e ss) = behind K.PLING (post e) ++ postSuffixes ss
 
   pub postOperations : Operations → List ℕ
   postOperations T.noOperations = []

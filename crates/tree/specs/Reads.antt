@@ -143,6 +143,10 @@ pub record Adds (words : ℕ → List ℕ) (s s′ : List ℕ) (r r′ : Answer)
 abbrev pub recordFrom : (lo value place kind : ℕ) → (free : ℕ) → List ℕ
 recordFrom lo v p k free = (free - lo) ∷ v ∷ p ∷ k ∷ []
 
+-- the two entries of a suffix behind what stands from lo on
+abbrev pub behindFrom : (lo tag : ℕ) → (free : ℕ) → List ℕ
+behindFrom lo tag free = (free - lo) ∷ tag ∷ []
+
 -- the item that begins at lo has its size set
 abbrev pub SealsBy : (lo : ℕ) → List ℕ → List ℕ → Answer → Type 0
 SealsBy lo s s′ (Refused number at) = Unit {0}

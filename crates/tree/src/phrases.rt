@@ -52,6 +52,7 @@ use crate::parts::leave;
 use crate::parts::optional_by;
 use crate::parts::vector;
 use crate::scratch::Answer;
+use crate::scratch::close_item;
 use crate::scratch::expect;
 use crate::scratch::free_of;
 use crate::scratch::is_call;
@@ -246,10 +247,8 @@ fn call(s: &mut [u32], n: usize, levels: usize, r: Answer) -> Answer
     }
     let lo = free_of(s, r);
     let open = expect(s, n, r, OPEN);
-    let begun = mark(s, n, open, OPEN);
-    let a = pass(s, n, levels - 1, begun);
-    seal(s, n, a, lo);
-    a
+    let a = pass(s, n, levels - 1, open);
+    close_item(s, n, a, lo, OPEN)
 }
 
 // [expression {, expression}] )
@@ -307,10 +306,8 @@ fn index(s: &mut [u32], n: usize, levels: usize, r: Answer) -> Answer
 {
     let lo = free_of(s, r);
     let pling = expect(s, n, r, PLING);
-    let begun = mark(s, n, pling, PLING);
-    let a = key(s, n, levels, begun);
-    seal(s, n, a, lo);
-    a
+    let a = key(s, n, levels, pling);
+    close_item(s, n, a, lo, PLING)
 }
 
 // A monadic operator may begin any operand.

@@ -72,6 +72,7 @@ use proofs.binding.is_suffix.Reads as is-suffix-reads
 use proofs.binding.reach_of.Reads as reach-of-reads
 use proofs.binding.right_of.Reads as right-of-reads
 use proofs.parts.atom.Reads as atom-reads
+use proofs.scratch.close_item.Reads as close-item-reads
 use proofs.scratch.expect.Reads as expect-reads
 use proofs.scratch.free_of.Reads as free-of-reads
 use proofs.scratch.kind_here.Reads as kind-here-reads
@@ -110,7 +111,7 @@ pub arg-ok : {M : Type 1} (t : ℕ) → arg-lts.Closed (arg-cs t) (arg-at t) arg
 arg-ok t = arg-lts.spec (arg-cs t) (arg-at t) arg.Post (arg-free-of-requires t) (arg-mark-requires t) (arg-expr-requires t) (arg-seal-requires t) (arg-same-length t) (arg-returns t)
 
 abbrev call-cs : ℕ → call-lts.Claims
-call-cs t = (refuse-reads.Asked, refuse-reads.Learnt, free-of-reads.Asked, free-of-reads.Learnt, expect-reads.Asked, expect-reads.Learnt, mark-reads.Asked, mark-reads.Learnt, pass-below t, pass.Post, seal-reads.Asked, seal-reads.Learnt)
+call-cs t = (refuse-reads.Asked, refuse-reads.Learnt, free-of-reads.Asked, free-of-reads.Learnt, expect-reads.Asked, expect-reads.Learnt, pass-below t, pass.Post, close-item-reads.Asked, close-item-reads.Learnt)
 
 call-refuse-requires : (t : ℕ) → call-lts.Need-refuse-requires (call-cs t) (call-at t) call.Post
 call-refuse-requires t c κs = omega (arith, c .before .before .before .pre .0, c .before .before .before .pre .1)
@@ -127,26 +128,23 @@ call-free-of-requires t c κs = tt
 call-expect-requires : (t : ℕ) → call-lts.Need-expect-requires (call-cs t) (call-at t) call.Post
 call-expect-requires t c κs = omega (arith, c .before .before .before .before .before .pre .0, c .before .before .before .before .before .pre .1, c .before .free-of .ensures)
 
-call-mark-requires : (t : ℕ) → call-lts.Need-mark-requires (call-cs t) (call-at t) call.Post
-call-mark-requires t c κs = omega (arith, c .before .before .before .before .before .before .before .pre .0, c .before .before .before .before .before .before .before .pre .1, c .before .expect .ensures .0, alive (c .before .expect .result), c .before .before .before .free-of .ensures)
-
 call-sub-pass : (t : ℕ) → call-lts.Need-sub-pass (call-cs t) (call-at t) call.Post
-call-sub-pass t c = omega (arith, c .before .before .before .before .before .before .before .before .before .before .before .pre .0, c .before .before .before .before .before .before .before .before .before .before .before .pre .1, c .before .before .before .mark .ensures .0, c .before .before .before .mark .kept .0, alive (c .before .before .before .mark .result), c .before .before .before .before .before .expect .ensures .0, alive (c .before .before .before .before .before .expect .result), c .before .before .before .before .before .before .before .free-of .ensures)
+call-sub-pass t c = omega (arith, c .before .before .before .before .before .before .before .pre .0, c .before .before .before .before .before .before .before .pre .1, c .before .expect .ensures .0, alive (c .before .expect .result), c .before .before .before .free-of .ensures)
 
 call-pass-requires : (t : ℕ) → call-lts.Need-pass-requires (call-cs t) (call-at t) call.Post
-call-pass-requires t c κs = omega (arith, c .before .before .before .before .before .before .before .before .before .before .before .pre .0, c .before .before .before .before .before .before .before .before .before .before .before .pre .1, c .before .before .before .mark .ensures .0, c .before .before .before .mark .kept .0, alive (c .before .before .before .mark .result), c .before .before .before .before .before .expect .ensures .0, alive (c .before .before .before .before .before .expect .result), c .before .before .before .before .before .before .before .free-of .ensures)
+call-pass-requires t c κs = omega (arith, c .before .before .before .before .before .before .before .pre .0, c .before .before .before .before .before .before .before .pre .1, c .before .expect .ensures .0, alive (c .before .expect .result), c .before .before .before .free-of .ensures)
 
-call-seal-requires : (t : ℕ) → call-lts.Need-seal-requires (call-cs t) (call-at t) call.Post
-call-seal-requires t c κs = (smaller (fitted (enlarged (fitted (c .before .before .before .before .before .before .before .before .before .before .before .before .before .before .before .pre .1) (c .before .before .before .before .before .before .before .before .before .expect .ensures .0) refl (omega arith)) (c .before .before .before .before .before .before .before .mark .ensures .0) (c .before .before .before .before .before .before .before .mark .kept .0) (omega arith) (omega arith)) (c .before .before .before .pass .ensures .0) (c .before .before .before .pass .kept .0) (omega arith)) (omega arith), omega (arith, base (c .before .before .before .before .before .before .before .before .before .before .before .before .before .before .before .pre .1), c .before .before .before .before .before .before .before .before .before .before .before .free-of .ensures))
+call-close-item-requires : (t : ℕ) → call-lts.Need-close-item-requires (call-cs t) (call-at t) call.Post
+call-close-item-requires t c κs = smaller (fitted (fitted (c .before .before .before .before .before .before .before .before .before .before .before .pre .1) (c .before .before .before .before .before .expect .ensures .0) refl (omega arith)) (c .before .before .before .pass .ensures .0) (c .before .before .before .pass .kept .0) (omega arith)) (omega arith)
 
 call-same-length-2 : (t : ℕ) → call-lts.Need-same-length-2 (call-cs t) (call-at t) call.Post
 call-same-length-2 t c = search needs
 
 call-returns-2 : (t : ℕ) → call-lts.Need-returns-2 (call-cs t) (call-at t) call.Post
-call-returns-2 t c = (weaker (omega arith) (both (both (then-grows (c .before .before .before .before .before .before .before .before .before .before .before .before .expect .ensures .0) (c .before .before .before .before .before .before .before .before .before .before .mark .ensures .0) (omega arith)) (c .before .before .before .before .before .before .pass .ensures .0)) (c .before .before .seal .ensures .0)), λ src l. arguments-read src _ _ (c .before .before .before .before .before .before .before .before .before .before .before .before .before .before .free-of .ensures) (c .before .before .before .before .before .before .before .before .before .before .before .before .before .before .before .before .if1 .left) (low (fitted (c .before .before .before .before .before .before .before .before .before .before .before .before .before .before .before .before .before .before .pre .1) (c .before .before .before .before .before .before .before .before .before .before .before .before .expect .ensures .0) refl (omega arith))) (c .before .before .before .before .before .before .before .before .before .before .before .before .expect .ensures .1 src l) (c .before .before .before .before .before .before .before .before .before .before .mark .ensures .1) (c .before .before .before .before .before .before .pass .ensures .1 src (lies-still l (c .before .before .before .before .before .before .before .before .before .before .mark .ensures .0 .kept))) (c .before .before .seal .ensures .1))
+call-returns-2 t c = (weaker (omega arith) (then-grows (both (c .before .before .before .before .before .before .before .before .expect .ensures .0) (c .before .before .before .before .before .before .pass .ensures .0)) (c .before .before .close-item .ensures .0) (omega arith)), λ src l. arguments-read src _ _ (c .before .before .before .before .before .before .before .before .before .before .free-of .ensures) (c .before .before .before .before .before .before .before .before .before .before .before .before .if1 .left) (c .before .before .before .before .before .before .before .before .expect .ensures .1 src l) (c .before .before .before .before .before .before .pass .ensures .1 src l) (c .before .before .close-item .ensures .1))
 
 pub call-ok : {M : Type 1} (t : ℕ) → call-lts.Closed (call-cs t) (call-at t) call.Post M
-call-ok t = call-lts.spec (call-cs t) (call-at t) call.Post (call-refuse-requires t) (call-same-length t) (call-returns t) (call-free-of-requires t) (call-expect-requires t) (call-mark-requires t) (call-sub-pass t) (call-pass-requires t) (call-seal-requires t) (call-same-length-2 t) (call-returns-2 t)
+call-ok t = call-lts.spec (call-cs t) (call-at t) call.Post (call-refuse-requires t) (call-same-length t) (call-returns t) (call-free-of-requires t) (call-expect-requires t) (call-sub-pass t) (call-pass-requires t) (call-close-item-requires t) (call-same-length-2 t) (call-returns-2 t)
 
 abbrev run-cs : ℕ → run-lts.Claims
 run-cs t = (further-most-reads.Asked, further-most-reads.Learnt, kind-here-reads.Asked, kind-here-reads.Learnt, binding-of-reads.Asked, binding-of-reads.Learnt, op-below t, op.Post)
@@ -362,7 +360,7 @@ pub expr-ok : {M : Type 1} (t : ℕ) → expr-lts.Closed (expr-cs t) (expr-at t)
 expr-ok t = expr-lts.spec (expr-cs t) (expr-at t) expr.Post (expr-term-requires t) (expr-same-length t) (expr-returns t) (expr-kind-here-requires t) (expr-monad-requires t) (expr-same-length-2 t) (expr-returns-2 t) (expr-sub-expr t) (expr-expr-requires t) (expr-same-length-3 t) (expr-returns-3 t) (expr-free-of-requires t) (expr-sub-expr-2 t) (expr-expr-requires-2 t) (expr-kind-here-requires-2 t) (expr-binding-of-requires t) (expr-same-length-4 t) (expr-returns-4 t) (expr-free-of-requires-2 t) (expr-less-requires t) (expr-place-of-requires t) (expr-right-of-requires t) (expr-op-requires t) (expr-run-requires t) (expr-cast-node t) (expr-node-requires t) (expr-same-length-5 t) (expr-returns-5 t)
 
 abbrev index-cs : ℕ → index-lts.Claims
-index-cs t = (free-of-reads.Asked, free-of-reads.Learnt, expect-reads.Asked, expect-reads.Learnt, mark-reads.Asked, mark-reads.Learnt, key-below t, key.Post, seal-reads.Asked, seal-reads.Learnt)
+index-cs t = (free-of-reads.Asked, free-of-reads.Learnt, expect-reads.Asked, expect-reads.Learnt, key-below t, key.Post, close-item-reads.Asked, close-item-reads.Learnt)
 
 index-free-of-requires : (t : ℕ) → index-lts.Need-free-of-requires (index-cs t) (index-at t) index.Post
 index-free-of-requires t c κs = tt
@@ -370,23 +368,20 @@ index-free-of-requires t c κs = tt
 index-expect-requires : (t : ℕ) → index-lts.Need-expect-requires (index-cs t) (index-at t) index.Post
 index-expect-requires t c κs = omega (arith, c .before .before .before .before .pre .0, c .before .before .before .before .pre .1, c .before .free-of .ensures)
 
-index-mark-requires : (t : ℕ) → index-lts.Need-mark-requires (index-cs t) (index-at t) index.Post
-index-mark-requires t c κs = omega (arith, c .before .before .before .before .before .before .pre .0, c .before .before .before .before .before .before .pre .1, c .before .expect .ensures .0, alive (c .before .expect .result), c .before .before .before .free-of .ensures)
-
 index-key-requires : (t : ℕ) → index-lts.Need-key-requires (index-cs t) (index-at t) index.Post
-index-key-requires t c κs = omega (arith, c .before .before .before .before .before .before .before .before .before .before .pre .0, c .before .before .before .before .before .before .before .before .before .before .pre .1, c .before .before .before .mark .ensures .0, c .before .before .before .mark .kept .0, alive (c .before .before .before .mark .result), c .before .before .before .before .before .expect .ensures .0, alive (c .before .before .before .before .before .expect .result), c .before .before .before .before .before .before .before .free-of .ensures)
+index-key-requires t c κs = omega (arith, c .before .before .before .before .before .before .pre .0, c .before .before .before .before .before .before .pre .1, c .before .expect .ensures .0, alive (c .before .expect .result), c .before .before .before .free-of .ensures)
 
-index-seal-requires : (t : ℕ) → index-lts.Need-seal-requires (index-cs t) (index-at t) index.Post
-index-seal-requires t c κs = (smaller (fitted (enlarged (fitted (c .before .before .before .before .before .before .before .before .before .before .before .before .before .before .pre .1) (c .before .before .before .before .before .before .before .before .before .expect .ensures .0) refl (omega arith)) (c .before .before .before .before .before .before .before .mark .ensures .0) (c .before .before .before .before .before .before .before .mark .kept .0) (omega arith) (omega arith)) (c .before .before .before .key .ensures .0) (c .before .before .before .key .kept .0) (omega arith)) (omega arith), omega (arith, base (c .before .before .before .before .before .before .before .before .before .before .before .before .before .before .pre .1), c .before .before .before .before .before .before .before .before .before .before .before .free-of .ensures))
+index-close-item-requires : (t : ℕ) → index-lts.Need-close-item-requires (index-cs t) (index-at t) index.Post
+index-close-item-requires t c κs = smaller (fitted (fitted (c .before .before .before .before .before .before .before .before .before .before .pre .1) (c .before .before .before .before .before .expect .ensures .0) refl (omega arith)) (c .before .before .before .key .ensures .0) (c .before .before .before .key .kept .0) (omega arith)) (omega arith)
 
 index-same-length : (t : ℕ) → index-lts.Need-same-length (index-cs t) (index-at t) index.Post
 index-same-length t c = search needs
 
 index-returns : (t : ℕ) → index-lts.Need-returns (index-cs t) (index-at t) index.Post
-index-returns t c = (both (both (then-grows (c .before .before .before .before .before .before .before .before .before .before .before .before .expect .ensures .0) (c .before .before .before .before .before .before .before .before .before .before .mark .ensures .0) (omega arith)) (c .before .before .before .before .before .before .key .ensures .0)) (c .before .before .seal .ensures .0), λ src l. index-read src _ _ (c .before .before .before .before .before .before .before .before .before .before .before .before .before .before .free-of .ensures) (low (fitted (c .before .before .before .before .before .before .before .before .before .before .before .before .before .before .before .before .before .pre .1) (c .before .before .before .before .before .before .before .before .before .before .before .before .expect .ensures .0) refl (omega arith))) (c .before .before .before .before .before .before .before .before .before .before .before .before .expect .ensures .1 src l) (c .before .before .before .before .before .before .before .before .before .before .mark .ensures .1) (c .before .before .before .before .before .before .key .ensures .1 src (lies-still l (c .before .before .before .before .before .before .before .before .before .before .mark .ensures .0 .kept))) (c .before .before .seal .ensures .1))
+index-returns t c = (then-grows (both (c .before .before .before .before .before .before .before .before .expect .ensures .0) (c .before .before .before .before .before .before .key .ensures .0)) (c .before .before .close-item .ensures .0) (omega arith), λ src l. index-read src _ _ (c .before .before .before .before .before .before .before .before .before .before .free-of .ensures) (c .before .before .before .before .before .before .before .before .expect .ensures .1 src l) (c .before .before .before .before .before .before .key .ensures .1 src l) (c .before .before .close-item .ensures .1))
 
 pub index-ok : {M : Type 1} (t : ℕ) → index-lts.Closed (index-cs t) (index-at t) index.Post M
-index-ok t = index-lts.spec (index-cs t) (index-at t) index.Post (index-free-of-requires t) (index-expect-requires t) (index-mark-requires t) (index-key-requires t) (index-seal-requires t) (index-same-length t) (index-returns t)
+index-ok t = index-lts.spec (index-cs t) (index-at t) index.Post (index-free-of-requires t) (index-expect-requires t) (index-key-requires t) (index-close-item-requires t) (index-same-length t) (index-returns t)
 
 abbrev key-cs : ℕ → key-lts.Claims
 key-cs t = (kind-here-reads.Asked, kind-here-reads.Learnt, is-monadic-reads.Asked, is-monadic-reads.Learnt, monad-below t, monad.Post, unit-below t, unit.Post)
