@@ -7,12 +7,12 @@ use crate::grammar::{Action, Body, Command, Constant, Declaration, Expression, F
 use crate::symbols::{kind::*, Symbol};
 
 /// Kinds of nodes that are no kind of symbol.
-const MONADIC: u32 = 62;
-const SUFFIXED: u32 = 63;
-const DYADIC: u32 = 64;
-const LABELLED: u32 = 65;
-const REPEATED: u32 = 66;
-const CALLED: u32 = 67;
+const MONADIC: u32 = 128;
+const SUFFIXED: u32 = 129;
+const CALLED: u32 = 130;
+const DYADIC: u32 = 131;
+const LABELLED: u32 = 132;
+const REPEATED: u32 = 133;
 
 const RECORD: usize = 4;
 

@@ -80,9 +80,9 @@ ghost use Rattle.language.specs.Binding.{bindingOf, isSuffix, isRepeat, isLabel
 ghost use Rattle.language.specs.Expressions as E;
 ghost use Rattle.language.specs.Grammar.{within, readers};
 ghost use Rattle.language.specs.Commands as C;
-ghost use Rattle.tree.specs.Post.{item, post, postNames, postExpressions, postOperations, postCommand, postCommands, postUnlabelled, postRepeats, postLocals};
+ghost use Rattle.tree.specs.Encoding.{item, encode, encodeNames, encodeExpressions, encodeOperations, encodeCommand, encodeCommands, encodeUnlabelled, encodeRepeats, encodeLocals};
 ghost use Rattle.tree.specs.Reads.{Lies, Ready, Fits, Grows, KindHere, Goes, Puts, Reads, Passes, freeOf, Reading, ReadingAt, Is};
-ghost use Rattle.tree.specs.Between.{PutsSuffix, PutsOne, furtherMost, anArgument, aFurther, repeatedOnly, postRepeatedOnly, bodyAfter, Ended, Counted, After, Gives};
+ghost use Rattle.tree.specs.Between.{PutsSuffix, PutsOne, furtherMost, anArgument, aFurther, repeatedOnly, encodeRepeatedOnly, bodyAfter, Ended, Counted, After, Gives};
 
 // What follows the first suffix: where it ends, and whether the last suffix is a call.
 struct SuffixesRead {
@@ -100,7 +100,7 @@ struct FurtherRead {
 // expression.
 pub(crate) fn expr(s: &mut [u32], n: usize, levels: usize, binding: u32, r: Answer) -> Answer
     requires { ⌜ Ready 0 (now s) n r × (binding ≤ B.LOOSEST) ⌝ }
-    ensures { λ a. ⌜ Reading 1 (E.expression (within levels) binding) (Is post) (now (s .entry)) (now (s .exit)) n r a ⌝ }
+    ensures { λ a. ⌜ Reading 1 (E.expression (within levels) binding) (Is encode) (now (s .entry)) (now (s .exit)) n r a ⌝ }
 {
     if binding == 0 {
         return term(s, n, levels, r);
@@ -129,7 +129,7 @@ pub(crate) fn expr(s: &mut [u32], n: usize, levels: usize, binding: u32, r: Answ
 // operator operand
 fn op(s: &mut [u32], n: usize, levels: usize, right: u32, kind: u32, r: Answer) -> Answer
     requires { ⌜ Ready 0 (now s) n r × (right ≤ B.LOOSEST) × (0 < kind) ⌝ }
-    ensures { λ a. ⌜ ReadingAt kind 4 (E.operation (E.expression (within levels) right)) (Puts postOperations) (now (s .entry)) (now (s .exit)) n r a ⌝ }
+    ensures { λ a. ⌜ ReadingAt kind 4 (E.operation (E.expression (within levels) right)) (Puts encodeOperations) (now (s .entry)) (now (s .exit)) n r a ⌝ }
 {
     let lo = free_of(s, r);
     let operator = expect(s, n, r, kind);
@@ -142,7 +142,7 @@ fn op(s: &mut [u32], n: usize, levels: usize, right: u32, kind: u32, r: Answer) 
 // The operations after the first: there is at most one relation.
 fn run(s: &mut [u32], n: usize, levels: usize, binding: u32, right: u32, r: Answer) -> Answer
     requires { ⌜ Ready 0 (now s) n r × (right ≤ B.LOOSEST) × (0 < binding) ⌝ }
-    ensures { λ a. ⌜ Reading 0 (manyUpTo (furtherMost binding n) T.noOperations (λ kind. eqb (bindingOf kind) binding) (E.operation (E.expression (within levels) right))) (Is postOperations) (now (s .entry)) (now (s .exit)) n r a ⌝ }
+    ensures { λ a. ⌜ Reading 0 (manyUpTo (furtherMost binding n) T.noOperations (λ kind. eqb (bindingOf kind) binding) (E.operation (E.expression (within levels) right))) (Is encodeOperations) (now (s .entry)) (now (s .exit)) n r a ⌝ }
 {
     let mut turns = further_most(binding, n);
     let mut a = r;
@@ -160,7 +160,7 @@ fn run(s: &mut [u32], n: usize, levels: usize, binding: u32, right: u32, r: Answ
 // An operand of the operators that bind tightest.
 fn term(s: &mut [u32], n: usize, levels: usize, r: Answer) -> Answer
     requires { ⌜ Ready 0 (now s) n r ⌝ }
-    ensures { λ a. ⌜ Reading 1 (E.operand (within levels)) (Is post) (now (s .entry)) (now (s .exit)) n r a ⌝ }
+    ensures { λ a. ⌜ Reading 1 (E.operand (within levels)) (Is encode) (now (s .entry)) (now (s .exit)) n r a ⌝ }
 {
     let kind = kind_here(s, n, r);
     if is_monadic(kind) {
@@ -173,7 +173,7 @@ fn term(s: &mut [u32], n: usize, levels: usize, r: Answer) -> Answer
 // ! @ + - or NOT, and its operand.
 fn monad(s: &mut [u32], n: usize, levels: usize, kind: u32, r: Answer) -> Answer
     requires { ⌜ Ready 0 (now s) n r × (0 < kind) ⌝ }
-    ensures { λ a. ⌜ ReadingAt kind 1 (E.monadic (within levels)) (Is post) (now (s .entry)) (now (s .exit)) n r a ⌝ }
+    ensures { λ a. ⌜ ReadingAt kind 1 (E.monadic (within levels)) (Is encode) (now (s .entry)) (now (s .exit)) n r a ⌝ }
 {
     if levels == 0 {
         return refuse(s, n, r, 7);
@@ -188,7 +188,7 @@ fn monad(s: &mut [u32], n: usize, levels: usize, kind: u32, r: Answer) -> Answer
 // primary { ( arguments ) | ! primary }
 fn whole(s: &mut [u32], n: usize, levels: usize, r: Answer) -> Answer
     requires { ⌜ Ready 0 (now s) n r ⌝ }
-    ensures { λ a. ⌜ Reading 1 (E.suffixed (within levels)) (Is post) (now (s .entry)) (now (s .exit)) n r a ⌝ }
+    ensures { λ a. ⌜ Reading 1 (E.suffixed (within levels)) (Is encode) (now (s .entry)) (now (s .exit)) n r a ⌝ }
 {
     let lo = free_of(s, r);
     let primary = unit(s, n, levels, r);
@@ -254,7 +254,7 @@ fn call(s: &mut [u32], n: usize, levels: usize, r: Answer) -> Answer
 // [expression {, expression}] )
 fn pass(s: &mut [u32], n: usize, levels: usize, r: Answer) -> Answer
     requires { ⌜ Ready 3 (now s) n r ⌝ }
-    ensures { λ a. ⌜ Reading 4 (upToClose T.noExpressions (anArgument levels)) (Is postExpressions) (now (s .entry)) (now (s .exit)) n r a ⌝ }
+    ensures { λ a. ⌜ Reading 4 (upToClose T.noExpressions (anArgument levels)) (Is encodeExpressions) (now (s .entry)) (now (s .exit)) n r a ⌝ }
 {
     let kind = kind_here(s, n, r);
     if kind == CLOSE {
@@ -313,7 +313,7 @@ fn index(s: &mut [u32], n: usize, levels: usize, r: Answer) -> Answer
 // A monadic operator may begin any operand.
 fn key(s: &mut [u32], n: usize, levels: usize, r: Answer) -> Answer
     requires { ⌜ Ready 0 (now s) n r ⌝ }
-    ensures { λ a. ⌜ Reading 1 (E.subscript (within levels)) (Is post) (now (s .entry)) (now (s .exit)) n r a ⌝ }
+    ensures { λ a. ⌜ Reading 1 (E.subscript (within levels)) (Is encode) (now (s .entry)) (now (s .exit)) n r a ⌝ }
 {
     let kind = kind_here(s, n, r);
     if is_monadic(kind) {
@@ -326,7 +326,7 @@ fn key(s: &mut [u32], n: usize, levels: usize, r: Answer) -> Answer
 // number | string | TRUE | FALSE | name | ( expression ) | VALOF command
 fn unit(s: &mut [u32], n: usize, levels: usize, r: Answer) -> Answer
     requires { ⌜ Ready 0 (now s) n r ⌝ }
-    ensures { λ a. ⌜ Reading 1 (E.primary (within levels)) (Is post) (now (s .entry)) (now (s .exit)) n r a ⌝ }
+    ensures { λ a. ⌜ Reading 1 (E.primary (within levels)) (Is encode) (now (s .entry)) (now (s .exit)) n r a ⌝ }
 {
     let kind = kind_here(s, n, r);
     match kind {
@@ -339,7 +339,7 @@ fn unit(s: &mut [u32], n: usize, levels: usize, r: Answer) -> Answer
 // ( expression )
 fn nest(s: &mut [u32], n: usize, levels: usize, r: Answer) -> Answer
     requires { ⌜ Ready 0 (now s) n r ⌝ }
-    ensures { λ a. ⌜ Reading 1 (E.bracketed (within levels)) (Is post) (now (s .entry)) (now (s .exit)) n r a ⌝ }
+    ensures { λ a. ⌜ Reading 1 (E.bracketed (within levels)) (Is encode) (now (s .entry)) (now (s .exit)) n r a ⌝ }
 {
     if levels == 0 {
         return refuse(s, n, r, 7);
@@ -355,7 +355,7 @@ fn nest(s: &mut [u32], n: usize, levels: usize, r: Answer) -> Answer
 // VALOF command
 fn valof(s: &mut [u32], n: usize, levels: usize, r: Answer) -> Answer
     requires { ⌜ Ready 0 (now s) n r ⌝ }
-    ensures { λ a. ⌜ Reading 1 (E.valof (within levels)) (Is post) (now (s .entry)) (now (s .exit)) n r a ⌝ }
+    ensures { λ a. ⌜ Reading 1 (E.valof (within levels)) (Is encode) (now (s .entry)) (now (s .exit)) n r a ⌝ }
 {
     if levels == 0 {
         return refuse(s, n, r, 7);
@@ -370,7 +370,7 @@ fn valof(s: &mut [u32], n: usize, levels: usize, r: Answer) -> Answer
 // A command, with its labels before it.
 pub(crate) fn cmd(s: &mut [u32], n: usize, levels: usize, r: Answer) -> Answer
     requires { ⌜ Ready 0 (now s) n r ⌝ }
-    ensures { λ a. ⌜ Reading 0 (C.command (within levels)) (Is postCommand) (now (s .entry)) (now (s .exit)) n r a ⌝ }
+    ensures { λ a. ⌜ Reading 0 (C.command (within levels)) (Is encodeCommand) (now (s .entry)) (now (s .exit)) n r a ⌝ }
 {
     let kind = kind_here(s, n, r);
     if is_label(kind) {
@@ -382,7 +382,7 @@ pub(crate) fn cmd(s: &mut [u32], n: usize, levels: usize, r: Answer) -> Answer
 // Labels and what follows them.
 fn cases(s: &mut [u32], n: usize, levels: usize, kind: u32, r: Answer) -> Answer
     requires { ⌜ Ready 0 (now s) n r ⌝ }
-    ensures { λ a. ⌜ Fits 0 (now (s .entry)) (now (s .exit)) n r a × ((src : Source) → Lies src n (now (s .entry)) → KindHere src r kind → isLabel kind ≡ true → Reads (C.command (within levels) src) postCommand (now (s .entry)) (now (s .exit)) r a) ⌝ }
+    ensures { λ a. ⌜ Fits 0 (now (s .entry)) (now (s .exit)) n r a × ((src : Source) → Lies src n (now (s .entry)) → KindHere src r kind → isLabel kind ≡ true → Reads (C.command (within levels) src) encodeCommand (now (s .entry)) (now (s .exit)) r a) ⌝ }
 {
     let lo = free_of(s, r);
     let first = label(s, n, levels, kind, r);
@@ -395,7 +395,7 @@ fn cases(s: &mut [u32], n: usize, levels: usize, kind: u32, r: Answer) -> Answer
 // unlabelled { REPEAT form }, whose first symbol opens a level; or an empty command, after labels.
 fn body(s: &mut [u32], n: usize, levels: usize, labelled: bool, r: Answer) -> Answer
     requires { ⌜ Ready 0 (now s) n r ⌝ }
-    ensures { λ a. ⌜ Reading 0 (bodyAfter labelled levels) (Is postRepeatedOnly) (now (s .entry)) (now (s .exit)) n r a ⌝ }
+    ensures { λ a. ⌜ Reading 0 (bodyAfter labelled levels) (Is encodeRepeatedOnly) (now (s .entry)) (now (s .exit)) n r a ⌝ }
 {
     let kind = kind_here(s, n, r);
     if begins_command(kind) {
@@ -413,7 +413,7 @@ fn body(s: &mut [u32], n: usize, levels: usize, labelled: bool, r: Answer) -> An
 // unlabelled { REPEAT form }
 fn redo(s: &mut [u32], n: usize, levels: usize, r: Answer) -> Answer
     requires { ⌜ Ready 0 (now s) n r ⌝ }
-    ensures { λ a. ⌜ Reading 0 (repeatedOnly levels) (Is postRepeatedOnly) (now (s .entry)) (now (s .exit)) n r a ⌝ }
+    ensures { λ a. ⌜ Reading 0 (repeatedOnly levels) (Is encodeRepeatedOnly) (now (s .entry)) (now (s .exit)) n r a ⌝ }
 {
     let lo = free_of(s, r);
     let body = plain(s, n, levels, r);
@@ -430,7 +430,7 @@ fn redo(s: &mut [u32], n: usize, levels: usize, r: Answer) -> Answer
 // The REPEAT forms after the first.
 fn forms(s: &mut [u32], n: usize, levels: usize, r: Answer) -> Answer
     requires { ⌜ Ready 0 (now s) n r ⌝ }
-    ensures { λ a. ⌜ Reading 0 (manyUpTo (n - 1) T.noRepeats isRepeat (C.repeatForm (readers (within levels)))) (Is postRepeats) (now (s .entry)) (now (s .exit)) n r a ⌝ }
+    ensures { λ a. ⌜ Reading 0 (manyUpTo (n - 1) T.noRepeats isRepeat (C.repeatForm (readers (within levels)))) (Is encodeRepeats) (now (s .entry)) (now (s .exit)) n r a ⌝ }
 {
     let mut turns = less(n, 1);
     let mut a = r;
@@ -449,7 +449,7 @@ fn forms(s: &mut [u32], n: usize, levels: usize, r: Answer) -> Answer
 // REPEAT | REPEATWHILE expression | REPEATUNTIL expression
 fn form(s: &mut [u32], n: usize, levels: usize, kind: u32, r: Answer) -> Answer
     requires { ⌜ Ready 0 (now s) n r × (0 < kind) ⌝ }
-    ensures { λ a. ⌜ ReadingAt kind 3 (C.repeatForm (readers (within levels))) (Puts postRepeats) (now (s .entry)) (now (s .exit)) n r a ⌝ }
+    ensures { λ a. ⌜ ReadingAt kind 3 (C.repeatForm (readers (within levels))) (Puts encodeRepeats) (now (s .entry)) (now (s .exit)) n r a ⌝ }
 {
     let lo = free_of(s, r);
     let word = expect(s, n, r, kind);
@@ -465,7 +465,7 @@ fn form(s: &mut [u32], n: usize, levels: usize, kind: u32, r: Answer) -> Answer
 // A command without its labels and REPEAT forms, by its first symbol.
 fn plain(s: &mut [u32], n: usize, levels: usize, r: Answer) -> Answer
     requires { ⌜ Ready 0 (now s) n r ⌝ }
-    ensures { λ a. ⌜ Reading 1 (C.unlabelled (readers (within levels))) (Is postUnlabelled) (now (s .entry)) (now (s .exit)) n r a ⌝ }
+    ensures { λ a. ⌜ Reading 1 (C.unlabelled (readers (within levels))) (Is encodeUnlabelled) (now (s .entry)) (now (s .exit)) n r a ⌝ }
 {
     let kind = kind_here(s, n, r);
     if is_guard(kind) {
@@ -487,7 +487,7 @@ fn plain(s: &mut [u32], n: usize, levels: usize, r: Answer) -> Answer
 // TEST expression DO command OR command
 fn test(s: &mut [u32], n: usize, levels: usize, r: Answer) -> Answer
     requires { ⌜ Ready 0 (now s) n r ⌝ }
-    ensures { λ a. ⌜ Reading 1 (C.test (readers (within levels))) (Is postUnlabelled) (now (s .entry)) (now (s .exit)) n r a ⌝ }
+    ensures { λ a. ⌜ Reading 1 (C.test (readers (within levels))) (Is encodeUnlabelled) (now (s .entry)) (now (s .exit)) n r a ⌝ }
 {
     let lo = free_of(s, r);
     let word = expect(s, n, r, TEST);
@@ -502,7 +502,7 @@ fn test(s: &mut [u32], n: usize, levels: usize, r: Answer) -> Answer
 // IF expression DO command, and so UNLESS, WHILE and UNTIL
 fn when(s: &mut [u32], n: usize, levels: usize, kind: u32, r: Answer) -> Answer
     requires { ⌜ Ready 0 (now s) n r × (0 < kind) ⌝ }
-    ensures { λ a. ⌜ ReadingAt kind 1 (C.guarded (readers (within levels))) (Is postUnlabelled) (now (s .entry)) (now (s .exit)) n r a ⌝ }
+    ensures { λ a. ⌜ ReadingAt kind 1 (C.guarded (readers (within levels))) (Is encodeUnlabelled) (now (s .entry)) (now (s .exit)) n r a ⌝ }
 {
     let lo = free_of(s, r);
     let word = expect(s, n, r, kind);
@@ -515,7 +515,7 @@ fn when(s: &mut [u32], n: usize, levels: usize, kind: u32, r: Answer) -> Answer
 // RESULTIS expression
 fn give(s: &mut [u32], n: usize, levels: usize, r: Answer) -> Answer
     requires { ⌜ Ready 0 (now s) n r ⌝ }
-    ensures { λ a. ⌜ Reading 1 (C.resultis (readers (within levels))) (Is postUnlabelled) (now (s .entry)) (now (s .exit)) n r a ⌝ }
+    ensures { λ a. ⌜ Reading 1 (C.resultis (readers (within levels))) (Is encodeUnlabelled) (now (s .entry)) (now (s .exit)) n r a ⌝ }
 {
     let lo = free_of(s, r);
     let place = place_here(s, n, r);
@@ -527,7 +527,7 @@ fn give(s: &mut [u32], n: usize, levels: usize, r: Answer) -> Answer
 // FOR name = expression TO expression [BY constant] DO command
 fn step(s: &mut [u32], n: usize, levels: usize, r: Answer) -> Answer
     requires { ⌜ Ready 0 (now s) n r ⌝ }
-    ensures { λ a. ⌜ Reading 1 (C.for (readers (within levels))) (Is postUnlabelled) (now (s .entry)) (now (s .exit)) n r a ⌝ }
+    ensures { λ a. ⌜ Reading 1 (C.for (readers (within levels))) (Is encodeUnlabelled) (now (s .entry)) (now (s .exit)) n r a ⌝ }
 {
     let lo = free_of(s, r);
     let word = expect(s, n, r, FOR);
@@ -546,7 +546,7 @@ fn step(s: &mut [u32], n: usize, levels: usize, r: Answer) -> Answer
 // SWITCHON expression INTO $( command { ; command } [;] $)
 fn pick(s: &mut [u32], n: usize, levels: usize, r: Answer) -> Answer
     requires { ⌜ Ready 0 (now s) n r ⌝ }
-    ensures { λ a. ⌜ Reading 1 (C.switchon (readers (within levels))) (Is postUnlabelled) (now (s .entry)) (now (s .exit)) n r a ⌝ }
+    ensures { λ a. ⌜ Reading 1 (C.switchon (readers (within levels))) (Is encodeUnlabelled) (now (s .entry)) (now (s .exit)) n r a ⌝ }
 {
     let lo = free_of(s, r);
     let word = expect(s, n, r, SWITCHON);
@@ -562,7 +562,7 @@ fn pick(s: &mut [u32], n: usize, levels: usize, r: Answer) -> Answer
 // A command, as an item.
 fn item(s: &mut [u32], n: usize, levels: usize, r: Answer) -> Answer
     requires { ⌜ Ready 2 (now s) n r ⌝ }
-    ensures { λ a. ⌜ Grows 2 (now (s .entry)) (now (s .exit)) n r a × ((src : Source) → Lies src n (now (s .entry)) → Goes (C.listed (readers (within levels)) src) (Puts postCommands) (now (s .entry)) (now (s .exit)) r a) ⌝ }
+    ensures { λ a. ⌜ Grows 2 (now (s .entry)) (now (s .exit)) n r a × ((src : Source) → Lies src n (now (s .entry)) → Goes (C.listed (readers (within levels)) src) (Puts encodeCommands) (now (s .entry)) (now (s .exit)) r a) ⌝ }
 {
     let lo = free_of(s, r);
     let begun = mark(s, n, r, 0);
@@ -574,7 +574,7 @@ fn item(s: &mut [u32], n: usize, levels: usize, r: Answer) -> Answer
 // { ; command } [;] $)
 fn list(s: &mut [u32], n: usize, levels: usize, r: Answer) -> Answer
     requires { ⌜ Ready 0 (now s) n r ⌝ }
-    ensures { λ a. ⌜ Reading 5 (moreUpTo n T.noCommands (C.listed (readers (within levels)))) (Is postCommands) (now (s .entry)) (now (s .exit)) n r a ⌝ }
+    ensures { λ a. ⌜ Reading 5 (moreUpTo n T.noCommands (C.listed (readers (within levels)))) (Is encodeCommands) (now (s .entry)) (now (s .exit)) n r a ⌝ }
 {
     let mut turns = n;
     let mut a = r;
@@ -597,7 +597,7 @@ fn list(s: &mut [u32], n: usize, levels: usize, r: Answer) -> Answer
 // [ command { ; command } ] [;] $)
 fn till(s: &mut [u32], n: usize, levels: usize, r: Answer) -> Answer
     requires { ⌜ Ready 2 (now s) n r ⌝ }
-    ensures { λ a. ⌜ Reading 3 (C.commandsToEnd (readers (within levels))) (Is postCommands) (now (s .entry)) (now (s .exit)) n r a ⌝ }
+    ensures { λ a. ⌜ Reading 3 (C.commandsToEnd (readers (within levels))) (Is encodeCommands) (now (s .entry)) (now (s .exit)) n r a ⌝ }
 {
     let kind = kind_here(s, n, r);
     match kind {
@@ -616,7 +616,7 @@ fn till(s: &mut [u32], n: usize, levels: usize, r: Answer) -> Answer
 // $( { LET local [;] } [ command { ; command } ] [;] $)
 fn block(s: &mut [u32], n: usize, levels: usize, r: Answer) -> Answer
     requires { ⌜ Ready 0 (now s) n r ⌝ }
-    ensures { λ a. ⌜ Reading 1 (C.block (readers (within levels))) (Is postUnlabelled) (now (s .entry)) (now (s .exit)) n r a ⌝ }
+    ensures { λ a. ⌜ Reading 1 (C.block (readers (within levels))) (Is encodeUnlabelled) (now (s .entry)) (now (s .exit)) n r a ⌝ }
 {
     let lo = free_of(s, r);
     let begin = expect(s, n, r, BEGIN);
@@ -629,7 +629,7 @@ fn block(s: &mut [u32], n: usize, levels: usize, r: Answer) -> Answer
 // { LET local [;] }
 fn lets(s: &mut [u32], n: usize, levels: usize, r: Answer) -> Answer
     requires { ⌜ Ready 0 (now s) n r ⌝ }
-    ensures { λ a. ⌜ Reading 0 (manyUpTo n T.noLocals (λ kind. eqb kind K.LET) (C.local (readers (within levels)))) (Is postLocals) (now (s .entry)) (now (s .exit)) n r a ⌝ }
+    ensures { λ a. ⌜ Reading 0 (manyUpTo n T.noLocals (λ kind. eqb kind K.LET) (C.local (readers (within levels)))) (Is encodeLocals) (now (s .entry)) (now (s .exit)) n r a ⌝ }
 {
     let mut turns = n;
     let mut a = r;
@@ -647,7 +647,7 @@ fn lets(s: &mut [u32], n: usize, levels: usize, r: Answer) -> Answer
 // LET ( name = VEC constant | name {, name} = expression {, expression} ) [;]
 fn local(s: &mut [u32], n: usize, levels: usize, r: Answer) -> Answer
     requires { ⌜ Ready 0 (now s) n r ⌝ }
-    ensures { λ a. ⌜ Reading 4 (C.local (readers (within levels))) (Puts postLocals) (now (s .entry)) (now (s .exit)) n r a ⌝ }
+    ensures { λ a. ⌜ Reading 4 (C.local (readers (within levels))) (Puts encodeLocals) (now (s .entry)) (now (s .exit)) n r a ⌝ }
 {
     let lo = free_of(s, r);
     let word = expect(s, n, r, LET);
@@ -666,7 +666,7 @@ fn local(s: &mut [u32], n: usize, levels: usize, r: Answer) -> Answer
 // What a local declaration gives its names, which begin at start.
 fn init(s: &mut [u32], n: usize, levels: usize, start: usize, further: usize, r: Answer) -> Answer
     requires { ⌜ Ready 5 (now s) n r ⌝ }
-    ensures { λ a. ⌜ Grows 5 (now (s .entry)) (now (s .exit)) n r a × ((src : Source) → Lies src n (now (s .entry)) → Passes r a × ((name : T.Name) (names : List T.Name) → further ≡ length names → freeOf (length (now (s .entry))) r ≡ start + length (postNames (name ∷ names)) → Goes (C.given (readers (within levels)) name names src) (Gives (name ∷ names)) (now (s .entry)) (now (s .exit)) r a)) ⌝ }
+    ensures { λ a. ⌜ Grows 5 (now (s .entry)) (now (s .exit)) n r a × ((src : Source) → Lies src n (now (s .entry)) → Passes r a × ((name : T.Name) (names : List T.Name) → further ≡ length names → freeOf (length (now (s .entry))) r ≡ start + length (encodeNames (name ∷ names)) → Goes (C.given (readers (within levels)) name names src) (Gives (name ∷ names)) (now (s .entry)) (now (s .exit)) r a)) ⌝ }
 {
     let kind = kind_here(s, n, r);
     if is_vector(kind, further) {
@@ -681,7 +681,7 @@ fn init(s: &mut [u32], n: usize, levels: usize, start: usize, further: usize, r:
 // {, expression}, so many of them
 fn rest(s: &mut [u32], n: usize, levels: usize, number: usize, r: Answer) -> Answer
     requires { ⌜ Ready 0 (now s) n r ⌝ }
-    ensures { λ a. ⌜ Reading 0 (C.further (readers (within levels)) number) (Is postExpressions) (now (s .entry)) (now (s .exit)) n r a ⌝ }
+    ensures { λ a. ⌜ Reading 0 (C.further (readers (within levels)) number) (Is encodeExpressions) (now (s .entry)) (now (s .exit)) n r a ⌝ }
 {
     let mut left = number;
     let mut a = r;
@@ -696,7 +696,7 @@ fn rest(s: &mut [u32], n: usize, levels: usize, number: usize, r: Answer) -> Ans
 // {, expression} := expression {, expression}, after the first expression, which begins at lo; as many right as left
 fn set(s: &mut [u32], n: usize, levels: usize, lo: usize, r: Answer) -> Answer
     requires { ⌜ Ready 0 (now s) n r ⌝ }
-    ensures { λ a. ⌜ Fits 0 (now (s .entry)) (now (s .exit)) n r a × ((src : Source) → Lies src n (now (s .entry)) → Passes r a × ((e : T.Expression) → freeOf (length (now (s .entry))) r ≡ lo + length (post e) → Goes (C.assignment (readers (within levels)) e src) (After e) (now (s .entry)) (now (s .exit)) r a)) ⌝ }
+    ensures { λ a. ⌜ Fits 0 (now (s .entry)) (now (s .exit)) n r a × ((src : Source) → Lies src n (now (s .entry)) → Passes r a × ((e : T.Expression) → freeOf (length (now (s .entry))) r ≡ lo + length (encode e) → Goes (C.assignment (readers (within levels)) e src) (After e) (now (s .entry)) (now (s .exit)) r a)) ⌝ }
 {
     let size = less(free_of(s, r), lo);
     let left = also(s, n, levels, r);
@@ -711,7 +711,7 @@ fn set(s: &mut [u32], n: usize, levels: usize, lo: usize, r: Answer) -> Answer
 // An assignment, or an expression that is a call.
 fn bare(s: &mut [u32], n: usize, levels: usize, r: Answer) -> Answer
     requires { ⌜ Ready 0 (now s) n r ⌝ }
-    ensures { λ a. ⌜ Reading 1 (C.assignmentOrCall (readers (within levels))) (Is postUnlabelled) (now (s .entry)) (now (s .exit)) n r a ⌝ }
+    ensures { λ a. ⌜ Reading 1 (C.assignmentOrCall (readers (within levels))) (Is encodeUnlabelled) (now (s .entry)) (now (s .exit)) n r a ⌝ }
 {
     let lo = free_of(s, r);
     let first = expr(s, n, levels, LOOSEST, r);

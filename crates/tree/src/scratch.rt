@@ -9,7 +9,7 @@ ghost use mathlib.Core.Bool.{false};
 ghost use mathlib.Core.List.{[], _∷_};
 ghost use lib.ListN.{length};
 ghost use Rattle.language.specs.Reader.{Source, valueAt, placeAt, the, optional};
-ghost use Rattle.tree.specs.Post.{item, suffixedKind};
+ghost use Rattle.tree.specs.Encoding.{item, suffixedKind};
 ghost use Rattle.tree.specs.Reads.{Lies, Ready, Fits, Grows, Here, KindHere, Refuses, Adds, recordFrom, behindFrom, Seals, freeOf, Reading, Is};
 ghost use Rattle.tree.specs.Between.{CallHere, PlaceHere};
 

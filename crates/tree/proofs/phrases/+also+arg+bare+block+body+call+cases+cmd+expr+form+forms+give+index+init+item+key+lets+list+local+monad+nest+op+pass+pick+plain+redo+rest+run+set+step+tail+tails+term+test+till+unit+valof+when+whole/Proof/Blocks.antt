@@ -16,11 +16,12 @@ use lib.ListN.{length}
 use lib.Dec.{eqb}
 use native.Mathlib.Omega.{arith}
 use borrow.Author.Needs.{needs}
+use Rattle.language.specs.Kinds as K
 use Rattle.language.specs.Tree as T
 use Rattle.language.specs.Reader.{Source, manyUpTo, moreUpTo}
 use Rattle.language.specs.Commands as C
 use Rattle.language.specs.Grammar.{within, readers}
-use Rattle.tree.specs.Post.{postCommands, postLocals}
+use Rattle.tree.specs.Encoding.{encodeCommands, encodeLocals}
 use Prim.Native.Nat.{_+_, _-_, ℕ}
 use Rattle.tree.specs.Reads.{Lies, Fits, freeOf}
 use phrases.arg.Reads as arg
@@ -204,7 +205,7 @@ abbrev list-cs : ℕ → list-lts.Claims
 list-cs t = (kind-here-reads.Asked, kind-here-reads.Learnt, expect-reads.Asked, expect-reads.Learnt, item-below t, item.Post, refuse-reads.Asked, refuse-reads.Learnt)
 
 abbrev list-Inv-loop : list-lts.InvT-loop
-list-Inv-loop s₀ n levels turns₀ a₀ s turns a = Fits 0 s₀ s n a₀ a × (length s ≡ length s₀) × ((src : Source) → Lies src n s₀ → Partly (moreUpTo turns₀ T.noCommands (C.listed (readers (within levels))) src) (moreUpTo turns T.noCommands (C.listed (readers (within levels))) src) postCommands s₀ s a₀ a)
+list-Inv-loop s₀ n levels turns₀ a₀ s turns a = Fits 0 s₀ s n a₀ a × (length s ≡ length s₀) × ((src : Source) → Lies src n s₀ → Partly (moreUpTo turns₀ T.noCommands (C.listed (readers (within levels))) src) (moreUpTo turns T.noCommands (C.listed (readers (within levels))) src) encodeCommands s₀ s a₀ a)
 
 abbrev list-μ-loop : list-lts.MeasureT-loop
 list-μ-loop s₀ n levels turns₀ a₀ s turns a = turns
@@ -222,7 +223,7 @@ list-same-length : (t : ℕ) → list-lts.Need-same-length (list-cs t) (list-at 
 list-same-length t c = search needs
 
 list-returns : (t : ℕ) → list-lts.Need-returns (list-cs t) (list-at t) list.Post list-Inv-loop list-μ-loop
-list-returns t c = (both (c .before .before .before .before .before .before .loop .inv .0) (c .expect .ensures .0), λ src l. closes (c .before .before .before .before .before .before .loop .inv .2 src l) (list-end T.noCommands (C.listed (readers (within (c .before .before .before .before .before .before .before .before .args .levels)))) src (c .before .before .before .kind-here .ensures src (lies-still l (c .before .before .before .before .before .before .loop .inv .0 .kept))) postCommands no-command-words (c .before .before .before .before .before .before .loop .turns) (omega arith) (c .before .before .if1 .taken) (c .expect .ensures .1 src (lies-still l (c .before .before .before .before .before .before .loop .inv .0 .kept)))))
+list-returns t c = (both (c .before .before .before .before .before .before .loop .inv .0) (c .expect .ensures .0), λ src l. closes (c .before .before .before .before .before .before .loop .inv .2 src l) (list-end T.noCommands (C.listed (readers (within (c .before .before .before .before .before .before .before .before .args .levels)))) src (c .before .before .before .kind-here .ensures src (lies-still l (c .before .before .before .before .before .before .loop .inv .0 .kept))) encodeCommands no-command-words (c .before .before .before .before .before .before .loop .turns) (omega arith) (c .before .before .if1 .taken) (c .expect .ensures .1 src (lies-still l (c .before .before .before .before .before .before .loop .inv .0 .kept)))))
 
 list-expect-requires-2 : (t : ℕ) → list-lts.Need-expect-requires-2 (list-cs t) (list-at t) list.Post list-Inv-loop list-μ-loop
 list-expect-requires-2 t c κs = (smaller (fitted (c .before .before .before .before .before .before .before .pre .1) (c .before .before .before .before .before .loop .inv .0) (c .before .before .before .before .before .loop .inv .1) (omega arith)) (omega arith), (omega arith))
@@ -237,7 +238,7 @@ list-same-length-2 : (t : ℕ) → list-lts.Need-same-length-2 (list-cs t) (list
 list-same-length-2 t c = search needs
 
 list-returns-2 : (t : ℕ) → list-lts.Need-returns-2 (list-cs t) (list-at t) list.Post list-Inv-loop list-μ-loop
-list-returns-2 t c = (weaker (omega arith) (both (both (c .before .before .before .before .before .before .before .before .before .before .before .loop .inv .0) (c .before .before .before .before .before .expect2 .ensures .0)) (c .expect3 .ensures .0)), λ src l. closes (c .before .before .before .before .before .before .before .before .before .before .before .loop .inv .2 src l) (list-semicolon-end T.noCommands (C.listed (readers (within (c .before .before .before .before .before .before .before .before .before .before .before .before .before .args .levels)))) src (c .before .before .before .before .before .before .before .before .kind-here .ensures src (lies-still l (c .before .before .before .before .before .before .before .before .before .before .before .loop .inv .0 .kept))) postCommands no-command-words (c .before .before .before .before .before .before .before .before .before .before .before .loop .turns) (omega arith) (c .before .before .before .before .before .before .before .if1 .left) (c .before .before .before .kind-here2 .ensures src (lies-still l (c .before .before .before .before .before .before .before .before .before .before .before .loop .inv .0 .kept))) (c .before .before .if2 .taken) (c .before .before .before .before .before .expect2 .ensures .1 src (lies-still l (c .before .before .before .before .before .before .before .before .before .before .before .loop .inv .0 .kept))) (c .expect3 .ensures .1 src (lies-still l (c .before .before .before .before .before .before .before .before .before .before .before .loop .inv .0 .kept)))))
+list-returns-2 t c = (weaker (omega arith) (both (both (c .before .before .before .before .before .before .before .before .before .before .before .loop .inv .0) (c .before .before .before .before .before .expect2 .ensures .0)) (c .expect3 .ensures .0)), λ src l. closes (c .before .before .before .before .before .before .before .before .before .before .before .loop .inv .2 src l) (list-semicolon-end T.noCommands (C.listed (readers (within (c .before .before .before .before .before .before .before .before .before .before .before .before .before .args .levels)))) src (c .before .before .before .before .before .before .before .before .kind-here .ensures src (lies-still l (c .before .before .before .before .before .before .before .before .before .before .before .loop .inv .0 .kept))) encodeCommands no-command-words (c .before .before .before .before .before .before .before .before .before .before .before .loop .turns) (omega arith) (c .before .before .before .before .before .before .before .if1 .left) (c .before .before .before .kind-here2 .ensures src (lies-still l (c .before .before .before .before .before .before .before .before .before .before .before .loop .inv .0 .kept))) (c .before .before .if2 .taken) (c .before .before .before .before .before .expect2 .ensures .1 src (lies-still l (c .before .before .before .before .before .before .before .before .before .before .before .loop .inv .0 .kept))) (c .expect3 .ensures .1 src (lies-still l (c .before .before .before .before .before .before .before .before .before .before .before .loop .inv .0 .kept)))))
 
 list-item-requires : (t : ℕ) → list-lts.Need-item-requires (list-cs t) (list-at t) list.Post list-Inv-loop list-μ-loop
 list-item-requires t c κs = (omega (arith, c .before .before .before .before .before .before .before .before .before .before .before .before .pre .0), smaller (fitted (fitted (c .before .before .before .before .before .before .before .before .before .before .before .before .pre .1) (c .before .before .before .before .before .before .before .before .before .before .loop .inv .0) (c .before .before .before .before .before .before .before .before .before .before .loop .inv .1) (omega arith)) (c .before .before .before .before .expect2 .ensures .0) refl (omega arith)) (omega arith))
@@ -342,7 +343,7 @@ abbrev lets-cs : ℕ → lets-lts.Claims
 lets-cs t = (kind-here-reads.Asked, kind-here-reads.Learnt, local-below t, local.Post)
 
 abbrev locals-Inv-loop : lets-lts.InvT-loop
-locals-Inv-loop s₀ n levels turns₀ a₀ s turns a = Fits 0 s₀ s n a₀ a × (length s ≡ length s₀) × ((src : Source) → Lies src n s₀ → Partly (manyUpTo turns₀ T.noLocals (λ kind. eqb kind 3) (C.local (readers (within levels))) src) (manyUpTo turns T.noLocals (λ kind. eqb kind 3) (C.local (readers (within levels))) src) postLocals s₀ s a₀ a)
+locals-Inv-loop s₀ n levels turns₀ a₀ s turns a = Fits 0 s₀ s n a₀ a × (length s ≡ length s₀) × ((src : Source) → Lies src n s₀ → Partly (manyUpTo turns₀ T.noLocals (λ kind. eqb kind K.LET) (C.local (readers (within levels))) src) (manyUpTo turns T.noLocals (λ kind. eqb kind K.LET) (C.local (readers (within levels))) src) encodeLocals s₀ s a₀ a)
 
 abbrev locals-μ-loop : lets-lts.MeasureT-loop
 locals-μ-loop s₀ n levels turns₀ a₀ s turns a = turns
@@ -357,7 +358,7 @@ lets-same-length : (t : ℕ) → lets-lts.Need-same-length (lets-cs t) (lets-at 
 lets-same-length t c = search needs
 
 lets-returns : (t : ℕ) → lets-lts.Need-returns (lets-cs t) (lets-at t) lets.Post locals-Inv-loop locals-μ-loop
-lets-returns t c = (c .before .before .before .before .loop .inv .0, λ src l. ends T.noLocals no-local-words (λ at free e. last T.noLocals (λ kind. eqb kind 3) (C.local (readers (within (c .before .before .before .before .before .before .args .levels)))) src _ at (ne-eqb _ _ (λ z. c .if1 .taken ((c .before .kind-here .ensures src (lies-still l (c .before .before .before .before .loop .inv .0 .kept))) .here at free e ∙ z)))) (c .before .before .before .before .loop .inv .2 src l))
+lets-returns t c = (c .before .before .before .before .loop .inv .0, λ src l. ends T.noLocals no-local-words (λ at free e. last T.noLocals (λ kind. eqb kind K.LET) (C.local (readers (within (c .before .before .before .before .before .before .args .levels)))) src _ at (ne-eqb _ _ (λ z. c .if1 .taken ((c .before .kind-here .ensures src (lies-still l (c .before .before .before .before .loop .inv .0 .kept))) .here at free e ∙ z)))) (c .before .before .before .before .loop .inv .2 src l))
 
 lets-local-requires : (t : ℕ) → lets-lts.Need-local-requires (lets-cs t) (lets-at t) lets.Post locals-Inv-loop locals-μ-loop
 lets-local-requires t c κs = (omega (arith, c .before .before .before .before .before .before .before .pre .0), smaller (fitted (c .before .before .before .before .before .before .before .pre .1) (c .before .before .before .before .before .loop .inv .0) (c .before .before .before .before .before .loop .inv .1) (omega arith)) (omega arith))
@@ -369,13 +370,13 @@ lets-loop-less : (t : ℕ) → lets-lts.Need-loop-less (lets-cs t) (lets-at t) l
 lets-loop-less t c = omega arith
 
 lets-loop-again : (t : ℕ) → lets-lts.Need-loop-again (lets-cs t) (lets-at t) lets.Post locals-Inv-loop locals-μ-loop
-lets-loop-again t c = (weaker (omega arith) (both (c .before .before .before .before .before .before .before .before .loop .inv .0) (c .before .before .local .ensures .0)), c .before .before .local .kept .0 ∙ c .before .before .before .before .before .before .before .before .loop .inv .1, λ src l. more (manyUpTo (c .before .before .before .before .before .before .before .before .loop .turns - 1) T.noLocals (λ kind. eqb kind 3) (C.local (readers (within (c .before .before .before .before .before .before .before .before .before .before .args .levels)))) src) (λ at free e. turned T.noLocals (λ kind. eqb kind 3) (C.local (readers (within (c .before .before .before .before .before .before .before .before .before .before .args .levels)))) src (c .before .before .before .before .before .before .before .before .loop .turns) at (omega arith) (eq-eqb _ _ (sym ((c .before .before .before .before .before .kind-here .ensures src (lies-still l (c .before .before .before .before .before .before .before .before .loop .inv .0 .kept))) .here at free e) ∙ c .before .before .before .before .if1 .left))) (c .before .before .before .before .before .before .before .before .loop .inv .2 src l) (c .before .before .local .ensures .1 src (lies-still l (c .before .before .before .before .before .before .before .before .loop .inv .0 .kept))))
+lets-loop-again t c = (weaker (omega arith) (both (c .before .before .before .before .before .before .before .before .loop .inv .0) (c .before .before .local .ensures .0)), c .before .before .local .kept .0 ∙ c .before .before .before .before .before .before .before .before .loop .inv .1, λ src l. more (manyUpTo (c .before .before .before .before .before .before .before .before .loop .turns - 1) T.noLocals (λ kind. eqb kind K.LET) (C.local (readers (within (c .before .before .before .before .before .before .before .before .before .before .args .levels)))) src) (λ at free e. turned T.noLocals (λ kind. eqb kind K.LET) (C.local (readers (within (c .before .before .before .before .before .before .before .before .before .before .args .levels)))) src (c .before .before .before .before .before .before .before .before .loop .turns) at (omega arith) (eq-eqb _ _ (sym ((c .before .before .before .before .before .kind-here .ensures src (lies-still l (c .before .before .before .before .before .before .before .before .loop .inv .0 .kept))) .here at free e) ∙ c .before .before .before .before .if1 .left))) (c .before .before .before .before .before .before .before .before .loop .inv .2 src l) (c .before .before .local .ensures .1 src (lies-still l (c .before .before .before .before .before .before .before .before .loop .inv .0 .kept))))
 
 lets-same-length-2 : (t : ℕ) → lets-lts.Need-same-length-2 (lets-cs t) (lets-at t) lets.Post locals-Inv-loop locals-μ-loop
 lets-same-length-2 t c = search needs
 
 lets-returns-2 : (t : ℕ) → lets-lts.Need-returns-2 (lets-cs t) (lets-at t) lets.Post locals-Inv-loop locals-μ-loop
-lets-returns-2 t c = (c .before .loop .inv .0, λ src l. ends T.noLocals no-local-words (λ at free e. spent T.noLocals (λ kind. eqb kind 3) (C.local (readers (within (c .before .before .before .args .levels)))) src _ at (omega arith)) (c .before .loop .inv .2 src l))
+lets-returns-2 t c = (c .before .loop .inv .0, λ src l. ends T.noLocals no-local-words (λ at free e. spent T.noLocals (λ kind. eqb kind K.LET) (C.local (readers (within (c .before .before .before .args .levels)))) src _ at (omega arith)) (c .before .loop .inv .2 src l))
 
 pub lets-ok : {M : Type 1} (t : ℕ) → lets-lts.Closed (lets-cs t) (lets-at t) lets.Post M
 lets-ok t = lets-lts.spec (lets-cs t) (lets-at t) lets.Post locals-Inv-loop locals-μ-loop (lets-loop-holds t) (lets-kind-here-requires t) (lets-same-length t) (lets-returns t) (lets-local-requires t) (lets-sub-turns t) (lets-loop-less t) (lets-loop-again t) (lets-same-length-2 t) (lets-returns-2 t)

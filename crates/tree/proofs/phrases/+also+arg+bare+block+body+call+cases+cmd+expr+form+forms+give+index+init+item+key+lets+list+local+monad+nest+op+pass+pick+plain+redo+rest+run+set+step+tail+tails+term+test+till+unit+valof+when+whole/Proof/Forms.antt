@@ -19,7 +19,7 @@ use Rattle.language.specs.Reader.{Source, manyUpTo}
 use Rattle.language.specs.Binding.{isRepeat}
 use Rattle.language.specs.Commands as C
 use Rattle.language.specs.Grammar.{within, readers}
-use Rattle.tree.specs.Post.{postRepeats}
+use Rattle.tree.specs.Encoding.{encodeRepeats}
 use Prim.Native.Nat.{_-_, ℕ}
 use Rattle.tree.specs.Reads.{Reads, Lies, Fits, freeOf}
 use phrases.arg.Reads as arg
@@ -234,7 +234,7 @@ abbrev forms-cs : ℕ → forms-lts.Claims
 forms-cs t = (less-reads.Asked, less-reads.Learnt, kind-here-reads.Asked, kind-here-reads.Learnt, is-repeat-reads.Asked, is-repeat-reads.Learnt, form-below t, form.Post)
 
 abbrev forms-Inv-loop : forms-lts.InvT-loop
-forms-Inv-loop s₀ n levels turns₀ a₀ s turns a = Fits 0 s₀ s n a₀ a × (length s ≡ length s₀) × ((src : Source) → Lies src n s₀ → Partly (manyUpTo turns₀ T.noRepeats isRepeat (C.repeatForm (readers (within levels))) src) (manyUpTo turns T.noRepeats isRepeat (C.repeatForm (readers (within levels))) src) postRepeats s₀ s a₀ a)
+forms-Inv-loop s₀ n levels turns₀ a₀ s turns a = Fits 0 s₀ s n a₀ a × (length s ≡ length s₀) × ((src : Source) → Lies src n s₀ → Partly (manyUpTo turns₀ T.noRepeats isRepeat (C.repeatForm (readers (within levels))) src) (manyUpTo turns T.noRepeats isRepeat (C.repeatForm (readers (within levels))) src) encodeRepeats s₀ s a₀ a)
 
 abbrev forms-μ-loop : forms-lts.MeasureT-loop
 forms-μ-loop s₀ n levels turns₀ a₀ s turns a = turns
@@ -267,13 +267,13 @@ forms-same-length : (t : ℕ) → forms-lts.Need-same-length (forms-cs t) (forms
 forms-same-length t c = search needs
 
 forms-returns : (t : ℕ) → forms-lts.Need-returns (forms-cs t) (forms-at t) forms.Post forms-Inv-loop forms-μ-loop
-forms-returns t c = (c .before .before .before .before .before .loop .inv .0, λ src l. subst (λ (m : ℕ). Reads (manyUpTo m T.noRepeats isRepeat (C.repeatForm (readers (within (c .before .before .before .before .before .before .before .before .args .levels)))) src) postRepeats (c .before .before .before .before .before .before .before .before .args .s .now) (c .before .before .before .before .before .loop .s) (c .before .before .before .before .before .before .before .before .args .r) (c .before .before .before .before .before .loop .a)) (c .before .before .before .before .before .before .less .ensures) (ends T.noRepeats no-repeat-words (λ at free e. last T.noRepeats isRepeat (C.repeatForm (readers (within (c .before .before .before .before .before .before .before .before .args .levels)))) src _ at (sym (c .before .is-repeat .ensures ∙ ap isRepeat (c .before .before .kind-here .ensures src (lies-still l (c .before .before .before .before .before .loop .inv .0 .kept)) .here at free e)) ∙ c .if1 .left)) (c .before .before .before .before .before .loop .inv .2 src l)))
+forms-returns t c = (c .before .before .before .before .before .loop .inv .0, λ src l. subst (λ (m : ℕ). Reads (manyUpTo m T.noRepeats isRepeat (C.repeatForm (readers (within (c .before .before .before .before .before .before .before .before .args .levels)))) src) encodeRepeats (c .before .before .before .before .before .before .before .before .args .s .now) (c .before .before .before .before .before .loop .s) (c .before .before .before .before .before .before .before .before .args .r) (c .before .before .before .before .before .loop .a)) (c .before .before .before .before .before .before .less .ensures) (ends T.noRepeats no-repeat-words (λ at free e. last T.noRepeats isRepeat (C.repeatForm (readers (within (c .before .before .before .before .before .before .before .before .args .levels)))) src _ at (sym (c .before .is-repeat .ensures ∙ ap isRepeat (c .before .before .kind-here .ensures src (lies-still l (c .before .before .before .before .before .loop .inv .0 .kept)) .here at free e)) ∙ c .if1 .left)) (c .before .before .before .before .before .loop .inv .2 src l)))
 
 forms-same-length-2 : (t : ℕ) → forms-lts.Need-same-length-2 (forms-cs t) (forms-at t) forms.Post forms-Inv-loop forms-μ-loop
 forms-same-length-2 t c = search needs
 
 forms-returns-2 : (t : ℕ) → forms-lts.Need-returns-2 (forms-cs t) (forms-at t) forms.Post forms-Inv-loop forms-μ-loop
-forms-returns-2 t c = (c .before .loop .inv .0, λ src l. subst (λ (m : ℕ). Reads (manyUpTo m T.noRepeats isRepeat (C.repeatForm (readers (within (c .before .before .before .before .args .levels)))) src) postRepeats (c .before .before .before .before .args .s .now) (c .before .loop .s) (c .before .before .before .before .args .r) (c .before .loop .a)) (c .before .before .less .ensures) (ends T.noRepeats no-repeat-words (λ at free e. spent T.noRepeats isRepeat (C.repeatForm (readers (within (c .before .before .before .before .args .levels)))) src _ at (omega arith)) (c .before .loop .inv .2 src l)))
+forms-returns-2 t c = (c .before .loop .inv .0, λ src l. subst (λ (m : ℕ). Reads (manyUpTo m T.noRepeats isRepeat (C.repeatForm (readers (within (c .before .before .before .before .args .levels)))) src) encodeRepeats (c .before .before .before .before .args .s .now) (c .before .loop .s) (c .before .before .before .before .args .r) (c .before .loop .a)) (c .before .before .less .ensures) (ends T.noRepeats no-repeat-words (λ at free e. spent T.noRepeats isRepeat (C.repeatForm (readers (within (c .before .before .before .before .args .levels)))) src _ at (omega arith)) (c .before .loop .inv .2 src l)))
 
 pub forms-ok : {M : Type 1} (t : ℕ) → forms-lts.Closed (forms-cs t) (forms-at t) forms.Post M
 forms-ok t = forms-lts.spec (forms-cs t) (forms-at t) forms.Post forms-Inv-loop forms-μ-loop (forms-less-requires t) (forms-loop-holds t) (forms-kind-here-requires t) (forms-is-repeat-requires t) (forms-form-requires t) (forms-sub-turns t) (forms-loop-less t) (forms-loop-again t) (forms-same-length t) (forms-returns t) (forms-same-length-2 t) (forms-returns-2 t)

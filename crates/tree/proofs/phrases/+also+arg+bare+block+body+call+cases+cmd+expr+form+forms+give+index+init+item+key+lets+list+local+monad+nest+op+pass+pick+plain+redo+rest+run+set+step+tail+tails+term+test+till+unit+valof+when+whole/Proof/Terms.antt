@@ -23,7 +23,7 @@ use Rattle.language.specs.Binding.{bindingOf, isSuffix}
 use Rattle.language.specs.Expressions as E
 use Rattle.language.specs.Commands as C
 use Rattle.language.specs.Grammar.{within, readers}
-use Rattle.tree.specs.Post.{postExpressions, postOperations}
+use Rattle.tree.specs.Encoding.{encodeExpressions, encodeOperations}
 use Prim.Native.Nat.{_+_, _-_, ℕ}
 use Rattle.tree.specs.Reads.{Reads, Lies, Fits, Goes, Is, freeOf}
 use Rattle.tree.specs.Between.{Ended, aFurther}
@@ -150,7 +150,7 @@ abbrev run-cs : ℕ → run-lts.Claims
 run-cs t = (further-most-reads.Asked, further-most-reads.Learnt, kind-here-reads.Asked, kind-here-reads.Learnt, binding-of-reads.Asked, binding-of-reads.Learnt, op-below t, op.Post)
 
 abbrev chain-Inv-loop : run-lts.InvT-loop
-chain-Inv-loop s₀ n levels binding right turns₀ a₀ s turns a = Fits 0 s₀ s n a₀ a × (length s ≡ length s₀) × ((src : Source) → Lies src n s₀ → Partly (manyUpTo turns₀ T.noOperations (λ kind. eqb (bindingOf kind) binding) (E.operation (E.expression (within levels) right)) src) (manyUpTo turns T.noOperations (λ kind. eqb (bindingOf kind) binding) (E.operation (E.expression (within levels) right)) src) postOperations s₀ s a₀ a)
+chain-Inv-loop s₀ n levels binding right turns₀ a₀ s turns a = Fits 0 s₀ s n a₀ a × (length s ≡ length s₀) × ((src : Source) → Lies src n s₀ → Partly (manyUpTo turns₀ T.noOperations (λ kind. eqb (bindingOf kind) binding) (E.operation (E.expression (within levels) right)) src) (manyUpTo turns T.noOperations (λ kind. eqb (bindingOf kind) binding) (E.operation (E.expression (within levels) right)) src) encodeOperations s₀ s a₀ a)
 
 abbrev chain-μ-loop : run-lts.MeasureT-loop
 chain-μ-loop s₀ n levels binding right turns₀ a₀ s turns a = turns
@@ -171,7 +171,7 @@ run-same-length : (t : ℕ) → run-lts.Need-same-length (run-cs t) (run-at t) r
 run-same-length t c = search needs
 
 run-returns : (t : ℕ) → run-lts.Need-returns (run-cs t) (run-at t) run.Post chain-Inv-loop chain-μ-loop
-run-returns t c = (c .before .before .before .before .before .loop .inv .0, λ src l. subst (λ (m : ℕ). Reads (manyUpTo m T.noOperations (λ kind. eqb (bindingOf kind) (c .before .before .before .before .before .before .before .before .args .binding)) (E.operation (E.expression (within (c .before .before .before .before .before .before .before .before .args .levels)) (c .before .before .before .before .before .before .before .before .args .right))) src) postOperations (c .before .before .before .before .before .before .before .before .args .s .now) (c .before .before .before .before .before .loop .s) (c .before .before .before .before .before .before .before .before .args .r) (c .before .before .before .before .before .loop .a)) (c .before .before .before .before .before .before .further-most .ensures) (ends T.noOperations no-operation-words (λ at free e. last T.noOperations (λ kind. eqb (bindingOf kind) (c .before .before .before .before .before .before .before .before .args .binding)) (E.operation (E.expression (within (c .before .before .before .before .before .before .before .before .args .levels)) (c .before .before .before .before .before .before .before .before .args .right))) src _ at (ne-eqb _ _ (λ z. c .if1 .taken (c .before .binding-of .ensures ∙ ap bindingOf (c .before .before .kind-here .ensures src (lies-still l (c .before .before .before .before .before .loop .inv .0 .kept)) .here at free e) ∙ z)))) (c .before .before .before .before .before .loop .inv .2 src l)))
+run-returns t c = (c .before .before .before .before .before .loop .inv .0, λ src l. subst (λ (m : ℕ). Reads (manyUpTo m T.noOperations (λ kind. eqb (bindingOf kind) (c .before .before .before .before .before .before .before .before .args .binding)) (E.operation (E.expression (within (c .before .before .before .before .before .before .before .before .args .levels)) (c .before .before .before .before .before .before .before .before .args .right))) src) encodeOperations (c .before .before .before .before .before .before .before .before .args .s .now) (c .before .before .before .before .before .loop .s) (c .before .before .before .before .before .before .before .before .args .r) (c .before .before .before .before .before .loop .a)) (c .before .before .before .before .before .before .further-most .ensures) (ends T.noOperations no-operation-words (λ at free e. last T.noOperations (λ kind. eqb (bindingOf kind) (c .before .before .before .before .before .before .before .before .args .binding)) (E.operation (E.expression (within (c .before .before .before .before .before .before .before .before .args .levels)) (c .before .before .before .before .before .before .before .before .args .right))) src _ at (ne-eqb _ _ (λ z. c .if1 .taken (c .before .binding-of .ensures ∙ ap bindingOf (c .before .before .kind-here .ensures src (lies-still l (c .before .before .before .before .before .loop .inv .0 .kept)) .here at free e) ∙ z)))) (c .before .before .before .before .before .loop .inv .2 src l)))
 
 run-op-requires : (t : ℕ) → run-lts.Need-op-requires (run-cs t) (run-at t) run.Post chain-Inv-loop chain-μ-loop
 run-op-requires t c κs = omega (arith, c .before .before .before .before .before .before .before .before .before .pre .0, c .before .before .before .before .before .before .before .before .before .pre .1, c .before .before .before .before .before .before .loop .inv .0, c .before .before .before .before .before .before .loop .inv .1, alive (c .before .before .before .before .before .before .loop .a), c .before .before .before .before .before .before .before .further-most .ensures, binding-positive (c .before .before .before .kind-here .result) (omega (arith, c .before .before .binding-of .ensures, c .before .if1 .left, c .before .before .before .before .before .before .before .before .before .pre .1)))
@@ -189,7 +189,7 @@ run-same-length-2 : (t : ℕ) → run-lts.Need-same-length-2 (run-cs t) (run-at 
 run-same-length-2 t c = search needs
 
 run-returns-2 : (t : ℕ) → run-lts.Need-returns-2 (run-cs t) (run-at t) run.Post chain-Inv-loop chain-μ-loop
-run-returns-2 t c = (c .before .loop .inv .0, λ src l. subst (λ (m : ℕ). Reads (manyUpTo m T.noOperations (λ kind. eqb (bindingOf kind) (c .before .before .before .before .args .binding)) (E.operation (E.expression (within (c .before .before .before .before .args .levels)) (c .before .before .before .before .args .right))) src) postOperations (c .before .before .before .before .args .s .now) (c .before .loop .s) (c .before .before .before .before .args .r) (c .before .loop .a)) (c .before .before .further-most .ensures) (ends T.noOperations no-operation-words (λ at free e. spent T.noOperations (λ kind. eqb (bindingOf kind) (c .before .before .before .before .args .binding)) (E.operation (E.expression (within (c .before .before .before .before .args .levels)) (c .before .before .before .before .args .right))) src _ at (omega arith)) (c .before .loop .inv .2 src l)))
+run-returns-2 t c = (c .before .loop .inv .0, λ src l. subst (λ (m : ℕ). Reads (manyUpTo m T.noOperations (λ kind. eqb (bindingOf kind) (c .before .before .before .before .args .binding)) (E.operation (E.expression (within (c .before .before .before .before .args .levels)) (c .before .before .before .before .args .right))) src) encodeOperations (c .before .before .before .before .args .s .now) (c .before .loop .s) (c .before .before .before .before .args .r) (c .before .loop .a)) (c .before .before .further-most .ensures) (ends T.noOperations no-operation-words (λ at free e. spent T.noOperations (λ kind. eqb (bindingOf kind) (c .before .before .before .before .args .binding)) (E.operation (E.expression (within (c .before .before .before .before .args .levels)) (c .before .before .before .before .args .right))) src _ at (omega arith)) (c .before .loop .inv .2 src l)))
 
 pub run-ok : {M : Type 1} (t : ℕ) → run-lts.Closed (run-cs t) (run-at t) run.Post M
 run-ok t = run-lts.spec (run-cs t) (run-at t) run.Post chain-Inv-loop chain-μ-loop (run-further-most-requires t) (run-loop-holds t) (run-kind-here-requires t) (run-binding-of-requires t) (run-same-length t) (run-returns t) (run-op-requires t) (run-sub-turns t) (run-loop-less t) (run-loop-again t) (run-same-length-2 t) (run-returns-2 t)
@@ -483,7 +483,7 @@ pass-same-length-2 : (t : ℕ) → pass-lts.Need-same-length-2 (pass-cs t) (pass
 pass-same-length-2 t c = search needs
 
 pass-returns-2 : (t : ℕ) → pass-lts.Need-returns-2 (pass-cs t) (pass-at t) pass.Post
-pass-returns-2 t c = (grows-fits (c .before .before .before .before .before .before .before .before .arg .ensures .0) (both (c .before .before .before .before .also .ensures .0) (c .expect2 .ensures .0)) (omega arith), λ src l. (let l₁ = lies-still l (c .before .before .before .before .before .before .before .before .arg .ensures .0 .kept) in let l₂ = lies-still l₁ (c .before .before .before .before .also .ensures .0 .kept) in some-arguments src _ (c .before .before .before .before .before .before .before .before .before .before .before .kind-here .ensures src l) 0 (l .count) (c .before .before .before .before .before .before .before .before .before .before .if1 .left) (c .before .before .before .before .before .before .before .before .arg .ensures .1 src l) (again (Is postExpressions) (λ es w h. record { same = h .same }) (c .before .before .before .before .also .ensures .1 src l₁)) (c .expect2 .ensures .1 src l₂)))
+pass-returns-2 t c = (grows-fits (c .before .before .before .before .before .before .before .before .arg .ensures .0) (both (c .before .before .before .before .also .ensures .0) (c .expect2 .ensures .0)) (omega arith), λ src l. (let l₁ = lies-still l (c .before .before .before .before .before .before .before .before .arg .ensures .0 .kept) in let l₂ = lies-still l₁ (c .before .before .before .before .also .ensures .0 .kept) in some-arguments src _ (c .before .before .before .before .before .before .before .before .before .before .before .kind-here .ensures src l) 0 (l .count) (c .before .before .before .before .before .before .before .before .before .before .if1 .left) (c .before .before .before .before .before .before .before .before .arg .ensures .1 src l) (again (Is encodeExpressions) (λ es w h. record { same = h .same }) (c .before .before .before .before .also .ensures .1 src l₁)) (c .expect2 .ensures .1 src l₂)))
 
 pub pass-ok : {M : Type 1} (t : ℕ) → pass-lts.Closed (pass-cs t) (pass-at t) pass.Post M
 pass-ok t = pass-lts.spec (pass-cs t) (pass-at t) pass.Post (pass-kind-here-requires t) (pass-expect-requires t) (pass-same-length t) (pass-returns t) (pass-arg-requires t) (pass-also-requires t) (pass-expect-requires-2 t) (pass-same-length-2 t) (pass-returns-2 t)
@@ -528,7 +528,7 @@ abbrev rest-cs : ℕ → rest-lts.Claims
 rest-cs t = (expect-reads.Asked, expect-reads.Learnt, arg-below t, arg.Post)
 
 abbrev rest-Inv-loop : rest-lts.InvT-loop
-rest-Inv-loop s₀ n levels number left₀ a₀ s left a = Fits 0 s₀ s n a₀ a × (length s ≡ length s₀) × ((src : Source) → Lies src n s₀ → Partly (C.further (readers (within levels)) left₀ src) (C.further (readers (within levels)) left src) postExpressions s₀ s a₀ a)
+rest-Inv-loop s₀ n levels number left₀ a₀ s left a = Fits 0 s₀ s n a₀ a × (length s ≡ length s₀) × ((src : Source) → Lies src n s₀ → Partly (C.further (readers (within levels)) left₀ src) (C.further (readers (within levels)) left src) encodeExpressions s₀ s a₀ a)
 
 abbrev rest-μ-loop : rest-lts.MeasureT-loop
 rest-μ-loop s₀ n levels number left₀ a₀ s left a = left
