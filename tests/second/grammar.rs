@@ -434,7 +434,15 @@ impl Reader<'_> {
     }
 
     fn conjunction(&mut self) -> Read<Expression> {
-        self.dyadic(&[BOTH], Self::shifts)
+        self.dyadic(&[BOTH], Self::negation)
+    }
+
+    /// NOT and its operand, after which only & and | can follow; or a shift expression.
+    fn negation(&mut self) -> Read<Expression> {
+        match self.kind() {
+            NOT => self.monadic(Self::shifts),
+            _ => self.shifts(),
+        }
     }
 
     fn shifts(&mut self) -> Read<Expression> {

@@ -1,18 +1,18 @@
 //! Takes the tree that the proved reader leaves in scratch apart again, by its layout: in postfix form, a node's parts and
 //! then its record of four entries, the size of the parts, a value, a place and the node's kind. An item of a list has two
-//! entries in front, the size of what follows and a tag. Every entry is checked, so two scratches give one tree only if they
-//! are the same.
+//! entries in front, the size of what follows and a tag; a suffix has them behind it. Every entry is checked, so two scratches
+//! give one tree only if they are the same.
 
 use crate::grammar::{Action, Body, Command, Constant, Declaration, Expression, Function, Label, Local, Tree};
 use crate::symbols::{kind::*, Symbol};
 
 /// Kinds of nodes that are no kind of symbol.
-const MONADIC: u32 = 62;
-const SUFFIXED: u32 = 63;
-const DYADIC: u32 = 64;
-const LABELLED: u32 = 65;
-const REPEATED: u32 = 66;
-const CALLED: u32 = 67;
+const MONADIC: u32 = 128;
+const SUFFIXED: u32 = 129;
+const CALLED: u32 = 130;
+const DYADIC: u32 = 131;
+const LABELLED: u32 = 132;
+const REPEATED: u32 = 133;
 
 const RECORD: usize = 4;
 
@@ -78,6 +78,23 @@ fn items(entries: &[u32]) -> Decoded<Vec<(u32, &[u32])>> {
     match rest {
         [] => Ok(found),
         _ => Err("half an item".to_string()),
+    }
+}
+
+/// The suffixes that these entries are, from the first: the tag and the entries of each.
+fn suffixes(entries: &[u32]) -> Decoded<Vec<(u32, &[u32])>> {
+    let mut found = Vec::new();
+    let mut rest = entries;
+    while let [before @ .., size, tag] = rest {
+        let start = before.len().checked_sub(*size as usize).ok_or_else(|| format!("a suffix of size {size}"))?;
+        let (further, suffix) = before.split_at(start);
+        found.push((*tag, suffix));
+        rest = further;
+    }
+    found.reverse();
+    match rest {
+        [] => Ok(found),
+        _ => Err("half a suffix".to_string()),
     }
 }
 
@@ -352,9 +369,9 @@ impl Decoder<'_> {
 
     /// A primary and all its calls and indexes; the kind says whether the last of these is a call.
     fn suffixed(&self, node: Node) -> Decoded<Expression> {
-        let (primary, suffixes) = split(node.parts, node.value as usize)?;
+        let (primary, after) = split(node.parts, node.value as usize)?;
         node.wants(node.value, only(primary)?.place)?;
-        let suffixes = items(suffixes)?;
+        let suffixes = suffixes(after)?;
         let calls = suffixes.last().is_some_and(|&(tag, _)| tag == OPEN);
         if calls != (node.kind == CALLED) {
             return Err(format!("kind {} for suffixes", node.kind));

@@ -550,9 +550,9 @@ fn reading_g2_monadic_operators() {
     assert_eq!(bracketed("A << NOT B << C"), "(A << (NOT (B << C)))");
     assert_eq!(bracketed("A = NOT B = C"), "(A = (NOT (B = C)))");
     assert_eq!(bracketed("NOT NOT - + A"), "(NOT (NOT (- (+ A))))");
-    // An operand that NOT begins may stand before a relation, once NOT's own operand can take no more.
-    assert_eq!(bracketed("NOT A >> 5 = 14"), "((NOT (A >> 5)) = 14)");
+    // A right operand that NOT begins may stand before a relation, once NOT's own operand can take no more.
     assert_eq!(bracketed("A * NOT B < C < D"), "((A * (NOT (B < C))) < D)");
+    assert_eq!(bracketed("A + NOT B = C = A"), "((A + (NOT (B = C))) = A)");
 }
 
 #[test]
@@ -569,6 +569,10 @@ fn reading_g4_ladder() {
     refused_at_mark(6, "LET F() = A >> 5 ^= 14");
     refused_at_mark(6, "LET F() = 1 < A ^< 3");
     refused_at_mark(6, "LET F() = A = NOT B = C ^~= D");
+    refused_at_mark(6, "LET F() = NOT A = B ^= C");
+    refused_at_mark(6, "LET F() = NOT A >> 5 ^= 14");
+    refused_at_mark(6, "LET F() = A & NOT B = C ^= A");
+    refused_at_mark(6, "LET F() = (NOT A < B ^<= C)");
     assert_eq!(bracketed("14 = A >> 5"), "((14 = A) >> 5)");
     assert_eq!(bracketed("A >> 5 & B = 14"), "((A >> 5) & (B = 14))");
 }

@@ -189,6 +189,15 @@ const SUFFIXED: usize = 6;
 const OPERATORS: [&[&str]; 6] =
     [&["|"], &["&"], &["<<", ">>"], &["=", "~=", "<", "<=", ">", ">="], &["+", "-"], &["*", "/", "REM"]];
 
+/// What NOT is where an operand begins: its own rung, first in an expression or after & or |; the beginning of a tighter
+/// operator's operand; or nothing that may stand there, since a relation follows its rung.
+#[derive(Clone, Copy, PartialEq)]
+enum Not {
+    Rung,
+    Within,
+    Never,
+}
+
 impl Maker<'_> {
     fn add(&mut self, written: &str) {
         self.tokens.extend(tokens(written));
@@ -400,7 +409,7 @@ impl Maker<'_> {
                 0 => self.expression(depth, false),
                 1 => {
                     self.add("!");
-                    self.ladder(SUFFIXED, depth, false);
+                    self.ladder(SUFFIXED, depth, false, Not::Within);
                 }
                 2 => {
                     self.name();
@@ -497,11 +506,11 @@ impl Maker<'_> {
 
     fn expression(&mut self, depth: usize, closed: bool) {
         let loosest = self.random.below(SUFFIXED + 1);
-        self.ladder(loosest, depth, closed);
+        self.ladder(loosest, depth, closed, Not::Rung);
     }
 
     /// Operands and operators of one binding level; the tighter levels are within the operands.
-    fn ladder(&mut self, level: usize, depth: usize, closed: bool) {
+    fn ladder(&mut self, level: usize, depth: usize, closed: bool, not: Not) {
         let small = depth == 0 || self.full();
         let more = match self.random.below(6) {
             _ if small => 0,
@@ -510,28 +519,30 @@ impl Maker<'_> {
             _ => 0,
         };
         if level == SUFFIXED {
-            self.operand(depth, closed && more == 0);
+            self.operand(depth, closed && more == 0, not);
             for index in 1..=more {
                 if self.random.one_in(2) {
                     self.arguments(depth);
                 } else {
                     self.add("!");
-                    self.operand(depth, closed && index == more);
+                    self.operand(depth, closed && index == more, Not::Within);
                 }
             }
             return;
         }
-        self.ladder(level + 1, depth, closed && more == 0);
+        let first = if level == RELATION && more > 0 && not == Not::Rung { Not::Never } else { not };
+        self.ladder(level + 1, depth, closed && more == 0, first);
         for index in 1..=more {
             let operator = self.random.pick(OPERATORS[level]);
             self.add(operator);
             // The right operand of a shift is a sum.
             let right = if level == SHIFTS { SUM } else { level + 1 };
-            self.ladder(right, depth.saturating_sub(1), closed && index == more);
+            let not = if level < SHIFTS { Not::Rung } else { Not::Within };
+            self.ladder(right, depth.saturating_sub(1), closed && index == more, not);
         }
     }
 
-    fn operand(&mut self, depth: usize, closed: bool) {
+    fn operand(&mut self, depth: usize, closed: bool, not: Not) {
         if depth == 0 || self.full() {
             return self.plain();
         }
@@ -545,16 +556,16 @@ impl Maker<'_> {
             2 => {
                 let operator = self.random.pick(&["!", "@"]);
                 self.add(operator);
-                self.ladder(SUFFIXED, inner, closed);
+                self.ladder(SUFFIXED, inner, closed, Not::Within);
             }
             3 => {
                 let operator = self.random.pick(&["+", "-"]);
                 self.add(operator);
-                self.ladder(PRODUCT, inner, closed);
+                self.ladder(PRODUCT, inner, closed, Not::Within);
             }
-            4 => {
+            4 if not != Not::Never => {
                 self.add("NOT");
-                self.ladder(SHIFTS, inner, closed);
+                self.ladder(SHIFTS, inner, closed, Not::Within);
             }
             5 => {
                 self.add("VALOF");

@@ -11,7 +11,7 @@ use Rattle.language.specs.Kinds as K
 use Rattle.language.specs.Binding.{LOOSEST, isLabel, isGuard, isLeave, isRepeat, isDeclaration, goesOnAssignment, beginsCommand}
 use Rattle.language.specs.Tree as T
 use Rattle.language.specs.Tree.{Name, Label, Expression, Expressions, Command, Commands, Unlabelled, Repeats, Locals, Function, Declaration, Program, isCall, count}
-use Rattle.language.specs.Depth.{depth, expressionsDepth, commandDepth, commandsDepth, unlabelledDepth, repeatsDepth, localsDepth, bodyDepth, functionsDepth, declarationDepth, programDepth}
+use Rattle.language.proofs.Depth.{depth, expressionsDepth, commandDepth, commandsDepth, unlabelledDepth, repeatsDepth, localsDepth, bodyDepth, functionsDepth, declarationDepth, programDepth}
 use Rattle.language.specs.Reader.{Source, Out, ok, no, Reader, _>>=_, return, kindAt, is, unexpected, any, here, the, optional, aName, many, items, furtherItems, upToClose}
 use Rattle.language.specs.Expressions as E
 use Rattle.language.specs.Expressions.{Readers, Inside, shut, inside, opening}

@@ -11,7 +11,7 @@ use Rattle.language.specs.Kinds as K
 use Rattle.language.specs.Binding.{bindingOf, RELATION, LOOSEST, isMonadic, reachOf, isSuffix, isLabel, isRepeat, goesOnAssignment, beginsCommand}
 use Rattle.language.specs.Tree as T
 use Rattle.language.specs.Tree.{Expression, Expressions, Suffixes, Operations, Command, Commands, Unlabelled, Repeats, Locals, withSuffixes, withOperations, isCall, count}
-use Rattle.language.specs.Depth.{depth, expressionsDepth, suffixesDepth, operationsDepth, commandDepth, commandsDepth, unlabelledDepth, repeatsDepth, localsDepth}
+use Rattle.language.proofs.Depth.{depth, expressionsDepth, suffixesDepth, operationsDepth, commandDepth, commandsDepth, unlabelledDepth, repeatsDepth, localsDepth}
 use Rattle.language.specs.Reader.{Source, Out, ok, no, Reader, return, kindAt, is, unexpected, any, here, the, optional, aName, manyUpTo, many, items, furtherItems, upToClose}
 use Rattle.language.specs.Expressions as E
 use Rattle.language.specs.Expressions.{Readers, Inside, shut, inside, opening}
@@ -160,7 +160,7 @@ module _ {d : ℕ} {inner : Inside} (l : LowInside d inner) where
   operand = gives-cond (λ s at. isMonadic (kindAt s at)) _ _ (deeper monadic (omega arith)) suffixed
 
   module _ {m : ℕ} where
-    operation : (right : Reader Expression) → Gives (Low m) right → Gives (Keeps (LowOperations m)) (E.operation inner right)
+    operation : (right : Reader Expression) → Gives (Low m) right → Gives (Keeps (LowOperations m)) (E.operation right)
     unfolding E.operation depth
     operation right g =
         gives-bind any _ gives-any (λ x _. gives-bind right _ g (λ e p. gives-return _ (record { keeps = λ os q. record { low = omega (arith, p .low, q .low) } })))
@@ -169,12 +169,12 @@ module _ {d : ℕ} {inner : Inside} (l : LowInside d inner) where
     unfolding depth
     no-operations = record { low = omega arith }
 
-    operations : (b : ℕ) (right : Reader Expression) → Gives (Low m) right → Gives (LowOperations m) (E.operations inner b right)
+    operations : (b : ℕ) (right : Reader Expression) → Gives (Low m) right → Gives (LowOperations m) (E.operations b right)
     unfolding E.operations
     operations b right g =
-        record { at-each = λ s at. gives-many-up-to (LowOperations m) T.noOperations no-operations _ (operation right g) (E.mostOf inner b s) (λ kind. eqb (bindingOf kind) b) .at-each s at }
+        record { at-each = λ s at. gives-many-up-to (LowOperations m) T.noOperations no-operations _ (operation right g) (E.mostOf b s) (λ kind. eqb (bindingOf kind) b) .at-each s at }
 
-    chain : (b : ℕ) {left right : Reader Expression} → Gives (Low m) left → Gives (Low m) right → Gives (Low (suc m)) (E.chain inner b left right)
+    chain : (b : ℕ) {left right : Reader Expression} → Gives (Low m) left → Gives (Low m) right → Gives (Low (suc m)) (E.chain b left right)
     unfolding E.chain
     chain b {left} {right} f g =
         gives-bind left _ f (λ e p. gives-bind _ _ (operations b right g) (λ os q. gives-return _ (with-operations m e os p q)))
@@ -195,13 +195,17 @@ module _ {d : ℕ} {inner : Inside} (l : LowInside d inner) where
   unfolding E.shifts
   shifts = deeper (chain 4 relations (deeper sums (omega arith))) (omega arith)
 
+  negations : Gives (Low (6 + d)) (E.negations inner)
+  unfolding E.negations
+  negations = gives-cond (λ s at. is K.NOT s at) _ _ (deeper monadic (omega arith)) shifts
+
   conjunctions : Gives (Low (7 + d)) (E.conjunctions inner)
   unfolding E.conjunctions
-  conjunctions = deeper (chain 5 shifts shifts) (omega arith)
+  conjunctions = deeper (chain 6 negations negations) (omega arith)
 
   disjunctions : Gives (Low (8 + d)) (E.disjunctions inner)
   unfolding E.disjunctions
-  disjunctions = deeper (chain 6 conjunctions conjunctions) (omega arith)
+  disjunctions = deeper (chain 7 conjunctions conjunctions) (omega arith)
 
   pub expression : (binding : ℕ) → Gives (Low (8 + d)) (E.expression inner binding)
   unfolding E.expression
@@ -210,5 +214,6 @@ module _ {d : ℕ} {inner : Inside} (l : LowInside d inner) where
   expression (suc (suc zero)) = deeper sums (omega arith)
   expression (suc (suc (suc zero))) = deeper relations (omega arith)
   expression (suc (suc (suc (suc zero)))) = deeper shifts (omega arith)
-  expression (suc (suc (suc (suc (suc zero))))) = deeper conjunctions (omega arith)
-  expression (suc (suc (suc (suc (suc (suc n)))))) = disjunctions
+  expression (suc (suc (suc (suc (suc zero))))) = deeper negations (omega arith)
+  expression (suc (suc (suc (suc (suc (suc zero)))))) = deeper conjunctions (omega arith)
+  expression (suc (suc (suc (suc (suc (suc (suc n))))))) = disjunctions

@@ -61,6 +61,15 @@ not : grouped "NOT A<<B&C" ≡ two K.AMPERSAND (one K.NOT (two K.LEFT A B)) C
 unfolding grouped
 not = refl
 
+-- as a tighter operator's right operand it reaches as far, and what follows belongs to the operators around
+not-inside : grouped "A + NOT B = C = A" ≡ two K.EQUAL (two K.PLUS A (one K.NOT (two K.EQUAL B C))) A
+unfolding grouped
+not-inside = refl
+
+not-then-and : grouped "NOT A=B&C" ≡ two K.AMPERSAND (one K.NOT (two K.EQUAL A B)) C
+unfolding grouped
+not-then-and = refl
+
 -- & binds tighter than |
 and-or : grouped "A&B|C&D" ≡ two K.BAR (two K.AMPERSAND A B) (two K.AMPERSAND C D)
 unfolding grouped

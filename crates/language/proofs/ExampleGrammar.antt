@@ -206,10 +206,20 @@ around : verdict "LET F() BE SWITCHON A INTO $( IF B DO CASE 1: REPEAT $)" ≡ (
 unfolding verdict
 around = refl
 
--- NOT may begin a relation's left operand, as it may any; a second relation cannot follow
-not-related : verdict "LET F() = NOT A >> 5 = 14" ≡ (0, 0)
+-- NOT is a rung of the ladder: what cannot follow its operand without it cannot follow with it
+not-shifted : verdict "LET F() = NOT A >> 5 = 14" ≡ (6, 21)
+unfolding verdict
+not-shifted = refl
+
+not-related : verdict "LET F() = NOT A = B = C" ≡ (6, 20)
 unfolding verdict
 not-related = refl
+
+not-after-and : verdict "LET F() = A & NOT B = C = A" ≡ (6, 24)
+unfolding verdict
+not-after-and = refl
+
+-- where NOT begins the right operand of a tighter operator, what follows belongs to the operators around
 
 related-twice : verdict "LET F() = A = NOT B = C ~= D" ≡ (6, 24)
 unfolding verdict

@@ -157,7 +157,7 @@ unfolding judged
 too-high = refl
 
 -- a height of 8,192 words is not
-high-enough : judged "GLOBAL $( START:1; RDCH:13; WRCH:14; A:20 $) LET START() BE $( LET V = VEC 4095; LET W = VEC 4090; A := 1 $)" ≡ (0, 0)
+high-enough : judged "GLOBAL $( START:1; RDCH:13; WRCH:14; A:20 $) LET START() BE $( LET V = VEC 4095; LET W = VEC 4091; A := 1 $)" ≡ (0, 0)
 unfolding judged
 high-enough = refl
 

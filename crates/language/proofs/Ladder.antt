@@ -1,13 +1,16 @@
--- The ladder of bindings, one step at a time: an expression of a binding is a chain of the operators of that binding, its left
--- operands of the binding before. Right operands are so too, but a shift's are sums.
+-- The ladder of bindings, one rung at a time: an expression of a binding is a chain of the operators of that binding, its left
+-- operands of the binding before. Right operands are so too, but a shift's are sums. The rung of NOT has no dyadic operator: there
+-- stands NOT and a shift expression, or a shift expression.
 use Prim.Native.Nat.{ℕ, zero, suc, _≤_}
 use mathlib.Core.Path.{_≡_, refl}
 use mathlib.Core.Bool.{cond}
 use native.Mathlib.Omega.{arith}
 use lib.Dec.{eqb}
+use Rattle.language.specs.Kinds.{NOT}
+use Rattle.language.specs.Binding.{NEGATION}
 use Rattle.language.specs.Tree.{Expression}
-use Rattle.language.specs.Reader.{Reader}
-use Rattle.language.specs.Expressions.{Inside, operand, products, sums, relations, shifts, conjunctions, disjunctions, chain, expression}
+use Rattle.language.specs.Reader.{Source, Reader, is}
+use Rattle.language.specs.Expressions.{Inside, operand, products, sums, relations, shifts, negations, conjunctions, disjunctions, chain, monadic, expression}
 
 -- the binding of the right operands
 abbrev pub rightOf : (binding : ℕ) → ℕ
@@ -19,12 +22,17 @@ module _ (inner : Inside) where
   unfolding expression
   tightest = refl
 
-  pub step : (b : ℕ) → b ≤ 5 → expression inner (suc b) ≡ chain inner (suc b) (expression inner b) (expression inner (rightOf (suc b)))
+  pub negation : (s : Source) (at : ℕ) → expression inner NEGATION s at ≡ cond (is NOT s at) (monadic inner s at) (expression inner 4 s at)
+  unfolding expression negations
+  negation s at = refl
+
+  pub step : (b : ℕ) → b ≤ 6 → (suc b ≡ NEGATION → ⊥) → expression inner (suc b) ≡ chain (suc b) (expression inner b) (expression inner (rightOf (suc b)))
   unfolding expression products sums relations shifts conjunctions disjunctions
-  step zero h = refl
-  step (suc zero) h = refl
-  step (suc (suc zero)) h = refl
-  step (suc (suc (suc zero))) h = refl
-  step (suc (suc (suc (suc zero)))) h = refl
-  step (suc (suc (suc (suc (suc zero))))) h = refl
-  step (suc (suc (suc (suc (suc (suc b)))))) h = absurd (omega arith)
+  step zero h n = refl
+  step (suc zero) h n = refl
+  step (suc (suc zero)) h n = refl
+  step (suc (suc (suc zero))) h n = refl
+  step (suc (suc (suc (suc zero)))) h n = absurd (n refl)
+  step (suc (suc (suc (suc (suc zero))))) h n = refl
+  step (suc (suc (suc (suc (suc (suc zero)))))) h n = refl
+  step (suc (suc (suc (suc (suc (suc (suc b))))))) h n = absurd (omega arith)

@@ -126,21 +126,21 @@ module _ {inner : Inside} (l : LocalInside inner) where
   unfolding E.operand
   operand = local-cond _ _ monadic suffixed isMonadic
 
-  operation : (right : Reader Expression) → Local 1 right → Local 1 (E.operation inner right)
+  operation : (right : Reader Expression) → Local 1 right → Local 1 (E.operation right)
   unfolding E.operation
   operation right g = local-bind any _ local-any (λ x. local-bind right _ (local-weaker g) (λ e. end-here))
 
   -- one relation, or all of a chain
-  operations : (b : ℕ) → eqb (bindingOf K.NOTHING) b ≡ false → (right : Reader Expression) → Local 1 right → Local 0 (E.operations inner b right)
+  operations : (b : ℕ) → eqb (bindingOf K.NOTHING) b ≡ false → (right : Reader Expression) → Local 1 right → Local 0 (E.operations b right)
   unfolding E.operations E.mostOf
   operations b z right g = by (eqb b RELATION) refl
     where
-      by : (x : Bool) → eqb b RELATION ≡ x → Local 0 (λ s at. manyUpTo (cond x 1 (length (s .symbols))) T.noOperations (λ kind. eqb (bindingOf kind) b) (E.operation inner right) s at)
+      by : (x : Bool) → eqb b RELATION ≡ x → Local 0 (λ s at. manyUpTo (cond x 1 (length (s .symbols))) T.noOperations (λ kind. eqb (bindingOf kind) b) (E.operation right) s at)
       by true q = fixed T.noOperations (λ kind. eqb (bindingOf kind) b) _ (operation right g) 1
       by false q =
           record { local = λ {s} {t} a at. each T.noOperations (λ kind. eqb (bindingOf kind) b) _ (operation right g) z (length (s .symbols)) (length (t .symbols)) a at (omega arith) (omega arith) }
 
-  chain : (b : ℕ) → eqb (bindingOf K.NOTHING) b ≡ false → {left right : Reader Expression} → Local 1 left → Local 1 right → Local 1 (E.chain inner b left right)
+  chain : (b : ℕ) → eqb (bindingOf K.NOTHING) b ≡ false → {left right : Reader Expression} → Local 1 left → Local 1 right → Local 1 (E.chain b left right)
   unfolding E.chain
   chain b z {left} {right} f g = local-bind left _ f (λ e. local-bind _ _ (operations b z right g) (λ os. end-here))
 
@@ -160,13 +160,17 @@ module _ {inner : Inside} (l : LocalInside inner) where
   unfolding E.shifts bindingOf member
   shifts = chain 4 refl relations sums
 
+  negations : Local 1 (E.negations inner)
+  unfolding E.negations
+  negations = local-cond _ _ monadic shifts (λ k. eqb k K.NOT)
+
   conjunctions : Local 1 (E.conjunctions inner)
   unfolding E.conjunctions bindingOf member
-  conjunctions = chain 5 refl shifts shifts
+  conjunctions = chain 6 refl negations negations
 
   disjunctions : Local 1 (E.disjunctions inner)
   unfolding E.disjunctions bindingOf member
-  disjunctions = chain 6 refl conjunctions conjunctions
+  disjunctions = chain 7 refl conjunctions conjunctions
 
   expression : (binding : ℕ) → Local 1 (E.expression inner binding)
   unfolding E.expression
@@ -175,8 +179,9 @@ module _ {inner : Inside} (l : LocalInside inner) where
   expression (suc (suc zero)) = sums
   expression (suc (suc (suc zero))) = relations
   expression (suc (suc (suc (suc zero)))) = shifts
-  expression (suc (suc (suc (suc (suc zero))))) = conjunctions
-  expression (suc (suc (suc (suc (suc (suc n)))))) = disjunctions
+  expression (suc (suc (suc (suc (suc zero))))) = negations
+  expression (suc (suc (suc (suc (suc (suc zero)))))) = conjunctions
+  expression (suc (suc (suc (suc (suc (suc (suc n))))))) = disjunctions
 
 literal : Local 1 E.literal
 unfolding E.literal

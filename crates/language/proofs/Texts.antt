@@ -17,7 +17,7 @@ use Rattle.language.specs.Semicolons.{endsLine, beginsLine, linesDiffer,
 use Rattle.language.specs.Tree.{withSuffixes, withOperations, endsInCall, isCall, count}
 use Rattle.language.specs.Reader.{unexpected, any, here, the, optional, aName, manyUpTo, many, moreUpTo, items, furtherItems, oneUpToClose, upToClose}
 use Rattle.language.specs.Binding.{bindingOf, isMonadic, reachOf, isSuffix, isLabel, isGuard, isLeave, isRepeat, goesOnAssignment, isDeclaration, beginsExpression, beginsCommand}
-use Rattle.language.specs.Expressions.{opening, numeral, truth, quotation, named, bracketed, valof, primary, monadic, arguments, subscript, index, suffix, suffixed, operand, operation, mostOf, operations, chain, products, sums, relations, shifts, conjunctions, disjunctions, expression, literal, truthLiteral, known, simple, positive, negative, constant}
+use Rattle.language.specs.Expressions.{opening, numeral, truth, quotation, named, bracketed, valof, primary, monadic, arguments, subscript, index, suffix, suffixed, operand, operation, mostOf, operations, chain, products, sums, relations, shifts, negations, conjunctions, disjunctions, expression, literal, truthLiteral, known, simple, positive, negative, constant}
 use Rattle.language.specs.Commands.{test, guarded, by, optionalBy, for, listed, switchon, resultis, leave, further, vector, values, given, furtherName, local, semicolonEnd, commandsToEnd, block, furtherSide, assignment, callCommand, afterExpression, assignmentOrCall, unlabelled, repeat, repeatOn, repeatForm, repeated, emptyCommand, case, default, label, afterLabels, command}
 use Rattle.language.specs.Grammar.{within, item, globals, manifests, value, routine, body, parameter, function, andFunction, functions, declaration, declared, whole, program, treeOf}
 use Rattle.language.specs.Source.{Symbols, symbolsOf, Read, read, refused, tooLong, scratchTooShort, readSymbols, parsed, readSource}
@@ -29,7 +29,7 @@ symbolsIn text = symbolsOf (bytes text)
 
 -- the program of some bytes, or its refusal, with scratch enough for any text
 unfoldable pub answer : List ℕ → Read
-unfolding quoted Q.character escape newlines lineOf classOf reserved signs begins wordWidth kindIn kindOf word digits valueOf decimal octal S.character string signIn toLineEnd comment sign signOrComment byClass scanFrom scan closing bracket brackets member endsLine beginsLine linesDiffer gains semicolonsAfter semicolons numbered symbolsOf withSuffixes withOperations endsInCall isCall count unexpected any here the optional aName manyUpTo many moreUpTo items furtherItems oneUpToClose upToClose bindingOf isMonadic reachOf isSuffix isLabel isGuard isLeave isRepeat goesOnAssignment isDeclaration beginsExpression beginsCommand opening numeral truth quotation named bracketed valof primary monadic arguments subscript index suffix suffixed operand operation mostOf operations chain products sums relations shifts conjunctions disjunctions expression literal truthLiteral known simple positive negative constant test guarded by optionalBy for listed switchon resultis leave further vector values given furtherName local semicolonEnd commandsToEnd block furtherSide assignment callCommand afterExpression assignmentOrCall unlabelled repeat repeatOn repeatForm repeated emptyCommand case default label afterLabels command within item globals manifests value routine body parameter function andFunction functions declaration declared whole program treeOf tooLong scratchTooShort readSymbols parsed readSource
+unfolding quoted Q.character escape newlines lineOf classOf reserved signs begins wordWidth kindIn kindOf word digits valueOf decimal octal S.character string signIn toLineEnd comment sign signOrComment byClass scanFrom scan closing bracket brackets member endsLine beginsLine linesDiffer gains semicolonsAfter semicolons numbered symbolsOf withSuffixes withOperations endsInCall isCall count unexpected any here the optional aName manyUpTo many moreUpTo items furtherItems oneUpToClose upToClose bindingOf isMonadic reachOf isSuffix isLabel isGuard isLeave isRepeat goesOnAssignment isDeclaration beginsExpression beginsCommand opening numeral truth quotation named bracketed valof primary monadic arguments subscript index suffix suffixed operand operation mostOf operations chain products sums relations shifts negations conjunctions disjunctions expression literal truthLiteral known simple positive negative constant test guarded by optionalBy for listed switchon resultis leave further vector values given furtherName local semicolonEnd commandsToEnd block furtherSide assignment callCommand afterExpression assignmentOrCall unlabelled repeat repeatOn repeatForm repeated emptyCommand case default label afterLabels command within item globals manifests value routine body parameter function andFunction functions declaration declared whole program treeOf tooLong scratchTooShort readSymbols parsed readSource
 answer text = readSource text 131136
 
 unfoldable pub programIn : String → Read

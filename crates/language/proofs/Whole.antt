@@ -9,15 +9,15 @@ use Rattle.language.specs.Names.{sameBytes, lookup, inBlock}
 use Rattle.language.specs.Constants.{judge}
 use Rattle.language.specs.Resolve as R
 use Rattle.language.specs.Resolve.{declareAll, sideOf, under, scopeAfter, labelsOf}
-use Rattle.language.specs.Faults.{twice, misplaced, among, seenAfter, doubled, inExpression}
+use Rattle.language.specs.Faults.{twice, misplaced, doubled, inExpression}
 use Rattle.language.specs.Heights as H
 use Rattle.language.specs.Heights.{greatest, largestHeight, heightsOf}
 use Rattle.language.specs.Program as P
-use Rattle.language.specs.Program.{Refused, accepted, refused, globalsAfter, manifestsAfter, functionsAfter, declaredBy, resolved, functionFaults, globalFaults, manifestFaults, takenAfter, onwards, groupNameFaults, groupFaults, groupOf, faultsFrom, functionsFrom, faultsOfProgram, functionsOf, heightFaults, hasStart, leastFrom, rulesRefuse}
-use Rattle.language.specs.Resolved.{Fun}
-use Rattle.language.specs.Operators.{monadic, dyadic}
+use Rattle.language.specs.Program.{Refused, accepted, refused, globalsAfter, manifestsAfter, functionsAfter, declaredBy, resolved, functionFaults, globalFaults, manifestFaults, takenAfter, afterDeclaration, among, groupNameFaults, groupFaults, groupOf, faultsFrom, functionsFrom, faultsOfProgram, functionsOf, heightFaults, hasStart, leastFrom, rulesRefuse}
+use Rattle.language.specs.Resolved.{hasCase, hasDefault, Fun}
+use Rattle.language.specs.Operators.{applyMonadic, applyDyadic}
 use Rattle.language.specs.State.{Value, State, Result, unfinished, undefined, finished, returned, ok, bind}
-use Rattle.language.specs.Run.{Placement, hasCase, hasDefault, from, selected, nth, positionOf, called, arguments, evaluated, assigned, assignedAll, sequence, cases, declared, executed, turned, sem}
+use Rattle.language.specs.Run.{Placement, from, selected, nth, positionOf, called, arguments, evaluated, assigned, assignedAll, sequence, cases, declared, executed, turned, sem}
 use Rattle.language.specs.Whole.{refusalOf, onRead, funs, functionsIn, stringsAmong, stringsIn, globalsWith, stringCell, cellsAtStart, runWith}
 use Rattle.words.specs.Words.{value, wordOf, mul, quot, rem, below, shl, shr}
 use Rattle.text.specs.Packed.{pairs}
@@ -30,7 +30,7 @@ numberAndPlace (refused number place) = (number, place)
 
 -- a text's refusal, with scratch enough for any text: its number and place, or 0 and 0
 unfoldable pub judgedBytes : List ℕ → ℕ × ℕ
-unfolding answer placeOf sameBytes lookup inBlock judge declareAll sideOf under scopeAfter R.heightAfter labelsOf R.expression twice misplaced among seenAfter doubled inExpression H.count H.heightAfter H.ofExpr heightsOf greatest largestHeight globalsAfter manifestsAfter functionsAfter declaredBy resolved functionFaults globalFaults manifestFaults takenAfter onwards groupNameFaults groupFaults groupOf faultsFrom functionsFrom faultsOfProgram functionsOf heightFaults hasStart leastFrom rulesRefuse
+unfolding answer placeOf sameBytes lookup inBlock judge declareAll sideOf under scopeAfter R.heightAfter labelsOf R.expression twice misplaced hasCase hasDefault among doubled inExpression H.count H.heightWith H.ofExpr heightsOf greatest largestHeight globalsAfter manifestsAfter functionsAfter declaredBy resolved functionFaults globalFaults manifestFaults takenAfter afterDeclaration groupNameFaults groupFaults groupOf faultsFrom functionsFrom faultsOfProgram functionsOf heightFaults hasStart leastFrom rulesRefuse
 judgedBytes text = numberAndPlace (onRead text (answer text))
 
 unfoldable pub judged : String → ℕ × ℕ
@@ -63,7 +63,7 @@ tell (returned s) = tellState s
 tell (ok v s) = tellState s
 
 unfoldable pub ranBytes : (fuel : ℕ) → List ℕ → (input : List ℕ) → Told
-unfolding answer placeOf sameBytes lookup inBlock judge declareAll sideOf under scopeAfter R.heightAfter labelsOf R.expression H.count H.heightAfter globalsAfter manifestsAfter functionsAfter declaredBy resolved takenAfter onwards groupOf functionsFrom functionsOf funs functionsIn stringsAmong stringsIn globalsWith stringCell cellsAtStart runWith monadic dyadic bind hasCase hasDefault from selected nth positionOf called arguments evaluated assigned assignedAll sequence cases declared executed turned sem value wordOf mul quot rem below shl shr noGlobals pairs placed
+unfolding answer placeOf sameBytes lookup inBlock judge declareAll sideOf under scopeAfter R.heightAfter labelsOf R.expression H.count H.heightWith globalsAfter manifestsAfter functionsAfter declaredBy resolved takenAfter afterDeclaration groupOf functionsFrom functionsOf funs functionsIn stringsAmong stringsIn globalsWith stringCell cellsAtStart runWith applyMonadic applyDyadic bind hasCase hasDefault from selected nth positionOf called arguments evaluated assigned assignedAll sequence cases declared executed turned sem value wordOf mul quot rem below shl shr noGlobals pairs placed
 ranBytes fuel text input = tell (runWith fuel (functionsIn text) (stringsIn text) (placed (functionsIn text) (stringsIn text)) 32768 input)
 
 -- a run with fuel for the examples

@@ -6,24 +6,28 @@ use lib.Dec.{eqb}
 use Rattle.language.specs.Kinds as K
 use Rattle.language.specs.Kinds.{member}
 
--- the binding of a dyadic operator, tightest first: 1 for * / REM, 2 for + -, 3 for a relation, 4 for << >>, 5 for &, 6 for |;
--- 0 for any other symbol. (A primary, then calls and dyadic !, then monadic ! and @ bind tighter than these.)
+-- the binding of a dyadic operator, tightest first: 1 for * / REM, 2 for + -, 3 for a relation, 4 for << >>, 6 for &, 7 for |;
+-- 0 for any other symbol. 5 is the rung of NOT. (A primary, then calls and dyadic !, then monadic ! and @ bind tighter than these.)
 unfoldable pub bindingOf : (kind : ℕ) → ℕ
 bindingOf kind =
     cond (member kind (K.STAR ∷ K.SLASH ∷ K.REM ∷ [])) 1
     (cond (member kind (K.PLUS ∷ K.MINUS ∷ [])) 2
     (cond (member kind (K.EQUAL ∷ K.UNEQUAL ∷ K.LESS ∷ K.ATMOST ∷ K.MORE ∷ K.ATLEAST ∷ [])) 3
     (cond (member kind (K.LEFT ∷ K.RIGHT ∷ [])) 4
-    (cond (eqb kind K.AMPERSAND) 5
-    (cond (eqb kind K.BAR) 6
+    (cond (eqb kind K.AMPERSAND) 6
+    (cond (eqb kind K.BAR) 7
     0)))))
 
 abbrev pub RELATION : ℕ
 RELATION = 3
 
+-- NOT binds more loosely than the shifts, and takes one shift expression
+abbrev pub NEGATION : ℕ
+NEGATION = 5
+
 -- the loosest binding: that of a whole expression
 abbrev pub LOOSEST : ℕ
-LOOSEST = 6
+LOOSEST = 7
 
 -- the monadic operators and NOT
 unfoldable pub isMonadic : (kind : ℕ) → Bool

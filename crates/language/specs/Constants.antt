@@ -56,9 +56,9 @@ abbrev pub forBy : List ℕ → Scope → Constant → Judged
 forBy text s c = within c (λ v. cond (eqb v 0) false true) (judge text s c)
 
 -- the word, with 0 where it is refused
-abbrev pub wordOf : Judged → ℕ
-wordOf (good v) = v
-wordOf (refused fs) = 0
+abbrev pub judgedWord : Judged → ℕ
+judgedWord (good v) = v
+judgedWord (refused fs) = 0
 
 abbrev pub faultsOf : Judged → List Fault
 faultsOf (good v) = []

@@ -55,6 +55,32 @@ named = do
   n ← aName
   return (T.name n)
 
+-- ---- operators of one binding with their operands
+
+-- operator operand
+unfoldable pub operation : Reader Expression → Reader (Operations → Operations)
+operation right = do
+  x ← any
+  e ← right
+  return (T.operation (x .kind) e)
+
+-- { operator operand }, for the operators of one binding. There is at most one relation
+unfoldable pub mostOf : (binding : ℕ) → Source → ℕ
+mostOf binding s = cond (eqb binding RELATION) 1 (length (s .symbols))
+
+unfoldable pub operations : (binding : ℕ) → Reader Expression → Reader Operations
+operations binding right s at =
+    manyUpTo (mostOf binding s) noOperations (λ kind. eqb (bindingOf kind) binding) (operation right) s at
+
+-- operand { operator operand }
+unfoldable pub chain : (binding : ℕ) → (left right : Reader Expression) → Reader Expression
+chain binding left right = do
+  e ← left
+  os ← operations binding right
+  return (withOperations e os)
+
+-- ---- expressions, inside so many levels
+
 module _ (inner : Inside) where
   -- ( expression )
   unfoldable pub bracketed : Reader Expression
@@ -126,28 +152,6 @@ module _ (inner : Inside) where
   unfoldable pub operand : Reader Expression
   operand s at = cond (isMonadic (kindAt s at)) (monadic s at) (suffixed s at)
 
-  -- operator operand
-  unfoldable pub operation : Reader Expression → Reader (Operations → Operations)
-  operation right = do
-    x ← any
-    e ← right
-    return (T.operation (x .kind) e)
-
-  -- { operator operand }, for the operators of one binding. There is at most one relation
-  unfoldable pub mostOf : (binding : ℕ) → Source → ℕ
-  mostOf binding s = cond (eqb binding RELATION) 1 (length (s .symbols))
-
-  unfoldable pub operations : (binding : ℕ) → Reader Expression → Reader Operations
-  operations binding right s at =
-      manyUpTo (mostOf binding s) noOperations (λ kind. eqb (bindingOf kind) binding) (operation right) s at
-
-  -- operand { operator operand }
-  unfoldable pub chain : (binding : ℕ) → (left right : Reader Expression) → Reader Expression
-  chain binding left right = do
-    e ← left
-    os ← operations binding right
-    return (withOperations e os)
-
   unfoldable pub products : Reader Expression
   products = chain 1 operand operand
 
@@ -161,16 +165,20 @@ module _ (inner : Inside) where
   unfoldable pub shifts : Reader Expression
   shifts = chain 4 relations sums
 
+  -- NOT and a shift expression, or a shift expression: after NOT's operand only & and | can follow
+  unfoldable pub negations : Reader Expression
+  negations s at = cond (is K.NOT s at) (monadic s at) (shifts s at)
+
   unfoldable pub conjunctions : Reader Expression
-  conjunctions = chain 5 shifts shifts
+  conjunctions = chain 6 negations negations
 
   unfoldable pub disjunctions : Reader Expression
-  disjunctions = chain 6 conjunctions conjunctions
+  disjunctions = chain 7 conjunctions conjunctions
 
   -- an expression whose dyadic operators bind no more loosely than that
   unfoldable pub expression : (binding : ℕ) → Reader Expression
   expression binding =
-      getD (operand ∷ products ∷ sums ∷ relations ∷ shifts ∷ conjunctions ∷ []) binding disjunctions
+      getD (operand ∷ products ∷ sums ∷ relations ∷ shifts ∷ negations ∷ conjunctions ∷ []) binding disjunctions
 
 -- Constants. number | TRUE | FALSE | name
 unfoldable pub literal : Reader Simple

@@ -12,10 +12,10 @@ count R.none = 0
 count (R.and e es) = suc (count es)
 
 -- the height after declarations
-unfoldable pub heightAfter : ℕ → Locals → ℕ
-heightAfter h R.noLocals = h
-heightAfter h (R.vector n ls) = heightAfter (h + 2 + n) ls
-heightAfter h (R.value e ls) = heightAfter (h + 1) ls
+unfoldable pub heightWith : ℕ → Locals → ℕ
+heightWith h R.noLocals = h
+heightWith h (R.vector n ls) = heightWith (h + 2 + n) ls
+heightWith h (R.value e ls) = heightWith (h + 1) ls
 
 unfoldable mutual
   pub ofExpr : ℕ → Expr → List ℕ
@@ -71,7 +71,7 @@ unfoldable mutual
   ofCmd h R.endcase = []
   ofCmd h R.return = []
   ofCmd h R.finish = []
-  ofCmd h (R.block ls cs) = ofLocals h ls ++ ofCmds (heightAfter h ls) cs
+  ofCmd h (R.block ls cs) = ofLocals h ls ++ ofCmds (heightWith h ls) cs
 
   pub ofCmds : ℕ → Cmds → List ℕ
   ofCmds h R.noCmds = []

@@ -5,13 +5,13 @@ pub mod Brackets
 pub mod Strings
 pub mod Semicolons
 pub mod Tree
-pub mod Depth
 pub mod Reader
 pub mod Binding
 pub mod Expressions
 pub mod Commands
 pub mod Grammar
 pub mod Source
+pub mod Fine
 pub mod Names
 pub mod Constants
 pub mod Resolved
@@ -23,6 +23,3 @@ pub mod Operators
 pub mod State
 pub mod Run
 pub mod Whole
-pub mod Faithful
-pub mod Placed
-pub mod Print

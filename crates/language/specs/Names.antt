@@ -49,7 +49,7 @@ inBlock text outermost n = unknown
 inBlock text (opened s) n = unknown
 inBlock text (declared s m w) n = cond (sameName text m n) (known w) (inBlock text s n)
 
--- names declared one after another at frame words from an offset on
+-- by whether a name is known
 abbrev pub onFound : {A : Type 0} → Found → A → A → A
 onFound unknown a b = a
 onFound (known w) a b = b

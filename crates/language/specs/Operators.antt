@@ -7,12 +7,12 @@ use Rattle.words.specs.Words.{add, sub, neg, complement, mul, quot, rem, eq, ne
 use Rattle.language.specs.Kinds.{PLUS, MINUS, STAR, SLASH, REM, EQUAL, UNEQUAL, LESS, ATMOST, MORE, ATLEAST, LEFT, RIGHT, AMPERSAND, BAR, NOT}
 
 -- monadic + - and NOT
-unfoldable pub monadic : (operator : ℕ) → ℕ → ℕ
-monadic o v = cond (eqb o MINUS) (neg v) (cond (eqb o NOT) (complement v) v)
+unfoldable pub applyMonadic : (operator : ℕ) → ℕ → ℕ
+applyMonadic o v = cond (eqb o MINUS) (neg v) (cond (eqb o NOT) (complement v) v)
 
 -- dyadic operators; a division by zero gives none
-unfoldable pub dyadic : (operator : ℕ) → ℕ → ℕ → Option ℕ
-dyadic o v w =
+unfoldable pub applyDyadic : (operator : ℕ) → ℕ → ℕ → Option ℕ
+applyDyadic o v w =
     cond (eqb o STAR) (some (mul v w))
     (cond (eqb o SLASH) (cond (eqb w 0) none (some (quot v w)))
     (cond (eqb o REM) (cond (eqb w 0) none (some (rem v w)))

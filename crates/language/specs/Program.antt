@@ -8,22 +8,22 @@ use Rattle.language.specs.Tree as T
 use Rattle.language.specs.Tree.{Name, Item, Function, Declaration, Program}
 use Rattle.language.specs.Names as N
 use Rattle.language.specs.Names.{Scope, outermost, opened, declared, lookup, inBlock, onFound}
-use Rattle.language.specs.Constants.{Fault, fault, judge, forGlobal, wordOf, faultsOf}
+use Rattle.language.specs.Constants.{Fault, fault, judge, forGlobal, judgedWord, faultsOf}
 use Rattle.language.specs.Resolved as R
 use Rattle.language.specs.Resolved.{Body, Fun, Start, nowhere, inGlobal}
 use Rattle.language.specs.Resolve.{declareAll, expression, command}
-use Rattle.language.specs.Faults.{Leavable, twice, among, inExpression, inCommand}
+use Rattle.language.specs.Faults.{Leavable, twice, inExpression, inCommand}
 use Rattle.language.specs.Heights.{largestHeight}
 
 -- ---- the outermost scope. Each item of GLOBAL and MANIFEST is known from its end on
 
 unfoldable pub globalsAfter : List ℕ → Scope → List Item → Scope
 globalsAfter text s [] = s
-globalsAfter text s (i ∷ is) = globalsAfter text (declared s (i .name) (N.global (wordOf (forGlobal text s (i .constant))))) is
+globalsAfter text s (i ∷ is) = globalsAfter text (declared s (i .name) (N.global (judgedWord (forGlobal text s (i .constant))))) is
 
 unfoldable pub manifestsAfter : List ℕ → Scope → List Item → Scope
 manifestsAfter text s [] = s
-manifestsAfter text s (i ∷ is) = manifestsAfter text (declared s (i .name) (N.manifest (wordOf (judge text s (i .constant))))) is
+manifestsAfter text s (i ∷ is) = manifestsAfter text (declared s (i .name) (N.manifest (judgedWord (judge text s (i .constant))))) is
 
 -- a function whose name is a declared global starts in that global's word; the name still means the global
 abbrev pub startOf : N.Found → Start
@@ -40,17 +40,17 @@ withFunction s n k nowhere = declared s n (N.function k)
 -- functions are known in their whole LET..AND group and after it; `k` is the number of functions before
 unfoldable pub functionsAfter : List ℕ → (k : ℕ) → Scope → List Function → Scope
 functionsAfter text k s [] = s
-functionsAfter text k s (f ∷ fs) = functionsAfter text (suc k) (withFunction s (f .name) k (startOf (lookup text s (f .name)))) fs
+functionsAfter text k s (f ∷ fs) = functionsAfter text (k + 1) (withFunction s (f .name) k (startOf (lookup text s (f .name)))) fs
 
 unfoldable pub declaredBy : List ℕ → (k : ℕ) → Scope → Declaration → Scope
 declaredBy text k s (T.globals is) = globalsAfter text s is
 declaredBy text k s (T.manifests is) = manifestsAfter text s is
 declaredBy text k s (T.functions fs) = functionsAfter text k s fs
 
-abbrev pub functionsIn : Declaration → ℕ
-functionsIn (T.globals is) = 0
-functionsIn (T.manifests is) = 0
-functionsIn (T.functions fs) = length fs
+abbrev pub functionCount : Declaration → ℕ
+functionCount (T.globals is) = 0
+functionCount (T.manifests is) = 0
+functionCount (T.functions fs) = length fs
 
 -- ---- functions, in the scope of their group. The parameters are a block of their own
 
@@ -78,18 +78,22 @@ unfoldable pub globalFaults : List ℕ → Scope → List Item → List Fault
 globalFaults text s [] = []
 globalFaults text s (i ∷ is) =
     faultsOf (forGlobal text s (i .constant)) ++ onFound (inBlock text s (i .name)) [] (fault (i .name .place) 9)
-    ++ globalFaults text (declared s (i .name) (N.global (wordOf (forGlobal text s (i .constant))))) is
+    ++ globalFaults text (declared s (i .name) (N.global (judgedWord (forGlobal text s (i .constant))))) is
 
 unfoldable pub manifestFaults : List ℕ → Scope → List Item → List Fault
 manifestFaults text s [] = []
 manifestFaults text s (i ∷ is) =
     faultsOf (judge text s (i .constant)) ++ onFound (inBlock text s (i .name)) [] (fault (i .name .place) 9)
-    ++ manifestFaults text (declared s (i .name) (N.manifest (wordOf (judge text s (i .constant))))) is
+    ++ manifestFaults text (declared s (i .name) (N.manifest (judgedWord (judge text s (i .constant))))) is
 
 -- the globals in which functions start, so far
 abbrev pub alsoTaken : Start → List ℕ → List ℕ
 alsoTaken nowhere ns = ns
 alsoTaken (inGlobal n) ns = n ∷ ns
+
+unfoldable pub among : ℕ → List ℕ → Bool
+among v [] = false
+among v (w ∷ ws) = cond (eqb v w) true (among v ws)
 
 -- 9: a name that is no global's, or two functions in one global
 abbrev pub nameFault : (place : ℕ) → List ℕ → N.Found → List Fault
@@ -110,22 +114,22 @@ pub record Walk : Type 0 where
 unfoldable pub takenAfter : List ℕ → (k : ℕ) → Scope → List ℕ → List Function → List ℕ
 takenAfter text k s taken [] = taken
 takenAfter text k s taken (f ∷ fs) =
-    takenAfter text (suc k) (withFunction s (f .name) k (startOf (lookup text s (f .name)))) (alsoTaken (startOf (lookup text s (f .name))) taken) fs
+    takenAfter text (k + 1) (withFunction s (f .name) k (startOf (lookup text s (f .name)))) (alsoTaken (startOf (lookup text s (f .name))) taken) fs
 
 abbrev pub takenBy : List ℕ → Walk → Declaration → List ℕ
 takenBy text w (T.globals is) = w .taken
 takenBy text w (T.manifests is) = w .taken
 takenBy text w (T.functions fs) = takenAfter text (w .functions) (w .scope) (w .taken) fs
 
-unfoldable pub onwards : List ℕ → Walk → Declaration → Walk
-onwards text w d =
-    record { scope = declaredBy text (w .functions) (w .scope) d; functions = w .functions + functionsIn d; taken = takenBy text w d }
+unfoldable pub afterDeclaration : List ℕ → Walk → Declaration → Walk
+afterDeclaration text w d =
+    record { scope = declaredBy text (w .functions) (w .scope) d; functions = w .functions + functionCount d; taken = takenBy text w d }
 
 unfoldable pub groupNameFaults : List ℕ → (k : ℕ) → Scope → List ℕ → List Function → List Fault
 groupNameFaults text k s taken [] = []
 groupNameFaults text k s taken (f ∷ fs) =
     nameFault (f .name .place) taken (lookup text s (f .name))
-    ++ groupNameFaults text (suc k) (withFunction s (f .name) k (startOf (lookup text s (f .name)))) (alsoTaken (startOf (lookup text s (f .name))) taken) fs
+    ++ groupNameFaults text (k + 1) (withFunction s (f .name) k (startOf (lookup text s (f .name)))) (alsoTaken (startOf (lookup text s (f .name))) taken) fs
 
 unfoldable pub groupFaults : List ℕ → Scope → List Function → List Fault
 groupFaults text s [] = []
@@ -146,7 +150,7 @@ unfoldable pub groupOf : List ℕ → (k : ℕ) → (before s : Scope) → List 
 groupOf text k before s [] = []
 groupOf text k before s (f ∷ fs) =
     record { name = f .name; fun = resolved text s (startOf (lookup text before (f .name))) f }
-    ∷ groupOf text (suc k) (withFunction before (f .name) k (startOf (lookup text before (f .name)))) s fs
+    ∷ groupOf text (k + 1) (withFunction before (f .name) k (startOf (lookup text before (f .name)))) s fs
 
 abbrev pub declarationFunctions : List ℕ → Walk → Declaration → List Named
 declarationFunctions text w (T.globals is) = []
@@ -155,11 +159,11 @@ declarationFunctions text w (T.functions fs) = groupOf text (w .functions) (w .s
 
 unfoldable pub faultsFrom : List ℕ → Walk → Program → List Fault
 faultsFrom text w [] = []
-faultsFrom text w (d ∷ ds) = declarationFaults text w d ++ faultsFrom text (onwards text w d) ds
+faultsFrom text w (d ∷ ds) = declarationFaults text w d ++ faultsFrom text (afterDeclaration text w d) ds
 
 unfoldable pub functionsFrom : List ℕ → Walk → Program → List Named
 functionsFrom text w [] = []
-functionsFrom text w (d ∷ ds) = declarationFunctions text w d ++ functionsFrom text (onwards text w d) ds
+functionsFrom text w (d ∷ ds) = declarationFunctions text w d ++ functionsFrom text (afterDeclaration text w d) ds
 
 abbrev pub begin : Walk
 begin = record { scope = outermost; functions = 0; taken = [] }
@@ -203,13 +207,13 @@ unfoldable pub leastFrom : Fault → List Fault → Fault
 leastFrom f [] = f
 leastFrom f (g ∷ gs) = leastFrom (cond (before g f) g f) gs
 
-abbrev pub orElse : List Fault → Refused → Refused
-orElse [] other = other
-orElse (f ∷ fs) other = refused (leastFrom f fs .number) (leastFrom f fs .place)
+abbrev pub leastOr : List Fault → Refused → Refused
+leastOr [] other = other
+leastOr (f ∷ fs) other = refused (leastFrom f fs .number) (leastFrom f fs .place)
 
 -- 8 to 13; 16; then 14, at place 0
 unfoldable pub rulesRefuse : List ℕ → Program → Refused
 rulesRefuse text p =
-    orElse (faultsOfProgram text p)
-    (orElse (heightFaults (functionsOf text p))
+    leastOr (faultsOfProgram text p)
+    (leastOr (heightFaults (functionsOf text p))
     (cond (hasStart (functionsOf text p)) accepted (refused 14 0)))

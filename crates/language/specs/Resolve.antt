@@ -1,6 +1,6 @@
 -- From a tree to the resolved tree. Where there is an error a stand-in is given: the tree is total, and Faults has the errors.
 -- The height is carried along, since the words of locals are counted from it (document 01, "Places").
-use Prim.Native.Nat.{ℕ, suc, _+_}
+use Prim.Native.Nat.{ℕ, _+_}
 use mathlib.Core.Bool.{Bool, true, false, cond}
 use mathlib.Core.List.{List, [], _∷_, _++_}
 use mathlib.Core.Option.{Option, none, some}
@@ -11,7 +11,7 @@ use Rattle.language.specs.Tree as T
 use Rattle.language.specs.Tree.{Name, Constant, Label, Expression, Expressions, Suffixes, Operations, Command, Commands, Unlabelled, Repeats}
 use Rattle.language.specs.Names as N
 use Rattle.language.specs.Names.{Scope, opened, declared, lookup}
-use Rattle.language.specs.Constants.{Judged, good, refused, judge, forVector, forBy, wordOf}
+use Rattle.language.specs.Constants.{Judged, good, refused, judge, forVector, forBy, judgedWord}
 use Rattle.language.specs.Resolved as R
 use Rattle.language.specs.Resolved.{Expr, Exprs, Target, Pairs, Cmd, Cmds, Cases, CaseLabel, Locals}
 
@@ -20,7 +20,7 @@ use Rattle.language.specs.Resolved.{Expr, Exprs, Target, Pairs, Cmd, Cmd
 -- names declared one after another, at frame words from an offset on
 unfoldable pub declareAll : Scope → (offset : ℕ) → List Name → Scope
 declareAll s offset [] = s
-declareAll s offset (n ∷ ns) = declareAll (declared s n (N.local offset)) (suc offset) ns
+declareAll s offset (n ∷ ns) = declareAll (declared s n (N.local offset)) (offset + 1) ns
 
 abbrev pub ofMeaning : N.Found → Expr
 ofMeaning N.unknown = R.constant 0
@@ -63,8 +63,8 @@ addressOf (side (R.toContents e)) = R.addressOfContents e
 addressOf (side (R.toIndex a b)) = R.addressOfIndex a b
 addressOf noSide = R.constant 0
 
-abbrev pub monadic : (operator : ℕ) → Expr → Expr
-monadic o e = cond (eqb o PLING) (R.contents e) (cond (eqb o AT) (addressOf (sideOf e)) (R.unary o e))
+abbrev pub resolvedMonadic : (operator : ℕ) → Expr → Expr
+resolvedMonadic o e = cond (eqb o PLING) (R.contents e) (cond (eqb o AT) (addressOf (sideOf e)) (R.unary o e))
 
 -- ---- heights
 
@@ -78,12 +78,12 @@ under (T.index e ss) h = under ss h
 -- A list's names are known after the whole list
 unfoldable pub scopeAfter : List ℕ → Scope → ℕ → T.Locals → Scope
 scopeAfter text s h T.noLocals = s
-scopeAfter text s h (T.vector n c ls) = scopeAfter text (declared s n (N.local h)) (h + 2 + wordOf (forVector text s c)) ls
+scopeAfter text s h (T.vector n c ls) = scopeAfter text (declared s n (N.local h)) (h + 2 + judgedWord (forVector text s c)) ls
 scopeAfter text s h (T.values ns es ls) = scopeAfter text (declareAll s h ns) (h + length ns) ls
 
 unfoldable pub heightAfter : List ℕ → Scope → ℕ → T.Locals → ℕ
 heightAfter text s h T.noLocals = h
-heightAfter text s h (T.vector n c ls) = heightAfter text (declared s n (N.local h)) (h + 2 + wordOf (forVector text s c)) ls
+heightAfter text s h (T.vector n c ls) = heightAfter text (declared s n (N.local h)) (h + 2 + judgedWord (forVector text s c)) ls
 heightAfter text s h (T.values ns es ls) = heightAfter text (declareAll s h ns) (h + length ns) ls
 
 -- ---- lists
@@ -112,7 +112,7 @@ labelsOf text s (T.default place ∷ ls) = R.default ∷ labelsOf text s ls
 
 abbrev pub byOf : List ℕ → Scope → Option Constant → ℕ
 byOf text s none = 1
-byOf text s (some c) = wordOf (forBy text s c)
+byOf text s (some c) = judgedWord (forBy text s c)
 
 abbrev pub leaving : (word : ℕ) → Cmd
 leaving w =
@@ -130,7 +130,7 @@ unfoldable mutual
   expression text s h (T.name n) = ofMeaning (lookup text s n)
   expression text s h (T.bracketed place e) = expression text s h e
   expression text s h (T.valof place c) = R.valof (command text s h c)
-  expression text s h (T.monadic place o e) = monadic o (expression text s h e)
+  expression text s h (T.monadic place o e) = resolvedMonadic o (expression text s h e)
   expression text s h (T.suffixed e ss) = suffixes text s h (expression text s (under ss h) e) ss
   expression text s h (T.dyadic e os) = operations text s h (expression text s h e) os
 
@@ -148,7 +148,7 @@ unfoldable mutual
   -- arguments and first values: each one word above the one before
   pub expressions : List ℕ → Scope → ℕ → Expressions → Exprs
   expressions text s h T.noExpressions = R.none
-  expressions text s h (T.andExpression e es) = R.and (expression text s h e) (expressions text s (suc h) es)
+  expressions text s h (T.andExpression e es) = R.and (expression text s h e) (expressions text s (h + 1) es)
 
   -- the sides of an assignment: each pair in turn, at the same height
   pub sides : List ℕ → Scope → ℕ → Expressions → Exprs
@@ -182,7 +182,7 @@ unfoldable mutual
   pub locals : List ℕ → Scope → ℕ → T.Locals → Locals
   locals text s h T.noLocals = R.noLocals
   locals text s h (T.vector n c ls) =
-      R.vector (wordOf (forVector text s c)) (locals text (declared s n (N.local h)) (h + 2 + wordOf (forVector text s c)) ls)
+      R.vector (judgedWord (forVector text s c)) (locals text (declared s n (N.local h)) (h + 2 + judgedWord (forVector text s c)) ls)
   locals text s h (T.values ns es ls) = valuesBefore (expressions text s h es) (locals text (declareAll s h ns) (h + length ns) ls)
 
   pub commands : List ℕ → Scope → ℕ → Commands → Cmds

@@ -1,13 +1,31 @@
 -- Resolved trees: a program with every name replaced by what it means. The source run and the code are of these.
 -- Operators stand by their symbol kinds. Brackets are gone, and chains are nested: `A + B + C` is a binary form of a binary form.
-use Prim.Native.Nat.{ℕ}
-use mathlib.Core.Bool.{Bool, true, false}
-use mathlib.Core.List.{List}
+use Prim.Native.Nat.{ℕ, suc, _+_}
+use mathlib.Core.Bool.{Bool, true, false, cond}
+use mathlib.Core.List.{List, [], _∷_}
+use lib.Dec.{eqb}
 
 -- before a command of the list after INTO
 pub data CaseLabel : Type 0 where
   case : (value : ℕ) → CaseLabel
   default : CaseLabel
+
+-- whether a number has its CASE among labels, and whether DEFAULT is there
+unfoldable pub hasCase : ℕ → List CaseLabel → Bool
+hasCase v [] = false
+hasCase v (case w ∷ ls) = cond (eqb v w) true (hasCase v ls)
+hasCase v (default ∷ ls) = hasCase v ls
+
+unfoldable pub hasDefault : List CaseLabel → Bool
+hasDefault [] = false
+hasDefault (case w ∷ ls) = hasDefault ls
+hasDefault (default ∷ ls) = true
+
+-- how many numbers the labels have
+unfoldable pub casesOf : List CaseLabel → ℕ
+casesOf [] = 0
+casesOf (case v ∷ ls) = suc (casesOf ls)
+casesOf (default ∷ ls) = casesOf ls
 
 mutual
   pub data Expr : Type 0 where
@@ -78,6 +96,11 @@ mutual
     noLocals : Locals
     vector : (size : ℕ) → Locals → Locals
     value : Expr → Locals → Locals
+
+-- how many numbers all the labels of a list after INTO have
+unfoldable pub caseCount : Cases → ℕ
+caseCount noCases = 0
+caseCount (cases ls c cs) = casesOf ls + caseCount cs
 
 pub data Body : Type 0 where
   expression : Expr → Body

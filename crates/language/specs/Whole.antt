@@ -101,6 +101,7 @@ runWith fuel functions strings place memory input =
 
 -- the run ends, with no undefined act, in a state
 pub data Over {A : Type 0} : Result A → State → Type 0 where
+  -- START returned; its value, if it has one, is dropped
   byReturn : {v : A} {s : State} → Over (ok v s) s
   byFinish : {s : State} → Over (finished s) s
 

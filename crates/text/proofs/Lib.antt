@@ -1,3 +1,4 @@
+pub mod Booleans
 pub mod Bytes
 pub mod Lines
 pub mod Quotes

@@ -11,14 +11,14 @@ use Rattle.language.specs.Kinds as K
 use Rattle.language.specs.Tree as T
 use Rattle.language.specs.Tree.{Label, Command, Unlabelled}
 use Rattle.language.specs.Reader.{Source, Out, ok, no, onOut, kindAt, unexpected, any, the, aName, manyUpTo, many, moreUpTo}
-use Rattle.language.specs.Binding.{isLabel, isRepeat, beginsCommand}
+use Rattle.language.specs.Binding.{LOOSEST, isLabel, isRepeat, beginsCommand}
 use Rattle.language.specs.Expressions as E
 use Rattle.language.specs.Expressions.{Inside, inside, shut, opening}
 use Rattle.language.specs.Commands as C
 use Rattle.language.specs.Grammar.{within, readers}
 use Rattle.tree.specs.Reads.{Lies, KindHere, Goes, Puts, Reads, Refuses, Adds, recordFrom, Seals, freeOf}
-use Rattle.tree.specs.Between.{Repeated, repeatedBy, repeatedOnly, postRepeatedOnly, opened, bodyAfter}
-use Rattle.tree.specs.Post.{closed, post, postName, postBy, postLabels, postCommand, postCommands, postUnlabelled, postRepeats, postLocals, labelled, repeated}
+use Rattle.tree.specs.Between.{Repeated, repeatedBy, repeatedOnly, encodeRepeatedOnly, opened, bodyAfter}
+use Rattle.tree.specs.Encoding.{LABELLED, closed, encode, encodeName, encodeBy, encodeLabels, encodeCommand, encodeCommands, encodeUnlabelled, encodeRepeats, encodeLocals, labelled, repeated}
 use Rattle.tree.proofs.Steps.{follow, bind, here, added, adds-on, goes-on, _then_, nothing, stopped}
 use Rattle.tree.proofs.Symbols.{mapped, the-is, inside as among}
 use Rattle.tree.proofs.Lists.{turn, last}
@@ -36,23 +36,23 @@ abbrev with-labels : List Label → Repeated → Command
 with-labels ls c = T.command ls (c .body) (c .forms)
 
 module _ (src : Source) (x : ℕ) {s s′ : List ℕ} {r r′ : Answer} {kind : ℕ} (k : KindHere src r kind) (labels : Bool) where
-  pub body-shut : beginsCommand kind ≡ true → x ≡ 0 → Refuses 7 r r′ → Reads (bodyAfter labels x src) postRepeatedOnly s s′ r r′
+  pub body-shut : beginsCommand kind ≡ true → x ≡ 0 → Refuses 7 r r′ → Reads (bodyAfter labels x src) encodeRepeatedOnly s s′ r r′
   unfolding bodyAfter opened opening
   body-shut q h d =
       stopped (λ at free e. rw (sym (ap beginsCommand (k .here at free e)) ∙ q) (ap (λ (i : Inside). opening i repeatedBy src at) (shut-at x h))) d
 
-  pub body-open : beginsCommand kind ≡ true → (x ≡ 0 → ⊥) → Reads (repeatedOnly (x - 1) src) postRepeatedOnly s s′ r r′ → Reads (bodyAfter labels x src) postRepeatedOnly s s′ r r′
+  pub body-open : beginsCommand kind ≡ true → (x ≡ 0 → ⊥) → Reads (repeatedOnly (x - 1) src) encodeRepeatedOnly s s′ r r′ → Reads (bodyAfter labels x src) encodeRepeatedOnly s s′ r r′
   unfolding bodyAfter opened opening repeatedOnly
   body-open q h d =
       here _ (λ at free e. rw (sym (ap beginsCommand (k .here at free e)) ∙ q) (ap (λ (i : Inside). opening i repeatedBy src at) (deeper x h))) d
 
-  pub body-none : beginsCommand kind ≡ false → labels ≡ false → Refuses 6 r r′ → Reads (bodyAfter labels x src) postRepeatedOnly s s′ r r′
+  pub body-none : beginsCommand kind ≡ false → labels ≡ false → Refuses 6 r r′ → Reads (bodyAfter labels x src) encodeRepeatedOnly s s′ r r′
   unfolding bodyAfter unexpected
   body-none q h d = stopped (λ at free e. rw (sym (ap beginsCommand (k .here at free e)) ∙ q, h) refl) d
 
 module _ (src : Source) (x : ℕ) {s : List ℕ} {r : Answer} {kind : ℕ} (k : KindHere src r kind) (labels : Bool) where
-  pub body-empty : beginsCommand kind ≡ false → labels ≡ true → Reads (bodyAfter labels x src) postRepeatedOnly s s r r
-  unfolding bodyAfter postRepeatedOnly repeated postUnlabelled postRepeats
+  pub body-empty : beginsCommand kind ≡ false → labels ≡ true → Reads (bodyAfter labels x src) encodeRepeatedOnly s s r r
+  unfolding bodyAfter encodeRepeatedOnly repeated encodeUnlabelled encodeRepeats
   body-empty q h =
       here (λ m. ok (record { body = T.empty; forms = T.noRepeats }) m) (λ at free e. rw (sym (ap beginsCommand (k .here at free e)) ∙ q, h) refl) (nothing (record { same = refl }))
 
@@ -86,12 +86,12 @@ after-some x src l ls at = byBool (beginsCommand (kindAt src at))
     byBool true = afterBy (l ∷ ls) (within x) src at
     byBool false = refl
 
-after-words : (x : ℕ) (src : Source) (ls : List Label) → 0 < length (postLabels ls) → (at : ℕ) → C.afterLabels (within x) ls src at ≡ onOut (bodyAfter true x src at) (λ c m. ok (with-labels ls c) m)
-unfolding postLabels
+after-words : (x : ℕ) (src : Source) (ls : List Label) → 0 < length (encodeLabels ls) → (at : ℕ) → C.afterLabels (within x) ls src at ≡ onOut (bodyAfter true x src at) (λ c m. ok (with-labels ls c) m)
+unfolding encodeLabels
 after-words x src [] h at = absurd (omega arith)
 after-words x src (l ∷ ls) h at = after-some x src l ls at
 
-labelled-words : (ls w : List ℕ) → 0 < length ls → labelled ls w ≡ closed (ls ++ w) (length ls) 0 65
+labelled-words : (ls w : List ℕ) → 0 < length ls → labelled ls w ≡ closed (ls ++ w) (length ls) 0 LABELLED
 unfolding labelled
 labelled-words [] w h = absurd (omega arith)
 labelled-words (x ∷ ls) w h = refl
@@ -107,25 +107,25 @@ module _ (x : ℕ) (src : Source) where
       let y : length (src .symbols) ≡ suc (n - 1) = omega arith in
       ap (λ (m : ℕ). manyUpTo m [] isLabel (C.label (within x)) src at) y ∙ turn [] isLabel (C.label (within x)) src (n - 1) at q
 
-pub command-plain : (src : Source) (x : ℕ) {s s′ : List ℕ} {r r′ : Answer} {kind : ℕ} → KindHere src r kind → isLabel kind ≡ false → Reads (bodyAfter false x src) postRepeatedOnly s s′ r r′ → Reads (C.command (within x) src) postCommand s s′ r r′
-unfolding C.command postCommand postLabels labelled postRepeatedOnly
+pub command-plain : (src : Source) (x : ℕ) {s s′ : List ℕ} {r r′ : Answer} {kind : ℕ} → KindHere src r kind → isLabel kind ≡ false → Reads (bodyAfter false x src) encodeRepeatedOnly s s′ r r′ → Reads (C.command (within x) src) encodeCommand s s′ r r′
+unfolding C.command encodeCommand encodeLabels labelled encodeRepeatedOnly
 command-plain src x k q d =
     here _ (λ at free e. ap (λ (o : Out (List Label)). onOut o (λ ls m. C.afterLabels (within x) ls src m)) (no-labels x src at (sym (ap isLabel (k .here at free e)) ∙ q)) ∙ after-none x src at)
     (mapped (with-labels []) (λ c. refl) d)
 
 module _ {src : Source} {n : ℕ} {s₀ : List ℕ} (l : Lies src n s₀) (size x : ℕ) {r : Answer} {kind : ℕ} (k : KindHere src r kind) where
-  pub labelled-read : {s s₁ s₂ s₃ s₄ : List ℕ} {r₁ r₂ r₃ r₄ : Answer} {lo value : ℕ} → isLabel kind ≡ true → lo ≡ freeOf size r → value ≡ freeOf size r₂ - lo → Goes (C.label (within x) src) (Puts postLabels) s s₁ r r₁ → Reads (manyUpTo (n - 1) [] isLabel (C.label (within x)) src) postLabels s₁ s₂ r₁ r₂ → Reads (bodyAfter true x src) postRepeatedOnly s₂ s₃ r₂ r₃ → Adds (recordFrom lo value 0 65) s₃ s₄ r₃ r₄ → Reads (C.command (within x) src) postCommand s s₄ r r₄
-  unfolding C.command postCommand postRepeatedOnly
+  pub labelled-read : {s s₁ s₂ s₃ s₄ : List ℕ} {r₁ r₂ r₃ r₄ : Answer} {lo value : ℕ} → isLabel kind ≡ true → lo ≡ freeOf size r → value ≡ freeOf size r₂ - lo → Goes (C.label (within x) src) (Puts encodeLabels) s s₁ r r₁ → Reads (manyUpTo (n - 1) [] isLabel (C.label (within x)) src) encodeLabels s₁ s₂ r₁ r₂ → Reads (bodyAfter true x src) encodeRepeatedOnly s₂ s₃ r₂ r₃ → Adds (recordFrom lo value 0 LABELLED) s₃ s₄ r₃ r₄ → Reads (C.command (within x) src) encodeCommand s s₄ r r₄
+  unfolding C.command encodeCommand encodeRepeatedOnly
   labelled-read {s} {s₁} {s₂} {s₃} {s₄} {r₁} {r₂} {r₃} {r₄} {lo} {value} hb lo-is ev d₁ d₂ d₃ d₄ =
       let kp : 0 < kind = label-positive kind hb in
       here _ (λ at free y.
       let i : at < n = among l at (omega (arith, k .here at free y)) in
       ap (λ (o : Out (List Label)). onOut o (λ ls m. C.afterLabels (within x) ls src m)) (first-label x src n at (l .count) (omega arith) (sym (ap isLabel (k .here at free y)) ∙ hb)) ∙ nests (C.label (within x) src at) (λ q. manyUpTo (n - 1) [] isLabel (C.label (within x)) src q) (λ ls m. C.afterLabels (within x) ls src m))
-      (follow size d₁ (goes-on d₂ then goes-on d₃ then adds-on d₄) (λ put w h q₁. bind size postLabels d₂ (goes-on d₃ then adds-on d₄) (λ ls q₂.
-      let some : 0 < length (postLabels (put ls)) = grown w (postLabels ls) (postLabels (put ls)) (h .puts ls) (h .some) in
-      let both : length (postLabels (put ls)) ≡ length w + length (postLabels ls) = ap length (h .puts ls) ∙ length-append w (postLabels ls) in
+      (follow size d₁ (goes-on d₂ then goes-on d₃ then adds-on d₄) (λ put w h q₁. bind size encodeLabels d₂ (goes-on d₃ then adds-on d₄) (λ ls q₂.
+      let some : 0 < length (encodeLabels (put ls)) = grown w (encodeLabels ls) (encodeLabels (put ls)) (h .puts ls) (h .some) in
+      let both : length (encodeLabels (put ls)) ≡ length w + length (encodeLabels ls) = ap length (h .puts ls) ∙ length-append w (encodeLabels ls) in
       here _ (λ at free y. after-words x src (put ls) some at)
-      (bind size postRepeatedOnly d₃ (adds-on d₄) (λ c q₃. added size d₄ (record { same = sym (append-assoc w (postLabels ls) _) ∙ ap (λ (v : List ℕ). v ++ (postRepeatedOnly c ++ recordFrom lo value 0 65 (freeOf size r₃))) (sym (h .puts ls)) ∙ two (postLabels (put ls)) (postRepeatedOnly c) (freeOf size r₃ - lo) value 0 65 (omega arith) ∙ ap (λ (z : ℕ). closed (postLabels (put ls) ++ postRepeatedOnly c) z 0 65) (omega arith) ∙ sym (labelled-words (postLabels (put ls)) (postRepeatedOnly c) some) }))))))
+      (bind size encodeRepeatedOnly d₃ (adds-on d₄) (λ c q₃. added size d₄ (record { same = sym (append-assoc w (encodeLabels ls) _) ∙ ap (λ (v : List ℕ). v ++ (encodeRepeatedOnly c ++ recordFrom lo value 0 LABELLED (freeOf size r₃))) (sym (h .puts ls)) ∙ two (encodeLabels (put ls)) (encodeRepeatedOnly c) (freeOf size r₃ - lo) value 0 LABELLED (omega arith) ∙ ap (λ (z : ℕ). closed (encodeLabels (put ls) ++ encodeRepeatedOnly c) z 0 LABELLED) (omega arith) ∙ sym (labelled-words (encodeLabels (put ls)) (encodeRepeatedOnly c) some) }))))))
 
 -- ---- commands that hold others
 
@@ -138,8 +138,8 @@ five a b c d f z v p k e =
     ap (λ (w : List ℕ). a ++ (b ++ (c ++ w))) (sym (append-assoc d f (z ∷ v ∷ p ∷ k ∷ []))) ∙ four a b c (d ++ f) z v p k (omega (arith, length-append d f))
 
 module _ {src : Source} {n : ℕ} {s : List ℕ} (l : Lies src n s) {r : Answer} (size x : ℕ) {lo : ℕ} (lo-is : lo ≡ freeOf size r) where
-  pub for-read : {value : ℕ} {s₂ s₄ s₆ s₇ s₉ t : List ℕ} {r₁ r₂ r₃ r₄ r₅ r₆ r₇ r₈ r₉ q : Answer} → Reads (the K.FOR src) (λ _. []) s s r r₁ → Reads (aName src) postName s s₂ r₁ r₂ → Reads (the K.EQUAL src) (λ _. []) s₂ s₂ r₂ r₃ → Reads (E.expression (within x) 6 src) post s₂ s₄ r₃ r₄ → Reads (the K.TO src) (λ _. []) s₄ s₄ r₄ r₅ → Reads (E.expression (within x) 6 src) post s₄ s₆ r₅ r₆ → Reads (C.optionalBy (readers (within x)) src) postBy s₆ s₇ r₆ r₇ → Reads (the K.DO src) (λ _. []) s₇ s₇ r₇ r₈ → Reads (C.command (within x) src) postCommand s₇ s₉ r₈ r₉ → value ≡ freeOf size r₇ - freeOf size r₆ → Adds (recordFrom lo value 0 K.FOR) s₉ t r₉ q → Reads (C.for (readers (within x)) src) postUnlabelled s t r q
-  unfolding C.for postUnlabelled
+  pub for-read : {value : ℕ} {s₂ s₄ s₆ s₇ s₉ t : List ℕ} {r₁ r₂ r₃ r₄ r₅ r₆ r₇ r₈ r₉ q : Answer} → Reads (the K.FOR src) (λ _. []) s s r r₁ → Reads (aName src) encodeName s s₂ r₁ r₂ → Reads (the K.EQUAL src) (λ _. []) s₂ s₂ r₂ r₃ → Reads (E.expression (within x) LOOSEST src) encode s₂ s₄ r₃ r₄ → Reads (the K.TO src) (λ _. []) s₄ s₄ r₄ r₅ → Reads (E.expression (within x) LOOSEST src) encode s₄ s₆ r₅ r₆ → Reads (C.optionalBy (readers (within x)) src) encodeBy s₆ s₇ r₆ r₇ → Reads (the K.DO src) (λ _. []) s₇ s₇ r₇ r₈ → Reads (C.command (within x) src) encodeCommand s₇ s₉ r₈ r₉ → value ≡ freeOf size r₇ - freeOf size r₆ → Adds (recordFrom lo value 0 K.FOR) s₉ t r₉ q → Reads (C.for (readers (within x)) src) encodeUnlabelled s t r q
+  unfolding C.for encodeUnlabelled
   for-read {value} a b c d f g h i j v k =
       let kp = goes-on j then adds-on k in
       let ip = goes-on i then kp in
@@ -148,45 +148,45 @@ module _ {src : Source} {n : ℕ} {s : List ℕ} (l : Lies src n s) {r : Answer}
       let fp = goes-on f then gp in
       let dp = goes-on d then fp in
       let cp = goes-on c then dp in
-      bind size (λ _. []) a (goes-on b then cp) (λ _ q₁. bind size postName b cp (λ m q₂. bind size (λ _. []) c dp (λ _ q₃. bind size post d fp (λ e q₄. bind size (λ _. []) f gp (λ _ q₅. bind size post g hp (λ y q₆. bind size postBy h ip (λ o q₇. bind size (λ _. []) i kp (λ _ q₈. bind size postCommand j (adds-on k) (λ z q₉. added size k (record { same = five (postName m) (post e) (post y) (postBy o) (postCommand z) _ value 0 K.FOR (omega arith) ∙ ap (λ (u : ℕ). closed (postName m ++ (post e ++ (post y ++ (postBy o ++ postCommand z)))) u 0 K.FOR) (omega arith) }))))))))))
+      bind size (λ _. []) a (goes-on b then cp) (λ _ q₁. bind size encodeName b cp (λ m q₂. bind size (λ _. []) c dp (λ _ q₃. bind size encode d fp (λ e q₄. bind size (λ _. []) f gp (λ _ q₅. bind size encode g hp (λ y q₆. bind size encodeBy h ip (λ o q₇. bind size (λ _. []) i kp (λ _ q₈. bind size encodeCommand j (adds-on k) (λ z q₉. added size k (record { same = five (encodeName m) (encode e) (encode y) (encodeBy o) (encodeCommand z) _ value 0 K.FOR (omega arith) ∙ ap (λ (u : ℕ). closed (encodeName m ++ (encode e ++ (encode y ++ (encodeBy o ++ encodeCommand z)))) u 0 K.FOR) (omega arith) }))))))))))
 
-  pub switchon-read : {value : ℕ} {s₂ s₅ s₆ t : List ℕ} {r₁ r₂ r₃ r₄ r₅ r₆ q : Answer} → Reads (the K.SWITCHON src) (λ _. []) s s r r₁ → Reads (E.expression (within x) 6 src) post s s₂ r₁ r₂ → Reads (the K.INTO src) (λ _. []) s₂ s₂ r₂ r₃ → Reads (the K.BEGIN src) (λ _. []) s₂ s₂ r₃ r₄ → Goes (C.listed (readers (within x)) src) (Puts postCommands) s₂ s₅ r₄ r₅ → Reads (moreUpTo n T.noCommands (C.listed (readers (within x))) src) postCommands s₅ s₆ r₅ r₆ → value ≡ freeOf size r₂ - lo → Adds (recordFrom lo value 0 K.SWITCHON) s₆ t r₆ q → Reads (C.switchon (readers (within x)) src) postUnlabelled s t r q
-  unfolding C.switchon postUnlabelled
+  pub switchon-read : {value : ℕ} {s₂ s₅ s₆ t : List ℕ} {r₁ r₂ r₃ r₄ r₅ r₆ q : Answer} → Reads (the K.SWITCHON src) (λ _. []) s s r r₁ → Reads (E.expression (within x) LOOSEST src) encode s s₂ r₁ r₂ → Reads (the K.INTO src) (λ _. []) s₂ s₂ r₂ r₃ → Reads (the K.BEGIN src) (λ _. []) s₂ s₂ r₃ r₄ → Goes (C.listed (readers (within x)) src) (Puts encodeCommands) s₂ s₅ r₄ r₅ → Reads (moreUpTo n T.noCommands (C.listed (readers (within x))) src) encodeCommands s₅ s₆ r₅ r₆ → value ≡ freeOf size r₂ - lo → Adds (recordFrom lo value 0 K.SWITCHON) s₆ t r₆ q → Reads (C.switchon (readers (within x)) src) encodeUnlabelled s t r q
+  unfolding C.switchon encodeUnlabelled
   switchon-read {value} a b c d f g v k =
       let fg = listed-items T.noCommands (C.listed (readers (within x))) src (l .count) f g in
       let dp = goes-on d then goes-on fg then adds-on k in
-      bind size (λ _. []) a (goes-on b then goes-on c then dp) (λ _ q₁. bind size post b (goes-on c then dp) (λ e q₂. bind size (λ _. []) c dp (λ _ q₃. bind size (λ _. []) d (goes-on fg then adds-on k) (λ _ q₄. bind size postCommands fg (adds-on k) (λ cs q₅. added size k (record { same = two (post e) (postCommands cs) _ value 0 K.SWITCHON (omega arith) ∙ ap (λ (u : ℕ). closed (post e ++ postCommands cs) u 0 K.SWITCHON) (omega arith) }))))))
+      bind size (λ _. []) a (goes-on b then goes-on c then dp) (λ _ q₁. bind size encode b (goes-on c then dp) (λ e q₂. bind size (λ _. []) c dp (λ _ q₃. bind size (λ _. []) d (goes-on fg then adds-on k) (λ _ q₄. bind size encodeCommands fg (adds-on k) (λ cs q₅. added size k (record { same = two (encode e) (encodeCommands cs) _ value 0 K.SWITCHON (omega arith) ∙ ap (λ (u : ℕ). closed (encode e ++ encodeCommands cs) u 0 K.SWITCHON) (omega arith) }))))))
 
-  pub block-read : {value : ℕ} {s₂ s₃ t : List ℕ} {r₁ r₂ r₃ q : Answer} → Reads (the K.BEGIN src) (λ _. []) s s r r₁ → Reads (manyUpTo n T.noLocals (λ kind. eqb kind K.LET) (C.local (readers (within x))) src) postLocals s s₂ r₁ r₂ → Reads (C.commandsToEnd (readers (within x)) src) postCommands s₂ s₃ r₂ r₃ → value ≡ freeOf size r₂ - lo → Adds (recordFrom lo value 0 K.BEGIN) s₃ t r₃ q → Reads (C.block (readers (within x)) src) postUnlabelled s t r q
-  unfolding C.block many postUnlabelled
+  pub block-read : {value : ℕ} {s₂ s₃ t : List ℕ} {r₁ r₂ r₃ q : Answer} → Reads (the K.BEGIN src) (λ _. []) s s r r₁ → Reads (manyUpTo n T.noLocals (λ kind. eqb kind K.LET) (C.local (readers (within x))) src) encodeLocals s s₂ r₁ r₂ → Reads (C.commandsToEnd (readers (within x)) src) encodeCommands s₂ s₃ r₂ r₃ → value ≡ freeOf size r₂ - lo → Adds (recordFrom lo value 0 K.BEGIN) s₃ t r₃ q → Reads (C.block (readers (within x)) src) encodeUnlabelled s t r q
+  unfolding C.block many encodeUnlabelled
   block-read {value} {s₂} {s₃} {t} {r₁} {r₂} a b c v k =
-      bind size (λ _. []) a (goes-on b then goes-on c then adds-on k) (λ _ q₁. bind size postLocals (subst (λ (m : ℕ). Reads (manyUpTo m T.noLocals (λ kind. eqb kind K.LET) (C.local (readers (within x))) src) postLocals s s₂ r₁ r₂) (sym (l .count)) b) (goes-on c then adds-on k) (λ ls q₂. bind size postCommands c (adds-on k) (λ cs q₃. added size k (record { same = two (postLocals ls) (postCommands cs) _ value 0 K.BEGIN (omega arith) ∙ ap (λ (u : ℕ). closed (postLocals ls ++ postCommands cs) u 0 K.BEGIN) (omega arith) }))))
+      bind size (λ _. []) a (goes-on b then goes-on c then adds-on k) (λ _ q₁. bind size encodeLocals (subst (λ (m : ℕ). Reads (manyUpTo m T.noLocals (λ kind. eqb kind K.LET) (C.local (readers (within x))) src) encodeLocals s s₂ r₁ r₂) (sym (l .count)) b) (goes-on c then adds-on k) (λ ls q₂. bind size encodeCommands c (adds-on k) (λ cs q₃. added size k (record { same = two (encodeLocals ls) (encodeCommands cs) _ value 0 K.BEGIN (omega arith) ∙ ap (λ (u : ℕ). closed (encodeLocals ls ++ encodeCommands cs) u 0 K.BEGIN) (omega arith) }))))
 
 -- a command of a list
-pub listed-read : (src : Source) (size x : ℕ) {lo : ℕ} {s s₁ s₂ s₃ : List ℕ} {r r₁ r₂ : Answer} → lo ≡ freeOf size r → freeOf size r ≤ length s → Adds (λ _. 0 ∷ 0 ∷ []) s s₁ r r₁ → Reads (C.command (within x) src) postCommand s₁ s₂ r₁ r₂ → Seals lo s₂ s₃ r₂ → Goes (C.listed (readers (within x)) src) (Puts postCommands) s s₃ r r₂
-unfolding C.listed postCommands
+pub listed-read : (src : Source) (size x : ℕ) {lo : ℕ} {s s₁ s₂ s₃ : List ℕ} {r r₁ r₂ : Answer} → lo ≡ freeOf size r → freeOf size r ≤ length s → Adds (λ _. 0 ∷ 0 ∷ []) s s₁ r r₁ → Reads (C.command (within x) src) encodeCommand s₁ s₂ r₁ r₂ → Seals lo s₂ s₃ r₂ → Goes (C.listed (readers (within x)) src) (Puts encodeCommands) s s₃ r r₂
+unfolding C.listed encodeCommands
 listed-read src size x lo-is le a d b =
-    item-alone T.andCommand 0 size postCommand (put-first T.andCommand 0 postCommand postCommands (λ e rest. refl)) lo-is le a d b
+    item-alone T.andCommand 0 size encodeCommand (put-first T.andCommand 0 encodeCommand encodeCommands (λ e rest. refl)) lo-is le a d b
 
-pub no-command-words : postCommands T.noCommands ≡ []
-unfolding postCommands
+pub no-command-words : encodeCommands T.noCommands ≡ []
+unfolding encodeCommands
 no-command-words = refl
 
 -- [ command { ; command } ] [;] $)
 module _ (src : Source) (x : ℕ) {s : List ℕ} {r : Answer} {kind : ℕ} (k : KindHere src r kind) where
-  pub no-commands : {r₁ : Answer} → kind ≡ K.END → Reads (the K.END src) (λ _. []) s s r r₁ → Reads (C.commandsToEnd (readers (within x)) src) postCommands s s r r₁
-  unfolding C.commandsToEnd postCommands
+  pub no-commands : {r₁ : Answer} → kind ≡ K.END → Reads (the K.END src) (λ _. []) s s r r₁ → Reads (C.commandsToEnd (readers (within x)) src) encodeCommands s s r r₁
+  unfolding C.commandsToEnd encodeCommands
   no-commands q d =
       here _ (λ at free e. let y : kindAt src at ≡ K.END = sym (k .here at free e) ∙ q in
       rw (eq-eqb (kindAt src at) K.END y) (sym (ap (λ (o : Out ℕ). onOut o (λ _ m. ok T.noCommands m)) (the-is src K.END at y))))
       (mapped (λ _. T.noCommands) (λ _. refl) d)
 
-  pub semicolon-commands : {r₁ r₂ : Answer} → kind ≡ K.SEMICOLON → Reads (the K.SEMICOLON src) (λ _. []) s s r r₁ → Reads (the K.END src) (λ _. []) s s r₁ r₂ → Reads (C.commandsToEnd (readers (within x)) src) postCommands s s r r₂
-  unfolding C.commandsToEnd C.semicolonEnd postCommands
+  pub semicolon-commands : {r₁ r₂ : Answer} → kind ≡ K.SEMICOLON → Reads (the K.SEMICOLON src) (λ _. []) s s r r₁ → Reads (the K.END src) (λ _. []) s s r₁ r₂ → Reads (C.commandsToEnd (readers (within x)) src) encodeCommands s s r r₂
+  unfolding C.commandsToEnd C.semicolonEnd encodeCommands
   semicolon-commands q d g =
       here _ (λ at free e. rw (sym (k .here at free e) ∙ q) refl) (bind 0 (λ _. []) d (goes-on g) (λ _ _. mapped (λ _. T.noCommands) (λ _. refl) g))
 
-  pub some-commands : {n : ℕ} {s₁ s₂ : List ℕ} {r₁ r₂ : Answer} → length (src .symbols) ≡ n → (kind ≡ K.END → ⊥) → (kind ≡ K.SEMICOLON → ⊥) → Goes (C.listed (readers (within x)) src) (Puts postCommands) s s₁ r r₁ → Reads (moreUpTo n T.noCommands (C.listed (readers (within x))) src) postCommands s₁ s₂ r₁ r₂ → Reads (C.commandsToEnd (readers (within x)) src) postCommands s s₂ r r₂
+  pub some-commands : {n : ℕ} {s₁ s₂ : List ℕ} {r₁ r₂ : Answer} → length (src .symbols) ≡ n → (kind ≡ K.END → ⊥) → (kind ≡ K.SEMICOLON → ⊥) → Goes (C.listed (readers (within x)) src) (Puts encodeCommands) s s₁ r r₁ → Reads (moreUpTo n T.noCommands (C.listed (readers (within x))) src) encodeCommands s₁ s₂ r₁ r₂ → Reads (C.commandsToEnd (readers (within x)) src) encodeCommands s s₂ r r₂
   unfolding C.commandsToEnd
   some-commands en p q d g =
       here _ (λ at free e. rw (ne-eqb (kindAt src at) K.END (λ y. p (k .here at free e ∙ y)), ne-eqb (kindAt src at) K.SEMICOLON (λ y. q (k .here at free e ∙ y))) refl) (listed-items T.noCommands (C.listed (readers (within x))) src en d g)

@@ -7,11 +7,12 @@ use native.Mathlib.Omega.{arith}
 use lib.ListN.{length, take, getD, length-append}
 use lib.Seq.{getD-take, length-take-le, getD-append-add}
 use lib.Dec.{eqb}
+use Rattle.language.specs.Kinds as K
 use Rattle.language.specs.Tree as T
 use Rattle.language.specs.Tree.{Expression, isCall, endsInCall, placeOf}
 use Rattle.tree.specs.Reads.{Ready}
 use Rattle.tree.specs.Between.{CallHere, PlaceHere}
-use Rattle.tree.specs.Post.{CALLED, suffixedKind, closed, post, postName, postCommand, postSuffixes, postOperations}
+use Rattle.tree.specs.Encoding.{MONADIC, CALLED, DYADIC, suffixedKind, closed, encode, encodeName, encodeCommand, encodeSuffixes, encodeOperations}
 use Rattle.tree.proofs.Helpers.{free-is, free-of-refused, room-is}
 use Rattle.tree.specs.declared.scratch.Answer.{Answer}
 use Rattle.tree.specs.declared.scratch.Answer.the-variants.{Read, Refused}
@@ -21,7 +22,7 @@ record Recorded (e : Expression) : Type 0 where
   contents : List ℕ
   value : ℕ
   kind : ℕ
-  words : post e ≡ closed contents value (placeOf e) kind
+  words : encode e ≡ closed contents value (placeOf e) kind
   call : eqb kind CALLED ≡ isCall e
 
 called : (b : Bool) → eqb (suffixedKind b) CALLED ≡ b
@@ -30,17 +31,17 @@ called true = refl
 called false = refl
 
 recorded : (e : Expression) → Recorded e
-unfolding post postName isCall placeOf
-recorded (T.number p v) = record { contents = []; value = v; kind = 60; words = refl; call = refl }
-recorded (T.string p v) = record { contents = []; value = v; kind = 61; words = refl; call = refl }
-recorded (T.name n) = record { contents = []; value = n .width; kind = 59; words = refl; call = refl }
-recorded (T.bracketed p e) = record { contents = post e; value = 0; kind = 51; words = refl; call = refl }
-recorded (T.valof p c) = record { contents = postCommand c; value = 0; kind = 7; words = refl; call = refl }
-recorded (T.monadic p o e) = record { contents = post e; value = o; kind = 62; words = refl; call = refl }
+unfolding encode encodeName isCall placeOf
+recorded (T.number p v) = record { contents = []; value = v; kind = K.NUMBER; words = refl; call = refl }
+recorded (T.string p v) = record { contents = []; value = v; kind = K.STRING; words = refl; call = refl }
+recorded (T.name n) = record { contents = []; value = n .width; kind = K.NAME; words = refl; call = refl }
+recorded (T.bracketed p e) = record { contents = encode e; value = 0; kind = K.OPEN; words = refl; call = refl }
+recorded (T.valof p c) = record { contents = encodeCommand c; value = 0; kind = K.VALOF; words = refl; call = refl }
+recorded (T.monadic p o e) = record { contents = encode e; value = o; kind = MONADIC; words = refl; call = refl }
 recorded (T.suffixed e ss) =
-    record { contents = post e ++ postSuffixes ss; value = length (post e); kind = suffixedKind (endsInCall false ss); words = refl; call = called (endsInCall false ss) }
+    record { contents = encode e ++ encodeSuffixes ss; value = length (encode e); kind = suffixedKind (endsInCall false ss); words = refl; call = called (endsInCall false ss) }
 recorded (T.dyadic e os) =
-    record { contents = post e ++ postOperations os; value = length (post e); kind = 64; words = refl; call = refl }
+    record { contents = encode e ++ encodeOperations os; value = length (encode e); kind = DYADIC; words = refl; call = refl }
 
 -- what is read last stands below the next free entry
 module _ (a b : List ℕ) (v p k : ℕ) (s : List ℕ) (free : ℕ) (le : free ≤ length s) (e : take free s ≡ a ++ closed b v p k) where
@@ -63,7 +64,7 @@ module _ (a b : List ℕ) (v p k : ℕ) (s : List ℕ) (free : ℕ) (le : free �
 
 -- the entries that the code reads
 module _ {s : List ℕ} {n : ℕ} {r : Answer} {at free : ℕ} (h : Ready 0 s n r) (e : r ≡ Read at free) where
-  module _ (at′ free′ : ℕ) (before : List ℕ) (x : Expression) (e′ : r ≡ Read at′ free′) (t : take free′ s ≡ before ++ post x) where
+  module _ (at′ free′ : ℕ) (before : List ℕ) (x : Expression) (e′ : r ≡ Read at′ free′) (t : take free′ s ≡ before ++ encode x) where
     last-record : take free s ≡ before ++ closed (recorded x .contents) (recorded x .value) (placeOf x) (recorded x .kind)
     last-record =
         ap (λ (m : ℕ). take m s) (sym (free-is e 0) ∙ free-is e′ 0) ∙ t ∙ ap (λ (l : List ℕ). before ++ l) (recorded x .words)

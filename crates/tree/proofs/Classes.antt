@@ -6,6 +6,7 @@ use native.Mathlib.Omega.{arith}
 use mathlib.Core.List.{[], _∷_}
 use Rattle.text.proofs.Bytes.{Unlike}
 use borrow.Author.Tests.{ne-eqb}
+use Rattle.language.specs.Kinds as K
 use Rattle.language.specs.Kinds.{member}
 use Rattle.language.specs.Binding.{bindingOf, isMonadic, isSuffix, isGuard, isLeave, isRepeat, isLabel, isDeclaration, goesOnAssignment, beginsExpression, beginsCommand, reachOf}
 
@@ -25,21 +26,21 @@ unfolding isSuffix member
 suffix-positive zero e = let z : _≡_ {A = ℕ} 0 1 = ap (λ (b : Bool). cond b 1 0) e in absurd (omega arith)
 suffix-positive (suc k) e = omega arith
 
-pub no-binding : (c : ℕ) → Unlike c (48 ∷ 47 ∷ 46 ∷ 45 ∷ 44 ∷ 43 ∷ 42 ∷ 41 ∷ 40 ∷ 39 ∷ 36 ∷ 35 ∷ 12 ∷ 38 ∷ 37 ∷ []) → bindingOf c ≡ 0
+pub no-binding : (c : ℕ) → Unlike c (K.BAR ∷ K.AMPERSAND ∷ K.RIGHT ∷ K.LEFT ∷ K.ATLEAST ∷ K.MORE ∷ K.ATMOST ∷ K.LESS ∷ K.UNEQUAL ∷ K.EQUAL ∷ K.MINUS ∷ K.PLUS ∷ K.REM ∷ K.SLASH ∷ K.STAR ∷ []) → bindingOf c ≡ 0
 unfolding bindingOf member
-no-binding c h = rw (ne-eqb c 48 (h .1), ne-eqb c 47 (h .0 .1), ne-eqb c 46 (h .0 .0 .1), ne-eqb c 45 (h .0 .0 .0 .1), ne-eqb c 44 (h .0 .0 .0 .0 .1), ne-eqb c 43 (h .0 .0 .0 .0 .0 .1), ne-eqb c 42 (h .0 .0 .0 .0 .0 .0 .1), ne-eqb c 41 (h .0 .0 .0 .0 .0 .0 .0 .1), ne-eqb c 40 (h .0 .0 .0 .0 .0 .0 .0 .0 .1), ne-eqb c 39 (h .0 .0 .0 .0 .0 .0 .0 .0 .0 .1), ne-eqb c 36 (h .0 .0 .0 .0 .0 .0 .0 .0 .0 .0 .1), ne-eqb c 35 (h .0 .0 .0 .0 .0 .0 .0 .0 .0 .0 .0 .1), ne-eqb c 12 (h .0 .0 .0 .0 .0 .0 .0 .0 .0 .0 .0 .0 .1), ne-eqb c 38 (h .0 .0 .0 .0 .0 .0 .0 .0 .0 .0 .0 .0 .0 .1), ne-eqb c 37 (h .0 .0 .0 .0 .0 .0 .0 .0 .0 .0 .0 .0 .0 .0 .1)) refl
+no-binding c h = rw (ne-eqb c K.BAR (h .1), ne-eqb c K.AMPERSAND (h .0 .1), ne-eqb c K.RIGHT (h .0 .0 .1), ne-eqb c K.LEFT (h .0 .0 .0 .1), ne-eqb c K.ATLEAST (h .0 .0 .0 .0 .1), ne-eqb c K.MORE (h .0 .0 .0 .0 .0 .1), ne-eqb c K.ATMOST (h .0 .0 .0 .0 .0 .0 .1), ne-eqb c K.LESS (h .0 .0 .0 .0 .0 .0 .0 .1), ne-eqb c K.UNEQUAL (h .0 .0 .0 .0 .0 .0 .0 .0 .1), ne-eqb c K.EQUAL (h .0 .0 .0 .0 .0 .0 .0 .0 .0 .1), ne-eqb c K.MINUS (h .0 .0 .0 .0 .0 .0 .0 .0 .0 .0 .1), ne-eqb c K.PLUS (h .0 .0 .0 .0 .0 .0 .0 .0 .0 .0 .0 .1), ne-eqb c K.REM (h .0 .0 .0 .0 .0 .0 .0 .0 .0 .0 .0 .0 .1), ne-eqb c K.SLASH (h .0 .0 .0 .0 .0 .0 .0 .0 .0 .0 .0 .0 .0 .1), ne-eqb c K.STAR (h .0 .0 .0 .0 .0 .0 .0 .0 .0 .0 .0 .0 .0 .0 .1)) refl
 
-pub not-monadic : (c : ℕ) → Unlike c (11 ∷ 36 ∷ 35 ∷ 50 ∷ 49 ∷ []) → isMonadic c ≡ false
+pub not-monadic : (c : ℕ) → Unlike c (K.NOT ∷ K.MINUS ∷ K.PLUS ∷ K.AT ∷ K.PLING ∷ []) → isMonadic c ≡ false
 unfolding isMonadic member
-not-monadic c h = rw (ne-eqb c 11 (h .1), ne-eqb c 36 (h .0 .1), ne-eqb c 35 (h .0 .0 .1), ne-eqb c 50 (h .0 .0 .0 .1), ne-eqb c 49 (h .0 .0 .0 .0 .1)) refl
+not-monadic c h = rw (ne-eqb c K.NOT (h .1), ne-eqb c K.MINUS (h .0 .1), ne-eqb c K.PLUS (h .0 .0 .1), ne-eqb c K.AT (h .0 .0 .0 .1), ne-eqb c K.PLING (h .0 .0 .0 .0 .1)) refl
 
-pub not-suffix : (c : ℕ) → Unlike c (49 ∷ 51 ∷ []) → isSuffix c ≡ false
+pub not-suffix : (c : ℕ) → Unlike c (K.PLING ∷ K.OPEN ∷ []) → isSuffix c ≡ false
 unfolding isSuffix member
-not-suffix c h = rw (ne-eqb c 49 (h .1), ne-eqb c 51 (h .0 .1)) refl
+not-suffix c h = rw (ne-eqb c K.PLING (h .1), ne-eqb c K.OPEN (h .0 .1)) refl
 
-pub other-reach : (c : ℕ) → Unlike c (36 ∷ 35 ∷ 50 ∷ 49 ∷ []) → reachOf c ≡ 4
+pub other-reach : (c : ℕ) → Unlike c (K.MINUS ∷ K.PLUS ∷ K.AT ∷ K.PLING ∷ []) → reachOf c ≡ 4
 unfolding reachOf member
-other-reach c h = rw (ne-eqb c 36 (h .1), ne-eqb c 35 (h .0 .1), ne-eqb c 50 (h .0 .0 .1), ne-eqb c 49 (h .0 .0 .0 .1)) refl
+other-reach c h = rw (ne-eqb c K.MINUS (h .1), ne-eqb c K.PLUS (h .0 .1), ne-eqb c K.AT (h .0 .0 .1), ne-eqb c K.PLING (h .0 .0 .0 .1)) refl
 
 -- none of a list, one by one
 pub unlike5 : {c a b d e f : ℕ} → Unlike c (f ∷ e ∷ d ∷ b ∷ a ∷ []) → (c ≡ a → ⊥) × (c ≡ b → ⊥) × (c ≡ d → ⊥) × (c ≡ e → ⊥) × (c ≡ f → ⊥)
@@ -48,17 +49,17 @@ unlike5 h = (h .0 .0 .0 .0 .1, h .0 .0 .0 .1, h .0 .0 .1, h .0 .1, h .1)
 pub unlike2 : {c a b : ℕ} → Unlike c (b ∷ a ∷ []) → (c ≡ a → ⊥) × (c ≡ b → ⊥)
 unlike2 h = (h .0 .1, h .1)
 
-pub not-guard : (c : ℕ) → Unlike c (19 ∷ 18 ∷ 17 ∷ 16 ∷ []) → isGuard c ≡ false
+pub not-guard : (c : ℕ) → Unlike c (K.UNTIL ∷ K.WHILE ∷ K.UNLESS ∷ K.IF ∷ []) → isGuard c ≡ false
 unfolding isGuard member
-not-guard c h = rw (ne-eqb c 19 (h .1), ne-eqb c 18 (h .0 .1), ne-eqb c 17 (h .0 .0 .1), ne-eqb c 16 (h .0 .0 .0 .1)) refl
+not-guard c h = rw (ne-eqb c K.UNTIL (h .1), ne-eqb c K.WHILE (h .0 .1), ne-eqb c K.UNLESS (h .0 .0 .1), ne-eqb c K.IF (h .0 .0 .0 .1)) refl
 
-pub not-leave : (c : ℕ) → Unlike c (34 ∷ 33 ∷ 32 ∷ 31 ∷ 30 ∷ []) → isLeave c ≡ false
+pub not-leave : (c : ℕ) → Unlike c (K.FINISH ∷ K.RETURN ∷ K.LOOP ∷ K.BREAK ∷ K.ENDCASE ∷ []) → isLeave c ≡ false
 unfolding isLeave member
-not-leave c h = rw (ne-eqb c 34 (h .1), ne-eqb c 33 (h .0 .1), ne-eqb c 32 (h .0 .0 .1), ne-eqb c 31 (h .0 .0 .0 .1), ne-eqb c 30 (h .0 .0 .0 .0 .1)) refl
+not-leave c h = rw (ne-eqb c K.FINISH (h .1), ne-eqb c K.RETURN (h .0 .1), ne-eqb c K.LOOP (h .0 .0 .1), ne-eqb c K.BREAK (h .0 .0 .0 .1), ne-eqb c K.ENDCASE (h .0 .0 .0 .0 .1)) refl
 
-pub not-repeat : (c : ℕ) → Unlike c (22 ∷ 21 ∷ 20 ∷ []) → isRepeat c ≡ false
+pub not-repeat : (c : ℕ) → Unlike c (K.REPEATUNTIL ∷ K.REPEATWHILE ∷ K.REPEAT ∷ []) → isRepeat c ≡ false
 unfolding isRepeat member
-not-repeat c h = rw (ne-eqb c 22 (h .1), ne-eqb c 21 (h .0 .1), ne-eqb c 20 (h .0 .0 .1)) refl
+not-repeat c h = rw (ne-eqb c K.REPEATUNTIL (h .1), ne-eqb c K.REPEATWHILE (h .0 .1), ne-eqb c K.REPEAT (h .0 .0 .1)) refl
 
 pub guard-positive : (kind : ℕ) → isGuard kind ≡ true → 0 < kind
 unfolding isGuard member
@@ -83,21 +84,21 @@ unfolding isLabel member
 label-positive zero e = let z : _≡_ {A = ℕ} 0 1 = ap (λ (b : Bool). cond b 1 0) e in absurd (omega arith)
 label-positive (suc k) e = omega arith
 
-pub not-label : (c : ℕ) → Unlike c (29 ∷ 28 ∷ []) → isLabel c ≡ false
+pub not-label : (c : ℕ) → Unlike c (K.DEFAULT ∷ K.CASE ∷ []) → isLabel c ≡ false
 unfolding isLabel member
-not-label c h = rw (ne-eqb c 29 (h .1), ne-eqb c 28 (h .0 .1)) refl
+not-label c h = rw (ne-eqb c K.DEFAULT (h .1), ne-eqb c K.CASE (h .0 .1)) refl
 
-pub not-going-on : (c : ℕ) → Unlike c (56 ∷ 53 ∷ []) → goesOnAssignment c ≡ false
+pub not-going-on : (c : ℕ) → Unlike c (K.ASSIGN ∷ K.COMMA ∷ []) → goesOnAssignment c ≡ false
 unfolding goesOnAssignment member
-not-going-on c h = rw (ne-eqb c 56 (h .1), ne-eqb c 53 (h .0 .1)) refl
+not-going-on c h = rw (ne-eqb c K.ASSIGN (h .1), ne-eqb c K.COMMA (h .0 .1)) refl
 
-pub not-declaration : (c : ℕ) → Unlike c (3 ∷ 2 ∷ 1 ∷ []) → isDeclaration c ≡ false
+pub not-declaration : (c : ℕ) → Unlike c (K.LET ∷ K.MANIFEST ∷ K.GLOBAL ∷ []) → isDeclaration c ≡ false
 unfolding isDeclaration member
-not-declaration c h = rw (ne-eqb c 3 (h .1), ne-eqb c 2 (h .0 .1), ne-eqb c 1 (h .0 .0 .1)) refl
+not-declaration c h = rw (ne-eqb c K.LET (h .1), ne-eqb c K.MANIFEST (h .0 .1), ne-eqb c K.GLOBAL (h .0 .0 .1)) refl
 
-pub not-expression : (c : ℕ) → Unlike c (11 ∷ 36 ∷ 35 ∷ 50 ∷ 49 ∷ 7 ∷ 51 ∷ 59 ∷ 10 ∷ 9 ∷ 61 ∷ 60 ∷ []) → beginsExpression c ≡ false
+pub not-expression : (c : ℕ) → Unlike c (K.NOT ∷ K.MINUS ∷ K.PLUS ∷ K.AT ∷ K.PLING ∷ K.VALOF ∷ K.OPEN ∷ K.NAME ∷ K.FALSE ∷ K.TRUE ∷ K.STRING ∷ K.NUMBER ∷ []) → beginsExpression c ≡ false
 unfolding beginsExpression member
-not-expression c h = rw (ne-eqb c 11 (h .1), ne-eqb c 36 (h .0 .1), ne-eqb c 35 (h .0 .0 .1), ne-eqb c 50 (h .0 .0 .0 .1), ne-eqb c 49 (h .0 .0 .0 .0 .1), ne-eqb c 7 (h .0 .0 .0 .0 .0 .1), ne-eqb c 51 (h .0 .0 .0 .0 .0 .0 .1), ne-eqb c 59 (h .0 .0 .0 .0 .0 .0 .0 .1), ne-eqb c 10 (h .0 .0 .0 .0 .0 .0 .0 .0 .1), ne-eqb c 9 (h .0 .0 .0 .0 .0 .0 .0 .0 .0 .1), ne-eqb c 61 (h .0 .0 .0 .0 .0 .0 .0 .0 .0 .0 .1), ne-eqb c 60 (h .0 .0 .0 .0 .0 .0 .0 .0 .0 .0 .0 .1)) refl
+not-expression c h = rw (ne-eqb c K.NOT (h .1), ne-eqb c K.MINUS (h .0 .1), ne-eqb c K.PLUS (h .0 .0 .1), ne-eqb c K.AT (h .0 .0 .0 .1), ne-eqb c K.PLING (h .0 .0 .0 .0 .1), ne-eqb c K.VALOF (h .0 .0 .0 .0 .0 .1), ne-eqb c K.OPEN (h .0 .0 .0 .0 .0 .0 .1), ne-eqb c K.NAME (h .0 .0 .0 .0 .0 .0 .0 .1), ne-eqb c K.FALSE (h .0 .0 .0 .0 .0 .0 .0 .0 .1), ne-eqb c K.TRUE (h .0 .0 .0 .0 .0 .0 .0 .0 .0 .1), ne-eqb c K.STRING (h .0 .0 .0 .0 .0 .0 .0 .0 .0 .0 .1), ne-eqb c K.NUMBER (h .0 .0 .0 .0 .0 .0 .0 .0 .0 .0 .0 .1)) refl
 
 -- what begins a command: an expression, a guard, a word that leaves something, or one of five other symbols
 module _ (c : ℕ) where
@@ -115,6 +116,6 @@ module _ (c : ℕ) where
       unfolding beginsCommand
       command-leave l = rw (e, g, l) refl
 
-      pub not-command : isLeave c ≡ false → Unlike c (57 ∷ 8 ∷ 26 ∷ 23 ∷ 13 ∷ []) → beginsCommand c ≡ false
+      pub not-command : isLeave c ≡ false → Unlike c (K.BEGIN ∷ K.RESULTIS ∷ K.SWITCHON ∷ K.FOR ∷ K.TEST ∷ []) → beginsCommand c ≡ false
       unfolding beginsCommand member
-      not-command l h = rw (e, g, l, ne-eqb c 57 (h .1), ne-eqb c 8 (h .0 .1), ne-eqb c 26 (h .0 .0 .1), ne-eqb c 23 (h .0 .0 .0 .1), ne-eqb c 13 (h .0 .0 .0 .0 .1)) refl
+      not-command l h = rw (e, g, l, ne-eqb c K.BEGIN (h .1), ne-eqb c K.RESULTIS (h .0 .1), ne-eqb c K.SWITCHON (h .0 .0 .1), ne-eqb c K.FOR (h .0 .0 .0 .1), ne-eqb c K.TEST (h .0 .0 .0 .0 .1)) refl

@@ -17,8 +17,8 @@ use Rattle.language.specs.Expressions as E
 use Rattle.language.specs.Commands as C
 use Rattle.language.specs.Grammar.{within, readers}
 use Rattle.tree.specs.Reads.{Lies, Here, KindHere, Goes, Puts, Reads, Adds, recordFrom, Seals, freeOf}
-use Rattle.tree.specs.Between.{leaving, repeatedBy, repeatedOnly, postRepeatedOnly}
-use Rattle.tree.specs.Post.{closed, post, postCommand, postUnlabelled, postRepeats, repeated}
+use Rattle.tree.specs.Between.{leaving, repeatedBy, repeatedOnly, encodeRepeatedOnly}
+use Rattle.tree.specs.Encoding.{REPEATED, closed, encode, encodeCommand, encodeUnlabelled, encodeRepeats, repeated}
 use Rattle.tree.proofs.Steps.{follow, bind, here, added, adds-on, goes-on, _then_, nothing}
 use Rattle.tree.proofs.Symbols.{placed, stays, inside as among}
 use Rattle.tree.proofs.Lists.{turn, last}
@@ -39,44 +39,44 @@ three a b c z v p k e =
     ap (λ (w : List ℕ). a ++ w) (sym (append-assoc b c (z ∷ v ∷ p ∷ k ∷ []))) ∙ two a (b ++ c) z v p k (omega (arith, length-append b c))
 
 module _ {src : Source} {n : ℕ} {s : List ℕ} (l : Lies src n s) {r : Answer} (size x : ℕ) {lo : ℕ} (lo-is : lo ≡ freeOf size r) where
-  pub resultis-read : {p : ℕ} {s₂ s₃ : List ℕ} {r₁ r₂ r₃ : Answer} → Here (placeAt src) n r p → Reads (the K.RESULTIS src) (λ _. []) s s r r₁ → Reads (E.expression (within x) 6 src) post s s₂ r₁ r₂ → Adds (recordFrom lo 0 p K.RESULTIS) s₂ s₃ r₂ r₃ → Reads (C.resultis (readers (within x)) src) postUnlabelled s s₃ r r₃
-  unfolding C.resultis postUnlabelled
+  pub resultis-read : {p : ℕ} {s₂ s₃ : List ℕ} {r₁ r₂ r₃ : Answer} → Here (placeAt src) n r p → Reads (the K.RESULTIS src) (λ _. []) s s r r₁ → Reads (E.expression (within x) LOOSEST src) encode s s₂ r₁ r₂ → Adds (recordFrom lo 0 p K.RESULTIS) s₂ s₃ r₂ r₃ → Reads (C.resultis (readers (within x)) src) encodeUnlabelled s s₃ r r₃
+  unfolding C.resultis encodeUnlabelled
   resultis-read {p} h a b d =
       here _ (placed l h K.RESULTIS (omega arith) (λ place m. onOut (E.expression (within x) LOOSEST src m) (λ e w. ok (T.resultis place e) w)))
-      (bind size (λ _. []) a (goes-on b then adds-on d) (λ _ q₁. bind size post b (adds-on d) (λ e q₂. added size d (record { same = ap (λ (z : ℕ). post e ++ (z ∷ 0 ∷ p ∷ K.RESULTIS ∷ [])) (omega arith) }))))
+      (bind size (λ _. []) a (goes-on b then adds-on d) (λ _ q₁. bind size encode b (adds-on d) (λ e q₂. added size d (record { same = ap (λ (z : ℕ). encode e ++ (z ∷ 0 ∷ p ∷ K.RESULTIS ∷ [])) (omega arith) }))))
 
-  pub guarded-read : {kind : ℕ} {s₂ s₄ s₅ : List ℕ} {r₁ r₂ r₃ r₄ r₅ : Answer} → KindHere src r kind → Reads (the kind src) (λ _. []) s s r r₁ → Reads (E.expression (within x) 6 src) post s s₂ r₁ r₂ → Reads (the K.DO src) (λ _. []) s₂ s₂ r₂ r₃ → Reads (C.command (within x) src) postCommand s₂ s₄ r₃ r₄ → Adds (recordFrom lo 0 0 kind) s₄ s₅ r₄ r₅ → Reads (C.guarded (readers (within x)) src) postUnlabelled s s₅ r r₅
-  unfolding C.guarded any postUnlabelled
+  pub guarded-read : {kind : ℕ} {s₂ s₄ s₅ : List ℕ} {r₁ r₂ r₃ r₄ r₅ : Answer} → KindHere src r kind → Reads (the kind src) (λ _. []) s s r r₁ → Reads (E.expression (within x) LOOSEST src) encode s s₂ r₁ r₂ → Reads (the K.DO src) (λ _. []) s₂ s₂ r₂ r₃ → Reads (C.command (within x) src) encodeCommand s₂ s₄ r₃ r₄ → Adds (recordFrom lo 0 0 kind) s₄ s₅ r₄ r₅ → Reads (C.guarded (readers (within x)) src) encodeUnlabelled s s₅ r r₅
+  unfolding C.guarded any encodeUnlabelled
   guarded-read {kind} k a b c d f =
       here _ (any-the k (λ y _ m. onOut (E.expression (within x) LOOSEST src m) (λ e q. onOut (the K.DO src q) (λ _ w. onOut (C.command (within x) src w) (λ c u. ok (T.guarded y e c) u)))))
-      (bind size (λ _. []) a (goes-on b then goes-on c then goes-on d then adds-on f) (λ _ q₁. bind size post b (goes-on c then goes-on d then adds-on f) (λ e q₂. bind size (λ _. []) c (goes-on d then adds-on f) (λ _ q₃. bind size postCommand d (adds-on f) (λ y q₄. added size f (record { same = two (post e) (postCommand y) _ 0 0 kind (omega arith) }))))))
+      (bind size (λ _. []) a (goes-on b then goes-on c then goes-on d then adds-on f) (λ _ q₁. bind size encode b (goes-on c then goes-on d then adds-on f) (λ e q₂. bind size (λ _. []) c (goes-on d then adds-on f) (λ _ q₃. bind size encodeCommand d (adds-on f) (λ y q₄. added size f (record { same = two (encode e) (encodeCommand y) _ 0 0 kind (omega arith) }))))))
 
-  pub test-read : {s₂ s₄ s₆ s₇ : List ℕ} {r₁ r₂ r₃ r₄ r₅ r₆ r₇ : Answer} → Reads (the K.TEST src) (λ _. []) s s r r₁ → Reads (E.expression (within x) 6 src) post s s₂ r₁ r₂ → Reads (the K.DO src) (λ _. []) s₂ s₂ r₂ r₃ → Reads (C.command (within x) src) postCommand s₂ s₄ r₃ r₄ → Reads (the K.OR src) (λ _. []) s₄ s₄ r₄ r₅ → Reads (C.command (within x) src) postCommand s₄ s₆ r₅ r₆ → Adds (recordFrom lo 0 0 K.TEST) s₆ s₇ r₆ r₇ → Reads (C.test (readers (within x)) src) postUnlabelled s s₇ r r₇
-  unfolding C.test postUnlabelled
+  pub test-read : {s₂ s₄ s₆ s₇ : List ℕ} {r₁ r₂ r₃ r₄ r₅ r₆ r₇ : Answer} → Reads (the K.TEST src) (λ _. []) s s r r₁ → Reads (E.expression (within x) LOOSEST src) encode s s₂ r₁ r₂ → Reads (the K.DO src) (λ _. []) s₂ s₂ r₂ r₃ → Reads (C.command (within x) src) encodeCommand s₂ s₄ r₃ r₄ → Reads (the K.OR src) (λ _. []) s₄ s₄ r₄ r₅ → Reads (C.command (within x) src) encodeCommand s₄ s₆ r₅ r₆ → Adds (recordFrom lo 0 0 K.TEST) s₆ s₇ r₆ r₇ → Reads (C.test (readers (within x)) src) encodeUnlabelled s s₇ r r₇
+  unfolding C.test encodeUnlabelled
   test-read a b c d f g i =
-      bind size (λ _. []) a (goes-on b then goes-on c then goes-on d then goes-on f then goes-on g then adds-on i) (λ _ q₁. bind size post b (goes-on c then goes-on d then goes-on f then goes-on g then adds-on i) (λ e q₂. bind size (λ _. []) c (goes-on d then goes-on f then goes-on g then adds-on i) (λ _ q₃. bind size postCommand d (goes-on f then goes-on g then adds-on i) (λ y q₄. bind size (λ _. []) f (goes-on g then adds-on i) (λ _ q₅. bind size postCommand g (adds-on i) (λ z q₆. added size i (record { same = three (post e) (postCommand y) (postCommand z) _ 0 0 K.TEST (omega arith) })))))))
+      bind size (λ _. []) a (goes-on b then goes-on c then goes-on d then goes-on f then goes-on g then adds-on i) (λ _ q₁. bind size encode b (goes-on c then goes-on d then goes-on f then goes-on g then adds-on i) (λ e q₂. bind size (λ _. []) c (goes-on d then goes-on f then goes-on g then adds-on i) (λ _ q₃. bind size encodeCommand d (goes-on f then goes-on g then adds-on i) (λ y q₄. bind size (λ _. []) f (goes-on g then adds-on i) (λ _ q₅. bind size encodeCommand g (adds-on i) (λ z q₆. added size i (record { same = three (encode e) (encodeCommand y) (encodeCommand z) _ 0 0 K.TEST (omega arith) })))))))
 
 -- REPEAT forms
 module _ (src : Source) {r : Answer} (size x : ℕ) {kind : ℕ} (k : KindHere src r kind) {s s₁ : List ℕ} {r₀ r₁ : Answer} where
-  pub repeat-read : kind ≡ K.REPEAT → Reads (the kind src) (λ _. []) s s r r₀ → Adds (λ _. 0 ∷ kind ∷ []) s s₁ r₀ r₁ → Goes (C.repeatForm (readers (within x)) src) (Puts postRepeats) s s₁ r r₁
-  unfolding C.repeatForm C.repeat postRepeats
+  pub repeat-read : kind ≡ K.REPEAT → Reads (the kind src) (λ _. []) s s r r₀ → Adds (λ _. 0 ∷ kind ∷ []) s s₁ r₀ r₁ → Goes (C.repeatForm (readers (within x)) src) (Puts encodeRepeats) s s₁ r r₁
+  unfolding C.repeatForm C.repeat encodeRepeats
   repeat-read q c a =
       here (λ at. onOut (the kind src at) (λ _ m. ok T.repeat m))
       (λ at free e. ap (λ (b : Bool). cond b (C.repeat (readers (within x)) src at) (C.repeatOn (readers (within x)) src at)) (eq-eqb (kindAt src at) K.REPEAT (sym (k .here at free e) ∙ q)) ∙ ap (λ (y : ℕ). onOut (the y src at) (λ _ m. ok T.repeat m)) (sym q))
-      (bind size (λ _. []) c (adds-on a) (λ _ _. added size a (record { puts = λ rest. ap (λ (y : ℕ). 0 ∷ y ∷ postRepeats rest) (sym q); some = omega arith })))
+      (bind size (λ _. []) c (adds-on a) (λ _ _. added size a (record { puts = λ rest. ap (λ (y : ℕ). 0 ∷ y ∷ encodeRepeats rest) (sym q); some = omega arith })))
 
-  pub repeat-on-read : {lo : ℕ} {s₂ s₃ : List ℕ} {r₂ : Answer} → lo ≡ freeOf size r → (kind ≡ K.REPEAT → ⊥) → freeOf size r₀ ≤ length s → Reads (the kind src) (λ _. []) s s r r₀ → Adds (λ _. 0 ∷ kind ∷ []) s s₁ r₀ r₁ → Reads (E.expression (within x) 6 src) post s₁ s₂ r₁ r₂ → Seals lo s₂ s₃ r₂ → Goes (C.repeatForm (readers (within x)) src) (Puts postRepeats) s s₃ r r₂
-  unfolding C.repeatForm C.repeatOn any postRepeats
+  pub repeat-on-read : {lo : ℕ} {s₂ s₃ : List ℕ} {r₂ : Answer} → lo ≡ freeOf size r → (kind ≡ K.REPEAT → ⊥) → freeOf size r₀ ≤ length s → Reads (the kind src) (λ _. []) s s r r₀ → Adds (λ _. 0 ∷ kind ∷ []) s s₁ r₀ r₁ → Reads (E.expression (within x) LOOSEST src) encode s₁ s₂ r₁ r₂ → Seals lo s₂ s₃ r₂ → Goes (C.repeatForm (readers (within x)) src) (Puts encodeRepeats) s s₃ r r₂
+  unfolding C.repeatForm C.repeatOn any encodeRepeats
   repeat-on-read lo-is q le c a d b =
       here (C.repeatOn (readers (within x)) src) (λ at free e. ap (λ (b : Bool). cond b (C.repeat (readers (within x)) src at) (C.repeatOn (readers (within x)) src at)) (ne-eqb (kindAt src at) K.REPEAT (λ y. q (k .here at free e ∙ y))))
       (here _ (any-the k (λ y _ m. onOut (E.expression (within x) LOOSEST src m) (λ e w. ok (T.repeatOn y e) w)))
-      (item-read (T.repeatOn kind) kind size post (put-first (T.repeatOn kind) kind post postRepeats (λ e rest. refl)) lo-is le c a d b))
+      (item-read (T.repeatOn kind) kind size encode (put-first (T.repeatOn kind) kind encode encodeRepeats (λ e rest. refl)) lo-is le c a d b))
 
-pub no-repeat-words : postRepeats T.noRepeats ≡ []
-unfolding postRepeats
+pub no-repeat-words : encodeRepeats T.noRepeats ≡ []
+unfolding encodeRepeats
 no-repeat-words = refl
 
-some-forms : (w rs : List ℕ) → 0 < length rs → repeated w rs ≡ closed (w ++ rs) (length w) 0 66
+some-forms : (w rs : List ℕ) → 0 < length rs → repeated w rs ≡ closed (w ++ rs) (length w) 0 REPEATED
 unfolding repeated
 some-forms w [] h = absurd (omega arith)
 some-forms w (x ∷ rs) h = refl
@@ -93,20 +93,20 @@ module _ (x : ℕ) (src : Source) where
       ap (λ (m : ℕ). manyUpTo m T.noRepeats isRepeat (C.repeatForm (readers (within x))) src at) y ∙ turn T.noRepeats isRepeat (C.repeatForm (readers (within x))) src (n - 1) at q
 
 -- a command and the REPEAT forms after it
-module _ {src : Source} {n : ℕ} {s₀ : List ℕ} (l : Lies src n s₀) (size x : ℕ) {s s₁ : List ℕ} {r r₁ : Answer} {kind : ℕ} (k : KindHere src r₁ kind) (d₁ : Reads (C.unlabelled (readers (within x)) src) postUnlabelled s s₁ r r₁) where
-  pub repeated-one : isRepeat kind ≡ false → Reads (repeatedOnly x src) postRepeatedOnly s s₁ r r₁
-  unfolding repeatedOnly repeatedBy postRepeatedOnly repeated postRepeats
+module _ {src : Source} {n : ℕ} {s₀ : List ℕ} (l : Lies src n s₀) (size x : ℕ) {s s₁ : List ℕ} {r r₁ : Answer} {kind : ℕ} (k : KindHere src r₁ kind) (d₁ : Reads (C.unlabelled (readers (within x)) src) encodeUnlabelled s s₁ r r₁) where
+  pub repeated-one : isRepeat kind ≡ false → Reads (repeatedOnly x src) encodeRepeatedOnly s s₁ r r₁
+  unfolding repeatedOnly repeatedBy encodeRepeatedOnly repeated encodeRepeats
   repeated-one h =
-      bind size postUnlabelled d₁ stays (λ u q. here (λ m. ok (record { body = u; forms = T.noRepeats }) m) (λ at free y. ap (λ (o : Out Repeats). onOut o (λ rs q. ok (record { body = u; forms = rs }) q)) (no-forms x src at (sym (ap isRepeat (k .here at free y)) ∙ h))) (nothing (record { same = append-nil (postUnlabelled u) })))
+      bind size encodeUnlabelled d₁ stays (λ u q. here (λ m. ok (record { body = u; forms = T.noRepeats }) m) (λ at free y. ap (λ (o : Out Repeats). onOut o (λ rs q. ok (record { body = u; forms = rs }) q)) (no-forms x src at (sym (ap isRepeat (k .here at free y)) ∙ h))) (nothing (record { same = append-nil (encodeUnlabelled u) })))
 
-  pub repeated-more : {s₂ s₃ s₄ : List ℕ} {r₂ r₃ r₄ : Answer} {lo value : ℕ} → isRepeat kind ≡ true → lo ≡ freeOf size r → value ≡ freeOf size r₁ - lo → Goes (C.repeatForm (readers (within x)) src) (Puts postRepeats) s₁ s₂ r₁ r₂ → Reads (manyUpTo (n - 1) T.noRepeats isRepeat (C.repeatForm (readers (within x))) src) postRepeats s₂ s₃ r₂ r₃ → Adds (recordFrom lo value 0 66) s₃ s₄ r₃ r₄ → Reads (repeatedOnly x src) postRepeatedOnly s s₄ r r₄
-  unfolding repeatedOnly repeatedBy postRepeatedOnly
+  pub repeated-more : {s₂ s₃ s₄ : List ℕ} {r₂ r₃ r₄ : Answer} {lo value : ℕ} → isRepeat kind ≡ true → lo ≡ freeOf size r → value ≡ freeOf size r₁ - lo → Goes (C.repeatForm (readers (within x)) src) (Puts encodeRepeats) s₁ s₂ r₁ r₂ → Reads (manyUpTo (n - 1) T.noRepeats isRepeat (C.repeatForm (readers (within x))) src) encodeRepeats s₂ s₃ r₂ r₃ → Adds (recordFrom lo value 0 REPEATED) s₃ s₄ r₃ r₄ → Reads (repeatedOnly x src) encodeRepeatedOnly s s₄ r r₄
+  unfolding repeatedOnly repeatedBy encodeRepeatedOnly
   repeated-more {s₂} {s₃} {s₄} {r₂} {r₃} {r₄} {lo} {value} hb lo-is ev d₂ d₃ d₄ =
       let kp : 0 < kind = repeat-positive kind hb in
-      bind size postUnlabelled d₁ (goes-on d₂ then goes-on d₃ then adds-on d₄) (λ u q₁. here _ (λ at free y.
+      bind size encodeUnlabelled d₁ (goes-on d₂ then goes-on d₃ then adds-on d₄) (λ u q₁. here _ (λ at free y.
       let i : at < n = among l at (omega (arith, k .here at free y)) in
       ap (λ (o : Out Repeats). onOut o (λ rs q. ok (record { body = u; forms = rs }) q)) (first-form x src n at (l .count) (omega arith) (sym (ap isRepeat (k .here at free y)) ∙ hb)) ∙ nests (C.repeatForm (readers (within x)) src at) (λ q. manyUpTo (n - 1) T.noRepeats isRepeat (C.repeatForm (readers (within x))) src q) (λ rs q. ok (record { body = u; forms = rs }) q))
-      (follow size d₂ (goes-on d₃ then adds-on d₄) (λ put w h q₂. bind size postRepeats d₃ (adds-on d₄) (λ rs q₃. added size d₄ (record { same = chained (postUnlabelled u) w (postRepeats rs) (postRepeats (put rs)) (freeOf size r₃ - lo) value 0 66 (omega arith) (omega arith) (h .puts rs) ∙ sym (some-forms (postUnlabelled u) (postRepeats (put rs)) (grown w (postRepeats rs) (postRepeats (put rs)) (h .puts rs) (h .some))) })))))
+      (follow size d₂ (goes-on d₃ then adds-on d₄) (λ put w h q₂. bind size encodeRepeats d₃ (adds-on d₄) (λ rs q₃. added size d₄ (record { same = chained (encodeUnlabelled u) w (encodeRepeats rs) (encodeRepeats (put rs)) (freeOf size r₃ - lo) value 0 REPEATED (omega arith) (omega arith) (h .puts rs) ∙ sym (some-forms (encodeUnlabelled u) (encodeRepeats (put rs)) (grown w (encodeRepeats rs) (encodeRepeats (put rs)) (h .puts rs) (h .some))) })))))
 
 -- which command it is, by its first symbol
 differs : {kind x : ℕ} (f : ℕ → Bool) → f kind ≡ true → f x ≡ false → kind ≡ x → ⊥
@@ -124,37 +124,37 @@ unfolding isLeave member
 stays-on = (refl, refl, refl, refl)
 
 module _ (src : Source) (x : ℕ) {s s′ : List ℕ} {r r′ : Answer} {kind : ℕ} (k : KindHere src r kind) where
-  pub unlabelled-guarded : isGuard kind ≡ true → Reads (C.guarded (readers (within x)) src) postUnlabelled s s′ r r′ → Reads (C.unlabelled (readers (within x)) src) postUnlabelled s s′ r r′
+  pub unlabelled-guarded : isGuard kind ≡ true → Reads (C.guarded (readers (within x)) src) encodeUnlabelled s s′ r r′ → Reads (C.unlabelled (readers (within x)) src) encodeUnlabelled s s′ r r′
   unfolding C.unlabelled
   unlabelled-guarded q d =
       here _ (λ at free e. rw (other-kind k {y = K.TEST} (differs isGuard q not-test) e, sym (ap isGuard (k .here at free e)) ∙ q) refl) d
 
-  pub unlabelled-test : kind ≡ K.TEST → Reads (C.test (readers (within x)) src) postUnlabelled s s′ r r′ → Reads (C.unlabelled (readers (within x)) src) postUnlabelled s s′ r r′
+  pub unlabelled-test : kind ≡ K.TEST → Reads (C.test (readers (within x)) src) encodeUnlabelled s s′ r r′ → Reads (C.unlabelled (readers (within x)) src) encodeUnlabelled s s′ r r′
   unfolding C.unlabelled
   unlabelled-test q d = here _ (λ at free e. rw (sym (k .here at free e) ∙ q) refl) d
 
-  pub unlabelled-resultis : kind ≡ K.RESULTIS → Reads (C.resultis (readers (within x)) src) postUnlabelled s s′ r r′ → Reads (C.unlabelled (readers (within x)) src) postUnlabelled s s′ r r′
+  pub unlabelled-resultis : kind ≡ K.RESULTIS → Reads (C.resultis (readers (within x)) src) encodeUnlabelled s s′ r r′ → Reads (C.unlabelled (readers (within x)) src) encodeUnlabelled s s′ r r′
   unfolding C.unlabelled isGuard member
   unlabelled-resultis q d = here _ (λ at free e. rw (sym (k .here at free e) ∙ q) refl) d
 
-  pub unlabelled-leave : isGuard kind ≡ false → isLeave kind ≡ true → Reads (leaving src) postUnlabelled s s′ r r′ → Reads (C.unlabelled (readers (within x)) src) postUnlabelled s s′ r r′
+  pub unlabelled-leave : isGuard kind ≡ false → isLeave kind ≡ true → Reads (leaving src) encodeUnlabelled s s′ r r′ → Reads (C.unlabelled (readers (within x)) src) encodeUnlabelled s s′ r r′
   unfolding C.unlabelled C.leave leaving
   unlabelled-leave g q d =
       here (leaving src) (λ at free e. rw (other-kind k {y = K.TEST} (differs isLeave q (stays-on .0)) e, sym (ap isGuard (k .here at free e)) ∙ g, other-kind k {y = K.FOR} (differs isLeave q (stays-on .1)) e, other-kind k {y = K.SWITCHON} (differs isLeave q (stays-on .2)) e, other-kind k {y = K.RESULTIS} (differs isLeave q (stays-on .3)) e, sym (ap isLeave (k .here at free e)) ∙ q) refl) d
 
-  pub unlabelled-for : kind ≡ K.FOR → Reads (C.for (readers (within x)) src) postUnlabelled s s′ r r′ → Reads (C.unlabelled (readers (within x)) src) postUnlabelled s s′ r r′
+  pub unlabelled-for : kind ≡ K.FOR → Reads (C.for (readers (within x)) src) encodeUnlabelled s s′ r r′ → Reads (C.unlabelled (readers (within x)) src) encodeUnlabelled s s′ r r′
   unfolding C.unlabelled isGuard member
   unlabelled-for q d = here _ (λ at free e. rw (sym (k .here at free e) ∙ q) refl) d
 
-  pub unlabelled-switchon : kind ≡ K.SWITCHON → Reads (C.switchon (readers (within x)) src) postUnlabelled s s′ r r′ → Reads (C.unlabelled (readers (within x)) src) postUnlabelled s s′ r r′
+  pub unlabelled-switchon : kind ≡ K.SWITCHON → Reads (C.switchon (readers (within x)) src) encodeUnlabelled s s′ r r′ → Reads (C.unlabelled (readers (within x)) src) encodeUnlabelled s s′ r r′
   unfolding C.unlabelled isGuard member
   unlabelled-switchon q d = here _ (λ at free e. rw (sym (k .here at free e) ∙ q) refl) d
 
-  pub unlabelled-block : kind ≡ K.BEGIN → Reads (C.block (readers (within x)) src) postUnlabelled s s′ r r′ → Reads (C.unlabelled (readers (within x)) src) postUnlabelled s s′ r r′
+  pub unlabelled-block : kind ≡ K.BEGIN → Reads (C.block (readers (within x)) src) encodeUnlabelled s s′ r r′ → Reads (C.unlabelled (readers (within x)) src) encodeUnlabelled s s′ r r′
   unfolding C.unlabelled isGuard isLeave member
   unlabelled-block q d = here _ (λ at free e. rw (sym (k .here at free e) ∙ q) refl) d
 
-  pub unlabelled-other : isGuard kind ≡ false → isLeave kind ≡ false → Unlike kind (K.BEGIN ∷ K.RESULTIS ∷ K.SWITCHON ∷ K.FOR ∷ K.TEST ∷ []) → Reads (C.assignmentOrCall (readers (within x)) src) postUnlabelled s s′ r r′ → Reads (C.unlabelled (readers (within x)) src) postUnlabelled s s′ r r′
+  pub unlabelled-other : isGuard kind ≡ false → isLeave kind ≡ false → Unlike kind (K.BEGIN ∷ K.RESULTIS ∷ K.SWITCHON ∷ K.FOR ∷ K.TEST ∷ []) → Reads (C.assignmentOrCall (readers (within x)) src) encodeUnlabelled s s′ r r′ → Reads (C.unlabelled (readers (within x)) src) encodeUnlabelled s s′ r r′
   unfolding C.unlabelled
   unlabelled-other g w u d =
       let q = unlike5 u in

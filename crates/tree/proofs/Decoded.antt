@@ -12,7 +12,7 @@ use Rattle.language.specs.Symbols.{Symbol}
 use Rattle.language.specs.Reader.{Out, ok, no, placeAt}
 use Rattle.language.specs.Tree.{Program}
 use Rattle.language.specs.Grammar.{treeOf, program}
-use Rattle.tree.specs.Post.{postProgram}
+use Rattle.tree.specs.Encoding.{encodeProgram}
 use Rattle.tree.specs.Reads.{Lies, Ready, Fits, Is, Wrote, GoesBy, Reads, nextOf, lowOf, live, reach}
 use Rattle.tree.specs.Read.{decoded, sourceIn, unfit, answerOf, treeRead, Stands, Leaves, Within, ReadsTree}
 use Rattle.tree.proofs.Symbols.{lies-still}
@@ -144,20 +144,20 @@ module _ {s s′ : List ℕ} {n size : ℕ} (fit : unfit (length s) n ≡ false)
         room = h;
       }
 
-  wrote : (next free : ℕ) → Wrote (program (sourceIn s n size) 0) (Is postProgram) (n * 3) s s′ next free → free ≤ n * 8 → ReadsTree s n size (ReadTo free) s′
+  wrote : (next free : ℕ) → Wrote (program (sourceIn s n size) 0) (Is encodeProgram) (n * 3) s s′ next free → free ≤ n * 8 → ReadsTree s n size (ReadTo free) s′
   unfolding treeOf
   wrote next free w h =
-      let q : free ≡ n * 3 + length (postProgram (w .tree)) = w .size ∙ ap (λ (x : List ℕ). n * 3 + length x) (w .says .same) in
+      let q : free ≡ n * 3 + length (encodeProgram (w .tree)) = w .size ∙ ap (λ (x : List ℕ). n * 3 + length x) (w .says .same) in
       answered (ok (w .tree) next) (w .is) (ap ReadTo q)
       (ap (λ (x : ℕ). take x s′) (sym q) ∙ w .written ∙ ap (λ (x : List ℕ). take (n * 3) s ++ x) (w .says .same))
       h
 
-  module _ {r : Answer} (d : Reads (program (sourceIn s n size)) postProgram s s′ (Read 0 (n * 3)) r) where
+  module _ {r : Answer} (d : Reads (program (sourceIn s n size)) encodeProgram s s′ (Read 0 (n * 3)) r) where
     pub tree-read : {next free : ℕ} → Fits 0 s s′ n (Read 0 (n * 3)) r → r ≡ Read next free → ReadsTree s n size (ReadTo free) s′
     tree-read {next} {free} f e =
-        wrote next free (subst (λ (x : Answer). GoesBy (program (sourceIn s n size)) (Is postProgram) s s′ (Read 0 (n * 3)) x) e (d .by)) (within f e)
+        wrote next free (subst (λ (x : Answer). GoesBy (program (sourceIn s n size)) (Is encodeProgram) s s′ (Read 0 (n * 3)) x) e (d .by)) (within f e)
 
     pub tree-refused : {number at place : ℕ} → r ≡ Refused number at → take (n * 3) s′ ≡ take (n * 3) s → place ≡ placeAt (sourceIn s′ n size) at → ReadsTree s n size (RefusedAt number place) s′
     unfolding treeOf
     tree-refused {number} {at} {place} e k p =
-        answered (no number at) (subst (λ (x : Answer). GoesBy (program (sourceIn s n size)) (Is postProgram) s s′ (Read 0 (n * 3)) x) e (d .by)) (ap (RefusedAt number) (p ∙ place-kept s s′ n size at k)) k tt
+        answered (no number at) (subst (λ (x : Answer). GoesBy (program (sourceIn s n size)) (Is encodeProgram) s s′ (Read 0 (n * 3)) x) e (d .by)) (ap (RefusedAt number) (p ∙ place-kept s s′ n size at k)) k tt

@@ -7,12 +7,13 @@ use mathlib.Core.List.{List, [], _∷_, _++_}
 use native.Mathlib.Omega.{arith}
 use lib.ListN.{length, take, drop, replicate}
 use Rattle.text.specs.Written.{bytes}
+use Rattle.language.specs.Kinds as K
 use Rattle.language.specs.Symbols.{Symbol}
 use Rattle.language.specs.Tree.{placeOf}
 use Rattle.language.specs.Source.{Symbols, good, faulty, symbolsOf, Read, read, refused, parsed}
 use Rattle.language.proofs.Texts.{symbolsIn, answer, times}
 use Rattle.symbols.specs.Read.{entries, outcome}
-use Rattle.tree.specs.Post.{suffixedKind, postName, postNames, postPositive, postConstant, postLabels, labelled, repeated, post, postBody, bodyWord, postFunctions, postProgram}
+use Rattle.tree.specs.Encoding.{CALLED, SUFFIXED, DYADIC, LABELLED, MONADIC, suffixedKind, encodeName, encodeNames, encodePositive, encodeConstant, encodeLabels, labelled, repeated, encode, encodeBody, bodyWord, encodeFunctions, encodeProgram}
 use Rattle.tree.specs.Read.{decoded, sourceIn, unfit, treeRead}
 use Rattle.tree.specs.declared.TreeRead.{TreeRead}
 use Rattle.tree.specs.declared.TreeRead.the-variants as Answers
@@ -20,11 +21,11 @@ use Rattle.tree.proofs.Stages.{enough, asAnswer, stages}
 
 -- the entries of a text's tree; none if it is refused
 abbrev entriesOf : Read → List ℕ
-entriesOf (read p) = postProgram p
+entriesOf (read p) = encodeProgram p
 entriesOf (refused number place) = []
 
 unfoldable treeIn : String → List ℕ
-unfolding answer suffixedKind placeOf postName postNames postPositive postConstant postLabels labelled repeated post postBody bodyWord postFunctions postProgram
+unfolding answer suffixedKind placeOf encodeName encodeNames encodePositive encodeConstant encodeLabels labelled repeated encode encodeBody bodyWord encodeFunctions encodeProgram
 treeIn text = entriesOf (parsed (bytes text))
 
 -- so many entries of the body, where a text is one function without parameters: LET, the function's item and its name are eight
@@ -46,7 +47,7 @@ answerWith room text = then room (length text) (symbolsOf text)
 -- the six symbols of LET F() = 1: kind, value and place of each
 abbrev six : List ℕ
 six =
-    (3 ∷ 3 ∷ 0 ∷ []) ++ (59 ∷ 1 ∷ 4 ∷ []) ++ (51 ∷ 0 ∷ 5 ∷ []) ++ (52 ∷ 0 ∷ 6 ∷ []) ++ (39 ∷ 0 ∷ 8 ∷ []) ++ (60 ∷ 1 ∷ 10 ∷ [])
+    (K.LET ∷ 3 ∷ 0 ∷ []) ++ (K.NAME ∷ 1 ∷ 4 ∷ []) ++ (K.OPEN ∷ 0 ∷ 5 ∷ []) ++ (K.CLOSE ∷ 0 ∷ 6 ∷ []) ++ (K.EQUAL ∷ 0 ∷ 8 ∷ []) ++ (K.NUMBER ∷ 1 ∷ 10 ∷ [])
 
 -- they stand at the beginning of scratch of 8 * 6 + 64 entries, and zeros after them
 whole-before : outcome 112 (symbolsIn "LET F() = 1") .scratch ≡ six ++ replicate 94 0
@@ -61,7 +62,7 @@ whole = refl
 -- and these are the 16: 14 and LET, 12 and 0, the name F, the number 1, and the record of a function that is = its body
 whole-entries :
     treeIn "LET F() = 1" ≡
-    (14 ∷ 3 ∷ []) ++ (12 ∷ 0 ∷ []) ++ (0 ∷ 1 ∷ 4 ∷ 59 ∷ []) ++ (0 ∷ 1 ∷ 10 ∷ 60 ∷ []) ++ (8 ∷ 0 ∷ 0 ∷ 39 ∷ [])
+    (14 ∷ K.LET ∷ []) ++ (12 ∷ 0 ∷ []) ++ (0 ∷ 1 ∷ 4 ∷ K.NAME ∷ []) ++ (0 ∷ 1 ∷ 10 ∷ K.NUMBER ∷ []) ++ (8 ∷ 0 ∷ 0 ∷ K.EQUAL ∷ [])
 unfolding treeIn
 whole-entries = refl
 
@@ -69,19 +70,19 @@ whole-entries = refl
 
 -- a label: the size of what follows, CASE, the number, and the record with the label's place
 abbrev case-48 : List ℕ
-case-48 = (8 ∷ 28 ∷ []) ++ (0 ∷ 48 ∷ 35 ∷ 60 ∷ []) ++ (4 ∷ 0 ∷ 30 ∷ 28 ∷ [])
+case-48 = (8 ∷ K.CASE ∷ []) ++ (0 ∷ 48 ∷ 35 ∷ K.NUMBER ∷ []) ++ (4 ∷ 0 ∷ 30 ∷ K.CASE ∷ [])
 
 abbrev case-5 : List ℕ
-case-5 = (8 ∷ 28 ∷ []) ++ (0 ∷ 5 ∷ 44 ∷ 60 ∷ []) ++ (4 ∷ 0 ∷ 39 ∷ 28 ∷ [])
+case-5 = (8 ∷ K.CASE ∷ []) ++ (0 ∷ 5 ∷ 44 ∷ K.NUMBER ∷ []) ++ (4 ∷ 0 ∷ 39 ∷ K.CASE ∷ [])
 
 -- F(): the name, a call with no arguments, and the record: a name of 4 entries, the place of F, and a call is last
 abbrev called : List ℕ
-called = (0 ∷ 1 ∷ 47 ∷ 59 ∷ []) ++ (0 ∷ 51 ∷ []) ++ (6 ∷ 4 ∷ 47 ∷ 67 ∷ [])
+called = (0 ∷ 1 ∷ 47 ∷ K.NAME ∷ []) ++ (0 ∷ K.OPEN ∷ []) ++ (6 ∷ 4 ∷ 47 ∷ CALLED ∷ [])
 
 -- both labels stand before the call, and the record says that they take 20 entries
 labels :
     bodyIn 44 "LET F() BE SWITCHON X INTO $( CASE 48: CASE 5: F() $)" ≡
-    (0 ∷ 1 ∷ 20 ∷ 59 ∷ []) ++ (34 ∷ 0 ∷ []) ++ case-48 ++ case-5 ++ called ++ (30 ∷ 20 ∷ 0 ∷ 65 ∷ []) ++ (40 ∷ 4 ∷ 0 ∷ 26 ∷ [])
+    (0 ∷ 1 ∷ 20 ∷ K.NAME ∷ []) ++ (34 ∷ 0 ∷ []) ++ case-48 ++ case-5 ++ called ++ (30 ∷ 20 ∷ 0 ∷ LABELLED ∷ []) ++ (40 ∷ 4 ∷ 0 ∷ K.SWITCHON ∷ [])
 unfolding bodyIn
 labels = refl
 
@@ -90,25 +91,37 @@ labels = refl
 -- a chain is one record, with the place of A: A, and the items - B and - C
 chain :
     bodyIn 20 "LET F() = A-B-C" ≡
-    (0 ∷ 1 ∷ 10 ∷ 59 ∷ []) ++ (4 ∷ 36 ∷ 0 ∷ 1 ∷ 12 ∷ 59 ∷ []) ++ (4 ∷ 36 ∷ 0 ∷ 1 ∷ 14 ∷ 59 ∷ []) ++ (16 ∷ 4 ∷ 10 ∷ 64 ∷ [])
+    (0 ∷ 1 ∷ 10 ∷ K.NAME ∷ []) ++ (4 ∷ K.MINUS ∷ 0 ∷ 1 ∷ 12 ∷ K.NAME ∷ []) ++ (4 ∷ K.MINUS ∷ 0 ∷ 1 ∷ 14 ∷ K.NAME ∷ []) ++ (16 ∷ 4 ∷ 10 ∷ DYADIC ∷ [])
 unfolding bodyIn
 chain = refl
 
--- a call with two arguments, and an index, which is last: the record's kind is 63
+-- a call with two arguments, and an index, which is last: each has its size and its tag behind it
 index-last :
     bodyIn 28 "LET G() = F(A,B)!C" ≡
-    (0 ∷ 1 ∷ 10 ∷ 59 ∷ []) ++ (12 ∷ 51 ∷ 4 ∷ 0 ∷ 0 ∷ 1 ∷ 12 ∷ 59 ∷ 4 ∷ 0 ∷ 0 ∷ 1 ∷ 14 ∷ 59 ∷ []) ++ (4 ∷ 49 ∷ 0 ∷ 1 ∷ 17 ∷ 59 ∷ []) ++ (24 ∷ 4 ∷ 10 ∷ 63 ∷ [])
+    (0 ∷ 1 ∷ 10 ∷ K.NAME ∷ []) ++ (4 ∷ 0 ∷ 0 ∷ 1 ∷ 12 ∷ K.NAME ∷ 4 ∷ 0 ∷ 0 ∷ 1 ∷ 14 ∷ K.NAME ∷ 12 ∷ K.OPEN ∷ []) ++ (0 ∷ 1 ∷ 17 ∷ K.NAME ∷ 4 ∷ K.PLING ∷ []) ++ (24 ∷ 4 ∷ 10 ∷ SUFFIXED ∷ [])
 unfolding bodyIn
 index-last = refl
 
--- an index and then a call: 67
+-- an index and then a call: the record's kind says so
 call-last :
     bodyIn 22 "LET G() = F!A(B)" ≡
-    (0 ∷ 1 ∷ 10 ∷ 59 ∷ []) ++ (4 ∷ 49 ∷ 0 ∷ 1 ∷ 12 ∷ 59 ∷ []) ++ (6 ∷ 51 ∷ 4 ∷ 0 ∷ 0 ∷ 1 ∷ 14 ∷ 59 ∷ []) ++ (18 ∷ 4 ∷ 10 ∷ 67 ∷ [])
+    (0 ∷ 1 ∷ 10 ∷ K.NAME ∷ []) ++ (0 ∷ 1 ∷ 12 ∷ K.NAME ∷ 4 ∷ K.PLING ∷ []) ++ (4 ∷ 0 ∷ 0 ∷ 1 ∷ 14 ∷ K.NAME ∷ 6 ∷ K.OPEN ∷ []) ++ (18 ∷ 4 ∷ 10 ∷ CALLED ∷ [])
 unfolding bodyIn
 call-last = refl
 
+-- NOT takes a shift expression: what stands after it and binds tighter than & is its operand
+not :
+    bodyIn 28 "LET F() = NOT A=B & C" ≡
+    (0 ∷ 1 ∷ 14 ∷ K.NAME ∷ []) ++ (4 ∷ K.EQUAL ∷ 0 ∷ 1 ∷ 16 ∷ K.NAME ∷ []) ++ (10 ∷ 4 ∷ 14 ∷ DYADIC ∷ []) ++ (14 ∷ K.NOT ∷ 10 ∷ MONADIC ∷ []) ++ (4 ∷ K.AMPERSAND ∷ 0 ∷ 1 ∷ 20 ∷ K.NAME ∷ []) ++ (24 ∷ 18 ∷ 10 ∷ DYADIC ∷ [])
+unfolding bodyIn
+not = refl
+
 -- ---- refused
+
+-- a second relation after NOT's operand, as without NOT
+relation : answerWith 200 (bytes "LET F() = NOT A=B=C") ≡ Answers.Refused 6 17
+unfolding answerWith
+relation = refl
 
 -- an expression is wanted at the end: 6, and the place is the text's length
 at-end : answerWith 136 (bytes "LET F() =") ≡ Answers.Refused 6 9

@@ -9,7 +9,7 @@ use lib.Seq.{length-take-le}
 use Rattle.language.specs.Reader.{Source, Out, ok, no, Reader, onOut, manyUpTo, kindAt}
 use Rattle.tree.specs.Reads.{Wrote, GoesBy, Goes, Puts, Reads, AddsBy, Adds, SealsBy, Seals, freeOf}
 use Rattle.tree.proofs.Steps.{here, nothing}
-use Rattle.tree.specs.Post.{item}
+use Rattle.tree.specs.Encoding.{item}
 use Rattle.tree.specs.declared.scratch.Answer.{Answer}
 use Rattle.tree.specs.declared.scratch.Answer.the-variants.{Read, Refused}
 

@@ -14,7 +14,7 @@ use Rattle.language.specs.Commands as C
 use Rattle.language.specs.Grammar.{within, readers}
 use Rattle.tree.specs.Reads.{Lies, Here, KindHere, Goes, Puts, Reads}
 use Rattle.tree.specs.Between.{aFurtherName}
-use Rattle.tree.specs.Post.{leaf, postName, postNames, postConstant, postBy}
+use Rattle.tree.specs.Encoding.{leaf, encodeName, encodeNames, encodeConstant, encodeBy}
 use Rattle.tree.proofs.Steps.{bind, here, goes-on, nothing}
 use Rattle.tree.proofs.Symbols.{mapped, the-is, stays}
 use Rattle.tree.proofs.Leaves.{name-at, nameOf}
@@ -24,19 +24,19 @@ same-name : (o : Out Name) → o ≡ onOut o (λ y m. ok y m)
 same-name (ok y m) = refl
 same-name (no k p) = refl
 
-pub a-name-read : {src : Source} {n : ℕ} {s s′ : List ℕ} {r r′ : Answer} {value : ℕ} → Lies src n s → Here (valueAt src) n r value → Reads (the K.NAME src) (λ place. leaf value place K.NAME) s s′ r r′ → Reads (aName src) postName s s′ r r′
-unfolding postName
+pub a-name-read : {src : Source} {n : ℕ} {s s′ : List ℕ} {r r′ : Answer} {value : ℕ} → Lies src n s → Here (valueAt src) n r value → Reads (the K.NAME src) (λ place. leaf value place K.NAME) s s′ r r′ → Reads (aName src) encodeName s s′ r r′
+unfolding encodeName
 a-name-read {src} {value = value} l h d =
     here _ (λ at free e. same-name (aName src at) ∙ name-at l h (λ y m. ok y m) at free e) (mapped (λ place. nameOf place value) (λ _. refl) d)
 
 -- a comma and a name
-pub further-name-read : (src : Source) {s s₁ : List ℕ} {r r₀ r₁ : Answer} → Reads (the K.COMMA src) (λ _. []) s s r r₀ → Reads (aName src) postName s s₁ r₀ r₁ → Goes (aFurtherName src) (Puts postNames) s s₁ r r₁
-unfolding aFurtherName postName postNames
+pub further-name-read : (src : Source) {s s₁ : List ℕ} {r r₀ r₁ : Answer} → Reads (the K.COMMA src) (λ _. []) s s r r₀ → Reads (aName src) encodeName s s₁ r₀ r₁ → Goes (aFurtherName src) (Puts encodeNames) s s₁ r r₁
+unfolding aFurtherName encodeName encodeNames
 further-name-read src c d =
-    bind 0 (λ _. []) c (goes-on d) (λ _ _. bind 0 postName d stays (λ y _. nothing (record { puts = λ rest. refl; some = omega arith })))
+    bind 0 (λ _. []) c (goes-on d) (λ _ _. bind 0 encodeName d stays (λ y _. nothing (record { puts = λ rest. refl; some = omega arith })))
 
-pub no-name-words : postNames [] ≡ []
-unfolding postNames
+pub no-name-words : encodeNames [] ≡ []
+unfolding encodeNames
 no-name-words = refl
 
 -- a symbol, if it stands here
@@ -56,14 +56,14 @@ module _ (src : Source) (kind : ℕ) {s : List ℕ} {r : Answer} {x : ℕ} (k : 
 
 -- BY and a constant, if BY stands here
 module _ (src : Source) (x : ℕ) {s : List ℕ} {r : Answer} {kind : ℕ} (k : KindHere src r kind) where
-  pub by-read : {s₁ : List ℕ} {r₀ r₁ : Answer} → kind ≡ K.BY → Reads (the K.BY src) (λ _. []) s s r r₀ → Reads (E.constant (within x) src) postConstant s s₁ r₀ r₁ → Reads (C.optionalBy (readers (within x)) src) postBy s s₁ r r₁
-  unfolding C.optionalBy C.by postBy
+  pub by-read : {s₁ : List ℕ} {r₀ r₁ : Answer} → kind ≡ K.BY → Reads (the K.BY src) (λ _. []) s s r r₀ → Reads (E.constant (within x) src) encodeConstant s s₁ r₀ r₁ → Reads (C.optionalBy (readers (within x)) src) encodeBy s s₁ r r₁
+  unfolding C.optionalBy C.by encodeBy
   by-read q a d =
       here (C.by (readers (within x)) src) (λ at free e. ap (λ (b : Bool). cond b (C.by (readers (within x)) src at) (ok none at)) (eq-eqb (kindAt src at) K.BY (sym (k .here at free e) ∙ q)))
       (bind 0 (λ _. []) a (goes-on d) (λ _ _. mapped some (λ _. refl) d))
 
-  pub no-by : (kind ≡ K.BY → ⊥) → Reads (C.optionalBy (readers (within x)) src) postBy s s r r
-  unfolding C.optionalBy postBy
+  pub no-by : (kind ≡ K.BY → ⊥) → Reads (C.optionalBy (readers (within x)) src) encodeBy s s r r
+  unfolding C.optionalBy encodeBy
   no-by q =
       here (λ m. ok none m) (λ at free e. ap (λ (b : Bool). cond b (C.by (readers (within x)) src at) (ok none at)) (ne-eqb (kindAt src at) K.BY (λ y. q (k .here at free e ∙ y))))
       (nothing (record { same = refl }))

@@ -15,7 +15,7 @@ use Rattle.language.specs.Grammar.{treeOf}
 use Rattle.symbols.specs.Read.{entries, outcome}
 use Rattle.symbols.specs.Parts.{symbolsIn}
 use Rattle.symbols.proofs.Semicolons.{few}
-use Rattle.tree.specs.Post.{postProgram}
+use Rattle.tree.specs.Encoding.{encodeProgram}
 use Rattle.tree.specs.Read.{decoded, sourceIn, unfit, answerOf, treeRead}
 use Rattle.tree.specs.declared.TreeRead.{TreeRead}
 use Rattle.tree.specs.declared.TreeRead.the-variants as Answers
@@ -51,7 +51,7 @@ enough text ss room e h l =
 
 -- what the definition of both stages says, as an answer
 pub asAnswer : (count : ℕ) → Read → TreeRead
-asAnswer count (read p) = Answers.Read (count * 3 + length (postProgram p))
+asAnswer count (read p) = Answers.Read (count * 3 + length (encodeProgram p))
 asAnswer count (refused k place) = Answers.Refused k place
 
 same-answer : (src : Source) (count : ℕ) (o : Out Program) → answerOf src count o ≡ asAnswer count (onTree src o)

@@ -12,7 +12,7 @@ use Rattle.language.specs.Expressions.{Readers, opening, numeral, quotation, tr
 use Rattle.language.specs.Commands.{unlabelled, repeatForm}
 use Rattle.language.specs.Grammar.{within, readers, function, andFunction}
 use Rattle.language.specs.Grammar.{item as itemOf}
-use Rattle.tree.specs.Post.{closed, item, post, postName, postNames, bodyWord, postProgram, postExpressions, postSuffixes, postUnlabelled, postRepeats, postLocals, postBody, repeated}
+use Rattle.tree.specs.Encoding.{closed, item, encode, encodeName, encodeNames, bodyWord, encodeProgram, encodeExpressions, encodeSuffixes, encodeUnlabelled, encodeRepeats, encodeLocals, encodeBody, repeated}
 use Rattle.language.specs.Reader.{ok, Reader, _>>=_, return, is, unexpected, any, the, aName, many, items, kindAt}
 use Rattle.tree.specs.declared.scratch.Answer.{Answer}
 use Rattle.tree.specs.declared.scratch.Answer.the-variants.{Read}
@@ -70,8 +70,8 @@ bodyAfter labelled levels s at =
     cond (beginsCommand (kindAt s at)) (opened levels s at)
     (cond labelled (ok (record { body = empty; forms = noRepeats }) at) (unexpected s at))
 
-unfoldable pub postRepeatedOnly : Repeated → List ℕ
-postRepeatedOnly c = repeated (postUnlabelled (c .body)) (postRepeats (c .forms))
+unfoldable pub encodeRepeatedOnly : Repeated → List ℕ
+encodeRepeatedOnly c = repeated (encodeUnlabelled (c .body)) (encodeRepeats (c .forms))
 
 -- BREAK | LOOP | ENDCASE | RETURN | FINISH
 unfoldable pub leaving : Reader Unlabelled
@@ -89,41 +89,41 @@ aFurtherName = do
 -- a suffix that is a call or is not, and the suffixes after another: whether the last of all is a call, where `before` says so of
 -- the one before them
 pub record PutsSuffix (call : Bool) (put : Suffixes → Suffixes) (words : List ℕ) : Type 0 where
-  pub puts : (rest : Suffixes) → postSuffixes (put rest) ≡ words ++ postSuffixes rest
+  pub puts : (rest : Suffixes) → encodeSuffixes (put rest) ≡ words ++ encodeSuffixes rest
   pub some : 0 < length words
   pub ends : (b : Bool) (rest : Suffixes) → endsInCall b (put rest) ≡ endsInCall call rest
 
 pub record Ended (before last : Bool) (ss : Suffixes) (words : List ℕ) : Type 0 where
-  pub same : words ≡ postSuffixes ss
+  pub same : words ≡ encodeSuffixes ss
   pub ends : endsInCall before ss ≡ last
 
 -- an expression of a list, and a list's expressions: how many they are
 pub record PutsOne (put : Expressions → Expressions) (words : List ℕ) : Type 0 where
-  pub puts : (rest : Expressions) → postExpressions (put rest) ≡ words ++ postExpressions rest
+  pub puts : (rest : Expressions) → encodeExpressions (put rest) ≡ words ++ encodeExpressions rest
   pub one : (rest : Expressions) → count (put rest) ≡ count rest + 1
 
 pub record Counted (number : ℕ) (es : Expressions) (words : List ℕ) : Type 0 where
-  pub same : words ≡ postExpressions es
+  pub same : words ≡ encodeExpressions es
   pub many : count es ≡ number
 
 -- whether the expression that is read last is a call
 pub record CallHere (s : List ℕ) (r : Answer) (call : Bool) : Type 0 where
-  pub here : (at free : ℕ) (before : List ℕ) (e : Expression) → r ≡ Read at free → take free s ≡ before ++ post e → call ≡ isCall e
+  pub here : (at free : ℕ) (before : List ℕ) (e : Expression) → r ≡ Read at free → take free s ≡ before ++ encode e → call ≡ isCall e
 
 -- the place of the expression that is read last
 pub record PlaceHere (s : List ℕ) (r : Answer) (place : ℕ) : Type 0 where
-  pub here : (at free : ℕ) (before : List ℕ) (e : Expression) → r ≡ Read at free → take free s ≡ before ++ post e → place ≡ placeOf e
+  pub here : (at free : ℕ) (before : List ℕ) (e : Expression) → r ≡ Read at free → take free s ≡ before ++ encode e → place ≡ placeOf e
 
 -- the words of an assignment after its first side, and of a local after its names
 pub record After (e : Expression) (u : Unlabelled) (words : List ℕ) : Type 0 where
-  pub same : postUnlabelled u ≡ post e ++ words
+  pub same : encodeUnlabelled u ≡ encode e ++ words
 
 pub record Gives (names : List Name) (put : Locals → Locals) (words : List ℕ) : Type 0 where
-  pub puts : (rest : Locals) → postLocals (put rest) ≡ item K.LET (postNames names ++ words) ++ postLocals rest
+  pub puts : (rest : Locals) → encodeLocals (put rest) ≡ item K.LET (encodeNames names ++ words) ++ encodeLocals rest
 
 -- the words of a function after its name and its parameters
 pub record Bodies (name : Name) (parameters : List Name) (b : Body) (words : List ℕ) : Type 0 where
-  pub same : closed (postName name ++ (postNames parameters ++ postBody b)) (length (postNames parameters)) 0 (bodyWord b) ≡ postName name ++ (postNames parameters ++ words)
+  pub same : closed (encodeName name ++ (encodeNames parameters ++ encodeBody b)) (length (encodeNames parameters)) 0 (bodyWord b) ≡ encodeName name ++ (encodeNames parameters ++ words)
 
 -- $( item { ; item } [;] $)
 unfoldable pub itemList : (sign : ℕ) → Reader (List Item)
@@ -162,4 +162,4 @@ declarationAfter kind s at =
 
 -- a declaration's words stand in an item whose tag is its word
 pub record Declares (kind : ℕ) (d : Declaration) (words : List ℕ) : Type 0 where
-  pub same : (rest : Program) → postProgram (d ∷ rest) ≡ item kind words ++ postProgram rest
+  pub same : (rest : Program) → encodeProgram (d ∷ rest) ≡ item kind words ++ encodeProgram rest

@@ -1,4 +1,4 @@
-pub mod Post
+pub mod Encoding
 pub mod Reads
 pub mod Between
 pub mod Read

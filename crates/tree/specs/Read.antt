@@ -1,4 +1,4 @@
--- What `read_tree` answers, and what scratch then holds: the symbols, and after them the tree (`Post`) if there is one. What stands
+-- What `read_tree` answers, and what scratch then holds: the symbols, and after them the tree (`Encoding`) if there is one. What stands
 -- behind these is not said. Scratch that is too short, or longer than an entry can count, stays as it was.
 use Prim.Native.Nat.{ℕ, zero, suc, _+_, _-_, _*_, _≤_, _^_}
 use mathlib.Core.Path.{_≡_}
@@ -10,7 +10,7 @@ use Rattle.language.specs.Symbols.{Symbol}
 use Rattle.language.specs.Reader.{Source, Out, ok, no, placeAt}
 use Rattle.language.specs.Tree.{Program}
 use Rattle.language.specs.Grammar.{treeOf}
-use Rattle.tree.specs.Post.{postProgram}
+use Rattle.tree.specs.Encoding.{encodeProgram}
 use Rattle.tree.specs.declared.TreeRead.{TreeRead}
 use Rattle.tree.specs.declared.TreeRead.the-variants.{TooShort, Read, Refused}
 
@@ -28,7 +28,7 @@ unfoldable pub unfit : (room count : ℕ) → Bool
 unfit room count = cond (ltb room (count * 8 + 64)) true (ltb (2 ^ 32 - 1) room)
 
 abbrev pub answerOf : Source → (count : ℕ) → Out Program → TreeRead
-answerOf src count (ok p next) = Read (count * 3 + length (postProgram p))
+answerOf src count (ok p next) = Read (count * 3 + length (encodeProgram p))
 answerOf src count (no number at) = Refused number (placeAt src at)
 
 unfoldable pub treeRead : (scratch : List ℕ) → (count size : ℕ) → TreeRead
@@ -36,7 +36,7 @@ treeRead scratch count size =
     cond (unfit (length scratch) count) TooShort (answerOf (sourceIn scratch count size) count (treeOf (sourceIn scratch count size)))
 
 abbrev pub Stands : (count : ℕ) → Out Program → (scratch scratch′ : List ℕ) → Type 0
-Stands count (ok p next) s s′ = take (count * 3 + length (postProgram p)) s′ ≡ take (count * 3) s ++ postProgram p
+Stands count (ok p next) s s′ = take (count * 3 + length (encodeProgram p)) s′ ≡ take (count * 3) s ++ encodeProgram p
 Stands count (no number at) s s′ = take (count * 3) s′ ≡ take (count * 3) s
 
 abbrev pub Leaves : (scratch : List ℕ) → (count size : ℕ) → (scratch′ : List ℕ) → Bool → Type 0

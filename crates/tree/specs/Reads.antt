@@ -6,7 +6,7 @@ use mathlib.Core.List.{List, [], _∷_, _++_}
 use lib.ListN.{length, take, getD, set}
 use Rattle.language.specs.Kinds as K
 use Rattle.language.specs.Tree.{count, functions}
-use Rattle.tree.specs.Post.{item}
+use Rattle.tree.specs.Encoding.{item}
 use Rattle.language.specs.Reader.{Source, Out, ok, no, Reader, _>>=_, return, is, the, items, kindAt, valueAt, placeAt}
 use Rattle.tree.specs.declared.scratch.Answer.{Answer}
 use Rattle.tree.specs.declared.scratch.Answer.the-variants.{Read, Refused}
@@ -142,6 +142,10 @@ pub record Adds (words : ℕ → List ℕ) (s s′ : List ℕ) (r r′ : Answer)
 -- a record behind what stands from lo on
 abbrev pub recordFrom : (lo value place kind : ℕ) → (free : ℕ) → List ℕ
 recordFrom lo v p k free = (free - lo) ∷ v ∷ p ∷ k ∷ []
+
+-- the two entries of a suffix behind what stands from lo on
+abbrev pub behindFrom : (lo tag : ℕ) → (free : ℕ) → List ℕ
+behindFrom lo tag free = (free - lo) ∷ tag ∷ []
 
 -- the item that begins at lo has its size set
 abbrev pub SealsBy : (lo : ℕ) → List ℕ → List ℕ → Answer → Type 0

@@ -56,14 +56,18 @@ ghost use mathlib.Core.Bool.{true, false, cond};
 ghost use lib.Dec.{eqb};
 ghost use Rattle.language.specs.Kinds as K;
 ghost use Rattle.language.specs.Reader.{the};
+ghost use Rattle.language.specs.Binding as B;
 ghost use Rattle.language.specs.Binding.{bindingOf, isMonadic, isSuffix, isGuard, isLeave, isRepeat, isLabel, isDeclaration, goesOnAssignment, beginsExpression, beginsCommand, reachOf};
 ghost use Rattle.tree.specs.Between.{rightOf, furtherMost};
 
-pub(crate) const LOOSEST: u32 = 6;
+pub(crate) const LOOSEST: u32 = 7;
 
 const RELATION: u32 = 3;
 
 const SHIFT: u32 = 4;
+
+// The rung of NOT, which has no dyadic operator.
+pub(crate) const NEGATION: u32 = 5;
 
 // The binding of a dyadic operator, and 0 for any other symbol.
 pub(crate) fn binding_of(kind: u32) -> u32
@@ -83,8 +87,8 @@ pub(crate) fn binding_of(kind: u32) -> u32
         ATLEAST => 3,
         LEFT => 4,
         RIGHT => 4,
-        AMPERSAND => 5,
-        BAR => 6,
+        AMPERSAND => 6,
+        BAR => 7,
         _ => 0,
     }
 }
@@ -114,7 +118,7 @@ pub(crate) fn is_suffix(kind: u32) -> bool
 
 // How loosely the operators in the operand of a monadic operator may bind.
 pub(crate) fn reach_of(kind: u32) -> u32
-    ensures { λ b. ⌜ (b ≡ reachOf kind) × (b ≤ 6) ⌝ }
+    ensures { λ b. ⌜ (b ≡ reachOf kind) × (b ≤ B.LOOSEST) ⌝ }
 {
     match kind {
         PLING => 0,

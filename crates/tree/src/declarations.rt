@@ -16,7 +16,7 @@ use crate::kinds::SEMICOLON;
 use crate::parts::a_name;
 use crate::parts::constant;
 use crate::parts::further_names;
-use crate::phrases::command;
+use crate::phrases::cmd;
 use crate::phrases::expr;
 use crate::scratch::Answer;
 use crate::scratch::expect;
@@ -39,7 +39,7 @@ ghost use Rattle.language.specs.Tree as T;
 ghost use Rattle.language.specs.Reader.{Source, the, optional, manyUpTo, moreUpTo, upToClose};
 ghost use Rattle.language.specs.Binding.{isDeclaration};
 ghost use Rattle.language.specs.Grammar as G;
-ghost use Rattle.tree.specs.Post.{item, postName, postNames, postItems, postFunctions, postProgram};
+ghost use Rattle.tree.specs.Encoding.{item, encodeName, encodeNames, encodeItems, encodeFunctions, encodeProgram};
 ghost use Rattle.tree.specs.Reads.{Lies, Ready, Fits, KindHere, Goes, Puts, Passes, freeOf, Reading, Is};
 ghost use Rattle.tree.specs.Between.{itemList, Bodies, functionList, declarationAfter, Declares};
 
@@ -49,7 +49,7 @@ const LEVELS: usize = 64;
 // name : constant, in GLOBAL; name = constant, in MANIFEST; as an item
 fn one_item(s: &mut [u32], n: usize, sign: u32, r: Answer) -> Answer
     requires { ⌜ Ready 2 (now s) n r × (0 < sign) ⌝ }
-    ensures { λ a. ⌜ Reading 5 (G.item sign) (Puts postItems) (now (s .entry)) (now (s .exit)) n r a ⌝ }
+    ensures { λ a. ⌜ Reading 5 (G.item sign) (Puts encodeItems) (now (s .entry)) (now (s .exit)) n r a ⌝ }
 {
     let lo = free_of(s, r);
     let begun = mark(s, n, r, 0);
@@ -63,7 +63,7 @@ fn one_item(s: &mut [u32], n: usize, sign: u32, r: Answer) -> Answer
 // { ; item } [;] $)
 fn further_items(s: &mut [u32], n: usize, sign: u32, r: Answer) -> Answer
     requires { ⌜ Ready 0 (now s) n r × (0 < sign) ⌝ }
-    ensures { λ a. ⌜ Reading 5 (moreUpTo n [] (G.item sign)) (Is postItems) (now (s .entry)) (now (s .exit)) n r a ⌝ }
+    ensures { λ a. ⌜ Reading 5 (moreUpTo n [] (G.item sign)) (Is encodeItems) (now (s .entry)) (now (s .exit)) n r a ⌝ }
 {
     let mut turns = n;
     let mut a = r;
@@ -86,7 +86,7 @@ fn further_items(s: &mut [u32], n: usize, sign: u32, r: Answer) -> Answer
 // $( item { ; item } [;] $)
 fn item_list(s: &mut [u32], n: usize, sign: u32, r: Answer) -> Answer
     requires { ⌜ Ready 0 (now s) n r × (0 < sign) ⌝ }
-    ensures { λ a. ⌜ Reading 10 (itemList sign) (Is postItems) (now (s .entry)) (now (s .exit)) n r a ⌝ }
+    ensures { λ a. ⌜ Reading 10 (itemList sign) (Is encodeItems) (now (s .entry)) (now (s .exit)) n r a ⌝ }
 {
     let begin = expect(s, n, r, BEGIN);
     let first = one_item(s, n, sign, begin);
@@ -96,7 +96,7 @@ fn item_list(s: &mut [u32], n: usize, sign: u32, r: Answer) -> Answer
 // [name {, name}] )
 fn parameters(s: &mut [u32], n: usize, r: Answer) -> Answer
     requires { ⌜ Ready 0 (now s) n r ⌝ }
-    ensures { λ a. ⌜ Reading 5 (upToClose [] G.parameter) (Is postNames) (now (s .entry)) (now (s .exit)) n r a ⌝ }
+    ensures { λ a. ⌜ Reading 5 (upToClose [] G.parameter) (Is encodeNames) (now (s .entry)) (now (s .exit)) n r a ⌝ }
 {
     let kind = kind_here(s, n, r);
     if kind == CLOSE {
@@ -110,7 +110,7 @@ fn parameters(s: &mut [u32], n: usize, r: Answer) -> Answer
 // = expression, or BE command, after the name, which begins at start, and the parameters
 fn function_body(s: &mut [u32], n: usize, start: usize, size: u32, r: Answer) -> Answer
     requires { ⌜ Ready 0 (now s) n r ⌝ }
-    ensures { λ a. ⌜ Fits 1 (now (s .entry)) (now (s .exit)) n r a × ((src : Source) → Lies src n (now (s .entry)) → Passes r a × ((name : T.Name) (names : List T.Name) → freeOf (length (now (s .entry))) r ≡ start + (length (postName name) + length (postNames names)) → size ≡ length (postNames names) → Goes (G.body src) (Bodies name names) (now (s .entry)) (now (s .exit)) r a)) ⌝ }
+    ensures { λ a. ⌜ Fits 1 (now (s .entry)) (now (s .exit)) n r a × ((src : Source) → Lies src n (now (s .entry)) → Passes r a × ((name : T.Name) (names : List T.Name) → freeOf (length (now (s .entry))) r ≡ start + (length (encodeName name) + length (encodeNames names)) → size ≡ length (encodeNames names) → Goes (G.body src) (Bodies name names) (now (s .entry)) (now (s .exit)) r a)) ⌝ }
 {
     let kind = kind_here(s, n, r);
     if kind == EQUAL {
@@ -119,14 +119,14 @@ fn function_body(s: &mut [u32], n: usize, start: usize, size: u32, r: Answer) ->
         return node(s, n, value, start, size, 0, EQUAL);
     }
     let word = expect(s, n, r, BE);
-    let routine = command(s, n, LEVELS, word);
+    let routine = cmd(s, n, LEVELS, word);
     node(s, n, routine, start, size, 0, BE)
 }
 
 // name ( [name {, name}] ) ( = expression | BE command ), as an item
 fn function(s: &mut [u32], n: usize, r: Answer) -> Answer
     requires { ⌜ Ready 2 (now s) n r ⌝ }
-    ensures { λ a. ⌜ Reading 5 G.function (Puts postFunctions) (now (s .entry)) (now (s .exit)) n r a ⌝ }
+    ensures { λ a. ⌜ Reading 5 G.function (Puts encodeFunctions) (now (s .entry)) (now (s .exit)) n r a ⌝ }
 {
     let lo = free_of(s, r);
     let begun = mark(s, n, r, 0);
@@ -143,7 +143,7 @@ fn function(s: &mut [u32], n: usize, r: Answer) -> Answer
 // { AND function }
 fn further_functions(s: &mut [u32], n: usize, r: Answer) -> Answer
     requires { ⌜ Ready 0 (now s) n r ⌝ }
-    ensures { λ a. ⌜ Reading 0 (manyUpTo n [] (λ kind. eqb kind K.AND) G.andFunction) (Is postFunctions) (now (s .entry)) (now (s .exit)) n r a ⌝ }
+    ensures { λ a. ⌜ Reading 0 (manyUpTo n [] (λ kind. eqb kind K.AND) G.andFunction) (Is encodeFunctions) (now (s .entry)) (now (s .exit)) n r a ⌝ }
 {
     let mut turns = n;
     let mut a = r;
@@ -162,7 +162,7 @@ fn further_functions(s: &mut [u32], n: usize, r: Answer) -> Answer
 // function { AND function }
 fn functions(s: &mut [u32], n: usize, r: Answer) -> Answer
     requires { ⌜ Ready 2 (now s) n r ⌝ }
-    ensures { λ a. ⌜ Reading 5 functionList (Is postFunctions) (now (s .entry)) (now (s .exit)) n r a ⌝ }
+    ensures { λ a. ⌜ Reading 5 functionList (Is encodeFunctions) (now (s .entry)) (now (s .exit)) n r a ⌝ }
 {
     let first = function(s, n, r);
     further_functions(s, n, first)
@@ -171,7 +171,7 @@ fn functions(s: &mut [u32], n: usize, r: Answer) -> Answer
 // declaration [;], as an item
 fn declared(s: &mut [u32], n: usize, kind: u32, r: Answer) -> Answer
     requires { ⌜ Ready 0 (now s) n r × (0 < kind) ⌝ }
-    ensures { λ a. ⌜ Fits 3 (now (s .entry)) (now (s .exit)) n r a × ((src : Source) → Lies src n (now (s .entry)) → KindHere src r kind → isDeclaration kind ≡ true → Goes (G.declared src) (Puts postProgram) (now (s .entry)) (now (s .exit)) r a) ⌝ }
+    ensures { λ a. ⌜ Fits 3 (now (s .entry)) (now (s .exit)) n r a × ((src : Source) → Lies src n (now (s .entry)) → KindHere src r kind → isDeclaration kind ≡ true → Goes (G.declared src) (Puts encodeProgram) (now (s .entry)) (now (s .exit)) r a) ⌝ }
 {
     let lo = free_of(s, r);
     let word = expect(s, n, r, kind);
@@ -196,7 +196,7 @@ fn declaration(s: &mut [u32], n: usize, kind: u32, r: Answer) -> Answer
 // { declaration [;] }
 fn declarations(s: &mut [u32], n: usize, r: Answer) -> Answer
     requires { ⌜ Ready 0 (now s) n r ⌝ }
-    ensures { λ a. ⌜ Reading 0 (manyUpTo n [] isDeclaration G.declared) (Is postProgram) (now (s .entry)) (now (s .exit)) n r a ⌝ }
+    ensures { λ a. ⌜ Reading 0 (manyUpTo n [] isDeclaration G.declared) (Is encodeProgram) (now (s .entry)) (now (s .exit)) n r a ⌝ }
 {
     let mut turns = n;
     let mut a = r;
@@ -215,7 +215,7 @@ fn declarations(s: &mut [u32], n: usize, r: Answer) -> Answer
 // { declaration [;] }, and nothing after it
 pub(crate) fn program(s: &mut [u32], n: usize, r: Answer) -> Answer
     requires { ⌜ Ready 0 (now s) n r ⌝ }
-    ensures { λ a. ⌜ Reading 0 G.program (Is postProgram) (now (s .entry)) (now (s .exit)) n r a ⌝ }
+    ensures { λ a. ⌜ Reading 0 G.program (Is encodeProgram) (now (s .entry)) (now (s .exit)) n r a ⌝ }
 {
     let a = declarations(s, n, r);
     let kind = kind_here(s, n, a);

@@ -1,4 +1,4 @@
-// The kinds of symbols (language's `Kinds`), and the kinds of nodes that are no kind of symbol (`Post`).
+// The kinds of symbols (language's `Kinds`), and the kinds of nodes that are no kind of symbol (`Encoding`).
 
 pub(crate) const NOTHING: u32 = 0;
 
@@ -125,15 +125,15 @@ pub(crate) const NUMBER: u32 = 60;
 pub(crate) const STRING: u32 = 61;
 
 // Kinds of nodes that are no kind of symbol.
-pub(crate) const MONADIC: u32 = 62;
+pub(crate) const MONADIC: u32 = 128;
 
-pub(crate) const SUFFIXED: u32 = 63;
-
-pub(crate) const DYADIC: u32 = 64;
-
-pub(crate) const LABELLED: u32 = 65;
-
-pub(crate) const REPEATED: u32 = 66;
+pub(crate) const SUFFIXED: u32 = 129;
 
 // A record of suffixes of which the last is a call.
-pub(crate) const CALLED: u32 = 67;
+pub(crate) const CALLED: u32 = 130;
+
+pub(crate) const DYADIC: u32 = 131;
+
+pub(crate) const LABELLED: u32 = 132;
+
+pub(crate) const REPEATED: u32 = 133;

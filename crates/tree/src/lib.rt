@@ -1,7 +1,7 @@
 // The tree reader: symbols in scratch to a tree in the same scratch (document 01, "Grammar").
 //
 // `scratch` has the state of the reading and its single steps, `binding` what the symbols' kinds say, `parts` names, constants and
-// labels, `phrases` expressions and commands, `declarations` programs. How a tree stands in scratch is `specs/Post.antt`.
+// labels, `phrases` expressions and commands, `declarations` programs. How a tree stands in scratch is `specs/Encoding.antt`.
 mod binding;
 mod declarations;
 mod kinds;

@@ -34,7 +34,7 @@ ghost use Rattle.language.specs.Binding.{isLabel};
 ghost use Rattle.language.specs.Expressions as E;
 ghost use Rattle.language.specs.Grammar.{within, readers};
 ghost use Rattle.language.specs.Commands as C;
-ghost use Rattle.tree.specs.Post.{closed, leaf, post, postName, postNames, postBy, postLabels, postUnlabelled, postConstant};
+ghost use Rattle.tree.specs.Encoding.{closed, leaf, encode, encodeName, encodeNames, encodeBy, encodeLabels, encodeUnlabelled, encodeConstant};
 ghost use Rattle.tree.specs.Reads.{Lies, Ready, Fits, Grows, KindHere, Goes, Puts, Reads, Passes, freeOf, Reading, ReadingAt, Is};
 ghost use Rattle.tree.specs.Between.{atomic, leaving, aFurtherName, Gives};
 
@@ -52,7 +52,7 @@ fn leaf(s: &mut [u32], n: usize, r: Answer, kind: u32, value: u32, tag: u32) -> 
 // number | string | TRUE | FALSE | name
 pub(crate) fn atom(s: &mut [u32], n: usize, r: Answer, kind: u32) -> Answer
     requires { ⌜ Ready 0 (now s) n r ⌝ }
-    ensures { λ a. ⌜ ReadingAt kind 1 atomic (Is post) (now (s .entry)) (now (s .exit)) n r a ⌝ }
+    ensures { λ a. ⌜ ReadingAt kind 1 atomic (Is encode) (now (s .entry)) (now (s .exit)) n r a ⌝ }
 {
     let value = value_here(s, n, r);
     match kind {
@@ -68,7 +68,7 @@ pub(crate) fn atom(s: &mut [u32], n: usize, r: Answer, kind: u32) -> Answer
 // BREAK | LOOP | ENDCASE | RETURN | FINISH
 pub(crate) fn leave(s: &mut [u32], n: usize, r: Answer, kind: u32) -> Answer
     requires { ⌜ Ready 0 (now s) n r × (0 < kind) ⌝ }
-    ensures { λ a. ⌜ ReadingAt kind 1 leaving (Is postUnlabelled) (now (s .entry)) (now (s .exit)) n r a ⌝ }
+    ensures { λ a. ⌜ ReadingAt kind 1 leaving (Is encodeUnlabelled) (now (s .entry)) (now (s .exit)) n r a ⌝ }
 {
     leaf(s, n, r, kind, 0, kind)
 }
@@ -76,7 +76,7 @@ pub(crate) fn leave(s: &mut [u32], n: usize, r: Answer, kind: u32) -> Answer
 // [number | TRUE | FALSE | name], as a constant.
 fn positive(s: &mut [u32], n: usize, r: Answer, kind: u32) -> Answer
     requires { ⌜ Ready 0 (now s) n r ⌝ }
-    ensures { λ a. ⌜ ReadingAt kind 1 E.positive (Is postConstant) (now (s .entry)) (now (s .exit)) n r a ⌝ }
+    ensures { λ a. ⌜ ReadingAt kind 1 E.positive (Is encodeConstant) (now (s .entry)) (now (s .exit)) n r a ⌝ }
 {
     let value = value_here(s, n, r);
     match kind {
@@ -110,7 +110,7 @@ fn negated_name(s: &mut [u32], n: usize, r: Answer, value: u32, place: u32) -> A
 // - (number | TRUE | FALSE | name): the minus opens a level.
 fn negative(s: &mut [u32], n: usize, levels: usize, r: Answer) -> Answer
     requires { ⌜ Ready 0 (now s) n r ⌝ }
-    ensures { λ a. ⌜ Reading 1 (E.negative (within levels)) (Is postConstant) (now (s .entry)) (now (s .exit)) n r a ⌝ }
+    ensures { λ a. ⌜ Reading 1 (E.negative (within levels)) (Is encodeConstant) (now (s .entry)) (now (s .exit)) n r a ⌝ }
 {
     if levels == 0 {
         return refuse(s, n, r, 7);
@@ -130,7 +130,7 @@ fn negative(s: &mut [u32], n: usize, levels: usize, r: Answer) -> Answer
 // A constant.
 pub(crate) fn constant(s: &mut [u32], n: usize, levels: usize, r: Answer) -> Answer
     requires { ⌜ Ready 0 (now s) n r ⌝ }
-    ensures { λ a. ⌜ Reading 1 (E.constant (within levels)) (Is postConstant) (now (s .entry)) (now (s .exit)) n r a ⌝ }
+    ensures { λ a. ⌜ Reading 1 (E.constant (within levels)) (Is encodeConstant) (now (s .entry)) (now (s .exit)) n r a ⌝ }
 {
     let kind = kind_here(s, n, r);
     if kind == MINUS {
@@ -143,7 +143,7 @@ pub(crate) fn constant(s: &mut [u32], n: usize, levels: usize, r: Answer) -> Ans
 // A name.
 pub(crate) fn a_name(s: &mut [u32], n: usize, r: Answer) -> Answer
     requires { ⌜ Ready 0 (now s) n r ⌝ }
-    ensures { λ a. ⌜ Reading 1 aName (Is postName) (now (s .entry)) (now (s .exit)) n r a ⌝ }
+    ensures { λ a. ⌜ Reading 1 aName (Is encodeName) (now (s .entry)) (now (s .exit)) n r a ⌝ }
 {
     let value = value_here(s, n, r);
     leaf(s, n, r, NAME, value, NAME)
@@ -152,7 +152,7 @@ pub(crate) fn a_name(s: &mut [u32], n: usize, r: Answer) -> Answer
 // {, name}
 pub(crate) fn further_names(s: &mut [u32], n: usize, r: Answer) -> Answer
     requires { ⌜ Ready 0 (now s) n r ⌝ }
-    ensures { λ a. ⌜ Reading 0 (manyUpTo n [] isComma aFurtherName) (Is postNames) (now (s .entry)) (now (s .exit)) n r a ⌝ }
+    ensures { λ a. ⌜ Reading 0 (manyUpTo n [] isComma aFurtherName) (Is encodeNames) (now (s .entry)) (now (s .exit)) n r a ⌝ }
 {
     let mut turns = n;
     let mut a = r;
@@ -171,7 +171,7 @@ pub(crate) fn further_names(s: &mut [u32], n: usize, r: Answer) -> Answer
 // CASE constant :
 fn case_label(s: &mut [u32], n: usize, levels: usize, r: Answer) -> Answer
     requires { ⌜ Ready 0 (now s) n r ⌝ }
-    ensures { λ a. ⌜ ReadingAt K.CASE 4 (C.label (within levels)) (Puts postLabels) (now (s .entry)) (now (s .exit)) n r a ⌝ }
+    ensures { λ a. ⌜ ReadingAt K.CASE 4 (C.label (within levels)) (Puts encodeLabels) (now (s .entry)) (now (s .exit)) n r a ⌝ }
 {
     let lo = free_of(s, r);
     let place = place_here(s, n, r);
@@ -188,7 +188,7 @@ fn case_label(s: &mut [u32], n: usize, levels: usize, r: Answer) -> Answer
 // DEFAULT :
 fn default_label(s: &mut [u32], n: usize, levels: usize, r: Answer) -> Answer
     requires { ⌜ Ready 0 (now s) n r ⌝ }
-    ensures { λ a. ⌜ Fits 4 (now (s .entry)) (now (s .exit)) n r a × ((src : Source) → Lies src n (now (s .entry)) → (kind : ℕ) → KindHere src r kind → (kind ≡ K.CASE → ⊥) → Goes (C.label (within levels) src) (Puts postLabels) (now (s .entry)) (now (s .exit)) r a) ⌝ }
+    ensures { λ a. ⌜ Fits 4 (now (s .entry)) (now (s .exit)) n r a × ((src : Source) → Lies src n (now (s .entry)) → (kind : ℕ) → KindHere src r kind → (kind ≡ K.CASE → ⊥) → Goes (C.label (within levels) src) (Puts encodeLabels) (now (s .entry)) (now (s .exit)) r a) ⌝ }
 {
     let lo = free_of(s, r);
     let place = place_here(s, n, r);
@@ -204,7 +204,7 @@ fn default_label(s: &mut [u32], n: usize, levels: usize, r: Answer) -> Answer
 // CASE constant : | DEFAULT :
 pub(crate) fn label(s: &mut [u32], n: usize, levels: usize, kind: u32, r: Answer) -> Answer
     requires { ⌜ Ready 0 (now s) n r ⌝ }
-    ensures { λ a. ⌜ ReadingAt kind 4 (C.label (within levels)) (Puts postLabels) (now (s .entry)) (now (s .exit)) n r a ⌝ }
+    ensures { λ a. ⌜ ReadingAt kind 4 (C.label (within levels)) (Puts encodeLabels) (now (s .entry)) (now (s .exit)) n r a ⌝ }
 {
     if kind == CASE {
         case_label(s, n, levels, r)
@@ -216,7 +216,7 @@ pub(crate) fn label(s: &mut [u32], n: usize, levels: usize, kind: u32, r: Answer
 // The labels after the first.
 pub(crate) fn labels(s: &mut [u32], n: usize, levels: usize, r: Answer) -> Answer
     requires { ⌜ Ready 0 (now s) n r ⌝ }
-    ensures { λ a. ⌜ Reading 0 (manyUpTo (n - 1) [] isLabel (C.label (within levels))) (Is postLabels) (now (s .entry)) (now (s .exit)) n r a ⌝ }
+    ensures { λ a. ⌜ Reading 0 (manyUpTo (n - 1) [] isLabel (C.label (within levels))) (Is encodeLabels) (now (s .entry)) (now (s .exit)) n r a ⌝ }
 {
     let mut turns = less(n, 1);
     let mut a = r;
@@ -235,7 +235,7 @@ pub(crate) fn labels(s: &mut [u32], n: usize, levels: usize, r: Answer) -> Answe
 // [BY constant]
 pub(crate) fn optional_by(s: &mut [u32], n: usize, levels: usize, r: Answer) -> Answer
     requires { ⌜ Ready 0 (now s) n r ⌝ }
-    ensures { λ a. ⌜ Reading 0 (C.optionalBy (readers (within levels))) (Is postBy) (now (s .entry)) (now (s .exit)) n r a ⌝ }
+    ensures { λ a. ⌜ Reading 0 (C.optionalBy (readers (within levels))) (Is encodeBy) (now (s .entry)) (now (s .exit)) n r a ⌝ }
 {
     let kind = kind_here(s, n, r);
     if kind == BY {
@@ -248,7 +248,7 @@ pub(crate) fn optional_by(s: &mut [u32], n: usize, levels: usize, r: Answer) -> 
 // VEC constant, after the name, which begins at start.
 pub(crate) fn vector(s: &mut [u32], n: usize, levels: usize, start: usize, r: Answer) -> Answer
     requires { ⌜ Ready 0 (now s) n r ⌝ }
-    ensures { λ a. ⌜ Fits 2 (now (s .entry)) (now (s .exit)) n r a × ((src : Source) → Lies src n (now (s .entry)) → Passes r a × ((name : T.Name) → freeOf (length (now (s .entry))) r ≡ start + length (postName name) → Goes (C.vector (readers (within levels)) name src) (Gives (name ∷ [])) (now (s .entry)) (now (s .exit)) r a)) ⌝ }
+    ensures { λ a. ⌜ Fits 2 (now (s .entry)) (now (s .exit)) n r a × ((src : Source) → Lies src n (now (s .entry)) → Passes r a × ((name : T.Name) → freeOf (length (now (s .entry))) r ≡ start + length (encodeName name) → Goes (C.vector (readers (within levels)) name src) (Gives (name ∷ [])) (now (s .entry)) (now (s .exit)) r a)) ⌝ }
 {
     let size = less(free_of(s, r), start);
     let word = expect(s, n, r, VEC);

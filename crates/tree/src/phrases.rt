@@ -2,8 +2,9 @@
 //
 // Each function takes an answer, the state of the reading so far, and gives the next one; a refusal is passed on as it is, so that a
 // construct is a few lines, one for each part. `levels` is how many levels are left; every round of the cycle takes one.
-// The names are short because the proof of a cycle is named after all its functions, and that name may have 250 bytes.
+// The names are short because the proof of a cycle is named after all its functions, and that name may have 200 bytes (README).
 use crate::binding::LOOSEST;
+use crate::binding::NEGATION;
 use crate::binding::begins_command;
 use crate::binding::binding_of;
 use crate::binding::further_most;
@@ -30,6 +31,7 @@ use crate::kinds::INTO;
 use crate::kinds::LABELLED;
 use crate::kinds::LET;
 use crate::kinds::MONADIC;
+use crate::kinds::NOT;
 use crate::kinds::OPEN;
 use crate::kinds::OR;
 use crate::kinds::PLING;
@@ -50,6 +52,7 @@ use crate::parts::leave;
 use crate::parts::optional_by;
 use crate::parts::vector;
 use crate::scratch::Answer;
+use crate::scratch::close_item;
 use crate::scratch::expect;
 use crate::scratch::free_of;
 use crate::scratch::is_call;
@@ -72,13 +75,14 @@ ghost use lib.Dec.{eqb};
 ghost use Rattle.language.specs.Kinds as K;
 ghost use Rattle.language.specs.Tree as T;
 ghost use Rattle.language.specs.Reader.{Source, the, optional, manyUpTo, moreUpTo, isComma, upToClose};
+ghost use Rattle.language.specs.Binding as B;
 ghost use Rattle.language.specs.Binding.{bindingOf, isSuffix, isRepeat, isLabel};
 ghost use Rattle.language.specs.Expressions as E;
 ghost use Rattle.language.specs.Grammar.{within, readers};
 ghost use Rattle.language.specs.Commands as C;
-ghost use Rattle.tree.specs.Post.{item, post, postNames, postExpressions, postOperations, postCommand, postCommands, postUnlabelled, postRepeats, postLocals};
+ghost use Rattle.tree.specs.Encoding.{item, encode, encodeNames, encodeExpressions, encodeOperations, encodeCommand, encodeCommands, encodeUnlabelled, encodeRepeats, encodeLocals};
 ghost use Rattle.tree.specs.Reads.{Lies, Ready, Fits, Grows, KindHere, Goes, Puts, Reads, Passes, freeOf, Reading, ReadingAt, Is};
-ghost use Rattle.tree.specs.Between.{PutsSuffix, PutsOne, furtherMost, anArgument, aFurther, repeatedOnly, postRepeatedOnly, bodyAfter, Ended, Counted, After, Gives};
+ghost use Rattle.tree.specs.Between.{PutsSuffix, PutsOne, furtherMost, anArgument, aFurther, repeatedOnly, encodeRepeatedOnly, bodyAfter, Ended, Counted, After, Gives};
 
 // What follows the first suffix: where it ends, and whether the last suffix is a call.
 struct SuffixesRead {
@@ -92,13 +96,21 @@ struct FurtherRead {
     count: usize,
 }
 
-// An expression whose dyadic operators bind no more loosely than that.
+// An expression whose dyadic operators bind no more loosely than that. At the rung of NOT stands NOT and its operand, or a shift
+// expression.
 pub(crate) fn expr(s: &mut [u32], n: usize, levels: usize, binding: u32, r: Answer) -> Answer
-    requires { ⌜ Ready 0 (now s) n r × (binding ≤ 6) ⌝ }
-    ensures { λ a. ⌜ Reading 1 (E.expression (within levels) binding) (Is post) (now (s .entry)) (now (s .exit)) n r a ⌝ }
+    requires { ⌜ Ready 0 (now s) n r × (binding ≤ B.LOOSEST) ⌝ }
+    ensures { λ a. ⌜ Reading 1 (E.expression (within levels) binding) (Is encode) (now (s .entry)) (now (s .exit)) n r a ⌝ }
 {
     if binding == 0 {
         return term(s, n, levels, r);
+    }
+    if binding == NEGATION {
+        let first = kind_here(s, n, r);
+        if first == NOT {
+            return monad(s, n, levels, first, r);
+        }
+        return expr(s, n, levels, binding - 1, r);
     }
     let lo = free_of(s, r);
     let left = expr(s, n, levels, binding - 1, r);
@@ -109,15 +121,15 @@ pub(crate) fn expr(s: &mut [u32], n: usize, levels: usize, binding: u32, r: Answ
     let size = less(free_of(s, left), lo);
     let place = place_of(s, n, left);
     let right = right_of(binding);
-    let first = dyadic(s, n, levels, right, kind, left);
-    let last = chain(s, n, levels, binding, right, first);
+    let first = op(s, n, levels, right, kind, left);
+    let last = run(s, n, levels, binding, right, first);
     node(s, n, last, lo, size as u32, place, DYADIC)
 }
 
 // operator operand
-fn dyadic(s: &mut [u32], n: usize, levels: usize, right: u32, kind: u32, r: Answer) -> Answer
-    requires { ⌜ Ready 0 (now s) n r × (right ≤ 6) × (0 < kind) ⌝ }
-    ensures { λ a. ⌜ ReadingAt kind 4 (E.operation (within levels) (E.expression (within levels) right)) (Puts postOperations) (now (s .entry)) (now (s .exit)) n r a ⌝ }
+fn op(s: &mut [u32], n: usize, levels: usize, right: u32, kind: u32, r: Answer) -> Answer
+    requires { ⌜ Ready 0 (now s) n r × (right ≤ B.LOOSEST) × (0 < kind) ⌝ }
+    ensures { λ a. ⌜ ReadingAt kind 4 (E.operation (E.expression (within levels) right)) (Puts encodeOperations) (now (s .entry)) (now (s .exit)) n r a ⌝ }
 {
     let lo = free_of(s, r);
     let operator = expect(s, n, r, kind);
@@ -128,9 +140,9 @@ fn dyadic(s: &mut [u32], n: usize, levels: usize, right: u32, kind: u32, r: Answ
 }
 
 // The operations after the first: there is at most one relation.
-fn chain(s: &mut [u32], n: usize, levels: usize, binding: u32, right: u32, r: Answer) -> Answer
-    requires { ⌜ Ready 0 (now s) n r × (right ≤ 6) × (0 < binding) ⌝ }
-    ensures { λ a. ⌜ Reading 0 (manyUpTo (furtherMost binding n) T.noOperations (λ kind. eqb (bindingOf kind) binding) (E.operation (within levels) (E.expression (within levels) right))) (Is postOperations) (now (s .entry)) (now (s .exit)) n r a ⌝ }
+fn run(s: &mut [u32], n: usize, levels: usize, binding: u32, right: u32, r: Answer) -> Answer
+    requires { ⌜ Ready 0 (now s) n r × (right ≤ B.LOOSEST) × (0 < binding) ⌝ }
+    ensures { λ a. ⌜ Reading 0 (manyUpTo (furtherMost binding n) T.noOperations (λ kind. eqb (bindingOf kind) binding) (E.operation (E.expression (within levels) right))) (Is encodeOperations) (now (s .entry)) (now (s .exit)) n r a ⌝ }
 {
     let mut turns = further_most(binding, n);
     let mut a = r;
@@ -139,7 +151,7 @@ fn chain(s: &mut [u32], n: usize, levels: usize, binding: u32, right: u32, r: An
         if binding_of(kind) != binding {
             return a;
         }
-        a = dyadic(s, n, levels, right, kind, a);
+        a = op(s, n, levels, right, kind, a);
         turns -= 1;
     }
     a
@@ -148,20 +160,20 @@ fn chain(s: &mut [u32], n: usize, levels: usize, binding: u32, right: u32, r: An
 // An operand of the operators that bind tightest.
 fn term(s: &mut [u32], n: usize, levels: usize, r: Answer) -> Answer
     requires { ⌜ Ready 0 (now s) n r ⌝ }
-    ensures { λ a. ⌜ Reading 1 (E.operand (within levels)) (Is post) (now (s .entry)) (now (s .exit)) n r a ⌝ }
+    ensures { λ a. ⌜ Reading 1 (E.operand (within levels)) (Is encode) (now (s .entry)) (now (s .exit)) n r a ⌝ }
 {
     let kind = kind_here(s, n, r);
     if is_monadic(kind) {
         monad(s, n, levels, kind, r)
     } else {
-        suffixed(s, n, levels, r)
+        whole(s, n, levels, r)
     }
 }
 
 // ! @ + - or NOT, and its operand.
 fn monad(s: &mut [u32], n: usize, levels: usize, kind: u32, r: Answer) -> Answer
     requires { ⌜ Ready 0 (now s) n r × (0 < kind) ⌝ }
-    ensures { λ a. ⌜ ReadingAt kind 1 (E.monadic (within levels)) (Is post) (now (s .entry)) (now (s .exit)) n r a ⌝ }
+    ensures { λ a. ⌜ ReadingAt kind 1 (E.monadic (within levels)) (Is encode) (now (s .entry)) (now (s .exit)) n r a ⌝ }
 {
     if levels == 0 {
         return refuse(s, n, r, 7);
@@ -174,18 +186,18 @@ fn monad(s: &mut [u32], n: usize, levels: usize, kind: u32, r: Answer) -> Answer
 }
 
 // primary { ( arguments ) | ! primary }
-fn suffixed(s: &mut [u32], n: usize, levels: usize, r: Answer) -> Answer
+fn whole(s: &mut [u32], n: usize, levels: usize, r: Answer) -> Answer
     requires { ⌜ Ready 0 (now s) n r ⌝ }
-    ensures { λ a. ⌜ Reading 1 (E.suffixed (within levels)) (Is post) (now (s .entry)) (now (s .exit)) n r a ⌝ }
+    ensures { λ a. ⌜ Reading 1 (E.suffixed (within levels)) (Is encode) (now (s .entry)) (now (s .exit)) n r a ⌝ }
 {
     let lo = free_of(s, r);
-    let primary = primary(s, n, levels, r);
+    let primary = unit(s, n, levels, r);
     let kind = kind_here(s, n, primary);
     if is_suffix(kind) {
         let size = less(free_of(s, primary), lo);
         let place = place_of(s, n, primary);
-        let first = suffix(s, n, levels, kind, primary);
-        let last = suffixes(s, n, levels, kind == OPEN, first);
+        let first = tail(s, n, levels, kind, primary);
+        let last = tails(s, n, levels, kind == OPEN, first);
         let end = last.end;
         return node(s, n, end, lo, size as u32, place, suffixed_kind(last.call));
     }
@@ -193,7 +205,7 @@ fn suffixed(s: &mut [u32], n: usize, levels: usize, r: Answer) -> Answer
 }
 
 // ( arguments ) | ! primary
-fn suffix(s: &mut [u32], n: usize, levels: usize, kind: u32, r: Answer) -> Answer
+fn tail(s: &mut [u32], n: usize, levels: usize, kind: u32, r: Answer) -> Answer
     requires { ⌜ Ready 0 (now s) n r ⌝ }
     ensures { λ a. ⌜ ReadingAt kind 4 (E.suffix (within levels)) (PutsSuffix (eqb kind K.OPEN)) (now (s .entry)) (now (s .exit)) n r a ⌝ }
 {
@@ -205,7 +217,7 @@ fn suffix(s: &mut [u32], n: usize, levels: usize, kind: u32, r: Answer) -> Answe
 }
 
 // The suffixes after the first, which is a call or is not.
-fn suffixes(s: &mut [u32], n: usize, levels: usize, first: bool, r: Answer) -> SuffixesRead
+fn tails(s: &mut [u32], n: usize, levels: usize, first: bool, r: Answer) -> SuffixesRead
     requires { ⌜ Ready 0 (now s) n r ⌝ }
     ensures { λ a. ⌜ Reading 0 (manyUpTo (n - 1) T.noSuffixes isSuffix (E.suffix (within levels))) (Ended first (a .call)) (now (s .entry)) (now (s .exit)) n r (a .end) ⌝ }
 {
@@ -215,7 +227,7 @@ fn suffixes(s: &mut [u32], n: usize, levels: usize, first: bool, r: Answer) -> S
     while turns > 0 {
         let kind = kind_here(s, n, a);
         if is_suffix(kind) {
-            a = suffix(s, n, levels, kind, a);
+            a = tail(s, n, levels, kind, a);
             call = kind == OPEN;
             turns -= 1;
         } else {
@@ -235,23 +247,21 @@ fn call(s: &mut [u32], n: usize, levels: usize, r: Answer) -> Answer
     }
     let lo = free_of(s, r);
     let open = expect(s, n, r, OPEN);
-    let begun = mark(s, n, open, OPEN);
-    let a = passed(s, n, levels - 1, begun);
-    seal(s, n, a, lo);
-    a
+    let a = pass(s, n, levels - 1, open);
+    close_item(s, n, a, lo, OPEN)
 }
 
 // [expression {, expression}] )
-fn passed(s: &mut [u32], n: usize, levels: usize, r: Answer) -> Answer
+fn pass(s: &mut [u32], n: usize, levels: usize, r: Answer) -> Answer
     requires { ⌜ Ready 3 (now s) n r ⌝ }
-    ensures { λ a. ⌜ Reading 4 (upToClose T.noExpressions (anArgument levels)) (Is postExpressions) (now (s .entry)) (now (s .exit)) n r a ⌝ }
+    ensures { λ a. ⌜ Reading 4 (upToClose T.noExpressions (anArgument levels)) (Is encodeExpressions) (now (s .entry)) (now (s .exit)) n r a ⌝ }
 {
     let kind = kind_here(s, n, r);
     if kind == CLOSE {
         return expect(s, n, r, CLOSE);
     }
     let first = arg(s, n, levels, r);
-    let last = commas(s, n, levels, first);
+    let last = also(s, n, levels, first);
     let end = last.end;
     expect(s, n, end, CLOSE)
 }
@@ -269,7 +279,7 @@ fn arg(s: &mut [u32], n: usize, levels: usize, r: Answer) -> Answer
 }
 
 // {, expression}
-fn commas(s: &mut [u32], n: usize, levels: usize, r: Answer) -> FurtherRead
+fn also(s: &mut [u32], n: usize, levels: usize, r: Answer) -> FurtherRead
     requires { ⌜ Ready 0 (now s) n r ⌝ }
     ensures { λ a. ⌜ Reading 0 (manyUpTo n T.noExpressions isComma (aFurther levels)) (Counted (a .count)) (now (s .entry)) (now (s .exit)) n r (a .end) ⌝ }
 {
@@ -296,42 +306,40 @@ fn index(s: &mut [u32], n: usize, levels: usize, r: Answer) -> Answer
 {
     let lo = free_of(s, r);
     let pling = expect(s, n, r, PLING);
-    let begun = mark(s, n, pling, PLING);
-    let a = key(s, n, levels, begun);
-    seal(s, n, a, lo);
-    a
+    let a = key(s, n, levels, pling);
+    close_item(s, n, a, lo, PLING)
 }
 
 // A monadic operator may begin any operand.
 fn key(s: &mut [u32], n: usize, levels: usize, r: Answer) -> Answer
     requires { ⌜ Ready 0 (now s) n r ⌝ }
-    ensures { λ a. ⌜ Reading 1 (E.subscript (within levels)) (Is post) (now (s .entry)) (now (s .exit)) n r a ⌝ }
+    ensures { λ a. ⌜ Reading 1 (E.subscript (within levels)) (Is encode) (now (s .entry)) (now (s .exit)) n r a ⌝ }
 {
     let kind = kind_here(s, n, r);
     if is_monadic(kind) {
         monad(s, n, levels, kind, r)
     } else {
-        primary(s, n, levels, r)
+        unit(s, n, levels, r)
     }
 }
 
 // number | string | TRUE | FALSE | name | ( expression ) | VALOF command
-fn primary(s: &mut [u32], n: usize, levels: usize, r: Answer) -> Answer
+fn unit(s: &mut [u32], n: usize, levels: usize, r: Answer) -> Answer
     requires { ⌜ Ready 0 (now s) n r ⌝ }
-    ensures { λ a. ⌜ Reading 1 (E.primary (within levels)) (Is post) (now (s .entry)) (now (s .exit)) n r a ⌝ }
+    ensures { λ a. ⌜ Reading 1 (E.primary (within levels)) (Is encode) (now (s .entry)) (now (s .exit)) n r a ⌝ }
 {
     let kind = kind_here(s, n, r);
     match kind {
-        OPEN => round(s, n, levels, r),
+        OPEN => nest(s, n, levels, r),
         VALOF => valof(s, n, levels, r),
         _ => atom(s, n, r, kind),
     }
 }
 
 // ( expression )
-fn round(s: &mut [u32], n: usize, levels: usize, r: Answer) -> Answer
+fn nest(s: &mut [u32], n: usize, levels: usize, r: Answer) -> Answer
     requires { ⌜ Ready 0 (now s) n r ⌝ }
-    ensures { λ a. ⌜ Reading 1 (E.bracketed (within levels)) (Is post) (now (s .entry)) (now (s .exit)) n r a ⌝ }
+    ensures { λ a. ⌜ Reading 1 (E.bracketed (within levels)) (Is encode) (now (s .entry)) (now (s .exit)) n r a ⌝ }
 {
     if levels == 0 {
         return refuse(s, n, r, 7);
@@ -347,7 +355,7 @@ fn round(s: &mut [u32], n: usize, levels: usize, r: Answer) -> Answer
 // VALOF command
 fn valof(s: &mut [u32], n: usize, levels: usize, r: Answer) -> Answer
     requires { ⌜ Ready 0 (now s) n r ⌝ }
-    ensures { λ a. ⌜ Reading 1 (E.valof (within levels)) (Is post) (now (s .entry)) (now (s .exit)) n r a ⌝ }
+    ensures { λ a. ⌜ Reading 1 (E.valof (within levels)) (Is encode) (now (s .entry)) (now (s .exit)) n r a ⌝ }
 {
     if levels == 0 {
         return refuse(s, n, r, 7);
@@ -355,26 +363,26 @@ fn valof(s: &mut [u32], n: usize, levels: usize, r: Answer) -> Answer
     let lo = free_of(s, r);
     let place = place_here(s, n, r);
     let word = expect(s, n, r, VALOF);
-    let a = command(s, n, levels - 1, word);
+    let a = cmd(s, n, levels - 1, word);
     node(s, n, a, lo, 0, place, VALOF)
 }
 
 // A command, with its labels before it.
-pub(crate) fn command(s: &mut [u32], n: usize, levels: usize, r: Answer) -> Answer
+pub(crate) fn cmd(s: &mut [u32], n: usize, levels: usize, r: Answer) -> Answer
     requires { ⌜ Ready 0 (now s) n r ⌝ }
-    ensures { λ a. ⌜ Reading 0 (C.command (within levels)) (Is postCommand) (now (s .entry)) (now (s .exit)) n r a ⌝ }
+    ensures { λ a. ⌜ Reading 0 (C.command (within levels)) (Is encodeCommand) (now (s .entry)) (now (s .exit)) n r a ⌝ }
 {
     let kind = kind_here(s, n, r);
     if is_label(kind) {
-        return labelled(s, n, levels, kind, r);
+        return cases(s, n, levels, kind, r);
     }
     body(s, n, levels, false, r)
 }
 
 // Labels and what follows them.
-fn labelled(s: &mut [u32], n: usize, levels: usize, kind: u32, r: Answer) -> Answer
+fn cases(s: &mut [u32], n: usize, levels: usize, kind: u32, r: Answer) -> Answer
     requires { ⌜ Ready 0 (now s) n r ⌝ }
-    ensures { λ a. ⌜ Fits 0 (now (s .entry)) (now (s .exit)) n r a × ((src : Source) → Lies src n (now (s .entry)) → KindHere src r kind → isLabel kind ≡ true → Reads (C.command (within levels) src) postCommand (now (s .entry)) (now (s .exit)) r a) ⌝ }
+    ensures { λ a. ⌜ Fits 0 (now (s .entry)) (now (s .exit)) n r a × ((src : Source) → Lies src n (now (s .entry)) → KindHere src r kind → isLabel kind ≡ true → Reads (C.command (within levels) src) encodeCommand (now (s .entry)) (now (s .exit)) r a) ⌝ }
 {
     let lo = free_of(s, r);
     let first = label(s, n, levels, kind, r);
@@ -387,14 +395,14 @@ fn labelled(s: &mut [u32], n: usize, levels: usize, kind: u32, r: Answer) -> Ans
 // unlabelled { REPEAT form }, whose first symbol opens a level; or an empty command, after labels.
 fn body(s: &mut [u32], n: usize, levels: usize, labelled: bool, r: Answer) -> Answer
     requires { ⌜ Ready 0 (now s) n r ⌝ }
-    ensures { λ a. ⌜ Reading 0 (bodyAfter labelled levels) (Is postRepeatedOnly) (now (s .entry)) (now (s .exit)) n r a ⌝ }
+    ensures { λ a. ⌜ Reading 0 (bodyAfter labelled levels) (Is encodeRepeatedOnly) (now (s .entry)) (now (s .exit)) n r a ⌝ }
 {
     let kind = kind_here(s, n, r);
     if begins_command(kind) {
         if levels == 0 {
             return refuse(s, n, r, 7);
         }
-        return repeated(s, n, levels - 1, r);
+        return redo(s, n, levels - 1, r);
     }
     if labelled {
         return r;
@@ -403,9 +411,9 @@ fn body(s: &mut [u32], n: usize, levels: usize, labelled: bool, r: Answer) -> An
 }
 
 // unlabelled { REPEAT form }
-fn repeated(s: &mut [u32], n: usize, levels: usize, r: Answer) -> Answer
+fn redo(s: &mut [u32], n: usize, levels: usize, r: Answer) -> Answer
     requires { ⌜ Ready 0 (now s) n r ⌝ }
-    ensures { λ a. ⌜ Reading 0 (repeatedOnly levels) (Is postRepeatedOnly) (now (s .entry)) (now (s .exit)) n r a ⌝ }
+    ensures { λ a. ⌜ Reading 0 (repeatedOnly levels) (Is encodeRepeatedOnly) (now (s .entry)) (now (s .exit)) n r a ⌝ }
 {
     let lo = free_of(s, r);
     let body = plain(s, n, levels, r);
@@ -422,7 +430,7 @@ fn repeated(s: &mut [u32], n: usize, levels: usize, r: Answer) -> Answer
 // The REPEAT forms after the first.
 fn forms(s: &mut [u32], n: usize, levels: usize, r: Answer) -> Answer
     requires { ⌜ Ready 0 (now s) n r ⌝ }
-    ensures { λ a. ⌜ Reading 0 (manyUpTo (n - 1) T.noRepeats isRepeat (C.repeatForm (readers (within levels)))) (Is postRepeats) (now (s .entry)) (now (s .exit)) n r a ⌝ }
+    ensures { λ a. ⌜ Reading 0 (manyUpTo (n - 1) T.noRepeats isRepeat (C.repeatForm (readers (within levels)))) (Is encodeRepeats) (now (s .entry)) (now (s .exit)) n r a ⌝ }
 {
     let mut turns = less(n, 1);
     let mut a = r;
@@ -441,7 +449,7 @@ fn forms(s: &mut [u32], n: usize, levels: usize, r: Answer) -> Answer
 // REPEAT | REPEATWHILE expression | REPEATUNTIL expression
 fn form(s: &mut [u32], n: usize, levels: usize, kind: u32, r: Answer) -> Answer
     requires { ⌜ Ready 0 (now s) n r × (0 < kind) ⌝ }
-    ensures { λ a. ⌜ ReadingAt kind 3 (C.repeatForm (readers (within levels))) (Puts postRepeats) (now (s .entry)) (now (s .exit)) n r a ⌝ }
+    ensures { λ a. ⌜ ReadingAt kind 3 (C.repeatForm (readers (within levels))) (Puts encodeRepeats) (now (s .entry)) (now (s .exit)) n r a ⌝ }
 {
     let lo = free_of(s, r);
     let word = expect(s, n, r, kind);
@@ -457,57 +465,57 @@ fn form(s: &mut [u32], n: usize, levels: usize, kind: u32, r: Answer) -> Answer
 // A command without its labels and REPEAT forms, by its first symbol.
 fn plain(s: &mut [u32], n: usize, levels: usize, r: Answer) -> Answer
     requires { ⌜ Ready 0 (now s) n r ⌝ }
-    ensures { λ a. ⌜ Reading 1 (C.unlabelled (readers (within levels))) (Is postUnlabelled) (now (s .entry)) (now (s .exit)) n r a ⌝ }
+    ensures { λ a. ⌜ Reading 1 (C.unlabelled (readers (within levels))) (Is encodeUnlabelled) (now (s .entry)) (now (s .exit)) n r a ⌝ }
 {
     let kind = kind_here(s, n, r);
     if is_guard(kind) {
-        return guard(s, n, levels, kind, r);
+        return when(s, n, levels, kind, r);
     }
     if is_leave(kind) {
         return leave(s, n, r, kind);
     }
     match kind {
         TEST => test(s, n, levels, r),
-        FOR => for_to(s, n, levels, r),
-        SWITCHON => switch(s, n, levels, r),
-        RESULTIS => result(s, n, levels, r),
+        FOR => step(s, n, levels, r),
+        SWITCHON => pick(s, n, levels, r),
+        RESULTIS => give(s, n, levels, r),
         BEGIN => block(s, n, levels, r),
-        _ => simple(s, n, levels, r),
+        _ => bare(s, n, levels, r),
     }
 }
 
 // TEST expression DO command OR command
 fn test(s: &mut [u32], n: usize, levels: usize, r: Answer) -> Answer
     requires { ⌜ Ready 0 (now s) n r ⌝ }
-    ensures { λ a. ⌜ Reading 1 (C.test (readers (within levels))) (Is postUnlabelled) (now (s .entry)) (now (s .exit)) n r a ⌝ }
+    ensures { λ a. ⌜ Reading 1 (C.test (readers (within levels))) (Is encodeUnlabelled) (now (s .entry)) (now (s .exit)) n r a ⌝ }
 {
     let lo = free_of(s, r);
     let word = expect(s, n, r, TEST);
     let condition = expr(s, n, levels, LOOSEST, word);
     let then = expect(s, n, condition, DO);
-    let first = command(s, n, levels, then);
+    let first = cmd(s, n, levels, then);
     let or = expect(s, n, first, OR);
-    let a = command(s, n, levels, or);
+    let a = cmd(s, n, levels, or);
     node(s, n, a, lo, 0, 0, TEST)
 }
 
 // IF expression DO command, and so UNLESS, WHILE and UNTIL
-fn guard(s: &mut [u32], n: usize, levels: usize, kind: u32, r: Answer) -> Answer
+fn when(s: &mut [u32], n: usize, levels: usize, kind: u32, r: Answer) -> Answer
     requires { ⌜ Ready 0 (now s) n r × (0 < kind) ⌝ }
-    ensures { λ a. ⌜ ReadingAt kind 1 (C.guarded (readers (within levels))) (Is postUnlabelled) (now (s .entry)) (now (s .exit)) n r a ⌝ }
+    ensures { λ a. ⌜ ReadingAt kind 1 (C.guarded (readers (within levels))) (Is encodeUnlabelled) (now (s .entry)) (now (s .exit)) n r a ⌝ }
 {
     let lo = free_of(s, r);
     let word = expect(s, n, r, kind);
     let condition = expr(s, n, levels, LOOSEST, word);
     let then = expect(s, n, condition, DO);
-    let a = command(s, n, levels, then);
+    let a = cmd(s, n, levels, then);
     node(s, n, a, lo, 0, 0, kind)
 }
 
 // RESULTIS expression
-fn result(s: &mut [u32], n: usize, levels: usize, r: Answer) -> Answer
+fn give(s: &mut [u32], n: usize, levels: usize, r: Answer) -> Answer
     requires { ⌜ Ready 0 (now s) n r ⌝ }
-    ensures { λ a. ⌜ Reading 1 (C.resultis (readers (within levels))) (Is postUnlabelled) (now (s .entry)) (now (s .exit)) n r a ⌝ }
+    ensures { λ a. ⌜ Reading 1 (C.resultis (readers (within levels))) (Is encodeUnlabelled) (now (s .entry)) (now (s .exit)) n r a ⌝ }
 {
     let lo = free_of(s, r);
     let place = place_here(s, n, r);
@@ -517,9 +525,9 @@ fn result(s: &mut [u32], n: usize, levels: usize, r: Answer) -> Answer
 }
 
 // FOR name = expression TO expression [BY constant] DO command
-fn for_to(s: &mut [u32], n: usize, levels: usize, r: Answer) -> Answer
+fn step(s: &mut [u32], n: usize, levels: usize, r: Answer) -> Answer
     requires { ⌜ Ready 0 (now s) n r ⌝ }
-    ensures { λ a. ⌜ Reading 1 (C.for (readers (within levels))) (Is postUnlabelled) (now (s .entry)) (now (s .exit)) n r a ⌝ }
+    ensures { λ a. ⌜ Reading 1 (C.for (readers (within levels))) (Is encodeUnlabelled) (now (s .entry)) (now (s .exit)) n r a ⌝ }
 {
     let lo = free_of(s, r);
     let word = expect(s, n, r, FOR);
@@ -531,14 +539,14 @@ fn for_to(s: &mut [u32], n: usize, levels: usize, r: Answer) -> Answer
     let by = optional_by(s, n, levels, limit);
     let size = less(free_of(s, by), free_of(s, limit));
     let then = expect(s, n, by, DO);
-    let a = command(s, n, levels, then);
+    let a = cmd(s, n, levels, then);
     node(s, n, a, lo, size as u32, 0, FOR)
 }
 
 // SWITCHON expression INTO $( command { ; command } [;] $)
-fn switch(s: &mut [u32], n: usize, levels: usize, r: Answer) -> Answer
+fn pick(s: &mut [u32], n: usize, levels: usize, r: Answer) -> Answer
     requires { ⌜ Ready 0 (now s) n r ⌝ }
-    ensures { λ a. ⌜ Reading 1 (C.switchon (readers (within levels))) (Is postUnlabelled) (now (s .entry)) (now (s .exit)) n r a ⌝ }
+    ensures { λ a. ⌜ Reading 1 (C.switchon (readers (within levels))) (Is encodeUnlabelled) (now (s .entry)) (now (s .exit)) n r a ⌝ }
 {
     let lo = free_of(s, r);
     let word = expect(s, n, r, SWITCHON);
@@ -546,19 +554,19 @@ fn switch(s: &mut [u32], n: usize, levels: usize, r: Answer) -> Answer
     let size = less(free_of(s, value), lo);
     let into = expect(s, n, value, INTO);
     let begin = expect(s, n, into, BEGIN);
-    let first = listed(s, n, levels, begin);
+    let first = item(s, n, levels, begin);
     let a = list(s, n, levels, first);
     node(s, n, a, lo, size as u32, 0, SWITCHON)
 }
 
 // A command, as an item.
-fn listed(s: &mut [u32], n: usize, levels: usize, r: Answer) -> Answer
+fn item(s: &mut [u32], n: usize, levels: usize, r: Answer) -> Answer
     requires { ⌜ Ready 2 (now s) n r ⌝ }
-    ensures { λ a. ⌜ Grows 2 (now (s .entry)) (now (s .exit)) n r a × ((src : Source) → Lies src n (now (s .entry)) → Goes (C.listed (readers (within levels)) src) (Puts postCommands) (now (s .entry)) (now (s .exit)) r a) ⌝ }
+    ensures { λ a. ⌜ Grows 2 (now (s .entry)) (now (s .exit)) n r a × ((src : Source) → Lies src n (now (s .entry)) → Goes (C.listed (readers (within levels)) src) (Puts encodeCommands) (now (s .entry)) (now (s .exit)) r a) ⌝ }
 {
     let lo = free_of(s, r);
     let begun = mark(s, n, r, 0);
-    let a = command(s, n, levels, begun);
+    let a = cmd(s, n, levels, begun);
     seal(s, n, a, lo);
     a
 }
@@ -566,7 +574,7 @@ fn listed(s: &mut [u32], n: usize, levels: usize, r: Answer) -> Answer
 // { ; command } [;] $)
 fn list(s: &mut [u32], n: usize, levels: usize, r: Answer) -> Answer
     requires { ⌜ Ready 0 (now s) n r ⌝ }
-    ensures { λ a. ⌜ Reading 5 (moreUpTo n T.noCommands (C.listed (readers (within levels)))) (Is postCommands) (now (s .entry)) (now (s .exit)) n r a ⌝ }
+    ensures { λ a. ⌜ Reading 5 (moreUpTo n T.noCommands (C.listed (readers (within levels)))) (Is encodeCommands) (now (s .entry)) (now (s .exit)) n r a ⌝ }
 {
     let mut turns = n;
     let mut a = r;
@@ -580,16 +588,16 @@ fn list(s: &mut [u32], n: usize, levels: usize, r: Answer) -> Answer
         if kind == END {
             return expect(s, n, semicolon, END);
         }
-        a = listed(s, n, levels, semicolon);
+        a = item(s, n, levels, semicolon);
         turns -= 1;
     }
     refuse(s, n, a, 6)
 }
 
 // [ command { ; command } ] [;] $)
-fn to_end(s: &mut [u32], n: usize, levels: usize, r: Answer) -> Answer
+fn till(s: &mut [u32], n: usize, levels: usize, r: Answer) -> Answer
     requires { ⌜ Ready 2 (now s) n r ⌝ }
-    ensures { λ a. ⌜ Reading 3 (C.commandsToEnd (readers (within levels))) (Is postCommands) (now (s .entry)) (now (s .exit)) n r a ⌝ }
+    ensures { λ a. ⌜ Reading 3 (C.commandsToEnd (readers (within levels))) (Is encodeCommands) (now (s .entry)) (now (s .exit)) n r a ⌝ }
 {
     let kind = kind_here(s, n, r);
     match kind {
@@ -599,7 +607,7 @@ fn to_end(s: &mut [u32], n: usize, levels: usize, r: Answer) -> Answer
             expect(s, n, semicolon, END)
         }
         _ => {
-            let first = listed(s, n, levels, r);
+            let first = item(s, n, levels, r);
             list(s, n, levels, first)
         }
     }
@@ -608,20 +616,20 @@ fn to_end(s: &mut [u32], n: usize, levels: usize, r: Answer) -> Answer
 // $( { LET local [;] } [ command { ; command } ] [;] $)
 fn block(s: &mut [u32], n: usize, levels: usize, r: Answer) -> Answer
     requires { ⌜ Ready 0 (now s) n r ⌝ }
-    ensures { λ a. ⌜ Reading 1 (C.block (readers (within levels))) (Is postUnlabelled) (now (s .entry)) (now (s .exit)) n r a ⌝ }
+    ensures { λ a. ⌜ Reading 1 (C.block (readers (within levels))) (Is encodeUnlabelled) (now (s .entry)) (now (s .exit)) n r a ⌝ }
 {
     let lo = free_of(s, r);
     let begin = expect(s, n, r, BEGIN);
-    let locals = locals(s, n, levels, begin);
+    let locals = lets(s, n, levels, begin);
     let size = less(free_of(s, locals), lo);
-    let a = to_end(s, n, levels, locals);
+    let a = till(s, n, levels, locals);
     node(s, n, a, lo, size as u32, 0, BEGIN)
 }
 
 // { LET local [;] }
-fn locals(s: &mut [u32], n: usize, levels: usize, r: Answer) -> Answer
+fn lets(s: &mut [u32], n: usize, levels: usize, r: Answer) -> Answer
     requires { ⌜ Ready 0 (now s) n r ⌝ }
-    ensures { λ a. ⌜ Reading 0 (manyUpTo n T.noLocals (λ kind. eqb kind K.LET) (C.local (readers (within levels)))) (Is postLocals) (now (s .entry)) (now (s .exit)) n r a ⌝ }
+    ensures { λ a. ⌜ Reading 0 (manyUpTo n T.noLocals (λ kind. eqb kind K.LET) (C.local (readers (within levels)))) (Is encodeLocals) (now (s .entry)) (now (s .exit)) n r a ⌝ }
 {
     let mut turns = n;
     let mut a = r;
@@ -639,7 +647,7 @@ fn locals(s: &mut [u32], n: usize, levels: usize, r: Answer) -> Answer
 // LET ( name = VEC constant | name {, name} = expression {, expression} ) [;]
 fn local(s: &mut [u32], n: usize, levels: usize, r: Answer) -> Answer
     requires { ⌜ Ready 0 (now s) n r ⌝ }
-    ensures { λ a. ⌜ Reading 4 (C.local (readers (within levels))) (Puts postLocals) (now (s .entry)) (now (s .exit)) n r a ⌝ }
+    ensures { λ a. ⌜ Reading 4 (C.local (readers (within levels))) (Puts encodeLocals) (now (s .entry)) (now (s .exit)) n r a ⌝ }
 {
     let lo = free_of(s, r);
     let word = expect(s, n, r, LET);
@@ -649,16 +657,16 @@ fn local(s: &mut [u32], n: usize, levels: usize, r: Answer) -> Answer
     let names = further_names(s, n, first);
     let further = less(free_of(s, names), free_of(s, first)) / 4;
     let equal = expect(s, n, names, EQUAL);
-    let value = given(s, n, levels, start, further, equal);
+    let value = init(s, n, levels, start, further, equal);
     let a = optional(s, n, SEMICOLON, value);
     seal(s, n, a, lo);
     a
 }
 
 // What a local declaration gives its names, which begin at start.
-fn given(s: &mut [u32], n: usize, levels: usize, start: usize, further: usize, r: Answer) -> Answer
+fn init(s: &mut [u32], n: usize, levels: usize, start: usize, further: usize, r: Answer) -> Answer
     requires { ⌜ Ready 5 (now s) n r ⌝ }
-    ensures { λ a. ⌜ Grows 5 (now (s .entry)) (now (s .exit)) n r a × ((src : Source) → Lies src n (now (s .entry)) → Passes r a × ((name : T.Name) (names : List T.Name) → further ≡ length names → freeOf (length (now (s .entry))) r ≡ start + length (postNames (name ∷ names)) → Goes (C.given (readers (within levels)) name names src) (Gives (name ∷ names)) (now (s .entry)) (now (s .exit)) r a)) ⌝ }
+    ensures { λ a. ⌜ Grows 5 (now (s .entry)) (now (s .exit)) n r a × ((src : Source) → Lies src n (now (s .entry)) → Passes r a × ((name : T.Name) (names : List T.Name) → further ≡ length names → freeOf (length (now (s .entry))) r ≡ start + length (encodeNames (name ∷ names)) → Goes (C.given (readers (within levels)) name names src) (Gives (name ∷ names)) (now (s .entry)) (now (s .exit)) r a)) ⌝ }
 {
     let kind = kind_here(s, n, r);
     if is_vector(kind, further) {
@@ -673,7 +681,7 @@ fn given(s: &mut [u32], n: usize, levels: usize, start: usize, further: usize, r
 // {, expression}, so many of them
 fn rest(s: &mut [u32], n: usize, levels: usize, number: usize, r: Answer) -> Answer
     requires { ⌜ Ready 0 (now s) n r ⌝ }
-    ensures { λ a. ⌜ Reading 0 (C.further (readers (within levels)) number) (Is postExpressions) (now (s .entry)) (now (s .exit)) n r a ⌝ }
+    ensures { λ a. ⌜ Reading 0 (C.further (readers (within levels)) number) (Is encodeExpressions) (now (s .entry)) (now (s .exit)) n r a ⌝ }
 {
     let mut left = number;
     let mut a = r;
@@ -686,12 +694,12 @@ fn rest(s: &mut [u32], n: usize, levels: usize, number: usize, r: Answer) -> Ans
 }
 
 // {, expression} := expression {, expression}, after the first expression, which begins at lo; as many right as left
-fn assign(s: &mut [u32], n: usize, levels: usize, lo: usize, r: Answer) -> Answer
+fn set(s: &mut [u32], n: usize, levels: usize, lo: usize, r: Answer) -> Answer
     requires { ⌜ Ready 0 (now s) n r ⌝ }
-    ensures { λ a. ⌜ Fits 0 (now (s .entry)) (now (s .exit)) n r a × ((src : Source) → Lies src n (now (s .entry)) → Passes r a × ((e : T.Expression) → freeOf (length (now (s .entry))) r ≡ lo + length (post e) → Goes (C.assignment (readers (within levels)) e src) (After e) (now (s .entry)) (now (s .exit)) r a)) ⌝ }
+    ensures { λ a. ⌜ Fits 0 (now (s .entry)) (now (s .exit)) n r a × ((src : Source) → Lies src n (now (s .entry)) → Passes r a × ((e : T.Expression) → freeOf (length (now (s .entry))) r ≡ lo + length (encode e) → Goes (C.assignment (readers (within levels)) e src) (After e) (now (s .entry)) (now (s .exit)) r a)) ⌝ }
 {
     let size = less(free_of(s, r), lo);
-    let left = commas(s, n, levels, r);
+    let left = also(s, n, levels, r);
     let end = left.end;
     let all = less(free_of(s, end), lo);
     let word = expect(s, n, end, ASSIGN);
@@ -701,15 +709,15 @@ fn assign(s: &mut [u32], n: usize, levels: usize, lo: usize, r: Answer) -> Answe
 }
 
 // An assignment, or an expression that is a call.
-fn simple(s: &mut [u32], n: usize, levels: usize, r: Answer) -> Answer
+fn bare(s: &mut [u32], n: usize, levels: usize, r: Answer) -> Answer
     requires { ⌜ Ready 0 (now s) n r ⌝ }
-    ensures { λ a. ⌜ Reading 1 (C.assignmentOrCall (readers (within levels))) (Is postUnlabelled) (now (s .entry)) (now (s .exit)) n r a ⌝ }
+    ensures { λ a. ⌜ Reading 1 (C.assignmentOrCall (readers (within levels))) (Is encodeUnlabelled) (now (s .entry)) (now (s .exit)) n r a ⌝ }
 {
     let lo = free_of(s, r);
     let first = expr(s, n, levels, LOOSEST, r);
     let kind = kind_here(s, n, first);
     if goes_on_assignment(kind) {
-        return assign(s, n, levels, lo, first);
+        return set(s, n, levels, lo, first);
     }
     if is_call(s, n, first) {
         return first;

@@ -9,8 +9,8 @@ ghost use mathlib.Core.Bool.{false};
 ghost use mathlib.Core.List.{[], _∷_};
 ghost use lib.ListN.{length};
 ghost use Rattle.language.specs.Reader.{Source, valueAt, placeAt, the, optional};
-ghost use Rattle.tree.specs.Post.{item, suffixedKind};
-ghost use Rattle.tree.specs.Reads.{Lies, Ready, Fits, Grows, Here, KindHere, Refuses, Adds, recordFrom, Seals, freeOf, Reading, Is};
+ghost use Rattle.tree.specs.Encoding.{item, suffixedKind};
+ghost use Rattle.tree.specs.Reads.{Lies, Ready, Fits, Grows, Here, KindHere, Refuses, Adds, recordFrom, behindFrom, Seals, freeOf, Reading, Is};
 ghost use Rattle.tree.specs.Between.{CallHere, PlaceHere};
 
 pub(crate) enum Answer {
@@ -159,6 +159,21 @@ pub(crate) fn seal(s: &mut [u32], n: usize, r: Answer, lo: usize)
             }
         }
         Answer::Refused(_, _) => {}
+    }
+}
+
+// Ends a suffix, which begins at lo: its size and its tag behind it.
+pub(crate) fn close_item(s: &mut [u32], n: usize, r: Answer, lo: usize, tag: u32) -> Answer
+    requires { ⌜ Ready 2 (now s) n r ⌝ }
+    ensures { λ a. ⌜ Grows 2 (now (s .entry)) (now (s .exit)) n r a × Adds (behindFrom lo tag) (now (s .entry)) (now (s .exit)) r a ⌝ }
+{
+    match r {
+        Answer::Read(at, free) => {
+            s[free] = less(free, lo) as u32;
+            s[free + 1] = tag;
+            Answer::Read(at, free + 2)
+        }
+        Answer::Refused(k, p) => Answer::Refused(k, p),
     }
 }
 

@@ -11,7 +11,7 @@ use Rattle.tree.proofs.Helpers.{itself, fitted, weaker, both}
 use Rattle.language.specs.Reader.{Source, manyUpTo}
 use Rattle.language.specs.Binding.{isDeclaration}
 use Rattle.language.specs.Grammar as G
-use Rattle.tree.specs.Post.{postProgram}
+use Rattle.tree.specs.Encoding.{encodeProgram}
 use Rattle.tree.proofs.Lists.{begins, more, ends, turned, last, spent}
 use Rattle.tree.proofs.Programs.{declaration-positive, no-program-words}
 use Rattle.tree.proofs.declarations.declarations.Statement.{statement}
@@ -23,7 +23,7 @@ use Rattle.tree.proofs.binding.is_declaration.Reads as is-declaration-r
 use Rattle.tree.proofs.scratch.kind_here.Reads as kind-here-reads
 
 abbrev Inv-loop : tie.InvT-loop
-Inv-loop s₀ n turns₀ a₀ s turns a = Fits 0 s₀ s n a₀ a × (length s ≡ length s₀) × ((src : Source) → Lies src n s₀ → Partly (manyUpTo turns₀ [] isDeclaration G.declared src) (manyUpTo turns [] isDeclaration G.declared src) postProgram s₀ s a₀ a)
+Inv-loop s₀ n turns₀ a₀ s turns a = Fits 0 s₀ s n a₀ a × (length s ≡ length s₀) × ((src : Source) → Lies src n s₀ → Partly (manyUpTo turns₀ [] isDeclaration G.declared src) (manyUpTo turns [] isDeclaration G.declared src) encodeProgram s₀ s a₀ a)
 
 abbrev μ-loop : tie.MeasureT-loop
 μ-loop s₀ n turns₀ a₀ s turns a = turns

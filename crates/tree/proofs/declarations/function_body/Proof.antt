@@ -8,7 +8,7 @@ use Rattle.tree.proofs.declarations.function_body.Statement.{statement}
 use Rattle.tree.proofs.declarations.function_body.Tie as tie
 use Rattle.tree.proofs.declarations.function_body.Reads as reads
 use Rattle.tree.proofs.declarations.function_body.Lts as lts
-use Rattle.tree.proofs.phrases.command.Reads as command-reads
+use Rattle.tree.proofs.phrases.cmd.Reads as cmd-reads
 use Rattle.tree.proofs.scratch.expect.Reads as expect-reads
 use Rattle.tree.proofs.phrases.expr.Reads as expr-reads
 use Rattle.tree.proofs.scratch.kind_here.Reads as kind-here-reads
@@ -35,8 +35,8 @@ returns c = (weaker (omega arith) (then-grows (both (c .before .before .before .
 expect-requires-2 : tie.Need-expect-requires-2
 expect-requires-2 c κs = search needs
 
-command-requires : tie.Need-command-requires
-command-requires c κs = search needs
+cmd-requires : tie.Need-cmd-requires
+cmd-requires c κs = search needs
 
 node-requires-2 : tie.Need-node-requires-2
 node-requires-2 c κs = search needs
@@ -45,7 +45,7 @@ same-length-2 : tie.Need-same-length-2
 same-length-2 c = search needs
 
 returns-2 : tie.Need-returns-2
-returns-2 c = (weaker (omega arith) (then-grows (both (c .before .before .before .before .before .before .before .before .expect2 .ensures .0) (c .before .before .before .before .before .before .command .ensures .0)) (c .before .before .node2 .ensures .0) (omega arith)), λ src l. (let a = c .before .before .before .before .before .before .before .before .expect2 .ensures .1 src l in let b = c .before .before .before .before .before .before .command .ensures .1 src l in let d = c .before .before .node2 .ensures .1 in (goes-on a then goes-on b then adds-on d, λ name names e q. body-routine src (c .before .before .before .before .before .before .before .before .before .before .before .kind-here .ensures src l) _ _ name names e q (c .before .before .before .before .before .before .before .before .before .before .if1 .left) a b d)))
+returns-2 c = (weaker (omega arith) (then-grows (both (c .before .before .before .before .before .before .before .before .expect2 .ensures .0) (c .before .before .before .before .before .before .cmd .ensures .0)) (c .before .before .node2 .ensures .0) (omega arith)), λ src l. (let a = c .before .before .before .before .before .before .before .before .expect2 .ensures .1 src l in let b = c .before .before .before .before .before .before .cmd .ensures .1 src l in let d = c .before .before .node2 .ensures .1 in (goes-on a then goes-on b then adds-on d, λ name names e q. body-routine src (c .before .before .before .before .before .before .before .before .before .before .before .kind-here .ensures src l) _ _ name names e q (c .before .before .before .before .before .before .before .before .before .before .if1 .left) a b d)))
 
 pub function-body-spec : {M : Type 1} → statement M
 function-body-spec =
@@ -58,7 +58,7 @@ function-body-spec =
     same-length
     returns
     expect-requires-2
-    command-requires
+    cmd-requires
     node-requires-2
     same-length-2
     returns-2)

@@ -10,7 +10,7 @@ use mathlib.Core.Path.{_≡_, refl, _∙_}
 use Rattle.tree.proofs.Helpers.{itself, smaller, fitted, weaker, both}
 use Rattle.language.specs.Reader.{Source, moreUpTo}
 use Rattle.language.specs.Grammar as G
-use Rattle.tree.specs.Post.{postItems}
+use Rattle.tree.specs.Encoding.{encodeItems}
 use Rattle.tree.proofs.Lists.{begins, more, closes}
 use Rattle.tree.proofs.ListEnd.{list-end, list-semicolon-end, list-more, semicolon-item, list-spent}
 use Rattle.tree.proofs.Programs.{no-item-words}
@@ -24,7 +24,7 @@ use Rattle.tree.proofs.declarations.one_item.Reads as one-item-reads
 use Rattle.tree.proofs.scratch.refuse.Reads as refuse-reads
 
 abbrev Inv-loop : tie.InvT-loop
-Inv-loop s₀ n sign turns₀ a₀ s turns a = Fits 0 s₀ s n a₀ a × (length s ≡ length s₀) × ((src : Source) → Lies src n s₀ → Partly (moreUpTo turns₀ [] (G.item sign) src) (moreUpTo turns [] (G.item sign) src) postItems s₀ s a₀ a)
+Inv-loop s₀ n sign turns₀ a₀ s turns a = Fits 0 s₀ s n a₀ a × (length s ≡ length s₀) × ((src : Source) → Lies src n s₀ → Partly (moreUpTo turns₀ [] (G.item sign) src) (moreUpTo turns [] (G.item sign) src) encodeItems s₀ s a₀ a)
 
 abbrev μ-loop : tie.MeasureT-loop
 μ-loop s₀ n sign turns₀ a₀ s turns a = turns
@@ -42,7 +42,7 @@ same-length : tie.Need-same-length Inv-loop μ-loop
 same-length c = search needs
 
 returns : tie.Need-returns Inv-loop μ-loop
-returns c = (weaker (omega arith) (both (c .before .before .before .before .before .before .loop .inv .0) (c .expect .ensures .0)), λ src l. (let l₁ = lies-still l (c .before .before .before .before .before .before .loop .inv .0 .kept) in closes (c .before .before .before .before .before .before .loop .inv .2 src l) (list-end [] (G.item (c .before .before .before .before .before .before .before .before .args .sign)) src (c .before .before .before .kind-here .ensures src l₁) postItems no-item-words (c .before .before .before .before .before .before .loop .turns) (omega arith) (c .before .before .if1 .taken) (c .expect .ensures .1 src l₁))))
+returns c = (weaker (omega arith) (both (c .before .before .before .before .before .before .loop .inv .0) (c .expect .ensures .0)), λ src l. (let l₁ = lies-still l (c .before .before .before .before .before .before .loop .inv .0 .kept) in closes (c .before .before .before .before .before .before .loop .inv .2 src l) (list-end [] (G.item (c .before .before .before .before .before .before .before .before .args .sign)) src (c .before .before .before .kind-here .ensures src l₁) encodeItems no-item-words (c .before .before .before .before .before .before .loop .turns) (omega arith) (c .before .before .if1 .taken) (c .expect .ensures .1 src l₁))))
 
 expect-requires-2 : tie.Need-expect-requires-2 Inv-loop μ-loop
 expect-requires-2 c κs = (fitted (c .before .before .before .before .before .before .before .pre .0) (c .before .before .before .before .before .loop .inv .0) (c .before .before .before .before .before .loop .inv .1) (omega arith), omega arith)
@@ -57,7 +57,7 @@ same-length-2 : tie.Need-same-length-2 Inv-loop μ-loop
 same-length-2 c = search needs
 
 returns-2 : tie.Need-returns-2 Inv-loop μ-loop
-returns-2 c = (weaker (omega arith) (both (both (c .before .before .before .before .before .before .before .before .before .before .before .loop .inv .0) (c .before .before .before .before .before .expect2 .ensures .0)) (c .expect3 .ensures .0)), λ src l. (let l₁ = lies-still l (c .before .before .before .before .before .before .before .before .before .before .before .loop .inv .0 .kept) in closes (c .before .before .before .before .before .before .before .before .before .before .before .loop .inv .2 src l) (list-semicolon-end [] (G.item (c .before .before .before .before .before .before .before .before .before .before .before .before .before .args .sign)) src (c .before .before .before .before .before .before .before .before .kind-here .ensures src l₁) postItems no-item-words (c .before .before .before .before .before .before .before .before .before .before .before .loop .turns) (omega arith) (c .before .before .before .before .before .before .before .if1 .left) (c .before .before .before .kind-here2 .ensures src l₁) (c .before .before .if2 .taken) (c .before .before .before .before .before .expect2 .ensures .1 src l₁) (c .expect3 .ensures .1 src l₁))))
+returns-2 c = (weaker (omega arith) (both (both (c .before .before .before .before .before .before .before .before .before .before .before .loop .inv .0) (c .before .before .before .before .before .expect2 .ensures .0)) (c .expect3 .ensures .0)), λ src l. (let l₁ = lies-still l (c .before .before .before .before .before .before .before .before .before .before .before .loop .inv .0 .kept) in closes (c .before .before .before .before .before .before .before .before .before .before .before .loop .inv .2 src l) (list-semicolon-end [] (G.item (c .before .before .before .before .before .before .before .before .before .before .before .before .before .args .sign)) src (c .before .before .before .before .before .before .before .before .kind-here .ensures src l₁) encodeItems no-item-words (c .before .before .before .before .before .before .before .before .before .before .before .loop .turns) (omega arith) (c .before .before .before .before .before .before .before .if1 .left) (c .before .before .before .kind-here2 .ensures src l₁) (c .before .before .if2 .taken) (c .before .before .before .before .before .expect2 .ensures .1 src l₁) (c .expect3 .ensures .1 src l₁))))
 
 one-item-requires : tie.Need-one-item-requires Inv-loop μ-loop
 one-item-requires c κs = (smaller (fitted (fitted (c .before .before .before .before .before .before .before .before .before .before .before .before .pre .0) (c .before .before .before .before .before .before .before .before .before .before .loop .inv .0) (c .before .before .before .before .before .before .before .before .before .before .loop .inv .1) (omega arith)) (c .before .before .before .before .expect2 .ensures .0) refl (omega arith)) (omega arith), c .before .before .before .before .before .before .before .before .before .before .before .before .pre .1)

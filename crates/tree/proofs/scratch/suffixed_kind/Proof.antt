@@ -1,5 +1,5 @@
 use mathlib.Core.Path.{refl}
-use Rattle.tree.specs.Post.{suffixedKind}
+use Rattle.tree.specs.Encoding.{suffixedKind}
 use Rattle.tree.proofs.scratch.suffixed_kind.Statement.{statement}
 use Rattle.tree.proofs.scratch.suffixed_kind.Tie as tie
 use Rattle.tree.proofs.scratch.suffixed_kind.Reads as reads

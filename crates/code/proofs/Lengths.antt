@@ -1,0 +1,197 @@
+-- The compiler's text is at most 64 bytes a source byte and 1,024 more: 10 bytes an instruction or constant, 7 a label, 13 a start in a
+-- global, and a string twice its characters and 4.
+use Prim.Native.Nat.{ℕ, zero, suc, _+_, _*_, _/_, _%_, _≤_, _<_}
+use mathlib.Core.Path.{_≡_, refl}
+use mathlib.Core.Bool.{Bool, true, false, cond}
+use mathlib.Core.List.{List, [], _∷_, _++_}
+use native.Mathlib.Omega.{arith}
+use lib.Dec.{eqb, ltb}
+use lib.ListN.{length, length-append}
+use borrow.Author.Tests.{lt-ltb}
+use Rattle.items.specs.Item as I
+use Rattle.items.specs.Item.{Operand, number, address, Base, Item, label, instruction, constant}
+use Rattle.items.specs.Render.{numeral, numeralOf, operandText, baseText, indirectText, characterText, charactersText, render, renderLines, renderAll}
+use Rattle.items.proofs.Sound.{Sound, SoundOperand}
+use Rattle.items.proofs.Rendered.{AllSound}
+use Rattle.language.specs.Resolved.{Fun, Start, nowhere, inGlobal}
+use Rattle.language.specs.Program.{accepted}
+use Rattle.language.specs.Whole.{refusalOf, functionsIn, stringsIn}
+use Rattle.code.specs.Placed.{stringWords}
+use Rattle.code.specs.Generate.{functionsCode, stringsCode, startsCode, startIn, itemsOf, textOf}
+use Rattle.text.proofs.Packed.{length-pairs}
+use Rattle.code.proofs.Plain.{Plain, none, l, i, d, plain-functions}
+use Rattle.language.proofs.SymbolFacts.{same-now, scan-length}
+use Rattle.language.proofs.Widths.{stringBytes, string-bytes, covered}
+use Rattle.code.proofs.Marks.{marks}
+use Rattle.code.proofs.WordCounts.{most, weigh}
+use Rattle.code.proofs.Sizes.{items-words}
+use Rattle.language.proofs.Accepted.{Facts, facts}
+use Rattle.code.proofs.GoodSource.{ns, few-in-all, labels-few, good}
+use Rattle.language.proofs.Forming.{length-funs}
+use Rattle.code.proofs.Refusals.{number-of, count-up, items-count}
+
+-- ---- numbers are at most five digits
+
+one-digit : (k n : ℕ) → n < 10 → length (numeral k n) ≤ 1
+unfolding numeral
+one-digit zero n h = omega arith
+one-digit (suc k) n h = rw (lt-ltb n 10 h) (omega arith)
+
+more-digits : (m c : ℕ) → ((k n : ℕ) → n < m → length (numeral k n) ≤ c) → (k n : ℕ) → n < 10 * m → length (numeral k n) ≤ suc c
+unfolding numeral
+more-digits m c f zero n h = omega arith
+more-digits m c f (suc k) n h = go (ltb n 10)
+  where
+    go : (t : Bool) → length (cond t ((48 + n) ∷ []) (numeral k (n / 10) ++ ((48 + n % 10) ∷ []))) ≤ suc c
+    go true = omega arith
+    go false = omega (arith, length-append (numeral k (n / 10)) ((48 + n % 10) ∷ []), f k (n / 10) (omega arith))
+
+five-digits : (n : ℕ) → n ≤ 65536 → length (numeralOf n) ≤ 5
+unfolding numeralOf
+five-digits n h =
+    more-digits 10000 4 (λ k m j. more-digits 1000 3 (λ k m j. more-digits 100 2 (λ k m j. more-digits 10 1 one-digit k m (omega arith)) k m (omega arith)) k m (omega arith)) (suc n) n (omega arith)
+
+operand-short : (x : Operand) → SoundOperand x → length (operandText x) ≤ 6
+unfolding operandText
+operand-short (number true n) h = omega (arith, five-digits n h)
+operand-short (number false n) h = omega (arith, five-digits n h)
+operand-short (address n) h = omega (arith, five-digits n h)
+
+base-short : (b : Base) → length (baseText b) ≤ 1
+unfolding baseText
+base-short I.none = omega arith
+base-short I.P = omega arith
+base-short I.G = omega arith
+
+indirect-short : (b : Bool) → length (indirectText b) ≤ 1
+unfolding indirectText
+indirect-short true = omega arith
+indirect-short false = omega arith
+
+character-short : (c : ℕ) → length (characterText c) ≤ 2
+unfolding characterText
+character-short c =
+    two (eqb c 10) 42 78 _ (two (eqb c 9) 42 84 _ (two (eqb c 8) 42 66 _ (two (eqb c 12) 42 80 _ (two (eqb c 13) 42 67 _ (two (eqb c 42) 42 42 _ (two (eqb c 34) 42 34 _ (omega arith)))))))
+  where
+    two : (t : Bool) (a b : ℕ) (more : List ℕ) → length more ≤ 2 → length (cond t (a ∷ b ∷ []) more) ≤ 2
+    two true a b more h = omega arith
+    two false a b more h = h
+
+characters-short : (cs : List ℕ) → length (charactersText cs) ≤ 2 * length cs
+unfolding charactersText
+characters-short [] = omega arith
+characters-short (c ∷ cs) = omega (arith, length-append (characterText c) (charactersText cs), character-short c, characters-short cs)
+
+-- ---- lines
+
+-- what strings and starts take beside
+abbrev beside : Item → ℕ
+beside (label n) = 0
+beside (instruction f t b x) = 0
+beside (constant x) = 0
+beside (I.string cs) = 2 * length cs + 4
+beside (I.global n m) = 13
+
+abbrev isOne : Item → ℕ
+isOne (label n) = 1
+isOne (instruction f t b x) = 0
+isOne (constant x) = 0
+isOne (I.string cs) = 0
+isOne (I.global n m) = 0
+
+line-short : (x : Item) → Sound x → length (render x) + 1 ≤ 5 * most x + 7 * isOne x + beside x
+unfolding render
+line-short (label n) h = omega (arith, length-append (numeralOf n) (58 ∷ []), five-digits n h)
+line-short (instruction f t b x) h =
+    omega (arith, length-append (indirectText t) (baseText b ++ operandText x), length-append (baseText b) (operandText x), indirect-short t, base-short b, operand-short x (h .sound))
+line-short (constant x) h = omega (arith, operand-short x h)
+line-short (I.string cs) h = omega (arith, length-append (charactersText cs) (34 ∷ []), characters-short cs)
+line-short (I.global n m) h = omega (arith, length-append (numeralOf n) (76 ∷ numeralOf m), five-digits n (h .first), five-digits m (h .second))
+
+unfoldable besides : List Item → ℕ
+besides [] = 0
+besides (x ∷ xs) = beside x + besides xs
+
+unfoldable ones : List Item → ℕ
+ones [] = 0
+ones (x ∷ xs) = isOne x + ones xs
+
+lines-short : (xs : List Item) → AllSound xs → length (renderLines xs) ≤ 5 * weigh xs + 7 * ones xs + besides xs + 2
+unfolding renderLines weigh ones besides
+lines-short [] h = omega arith
+lines-short (x ∷ xs) h = omega (arith, length-append (render x) (10 ∷ renderLines xs), line-short x (h .0), lines-short xs (h .1))
+
+text-short : (xs : List Item) → AllSound xs → length (renderAll xs) ≤ 5 * weigh xs + 7 * ones xs + besides xs + 4
+unfolding renderAll
+text-short xs h = omega (arith, lines-short xs h)
+
+ones-marks : (xs : List Item) → ones xs ≡ marks number-of count-up xs
+unfolding ones marks
+ones-marks [] = refl
+ones-marks (label n ∷ xs) = omega (arith, ones-marks xs)
+ones-marks (instruction f t b x ∷ xs) = omega (arith, ones-marks xs)
+ones-marks (constant x ∷ xs) = omega (arith, ones-marks xs)
+ones-marks (I.string cs ∷ xs) = omega (arith, ones-marks xs)
+ones-marks (I.global n m ∷ xs) = omega (arith, ones-marks xs)
+
+besides-both : (xs ys : List Item) → besides (xs ++ ys) ≡ besides xs + besides ys
+unfolding besides
+besides-both [] ys = omega arith
+besides-both (x ∷ xs) ys = omega (arith, besides-both xs ys)
+
+besides-plain : {xs : List Item} → Plain xs → besides xs ≤ 0
+unfolding besides
+besides-plain none = omega arith
+besides-plain (l p) = omega (arith, besides-plain p)
+besides-plain (i p) = omega (arith, besides-plain p)
+besides-plain (d p) = omega (arith, besides-plain p)
+
+besides-strings : (t : ℕ) (ss : List (List ℕ)) → besides (stringsCode t ss) ≤ 2 * stringBytes ss
+unfolding besides stringsCode stringBytes
+besides-strings t [] = omega arith
+besides-strings t (cs ∷ ss) = omega (arith, besides-strings (suc t) ss)
+
+besides-starts : (t : ℕ) (fs : List Fun) → besides (startsCode t fs) ≤ 13 * length fs
+unfolding besides startsCode
+besides-starts t [] = omega arith
+besides-starts t (f ∷ fs) = go (f .start) (besides-starts (suc t) fs)
+  where
+    go : (s : Start) → besides (startsCode (suc t) fs) ≤ 13 * length fs → besides (startIn s t (startsCode (suc t) fs)) ≤ 13 * suc (length fs)
+    go nowhere k = omega arith
+    go (inGlobal n) k = omega arith
+
+besides-items : (fs : List Fun) (ss : List (List ℕ)) → besides (itemsOf fs ss) ≤ 2 * stringBytes ss + 13 * length fs
+unfolding itemsOf
+besides-items fs ss =
+    let f : List Item = functionsCode (suc (length fs)) 1 (suc (length fs) + length ss) fs in
+    let t : List Item = stringsCode (suc (length fs)) ss in
+    let g : List Item = startsCode 1 fs in
+    omega (arith, besides-both f (t ++ g), besides-both t g, besides-plain (plain-functions (suc (length fs)) 1 (suc (length fs) + length ss) fs), besides-strings (suc (length fs)) ss, besides-starts 1 fs)
+
+-- a string's words are no more than its bytes
+words-bytes : (ss : List (List ℕ)) → stringWords ss ≤ stringBytes ss
+unfolding stringWords stringBytes
+words-bytes [] = omega arith
+words-bytes (cs ∷ ss) = omega (arith, words-bytes ss, length-pairs (length cs) cs)
+
+pub short : (source : List ℕ) (scratch : ℕ) → refusalOf source scratch ≡ accepted → length (textOf source) ≤ 58 * length source + 4
+unfolding textOf ns
+short source scratch a =
+    let x : Facts source = facts source scratch a in
+    let is : List Item = itemsOf (functionsIn source) (stringsIn source) in
+    let strings : stringBytes (stringsIn source) ≤ length source = rw (x .strings, same-now source) (string-bytes source) in
+    let functions : length (functionsIn source) ≡ length (ns source x) = rw (x .functions) (length-funs (ns source x)) in
+    omega (
+      arith,
+      text-short is (good source x .sound),
+      ones-marks is,
+      items-count source x,
+      items-words source x,
+      scan-length source,
+      besides-items (functionsIn source) (stringsIn source),
+      words-bytes (stringsIn source),
+      few-in-all source x,
+      labels-few source x,
+      x .weights,
+      covered source,
+    )

@@ -1,0 +1,224 @@
+-- The compiler's text has a label a source byte at most, and is refused only by 24 or 25: its labels differ and those used are there.
+use Prim.Native.Nat.{ℕ, suc, _+_, _-_, _≤_}
+use mathlib.Core.Path.{_≡_, refl, ap}
+use mathlib.Core.Bool.{Bool, true, false, cond}
+use mathlib.Core.Logic.{_⊎_}
+use mathlib.Core.List.{List, [], _∷_, _++_}
+use native.Mathlib.Omega.{arith}
+use lib.Dec.{eqb, ltb}
+use lib.ListN.{length}
+use borrow.Author.Tests.{eqb-true, eqb-false, ltb-true, ltb-false, eq-eqb}
+use Rattle.text.specs.declared.Refusal.{Refusal}
+use Rattle.items.specs.Item as I
+use Rattle.items.specs.Item.{Operand, number, address, Item, label, instruction, constant}
+use Rattle.items.specs.Scan.{scan}
+use Rattle.items.specs.Render.{render, renderAll}
+use Rattle.items.proofs.Rendered.{places, rendered}
+use Rattle.assembler.specs.Layout.{usedBy, uses}
+use Rattle.assembler.specs.Assemble.{assembled}
+use Rattle.assembler.specs.declared.Assembled.the-variants.{Refused}
+use Rattle.assembler.proofs.Rendering.{seen, labelsOf, Clean, AllKnown, rendered-only}
+use Rattle.language.specs.Program.{Named, accepted}
+use Rattle.language.specs.Whole.{refusalOf, funs, functionsIn, stringsIn}
+use Rattle.code.specs.Placed.{labelCount}
+use Rattle.code.specs.Generate.{bodyLabels, itemsOf, textOf}
+use Rattle.code.proofs.Sounding.{Within, RightOperand, Sounds, s-none, s-more, right-range, all-sound}
+use Rattle.code.proofs.Marks.{marks, funLabels, items-marks}
+use Rattle.language.proofs.Accepted.{Facts, facts}
+use Rattle.code.proofs.GoodSource.{ns, total, few-in-all, total-low, innerLabels, items-sound}
+
+-- ---- how many labels
+
+pub count-up : (a b : ℕ) → a ≤ b → a ≤ b
+count-up a b l = l
+
+abbrev pub number-of : ℕ → ℕ
+number-of n = n
+
+count-places : (p : ℕ) (is : List Item) → labelCount (places p is) ≡ marks number-of count-up is
+unfolding labelCount places marks
+count-places p [] = refl
+count-places p (label n ∷ is) = omega (arith, count-places (p + length (render (label n)) + 1) is)
+count-places p (instruction f i b x ∷ is) = omega (arith, count-places (p + length (render (instruction f i b x)) + 1) is)
+count-places p (constant x ∷ is) = omega (arith, count-places (p + length (render (constant x)) + 1) is)
+count-places p (I.string cs ∷ is) = omega (arith, count-places (p + length (render (I.string cs)) + 1) is)
+count-places p (I.global n m ∷ is) = omega (arith, count-places (p + length (render (I.global n m)) + 1) is)
+
+-- ---- how often a label is there
+
+abbrev passed : ℕ → ℕ → ℕ
+passed k n = cond (ltb k n) 1 0
+
+passed-up : (k a b : ℕ) → a ≤ b → passed k a ≤ passed k b
+passed-up k a b l = go (ltb k a) refl (ltb k b) refl
+  where
+    go : (s : Bool) → ltb k a ≡ s → (t : Bool) → ltb k b ≡ t → cond s 1 0 ≤ cond t 1 0
+    go true e true f = omega arith
+    go true e false f = absurd (omega (arith, ltb-true k a e, ltb-false k b f))
+    go false e true f = omega arith
+    go false e false f = omega arith
+
+abbrev point : ℕ → ℕ → ℕ
+point k n = cond (eqb n k) 1 0
+
+passed-point : (k n : ℕ) → passed k (suc n) - passed k n ≡ point k n
+passed-point k n = go (ltb k (suc n)) refl (ltb k n) refl (eqb n k) refl
+  where
+    go : (s : Bool) → ltb k (suc n) ≡ s → (t : Bool) → ltb k n ≡ t → (r : Bool) → eqb n k ≡ r → cond s 1 0 - cond t 1 0 ≡ cond r 1 0
+    go true e true f true g = absurd (omega (arith, ltb-true k n f, eqb-true n k g))
+    go true e true f false g = refl
+    go true e false f true g = refl
+    go true e false f false g = absurd (eqb-false n k g (omega (arith, ltb-true k (suc n) e, ltb-false k n f)))
+    go false e true f r g = absurd (omega (arith, ltb-false k (suc n) e, ltb-true k n f))
+    go false e false f true g = absurd (omega (arith, ltb-false k (suc n) e, eqb-true n k g))
+    go false e false f false g = refl
+
+unfoldable times : ℕ → List ℕ → ℕ
+times k [] = 0
+times k (n ∷ ns) = point k n + times k ns
+
+times-both : (k : ℕ) (xs ys : List ℕ) → times k (xs ++ ys) ≡ times k xs + times k ys
+unfolding times
+times-both k [] ys = omega arith
+times-both k (x ∷ xs) ys = omega (arith, times-both k xs ys)
+
+times-marks : (k : ℕ) (is : List Item) → times k (labelsOf is) ≡ marks (passed k) (passed-up k) is
+unfolding labelsOf times marks
+times-marks k [] = refl
+times-marks k (label n ∷ is) = omega (arith, times-marks k is, passed-point k n)
+times-marks k (instruction f i b x ∷ is) = omega (arith, times-marks k is)
+times-marks k (constant x ∷ is) = omega (arith, times-marks k is)
+times-marks k (I.string cs ∷ is) = omega (arith, times-marks k is)
+times-marks k (I.global n m ∷ is) = omega (arith, times-marks k is)
+
+seen-none : (k : ℕ) (ns : List ℕ) → times k ns ≤ 0 → seen ns k ≡ false
+unfolding seen times
+seen-none k [] l = refl
+seen-none k (n ∷ ns) l = go (eqb n k) l (λ m. seen-none k ns m)
+  where
+    go : (t : Bool) → cond t 1 0 + times k ns ≤ 0 → (times k ns ≤ 0 → seen ns k ≡ false) → cond t true (seen ns k) ≡ false
+    go true m f = absurd (omega arith)
+    go false m f = f (omega arith)
+
+seen-some : (k : ℕ) (ns : List ℕ) → 1 ≤ times k ns → seen ns k ≡ true
+unfolding seen times
+seen-some k [] l = absurd (omega arith)
+seen-some k (n ∷ ns) l = go (eqb n k) l (λ m. seen-some k ns m)
+  where
+    go : (t : Bool) → 1 ≤ cond t 1 0 + times k ns → (1 ≤ times k ns → seen ns k ≡ true) → cond t true (seen ns k) ≡ true
+    go true m f = refl
+    go false m f = f (omega arith)
+
+-- ---- labels that differ, and labels that are there
+
+module _ (T : ℕ) (low : T ≤ 32768) where
+  clean-all : (before : List ℕ) (is : List Item) → Sounds T is → ((k : ℕ) → times k before + times k (labelsOf is) ≤ 1) → Clean before is
+  unfolding labelsOf times
+  clean-all before [] s f = tt
+  clean-all before (label n ∷ is) (s-more p q) f = (
+    right-range T low (label n) p,
+    seen-none n before (omega (arith, f n, same n)),
+    clean-all (before ++ (n ∷ [])) is q (λ k. omega (arith, f k, times-both k before (n ∷ []))),
+  )
+    where
+      same : (n : ℕ) → point n n ≡ 1
+      same n = rw (eq-eqb n n refl)
+  clean-all before (instruction f i b x ∷ is) (s-more p q) h = (right-range T low (instruction f i b x) p, tt, clean-all (before ++ []) is q (λ k. omega (arith, h k, times-both k before [])))
+  clean-all before (constant x ∷ is) (s-more p q) h = (right-range T low (constant x) p, tt, clean-all (before ++ []) is q (λ k. omega (arith, h k, times-both k before [])))
+  clean-all before (I.string cs ∷ is) (s-more p q) h = (right-range T low (I.string cs) p, tt, clean-all (before ++ []) is q (λ k. omega (arith, h k, times-both k before [])))
+  clean-all before (I.global n m ∷ is) (s-more p q) h = (right-range T low (I.global n m) p, tt, clean-all (before ++ []) is q (λ k. omega (arith, h k, times-both k before [])))
+
+  module _ (labels : List ℕ) (there : (k : ℕ) → Within T k → seen labels k ≡ true) where
+    one-known : (k : ℕ) → Within T k → cond (eqb k 0) true (seen labels k) ≡ true
+    one-known k w = go (eqb k 0)
+      where
+        go : (t : Bool) → cond t true (seen labels k) ≡ true
+        go true = refl
+        go false = there k w
+
+    operand-known : (x : Operand) → RightOperand T x → cond (eqb (usedBy x) 0) true (seen labels (usedBy x)) ≡ true
+    operand-known (number true n) p = absurd p
+    operand-known (number false n) p = refl
+    operand-known (address n) p = one-known n p
+
+    known-all : {is : List Item} → Sounds T is → AllKnown labels is
+    unfolding uses
+    known-all s-none = tt
+    known-all (s-more {x = label n} p q) = (refl, known-all q)
+    known-all (s-more {x = instruction f i b x} p q) = (operand-known x (p .right), known-all q)
+    known-all (s-more {x = constant x} p q) = (operand-known x p, known-all q)
+    known-all (s-more {x = I.string cs} p q) = (refl, known-all q)
+    known-all (s-more {x = I.global n m} p q) = (one-known m (p .start), known-all q)
+
+fun-labels : (ns : List Named) → funLabels (funs ns) ≡ innerLabels ns
+unfolding funs funLabels innerLabels
+fun-labels [] = refl
+fun-labels (n ∷ ns) = ap (λ (k : ℕ). bodyLabels (n .fun .body) + k) (fun-labels ns)
+
+-- ---- the text of a source that is accepted
+
+module _ (source : List ℕ) (x : Facts source) where
+  items : List Item
+  items = itemsOf (funs (ns source x)) (stringsIn source)
+
+  all-labels : suc (length (funs (ns source x))) + length (stringsIn source) + funLabels (funs (ns source x)) ≡ total source x
+  all-labels = omega (arith, fun-labels (ns source x))
+
+  often : (k : ℕ) → times k (labelsOf items) + passed k 1 ≡ passed k (total source x)
+  unfolding items
+  often k = rw (times-marks k (itemsOf (funs (ns source x)) (stringsIn source))) (items-marks (passed k) (passed-up k) (funs (ns source x)) (stringsIn source) (total source x) all-labels)
+
+  at-most-once : (k : ℕ) → times k (labelsOf items) ≤ 1
+  at-most-once k = omega (arith, often k, one (ltb k (total source x)))
+    where
+      one : (t : Bool) → cond t 1 0 ≤ 1
+      one true = omega arith
+      one false = omega arith
+
+  once : (k : ℕ) → Within (total source x) k → seen (labelsOf items) k ≡ true
+  once k w = seen-some k (labelsOf items) (go (ltb k 1) refl (ltb k (total source x)) refl (often k))
+    where
+      go : (s : Bool) → ltb k 1 ≡ s → (t : Bool) → ltb k (total source x) ≡ t → times k (labelsOf items) + cond s 1 0 ≡ cond t 1 0 → 1 ≤ times k (labelsOf items)
+      go true e t f h = absurd (omega (arith, ltb-true k 1 e, w .first))
+      go false e true f h = omega arith
+      go false e false f h = absurd (omega (arith, ltb-false k (total source x) f, w .last))
+
+  same-items : itemsOf (functionsIn source) (stringsIn source) ≡ items
+  unfolding items ns
+  same-items = rw (x .functions)
+
+  items-right : Sounds (total source x) items
+  unfolding items
+  items-right = items-sound source x
+
+  counted : marks number-of count-up items + 1 ≡ total source x
+  unfolding items
+  counted = items-marks number-of count-up (funs (ns source x)) (stringsIn source) (total source x) all-labels
+
+  pub items-count : marks number-of count-up (itemsOf (functionsIn source) (stringsIn source)) + 1 ≡ total source x
+  items-count = rw same-items counted
+
+  labels-most : labelCount (scan (renderAll items) .items) ≤ length source
+  labels-most =
+      rw (rendered items (all-sound (total source x) (total-low source x) items-right))
+      (omega (arith, count-places 2 items, counted, few-in-all source x))
+
+  none : (k : ℕ) → times k [] ≡ 0
+  unfolding times
+  none k = refl
+
+  items-only : (memory room : ℕ) (r : Refusal) → assembled (renderAll items) memory room .answer ≡ Refused r → (r .number ≡ 24) ⊎ (r .number ≡ 25)
+  items-only memory room r h =
+      rendered-only items (all-sound (total source x) (total-low source x) items-right)
+      (clean-all (total source x) (total-low source x) [] items items-right (λ k. omega (arith, at-most-once k, none k)))
+      (known-all (total source x) (total-low source x) (labelsOf items) once items-right) memory room r h
+
+-- a label a byte: no more than there are bytes
+pub few-labels : (source : List ℕ) (scratch : ℕ) → refusalOf source scratch ≡ accepted → labelCount (scan (textOf source) .items) ≤ length source
+unfolding textOf
+few-labels source scratch a = rw (same-items source (facts source scratch a)) (labels-most source (facts source scratch a))
+
+pub refused-only : (source : List ℕ) (scratch : ℕ) → refusalOf source scratch ≡ accepted → (memory room : ℕ) (r : Refusal) → assembled (textOf source) memory room .answer ≡ Refused r
+    → (r .number ≡ 24) ⊎ (r .number ≡ 25)
+unfolding textOf
+refused-only source scratch a memory room r h = items-only source (facts source scratch a) memory room r (rw (same-items source (facts source scratch a)) at h)
