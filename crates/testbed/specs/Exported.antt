@@ -9,7 +9,7 @@ use Rattle.text.specs.Line.{lineOf}
 use Rattle.symbols.specs.Read.{symbolsRead}
 use Rattle.symbols.specs.declared.SymbolsRead.{SymbolsRead}
 use Rattle.symbols.specs.declared.SymbolsRead.the-variants as Y
-use Rattle.tree.specs.Read.{treeRead, unfit, Leaves}
+use Rattle.tree.specs.Read.{treeRead, treeLeft}
 use Rattle.tree.specs.declared.TreeRead.{TreeRead}
 use Rattle.tree.specs.declared.TreeRead.the-variants as T
 use Rattle.assembler.specs.declared.Label.{Label}
@@ -56,7 +56,7 @@ treeNumbers text (T.Refused number place) = number ∷ place ∷ lineOf text pla
 
 -- so many symbols stand in scratch, of that text
 pub record TreeAnswered (text : List ℕ) (count : ℕ) (scratch scratch′ answer : List ℕ) : Type 0 where
-  pub leaves : Leaves scratch count (length text) scratch′ (unfit (length scratch) count)
+  pub leaves : scratch′ ≡ treeLeft scratch count (length text)
   pub answers : answer ≡ treeNumbers text (treeRead scratch count (length text))
 
 -- after the reading of symbols: a refusal of theirs, or what is said of the tree

@@ -1,10 +1,10 @@
--- What `read_tree` answers, and what scratch then holds: the symbols, and after them the tree (`Encoding`) if there is one. What stands
--- behind these is not said. Scratch that is too short, or longer than an entry can count, stays as it was.
+-- What `read_tree` answers, and what scratch then holds: the symbols, after them the tree (`Encoding`) if there is one, and zeros behind.
+-- Scratch that is too short, or longer than an entry can count, stays as it was.
 use Prim.Native.Nat.{ℕ, zero, suc, _+_, _-_, _*_, _≤_, _^_}
 use mathlib.Core.Path.{_≡_}
 use mathlib.Core.Bool.{Bool, true, false, cond}
 use mathlib.Core.List.{List, [], _∷_, _++_}
-use lib.ListN.{length, getD, take, drop}
+use lib.ListN.{length, getD, take, drop, replicate}
 use lib.Dec.{ltb}
 use Rattle.language.specs.Symbols.{Symbol}
 use Rattle.language.specs.Reader.{Source, Out, ok, no, placeAt}
@@ -35,13 +35,18 @@ unfoldable pub treeRead : (scratch : List ℕ) → (count size : ℕ) → TreeRe
 treeRead scratch count size =
     cond (unfit (length scratch) count) TooShort (answerOf (sourceIn scratch count size) count (treeOf (sourceIn scratch count size)))
 
-abbrev pub Stands : (count : ℕ) → Out Program → (scratch scratch′ : List ℕ) → Type 0
-Stands count (ok p next) s s′ = take (count * 3 + length (encodeProgram p)) s′ ≡ take (count * 3) s ++ encodeProgram p
-Stands count (no number at) s s′ = take (count * 3) s′ ≡ take (count * 3) s
+-- these entries, and zeros up to so many
+abbrev pub padded : (room : ℕ) → List ℕ → List ℕ
+padded room w = w ++ replicate (room - length w) 0
 
-abbrev pub Leaves : (scratch : List ℕ) → (count size : ℕ) → (scratch′ : List ℕ) → Bool → Type 0
-Leaves s count size s′ unfit =
-    elim unfit [ true ↦ s′ ≡ s | false ↦ Stands count (treeOf (sourceIn s count size)) s s′ ]
+abbrev pub leftBy : (count : ℕ) → (scratch : List ℕ) → Out Program → List ℕ
+leftBy count s (ok p next) = padded (length s) (take (count * 3) s ++ encodeProgram p)
+leftBy count s (no number at) = padded (length s) (take (count * 3) s)
+
+-- what scratch holds at the end
+unfoldable pub treeLeft : (scratch : List ℕ) → (count size : ℕ) → List ℕ
+treeLeft scratch count size =
+    cond (unfit (length scratch) count) scratch (leftBy count scratch (treeOf (sourceIn scratch count size)))
 
 -- symbols and tree together take at most eight entries a symbol
 abbrev pub Within : (most : ℕ) → TreeRead → Type 0
@@ -51,5 +56,5 @@ Within most (Refused number place) = Unit {0}
 
 pub record ReadsTree (scratch : List ℕ) (count size : ℕ) (answer : TreeRead) (scratch′ : List ℕ) : Type 0 where
   pub answers : answer ≡ treeRead scratch count size
-  pub leaves : Leaves scratch count size scratch′ (unfit (length scratch) count)
+  pub leaves : scratch′ ≡ treeLeft scratch count size
   pub room : Within (count * 8) answer
