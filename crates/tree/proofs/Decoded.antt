@@ -9,12 +9,12 @@ use lib.Seq.{getD-drop, length-take-le}
 use lib.Dec.{ltb}
 use borrow.Author.Tests.{ltb-true, ltb-false, lt-ltb, le-ltb}
 use Rattle.language.specs.Symbols.{Symbol}
-use Rattle.language.specs.Reader.{Out, ok, no, placeAt}
+use Rattle.language.specs.Reader.{Source, Out, ok, no, placeAt}
 use Rattle.language.specs.Tree.{Program}
 use Rattle.language.specs.Grammar.{treeOf, program}
 use Rattle.tree.specs.Encoding.{encodeProgram}
 use Rattle.tree.specs.Reads.{Lies, Ready, Fits, Is, Wrote, GoesBy, Reads, nextOf, lowOf, live, reach}
-use Rattle.tree.specs.Read.{decoded, sourceIn, unfit, answerOf, treeRead, padded, leftBy, treeLeft, Within, ReadsTree}
+use Rattle.tree.specs.Read.{decoded, sourceIn, unfit, answerOf, numbersOf, numbersBy, treeNumbers, treeRead, padded, leftBy, treeLeft, Within, ReadsTree}
 use Rattle.tree.proofs.Symbols.{lies-still}
 use Rattle.tree.specs.declared.scratch.Answer.{Answer}
 use Rattle.tree.specs.declared.scratch.Answer.the-variants.{Read, Refused}
@@ -119,10 +119,11 @@ starts s n h =
 
 -- what is read
 pub too-short : (s : List ℕ) (n size : ℕ) → unfit (length s) n ≡ true → ReadsTree s n size TooShort s
-unfolding treeRead treeLeft
+unfolding treeRead treeNumbers treeLeft
 too-short s n size h =
     record {
       answers = sym (ap (λ (b : Bool). cond b TooShort (answerOf (sourceIn s n size) n (treeOf (sourceIn s n size)))) h);
+      numbers = sym (ap (λ (b : Bool). cond b (numbersOf TooShort) (numbersBy (sourceIn s n size) n (treeOf (sourceIn s n size)))) h);
       leaves = sym (ap (λ (b : Bool). cond b s (leftBy n s (treeOf (sourceIn s n size)))) h);
       room = tt;
     }
@@ -140,11 +141,16 @@ cleared-is s s′ s″ front free l h e c =
     let z : length s′ - free ≡ length s - length front = omega (arith, ap length e, length-take-le free s′ (omega arith)) in
     c ∙ ap (λ (m : ℕ). take free s′ ++ replicate m 0) z ∙ ap (λ (w : List ℕ). w ++ replicate (length s - length front) 0) e
 
+told : (src : Source) (n : ℕ) (o : Out Program) → numbersOf (answerOf src n o) ≡ numbersBy src n o
+told src n (ok p next) = refl
+told src n (no number at) = refl
+
 answered : {s s″ : List ℕ} {n size : ℕ} {answer : TreeRead} → unfit (length s) n ≡ false → (o : Out Program) → treeOf (sourceIn s n size) ≡ o → answer ≡ answerOf (sourceIn s n size) n o → s″ ≡ leftBy n s o → Within (n * 8) answer → ReadsTree s n size answer s″
-unfolding treeRead treeLeft
+unfolding treeRead treeNumbers treeLeft
 answered {s} {n = n} {size} fit o e a w h =
     record {
       answers = a ∙ ap (answerOf (sourceIn s n size) n) (sym e) ∙ sym (ap (λ (b : Bool). cond b TooShort (answerOf (sourceIn s n size) n (treeOf (sourceIn s n size)))) fit);
+      numbers = ap numbersOf a ∙ told (sourceIn s n size) n o ∙ ap (numbersBy (sourceIn s n size) n) (sym e) ∙ sym (ap (λ (b : Bool). cond b (numbersOf TooShort) (numbersBy (sourceIn s n size) n (treeOf (sourceIn s n size)))) fit);
       leaves = w ∙ ap (leftBy n s) (sym e) ∙ sym (ap (λ (b : Bool). cond b s (leftBy n s (treeOf (sourceIn s n size)))) fit);
       room = h;
     }

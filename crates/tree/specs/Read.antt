@@ -31,6 +31,24 @@ abbrev pub answerOf : Source → (count : ℕ) → Out Program → TreeRead
 answerOf src count (ok p next) = Read (count * 3 + length (encodeProgram p))
 answerOf src count (no number at) = Refused number (placeAt src at)
 
+-- document 01's number, and the value with it: 0 and the tree's end; a refusal's number and place; 15 where scratch does not serve
+pub record Numbers : Type 0 where
+  pub number : ℕ
+  pub value : ℕ
+
+abbrev pub numbersOf : TreeRead → Numbers
+numbersOf (Read end) = record { number = 0; value = end }
+numbersOf (Refused number place) = record { number = number; value = place }
+numbersOf TooShort = record { number = 15; value = 0 }
+
+abbrev pub numbersBy : Source → (count : ℕ) → Out Program → Numbers
+numbersBy src count (ok p next) = record { number = 0; value = count * 3 + length (encodeProgram p) }
+numbersBy src count (no number at) = record { number = number; value = placeAt src at }
+
+unfoldable pub treeNumbers : (scratch : List ℕ) → (count size : ℕ) → Numbers
+treeNumbers scratch count size =
+    cond (unfit (length scratch) count) (numbersOf TooShort) (numbersBy (sourceIn scratch count size) count (treeOf (sourceIn scratch count size)))
+
 unfoldable pub treeRead : (scratch : List ℕ) → (count size : ℕ) → TreeRead
 treeRead scratch count size =
     cond (unfit (length scratch) count) TooShort (answerOf (sourceIn scratch count size) count (treeOf (sourceIn scratch count size)))
@@ -56,5 +74,6 @@ Within most (Refused number place) = Unit {0}
 
 pub record ReadsTree (scratch : List ℕ) (count size : ℕ) (answer : TreeRead) (scratch′ : List ℕ) : Type 0 where
   pub answers : answer ≡ treeRead scratch count size
+  pub numbers : numbersOf answer ≡ treeNumbers scratch count size
   pub leaves : scratch′ ≡ treeLeft scratch count size
   pub room : Within (count * 8) answer
