@@ -206,7 +206,8 @@ fn symbols_in(entries: &[u32]) -> Vec<Symbol> {
     symbols.map(|entries| Symbol { kind: entries[0], value: entries[1], place: entries[2] }).collect()
 }
 
-/// The symbols stand in scratch unless one of them is refused, and the tree behind them.
+/// The symbols stand in scratch unless one of them is refused, the tree behind them, and zeros behind all. A text that is too long
+/// leaves scratch as it was.
 fn compare_tree(
     (answer, scratch): ([u64; 3], Vec<u32>),
     symbols: &[Symbol],
@@ -216,17 +217,20 @@ fn compare_tree(
     if symbols_in(&scratch[..start]) != symbols {
         return Err("tree: the symbols before it are others".to_string());
     }
+    let zeros = |from: usize| scratch[from..].iter().all(|&entry| entry == 0);
     match (wanted, answer) {
         (Ok(tree), [0, end, 0]) if scratch.get(start..end as usize).is_some() => {
             let entries = &scratch[start..end as usize];
             match postfix::decode(symbols, entries) {
-                Ok(given) if given == *tree => Ok(()),
+                Ok(given) if given == *tree && zeros(end as usize) => Ok(()),
+                Ok(given) if given == *tree => Err("tree: no zeros behind it".to_string()),
                 Ok(given) => Err(told_trees(tree, &given)),
                 Err(reason) => Err(format!("{}entries {entries:?}", told_trees(tree, &reason))),
             }
         }
         (Ok(tree), _) => Err(told_trees(tree, &answer)),
-        (Err(refusal), _) if answer == numbers(*refusal) => Ok(()),
+        (Err(refusal), _) if answer == numbers(*refusal) && (refusal.number == 1 || zeros(start)) => Ok(()),
+        (Err(refusal), _) if answer == numbers(*refusal) => Err("tree refused: no zeros behind the symbols".to_string()),
         (Err(refusal), _) => Err(told_trees(&numbers(*refusal), &answer)),
     }
 }

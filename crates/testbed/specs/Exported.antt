@@ -13,7 +13,7 @@ use Rattle.symbols.specs.Read as S
 use Rattle.symbols.specs.Read.{symbolsRead}
 use Rattle.symbols.specs.declared.SymbolsRead.{SymbolsRead}
 use Rattle.symbols.specs.declared.SymbolsRead.the-variants as Y
-use Rattle.tree.specs.Read.{treeRead, unfit, Leaves}
+use Rattle.tree.specs.Read.{numbersOf, treeRead, treeLeft}
 use Rattle.tree.specs.declared.TreeRead.{TreeRead}
 use Rattle.tree.specs.declared.TreeRead.the-variants as T
 use Rattle.assembler.specs.declared.Label.{Label}
@@ -42,15 +42,18 @@ pub record SymbolsExported (text scratch scratch′ answer : List ℕ) : Type 0 
   pub leaves : scratch′ ≡ symbolsRead text scratch .scratch
   pub answers : answer ≡ S.numbers text (symbolsRead text scratch .answer)
 
--- 0 and the tree's end; or the refusal's number, place and line
+-- a tree's numbers, and the refusal's line, or 0
+abbrev pub treeLine : (text : List ℕ) → TreeRead → ℕ
+treeLine text T.TooShort = 1
+treeLine text (T.Read end) = 0
+treeLine text (T.Refused number place) = lineOf text place
+
 abbrev pub treeNumbers : (text : List ℕ) → TreeRead → List ℕ
-treeNumbers text T.TooShort = 15 ∷ 0 ∷ 1 ∷ []
-treeNumbers text (T.Read end) = 0 ∷ end ∷ 0 ∷ []
-treeNumbers text (T.Refused number place) = number ∷ place ∷ lineOf text place ∷ []
+treeNumbers text answer = numbersOf answer .number ∷ numbersOf answer .value ∷ treeLine text answer ∷ []
 
 -- so many symbols stand in scratch, of that text
 pub record TreeAnswered (text : List ℕ) (count : ℕ) (scratch scratch′ answer : List ℕ) : Type 0 where
-  pub leaves : Leaves scratch count (length text) scratch′ (unfit (length scratch) count)
+  pub leaves : scratch′ ≡ treeLeft scratch count (length text)
   pub answers : answer ≡ treeNumbers text (treeRead scratch count (length text))
 
 -- after the reading of symbols: a refusal of theirs, or what is said of the tree

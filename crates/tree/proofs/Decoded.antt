@@ -4,17 +4,17 @@ use mathlib.Core.Path.{_≡_, refl, sym, ap, subst, _∙_}
 use mathlib.Core.Bool.{Bool, true, false, cond}
 use mathlib.Core.List.{List, _++_}
 use native.Mathlib.Omega.{arith}
-use lib.ListN.{length, take, getD, drop, List·getD-eq-default}
-use lib.Seq.{getD-drop}
+use lib.ListN.{length, take, getD, drop, replicate, List·getD-eq-default}
+use lib.Seq.{getD-drop, length-take-le}
 use lib.Dec.{ltb}
 use borrow.Author.Tests.{ltb-true, ltb-false, lt-ltb, le-ltb}
 use Rattle.language.specs.Symbols.{Symbol}
-use Rattle.language.specs.Reader.{Out, ok, no, placeAt}
+use Rattle.language.specs.Reader.{Source, Out, ok, no, placeAt}
 use Rattle.language.specs.Tree.{Program}
 use Rattle.language.specs.Grammar.{treeOf, program}
 use Rattle.tree.specs.Encoding.{encodeProgram}
 use Rattle.tree.specs.Reads.{Lies, Ready, Fits, Is, Wrote, GoesBy, Reads, nextOf, lowOf, live, reach}
-use Rattle.tree.specs.Read.{decoded, sourceIn, unfit, answerOf, treeRead, Stands, Leaves, Within, ReadsTree}
+use Rattle.tree.specs.Read.{decoded, sourceIn, unfit, answerOf, numbersOf, numbersBy, treeNumbers, treeRead, padded, leftBy, treeLeft, Within, ReadsTree}
 use Rattle.tree.proofs.Symbols.{lies-still}
 use Rattle.tree.specs.declared.scratch.Answer.{Answer}
 use Rattle.tree.specs.declared.scratch.Answer.the-variants.{Read, Refused}
@@ -119,11 +119,12 @@ starts s n h =
 
 -- what is read
 pub too-short : (s : List ℕ) (n size : ℕ) → unfit (length s) n ≡ true → ReadsTree s n size TooShort s
-unfolding treeRead
+unfolding treeRead treeNumbers treeLeft
 too-short s n size h =
     record {
       answers = sym (ap (λ (b : Bool). cond b TooShort (answerOf (sourceIn s n size) n (treeOf (sourceIn s n size)))) h);
-      leaves = subst (λ (b : Bool). Leaves s n size s b) (sym h) refl;
+      numbers = sym (ap (λ (b : Bool). cond b (numbersOf TooShort) (numbersBy (sourceIn s n size) n (treeOf (sourceIn s n size)))) h);
+      leaves = sym (ap (λ (b : Bool). cond b s (leftBy n s (treeOf (sourceIn s n size)))) h);
       room = tt;
     }
 
@@ -134,30 +135,45 @@ within {n = n} {next} {free} f e =
     let h : reach n (Read next free) + live (Read next free) * 0 ≤ reach n (Read 0 (n * 3)) = subst (λ (x : Answer). reach n x + live x * 0 ≤ reach n (Read 0 (n * 3))) e (f .less) in
     omega arith
 
-module _ {s s′ : List ℕ} {n size : ℕ} (fit : unfit (length s) n ≡ false) where
-  answered : {answer : TreeRead} (o : Out Program) → treeOf (sourceIn s n size) ≡ o → answer ≡ answerOf (sourceIn s n size) n o → Stands n o s s′ → Within (n * 8) answer → ReadsTree s n size answer s′
-  unfolding treeRead
-  answered o e a w h =
-      record {
-        answers = a ∙ ap (answerOf (sourceIn s n size) n) (sym e) ∙ sym (ap (λ (b : Bool). cond b TooShort (answerOf (sourceIn s n size) n (treeOf (sourceIn s n size)))) fit);
-        leaves = subst (λ (b : Bool). Leaves s n size s′ b) (sym fit) (subst (λ (x : Out Program). Stands n x s s′) (sym e) w);
-        room = h;
-      }
+-- what stands behind is cleared
+cleared-is : (s s′ s″ front : List ℕ) (free : ℕ) → length s′ ≡ length s → free ≤ length s → take free s′ ≡ front → s″ ≡ take free s′ ++ replicate (length s′ - free) 0 → s″ ≡ padded (length s) front
+cleared-is s s′ s″ front free l h e c =
+    let z : length s′ - free ≡ length s - length front = omega (arith, ap length e, length-take-le free s′ (omega arith)) in
+    c ∙ ap (λ (m : ℕ). take free s′ ++ replicate m 0) z ∙ ap (λ (w : List ℕ). w ++ replicate (length s - length front) 0) e
 
-  wrote : (next free : ℕ) → Wrote (program (sourceIn s n size) 0) (Is encodeProgram) (n * 3) s s′ next free → free ≤ n * 8 → ReadsTree s n size (ReadTo free) s′
+told : (src : Source) (n : ℕ) (o : Out Program) → numbersOf (answerOf src n o) ≡ numbersBy src n o
+told src n (ok p next) = refl
+told src n (no number at) = refl
+
+answered : {s s″ : List ℕ} {n size : ℕ} {answer : TreeRead} → unfit (length s) n ≡ false → (o : Out Program) → treeOf (sourceIn s n size) ≡ o → answer ≡ answerOf (sourceIn s n size) n o → s″ ≡ leftBy n s o → Within (n * 8) answer → ReadsTree s n size answer s″
+unfolding treeRead treeNumbers treeLeft
+answered {s} {n = n} {size} fit o e a w h =
+    record {
+      answers = a ∙ ap (answerOf (sourceIn s n size) n) (sym e) ∙ sym (ap (λ (b : Bool). cond b TooShort (answerOf (sourceIn s n size) n (treeOf (sourceIn s n size)))) fit);
+      numbers = ap numbersOf a ∙ told (sourceIn s n size) n o ∙ ap (numbersBy (sourceIn s n size) n) (sym e) ∙ sym (ap (λ (b : Bool). cond b (numbersOf TooShort) (numbersBy (sourceIn s n size) n (treeOf (sourceIn s n size)))) fit);
+      leaves = w ∙ ap (leftBy n s) (sym e) ∙ sym (ap (λ (b : Bool). cond b s (leftBy n s (treeOf (sourceIn s n size)))) fit);
+      room = h;
+    }
+
+module _ {s s′ s″ : List ℕ} {n size : ℕ} (fit : unfit (length s) n ≡ false) (same : length s′ ≡ length s) where
+  wrote : (next free : ℕ) → Wrote (program (sourceIn s n size) 0) (Is encodeProgram) (n * 3) s s′ next free → free ≤ n * 8 → s″ ≡ take free s′ ++ replicate (length s′ - free) 0 → ReadsTree s n size (ReadTo free) s″
   unfolding treeOf
-  wrote next free w h =
+  wrote next free w h c =
       let q : free ≡ n * 3 + length (encodeProgram (w .tree)) = w .size ∙ ap (λ (x : List ℕ). n * 3 + length x) (w .says .same) in
-      answered (ok (w .tree) next) (w .is) (ap ReadTo q)
-      (ap (λ (x : ℕ). take x s′) (sym q) ∙ w .written ∙ ap (λ (x : List ℕ). take (n * 3) s ++ x) (w .says .same))
+      answered fit (ok (w .tree) next) (w .is) (ap ReadTo q)
+      (cleared-is s s′ s″ (take (n * 3) s ++ encodeProgram (w .tree)) free same (omega (arith, fit-is (length s) n fit)) (w .written ∙ ap (λ (x : List ℕ). take (n * 3) s ++ x) (w .says .same)) c)
       h
 
   module _ {r : Answer} (d : Reads (program (sourceIn s n size)) encodeProgram s s′ (Read 0 (n * 3)) r) where
-    pub tree-read : {next free : ℕ} → Fits 0 s s′ n (Read 0 (n * 3)) r → r ≡ Read next free → ReadsTree s n size (ReadTo free) s′
-    tree-read {next} {free} f e =
-        wrote next free (subst (λ (x : Answer). GoesBy (program (sourceIn s n size)) (Is encodeProgram) s s′ (Read 0 (n * 3)) x) e (d .by)) (within f e)
+    pub tree-read : {next free : ℕ} → Fits 0 s s′ n (Read 0 (n * 3)) r → r ≡ Read next free → s″ ≡ take free s′ ++ replicate (length s′ - free) 0 → ReadsTree s n size (ReadTo free) s″
+    tree-read {next} {free} f e c =
+        wrote next free (subst (λ (x : Answer). GoesBy (program (sourceIn s n size)) (Is encodeProgram) s s′ (Read 0 (n * 3)) x) e (d .by)) (within f e) c
 
-    pub tree-refused : {number at place : ℕ} → r ≡ Refused number at → take (n * 3) s′ ≡ take (n * 3) s → place ≡ placeAt (sourceIn s′ n size) at → ReadsTree s n size (RefusedAt number place) s′
+    pub tree-refused : {number at place : ℕ} → r ≡ Refused number at → take (n * 3) s′ ≡ take (n * 3) s → place ≡ placeAt (sourceIn s′ n size) at → s″ ≡ take (n * 3) s′ ++ replicate (length s′ - n * 3) 0 → ReadsTree s n size (RefusedAt number place) s″
     unfolding treeOf
-    tree-refused {number} {at} {place} e k p =
-        answered (no number at) (subst (λ (x : Answer). GoesBy (program (sourceIn s n size)) (Is encodeProgram) s s′ (Read 0 (n * 3)) x) e (d .by)) (ap (RefusedAt number) (p ∙ place-kept s s′ n size at k)) k tt
+    tree-refused {number} {at} {place} e k p c =
+        answered fit (no number at) (subst (λ (x : Answer). GoesBy (program (sourceIn s n size)) (Is encodeProgram) s s′ (Read 0 (n * 3)) x) e (d .by)) (ap (RefusedAt number) (p ∙ place-kept s s′ n size at k)) (cleared-is s s′ s″ (take (n * 3) s) (n * 3) same (omega (arith, fit-is (length s) n fit)) k c) tt
+
+-- the tree's end is an entry of scratch
+pub end-inside : {s s′ : List ℕ} {n next free : ℕ} {r : Answer} → unfit (length s) n ≡ false → Fits 0 s s′ n (Read 0 (n * 3)) r → r ≡ Read next free → free ≤ length s
+end-inside {s} {n = n} fit f e = omega (arith, within f e, fit-is (length s) n fit)

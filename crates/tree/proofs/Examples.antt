@@ -14,7 +14,7 @@ use Rattle.language.specs.Source.{Symbols, good, faulty, symbolsOf, Read, read,
 use Rattle.language.proofs.Texts.{symbolsIn, answer, times}
 use Rattle.symbols.specs.Read.{entries, outcome}
 use Rattle.tree.specs.Encoding.{CALLED, SUFFIXED, DYADIC, LABELLED, MONADIC, suffixedKind, encodeName, encodeNames, encodePositive, encodeConstant, encodeLabels, labelled, repeated, encode, encodeBody, bodyWord, encodeFunctions, encodeProgram}
-use Rattle.tree.specs.Read.{decoded, sourceIn, unfit, treeRead}
+use Rattle.tree.specs.Read.{decoded, sourceIn, unfit, treeRead, treeLeft}
 use Rattle.tree.specs.declared.TreeRead.{TreeRead}
 use Rattle.tree.specs.declared.TreeRead.the-variants as Answers
 use Rattle.tree.proofs.Stages.{enough, asAnswer, stages}
@@ -65,6 +65,16 @@ whole-entries :
     (14 ∷ K.LET ∷ []) ++ (12 ∷ 0 ∷ []) ++ (0 ∷ 1 ∷ 4 ∷ K.NAME ∷ []) ++ (0 ∷ 1 ∷ 10 ∷ K.NUMBER ∷ []) ++ (8 ∷ 0 ∷ 0 ∷ K.EQUAL ∷ [])
 unfolding treeIn
 whole-entries = refl
+
+-- they stand behind the symbols, and zeros behind them
+whole-left : treeLeft (six ++ replicate 94 0) 6 11 ≡ six ++ (treeIn "LET F() = 1" ++ replicate 78 0)
+unfolding answerWith treeLeft
+whole-left = refl
+
+-- of LET F() = the symbols stay, and whatever stood behind them is cleared
+refused-left : treeLeft (take 15 six ++ replicate 89 7) 5 9 ≡ take 15 six ++ replicate 89 0
+unfolding answerWith treeLeft
+refused-left = refl
 
 -- ---- two labels before one command
 

@@ -11,9 +11,10 @@ mod scratch;
 
 use crate::declarations::program;
 use crate::scratch::Answer;
-ghost use Prim.Native.Nat.{_*_, _≤_};
+ghost use Prim.Native.Nat.{_*_, _-_, _≤_};
 ghost use mathlib.Core.Path.{_≡_};
-ghost use lib.ListN.{length};
+ghost use mathlib.Core.List.{_++_};
+ghost use lib.ListN.{length, take, replicate};
 ghost use Rattle.language.specs.Reader.{placeAt};
 ghost use Rattle.tree.specs.Read.{sourceIn, unfit, ReadsTree};
 
@@ -45,18 +46,36 @@ fn unfit(s: &[u32], count: usize) -> bool
     (room - 64) / 8 < count
 }
 
-// Reads so many symbols, which stand in scratch and come from a text of that size, and writes their tree behind them.
+// Zeros from that entry on.
+fn clear_from(s: &mut [u32], from: usize)
+    requires { ⌜ from ≤ length (now s) ⌝ }
+    ensures { λ _. ⌜ now (s .exit) ≡ take from (now (s .entry)) ++ replicate (length (now (s .entry)) - from) 0 ⌝ }
+{
+    let mut i = from;
+    while i < s.len() {
+        s[i] = 0;
+        i += 1;
+    }
+}
+
+// Reads so many symbols, which stand in scratch and come from a text of that size, and writes their tree behind them, and zeros
+// behind that.
 pub fn read_tree(scratch: &mut [u32], count: usize, size: usize) -> TreeRead
     ensures { λ r. ⌜ ReadsTree (now (scratch .entry)) count size r (now (scratch .exit)) ⌝ }
 {
     if unfit(scratch, count) {
         return TreeRead::TooShort;
     }
-    match program(scratch, count, Answer::Read(0, count * 3)) {
-        Answer::Read(_, free) => TreeRead::Read(free),
-        Answer::Refused(number, at) => TreeRead::Refused {
-            number,
-            place: place_at(scratch, count, size, at),
-        },
+    let start = count * 3;
+    match program(scratch, count, Answer::Read(0, start)) {
+        Answer::Read(_, free) => {
+            clear_from(scratch, free);
+            TreeRead::Read(free)
+        }
+        Answer::Refused(number, at) => {
+            let place = place_at(scratch, count, size, at);
+            clear_from(scratch, start);
+            TreeRead::Refused { number, place }
+        }
     }
 }
