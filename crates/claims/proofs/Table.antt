@@ -1,11 +1,14 @@
 -- The rows that document 01 marks P under "Proved table": one table, one proved claim about the definitions.
-use Prim.Native.Nat.{ℕ, _≤_}
+use Prim.Native.Nat.{ℕ, _+_, _≤_}
 use Prim.Native.String.{String}
 use mathlib.Core.Path.{_≡_, refl, _∙_}
 use mathlib.Core.List.{List, [], _∷_}
+use mathlib.Core.Option.{some}
 use lib.ListN.{length, take, drop}
 use borrow.Author.Tests.{le-leb}
 use Rattle.words.specs.Words.{value, wordOf, quot, rem}
+use Rattle.machine.specs.Outcome.{Out, ok, stop}
+use Rattle.machine.specs.Acts.{Act, unlisted, indirect, negate, invert, back, finish, switch, rdch, wrch, dyadic, actOf}
 use Rattle.machine.specs.Run.{Outcome, steps, resume, run}
 use Rattle.text.specs.Written.{bytes}
 use Rattle.text.specs.Quoted.{quoted, character, escape}
@@ -17,7 +20,9 @@ use Rattle.text.specs.Packed.{pairs}
 use Rattle.assembler.specs.Layout.{defined, addressOf, noted, misplaced, fault, lay, uses, known, unknowns}
 use Rattle.assembler.specs.Assemble.{globalsAfter, globals, program, image, refuse, accept, assembled}
 use Rattle.words.specs.Globals.{noGlobals}
-use Rattle.language.specs.Kinds.{NAME, NUMBER, OPEN, CLOSE, SEMICOLON}
+use Rattle.assembler.specs.declared.Assembled.the-variants.{Accepted}
+use Rattle.language.specs.Kinds.{NAME, NUMBER, OPEN, CLOSE, SEMICOLON, SLASH, REM}
+use Rattle.language.specs.Operators.{applyDyadic}
 use Rattle.language.specs.Symbols.{Symbol}
 use Rattle.language.specs.Source.{Symbols, good, faulty, symbolsOf}
 use Rattle.language.specs.Program.{Refused, refused}
@@ -30,22 +35,40 @@ record Fits (memory : List ℕ) : Type 0 where
   long : 512 ≤ length memory
   short : length memory ≤ 32768
 
--- the program words, so many, that one item makes in a memory of 512 words
-abbrev made : (count : ℕ) → (text : String) → List ℕ
-made n text = take n (drop 416 (assembled (bytes text) 512 0 .memory))
+-- a text is accepted with just these program words, from 416 on: the stack begins behind them
+record Makes (text : String) (program-words : List ℕ) : Type 0 where
+  accepts : assembled (bytes text) 512 0 .answer ≡ Accepted (416 + length program-words)
+  stand : take (length program-words) (drop 416 (assembled (bytes text) 512 0 .memory)) ≡ program-words
+
+-- what an act that is an operator gives, of B and A
+abbrev acting : Act → (b a : ℕ) → Out ℕ
+acting (dyadic f) b a = f b a
+acting unlisted b a = stop 34
+acting indirect b a = stop 34
+acting negate b a = stop 34
+acting invert b a = stop 34
+acting back b a = stop 34
+acting finish b a = stop 34
+acting switch b a = stop 34
+acting rdch b a = stop 34
+acting wrch b a = stop 34
 
 abbrev symbol : (kind value place : ℕ) → Symbol
 symbol kind value place = record { kind = kind; value = value; place = place }
 
 record ProvedTable : Type 0 where
   -- LIP2 is 6146; K4 is 49156; A-1 is 16896, 65535; "HELLO" is 1352, 17740, 19535
-  load : made 1 "$ LIP2 Z" ≡ 6146 ∷ []
-  call : made 1 "$ K4 Z" ≡ 49156 ∷ []
-  add : made 2 "$ A-1 Z" ≡ 16896 ∷ 65535 ∷ []
-  string : made 3 "$ C\"HELLO\" Z" ≡ 1352 ∷ 17740 ∷ 19535 ∷ []
-  -- 7 / -2 is -3, remainder 1
+  load : Makes "$ LIP2 Z" (6146 ∷ [])
+  call : Makes "$ K4 Z" (49156 ∷ [])
+  add : Makes "$ A-1 Z" (16896 ∷ 65535 ∷ [])
+  string : Makes "$ C\"HELLO\" Z" (1352 ∷ 17740 ∷ 19535 ∷ [])
+  -- 7 / -2 is -3, remainder 1: of the words, of the source's / and REM, and of the machine's acts 6 and 7
   quotient : quot 7 65534 ≡ 65533
   remainder : rem 7 65534 ≡ 1
+  source-quotient : applyDyadic SLASH 7 65534 ≡ some 65533
+  source-remainder : applyDyadic REM 7 65534 ≡ some 1
+  act-6 : acting (actOf 6) 7 65534 ≡ ok 65533
+  act-7 : acting (actOf 7) 7 65534 ≡ ok 1
   -- F, newline, (X) gains a semicolon
   semicolon : symbolsOf (bytes "F\n(X)") ≡ good (symbol NAME 1 0 ∷ symbol SEMICOLON 0 2 ∷ symbol OPEN 0 2 ∷ symbol NAME 1 3 ∷ symbol CLOSE 0 4 ∷ [])
   -- empty source, with 64 scratch entries: 14 at 0
@@ -58,15 +81,19 @@ record ProvedTable : Type 0 where
   budget-count : (first : ℕ) (memory input output : List ℕ) → Fits memory → run first memory input output 0 .count ≡ 0
 
 proved-table : ProvedTable
-unfolding symbolsIn value wordOf quot rem steps resume quoted character escape head byte optional digits digitCount decimal ended quotedCharacter quotedString negative quotation labelled positive operand base labelItem instructionItem constantItem stringItem globalItem functionOf item gaps mark trailing body scan operandInRange inRange short size pairs operandWord words defined addressOf noted misplaced fault lay uses known unknowns noGlobals globalsAfter globals program image refuse accept assembled
+unfolding applyDyadic symbolsIn value wordOf quot rem steps resume quoted character escape head byte optional digits digitCount decimal ended quotedCharacter quotedString negative quotation labelled positive operand base labelItem instructionItem constantItem stringItem globalItem functionOf item gaps mark trailing body scan operandInRange inRange short size pairs operandWord words defined addressOf noted misplaced fault lay uses known unknowns noGlobals globalsAfter globals program image refuse accept assembled
 proved-table =
     record {
-      load = refl;
-      call = refl;
-      add = refl;
-      string = refl;
+      load = record { accepts = refl; stand = refl };
+      call = record { accepts = refl; stand = refl };
+      add = record { accepts = refl; stand = refl };
+      string = record { accepts = refl; stand = refl };
       quotient = refl;
       remainder = refl;
+      source-quotient = refl;
+      source-remainder = refl;
+      act-6 = refl;
+      act-7 = refl;
       semicolon = symbols-are "F\n(X)" ∙ refl;
       empty = empty-source;
       largest = symbols-are "32767" ∙ refl;
