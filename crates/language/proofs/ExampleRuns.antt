@@ -2,9 +2,9 @@
 use Prim.Native.Nat.{ℕ}
 use Prim.Native.String.{String}
 use mathlib.Core.Path.{_≡_, refl}
-use mathlib.Core.List.{List}
+use mathlib.Core.List.{List, []}
 use Rattle.text.specs.Written.{bytes}
-use Rattle.language.proofs.Whole.{ran, Told, told, undefined-act, not-over}
+use Rattle.language.proofs.Whole.{usedBy, ranIn, ran, Told, told, undefined-act, not-over}
 
 -- what a run writes; a run that does not end writes nothing that could be taken for it
 abbrev written : Told → List ℕ
@@ -224,3 +224,22 @@ writes-nothing = refl
 past-the-memory : ran "GLOBAL $( START:1; RDCH:13; WRCH:14; A:20 $) LET START() BE $( LET V = VEC 4000; START() $)" "" ≡ undefined-act
 unfolding ran
 past-the-memory = refl
+
+-- the greatest use: START's frame is at 20002, V takes 12 words from word 2 on, and A!B on a left side is evaluated above the right side
+vector-use : usedBy "GLOBAL $( START:1 $) LET START() BE $( LET V = VEC 10; V!0 := 1 $)" ≡ 20018
+unfolding usedBy
+vector-use = refl
+
+-- a memory that ends there is enough, and one word less is not
+just-enough : ranIn 20018 "GLOBAL $( START:1 $) LET START() BE $( LET V = VEC 10; V!0 := 1 $)" ≡ told 6 0 []
+unfolding ranIn
+just-enough = refl
+
+too-little : ranIn 20017 "GLOBAL $( START:1 $) LET START() BE $( LET V = VEC 10; V!0 := 1 $)" ≡ undefined-act
+unfolding ranIn
+too-little = refl
+
+-- the frames of RDCH and WRCH count: a call at height 2 of START reaches two words for its links and one for the argument
+write-use : usedBy "GLOBAL $( START:1; WRCH:14 $) LET START() BE WRCH(65)" ≡ 20007
+unfolding usedBy
+write-use = refl

@@ -62,9 +62,30 @@ tell (finished s) = tellState s
 tell (returned s) = tellState s
 tell (ok v s) = tellState s
 
-unfoldable pub ranBytes : (fuel : ℕ) → List ℕ → (input : List ℕ) → Told
+unfoldable pub runOf : (memory fuel : ℕ) → List ℕ → (input : List ℕ) → Result Value
 unfolding answer placeOf sameBytes lookup inBlock judge declareAll sideOf under scopeAfter R.heightAfter labelsOf R.expression H.count H.heightWith globalsAfter manifestsAfter functionsAfter declaredBy resolved takenAfter afterDeclaration groupOf functionsFrom functionsOf funs functionsIn stringsAmong stringsIn globalsWith stringCell cellsAtStart runWith applyMonadic applyDyadic bind hasCase hasDefault from selected nth positionOf called arguments evaluated assigned assignedAll sequence cases declared executed turned sem value wordOf mul quot rem below shl shr noGlobals pairs placed
-ranBytes fuel text input = tell (runWith fuel (functionsIn text) (stringsIn text) (placed (functionsIn text) (stringsIn text)) 32768 input)
+runOf memory fuel text input = runWith fuel (functionsIn text) (stringsIn text) (placed (functionsIn text) (stringsIn text)) memory input
+
+unfoldable pub ranBytes : (fuel : ℕ) → List ℕ → (input : List ℕ) → Told
+unfolding runOf
+ranBytes fuel text input = tell (runOf 32768 fuel text input)
+
+-- the greatest use of a run that ends, or 0
+abbrev useOf : Result Value → ℕ
+useOf unfinished = 0
+useOf undefined = 0
+useOf (finished s) = s .used
+useOf (returned s) = s .used
+useOf (ok v s) = s .used
+
+unfoldable pub usedBy : String → ℕ
+unfolding runOf
+usedBy text = useOf (runOf 32768 100 (bytes text) [])
+
+-- in a memory of so many words
+unfoldable pub ranIn : (memory : ℕ) → String → Told
+unfolding runOf
+ranIn memory text = tell (runOf memory 100 (bytes text) [])
 
 -- a run with fuel for the examples
 unfoldable pub ran : (text input : String) → Told
