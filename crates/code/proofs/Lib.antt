@@ -1,10 +1,16 @@
+-- What is shown, for every accepted source: begin here
+pub mod Theorem
+pub mod Instance
+-- the machine's side: instructions, code in memory, runs
 pub mod Machine
 pub mod Standing
 pub mod Instructions
 pub mod Results
+-- the relation, and what the simulation says of each part
 pub mod Related
 pub mod Steps
 pub mod Goals
+-- one file for each kind of part, then all of them
 pub mod Expressions
 pub mod Arguments
 pub mod Frames
@@ -15,6 +21,7 @@ pub mod Blocks
 pub mod Loops
 pub mod Switches
 pub mod Simulation
+-- the assembled image has the code; the start; budgets and rooms
 pub mod Fetching
 pub mod Placing
 pub mod Plain
@@ -24,7 +31,7 @@ pub mod Good
 pub mod WellPlaced
 pub mod Owed
 pub mod Faithful
-pub mod Instance
+-- every accepted source is good: its items can be written and read back, its labels differ, its sizes
 pub mod Sounding
 pub mod LabelBounds
 pub mod StringFacts
@@ -35,4 +42,3 @@ pub mod WordCounts
 pub mod WordBounds
 pub mod Sizes
 pub mod Lengths
-pub mod Theorem

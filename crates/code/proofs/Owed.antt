@@ -5,15 +5,14 @@ use mathlib.Core.Logic.{_⊎_, inl, inr}
 use mathlib.Core.List.{List, [], _++_}
 use native.Mathlib.Omega.{arith}
 use native.Mathlib.Decide.{decLt}
-use lib.ListN.{length, getD, take, replicate, length-append, length-replicate, length-set}
+use lib.ListN.{length, getD, take, replicate, length-append, length-replicate}
 use lib.Seq.{ext-getD, length-take-le, getD-take}
 use borrow.Author.Tests.{le-leb}
 use Rattle.machine.specs.State as M
 use Rattle.machine.specs.State.{at, startRegisters, withC}
-use Rattle.machine.specs.Step.{Turn, finished, step}
-use Rattle.machine.specs.Run.{Outcome, after, onTurn, steps, resume, run}
-use Rattle.machine.proofs.Shape.{Shape, quiet, one-more, ends, halts, shape}
-use Rattle.machine.proofs.Budget.{Grows, budget-beginning}
+use Rattle.machine.specs.Step.{finished, step}
+use Rattle.machine.specs.Run.{Outcome, after, steps, resume, run}
+use Rattle.machine.proofs.Budget.{Grows, steps-grow, budget-beginning}
 use Rattle.machine.proofs.Room.{Roomier, Beginning, whole, cut, room-beginning}
 use Rattle.language.specs.State.{Cell, State, holds}
 use Rattle.language.specs.Run.{Placement}
@@ -46,17 +45,12 @@ module _ (input : List ℕ) where
   star-short (then e x) (suc b) l = rw e (star-short x b (omega arith))
 
   -- the bytes written lie within the room
-  turn-inside : (s : M.State) {t : Turn} → Shape s t → s .regs .written ≤ length (s .out) → (f : M.State → Outcome)
-      → ((u : M.State) → u .regs .written ≤ length (u .out) → f u .state .regs .written ≤ length (f u .state .out)) → onTurn s t f .state .regs .written ≤ length (onTurn s t f .state .out)
-  turn-inside s (quiet {t = t} q) h f k = k t (omega (arith, q .place, ap length (q .output)))
-  turn-inside s (one-more {t = t} q) h f k = k t (omega (arith, q .place, q .room, ap length (q .output), length-set (s .out) (s .regs .written) (q .byte)))
-  turn-inside s (ends q) h f k = omega (arith, q .place, ap length (q .output))
-  turn-inside s (halts l) h f k = h
-
   inside : (n : ℕ) (s : M.State) → s .regs .written ≤ length (s .out) → steps input n s .state .regs .written ≤ length (steps input n s .state .out)
-  unfolding steps
-  inside zero s h = h
-  inside (suc n) s h = turn-inside s (shape input s) h (λ t. steps input n t) (λ u k. inside n u k)
+  inside n s h =
+      let g = steps-grow input n s in
+      let a = g .within h in
+      let e = g .room in
+      omega arith
 
 -- a beginning, byte by byte
 record Prefix (s : State) (o : Outcome) : Type 0 where
