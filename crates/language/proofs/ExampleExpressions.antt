@@ -66,6 +66,11 @@ not-inside : grouped "A + NOT B = C = A" ≡ two K.EQUAL (two K.PLUS A (one K.NO
 unfolding grouped
 not-inside = refl
 
+-- NOT's operand is a shift expression, whose first operand may begin with NOT
+not-not : grouped "NOT NOT A = B = C" ≡ one K.NOT (two K.EQUAL (one K.NOT (two K.EQUAL A B)) C)
+unfolding grouped
+not-not = refl
+
 not-then-and : grouped "NOT A=B&C" ≡ two K.AMPERSAND (one K.NOT (two K.EQUAL A B)) C
 unfolding grouped
 not-then-and = refl
