@@ -6,6 +6,12 @@ use native.Mathlib.Omega.{arith}
 use lib.ListN.{getD}
 use Rattle.text.specs.Written.{bytes}
 use Rattle.text.specs.declared.Refusal.{Refusal}
+use Rattle.words.specs.Words.{value, wordOf}
+use Rattle.machine.specs.Outcome as M
+use Rattle.machine.specs.Fetch.{fetch}
+use Rattle.machine.specs.Acts as A
+use Rattle.machine.specs.Step as S
+use Rattle.machine.specs.Run.{run, steps, resume}
 use Rattle.items.proofs.Rendered.{AllSound}
 use Rattle.items.specs.Render.{numeral, numeralOf, operandText, baseText, indirectText, letter, characterText, charactersText, render, renderLines, renderAll}
 use Rattle.language.specs.Heights.{count, heightWith}
@@ -128,6 +134,16 @@ low = omega arith
 pub says : final .output ≡ 65 ∷ []
 unfolding final start place ranBytes
 says = refl
+
+-- the machine's run of the image, with one byte of room and 100 instructions at most: it writes A, as the source run does
+record MachineRuns : Type 0 where
+  stops : run 421 (assembled (bytes "$\n1:\nL65\nSP4\nLIG14\nK2\nX4\nG1L1\nZ\n") 512 4 .memory) [] (7 ∷ []) 100 .stop ≡ 30
+  counts : run 421 (assembled (bytes "$\n1:\nL65\nSP4\nLIG14\nK2\nX4\nG1L1\nZ\n") 512 4 .memory) [] (7 ∷ []) 100 .count ≡ 11
+  writes : run 421 (assembled (bytes "$\n1:\nL65\nSP4\nLIG14\nK2\nX4\nG1L1\nZ\n") 512 4 .memory) [] (7 ∷ []) 100 .state .out ≡ 65 ∷ []
+
+machine-runs : MachineRuns
+unfolding value wordOf M.read M.write fetch A.indirected A.returned A.combined A.search A.switched A.received A.sent S.keep S.stored S.called S.jumped S.perform S.execute S.step steps resume lineOf newlines refusal quoted character escape head byte optional digits digitCount decimal ended quotedCharacter quotedString negative quotation labelled positive operand base labelItem instructionItem constantItem stringItem globalItem functionOf item gaps mark trailing body scan operandInRange inRange short size pairs operandWord words defined addressOf noted misplaced fault lay uses known unknowns noGlobals globalsAfter globals program image refuse accept assembled
+machine-runs = record { stops = refl; counts = refl; writes = refl }
 
 -- every budget and every room, by the theorem
 owed : (output : List ℕ) (budget : ℕ) → Follows (stringsIn source) (placementOf source (assembled (textOf source) 512 4 .table) 421) final (assembled (textOf source) 512 4 .memory) [] output budget

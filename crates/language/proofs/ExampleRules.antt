@@ -161,6 +161,10 @@ high-enough : judged "GLOBAL $( START:1; RDCH:13; WRCH:14; A:20 $) LET START() B
 unfolding judged
 high-enough = refl
 
+one-too-high : judged "GLOBAL $( START:1; RDCH:13; WRCH:14; A:20 $) LET START() BE $( LET V = VEC 4095; LET W = VEC 4092; A := 1 $)" ≡ (16, 49)
+unfolding judged
+one-too-high = refl
+
 -- 14: no function in global 1, whatever START means; at 0
 no-start : judged "LET START() BE RETURN" ≡ (14, 0)
 unfolding judged
