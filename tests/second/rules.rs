@@ -5,7 +5,7 @@
 use crate::deep::deep;
 use crate::grammar::{self, read_tree, Action, Constant, Declaration, Label, Tree};
 use crate::symbols::{character, kind::*, read_symbols, refusal, Fault, Refusal, Symbol};
-use std::collections::HashMap;
+use std::collections::BTreeMap;
 
 const MOST_GLOBAL: i16 = 399;
 const MOST_VECTOR: i16 = 4095;
@@ -98,7 +98,7 @@ pub struct For {
 /// Each label has the place of its command in the list.
 pub struct Switch {
     pub value: Expression,
-    pub cases: HashMap<u16, usize>,
+    pub cases: BTreeMap<u16, usize>,
     pub default: Option<usize>,
     pub commands: Vec<Command>,
 }
@@ -538,7 +538,7 @@ impl<'a> Resolver<'a> {
 
     fn switch(&mut self, value: &grammar::Expression, list: &[grammar::Command], height: usize) -> Switch {
         let value = self.expression(value, height);
-        let mut made = Switch { value, cases: HashMap::new(), default: None, commands: Vec::new() };
+        let mut made = Switch { value, cases: BTreeMap::new(), default: None, commands: Vec::new() };
         for (index, command) in list.iter().enumerate() {
             for label in &command.labels {
                 self.label(label, index, &mut made);

@@ -1,15 +1,23 @@
-//! Holds the second program's rules and source run to the vectors: every refusal, and the steps, input taken and output of
-//! every run. It is a test program: `rustc --test`, run from the repository's root.
+//! Holds the second program's rules and source run to the vectors, every refusal, and the steps, input taken and output of
+//! every run, and to hand-checked answers; and what is demanded of a compiler's text to a text written by hand, good and
+//! spoilt. It is a test program: `rustc --test`, run from the repository's root.
 
 #![cfg(test)]
 
+mod assembler;
+mod compiler;
 mod deep;
+mod demand;
 #[allow(dead_code)]
 mod grammar;
+#[allow(dead_code)]
+mod machine;
+mod random;
 mod rules;
 mod run;
 mod symbols;
 
+use random::Random;
 use rules::{judge, Program};
 use run::{run, End, Placement, Ran, Undefined::*};
 use std::path::{Path, PathBuf};
@@ -433,4 +441,89 @@ fn strings() {
     let ran = ran(format!("{GLOBALS}LET {functions}").as_bytes(), &[], BUDGET);
     assert_eq!(ran.strings, [[0x241, 7], [0x241, 0x4200]]);
     assert_eq!(ran.output, [b'B', 7]);
+}
+
+// ---------------------------------------------------------------------------------------------------------------------
+// What is demanded of a compiler's text
+
+const SOURCE: &str = "GLOBAL $( START:1; RDCH:13; WRCH:14; G:100 $)
+LET START() BE
+$( LET S, T = \"HI\", \"THERE\"
+   FOR I = 1 TO 3 DO WRCH(F(I) + RDCH())
+   G := T!0
+   S!1 := 7
+$)
+AND F(N) = N * 2";
+
+const TEXT: &str = "$ / S, T, then I and the limit of the loop
+1: LL3 SP2 LL4 SP3 L1 SP4 L3 SP5
+5: LIP4 LIP5 X15 FL6
+LIP4 SP10 LL2 K8 SP8 LIG13 K9 SP9 LIP8 LIP9 X8 SP8 LIG14 K6
+LIP4 A1 SP4 JL5
+6: LIP3 X1 SG100
+L7 SP4 LIP2 A1 SP5 LIP4 SIP5 X4
+2: LIP2 SP3 L2 SP4 LIP3 LIP4 X5 X4
+3: C\"HI\" 4: C\"THERE\"
+G1L1 Z";
+
+/// A piece of the text and what spoils it.
+const SPOILT: [(&str, &str); 20] = [
+    ("A1 SP4 JL5", "A2 SP4 JL5"),
+    ("SG100", "SG101"),
+    ("SG100", "SG100 SG101"),
+    ("L7 SP4", "L8 SP4"),
+    ("LIG13 K9 SP9", "L65 SP9"),
+    ("X4\n2:", "LIG13 K9 X4\n2:"),
+    ("X4\n2:", "L65 SP8 LIG14 K6 X4\n2:"),
+    ("1: LL3", "1: 2: LL3"),
+    ("1: LL3", "7: LL3"),
+    ("G1L1", "G1L2"),
+    ("2: LIP2", "2: 7: 8: LIP2 JL9 9: X99"),
+    ("C\"HI\"", "C\"HO\""),
+    ("3: C\"HI\"", "C\"HI\" 3:"),
+    ("C\"THERE\"", "C\"THER\""),
+    ("3: C\"HI\" 4: C\"THERE\"", "4: C\"HI\" 3: C\"THERE\""),
+    ("K6", "K300"),
+    ("L7 SP4", "L7 SP4 SP60"),
+    ("JL5", "JL55"),
+    ("Z", "Z Z"),
+    ("1: LL3", "1: L900 SP10 9: LIP10 A-1 SP10 TL9 LL3"),
+];
+
+fn held(source: &str, text: &str) -> Result<(), String> {
+    let program = judge(source.as_bytes()).expect("an accepted source");
+    let mut random = Random::new(1);
+    let held = demand::hold(source.as_bytes(), &program, text.as_bytes(), b"ABCD", BUDGET, &mut random)?;
+    let held = held.expect("a text that fits the memory");
+    assert_eq!(held.end, OVER);
+    held.steps_and_count.map(|_| ()).ok_or("not held to its run".to_string())
+}
+
+#[test]
+fn texts_by_hand() {
+    assert_eq!(held(SOURCE, TEXT), Ok(()));
+    for (piece, spoilt) in SPOILT {
+        assert!(TEXT.contains(piece), "{piece}");
+        let text = TEXT.replacen(piece, spoilt, 1);
+        let complaint = held(SOURCE, &text).err().unwrap_or_else(|| panic!("{piece} may become {spoilt}"));
+        println!("{piece} to {spoilt}: {complaint}");
+    }
+    let too_much =
+        [("/ S", "X".repeat(64 * SOURCE.len() + 1024)), ("X4\n2:", " D0".repeat(900)), ("X4\n2:", many_labels())];
+    for (piece, more) in too_much {
+        let text = TEXT.replacen(piece, &format!("{}{more}{}", &piece[..2], &piece[2..]), 1);
+        let complaint = held(SOURCE, &text).err().unwrap_or_else(|| panic!("{} more bytes are let pass", more.len()));
+        assert!(complaint.contains("more than"), "{complaint}");
+    }
+}
+
+fn many_labels() -> String {
+    (100..100 + SOURCE.len() + 3).map(|label| format!("\n{label}:")).collect()
+}
+
+#[test]
+fn texts_of_the_second_compiler() {
+    let program = judge(SOURCE.as_bytes()).expect("an accepted source");
+    let text = String::from_utf8(compiler::compile(&program)).expect("plain text");
+    assert_eq!(held(SOURCE, &text), Ok(()));
 }

@@ -107,8 +107,8 @@ fn used(value: Value) -> Done<u16> {
 struct Run<'a> {
     program: &'a Program,
     placement: &'a Placement,
-    /// The function at each address, if one's entry is there.
-    entered: Vec<Option<u16>>,
+    /// The function at each address up to the last entry, if one's entry is there.
+    entered: Vec<Option<usize>>,
     /// Every address's word.
     cells: Vec<Cell>,
     length: usize,
@@ -124,9 +124,10 @@ struct Run<'a> {
 
 impl<'a> Run<'a> {
     fn new(program: &'a Program, placement: &'a Placement, length: usize, input: &'a [u8], budget: u64) -> Self {
-        let mut entered = vec![None; 1 << 16];
+        let last = placement.entries.iter().copied().max().unwrap_or(0);
+        let mut entered = vec![None; usize::from(last) + 1];
         for (function, &entry) in placement.entries.iter().enumerate() {
-            entered[usize::from(entry)] = Some(function as u16);
+            entered[usize::from(entry)] = Some(function);
         }
         let mut cells = vec![Cell::Gone; 1 << 16];
         cells[GLOBALS..GLOBALS + GLOBAL_COUNT].fill(Cell::Holding(0));
@@ -287,10 +288,10 @@ impl<'a> Run<'a> {
 
     /// A call with its arguments known; the new frame begins at this height.
     fn enter(&mut self, entry: u16, arguments: &[Value], height: usize) -> Done<Value> {
-        if let Some(function) = self.entered[usize::from(entry)] {
+        if let Some(&Some(function)) = self.entered.get(usize::from(entry)) {
             let outside = self.base;
             self.base += height;
-            let value = self.function(function.into(), arguments);
+            let value = self.function(function, arguments);
             self.base = outside;
             return value;
         }
