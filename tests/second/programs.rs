@@ -47,7 +47,7 @@ enum Sort {
     Vector(usize),
     /// The same of a string; its first word is read only.
     Text(usize),
-    /// A manifest.
+    /// A manifest, with its value as a signed word.
     Number(i64),
     /// The entry of a function.
     Entry(usize),
@@ -99,6 +99,10 @@ const SHIFTS: usize = 2;
 const RELATION: usize = 3;
 const SUM: usize = 4;
 const PRODUCT: usize = 5;
+
+/// Labels of a SWITCHON and their values.
+const LABELS: [(&str, i64); 8] =
+    [("0", 0), ("1", 1), ("2", 2), ("3", 3), ("- 1", -1), ("'A'", 65), ("#100000", -32_768), ("32767", 32_767)];
 
 struct Maker<'a> {
     random: &'a mut Random,
@@ -196,6 +200,14 @@ impl Maker<'_> {
         self.find(|sort| matches!(sort, Sort::Word).then_some(())).map(|(name, ())| name)
     }
 
+    /// A manifest and its value, if there is one as wanted.
+    fn a_manifest(&mut self, wanted: impl Fn(i64) -> bool) -> Option<(String, i64)> {
+        self.find(|sort| match sort {
+            Sort::Number(value) if wanted(value) => Some(value),
+            _ => None,
+        })
+    }
+
     /// A part in a block of its own: its names are forgotten.
     fn scoped(&mut self, part: impl FnOnce(&mut Self)) {
         let (names, outside) = (self.known.len(), self.block);
@@ -227,16 +239,18 @@ impl Maker<'_> {
         if self.random.one_in(3) {
             self.writes();
         }
-        let started = self.random.below(functions + 1);
         while functions > 0 {
             let many = (1 + self.random.below(3)).min(functions);
             functions -= many;
             self.group(many);
-            if self.shapes.len() > started && started > 0 && functions > 0 && self.random.one_in(4) {
+            if self.random.one_in(6) {
                 self.manifests();
             }
         }
         self.start(start);
+        if self.random.one_in(4) {
+            self.group(1);
+        }
         self.tokens
     }
 
@@ -257,10 +271,7 @@ impl Maker<'_> {
 
     /// A constant's tokens, and its value as a signed word.
     fn constant(&mut self) -> i64 {
-        let before = self.find(|sort| match sort {
-            Sort::Number(value) => Some(value),
-            _ => None,
-        });
+        let before = self.a_manifest(|_| true);
         let negated = self.random.one_in(4);
         if negated {
             self.add("-");
@@ -787,7 +798,7 @@ impl Maker<'_> {
     /// Something without a value, or that may not be read, called or divided by.
     fn undefined_value(&mut self) {
         let writer = self.writer.clone();
-        match self.random.below(9) {
+        match self.random.below(10) {
             0 => self.add("( 1 / 0 )"),
             1 => self.add("( ! 5 )"),
             2 => self.add("( 4000 ( 1 ) )"),
@@ -796,7 +807,13 @@ impl Maker<'_> {
             5 => self.add("VALOF $( LET V = VEC 3 ; RESULTIS V ! 1 $)"),
             6 => self.add("( ! VALOF $( LET A = 1 ; RESULTIS @ A $) )"),
             7 => self.add("VALOF $( LET V = VEC 2 ; V ! 3 := 1 ; RESULTIS 1 $)"),
-            _ => self.add(&format!("VALOF $( {writer} ( ) ; RESULTIS 1 $)")),
+            8 => self.add(&format!("VALOF $( {writer} ( ) ; RESULTIS 1 $)")),
+            // Frames without end.
+            _ => {
+                let start = self.known.iter().find(|known| matches!(known.sort, Sort::Other));
+                let start = start.map_or(writer, |start| start.name.clone());
+                self.add(&format!("VALOF $( {start} ( ) ; RESULTIS 1 $)"));
+            }
         }
     }
 
@@ -845,6 +862,7 @@ impl Maker<'_> {
             17 | 18 => self.counted_loop(depth - 1),
             19 | 20 => self.switch(depth - 1),
             21 => self.table_of_functions(),
+            22 if self.around.in_loop || self.around.in_switch => self.leave_perhaps(),
             _ => self.block(depth - 1),
         }
     }
@@ -1005,7 +1023,10 @@ impl Maker<'_> {
             self.add(") & 3");
         }
         self.add("INTO $(");
-        let mut labels = vec!["0", "1", "2", "3", "- 1", "'A'", "#100000", "32767", "DEFAULT"];
+        let mut labels: Vec<String> = LABELS.iter().map(|(label, _)| format!("CASE {label} :")).collect();
+        labels.push("DEFAULT :".to_string());
+        let other = |value| LABELS.iter().all(|&(_, taken)| taken != value);
+        labels.extend(self.a_manifest(other).map(|(name, _)| format!("CASE {name} :")));
         let around = Around { in_switch: true, ..self.around };
         for index in 0..1 + self.random.below(4) {
             if index > 0 {
@@ -1014,7 +1035,7 @@ impl Maker<'_> {
             let many = self.random.pick(&[0, 1, 1, 1, 2, 3]).min(labels.len());
             for _ in 0..many {
                 let label = labels.swap_remove(self.random.below(labels.len()));
-                self.add(&if label == "DEFAULT" { "DEFAULT :".to_string() } else { format!("CASE {label} :") });
+                self.add(&label);
             }
             if many > 0 && self.random.one_in(8) {
                 continue;
@@ -1043,7 +1064,7 @@ impl Maker<'_> {
         self.add("$)");
     }
 
-    /// Some declarations; a vector's words are stored at once, in a loop of its own.
+    /// Some declarations; a vector's first words are stored at once, in a loop of its own.
     fn locals(&mut self, most: usize) {
         let mut vectors = Vec::new();
         for _ in 0..self.random.below(most + 1) {
@@ -1051,10 +1072,10 @@ impl Maker<'_> {
             match self.random.below(5) {
                 0 => {
                     let name = self.new_name();
-                    let words = self.random.pick(&[0, 1, 3, 4, 7, 20]);
-                    self.add(&format!("{name} = VEC {words}"));
+                    let (written, words) = self.vector_size();
+                    self.add(&format!("{name} = VEC {written}"));
                     self.know(&name, Sort::Other);
-                    vectors.push((self.known.len() - 1, words));
+                    vectors.push((self.known.len() - 1, words.min(20)));
                 }
                 1 => {
                     let name = self.new_name();
@@ -1075,6 +1096,17 @@ impl Maker<'_> {
             self.add(&format!("FOR {index} = 0 TO {words} DO {name} ! {index} := {index} * {words} ;"));
             self.cost += 8 * self.turns * words;
             self.known[place].sort = Sort::Vector(words);
+        }
+    }
+
+    /// A vector's largest index, written and by its value.
+    fn vector_size(&mut self) -> (String, usize) {
+        match self.a_manifest(|value| (0..=600).contains(&value)) {
+            Some((name, value)) => (name, value as usize),
+            None => {
+                let words = self.random.pick(&[0, 1, 3, 4, 7, 20, 20, 600]);
+                (words.to_string(), words)
+            }
         }
     }
 

@@ -70,7 +70,7 @@ fn compare_all(library: Option<Compile>, cases: u64) -> Result<String, String> {
         }
     }
     let refusals = enough(&tallies.refusals, &REFUSALS, cases / 1000)?;
-    let ends = enough(&tallies.ends, &[0, 1, 2, 3, 4, 5], cases / 1000)?;
+    let ends = enough(&tallies.ends, &[0, 1, 2, 3, 4, 5, 6], cases / 1000)?;
     let vectors = compare_vectors(library, &mut tallies)?;
     let (done, equal) = if library.is_some() { ("compared", ": all equal") } else { ("made", "") };
     let accepted = often(&tallies.refusals, 0);
@@ -212,9 +212,9 @@ fn expect(wanted: &Left, given: &Left) -> Result<(), String> {
     }
     let told = |left: &Left| {
         let zeros = if left.scratch_is_zero { "zero" } else { "not zero" };
-        let text = left.text.strip_suffix(&[0][..]).unwrap_or(&left.text);
-        let end = text.iter().rposition(|&byte| byte != 0).map_or(0, |last| last + 1);
-        format!("{:?}, scratch {zeros}, {} bytes of text: {}", left.answer, left.text.len(), text[..end].escape_ascii())
+        let end = left.text.iter().rposition(|&byte| byte != 0).map_or(0, |last| last + 1);
+        let (room, text) = (left.text.len(), left.text[..end].escape_ascii());
+        format!("{:?}, scratch {zeros}, room for {room} bytes, text: {text}", left.answer)
     };
     Err(format!("compile\nsecond program: {}\nproved library: {}", told(wanted), told(given)))
 }
