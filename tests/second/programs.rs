@@ -545,14 +545,26 @@ impl Maker<'_> {
     fn call(&mut self, gives_value: bool, depth: usize) -> bool {
         let Some((name, index)) = self.callee(gives_value) else { return false };
         self.cost += self.turns * self.shapes[index].cost.unwrap_or(0);
-        if gives_value && depth > 0 && self.random.one_in(8) {
-            self.add(&format!("( {name} ) ("));
-        } else {
-            self.add(&format!("{name} ("));
-        }
+        let form = self.random.below(if gives_value && depth > 0 { 12 } else { 1 });
+        self.function_name(&name, form, depth);
+        self.add("(");
         self.arguments(index, None);
         self.add(")");
         true
+    }
+
+    /// The function of a call: its name, or an expression of the same value.
+    fn function_name(&mut self, name: &str, form: usize, depth: usize) {
+        match form {
+            1 => self.add(&format!("( {name} )")),
+            2 => self.add(&format!("( VALOF RESULTIS {name} )")),
+            3 => {
+                self.add(&format!("( {name} + 0 * ("));
+                self.expression(depth - 1);
+                self.add(") )");
+            }
+            _ => self.add(name),
+        }
     }
 
     /// Arguments as a shape wants them, at times more of them; `depth` is the name whose value bounds the recursion.
@@ -862,7 +874,7 @@ impl Maker<'_> {
             17 | 18 => self.counted_loop(depth - 1),
             19 | 20 => self.switch(depth - 1),
             21 => self.table_of_functions(),
-            22 if self.around.in_loop || self.around.in_switch => self.leave_perhaps(),
+            22 | 23 if self.around.in_loop || self.around.in_switch => self.leave_perhaps(),
             _ => self.block(depth - 1),
         }
     }
@@ -898,11 +910,25 @@ impl Maker<'_> {
         }
     }
 
+    /// A condition, in a loop mostly one that comes to hold.
+    fn condition(&mut self) {
+        self.one_of(&["IF", "IF", "UNLESS"]);
+        let control = self.find(|sort| matches!(sort, Sort::Control).then_some(()));
+        match control {
+            Some((name, ())) if !self.random.one_in(4) => {
+                self.add(&name);
+                self.one_of(&["=", "~=", "<", ">"]);
+                let number = self.random.between(-3, 4);
+                self.number(number);
+            }
+            _ => self.expression(1),
+        }
+        self.one_of(&["DO", "THEN"]);
+    }
+
     /// One of the ways out of what stands around, if a condition holds.
     fn leave_perhaps(&mut self) {
-        self.add("IF");
-        self.expression(1);
-        self.add("DO");
+        self.condition();
         let Around { routine, valof, in_loop, in_switch } = self.around;
         let mut ways = Vec::new();
         if in_loop {
@@ -973,7 +999,7 @@ impl Maker<'_> {
         self.one_of(&["DO", "THEN"]);
         self.scoped(|maker| {
             maker.know(&name, Sort::Control);
-            maker.looped(turns, |maker| maker.command(depth));
+            maker.looped(turns, |maker| if maker.random.one_in(3) { maker.command(depth) } else { maker.block(depth) });
         });
     }
 
@@ -1257,4 +1283,80 @@ fn double_declaration(random: &mut Random, made: &mut Vec<Token>) {
         _ => (BEGIN, format!("LET {name} = 1 ;")),
     };
     insert_after(random, made, |token| token.kind == wanted, &[&piece]);
+}
+
+// ---------------------------------------------------------------------------------------------------------------------
+// One program damaged everywhere
+
+/// Every declaration, every way out and every left side, with names that may be mistaken for each other.
+const WHOLE: &str = "
+    MANIFEST $( M = 3 ; N = - 1 $)
+    GLOBAL $( START : 1 ; WRCH : 14 ; G : 100 ; H : 101 ; K : M $)
+    LET F ( A , B ) = VALOF $(
+        LET C , D = A , B ; LET V = VEC M ; V ! 0 := C ;
+        SWITCHON D INTO $(
+            CASE 1 : CASE M : C := D ; ENDCASE ;
+            CASE N : DEFAULT : WHILE C DO $( C := C - 1 ; IF C = D DO BREAK ; LOOP $) $) ;
+        RESULTIS @ C $)
+    AND H ( A ) BE $( FOR I = M TO 1 BY N DO G := @ I ; RETURN $)
+    AND E ( ) = F
+    LET START ( ) BE $(
+        LET A = F ( 1 , 2 ) ; H ( A ) ;
+        $( LET A , B = @ G , \"S\" ; ! A , ( A ! 1 ) := B , E ( ) ; K := VALOF RETURN $) ;
+        WRCH ( VALOF $( LET A = M ; RESULTIS A $) ) REPEATUNTIL A ; FINISH $)";
+
+/// Every name for every other, every number and way out for every doubtful one, every symbol left out or doubled, and
+/// every doubtful piece wherever a command or declaration may begin.
+pub fn sweep(each: &mut dyn FnMut(&[u8]) -> Result<(), String>) -> Result<(), String> {
+    let whole = tokens(WHOLE);
+    let mut names: Vec<String> = vec!["UNKNOWN".to_string()];
+    names.extend(whole.iter().filter(|token| token.kind == NAME).map(spelled));
+    names.sort_unstable();
+    names.dedup();
+    let commands = DOUBTFUL_COMMANDS.map(|command| format!("{command} ;"));
+    let declarations: Vec<String> = names.iter().map(|name| format!("LET {name} = 1 ;")).collect();
+    let lists: Vec<String> = names.iter().map(|name| format!("{name} ,")).collect();
+    for (place, token) in whole.iter().enumerate() {
+        let mut changed = |pieces: &[String]| change_each(&whole, place, pieces, each);
+        let own = spelled(token);
+        changed(&[String::new(), format!("{own} {own}"), format!("@ {own}"), format!("( {own} )")])?;
+        let after = |pieces: &[String]| pieces.iter().map(|piece| format!("{own} {piece}")).collect::<Vec<String>>();
+        match token.kind {
+            NAME => changed(&names)?,
+            NUMBER => changed(&DOUBTFUL_NUMBERS.map(String::from))?,
+            BREAK | LOOP | ENDCASE | RETURN | FINISH => changed(&LEAVES.map(String::from))?,
+            SEMICOLON => changed(&after(&commands))?,
+            BEGIN => {
+                changed(&after(&commands))?;
+                changed(&after(&declarations))?;
+            }
+            OPEN => changed(&after(&lists))?,
+            _ => {}
+        }
+    }
+    Ok(())
+}
+
+fn spelled(token: &Token) -> String {
+    String::from_utf8_lossy(&token.text).into_owned()
+}
+
+/// The tokens as a text, with each of the pieces in the place of one of them. A line ends after every semicolon.
+fn change_each(
+    whole: &[Token],
+    place: usize,
+    pieces: &[String],
+    each: &mut dyn FnMut(&[u8]) -> Result<(), String>,
+) -> Result<(), String> {
+    for piece in pieces {
+        let mut made = whole.to_vec();
+        made.splice(place..=place, tokens(piece));
+        let mut text = Vec::new();
+        for token in made {
+            text.extend_from_slice(&token.text);
+            text.push(if token.kind == SEMICOLON { b'\n' } else { b' ' });
+        }
+        each(&text)?;
+    }
+    Ok(())
 }

@@ -25,6 +25,7 @@ mod sources;
 mod symbols;
 mod telling;
 
+use demand::Held;
 use proved_compile::Compile;
 use random::Random;
 use rules::{judge, Program};
@@ -58,6 +59,19 @@ struct Tallies {
     dearest: (u64, u64),
 }
 
+impl Tallies {
+    fn add(&mut self, held: &Held) {
+        *self.ends.entry(told_end(held.end)).or_default() += 1;
+        let Some((steps, count)) = held.steps_and_count else { return };
+        // Sixteen instructions are allowed to every run.
+        let beyond = |count: u64| count.saturating_sub(16);
+        let (most_steps, most_count) = self.dearest;
+        if beyond(count) * most_steps.max(1) > beyond(most_count) * steps {
+            self.dearest = (steps, count);
+        }
+    }
+}
+
 fn compare_all(library: Option<Compile>, cases: u64) -> Result<String, String> {
     let mut tallies = Tallies::default();
     for (place, (kind, share, make)) in KINDS.iter().enumerate() {
@@ -66,21 +80,43 @@ fn compare_all(library: Option<Compile>, cases: u64) -> Result<String, String> {
             let source = make(seed);
             let input = programs::input(&mut Random::new(!seed));
             compare(library, &source, &input, seed, &mut tallies)
+                .and_then(|refused| if *kind == "good" { expect_good(refused) } else { Ok(()) })
                 .map_err(|report| headed(kind, number, seed, &told_source(&source, &input, &report)))?;
         }
     }
+    let accepted = often(&tallies.refusals, 0);
     let refusals = enough(&tallies.refusals, &REFUSALS, cases / 1000)?;
     let ends = enough(&tallies.ends, &[0, 1, 2, 3, 4, 5, 6], cases / 1000)?;
+    let not_over = often(&tallies.ends, NOT_OVER);
+    let swept = compare_sweep(library, &mut tallies)?;
     let vectors = compare_vectors(library, &mut tallies)?;
     let (done, equal) = if library.is_some() { ("compared", ": all equal") } else { ("made", "") };
-    let accepted = often(&tallies.refusals, 0);
     let (steps, count) = tallies.dearest;
     Ok(format!(
-        "{done} {cases} generated programs ({accepted} accepted, {refusals}) and {vectors} vectors{equal}\n\
-         ends of runs, 0 being over and the others undefined acts: {ends}; not over: {}\n\
-         at most {count} instructions for {steps} steps",
-        often(&tallies.ends, NOT_OVER)
+        "{done} {cases} generated programs ({accepted} accepted, {refusals}), {swept} swept and {vectors} vectors{equal}\n\
+         ends of runs, 0 being over and the others undefined acts: {ends}; not over: {not_over}\n\
+         at most {count} instructions for {steps} steps"
     ))
+}
+
+/// A program made to be good may only be too long.
+fn expect_good(refused: u64) -> Result<(), String> {
+    match refused {
+        0 | 1 => Ok(()),
+        _ => Err(format!("made to be accepted, and refused {refused}")),
+    }
+}
+
+/// One program damaged everywhere.
+fn compare_sweep(library: Option<Compile>, tallies: &mut Tallies) -> Result<u64, String> {
+    let mut number = 0;
+    programs::sweep(&mut |source| {
+        number += 1;
+        compare(library, source, &[], number, tallies)
+            .map(|_| ())
+            .map_err(|report| headed("sweep", number, number, &told_source(source, &[], &report)))
+    })?;
+    Ok(number)
 }
 
 /// The stored sources, from the repository's root, with their inputs where they have one.
@@ -106,14 +142,14 @@ fn told_source(source: &[u8], input: &[u8], report: &str) -> String {
     format!("source:\n{}\ninput: \"{}\"\n{report}", String::from_utf8_lossy(source), input.escape_ascii())
 }
 
-/// Compares the verdicts on a source and, if it is accepted, holds the text to what is demanded.
+/// Compares the verdicts on a source and, if it is accepted, holds the text to what is demanded. The refusal's number.
 fn compare(
     library: Option<Compile>,
     source: &[u8],
     input: &[u8],
     seed: u64,
     tallies: &mut Tallies,
-) -> Result<(), String> {
+) -> Result<u64, String> {
     let verdict = judge(source);
     let refused = verdict.as_ref().map_or_else(|refusal| refusal.number, |_| 0);
     *tallies.refusals.entry(refused).or_default() += 1;
@@ -121,18 +157,12 @@ fn compare(
         Some(compile) => compiled(compile, source, &verdict, seed)?,
         None => verdict.as_ref().map(compiler::compile).unwrap_or_default(),
     };
-    let Ok(program) = verdict else { return Ok(()) };
-    let Some(held) = demand::hold(source, &program, &text, input, BUDGET, &mut Random::new(seed))? else {
-        return Ok(());
-    };
-    *tallies.ends.entry(told_end(held.end)).or_default() += 1;
-    if let Some((steps, count)) = held.steps_and_count {
-        let (most_steps, most_count) = tallies.dearest;
-        if count * most_steps.max(1) > most_count * steps {
-            tallies.dearest = (steps, count);
-        }
+    let Ok(program) = verdict else { return Ok(refused) };
+    let held = demand::hold(source, &program, &text, input, BUDGET, &mut Random::new(seed))?;
+    if let Some(held) = held {
+        tallies.add(&held);
     }
-    Ok(())
+    Ok(refused)
 }
 
 const NOT_OVER: u64 = 99;
