@@ -1,11 +1,33 @@
 //! A second compiler: plain code for a resolved program, written from the rules alone. With it what is demanded of a
 //! compiler's text, and the programs made for that, can be tried without the proved compiler.
 
-use crate::rules::{Body, Call, Command, Expression, Local, Place, Program, Switch, LINKS};
-use crate::symbols::kind::*;
+use crate::rules::{judge, Body, Call, Command, Expression, Local, Place, Program, Switch, LINKS};
+use crate::symbols::{kind::*, Refusal, LONGEST_TEXT};
 use std::fmt::Write;
 
-pub fn compile(program: &Program) -> Vec<u8> {
+/// A whole compiler, with the proved one's answers: 0, the text's length, 0; or number, place, line.
+pub fn compile(source: &[u8], scratch: &mut [u32], text: &mut [u8], answer: &mut [u64; 3]) {
+    text.fill(0);
+    *answer = match judged(source, scratch.len()) {
+        Err(Refusal { number, place, line }) => [number, place as u64, line as u64],
+        Ok(made) if made.len() > text.len() => [15, 0, 1],
+        Ok(made) => {
+            text[..made.len()].copy_from_slice(&made);
+            [0, made.len() as u64, 0]
+        }
+    };
+    scratch.fill(0);
+}
+
+/// The text that a source is to get, or its refusal, 15 for scratch included.
+fn judged(source: &[u8], scratch: usize) -> Result<Vec<u8>, Refusal> {
+    if source.len() <= LONGEST_TEXT && scratch < 8 * source.len() + 64 {
+        return Err(Refusal { number: 15, place: 0, line: 1 });
+    }
+    judge(source).map(|program| text_of(&program))
+}
+
+pub fn text_of(program: &Program) -> Vec<u8> {
     let functions = program.functions.len();
     let mut writer = Writer {
         text: String::from("$"),

@@ -2,7 +2,7 @@
 //! accepted source does with the source run by its definition, on generated programs and on the vectors.
 //!
 //!     programs_compare [CASES]               CASES generated in all (20000 unless said)
-//!     programs_compare --self-check [CASES]  without the proved library: the second compiler's text instead
+//!     programs_compare --self-check [CASES]  without the proved library: the second compiler instead
 //!
 //! It exits 1 at the first difference, and also when some refusal or undefined act came up too rarely to have been tested.
 
@@ -73,13 +73,14 @@ impl Tallies {
 }
 
 fn compare_all(library: Option<Compile>, cases: u64) -> Result<String, String> {
+    let compile = library.unwrap_or(compiler::compile);
     let mut tallies = Tallies::default();
     for (place, (kind, share, make)) in KINDS.iter().enumerate() {
         for number in 0..(cases * share / 100).max(1) {
             let seed = ((place as u64) << 32) + number;
             let source = make(seed);
             let input = programs::input(&mut Random::new(!seed));
-            compare(library, &source, &input, seed, &mut tallies)
+            compare(compile, &source, &input, seed, &mut tallies)
                 .and_then(|refused| if *kind == "good" { expect_good(refused) } else { Ok(()) })
                 .map_err(|report| headed(kind, number, seed, &told_source(&source, &input, &report)))?;
         }
@@ -88,8 +89,8 @@ fn compare_all(library: Option<Compile>, cases: u64) -> Result<String, String> {
     let refusals = enough(&tallies.refusals, &REFUSALS, cases / 1000)?;
     let ends = enough(&tallies.ends, &[0, 1, 2, 3, 4, 5, 6], cases / 1000)?;
     let not_over = often(&tallies.ends, NOT_OVER);
-    let swept = compare_sweep(library, &mut tallies)?;
-    let vectors = compare_vectors(library, &mut tallies)?;
+    let swept = compare_sweep(compile, &mut tallies)?;
+    let vectors = compare_vectors(compile, &mut tallies)?;
     let (done, equal) = if library.is_some() { ("compared", ": all equal") } else { ("made", "") };
     let (steps, count) = tallies.dearest;
     Ok(format!(
@@ -108,11 +109,11 @@ fn expect_good(refused: u64) -> Result<(), String> {
 }
 
 /// One program damaged everywhere.
-fn compare_sweep(library: Option<Compile>, tallies: &mut Tallies) -> Result<u64, String> {
+fn compare_sweep(compile: Compile, tallies: &mut Tallies) -> Result<u64, String> {
     let mut number = 0;
     programs::sweep(&mut |source| {
         number += 1;
-        compare(library, source, &[], number, tallies)
+        compare(compile, source, &[], number, tallies)
             .map(|_| ())
             .map_err(|report| headed("sweep", number, number, &told_source(source, &[], &report)))
     })?;
@@ -120,7 +121,7 @@ fn compare_sweep(library: Option<Compile>, tallies: &mut Tallies) -> Result<u64,
 }
 
 /// The stored sources, from the repository's root, with their inputs where they have one.
-fn compare_vectors(library: Option<Compile>, tallies: &mut Tallies) -> Result<u64, String> {
+fn compare_vectors(compile: Compile, tallies: &mut Tallies) -> Result<u64, String> {
     let mut count = 0;
     for folder in ["tests/vectors/texts", "tests/vectors/runs"] {
         let entries = std::fs::read_dir(folder).map_err(|error| format!("{folder}: {error}"))?;
@@ -129,7 +130,7 @@ fn compare_vectors(library: Option<Compile>, tallies: &mut Tallies) -> Result<u6
             if path.extension().is_some_and(|extension| extension == "b") {
                 let source = std::fs::read(&path).map_err(|error| format!("{}: {error}", path.display()))?;
                 let input = std::fs::read(path.with_extension("in")).unwrap_or_default();
-                compare(library, &source, &input, count, tallies)
+                compare(compile, &source, &input, 0, tallies)
                     .map_err(|report| format!("DIFFERENCE in {}\n{report}", path.display()))?;
                 count += 1;
             }
@@ -143,20 +144,11 @@ fn told_source(source: &[u8], input: &[u8], report: &str) -> String {
 }
 
 /// Compares the verdicts on a source and, if it is accepted, holds the text to what is demanded. The refusal's number.
-fn compare(
-    library: Option<Compile>,
-    source: &[u8],
-    input: &[u8],
-    seed: u64,
-    tallies: &mut Tallies,
-) -> Result<u64, String> {
+fn compare(compile: Compile, source: &[u8], input: &[u8], seed: u64, tallies: &mut Tallies) -> Result<u64, String> {
     let verdict = judge(source);
     let refused = verdict.as_ref().map_or_else(|refusal| refusal.number, |_| 0);
     *tallies.refusals.entry(refused).or_default() += 1;
-    let text = match library {
-        Some(compile) => compiled(compile, source, &verdict, seed)?,
-        None => verdict.as_ref().map(compiler::compile).unwrap_or_default(),
-    };
+    let text = compiled(compile, source, &verdict, seed)?;
     let Ok(program) = verdict else { return Ok(refused) };
     let held = demand::hold(source, &program, &text, input, BUDGET, &mut Random::new(seed))?;
     if let Some(held) = held {
@@ -181,7 +173,7 @@ fn told_end(end: End) -> u64 {
 }
 
 // ---------------------------------------------------------------------------------------------------------------------
-// The proved compiler
+// The compiler
 
 /// What a call of the compiler leaves.
 #[derive(Debug, PartialEq)]
@@ -221,16 +213,17 @@ fn compiled(compile: Compile, source: &[u8], verdict: &Result<Program, Refusal>,
         }
         Ok(_) => {
             let length = (given.answer[1] as usize).min(room);
-            let mut text = given.text[..length].to_vec();
-            let accepted =
-                |text: &[u8]| Left { answer: [0, length as u64, 0], scratch_is_zero: true, text: text.to_vec() };
-            expect(&accepted(&text), &call(compile, source, scratch, length, seed))?;
+            let text = given.text[..length].to_vec();
+            let accepted = |room: usize| {
+                let mut text = text.clone();
+                text.resize(room, 0);
+                Left { answer: [0, length as u64, 0], scratch_is_zero: true, text }
+            };
+            expect(&accepted(room), &given)?;
+            expect(&accepted(length), &call(compile, source, scratch, length, seed))?;
             if length > 0 {
                 expect(&refused(15, 0, 1, length - 1), &call(compile, source, scratch, length - 1, seed))?;
             }
-            text.resize(room, 0);
-            expect(&accepted(&text), &given)?;
-            text.truncate(length);
             Ok(text)
         }
     }
@@ -246,5 +239,5 @@ fn expect(wanted: &Left, given: &Left) -> Result<(), String> {
         let (room, text) = (left.text.len(), left.text[..end].escape_ascii());
         format!("{:?}, scratch {zeros}, room for {room} bytes, text: {text}", left.answer)
     };
-    Err(format!("compile\nsecond program: {}\nproved library: {}", told(wanted), told(given)))
+    Err(format!("compile\nrules:    {}\ncompiler: {}", told(wanted), told(given)))
 }

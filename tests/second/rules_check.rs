@@ -5,6 +5,7 @@
 #![cfg(test)]
 
 mod assembler;
+#[allow(dead_code)]
 mod compiler;
 mod deep;
 mod demand;
@@ -524,6 +525,6 @@ fn many_labels() -> String {
 #[test]
 fn texts_of_the_second_compiler() {
     let program = judge(SOURCE.as_bytes()).expect("an accepted source");
-    let text = String::from_utf8(compiler::compile(&program)).expect("plain text");
+    let text = String::from_utf8(compiler::text_of(&program)).expect("plain text");
     assert_eq!(held(SOURCE, &text), Ok(()));
 }
