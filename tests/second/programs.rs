@@ -1,7 +1,8 @@
 //! Makes programs to be run: every form of the language, mostly with an end within some thousand steps and without an
 //! undefined act, some with one; and damages them for the refusals of names, places and labels. Each follows from its seed
 //! alone. What a name stands for is known while the program is made, so that only what is stored is read, only vectors and
-//! strings are indexed, and loops and recursion have a bound.
+//! strings are indexed, and loops and recursion have a bound. Two sweeps leave nothing to chance: one program damaged
+//! everywhere, and sources of one form over and over.
 
 use crate::random::Random;
 use crate::sources::{layout, quoted, render, token, tokens, Token};
@@ -1359,4 +1360,110 @@ fn change_each(
         each(&text)?;
     }
     Ok(())
+}
+
+// ---------------------------------------------------------------------------------------------------------------------
+// One form over and over
+
+/// Commands that may follow each other as often as one likes.
+const COMMANDS: [&str; 34] = [
+    "A:=B",
+    "A:=G",
+    "A,B:=B,A",
+    "A:=A+1",
+    "A:=32767",
+    "A:=\"\"",
+    "A:=\"AB\"",
+    "A:=-A",
+    "A:=NOT A",
+    "A:=@A",
+    "A:=V!1",
+    "A:=!V",
+    "!V:=A",
+    "V!1:=A",
+    "V!(B-B):=A",
+    "A:=@V!1",
+    "A:=B+(A-(B+A))",
+    "F(A)",
+    "A:=F(A,B)",
+    "$($)",
+    "$(LET C=A$)",
+    "$(LET W=VEC 9$)",
+    "IF A DO B:=1",
+    "IF A=0 DO RETURN",
+    "UNLESS A DO B:=1",
+    "TEST A DO B:=1 OR B:=2",
+    "WHILE A DO A:=0",
+    "UNTIL A DO A:=1",
+    "A:=1 REPEATUNTIL A",
+    "FOR I=1 TO 2 DO B:=I",
+    "FOR I=2 TO 1 BY -1 DO LOOP",
+    "A:=VALOF RESULTIS B",
+    "SWITCHON A INTO $(CASE 1:CASE 2:DEFAULT:$)",
+    "SWITCHON A INTO $(CASE 1:A:=2;ENDCASE;DEFAULT:A:=1$)",
+];
+
+/// A command's beginning, its links, where `%` is a link's number, and its end.
+const CHAINS: [[&str; 3]; 17] = [
+    ["A:=A", "+1", ""],
+    ["A:=A", "+B", ""],
+    ["A:=A", "-(B)", ""],
+    ["A:=A", "*(-B)", ""],
+    ["A:=A", "&NOT B", ""],
+    ["A:=A", "+\"\"", ""],
+    ["A:=A", "+V!1", ""],
+    ["A:=A", "+F(B)", ""],
+    ["A:=A", "+(VALOF RESULTIS 1)", ""],
+    ["A:=A", "!0", ""],
+    ["A:=F", "()", ""],
+    ["F(A", ",A", ")"],
+    ["$( IF A DO RETURN $)", " REPEAT", ""],
+    ["A:=1", " REPEATUNTIL A", ""],
+    ["SWITCHON A INTO $(", "CASE %:", "A:=1 $)"],
+    ["SWITCHON A INTO $(", "CASE %:A:=B;", "DEFAULT:$)"],
+    ["$(", "LET X%=A;", "$)"],
+];
+
+/// A command's beginning, what is opened again and again, the innermost part, and what closes.
+const NESTS: [[&str; 4]; 7] = [
+    ["", "IF A DO ", "A:=1", ""],
+    ["", "FOR I=1 TO 1 DO ", "A:=1", ""],
+    ["", "$(", "A:=1", "$)"],
+    ["", "SWITCHON A INTO $(DEFAULT:", "A:=1", "$)"],
+    ["A:=", "VALOF RESULTIS ", "1", ""],
+    ["A:=", "(1+", "1", ")"],
+    ["A:=", "F(", "1", ")"],
+];
+
+/// Sources of one form, as often as it goes into so many bytes, in a small frame and in one whose words are far.
+pub fn steepest(bytes: usize, each: &mut dyn FnMut(&[u8]) -> Result<(), String>) -> Result<(), String> {
+    let globals = "GLOBAL $( S:1; G:99 $) LET F(A) = A ";
+    for size in [2, 700] {
+        let head = format!("{globals}LET S() BE $( LET V=VEC {size}; LET A,B=1,2; V!1,!V:=A,B;");
+        for command in COMMANDS {
+            each(&chained(&head, &format!("{command};"), "A:=1$)", bytes))?;
+        }
+        for [begin, link, tail] in CHAINS {
+            each(&chained(&format!("{head}{begin}"), link, &format!("{tail}$)"), bytes))?;
+        }
+        for [begin, opening, innermost, closing] in NESTS {
+            let (opening, closing) = (opening.repeat(30), closing.repeat(30));
+            each(&chained(&head, &format!("{begin}{opening}{innermost}{closing};"), "A:=1$)", bytes))?;
+        }
+    }
+    each(&chained(globals, "LET F%(A)=A ", "LET S() BE F(1)", bytes))?;
+    each(&chained("GLOBAL $( S:1", ";G%:5", "$) LET S()=S", bytes))?;
+    each(&chained("MANIFEST $( A=1", ";M%=A", "$) GLOBAL $( S:1 $) LET S()=A", bytes))
+}
+
+fn chained(head: &str, link: &str, tail: &str, bytes: usize) -> Vec<u8> {
+    let mut text = head.to_string();
+    for number in 1.. {
+        let link = link.replace('%', &number.to_string());
+        if text.len() + link.len() + tail.len() > bytes {
+            break;
+        }
+        text += &link;
+    }
+    (text + tail).into_bytes()
 }

@@ -89,7 +89,7 @@ fn compare_all(library: Option<Compile>, cases: u64) -> Result<String, String> {
     let refusals = enough(&tallies.refusals, &REFUSALS, cases / 1000)?;
     let ends = enough(&tallies.ends, &[0, 1, 2, 3, 4, 5, 6], cases / 1000)?;
     let not_over = often(&tallies.ends, NOT_OVER);
-    let swept = compare_sweep(compile, &mut tallies)?;
+    let swept = compare_sweeps(compile, &mut tallies)?;
     let vectors = compare_vectors(compile, &mut tallies)?;
     let (done, equal) = if library.is_some() { ("compared", ": all equal") } else { ("made", "") };
     let (steps, count) = tallies.dearest;
@@ -108,15 +108,18 @@ fn expect_good(refused: u64) -> Result<(), String> {
     }
 }
 
-/// One program damaged everywhere.
-fn compare_sweep(compile: Compile, tallies: &mut Tallies) -> Result<u64, String> {
+/// One program damaged everywhere, and sources of one form over and over.
+fn compare_sweeps(compile: Compile, tallies: &mut Tallies) -> Result<u64, String> {
     let mut number = 0;
-    programs::sweep(&mut |source| {
+    let mut each = |source: &[u8]| {
         number += 1;
-        compare(compile, source, &[], number, tallies)
-            .map(|_| ())
-            .map_err(|report| headed("sweep", number, number, &told_source(source, &[], &report)))
-    })?;
+        let compared = compare(compile, source, &[], number, tallies);
+        compared.map(|_| ()).map_err(|report| headed("sweep", number, number, &told_source(source, &[], &report)))
+    };
+    programs::sweep(&mut each)?;
+    for bytes in [400, 3000, LONGEST_TEXT] {
+        programs::steepest(bytes, &mut each)?;
+    }
     Ok(number)
 }
 
