@@ -339,42 +339,43 @@ impl Maker<'_> {
 
     // Functions
 
-    /// Functions joined by AND. Their names are known in all of the group; shapes without a cost await their function.
+    /// Functions joined by AND. Their names are known in all of the group.
     fn group(&mut self, many: usize) {
-        let mut made = Vec::new();
-        for _ in 0..many {
-            let parameters = self.parameters();
-            let gives_value = self.random.one_in(2);
-            let awaited = self.shapes.iter().position(|shape| shape.cost.is_none() && !self.is_planned(shape));
-            let index = match awaited {
-                Some(index) if self.random.one_in(2) => {
-                    let name = self.shapes[index].name.clone();
-                    self.shapes[index] = Shape { name, parameters, gives_value, cost: None };
-                    index
-                }
-                _ => {
-                    let name = self.new_name();
-                    self.shapes.push(Shape { name, parameters, gives_value, cost: None });
-                    self.shapes.len() - 1
-                }
-            };
-            let name = self.shapes[index].name.clone();
-            self.know(&name, Sort::Entry(index));
-            made.push(index);
-        }
+        let planned: Vec<usize> = (0..many).map(|_| self.plan()).collect();
         let mut costs = Vec::new();
-        for (place, &index) in made.iter().enumerate() {
+        for (place, &index) in planned.iter().enumerate() {
             self.add(if place == 0 { "LET" } else { "AND" });
-            let partner = made[self.random.below(made.len())];
+            let partner = self.random.pick(&planned);
             costs.push(self.function(index, partner));
         }
         // Only now may they be called otherwise than by a bounded recursion.
-        for (index, cost) in made.into_iter().zip(costs) {
+        for (index, cost) in planned.into_iter().zip(costs) {
             self.shapes[index].cost = Some(cost);
         }
         if self.random.one_in(2) {
             self.add(";");
         }
+    }
+
+    /// The shape of a function to be made, perhaps one whose name is a global's.
+    fn plan(&mut self) -> usize {
+        let parameters = self.parameters();
+        let gives_value = self.random.one_in(2);
+        let awaited = self.shapes.iter().position(|shape| shape.cost.is_none() && !self.is_planned(shape));
+        let awaited = awaited.filter(|_| self.random.one_in(2));
+        let name = match awaited {
+            Some(index) => self.shapes[index].name.clone(),
+            None => self.new_name(),
+        };
+        let shape = Shape { name: name.clone(), parameters, gives_value, cost: None };
+        let index = awaited.unwrap_or(self.shapes.len());
+        if awaited.is_some() {
+            self.shapes[index] = shape;
+        } else {
+            self.shapes.push(shape);
+        }
+        self.know(&name, Sort::Entry(index));
+        index
     }
 
     /// Whether a function of this shape's name has been planned already.
@@ -409,35 +410,62 @@ impl Maker<'_> {
         (self.turns, self.cost) = (1, 0);
         self.add(&name);
         self.scoped(|maker| {
-            maker.add("(");
-            let (mut depth, mut late) = (None, None);
-            for (place, &parameter) in parameters.iter().enumerate() {
-                if place > 0 {
-                    maker.add(",");
-                }
-                let name = maker.new_name();
-                maker.add(&name);
-                let sort = match parameter {
-                    Parameter::Word => Sort::Word,
-                    Parameter::Depth => Sort::Control,
-                    Parameter::Vector(most) => Sort::Vector(most),
-                    Parameter::Text => Sort::Text(0),
-                    Parameter::Late => Sort::Other,
-                };
-                maker.know(&name, sort);
-                match parameter {
-                    Parameter::Depth => depth = Some(name),
-                    Parameter::Late => late = Some(name),
-                    _ => {}
-                }
+            let [depth, late] = maker.named_parameters(&parameters);
+            if !gives_value && late.is_none() && maker.random.one_in(8) {
+                maker.add("=");
+                return maker.no_value();
             }
-            maker.add(")");
             maker.add(if gives_value { "=" } else { "BE" });
             let around = Around { routine: !gives_value, ..Around::default() };
             maker.within(around, |maker| maker.body(gives_value, depth, late, partner));
         });
         let recursive = matches!(parameters.first(), Some(Parameter::Depth));
         self.cost.max(1) * if recursive { DEPTHS } else { 1 }
+    }
+
+    /// Names for a list of parameters; those of the depth and the late one, if there are such.
+    fn named_parameters(&mut self, parameters: &[Parameter]) -> [Option<String>; 2] {
+        let (mut depth, mut late) = (None, None);
+        self.add("(");
+        for (place, &parameter) in parameters.iter().enumerate() {
+            if place > 0 {
+                self.add(",");
+            }
+            let name = self.new_name();
+            self.add(&name);
+            let sort = match parameter {
+                Parameter::Word => Sort::Word,
+                Parameter::Depth => Sort::Control,
+                Parameter::Vector(most) => Sort::Vector(most),
+                Parameter::Text => Sort::Text(0),
+                Parameter::Late => Sort::Other,
+            };
+            self.know(&name, sort);
+            match parameter {
+                Parameter::Depth => depth = Some(name),
+                Parameter::Late => late = Some(name),
+                _ => {}
+            }
+        }
+        self.add(")");
+        [depth, late]
+    }
+
+    /// An expression that may have no value and hands that on.
+    fn no_value(&mut self) {
+        let around = Around { valof: true, ..Around::default() };
+        self.within(around, |maker| {
+            if maker.random.one_in(2) {
+                maker.add("VALOF");
+                if maker.random.one_in(2) {
+                    return maker.block(2);
+                }
+                maker.add("RESULTIS");
+            }
+            if !maker.call(false, 0) {
+                maker.add("( VALOF $( $) )");
+            }
+        });
     }
 
     fn body(&mut self, gives_value: bool, depth: Option<String>, late: Option<String>, partner: usize) {
@@ -1202,12 +1230,12 @@ const DOUBTFUL_NUMBERS: [&str; 12] =
     ["0", "1", "2", "399", "400", "4095", "4096", "8000", "32767", "#177777", "TRUE", "- 1"];
 
 fn damage(random: &mut Random, made: &mut Vec<Token>) {
-    match random.below(16) {
+    match random.below(17) {
         0..=2 => change_name(random, made),
         3 | 4 => change(random, made, |token| token.kind == NUMBER, &DOUBTFUL_NUMBERS),
         5 => double_label(random, made),
         6 => drop_declaration(random, made),
-        7 => double_declaration(random, made),
+        7 | 16 => double_declaration(random, made),
         8 => {
             made.remove(random.below(made.len()));
         }

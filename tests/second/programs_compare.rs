@@ -36,6 +36,8 @@ use telling::{enough, headed, often, Tally};
 
 const CASES: u64 = 20_000;
 const REFUSALS: [u64; 8] = [8, 9, 10, 11, 12, 13, 14, 16];
+/// The stack that a compiler may take.
+const STACK: usize = 8 << 20;
 /// The steps of a run that is followed.
 const BUDGET: u64 = 200_000;
 
@@ -186,13 +188,17 @@ struct Left {
     text: Vec<u8>,
 }
 
-/// Junk stands everywhere beforehand.
+/// Junk stands everywhere beforehand. Too little stack would end the program.
 fn call(compile: Compile, source: &[u8], scratch: usize, room: usize, seed: u64) -> Left {
     let mut random = Random::new(!seed);
     let mut scratch = vec![random.next() as u32 | 1; scratch];
     let mut text = vec![random.byte() | 1; room];
     let mut answer = [random.next(); 3];
-    compile(source, &mut scratch, &mut text, &mut answer);
+    std::thread::scope(|scope| {
+        let thread = std::thread::Builder::new().stack_size(STACK);
+        let compiling = || compile(source, &mut scratch, &mut text, &mut answer);
+        thread.spawn_scoped(scope, compiling).expect("a thread").join().expect("a source compiled without panic");
+    });
     Left { answer, scratch_is_zero: scratch.iter().all(|&entry| entry == 0), text }
 }
 
