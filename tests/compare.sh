@@ -7,6 +7,10 @@ cd "$(dirname "$0")/.."
 mkdir -p target/tests
 rustc -O --edition 2021 --test tests/second/selftest.rs -o target/tests/selftest
 target/tests/selftest --quiet
+rustc -O --edition 2021 --test tests/second/rules_check.rs -o target/tests/rules_check
+target/tests/rules_check --quiet
+rustc -O --edition 2021 tests/second/programs_compare.rs -o target/tests/programs_compare
+target/tests/programs_compare --self-check 2000
 rustc -O --edition 2021 tests/second/second.rs -o target/tests/second
 tests/run-examples.sh target/tests/second
 rt check minicode > target/tests/check.log 2>&1 || { tail -n 40 target/tests/check.log; exit 1; }

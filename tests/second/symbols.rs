@@ -304,7 +304,7 @@ fn number(digits: &[u8], base: u32, largest: u32) -> Result<u32, u64> {
 }
 
 /// One character or escape between quotes, and its length; the quote itself needs its escape.
-fn character(text: &[u8], quote: u8) -> Option<(u32, usize)> {
+pub fn character(text: &[u8], quote: u8) -> Option<(u32, usize)> {
     match *text.first()? {
         b'*' => {
             let value = match *text.get(1)? {
