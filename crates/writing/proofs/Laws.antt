@@ -1,0 +1,172 @@
+-- Laws of what is written: bytes over the room, numbers, items and their lines.
+use mathlib.Core.Path.{_≡_, refl, sym, ap, subst, _∙_}
+use mathlib.Core.Bool.{cond}
+use mathlib.Core.List.{List, [], _∷_, _++_, append-assoc, append-nil}
+use Prim.Native.Nat.{ℕ, zero, suc, _+_, _*_, _-_, _≤_, _<_, _/_, _%_}
+use native.Mathlib.Omega.{arith}
+use lib.ListN.{length, set, length-append, List·getD-eq-default}
+use lib.Dec.{leb, ltb}
+use borrow.Author.Tests.{le-leb, lt-leb, lt-ltb, le-ltb, leb-true}
+use mathlib.Core.Bool.{Bool, false}
+use Rattle.items.specs.Item as I
+use Rattle.items.specs.Render.{numeral, numeralOf, letter, indirectText, baseText, operandText, render}
+use Rattle.writing.specs.Text.{over, upto, Text, Puts, line, lines}
+
+pub over-length : (o t : List ℕ) → length (over o t) ≡ length t
+unfolding over
+over-length [] t = refl
+over-length (b ∷ o) [] = refl
+over-length (b ∷ o) (x ∷ t) = ap suc (over-length o t)
+
+-- one byte more, wherever it is
+over-snoc : (o t : List ℕ) (b : ℕ) → set (over o t) (length o) b ≡ over (o ++ (b ∷ [])) t
+unfolding over
+over-snoc [] [] b = refl
+over-snoc [] (x ∷ t) b = refl
+over-snoc (a ∷ o) [] b = refl
+over-snoc (a ∷ o) (x ∷ t) b = ap (λ (l : List ℕ). a ∷ l) (over-snoc o t b)
+
+over-past : (o t : List ℕ) (b : ℕ) → length t ≤ length o → over o t ≡ over (o ++ (b ∷ [])) t
+unfolding over
+over-past [] [] b h = refl
+over-past [] (x ∷ t) b h = absurd (omega arith)
+over-past (a ∷ o) [] b h = refl
+over-past (a ∷ o) (x ∷ t) b h = ap (λ (l : List ℕ). a ∷ l) (over-past o t b (omega arith))
+
+pub upto-in : (room n : ℕ) → n ≤ room → upto room n ≡ n
+unfolding upto
+upto-in room n h = rw (le-leb n room h)
+
+pub upto-past : (room n : ℕ) → room < n → upto room n ≡ room + 1
+unfolding upto
+upto-past room n h = rw (lt-leb n room h)
+
+data Order (n m : ℕ) : Type 0 where
+  le : n ≤ m → Order n m
+  gt : m < n → Order n m
+
+order : (n m : ℕ) → Order n m
+order zero m = le (omega arith)
+order (suc n) zero = gt (omega arith)
+order (suc n) (suc m) = grow (order n m)
+  where
+    grow : Order n m → Order (suc n) (suc m)
+    grow (le h) = le (omega arith)
+    grow (gt h) = gt (omega arith)
+
+at-room : {room n at : ℕ} → at ≡ upto room n → at < room → at ≡ n
+at-room {room} {n} {at} e h = by (order n room)
+  where
+    by : Order n room → at ≡ n
+    by (le k) = e ∙ upto-in room n k
+    by (gt k) = absurd (omega (arith, upto-past room n k))
+
+past-room : {room n at : ℕ} → at ≡ upto room n → room ≤ at → room ≤ n
+past-room {room} {n} {at} e h = by (order n room)
+  where
+    by : Order n room → room ≤ n
+    by (le k) = omega (arith, upto-in room n k)
+    by (gt k) = omega arith
+
+-- a byte that has room, and one that has none
+pub emitted : {t : List ℕ} {at : ℕ} (b : ℕ) → at < length t → Puts (b ∷ []) at (at + 1) t (set t at b)
+emitted {t} {at} b h = record {
+  by = λ t₀ o k.
+      let el : length t ≡ length t₀ = ap length (k .is) ∙ over-length o t₀ in
+      let ea : at ≡ length o = at-room (k .place) (omega arith) in
+      record {
+        is = ap (λ (l : List ℕ). set l at b) (k .is) ∙ ap (λ (i : ℕ). set (over o t₀) i b) ea ∙ over-snoc o t₀ b;
+        place =
+            ap (λ (i : ℕ). i + 1) ea ∙ sym (upto-in (length t₀) (length o + 1) (omega arith)) ∙
+            ap (upto (length t₀)) (sym (length-append o (b ∷ [])));
+      };
+}
+
+pub passed : {t : List ℕ} {at : ℕ} (b : ℕ) → length t ≤ at → Puts (b ∷ []) at (length t + 1) t t
+passed {t} {at} b h = record {
+  by = λ t₀ o k.
+      let el : length t ≡ length t₀ = ap length (k .is) ∙ over-length o t₀ in
+      let le : length t₀ ≤ length o = past-room (k .place) (omega arith) in
+      record {
+        is = k .is ∙ over-past o t₀ b le;
+        place =
+            ap (λ (i : ℕ). i + 1) el ∙
+            sym (upto-past (length t₀) (length (o ++ (b ∷ []))) (omega (arith, length-append o (b ∷ []))));
+      };
+}
+
+pub puts-then : {w w' : List ℕ} {at x r : ℕ} {t t₁ t₂ : List ℕ}
+    → Puts w at x t t₁ → Puts w' x r t₁ t₂ → Puts (w ++ w') at r t t₂
+puts-then {w} {w'} {r = r} {t₂ = t₂} f g = record {
+  by = λ t₀ o k.
+      subst (λ (l : List ℕ). Text t₀ l r t₂) (append-assoc o w w') (g .by t₀ (o ++ w) (f .by t₀ o k));
+}
+
+pub puts-as : {w w' : List ℕ} {at r : ℕ} {t t' : List ℕ} → Puts w at r t t' → w' ≡ w → Puts w' at r t t'
+puts-as {w} {w'} {at} {r} {t} {t'} f e = subst (λ (l : List ℕ). Puts l at r t t') (sym e) f
+
+-- numbers: their digits don't depend on the fuel
+enough : (f g n : ℕ) → n < f → n < g → numeral f n ≡ numeral g n
+unfolding numeral
+enough zero g n a b = absurd (omega arith)
+enough (suc f) zero n a b = absurd (omega arith)
+enough (suc f) (suc g) n a b = by (order n 9) (λ h. enough f g (n / 10) (omega arith) (omega arith))
+  where
+    digits : List ℕ → List ℕ
+    digits l = cond (ltb n 10) ((48 + n) ∷ []) (l ++ ((48 + n % 10) ∷ []))
+
+    by : Order n 9 → (10 ≤ n → numeral f (n / 10) ≡ numeral g (n / 10))
+        → digits (numeral f (n / 10)) ≡ digits (numeral g (n / 10))
+    by (le h) k = rw (lt-ltb n 10 (omega arith))
+    by (gt h) k = ap digits (k (omega arith))
+
+pub numeral-one : (n : ℕ) → n < 10 → numeralOf n ≡ (48 + n) ∷ []
+unfolding numeralOf numeral
+numeral-one n h = rw (lt-ltb n 10 h)
+
+pub numeral-more : (n : ℕ) → 10 ≤ n → numeralOf n ≡ numeralOf (n / 10) ++ ((48 + n % 10) ∷ [])
+unfolding numeralOf numeral
+numeral-more n h = rw (le-ltb n 10 h)
+    (ap (λ (l : List ℕ). l ++ ((48 + n % 10) ∷ [])) (enough n (suc (n / 10)) (n / 10) (omega arith) (omega arith)))
+
+pub puts-none : {at : ℕ} {t : List ℕ} → Puts [] at at t t
+puts-none {at} {t} = record { by = λ t₀ o k. subst (λ (l : List ℕ). Text t₀ l at t) (sym (append-nil o)) k }
+
+-- items: a letter, then the rest
+module _ (f : ℕ) {x : ℕ} {at p : ℕ} {t t₁ : List ℕ} (e : x ≡ letter f) (a : Puts (x ∷ []) at p t t₁) where
+  lettered : Puts (letter f ∷ []) at p t t₁
+  lettered = subst (λ (b : ℕ). Puts (b ∷ []) at p t t₁) e a
+
+  pub instruction-put : (i : Bool) (b : I.Base) (n : ℕ) {q r z : ℕ} {t₂ t₃ t₄ : List ℕ}
+      → Puts (indirectText i) p q t₁ t₂ → Puts (baseText b) q r t₂ t₃ → Puts (numeralOf n ++ (10 ∷ [])) r z t₃ t₄
+      → Puts (line (I.instruction f i b (I.number false n))) at z t t₄
+  unfolding line render operandText
+  instruction-put i b n c d g =
+      puts-as (puts-then lettered (puts-then c (puts-then d g)))
+      (ap (λ (l : List ℕ). letter f ∷ l)
+      (append-assoc (indirectText i) (baseText b ++ numeralOf n) (10 ∷ []) ∙
+      ap (λ (l : List ℕ). indirectText i ++ l) (append-assoc (baseText b) (numeralOf n) (10 ∷ []))))
+
+  pub labelled-put : (n : ℕ) {z : ℕ} {t₂ : List ℕ}
+      → Puts (76 ∷ (numeralOf n ++ (10 ∷ []))) p z t₁ t₂
+      → Puts (line (I.instruction f false I.none (I.address n))) at z t t₂
+  unfolding line render operandText indirectText baseText
+  labelled-put n c = puts-then lettered c
+
+pub global-put : (n m : ℕ) {at p q z : ℕ} {t t₁ t₂ t₃ : List ℕ}
+    → Puts (71 ∷ []) at p t t₁ → Puts (numeralOf n) p q t₁ t₂ → Puts (76 ∷ (numeralOf m ++ (10 ∷ []))) q z t₂ t₃
+    → Puts (line (I.global n m)) at z t t₃
+unfolding line render
+global-put n m a b c =
+    puts-as (puts-then a (puts-then b c))
+    (ap (λ (l : List ℕ). 71 ∷ l) (append-assoc (numeralOf n) (76 ∷ numeralOf m) (10 ∷ [])))
+
+pub letter-past : (f : ℕ) → 8 ≤ f → 0 ≡ letter f
+unfolding letter
+letter-past f h = sym (List·getD-eq-default (76 ∷ 83 ∷ 65 ∷ 74 ∷ 84 ∷ 70 ∷ 75 ∷ 88 ∷ []) 0 {n = f} h)
+
+-- lines one after another
+pub lines-then : (a b : List I.Item) → lines (a ++ b) ≡ lines a ++ lines b
+unfolding lines
+lines-then [] b = refl
+lines-then (i ∷ a) b = ap (λ (l : List ℕ). line i ++ l) (lines-then a b) ∙ sym (append-assoc (line i) (lines a) (lines b))

@@ -1,0 +1,7 @@
+use Rattle.writing.proofs.Laws.{global-put}
+use borrow.Author.Needs.{needs}
+use Rattle.writing.proofs.global.Statement.{statement}
+use Rattle.writing.proofs.global.Tie as tie
+
+pub global-spec : {M : Type 1} → statement M
+global-spec = tie.close (tie.spec (search needs) (search needs) (search needs) (search needs) (λ c. search global-put))

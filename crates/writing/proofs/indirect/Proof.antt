@@ -1,0 +1,14 @@
+use Rattle.items.specs.Render.{indirectText}
+use Rattle.writing.proofs.Laws.{puts-none}
+use borrow.Author.Needs.{needs}
+use Rattle.writing.proofs.indirect.Statement.{statement}
+use Rattle.writing.proofs.indirect.Tie as tie
+
+-- src/lib.rt:63:9
+returns : tie.Need-returns
+unfolding indirectText
+returns c = rw (c .before .before .before .before .if1 .taken) (c .before .before .emit .ensures)
+
+pub indirect-spec : {M : Type 1} → statement M
+unfolding indirectText
+indirect-spec = tie.close (tie.spec (search needs) (search needs) returns (λ c. rw (c .if1 .left) puts-none))

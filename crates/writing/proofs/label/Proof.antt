@@ -1,0 +1,10 @@
+use Rattle.writing.proofs.Laws.{puts-then}
+use Rattle.writing.specs.Text.{line}
+use Rattle.items.specs.Render.{render}
+use borrow.Author.Needs.{needs}
+use Rattle.writing.proofs.label.Statement.{statement}
+use Rattle.writing.proofs.label.Tie as tie
+
+pub label-spec : {M : Type 1} → statement M
+unfolding line render
+label-spec = tie.close (tie.spec (search needs) (search needs) (search needs) (search needs) (λ c. search puts-then))

@@ -1,0 +1,14 @@
+use Rattle.writing.proofs.Laws.{puts-then}
+use Rattle.writing.specs.Text.{line}
+use Rattle.items.specs.Render.{render, operandText}
+use borrow.Author.Needs.{needs}
+use Rattle.writing.proofs.label_word.Statement.{statement}
+use Rattle.writing.proofs.label_word.Tie as tie
+
+-- src/lib.rt:130:1
+returns : tie.Need-returns
+unfolding line render operandText
+returns c = puts-then (c .before .before .before .before .before .before .emit .ensures) (c .before .before .last-label .ensures)
+
+pub label-word-spec : {M : Type 1} → statement M
+label-word-spec = tie.close (tie.spec (search needs) (search needs) (search needs) returns)

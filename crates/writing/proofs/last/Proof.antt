@@ -1,0 +1,7 @@
+use Rattle.writing.proofs.Laws.{puts-then}
+use borrow.Author.Needs.{needs}
+use Rattle.writing.proofs.last.Statement.{statement}
+use Rattle.writing.proofs.last.Tie as tie
+
+pub last-spec : {M : Type 1} → statement M
+last-spec = tie.close (tie.spec (search needs) (search needs) (search needs) (λ c. search puts-then))

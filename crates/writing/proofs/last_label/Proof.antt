@@ -1,0 +1,11 @@
+use Rattle.writing.proofs.Laws.{puts-then}
+use borrow.Author.Needs.{needs}
+use Rattle.writing.proofs.last_label.Statement.{statement}
+use Rattle.writing.proofs.last_label.Tie as tie
+
+-- src/lib.rt:87:1
+returns : tie.Need-returns
+returns c = puts-then (c .before .before .before .before .before .before .emit .ensures) (c .before .before .last .ensures)
+
+pub last-label-spec : {M : Type 1} → statement M
+last-label-spec = tie.close (tie.spec (search needs) (search needs) (search needs) returns)

@@ -1,0 +1,10 @@
+use Rattle.items.specs.Render.{letter}
+use mathlib.Core.Path.{refl}
+use Rattle.writing.proofs.Laws.{letter-past}
+use borrow.Author.Needs.{needs}
+use Rattle.writing.proofs.letter.Statement.{statement}
+use Rattle.writing.proofs.letter.Tie as tie
+
+pub letter-spec : {M : Type 1} → statement M
+unfolding letter
+letter-spec = tie.close (tie.spec (search needs) (λ _. refl) (λ c. search letter-past))

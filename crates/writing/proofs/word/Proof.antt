@@ -1,0 +1,14 @@
+use Rattle.writing.proofs.Laws.{puts-then}
+use Rattle.writing.specs.Text.{line}
+use Rattle.items.specs.Render.{render, operandText}
+use borrow.Author.Needs.{needs}
+use Rattle.writing.proofs.word.Statement.{statement}
+use Rattle.writing.proofs.word.Tie as tie
+
+-- src/lib.rt:122:1
+returns : tie.Need-returns
+unfolding line render operandText
+returns c = puts-then (c .before .before .before .before .before .before .emit .ensures) (c .before .before .last .ensures)
+
+pub word-spec : {M : Type 1} → statement M
+word-spec = tie.close (tie.spec (search needs) (search needs) (search needs) returns)
