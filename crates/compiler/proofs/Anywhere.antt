@@ -1,0 +1,55 @@
+-- What an expression may leave is of no account but for RETURN: its faults are the same anywhere.
+use Prim.Native.Nat.{ℕ, suc, _+_}
+use mathlib.Core.Path.{_≡_, refl, sym, ap, subst, _∙_}
+use mathlib.Core.Bool.{Bool, true, false, cond}
+use mathlib.Core.List.{List, [], _∷_, _++_}
+use lib.Dec.{eqb}
+use Rattle.language.specs.Kinds.{AT}
+use Rattle.language.specs.Tree as T
+use Rattle.language.specs.Tree.{Expression, Expressions, Suffixes, Operations, placeOf}
+use Rattle.language.specs.Names.{Scope}
+use Rattle.language.specs.Constants.{Fault}
+use Rattle.language.specs.Resolve.{under, sideOf, expression}
+use Rattle.language.specs.Faults.{Leavable, unlessSide, inExpression, inSuffixes, inOperations, inExpressions, inCommand}
+use Rattle.compiler.specs.declared.steps.State.{State}
+use Rattle.compiler.specs.declared.steps.Here.{Here}
+use Rattle.compiler.specs.declared.steps.Ways.{Ways}
+use Rattle.compiler.specs.Walked.{leavable, leavableBy, Did, Code}
+
+two : {a b c d : List Fault} → a ≡ b → c ≡ d → a ++ c ≡ b ++ d
+two p q = cc
+
+module _ (text : List ℕ) (l m : Leavable) (q : l .routine ≡ m .routine) where
+  mutual
+    unfolding inExpression inSuffixes inOperations inExpressions
+
+    pub any-expression : (sc : Scope) (h : ℕ) (e : Expression) → inExpression text sc l h e ≡ inExpression text sc m h e
+    any-expression sc h (T.number p v) = refl
+    any-expression sc h (T.string p v) = refl
+    any-expression sc h (T.name n) = refl
+    any-expression sc h (T.bracketed p e) = any-expression sc h e
+    any-expression sc h (T.valof p c) = ap (λ (b : Bool). inCommand text sc (record { loop = false; switch = false; valof = true; routine = b }) h c) q
+    any-expression sc h (T.monadic p o e) = ap (λ (z : List Fault). z ++ cond (eqb o AT) (unlessSide (placeOf e) (sideOf (expression text sc h e))) []) (any-expression sc h e)
+    any-expression sc h (T.suffixed e ss) = two (any-expression sc (under ss h) e) (any-suffixes sc h ss)
+    any-expression sc h (T.dyadic e os) = two (any-expression sc h e) (any-operations sc h os)
+
+    pub any-suffixes : (sc : Scope) (h : ℕ) (ss : Suffixes) → inSuffixes text sc l h ss ≡ inSuffixes text sc m h ss
+    any-suffixes sc h T.noSuffixes = refl
+    any-suffixes sc h (T.call es ss) = two (any-expressions sc (under ss h + 2) es) (any-suffixes sc h ss)
+    any-suffixes sc h (T.index e ss) = two (any-expression sc (under ss h + 1) e) (any-suffixes sc h ss)
+
+    pub any-operations : (sc : Scope) (h : ℕ) (os : Operations) → inOperations text sc l h os ≡ inOperations text sc m h os
+    any-operations sc h T.noOperations = refl
+    any-operations sc h (T.operation o e os) = two (any-expression sc (h + 1) e) (any-operations sc h os)
+
+    pub any-expressions : (sc : Scope) (h : ℕ) (es : Expressions) → inExpressions text sc l h es ≡ inExpressions text sc m h es
+    any-expressions sc h T.noExpressions = refl
+    any-expressions sc h (T.andExpression e es) = two (any-expression sc h e) (any-expressions sc (h + 1) es)
+
+-- what was done for an expression, said of a place with ways out
+module _ (text : List ℕ) (sc : Scope) (here : Here) (ways : Ways) (h : ℕ) {c : ℕ → Code} {k : ℕ} {t t′ : List ℕ} {st r : State} where
+  pub with-ways : (e : Expression) → Did (inExpression text sc (leavable here) h e) c k t t′ st r → Did (inExpression text sc (leavableBy ways here) h e) c k t t′ st r
+  with-ways e d = subst (λ (f : List Fault). Did f c k t t′ st r) (any-expression text (leavable here) (leavableBy ways here) refl sc h e) d
+
+  pub all-with-ways : (es : Expressions) → Did (inExpressions text sc (leavable here) h es) c k t t′ st r → Did (inExpressions text sc (leavableBy ways here) h es) c k t t′ st r
+  all-with-ways es d = subst (λ (f : List Fault). Did f c k t t′ st r) (any-expressions text (leavable here) (leavableBy ways here) refl sc h es) d

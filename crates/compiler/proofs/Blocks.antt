@@ -1,0 +1,519 @@
+-- Lists of commands, locals and blocks.
+use Prim.Native.Nat.{ℕ, suc, _+_, _*_, _-_, _≤_, _<_}
+use mathlib.Core.Path.{_≡_, refl, sym, ap, subst, _∙_}
+use mathlib.Core.List.{List, [], _∷_, _++_, append-assoc}
+use native.Mathlib.Omega.{arith}
+use lib.ListN.{length, getD, length-append}
+use Rattle.items.specs.Item as I
+use Rattle.language.specs.Tree as T
+use Rattle.language.specs.Tree.{Name, Expressions, Command, Commands, Unlabelled}
+use Rattle.language.proofs.Depth.{commandDepth, commandsDepth, unlabelledDepth, localsDepth}
+use Rattle.language.specs.Names as N
+use Rattle.language.specs.Names.{Scope, opened, declared}
+use Rattle.language.specs.Constants.{Fault, forVector, judgedWord, faultsOf}
+use Rattle.language.specs.Resolved as R
+use Rattle.language.specs.Resolve.{expressions, commands, unlabelled, locals, valuesBefore, declareAll, scopeAfter, heightAfter}
+use Rattle.language.specs.Heights as H
+use Rattle.language.specs.Heights.{ofExprs, ofLocals, ofCmd, ofCmds}
+use Rattle.code.specs.Generate as G
+use Rattle.language.specs.Faults.{Leavable, inExpressions, inCommands, inLocals, inUnlabelled, twice}
+use Rattle.tree.specs.Encoding.{encodeCommand, encodeCommands, encodeUnlabelled, encodeLocals}
+use Rattle.compiler.specs.Scope.{Shows, Keeps, Pushed}
+use Rattle.compiler.proofs.Scoping.{keeps-all, keeps-then, keeps-lower, pushed-keeps, pushed-mark}
+use Rattle.compiler.specs.declared.steps.State.{State}
+use Rattle.compiler.specs.declared.steps.Here.{Here}
+use Rattle.compiler.specs.declared.steps.Ways.{Ways}
+use Rattle.compiler.specs.declared.steps.Node.{Node}
+use Rattle.compiler.specs.declared.steps.Placed.{Placed}
+use Rattle.compiler.specs.Fine.{FineC, FineCs, FineLs, FinePlain}
+use Rattle.language.specs.Fine.{FineCommands, FineLocals, FineUnlabelled}
+use Rattle.compiler.specs.Walked.{marked, placed, leavable, leavableBy, exits, NodeAt, Code, Did}
+use Rattle.compiler.specs.Walks.{Lies, Result}
+use Rattle.compiler.specs.Commands.{cmdSays, cmdsSays, ReadyC, GaveC, ReadyU, GaveU, ReadyList, GaveList}
+use Rattle.compiler.specs.Locals.{Local, aVector, someValues, withLocal, encodeLocal, localDepth, FineLocal, scopeWith, heightWith, faultsL, localSays, ReadyLocal, GaveLocal, localsSays, ReadyLocals, GaveLocals}
+use Rattle.compiler.proofs.Done.{did-none, did-then, did-as, same-refl, same-eq, code-is}
+use Rattle.compiler.proofs.Trees.{first, second, keeps-lies, ends}
+use Rattle.compiler.proofs.Parts.{sub, Part}
+use Rattle.compiler.proofs.Calls.{count-resolved}
+use Rattle.compiler.proofs.Forms as F
+use Rattle.compiler.proofs.Forms.{Form, form-at}
+use Rattle.compiler.proofs.Anywhere.{any-expressions}
+
+-- ---- a list of commands
+
+pub record IsCmd (s : List ℕ) (at end : ℕ) (cs : Commands) : Type 0 where
+  pub part : Command
+  pub more : Commands
+  pub same : cs ≡ T.andCommand part more
+  pub size-of : getD s at 0 ≡ length (encodeCommand part)
+  pub lies : Lies s (at + 2) (encodeCommand part)
+  pub lies-more : Lies s (at + 2 + length (encodeCommand part)) (encodeCommands more)
+  pub ends : end ≡ at + 2 + length (encodeCommand part) + length (encodeCommands more)
+
+pub is-cmd : {s : List ℕ} {at end : ℕ} (cs : Commands) → Lies s at (encodeCommands cs) → end ≡ at + length (encodeCommands cs) → at < end → IsCmd s at end cs
+unfolding encodeCommands
+is-cmd T.noCommands h e l = absurd (omega arith)
+is-cmd {s} {at} {end} (T.andCommand c cs) h e l =
+    let two = length (encodeCommand c) ∷ 0 ∷ [] in
+    let a : at + 0 ≡ at = omega arith in
+    let r = second two (encodeCommand c ++ encodeCommands cs) (at + 2) h refl in
+    record {
+      part = c;
+      more = cs;
+      same = refl;
+      size-of = ap (λ (k : ℕ). getD s k 0) (sym a) ∙ h .at 0 (omega arith);
+      lies = first (encodeCommand c) (encodeCommands cs) r;
+      lies-more = second (encodeCommand c) (encodeCommands cs) (at + 2 + length (encodeCommand c)) r refl;
+      ends = omega (arith, e, length-append (encodeCommand c) (encodeCommands cs));
+    }
+
+module _ (text t₀ : List ℕ) (w : Ways) {s₀ : List ℕ} {from end : ℕ} {here : Here} {st₀ : State} where
+  abbrev pub ListPart : ReadyList s₀ from end here st₀ → (s t : List ℕ) (at : ℕ) (st : State) → Type 0
+  ListPart y s t at st = let z = y .ready in
+      Part encodeCommands commandsDepth FineCs (λ h cs. inCommands text (z .scope) (leavableBy w here) (here .height) cs) (λ h cs. cmdsSays here w (commands text (z .scope) (here .height) cs)) (z .tree)
+      from end (z .base) (here .top) (here .left) (here .height) (here .height) s₀ s t₀ t st₀ st at
+
+  pub list-begin : (y : ReadyList s₀ from end here st₀) → ListPart y s₀ t₀ from st₀
+  list-begin y = let z = y .ready in record {
+    rest = z .tree;
+    lies = subst (λ (n : ℕ). Lies s₀ n (encodeCommands (z .tree))) (y .starts) (z .lies);
+    ends = omega (arith, z .ends, y .starts);
+    starts = omega arith;
+    keeps = keeps-all;
+    label = omega arith;
+    some = z .some;
+    shallow = z .shallow;
+    fine = z .fine;
+    height = omega arith;
+    finish = λ t′ st′ d. d;
+  }
+
+  module _ {s t : List ℕ} {at size next : ℕ} {st : State} (l : at < end) (es : size ≡ getD s at 0) (en : next ≡ at + 2 + size) where
+    pub list-size : (y : ReadyList s₀ from end here st₀) (p : ListPart y s t at st) → size ≡ length (encodeCommand (is-cmd (p .rest) (p .lies) (p .ends) l .part))
+    list-size y p = let u = is-cmd (p .rest) (p .lies) (p .ends) l in es ∙ p .keeps .above at (omega (arith, y .ready .above, y .starts, p .starts)) ∙ u .size-of
+
+    pub list-length : (y : ReadyList s₀ from end here st₀) (p : ListPart y s t at st) → let u = is-cmd (p .rest) (p .lies) (p .ends) l in length (encodeCommands (p .rest)) ≡ 2 + length (encodeCommand (u .part)) + length (encodeCommands (u .more))
+    list-length y p = let u = is-cmd (p .rest) (p .lies) (p .ends) l in omega (arith, p .ends, u .ends)
+
+    pub list-deep : (y : ReadyList s₀ from end here st₀) (p : ListPart y s t at st) → let u = is-cmd (p .rest) (p .lies) (p .ends) l in (commandDepth (u .part) ≤ here .left) × (commandsDepth (u .more) ≤ here .left)
+    unfolding commandsDepth
+    list-deep y p = let u = is-cmd (p .rest) (p .lies) (p .ends) l in (omega (arith, p .shallow, ap commandsDepth (u .same)), omega (arith, p .shallow, ap commandsDepth (u .same)))
+
+    pub list-fine : (y : ReadyList s₀ from end here st₀) (p : ListPart y s t at st) → let u = is-cmd (p .rest) (p .lies) (p .ends) l in FineC (u .part) × FineCs (u .more)
+    unfolding FineCommands
+    list-fine y p = subst FineCs (is-cmd (p .rest) (p .lies) (p .ends) l .same) (p .fine)
+
+    abbrev pub list-part : (y : ReadyList s₀ from end here st₀) → ListPart y s t at st → ReadyC s next here st
+    list-part y p = let z = y .ready in let u = is-cmd (p .rest) (p .lies) (p .ends) l in
+        sub encodeCommand commandDepth FineC z (p .keeps) next (at + 2) here st (u .part) (u .lies) (omega (arith, en, list-size y p)) (omega (arith, y .starts, p .starts)) (omega (arith, en, list-size y p, u .ends)) refl refl
+        (omega (arith, z .height, p .height, list-length y p)) (omega (arith, z .label, p .label, list-length y p)) (p .some) (list-deep y p .0) (list-fine y p .0)
+
+    pub list-next : {s₁ t₁ : List ℕ} {r : State} → GaveC text s s₁ next here w t t₁ st r → (y : ReadyList s₀ from end here st₀) → ListPart y s t at st → ListPart y s₁ t₁ next r
+    unfolding inCommands commands G.cmdsCode ofCmds G.cmdsLabels
+    list-next {s₁} {t₁} {r} g y p =
+        let z = y .ready in let u = is-cmd (p .rest) (p .lies) (p .ends) l in let x = g .by (list-part y p) in let sc = z .scope in let h = here .height in
+        record {
+          rest = u .more;
+          lies = subst (λ (n : ℕ). Lies s₀ n (encodeCommands (u .more))) (omega (arith, en, list-size y p)) (u .lies-more);
+          ends = omega (arith, u .ends, en, list-size y p);
+          starts = omega (arith, p .starts, en);
+          keeps = keeps-then (p .keeps) (x .keeps);
+          label = omega (arith, p .label, list-length y p, x .did .few);
+          some = omega (arith, p .some, x .did .grows);
+          shallow = list-deep y p .1;
+          fine = list-fine y p .1;
+          height = omega (arith, p .height, list-length y p);
+          finish = λ t′ st′ d. p .finish t′ st′
+              (subst (λ (cs : Commands). Did (inCommands text sc (leavableBy w here) h cs) (cmdsSays here w (commands text sc h cs)) (2 * length (encodeCommands (p .rest))) t t′ st st′) (sym (u .same))
+              (did-as (cmdsSays here w (commands text sc h (T.andCommand (u .part) (u .more)))) _ (did-then (x .did) d) same-refl (λ k c. refl) (omega (arith, list-length y p))));
+        }
+
+  pub list-end : {s t : List ℕ} {at : ℕ} {st : State} → end ≤ at → ((y : ReadyList s₀ from end here st₀) → ListPart y s t at st) → GaveList text s₀ s from end here w t₀ t st₀ st
+  unfolding inCommands commands G.cmdsCode ofCmds G.cmdsLabels encodeCommands
+  list-end {s} {t} {at} {st} l q = record { by = λ y. let p = q y in record { keeps = p .keeps; did = p .finish t st (none (p .rest) y (p .ends)) } }
+    where
+      none : (cs : Commands) (y : ReadyList s₀ from end here st₀) → end ≡ at + length (encodeCommands cs) → Did (inCommands text (y .ready .scope) (leavableBy w here) (here .height) cs) (cmdsSays here w (commands text (y .ready .scope) (here .height) cs)) (2 * length (encodeCommands cs)) t t st st
+      none T.noCommands y e = did-none _
+      none (T.andCommand c cs) y e = absurd (omega (arith, length-append (encodeCommand c) (encodeCommands cs)))
+
+-- ---- what one declaration more says
+
+module _ (text : List ℕ) (sc : Scope) (h : ℕ) where
+  scope-with : (x : Local) (ls : T.Locals) → scopeAfter text sc h (withLocal x ls) ≡ scopeAfter text (scopeWith text sc h x) (heightWith text sc h x) ls
+  unfolding scopeAfter scopeWith heightWith
+  scope-with (aVector n c) ls = refl
+  scope-with (someValues ns es) ls = refl
+
+  height-with : (x : Local) (ls : T.Locals) → heightAfter text sc h (withLocal x ls) ≡ heightAfter text (scopeWith text sc h x) (heightWith text sc h x) ls
+  unfolding heightAfter scopeWith heightWith
+  height-with (aVector n c) ls = refl
+  height-with (someValues ns es) ls = refl
+
+faults-with : (text : List ℕ) (sc : Scope) (here : Here) (x : Local) (ls : T.Locals) → inLocals text sc (leavable here) (here .height) (withLocal x ls) ≡ faultsL text sc here x ++ inLocals text (scopeWith text sc (here .height) x) (leavable here) (heightWith text sc (here .height) x) ls
+unfolding inLocals faultsL scopeWith heightWith
+faults-with text sc here (aVector n c) ls = refl
+faults-with text sc here (someValues ns es) ls = refl
+
+module _ (strings : ℕ) where
+  values-code : (h n : ℕ) (es : R.Exprs) (ls : R.Locals) → G.localsCode strings h n (valuesBefore es ls) ≡ G.exprsCode strings h n es ++ G.localsCode strings (h + H.count es) (n + G.exprsLabels es) ls
+  unfolding G.localsCode G.exprsCode H.count G.exprsLabels
+  values-code h n R.none ls = let a : h ≡ h + 0 = omega arith in let b : n ≡ n + 0 = omega arith in ap (λ (k : ℕ). G.localsCode strings k n ls) a ∙ ap (λ (k : ℕ). G.localsCode strings (h + 0) k ls) b
+  values-code h n (R.and e es) ls =
+      let a : h + 1 + H.count es ≡ h + suc (H.count es) = omega arith in let b : n + G.exprLabels e + G.exprsLabels es ≡ n + (G.exprLabels e + G.exprsLabels es) = omega arith in
+      ap (λ (z : List I.Item). G.exprCode strings h n e ++ (G.SP h ∷ z)) (values-code (h + 1) (n + G.exprLabels e) es ls
+      ∙ ap (λ (k : ℕ). G.exprsCode strings (h + 1) (n + G.exprLabels e) es ++ G.localsCode strings k (n + G.exprLabels e + G.exprsLabels es) ls) a
+      ∙ ap (λ (k : ℕ). G.exprsCode strings (h + 1) (n + G.exprLabels e) es ++ G.localsCode strings (h + suc (H.count es)) k ls) b)
+      ∙ sym (append-assoc (G.exprCode strings h n e) (G.SP h ∷ G.exprsCode strings (h + 1) (n + G.exprLabels e) es) (G.localsCode strings (h + suc (H.count es)) (n + (G.exprLabels e + G.exprsLabels es)) ls))
+
+values-heights : (h : ℕ) (es : R.Exprs) (ls : R.Locals) → ofLocals h (valuesBefore es ls) ≡ ofExprs h es ++ ofLocals (h + H.count es) ls
+unfolding ofLocals ofExprs H.count
+values-heights h R.none ls = let a : h ≡ h + 0 = omega arith in ap (λ (k : ℕ). ofLocals k ls) a
+values-heights h (R.and e es) ls =
+    let a : h + 1 + H.count es ≡ h + suc (H.count es) = omega arith in
+    ap (λ (z : List ℕ). H.ofExpr h e ++ ((h + 1) ∷ z)) (values-heights (h + 1) es ls ∙ ap (λ (k : ℕ). ofExprs (h + 1) es ++ ofLocals k ls) a)
+    ∙ sym (append-assoc (H.ofExpr h e) ((h + 1) ∷ ofExprs (h + 1) es) (ofLocals (h + suc (H.count es)) ls))
+
+values-labels : (es : R.Exprs) (ls : R.Locals) → G.localsLabels (valuesBefore es ls) ≡ G.exprsLabels es + G.localsLabels ls
+unfolding G.localsLabels G.exprsLabels
+values-labels R.none ls = omega arith
+values-labels (R.and e es) ls = omega (arith, values-labels es ls)
+
+values-after : (h : ℕ) (es : R.Exprs) (ls : R.Locals) → H.heightWith h (valuesBefore es ls) ≡ H.heightWith (h + H.count es) ls
+unfolding H.heightWith H.count
+values-after h R.none ls = let a : h ≡ h + 0 = omega arith in ap (λ (k : ℕ). H.heightWith k ls) a
+values-after h (R.and e es) ls = let a : h + 1 + H.count es ≡ h + suc (H.count es) = omega arith in values-after (h + 1) es ls ∙ ap (λ (k : ℕ). H.heightWith k ls) a
+
+count-is : (text : List ℕ) (sc : Scope) (h : ℕ) (ns : List Name) (es : Expressions) → length ns ≡ T.count es → h + H.count (expressions text sc h es) ≡ h + length ns
+count-is text sc h ns es e = omega (arith, e, count-resolved text sc h es)
+
+-- the code of one and then of the others
+code-with : (text : List ℕ) (sc : Scope) (here : Here) (n : ℕ) (x : Local) (ls : T.Locals) → FineLocal x → let sc′ = scopeWith text sc (here .height) x in let h′ = heightWith text sc (here .height) x in let c = localSays text sc here x n in
+    _≡_ {A = Code} (record { items = c .items ++ G.localsCode (here .strings) h′ (n + c .labels) (locals text sc′ h′ ls); heights = c .heights ++ ofLocals h′ (locals text sc′ h′ ls); labels = c .labels + G.localsLabels (locals text sc′ h′ ls) })
+    (localsSays here (here .height) (locals text sc (here .height) (withLocal x ls)) n)
+unfolding locals localSays scopeWith heightWith FineLocal G.localsCode ofLocals G.localsLabels
+code-with text sc here n (aVector m c) ls f =
+    let h = here .height in let h′ = h + 2 + judgedWord (forVector text sc c) in let ls′ = locals text (declared sc m (N.local h)) h′ ls in let a : n + 0 ≡ n = omega arith in
+    code-is (ap (λ (k : ℕ). G.LP (h + 1) ∷ G.SP h ∷ G.localsCode (here .strings) h′ k ls′) a) refl (omega arith)
+code-with text sc here n (someValues ns es) ls f =
+    let h = here .height in let rs = expressions text sc h es in let ls′ = locals text (declareAll sc h ns) (h + length ns) ls in let k = count-is text sc h ns es (f .0) in
+    code-is
+    (ap (λ (m : ℕ). G.exprsCode (here .strings) h n rs ++ G.localsCode (here .strings) m (n + G.exprsLabels rs) ls′) (sym k) ∙ sym (values-code (here .strings) h n rs ls′))
+    (ap (λ (m : ℕ). ofExprs h rs ++ ofLocals m ls′) (sym k) ∙ sym (values-heights h rs ls′))
+    (sym (values-labels rs ls′))
+
+-- ---- one of the list
+
+pub record IsLocal (s : List ℕ) (at end : ℕ) (ls : T.Locals) : Type 0 where
+  pub part : Local
+  pub more : T.Locals
+  pub same : ls ≡ withLocal part more
+  pub size-of : getD s at 0 ≡ length (encodeLocal part)
+  pub lies : Lies s (at + 2) (encodeLocal part)
+  pub lies-more : Lies s (at + 2 + length (encodeLocal part)) (encodeLocals more)
+  pub ends : end ≡ at + 2 + length (encodeLocal part) + length (encodeLocals more)
+
+is-local-of : {s : List ℕ} {at end : ℕ} (x : Local) (ls : T.Locals) → Lies s at (length (encodeLocal x) ∷ 3 ∷ (encodeLocal x ++ encodeLocals ls)) → end ≡ at + length (length (encodeLocal x) ∷ 3 ∷ (encodeLocal x ++ encodeLocals ls)) → IsLocal s at end (withLocal x ls)
+is-local-of {s} {at} {end} x ls h e =
+    let a : at + 0 ≡ at = omega arith in
+    let r = second (length (encodeLocal x) ∷ 3 ∷ []) (encodeLocal x ++ encodeLocals ls) (at + 2) h refl in
+    record {
+      part = x;
+      more = ls;
+      same = refl;
+      size-of = ap (λ (k : ℕ). getD s k 0) (sym a) ∙ h .at 0 (omega arith);
+      lies = first (encodeLocal x) (encodeLocals ls) r;
+      lies-more = second (encodeLocal x) (encodeLocals ls) (at + 2 + length (encodeLocal x)) r refl;
+      ends = omega (arith, e, length-append (encodeLocal x) (encodeLocals ls));
+    }
+
+pub is-local : {s : List ℕ} {at end : ℕ} (ls : T.Locals) → Lies s at (encodeLocals ls) → end ≡ at + length (encodeLocals ls) → at < end → IsLocal s at end ls
+unfolding encodeLocals encodeLocal
+is-local T.noLocals h e l = absurd (omega arith)
+is-local (T.vector n c ls) h e l = is-local-of (aVector n c) ls h e
+is-local (T.values ns es ls) h e l = is-local-of (someValues ns es) ls h e
+
+no-local : {at end : ℕ} (ls : T.Locals) → end ≡ at + length (encodeLocals ls) → end ≤ at → ls ≡ T.noLocals
+unfolding encodeLocals
+no-local T.noLocals e l = refl
+no-local (T.vector n c ls) e l = absurd (omega arith)
+no-local (T.values ns es ls) e l = absurd (omega arith)
+
+local-deep : (x : Local) (ls : T.Locals) {k : ℕ} → localsDepth (withLocal x ls) ≤ k → (localDepth x ≤ k) × (localsDepth ls ≤ k)
+unfolding localsDepth localDepth
+local-deep (aVector n c) ls h = (omega arith, h)
+local-deep (someValues ns es) ls h = (omega arith, omega arith)
+
+local-fine : (x : Local) (ls : T.Locals) → FineLs (withLocal x ls) → FineLocal x × FineLs ls
+unfolding FineLocals FineLocal
+local-fine (aVector n c) ls f = f
+local-fine (someValues ns es) ls f = ((sym (f .2), f .0), f .1)
+
+-- ---- the loop over declarations: the scope and the height change on the way
+
+module _ (text t₀ : List ℕ) {s₀ : List ℕ} {from end : ℕ} {here : Here} {st₀ : State} where
+  pub record LocalsPart (y : ReadyLocals s₀ from end here st₀) (s t : List ℕ) (at : ℕ) (r : Placed) : Type 0 where
+    pub rest : T.Locals
+    pub scope : Scope
+    pub lies : Lies s₀ at (encodeLocals rest)
+    pub ends : end ≡ at + length (encodeLocals rest)
+    pub starts : from ≤ at
+    pub shows : Shows (y .ready .base) s (r .top) scope
+    pub keeps : Keeps (y .ready .base) (here .top) s₀ s
+    pub above : here .top ≤ r .top
+    pub room : r .top * 2 + length (encodeLocals rest) ≤ here .top * 2 + length (encodeLocals (y .ready .tree))
+    pub tall : r .height + 4100 * length (encodeLocals rest) ≤ here .height + 4100 * length (encodeLocals (y .ready .tree))
+    pub label : r .done .label + 2 * length (encodeLocals rest) ≤ st₀ .label + 2 * length (encodeLocals (y .ready .tree))
+    pub some : 0 < r .done .label
+    pub shallow : localsDepth rest ≤ here .left
+    pub fine : FineLs rest
+    pub scopes : scopeAfter text (y .ready .scope) (here .height) (y .ready .tree) ≡ scopeAfter text scope (r .height) rest
+    pub heights : heightAfter text (y .ready .scope) (here .height) (y .ready .tree) ≡ heightAfter text scope (r .height) rest
+    pub finish : (t′ : List ℕ) (st′ : State) → Did (inLocals text scope (leavable here) (r .height) rest) (localsSays here (r .height) (locals text scope (r .height) rest)) (2 * length (encodeLocals rest)) t t′ (r .done) st′
+        → Did (inLocals text (y .ready .scope) (leavable here) (here .height) (y .ready .tree)) (localsSays here (here .height) (locals text (y .ready .scope) (here .height) (y .ready .tree))) (2 * length (encodeLocals (y .ready .tree))) t₀ t′ st₀ st′
+
+  pub locals-begin : (y : ReadyLocals s₀ from end here st₀) → LocalsPart y s₀ t₀ from (record { top = here .top; height = here .height; done = st₀ })
+  locals-begin y = let z = y .ready in record {
+    rest = z .tree;
+    scope = z .scope;
+    lies = subst (λ (n : ℕ). Lies s₀ n (encodeLocals (z .tree))) (y .starts) (z .lies);
+    ends = omega (arith, z .ends, y .starts);
+    starts = omega arith;
+    shows = z .shows;
+    keeps = keeps-all;
+    above = omega arith;
+    room = omega arith;
+    tall = omega arith;
+    label = omega arith;
+    some = z .some;
+    shallow = z .shallow;
+    fine = z .fine;
+    scopes = refl;
+    heights = refl;
+    finish = λ t′ st′ d. d;
+  }
+
+  module _ {s t : List ℕ} {at size next : ℕ} {r : Placed} (l : at < end) (es : size ≡ getD s at 0) (en : next ≡ at + 2 + size) where
+    pub locals-size : (y : ReadyLocals s₀ from end here st₀) (p : LocalsPart y s t at r) → size ≡ length (encodeLocal (is-local (p .rest) (p .lies) (p .ends) l .part))
+    locals-size y p = let u = is-local (p .rest) (p .lies) (p .ends) l in es ∙ p .keeps .above at (omega (arith, y .ready .above, y .starts, p .starts)) ∙ u .size-of
+
+    pub locals-length : (y : ReadyLocals s₀ from end here st₀) (p : LocalsPart y s t at r) → let u = is-local (p .rest) (p .lies) (p .ends) l in length (encodeLocals (p .rest)) ≡ 2 + length (encodeLocal (u .part)) + length (encodeLocals (u .more))
+    locals-length y p = let u = is-local (p .rest) (p .lies) (p .ends) l in omega (arith, p .ends, u .ends)
+
+    pub locals-deep : (y : ReadyLocals s₀ from end here st₀) (p : LocalsPart y s t at r) → let u = is-local (p .rest) (p .lies) (p .ends) l in (localDepth (u .part) ≤ here .left) × (localsDepth (u .more) ≤ here .left)
+    locals-deep y p = let u = is-local (p .rest) (p .lies) (p .ends) l in local-deep (u .part) (u .more) (subst (λ (ls : T.Locals). localsDepth ls ≤ here .left) (u .same) (p .shallow))
+
+    pub locals-fine : (y : ReadyLocals s₀ from end here st₀) (p : LocalsPart y s t at r) → let u = is-local (p .rest) (p .lies) (p .ends) l in FineLocal (u .part) × FineLs (u .more)
+    locals-fine y p = let u = is-local (p .rest) (p .lies) (p .ends) l in local-fine (u .part) (u .more) (subst FineLs (u .same) (p .fine))
+
+    abbrev pub locals-part : (y : ReadyLocals s₀ from end here st₀) → LocalsPart y s t at r → ReadyLocal s next (placed (r .top) (r .height) here) (r .done)
+    locals-part y p = let z = y .ready in let u = is-local (p .rest) (p .lies) (p .ends) l in record {
+      base = z .base;
+      lo = at + 2;
+      tree = u .part;
+      scope = p .scope;
+      lies = keeps-lies (p .keeps) (omega (arith, z .above, y .starts, p .starts)) (u .lies);
+      ends = omega (arith, en, locals-size y p);
+      above = omega (arith, z .above, y .starts, p .starts);
+      long = omega (arith, z .long, p .keeps .long);
+      small = omega (arith, z .small, en, locals-size y p, u .ends);
+      shows = p .shows;
+      room = omega (arith, z .room, p .room, locals-length y p);
+      height = omega (arith, z .height, p .tall, locals-length y p);
+      label = omega (arith, z .label, p .label, locals-length y p);
+      some = p .some;
+      strings = z .strings;
+      shallow = locals-deep y p .0;
+      fine = locals-fine y p .0;
+    }
+
+    pub locals-next : {s₁ t₁ : List ℕ} {r′ : Placed} → GaveLocal text s s₁ next (placed (r .top) (r .height) here) t t₁ (r .done) r′ → (y : ReadyLocals s₀ from end here st₀) → LocalsPart y s t at r → LocalsPart y s₁ t₁ next r′
+    locals-next {s₁} {t₁} {r′} g y p =
+        let z = y .ready in let u = is-local (p .rest) (p .lies) (p .ends) l in let x = g .by (locals-part y p) in let sc = p .scope in let h = r .height in
+        let sc′ = scopeWith text sc h (u .part) in let h′ = heightWith text sc h (u .part) in let k = x .after in let now = placed (r .top) h here in
+        record {
+          rest = u .more;
+          scope = sc′;
+          lies = subst (λ (n : ℕ). Lies s₀ n (encodeLocals (u .more))) (omega (arith, en, locals-size y p)) (u .lies-more);
+          ends = omega (arith, u .ends, en, locals-size y p);
+          starts = omega (arith, p .starts, en);
+          shows = k .shows;
+          keeps = keeps-then (p .keeps) (keeps-lower (p .above) (k .keeps));
+          above = omega (arith, p .above, k .above);
+          room = omega (arith, p .room, k .room, locals-length y p);
+          tall = omega (arith, p .tall, k .tall, locals-length y p);
+          label = omega (arith, p .label, locals-length y p, x .did .few);
+          some = omega (arith, p .some, x .did .grows);
+          shallow = locals-deep y p .1;
+          fine = locals-fine y p .1;
+          scopes = p .scopes ∙ ap (scopeAfter text sc h) (u .same) ∙ scope-with text sc h (u .part) (u .more) ∙ ap (λ (n : ℕ). scopeAfter text sc′ n (u .more)) (sym (k .height));
+          heights = p .heights ∙ ap (heightAfter text sc h) (u .same) ∙ height-with text sc h (u .part) (u .more) ∙ ap (λ (n : ℕ). heightAfter text sc′ n (u .more)) (sym (k .height));
+          finish = λ t′ st′ d. p .finish t′ st′
+              (subst (λ (ls : T.Locals). Did (inLocals text sc (leavable here) h ls) (localsSays here h (locals text sc h ls)) (2 * length (encodeLocals (p .rest))) t t′ (r .done) st′) (sym (u .same))
+              (did-as (localsSays here h (locals text sc h (withLocal (u .part) (u .more)))) _
+              (did-then (x .did) (subst (λ (n : ℕ). Did (inLocals text sc′ (leavable here) n (u .more)) (localsSays here n (locals text sc′ n (u .more))) (2 * length (encodeLocals (u .more))) t₁ t′ (r′ .done) st′) (k .height) d))
+              (same-eq (sym (faults-with text sc now (u .part) (u .more)))) (λ m e. code-with text sc now m (u .part) (u .more) (locals-fine y p .0)) (omega (arith, locals-length y p))));
+        }
+
+  pub locals-end : {s t : List ℕ} {at : ℕ} {r : Placed} → end ≤ at → ((y : ReadyLocals s₀ from end here st₀) → LocalsPart y s t at r) → GaveLocals text s₀ s from end here t₀ t st₀ r
+  unfolding inLocals locals scopeAfter heightAfter G.localsCode ofLocals G.localsLabels encodeLocals
+  locals-end {s} {t} {at} {r} l q = record {
+    by = λ y. let p = q y in let e = no-local (p .rest) (p .ends) l in let z = y .ready in record {
+      after = record {
+        shows = subst (λ (sc : Scope). Shows (z .base) s (r .top) sc) (sym (p .scopes ∙ ap (scopeAfter text (p .scope) (r .height)) e)) (p .shows);
+        height = sym (p .heights ∙ ap (heightAfter text (p .scope) (r .height)) e);
+        keeps = p .keeps;
+        above = p .above;
+        room = omega (arith, p .room);
+        tall = omega (arith, p .tall);
+      };
+      did = p .finish t (r .done) (subst (λ (ls : T.Locals). Did (inLocals text (p .scope) (leavable here) (r .height) ls) (localsSays here (r .height) (locals text (p .scope) (r .height) ls)) (2 * length (encodeLocals ls)) t t (r .done) (r .done)) (sym e) (did-none _));
+    };
+  }
+
+-- ---- a block
+
+pub record IsBlock (s : List ℕ) (lo end : ℕ) (u : Unlabelled) : Type 0 where
+  pub declarations : T.Locals
+  pub list : Commands
+  pub same : u ≡ T.block declarations list
+  pub lies : Lies s lo (encodeLocals declarations)
+  pub lies-list : Lies s (lo + length (encodeLocals declarations)) (encodeCommands list)
+  pub value-of : getD s (end - 3) 0 ≡ length (encodeLocals declarations)
+  pub size-of : getD s (end - 4) 0 ≡ length (encodeLocals declarations) + length (encodeCommands list)
+  pub ends : end ≡ lo + length (encodeLocals declarations) + length (encodeCommands list) + 4
+
+is-block : {s : List ℕ} {lo end : ℕ} {u : Unlabelled} → Form s lo end 57 u → IsBlock s lo end u
+is-block {lo = lo} (F.aBlock {ls} {cs} h v z q) = record {
+  declarations = ls;
+  list = cs;
+  same = refl;
+  lies = first (encodeLocals ls) (encodeCommands cs) h;
+  lies-list = second (encodeLocals ls) (encodeCommands cs) (lo + length (encodeLocals ls)) h refl;
+  value-of = v;
+  size-of = z ∙ length-append (encodeLocals ls) (encodeCommands cs);
+  ends = omega (arith, q, length-append (encodeLocals ls) (encodeCommands cs));
+}
+
+-- locals anywhere
+any-locals : (text : List ℕ) (l m : Leavable) (q : l .routine ≡ m .routine) (sc : Scope) (h : ℕ) (ls : T.Locals) → inLocals text sc l h ls ≡ inLocals text sc m h ls
+unfolding inLocals
+any-locals text l m q sc h T.noLocals = refl
+any-locals text l m q sc h (T.vector n c ls) = ap (λ (z : List Fault). (faultsOf (forVector text sc c) ++ twice text sc h (n ∷ [])) ++ z) (any-locals text l m q (declared sc n (N.local h)) (h + 2 + judgedWord (forVector text sc c)) ls)
+any-locals text l m q sc h (T.values ns es ls) =
+    ap (λ (z : List Fault). (z ++ twice text sc h ns) ++ inLocals text (declareAll sc h ns) l (h + length ns) ls) (any-expressions text l m q sc h es)
+    ∙ ap (λ (z : List Fault). (inExpressions text sc m h es ++ twice text sc h ns) ++ z) (any-locals text l m q (declareAll sc h ns) (h + length ns) ls)
+
+-- both ways to count the height agree
+heights-agree : (text : List ℕ) (sc : Scope) (h : ℕ) (ls : T.Locals) → FineLs ls → H.heightWith h (locals text sc h ls) ≡ heightAfter text sc h ls
+unfolding locals heightAfter H.heightWith FineLocals
+heights-agree text sc h T.noLocals f = refl
+heights-agree text sc h (T.vector n c ls) f = heights-agree text (declared sc n (N.local h)) (h + 2 + judgedWord (forVector text sc c)) ls (f .1)
+heights-agree text sc h (T.values ns es ls) f =
+    let ls′ = locals text (declareAll sc h ns) (h + length ns) ls in
+    values-after h (expressions text sc h es) ls′ ∙ ap (λ (k : ℕ). H.heightWith k ls′) (count-is text sc h ns es (sym (f .2))) ∙ heights-agree text (declareAll sc h ns) (h + length ns) ls (f .1)
+
+module _ {s : List ℕ} {end : ℕ} {here : Here} {st : State} (n : Node) (nd : NodeAt s end n) (q : getD s (end - 1) 0 ≡ 57) {middle : ℕ} (m : middle ≡ n .start + n .value) where
+  pub block-is : (y : ReadyU s end here st) → IsBlock s (y .lo) end (y .tree)
+  block-is y = is-block (form-at n nd (nd .kind ∙ q) y)
+
+  pub block-fine : (y : ReadyU s end here st) → FineLs (block-is y .declarations) × FineCs (block-is y .list)
+  unfolding FineUnlabelled
+  block-fine y = subst FinePlain (block-is y .same) (y .fine) .0
+
+  pub block-deep : (y : ReadyU s end here st) → (localsDepth (block-is y .declarations) ≤ here .left) × (commandsDepth (block-is y .list) ≤ here .left)
+  unfolding unlabelledDepth
+  block-deep y = (omega (arith, y .shallow, ap unlabelledDepth (block-is y .same)), omega (arith, y .shallow, ap unlabelledDepth (block-is y .same)))
+
+  pub block-start : (y : ReadyU s end here st) → (n .start ≡ y .lo) × (middle ≡ y .lo + length (encodeLocals (block-is y .declarations)))
+  block-start y = let u = block-is y in (omega (arith, nd .start, u .size-of, u .ends), omega (arith, m, nd .start, nd .value, u .value-of, u .size-of, u .ends))
+
+  pub block-room : (y : ReadyU s end here st) → (here .top + 2 ≤ y .base) × (here .top + 2 ≤ length s)
+  block-room y = let u = block-is y in (omega (arith, y .room, y .ends, u .ends), omega (arith, y .room, y .ends, u .ends, y .long))
+
+  module _ {s₁ : List ℕ} (pu : Pushed s s₁ (here .top) 0 0) where
+    abbrev pub block-locals : ReadyU s end here st → ReadyLocals s₁ (n .start) middle (marked here) st
+    block-locals y = let u = block-is y in let k = pushed-keeps pu (block-room y .0) (y .long) in record {
+      ready = record {
+        base = y .base;
+        lo = y .lo;
+        tree = u .declarations;
+        scope = opened (y .scope);
+        lies = keeps-lies k (y .above) (u .lies);
+        ends = block-start y .1;
+        above = y .above;
+        long = omega (arith, y .long, k .long);
+        small = omega (arith, y .small, block-start y .1, u .ends);
+        shows = pushed-mark pu (block-room y .0) (y .long) (y .shows) refl;
+        room = omega (arith, y .room, y .ends, u .ends);
+        height = omega (arith, y .height, y .ends, u .ends);
+        label = omega (arith, y .label, y .ends, u .ends);
+        some = y .some;
+        strings = y .strings;
+        shallow = block-deep y .0;
+        fine = block-fine y .0;
+      };
+      starts = sym (block-start y .0);
+    }
+
+    module _ (text : List ℕ) {s₂ t t₁ : List ℕ} {a : Placed} (g : GaveLocals text s₁ s₂ (n .start) middle (marked here) t t₁ st a) where
+      pub block-keeps : (y : ReadyU s end here st) → Keeps (y .base) (here .top) s s₂
+      block-keeps y = keeps-then (pushed-keeps pu (block-room y .0) (y .long)) (keeps-lower (omega arith) (g .by (block-locals y) .after .keeps))
+
+      abbrev pub block-list : ReadyU s end here st → ReadyList s₂ middle (n .inner) (placed (a .top) (a .height) here) (a .done)
+      block-list y = let u = block-is y in let x = g .by (block-locals y) in let k = block-keeps y in record {
+        ready = record {
+          base = y .base;
+          lo = y .lo + length (encodeLocals (u .declarations));
+          tree = u .list;
+          scope = scopeAfter text (opened (y .scope)) (here .height) (u .declarations);
+          lies = keeps-lies k (omega (arith, y .above)) (u .lies-list);
+          ends = omega (arith, nd .inner, u .ends);
+          above = omega (arith, y .above);
+          long = omega (arith, y .long, k .long);
+          small = omega (arith, y .small, nd .inner);
+          shows = x .after .shows;
+          room = omega (arith, y .room, y .ends, u .ends, x .after .room);
+          height = omega (arith, y .height, y .ends, u .ends, x .after .tall);
+          label = omega (arith, y .label, y .ends, u .ends, x .did .few);
+          some = omega (arith, y .some, x .did .grows);
+          strings = y .strings;
+          shallow = block-deep y .1;
+          fine = block-fine y .1;
+        };
+        starts = sym (block-start y .1);
+      }
+
+      pub block-gave : (ways : Ways) {s₃ t₂ : List ℕ} {r : State} → GaveList text s₂ s₃ middle (n .inner) (placed (a .top) (a .height) here) ways t₁ t₂ (a .done) r → GaveU text s s₃ end here ways t t₂ st r
+      unfolding inUnlabelled unlabelled G.cmdCode ofCmd G.cmdLabels
+      block-gave ways {s₃} {t₂} {r} g₂ = record {
+        by = λ y.
+            let u = block-is y in let x = g .by (block-locals y) in let z = g₂ .by (block-list y) in let sc = opened (y .scope) in let h = here .height in let ls = u .declarations in
+            let LS = locals text sc h ls in let sc′ = scopeAfter text sc h ls in let h′ = heightAfter text sc h ls in let l = leavableBy ways here in
+            let eh : H.heightWith h LS ≡ h′ = heights-agree text sc h ls (block-fine y .0) in
+            subst (λ (v : Unlabelled). Result (inUnlabelled text (y .scope) l h v) (cmdSays here ways (unlabelled text (y .scope) h v)) (length (encodeUnlabelled (y .tree))) (y .base) here s s₃ t t₂ st r) (sym (u .same))
+            (record {
+              keeps = keeps-then (block-keeps y) (keeps-lower (omega (arith, x .after .above)) (z .keeps));
+              did = did-as (cmdSays here ways (R.block LS (commands text sc′ h′ (u .list)))) _
+                  (did-then (x .did) (subst (λ (k : ℕ). Did (inCommands text sc′ l k (u .list)) (λ m. record { items = G.cmdsCode (here .strings) k m (exits ways) (commands text sc′ k (u .list)); heights = ofCmds k (commands text sc′ k (u .list)); labels = G.cmdsLabels (commands text sc′ k (u .list)) }) (2 * length (encodeCommands (u .list))) t₁ t₂ (a .done) r) (x .after .height) (z .did)))
+                  (same-eq (ap (λ (f : List Fault). f ++ inCommands text sc′ l h′ (u .list)) (any-locals text (leavable here) l refl sc h ls)))
+                  (λ k e. code-is (ap (λ (v : ℕ). G.localsCode (here .strings) h k LS ++ G.cmdsCode (here .strings) v (k + G.localsLabels LS) (exits ways) (commands text sc′ h′ (u .list))) (sym eh)) (ap (λ (v : ℕ). ofLocals h LS ++ ofCmds v (commands text sc′ h′ (u .list))) (sym eh)) refl)
+                  (omega (arith, y .ends, u .ends));
+            });
+      }
+
+-- ---- another name of the same place
+
+pub locals-ready-at : {s : List ℕ} {from end : ℕ} {d d′ : Here} {st : State} → d′ ≡ d → ReadyLocals s from end d st → ReadyLocals s from end d′ st
+locals-ready-at {s} {from} {end} {st = st} e y = subst (λ (x : Here). ReadyLocals s from end x st) (sym e) y
+
+pub list-ready-at : {s : List ℕ} {from end : ℕ} {d d′ : Here} {st : State} → d′ ≡ d → ReadyList s from end d st → ReadyList s from end d′ st
+list-ready-at {s} {from} {end} {st = st} e y = subst (λ (x : Here). ReadyList s from end x st) (sym e) y
+
+pub local-gave-at : {text s s′ t t′ : List ℕ} {end : ℕ} {d d′ : Here} {st : State} {r : Placed} → d′ ≡ d → GaveLocal text s s′ end d′ t t′ st r → GaveLocal text s s′ end d t t′ st r
+local-gave-at {text} {s} {s′} {t} {t′} {end} {st = st} {r} e g = subst (λ (x : Here). GaveLocal text s s′ end x t t′ st r) e g
+
+pub locals-gave-at : {text s s′ t t′ : List ℕ} {from end : ℕ} {d d′ : Here} {st : State} {r : Placed} → d′ ≡ d → GaveLocals text s s′ from end d′ t t′ st r → GaveLocals text s s′ from end d t t′ st r
+locals-gave-at {text} {s} {s′} {t} {t′} {from} {end} {st = st} {r} e g = subst (λ (x : Here). GaveLocals text s s′ from end x t t′ st r) e g
+
+pub list-gave-at : {text s s′ t t′ : List ℕ} {from end : ℕ} {d d′ : Here} {w : Ways} {st r : State} → d′ ≡ d → GaveList text s s′ from end d′ w t t′ st r → GaveList text s s′ from end d w t t′ st r
+list-gave-at {text} {s} {s′} {t} {t′} {from} {end} {w = w} {st} {r} e g = subst (λ (x : Here). GaveList text s s′ from end x w t t′ st r) e g

@@ -1,0 +1,143 @@
+-- Names declared one after another.
+use Prim.Native.Nat.{ℕ, zero, suc, _+_, _*_, _-_, _≤_, _<_, _^_}
+use mathlib.Core.Path.{_≡_, refl, sym, ap, subst, _∙_}
+use mathlib.Core.List.{List, [], _∷_, _++_}
+use native.Mathlib.Omega.{arith}
+use lib.ListN.{length, getD, length-append}
+use Rattle.language.specs.Tree.{Name}
+use Rattle.language.specs.Names as N
+use Rattle.language.specs.Names.{Scope, declared, inBlock, onFound}
+use Rattle.language.specs.Constants.{Fault, fault}
+use Rattle.language.specs.Resolve.{declareAll}
+use Rattle.language.specs.Faults.{twice}
+use Rattle.tree.specs.Encoding.{encodeName, encodeNames}
+use Rattle.compiler.specs.Scope.{Shows, Keeps, Pushed, Told, code, found, named, nameAt}
+use Rattle.compiler.proofs.Scoping.{keeps-all, keeps-then, keeps-lower, keeps-shows, code-not, pushed-keeps, pushed-name}
+use Rattle.compiler.specs.declared.steps.State.{State}
+use Rattle.compiler.specs.Walked.{Code, Did, Faulted}
+use Rattle.compiler.specs.Walks.{Lies}
+use Rattle.compiler.specs.Commands.{nothing, ReadyNames, Declared, Declares, Again}
+use Rattle.compiler.proofs.Done.{did-none, did-then, did-as, same-refl, code-is}
+use Rattle.compiler.proofs.Trees.{first, second}
+
+pub again-not : {m place : ℕ} {st : State} → m ≡ 0 → Again m place st st
+unfolding found
+again-not {m} {place} {st} e = record { by = by }
+  where
+    by : (f : N.Found) → m ≡ found f → (t : List ℕ) → Did (onFound f [] (fault place 9)) nothing 0 t t st st
+    by N.unknown q t = did-none 0
+    by (N.known w) q t = absurd (code-not w (sym q ∙ e))
+
+pub again-so : {m place : ℕ} {st r : State} → (m ≡ 0 → ⊥) → Faulted place 9 st r → Again m place st r
+unfolding found
+again-so {m} {place} {st} {r} n f = record { by = by }
+  where
+    by : (g : N.Found) → m ≡ found g → (t : List ℕ) → Did (onFound g [] (fault place 9)) nothing 0 t t st r
+    by N.unknown q t = absurd (n q)
+    by (N.known w) q t = f .by nothing t
+
+-- ---- the loop
+
+module _ (text : List ℕ) {s₀ : List ℕ} {from end top height : ℕ} (st₀ : State) where
+  pub record NamesPart (y : ReadyNames s₀ from end top height) (s : List ℕ) (at k : ℕ) (st : State) : Type 0 where
+    pub rest : List Name
+    pub scope : Scope
+    pub lies : Lies s₀ at (encodeNames rest)
+    pub ends : end ≡ at + length (encodeNames rest)
+    pub starts : from ≤ at
+    pub shows : Shows (y .base) s (top + 2 * k) scope
+    pub keeps : Keeps (y .base) top s₀ s
+    pub many : k + length rest ≡ length (y .names)
+    pub same : declareAll (y .scope) height (y .names) ≡ declareAll scope (height + k) rest
+    pub finish : (t : List ℕ) (st′ : State) → Did (twice text scope (height + k) rest) nothing 0 t t st st′ → Did (twice text (y .scope) height (y .names)) nothing 0 t t st₀ st′
+
+  pub names-begin : (y : ReadyNames s₀ from end top height) → NamesPart y s₀ from 0 st₀
+  names-begin y =
+      let a : top ≡ top + 2 * 0 = omega arith in let b : height ≡ height + 0 = omega arith in
+      record {
+        rest = y .names;
+        scope = y .scope;
+        lies = y .lies;
+        ends = y .ends;
+        starts = omega arith;
+        shows = subst (λ (n : ℕ). Shows (y .base) s₀ n (y .scope)) a (y .shows);
+        keeps = keeps-all;
+        many = omega arith;
+        same = ap (λ (h : ℕ). declareAll (y .scope) h (y .names)) b;
+        finish = λ t st′ d. subst (λ (h : ℕ). Did (twice text (y .scope) h (y .names)) nothing 0 t t st₀ st′) (sym b) d;
+      }
+
+pub record IsNames (s : List ℕ) (at end : ℕ) (ns : List Name) : Type 0 where
+  pub name : Name
+  pub more : List Name
+  pub same : ns ≡ name ∷ more
+  pub is : nameAt s at ≡ name
+  pub lies-more : Lies s (at + 4) (encodeNames more)
+  pub ends : end ≡ at + 4 + length (encodeNames more)
+
+pub is-names : {s : List ℕ} {at end : ℕ} (ns : List Name) → Lies s at (encodeNames ns) → end ≡ at + length (encodeNames ns) → at < end → IsNames s at end ns
+unfolding encodeNames encodeName
+is-names [] h e l = absurd (omega arith)
+is-names {s} {at} (n ∷ ns) h e l = record {
+  name = n;
+  more = ns;
+  same = refl;
+  is = ap (λ (z : ℕ). named z (getD s (at + 1) 0)) (h .at 2 (omega arith)) ∙ ap (λ (z : ℕ). named (n .place) z) (h .at 1 (omega arith));
+  lies-more = second (0 ∷ n .width ∷ n .place ∷ 59 ∷ []) (encodeNames ns) (at + 4) h refl;
+  ends = omega arith;
+}
+
+no-names : {at end : ℕ} (ns : List Name) → end ≡ at + length (encodeNames ns) → end ≤ at → ns ≡ []
+unfolding encodeNames encodeName
+no-names [] e l = refl
+no-names (n ∷ ns) e l = absurd (omega arith)
+
+module _ (text : List ℕ) {s₀ : List ℕ} {from end top height : ℕ} {st₀ : State} where
+  pub names-next : {s s₁ : List ℕ} {at m place x : ℕ} (k : ℕ) {st r : State} → at < end → Told text s (top + 2 * k) at m → place ≡ getD s (at + 2) 0 → Again m place st r → Pushed s s₁ (top + 2 * k) at x → x ≡ (height + k) * 4 + 1
+      → (y : ReadyNames s₀ from end top height) → NamesPart text st₀ y s at k st → NamesPart text st₀ y s₁ (at + 4) (k + 1) r
+  unfolding declareAll twice code
+  names-next {s} {s₁} {at} {m} {place} {x} k {st} {r} l told ep ag pu ex y p =
+      let u = is-names (p .rest) (p .lies) (p .ends) l in
+      let n : nameAt s at ≡ u .name =
+      ap (λ (z : ℕ). named z (getD s (at + 1) 0)) (p .keeps .above (at + 2) (omega (arith, y .above, p .starts))) ∙ ap (λ (z : ℕ). named (getD s₀ (at + 2) 0) z) (p .keeps .above (at + 1) (omega (arith, y .above, p .starts))) ∙ u .is in
+      let c : k + 1 + length (u .more) ≡ length (y .names) = omega (arith, p .many, ap length (u .same)) in
+      let rm : top + 2 * k + 2 ≤ y .base = omega (arith, y .room, c) in
+      let lg : y .base ≤ length s = omega (arith, y .long, p .keeps .long) in
+      let w = N.local (height + k) in
+      let hk : height + (k + 1) ≡ height + k + 1 = omega arith in
+      let tk : top + 2 * k + 2 ≡ top + 2 * (k + 1) = omega arith in
+      let sc = p .scope in let sc′ = declared sc (u .name) w in
+      record {
+        rest = u .more;
+        scope = sc′;
+        lies = u .lies-more;
+        ends = u .ends;
+        starts = omega (arith, p .starts);
+        shows = subst (λ (z : ℕ). Shows (y .base) s₁ z sc′) tk (subst (λ (z : Name). Shows (y .base) s₁ (top + 2 * k + 2) (declared sc z w)) n (pushed-name pu rm lg w (p .shows) (omega (arith, y .above, p .starts)) ex));
+        keeps = keeps-then (p .keeps) (keeps-lower (omega arith) (pushed-keeps pu rm lg));
+        many = c;
+        same = p .same ∙ ap (declareAll sc (height + k)) (u .same) ∙ ap (λ (z : ℕ). declareAll sc′ z (u .more)) (sym hk);
+        finish = λ t st′ d. p .finish t st′
+            (subst (λ (ns : List Name). Did (twice text sc (height + k) ns) nothing 0 t t st st′) (sym (u .same))
+            (did-as nothing 0 (did-then
+            (subst (λ (z : ℕ). Did (onFound (inBlock text sc (u .name)) [] (fault z 9)) nothing 0 t t st r) (ep ∙ ap (λ (z : Name). z .place) n)
+            (ag .by (inBlock text sc (u .name)) (told .by (y .base) sc (p .shows) ∙ ap (λ (z : Name). found (inBlock text sc z)) n) t))
+            (subst (λ (z : ℕ). Did (twice text sc′ z (u .more)) nothing 0 t t r st′) hk d)) same-refl (λ v e. refl) (omega arith)));
+      }
+
+  pub names-end : {s : List ℕ} {at : ℕ} (k : ℕ) {st : State} → end ≤ at → ((y : ReadyNames s₀ from end top height) → NamesPart text st₀ y s at k st) → Declares text s₀ s from end top height st₀ st
+  unfolding declareAll twice encodeNames
+  names-end {s} {at} k {st} l q = record {
+    by = λ y. let p = q y in let e = no-names (p .rest) (p .ends) l in
+        let c : top + 2 * k ≡ top + 2 * length (y .names) = omega (arith, p .many, ap length e) in record {
+          shows = subst (λ (z : ℕ). Shows (y .base) s z (declareAll (y .scope) height (y .names))) c (subst (λ (z : Scope). Shows (y .base) s (top + 2 * k) z) (sym (p .same ∙ ap (declareAll (p .scope) (height + k)) e)) (p .shows));
+          keeps = p .keeps;
+          did = λ t. p .finish t st (subst (λ (ns : List Name). Did (twice text (p .scope) (height + k) ns) nothing 0 t t st st) (sym e) (did-none 0));
+        };
+  }
+
+  pub names-fit : {s : List ℕ} {at : ℕ} (k : ℕ) {st : State} → at < end → (y : ReadyNames s₀ from end top height) → NamesPart text st₀ y s at k st → (top + 2 * k + 2 ≤ length s) × (height + k < 2 ^ 29) × (at < 2 ^ 32) × (top + 2 * k + 2 ≤ y .base)
+  names-fit k l y p =
+      let u = is-names (p .rest) (p .lies) (p .ends) l in
+      let c : k + 1 + length (u .more) ≡ length (y .names) = omega (arith, p .many, ap length (u .same)) in
+      (omega (arith, y .room, c, y .long, p .keeps .long), omega (arith, y .heights, c), omega (arith, y .small), omega (arith, y .room, c))

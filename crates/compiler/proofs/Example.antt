@@ -1,0 +1,92 @@
+-- What `expr` asks can be had: the number 5 alone, with no names in scope. And what `table` and `doubled` ask: CASE 5 before an empty
+-- command, of which nothing is refused.
+use Prim.Native.Nat.{ℕ, zero, suc, _+_, _<_, _^_}
+use mathlib.Core.Path.{_≡_, refl, ap}
+use mathlib.Core.Bool.{false}
+use mathlib.Core.List.{List, [], _∷_}
+use native.Mathlib.Omega.{arith}
+use lib.ListN.{length, getD}
+use Rattle.language.specs.Tree as T
+use Rattle.language.proofs.Depth.{depth}
+use Rattle.language.specs.Names.{outermost}
+use Rattle.language.specs.Constants.{judge}
+use Rattle.language.specs.Resolved.{hasCase}
+use Rattle.language.specs.Resolve.{labelsOf}
+use Rattle.language.specs.Faults.{doubled}
+use Rattle.tree.specs.Encoding.{encode, encodeCommands, encodeCommand, encodeLabels, encodeConstant, encodePositive, encodeUnlabelled, encodeRepeats, labelled, repeated}
+use Rattle.compiler.specs.Scope.{Shows, nothing}
+use Rattle.compiler.specs.declared.steps.State.{State}
+use Rattle.compiler.specs.declared.steps.Here.{Here}
+use Rattle.compiler.specs.Fine.{FineE}
+use Rattle.language.specs.Fine.{Fine, FineCommands, FineCommand, FineLabels, FineUnlabelled, FineRepeats}
+use Rattle.compiler.specs.Walks.{Lies, ReadyE}
+use Rattle.compiler.specs.Switching.{labelFaults, ReadyLabels}
+
+abbrev scratch : List ℕ
+scratch = 0 ∷ 0 ∷ 0 ∷ 5 ∷ 0 ∷ 60 ∷ []
+
+abbrev place : Here
+place = record { top = 0; height = 2; left = 1; strings = 1; routine = false }
+
+abbrev start : State
+start = record { at = 0; label = 1; worst = 0; high = 2 }
+
+pub ready : ReadyE scratch 6 place start
+unfolding encode depth Fine
+ready = record {
+  base = 2;
+  lo = 2;
+  tree = T.number 0 5;
+  scope = outermost;
+  lies = record { at = by };
+  ends = refl;
+  above = omega arith;
+  long = omega arith;
+  small = omega arith;
+  shows = nothing refl;
+  room = omega arith;
+  height = omega arith;
+  label = omega arith;
+  some = omega arith;
+  strings = omega arith;
+  shallow = omega arith;
+  fine = omega arith;
+}
+  where
+    by : (i : ℕ) → i < 4 → getD scratch (2 + i) 0 ≡ getD (0 ∷ 5 ∷ 0 ∷ 60 ∷ []) i 0
+    by zero l = refl
+    by (suc zero) l = refl
+    by (suc (suc zero)) l = refl
+    by (suc (suc (suc zero))) l = refl
+    by (suc (suc (suc (suc i)))) l = absurd (omega arith)
+
+abbrev five : T.Constant
+five = record { place = 5; minus = false; simple = T.literal 5 }
+
+abbrev list : T.Commands
+list = T.andCommand (T.command (T.case 0 five ∷ []) T.empty T.noRepeats) T.noCommands
+
+list-long : length (encodeCommands list) < 2 ^ 32
+unfolding encodeCommands encodeCommand encodeLabels encodeConstant encodePositive encodeUnlabelled encodeRepeats labelled repeated
+list-long = omega arith
+
+pub ready-labels : ReadyLabels (encodeCommands list) 0 (length (encodeCommands list)) 0
+unfolding FineCommands FineCommand FineLabels FineUnlabelled FineRepeats
+ready-labels = record {
+  base = 0;
+  scope = outermost;
+  commands = list;
+  lies = record { at = λ i l. let e : 0 + i ≡ i = omega arith in ap (λ (k : ℕ). getD (encodeCommands list) k 0) e };
+  ends = omega arith;
+  above = omega arith;
+  small = list-long;
+  shows = nothing refl;
+  fine = (((record { small = λ v e. let z : 5 ≡ v = literal-is e in omega arith; place = λ n e q. let z : _≡_ {A = ℕ} 0 1 = cc in absurd (omega arith) }, tt), tt, tt, record { labels = λ e. omega arith; alone = λ e. refl }), tt);
+}
+  where
+    literal-is : {v : ℕ} → T.literal 5 ≡ T.literal v → 5 ≡ v
+    literal-is e = cc
+
+pub nothing-refused : labelFaults [] outermost [] list ≡ []
+unfolding labelFaults doubled judge labelsOf hasCase
+nothing-refused = refl

@@ -1,0 +1,307 @@
+-- What each form of expression needs of its parts, and gives.
+use Prim.Native.Nat.{ℕ, zero, suc, _+_, _*_, _-_, _≤_, _<_, _^_, max}
+use mathlib.Core.Path.{_≡_, refl, sym, ap, subst, _∙_}
+use mathlib.Core.Bool.{Bool, true, false}
+use mathlib.Core.List.{List, [], _∷_, _++_, append-nil, append-assoc}
+use native.Mathlib.Omega.{arith}
+use lib.ListN.{length, getD, length-append}
+use Rattle.items.specs.Item as I
+use Rattle.language.specs.Tree as T
+use Rattle.language.specs.Tree.{Name, Expression, Expressions, Suffixes, Operations}
+use Rattle.language.proofs.Depth.{depth, operationsDepth}
+use Rattle.language.specs.Names.{Scope, lookup, onFound}
+use Rattle.language.specs.Constants.{Fault, fault}
+use Rattle.language.specs.Resolved as R
+use Rattle.language.specs.Resolved.{Expr}
+use Rattle.language.specs.Resolve.{expression, operations, ofMeaning}
+use Rattle.language.specs.Heights.{ofExpr}
+use Rattle.code.specs.Generate as G
+use Rattle.code.specs.Generate.{exprCode, exprLabels}
+use Rattle.language.specs.Faults.{inExpression, inOperations}
+use Rattle.tree.specs.Encoding.{encode, encodeOperations}
+use Rattle.compiler.specs.Scope.{named, nameAt, found, Looked, Keeps}
+use Rattle.compiler.proofs.Scoping.{keeps-all, keeps-then}
+use Rattle.compiler.specs.declared.steps.State.{State}
+use Rattle.compiler.specs.declared.steps.Here.{Here}
+use Rattle.compiler.specs.declared.steps.Node.{Node}
+use Rattle.compiler.specs.Walked.{inside, raised, leavable, NodeAt, Code, Did, Emits, Means, exprSays}
+use Rattle.compiler.specs.Fine.{FineE, FineEs, FineSs, FineOs}
+use Rattle.language.specs.Fine.{Fine, FineOperations}
+use Rattle.compiler.specs.Walks.{Lies, Ready, Result, ReadyE, GaveE, faultsE, codeE, chainCode, chainHeights, chainLabels, chainSays, ReadyChain, GaveChain}
+use Rattle.compiler.proofs.Done.{emits-did, did-emit, did-put, did-after, did-none, did-then, did-as, same-refl, same-eq, code-is}
+use Rattle.compiler.proofs.Trees.{find, is-number, is-string, is-name, is-bracket, is-dyadic, first, second}
+use Rattle.compiler.proofs.Parts.{sub, Part}
+
+-- with more labels allowed
+more : {fs : List Fault} {f : ℕ → Code} {m : ℕ} (k : ℕ) {t t′ : List ℕ} {st r : State} → Did fs f m t t′ st r → m ≤ k → Did fs f k t t′ st r
+more {f = f} k d l = did-as f k d same-refl (λ n e. refl) l
+
+-- a result of another tree that is the same
+module _ (text : List ℕ) {s s′ t t′ : List ℕ} {st r : State} (here : Here) where
+  so : (sc : Scope) {e d : Expression} {n base : ℕ} → e ≡ d → Result (faultsE text here sc d) (codeE text here sc d) n base here s s′ t t′ st r → Result (faultsE text here sc e) (codeE text here sc e) n base here s s′ t t′ st r
+  so sc {n = n} {base} q x = subst (λ (e : Expression). Result (faultsE text here sc e) (codeE text here sc e) n base here s s′ t t′ st r) (sym q) x
+
+module _ (text : List ℕ) {s t t′ : List ℕ} {end : ℕ} {here : Here} {st r : State} (n : Node) (nd : NodeAt s end n) where
+  pub number-gave : n .kind ≡ 60 → Emits (G.L (n .value) ∷ []) [] t t′ st r → GaveE text s s end here t t′ st r
+  unfolding inExpression expression exprCode ofExpr exprLabels
+  number-gave q f = record {
+    by = λ y. let u = is-number (find n nd q y) in so text here (y .scope) (u .same)
+        (record { keeps = keeps-all; did = more _ (emits-did _ f (λ k. code-is (ap (λ (z : ℕ). G.L z ∷ []) (sym (nd .value ∙ u .value-of))) refl refl)) (omega arith) });
+  }
+
+  pub string-gave : {l : ℕ} → n .kind ≡ 61 → l ≡ here .strings + n .value → Emits (G.LL l ∷ []) [] t t′ st r → GaveE text s s end here t t′ st r
+  unfolding inExpression expression exprCode ofExpr exprLabels
+  string-gave {l} q e f = record {
+    by = λ y. let u = is-string (find n nd q y) in so text here (y .scope) (u .same)
+        (record { keeps = keeps-all; did = more _ (emits-did _ f (λ k. code-is (ap (λ (z : ℕ). G.LL z ∷ []) (sym (e ∙ ap (λ (z : ℕ). here .strings + z) (nd .value ∙ u .value-of)))) refl refl)) (omega arith) });
+  }
+
+  pub name-gave : {m : ℕ} → n .kind ≡ 59 → Looked text s (here .top) (n .inner) m → Means m (n .place) t t′ st r → GaveE text s s end here t t′ st r
+  unfolding inExpression expression
+  name-gave {m} q lk f = record {
+    by = λ y. let u = is-name (find n nd q y) in so text here (y .scope) (u .same)
+        (record {
+          keeps = keeps-all;
+          did = more _ (subst (λ (p : ℕ). Did (onFound (lookup text (y .scope) (u .name)) (fault p 8) []) (exprSays (here .strings) (here .height) (ofMeaning (lookup text (y .scope) (u .name)))) 0 t t′ st r) (nd .place ∙ u .place-of)
+              (f .by (here .strings) (here .height) (lookup text (y .scope) (u .name)) (lk .by (y .base) (y .scope) (y .shows) ∙ ap (λ (z : Name). found (lookup text (y .scope) z)) (leaf (u .name) (u .width-of) (u .place-of) (omega (arith, u .ends)))))) (omega arith);
+        });
+  }
+    where
+      leaf : (z : Name) → getD s (end - 3) 0 ≡ z .width → getD s (end - 2) 0 ≡ z .place → 4 ≤ end → nameAt s (n .inner) ≡ z
+      leaf z w p l =
+          let a : n .inner + 2 ≡ end - 2 = omega (arith, nd .inner) in
+          let b : n .inner + 1 ≡ end - 3 = omega (arith, nd .inner) in
+          ap (λ (k : ℕ). named k (getD s (n .inner + 1) 0)) (ap (λ (k : ℕ). getD s k 0) a ∙ p) ∙ ap (λ (k : ℕ). named (z .place) k) (ap (λ (k : ℕ). getD s k 0) b ∙ w)
+
+-- ---- brackets
+
+module _ {s : List ℕ} {end : ℕ} {here : Here} {st : State} (n : Node) (nd : NodeAt s end n) (q : n .kind ≡ 51) where
+  pub shallower : (y : ReadyE s end here st) {p : ℕ} {e : Expression} → y .tree ≡ T.bracketed p e → depth e + 1 ≤ here .left
+  unfolding depth
+  shallower y {p} {e} h = omega (arith, y .shallow, ap depth h)
+
+  pub bracket-fine : (y : ReadyE s end here st) {p : ℕ} {e : Expression} → y .tree ≡ T.bracketed p e → FineE e
+  unfolding Fine
+  bracket-fine y h = subst FineE h (y .fine)
+
+  abbrev pub bracket-part : ReadyE s end here st → ReadyE s (n .inner) (inside here) st
+  bracket-part y = let u = is-bracket (find n nd q y) in
+      sub encode depth FineE y keeps-all (n .inner) (y .lo) (inside here) st (u .part) (u .lies) (omega (arith, nd .inner, u .ends)) (omega arith) (omega (arith, nd .inner)) refl refl
+      (omega (arith, y .height, y .ends, u .ends)) (omega (arith, y .label, y .ends, u .ends)) (y .some) (omega (arith, shallower y (u .same))) (bracket-fine y (u .same))
+
+  pub bracket-gave : (text : List ℕ) {s′ t t′ : List ℕ} {r : State} → GaveE text s s′ (n .inner) (inside here) t t′ st r → GaveE text s s′ end here t t′ st r
+  unfolding inExpression expression
+  bracket-gave text g = record {
+    by = λ y. let u = is-bracket (find n nd q y) in let x = g .by (bracket-part y) in so text here (y .scope) (u .same)
+        (record { keeps = x .keeps; did = more _ (x .did) (omega (arith, y .ends, u .ends)) });
+  }
+
+-- ---- operators of one binding level
+
+module _ (text : List ℕ) (sc : Scope) (strings h : ℕ) where
+  chain-items : (e : Expr) (os : Operations) (n : ℕ) → exprCode strings h n (operations text sc h e os) ≡ exprCode strings h n e ++ chainCode text sc strings h os (n + exprLabels e)
+  unfolding operations chainCode exprCode exprLabels
+  chain-items e T.noOperations n = sym (append-nil (exprCode strings h n e))
+  chain-items e (T.operation o d os) n =
+      let D = expression text sc (h + 1) d in
+      let a = exprCode strings h n e in
+      let b = exprCode strings (h + 1) (n + exprLabels e) D in
+      let z = G.SP (h + 1) ∷ G.LIP h ∷ G.LIP (h + 1) ∷ G.X (G.dyadicAct o) ∷ [] in
+      let k : n + (exprLabels e + exprLabels D) ≡ n + exprLabels e + exprLabels D = omega arith in
+      chain-items (R.binary o e D) os n
+      ∙ append-assoc a (G.SP h ∷ (b ++ z)) (chainCode text sc strings h os (n + (exprLabels e + exprLabels D)))
+      ∙ ap (λ (l : List I.Item). a ++ (G.SP h ∷ l)) (append-assoc b z (chainCode text sc strings h os (n + (exprLabels e + exprLabels D))))
+      ∙ ap (λ (m : ℕ). a ++ (G.SP h ∷ (b ++ (G.SP (h + 1) ∷ G.LIP h ∷ G.LIP (h + 1) ∷ G.X (G.dyadicAct o) ∷ chainCode text sc strings h os m)))) k
+
+  pub chain-heights : (e : Expr) (os : Operations) → ofExpr h (operations text sc h e os) ≡ ofExpr h e ++ chainHeights text sc h os
+  unfolding operations chainHeights ofExpr
+  chain-heights e T.noOperations = sym (append-nil (ofExpr h e))
+  chain-heights e (T.operation o d os) =
+      let D = expression text sc (h + 1) d in
+      chain-heights (R.binary o e D) os ∙ append-assoc (ofExpr h e) ((h + 1) ∷ ofExpr (h + 1) D) (chainHeights text sc h os)
+
+  chain-labels : (e : Expr) (os : Operations) → exprLabels (operations text sc h e os) ≡ exprLabels e + chainLabels text sc h os
+  unfolding operations chainLabels exprLabels
+  chain-labels e T.noOperations = omega arith
+  chain-labels e (T.operation o d os) = chain-labels (R.binary o e (expression text sc (h + 1) d)) os ∙ omega arith
+
+-- another name of the same place
+pub ready-at : {A : Type 0} {enc : A → List ℕ} {deep : A → ℕ} {Fine : A → Type 0} {s : List ℕ} {end : ℕ} {d d′ : Here} {st : State} → d′ ≡ d → Ready enc deep Fine s end d st → Ready enc deep Fine s end d′ st
+ready-at {enc = enc} {deep} {Fine} {s} {end} {st = st} e y = subst (λ (x : Here). Ready enc deep Fine s end x st) (sym e) y
+
+pub gave-at : (text : List ℕ) {s s′ t t′ : List ℕ} {end : ℕ} {d d′ : Here} {st r : State} → d′ ≡ d → GaveE text s s′ end d′ t t′ st r → GaveE text s s′ end d t t′ st r
+gave-at text {s} {s′} {t} {t′} {end} {st = st} {r} e g = subst (λ (x : Here). GaveE text s s′ end x t t′ st r) e g
+
+module _ {s : List ℕ} {end : ℕ} {here : Here} {st : State} (n : Node) (nd : NodeAt s end n) (q : n .kind ≡ 131) {middle : ℕ} (m : middle ≡ n .start + n .value) where
+  pub deep-left : (y : ReadyE s end here st) {e : Expression} {os : Operations} → y .tree ≡ T.dyadic e os → (depth e + 1 ≤ here .left) × (operationsDepth os + 1 ≤ here .left)
+  unfolding depth
+  deep-left y {e} {os} h = (omega (arith, y .shallow, ap depth h), omega (arith, y .shallow, ap depth h))
+
+  pub dyadic-fine : (y : ReadyE s end here st) {e : Expression} {os : Operations} → y .tree ≡ T.dyadic e os → FineE e × FineOs os
+  unfolding Fine
+  dyadic-fine y h = let f = subst FineE h (y .fine) in (f .0, f .1)
+
+  pub middle-is : (y : ReadyE s end here st) → middle ≡ y .lo + length (encode (is-dyadic (find n nd q y) .left))
+  middle-is y = let u = is-dyadic (find n nd q y) in omega (arith, nd .start, nd .value, u .value-of, u .size-of, u .ends)
+
+  abbrev pub dyadic-left : ReadyE s end here st → ReadyE s middle (inside here) st
+  dyadic-left y = let u = is-dyadic (find n nd q y) in
+      sub encode depth FineE y keeps-all middle (y .lo) (inside here) st (u .left) (u .lies) (middle-is y) (omega arith) (omega (arith, middle-is y, u .ends)) refl refl
+      (omega (arith, y .height, y .ends, u .ends)) (omega (arith, y .label, y .ends, u .ends)) (y .some) (omega (arith, deep-left y (u .same) .0)) (dyadic-fine y (u .same) .0)
+
+  module _ (text : List ℕ) {s₁ t t₁ : List ℕ} {a : State} (g : GaveE text s s₁ middle (inside here) t t₁ st a) where
+    abbrev pub dyadic-rest : ReadyE s end here st → ReadyChain s₁ middle (n .inner) (inside here) a
+    dyadic-rest y = let u = is-dyadic (find n nd q y) in let x = g .by (dyadic-left y) in record {
+      ready = sub encodeOperations operationsDepth FineOs y (x .keeps) (n .inner) (y .lo + length (encode (u .left))) (inside here) a (u .list) (u .lies-list) (omega (arith, nd .inner, u .ends)) (omega arith) (omega (arith, nd .inner)) refl refl
+          (omega (arith, y .height, y .ends, u .ends)) (omega (arith, y .label, y .ends, u .ends, x .did .few)) (omega (arith, y .some, x .did .grows)) (omega (arith, deep-left y (u .same) .1)) (dyadic-fine y (u .same) .1);
+      starts = sym (middle-is y);
+    }
+
+    pub dyadic-gave : {s₂ t₂ : List ℕ} {b : State} → GaveChain text s₁ s₂ middle (n .inner) (inside here) t₁ t₂ a b → GaveE text s s₂ end here t t₂ st b
+    unfolding inExpression expression
+    dyadic-gave g₂ = record {
+      by = λ y.
+          let u = is-dyadic (find n nd q y) in let x = g .by (dyadic-left y) in let z = g₂ .by (dyadic-rest y) in let sc = y .scope in let h = here .height in let e = expression text sc h (u .left) in
+          so text here sc (u .same) (record {
+            keeps = keeps-then (x .keeps) (z .keeps);
+            did = did-as (exprSays (here .strings) h (operations text sc h e (u .list))) _ (did-then (x .did) (z .did)) same-refl
+                (λ k c. code-is (sym (chain-items text sc (here .strings) h e (u .list) k)) (sym (chain-heights text sc (here .strings) h e (u .list))) (sym (chain-labels text sc (here .strings) h e (u .list))))
+                (omega (arith, y .ends, u .ends));
+          });
+    }
+
+-- ---- the loop over the operations
+
+pub record IsOperation (s : List ℕ) (at end : ℕ) (os : Operations) : Type 0 where
+  pub operator : ℕ
+  pub operand : Expression
+  pub more : Operations
+  pub same : os ≡ T.operation operator operand more
+  pub size-of : getD s at 0 ≡ length (encode operand)
+  pub operator-of : getD s (at + 1) 0 ≡ operator
+  pub lies : Lies s (at + 2) (encode operand)
+  pub lies-more : Lies s (at + 2 + length (encode operand)) (encodeOperations more)
+  pub ends : end ≡ at + 2 + length (encode operand) + length (encodeOperations more)
+
+pub is-operation : {s : List ℕ} {at end : ℕ} (os : Operations) → Lies s at (encodeOperations os) → end ≡ at + length (encodeOperations os) → at < end → IsOperation s at end os
+unfolding encodeOperations
+is-operation T.noOperations h e l = absurd (omega arith)
+is-operation {s} {at} {end} (T.operation o d os) h e l =
+    let two = length (encode d) ∷ o ∷ [] in
+    let a : at + 0 ≡ at = omega arith in
+    let r = second two (encode d ++ encodeOperations os) (at + 2) h refl in
+    record {
+      operator = o;
+      operand = d;
+      more = os;
+      same = refl;
+      size-of = ap (λ (k : ℕ). getD s k 0) (sym a) ∙ h .at 0 (omega arith);
+      operator-of = h .at 1 (omega arith);
+      lies = first (encode d) (encodeOperations os) r;
+      lies-more = second (encode d) (encodeOperations os) (at + 2 + length (encode d)) r refl;
+      ends = omega (arith, e, length-append (encode d) (encodeOperations os));
+    }
+
+module _ (text t₀ : List ℕ) {s₀ : List ℕ} {from end : ℕ} {here : Here} {st₀ : State} where
+  abbrev pub ChainPart : ReadyChain s₀ from end here st₀ → (s t : List ℕ) (at : ℕ) (st : State) → Type 0
+  ChainPart y s t at st = let z = y .ready in
+      Part encodeOperations operationsDepth FineOs (λ h os. inOperations text (z .scope) (leavable here) (here .height) os) (λ h os. chainSays text here (z .scope) os) (z .tree)
+      from end (z .base) (here .top) (here .left) (here .height) (here .height) s₀ s t₀ t st₀ st at
+
+  pub chain-begin : (y : ReadyChain s₀ from end here st₀) → ChainPart y s₀ t₀ from st₀
+  chain-begin y = let z = y .ready in record {
+    rest = z .tree;
+    lies = subst (λ (n : ℕ). Lies s₀ n (encodeOperations (z .tree))) (y .starts) (z .lies);
+    ends = omega (arith, z .ends, y .starts);
+    starts = omega arith;
+    keeps = keeps-all;
+    label = omega arith;
+    some = z .some;
+    shallow = z .shallow;
+    fine = z .fine;
+    height = omega arith;
+    finish = λ t′ st′ d. d;
+  }
+
+  module _ {s t : List ℕ} {at size next o : ℕ} {st : State} (l : at < end) (es : size ≡ getD s at 0) (eo : o ≡ getD s (at + 1) 0) (en : next ≡ at + 2 + size) where
+    pub chain-size : (y : ReadyChain s₀ from end here st₀) (p : ChainPart y s t at st) → size ≡ length (encode (is-operation (p .rest) (p .lies) (p .ends) l .operand))
+    chain-size y p = let u = is-operation (p .rest) (p .lies) (p .ends) l in es ∙ p .keeps .above at (omega (arith, y .ready .above, y .starts, p .starts)) ∙ u .size-of
+
+    pub chain-operator : (y : ReadyChain s₀ from end here st₀) (p : ChainPart y s t at st) → o ≡ is-operation (p .rest) (p .lies) (p .ends) l .operator
+    chain-operator y p = let u = is-operation (p .rest) (p .lies) (p .ends) l in eo ∙ p .keeps .above (at + 1) (omega (arith, y .ready .above, y .starts, p .starts)) ∙ u .operator-of
+
+    pub chain-length : (y : ReadyChain s₀ from end here st₀) (p : ChainPart y s t at st) → let u = is-operation (p .rest) (p .lies) (p .ends) l in length (encodeOperations (p .rest)) ≡ 2 + length (encode (u .operand)) + length (encodeOperations (u .more))
+    chain-length y p = let u = is-operation (p .rest) (p .lies) (p .ends) l in omega (arith, p .ends, u .ends)
+
+    pub chain-deep : (y : ReadyChain s₀ from end here st₀) (p : ChainPart y s t at st) → let u = is-operation (p .rest) (p .lies) (p .ends) l in (depth (u .operand) ≤ here .left) × (operationsDepth (u .more) ≤ here .left)
+    unfolding operationsDepth
+    chain-deep y p = let u = is-operation (p .rest) (p .lies) (p .ends) l in (omega (arith, p .shallow, ap operationsDepth (u .same)), omega (arith, p .shallow, ap operationsDepth (u .same)))
+
+    pub chain-fine : (y : ReadyChain s₀ from end here st₀) (p : ChainPart y s t at st) → let u = is-operation (p .rest) (p .lies) (p .ends) l in FineE (u .operand) × FineOs (u .more)
+    unfolding Fine FineOperations
+    chain-fine y p = subst FineOs (is-operation (p .rest) (p .lies) (p .ends) l .same) (p .fine)
+
+    abbrev pub chain-part : {a : State} → a .label ≡ st .label → (y : ReadyChain s₀ from end here st₀) → ChainPart y s t at st → ReadyE s next (raised 1 here) a
+    chain-part {a} ea y p = let z = y .ready in let u = is-operation (p .rest) (p .lies) (p .ends) l in
+        sub encode depth FineE z (p .keeps) next (at + 2) (raised 1 here) a (u .operand) (u .lies) (omega (arith, en, chain-size y p)) (omega (arith, y .starts, p .starts)) (omega (arith, en, chain-size y p, u .ends)) refl refl
+        (omega (arith, z .height, p .height, chain-length y p)) (omega (arith, z .label, p .label, chain-length y p)) (omega (arith, p .some)) (chain-deep y p .0) (chain-fine y p .0)
+
+    pub chain-next : {act : ℕ} {s₁ t₁ t₂ t₃ : List ℕ} {a b r : State} → act ≡ G.dyadicAct o → Emits (G.SP (here .height) ∷ []) ((here .height + 1) ∷ []) t t₁ st a
+        → GaveE text s s₁ next (raised 1 here) t₁ t₂ a b → Emits (G.SP (here .height + 1) ∷ G.LIP (here .height) ∷ G.LIP (here .height + 1) ∷ G.X act ∷ []) [] t₂ t₃ b r
+        → (y : ReadyChain s₀ from end here st₀) → ChainPart y s t at st → ChainPart y s₁ t₃ next r
+    unfolding inOperations chainCode chainHeights chainLabels
+    chain-next {act} {s₁} {t₁} {t₂} {t₃} {a} {b} {r} ea e g f y p =
+        let z = y .ready in let u = is-operation (p .rest) (p .lies) (p .ends) l in let x = g .by (chain-part (e .label) y p) in let sc = z .scope in let h = here .height in
+        let D = expression text sc (h + 1) (u .operand) in
+        let op : act ≡ G.dyadicAct (u .operator) = ea ∙ ap G.dyadicAct (chain-operator y p) in
+        record {
+          rest = u .more;
+          lies = subst (λ (n : ℕ). Lies s₀ n (encodeOperations (u .more))) (omega (arith, en, chain-size y p)) (u .lies-more);
+          ends = omega (arith, u .ends, en, chain-size y p);
+          starts = omega (arith, p .starts, en);
+          keeps = keeps-then (p .keeps) (x .keeps);
+          label = omega (arith, p .label, chain-length y p, x .did .few, e .label, f .label);
+          some = omega (arith, p .some, x .did .grows, e .label, f .label);
+          shallow = chain-deep y p .1;
+          fine = chain-fine y p .1;
+          height = omega (arith, p .height, chain-length y p);
+          finish = λ t′ st′ d. p .finish t′ st′
+              (subst (λ (os : Operations). Did (inOperations text sc (leavable here) h os) (chainSays text here sc os) (2 * length (encodeOperations (p .rest))) t t′ st st′) (sym (u .same))
+              (did-as (chainSays text here sc (T.operation (u .operator) (u .operand) (u .more))) _ (did-after e (did-then (did-put (x .did) f) d)) same-refl
+              (λ k c. code-is
+              (ap (λ (l : List I.Item). G.SP h ∷ l) (append-assoc (exprCode (here .strings) (h + 1) k D) (G.SP (h + 1) ∷ G.LIP h ∷ G.LIP (h + 1) ∷ G.X act ∷ []) (chainCode text sc (here .strings) h (u .more) (k + exprLabels D))
+              ∙ ap (λ (v : ℕ). exprCode (here .strings) (h + 1) k D ++ (G.SP (h + 1) ∷ G.LIP h ∷ G.LIP (h + 1) ∷ G.X v ∷ chainCode text sc (here .strings) h (u .more) (k + exprLabels D))) op))
+              refl refl)
+              (omega (arith, chain-length y p))));
+        }
+
+  pub chain-end : {s t : List ℕ} {at : ℕ} {st : State} → end ≤ at → ((y : ReadyChain s₀ from end here st₀) → ChainPart y s t at st) → GaveChain text s₀ s from end here t₀ t st₀ st
+  unfolding inOperations chainCode chainHeights chainLabels encodeOperations
+  chain-end {s} {t} {at} {st} l q = record { by = λ y. let p = q y in record { keeps = p .keeps; did = p .finish t st (none (p .rest) y (p .ends)) } }
+    where
+      none : (os : Operations) (y : ReadyChain s₀ from end here st₀) → end ≡ at + length (encodeOperations os) → Did (inOperations text (y .ready .scope) (leavable here) (here .height) os) (chainSays text here (y .ready .scope) os) (2 * length (encodeOperations os)) t t st st
+      none T.noOperations y e = did-none _
+      none (T.operation o d os) y e = absurd (omega (arith, length-append (encode d) (encodeOperations os)))
+
+pub chain-ready-at : {s : List ℕ} {from end : ℕ} {d d′ : Here} {st : State} → d′ ≡ d → ReadyChain s from end d st → ReadyChain s from end d′ st
+chain-ready-at {s} {from} {end} {st = st} e y = subst (λ (x : Here). ReadyChain s from end x st) (sym e) y
+
+pub chain-gave-at : {text s s′ t t′ : List ℕ} {from end : ℕ} {d d′ : Here} {st r : State} → d′ ≡ d → GaveChain text s s′ from end d′ t t′ st r → GaveChain text s s′ from end d t t′ st r
+chain-gave-at {text} {s} {s′} {t} {t′} {from} {end} {st = st} {r} e g = subst (λ (x : Here). GaveChain text s s′ from end x t t′ st r) e g
+
+pub left-at : {d d′ : Here} → d′ ≡ d → d′ .left ≡ d .left
+left-at e = ap (λ (x : Here). x .left) e
+
+pub some-left : {s : List ℕ} {end : ℕ} {here : Here} {st : State} → ReadyE s end here st → 1 ≤ here .left
+unfolding depth
+some-left y = omega (arith, y .shallow, one (y .tree))
+  where
+    one : (e : Expression) → 1 ≤ depth e
+    one (T.number p v) = omega arith
+    one (T.string p v) = omega arith
+    one (T.name n) = omega arith
+    one (T.bracketed p e) = omega arith
+    one (T.valof p c) = omega arith
+    one (T.monadic p o e) = omega arith
+    one (T.suffixed e ss) = omega arith
+    one (T.dyadic e os) = omega arith

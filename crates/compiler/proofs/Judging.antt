@@ -1,0 +1,373 @@
+-- Constants, and one declaration of locals.
+use Prim.Native.Nat.{ℕ, zero, suc, _+_, _*_, _-_, _≤_, _<_, _/_, _%_, _^_}
+use mathlib.Core.Path.{_≡_, refl, sym, ap, subst, _∙_}
+use mathlib.Core.Bool.{Bool, true, false, cond}
+use mathlib.Core.List.{List, [], _∷_, _++_, append-nil, append-assoc}
+use native.Mathlib.Omega.{arith}
+use lib.ListN.{length, getD, length-append}
+use lib.Dec.{leb}
+use borrow.Author.Tests.{le-leb, lt-leb}
+use Rattle.words.specs.Words.{word}
+use Rattle.items.specs.Item as I
+use Rattle.language.specs.Tree as T
+use Rattle.language.specs.Tree.{Name, Simple, Constant, Expressions}
+use Rattle.language.proofs.Depth.{expressionsDepth}
+use Rattle.language.specs.Names as N
+use Rattle.language.specs.Names.{Scope, lookup, declared}
+use Rattle.language.specs.Constants.{Fault, fault, Judged, good, refused, judge, forVector, judgedWord, faultsOf, signed, ofFound, ofSimple, within}
+use Rattle.language.specs.Resolve.{expressions, declareAll}
+use Rattle.language.specs.Heights.{ofExprs}
+use Rattle.code.specs.Generate as G
+use Rattle.language.specs.Faults.{inExpressions, twice}
+use Rattle.tree.specs.Encoding.{closed, encodeName, encodeNames, encodeConstant, encodePositive, encodeNegative, encodeExpressions}
+use Rattle.compiler.specs.Scope.{Shows, Keeps, Looked, code, found, named, nameAt}
+use Rattle.compiler.proofs.Scoping.{keeps-all, keeps-then, keeps-shows, code-not}
+use Rattle.compiler.specs.declared.steps.State.{State}
+use Rattle.compiler.specs.declared.steps.Here.{Here}
+use Rattle.compiler.specs.declared.steps.Node.{Node}
+use Rattle.compiler.specs.declared.steps.Placed.{Placed}
+use Rattle.compiler.specs.declared.steps.Verdict.{Verdict}
+use Rattle.compiler.specs.Fine.{FineEs}
+use Rattle.language.specs.Fine.{FineConstant}
+use Rattle.compiler.specs.Walked.{leavable, NodeAt, Code, Did, Emits, Faulted}
+use Rattle.compiler.specs.Walks.{Lies, Ready, ReadyArgs, GaveArgs}
+use Rattle.compiler.specs.Commands.{nothing, ReadyNames, Declared, Declares}
+use Rattle.compiler.specs.Locals.{Says, fit, unfit, NamedConstant, Judges, JudgesMost, Blames, Local, aVector, someValues, encodeLocal, localDepth, FineLocal, scopeWith, heightWith, faultsL, localSays, ReadyLocal, After, LocalDone, GaveLocal}
+use Rattle.compiler.proofs.Done.{did-none, did-then, did-emit, did-as, same-refl, same-eq, code-is}
+use Rattle.compiler.proofs.Trees.{first, second, keeps-lies, kid, ends, value-is, place-is, size-is, kind-is}
+use Rattle.compiler.proofs.Parts.{sub}
+
+pub signed-minus : {b : Bool} {x : ℕ} (v : ℕ) → b ≡ true → x ≡ 65536 - v → x % 65536 ≡ signed b v
+signed-minus {b} {x} v e q = let z : x % 65536 ≡ (0 + (65536 - v)) % 65536 = ap (λ (k : ℕ). k % 65536) (omega arith) in rw e z
+
+-- ---- what a name means, as a constant
+
+signed-low : (b : Bool) (v : ℕ) → v < 2 ^ 30 → signed b v < 2 ^ 30
+signed-low true v l = omega arith
+signed-low false v l = l
+
+module _ {m : ℕ} (minus : Bool) {name place : ℕ} (fits : (name < 2 ^ 32) × (place < 2 ^ 32) × (m < 2 ^ 32)) where
+  pub named-unknown : m ≡ 0 → NamedConstant m minus name place (record { word = 0; number = 8; place = name })
+  unfolding found
+  named-unknown e = record { by = by; fits = (fits .0, omega arith); low = omega arith }
+    where
+      r : Verdict
+      r = record { word = 0; number = 8; place = name }
+
+      by : (c : Constant) (n : Name) (f : N.Found) → m ≡ found f → c .minus ≡ minus → c .place ≡ place → n .place ≡ name → Says (record { word = 0; number = 8; place = name }) (ofFound c n f)
+      by c n N.unknown q em ep en = subst (λ (k : ℕ). Says (record { word = 0; number = 8; place = name }) (refused (fault k 8))) (sym en) (unfit refl (λ z. omega arith) refl)
+      by c n (N.known w) q em ep en = absurd (code-not w (sym q ∙ e))
+
+  pub named-manifest : {x : ℕ} → m % 4 ≡ 3 → x ≡ signed minus (m / 4) → NamedConstant m minus name place (record { word = x; number = 0; place = 0 })
+  unfolding found code
+  named-manifest {x} e ex = record { by = by; fits = (omega arith, omega arith); low = omega (arith, signed-low minus (m / 4) (omega (arith, fits .2))) }
+    where
+      by : (c : Constant) (n : Name) (f : N.Found) → m ≡ found f → c .minus ≡ minus → c .place ≡ place → n .place ≡ name → Says (record { word = x; number = 0; place = 0 }) (ofFound c n f)
+      by c n N.unknown q em ep en = absurd (omega arith)
+      by c n (N.known (N.local k)) q em ep en = absurd (omega arith)
+      by c n (N.known (N.global k)) q em ep en = absurd (omega arith)
+      by c n (N.known (N.manifest v)) q em ep en =
+          let z : m / 4 ≡ v = omega arith in
+          let w : x ≡ signed (c .minus) v = ex ∙ ap (signed minus) z ∙ ap (λ (b : Bool). signed b v) (sym em) in
+          subst (λ (k : ℕ). Says (record { word = x; number = 0; place = 0 }) (good k)) w (fit refl)
+      by c n (N.known (N.function k)) q em ep en = absurd (omega arith)
+
+  pub named-other : (m ≡ 0 → ⊥) → (m % 4 ≡ 3 → ⊥) → NamedConstant m minus name place (record { word = 0; number = 11; place = place })
+  unfolding found code
+  named-other n0 n3 = record { by = by; fits = (fits .1, omega arith); low = omega arith }
+    where
+      eleven : (c : Constant) → c .place ≡ place → Says (record { word = 0; number = 11; place = place }) (refused (fault (c .place) 11))
+      eleven c ep = subst (λ (k : ℕ). Says (record { word = 0; number = 11; place = place }) (refused (fault k 11))) (sym ep) (unfit refl (λ z. omega arith) refl)
+
+      by : (c : Constant) (n : Name) (f : N.Found) → m ≡ found f → c .minus ≡ minus → c .place ≡ place → n .place ≡ name → Says (record { word = 0; number = 11; place = place }) (ofFound c n f)
+      by c n N.unknown q em ep en = absurd (n0 q)
+      by c n (N.known (N.local k)) q em ep en = eleven c ep
+      by c n (N.known (N.global k)) q em ep en = eleven c ep
+      by c n (N.known (N.manifest v)) q em ep en = absurd (n3 (omega arith))
+      by c n (N.known (N.function k)) q em ep en = eleven c ep
+
+-- ---- the constant that ends there
+
+name-there : (s : List ℕ) (x : ℕ) (n : Name) → getD s (x + 1) 0 ≡ n .width → getD s (x + 2) 0 ≡ n .place → nameAt s x ≡ n
+name-there s x n w p = ap (λ (k : ℕ). named k (getD s (x + 1) 0)) p ∙ ap (λ (k : ℕ). named (n .place) k) w
+
+-- a number is a word, and a name without a minus has the constant's place
+abbrev FineSimple : (place : ℕ) (minus : Bool) → Simple → Type 0
+FineSimple p b x = ((v : ℕ) → x ≡ T.literal v → v < 65536) × ((n : Name) → x ≡ T.known n → b ≡ false → p ≡ n .place)
+
+module _ (text : List ℕ) {s : List ℕ} {end : ℕ} (top : ℕ) (n : Node) (nd : NodeAt s end n) where
+  abbrev Go : Verdict → Type 0
+  Go r = (base : ℕ) (sc : Scope) (lo p : ℕ) (b : Bool) (x : Simple) → Shows base s top sc → FineSimple p b x → Lies s lo (cond b (encodeNegative p x) (encodePositive p x)) → end ≡ lo + length (cond b (encodeNegative p x) (encodePositive p x)) → Says r (ofSimple text sc (record { place = p; minus = b; simple = x }) x)
+
+  judges : {r : Verdict} → (r .place < 2 ^ 32) × (r .number < 32) → r .word < 2 ^ 30 → Go r → Judges text s end top r
+  unfolding judge encodeConstant
+  judges f l go = record { fits = f; low = l; by = λ base sc lo c sh fine h e. go base sc lo (c .place) (c .minus) (c .simple) sh (fine .small, fine .place) h e }
+
+  pub judge-number : n .kind ≡ 60 → Judges text s end top (record { word = n .value % 65536; number = 0; place = 0 })
+  unfolding encodePositive encodeNegative encodeName
+  judge-number q = judges (omega arith, omega arith) (omega arith) go
+    where
+      go : Go (record { word = n .value % 65536; number = 0; place = 0 })
+      go base sc lo p false (T.literal v) sh f h e = subst (λ (k : ℕ). Says (record { word = n .value % 65536; number = 0; place = 0 }) (good k)) (let z : n .value ≡ v = nd .value ∙ value-is [] v p 60 h e in omega (arith, f .0 v refl)) (fit refl)
+      go base sc lo p false (T.known x) sh f h e = absurd (omega (arith, q, nd .kind, kind-is [] (x .width) (x .place) 59 h e))
+      go base sc lo p true (T.literal v) sh f h e = absurd (omega (arith, q, nd .kind, kind-is [] v p 36 h e))
+      go base sc lo p true (T.known x) sh f h e = absurd (omega (arith, q, nd .kind, kind-is (0 ∷ x .width ∷ x .place ∷ 59 ∷ []) 0 p 36 h e))
+
+  pub judge-name : {m : ℕ} {r : Verdict} → n .kind ≡ 59 → Looked text s top (n .inner) m → NamedConstant m false (n .place) (n .place) r → Judges text s end top r
+  unfolding encodePositive encodeNegative encodeName
+  judge-name {m} {r} q lk nm = judges (nm .fits) (nm .low) go
+    where
+      go : Go r
+      go base sc lo p false (T.literal v) sh f h e = absurd (omega (arith, q, nd .kind, kind-is [] v p 60 h e))
+      go base sc lo p false (T.known x) sh f h e =
+          let a : n .inner + 1 ≡ end - 3 = omega (arith, nd .inner, ends [] (x .width) (x .place) 59 h e) in
+          let b : n .inner + 2 ≡ end - 2 = omega (arith, nd .inner, ends [] (x .width) (x .place) 59 h e) in
+          let ex : nameAt s (n .inner) ≡ x = name-there s (n .inner) x (ap (λ (k : ℕ). getD s k 0) a ∙ value-is [] (x .width) (x .place) 59 h e) (ap (λ (k : ℕ). getD s k 0) b ∙ place-is [] (x .width) (x .place) 59 h e) in
+          let ep : x .place ≡ n .place = sym (nd .place ∙ place-is [] (x .width) (x .place) 59 h e) in
+          nm .by (record { place = p; minus = false; simple = T.known x }) x (lookup text sc x) (lk .by base sc sh ∙ ap (λ (z : Name). found (lookup text sc z)) ex) refl (f .1 x refl refl ∙ ep) ep
+      go base sc lo p true (T.literal v) sh f h e = absurd (omega (arith, q, nd .kind, kind-is [] v p 36 h e))
+      go base sc lo p true (T.known x) sh f h e = absurd (omega (arith, q, nd .kind, kind-is (0 ∷ x .width ∷ x .place ∷ 59 ∷ []) 0 p 36 h e))
+
+  pub judge-negative : {w : ℕ} → (n .kind ≡ 60 → ⊥) → (n .kind ≡ 59 → ⊥) → n .start ≡ n .inner → w ≡ signed true (n .value) → Judges text s end top (record { word = w; number = 0; place = 0 })
+  unfolding encodePositive encodeNegative encodeName
+  judge-negative {w} n1 n2 q ew = judges (omega arith, omega arith) (omega arith) go
+    where
+      go : Go (record { word = w; number = 0; place = 0 })
+      go base sc lo p false (T.literal v) sh f h e = absurd (n1 (nd .kind ∙ kind-is [] v p 60 h e))
+      go base sc lo p false (T.known x) sh f h e = absurd (n2 (nd .kind ∙ kind-is [] (x .width) (x .place) 59 h e))
+      go base sc lo p true (T.literal v) sh f h e = subst (λ (k : ℕ). Says (record { word = w; number = 0; place = 0 }) (good k)) (ew ∙ ap (signed true) (nd .value ∙ value-is [] v p 36 h e)) (fit refl)
+      go base sc lo p true (T.known x) sh f h e = let c : List ℕ = 0 ∷ x .width ∷ x .place ∷ 59 ∷ [] in absurd (omega (arith, q, nd .start, nd .inner, size-is c 0 p 36 h e, ends c 0 p 36 h e))
+
+  pub judge-negated : {m name : ℕ} {r : Verdict} → (n .kind ≡ 60 → ⊥) → (n .kind ≡ 59 → ⊥) → (n .start ≡ n .inner → ⊥) → Looked text s top (n .start) m → name ≡ getD s (n .start + 2) 0 → NamedConstant m true name (n .place) r → Judges text s end top r
+  unfolding encodePositive encodeNegative encodeName
+  judge-negated {m} {name} {r} n1 n2 q lk ename nm = judges (nm .fits) (nm .low) go
+    where
+      go : Go r
+      go base sc lo p false (T.literal v) sh f h e = absurd (n1 (nd .kind ∙ kind-is [] v p 60 h e))
+      go base sc lo p false (T.known x) sh f h e = absurd (n2 (nd .kind ∙ kind-is [] (x .width) (x .place) 59 h e))
+      go base sc lo p true (T.literal v) sh f h e = absurd (q (omega (arith, nd .start, nd .inner, size-is [] v p 36 h e)))
+      go base sc lo p true (T.known x) sh f h e =
+          let c : List ℕ = 0 ∷ x .width ∷ x .place ∷ 59 ∷ [] in let hc = kid c 0 p 36 h e in
+          let es : n .start ≡ lo = omega (arith, nd .start, size-is c 0 p 36 h e, ends c 0 p 36 h e) in
+          let a : n .start + 1 ≡ lo + 1 = omega arith in let b : n .start + 2 ≡ lo + 2 = omega arith in
+          let ep : getD s (n .start + 2) 0 ≡ x .place = ap (λ (k : ℕ). getD s k 0) b ∙ hc .at 2 (omega arith) in
+          let ex : nameAt s (n .start) ≡ x = name-there s (n .start) x (ap (λ (k : ℕ). getD s k 0) a ∙ hc .at 1 (omega arith)) ep in
+          nm .by (record { place = p; minus = true; simple = T.known x }) x (lookup text sc x) (lk .by base sc sh ∙ ap (λ (z : Name). found (lookup text sc z)) ex) refl (sym (nd .place ∙ place-is c 0 p 36 h e)) (sym (ename ∙ ep))
+
+-- its place is that of its record
+constant-place : {s : List ℕ} {lo end : ℕ} (p : ℕ) (b : Bool) (x : Simple) → FineSimple p b x → Lies s lo (cond b (encodeNegative p x) (encodePositive p x)) → end ≡ lo + length (cond b (encodeNegative p x) (encodePositive p x)) → getD s (end - 2) 0 ≡ p
+unfolding encodePositive encodeNegative encodeName
+constant-place p false (T.literal v) f h e = place-is [] v p 60 h e
+constant-place p false (T.known x) f h e = place-is [] (x .width) (x .place) 59 h e ∙ sym (f .1 x refl refl)
+constant-place p true (T.literal v) f h e = place-is [] v p 36 h e
+constant-place p true (T.known x) f h e = place-is (0 ∷ x .width ∷ x .place ∷ 59 ∷ []) 0 p 36 h e
+
+pub place-there : {s : List ℕ} {lo end : ℕ} (c : Constant) → FineConstant c → Lies s lo (encodeConstant c) → end ≡ lo + length (encodeConstant c) → getD s (end - 2) 0 ≡ c .place
+unfolding encodeConstant
+place-there c f h e = constant-place (c .place) (c .minus) (c .simple) (f .small, f .place) h e
+
+too-big : {j : Verdict} (most : ℕ) (c : Constant) (x : Judged) {p : ℕ} → most < j .word → p ≡ c .place → Says j x → Says (record { word = 0; number = 11; place = p }) (within c (λ v. leb v most) x)
+too-big {j} most c (good v) {p} l e (fit q) = rw (lt-leb (j .word) most l) (subst (λ (k : ℕ). Says (record { word = 0; number = 11; place = p }) (refused (fault k 11))) e (unfit refl (λ z. omega arith) refl))
+too-big most c (refused fs) l e (unfit a b w) = absurd (omega arith)
+
+not-too-big : {j : Verdict} (most : ℕ) (c : Constant) (x : Judged) → j .word ≤ most → Says j x → Says j (within c (λ v. leb v most) x)
+not-too-big {j} most c (good v) l (fit q) = rw (le-leb (j .word) most l) (fit q)
+not-too-big most c (refused fs) l (unfit a b w) = unfit a b w
+
+module _ (most : ℕ) {text s : List ℕ} {end top : ℕ} {j : Verdict} (g : Judges text s end top j) where
+  pub most-big : {p e₂ : ℕ} → most < j .word → e₂ ≡ end - 2 → p ≡ getD s e₂ 0 → p < 2 ^ 32 → JudgesMost most text s end top (record { word = 0; number = 11; place = p })
+  most-big {p} {e₂} l q e f = record {
+    small = omega arith;
+    fits = (f, omega arith);
+    by = λ base sc lo c sh fine h en.
+        too-big most c (judge text sc c) l (e ∙ ap (λ (k : ℕ). getD s k 0) q ∙ place-there c fine h en) (g .by base sc lo c sh fine h en);
+  }
+
+  pub most-fits : j .word ≤ most → JudgesMost most text s end top j
+  most-fits l = record { small = l; fits = g .fits; by = λ base sc lo c sh fine h en. not-too-big most c (judge text sc c) l (g .by base sc lo c sh fine h en) }
+
+pub blame-none : {j : Verdict} {st : State} → j .number ≡ 0 → Blames j st st
+blame-none {j} {st} e = record { by = by }
+  where
+    by : (x : Judged) → Says j x → (t : List ℕ) → Did (faultsOf x) nothing 0 t t st st
+    by (good v) (fit q) t = did-none 0
+    by (refused fs) (unfit a b w) t = absurd (b (sym a ∙ e))
+
+pub blame-some : {j : Verdict} {st r : State} → (j .number ≡ 0 → ⊥) → Faulted (j .place) (j .number) st r → Blames j st r
+blame-some {j} {st} {r} n f = record { by = by }
+  where
+    by : (x : Judged) → Says j x → (t : List ℕ) → Did (faultsOf x) nothing 0 t t st r
+    by (good v) (fit q) t = absurd (n q)
+    by (refused fs) (unfit a b w) t = subst (λ (k : ℕ). Did (fault (j .place) k) nothing 0 t t st r) a (f .by nothing t)
+
+says-word : {j : Verdict} (x : Judged) → Says j x → j .word ≡ judgedWord x
+says-word (good v) (fit q) = refl
+says-word (refused fs) (unfit a b w) = w
+
+-- ---- a vector
+
+pub record IsVector (s : List ℕ) (lo end : ℕ) (x : Local) : Type 0 where
+  pub name : Name
+  pub constant : Constant
+  pub same : x ≡ aVector name constant
+  pub lies : Lies s lo (encodeNames (name ∷ []))
+  pub lies-constant : Lies s (lo + 4) (encodeConstant constant)
+  pub size-of : getD s (end - 4) 0 ≡ 4 + length (encodeConstant constant)
+  pub ends : end ≡ lo + 4 + length (encodeConstant constant) + 4
+
+pub is-vector : {s : List ℕ} {lo end : ℕ} (x : Local) → Lies s lo (encodeLocal x) → end ≡ lo + length (encodeLocal x) → getD s (end - 1) 0 ≡ 6 → IsVector s lo end x
+unfolding encodeLocal encodeNames encodeName
+is-vector {lo = lo} (aVector n c) h e q =
+    let a : List ℕ = 0 ∷ n .width ∷ n .place ∷ 59 ∷ [] in let x = a ++ encodeConstant c in
+    record {
+      name = n;
+      constant = c;
+      same = refl;
+      lies = first a (encodeConstant c) (kid x 4 0 6 h e);
+      lies-constant = second a (encodeConstant c) (lo + 4) (kid x 4 0 6 h e) refl;
+      size-of = omega (arith, size-is x 4 0 6 h e, length-append a (encodeConstant c));
+      ends = omega (arith, ends x 4 0 6 h e, length-append a (encodeConstant c));
+    }
+is-vector (someValues ns es) h e q = absurd (omega (arith, q, kind-is (encodeNames ns ++ encodeExpressions es) (length (encodeNames ns)) 0 3 h e))
+
+pub names-long : (ns : List Name) → length (encodeNames ns) ≡ 4 * length ns
+unfolding encodeNames encodeName
+names-long [] = refl
+names-long (n ∷ ns) = omega (arith, names-long ns, length-append (0 ∷ n .width ∷ n .place ∷ 59 ∷ []) (encodeNames ns))
+
+module _ {s : List ℕ} {end : ℕ} {here : Here} {st : State} (n : Node) (nd : NodeAt s end n) (q : getD s (end - 1) 0 ≡ 6) where
+  pub vector-is : (y : ReadyLocal s end here st) → IsVector s (y .lo) end (y .tree)
+  vector-is y = is-vector (y .tree) (y .lies) (y .ends) q
+
+  pub vector-start : (y : ReadyLocal s end here st) → n .start ≡ y .lo
+  vector-start y = let u = vector-is y in omega (arith, nd .start, u .size-of, u .ends)
+
+  pub vector-fine : (y : ReadyLocal s end here st) → FineConstant (vector-is y .constant)
+  unfolding FineLocal
+  vector-fine y = subst FineLocal (vector-is y .same) (y .fine)
+
+  abbrev pub vector-names : {e : ℕ} → e ≡ n .start + 4 → ReadyLocal s end here st → ReadyNames s (n .start) e (here .top) (here .height)
+  vector-names {e} ee y = let u = vector-is y in record {
+    base = y .base;
+    scope = y .scope;
+    names = u .name ∷ [];
+    lies = subst (λ (k : ℕ). Lies s k (encodeNames (u .name ∷ []))) (sym (vector-start y)) (u .lies);
+    ends = omega (arith, ee, names-long (u .name ∷ []));
+    above = omega (arith, y .above, vector-start y);
+    long = y .long;
+    small = omega (arith, y .small, ee, vector-start y, u .ends);
+    shows = y .shows;
+    room = omega (arith, y .room, y .ends, u .ends);
+    heights = omega (arith, y .height, y .ends, u .ends);
+  }
+
+  pub vector-gave : (text : List ℕ) {s₁ t t′ : List ℕ} {e hh : ℕ} {j : Verdict} {a b c : State} (ee : e ≡ n .start + 4) → JudgesMost 4095 text s (n .inner) (here .top) j → Blames j st a → Declares text s s₁ (n .start) e (here .top) (here .height) a b
+      → Emits (G.LP (here .height + 1) ∷ G.SP (here .height) ∷ []) ((here .height + 2 + j .word) ∷ []) t t′ b c → hh ≡ here .height + 2 + j .word → GaveLocal text s s₁ end here t t′ st (record { top = here .top + 2; height = hh; done = c })
+  unfolding scopeWith heightWith faultsL localSays declareAll
+  vector-gave text {s₁} {t} {t′} {e} {hh} {j} {a} {b} {c} ee jv bl de em eh = record {
+    by = λ y.
+        let u = vector-is y in let sc = y .scope in let h = here .height in let K = u .constant in
+        let sa = jv .by (y .base) sc (y .lo + 4) K (y .shows) (vector-fine y) (u .lies-constant) (omega (arith, nd .inner, u .ends)) in
+        let d = de .by (vector-names ee y) in let w = says-word (forVector text sc K) sa in
+        let two : here .top + 2 * length (u .name ∷ []) ≡ here .top + 2 = omega arith in
+        subst (λ (x : Local). LocalDone text sc x (y .base) here s s₁ t t′ st (record { top = here .top + 2; height = hh; done = c })) (sym (u .same)) (record {
+          after = record {
+            shows = subst (λ (k : ℕ). Shows (y .base) s₁ k (declared sc (u .name) (N.local h))) two (d .shows);
+            height = eh ∙ ap (λ (k : ℕ). h + 2 + k) w;
+            keeps = d .keeps;
+            above = omega arith;
+            room = omega (arith, y .ends, u .ends, ap (λ (x : Local). length (encodeLocal x)) (u .same));
+            tall = omega (arith, y .ends, u .ends, jv .small, eh, ap (λ (x : Local). length (encodeLocal x)) (u .same));
+          };
+          did = did-as (localSays text sc here (aVector (u .name) K)) _ (did-emit (did-then (bl .by (forVector text sc K) sa t) (d .did t)) em) same-refl
+              (λ m v. code-is refl (ap (λ (k : ℕ). (h + 2 + k) ∷ []) w) (omega arith)) (omega arith);
+        });
+  }
+
+-- ---- names with values
+
+pub record IsValues (s : List ℕ) (lo end : ℕ) (x : Local) : Type 0 where
+  pub names : List Name
+  pub values : Expressions
+  pub same : x ≡ someValues names values
+  pub lies : Lies s lo (encodeNames names)
+  pub lies-values : Lies s (lo + length (encodeNames names)) (encodeExpressions values)
+  pub value-of : getD s (end - 3) 0 ≡ length (encodeNames names)
+  pub size-of : getD s (end - 4) 0 ≡ length (encodeNames names) + length (encodeExpressions values)
+  pub ends : end ≡ lo + length (encodeNames names) + length (encodeExpressions values) + 4
+
+pub is-values : {s : List ℕ} {lo end : ℕ} (x : Local) → Lies s lo (encodeLocal x) → end ≡ lo + length (encodeLocal x) → (getD s (end - 1) 0 ≡ 6 → ⊥) → IsValues s lo end x
+unfolding encodeLocal encodeName
+is-values (aVector n c) h e q = absurd (q (kind-is ((0 ∷ n .width ∷ n .place ∷ 59 ∷ []) ++ encodeConstant c) 4 0 6 h e))
+is-values {lo = lo} (someValues ns es) h e q =
+    let x = encodeNames ns ++ encodeExpressions es in let v = length (encodeNames ns) in
+    record {
+      names = ns;
+      values = es;
+      same = refl;
+      lies = first (encodeNames ns) (encodeExpressions es) (kid x v 0 3 h e);
+      lies-values = second (encodeNames ns) (encodeExpressions es) (lo + length (encodeNames ns)) (kid x v 0 3 h e) refl;
+      value-of = value-is x v 0 3 h e;
+      size-of = size-is x v 0 3 h e ∙ length-append (encodeNames ns) (encodeExpressions es);
+      ends = omega (arith, ends x v 0 3 h e, length-append (encodeNames ns) (encodeExpressions es));
+    }
+
+module _ {s : List ℕ} {end : ℕ} {here : Here} {st : State} (n : Node) (nd : NodeAt s end n) (q : n .kind ≡ 6 → ⊥) {middle : ℕ} (m : middle ≡ n .start + n .value) where
+  pub values-is : (y : ReadyLocal s end here st) → IsValues s (y .lo) end (y .tree)
+  values-is y = is-values (y .tree) (y .lies) (y .ends) (λ e. q (nd .kind ∙ e))
+
+  pub values-start : (y : ReadyLocal s end here st) → (n .start ≡ y .lo) × (middle ≡ y .lo + length (encodeNames (values-is y .names)))
+  values-start y = let u = values-is y in (omega (arith, nd .start, u .size-of, u .ends), omega (arith, m, nd .start, nd .value, u .value-of, u .size-of, u .ends))
+
+  pub values-fine : (y : ReadyLocal s end here st) → (length (values-is y .names) ≡ T.count (values-is y .values)) × FineEs (values-is y .values)
+  unfolding FineLocal
+  values-fine y = subst FineLocal (values-is y .same) (y .fine)
+
+  pub values-deep : (y : ReadyLocal s end here st) → expressionsDepth (values-is y .values) ≤ here .left
+  unfolding localDepth
+  values-deep y = omega (arith, y .shallow, ap localDepth (values-is y .same))
+
+  abbrev pub values-args : ReadyLocal s end here st → ReadyArgs s middle (n .inner) here st
+  values-args y = let u = values-is y in record {
+    ready = sub encodeExpressions expressionsDepth FineEs y keeps-all (n .inner) (y .lo + length (encodeNames (u .names))) here st (u .values) (u .lies-values) (omega (arith, nd .inner, u .ends)) (omega arith) (omega (arith, nd .inner)) refl refl
+        (omega (arith, y .height, y .ends, u .ends)) (omega (arith, y .label, y .ends, u .ends)) (y .some) (values-deep y) (values-fine y .1);
+    starts = sym (values-start y .1);
+  }
+
+  module _ (text : List ℕ) {s₁ t t′ : List ℕ} {a : State} (g : GaveArgs text s s₁ middle (n .inner) here t t′ st a) where
+    abbrev pub values-names : ReadyLocal s end here st → ReadyNames s₁ (n .start) middle (here .top) (here .height)
+    values-names y = let u = values-is y in let k = g .by (values-args y) .keeps in record {
+      base = y .base;
+      scope = y .scope;
+      names = u .names;
+      lies = keeps-lies k (omega (arith, y .above, values-start y .0)) (subst (λ (x : ℕ). Lies s x (encodeNames (u .names))) (sym (values-start y .0)) (u .lies));
+      ends = omega (arith, values-start y .0, values-start y .1);
+      above = omega (arith, y .above, values-start y .0);
+      long = omega (arith, y .long, k .long);
+      small = omega (arith, y .small, values-start y .1, u .ends);
+      shows = keeps-shows k (omega arith) (y .shows);
+      room = omega (arith, y .room, y .ends, u .ends, names-long (u .names));
+      heights = omega (arith, y .height, y .ends, u .ends, names-long (u .names));
+    }
+
+    pub values-gave : {s₂ : List ℕ} {top height : ℕ} {b : State} → Declares text s₁ s₂ (n .start) middle (here .top) (here .height) a b → top ≡ here .top + n .value / 2 → height ≡ here .height + n .value / 4
+        → GaveLocal text s s₂ end here t t′ st (record { top = top; height = height; done = b })
+    unfolding scopeWith heightWith faultsL localSays
+    values-gave {s₂} {top} {height} {b} de et eh = record {
+      by = λ y.
+          let u = values-is y in let sc = y .scope in let h = here .height in let ns = u .names in let x = g .by (values-args y) in let d = de .by (values-names y) in
+          let v : n .value ≡ 4 * length ns = nd .value ∙ u .value-of ∙ names-long ns in
+          let two : here .top + 2 * length ns ≡ top = omega (arith, et, v) in
+          subst (λ (z : Local). LocalDone text sc z (y .base) here s s₂ t t′ st (record { top = top; height = height; done = b })) (sym (u .same)) (record {
+            after = record {
+              shows = subst (λ (k : ℕ). Shows (y .base) s₂ k (declareAll sc h ns)) two (d .shows);
+              height = omega (arith, eh, v);
+              keeps = keeps-then (x .keeps) (d .keeps);
+              above = omega (arith, two);
+              room = omega (arith, two, y .ends, u .ends, names-long ns, ap (λ (z : Local). length (encodeLocal z)) (u .same));
+              tall = omega (arith, eh, v, y .ends, u .ends, names-long ns, ap (λ (z : Local). length (encodeLocal z)) (u .same));
+            };
+            did = did-as (localSays text sc here (someValues ns (u .values))) _ (did-then (x .did) (d .did t′)) same-refl
+                (λ k e. code-is (append-nil _) (append-nil _) (omega arith)) (omega (arith, y .ends, u .ends, ap (λ (z : Local). length (encodeLocal z)) (u .same)));
+          });
+    }

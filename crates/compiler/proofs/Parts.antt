@@ -1,0 +1,55 @@
+-- From a tree that is ready to its parts, and the loops over lists.
+use Prim.Native.Nat.{ℕ, zero, suc, _+_, _*_, _-_, _≤_, _<_, _^_}
+use mathlib.Core.Path.{_≡_, refl, sym, ap, subst, _∙_}
+use mathlib.Core.List.{List, [], _∷_, _++_}
+use native.Mathlib.Omega.{arith}
+use lib.ListN.{length, getD}
+use Rattle.language.specs.Constants.{Fault}
+use Rattle.language.specs.Names.{Scope}
+use Rattle.compiler.specs.Scope.{Shows, Keeps}
+use Rattle.compiler.proofs.Scoping.{keeps-shows}
+use Rattle.compiler.specs.declared.steps.State.{State}
+use Rattle.compiler.specs.declared.steps.Here.{Here}
+use Rattle.compiler.specs.Walked.{Did, Code}
+use Rattle.compiler.specs.Walks.{Lies, Ready}
+use Rattle.compiler.proofs.Trees.{keeps-lies}
+
+module _ {A B : Type 0} {encA : A → List ℕ} {deepA : A → ℕ} {FineA : A → Type 0} (encB : B → List ℕ) (deepB : B → ℕ) (FineB : B → Type 0) {s s′ : List ℕ} {end : ℕ} {here : Here} {st : State} where
+  -- a part in the same scope, somewhere inside, at another height
+  abbrev pub sub : (y : Ready encA deepA FineA s end here st) → Keeps (y .base) (here .top) s s′ → (end′ lo′ : ℕ) (here′ : Here) (st′ : State) (part : B)
+      → Lies s lo′ (encB part) → end′ ≡ lo′ + length (encB part) → y .lo ≤ lo′ → end′ ≤ end → here′ .top ≡ here .top → here′ .strings ≡ here .strings
+      → here′ .height + 4100 * length (encB part) ≤ 2 ^ 29 → st′ .label + 2 * length (encB part) ≤ 2 ^ 29 → 0 < st′ .label → deepB part ≤ here′ .left → FineB part
+      → Ready encB deepB FineB s′ end′ here′ st′
+  sub y k end′ lo′ here′ st′ part h e l m top strings height label some deep fine = record {
+    base = y .base;
+    lo = lo′;
+    tree = part;
+    scope = y .scope;
+    lies = keeps-lies k (omega (arith, y .above)) h;
+    ends = e;
+    above = omega (arith, y .above);
+    long = omega (arith, y .long, k .long);
+    small = omega (arith, y .small);
+    shows = keeps-shows k (omega arith) (subst (λ (n : ℕ). Shows (y .base) s n (y .scope)) (sym top) (y .shows));
+    room = omega (arith, y .room, y .ends);
+    height = height;
+    label = label;
+    some = some;
+    strings = omega (arith, y .strings);
+    shallow = deep;
+    fine = fine;
+  }
+
+-- a loop over a list, at `at`, where `rest` is left; the list, and what it does, may depend on the height
+pub record Part {L : Type 0} (enc : L → List ℕ) (deep : L → ℕ) (Fine : L → Type 0) (fs : ℕ → L → List Fault) (code : ℕ → L → ℕ → Code) (all : L) (from end base top left h₀ h : ℕ) (s₀ s t₀ t : List ℕ) (st₀ st : State) (at : ℕ) : Type 0 where
+  pub rest : L
+  pub lies : Lies s₀ at (enc rest)
+  pub ends : end ≡ at + length (enc rest)
+  pub starts : from ≤ at
+  pub keeps : Keeps base top s₀ s
+  pub label : st .label + 2 * length (enc rest) ≤ st₀ .label + 2 * length (enc all)
+  pub some : 0 < st .label
+  pub shallow : deep rest ≤ left
+  pub fine : Fine rest
+  pub height : h + 4100 * length (enc rest) ≤ h₀ + 4100 * length (enc all)
+  pub finish : (t′ : List ℕ) (st′ : State) → Did (fs h rest) (code h rest) (2 * length (enc rest)) t t′ st st′ → Did (fs h₀ all) (code h₀ all) (2 * length (enc all)) t₀ t′ st₀ st′

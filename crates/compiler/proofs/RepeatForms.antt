@@ -1,0 +1,411 @@
+-- REPEAT forms: one of a list, the loop over them, and a command with them.
+use Prim.Native.Nat.{ℕ, zero, suc, _+_, _*_, _-_, _≤_, _<_, _^_}
+use mathlib.Core.Path.{_≡_, refl, sym, ap, subst, _∙_}
+use mathlib.Core.Bool.{cond}
+use mathlib.Core.List.{List, [], _∷_, _++_, append-nil, append-assoc}
+use native.Mathlib.Omega.{arith}
+use lib.ListN.{length, getD, length-append}
+use lib.Dec.{eqb}
+use Rattle.items.specs.Item as I
+use Rattle.language.specs.Kinds as K
+use Rattle.language.specs.Tree as T
+use Rattle.language.specs.Tree.{Expression, Unlabelled, Repeats}
+use Rattle.language.proofs.Depth.{depth, unlabelledDepth, repeatsDepth}
+use Rattle.language.specs.Names.{Scope}
+use Rattle.language.specs.Constants.{Fault}
+use Rattle.language.specs.Resolve.{expression, repeats, unlabelled}
+use Rattle.language.specs.Fine.{FineRepeats}
+use Rattle.code.specs.Generate as G
+use Rattle.language.specs.Faults as Y
+use Rattle.language.specs.Faults.{Leavable, inExpression, inUnlabelled, inRepeats}
+use Rattle.tree.specs.Encoding as O
+use Rattle.tree.specs.Encoding.{encode, encodeUnlabelled, encodeRepeats}
+use Rattle.compiler.specs.Scope.{Keeps}
+use Rattle.compiler.proofs.Scoping.{keeps-all, keeps-then}
+use Rattle.compiler.specs.declared.steps.State.{State}
+use Rattle.compiler.specs.declared.steps.Here.{Here}
+use Rattle.compiler.specs.declared.steps.Ways.{Ways}
+use Rattle.compiler.specs.declared.steps.Node.{Node}
+use Rattle.compiler.specs.Fine.{FineE, FinePlain, FineRs}
+use Rattle.compiler.specs.Walked.{inLoop, leavable, leavableBy, exits, NodeAt, Code, Did, Emits, Fresh}
+use Rattle.compiler.specs.Walks.{Lies, Ready, Result, GaveE, Counts}
+use Rattle.compiler.specs.Repeats.{forms, conditions, topsCode, formsCode, formsHeights, formsLabels, formsSays, innermost}
+use Rattle.compiler.specs.Commands.{cmdSays, ReadyU, GaveU, encodeRepeated, ReadyR, GaveR, ReadyForms, GaveForms, formSays, ReadyForm, GaveForm}
+use Rattle.compiler.proofs.Done.{emits-did, did-none, did-put, did-after, did-then, did-as, did-at, did-fresh, same-refl, same-eq, code-is}
+use Rattle.compiler.proofs.Trees.{first, second, kid, ends, value-is, size-is, kind-is}
+use Rattle.compiler.proofs.Parts.{sub}
+use Rattle.compiler.proofs.Anywhere.{any-expression}
+use Rattle.compiler.proofs.Guards.{expression-closed}
+use Rattle.compiler.proofs.Labelled.{closed-long}
+use Rattle.compiler.proofs.Counting.{repeat-items}
+use Rattle.compiler.proofs.Conditions.{leaves-loop}
+use Rattle.compiler.proofs.Repeating.{repeats-code, repeats-heights, repeats-labels}
+use Rattle.compiler.proofs.Forms.{form-of, form-small}
+
+-- ---- one form
+
+pub data AForm : Type 0 where
+  alone : AForm
+  onTest : (word : ℕ) → Expression → AForm
+
+abbrev pub withForm : AForm → Repeats → Repeats
+withForm alone rs = T.repeat rs
+withForm (onTest w e) rs = T.repeatOn w e rs
+
+abbrev pub formEncoding : AForm → List ℕ
+formEncoding alone = []
+formEncoding (onTest w e) = encode e
+
+abbrev pub formWord : AForm → ℕ
+formWord alone = K.REPEAT
+formWord (onTest w e) = w
+
+abbrev pub formDepth : AForm → ℕ
+formDepth alone = 0
+formDepth (onTest w e) = depth e
+
+abbrev pub FineForm : AForm → Type 0
+FineForm alone = Unit {0}
+FineForm (onTest w e) = FineE e
+
+abbrev pub formFaults : List ℕ → Scope → Here → AForm → List Fault
+formFaults text sc x alone = []
+formFaults text sc x (onTest w e) = inExpression text sc (leavable x) (x .height) e
+
+abbrev pub oneSays : List ℕ → Here → Scope → (own : ℕ) → AForm → ℕ → Code
+oneSays text x sc own alone n = record { items = G.JL own ∷ []; heights = []; labels = 0 }
+oneSays text x sc own (onTest w e) n = formSays text x sc w own e n
+
+pub record IsForm (s : List ℕ) (at end : ℕ) (rs : Repeats) : Type 0 where
+  pub part : AForm
+  pub more : Repeats
+  pub same : rs ≡ withForm part more
+  pub size-of : getD s at 0 ≡ length (formEncoding part)
+  pub word-of : getD s (at + 1) 0 ≡ formWord part
+  pub lies : Lies s (at + 2) (formEncoding part)
+  pub lies-more : Lies s (at + 2 + length (formEncoding part)) (encodeRepeats more)
+  pub ends : end ≡ at + 2 + length (formEncoding part) + length (encodeRepeats more)
+
+is-form-of : {s : List ℕ} {at end : ℕ} (f : AForm) (rs : Repeats) → Lies s at (length (formEncoding f) ∷ formWord f ∷ (formEncoding f ++ encodeRepeats rs))
+    → end ≡ at + length (length (formEncoding f) ∷ formWord f ∷ (formEncoding f ++ encodeRepeats rs)) → IsForm s at end (withForm f rs)
+is-form-of {s} {at} {end} f rs h e =
+    let a : at + 0 ≡ at = omega arith in let x = formEncoding f in let y = encodeRepeats rs in
+    let r = second (length x ∷ formWord f ∷ []) (x ++ y) (at + 2) h refl in
+    record {
+      part = f;
+      more = rs;
+      same = refl;
+      size-of = ap (λ (k : ℕ). getD s k 0) (sym a) ∙ h .at 0 (omega arith);
+      word-of = h .at 1 (omega arith);
+      lies = first x y r;
+      lies-more = second x y (at + 2 + length x) r refl;
+      ends = omega (arith, e, length-append x y);
+    }
+
+pub is-form : {s : List ℕ} {at end : ℕ} (rs : Repeats) → Lies s at (encodeRepeats rs) → end ≡ at + length (encodeRepeats rs) → at < end → IsForm s at end rs
+unfolding encodeRepeats
+is-form T.noRepeats h e l = absurd (omega arith)
+is-form (T.repeat rs) h e l = is-form-of alone rs h e
+is-form (T.repeatOn w d rs) h e l = is-form-of (onTest w d) rs h e
+
+form-deep : (f : AForm) (rs : Repeats) {k : ℕ} → repeatsDepth (withForm f rs) ≤ k → (formDepth f ≤ k) × (repeatsDepth rs ≤ k)
+unfolding repeatsDepth
+form-deep alone rs l = (omega arith, l)
+form-deep (onTest w e) rs l = (omega arith, omega arith)
+
+form-fine : (f : AForm) (rs : Repeats) → FineRs (withForm f rs) → FineForm f × FineRs rs
+unfolding FineRepeats
+form-fine alone rs p = (tt, p)
+form-fine (onTest w e) rs p = p
+
+form-conditions : (f : AForm) (rs : Repeats) → conditions (withForm f rs) ≡ length (formEncoding f) + conditions rs
+unfolding conditions
+form-conditions alone rs = omega arith
+form-conditions (onTest w e) rs = refl
+
+form-faults : (text : List ℕ) (sc : Scope) (x : Here) (f : AForm) (rs : Repeats) → inRepeats text sc (leavable x) (x .height) (withForm f rs) ≡ formFaults text sc x f ++ inRepeats text sc (leavable x) (x .height) rs
+unfolding inRepeats
+form-faults text sc x alone rs = refl
+form-faults text sc x (onTest w e) rs = refl
+
+-- its code between its labels, and then that of the others
+form-code : (text : List ℕ) (x : Here) (sc : Scope) (own n : ℕ) (f : AForm) (rs : Repeats) → let c = oneSays text x sc own f n in
+    _≡_ {A = Code} (record {
+      items = ((I.label (own + 1) ∷ c .items) ++ (I.label (own + 2) ∷ [])) ++ formsCode text sc (x .strings) (x .height) (own - 3) rs (n + c .labels);
+      heights = c .heights ++ formsHeights text sc (x .height) rs;
+      labels = c .labels + formsLabels text sc (x .height) rs;
+    }) (formsSays text x sc own (withForm f rs) n)
+unfolding formsCode formsHeights formsLabels
+form-code text x sc own n alone rs =
+    let a : n + 0 ≡ n = omega arith in
+    code-is (ap (λ (k : ℕ). I.label (own + 1) ∷ G.JL own ∷ I.label (own + 2) ∷ formsCode text sc (x .strings) (x .height) (own - 3) rs k) a) refl (omega arith)
+form-code text x sc own n (onTest w e) rs =
+    let E = G.exprCode (x .strings) (x .height) n (expression text sc (x .height) e) in let J = G.jumpWhen (eqb w K.REPEATWHILE) own in
+    let F = formsCode text sc (x .strings) (x .height) (own - 3) rs (n + G.exprLabels (expression text sc (x .height) e)) in
+    code-is (ap (λ (z : List I.Item). I.label (own + 1) ∷ z) (append-assoc (E ++ (J ∷ [])) (I.label (own + 2) ∷ []) F ∙ append-assoc E (J ∷ []) (I.label (own + 2) ∷ F))) refl refl
+
+-- ---- the loop over them
+
+module _ (text t₀ : List ℕ) (own₀ : ℕ) {s₀ : List ℕ} {from end : ℕ} {here : Here} {st₀ : State} where
+  pub record FormsPart (y : ReadyForms s₀ from end here st₀) (s t : List ℕ) (at own : ℕ) (st : State) : Type 0 where
+    pub rest : Repeats
+    pub lies : Lies s₀ at (encodeRepeats rest)
+    pub ends : end ≡ at + length (encodeRepeats rest)
+    pub starts : from ≤ at
+    pub keeps : Keeps (y .ready .base) (here .top) s₀ s
+    pub label : st .label + 2 * conditions rest ≤ st₀ .label + 2 * conditions (y .ready .tree)
+    pub some : 0 < st .label
+    pub shallow : repeatsDepth rest ≤ here .left
+    pub fine : FineRs rest
+    pub finish : (t′ : List ℕ) (st′ : State) → Did (inRepeats text (y .ready .scope) (leavable here) (here .height) rest) (formsSays text here (y .ready .scope) own rest) (2 * conditions rest) t t′ st st′
+        → Did (inRepeats text (y .ready .scope) (leavable here) (here .height) (y .ready .tree)) (formsSays text here (y .ready .scope) own₀ (y .ready .tree)) (2 * conditions (y .ready .tree)) t₀ t′ st₀ st′
+
+  pub forms-begin : (y : ReadyForms s₀ from end here st₀) → FormsPart y s₀ t₀ from own₀ st₀
+  forms-begin y = let z = y .ready in record {
+    rest = z .tree;
+    lies = subst (λ (n : ℕ). Lies s₀ n (encodeRepeats (z .tree))) (y .starts) (z .lies);
+    ends = omega (arith, z .ends, y .starts);
+    starts = omega arith;
+    keeps = keeps-all;
+    label = omega arith;
+    some = y .some;
+    shallow = z .shallow;
+    fine = z .fine;
+    finish = λ t′ st′ d. d;
+  }
+
+  module _ {s t : List ℕ} {at size word next own : ℕ} {st : State} (l : at < end) (es : size ≡ getD s at 0) (ew : word ≡ getD s (at + 1) 0) (en : next ≡ at + 2 + size) where
+    pub forms-is : (y : ReadyForms s₀ from end here st₀) (p : FormsPart y s t at own st) → IsForm s₀ at end (p .rest)
+    forms-is y p = is-form (p .rest) (p .lies) (p .ends) l
+
+    pub forms-size : (y : ReadyForms s₀ from end here st₀) (p : FormsPart y s t at own st) → size ≡ length (formEncoding (forms-is y p .part))
+    forms-size y p = es ∙ p .keeps .above at (omega (arith, y .ready .above, y .starts, p .starts)) ∙ forms-is y p .size-of
+
+    pub forms-word : (y : ReadyForms s₀ from end here st₀) (p : FormsPart y s t at own st) → word ≡ formWord (forms-is y p .part)
+    forms-word y p = ew ∙ p .keeps .above (at + 1) (omega (arith, y .ready .above, y .starts, p .starts)) ∙ forms-is y p .word-of
+
+    pub forms-length : (y : ReadyForms s₀ from end here st₀) (p : FormsPart y s t at own st) → let u = forms-is y p in length (encodeRepeats (p .rest)) ≡ 2 + length (formEncoding (u .part)) + length (encodeRepeats (u .more))
+    forms-length y p = let u = forms-is y p in omega (arith, p .ends, u .ends)
+
+    pub forms-conditions : (y : ReadyForms s₀ from end here st₀) (p : FormsPart y s t at own st) → let u = forms-is y p in conditions (p .rest) ≡ length (formEncoding (u .part)) + conditions (u .more)
+    forms-conditions y p = let u = forms-is y p in ap conditions (u .same) ∙ form-conditions (u .part) (u .more)
+
+    pub forms-deep : (y : ReadyForms s₀ from end here st₀) (p : FormsPart y s t at own st) → let u = forms-is y p in (formDepth (u .part) ≤ here .left) × (repeatsDepth (u .more) ≤ here .left)
+    forms-deep y p = let u = forms-is y p in form-deep (u .part) (u .more) (subst (λ (r : Repeats). repeatsDepth r ≤ here .left) (u .same) (p .shallow))
+
+    pub forms-fine : (y : ReadyForms s₀ from end here st₀) (p : FormsPart y s t at own st) → let u = forms-is y p in FineForm (u .part) × FineRs (u .more)
+    forms-fine y p = let u = forms-is y p in form-fine (u .part) (u .more) (subst FineRs (u .same) (p .fine))
+
+    module _ {a : State} (el : a .label ≡ st .label) where
+      -- what stands there, as its test's expression
+      abbrev ready-test : (w : ℕ) (e : Expression) (y : ReadyForms s₀ from end here st₀) (p : FormsPart y s t at own st) → forms-is y p .part ≡ onTest w e → Ready encode depth FineE s next here a
+      ready-test w e y p q =
+          let z = y .ready in let u = forms-is y p in
+          let h = subst (λ (f : AForm). Lies s₀ (at + 2) (formEncoding f)) q (u .lies) in
+          let m : length (formEncoding (u .part)) ≡ length (encode e) = ap (λ (f : AForm). length (formEncoding f)) q in
+          sub encode depth FineE z (p .keeps) next (at + 2) here a e h (omega (arith, en, forms-size y p, m)) (omega (arith, y .starts, p .starts)) (omega (arith, en, forms-size y p, u .ends)) refl refl
+          (omega (arith, z .height, z .ends, p .ends, p .starts, y .starts, forms-length y p, m)) (omega (arith, y .label, p .label, forms-conditions y p, m, el)) (omega (arith, p .some, el))
+          (subst (λ (f : AForm). formDepth f ≤ here .left) q (forms-deep y p .0)) (subst FineForm q (forms-fine y p .0))
+
+      pub forms-part : (y : ReadyForms s₀ from end here st₀) → FormsPart y s t at own st → ReadyForm s next size here a
+      forms-part y p = record { on = λ n. by n (forms-is y p .part) refl }
+        where
+          by : (size ≡ 0 → ⊥) → (f : AForm) → forms-is y p .part ≡ f → Ready encode depth FineE s next here a
+          by n alone q = absurd (n (forms-size y p ∙ ap (λ (f : AForm). length (formEncoding f)) q))
+          by n (onTest w e) q = ready-test w e y p q
+
+      -- what it did
+      form-did : {s₁ t₁ t₂ : List ℕ} {b : State} → GaveForm text s s₁ next size word own here t₁ t₂ a b → (y : ReadyForms s₀ from end here st₀) (p : FormsPart y s t at own st) → let f = forms-is y p .part in
+          Keeps (y .ready .base) (here .top) s s₁ × Did (formFaults text (y .ready .scope) here f) (oneSays text here (y .ready .scope) own f) (2 * length (formEncoding f)) t₁ t₂ a b
+      form-did {s₁} {t₁} {t₂} {b} g y p = by (forms-is y p .part) refl
+        where
+          by : (f : AForm) → forms-is y p .part ≡ f → Keeps (y .ready .base) (here .top) s s₁ × Did (formFaults text (y .ready .scope) here f) (oneSays text here (y .ready .scope) own f) (2 * length (formEncoding f)) t₁ t₂ a b
+          by alone q =
+              let x = g .plain (forms-size y p ∙ ap (λ (f : AForm). length (formEncoding f)) q) in
+              (subst (λ (z : List ℕ). Keeps (y .ready .base) (here .top) s z) (sym (x .0)) keeps-all, did-as _ _ (emits-did _ (x .1) (λ n. refl)) same-refl (λ n e. refl) (omega arith))
+          by (onTest w e) q =
+              let m : length (formEncoding (forms-is y p .part)) ≡ length (encode e) = ap (λ (f : AForm). length (formEncoding f)) q in
+              let x = g .on (λ n. omega (arith, n, forms-size y p, m, closed-long (expression-closed e))) .by (ready-test w e y p q) in
+              (x .keeps, subst (λ (v : ℕ). Did (inExpression text (y .ready .scope) (leavable here) (here .height) e) (formSays text here (y .ready .scope) v own e) (2 * length (encode e)) t₁ t₂ a b) (forms-word y p ∙ ap formWord q) (x .did))
+
+    pub forms-next : {s₁ t₁ t₂ t₃ : List ℕ} {own′ : ℕ} {a b r : State} → Emits (I.label (own + 1) ∷ []) [] t t₁ st a → GaveForm text s s₁ next size word own here t₁ t₂ a b → Emits (I.label (own + 2) ∷ []) [] t₂ t₃ b r
+        → own′ ≡ own - 3 → (y : ReadyForms s₀ from end here st₀) → FormsPart y s t at own st → FormsPart y s₁ t₃ next own′ r
+    forms-next {s₁} {t₁} {t₂} {t₃} {own′} {a} {b} {r} m₁ g m₂ eo y p =
+        let z = y .ready in let u = forms-is y p in let x = form-did (m₁ .label) g y p in let sc = z .scope in
+        record {
+          rest = u .more;
+          lies = subst (λ (n : ℕ). Lies s₀ n (encodeRepeats (u .more))) (omega (arith, en, forms-size y p)) (u .lies-more);
+          ends = omega (arith, u .ends, en, forms-size y p);
+          starts = omega (arith, p .starts, en);
+          keeps = keeps-then (p .keeps) (x .0);
+          label = omega (arith, p .label, forms-conditions y p, x .1 .few, m₁ .label, m₂ .label);
+          some = omega (arith, p .some, x .1 .grows, m₁ .label, m₂ .label);
+          shallow = forms-deep y p .1;
+          fine = forms-fine y p .1;
+          finish = λ t′ st′ d. p .finish t′ st′
+              (subst (λ (rs : Repeats). Did (inRepeats text sc (leavable here) (here .height) rs) (formsSays text here sc own rs) (2 * conditions (p .rest)) t t′ st st′) (sym (u .same))
+              (did-as (formsSays text here sc own (withForm (u .part) (u .more))) _
+              (did-then (did-put (did-after m₁ (x .1)) m₂) (subst (λ (o : ℕ). Did (inRepeats text sc (leavable here) (here .height) (u .more)) (formsSays text here sc o (u .more)) (2 * conditions (u .more)) t₃ t′ r st′) eo d))
+              (same-eq (sym (form-faults text sc here (u .part) (u .more)))) (λ k c. form-code text here sc own k (u .part) (u .more)) (omega (arith, forms-conditions y p))));
+        }
+
+  pub forms-end : {s t : List ℕ} {at own : ℕ} {st : State} → end ≤ at → ((y : ReadyForms s₀ from end here st₀) → FormsPart y s t at own st) → GaveForms text s₀ s from end own₀ here t₀ t st₀ st
+  unfolding inRepeats formsCode formsHeights formsLabels encodeRepeats
+  forms-end {s} {t} {at} {own} {st} l q = record { by = λ y. let p = q y in record { keeps = p .keeps; did = p .finish t st (none (p .rest) y (p .ends)) } }
+    where
+      none : (rs : Repeats) (y : ReadyForms s₀ from end here st₀) → end ≡ at + length (encodeRepeats rs) → Did (inRepeats text (y .ready .scope) (leavable here) (here .height) rs) (formsSays text here (y .ready .scope) own rs) (2 * conditions rs) t t st st
+      none T.noRepeats y e = did-none _
+      none (T.repeat rs) y e = absurd (omega arith)
+      none (T.repeatOn w d rs) y e = absurd (omega arith)
+
+-- ---- the jump back
+
+pub form-alone : (text : List ℕ) {s t t′ : List ℕ} {end size word own : ℕ} {here : Here} {st r : State} → size ≡ 0 → Emits (G.JL own ∷ []) [] t t′ st r → GaveForm text s s end size word own here t t′ st r
+form-alone text e f = record { plain = λ q. (refl, f); on = λ n. absurd (n e) }
+
+pub form-tested : (text : List ℕ) {s s₁ t t₁ t₂ : List ℕ} {end size word own j : ℕ} {here : Here} {st a r : State} → (size ≡ 0 → ⊥) → GaveE text s s₁ end here t t₁ st a → j ≡ cond (eqb word K.REPEATWHILE) 4 5
+    → Emits (G.to j own ∷ []) [] t₁ t₂ a r → GaveForm text s s₁ end size word own here t t₂ st r
+form-tested text {t₁ = t₁} {t₂} {own = own} {a = a} {r} n g ej f = record {
+  plain = λ q. absurd (n q);
+  on = λ q. record { by = λ y. let x = g .by y in record { keeps = x .keeps; did = did-put (x .did) (subst (λ (k : ℕ). Emits (G.to k own ∷ []) [] t₁ t₂ a r) ej f) } };
+}
+
+-- ---- a command with REPEAT forms
+
+pub record IsRepeated (s : List ℕ) (lo end : ℕ) (u : Unlabelled) (rs : Repeats) : Type 0 where
+  pub some : 1 ≤ forms rs
+  pub lies : Lies s lo (encodeUnlabelled u)
+  pub lies-forms : Lies s (lo + length (encodeUnlabelled u)) (encodeRepeats rs)
+  pub value-of : getD s (end - 3) 0 ≡ length (encodeUnlabelled u)
+  pub size-of : getD s (end - 4) 0 ≡ length (encodeUnlabelled u) + length (encodeRepeats rs)
+  pub ends : end ≡ lo + length (encodeUnlabelled u) + length (encodeRepeats rs) + 4
+
+repeated-of : {s : List ℕ} {lo end : ℕ} (u : Unlabelled) (rs : Repeats) → 1 ≤ forms rs → Lies s lo (O.closed (encodeUnlabelled u ++ encodeRepeats rs) (length (encodeUnlabelled u)) 0 O.REPEATED)
+    → end ≡ lo + length (O.closed (encodeUnlabelled u ++ encodeRepeats rs) (length (encodeUnlabelled u)) 0 O.REPEATED) → IsRepeated s lo end u rs
+repeated-of {lo = lo} u rs k h e =
+    let x = encodeUnlabelled u in let y = encodeRepeats rs in
+    record {
+      some = k;
+      lies = first x y (kid (x ++ y) (length x) 0 O.REPEATED h e);
+      lies-forms = second x y (lo + length x) (kid (x ++ y) (length x) 0 O.REPEATED h e) refl;
+      value-of = value-is (x ++ y) (length x) 0 O.REPEATED h e;
+      size-of = size-is (x ++ y) (length x) 0 O.REPEATED h e ∙ length-append x y;
+      ends = omega (arith, ends (x ++ y) (length x) 0 O.REPEATED h e, length-append x y);
+    }
+
+is-repeated : {s : List ℕ} {lo end : ℕ} (u : Unlabelled) (rs : Repeats) → FinePlain u → Lies s lo (O.repeated (encodeUnlabelled u) (encodeRepeats rs)) → end ≡ lo + length (O.repeated (encodeUnlabelled u) (encodeRepeats rs))
+    → getD s (end - 1) 0 ≡ O.REPEATED → IsRepeated s lo end u rs
+unfolding O.repeated encodeRepeats forms
+is-repeated {s} {lo} {end} u T.noRepeats f h e q = absurd (omega (arith, q, form-small s lo end (form-of s lo end u f h e)))
+is-repeated u (T.repeat rs) f h e q = repeated-of u (T.repeat rs) (omega arith) h e
+is-repeated u (T.repeatOn w d rs) f h e q = repeated-of u (T.repeatOn w d rs) (omega arith) h e
+
+pub record IsOnce (s : List ℕ) (lo end : ℕ) (u : Unlabelled) (rs : Repeats) : Type 0 where
+  pub same : rs ≡ T.noRepeats
+  pub lies : Lies s lo (encodeUnlabelled u)
+  pub ends : end ≡ lo + length (encodeUnlabelled u)
+
+is-once : {s : List ℕ} {lo end : ℕ} (u : Unlabelled) (rs : Repeats) → Lies s lo (O.repeated (encodeUnlabelled u) (encodeRepeats rs)) → end ≡ lo + length (O.repeated (encodeUnlabelled u) (encodeRepeats rs))
+    → (getD s (end - 1) 0 ≡ O.REPEATED → ⊥) → IsOnce s lo end u rs
+unfolding O.repeated encodeRepeats
+is-once u T.noRepeats h e q = record { same = refl; lies = h; ends = e }
+is-once u (T.repeat rs) h e q = absurd (q (kind-is (encodeUnlabelled u ++ encodeRepeats (T.repeat rs)) (length (encodeUnlabelled u)) 0 O.REPEATED h e))
+is-once u (T.repeatOn w d rs) h e q = absurd (q (kind-is (encodeUnlabelled u ++ encodeRepeats (T.repeatOn w d rs)) (length (encodeUnlabelled u)) 0 O.REPEATED h e))
+
+-- two entries stand in front of each condition
+pub forms-entries : (rs : Repeats) → length (encodeRepeats rs) ≡ 2 * forms rs + conditions rs
+unfolding forms conditions encodeRepeats
+forms-entries T.noRepeats = omega arith
+forms-entries (T.repeat rs) = omega (arith, forms-entries rs)
+forms-entries (T.repeatOn w e rs) = omega (arith, forms-entries rs, length-append (encode e) (encodeRepeats rs))
+
+any-repeats : (text : List ℕ) (l m : Leavable) (q : l .routine ≡ m .routine) (sc : Scope) (h : ℕ) (rs : Repeats) → inRepeats text sc l h rs ≡ inRepeats text sc m h rs
+unfolding inRepeats
+any-repeats text l m q sc h T.noRepeats = refl
+any-repeats text l m q sc h (T.repeat rs) = any-repeats text l m q sc h rs
+any-repeats text l m q sc h (T.repeatOn w e rs) =
+    ap (λ (z : List Fault). z ++ inRepeats text sc l h rs) (any-expression text l m q sc h e) ∙ ap (λ (z : List Fault). inExpression text sc m h e ++ z) (any-repeats text l m q sc h rs)
+
+-- a command with forms is in a loop
+forms-leave : (rs : Repeats) (l : Leavable) → 1 ≤ forms rs → Y.repeated rs l ≡ Y.inLoop l
+unfolding forms
+forms-leave T.noRepeats l k = absurd (omega arith)
+forms-leave (T.repeat rs) l k = refl
+forms-leave (T.repeatOn w e rs) l k = refl
+
+innermost-is : (n k own : ℕ) (ways : Ways) → 1 ≤ k → own ≡ n + 3 * k - 3 → exits (inLoop (own + 1) (own + 2) ways) ≡ innermost n k (exits ways)
+innermost-is n zero own ways l e = absurd (omega arith)
+innermost-is n (suc k) own ways l e = let q : own ≡ n + 3 * k = omega arith in ap (λ (i : ℕ). exits (inLoop (i + 1) (i + 2) ways)) q
+
+module _ {s : List ℕ} {end : ℕ} {here : Here} {st : State} (n : Node) (nd : NodeAt s end n) (q : n .kind ≡ O.REPEATED) {middle : ℕ} (m : middle ≡ n .start + n .value) where
+  pub repeated-is : (y : ReadyR s end here st) → IsRepeated s (y .lo) end (y .tree .body) (y .tree .forms)
+  repeated-is y = is-repeated (y .tree .body) (y .tree .forms) (y .fine .0) (y .lies) (y .ends) (sym (nd .kind) ∙ q)
+
+  pub repeated-middle : (y : ReadyR s end here st) → middle ≡ y .lo + length (encodeUnlabelled (y .tree .body))
+  repeated-middle y = let u = repeated-is y in omega (arith, m, nd .start, nd .value, u .value-of, u .size-of, u .ends)
+
+  module _ {k : ℕ} (c : Counts s middle (n .inner) k) where
+    pub repeated-count : (y : ReadyR s end here st) → k ≡ forms (y .tree .forms)
+    repeated-count y = let u = repeated-is y in
+        c .by (forms (y .tree .forms)) (repeat-items (y .tree .forms) (subst (λ (i : ℕ). Lies s i (encodeRepeats (y .tree .forms))) (sym (repeated-middle y)) (u .lies-forms)) (omega (arith, nd .inner, u .ends, repeated-middle y)))
+
+    pub repeated-few : (y : ReadyR s end here st) → (1 ≤ k) × (st .label + 3 * k + 3 ≤ 2 ^ 29)
+    repeated-few y = let u = repeated-is y in (omega (arith, repeated-count y, u .some), omega (arith, repeated-count y, forms-entries (y .tree .forms), y .label, y .ends, u .ends))
+
+    module _ {a b : State} {t t₁ : List ℕ} (e : Fresh (3 * k) st a) (f : Emits (topsCode (st .label) k) [] t t₁ a b) where
+      abbrev pub repeated-body : ReadyR s end here st → ReadyU s middle here b
+      repeated-body y = let u = repeated-is y in
+          sub encodeUnlabelled unlabelledDepth FinePlain y keeps-all middle (y .lo) here b (y .tree .body) (u .lies) (repeated-middle y) (omega arith) (omega (arith, repeated-middle y, u .ends)) refl refl
+          (omega (arith, y .height, y .ends, u .ends)) (omega (arith, y .label, y .ends, u .ends, e .label, f .label, repeated-count y, forms-entries (y .tree .forms))) (omega (arith, y .some, e .label, f .label))
+          (omega (arith, y .shallow)) (y .fine .0)
+
+      module _ (text : List ℕ) (ways : Ways) {own : ℕ} (eo : own ≡ st .label + 3 * k - 3) {s₁ t₂ : List ℕ} {d : State} (g : GaveU text s s₁ middle here (inLoop (own + 1) (own + 2) ways) t₁ t₂ b d) where
+        abbrev pub repeated-forms : ReadyR s end here st → ReadyForms s₁ middle (n .inner) here d
+        repeated-forms y = let u = repeated-is y in let x = g .by (repeated-body y) in record {
+          before = st;
+          ready = sub encodeRepeats repeatsDepth FineRs y (x .keeps) (n .inner) (y .lo + length (encodeUnlabelled (y .tree .body))) here st (y .tree .forms) (u .lies-forms) (omega (arith, nd .inner, u .ends)) (omega arith) (omega (arith, nd .inner)) refl refl
+              (omega (arith, y .height, y .ends, u .ends)) (omega (arith, y .label, y .ends, u .ends)) (y .some) (omega (arith, y .shallow)) (y .fine .1);
+          starts = sym (repeated-middle y);
+          label = omega (arith, y .label, y .ends, u .ends, e .label, f .label, repeated-count y, forms-entries (y .tree .forms), x .did .few);
+          some = omega (arith, y .some, e .label, f .label, x .did .grows);
+        }
+
+        pub repeated-gave : {s₂ t₃ : List ℕ} {r : State} → GaveForms text s₁ s₂ middle (n .inner) own here t₂ t₃ d r → GaveR text s s₂ end here ways t t₃ st r
+        repeated-gave {s₂} {t₃} {r} g₂ = record {
+          by = λ y.
+              let u = repeated-is y in let x = g .by (repeated-body y) in let z = g₂ .by (repeated-forms y) in let sc = y .scope in let h = here .height in let S = here .strings in let L = st .label in
+              let rs = y .tree .forms in let C = unlabelled text sc h (y .tree .body) in let lv = leavableBy ways here in let N = L + 3 * k in
+              let ek = repeated-count y in
+              let l₁ : leavableBy (inLoop (own + 1) (own + 2) ways) here ≡ Y.repeated rs lv = leaves-loop here ways (own + 1) (own + 2) (omega arith) ∙ sym (forms-leave rs lv (u .some)) in
+              let ei : exits (inLoop (own + 1) (own + 2) ways) ≡ innermost L (forms rs) (exits ways) = innermost-is L (forms rs) own ways (u .some) (eo ∙ ap (λ (i : ℕ). L + 3 * i - 3) ek) in
+              record {
+                keeps = keeps-then (x .keeps) (z .keeps);
+                did = did-at (cmdSays here ways (repeats text sc h C rs)) _ (did-fresh e (did-after f (did-then (x .did) (z .did))))
+                    (same-eq (ap (λ (p : Leavable). inUnlabelled text sc p h (y .tree .body) ++ inRepeats text sc (leavable here) h rs) l₁ ∙ ap (λ (w : List Fault). inUnlabelled text sc (Y.repeated rs lv) h (y .tree .body) ++ w) (any-repeats text (leavable here) lv refl sc h rs)))
+                    (λ v. code-is
+                    (ap (λ (i : ℕ). topsCode L i ++ (G.cmdCode S h N (exits (inLoop (own + 1) (own + 2) ways)) C ++ formsCode text sc S h own rs (N + G.cmdLabels C))) ek
+                    ∙ ap (λ (w : G.Exits). topsCode L (forms rs) ++ (G.cmdCode S h N w C ++ formsCode text sc S h own rs (N + G.cmdLabels C))) ei
+                    ∙ sym (repeats-code text sc S h rs C L N own (N + G.cmdLabels C) (exits ways) (ap (λ (i : ℕ). L + 3 * i) ek) eo refl))
+                    (sym (repeats-heights text sc h rs C))
+                    (omega (arith, repeats-labels text sc h rs C, ek)))
+                    (omega (arith, y .ends, u .ends, ek, forms-entries rs));
+              };
+        }
+
+module _ {s : List ℕ} {end : ℕ} {here : Here} {st : State} (n : Node) (nd : NodeAt s end n) (q : n .kind ≡ O.REPEATED → ⊥) where
+  pub once-is : (y : ReadyR s end here st) → IsOnce s (y .lo) end (y .tree .body) (y .tree .forms)
+  once-is y = is-once (y .tree .body) (y .tree .forms) (y .lies) (y .ends) (λ e. q (nd .kind ∙ e))
+
+  abbrev pub once-part : ReadyR s end here st → ReadyU s end here st
+  once-part y = let u = once-is y in
+      sub encodeUnlabelled unlabelledDepth FinePlain y keeps-all end (y .lo) here st (y .tree .body) (u .lies) (u .ends) (omega arith) (omega arith) refl refl
+      (omega (arith, y .height, y .ends, u .ends)) (omega (arith, y .label, y .ends, u .ends)) (y .some) (omega (arith, y .shallow)) (y .fine .0)
+
+  pub once-gave : (text : List ℕ) (ways : Ways) {s₁ t t₁ : List ℕ} {r : State} → GaveU text s s₁ end here ways t t₁ st r → GaveR text s s₁ end here ways t t₁ st r
+  unfolding inRepeats repeats
+  once-gave text ways {s₁} {t} {t₁} {r} g = record {
+    by = λ y.
+        let u = once-is y in let x = g .by (once-part y) in let sc = y .scope in let h = here .height in let lv = leavableBy ways here in let U = y .tree .body in
+        subst (λ (rs : Repeats). Result (inUnlabelled text sc (Y.repeated rs lv) h U ++ inRepeats text sc lv h rs) (cmdSays here ways (repeats text sc h (unlabelled text sc h U) rs)) (length (encodeRepeated (y .tree))) (y .base) here s s₁ t t₁ st r) (sym (u .same))
+        (record { keeps = x .keeps; did = did-as _ _ (x .did) (same-eq (sym (append-nil _))) (λ k v. refl) (omega (arith, y .ends, u .ends)) });
+  }

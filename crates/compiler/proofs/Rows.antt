@@ -1,0 +1,195 @@
+-- Items of a list by their ends: the loop over them; labels, one by one and before each command of a list; BY's constant.
+use Prim.Native.Nat.{ℕ, _+_, _-_, _≤_, _<_, _^_}
+use mathlib.Core.Path.{_≡_, refl, sym, ap, subst, _∙_}
+use mathlib.Core.Bool.{Bool, true, false, cond}
+use mathlib.Core.List.{List, [], _∷_, _++_, append-nil}
+use mathlib.Core.Option.{Option, none, some}
+use native.Mathlib.Omega.{arith}
+use lib.ListN.{length, getD, length-append}
+use lib.Dec.{eqb}
+use borrow.Author.Tests.{eq-eqb, ne-eqb}
+use Rattle.language.specs.Tree as T
+use Rattle.language.specs.Tree.{Simple, Constant, Label}
+use Rattle.language.specs.Names.{Scope}
+use Rattle.language.specs.Constants.{Fault, fault, Judged, good, refused, judge, within, faultsOf}
+use Rattle.language.specs.Faults.{misplaced}
+use Rattle.language.specs.Fine.{FineConstant, FineBy, FineLabels}
+use Rattle.tree.specs.Encoding.{closed, encodeName, encodeConstant, encodePositive, encodeNegative, encodeBy, encodeLabels}
+use Rattle.compiler.specs.Scope.{Shows}
+use Rattle.compiler.specs.declared.steps.State.{State}
+use Rattle.compiler.specs.declared.steps.Node.{Node}
+use Rattle.compiler.specs.declared.steps.Verdict.{Verdict}
+use Rattle.compiler.specs.Walked.{NodeAt, Did, Faulted}
+use Rattle.compiler.specs.Walks.{Lies}
+use Rattle.compiler.specs.Commands.{nothing}
+use Rattle.compiler.specs.Locals.{Says, fit, unfit, Judges, Blames}
+use Rattle.compiler.specs.Switching.{JudgesBy, byJudged, ReadyMisplaced, Misplaces}
+use Rattle.compiler.specs.Labels.{Row, noMore, andMore, NextItem, LabelAt, aCase, aDefault, MisplacesLabel}
+use Rattle.compiler.proofs.Done.{did-none, did-then, did-as, same-eq}
+use Rattle.compiler.proofs.Trees.{first, second, kid, ends, place-is, kind-is}
+use Rattle.compiler.proofs.Judging.{place-there}
+
+-- ---- the constant of BY
+
+positive-long : (p : ℕ) (x : Simple) → 0 < length (encodePositive p x)
+unfolding encodePositive encodeName
+positive-long p (T.literal v) = omega arith
+positive-long p (T.known n) = omega arith
+
+negative-long : (p : ℕ) (x : Simple) → 0 < length (encodeNegative p x)
+unfolding encodeNegative encodeName
+negative-long p (T.literal v) = omega arith
+negative-long p (T.known n) = omega arith
+
+constant-long : (c : Constant) → 0 < length (encodeConstant c)
+unfolding encodeConstant
+constant-long c = go (c .minus)
+  where
+    go : (b : Bool) → 0 < length (cond b (encodeNegative (c .place) (c .simple)) (encodePositive (c .place) (c .simple)))
+    go true = negative-long (c .place) (c .simple)
+    go false = positive-long (c .place) (c .simple)
+
+not-zero : {j : Verdict} (c : Constant) (x : Judged) → (j .number ≡ 0 → j .word ≡ 0 → ⊥) → Says j x → Says j (within c (λ v. cond (eqb v 0) false true) x)
+not-zero {j} c (good v) n (fit q) = rw (ne-eqb (j .word) 0 (n q)) (fit q)
+not-zero c (refused fs) n (unfit a b w) = unfit a b w
+
+a-zero : {j : Verdict} (c : Constant) (x : Judged) {p : ℕ} → j .number ≡ 0 → j .word ≡ 0 → p ≡ c .place → Says j x → Says (record { word = 0; number = 11; place = p }) (within c (λ v. cond (eqb v 0) false true) x)
+a-zero {j} c (good v) {p} e w q (fit z) = rw (eq-eqb (j .word) 0 w) (subst (λ (k : ℕ). Says (record { word = 0; number = 11; place = p }) (refused (fault k 11))) q (unfit refl (λ z. omega arith) refl))
+a-zero c (refused fs) e w q (unfit a b z) = absurd (b (sym a ∙ e))
+
+module _ (text : List ℕ) {s : List ℕ} {from end top : ℕ} where
+  pub by-none : end ≤ from → JudgesBy text s from end top (record { word = 1; number = 0; place = 0 })
+  unfolding encodeBy
+  by-none l = record { fits = (omega arith, omega arith); by = go }
+    where
+      go : (base : ℕ) (sc : Scope) (k : Option Constant) → Shows base s top sc → FineBy k → Lies s from (encodeBy k) → end ≡ from + length (encodeBy k) → Says (record { word = 1; number = 0; place = 0 }) (byJudged text sc k)
+      go base sc none sh f h e = fit refl
+      go base sc (some c) sh f h e = absurd (omega (arith, constant-long c))
+
+  -- whatever a constant there is judged, if there is one
+  judges-by : {r : Verdict} → from < end → (r .place < 2 ^ 32) × (r .number < 32)
+      → ((base : ℕ) (sc : Scope) (c : Constant) → Shows base s top sc → FineConstant c → Lies s from (encodeConstant c) → end ≡ from + length (encodeConstant c) → Says r (byJudged text sc (some c))) → JudgesBy text s from end top r
+  unfolding encodeBy
+  judges-by {r} l f g = record { fits = f; by = go }
+    where
+      go : (base : ℕ) (sc : Scope) (k : Option Constant) → Shows base s top sc → FineBy k → Lies s from (encodeBy k) → end ≡ from + length (encodeBy k) → Says r (byJudged text sc k)
+      go base sc none sh f h e = absurd (omega arith)
+      go base sc (some c) sh f h e = g base sc c sh f h e
+
+  module _ {j : Verdict} (l : from < end) (g : Judges text s end top j) where
+    pub by-judged : (j .number ≡ 0 → j .word ≡ 0 → ⊥) → JudgesBy text s from end top j
+    by-judged n = judges-by l (g .fits) (λ base sc c sh f h e. not-zero c (judge text sc c) n (g .by base sc from c sh f h e))
+
+    pub by-zero : {p e₂ : ℕ} → j .number ≡ 0 → j .word ≡ 0 → e₂ ≡ end - 2 → p ≡ getD s e₂ 0 → p < 2 ^ 32 → JudgesBy text s from end top (record { word = 0; number = 11; place = p })
+    by-zero {p} {e₂} n w q e f = judges-by l (f, omega arith) (λ base sc c sh fine h en.
+        a-zero c (judge text sc c) n w (e ∙ ap (λ (k : ℕ). getD s k 0) q ∙ place-there c fine h en) (g .by base sc from c sh fine h en))
+
+-- ---- the loop over items
+
+-- at `at`, the items are left of which Q holds
+pub record Left {A : Type 0} (P : ℕ → A → Type 0) (s : List ℕ) (end at : ℕ) (Q : List A → Type 0) : Type 0 where
+  pub rest : List A
+  pub row : Row P s end at rest
+  pub holds : Q rest
+
+pub next-cut : {s : List ℕ} {at end n r : ℕ} → at < end → n ≡ at + 2 + getD s at 0 → end ≤ n → r ≡ end → NextItem s at end r
+next-cut l e m q = record { further = omega arith; within = omega arith; is = λ h. omega arith }
+
+pub next-is : {s : List ℕ} {at end n : ℕ} → n ≡ at + 2 + getD s at 0 → n < end → NextItem s at end n
+next-is e m = record { further = omega arith; within = omega arith; is = λ h. e }
+
+module _ {A : Type 0} {P : ℕ → A → Type 0} {s : List ℕ} {end : ℕ} where
+  pub left-all : {from : ℕ} (Q : List A → Type 0) {xs : List A} → Row P s end from xs → Q xs → Left P s end from Q
+  left-all Q {xs} r h = record { rest = xs; row = r; holds = h }
+
+  pub left-next : {at next : ℕ} {Q : List A → Type 0} (Q′ : List A → Type 0) → at < end → NextItem s at end next → Left P s end at Q → ((x : A) (xs : List A) → next ≡ at + 2 + getD s at 0 → P next x → Q (x ∷ xs) → Q′ xs) → Left P s end next Q′
+  left-next {at} {next} {Q} Q′ l n p step = go (p .rest) (p .row) (p .holds)
+    where
+      go : (xs : List A) → Row P s end at xs → Q xs → Left P s end next Q′
+      go [] (noMore e) h = absurd (omega arith)
+      go (x ∷ xs) (andMore m q r) h = let e = n .is m in
+          record { rest = xs; row = subst (λ (k : ℕ). Row P s end k xs) (sym e) r; holds = step x xs e (subst (λ (k : ℕ). P k x) (sym e) q) h }
+
+  pub left-end : {at : ℕ} {Q : List A → Type 0} → end ≤ at → Left P s end at Q → Q []
+  left-end {at} {Q} l p = go (p .rest) (p .row) (p .holds)
+    where
+      go : (xs : List A) → Row P s end at xs → Q xs → Q []
+      go [] r h = h
+      go (x ∷ xs) (andMore m q r) h = absurd (omega arith)
+
+-- one more behind
+pub row-more : {A : Type 0} {P : ℕ → A → Type 0} {s : List ℕ} {from at next : ℕ} {x : A} (xs : List A) → Row P s at from xs → next ≡ at + 2 + getD s at 0 → P next x → Row P s next from (xs ++ (x ∷ []))
+row-more {P = P} {s} {from} {at} {next} {x} [] (noMore e) q p =
+    let z : next ≡ from + 2 + getD s from 0 = q ∙ ap (λ (k : ℕ). k + 2 + getD s k 0) e in
+    andMore {at = from} (omega arith) (subst (λ (k : ℕ). P k x) z p) (noMore z)
+row-more {from = from} (y ∷ ys) (andMore m p r) q h = andMore {at = from} (omega arith) p (row-more ys r q h)
+
+-- ---- labels stand in a row
+
+pub an-item : {s : List ℕ} {at end tag : ℕ} (w rest : List ℕ) → Lies s at (length w ∷ tag ∷ (w ++ rest)) → end ≡ at + length (length w ∷ tag ∷ (w ++ rest)) → {T : Type 0}
+    → (at + 2 + getD s at 0 ≡ at + 2 + length w → Lies s (at + 2) w → Lies s (at + 2 + getD s at 0) rest → end ≡ at + 2 + getD s at 0 + length rest → T) → T
+an-item {s} {at} {end} {tag} w rest h e f =
+    let a : at + 0 ≡ at = omega arith in
+    let z : getD s at 0 ≡ length w = ap (λ (k : ℕ). getD s k 0) (sym a) ∙ h .at 0 (omega arith) in
+    let r = second (length w ∷ tag ∷ []) (w ++ rest) (at + 2) h refl in
+    f (omega arith) (first w rest r) (second w rest (at + 2 + getD s at 0) r (omega arith)) (omega (arith, length-append w rest))
+
+case-at : {s : List ℕ} {lo end : ℕ} (p : ℕ) (c : Constant) → FineConstant c → Lies s lo (closed (encodeConstant c) 0 p 28) → end ≡ lo + length (closed (encodeConstant c) 0 p 28) → LabelAt s end (T.case p c)
+case-at {s} {lo} {end} p c f h e = let w = encodeConstant c in
+    aCase (kind-is w 0 p 28 h e) (place-is w 0 p 28 h e) (kid w 0 p 28 h e) (omega (arith, ends w 0 p 28 h e)) f
+
+default-at : {s : List ℕ} {lo end : ℕ} (p : ℕ) → Lies s lo (closed [] 0 p 29) → end ≡ lo + length (closed [] 0 p 29) → LabelAt s end (T.default p)
+default-at p h e = aDefault (kind-is [] 0 p 29 h e) (place-is [] 0 p 29 h e)
+
+pub labels-row : {s : List ℕ} {at end : ℕ} (ls : List Label) → FineLabels ls → Lies s at (encodeLabels ls) → end ≡ at + length (encodeLabels ls) → Row (LabelAt s) s end at ls
+unfolding encodeLabels FineLabels
+labels-row {at = at} [] f h e = noMore {at = at} (omega arith)
+labels-row {s} {at} {end} (T.case p c ∷ ls) f h e = an-item (closed (encodeConstant c) 0 p 28) (encodeLabels ls) h e
+    (λ z lies more en. andMore {at = at} (omega arith) (case-at p c (f .0) lies z) (labels-row ls (f .1) more en))
+labels-row {s} {at} {end} (T.default p ∷ ls) f h e = an-item (closed [] 0 p 29) (encodeLabels ls) h e
+    (λ z lies more en. andMore {at = at} (omega arith) (default-at p lies z) (labels-row ls f more en))
+
+-- ---- a label before no command of a list
+
+pub twelve : {s : List ℕ} {end : ℕ} {st a : State} {n : Node} → NodeAt s end n → Faulted (n .place) 12 st a → {place : ℕ} → getD s (end - 2) 0 ≡ place → (t : List ℕ) → Did (fault place 12) nothing 0 t t st a
+twelve {st = st} {a} nd w e t = subst (λ (k : ℕ). Did (fault k 12) nothing 0 t t st a) (nd .place ∙ e) (w .by nothing t)
+
+module _ (text : List ℕ) {s : List ℕ} {end top : ℕ} {st : State} (n : Node) (nd : NodeAt s end n) {a : State} (w : Faulted (n .place) 12 st a) where
+  pub misplaced-default : (n .kind ≡ 28 → ⊥) → MisplacesLabel text s end top st a
+  unfolding misplaced
+  misplaced-default q = record { by = go }
+    where
+      go : (base : ℕ) (sc : Scope) (l : Label) → Shows base s top sc → LabelAt s end l → (t : List ℕ) → Did (misplaced text sc (l ∷ [])) nothing 0 t t st a
+      go base sc (T.case p c) sh (aCase k e h en f) t = absurd (q (nd .kind ∙ k))
+      go base sc (T.default p) sh (aDefault k e) t = twelve nd w e t
+
+  pub misplaced-case : {j : Verdict} {r : State} → n .kind ≡ 28 → Judges text s (n .inner) top j → Blames j a r → MisplacesLabel text s end top st r
+  unfolding misplaced
+  misplaced-case {j} {r} q g b = record { by = go }
+    where
+      go : (base : ℕ) (sc : Scope) (l : Label) → Shows base s top sc → LabelAt s end l → (t : List ℕ) → Did (misplaced text sc (l ∷ [])) nothing 0 t t st r
+      go base sc (T.case p c) sh (aCase {lo = lo} k e h en f) t =
+          did-as nothing 0 (did-then (twelve nd w e t) (b .by (judge text sc c) (g .by base sc lo c sh f h (nd .inner ∙ en)) t)) (same-eq (sym (append-nil _))) (λ v z. refl) (omega arith)
+      go base sc (T.default p) sh (aDefault k e) t = absurd (omega (arith, nd .kind))
+
+misplaced-then : (text : List ℕ) (sc : Scope) (l : Label) (ls : List Label) → misplaced text sc (l ∷ []) ++ misplaced text sc ls ≡ misplaced text sc (l ∷ ls)
+unfolding misplaced
+misplaced-then text sc (T.case p c) ls = ap (λ (z : List Fault). z ++ misplaced text sc ls) (append-nil (fault p 12 ++ faultsOf (judge text sc c)))
+misplaced-then text sc (T.default p) ls = refl
+
+module _ (text : List ℕ) {s : List ℕ} {from end top : ℕ} (st₀ : State) where
+  abbrev pub MisplacedPart : (y : ReadyMisplaced s from end top) (at : ℕ) (st : State) → Type 0
+  MisplacedPart y at st = Left (LabelAt s) s end at (λ rest. (t : List ℕ) (st′ : State) → Did (misplaced text (y .scope) rest) nothing 0 t t st st′ → Did (misplaced text (y .scope) (y .labels)) nothing 0 t t st₀ st′)
+
+  pub misplaced-begin : (y : ReadyMisplaced s from end top) → MisplacedPart y from st₀
+  misplaced-begin y = left-all (λ rest. (t : List ℕ) (st′ : State) → Did (misplaced text (y .scope) rest) nothing 0 t t st₀ st′ → Did (misplaced text (y .scope) (y .labels)) nothing 0 t t st₀ st′)
+      (labels-row (y .labels) (y .fine) (y .lies) (y .ends)) (λ t st′ d. d)
+
+  pub misplaced-next : {at next : ℕ} {st r : State} → at < end → NextItem s at end next → MisplacesLabel text s next top st r → (y : ReadyMisplaced s from end top) → MisplacedPart y at st → MisplacedPart y next r
+  misplaced-next {at} {next} {st} {r} l n m y p =
+      left-next (λ rest. (t : List ℕ) (st′ : State) → Did (misplaced text (y .scope) rest) nothing 0 t t r st′ → Did (misplaced text (y .scope) (y .labels)) nothing 0 t t st₀ st′) l n p
+      (λ x xs e q h t st′ d. h t st′ (did-as nothing 0 (did-then (m .by (y .base) (y .scope) x (y .shows) q t) d) (same-eq (misplaced-then text (y .scope) x xs)) (λ v z. refl) (omega arith)))
+
+  pub misplaced-end : {at : ℕ} {st : State} → end ≤ at → ((y : ReadyMisplaced s from end top) → MisplacedPart y at st) → Misplaces text s from end top st₀ st
+  unfolding misplaced
+  misplaced-end {at} {st} l q = record { by = λ y t. left-end l (q y) t st (did-none 0) }

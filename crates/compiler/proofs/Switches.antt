@@ -1,0 +1,294 @@
+-- SWITCHON: the loop over the list after INTO, and the whole.
+use Prim.Native.Nat.{ℕ, suc, _+_, _*_, _-_, _≤_, _<_, _^_}
+use mathlib.Core.Path.{_≡_, refl, sym, ap, subst, _∙_}
+use mathlib.Core.List.{List, [], _∷_, _++_, append-assoc}
+use native.Mathlib.Omega.{arith}
+use lib.ListN.{length, getD, length-append}
+use borrow.Author.Tests.{ne-eqb}
+use Rattle.items.specs.Item as I
+use Rattle.language.specs.Kinds as K
+use Rattle.language.specs.Tree as T
+use Rattle.language.specs.Tree.{Label, Expression, Commands, Unlabelled}
+use Rattle.language.proofs.Depth.{depth, commandDepth, commandsDepth, unlabelledDepth}
+use Rattle.language.specs.Names.{Scope}
+use Rattle.language.specs.Constants.{Fault}
+use Rattle.language.specs.Resolved as R
+use Rattle.language.specs.Resolve.{expression, unlabelled, labelsBefore, caseList}
+use Rattle.language.specs.Heights.{ofCmd, ofCases}
+use Rattle.language.specs.Fine.{FineCommands, FineUnlabelled}
+use Rattle.code.specs.Generate as G
+use Rattle.language.specs.Faults as Y
+use Rattle.language.specs.Faults.{Leavable, doubled, inExpression, inCase, inCases, inUnlabelled}
+use Rattle.tree.specs.Encoding.{encode, encodeCommand, encodeCommands, encodeUnlabelled}
+use Rattle.compiler.specs.Scope.{Keeps}
+use Rattle.compiler.proofs.Scoping.{keeps-all, keeps-then, keeps-shows}
+use Rattle.compiler.specs.declared.steps.State.{State}
+use Rattle.compiler.specs.declared.steps.Here.{Here}
+use Rattle.compiler.specs.declared.steps.Ways.{Ways}
+use Rattle.compiler.specs.declared.steps.Node.{Node}
+use Rattle.compiler.specs.Fine.{FineE, FineC, FineCs, FinePlain}
+use Rattle.compiler.specs.Walked.{inSwitch, leavableBy, exits, NodeAt, Code, Did, Emits, Fresh}
+use Rattle.compiler.specs.Walks.{Lies, Result, ReadyE, GaveE, Counts}
+use Rattle.compiler.specs.Commands.{cmdSays, ReadyC, GaveCase, ReadyU, GaveU, casesFaults, casesSays, entriesIn, ReadyCases, GaveCases}
+use Rattle.compiler.specs.Switching.{labelFaults, ReadyLabels, JudgesLabels, tableItems, WritesTable}
+use Rattle.compiler.proofs.Done.{did-none, did-put, did-after, did-then, did-as, did-at, did-fresh, Same, same-refl, same-eq, same-swap, same-then, same-both, code-is}
+use Rattle.compiler.proofs.Trees.{first, second, keeps-lies}
+use Rattle.compiler.proofs.Parts.{sub}
+use Rattle.compiler.proofs.Anywhere.{with-ways}
+use Rattle.compiler.proofs.Guards.{closed-start, unlabelled-closed}
+use Rattle.compiler.proofs.Blocks.{IsCmd, is-cmd}
+use Rattle.compiler.proofs.Counting.{command-items}
+use Rattle.compiler.proofs.Forms as F
+use Rattle.compiler.proofs.Forms.{Form, form-at}
+
+-- ---- the loop
+
+module _ (text t₀ : List ℕ) (w : Ways) (l₀ : ℕ) {s₀ : List ℕ} {from end : ℕ} {here : Here} {st₀ : State} where
+  pub record CasesPart (y : ReadyCases s₀ from end here st₀) (s t : List ℕ) (at k : ℕ) (st : State) : Type 0 where
+    pub rest : Commands
+    pub lies : Lies s₀ at (encodeCommands rest)
+    pub ends : end ≡ at + length (encodeCommands rest)
+    pub starts : from ≤ at
+    pub count : k ≤ at
+    pub keeps : Keeps (y .ready .base) (here .top) s₀ s
+    pub label : st .label + 2 * entriesIn rest ≤ st₀ .label + 2 * entriesIn (y .ready .tree)
+    pub some : 0 < st .label
+    pub shallow : commandsDepth rest ≤ here .left
+    pub fine : FineCs rest
+    pub finish : (t′ : List ℕ) (st′ : State) → Did (casesFaults text (y .ready .scope) (leavableBy w here) (here .height) rest) (casesSays here w (l₀ + k) (caseList text (y .ready .scope) (here .height) rest)) (2 * entriesIn rest) t t′ st st′
+        → Did (casesFaults text (y .ready .scope) (leavableBy w here) (here .height) (y .ready .tree)) (casesSays here w l₀ (caseList text (y .ready .scope) (here .height) (y .ready .tree))) (2 * entriesIn (y .ready .tree)) t₀ t′ st₀ st′
+
+  pub cases-begin : (y : ReadyCases s₀ from end here st₀) → CasesPart y s₀ t₀ from 0 st₀
+  cases-begin y = let z = y .ready in let a : l₀ + 0 ≡ l₀ = omega arith in record {
+    rest = z .tree;
+    lies = subst (λ (n : ℕ). Lies s₀ n (encodeCommands (z .tree))) (y .starts) (z .lies);
+    ends = omega (arith, z .ends, y .starts);
+    starts = omega arith;
+    count = omega arith;
+    keeps = keeps-all;
+    label = omega arith;
+    some = y .some;
+    shallow = z .shallow;
+    fine = z .fine;
+    finish = λ t′ st′ d. subst (λ (i : ℕ). Did (casesFaults text (z .scope) (leavableBy w here) (here .height) (z .tree)) (casesSays here w i (caseList text (z .scope) (here .height) (z .tree))) (2 * entriesIn (z .tree)) t₀ t′ st₀ st′) a d;
+  }
+
+  module _ {s t : List ℕ} {at size next k : ℕ} {st : State} (l : at < end) (es : size ≡ getD s at 0) (en : next ≡ at + 2 + size) where
+    pub case-is : (y : ReadyCases s₀ from end here st₀) (p : CasesPart y s t at k st) → IsCmd s₀ at end (p .rest)
+    case-is y p = is-cmd (p .rest) (p .lies) (p .ends) l
+
+    pub case-size : (y : ReadyCases s₀ from end here st₀) (p : CasesPart y s t at k st) → size ≡ length (encodeCommand (case-is y p .part))
+    case-size y p = es ∙ p .keeps .above at (omega (arith, y .ready .above, y .starts, p .starts)) ∙ case-is y p .size-of
+
+    pub case-length : (y : ReadyCases s₀ from end here st₀) (p : CasesPart y s t at k st) → let u = case-is y p in length (encodeCommands (p .rest)) ≡ 2 + length (encodeCommand (u .part)) + length (encodeCommands (u .more))
+    case-length y p = let u = case-is y p in omega (arith, p .ends, u .ends)
+
+    pub case-entries : (y : ReadyCases s₀ from end here st₀) (p : CasesPart y s t at k st) → let u = case-is y p in entriesIn (p .rest) ≡ length (encodeCommand (u .part)) + entriesIn (u .more)
+    unfolding entriesIn
+    case-entries y p = ap entriesIn (case-is y p .same)
+
+    pub case-deep : (y : ReadyCases s₀ from end here st₀) (p : CasesPart y s t at k st) → let u = case-is y p in (commandDepth (u .part) ≤ here .left) × (commandsDepth (u .more) ≤ here .left)
+    unfolding commandsDepth
+    case-deep y p = let e = ap commandsDepth (case-is y p .same) in (omega (arith, p .shallow, e), omega (arith, p .shallow, e))
+
+    pub case-fine : (y : ReadyCases s₀ from end here st₀) (p : CasesPart y s t at k st) → let u = case-is y p in FineC (u .part) × FineCs (u .more)
+    unfolding FineCommands
+    case-fine y p = subst FineCs (case-is y p .same) (p .fine)
+
+    module _ {t₁ : List ℕ} {a : State} (m : Emits (I.label (l₀ + k) ∷ []) [] t t₁ st a) where
+      abbrev pub case-part : (y : ReadyCases s₀ from end here st₀) → CasesPart y s t at k st → ReadyC s next here a
+      case-part y p = let z = y .ready in let u = case-is y p in
+          sub encodeCommand commandDepth FineC z (p .keeps) next (at + 2) here a (u .part) (u .lies) (omega (arith, en, case-size y p)) (omega (arith, y .starts, p .starts)) (omega (arith, en, case-size y p, u .ends)) refl refl
+          (omega (arith, z .height, z .ends, p .ends, p .starts, y .starts, case-length y p)) (omega (arith, y .label, p .label, case-entries y p, m .label)) (omega (arith, p .some, m .label)) (case-deep y p .0) (case-fine y p .0)
+
+      pub cases-next : {s₁ t₂ : List ℕ} {r : State} → GaveCase text s s₁ next here w t₁ t₂ a r → (y : ReadyCases s₀ from end here st₀) → CasesPart y s t at k st → CasesPart y s₁ t₂ next (k + 1) r
+      unfolding casesFaults caseList G.casesCode ofCases G.casesLabels
+      cases-next {s₁} {t₂} {r} g y p =
+          let z = y .ready in let u = case-is y p in let x = g .by (case-part y p) in let sc = z .scope in let h = here .height in let lv = leavableBy w here in
+          let a : l₀ + (k + 1) ≡ suc (l₀ + k) = omega arith in
+          record {
+            rest = u .more;
+            lies = subst (λ (n : ℕ). Lies s₀ n (encodeCommands (u .more))) (omega (arith, en, case-size y p)) (u .lies-more);
+            ends = omega (arith, u .ends, en, case-size y p);
+            starts = omega (arith, p .starts, en);
+            count = omega (arith, p .count, en);
+            keeps = keeps-then (p .keeps) (x .keeps);
+            label = omega (arith, p .label, case-entries y p, x .did .few, m .label);
+            some = omega (arith, p .some, x .did .grows, m .label);
+            shallow = case-deep y p .1;
+            fine = case-fine y p .1;
+            finish = λ t′ st′ d. p .finish t′ st′
+                (subst (λ (cs : Commands). Did (casesFaults text sc lv h cs) (casesSays here w (l₀ + k) (caseList text sc h cs)) (2 * entriesIn (p .rest)) t t′ st st′) (sym (u .same))
+                (did-as (casesSays here w (l₀ + k) (caseList text sc h (T.andCommand (u .part) (u .more)))) _
+                (did-then (did-after m (x .did)) (subst (λ (i : ℕ). Did (casesFaults text sc lv h (u .more)) (casesSays here w i (caseList text sc h (u .more))) (2 * entriesIn (u .more)) t₂ t′ r st′) a d))
+                same-refl (λ i c. refl) (omega (arith, case-entries y p))));
+          }
+
+  pub cases-end : {s t : List ℕ} {at k : ℕ} {st : State} → end ≤ at → ((y : ReadyCases s₀ from end here st₀) → CasesPart y s t at k st) → GaveCases text s₀ s from end l₀ here w t₀ t st₀ st
+  unfolding casesFaults caseList G.casesCode ofCases G.casesLabels encodeCommands
+  cases-end {s} {t} {at} {k} {st} l q = record { by = λ y. let p = q y in record { keeps = p .keeps; did = p .finish t st (none (p .rest) y (p .ends)) } }
+    where
+      none : (cs : Commands) (y : ReadyCases s₀ from end here st₀) → end ≡ at + length (encodeCommands cs) → Did (casesFaults text (y .ready .scope) (leavableBy w here) (here .height) cs) (casesSays here w (l₀ + k) (caseList text (y .ready .scope) (here .height) cs)) (2 * entriesIn cs) t t st st
+      none T.noCommands y e = did-none _
+      none (T.andCommand c cs) y e = absurd (omega (arith, length-append (encodeCommand c) (encodeCommands cs)))
+
+-- ---- the faults of labels and commands, one by one or those of the labels first
+
+-- (a, b), (c, d) as (a, c), (b, d)
+same-crossed : (a b c d : List Fault) → Same ((a ++ b) ++ (c ++ d)) ((a ++ c) ++ (b ++ d))
+same-crossed a b c d =
+    same-then (same-eq (append-assoc a b (c ++ d) ∙ ap (λ (z : List Fault). a ++ z) (sym (append-assoc b c d))))
+    (same-then (same-both (same-refl {a = a}) (same-both (same-swap b c) (same-refl {a = d})))
+    (same-eq (ap (λ (z : List Fault). a ++ z) (append-assoc c b d) ∙ sym (append-assoc a c (b ++ d)))))
+
+cases-same : (text : List ℕ) (sc : Scope) (l : Leavable) (h : ℕ) (before : List Label) (cs : Commands) → Same (labelFaults text sc before cs ++ casesFaults text sc l h cs) (inCases text sc l h before cs)
+unfolding labelFaults casesFaults inCases
+cases-same text sc l h before T.noCommands = same-refl
+cases-same text sc l h before (T.andCommand c cs) =
+    same-then (same-crossed (doubled text sc before (labelsBefore c)) (labelFaults text sc (before ++ labelsBefore c) cs) (inCase text sc l h c) (casesFaults text sc l h cs))
+    (same-both (same-refl {a = doubled text sc before (labelsBefore c) ++ inCase text sc l h c}) (cases-same text sc l h (before ++ labelsBefore c) cs))
+
+-- ---- the whole
+
+pub record IsSwitch (s : List ℕ) (lo end : ℕ) (u : Unlabelled) : Type 0 where
+  pub value : Expression
+  pub list : Commands
+  pub same : u ≡ T.switchon value list
+  pub lies : Lies s lo (encode value)
+  pub lies-list : Lies s (lo + length (encode value)) (encodeCommands list)
+  pub value-of : getD s (end - 3) 0 ≡ length (encode value)
+  pub ends : end ≡ lo + length (encode value) + length (encodeCommands list) + 4
+
+is-switch : {s : List ℕ} {lo end : ℕ} {u : Unlabelled} → Form s lo end K.SWITCHON u → IsSwitch s lo end u
+is-switch {lo = lo} (F.aSwitch {e} {cs} h v q) = record {
+  value = e;
+  list = cs;
+  same = refl;
+  lies = first (encode e) (encodeCommands cs) h;
+  lies-list = second (encode e) (encodeCommands cs) (lo + length (encode e)) h refl;
+  value-of = v;
+  ends = omega (arith, q, length-append (encode e) (encodeCommands cs));
+}
+
+-- two entries stand in front of each command
+pub list-entries : (text : List ℕ) (sc : Scope) (h : ℕ) (cs : Commands) → length (encodeCommands cs) ≡ 2 * G.commandsIn (caseList text sc h cs) + entriesIn cs
+unfolding G.commandsIn caseList encodeCommands entriesIn
+list-entries text sc h T.noCommands = omega arith
+list-entries text sc h (T.andCommand c cs) = omega (arith, list-entries text sc h cs, length-append (encodeCommand c) (encodeCommands cs))
+
+leaves-switch : (here : Here) (ways : Ways) (end : ℕ) → 0 < end → leavableBy (inSwitch end ways) here ≡ Y.inSwitch (leavableBy ways here)
+leaves-switch here ways end h = rw (ne-eqb end 0 (λ e. omega arith))
+
+-- the words after X23, and the refusals of the labels
+table-did : {text s t t₁ : List ℕ} {from end top first done : ℕ} {b c d : State} (h : ℕ) → JudgesLabels text s from end top b c → WritesTable text s from end top first done t t₁ c d → (y : ReadyLabels s from end top)
+    → Did (labelFaults text (y .scope) [] (y .commands)) (λ n. record { items = tableItems first done (caseList text (y .scope) h (y .commands)); heights = []; labels = 0 }) 0 t t₁ b d
+table-did {t = t} h j w y = let x = j .by y t in record {
+  worst = w .worst ∙ x .worst;
+  fits = x .fits;
+  few = omega (arith, x .few, w .label);
+  grows = omega (arith, x .grows, w .label);
+  clean = λ e. did-put x (w .by y h e) .clean e;
+}
+
+-- what is written after the value: the end is at the first label, the commands are labelled after it
+abbrev switchSays : Here → Ways → R.Cases → ℕ → Code
+switchSays x w cs n = record {
+  items = tableItems (n + 1) n cs ++ (G.casesCode (x .strings) (x .height) (n + 1) (n + 1 + G.commandsIn cs) (exits (inSwitch n w)) cs ++ (I.label n ∷ []));
+  heights = ofCases (x .height) cs;
+  labels = 1 + G.commandsIn cs + G.casesLabels cs;
+}
+
+module _ {s : List ℕ} {end : ℕ} {here : Here} {st : State} (n : Node) (nd : NodeAt s end n) (q : getD s (end - 1) 0 ≡ K.SWITCHON) {middle : ℕ} (m : middle ≡ n .start + n .value) where
+  pub switch-is : (y : ReadyU s end here st) → IsSwitch s (y .lo) end (y .tree)
+  switch-is y = is-switch (form-at n nd (nd .kind ∙ q) y)
+
+  pub switch-fine : (y : ReadyU s end here st) → FineE (switch-is y .value) × FineCs (switch-is y .list)
+  unfolding FineUnlabelled
+  switch-fine y = let f = subst FinePlain (switch-is y .same) (y .fine) in (f .0 .0, f .0 .1)
+
+  pub switch-deep : (y : ReadyU s end here st) → (depth (switch-is y .value) ≤ here .left) × (commandsDepth (switch-is y .list) ≤ here .left)
+  unfolding unlabelledDepth
+  switch-deep y = let e = ap unlabelledDepth (switch-is y .same) in (omega (arith, y .shallow, e), omega (arith, y .shallow, e))
+
+  pub switch-middle : (y : ReadyU s end here st) → middle ≡ y .lo + length (encode (switch-is y .value))
+  switch-middle y = let u = switch-is y in
+      let k = nd .start ∙ sym (closed-start {end = end} (unlabelled-closed (y .tree) (y .fine)) (y .lies) (y .ends) .0) in
+      omega (arith, m, k, nd .value, u .value-of)
+
+  abbrev pub switch-value : ReadyU s end here st → ReadyE s middle here st
+  switch-value y = let u = switch-is y in
+      sub encode depth FineE y keeps-all middle (y .lo) here st (u .value) (u .lies) (switch-middle y) (omega arith) (omega (arith, switch-middle y, u .ends)) refl refl
+      (omega (arith, y .height, y .ends, u .ends)) (omega (arith, y .label, y .ends, u .ends)) (y .some) (switch-deep y .0) (switch-fine y .0)
+
+  module _ (text : List ℕ) {s₁ t t₁ : List ℕ} {a : State} (g : GaveE text s s₁ middle here t t₁ st a) {k : ℕ} (c : Counts s₁ middle (n .inner) k) where
+    pub switch-lies : (y : ReadyU s end here st) → Lies s₁ middle (encodeCommands (switch-is y .list))
+    switch-lies y = let u = switch-is y in
+        subst (λ (i : ℕ). Lies s₁ i (encodeCommands (u .list))) (sym (switch-middle y)) (keeps-lies (g .by (switch-value y) .keeps) (omega (arith, y .above)) (u .lies-list))
+
+    pub switch-ends : (y : ReadyU s end here st) → n .inner ≡ middle + length (encodeCommands (switch-is y .list))
+    switch-ends y = let u = switch-is y in omega (arith, nd .inner, u .ends, switch-middle y)
+
+    pub switch-count : (y : ReadyU s end here st) → k ≡ G.commandsIn (caseList text (y .scope) (here .height) (switch-is y .list))
+    switch-count y = let u = switch-is y in c .by _ (command-items text (y .scope) (here .height) (u .list) (switch-lies y) (switch-ends y))
+
+    pub switch-few : (y : ReadyU s end here st) → (a .label + k + 1 ≤ 2 ^ 29) × (st .label ≤ a .label)
+    switch-few y = let u = switch-is y in let x = g .by (switch-value y) .did in
+        (omega (arith, switch-count y, list-entries text (y .scope) (here .height) (u .list), y .label, y .ends, u .ends, x .few), x .grows)
+
+    abbrev pub switch-labels : ReadyU s end here st → ReadyLabels s₁ middle (n .inner) (here .top)
+    switch-labels y = let u = switch-is y in record {
+      base = y .base;
+      scope = y .scope;
+      commands = u .list;
+      lies = switch-lies y;
+      ends = switch-ends y;
+      above = omega (arith, y .above, switch-middle y);
+      small = omega (arith, y .small, nd .inner);
+      shows = keeps-shows (g .by (switch-value y) .keeps) (omega arith) (y .shows);
+      fine = switch-fine y .1;
+    }
+
+    module _ {b i d : State} {t₂ : List ℕ} (e : Fresh (k + 1) a b) (j : JudgesLabels text s₁ middle (n .inner) (here .top) b i) {first : ℕ} (ef : first ≡ a .label + 1) (w : WritesTable text s₁ middle (n .inner) (here .top) first (a .label) t₁ t₂ i d) where
+      pub switch-state : (y : ReadyU s end here st) → d .label ≡ a .label + (k + 1)
+      switch-state y = let x = j .by (switch-labels y) t₁ in omega (arith, e .label, x .few, x .grows, w .label)
+
+      abbrev pub switch-cases : ReadyU s end here st → ReadyCases s₁ middle (n .inner) here d
+      switch-cases y = let u = switch-is y in let x = g .by (switch-value y) in let v = list-entries text (y .scope) (here .height) (u .list) in record {
+        before = st;
+        ready = sub encodeCommands commandsDepth FineCs y (x .keeps) (n .inner) (y .lo + length (encode (u .value))) here st (u .list) (u .lies-list) (omega (arith, nd .inner, u .ends)) (omega arith) (omega (arith, nd .inner)) refl refl
+            (omega (arith, y .height, y .ends, u .ends)) (omega (arith, y .label, y .ends, u .ends)) (y .some) (switch-deep y .1) (switch-fine y .1);
+        starts = sym (switch-middle y);
+        label = omega (arith, switch-state y, x .did .few, switch-count y, v, y .label, y .ends, u .ends);
+        some = omega (arith, switch-state y);
+      }
+
+      pub switch-gave : (ways : Ways) {s₂ t₃ t₄ : List ℕ} {o r : State} → GaveCases text s₁ s₂ middle (n .inner) first here (inSwitch (a .label) ways) t₂ t₃ d o → Emits (I.label (a .label) ∷ []) [] t₃ t₄ o r → GaveU text s s₂ end here ways t t₄ st r
+      unfolding inUnlabelled unlabelled G.cmdCode ofCmd G.cmdLabels
+      switch-gave ways {s₂} {t₃} {t₄} {o} {r} g₂ f = record {
+        by = λ y.
+            let u = switch-is y in let x = g .by (switch-value y) in let z = g₂ .by (switch-cases y) in let sc = y .scope in let h = here .height in let S = here .strings in let lv = leavableBy ways here in let A = a .label in
+            let E = expression text sc h (u .value) in let CS = caseList text sc h (u .list) in let v = list-entries text sc h (u .list) in let ek = switch-count y in
+            let ls : leavableBy (inSwitch A ways) here ≡ Y.inSwitch lv = leaves-switch here ways A (omega (arith, x .did .grows, y .some)) in
+            let en : A + (k + 1) + 0 ≡ A + 1 + G.commandsIn CS = omega (arith, ek) in
+            let F = labelFaults text sc [] (u .list) in
+            let rest : Did (F ++ casesFaults text sc (leavableBy (inSwitch A ways) here) h (u .list)) (switchSays here ways CS) (k + 1 + (0 + 2 * entriesIn (u .list))) t₁ t₄ a r =
+            did-at (switchSays here ways CS) _ (did-fresh e (did-put (did-then (table-did h j w (switch-labels y)) (z .did)) f)) same-refl
+            (λ p. code-is
+            (append-assoc (tableItems first A CS) (G.casesCode S h first (A + (k + 1) + 0) (exits (inSwitch A ways)) CS) (I.label A ∷ [])
+            ∙ ap (λ (i : ℕ). tableItems i A CS ++ (G.casesCode S h i (A + (k + 1) + 0) (exits (inSwitch A ways)) CS ++ (I.label A ∷ []))) ef
+            ∙ ap (λ (i : ℕ). tableItems (A + 1) A CS ++ (G.casesCode S h (A + 1) i (exits (inSwitch A ways)) CS ++ (I.label A ∷ []))) en)
+            refl (omega (arith, ek)))
+            (omega arith) in
+            subst (λ (p : Unlabelled). Result (inUnlabelled text sc lv h p) (cmdSays here ways (unlabelled text sc h p)) (length (encodeUnlabelled (y .tree))) (y .base) here s s₂ t t₄ st r) (sym (u .same))
+            (record {
+              keeps = keeps-then (x .keeps) (z .keeps);
+              did = did-as (cmdSays here ways (R.switch E CS)) _ (did-then (with-ways text sc here ways h (u .value) (x .did)) rest)
+                  (same-both (same-refl {a = inExpression text sc lv h (u .value)}) (same-then (same-eq (ap (λ (p : Leavable). F ++ casesFaults text sc p h (u .list)) ls)) (cases-same text sc (Y.inSwitch lv) h [] (u .list))))
+                  (λ p c. code-is refl refl (omega arith))
+                  (omega (arith, y .ends, u .ends, ek, v));
+            });
+      }
+
+-- another name of the same ways
+pub gave-cases-at : {text s s′ t t′ : List ℕ} {from end l : ℕ} {here : Here} {w w′ : Ways} {st r : State} → w′ ≡ w → GaveCases text s s′ from end l here w′ t t′ st r → GaveCases text s s′ from end l here w t t′ st r
+gave-cases-at {text} {s} {s′} {t} {t′} {from} {end} {l} {here} {st = st} {r} e g = subst (λ (x : Ways). GaveCases text s s′ from end l here x t t′ st r) e g

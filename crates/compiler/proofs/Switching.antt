@@ -1,0 +1,670 @@
+-- The labels of a list after INTO: where they stand, which there are, the words after X23, and what is refused in them.
+use Prim.Native.Nat.{ℕ, suc, _+_, _-_, _≤_, _<_, _^_}
+use mathlib.Core.Path.{_≡_, refl, sym, ap, subst, _∙_}
+use mathlib.Core.Bool.{Bool, true, false, cond}
+use mathlib.Core.List.{List, [], _∷_, _++_, append-nil, append-assoc}
+use native.Mathlib.Omega.{arith}
+use lib.ListN.{length, getD, length-append}
+use lib.Dec.{eqb}
+use Rattle.items.specs.Item as I
+use Rattle.language.specs.Kinds.{member}
+use Rattle.language.specs.Binding.{isGuard, isLeave}
+use Rattle.language.specs.Tree as T
+use Rattle.language.specs.Tree.{Name, Simple, Constant, Label, Expression, Command, Commands, Unlabelled, endsInCall}
+use Rattle.language.specs.Names as N
+use Rattle.language.specs.Names.{Scope, lookup}
+use Rattle.language.specs.Constants.{Fault, fault, Judged, good, refused, judge, signed, ofFound, ofSimple, faultsOf}
+use Rattle.language.specs.Resolved as R
+use Rattle.language.specs.Resolved.{CaseLabel, hasCase, hasDefault, casesOf, caseCount}
+use Rattle.language.specs.Resolve.{labelsBefore, labelsOf, goodCase, caseList}
+use Rattle.language.specs.Heights.{greatest}
+use Rattle.language.specs.Faults.{doubledCase, doubledLabel, doubled}
+use Rattle.language.specs.Fine.{FineLabels, FineCommand, FineCommands, FineUnlabelled}
+use Rattle.code.specs.Generate as G
+use Rattle.writing.specs.Text.{lines}
+use Rattle.writing.proofs.Laws.{puts-none}
+use Rattle.tree.specs.Encoding as O
+use Rattle.tree.specs.Encoding.{closed, encode, encodeLabels, encodeCommand, encodeCommands, encodeUnlabelled, encodeRepeats, labelled}
+use Rattle.compiler.specs.Scope.{Shows}
+use Rattle.compiler.specs.declared.steps.State.{State}
+use Rattle.compiler.specs.declared.steps.Node.{Node}
+use Rattle.compiler.specs.declared.steps.Verdict.{Verdict}
+use Rattle.compiler.specs.declared.labels.Span.{Span}
+use Rattle.compiler.specs.Fine.{FineC, FineCs, FinePlain}
+use Rattle.compiler.specs.Walked.{NodeAt, Did, Emits, Faulted}
+use Rattle.compiler.specs.Walks.{Lies}
+use Rattle.compiler.specs.Commands.{nothing}
+use Rattle.compiler.specs.Locals.{Says, fit, unfit, Judges, Blames}
+use Rattle.compiler.specs.Switching.{labelFaults, ReadyLabels, JudgesLabels, WritesTable}
+use Rattle.compiler.specs.Labels as L
+use Rattle.compiler.specs.Labels.{Row, noMore, andMore, NextItem, LabelAt, aCase, aDefault, CommandAt, Spans, Listed, marks, flat, wanted, has, Matches, HasLabel, HasLabelled, caseItems, CountsLabel, CountsAll, defaultAmong, FindsDefault, Sound, noLabel, anyDefault, tableAmong, Still, WritesPair, WritesPairs, WritesAll, Seen, JudgesLabel, JudgesCommand, faultsAmong}
+use Rattle.compiler.proofs.Done.{did-none, did-then, did-as, same-refl, emits-then, nil-left, nil-right}
+use Rattle.compiler.proofs.Trees.{first, kid, ends, value-is, size-is, kind-is}
+use Rattle.compiler.proofs.Guards.{expression-closed, kind-of, shut}
+use Rattle.compiler.proofs.Rows.{Left, left-all, left-next, left-end, row-more, an-item, labels-row, twelve}
+
+-- ---- the labels of a command
+
+module _ {s : List ℕ} {end : ℕ} (n : Node) (nd : NodeAt s end n) where
+  pub spans-bare : (n .kind ≡ 132 → ⊥) → Spans s end (record { from = 0; to = 0 })
+  spans-bare q = record { small = omega arith; by = λ ls c. subst (λ (x : List Label). Row (LabelAt s) s 0 0 x) (sym (c .bare (λ k. q (nd .kind ∙ k)))) (noMore {at = 0} refl) }
+
+  pub spans-none : {to : ℕ} → n .kind ≡ 132 → to ≡ n .start + n .value → n .inner < to → Spans s end (record { from = 0; to = 0 })
+  spans-none q e l = record { small = omega arith; by = λ ls c. absurd (omega (arith, c .inside (sym (nd .kind) ∙ q), nd .start, nd .value, nd .inner)) }
+
+  pub spans-is : {to : ℕ} → end < 2 ^ 32 → n .kind ≡ 132 → to ≡ n .start + n .value → to ≤ n .inner → Spans s end (record { from = n .start; to = to })
+  spans-is {to} m q e l = record {
+    small = omega (arith, nd .inner);
+    by = λ ls c.
+        let b : end - 4 - getD s (end - 4) 0 + getD s (end - 3) 0 ≡ to = omega (arith, nd .start, nd .value) in
+        subst (λ (k : ℕ). Row (LabelAt s) s to k ls) (sym (nd .start)) (subst (λ (k : ℕ). Row (LabelAt s) s k (end - 4 - getD s (end - 4) 0) ls) b (c .row (sym (nd .kind) ∙ q)));
+  }
+
+labelled-at : {s : List ℕ} {lo end : ℕ} (ls : List Label) (w : List ℕ) → FineLabels ls → Lies s lo (closed (encodeLabels ls ++ w) (length (encodeLabels ls)) 0 132) → end ≡ lo + length (closed (encodeLabels ls ++ w) (length (encodeLabels ls)) 0 132) → CommandAt s end ls
+labelled-at {s} {lo} {end} ls w f h e =
+    let x = encodeLabels ls in let v = length x in
+    let z : getD s (end - 4) 0 ≡ length x + length w = size-is (x ++ w) v 0 132 h e ∙ length-append x w in
+    let en : end ≡ lo + (length x + length w) + 4 = omega (arith, ends (x ++ w) v 0 132 h e, length-append x w) in
+    let a : lo ≡ end - 4 - getD s (end - 4) 0 = omega arith in
+    let b : end - 4 - getD s (end - 4) 0 + getD s (end - 3) 0 ≡ lo + length x = omega (arith, value-is (x ++ w) v 0 132 h e) in
+    record {
+      bare = λ q. absurd (q (kind-is (x ++ w) v 0 132 h e));
+      inside = λ q. omega arith;
+      row = λ q. subst (λ (k : ℕ). Row (LabelAt s) s (end - 4 - getD s (end - 4) 0 + getD s (end - 3) 0) k ls) a (labels-row ls f (first x w (kid (x ++ w) v 0 132 h e)) b);
+    }
+
+guard-not : {w : ℕ} → isGuard w ≡ true → w ≡ 132 → ⊥
+unfolding isGuard member
+guard-not {w} f e = let z : isGuard 132 ≡ true = subst (λ (k : ℕ). isGuard k ≡ true) e f in let x : _≡_ {A = ℕ} 0 1 = cc in omega arith
+
+leave-not : {w : ℕ} → isLeave w ≡ true → w ≡ 132 → ⊥
+unfolding isLeave member
+leave-not {w} f e = let z : isLeave 132 ≡ true = subst (λ (k : ℕ). isLeave k ≡ true) e f in let x : _≡_ {A = ℕ} 0 1 = cc in omega arith
+
+suffixed-low : (b : Bool) → O.suffixedKind b ≤ 131
+unfolding O.suffixedKind
+suffixed-low true = omega arith
+suffixed-low false = omega arith
+
+-- no expression has labels before it
+expression-low : (e : Expression) → expression-closed e .kind ≤ 131
+unfolding expression-closed shut
+expression-low (T.number p v) = omega arith
+expression-low (T.string p v) = omega arith
+expression-low (T.name n) = omega arith
+expression-low (T.bracketed p d) = omega arith
+expression-low (T.valof p c) = omega arith
+expression-low (T.monadic p o d) = omega arith
+expression-low (T.suffixed d ss) = suffixed-low (endsInCall false ss)
+expression-low (T.dyadic d os) = omega arith
+
+plain-not : {s : List ℕ} {lo end : ℕ} (u : Unlabelled) → FinePlain u → Lies s lo (encodeUnlabelled u) → end ≡ lo + length (encodeUnlabelled u) → getD s (end - 1) 0 ≡ 132 → ⊥
+unfolding FineUnlabelled encodeUnlabelled
+plain-not T.empty f h e q = f .1 refl
+plain-not (T.assignment ls rs) f h e q = omega (arith, q, kind-is (O.encodeSides ls ++ O.encodeExpressions rs) (length (O.encodeFirst ls)) (length (O.encodeSides ls)) 56 h e)
+plain-not (T.callCommand d) f h e q = omega (arith, q, expression-low d, kind-of (expression-closed d) h e)
+plain-not (T.test d c c′) f h e q = omega (arith, q, kind-is (encode d ++ (encodeCommand c ++ encodeCommand c′)) 0 0 13 h e)
+plain-not (T.guarded w d c) f h e q = guard-not (f .0 .2) (sym (kind-is (encode d ++ encodeCommand c) 0 0 w h e) ∙ q)
+plain-not (T.for x d d′ k c) f h e q = omega (arith, q, kind-is (O.encodeName x ++ (encode d ++ (encode d′ ++ (O.encodeBy k ++ encodeCommand c)))) (length (O.encodeBy k)) 0 23 h e)
+plain-not (T.switchon d cs) f h e q = omega (arith, q, kind-is (encode d ++ O.encodeCommands cs) (length (encode d)) 0 26 h e)
+plain-not (T.resultis p d) f h e q = omega (arith, q, kind-is (encode d) 0 p 8 h e)
+plain-not (T.leave w p) f h e q = leave-not (f .0) (sym (kind-is [] 0 p w h e) ∙ q)
+plain-not (T.block ls cs) f h e q = omega (arith, q, kind-is (O.encodeLocals ls ++ O.encodeCommands cs) (length (O.encodeLocals ls)) 0 57 h e)
+
+no-labels : {s : List ℕ} {end : ℕ} → (getD s (end - 1) 0 ≡ 132 → ⊥) → CommandAt s end []
+no-labels n = record { bare = λ q. refl; inside = λ q. absurd (n q); row = λ q. absurd (n q) }
+
+command-at : {s : List ℕ} {lo end : ℕ} (c : Command) → FineC c → Lies s lo (encodeCommand c) → end ≡ lo + length (encodeCommand c) → CommandAt s end (labelsBefore c)
+unfolding FineCommand encodeCommand labelled O.repeated encodeLabels encodeRepeats
+command-at (T.command [] u T.noRepeats) f h e = no-labels (plain-not u (f .1, λ z. omega (arith, f .3 .labels z)) h e)
+command-at (T.command [] u (T.repeat rs)) f h e = no-labels (λ q. omega (arith, q, kind-is (encodeUnlabelled u ++ encodeRepeats (T.repeat rs)) (length (encodeUnlabelled u)) 0 133 h e))
+command-at (T.command [] u (T.repeatOn w d rs)) f h e = no-labels (λ q. omega (arith, q, kind-is (encodeUnlabelled u ++ encodeRepeats (T.repeatOn w d rs)) (length (encodeUnlabelled u)) 0 133 h e))
+command-at (T.command (T.case p c ∷ ls) u rs) f h e = labelled-at (T.case p c ∷ ls) (O.repeated (encodeUnlabelled u) (encodeRepeats rs)) (f .0) h e
+command-at (T.command (T.default p ∷ ls) u rs) f h e = labelled-at (T.default p ∷ ls) (O.repeated (encodeUnlabelled u) (encodeRepeats rs)) (f .0) h e
+
+pub commands-row : {s : List ℕ} {at end : ℕ} (cs : Commands) → FineCs cs → Lies s at (encodeCommands cs) → end ≡ at + length (encodeCommands cs) → Row (CommandAt s) s end at (marks cs)
+unfolding encodeCommands FineCommands marks
+commands-row {at = at} T.noCommands f h e = noMore {at = at} (omega arith)
+commands-row {at = at} (T.andCommand c cs) f h e = an-item (encodeCommand c) (encodeCommands cs) h e
+    (λ z lies more en. andMore {at = at} (omega arith) (command-at c (f .0) lies z) (commands-row cs (f .1) more en))
+
+abbrev pub list-of : {s : List ℕ} {from end top : ℕ} → ReadyLabels s from end top → Listed (CommandAt s) s from end top
+list-of y = record { base = y .base; scope = y .scope; shows = y .shows; all = marks (y .commands); row = commands-row (y .commands) (y .fine) (y .lies) (y .ends) }
+
+-- a command's own labels
+abbrev pub own-labels : {s : List ℕ} {from end next top : ℕ} {sp : Span} → Spans s next sp → Listed (CommandAt s) s from end top → (ls : List Label) → CommandAt s next ls → Listed (LabelAt s) s (sp .from) (sp .to) top
+own-labels i y ls q = record { base = y .base; scope = y .scope; shows = y .shows; all = ls; row = i .by ls q }
+
+-- ---- whether a label is there
+
+or-then : (a p q b : Bool) → p ≡ cond q true b → cond a true p ≡ cond (cond a true q) true b
+or-then true p q b e = refl
+or-then false p q b e = e
+
+has-good : (x : CaseLabel) (j : Judged) (ms ns : List CaseLabel) (b : Bool) → has x ms ≡ cond (has x ns) true b → has x (goodCase j ms) ≡ cond (has x (goodCase j ns)) true b
+unfolding has hasCase hasDefault
+has-good (R.case v) (good w) ms ns b e = or-then (eqb v w) (hasCase v ms) (hasCase v ns) b e
+has-good (R.case v) (refused fs) ms ns b e = e
+has-good R.default (good w) ms ns b e = e
+has-good R.default (refused fs) ms ns b e = e
+
+has-default : (x : CaseLabel) (ms ns : List CaseLabel) (b : Bool) → has x ms ≡ cond (has x ns) true b → has x (R.default ∷ ms) ≡ cond (has x (R.default ∷ ns)) true b
+unfolding has hasCase hasDefault
+has-default (R.case v) ms ns b e = e
+has-default R.default ms ns b e = refl
+
+has-none : (x : CaseLabel) (b : Bool) → b ≡ cond (has x []) true b
+unfolding has hasCase hasDefault
+has-none (R.case v) b = refl
+has-none R.default b = refl
+
+pub has-then : (x : CaseLabel) (text : List ℕ) (sc : Scope) (ls ms : List Label) → has x (labelsOf text sc (ls ++ ms)) ≡ cond (has x (labelsOf text sc ls)) true (has x (labelsOf text sc ms))
+unfolding labelsOf
+has-then x text sc [] ms = has-none x (has x (labelsOf text sc ms))
+has-then x text sc (T.case p c ∷ ls) ms = has-good x (judge text sc c) (labelsOf text sc (ls ++ ms)) (labelsOf text sc ls) (has x (labelsOf text sc ms)) (has-then x text sc ls ms)
+has-then x text sc (T.default p ∷ ls) ms = has-default x (labelsOf text sc (ls ++ ms)) (labelsOf text sc ls) (has x (labelsOf text sc ms)) (has-then x text sc ls ms)
+
+nobody : (x : CaseLabel) (text : List ℕ) (sc : Scope) → has x (labelsOf text sc []) ≡ false
+unfolding labelsOf has hasCase hasDefault
+nobody (R.case v) text sc = refl
+nobody R.default text sc = refl
+
+-- a constant that is judged good, and one that is not
+says-good : {j : Verdict} (x : Judged) → Says j x → j .number ≡ 0 → x ≡ good (j .word)
+says-good (good v) (fit q) e = refl
+says-good (refused fs) (unfit a b w) e = absurd (b (sym a ∙ e))
+
+says-bad : {j : Verdict} (x : Judged) → Says j x → (j .number ≡ 0 → ⊥) → x ≡ refused (faultsOf x)
+says-bad (good v) (fit q) n = absurd (n q)
+says-bad (refused fs) (unfit a b w) n = refl
+
+module _ (text : List ℕ) {s : List ℕ} {end top : ℕ} (n : Node) (nd : NodeAt s end n) where
+  pub match-default : (d : Bool) (v : ℕ) → (n .kind ≡ 28 → ⊥) → Matches text s end top d v d
+  unfolding labelsOf has hasCase hasDefault
+  match-default d v q = record { by = λ base sc l sh at. go d l at sc }
+    where
+      go : (d : Bool) (l : Label) → LabelAt s end l → (sc : Scope) → d ≡ has (wanted d v) (labelsOf text sc (l ∷ []))
+      go d (T.case p c) (aCase k e h en f) sc = absurd (q (nd .kind ∙ k))
+      go true (T.default p) (aDefault k e) sc = refl
+      go false (T.default p) (aDefault k e) sc = refl
+
+  -- of a CASE, by what its constant is judged
+  match-case : {d r : Bool} {v : ℕ} {j : Verdict} → n .kind ≡ 28 → Judges text s (n .inner) top j → ((x : Judged) → Says j x → r ≡ has (wanted d v) (goodCase x [])) → Matches text s end top d v r
+  unfolding labelsOf
+  match-case {d} {r} {v} {j} q g f = record { by = go }
+    where
+      go : (base : ℕ) (sc : Scope) (l : Label) → Shows base s top sc → LabelAt s end l → r ≡ has (wanted d v) (labelsOf text sc (l ∷ []))
+      go base sc (T.case p c) sh (aCase {lo = lo} k e h en fine) = f (judge text sc c) (g .by base sc lo c sh fine h (nd .inner ∙ en))
+      go base sc (T.default p) sh (aDefault k e) = absurd (omega (arith, nd .kind))
+
+  pub match-other : {v : ℕ} {d : Bool} → n .kind ≡ 28 → d ≡ true → Matches text s end top d v false
+  unfolding labelsOf has hasDefault
+  match-other {v} {d} q e = record { by = λ base sc l sh at. rw e (go sc l at) }
+    where
+      good-not : (x : Judged) → false ≡ hasDefault (goodCase x [])
+      good-not (good w) = refl
+      good-not (refused fs) = refl
+
+      go : (sc : Scope) (l : Label) → LabelAt s end l → false ≡ hasDefault (labelsOf text sc (l ∷ []))
+      go sc (T.case p c) (aCase k e h en f) = good-not (judge text sc c)
+      go sc (T.default p) (aDefault k e) = absurd (omega (arith, nd .kind))
+
+  pub match-refused : {d : Bool} {v : ℕ} {j : Verdict} → n .kind ≡ 28 → d ≡ false → Judges text s (n .inner) top j → (j .number ≡ 0 → ⊥) → Matches text s end top d v false
+  unfolding has hasCase
+  match-refused {d} {v} q e g z = match-case q g (λ x sa. rw (e, says-bad x sa z))
+
+  pub match-number : {d : Bool} {v : ℕ} {j : Verdict} → n .kind ≡ 28 → d ≡ false → Judges text s (n .inner) top j → j .number ≡ 0 → Matches text s end top d v (eqb v (j .word))
+  unfolding has hasCase
+  match-number {d} {v} {j} q e g z = match-case q g (λ x sa. rw (e, says-good x sa z) (or-false (eqb v (j .word))))
+    where
+      or-false : (b : Bool) → b ≡ cond b true false
+      or-false true = refl
+      or-false false = refl
+
+cases-then : (ls ms : List Label) → caseItems (ls ++ ms) ≡ caseItems ls + caseItems ms
+unfolding caseItems
+cases-then [] ms = omega arith
+cases-then (T.case p c ∷ ls) ms = omega (arith, cases-then ls ms)
+cases-then (T.default p ∷ ls) ms = cases-then ls ms
+
+-- what an item of a list holds: a label is one, a command has those before it
+pub record Holding (A : Type 0) : Type 1 where
+  pub At : ℕ → A → Type 0
+  pub one : A → List Label
+  pub every : List A → List Label
+  pub none : every [] ≡ []
+  pub more : (x : A) (xs : List A) → every (x ∷ xs) ≡ one x ++ every xs
+
+pub flat-none : flat [] ≡ []
+unfolding flat
+flat-none = refl
+
+pub flat-more : (ls : List Label) (lss : List (List Label)) → flat (ls ∷ lss) ≡ ls ++ flat lss
+unfolding flat
+flat-more ls lss = refl
+
+abbrev pub labels : List ℕ → Holding Label
+labels s = record { At = LabelAt s; one = λ l. l ∷ []; every = λ ls. ls; none = refl; more = λ l ls. refl }
+
+abbrev pub commands : List ℕ → Holding (List Label)
+commands s = record { At = CommandAt s; one = λ ls. ls; every = flat; none = flat-none; more = flat-more }
+
+has-split : {A : Type 0} (K : Holding A) (text : List ℕ) (w : CaseLabel) (sc : Scope) (x : A) (xs : List A) → has w (labelsOf text sc (K .every (x ∷ xs))) ≡ cond (has w (labelsOf text sc (K .one x))) true (has w (labelsOf text sc (K .every xs)))
+has-split K text w sc x xs = ap (λ (z : List Label). has w (labelsOf text sc z)) (K .more x xs) ∙ has-then w text sc (K .one x) (K .every xs)
+
+-- the loops over them
+module _ {A : Type 0} (K : Holding A) where
+  module _ (text : List ℕ) {s : List ℕ} {from end top : ℕ} (d : Bool) (v : ℕ) where
+    abbrev pub HasPart : (y : Listed (K .At) s from end top) (at : ℕ) → Type 0
+    HasPart y at = Left (K .At) s end at (λ rest. has (wanted d v) (labelsOf text (y .scope) (K .every (y .all))) ≡ has (wanted d v) (labelsOf text (y .scope) (K .every rest)))
+
+    pub has-begin : (y : Listed (K .At) s from end top) → HasPart y from
+    has-begin y = left-all (λ rest. has (wanted d v) (labelsOf text (y .scope) (K .every (y .all))) ≡ has (wanted d v) (labelsOf text (y .scope) (K .every rest))) (y .row) refl
+
+    module _ {at next : ℕ} (l : at < end) (n : NextItem s at end next) where
+      pub has-next : (y : Listed (K .At) s from end top) → ((x : A) → K .At next x → false ≡ has (wanted d v) (labelsOf text (y .scope) (K .one x))) → HasPart y at → HasPart y next
+      has-next y m p = let sc = y .scope in
+          left-next (λ rest. has (wanted d v) (labelsOf text sc (K .every (y .all))) ≡ has (wanted d v) (labelsOf text sc (K .every rest))) l n p
+          (λ x xs e q h. h ∙ has-split K text (wanted d v) sc x xs ∙ ap (λ (b : Bool). cond b true (has (wanted d v) (labelsOf text sc (K .every xs)))) (sym (m x q)))
+
+      pub has-found : (y : Listed (K .At) s from end top) → ((x : A) → K .At next x → true ≡ has (wanted d v) (labelsOf text (y .scope) (K .one x))) → HasPart y at → true ≡ has (wanted d v) (labelsOf text (y .scope) (K .every (y .all)))
+      has-found y m p = let sc = y .scope in
+          left-next (λ rest. true ≡ has (wanted d v) (labelsOf text sc (K .every (y .all)))) l n p
+          (λ x xs e q h. sym (h ∙ has-split K text (wanted d v) sc x xs ∙ ap (λ (b : Bool). cond b true (has (wanted d v) (labelsOf text sc (K .every xs)))) (sym (m x q)))) .holds
+
+    pub has-end : {at : ℕ} → end ≤ at → (y : Listed (K .At) s from end top) → HasPart y at → false ≡ has (wanted d v) (labelsOf text (y .scope) (K .every (y .all)))
+    has-end l y p = sym (left-end l p ∙ ap (λ (z : List Label). has (wanted d v) (labelsOf text (y .scope) z)) (K .none) ∙ nobody (wanted d v) text (y .scope))
+
+  -- how many of them are CASE
+  module _ (s : List ℕ) (end : ℕ) where
+    abbrev pub CountPart : (at n : ℕ) → List A → Type 0
+    CountPart at n xs = Left (K .At) s end at (λ rest. caseItems (K .every xs) ≡ n + caseItems (K .every rest))
+
+    pub count-begin : {from : ℕ} (xs : List A) → Row (K .At) s end from xs → CountPart from 0 xs
+    count-begin xs r = left-all (λ rest. caseItems (K .every xs) ≡ 0 + caseItems (K .every rest)) r (omega arith)
+
+    pub count-next : {at next k : ℕ} (n : ℕ) → at < end → NextItem s at end next → ((x : A) → K .At next x → k ≡ caseItems (K .one x)) → (xs : List A) → CountPart at n xs → CountPart next (n + k) xs
+    count-next {at} {next} {k} n l m f xs p = left-next (λ rest. caseItems (K .every xs) ≡ n + k + caseItems (K .every rest)) l m p
+        (λ x ys e q h. omega (arith, h, f x q, ap caseItems (K .more x ys), cases-then (K .one x) (K .every ys)))
+
+    pub count-end : {at n : ℕ} → end ≤ at → (xs : List A) → CountPart at n xs → n ≡ caseItems (K .every xs)
+    unfolding caseItems
+    count-end l xs p = omega (arith, left-end l p, ap caseItems (K .none))
+
+-- ---- a CASE counts
+
+pub one-case-is : {s : List ℕ} {end i k : ℕ} → i ≡ end - 1 → k ≡ getD s i 0 → k ≡ 28 → CountsLabel s end 1
+unfolding caseItems
+one-case-is {s} {end} {i} {k} ei ek q = record { few = omega arith; by = go }
+  where
+    z : getD s (end - 1) 0 ≡ 28
+    z = ap (λ (x : ℕ). getD s x 0) (sym ei) ∙ sym ek ∙ q
+
+    go : (l : Label) → LabelAt s end l → 1 ≡ caseItems (l ∷ [])
+    go (T.case p c) (aCase a e h en f) = refl
+    go (T.default p) (aDefault a e) = absurd (omega (arith, z, a))
+
+pub one-case-not : {s : List ℕ} {end i k : ℕ} → i ≡ end - 1 → k ≡ getD s i 0 → (k ≡ 28 → ⊥) → CountsLabel s end 0
+unfolding caseItems
+one-case-not {s} {end} {i} {k} ei ek q = record { few = omega arith; by = go }
+  where
+    go : (l : Label) → LabelAt s end l → 0 ≡ caseItems (l ∷ [])
+    go (T.case p c) (aCase a e h en f) = absurd (q (ek ∙ ap (λ (x : ℕ). getD s x 0) ei ∙ a))
+    go (T.default p) (aDefault a e) = refl
+
+-- ---- DEFAULT's command
+
+has-one : (text : List ℕ) {s : List ℕ} {from end next top : ℕ} {sp : Span} {b : Bool} → Spans s next sp → HasLabel text s (sp .from) (sp .to) top true 0 b
+    → (y : Listed (CommandAt s) s from end top) (ls : List Label) → CommandAt s next ls → b ≡ hasDefault (labelsOf text (y .scope) ls)
+unfolding has
+has-one text i h y ls q = h .by (own-labels i y ls q)
+
+module _ (text : List ℕ) {s : List ℕ} {from end top : ℕ} (first done : ℕ) where
+  abbrev pub DefaultPart : (y : Listed (CommandAt s) s from end top) (at k : ℕ) → Type 0
+  DefaultPart y at k = Left (CommandAt s) s end at (λ rest. defaultAmong text (y .scope) first done (y .all) ≡ defaultAmong text (y .scope) k done rest)
+
+  pub default-begin : (y : Listed (CommandAt s) s from end top) → DefaultPart y from first
+  default-begin y = left-all (λ rest. defaultAmong text (y .scope) first done (y .all) ≡ defaultAmong text (y .scope) first done rest) (y .row) refl
+
+  module _ {at next : ℕ} (k : ℕ) {sp : Span} {b : Bool} (l : at < end) (n : NextItem s at end next) (i : Spans s next sp) (h : HasLabel text s (sp .from) (sp .to) top true 0 b) where
+    pub default-found : b ≡ true → ((y : Listed (CommandAt s) s from end top) → DefaultPart y at k) → FindsDefault text s from end top first done k
+    unfolding defaultAmong
+    default-found e p = record {
+      by = λ y. left-next (λ rest. k ≡ defaultAmong text (y .scope) first done (y .all)) l n (p y)
+          (λ ls lss z q g. sym (g ∙ ap (λ (x : Bool). cond x k (defaultAmong text (y .scope) (k + 1) done lss)) (sym (has-one text i h y ls q) ∙ e))) .holds;
+    }
+
+    pub default-next : b ≡ false → (y : Listed (CommandAt s) s from end top) → DefaultPart y at k → DefaultPart y next (k + 1)
+    unfolding defaultAmong
+    default-next e y p = left-next (λ rest. defaultAmong text (y .scope) first done (y .all) ≡ defaultAmong text (y .scope) (k + 1) done rest) l n p
+        (λ ls lss z q g. g ∙ ap (λ (x : Bool). cond x k (defaultAmong text (y .scope) (k + 1) done lss)) (sym (has-one text i h y ls q) ∙ e))
+
+  pub default-end : {at : ℕ} (k : ℕ) → end ≤ at → ((y : Listed (CommandAt s) s from end top) → DefaultPart y at k) → FindsDefault text s from end top first done done
+  unfolding defaultAmong
+  default-end k l p = record { by = λ y. sym (left-end l (p y)) }
+
+-- ---- numbers with their labels
+
+pub still-here : {st : State} → Still st st
+still-here = record { worst = refl; label = refl }
+
+pub still-then : {st a b : State} → Still st a → Still a b → Still st b
+still-then x y = record { worst = y .worst ∙ x .worst; label = y .label ∙ x .label }
+
+pub emits-still : {xs : List I.Item} {hs t t′ : List ℕ} {st r : State} → Emits xs hs t t′ st r → Still st r
+emits-still e = record { worst = e .worst; label = e .label }
+
+emits-none : {t : List ℕ} {st : State} → Emits [] [] t t st st
+unfolding lines greatest
+emits-none = record { text = puts-none; high = refl; worst = refl; label = refl }
+
+emits-as : {xs ys : List I.Item} {t t′ : List ℕ} {st r : State} → Emits xs [] t t′ st r → xs ≡ ys → Emits ys [] t t′ st r
+emits-as {t = t} {t′} {st} {r} e q = subst (λ (z : List I.Item). Emits z [] t t′ st r) q e
+
+pairs-good : (k : ℕ) (j : Judged) (ls : List CaseLabel) → G.pairsOf k (goodCase j []) ++ G.pairsOf k ls ≡ G.pairsOf k (goodCase j ls)
+unfolding G.pairsOf
+pairs-good k (good v) ls = refl
+pairs-good k (refused fs) ls = refl
+
+pairs-then : (text : List ℕ) (sc : Scope) (k : ℕ) (l : Label) (ls : List Label) → G.pairsOf k (labelsOf text sc (l ∷ [])) ++ G.pairsOf k (labelsOf text sc ls) ≡ G.pairsOf k (labelsOf text sc (l ∷ ls))
+unfolding labelsOf G.pairsOf
+pairs-then text sc k (T.case p c) ls = pairs-good k (judge text sc c) (labelsOf text sc ls)
+pairs-then text sc k (T.default p) ls = refl
+
+sound-left : {text : List ℕ} {sc : Scope} (ls ms : List Label) → Sound text sc (ls ++ ms) → Sound text sc ls
+sound-left [] ms s = noLabel
+sound-left (T.case p c ∷ ls) ms (L.goodCase v e s) = L.goodCase v e (sound-left ls ms s)
+sound-left (T.default p ∷ ls) ms (anyDefault s) = anyDefault (sound-left ls ms s)
+
+sound-right : {text : List ℕ} {sc : Scope} (ls ms : List Label) → Sound text sc (ls ++ ms) → Sound text sc ms
+sound-right [] ms s = s
+sound-right (T.case p c ∷ ls) ms (L.goodCase v e s) = sound-right ls ms s
+sound-right (T.default p ∷ ls) ms (anyDefault s) = sound-right ls ms s
+
+says-is : {j : Verdict} {x : Judged} {v : ℕ} → Says j x → x ≡ good v → x ≡ good (j .word)
+says-is {x = good w} (fit q) e = refl
+says-is {x = refused fs} (unfit a b w) e = let z : _≡_ {A = ℕ} 0 1 = cc in absurd (omega arith)
+
+module _ (text : List ℕ) {s : List ℕ} {end top : ℕ} (n : Node) (nd : NodeAt s end n) where
+  pub pair-not : {k : ℕ} {t : List ℕ} {st : State} → (n .kind ≡ 28 → ⊥) → WritesPair text s end top k t t st st
+  unfolding labelsOf G.pairsOf
+  pair-not {k} {t} {st} q = record { still = still-here; by = go }
+    where
+      go : (base : ℕ) (sc : Scope) (x : Label) → Shows base s top sc → LabelAt s end x → Sound text sc (x ∷ []) → Emits (G.pairsOf k (labelsOf text sc (x ∷ []))) [] t t st st
+      go base sc (T.case p c) sh (aCase a e h en f) so = absurd (q (nd .kind ∙ a))
+      go base sc (T.default p) sh (aDefault a e) so = emits-none
+
+  pub pair-is : {k : ℕ} {t t₁ t₂ : List ℕ} {st a r : State} {j : Verdict} → n .kind ≡ 28 → Judges text s (n .inner) top j → Emits (G.D (j .word) ∷ []) [] t t₁ st a → Emits (G.DL k ∷ []) [] t₁ t₂ a r → WritesPair text s end top k t t₂ st r
+  unfolding labelsOf G.pairsOf
+  pair-is {k} {t} {t₁} {t₂} {st} {a} {r} {j} q g d e = record { still = still-then (emits-still d) (emits-still e); by = go }
+    where
+      go : (base : ℕ) (sc : Scope) (x : Label) → Shows base s top sc → LabelAt s end x → Sound text sc (x ∷ []) → Emits (G.pairsOf k (labelsOf text sc (x ∷ []))) [] t t₂ st r
+      go base sc (T.case p c) sh (aCase {lo = lo} a en h z f) (L.goodCase v w so) =
+          emits-as (emits-then d e) (sym (ap (λ (x : Judged). G.pairsOf k (goodCase x [])) (says-is (g .by base sc lo c sh f h (nd .inner ∙ z)) w)))
+      go base sc (T.default p) sh (aDefault a en) so = absurd (omega (arith, nd .kind))
+
+module _ (text : List ℕ) {s : List ℕ} {from end top : ℕ} (k : ℕ) (t₀ : List ℕ) (st₀ : State) where
+  abbrev pub PairsPart : (y : Listed (LabelAt s) s from end top) (t : List ℕ) (at : ℕ) (st : State) → Type 0
+  PairsPart y t at st = Left (LabelAt s) s end at (λ rest. Sound text (y .scope) rest × ((t′ : List ℕ) (st′ : State) → Emits (G.pairsOf k (labelsOf text (y .scope) rest)) [] t t′ st st′ → Emits (G.pairsOf k (labelsOf text (y .scope) (y .all))) [] t₀ t′ st₀ st′))
+
+  pub pairs-begin : (y : Listed (LabelAt s) s from end top) → Sound text (y .scope) (y .all) → PairsPart y t₀ from st₀
+  pairs-begin y so = left-all (λ rest. Sound text (y .scope) rest × ((t′ : List ℕ) (st′ : State) → Emits (G.pairsOf k (labelsOf text (y .scope) rest)) [] t₀ t′ st₀ st′ → Emits (G.pairsOf k (labelsOf text (y .scope) (y .all))) [] t₀ t′ st₀ st′))
+      (y .row) (so, λ t′ st′ e. e)
+
+  pub pairs-next : {at next : ℕ} {t t₁ : List ℕ} {st r : State} → at < end → NextItem s at end next → WritesPair text s next top k t t₁ st r → (y : Listed (LabelAt s) s from end top) → PairsPart y t at st → PairsPart y t₁ next r
+  pairs-next {at} {next} {t} {t₁} {st} {r} l n w y p = let sc = y .scope in
+      left-next (λ rest. Sound text sc rest × ((t′ : List ℕ) (st′ : State) → Emits (G.pairsOf k (labelsOf text sc rest)) [] t₁ t′ r st′ → Emits (G.pairsOf k (labelsOf text sc (y .all))) [] t₀ t′ st₀ st′)) l n p
+      (λ x xs e q h. (
+        sound-right (x ∷ []) xs (h .0),
+        λ t′ st′ d. h .1 t′ st′
+            (emits-as (emits-then (w .by (y .base) sc x (y .shows) q (sound-left (x ∷ []) xs (h .0))) d) (pairs-then text sc k x xs)),
+      ))
+
+  pub pairs-end : {at : ℕ} {t : List ℕ} {st : State} → end ≤ at → Still st₀ st → ((y : Listed (LabelAt s) s from end top) → Sound text (y .scope) (y .all) → PairsPart y t at st) → WritesPairs text s from end top k t₀ t st₀ st
+  unfolding labelsOf G.pairsOf
+  pairs-end {at} {t} {st} l f p = record { still = f; by = λ y so. left-end l (p y so) .1 t st emits-none }
+
+module _ (text : List ℕ) {s : List ℕ} {from end top : ℕ} (first : ℕ) (t₀ : List ℕ) (st₀ : State) where
+  abbrev pub TablePart : (y : Listed (CommandAt s) s from end top) (t : List ℕ) (at k : ℕ) (st : State) → Type 0
+  TablePart y t at k st = Left (CommandAt s) s end at (λ rest. Sound text (y .scope) (flat rest) × ((t′ : List ℕ) (st′ : State) → Emits (tableAmong text (y .scope) k rest) [] t t′ st st′ → Emits (tableAmong text (y .scope) first (y .all)) [] t₀ t′ st₀ st′))
+
+  pub table-begin : (y : Listed (CommandAt s) s from end top) → Sound text (y .scope) (flat (y .all)) → TablePart y t₀ from first st₀
+  table-begin y so = left-all (λ rest. Sound text (y .scope) (flat rest) × ((t′ : List ℕ) (st′ : State) → Emits (tableAmong text (y .scope) first rest) [] t₀ t′ st₀ st′ → Emits (tableAmong text (y .scope) first (y .all)) [] t₀ t′ st₀ st′))
+      (y .row) (so, λ t′ st′ e. e)
+
+  pub table-next : {at next k : ℕ} {sp : Span} {t t₁ : List ℕ} {st r : State} → at < end → NextItem s at end next → Spans s next sp → WritesPairs text s (sp .from) (sp .to) top k t t₁ st r → (y : Listed (CommandAt s) s from end top) → TablePart y t at k st → TablePart y t₁ next (k + 1) r
+  unfolding flat tableAmong
+  table-next {at} {next} {k} {sp} {t} {t₁} {st} {r} l n i w y p = let sc = y .scope in
+      left-next (λ rest. Sound text sc (flat rest) × ((t′ : List ℕ) (st′ : State) → Emits (tableAmong text sc (k + 1) rest) [] t₁ t′ r st′ → Emits (tableAmong text sc first (y .all)) [] t₀ t′ st₀ st′)) l n p
+      (λ ls lss e q h. (
+        sound-right ls (flat lss) (h .0),
+        λ t′ st′ d. h .1 t′ st′
+            (emits-then (w .by (own-labels i y ls q) (sound-left ls (flat lss) (h .0))) d),
+      ))
+
+  pub table-end : {at : ℕ} (k : ℕ) {t : List ℕ} {st : State} → end ≤ at → Still st₀ st → ((y : Listed (CommandAt s) s from end top) → Sound text (y .scope) (flat (y .all)) → TablePart y t at k st) → WritesAll text s from end top first t₀ t st₀ st
+  unfolding tableAmong
+  table-end {at} k {t} {st} l f p = record { still = f; by = λ y so. left-end l (p y so) .1 t st emits-none }
+
+-- ---- what the code's own definitions say of such labels
+
+pub record IsGood (j : Judged) : Type 0 where
+  pub value : ℕ
+  pub is : j ≡ good value
+
+fault-not : {A : Type 0} {place number : ℕ} → fault place number ≡ [] → A
+fault-not {place = place} {number} e = let z : length (fault place number) ≡ 0 = ap length e in absurd (omega arith)
+
+found-good : (c : Constant) (n : Name) (f : N.Found) → faultsOf (ofFound c n f) ≡ [] → IsGood (ofFound c n f)
+found-good c n N.unknown e = fault-not e
+found-good c n (N.known (N.local k)) e = fault-not e
+found-good c n (N.known (N.global k)) e = fault-not e
+found-good c n (N.known (N.manifest v)) e = record { value = signed (c .minus) v; is = refl }
+found-good c n (N.known (N.function k)) e = fault-not e
+
+simple-good : (text : List ℕ) (sc : Scope) (c : Constant) (x : Simple) → faultsOf (ofSimple text sc c x) ≡ [] → IsGood (ofSimple text sc c x)
+simple-good text sc c (T.literal v) e = record { value = signed (c .minus) v; is = refl }
+simple-good text sc c (T.known n) e = found-good c n (lookup text sc n) e
+
+judged-good : (text : List ℕ) (sc : Scope) (c : Constant) → faultsOf (judge text sc c) ≡ [] → IsGood (judge text sc c)
+unfolding judge
+judged-good text sc c e = simple-good text sc c (c .simple) e
+
+case-good : (place : ℕ) (x : Judged) (seen : List CaseLabel) → doubledCase place x seen ≡ [] → faultsOf x ≡ []
+case-good place (good v) seen e = refl
+case-good place (refused fs) seen e = e
+
+sound-doubled : (text : List ℕ) (sc : Scope) (before ls : List Label) → doubled text sc before ls ≡ [] → Sound text sc ls
+unfolding doubled
+sound-doubled text sc before [] e = noLabel
+sound-doubled text sc before (T.case p c ∷ ls) e =
+    let a = doubledLabel text sc (labelsOf text sc before) (T.case p c) in let b = doubled text sc (before ++ (T.case p c ∷ [])) ls in
+    let g = judged-good text sc c (case-good p (judge text sc c) (labelsOf text sc before) (nil-left a b e)) in
+    L.goodCase (g .value) (g .is) (sound-doubled text sc (before ++ (T.case p c ∷ [])) ls (nil-right a b e))
+sound-doubled text sc before (T.default p ∷ ls) e =
+    let a = doubledLabel text sc (labelsOf text sc before) (T.default p) in
+    anyDefault (sound-doubled text sc (before ++ (T.default p ∷ [])) ls (nil-right a (doubled text sc (before ++ (T.default p ∷ [])) ls) e))
+
+sound-then : {text : List ℕ} {sc : Scope} (ls ms : List Label) → Sound text sc ls → Sound text sc ms → Sound text sc (ls ++ ms)
+sound-then [] ms noLabel t = t
+sound-then (T.case p c ∷ ls) ms (L.goodCase v e s) t = L.goodCase v e (sound-then ls ms s t)
+sound-then (T.default p ∷ ls) ms (anyDefault s) t = anyDefault (sound-then ls ms s t)
+
+pub sound-all : (text : List ℕ) (sc : Scope) (before : List Label) (cs : Commands) → labelFaults text sc before cs ≡ [] → Sound text sc (flat (marks cs))
+unfolding labelFaults marks flat
+sound-all text sc before T.noCommands e = noLabel
+sound-all text sc before (T.andCommand c cs) e =
+    let a = doubled text sc before (labelsBefore c) in let b = labelFaults text sc (before ++ labelsBefore c) cs in
+    sound-then (labelsBefore c) (flat (marks cs)) (sound-doubled text sc before (labelsBefore c) (nil-left a b e)) (sound-all text sc (before ++ labelsBefore c) cs (nil-right a b e))
+
+cases-are : (text : List ℕ) (sc : Scope) (ls : List Label) → Sound text sc ls → casesOf (labelsOf text sc ls) ≡ caseItems ls
+unfolding casesOf labelsOf caseItems
+cases-are text sc [] noLabel = refl
+cases-are text sc (T.case p c ∷ ls) (L.goodCase v e s) = ap (λ (x : Judged). casesOf (goodCase x (labelsOf text sc ls))) e ∙ ap suc (cases-are text sc ls s)
+cases-are text sc (T.default p ∷ ls) (anyDefault s) = cases-are text sc ls s
+
+pub count-is : (text : List ℕ) (sc : Scope) (h : ℕ) (cs : Commands) → Sound text sc (flat (marks cs)) → caseCount (caseList text sc h cs) ≡ caseItems (flat (marks cs))
+unfolding caseCount caseList caseItems marks flat
+count-is text sc h T.noCommands s = refl
+count-is text sc h (T.andCommand c cs) s =
+    let ls = labelsBefore c in let ms = flat (marks cs) in
+    omega (arith, cases-are text sc ls (sound-left ls ms s), count-is text sc h cs (sound-right ls ms s), cases-then ls ms)
+
+pub default-is : (text : List ℕ) (sc : Scope) (h l done : ℕ) (cs : Commands) → G.defaultOf l done (caseList text sc h cs) ≡ defaultAmong text sc l done (marks cs)
+unfolding G.defaultOf caseList marks defaultAmong
+default-is text sc h l done T.noCommands = refl
+default-is text sc h l done (T.andCommand c cs) =
+    let a : suc l ≡ l + 1 = omega arith in
+    ap (cond (hasDefault (labelsOf text sc (labelsBefore c))) l) (ap (λ (k : ℕ). G.defaultOf k done (caseList text sc h cs)) a ∙ default-is text sc h (l + 1) done cs)
+
+pub table-is : (text : List ℕ) (sc : Scope) (h l : ℕ) (cs : Commands) → G.tableOf l (caseList text sc h cs) ≡ tableAmong text sc l (marks cs)
+unfolding G.tableOf caseList marks tableAmong
+table-is text sc h l T.noCommands = refl
+table-is text sc h l (T.andCommand c cs) =
+    let a : suc l ≡ l + 1 = omega arith in
+    ap (λ (z : List I.Item). G.pairsOf l (labelsOf text sc (labelsBefore c)) ++ z) (ap (λ (k : ℕ). G.tableOf k (caseList text sc h cs)) a ∙ table-is text sc h (l + 1) cs)
+
+pub table-gave : (text : List ℕ) {s : List ℕ} {from end top first done m d : ℕ} {t t₁ t₂ t₃ t₄ : List ℕ} {st a b c r : State} → Emits (G.X 23 ∷ []) [] t t₁ st a → CountsAll s from end m → Emits (G.D m ∷ []) [] t₁ t₂ a b
+    → FindsDefault text s from end top first done d → Emits (G.DL d ∷ []) [] t₂ t₃ b c → WritesAll text s from end top first t₃ t₄ c r → WritesTable text s from end top first done t t₄ st r
+table-gave text {s} {from} {end} {top} {first} {done} {m} {d} {t} {t₄ = t₄} {st} {r = r} x n e f g w = record {
+  worst = k .worst;
+  label = k .label;
+  by = λ y h none. let sc = y .scope in let cs = y .commands in let u = list-of y in let so = sound-all text sc [] cs none in
+      let en : m ≡ caseCount (caseList text sc h cs) = n .by (marks cs) (u .row) ∙ sym (count-is text sc h cs so) in
+      let ed : d ≡ G.defaultOf first done (caseList text sc h cs) = f .by u ∙ sym (default-is text sc h first done cs) in
+      emits-as (emits-then x (emits-then e (emits-then g (w .by u so))))
+      (ap (λ (i : ℕ). G.X 23 ∷ G.D i ∷ G.DL d ∷ tableAmong text sc first (marks cs)) en ∙ ap (λ (i : ℕ). G.X 23 ∷ G.D (caseCount (caseList text sc h cs)) ∷ G.DL i ∷ tableAmong text sc first (marks cs)) ed
+      ∙ ap (λ (z : List I.Item). G.X 23 ∷ G.D (caseCount (caseList text sc h cs)) ∷ G.DL (G.defaultOf first done (caseList text sc h cs)) ∷ z) (sym (table-is text sc h first cs)));
+}
+  where
+    k : Still st r
+    k = still-then (emits-still x) (still-then (emits-still e) (still-then (emits-still g) (w .still)))
+
+-- ---- a label after those before it
+
+module _ (text : List ℕ) {s : List ℕ} {from at start here top : ℕ} {d : Bool} {v : ℕ} where
+  pub seen-before : {b : Bool} → HasLabelled text s from at top d v b → b ≡ true → Seen text s from at start here top d v true
+  seen-before h e = record { by = λ y ls r. sym (has-then (wanted d v) text (y .scope) (flat (y .all)) ls ∙ ap (λ (x : Bool). cond x true (has (wanted d v) (labelsOf text (y .scope) ls))) (sym (h .by y) ∙ e)) }
+
+  pub seen-own : {b c : Bool} → HasLabelled text s from at top d v b → b ≡ false → HasLabel text s start here top d v c → Seen text s from at start here top d v c
+  seen-own h e o = record {
+    by = λ y ls r.
+        o .by (record { base = y .base; scope = y .scope; shows = y .shows; all = ls; row = r })
+        ∙ sym (has-then (wanted d v) text (y .scope) (flat (y .all)) ls ∙ ap (λ (x : Bool). cond x true (has (wanted d v) (labelsOf text (y .scope) ls))) (sym (h .by y) ∙ e));
+  }
+
+pub seen-is : {text s : List ℕ} {from at start here top : ℕ} {d : Bool} {v : ℕ} {b c : Bool} → Seen text s from at start here top d v b → b ≡ c → Seen text s from at start here top d v c
+seen-is {text} {s} {from} {at} {start} {here} {top} {d} {v} h e = subst (λ (x : Bool). Seen text s from at start here top d v x) e h
+
+abbrev After : (text s : List ℕ) (from at start here end top : ℕ) (st r : State) → Type 0
+After text s from at start here end top st r = (y : Listed (CommandAt s) s from at top) (ls : List Label) (l : Label) → Row (LabelAt s) s here start ls → LabelAt s end l
+    → (t : List ℕ) → Did (doubledLabel text (y .scope) (labelsOf text (y .scope) (flat (y .all) ++ ls)) l) nothing 0 t t st r
+
+module _ (text : List ℕ) {s : List ℕ} {from at start here end top : ℕ} {st : State} (n : Node) (nd : NodeAt s end n) where
+  module _ (q : n .kind ≡ 28 → ⊥) where
+    pub default-twice : {r : State} → Seen text s from at start here top true 0 true → Faulted (n .place) 12 st r → JudgesLabel text s from at start here end top st r
+    unfolding has
+    default-twice {r} h w = record { by = go }
+      where
+        go : After text s from at start here end top st r
+        go y ls (T.case p c) row (aCase a e i en f) t = absurd (q (nd .kind ∙ a))
+        go y ls (T.default p) row (aDefault a e) t = subst (λ (b : Bool). Did (cond b (fault p 12) []) nothing 0 t t st r) (h .by y ls row) (twelve nd w e t)
+
+    pub default-once : Seen text s from at start here top true 0 false → JudgesLabel text s from at start here end top st st
+    unfolding has
+    default-once h = record { by = go }
+      where
+        go : After text s from at start here end top st st
+        go y ls (T.case p c) row (aCase a e i en f) t = absurd (q (nd .kind ∙ a))
+        go y ls (T.default p) row (aDefault a e) t = subst (λ (b : Bool). Did (cond b (fault p 12) []) nothing 0 t t st st) (h .by y ls row) (did-none 0)
+
+  -- a CASE, by what its constant is judged
+  module _ {j : Verdict} (q : n .kind ≡ 28) (g : Judges text s (n .inner) top j) where
+    case-by : {r : State} → ((y : Listed (CommandAt s) s from at top) (ls : List Label) (p : ℕ) (x : Judged) → Row (LabelAt s) s here start ls → getD s (end - 2) 0 ≡ p → Says j x → (t : List ℕ) → Did (doubledCase p x (labelsOf text (y .scope) (flat (y .all) ++ ls))) nothing 0 t t st r) → JudgesLabel text s from at start here end top st r
+    case-by {r} f = record { by = go }
+      where
+        go : After text s from at start here end top st r
+        go y ls (T.case p c) row (aCase {lo = lo} a e i en fine) t = f y ls p (judge text (y .scope) c) row e (g .by (y .base) (y .scope) lo c (y .shows) fine i (nd .inner ∙ en)) t
+        go y ls (T.default p) row (aDefault a e) t = absurd (omega (arith, nd .kind))
+
+    pub case-refused : {r : State} → (j .number ≡ 0 → ⊥) → Blames j st r → JudgesLabel text s from at start here end top st r
+    case-refused {r} z b = case-by (λ y ls p x row e sa t. subst (λ (w : Judged). Did (doubledCase p w (labelsOf text (y .scope) (flat (y .all) ++ ls))) nothing 0 t t st r) (sym (says-bad x sa z)) (b .by x sa t))
+
+    pub case-twice : {r : State} → j .number ≡ 0 → Seen text s from at start here top false (j .word) true → Faulted (n .place) 12 st r → JudgesLabel text s from at start here end top st r
+    unfolding has
+    case-twice {r} z h w = case-by (λ y ls p x row e sa t. let seen = labelsOf text (y .scope) (flat (y .all) ++ ls) in
+        subst (λ (w : Judged). Did (doubledCase p w seen) nothing 0 t t st r) (sym (says-good x sa z)) (subst (λ (b : Bool). Did (cond b (fault p 12) []) nothing 0 t t st r) (h .by y ls row) (twelve nd w e t)))
+
+    pub case-once : j .number ≡ 0 → Seen text s from at start here top false (j .word) false → JudgesLabel text s from at start here end top st st
+    unfolding has
+    case-once z h = case-by (λ y ls p x row e sa t. let seen = labelsOf text (y .scope) (flat (y .all) ++ ls) in
+        subst (λ (w : Judged). Did (doubledCase p w seen) nothing 0 t t st st) (sym (says-good x sa z)) (subst (λ (b : Bool). Did (cond b (fault p 12) []) nothing 0 t t st st) (h .by y ls row) (did-none 0)))
+
+-- ---- all labels of a command, and of all commands
+
+-- `before` is passed
+pub record Passed {A : Type 0} (P : ℕ → A → Type 0) (s : List ℕ) (from at : ℕ) (Q : List A → Type 0) : Type 0 where
+  pub before : List A
+  pub row : Row P s at from before
+  pub finish : Q before
+
+module _ (text : List ℕ) {s : List ℕ} {from at top : ℕ} (start end : ℕ) (st₀ : State) where
+  abbrev pub OwnPart : (y : Listed (CommandAt s) s from at top) (ls : List Label) (here : ℕ) (st : State) → Type 0
+  OwnPart y ls here st = Left (LabelAt s) s end here (λ rest. Passed (LabelAt s) s start here (λ before.
+      (t : List ℕ) (st′ : State) → Did (doubled text (y .scope) (flat (y .all) ++ before) rest) nothing 0 t t st st′ → Did (doubled text (y .scope) (flat (y .all)) ls) nothing 0 t t st₀ st′))
+
+  pub own-begin : (y : Listed (CommandAt s) s from at top) (ls : List Label) → Row (LabelAt s) s end start ls → OwnPart y ls start st₀
+  own-begin y ls r = left-all (λ rest. Passed (LabelAt s) s start start (λ before.
+      (t : List ℕ) (st′ : State) → Did (doubled text (y .scope) (flat (y .all) ++ before) rest) nothing 0 t t st₀ st′ → Did (doubled text (y .scope) (flat (y .all)) ls) nothing 0 t t st₀ st′)) r
+      (record { before = []; row = noMore {at = start} refl; finish = λ t st′ d. subst (λ (z : List Label). Did (doubled text (y .scope) z ls) nothing 0 t t st₀ st′) (append-nil (flat (y .all))) d })
+
+  pub own-next : {here next : ℕ} {st r : State} → here < end → NextItem s here end next → JudgesLabel text s from at start here next top st r → (y : Listed (CommandAt s) s from at top) (ls : List Label) → OwnPart y ls here st → OwnPart y ls next r
+  unfolding doubled
+  own-next {here} {next} {st} {r} l n j y ls p = let sc = y .scope in let F = flat (y .all) in
+      left-next (λ rest. Passed (LabelAt s) s start next (λ before. (t : List ℕ) (st′ : State) → Did (doubled text sc (F ++ before) rest) nothing 0 t t r st′ → Did (doubled text sc F ls) nothing 0 t t st₀ st′)) l n p
+      (λ x xs e q h. record {
+        before = h .before ++ (x ∷ []);
+        row = row-more (h .before) (h .row) e q;
+        finish = λ t st′ d. h .finish t st′ (did-as nothing 0 (did-then (j .by y (h .before) x (h .row) q t)
+            (subst (λ (z : List Label). Did (doubled text sc z xs) nothing 0 t t r st′) (sym (append-assoc F (h .before) (x ∷ []))) d)) same-refl (λ v z. refl) (omega arith));
+      })
+
+  pub own-end : {here : ℕ} {st : State} → end ≤ here → ((y : Listed (CommandAt s) s from at top) (ls : List Label) → Row (LabelAt s) s end start ls → OwnPart y ls here st) → JudgesCommand text s from at start end top st₀ st
+  unfolding doubled
+  own-end {here} {st} l p = record { by = λ y ls r t. left-end l (p y ls r) .finish t st (did-none 0) }
+
+among-is : (text : List ℕ) (sc : Scope) (before : List Label) (cs : Commands) → faultsAmong text sc before (marks cs) ≡ labelFaults text sc before cs
+unfolding faultsAmong labelFaults marks
+among-is text sc before T.noCommands = refl
+among-is text sc before (T.andCommand c cs) = ap (λ (z : List Fault). doubled text sc before (labelsBefore c) ++ z) (among-is text sc (before ++ labelsBefore c) cs)
+
+flat-last : (lss : List (List Label)) (ls : List Label) → flat (lss ++ (ls ∷ [])) ≡ flat lss ++ ls
+unfolding flat
+flat-last [] ls = append-nil ls
+flat-last (ms ∷ lss) ls = ap (λ (z : List Label). ms ++ z) (flat-last lss ls) ∙ sym (append-assoc ms (flat lss) ls)
+
+module _ (text : List ℕ) {s : List ℕ} {from end top : ℕ} (st₀ : State) where
+  abbrev pub ListPart : (y : ReadyLabels s from end top) (at : ℕ) (st : State) → Type 0
+  ListPart y at st = Left (CommandAt s) s end at (λ rest. Passed (CommandAt s) s from at (λ before.
+      (t : List ℕ) (st′ : State) → Did (faultsAmong text (y .scope) (flat before) rest) nothing 0 t t st st′ → Did (labelFaults text (y .scope) [] (y .commands)) nothing 0 t t st₀ st′))
+
+  pub list-begin : (y : ReadyLabels s from end top) → ListPart y from st₀
+  unfolding flat
+  list-begin y = left-all (λ rest. Passed (CommandAt s) s from from (λ before.
+      (t : List ℕ) (st′ : State) → Did (faultsAmong text (y .scope) (flat before) rest) nothing 0 t t st₀ st′ → Did (labelFaults text (y .scope) [] (y .commands)) nothing 0 t t st₀ st′)) (list-of y .row)
+      (record { before = []; row = noMore {at = from} refl; finish = λ t st′ d. subst (λ (z : List Fault). Did z nothing 0 t t st₀ st′) (among-is text (y .scope) [] (y .commands)) d })
+
+  pub list-next : {at next : ℕ} {sp : Span} {st r : State} → at < end → NextItem s at end next → Spans s next sp → JudgesCommand text s from at (sp .from) (sp .to) top st r → (y : ReadyLabels s from end top) → ListPart y at st → ListPart y next r
+  unfolding faultsAmong
+  list-next {at} {next} {sp} {st} {r} l n i j y p = let sc = y .scope in
+      left-next (λ rest. Passed (CommandAt s) s from next (λ before. (t : List ℕ) (st′ : State) → Did (faultsAmong text sc (flat before) rest) nothing 0 t t r st′ → Did (labelFaults text sc [] (y .commands)) nothing 0 t t st₀ st′)) l n p
+      (λ ls lss e q h. record {
+        before = h .before ++ (ls ∷ []);
+        row = row-more (h .before) (h .row) e q;
+        finish = λ t st′ d. h .finish t st′ (did-as nothing 0 (did-then (j .by (record { base = y .base; scope = sc; shows = y .shows; all = h .before; row = h .row }) ls (i .by ls q) t)
+            (subst (λ (z : List Label). Did (faultsAmong text sc z lss) nothing 0 t t r st′) (flat-last (h .before) ls) d)) same-refl (λ v z. refl) (omega arith));
+      })
+
+  pub list-end : {at : ℕ} {st : State} → end ≤ at → ((y : ReadyLabels s from end top) → ListPart y at st) → JudgesLabels text s from end top st₀ st
+  unfolding faultsAmong
+  list-end {at} {st} l p = record { by = λ y t. left-end l (p y) .finish t st (did-none 0) }

@@ -1,0 +1,50 @@
+use Prim.Native.Nat.{_-_, _≤_}
+use native.Mathlib.Omega.{arith}
+use borrow.Author.Needs.{needs}
+use mathlib.Core.List.{List}
+use Rattle.language.specs.Tree.{Label}
+use Rattle.compiler.specs.Labels.{LabelAt, Row}
+use Rattle.compiler.proofs.Switching.{labels, CountPart, count-begin, count-next, count-end}
+use Rattle.compiler.proofs.labels.count_cases.Statement.{statement}
+use Rattle.compiler.proofs.labels.count_cases.Tie as tie
+
+abbrev Inv-loop : tie.InvT-loop
+Inv-loop s from end at₀ n₀ at n = (n ≤ at) × (n ≤ end) × ((ls : List Label) → Row (LabelAt s) s end from ls → CountPart (labels s) s end at n ls)
+
+abbrev μ-loop : tie.MeasureT-loop
+μ-loop s from end at₀ n₀ at n = end - at
+
+loop-holds : tie.Need-loop-holds Inv-loop μ-loop
+loop-holds c = (omega arith, omega arith, λ ls r. count-begin (labels (c .before .args .s .now)) (c .before .args .s .now) (c .before .args .end) ls r)
+
+next-item-requires : tie.Need-next-item-requires Inv-loop μ-loop
+next-item-requires c κs = search needs
+
+one-case-requires : tie.Need-one-case-requires Inv-loop μ-loop
+one-case-requires c κs = search needs
+
+add-n : tie.Need-add-n Inv-loop μ-loop
+add-n c = omega (arith, c .before .before .before .loop .inv .0, c .one-case .ensures .few)
+
+loop-less : tie.Need-loop-less Inv-loop μ-loop
+loop-less c = omega (arith, c .before .before .loop-test .taken, c .before .next-item .ensures .further)
+
+loop-again : tie.Need-loop-again Inv-loop μ-loop
+loop-again c = (omega (arith, c .before .before .before .loop .inv .0, c .one-case .ensures .few, c .before .next-item .ensures .further), omega (arith, c .before .before .before .loop .inv .0, c .one-case .ensures .few, c .before .next-item .ensures .further, c .before .next-item .ensures .within), λ ls r. count-next (labels (c .before .before .before .before .before .args .s .now)) (c .before .before .before .before .before .args .s .now) (c .before .before .before .before .before .args .end) (c .before .before .before .loop .n) (c .before .before .loop-test .taken) (c .before .next-item .ensures) (λ x q. c .one-case .ensures .by x q) ls (c .before .before .before .loop .inv .2 ls r))
+
+returns : tie.Need-returns Inv-loop μ-loop
+returns c = record { few = omega (arith, c .before .loop .inv .1); by = λ ls r. count-end (labels (c .before .before .before .args .s .now)) (c .before .before .before .args .s .now) (c .before .before .before .args .end) (c .loop-test .left) ls (c .before .loop .inv .2 ls r) }
+
+pub count-cases-spec : {M : Type 1} → statement M
+count-cases-spec =
+    tie.close
+    (tie.spec
+    Inv-loop
+    μ-loop
+    loop-holds
+    next-item-requires
+    one-case-requires
+    add-n
+    loop-less
+    loop-again
+    returns)

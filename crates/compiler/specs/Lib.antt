@@ -1,0 +1,10 @@
+pub mod Scope
+pub mod Fine
+pub mod Walked
+pub mod Walks
+pub mod Repeats
+pub mod Commands
+pub mod Locals
+pub mod Assigns
+pub mod Switching
+pub mod Labels
