@@ -8,3 +8,8 @@ pub mod Locals
 pub mod Assigns
 pub mod Switching
 pub mod Labels
+pub mod Items
+pub mod Groups
+pub mod Programs
+pub mod Strings
+pub mod Compiles

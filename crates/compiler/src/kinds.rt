@@ -1,4 +1,8 @@
 // The kinds of symbols (language's `Kinds`) and of tree nodes (tree's `Encoding`) that the walk looks at.
+pub(crate) const GLOBAL: usize = 1;
+
+pub(crate) const LET: usize = 3;
+
 pub(crate) const VEC: usize = 6;
 
 pub(crate) const VALOF: usize = 7;

@@ -20,12 +20,12 @@ use Rattle.tree.specs.Read.{decoded, sourceIn, unfit, answerOf, treeRead
 use Rattle.tree.specs.declared.TreeRead.{TreeRead}
 use Rattle.tree.specs.declared.TreeRead.the-variants as Answers
 
-decoded-entries : (ss : List Symbol) (rest : List ℕ) → decoded (length ss) (entries ss ++ rest) ≡ ss
+pub decoded-entries : (ss : List Symbol) (rest : List ℕ) → decoded (length ss) (entries ss ++ rest) ≡ ss
 unfolding decoded entries
 decoded-entries [] rest = refl
 decoded-entries (s ∷ ss) rest = ap (λ (l : List Symbol). s ∷ l) (decoded-entries ss rest)
 
-entries-size : (ss : List Symbol) → length (entries ss) ≡ length ss * 3
+pub entries-size : (ss : List Symbol) → length (entries ss) ≡ length ss * 3
 unfolding entries
 entries-size [] = refl
 entries-size (s ∷ ss) = omega (arith, entries-size ss)
@@ -40,7 +40,7 @@ unfolding number
 few-by none ss m h = h
 few-by (fault k place) ss m h = omega arith
 
-few-good : (text : List ℕ) (ss : List Symbol) → symbolsOf text ≡ good ss → length ss ≤ length text
+pub few-good : (text : List ℕ) (ss : List Symbol) → symbolsOf text ≡ good ss → length ss ≤ length text
 unfolding symbolsOf symbolsIn number
 few-good text ss e = subst (λ (y : Symbols). number y ≤ length text) e (few-by (firstFault (length text) (brackets [] (scan text .symbols)) (scan text .ending)) (symbolsIn text) (length text) (few text))
 

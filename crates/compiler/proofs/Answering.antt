@@ -1,0 +1,358 @@
+-- From the walk of the tree to the answer: what the walk asks holds of every tree that is read, and what it leaves is the generator's text.
+use Prim.Native.Nat.{ℕ, zero, suc, _+_, _*_, _-_, _≤_, _<_, _^_}
+use mathlib.Core.Path.{_≡_, refl, sym, ap, subst, _∙_}
+use mathlib.Core.Bool.{Bool, true, false, not, cond}
+use mathlib.Core.List.{List, [], _∷_, _++_, append-assoc}
+use native.Mathlib.Omega.{arith}
+use native.Mathlib.Numerals.{add-one}
+use lib.ListN.{length, getD, replicate, take, drop, length-append, length-replicate, List·getD-append}
+use lib.Seq.{getD-append-add}
+use lib.Dec.{eqb, ltb}
+use borrow.Author.Tests.{eq-eqb, ne-eqb, eqb-true, ltb-false}
+use Rattle.text.specs.Quoted.{quoted}
+use Rattle.language.specs.Kinds.{STRING}
+use Rattle.items.specs.Item.{Item}
+use Rattle.items.specs.Render.{renderAll}
+use Rattle.language.specs.Symbols as Y
+use Rattle.language.specs.Symbols.{Symbol, scan}
+use Rattle.language.specs.Brackets.{firstFault, brackets}
+use Rattle.language.specs.Source as S
+use Rattle.language.specs.Source.{Symbols, good, faulty, symbolsOf, parsed, readSymbols}
+use Rattle.language.specs.Reader.{Source, Out, ok, no}
+use Rattle.language.specs.Grammar.{treeOf}
+use Rattle.language.specs.Tree as T
+use Rattle.language.specs.Tree.{Program, Function, Declaration}
+use Rattle.language.specs.Constants.{Fault}
+use Rattle.language.specs.Resolved.{Fun, Start, nowhere, inGlobal}
+use Rattle.language.specs.Program.{Refused, accepted, refused, leastOr, rulesRefuse, Walk, begin, Named, afterDeclaration, declarationFunctions, functionsFrom, functionsOf, faultsFrom, faultsOfProgram, heightFaults, hasStart, startsInOne, functionsAfter, groupOf}
+use Rattle.language.specs.Whole.{functionsIn, stringsIn, charactersOf, stringsAmong, funs, unlessFits}
+use Rattle.language.proofs.Depth.{programDepth}
+use Rattle.language.proofs.CommandDepths.{LowProgram, low-program}
+use Rattle.language.proofs.Forming.{length-funs, group-length}
+use Rattle.language.proofs.Gives as Gives
+use Rattle.language.proofs.Takes as Takes
+use Rattle.language.proofs.Takes.{Counts}
+use Rattle.language.proofs.Tokens.{programTokens}
+use Rattle.language.proofs.ReadTokens.{program as readProgram}
+use Rattle.language.proofs.SymbolFacts.{scan-length, cost, cost-length, symbolsNow, sourceNow, counts}
+use Rattle.language.specs.Fine.{FineProgram}
+use Rattle.compiler.specs.Fine.{STRINGS}
+use Rattle.symbols.specs.Read.{entries, Reads}
+use Rattle.symbols.specs.declared.SymbolsRead.{SymbolsRead}
+use Rattle.tree.specs.Encoding.{encodeItems, encodeFunctions, encodeProgram}
+use Rattle.tree.specs.Read.{padded, decoded}
+use Rattle.code.specs.Generate.{functionsCode, stringsCode, startsCode, itemsOf, textOf}
+use Rattle.writing.specs.Text.{Text, Puts, over, upto, lines}
+use Rattle.writing.proofs.Laws.{over-length, lines-then, puts-then, puts-as, upto-in}
+use Rattle.compiler.specs.declared.Compiled.{Compiled}
+use Rattle.compiler.specs.declared.steps.State.{State}
+use Rattle.compiler.specs.declared.program.Done.{Done}
+use Rattle.compiler.specs.Walks.{Lies}
+use Rattle.compiler.specs.Walked.{least, AllFit}
+use Rattle.compiler.specs.Groups.{FineDs, Starting, encodeFunction, functionCount, CountsFunctions}
+use Rattle.compiler.specs.Programs.{startsOf, ReadyProgram, Walked, GaveProgram}
+use Rattle.compiler.specs.Strings.{stringCount, AllEnd, WritesStrings, WritesStarts}
+use Rattle.compiler.specs.Compiles.{decided, answerOf, Begins, Translates, Lent, ReadyTree, Behind, NONE, byKeys}
+use Rattle.tree.proofs.Stages.{few-good, decoded-entries, entries-size}
+use Rattle.compiler.proofs.Rendered.{rendered}
+use Rattle.compiler.proofs.Deciding.{decides}
+use Rattle.compiler.proofs.Translating.{rules-decide, symbols-stand}
+use Rattle.compiler.proofs.StringsEnd.{string-count-is, strings-end}
+
+-- ---- how many functions there are
+
+functions-counted : (text : List ℕ) (w : Walk) (p : Program) → length (functionsFrom text w p) ≡ functionCount p
+unfolding functionsFrom functionCount
+functions-counted text w [] = refl
+functions-counted text w (T.globals is ∷ p) = functions-counted text (afterDeclaration text w (T.globals is)) p
+functions-counted text w (T.manifests is ∷ p) = functions-counted text (afterDeclaration text w (T.manifests is)) p
+functions-counted text w (T.functions fs ∷ p) =
+    let more = afterDeclaration text w (T.functions fs) in
+    let here = groupOf text (w .functions) (w .scope) (functionsAfter text (w .functions) (w .scope) fs) fs in
+    let l : length here ≡ length fs = group-length 0 0 text (w .functions) (w .scope) (functionsAfter text (w .functions) (w .scope) fs) fs in
+    omega (arith, length-append here (functionsFrom text more p), l, functions-counted text more p)
+
+few-in-group : (fs : List Function) → length fs ≤ length (encodeFunctions fs)
+unfolding encodeFunctions
+few-in-group [] = omega arith
+few-in-group (f ∷ fs) = omega (arith, length-append (encodeFunction f) (encodeFunctions fs), few-in-group fs)
+
+few-functions : (p : Program) → functionCount p ≤ length (encodeProgram p)
+unfolding functionCount encodeProgram
+few-functions [] = omega arith
+few-functions (T.globals is ∷ p) = omega (arith, length-append (encodeItems is) (encodeProgram p), few-functions p)
+few-functions (T.manifests is ∷ p) = omega (arith, length-append (encodeItems is) (encodeProgram p), few-functions p)
+few-functions (T.functions fs ∷ p) = omega (arith, length-append (encodeFunctions fs) (encodeProgram p), few-in-group fs, few-functions p)
+
+few-strings : (text : List ℕ) (ss : List Symbol) → length (stringsAmong text ss) ≤ length ss
+unfolding stringsAmong
+few-strings text [] = omega arith
+few-strings text (s ∷ ss) = go (eqb (s .kind) STRING) (few-strings text ss)
+  where
+    go : (b : Bool) → length (stringsAmong text ss) ≤ length ss
+        → length (cond b (charactersOf (quoted 34 0 (drop (suc (s .place)) text)) ∷ stringsAmong text ss) (stringsAmong text ss)) ≤ suc (length ss)
+    go true h = omega arith
+    go false h = omega arith
+
+-- ---- START
+
+-- a function that starts in global 1
+record Somewhere (ns : List Named) : Type 0 where
+  at : ℕ
+  starts : getD (startsOf (funs ns)) at nowhere ≡ inGlobal 1
+
+found-start : (ns : List Named) → hasStart ns ≡ true → Somewhere ns
+unfolding hasStart startsOf funs
+found-start [] h = let z : _≡_ {A = ℕ} 0 1 = cc in absurd (omega arith)
+found-start (f ∷ ns) h = go (f .fun .start) refl h (found-start ns)
+  where
+    after : Somewhere ns → Somewhere (f ∷ ns)
+    after z = record { at = suc (z .at); starts = z .starts }
+
+    onto : (n : ℕ) → f .fun .start ≡ inGlobal n → (b : Bool) → eqb n 1 ≡ b → cond b true (hasStart ns) ≡ true → (hasStart ns ≡ true → Somewhere ns) → Somewhere (f ∷ ns)
+    onto n e true k h more = record { at = 0; starts = e ∙ ap inGlobal (eqb-true n 1 k) }
+    onto n e false k h more = after (more h)
+
+    go : (s : Start) → f .fun .start ≡ s → cond (startsInOne s) true (hasStart ns) ≡ true → (hasStart ns ≡ true → Somewhere ns) → Somewhere (f ∷ ns)
+    go nowhere e h more = after (more h)
+    go (inGlobal n) e h more = onto n e (eqb n 1) refl h more
+
+no-start : (ns : List Named) → hasStart ns ≡ false → (l : ℕ) → getD (startsOf (funs ns)) l nowhere ≡ inGlobal 1 → ⊥
+unfolding hasStart startsOf funs
+no-start [] h l e = let z : _≡_ {A = ℕ} 0 1 = cc in omega arith
+no-start (f ∷ ns) h zero e = let z : true ≡ false = rw e at h in let k : _≡_ {A = ℕ} 0 1 = cc in omega arith
+no-start (f ∷ ns) h (suc l) e = no-start ns (go (startsInOne (f .fun .start)) h) l e
+  where
+    go : (b : Bool) → cond b true (hasStart ns) ≡ false → hasStart ns ≡ false
+    go true h = let z : _≡_ {A = ℕ} 0 1 = cc in absurd (omega arith)
+    go false h = h
+
+-- the table has a label for global 1 just where a function starts there
+start-told : (table : List ℕ) (ns : List Named) → Starting table (startsOf (funs ns)) → eqb (getD table 1 0) 0 ≡ not (hasStart ns)
+start-told table ns k = go (hasStart ns) refl (getD table 1 0) refl
+  where
+    go : (b : Bool) → hasStart ns ≡ b → (v : ℕ) → getD table 1 0 ≡ v → eqb v 0 ≡ not b
+    go true h zero e = let z = found-start ns h in absurd (omega (arith, k .has 1 (z .at) (z .starts)))
+    go true h (suc l) e = ne-eqb (suc l) 0 (λ z. omega arith)
+    go false h zero e = refl
+    go false h (suc l) e = absurd (no-start ns h l (k .is 1 l (omega arith) e))
+
+-- ---- the text
+
+text-start : (t : List ℕ) → Text t [] 0 t
+unfolding over
+text-start t = record { is = refl; place = sym (upto-in (length t) 0 (omega arith)) }
+
+over-front : (out t : List ℕ) → length out ≤ length t → take (length out) (over out t) ≡ out
+unfolding over
+over-front [] t h = refl
+over-front (b ∷ out) [] h = absurd (omega arith)
+over-front (b ∷ out) (x ∷ t) h = ap (λ (z : List ℕ). b ∷ z) (over-front out t (omega arith))
+
+-- what follows the functions
+pub behind-gave : {source s s′ table t t₁ t₂ t₃ : List ℕ} {a : SymbolsRead} {count functions at x y z : ℕ} → Reads source s a s′ → length s′ ≡ length s
+    → WritesStrings source s′ count (functions + 1) at x t t₁ → WritesStarts table functions x y t₁ t₂ → Puts (90 ∷ 10 ∷ []) y z t₂ t₃
+    → Behind source (length s) count functions table at z t t₃
+behind-gave {source} {s} {s′} {table} {t} {t₁} {t₂} {t₃} {a} {count} {functions} {at} {x} {y} {z} r same w v c = record { by = puts }
+  where
+    puts : (ss : List Symbol) (fs : List Fun) → Lent source (length s) → symbolsOf source ≡ good ss → count ≡ length ss
+        → length table ≡ 400 → functions ≡ length fs → Starting table (startsOf fs)
+        → Puts (lines (stringsCode (suc functions) (stringsAmong source ss) ++ startsCode 1 fs) ++ (90 ∷ 10 ∷ [])) at z t t₃
+    puts ss fs l e k long few start =
+        let d : decoded count s′ ≡ ss = ap (λ (n : ℕ). decoded n s′) k ∙ (ap (decoded (length ss)) (symbols-stand l r same ss e) ∙ decoded-entries ss (replicate (length s - length (entries ss)) 0)) in
+        let first = subst (λ (xs : List Symbol). AllEnd source xs → Puts (lines (stringsCode (functions + 1) (stringsAmong source xs))) at x t t₁) d (w .by) (strings-end source ss e) in
+        let shifted = subst (λ (n : ℕ). Puts (lines (stringsCode n (stringsAmong source ss))) at x t t₁) (add-one functions) first in
+        puts-as (puts-then (puts-then shifted (v .by fs long few start)) c)
+        (ap (λ (u : List ℕ). u ++ (90 ∷ 10 ∷ [])) (lines-then (stringsCode (suc functions) (stringsAmong source ss)) (startsCode 1 fs)))
+
+-- what is accepted has no faults, and room
+no-faults : (fs : List Fault) (x : Refused) → leastOr fs x ≡ accepted → fs ≡ []
+no-faults [] x h = refl
+no-faults (f ∷ fs) x h = let z : _≡_ {A = ℕ} 0 1 = cc in absurd (omega arith)
+
+fitting : (size room : ℕ) (x : Refused) → unlessFits size room x ≡ accepted → (x ≡ accepted) × (size ≤ room)
+fitting size room (refused number place) h = let z : _≡_ {A = ℕ} 0 1 = cc in absurd (omega arith)
+fitting size room accepted h = (refl, go (ltb room size) refl h)
+  where
+    go : (b : Bool) → ltb room size ≡ b → cond b (refused 15 0) accepted ≡ accepted → size ≤ room
+    go true e h = let z : _≡_ {A = ℕ} 0 1 = cc in absurd (omega arith)
+    go false e h = ltb-false room size e
+
+-- ---- what the walk asks
+
+module _ {source s : List ℕ} {count end : ℕ} (y : ReadyTree source s count end) where
+  abbrev p : Program
+  p = y .program
+
+  abbrev ns : List Named
+  ns = functionsFrom source begin p
+
+  size : length (entries (y .symbols)) ≡ count * 3
+  size = omega (arith, entries-size (y .symbols), y .counts)
+
+  pub lies : Lies s (count * 3) (encodeProgram p)
+  lies = record {
+    at = λ i h.
+        ap (λ (z : List ℕ). getD z (count * 3 + i) 0) (y .stand)
+        ∙ (List·getD-append (entries (y .symbols) ++ encodeProgram p) (replicate (length s - length (entries (y .symbols) ++ encodeProgram p)) 0) 0 (count * 3 + i)
+        (omega (arith, length-append (entries (y .symbols)) (encodeProgram p), size))
+        ∙ (ap (λ (n : ℕ). getD (entries (y .symbols) ++ encodeProgram p) (n + i) 0) (sym size) ∙ getD-append-add (entries (y .symbols)) (encodeProgram p) i 0));
+  }
+
+  symbols-are : decoded count s ≡ y .symbols
+  symbols-are =
+      ap (λ (n : ℕ). decoded n s) (y .counts)
+      ∙ (ap (decoded (length (y .symbols))) (y .stand ∙ append-assoc (entries (y .symbols)) (encodeProgram p) _)
+      ∙ decoded-entries (y .symbols) _)
+
+  pub functions-are-counted : {functions : ℕ} → CountsFunctions s (count * 3) end functions → functions ≡ length ns
+  functions-are-counted c = c .by p lies (y .ends) ∙ sym (functions-counted source begin p)
+
+  pub strings-are-counted : {names : ℕ} → names ≡ stringCount (decoded count s) → names ≡ length (stringsAmong source (y .symbols))
+  strings-are-counted e = e ∙ (ap stringCount symbols-are ∙ string-count-is source (y .symbols))
+
+  pub few-symbols : count ≤ 16384
+  few-symbols = omega (arith, y .counts, few-good source (y .symbols) (y .reads), y .lent .short)
+
+  symbols-now : y .symbols ≡ symbolsNow source
+  unfolding symbolsOf
+  symbols-now = go (firstFault (length source) (brackets [] (scan source .symbols)) (scan source .ending)) (y .reads)
+    where
+      go : (f : Y.Fault) → S.onFault f (symbolsNow source) ≡ good (y .symbols) → y .symbols ≡ symbolsNow source
+      go Y.none e = cc
+      go (Y.fault number place) e = let z : _≡_ {A = ℕ} 0 1 = cc in absurd (omega arith)
+
+  tree-now : treeOf (sourceNow source) ≡ ok p (y .next)
+  tree-now = ap (λ (z : List Symbol). treeOf (record { symbols = z; size = length source })) (sym symbols-now) ∙ y .parses
+
+  few-scanned : length (scan source .symbols) ≤ 16384
+  few-scanned = omega (arith, scan-length source, y .lent .short)
+
+  -- as language's `counts`, in a text of any number of strings up to STRINGS
+  counted : Counts 1 (sourceNow source) STRINGS (λ at. cost 1 (take at (symbolsNow source)))
+  counted =
+      let k = counts 1 (omega arith) source (omega (arith, cost-length (scan source .symbols), few-scanned)) in
+      record {
+        up = k .up;
+        one = k .one;
+        again = k .again;
+        most = k .most;
+        numbers = k .numbers;
+        quotes = λ at e. omega (arith, k .quotes at e, few-strings source (symbolsNow source), ap length symbols-now, y .counts, few-symbols);
+      }
+
+  fine : FineDs p
+  fine = go (rw tree-now at (readProgram (sourceNow source) STRINGS (λ at. cost 1 (take at (symbolsNow source))) counted))
+    where
+      go : Takes.Of (sourceNow source) STRINGS (λ at. cost 1 (take at (symbolsNow source))) counted (FineProgram STRINGS) (programTokens 1) 0 (ok p (y .next)) → FineDs p
+      go (Takes.given f l) = f
+
+  shallow : programDepth p ≤ 520
+  shallow = go (rw tree-now at (low-program (sourceNow source)))
+    where
+      go : Gives.Of LowProgram (ok p (y .next)) → programDepth p ≤ 520
+      go (Gives.given l) = l .low
+
+  module _ {functions names : ℕ} (f : functions ≡ length ns) (n : names ≡ length (stringsAmong source (y .symbols))) where
+    pub few-in-all : functions ≤ 81920
+    few-in-all = omega (arith, f, functions-counted source begin p, few-functions p, y .ends, y .room, few-symbols)
+
+    pub few-names : names ≤ 16384
+    few-names = omega (arith, n, few-strings source (y .symbols), y .counts, few-symbols)
+
+    pub ready-program : (at : ℕ) {table : List ℕ} → table ≡ replicate 400 0
+        → ReadyProgram s table (count * 3) end 520 (functions + 1) (record { tall = NONE; state = record { at = at; label = functions + 1 + names; worst = NONE; high = 0 } })
+    ready-program at e = record {
+      program = p;
+      lies = lies;
+      ends = y .ends;
+      long = omega (arith, y .lent .asked, few-good source (y .symbols) (y .reads), y .counts);
+      small = omega (arith, y .room, few-symbols);
+      room = omega (arith, y .ends, y .room);
+      height = omega (arith, y .ends, y .room, few-symbols);
+      label = omega (arith, y .ends, y .room, few-symbols, few-in-all, few-names);
+      some = omega arith;
+      names = omega (arith, few-in-all);
+      shallow = shallow;
+      fine = fine;
+      low = refl;
+      empty = e;
+    }
+
+    -- ---- the answer
+
+    module _ {s₁ table table′ t t₁ t₂ t₃ : List ℕ} {at last : ℕ} {d′ : Done}
+        (o : Puts (36 ∷ 10 ∷ []) 0 at t t₁)
+        (g : GaveProgram source s s₁ table table′ (count * 3) end 520 (functions + 1) t₁ t₂ (record { tall = NONE; state = record { at = at; label = functions + 1 + names; worst = NONE; high = 0 } }) d′)
+        (none : table ≡ replicate 400 0)
+        (b : Behind source (length s₁) count functions table′ (d′ .state .at) last t₂ t₃) where
+      w : Walked source p (functions + 1) s s₁ table table′ t₁ t₂ (record { tall = NONE; state = record { at = at; label = functions + 1 + names; worst = NONE; high = 0 } }) d′
+      unfolding ready-program
+      w = g .by (ready-program at none)
+
+      functions-are : functionsIn source ≡ funs ns
+      unfolding functionsIn parsed readSymbols functionsOf
+      functions-are = rw (y .reads, y .parses) refl
+
+      strings-are : stringsIn source ≡ stringsAmong source (y .symbols)
+      unfolding stringsIn
+      strings-are = rw (y .reads) refl
+
+      abbrev code : List Item
+      code = functionsCode (functions + 1) 1 (functions + 1 + names) (funs ns)
+
+      abbrev behind : List Item
+      behind = stringsCode (suc functions) (stringsAmong source (y .symbols)) ++ startsCode 1 (funs ns)
+
+      items-are : itemsOf (functionsIn source) (stringsIn source) ≡ code ++ behind
+      unfolding itemsOf
+      items-are =
+          let strings = stringsAmong source (y .symbols) in
+          let l : length (funs ns) ≡ functions = length-funs ns ∙ sym f in
+          let all : ℕ → ℕ → List Item = λ m k. functionsCode (suc m) 1 (suc m + k) (funs ns) ++ (stringsCode (suc m) strings ++ startsCode 1 (funs ns)) in
+          ap (λ (z : List Fun). itemsOf z (stringsIn source)) functions-are
+          ∙ (ap (itemsOf (funs ns)) strings-are
+          ∙ (ap (λ (m : ℕ). all m (length strings)) l
+          ∙ (ap (all functions) (sym n)
+          ∙ ap (λ (m : ℕ). functionsCode m 1 (m + names) (funs ns) ++ behind) (sym (add-one functions)))))
+
+      the-text : ((36 ∷ 10 ∷ []) ++ lines code) ++ (lines behind ++ (90 ∷ 10 ∷ [])) ≡ textOf source
+      unfolding textOf
+      the-text =
+          append-assoc (36 ∷ 10 ∷ []) (lines code) (lines behind ++ (90 ∷ 10 ∷ []))
+          ∙ (ap (λ (z : List ℕ). (36 ∷ 10 ∷ []) ++ z) (sym (append-assoc (lines code) (lines behind) (90 ∷ 10 ∷ [])) ∙ ap (λ (z : List ℕ). z ++ (90 ∷ 10 ∷ [])) (sym (lines-then code behind)))
+          ∙ (sym (rendered (code ++ behind)) ∙ ap renderAll (sym items-are)))
+
+      -- the text is the generator's
+      written : faultsFrom source begin p ≡ [] → Text t (textOf source) last t₃
+      written e =
+          let x = o .by t [] (text-start t) in
+          let y′ = w .did .clean e .text .by t (36 ∷ 10 ∷ []) x in
+          let z = b .by (y .symbols) (funs ns) (record { short = y .lent .short; asked = w .same ∙ y .lent .asked }) (y .reads) (y .counts) (w .long) (f ∙ sym (length-funs ns)) (w .starting e) in
+          subst (λ (out : List ℕ). Text t out last t₃) the-text (z .by t _ y′)
+
+      answers : byKeys source (d′ .state .worst) (d′ .tall) (getD table′ 1 0) last (length t) ≡ answerOf source (decided source (length s) (length t))
+      unfolding rulesRefuse faultsOfProgram functionsOf
+      answers =
+          decides source (faultsFrom source begin p) (heightFaults ns) (hasStart ns) (d′ .state .worst) (d′ .tall) (getD table′ 1 0) last (length t)
+          (w .did .fits) (w .fits) (w .did .worst) (w .tall) (λ e. start-told table′ ns (w .starting e)) (λ e. written e .place)
+          ∙ ap (answerOf source) (sym (rules-decide (y .lent) (length t) (y .symbols) p (y .next) (y .reads) (y .parses)))
+
+      begins : Begins source t₃ (decided source (length s) (length t))
+      unfolding rulesRefuse faultsOfProgram functionsOf
+      begins = go (decided source (length s) (length t)) refl
+        where
+          go : (d : Refused) → decided source (length s) (length t) ≡ d → Begins source t₃ d
+          go (refused number place) e = tt
+          go accepted e =
+              let k = fitting (length (textOf source)) (length t) _ (sym (rules-decide (y .lent) (length t) (y .symbols) p (y .next) (y .reads) (y .parses)) ∙ e) in
+              let x = written (no-faults (faultsFrom source begin p) _ (k .0)) in
+              (ap (take (length (textOf source))) (x .is) ∙ over-front (textOf source) t (k .1), omega (arith, k .1, ap length (x .is), over-length (textOf source) t))
+
+      pub translates : {start room : ℕ} {a : Compiled} → start ≡ getD table′ 1 0 → room ≡ length t → a ≡ byKeys source (d′ .state .worst) (d′ .tall) start last room
+          → Translates source (length s) t t₃ a
+      translates {start} {room} e k q =
+          record {
+            answers = q ∙ (ap (λ (v : ℕ). byKeys source (d′ .state .worst) (d′ .tall) v last room) e ∙ (ap (λ (v : ℕ). byKeys source (d′ .state .worst) (d′ .tall) (getD table′ 1 0) last v) k ∙ answers));
+            begins = begins;
+          }

@@ -1,0 +1,119 @@
+-- A function's body: a value, from which nothing is left, or a routine, which only RETURN leaves.
+use Prim.Native.Nat.{ℕ, _+_, _*_, _≤_, _^_}
+use mathlib.Core.Path.{_≡_, refl, sym, ap, subst, _∙_}
+use mathlib.Core.Bool.{Bool, true, false, not}
+use mathlib.Core.List.{List}
+use native.Mathlib.Omega.{arith}
+use lib.ListN.{length}
+use borrow.Author.Tests.{eq-eqb, ne-eqb}
+use Rattle.language.specs.Kinds as K
+use Rattle.language.specs.Tree as T
+use Rattle.language.specs.Faults.{inExpression, inCommand}
+use Rattle.language.proofs.Depth.{depth, commandDepth, bodyDepth}
+use Rattle.language.specs.Program.{bodyFaults}
+use Rattle.code.specs.Generate as G
+use Rattle.tree.specs.Encoding.{encode, encodeCommand, encodeBody, bodyWord}
+use Rattle.compiler.specs.Fine.{FineE, FineC}
+use Rattle.compiler.specs.Walks.{Lies, Ready, Result, ReadyE, GaveE}
+use Rattle.compiler.specs.Commands.{ReadyC, GaveC}
+use Rattle.compiler.specs.Groups.{FineB, bodySays, ReadyBody, GaveBody}
+use Rattle.compiler.specs.declared.steps.State.{State}
+use Rattle.compiler.specs.declared.steps.Here.{Here}
+use Rattle.compiler.specs.declared.steps.Ways.{Ways}
+
+abbrev pub nowhere : Ways
+nowhere = record { after = 0; next = 0; done = 0; result = 0 }
+
+pub record ValueIs (b : T.Body) : Type 0 where
+  pub part : T.Expression
+  pub same : b ≡ T.value part
+
+pub record RoutineIs (b : T.Body) : Type 0 where
+  pub part : T.Command
+  pub same : b ≡ T.routine part
+
+pub value-is : (b : T.Body) → bodyWord b ≡ K.EQUAL → ValueIs b
+unfolding bodyWord
+value-is (T.value e) q = record { part = e; same = refl }
+value-is (T.routine c) q = absurd (omega arith)
+
+pub routine-is : (b : T.Body) → (bodyWord b ≡ K.EQUAL → ⊥) → RoutineIs b
+unfolding bodyWord
+routine-is (T.value e) q = absurd (q refl)
+routine-is (T.routine c) q = record { part = c; same = refl }
+
+-- what stands there as another kind of tree, with the same entries
+abbrev pub ready-as : {A B : Type 0} {enc : A → List ℕ} {deep : A → ℕ} {Fine : A → Type 0} (enc′ : B → List ℕ) (deep′ : B → ℕ) (Fine′ : B → Type 0)
+    {s : List ℕ} {end : ℕ} {x : Here} {st : State} (z : Ready enc deep Fine s end x st) (b : B)
+    → enc (z .tree) ≡ enc′ b → deep (z .tree) ≡ deep′ b → Fine′ b → Ready enc′ deep′ Fine′ s end x st
+ready-as enc′ deep′ Fine′ {s} {end} {x} {st} z b q d f =
+    let l = ap length q in
+    record {
+      base = z .base;
+      lo = z .lo;
+      tree = b;
+      scope = z .scope;
+      lies = subst (Lies s (z .lo)) q (z .lies);
+      ends = z .ends ∙ ap (λ (n : ℕ). z .lo + n) l;
+      above = z .above;
+      long = z .long;
+      small = z .small;
+      shows = z .shows;
+      room = subst (λ (n : ℕ). x .top * 2 + n ≤ z .base * 2) l (z .room);
+      height = subst (λ (n : ℕ). x .height + 4100 * n ≤ 2 ^ 29) l (z .height);
+      label = subst (λ (n : ℕ). st .label + 2 * n ≤ 2 ^ 29) l (z .label);
+      some = z .some;
+      strings = z .strings;
+      shallow = subst (λ (n : ℕ). n ≤ x .left) d (z .shallow);
+      fine = f;
+    }
+
+module _ {s : List ℕ} {end word : ℕ} {x : Here} {st : State} where
+  abbrev pub ready-value : word ≡ K.EQUAL → ReadyBody s end x st word → ReadyE s end x st
+  unfolding encodeBody bodyDepth
+  ready-value e y =
+      let z = y .ready in
+      let v = value-is (z .tree) (sym (y .word-is) ∙ e) in
+      ready-as encode depth FineE z (v .part) (ap encodeBody (v .same)) (ap bodyDepth (v .same)) (subst FineB (v .same) (z .fine))
+
+  abbrev pub ready-routine : (word ≡ K.EQUAL → ⊥) → ReadyBody s end x st word → ReadyC s end x st
+  unfolding encodeBody bodyDepth
+  ready-routine e y =
+      let z = y .ready in
+      let v = routine-is (z .tree) (λ k. e (y .word-is ∙ k)) in
+      ready-as encodeCommand commandDepth FineC z (v .part) (ap encodeBody (v .same)) (ap bodyDepth (v .same)) (subst FineB (v .same) (z .fine))
+
+  abbrev Owed : ReadyBody s end x st word → (text s′ t t′ : List ℕ) (r : State) → T.Body → Type 0
+  Owed y text s′ t t′ r b = let z = y .ready in
+      Result (bodyFaults text (z .scope) (x .height) b) (bodySays text x (z .scope) b) (length (encodeBody b)) (z .base) x s s′ t t′ st r
+
+  module _ {text s′ t t′ : List ℕ} {r : State} where
+    pub gave-value : word ≡ K.EQUAL → GaveE text s s′ end x t t′ st r → GaveBody text s s′ end word x t t′ st r
+    unfolding encodeBody G.bodyCode G.bodyLabels ready-value
+    gave-value e g = record {
+      by = λ y.
+          let z = y .ready in
+          let v = value-is (z .tree) (sym (y .word-is) ∙ e) in
+          let out : x .routine ≡ false = y .routine-is ∙ ap not (eq-eqb word K.EQUAL e) in
+          subst (Owed y text s′ t t′ r) (sym (v .same))
+          (subst
+          (λ (k : Bool).
+          Result (inExpression text (z .scope) (record { loop = false; switch = false; valof = false; routine = k }) (x .height) (v .part))
+          (bodySays text x (z .scope) (T.value (v .part))) (length (encode (v .part))) (z .base) x s s′ t t′ st r)
+          out (g .by (ready-value e y)));
+    }
+
+    pub gave-routine : (word ≡ K.EQUAL → ⊥) → GaveC text s s′ end x nowhere t t′ st r → GaveBody text s s′ end word x t t′ st r
+    unfolding encodeBody G.bodyCode G.bodyLabels ready-routine
+    gave-routine e g = record {
+      by = λ y.
+          let z = y .ready in
+          let v = routine-is (z .tree) (λ k. e (y .word-is ∙ k)) in
+          let out : x .routine ≡ true = y .routine-is ∙ ap not (ne-eqb word K.EQUAL e) in
+          subst (Owed y text s′ t t′ r) (sym (v .same))
+          (subst
+          (λ (k : Bool).
+          Result (inCommand text (z .scope) (record { loop = false; switch = false; valof = false; routine = k }) (x .height) (v .part))
+          (bodySays text x (z .scope) (T.routine (v .part))) (length (encodeCommand (v .part))) (z .base) x s s′ t t′ st r)
+          out (g .by (ready-routine e y)));
+    }

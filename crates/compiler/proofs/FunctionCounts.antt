@@ -1,0 +1,132 @@
+-- How many functions a program has: the loop over its declarations.
+use Prim.Native.Nat.{ℕ, _+_, _≤_, _<_}
+use mathlib.Core.Path.{_≡_, refl, sym, ap, subst, _∙_}
+use mathlib.Core.List.{List, [], _∷_, _++_}
+use native.Mathlib.Omega.{arith}
+use lib.ListN.{length, getD, length-append}
+use Rattle.language.specs.Kinds as K
+use Rattle.language.specs.Tree as T
+use Rattle.language.specs.Tree.{Declaration, Program}
+use Rattle.tree.specs.Encoding.{encodeProgram}
+use Rattle.compiler.specs.Walks.{Lies}
+use Rattle.compiler.specs.Groups.{functionCount, CountsFunctions, CountsGroup}
+use Rattle.compiler.specs.Programs.{encodeDeclared, declaredWord}
+use Rattle.compiler.proofs.Trees.{first, second}
+
+pub program-step : (d : Declaration) (p : Program)
+    → encodeProgram (d ∷ p) ≡ (length (encodeDeclared d) ∷ declaredWord d ∷ encodeDeclared d) ++ encodeProgram p
+unfolding encodeProgram
+program-step (T.globals is) p = refl
+program-step (T.manifests is) p = refl
+program-step (T.functions fs) p = refl
+
+-- the declaration at the front
+pub record IsDeclaration (s : List ℕ) (at end : ℕ) (p : Program) : Type 0 where
+  pub part : Declaration
+  pub more : Program
+  pub same : p ≡ part ∷ more
+  pub size-of : getD s at 0 ≡ length (encodeDeclared part)
+  pub word-of : getD s (at + 1) 0 ≡ declaredWord part
+  pub lies-one : Lies s (at + 2) (encodeDeclared part)
+  pub lies-more : Lies s (at + 2 + length (encodeDeclared part)) (encodeProgram more)
+  pub ends : end ≡ at + 2 + length (encodeDeclared part) + length (encodeProgram more)
+
+pub is-declaration : {s : List ℕ} {at end : ℕ} (p : Program)
+    → Lies s at (encodeProgram p) → end ≡ at + length (encodeProgram p) → at < end → IsDeclaration s at end p
+unfolding encodeProgram
+is-declaration [] h e l = absurd (omega arith)
+is-declaration {s} {at} (d ∷ p) h e l =
+    let w : List ℕ = encodeDeclared d in
+    let x : List ℕ = length w ∷ declaredWord d ∷ w in
+    let two : List ℕ = length w ∷ declaredWord d ∷ [] in
+    let q = program-step d p in
+    let h′ : Lies s at (x ++ encodeProgram p) = subst (Lies s at) q h in
+    let front : Lies s at x = first x (encodeProgram p) h′ in
+    record {
+      part = d;
+      more = p;
+      same = refl;
+      size-of = ap (λ (z : ℕ). getD s z 0) (omega arith) ∙ front .at 0 (omega arith);
+      word-of = front .at 1 (omega arith);
+      lies-one = second two w (at + 2) front refl;
+      lies-more = second x (encodeProgram p) (at + 2 + length w) h′ (omega arith);
+      ends = omega (arith, e, ap length q, length-append x (encodeProgram p));
+    }
+
+pub no-declaration : {at end : ℕ} (p : Program) → end ≡ at + length (encodeProgram p) → end ≤ at → p ≡ []
+no-declaration [] e l = refl
+no-declaration {at} {end} (d ∷ p) e l =
+    absurd (omega (arith, e, ap length (program-step d p), length-append (length (encodeDeclared d) ∷ declaredWord d ∷ encodeDeclared d) (encodeProgram p)))
+
+-- the functions of one declaration
+abbrev ownCount : Declaration → ℕ
+ownCount (T.globals is) = 0
+ownCount (T.manifests is) = 0
+ownCount (T.functions fs) = length fs
+
+count-step : (d : Declaration) (p : Program) → functionCount (d ∷ p) ≡ ownCount d + functionCount p
+unfolding functionCount
+count-step (T.globals is) p = omega arith
+count-step (T.manifests is) p = omega arith
+count-step (T.functions fs) p = refl
+
+count-none : functionCount [] ≡ 0
+unfolding functionCount
+count-none = refl
+
+pub record Part (s : List ℕ) (at end n : ℕ) (p : Program) : Type 0 where
+  pub rest : Program
+  pub lies : Lies s at (encodeProgram rest)
+  pub ends : end ≡ at + length (encodeProgram rest)
+  pub sum : n + functionCount rest ≡ functionCount p
+
+abbrev pub Counted : (s : List ℕ) (from end at n : ℕ) → Type 0
+Counted s from end at n =
+    (p : Program) → Lies s from (encodeProgram p) → end ≡ from + length (encodeProgram p) → Part s at end n p
+
+pub counted-begin : {s : List ℕ} {from end : ℕ} → Counted s from end from 0
+counted-begin p h e = record { rest = p; lies = h; ends = e; sum = omega arith }
+
+module _ {s : List ℕ} {from end at n size word : ℕ} (l : at < end) (es : size ≡ getD s at 0) (ew : word ≡ getD s (at + 1) 0)
+    (q : Counted s from end at n) where
+  -- one more, with so many functions of its own
+  onwards : (m : ℕ) → ((d : Declaration) → word ≡ declaredWord d → Lies s (at + 2) (encodeDeclared d) → size ≡ length (encodeDeclared d) → m ≡ ownCount d)
+      → Counted s from end (at + 2 + size) (n + m)
+  onwards m own p h e =
+      let c = q p h e in
+      let u = is-declaration (c .rest) (c .lies) (c .ends) l in
+      let k : size ≡ length (encodeDeclared (u .part)) = es ∙ u .size-of in
+      record {
+        rest = u .more;
+        lies = subst (λ (z : ℕ). Lies s (at + 2 + z) (encodeProgram (u .more))) (sym k) (u .lies-more);
+        ends = omega (arith, u .ends, k);
+        sum = omega (arith, c .sum, ap functionCount (u .same), count-step (u .part) (u .more), own (u .part) (ew ∙ u .word-of) (u .lies-one) k);
+      }
+
+  pub counted-group : {m : ℕ} → word ≡ K.LET → CountsGroup s (at + 2) (at + 2 + size) m → Counted s from end (at + 2 + size) (n + m)
+  counted-group {m} e g = onwards m by
+    where
+      by : (d : Declaration) → word ≡ declaredWord d → Lies s (at + 2) (encodeDeclared d) → size ≡ length (encodeDeclared d) → m ≡ ownCount d
+      by (T.globals is) w h k = absurd (omega arith)
+      by (T.manifests is) w h k = absurd (omega arith)
+      by (T.functions fs) w h k = g .by fs h (omega arith)
+
+  pub counted-other : (word ≡ K.LET → ⊥) → Counted s from end (at + 2 + size) n
+  counted-other e p h k = subst (λ (z : ℕ). Part s (at + 2 + size) end z p) (omega arith) (onwards 0 by p h k)
+    where
+      by : (d : Declaration) → word ≡ declaredWord d → Lies s (at + 2) (encodeDeclared d) → size ≡ length (encodeDeclared d) → 0 ≡ ownCount d
+      by (T.globals is) w h k = refl
+      by (T.manifests is) w h k = refl
+      by (T.functions fs) w h k = absurd (e w)
+
+  -- a group never reaches past the end
+  pub counted-past : end < at + 2 + size → Counted s from end (at + 2 + size) n
+  counted-past g p h e =
+      let c = q p h e in let u = is-declaration (c .rest) (c .lies) (c .ends) l in
+      absurd (omega (arith, g, es, u .size-of, u .ends))
+
+pub counted-end : {s : List ℕ} {from end at n : ℕ} → end ≤ at → Counted s from end at n → CountsFunctions s from end n
+counted-end l q = record {
+  by = λ p h e. let c = q p h e in
+      omega (arith, c .sum, ap functionCount (no-declaration (c .rest) (c .ends) l), count-none);
+}

@@ -1,0 +1,375 @@
+-- The functions of a group, one after another: what each adds to the faults, the code and the heights, and the loop.
+use Prim.Native.Nat.{ℕ, suc, _+_, _*_, _-_, _≤_, _<_, _^_}
+use mathlib.Core.Path.{_≡_, refl, sym, ap, subst, _∙_}
+use mathlib.Core.Bool.{Bool, true, false, cond}
+use mathlib.Core.List.{List, [], _∷_, _++_, append-nil, append-assoc}
+use native.Mathlib.Omega.{arith}
+use lib.ListN.{length, getD, length-append}
+use lib.Dec.{ltb}
+use borrow.Author.Tests.{lt-ltb, le-ltb}
+use Rattle.items.specs.Item as I
+use Rattle.language.specs.Tree.{Function}
+use Rattle.language.specs.Names.{Scope, lookup}
+use Rattle.language.specs.Constants.{Fault, fault}
+use Rattle.language.specs.Resolved.{Fun, Start, nowhere}
+use Rattle.language.specs.Heights.{heightsOf, greatest, largestHeight}
+use Rattle.language.specs.Program.{Named, startOf, withFunction, resolved, functionFaults, groupFaults, groupOf, heightFaults}
+use Rattle.language.specs.Whole.{funs}
+use Rattle.language.specs.Fine.{FineFunctions}
+use Rattle.language.proofs.Depth.{functionsDepth}
+use Rattle.code.specs.Generate as G
+use Rattle.tree.specs.Encoding.{encodeName, encodeNames, encodeBody, bodyWord, encodeFunctions}
+use Rattle.compiler.specs.Scope.{Keeps}
+use Rattle.compiler.specs.Walked.{Did, Code, least, AllFit, noFit, andFit}
+use Rattle.compiler.specs.Walks.{Lies}
+use Rattle.compiler.specs.Commands.{nothing}
+use Rattle.compiler.specs.Groups.{encodeFunction, functionDepth, FineF, FineFs, functionSays, functionsSays, innerLabels, ReadyF, GaveF}
+use Rattle.compiler.specs.Groups.{ReadyFs, GaveFs}
+use Rattle.compiler.specs.Programs.{Yields}
+use Rattle.compiler.specs.declared.steps.State.{State}
+use Rattle.compiler.specs.declared.steps.Here.{Here}
+use Rattle.compiler.specs.declared.program.Done.{Done}
+use Rattle.compiler.proofs.Scoping.{keeps-all, keeps-then, keeps-shows}
+use Rattle.compiler.proofs.Done.{least-then, fit-then, nil-left, nil-right, did-none, did-then, did-as, same-refl, code-is}
+use Rattle.compiler.proofs.Trees.{keeps-lies}
+use Rattle.compiler.proofs.GroupLaws.{IsFunction, is-function, no-function}
+
+-- ---- the least 16
+
+module _ (tall high place : ℕ) where
+  pub tall-new : 8192 < high → place * 32 + 16 < tall → place * 32 + 16 ≡ least tall (cond (ltb 8192 high) (fault place 16) [])
+  unfolding least
+  tall-new h l = rw (lt-ltb 8192 high h, lt-ltb (place * 32 + 16) tall l)
+
+  pub tall-old : tall ≤ place * 32 + 16 → tall ≡ least tall (cond (ltb 8192 high) (fault place 16) [])
+  unfolding least
+  tall-old l = by (ltb 8192 high)
+    where
+      by : (b : Bool) → tall ≡ least tall (cond b (fault place 16) [])
+      by true = rw (le-ltb (place * 32 + 16) tall l)
+      by false = refl
+
+  pub tall-low : high ≤ 8192 → tall ≡ least tall (cond (ltb 8192 high) (fault place 16) [])
+  unfolding least
+  tall-low l = rw (le-ltb 8192 high l)
+
+-- ---- one list after another
+
+pub funs-then : (gs hs : List Named) → funs (gs ++ hs) ≡ funs gs ++ funs hs
+unfolding funs
+funs-then [] hs = refl
+funs-then (g ∷ gs) hs = ap (λ (z : List Fun). g .fun ∷ z) (funs-then gs hs)
+
+pub funs-long : (gs : List Named) → length (funs gs) ≡ length gs
+unfolding funs
+funs-long [] = refl
+funs-long (g ∷ gs) = ap suc (funs-long gs)
+
+pub heights-then : (gs hs : List Named) → heightFaults (gs ++ hs) ≡ heightFaults gs ++ heightFaults hs
+unfolding heightFaults
+heights-then [] hs = refl
+heights-then (g ∷ gs) hs =
+    let a = cond (ltb 8192 (largestHeight (g .fun))) (fault (g .name .place) 16) [] in
+    ap (λ (z : List Fault). a ++ z) (heights-then gs hs) ∙ sym (append-assoc a (heightFaults gs) (heightFaults hs))
+
+labels-then : (fs gs : List Fun) → innerLabels (fs ++ gs) ≡ innerLabels fs + innerLabels gs
+unfolding innerLabels
+labels-then [] gs = omega arith
+labels-then (f ∷ fs) gs = omega (arith, labels-then fs gs)
+
+code-then : (strings l n : ℕ) (fs gs : List Fun) {k m : ℕ} → k ≡ l + length fs → m ≡ n + innerLabels fs
+    → G.functionsCode strings l n (fs ++ gs) ≡ G.functionsCode strings l n fs ++ G.functionsCode strings k m gs
+unfolding G.functionsCode innerLabels
+code-then strings l n [] gs {k} {m} a b =
+    let p : l ≡ k = omega arith in let q : n ≡ m = omega arith in
+    ap (λ (z : ℕ). G.functionsCode strings z n gs) p ∙ ap (λ (z : ℕ). G.functionsCode strings k z gs) q
+code-then strings l n (f ∷ fs) gs {k} {m} a b =
+    let c = G.bodyCode strings (2 + f .parameters) n (f .body) in
+    let n′ = n + G.bodyLabels (f .body) in
+    ap (λ (z : List I.Item). I.label l ∷ c ++ (G.X 4 ∷ z)) (code-then strings (suc l) n′ fs gs (omega arith) (omega arith))
+    ∙ ap (λ (z : List I.Item). I.label l ∷ z) (sym (append-assoc c (G.X 4 ∷ G.functionsCode strings (suc l) n′ fs) (G.functionsCode strings k m gs)))
+
+pub says-then : (strings l n : ℕ) (gs hs : List Named) {k : ℕ} → k ≡ l + length gs → let a = functionsSays strings l (funs gs) n in
+    _≡_ {A = Code} (record {
+      items = a .items ++ G.functionsCode strings k (n + innerLabels (funs gs)) (funs hs);
+      heights = [];
+      labels = innerLabels (funs gs) + innerLabels (funs hs);
+    })
+    (functionsSays strings l (funs (gs ++ hs)) n)
+says-then strings l n gs hs {k} e = let f = funs gs in let h = funs hs in
+    code-is (sym (ap (G.functionsCode strings l n) (funs-then gs hs) ∙ code-then strings l n f h (omega (arith, funs-long gs)) refl)) refl
+    (sym (ap innerLabels (funs-then gs hs) ∙ labels-then f h))
+
+-- ---- what was done: nothing, then one part after another
+
+pub yields-none : (strings l : ℕ) {t : List ℕ} {d : Done} → Yields strings l [] [] 0 t t d d
+unfolding funs G.functionsCode innerLabels heightFaults least
+yields-none strings l = record { did = did-none 0; tall = λ e. refl; fits = noFit }
+
+pub yields-then : {strings l : ℕ} (k : ℕ) {fs fs′ : List Fault} {gs gs′ : List Named} {m m′ : ℕ} {t t₁ t₂ : List ℕ} {d d₁ d₂ : Done}
+    → k ≡ l + length gs
+    → Yields strings l fs gs m t t₁ d d₁ → Yields strings k fs′ gs′ m′ t₁ t₂ d₁ d₂ → Yields strings l (fs ++ fs′) (gs ++ gs′) (m + m′) t t₂ d d₂
+yields-then {strings} {l} k {fs} {fs′} {gs} {gs′} {m} {m′} {t} {t₁} {t₂} {d} {d₁} {d₂} e x y = record {
+  did = did-as (functionsSays strings l (funs (gs ++ gs′))) (m + m′) (did-then (x .did) (y .did)) same-refl (λ n c. says-then strings l n gs gs′ e)
+      (omega arith);
+  tall = λ c. y .tall (nil-right fs fs′ c) ∙ ap (λ (z : ℕ). least z (heightFaults gs′)) (x .tall (nil-left fs fs′ c))
+      ∙ least-then (d .tall) (heightFaults gs) (heightFaults gs′) ∙ ap (least (d .tall)) (sym (heights-then gs gs′));
+  fits = subst AllFit (sym (heights-then gs gs′)) (fit-then (x .fits) (y .fits));
+}
+
+pub yields-as : {strings l : ℕ} {fs fs′ : List Fault} {gs gs′ : List Named} {m : ℕ} (m′ : ℕ) {t t′ : List ℕ} {d d′ : Done} → fs ≡ fs′ → gs ≡ gs′
+    → m ≤ m′
+    → Yields strings l fs gs m t t′ d d′ → Yields strings l fs′ gs′ m′ t t′ d d′
+yields-as {strings} {l} {fs} {fs′} {gs} {gs′} {m} m′ {t} {t′} {d} {d′} a b c x =
+    subst (λ (z : List Fault). Yields strings l z gs′ m′ t t′ d d′) a
+    (subst (λ (z : List Named). Yields strings l fs z m′ t t′ d d′) b
+    (record { did = did-as (functionsSays strings l (funs gs)) m′ (x .did) same-refl (λ n e. refl) c; tall = x .tall; fits = x .fits }))
+
+-- ---- the height is taken away
+
+abbrev pub flat : State → State
+flat st = record { at = st .at; label = st .label; worst = st .worst; high = 0 }
+
+pub did-flat : {fs : List Fault} {code : ℕ → Code} {m : ℕ} {t t′ : List ℕ} {st a r : State} → st .high ≡ 0 → r ≡ flat a → Did fs code m t t′ st a
+    → Did fs (λ n. record { items = code n .items; heights = []; labels = code n .labels }) m t t′ st r
+unfolding greatest
+did-flat {fs} {code} {m} {t} {t′} {st} {a} {r} low e x =
+    subst (λ (z : State). Did fs (λ n. record { items = code n .items; heights = []; labels = code n .labels }) m t t′ st z) (sym e) (record {
+      worst = x .worst;
+      fits = x .fits;
+      few = x .few;
+      grows = x .grows;
+      clean = λ c. let w = x .clean c in record { text = w .text; high = sym low; label = w .label };
+    })
+
+-- ---- one function
+
+abbrev namedBy : (text : List ℕ) (sc : Scope) (start : Start) → Function → Named
+namedBy text sc start f = record { name = f .name; fun = resolved text sc start f }
+
+pub yields-one : (text : List ℕ) (sc : Scope) (start : Start) (strings l : ℕ) (f : Function) {m tall tall′ place : ℕ} {t t′ : List ℕ} {st a r : State}
+    → Did (functionFaults text sc f) (functionSays text strings l sc f) m t t′ st a → st .high ≡ 0 → r ≡ flat a → place ≡ f .name .place
+    → place < 2 ^ 32
+    → tall′ ≡ least tall (cond (ltb 8192 (a .high)) (fault place 16) [])
+    → Yields strings l (functionFaults text sc f) (namedBy text sc start f ∷ []) m t t′ (record { tall = tall; state = st })
+    (record { tall = tall′; state = r })
+unfolding funs G.functionsCode innerLabels heightFaults largestHeight heightsOf resolved
+yields-one text sc start strings l f {m} {tall} {tall′} {place} {t} {t′} {st} {a} {r} x low e ep small et =
+    let g = namedBy text sc start f in
+    let hf : ℕ → List Fault = λ h. cond (ltb 8192 h) (fault (f .name .place) 16) [] in
+    record {
+      did = did-as (functionsSays strings l (funs (g ∷ []))) m (did-flat low e x) same-refl (λ n c. code-is refl refl (omega arith)) (omega arith);
+      tall = λ c.
+          let q : a .high ≡ largestHeight (g .fun) = x .clean c .high ∙ ap (λ (z : ℕ). greatest z (heightsOf (resolved text sc nowhere f))) low in
+          et ∙ ap (λ (z : ℕ). least tall (cond (ltb 8192 (a .high)) (fault z 16) [])) ep ∙ ap (λ (z : ℕ). least tall (hf z)) q
+          ∙ ap (least tall) (sym (append-nil (hf (largestHeight (g .fun)))));
+      fits = fit-then (by (ltb 8192 (largestHeight (g .fun)))) noFit;
+    }
+  where
+    low-place : f .name .place < 2 ^ 32
+    low-place = omega arith
+
+    low-number : 16 < 32
+    low-number = omega arith
+
+    by : (b : Bool) → AllFit (cond b (fault (f .name .place) 16) [])
+    by true = andFit low-place low-number noFit
+    by false = noFit
+
+-- ---- the size of a function
+
+pub functions-step : (f : Function) (fs : List Function) → 10 + length (encodeFunctions fs) ≤ length (encodeFunctions (f ∷ fs))
+unfolding encodeFunctions encodeName
+functions-step f fs =
+    let w = encodeNames (f .parameters) ++ encodeBody (f .body) in
+    omega (
+      arith,
+      length-append (encodeFunction f) (encodeFunctions fs),
+      length-append (encodeName (f .name) ++ w) (length (encodeName (f .name) ++ w) ∷ length (encodeNames (f .parameters)) ∷ 0 ∷ bodyWord (f .body) ∷ []),
+    )
+
+pub functions-long : (fs : List Function) → 10 * length fs ≤ length (encodeFunctions fs)
+functions-long [] = omega arith
+functions-long (f ∷ fs) = omega (arith, functions-long fs, functions-step f fs)
+
+-- its name stands first
+function-place : {s : List ℕ} {lo : ℕ} (f : Function) → Lies s lo (encodeFunction f) → getD s (lo + 2) 0 ≡ f .name .place
+unfolding encodeName
+function-place f h = h .at 2 (omega arith)
+
+-- ---- the loop
+
+-- what the code needs at a function
+pub record FunctionFits (at size end l label : ℕ) : Type 0 where
+  pub next : at + 2 + size ≤ end
+  pub small : end < 2 ^ 32
+  pub few : l < label + end
+
+module _ (text t₀ : List ℕ) {s₀ : List ℕ} {from end : ℕ} {here : Here} (label : ℕ) (d₀ : Done) where
+  -- `rest` is left at `at`; the functions before it are `made`, with their faults
+  pub record GroupPart (y : ReadyFs s₀ from end here d₀) (before : Scope) (k : ℕ) (s t : List ℕ) (at l : ℕ) (d : Done) : Type 0 where
+    pub rest : List Function
+    pub found : List Fault
+    pub made : List Named
+    pub scope : Scope
+    pub number : ℕ
+    pub used : ℕ
+    pub lies : Lies s₀ at (encodeFunctions rest)
+    pub ends : end ≡ at + length (encodeFunctions rest)
+    pub starts : from ≤ at
+    pub keeps : Keeps (y .base) (here .top) s₀ s
+    pub uses : used + length (encodeFunctions rest) ≤ length (encodeFunctions (y .functions))
+    pub room : here .top * 2 + length (encodeFunctions rest) + 2 ≤ y .base * 2 + 4 * length rest
+    pub some : 0 < d .state .label
+    pub low : d .state .high ≡ 0
+    pub shallow : functionsDepth rest ≤ here .left
+    pub fine : FineFs rest
+    pub next : l ≡ label + length made
+    pub few : length made ≤ used
+    pub faults-are : found ++ groupFaults text (y .scope) rest ≡ groupFaults text (y .scope) (y .functions)
+    pub made-are : made ++ groupOf text number scope (y .scope) rest ≡ groupOf text k before (y .scope) (y .functions)
+    pub yields : Yields (here .strings) label found made (2 * used) t₀ t d₀ d
+
+  pub group-begin : (y : ReadyFs s₀ from end here d₀) (before : Scope) (k : ℕ) → GroupPart y before k s₀ t₀ from label d₀
+  group-begin y before k = record {
+    rest = y .functions;
+    found = [];
+    made = [];
+    scope = before;
+    number = k;
+    used = 0;
+    lies = y .lies;
+    ends = y .ends;
+    starts = omega arith;
+    keeps = keeps-all;
+    uses = omega arith;
+    room = y .room;
+    some = y .some;
+    low = y .low;
+    shallow = y .shallow;
+    fine = y .fine;
+    next = omega arith;
+    few = omega arith;
+    faults-are = refl;
+    made-are = refl;
+    yields = yields-none (here .strings) label;
+  }
+
+  module _ {s t : List ℕ} {at l size next : ℕ} {d : Done} (lt : at < end) (es : size ≡ getD s at 0) (en : next ≡ at + 2 + size)
+      (y : ReadyFs s₀ from end here d₀) {before : Scope} {k : ℕ} (p : GroupPart y before k s t at l d) where
+    abbrev pub group-one : IsFunction s₀ at end (p .rest)
+    group-one = is-function (p .rest) (p .lies) (p .ends) lt
+
+    pub group-size : size ≡ length (encodeFunction (group-one .part))
+    group-size = es ∙ p .keeps .above at (omega (arith, y .above, p .starts)) ∙ group-one .size-of
+
+    pub group-length : length (encodeFunctions (p .rest)) ≡ 2 + length (encodeFunction (group-one .part)) + length (encodeFunctions (group-one .more))
+    group-length = omega (arith, p .ends, group-one .ends)
+
+    pub group-deep : (functionDepth (group-one .part) ≤ here .left) × (functionsDepth (group-one .more) ≤ here .left)
+    unfolding functionsDepth
+    group-deep = (omega (arith, p .shallow, ap functionsDepth (group-one .same)), omega (arith, p .shallow, ap functionsDepth (group-one .same)))
+
+    pub group-fine : FineF (group-one .part) × FineFs (group-one .more)
+    unfolding FineFunctions
+    group-fine = subst FineFs (group-one .same) (p .fine)
+
+    pub group-many : length (p .rest) ≡ suc (length (group-one .more))
+    group-many = ap length (group-one .same)
+
+    pub group-room : here .top * 2 + length (encodeFunction (group-one .part)) ≤ y .base * 2
+    group-room = omega (arith, p .room, group-length, group-many, functions-long (group-one .more))
+
+    pub group-used : p .used + 2 + length (encodeFunction (group-one .part)) + length (encodeFunctions (group-one .more))
+        ≤ length (encodeFunctions (y .functions))
+    group-used = omega (arith, p .uses, group-length)
+
+    abbrev pub group-ready : ReadyF s next here (d .state)
+    group-ready = record {
+      base = y .base;
+      lo = at + 2;
+      tree = group-one .part;
+      scope = y .scope;
+      lies = keeps-lies (p .keeps) (omega (arith, y .above, p .starts)) (group-one .lies-one);
+      ends = omega (arith, en, group-size);
+      above = omega (arith, y .above, p .starts);
+      long = omega (arith, y .long, p .keeps .long);
+      small = omega (arith, y .small, en, group-size, group-one .ends);
+      shows = keeps-shows (p .keeps) (omega arith) (y .shows);
+      room = group-room;
+      height = omega (arith, y .height, group-used);
+      label = omega (arith, y .label, group-used, p .yields .did .few);
+      some = p .some;
+      strings = y .strings;
+      shallow = group-deep .0;
+      fine = group-fine .0;
+    }
+
+    pub group-fits : FunctionFits at size end l label
+    group-fits = record {
+      next = omega (arith, group-size, group-one .ends);
+      small = y .small;
+      few = omega (arith, p .next, p .few, p .uses, y .ends, p .ends, lt);
+    }
+
+    pub group-next : {s₁ t₁ : List ℕ} {tall place : ℕ} {a r : State} → GaveF text s s₁ l next here t t₁ (d .state) a → place ≡ getD s₁ (at + 4) 0
+        → place < 2 ^ 32
+        → tall ≡ least (d .tall) (cond (ltb 8192 (a .high)) (fault place 16) []) → r ≡ flat a
+        → GroupPart y before k s₁ t₁ next (l + 1) (record { tall = tall; state = r })
+    unfolding groupFaults groupOf
+    group-next {s₁} {t₁} {tall} {place} {a} {r} g ep small et er =
+        let u = group-one in let f = u .part in let x = g .by group-ready in
+        let start = startOf (lookup text (p .scope) (f .name)) in
+        let n = namedBy text (y .scope) start f in
+        let q4 : at + 2 + 2 ≡ at + 4 = omega arith in
+        let one = yields-one text (y .scope) start (here .strings) l f (x .did) (p .low) er
+        (ep ∙ x .keeps .above (at + 4) (omega (arith, y .above, p .starts)) ∙ p .keeps .above (at + 4) (omega (arith, y .above, p .starts))
+        ∙ ap (λ (z : ℕ). getD s₀ z 0) (sym q4) ∙ function-place f (u .lies-one)) small et in
+        record {
+          rest = u .more;
+          found = p .found ++ functionFaults text (y .scope) f;
+          made = p .made ++ (n ∷ []);
+          scope = withFunction (p .scope) (f .name) (p .number) start;
+          number = p .number + 1;
+          used = p .used + (2 + length (encodeFunction f));
+          lies = subst (λ (z : ℕ). Lies s₀ z (encodeFunctions (u .more))) (omega (arith, en, group-size)) (u .lies-more);
+          ends = omega (arith, u .ends, en, group-size);
+          starts = omega (arith, p .starts, en);
+          keeps = keeps-then (p .keeps) (x .keeps);
+          uses = omega (arith, group-used);
+          room = omega (
+            arith,
+            p .room,
+            group-length,
+            group-many,
+            functions-step f (u .more),
+            ap (λ (z : List Function). length (encodeFunctions z)) (u .same),
+          );
+          some = omega (arith, p .some, one .did .grows);
+          low = ap (λ (z : State). z .high) er;
+          shallow = group-deep .1;
+          fine = group-fine .1;
+          next = omega (arith, p .next, length-append (p .made) (n ∷ []));
+          few = omega (arith, p .few, length-append (p .made) (n ∷ []));
+          faults-are = append-assoc (p .found) (functionFaults text (y .scope) f) (groupFaults text (y .scope) (u .more))
+              ∙ ap (λ (z : List Function). p .found ++ groupFaults text (y .scope) z) (sym (u .same)) ∙ p .faults-are;
+          made-are = append-assoc (p .made) (n ∷ [])
+              (groupOf text (p .number + 1) (withFunction (p .scope) (f .name) (p .number) start) (y .scope) (u .more))
+              ∙ ap (λ (z : List Function). p .made ++ groupOf text (p .number) (p .scope) (y .scope) z) (sym (u .same)) ∙ p .made-are;
+          yields = yields-as (2 * (p .used + (2 + length (encodeFunction f)))) refl refl (omega arith) (yields-then l (p .next) (p .yields) one);
+        }
+
+  pub group-end : {s t : List ℕ} {at l : ℕ} {d : Done} → end ≤ at
+      → ((y : ReadyFs s₀ from end here d₀) (before : Scope) (k : ℕ) → GroupPart y before k s t at l d)
+      → GaveFs text s₀ s from end label here t₀ t d₀ d
+  unfolding groupFaults groupOf
+  group-end {s} {t} {at} {l} {d} lt q = record {
+    by = λ y before k. let p = q y before k in let e = no-function (p .rest) (p .ends) lt in
+        let fe : p .found ≡ groupFaults text (y .scope) (y .functions) =
+        sym (append-nil (p .found)) ∙ ap (λ (z : List Function). p .found ++ groupFaults text (y .scope) z) (sym e) ∙ p .faults-are in
+        let me : p .made ≡ groupOf text k before (y .scope) (y .functions) =
+        sym (append-nil (p .made)) ∙ ap (λ (z : List Function). p .made ++ groupOf text (p .number) (p .scope) (y .scope) z) (sym e)
+        ∙ p .made-are in
+        let r = yields-as (2 * length (encodeFunctions (y .functions))) fe me (omega (arith, p .uses)) (p .yields) in
+        record { result = record { keeps = p .keeps; did = r .did }; tall = r .tall; fits = r .fits; low = p .low };
+  }

@@ -1,0 +1,288 @@
+-- The names of a group: the loop over its functions, and where they start.
+use Prim.Native.Nat.{ℕ, suc, _+_, _*_, _-_, _≤_, _<_, _^_}
+use mathlib.Core.Path.{_≡_, refl, sym, ap, subst, _∙_}
+use mathlib.Core.Bool.{Bool, true, false, cond}
+use mathlib.Core.List.{List, [], _∷_, _++_, append-nil, append-assoc}
+use native.Mathlib.Omega.{arith}
+use lib.ListN.{length, getD, set, length-append, List·getD-append, List·getD-eq-default}
+use lib.Seq.{getD-set-same, getD-set-other, getD-append-seam}
+use lib.Dec.{eqb}
+use borrow.Author.Tests.{eqb-true, eqb-false}
+use Rattle.language.specs.Tree.{Name, Function}
+use Rattle.language.specs.Names as N
+use Rattle.language.specs.Names.{Scope, lookup}
+use Rattle.language.specs.Constants.{Fault, fault}
+use Rattle.language.specs.Resolved.{Start, nowhere, inGlobal}
+use Rattle.language.specs.Program.{among, startOf, withFunction, nameFault, alsoTaken, functionsAfter, takenAfter, groupNameFaults}
+use Rattle.tree.specs.Encoding.{encodeName, encodeNames, encodeBody, encodeFunctions}
+use Rattle.compiler.specs.Scope.{Shows, Keeps, Looked, found, named, nameAt}
+use Rattle.compiler.specs.declared.steps.State.{State}
+use Rattle.compiler.specs.Walked.{Did}
+use Rattle.compiler.specs.Walks.{Lies}
+use Rattle.compiler.specs.Commands.{nothing}
+use Rattle.compiler.specs.Groups.{Small, Taken, Starting, startsIn, started, NameFaults, Enters, encodeFunction, ReadyGroup, GroupNames}
+use Rattle.compiler.proofs.Scoping.{keeps-all, keeps-then, keeps-lower, Order, lt, ge, order}
+use Rattle.compiler.proofs.Done.{nil-left, nil-right, did-none, did-then, did-as, same-refl}
+use Rattle.compiler.proofs.Trees.{first}
+use Rattle.compiler.proofs.GroupLaws.{is-function, no-function}
+use Rattle.compiler.proofs.Rendered.{small-found}
+
+-- ---- where functions start: one more
+
+nowhere-not : {n : ℕ} → nowhere ≡ inGlobal n → ⊥
+nowhere-not e = let z : _≡_ {A = ℕ} 0 1 = cc in omega arith
+
+-- the starts with one more at their end, which is function k's
+module _ (ss : List Start) {k : ℕ} (x : Start) (e : length ss ≡ k) where
+  start-before : {l : ℕ} → l < k → getD (ss ++ (x ∷ [])) l nowhere ≡ getD ss l nowhere
+  start-before {l} h = List·getD-append ss (x ∷ []) nowhere l (omega arith)
+
+  start-here : getD (ss ++ (x ∷ [])) k nowhere ≡ x
+  start-here = ap (λ (i : ℕ). getD (ss ++ (x ∷ [])) i nowhere) (sym e) ∙ getD-append-seam ss x [] nowhere
+
+  start-after : {l : ℕ} → k < l → getD (ss ++ (x ∷ [])) l nowhere ≡ nowhere
+  start-after {l} h = List·getD-eq-default (ss ++ (x ∷ [])) nowhere (omega (arith, length-append ss (x ∷ [])))
+
+  start-is : {n l : ℕ} → getD ss l nowhere ≡ inGlobal n → l < k
+  start-is {n} {l} q = go (order l k)
+    where
+      go : Order l k → l < k
+      go (lt h) = h
+      go (ge h) = absurd (nowhere-not (sym (List·getD-eq-default ss nowhere (omega arith)) ∙ q))
+
+-- which of the starts one is
+data Which (l k : ℕ) : Type 0 where
+  earlier : l < k → Which l k
+  this : l ≡ k → Which l k
+  later : k < l → Which l k
+
+which : (l k : ℕ) → Which l k
+which l k = go (order l k) (order k l)
+  where
+    go : Order l k → Order k l → Which l k
+    go (lt h) o = earlier h
+    go (ge h) (lt i) = later i
+    go (ge h) (ge i) = this (omega arith)
+
+starting-nowhere : {table : List ℕ} {ss : List Start} {k : ℕ} → length ss ≡ k → Starting table ss → Starting table (ss ++ (nowhere ∷ []))
+starting-nowhere {table} {ss} {k} e z = record { is = is; has = has }
+  where
+    is : (n l : ℕ) → n < 400 → getD table n 0 ≡ suc l → getD (ss ++ (nowhere ∷ [])) l nowhere ≡ inGlobal n
+    is n l h q = let w = z .is n l h q in start-before ss nowhere e (start-is ss nowhere e w) ∙ w
+
+    has : (n l : ℕ) → getD (ss ++ (nowhere ∷ [])) l nowhere ≡ inGlobal n → getD table n 0 ≡ suc l
+    has n l q = go (which l k)
+      where
+        go : Which l k → getD table n 0 ≡ suc l
+        go (earlier h) = z .has n l (sym (start-before ss nowhere e h) ∙ q)
+        go (this h) = absurd (nowhere-not (sym (start-here ss nowhere e) ∙ ap (λ (i : ℕ). getD (ss ++ (nowhere ∷ [])) i nowhere) (sym h) ∙ q))
+        go (later h) = absurd (nowhere-not (sym (start-after ss nowhere e h) ∙ q))
+
+starting-global : {table : List ℕ} {ss : List Start} {k : ℕ} (m : ℕ) → m < length table → getD table m 0 ≡ 0 → length ss ≡ k → Starting table ss
+    → Starting (set table m (k + 1)) (ss ++ (inGlobal m ∷ []))
+starting-global {table} {ss} {k} m lm free e z = record { is = is; has = has }
+  where
+    one : {n : ℕ} → inGlobal m ≡ inGlobal n → m ≡ n
+    one q = cc
+
+    is : (n l : ℕ) → n < 400 → getD (set table m (k + 1)) n 0 ≡ suc l → getD (ss ++ (inGlobal m ∷ [])) l nowhere ≡ inGlobal n
+    is n l h q = go (eqb n m) refl
+      where
+        go : (b : Bool) → eqb n m ≡ b → getD (ss ++ (inGlobal m ∷ [])) l nowhere ≡ inGlobal n
+        go true i =
+            let j : n ≡ m = eqb-true n m i in
+            let w : getD (set table m (k + 1)) n 0 ≡ k + 1 = ap (λ (x : ℕ). getD (set table m (k + 1)) x 0) j ∙ getD-set-same table m (k + 1) 0 lm in
+            let lk : l ≡ k = omega arith in
+            ap (λ (x : ℕ). getD (ss ++ (inGlobal m ∷ [])) x nowhere) lk ∙ start-here ss (inGlobal m) e ∙ ap inGlobal (sym j)
+        go false i =
+            let w = z .is n l h (sym (getD-set-other table m n (k + 1) 0 (eqb-false n m i)) ∙ q) in
+            start-before ss (inGlobal m) e (start-is ss (inGlobal m) e w) ∙ w
+
+    has : (n l : ℕ) → getD (ss ++ (inGlobal m ∷ [])) l nowhere ≡ inGlobal n → getD (set table m (k + 1)) n 0 ≡ suc l
+    has n l q = go (which l k)
+      where
+        go : Which l k → getD (set table m (k + 1)) n 0 ≡ suc l
+        go (earlier h) =
+            let w : getD table n 0 ≡ suc l = z .has n l (sym (start-before ss (inGlobal m) e h) ∙ q) in
+            getD-set-other table m n (k + 1) 0 (λ i. let v : getD table n 0 ≡ 0 = ap (λ (x : ℕ). getD table x 0) i ∙ free in omega arith) ∙ w
+        go (this h) =
+            let j : m ≡ n = one (sym (start-here ss (inGlobal m) e) ∙ ap (λ (i : ℕ). getD (ss ++ (inGlobal m ∷ [])) i nowhere) (sym h) ∙ q) in
+            ap (λ (x : ℕ). getD (set table m (k + 1)) x 0) (sym j) ∙ getD-set-same table m (k + 1) 0 lm ∙ omega arith
+        go (later h) = absurd (nowhere-not (sym (start-after ss (inGlobal m) e h) ∙ q))
+
+-- no fault at the name: its global was free
+starting-more : (place : ℕ) (f : N.Found) {table table′ ns : List ℕ} {ss : List Start} {k : ℕ} → Taken table ns → ((n : ℕ) → f ≡ N.known (N.global n) → n < 400)
+    → nameFault place ns f ≡ [] → table′ ≡ started table k (startOf f) → length ss ≡ k → Starting table ss → Starting table′ (ss ++ (startOf f ∷ []))
+starting-more place f {table} {table′} {ns} {ss} {k} tk b q et e z = subst (λ (x : List ℕ). Starting x (ss ++ (startOf f ∷ []))) (sym et) (go f b q)
+  where
+    free : (n : ℕ) → n < 400 → (t : Bool) → among n ns ≡ t → cond t (fault place 9) [] ≡ [] → getD table n 0 ≡ 0
+    free n l false a q = tk .free n l a
+    free n l true a q = let c : length (fault place 9) ≡ 0 = ap length q in absurd (omega arith)
+
+    go : (f : N.Found) → ((n : ℕ) → f ≡ N.known (N.global n) → n < 400) → nameFault place ns f ≡ [] → Starting (started table k (startOf f)) (ss ++ (startOf f ∷ []))
+    go N.unknown b q = starting-nowhere e z
+    go (N.known (N.local i)) b q = starting-nowhere e z
+    go (N.known (N.manifest i)) b q = starting-nowhere e z
+    go (N.known (N.function i)) b q = starting-nowhere e z
+    go (N.known (N.global n)) b q = starting-global n (omega (arith, b n refl, tk .long)) (free n (b n refl) (among n ns) refl q) e z
+
+-- a function's name adds no global
+pub small-with : (sc : Scope) (name : Name) (k : ℕ) (x : Start) → Small sc → Small (withFunction sc name k x)
+unfolding Small
+small-with sc name k nowhere h = h
+small-with sc name k (inGlobal n) h = h
+
+-- ---- the loop
+
+-- the name at the front of a function
+name-of : {s : List ℕ} {lo : ℕ} (f : Function) → Lies s lo (encodeFunction f) → nameAt s lo ≡ f .name
+unfolding encodeName
+name-of {s} {lo} f h =
+    let name : List ℕ = encodeName (f .name) in let rest = encodeNames (f .parameters) ++ encodeBody (f .body) in
+    let front : Lies s lo name = first name rest (first (name ++ rest) _ h) in
+    ap (λ (z : ℕ). named z (getD s (lo + 1) 0)) (front .at 2 (omega arith)) ∙ ap (λ (z : ℕ). named (f .name .place) z) (front .at 1 (omega arith))
+
+module _ (text : List ℕ) {s₀ table₀ : List ℕ} {from end top before : ℕ} (st₀ : State) where
+  -- `bad` and `begun` are the faults and the starts so far
+  pub record GroupPart (y : ReadyGroup s₀ table₀ from end top before) (s table : List ℕ) (at k now : ℕ) (st : State) : Type 0 where
+    pub rest : List Function
+    pub scope : Scope
+    pub taken : List ℕ
+    pub bad : List Fault
+    pub begun : List Start
+    pub lies : Lies s₀ at (encodeFunctions rest)
+    pub ends : end ≡ at + length (encodeFunctions rest)
+    pub starts : from ≤ at
+    pub shows : Shows (y .base) s now scope
+    pub keeps : Keeps (y .base) top s₀ s
+    pub up : top ≤ now
+    pub room : now + 2 * length rest ≤ top + 2 * length (y .functions)
+    pub many : k + length rest ≡ before + length (y .functions)
+    pub globals : Small scope
+    pub free : Taken table taken
+    pub scopes : functionsAfter text before (y .scope) (y .functions) ≡ functionsAfter text k scope rest
+    pub takens : takenAfter text before (y .scope) (y .taken) (y .functions) ≡ takenAfter text k scope taken rest
+    pub faults : groupNameFaults text before (y .scope) (y .taken) (y .functions) ≡ bad ++ groupNameFaults text k scope taken rest
+    pub did : (t : List ℕ) → Did bad nothing 0 t t st₀ st
+    pub started : startsIn text before (y .scope) (y .functions) ≡ begun ++ startsIn text k scope rest
+    pub counted : k ≡ before + length begun
+    pub starting : bad ≡ [] → (ss : List Start) → length ss ≡ before → Starting table₀ ss → Starting table (ss ++ begun)
+
+  pub names-begin : (y : ReadyGroup s₀ table₀ from end top before) → GroupPart y s₀ table₀ from before top st₀
+  names-begin y = record {
+    rest = y .functions;
+    scope = y .scope;
+    taken = y .taken;
+    bad = [];
+    begun = [];
+    lies = y .lies;
+    ends = y .ends;
+    starts = omega arith;
+    shows = y .shows;
+    keeps = keeps-all;
+    up = omega arith;
+    room = omega arith;
+    many = refl;
+    globals = y .globals;
+    free = y .free;
+    scopes = refl;
+    takens = refl;
+    faults = refl;
+    did = λ t. did-none 0;
+    started = refl;
+    counted = omega arith;
+    starting = λ q ss e z. subst (λ (x : List Start). Starting table₀ x) (sym (append-nil ss)) z;
+  }
+
+  -- what the code needs at a function
+  pub record Fits (y : ReadyGroup s₀ table₀ from end top before) (s table : List ℕ) (at k now : ℕ) : Type 0 where
+    pub next : at + 2 + getD s at 0 ≤ end
+    pub room : now + 2 ≤ y .base
+    pub long : y .base ≤ length s
+    pub small : end < 2 ^ 32
+    pub low : y .base ≤ at
+    pub few : k < 2 ^ 29
+    pub table-long : length table ≡ 400
+
+  pub names-fit : {s table : List ℕ} {at k now : ℕ} {st : State} → at < end
+      → (y : ReadyGroup s₀ table₀ from end top before) → GroupPart y s table at k now st → Fits y s table at k now
+  names-fit {s} {at = at} l y p =
+      let u = is-function (p .rest) (p .lies) (p .ends) l in let c = ap length (u .same) in
+      let low : y .base ≤ at = omega (arith, y .above, p .starts) in
+      record {
+        next = omega (arith, p .keeps .above at low, u .size-of, u .ends);
+        room = omega (arith, y .room, p .room, c);
+        long = omega (arith, y .long, p .keeps .long);
+        small = y .small;
+        low = low;
+        few = omega (arith, y .few, p .many, c);
+        table-long = p .free .long;
+      }
+
+  pub names-next : {s s′ table table′ : List ℕ} {at k now size next m place now′ : ℕ} {st r : State} → at < end → size ≡ getD s at 0 → next ≡ at + 2 + size
+      → Looked text s now (at + 2) m → place ≡ getD s (at + 4) 0 → NameFaults table m place st r → Enters s s′ table table′ now (at + 2) m k now′
+      → (y : ReadyGroup s₀ table₀ from end top before) → GroupPart y s table at k now st → GroupPart y s′ table′ next (k + 1) now′ r
+  unfolding functionsAfter takenAfter groupNameFaults startsIn
+  names-next {s} {s′} {table} {table′} {at} {k} {now} {size} {next} {m} {place} {now′} {st} {r} l es en lk ep nf ent y p =
+      let u = is-function (p .rest) (p .lies) (p .ends) l in let w = names-fit l y p in let c = ap length (u .same) in
+      let sc = p .scope in let name = u .part .name in let f = lookup text sc name in
+      let n : nameAt s (at + 2) ≡ name =
+      ap (λ (z : ℕ). named z (getD s (at + 2 + 1) 0)) (p .keeps .above (at + 2 + 2) (omega (arith, w .low)))
+      ∙ ap (λ (z : ℕ). named (getD s₀ (at + 2 + 2) 0) z) (p .keeps .above (at + 2 + 1) (omega (arith, w .low))) ∙ name-of (u .part) (u .lies-one) in
+      let four : at + 4 ≡ at + 2 + 2 = omega arith in
+      let place-is : place ≡ name .place = ep ∙ ap (λ (z : ℕ). getD s z 0) four ∙ ap (λ (z : Name). z .place) n in
+      let m-is : m ≡ found f = lk .by (y .base) sc (p .shows) ∙ ap (λ (z : Name). found (lookup text sc z)) n in
+      let small : (i : ℕ) → f ≡ N.known (N.global i) → i < 400 = λ i e. small-found text sc name i (p .globals) e in
+      let e = ent .by f (y .base) sc (p .taken) name m-is (p .shows) (omega (arith, w .low)) (w .long) (w .room) n (p .free) small in
+      let sz : size ≡ length (encodeFunction (u .part)) = es ∙ p .keeps .above at (w .low) ∙ u .size-of in
+      let x = startOf f in let fs = nameFault (name .place) (p .taken) f in
+      record {
+        rest = u .more;
+        scope = withFunction sc name k x;
+        taken = alsoTaken x (p .taken);
+        bad = p .bad ++ fs;
+        begun = p .begun ++ (x ∷ []);
+        lies = subst (λ (z : ℕ). Lies s₀ z (encodeFunctions (u .more))) (omega (arith, en, sz)) (u .lies-more);
+        ends = omega (arith, u .ends, en, sz);
+        starts = omega (arith, p .starts, en);
+        shows = e .0;
+        keeps = keeps-then (p .keeps) (keeps-lower (p .up) (e .1));
+        up = omega (arith, p .up, e .3);
+        room = omega (arith, p .room, e .4, c);
+        many = omega (arith, p .many, c);
+        globals = small-with sc name k x (p .globals);
+        free = e .2;
+        scopes = p .scopes ∙ ap (functionsAfter text k sc) (u .same);
+        takens = p .takens ∙ ap (takenAfter text k sc (p .taken)) (u .same);
+        faults = p .faults ∙ ap (λ (z : List Function). p .bad ++ groupNameFaults text k sc (p .taken) z) (u .same) ∙ sym (append-assoc (p .bad) fs _);
+        did = λ t.
+            did-as nothing 0 (did-then (p .did t)
+            (subst (λ (z : ℕ). Did (nameFault z (p .taken) f) nothing 0 t t st r) place-is (nf .by f (p .taken) m-is (p .free) small t)))
+            same-refl (λ i q. refl) (omega arith);
+        started = p .started ∙ ap (λ (z : List Function). p .begun ++ startsIn text k sc z) (u .same) ∙ sym (append-assoc (p .begun) (x ∷ []) _);
+        counted = omega (arith, p .counted, length-append (p .begun) (x ∷ []));
+        starting = λ q ss h z.
+            let long : length (ss ++ p .begun) ≡ k = omega (arith, length-append ss (p .begun), h, p .counted) in
+            subst (λ (v : List Start). Starting table′ v) (append-assoc ss (p .begun) (x ∷ []))
+            (starting-more (name .place) f (p .free) small (nil-right (p .bad) fs q) (e .5) long (p .starting (nil-left (p .bad) fs q) ss h z));
+      }
+
+  pub names-end : {s table : List ℕ} {at k now : ℕ} {st : State} → end ≤ at → ((y : ReadyGroup s₀ table₀ from end top before) → GroupPart y s table at k now st)
+      → GroupNames text s₀ s table₀ table from end top before st₀ (record { top = now; state = st })
+  unfolding functionsAfter takenAfter groupNameFaults startsIn
+  names-end {s} {table} {at} {k} {now} {st} l q = record {
+    by = λ y.
+        let p = q y in let e = no-function (p .rest) (p .ends) l in
+        let fs : groupNameFaults text before (y .scope) (y .taken) (y .functions) ≡ p .bad =
+        p .faults ∙ ap (λ (z : List Function). p .bad ++ groupNameFaults text k (p .scope) (p .taken) z) e ∙ append-nil (p .bad) in
+        let ss : startsIn text before (y .scope) (y .functions) ≡ p .begun =
+        p .started ∙ ap (λ (z : List Function). p .begun ++ startsIn text k (p .scope) z) e ∙ append-nil (p .begun) in
+        record {
+          shows = subst (λ (z : Scope). Shows (y .base) s now z) (sym (p .scopes ∙ ap (functionsAfter text k (p .scope)) e)) (p .shows);
+          keeps = p .keeps;
+          up = (p .up, omega (arith, p .room));
+          taken = subst (λ (z : List ℕ). Taken table z) (sym (p .takens ∙ ap (takenAfter text k (p .scope) (p .taken)) e)) (p .free);
+          did = λ t. subst (λ (z : List Fault). Did z nothing 0 t t st₀ st) (sym fs) (p .did t);
+          starting = λ none xs h z. subst (λ (v : List Start). Starting table (xs ++ v)) (sym ss) (p .starting (sym fs ∙ none) xs h z);
+        };
+  }

@@ -1,0 +1,242 @@
+-- The items of GLOBAL and MANIFEST.
+use Prim.Native.Nat.{ℕ, zero, suc, _+_, _*_, _-_, _≤_, _<_, _^_}
+use mathlib.Core.Path.{_≡_, refl, sym, ap, subst, _∙_}
+use mathlib.Core.Bool.{Bool, true, false, cond}
+use mathlib.Core.List.{List, [], _∷_, _++_, append-assoc}
+use native.Mathlib.Omega.{arith}
+use lib.ListN.{length, getD, length-append}
+use Rattle.language.specs.Tree as T
+use Rattle.language.specs.Tree.{Name, Item}
+use Rattle.language.specs.Names as N
+use Rattle.language.specs.Names.{Scope, declared, inBlock, onFound}
+use Rattle.language.specs.Constants as K
+use Rattle.language.specs.Constants.{Fault, fault, Judged, judge, forGlobal, judgedWord, faultsOf}
+use Rattle.tree.specs.Encoding.{encodeName, encodeConstant, encodeItems}
+use Rattle.compiler.specs.Scope as S
+use Rattle.compiler.specs.Scope.{Shows, Keeps, Pushed, code, found, named, nameAt}
+use Rattle.compiler.proofs.Scoping.{keeps-all, keeps-then, keeps-lower, pushed-keeps, pushed-name}
+use Rattle.compiler.specs.declared.steps.State.{State}
+use Rattle.compiler.specs.Walked.{Did}
+use Rattle.compiler.specs.Walks.{Lies}
+use Rattle.compiler.specs.Commands.{nothing, Again}
+use Rattle.compiler.proofs.Done.{did-none, did-then, did-as, same-refl}
+use Rattle.compiler.proofs.Trees.{first, second, keeps-lies}
+use Rattle.language.specs.Fine.{FineConstant, FineItems}
+use Rattle.compiler.specs.Locals.{Says, fit, unfit, Judges, JudgesMost, Blames}
+use Rattle.compiler.specs.declared.steps.Verdict.{Verdict}
+use Rattle.language.specs.Program.{globalsAfter, manifestsAfter, globalFaults, manifestFaults}
+use Rattle.compiler.specs.Items.{judged, meaning, after, faults, FineIs, JudgesItem, ReadyItems, ItemsKnown, Items}
+use Rattle.compiler.specs.declared.outer.Known.{Known}
+
+pub item-global : {text s : List ℕ} {end top : ℕ} {g : Bool} {r : Verdict} → g ≡ true → JudgesMost 399 text s end top r → JudgesItem g text s end top r
+unfolding judged
+item-global e j = rw e (record { by = j .by; fits = j .fits; low = omega (arith, j .small) })
+
+pub item-manifest : {text s : List ℕ} {end top : ℕ} {g : Bool} {r : Verdict} → g ≡ false → Judges text s end top r → JudgesItem g text s end top r
+unfolding judged
+item-manifest e j = rw e (record { by = j .by; fits = j .fits; low = j .low })
+
+pub meaning-global : {g : Bool} (v : ℕ) {r : ℕ} → g ≡ true → r ≡ v * 4 + 2 → r ≡ code (meaning g v)
+unfolding meaning code
+meaning-global v e q = rw e q
+
+pub meaning-manifest : {g : Bool} (v : ℕ) {r : ℕ} → g ≡ false → r ≡ v * 4 + 3 → r ≡ code (meaning g v)
+unfolding meaning code
+meaning-manifest v e q = rw e q
+
+-- ---- an item at the front
+
+pub record IsItem (s : List ℕ) (at end : ℕ) (is : List Item) : Type 0 where
+  pub item : Item
+  pub more : List Item
+  pub same : is ≡ item ∷ more
+  pub width : getD s (at + 3) 0 ≡ item .name .width
+  pub place : getD s (at + 4) 0 ≡ item .name .place
+  pub size-of : getD s at 0 ≡ 4 + length (encodeConstant (item .constant))
+  pub lies-k : Lies s (at + 6) (encodeConstant (item .constant))
+  pub lies-more : Lies s (at + 6 + length (encodeConstant (item .constant))) (encodeItems more)
+  pub ends : end ≡ at + 6 + length (encodeConstant (item .constant)) + length (encodeItems more)
+
+pub is-item : {s : List ℕ} {at end : ℕ} (is : List Item) → Lies s at (encodeItems is) → end ≡ at + length (encodeItems is) → at < end → IsItem s at end is
+unfolding encodeItems encodeName
+is-item [] h e l = absurd (omega arith)
+is-item {s} {at} (i ∷ is) h e l =
+    let pk = encodeConstant (i .constant) in
+    let w : List ℕ = 0 ∷ i .name .width ∷ i .name .place ∷ 59 ∷ pk in
+    let x : List ℕ = length w ∷ 0 ∷ w in
+    let six : List ℕ = length w ∷ 0 ∷ 0 ∷ i .name .width ∷ i .name .place ∷ 59 ∷ [] in
+    let front : Lies s at x = first x (encodeItems is) h in
+    record {
+      item = i;
+      more = is;
+      same = refl;
+      width = front .at 3 (omega arith);
+      place = front .at 4 (omega arith);
+      size-of = ap (λ (z : ℕ). getD s z 0) (omega arith) ∙ front .at 0 (omega arith) ∙ omega arith;
+      lies-k = second six pk (at + 6) front refl;
+      lies-more = second x (encodeItems is) (at + 6 + length pk) h (omega arith);
+      ends = omega (arith, e, length-append x (encodeItems is));
+    }
+
+no-item : {at end : ℕ} (is : List Item) → end ≡ at + length (encodeItems is) → end ≤ at → is ≡ []
+unfolding encodeItems encodeName
+no-item [] e l = refl
+no-item (i ∷ is) e l = absurd (omega arith)
+
+fine-first : (i : Item) (is : List Item) → FineIs (i ∷ is) → FineConstant (i .constant)
+unfolding FineItems
+fine-first i is f = f .0
+
+fine-more : (i : Item) (is : List Item) → FineIs (i ∷ is) → FineIs is
+unfolding FineItems
+fine-more i is f = f .1
+
+-- ---- one more
+
+word-is : {r : Verdict} (j : Judged) → Says r j → r .word ≡ judgedWord j
+word-is (K.good v) (fit q) = refl
+word-is (K.refused fs) (unfit a b w) = w
+
+abbrev scopeWith : Bool → List ℕ → Scope → Item → Scope
+scopeWith g text sc i = declared sc (i .name) (meaning g (judgedWord (judged g text sc (i .constant))))
+
+after-step : (g : Bool) (text : List ℕ) (sc : Scope) (i : Item) (is : List Item) → after g text sc (i ∷ is) ≡ after g text (scopeWith g text sc i) is
+unfolding after globalsAfter manifestsAfter meaning judged
+after-step true text sc i is = refl
+after-step false text sc i is = refl
+
+after-none : (g : Bool) (text : List ℕ) (sc : Scope) → after g text sc [] ≡ sc
+unfolding after globalsAfter manifestsAfter
+after-none true text sc = refl
+after-none false text sc = refl
+
+faults-step : (g : Bool) (text : List ℕ) (sc : Scope) (i : Item) (is : List Item) → faults g text sc (i ∷ is)
+    ≡ faultsOf (judged g text sc (i .constant)) ++ (onFound (inBlock text sc (i .name)) [] (fault (i .name .place) 9) ++ faults g text (scopeWith g text sc i) is)
+unfolding faults globalFaults manifestFaults meaning judged
+faults-step true text sc i is = simp append-assoc
+faults-step false text sc i is = simp append-assoc
+
+faults-none : (g : Bool) (text : List ℕ) (sc : Scope) → faults g text sc [] ≡ []
+unfolding faults globalFaults manifestFaults
+faults-none true text sc = refl
+faults-none false text sc = refl
+
+-- ---- the loop
+
+module _ (g : Bool) (text : List ℕ) {s₀ : List ℕ} {from end top : ℕ} (st₀ : State) where
+  pub record ItemsPart (y : ReadyItems s₀ from end top) (s : List ℕ) (at k : ℕ) (st : State) : Type 0 where
+    pub rest : List Item
+    pub scope : Scope
+    pub lies : Lies s₀ at (encodeItems rest)
+    pub ends : end ≡ at + length (encodeItems rest)
+    pub starts : from ≤ at
+    pub shows : Shows (y .base) s (top + 2 * k) scope
+    pub keeps : Keeps (y .base) top s₀ s
+    pub many : k + length rest ≡ length (y .items)
+    pub fine : FineIs rest
+    pub same : after g text (y .scope) (y .items) ≡ after g text scope rest
+    pub finish : (t : List ℕ) (st′ : State) → Did (faults g text scope rest) nothing 0 t t st st′ → Did (faults g text (y .scope) (y .items)) nothing 0 t t st₀ st′
+
+  pub items-begin : (y : ReadyItems s₀ from end top) → ItemsPart y s₀ from 0 st₀
+  items-begin y =
+      let a : top ≡ top + 2 * 0 = omega arith in
+      record {
+        rest = y .items;
+        scope = y .scope;
+        lies = y .lies;
+        ends = y .ends;
+        starts = omega arith;
+        shows = subst (λ (n : ℕ). Shows (y .base) s₀ n (y .scope)) a (y .shows);
+        keeps = keeps-all;
+        many = omega arith;
+        fine = y .fine;
+        same = refl;
+        finish = λ t st′ d. d;
+      }
+
+  -- what the code needs at an item
+  pub record Fits (y : ReadyItems s₀ from end top) (s : List ℕ) (at k : ℕ) : Type 0 where
+    pub next : at + 2 + getD s at 0 ≤ end
+    pub room : top + 2 * k + 2 ≤ y .base
+    pub long : y .base ≤ length s
+    pub small : end < 2 ^ 32
+    pub low : y .base ≤ end
+
+  pub items-fit : {s : List ℕ} {at : ℕ} (k : ℕ) {st : State} → at < end → (y : ReadyItems s₀ from end top) → ItemsPart y s at k st → Fits y s at k
+  items-fit {s} {at} k l y p =
+      let u = is-item (p .rest) (p .lies) (p .ends) l in
+      let c : k + 1 + length (u .more) ≡ length (y .items) = omega (arith, p .many, ap length (u .same)) in
+      record {
+        next = omega (arith, p .keeps .above at (omega (arith, y .above, p .starts)), u .size-of, u .ends);
+        room = omega (arith, y .room, c);
+        long = omega (arith, y .long, p .keeps .long);
+        small = y .small;
+        low = omega (arith, y .above, p .starts);
+      }
+
+  -- its constant judged
+  item-says : {s : List ℕ} {at size next : ℕ} (k : ℕ) {st : State} {c : Verdict} (l : at < end) → size ≡ getD s at 0 → next ≡ at + 2 + size → JudgesItem g text s next (top + 2 * k) c
+      → (y : ReadyItems s₀ from end top) (p : ItemsPart y s at k st) → Says c (judged g text (p .scope) (is-item (p .rest) (p .lies) (p .ends) l .item .constant))
+  item-says {s} {at} k l es en ju y p =
+      let u = is-item (p .rest) (p .lies) (p .ends) l in
+      ju .by (y .base) (p .scope) (at + 6) (u .item .constant) (p .shows) (fine-first (u .item) (u .more) (subst FineIs (u .same) (p .fine)))
+      (keeps-lies (p .keeps) (omega (arith, y .above, p .starts)) (u .lies-k))
+      (omega (arith, es, en, p .keeps .above at (omega (arith, y .above, p .starts)), u .size-of))
+
+  pub items-next : {s s₁ : List ℕ} {at size next m place x : ℕ} {c : Verdict} (k : ℕ) {st a r : State} → at < end → size ≡ getD s at 0 → next ≡ at + 2 + size → JudgesItem g text s next (top + 2 * k) c
+      → S.Told text s (top + 2 * k) (at + 2) m → place ≡ getD s (at + 4) 0 → Blames c st a → Again m place a r → Pushed s s₁ (top + 2 * k) (at + 2) x → x ≡ code (meaning g (c .word))
+      → (y : ReadyItems s₀ from end top) → ItemsPart y s at k st → ItemsPart y s₁ next (k + 1) r
+  items-next {s} {s₁} {at} {size} {next} {m} {place} {x} {c} k {st} {a} {r} l es en ju told ep bl ag pu ex y p =
+      let u = is-item (p .rest) (p .lies) (p .ends) l in
+      let f = items-fit k l y p in
+      let told-k = item-says k l es en ju y p in
+      let i = u .item in let sc = p .scope in let sc′ = scopeWith g text sc i in
+      let j = judged g text sc (i .constant) in
+      let b4 : y .base ≤ at = omega (arith, y .above, p .starts) in
+      let n : nameAt s (at + 2) ≡ i .name =
+      let q2 : at + 2 + 2 ≡ at + 4 = omega arith in let q1 : at + 2 + 1 ≡ at + 3 = omega arith in
+      ap (λ (z : ℕ). named z (getD s (at + 2 + 1) 0)) (ap (λ (z : ℕ). getD s z 0) q2 ∙ p .keeps .above (at + 4) (omega arith) ∙ u .place)
+      ∙ ap (λ (z : ℕ). named (i .name .place) z) (ap (λ (z : ℕ). getD s z 0) q1 ∙ p .keeps .above (at + 3) (omega arith) ∙ u .width) in
+      let ep′ : place ≡ i .name .place = ep ∙ p .keeps .above (at + 4) (omega arith) ∙ u .place in
+      let w : meaning g (c .word) ≡ meaning g (judgedWord j) = ap (meaning g) (word-is j told-k) in
+      let sz : size ≡ 4 + length (encodeConstant (i .constant)) = es ∙ p .keeps .above at b4 ∙ u .size-of in
+      let nx : at + 6 + length (encodeConstant (i .constant)) ≡ next = omega arith in
+      let tk : top + 2 * k + 2 ≡ top + 2 * (k + 1) = omega arith in
+      record {
+        rest = u .more;
+        scope = sc′;
+        lies = subst (λ (z : ℕ). Lies s₀ z (encodeItems (u .more))) nx (u .lies-more);
+        ends = omega (arith, u .ends, nx);
+        starts = omega (arith, p .starts);
+        shows = subst (λ (z : ℕ). Shows (y .base) s₁ z sc′) tk (subst (λ (z : Name). Shows (y .base) s₁ (top + 2 * k + 2) (declared sc z (meaning g (judgedWord j)))) n
+            (pushed-name pu (f .room) (f .long) (meaning g (judgedWord j)) (p .shows) (omega arith) (ex ∙ ap code w)));
+        keeps = keeps-then (p .keeps) (keeps-lower (omega arith) (pushed-keeps pu (f .room) (f .long)));
+        many = omega (arith, p .many, ap length (u .same));
+        fine = fine-more (u .item) (u .more) (subst FineIs (u .same) (p .fine));
+        same = p .same ∙ ap (after g text sc) (u .same) ∙ after-step g text sc i (u .more);
+        finish = λ t st′ d. p .finish t st′
+            (subst (λ (fs : List Fault). Did fs nothing 0 t t st st′) (sym (ap (faults g text sc) (u .same) ∙ faults-step g text sc i (u .more)))
+            (did-as nothing 0 (did-then (bl .by j told-k t) (did-then
+            (subst (λ (z : ℕ). Did (onFound (inBlock text sc (i .name)) [] (fault z 9)) nothing 0 t t a r) ep′
+            (ag .by (inBlock text sc (i .name)) (told .by (y .base) sc (p .shows) ∙ ap (λ (z : Name). found (inBlock text sc z)) n) t))
+            d)) same-refl (λ v e. refl) (omega arith)));
+      }
+
+  pub items-end : {s : List ℕ} {at : ℕ} (k : ℕ) {st : State} → end ≤ at → ((y : ReadyItems s₀ from end top) → ItemsPart y s at k st) → Items g text s₀ s from end top st₀ (record { top = top + 2 * k; state = st })
+  items-end {s} {at} k {st} l q = record {
+    by = λ y. let p = q y in let e = no-item (p .rest) (p .ends) l in
+        let c : k ≡ length (y .items) = omega (arith, p .many, ap length e) in record {
+          moved = omega arith;
+          shows = subst (λ (z : Scope). Shows (y .base) s (top + 2 * k) z) (sym (p .same ∙ ap (after g text (p .scope)) e ∙ after-none g text (p .scope))) (p .shows);
+          keeps = p .keeps;
+          did = λ t. p .finish t st (subst (λ (fs : List Fault). Did fs nothing 0 t t st st) (sym (ap (faults g text (p .scope)) e ∙ faults-none g text (p .scope))) (did-none 0));
+        };
+  }
+
+  pub items-out : {s : List ℕ} {at : ℕ} (k : ℕ) {st : State} (y : ReadyItems s₀ from end top) → ItemsPart y s at k st → top + 2 * k ≤ length s₀
+  items-out k y p = omega (arith, y .room, p .many, y .long)
+
+pub code-small : (g : Bool) (v : ℕ) → v < 2 ^ 30 → code (meaning g v) < 2 ^ 32
+unfolding meaning code
+code-small true v l = omega arith
+code-small false v l = omega arith

@@ -1,0 +1,128 @@
+-- The text of the globals in which functions start: one function by its label, and all in turn.
+use Prim.Native.Nat.{ℕ, suc, _+_, _≤_, _<_}
+use mathlib.Core.Path.{_≡_, refl, sym, ap, _∙_}
+use mathlib.Core.List.{List, [], _∷_, _++_, append-assoc, append-nil}
+use native.Mathlib.Omega.{arith}
+use lib.ListN.{length, getD, length-append, List·getD-eq-default}
+use Rattle.items.specs.Item as I
+use Rattle.language.specs.Resolved.{Start, nowhere, inGlobal, Fun}
+use Rattle.code.specs.Generate.{startIn, startsCode}
+use Rattle.writing.specs.Text.{Puts, line, lines}
+use Rattle.writing.proofs.Laws.{puts-then, puts-as, puts-none, lines-then}
+use Rattle.compiler.specs.Groups.{Starting}
+use Rattle.compiler.specs.Programs.{startsOf}
+use Rattle.compiler.proofs.Scoping.{Order, lt, ge, order}
+use Rattle.compiler.specs.Strings.{FindsGlobal, StartsAt, WritesStart, WritesStarts}
+
+-- ---- the global of a label: none of the first n entries is it
+
+pub record Passed (table : List ℕ) (label n : ℕ) : Type 0 where
+  pub none : (m : ℕ) → m < n → getD table m 0 ≡ label → ⊥
+
+pub passed-begin : {table : List ℕ} {label : ℕ} → Passed table label 0
+passed-begin = record { none = λ m h e. omega arith }
+
+pub passed-next : {table : List ℕ} {label n k : ℕ} → k ≡ getD table n 0 → (k ≡ label → ⊥) → Passed table label n → Passed table label (n + 1)
+passed-next {table} {label} {n} {k} e f p = record { none = λ m h q. go m (order m n) h q }
+  where
+    go : (m : ℕ) → Order m n → m < n + 1 → getD table m 0 ≡ label → ⊥
+    go m (lt l) h q = p .none m l q
+    go m (ge l) h q = let z : m ≡ n = omega arith in f (e ∙ ap (λ (j : ℕ). getD table j 0) (sym z) ∙ q)
+
+pub passed-found : {table : List ℕ} {label n k : ℕ} → n < 400 → k ≡ getD table n 0 → k ≡ label → FindsGlobal table label n
+passed-found h e f = record { is = λ _. sym e ∙ f; none = λ l. absurd (omega arith) }
+
+pub passed-end : {table : List ℕ} {label n : ℕ} → 400 ≤ n → Passed table label n → FindsGlobal table label 400
+passed-end h p = record { is = λ l. absurd (omega arith); none = λ _ m l e. p .none m (omega arith) e }
+
+-- ---- one function
+
+pub start-put : {table : List ℕ} {label n at r : ℕ} {t t′ : List ℕ} → FindsGlobal table label n → n < 400
+    → Puts (line (I.global n label)) at r t t′ → WritesStart table label at r t t′
+unfolding lines
+start-put {table} {label} {n} f h p = record { by = λ start s. rw (s .is n h (f .is h)) (puts-as p (append-nil (line (I.global n label)))) }
+
+pub start-none : {table : List ℕ} {label n at : ℕ} {t : List ℕ} → FindsGlobal table label n → 400 ≤ n → WritesStart table label at at t t
+unfolding lines
+start-none {table} {label} {n} {at} {t} f h = record { by = go }
+  where
+    go : (start : Start) → StartsAt table label start → Puts (lines (startIn start label [])) at at t t
+    go nowhere s = puts-none
+    go (inGlobal m) s = absurd (let q = s .has m refl in f .none h m (q .0) (q .1))
+
+-- ---- all of them: k functions are done
+
+pub record StartsPart (k at x : ℕ) (t t′ : List ℕ) (fs : List Fun) : Type 0 where
+  pub done : List Fun
+  pub rest : List Fun
+  pub all : fs ≡ done ++ rest
+  pub count : k ≡ length done
+  pub puts : Puts (lines (startsCode 1 done)) at x t t′
+
+pub record StartsSoFar (table : List ℕ) (functions k at x : ℕ) (t t′ : List ℕ) : Type 0 where
+  pub by : (fs : List Fun) → length table ≡ 400 → functions ≡ length fs → Starting table (startsOf fs) → StartsPart k at x t t′ fs
+
+pub starts-begin : {table : List ℕ} {functions at : ℕ} {t : List ℕ} → StartsSoFar table functions 0 at at t t
+unfolding startsCode lines
+starts-begin = record { by = λ fs l e s. record { done = []; rest = fs; all = refl; count = refl; puts = puts-none } }
+
+starts-then : (l : ℕ) (a b : List Fun) → startsCode l (a ++ b) ≡ startsCode l a ++ startsCode (l + length a) b
+unfolding startsCode
+starts-then l [] b = let z : l + 0 ≡ l = omega arith in rw z
+starts-then l (f ∷ a) b =
+    let z : suc l + length a ≡ l + suc (length a) = omega arith in
+    go (f .start) (startsCode (suc l) a) (startsCode (l + suc (length a)) b) (starts-then (suc l) a b ∙ rw z)
+  where
+    go : (s : Start) (is js : List I.Item) → startsCode (suc l) (a ++ b) ≡ is ++ js → startIn s l (startsCode (suc l) (a ++ b)) ≡ startIn s l is ++ js
+    go nowhere is js e = e
+    go (inGlobal n) is js e = ap (λ (z : List I.Item). I.global n l ∷ z) e
+
+starts-at : (a : List Fun) (f : Fun) (b : List Fun) → getD (startsOf (a ++ (f ∷ b))) (length a) nowhere ≡ f .start
+unfolding startsOf
+starts-at [] f b = refl
+starts-at (x ∷ a) f b = starts-at a f b
+
+one-start : {table : List ℕ} {k : ℕ} {ss : List Start} (s : Start) → length table ≡ 400 → Starting table ss → getD ss k nowhere ≡ s
+    → StartsAt table (suc k) s
+one-start {table} {k} {ss} s l q e = record {
+  is = λ n h g. sym e ∙ q .is n k h g;
+  has = λ n g. let z : getD table n 0 ≡ suc k = q .has n k (e ∙ g) in (go n (order n 400) z, z);
+}
+  where
+    go : (n : ℕ) → Order n 400 → getD table n 0 ≡ suc k → n < 400
+    go n (lt h) z = h
+    go n (ge h) z = absurd (omega (arith, List·getD-eq-default table 0 {n = n} (omega arith)))
+
+pub starts-next : {table : List ℕ} {functions k at x r : ℕ} {t t₁ t₂ : List ℕ} → k < functions → WritesStart table (k + 1) x r t₁ t₂
+    → StartsSoFar table functions k at x t t₁ → StartsSoFar table functions (k + 1) at r t t₂
+unfolding startsCode
+starts-next {table} {functions} {k} {at} {x} {r} {t} {t₁} {t₂} h w q = record { by = λ fs l e s. let y = q .by fs l e s in go fs l e s y (y .rest) refl }
+  where
+    go : (fs : List Fun) → length table ≡ 400 → functions ≡ length fs → Starting table (startsOf fs) → (y : StartsPart k at x t t₁ fs)
+        → (rest : List Fun) → y .rest ≡ rest → StartsPart (k + 1) at r t t₂ fs
+    go fs l e s y [] z = absurd (omega (arith, y .count, ap length (y .all), length-append (y .done) (y .rest), ap length z))
+    go fs l e s y (f ∷ b) z =
+        let a : fs ≡ y .done ++ (f ∷ b) = y .all ∙ ap (λ (g : List Fun). y .done ++ g) z in
+        let j : k + 1 ≡ suc k = omega arith in
+        let j′ : 1 + length (y .done) ≡ k + 1 = omega (arith, y .count) in
+        let g : getD (startsOf fs) k nowhere ≡ f .start = rw (a, y .count) (starts-at (y .done) f b) in
+        let o : StartsAt table (k + 1) (f .start) = rw j (one-start (f .start) l s g) in
+        record {
+          done = y .done ++ (f ∷ []);
+          rest = b;
+          all = a ∙ sym (append-assoc (y .done) (f ∷ []) b);
+          count = omega (arith, y .count, length-append (y .done) (f ∷ []));
+          puts = puts-as (puts-then (y .puts) (w .by (f .start) o))
+              (ap lines (starts-then 1 (y .done) (f ∷ []) ∙ rw j′) ∙ lines-then (startsCode 1 (y .done)) (startIn (f .start) (k + 1) []));
+        }
+
+pub starts-end : {table : List ℕ} {functions k at x : ℕ} {t t′ : List ℕ} → functions ≤ k → StartsSoFar table functions k at x t t′
+    → WritesStarts table functions at x t t′
+starts-end {table} {functions} {k} {at} {x} {t} {t′} h q = record { by = λ fs l e s. let y = q .by fs l e s in go fs e y (y .rest) refl }
+  where
+    go : (fs : List Fun) → functions ≡ length fs → (y : StartsPart k at x t t′ fs) → (rest : List Fun) → y .rest ≡ rest
+        → Puts (lines (startsCode 1 fs)) at x t t′
+    go fs e y [] z =
+        puts-as (y .puts)
+        (ap (λ (g : List Fun). lines (startsCode 1 g)) (y .all ∙ ap (λ (g : List Fun). y .done ++ g) z ∙ append-nil (y .done)))
+    go fs e y (f ∷ b) z = absurd (omega (arith, y .count, ap length (y .all), length-append (y .done) (y .rest), ap length z))

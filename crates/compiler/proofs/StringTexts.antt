@@ -1,0 +1,310 @@
+-- The text of the strings: a character by its escape, a string's line, the lines of one symbol, and loops over all symbols.
+use Prim.Native.Nat.{ℕ, suc, _+_, _*_, _-_, _≤_, _<_}
+use mathlib.Core.Path.{_≡_, refl, sym, ap, _∙_}
+use mathlib.Core.Bool.{Bool, true, false, cond}
+use mathlib.Core.List.{List, [], _∷_, _++_, append-assoc, append-nil}
+use native.Mathlib.Omega.{arith}
+use lib.ListN.{length, getD, drop, length-append}
+use lib.Seq.{getD-drop, drop-drop}
+use lib.Dec.{eqb}
+use borrow.Author.Tests.{eq-eqb, ne-eqb}
+use Rattle.text.specs.Quoted.{Quoted, closed, faulty, quoted, character, is, closing, bad}
+use Rattle.text.proofs.Bytes.{Unlike}
+use Rattle.text.proofs.Quotes.{onward, quoted-next, quoted-end, quoted-bad}
+use Rattle.items.specs.Item as I
+use Rattle.items.specs.Render.{characterText, charactersText, render}
+use Rattle.language.specs.Kinds.{STRING}
+use Rattle.language.specs.Symbols.{Symbol}
+use Rattle.language.specs.Whole.{charactersOf, stringsAmong}
+use Rattle.code.specs.Generate.{stringsCode}
+use Rattle.tree.specs.Read.{decoded}
+use Rattle.writing.specs.Text.{Puts, line, lines}
+use Rattle.writing.proofs.Laws.{puts-then, puts-as, puts-none, lines-then}
+use Rattle.compiler.specs.Strings.{stringCount, oneIf, Ends, AllEnd, Escapes, WritesCharacters, WritesString, symbolCode, WritesSymbol, WritesStrings}
+use Rattle.compiler.proofs.StringsEnd.{first-ends, others-end}
+
+pub two-bytes : {a b at x r : ℕ} {t t₁ t₂ : List ℕ} → Puts (a ∷ []) at x t t₁ → Puts (b ∷ []) x r t₁ t₂ → Puts (a ∷ b ∷ []) at r t t₂
+two-bytes p q = puts-then p q
+
+-- ---- a character
+
+pub no-escape : {c : ℕ} → Unlike c (34 ∷ 42 ∷ 13 ∷ 12 ∷ 8 ∷ 9 ∷ 10 ∷ []) → Escapes c 0
+unfolding characterText
+no-escape {c} h = record {
+  plain = λ _. rw (
+    ne-eqb c 10 (h .0 .0 .0 .0 .0 .0 .1),
+    ne-eqb c 9 (h .0 .0 .0 .0 .0 .1),
+    ne-eqb c 8 (h .0 .0 .0 .0 .1),
+    ne-eqb c 12 (h .0 .0 .0 .1),
+    ne-eqb c 13 (h .0 .0 .1),
+    ne-eqb c 42 (h .0 .1),
+    ne-eqb c 34 (h .1),
+  );
+  starred = λ n. absurd (n refl);
+}
+
+-- a byte that has an escape
+pub escapes : {c : ℕ} (k e : ℕ) → c ≡ k → (e ≡ 0 → ⊥) → characterText k ≡ 42 ∷ e ∷ [] → Escapes c e
+escapes k e q n h = record { plain = λ z. absurd (n z); starred = λ _. rw q h }
+
+pub put-plain : {c e at r : ℕ} {t t′ : List ℕ} → Escapes c e → e ≡ 0 → Puts (c ∷ []) at r t t′ → Puts (characterText c) at r t t′
+put-plain x z p = puts-as p (x .plain z)
+
+pub put-starred : {c e at x r : ℕ} {t t₁ t₂ : List ℕ} → Escapes c e → (e ≡ 0 → ⊥) → Puts (42 ∷ []) at x t t₁ → Puts (e ∷ []) x r t₁ t₂
+    → Puts (characterText c) at r t t₂
+put-starred x n p q = puts-as (two-bytes p q) (x .starred n)
+
+-- ---- the characters up to the quote: `done` are written, `rest` is left
+
+pub record CharactersPart (source : List ℕ) (i at x : ℕ) (t t′ : List ℕ) (cs : List ℕ) : Type 0 where
+  pub done : List ℕ
+  pub rest : List ℕ
+  pub width : ℕ
+  pub all : cs ≡ done ++ rest
+  pub left : quoted 34 0 (drop i source) ≡ closed rest width
+  pub puts : Puts (charactersText done) at x t t′
+
+pub record Spelling (source : List ℕ) (from i at x : ℕ) (t t′ : List ℕ) : Type 0 where
+  pub by : (cs : List ℕ) (width : ℕ) → quoted 34 0 (drop from source) ≡ closed cs width → CharactersPart source i at x t t′ cs
+
+pub spelling-begin : {source : List ℕ} {from at : ℕ} {t : List ℕ} → Spelling source from from at at t t
+unfolding charactersText
+spelling-begin = record { by = λ cs width e. record { done = []; rest = cs; width = width; all = refl; left = e; puts = puts-none } }
+
+characters-then : (a b : List ℕ) → charactersText (a ++ b) ≡ charactersText a ++ charactersText b
+unfolding charactersText
+characters-then [] b = refl
+characters-then (c ∷ a) b =
+    ap (λ (l : List ℕ). characterText c ++ l) (characters-then a b) ∙ sym (append-assoc (characterText c) (charactersText a) (charactersText b))
+
+pub spelling-next : {source : List ℕ} {from i at x r c w : ℕ} {t t₁ t₂ : List ℕ} → character 34 (drop i source) ≡ is c w
+    → Puts (characterText c) x r t₁ t₂
+    → Spelling source from i at x t t₁ → Spelling source from (i + w) at r t t₂
+unfolding charactersText
+spelling-next {source} {from} {i} {at} {x} {r} {c} {w} {t} {t₁} {t₂} e p q = record {
+  by = λ cs width z. let k = q .by cs width z in
+      go cs k (quoted 34 0 (drop w (drop i source))) refl (sym (quoted-next 34 (drop i source) e) ∙ k .left);
+}
+  where
+    go : (cs : List ℕ) (k : CharactersPart source i at x t t₁ cs) → (d : Quoted) → quoted 34 0 (drop w (drop i source)) ≡ d
+        → onward c w d ≡ closed (k .rest) (k .width) → CharactersPart source (i + w) at r t t₂ cs
+    go cs k (closed ds n) f h =
+        let g : k .rest ≡ c ∷ ds = cc in
+        record {
+          done = k .done ++ (c ∷ []);
+          rest = ds;
+          width = n;
+          all = k .all ∙ ap (λ (l : List ℕ). k .done ++ l) g ∙ sym (append-assoc (k .done) (c ∷ []) ds);
+          left = rw drop-drop at f;
+          puts = puts-as (puts-then (k .puts) p)
+              (characters-then (k .done) (c ∷ []) ∙ ap (λ (l : List ℕ). charactersText (k .done) ++ l) (append-nil (characterText c)));
+        }
+    go cs k faulty f h = let z : _≡_ {A = ℕ} 0 1 = cc in absurd (omega arith)
+
+pub spelling-end : {source : List ℕ} {from i at x : ℕ} {t t′ : List ℕ} → character 34 (drop i source) ≡ closing
+    → Spelling source from i at x t t′ → WritesCharacters source from at x t t′
+spelling-end {source} {from} {i} {at} {x} {t} {t′} e q = record { by = λ cs width z. go cs (q .by cs width z) }
+  where
+    go : (cs : List ℕ) → CharactersPart source i at x t t′ cs → Puts (charactersText cs) at x t t′
+    go cs k =
+        let f : closed [] 1 ≡ closed (k .rest) (k .width) = sym (quoted-end 34 (drop i source) e) ∙ k .left in
+        let g : k .rest ≡ [] = cc in
+        puts-as (k .puts) (ap charactersText (k .all ∙ ap (λ (l : List ℕ). k .done ++ l) g ∙ append-nil (k .done)))
+
+pub spelling-bad : {source : List ℕ} {from i at x : ℕ} {t t′ : List ℕ} → character 34 (drop i source) ≡ bad
+    → Spelling source from i at x t t′ → WritesCharacters source from at x t t′
+spelling-bad {source} {from} {i} {at} {x} {t} {t′} e q = record { by = λ cs width z. absurd (go cs (q .by cs width z)) }
+  where
+    go : (cs : List ℕ) → CharactersPart source i at x t t′ cs → ⊥
+    go cs k =
+        let f : faulty ≡ closed (k .rest) (k .width) = sym (quoted-bad 34 (drop i source) e) ∙ k .left in
+        let z : _≡_ {A = ℕ} 0 1 = cc in
+        omega arith
+
+-- ---- a string's line, and a symbol's lines
+
+pub string-put : {source : List ℕ} {place at a b c d r : ℕ} {t t₁ t₂ t₃ t₄ t₅ : List ℕ} → Puts (67 ∷ []) at a t t₁ → Puts (34 ∷ []) a b t₁ t₂
+    → WritesCharacters source (place + 1) b c t₂ t₃ → Puts (34 ∷ []) c d t₃ t₄ → Puts (10 ∷ []) d r t₄ t₅ → WritesString source place at r t t₅
+unfolding line render
+string-put {source} {place} {at} {r = r} {t = t} {t₅ = t₅} p q w u v = record {
+  by = λ e.
+      let z : place + 1 ≡ suc place = omega arith in
+      puts-as (puts-then p (puts-then q (puts-then (w .by (e .characters) (e .width) (rw z (e .closes))) (puts-then u v))))
+      (ap (λ (l : List ℕ). 67 ∷ 34 ∷ l) (append-assoc (charactersText (e .characters)) (34 ∷ []) (10 ∷ [])));
+}
+
+pub symbol-none : {source : List ℕ} {kind place l at : ℕ} {t : List ℕ} → (kind ≡ STRING → ⊥) → WritesSymbol source kind place l at at t t
+unfolding symbolCode lines
+symbol-none {source} {kind} {place} {l} {at} {t} n = record { by = λ e. rw (ne-eqb kind STRING n) puts-none }
+
+pub symbol-put : {source : List ℕ} {kind place l at x r : ℕ} {t t₁ t₂ : List ℕ} → kind ≡ STRING → Puts (line (I.label l)) at x t t₁
+    → WritesString source place x r t₁ t₂
+    → WritesSymbol source kind place l at r t t₂
+unfolding symbolCode lines
+symbol-put {source} {kind} {place} {l} {at} {x} {r} {t} {t₁} {t₂} q p w =
+    record {
+      by = λ e. let z = e q in
+          rw (eq-eqb kind STRING q, z .closes)
+          (puts-as (puts-then p (w .by z)) (ap (λ (l′ : List ℕ). line (I.label l) ++ l′) (append-nil (line (I.string (z .characters))))));
+    }
+
+-- ---- loops over the symbols: those from i on
+
+unfoldable pub symbolsFrom : (count : ℕ) (s : List ℕ) (i : ℕ) → List Symbol
+symbolsFrom count s i = decoded (count - i) (drop (i * 3) s)
+
+pub symbols-all : (count : ℕ) (s : List ℕ) → symbolsFrom count s 0 ≡ decoded count s
+unfolding symbolsFrom
+symbols-all count s = let z : count - 0 ≡ count = omega arith in rw z
+
+symbols-more : (count : ℕ) (s : List ℕ) (i : ℕ) → i < count
+    → symbolsFrom count s i ≡
+    record { kind = getD s (i * 3) 0; value = getD s (i * 3 + 1) 0; place = getD s (i * 3 + 2) 0 } ∷ symbolsFrom count s (i + 1)
+unfolding symbolsFrom decoded
+symbols-more count s i h =
+    let z : count - i ≡ suc (count - (i + 1)) = omega arith in
+    let y : i * 3 + 3 ≡ (i + 1) * 3 = omega arith in
+    let y0 : i * 3 + 0 ≡ i * 3 = omega arith in
+    rw (z, getD-drop (i * 3) s 0 0, y0, getD-drop (i * 3) s 1 0, getD-drop (i * 3) s 2 0, drop-drop 3 (i * 3) s, y)
+
+symbols-none : (count : ℕ) (s : List ℕ) (i : ℕ) → count ≤ i → symbolsFrom count s i ≡ []
+unfolding symbolsFrom decoded
+symbols-none count s i h = let z : count - i ≡ 0 = omega arith in rw z
+
+pub oneIf-yes : {kind : ℕ} → kind ≡ STRING → 1 ≡ oneIf kind
+unfolding oneIf
+oneIf-yes {kind} e = rw (eq-eqb kind STRING e)
+
+pub oneIf-no : {kind : ℕ} → (kind ≡ STRING → ⊥) → 0 ≡ oneIf kind
+unfolding oneIf
+oneIf-no {kind} e = rw (ne-eqb kind STRING e)
+
+pub oneIf-small : (kind : ℕ) → oneIf kind ≤ 1
+unfolding oneIf
+oneIf-small kind = go (eqb kind STRING)
+  where
+    go : (b : Bool) → cond b 1 0 ≤ 1
+    go true = omega arith
+    go false = omega arith
+
+-- n are counted among the first i
+pub record Counted (count : ℕ) (s : List ℕ) (i n : ℕ) : Type 0 where
+  pub sum : n + stringCount (symbolsFrom count s i) ≡ stringCount (decoded count s)
+  pub few : n ≤ i
+
+pub counted-begin : {count : ℕ} {s : List ℕ} → Counted count s 0 0
+counted-begin {count} {s} = record { sum = rw (symbols-all count s) (omega arith); few = omega arith }
+
+count-one : (x : Symbol) (xs : List Symbol) → stringCount (x ∷ xs) ≡ oneIf (x .kind) + stringCount xs
+unfolding stringCount oneIf
+count-one x xs = go (eqb (x .kind) STRING)
+  where
+    go : (b : Bool) → cond b (suc (stringCount xs)) (stringCount xs) ≡ cond b 1 0 + stringCount xs
+    go true = omega arith
+    go false = omega arith
+
+pub counted-next : {count : ℕ} {s : List ℕ} {i n k d : ℕ} → i < count → k ≡ getD s (i * 3) 0 → d ≡ oneIf k → Counted count s i n
+    → Counted count s (i + 1) (n + d)
+counted-next {count} {s} {i} {n} {k} {d} h e f q =
+    let z = ap stringCount (symbols-more count s i h) ∙ count-one _ (symbolsFrom count s (i + 1)) in
+    let y : d ≡ oneIf (getD s (i * 3) 0) = f ∙ ap oneIf e in
+    record { sum = omega (arith, q .sum, z, y); few = omega (arith, q .few, oneIf-small k) }
+
+pub counted-end : {count : ℕ} {s : List ℕ} {i n : ℕ} → count ≤ i → Counted count s i n → n ≡ stringCount (decoded count s)
+unfolding stringCount
+counted-end {count} {s} {i} {n} h q = omega (arith, q .sum, ap stringCount (symbols-none count s i h))
+
+-- the first i are written, up to x, and n is the next label
+pub record StringsPart (source s : List ℕ) (count first i n at x : ℕ) (t t′ : List ℕ) : Type 0 where
+  pub done : List (List ℕ)
+  pub next : n ≡ first + length done
+  pub ends : AllEnd source (symbolsFrom count s i)
+  pub all : stringsAmong source (decoded count s) ≡ done ++ stringsAmong source (symbolsFrom count s i)
+  pub puts : Puts (lines (stringsCode first done)) at x t t′
+
+pub record Listing (source s : List ℕ) (count first i n at x : ℕ) (t t′ : List ℕ) : Type 0 where
+  pub by : AllEnd source (decoded count s) → StringsPart source s count first i n at x t t′
+
+pub listing-begin : {source s : List ℕ} {count first at : ℕ} {t : List ℕ} → Listing source s count first 0 first at at t t
+unfolding stringsCode lines
+listing-begin {source} {s} {count} {first} {at} {t} = record {
+  by = λ e. record {
+    done = [];
+    next = omega arith;
+    ends = rw (symbols-all count s) e;
+    all = rw (symbols-all count s) refl;
+    puts = puts-none;
+  };
+}
+
+strings-then : (l : ℕ) (a b : List (List ℕ)) → stringsCode l (a ++ b) ≡ stringsCode l a ++ stringsCode (l + length a) b
+unfolding stringsCode
+strings-then l [] b = let z : l + 0 ≡ l = omega arith in rw z
+strings-then l (c ∷ a) b =
+    let z : suc l + length a ≡ l + suc (length a) = omega arith in
+    ap (λ (is : List I.Item). I.label l ∷ I.string c ∷ is) (strings-then (suc l) a b ∙ rw z)
+
+-- the strings of one symbol, as many as oneIf says
+unfoldable ofSymbol : (source : List ℕ) (kind place : ℕ) → List (List ℕ)
+ofSymbol source kind place = cond (eqb kind STRING) (charactersOf (quoted 34 0 (drop (suc place) source)) ∷ []) []
+
+of-symbol-code : (source : List ℕ) (kind place l : ℕ) → symbolCode source kind place l ≡ stringsCode l (ofSymbol source kind place)
+unfolding symbolCode stringsCode ofSymbol
+of-symbol-code source kind place l = go (eqb kind STRING)
+  where
+    go : (b : Bool) → cond b (I.label l ∷ I.string (charactersOf (quoted 34 0 (drop (suc place) source))) ∷ []) []
+        ≡ stringsCode l (cond b (charactersOf (quoted 34 0 (drop (suc place) source)) ∷ []) [])
+    go true = refl
+    go false = refl
+
+of-symbol-count : (source : List ℕ) (kind place : ℕ) → length (ofSymbol source kind place) ≡ oneIf kind
+unfolding oneIf ofSymbol
+of-symbol-count source kind place = go (eqb kind STRING)
+  where
+    go : (b : Bool) → length (cond b (charactersOf (quoted 34 0 (drop (suc place) source)) ∷ []) []) ≡ cond b 1 0
+    go true = refl
+    go false = refl
+
+of-symbol-first : (source : List ℕ) (x : Symbol) (xs : List Symbol)
+    → stringsAmong source (x ∷ xs) ≡ ofSymbol source (x .kind) (x .place) ++ stringsAmong source xs
+unfolding stringsAmong ofSymbol
+of-symbol-first source x xs = go (eqb (x .kind) STRING)
+  where
+    go : (b : Bool) → cond b (charactersOf (quoted 34 0 (drop (suc (x .place)) source)) ∷ stringsAmong source xs) (stringsAmong source xs)
+        ≡ cond b (charactersOf (quoted 34 0 (drop (suc (x .place)) source)) ∷ []) [] ++ stringsAmong source xs
+    go true = refl
+    go false = refl
+
+pub listing-next : {source s : List ℕ} {count first i n at x r k p d : ℕ} {t t₁ t₂ : List ℕ} → i < count → k ≡ getD s (i * 3) 0
+    → p ≡ getD s (i * 3 + 2) 0 → d ≡ oneIf k
+    → WritesSymbol source k p n x r t₁ t₂ → Listing source s count first i n at x t t₁ → Listing source s count first (i + 1) (n + d) at r t t₂
+listing-next {source} {s} {count} {first} {i} {n} {at} {x} {r} {k} {p} {d} {t} {t₁} {t₂} h ek ep ed w q = record {
+  by = λ e.
+      let y = q .by e in
+      let m = symbols-more count s i h in
+      let a = rw m at (y .ends) in
+      let f : k ≡ STRING → Ends source p = λ z. rw ep (first-ends a (sym ek ∙ z)) in
+      let o = ofSymbol source k p in
+      let l : length (y .done ++ o) ≡ length (y .done) + length o = length-append (y .done) o in
+      record {
+        done = y .done ++ o;
+        next = omega (arith, y .next, l, of-symbol-count source k p);
+        ends = others-end a;
+        all = y .all
+            ∙ ap (λ (z : List (List ℕ)). y .done ++ z) (ap (stringsAmong source) m ∙ of-symbol-first source _ (symbolsFrom count s (i + 1)) ∙ rw (ek, ep) refl)
+            ∙ sym (append-assoc (y .done) o (stringsAmong source (symbolsFrom count s (i + 1))));
+        puts = puts-as (puts-then (y .puts) (w .by f))
+            (ap lines (strings-then first (y .done) o) ∙ lines-then (stringsCode first (y .done)) (stringsCode (first + length (y .done)) o)
+            ∙ ap (λ (z : List I.Item). lines (stringsCode first (y .done)) ++ lines z)
+            (ap (λ (j : ℕ). stringsCode j o) (sym (y .next)) ∙ sym (of-symbol-code source k p n)));
+      };
+}
+
+pub listing-end : {source s : List ℕ} {count first i n at x : ℕ} {t t′ : List ℕ} → count ≤ i → Listing source s count first i n at x t t′
+    → WritesStrings source s count first at x t t′
+unfolding stringsAmong
+listing-end {source} {s} {count} {first} {i} {n} {at} {x} {t} {t′} h q = record {
+  by = λ e. let y = q .by e in
+      puts-as (y .puts) (ap (λ (z : List (List ℕ)). lines (stringsCode first z))
+      (y .all ∙ ap (λ (z : List Symbol). y .done ++ stringsAmong source z) (symbols-none count s i h) ∙ append-nil (y .done)));
+}

@@ -1,0 +1,50 @@
+use Prim.Native.Nat.{_-_}
+use mathlib.Core.Path.{_≡_, refl}
+use native.Mathlib.Omega.{arith}
+use borrow.Author.Needs.{needs}
+use lib.ListN.{length}
+use Rattle.text.proofs.Answers.{when-is, when-closing, when-bad}
+use Rattle.text.proofs.Quotes.{is-inside}
+use Rattle.compiler.proofs.StringTexts.{Spelling, spelling-begin, spelling-next, spelling-end, spelling-bad}
+use Rattle.compiler.proofs.strings.characters.Statement.{statement}
+use Rattle.compiler.proofs.strings.characters.Tie as tie
+
+abbrev Inv-loop : tie.InvT-loop
+Inv-loop source from text₀ at i₀ x₀ text i x = (length text ≡ length text₀) × Spelling source from i at x text₀ text
+
+abbrev μ-loop : tie.MeasureT-loop
+μ-loop source from text₀ at i₀ x₀ text i x = length source - i
+
+loop-holds : tie.Need-loop-holds Inv-loop μ-loop
+loop-holds c = (refl, spelling-begin)
+
+add-i : tie.Need-add-i Inv-loop μ-loop
+add-i c =
+    let source = c .before .before .before .before .before .before .before .before .before .before .before .args .source .now in
+    let i = c .before .before .before .before .before .before .before .before .loop .i in
+    let one = when-is _ (c .before .before .before .before .before .before .before .character-at .ensures)
+    (c .before .before .before .before .before .one .given .1) in
+    omega (arith, is-inside 34 source i one)
+
+loop-less : tie.Need-loop-less Inv-loop μ-loop
+loop-less c =
+    let source = c .before .before .before .before .before .before .before .before .before .before .before .args .source .now in
+    let i = c .before .before .before .before .before .before .before .before .loop .i in
+    let one = when-is _ (c .before .before .before .before .before .before .before .character-at .ensures)
+    (c .before .before .before .before .before .one .given .1) in
+    omega (arith, is-inside 34 source i one)
+
+loop-again : tie.Need-loop-again Inv-loop μ-loop
+loop-again c = (search needs, search (spelling-next, when-is))
+
+returns : tie.Need-returns Inv-loop μ-loop
+returns c = search (spelling-end, when-closing)
+
+returns-2 : tie.Need-returns-2 Inv-loop μ-loop
+returns-2 c = search (spelling-bad, when-bad)
+
+pub characters-spec : {M : Type 1} → statement M
+characters-spec =
+    tie.close
+    (tie.spec Inv-loop μ-loop loop-holds (search needs) (search needs) (search needs) add-i loop-less loop-again (search needs) (search needs)
+    returns (search needs) (search needs) returns-2)

@@ -1,0 +1,22 @@
+use Prim.Native.Nat.{_-_}
+use mathlib.Core.Path.{_≡_, refl}
+use lib.ListN.{length}
+use borrow.Author.Needs.{needs}
+use Rattle.compiler.proofs.StartTexts.{StartsSoFar, starts-begin, starts-next, starts-end}
+use Rattle.compiler.proofs.strings.starts.Statement.{statement}
+use Rattle.compiler.proofs.strings.starts.Tie as tie
+
+abbrev Inv-loop : tie.InvT-loop
+Inv-loop table functions text₀ at x₀ k₀ text x k = (length text ≡ length text₀) × StartsSoFar table functions k at x text₀ text
+
+abbrev μ-loop : tie.MeasureT-loop
+μ-loop table functions text₀ at x₀ k₀ text x k = functions - k
+
+loop-again : tie.Need-loop-again Inv-loop μ-loop
+loop-again c = (search needs, search starts-next)
+
+pub starts-spec : {M : Type 1} → statement M
+starts-spec =
+    tie.close
+    (tie.spec Inv-loop μ-loop (λ c. (refl, starts-begin)) (search needs) (search needs) (search needs) (search needs) loop-again (search needs)
+    (λ c. search starts-end))
