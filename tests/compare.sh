@@ -23,3 +23,6 @@ rustc -O --edition 2021 --cfg proved tests/second/sources_compare.rs -L target/s
     -o target/tests/sources_compare
 target/tests/sources_compare --self-check 20000
 target/tests/sources_compare 20000
+rustc -O --edition 2021 --cfg proved tests/second/programs_compare.rs -L target/staticlib -l static=testbed \
+    -o target/tests/programs_compare_proved
+target/tests/programs_compare_proved 30000

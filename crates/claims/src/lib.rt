@@ -1,1 +1,1 @@
-// Document 01's proved table: no code, one claim about the definitions of the crates below (proofs/Table.antt).
+// What is proved, demand by demand (proofs/Main.antt), and the rows of document 01's proved table (proofs/Table.antt): no code.

@@ -11,6 +11,7 @@ use Rattle.assembler.specs.declared.Label.{Label}
 use Rattle.language.specs.State.{State}
 use Rattle.language.specs.Run.{noFun}
 use Rattle.language.specs.Whole.{functionsIn, stringsIn, SourceRunEnds}
+use Rattle.machine.specs.Run.{run}
 use Rattle.code.specs.Faithful.{placementOf, Follows, Faithful}
 use Rattle.code.specs.Generate.{itemsOf, textOf}
 use Rattle.language.proofs.Formed.{FormedF}
@@ -49,7 +50,8 @@ module _ (source : List ℕ) (good : Good source) (memory room first : ℕ) (acc
       }
 
   owed : (output : List ℕ) (budget : ℕ)
-      → Follows (stringsIn source) (placementOf source (assembled (textOf source) memory room .table) first) s (assembled (textOf source) memory room .memory) input output budget
+      → Follows (stringsIn source) (placementOf source (assembled (textOf source) memory room .table) first) s (length output) budget
+      (run first (assembled (textOf source) memory room .memory) input output budget)
   unfolding image table
   owed output budget =
       follows (Γ (functionsIn source) (stringsIn source) memory room first image table input stands) (stringsIn source)

@@ -3,7 +3,7 @@ use Prim.Native.Nat.{ℕ, zero, suc, _+_, _≤_, _<_}
 use mathlib.Core.Path.{_≡_, refl}
 use mathlib.Core.List.{List, [], _∷_}
 use native.Mathlib.Omega.{arith}
-use lib.ListN.{getD}
+use lib.ListN.{length, getD}
 use Rattle.text.specs.Written.{bytes}
 use Rattle.text.specs.declared.Refusal.{Refusal}
 use Rattle.words.specs.Words.{value, wordOf}
@@ -146,7 +146,8 @@ unfolding value wordOf M.read M.write fetch A.indirected A.returned A.combined A
 machine-runs = record { stops = refl; counts = refl; writes = refl }
 
 -- every budget and every room, by the theorem
-owed : (output : List ℕ) (budget : ℕ) → Follows (stringsIn source) (placementOf source (assembled (textOf source) 512 4 .table) 421) final (assembled (textOf source) 512 4 .memory) [] output budget
+owed : (output : List ℕ) (budget : ℕ) → Follows (stringsIn source) (placementOf source (assembled (textOf source) 512 4 .table) 421) final (length output) budget
+    (run 421 (assembled (textOf source) 512 4 .memory) [] output budget)
 owed output budget = faithful source good .follows 512 4 421 (rw written answers) [] final runs low output budget
 
 -- ---- it is accepted, and without room for a label its text is refused

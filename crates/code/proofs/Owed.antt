@@ -170,7 +170,7 @@ module _ (Γ : Env) (strings : List (List ℕ)) (least : 512 ≤ length (Γ .ima
   unfolding resume
   run-is o b = rw (le-leb 512 (length (Γ .image)) least, le-leb (length (Γ .image)) 32768 most) refl
 
-  pub follows : (o : List ℕ) (b : ℕ) → Follows strings (Γ .place) s (Γ .image) (Γ .input) o b
+  pub follows : (o : List ℕ) (b : ℕ) → Follows strings (Γ .place) s (length o) b (run (Γ .place .first) (Γ .image) (Γ .input) o b)
   follows o b = record {
     enough = λ l h. rw (run-is o b) (finishes o l b (omega (arith, in-time)));
     any-budget = λ l. rw (run-is o b) (pick l (decLt b (e .n + 1)));

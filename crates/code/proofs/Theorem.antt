@@ -10,6 +10,7 @@ use Rattle.assembler.specs.Assemble.{assembled}
 use Rattle.language.specs.Symbols as Y
 use Rattle.language.specs.Program.{accepted}
 use Rattle.language.specs.Whole.{refusalOf, stringsIn}
+use Rattle.machine.specs.Run.{run}
 use Rattle.code.specs.Faithful.{placementOf, Follows, Faithful}
 use Rattle.code.specs.Placed.{labelCount, wordCount, stringWords, Proper}
 use Rattle.code.specs.Generate.{textOf}
@@ -36,7 +37,8 @@ module _ (source : List ℕ) (scratch : ℕ) (accepts : refusalOf source scratch
 
 -- ---- on the closed instance
 
-owed : (output : List ℕ) (budget : ℕ) → Follows (stringsIn source) (placementOf source (assembled (textOf source) 512 4 .table) 421) final (assembled (textOf source) 512 4 .memory) [] output budget
+owed : (output : List ℕ) (budget : ℕ) → Follows (stringsIn source) (placementOf source (assembled (textOf source) 512 4 .table) 421) final (length output) budget
+    (run 421 (assembled (textOf source) 512 4 .memory) [] output budget)
 owed output budget = faithful source 1000 accepts .follows 512 4 421 (rw written answers) [] final runs low output budget
 
 words : wordCount (scan (textOf source) .items) ≤ 8 * length (Y.scan source .symbols) + 16 + stringWords (stringsIn source)

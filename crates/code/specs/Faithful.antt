@@ -66,12 +66,11 @@ pub record Pauses (s : State) (o : Outcome) : Type 0 where
   pub stops : o .stop ≡ 31
   pub begins : Begins s o
 
--- a run of an image with some output room and a budget, against a source run that ended in `s`
-pub record Follows (strings : List (List ℕ)) (place : Placement) (s : State) (image input output : List ℕ) (budget : ℕ) : Type 0 where
-  pub enough : length (s .output) ≤ length output → 16 * s .steps + 16 ≤ budget → Finishes strings place s (run (place .first) image input output budget)
-  pub any-budget : length (s .output) ≤ length output
-      → Finishes strings place s (run (place .first) image input output budget) ⊎ Pauses s (run (place .first) image input output budget)
-  pub any-room : Begins s (run (place .first) image input output budget)
+-- what came of a run with room for so many bytes and a budget, against a source run that ended in `s`
+pub record Follows (strings : List (List ℕ)) (place : Placement) (s : State) (room budget : ℕ) (o : Outcome) : Type 0 where
+  pub enough : length (s .output) ≤ room → 16 * s .steps + 16 ≤ budget → Finishes strings place s o
+  pub any-budget : length (s .output) ≤ room → Finishes strings place s o ⊎ Pauses s o
+  pub any-room : Begins s o
 
 -- for every memory and label table with which the text is assembled, every input, and every source run that ends and uses none of the
 -- memory's last eight words
@@ -80,4 +79,5 @@ pub record Faithful (source text : List ℕ) : Type 0 where
       → (input : List ℕ) (s : State) → SourceRunEnds source (placementOf source (assembled text memory room .table) first) memory input s
       → s .used + 8 ≤ memory
       → (output : List ℕ) (budget : ℕ)
-      → Follows (stringsIn source) (placementOf source (assembled text memory room .table) first) s (assembled text memory room .memory) input output budget
+      → Follows (stringsIn source) (placementOf source (assembled text memory room .table) first) s (length output) budget
+      (run first (assembled text memory room .memory) input output budget)

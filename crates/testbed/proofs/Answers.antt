@@ -11,14 +11,19 @@ use Rattle.machine.specs.Run.{Outcome}
 use Rattle.machine.specs.Answers.{Ends}
 use Rattle.machine.specs.declared.Ran.{Ran}
 use Rattle.text.specs.Line.{lineOf}
-use Rattle.symbols.specs.declared.SymbolsRead.the-variants.{Refused}
+use Rattle.symbols.specs.declared.SymbolsRead.the-variants as Y
 use Rattle.symbols.specs.Read as S
 use Rattle.symbols.specs.Read.{Reads}
 use Rattle.symbols.specs.declared.SymbolsRead.{SymbolsRead}
 use Rattle.tree.specs.Read.{ReadsTree}
 use Rattle.tree.specs.declared.TreeRead.{TreeRead}
 use Rattle.tree.specs.declared.TreeRead.the-variants as T
-use Rattle.testbed.specs.Exported.{AssembleExported, RunExported, SymbolsExported, TreeAnswered, AfterSymbols, TreeExported, ranNumbers, treeNumbers}
+use Rattle.testbed.specs.Exported.{AssembleExported, RunExported, SymbolsExported, TreeAnswered, AfterSymbols, TreeExported, CompileExported, ranNumbers, treeNumbers, compiledNumbers}
+use Rattle.text.specs.Line.{refusal}
+use Rattle.language.specs.Program.{Refused, accepted, refused}
+use Rattle.compiler.specs.Compiles.{decided, answerOf, Compiles}
+use Rattle.compiler.specs.declared.Compiled.{Compiled}
+use Rattle.compiler.specs.declared.Compiled.the-variants as C
 
 -- a run's answer, told
 pub run-exported : {o : Outcome} {r : Ran} {memory output numbers : List ℕ} → Ends o r memory output → numbers ≡ ranNumbers r → RunExported o memory output numbers
@@ -41,7 +46,7 @@ symbols-exported {text} e q = record { leaves = e .leaves; answers = ap (S.numbe
 
 -- with the line that was found
 pub symbols-refused : {text scratch : List ℕ} {answer : SymbolsRead} {number place line : ℕ} {scratch′ : List ℕ} → Reads text scratch answer scratch′
-    → answer ≡ Refused number place → line ≡ lineOf text place → SymbolsExported text scratch scratch′ (number ∷ place ∷ line ∷ [])
+    → answer ≡ Y.Refused number place → line ≡ lineOf text place → SymbolsExported text scratch scratch′ (number ∷ place ∷ line ∷ [])
 symbols-refused {text} {scratch} {number = number} {place = place} {scratch′ = scratch′} e q h =
     subst (λ (l : ℕ). SymbolsExported text scratch scratch′ (number ∷ place ∷ l ∷ [])) (sym h) (symbols-exported e q)
 
@@ -67,5 +72,24 @@ after-symbols {text} {matched = matched} {scratch′ = scratch′} {numbers = nu
 
 -- a refused symbol, with the line that was found
 pub symbol-refused : {text scratch : List ℕ} {answer : SymbolsRead} {number place line : ℕ} {scratch′ : List ℕ} → Reads text scratch answer scratch′
-    → answer ≡ Refused number place → line ≡ lineOf text place → TreeExported text scratch scratch′ (number ∷ place ∷ line ∷ [])
+    → answer ≡ Y.Refused number place → line ≡ lineOf text place → TreeExported text scratch scratch′ (number ∷ place ∷ line ∷ [])
 symbol-refused {number = number} {place = place} e q h = after-symbols e q (refl, ap (λ (l : ℕ). number ∷ place ∷ l ∷ []) h)
+
+-- a compilation's answer, told
+abbrev pub numbersOf : Compiled → List ℕ
+numbersOf (C.Accepted length) = 0 ∷ length ∷ 0 ∷ []
+numbersOf (C.Refused r) = r .number ∷ r .place ∷ r .line ∷ []
+
+same-numbers : (source : List ℕ) (d : Refused) → numbersOf (answerOf source d) ≡ compiledNumbers source d
+unfolding refusal
+same-numbers source accepted = refl
+same-numbers source (refused number place) = refl
+
+pub compile-exported : {source scratch scratch′ text text′ : List ℕ} {answer matched : Compiled} → Compiles source scratch scratch′ text text′ answer
+    → answer ≡ matched → CompileExported source scratch scratch′ text text′ (numbersOf matched)
+compile-exported {source} {scratch} {scratch′} {text} {text′} {answer} {matched} e q =
+    record {
+      clears = e .clears;
+      writes = e .writes;
+      answers = ap numbersOf (sym q ∙ e .answers) ∙ same-numbers source (decided source (length scratch) (length text));
+    }

@@ -2,7 +2,7 @@
 use Prim.Native.Nat.{ℕ}
 use mathlib.Core.Path.{_≡_}
 use mathlib.Core.List.{List, [], _∷_}
-use lib.ListN.{length}
+use lib.ListN.{length, replicate}
 use Rattle.machine.specs.Run.{Outcome}
 use Rattle.machine.specs.declared.Ran.{Ran}
 use Rattle.machine.specs.declared.Registers.{Registers}
@@ -17,6 +17,9 @@ use Rattle.tree.specs.Read.{numbersOf, treeRead, treeLeft}
 use Rattle.tree.specs.declared.TreeRead.{TreeRead}
 use Rattle.tree.specs.declared.TreeRead.the-variants as T
 use Rattle.assembler.specs.declared.Label.{Label}
+use Rattle.language.specs.Program.{Refused, accepted, refused}
+use Rattle.code.specs.Generate.{textOf}
+use Rattle.compiler.specs.Compiles.{decided, textAfter}
 
 abbrev pub registersOf : (a b c p g taken written : ℕ) → Registers
 registersOf a b c p g taken written = record { a = a; b = b; c = c; p = p; g = g; taken = taken; written = written }
@@ -65,3 +68,13 @@ AfterSymbols text s s′ answer (Y.Refused number place) = (s′ ≡ s) × (answ
 
 pub record TreeExported (text scratch scratch′ answer : List ℕ) : Type 0 where
   pub after : AfterSymbols text (symbolsRead text scratch .scratch) scratch′ answer (symbolsRead text scratch .answer)
+
+-- 0, the text's length, 0; or a refusal's number, place and line
+abbrev pub compiledNumbers : (source : List ℕ) → Refused → List ℕ
+compiledNumbers source accepted = 0 ∷ length (textOf source) ∷ 0 ∷ []
+compiledNumbers source (refused number place) = number ∷ place ∷ lineOf source place ∷ []
+
+pub record CompileExported (source scratch scratch′ text text′ answer : List ℕ) : Type 0 where
+  pub clears : scratch′ ≡ replicate (length scratch) 0
+  pub writes : text′ ≡ textAfter source (length text) (decided source (length scratch) (length text))
+  pub answers : answer ≡ compiledNumbers source (decided source (length scratch) (length text))

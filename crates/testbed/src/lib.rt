@@ -4,9 +4,10 @@ ghost use lib.ListN.{length};
 ghost use Rattle.assembler.specs.Assemble.{assembled, numbers};
 ghost use Rattle.machine.specs.Run.{resume, run};
 ghost use Rattle.machine.specs.State.{at};
-ghost use Rattle.testbed.specs.Exported.{registersOf, ranNumbers, AssembleExported, RunExported, SymbolsExported, TreeExported, TreeAnswered};
+ghost use Rattle.testbed.specs.Exported.{registersOf, ranNumbers, AssembleExported, RunExported, SymbolsExported, TreeExported, TreeAnswered, CompileExported};
 use assembler::Assembled;
 use assembler::Label;
+use compiler::Compiled;
 use machine::Ran;
 use machine::Registers;
 use symbols::SymbolsRead;
@@ -157,6 +158,26 @@ pub extern "C" fn morkvasil_tree(text: &[u8], scratch: &mut [u32], answer: &mut 
         SymbolsRead::Refused { number, place } => {
             let line = text::line_of(text, place);
             *answer = [number as u64, place as u64, line as u64];
+        }
+    }
+}
+
+#[no_mangle]
+pub extern "C" fn morkvasil_compile(
+    source: &[u8],
+    scratch: &mut [u32],
+    text: &mut [u8],
+    answer: &mut [u64; 3],
+)
+    ensures { λ _. ⌜ CompileExported (now (source .entry)) (now (scratch .entry)) (now (scratch .exit)) (now (text .entry)) (now (text .exit)) (now (answer .exit)) ⌝ }
+{
+    let compiled = compiler::compile(source, scratch, text);
+    match compiled {
+        Compiled::Accepted(length) => {
+            *answer = [0, length as u64, 0];
+        }
+        Compiled::Refused(r) => {
+            *answer = [r.number as u64, r.place as u64, r.line as u64];
         }
     }
 }
