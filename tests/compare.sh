@@ -13,6 +13,9 @@ rustc -O --edition 2021 tests/second/programs_compare.rs -o target/tests/program
 target/tests/programs_compare --self-check 2000
 rustc -O --edition 2021 tests/second/second.rs -o target/tests/second
 tests/run-examples.sh target/tests/second
+rustc -O --edition 2021 tests/second/bcpl.rs -o target/tests/second-bcpl
+tests/run-examples.sh target/tests/second-bcpl tests/examples b
+tests/run-examples.sh target/tests/second-bcpl examples b
 rt check minicode > target/tests/check.log 2>&1 || { tail -n 40 target/tests/check.log; exit 1; }
 tests/run-examples.sh target/bin/minicode
 rt staticlib testbed > target/tests/staticlib.log 2>&1 || { tail -n 40 target/tests/staticlib.log; exit 1; }
