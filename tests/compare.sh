@@ -18,6 +18,7 @@ tests/run-examples.sh target/tests/second-bcpl tests/examples b
 tests/run-examples.sh target/tests/second-bcpl examples b
 rt check minicode > target/tests/check.log 2>&1 || { tail -n 40 target/tests/check.log; exit 1; }
 tests/run-examples.sh target/bin/minicode
+tests/messages.sh target/bin/minicode
 rt staticlib testbed > target/tests/staticlib.log 2>&1 || { tail -n 40 target/tests/staticlib.log; exit 1; }
 rustc -O --edition 2021 --cfg proved tests/second/compare.rs -L target/staticlib -l static=testbed -o target/tests/compare
 target/tests/compare --self-check

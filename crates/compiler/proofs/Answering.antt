@@ -43,7 +43,7 @@ use Rattle.tree.specs.Encoding.{encodeItems, encodeFunctions, encodeProgram}
 use Rattle.tree.specs.Read.{padded, decoded}
 use Rattle.code.specs.Generate.{functionsCode, stringsCode, startsCode, itemsOf, textOf}
 use Rattle.writing.specs.Text.{Text, Puts, over, upto, lines}
-use Rattle.writing.proofs.Laws.{over-length, lines-then, puts-then, puts-as, upto-in}
+use Rattle.writing.proofs.Laws.{over-length, lines-then, puts-none, puts-then, puts-as, upto-in}
 use Rattle.compiler.specs.declared.Compiled.{Compiled}
 use Rattle.compiler.specs.declared.steps.State.{State}
 use Rattle.compiler.specs.declared.program.Done.{Done}
@@ -52,7 +52,7 @@ use Rattle.compiler.specs.Walked.{least, AllFit}
 use Rattle.compiler.specs.Groups.{FineDs, Starting, encodeFunction, functionCount, CountsFunctions}
 use Rattle.compiler.specs.Programs.{startsOf, ReadyProgram, Walked, GaveProgram}
 use Rattle.compiler.specs.Strings.{stringCount, AllEnd, WritesStrings, WritesStarts}
-use Rattle.compiler.specs.Compiles.{decided, answerOf, Begins, Translates, Lent, ReadyTree, Behind, NONE, byKeys}
+use Rattle.compiler.specs.Compiles.{decided, answerOf, Begins, Translates, Lent, ReadyTree, AllStrings, Behind, NONE, byKeys}
 use Rattle.tree.proofs.Stages.{few-good, decoded-entries, entries-size}
 use Rattle.compiler.proofs.Rendered.{rendered}
 use Rattle.compiler.proofs.Deciding.{decides}
@@ -139,6 +139,10 @@ start-told table ns k = go (hasStart ns) refl (getD table 1 0) refl
 
 -- ---- the text
 
+nothing-put : (first : ℕ) {at : ℕ} {t : List ℕ} → Puts (lines (stringsCode first [])) at at t t
+unfolding lines stringsCode
+nothing-put first = puts-none
+
 text-start : (t : List ℕ) → Text t [] 0 t
 unfolding over
 text-start t = record { is = refl; place = sym (upto-in (length t) 0 (omega arith)) }
@@ -149,21 +153,30 @@ over-front [] t h = refl
 over-front (b ∷ out) [] h = absurd (omega arith)
 over-front (b ∷ out) (x ∷ t) h = ap (λ (z : List ℕ). b ∷ z) (over-front out t (omega arith))
 
--- what follows the functions
-pub behind-gave : {source s s′ table t t₁ t₂ t₃ : List ℕ} {a : SymbolsRead} {count functions at x y z : ℕ} → Reads source s a s′ → length s′ ≡ length s
-    → WritesStrings source s′ count (functions + 1) at x t t₁ → WritesStarts table functions x y t₁ t₂ → Puts (90 ∷ 10 ∷ []) y z t₂ t₃
-    → Behind source (length s) count functions table at z t t₃
-behind-gave {source} {s} {s′} {table} {t} {t₁} {t₂} {t₃} {a} {count} {functions} {at} {x} {y} {z} r same w v c = record { by = puts }
+-- ---- what follows the functions
+
+-- no strings: nothing to write
+pub no-strings : {source t : List ℕ} {scratch count names first at : ℕ} → names ≡ 0 → AllStrings source scratch count names first at at t t
+no-strings {source} {t} {scratch} {count} {names} {first} {at} z = record { by = λ ss l e k n. none (stringsAmong source ss) (sym n ∙ z) }
   where
-    puts : (ss : List Symbol) (fs : List Fun) → Lent source (length s) → symbolsOf source ≡ good ss → count ≡ length ss
-        → length table ≡ 400 → functions ≡ length fs → Starting table (startsOf fs)
-        → Puts (lines (stringsCode (suc functions) (stringsAmong source ss) ++ startsCode 1 fs) ++ (90 ∷ 10 ∷ [])) at z t t₃
-    puts ss fs l e k long few start =
-        let d : decoded count s′ ≡ ss = ap (λ (n : ℕ). decoded n s′) k ∙ (ap (decoded (length ss)) (symbols-stand l r same ss e) ∙ decoded-entries ss (replicate (length s - length (entries ss)) 0)) in
-        let first = subst (λ (xs : List Symbol). AllEnd source xs → Puts (lines (stringsCode (functions + 1) (stringsAmong source xs))) at x t t₁) d (w .by) (strings-end source ss e) in
-        let shifted = subst (λ (n : ℕ). Puts (lines (stringsCode n (stringsAmong source ss))) at x t t₁) (add-one functions) first in
-        puts-as (puts-then (puts-then shifted (v .by fs long few start)) c)
-        (ap (λ (u : List ℕ). u ++ (90 ∷ 10 ∷ [])) (lines-then (stringsCode (suc functions) (stringsAmong source ss)) (startsCode 1 fs)))
+    none : (xs : List (List ℕ)) → length xs ≡ 0 → Puts (lines (stringsCode first xs)) at at t t
+    none [] q = nothing-put first
+    none (x ∷ xs) q = absurd (omega arith)
+
+-- the symbols read again
+pub strings-gave : {source s s′ t t′ : List ℕ} {a : SymbolsRead} {count names first at x : ℕ} → Reads source s a s′ → length s′ ≡ length s
+    → WritesStrings source s′ count first at x t t′ → AllStrings source (length s) count names first at x t t′
+strings-gave {source} {s} {s′} {t} {t′} {a} {count} {names} {first} {at} {x} r same w = record { by = λ ss l e k n.
+    let d : decoded count s′ ≡ ss = ap (λ (m : ℕ). decoded m s′) k ∙ (ap (decoded (length ss)) (symbols-stand l r same ss e) ∙ decoded-entries ss (replicate (length s - length (entries ss)) 0)) in
+    subst (λ (xs : List Symbol). AllEnd source xs → Puts (lines (stringsCode first (stringsAmong source xs))) at x t t′) d (w .by) (strings-end source ss e) }
+
+pub behind-gave : {source table t t₁ t₂ t₃ : List ℕ} {scratch count names functions at x y z : ℕ}
+    → AllStrings source scratch count names (functions + 1) at x t t₁ → WritesStarts table functions x y t₁ t₂ → Puts (90 ∷ 10 ∷ []) y z t₂ t₃
+    → Behind source scratch count names functions table at z t t₃
+behind-gave {source} {table} {t} {t₁} {t₂} {t₃} {scratch} {count} {names} {functions} {at} {x} {y} {z} w v c = record { by = λ ss fs l e k n long few start.
+    let shifted = subst (λ (m : ℕ). Puts (lines (stringsCode m (stringsAmong source ss))) at x t t₁) (add-one functions) (w .by ss l e k n) in
+    puts-as (puts-then (puts-then shifted (v .by fs long few start)) c)
+    (ap (λ (u : List ℕ). u ++ (90 ∷ 10 ∷ [])) (lines-then (stringsCode (suc functions) (stringsAmong source ss)) (startsCode 1 fs))) }
 
 -- what is accepted has no faults, and room
 no-faults : (fs : List Fault) (x : Refused) → leastOr fs x ≡ accepted → fs ≡ []
@@ -285,7 +298,7 @@ module _ {source s : List ℕ} {count end : ℕ} (y : ReadyTree source s count e
         (o : Puts (36 ∷ 10 ∷ []) 0 at t t₁)
         (g : GaveProgram source s s₁ table table′ (count * 3) end 520 (functions + 1) t₁ t₂ (record { tall = NONE; state = record { at = at; label = functions + 1 + names; worst = NONE; high = 0 } }) d′)
         (none : table ≡ replicate 400 0)
-        (b : Behind source (length s₁) count functions table′ (d′ .state .at) last t₂ t₃) where
+        (b : Behind source (length s₁) count names functions table′ (d′ .state .at) last t₂ t₃) where
       w : Walked source p (functions + 1) s s₁ table table′ t₁ t₂ (record { tall = NONE; state = record { at = at; label = functions + 1 + names; worst = NONE; high = 0 } }) d′
       unfolding ready-program
       w = g .by (ready-program at none)
@@ -328,7 +341,7 @@ module _ {source s : List ℕ} {count end : ℕ} (y : ReadyTree source s count e
       written e =
           let x = o .by t [] (text-start t) in
           let y′ = w .did .clean e .text .by t (36 ∷ 10 ∷ []) x in
-          let z = b .by (y .symbols) (funs ns) (record { short = y .lent .short; asked = w .same ∙ y .lent .asked }) (y .reads) (y .counts) (w .long) (f ∙ sym (length-funs ns)) (w .starting e) in
+          let z = b .by (y .symbols) (funs ns) (record { short = y .lent .short; asked = w .same ∙ y .lent .asked }) (y .reads) (y .counts) n (w .long) (f ∙ sym (length-funs ns)) (w .starting e) in
           subst (λ (out : List ℕ). Text t out last t₃) the-text (z .by t _ y′)
 
       answers : byKeys source (d′ .state .worst) (d′ .tall) (getD table′ 1 0) last (length t) ≡ answerOf source (decided source (length s) (length t))

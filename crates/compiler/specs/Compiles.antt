@@ -83,9 +83,14 @@ pub record ReadyTree (source s : List ℕ) (count end : ℕ) : Type 0 where
   pub ends : end ≡ count * 3 + length (encodeProgram program)
   pub room : end ≤ count * 8
 
+-- the strings of a source, so many
+pub record AllStrings (source : List ℕ) (scratch count names first at at′ : ℕ) (t t′ : List ℕ) : Type 0 where
+  pub by : (symbols : List Symbol) → Lent source scratch → symbolsOf source ≡ good symbols → count ≡ length symbols → names ≡ length (stringsAmong source symbols)
+      → Puts (lines (stringsCode first (stringsAmong source symbols))) at at′ t t′
+
 -- what follows the functions: strings, globals in which functions start, and `Z`
-pub record Behind (source : List ℕ) (scratch count functions : ℕ) (table : List ℕ) (at at′ : ℕ) (t t′ : List ℕ) : Type 0 where
-  pub by : (symbols : List Symbol) (fs : List Fun) → Lent source scratch → symbolsOf source ≡ good symbols → count ≡ length symbols
+pub record Behind (source : List ℕ) (scratch count names functions : ℕ) (table : List ℕ) (at at′ : ℕ) (t t′ : List ℕ) : Type 0 where
+  pub by : (symbols : List Symbol) (fs : List Fun) → Lent source scratch → symbolsOf source ≡ good symbols → count ≡ length symbols → names ≡ length (stringsAmong source symbols)
       → length table ≡ 400 → functions ≡ length fs → Starting table (startsOf fs)
       → Puts (lines (stringsCode (suc functions) (stringsAmong source symbols) ++ startsCode 1 fs) ++ (90 ∷ 10 ∷ [])) at at′ t t′
 

@@ -34,7 +34,7 @@ ghost use mathlib.Core.Path.{_≡_};
 ghost use mathlib.Core.List.{_++_};
 ghost use Prim.Native.Nat.{_+_, _*_, _-_, _≤_};
 ghost use lib.ListN.{length, take, replicate};
-ghost use Rattle.compiler.specs.Compiles.{Compiles, Translates, NONE, byKeys, ReadyTree, ReadySymbols, Lent, Behind};
+ghost use Rattle.compiler.specs.Compiles.{Compiles, Translates, NONE, byKeys, ReadyTree, ReadySymbols, Lent, AllStrings, Behind};
 
 // The text's length, or a refusal.
 pub enum Compiled {
@@ -78,21 +78,41 @@ fn no_starts() -> [u32; 400]
     [0u32; 400]
 }
 
-// What follows the functions. The names in scope stood where the symbols were, so these are read again.
+// The strings, so many, from that label on. The names in scope stood where the symbols were, so where there are any these are read again.
+fn all_strings(
+    source: &[u8],
+    s: &mut [u32],
+    count: usize,
+    names: usize,
+    text: &mut [u8],
+    at: usize,
+    first: usize,
+) -> usize
+    requires { ⌜ (count ≤ 16384) × (first ≤ 81921) ⌝ }
+    ensures { λ r. ⌜ AllStrings (now (source .entry)) (length (now (s .entry))) count names first at r (now (text .entry)) (now (text .exit)) ⌝ }
+{
+    if names == 0 {
+        return at;
+    }
+    read_symbols(source, s);
+    strings(source, s, count, text, at, first)
+}
+
+// What follows the functions.
 fn behind(
     source: &[u8],
     s: &mut [u32],
     count: usize,
+    names: usize,
     text: &mut [u8],
     functions: usize,
     table: &[u32],
     at: usize,
 ) -> usize
     requires { ⌜ (count ≤ 16384) × (functions ≤ 81920) ⌝ }
-    ensures { λ r. ⌜ Behind (now (source .entry)) (length (now (s .entry))) count functions (now (table .entry)) at r (now (text .entry)) (now (text .exit)) ⌝ }
+    ensures { λ r. ⌜ Behind (now (source .entry)) (length (now (s .entry))) count names functions (now (table .entry)) at r (now (text .entry)) (now (text .exit)) ⌝ }
 {
-    read_symbols(source, s);
-    let a = strings(source, s, count, text, at, functions + 1);
+    let a = all_strings(source, s, count, names, text, at, functions + 1);
     let b = starts(table, functions, text, a);
     closing(text, b)
 }
@@ -153,7 +173,7 @@ fn walked(source: &[u8], s: &mut [u32], count: usize, end: usize, text: &mut [u8
         text,
         d,
     );
-    let last = behind(source, s, count, text, functions, &table, e.state.at);
+    let last = behind(source, s, count, names, text, functions, &table, e.state.at);
     decide(
         source,
         e.state.worst,

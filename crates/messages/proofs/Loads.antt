@@ -1,0 +1,15 @@
+-- The number of bytes read, once matched, is within the buffer: for the programs, which lend that part of it.
+use Prim.Native.Nat.{ℕ, _≤_}
+use mathlib.Core.Path.{_≡_, sym}
+use mathlib.Core.List.{List}
+use lib.ListN.{length, take}
+use lib.Seq.{length-take-le}
+use Rattle.messages.specs.Fits.{Fits}
+use Rattle.messages.specs.declared.given.Loaded.{Loaded}
+use Rattle.messages.specs.declared.given.Loaded.the-variants.{Is}
+
+pub loaded : {answer : Loaded} {buffer : List ℕ} {n : ℕ} → Fits answer buffer → answer ≡ Is n → n ≤ length buffer
+loaded {buffer = buffer} h e = let k : Fits (Is _) buffer = rw e at h in k .by
+
+pub loaded-part : {answer : Loaded} {buffer : List ℕ} {n : ℕ} → Fits answer buffer → answer ≡ Is n → n ≡ length (take n buffer)
+loaded-part {buffer = buffer} {n = n} h e = sym (length-take-le n buffer (loaded h e))

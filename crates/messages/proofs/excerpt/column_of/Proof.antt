@@ -1,0 +1,28 @@
+-- Going back from a place, what is left of the way falls at each turn, and the column is no more than the bytes passed and 1.
+use borrow.Author.Needs.{needs}
+use Prim.Native.Nat.{_+_, _-_, _≤_}
+use lib.ListN.{length}
+use Rattle.messages.proofs.excerpt.column_of.Statement.{statement}
+use Rattle.messages.proofs.excerpt.column_of.Tie as tie
+
+abbrev Inv-loop : tie.InvT-loop
+Inv-loop source place column₀ i₀ column i = (column + i ≤ length source + 1) × (i ≤ length source)
+
+abbrev μ-loop : tie.MeasureT-loop
+μ-loop source place column₀ i₀ column i = i
+
+pub column-of-spec : {M : Type 1} → statement M
+column-of-spec =
+    tie.close
+    (tie.spec
+    Inv-loop
+    μ-loop
+    (search needs)
+    (search needs)
+    (search needs)
+    (search needs)
+    (search needs)
+    (search needs)
+    (search needs)
+    (search needs)
+    (search needs))

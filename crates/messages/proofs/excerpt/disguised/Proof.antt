@@ -1,0 +1,29 @@
+-- What is left of the text falls at each turn.
+use borrow.Author.Needs.{needs}
+use Prim.Native.Nat.{_-_}
+use lib.ListN.{length}
+use Rattle.messages.proofs.excerpt.disguised.Statement.{statement}
+use Rattle.messages.proofs.excerpt.disguised.Tie as tie
+
+abbrev Inv-loop : tie.InvT-loop
+Inv-loop source from end i₀ i = Unit {0}
+
+abbrev μ-loop : tie.MeasureT-loop
+μ-loop source from end i₀ i = length source - i
+
+pub disguised-spec : {M : Type 1} → statement M
+disguised-spec =
+    tie.close
+    (tie.spec
+    Inv-loop
+    μ-loop
+    (search needs)
+    (search needs)
+    (search needs)
+    (search needs)
+    (search needs)
+    (search needs)
+    (search needs)
+    (search needs)
+    (search needs)
+    (search needs))

@@ -1,0 +1,34 @@
+-- What is left of the digits falls at each turn; the tests keep the value within 64 bits.
+use borrow.Author.Needs.{needs}
+use Prim.Native.Nat.{_≤_, _-_}
+use lib.ListN.{length}
+use Rattle.messages.proofs.given.budget_of.Statement.{statement}
+use Rattle.messages.proofs.given.budget_of.Tie as tie
+
+abbrev Inv-loop : tie.InvT-loop
+Inv-loop digits value₀ i₀ value i = i ≤ length digits
+
+abbrev μ-loop : tie.MeasureT-loop
+μ-loop digits value₀ i₀ value i = length digits - i
+
+pub budget-of-spec : {M : Type 1} → statement M
+budget-of-spec =
+    tie.close
+    (tie.spec
+    Inv-loop
+    μ-loop
+    (search needs)
+    (search needs)
+    (search needs)
+    (search needs)
+    (search needs)
+    (search needs)
+    (search needs)
+    (search needs)
+    (search needs)
+    (search needs)
+    (search needs)
+    (search needs)
+    (search needs)
+    (search needs)
+    (search needs))

@@ -1,0 +1,30 @@
+-- What is left of the words falls at each turn.
+use borrow.Author.Needs.{needs}
+use Prim.Native.Nat.{_-_}
+use lib.ListN.{length}
+use Rattle.minicode.proofs.listing.put_rest.Statement.{statement}
+use Rattle.minicode.proofs.listing.put_rest.Tie as tie
+
+abbrev Inv-loop : tie.InvT-loop
+Inv-loop address words at₀ i₀ t5 at i = Unit {0}
+
+abbrev μ-loop : tie.MeasureT-loop
+μ-loop address words at₀ i₀ t5 at i = length words - i
+
+pub put-rest-spec : {M : Type 1} → statement M
+put-rest-spec =
+    tie.close
+    (tie.spec
+    Inv-loop
+    μ-loop
+    (search needs)
+    (search needs)
+    (search needs)
+    (search needs)
+    (search needs)
+    (search needs)
+    (search needs)
+    (search needs)
+    (search needs)
+    (search needs)
+    (search needs))
