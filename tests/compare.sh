@@ -16,9 +16,14 @@ tests/run-examples.sh target/tests/second
 rustc -O --edition 2021 tests/second/bcpl.rs -o target/tests/second-bcpl
 tests/run-examples.sh target/tests/second-bcpl tests/examples b
 tests/run-examples.sh target/tests/second-bcpl examples b
-rt check minicode > target/tests/check.log 2>&1 || { tail -n 40 target/tests/check.log; exit 1; }
+rt check minicode bcpl > target/tests/check.log 2>&1 || { tail -n 40 target/tests/check.log; exit 1; }
 tests/run-examples.sh target/bin/minicode
 tests/messages.sh target/bin/minicode
+tests/run-examples.sh target/bin/bcpl tests/examples b
+tests/run-examples.sh target/bin/bcpl examples b
+tests/both-ways.sh target/bin/bcpl target/bin/minicode tests/examples examples
+tests/manual.sh target/bin/bcpl target/bin/minicode docs/MANUAL.md docs/TUTORIAL.md
+rt try bcpl > target/tests/try.log 2>&1 || { tail -n 40 target/tests/try.log; exit 1; }
 rt staticlib testbed > target/tests/staticlib.log 2>&1 || { tail -n 40 target/tests/staticlib.log; exit 1; }
 rustc -O --edition 2021 --cfg proved tests/second/compare.rs -L target/staticlib -l static=testbed -o target/tests/compare
 target/tests/compare --self-check

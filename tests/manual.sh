@@ -2,7 +2,7 @@
 # Runs every example of a document through two programs.
 #     manual.sh BCPL MINICODE DOCUMENT...
 # An example is a comment on a line of its own, then a block of the program, which goes to BCPL (bcpl) or MINICODE (minicode):
-#     <!-- example: refused 8 at 15 line 1 -->   prints just this line
+#     <!-- example: refused 8 at 15 line 1 -->   prints just this line, and explains it on standard error
 #     <!-- example: prints -->                   prints the text block that follows, and finishes: nothing on standard error
 #     <!-- example: stops 33 ... -->             prints nothing; standard error tells "stopped 33 ..."
 #     <!-- example: prints and stops 33 ... -->  both
@@ -66,6 +66,8 @@ check() {
     case $verdict in
         refused*)
             if [ -f "$said" ] && ! cmp -s "$made/out" "$said"; then differs "the document shows another line"; fi
+            if ! [ -s "$made/err" ]; then differs "it explains nothing"; fi
+            return
             ;;
         *"stops "*)
             if ! grep -qF "stopped ${verdict#*stops }" "$made/err"; then

@@ -75,7 +75,9 @@ lent = rw (source-accepted, written) refl
 
 compiled : Compiles source (replicate 1000 7) (replicate 1000 0) (replicate 100 7) (textAfter source 100 (decided source 1000 100)) (C.Accepted (length (textOf source)))
 compiled = record {
-  answers = ap (answerOf source) (sym lent); clears = refl; writes = refl;
+  answers = ap (answerOf source) (sym lent);
+  clears = refl;
+  writes = refl;
   faithful = λ e. faithful source 1000 source-accepted;
   proper = λ e. proper source 1000 source-accepted;
 }

@@ -166,17 +166,21 @@ no-strings {source} {t} {scratch} {count} {names} {first} {at} z = record { by =
 -- the symbols read again
 pub strings-gave : {source s s′ t t′ : List ℕ} {a : SymbolsRead} {count names first at x : ℕ} → Reads source s a s′ → length s′ ≡ length s
     → WritesStrings source s′ count first at x t t′ → AllStrings source (length s) count names first at x t t′
-strings-gave {source} {s} {s′} {t} {t′} {a} {count} {names} {first} {at} {x} r same w = record { by = λ ss l e k n.
-    let d : decoded count s′ ≡ ss = ap (λ (m : ℕ). decoded m s′) k ∙ (ap (decoded (length ss)) (symbols-stand l r same ss e) ∙ decoded-entries ss (replicate (length s - length (entries ss)) 0)) in
-    subst (λ (xs : List Symbol). AllEnd source xs → Puts (lines (stringsCode first (stringsAmong source xs))) at x t t′) d (w .by) (strings-end source ss e) }
+strings-gave {source} {s} {s′} {t} {t′} {a} {count} {names} {first} {at} {x} r same w = record {
+  by = λ ss l e k n.
+      let d : decoded count s′ ≡ ss = ap (λ (m : ℕ). decoded m s′) k ∙ (ap (decoded (length ss)) (symbols-stand l r same ss e) ∙ decoded-entries ss (replicate (length s - length (entries ss)) 0)) in
+      subst (λ (xs : List Symbol). AllEnd source xs → Puts (lines (stringsCode first (stringsAmong source xs))) at x t t′) d (w .by) (strings-end source ss e);
+}
 
 pub behind-gave : {source table t t₁ t₂ t₃ : List ℕ} {scratch count names functions at x y z : ℕ}
     → AllStrings source scratch count names (functions + 1) at x t t₁ → WritesStarts table functions x y t₁ t₂ → Puts (90 ∷ 10 ∷ []) y z t₂ t₃
     → Behind source scratch count names functions table at z t t₃
-behind-gave {source} {table} {t} {t₁} {t₂} {t₃} {scratch} {count} {names} {functions} {at} {x} {y} {z} w v c = record { by = λ ss fs l e k n long few start.
-    let shifted = subst (λ (m : ℕ). Puts (lines (stringsCode m (stringsAmong source ss))) at x t t₁) (add-one functions) (w .by ss l e k n) in
-    puts-as (puts-then (puts-then shifted (v .by fs long few start)) c)
-    (ap (λ (u : List ℕ). u ++ (90 ∷ 10 ∷ [])) (lines-then (stringsCode (suc functions) (stringsAmong source ss)) (startsCode 1 fs))) }
+behind-gave {source} {table} {t} {t₁} {t₂} {t₃} {scratch} {count} {names} {functions} {at} {x} {y} {z} w v c = record {
+  by = λ ss fs l e k n long few start.
+      let shifted = subst (λ (m : ℕ). Puts (lines (stringsCode m (stringsAmong source ss))) at x t t₁) (add-one functions) (w .by ss l e k n) in
+      puts-as (puts-then (puts-then shifted (v .by fs long few start)) c)
+      (ap (λ (u : List ℕ). u ++ (90 ∷ 10 ∷ [])) (lines-then (stringsCode (suc functions) (stringsAmong source ss)) (startsCode 1 fs)));
+}
 
 -- what is accepted has no faults, and room
 no-faults : (fs : List Fault) (x : Refused) → leastOr fs x ≡ accepted → fs ≡ []

@@ -134,7 +134,7 @@ module _ (h : ℕ) {s s₁ s₂ : List ℕ} {base top leaf m : ℕ} {sc : Scope}
       let k = pushed-keeps p (omega arith) long in
       let l : base ≤ length s₁ = omega (arith, k .long) in
       let a : top + 2 + 2 ≡ top + 4 = omega arith in
-      let x = pushed-name q (omega arith) l (N.local h) (pushed-mark p (omega arith) long sh refl) inside-tree e in
+      let x = pushed-name q (omega arith) l (N.local h) (pushed-mark p (omega arith) long sh refl) inside-tree e tt in
       let n : nameAt s₁ leaf ≡ nameAt s leaf = ap (λ (z : ℕ). named z (getD s₁ (leaf + 1) 0)) (k .above (leaf + 2) (omega arith)) ∙ ap (λ (z : ℕ). named (getD s (leaf + 2) 0) z) (k .above (leaf + 1) (omega arith)) in
       subst (λ (z : ℕ). Shows base s₂ z (declared (opened sc) (nameAt s leaf) (N.local h))) a (subst (λ (z : Name). Shows base s₂ (top + 2 + 2) (declared (opened sc) z (N.local h))) n x)
 

@@ -113,7 +113,7 @@ module _ (text : List ℕ) {s₀ : List ℕ} {from end top height : ℕ} {st₀ 
         lies = u .lies-more;
         ends = u .ends;
         starts = omega (arith, p .starts);
-        shows = subst (λ (z : ℕ). Shows (y .base) s₁ z sc′) tk (subst (λ (z : Name). Shows (y .base) s₁ (top + 2 * k + 2) (declared sc z w)) n (pushed-name pu rm lg w (p .shows) (omega (arith, y .above, p .starts)) ex));
+        shows = subst (λ (z : ℕ). Shows (y .base) s₁ z sc′) tk (subst (λ (z : Name). Shows (y .base) s₁ (top + 2 * k + 2) (declared sc z w)) n (pushed-name pu rm lg w (p .shows) (omega (arith, y .above, p .starts)) ex tt));
         keeps = keeps-then (p .keeps) (keeps-lower (omega arith) (pushed-keeps pu rm lg));
         many = c;
         same = p .same ∙ ap (declareAll sc (height + k)) (u .same) ∙ ap (λ (z : ℕ). declareAll sc′ z (u .more)) (sym hk);

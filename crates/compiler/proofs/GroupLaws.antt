@@ -114,7 +114,7 @@ enters-name {s} {s′} {table} {top} {leaf} {m} {k} {x} e pu ex el = record { lo
     there : (base : ℕ) (sc : Scope) (ns : List ℕ) (name : Name) → Shows base s top sc → base ≤ leaf → base ≤ length s → top + 2 ≤ base → nameAt s leaf ≡ name → Taken table ns
         → Shows base s′ (top + 2) (declared sc name (N.function k)) × Keeps base top s s′ × Taken table ns × (top ≤ top + 2) × (top + 2 ≤ top + 2) × (table ≡ table)
     there base sc ns name sh a l r nm tk =
-        (subst (λ (z : Name). Shows base s′ (top + 2) (declared sc z (N.function k))) nm (pushed-name pu r l (N.function k) sh a ex), pushed-keeps pu r l, tk, omega arith, omega arith, refl)
+        (subst (λ (z : Name). Shows base s′ (top + 2) (declared sc z (N.function k))) nm (pushed-name pu r l (N.function k) sh a ex tt), pushed-keeps pu r l, tk, omega arith, omega arith, refl)
 
     by : (f : N.Found) (base : ℕ) (sc : Scope) (ns : List ℕ) (name : Name) → m ≡ found f → Shows base s top sc → base ≤ leaf → base ≤ length s → top + 2 ≤ base
         → nameAt s leaf ≡ name → Taken table ns → ((i : ℕ) → f ≡ N.known (N.global i) → i < 400)

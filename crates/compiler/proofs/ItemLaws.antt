@@ -13,7 +13,7 @@ use Rattle.language.specs.Constants as K
 use Rattle.language.specs.Constants.{Fault, fault, Judged, judge, forGlobal, judgedWord, faultsOf}
 use Rattle.tree.specs.Encoding.{encodeName, encodeConstant, encodeItems}
 use Rattle.compiler.specs.Scope as S
-use Rattle.compiler.specs.Scope.{Shows, Keeps, Pushed, code, found, named, nameAt}
+use Rattle.compiler.specs.Scope.{Shows, Keeps, Pushed, Worded, code, found, named, nameAt}
 use Rattle.compiler.proofs.Scoping.{keeps-all, keeps-then, keeps-lower, pushed-keeps, pushed-name}
 use Rattle.compiler.specs.declared.steps.State.{State}
 use Rattle.compiler.specs.Walked.{Did}
@@ -21,6 +21,7 @@ use Rattle.compiler.specs.Walks.{Lies}
 use Rattle.compiler.specs.Commands.{nothing, Again}
 use Rattle.compiler.proofs.Done.{did-none, did-then, did-as, same-refl}
 use Rattle.compiler.proofs.Trees.{first, second, keeps-lies}
+use Rattle.compiler.proofs.Judging.{judged-word}
 use Rattle.language.specs.Fine.{FineConstant, FineItems}
 use Rattle.compiler.specs.Locals.{Says, fit, unfit, Judges, JudgesMost, Blames}
 use Rattle.compiler.specs.declared.steps.Verdict.{Verdict}
@@ -96,6 +97,11 @@ fine-more i is f = f .1
 word-is : {r : Verdict} (j : Judged) → Says r j → r .word ≡ judgedWord j
 word-is (K.good v) (fit q) = refl
 word-is (K.refused fs) (unfit a b w) = w
+
+meaning-word : (g : Bool) (text : List ℕ) (sc : Scope) (c : T.Constant) {base : ℕ} {s : List ℕ} {top : ℕ} → Shows base s top sc → FineConstant c → Worded (meaning g (judgedWord (judged g text sc c)))
+unfolding meaning judged
+meaning-word true text sc c sh f = tt
+meaning-word false text sc c sh f = judged-word text sc c sh f
 
 abbrev scopeWith : Bool → List ℕ → Scope → Item → Scope
 scopeWith g text sc i = declared sc (i .name) (meaning g (judgedWord (judged g text sc (i .constant))))
@@ -209,7 +215,8 @@ module _ (g : Bool) (text : List ℕ) {s₀ : List ℕ} {from end top : ℕ} (st
         ends = omega (arith, u .ends, nx);
         starts = omega (arith, p .starts);
         shows = subst (λ (z : ℕ). Shows (y .base) s₁ z sc′) tk (subst (λ (z : Name). Shows (y .base) s₁ (top + 2 * k + 2) (declared sc z (meaning g (judgedWord j)))) n
-            (pushed-name pu (f .room) (f .long) (meaning g (judgedWord j)) (p .shows) (omega arith) (ex ∙ ap code w)));
+            (pushed-name pu (f .room) (f .long) (meaning g (judgedWord j)) (p .shows) (omega arith) (ex ∙ ap code w)
+            (meaning-word g text sc (i .constant) (p .shows) (fine-first (u .item) (u .more) (subst FineIs (u .same) (p .fine))))));
         keeps = keeps-then (p .keeps) (keeps-lower (omega arith) (pushed-keeps pu (f .room) (f .long)));
         many = omega (arith, p .many, ap length (u .same));
         fine = fine-more (u .item) (u .more) (subst FineIs (u .same) (p .fine));

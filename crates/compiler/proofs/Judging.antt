@@ -21,7 +21,7 @@ use Rattle.code.specs.Generate as G
 use Rattle.language.specs.Faults.{inExpressions, twice}
 use Rattle.tree.specs.Encoding.{closed, encodeName, encodeNames, encodeConstant, encodePositive, encodeNegative, encodeExpressions}
 use Rattle.compiler.specs.Scope.{Shows, Keeps, Looked, code, found, named, nameAt}
-use Rattle.compiler.proofs.Scoping.{keeps-all, keeps-then, keeps-shows, code-not}
+use Rattle.compiler.proofs.Scoping.{keeps-all, keeps-then, keeps-shows, code-not, Held, looked-word}
 use Rattle.compiler.specs.declared.steps.State.{State}
 use Rattle.compiler.specs.declared.steps.Here.{Here}
 use Rattle.compiler.specs.declared.steps.Node.{Node}
@@ -85,6 +85,26 @@ module _ {m : ℕ} (minus : Bool) {name place : ℕ} (fits : (name < 2 ^ 32) × 
       by c n (N.known (N.global k)) q em ep en = eleven c ep
       by c n (N.known (N.manifest v)) q em ep en = absurd (n3 (omega arith))
       by c n (N.known (N.function k)) q em ep en = eleven c ep
+
+signed-word : (b : Bool) (v : ℕ) → v < 65536 → signed b v < 65536
+signed-word true v l = omega arith
+signed-word false v l = l
+
+found-word : (c : Constant) (n : Name) (f : N.Found) → Held f → judgedWord (ofFound c n f) < 65536
+found-word c n N.unknown u = omega arith
+found-word c n (N.known (N.local k)) u = omega arith
+found-word c n (N.known (N.global k)) u = omega arith
+found-word c n (N.known (N.manifest v)) u = signed-word (c .minus) v u
+found-word c n (N.known (N.function k)) u = omega arith
+
+-- a constant is a word
+pub judged-word : (text : List ℕ) (sc : Scope) (c : Constant) {base : ℕ} {s : List ℕ} {top : ℕ} → Shows base s top sc → FineConstant c → judgedWord (judge text sc c) < 65536
+unfolding judge
+judged-word text sc c sh f = go (c .simple) (f .small)
+  where
+    go : (x : Simple) → ((v : ℕ) → x ≡ T.literal v → v < 65536) → judgedWord (ofSimple text sc c x) < 65536
+    go (T.literal v) l = signed-word (c .minus) v (l v refl)
+    go (T.known n) l = found-word c n (lookup text sc n) (looked-word text n sh)
 
 -- ---- the constant that ends there
 

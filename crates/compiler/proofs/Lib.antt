@@ -24,6 +24,8 @@ pub mod Aways
 pub mod Fors
 pub mod Rows
 pub mod Switching
+pub mod Flags
+pub mod Doubling
 pub mod ItemLaws
 pub mod GroupLaws
 pub mod Deciding

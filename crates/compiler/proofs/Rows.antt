@@ -117,13 +117,6 @@ module _ {A : Type 0} {P : ℕ → A → Type 0} {s : List ℕ} {end : ℕ} wher
       go [] r h = h
       go (x ∷ xs) (andMore m q r) h = absurd (omega arith)
 
--- one more behind
-pub row-more : {A : Type 0} {P : ℕ → A → Type 0} {s : List ℕ} {from at next : ℕ} {x : A} (xs : List A) → Row P s at from xs → next ≡ at + 2 + getD s at 0 → P next x → Row P s next from (xs ++ (x ∷ []))
-row-more {P = P} {s} {from} {at} {next} {x} [] (noMore e) q p =
-    let z : next ≡ from + 2 + getD s from 0 = q ∙ ap (λ (k : ℕ). k + 2 + getD s k 0) e in
-    andMore {at = from} (omega arith) (subst (λ (k : ℕ). P k x) z p) (noMore z)
-row-more {from = from} (y ∷ ys) (andMore m p r) q h = andMore {at = from} (omega arith) p (row-more ys r q h)
-
 -- ---- labels stand in a row
 
 pub an-item : {s : List ℕ} {at end tag : ℕ} (w rest : List ℕ) → Lies s at (length w ∷ tag ∷ (w ++ rest)) → end ≡ at + length (length w ∷ tag ∷ (w ++ rest)) → {T : Type 0}

@@ -11,7 +11,7 @@ use lib.Dec.{eqb}
 use borrow.Author.Tests.{eq-eqb, ne-eqb}
 use Rattle.language.specs.Tree.{Name}
 use Rattle.language.specs.Names.{Meaning, local, global, manifest, function, Found, unknown, known, Scope, outermost, opened, declared, lookup, inBlock, sameBytes, sameName}
-use Rattle.compiler.specs.Scope.{named, nameAt, code, found, Shows, nothing, mark, name, Looked, Told, Pushed, Keeps}
+use Rattle.compiler.specs.Scope.{named, nameAt, code, found, Worded, Shows, nothing, mark, name, Looked, Told, Pushed, Keeps}
 
 -- ---- spelling
 
@@ -102,27 +102,27 @@ module _ (text s : List ℕ) (leaf at : ℕ) where
   unfolding lookup
   at-outer (nothing e) l = refl
   at-outer (mark h e z) l = absurd (omega arith)
-  at-outer (name h e b n w) l = absurd (omega arith)
+  at-outer (name h e b n w u) l = absurd (omega arith)
 
   pub in-outer : {base : ℕ} {sc : Scope} → Shows base s at sc → at < 2 → inBlock text sc (nameAt s leaf) ≡ unknown
   unfolding inBlock
   in-outer (nothing e) l = refl
   in-outer (mark h e z) l = refl
-  in-outer (name h e b n w) l = absurd (omega arith)
+  in-outer (name h e b n w u) l = absurd (omega arith)
 
   module _ {z : ℕ} (l : 2 ≤ at) (r : z ≡ getD s (at - 2 + 1) 0) where
     pub at-open : {base : ℕ} {sc : Scope} → Shows base s at sc → z ≡ 0 → Left (λ (k : Scope). lookup text k (nameAt s leaf)) base s (at - 2) sc
     unfolding lookup
     at-open (nothing e) q = absurd (omega arith)
     at-open (mark {below = b} {sc} h e y) q = record { rest = sc; shows = at-as (omega arith) h; same = refl }
-    at-open (name {below = b} {w = w} h e p n y) q =
+    at-open (name {below = b} {w = w} h e p n y u) q =
         let g : at - 2 + 1 ≡ b + 1 = omega arith in absurd (code-not w (sym y ∙ sym (get-as s g) ∙ sym r ∙ q))
 
     pub in-open : {base : ℕ} {sc : Scope} → Shows base s at sc → z ≡ 0 → inBlock text sc (nameAt s leaf) ≡ unknown
     unfolding inBlock
     in-open (nothing e) q = refl
     in-open (mark h e y) q = refl
-    in-open (name {below = b} {w = w} h e p n y) q =
+    in-open (name {below = b} {w = w} h e p n y u) q =
         let g : at - 2 + 1 ≡ b + 1 = omega arith in absurd (code-not w (sym y ∙ sym (get-as s g) ∙ sym r ∙ q))
 
     module _ {x : ℕ} (q : z ≡ 0 → ⊥) (rx : x ≡ getD s (at - 2) 0) where
@@ -141,40 +141,55 @@ module _ (text s : List ℕ) (leaf at : ℕ) where
       unfolding lookup
       at-other (nothing e) f = absurd (omega arith)
       at-other (mark {below = b} h e y) f = absurd (not-mark b e y)
-      at-other (name {below = b} {sc} {n} {w} h e p y c) f =
+      at-other (name {below = b} {sc} {n} {w} h e p y c u) f =
           record { rest = sc; shows = at-as (omega arith) h; same = ap (λ (t : Bool). cond t (known w) (lookup text sc (nameAt s leaf))) (sym (told b e y f)) }
 
       pub at-found : {base : ℕ} {sc : Scope} → Shows base s at sc → true ≡ sameName text (nameAt s x) (nameAt s leaf) → z ≡ found (lookup text sc (nameAt s leaf))
       unfolding lookup found
       at-found (nothing e) f = absurd (omega arith)
       at-found (mark {below = b} h e y) f = absurd (not-mark b e y)
-      at-found (name {below = b} {sc} {n} {w} h e p y c) f =
+      at-found (name {below = b} {sc} {n} {w} h e p y c u) f =
           code-is b w e c ∙ ap (λ (t : Bool). found (cond t (known w) (lookup text sc (nameAt s leaf)))) (told b e y f)
 
       pub in-other : {base : ℕ} {sc : Scope} → Shows base s at sc → false ≡ sameName text (nameAt s x) (nameAt s leaf) → Left (λ (k : Scope). inBlock text k (nameAt s leaf)) base s (at - 2) sc
       unfolding inBlock
       in-other (nothing e) f = absurd (omega arith)
       in-other (mark {below = b} h e y) f = absurd (not-mark b e y)
-      in-other (name {below = b} {sc} {n} {w} h e p y c) f =
+      in-other (name {below = b} {sc} {n} {w} h e p y c u) f =
           record { rest = sc; shows = at-as (omega arith) h; same = ap (λ (t : Bool). cond t (known w) (inBlock text sc (nameAt s leaf))) (sym (told b e y f)) }
 
       pub in-found : {base : ℕ} {sc : Scope} → Shows base s at sc → true ≡ sameName text (nameAt s x) (nameAt s leaf) → z ≡ found (inBlock text sc (nameAt s leaf))
       unfolding inBlock found
       in-found (nothing e) f = absurd (omega arith)
       in-found (mark {below = b} h e y) f = absurd (not-mark b e y)
-      in-found (name {below = b} {sc} {n} {w} h e p y c) f =
+      in-found (name {below = b} {sc} {n} {w} h e p y c u) f =
           code-is b w e c ∙ ap (λ (t : Bool). found (cond t (known w) (inBlock text sc (nameAt s leaf)))) (told b e y f)
+
+-- a manifest that is found is a word
+abbrev pub Held : Found → Type 0
+Held unknown = Unit {0}
+Held (known w) = Worded w
+
+pub looked-word : (text : List ℕ) (n : Name) {base : ℕ} {s : List ℕ} {top : ℕ} {sc : Scope} → Shows base s top sc → Held (lookup text sc n)
+unfolding lookup
+looked-word text n (nothing e) = tt
+looked-word text n (mark h e z) = looked-word text n h
+looked-word text n (name {sc = sc} {n = m} {w = w} h e p y c u) = go (sameName text m n) (looked-word text n h)
+  where
+    go : (b : Bool) → Held (lookup text sc n) → Held (cond b (known w) (lookup text sc n))
+    go true k = u
+    go false k = k
 
 -- ---- the stack and the tree stay where other entries change
 
 pub keeps-shows : {base top : ℕ} {s s′ : List ℕ} {at : ℕ} {sc : Scope} → Keeps base top s s′ → at ≤ top → Shows base s at sc → Shows base s′ at sc
 keeps-shows k l (nothing e) = nothing e
 keeps-shows k l (mark {below = b} h e z) = mark (keeps-shows k (omega arith) h) e (k .below (b + 1) (omega arith) ∙ z)
-keeps-shows {base} {s = s} {s′} k l (name {below = b} h e p n w) =
+keeps-shows {base} {s = s} {s′} k l (name {below = b} h e p n w u) =
     let x : getD s′ b 0 ≡ getD s b 0 = k .below b (omega arith) in
     name (keeps-shows k (omega arith) h) e (subst (λ (z : ℕ). base ≤ z) (sym x) p)
     (ap (λ (z : ℕ). nameAt s′ z) x ∙ ap (λ (z : ℕ). named z (getD s′ (getD s b 0 + 1) 0)) (k .above (getD s b 0 + 2) (omega arith)) ∙ ap (λ (z : ℕ). named (getD s (getD s b 0 + 2) 0) z) (k .above (getD s b 0 + 1) (omega arith)) ∙ n)
-    (k .below (b + 1) (omega arith) ∙ w)
+    (k .below (b + 1) (omega arith) ∙ w) u
 
 pub keeps-all : {base top : ℕ} {s : List ℕ} → Keeps base top s s
 keeps-all = record { below = λ i l. refl; above = λ i l. refl; long = refl }
@@ -209,11 +224,11 @@ module _ {s s′ : List ℕ} {top leaf m base : ℕ} (h : Pushed s s′ top leaf
   pub pushed-mark : {sc : Scope} → Shows base s top sc → m ≡ 0 → Shows base s′ (top + 2) (opened sc)
   pushed-mark sh e = mark (keeps-shows push-keeps (omega arith) sh) refl (push-second ∙ e)
 
-  pub pushed-name : {sc : Scope} (w : Meaning) → Shows base s top sc → base ≤ leaf → m ≡ code w → Shows base s′ (top + 2) (declared sc (nameAt s leaf) w)
-  pushed-name w sh b e =
+  pub pushed-name : {sc : Scope} (w : Meaning) → Shows base s top sc → base ≤ leaf → m ≡ code w → Worded w → Shows base s′ (top + 2) (declared sc (nameAt s leaf) w)
+  pushed-name w sh b e u =
       name (keeps-shows push-keeps (omega arith) sh) refl (subst (λ (z : ℕ). base ≤ z) (sym push-first) b)
       (ap (λ (z : ℕ). nameAt s′ z) push-first ∙ ap (λ (z : ℕ). named z (getD s′ (leaf + 1) 0)) (push-keeps .above (leaf + 2) (omega arith)) ∙ ap (λ (z : ℕ). named (getD s (leaf + 2) 0) z) (push-keeps .above (leaf + 1) (omega arith)))
-      (push-second ∙ e)
+      (push-second ∙ e) u
 
 pub same-as : (text s : List ℕ) (a b : ℕ) {p n q m : ℕ} {t : Bool} → n ≡ getD s (a + 1) 0 → p ≡ getD s (a + 2) 0 → m ≡ getD s (b + 1) 0 → q ≡ getD s (b + 2) 0 → t ≡ sameName text (named p n) (named q m) → t ≡ sameName text (nameAt s a) (nameAt s b)
 same-as text s a b {p} {n} {q} {m} {t} en ep em eq h =

@@ -1,11 +1,10 @@
--- The labels of a list after INTO: where they stand, which there are, the words after X23, and what is refused in them.
+-- The labels of a list after INTO: where they stand, which there are, and the words after X23.
 use Prim.Native.Nat.{ℕ, suc, _+_, _-_, _≤_, _<_, _^_}
 use mathlib.Core.Path.{_≡_, refl, sym, ap, subst, _∙_}
 use mathlib.Core.Bool.{Bool, true, false, cond}
-use mathlib.Core.List.{List, [], _∷_, _++_, append-nil, append-assoc}
+use mathlib.Core.List.{List, [], _∷_, _++_}
 use native.Mathlib.Omega.{arith}
 use lib.ListN.{length, getD, length-append}
-use lib.Dec.{eqb}
 use Rattle.items.specs.Item as I
 use Rattle.language.specs.Kinds.{member}
 use Rattle.language.specs.Binding.{isGuard, isLeave}
@@ -13,9 +12,8 @@ use Rattle.language.specs.Tree as T
 use Rattle.language.specs.Tree.{Name, Simple, Constant, Label, Expression, Command, Commands, Unlabelled, endsInCall}
 use Rattle.language.specs.Names as N
 use Rattle.language.specs.Names.{Scope, lookup}
-use Rattle.language.specs.Constants.{Fault, fault, Judged, good, refused, judge, signed, ofFound, ofSimple, faultsOf}
-use Rattle.language.specs.Resolved as R
-use Rattle.language.specs.Resolved.{CaseLabel, hasCase, hasDefault, casesOf, caseCount}
+use Rattle.language.specs.Constants.{fault, Judged, good, refused, judge, signed, ofFound, ofSimple, faultsOf}
+use Rattle.language.specs.Resolved.{CaseLabel, hasDefault, casesOf, caseCount}
 use Rattle.language.specs.Resolve.{labelsBefore, labelsOf, goodCase, caseList}
 use Rattle.language.specs.Heights.{greatest}
 use Rattle.language.specs.Faults.{doubledCase, doubledLabel, doubled}
@@ -31,17 +29,16 @@ use Rattle.compiler.specs.declared.steps.Node.{Node}
 use Rattle.compiler.specs.declared.steps.Verdict.{Verdict}
 use Rattle.compiler.specs.declared.labels.Span.{Span}
 use Rattle.compiler.specs.Fine.{FineC, FineCs, FinePlain}
-use Rattle.compiler.specs.Walked.{NodeAt, Did, Emits, Faulted}
+use Rattle.compiler.specs.Walked.{NodeAt, Emits}
 use Rattle.compiler.specs.Walks.{Lies}
-use Rattle.compiler.specs.Commands.{nothing}
-use Rattle.compiler.specs.Locals.{Says, fit, unfit, Judges, Blames}
-use Rattle.compiler.specs.Switching.{labelFaults, ReadyLabels, JudgesLabels, WritesTable}
+use Rattle.compiler.specs.Locals.{Says, fit, unfit, Judges}
+use Rattle.compiler.specs.Switching.{labelFaults, ReadyLabels, WritesTable}
 use Rattle.compiler.specs.Labels as L
-use Rattle.compiler.specs.Labels.{Row, noMore, andMore, NextItem, LabelAt, aCase, aDefault, CommandAt, Spans, Listed, marks, flat, wanted, has, Matches, HasLabel, HasLabelled, caseItems, CountsLabel, CountsAll, defaultAmong, FindsDefault, Sound, noLabel, anyDefault, tableAmong, Still, WritesPair, WritesPairs, WritesAll, Seen, JudgesLabel, JudgesCommand, faultsAmong}
-use Rattle.compiler.proofs.Done.{did-none, did-then, did-as, same-refl, emits-then, nil-left, nil-right}
+use Rattle.compiler.specs.Labels.{Row, noMore, andMore, NextItem, LabelAt, aCase, aDefault, CommandAt, Spans, Listed, marks, flat, caseItems, CountsLabel, CountsAll, HasDefault, defaultAmong, FindsDefault, Sound, noLabel, anyDefault, tableAmong, Still, WritesPair, WritesPairs, WritesAll}
+use Rattle.compiler.proofs.Done.{emits-then, nil-left, nil-right}
 use Rattle.compiler.proofs.Trees.{first, kid, ends, value-is, size-is, kind-is}
 use Rattle.compiler.proofs.Guards.{expression-closed, kind-of, shut}
-use Rattle.compiler.proofs.Rows.{Left, left-all, left-next, left-end, row-more, an-item, labels-row, twelve}
+use Rattle.compiler.proofs.Rows.{Left, left-all, left-next, left-end, an-item, labels-row}
 
 -- ---- the labels of a command
 
@@ -135,91 +132,7 @@ list-of y = record { base = y .base; scope = y .scope; shows = y .shows; all = m
 abbrev pub own-labels : {s : List ℕ} {from end next top : ℕ} {sp : Span} → Spans s next sp → Listed (CommandAt s) s from end top → (ls : List Label) → CommandAt s next ls → Listed (LabelAt s) s (sp .from) (sp .to) top
 own-labels i y ls q = record { base = y .base; scope = y .scope; shows = y .shows; all = ls; row = i .by ls q }
 
--- ---- whether a label is there
-
-or-then : (a p q b : Bool) → p ≡ cond q true b → cond a true p ≡ cond (cond a true q) true b
-or-then true p q b e = refl
-or-then false p q b e = e
-
-has-good : (x : CaseLabel) (j : Judged) (ms ns : List CaseLabel) (b : Bool) → has x ms ≡ cond (has x ns) true b → has x (goodCase j ms) ≡ cond (has x (goodCase j ns)) true b
-unfolding has hasCase hasDefault
-has-good (R.case v) (good w) ms ns b e = or-then (eqb v w) (hasCase v ms) (hasCase v ns) b e
-has-good (R.case v) (refused fs) ms ns b e = e
-has-good R.default (good w) ms ns b e = e
-has-good R.default (refused fs) ms ns b e = e
-
-has-default : (x : CaseLabel) (ms ns : List CaseLabel) (b : Bool) → has x ms ≡ cond (has x ns) true b → has x (R.default ∷ ms) ≡ cond (has x (R.default ∷ ns)) true b
-unfolding has hasCase hasDefault
-has-default (R.case v) ms ns b e = e
-has-default R.default ms ns b e = refl
-
-has-none : (x : CaseLabel) (b : Bool) → b ≡ cond (has x []) true b
-unfolding has hasCase hasDefault
-has-none (R.case v) b = refl
-has-none R.default b = refl
-
-pub has-then : (x : CaseLabel) (text : List ℕ) (sc : Scope) (ls ms : List Label) → has x (labelsOf text sc (ls ++ ms)) ≡ cond (has x (labelsOf text sc ls)) true (has x (labelsOf text sc ms))
-unfolding labelsOf
-has-then x text sc [] ms = has-none x (has x (labelsOf text sc ms))
-has-then x text sc (T.case p c ∷ ls) ms = has-good x (judge text sc c) (labelsOf text sc (ls ++ ms)) (labelsOf text sc ls) (has x (labelsOf text sc ms)) (has-then x text sc ls ms)
-has-then x text sc (T.default p ∷ ls) ms = has-default x (labelsOf text sc (ls ++ ms)) (labelsOf text sc ls) (has x (labelsOf text sc ms)) (has-then x text sc ls ms)
-
-nobody : (x : CaseLabel) (text : List ℕ) (sc : Scope) → has x (labelsOf text sc []) ≡ false
-unfolding labelsOf has hasCase hasDefault
-nobody (R.case v) text sc = refl
-nobody R.default text sc = refl
-
--- a constant that is judged good, and one that is not
-says-good : {j : Verdict} (x : Judged) → Says j x → j .number ≡ 0 → x ≡ good (j .word)
-says-good (good v) (fit q) e = refl
-says-good (refused fs) (unfit a b w) e = absurd (b (sym a ∙ e))
-
-says-bad : {j : Verdict} (x : Judged) → Says j x → (j .number ≡ 0 → ⊥) → x ≡ refused (faultsOf x)
-says-bad (good v) (fit q) n = absurd (n q)
-says-bad (refused fs) (unfit a b w) n = refl
-
-module _ (text : List ℕ) {s : List ℕ} {end top : ℕ} (n : Node) (nd : NodeAt s end n) where
-  pub match-default : (d : Bool) (v : ℕ) → (n .kind ≡ 28 → ⊥) → Matches text s end top d v d
-  unfolding labelsOf has hasCase hasDefault
-  match-default d v q = record { by = λ base sc l sh at. go d l at sc }
-    where
-      go : (d : Bool) (l : Label) → LabelAt s end l → (sc : Scope) → d ≡ has (wanted d v) (labelsOf text sc (l ∷ []))
-      go d (T.case p c) (aCase k e h en f) sc = absurd (q (nd .kind ∙ k))
-      go true (T.default p) (aDefault k e) sc = refl
-      go false (T.default p) (aDefault k e) sc = refl
-
-  -- of a CASE, by what its constant is judged
-  match-case : {d r : Bool} {v : ℕ} {j : Verdict} → n .kind ≡ 28 → Judges text s (n .inner) top j → ((x : Judged) → Says j x → r ≡ has (wanted d v) (goodCase x [])) → Matches text s end top d v r
-  unfolding labelsOf
-  match-case {d} {r} {v} {j} q g f = record { by = go }
-    where
-      go : (base : ℕ) (sc : Scope) (l : Label) → Shows base s top sc → LabelAt s end l → r ≡ has (wanted d v) (labelsOf text sc (l ∷ []))
-      go base sc (T.case p c) sh (aCase {lo = lo} k e h en fine) = f (judge text sc c) (g .by base sc lo c sh fine h (nd .inner ∙ en))
-      go base sc (T.default p) sh (aDefault k e) = absurd (omega (arith, nd .kind))
-
-  pub match-other : {v : ℕ} {d : Bool} → n .kind ≡ 28 → d ≡ true → Matches text s end top d v false
-  unfolding labelsOf has hasDefault
-  match-other {v} {d} q e = record { by = λ base sc l sh at. rw e (go sc l at) }
-    where
-      good-not : (x : Judged) → false ≡ hasDefault (goodCase x [])
-      good-not (good w) = refl
-      good-not (refused fs) = refl
-
-      go : (sc : Scope) (l : Label) → LabelAt s end l → false ≡ hasDefault (labelsOf text sc (l ∷ []))
-      go sc (T.case p c) (aCase k e h en f) = good-not (judge text sc c)
-      go sc (T.default p) (aDefault k e) = absurd (omega (arith, nd .kind))
-
-  pub match-refused : {d : Bool} {v : ℕ} {j : Verdict} → n .kind ≡ 28 → d ≡ false → Judges text s (n .inner) top j → (j .number ≡ 0 → ⊥) → Matches text s end top d v false
-  unfolding has hasCase
-  match-refused {d} {v} q e g z = match-case q g (λ x sa. rw (e, says-bad x sa z))
-
-  pub match-number : {d : Bool} {v : ℕ} {j : Verdict} → n .kind ≡ 28 → d ≡ false → Judges text s (n .inner) top j → j .number ≡ 0 → Matches text s end top d v (eqb v (j .word))
-  unfolding has hasCase
-  match-number {d} {v} {j} q e g z = match-case q g (λ x sa. rw (e, says-good x sa z) (or-false (eqb v (j .word))))
-    where
-      or-false : (b : Bool) → b ≡ cond b true false
-      or-false true = refl
-      or-false false = refl
+-- ---- how many labels are CASE
 
 cases-then : (ls ms : List Label) → caseItems (ls ++ ms) ≡ caseItems ls + caseItems ms
 unfolding caseItems
@@ -249,33 +162,8 @@ labels s = record { At = LabelAt s; one = λ l. l ∷ []; every = λ ls. ls; non
 abbrev pub commands : List ℕ → Holding (List Label)
 commands s = record { At = CommandAt s; one = λ ls. ls; every = flat; none = flat-none; more = flat-more }
 
-has-split : {A : Type 0} (K : Holding A) (text : List ℕ) (w : CaseLabel) (sc : Scope) (x : A) (xs : List A) → has w (labelsOf text sc (K .every (x ∷ xs))) ≡ cond (has w (labelsOf text sc (K .one x))) true (has w (labelsOf text sc (K .every xs)))
-has-split K text w sc x xs = ap (λ (z : List Label). has w (labelsOf text sc z)) (K .more x xs) ∙ has-then w text sc (K .one x) (K .every xs)
-
--- the loops over them
+-- the loop over them
 module _ {A : Type 0} (K : Holding A) where
-  module _ (text : List ℕ) {s : List ℕ} {from end top : ℕ} (d : Bool) (v : ℕ) where
-    abbrev pub HasPart : (y : Listed (K .At) s from end top) (at : ℕ) → Type 0
-    HasPart y at = Left (K .At) s end at (λ rest. has (wanted d v) (labelsOf text (y .scope) (K .every (y .all))) ≡ has (wanted d v) (labelsOf text (y .scope) (K .every rest)))
-
-    pub has-begin : (y : Listed (K .At) s from end top) → HasPart y from
-    has-begin y = left-all (λ rest. has (wanted d v) (labelsOf text (y .scope) (K .every (y .all))) ≡ has (wanted d v) (labelsOf text (y .scope) (K .every rest))) (y .row) refl
-
-    module _ {at next : ℕ} (l : at < end) (n : NextItem s at end next) where
-      pub has-next : (y : Listed (K .At) s from end top) → ((x : A) → K .At next x → false ≡ has (wanted d v) (labelsOf text (y .scope) (K .one x))) → HasPart y at → HasPart y next
-      has-next y m p = let sc = y .scope in
-          left-next (λ rest. has (wanted d v) (labelsOf text sc (K .every (y .all))) ≡ has (wanted d v) (labelsOf text sc (K .every rest))) l n p
-          (λ x xs e q h. h ∙ has-split K text (wanted d v) sc x xs ∙ ap (λ (b : Bool). cond b true (has (wanted d v) (labelsOf text sc (K .every xs)))) (sym (m x q)))
-
-      pub has-found : (y : Listed (K .At) s from end top) → ((x : A) → K .At next x → true ≡ has (wanted d v) (labelsOf text (y .scope) (K .one x))) → HasPart y at → true ≡ has (wanted d v) (labelsOf text (y .scope) (K .every (y .all)))
-      has-found y m p = let sc = y .scope in
-          left-next (λ rest. true ≡ has (wanted d v) (labelsOf text sc (K .every (y .all)))) l n p
-          (λ x xs e q h. sym (h ∙ has-split K text (wanted d v) sc x xs ∙ ap (λ (b : Bool). cond b true (has (wanted d v) (labelsOf text sc (K .every xs)))) (sym (m x q)))) .holds
-
-    pub has-end : {at : ℕ} → end ≤ at → (y : Listed (K .At) s from end top) → HasPart y at → false ≡ has (wanted d v) (labelsOf text (y .scope) (K .every (y .all)))
-    has-end l y p = sym (left-end l p ∙ ap (λ (z : List Label). has (wanted d v) (labelsOf text (y .scope) z)) (K .none) ∙ nobody (wanted d v) text (y .scope))
-
-  -- how many of them are CASE
   module _ (s : List ℕ) (end : ℕ) where
     abbrev pub CountPart : (at n : ℕ) → List A → Type 0
     CountPart at n xs = Left (K .At) s end at (λ rest. caseItems (K .every xs) ≡ n + caseItems (K .every rest))
@@ -312,36 +200,65 @@ one-case-not {s} {end} {i} {k} ei ek q = record { few = omega arith; by = go }
     go (T.case p c) (aCase a e h en f) = absurd (q (ek ∙ ap (λ (x : ℕ). getD s x 0) ei ∙ a))
     go (T.default p) (aDefault a e) = refl
 
--- ---- DEFAULT's command
+-- ---- DEFAULT among labels, and its command
 
-has-one : (text : List ℕ) {s : List ℕ} {from end next top : ℕ} {sp : Span} {b : Bool} → Spans s next sp → HasLabel text s (sp .from) (sp .to) top true 0 b
-    → (y : Listed (CommandAt s) s from end top) (ls : List Label) → CommandAt s next ls → b ≡ hasDefault (labelsOf text (y .scope) ls)
-unfolding has
-has-one text i h y ls q = h .by (own-labels i y ls q)
+default-there : (text : List ℕ) (sc : Scope) (l : Label) (ls : List Label) → caseItems (l ∷ []) ≡ 0 → hasDefault (labelsOf text sc (l ∷ ls)) ≡ true
+unfolding caseItems labelsOf hasDefault
+default-there text sc (T.case p c) ls e = absurd (omega arith)
+default-there text sc (T.default p) ls e = refl
 
-module _ (text : List ℕ) {s : List ℕ} {from end top : ℕ} (first done : ℕ) where
-  abbrev pub DefaultPart : (y : Listed (CommandAt s) s from end top) (at k : ℕ) → Type 0
-  DefaultPart y at k = Left (CommandAt s) s end at (λ rest. defaultAmong text (y .scope) first done (y .all) ≡ defaultAmong text (y .scope) k done rest)
+default-not : (text : List ℕ) (sc : Scope) (l : Label) (ls : List Label) → (caseItems (l ∷ []) ≡ 0 → ⊥) → hasDefault (labelsOf text sc (l ∷ ls)) ≡ hasDefault (labelsOf text sc ls)
+unfolding caseItems labelsOf hasDefault
+default-not text sc (T.case p c) ls n = go (judge text sc c)
+  where
+    go : (j : Judged) → hasDefault (goodCase j (labelsOf text sc ls)) ≡ hasDefault (labelsOf text sc ls)
+    go (good v) = refl
+    go (refused fs) = refl
+default-not text sc (T.default p) ls n = absurd (n refl)
 
-  pub default-begin : (y : Listed (CommandAt s) s from end top) → DefaultPart y from first
-  default-begin y = left-all (λ rest. defaultAmong text (y .scope) first done (y .all) ≡ defaultAmong text (y .scope) first done rest) (y .row) refl
+module _ (s : List ℕ) (end : ℕ) where
+  abbrev pub AmongPart : (at : ℕ) → List Label → Type 0
+  AmongPart at ls = Left (LabelAt s) s end at (λ rest. (text : List ℕ) (sc : Scope) → hasDefault (labelsOf text sc ls) ≡ hasDefault (labelsOf text sc rest))
 
-  module _ {at next : ℕ} (k : ℕ) {sp : Span} {b : Bool} (l : at < end) (n : NextItem s at end next) (i : Spans s next sp) (h : HasLabel text s (sp .from) (sp .to) top true 0 b) where
-    pub default-found : b ≡ true → ((y : Listed (CommandAt s) s from end top) → DefaultPart y at k) → FindsDefault text s from end top first done k
+  pub among-begin : {from : ℕ} (ls : List Label) → Row (LabelAt s) s end from ls → AmongPart from ls
+  among-begin ls r = left-all (λ rest. (text : List ℕ) (sc : Scope) → hasDefault (labelsOf text sc ls) ≡ hasDefault (labelsOf text sc rest)) r (λ text sc. refl)
+
+  module _ {at next k : ℕ} (l : at < end) (n : NextItem s at end next) (f : CountsLabel s next k) where
+    pub among-next : (k ≡ 0 → ⊥) → (ls : List Label) → AmongPart at ls → AmongPart next ls
+    among-next z ls p = left-next (λ rest. (text : List ℕ) (sc : Scope) → hasDefault (labelsOf text sc ls) ≡ hasDefault (labelsOf text sc rest)) l n p
+        (λ x xs e q h text sc. h text sc ∙ default-not text sc x xs (λ w. z (f .by x q ∙ w)))
+
+    pub among-found : k ≡ 0 → (ls : List Label) → AmongPart at ls → (text : List ℕ) (sc : Scope) → true ≡ hasDefault (labelsOf text sc ls)
+    among-found z ls p text sc = left-next (λ rest. true ≡ hasDefault (labelsOf text sc ls)) l n p
+        (λ x xs e q h. sym (h text sc ∙ default-there text sc x xs (sym (f .by x q) ∙ z))) .holds
+
+  pub among-end : {at : ℕ} → end ≤ at → (ls : List Label) → AmongPart at ls → (text : List ℕ) (sc : Scope) → false ≡ hasDefault (labelsOf text sc ls)
+  unfolding labelsOf hasDefault
+  among-end l ls p text sc = sym (left-end l p text sc)
+
+module _ (s : List ℕ) (end first done : ℕ) where
+  abbrev pub DefaultPart : (at k : ℕ) → List (List Label) → Type 0
+  DefaultPart at k lss = Left (CommandAt s) s end at (λ rest. (text : List ℕ) (sc : Scope) → defaultAmong text sc first done lss ≡ defaultAmong text sc k done rest)
+
+  pub default-begin : {from : ℕ} (lss : List (List Label)) → Row (CommandAt s) s end from lss → DefaultPart from first lss
+  default-begin lss r = left-all (λ rest. (text : List ℕ) (sc : Scope) → defaultAmong text sc first done lss ≡ defaultAmong text sc first done rest) r (λ text sc. refl)
+
+  module _ {at next : ℕ} (k : ℕ) {sp : Span} {b : Bool} (l : at < end) (n : NextItem s at end next) (i : Spans s next sp) (h : HasDefault s (sp .from) (sp .to) b) where
+    pub default-found : {from : ℕ} → b ≡ true → ((lss : List (List Label)) → Row (CommandAt s) s end from lss → DefaultPart at k lss) → FindsDefault s from end first done k
     unfolding defaultAmong
     default-found e p = record {
-      by = λ y. left-next (λ rest. k ≡ defaultAmong text (y .scope) first done (y .all)) l n (p y)
-          (λ ls lss z q g. sym (g ∙ ap (λ (x : Bool). cond x k (defaultAmong text (y .scope) (k + 1) done lss)) (sym (has-one text i h y ls q) ∙ e))) .holds;
+      by = λ lss r text sc. left-next (λ rest. k ≡ defaultAmong text sc first done lss) l n (p lss r)
+          (λ ls more z q g. sym (g text sc ∙ ap (λ (x : Bool). cond x k (defaultAmong text sc (k + 1) done more)) (sym (h .by ls (i .by ls q) text sc) ∙ e))) .holds;
     }
 
-    pub default-next : b ≡ false → (y : Listed (CommandAt s) s from end top) → DefaultPart y at k → DefaultPart y next (k + 1)
+    pub default-next : b ≡ false → (lss : List (List Label)) → DefaultPart at k lss → DefaultPart next (k + 1) lss
     unfolding defaultAmong
-    default-next e y p = left-next (λ rest. defaultAmong text (y .scope) first done (y .all) ≡ defaultAmong text (y .scope) (k + 1) done rest) l n p
-        (λ ls lss z q g. g ∙ ap (λ (x : Bool). cond x k (defaultAmong text (y .scope) (k + 1) done lss)) (sym (has-one text i h y ls q) ∙ e))
+    default-next e lss p = left-next (λ rest. (text : List ℕ) (sc : Scope) → defaultAmong text sc first done lss ≡ defaultAmong text sc (k + 1) done rest) l n p
+        (λ ls more z q g text sc. g text sc ∙ ap (λ (x : Bool). cond x k (defaultAmong text sc (k + 1) done more)) (sym (h .by ls (i .by ls q) text sc) ∙ e))
 
-  pub default-end : {at : ℕ} (k : ℕ) → end ≤ at → ((y : Listed (CommandAt s) s from end top) → DefaultPart y at k) → FindsDefault text s from end top first done done
+  pub default-end : {from at : ℕ} (k : ℕ) → end ≤ at → ((lss : List (List Label)) → Row (CommandAt s) s end from lss → DefaultPart at k lss) → FindsDefault s from end first done done
   unfolding defaultAmong
-  default-end k l p = record { by = λ y. sym (left-end l (p y)) }
+  default-end k l p = record { by = λ lss r text sc. sym (left-end l (p lss r) text sc) }
 
 -- ---- numbers with their labels
 
@@ -525,13 +442,13 @@ table-is text sc h l (T.andCommand c cs) =
     ap (λ (z : List I.Item). G.pairsOf l (labelsOf text sc (labelsBefore c)) ++ z) (ap (λ (k : ℕ). G.tableOf k (caseList text sc h cs)) a ∙ table-is text sc h (l + 1) cs)
 
 pub table-gave : (text : List ℕ) {s : List ℕ} {from end top first done m d : ℕ} {t t₁ t₂ t₃ t₄ : List ℕ} {st a b c r : State} → Emits (G.X 23 ∷ []) [] t t₁ st a → CountsAll s from end m → Emits (G.D m ∷ []) [] t₁ t₂ a b
-    → FindsDefault text s from end top first done d → Emits (G.DL d ∷ []) [] t₂ t₃ b c → WritesAll text s from end top first t₃ t₄ c r → WritesTable text s from end top first done t t₄ st r
+    → FindsDefault s from end first done d → Emits (G.DL d ∷ []) [] t₂ t₃ b c → WritesAll text s from end top first t₃ t₄ c r → WritesTable text s from end top first done t t₄ st r
 table-gave text {s} {from} {end} {top} {first} {done} {m} {d} {t} {t₄ = t₄} {st} {r = r} x n e f g w = record {
   worst = k .worst;
   label = k .label;
   by = λ y h none. let sc = y .scope in let cs = y .commands in let u = list-of y in let so = sound-all text sc [] cs none in
       let en : m ≡ caseCount (caseList text sc h cs) = n .by (marks cs) (u .row) ∙ sym (count-is text sc h cs so) in
-      let ed : d ≡ G.defaultOf first done (caseList text sc h cs) = f .by u ∙ sym (default-is text sc h first done cs) in
+      let ed : d ≡ G.defaultOf first done (caseList text sc h cs) = f .by (marks cs) (u .row) text sc ∙ sym (default-is text sc h first done cs) in
       emits-as (emits-then x (emits-then e (emits-then g (w .by u so))))
       (ap (λ (i : ℕ). G.X 23 ∷ G.D i ∷ G.DL d ∷ tableAmong text sc first (marks cs)) en ∙ ap (λ (i : ℕ). G.X 23 ∷ G.D (caseCount (caseList text sc h cs)) ∷ G.DL i ∷ tableAmong text sc first (marks cs)) ed
       ∙ ap (λ (z : List I.Item). G.X 23 ∷ G.D (caseCount (caseList text sc h cs)) ∷ G.DL (G.defaultOf first done (caseList text sc h cs)) ∷ z) (sym (table-is text sc h first cs)));
@@ -539,132 +456,3 @@ table-gave text {s} {from} {end} {top} {first} {done} {m} {d} {t} {t₄ = t₄} 
   where
     k : Still st r
     k = still-then (emits-still x) (still-then (emits-still e) (still-then (emits-still g) (w .still)))
-
--- ---- a label after those before it
-
-module _ (text : List ℕ) {s : List ℕ} {from at start here top : ℕ} {d : Bool} {v : ℕ} where
-  pub seen-before : {b : Bool} → HasLabelled text s from at top d v b → b ≡ true → Seen text s from at start here top d v true
-  seen-before h e = record { by = λ y ls r. sym (has-then (wanted d v) text (y .scope) (flat (y .all)) ls ∙ ap (λ (x : Bool). cond x true (has (wanted d v) (labelsOf text (y .scope) ls))) (sym (h .by y) ∙ e)) }
-
-  pub seen-own : {b c : Bool} → HasLabelled text s from at top d v b → b ≡ false → HasLabel text s start here top d v c → Seen text s from at start here top d v c
-  seen-own h e o = record {
-    by = λ y ls r.
-        o .by (record { base = y .base; scope = y .scope; shows = y .shows; all = ls; row = r })
-        ∙ sym (has-then (wanted d v) text (y .scope) (flat (y .all)) ls ∙ ap (λ (x : Bool). cond x true (has (wanted d v) (labelsOf text (y .scope) ls))) (sym (h .by y) ∙ e));
-  }
-
-pub seen-is : {text s : List ℕ} {from at start here top : ℕ} {d : Bool} {v : ℕ} {b c : Bool} → Seen text s from at start here top d v b → b ≡ c → Seen text s from at start here top d v c
-seen-is {text} {s} {from} {at} {start} {here} {top} {d} {v} h e = subst (λ (x : Bool). Seen text s from at start here top d v x) e h
-
-abbrev After : (text s : List ℕ) (from at start here end top : ℕ) (st r : State) → Type 0
-After text s from at start here end top st r = (y : Listed (CommandAt s) s from at top) (ls : List Label) (l : Label) → Row (LabelAt s) s here start ls → LabelAt s end l
-    → (t : List ℕ) → Did (doubledLabel text (y .scope) (labelsOf text (y .scope) (flat (y .all) ++ ls)) l) nothing 0 t t st r
-
-module _ (text : List ℕ) {s : List ℕ} {from at start here end top : ℕ} {st : State} (n : Node) (nd : NodeAt s end n) where
-  module _ (q : n .kind ≡ 28 → ⊥) where
-    pub default-twice : {r : State} → Seen text s from at start here top true 0 true → Faulted (n .place) 12 st r → JudgesLabel text s from at start here end top st r
-    unfolding has
-    default-twice {r} h w = record { by = go }
-      where
-        go : After text s from at start here end top st r
-        go y ls (T.case p c) row (aCase a e i en f) t = absurd (q (nd .kind ∙ a))
-        go y ls (T.default p) row (aDefault a e) t = subst (λ (b : Bool). Did (cond b (fault p 12) []) nothing 0 t t st r) (h .by y ls row) (twelve nd w e t)
-
-    pub default-once : Seen text s from at start here top true 0 false → JudgesLabel text s from at start here end top st st
-    unfolding has
-    default-once h = record { by = go }
-      where
-        go : After text s from at start here end top st st
-        go y ls (T.case p c) row (aCase a e i en f) t = absurd (q (nd .kind ∙ a))
-        go y ls (T.default p) row (aDefault a e) t = subst (λ (b : Bool). Did (cond b (fault p 12) []) nothing 0 t t st st) (h .by y ls row) (did-none 0)
-
-  -- a CASE, by what its constant is judged
-  module _ {j : Verdict} (q : n .kind ≡ 28) (g : Judges text s (n .inner) top j) where
-    case-by : {r : State} → ((y : Listed (CommandAt s) s from at top) (ls : List Label) (p : ℕ) (x : Judged) → Row (LabelAt s) s here start ls → getD s (end - 2) 0 ≡ p → Says j x → (t : List ℕ) → Did (doubledCase p x (labelsOf text (y .scope) (flat (y .all) ++ ls))) nothing 0 t t st r) → JudgesLabel text s from at start here end top st r
-    case-by {r} f = record { by = go }
-      where
-        go : After text s from at start here end top st r
-        go y ls (T.case p c) row (aCase {lo = lo} a e i en fine) t = f y ls p (judge text (y .scope) c) row e (g .by (y .base) (y .scope) lo c (y .shows) fine i (nd .inner ∙ en)) t
-        go y ls (T.default p) row (aDefault a e) t = absurd (omega (arith, nd .kind))
-
-    pub case-refused : {r : State} → (j .number ≡ 0 → ⊥) → Blames j st r → JudgesLabel text s from at start here end top st r
-    case-refused {r} z b = case-by (λ y ls p x row e sa t. subst (λ (w : Judged). Did (doubledCase p w (labelsOf text (y .scope) (flat (y .all) ++ ls))) nothing 0 t t st r) (sym (says-bad x sa z)) (b .by x sa t))
-
-    pub case-twice : {r : State} → j .number ≡ 0 → Seen text s from at start here top false (j .word) true → Faulted (n .place) 12 st r → JudgesLabel text s from at start here end top st r
-    unfolding has
-    case-twice {r} z h w = case-by (λ y ls p x row e sa t. let seen = labelsOf text (y .scope) (flat (y .all) ++ ls) in
-        subst (λ (w : Judged). Did (doubledCase p w seen) nothing 0 t t st r) (sym (says-good x sa z)) (subst (λ (b : Bool). Did (cond b (fault p 12) []) nothing 0 t t st r) (h .by y ls row) (twelve nd w e t)))
-
-    pub case-once : j .number ≡ 0 → Seen text s from at start here top false (j .word) false → JudgesLabel text s from at start here end top st st
-    unfolding has
-    case-once z h = case-by (λ y ls p x row e sa t. let seen = labelsOf text (y .scope) (flat (y .all) ++ ls) in
-        subst (λ (w : Judged). Did (doubledCase p w seen) nothing 0 t t st st) (sym (says-good x sa z)) (subst (λ (b : Bool). Did (cond b (fault p 12) []) nothing 0 t t st st) (h .by y ls row) (did-none 0)))
-
--- ---- all labels of a command, and of all commands
-
--- `before` is passed
-pub record Passed {A : Type 0} (P : ℕ → A → Type 0) (s : List ℕ) (from at : ℕ) (Q : List A → Type 0) : Type 0 where
-  pub before : List A
-  pub row : Row P s at from before
-  pub finish : Q before
-
-module _ (text : List ℕ) {s : List ℕ} {from at top : ℕ} (start end : ℕ) (st₀ : State) where
-  abbrev pub OwnPart : (y : Listed (CommandAt s) s from at top) (ls : List Label) (here : ℕ) (st : State) → Type 0
-  OwnPart y ls here st = Left (LabelAt s) s end here (λ rest. Passed (LabelAt s) s start here (λ before.
-      (t : List ℕ) (st′ : State) → Did (doubled text (y .scope) (flat (y .all) ++ before) rest) nothing 0 t t st st′ → Did (doubled text (y .scope) (flat (y .all)) ls) nothing 0 t t st₀ st′))
-
-  pub own-begin : (y : Listed (CommandAt s) s from at top) (ls : List Label) → Row (LabelAt s) s end start ls → OwnPart y ls start st₀
-  own-begin y ls r = left-all (λ rest. Passed (LabelAt s) s start start (λ before.
-      (t : List ℕ) (st′ : State) → Did (doubled text (y .scope) (flat (y .all) ++ before) rest) nothing 0 t t st₀ st′ → Did (doubled text (y .scope) (flat (y .all)) ls) nothing 0 t t st₀ st′)) r
-      (record { before = []; row = noMore {at = start} refl; finish = λ t st′ d. subst (λ (z : List Label). Did (doubled text (y .scope) z ls) nothing 0 t t st₀ st′) (append-nil (flat (y .all))) d })
-
-  pub own-next : {here next : ℕ} {st r : State} → here < end → NextItem s here end next → JudgesLabel text s from at start here next top st r → (y : Listed (CommandAt s) s from at top) (ls : List Label) → OwnPart y ls here st → OwnPart y ls next r
-  unfolding doubled
-  own-next {here} {next} {st} {r} l n j y ls p = let sc = y .scope in let F = flat (y .all) in
-      left-next (λ rest. Passed (LabelAt s) s start next (λ before. (t : List ℕ) (st′ : State) → Did (doubled text sc (F ++ before) rest) nothing 0 t t r st′ → Did (doubled text sc F ls) nothing 0 t t st₀ st′)) l n p
-      (λ x xs e q h. record {
-        before = h .before ++ (x ∷ []);
-        row = row-more (h .before) (h .row) e q;
-        finish = λ t st′ d. h .finish t st′ (did-as nothing 0 (did-then (j .by y (h .before) x (h .row) q t)
-            (subst (λ (z : List Label). Did (doubled text sc z xs) nothing 0 t t r st′) (sym (append-assoc F (h .before) (x ∷ []))) d)) same-refl (λ v z. refl) (omega arith));
-      })
-
-  pub own-end : {here : ℕ} {st : State} → end ≤ here → ((y : Listed (CommandAt s) s from at top) (ls : List Label) → Row (LabelAt s) s end start ls → OwnPart y ls here st) → JudgesCommand text s from at start end top st₀ st
-  unfolding doubled
-  own-end {here} {st} l p = record { by = λ y ls r t. left-end l (p y ls r) .finish t st (did-none 0) }
-
-among-is : (text : List ℕ) (sc : Scope) (before : List Label) (cs : Commands) → faultsAmong text sc before (marks cs) ≡ labelFaults text sc before cs
-unfolding faultsAmong labelFaults marks
-among-is text sc before T.noCommands = refl
-among-is text sc before (T.andCommand c cs) = ap (λ (z : List Fault). doubled text sc before (labelsBefore c) ++ z) (among-is text sc (before ++ labelsBefore c) cs)
-
-flat-last : (lss : List (List Label)) (ls : List Label) → flat (lss ++ (ls ∷ [])) ≡ flat lss ++ ls
-unfolding flat
-flat-last [] ls = append-nil ls
-flat-last (ms ∷ lss) ls = ap (λ (z : List Label). ms ++ z) (flat-last lss ls) ∙ sym (append-assoc ms (flat lss) ls)
-
-module _ (text : List ℕ) {s : List ℕ} {from end top : ℕ} (st₀ : State) where
-  abbrev pub ListPart : (y : ReadyLabels s from end top) (at : ℕ) (st : State) → Type 0
-  ListPart y at st = Left (CommandAt s) s end at (λ rest. Passed (CommandAt s) s from at (λ before.
-      (t : List ℕ) (st′ : State) → Did (faultsAmong text (y .scope) (flat before) rest) nothing 0 t t st st′ → Did (labelFaults text (y .scope) [] (y .commands)) nothing 0 t t st₀ st′))
-
-  pub list-begin : (y : ReadyLabels s from end top) → ListPart y from st₀
-  unfolding flat
-  list-begin y = left-all (λ rest. Passed (CommandAt s) s from from (λ before.
-      (t : List ℕ) (st′ : State) → Did (faultsAmong text (y .scope) (flat before) rest) nothing 0 t t st₀ st′ → Did (labelFaults text (y .scope) [] (y .commands)) nothing 0 t t st₀ st′)) (list-of y .row)
-      (record { before = []; row = noMore {at = from} refl; finish = λ t st′ d. subst (λ (z : List Fault). Did z nothing 0 t t st₀ st′) (among-is text (y .scope) [] (y .commands)) d })
-
-  pub list-next : {at next : ℕ} {sp : Span} {st r : State} → at < end → NextItem s at end next → Spans s next sp → JudgesCommand text s from at (sp .from) (sp .to) top st r → (y : ReadyLabels s from end top) → ListPart y at st → ListPart y next r
-  unfolding faultsAmong
-  list-next {at} {next} {sp} {st} {r} l n i j y p = let sc = y .scope in
-      left-next (λ rest. Passed (CommandAt s) s from next (λ before. (t : List ℕ) (st′ : State) → Did (faultsAmong text sc (flat before) rest) nothing 0 t t r st′ → Did (labelFaults text sc [] (y .commands)) nothing 0 t t st₀ st′)) l n p
-      (λ ls lss e q h. record {
-        before = h .before ++ (ls ∷ []);
-        row = row-more (h .before) (h .row) e q;
-        finish = λ t st′ d. h .finish t st′ (did-as nothing 0 (did-then (j .by (record { base = y .base; scope = sc; shows = y .shows; all = h .before; row = h .row }) ls (i .by ls q) t)
-            (subst (λ (z : List Label). Did (faultsAmong text sc z lss) nothing 0 t t r st′) (flat-last (h .before) ls) d)) same-refl (λ v z. refl) (omega arith));
-      })
-
-  pub list-end : {at : ℕ} {st : State} → end ≤ at → ((y : ReadyLabels s from end top) → ListPart y at st) → JudgesLabels text s from end top st₀ st
-  unfolding faultsAmong
-  list-end {at} {st} l p = record { by = λ y t. left-end l (p y) .finish t st (did-none 0) }

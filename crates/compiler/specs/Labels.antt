@@ -1,7 +1,7 @@
 -- Items of a list by their ends, the labels before each command of a list, and what the functions on them ensure.
-use Prim.Native.Nat.{ℕ, suc, _+_, _-_, _≤_, _<_, _^_}
+use Prim.Native.Nat.{ℕ, suc, _+_, _-_, _/_, _%_, _≤_, _<_, _^_}
 use mathlib.Core.Path.{_≡_}
-use mathlib.Core.Bool.{Bool, true, false, cond}
+use mathlib.Core.Bool.{Bool, cond}
 use mathlib.Core.List.{List, [], _∷_, _++_}
 use lib.ListN.{length, getD}
 use Rattle.items.specs.Item as I
@@ -10,7 +10,6 @@ use Rattle.language.specs.Tree as T
 use Rattle.language.specs.Tree.{Constant, Label, Commands}
 use Rattle.language.specs.Names.{Scope}
 use Rattle.language.specs.Constants.{Fault, good, judge}
-use Rattle.language.specs.Resolved as R
 use Rattle.language.specs.Resolved.{CaseLabel, hasCase, hasDefault}
 use Rattle.language.specs.Resolve.{labelsBefore, labelsOf}
 use Rattle.language.specs.Faults.{doubledLabel, doubled, misplaced}
@@ -20,7 +19,7 @@ use Rattle.tree.specs.Encoding.{LABELLED, encodeConstant}
 use Rattle.compiler.specs.Scope.{Shows}
 use Rattle.compiler.specs.declared.steps.State.{State}
 use Rattle.compiler.specs.declared.labels.Span.{Span}
-use Rattle.compiler.specs.Walked.{Did, Emits}
+use Rattle.compiler.specs.Walked.{Did, Emits, Faulted}
 use Rattle.compiler.specs.Walks.{Lies}
 use Rattle.compiler.specs.Commands.{nothing}
 
@@ -76,25 +75,6 @@ flat (ls ∷ lss) = ls ++ flat lss
 pub record MisplacesLabel (text s : List ℕ) (end top : ℕ) (st st′ : State) : Type 0 where
   pub by : (base : ℕ) (sc : Scope) (l : Label) → Shows base s top sc → LabelAt s end l → (t : List ℕ) → Did (misplaced text sc (l ∷ [])) nothing 0 t t st st′
 
--- ---- whether DEFAULT, or CASE with a number, is among labels
-
-abbrev pub wanted : (default : Bool) (v : ℕ) → CaseLabel
-wanted true v = R.default
-wanted false v = R.case v
-
-unfoldable pub has : CaseLabel → List CaseLabel → Bool
-has (R.case v) ls = hasCase v ls
-has R.default ls = hasDefault ls
-
-pub record Matches (text s : List ℕ) (end top : ℕ) (d : Bool) (v : ℕ) (r : Bool) : Type 0 where
-  pub by : (base : ℕ) (sc : Scope) (l : Label) → Shows base s top sc → LabelAt s end l → r ≡ has (wanted d v) (labelsOf text sc (l ∷ []))
-
-pub record HasLabel (text s : List ℕ) (from end top : ℕ) (d : Bool) (v : ℕ) (r : Bool) : Type 0 where
-  pub by : (y : Listed (LabelAt s) s from end top) → r ≡ has (wanted d v) (labelsOf text (y .scope) (y .all))
-
-pub record HasLabelled (text s : List ℕ) (from end top : ℕ) (d : Bool) (v : ℕ) (r : Bool) : Type 0 where
-  pub by : (y : Listed (CommandAt s) s from end top) → r ≡ has (wanted d v) (labelsOf text (y .scope) (flat (y .all)))
-
 -- ---- the words after X23
 
 -- how many of the labels are CASE
@@ -114,13 +94,16 @@ pub record CountsCases (s : List ℕ) (from end r : ℕ) : Type 0 where
 pub record CountsAll (s : List ℕ) (from end r : ℕ) : Type 0 where
   pub by : (lss : List (List Label)) → Row (CommandAt s) s end from lss → r ≡ caseItems (flat lss)
 
+pub record HasDefault (s : List ℕ) (from end : ℕ) (r : Bool) : Type 0 where
+  pub by : (ls : List Label) → Row (LabelAt s) s end from ls → (text : List ℕ) (sc : Scope) → r ≡ hasDefault (labelsOf text sc ls)
+
 -- the label of the first command with DEFAULT, where they are labelled from `l` on
 unfoldable pub defaultAmong : List ℕ → Scope → (l done : ℕ) → List (List Label) → ℕ
 defaultAmong text sc l done [] = done
 defaultAmong text sc l done (ls ∷ lss) = cond (hasDefault (labelsOf text sc ls)) l (defaultAmong text sc (l + 1) done lss)
 
-pub record FindsDefault (text s : List ℕ) (from end top first done r : ℕ) : Type 0 where
-  pub by : (y : Listed (CommandAt s) s from end top) → r ≡ defaultAmong text (y .scope) first done (y .all)
+pub record FindsDefault (s : List ℕ) (from end first done r : ℕ) : Type 0 where
+  pub by : (lss : List (List Label)) → Row (CommandAt s) s end from lss → (text : List ℕ) (sc : Scope) → r ≡ defaultAmong text sc first done lss
 
 -- every constant is good
 pub data Sound (text : List ℕ) (sc : Scope) : List Label → Type 0 where
@@ -149,18 +132,38 @@ pub record WritesAll (text s : List ℕ) (from end top l : ℕ) (t t′ : List �
   pub still : Still st st′
   pub by : (y : Listed (CommandAt s) s from end top) → Sound text (y .scope) (flat (y .all)) → Emits (tableAmong text (y .scope) l (y .all)) [] t t′ st st′
 
--- ---- a label after those before it: in commands from `from` to `at`, and of its own command from `start` on
+-- ---- a label after those before it, which are marked
 
-pub record Seen (text s : List ℕ) (from at start here top : ℕ) (d : Bool) (v : ℕ) (r : Bool) : Type 0 where
-  pub by : (y : Listed (CommandAt s) s from at top) (ls : List Label) → Row (LabelAt s) s here start ls → r ≡ has (wanted d v) (labelsOf text (y .scope) (flat (y .all) ++ ls))
+-- flag i, of eight in an entry
+abbrev pub flag : List ℕ → ℕ → ℕ
+flag seen i = getD seen (i / 8) 0 / 2 ^ (i % 8) % 2
 
-pub record JudgesLabel (text s : List ℕ) (from at start here end top : ℕ) (st st′ : State) : Type 0 where
-  pub by : (y : Listed (CommandAt s) s from at top) (ls : List Label) (l : Label) → Row (LabelAt s) s here start ls → LabelAt s end l
-      → (t : List ℕ) → Did (doubledLabel text (y .scope) (labelsOf text (y .scope) (flat (y .all) ++ ls)) l) nothing 0 t t st st′
+-- flag v is 1 where CASE v is among the labels, flag 65536 where DEFAULT is, and else 0
+pub record Marks (seen : List ℕ) (ls : List CaseLabel) : Type 0 where
+  pub long : length seen ≡ 8193
+  pub cases : (v : ℕ) → v < 65536 → flag seen v ≡ cond (hasCase v ls) 1 0
+  pub default : flag seen 65536 ≡ cond (hasDefault ls) 1 0
 
-pub record JudgesCommand (text s : List ℕ) (from at start end top : ℕ) (st st′ : State) : Type 0 where
-  pub by : (y : Listed (CommandAt s) s from at top) (ls : List Label) → Row (LabelAt s) s end start ls
-      → (t : List ℕ) → Did (doubled text (y .scope) (flat (y .all)) ls) nothing 0 t t st st′
+-- a flag becomes 1; where it was 1, 12 stands at the place
+pub record Notes (i place : ℕ) (seen seen′ : List ℕ) (st st′ : State) : Type 0 where
+  pub long : length seen′ ≡ length seen
+  pub here : i / 8 < length seen → flag seen′ i ≡ 1
+  pub other : (k : ℕ) → (k ≡ i → ⊥) → flag seen′ k ≡ flag seen k
+  pub fresh : i / 8 < length seen → flag seen i ≡ 0 → st′ ≡ st
+  pub again : (flag seen i ≡ 0 → ⊥) → Faulted place 12 st st′
+
+-- these labels are marked now, and those were the refusals
+pub record Marked (text : List ℕ) (sc : Scope) (ls : List Label) (fs : List Fault) (seen′ : List ℕ) (st st′ : State) : Type 0 where
+  pub marks : Marks seen′ (labelsOf text sc ls)
+  pub did : (t : List ℕ) → Did fs nothing 0 t t st st′
+
+pub record JudgesLabel (text s : List ℕ) (end top : ℕ) (seen seen′ : List ℕ) (st st′ : State) : Type 0 where
+  pub by : (base : ℕ) (sc : Scope) (before : List Label) (l : Label) → Shows base s top sc → LabelAt s end l → Marks seen (labelsOf text sc before)
+      → Marked text sc (before ++ (l ∷ [])) (doubledLabel text sc (labelsOf text sc before) l) seen′ st st′
+
+pub record JudgesCommand (text s : List ℕ) (from end top : ℕ) (seen seen′ : List ℕ) (st st′ : State) : Type 0 where
+  pub by : (y : Listed (LabelAt s) s from end top) (before : List Label) → Marks seen (labelsOf text (y .scope) before)
+      → Marked text (y .scope) (before ++ y .all) (doubled text (y .scope) before (y .all)) seen′ st st′
 
 -- of all labels, after those before
 unfoldable pub faultsAmong : List ℕ → Scope → (before : List Label) → List (List Label) → List Fault

@@ -17,11 +17,11 @@ ghost use mathlib.Core.Path.{_≡_};
 ghost use mathlib.Core.Bool.{Bool, true, false};
 ghost use mathlib.Core.List.{List, [], _∷_, _++_};
 ghost use Prim.Native.Nat.{ℕ, _+_, _*_, _-_, _≤_, _<_, _^_};
-ghost use lib.ListN.{length, getD};
+ghost use lib.ListN.{length, getD, replicate};
 ghost use Rattle.code.specs.Generate as G;
 ghost use Rattle.compiler.specs.Walked.{Emits};
 ghost use Rattle.compiler.specs.Switching.{ReadyLabels, JudgesLabels, WritesTable, ReadyMisplaced, Misplaces, JudgesBy};
-ghost use Rattle.compiler.specs.Labels.{NextItem, Spans, MisplacesLabel, Matches, HasLabel, HasLabelled, CountsLabel, CountsCases, CountsAll, FindsDefault, WritesPair, WritesPairs, WritesAll, Seen, JudgesLabel, JudgesCommand};
+ghost use Rattle.compiler.specs.Labels.{NextItem, Spans, MisplacesLabel, CountsLabel, CountsCases, CountsAll, HasDefault, FindsDefault, WritesPair, WritesPairs, WritesAll, Notes, JudgesLabel, JudgesCommand};
 
 // The constant of BY between `from` and `end`; 1 where there is none.
 pub(crate) fn by_constant(source: &[u8], s: &[u32], from: usize, end: usize, top: usize) -> Verdict
@@ -122,73 +122,6 @@ pub(crate) fn misplaced(
     r
 }
 
-// Whether a label is a good CASE with that number, or DEFAULT.
-fn matches(source: &[u8], s: &[u32], end: usize, top: usize, default: bool, v: usize) -> bool
-    requires { ⌜ end < 2 ^ 32 ⌝ }
-    ensures { λ r. ⌜ Matches (now (source .entry)) (now (s .entry)) end top default v r ⌝ }
-{
-    let n = node_at(s, end);
-    if n.kind != CASE {
-        return default;
-    }
-    if default {
-        return false;
-    }
-    let j = judge(source, s, n.inner, top);
-    if j.number != 0 {
-        return false;
-    }
-    v == j.word
-}
-
-// Whether such a label is among labels, and among those of commands.
-fn has_label(
-    source: &[u8],
-    s: &[u32],
-    from: usize,
-    end: usize,
-    top: usize,
-    default: bool,
-    v: usize,
-) -> bool
-    requires { ⌜ end < 2 ^ 32 ⌝ }
-    ensures { λ r. ⌜ HasLabel (now (source .entry)) (now (s .entry)) from end top default v r ⌝ }
-{
-    let mut at = from;
-    while at < end {
-        let next = next_item(s, at, end);
-        if matches(source, s, next, top, default, v) {
-            return true;
-        }
-        at = next;
-    }
-    false
-}
-
-fn has_labelled(
-    source: &[u8],
-    s: &[u32],
-    from: usize,
-    end: usize,
-    top: usize,
-    default: bool,
-    v: usize,
-) -> bool
-    requires { ⌜ end < 2 ^ 32 ⌝ }
-    ensures { λ r. ⌜ HasLabelled (now (source .entry)) (now (s .entry)) from end top default v r ⌝ }
-{
-    let mut at = from;
-    while at < end {
-        let next = next_item(s, at, end);
-        let l = labels_of(s, next);
-        if has_label(source, s, l.from, l.to, top, default, v) {
-            return true;
-        }
-        at = next;
-    }
-    false
-}
-
 // How many labels are CASE: of one, of several, and of those before commands.
 fn one_case(s: &[u32], end: usize) -> usize
     ensures { λ r. ⌜ CountsLabel (now (s .entry)) end r ⌝ }
@@ -225,25 +158,33 @@ fn count_all(s: &[u32], from: usize, end: usize) -> usize
     n
 }
 
+// Whether DEFAULT is among labels.
+fn has_default(s: &[u32], from: usize, end: usize) -> bool
+    requires { ⌜ end < 2 ^ 32 ⌝ }
+    ensures { λ r. ⌜ HasDefault (now (s .entry)) from end r ⌝ }
+{
+    let mut at = from;
+    while at < end {
+        let next = next_item(s, at, end);
+        if one_case(s, next) == 0 {
+            return true;
+        }
+        at = next;
+    }
+    false
+}
+
 // The label of the first command with DEFAULT before it, or the end.
-fn default_of(
-    source: &[u8],
-    s: &[u32],
-    from: usize,
-    end: usize,
-    top: usize,
-    first: usize,
-    done: usize,
-) -> usize
+fn default_of(s: &[u32], from: usize, end: usize, first: usize, done: usize) -> usize
     requires { ⌜ (end < 2 ^ 32) × (first < 2 ^ 32) ⌝ }
-    ensures { λ r. ⌜ FindsDefault (now (source .entry)) (now (s .entry)) from end top first done r ⌝ }
+    ensures { λ r. ⌜ FindsDefault (now (s .entry)) from end first done r ⌝ }
 {
     let mut at = from;
     let mut k = first;
     while at < end {
         let next = next_item(s, at, end);
         let l = labels_of(s, next);
-        if has_label(source, s, l.from, l.to, top, true, 0) {
+        if has_default(s, l.from, l.to) {
             return k;
         }
         at = next;
@@ -359,83 +300,96 @@ pub(crate) fn table(
     let a = put(text, st, 7, false, Base::Plain, 23);
     let n = count_all(s, from, end);
     let b = put_word(text, a, n);
-    let to = default_of(source, s, from, end, top, first, done);
+    let to = default_of(s, from, end, first, done);
     let c = put_address(text, b, to);
     all_pairs(source, s, from, end, top, text, c, first)
 }
 
-// Whether such a label is before the commands from `from` to `at`, or, of the next one, from `start` to `here`.
-fn seen(
-    source: &[u8],
-    s: &[u32],
-    from: usize,
-    at: usize,
-    start: usize,
-    here: usize,
-    top: usize,
-    default: bool,
-    v: usize,
-) -> bool
-    requires { ⌜ (at < 2 ^ 32) × (here < 2 ^ 32) ⌝ }
-    ensures { λ r. ⌜ Seen (now (source .entry)) (now (s .entry)) from at start here top default v r ⌝ }
+// Flag v is 1 where a good CASE v was met in the list, flag 65536 where DEFAULT was: none yet. There are eight in a byte, since their
+// room stands in the frames of the walk, once for each level of commands.
+fn no_marks() -> [u8; 8193]
+    ensures { λ r. ⌜ r ≡ replicate 8193 0 ⌝ }
 {
-    if has_labelled(source, s, from, at, top, default, v) {
-        return true;
-    }
-    has_label(source, s, start, here, top, default, v)
+    [0u8; 8193]
 }
 
-// A label's constant judged, and 12 where the label is among those before it.
+// 2 to the power k.
+fn power(k: usize) -> usize
+    requires { ⌜ k < 8 ⌝ }
+    ensures { λ r. ⌜ (r ≡ 2 ^ k) × (1 ≤ r) × (r ≤ 128) ⌝ }
+{
+    match k {
+        0 => 1,
+        1 => 2,
+        2 => 4,
+        3 => 8,
+        4 => 16,
+        5 => 32,
+        6 => 64,
+        _ => 128,
+    }
+}
+
+// A flag is set, or it is already: 12.
+fn note(seen: &mut [u8], i: usize, place: usize, st: State) -> State
+    requires { ⌜ place < 2 ^ 32 ⌝ }
+    ensures { λ r. ⌜ Notes i place (now (seen .entry)) (now (seen .exit)) st r ⌝ }
+{
+    let at = i / 8;
+    if at < seen.len() {
+        let x = seen[at] as usize;
+        let p = power(i % 8);
+        if x / p % 2 == 0 {
+            seen[at] = (x + p) as u8;
+            return st;
+        }
+        return wrong(st, place, 12);
+    }
+    st
+}
+
+// A label's constant judged, and 12 where the label was met before.
 fn doubled_label(
     source: &[u8],
     s: &[u32],
-    from: usize,
-    at: usize,
-    start: usize,
-    here: usize,
     end: usize,
     top: usize,
+    seen: &mut [u8],
     st: State,
 ) -> State
-    requires { ⌜ (at < 2 ^ 32) × (here < 2 ^ 32) × (end < 2 ^ 32) ⌝ }
-    ensures { λ r. ⌜ JudgesLabel (now (source .entry)) (now (s .entry)) from at start here end top st r ⌝ }
+    requires { ⌜ end < 2 ^ 32 ⌝ }
+    ensures { λ r. ⌜ JudgesLabel (now (source .entry)) (now (s .entry)) end top (now (seen .entry)) (now (seen .exit)) st r ⌝ }
 {
     let n = node_at(s, end);
     if n.kind != CASE {
-        if seen(source, s, from, at, start, here, top, true, 0) {
-            return wrong(st, n.place, 12);
-        }
-        return st;
+        return note(seen, 65536, n.place, st);
     }
     let j = judge(source, s, n.inner, top);
     if j.number != 0 {
         return blame(st, j);
     }
-    if seen(source, s, from, at, start, here, top, false, j.word) {
-        return wrong(st, n.place, 12);
-    }
-    st
+    note(seen, j.word, n.place, st)
 }
 
+// The labels before a command.
 fn doubled_in(
     source: &[u8],
     s: &[u32],
     from: usize,
-    at: usize,
-    start: usize,
     end: usize,
     top: usize,
+    seen: &mut [u8],
     st: State,
 ) -> State
-    requires { ⌜ (at < 2 ^ 32) × (end < 2 ^ 32) ⌝ }
-    ensures { λ r. ⌜ JudgesCommand (now (source .entry)) (now (s .entry)) from at start end top st r ⌝ }
+    requires { ⌜ end < 2 ^ 32 ⌝ }
+    ensures { λ r. ⌜ JudgesCommand (now (source .entry)) (now (s .entry)) from end top (now (seen .entry)) (now (seen .exit)) st r ⌝ }
 {
-    let mut here = start;
+    let mut at = from;
     let mut r = st;
-    while here < end {
-        let next = next_item(s, here, end);
-        r = doubled_label(source, s, from, at, start, here, next, top, r);
-        here = next;
+    while at < end {
+        let next = next_item(s, at, end);
+        r = doubled_label(source, s, next, top, seen, r);
+        at = next;
     }
     r
 }
@@ -452,12 +406,13 @@ pub(crate) fn doubled(
     requires { ⌜ end < 2 ^ 32 ⌝ }
     ensures { λ r. ⌜ JudgesLabels (now (source .entry)) (now (s .entry)) from end top st r ⌝ }
 {
+    let mut seen = no_marks();
     let mut at = from;
     let mut r = st;
     while at < end {
         let next = next_item(s, at, end);
         let l = labels_of(s, next);
-        r = doubled_in(source, s, from, at, l.from, l.to, top, r);
+        r = doubled_in(source, s, l.from, l.to, top, &mut seen, r);
         at = next;
     }
     r

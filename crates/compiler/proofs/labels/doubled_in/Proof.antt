@@ -1,36 +1,42 @@
 use Prim.Native.Nat.{_-_}
 use native.Mathlib.Omega.{arith}
 use borrow.Author.Needs.{needs}
+use mathlib.Core.Path.{_≡_, refl, _∙_}
 use mathlib.Core.List.{List}
+use lib.ListN.{length}
 use Rattle.language.specs.Tree.{Label}
-use Rattle.compiler.specs.Labels.{CommandAt, LabelAt, Listed, Row}
-use Rattle.compiler.proofs.Switching.{OwnPart, own-begin, own-next, own-end}
+use Rattle.language.specs.Resolve.{labelsOf}
+use Rattle.compiler.specs.Labels.{LabelAt, Listed, Marks}
+use Rattle.compiler.proofs.Doubling.{OwnPart, own-begin, own-next, own-end}
 use Rattle.compiler.proofs.labels.doubled_in.Statement.{statement}
 use Rattle.compiler.proofs.labels.doubled_in.Tie as tie
 
 abbrev Inv-loop : tie.InvT-loop
-Inv-loop source s from at start end top here₀ r₀ here r = (y : Listed (CommandAt s) s from at top) (ls : List Label) → Row (LabelAt s) s end start ls → OwnPart source start end r₀ y ls here r
+Inv-loop source s from end top seen₀ at₀ r₀ seen at r = (length seen ≡ length seen₀) × ((y : Listed (LabelAt s) s from end top) (first : List Label) → Marks seen₀ (labelsOf source (y .scope) first) → OwnPart source r₀ y first seen at r)
 
 abbrev μ-loop : tie.MeasureT-loop
-μ-loop source s from at start end top here₀ r₀ here r = end - here
+μ-loop source s from end top seen₀ at₀ r₀ seen at r = end - at
 
 loop-holds : tie.Need-loop-holds Inv-loop μ-loop
-loop-holds c = λ y ls row. own-begin (c .before .before .args .source .now) (c .before .before .args .start) (c .before .before .args .end) (c .before .before .args .st) y ls row
+loop-holds c = (refl, λ y first m. own-begin (c .before .before .before .args .source .now) (c .before .before .before .args .st) y first m)
 
 next-item-requires : tie.Need-next-item-requires Inv-loop μ-loop
 next-item-requires c κs = search needs
 
 doubled-label-requires : tie.Need-doubled-label-requires Inv-loop μ-loop
-doubled-label-requires c κs = (c .before .before .before .before .before .pre .0, omega (arith, c .before .loop-test .taken), omega (arith, c .next-item .ensures .within))
+doubled-label-requires c κs = omega (arith, c .before .next-item .ensures .within)
 
 loop-less : tie.Need-loop-less Inv-loop μ-loop
-loop-less c = omega (arith, c .before .before .loop-test .taken, c .before .next-item .ensures .further)
+loop-less c = omega (arith, c .before .before .before .before .before .loop-test .taken, c .before .before .before .before .next-item .ensures .further)
 
 loop-again : tie.Need-loop-again Inv-loop μ-loop
-loop-again c = λ y ls row. own-next (c .before .before .before .before .before .before .args .source .now) (c .before .before .before .before .before .before .args .start) (c .before .before .before .before .before .before .args .end) (c .before .before .before .before .before .before .args .st) (c .before .before .loop-test .taken) (c .before .next-item .ensures) (c .doubled-label .ensures) y ls (c .before .before .before .loop .inv y ls row)
+loop-again c = (c .before .before .doubled-label .kept .1 .1 .1 .1 .0 ∙ c .before .before .before .before .before .before .loop .inv .0, λ y first m. own-next (c .before .before .before .before .before .before .before .before .before .before .args .source .now) (c .before .before .before .before .before .before .before .before .before .before .args .st) (c .before .before .before .before .before .loop-test .taken) (c .before .before .before .before .next-item .ensures) (c .before .before .doubled-label .ensures) y first (c .before .before .before .before .before .before .loop .inv .1 y first m))
+
+same-length : tie.Need-same-length Inv-loop μ-loop
+same-length c = search needs
 
 returns : tie.Need-returns Inv-loop μ-loop
-returns c = own-end (c .before .before .before .before .args .source .now) (c .before .before .before .before .args .start) (c .before .before .before .before .args .end) (c .before .before .before .before .args .st) (c .loop-test .left) (c .before .loop .inv)
+returns c = own-end (c .before .before .before .before .before .args .source .now) (c .before .before .before .before .before .args .st) (c .loop-test .left) (c .before .loop .inv .1)
 
 pub doubled-in-spec : {M : Type 1} → statement M
 doubled-in-spec =
@@ -43,4 +49,5 @@ doubled-in-spec =
     doubled-label-requires
     loop-less
     loop-again
+    same-length
     returns)
