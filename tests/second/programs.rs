@@ -1453,14 +1453,22 @@ const CHAINS: [[&str; 3]; 17] = [
 ];
 
 /// A command's beginning, what is opened again and again, the innermost part, and what closes.
-const NESTS: [[&str; 4]; 7] = [
+const NESTS: [[&str; 4]; 15] = [
     ["", "IF A DO ", "A:=1", ""],
+    ["", "UNLESS A DO ", "A:=1", ""],
+    ["", "WHILE A DO ", "A:=0", ""],
+    ["", "TEST A THEN A:=1 OR ", "A:=1", ""],
     ["", "FOR I=1 TO 1 DO ", "A:=1", ""],
     ["", "$(", "A:=1", "$)"],
+    ["", "$(LET C=A;", "A:=1", "$)"],
+    ["", "$(", "A:=1", "$)REPEATUNTIL A"],
     ["", "SWITCHON A INTO $(DEFAULT:", "A:=1", "$)"],
+    ["", "SWITCHON A INTO $(CASE 1:CASE 2:", "A:=1", "$)"],
     ["A:=", "VALOF RESULTIS ", "1", ""],
     ["A:=", "(1+", "1", ")"],
     ["A:=", "F(", "1", ")"],
+    ["A:=", "V!(", "1", ")"],
+    ["A:=", "-", "1", ""],
 ];
 
 /// Sources of one form, as often as it goes into so many bytes, in a small frame and in one whose words are far.
@@ -1475,8 +1483,11 @@ pub fn steepest(bytes: usize, each: &mut dyn FnMut(&[u8]) -> Result<(), String>)
             each(&chained(&format!("{head}{begin}"), link, &format!("{tail}$)"), bytes))?;
         }
         for [begin, opening, innermost, closing] in NESTS {
-            let (opening, closing) = (opening.repeat(30), closing.repeat(30));
-            each(&chained(&head, &format!("{begin}{opening}{innermost}{closing};"), "A:=1$)", bytes))?;
+            // 64 levels are the most: of some forms 60 are refused by 7, at the same place.
+            for levels in [30, 60] {
+                let (opening, closing) = (opening.repeat(levels), closing.repeat(levels));
+                each(&chained(&head, &format!("{begin}{opening}{innermost}{closing};"), "A:=1$)", bytes))?;
+            }
         }
     }
     each(&chained(globals, "LET F%(A)=A ", "LET S() BE F(1)", bytes))?;
