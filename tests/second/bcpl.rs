@@ -8,6 +8,7 @@
 //! exit code is 0 only for a finished run that the source run agrees with.
 
 mod assembler;
+mod command;
 // The command needs the compiler's text only, no trees written out and no run carried on.
 #[allow(dead_code)]
 mod compiler;
@@ -32,28 +33,13 @@ use std::process::ExitCode;
 const MEMORY_WORDS: usize = 32_768;
 const LABEL_ROOM: usize = 32_767;
 const OUTPUT_ROOM: usize = 1 << 24;
-const BUDGET: u64 = 1_000_000_000;
 const FINISHED: u64 = 30;
 const USAGE: &str = "usage: bcpl FILE [BUDGET] < input";
 
 fn main() -> ExitCode {
-    let arguments: Vec<String> = std::env::args().skip(1).collect();
+    let arguments = command::arguments();
     let arguments: Vec<&str> = arguments.iter().map(String::as_str).collect();
-    let done = match arguments[..] {
-        [file] => deep::deep(|| run_file(file, BUDGET)),
-        [file, budget] => match budget.parse() {
-            Ok(budget) => deep::deep(|| run_file(file, budget)),
-            Err(_) => Err(USAGE.to_string()),
-        },
-        _ => Err(USAGE.to_string()),
-    };
-    match done {
-        Ok(code) => code,
-        Err(message) => {
-            eprintln!("{message}");
-            ExitCode::from(2)
-        }
-    }
+    command::ended(command::run_by(&arguments, |file, budget| deep::deep(|| run_file(file, budget))), USAGE)
 }
 
 fn run_file(file: &str, budget: u64) -> Result<ExitCode, String> {

@@ -3,6 +3,7 @@
 //!
 //!     compile_time
 
+mod chained;
 #[allow(dead_code)]
 mod compiler;
 mod deep;
@@ -63,15 +64,7 @@ fn main() {
 }
 
 fn chained(begin: &str, link: &str, tail: &str, bytes: usize) -> Vec<u8> {
-    let mut text = format!("{HEAD}{begin}");
-    for number in 1.. {
-        let link = link.replace('%', &number.to_string());
-        if text.len() + link.len() + tail.len() > bytes {
-            break;
-        }
-        text += &link;
-    }
-    (text + tail).into_bytes()
+    chained::chained(&format!("{HEAD}{begin}"), link, tail, bytes)
 }
 
 fn tell(library: Compile, name: &str, source: &dyn Fn(usize) -> Vec<u8>) {

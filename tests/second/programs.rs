@@ -4,6 +4,7 @@
 //! strings are indexed, and loops and recursion have a bound. Two sweeps leave nothing to chance: one program damaged
 //! everywhere, and sources of one form over and over.
 
+use crate::chained::chained;
 use crate::random::Random;
 use crate::sources::{layout, quoted, render, token, tokens, Token};
 use crate::symbols::kind::*;
@@ -1493,16 +1494,4 @@ pub fn steepest(bytes: usize, each: &mut dyn FnMut(&[u8]) -> Result<(), String>)
     each(&chained(globals, "LET F%(A)=A ", "LET S() BE F(1)", bytes))?;
     each(&chained("GLOBAL $( S:1", ";G%:5", "$) LET S()=S", bytes))?;
     each(&chained("MANIFEST $( A=1", ";M%=A", "$) GLOBAL $( S:1 $) LET S()=A", bytes))
-}
-
-fn chained(head: &str, link: &str, tail: &str, bytes: usize) -> Vec<u8> {
-    let mut text = head.to_string();
-    for number in 1.. {
-        let link = link.replace('%', &number.to_string());
-        if text.len() + link.len() + tail.len() > bytes {
-            break;
-        }
-        text += &link;
-    }
-    (text + tail).into_bytes()
 }

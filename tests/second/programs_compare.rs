@@ -7,6 +7,7 @@
 //! It exits 1 at the first difference, and also when some refusal or undefined act came up too rarely to have been tested.
 
 mod assembler;
+mod chained;
 mod compiler;
 mod deep;
 mod demand;

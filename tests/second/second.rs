@@ -10,6 +10,7 @@
 // The command needs no label table.
 #[allow(dead_code)]
 mod assembler;
+mod command;
 mod machine;
 
 use std::io::{Read, Write};
@@ -18,28 +19,16 @@ use std::process::ExitCode;
 const MEMORY_WORDS: usize = 32_768;
 const LABEL_ROOM: usize = 32_767;
 const OUTPUT_ROOM: usize = 1 << 24;
-const BUDGET: u64 = 1_000_000_000;
 const USAGE: &str = "usage: second FILE [BUDGET] < input, or second --image FILE OUT";
 
 fn main() -> ExitCode {
-    let arguments: Vec<String> = std::env::args().skip(1).collect();
+    let arguments = command::arguments();
     let arguments: Vec<&str> = arguments.iter().map(String::as_str).collect();
     let done = match arguments[..] {
-        ["--image", file, out] => write_image(file, out),
-        [file] => run_file(file, BUDGET),
-        [file, budget] => match budget.parse() {
-            Ok(budget) => run_file(file, budget),
-            Err(_) => Err(USAGE.to_string()),
-        },
-        _ => Err(USAGE.to_string()),
+        ["--image", file, out] => Some(write_image(file, out)),
+        _ => command::run_by(&arguments, run_file),
     };
-    match done {
-        Ok(code) => code,
-        Err(message) => {
-            eprintln!("{message}");
-            ExitCode::from(2)
-        }
-    }
+    command::ended(done, USAGE)
 }
 
 /// The image of a file's text and its first stack word, or None once the refusal is printed.
