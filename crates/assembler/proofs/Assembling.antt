@@ -1,11 +1,9 @@
 -- Both passes together: each way through `assemble` gives what the definition says.
-use Prim.Native.Nat.{ℕ, _+_, _-_, _*_, _/_, _%_, _<_, _≤_}
+use Prim.Native.Nat.{ℕ, _-_, _<_, _≤_}
 use mathlib.Core.Path.{_≡_, refl, sym, ap, _∙_}
 use mathlib.Core.List.{List, [], _∷_, _++_}
 use native.Mathlib.Omega.{arith}
-use native.Mathlib.Nat.{sub-zero}
 use lib.ListN.{length, replicate, take, length-replicate}
-use lib.Seq.{length-take-le}
 use borrow.Author.Tests.{le-leb, lt-leb}
 use Rattle.items.specs.Item.{Placed}
 use Rattle.items.specs.Scan.{Ending, whole, unreadable, Scan, ends, scan}
@@ -13,15 +11,15 @@ use Rattle.assembler.specs.declared.Label.{Label}
 use Rattle.assembler.specs.Layout.{vacant, Laid, laid, refused, lay, unknowns}
 use Rattle.assembler.specs.Assemble.{start, image, Assembly, refuse, accept, onLaid, assembled}
 use Rattle.words.specs.Globals.{noGlobals}
-use Rattle.assembler.specs.Passes.{records, Table, afterEnding, laidBy, Lays, FitsAll, asWritten, WritesAll, Ready, Gives, AssemblesKeys}
+use Rattle.assembler.specs.Passes.{records, listed, Table, afterEnding, laidBy, Lays, FitsAll, asWritten, WritesAll, Ready, Gives, AssemblesKeys}
 use Rattle.assembler.specs.declared.Assembled.{Assembled}
 use Rattle.assembler.specs.declared.Assembled.the-variants.{Accepted}
 use Rattle.assembler.specs.declared.Placing.{Placing}
 use Rattle.assembler.specs.declared.Placing.the-variants as P
 use Rattle.assembler.specs.declared.Written.{Written}
 use Rattle.assembler.specs.declared.Written.the-variants as W
-use Rattle.assembler.proofs.Lookup.{length-records}
-use Rattle.assembler.proofs.Noting.{records-append}
+use Rattle.assembler.proofs.Indexing.{writes-same}
+use Rattle.assembler.proofs.Noting.{count-records, records-append}
 use Rattle.assembler.proofs.Records.{vacant-records}
 use Rattle.assembler.proofs.Image.{Ends, laid-ends, image-is}
 
@@ -53,7 +51,7 @@ module _ (text : List ℕ) (memory room number place : ℕ) where
 table-is : (count : ℕ) (table : List ℕ) → Table count table
     → records table ≡ records (take count table) ++ replicate (length table - length (records (take count table))) vacant
 table-is count table t =
-    let n : length (records (take count table)) ≡ count = length-records (take count table) ∙ length-take-le count table (t .fits) in
+    let n : length (records (take count table)) ≡ count = count-records count table t in
     ap records (t .zeros) ∙ records-append (take count table) (replicate (length table - count) 0)
     ∙ ap (λ (l : List Label). records (take count table) ++ l) (vacant-records (length table - count))
     ∙ rw n refl
@@ -64,7 +62,11 @@ pub length-fixed : (n : ℕ) → 416 ≤ n → length (start ++ noGlobals ++ rep
 unfolding noGlobals
 length-fixed n h = let z : length (replicate {A = ℕ} (n - 416) 0) ≡ n - 416 = length-replicate (n - 416) 0 in omega arith
 
-module _ (text m₀ table : List ℕ) (s : Scan) {layout : Placing} {table₁ : List ℕ} (l : Lays (length m₀) s table layout table₁) where
+module _ (text m₀ table : List ℕ) (s : Scan) {layout : Placing} {table₁ index : List ℕ} (l : Lays (length m₀) s table layout table₁ index) where
+  -- the labels that the pass found
+  abbrev labels : List Label
+  labels = records (take (l .count) table₁)
+
   -- what is to be given
   abbrev wanted : Assembly
   wanted = onLaid text (length m₀) (length table) (lay (length m₀) (length table) 416 [] (s .items)) s
@@ -77,11 +79,8 @@ module _ (text m₀ table : List ℕ) (s : Scan) {layout : Placing} {table₁ : 
       let e : refuse text (length m₀) (length table) number place ≡ wanted = refused-was text (length m₀) (length table) number place (lay (length m₀) (length table) 416 [] (s .items)) (s .ending) (s .items) h in
       rw (← e, ← l .same) g
 
-  module _ {count end : ℕ} (q : layout ≡ P.Placed count end) (b : 416 ≤ length m₀) where
-    pub placed-table : Table count table₁
-    placed-table = l .tabled count end q .0
-
-    laid-is : (s .ending ≡ whole) × (lay (length m₀) (length table) 416 [] (s .items) ≡ laid (records (take count table₁)) end)
+  module _ {end : ℕ} (q : layout ≡ P.Placed end) (b : 416 ≤ length m₀) where
+    laid-is : (s .ending ≡ whole) × (lay (length m₀) (length table) 416 [] (s .items) ≡ laid labels end)
     unfolding laidBy
     laid-is = laid-was (s .ending) (lay (length m₀) (length table) 416 [] (s .items)) (rw q at (l .answers))
 
@@ -95,9 +94,9 @@ module _ (text m₀ table : List ℕ) (s : Scan) {layout : Placing} {table₁ : 
       pub placed-fits : (416 ≤ length m₁) × FitsAll (length m₁) 416 (s .items)
       placed-fits = rw length-start (b, placed-ends .fits)
 
-      module _ {written : Written} {m₂ : List ℕ} (w′ : WritesAll (records (take (count - 0) table₁)) s m₁ written m₂) where
-        w : WritesAll (records (take count table₁)) s m₁ written m₂
-        w = rw sub-zero at w′
+      module _ {written : Written} {m₂ : List ℕ} (w′ : WritesAll (listed index) s m₁ written m₂) where
+        w : WritesAll labels s m₁ written m₂
+        w = writes-same (l .indexed) w′
 
         known-all : (us : List ℕ) → W.Whole ≡ asWritten us → us ≡ []
         unfolding asWritten
@@ -107,13 +106,13 @@ module _ (text m₀ table : List ℕ) (s : Scan) {layout : Placing} {table₁ : 
         pub gives-image : written ≡ W.Whole → Gives wanted (Accepted end) m₂ table₁
         unfolding accept
         gives-image h =
-            let u : unknowns (records (take count table₁)) (s .items) ≡ [] = known-all _ (sym h ∙ w .answers) in
-            let i : m₂ ≡ image (length m₀) (records (take count table₁)) (s .items) end = w .writes h ∙ rw f (image-is (length m₀) (records (take count table₁)) (s .items) end b placed-ends) in
+            let u : unknowns labels (s .items) ≡ [] = known-all _ (sym h ∙ w .answers) in
+            let i : m₂ ≡ image (length m₀) labels (s .items) end = w .writes h ∙ rw f (image-is (length m₀) labels (s .items) end b placed-ends) in
             rw (laid-is .1, laid-is .0, u)
             (record {
               answers = refl;
               fills = i;
-              tables = rw (← l .same) (table-is count table₁ placed-table);
+              tables = rw (← l .same) (table-is (l .count) table₁ (l .tabled));
             })
 
         unknown-first : (us : List ℕ) {place : ℕ} → W.Unknown place ≡ asWritten us → (v : List ℕ) × (us ≡ place ∷ v)
@@ -124,7 +123,7 @@ module _ (text m₀ table : List ℕ) (s : Scan) {layout : Placing} {table₁ : 
         pub gives-unknown : {place : ℕ} {answer : Assembled} {m′ t′ : List ℕ} → written ≡ W.Unknown place
             → Gives (refuse text (length m₂) (length table₁) 22 place) answer m′ t′ → Gives wanted answer m′ t′
         gives-unknown {place} h g =
-            let u : (v : List ℕ) × (unknowns (records (take count table₁)) (s .items) ≡ place ∷ v) = unknown-first _ (sym h ∙ w .answers) in
+            let u : (v : List ℕ) × (unknowns labels (s .items) ≡ place ∷ v) = unknown-first _ (sym h ∙ w .answers) in
             let n : length m₂ ≡ length m₀ = w .same ∙ length-start in
             rw (laid-is .1, laid-is .0, u .1) (rw (n, l .same) at g)
 

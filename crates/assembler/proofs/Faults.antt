@@ -53,9 +53,11 @@ module _ (memory room at : ℕ) (labels : List Label) where
       go true e = let z : _≡_ {A = ℕ} 24 0 = rw e at h in absurd (omega arith)
       go false e = ltb-false _ _ e
 
-  pub no-fault-label : (n : ℕ) → fault memory room at labels (I.label n) ≡ 0 → (n ≤ 32767) × (length labels < room)
+  pub no-fault-label : (n : ℕ) → fault memory room at labels (I.label n) ≡ 0 → (n ≤ 32767) × (length labels < room) × (defined labels n ≡ false)
   unfolding misplaced inRange
-  no-fault-label n h = (label-range n (no-fault-ranged (I.label n) h) .1, label-placed n (no-fault-placed (I.label n) h) .1)
+  no-fault-label n h =
+      let p : (defined labels n ≡ false) × (length labels < room) = label-placed n (no-fault-placed (I.label n) h) in
+      (label-range n (no-fault-ranged (I.label n) h) .1, p .1, p .0)
 
   pub no-fault-fits : (i : I.Item) → fault memory room at labels i ≡ 0 → at ≤ memory → at + size i ≤ memory
   unfolding misplaced size

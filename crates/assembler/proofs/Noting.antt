@@ -1,6 +1,7 @@
 -- A label's record: what a new key adds to the table, and which items may be noted.
 use Prim.Native.Nat.{ℕ, suc, _+_, _-_, _*_, _/_, _%_, _<_, _≤_}
 use mathlib.Core.Path.{_≡_, refl, sym, ap, _∙_}
+use mathlib.Core.Bool.{false}
 use mathlib.Core.List.{List, [], _∷_, _++_, append-assoc}
 use native.Mathlib.Omega.{arith}
 use native.Mathlib.Nat.{sub-zero}
@@ -12,10 +13,14 @@ use Rattle.items.specs.Item as I
 use Rattle.items.specs.declared.Item.{Item}
 use Rattle.items.specs.declared.Item.the-variants as C
 use Rattle.assembler.specs.declared.Label.{Label}
-use Rattle.assembler.specs.Layout.{noted, fault}
-use Rattle.assembler.specs.Passes.{itemOf, blank, recordOf, records, Table, Notable, Notes, Zeros}
+use Rattle.assembler.specs.Layout.{defined, noted, fault}
+use Rattle.assembler.specs.Passes.{itemOf, blank, recordOf, records, Indexes, Table, Notable, Notes, Zeros}
 use Rattle.assembler.proofs.Faults.{no-fault-label}
 use Rattle.assembler.proofs.Lookup.{length-records}
+use Rattle.assembler.proofs.Indexing.{indexes-more}
+
+pub count-records : (count : ℕ) (table : List ℕ) → Table count table → length (records (take count table)) ≡ count
+count-records count table t = length-records (take count table) ∙ length-take-le count table (t .fits)
 
 pub no-labels : (table : List ℕ) → Zeros table → Table 0 table
 no-labels table z = record { fits = omega arith; zeros = rw sub-zero z }
@@ -50,31 +55,36 @@ one-record n at h =
     let q : (n * 65536 + at) % 65536 ≡ at = digits-mod n h in
     rw (p, q)
 
-pub note-label : (at : ℕ) (item : Item) (count : ℕ) (table : List ℕ) {n : ℕ} → Notable at item count table → item ≡ C.Label n
-    → Notes at (itemOf blank item) count table (count + 1) (set table count (n * 65536 + at))
+pub note-label : (at : ℕ) (item : Item) (count : ℕ) (table index : List ℕ) {n : ℕ} → Notable at item count table index → item ≡ C.Label n
+    → Notes at (itemOf blank item) count table (count + 1) (set table count (n * 65536 + at)) (set index n at)
 unfolding itemOf noted
-note-label at item count table {n} r e =
-    let f : (n < 65536) × (count < length table) = r .free n e in
+note-label at item count table index {n} r e =
+    let f : (n < 32768) × (count < length table) × (defined (records (take count table)) n ≡ false) = r .free n e in
+    let k : records (take (count + 1) (set table count (n * 65536 + at))) ≡ records (take count table) ++ (record { number = n; address = at } ∷ []) =
+    rw (first-keys table count (n * 65536 + at) (r .tabled) (f .1), records-append, one-record n at (r .low .1)) in
     record {
       same = length-set table count (n * 65536 + at);
       tabled = one-key table count (n * 65536 + at) (r .tabled) (f .1);
-      notes = rw (e, first-keys table count (n * 65536 + at) (r .tabled) (f .1), records-append, one-record n at (r .low));
+      notes = rw e k;
+      indexed = rw k (indexes-more index (records (take count table)) n at (r .indexed) (f .0) (r .low .0) (f .2));
     }
 
--- any other item leaves the table as it is
-pub note-other : (at : ℕ) (i : I.Item) (count : ℕ) (table : List ℕ) → Table count table
-    → noted at (records (take count table)) i ≡ records (take count table) → Notes at i count table count table
-note-other at i count table t e = record { same = refl; tabled = t; notes = sym e }
+-- any other item leaves the table and the index as they are
+pub note-other : (at : ℕ) (item : Item) (i : I.Item) (count : ℕ) (table index : List ℕ) → Notable at item count table index
+    → noted at (records (take count table)) i ≡ records (take count table) → Notes at i count table count table index
+note-other at item i count table index r e = record { same = refl; tabled = r .tabled; notes = sym e; indexed = r .indexed }
 
 -- ---- an item without fault may be noted
 
-pub may-note : (memory at : ℕ) (item : Item) (count : ℕ) (table : List ℕ) → Table count table → at < 65536
-    → fault memory (length table) at (records (take count table)) (itemOf blank item) ≡ 0 → Notable at item count table
+pub may-note : (memory at : ℕ) (item : Item) (count : ℕ) (table index : List ℕ)
+    → Table count table → Indexes index (records (take count table)) → 0 < at → at < 65536
+    → fault memory (length table) at (records (take count table)) (itemOf blank item) ≡ 0 → Notable at item count table index
 unfolding itemOf
-may-note memory at item count table t low h = record { tabled = t; low = low; free = free }
+may-note memory at item count table index t i high low h = record { tabled = t; indexed = i; low = (high, low); free = free }
   where
-    free : (n : ℕ) → item ≡ C.Label n → (n < 65536) × (count < length table)
+    free : (n : ℕ) → item ≡ C.Label n → (n < 32768) × (count < length table) × (defined (records (take count table)) n ≡ false)
     free n e =
-        let z : (n ≤ 32767) × (length (records (take count table)) < length table) = no-fault-label memory (length table) at (records (take count table)) n (rw e at h) in
-        let l : length (records (take count table)) ≡ count = length-records (take count table) ∙ length-take-le count table (t .fits) in
-        (omega arith, omega arith)
+        let z : (n ≤ 32767) × (length (records (take count table)) < length table) × (defined (records (take count table)) n ≡ false) =
+        no-fault-label memory (length table) at (records (take count table)) n (rw e at h) in
+        let l : length (records (take count table)) ≡ count = count-records count table t in
+        (omega arith, omega arith, z .2)

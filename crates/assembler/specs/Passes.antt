@@ -1,7 +1,7 @@
--- What the parts of `assemble` give: the code's items as the definitions have them, a table's keys as records, and what each
--- pass answers and leaves.
+-- What the parts of `assemble` give: the code's items as the definitions have them, a table's keys and an index as records, and
+-- what each pass answers and leaves.
 use Prim.Native.Nat.{ℕ, zero, suc, _+_, _-_, _/_, _%_, _<_, _≤_}
-use mathlib.Core.Bool.{true, cond}
+use mathlib.Core.Bool.{true, false, cond}
 use mathlib.Core.Path.{_≡_}
 use mathlib.Core.List.{List, [], _∷_, _++_, map}
 use lib.ListN.{length, getD, set, replicate, take, drop}
@@ -61,6 +61,21 @@ records keys = map recordOf keys
 unfoldable pub asFound : List Label → ℕ → Found
 asFound labels n = cond (defined labels n) (At (addressOf labels n)) Missing
 
+-- the records that an index stands for, by number: it has the address of each number from `n` on, and 0 for none
+unfoldable pub listedFrom : (n : ℕ) → List ℕ → List Label
+listedFrom n [] = []
+listedFrom n (zero ∷ index) = listedFrom (suc n) index
+listedFrom n (suc a ∷ index) = record { number = n; address = suc a } ∷ listedFrom (suc n) index
+
+abbrev pub listed : List ℕ → List Label
+listed index = listedFrom 0 index
+
+-- an index has as many labels as some records, and tells the same of every number
+pub record Indexes (index : List ℕ) (labels : List Label) : Type 0 where
+  pub sized : length index ≡ 32768
+  pub counts : length (listed index) ≡ length labels
+  pub tells : (n : ℕ) → asFound (listed index) n ≡ asFound labels n
+
 -- what a record with the number looked for says
 abbrev pub toldBy : Label → Found
 toldBy label = cond (eqb (label .number) 0) Missing (At (label .address))
@@ -79,17 +94,19 @@ pub record Table (count : ℕ) (table : List ℕ) : Type 0 where
   pub fits : count ≤ length table
   pub zeros : table ≡ take count table ++ replicate (length table - count) 0
 
--- an item that is a label has a record, and a number that a key can hold
-pub record Notable (at : ℕ) (item : Item) (count : ℕ) (table : List ℕ) : Type 0 where
+-- an item that is a label has a record, and a number that a key can hold and that is no label's yet
+pub record Notable (at : ℕ) (item : Item) (count : ℕ) (table index : List ℕ) : Type 0 where
   pub tabled : Table count table
-  pub low : at < 65536
-  pub free : (n : ℕ) → item ≡ C.Label n → (n < 65536) × (count < length table)
+  pub indexed : Indexes index (records (take count table))
+  pub low : (0 < at) × (at < 65536)
+  pub free : (n : ℕ) → item ≡ C.Label n → (n < 32768) × (count < length table) × (defined (records (take count table)) n ≡ false)
 
--- the table and its count after an item
-pub record Notes (at : ℕ) (item : I.Item) (count : ℕ) (table : List ℕ) (count′ : ℕ) (table′ : List ℕ) : Type 0 where
+-- the table, its count and the index after an item
+pub record Notes (at : ℕ) (item : I.Item) (count : ℕ) (table : List ℕ) (count′ : ℕ) (table′ index′ : List ℕ) : Type 0 where
   pub same : length table′ ≡ length table
   pub tabled : Table count′ table′
   pub notes : records (take count′ table′) ≡ noted at (records (take count table)) item
+  pub indexed : Indexes index′ (records (take count′ table′))
 
 -- a text that ends wrongly is refused where it does, after every fault of its items
 unfoldable pub afterEnding : Ending → Laid → Laid
@@ -97,15 +114,19 @@ afterEnding whole o = o
 afterEnding (unreadable place) (laid labels end) = refused 20 place
 afterEnding (unreadable place) (refused number first) = refused number first
 
--- what the pass's answer and table say
-unfoldable pub laidBy : Placing → List ℕ → Laid
-laidBy (P.Placed count end) table = laid (records (take count table)) end
-laidBy (P.Fault number place) table = refused number place
+-- what the pass's answer and the labels say
+unfoldable pub laidBy : Placing → List Label → Laid
+laidBy (P.Placed end) labels = laid labels end
+laidBy (P.Fault number place) labels = refused number place
 
-pub record Lays (memory : ℕ) (s : Scan) (table : List ℕ) (answer : Placing) (table′ : List ℕ) : Type 0 where
+-- `count` labels are in the table, and the index has the same ones
+pub record Lays (memory : ℕ) (s : Scan) (table : List ℕ) (answer : Placing) (table′ index′ : List ℕ) : Type 0 where
+  pub count : ℕ
   pub same : length table′ ≡ length table
-  pub answers : laidBy answer table′ ≡ afterEnding (s .ending) (lay memory (length table) 416 [] (s .items))
-  pub tabled : (count end : ℕ) → answer ≡ P.Placed count end → Table count table′ × (end ≤ memory)
+  pub answers : laidBy answer (records (take count table′)) ≡ afterEnding (s .ending) (lay memory (length table) 416 [] (s .items))
+  pub tabled : Table count table′
+  pub indexed : Indexes index′ (records (take count table′))
+  pub fits : (end : ℕ) → answer ≡ P.Placed end → end ≤ memory
 
 -- ---- the second pass
 

@@ -2,7 +2,8 @@
 //
 // Two passes over the items. The first finds each label's address and every fault but an unknown label; the second
 // writes the words. In the passes a label's record is one number, a key: the label's number times 65,536 and its address.
-// The lent records are filled from the keys at the end; `look_up` finds a label in them.
+// The lent records are filled from the keys at the end; `look_up` finds a label in them. The passes find a label by an index,
+// the address of every label number, so that a look-up is one read however many labels there are.
 use items::Base;
 use items::Item;
 use items::Next;
@@ -14,7 +15,7 @@ ghost use Prim.Native.Nat.{_+_, _-_, _*_, _<_, _≤_};
 ghost use mathlib.Core.Path.{_≡_};
 ghost use mathlib.Core.Bool.{true};
 ghost use mathlib.Core.List.{[], _++_};
-ghost use lib.ListN.{length, getD, replicate, take, drop};
+ghost use lib.ListN.{length, getD, replicate, drop};
 ghost use lib.Seq.{sets};
 ghost use Rattle.items.specs.Item as I;
 ghost use Rattle.items.specs.Scan.{body};
@@ -23,7 +24,7 @@ ghost use Rattle.text.specs.Packed.{pairs};
 ghost use Rattle.assembler.specs.Layout.{fault, lay};
 ghost use Rattle.assembler.specs.Assemble.{Assembles, assembled, lookedUp, refuse, onLaid, start};
 ghost use Rattle.words.specs.Globals.{noGlobals};
-ghost use Rattle.assembler.specs.Passes.{operandOf, baseOf, itemOf, blank, records, asFound, labelFault, beyond, Notable, Notes, Lays, valueOf, Writable, Writes, letters, Spelling, itemAt, Spelled, FitsAll, WritesAll, Zeros, Ready, Gives, AssemblesKeys, recordOf, tableOf, Serves, Loads, toldBy};
+ghost use Rattle.assembler.specs.Passes.{operandOf, baseOf, itemOf, blank, asFound, listed, labelFault, beyond, Notable, Notes, Lays, valueOf, Writable, Writes, letters, Spelling, itemAt, Spelled, FitsAll, WritesAll, Zeros, Ready, Gives, AssemblesKeys, recordOf, tableOf, Serves, Loads, toldBy};
 
 // A record of the label table.
 #[repr(C)]
@@ -43,9 +44,9 @@ pub enum Found {
     Missing,
 }
 
-// What the first pass gives: the number of labels and the address past the last item, or a refusal's number and place.
+// What the first pass gives: the address past the last item, or a refusal's number and place.
 enum Placing {
-    Placed(usize, usize),
+    Placed(usize),
     Fault(u16, usize),
 }
 
@@ -81,18 +82,22 @@ fn clear_labels(labels: &mut [u32])
     }
 }
 
-fn find(labels: &[u32], number: u32) -> Found
-    ensures { λ r. ⌜ r ≡ asFound (records (now (labels .entry))) number ⌝ }
+// The index of no labels: for each number the label's address, or 0, which is no label's.
+fn no_addresses() -> [u16; 32768]
+    ensures { λ r. ⌜ r ≡ replicate 32768 0 ⌝ }
 {
-    let mut i: usize = 0;
-    while i < labels.len() {
-        let key = labels[i];
-        if key / 65536 == number {
-            return Found::At((key % 65536) as u16);
-        }
-        i += 1;
+    [0u16; 32768]
+}
+
+fn find(index: &[u16; 32768], number: u32) -> Found
+    requires { ⌜ labelInRange number ≡ true ⌝ }
+    ensures { λ r. ⌜ r ≡ asFound (listed (now (index .entry))) number ⌝ }
+{
+    let address = index[number as usize];
+    if address == 0 {
+        return Found::Missing;
     }
-    Found::Missing
+    Found::At(address)
 }
 
 fn label_in_range(number: u32) -> bool
@@ -159,13 +164,13 @@ fn size(item: Item) -> usize
 }
 
 // A label twice, or one for which there is no record.
-fn label_fault(labels: &[u32], count: usize, number: u32) -> u16
-    requires { ⌜ count ≤ length (now labels) ⌝ }
-    ensures { λ r. ⌜ r ≡ labelFault (length (now (labels .entry))) (records (take count (now (labels .entry)))) number ⌝ }
+fn label_fault(room: usize, index: &[u16; 32768], count: usize, number: u32) -> u16
+    requires { ⌜ (length (listed (now index)) ≡ count) × (labelInRange number ≡ true) ⌝ }
+    ensures { λ r. ⌜ r ≡ labelFault room (listed (now (index .entry))) number ⌝ }
 {
-    match find(&labels[0..count], number) {
+    match find(index, number) {
         Found::At(_) => 21,
-        Found::Missing => if labels.len() <= count { 25 } else { 0 },
+        Found::Missing => if room <= count { 25 } else { 0 },
     }
 }
 
@@ -178,15 +183,22 @@ fn beyond(memory: usize, at: usize, words: usize) -> u16
 }
 
 // The refusal of an item that is to stand at an address, after the labels so far; 0 for none.
-fn fault(memory: usize, labels: &[u32], count: usize, at: usize, item: Item) -> u16
-    requires { ⌜ (count ≤ length (now labels)) × (at ≤ memory) ⌝ }
-    ensures { λ r. ⌜ r ≡ fault memory (length (now (labels .entry))) at (records (take count (now (labels .entry)))) (itemOf blank item) ⌝ }
+fn fault(
+    memory: usize,
+    room: usize,
+    index: &[u16; 32768],
+    count: usize,
+    at: usize,
+    item: Item,
+) -> u16
+    requires { ⌜ (length (listed (now index)) ≡ count) × (at ≤ memory) ⌝ }
+    ensures { λ r. ⌜ r ≡ fault memory room at (listed (now (index .entry))) (itemOf blank item) ⌝ }
 {
     if !in_range(item) {
         return 23;
     }
     match item {
-        Item::Label(number) => label_fault(labels, count, number),
+        Item::Label(number) => label_fault(room, index, count, number),
         Item::Instruction(_, _, _, _) => beyond(memory, at, size(item)),
         Item::Constant(_) => beyond(memory, at, size(item)),
         Item::String(_) => beyond(memory, at, size(item)),
@@ -194,13 +206,14 @@ fn fault(memory: usize, labels: &[u32], count: usize, at: usize, item: Item) -> 
     }
 }
 
-// Gives a label its record, and the number of records then.
-fn note(labels: &mut [u32], count: usize, at: usize, item: Item) -> usize
-    requires { ⌜ Notable at item count (now labels) ⌝ }
-    ensures { λ r. ⌜ Notes at (itemOf blank item) count (now (labels .entry)) r (now (labels .exit)) ⌝ }
+// Gives a label its record and its entry in the index, and the number of records then.
+fn note(labels: &mut [u32], index: &mut [u16; 32768], count: usize, at: usize, item: Item) -> usize
+    requires { ⌜ Notable at item count (now labels) (now index) ⌝ }
+    ensures { λ r. ⌜ Notes at (itemOf blank item) count (now (labels .entry)) r (now (labels .exit)) (now (index .exit)) ⌝ }
 {
     match item {
         Item::Label(number) => {
+            index[number as usize] = at as u16;
             labels[count] = number * 65536 + at as u32;
             count + 1
         }
@@ -211,11 +224,18 @@ fn note(labels: &mut [u32], count: usize, at: usize, item: Item) -> usize
     }
 }
 
-// The first pass: each label into the table, and the first refusal, undefined labels apart.
-fn lay_out(text: &[u8], from: usize, memory: usize, labels: &mut [u32]) -> Placing
-    requires { ⌜ (416 ≤ memory) × (memory ≤ 32768) × Zeros (now labels) ⌝ }
-    ensures { λ r. ⌜ Lays memory (body 0 from (drop from (now (text .entry)))) (now (labels .entry)) r (now (labels .exit)) ⌝ }
+// The first pass: each label into the table and into the index, and the first refusal, undefined labels apart.
+fn lay_out(
+    text: &[u8],
+    from: usize,
+    memory: usize,
+    labels: &mut [u32],
+    index: &mut [u16; 32768],
+) -> Placing
+    requires { ⌜ (416 ≤ memory) × (memory ≤ 32768) × Zeros (now labels) × (now index ≡ replicate 32768 0) ⌝ }
+    ensures { λ r. ⌜ Lays memory (body 0 from (drop from (now (text .entry)))) (now (labels .entry)) r (now (labels .exit)) (now (index .exit)) ⌝ }
 {
+    let room = labels.len();
     let mut place = from;
     let mut at: usize = 416;
     let mut count: usize = 0;
@@ -223,17 +243,17 @@ fn lay_out(text: &[u8], from: usize, memory: usize, labels: &mut [u32]) -> Placi
         let next = items::next_in(text, place);
         match next {
             Next::Whole => {
-                return Placing::Placed(count, at);
+                return Placing::Placed(at);
             }
             Next::Unreadable(first) => {
                 return Placing::Fault(20, first);
             }
             Next::One(first, item, past) => {
-                let number = fault(memory, labels, count, at, item);
+                let number = fault(memory, room, index, count, at, item);
                 if number != 0 {
                     return Placing::Fault(number, first);
                 }
-                count = note(labels, count, at, item);
+                count = note(labels, index, count, at, item);
                 at += size(item);
                 place = past;
             }
@@ -242,13 +262,13 @@ fn lay_out(text: &[u8], from: usize, memory: usize, labels: &mut [u32]) -> Placi
 }
 
 // An operand's word, if its label is known.
-fn value(labels: &[u32], x: Operand) -> Found
+fn value(index: &[u16; 32768], x: Operand) -> Found
     requires { ⌜ operandInRange (operandOf x) ≡ true ⌝ }
-    ensures { λ r. ⌜ r ≡ valueOf (records (now (labels .entry))) (operandOf x) ⌝ }
+    ensures { λ r. ⌜ r ≡ valueOf (listed (now (index .entry))) (operandOf x) ⌝ }
 {
     match x {
         Operand::Number(minus, size) => Found::At(signed(minus, size)),
-        Operand::Address(number) => find(labels, number),
+        Operand::Address(number) => find(index, number),
     }
 }
 
@@ -279,17 +299,17 @@ fn head(function: u16, indirect: bool, base: Base) -> u16
 fn write_instruction(
     memory: &mut [u16],
     at: usize,
-    labels: &[u32],
+    index: &[u16; 32768],
     function: u16,
     indirect: bool,
     base: Base,
     x: Operand,
 ) -> Step
     requires { ⌜ Writable (I.instruction function indirect (baseOf base) (operandOf x)) at (now memory) ⌝ }
-    ensures { λ r. ⌜ Writes (records (now (labels .entry))) (I.instruction function indirect (baseOf base) (operandOf x)) at (now (memory .entry)) r (now (memory .exit)) ⌝ }
+    ensures { λ r. ⌜ Writes (listed (now (index .entry))) (I.instruction function indirect (baseOf base) (operandOf x)) at (now (memory .entry)) r (now (memory .exit)) ⌝ }
 {
     let word = head(function, indirect, base);
-    let found = value(labels, x);
+    let found = value(index, x);
     match found {
         Found::Missing => Step::Unknown,
         Found::At(operand) => {
@@ -304,11 +324,11 @@ fn write_instruction(
     }
 }
 
-fn write_constant(memory: &mut [u16], at: usize, labels: &[u32], x: Operand) -> Step
+fn write_constant(memory: &mut [u16], at: usize, index: &[u16; 32768], x: Operand) -> Step
     requires { ⌜ Writable (I.constant (operandOf x)) at (now memory) ⌝ }
-    ensures { λ r. ⌜ Writes (records (now (labels .entry))) (I.constant (operandOf x)) at (now (memory .entry)) r (now (memory .exit)) ⌝ }
+    ensures { λ r. ⌜ Writes (listed (now (index .entry))) (I.constant (operandOf x)) at (now (memory .entry)) r (now (memory .exit)) ⌝ }
 {
-    let found = value(labels, x);
+    let found = value(index, x);
     match found {
         Found::Missing => Step::Unknown,
         Found::At(word) => {
@@ -318,11 +338,17 @@ fn write_constant(memory: &mut [u16], at: usize, labels: &[u32], x: Operand) -> 
     }
 }
 
-fn write_global(memory: &mut [u16], at: usize, labels: &[u32], global: u32, number: u32) -> Step
+fn write_global(
+    memory: &mut [u16],
+    at: usize,
+    index: &[u16; 32768],
+    global: u32,
+    number: u32,
+) -> Step
     requires { ⌜ Writable (I.global global number) at (now memory) ⌝ }
-    ensures { λ r. ⌜ Writes (records (now (labels .entry))) (I.global global number) at (now (memory .entry)) r (now (memory .exit)) ⌝ }
+    ensures { λ r. ⌜ Writes (listed (now (index .entry))) (I.global global number) at (now (memory .entry)) r (now (memory .exit)) ⌝ }
 {
-    let found = find(labels, number);
+    let found = find(index, number);
     match found {
         Found::Missing => Step::Unknown,
         Found::At(address) => {
@@ -389,38 +415,38 @@ fn wide(byte: u8) -> u16
 fn write_item(
     memory: &mut [u16],
     at: usize,
-    labels: &[u32],
+    index: &[u16; 32768],
     text: &[u8],
     place: usize,
     item: Item,
 ) -> Step
     requires { ⌜ Writable (itemAt (now text) place item) at (now memory) × Spelled (now text) place item ⌝ }
-    ensures { λ r. ⌜ Writes (records (now (labels .entry))) (itemAt (now (text .entry)) place item) at (now (memory .entry)) r (now (memory .exit)) ⌝ }
+    ensures { λ r. ⌜ Writes (listed (now (index .entry))) (itemAt (now (text .entry)) place item) at (now (memory .entry)) r (now (memory .exit)) ⌝ }
 {
     match item {
         Item::Label(_) => Step::To(at),
         Item::Instruction(function, indirect, base, x) => write_instruction(
             memory,
             at,
-            labels,
+            index,
             function,
             indirect,
             base,
             x,
         ),
-        Item::Constant(x) => write_constant(memory, at, labels, x),
+        Item::Constant(x) => write_constant(memory, at, index, x),
         Item::String(length) => {
             write_string(memory, at, text, place + 2, length as u16);
             Step::To(at + (length / 2 + 1))
         }
-        Item::Global(global, number) => write_global(memory, at, labels, global, number),
+        Item::Global(global, number) => write_global(memory, at, index, global, number),
     }
 }
 
 // The second pass: the words of every item, up to one whose label is unknown.
-fn write_items(memory: &mut [u16], labels: &[u32], text: &[u8], from: usize) -> Written
+fn write_items(memory: &mut [u16], index: &[u16; 32768], text: &[u8], from: usize) -> Written
     requires { ⌜ (416 ≤ length (now memory)) × FitsAll (length (now memory)) 416 (body 0 from (drop from (now text)) .items) ⌝ }
-    ensures { λ r. ⌜ WritesAll (records (now (labels .entry))) (body 0 from (drop from (now (text .entry)))) (now (memory .entry)) r (now (memory .exit)) ⌝ }
+    ensures { λ r. ⌜ WritesAll (listed (now (index .entry))) (body 0 from (drop from (now (text .entry)))) (now (memory .entry)) r (now (memory .exit)) ⌝ }
 {
     let mut place = from;
     let mut at: usize = 416;
@@ -434,7 +460,7 @@ fn write_items(memory: &mut [u16], labels: &[u32], text: &[u8], from: usize) -> 
                 return Written::Whole;
             }
             Next::One(first, item, past) => {
-                let step = write_item(memory, at, labels, text, first, item);
+                let step = write_item(memory, at, index, text, first, item);
                 match step {
                     Step::Unknown => {
                         return Written::Unknown(first);
@@ -487,12 +513,13 @@ fn assemble_from(text: &[u8], from: usize, memory: &mut [u16], labels: &mut [u32
     requires { ⌜ Ready (now memory) (now labels) ⌝ }
     ensures { λ r. ⌜ Gives (onLaid (now (text .entry)) (length (now (memory .entry))) (length (now (labels .entry))) (lay (length (now (memory .entry))) (length (now (labels .entry))) 416 [] (body 0 from (drop from (now (text .entry))) .items)) (body 0 from (drop from (now (text .entry))))) r (now (memory .exit)) (now (labels .exit)) ⌝ }
 {
-    let layout = lay_out(text, from, memory.len(), labels);
+    let mut index = no_addresses();
+    let layout = lay_out(text, from, memory.len(), labels, &mut index);
     match layout {
         Placing::Fault(number, place) => refuse(text, memory, labels, number, place),
-        Placing::Placed(count, end) => {
+        Placing::Placed(end) => {
             write_start(memory);
-            let written = write_items(memory, &labels[0..count], text, from);
+            let written = write_items(memory, &index, text, from);
             match written {
                 Written::Unknown(place) => refuse(text, memory, labels, 22, place),
                 Written::Whole => Assembled::Accepted(end as u16),

@@ -1,11 +1,20 @@
-use mathlib.Core.Path.{sym, _∙_}
+use mathlib.Core.Path.{_≡_, sym, _∙_}
+use mathlib.Core.Bool.{true}
 use borrow.Author.Tests.{not-true, not-false}
+use Rattle.assembler.specs.Words.{inRange}
 use Rattle.assembler.specs.Layout.{misplaced}
-use Rattle.assembler.specs.Passes.{itemOf}
+use Rattle.assembler.specs.Passes.{itemOf, blank}
 use Rattle.assembler.proofs.Faults.{fault-out, fault-in}
 use borrow.Author.Needs.{needs}
 use Rattle.assembler.proofs.fault.Statement.{statement}
 use Rattle.assembler.proofs.fault.Tie as tie
+
+label-fault-requires : tie.Need-label-fault-requires
+unfolding inRange itemOf
+label-fault-requires c κs =
+    let ranged : inRange (itemOf blank (c .before .before .before .before .before .args .item)) ≡ true =
+    sym (c .before .before .before .before .in-range .ensures) ∙ (search not-false) in
+    (search needs, rw (c .before .item .given .1) at ranged)
 
 returns : tie.Need-returns
 returns c = fault-out _ _ _ _ _ (sym (c .before .in-range .ensures) ∙ (search not-true))
@@ -50,6 +59,6 @@ returns-6 c = fault-in _ _ _ _ _ (sym (c .before .before .before .in-range .ensu
 pub fault-spec : {M : Type 1} → statement M
 fault-spec =
     tie.close
-    (tie.spec (search needs) returns (search needs) (search needs) (search needs) size-requires (search needs)
+    (tie.spec (search needs) returns (search needs) label-fault-requires (search needs) size-requires (search needs)
     (search needs) size-requires-2 (search needs) (search needs) size-requires-3 (search needs) (search needs)
     returns-2 returns-3 returns-4 returns-5 returns-6)

@@ -1,73 +1,70 @@
 -- What the layout of the items from `place` on gives, after the labels so far, is what all of them give (`Laying`).
 use Prim.Native.Nat.{_-_}
-use mathlib.Core.Path.{sym, _∙_}
 use lib.ListN.{length}
 use borrow.Author.Needs.{needs}
 use native.Mathlib.Omega.{arith}
-use Rattle.assembler.proofs.Noting.{may-note}
 use Rattle.assembler.proofs.Reading.{reads-one, reads-whole, reads-not}
-use Rattle.assembler.proofs.Laying.{Laying, laying-start, laying-whole, laying-not, laying-fault, laying-in-range, laying-size, laying-on}
+use Rattle.assembler.proofs.Laying.{Laying, laying-start, laying-whole, laying-not, laying-count}
+use Rattle.assembler.proofs.Laying.{laying-fault, laying-in-range, laying-notable, laying-size, laying-on}
 use Rattle.assembler.proofs.lay_out.Statement.{statement}
 use Rattle.assembler.proofs.lay_out.Tie as tie
 
 abbrev Inv-loop : tie.InvT-loop
-Inv-loop text from memory labels₀ place₀ at₀ count₀ labels place at count = Laying text memory from labels₀ place at count labels
+Inv-loop text from memory labels₀ index₀ room place₀ at₀ count₀ labels index place at count =
+    Laying text memory from labels₀ place at count labels index
 
 abbrev μ-loop : tie.MeasureT-loop
-μ-loop text from memory labels₀ place₀ at₀ count₀ labels place at count = length text - place
+μ-loop text from memory labels₀ index₀ room place₀ at₀ count₀ labels index place at count = length text - place
+
+fault-requires : tie.Need-fault-requires Inv-loop μ-loop
+fault-requires c κs = (laying-count _ _ _ _ _ _ _ _ _ (c .before .before .before .before .before .loop .inv), search needs)
 
 returns-3 : tie.Need-returns-3 Inv-loop μ-loop
 returns-3 c =
-    laying-fault _ _ _ _ _ _ _ _ (c .before .before .before .before .before .before .before .loop .inv)
+    laying-fault _ _ _ _ _ _ _ _ _ (c .before .before .before .before .before .before .before .loop .inv)
     (reads-one _ _ (c .before .before .before .before .before .before .next-in .ensures) (c .before .before .before .before .next2 .given .1))
     (c .before .fault .ensures) (c .if1 .taken)
 
 note-requires : tie.Need-note-requires Inv-loop μ-loop
 note-requires c κs =
-    may-note _ _ _ _ _ (c .before .before .before .before .before .before .before .before .loop .inv .tabled) (omega arith)
-    (sym (c .before .before .fault .ensures) ∙ c .before .if1 .left)
+    let x = c .before .before in
+    laying-notable _ _ _ _ _ _ _ _ _ (x .before .before .before .before .before .before .before .loop .inv)
+    (reads-one _ _ (x .before .before .before .before .before .before .next-in .ensures) (x .before .before .before .before .next2 .given .1))
+    (x .before .fault .ensures) (x .if1 .left) (omega arith)
 
 size-requires : tie.Need-size-requires Inv-loop μ-loop
 size-requires c κs =
-    laying-in-range _ _ _ _ _ _ _ _ (c .before .before .before .before .before .before .before .before .before .before .before .loop .inv)
-    (reads-one _ _ (c .before .before .before .before .before .before .before .before .before .before .next-in .ensures)
-    (c .before .before .before .before .before .before .before .before .next2 .given .1))
-    (c .before .before .before .before .before .fault .ensures) (c .before .before .before .before .if1 .left)
+    let x = c .before .before .before .before .before in
+    laying-in-range _ _ _ _ _ _ _ _ _ (x .before .before .before .before .before .before .before .loop .inv)
+    (reads-one _ _ (x .before .before .before .before .before .before .next-in .ensures) (x .before .before .before .before .next2 .given .1))
+    (x .before .fault .ensures) (x .if1 .left)
 
 add-at : tie.Need-add-at Inv-loop μ-loop
 add-at c =
-    omega (
-      arith,
-      laying-size _ _ _ _ _ _ _ _
-          (c .before .before .before .before .before .before .before .before .before .before .before .before .loop .inv)
-          (reads-one _ _ (c .before .before .before .before .before .before .before .before .before .before .before .next-in .ensures)
-          (c .before .before .before .before .before .before .before .before .before .next2 .given .1))
-          (c .before .before .before .before .before .before .fault .ensures) (c .before .before .before .before .before .if1 .left) (c .size .ensures),
-    )
+    let x = c .before .before .before .before .before .before in
+    let fits = laying-size _ _ _ _ _ _ _ _ _ (x .before .before .before .before .before .before .before .loop .inv)
+    (reads-one _ _ (x .before .before .before .before .before .before .next-in .ensures) (x .before .before .before .before .next2 .given .1))
+    (x .before .fault .ensures) (x .if1 .left) (c .size .ensures) in
+    omega (arith, fits)
 
 loop-less : tie.Need-loop-less Inv-loop μ-loop
 loop-less c =
-    omega (
-      arith,
-      reads-one _ _ (c .before .before .before .before .before .before .before .before .before .before .before .next-in .ensures)
-          (c .before .before .before .before .before .before .before .before .before .next2 .given .1) .onward,
-      reads-one _ _
-          (c .before .before .before .before .before .before .before .before .before .before .before .next-in .ensures)
-          (c .before .before .before .before .before .before .before .before .before .next2 .given .1) .within,
-    )
+    let x = c .before .before .before .before .before .before in
+    let read =
+    reads-one _ _ (x .before .before .before .before .before .before .next-in .ensures) (x .before .before .before .before .next2 .given .1) in
+    omega (arith, read .onward, read .within)
 
 loop-again : tie.Need-loop-again Inv-loop μ-loop
 loop-again c =
-    laying-on _ _ _ _ _ _ _ _ (c .before .before .before .before .before .before .before .before .before .before .before .before .loop .inv)
-    (reads-one _ _ (c .before .before .before .before .before .before .before .before .before .before .before .next-in .ensures)
-    (c .before .before .before .before .before .before .before .before .before .next2 .given .1))
-    (c .before .before .before .before .before .before .fault .ensures) (c .before .before .before .before .before .if1 .left)
-    (c .before .before .before .note .ensures) (c .size .ensures)
+    let x = c .before .before .before .before .before .before in
+    laying-on _ _ _ _ _ _ _ _ _ (x .before .before .before .before .before .before .before .loop .inv)
+    (reads-one _ _ (x .before .before .before .before .before .before .next-in .ensures) (x .before .before .before .before .next2 .given .1))
+    (x .before .fault .ensures) (x .if1 .left) (c .before .before .before .note .ensures) (c .size .ensures)
 
 pub lay-out-spec : {M : Type 1} → statement M
 lay-out-spec =
     tie.close (tie.spec Inv-loop μ-loop (λ c. search laying-start)
     (search needs) (search needs) (search needs) (λ c. search (laying-whole, reads-whole))
     (search needs) (search needs) (λ c. search (laying-not, reads-not))
-    (search needs) (λ c κs. (search needs, search needs))
+    (search needs) fault-requires
     (search needs) returns-3 note-requires size-requires add-at loop-less loop-again)

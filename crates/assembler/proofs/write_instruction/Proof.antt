@@ -17,7 +17,7 @@ add-memory c =
 
 returns : tie.Need-returns
 returns c =
-    instruction-short _ _ _ _ _ _ _ (c .before .before .before .before .before .before .before .before .before .pre)
+    instruction-short _ _ _ _ _ _ _ (c .before .before .before .before .before .before .before .before .pre)
     (c .before .before .before .before .before .value .ensures) (c .before .before .before .before .before .before .head .ensures .0)
     (c .before .before .before .found .given .1) (sym (c .before .short .ensures) ∙ c .if1 .taken)
 
@@ -25,11 +25,11 @@ slice-write-memory-3 : tie.Need-slice-write-memory-3
 slice-write-memory-3 c =
     rw length-set
     (second-fits _ _ _ _ _ (sym (c .before .short .ensures) ∙ c .if1 .left)
-    (c .before .before .before .before .before .before .before .before .before .pre .fits))
+    (c .before .before .before .before .before .before .before .before .pre .fits))
 
 returns-3 : tie.Need-returns-3
 returns-3 c =
-    instruction-long _ _ _ _ _ _ _ (c .before .before .before .before .before .before .before .before .before .pre)
+    instruction-long _ _ _ _ _ _ _ (c .before .before .before .before .before .before .before .before .pre)
     (c .before .before .before .before .before .value .ensures) (c .before .before .before .before .before .before .head .ensures .0)
     (c .before .before .before .found .given .1) (sym (c .before .short .ensures) ∙ c .if1 .left)
 

@@ -7,15 +7,15 @@ use Rattle.assembler.proofs.write_item.Tie as tie
 
 write-instruction-requires : tie.Need-write-instruction-requires
 unfolding itemOf
-write-instruction-requires c κs = rw (c .before .before .item .given .1) at (c .before .before .before .before .before .before .before .pre .0)
+write-instruction-requires c κs = rw (c .before .before .item .given .1) at (c .before .before .before .before .before .before .pre .0)
 
 write-constant-requires : tie.Need-write-constant-requires
 unfolding itemOf
-write-constant-requires c κs = rw (c .before .before .item2 .given .1) at (c .before .before .before .before .before .before .before .pre .0)
+write-constant-requires c κs = rw (c .before .before .item2 .given .1) at (c .before .before .before .before .before .before .pre .0)
 
 add-write-string : tie.Need-add-write-string
 add-write-string c =
-    omega (arith, c .before .before .before .before .before .before .before .pre .1 .spelled _ (c .before .before .item3 .given .1) .2)
+    omega (arith, c .before .before .before .before .before .before .pre .1 .spelled _ (c .before .before .item3 .given .1) .2)
 
 cast-write-string : tie.Need-cast-write-string
 unfolding itemOf
@@ -23,19 +23,19 @@ cast-write-string c =
     omega (
       arith,
       string-length _ _ _ _ _
-          (rw (c .before .before .item3 .given .1) at (c .before .before .before .before .before .before .before .pre .0))
-          (c .before .before .before .before .before .before .before .pre .1 .spelled _ (c .before .before .item3 .given .1)),
+          (rw (c .before .before .item3 .given .1) at (c .before .before .before .before .before .before .pre .0))
+          (c .before .before .before .before .before .before .pre .1 .spelled _ (c .before .before .item3 .given .1)),
     )
 
 write-string-requires : tie.Need-write-string-requires
 unfolding itemOf
 write-string-requires c κs =
-    string-spelling _ _ _ _ _ (rw (c .before .before .item3 .given .1) at (c .before .before .before .before .before .before .before .pre .0))
-    (c .before .before .before .before .before .before .before .pre .1 .spelled _ (c .before .before .item3 .given .1))
+    string-spelling _ _ _ _ _ (rw (c .before .before .item3 .given .1) at (c .before .before .before .before .before .before .pre .0))
+    (c .before .before .before .before .before .before .pre .1 .spelled _ (c .before .before .item3 .given .1))
 
 write-global-requires : tie.Need-write-global-requires
 unfolding itemOf
-write-global-requires c κs = rw (c .before .before .item4 .given .1) at (c .before .before .before .before .before .before .before .pre .0)
+write-global-requires c κs = rw (c .before .before .item4 .given .1) at (c .before .before .before .before .before .before .pre .0)
 
 returns-2 : tie.Need-returns-2
 unfolding itemOf
@@ -51,8 +51,8 @@ returns-4 c =
     rw (c .before .before .before .before .before .item3 .given .1)
     (string-writes _ _ _ _ _
     (rw (c .before .before .before .before .before .item3 .given .1) at
-    (c .before .before .before .before .before .before .before .before .before .before .pre .0))
-    (c .before .before .before .before .before .before .before .before .before .before .pre .1 .spelled _
+    (c .before .before .before .before .before .before .before .before .before .pre .0))
+    (c .before .before .before .before .before .before .before .before .before .pre .1 .spelled _
     (c .before .before .before .before .before .item3 .given .1)) _ (c .before .before .write-string .ensures))
 
 returns-5 : tie.Need-returns-5

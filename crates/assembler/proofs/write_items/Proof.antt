@@ -3,17 +3,17 @@ use Prim.Native.Nat.{_-_}
 use lib.ListN.{length}
 use borrow.Author.Needs.{needs}
 use native.Mathlib.Omega.{arith}
-use Rattle.assembler.specs.Passes.{records}
+use Rattle.assembler.specs.Passes.{listed}
 use Rattle.assembler.proofs.Reading.{reads-one, reads-whole, reads-not}
 use Rattle.assembler.proofs.Filling.{Filling, filling-start, filling-end, filling-writable, filling-spelled, filling-unknown, filling-on}
 use Rattle.assembler.proofs.write_items.Statement.{statement}
 use Rattle.assembler.proofs.write_items.Tie as tie
 
 abbrev Inv-loop : tie.InvT-loop
-Inv-loop memory₀ labels text from place₀ at₀ memory place at = Filling (records labels) text memory₀ from place at memory
+Inv-loop memory₀ index text from place₀ at₀ memory place at = Filling (listed index) text memory₀ from place at memory
 
 abbrev μ-loop : tie.MeasureT-loop
-μ-loop memory₀ labels text from place₀ at₀ memory place at = length text - place
+μ-loop memory₀ index text from place₀ at₀ memory place at = length text - place
 
 returns : tie.Need-returns Inv-loop μ-loop
 returns c =
