@@ -14,12 +14,12 @@ mod proved_compile;
 mod rules;
 #[allow(dead_code)]
 mod symbols;
+mod timing;
 
 use proved_compile::Compile;
 use std::time::Instant;
 use symbols::LONGEST_TEXT;
 
-const ROUNDS: usize = 5;
 const HEAD: &str = "GLOBAL $( START:1; WRCH:14 $) ";
 
 /// A shape: its name, what stands before the links, a link, in which % is the link's number, and what stands behind them.
@@ -76,25 +76,15 @@ fn tell(library: Compile, name: &str, source: &dyn Fn(usize) -> Vec<u8>) {
 
 /// The medians of the proved and of the second compiler, in microseconds.
 fn medians(library: Compile, source: &[u8]) -> [f64; 2] {
-    let mut times = [[0.0; ROUNDS]; 2];
-    for round in 0..ROUNDS {
-        let left = [library, compiler::compile as Compile].map(|compile| timed(compile, source));
-        assert_eq!(left[0].1[0], left[1].1[0], "both accept or refuse");
-        for (times, left) in times.iter_mut().zip(left) {
-            times[round] = left.0;
-        }
-    }
-    times.map(|mut times| {
-        times.sort_by(f64::total_cmp);
-        times[ROUNDS / 2]
-    })
+    timing::medians([&|| timed(library, source), &|| timed(compiler::compile, source)])
 }
 
-fn timed(compile: Compile, source: &[u8]) -> (f64, [u64; 3]) {
+/// The time, and the answer's number: both accept or refuse.
+fn timed(compile: Compile, source: &[u8]) -> (f64, u64) {
     let mut scratch = vec![1; 8 * source.len() + 64];
     let mut text = vec![1; 64 * source.len() + 1024];
     let mut answer = [0; 3];
     let begin = Instant::now();
     compile(source, &mut scratch, &mut text, &mut answer);
-    (begin.elapsed().as_secs_f64() * 1e6, answer)
+    (begin.elapsed().as_secs_f64() * 1e6, answer[0])
 }
