@@ -1,4 +1,4 @@
--- Brackets: the stack in scratch as the definitions' list, and the first refusal, one symbol at a time.
+-- Brackets: the stack as the definitions' list, and the first refusal, one symbol at a time.
 use Prim.Native.Nat.{ℕ, zero, suc, _+_, _-_, _<_, _≤_}
 use mathlib.Core.Path.{_≡_, refl, sym, ap, _∙_}
 use mathlib.Core.Bool.{Bool, true, false, cond}
@@ -10,17 +10,15 @@ use lib.ListN.{length, getD, set, length-set}
 use lib.Seq.{sets, getD-set-same, getD-set-other}
 use borrow.Author.Tests.{eq-eqb, ne-eqb}
 use Rattle.text.proofs.Bytes.{Unlike}
-use Rattle.language.specs.Symbols.{none, fault, goesOn, scan}
+use Rattle.language.specs.Symbols.{Fault, none, fault, Scan, goesOn, scan}
 use Rattle.language.specs.Brackets as B
 use Rattle.language.specs.Brackets.{matched, unmatched, brackets, firstFault}
-use Rattle.symbols.specs.Answers.{asFault}
-use Rattle.symbols.specs.Parts.{symbolOf, scanBy, Found, IfOne, Finds, stacked, wanting, asMatching, AtMost, Matches, faultFrom, Faults}
+use Rattle.symbols.specs.Parts.{symbolOf, scanBy, Finds, stacked, wanting, asMatching, AtMost, Matches}
 use Rattle.symbols.specs.declared.Next.{Next}
 use Rattle.symbols.specs.declared.Next.the-variants as N
-use Rattle.symbols.specs.declared.Fault.the-variants as F
 use Rattle.symbols.specs.declared.Depth.{Depth}
 use Rattle.symbols.specs.declared.Depth.the-variants as D
-use Rattle.symbols.proofs.Scanning.{scanAt}
+use Rattle.symbols.proofs.Scanning.{scanAt, scan-is, found, nearer-end}
 
 -- ---- the stack
 
@@ -106,6 +104,10 @@ closes-block ws value place = refl
 
 -- ---- what the loop over the symbols keeps
 
+-- the first refusal from a place on, with some brackets open
+unfoldable pub faultFrom : List ℕ → (wanted : List ℕ) → Scan → Fault
+faultFrom text wanted s = firstFault (length text) (brackets wanted (s .symbols)) (s .ending)
+
 pub record Going (text s₀ : List ℕ) (at depth : ℕ) (s : List ℕ) : Type 0 where
   pub same : length s ≡ length s₀
   pub low : depth ≤ at
@@ -117,52 +119,39 @@ unfolding scan
 going-start text s = record { same = refl; low = omega arith; within = omega arith; faults = refl }
 
 module _ (text s₀ : List ℕ) (at depth : ℕ) (s : List ℕ) (g : Going text s₀ at depth s) {next : Next} (f : Finds text at next) where
-  scan-is : {n : Next} → next ≡ n → scanAt text at ≡ scanBy text n
-  scan-is e = f .scans ∙ ap (scanBy text) e
-
-  pub going-wrong : {number place : ℕ} → next ≡ N.Wrong number place → Faults text s₀ (F.At number place) s
-  unfolding faultFrom scanBy asFault brackets
-  going-wrong e = record { same = g .same; answers = sym (ap asFault (g .faults ∙ ap (faultFrom text (stacked s depth)) (scan-is e))) }
+  pub going-wrong : {number place : ℕ} → next ≡ N.Wrong number place → faultFrom text [] (scan text) ≡ fault number place
+  unfolding faultFrom scanBy brackets
+  going-wrong e = g .faults ∙ ap (faultFrom text (stacked s depth)) (scan-is f e)
 
   module _ (e : next ≡ N.End) where
     ended : faultFrom text [] (scan text) ≡ firstFault (length text) (matched (stacked s depth)) none
     unfolding faultFrom scanBy brackets
-    ended = g .faults ∙ ap (faultFrom text (stacked s depth)) (scan-is e)
+    ended = g .faults ∙ ap (faultFrom text (stacked s depth)) (scan-is f e)
 
-    pub going-whole : depth ≡ 0 → Faults text s₀ F.Nowhere s
-    unfolding asFault
-    going-whole z = record { same = g .same; answers = sym (ap asFault (ended ∙ ap (λ (d : ℕ). firstFault (length text) (matched (stacked s d)) none) z)) }
+    pub going-whole : depth ≡ 0 → faultFrom text [] (scan text) ≡ none
+    going-whole z = ended ∙ ap (λ (d : ℕ). firstFault (length text) (matched (stacked s d)) none) z
 
-    pub going-open : (depth ≡ 0 → ⊥) → Faults text s₀ (F.At 5 (length text)) s
-    unfolding asFault
-    going-open n = record { same = g .same; answers = sym (ap asFault (ended ∙ go depth n)) }
+    pub going-open : (depth ≡ 0 → ⊥) → faultFrom text [] (scan text) ≡ fault 5 (length text)
+    going-open n = ended ∙ go depth n
       where
         go : (d : ℕ) → (d ≡ 0 → ⊥) → firstFault (length text) (matched (stacked s d)) none ≡ fault 5 (length text)
         go zero h = absurd (h refl)
         go (suc d) h = refl
 
   module _ {kind value place past : ℕ} {newline : Bool} (e : next ≡ N.One kind value place past newline) where
-    found : Found text at kind value place past newline
-    unfolding IfOne
-    found = rw e at (f .found)
-
     on-symbol : faultFrom text [] (scan text) ≡ faultFrom text (stacked s depth) (goesOn (symbolOf kind value place) (scanAt text past))
     unfolding scanBy
-    on-symbol = g .faults ∙ ap (faultFrom text (stacked s depth)) (scan-is e)
+    on-symbol = g .faults ∙ ap (faultFrom text (stacked s depth)) (scan-is f e)
 
-    pub stack-fits : length text ≤ length s₀ → depth < length s
-    stack-fits h = omega (arith, found .after, found .some, found .within, g .same, g .low)
-
-    pub going-less : length text - past < length text - at
-    going-less = omega (arith, found .after, found .some, found .within)
+    pub stack-fits : length text ≤ 16384 → length s₀ ≡ 16384 → depth < length s
+    stack-fits h k = omega (arith, nearer-end f e, g .same, g .low)
 
     module _ {after : Depth} {s′ : List ℕ} (m : Matches kind depth s after s′) where
-      pub going-unmatched : after ≡ D.Unmatched → Faults text s₀ (F.At 5 place) s′
-      unfolding faultFrom asMatching asFault brackets
+      pub going-unmatched : after ≡ D.Unmatched → faultFrom text [] (scan text) ≡ fault 5 place
+      unfolding faultFrom asMatching brackets
       going-unmatched u =
           let b : B.bracket (stacked s depth) (symbolOf kind value place) ≡ unmatched place = sym (m .gives value place) ∙ ap (λ (d : Depth). asMatching place d s′) u in
-          let d : faultFrom text [] (scan text) ≡ fault 5 place = on-symbol ∙ rw b in
-          record { same = m .same ∙ g .same; answers = sym (ap asFault d) }
+          on-symbol ∙ rw b
 
       pub going-on : {d : ℕ} → after ≡ D.Is d → Going text s₀ past d s′
       unfolding faultFrom asMatching AtMost brackets
@@ -171,7 +160,7 @@ module _ (text s₀ : List ℕ) (at depth : ℕ) (s : List ℕ) (g : Going text 
           let l : d ≤ depth + 1 = rw u at (m .low) in
           record {
             same = m .same ∙ g .same;
-            low = omega (arith, found .after, found .some, g .low);
-            within = found .within;
+            low = omega (arith, found f e .after, found f e .some, g .low);
+            within = found f e .within;
             faults = on-symbol ∙ rw b;
           }

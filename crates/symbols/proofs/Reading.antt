@@ -1,72 +1,61 @@
 -- The whole: each answer of `read_symbols`, and what it leaves in scratch.
 use Prim.Native.Nat.{ℕ, _-_, _*_, _<_, _≤_}
-use mathlib.Core.Path.{_≡_, refl, ap, _∙_}
-use mathlib.Core.Bool.{true, false}
+use mathlib.Core.Path.{_≡_, sym, ap, _∙_}
+use mathlib.Core.Bool.{Bool, true, false}
 use mathlib.Core.List.{List, [], _++_}
 use native.Mathlib.Omega.{arith}
 use lib.Dec.{ltb}
 use lib.ListN.{length, take, replicate}
+use lib.Seq.{length-take-le}
 use borrow.Author.Tests.{lt-ltb, le-ltb, ltb-false}
-use Rattle.language.specs.Symbols as S
-use Rattle.language.specs.Symbols.{none, fault, scan}
-use Rattle.language.specs.Source.{good, faulty, onFault, symbolsOf}
-use Rattle.language.specs.Source.{tooLong}
-use Rattle.symbols.specs.Answers.{asFault}
+use Rattle.language.specs.Symbols.{Fault, none, fault, scan}
+use Rattle.language.specs.Source.{good, faulty, onFault, symbolsOf, tooLong}
 use Rattle.symbols.specs.Read.{entries, outcome, symbolsRead, numbers, Reads}
-use Rattle.symbols.specs.Parts.{faultFrom, Faults, symbolsIn, WritesAll}
-use Rattle.symbols.specs.declared.Fault.{Fault}
-use Rattle.symbols.specs.declared.Fault.the-variants as F
 use Rattle.symbols.specs.declared.SymbolsRead.{SymbolsRead}
 use Rattle.symbols.specs.declared.SymbolsRead.the-variants.{TooLong, TooShort, Read, Refused}
-use Rattle.symbols.proofs.Writing.{length-entries}
+use Rattle.symbols.proofs.Matching.{faultFrom}
+use Rattle.symbols.proofs.Semicolons.{symbolsIn}
+use Rattle.symbols.proofs.Writing.{length-entries, Putting}
 
-when-at : (f : S.Fault) {r : Fault} {n p : ℕ} → r ≡ asFault f → r ≡ F.At n p → f ≡ fault n p
-unfolding asFault
-when-at none e k = absurd (let z : _≡_ {A = ℕ} 0 1 = cc in omega arith)
-when-at (fault a b) e k = cc
-
-when-nowhere : (f : S.Fault) {r : Fault} → r ≡ asFault f → r ≡ F.Nowhere → f ≡ none
-unfolding asFault
-when-nowhere none e k = refl
-when-nowhere (fault a b) e k = absurd (let z : _≡_ {A = ℕ} 0 1 = cc in omega arith)
-
-pub short-text : (text : List ℕ) → tooLong text ≡ false → length text ≤ 16384
+pub short-text : (text : List ℕ) {t : Bool} → t ≡ tooLong text → t ≡ false → length text ≤ 16384
 unfolding tooLong
-short-text text e = ltb-false 16384 (length text) e
+short-text text e k = ltb-false 16384 (length text) (sym e ∙ k)
 
 module _ (text s : List ℕ) where
   reads : {answer : SymbolsRead} {s′ : List ℕ} → answer ≡ symbolsRead text s .answer → s′ ≡ symbolsRead text s .scratch → Reads text s answer s′
   reads e h = record { answers = e; tells = ap (numbers text) e; leaves = h }
 
-  pub long : tooLong text ≡ true → Reads text s TooLong s
+  pub long : {t : Bool} → t ≡ tooLong text → t ≡ true → Reads text s TooLong s
   unfolding symbolsRead
-  long e = reads (rw e) (rw e)
+  long e k = let z : tooLong text ≡ true = sym e ∙ k in reads (rw z) (rw z)
 
-  module _ (e : tooLong text ≡ false) where
+  module _ (h : length text ≤ 16384) where
+    not-long : tooLong text ≡ false
+    unfolding tooLong
+    not-long = le-ltb 16384 (length text) h
+
     pub short : length s < length text * 3 → Reads text s TooShort s
     unfolding symbolsRead
-    short h = let k : ltb (length s) (length text * 3) ≡ true = lt-ltb _ _ h in reads (rw (e, k)) (rw (e, k))
+    short k = let z : ltb (length s) (length text * 3) ≡ true = lt-ltb _ _ k in reads (rw (not-long, z)) (rw (not-long, z))
 
-    module _ (h : length text * 3 ≤ length s) where
+    module _ {at count before strings : ℕ} {s₁ : List ℕ} (p : Putting text s at count before strings s₁) where
       enough : symbolsRead text s ≡ outcome (length s) (symbolsOf text)
       unfolding symbolsRead
-      enough = rw (e, le-ltb (length s) (length text * 3) h)
+      enough = rw (not-long, le-ltb (length s) (length text * 3) (p .room))
 
-      module _ {r : Fault} {s₁ : List ℕ} (f : Faults text s r s₁) where
-        pub refused : {number place : ℕ} {s₂ : List ℕ} → r ≡ F.At number place → s₂ ≡ take 0 s₁ ++ replicate (length s₁ - 0) 0 → Reads text s (Refused number place) s₂
-        unfolding symbolsOf faultFrom symbolsIn
-        refused {number} {place} k q =
-            let a : faultFrom text [] (scan text) ≡ fault number place = when-at (faultFrom text [] (scan text)) (f .answers) k in
-            let b : symbolsOf text ≡ faulty number place = ap (λ (t : S.Fault). onFault t (symbolsIn text)) a in
-            let n : length s₁ - 0 ≡ length s = omega (arith, f .same) in
-            reads (rw (enough, b)) (q ∙ rw (enough, b, n))
+      pub refused : {number place : ℕ} {answer : SymbolsRead} {s₂ : List ℕ}
+          → faultFrom text [] (scan text) ≡ fault number place → answer ≡ Refused number place → s₂ ≡ replicate (length s₁) 0 → Reads text s answer s₂
+      unfolding symbolsOf faultFrom symbolsIn
+      refused {number} {place} f k q =
+          let b : symbolsOf text ≡ faulty number place = ap (λ (t : Fault). onFault t (symbolsIn text)) f in
+          reads (k ∙ rw (enough, b)) (q ∙ rw (enough, b, p .same))
 
-        module _ (k : r ≡ F.Nowhere) where
-          is-good : symbolsOf text ≡ good (symbolsIn text)
-          unfolding symbolsOf faultFrom symbolsIn
-          is-good = ap (λ (t : S.Fault). onFault t (symbolsIn text)) (when-nowhere (faultFrom text [] (scan text)) (f .answers) k)
-
-          pub written : {count : ℕ} {s₂ s₃ : List ℕ} → WritesAll text s₁ count s₂ → s₃ ≡ take (count * 3) s₂ ++ replicate (length s₂ - count * 3) 0 → Reads text s (Read count) s₃
-          written {count} {s₂} w q =
-              let n : length s₂ - count * 3 ≡ length s - length (entries (symbolsIn text)) = omega (arith, w .same, f .same, w .counts, length-entries (symbolsIn text)) in
-              reads (rw (enough, is-good, ← w .counts)) (q ∙ rw (enough, is-good, w .writes, n))
+      pub written : {s₂ : List ℕ} → faultFrom text [] (scan text) ≡ none → take (count * 3) s₁ ≡ entries (symbolsIn text)
+          → s₂ ≡ take (count * 3) s₁ ++ replicate (length s₁ - count * 3) 0 → Reads text s (Read count) s₂
+      unfolding symbolsOf faultFrom symbolsIn
+      written f w q =
+          let b : symbolsOf text ≡ good (symbolsIn text) = ap (λ (t : Fault). onFault t (symbolsIn text)) f in
+          let l : length (entries (symbolsIn text)) ≡ count * 3 = ap length (sym w) ∙ length-take-le (count * 3) s₁ (p .fits) in
+          let c : length (symbolsIn text) ≡ count = omega (arith, length-entries (symbolsIn text)) in
+          let n : length s₁ - count * 3 ≡ length s - length (entries (symbolsIn text)) = omega (arith, p .same) in
+          reads (rw (enough, b, c)) (q ∙ rw (enough, b, w, n))

@@ -14,9 +14,10 @@ use Rattle.text.specs.Line.{newlines, lineOf}
 use Rattle.language.specs.Bytes.{classOf}
 use Rattle.language.specs.Symbols.{Element, symbol, gap, wrong, byClass, none, fault, Scan, ends, goesOn, onElement, scanFrom}
 use Rattle.symbols.specs.Answers.{asElement}
-use Rattle.symbols.specs.Parts.{orNewline, broken, symbolOf, scanBy, IfOne, Finds}
+use Rattle.symbols.specs.Parts.{orNewline, broken, symbolOf, scanBy, Found, IfOne, Finds}
 use Rattle.symbols.specs.declared.elements.Element as C
 use Rattle.symbols.specs.declared.elements.Element.the-variants as E
+use Rattle.symbols.specs.declared.Next.{Next}
 use Rattle.symbols.specs.declared.Next.the-variants as N
 use Rattle.symbols.proofs.Lines.{Stood, Given, element-given}
 
@@ -173,3 +174,23 @@ module _ (text : List ℕ) (at i : ℕ) {newline : Bool} (s : Seeking text at i 
           by : (t : Bool) → newlines (take w (drop i text)) ≡ cond t 1 0 → cond t true newline ≡ broken text at (i + w)
           by true k = sym (ap not (ne-eqb (lineOf text at) (lineOf text (i + w)) (λ j. omega (arith, line-past text i w, line-after text at i (s .after)))))
           by false k = let z : lineOf text (i + w) ≡ lineOf text i = omega (arith, line-past text i w) in rw z (s .breaks)
+
+-- ---- what `next_symbol` found
+
+pub scan-is : {text : List ℕ} {at : ℕ} {next n : Next} → Finds text at next → next ≡ n → scanAt text at ≡ scanBy text n
+scan-is {text} f e = f .scans ∙ ap (scanBy text) e
+
+module _ {text : List ℕ} {at kind value place past : ℕ} {newline : Bool} {next : Next}
+    (f : Finds text at next) (e : next ≡ N.One kind value place past newline) where
+  pub found : Found text at kind value place past newline
+  unfolding IfOne
+  found = rw e at (f .found)
+
+  pub kind-known : kind < 62
+  kind-known = found .known
+
+  pub kind-fits : kind < 65536
+  kind-fits = omega (arith, kind-known)
+
+  pub nearer-end : length text - past < length text - at
+  nearer-end = omega (arith, found .after, found .some, found .within)

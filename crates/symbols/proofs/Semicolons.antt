@@ -13,7 +13,7 @@ use Rattle.language.specs.Symbols.{Element, symbol, gap, wrong, Symbol, Fault, 
 use Rattle.language.specs.Kinds.{member}
 use Rattle.language.specs.Semicolons.{endsLine, beginsLine, linesDiffer, gains, inserted, semicolonsAfter, semicolons}
 use Rattle.language.specs.Strings.{numbered}
-use Rattle.symbols.specs.Parts.{broken, symbolOf, gain, symbolsIn}
+use Rattle.symbols.specs.Parts.{broken, symbolOf, gain}
 use Rattle.symbols.proofs.Lines.{Stood}
 use Rattle.symbols.proofs.Scanning.{elementAt, scanAt, scan-end, symbol-given, symbol-line, scan-symbol, gap-given, scan-gap, scan-wrong}
 
@@ -55,6 +55,9 @@ module _ (text : List ℕ) (before at strings past : ℕ) where
       (after-line text kind number 0 place past (numbered strings′ ss) (sym l))
 
 -- ---- how many there are
+
+unfoldable pub symbolsIn : List ℕ → List Symbol
+symbolsIn text = semicolons text (numbered 0 (scan text .symbols))
 
 gain-breaks : (before kind : ℕ) (t : Bool) → gain before kind t ≡ true → t ≡ true
 gain-breaks before kind t = go (endsLine before) (beginsLine kind)

@@ -13,7 +13,7 @@ use lib.Seq.{drop-cons, length-take-le}
 use borrow.Author.Tests.{eq-eqb, ne-eqb}
 use Rattle.language.specs.Kinds.{Spelled, reserved, signs}
 use Rattle.language.specs.Symbols.{Element, symbol, wrong, begins, same, kindIn, kindOf, signIn, sign}
-use Rattle.symbols.specs.Spellings.{spelled, spelledAt, spellingAt, entryOf, Rows}
+use Rattle.symbols.specs.Spellings.{spelled, spelledAt, spellingAt, entryOf, Rows, Skips}
 use Rattle.symbols.specs.Answers.{asElement}
 use Rattle.symbols.specs.declared.elements.Element.the-variants as E
 use Rattle.symbols.proofs.Table.{tabulate, tabulate-at, each}
@@ -168,3 +168,15 @@ module _ (bs : List ℕ) where
           → E.Symbol k 0 n ≡ asElement (sign bs)
       unfolding asElement
       a-sign p q s e = rw (p, q, s ∙ sign-here e)
+
+-- ---- the row where the search of a sign starts
+
+pub skips : (c row : ℕ) {byte : ℕ} → ((rest : List ℕ) → sign (c ∷ rest) ≡ signIn (drop row spelled) (c ∷ rest)) → byte ≡ c → Skips byte row
+skips c row h e = rw e (record { finds = h })
+
+pub skips-none : (byte : ℕ) → Skips byte 35
+skips-none byte = record { finds = λ rest. sign-start (byte ∷ rest) }
+
+pub sign-from : (text : List ℕ) (at : ℕ) {row : ℕ} → at < length text → Skips (getD text at 0) row
+    → sign (drop at text) ≡ signIn (drop row spelled) (drop at text)
+sign-from text at h s = rw (drop-cons text at 0 h) (s .finds _)

@@ -8,15 +8,15 @@ use native.Mathlib.Numerals.{add-one, add-two}
 use lib.Dec.{eqb}
 use lib.ListN.{length, getD, set, take, drop, replicate, length-append, length-replicate, drop-of-length-le, replicate-append-replicate, take-append-drop}
 use lib.Seq.{sets, sets-eq, length-sets, take-at, length-take-le, set-at, drop-cons}
-use Rattle.language.specs.Symbols.{Symbol, Fault, Scan, ends, scan}
+use Rattle.language.specs.Symbols.{Symbol, Scan, scan}
 use Rattle.language.specs.Semicolons.{inserted, semicolonsAfter}
 use Rattle.language.specs.Strings.{numbered}
 use Rattle.symbols.specs.Read.{entries}
-use Rattle.symbols.specs.Parts.{symbolOf, scanBy, Found, IfOne, Finds, gain, Writes, symbolsIn, WritesAll}
+use Rattle.symbols.specs.Parts.{symbolOf, scanBy, Finds, gain, Writes}
 use Rattle.symbols.specs.declared.Next.{Next}
 use Rattle.symbols.specs.declared.Next.the-variants as N
-use Rattle.symbols.proofs.Scanning.{scanAt}
-use Rattle.symbols.proofs.Semicolons.{following, first-after, following-symbol, few}
+use Rattle.symbols.proofs.Scanning.{scanAt, scan-is, found}
+use Rattle.symbols.proofs.Semicolons.{symbolsIn, following, first-after, following-symbol, few}
 
 -- ---- entries
 
@@ -83,68 +83,46 @@ rest text at before strings = entries (following text before at strings (scanAt 
 
 pub record Putting (text s₀ : List ℕ) (at count before strings : ℕ) (s : List ℕ) : Type 0 where
   pub same : length s ≡ length s₀
-  pub within : at ≤ length text
+  pub room : length text * 3 ≤ length s₀
   pub fits : count * 3 ≤ length s
   pub strings-few : strings ≤ count
   pub known : before < 62
   pub writes : take (count * 3) s ++ rest text at before strings ≡ entries (symbolsIn text)
 
-pub putting-start : (text s : List ℕ) → Putting text s 0 0 0 0 s
+pub putting-start : (text s : List ℕ) → length text * 3 ≤ length s → Putting text s 0 0 0 0 s
 unfolding symbolsIn scan
-putting-start text s =
+putting-start text s h =
     record {
       same = refl;
-      within = omega arith;
+      room = h;
       fits = omega arith;
       strings-few = omega arith;
       known = omega arith;
       writes = ap entries (sym (first-after text 0 (numbered 0 (scan text .symbols))));
     }
 
-module _ (text s₀ : List ℕ) (at count before strings : ℕ) (s : List ℕ) (p : Putting text s₀ at count before strings s) (room : length text * 3 ≤ length s₀) {next : Next} (f : Finds text at next) where
-  scan-is : {n : Next} → next ≡ n → scanAt text at ≡ scanBy text n
-  scan-is e = f .scans ∙ ap (scanBy text) e
-
+module _ (text s₀ : List ℕ) (at count before strings : ℕ) (s : List ℕ) (p : Putting text s₀ at count before strings s)
+    {next : Next} (f : Finds text at next) where
   taken : length (take (count * 3) s) ≡ count * 3
   taken = length-take-le (count * 3) s (p .fits)
 
-  ended : {e : Fault} → scanAt text at ≡ ends e → WritesAll text s₀ count s
-  unfolding entries numbered semicolonsAfter
-  ended {e} k =
-      let w : take (count * 3) s ≡ entries (symbolsIn text) =
+  pub putting-end : next ≡ N.End → take (count * 3) s ≡ entries (symbolsIn text)
+  unfolding scanBy entries numbered semicolonsAfter
+  putting-end e =
       sym (append-nil (take (count * 3) s)) ∙
-      ap (λ (t : Scan). take (count * 3) s ++ entries (following text before at strings (t .symbols))) (sym k) ∙ p .writes in
-      record {
-        same = p .same;
-        counts = omega (arith, taken, ap length w, length-entries (symbolsIn text));
-        fits = omega (arith, p .same, p .fits);
-        writes = w;
-      }
-
-  pub putting-wrong : {number place : ℕ} → next ≡ N.Wrong number place → WritesAll text s₀ count s
-  unfolding scanBy
-  putting-wrong e = ended (scan-is e)
-
-  pub putting-end : next ≡ N.End → WritesAll text s₀ count s
-  unfolding scanBy
-  putting-end e = ended (scan-is e)
+      ap (λ (t : Scan). take (count * 3) s ++ entries (following text before at strings (t .symbols))) (sym (scan-is f e)) ∙ p .writes
 
   module _ {kind value place past : ℕ} {newline : Bool} (e : next ≡ N.One kind value place past newline) where
-    pub found : Found text at kind value place past newline
-    unfolding IfOne
-    found = rw e at (f .found)
-
-    pub putting-less : length text - past < length text - at
-    putting-less = omega (arith, found .after, found .some, found .within)
-
     module _ {semicolon : Bool} (g : semicolon ≡ gain before kind newline) where
       -- the rest, from this symbol on
       next-entries : {number strings′ : ℕ} → number ≡ cond (eqb kind 61) strings value → strings′ ≡ cond (eqb kind 61) (strings + 1) strings
           → rest text at before strings ≡ entries (inserted semicolon (symbolOf kind number place) (symbolOf kind number place ∷ [])) ++ rest text past kind strings′
       unfolding scanBy
       next-entries {number} {strings′} m n =
-          ap entries (following-symbol text before at strings past (scan-is e) m n (found .line)) ∙
-          ap (λ (t : Bool). entries (inserted t (symbolOf kind number place) (symbolOf kind number place ∷ following text kind past strings′ (scanAt text past .symbols)))) (sym (g ∙ ap (gain before kind) (found .breaks))) ∙
+          let more = following text kind past strings′ (scanAt text past .symbols) in
+          ap entries (following-symbol text before at strings past (scan-is f e) m n (found f e .line)) ∙
+          ap (λ (t : Bool). entries (inserted t (symbolOf kind number place) (symbolOf kind number place ∷ more)))
+          (sym (g ∙ ap (gain before kind) (found f e .breaks))) ∙
           entries-inserted semicolon (symbolOf kind number place) _
 
       -- there is room for it, since the symbols are no more than the bytes
@@ -156,6 +134,7 @@ module _ (text s₀ : List ℕ) (at count before strings : ℕ) (s : List ℕ) (
             arith,
             taken,
             p .same,
+            p .room,
             few text,
             length-entries (symbolsIn text),
             simp length-append at (ap length (p .writes)),
@@ -185,10 +164,10 @@ module _ (text s₀ : List ℕ) (at count before strings : ℕ) (s : List ℕ) (
         putting-on =
             record {
               same = w .same ∙ p .same;
-              within = found .within;
+              room = p .room;
               fits = fits-more;
               strings-few = strings-more;
-              known = found .known;
+              known = found f e .known;
               writes =
                   ap (λ (l : List ℕ). l ++ rest text past kind strings′) (w .writes) ∙
                   append-assoc (take (count * 3) s) _ _ ∙
@@ -223,10 +202,10 @@ module _ (text s₀ : List ℕ) (at count before strings : ℕ) (s : List ℕ) (
           where
             go : (t : Bool) → number ≡ cond t strings value → number < 131072
             go true k = omega (arith, strings-fit)
-            go false k = omega (arith, found .small, found .within)
+            go false k = omega (arith, found f e .small, found f e .within)
 
         pub place-fits : place < 65536
-        place-fits = omega (arith, found .some, found .within)
+        place-fits = omega (arith, found f e .some, found f e .within)
 
 -- ---- zeros from a place on
 

@@ -7,17 +7,13 @@ use lib.Dec.{eqb, ltb}
 use lib.ListN.{length, getD, take, drop}
 use Rattle.text.specs.Line.{lineOf}
 use Rattle.language.specs.Bytes.{classOf}
-use Rattle.language.specs.Symbols.{Symbol, none, fault, Scan, ends, goesOn, scanFrom, scan, begins}
-use Rattle.language.specs.Symbols as S
+use Rattle.language.specs.Symbols.{Symbol, none, fault, Scan, ends, goesOn, scanFrom, begins}
 use Rattle.language.specs.Brackets as B
-use Rattle.language.specs.Brackets.{Matching, matched, unmatched, brackets, firstFault}
-use Rattle.language.specs.Semicolons.{endsLine, beginsLine, semicolon, inserted, semicolons}
-use Rattle.language.specs.Strings.{numbered}
-use Rattle.symbols.specs.Answers.{asFault}
+use Rattle.language.specs.Brackets.{Matching, matched, unmatched}
+use Rattle.language.specs.Semicolons.{endsLine, beginsLine, inserted}
 use Rattle.symbols.specs.Read.{entries}
 use Rattle.symbols.specs.declared.Next.{Next}
 use Rattle.symbols.specs.declared.Next.the-variants as N
-use Rattle.symbols.specs.declared.Fault.{Fault}
 use Rattle.symbols.specs.declared.Depth.{Depth}
 use Rattle.symbols.specs.declared.Depth.the-variants as D
 
@@ -94,14 +90,6 @@ pub record Matches (kind depth : ℕ) (s : List ℕ) (answer : Depth) (s′ : Li
   pub gives : (value place : ℕ) → asMatching place answer s′ ≡ B.bracket (stacked s depth) (symbolOf kind value place)
   pub low : AtMost (depth + 1) answer
 
--- the first refusal from a place on, with some brackets open
-unfoldable pub faultFrom : List ℕ → (wanted : List ℕ) → Scan → S.Fault
-faultFrom text wanted s = firstFault (length text) (brackets wanted (s .symbols)) (s .ending)
-
-pub record Faults (text s : List ℕ) (answer : Fault) (s′ : List ℕ) : Type 0 where
-  pub same : length s′ ≡ length s
-  pub answers : answer ≡ asFault (faultFrom text [] (scan text))
-
 -- ---- writing
 
 abbrev pub gain : (before kind : ℕ) (newline : Bool) → Bool
@@ -112,12 +100,3 @@ pub record Writes (count : ℕ) (semicolon : Bool) (kind value place : ℕ) (s :
   pub same : length s′ ≡ length s
   pub counts : count′ ≡ count + cond semicolon 2 1
   pub writes : take (count′ * 3) s′ ≡ take (count * 3) s ++ entries (inserted semicolon (symbolOf kind value place) (symbolOf kind value place ∷ []))
-
-unfoldable pub symbolsIn : List ℕ → List Symbol
-symbolsIn text = semicolons text (numbered 0 (scan text .symbols))
-
-pub record WritesAll (text s : List ℕ) (count : ℕ) (s′ : List ℕ) : Type 0 where
-  pub same : length s′ ≡ length s
-  pub counts : count ≡ length (symbolsIn text)
-  pub fits : count * 3 ≤ length s
-  pub writes : take (count * 3) s′ ≡ entries (symbolsIn text)

@@ -1,7 +1,7 @@
 // From source bytes to symbols in lent scratch, by the rules of document 01's "Symbols".
 //
-// `read_symbols` goes over the text twice: first for a refusal, with the open brackets on a stack in scratch, then for
-// the symbols, which it writes there. Both times it goes from symbol to symbol by `next_symbol`.
+// `read_symbols` goes over the text once, from symbol to symbol by `next_symbol`: each is matched with the open brackets,
+// which stand on a stack, and written. At a refusal what is written is cleared.
 mod elements;
 mod kinds;
 mod spellings;
@@ -24,7 +24,7 @@ ghost use lib.Dec.{eqb};
 ghost use Rattle.language.specs.Source.{tooLong, scratchTooShort};
 ghost use Rattle.language.specs.Semicolons.{endsLine, beginsLine};
 ghost use Rattle.symbols.specs.Read.{Reads};
-ghost use Rattle.symbols.specs.Parts.{Classes, Finds, Matches, Faults, wanting, Writes, orNewline, gain, WritesAll};
+ghost use Rattle.symbols.specs.Parts.{Classes, Finds, Matches, wanting, Writes, orNewline, gain};
 ghost use Rattle.symbols.specs.Spellings.{Rows};
 
 // The symbols' number, or why there are none.
@@ -46,12 +46,6 @@ enum Next {
     },
     End,
     Wrong(u16, usize),
-}
-
-// The first refusal.
-enum Fault {
-    Nowhere,
-    At(u16, usize),
 }
 
 // The number of open brackets.
@@ -124,79 +118,39 @@ fn next_symbol(classes: &[u8; 256], table: &[u8; 767], text: &[u8], at: usize) -
 }
 
 // An opening bracket: the one that closes it goes on the stack.
-fn opening(scratch: &mut [u32], depth: usize, wanted: u32) -> Depth
-    requires { ⌜ depth < length (now scratch) ⌝ }
-    ensures { λ r. ⌜ (r ≡ Depth.Is (depth + 1)) × (now (scratch .exit) ≡ sets (now (scratch .entry)) depth (wanted ∷ [])) ⌝ }
+fn opening(stack: &mut [u8], depth: usize, wanted: u8) -> Depth
+    requires { ⌜ depth < length (now stack) ⌝ }
+    ensures { λ r. ⌜ (r ≡ Depth.Is (depth + 1)) × (now (stack .exit) ≡ sets (now (stack .entry)) depth (wanted ∷ [])) ⌝ }
 {
-    scratch[depth] = wanted;
+    stack[depth] = wanted;
     Depth::Is(depth + 1)
 }
 
 // A closing bracket, which has to be the one on top of the stack.
-fn closing(scratch: &[u32], depth: usize, kind: u32) -> Depth
-    requires { ⌜ depth ≤ length (now scratch) ⌝ }
-    ensures { λ r. ⌜ r ≡ wanting (now (scratch .entry)) depth kind ⌝ }
+fn closing(stack: &[u8], depth: usize, kind: u8) -> Depth
+    requires { ⌜ depth ≤ length (now stack) ⌝ }
+    ensures { λ r. ⌜ r ≡ wanting (now (stack .entry)) depth kind ⌝ }
 {
     if depth == 0 {
         return Depth::Unmatched;
     }
-    if scratch[depth - 1] == kind {
+    if stack[depth - 1] == kind {
         return Depth::Is(depth - 1);
     }
     Depth::Unmatched
 }
 
 // The stack after a symbol.
-fn bracket(scratch: &mut [u32], depth: usize, kind: usize) -> Depth
-    requires { ⌜ depth < length (now scratch) ⌝ }
-    ensures { λ r. ⌜ Matches kind depth (now (scratch .entry)) r (now (scratch .exit)) ⌝ }
+fn bracket(stack: &mut [u8], depth: usize, kind: usize) -> Depth
+    requires { ⌜ depth < length (now stack) ⌝ }
+    ensures { λ r. ⌜ Matches kind depth (now (stack .entry)) r (now (stack .exit)) ⌝ }
 {
     match kind {
-        OPEN => opening(scratch, depth, CLOSE as u32),
-        BEGIN => opening(scratch, depth, END as u32),
-        CLOSE => closing(scratch, depth, CLOSE as u32),
-        END => closing(scratch, depth, END as u32),
+        OPEN => opening(stack, depth, CLOSE as u8),
+        BEGIN => opening(stack, depth, END as u8),
+        CLOSE => closing(stack, depth, CLOSE as u8),
+        END => closing(stack, depth, END as u8),
         _ => Depth::Is(depth),
-    }
-}
-
-fn first_fault(classes: &[u8; 256], table: &[u8; 767], text: &[u8], scratch: &mut [u32]) -> Fault
-    requires { ⌜ (length (now text) ≤ length (now scratch)) × Classes (now classes) × Rows (now table) ⌝ }
-    ensures { λ r. ⌜ Faults (now (text .entry)) (now (scratch .entry)) r (now (scratch .exit)) ⌝ }
-{
-    let mut at: usize = 0;
-    let mut depth: usize = 0;
-    loop {
-        let next = next_symbol(classes, table, text, at);
-        match next {
-            Next::Wrong(number, place) => {
-                return Fault::At(number, place);
-            }
-            Next::End => {
-                if depth == 0 {
-                    return Fault::Nowhere;
-                }
-                return Fault::At(5, text.len());
-            }
-            Next::One {
-                kind,
-                value: _,
-                place,
-                past,
-                newline: _,
-            } => {
-                let after = bracket(scratch, depth, kind);
-                match after {
-                    Depth::Unmatched => {
-                        return Fault::At(5, place);
-                    }
-                    Depth::Is(open) => {
-                        depth = open;
-                        at = past;
-                    }
-                }
-            }
-        }
     }
 }
 
@@ -219,13 +173,13 @@ fn gains(before: usize, kind: usize, newline: bool) -> bool
     requires { ⌜ (before < 62) × (kind < 62) ⌝ }
     ensures { λ r. ⌜ r ≡ gain before kind newline ⌝ }
 {
+    if !newline {
+        return false;
+    }
     if !ends_line(before) {
         return false;
     }
-    if !begins_line(kind) {
-        return false;
-    }
-    newline
+    begins_line(kind)
 }
 
 // A string's value is its position among the strings.
@@ -280,42 +234,6 @@ fn write(
     count + 1
 }
 
-// The symbols' number.
-fn write_symbols(classes: &[u8; 256], table: &[u8; 767], text: &[u8], scratch: &mut [u32]) -> usize
-    requires { ⌜ (length (now text) ≤ 16384) × (length (now text) * 3 ≤ length (now scratch)) × Classes (now classes) × Rows (now table) ⌝ }
-    ensures { λ r. ⌜ WritesAll (now (text .entry)) (now (scratch .entry)) r (now (scratch .exit)) ⌝ }
-{
-    let mut at: usize = 0;
-    let mut count: usize = 0;
-    let mut before: usize = 0;
-    let mut strings: usize = 0;
-    loop {
-        let next = next_symbol(classes, table, text, at);
-        match next {
-            Next::Wrong(_, _) => {
-                return count;
-            }
-            Next::End => {
-                return count;
-            }
-            Next::One {
-                kind,
-                value,
-                place,
-                past,
-                newline,
-            } => {
-                let semicolon = gains(before, kind, newline);
-                let number = numbered(kind, value, strings);
-                count = write(scratch, count, semicolon, kind, number, place);
-                strings = strings_past(kind, strings);
-                before = kind;
-                at = past;
-            }
-        }
-    }
-}
-
 fn clear_from(scratch: &mut [u32], from: usize)
     requires { ⌜ from ≤ length (now scratch) ⌝ }
     ensures { λ r. ⌜ now (scratch .exit) ≡ take from (now (scratch .entry)) ++ replicate (length (now (scratch .entry)) - from) 0 ⌝ }
@@ -325,6 +243,77 @@ fn clear_from(scratch: &mut [u32], from: usize)
         scratch[i] = 0;
         i += 1;
     }
+}
+
+// A refusal leaves zeros.
+fn refuse(scratch: &mut [u32], number: u16, place: usize) -> SymbolsRead
+    ensures { λ r. ⌜ (r ≡ SymbolsRead.Refused number place) × (now (scratch .exit) ≡ replicate (length (now (scratch .entry))) 0) ⌝ }
+{
+    clear_from(scratch, 0);
+    SymbolsRead::Refused {
+        number: number,
+        place: place,
+    }
+}
+
+// From symbol to symbol, to a refusal or the text's end.
+fn read_all(
+    classes: &[u8; 256],
+    table: &[u8; 767],
+    text: &[u8],
+    stack: &mut [u8],
+    scratch: &mut [u32],
+) -> SymbolsRead
+    requires { ⌜ (length (now text) ≤ 16384) × (length (now stack) ≡ 16384) ⌝ }
+    requires { ⌜ (length (now text) * 3 ≤ length (now scratch)) × Classes (now classes) × Rows (now table) ⌝ }
+    ensures { λ r. ⌜ Reads (now (text .entry)) (now (scratch .entry)) r (now (scratch .exit)) ⌝ }
+{
+    let mut at: usize = 0;
+    let mut depth: usize = 0;
+    let mut count: usize = 0;
+    let mut before: usize = 0;
+    let mut strings: usize = 0;
+    loop {
+        let next = next_symbol(classes, table, text, at);
+        match next {
+            Next::Wrong(number, place) => {
+                return refuse(scratch, number, place);
+            }
+            Next::End => {
+                if depth != 0 {
+                    return refuse(scratch, 5, text.len());
+                }
+                clear_from(scratch, count * 3);
+                return SymbolsRead::Read(count);
+            }
+            Next::One {
+                kind,
+                value,
+                place,
+                past,
+                newline,
+            } => {
+                let after = bracket(stack, depth, kind);
+                let Depth::Is(open) = after else {
+                    return refuse(scratch, 5, place);
+                };
+                let semicolon = gains(before, kind, newline);
+                let number = numbered(kind, value, strings);
+                count = write(scratch, count, semicolon, kind, number, place);
+                strings = strings_past(kind, strings);
+                before = kind;
+                depth = open;
+                at = past;
+            }
+        }
+    }
+}
+
+// There are no more brackets than bytes. `read_symbols` makes the stack and lends it.
+fn empty_stack() -> [u8; 16384]
+    ensures { λ r. ⌜ length r ≡ 16384 ⌝ }
+{
+    [0; 16384]
 }
 
 // A source's symbols into scratch, which needs three entries a byte.
@@ -339,19 +328,6 @@ pub fn read_symbols(text: &[u8], scratch: &mut [u32]) -> SymbolsRead
     }
     let classes = elements::all_classes();
     let table = spellings::all_rows();
-    let fault = first_fault(&classes, &table, text, scratch);
-    match fault {
-        Fault::At(number, place) => {
-            clear_from(scratch, 0);
-            SymbolsRead::Refused {
-                number: number,
-                place: place,
-            }
-        }
-        Fault::Nowhere => {
-            let count = write_symbols(&classes, &table, text, scratch);
-            clear_from(scratch, count * 3);
-            SymbolsRead::Read(count)
-        }
-    }
+    let mut stack = empty_stack();
+    read_all(&classes, &table, text, &mut stack, scratch)
 }

@@ -8,7 +8,7 @@ ghost use Prim.Native.Nat.{_+_, _<_, _≤_};
 ghost use mathlib.Core.Path.{_≡_};
 ghost use lib.ListN.{length, take, drop};
 ghost use Rattle.language.specs.Symbols.{begins, same, kindOf, sign};
-ghost use Rattle.symbols.specs.Spellings.{spellingAt, entryOf, Rows};
+ghost use Rattle.symbols.specs.Spellings.{spellingAt, entryOf, Rows, Skips};
 ghost use Rattle.symbols.specs.Answers.{asElement};
 
 // A row of 13 bytes for each word, in 01's order, then for each sign, those of two bytes first: its kind, its length,
@@ -131,12 +131,38 @@ pub(crate) fn kind_of(table: &[u8; 767], text: &[u8], at: usize, width: usize) -
     NAME
 }
 
+// The first row of a sign that starts with a byte, or one before it.
+fn first_row(byte: u8) -> usize
+    ensures { λ r. ⌜ Skips byte r ⌝ }
+{
+    match byte {
+        b'<' => 36,
+        b'>' => 37,
+        b':' => 40,
+        b'$' => 41,
+        b'+' => 43,
+        b'-' => 44,
+        b'*' => 45,
+        b'/' => 46,
+        b'=' => 47,
+        b'&' => 50,
+        b'|' => 51,
+        b'!' => 52,
+        b'@' => 53,
+        b'(' => 54,
+        b')' => 55,
+        b',' => 56,
+        b';' => 57,
+        _ => 35,
+    }
+}
+
 // The longest sign at a place.
 pub(crate) fn sign_at(table: &[u8; 767], text: &[u8], at: usize) -> Element
-    requires { ⌜ (at ≤ length (now text)) × Rows (now table) ⌝ }
+    requires { ⌜ (at < length (now text)) × Rows (now table) ⌝ }
     ensures { λ r. ⌜ r ≡ asElement (sign (drop at (now (text .entry)))) ⌝ }
 {
-    let mut row: usize = 35;
+    let mut row = first_row(text[at]);
     while row < 59 {
         if begins_at(table, text, at, row) {
             return Element::Symbol(entry(table, row, 0), 0, entry(table, row, 1));

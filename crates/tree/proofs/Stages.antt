@@ -13,8 +13,7 @@ use Rattle.language.specs.Reader.{Out, ok, no, Source}
 use Rattle.language.specs.Tree.{Program}
 use Rattle.language.specs.Grammar.{treeOf}
 use Rattle.symbols.specs.Read.{entries, outcome}
-use Rattle.symbols.specs.Parts.{symbolsIn}
-use Rattle.symbols.proofs.Semicolons.{few}
+use Rattle.symbols.proofs.Semicolons.{symbolsIn, few}
 use Rattle.tree.specs.Encoding.{encodeProgram}
 use Rattle.tree.specs.Read.{decoded, sourceIn, unfit, answerOf, treeRead}
 use Rattle.tree.specs.declared.TreeRead.{TreeRead}

@@ -1,23 +1,24 @@
 use mathlib.Core.Path.{_∙_, sym}
 use borrow.Author.Tests.{not-true, not-false}
 use borrow.Author.Needs.{needs}
+use Rattle.symbols.proofs.Tests.{gain-within, gain-between}
 use Rattle.symbols.proofs.gains.Statement.{statement}
 use Rattle.symbols.proofs.gains.Tie as tie
 
 returns : tie.Need-returns
-returns c = rw (sym (c .before .ends-line .ensures) ∙ not-true _ (c .if1 .taken))
+returns c =
+    let args = c .before .args in
+    rw (not-true (args .newline) (c .if1 .taken)) (sym (gain-within (args .before) (args .kind)))
 
 returns-2 : tie.Need-returns-2
-returns-2 c =
-    let ends-line = c .before .before .before .ends-line in
-    let if1 = c .before .before .if1 in
-    rw (sym (ends-line .ensures) ∙ not-false _ (if1 .left), sym (c .before .begins-line .ensures) ∙ not-true _ (c .if2 .taken))
+returns-2 c = rw (sym (c .before .ends-line .ensures) ∙ not-true _ (c .if2 .taken))
 
 returns-3 : tie.Need-returns-3
 returns-3 c =
-    let ends-line = c .before .before .before .ends-line in
-    let if1 = c .before .before .if1 in
-    rw (sym (ends-line .ensures) ∙ not-false _ (if1 .left), sym (c .before .begins-line .ensures) ∙ not-false _ (c .if2 .left))
+    let args = c .before .before .before .before .args in
+    let ends = sym (c .before .before .ends-line .ensures) ∙ not-false _ (c .before .if2 .left) in
+    rw (not-false (args .newline) (c .before .before .before .if1 .left))
+    (c .begins-line .ensures ∙ sym (gain-between (args .before) (args .kind) ends))
 
 pub gains-spec : {M : Type 1} → statement M
-gains-spec = tie.close (tie.spec (search needs) returns (search needs) returns-2 returns-3)
+gains-spec = tie.close (tie.spec returns (search needs) returns-2 (search needs) returns-3)

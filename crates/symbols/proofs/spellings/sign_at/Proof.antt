@@ -1,4 +1,4 @@
-use Prim.Native.Nat.{_-_, _≤_}
+use Prim.Native.Nat.{_-_}
 use mathlib.Core.Path.{_≡_, _∙_, sym, ap}
 use native.Mathlib.Omega.{arith}
 use lib.ListN.{drop}
@@ -6,12 +6,12 @@ use borrow.Author.Needs.{needs}
 use Rattle.language.specs.Symbols.{sign, signIn}
 use Rattle.symbols.specs.Spellings.{spelled}
 use Rattle.symbols.specs.Answers.{asElement}
-use Rattle.symbols.proofs.Spelling.{sign-start, sign-end, a-sign, sign-next}
+use Rattle.symbols.proofs.Spelling.{sign-from, sign-end, a-sign, sign-next}
 use Rattle.symbols.proofs.spellings.sign_at.Statement.{statement}
 use Rattle.symbols.proofs.spellings.sign_at.Tie as tie
 
 abbrev Inv-loop : tie.InvT-loop
-Inv-loop table text at row₀ row = (row ≤ 59) × (sign (drop at text) ≡ signIn (drop row spelled) (drop at text))
+Inv-loop table text at row₀ row = sign (drop at text) ≡ signIn (drop row spelled) (drop at text)
 
 abbrev μ-loop : tie.MeasureT-loop
 μ-loop table text at row₀ row = 59 - row
@@ -22,21 +22,21 @@ returns c =
     let loop = c .before .before .before .before .before .loop in
     let begins-at = c .before .before .before .begins-at in
     let if1 = c .before .before .if1 in
-    a-sign _ _ (loop-test .taken) (c .before .entry .ensures) (c .entry2 .ensures) (loop .inv .1) (sym (begins-at .ensures) ∙ if1 .taken)
+    a-sign _ _ (loop-test .taken) (c .before .entry .ensures) (c .entry2 .ensures) (loop .inv) (sym (begins-at .ensures) ∙ if1 .taken)
 
 loop-again : tie.Need-loop-again Inv-loop μ-loop
 loop-again c =
     let loop = c .before .before .before .loop in
     let loop-test = c .before .before .loop-test in
-    (omega arith, loop .inv .1 ∙ sign-next _ _ (loop-test .taken) (sym (c .before .begins-at .ensures) ∙ c .if1 .left))
+    loop .inv ∙ sign-next _ _ (loop-test .taken) (sym (c .before .begins-at .ensures) ∙ c .if1 .left)
 
 returns-2 : tie.Need-returns-2 Inv-loop μ-loop
 unfolding asElement
-returns-2 c = ap asElement (sym (c .before .loop .inv .1 ∙ sign-end _ _ (c .loop-test .left)))
+returns-2 c = ap asElement (sym (c .before .loop .inv ∙ sign-end _ _ (c .loop-test .left)))
 
 pub sign-at-spec : {M : Type 1} → statement M
 sign-at-spec =
     tie.close
-    (tie.spec Inv-loop μ-loop (λ c. (omega arith, sign-start _)) (λ c κs. (search needs, omega arith, search needs))
+    (tie.spec Inv-loop μ-loop (search needs) (search needs) (λ c. search sign-from) (λ c κs. (omega arith, omega arith, search needs))
     (λ c κs. (omega arith, omega arith, search needs)) (λ c κs. (omega arith, omega arith, search needs)) returns
     (λ c. omega arith) (λ c. omega arith) loop-again returns-2)

@@ -1,0 +1,7 @@
+use Prim.Native.Nat.{ℕ}
+use lib.ListN.{length-replicate}
+use Rattle.symbols.proofs.empty_stack.Statement.{statement}
+use Rattle.symbols.proofs.empty_stack.Tie as tie
+
+pub empty-stack-spec : {M : Type 1} → statement M
+empty-stack-spec = tie.close (tie.spec (λ _. length-replicate {0} {A = ℕ} 16384 0))

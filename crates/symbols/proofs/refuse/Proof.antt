@@ -1,0 +1,8 @@
+use mathlib.Core.Path.{refl, _∙_}
+use native.Mathlib.Nat.{sub-zero}
+use borrow.Author.Needs.{needs}
+use Rattle.symbols.proofs.refuse.Statement.{statement}
+use Rattle.symbols.proofs.refuse.Tie as tie
+
+pub refuse-spec : {M : Type 1} → statement M
+refuse-spec = tie.close (tie.spec (search needs) (search needs) (λ c. (refl, c .before .before .clear-from .ensures ∙ rw sub-zero)))
