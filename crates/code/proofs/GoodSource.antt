@@ -82,7 +82,7 @@ module _ (strings : ℕ) (text : List ℕ) where
   unfolding groupOf resolved innerLabels functionsTokens FineFunctions
   group-labels k before s [] f = omega arith
   group-labels k before s (x ∷ fs) f =
-      omega (arith, body-labels (inside s x) (2 + length (x .parameters)) (x .body) (f .0), group-labels (k + 1) (withFunction before (x .name) k (startOf (lookup text before (x .name)))) s fs (f .1))
+      omega (arith, body-labels (inside s x) (2 + length (x .parameters)) (x .body) (f .0 .body), group-labels (k + 1) (withFunction before (x .name) k (startOf (lookup text before (x .name)))) s fs (f .1))
 
   declaration-labels : (w : Walk) (d : Declaration) → FineDeclaration strings d → innerLabels (declarationFunctions text w d) + 4 * length (declarationFunctions text w d) ≤ declarationTokens 3 d
   unfolding innerLabels

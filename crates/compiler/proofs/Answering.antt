@@ -248,13 +248,14 @@ module _ {source s : List ℕ} {count end : ℕ} (y : ReadyTree source s count e
   -- as language's `counts`, in a text of any number of strings up to STRINGS
   counted : Counts 1 (sourceNow source) STRINGS (λ at. cost 1 (take at (symbolsNow source)))
   counted =
-      let k = counts 1 (omega arith) source (omega (arith, cost-length (scan source .symbols), few-scanned)) in
+      let k = counts 1 (omega arith) source (omega (arith, y .lent .short)) (omega (arith, cost-length (scan source .symbols), few-scanned)) in
       record {
         up = k .up;
         one = k .one;
         again = k .again;
         most = k .most;
         numbers = k .numbers;
+        names = k .names;
         quotes = λ at e. omega (arith, k .quotes at e, few-strings source (symbolsNow source), ap length symbols-now, y .counts, few-symbols);
       }
 

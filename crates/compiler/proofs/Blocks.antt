@@ -245,8 +245,8 @@ local-deep (someValues ns es) ls h = (omega arith, omega arith)
 
 local-fine : (x : Local) (ls : T.Locals) → FineLs (withLocal x ls) → FineLocal x × FineLs ls
 unfolding FineLocals FineLocal
-local-fine (aVector n c) ls f = f
-local-fine (someValues ns es) ls f = ((sym (f .2), f .0), f .1)
+local-fine (aVector n c) ls f = ((f .0, f .2), f .1)
+local-fine (someValues ns es) ls f = ((sym (f .2), f .0, f .3), f .1)
 
 -- ---- the loop over declarations: the scope and the height change on the way
 
@@ -257,7 +257,7 @@ module _ (text t₀ : List ℕ) {s₀ : List ℕ} {from end : ℕ} {here : Here}
     pub lies : Lies s₀ at (encodeLocals rest)
     pub ends : end ≡ at + length (encodeLocals rest)
     pub starts : from ≤ at
-    pub shows : Shows (y .ready .base) s (r .top) scope
+    pub shows : Shows s (r .top) scope
     pub keeps : Keeps (y .ready .base) (here .top) s₀ s
     pub above : here .top ≤ r .top
     pub room : r .top * 2 + length (encodeLocals rest) ≤ here .top * 2 + length (encodeLocals (y .ready .tree))
@@ -359,7 +359,7 @@ module _ (text t₀ : List ℕ) {s₀ : List ℕ} {from end : ℕ} {here : Here}
   locals-end {s} {t} {at} {r} l q = record {
     by = λ y. let p = q y in let e = no-local (p .rest) (p .ends) l in let z = y .ready in record {
       after = record {
-        shows = subst (λ (sc : Scope). Shows (z .base) s (r .top) sc) (sym (p .scopes ∙ ap (scopeAfter text (p .scope) (r .height)) e)) (p .shows);
+        shows = subst (λ (sc : Scope). Shows s (r .top) sc) (sym (p .scopes ∙ ap (scopeAfter text (p .scope) (r .height)) e)) (p .shows);
         height = sym (p .heights ∙ ap (heightAfter text (p .scope) (r .height)) e);
         keeps = p .keeps;
         above = p .above;

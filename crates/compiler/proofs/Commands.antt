@@ -18,8 +18,8 @@ use Rattle.code.specs.Generate as G
 use Rattle.language.specs.Faults as Y
 use Rattle.language.specs.Faults.{Leavable, unless, inExpression, inCommand, inUnlabelled}
 use Rattle.tree.specs.Encoding.{encode, encodeCommand, encodeUnlabelled}
-use Rattle.compiler.specs.Scope.{Keeps, Shows, Pushed, code, named, nameAt}
-use Rattle.compiler.proofs.Scoping.{keeps-all, keeps-then, keeps-lower, pushed-keeps, pushed-mark, pushed-name}
+use Rattle.compiler.specs.Scope.{Keeps, Shows, Pushed, PushedName, code, named, nameAt}
+use Rattle.compiler.proofs.Scoping.{keeps-all, keeps-then, keeps-lower, keeps-name, pushed-keeps, pushed-mark, pushed-name}
 use Rattle.compiler.specs.declared.steps.State.{State}
 use Rattle.compiler.specs.declared.steps.Here.{Here}
 use Rattle.compiler.specs.declared.steps.Ways.{Ways}
@@ -123,20 +123,20 @@ gave-u-at text {s} {s′} {t} {t′} {end} {d} {w′ = w′} {st} {r} e q g = su
 
 -- ---- a name in a block of its own, as FOR's: a mark and a name are pushed, and what the body does keeps what stood below
 
-module _ (h : ℕ) {s s₁ s₂ : List ℕ} {base top leaf m : ℕ} {sc : Scope} (sh : Shows base s top sc) (long : base ≤ length s) (room : top + 4 ≤ base) (inside-tree : base ≤ leaf)
-    (p : Pushed s s₁ top 0 0) (q : Pushed s₁ s₂ (top + 2) leaf m) (e : m ≡ h * 4 + 1) where
+module _ (h : ℕ) {s s₁ s₂ : List ℕ} {base top leaf m : ℕ} {sc : Scope} (sh : Shows s top sc) (long : base ≤ length s) (room : top + 4 ≤ base) (inside-tree : base ≤ leaf)
+    (p : Pushed s s₁ top 0 0) (q : PushedName s₁ s₂ (top + 2) leaf m) (e : m ≡ h * 4 + 1) where
   pub named-block-keeps : Keeps base top s s₂
-  named-block-keeps = keeps-then (pushed-keeps p (omega arith) long) (keeps-lower (omega arith) (pushed-keeps q (omega arith) (omega (arith, pushed-keeps p (omega arith) long .long))))
+  named-block-keeps = keeps-then (pushed-keeps p (omega arith) long) (keeps-lower (omega arith) (pushed-keeps (q .pushed) (omega arith) (omega (arith, pushed-keeps p (omega arith) long .long))))
 
-  pub named-block-shows : Shows base s₂ (top + 4) (declared (opened sc) (nameAt s leaf) (N.local h))
+  pub named-block-shows : Shows s₂ (top + 4) (declared (opened sc) (nameAt s leaf) (N.local h))
   unfolding code
   named-block-shows =
       let k = pushed-keeps p (omega arith) long in
       let l : base ≤ length s₁ = omega (arith, k .long) in
       let a : top + 2 + 2 ≡ top + 4 = omega arith in
-      let x = pushed-name q (omega arith) l (N.local h) (pushed-mark p (omega arith) long sh refl) inside-tree e tt in
-      let n : nameAt s₁ leaf ≡ nameAt s leaf = ap (λ (z : ℕ). named z (getD s₁ (leaf + 1) 0)) (k .above (leaf + 2) (omega arith)) ∙ ap (λ (z : ℕ). named (getD s (leaf + 2) 0) z) (k .above (leaf + 1) (omega arith)) in
-      subst (λ (z : ℕ). Shows base s₂ z (declared (opened sc) (nameAt s leaf) (N.local h))) a (subst (λ (z : Name). Shows base s₂ (top + 2 + 2) (declared (opened sc) z (N.local h))) n x)
+      let x = pushed-name q (omega arith) l (N.local h) (pushed-mark p (omega arith) long sh refl) e tt in
+      let n : nameAt s₁ leaf ≡ nameAt s leaf = keeps-name k inside-tree in
+      subst (λ (z : ℕ). Shows s₂ z (declared (opened sc) (nameAt s leaf) (N.local h))) a (subst (λ (z : Name). Shows s₂ (top + 2 + 2) (declared (opened sc) z (N.local h))) n x)
 
 -- after a part with more names in scope, the names below are as they were
 pub after-block : {base top high : ℕ} {s s₁ s₂ : List ℕ} → top ≤ high → Keeps base top s s₁ → Keeps base high s₁ s₂ → Keeps base top s s₂

@@ -11,8 +11,9 @@ use Rattle.language.specs.Constants.{Fault, fault}
 use Rattle.language.specs.Resolve.{declareAll}
 use Rattle.language.specs.Faults.{twice}
 use Rattle.tree.specs.Encoding.{encodeName, encodeNames}
-use Rattle.compiler.specs.Scope.{Shows, Keeps, Pushed, Told, code, found, named, nameAt}
-use Rattle.compiler.proofs.Scoping.{keeps-all, keeps-then, keeps-lower, keeps-shows, code-not, pushed-keeps, pushed-name}
+use Rattle.language.specs.Fine.{FineName, FineNames}
+use Rattle.compiler.specs.Scope.{Shows, Keeps, PushedName, Told, code, found, named, nameAt}
+use Rattle.compiler.proofs.Scoping.{keeps-all, keeps-then, keeps-lower, keeps-name, code-not, pushed-keeps, pushed-name}
 use Rattle.compiler.specs.declared.steps.State.{State}
 use Rattle.compiler.specs.Walked.{Code, Did, Faulted}
 use Rattle.compiler.specs.Walks.{Lies}
@@ -45,9 +46,10 @@ module _ (text : List ℕ) {s₀ : List ℕ} {from end top height : ℕ} (st₀ 
     pub lies : Lies s₀ at (encodeNames rest)
     pub ends : end ≡ at + length (encodeNames rest)
     pub starts : from ≤ at
-    pub shows : Shows (y .base) s (top + 2 * k) scope
+    pub shows : Shows s (top + 2 * k) scope
     pub keeps : Keeps (y .base) top s₀ s
     pub many : k + length rest ≡ length (y .names)
+    pub fine : FineNames rest
     pub same : declareAll (y .scope) height (y .names) ≡ declareAll scope (height + k) rest
     pub finish : (t : List ℕ) (st′ : State) → Did (twice text scope (height + k) rest) nothing 0 t t st st′ → Did (twice text (y .scope) height (y .names)) nothing 0 t t st₀ st′
 
@@ -60,9 +62,10 @@ module _ (text : List ℕ) {s₀ : List ℕ} {from end top height : ℕ} (st₀ 
         lies = y .lies;
         ends = y .ends;
         starts = omega arith;
-        shows = subst (λ (n : ℕ). Shows (y .base) s₀ n (y .scope)) a (y .shows);
+        shows = subst (λ (n : ℕ). Shows s₀ n (y .scope)) a (y .shows);
         keeps = keeps-all;
         many = omega arith;
+        fine = y .fine;
         same = ap (λ (h : ℕ). declareAll (y .scope) h (y .names)) b;
         finish = λ t st′ d. subst (λ (h : ℕ). Did (twice text (y .scope) h (y .names)) nothing 0 t t st₀ st′) (sym b) d;
       }
@@ -93,13 +96,12 @@ no-names [] e l = refl
 no-names (n ∷ ns) e l = absurd (omega arith)
 
 module _ (text : List ℕ) {s₀ : List ℕ} {from end top height : ℕ} {st₀ : State} where
-  pub names-next : {s s₁ : List ℕ} {at m place x : ℕ} (k : ℕ) {st r : State} → at < end → Told text s (top + 2 * k) at m → place ≡ getD s (at + 2) 0 → Again m place st r → Pushed s s₁ (top + 2 * k) at x → x ≡ (height + k) * 4 + 1
+  pub names-next : {s s₁ : List ℕ} {at m place x : ℕ} (k : ℕ) {st r : State} → at < end → Told text s (top + 2 * k) at m → place ≡ getD s (at + 2) 0 → Again m place st r → PushedName s s₁ (top + 2 * k) at x → x ≡ (height + k) * 4 + 1
       → (y : ReadyNames s₀ from end top height) → NamesPart text st₀ y s at k st → NamesPart text st₀ y s₁ (at + 4) (k + 1) r
-  unfolding declareAll twice code
+  unfolding declareAll twice code FineNames
   names-next {s} {s₁} {at} {m} {place} {x} k {st} {r} l told ep ag pu ex y p =
       let u = is-names (p .rest) (p .lies) (p .ends) l in
-      let n : nameAt s at ≡ u .name =
-      ap (λ (z : ℕ). named z (getD s (at + 1) 0)) (p .keeps .above (at + 2) (omega (arith, y .above, p .starts))) ∙ ap (λ (z : ℕ). named (getD s₀ (at + 2) 0) z) (p .keeps .above (at + 1) (omega (arith, y .above, p .starts))) ∙ u .is in
+      let n : nameAt s at ≡ u .name = keeps-name (p .keeps) (omega (arith, y .above, p .starts)) ∙ u .is in
       let c : k + 1 + length (u .more) ≡ length (y .names) = omega (arith, p .many, ap length (u .same)) in
       let rm : top + 2 * k + 2 ≤ y .base = omega (arith, y .room, c) in
       let lg : y .base ≤ length s = omega (arith, y .long, p .keeps .long) in
@@ -113,15 +115,16 @@ module _ (text : List ℕ) {s₀ : List ℕ} {from end top height : ℕ} {st₀ 
         lies = u .lies-more;
         ends = u .ends;
         starts = omega (arith, p .starts);
-        shows = subst (λ (z : ℕ). Shows (y .base) s₁ z sc′) tk (subst (λ (z : Name). Shows (y .base) s₁ (top + 2 * k + 2) (declared sc z w)) n (pushed-name pu rm lg w (p .shows) (omega (arith, y .above, p .starts)) ex tt));
-        keeps = keeps-then (p .keeps) (keeps-lower (omega arith) (pushed-keeps pu rm lg));
+        shows = subst (λ (z : ℕ). Shows s₁ z sc′) tk (subst (λ (z : Name). Shows s₁ (top + 2 * k + 2) (declared sc z w)) n (pushed-name pu rm lg w (p .shows) ex tt));
+        keeps = keeps-then (p .keeps) (keeps-lower (omega arith) (pushed-keeps (pu .pushed) rm lg));
         many = c;
+        fine = subst FineNames (u .same) (p .fine) .1;
         same = p .same ∙ ap (declareAll sc (height + k)) (u .same) ∙ ap (λ (z : ℕ). declareAll sc′ z (u .more)) (sym hk);
         finish = λ t st′ d. p .finish t st′
             (subst (λ (ns : List Name). Did (twice text sc (height + k) ns) nothing 0 t t st st′) (sym (u .same))
             (did-as nothing 0 (did-then
             (subst (λ (z : ℕ). Did (onFound (inBlock text sc (u .name)) [] (fault z 9)) nothing 0 t t st r) (ep ∙ ap (λ (z : Name). z .place) n)
-            (ag .by (inBlock text sc (u .name)) (told .by (y .base) sc (p .shows) ∙ ap (λ (z : Name). found (inBlock text sc z)) n) t))
+            (ag .by (inBlock text sc (u .name)) (told .by sc (p .shows) ∙ ap (λ (z : Name). found (inBlock text sc z)) n) t))
             (subst (λ (z : ℕ). Did (twice text sc′ z (u .more)) nothing 0 t t r st′) hk d)) same-refl (λ v e. refl) (omega arith)));
       }
 
@@ -130,14 +133,15 @@ module _ (text : List ℕ) {s₀ : List ℕ} {from end top height : ℕ} {st₀ 
   names-end {s} {at} k {st} l q = record {
     by = λ y. let p = q y in let e = no-names (p .rest) (p .ends) l in
         let c : top + 2 * k ≡ top + 2 * length (y .names) = omega (arith, p .many, ap length e) in record {
-          shows = subst (λ (z : ℕ). Shows (y .base) s z (declareAll (y .scope) height (y .names))) c (subst (λ (z : Scope). Shows (y .base) s (top + 2 * k) z) (sym (p .same ∙ ap (declareAll (p .scope) (height + k)) e)) (p .shows));
+          shows = subst (λ (z : ℕ). Shows s z (declareAll (y .scope) height (y .names))) c (subst (λ (z : Scope). Shows s (top + 2 * k) z) (sym (p .same ∙ ap (declareAll (p .scope) (height + k)) e)) (p .shows));
           keeps = p .keeps;
           did = λ t. p .finish t st (subst (λ (ns : List Name). Did (twice text (p .scope) (height + k) ns) nothing 0 t t st st) (sym e) (did-none 0));
         };
   }
 
-  pub names-fit : {s : List ℕ} {at : ℕ} (k : ℕ) {st : State} → at < end → (y : ReadyNames s₀ from end top height) → NamesPart text st₀ y s at k st → (top + 2 * k + 2 ≤ length s) × (height + k < 2 ^ 29) × (at < 2 ^ 32) × (top + 2 * k + 2 ≤ y .base)
+  pub names-fit : {s : List ℕ} {at : ℕ} (k : ℕ) {st : State} → at < end → (y : ReadyNames s₀ from end top height) → NamesPart text st₀ y s at k st → (top + 2 * k + 2 ≤ length s) × (height + k < 2 ^ 29) × (at < 2 ^ 32) × (top + 2 * k + 2 ≤ y .base) × FineName (nameAt s at)
+  unfolding FineNames
   names-fit k l y p =
       let u = is-names (p .rest) (p .lies) (p .ends) l in
       let c : k + 1 + length (u .more) ≡ length (y .names) = omega (arith, p .many, ap length (u .same)) in
-      (omega (arith, y .room, c, y .long, p .keeps .long), omega (arith, y .heights, c), omega (arith, y .small), omega (arith, y .room, c))
+      (omega (arith, y .room, c, y .long, p .keeps .long), omega (arith, y .heights, c), omega (arith, y .small), omega (arith, y .room, c), subst FineName (sym (keeps-name (p .keeps) (omega (arith, y .above, p .starts)) ∙ u .is)) (subst FineNames (u .same) (p .fine) .0))

@@ -144,7 +144,7 @@ note-none {i} {seen = seen} l = record {
 
 module _ (text : List ℕ) {s : List ℕ} {end : ℕ} (top : ℕ) (st r : State) (n : Node) (nd : NodeAt s end n) where
   abbrev After : (seen seen′ : List ℕ) → Type 0
-  After seen seen′ = (base : ℕ) (sc : Scope) (before : List Label) (l : Label) → Shows base s top sc → LabelAt s end l → Marks seen (labelsOf text sc before)
+  After seen seen′ = (sc : Scope) (before : List Label) (l : Label) → Shows s top sc → LabelAt s end l → Marks seen (labelsOf text sc before)
       → Marked text sc (before ++ (l ∷ [])) (doubledLabel text sc (labelsOf text sc before) l) seen′ st r
 
   pub label-default : {seen seen′ : List ℕ} → (n .kind ≡ 28 → ⊥) → Notes 65536 (n .place) seen seen′ st r → JudgesLabel text s end top seen seen′ st r
@@ -152,8 +152,8 @@ module _ (text : List ℕ) {s : List ℕ} {end : ℕ} (top : ℕ) (st r : State)
   label-default {seen} {seen′} q w = record { by = go }
     where
       go : After seen seen′
-      go base sc before (T.case p c) sh (aCase a e i en f) m = absurd (q (nd .kind ∙ a))
-      go base sc before (T.default p) sh (aDefault a e) m = record {
+      go sc before (T.case p c) sh (aCase a e i en f) m = absurd (q (nd .kind ∙ a))
+      go sc before (T.default p) sh (aDefault a e) m = record {
         marks = subst (λ (z : List CaseLabel). Marks seen′ z) (sym (labels-then text sc before (T.default p ∷ []))) (default-marks w m);
         did = λ t. subst (λ (k : ℕ). Did (cond (hasDefault (labelsOf text sc before)) (fault k 12) []) nothing 0 t t st r) (nd .place ∙ e) (default-did w m t);
       }
@@ -169,10 +169,10 @@ module _ (text : List ℕ) {s : List ℕ} {end : ℕ} (top : ℕ) (st r : State)
     case-by {seen} {seen′} f = record { by = go }
       where
         go : After seen seen′
-        go base sc before (T.case p c) sh (aCase {lo = lo} a e i en fine) m =
-            let k = f p (labelsOf text sc before) (judge text sc c) (g .by base sc lo c sh fine i (nd .inner ∙ en)) e (judged-word text sc c sh fine) m in
+        go sc before (T.case p c) sh (aCase {lo = lo} a e i en fine) m =
+            let k = f p (labelsOf text sc before) (judge text sc c) (g .by sc lo c sh fine i (nd .inner ∙ en)) e (judged-word text sc c sh fine) m in
             record { marks = subst (λ (z : List CaseLabel). Marks seen′ z) (sym (labels-then text sc before (T.case p c ∷ []))) (k .0); did = k .1 }
-        go base sc before (T.default p) sh (aDefault a e) m = absurd (omega (arith, nd .kind))
+        go sc before (T.default p) sh (aDefault a e) m = absurd (omega (arith, nd .kind))
 
     pub label-refused : {seen : List ℕ} → (j .number ≡ 0 → ⊥) → Blames j st r → JudgesLabel text s end top seen seen st r
     label-refused {seen} z b = case-by go
@@ -213,7 +213,7 @@ module _ (text : List ℕ) {s : List ℕ} {from end top : ℕ} (st₀ : State) w
   unfolding doubled
   own-next {seen₁ = seen₁} {st} {r} l n j y first p = let sc = y .scope in
       left-next (Rest y first seen₁ r) l n p
-      (λ x xs e q h. let b = h .before in let k = j .by (y .base) sc b x (y .shows) q (h .marks) in record {
+      (λ x xs e q h. let b = h .before in let k = j .by sc b x (y .shows) q (h .marks) in record {
         before = b ++ (x ∷ []);
         marks = k .marks;
         finish = λ seen′ st′ d. h .finish seen′ st′ (record {

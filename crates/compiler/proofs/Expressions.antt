@@ -63,7 +63,7 @@ module _ (text : List ℕ) {s t t′ : List ℕ} {end : ℕ} {here : Here} {st r
         (record {
           keeps = keeps-all;
           did = more _ (subst (λ (p : ℕ). Did (onFound (lookup text (y .scope) (u .name)) (fault p 8) []) (exprSays (here .strings) (here .height) (ofMeaning (lookup text (y .scope) (u .name)))) 0 t t′ st r) (nd .place ∙ u .place-of)
-              (f .by (here .strings) (here .height) (lookup text (y .scope) (u .name)) (lk .by (y .base) (y .scope) (y .shows) ∙ ap (λ (z : Name). found (lookup text (y .scope) z)) (leaf (u .name) (u .width-of) (u .place-of) (omega (arith, u .ends)))))) (omega arith);
+              (f .by (here .strings) (here .height) (lookup text (y .scope) (u .name)) (lk .by (y .scope) (y .shows) ∙ ap (λ (z : Name). found (lookup text (y .scope) z)) (leaf (u .name) (u .width-of) (u .place-of) (omega (arith, u .ends)))))) (omega arith);
         });
   }
     where

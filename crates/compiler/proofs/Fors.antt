@@ -16,12 +16,12 @@ use Rattle.language.specs.Constants.{Fault, Judged, judgedWord, faultsOf}
 use Rattle.language.specs.Resolved as R
 use Rattle.language.specs.Resolve.{expression, command, unlabelled, byOf}
 use Rattle.language.specs.Heights.{ofExpr, ofCmd}
-use Rattle.language.specs.Fine.{FineBy, FineUnlabelled}
+use Rattle.language.specs.Fine.{FineName, FineBy, FineUnlabelled}
 use Rattle.code.specs.Generate as G
 use Rattle.language.specs.Faults.{Leavable, byFaults, inExpression, inCommand, inUnlabelled}
 use Rattle.tree.specs.Encoding.{encode, encodeName, encodeBy, encodeCommand, encodeUnlabelled}
-use Rattle.compiler.specs.Scope.{Shows, Keeps, Pushed, named, nameAt}
-use Rattle.compiler.proofs.Scoping.{keeps-all, keeps-then, keeps-shows}
+use Rattle.compiler.specs.Scope.{Shows, Keeps, Pushed, PushedName, named, nameAt}
+use Rattle.compiler.proofs.Scoping.{keeps-all, keeps-then, keeps-shows, keeps-name, pushed-keeps}
 use Rattle.compiler.specs.declared.steps.State.{State}
 use Rattle.compiler.specs.declared.steps.Here.{Here}
 use Rattle.compiler.specs.declared.steps.Ways.{Ways}
@@ -121,7 +121,7 @@ module _ {s : List ℕ} {end : ℕ} {here : Here} {st : State} (n b l : Node) {l
   pub for-is : (y : ReadyU s end here st) → IsFor s (y .lo) end (y .tree)
   for-is y = is-for (form-at n nd (nd .kind ∙ q) y)
 
-  pub for-fine : (y : ReadyU s end here st) → let u = for-is y in FineE (u .start) × FineE (u .limit) × FineBy (u .by) × FineC (u .body)
+  pub for-fine : (y : ReadyU s end here st) → let u = for-is y in FineE (u .start) × FineE (u .limit) × FineBy (u .by) × FineC (u .body) × FineName (u .name)
   unfolding FineUnlabelled
   for-fine y = subst FinePlain (for-is y .same) (y .fine) .0
 
@@ -163,16 +163,24 @@ module _ {s : List ℕ} {end : ℕ} {here : Here} {st : State} (n b l : Node) {l
       pub for-keeps : (y : ReadyU s end here st) → Keeps (y .base) (here .top) s s₂
       for-keeps y = keeps-then (g .by (for-first e y) .keeps) (g₂ .by (for-limit y) .keeps)
 
+      for-name : (y : ReadyU s end here st) → nameAt s₂ (n .start) ≡ for-is y .name
+      for-name y = keeps-name (for-keeps y) (omega (arith, for-start y, y .above)) ∙ ap (nameAt s) (for-start y) ∙ for-is y .name-is
+
+      pub for-name-fine : {s₃ : List ℕ} → Pushed s₂ s₃ (here .top) 0 0 → (y : ReadyU s end here st) → FineName (nameAt s₃ (n .start))
+      for-name-fine p y =
+          let k = pushed-keeps {base = y .base} p (omega (arith, for-room y)) (omega (arith, y .long, for-keeps y .long)) in
+          subst FineName (sym (keeps-name k (omega (arith, for-start y, y .above)) ∙ for-name y)) (for-fine y .4)
+
       pub for-says : (y : ReadyU s end here st) → Says v (byJudged text (y .scope) (for-is y .by))
       for-says y = let u = for-is y in
-          jb .by (y .base) (y .scope) (u .by) (keeps-shows (for-keeps y) (omega arith) (y .shows)) (for-fine y .2)
+          jb .by (y .scope) (u .by) (keeps-shows (for-keeps y) (omega arith) (y .shows)) (for-fine y .2)
           (keeps-lies (for-keeps y) (omega (arith, y .above, for-limit-end y)) (subst (λ (z : ℕ). Lies s z (encodeBy (u .by))) (sym (for-limit-end y)) (u .lies-by))) (omega (arith, for-body-start y, for-limit-end y))
 
       pub for-labels : (y : ReadyU s end here st) → (m .label ≤ st .label + 3 + 2 * length (encode (for-is y .start)) + 2 * length (encode (for-is y .limit))) × (st .label ≤ m .label)
       for-labels y = let x = g .by (for-first e y) in let z = g₂ .by (for-limit y) in let w = bl .by (byJudged text (y .scope) (for-is y .by)) (for-says y) t₄ in
           (omega (arith, e .label, x .did .few, f .label, z .did .few, f₂ .label, w .few, f₃ .label), omega (arith, e .label, x .did .grows, f .label, z .did .grows, f₂ .label, w .grows, f₃ .label))
 
-      module _ {s₃ s₄ : List ℕ} {x₄ : ℕ} (p : Pushed s₂ s₃ (here .top) 0 0) (p₂ : Pushed s₃ s₄ (here .top + 2) (n .start) x₄) (ex : x₄ ≡ here .height * 4 + 1) where
+      module _ {s₃ s₄ : List ℕ} {x₄ : ℕ} (p : Pushed s₂ s₃ (here .top) 0 0) (p₂ : PushedName s₃ s₄ (here .top + 2) (n .start) x₄) (ex : x₄ ≡ here .height * 4 + 1) where
         pub for-long : (y : ReadyU s end here st) → y .base ≤ length s₂
         for-long y = omega (arith, y .long, for-keeps y .long)
 
@@ -180,14 +188,11 @@ module _ {s : List ℕ} {end : ℕ} {here : Here} {st : State} (n b l : Node) {l
         for-block-keeps y = keeps-then (for-keeps y)
             (named-block-keeps (here .height) (keeps-shows (for-keeps y) (omega arith) (y .shows)) (for-long y) (for-room y) (omega (arith, for-start y, y .above)) p p₂ ex)
 
-        pub for-block-shows : (y : ReadyU s end here st) → Shows (y .base) s₄ (here .top + 4) (declared (opened (y .scope)) (for-is y .name) (N.local (here .height)))
+        pub for-block-shows : (y : ReadyU s end here st) → Shows s₄ (here .top + 4) (declared (opened (y .scope)) (for-is y .name) (N.local (here .height)))
         for-block-shows y =
             let u = for-is y in let k = for-keeps y in
             let w = named-block-shows (here .height) (keeps-shows k (omega arith) (y .shows)) (for-long y) (for-room y) (omega (arith, for-start y, y .above)) p p₂ ex in
-            let z : nameAt s₂ (n .start) ≡ u .name =
-            ap (λ (i : ℕ). named i (getD s₂ (n .start + 1) 0)) (k .above (n .start + 2) (omega (arith, for-start y, y .above))) ∙ ap (λ (i : ℕ). named (getD s (n .start + 2) 0) i) (k .above (n .start + 1) (omega (arith, for-start y, y .above)))
-            ∙ ap (nameAt s) (for-start y) ∙ u .name-is in
-            subst (λ (i : Name). Shows (y .base) s₄ (here .top + 4) (declared (opened (y .scope)) i (N.local (here .height)))) z w
+            subst (λ (i : Name). Shows s₄ (here .top + 4) (declared (opened (y .scope)) i (N.local (here .height)))) (for-name y) w
 
         abbrev pub for-body : ReadyU s end here st → ReadyC s₄ (n .inner) (placed (here .top + 4) (here .height + 2) here) m
         for-body y = let u = for-is y in let k = for-block-keeps y in let lo′ = y .lo + 4 + length (encode (u .start)) + length (encode (u .limit)) + length (encodeBy (u .by)) in record {

@@ -102,6 +102,7 @@ module _ {s : List ℕ} {end : ℕ} {here : Here} {st : State} (n : Node) (nd : 
           shows = pushed-mark pu (r .1) (y .long) (y .shows) refl;
           room = omega (arith, y .room, z);
           heights = omega (arith, y .height, z);
+          fine = y .fine .parameters;
         }
 
     module _ (text : List ℕ) {label : ℕ} {s₂ t t₁ : List ℕ} {a b c : State} (em : Emits (I.label label ∷ []) [] t t₁ st a)
@@ -127,14 +128,14 @@ module _ {s : List ℕ} {end : ℕ} {here : Here} {st : State} (n : Node) (nd : 
               above = omega (arith, y .above);
               long = omega (arith, y .long, k .long);
               small = omega (arith, y .small, nd .inner);
-              shows = subst (λ (i : ℕ). Shows (y .base) s₂ (here .top + 2 + 2 * i) (declareAll (opened (y .scope)) 2 (y .tree .parameters))) (sym m) (d .shows);
+              shows = subst (λ (i : ℕ). Shows s₂ (here .top + 2 + 2 * i) (declareAll (opened (y .scope)) 2 (y .tree .parameters))) (sym m) (d .shows);
               room = omega (arith, y .room, z, m);
               height = omega (arith, y .height, z, m);
               label = omega (arith, y .label, z, l);
               some = omega (arith, y .some, l);
               strings = y .strings;
               shallow = y .shallow;
-              fine = y .fine;
+              fine = y .fine .body;
             };
             word-is = nd .kind ∙ u .kind-of;
             routine-is = refl;

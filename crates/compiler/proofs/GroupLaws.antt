@@ -15,7 +15,7 @@ use Rattle.language.specs.Names.{Scope, declared, lookup}
 use Rattle.language.specs.Constants.{Fault, fault}
 use Rattle.language.specs.Program.{among}
 use Rattle.tree.specs.Encoding.{encodeName, encodeFunctions}
-use Rattle.compiler.specs.Scope.{Shows, Keeps, Pushed, code, found, named, nameAt}
+use Rattle.compiler.specs.Scope.{Shows, Keeps, PushedName, code, found, named, nameAt}
 use Rattle.compiler.proofs.Scoping.{keeps-all, code-not, pushed-keeps, pushed-name}
 use Rattle.compiler.specs.declared.steps.State.{State}
 use Rattle.compiler.specs.Walked.{Did, Faulted}
@@ -90,14 +90,14 @@ pub enters-global : {s table table′ : List ℕ} {top leaf m k n v : ℕ} → m
 unfolding found code
 enters-global {s} {table} {table′} {top} {leaf} {m} {k} {n} {v} e en ev et = record { long = (refl, ap length et ∙ length-set table n v); by = by }
   where
-    by : (f : N.Found) (base : ℕ) (sc : Scope) (ns : List ℕ) (name : Name) → m ≡ found f → Shows base s top sc → base ≤ leaf → base ≤ length s → top + 2 ≤ base
+    by : (f : N.Found) (base : ℕ) (sc : Scope) (ns : List ℕ) (name : Name) → m ≡ found f → Shows s top sc → base ≤ length s → top + 2 ≤ base
         → nameAt s leaf ≡ name → Taken table ns → ((i : ℕ) → f ≡ N.known (N.global i) → i < 400)
-        → Shows base s top (withFunction sc name k (startOf f)) × Keeps base top s s × Taken table′ (alsoTaken (startOf f) ns) × (top ≤ top) × (top ≤ top + 2) × (table′ ≡ started table k (startOf f))
-    by N.unknown base sc ns name q sh a l r nm tk b = absurd (omega arith)
-    by (N.known (N.local i)) base sc ns name q sh a l r nm tk b = absurd (omega arith)
-    by (N.known (N.manifest i)) base sc ns name q sh a l r nm tk b = absurd (omega arith)
-    by (N.known (N.function i)) base sc ns name q sh a l r nm tk b = absurd (omega arith)
-    by (N.known (N.global i)) base sc ns name q sh a l r nm tk b =
+        → Shows s top (withFunction sc name k (startOf f)) × Keeps base top s s × Taken table′ (alsoTaken (startOf f) ns) × (top ≤ top) × (top ≤ top + 2) × (table′ ≡ started table k (startOf f))
+    by N.unknown base sc ns name q sh l r nm tk b = absurd (omega arith)
+    by (N.known (N.local i)) base sc ns name q sh l r nm tk b = absurd (omega arith)
+    by (N.known (N.manifest i)) base sc ns name q sh l r nm tk b = absurd (omega arith)
+    by (N.known (N.function i)) base sc ns name q sh l r nm tk b = absurd (omega arith)
+    by (N.known (N.global i)) base sc ns name q sh l r nm tk b =
         let z : n ≡ i = omega arith in (
           sh,
           keeps-all,
@@ -107,36 +107,36 @@ enters-global {s} {table} {table′} {top} {leaf} {m} {k} {n} {v} e en ev et = r
           et ∙ ap (λ (x : ℕ). set table x v) z ∙ ap (set table i) ev,
         )
 
-pub enters-name : {s s′ table : List ℕ} {top leaf m k x : ℕ} → (m % 4 ≡ 2 → ⊥) → Pushed s s′ top leaf x → x ≡ k * 4 + 4 → length s′ ≡ length s → Enters s s′ table table top leaf m k (top + 2)
+pub enters-name : {s s′ table : List ℕ} {top leaf m k x : ℕ} → (m % 4 ≡ 2 → ⊥) → PushedName s s′ top leaf x → x ≡ k * 4 + 4 → length s′ ≡ length s → Enters s s′ table table top leaf m k (top + 2)
 unfolding found code
 enters-name {s} {s′} {table} {top} {leaf} {m} {k} {x} e pu ex el = record { long = (el, refl); by = by }
   where
-    there : (base : ℕ) (sc : Scope) (ns : List ℕ) (name : Name) → Shows base s top sc → base ≤ leaf → base ≤ length s → top + 2 ≤ base → nameAt s leaf ≡ name → Taken table ns
-        → Shows base s′ (top + 2) (declared sc name (N.function k)) × Keeps base top s s′ × Taken table ns × (top ≤ top + 2) × (top + 2 ≤ top + 2) × (table ≡ table)
-    there base sc ns name sh a l r nm tk =
-        (subst (λ (z : Name). Shows base s′ (top + 2) (declared sc z (N.function k))) nm (pushed-name pu r l (N.function k) sh a ex tt), pushed-keeps pu r l, tk, omega arith, omega arith, refl)
+    there : (base : ℕ) (sc : Scope) (ns : List ℕ) (name : Name) → Shows s top sc → base ≤ length s → top + 2 ≤ base → nameAt s leaf ≡ name → Taken table ns
+        → Shows s′ (top + 2) (declared sc name (N.function k)) × Keeps base top s s′ × Taken table ns × (top ≤ top + 2) × (top + 2 ≤ top + 2) × (table ≡ table)
+    there base sc ns name sh l r nm tk =
+        (subst (λ (z : Name). Shows s′ (top + 2) (declared sc z (N.function k))) nm (pushed-name pu r l (N.function k) sh ex tt), pushed-keeps (pu .pushed) r l, tk, omega arith, omega arith, refl)
 
-    by : (f : N.Found) (base : ℕ) (sc : Scope) (ns : List ℕ) (name : Name) → m ≡ found f → Shows base s top sc → base ≤ leaf → base ≤ length s → top + 2 ≤ base
+    by : (f : N.Found) (base : ℕ) (sc : Scope) (ns : List ℕ) (name : Name) → m ≡ found f → Shows s top sc → base ≤ length s → top + 2 ≤ base
         → nameAt s leaf ≡ name → Taken table ns → ((i : ℕ) → f ≡ N.known (N.global i) → i < 400)
-        → Shows base s′ (top + 2) (withFunction sc name k (startOf f)) × Keeps base top s s′ × Taken table (alsoTaken (startOf f) ns) × (top ≤ top + 2) × (top + 2 ≤ top + 2) × (table ≡ started table k (startOf f))
-    by N.unknown base sc ns name q sh a l r nm tk b = there base sc ns name sh a l r nm tk
-    by (N.known (N.local i)) base sc ns name q sh a l r nm tk b = there base sc ns name sh a l r nm tk
-    by (N.known (N.manifest i)) base sc ns name q sh a l r nm tk b = there base sc ns name sh a l r nm tk
-    by (N.known (N.function i)) base sc ns name q sh a l r nm tk b = there base sc ns name sh a l r nm tk
-    by (N.known (N.global i)) base sc ns name q sh a l r nm tk b = absurd (e (omega arith))
+        → Shows s′ (top + 2) (withFunction sc name k (startOf f)) × Keeps base top s s′ × Taken table (alsoTaken (startOf f) ns) × (top ≤ top + 2) × (top + 2 ≤ top + 2) × (table ≡ started table k (startOf f))
+    by N.unknown base sc ns name q sh l r nm tk b = there base sc ns name sh l r nm tk
+    by (N.known (N.local i)) base sc ns name q sh l r nm tk b = there base sc ns name sh l r nm tk
+    by (N.known (N.manifest i)) base sc ns name q sh l r nm tk b = there base sc ns name sh l r nm tk
+    by (N.known (N.function i)) base sc ns name q sh l r nm tk b = there base sc ns name sh l r nm tk
+    by (N.known (N.global i)) base sc ns name q sh l r nm tk b = absurd (e (omega arith))
 
 pub enters-far : {s table : List ℕ} {top leaf m k n : ℕ} → m % 4 ≡ 2 → n ≡ m / 4 → length table ≤ n → Enters s s table table top leaf m k top
 unfolding found code
 enters-far {s} {table} {top} {leaf} {m} {k} {n} e en l₀ = record { long = (refl, refl); by = by }
   where
-    by : (f : N.Found) (base : ℕ) (sc : Scope) (ns : List ℕ) (name : Name) → m ≡ found f → Shows base s top sc → base ≤ leaf → base ≤ length s → top + 2 ≤ base
+    by : (f : N.Found) (base : ℕ) (sc : Scope) (ns : List ℕ) (name : Name) → m ≡ found f → Shows s top sc → base ≤ length s → top + 2 ≤ base
         → nameAt s leaf ≡ name → Taken table ns → ((i : ℕ) → f ≡ N.known (N.global i) → i < 400)
-        → Shows base s top (withFunction sc name k (startOf f)) × Keeps base top s s × Taken table (alsoTaken (startOf f) ns) × (top ≤ top) × (top ≤ top + 2) × (table ≡ started table k (startOf f))
-    by N.unknown base sc ns name q sh a l r nm tk b = absurd (omega arith)
-    by (N.known (N.local i)) base sc ns name q sh a l r nm tk b = absurd (omega arith)
-    by (N.known (N.manifest i)) base sc ns name q sh a l r nm tk b = absurd (omega arith)
-    by (N.known (N.function i)) base sc ns name q sh a l r nm tk b = absurd (omega arith)
-    by (N.known (N.global i)) base sc ns name q sh a l r nm tk b = absurd (omega (arith, b i refl, tk .long))
+        → Shows s top (withFunction sc name k (startOf f)) × Keeps base top s s × Taken table (alsoTaken (startOf f) ns) × (top ≤ top) × (top ≤ top + 2) × (table ≡ started table k (startOf f))
+    by N.unknown base sc ns name q sh l r nm tk b = absurd (omega arith)
+    by (N.known (N.local i)) base sc ns name q sh l r nm tk b = absurd (omega arith)
+    by (N.known (N.manifest i)) base sc ns name q sh l r nm tk b = absurd (omega arith)
+    by (N.known (N.function i)) base sc ns name q sh l r nm tk b = absurd (omega arith)
+    by (N.known (N.global i)) base sc ns name q sh l r nm tk b = absurd (omega (arith, b i refl, tk .long))
 
 -- ---- how many functions a group has
 

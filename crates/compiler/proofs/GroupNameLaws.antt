@@ -15,13 +15,14 @@ use Rattle.language.specs.Constants.{Fault, fault}
 use Rattle.language.specs.Resolved.{Start, nowhere, inGlobal}
 use Rattle.language.specs.Program.{among, startOf, withFunction, nameFault, alsoTaken, functionsAfter, takenAfter, groupNameFaults}
 use Rattle.tree.specs.Encoding.{encodeName, encodeNames, encodeBody, encodeFunctions}
+use Rattle.language.specs.Fine.{FineName, FineFunctions}
 use Rattle.compiler.specs.Scope.{Shows, Keeps, Looked, found, named, nameAt}
 use Rattle.compiler.specs.declared.steps.State.{State}
 use Rattle.compiler.specs.Walked.{Did}
 use Rattle.compiler.specs.Walks.{Lies}
 use Rattle.compiler.specs.Commands.{nothing}
-use Rattle.compiler.specs.Groups.{Small, Taken, Starting, startsIn, started, NameFaults, Enters, encodeFunction, ReadyGroup, GroupNames}
-use Rattle.compiler.proofs.Scoping.{keeps-all, keeps-then, keeps-lower, Order, lt, ge, order}
+use Rattle.compiler.specs.Groups.{Small, Taken, Starting, startsIn, started, NameFaults, Enters, encodeFunction, FineF, FineFs, ReadyGroup, GroupNames}
+use Rattle.compiler.proofs.Scoping.{keeps-all, keeps-then, keeps-lower, keeps-name, Order, lt, ge, order}
 use Rattle.compiler.proofs.Done.{nil-left, nil-right, did-none, did-then, did-as, same-refl}
 use Rattle.compiler.proofs.Trees.{first}
 use Rattle.compiler.proofs.GroupLaws.{is-function, no-function}
@@ -134,6 +135,10 @@ small-with sc name k (inGlobal n) h = h
 
 -- ---- the loop
 
+fine-first : (f : Function) (fs : List Function) → FineFs (f ∷ fs) → FineF f × FineFs fs
+unfolding FineFunctions
+fine-first f fs h = h
+
 -- the name at the front of a function
 name-of : {s : List ℕ} {lo : ℕ} (f : Function) → Lies s lo (encodeFunction f) → nameAt s lo ≡ f .name
 unfolding encodeName
@@ -153,11 +158,12 @@ module _ (text : List ℕ) {s₀ table₀ : List ℕ} {from end top before : ℕ
     pub lies : Lies s₀ at (encodeFunctions rest)
     pub ends : end ≡ at + length (encodeFunctions rest)
     pub starts : from ≤ at
-    pub shows : Shows (y .base) s now scope
+    pub shows : Shows s now scope
     pub keeps : Keeps (y .base) top s₀ s
     pub up : top ≤ now
     pub room : now + 2 * length rest ≤ top + 2 * length (y .functions)
     pub many : k + length rest ≡ before + length (y .functions)
+    pub fine : FineFs rest
     pub globals : Small scope
     pub free : Taken table taken
     pub scopes : functionsAfter text before (y .scope) (y .functions) ≡ functionsAfter text k scope rest
@@ -183,6 +189,7 @@ module _ (text : List ℕ) {s₀ table₀ : List ℕ} {from end top before : ℕ
     up = omega arith;
     room = omega arith;
     many = refl;
+    fine = y .fine;
     globals = y .globals;
     free = y .free;
     scopes = refl;
@@ -203,6 +210,11 @@ module _ (text : List ℕ) {s₀ table₀ : List ℕ} {from end top before : ℕ
     pub low : y .base ≤ at
     pub few : k < 2 ^ 29
     pub table-long : length table ≡ 400
+    pub name : FineName (nameAt s (at + 2))
+
+  function-name : {s table : List ℕ} {at k now : ℕ} {st : State} (l : at < end)
+      (y : ReadyGroup s₀ table₀ from end top before) (p : GroupPart y s table at k now st) → nameAt s (at + 2) ≡ is-function (p .rest) (p .lies) (p .ends) l .part .name
+  function-name l y p = let u = is-function (p .rest) (p .lies) (p .ends) l in keeps-name (p .keeps) (omega (arith, y .above, p .starts)) ∙ name-of (u .part) (u .lies-one)
 
   pub names-fit : {s table : List ℕ} {at k now : ℕ} {st : State} → at < end
       → (y : ReadyGroup s₀ table₀ from end top before) → GroupPart y s table at k now st → Fits y s table at k now
@@ -217,6 +229,7 @@ module _ (text : List ℕ) {s₀ table₀ : List ℕ} {from end top before : ℕ
         low = low;
         few = omega (arith, y .few, p .many, c);
         table-long = p .free .long;
+        name = subst FineName (sym (function-name l y p)) (fine-first (u .part) (u .more) (subst FineFs (u .same) (p .fine)) .0 .name);
       }
 
   pub names-next : {s s′ table table′ : List ℕ} {at k now size next m place now′ : ℕ} {st r : State} → at < end → size ≡ getD s at 0 → next ≡ at + 2 + size
@@ -226,14 +239,12 @@ module _ (text : List ℕ) {s₀ table₀ : List ℕ} {from end top before : ℕ
   names-next {s} {s′} {table} {table′} {at} {k} {now} {size} {next} {m} {place} {now′} {st} {r} l es en lk ep nf ent y p =
       let u = is-function (p .rest) (p .lies) (p .ends) l in let w = names-fit l y p in let c = ap length (u .same) in
       let sc = p .scope in let name = u .part .name in let f = lookup text sc name in
-      let n : nameAt s (at + 2) ≡ name =
-      ap (λ (z : ℕ). named z (getD s (at + 2 + 1) 0)) (p .keeps .above (at + 2 + 2) (omega (arith, w .low)))
-      ∙ ap (λ (z : ℕ). named (getD s₀ (at + 2 + 2) 0) z) (p .keeps .above (at + 2 + 1) (omega (arith, w .low))) ∙ name-of (u .part) (u .lies-one) in
+      let n : nameAt s (at + 2) ≡ name = function-name l y p in
       let four : at + 4 ≡ at + 2 + 2 = omega arith in
       let place-is : place ≡ name .place = ep ∙ ap (λ (z : ℕ). getD s z 0) four ∙ ap (λ (z : Name). z .place) n in
-      let m-is : m ≡ found f = lk .by (y .base) sc (p .shows) ∙ ap (λ (z : Name). found (lookup text sc z)) n in
+      let m-is : m ≡ found f = lk .by sc (p .shows) ∙ ap (λ (z : Name). found (lookup text sc z)) n in
       let small : (i : ℕ) → f ≡ N.known (N.global i) → i < 400 = λ i e. small-found text sc name i (p .globals) e in
-      let e = ent .by f (y .base) sc (p .taken) name m-is (p .shows) (omega (arith, w .low)) (w .long) (w .room) n (p .free) small in
+      let e = ent .by f (y .base) sc (p .taken) name m-is (p .shows) (w .long) (w .room) n (p .free) small in
       let sz : size ≡ length (encodeFunction (u .part)) = es ∙ p .keeps .above at (w .low) ∙ u .size-of in
       let x = startOf f in let fs = nameFault (name .place) (p .taken) f in
       record {
@@ -250,6 +261,7 @@ module _ (text : List ℕ) {s₀ table₀ : List ℕ} {from end top before : ℕ
         up = omega (arith, p .up, e .3);
         room = omega (arith, p .room, e .4, c);
         many = omega (arith, p .many, c);
+        fine = fine-first (u .part) (u .more) (subst FineFs (u .same) (p .fine)) .1;
         globals = small-with sc name k x (p .globals);
         free = e .2;
         scopes = p .scopes ∙ ap (functionsAfter text k sc) (u .same);
@@ -278,7 +290,7 @@ module _ (text : List ℕ) {s₀ table₀ : List ℕ} {from end top before : ℕ
         let ss : startsIn text before (y .scope) (y .functions) ≡ p .begun =
         p .started ∙ ap (λ (z : List Function). p .begun ++ startsIn text k (p .scope) z) e ∙ append-nil (p .begun) in
         record {
-          shows = subst (λ (z : Scope). Shows (y .base) s now z) (sym (p .scopes ∙ ap (functionsAfter text k (p .scope)) e)) (p .shows);
+          shows = subst (λ (z : Scope). Shows s now z) (sym (p .scopes ∙ ap (functionsAfter text k (p .scope)) e)) (p .shows);
           keeps = p .keeps;
           up = (p .up, omega (arith, p .room));
           taken = subst (λ (z : List ℕ). Taken table z) (sym (p .takens ∙ ap (takenAfter text k (p .scope) (p .taken)) e)) (p .free);

@@ -13,8 +13,8 @@ use Rattle.language.specs.Constants as K
 use Rattle.language.specs.Constants.{Fault, fault, Judged, judge, forGlobal, judgedWord, faultsOf}
 use Rattle.tree.specs.Encoding.{encodeName, encodeConstant, encodeItems}
 use Rattle.compiler.specs.Scope as S
-use Rattle.compiler.specs.Scope.{Shows, Keeps, Pushed, Worded, code, found, named, nameAt}
-use Rattle.compiler.proofs.Scoping.{keeps-all, keeps-then, keeps-lower, pushed-keeps, pushed-name}
+use Rattle.compiler.specs.Scope.{Shows, Keeps, PushedName, Worded, code, found, named, nameAt}
+use Rattle.compiler.proofs.Scoping.{keeps-all, keeps-then, keeps-lower, keeps-name, pushed-keeps, pushed-name}
 use Rattle.compiler.specs.declared.steps.State.{State}
 use Rattle.compiler.specs.Walked.{Did}
 use Rattle.compiler.specs.Walks.{Lies}
@@ -22,7 +22,8 @@ use Rattle.compiler.specs.Commands.{nothing, Again}
 use Rattle.compiler.proofs.Done.{did-none, did-then, did-as, same-refl}
 use Rattle.compiler.proofs.Trees.{first, second, keeps-lies}
 use Rattle.compiler.proofs.Judging.{judged-word}
-use Rattle.language.specs.Fine.{FineConstant, FineItems}
+use Rattle.language.specs.Fine.{FineName, FineConstant, FineItem, FineItems}
+use Rattle.compiler.specs.Fine.{STRINGS}
 use Rattle.compiler.specs.Locals.{Says, fit, unfit, Judges, JudgesMost, Blames}
 use Rattle.compiler.specs.declared.steps.Verdict.{Verdict}
 use Rattle.language.specs.Program.{globalsAfter, manifestsAfter, globalFaults, manifestFaults}
@@ -84,7 +85,7 @@ unfolding encodeItems encodeName
 no-item [] e l = refl
 no-item (i ∷ is) e l = absurd (omega arith)
 
-fine-first : (i : Item) (is : List Item) → FineIs (i ∷ is) → FineConstant (i .constant)
+fine-first : (i : Item) (is : List Item) → FineIs (i ∷ is) → FineItem STRINGS i
 unfolding FineItems
 fine-first i is f = f .0
 
@@ -98,7 +99,7 @@ word-is : {r : Verdict} (j : Judged) → Says r j → r .word ≡ judgedWord j
 word-is (K.good v) (fit q) = refl
 word-is (K.refused fs) (unfit a b w) = w
 
-meaning-word : (g : Bool) (text : List ℕ) (sc : Scope) (c : T.Constant) {base : ℕ} {s : List ℕ} {top : ℕ} → Shows base s top sc → FineConstant c → Worded (meaning g (judgedWord (judged g text sc c)))
+meaning-word : (g : Bool) (text : List ℕ) (sc : Scope) (c : T.Constant) {s : List ℕ} {top : ℕ} → Shows s top sc → FineConstant c → Worded (meaning g (judgedWord (judged g text sc c)))
 unfolding meaning judged
 meaning-word true text sc c sh f = tt
 meaning-word false text sc c sh f = judged-word text sc c sh f
@@ -136,7 +137,7 @@ module _ (g : Bool) (text : List ℕ) {s₀ : List ℕ} {from end top : ℕ} (st
     pub lies : Lies s₀ at (encodeItems rest)
     pub ends : end ≡ at + length (encodeItems rest)
     pub starts : from ≤ at
-    pub shows : Shows (y .base) s (top + 2 * k) scope
+    pub shows : Shows s (top + 2 * k) scope
     pub keeps : Keeps (y .base) top s₀ s
     pub many : k + length rest ≡ length (y .items)
     pub fine : FineIs rest
@@ -152,7 +153,7 @@ module _ (g : Bool) (text : List ℕ) {s₀ : List ℕ} {from end top : ℕ} (st
         lies = y .lies;
         ends = y .ends;
         starts = omega arith;
-        shows = subst (λ (n : ℕ). Shows (y .base) s₀ n (y .scope)) a (y .shows);
+        shows = subst (λ (n : ℕ). Shows s₀ n (y .scope)) a (y .shows);
         keeps = keeps-all;
         many = omega arith;
         fine = y .fine;
@@ -167,6 +168,14 @@ module _ (g : Bool) (text : List ℕ) {s₀ : List ℕ} {from end top : ℕ} (st
     pub long : y .base ≤ length s
     pub small : end < 2 ^ 32
     pub low : y .base ≤ end
+    pub name : FineName (nameAt s (at + 2))
+
+  item-name : {s : List ℕ} {at : ℕ} (k : ℕ) {st : State} (l : at < end) (y : ReadyItems s₀ from end top) (p : ItemsPart y s at k st) → nameAt s (at + 2) ≡ is-item (p .rest) (p .lies) (p .ends) l .item .name
+  item-name {s} {at} k l y p =
+      let u = is-item (p .rest) (p .lies) (p .ends) l in
+      let q2 : at + 2 + 2 ≡ at + 4 = omega arith in let q1 : at + 2 + 1 ≡ at + 3 = omega arith in
+      keeps-name (p .keeps) (omega (arith, y .above, p .starts)) ∙ ap (λ (z : ℕ). named z (getD s₀ (at + 2 + 1) 0)) (ap (λ (z : ℕ). getD s₀ z 0) q2 ∙ u .place)
+      ∙ ap (λ (z : ℕ). named (u .item .name .place) z) (ap (λ (z : ℕ). getD s₀ z 0) q1 ∙ u .width)
 
   pub items-fit : {s : List ℕ} {at : ℕ} (k : ℕ) {st : State} → at < end → (y : ReadyItems s₀ from end top) → ItemsPart y s at k st → Fits y s at k
   items-fit {s} {at} k l y p =
@@ -178,6 +187,7 @@ module _ (g : Bool) (text : List ℕ) {s₀ : List ℕ} {from end top : ℕ} (st
         long = omega (arith, y .long, p .keeps .long);
         small = y .small;
         low = omega (arith, y .above, p .starts);
+        name = subst FineName (sym (item-name k l y p)) (fine-first (u .item) (u .more) (subst FineIs (u .same) (p .fine)) .name);
       }
 
   -- its constant judged
@@ -185,12 +195,12 @@ module _ (g : Bool) (text : List ℕ) {s₀ : List ℕ} {from end top : ℕ} (st
       → (y : ReadyItems s₀ from end top) (p : ItemsPart y s at k st) → Says c (judged g text (p .scope) (is-item (p .rest) (p .lies) (p .ends) l .item .constant))
   item-says {s} {at} k l es en ju y p =
       let u = is-item (p .rest) (p .lies) (p .ends) l in
-      ju .by (y .base) (p .scope) (at + 6) (u .item .constant) (p .shows) (fine-first (u .item) (u .more) (subst FineIs (u .same) (p .fine)))
+      ju .by (p .scope) (at + 6) (u .item .constant) (p .shows) (fine-first (u .item) (u .more) (subst FineIs (u .same) (p .fine)) .constant)
       (keeps-lies (p .keeps) (omega (arith, y .above, p .starts)) (u .lies-k))
       (omega (arith, es, en, p .keeps .above at (omega (arith, y .above, p .starts)), u .size-of))
 
   pub items-next : {s s₁ : List ℕ} {at size next m place x : ℕ} {c : Verdict} (k : ℕ) {st a r : State} → at < end → size ≡ getD s at 0 → next ≡ at + 2 + size → JudgesItem g text s next (top + 2 * k) c
-      → S.Told text s (top + 2 * k) (at + 2) m → place ≡ getD s (at + 4) 0 → Blames c st a → Again m place a r → Pushed s s₁ (top + 2 * k) (at + 2) x → x ≡ code (meaning g (c .word))
+      → S.Told text s (top + 2 * k) (at + 2) m → place ≡ getD s (at + 4) 0 → Blames c st a → Again m place a r → PushedName s s₁ (top + 2 * k) (at + 2) x → x ≡ code (meaning g (c .word))
       → (y : ReadyItems s₀ from end top) → ItemsPart y s at k st → ItemsPart y s₁ next (k + 1) r
   items-next {s} {s₁} {at} {size} {next} {m} {place} {x} {c} k {st} {a} {r} l es en ju told ep bl ag pu ex y p =
       let u = is-item (p .rest) (p .lies) (p .ends) l in
@@ -199,10 +209,7 @@ module _ (g : Bool) (text : List ℕ) {s₀ : List ℕ} {from end top : ℕ} (st
       let i = u .item in let sc = p .scope in let sc′ = scopeWith g text sc i in
       let j = judged g text sc (i .constant) in
       let b4 : y .base ≤ at = omega (arith, y .above, p .starts) in
-      let n : nameAt s (at + 2) ≡ i .name =
-      let q2 : at + 2 + 2 ≡ at + 4 = omega arith in let q1 : at + 2 + 1 ≡ at + 3 = omega arith in
-      ap (λ (z : ℕ). named z (getD s (at + 2 + 1) 0)) (ap (λ (z : ℕ). getD s z 0) q2 ∙ p .keeps .above (at + 4) (omega arith) ∙ u .place)
-      ∙ ap (λ (z : ℕ). named (i .name .place) z) (ap (λ (z : ℕ). getD s z 0) q1 ∙ p .keeps .above (at + 3) (omega arith) ∙ u .width) in
+      let n : nameAt s (at + 2) ≡ i .name = item-name k l y p in
       let ep′ : place ≡ i .name .place = ep ∙ p .keeps .above (at + 4) (omega arith) ∙ u .place in
       let w : meaning g (c .word) ≡ meaning g (judgedWord j) = ap (meaning g) (word-is j told-k) in
       let sz : size ≡ 4 + length (encodeConstant (i .constant)) = es ∙ p .keeps .above at b4 ∙ u .size-of in
@@ -214,10 +221,10 @@ module _ (g : Bool) (text : List ℕ) {s₀ : List ℕ} {from end top : ℕ} (st
         lies = subst (λ (z : ℕ). Lies s₀ z (encodeItems (u .more))) nx (u .lies-more);
         ends = omega (arith, u .ends, nx);
         starts = omega (arith, p .starts);
-        shows = subst (λ (z : ℕ). Shows (y .base) s₁ z sc′) tk (subst (λ (z : Name). Shows (y .base) s₁ (top + 2 * k + 2) (declared sc z (meaning g (judgedWord j)))) n
-            (pushed-name pu (f .room) (f .long) (meaning g (judgedWord j)) (p .shows) (omega arith) (ex ∙ ap code w)
-            (meaning-word g text sc (i .constant) (p .shows) (fine-first (u .item) (u .more) (subst FineIs (u .same) (p .fine))))));
-        keeps = keeps-then (p .keeps) (keeps-lower (omega arith) (pushed-keeps pu (f .room) (f .long)));
+        shows = subst (λ (z : ℕ). Shows s₁ z sc′) tk (subst (λ (z : Name). Shows s₁ (top + 2 * k + 2) (declared sc z (meaning g (judgedWord j)))) n
+            (pushed-name pu (f .room) (f .long) (meaning g (judgedWord j)) (p .shows) (ex ∙ ap code w)
+            (meaning-word g text sc (i .constant) (p .shows) (fine-first (u .item) (u .more) (subst FineIs (u .same) (p .fine)) .constant))));
+        keeps = keeps-then (p .keeps) (keeps-lower (omega arith) (pushed-keeps (pu .pushed) (f .room) (f .long)));
         many = omega (arith, p .many, ap length (u .same));
         fine = fine-more (u .item) (u .more) (subst FineIs (u .same) (p .fine));
         same = p .same ∙ ap (after g text sc) (u .same) ∙ after-step g text sc i (u .more);
@@ -225,7 +232,7 @@ module _ (g : Bool) (text : List ℕ) {s₀ : List ℕ} {from end top : ℕ} (st
             (subst (λ (fs : List Fault). Did fs nothing 0 t t st st′) (sym (ap (faults g text sc) (u .same) ∙ faults-step g text sc i (u .more)))
             (did-as nothing 0 (did-then (bl .by j told-k t) (did-then
             (subst (λ (z : ℕ). Did (onFound (inBlock text sc (i .name)) [] (fault z 9)) nothing 0 t t a r) ep′
-            (ag .by (inBlock text sc (i .name)) (told .by (y .base) sc (p .shows) ∙ ap (λ (z : Name). found (inBlock text sc z)) n) t))
+            (ag .by (inBlock text sc (i .name)) (told .by sc (p .shows) ∙ ap (λ (z : Name). found (inBlock text sc z)) n) t))
             d)) same-refl (λ v e. refl) (omega arith)));
       }
 
@@ -234,7 +241,7 @@ module _ (g : Bool) (text : List ℕ) {s₀ : List ℕ} {from end top : ℕ} (st
     by = λ y. let p = q y in let e = no-item (p .rest) (p .ends) l in
         let c : k ≡ length (y .items) = omega (arith, p .many, ap length e) in record {
           moved = omega arith;
-          shows = subst (λ (z : Scope). Shows (y .base) s (top + 2 * k) z) (sym (p .same ∙ ap (after g text (p .scope)) e ∙ after-none g text (p .scope))) (p .shows);
+          shows = subst (λ (z : Scope). Shows s (top + 2 * k) z) (sym (p .same ∙ ap (after g text (p .scope)) e ∙ after-none g text (p .scope))) (p .shows);
           keeps = p .keeps;
           did = λ t. p .finish t st (subst (λ (fs : List Fault). Did fs nothing 0 t t st st) (sym (ap (faults g text (p .scope)) e ∙ faults-none g text (p .scope))) (did-none 0));
         };

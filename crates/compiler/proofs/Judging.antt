@@ -28,7 +28,7 @@ use Rattle.compiler.specs.declared.steps.Node.{Node}
 use Rattle.compiler.specs.declared.steps.Placed.{Placed}
 use Rattle.compiler.specs.declared.steps.Verdict.{Verdict}
 use Rattle.compiler.specs.Fine.{FineEs}
-use Rattle.language.specs.Fine.{FineConstant}
+use Rattle.language.specs.Fine.{FineName, FineNames, FineConstant}
 use Rattle.compiler.specs.Walked.{leavable, NodeAt, Code, Did, Emits, Faulted}
 use Rattle.compiler.specs.Walks.{Lies, Ready, ReadyArgs, GaveArgs}
 use Rattle.compiler.specs.Commands.{nothing, ReadyNames, Declared, Declares}
@@ -98,7 +98,7 @@ found-word c n (N.known (N.manifest v)) u = signed-word (c .minus) v u
 found-word c n (N.known (N.function k)) u = omega arith
 
 -- a constant is a word
-pub judged-word : (text : List ℕ) (sc : Scope) (c : Constant) {base : ℕ} {s : List ℕ} {top : ℕ} → Shows base s top sc → FineConstant c → judgedWord (judge text sc c) < 65536
+pub judged-word : (text : List ℕ) (sc : Scope) (c : Constant) {s : List ℕ} {top : ℕ} → Shows s top sc → FineConstant c → judgedWord (judge text sc c) < 65536
 unfolding judge
 judged-word text sc c sh f = go (c .simple) (f .small)
   where
@@ -117,62 +117,62 @@ FineSimple p b x = ((v : ℕ) → x ≡ T.literal v → v < 65536) × ((n : Name
 
 module _ (text : List ℕ) {s : List ℕ} {end : ℕ} (top : ℕ) (n : Node) (nd : NodeAt s end n) where
   abbrev Go : Verdict → Type 0
-  Go r = (base : ℕ) (sc : Scope) (lo p : ℕ) (b : Bool) (x : Simple) → Shows base s top sc → FineSimple p b x → Lies s lo (cond b (encodeNegative p x) (encodePositive p x)) → end ≡ lo + length (cond b (encodeNegative p x) (encodePositive p x)) → Says r (ofSimple text sc (record { place = p; minus = b; simple = x }) x)
+  Go r = (sc : Scope) (lo p : ℕ) (b : Bool) (x : Simple) → Shows s top sc → FineSimple p b x → Lies s lo (cond b (encodeNegative p x) (encodePositive p x)) → end ≡ lo + length (cond b (encodeNegative p x) (encodePositive p x)) → Says r (ofSimple text sc (record { place = p; minus = b; simple = x }) x)
 
   judges : {r : Verdict} → (r .place < 2 ^ 32) × (r .number < 32) → r .word < 2 ^ 30 → Go r → Judges text s end top r
   unfolding judge encodeConstant
-  judges f l go = record { fits = f; low = l; by = λ base sc lo c sh fine h e. go base sc lo (c .place) (c .minus) (c .simple) sh (fine .small, fine .place) h e }
+  judges f l go = record { fits = f; low = l; by = λ sc lo c sh fine h e. go sc lo (c .place) (c .minus) (c .simple) sh (fine .small, fine .place) h e }
 
   pub judge-number : n .kind ≡ 60 → Judges text s end top (record { word = n .value % 65536; number = 0; place = 0 })
   unfolding encodePositive encodeNegative encodeName
   judge-number q = judges (omega arith, omega arith) (omega arith) go
     where
       go : Go (record { word = n .value % 65536; number = 0; place = 0 })
-      go base sc lo p false (T.literal v) sh f h e = subst (λ (k : ℕ). Says (record { word = n .value % 65536; number = 0; place = 0 }) (good k)) (let z : n .value ≡ v = nd .value ∙ value-is [] v p 60 h e in omega (arith, f .0 v refl)) (fit refl)
-      go base sc lo p false (T.known x) sh f h e = absurd (omega (arith, q, nd .kind, kind-is [] (x .width) (x .place) 59 h e))
-      go base sc lo p true (T.literal v) sh f h e = absurd (omega (arith, q, nd .kind, kind-is [] v p 36 h e))
-      go base sc lo p true (T.known x) sh f h e = absurd (omega (arith, q, nd .kind, kind-is (0 ∷ x .width ∷ x .place ∷ 59 ∷ []) 0 p 36 h e))
+      go sc lo p false (T.literal v) sh f h e = subst (λ (k : ℕ). Says (record { word = n .value % 65536; number = 0; place = 0 }) (good k)) (let z : n .value ≡ v = nd .value ∙ value-is [] v p 60 h e in omega (arith, f .0 v refl)) (fit refl)
+      go sc lo p false (T.known x) sh f h e = absurd (omega (arith, q, nd .kind, kind-is [] (x .width) (x .place) 59 h e))
+      go sc lo p true (T.literal v) sh f h e = absurd (omega (arith, q, nd .kind, kind-is [] v p 36 h e))
+      go sc lo p true (T.known x) sh f h e = absurd (omega (arith, q, nd .kind, kind-is (0 ∷ x .width ∷ x .place ∷ 59 ∷ []) 0 p 36 h e))
 
   pub judge-name : {m : ℕ} {r : Verdict} → n .kind ≡ 59 → Looked text s top (n .inner) m → NamedConstant m false (n .place) (n .place) r → Judges text s end top r
   unfolding encodePositive encodeNegative encodeName
   judge-name {m} {r} q lk nm = judges (nm .fits) (nm .low) go
     where
       go : Go r
-      go base sc lo p false (T.literal v) sh f h e = absurd (omega (arith, q, nd .kind, kind-is [] v p 60 h e))
-      go base sc lo p false (T.known x) sh f h e =
+      go sc lo p false (T.literal v) sh f h e = absurd (omega (arith, q, nd .kind, kind-is [] v p 60 h e))
+      go sc lo p false (T.known x) sh f h e =
           let a : n .inner + 1 ≡ end - 3 = omega (arith, nd .inner, ends [] (x .width) (x .place) 59 h e) in
           let b : n .inner + 2 ≡ end - 2 = omega (arith, nd .inner, ends [] (x .width) (x .place) 59 h e) in
           let ex : nameAt s (n .inner) ≡ x = name-there s (n .inner) x (ap (λ (k : ℕ). getD s k 0) a ∙ value-is [] (x .width) (x .place) 59 h e) (ap (λ (k : ℕ). getD s k 0) b ∙ place-is [] (x .width) (x .place) 59 h e) in
           let ep : x .place ≡ n .place = sym (nd .place ∙ place-is [] (x .width) (x .place) 59 h e) in
-          nm .by (record { place = p; minus = false; simple = T.known x }) x (lookup text sc x) (lk .by base sc sh ∙ ap (λ (z : Name). found (lookup text sc z)) ex) refl (f .1 x refl refl ∙ ep) ep
-      go base sc lo p true (T.literal v) sh f h e = absurd (omega (arith, q, nd .kind, kind-is [] v p 36 h e))
-      go base sc lo p true (T.known x) sh f h e = absurd (omega (arith, q, nd .kind, kind-is (0 ∷ x .width ∷ x .place ∷ 59 ∷ []) 0 p 36 h e))
+          nm .by (record { place = p; minus = false; simple = T.known x }) x (lookup text sc x) (lk .by sc sh ∙ ap (λ (z : Name). found (lookup text sc z)) ex) refl (f .1 x refl refl ∙ ep) ep
+      go sc lo p true (T.literal v) sh f h e = absurd (omega (arith, q, nd .kind, kind-is [] v p 36 h e))
+      go sc lo p true (T.known x) sh f h e = absurd (omega (arith, q, nd .kind, kind-is (0 ∷ x .width ∷ x .place ∷ 59 ∷ []) 0 p 36 h e))
 
   pub judge-negative : {w : ℕ} → (n .kind ≡ 60 → ⊥) → (n .kind ≡ 59 → ⊥) → n .start ≡ n .inner → w ≡ signed true (n .value) → Judges text s end top (record { word = w; number = 0; place = 0 })
   unfolding encodePositive encodeNegative encodeName
   judge-negative {w} n1 n2 q ew = judges (omega arith, omega arith) (omega arith) go
     where
       go : Go (record { word = w; number = 0; place = 0 })
-      go base sc lo p false (T.literal v) sh f h e = absurd (n1 (nd .kind ∙ kind-is [] v p 60 h e))
-      go base sc lo p false (T.known x) sh f h e = absurd (n2 (nd .kind ∙ kind-is [] (x .width) (x .place) 59 h e))
-      go base sc lo p true (T.literal v) sh f h e = subst (λ (k : ℕ). Says (record { word = w; number = 0; place = 0 }) (good k)) (ew ∙ ap (signed true) (nd .value ∙ value-is [] v p 36 h e)) (fit refl)
-      go base sc lo p true (T.known x) sh f h e = let c : List ℕ = 0 ∷ x .width ∷ x .place ∷ 59 ∷ [] in absurd (omega (arith, q, nd .start, nd .inner, size-is c 0 p 36 h e, ends c 0 p 36 h e))
+      go sc lo p false (T.literal v) sh f h e = absurd (n1 (nd .kind ∙ kind-is [] v p 60 h e))
+      go sc lo p false (T.known x) sh f h e = absurd (n2 (nd .kind ∙ kind-is [] (x .width) (x .place) 59 h e))
+      go sc lo p true (T.literal v) sh f h e = subst (λ (k : ℕ). Says (record { word = w; number = 0; place = 0 }) (good k)) (ew ∙ ap (signed true) (nd .value ∙ value-is [] v p 36 h e)) (fit refl)
+      go sc lo p true (T.known x) sh f h e = let c : List ℕ = 0 ∷ x .width ∷ x .place ∷ 59 ∷ [] in absurd (omega (arith, q, nd .start, nd .inner, size-is c 0 p 36 h e, ends c 0 p 36 h e))
 
   pub judge-negated : {m name : ℕ} {r : Verdict} → (n .kind ≡ 60 → ⊥) → (n .kind ≡ 59 → ⊥) → (n .start ≡ n .inner → ⊥) → Looked text s top (n .start) m → name ≡ getD s (n .start + 2) 0 → NamedConstant m true name (n .place) r → Judges text s end top r
   unfolding encodePositive encodeNegative encodeName
   judge-negated {m} {name} {r} n1 n2 q lk ename nm = judges (nm .fits) (nm .low) go
     where
       go : Go r
-      go base sc lo p false (T.literal v) sh f h e = absurd (n1 (nd .kind ∙ kind-is [] v p 60 h e))
-      go base sc lo p false (T.known x) sh f h e = absurd (n2 (nd .kind ∙ kind-is [] (x .width) (x .place) 59 h e))
-      go base sc lo p true (T.literal v) sh f h e = absurd (q (omega (arith, nd .start, nd .inner, size-is [] v p 36 h e)))
-      go base sc lo p true (T.known x) sh f h e =
+      go sc lo p false (T.literal v) sh f h e = absurd (n1 (nd .kind ∙ kind-is [] v p 60 h e))
+      go sc lo p false (T.known x) sh f h e = absurd (n2 (nd .kind ∙ kind-is [] (x .width) (x .place) 59 h e))
+      go sc lo p true (T.literal v) sh f h e = absurd (q (omega (arith, nd .start, nd .inner, size-is [] v p 36 h e)))
+      go sc lo p true (T.known x) sh f h e =
           let c : List ℕ = 0 ∷ x .width ∷ x .place ∷ 59 ∷ [] in let hc = kid c 0 p 36 h e in
           let es : n .start ≡ lo = omega (arith, nd .start, size-is c 0 p 36 h e, ends c 0 p 36 h e) in
           let a : n .start + 1 ≡ lo + 1 = omega arith in let b : n .start + 2 ≡ lo + 2 = omega arith in
           let ep : getD s (n .start + 2) 0 ≡ x .place = ap (λ (k : ℕ). getD s k 0) b ∙ hc .at 2 (omega arith) in
           let ex : nameAt s (n .start) ≡ x = name-there s (n .start) x (ap (λ (k : ℕ). getD s k 0) a ∙ hc .at 1 (omega arith)) ep in
-          nm .by (record { place = p; minus = true; simple = T.known x }) x (lookup text sc x) (lk .by base sc sh ∙ ap (λ (z : Name). found (lookup text sc z)) ex) refl (sym (nd .place ∙ place-is c 0 p 36 h e)) (sym (ename ∙ ep))
+          nm .by (record { place = p; minus = true; simple = T.known x }) x (lookup text sc x) (lk .by sc sh ∙ ap (λ (z : Name). found (lookup text sc z)) ex) refl (sym (nd .place ∙ place-is c 0 p 36 h e)) (sym (ename ∙ ep))
 
 -- its place is that of its record
 constant-place : {s : List ℕ} {lo end : ℕ} (p : ℕ) (b : Bool) (x : Simple) → FineSimple p b x → Lies s lo (cond b (encodeNegative p x) (encodePositive p x)) → end ≡ lo + length (cond b (encodeNegative p x) (encodePositive p x)) → getD s (end - 2) 0 ≡ p
@@ -199,12 +199,12 @@ module _ (most : ℕ) {text s : List ℕ} {end top : ℕ} {j : Verdict} (g : Jud
   most-big {p} {e₂} l q e f = record {
     small = omega arith;
     fits = (f, omega arith);
-    by = λ base sc lo c sh fine h en.
-        too-big most c (judge text sc c) l (e ∙ ap (λ (k : ℕ). getD s k 0) q ∙ place-there c fine h en) (g .by base sc lo c sh fine h en);
+    by = λ sc lo c sh fine h en.
+        too-big most c (judge text sc c) l (e ∙ ap (λ (k : ℕ). getD s k 0) q ∙ place-there c fine h en) (g .by sc lo c sh fine h en);
   }
 
   pub most-fits : j .word ≤ most → JudgesMost most text s end top j
-  most-fits l = record { small = l; fits = g .fits; by = λ base sc lo c sh fine h en. not-too-big most c (judge text sc c) l (g .by base sc lo c sh fine h en) }
+  most-fits l = record { small = l; fits = g .fits; by = λ sc lo c sh fine h en. not-too-big most c (judge text sc c) l (g .by sc lo c sh fine h en) }
 
 pub blame-none : {j : Verdict} {st : State} → j .number ≡ 0 → Blames j st st
 blame-none {j} {st} e = record { by = by }
@@ -255,6 +255,10 @@ unfolding encodeNames encodeName
 names-long [] = refl
 names-long (n ∷ ns) = omega (arith, names-long ns, length-append (0 ∷ n .width ∷ n .place ∷ 59 ∷ []) (encodeNames ns))
 
+pub one-fine : {n : Name} → FineName n → FineNames (n ∷ [])
+unfolding FineNames
+one-fine f = (f, tt)
+
 module _ {s : List ℕ} {end : ℕ} {here : Here} {st : State} (n : Node) (nd : NodeAt s end n) (q : getD s (end - 1) 0 ≡ 6) where
   pub vector-is : (y : ReadyLocal s end here st) → IsVector s (y .lo) end (y .tree)
   vector-is y = is-vector (y .tree) (y .lies) (y .ends) q
@@ -262,7 +266,7 @@ module _ {s : List ℕ} {end : ℕ} {here : Here} {st : State} (n : Node) (nd : 
   pub vector-start : (y : ReadyLocal s end here st) → n .start ≡ y .lo
   vector-start y = let u = vector-is y in omega (arith, nd .start, u .size-of, u .ends)
 
-  pub vector-fine : (y : ReadyLocal s end here st) → FineConstant (vector-is y .constant)
+  pub vector-fine : (y : ReadyLocal s end here st) → FineConstant (vector-is y .constant) × FineName (vector-is y .name)
   unfolding FineLocal
   vector-fine y = subst FineLocal (vector-is y .same) (y .fine)
 
@@ -279,6 +283,7 @@ module _ {s : List ℕ} {end : ℕ} {here : Here} {st : State} (n : Node) (nd : 
     shows = y .shows;
     room = omega (arith, y .room, y .ends, u .ends);
     heights = omega (arith, y .height, y .ends, u .ends);
+    fine = one-fine (vector-fine y .1);
   }
 
   pub vector-gave : (text : List ℕ) {s₁ t t′ : List ℕ} {e hh : ℕ} {j : Verdict} {a b c : State} (ee : e ≡ n .start + 4) → JudgesMost 4095 text s (n .inner) (here .top) j → Blames j st a → Declares text s s₁ (n .start) e (here .top) (here .height) a b
@@ -287,12 +292,12 @@ module _ {s : List ℕ} {end : ℕ} {here : Here} {st : State} (n : Node) (nd : 
   vector-gave text {s₁} {t} {t′} {e} {hh} {j} {a} {b} {c} ee jv bl de em eh = record {
     by = λ y.
         let u = vector-is y in let sc = y .scope in let h = here .height in let K = u .constant in
-        let sa = jv .by (y .base) sc (y .lo + 4) K (y .shows) (vector-fine y) (u .lies-constant) (omega (arith, nd .inner, u .ends)) in
+        let sa = jv .by sc (y .lo + 4) K (y .shows) (vector-fine y .0) (u .lies-constant) (omega (arith, nd .inner, u .ends)) in
         let d = de .by (vector-names ee y) in let w = says-word (forVector text sc K) sa in
         let two : here .top + 2 * length (u .name ∷ []) ≡ here .top + 2 = omega arith in
         subst (λ (x : Local). LocalDone text sc x (y .base) here s s₁ t t′ st (record { top = here .top + 2; height = hh; done = c })) (sym (u .same)) (record {
           after = record {
-            shows = subst (λ (k : ℕ). Shows (y .base) s₁ k (declared sc (u .name) (N.local h))) two (d .shows);
+            shows = subst (λ (k : ℕ). Shows s₁ k (declared sc (u .name) (N.local h))) two (d .shows);
             height = eh ∙ ap (λ (k : ℕ). h + 2 + k) w;
             keeps = d .keeps;
             above = omega arith;
@@ -339,7 +344,7 @@ module _ {s : List ℕ} {end : ℕ} {here : Here} {st : State} (n : Node) (nd : 
   pub values-start : (y : ReadyLocal s end here st) → (n .start ≡ y .lo) × (middle ≡ y .lo + length (encodeNames (values-is y .names)))
   values-start y = let u = values-is y in (omega (arith, nd .start, u .size-of, u .ends), omega (arith, m, nd .start, nd .value, u .value-of, u .size-of, u .ends))
 
-  pub values-fine : (y : ReadyLocal s end here st) → (length (values-is y .names) ≡ T.count (values-is y .values)) × FineEs (values-is y .values)
+  pub values-fine : (y : ReadyLocal s end here st) → (length (values-is y .names) ≡ T.count (values-is y .values)) × FineEs (values-is y .values) × FineNames (values-is y .names)
   unfolding FineLocal
   values-fine y = subst FineLocal (values-is y .same) (y .fine)
 
@@ -368,6 +373,7 @@ module _ {s : List ℕ} {end : ℕ} {here : Here} {st : State} (n : Node) (nd : 
       shows = keeps-shows k (omega arith) (y .shows);
       room = omega (arith, y .room, y .ends, u .ends, names-long (u .names));
       heights = omega (arith, y .height, y .ends, u .ends, names-long (u .names));
+      fine = values-fine y .2;
     }
 
     pub values-gave : {s₂ : List ℕ} {top height : ℕ} {b : State} → Declares text s₁ s₂ (n .start) middle (here .top) (here .height) a b → top ≡ here .top + n .value / 2 → height ≡ here .height + n .value / 4
@@ -380,7 +386,7 @@ module _ {s : List ℕ} {end : ℕ} {here : Here} {st : State} (n : Node) (nd : 
           let two : here .top + 2 * length ns ≡ top = omega (arith, et, v) in
           subst (λ (z : Local). LocalDone text sc z (y .base) here s s₂ t t′ st (record { top = top; height = height; done = b })) (sym (u .same)) (record {
             after = record {
-              shows = subst (λ (k : ℕ). Shows (y .base) s₂ k (declareAll sc h ns)) two (d .shows);
+              shows = subst (λ (k : ℕ). Shows s₂ k (declareAll sc h ns)) two (d .shows);
               height = omega (arith, eh, v);
               keeps = keeps-then (x .keeps) (d .keeps);
               above = omega (arith, two);

@@ -227,6 +227,7 @@ module _ {s table : List ℕ} {from end left strings : ℕ} {l : Progress} (y : 
     globals = y .stands .globals;
     free = y .stands .free;
     few = omega (arith, y .few, group-sized, functions-long (grp .functions));
+    fine = subst (FineDeclaration STRINGS) (grp .same) (y .fine);
   }
 
   module _ {text s₁ table₁ : List ℕ} {k : Known} (g : GroupNames text s s₁ table table₁ from end (l .top) (l .functions) (l .done .state) k) where

@@ -30,7 +30,7 @@ module _ {A B : Type 0} {encA : A → List ℕ} {deepA : A → ℕ} {FineA : A �
     above = omega (arith, y .above);
     long = omega (arith, y .long, k .long);
     small = omega (arith, y .small);
-    shows = keeps-shows k (omega arith) (subst (λ (n : ℕ). Shows (y .base) s n (y .scope)) (sym top) (y .shows));
+    shows = keeps-shows k (omega arith) (subst (λ (n : ℕ). Shows s n (y .scope)) (sym top) (y .shows));
     room = omega (arith, y .room, y .ends);
     height = height;
     label = label;

@@ -62,27 +62,27 @@ module _ (text : List ℕ) {s : List ℕ} {from end top : ℕ} where
   unfolding encodeBy
   by-none l = record { fits = (omega arith, omega arith); by = go }
     where
-      go : (base : ℕ) (sc : Scope) (k : Option Constant) → Shows base s top sc → FineBy k → Lies s from (encodeBy k) → end ≡ from + length (encodeBy k) → Says (record { word = 1; number = 0; place = 0 }) (byJudged text sc k)
-      go base sc none sh f h e = fit refl
-      go base sc (some c) sh f h e = absurd (omega (arith, constant-long c))
+      go : (sc : Scope) (k : Option Constant) → Shows s top sc → FineBy k → Lies s from (encodeBy k) → end ≡ from + length (encodeBy k) → Says (record { word = 1; number = 0; place = 0 }) (byJudged text sc k)
+      go sc none sh f h e = fit refl
+      go sc (some c) sh f h e = absurd (omega (arith, constant-long c))
 
   -- whatever a constant there is judged, if there is one
   judges-by : {r : Verdict} → from < end → (r .place < 2 ^ 32) × (r .number < 32)
-      → ((base : ℕ) (sc : Scope) (c : Constant) → Shows base s top sc → FineConstant c → Lies s from (encodeConstant c) → end ≡ from + length (encodeConstant c) → Says r (byJudged text sc (some c))) → JudgesBy text s from end top r
+      → ((sc : Scope) (c : Constant) → Shows s top sc → FineConstant c → Lies s from (encodeConstant c) → end ≡ from + length (encodeConstant c) → Says r (byJudged text sc (some c))) → JudgesBy text s from end top r
   unfolding encodeBy
   judges-by {r} l f g = record { fits = f; by = go }
     where
-      go : (base : ℕ) (sc : Scope) (k : Option Constant) → Shows base s top sc → FineBy k → Lies s from (encodeBy k) → end ≡ from + length (encodeBy k) → Says r (byJudged text sc k)
-      go base sc none sh f h e = absurd (omega arith)
-      go base sc (some c) sh f h e = g base sc c sh f h e
+      go : (sc : Scope) (k : Option Constant) → Shows s top sc → FineBy k → Lies s from (encodeBy k) → end ≡ from + length (encodeBy k) → Says r (byJudged text sc k)
+      go sc none sh f h e = absurd (omega arith)
+      go sc (some c) sh f h e = g sc c sh f h e
 
   module _ {j : Verdict} (l : from < end) (g : Judges text s end top j) where
     pub by-judged : (j .number ≡ 0 → j .word ≡ 0 → ⊥) → JudgesBy text s from end top j
-    by-judged n = judges-by l (g .fits) (λ base sc c sh f h e. not-zero c (judge text sc c) n (g .by base sc from c sh f h e))
+    by-judged n = judges-by l (g .fits) (λ sc c sh f h e. not-zero c (judge text sc c) n (g .by sc from c sh f h e))
 
     pub by-zero : {p e₂ : ℕ} → j .number ≡ 0 → j .word ≡ 0 → e₂ ≡ end - 2 → p ≡ getD s e₂ 0 → p < 2 ^ 32 → JudgesBy text s from end top (record { word = 0; number = 11; place = p })
-    by-zero {p} {e₂} n w q e f = judges-by l (f, omega arith) (λ base sc c sh fine h en.
-        a-zero c (judge text sc c) n w (e ∙ ap (λ (k : ℕ). getD s k 0) q ∙ place-there c fine h en) (g .by base sc from c sh fine h en))
+    by-zero {p} {e₂} n w q e f = judges-by l (f, omega arith) (λ sc c sh fine h en.
+        a-zero c (judge text sc c) n w (e ∙ ap (λ (k : ℕ). getD s k 0) q ∙ place-there c fine h en) (g .by sc from c sh fine h en))
 
 -- ---- the loop over items
 
@@ -152,18 +152,18 @@ module _ (text : List ℕ) {s : List ℕ} {end top : ℕ} {st : State} (n : Node
   unfolding misplaced
   misplaced-default q = record { by = go }
     where
-      go : (base : ℕ) (sc : Scope) (l : Label) → Shows base s top sc → LabelAt s end l → (t : List ℕ) → Did (misplaced text sc (l ∷ [])) nothing 0 t t st a
-      go base sc (T.case p c) sh (aCase k e h en f) t = absurd (q (nd .kind ∙ k))
-      go base sc (T.default p) sh (aDefault k e) t = twelve nd w e t
+      go : (sc : Scope) (l : Label) → Shows s top sc → LabelAt s end l → (t : List ℕ) → Did (misplaced text sc (l ∷ [])) nothing 0 t t st a
+      go sc (T.case p c) sh (aCase k e h en f) t = absurd (q (nd .kind ∙ k))
+      go sc (T.default p) sh (aDefault k e) t = twelve nd w e t
 
   pub misplaced-case : {j : Verdict} {r : State} → n .kind ≡ 28 → Judges text s (n .inner) top j → Blames j a r → MisplacesLabel text s end top st r
   unfolding misplaced
   misplaced-case {j} {r} q g b = record { by = go }
     where
-      go : (base : ℕ) (sc : Scope) (l : Label) → Shows base s top sc → LabelAt s end l → (t : List ℕ) → Did (misplaced text sc (l ∷ [])) nothing 0 t t st r
-      go base sc (T.case p c) sh (aCase {lo = lo} k e h en f) t =
-          did-as nothing 0 (did-then (twelve nd w e t) (b .by (judge text sc c) (g .by base sc lo c sh f h (nd .inner ∙ en)) t)) (same-eq (sym (append-nil _))) (λ v z. refl) (omega arith)
-      go base sc (T.default p) sh (aDefault k e) t = absurd (omega (arith, nd .kind))
+      go : (sc : Scope) (l : Label) → Shows s top sc → LabelAt s end l → (t : List ℕ) → Did (misplaced text sc (l ∷ [])) nothing 0 t t st r
+      go sc (T.case p c) sh (aCase {lo = lo} k e h en f) t =
+          did-as nothing 0 (did-then (twelve nd w e t) (b .by (judge text sc c) (g .by sc lo c sh f h (nd .inner ∙ en)) t)) (same-eq (sym (append-nil _))) (λ v z. refl) (omega arith)
+      go sc (T.default p) sh (aDefault k e) t = absurd (omega (arith, nd .kind))
 
 misplaced-then : (text : List ℕ) (sc : Scope) (l : Label) (ls : List Label) → misplaced text sc (l ∷ []) ++ misplaced text sc ls ≡ misplaced text sc (l ∷ ls)
 unfolding misplaced
@@ -181,7 +181,7 @@ module _ (text : List ℕ) {s : List ℕ} {from end top : ℕ} (st₀ : State) w
   pub misplaced-next : {at next : ℕ} {st r : State} → at < end → NextItem s at end next → MisplacesLabel text s next top st r → (y : ReadyMisplaced s from end top) → MisplacedPart y at st → MisplacedPart y next r
   misplaced-next {at} {next} {st} {r} l n m y p =
       left-next (λ rest. (t : List ℕ) (st′ : State) → Did (misplaced text (y .scope) rest) nothing 0 t t r st′ → Did (misplaced text (y .scope) (y .labels)) nothing 0 t t st₀ st′) l n p
-      (λ x xs e q h t st′ d. h t st′ (did-as nothing 0 (did-then (m .by (y .base) (y .scope) x (y .shows) q t) d) (same-eq (misplaced-then text (y .scope) x xs)) (λ v z. refl) (omega arith)))
+      (λ x xs e q h t st′ d. h t st′ (did-as nothing 0 (did-then (m .by (y .scope) x (y .shows) q t) d) (same-eq (misplaced-then text (y .scope) x xs)) (λ v z. refl) (omega arith)))
 
   pub misplaced-end : {at : ℕ} {st : State} → end ≤ at → ((y : ReadyMisplaced s from end top) → MisplacedPart y at st) → Misplaces text s from end top st₀ st
   unfolding misplaced

@@ -315,7 +315,7 @@ module _ (text : List ℕ) {s t t′ : List ℕ} {end : ℕ} (place : ℕ) {here
           keeps = keeps-all;
           did = more _
               (subst (λ (p : ℕ). Did (onFound w (fault p 8) [] ++ unlessSide place (sideOf (ofMeaning w))) (exprSays here (addressOf (sideOf (ofMeaning w)))) 0 t t′ st r) (nd .place ∙ u .place-of)
-              (f .by here w (lk .by (y .base) sc (y .shows) ∙ ap (λ (z : Name). found (lookup text sc z)) ex))) (omega arith);
+              (f .by here w (lk .by sc (y .shows) ∙ ap (λ (z : Name). found (lookup text sc z)) ex))) (omega arith);
         });
   }
 
@@ -445,7 +445,7 @@ module _ (text : List ℕ) {s t t′ : List ℕ} {end : ℕ} (place : ℕ) (here
           keeps = keeps-all;
           did = more _
               (subst (λ (p : ℕ). Did (onFound w (fault p 8) [] ++ unlessSide place (sideOf (ofMeaning w))) (targetSays here (targetOf (sideOf (ofMeaning w)))) 0 t t′ st r) (nd .place ∙ u .place-of)
-              (f .by here w (lk .by (y .base) sc (y .shows) ∙ ap (λ (z : Name). found (lookup text sc z)) ex))) (omega arith);
+              (f .by here w (lk .by sc (y .shows) ∙ ap (λ (z : Name). found (lookup text sc z)) ex))) (omega arith);
         });
   }
 

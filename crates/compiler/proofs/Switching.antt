@@ -307,18 +307,18 @@ module _ (text : List ℕ) {s : List ℕ} {end top : ℕ} (n : Node) (nd : NodeA
   unfolding labelsOf G.pairsOf
   pair-not {k} {t} {st} q = record { still = still-here; by = go }
     where
-      go : (base : ℕ) (sc : Scope) (x : Label) → Shows base s top sc → LabelAt s end x → Sound text sc (x ∷ []) → Emits (G.pairsOf k (labelsOf text sc (x ∷ []))) [] t t st st
-      go base sc (T.case p c) sh (aCase a e h en f) so = absurd (q (nd .kind ∙ a))
-      go base sc (T.default p) sh (aDefault a e) so = emits-none
+      go : (sc : Scope) (x : Label) → Shows s top sc → LabelAt s end x → Sound text sc (x ∷ []) → Emits (G.pairsOf k (labelsOf text sc (x ∷ []))) [] t t st st
+      go sc (T.case p c) sh (aCase a e h en f) so = absurd (q (nd .kind ∙ a))
+      go sc (T.default p) sh (aDefault a e) so = emits-none
 
   pub pair-is : {k : ℕ} {t t₁ t₂ : List ℕ} {st a r : State} {j : Verdict} → n .kind ≡ 28 → Judges text s (n .inner) top j → Emits (G.D (j .word) ∷ []) [] t t₁ st a → Emits (G.DL k ∷ []) [] t₁ t₂ a r → WritesPair text s end top k t t₂ st r
   unfolding labelsOf G.pairsOf
   pair-is {k} {t} {t₁} {t₂} {st} {a} {r} {j} q g d e = record { still = still-then (emits-still d) (emits-still e); by = go }
     where
-      go : (base : ℕ) (sc : Scope) (x : Label) → Shows base s top sc → LabelAt s end x → Sound text sc (x ∷ []) → Emits (G.pairsOf k (labelsOf text sc (x ∷ []))) [] t t₂ st r
-      go base sc (T.case p c) sh (aCase {lo = lo} a en h z f) (L.goodCase v w so) =
-          emits-as (emits-then d e) (sym (ap (λ (x : Judged). G.pairsOf k (goodCase x [])) (says-is (g .by base sc lo c sh f h (nd .inner ∙ z)) w)))
-      go base sc (T.default p) sh (aDefault a en) so = absurd (omega (arith, nd .kind))
+      go : (sc : Scope) (x : Label) → Shows s top sc → LabelAt s end x → Sound text sc (x ∷ []) → Emits (G.pairsOf k (labelsOf text sc (x ∷ []))) [] t t₂ st r
+      go sc (T.case p c) sh (aCase {lo = lo} a en h z f) (L.goodCase v w so) =
+          emits-as (emits-then d e) (sym (ap (λ (x : Judged). G.pairsOf k (goodCase x [])) (says-is (g .by sc lo c sh f h (nd .inner ∙ z)) w)))
+      go sc (T.default p) sh (aDefault a en) so = absurd (omega (arith, nd .kind))
 
 module _ (text : List ℕ) {s : List ℕ} {from end top : ℕ} (k : ℕ) (t₀ : List ℕ) (st₀ : State) where
   abbrev pub PairsPart : (y : Listed (LabelAt s) s from end top) (t : List ℕ) (at : ℕ) (st : State) → Type 0
@@ -334,7 +334,7 @@ module _ (text : List ℕ) {s : List ℕ} {from end top : ℕ} (k : ℕ) (t₀ :
       (λ x xs e q h. (
         sound-right (x ∷ []) xs (h .0),
         λ t′ st′ d. h .1 t′ st′
-            (emits-as (emits-then (w .by (y .base) sc x (y .shows) q (sound-left (x ∷ []) xs (h .0))) d) (pairs-then text sc k x xs)),
+            (emits-as (emits-then (w .by sc x (y .shows) q (sound-left (x ∷ []) xs (h .0))) d) (pairs-then text sc k x xs)),
       ))
 
   pub pairs-end : {at : ℕ} {t : List ℕ} {st : State} → end ≤ at → Still st₀ st → ((y : Listed (LabelAt s) s from end top) → Sound text (y .scope) (y .all) → PairsPart y t at st) → WritesPairs text s from end top k t₀ t st₀ st

@@ -27,6 +27,7 @@ use Rattle.compiler.specs.declared.steps.Here.{Here}
 use Rattle.compiler.specs.declared.steps.Ways.{Ways}
 use Rattle.compiler.specs.Walked.{raised, leavable, leavableBy, exits, Did, Emits, Code}
 use Rattle.compiler.specs.Repeats.{conditions, formsSays}
+use Rattle.language.specs.Fine.{FineNames}
 use Rattle.compiler.specs.Fine.{FineE, FineEs, FineC, FineCs, FinePlain, FineRs, FineLs}
 use Rattle.compiler.specs.Walks.{Lies, Ready, Result, Gave}
 
@@ -234,12 +235,13 @@ pub record ReadyNames (s : List ℕ) (from end top height : ℕ) : Type 0 where
   pub above : base ≤ from
   pub long : base ≤ length s
   pub small : end < 2 ^ 32
-  pub shows : Shows base s top scope
+  pub shows : Shows s top scope
   pub room : top + 2 * length names ≤ base
   pub heights : height + length names ≤ 2 ^ 29
+  pub fine : FineNames names
 
 pub record Declared (text s s′ : List ℕ) (base : ℕ) (sc : Scope) (ns : List Name) (top height : ℕ) (st st′ : State) : Type 0 where
-  pub shows : Shows base s′ (top + 2 * length ns) (declareAll sc height ns)
+  pub shows : Shows s′ (top + 2 * length ns) (declareAll sc height ns)
   pub keeps : Keeps base top s s′
   pub did : (t : List ℕ) → Did (twice text sc height ns) nothing 0 t t st st′
 

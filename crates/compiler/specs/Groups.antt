@@ -20,7 +20,7 @@ use Rattle.code.specs.Generate as G
 use Rattle.language.specs.Program.{among}
 use Rattle.tree.specs.Encoding.{closed, encodeName, encodeNames, encodeBody, bodyWord, encodeFunctions, encodeProgram}
 use Rattle.compiler.specs.Scope.{Shows, Keeps, found, nameAt}
-use Rattle.language.specs.Fine.{FineBody, FineFunctions, FineProgram}
+use Rattle.language.specs.Fine.{FineBody, FineFunction, FineFunctions, FineProgram}
 use Rattle.compiler.specs.Fine.{STRINGS, FineE, FineC}
 use Rattle.compiler.specs.Walks.{Lies, Ready, Gave, Result}
 use Rattle.compiler.specs.Walked.{Did, Code, least, AllFit}
@@ -72,9 +72,9 @@ started table k (inGlobal n) = set table n (k + 1)
 -- a function's name: its global is taken, or it is pushed
 pub record Enters (s s′ table table′ : List ℕ) (top leaf m k r : ℕ) : Type 0 where
   pub long : (length s′ ≡ length s) × (length table′ ≡ length table)
-  pub by : (f : N.Found) (base : ℕ) (sc : Scope) (ns : List ℕ) (name : Name) → m ≡ found f → Shows base s top sc → base ≤ leaf → base ≤ length s → top + 2 ≤ base
+  pub by : (f : N.Found) (base : ℕ) (sc : Scope) (ns : List ℕ) (name : Name) → m ≡ found f → Shows s top sc → base ≤ length s → top + 2 ≤ base
       → nameAt s leaf ≡ name → Taken table ns → ((n : ℕ) → f ≡ N.known (N.global n) → n < 400)
-      → Shows base s′ r (withFunction sc name k (startOf f)) × Keeps base top s s′ × Taken table′ (alsoTaken (startOf f) ns) × (top ≤ r) × (r ≤ top + 2)
+      → Shows s′ r (withFunction sc name k (startOf f)) × Keeps base top s s′ × Taken table′ (alsoTaken (startOf f) ns) × (top ≤ r) × (r ≤ top + 2)
       × (table′ ≡ started table k (startOf f))
 
 abbrev pub encodeFunction : Function → List ℕ
@@ -87,7 +87,7 @@ abbrev pub FineB : T.Body → Type 0
 FineB b = FineBody STRINGS b
 
 abbrev pub FineF : Function → Type 0
-FineF f = FineB (f .body)
+FineF f = FineFunction STRINGS f
 
 abbrev pub FineFs : List Function → Type 0
 FineFs fs = FineFunctions STRINGS fs
@@ -104,14 +104,15 @@ pub record ReadyGroup (s table : List ℕ) (from end top k : ℕ) : Type 0 where
   pub above : base ≤ from
   pub long : base ≤ length s
   pub small : end < 2 ^ 32
-  pub shows : Shows base s top scope
+  pub shows : Shows s top scope
   pub room : top + 2 * length functions ≤ base
   pub globals : Small scope
   pub free : Taken table taken
   pub few : k + length functions < 2 ^ 29
+  pub fine : FineFs functions
 
 pub record GroupKnown (text s s′ table table′ : List ℕ) (base : ℕ) (sc : Scope) (ns : List ℕ) (fs : List Function) (top k : ℕ) (st : State) (r : Known) : Type 0 where
-  pub shows : Shows base s′ (r .top) (functionsAfter text k sc fs)
+  pub shows : Shows s′ (r .top) (functionsAfter text k sc fs)
   pub keeps : Keeps base top s s′
   pub up : (top ≤ r .top) × (r .top ≤ top + 2 * length fs)
   pub taken : Taken table′ (takenAfter text k sc ns fs)
@@ -172,7 +173,7 @@ pub record ReadyFs (s : List ℕ) (from end : ℕ) (x : Here) (d : Done) : Type 
   pub above : base ≤ from
   pub long : base ≤ length s
   pub small : end < 2 ^ 32
-  pub shows : Shows base s (x .top) scope
+  pub shows : Shows s (x .top) scope
   pub room : x .top * 2 + length (encodeFunctions functions) + 2 ≤ base * 2 + 4 * length functions
   pub height : x .height + 4100 * length (encodeFunctions functions) ≤ 2 ^ 29
   pub label : d .state .label + 2 * length (encodeFunctions functions) ≤ 2 ^ 29

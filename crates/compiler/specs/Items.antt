@@ -40,7 +40,7 @@ FineIs is = FineItems STRINGS is
 
 -- an item's constant
 pub record JudgesItem (g : Bool) (text s : List ℕ) (end top : ℕ) (r : Verdict) : Type 0 where
-  pub by : (base : ℕ) (sc : Scope) (lo : ℕ) (c : T.Constant) → Shows base s top sc → FineConstant c → Lies s lo (encodeConstant c) → end ≡ lo + length (encodeConstant c) → Says r (judged g text sc c)
+  pub by : (sc : Scope) (lo : ℕ) (c : T.Constant) → Shows s top sc → FineConstant c → Lies s lo (encodeConstant c) → end ≡ lo + length (encodeConstant c) → Says r (judged g text sc c)
   pub fits : (r .place < 2 ^ 32) × (r .number < 32)
   pub low : r .word < 2 ^ 30
 
@@ -53,13 +53,13 @@ pub record ReadyItems (s : List ℕ) (from end top : ℕ) : Type 0 where
   pub above : base ≤ from
   pub long : base ≤ length s
   pub small : end < 2 ^ 32
-  pub shows : Shows base s top scope
+  pub shows : Shows s top scope
   pub room : top + 2 * length items ≤ base
   pub fine : FineIs items
 
 pub record ItemsKnown (g : Bool) (text s s′ : List ℕ) (base : ℕ) (sc : Scope) (is : List Item) (top : ℕ) (st : State) (r : Known) : Type 0 where
   pub moved : r .top ≡ top + 2 * length is
-  pub shows : Shows base s′ (r .top) (after g text sc is)
+  pub shows : Shows s′ (r .top) (after g text sc is)
   pub keeps : Keeps base top s s′
   pub did : (t : List ℕ) → Did (faults g text sc is) nothing 0 t t st (r .state)
 

@@ -57,7 +57,7 @@ pub record Spans (s : List ℕ) (end : ℕ) (r : Span) : Type 0 where
 pub record Listed {A : Type 0} (P : ℕ → A → Type 0) (s : List ℕ) (from end top : ℕ) : Type 0 where
   pub base : ℕ
   pub scope : Scope
-  pub shows : Shows base s top scope
+  pub shows : Shows s top scope
   pub all : List A
   pub row : Row P s end from all
 
@@ -73,7 +73,7 @@ flat (ls ∷ lss) = ls ++ flat lss
 -- ---- labels before no command of a list after INTO
 
 pub record MisplacesLabel (text s : List ℕ) (end top : ℕ) (st st′ : State) : Type 0 where
-  pub by : (base : ℕ) (sc : Scope) (l : Label) → Shows base s top sc → LabelAt s end l → (t : List ℕ) → Did (misplaced text sc (l ∷ [])) nothing 0 t t st st′
+  pub by : (sc : Scope) (l : Label) → Shows s top sc → LabelAt s end l → (t : List ℕ) → Did (misplaced text sc (l ∷ [])) nothing 0 t t st st′
 
 -- ---- the words after X23
 
@@ -122,7 +122,7 @@ pub record Still (st st′ : State) : Type 0 where
 
 pub record WritesPair (text s : List ℕ) (end top l : ℕ) (t t′ : List ℕ) (st st′ : State) : Type 0 where
   pub still : Still st st′
-  pub by : (base : ℕ) (sc : Scope) (x : Label) → Shows base s top sc → LabelAt s end x → Sound text sc (x ∷ []) → Emits (G.pairsOf l (labelsOf text sc (x ∷ []))) [] t t′ st st′
+  pub by : (sc : Scope) (x : Label) → Shows s top sc → LabelAt s end x → Sound text sc (x ∷ []) → Emits (G.pairsOf l (labelsOf text sc (x ∷ []))) [] t t′ st st′
 
 pub record WritesPairs (text s : List ℕ) (from end top l : ℕ) (t t′ : List ℕ) (st st′ : State) : Type 0 where
   pub still : Still st st′
@@ -158,7 +158,7 @@ pub record Marked (text : List ℕ) (sc : Scope) (ls : List Label) (fs : List Fa
   pub did : (t : List ℕ) → Did fs nothing 0 t t st st′
 
 pub record JudgesLabel (text s : List ℕ) (end top : ℕ) (seen seen′ : List ℕ) (st st′ : State) : Type 0 where
-  pub by : (base : ℕ) (sc : Scope) (before : List Label) (l : Label) → Shows base s top sc → LabelAt s end l → Marks seen (labelsOf text sc before)
+  pub by : (sc : Scope) (before : List Label) (l : Label) → Shows s top sc → LabelAt s end l → Marks seen (labelsOf text sc before)
       → Marked text sc (before ++ (l ∷ [])) (doubledLabel text sc (labelsOf text sc before) l) seen′ st st′
 
 pub record JudgesCommand (text s : List ℕ) (from end top : ℕ) (seen seen′ : List ℕ) (st st′ : State) : Type 0 where

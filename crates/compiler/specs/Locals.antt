@@ -25,7 +25,7 @@ use Rattle.compiler.specs.declared.steps.Placed.{Placed}
 use Rattle.compiler.specs.declared.steps.Verdict.{Verdict}
 use Rattle.compiler.specs.Walked.{leavable, Did, Code}
 use Rattle.compiler.specs.Fine.{FineEs, FineLs}
-use Rattle.language.specs.Fine.{FineConstant}
+use Rattle.language.specs.Fine.{FineName, FineNames, FineConstant}
 use Rattle.compiler.specs.Walks.{Lies, Ready}
 use Rattle.compiler.specs.Commands.{nothing}
 
@@ -43,14 +43,14 @@ pub record NamedConstant (m : ℕ) (minus : Bool) (name place : ℕ) (r : Verdic
 
 -- whatever constant ends there
 pub record Judges (text s : List ℕ) (end top : ℕ) (r : Verdict) : Type 0 where
-  pub by : (base : ℕ) (sc : Scope) (lo : ℕ) (c : Constant) → Shows base s top sc → FineConstant c → Lies s lo (encodeConstant c) → end ≡ lo + length (encodeConstant c) → Says r (judge text sc c)
+  pub by : (sc : Scope) (lo : ℕ) (c : Constant) → Shows s top sc → FineConstant c → Lies s lo (encodeConstant c) → end ≡ lo + length (encodeConstant c) → Says r (judge text sc c)
   pub fits : (r .place < 2 ^ 32) × (r .number < 32)
   -- it is a meaning's word
   pub low : r .word < 2 ^ 30
 
 -- 11 where it is greater than that
 pub record JudgesMost (most : ℕ) (text s : List ℕ) (end top : ℕ) (r : Verdict) : Type 0 where
-  pub by : (base : ℕ) (sc : Scope) (lo : ℕ) (c : Constant) → Shows base s top sc → FineConstant c → Lies s lo (encodeConstant c) → end ≡ lo + length (encodeConstant c)
+  pub by : (sc : Scope) (lo : ℕ) (c : Constant) → Shows s top sc → FineConstant c → Lies s lo (encodeConstant c) → end ≡ lo + length (encodeConstant c)
       → Says r (within c (λ v. leb v most) (judge text sc c))
   pub fits : (r .place < 2 ^ 32) × (r .number < 32)
   pub small : r .word ≤ most
@@ -77,8 +77,8 @@ localDepth (aVector n c) = 0
 localDepth (someValues ns es) = expressionsDepth es
 
 unfoldable pub FineLocal : Local → Type 0
-FineLocal (aVector n c) = FineConstant c
-FineLocal (someValues ns es) = (length ns ≡ T.count es) × FineEs es
+FineLocal (aVector n c) = FineConstant c × FineName n
+FineLocal (someValues ns es) = (length ns ≡ T.count es) × FineEs es × FineNames ns
 
 unfoldable pub scopeWith : List ℕ → Scope → ℕ → Local → Scope
 scopeWith text sc h (aVector n c) = declared sc n (N.local h)
@@ -106,7 +106,7 @@ pub record VectorKind (s : List ℕ) (end : ℕ) : Type 0 where
 
 -- after declarations of so many entries: the scope and the height are those
 pub record After (sc : Scope) (h n base : ℕ) (x : Here) (s s′ : List ℕ) (r : Placed) : Type 0 where
-  pub shows : Shows base s′ (r .top) sc
+  pub shows : Shows s′ (r .top) sc
   pub height : r .height ≡ h
   pub keeps : Keeps base (x .top) s s′
   pub above : x .top ≤ r .top

@@ -43,7 +43,7 @@ declaredWord (T.functions fs) = K.LET
 
 -- what is known between declarations
 pub record Stands (base : ℕ) (s table : List ℕ) (w : Walk) (l : Progress) : Type 0 where
-  pub shows : Shows base s (l .top) (w .scope)
+  pub shows : Shows s (l .top) (w .scope)
   pub globals : Small (w .scope)
   pub free : Taken table (w .taken)
   pub many : l .functions ≡ w .functions

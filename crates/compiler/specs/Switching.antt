@@ -39,7 +39,7 @@ pub record ReadyLabels (s : List ℕ) (from end top : ℕ) : Type 0 where
   pub ends : end ≡ from + length (encodeCommands commands)
   pub above : base ≤ from
   pub small : end < 2 ^ 32
-  pub shows : Shows base s top scope
+  pub shows : Shows s top scope
   pub fine : FineCs commands
 
 -- their refusals
@@ -68,7 +68,7 @@ pub record ReadyMisplaced (s : List ℕ) (from end top : ℕ) : Type 0 where
   pub ends : end ≡ from + length (encodeLabels labels)
   pub above : base ≤ from
   pub small : end < 2 ^ 32
-  pub shows : Shows base s top scope
+  pub shows : Shows s top scope
   pub fine : FineLabels labels
 
 pub record Misplaces (text s : List ℕ) (from end top : ℕ) (st st′ : State) : Type 0 where
@@ -81,5 +81,5 @@ byJudged text s none = good 1
 byJudged text s (some c) = forBy text s c
 
 pub record JudgesBy (text s : List ℕ) (from end top : ℕ) (r : Verdict) : Type 0 where
-  pub by : (base : ℕ) (sc : Scope) (k : Option Constant) → Shows base s top sc → FineBy k → Lies s from (encodeBy k) → end ≡ from + length (encodeBy k) → Says r (byJudged text sc k)
+  pub by : (sc : Scope) (k : Option Constant) → Shows s top sc → FineBy k → Lies s from (encodeBy k) → end ≡ from + length (encodeBy k) → Says r (byJudged text sc k)
   pub fits : (r .place < 2 ^ 32) × (r .number < 32)

@@ -37,7 +37,7 @@ pub record Ready {A : Type 0} (enc : A → List ℕ) (deep : A → ℕ) (Fine : 
   pub above : base ≤ lo
   pub long : base ≤ length s
   pub small : end < 2 ^ 32
-  pub shows : Shows base s (here .top) scope
+  pub shows : Shows s (here .top) scope
   pub room : here .top * 2 + length (enc tree) ≤ base * 2
   pub height : here .height + 4100 * length (enc tree) ≤ 2 ^ 29
   pub label : st .label + 2 * length (enc tree) ≤ 2 ^ 29

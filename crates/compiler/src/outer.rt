@@ -6,6 +6,7 @@ use crate::scope::entry;
 use crate::scope::in_block;
 use crate::scope::lookup;
 use crate::scope::push;
+use crate::scope::push_name;
 use crate::steps::Here;
 use crate::steps::State;
 use crate::steps::Verdict;
@@ -28,7 +29,8 @@ ghost use mathlib.Core.Bool.{Bool};
 ghost use mathlib.Core.List.{List, [], _∷_};
 ghost use Prim.Native.Nat.{ℕ, suc, _+_, _*_, _-_, _≤_, _<_, _^_};
 ghost use lib.ListN.{length, getD};
-ghost use Rattle.compiler.specs.Scope.{code};
+ghost use Rattle.language.specs.Fine.{FineName};
+ghost use Rattle.compiler.specs.Scope.{code, nameAt};
 ghost use Rattle.compiler.specs.Walks.{ReadyE, GaveE};
 ghost use Rattle.compiler.specs.Commands.{ReadyC, GaveC};
 ghost use Rattle.compiler.specs.Items.{meaning, JudgesItem, Items, ReadyItems};
@@ -86,7 +88,7 @@ pub(crate) fn items(
         let place = entry(s, at + 4);
         let a = blame(r, c);
         r = again(a, m, place);
-        push(s, top + 2 * k, at + 2, meaning(global, c.word));
+        push_name(s, top + 2 * k, at + 2, meaning(global, c.word));
         k += 1;
         at = next;
     }
@@ -117,7 +119,7 @@ fn name_fault(table: &[u32], st: State, m: usize, place: usize) -> State
 
 // A function's name: it starts in its global, or it is known from here on. The names' end.
 fn enter(s: &mut [u32], table: &mut [u32], top: usize, leaf: usize, m: usize, k: usize) -> usize
-    requires { ⌜ (top + 2 ≤ length (now s)) × (leaf < 2 ^ 32) × (k < 2 ^ 29) ⌝ }
+    requires { ⌜ (top + 2 ≤ length (now s)) × (leaf < 2 ^ 32) × (k < 2 ^ 29) × FineName (nameAt (now s) leaf) ⌝ }
     ensures { λ r. ⌜ Enters (now (s .entry)) (now (s .exit)) (now (table .entry)) (now (table .exit)) top leaf m k r ⌝ }
 {
     if m % 4 == 2 {
@@ -128,7 +130,7 @@ fn enter(s: &mut [u32], table: &mut [u32], top: usize, leaf: usize, m: usize, k:
         }
         return top;
     }
-    push(s, top, leaf, k * 4 + 4);
+    push_name(s, top, leaf, k * 4 + 4);
     top + 2
 }
 

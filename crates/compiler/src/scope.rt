@@ -1,11 +1,12 @@
-// The names in scope, on a stack at the front of scratch: two entries each, where the name's leaf stands in the tree, and what the name
-// means as a number; or two zeros where a block opens. The tree stands behind the stack, from `base` on, and never changes.
+// The names in scope, on a stack at the front of scratch: two entries each, the name's place and width as one number, and what the name
+// means as a number; or two zeros where a block opens. The tree stands behind the stack and never changes.
 ghost use mathlib.Core.Path.{_≡_};
 ghost use mathlib.Core.Bool.{Bool};
-ghost use Prim.Native.Nat.{ℕ, _+_, _*_, _-_, _≤_, _<_, _^_, min};
-ghost use lib.ListN.{length, getD};
-ghost use Rattle.language.specs.Names.{sameName};
-ghost use Rattle.compiler.specs.Scope.{named, nameAt, Looked, Told, Pushed};
+ghost use Prim.Native.Nat.{ℕ, _+_, _*_, _-_, _/_, _%_, _≤_, _<_, _^_, min};
+ghost use lib.ListN.{length, getD, take, drop};
+ghost use Rattle.language.specs.Names.{sameBytes, sameName};
+ghost use Rattle.language.specs.Fine.{FineName};
+ghost use Rattle.compiler.specs.Scope.{named, nameAt, Looked, Told, Pushed, PushedName};
 
 // An entry of scratch; past its end, 0.
 pub(crate) fn entry(s: &[u32], i: usize) -> usize
@@ -24,34 +25,63 @@ fn within(length: usize, p: usize, n: usize) -> usize
     if n < length - p { n } else { length - p }
 }
 
-// Whether two names, by their places and widths, are spelt alike.
-pub(crate) fn alike(source: &[u8], p: usize, n: usize, q: usize, m: usize) -> bool
-    ensures { λ r. ⌜ r ≡ sameName (now (source .entry)) (named p n) (named q m) ⌝ }
+// Whether so many bytes at two places of the source are the same. Names that differ mostly do in their last byte.
+fn same(source: &[u8], p: usize, q: usize, n: usize) -> bool
+    requires { ⌜ (n ≤ length (now source) - p) × (n ≤ length (now source) - q) ⌝ }
+    ensures { λ r. ⌜ r ≡ sameBytes (take n (drop p (now (source .entry)))) (take n (drop q (now (source .entry)))) ⌝ }
 {
-    let size = within(source.len(), p, n);
-    if size != within(source.len(), q, m) {
-        return false;
-    }
-    let mut i = 0;
-    while i < size {
+    let mut i = n;
+    while i > 0 {
+        i -= 1;
         if source[p + i] != source[q + i] {
             return false;
         }
-        i += 1;
     }
     true
 }
 
-// Whether the names of two leaves are spelt alike.
-fn same_leaf(source: &[u8], s: &[u32], a: usize, b: usize) -> bool
-    requires { ⌜ (a < 2 ^ 32) × (b < 2 ^ 32) ⌝ }
-    ensures { λ r. ⌜ r ≡ sameName (now (source .entry)) (nameAt (now (s .entry)) a) (nameAt (now (s .entry)) b) ⌝ }
+// The same where they may reach past the source.
+fn cut(source: &[u8], p: usize, q: usize, n: usize) -> bool
+    ensures { λ r. ⌜ r ≡ sameBytes (take n (drop p (now (source .entry)))) (take n (drop q (now (source .entry)))) ⌝ }
 {
-    let n = entry(s, a + 1);
-    let p = entry(s, a + 2);
-    let m = entry(s, b + 1);
-    let q = entry(s, b + 2);
-    alike(source, p, n, q, m)
+    let size = within(source.len(), p, n);
+    if size != within(source.len(), q, n) {
+        return false;
+    }
+    same(source, p, q, size)
+}
+
+// The same, quick where they do not.
+fn alike(source: &[u8], p: usize, q: usize, n: usize) -> bool
+    requires { ⌜ (p < 2 ^ 32) × (q < 2 ^ 32) × (n < 2 ^ 32) ⌝ }
+    ensures { λ r. ⌜ r ≡ sameBytes (take n (drop p (now (source .entry)))) (take n (drop q (now (source .entry)))) ⌝ }
+{
+    if source.len() < p + n {
+        return cut(source, p, q, n);
+    }
+    if source.len() < q + n {
+        return cut(source, p, q, n);
+    }
+    same(source, p, q, n)
+}
+
+// Whether a name of the stack is spelt like one of that place and width.
+fn spelt(source: &[u8], name: usize, place: usize, width: usize) -> bool
+    requires { ⌜ (name < 2 ^ 32) × (place < 2 ^ 32) × (width < 2 ^ 32) ⌝ }
+    ensures { λ r. ⌜ r ≡ sameName (now (source .entry)) (named (name / 65536) (name % 65536)) (named place width) ⌝ }
+{
+    if name % 65536 != width {
+        return false;
+    }
+    alike(source, name / 65536, place, width)
+}
+
+// An entry of the stack.
+fn stacked(s: &[u32], i: usize) -> usize
+    requires { ⌜ i < length (now s) ⌝ }
+    ensures { λ r. ⌜ (r ≡ getD (now (s .entry)) i 0) × (r < 2 ^ 32) ⌝ }
+{
+    s[i] as usize
 }
 
 // What a leaf's name means, as a number, and 0 if it is unknown: blocks from the innermost out, and the names of each.
@@ -59,6 +89,11 @@ pub(crate) fn lookup(source: &[u8], s: &[u32], top: usize, leaf: usize) -> usize
     requires { ⌜ leaf < 2 ^ 32 ⌝ }
     ensures { λ r. ⌜ Looked (now (source .entry)) (now (s .entry)) top leaf r × (r < 2 ^ 32) ⌝ }
 {
+    if s.len() < top {
+        return 0;
+    }
+    let width = entry(s, leaf + 1);
+    let place = entry(s, leaf + 2);
     let mut at = top;
     'search: loop {
         loop {
@@ -66,15 +101,15 @@ pub(crate) fn lookup(source: &[u8], s: &[u32], top: usize, leaf: usize) -> usize
                 return 0;
             }
             at -= 2;
-            if entry(s, at + 1) == 0 {
+            if stacked(s, at + 1) == 0 {
                 break;
             }
-            if same_leaf(source, s, entry(s, at), leaf) {
+            if spelt(source, stacked(s, at), place, width) {
                 break 'search;
             }
         }
     }
-    entry(s, at + 1)
+    stacked(s, at + 1)
 }
 
 // What a leaf's name means in the innermost block itself, and 0 if it is not there.
@@ -82,14 +117,19 @@ pub(crate) fn in_block(source: &[u8], s: &[u32], top: usize, leaf: usize) -> usi
     requires { ⌜ leaf < 2 ^ 32 ⌝ }
     ensures { λ r. ⌜ Told (now (source .entry)) (now (s .entry)) top leaf r ⌝ }
 {
+    if s.len() < top {
+        return 0;
+    }
+    let width = entry(s, leaf + 1);
+    let place = entry(s, leaf + 2);
     let mut at = top;
     while at >= 2 {
         at -= 2;
-        let m = entry(s, at + 1);
+        let m = stacked(s, at + 1);
         if m == 0 {
             return 0;
         }
-        if same_leaf(source, s, entry(s, at), leaf) {
+        if spelt(source, stacked(s, at), place, width) {
             return m;
         }
     }
@@ -97,10 +137,20 @@ pub(crate) fn in_block(source: &[u8], s: &[u32], top: usize, leaf: usize) -> usi
 }
 
 // Puts two entries on the stack.
-pub(crate) fn push(s: &mut [u32], top: usize, leaf: usize, m: usize)
-    requires { ⌜ (top + 2 ≤ length (now s)) × (leaf < 2 ^ 32) × (m < 2 ^ 32) ⌝ }
-    ensures { λ _. ⌜ Pushed (now (s .entry)) (now (s .exit)) top leaf m ⌝ }
+pub(crate) fn push(s: &mut [u32], top: usize, first: usize, second: usize)
+    requires { ⌜ (top + 2 ≤ length (now s)) × (first < 2 ^ 32) × (second < 2 ^ 32) ⌝ }
+    ensures { λ _. ⌜ Pushed (now (s .entry)) (now (s .exit)) top first second ⌝ }
 {
-    s[top] = leaf as u32;
-    s[top + 1] = m as u32;
+    s[top] = first as u32;
+    s[top + 1] = second as u32;
+}
+
+// Puts a leaf's name on the stack, with what it means.
+pub(crate) fn push_name(s: &mut [u32], top: usize, leaf: usize, m: usize)
+    requires { ⌜ (top + 2 ≤ length (now s)) × (leaf < 2 ^ 32) × (m < 2 ^ 32) × FineName (nameAt (now s) leaf) ⌝ }
+    ensures { λ _. ⌜ PushedName (now (s .entry)) (now (s .exit)) top leaf m ⌝ }
+{
+    let width = entry(s, leaf + 1);
+    let place = entry(s, leaf + 2);
+    push(s, top, place * 65536 + width, m);
 }

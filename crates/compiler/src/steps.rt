@@ -24,7 +24,7 @@ use crate::kinds::UNEQUAL;
 use crate::scope::entry;
 use crate::scope::in_block;
 use crate::scope::lookup;
-use crate::scope::push;
+use crate::scope::push_name;
 use writing::Base;
 use writing::instruction;
 use writing::label;
@@ -426,7 +426,7 @@ pub(crate) fn declare(
         let m = in_block(source, s, top + 2 * k, at);
         let place = entry(s, at + 2);
         r = again(r, m, place);
-        push(s, top + 2 * k, at, (height + k) * 4 + 1);
+        push_name(s, top + 2 * k, at, (height + k) * 4 + 1);
         k += 1;
         at += 4;
     }

@@ -35,6 +35,7 @@ use crate::labels::table;
 use crate::scope::entry;
 use crate::scope::lookup;
 use crate::scope::push;
+use crate::scope::push_name;
 use crate::steps::Here;
 use crate::steps::Placed;
 use crate::steps::State;
@@ -814,7 +815,7 @@ fn for_to(
     let f = blame(e, by);
     let g = for_test(text, f, here.height, by.word, st.label);
     push(s, here.top, 0, 0);
-    push(s, here.top + 2, n.start, here.height * 4 + 1);
+    push_name(s, here.top + 2, n.start, here.height * 4 + 1);
     let inner = set_at(here, here.top + 4, here.height + 2);
     let h = command(
         source,

@@ -52,10 +52,10 @@ module _ (text : List ℕ) (p : Program) (r : IsRead text p) where
   unfolding stringsIn
   strings-are = rw (r .symbols) refl
 
-  read-fine : (loops : ℕ) → 1 ≤ loops → cost loops (scan text .symbols) ≤ 65535 → FineProgram (length (stringsIn text)) p × (programTokens loops p ≤ cost loops (scan text .symbols))
-  read-fine loops some few = go (rw (r .tree) at (program (sourceNow text) (length (stringsAmong text (symbolsNow text))) (λ at. cost loops (take at (symbolsNow text))) (counts loops some text few)))
+  read-fine : (loops : ℕ) → 1 ≤ loops → length text ≤ 65535 → cost loops (scan text .symbols) ≤ 65535 → FineProgram (length (stringsIn text)) p × (programTokens loops p ≤ cost loops (scan text .symbols))
+  read-fine loops some short few = go (rw (r .tree) at (program (sourceNow text) (length (stringsAmong text (symbolsNow text))) (λ at. cost loops (take at (symbolsNow text))) (counts loops some text short few)))
     where
-      go : Of (sourceNow text) (length (stringsAmong text (symbolsNow text))) (λ at. cost loops (take at (symbolsNow text))) (counts loops some text few) (FineProgram (length (stringsAmong text (symbolsNow text)))) (programTokens loops) 0 (ok p (r .next))
+      go : Of (sourceNow text) (length (stringsAmong text (symbolsNow text))) (λ at. cost loops (take at (symbolsNow text))) (counts loops some text short few) (FineProgram (length (stringsAmong text (symbolsNow text)))) (programTokens loops) 0 (ok p (r .next))
           → FineProgram (length (stringsIn text)) p × (programTokens loops p ≤ cost loops (scan text .symbols))
       go (given f l) = (rw strings-are f, omega (arith, cost-now loops text (r .next)))
 
@@ -88,8 +88,8 @@ facts source scratch h = go (ltb 16384 (length source)) refl (ltb scratch (8 * l
     onto (S.refused number place) e l m = let z : _≡_ {A = ℕ} 0 1 = cc in absurd (omega arith)
     onto (S.read p) e l m =
         let r : IsRead source p = parsed-read source p e in
-        let f = read-fine source p r 1 (omega arith) (omega (arith, cost-length (scan source .symbols), scan-length source)) in
-        let g = read-fine source p r 3 (omega arith) (omega (arith, covered source)) in
+        let f = read-fine source p r 1 (omega arith) (omega arith) (omega (arith, cost-length (scan source .symbols), scan-length source)) in
+        let g = read-fine source p r 3 (omega arith) (omega arith) (omega (arith, covered source)) in
         let a = or-else (faultsOfProgram source p) _ m in
         let b = or-else (heightFaults (functionsOf source p)) _ (a .1) in
         record {

@@ -56,7 +56,7 @@ module _ (functions strings : ℕ) (text : List ℕ) where
   manifests-scoped : (s : Scope) (is : List Item) → FineItems strings is → Scoped functions 0 s → Scoped functions 0 (manifestsAfter text s is)
   unfolding manifestsAfter Scoped FineItems
   manifests-scoped s [] f sc = sc
-  manifests-scoped s (i ∷ is) f sc = manifests-scoped _ is (f .1) (word-below (judge text s (i .constant)) (judge-word functions 0 text s (i .constant) sc (f .0)), sc)
+  manifests-scoped s (i ∷ is) f sc = manifests-scoped _ is (f .1) (word-below (judge text s (i .constant)) (judge-word functions 0 text s (i .constant) sc (f .0 .constant)), sc)
 
   function-scoped : (s : Scope) (n : T.Name) (k : ℕ) (x : Start) → k < functions → Scoped functions 0 s → Scoped functions 0 (withFunction s n k x)
   unfolding Scoped
@@ -92,10 +92,10 @@ module _ (functions strings : ℕ) (text : List ℕ) where
   group-formed k before s [] l sb sc f n = tt
   group-formed k before s (x ∷ fs) l sb sc f n =
       let one : List Fault = twice text (opened s) 2 (x .parameters) ++ bodyFaults text (inside s x) (2 + length (x .parameters)) (x .body) in (
-        body-formed (inside s x) (2 + length (x .parameters)) (x .body) (declared-all functions (opened s) 2 (x .parameters) (open-two s sc)) (f .0),
+        body-formed (inside s x) (2 + length (x .parameters)) (x .body) (declared-all functions (opened s) 2 (x .parameters) (open-two s sc)) (f .0 .body),
         group-formed (k + 1) _ s fs (omega arith) (function-scoped before (x .name) k (startOf (lookup text before (x .name))) (omega arith) sb) sc (f .1) (none-right one (groupFaults text s fs) n),
         start-formed (lookup text before (x .name)) (lookup-known functions 0 text before (x .name) sb),
-        body-leaves (inside s x) (2 + length (x .parameters)) (x .body) (f .0) (none-right (twice text (opened s) 2 (x .parameters)) _ (none-left one (groupFaults text s fs) n)),
+        body-leaves (inside s x) (2 + length (x .parameters)) (x .body) (f .0 .body) (none-right (twice text (opened s) 2 (x .parameters)) _ (none-left one (groupFaults text s fs) n)),
       )
 
   pub group-length : (k : ℕ) (before s : Scope) (fs : List Function) → length (groupOf text k before s fs) ≡ length fs

@@ -20,10 +20,10 @@ use Rattle.language.specs.Commands as C
 use Rattle.language.specs.Grammar as G
 use Rattle.language.specs.Grammar.{within, treeOf}
 use Rattle.language.specs.Symbols.{Symbol}
-use Rattle.language.specs.Fine.{labelCount, FineConstant, FineBy, FineLabels, Fine, FineList, FineSuffixes, FineOperations, FineCommand, FineCommands, FineUnlabelled, FineRepeats, FineLocals, FineBody, FineFunctions, FineItems, FineDeclaration, FineProgram}
+use Rattle.language.specs.Fine.{labelCount, FineName, FineNames, FineConstant, FineBy, FineLabels, Fine, FineList, FineSuffixes, FineOperations, FineCommand, FineCommands, FineUnlabelled, FineRepeats, FineLocals, FineBody, FineFunctions, FineItems, FineDeclaration, FineProgram}
 use Rattle.language.proofs.Tokens.{begun, begun-not-empty, labels-tokens, labelsTokens, byTokens, tokens, listTokens, suffixesTokens, operationsTokens, commandTokens, commandsTokens, unlabelledTokens, repeatsTokens, localsTokens, bodyTokens, functionsTokens, declarationTokens, programTokens}
 use Rattle.language.proofs.Takes as X
-use Rattle.language.proofs.Takes.{Counts, Solid, Of, given, refused, OfPut, puts, refuses, Any, whatever, Symbolic, it-is, NameHere, stands-here}
+use Rattle.language.proofs.Takes.{Counts, Solid, Of, given, refused, OfPut, puts, refuses, Any, whatever, Symbolic, it-is, NameHere}
 
 -- ---- kinds that are symbols, and no semicolons
 
@@ -301,7 +301,7 @@ module _ {loops : ℕ} (s : Source) (strings : ℕ) (c : ℕ → ℕ) (k : Count
   fine-literal at v l = record { small = λ w e. let z : v ≡ w = cc in omega arith; here = λ n e. let z : _≡_ {A = ℕ} 0 1 = cc in absurd (omega arith) }
 
   fine-known : (at : ℕ) (n : Name) → NameHere s strings c k at n → FineSimple at (T.known n)
-  fine-known at n (stands-here p) = record { small = λ v e. let z : _≡_ {A = ℕ} 0 1 = cc in absurd (omega arith); here = λ m e. let z : n ≡ m = cc in sym p ∙ ap (λ (x : Name). x .place) z }
+  fine-known at n q = record { small = λ v e. let z : _≡_ {A = ℕ} 0 1 = cc in absurd (omega arith); here = λ m e. let z : n ≡ m = cc in sym (q .stands-here) ∙ ap (λ (x : Name). x .place) z }
 
   simple : (at : ℕ) → O (FineSimple at) (λ _. 1) at (E.simple s at)
   unfolding E.simple E.literal E.truthLiteral E.known
@@ -376,7 +376,7 @@ module _ {loops : ℕ} (s : Source) (strings : ℕ) (c : ℕ → ℕ) (k : Count
     unfolding C.for FineUnlabelled unlabelledTokens
     for at =
         X.take s strings c k (the-one K.FOR at (omega arith, λ z. omega arith)) λ _ n₁ _ l₁.
-        X.take s strings c k (X.a-name s strings c k n₁) λ x n₂ _ l₂.
+        X.take s strings c k (X.a-name s strings c k n₁) λ x n₂ o l₂.
         X.take s strings c k (the-one K.EQUAL n₂ (omega arith, λ z. omega arith)) λ _ n₃ _ l₃.
         X.take s strings c k (j .expressions LOOSEST n₃) λ e n₄ p l₄.
         X.take s strings c k (the-one K.TO n₄ (omega arith, λ z. omega arith)) λ _ n₅ _ l₅.
@@ -384,7 +384,7 @@ module _ {loops : ℕ} (s : Source) (strings : ℕ) (c : ℕ → ℕ) (k : Count
         X.take s strings c k (optional-by n₆) λ b n₇ t l₇.
         X.take s strings c k (the-one K.DO n₇ (omega arith, λ z. omega arith)) λ _ n₈ _ l₈.
         X.take s strings c k (j .commands n₈) λ y n₉ u l₉.
-        X.got s strings c k ((p, q, t, u), refl) (omega arith)
+        X.got s strings c k ((p, q, t, u, o .fine), refl) (omega arith)
 
     listed : (at : ℕ) → Put (FineCommands strings) (commandsTokens loops) at (C.listed r s at)
     unfolding C.listed FineCommands commandsTokens
@@ -435,26 +435,26 @@ module _ {loops : ℕ} (s : Source) (strings : ℕ) (c : ℕ → ℕ) (k : Count
         X.got s strings c k (record { fine = (p, q .fine); many-of-them = ap suc (q .many-of-them) }) (omega arith)
 
     -- the symbols of a LET before its values
-    given-to : (x : Name) (xs : List Name) (at at₀ : ℕ) → c at₀ + (3 + length xs) ≤ c at → Put (FineLocals strings) (localsTokens loops) at₀ (C.given r x xs s at)
-    unfolding C.given C.vector C.values FineLocals localsTokens FineList listTokens count
-    given-to x [] at at₀ l =
+    given-to : (x : Name) (xs : List Name) (at at₀ : ℕ) → FineName x → FineNames xs → c at₀ + (3 + length xs) ≤ c at → Put (FineLocals strings) (localsTokens loops) at₀ (C.given r x xs s at)
+    unfolding C.given C.vector C.values FineLocals localsTokens FineList listTokens FineNames count
+    given-to x [] at at₀ f₁ fs l =
         X.either-put s strings c k (is K.VEC s at)
         (λ _. X.take-put s strings c k (the-one K.VEC at (omega arith, λ z. omega arith)) λ _ n₁ _ l₁.
         X.take-put s strings c k (j .constants n₁) λ y n₂ p l₂.
-        X.putting s strings c k 5 (λ ls f. (p, f)) (λ ls. omega arith) (omega arith))
+        X.putting s strings c k 5 (λ ls f. (p, f, f₁)) (λ ls. omega arith) (omega arith))
         (λ _. X.take-put s strings c k (j .expressions LOOSEST at) λ e n₁ p l₁.
         X.take-put s strings c k (further 0 n₁) λ es n₂ q l₂.
-        X.putting s strings c k (3 + ((tokens loops) e + (listTokens loops) es)) (λ ls f. ((p, q .fine), f, ap suc (q .many-of-them))) (λ ls. omega arith) (omega arith))
-    given-to x (y ∷ xs) at at₀ l =
+        X.putting s strings c k (3 + ((tokens loops) e + (listTokens loops) es)) (λ ls f. ((p, q .fine), f, ap suc (q .many-of-them), (f₁, fs))) (λ ls. omega arith) (omega arith))
+    given-to x (y ∷ xs) at at₀ f₁ fs l =
         X.take-put s strings c k (j .expressions LOOSEST at) λ e n₁ p l₁.
         X.take-put s strings c k (further (length (y ∷ xs)) n₁) λ es n₂ q l₂.
-        X.putting s strings c k (2 + length (x ∷ y ∷ xs) + ((tokens loops) e + (listTokens loops) es)) (λ ls f. ((p, q .fine), f, ap suc (q .many-of-them))) (λ ls. omega arith) (omega arith)
+        X.putting s strings c k (2 + length (x ∷ y ∷ xs) + ((tokens loops) e + (listTokens loops) es)) (λ ls f. ((p, q .fine), f, ap suc (q .many-of-them), (f₁, fs))) (λ ls. omega arith) (omega arith)
 
-    names : (at : ℕ) → O (Any s strings c k) length at (furtherItems [] (C.furtherName r) s at)
-    unfolding C.furtherName
+    names : (at : ℕ) → O FineNames length at (furtherItems [] (C.furtherName r) s at)
+    unfolding C.furtherName FineNames
     names at =
-        X.further-of s strings c k (Any s strings c k) length [] whatever (omega arith) (C.furtherName r)
-        (λ n. X.take-put s strings c k (X.a-name s strings c k n) λ x n₁ _ l₁. X.putting s strings c k 1 (λ xs f. whatever) (λ xs. omega arith) (omega arith)) at
+        X.further-of s strings c k FineNames length [] tt (omega arith) (C.furtherName r)
+        (λ n. X.take-put s strings c k (X.a-name s strings c k n) λ x n₁ q l₁. X.putting s strings c k 1 (λ xs f. (q .fine, f)) (λ xs. omega arith) (omega arith)) at
 
     finish-put : {A : Type 0} {P : A → Type 0} {W : A → ℕ} {at₀ : ℕ} {o : Out (A → A)} → Put P W at₀ o
         → Put P W at₀ (onOut o (λ put n. onOut (optional K.SEMICOLON s n) (λ _ m. ok put m)))
@@ -469,10 +469,10 @@ module _ {loops : ℕ} (s : Source) (strings : ℕ) (c : ℕ → ℕ) (k : Count
     unfolding C.local
     local at =
         X.take-put s strings c k (the-one K.LET at (omega arith, λ z. omega arith)) λ _ n₁ _ l₁.
-        X.take-put s strings c k (X.a-name s strings c k n₁) λ x n₂ _ l₂.
-        X.take-put s strings c k (names n₂) λ xs n₃ _ l₃.
+        X.take-put s strings c k (X.a-name s strings c k n₁) λ x n₂ p l₂.
+        X.take-put s strings c k (names n₂) λ xs n₃ q l₃.
         X.take-put s strings c k (the-one K.EQUAL n₃ (omega arith, λ z. omega arith)) λ _ n₄ _ l₄.
-        finish-put (given-to x xs n₄ at (omega arith))
+        finish-put (given-to x xs n₄ at (p .fine) q (omega arith))
 
     commands-to-end : (at : ℕ) → O (FineCommands strings) (commandsTokens loops) at (C.commandsToEnd r s at)
     unfolding C.commandsToEnd C.semicolonEnd FineCommands commandsTokens
@@ -603,16 +603,16 @@ module _ {loops : ℕ} (s : Source) (strings : ℕ) (c : ℕ → ℕ) (k : Count
       X.take s strings c k (command (inner-within 64) n₁) λ e n₂ p l₂. X.got s strings c k p (omega arith))
 
   function : (at : ℕ) → Put (FineFunctions strings) (functionsTokens loops) at (G.function s at)
-  unfolding G.function G.parameter FineFunctions functionsTokens
+  unfolding G.function G.parameter FineFunctions functionsTokens FineNames
   function at =
-      X.take-put s strings c k (X.a-name s strings c k at) λ x n₁ _ l₁.
+      X.take-put s strings c k (X.a-name s strings c k at) λ x n₁ m l₁.
       X.take-put s strings c k (the-one K.OPEN n₁ (omega arith, λ z. omega arith)) λ _ n₂ _ l₂.
-      X.take-put s strings c k (X.close-of s strings c k (Any s strings c k) length [] whatever (omega arith) G.parameter parameter n₂) λ xs n₃ _ l₃.
+      X.take-put s strings c k (X.close-of s strings c k FineNames length [] tt (omega arith) G.parameter parameter n₂) λ xs n₃ q l₃.
       X.take-put s strings c k (body n₃) λ b n₄ p l₄.
-      X.putting s strings c k (4 + length xs + (bodyTokens loops) b) (λ fs f. (p, f)) (λ fs. omega arith) (omega arith)
+      X.putting s strings c k (4 + length xs + (bodyTokens loops) b) (λ fs f. (record { name = m .fine; parameters = q; body = p }, f)) (λ fs. omega arith) (omega arith)
     where
-      parameter : (n : ℕ) → Put (Any s strings c k) length n (G.parameter s n)
-      parameter n = X.take-put s strings c k (X.a-name s strings c k n) λ x n₁ _ l₁. X.putting s strings c k 1 (λ xs f. whatever) (λ xs. omega arith) (omega arith)
+      parameter : (n : ℕ) → Put FineNames length n (G.parameter s n)
+      parameter n = X.take-put s strings c k (X.a-name s strings c k n) λ x n₁ q l₁. X.putting s strings c k 1 (λ xs f. (q .fine, f)) (λ xs. omega arith) (omega arith)
 
   and-function : (at : ℕ) → Put (FineFunctions strings) (functionsTokens loops) at (G.andFunction s at)
   unfolding G.andFunction
@@ -638,10 +638,10 @@ module _ {loops : ℕ} (s : Source) (strings : ℕ) (c : ℕ → ℕ) (k : Count
   item : (sign at : ℕ) → Solid sign → Put (FineItems strings) (λ _. 0) at (G.item sign s at)
   unfolding G.item FineItems
   item sign at h =
-      X.take-put s strings c k (X.a-name s strings c k at) λ x n₁ _ l₁.
+      X.take-put s strings c k (X.a-name s strings c k at) λ x n₁ q l₁.
       X.take-put s strings c k (the-one sign n₁ h) λ _ n₂ _ l₂.
       X.take-put s strings c k (constant (inner-within 64) n₂) λ y n₃ p l₃.
-      X.putting s strings c k 0 (λ is f. (p, f)) (λ is. omega arith) (omega arith)
+      X.putting s strings c k 0 (λ is f. (record { name = q .fine; constant = p }, f)) (λ is. omega arith) (omega arith)
 
   declaration : (at : ℕ) → O (FineDeclaration strings) (declarationTokens loops) at (G.declaration s at)
   unfolding G.declaration G.globals G.manifests FineItems

@@ -1,4 +1,5 @@
--- What is known of a source's symbols: numbers are words, strings have their positions, and no more symbols are counted than were scanned.
+-- What is known of a source's symbols: numbers are words, as are the places and widths of names, strings have their positions, and no more
+-- symbols are counted than were scanned.
 use Prim.Native.Nat.{ℕ, zero, suc, _+_, _-_, _≤_, _<_}
 use mathlib.Core.Path.{_≡_, refl, sym, ap, _∙_}
 use mathlib.Core.Bool.{Bool, true, false, not, cond, _&&_}
@@ -10,25 +11,29 @@ use borrow.Author.Tests.{eqb-true, eqb-false, ne-eqb, leb-true, not-true}
 use Rattle.text.specs.Quoted.{Quoted, closed, faulty, quoted}
 use Rattle.text.proofs.Quotes.{Closed, is-closed, ascii}
 use Rattle.text.proofs.Booleans.{both-true}
-use Rattle.language.specs.Kinds.{Spelled, member, NOTHING, NUMBER, STRING, SEMICOLON, reserved, signs}
+use Rattle.language.specs.Kinds.{Spelled, member, NOTHING, NAME, NUMBER, STRING, SEMICOLON, reserved, signs}
 use Rattle.language.specs.Bytes.{LETTER, DIGIT, HASH, QUOTE, DOUBLE, SIGN, SEPARATOR, NEWLINE, classOf}
-use Rattle.language.specs.Symbols.{Symbol, Element, symbol, gap, wrong, same, begins, kindIn, kindOf, word, digits, valueOf, decimal, octal, asCharacter, character, asString, string, signIn, comment, sign, signOrComment, byClass, Scan, onElement, scanFrom, scan}
+use Rattle.language.specs.Symbols.{Symbol, Element, symbol, gap, wrong, same, begins, inWord, wordWidth, kindIn, kindOf, word, digits, valueOf, decimal, octal, asCharacter, character, asString, string, signIn, comment, sign, signOrComment, byClass, Scan, onElement, scanFrom, scan}
 use Rattle.language.specs.Strings.{withValue, numbered}
 use Rattle.language.specs.Semicolons.{inserted, gains, semicolonsAfter, semicolons}
 use Rattle.language.specs.Whole.{charactersOf, stringsAmong}
 use Rattle.language.specs.Binding.{isRepeat}
-use Rattle.language.specs.Reader.{Source}
+use Rattle.language.specs.Reader.{Source, symbolAt}
+use Rattle.language.specs.Fine.{FineName}
 use Rattle.language.proofs.Takes.{Counts}
 
--- ---- the elements: a number is a word
+-- ---- the elements: a number is a word, a name no wider than the bytes there
 
-data FineElement : Element → Type 0 where
-  a-symbol : {kind value width : ℕ} → (kind ≡ NUMBER → value < 65536) → FineElement (symbol kind value width)
-  a-gap : {width : ℕ} → FineElement (gap width)
-  a-fault : {number : ℕ} → FineElement (wrong number)
+data FineElement (bs : List ℕ) : Element → Type 0 where
+  a-symbol : {kind value width : ℕ} → (kind ≡ NUMBER → value < 65536) → (kind ≡ NAME → value ≤ length bs) → FineElement bs (symbol kind value width)
+  a-gap : {width : ℕ} → FineElement bs (gap width)
+  a-fault : {number : ℕ} → FineElement bs (wrong number)
 
-is-symbol : {kind value width : ℕ} → (kind ≡ NUMBER → value < 65536) → FineElement (symbol kind value width)
-is-symbol f = a-symbol f
+is-number : {bs : List ℕ} {value width : ℕ} → value < 65536 → FineElement bs (symbol NUMBER value width)
+is-number l = a-symbol (λ _. l) (λ e. absurd (not-name e))
+  where
+    not-name : NUMBER ≡ NAME → ⊥
+    not-name e = omega arith
 
 -- no spelling of a table is that of a number
 noNumber : List Spelled → Bool
@@ -44,84 +49,102 @@ kind-in (w ∷ ws) bs h e = go (same (w .spelling) bs) e (λ q. kind-in ws bs (b
     go true q f = eqb-false (w .kind) NUMBER (not-true (eqb (w .kind) NUMBER) (both-true (not (eqb (w .kind) NUMBER)) (noNumber ws) h .0)) q
     go false q f = f q
 
-sign-in : (ws : List Spelled) (bs : List ℕ) → noNumber ws ≡ true → FineElement (signIn ws bs)
+sign-in : (ws : List Spelled) (bs : List ℕ) → noNumber ws ≡ true → FineElement bs (signIn ws bs)
 unfolding signIn noNumber
 sign-in [] bs h = a-fault
 sign-in (w ∷ ws) bs h = go (begins (w .spelling) bs) (sign-in ws bs (both-true (not (eqb (w .kind) NUMBER)) (noNumber ws) h .1))
   where
-    go : (b : Bool) → FineElement (signIn ws bs) → FineElement (elim b [ true ↦ symbol (w .kind) 0 (length (w .spelling)) | false ↦ signIn ws bs ])
-    go true f = is-symbol (λ e. omega arith)
+    go : (b : Bool) → FineElement bs (signIn ws bs) → FineElement bs (elim b [ true ↦ symbol (w .kind) 0 (length (w .spelling)) | false ↦ signIn ws bs ])
+    go true f = a-symbol {kind = w .kind} {value = 0} (λ e. omega arith) (λ e. omega arith)
     go false f = f
 
-either : (b : Bool) {x y : Element} → (b ≡ true → FineElement x) → FineElement y → FineElement (cond b x y)
+either : {bs : List ℕ} (b : Bool) {x y : Element} → (b ≡ true → FineElement bs x) → FineElement bs y → FineElement bs (cond b x y)
 either true f g = f refl
 either false f g = g
 
-fine-character : (bs : List ℕ) → FineElement (character bs)
+fine-character : (all bs : List ℕ) → FineElement all (character bs)
 unfolding character
-fine-character bs = go (quoted 39 0 bs) refl
+fine-character all bs = go (quoted 39 0 bs) refl
   where
-    go : (q : Quoted) → quoted 39 0 bs ≡ q → FineElement (asCharacter q)
+    go : (q : Quoted) → quoted 39 0 bs ≡ q → FineElement all (asCharacter q)
     go (closed [] n) e = a-fault
-    go (closed (x ∷ []) n) e = let k : Closed 0 (length bs) (x ∷ []) n = is-closed 39 0 bs e in is-symbol (λ _. omega (arith, ascii (x ∷ []) (k .each) 0))
+    go (closed (x ∷ []) n) e = let k : Closed 0 (length bs) (x ∷ []) n = is-closed 39 0 bs e in is-number (omega (arith, ascii (x ∷ []) (k .each) 0))
     go (closed (x ∷ y ∷ xs) n) e = a-fault
     go faulty e = a-fault
 
-fine-string : (bs : List ℕ) → FineElement (string bs)
+fine-string : (all bs : List ℕ) → FineElement all (string bs)
 unfolding string
-fine-string bs = go (quoted 34 0 bs)
+fine-string all bs = go (quoted 34 0 bs)
   where
-    go : (q : Quoted) → FineElement (asString q)
-    go (closed cs n) = either (leb (length cs) 255) (λ _. is-symbol (λ e. absurd (omega arith))) a-fault
+    go : (q : Quoted) → FineElement all (asString q)
+    go (closed cs n) = either (leb (length cs) 255) (λ _. a-symbol (λ e. absurd (omega arith)) (λ e. absurd (omega arith))) a-fault
     go faulty = a-fault
 
-fine-word : (bs : List ℕ) → FineElement (word bs)
+word-within : (bs : List ℕ) → wordWidth bs ≤ length bs
+unfolding wordWidth
+word-within [] = omega arith
+word-within (b ∷ bs) = go (inWord (classOf b)) (word-within bs)
+  where
+    go : (t : Bool) → wordWidth bs ≤ length bs → elim t [ true ↦ suc (wordWidth bs) | false ↦ 0 ] ≤ suc (length bs)
+    go true l = omega arith
+    go false l = omega arith
+
+fine-word : (bs : List ℕ) → FineElement bs (word bs)
 unfolding word kindOf noNumber reserved
-fine-word bs = is-symbol (λ e. absurd (kind-in reserved _ refl e))
+fine-word bs = a-symbol (λ e. absurd (kind-in reserved _ refl e)) (λ e. word-within bs)
 
-fine-decimal : (bs : List ℕ) → FineElement (decimal bs)
+fine-decimal : (bs : List ℕ) → FineElement bs (decimal bs)
 unfolding decimal
-fine-decimal bs = either (leb (valueOf 10 0 bs) 32767) (λ h. is-symbol {kind = NUMBER} {value = valueOf 10 0 bs} (λ e. let l : valueOf 10 0 bs ≤ 32767 = leb-true _ _ h in omega arith)) a-fault
+fine-decimal bs = either (leb (valueOf 10 0 bs) 32767) (λ h. let l : valueOf 10 0 bs ≤ 32767 = leb-true _ _ h in is-number (omega arith)) a-fault
 
-fine-octal : (bs : List ℕ) → FineElement (octal bs)
+fine-octal : (all bs : List ℕ) → FineElement all (octal bs)
 unfolding octal
-fine-octal bs =
+fine-octal all bs =
     either (leb 1 (digits 8 bs) && leb (valueOf 8 0 bs) 65535)
-    (λ h. is-symbol {kind = NUMBER} {value = valueOf 8 0 bs} (λ e. let l : valueOf 8 0 bs ≤ 65535 = leb-true _ _ (both-true (leb 1 (digits 8 bs)) (leb (valueOf 8 0 bs) 65535) h .1) in omega arith)) a-fault
+    (λ h. let l : valueOf 8 0 bs ≤ 65535 = leb-true _ _ (both-true (leb 1 (digits 8 bs)) (leb (valueOf 8 0 bs) 65535) h .1) in is-number (omega arith)) a-fault
 
-fine-sign : (bs : List ℕ) → FineElement (signOrComment bs)
+fine-sign : (bs : List ℕ) → FineElement bs (signOrComment bs)
 unfolding signOrComment comment sign noNumber signs
 fine-sign bs = either (begins (47 ∷ 47 ∷ []) bs) (λ _. a-gap) (sign-in signs bs refl)
 
-fine-element : (class : ℕ) (bs : List ℕ) → FineElement (byClass class bs)
+fine-element : (class : ℕ) (bs : List ℕ) → FineElement bs (byClass class bs)
 unfolding byClass
 fine-element class bs =
     either (eqb class LETTER) (λ _. fine-word bs)
     (either (eqb class DIGIT) (λ _. fine-decimal bs)
-    (either (eqb class HASH) (λ _. fine-octal (drop 1 bs))
-    (either (eqb class QUOTE) (λ _. fine-character (drop 1 bs))
-    (either (eqb class DOUBLE) (λ _. fine-string (drop 1 bs))
+    (either (eqb class HASH) (λ _. fine-octal bs (drop 1 bs))
+    (either (eqb class QUOTE) (λ _. fine-character bs (drop 1 bs))
+    (either (eqb class DOUBLE) (λ _. fine-string bs (drop 1 bs))
     (either (eqb class SIGN) (λ _. fine-sign bs)
     (either (eqb class SEPARATOR) (λ _. a-gap)
     (either (eqb class NEWLINE) (λ _. a-gap) a-fault)))))))
 
 -- ---- the symbols
 
+-- a number's value is a word, and a name's place and width are
+pub record Worded (x : Symbol) : Type 0 where
+  pub number : x .kind ≡ NUMBER → x .value < 65536
+  pub name : x .kind ≡ NAME → FineName (record { place = x .place; width = x .value })
+
+neither : (x : Symbol) → (x .kind ≡ NUMBER → ⊥) → (x .kind ≡ NAME → ⊥) → Worded x
+neither x f g = record { number = λ e. absurd (f e); name = λ e. absurd (g e) }
+
 unfoldable pub AllWords : List Symbol → Type 0
 AllWords [] = Unit {0}
-AllWords (x ∷ xs) = (x .kind ≡ NUMBER → x .value < 65536) × AllWords xs
+AllWords (x ∷ xs) = Worded x × AllWords xs
 
-on-element : (place : ℕ) (e : Element) (more : ℕ → Scan) → FineElement e → ((n : ℕ) → AllWords (more n .symbols)) → AllWords (onElement place e more .symbols)
+on-element : (place : ℕ) (bs : List ℕ) (e : Element) (more : ℕ → Scan) → place + length bs ≤ 65535 → FineElement bs e → ((n : ℕ) → AllWords (more n .symbols)) → AllWords (onElement place e more .symbols)
 unfolding AllWords
-on-element place (symbol kind value width) more (a-symbol f) g = (f, g (width - 1))
-on-element place (gap width) more f g = g (width - 1)
-on-element place (wrong number) more f g = tt
+on-element place bs (symbol kind value width) more l (a-symbol f g) h =
+    (record { number = f; name = λ e. record { place = omega arith; width = omega (arith, g e) } }, h (width - 1))
+on-element place bs (gap width) more l f h = h (width - 1)
+on-element place bs (wrong number) more l f h = tt
 
-scanned-words : (over place : ℕ) (bs : List ℕ) → AllWords (scanFrom over place bs .symbols)
+scanned-words : (over place : ℕ) (bs : List ℕ) → place + length bs ≤ 65535 → AllWords (scanFrom over place bs .symbols)
 unfolding scanFrom AllWords
-scanned-words over place [] = tt
-scanned-words (suc n) place (b ∷ bs) = scanned-words n (suc place) bs
-scanned-words zero place (b ∷ bs) = on-element place _ _ (fine-element _ (b ∷ bs)) (λ n. scanned-words n (suc place) bs)
+scanned-words over place [] l = tt
+scanned-words (suc n) place (b ∷ bs) l = scanned-words n (suc place) bs (omega arith)
+scanned-words zero place (b ∷ bs) l = on-element place (b ∷ bs) _ _ l (fine-element _ (b ∷ bs)) (λ n. scanned-words n (suc place) bs (omega arith))
 
 -- at most one symbol a byte
 on-element-length : (place : ℕ) (e : Element) (more : ℕ → Scan) (n : ℕ) → ((k : ℕ) → length (more k .symbols) ≤ n) → length (onElement place e more .symbols) ≤ suc n
@@ -154,7 +177,7 @@ numbered-words n [] h = tt
 numbered-words n (x ∷ xs) h = go (eqb (x .kind) STRING) refl (numbered-words (suc n) xs (h .1)) (numbered-words n xs (h .1))
   where
     go : (b : Bool) → eqb (x .kind) STRING ≡ b → AllWords (numbered (suc n) xs) → AllWords (numbered n xs) → AllWords (cond b (withValue n x ∷ numbered (suc n) xs) (x ∷ numbered n xs))
-    go true e f g = ((λ q. let z : x .kind ≡ STRING = eqb-true _ _ e in absurd (omega arith)), f)
+    go true e f g = let z : x .kind ≡ STRING = eqb-true _ _ e in (neither (withValue n x) (λ q. omega arith) (λ q. omega arith), f)
     go false e f g = (h .0, g)
 
 numbered-below : (n m : ℕ) (xs : List Symbol) → n + countStrings xs ≤ m → Below m (numbered n xs)
@@ -208,16 +231,16 @@ numbered-same text n (x ∷ xs) = go (eqb (x .kind) STRING) refl (numbered-same 
 
 -- what inserted semicolons keep
 record Kept (text : List ℕ) (m : ℕ) (xs ys : List Symbol) : Type 0 where
-  words : AllWords ys
+  words : AllWords xs → AllWords ys
   below : Below m ys
   count : countStrings ys ≡ countStrings xs
   fewer : (loops : ℕ) → cost loops ys ≡ cost loops xs
   same : stringsAmong text ys ≡ stringsAmong text xs
 
-one-more : (text : List ℕ) (m : ℕ) (x : Symbol) (xs ys : List Symbol) → (x .kind ≡ NUMBER → x .value < 65536) → (x .kind ≡ STRING → x .value < m) → Kept text m xs ys → Kept text m (x ∷ xs) (x ∷ ys)
+one-more : (text : List ℕ) (m : ℕ) (x : Symbol) (xs ys : List Symbol) → (x .kind ≡ STRING → x .value < m) → Kept text m xs ys → Kept text m (x ∷ xs) (x ∷ ys)
 unfolding AllWords Below countStrings cost stringsAmong
-one-more text m x xs ys f g k = record {
-  words = (f, k .words);
+one-more text m x xs ys g k = record {
+  words = λ f. (f .0, k .words (f .1));
   below = (g, k .below);
   count = rw (k .count) refl;
   fewer = λ loops. rw (k .fewer loops) refl;
@@ -228,26 +251,26 @@ with-semicolon : (text : List ℕ) (m : ℕ) (x : Symbol) (xs ys : List Symbol) 
 unfolding AllWords Below countStrings cost stringsAmong
 with-semicolon text m x xs ys k false = k
 with-semicolon text m x xs ys k true = record {
-  words = ((λ e. absurd (omega arith)), k .words);
+  words = λ f. (neither _ (λ e. omega arith) (λ e. omega arith), k .words f);
   below = ((λ e. absurd (omega arith)), k .below);
   count = k .count;
   fewer = λ loops. omega (arith, k .fewer loops);
   same = k .same;
 }
 
-kept-after : (m : ℕ) (text : List ℕ) (before : Symbol) (xs : List Symbol) → AllWords xs → Below m xs → Kept text m xs (semicolonsAfter text before xs)
+kept-after : (m : ℕ) (text : List ℕ) (before : Symbol) (xs : List Symbol) → Below m xs → Kept text m xs (semicolonsAfter text before xs)
 unfolding semicolonsAfter AllWords Below countStrings cost
-kept-after m text before [] f g = none
+kept-after m text before [] g = none
   where
     none : Kept text m [] []
-    none = record { words = tt; below = tt; count = refl; fewer = λ loops. refl; same = refl }
-kept-after m text before (x ∷ xs) f g =
-    with-semicolon text m x (x ∷ xs) (x ∷ semicolonsAfter text x xs) (one-more text m x xs (semicolonsAfter text x xs) (f .0) (g .0) (kept-after m text x xs (f .1) (g .1))) (gains text before x)
+    none = record { words = λ f. f; below = tt; count = refl; fewer = λ loops. refl; same = refl }
+kept-after m text before (x ∷ xs) g =
+    with-semicolon text m x (x ∷ xs) (x ∷ semicolonsAfter text x xs) (one-more text m x xs (semicolonsAfter text x xs) (g .0) (kept-after m text x xs (g .1))) (gains text before x)
 
-kept-all : (m : ℕ) (text : List ℕ) (xs : List Symbol) → AllWords xs → Below m xs → Kept text m xs (semicolons text xs)
+kept-all : (m : ℕ) (text : List ℕ) (xs : List Symbol) → Below m xs → Kept text m xs (semicolons text xs)
 unfolding semicolons AllWords Below countStrings cost
-kept-all m text [] f g = record { words = tt; below = tt; count = refl; fewer = λ loops. refl; same = refl }
-kept-all m text (x ∷ xs) f g = one-more text m x xs (semicolonsAfter text x xs) (f .0) (g .0) (kept-after m text x xs (f .1) (g .1))
+kept-all m text [] g = record { words = λ f. f; below = tt; count = refl; fewer = λ loops. refl; same = refl }
+kept-all m text (x ∷ xs) g = one-more text m x xs (semicolonsAfter text x xs) (g .0) (kept-after m text x xs (g .1))
 
 strings-count : (text : List ℕ) (xs : List Symbol) → length (stringsAmong text xs) ≡ countStrings xs
 unfolding stringsAmong countStrings
@@ -261,11 +284,11 @@ strings-count text (x ∷ xs) = go (eqb (x .kind) STRING) (strings-count text xs
 
 -- ---- by position
 
-words-at : (xs : List Symbol) (d : Symbol) (n : ℕ) → AllWords xs → (d .kind ≡ NUMBER → ⊥) → getD xs n d .kind ≡ NUMBER → getD xs n d .value < 65536
+words-at : (xs : List Symbol) (d : Symbol) (n : ℕ) → AllWords xs → Worded d → Worded (getD xs n d)
 unfolding AllWords
-words-at [] d n h f e = absurd (f e)
-words-at (x ∷ xs) d zero h f e = h .0 e
-words-at (x ∷ xs) d (suc n) h f e = words-at xs d n (h .1) f e
+words-at [] d n h f = f
+words-at (x ∷ xs) d zero h f = h .0
+words-at (x ∷ xs) d (suc n) h f = words-at xs d n (h .1) f
 
 below-at : (m : ℕ) (xs : List Symbol) (d : Symbol) (n : ℕ) → Below m xs → (d .kind ≡ STRING → ⊥) → getD xs n d .kind ≡ STRING → getD xs n d .value < m
 unfolding Below
@@ -339,8 +362,11 @@ sourceNow text = record { symbols = symbolsNow text; size = length text }
 kept-now : (text : List ℕ) → Kept text (countStrings (scan text .symbols)) (numbered 0 (scan text .symbols)) (symbolsNow text)
 unfolding scan
 kept-now text =
-    kept-all (countStrings (scan text .symbols)) text (numbered 0 (scan text .symbols)) (numbered-words 0 (scan text .symbols) (scanned-words 0 0 text))
-    (numbered-below 0 (countStrings (scan text .symbols)) (scan text .symbols) (omega arith))
+    kept-all (countStrings (scan text .symbols)) text (numbered 0 (scan text .symbols)) (numbered-below 0 (countStrings (scan text .symbols)) (scan text .symbols) (omega arith))
+
+words-now : (text : List ℕ) → length text ≤ 65535 → AllWords (symbolsNow text)
+unfolding scan
+words-now text l = kept-now text .words (numbered-words 0 (scan text .symbols) (scanned-words 0 0 text (omega arith)))
 
 pub strings-now : (text : List ℕ) → length (stringsAmong text (symbolsNow text)) ≡ countStrings (scan text .symbols)
 strings-now text = strings-count text (symbolsNow text) ∙ kept-now text .count ∙ numbered-count 0 (scan text .symbols)
@@ -353,13 +379,17 @@ cost-now loops text n = omega (arith, cost-most loops (symbolsNow text) n, kept-
 pub same-now : (text : List ℕ) → stringsAmong text (symbolsNow text) ≡ stringsAmong text (scan text .symbols)
 same-now text = kept-now text .same ∙ numbered-same text 0 (scan text .symbols)
 
-pub counts : (loops : ℕ) → 1 ≤ loops → (text : List ℕ) → cost loops (scan text .symbols) ≤ 65535 → Counts loops (sourceNow text) (length (stringsAmong text (symbolsNow text))) (λ at. cost loops (take at (symbolsNow text)))
+pub counts : (loops : ℕ) → 1 ≤ loops → (text : List ℕ) → length text ≤ 65535 → cost loops (scan text .symbols) ≤ 65535 → Counts loops (sourceNow text) (length (stringsAmong text (symbolsNow text))) (λ at. cost loops (take at (symbolsNow text)))
 unfolding isRepeat member
-counts loops some text few = record {
+counts loops some text short few = record {
   up = λ at. let z : at + 1 ≡ suc at = omega arith in rw z (cost-up loops (symbolsNow text) at);
   one = λ at h f. let z : at + 1 ≡ suc at = omega arith in rw z (cost-one loops some (symbolsNow text) _ at refl h f);
   again = λ at h. let z : at + 1 ≡ suc at = omega arith in rw z (cost-again loops (symbolsNow text) _ at refl h);
   most = λ at. omega (arith, cost-now loops text at);
-  numbers = λ at e. words-at (symbolsNow text) _ at (kept-now text .words) (λ q. omega arith) e;
+  numbers = λ at e. known at .number e;
+  names = λ at e. known at .name e;
   quotes = λ at e. rw (strings-now text) (below-at _ (symbolsNow text) _ at (kept-now text .below) (λ q. omega arith) e);
 }
+  where
+    known : (at : ℕ) → Worded (symbolAt (sourceNow text) at)
+    known at = words-at (symbolsNow text) _ at (words-now text short) (neither _ (λ e. omega arith) (λ e. omega arith))

@@ -9,6 +9,7 @@ use Rattle.language.specs.Kinds.{COMMA, SEMICOLON, CLOSE, END, NAME, NUM
 use Rattle.language.specs.Symbols.{Symbol}
 use Rattle.language.specs.Binding.{isRepeat}
 use Rattle.language.specs.Tree.{Name}
+use Rattle.language.specs.Fine.{FineName}
 use Rattle.language.specs.Reader.{Source, Out, ok, no, Reader, onOut, symbolAt, kindAt, valueAt, placeAt, is, unexpected, any, the, optional, aName, manyUpTo, many, moreUpTo, items, isComma, furtherItems, oneUpToClose, upToClose}
 
 -- a count of the symbols before a position, semicolons apart; and what is known of the symbols' values
@@ -19,6 +20,7 @@ pub record Counts (loops : ℕ) (s : Source) (strings : ℕ) (c : ℕ → ℕ) :
   pub again : (at : ℕ) → isRepeat (kindAt s at) ≡ true → c at + loops ≤ c (at + 1)
   pub most : (at : ℕ) → c at ≤ 65535
   pub numbers : (at : ℕ) → kindAt s at ≡ NUMBER → valueAt s at < 65536
+  pub names : (at : ℕ) → kindAt s at ≡ NAME → FineName (record { place = placeAt s at; width = valueAt s at })
   pub quotes : (at : ℕ) → kindAt s at ≡ STRING → valueAt s at < strings
 
 -- a kind that is a symbol, and no semicolon
@@ -84,12 +86,13 @@ module _ {loops : ℕ} (s : Source) (strings : ℕ) (c : ℕ → ℕ) (k : Count
   unfolding optional
   optional-semicolon at = either (is SEMICOLON s at) (λ e. got whatever (omega (arith, k .up at))) (λ e. got whatever (omega arith))
 
-  pub data NameHere (at : ℕ) (n : Name) : Type 0 where
-    stands-here : n .place ≡ placeAt s at → NameHere at n
+  pub record NameHere (at : ℕ) (n : Name) : Type 0 where
+    pub stands-here : n .place ≡ placeAt s at
+    pub fine : FineName n
 
   pub a-name : (at : ℕ) → Of (NameHere at) (λ _. 1) at (aName s at)
   unfolding aName unexpected
-  a-name at = either (is NAME s at) (λ e. got (stands-here refl) (omega (arith, solid at NAME (eqb-true _ _ e) (omega arith, λ z. omega arith)))) (λ e. refused)
+  a-name at = either (is NAME s at) (λ e. got (record { stands-here = refl; fine = k .names at (eqb-true _ _ e) }) (omega (arith, solid at NAME (eqb-true _ _ e) (omega arith, λ z. omega arith)))) (λ e. refused)
 
   pub data Symbolic (at : ℕ) (x : Symbol) : Type 0 where
     it-is : x ≡ symbolAt s at → Symbolic at x

@@ -1,6 +1,6 @@
--- What is known of a tree that was read, whatever its names mean: numbers are words, strings are among those of the text, words are those
--- of their forms, lists match in length, and what may not be empty is not. Only private functions' contracts cite it; that every tree
--- that is read is fine is proved in `proofs/ReadTokens.antt`.
+-- What is known of a tree that was read, whatever its names mean: numbers are words, as are places and widths of the names declared,
+-- strings are among those of the text, words are those of their forms, lists match in length, and what may not be empty is not. Only
+-- private functions' contracts cite it; that every tree that is read is fine is proved in `proofs/ReadTokens.antt`.
 use Prim.Native.Nat.{ℕ, _+_, _≤_, _<_}
 use mathlib.Core.Path.{_≡_}
 use mathlib.Core.Bool.{true, false}
@@ -15,6 +15,14 @@ use Rattle.language.specs.Tree.{Name, Constant, Label, Expression, Expre
 unfoldable pub labelCount : Commands → ℕ
 labelCount T.noCommands = 0
 labelCount (T.andCommand (T.command ls u rs) cs) = length ls + labelCount cs
+
+pub record FineName (n : Name) : Type 0 where
+  pub place : n .place < 65536
+  pub width : n .width < 65536
+
+unfoldable pub FineNames : List Name → Type 0
+FineNames [] = Unit {0}
+FineNames (n ∷ ns) = FineName n × FineNames ns
 
 -- a constant's number is a word, and a name without a minus stands at the constant's place
 pub record FineConstant (c : Constant) : Type 0 where
@@ -75,7 +83,7 @@ module _ (strings : ℕ) where
     FineUnlabelled (T.callCommand e) = Fine e × (isCall e ≡ true)
     FineUnlabelled (T.test e c d) = Fine e × FineCommand c × FineCommand d
     FineUnlabelled (T.guarded w e c) = Fine e × FineCommand c × (isGuard w ≡ true)
-    FineUnlabelled (T.for n e d k c) = Fine e × Fine d × FineBy k × FineCommand c
+    FineUnlabelled (T.for n e d k c) = Fine e × Fine d × FineBy k × FineCommand c × FineName n
     FineUnlabelled (T.switchon e cs) = Fine e × FineCommands cs × (labelCount cs ≤ 65535)
     FineUnlabelled (T.resultis place e) = Fine e
     FineUnlabelled (T.leave w place) = isLeave w ≡ true
@@ -88,21 +96,30 @@ module _ (strings : ℕ) where
 
     pub FineLocals : Locals → Type 0
     FineLocals T.noLocals = Unit {0}
-    FineLocals (T.vector n k ls) = FineConstant k × FineLocals ls
+    FineLocals (T.vector n k ls) = FineConstant k × FineLocals ls × FineName n
     -- lists beside = match in length
-    FineLocals (T.values ns es ls) = FineList es × FineLocals ls × (count es ≡ length ns)
+    FineLocals (T.values ns es ls) = FineList es × FineLocals ls × (count es ≡ length ns) × FineNames ns
 
   abbrev pub FineBody : Body → Type 0
   FineBody (T.value e) = Fine e
   FineBody (T.routine c) = FineCommand c
 
+  pub record FineFunction (f : Function) : Type 0 where
+    pub name : FineName (f .name)
+    pub parameters : FineNames (f .parameters)
+    pub body : FineBody (f .body)
+
   unfoldable pub FineFunctions : List Function → Type 0
   FineFunctions [] = Unit {0}
-  FineFunctions (f ∷ fs) = FineBody (f .body) × FineFunctions fs
+  FineFunctions (f ∷ fs) = FineFunction f × FineFunctions fs
+
+  pub record FineItem (i : Item) : Type 0 where
+    pub name : FineName (i .name)
+    pub constant : FineConstant (i .constant)
 
   unfoldable pub FineItems : List Item → Type 0
   FineItems [] = Unit {0}
-  FineItems (i ∷ is) = FineConstant (i .constant) × FineItems is
+  FineItems (i ∷ is) = FineItem i × FineItems is
 
   abbrev pub FineDeclaration : Declaration → Type 0
   FineDeclaration (T.globals is) = FineItems is

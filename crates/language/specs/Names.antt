@@ -1,6 +1,6 @@
 -- Names, what they mean, and the scope in which a name is looked up (document 01, "Grammar", its last paragraph).
 use Prim.Native.Nat.{ℕ}
-use mathlib.Core.Bool.{Bool, true, false, cond}
+use mathlib.Core.Bool.{Bool, true, false, cond, _&&_}
 use mathlib.Core.List.{List, [], _∷_}
 use lib.ListN.{take, drop}
 use lib.Dec.{eqb}
@@ -30,12 +30,12 @@ sameBytes [] (d ∷ ds) = false
 sameBytes (c ∷ cs) [] = false
 sameBytes (c ∷ cs) (d ∷ ds) = cond (eqb c d) (sameBytes cs ds) false
 
--- names are the same if their bytes in the text are
+-- names are the same if they are as wide, and their bytes in the text the same
 abbrev pub spelling : List ℕ → Name → List ℕ
 spelling text n = take (n .width) (drop (n .place) text)
 
 abbrev pub sameName : List ℕ → Name → Name → Bool
-sameName text n m = sameBytes (spelling text n) (spelling text m)
+sameName text n m = eqb (n .width) (m .width) && sameBytes (spelling text n) (spelling text m)
 
 -- the innermost match, of the later declaration first
 unfoldable pub lookup : List ℕ → Scope → Name → Found

@@ -14,7 +14,7 @@ use Rattle.compiler.proofs.outer.item_constant.Reads as item-constant-r
 use Rattle.compiler.proofs.outer.meaning.Reads as meaning-reads
 use Rattle.compiler.proofs.scope.entry.Reads as entry-reads
 use Rattle.compiler.proofs.scope.in_block.Reads as in-block-reads
-use Rattle.compiler.proofs.scope.push.Reads as push-reads
+use Rattle.compiler.proofs.scope.push_name.Reads as push-name-reads
 use Rattle.compiler.proofs.steps.again.Reads as again-reads
 
 abbrev Inv-loop : tie.InvT-loop
@@ -68,20 +68,22 @@ blame-requires c κs = c .before .before .before .before .item-constant .ensures
 again-requires : tie.Need-again-requires Inv-loop μ-loop
 again-requires c κs = c .before .entry2 .ensures .1
 
-mul-push : tie.Need-mul-push Inv-loop μ-loop
-mul-push c = omega (arith, items-fit (c .before .before .before .before .before .before .before .before .before .before .before .before .before .before .before .args .global) (c .before .before .before .before .before .before .before .before .before .before .before .before .before .before .before .args .source .now) (c .before .before .before .before .before .before .before .before .before .before .before .before .before .before .before .args .st) (c .before .before .before .before .before .before .before .before .before .before .before .before .loop .k) (c .before .before .before .before .before .before .before .before .before .before .before .loop-test .taken) (c .before .before .before .before .before .before .before .before .before .before .before .before .before .before .before .pre) (c .before .before .before .before .before .before .before .before .before .before .before .before .loop .inv .1 (c .before .before .before .before .before .before .before .before .before .before .before .before .before .before .before .pre)))
+mul-push-name : tie.Need-mul-push-name Inv-loop μ-loop
+mul-push-name c = omega (arith, items-fit (c .before .before .before .before .before .before .before .before .before .before .before .before .before .before .before .args .global) (c .before .before .before .before .before .before .before .before .before .before .before .before .before .before .before .args .source .now) (c .before .before .before .before .before .before .before .before .before .before .before .before .before .before .before .args .st) (c .before .before .before .before .before .before .before .before .before .before .before .before .loop .k) (c .before .before .before .before .before .before .before .before .before .before .before .loop-test .taken) (c .before .before .before .before .before .before .before .before .before .before .before .before .before .before .before .pre) (c .before .before .before .before .before .before .before .before .before .before .before .before .loop .inv .1 (c .before .before .before .before .before .before .before .before .before .before .before .before .before .before .before .pre)))
 
-add-push : tie.Need-add-push Inv-loop μ-loop
-add-push c = omega (arith, items-fit (c .before .before .before .before .before .before .before .before .before .before .before .before .before .before .before .args .global) (c .before .before .before .before .before .before .before .before .before .before .before .before .before .before .before .args .source .now) (c .before .before .before .before .before .before .before .before .before .before .before .before .before .before .before .args .st) (c .before .before .before .before .before .before .before .before .before .before .before .before .loop .k) (c .before .before .before .before .before .before .before .before .before .before .before .loop-test .taken) (c .before .before .before .before .before .before .before .before .before .before .before .before .before .before .before .pre) (c .before .before .before .before .before .before .before .before .before .before .before .before .loop .inv .1 (c .before .before .before .before .before .before .before .before .before .before .before .before .before .before .before .pre)))
+add-push-name : tie.Need-add-push-name Inv-loop μ-loop
+add-push-name c = omega (arith, items-fit (c .before .before .before .before .before .before .before .before .before .before .before .before .before .before .before .args .global) (c .before .before .before .before .before .before .before .before .before .before .before .before .before .before .before .args .source .now) (c .before .before .before .before .before .before .before .before .before .before .before .before .before .before .before .args .st) (c .before .before .before .before .before .before .before .before .before .before .before .before .loop .k) (c .before .before .before .before .before .before .before .before .before .before .before .loop-test .taken) (c .before .before .before .before .before .before .before .before .before .before .before .before .before .before .before .pre) (c .before .before .before .before .before .before .before .before .before .before .before .before .loop .inv .1 (c .before .before .before .before .before .before .before .before .before .before .before .before .before .before .before .pre)))
 
-add-push-2 : tie.Need-add-push-2 Inv-loop μ-loop
-add-push-2 c = omega (arith, items-fit (c .before .before .before .before .before .before .before .before .before .before .before .before .before .before .before .args .global) (c .before .before .before .before .before .before .before .before .before .before .before .before .before .before .before .args .source .now) (c .before .before .before .before .before .before .before .before .before .before .before .before .before .before .before .args .st) (c .before .before .before .before .before .before .before .before .before .before .before .before .loop .k) (c .before .before .before .before .before .before .before .before .before .before .before .loop-test .taken) (c .before .before .before .before .before .before .before .before .before .before .before .before .before .before .before .pre) (c .before .before .before .before .before .before .before .before .before .before .before .before .loop .inv .1 (c .before .before .before .before .before .before .before .before .before .before .before .before .before .before .before .pre)))
+add-push-name-2 : tie.Need-add-push-name-2 Inv-loop μ-loop
+add-push-name-2 c = omega (arith, items-fit (c .before .before .before .before .before .before .before .before .before .before .before .before .before .before .before .args .global) (c .before .before .before .before .before .before .before .before .before .before .before .before .before .before .before .args .source .now) (c .before .before .before .before .before .before .before .before .before .before .before .before .before .before .before .args .st) (c .before .before .before .before .before .before .before .before .before .before .before .before .loop .k) (c .before .before .before .before .before .before .before .before .before .before .before .loop-test .taken) (c .before .before .before .before .before .before .before .before .before .before .before .before .before .before .before .pre) (c .before .before .before .before .before .before .before .before .before .before .before .before .loop .inv .1 (c .before .before .before .before .before .before .before .before .before .before .before .before .before .before .before .pre)))
 
 meaning-requires : tie.Need-meaning-requires Inv-loop μ-loop
 meaning-requires c κs = c .before .before .before .before .before .before .before .item-constant .ensures .low
 
-push-requires : tie.Need-push-requires Inv-loop μ-loop
-push-requires c κs = (omega (arith, items-fit (c .before .before .before .before .before .before .before .before .before .before .before .before .before .before .before .before .args .global) (c .before .before .before .before .before .before .before .before .before .before .before .before .before .before .before .before .args .source .now) (c .before .before .before .before .before .before .before .before .before .before .before .before .before .before .before .before .args .st) (c .before .before .before .before .before .before .before .before .before .before .before .before .before .loop .k) (c .before .before .before .before .before .before .before .before .before .before .before .before .loop-test .taken) (c .before .before .before .before .before .before .before .before .before .before .before .before .before .before .before .before .pre) (c .before .before .before .before .before .before .before .before .before .before .before .before .before .loop .inv .1 (c .before .before .before .before .before .before .before .before .before .before .before .before .before .before .before .before .pre))), omega (arith, items-fit (c .before .before .before .before .before .before .before .before .before .before .before .before .before .before .before .before .args .global) (c .before .before .before .before .before .before .before .before .before .before .before .before .before .before .before .before .args .source .now) (c .before .before .before .before .before .before .before .before .before .before .before .before .before .before .before .before .args .st) (c .before .before .before .before .before .before .before .before .before .before .before .before .before .loop .k) (c .before .before .before .before .before .before .before .before .before .before .before .before .loop-test .taken) (c .before .before .before .before .before .before .before .before .before .before .before .before .before .before .before .before .pre) (c .before .before .before .before .before .before .before .before .before .before .before .before .before .loop .inv .1 (c .before .before .before .before .before .before .before .before .before .before .before .before .before .before .before .before .pre))), omega (arith, c .meaning .ensures, code-small (c .before .before .before .before .before .before .before .before .before .before .before .before .before .before .before .before .args .global) (c .before .before .before .before .before .before .before .before .item-constant .result .word) (c .before .before .before .before .before .before .before .before .item-constant .ensures .low)))
+push-name-requires : tie.Need-push-name-requires Inv-loop μ-loop
+push-name-requires c κs =
+    let w = items-fit (c .before .before .before .before .before .before .before .before .before .before .before .before .before .before .before .before .args .global) (c .before .before .before .before .before .before .before .before .before .before .before .before .before .before .before .before .args .source .now) (c .before .before .before .before .before .before .before .before .before .before .before .before .before .before .before .before .args .st) (c .before .before .before .before .before .before .before .before .before .before .before .before .before .loop .k) (c .before .before .before .before .before .before .before .before .before .before .before .before .loop-test .taken) (c .before .before .before .before .before .before .before .before .before .before .before .before .before .before .before .before .pre) (c .before .before .before .before .before .before .before .before .before .before .before .before .before .loop .inv .1 (c .before .before .before .before .before .before .before .before .before .before .before .before .before .before .before .before .pre)) in
+    (omega (arith, w), omega (arith, w), omega (arith, c .meaning .ensures, code-small (c .before .before .before .before .before .before .before .before .before .before .before .before .before .before .before .before .args .global) (c .before .before .before .before .before .before .before .before .item-constant .result .word) (c .before .before .before .before .before .before .before .before .item-constant .ensures .low)), w .name)
 
 add-k : tie.Need-add-k Inv-loop μ-loop
 add-k c = omega (arith, items-fit (c .before .before .before .before .before .before .before .before .before .before .before .before .before .before .before .before .before .before .before .args .global) (c .before .before .before .before .before .before .before .before .before .before .before .before .before .before .before .before .before .before .before .args .source .now) (c .before .before .before .before .before .before .before .before .before .before .before .before .before .before .before .before .before .before .before .args .st) (c .before .before .before .before .before .before .before .before .before .before .before .before .before .before .before .before .loop .k) (c .before .before .before .before .before .before .before .before .before .before .before .before .before .before .before .loop-test .taken) (c .before .before .before .before .before .before .before .before .before .before .before .before .before .before .before .before .before .before .before .pre) (c .before .before .before .before .before .before .before .before .before .before .before .before .before .before .before .before .loop .inv .1 (c .before .before .before .before .before .before .before .before .before .before .before .before .before .before .before .before .before .before .before .pre)))
@@ -90,7 +92,7 @@ loop-less : tie.Need-loop-less Inv-loop μ-loop
 loop-less c = omega (arith, c .before .before .before .before .before .before .before .before .before .before .before .before .before .before .before .loop-test .taken)
 
 loop-again : tie.Need-loop-again Inv-loop μ-loop
-loop-again c = (c .before .before .push .kept .0 ∙ c .before .before .before .before .before .before .before .before .before .before .before .before .before .before .before .before .loop .inv .0, λ y. items-next (c .before .before .before .before .before .before .before .before .before .before .before .before .before .before .before .before .before .before .before .args .global) (c .before .before .before .before .before .before .before .before .before .before .before .before .before .before .before .before .before .before .before .args .source .now) (c .before .before .before .before .before .before .before .before .before .before .before .before .before .before .before .before .before .before .before .args .st) (c .before .before .before .before .before .before .before .before .before .before .before .before .before .before .before .before .loop .k) (c .before .before .before .before .before .before .before .before .before .before .before .before .before .before .before .loop-test .taken) (c .before .before .before .before .before .before .before .before .before .before .before .before .before .entry .ensures .0) refl (c .before .before .before .before .before .before .before .before .before .before .before .item-constant .ensures) (c .before .before .before .before .before .before .before .before .before .in-block .ensures) (c .before .before .before .before .before .before .before .entry2 .ensures .0) (c .before .before .before .before .before .before .blame .ensures) (c .before .before .before .before .before .again .ensures) (c .before .before .push .ensures) (c .before .before .before .meaning .ensures) y (c .before .before .before .before .before .before .before .before .before .before .before .before .before .before .before .before .loop .inv .1 y))
+loop-again c = (c .before .before .push-name .kept .0 ∙ c .before .before .before .before .before .before .before .before .before .before .before .before .before .before .before .before .loop .inv .0, λ y. items-next (c .before .before .before .before .before .before .before .before .before .before .before .before .before .before .before .before .before .before .before .args .global) (c .before .before .before .before .before .before .before .before .before .before .before .before .before .before .before .before .before .before .before .args .source .now) (c .before .before .before .before .before .before .before .before .before .before .before .before .before .before .before .before .before .before .before .args .st) (c .before .before .before .before .before .before .before .before .before .before .before .before .before .before .before .before .loop .k) (c .before .before .before .before .before .before .before .before .before .before .before .before .before .before .before .loop-test .taken) (c .before .before .before .before .before .before .before .before .before .before .before .before .before .entry .ensures .0) refl (c .before .before .before .before .before .before .before .before .before .before .before .item-constant .ensures) (c .before .before .before .before .before .before .before .before .before .in-block .ensures) (c .before .before .before .before .before .before .before .entry2 .ensures .0) (c .before .before .before .before .before .before .blame .ensures) (c .before .before .before .before .before .again .ensures) (c .before .before .push-name .ensures) (c .before .before .before .meaning .ensures) y (c .before .before .before .before .before .before .before .before .before .before .before .before .before .before .before .before .loop .inv .1 y))
 
 mul-t32 : tie.Need-mul-t32 Inv-loop μ-loop
 mul-t32 c = omega (arith, items-out (c .before .before .before .before .args .global) (c .before .before .before .before .args .source .now) (c .before .before .before .before .args .st) (c .before .loop .k) (c .before .before .before .before .pre) (c .before .loop .inv .1 (c .before .before .before .before .pre)))
@@ -125,11 +127,11 @@ items-spec =
     entry-requires-2
     blame-requires
     again-requires
-    mul-push
-    add-push
-    add-push-2
+    mul-push-name
+    add-push-name
+    add-push-name-2
     meaning-requires
-    push-requires
+    push-name-requires
     add-k
     loop-less
     loop-again

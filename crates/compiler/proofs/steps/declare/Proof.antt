@@ -11,7 +11,7 @@ use Rattle.compiler.proofs.steps.declare.Reads as reads
 use Rattle.compiler.proofs.steps.declare.Lts as lts
 use Rattle.compiler.proofs.scope.entry.Reads as entry-reads
 use Rattle.compiler.proofs.scope.in_block.Reads as in-block-reads
-use Rattle.compiler.proofs.scope.push.Reads as push-reads
+use Rattle.compiler.proofs.scope.push_name.Reads as push-name-reads
 use Rattle.compiler.proofs.steps.again.Reads as again-reads
 
 abbrev Inv-loop : tie.InvT-loop
@@ -41,23 +41,25 @@ entry-requires c κs = search needs
 again-requires : tie.Need-again-requires Inv-loop μ-loop
 again-requires c κs = c .entry .ensures .1
 
-mul-push : tie.Need-mul-push Inv-loop μ-loop
-mul-push c = omega (arith, names-fit (c .before .before .before .before .before .before .before .before .before .before .args .source .now) (c .before .before .before .before .before .before .before .loop .k) (c .before .before .before .before .before .before .loop-test .taken) (c .before .before .before .before .before .before .before .before .before .before .pre) (c .before .before .before .before .before .before .before .loop .inv .1 (c .before .before .before .before .before .before .before .before .before .before .pre)))
+mul-push-name : tie.Need-mul-push-name Inv-loop μ-loop
+mul-push-name c = omega (arith, names-fit (c .before .before .before .before .before .before .before .before .before .before .args .source .now) (c .before .before .before .before .before .before .before .loop .k) (c .before .before .before .before .before .before .loop-test .taken) (c .before .before .before .before .before .before .before .before .before .before .pre) (c .before .before .before .before .before .before .before .loop .inv .1 (c .before .before .before .before .before .before .before .before .before .before .pre)))
 
-add-push : tie.Need-add-push Inv-loop μ-loop
-add-push c = omega (arith, names-fit (c .before .before .before .before .before .before .before .before .before .before .args .source .now) (c .before .before .before .before .before .before .before .loop .k) (c .before .before .before .before .before .before .loop-test .taken) (c .before .before .before .before .before .before .before .before .before .before .pre) (c .before .before .before .before .before .before .before .loop .inv .1 (c .before .before .before .before .before .before .before .before .before .before .pre)))
+add-push-name : tie.Need-add-push-name Inv-loop μ-loop
+add-push-name c = omega (arith, names-fit (c .before .before .before .before .before .before .before .before .before .before .args .source .now) (c .before .before .before .before .before .before .before .loop .k) (c .before .before .before .before .before .before .loop-test .taken) (c .before .before .before .before .before .before .before .before .before .before .pre) (c .before .before .before .before .before .before .before .loop .inv .1 (c .before .before .before .before .before .before .before .before .before .before .pre)))
 
-add-push-2 : tie.Need-add-push-2 Inv-loop μ-loop
-add-push-2 c = omega (arith, names-fit (c .before .before .before .before .before .before .before .before .before .before .args .source .now) (c .before .before .before .before .before .before .before .loop .k) (c .before .before .before .before .before .before .loop-test .taken) (c .before .before .before .before .before .before .before .before .before .before .pre) (c .before .before .before .before .before .before .before .loop .inv .1 (c .before .before .before .before .before .before .before .before .before .before .pre)))
+add-push-name-2 : tie.Need-add-push-name-2 Inv-loop μ-loop
+add-push-name-2 c = omega (arith, names-fit (c .before .before .before .before .before .before .before .before .before .before .args .source .now) (c .before .before .before .before .before .before .before .loop .k) (c .before .before .before .before .before .before .loop-test .taken) (c .before .before .before .before .before .before .before .before .before .before .pre) (c .before .before .before .before .before .before .before .loop .inv .1 (c .before .before .before .before .before .before .before .before .before .before .pre)))
 
-mul-push-2 : tie.Need-mul-push-2 Inv-loop μ-loop
-mul-push-2 c = omega (arith, names-fit (c .before .before .before .before .before .before .before .before .before .before .args .source .now) (c .before .before .before .before .before .before .before .loop .k) (c .before .before .before .before .before .before .loop-test .taken) (c .before .before .before .before .before .before .before .before .before .before .pre) (c .before .before .before .before .before .before .before .loop .inv .1 (c .before .before .before .before .before .before .before .before .before .before .pre)))
+mul-push-name-2 : tie.Need-mul-push-name-2 Inv-loop μ-loop
+mul-push-name-2 c = omega (arith, names-fit (c .before .before .before .before .before .before .before .before .before .before .args .source .now) (c .before .before .before .before .before .before .before .loop .k) (c .before .before .before .before .before .before .loop-test .taken) (c .before .before .before .before .before .before .before .before .before .before .pre) (c .before .before .before .before .before .before .before .loop .inv .1 (c .before .before .before .before .before .before .before .before .before .before .pre)))
 
-add-push-3 : tie.Need-add-push-3 Inv-loop μ-loop
-add-push-3 c = omega (arith, names-fit (c .before .before .before .before .before .before .before .before .before .before .args .source .now) (c .before .before .before .before .before .before .before .loop .k) (c .before .before .before .before .before .before .loop-test .taken) (c .before .before .before .before .before .before .before .before .before .before .pre) (c .before .before .before .before .before .before .before .loop .inv .1 (c .before .before .before .before .before .before .before .before .before .before .pre)))
+add-push-name-3 : tie.Need-add-push-name-3 Inv-loop μ-loop
+add-push-name-3 c = omega (arith, names-fit (c .before .before .before .before .before .before .before .before .before .before .args .source .now) (c .before .before .before .before .before .before .before .loop .k) (c .before .before .before .before .before .before .loop-test .taken) (c .before .before .before .before .before .before .before .before .before .before .pre) (c .before .before .before .before .before .before .before .loop .inv .1 (c .before .before .before .before .before .before .before .before .before .before .pre)))
 
-push-requires : tie.Need-push-requires Inv-loop μ-loop
-push-requires c κs = (omega (arith, names-fit (c .before .before .before .before .before .before .before .before .before .before .args .source .now) (c .before .before .before .before .before .before .before .loop .k) (c .before .before .before .before .before .before .loop-test .taken) (c .before .before .before .before .before .before .before .before .before .before .pre) (c .before .before .before .before .before .before .before .loop .inv .1 (c .before .before .before .before .before .before .before .before .before .before .pre))), omega (arith, names-fit (c .before .before .before .before .before .before .before .before .before .before .args .source .now) (c .before .before .before .before .before .before .before .loop .k) (c .before .before .before .before .before .before .loop-test .taken) (c .before .before .before .before .before .before .before .before .before .before .pre) (c .before .before .before .before .before .before .before .loop .inv .1 (c .before .before .before .before .before .before .before .before .before .before .pre))), omega (arith, names-fit (c .before .before .before .before .before .before .before .before .before .before .args .source .now) (c .before .before .before .before .before .before .before .loop .k) (c .before .before .before .before .before .before .loop-test .taken) (c .before .before .before .before .before .before .before .before .before .before .pre) (c .before .before .before .before .before .before .before .loop .inv .1 (c .before .before .before .before .before .before .before .before .before .before .pre))))
+push-name-requires : tie.Need-push-name-requires Inv-loop μ-loop
+push-name-requires c κs =
+    let w = names-fit (c .before .before .before .before .before .before .before .before .before .before .args .source .now) (c .before .before .before .before .before .before .before .loop .k) (c .before .before .before .before .before .before .loop-test .taken) (c .before .before .before .before .before .before .before .before .before .before .pre) (c .before .before .before .before .before .before .before .loop .inv .1 (c .before .before .before .before .before .before .before .before .before .before .pre)) in
+    (omega (arith, w), omega (arith, w), omega (arith, w), w .4)
 
 add-k : tie.Need-add-k Inv-loop μ-loop
 add-k c = omega (arith, names-fit (c .before .before .before .before .before .before .before .before .before .before .before .before .before .args .source .now) (c .before .before .before .before .before .before .before .before .before .before .loop .k) (c .before .before .before .before .before .before .before .before .before .loop-test .taken) (c .before .before .before .before .before .before .before .before .before .before .before .before .before .pre) (c .before .before .before .before .before .before .before .before .before .before .loop .inv .1 (c .before .before .before .before .before .before .before .before .before .before .before .before .before .pre)))
@@ -69,7 +71,7 @@ loop-less : tie.Need-loop-less Inv-loop μ-loop
 loop-less c = omega (arith, c .before .before .before .before .before .before .before .before .before .loop-test .taken)
 
 loop-again : tie.Need-loop-again Inv-loop μ-loop
-loop-again c = (c .before .before .push .kept .0 ∙ c .before .before .before .before .before .before .before .before .before .before .loop .inv .0, λ y. names-next (c .before .before .before .before .before .before .before .before .before .before .before .before .before .args .source .now) (c .before .before .before .before .before .before .before .before .before .before .loop .k) (c .before .before .before .before .before .before .before .before .before .loop-test .taken) (c .before .before .before .before .before .before .before .in-block .ensures) (c .before .before .before .before .before .entry .ensures .0) (c .before .before .before .before .again .ensures) (c .before .before .push .ensures) refl y (c .before .before .before .before .before .before .before .before .before .before .loop .inv .1 y))
+loop-again c = (c .before .before .push-name .kept .0 ∙ c .before .before .before .before .before .before .before .before .before .before .loop .inv .0, λ y. names-next (c .before .before .before .before .before .before .before .before .before .before .before .before .before .args .source .now) (c .before .before .before .before .before .before .before .before .before .before .loop .k) (c .before .before .before .before .before .before .before .before .before .loop-test .taken) (c .before .before .before .before .before .before .before .in-block .ensures) (c .before .before .before .before .before .entry .ensures .0) (c .before .before .before .before .again .ensures) (c .before .before .push-name .ensures) refl y (c .before .before .before .before .before .before .before .before .before .before .loop .inv .1 y))
 
 same-length : tie.Need-same-length Inv-loop μ-loop
 same-length c = search needs
@@ -90,12 +92,12 @@ declare-spec =
     add-entry
     entry-requires
     again-requires
-    mul-push
-    add-push
-    add-push-2
-    mul-push-2
-    add-push-3
-    push-requires
+    mul-push-name
+    add-push-name
+    add-push-name-2
+    mul-push-name-2
+    add-push-name-3
+    push-name-requires
     add-k
     add-at
     loop-less
