@@ -1,5 +1,6 @@
 // The names in scope, on a stack at the front of scratch: two entries each, the name's place and width as one number, and what the name
 // means as a number; or two zeros where a block opens. The tree stands behind the stack and never changes.
+use crate::steps::less;
 ghost use mathlib.Core.Path.{_≡_};
 ghost use mathlib.Core.Bool.{Bool};
 ghost use Prim.Native.Nat.{ℕ, _+_, _*_, _-_, _/_, _%_, _≤_, _<_, _^_, min};
@@ -25,7 +26,26 @@ fn within(length: usize, p: usize, n: usize) -> usize
     if n < length - p { n } else { length - p }
 }
 
-// Whether so many bytes at two places of the source are the same. Names that differ mostly do in their last byte.
+// A byte of the source; past its end, 0.
+fn byte_at(source: &[u8], i: usize) -> usize
+    ensures { λ r. ⌜ r ≡ getD (now (source .entry)) i 0 ⌝ }
+{
+    if i < source.len() {
+        source[i] as usize
+    } else {
+        0
+    }
+}
+
+// The last byte of so many at a place.
+fn last_byte(source: &[u8], place: usize, n: usize) -> usize
+    requires { ⌜ (place < 2 ^ 32) × (n < 2 ^ 32) ⌝ }
+    ensures { λ r. ⌜ r ≡ getD (now (source .entry)) (place + (n - 1)) 0 ⌝ }
+{
+    byte_at(source, place + less(n, 1))
+}
+
+// Whether so many bytes at two places of the source are the same.
 fn same(source: &[u8], p: usize, q: usize, n: usize) -> bool
     requires { ⌜ (n ≤ length (now source) - p) × (n ≤ length (now source) - q) ⌝ }
     ensures { λ r. ⌜ r ≡ sameBytes (take n (drop p (now (source .entry)))) (take n (drop q (now (source .entry)))) ⌝ }
@@ -51,9 +71,9 @@ fn cut(source: &[u8], p: usize, q: usize, n: usize) -> bool
     same(source, p, q, size)
 }
 
-// The same, quick where they do not.
-fn alike(source: &[u8], p: usize, q: usize, n: usize) -> bool
-    requires { ⌜ (p < 2 ^ 32) × (q < 2 ^ 32) × (n < 2 ^ 32) ⌝ }
+// The same, quick where they do not: `last` is the last byte at `q`, and names that differ mostly do in that.
+fn alike(source: &[u8], p: usize, q: usize, n: usize, last: usize) -> bool
+    requires { ⌜ (p < 2 ^ 32) × (q < 2 ^ 32) × (n < 2 ^ 32) × (last ≡ getD (now source) (q + (n - 1)) 0) ⌝ }
     ensures { λ r. ⌜ r ≡ sameBytes (take n (drop p (now (source .entry)))) (take n (drop q (now (source .entry)))) ⌝ }
 {
     if source.len() < p + n {
@@ -62,18 +82,23 @@ fn alike(source: &[u8], p: usize, q: usize, n: usize) -> bool
     if source.len() < q + n {
         return cut(source, p, q, n);
     }
+    if n > 0 {
+        if source[p + (n - 1)] as usize != last {
+            return false;
+        }
+    }
     same(source, p, q, n)
 }
 
-// Whether a name of the stack is spelt like one of that place and width.
-fn spelt(source: &[u8], name: usize, place: usize, width: usize) -> bool
-    requires { ⌜ (name < 2 ^ 32) × (place < 2 ^ 32) × (width < 2 ^ 32) ⌝ }
+// Whether a name of the stack is spelt like one of that place, width and last byte.
+fn spelt(source: &[u8], name: usize, place: usize, width: usize, last: usize) -> bool
+    requires { ⌜ (name < 2 ^ 32) × (place < 2 ^ 32) × (width < 2 ^ 32) × (last ≡ getD (now source) (place + (width - 1)) 0) ⌝ }
     ensures { λ r. ⌜ r ≡ sameName (now (source .entry)) (named (name / 65536) (name % 65536)) (named place width) ⌝ }
 {
     if name % 65536 != width {
         return false;
     }
-    alike(source, name / 65536, place, width)
+    alike(source, name / 65536, place, width, last)
 }
 
 // An entry of the stack.
@@ -94,6 +119,7 @@ pub(crate) fn lookup(source: &[u8], s: &[u32], top: usize, leaf: usize) -> usize
     }
     let width = entry(s, leaf + 1);
     let place = entry(s, leaf + 2);
+    let last = last_byte(source, place, width);
     let mut at = top;
     'search: loop {
         loop {
@@ -104,7 +130,7 @@ pub(crate) fn lookup(source: &[u8], s: &[u32], top: usize, leaf: usize) -> usize
             if stacked(s, at + 1) == 0 {
                 break;
             }
-            if spelt(source, stacked(s, at), place, width) {
+            if spelt(source, stacked(s, at), place, width, last) {
                 break 'search;
             }
         }
@@ -122,6 +148,7 @@ pub(crate) fn in_block(source: &[u8], s: &[u32], top: usize, leaf: usize) -> usi
     }
     let width = entry(s, leaf + 1);
     let place = entry(s, leaf + 2);
+    let last = last_byte(source, place, width);
     let mut at = top;
     while at >= 2 {
         at -= 2;
@@ -129,7 +156,7 @@ pub(crate) fn in_block(source: &[u8], s: &[u32], top: usize, leaf: usize) -> usi
         if m == 0 {
             return 0;
         }
-        if spelt(source, stacked(s, at), place, width) {
+        if spelt(source, stacked(s, at), place, width, last) {
             return m;
         }
     }

@@ -11,7 +11,7 @@ returns : tie.Need-returns
 returns c = other-width (c .before .before .args .source .now) (c .before .before .args .name) (c .before .before .args .place) (c .before .before .args .width) (c .if1 .taken)
 
 alike-requires : tie.Need-alike-requires
-alike-requires c κs = (omega (arith, c .before .before .pre .0), c .before .before .pre .1, c .before .before .pre .2)
+alike-requires c κs = (omega (arith, c .before .before .pre .0), c .before .before .pre .1, c .before .before .pre .2, c .before .before .pre .3)
 
 returns-2 : tie.Need-returns-2
 returns-2 c = same-width (c .before .before .before .args .source .now) (c .before .before .before .args .name) (c .before .before .before .args .place) (c .before .before .before .args .width) (c .before .if1 .left) (c .alike .ensures)
