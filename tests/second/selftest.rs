@@ -809,31 +809,28 @@ fn vectors_runs() {
 // ---------------------------------------------------------------------------------------------------------------------
 // Trees in scratch
 
-/// What the proved reader's test program must print, held to this reader's trees and refusals.
+/// What the proved readers' test program must print, held to this reader's symbols, trees and refusals.
 #[test]
-fn tree_test_output() {
-    let folder = PathBuf::from("crates/tree_test");
+fn reading_test_output() {
+    let folder = PathBuf::from("crates/reading_test");
     let output = std::fs::read_to_string(folder.join("stdout")).expect("what the test program prints");
     let mut lines = output.lines().peekable();
     let mut files = 0;
     while let Some(heading) = lines.next() {
         let name = heading.strip_suffix(':').expect("a file's name");
         let text = std::fs::read(folder.join("data").join(name)).expect("a source");
+        if let Ok(symbols) = read_symbols(&text) {
+            assert_eq!(lines.next(), Some(&*format!("{} symbols", symbols.len())), "{name}");
+            let wanted = symbols.iter().flat_map(|symbol| [symbol.kind, symbol.value, symbol.place]);
+            assert!(rows(&mut lines).into_iter().eq(wanted), "{name}");
+        }
         let told = lines.next().expect("a result");
         match read_source(&text) {
-            Err(refusal) => {
-                let Refusal { number, place, line } = refusal;
-                assert_eq!(told, format!("refused {number} at {place} line {line}"), "{name}");
-            }
+            Err(Refusal { number, place, line }) => assert_eq!(told, format!("refused {number} at {place} line {line}"), "{name}"),
             Ok(tree) => {
-                let mut entries = Vec::new();
-                while let Some((position, line)) = lines.peek().and_then(|line| line.split_once(": ")) {
-                    assert_eq!(position, entries.len().to_string(), "{name}");
-                    entries.extend(line.split(' ').map(|entry| entry.parse::<u32>().expect("an entry")));
-                    lines.next();
-                }
+                let entries = rows(&mut lines);
                 let symbols = read_symbols(&text).expect("symbols");
-                assert_eq!(told, format!("{} symbols, {} entries", symbols.len(), entries.len()), "{name}");
+                assert_eq!(told, format!("tree of {} entries", entries.len()), "{name}");
                 assert_eq!(postfix::decode(&symbols, &entries), Ok(tree), "{name}");
                 damaged_entries(&symbols, &entries);
             }
@@ -841,6 +838,17 @@ fn tree_test_output() {
         files += 1;
     }
     assert_eq!(files, std::fs::read_dir(folder.join("data")).expect("the sources").count());
+}
+
+/// The entries in rows that begin with the position of their first.
+fn rows<'a>(lines: &mut std::iter::Peekable<impl Iterator<Item = &'a str>>) -> Vec<u32> {
+    let mut entries = Vec::new();
+    while let Some((position, line)) = lines.peek().and_then(|line| line.split_once(": ")) {
+        assert_eq!(position, entries.len().to_string());
+        entries.extend(line.split(' ').map(|entry| entry.parse::<u32>().expect("an entry")));
+        lines.next();
+    }
+    entries
 }
 
 /// No entry may be another one.

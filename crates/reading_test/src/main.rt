@@ -1,7 +1,8 @@
-// tree_test FILE..
+// reading_test FILE..
 //
-// Prints each source's tree: how many symbols it has, and the tree's entries behind them, eight a line after the position of the
-// first of these in the tree; or the source's refusal.
+// Prints how each source is read: the entries of its symbols, three each, and those of its tree, in rows after the position of their
+// first; or its refusal.
+ghost use Prim.Native.Nat.{_<_};
 ghost use mathlib.Core.Path.{_≡_};
 ghost use lib.ListN.{length};
 use libc::STDOUT_FILENO;
@@ -33,8 +34,10 @@ fn say_refused(source: &[u8], number: u16, place: usize) {
     say(b"\n");
 }
 
-fn print_entry(at: usize, entry: u32) {
-    if at % 8 == 0 {
+fn print_entry(at: usize, entry: u32, row: usize)
+    requires { ⌜ 0 < row ⌝ }
+{
+    if at % row == 0 {
         if at > 0 {
             say(b"\n");
         }
@@ -45,31 +48,46 @@ fn print_entry(at: usize, entry: u32) {
     say_number(entry as u64);
 }
 
-fn print_entries(tree: &[u32]) {
+fn print_entries(entries: &[u32], row: usize)
+    requires { ⌜ 0 < row ⌝ }
+{
     let mut at: usize = 0;
-    while at < tree.len() {
-        print_entry(at, tree[at]);
+    while at < entries.len() {
+        print_entry(at, entries[at], row);
         at += 1;
     }
     say(b"\n");
 }
 
-// The tree stands behind so many symbols of three entries.
-fn print_tree(scratch: &[u32], count: usize, end: usize) {
+fn print_part(scratch: &[u32], start: usize, end: usize, row: usize)
+    requires { ⌜ 0 < row ⌝ }
+{
     if scratch.len() < end {
         return;
     }
+    if start < end {
+        print_entries(&scratch[start..end], row);
+    }
+}
+
+// Three symbols a row.
+fn print_symbols(scratch: &[u32], count: usize) {
+    say_number(count as u64);
+    say(b" symbols\n");
+    if count <= scratch.len() / 3 {
+        print_part(scratch, 0, count * 3, 9);
+    }
+}
+
+// The tree stands behind so many symbols.
+fn print_tree(scratch: &[u32], count: usize, end: usize) {
     if end / 3 < count {
         return;
     }
-    let start = count * 3;
-    say_number(count as u64);
-    say(b" symbols, ");
-    say_number((end - start) as u64);
+    say(b"tree of ");
+    say_number((end - count * 3) as u64);
     say(b" entries\n");
-    if start < end {
-        print_entries(&scratch[start..end]);
-    }
+    print_part(scratch, count * 3, end, 8);
 }
 
 fn show(source: &[u8]) {
@@ -78,11 +96,14 @@ fn show(source: &[u8]) {
         SymbolsRead::TooLong => say(b"too long\n"),
         SymbolsRead::TooShort => say(b"scratch too short\n"),
         SymbolsRead::Refused { number, place } => say_refused(source, number, place),
-        SymbolsRead::Read(count) => match tree::read_tree(&mut scratch, count, source.len()) {
-            TreeRead::TooShort => say(b"scratch too short\n"),
-            TreeRead::Refused { number, place } => say_refused(source, number, place),
-            TreeRead::Read(end) => print_tree(&scratch, count, end),
-        },
+        SymbolsRead::Read(count) => {
+            print_symbols(&scratch, count);
+            match tree::read_tree(&mut scratch, count, source.len()) {
+                TreeRead::TooShort => say(b"scratch too short\n"),
+                TreeRead::Refused { number, place } => say_refused(source, number, place),
+                TreeRead::Read(end) => print_tree(&scratch, count, end),
+            }
+        }
     }
 }
 

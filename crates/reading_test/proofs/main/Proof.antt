@@ -1,7 +1,7 @@
 use borrow.Author.Needs.{needs}
 use Prim.Native.Nat.{_-_}
-use Rattle.tree_test.proofs.main.Statement.{statement}
-use Rattle.tree_test.proofs.main.Tie as tie
+use Rattle.reading_test.proofs.main.Statement.{statement}
+use Rattle.reading_test.proofs.main.Tie as tie
 
 abbrev Inv-loop : tie.InvT-loop
 Inv-loop count i₀ i = Unit {0}

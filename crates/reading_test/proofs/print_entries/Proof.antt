@@ -1,14 +1,14 @@
 use borrow.Author.Needs.{needs}
 use Prim.Native.Nat.{_-_}
 use lib.ListN.{length}
-use Rattle.tree_test.proofs.print_entries.Statement.{statement}
-use Rattle.tree_test.proofs.print_entries.Tie as tie
+use Rattle.reading_test.proofs.print_entries.Statement.{statement}
+use Rattle.reading_test.proofs.print_entries.Tie as tie
 
 abbrev Inv-loop : tie.InvT-loop
-Inv-loop tree at₀ t3 at = Unit {0}
+Inv-loop entries row at₀ t3 at = Unit {0}
 
 abbrev μ-loop : tie.MeasureT-loop
-μ-loop tree at₀ t3 at = length tree - at
+μ-loop entries row at₀ t3 at = length entries - at
 
 loop-holds : tie.Need-loop-holds Inv-loop μ-loop
 loop-holds c = search needs
