@@ -6,7 +6,7 @@ use mathlib.Core.List.{List, [], _∷_, _++_, append-assoc}
 use native.Mathlib.Omega.{arith}
 use native.Mathlib.Numerals.{add-one}
 use lib.ListN.{length, getD, replicate, take, drop, length-append, length-replicate, List·getD-append}
-use lib.Seq.{getD-append-add}
+use lib.Seq.{getD-append-add, length-take-le}
 use lib.Dec.{eqb, ltb}
 use borrow.Author.Tests.{eq-eqb, ne-eqb, eqb-true, ltb-false}
 use Rattle.text.specs.Quoted.{quoted}
@@ -52,11 +52,12 @@ use Rattle.compiler.specs.Walked.{least, AllFit}
 use Rattle.compiler.specs.Groups.{FineDs, Starting, encodeFunction, functionCount, CountsFunctions}
 use Rattle.compiler.specs.Programs.{startsOf, ReadyProgram, Walked, GaveProgram}
 use Rattle.compiler.specs.Strings.{stringCount, AllEnd, WritesStrings, WritesStarts}
-use Rattle.compiler.specs.Compiles.{decided, answerOf, Begins, Translates, Lent, ReadyTree, AllStrings, Behind, NONE, byKeys}
+use Rattle.compiler.specs.Compiles.{decided, answerOf, Begins, Translates, Clean, StaysClean, Lent, ReadyTree, AllStrings, Behind, NONE, byKeys}
 use Rattle.tree.proofs.Stages.{few-good, decoded-entries, entries-size}
 use Rattle.compiler.proofs.Rendered.{rendered}
 use Rattle.compiler.proofs.Deciding.{decides}
-use Rattle.compiler.proofs.Translating.{rules-decide, symbols-stand}
+use Rattle.compiler.proofs.Clearing.{padded-long, padded-clean, clean-front, clean-all}
+use Rattle.compiler.proofs.Translating.{rules-decide, symbols-left}
 use Rattle.compiler.proofs.StringsEnd.{string-count-is, strings-end}
 
 -- ---- how many functions there are
@@ -156,28 +157,56 @@ over-front (b ∷ out) (x ∷ t) h = ap (λ (z : List ℕ). b ∷ z) (over-front
 -- ---- what follows the functions
 
 -- no strings: nothing to write
-pub no-strings : {source t : List ℕ} {scratch count names first at : ℕ} → names ≡ 0 → AllStrings source scratch count names first at at t t
-no-strings {source} {t} {scratch} {count} {names} {first} {at} z = record { by = λ ss l e k n. none (stringsAmong source ss) (sym n ∙ z) }
+pub no-strings : {source s t : List ℕ} {count names first at : ℕ} → names ≡ 0 → AllStrings source s s count names first at at t t
+no-strings {source} {s} {t} {count} {names} {first} {at} z = record {
+  clean = record { by = λ ss e k h c. c };
+  by = λ ss e k n. none (stringsAmong source ss) (sym n ∙ z);
+}
   where
     none : (xs : List (List ℕ)) → length xs ≡ 0 → Puts (lines (stringsCode first xs)) at at t t
     none [] q = nothing-put first
     none (x ∷ xs) q = absurd (omega arith)
 
 -- the symbols read again
-pub strings-gave : {source s s′ t t′ : List ℕ} {a : SymbolsRead} {count names first at x : ℕ} → Reads source s a s′ → length s′ ≡ length s
-    → WritesStrings source s′ count first at x t t′ → AllStrings source (length s) count names first at x t t′
-strings-gave {source} {s} {s′} {t} {t′} {a} {count} {names} {first} {at} {x} r same w = record {
-  by = λ ss l e k n.
-      let d : decoded count s′ ≡ ss = ap (λ (m : ℕ). decoded m s′) k ∙ (ap (decoded (length ss)) (symbols-stand l r same ss e) ∙ decoded-entries ss (replicate (length s - length (entries ss)) 0)) in
-      subst (λ (xs : List Symbol). AllEnd source xs → Puts (lines (stringsCode first (stringsAmong source xs))) at x t t′) d (w .by) (strings-end source ss e);
+module _ {source : List ℕ} (s : List ℕ) {front : List ℕ} {a : SymbolsRead} {count : ℕ} (l : Lent source (length s))
+    (r : Reads source (take (length source * 3) s) a front) (ss : List Symbol) (e : symbolsOf source ≡ good ss) (k : count ≡ length ss) where
+  abbrev room : ℕ
+  room = length source * 3
+
+  part : length (take room s) ≡ room
+  part = length-take-le room s (omega (arith, l .asked))
+
+  again : front ≡ padded room (entries ss)
+  again = symbols-left (l .short) (omega (arith, part)) r (good ss) e ∙ ap (λ (n : ℕ). padded n (entries ss)) part
+
+  again-decoded : decoded count (front ++ drop room s) ≡ ss
+  again-decoded =
+      ap (λ (m : ℕ). decoded m (front ++ drop room s)) k
+      ∙ (ap (decoded (length ss)) (ap (λ (z : List ℕ). z ++ drop room s) again ∙ append-assoc (entries ss) _ _) ∙ decoded-entries ss _)
+
+  again-clean : {used : ℕ} → count * 3 ≤ used → Clean used s → Clean used (front ++ drop room s)
+  again-clean h c =
+      let long : length (entries ss) ≤ room = omega (arith, entries-size ss, few-good source ss e) in
+      clean-front room (ap length again ∙ padded-long (entries ss) room long)
+      (padded-clean (entries ss) room again (omega (arith, entries-size ss, k))) c
+
+pub strings-gave : {source s front t t′ : List ℕ} {a : SymbolsRead} {count names first at x : ℕ} → Lent source (length s)
+    → Reads source (take (length source * 3) s) a front → WritesStrings source (front ++ drop (length source * 3) s) count first at x t t′
+    → AllStrings source s (front ++ drop (length source * 3) s) count names first at x t t′
+strings-gave {source} {s} {front} {t} {t′} {a} {count} {names} {first} {at} {x} l r w = record {
+  clean = record { by = λ ss e k h c. again-clean s l r ss e k h c };
+  by = λ ss e k n.
+      subst (λ (xs : List Symbol). AllEnd source xs → Puts (lines (stringsCode first (stringsAmong source xs))) at x t t′)
+      (again-decoded s l r ss e k) (w .by) (strings-end source ss e);
 }
 
-pub behind-gave : {source table t t₁ t₂ t₃ : List ℕ} {scratch count names functions at x y z : ℕ}
-    → AllStrings source scratch count names (functions + 1) at x t t₁ → WritesStarts table functions x y t₁ t₂ → Puts (90 ∷ 10 ∷ []) y z t₂ t₃
-    → Behind source scratch count names functions table at z t t₃
-behind-gave {source} {table} {t} {t₁} {t₂} {t₃} {scratch} {count} {names} {functions} {at} {x} {y} {z} w v c = record {
-  by = λ ss fs l e k n long few start.
-      let shifted = subst (λ (m : ℕ). Puts (lines (stringsCode m (stringsAmong source ss))) at x t t₁) (add-one functions) (w .by ss l e k n) in
+pub behind-gave : {source s s′ table t t₁ t₂ t₃ : List ℕ} {count names functions at x y z : ℕ}
+    → AllStrings source s s′ count names (functions + 1) at x t t₁ → WritesStarts table functions x y t₁ t₂ → Puts (90 ∷ 10 ∷ []) y z t₂ t₃
+    → Behind source s s′ count names functions table at z t t₃
+behind-gave {source} {s} {s′} {table} {t} {t₁} {t₂} {t₃} {count} {names} {functions} {at} {x} {y} {z} w v c = record {
+  clean = w .clean;
+  by = λ ss fs e k n long few start.
+      let shifted = subst (λ (m : ℕ). Puts (lines (stringsCode m (stringsAmong source ss))) at x t t₁) (add-one functions) (w .by ss e k n) in
       puts-as (puts-then (puts-then shifted (v .by fs long few start)) c)
       (ap (λ (u : List ℕ). u ++ (90 ∷ 10 ∷ [])) (lines-then (stringsCode (suc functions) (stringsAmong source ss)) (startsCode 1 fs)));
 }
@@ -227,6 +256,13 @@ module _ {source s : List ℕ} {count end : ℕ} (y : ReadyTree source s count e
 
   pub strings-are-counted : {names : ℕ} → names ≡ stringCount (decoded count s) → names ≡ length (stringsAmong source (y .symbols))
   strings-are-counted e = e ∙ (ap stringCount symbols-are ∙ string-count-is source (y .symbols))
+
+  pub end-inside : end ≤ length s
+  end-inside = omega (arith, y .room, y .counts, few-good source (y .symbols) (y .reads), y .lent .asked)
+
+  clean-at-end : Clean end s
+  clean-at-end = padded-clean (entries (y .symbols) ++ encodeProgram p) (length s) (y .stand)
+      (omega (arith, length-append (entries (y .symbols)) (encodeProgram p), size, y .ends))
 
   pub few-symbols : count ≤ 16384
   few-symbols = omega (arith, y .counts, few-good source (y .symbols) (y .reads), y .lent .short)
@@ -299,12 +335,13 @@ module _ {source s : List ℕ} {count end : ℕ} (y : ReadyTree source s count e
 
     -- ---- the answer
 
-    module _ {s₁ table table′ t t₁ t₂ t₃ : List ℕ} {at last : ℕ} {d′ : Done}
+    module _ {s₁ s₂ table table′ t t₁ t₂ t₃ : List ℕ} {at last : ℕ} {d′ : Done}
         (o : Puts (36 ∷ 10 ∷ []) 0 at t t₁)
         (g : GaveProgram source s s₁ table table′ (count * 3) end 520 (functions + 1) t₁ t₂ (record { tall = NONE; state = record { at = at; label = functions + 1 + names; worst = NONE; high = 0 } }) d′)
         (none : table ≡ replicate 400 0)
-        (b : Behind source (length s₁) count names functions table′ (d′ .state .at) last t₂ t₃) where
-      w : Walked source p (functions + 1) s s₁ table table′ t₁ t₂ (record { tall = NONE; state = record { at = at; label = functions + 1 + names; worst = NONE; high = 0 } }) d′
+        (b : Behind source s₁ s₂ count names functions table′ (d′ .state .at) last t₂ t₃) where
+      w : Walked source p (count * 3) (functions + 1) s s₁ table table′ t₁ t₂
+          (record { tall = NONE; state = record { at = at; label = functions + 1 + names; worst = NONE; high = 0 } }) d′
       unfolding ready-program
       w = g .by (ready-program at none)
 
@@ -346,7 +383,7 @@ module _ {source s : List ℕ} {count end : ℕ} (y : ReadyTree source s count e
       written e =
           let x = o .by t [] (text-start t) in
           let y′ = w .did .clean e .text .by t (36 ∷ 10 ∷ []) x in
-          let z = b .by (y .symbols) (funs ns) (record { short = y .lent .short; asked = w .same ∙ y .lent .asked }) (y .reads) (y .counts) n (w .long) (f ∙ sym (length-funs ns)) (w .starting e) in
+          let z = b .by (y .symbols) (funs ns) (y .reads) (y .counts) n (w .long) (f ∙ sym (length-funs ns)) (w .starting e) in
           subst (λ (out : List ℕ). Text t out last t₃) the-text (z .by t _ y′)
 
       answers : byKeys source (d′ .state .worst) (d′ .tall) (getD table′ 1 0) last (length t) ≡ answerOf source (decided source (length s) (length t))
@@ -367,10 +404,17 @@ module _ {source s : List ℕ} {count end : ℕ} (y : ReadyTree source s count e
               let x = written (no-faults (faultsFrom source begin p) _ (k .0)) in
               (ap (take (length (textOf source))) (x .is) ∙ over-front (textOf source) t (k .1), omega (arith, k .1, ap length (x .is), over-length (textOf source) t))
 
-      pub translates : {start room : ℕ} {a : Compiled} → start ≡ getD table′ 1 0 → room ≡ length t → a ≡ byKeys source (d′ .state .worst) (d′ .tall) start last room
-          → Translates source (length s) t t₃ a
-      translates {start} {room} e k q =
+      clean-behind : Clean end s₂
+      clean-behind = b .clean .by (y .symbols) (y .reads) (y .counts) (omega (arith, y .ends))
+          (record { zeros = λ i h. w .keeps .above i (omega (arith, y .ends)) ∙ clean-at-end .zeros i h })
+
+      pub translates : {start room : ℕ} {a : Compiled} {z : List ℕ} → start ≡ getD table′ 1 0 → room ≡ length t
+          → a ≡ byKeys source (d′ .state .worst) (d′ .tall) start last room → length s₂ ≡ length s
+          → z ≡ take 0 (take end s₂) ++ replicate (length (take end s₂) - 0) 0
+          → Translates source s (z ++ drop end s₂) t t₃ a
+      translates {start} {room} e k q same c =
           record {
             answers = q ∙ (ap (λ (v : ℕ). byKeys source (d′ .state .worst) (d′ .tall) v last room) e ∙ (ap (λ (v : ℕ). byKeys source (d′ .state .worst) (d′ .tall) (getD table′ 1 0) last v) k ∙ answers));
+            clears = clean-all clean-behind (omega (arith, end-inside)) c ∙ ap (λ (v : ℕ). replicate v 0) same;
             begins = begins;
           }

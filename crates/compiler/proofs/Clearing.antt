@@ -1,20 +1,23 @@
--- Zeros from a place on, and what `compile` owes once they are written.
-use Prim.Native.Nat.{ℕ, _+_, _-_, _*_, _<_, _≤_}
+-- Zeros from a place on, where scratch holds nothing but zeros, and what `compile` owes once they are written.
+use Prim.Native.Nat.{ℕ, zero, suc, _+_, _-_, _*_, _<_, _≤_}
 use mathlib.Core.Path.{_≡_, refl, sym, ap, _∙_, subst}
 use mathlib.Core.List.{List, [], _∷_, _++_, append-assoc, append-nil}
 use native.Mathlib.Omega.{arith}
 use native.Mathlib.Numerals.{add-one}
-use lib.ListN.{length, getD, set, take, drop, replicate, length-append, length-replicate, drop-of-length-le, replicate-append-replicate, take-append-drop}
-use lib.Seq.{length-take-le, set-at, drop-cons}
+use lib.ListN.{length, getD, set, take, drop, replicate, length-append, length-drop, length-replicate, drop-of-length-le}
+use lib.ListN.{replicate-append-replicate, take-append-drop, List·getD-append}
+use lib.Seq.{length-take-le, set-at, drop-cons, ext-getD, getD-append-add, getD-drop, take-at}
 use Rattle.text.specs.declared.Refusal.{Refusal}
 use Rattle.text.specs.Line.{refusal}
 use Rattle.language.specs.Program.{Refused, accepted, refused}
 use Rattle.language.specs.Whole.{refusalOf, refusalIn, unlessFits}
+use Rattle.tree.specs.Read.{padded}
 use Rattle.code.proofs.Theorem.{faithful, proper}
 use Rattle.code.specs.Generate.{textOf}
 use Rattle.compiler.specs.declared.Compiled.{Compiled}
 use Rattle.compiler.specs.declared.Compiled.the-variants as C
-use Rattle.compiler.specs.Compiles.{decided, answerOf, textAfter, Begins, Compiles, Translates}
+use Rattle.compiler.specs.Compiles.{decided, answerOf, textAfter, Begins, Compiles, Translates, Clean}
+use Rattle.compiler.proofs.Scoping.{Order, lt, ge, order}
 
 module _ (s₀ : List ℕ) (from i : ℕ) where
   abbrev pub cleared : List ℕ
@@ -36,8 +39,71 @@ module _ (s₀ : List ℕ) (from i : ℕ) (h : from ≤ i) {s : List ℕ} (e : s
       let z : i ≡ length s₀ = omega arith in
       e ∙ rw (drop-of-length-le s₀ l, append-nil, z)
 
+pub cleared-all : (s : List ℕ) {s′ : List ℕ} → s′ ≡ take 0 s ++ replicate (length s - 0) 0 → s′ ≡ replicate (length s) 0
+cleared-all s e = let z : length s - 0 ≡ length s = omega arith in e ∙ ap (λ (n : ℕ). replicate n 0) z
+
 pub clear-start : (s : List ℕ) (from : ℕ) → s ≡ cleared s from from
 clear-start s from = let z : from - from ≡ 0 = omega arith in rw (z, append-nil) (sym (take-append-drop from s))
+
+-- ---- entries, and zeros behind them
+
+module _ (w : List ℕ) (room : ℕ) (h : length w ≤ room) where
+  pub padded-long : length (padded room w) ≡ room
+  padded-long = omega (arith, length-append w (replicate (room - length w) 0), length-replicate {A = ℕ} (room - length w) 0)
+
+  pub padded-on : (n : ℕ) → room ≤ n → padded n w ≡ padded room w ++ replicate (n - room) 0
+  padded-on n k =
+      let z : room - length w + (n - room) ≡ n - length w = omega arith in
+      sym (append-assoc w (replicate (room - length w) 0) (replicate (n - room) 0)
+      ∙ ap (λ (r : List ℕ). w ++ r) (replicate-append-replicate (room - length w) (n - room) 0 ∙ ap (λ (m : ℕ). replicate m 0) z))
+
+zero-at : (n i : ℕ) → getD (replicate {A = ℕ} n 0) i 0 ≡ 0
+zero-at zero i = refl
+zero-at (suc n) zero = refl
+zero-at (suc n) (suc i) = zero-at n i
+
+at-behind : (xs ys : List ℕ) (i : ℕ) → length xs ≤ i → getD (xs ++ ys) i 0 ≡ getD ys (i - length xs) 0
+at-behind xs ys i h =
+    let z : i ≡ length xs + (i - length xs) = omega arith in
+    ap (λ (k : ℕ). getD (xs ++ ys) k 0) z ∙ getD-append-add xs ys (i - length xs) 0
+
+pub padded-clean : {s : List ℕ} {used : ℕ} (w : List ℕ) (room : ℕ) → s ≡ padded room w → length w ≤ used → Clean used s
+padded-clean w room e h = record {
+  zeros = λ i k.
+      ap (λ (z : List ℕ). getD z i 0) e ∙ (at-behind w (replicate (room - length w) 0) i (omega arith) ∙ zero-at (room - length w) (i - length w));
+}
+
+-- a front that was lent
+pub clean-front : {s front : List ℕ} {used : ℕ} (k : ℕ) → length front ≡ k → Clean used front → Clean used s → Clean used (front ++ drop k s)
+clean-front {s} {front} {used} k e f c = record { zeros = λ i h. go i h (order i k) }
+  where
+    go : (i : ℕ) → used ≤ i → Order i k → getD (front ++ drop k s) i 0 ≡ 0
+    go i h (lt l) = List·getD-append front (drop k s) 0 i (omega arith) ∙ f .zeros i h
+    go i h (ge l) =
+        at-behind front (drop k s) i (omega arith) ∙ (getD-drop k s (i - length front) 0 ∙ c .zeros (k + (i - length front)) (omega arith))
+
+-- zeros are written below the place from which there are zeros
+pub clean-all : {s z : List ℕ} {used : ℕ} → Clean used s → used ≤ length s → z ≡ take 0 (take used s) ++ replicate (length (take used s) - 0) 0
+    → z ++ drop used s ≡ replicate (length s) 0
+clean-all {s} {z} {used} c h e =
+    let l : length (take used s) ≡ used = length-take-le used s h in
+    let n : used + (length s - used) ≡ length s = omega arith in
+    let behind : drop used s ≡ replicate (length s - used) 0 =
+    ext-getD 0 (drop used s) (replicate (length s - used) 0) (length-drop used s ∙ sym (length-replicate {A = ℕ} (length s - used) 0))
+    (λ i k. getD-drop used s i 0 ∙ (c .zeros (used + i) (omega arith) ∙ sym (zero-at (length s - used) i))) in
+    ap (λ (y : List ℕ). y ++ drop used s) (cleared-all (take used s) e ∙ ap (λ (m : ℕ). replicate m 0) l)
+    ∙ (ap (λ (y : List ℕ). replicate used 0 ++ y) behind ∙ (replicate-append-replicate used (length s - used) 0 ∙ ap (λ (m : ℕ). replicate m 0) n))
+
+-- zeros are written behind a front of zeros
+pub zeros-behind : (s front : List ℕ) {s′ : List ℕ} (k : ℕ) → length (take k s) ≡ k → k ≤ length s → front ≡ replicate (length (take k s)) 0
+    → s′ ≡ take k (front ++ drop k s) ++ replicate (length (front ++ drop k s) - k) 0 → s′ ≡ replicate (length s) 0
+zeros-behind s front k e h f w =
+    let l : length front ≡ k = ap length f ∙ (length-replicate {A = ℕ} (length (take k s)) 0 ∙ e) in
+    let m : length (front ++ drop k s) - k ≡ length s - k = omega (arith, length-append front (drop k s), length-drop k s) in
+    let n : k + (length s - k) ≡ length s = omega arith in
+    w ∙ (ap (λ (i : ℕ). take k (front ++ drop k s) ++ replicate i 0) m
+    ∙ (ap (λ (x : List ℕ). x ++ replicate (length s - k) 0) (take-at front (drop k s) k l ∙ (f ∙ ap (λ (i : ℕ). replicate i 0) e))
+    ∙ (replicate-append-replicate k (length s - k) 0 ∙ ap (λ (i : ℕ). replicate i 0) n)))
 
 -- ---- after the clearing
 
@@ -60,26 +126,28 @@ accepts source scratch room h = go (refusalOf source scratch) h
     go accepted h = refl
     go (refused number place) h = h
 
-module _ {source : List ℕ} {scratch : ℕ} {text text₁ : List ℕ} {a : Compiled} (t : Translates source scratch text text₁ a) (l : length text₁ ≡ length text) where
+module _ {source scratch scratch′ text text₁ : List ℕ} {a : Compiled} (t : Translates source scratch scratch′ text text₁ a)
+    (l : length text₁ ≡ length text) where
+  abbrev decision : Refused
+  decision = decided source (length scratch) (length text)
+
   pub accepted-fits : {n : ℕ} → a ≡ C.Accepted n → n ≤ length text₁
-  accepted-fits {n} e = accepted-text source text text₁ n (decided source scratch (length text)) (sym e ∙ t .answers) (t .begins) l .0
+  accepted-fits {n} e = accepted-text source text text₁ n decision (sym e ∙ t .answers) (t .begins) l .0
 
-  module _ (scratch₁ : List ℕ) {scratch₀ scratch₂ text₂ : List ℕ} (n₀ : scratch ≡ length scratch₀) (l₁ : length scratch₁ ≡ length scratch₀) (es : scratch₂ ≡ take 0 scratch₁ ++ replicate (length scratch₁ - 0) 0) where
-    compiles : (b : Compiled) → a ≡ b → text₂ ≡ textAfter source (length text) (decided source scratch (length text)) → Compiles source scratch₀ scratch₂ text text₂ b
-    compiles b e w =
-        let z : length scratch₁ - 0 ≡ length scratch₀ = omega arith in
-        record {
-          answers = sym e ∙ t .answers ∙ ap (λ (k : ℕ). answerOf source (decided source k (length text))) n₀;
-          clears = es ∙ ap (λ (k : ℕ). replicate k 0) z;
-          writes = w ∙ ap (λ (k : ℕ). textAfter source (length text) (decided source k (length text))) n₀;
-          faithful = λ h. faithful source (length scratch₀) (accepts source (length scratch₀) (length text) h);
-          proper = λ h. proper source (length scratch₀) (accepts source (length scratch₀) (length text) h);
-        }
+  compiles : {text₂ : List ℕ} (b : Compiled) → a ≡ b → text₂ ≡ textAfter source (length text) decision → Compiles source scratch scratch′ text text₂ b
+  compiles b e w = record {
+    answers = sym e ∙ t .answers;
+    clears = t .clears;
+    writes = w;
+    faithful = λ h. faithful source (length scratch) (accepts source (length scratch) (length text) h);
+    proper = λ h. proper source (length scratch) (accepts source (length scratch) (length text) h);
+  }
 
-    pub compiles-accepted : {n : ℕ} → a ≡ C.Accepted n → text₂ ≡ take n text₁ ++ replicate (length text₁ - n) 0 → Compiles source scratch₀ scratch₂ text text₂ (C.Accepted n)
-    compiles-accepted {n} e et =
-        compiles (C.Accepted n) e (et ∙ accepted-text source text text₁ n (decided source scratch (length text)) (sym e ∙ t .answers) (t .begins) l .1)
+  pub compiles-accepted : {text₂ : List ℕ} {n : ℕ} → a ≡ C.Accepted n → text₂ ≡ take n text₁ ++ replicate (length text₁ - n) 0
+      → Compiles source scratch scratch′ text text₂ (C.Accepted n)
+  compiles-accepted {text₂} {n} e et =
+      compiles (C.Accepted n) e (et ∙ accepted-text source text text₁ n decision (sym e ∙ t .answers) (t .begins) l .1)
 
-    pub compiles-refused : {w : Refusal} → a ≡ C.Refused w → text₂ ≡ take 0 text₁ ++ replicate (length text₁ - 0) 0 → Compiles source scratch₀ scratch₂ text text₂ (C.Refused w)
-    compiles-refused {w} e et =
-        compiles (C.Refused w) e (et ∙ refused-text source text text₁ w (decided source scratch (length text)) (sym e ∙ t .answers) l)
+  pub compiles-refused : {text₂ : List ℕ} {w : Refusal} → a ≡ C.Refused w → text₂ ≡ take 0 text₁ ++ replicate (length text₁ - 0) 0
+      → Compiles source scratch scratch′ text text₂ (C.Refused w)
+  compiles-refused {text₂} {w} e et = compiles (C.Refused w) e (et ∙ refused-text source text text₁ w decision (sym e ∙ t .answers) l)

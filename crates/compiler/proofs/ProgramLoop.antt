@@ -227,6 +227,6 @@ module _ (text t₀ : List ℕ) {s₀ table₀ : List ℕ} {base end left string
           fits = r .fits;
           starting = λ c. subst (λ (z : List Named). Starting table (startsOf (funs z))) me (p .starting (fe ∙ c));
           long = p .stands .free .long;
-          same = p .keeps .long;
+          keeps = p .keeps;
         };
   }

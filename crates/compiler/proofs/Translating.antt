@@ -4,8 +4,8 @@ use mathlib.Core.Path.{_≡_, refl, sym, ap, subst, _∙_}
 use mathlib.Core.Bool.{Bool, true, false, cond}
 use mathlib.Core.List.{List, [], _∷_, _++_}
 use native.Mathlib.Omega.{arith}
-use lib.ListN.{length, replicate, take, length-append, length-replicate}
-use lib.Seq.{take-at, length-take-le}
+use lib.ListN.{length, replicate, take, drop, length-append, length-replicate}
+use lib.Seq.{take-at, drop-at, length-take-le}
 use borrow.Author.Tests.{le-ltb, ltb-false}
 use Rattle.text.specs.declared.Refusal.{Refusal}
 use Rattle.text.specs.Line.{refusal}
@@ -26,22 +26,34 @@ use Rattle.tree.specs.Read as R
 use Rattle.tree.specs.Read.{ReadsTree, treeRead, treeLeft, leftBy, padded, decoded, sourceIn, unfit, Within}
 use Rattle.tree.specs.declared.TreeRead.{TreeRead}
 use Rattle.tree.specs.declared.TreeRead.the-variants as RA
-use Rattle.tree.proofs.Stages.{enough, few-good, decoded-entries, entries-size}
+use Rattle.tree.proofs.Stages.{few-good, decoded-entries, entries-size}
 use Rattle.code.specs.Generate.{textOf}
 use Rattle.compiler.specs.declared.Compiled.{Compiled}
 use Rattle.compiler.specs.declared.Compiled.the-variants as C
-use Rattle.compiler.specs.Compiles.{decided, answerOf, Begins, Translates, Lent, ReadySymbols, ReadyTree}
+use Rattle.compiler.specs.Compiles.{decided, answerOf, Begins, Translates, Lent, ReadySymbols, ReadyTree, Clean}
+use Rattle.compiler.proofs.Clearing.{padded-long, padded-on, padded-clean, clean-all, zeros-behind}
 
 -- ---- what the refusals are, stage by stage
 
 -- a refusal: nothing is said of the text
-pub refusing : {source : List ℕ} {scratch number place : ℕ} {t t′ : List ℕ} {w : Refusal} → w ≡ refusal source number place
-    → decided source scratch (length t) ≡ refused number place → Translates source scratch t t′ (C.Refused w)
-refusing {source} {scratch} {number} {place} {t} {t′} q e =
-    record { answers = ap C.Refused q ∙ ap (answerOf source) (sym e); begins = subst (Begins source t′) (sym e) tt }
+pub refusing : {source s s′ : List ℕ} {number place : ℕ} {t t′ : List ℕ} {w : Refusal} → w ≡ refusal source number place
+    → decided source (length s) (length t) ≡ refused number place → s′ ≡ replicate (length s) 0 → Translates source s s′ t t′ (C.Refused w)
+refusing {source} {s} {s′} {number} {place} {t} {t′} q e z =
+    record { answers = ap C.Refused q ∙ ap (answerOf source) (sym e); clears = z; begins = subst (Begins source t′) (sym e) tt }
 
-pub with-scratch : {source : List ℕ} {n m : ℕ} {t t′ : List ℕ} {a : Compiled} → n ≡ m → Translates source n t t′ a → Translates source m t t′ a
-with-scratch {source} {n} {m} {t} {t′} {a} e x = subst (λ (k : ℕ). Translates source k t t′ a) e x
+pub lent-still : {source : List ℕ} {n m : ℕ} → Lent source n → m ≡ n → Lent source m
+lent-still l e = record { short = l .short; asked = e ∙ l .asked }
+
+-- other scratch, with the same refusals
+decided-alike : {source s s′ t t′ : List ℕ} {a : Compiled} → Translates source s s′ t t′ a → {s₀ s₂ : List ℕ}
+    → decided source (length s) (length t) ≡ decided source (length s₀) (length t) → s₂ ≡ replicate (length s₀) 0 → Translates source s₀ s₂ t t′ a
+decided-alike {source} {s} {s′} {t} {t′} x e z =
+    record { answers = x .answers ∙ ap (answerOf source) e; clears = z; begins = subst (Begins source t′) e (x .begins) }
+
+pub with-scratch : {source s s₀ s′ t t′ : List ℕ} {a : Compiled} → length s ≡ length s₀ → Translates source s s′ t t′ a
+    → Translates source s₀ s′ t t′ a
+with-scratch {source} {s} {s₀} {s′} {t} e x =
+    decided-alike x (ap (λ (n : ℕ). decided source n (length t)) e) (x .clears ∙ ap (λ (n : ℕ). replicate n 0) e)
 
 pub too-long : (source : List ℕ) (scratch room : ℕ) → tooLong source ≡ true → decided source scratch room ≡ refused 1 0
 unfolding decided refusalIn refusalOf readSource
@@ -77,31 +89,41 @@ module _ {source : List ℕ} {scratch : ℕ} (l : Lent source scratch) (room : �
 
 -- ---- after `read_symbols`
 
-module _ {source s s′ : List ℕ} {a : SymbolsRead} (l : Lent source (length s)) (r : Reads source s a s′) (same : length s′ ≡ length s) where
+module _ {source s s′ : List ℕ} {a : SymbolsRead} (short : length source ≤ 16384) (room : length source * 3 ≤ length s)
+    (r : Reads source s a s′) where
   both-ways : symbolsRead source s ≡ outcome (length s) (symbolsOf source)
   unfolding symbolsRead tooLong
-  both-ways = rw (le-ltb 16384 (length source) (l .short), le-ltb (length s) (length source * 3) (omega (arith, l .asked))) refl
+  both-ways = rw (le-ltb 16384 (length source) short, le-ltb (length s) (length source * 3) room) refl
+
+  symbols-told : a ≡ outcome (length s) (symbolsOf source) .answer
+  symbols-told = r .answers ∙ ap (λ (o : Y.Outcome). o .answer) both-ways
+
+  pub symbols-left : (x : Symbols) → symbolsOf source ≡ x → s′ ≡ outcome (length s) x .scratch
+  symbols-left x e =
+      r .leaves ∙ (ap (λ (o : Y.Outcome). o .scratch) both-ways ∙ ap (λ (z : Symbols). outcome (length s) z .scratch) e)
+
+module _ {source s s′ : List ℕ} {a : SymbolsRead} (l : Lent source (length s)) (r : Reads source s a s′) where
+  room : length source * 3 ≤ length s
+  room = omega (arith, l .asked)
 
   answer-is : a ≡ outcome (length s) (symbolsOf source) .answer
-  answer-is = r .answers ∙ ap (λ (o : Y.Outcome). o .answer) both-ways
+  answer-is = symbols-told (l .short) room r
 
-  scratch-is : s′ ≡ outcome (length s) (symbolsOf source) .scratch
-  scratch-is = r .leaves ∙ ap (λ (o : Y.Outcome). o .scratch) both-ways
-
-  pub symbols-stand : (ss : List Symbol) → symbolsOf source ≡ good ss → s′ ≡ outcome (length s) (good ss) .scratch
-  symbols-stand ss e = scratch-is ∙ ap (λ (x : Symbols). outcome (length s) x .scratch) e
-
-  pub ready-symbols : {count : ℕ} → a ≡ YA.Read count → ReadySymbols source s′ count
-  ready-symbols {count} e = go (symbolsOf source) refl (sym e ∙ answer-is) scratch-is
+  pub ready-symbols : {count : ℕ} → length s′ ≡ length s → a ≡ YA.Read count → ReadySymbols source s′ count
+  ready-symbols {count} same e = go (symbolsOf source) refl (sym e ∙ answer-is) (symbols-left (l .short) room r (symbolsOf source) refl)
     where
       go : (x : Symbols) → symbolsOf source ≡ x → YA.Read count ≡ outcome (length s) x .answer → s′ ≡ outcome (length s) x .scratch → ReadySymbols source s′ count
       go (good ss) q w z =
           let k : count ≡ length ss = cc in
-          record { lent = record { short = l .short; asked = same ∙ l .asked }; symbols = ss; reads = q; counts = k; stand = z ∙ ap (λ (n : ℕ). outcome n (good ss) .scratch) (sym same) }
+          let stand = z ∙ ap (λ (n : ℕ). outcome n (good ss) .scratch) (sym same) in
+          record { lent = lent-still l same; symbols = ss; reads = q; counts = k; stand = stand }
       go (faulty number place) q w z = let k : _≡_ {A = ℕ} 0 1 = cc in absurd (omega arith)
 
-  pub symbols-answer : {number place : ℕ} {t t′ : List ℕ} {w : Refusal} → a ≡ YA.Refused number place → w ≡ refusal source number place → Translates source (length s) t t′ (C.Refused w)
-  symbols-answer {number} {place} {t} {t′} e q = refusing q (symbols-refused l (length t) number place (go (symbolsOf source) (sym e ∙ answer-is)))
+  pub symbols-answer : {number place : ℕ} {t t′ : List ℕ} {w : Refusal} → a ≡ YA.Refused number place → w ≡ refusal source number place
+      → Translates source s s′ t t′ (C.Refused w)
+  symbols-answer {number} {place} {t} {t′} e q =
+      let k : symbolsOf source ≡ faulty number place = go (symbolsOf source) (sym e ∙ answer-is) in
+      refusing q (symbols-refused l (length t) number place k) (symbols-left (l .short) room r (faulty number place) k)
     where
       go : (x : Symbols) → YA.Refused number place ≡ outcome (length s) x .answer → x ≡ faulty number place
       go (good ss) w = let k : _≡_ {A = ℕ} 0 1 = cc in absurd (omega arith)
@@ -121,90 +143,160 @@ module _ {source s s′ : List ℕ} {a : SymbolsRead} (l : Lent source (length s
       go (good ss) w = let k : _≡_ {A = ℕ} 0 1 = cc in omega arith
       go (faulty m p) w = let k : _≡_ {A = ℕ} 0 1 = cc in omega arith
 
--- ---- after `read_tree`
+-- ---- after `read_tree`, which is lent eight entries a symbol and 64
 
-module _ {source s s′ : List ℕ} {count : ℕ} {a : TreeRead} (y : ReadySymbols source s count) (r : ReadsTree s count (length source) a s′) (same : length s′ ≡ length s) where
+module _ {source s : List ℕ} {count : ℕ} (y : ReadySymbols source s count) where
   abbrev src : Source
   src = record { symbols = y .symbols; size = length source }
 
-  fits : unfit (length s) count ≡ false
-  fits = rw (y .counts) (enough source (y .symbols) (length s) (y .reads) (omega (arith, y .lent .asked)) (omega (arith, y .lent .asked, y .lent .short)))
+  abbrev most : ℕ
+  most = count * 8 + 64
 
-  source-is : sourceIn s count (length source) ≡ src
+  abbrev ss : List ℕ
+  ss = entries (y .symbols)
+
+  few : count ≤ length source
+  few = omega (arith, few-good source (y .symbols) (y .reads), y .counts)
+
+  pub tree-room : most ≤ length s
+  tree-room = omega (arith, few, y .lent .asked)
+
+  pub symbols-room : {n : ℕ} → n ≡ length s → count * 3 ≤ n
+  symbols-room e = omega (arith, tree-room)
+
+  size : length ss ≡ count * 3
+  size = omega (arith, entries-size (y .symbols), y .counts)
+
+  long : length (padded most ss) ≡ most
+  long = padded-long ss most (omega (arith, size))
+
+  stands : s ≡ padded most ss ++ replicate (length s - most) 0
+  stands = y .stand ∙ padded-on ss most (omega (arith, size)) (length s) tree-room
+
+  lent-is : take most s ≡ padded most ss
+  lent-is = ap (take most) stands ∙ take-at (padded most ss) (replicate (length s - most) 0) most long
+
+  rest-is : drop most s ≡ replicate (length s - most) 0
+  rest-is = ap (drop most) stands ∙ drop-at (padded most ss) (replicate (length s - most) 0) most long
+
+  fits : unfit (length (take most s)) count ≡ false
+  unfolding unfit
+  fits =
+      let small : most ≤ 2 ^ 32 - 1 = omega (arith, few, y .lent .short) in
+      rw (length-take-le most s tree-room, le-ltb most most (omega arith), le-ltb (2 ^ 32 - 1) most small) refl
+
+  source-is : sourceIn (take most s) count (length source) ≡ src
   unfolding sourceIn
   source-is =
       ap (λ (z : List Symbol). record { symbols = z; size = length source })
-      (ap (λ (n : ℕ). decoded n s) (y .counts) ∙ (ap (decoded (length (y .symbols))) (y .stand) ∙ decoded-entries (y .symbols) (replicate (length s - length (entries (y .symbols))) 0)))
+      (ap (λ (n : ℕ). decoded n (take most s)) (y .counts)
+      ∙ (ap (decoded (length (y .symbols))) lent-is ∙ decoded-entries (y .symbols) (replicate (most - length ss) 0)))
 
-  answer-by : a ≡ R.answerOf src count (treeOf src)
-  unfolding treeRead
-  answer-by = r .answers ∙ rw (fits, source-is) refl
+  symbols-first : take (count * 3) (take most s) ≡ ss
+  symbols-first = ap (take (count * 3)) lent-is ∙ take-at ss (replicate (most - length ss) 0) (count * 3) size
 
-  left-by : s′ ≡ leftBy count s (treeOf src)
-  unfolding treeLeft
-  left-by = r .leaves ∙ rw (fits, source-is) refl
+  module _ {front : List ℕ} {a : TreeRead} (r : ReadsTree (take most s) count (length source) a front) where
+    answer-by : a ≡ R.answerOf src count (treeOf src)
+    unfolding treeRead
+    answer-by = r .answers ∙ rw (fits, source-is) refl
 
-  front : take (count * 3) s ≡ entries (y .symbols)
-  front =
-      let k : length (entries (y .symbols)) ≡ count * 3 = omega (arith, entries-size (y .symbols), y .counts) in
-      ap (take (count * 3)) (y .stand) ∙ take-at (entries (y .symbols)) (replicate (length s - length (entries (y .symbols))) 0) (count * 3) k
+    left-by : front ≡ leftBy count (take most s) (treeOf src)
+    unfolding treeLeft
+    left-by = r .leaves ∙ rw (fits, source-is) refl
 
-  pub ready-tree : {end : ℕ} → a ≡ RA.Read end → ReadyTree source s′ count end
-  ready-tree {end} e = go (treeOf src) refl (sym e ∙ answer-by) left-by
-    where
-      go : (o : Out Program) → treeOf src ≡ o → RA.Read end ≡ R.answerOf src count o → s′ ≡ leftBy count s o → ReadyTree source s′ count end
-      go (ok p next) q w z =
-          let k : end ≡ count * 3 + length (encodeProgram p) = cc in
-          record {
-            lent = record { short = y .lent .short; asked = same ∙ y .lent .asked };
-            symbols = y .symbols;
-            program = p;
-            next = next;
-            reads = y .reads;
-            parses = q;
-            counts = y .counts;
-            stand = z ∙ (ap (λ (w : List ℕ). padded (length s) (w ++ encodeProgram p)) front ∙ ap (λ (n : ℕ). padded n (entries (y .symbols) ++ encodeProgram p)) (sym same));
-            ends = k;
-            room = subst (Within (count * 8)) e (r .room);
-          }
-      go (no number at) q w z = let k : _≡_ {A = ℕ} 0 1 = cc in absurd (omega arith)
+    abbrev s′ : List ℕ
+    s′ = front ++ drop most s
 
-  pub tree-answer : {number place : ℕ} {t t′ : List ℕ} {w : Refusal} → a ≡ RA.Refused number place → w ≡ refusal source number place → Translates source (length s) t t′ (C.Refused w)
-  tree-answer {number} {place} {t} {t′} e q = refusing q (go (treeOf src) refl (sym e ∙ answer-by))
-    where
-      go : (o : Out Program) → treeOf src ≡ o → RA.Refused number place ≡ R.answerOf src count o → decided source (length s) (length t) ≡ refused number place
-      go (ok p next) q w = let k : _≡_ {A = ℕ} 0 1 = cc in absurd (omega arith)
-      go (no m at) q w =
-          let k : m ≡ number = cc in
-          let j : placeAt src at ≡ place = cc in
-          tree-refused (y .lent) (length t) (y .symbols) m at (y .reads) q ∙ rw (k, j) refl
+    -- the zeros behind what is lent go on
+    whole : (w : List ℕ) → length w ≤ most → front ≡ padded (length (take most s)) w → s′ ≡ padded (length s) w
+    whole w h e =
+        let f : front ≡ padded most w = e ∙ ap (λ (n : ℕ). padded n w) (length-take-le most s tree-room) in
+        ap (λ (z : List ℕ). front ++ z) rest-is
+        ∙ (ap (λ (z : List ℕ). z ++ replicate (length s - most) 0) f ∙ sym (padded-on w most h (length s) tree-room))
 
-  pub never-unfit : a ≡ RA.TooShort → ⊥
-  never-unfit e = go (treeOf src) (sym e ∙ answer-by)
-    where
-      go : (o : Out Program) → RA.TooShort ≡ R.answerOf src count o → ⊥
-      go (ok p next) w = let k : _≡_ {A = ℕ} 0 1 = cc in omega arith
-      go (no m at) w = let k : _≡_ {A = ℕ} 0 1 = cc in omega arith
+    as-long : (w : List ℕ) → length w ≤ most → s′ ≡ padded (length s) w → length s′ ≡ length s
+    as-long w h e = ap length e ∙ padded-long w (length s) (omega (arith, tree-room))
+
+    pub ready-tree : {end : ℕ} → a ≡ RA.Read end → ReadyTree source s′ count end
+    ready-tree {end} e = go (treeOf src) refl (sym e ∙ answer-by) left-by
+      where
+        go : (o : Out Program) → treeOf src ≡ o → RA.Read end ≡ R.answerOf src count o → front ≡ leftBy count (take most s) o
+            → ReadyTree source s′ count end
+        go (ok p next) q w z =
+            let k : end ≡ count * 3 + length (encodeProgram p) = cc in
+            let within : end ≤ count * 8 = subst (Within (count * 8)) e (r .room) in
+            let all : List ℕ = ss ++ encodeProgram p in
+            let few : length all ≤ most = omega (arith, length-append ss (encodeProgram p), size) in
+            let stand = whole all few (z ∙ ap (λ (x : List ℕ). padded (length (take most s)) (x ++ encodeProgram p)) symbols-first) in
+            let same = as-long all few stand in
+            record {
+              lent = lent-still (y .lent) same;
+              symbols = y .symbols;
+              program = p;
+              next = next;
+              reads = y .reads;
+              parses = q;
+              counts = y .counts;
+              stand = stand ∙ ap (λ (n : ℕ). padded n all) (sym same);
+              ends = k;
+              room = within;
+            }
+        go (no number at) q w z = let k : _≡_ {A = ℕ} 0 1 = cc in absurd (omega arith)
+
+    -- the symbols are cleared
+    pub tree-answer : {number place : ℕ} {t t′ z : List ℕ} {w : Refusal} → a ≡ RA.Refused number place → w ≡ refusal source number place
+        → z ≡ take 0 (take (count * 3) s′) ++ replicate (length (take (count * 3) s′) - 0) 0
+        → Translates source s (z ++ drop (count * 3) s′) t t′ (C.Refused w)
+    tree-answer {number} {place} {t} {t′} {z} {w} e q c = go (treeOf src) refl (sym e ∙ answer-by) left-by
+      where
+        go : (o : Out Program) → treeOf src ≡ o → RA.Refused number place ≡ R.answerOf src count o → front ≡ leftBy count (take most s) o
+            → Translates source s (z ++ drop (count * 3) s′) t t′ (C.Refused w)
+        go (ok p next) k v l = let k : _≡_ {A = ℕ} 0 1 = cc in absurd (omega arith)
+        go (no m at) k v l =
+            let i : m ≡ number = cc in
+            let j : placeAt src at ≡ place = cc in
+            let few : length ss ≤ most = omega (arith, size) in
+            let stand = whole ss few (l ∙ ap (padded (length (take most s))) symbols-first) in
+            let same = as-long ss few stand in
+            let clean : Clean (count * 3) s′ = padded-clean ss (length s) stand (omega (arith, size)) in
+            refusing q (tree-refused (y .lent) (length t) (y .symbols) m at (y .reads) k ∙ rw (i, j) refl)
+            (clean-all clean (symbols-room same) c ∙ ap (λ (n : ℕ). replicate n 0) same)
+
+    pub never-unfit : a ≡ RA.TooShort → ⊥
+    never-unfit e = go (treeOf src) (sym e ∙ answer-by)
+      where
+        go : (o : Out Program) → RA.TooShort ≡ R.answerOf src count o → ⊥
+        go (ok p next) w = let k : _≡_ {A = ℕ} 0 1 = cc in omega arith
+        go (no m at) w = let k : _≡_ {A = ℕ} 0 1 = cc in omega arith
 
 -- ---- the scratch that is lent on
 
+abbrev asked : List ℕ → ℕ
+asked source = length source * 8 + 64
+
 pub record Lends (source scratch : List ℕ) : Type 0 where
   pub short : length source ≤ 16384
-  pub inside : length source * 8 + 64 ≤ length scratch
-  pub front : length source * 8 + 64 ≡ length (take (length source * 8 + 64) scratch)
-  pub lent : Lent source (length (take (length source * 8 + 64) scratch))
+  pub inside : asked source ≤ length scratch
+  pub front : asked source ≡ length (take (asked source) scratch)
+  pub lent : Lent source (length (take (asked source) scratch))
 
 pub lends : (source scratch : List ℕ) → tooLong source ≡ false → scratchTooShort source (length scratch) ≡ false → Lends source scratch
 unfolding tooLong scratchTooShort
 lends source scratch e k =
     let short : length source ≤ 16384 = ltb-false 16384 (length source) e in
-    let inside : length source * 8 + 64 ≤ length scratch = omega (arith, ltb-false (length scratch) (8 * length source + 64) k) in
-    let front = length-take-le (length source * 8 + 64) scratch inside in
+    let inside : asked source ≤ length scratch = omega (arith, ltb-false (length scratch) (8 * length source + 64) k) in
+    let front = length-take-le (asked source) scratch inside in
     record { short = short; inside = inside; front = sym front; lent = record { short = short; asked = omega (arith, front) } }
 
--- more scratch than is asked for makes no other answer
-pub more-scratch : {source scratch t t′ : List ℕ} {a : Compiled} → Lends source scratch
-    → Translates source (length (take (length source * 8 + 64) scratch)) t t′ a → Translates source (length scratch) t t′ a
-more-scratch {source} {scratch} {t} {t′} {a} l x =
-    let e = by-parsed (l .lent) (length t) ∙ sym (enough-scratch {m = length scratch} (l .lent) (omega (arith, l .front, l .inside)) (length t)) in
-    record { answers = x .answers ∙ ap (answerOf source) e; begins = subst (Begins source t′) e (x .begins) }
+pub lent-room : {source scratch : List ℕ} {n : ℕ} → Lends source scratch → n ≡ length scratch → asked source ≤ n
+lent-room l e = omega (arith, l .inside)
+
+-- more scratch than is asked for makes no other answer, and is cleared
+pub more-scratch : {source scratch scratch′ front t t′ : List ℕ} {a : Compiled} → Lends source scratch
+    → Translates source (take (asked source) scratch) front t t′ a
+    → scratch′ ≡ take (asked source) (front ++ drop (asked source) scratch) ++ replicate (length (front ++ drop (asked source) scratch) - asked source) 0
+    → Translates source scratch scratch′ t t′ a
+more-scratch {source} {scratch} {scratch′} {front} {t} l x c =
+    let enough = enough-scratch {m = length scratch} (l .lent) (omega (arith, l .front, l .inside)) (length t) in
+    decided-alike x (by-parsed (l .lent) (length t) ∙ sym enough)
+    (zeros-behind scratch front (asked source) (sym (l .front)) (l .inside) (x .clears) c)

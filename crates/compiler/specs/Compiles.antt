@@ -3,7 +3,7 @@ use Prim.Native.Nat.{ℕ, suc, _+_, _*_, _-_, _/_, _%_, _≤_, _^_}
 use mathlib.Core.Path.{_≡_}
 use mathlib.Core.Bool.{cond}
 use mathlib.Core.List.{List, [], _∷_, _++_}
-use lib.ListN.{length, replicate, take}
+use lib.ListN.{length, getD, replicate, take}
 use lib.Dec.{eqb, ltb}
 use Rattle.text.specs.Line.{refusal}
 use Rattle.language.specs.Symbols.{Symbol}
@@ -48,16 +48,21 @@ pub record Compiles (source scratch scratch′ text text′ : List ℕ) (answer 
   pub faithful : decided source (length scratch) (length text) ≡ accepted → Faithful source (textOf source)
   pub proper : decided source (length scratch) (length text) ≡ accepted → Proper source (textOf source)
 
--- ---- before scratch and what is behind the text are cleared
+-- ---- before what is behind the text is cleared
 
 -- the text stands at the front of its room
 abbrev pub Begins : (source text′ : List ℕ) → Refused → Type 0
 Begins source text′ accepted = (take (length (textOf source)) text′ ≡ textOf source) × (length (textOf source) ≤ length text′)
 Begins source text′ (refused number place) = Unit {0}
 
-pub record Translates (source : List ℕ) (scratch : ℕ) (text text′ : List ℕ) (answer : Compiled) : Type 0 where
-  pub answers : answer ≡ answerOf source (decided source scratch (length text))
-  pub begins : Begins source text′ (decided source scratch (length text))
+pub record Translates (source scratch scratch′ text text′ : List ℕ) (answer : Compiled) : Type 0 where
+  pub answers : answer ≡ answerOf source (decided source (length scratch) (length text))
+  pub clears : scratch′ ≡ replicate (length scratch) 0
+  pub begins : Begins source text′ (decided source (length scratch) (length text))
+
+-- scratch is zeros from that entry on
+pub record Clean (used : ℕ) (s : List ℕ) : Type 0 where
+  pub zeros : (i : ℕ) → used ≤ i → getD s i 0 ≡ 0
 
 -- what scratch of the length asked for holds: nothing yet, the symbols, the symbols and the tree
 pub record Lent (source : List ℕ) (scratch : ℕ) : Type 0 where
@@ -83,15 +88,22 @@ pub record ReadyTree (source s : List ℕ) (count end : ℕ) : Type 0 where
   pub ends : end ≡ count * 3 + length (encodeProgram program)
   pub room : end ≤ count * 8
 
+-- so many symbols may have been read again: what was zeros behind them still is
+pub record StaysClean (source s s′ : List ℕ) (count : ℕ) : Type 0 where
+  pub by : (symbols : List Symbol) → symbolsOf source ≡ good symbols → count ≡ length symbols
+      → {used : ℕ} → count * 3 ≤ used → Clean used s → Clean used s′
+
 -- the strings of a source, so many
-pub record AllStrings (source : List ℕ) (scratch count names first at at′ : ℕ) (t t′ : List ℕ) : Type 0 where
-  pub by : (symbols : List Symbol) → Lent source scratch → symbolsOf source ≡ good symbols → count ≡ length symbols → names ≡ length (stringsAmong source symbols)
+pub record AllStrings (source s s′ : List ℕ) (count names first at at′ : ℕ) (t t′ : List ℕ) : Type 0 where
+  pub clean : StaysClean source s s′ count
+  pub by : (symbols : List Symbol) → symbolsOf source ≡ good symbols → count ≡ length symbols → names ≡ length (stringsAmong source symbols)
       → Puts (lines (stringsCode first (stringsAmong source symbols))) at at′ t t′
 
 -- what follows the functions: strings, globals in which functions start, and `Z`
-pub record Behind (source : List ℕ) (scratch count names functions : ℕ) (table : List ℕ) (at at′ : ℕ) (t t′ : List ℕ) : Type 0 where
-  pub by : (symbols : List Symbol) (fs : List Fun) → Lent source scratch → symbolsOf source ≡ good symbols → count ≡ length symbols → names ≡ length (stringsAmong source symbols)
-      → length table ≡ 400 → functions ≡ length fs → Starting table (startsOf fs)
+pub record Behind (source s s′ : List ℕ) (count names functions : ℕ) (table : List ℕ) (at at′ : ℕ) (t t′ : List ℕ) : Type 0 where
+  pub clean : StaysClean source s s′ count
+  pub by : (symbols : List Symbol) (fs : List Fun) → symbolsOf source ≡ good symbols → count ≡ length symbols
+      → names ≡ length (stringsAmong source symbols) → length table ≡ 400 → functions ≡ length fs → Starting table (startsOf fs)
       → Puts (lines (stringsCode (suc functions) (stringsAmong source symbols) ++ startsCode 1 fs) ++ (90 ∷ 10 ∷ [])) at at′ t t′
 
 -- a key above all refusals'

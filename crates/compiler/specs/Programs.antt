@@ -115,13 +115,13 @@ pub record ReadyProgram (s table : List ℕ) (base end left strings : ℕ) (d : 
   pub low : d .state .high ≡ 0
   pub empty : table ≡ replicate 400 0
 
-pub record Walked (text : List ℕ) (p : Program) (strings : ℕ) (s s′ table table′ t t′ : List ℕ) (d d′ : Done) : Type 0 where
+pub record Walked (text : List ℕ) (p : Program) (base strings : ℕ) (s s′ table table′ t t′ : List ℕ) (d d′ : Done) : Type 0 where
   pub did : Did (faultsFrom text begin p) (functionsSays strings 1 (funs (functionsFrom text begin p))) (2 * length (encodeProgram p)) t t′ (d .state) (d′ .state)
   pub tall : faultsFrom text begin p ≡ [] → d′ .tall ≡ least (d .tall) (heightFaults (functionsFrom text begin p))
   pub fits : AllFit (heightFaults (functionsFrom text begin p))
   pub starting : faultsFrom text begin p ≡ [] → Starting table′ (startsOf (funs (functionsFrom text begin p)))
   pub long : length table′ ≡ 400
-  pub same : length s′ ≡ length s
+  pub keeps : Keeps base 0 s s′
 
 pub record GaveProgram (text s s′ table table′ : List ℕ) (base end left strings : ℕ) (t t′ : List ℕ) (d d′ : Done) : Type 0 where
-  pub by : (y : ReadyProgram s table base end left strings d) → Walked text (y .program) strings s s′ table table′ t t′ d d′
+  pub by : (y : ReadyProgram s table base end left strings d) → Walked text (y .program) base strings s s′ table table′ t t′ d d′

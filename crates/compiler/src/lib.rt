@@ -78,7 +78,8 @@ fn no_starts() -> [u32; 400]
     [0u32; 400]
 }
 
-// The strings, so many, from that label on. The names in scope stood where the symbols were, so where there are any these are read again.
+// The strings, so many, from that label on. The names in scope stood where the symbols were, so where there are any these are read again,
+// into as much of scratch as that takes.
 fn all_strings(
     source: &[u8],
     s: &mut [u32],
@@ -88,13 +89,13 @@ fn all_strings(
     at: usize,
     first: usize,
 ) -> usize
-    requires { ⌜ (count ≤ 16384) × (first ≤ 81921) ⌝ }
-    ensures { λ r. ⌜ AllStrings (now (source .entry)) (length (now (s .entry))) count names first at r (now (text .entry)) (now (text .exit)) ⌝ }
+    requires { ⌜ Lent (now source) (length (now s)) × (count ≤ 16384) × (first ≤ 81921) ⌝ }
+    ensures { λ r. ⌜ AllStrings (now (source .entry)) (now (s .entry)) (now (s .exit)) count names first at r (now (text .entry)) (now (text .exit)) ⌝ }
 {
     if names == 0 {
         return at;
     }
-    read_symbols(source, s);
+    read_symbols(source, &mut s[..source.len() * 3]);
     strings(source, s, count, text, at, first)
 }
 
@@ -109,8 +110,8 @@ fn behind(
     table: &[u32],
     at: usize,
 ) -> usize
-    requires { ⌜ (count ≤ 16384) × (functions ≤ 81920) ⌝ }
-    ensures { λ r. ⌜ Behind (now (source .entry)) (length (now (s .entry))) count names functions (now (table .entry)) at r (now (text .entry)) (now (text .exit)) ⌝ }
+    requires { ⌜ Lent (now source) (length (now s)) × (count ≤ 16384) × (functions ≤ 81920) ⌝ }
+    ensures { λ r. ⌜ Behind (now (source .entry)) (now (s .entry)) (now (s .exit)) count names functions (now (table .entry)) at r (now (text .entry)) (now (text .exit)) ⌝ }
 {
     let a = all_strings(source, s, count, names, text, at, functions + 1);
     let b = starts(table, functions, text, a);
@@ -143,10 +144,10 @@ fn decide(
     Compiled::Accepted(at)
 }
 
-// The walk of the tree, which stands behind so many symbols and ends there.
+// The walk of the tree, which stands behind so many symbols and ends there. Scratch is zeros behind it, and then all of it.
 fn walked(source: &[u8], s: &mut [u32], count: usize, end: usize, text: &mut [u8]) -> Compiled
     requires { ⌜ ReadyTree (now source) (now s) count end ⌝ }
-    ensures { λ r. ⌜ Translates (now (source .entry)) (length (now (s .entry))) (now (text .entry)) (now (text .exit)) r ⌝ }
+    ensures { λ r. ⌜ Translates (now (source .entry)) (now (s .entry)) (now (s .exit)) (now (text .entry)) (now (text .exit)) r ⌝ }
 {
     let base = count * 3;
     let functions = function_count(s, base, end);
@@ -174,6 +175,7 @@ fn walked(source: &[u8], s: &mut [u32], count: usize, end: usize, text: &mut [u8
         d,
     );
     let last = behind(source, s, count, names, text, functions, &table, e.state.at);
+    clear_scratch(&mut s[..end], 0);
     decide(
         source,
         e.state.worst,
@@ -184,14 +186,17 @@ fn walked(source: &[u8], s: &mut [u32], count: usize, end: usize, text: &mut [u8
     )
 }
 
-// The tree of so many symbols, and its walk.
+// The tree of so many symbols, in as much of scratch as it may take, and its walk.
 fn parsed(source: &[u8], s: &mut [u32], count: usize, text: &mut [u8]) -> Compiled
     requires { ⌜ ReadySymbols (now source) (now s) count ⌝ }
-    ensures { λ r. ⌜ Translates (now (source .entry)) (length (now (s .entry))) (now (text .entry)) (now (text .exit)) r ⌝ }
+    ensures { λ r. ⌜ Translates (now (source .entry)) (now (s .entry)) (now (s .exit)) (now (text .entry)) (now (text .exit)) r ⌝ }
 {
-    match read_tree(s, count, source.len()) {
+    match read_tree(&mut s[..count * 8 + 64], count, source.len()) {
         TreeRead::Read(end) => walked(source, s, count, end, text),
-        TreeRead::Refused { number, place } => Compiled::Refused(refuse(source, number, place)),
+        TreeRead::Refused { number, place } => {
+            clear_scratch(&mut s[..count * 3], 0);
+            Compiled::Refused(refuse(source, number, place))
+        }
         TreeRead::TooShort => Compiled::Refused(refuse(source, 15, 0)),
     }
 }
@@ -199,7 +204,7 @@ fn parsed(source: &[u8], s: &mut [u32], count: usize, text: &mut [u8]) -> Compil
 // The symbols, their tree, and its walk, in scratch of just the length that is asked for.
 fn translated(source: &[u8], s: &mut [u32], text: &mut [u8]) -> Compiled
     requires { ⌜ Lent (now source) (length (now s)) ⌝ }
-    ensures { λ r. ⌜ Translates (now (source .entry)) (length (now (s .entry))) (now (text .entry)) (now (text .exit)) r ⌝ }
+    ensures { λ r. ⌜ Translates (now (source .entry)) (now (s .entry)) (now (s .exit)) (now (text .entry)) (now (text .exit)) r ⌝ }
 {
     match read_symbols(source, s) {
         SymbolsRead::Read(count) => parsed(source, s, count, text),
@@ -209,18 +214,22 @@ fn translated(source: &[u8], s: &mut [u32], text: &mut [u8]) -> Compiled
     }
 }
 
-// All but the clearing.
+// All but the clearing of the text.
 fn attempt(source: &[u8], scratch: &mut [u32], text: &mut [u8]) -> Compiled
-    ensures { λ r. ⌜ Translates (now (source .entry)) (length (now (scratch .entry))) (now (text .entry)) (now (text .exit)) r ⌝ }
+    ensures { λ r. ⌜ Translates (now (source .entry)) (now (scratch .entry)) (now (scratch .exit)) (now (text .entry)) (now (text .exit)) r ⌝ }
 {
     if too_long(source) {
+        clear_scratch(scratch, 0);
         return Compiled::Refused(refuse(source, 1, 0));
     }
     if scratch_too_short(source, scratch) {
+        clear_scratch(scratch, 0);
         return Compiled::Refused(refuse(source, 15, 0));
     }
     let asked = source.len() * 8 + 64;
-    translated(source, &mut scratch[..asked], text)
+    let r = translated(source, &mut scratch[..asked], text);
+    clear_scratch(scratch, asked);
+    r
 }
 
 // A source's MINICODE text, or why there is none: document 01's refusals 1 to 16. Scratch is zeros after every call, and so is all of
@@ -228,9 +237,7 @@ fn attempt(source: &[u8], scratch: &mut [u32], text: &mut [u8]) -> Compiled
 pub fn compile(source: &[u8], scratch: &mut [u32], text: &mut [u8]) -> Compiled
     ensures { λ r. ⌜ Compiles (now (source .entry)) (now (scratch .entry)) (now (scratch .exit)) (now (text .entry)) (now (text .exit)) r ⌝ }
 {
-    let r = attempt(source, scratch, text);
-    clear_scratch(scratch, 0);
-    match r {
+    match attempt(source, scratch, text) {
         Compiled::Accepted(n) => {
             clear_text(text, n);
             Compiled::Accepted(n)
