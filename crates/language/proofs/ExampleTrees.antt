@@ -10,21 +10,21 @@ use Rattle.language.specs.Source.{Read, read}
 use Rattle.language.proofs.Texts.{programIn}
 
 -- a name of one byte
-abbrev at : (place : ℕ) → Name
+abbrev pub at : (place : ℕ) → Name
 at place = record { place = place; width = 1 }
 
-abbrev name : (place : ℕ) → Expression
+abbrev pub name : (place : ℕ) → Expression
 name place = T.name (at place)
 
 abbrev constant : (place value : ℕ) → Constant
 constant place value = record { place = place; minus = false; simple = T.literal value }
 
 -- F is a routine
-abbrev routine : Command → Read
+abbrev pub routine : Command → Read
 routine c = read (T.functions (record { name = at 4; parameters = []; body = T.routine c } ∷ []) ∷ [])
 
 -- a command with neither labels nor REPEAT forms
-abbrev plain : T.Unlabelled → Command
+abbrev pub plain : T.Unlabelled → Command
 plain u = command [] u noRepeats
 
 abbrev called : (place : ℕ) → T.Unlabelled

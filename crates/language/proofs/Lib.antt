@@ -12,6 +12,10 @@ pub mod Depths
 pub mod CommandDepths
 pub mod Local
 pub mod Locality
+pub mod Extra
+pub mod ExtraGrammar
+pub mod Loops
+pub mod ExampleLoops
 pub mod Ladder
 pub mod Whole
 pub mod ExampleRules

@@ -103,7 +103,7 @@ ends-there (ok a next) = gave {next = next} (omega arith)
 ends-there (no number at) = stopped {q = at} (omega arith)
 
 -- a source agrees with itself
-self : (s : Source) (p : ℕ) → Agree s s p
+pub self : (s : Source) (p : ℕ) → Agree s s p
 self s p = record { agree = λ i h. refl }
 
 pub kinds-agree : {s t : Source} {p : ℕ} → Agree s t p → (at : ℕ) → at ≤ p → kindAt t at ≡ kindAt s at
@@ -181,8 +181,15 @@ ends-no : {A : Type 0} {p k n : ℕ} → EndsBy {A = A} p (no k n) → n ≤ p
 ends-no (stopped h) = h
 
 -- past the symbols stands the end
-ended : (s : Source) (at : ℕ) → length (s .symbols) ≤ at → kindAt s at ≡ K.NOTHING
+pub ended : (s : Source) (at : ℕ) → length (s .symbols) ≤ at → kindAt s at ≡ K.NOTHING
 ended s at h = ap (λ (x : Symbol). x .kind) (List·getD-eq-default (s .symbols) _ h)
+
+-- no item begins here
+pub none-here : {A : Type 0} (none : A) (begins : ℕ → Bool) (item : Reader (A → A)) (n : ℕ) (s : Source) (at : ℕ) → begins (kindAt s at) ≡ false
+    → manyUpTo n none begins item s at ≡ ok none at
+unfolding manyUpTo
+none-here none begins item zero s at f = refl
+none-here none begins item (suc n) s at f = not-so _ _ f
 
 -- { item }: so many turns are enough, for each source its own number
 module _ {A : Type 0} (none : A) (begins : ℕ → Bool) (item : Reader (A → A)) (l : Local 1 item) where
@@ -199,9 +206,7 @@ module _ {A : Type 0} (none : A) (begins : ℕ → Bool) (item : Reader (A → A
 
   module _ (stop : begins K.NOTHING ≡ false) where
     none-there : (n : ℕ) (s : Source) (at : ℕ) → kindAt s at ≡ K.NOTHING → manyUpTo n none begins item s at ≡ ok none at
-    unfolding manyUpTo
-    none-there zero s at e = refl
-    none-there (suc n) s at e = let f : begins (kindAt s at) ≡ false = ap begins e ∙ stop in not-so _ _ f
+    none-there n s at e = none-here none begins item n s at (ap begins e ∙ stop)
 
     pub each : (n m : ℕ) {s t : Source} {p : ℕ} → Agree s t p → (at : ℕ) → length (s .symbols) ≤ n + at → length (t .symbols) ≤ m + at → Rel 0 p at (manyUpTo n none begins item s at) (manyUpTo m none begins item t at)
     unfolding manyUpTo
@@ -288,12 +293,12 @@ module _ {A : Type 0} (none : A) (item : Reader (A → A)) (l : Local 0 item) wh
       }
 
   -- { , item }
-  comma : Local 1 (do _ ← the K.COMMA; item)
-  comma = local-bind (the K.COMMA) _ (local-the K.COMMA) (λ _. l)
+  pub local-comma : Local 1 (do _ ← the K.COMMA; item)
+  local-comma = local-bind (the K.COMMA) _ (local-the K.COMMA) (λ _. l)
 
   pub local-further : Local 0 (furtherItems none item)
   unfolding furtherItems
-  local-further = local-many none isComma _ comma refl
+  local-further = local-many none isComma _ local-comma refl
 
   local-one : Local 0 (oneUpToClose none item)
   unfolding oneUpToClose

@@ -31,7 +31,7 @@ module _ {A : Type 0} where
   end-here {a} = local-return a
 
   -- a reader, and then what does not read
-  given-by : {B : Type 0} {k : ℕ} (r : Reader B) (f : B → A) → Local k r → Local k (r >>= λ b. return (f b))
+  pub given-by : {B : Type 0} {k : ℕ} (r : Reader B) (f : B → A) → Local k r → Local k (r >>= λ b. return (f b))
   given-by r f l = local-bind r _ l (λ b. local-return (f b))
 
 -- a reader, and then one that takes a symbol
@@ -114,7 +114,7 @@ module _ {inner : Inside} (l : LocalInside inner) where
   unfolding E.index
   index = past K.PLING (λ place. local-bind _ _ (local-weaker subscript) (λ e. end-here))
 
-  suffix : Local 1 (E.suffix inner)
+  pub suffix : Local 1 (E.suffix inner)
   unfolding E.suffix
   suffix = local-cond _ _ arguments index (λ k. eqb k K.OPEN)
 
@@ -122,11 +122,11 @@ module _ {inner : Inside} (l : LocalInside inner) where
   unfolding E.suffixed isSuffix member
   suffixed = local-bind _ _ primary (λ e. local-bind _ _ (local-many T.noSuffixes isSuffix _ suffix refl) (λ ss. end-here))
 
-  operand : Local 1 (E.operand inner)
+  pub operand : Local 1 (E.operand inner)
   unfolding E.operand
   operand = local-cond _ _ monadic suffixed isMonadic
 
-  operation : (right : Reader Expression) → Local 1 right → Local 1 (E.operation right)
+  pub operation : (right : Reader Expression) → Local 1 right → Local 1 (E.operation right)
   unfolding E.operation
   operation right g = local-bind any _ local-any (λ x. local-bind right _ (local-weaker g) (λ e. end-here))
 
@@ -144,11 +144,11 @@ module _ {inner : Inside} (l : LocalInside inner) where
   unfolding E.chain
   chain b z {left} {right} f g = local-bind left _ f (λ e. local-bind _ _ (operations b z right g) (λ os. end-here))
 
-  products : Local 1 (E.products inner)
+  pub products : Local 1 (E.products inner)
   unfolding E.products bindingOf member
   products = chain 1 refl operand operand
 
-  sums : Local 1 (E.sums inner)
+  pub sums : Local 1 (E.sums inner)
   unfolding E.sums bindingOf member
   sums = chain 2 refl products products
 
@@ -160,11 +160,11 @@ module _ {inner : Inside} (l : LocalInside inner) where
   unfolding E.shifts bindingOf member
   shifts = chain 4 refl relations sums
 
-  negations : Local 1 (E.negations inner)
+  pub negations : Local 1 (E.negations inner)
   unfolding E.negations
   negations = local-cond _ _ monadic shifts (λ k. eqb k K.NOT)
 
-  conjunctions : Local 1 (E.conjunctions inner)
+  pub conjunctions : Local 1 (E.conjunctions inner)
   unfolding E.conjunctions bindingOf member
   conjunctions = chain 6 refl negations negations
 
@@ -246,7 +246,7 @@ module _ {r : Readers} (b : LocalReaders r) where
   for =
       past K.FOR (λ _. local-bind aName _ (local-weaker local-name) (λ n. then-past K.EQUAL (λ _. local-bind _ _ an-expression (λ e. then-past K.TO (λ _. local-bind _ _ an-expression (λ d. local-bind _ _ optional-by (λ k. then-past K.DO (λ _. local-bind _ _ a-command (λ c. end-here)))))))))
 
-  listed : Local 0 (C.listed r)
+  pub listed : Local 0 (C.listed r)
   unfolding C.listed
   listed = given-by _ _ (b .commands)
 
@@ -285,11 +285,11 @@ module _ {r : Readers} (b : LocalReaders r) where
   given-to n [] = local-cond _ _ (vector n) (values n []) (λ k. eqb k K.VEC)
   given-to n (m ∷ ns) = values n (m ∷ ns)
 
-  further-name : Local 1 (C.furtherName r)
+  pub further-name : Local 1 (C.furtherName r)
   unfolding C.furtherName
   further-name = given-by aName _ local-name
 
-  local-declaration : Local 1 (C.local r)
+  pub local-declaration : Local 1 (C.local r)
   unfolding C.local
   local-declaration =
       past K.LET (λ _. local-bind aName _ (local-weaker local-name) (λ n. local-bind _ _ (local-further [] _ (local-weaker further-name)) (λ ns. then-past K.EQUAL (λ _. local-bind _ _ (local-weaker (given-to n ns)) (λ put. local-bind _ _ (local-optional K.SEMICOLON) (λ _. end-here))))))
@@ -311,7 +311,7 @@ module _ {r : Readers} (b : LocalReaders r) where
   block =
       past K.BEGIN (λ _. local-bind _ _ (local-many T.noLocals (λ kind. eqb kind K.LET) _ local-declaration refl) (λ ls. local-bind _ _ commands-to-end (λ cs. end-here)))
 
-  further-side : Local 1 (C.furtherSide r)
+  pub further-side : Local 1 (C.furtherSide r)
   unfolding C.furtherSide
   further-side = given-by _ _ (b .expressions LOOSEST)
 
@@ -358,7 +358,7 @@ module _ {r : Readers} (b : LocalReaders r) where
   unfolding C.repeatOn
   repeat-on = local-bind any _ local-any (λ x. local-bind _ _ an-expression (λ e. end-here))
 
-  repeat-form : Local 1 (C.repeatForm r)
+  pub repeat-form : Local 1 (C.repeatForm r)
   unfolding C.repeatForm
   repeat-form = local-cond _ _ repeat repeat-on (λ k. eqb k K.REPEAT)
 
@@ -380,7 +380,7 @@ module _ {inner : Inside} (l : LocalInside inner) where
   unfolding C.default
   default = past K.DEFAULT (λ place. then-past K.COLON (λ _. end-here))
 
-  label : Local 1 (C.label inner)
+  pub label : Local 1 (C.label inner)
   unfolding C.label
   label = given-by _ _ (local-cond _ _ case default (λ k. eqb k K.CASE))
 
@@ -393,10 +393,10 @@ module _ {inner : Inside} (l : LocalInside inner) where
   unfolding C.command isLabel member
   command = local-bind _ _ (local-many [] isLabel _ label refl) after-labels
 
-  local-readers : LocalReaders (G.readers inner)
+  pub local-readers : LocalReaders (G.readers inner)
   local-readers = record { expressions = expression l; commands = command; constants = constant l }
 
-local-within : (n : ℕ) → LocalInside (within n)
+pub local-within : (n : ℕ) → LocalInside (within n)
 unfolding within
 local-within zero = none
 local-within (suc n) = some (local-readers (local-within n))
@@ -428,7 +428,7 @@ body : Local 1 G.body
 unfolding G.body
 body = local-cond _ _ value routine (λ k. eqb k K.EQUAL)
 
-parameter : Local 1 G.parameter
+pub parameter : Local 1 G.parameter
 unfolding G.parameter
 parameter = given-by aName _ local-name
 
@@ -437,7 +437,7 @@ unfolding G.function
 function =
     local-bind aName _ local-name (λ n. then-past K.OPEN (λ _. local-bind _ _ (local-up-to-close [] _ (local-weaker parameter)) (λ ps. local-bind _ _ (local-weaker body) (λ b. end-here))))
 
-and-function : Local 1 G.andFunction
+pub and-function : Local 1 G.andFunction
 unfolding G.andFunction
 and-function = past K.AND (λ _. local-weaker function)
 
@@ -450,7 +450,7 @@ declaration : Local 1 G.declaration
 unfolding G.declaration
 declaration = local-cond _ _ globals (local-cond _ _ manifests functions (λ k. eqb k K.MANIFEST)) (λ k. eqb k K.GLOBAL)
 
-declared : Local 1 G.declared
+pub declared : Local 1 G.declared
 unfolding G.declared
 declared = local-bind _ _ declaration (λ d. local-bind _ _ (local-optional K.SEMICOLON) (λ _. end-here))
 

@@ -1,0 +1,88 @@
+-- Worked examples: a line that ends in LOOP, before and after LOOP joined the first list of the inserted semicolon (document 02, Req 01).
+use Prim.Native.Nat.{ℕ}
+use mathlib.Core.Path.{_≡_, refl}
+use mathlib.Core.List.{List, [], _∷_}
+use Prim.Native.String.{String}
+use lib.ListN.{length}
+use Rattle.text.specs.Written.{bytes}
+use Rattle.language.specs.Symbols.{scan}
+use Rattle.language.specs.Strings.{numbered}
+use Rattle.language.specs.Source.{Read}
+use Rattle.language.specs.Kinds as K
+use Rattle.language.specs.Tree as T
+use Rattle.language.specs.Tree.{Expression, noExpressions, andExpression, noSuffixes, noLocals, Commands, noCommands, andCommand}
+use Rattle.language.proofs.Texts.{answer, numberAndPlace}
+use Rattle.language.proofs.ExampleTrees.{at, name, routine, plain}
+use Rattle.language.proofs.Loops.{afterBy, semicolonsBy, parsedBy, formerly, withLoop, bracketAfter, bracketAfterLoop, reading-kept}
+
+unfoldable readBy : List ℕ → String → Read
+unfolding answer afterBy semicolonsBy parsedBy
+readBy firsts text = parsedBy firsts (bytes text)
+
+-- how many symbols there are with the inserted ones
+unfoldable symbolsBy : List ℕ → String → ℕ
+unfolding answer afterBy semicolonsBy
+symbolsBy firsts text = length (semicolonsBy firsts (bytes text) (numbered 0 (scan (bytes text) .symbols)))
+
+-- a loop was refused at what stands after the LOOP, and is read now as if a semicolon were written there
+loop-refused : numberAndPlace (readBy formerly "LET F() BE WHILE A DO $( IF B DO LOOP\nG() $)") ≡ (6, 38)
+unfolding readBy
+loop-refused = refl
+
+loop-read : readBy withLoop "LET F() BE WHILE A DO $( IF B DO LOOP\nG() $)" ≡ readBy formerly "LET F() BE WHILE A DO $( IF B DO LOOP;G() $)"
+unfolding readBy
+loop-read = refl
+
+-- A, with the value of VALOF WHILE G DO LOOP from place 20 on
+abbrev waiting : Expression
+waiting = T.valof 20 (plain (T.guarded K.WHILE (name 32) (plain (T.leave K.LOOP 37))))
+
+-- F is a block that gives A a value, and then some commands
+abbrev giving : Expression → Commands → Read
+giving e cs = routine (plain (T.block (T.values (at 18 ∷ []) (andExpression e noExpressions) noLocals) cs))
+
+-- a ( next after a LOOP that ends a VALOF called its value, and now begins a command
+abbrev bracket : String
+bracket = "LET F() BE $( LET A=VALOF WHILE G DO LOOP\n(B)() $)"
+
+bracket-before :
+    readBy formerly bracket ≡
+    giving (T.suffixed waiting (T.call (andExpression (name 43) noExpressions) (T.call noExpressions noSuffixes))) noCommands
+unfolding readBy
+bracket-before = refl
+
+bracket-now :
+    readBy withLoop bracket ≡
+    giving waiting (andCommand (plain (T.callCommand (T.suffixed (T.bracketed 42 (name 43)) (T.call noExpressions noSuffixes)))) noCommands)
+unfolding readBy
+bracket-now = refl
+
+-- the semicolon after a local declaration is optional: where one is inserted now the symbols differ, and the program is the same
+abbrev corner : String
+corner = "LET F() BE $( LET A=VALOF WHILE G DO LOOP\nB:=1 $)"
+
+abbrev its-program : Read
+its-program =
+    giving waiting
+    (andCommand (plain (T.assignment (andExpression (name 42) noExpressions) (andExpression (T.number 45 1) noExpressions))) noCommands)
+
+symbols-before : symbolsBy formerly corner ≡ 18
+unfolding symbolsBy
+symbols-before = refl
+
+symbols-now : symbolsBy withLoop corner ≡ 19
+unfolding symbolsBy
+symbols-now = refl
+
+program-before : readBy formerly corner ≡ its-program
+unfolding readBy
+program-before = refl
+
+program-now : readBy withLoop corner ≡ its-program
+unfolding readBy
+program-now = refl
+
+-- the same by the law
+program-kept : readBy withLoop corner ≡ its-program
+unfolding readBy bracketAfter bracketAfterLoop
+program-kept = reading-kept (bytes corner) _ program-before refl
