@@ -478,12 +478,12 @@ fn reading_s7_brackets() {
 #[test]
 fn reading_s8_inserted_semicolons() {
     let firsts = [
-        "BREAK", "RETURN", "FINISH", "ENDCASE", "REPEAT", "$( $)", "( )", "A", "\"\"", "1", "#1", "'A'", "TRUE",
-        "FALSE",
+        "BREAK", "LOOP", "RETURN", "FINISH", "ENDCASE", "REPEAT", "$( $)", "( )", "A", "\"\"", "1", "#1", "'A'",
+        "TRUE", "FALSE",
     ];
     let other_firsts = [
-        "LOOP", "REPEATWHILE", "DO", "OR", "VALOF", "RESULTIS", "NOT", "DEFAULT", "INTO", "BE", ";", ":", ":=", ",",
-        "+", "!", "@", "=",
+        "REPEATWHILE", "DO", "OR", "VALOF", "RESULTIS", "NOT", "DEFAULT", "INTO", "BE", ";", ":", ":=", ",", "+", "!",
+        "@", "=",
     ];
     let seconds = [
         "TEST", "FOR", "IF", "UNLESS", "UNTIL", "WHILE", "SWITCHON", "RESULTIS", "CASE", "DEFAULT", "BREAK", "LOOP",
@@ -509,6 +509,17 @@ fn reading_s8_inserted_semicolons() {
     // Its place is that of the symbol before which it stands.
     assert_eq!(symbols_of("F\n\n (X)")[..3], [(NAME, 1, 0), (SEMICOLON, 0, 4), (OPEN, 0, 4)]);
     refused_at_mark(6, "LET F() BE G\n ^(X)");
+}
+
+#[test]
+fn a_line_that_ends_in_loop() {
+    reads("LET F() BE WHILE A DO $( IF B DO LOOP\nG() $)");
+    // The semicolon after a declaration is optional, so these were read alike before.
+    assert_eq!(blocked("LET A = VALOF WHILE G DO LOOP\nB := 1"), blocked("LET A = VALOF WHILE G DO LOOP B := 1"));
+    assert_eq!(blocked("LET A = VALOF WHILE G DO LOOP\n-B"), blocked("LET A = VALOF WHILE G DO LOOP -B"));
+    // A bracket called the value of the VALOF.
+    assert_eq!(blocked("LET A = VALOF WHILE G DO LOOP\n(B)()"), blocked("LET A = VALOF WHILE G DO LOOP; (B)()"));
+    refused_at_mark(6, "LET F() = VALOF WHILE G DO LOOP\n^(3)");
 }
 
 #[test]
@@ -558,7 +569,7 @@ fn reading_g2_monadic_operators() {
 #[test]
 fn reading_g3_valof() {
     assert_eq!(bracketed("1 + VALOF $( RESULTIS 1 $) * 2"), "(1 + ((VALOF $( RESULTIS 1 $)) * 2))");
-    assert_eq!(bracketed("VALOF WHILE G DO LOOP\n(3)"), "(VALOF $( WHILE G DO $( LOOP $) $))(3)");
+    assert_eq!(bracketed("VALOF WHILE G DO LOOP (3)"), "(VALOF $( WHILE G DO $( LOOP $) $))(3)");
     assert_eq!(bracketed("A ! VALOF RESULTIS B ! C"), "(A ! (VALOF $( RESULTIS (B ! C) $)))");
     assert_eq!(blocked("VALOF BREAK (3)"), "(VALOF $( BREAK $))(3)");
     refused_at_mark(6, "LET F() BE $( VALOF G() ^$)");

@@ -1401,7 +1401,7 @@ pub const CHAINS: [Chain; 26] = [
     Chain { head: "LET F() BE $( ", links: &["CASE 1:", "DEFAULT:", "CASE A:", "CASE -1:"], tail: "$)" },
     Chain { head: "LET F() BE SWITCHON A INTO $(", links: &["CASE 1:", "BREAK;", "DEFAULT:;"], tail: "FINISH $)" },
     Chain { head: "LET F() BE $( ", links: &["LET A=1 ", "LET B=A;", "LET V=VEC 9\n", "LET A,B=1,2 "], tail: "$)" },
-    Chain { head: "LET F() BE $( ", links: &["A:=1;", "F();", "$( $);", "F(A)\n", "BREAK\n", "LOOP;"], tail: "$)" },
+    Chain { head: "LET F() BE $( ", links: &["A:=1;", "F();", "$( $);", "F(A)\n", "BREAK\n", "LOOP\n"], tail: "$)" },
     Chain { head: "LET F() BE F(1", links: &[",1", ",A", ",\"\"", ",(1)"], tail: ")" },
     Chain { head: "LET F(A", links: &[",A", ",B1"], tail: ") = 1" },
     Chain { head: "", links: &["LET F() = 1 ", "LET G(A) BE BREAK;", "LET H() = A\n"], tail: "" },

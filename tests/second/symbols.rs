@@ -171,7 +171,7 @@ pub fn read_symbols(text: &[u8]) -> Result<Vec<Symbol>, Refusal> {
 pub fn semicolon_between(first: u32, second: u32) -> bool {
     let ends = matches!(
         first,
-        BREAK | RETURN | FINISH | ENDCASE | REPEAT | CLOSE | END | NAME | STRING | NUMBER | TRUE | FALSE
+        BREAK | LOOP | RETURN | FINISH | ENDCASE | REPEAT | CLOSE | END | NAME | STRING | NUMBER | TRUE | FALSE
     );
     let begins = matches!(
         second,

@@ -7,33 +7,41 @@ use lib.ListN.{length}
 use Rattle.text.specs.Written.{bytes}
 use Rattle.language.specs.Symbols.{scan}
 use Rattle.language.specs.Strings.{numbered}
-use Rattle.language.specs.Source.{Read}
+use Rattle.language.specs.Semicolons.{firsts}
+use Rattle.language.specs.Source.{Read, parsed}
 use Rattle.language.specs.Kinds as K
 use Rattle.language.specs.Tree as T
 use Rattle.language.specs.Tree.{Expression, noExpressions, andExpression, noSuffixes, noLocals, Commands, noCommands, andCommand}
-use Rattle.language.proofs.Texts.{answer, numberAndPlace}
-use Rattle.language.proofs.ExampleTrees.{at, name, routine, plain}
-use Rattle.language.proofs.Loops.{afterBy, semicolonsBy, parsedBy, formerly, withLoop, bracketAfter, bracketAfterLoop, reading-kept}
+use Rattle.language.proofs.Texts.{answer, programIn, numberAndPlace}
+use Rattle.language.proofs.ExampleTrees.{at, name, routine, plain, called}
+use Rattle.language.proofs.Loops.{afterBy, semicolonsBy, parsedBy, formerly, bracketAfter, bracketAfterLoop, reading-kept}
 
-unfoldable readBy : List ℕ → String → Read
+-- how a text was read
+unfoldable formerlyIn : String → Read
 unfolding answer afterBy semicolonsBy parsedBy
-readBy firsts text = parsedBy firsts (bytes text)
+formerlyIn text = parsedBy formerly (bytes text)
 
--- how many symbols there are with the inserted ones
-unfoldable symbolsBy : List ℕ → String → ℕ
+-- how many symbols there are by a first list, with the inserted ones
+unfoldable countBy : List ℕ → String → ℕ
 unfolding answer afterBy semicolonsBy
-symbolsBy firsts text = length (semicolonsBy firsts (bytes text) (numbered 0 (scan (bytes text) .symbols)))
+countBy list text = length (semicolonsBy list (bytes text) (numbered 0 (scan (bytes text) .symbols)))
 
--- a loop was refused at what stands after the LOOP, and is read now as if a semicolon were written there
-loop-refused : numberAndPlace (readBy formerly "LET F() BE WHILE A DO $( IF B DO LOOP\nG() $)") ≡ (6, 38)
-unfolding readBy
+-- a loop was refused at what stands after the LOOP, and is read now
+abbrev loop : String
+loop = "LET F() BE WHILE A DO $( IF B DO LOOP\nG() $)"
+
+loop-refused : numberAndPlace (formerlyIn loop) ≡ (6, 38)
+unfolding formerlyIn
 loop-refused = refl
 
-loop-read : readBy withLoop "LET F() BE WHILE A DO $( IF B DO LOOP\nG() $)" ≡ readBy formerly "LET F() BE WHILE A DO $( IF B DO LOOP;G() $)"
-unfolding readBy
+loop-read :
+    programIn loop ≡
+    routine (plain (T.guarded K.WHILE (name 17)
+    (plain (T.block noLocals (andCommand (plain (T.guarded K.IF (name 28) (plain (T.leave K.LOOP 33)))) (andCommand (plain (called 38)) noCommands))))))
+unfolding programIn
 loop-read = refl
 
--- A, with the value of VALOF WHILE G DO LOOP from place 20 on
+-- VALOF WHILE G DO LOOP, from place 20 on
 abbrev waiting : Expression
 waiting = T.valof 20 (plain (T.guarded K.WHILE (name 32) (plain (T.leave K.LOOP 37))))
 
@@ -46,15 +54,15 @@ abbrev bracket : String
 bracket = "LET F() BE $( LET A=VALOF WHILE G DO LOOP\n(B)() $)"
 
 bracket-before :
-    readBy formerly bracket ≡
+    formerlyIn bracket ≡
     giving (T.suffixed waiting (T.call (andExpression (name 43) noExpressions) (T.call noExpressions noSuffixes))) noCommands
-unfolding readBy
+unfolding formerlyIn
 bracket-before = refl
 
 bracket-now :
-    readBy withLoop bracket ≡
+    programIn bracket ≡
     giving waiting (andCommand (plain (T.callCommand (T.suffixed (T.bracketed 42 (name 43)) (T.call noExpressions noSuffixes)))) noCommands)
-unfolding readBy
+unfolding programIn
 bracket-now = refl
 
 -- the semicolon after a local declaration is optional: where one is inserted now the symbols differ, and the program is the same
@@ -66,23 +74,23 @@ its-program =
     giving waiting
     (andCommand (plain (T.assignment (andExpression (name 42) noExpressions) (andExpression (T.number 45 1) noExpressions))) noCommands)
 
-symbols-before : symbolsBy formerly corner ≡ 18
-unfolding symbolsBy
+symbols-before : countBy formerly corner ≡ 18
+unfolding countBy
 symbols-before = refl
 
-symbols-now : symbolsBy withLoop corner ≡ 19
-unfolding symbolsBy
+symbols-now : countBy firsts corner ≡ 19
+unfolding countBy
 symbols-now = refl
 
-program-before : readBy formerly corner ≡ its-program
-unfolding readBy
+program-before : formerlyIn corner ≡ its-program
+unfolding formerlyIn
 program-before = refl
 
-program-now : readBy withLoop corner ≡ its-program
-unfolding readBy
+program-now : programIn corner ≡ its-program
+unfolding programIn
 program-now = refl
 
 -- the same by the law
-program-kept : readBy withLoop corner ≡ its-program
-unfolding readBy bracketAfter bracketAfterLoop
+program-kept : parsed (bytes corner) ≡ its-program
+unfolding formerlyIn bracketAfter bracketAfterLoop
 program-kept = reading-kept (bytes corner) _ program-before refl

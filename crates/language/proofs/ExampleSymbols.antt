@@ -45,8 +45,13 @@ gained : symbolsIn "F\n(X)" ≡ good (symbol K.NAME 1 0 ∷ symbol K.SEMICOLON 0
 unfolding symbolsIn
 gained = refl
 
--- on one line, after LOOP, and before a dyadic operator there is none
-not-gained : symbolsIn "F (X) LOOP\nA\n+B" ≡ good (symbol K.NAME 1 0 ∷ symbol K.OPEN 0 2 ∷ symbol K.NAME 1 3 ∷ symbol K.CLOSE 0 4 ∷ symbol K.LOOP 4 6 ∷ symbol K.NAME 1 11 ∷ symbol K.PLUS 0 13 ∷ symbol K.NAME 1 14 ∷ [])
+-- so does a line that ends in LOOP (document 02, Req 01)
+gained-after-loop : symbolsIn "LOOP\nF" ≡ good (symbol K.LOOP 4 0 ∷ symbol K.SEMICOLON 0 5 ∷ symbol K.NAME 1 5 ∷ [])
+unfolding symbolsIn
+gained-after-loop = refl
+
+-- on one line, after DO, and before a dyadic operator there is none
+not-gained : symbolsIn "F (X) DO\nA\n+B" ≡ good (symbol K.NAME 1 0 ∷ symbol K.OPEN 0 2 ∷ symbol K.NAME 1 3 ∷ symbol K.CLOSE 0 4 ∷ symbol K.DO 2 6 ∷ symbol K.NAME 1 9 ∷ symbol K.PLUS 0 11 ∷ symbol K.NAME 1 12 ∷ [])
 unfolding symbolsIn
 not-gained = refl
 

@@ -27,7 +27,7 @@ routine c = read (T.functions (record { name = at 4; parameters = []; body = T.r
 abbrev pub plain : T.Unlabelled → Command
 plain u = command [] u noRepeats
 
-abbrev called : (place : ℕ) → T.Unlabelled
+abbrev pub called : (place : ℕ) → T.Unlabelled
 called place = T.callCommand (T.suffixed (name place) (T.call noExpressions noSuffixes))
 
 -- a dangling REPEAT takes the call, not the IF

@@ -1,6 +1,6 @@
--- LOOP joins the first list of the inserted semicolon (document 02, Req 01). A text that is read as a program without it is read as the
--- same program with it, unless a ( stands next after a LOOP on a later line. The symbols need not be the same: the semicolon after a local
--- declaration is optional, and there one may be inserted (ExampleLoops).
+-- LOOP joined the first list of the inserted semicolon (document 02, Req 01). A text that was read as a program before is read as the same
+-- program, unless a ( stands next after a LOOP on a later line. The symbols need not be the same: the semicolon after a local declaration
+-- is optional, and there one may be inserted now (ExampleLoops).
 use Prim.Native.Nat.{ℕ, suc}
 use mathlib.Core.Path.{_≡_, refl, sym, ap, _∙_}
 use mathlib.Core.Bool.{Bool, true, false, cond, _&&_}
@@ -41,14 +41,10 @@ module _ (list text : List ℕ) where
       onSymbols (length text)
       (onFault (firstFault (length text) (brackets [] (scan text .symbols)) (scan text .ending)) (semicolonsBy (numbered 0 (scan text .symbols))))
 
--- the lists without LOOP and with it
+-- the first list as it was in document 01
 abbrev pub formerly : List ℕ
 formerly =
     K.BREAK ∷ K.RETURN ∷ K.FINISH ∷ K.ENDCASE ∷ K.REPEAT ∷ K.CLOSE ∷ K.END ∷ K.NAME ∷ K.STRING ∷ K.NUMBER ∷ K.TRUE ∷ K.FALSE ∷ []
-
-abbrev pub withLoop : List ℕ
-withLoop =
-    K.BREAK ∷ K.LOOP ∷ K.RETURN ∷ K.FINISH ∷ K.ENDCASE ∷ K.REPEAT ∷ K.CLOSE ∷ K.END ∷ K.NAME ∷ K.STRING ∷ K.NUMBER ∷ K.TRUE ∷ K.FALSE ∷ []
 
 -- the definition's own list gives the definition
 after-own : (text : List ℕ) (before : Symbol) (ss : List Symbol) → afterBy firsts text before ss ≡ semicolonsAfter text before ss
@@ -142,15 +138,15 @@ either-false false b e = (refl, e)
 
 module _ (text : List ℕ) where
   widened-after : (before : Symbol) (ss : List Symbol) → bracketAfter text before ss ≡ false
-      → Rest (eqb (before .kind) K.LOOP) (afterBy formerly text before ss) (afterBy withLoop text before ss)
+      → Rest (eqb (before .kind) K.LOOP) (afterBy formerly text before ss) (afterBy firsts text before ss)
   unfolding afterBy bracketAfter beginsLine
   widened-after before [] h = both-end
   widened-after before (s ∷ r) h =
       let k : (bracketNext text before s ≡ false) × (bracketAfter text s r ≡ false) = either-false _ _ h in
-      further s (eqb (before .kind) K.LOOP) (member (before .kind) withLoop) (beginsLine (s .kind)) (eqb (s .kind) K.OPEN) (linesDiffer text before s)
-      (without-member (before .kind) K.LOOP withLoop) (without-member (s .kind) K.OPEN seconds) (k .0) (widened-after s r (k .1))
+      further s (eqb (before .kind) K.LOOP) (member (before .kind) firsts) (beginsLine (s .kind)) (eqb (s .kind) K.OPEN) (linesDiffer text before s)
+      (without-member (before .kind) K.LOOP firsts) (without-member (s .kind) K.OPEN seconds) (k .0) (widened-after s r (k .1))
 
-  widened : (ss : List Symbol) → bracketAfterLoop text ss ≡ false → Rest flush (semicolonsBy formerly text ss) (semicolonsBy withLoop text ss)
+  widened : (ss : List Symbol) → bracketAfterLoop text ss ≡ false → Rest flush (semicolonsBy formerly text ss) (semicolonsBy firsts text ss)
   unfolding semicolonsBy bracketAfterLoop
   widened [] h = both-end
   widened (s ∷ r) h = alike (widened-after s r h)
@@ -175,19 +171,14 @@ unfolding readSymbols treeOf
 same-tree p z r e = on-kept p (program .keeps (record { size = z; longer = longer-rest r }) 0 0 (record { rest = r })) e
 
 pub reading-kept : (text : List ℕ) (p : Program) → parsedBy formerly text ≡ read p → bracketAfterLoop text (scan text .symbols) ≡ false
-    → parsedBy withLoop text ≡ read p
+    → parsed text ≡ read p
 unfolding parsedBy
-reading-kept text p e h = go (firstFault (length text) (brackets [] (scan text .symbols)) (scan text .ending)) e
+reading-kept text p e h = sym (parsed-own text) ∙ go (firstFault (length text) (brackets [] (scan text .symbols)) (scan text .ending)) e
   where
     ss : List Symbol
     ss = numbered 0 (scan text .symbols)
 
     go : (f : Fault) → onSymbols (length text) (onFault f (semicolonsBy formerly text ss)) ≡ read p
-        → onSymbols (length text) (onFault f (semicolonsBy withLoop text ss)) ≡ read p
+        → onSymbols (length text) (onFault f (semicolonsBy firsts text ss)) ≡ read p
     go none q = same-tree p refl (widened text ss (numbered-bracket text 0 (scan text .symbols) ∙ h)) q
     go (fault number place) q = q
-
--- the list of the definition is now the one without LOOP
-pub kept-with-loop : (text : List ℕ) (p : Program) → parsed text ≡ read p → bracketAfterLoop text (scan text .symbols) ≡ false
-    → parsedBy withLoop text ≡ read p
-kept-with-loop text p e h = reading-kept text p (parsed-own text ∙ e) h

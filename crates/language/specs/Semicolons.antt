@@ -1,5 +1,5 @@
 -- Inserted semicolons (document 01, "Inserted semicolon"): between symbols on different lines, the first from one list of kinds, the
--- second from another.
+-- second from another. LOOP is in the first by document 02, Req 01.
 use Prim.Native.Nat.{ℕ}
 use mathlib.Core.Bool.{Bool, true, false, not, _&&_}
 use mathlib.Core.List.{List, [], _∷_}
@@ -12,7 +12,7 @@ use Rattle.language.specs.Symbols.{Symbol}
 -- the first symbol; 'c' is a number
 abbrev pub firsts : List ℕ
 firsts =
-    K.BREAK ∷ K.RETURN ∷ K.FINISH ∷ K.ENDCASE ∷ K.REPEAT ∷ K.CLOSE ∷ K.END ∷ K.NAME ∷ K.STRING ∷ K.NUMBER ∷ K.TRUE ∷ K.FALSE ∷ []
+    K.BREAK ∷ K.LOOP ∷ K.RETURN ∷ K.FINISH ∷ K.ENDCASE ∷ K.REPEAT ∷ K.CLOSE ∷ K.END ∷ K.NAME ∷ K.STRING ∷ K.NUMBER ∷ K.TRUE ∷ K.FALSE ∷ []
 
 -- the second
 abbrev pub seconds : List ℕ
