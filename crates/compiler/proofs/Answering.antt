@@ -52,12 +52,12 @@ use Rattle.compiler.specs.Walked.{least, AllFit}
 use Rattle.compiler.specs.Groups.{FineDs, Starting, encodeFunction, functionCount, CountsFunctions}
 use Rattle.compiler.specs.Programs.{startsOf, ReadyProgram, Walked, GaveProgram}
 use Rattle.compiler.specs.Strings.{stringCount, AllEnd, WritesStrings, WritesStarts}
-use Rattle.compiler.specs.Compiles.{decided, answerOf, Begins, Translates, Clean, StaysClean, Lent, ReadyTree, AllStrings, Behind, NONE, byKeys}
+use Rattle.compiler.specs.Compiles.{decided, answerOf, Begins, Translates, Clean, Lent, ReadyTree, AllStrings, Behind, NONE, byKeys}
 use Rattle.tree.proofs.Stages.{few-good, decoded-entries, entries-size}
 use Rattle.compiler.proofs.Rendered.{rendered}
 use Rattle.compiler.proofs.Deciding.{decides}
 use Rattle.compiler.proofs.Clearing.{padded-long, padded-clean, clean-front, clean-all}
-use Rattle.compiler.proofs.Translating.{rules-decide, symbols-left}
+use Rattle.compiler.proofs.Translating.{lent-still, rules-decide, symbols-left}
 use Rattle.compiler.proofs.StringsEnd.{string-count-is, strings-end}
 
 -- ---- how many functions there are
@@ -251,14 +251,8 @@ module _ {source s : List ℕ} {count end : ℕ} (y : ReadyTree source s count e
       ∙ (ap (decoded (length (y .symbols))) (y .stand ∙ append-assoc (entries (y .symbols)) (encodeProgram p) _)
       ∙ decoded-entries (y .symbols) _)
 
-  pub functions-are-counted : {functions : ℕ} → CountsFunctions s (count * 3) end functions → functions ≡ length ns
-  functions-are-counted c = c .by p lies (y .ends) ∙ sym (functions-counted source begin p)
-
-  pub strings-are-counted : {names : ℕ} → names ≡ stringCount (decoded count s) → names ≡ length (stringsAmong source (y .symbols))
-  strings-are-counted e = e ∙ (ap stringCount symbols-are ∙ string-count-is source (y .symbols))
-
-  pub end-inside : end ≤ length s
-  end-inside = omega (arith, y .room, y .counts, few-good source (y .symbols) (y .reads), y .lent .asked)
+  pub end-inside : {k : ℕ} → k ≡ length s → end ≤ k
+  end-inside e = omega (arith, y .room, y .counts, few-good source (y .symbols) (y .reads), y .lent .asked)
 
   clean-at-end : Clean end s
   clean-at-end = padded-clean (entries (y .symbols) ++ encodeProgram p) (length s) (y .stand)
@@ -307,12 +301,24 @@ module _ {source s : List ℕ} {count end : ℕ} (y : ReadyTree source s count e
       go : Gives.Of LowProgram (ok p (y .next)) → programDepth p ≤ 520
       go (Gives.given l) = l .low
 
-  module _ {functions names : ℕ} (f : functions ≡ length ns) (n : names ≡ length (stringsAmong source (y .symbols))) where
-    pub few-in-all : functions ≤ 81920
+  module _ {functions names : ℕ} (cf : CountsFunctions s (count * 3) end functions) (cn : names ≡ stringCount (decoded count s)) where
+    f : functions ≡ length ns
+    f = cf .by p lies (y .ends) ∙ sym (functions-counted source begin p)
+
+    n : names ≡ length (stringsAmong source (y .symbols))
+    n = cn ∙ (ap stringCount symbols-are ∙ string-count-is source (y .symbols))
+
+    few-in-all : functions ≤ 81920
     few-in-all = omega (arith, f, functions-counted source begin p, few-functions p, y .ends, y .room, few-symbols)
 
-    pub few-names : names ≤ 16384
+    few-names : names ≤ 16384
     few-names = omega (arith, n, few-strings source (y .symbols), y .counts, few-symbols)
+
+    pub few-labels : functions + 1 + names ≤ 98305
+    few-labels = omega (arith, few-in-all, few-names)
+
+    pub ready-behind : {k : ℕ} → k ≡ length s → Lent source k × (count ≤ 16384) × (functions ≤ 81920)
+    ready-behind e = (lent-still (y .lent) e, few-symbols, few-in-all)
 
     pub ready-program : (at : ℕ) {table : List ℕ} → table ≡ replicate 400 0
         → ReadyProgram s table (count * 3) end 520 (functions + 1) (record { tall = NONE; state = record { at = at; label = functions + 1 + names; worst = NONE; high = 0 } })
@@ -415,6 +421,6 @@ module _ {source s : List ℕ} {count end : ℕ} (y : ReadyTree source s count e
       translates {start} {room} e k q same c =
           record {
             answers = q ∙ (ap (λ (v : ℕ). byKeys source (d′ .state .worst) (d′ .tall) v last room) e ∙ (ap (λ (v : ℕ). byKeys source (d′ .state .worst) (d′ .tall) (getD table′ 1 0) last v) k ∙ answers));
-            clears = clean-all clean-behind (omega (arith, end-inside)) c ∙ ap (λ (v : ℕ). replicate v 0) same;
+            clears = clean-all clean-behind (end-inside same) c ∙ ap (λ (v : ℕ). replicate v 0) same;
             begins = begins;
           }

@@ -1,21 +1,21 @@
 -- From the readers' answers to the refusals of the source, and to what the walk of the tree asks.
-use Prim.Native.Nat.{ℕ, suc, _+_, _*_, _-_, _≤_, _<_, _^_}
+use Prim.Native.Nat.{ℕ, _+_, _*_, _-_, _≤_, _^_}
 use mathlib.Core.Path.{_≡_, refl, sym, ap, subst, _∙_}
-use mathlib.Core.Bool.{Bool, true, false, cond}
-use mathlib.Core.List.{List, [], _∷_, _++_}
+use mathlib.Core.Bool.{Bool, true, false}
+use mathlib.Core.List.{List, _++_}
 use native.Mathlib.Omega.{arith}
-use lib.ListN.{length, replicate, take, drop, length-append, length-replicate}
+use lib.ListN.{length, replicate, take, drop, length-append}
 use lib.Seq.{take-at, drop-at, length-take-le}
 use borrow.Author.Tests.{le-ltb, ltb-false}
 use Rattle.text.specs.declared.Refusal.{Refusal}
 use Rattle.text.specs.Line.{refusal}
 use Rattle.language.specs.Symbols.{Symbol}
 use Rattle.language.specs.Source as S
-use Rattle.language.specs.Source.{Symbols, good, faulty, symbolsOf, parsed, readSymbols, readSource, tooLong, scratchTooShort, onTree}
+use Rattle.language.specs.Source.{Symbols, good, faulty, symbolsOf, parsed, readSymbols, readSource, tooLong, scratchTooShort}
 use Rattle.language.specs.Reader.{Source, Out, ok, no, placeAt}
 use Rattle.language.specs.Grammar.{treeOf}
 use Rattle.language.specs.Tree.{Program}
-use Rattle.language.specs.Program.{Refused, accepted, refused, rulesRefuse}
+use Rattle.language.specs.Program.{Refused, refused, rulesRefuse}
 use Rattle.language.specs.Whole.{refusalOf, refusalIn, onRead, unlessFits}
 use Rattle.symbols.specs.Read as Y
 use Rattle.symbols.specs.Read.{Reads, symbolsRead, outcome, entries}
@@ -30,8 +30,8 @@ use Rattle.tree.proofs.Stages.{few-good, decoded-entries, entries-size}
 use Rattle.code.specs.Generate.{textOf}
 use Rattle.compiler.specs.declared.Compiled.{Compiled}
 use Rattle.compiler.specs.declared.Compiled.the-variants as C
-use Rattle.compiler.specs.Compiles.{decided, answerOf, Begins, Translates, Lent, ReadySymbols, ReadyTree, Clean}
-use Rattle.compiler.proofs.Clearing.{padded-long, padded-on, padded-clean, clean-all, zeros-behind}
+use Rattle.compiler.specs.Compiles.{decided, answerOf, Begins, Translates, Lent, Serves, ReadySymbols, ReadyTree, Clean}
+use Rattle.compiler.proofs.Clearing.{cleared-all, padded-long, padded-on, padded-clean, clean-all, zeros-behind}
 
 -- ---- what the refusals are, stage by stage
 
@@ -55,13 +55,15 @@ pub with-scratch : {source s s₀ s′ t t′ : List ℕ} {a : Compiled} → len
 with-scratch {source} {s} {s₀} {s′} {t} e x =
     decided-alike x (ap (λ (n : ℕ). decided source n (length t)) e) (x .clears ∙ ap (λ (n : ℕ). replicate n 0) e)
 
-pub too-long : (source : List ℕ) (scratch room : ℕ) → tooLong source ≡ true → decided source scratch room ≡ refused 1 0
-unfolding decided refusalIn refusalOf readSource
-too-long source scratch room e = rw e refl
+module _ {source s s′ t t′ : List ℕ} {w : Refusal} {b : Bool} (e : b ≡ tooLong source) (z : s′ ≡ take 0 s ++ replicate (length s - 0) 0) where
+  pub too-long : b ≡ true → w ≡ refusal source 1 0 → Translates source s s′ t t′ (C.Refused w)
+  unfolding decided refusalIn refusalOf readSource
+  too-long h q = refusing q (rw (sym e ∙ h) refl) (cleared-all s z)
 
-pub too-short : (source : List ℕ) (scratch room : ℕ) → tooLong source ≡ false → scratchTooShort source scratch ≡ true → decided source scratch room ≡ refused 15 0
-unfolding decided refusalIn refusalOf readSource
-too-short source scratch room e k = rw (e, k) refl
+  pub too-short : {d : Bool} → b ≡ false → d ≡ scratchTooShort source (length s) → d ≡ true → w ≡ refusal source 15 0
+      → Translates source s s′ t t′ (C.Refused w)
+  unfolding decided refusalIn refusalOf readSource
+  too-short h k g q = refusing q (rw (sym e ∙ h, sym k ∙ g) refl) (cleared-all s z)
 
 enough-scratch : {source : List ℕ} {n m : ℕ} → Lent source n → n ≤ m → (room : ℕ)
     → decided source m room ≡ unlessFits (length (textOf source)) room (onRead source (parsed source))
@@ -274,29 +276,27 @@ module _ {source s : List ℕ} {count : ℕ} (y : ReadySymbols source s count) w
 abbrev asked : List ℕ → ℕ
 asked source = length source * 8 + 64
 
-pub record Lends (source scratch : List ℕ) : Type 0 where
-  pub short : length source ≤ 16384
-  pub inside : asked source ≤ length scratch
-  pub front : asked source ≡ length (take (asked source) scratch)
-  pub lent : Lent source (length (take (asked source) scratch))
-
-pub lends : (source scratch : List ℕ) → tooLong source ≡ false → scratchTooShort source (length scratch) ≡ false → Lends source scratch
+pub serves : {source s : List ℕ} {b d : Bool} → b ≡ tooLong source → b ≡ false → d ≡ scratchTooShort source (length s) → d ≡ false → Serves source s
 unfolding tooLong scratchTooShort
-lends source scratch e k =
-    let short : length source ≤ 16384 = ltb-false 16384 (length source) e in
-    let inside : asked source ≤ length scratch = omega (arith, ltb-false (length scratch) (8 * length source + 64) k) in
-    let front = length-take-le (asked source) scratch inside in
-    record { short = short; inside = inside; front = sym front; lent = record { short = short; asked = omega (arith, front) } }
+serves {source} {s} e f k g = record {
+  short = ltb-false 16384 (length source) (sym e ∙ f);
+  long = omega (arith, ltb-false (length s) (8 * length source + 64) (sym k ∙ g));
+}
 
-pub lent-room : {source scratch : List ℕ} {n : ℕ} → Lends source scratch → n ≡ length scratch → asked source ≤ n
-lent-room l e = omega (arith, l .inside)
+module _ {source s : List ℕ} (v : Serves source s) where
+  front-long : length (take (asked source) s) ≡ asked source
+  front-long = length-take-le (asked source) s (v .long)
 
--- more scratch than is asked for makes no other answer, and is cleared
-pub more-scratch : {source scratch scratch′ front t t′ : List ℕ} {a : Compiled} → Lends source scratch
-    → Translates source (take (asked source) scratch) front t t′ a
-    → scratch′ ≡ take (asked source) (front ++ drop (asked source) scratch) ++ replicate (length (front ++ drop (asked source) scratch) - asked source) 0
-    → Translates source scratch scratch′ t t′ a
-more-scratch {source} {scratch} {scratch′} {front} {t} l x c =
-    let enough = enough-scratch {m = length scratch} (l .lent) (omega (arith, l .front, l .inside)) (length t) in
-    decided-alike x (by-parsed (l .lent) (length t) ∙ sym enough)
-    (zeros-behind scratch front (asked source) (sym (l .front)) (l .inside) (x .clears) c)
+  pub front-lent : Lent source (length (take (asked source) s))
+  front-lent = record { short = v .short; asked = omega (arith, front-long) }
+
+  pub front-inside : {k : ℕ} → k ≡ length s → asked source ≤ k
+  front-inside e = omega (arith, v .long)
+
+  -- more scratch than is asked for makes no other answer, and is cleared
+  pub more-scratch : {s′ front t t′ : List ℕ} {a : Compiled} → Translates source (take (asked source) s) front t t′ a
+      → s′ ≡ take (asked source) (front ++ drop (asked source) s) ++ replicate (length (front ++ drop (asked source) s) - asked source) 0
+      → Translates source s s′ t t′ a
+  more-scratch {s′} {front} {t} x c =
+      let enough = enough-scratch {m = length s} front-lent (omega (arith, front-long, v .long)) (length t) in
+      decided-alike x (by-parsed front-lent (length t) ∙ sym enough) (zeros-behind s front (asked source) front-long (v .long) (x .clears) c)

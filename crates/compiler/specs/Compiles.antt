@@ -64,6 +64,11 @@ pub record Translates (source scratch scratch′ text text′ : List ℕ) (answe
 pub record Clean (used : ℕ) (s : List ℕ) : Type 0 where
   pub zeros : (i : ℕ) → used ≤ i → getD s i 0 ≡ 0
 
+-- the source is not too long, and scratch not too short
+pub record Serves (source scratch : List ℕ) : Type 0 where
+  pub short : length source ≤ 16384
+  pub long : length source * 8 + 64 ≤ length scratch
+
 -- what scratch of the length asked for holds: nothing yet, the symbols, the symbols and the tree
 pub record Lent (source : List ℕ) (scratch : ℕ) : Type 0 where
   pub short : length source ≤ 16384

@@ -34,7 +34,7 @@ ghost use mathlib.Core.Path.{_≡_};
 ghost use mathlib.Core.List.{_++_};
 ghost use Prim.Native.Nat.{_+_, _*_, _-_, _≤_};
 ghost use lib.ListN.{length, take, replicate};
-ghost use Rattle.compiler.specs.Compiles.{Compiles, Translates, NONE, byKeys, ReadyTree, ReadySymbols, Lent, AllStrings, Behind};
+ghost use Rattle.compiler.specs.Compiles.{Compiles, Translates, NONE, byKeys, ReadyTree, ReadySymbols, Lent, Serves, AllStrings, Behind};
 
 // The text's length, or a refusal.
 pub enum Compiled {
@@ -90,7 +90,8 @@ fn all_strings(
     first: usize,
 ) -> usize
     requires { ⌜ Lent (now source) (length (now s)) × (count ≤ 16384) × (first ≤ 81921) ⌝ }
-    ensures { λ r. ⌜ AllStrings (now (source .entry)) (now (s .entry)) (now (s .exit)) count names first at r (now (text .entry)) (now (text .exit)) ⌝ }
+    ensures { λ r. ⌜ AllStrings (now (source .entry)) (now (s .entry)) (now (s .exit)) count names first at r
+        (now (text .entry)) (now (text .exit)) ⌝ }
 {
     if names == 0 {
         return at;
@@ -111,7 +112,8 @@ fn behind(
     at: usize,
 ) -> usize
     requires { ⌜ Lent (now source) (length (now s)) × (count ≤ 16384) × (functions ≤ 81920) ⌝ }
-    ensures { λ r. ⌜ Behind (now (source .entry)) (now (s .entry)) (now (s .exit)) count names functions (now (table .entry)) at r (now (text .entry)) (now (text .exit)) ⌝ }
+    ensures { λ r. ⌜ Behind (now (source .entry)) (now (s .entry)) (now (s .exit)) count names functions (now (table .entry)) at r
+        (now (text .entry)) (now (text .exit)) ⌝ }
 {
     let a = all_strings(source, s, count, names, text, at, functions + 1);
     let b = starts(table, functions, text, a);
@@ -144,7 +146,8 @@ fn decide(
     Compiled::Accepted(at)
 }
 
-// The walk of the tree, which stands behind so many symbols and ends there. Scratch is zeros behind it, and then all of it.
+// The walk of the tree, which stands behind so many symbols and ends there. Scratch is zeros behind the tree,
+// and at the end all of it.
 fn walked(source: &[u8], s: &mut [u32], count: usize, end: usize, text: &mut [u8]) -> Compiled
     requires { ⌜ ReadyTree (now source) (now s) count end ⌝ }
     ensures { λ r. ⌜ Translates (now (source .entry)) (now (s .entry)) (now (s .exit)) (now (text .entry)) (now (text .exit)) r ⌝ }
@@ -214,6 +217,17 @@ fn translated(source: &[u8], s: &mut [u32], text: &mut [u8]) -> Compiled
     }
 }
 
+// The part of scratch that is asked for is worked in, and what is behind it cleared.
+fn in_part(source: &[u8], scratch: &mut [u32], text: &mut [u8]) -> Compiled
+    requires { ⌜ Serves (now source) (now scratch) ⌝ }
+    ensures { λ r. ⌜ Translates (now (source .entry)) (now (scratch .entry)) (now (scratch .exit)) (now (text .entry)) (now (text .exit)) r ⌝ }
+{
+    let asked = source.len() * 8 + 64;
+    let r = translated(source, &mut scratch[..asked], text);
+    clear_scratch(scratch, asked);
+    r
+}
+
 // All but the clearing of the text.
 fn attempt(source: &[u8], scratch: &mut [u32], text: &mut [u8]) -> Compiled
     ensures { λ r. ⌜ Translates (now (source .entry)) (now (scratch .entry)) (now (scratch .exit)) (now (text .entry)) (now (text .exit)) r ⌝ }
@@ -226,10 +240,7 @@ fn attempt(source: &[u8], scratch: &mut [u32], text: &mut [u8]) -> Compiled
         clear_scratch(scratch, 0);
         return Compiled::Refused(refuse(source, 15, 0));
     }
-    let asked = source.len() * 8 + 64;
-    let r = translated(source, &mut scratch[..asked], text);
-    clear_scratch(scratch, asked);
-    r
+    in_part(source, scratch, text)
 }
 
 // A source's MINICODE text, or why there is none: document 01's refusals 1 to 16. Scratch is zeros after every call, and so is all of

@@ -1,0 +1,12 @@
+use mathlib.Core.Path.{sym}
+use native.Mathlib.Omega.{arith}
+use lib.Seq.{length-take-le}
+use Rattle.compiler.proofs.Translating.{front-lent, front-inside, more-scratch}
+use borrow.Author.Needs.{needs}
+use Rattle.compiler.proofs.in_part.Statement.{statement}
+use Rattle.compiler.proofs.in_part.Tie as tie
+
+pub in-part-spec : {M : Type 1} → statement M
+in-part-spec =
+    tie.close (tie.spec (λ c. omega arith) (λ c. omega arith) (λ c. search front-inside) (λ c. sym (search (length-take-le, front-inside)))
+    (λ c κs. search front-lent) (λ c κs. search front-inside) (search needs) (search needs) (λ c. search more-scratch))
