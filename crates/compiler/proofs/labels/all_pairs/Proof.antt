@@ -9,50 +9,38 @@ use Rattle.compiler.proofs.labels.all_pairs.Statement.{statement}
 use Rattle.compiler.proofs.labels.all_pairs.Tie as tie
 
 abbrev Inv-loop : tie.InvT-loop
-Inv-loop source s from end top text₀ first at₀ k₀ r₀ text at k r = (length text ≡ length text₀) × Still r₀ r × (k ≤ first + at) × ((y : Listed (CommandAt s) s from end top) → Sound source (y .scope) (flat (y .all)) → TablePart source first text₀ r₀ y text at k r)
+Inv-loop source s from end top text₀ first at₀ k₀ r₀ text at k r =
+    (length text ≡ length text₀) × Still r₀ r × (k ≤ first + at) ×
+    ((y : Listed (CommandAt s) s from end top) → Sound source (y .scope) (flat (y .all)) → TablePart source first text₀ r₀ y text at k r)
 
 abbrev μ-loop : tie.MeasureT-loop
 μ-loop source s from end top text₀ first at₀ k₀ r₀ text at k r = end - at
 
 loop-holds : tie.Need-loop-holds Inv-loop μ-loop
-loop-holds c = (refl, still-here, omega arith, λ y so. table-begin (c .before .before .before .args .source .now) (c .before .before .before .args .first) (c .before .before .before .args .text .now) (c .before .before .before .args .st) y so)
-
-next-item-requires : tie.Need-next-item-requires Inv-loop μ-loop
-next-item-requires c κs = search needs
-
-labels-of-requires : tie.Need-labels-of-requires Inv-loop μ-loop
-labels-of-requires c κs = omega (arith, c .next-item .ensures .within)
-
-pairs-requires : tie.Need-pairs-requires Inv-loop μ-loop
-pairs-requires c κs = c .before .labels-of .ensures .small
-
-add-k : tie.Need-add-k Inv-loop μ-loop
-add-k c = omega (arith, c .before .before .before .before .before .before .before .loop .inv .2)
-
-loop-less : tie.Need-loop-less Inv-loop μ-loop
-loop-less c = omega (arith, c .before .before .before .before .before .before .loop-test .taken, c .before .before .before .before .before .next-item .ensures .further)
+loop-holds c = (refl, still-here, omega arith, λ y so. search table-begin)
 
 loop-again : tie.Need-loop-again Inv-loop μ-loop
-loop-again c = (c .before .before .pairs .kept .1 .1 .1 .1 .1 .0 ∙ c .before .before .before .before .before .before .before .loop .inv .0, still-then (c .before .before .before .before .before .before .before .loop .inv .1) (c .before .before .pairs .ensures .still), omega (arith, c .before .before .before .before .before .before .before .loop .inv .2, c .before .before .before .before .before .next-item .ensures .further), λ y so. table-next (c .before .before .before .before .before .before .before .before .before .before .before .args .source .now) (c .before .before .before .before .before .before .before .before .before .before .before .args .first) (c .before .before .before .before .before .before .before .before .before .before .before .args .text .now) (c .before .before .before .before .before .before .before .before .before .before .before .args .st) (c .before .before .before .before .before .before .loop-test .taken) (c .before .before .before .before .before .next-item .ensures) (c .before .before .before .before .labels-of .ensures) (c .before .before .pairs .ensures) y (c .before .before .before .before .before .before .before .loop .inv .3 y so))
-
-same-length : tie.Need-same-length Inv-loop μ-loop
-same-length c = search needs
+loop-again c = (
+  c .before .before .pairs .kept .1 .1 .1 .1 .1 .0 ∙ c .before .before .before .before .before .before .before .loop .inv .0,
+  search still-then,
+  omega arith,
+  λ y so. table-next (c .before .before .before .before .before .before .before .before .before .before .before .args .source .now)
+      (c .before .before .before .before .before .before .before .before .before .before .before .args .first)
+      (c .before .before .before .before .before .before .before .before .before .before .before .args .text .now)
+      (c .before .before .before .before .before .before .before .before .before .before .before .args .st)
+      (c .before .before .before .before .before .before .loop-test .taken) (c .before .before .before .before .before .next-item .ensures)
+      (c .before .before .before .before .labels-of .ensures) (c .before .before .pairs .ensures) y
+      (c .before .before .before .before .before .before .before .loop .inv .3 y so),
+)
 
 returns : tie.Need-returns Inv-loop μ-loop
-returns c = table-end (c .before .before .before .before .before .args .source .now) (c .before .before .before .before .before .args .first) (c .before .before .before .before .before .args .text .now) (c .before .before .before .before .before .args .st) (c .before .loop .k) (c .loop-test .left) (c .before .loop .inv .1) (c .before .loop .inv .3)
+returns c =
+    table-end (c .before .before .before .before .before .args .source .now) (c .before .before .before .before .before .args .first)
+    (c .before .before .before .before .before .args .text .now) (c .before .before .before .before .before .args .st) (c .before .loop .k)
+    (c .loop-test .left) (c .before .loop .inv .1) (c .before .loop .inv .3)
 
 pub all-pairs-spec : {M : Type 1} → statement M
 all-pairs-spec =
-    tie.close
-    (tie.spec
-    Inv-loop
-    μ-loop
-    loop-holds
-    next-item-requires
-    labels-of-requires
-    pairs-requires
-    add-k
-    loop-less
-    loop-again
-    same-length
+    tie.close (tie.spec Inv-loop μ-loop loop-holds (search needs) (λ c κs. omega arith)
+    (λ c _. c .before .labels-of .ensures .small) (λ c. omega arith) (λ c. omega arith) loop-again (search needs)
     returns)

@@ -14,37 +14,26 @@ Inv-loop s from end at₀ n₀ at n = (n ≤ at) × (n ≤ end) × ((ls : List L
 abbrev μ-loop : tie.MeasureT-loop
 μ-loop s from end at₀ n₀ at n = end - at
 
-loop-holds : tie.Need-loop-holds Inv-loop μ-loop
-loop-holds c = (omega arith, omega arith, λ ls r. count-begin (labels (c .before .args .s .now)) (c .before .args .s .now) (c .before .args .end) ls r)
-
-next-item-requires : tie.Need-next-item-requires Inv-loop μ-loop
-next-item-requires c κs = search needs
-
-one-case-requires : tie.Need-one-case-requires Inv-loop μ-loop
-one-case-requires c κs = search needs
-
-add-n : tie.Need-add-n Inv-loop μ-loop
-add-n c = omega (arith, c .before .before .before .loop .inv .0, c .one-case .ensures .few)
-
-loop-less : tie.Need-loop-less Inv-loop μ-loop
-loop-less c = omega (arith, c .before .before .loop-test .taken, c .before .next-item .ensures .further)
-
 loop-again : tie.Need-loop-again Inv-loop μ-loop
-loop-again c = (omega (arith, c .before .before .before .loop .inv .0, c .one-case .ensures .few, c .before .next-item .ensures .further), omega (arith, c .before .before .before .loop .inv .0, c .one-case .ensures .few, c .before .next-item .ensures .further, c .before .next-item .ensures .within), λ ls r. count-next (labels (c .before .before .before .before .before .args .s .now)) (c .before .before .before .before .before .args .s .now) (c .before .before .before .before .before .args .end) (c .before .before .before .loop .n) (c .before .before .loop-test .taken) (c .before .next-item .ensures) (λ x q. c .one-case .ensures .by x q) ls (c .before .before .before .loop .inv .2 ls r))
+loop-again c = (
+  omega (arith, c .before .before .before .loop .inv .0, c .one-case .ensures .few, c .before .next-item .ensures .further),
+  omega
+      (arith, c .before .before .before .loop .inv .0, c .one-case .ensures .few, c .before .next-item .ensures .further, c .before .next-item .ensures .within),
+  λ ls r. count-next (labels (c .before .before .before .before .before .args .s .now))
+      (c .before .before .before .before .before .args .s .now) (c .before .before .before .before .before .args .end)
+      (c .before .before .before .loop .n) (c .before .before .loop-test .taken) (c .before .next-item .ensures)
+      (λ x q. c .one-case .ensures .by x q) ls (c .before .before .before .loop .inv .2 ls r),
+)
 
 returns : tie.Need-returns Inv-loop μ-loop
-returns c = record { few = omega (arith, c .before .loop .inv .1); by = λ ls r. count-end (labels (c .before .before .before .args .s .now)) (c .before .before .before .args .s .now) (c .before .before .before .args .end) (c .loop-test .left) ls (c .before .loop .inv .2 ls r) }
+returns c =
+    record {
+      few = omega (arith, c .before .loop .inv .1);
+      by = λ ls r. count-end (labels (c .before .before .before .args .s .now))
+          (c .before .before .before .args .s .now) (c .before .before .before .args .end) (c .loop-test .left) ls (c .before .loop .inv .2 ls r);
+    }
 
 pub count-cases-spec : {M : Type 1} → statement M
 count-cases-spec =
-    tie.close
-    (tie.spec
-    Inv-loop
-    μ-loop
-    loop-holds
-    next-item-requires
-    one-case-requires
-    add-n
-    loop-less
-    loop-again
-    returns)
+    tie.close (tie.spec Inv-loop μ-loop (λ c. (omega arith, omega arith, λ ls r. search count-begin))
+    (search needs) (search needs) (λ c. omega arith) (λ c. omega arith) loop-again returns)

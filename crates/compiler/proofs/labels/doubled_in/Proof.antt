@@ -12,42 +12,25 @@ use Rattle.compiler.proofs.labels.doubled_in.Statement.{statement}
 use Rattle.compiler.proofs.labels.doubled_in.Tie as tie
 
 abbrev Inv-loop : tie.InvT-loop
-Inv-loop source s from end top seen₀ at₀ r₀ seen at r = (length seen ≡ length seen₀) × ((y : Listed (LabelAt s) s from end top) (first : List Label) → Marks seen₀ (labelsOf source (y .scope) first) → OwnPart source r₀ y first seen at r)
+Inv-loop source s from end top seen₀ at₀ r₀ seen at r =
+    (length seen ≡ length seen₀) ×
+    ((y : Listed (LabelAt s) s from end top) (first : List Label) → Marks seen₀ (labelsOf source (y .scope) first) → OwnPart source r₀ y first seen
+    at r)
 
 abbrev μ-loop : tie.MeasureT-loop
 μ-loop source s from end top seen₀ at₀ r₀ seen at r = end - at
 
-loop-holds : tie.Need-loop-holds Inv-loop μ-loop
-loop-holds c = (refl, λ y first m. own-begin (c .before .before .before .args .source .now) (c .before .before .before .args .st) y first m)
-
-next-item-requires : tie.Need-next-item-requires Inv-loop μ-loop
-next-item-requires c κs = search needs
-
-doubled-label-requires : tie.Need-doubled-label-requires Inv-loop μ-loop
-doubled-label-requires c κs = omega (arith, c .before .next-item .ensures .within)
-
-loop-less : tie.Need-loop-less Inv-loop μ-loop
-loop-less c = omega (arith, c .before .before .before .before .before .loop-test .taken, c .before .before .before .before .next-item .ensures .further)
-
 loop-again : tie.Need-loop-again Inv-loop μ-loop
-loop-again c = (c .before .before .doubled-label .kept .1 .1 .1 .1 .0 ∙ c .before .before .before .before .before .before .loop .inv .0, λ y first m. own-next (c .before .before .before .before .before .before .before .before .before .before .args .source .now) (c .before .before .before .before .before .before .before .before .before .before .args .st) (c .before .before .before .before .before .loop-test .taken) (c .before .before .before .before .next-item .ensures) (c .before .before .doubled-label .ensures) y first (c .before .before .before .before .before .before .loop .inv .1 y first m))
-
-same-length : tie.Need-same-length Inv-loop μ-loop
-same-length c = search needs
-
-returns : tie.Need-returns Inv-loop μ-loop
-returns c = own-end (c .before .before .before .before .before .args .source .now) (c .before .before .before .before .before .args .st) (c .loop-test .left) (c .before .loop .inv .1)
+loop-again c = (
+  c .before .before .doubled-label .kept .1 .1 .1 .1 .0 ∙ c .before .before .before .before .before .before .loop .inv .0,
+  λ y first m. own-next
+      (c .before .before .before .before .before .before .before .before .before .before .args .source .now)
+      (c .before .before .before .before .before .before .before .before .before .before .args .st)
+      (c .before .before .before .before .before .loop-test .taken) (c .before .before .before .before .next-item .ensures)
+      (c .before .before .doubled-label .ensures) y first (c .before .before .before .before .before .before .loop .inv .1 y first m),
+)
 
 pub doubled-in-spec : {M : Type 1} → statement M
 doubled-in-spec =
-    tie.close
-    (tie.spec
-    Inv-loop
-    μ-loop
-    loop-holds
-    next-item-requires
-    doubled-label-requires
-    loop-less
-    loop-again
-    same-length
-    returns)
+    tie.close (tie.spec Inv-loop μ-loop (λ c. (refl, λ y first m. search own-begin))
+    (search needs) (λ c κs. omega arith) (λ c. omega arith) loop-again (search needs) (λ c. search own-end))

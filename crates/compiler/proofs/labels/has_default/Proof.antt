@@ -14,37 +14,28 @@ Inv-loop s from end at₀ at = (ls : List Label) → Row (LabelAt s) s end from 
 abbrev μ-loop : tie.MeasureT-loop
 μ-loop s from end at₀ at = end - at
 
-loop-holds : tie.Need-loop-holds Inv-loop μ-loop
-loop-holds c = λ ls r. among-begin (c .before .args .s .now) (c .before .args .end) ls r
-
-next-item-requires : tie.Need-next-item-requires Inv-loop μ-loop
-next-item-requires c κs = search needs
-
-one-case-requires : tie.Need-one-case-requires Inv-loop μ-loop
-one-case-requires c κs = search needs
-
 returns : tie.Need-returns Inv-loop μ-loop
-returns c = record { by = λ ls r. among-found (c .before .before .before .before .before .before .args .s .now) (c .before .before .before .before .before .before .args .end) (c .before .before .before .loop-test .taken) (c .before .before .next-item .ensures) (c .before .one-case .ensures) (c .if1 .taken) ls (c .before .before .before .before .loop .inv ls r) }
-
-loop-less : tie.Need-loop-less Inv-loop μ-loop
-loop-less c = omega (arith, c .before .before .before .loop-test .taken, c .before .before .next-item .ensures .further)
+returns c =
+    record {
+      by = λ ls r. among-found (c .before .before .before .before .before .before .args .s .now)
+          (c .before .before .before .before .before .before .args .end) (c .before .before .before .loop-test .taken)
+          (c .before .before .next-item .ensures) (c .before .one-case .ensures) (c .if1 .taken) ls (c .before .before .before .before .loop .inv ls r);
+    }
 
 loop-again : tie.Need-loop-again Inv-loop μ-loop
-loop-again c = λ ls r. among-next (c .before .before .before .before .before .before .args .s .now) (c .before .before .before .before .before .before .args .end) (c .before .before .before .loop-test .taken) (c .before .before .next-item .ensures) (c .before .one-case .ensures) (c .if1 .left) ls (c .before .before .before .before .loop .inv ls r)
+loop-again c =
+    λ ls r. among-next (c .before .before .before .before .before .before .args .s .now)
+    (c .before .before .before .before .before .before .args .end) (c .before .before .before .loop-test .taken)
+    (c .before .before .next-item .ensures) (c .before .one-case .ensures) (c .if1 .left) ls (c .before .before .before .before .loop .inv ls r)
 
 returns-2 : tie.Need-returns-2 Inv-loop μ-loop
-returns-2 c = record { by = λ ls r. among-end (c .before .before .before .args .s .now) (c .before .before .before .args .end) (c .loop-test .left) ls (c .before .loop .inv ls r) }
+returns-2 c =
+    record {
+      by = λ ls r. among-end (c .before .before .before .args .s .now) (c .before .before .before .args .end) (c .loop-test .left) ls
+          (c .before .loop .inv ls r);
+    }
 
 pub has-default-spec : {M : Type 1} → statement M
 has-default-spec =
-    tie.close
-    (tie.spec
-    Inv-loop
-    μ-loop
-    loop-holds
-    next-item-requires
-    one-case-requires
-    returns
-    loop-less
-    loop-again
-    returns-2)
+    tie.close (tie.spec Inv-loop μ-loop (λ c. λ ls r. search among-begin)
+    (search needs) (search needs) returns (λ c. omega arith) loop-again returns-2)

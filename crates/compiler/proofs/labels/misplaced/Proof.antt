@@ -12,33 +12,13 @@ Inv-loop source s from end top at₀ r₀ at r = (y : ReadyMisplaced s from end 
 abbrev μ-loop : tie.MeasureT-loop
 μ-loop source s from end top at₀ r₀ at r = end - at
 
-loop-holds : tie.Need-loop-holds Inv-loop μ-loop
-loop-holds c = λ y. misplaced-begin (c .before .before .args .source .now) (c .before .before .args .st) y
-
-next-item-requires : tie.Need-next-item-requires Inv-loop μ-loop
-next-item-requires c κs = search needs
-
-misplaced-label-requires : tie.Need-misplaced-label-requires Inv-loop μ-loop
-misplaced-label-requires c κs = omega (arith, c .next-item .ensures .within)
-
-loop-less : tie.Need-loop-less Inv-loop μ-loop
-loop-less c = omega (arith, c .before .before .loop-test .taken, c .before .next-item .ensures .further)
-
 loop-again : tie.Need-loop-again Inv-loop μ-loop
-loop-again c = λ y. misplaced-next (c .before .before .before .before .before .before .args .source .now) (c .before .before .before .before .before .before .args .st) (c .before .before .loop-test .taken) (c .before .next-item .ensures) (c .misplaced-label .ensures) y (c .before .before .before .loop .inv y)
-
-returns : tie.Need-returns Inv-loop μ-loop
-returns c = misplaced-end (c .before .before .before .before .args .source .now) (c .before .before .before .before .args .st) (c .loop-test .left) (c .before .loop .inv)
+loop-again c =
+    λ y. misplaced-next (c .before .before .before .before .before .before .args .source .now)
+    (c .before .before .before .before .before .before .args .st) (c .before .before .loop-test .taken) (c .before .next-item .ensures)
+    (c .misplaced-label .ensures) y (c .before .before .before .loop .inv y)
 
 pub misplaced-spec : {M : Type 1} → statement M
 misplaced-spec =
-    tie.close
-    (tie.spec
-    Inv-loop
-    μ-loop
-    loop-holds
-    next-item-requires
-    misplaced-label-requires
-    loop-less
-    loop-again
-    returns)
+    tie.close (tie.spec Inv-loop μ-loop (λ c. λ y. search misplaced-begin)
+    (search needs) (λ c κs. omega arith) (λ c. omega arith) loop-again (λ c. search misplaced-end))

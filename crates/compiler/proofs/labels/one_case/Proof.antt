@@ -3,17 +3,5 @@ use borrow.Author.Needs.{needs}
 use Rattle.compiler.proofs.labels.one_case.Statement.{statement}
 use Rattle.compiler.proofs.labels.one_case.Tie as tie
 
-less-requires : tie.Need-less-requires
-less-requires c κs = search needs
-
-entry-requires : tie.Need-entry-requires
-entry-requires c κs = search needs
-
-returns : tie.Need-returns
-returns c = one-case-is (c .before .before .less .ensures) (c .before .entry .ensures .0) (c .if1 .taken)
-
-returns-2 : tie.Need-returns-2
-returns-2 c = one-case-not (c .before .before .less .ensures) (c .before .entry .ensures .0) (c .if1 .left)
-
 pub one-case-spec : {M : Type 1} → statement M
-one-case-spec = tie.close (tie.spec less-requires entry-requires returns returns-2)
+one-case-spec = tie.close (tie.spec (search needs) (search needs) (λ c. search one-case-is) (λ c. search one-case-not))

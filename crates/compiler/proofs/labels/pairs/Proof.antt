@@ -9,42 +9,27 @@ use Rattle.compiler.proofs.labels.pairs.Statement.{statement}
 use Rattle.compiler.proofs.labels.pairs.Tie as tie
 
 abbrev Inv-loop : tie.InvT-loop
-Inv-loop source s from end top text₀ k at₀ r₀ text at r = (length text ≡ length text₀) × Still r₀ r × ((y : Listed (LabelAt s) s from end top) → Sound source (y .scope) (y .all) → PairsPart source k text₀ r₀ y text at r)
+Inv-loop source s from end top text₀ k at₀ r₀ text at r =
+    (length text ≡ length text₀) × Still r₀ r ×
+    ((y : Listed (LabelAt s) s from end top) → Sound source (y .scope) (y .all) → PairsPart source k text₀ r₀ y text at r)
 
 abbrev μ-loop : tie.MeasureT-loop
 μ-loop source s from end top text₀ k at₀ r₀ text at r = end - at
 
-loop-holds : tie.Need-loop-holds Inv-loop μ-loop
-loop-holds c = (refl, still-here, λ y so. pairs-begin (c .before .before .before .args .source .now) (c .before .before .before .args .k) (c .before .before .before .args .text .now) (c .before .before .before .args .st) y so)
-
-next-item-requires : tie.Need-next-item-requires Inv-loop μ-loop
-next-item-requires c κs = search needs
-
-pair-requires : tie.Need-pair-requires Inv-loop μ-loop
-pair-requires c κs = omega (arith, c .before .next-item .ensures .within)
-
-loop-less : tie.Need-loop-less Inv-loop μ-loop
-loop-less c = omega (arith, c .before .before .before .before .before .loop-test .taken, c .before .before .before .before .next-item .ensures .further)
-
 loop-again : tie.Need-loop-again Inv-loop μ-loop
-loop-again c = (c .before .before .pair .kept .1 .1 .1 .1 .0 ∙ c .before .before .before .before .before .before .loop .inv .0, still-then (c .before .before .before .before .before .before .loop .inv .1) (c .before .before .pair .ensures .still), λ y so. pairs-next (c .before .before .before .before .before .before .before .before .before .before .args .source .now) (c .before .before .before .before .before .before .before .before .before .before .args .k) (c .before .before .before .before .before .before .before .before .before .before .args .text .now) (c .before .before .before .before .before .before .before .before .before .before .args .st) (c .before .before .before .before .before .loop-test .taken) (c .before .before .before .before .next-item .ensures) (c .before .before .pair .ensures) y (c .before .before .before .before .before .before .loop .inv .2 y so))
-
-same-length : tie.Need-same-length Inv-loop μ-loop
-same-length c = search needs
-
-returns : tie.Need-returns Inv-loop μ-loop
-returns c = pairs-end (c .before .before .before .before .before .args .source .now) (c .before .before .before .before .before .args .k) (c .before .before .before .before .before .args .text .now) (c .before .before .before .before .before .args .st) (c .loop-test .left) (c .before .loop .inv .1) (c .before .loop .inv .2)
+loop-again c = (
+  c .before .before .pair .kept .1 .1 .1 .1 .0 ∙ c .before .before .before .before .before .before .loop .inv .0,
+  search still-then,
+  λ y so.
+      pairs-next (c .before .before .before .before .before .before .before .before .before .before .args .source .now)
+      (c .before .before .before .before .before .before .before .before .before .before .args .k)
+      (c .before .before .before .before .before .before .before .before .before .before .args .text .now)
+      (c .before .before .before .before .before .before .before .before .before .before .args .st)
+      (c .before .before .before .before .before .loop-test .taken) (c .before .before .before .before .next-item .ensures)
+      (c .before .before .pair .ensures) y (c .before .before .before .before .before .before .loop .inv .2 y so),
+)
 
 pub pairs-spec : {M : Type 1} → statement M
 pairs-spec =
-    tie.close
-    (tie.spec
-    Inv-loop
-    μ-loop
-    loop-holds
-    next-item-requires
-    pair-requires
-    loop-less
-    loop-again
-    same-length
-    returns)
+    tie.close (tie.spec Inv-loop μ-loop (λ c. (refl, still-here, λ y so. search pairs-begin))
+    (search needs) (λ c κs. omega arith) (λ c. omega arith) loop-again (search needs) (λ c. search pairs-end))

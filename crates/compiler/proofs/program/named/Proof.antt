@@ -6,21 +6,16 @@ use Rattle.compiler.proofs.Levels.{items-flat}
 use Rattle.compiler.proofs.program.named.Statement.{statement}
 use Rattle.compiler.proofs.program.named.Tie as tie
 
--- src/program.rt:106:9
-items-requires : tie.Need-items-requires
-items-requires c κs = search needs
-
--- src/program.rt:112:20
-level-requires : tie.Need-level-requires
-level-requires c κs = search needs
-
--- src/program.rt:95:1
-same-length : tie.Need-same-length
-same-length c = search needs
-
 -- src/program.rt:95:1
 returns : tie.Need-returns
-returns c = record { known = items-flat (c .before .before .before .before .before .before .before .pre .1) (c .level .ensures) (c .before .before .before .items .ensures); low = ap (λ (z : State). z .high) (c .level .ensures); functions = refl; tall = refl }
+returns c =
+    record {
+      known = items-flat (c .before .before .before .before .before .before .before .pre .1) (c .level .ensures)
+          (c .before .before .before .items .ensures);
+      low = ap (λ (z : State). z .high) (c .level .ensures);
+      functions = refl;
+      tall = refl;
+    }
 
 pub named-spec : {M : Type 1} → statement M
-named-spec = tie.close (tie.spec items-requires level-requires same-length returns)
+named-spec = tie.close (tie.spec (λ c κs. search needs) (λ c κs. search needs) (λ c. search needs) returns)

@@ -4,20 +4,12 @@ use lib.ListN.{List·getD-eq-default}
 use borrow.Author.Needs.{needs}
 use Rattle.compiler.proofs.scope.byte_at.Statement.{statement}
 use Rattle.compiler.proofs.scope.byte_at.Tie as tie
-use Rattle.compiler.proofs.scope.byte_at.Reads as reads
-use Rattle.compiler.proofs.scope.byte_at.Lts as lts
-
-shared-slice-read-result : tie.Need-shared-slice-read-result
-shared-slice-read-result c = search needs
 
 cast-result : tie.Need-cast-result
 cast-result c = omega (arith, c .shared-slice-known .given (c .before .before .args .i))
-
-returns : tie.Need-returns
-returns c = search needs
 
 returns-2 : tie.Need-returns-2
 returns-2 c = sym (List·getD-eq-default (c .before .args .source .now) 0 {n = c .before .args .i} (omega arith))
 
 pub byte-at-spec : {M : Type 1} → statement M
-byte-at-spec = tie.close (tie.spec shared-slice-read-result cast-result returns returns-2)
+byte-at-spec = tie.close (tie.spec (search needs) cast-result (search needs) returns-2)

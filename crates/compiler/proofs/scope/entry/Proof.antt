@@ -4,14 +4,6 @@ use lib.ListN.{List·getD-eq-default}
 use borrow.Author.Needs.{needs}
 use Rattle.compiler.proofs.scope.entry.Statement.{statement}
 use Rattle.compiler.proofs.scope.entry.Tie as tie
-use Rattle.compiler.proofs.scope.entry.Reads as reads
-use Rattle.compiler.proofs.scope.entry.Lts as lts
-
-mul-result : tie.Need-mul-result
-mul-result c = search needs
-
-shared-slice-read-result : tie.Need-shared-slice-read-result
-shared-slice-read-result c = search needs
 
 cast-result : tie.Need-cast-result
 cast-result c = omega (arith, c .shared-slice-known .given (c .before .before .args .i))
@@ -23,4 +15,4 @@ returns-2 : tie.Need-returns-2
 returns-2 c = (sym (List·getD-eq-default (c .before .args .s .now) 0 {n = c .before .args .i} (omega arith)), omega arith)
 
 pub entry-spec : {M : Type 1} → statement M
-entry-spec = tie.close (tie.spec mul-result shared-slice-read-result cast-result returns returns-2)
+entry-spec = tie.close (tie.spec (search needs) (search needs) cast-result returns returns-2)

@@ -1,28 +1,23 @@
-use mathlib.Core.Bool.{Bool, true, false}
-use Prim.Native.Nat.{ℕ, _≤_, _<_, _+_, _-_}
-use mathlib.Core.Path.{_≡_, sym, ap, _∙_}
+use Prim.Native.Nat.{_≤_}
+use mathlib.Core.Path.{sym, ap, _∙_}
 use native.Mathlib.Omega.{arith}
 use borrow.Author.Needs.{needs}
-use Rattle.language.specs.Names.{Scope, lookup, inBlock}
-use Rattle.compiler.specs.Scope.{Shows, nameAt, found, Looked, Told}
-use Rattle.compiler.proofs.Scoping.{shows-low, Left, left-all, left-then, at-outer, at-open, at-other, at-found, in-outer, in-open, in-other, in-found}
+use Rattle.language.specs.Names.{Scope, lookup}
+use Rattle.compiler.specs.Scope.{Shows, nameAt, found}
+use Rattle.compiler.proofs.Scoping.{shows-low, Left, left-all, left-then, at-outer, at-open, at-other, at-found}
 use Rattle.compiler.proofs.scope.lookup.Statement.{statement}
 use Rattle.compiler.proofs.scope.lookup.Tie as tie
-use Rattle.compiler.proofs.scope.lookup.Reads as reads
-use Rattle.compiler.proofs.scope.lookup.Lts as lts
-use Rattle.compiler.proofs.scope.entry.Reads as entry-reads
-use Rattle.compiler.proofs.scope.last_byte.Reads as last-byte-reads
-use Rattle.compiler.proofs.scope.stacked.Reads as stacked-reads
-use Rattle.compiler.proofs.scope.spelt.Reads as spelt-reads
 
 abbrev Inv-loop : tie.InvT-loop
-Inv-loop source s top leaf width place last at₀ at = (at ≤ at₀) × (at ≤ top) × ((sc : Scope) → Shows s top sc → Left (λ (k : Scope). lookup source k (nameAt s leaf)) s at sc)
+Inv-loop source s top leaf width place last at₀ at =
+    (at ≤ at₀) × (at ≤ top) × ((sc : Scope) → Shows s top sc → Left (λ (k : Scope). lookup source k (nameAt s leaf)) s at sc)
 
 abbrev μ-loop : tie.MeasureT-loop
 μ-loop source s top leaf width place last at₀ at = at
 
 abbrev Inv-search : tie.InvT-search
-Inv-search source s top leaf width place last at₀ at = (at ≤ top) × ((sc : Scope) → Shows s top sc → Left (λ (k : Scope). lookup source k (nameAt s leaf)) s at sc)
+Inv-search source s top leaf width place last at₀ at =
+    (at ≤ top) × ((sc : Scope) → Shows s top sc → Left (λ (k : Scope). lookup source k (nameAt s leaf)) s at sc)
 
 abbrev μ-search : tie.MeasureT-search
 μ-search source s top leaf width place last at₀ at = at
@@ -30,89 +25,55 @@ abbrev μ-search : tie.MeasureT-search
 returns : tie.Need-returns Inv-loop μ-loop Inv-search μ-search
 returns c = (record { by = λ sc h. absurd (omega (arith, c .if1 .taken, shows-low h)) }, omega arith)
 
-add-entry : tie.Need-add-entry Inv-loop μ-loop Inv-search μ-search
-add-entry c = search needs
-
-entry-requires : tie.Need-entry-requires Inv-loop μ-loop Inv-search μ-search
-entry-requires c κs = search needs
-
-add-entry-2 : tie.Need-add-entry-2 Inv-loop μ-loop Inv-search μ-search
-add-entry-2 c = search needs
-
-entry-requires-2 : tie.Need-entry-requires-2 Inv-loop μ-loop Inv-search μ-search
-entry-requires-2 c κs = search needs
-
-last-byte-requires : tie.Need-last-byte-requires Inv-loop μ-loop Inv-search μ-search
-last-byte-requires c κs = (c .entry2 .ensures .1, c .before .entry .ensures .1)
-
-search-holds : tie.Need-search-holds Inv-loop μ-loop Inv-search μ-search
-search-holds c = (omega arith, λ sc h. left-all _ sc h)
-
-loop-holds : tie.Need-loop-holds Inv-loop μ-loop Inv-search μ-search
-loop-holds c = (omega arith, c .search .inv .0, c .search .inv .1)
-
 returns-2 : tie.Need-returns-2 Inv-loop μ-loop Inv-search μ-search
 unfolding found
-returns-2 c = (record { by = λ sc h. let l = c .before .loop .inv .2 sc h in sym (ap found (l .same ∙ at-outer (c .before .before .before .before .before .before .before .before .before .args .source .now) (c .before .before .before .before .before .before .before .before .before .args .s .now) (c .before .before .before .before .before .before .before .before .before .args .leaf) (c .before .loop .at) (l .shows) (c .if2 .taken))) }, omega arith)
-
-add-stacked : tie.Need-add-stacked Inv-loop μ-loop Inv-search μ-search
-add-stacked c = omega arith
-
-stacked-requires : tie.Need-stacked-requires Inv-loop μ-loop Inv-search μ-search
-stacked-requires c κs = omega (arith, c .before .before .before .before .before .before .if1 .left, c .before .loop .inv)
-
-search-less : tie.Need-search-less Inv-loop μ-loop Inv-search μ-search
-search-less c = omega arith
+returns-2 c = (
+  record
+      { by = λ sc h. let l = c .before .loop .inv .2 sc h in sym (ap found (l .same ∙ at-outer (c .before .before .before .before .before .before .before .before .before .args .source .now) (c .before .before .before .before .before .before .before .before .before .args .s .now) (c .before .before .before .before .before .before .before .before .before .args .leaf) (c .before .loop .at) (l .shows) (c .if2 .taken))) },
+  omega arith,
+)
 
 search-again : tie.Need-search-again Inv-loop μ-loop Inv-search μ-search
-search-again c = (omega arith, λ sc h. let l = c .before .before .before .loop .inv .2 sc h in left-then _ sc l (at-open (c .before .before .before .before .before .before .before .before .before .before .before .args .source .now) (c .before .before .before .before .before .before .before .before .before .before .before .args .s .now) (c .before .before .before .before .before .before .before .before .before .before .before .args .leaf) (c .before .before .before .loop .at) (c .before .before .if2 .left) (c .before .stacked .ensures .0) (l .shows) (c .if3 .taken)))
-
-stacked-requires-2 : tie.Need-stacked-requires-2 Inv-loop μ-loop Inv-search μ-search
-stacked-requires-2 c κs = omega (arith, c .before .before .before .before .before .before .before .before .if1 .left, c .before .before .before .loop .inv)
+search-again c = (
+  omega arith,
+  λ sc h. let l = c .before .before .before .loop .inv .2 sc h in left-then _ sc l
+      (at-open (c .before .before .before .before .before .before .before .before .before .before .before .args .source .now)
+      (c .before .before .before .before .before .before .before .before .before .before .before .args .s .now)
+      (c .before .before .before .before .before .before .before .before .before .before .before .args .leaf)
+      (c .before .before .before .loop .at) (c .before .before .if2 .left) (c .before .stacked .ensures .0) (l .shows) (c .if3 .taken)),
+)
 
 spelt-requires : tie.Need-spelt-requires Inv-loop μ-loop Inv-search μ-search
-spelt-requires c κs = (c .stacked2 .ensures .1, c .before .before .before .before .before .before .before .entry2 .ensures .1, c .before .before .before .before .before .before .before .before .entry .ensures .1, c .before .before .before .before .before .before .last-byte .ensures)
-
-loop-less : tie.Need-loop-less Inv-loop μ-loop Inv-search μ-search
-loop-less c = omega arith
+spelt-requires c κs = (c .stacked2 .ensures .1, search needs, search needs, search needs)
 
 loop-again : tie.Need-loop-again Inv-loop μ-loop Inv-search μ-search
-loop-again c = (omega arith, omega arith, λ sc h. let l = c .before .before .before .before .before .before .loop .inv .2 sc h in left-then _ sc l (at-other (c .before .before .before .before .before .before .before .before .before .before .before .before .before .before .args .source .now) (c .before .before .before .before .before .before .before .before .before .before .before .before .before .before .args .s .now) (c .before .before .before .before .before .before .before .before .before .before .before .before .before .before .args .leaf) (c .before .before .before .before .before .before .loop .at) (c .before .before .before .before .before .if2 .left) (c .before .before .before .before .stacked .ensures .0) (c .before .before .before .if3 .left) (c .before .before .stacked2 .ensures .0) (c .before .before .before .before .before .before .before .before .before .before .entry .ensures .0) (c .before .before .before .before .before .before .before .before .before .entry2 .ensures .0) (l .shows) (sym (c .if4 .left) ∙ c .before .spelt .ensures)))
-
-add-stacked-2 : tie.Need-add-stacked-2 Inv-loop μ-loop Inv-search μ-search
-add-stacked-2 c = omega arith
-
-stacked-requires-3 : tie.Need-stacked-requires-3 Inv-loop μ-loop Inv-search μ-search
-stacked-requires-3 c κs = omega (arith, c .before .before .before .before .before .before .before .before .before .before .before .if1 .left, c .before .before .before .before .before .before .loop .inv)
+loop-again c = (
+  omega arith,
+  omega arith,
+  λ sc h. let l = c .before .before .before .before .before .before .loop .inv .2 sc h in left-then _ sc l
+      (at-other
+      (c .before .before .before .before .before .before .before .before .before .before .before .before .before .before .args .source .now)
+      (c .before .before .before .before .before .before .before .before .before .before .before .before .before .before .args .s .now)
+      (c .before .before .before .before .before .before .before .before .before .before .before .before .before .before .args .leaf)
+      (c .before .before .before .before .before .before .loop .at) (c .before .before .before .before .before .if2 .left)
+      (c .before .before .before .before .stacked .ensures .0) (c .before .before .before .if3 .left) (c .before .before .stacked2 .ensures .0)
+      (c .before .before .before .before .before .before .before .before .before .before .entry .ensures .0)
+      (c .before .before .before .before .before .before .before .before .before .entry2 .ensures .0) (l .shows)
+      (sym (c .if4 .left) ∙ c .before .spelt .ensures)),
+)
 
 returns-3 : tie.Need-returns-3 Inv-loop μ-loop Inv-search μ-search
-returns-3 c = (record { by = λ sc h. let l = c .before .before .before .before .before .before .before .loop .inv .2 sc h in at-found (c .before .before .before .before .before .before .before .before .before .before .before .before .before .before .before .args .source .now) (c .before .before .before .before .before .before .before .before .before .before .before .before .before .before .before .args .s .now) (c .before .before .before .before .before .before .before .before .before .before .before .before .before .before .before .args .leaf) (c .before .before .before .before .before .before .before .loop .at) (c .before .before .before .before .before .before .if2 .left) (c .stacked3 .ensures .0) (λ e. c .before .before .before .before .if3 .left (c .before .before .before .before .before .stacked .ensures .0 ∙ sym (c .stacked3 .ensures .0) ∙ e)) (c .before .before .before .stacked2 .ensures .0) (c .before .before .before .before .before .before .before .before .before .before .before .entry .ensures .0) (c .before .before .before .before .before .before .before .before .before .before .entry2 .ensures .0) (l .shows) (sym (c .before .if4 .taken) ∙ c .before .before .spelt .ensures) ∙ ap found (sym (l .same)) }, c .stacked3 .ensures .1)
+returns-3 c = (
+  record
+      { by = λ sc h. let l = c .before .before .before .before .before .before .before .loop .inv .2 sc h in at-found (c .before .before .before .before .before .before .before .before .before .before .before .before .before .before .before .args .source .now) (c .before .before .before .before .before .before .before .before .before .before .before .before .before .before .before .args .s .now) (c .before .before .before .before .before .before .before .before .before .before .before .before .before .before .before .args .leaf) (c .before .before .before .before .before .before .before .loop .at) (c .before .before .before .before .before .before .if2 .left) (c .stacked3 .ensures .0) (λ e. c .before .before .before .before .if3 .left (c .before .before .before .before .before .stacked .ensures .0 ∙ sym (c .stacked3 .ensures .0) ∙ e)) (c .before .before .before .stacked2 .ensures .0) (c .before .before .before .before .before .before .before .before .before .before .before .entry .ensures .0) (c .before .before .before .before .before .before .before .before .before .before .entry2 .ensures .0) (l .shows) (sym (c .before .if4 .taken) ∙ c .before .before .spelt .ensures) ∙ ap found (sym (l .same)) },
+  c .stacked3 .ensures .1,
+)
 
 pub lookup-spec : {M : Type 1} → statement M
 lookup-spec =
     tie.close
-    (tie.spec
-    Inv-loop
-    μ-loop
-    Inv-search
-    μ-search
-    returns
-    add-entry
-    entry-requires
-    add-entry-2
-    entry-requires-2
-    last-byte-requires
-    search-holds
-    loop-holds
-    returns-2
-    add-stacked
-    stacked-requires
-    search-less
-    search-again
-    stacked-requires-2
-    spelt-requires
-    loop-less
-    loop-again
-    add-stacked-2
-    stacked-requires-3
-    returns-3)
+    (tie.spec Inv-loop μ-loop Inv-search μ-search returns (search needs) (search needs) (search needs) (search needs)
+    (λ c _. (c .entry2 .ensures .1, c .before .entry .ensures .1)) (λ c. (omega arith, λ sc h. left-all _ sc h))
+    (λ c. (omega arith, c .search .inv .0, c .search .inv .1)) returns-2 (λ c. omega arith) (λ c κs. omega arith)
+    (λ c. omega arith) search-again (λ c κs. omega arith) spelt-requires (λ c. omega arith) loop-again
+    (λ c. omega arith) (λ c κs. omega arith) returns-3)

@@ -4,56 +4,39 @@ use Rattle.compiler.proofs.Sides.{of-local, of-global, of-unknown, of-o
 use borrow.Author.Needs.{needs}
 use Rattle.compiler.proofs.steps.name_address.Statement.{statement}
 use Rattle.compiler.proofs.steps.name_address.Tie as tie
-use Rattle.compiler.proofs.steps.name_address.Reads as reads
-use Rattle.compiler.proofs.steps.name_address.Lts as lts
-use Rattle.compiler.proofs.steps.put.Reads as put-reads
-use Rattle.compiler.proofs.steps.wrong.Reads as wrong-reads
-
-put-requires : tie.Need-put-requires
-put-requires c κs = search needs
-
-put-requires-2 : tie.Need-put-requires-2
-put-requires-2 c κs = search needs
-
-wrong-requires : tie.Need-wrong-requires
-wrong-requires c κs = search needs
-
-wrong-requires-2 : tie.Need-wrong-requires-2
-wrong-requires-2 c κs = search needs
 
 returns : tie.Need-returns
-returns c = record { by = of-unknown sayAddress (c .before .before .before .before .before .args .name) (c .before .before .before .before .before .args .place) (c .before .before .if1 .taken) (c .before .wrong .ensures) (c .wrong2 .ensures) refl }
-
-wrong-requires-3 : tie.Need-wrong-requires-3
-wrong-requires-3 c κs = search needs
-
-same-length : tie.Need-same-length
-same-length c = search needs
+returns c =
+    record {
+      by = of-unknown sayAddress (c .before .before .before .before .before .args .name) (c .before .before .before .before .before .args .place)
+          (c .before .before .if1 .taken) (c .before .wrong .ensures) (c .wrong2 .ensures) refl;
+    }
 
 returns-2 : tie.Need-returns-2
-returns-2 c = record { by = of-local sayAddress (c .before .before .before .before .before .before .args .name) (c .before .before .before .before .before .before .args .place) G.LP local-address (c .before .before .before .before .match .keys1) (c .before .before .put .ensures) }
-
-same-length-2 : tie.Need-same-length-2
-same-length-2 c = search needs
+returns-2 c =
+    record {
+      by = of-local sayAddress (c .before .before .before .before .before .before .args .name)
+          (c .before .before .before .before .before .before .args .place) G.LP local-address (c .before .before .before .before .match .keys1)
+          (c .before .before .put .ensures);
+    }
 
 returns-3 : tie.Need-returns-3
-returns-3 c = record { by = of-global sayAddress (c .before .before .before .before .before .before .args .name) (c .before .before .before .before .before .before .args .place) G.LG global-address (c .before .before .before .before .match .keys2) (c .before .before .put2 .ensures) }
+returns-3 c =
+    record {
+      by = of-global sayAddress (c .before .before .before .before .before .before .args .name)
+          (c .before .before .before .before .before .before .args .place) G.LG global-address (c .before .before .before .before .match .keys2)
+          (c .before .before .put2 .ensures);
+    }
 
 returns-4 : tie.Need-returns-4
-returns-4 c = record { by = of-other sayAddress (c .before .before .before .before .args .name) (c .before .before .before .before .args .place) (c .before .before .match .rest .0 .1) (c .before .before .match .rest .1) (c .before .if1 .left) (c .wrong3 .ensures) refl }
+returns-4 c =
+    record {
+      by = of-other sayAddress (c .before .before .before .before .args .name) (c .before .before .before .before .args .place)
+          (c .before .before .match .rest .0 .1) (c .before .before .match .rest .1) (c .before .if1 .left) (c .wrong3 .ensures) refl;
+    }
 
 pub name-address-spec : {M : Type 1} → statement M
 name-address-spec =
     tie.close
-    (tie.spec
-    put-requires
-    put-requires-2
-    wrong-requires
-    wrong-requires-2
-    returns
-    wrong-requires-3
-    same-length
-    returns-2
-    same-length-2
-    returns-3
-    returns-4)
+    (tie.spec (search needs) (search needs) (search needs) (search needs) returns (search needs) (search needs)
+    returns-2 (search needs) returns-3 returns-4)

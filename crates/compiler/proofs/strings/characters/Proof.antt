@@ -15,9 +15,6 @@ Inv-loop source from text₀ at i₀ x₀ text i x = (length text ≡ length tex
 abbrev μ-loop : tie.MeasureT-loop
 μ-loop source from text₀ at i₀ x₀ text i x = length source - i
 
-loop-holds : tie.Need-loop-holds Inv-loop μ-loop
-loop-holds c = (refl, spelling-begin)
-
 add-i : tie.Need-add-i Inv-loop μ-loop
 add-i c =
     let source = c .before .before .before .before .before .before .before .before .before .before .before .args .source .now in
@@ -34,17 +31,10 @@ loop-less c =
     (c .before .before .before .before .before .one .given .1) in
     omega (arith, is-inside 34 source i one)
 
-loop-again : tie.Need-loop-again Inv-loop μ-loop
-loop-again c = (search needs, search (spelling-next, when-is))
-
-returns : tie.Need-returns Inv-loop μ-loop
-returns c = search (spelling-end, when-closing)
-
-returns-2 : tie.Need-returns-2 Inv-loop μ-loop
-returns-2 c = search (spelling-bad, when-bad)
-
 pub characters-spec : {M : Type 1} → statement M
 characters-spec =
-    tie.close
-    (tie.spec Inv-loop μ-loop loop-holds (search needs) (search needs) (search needs) add-i loop-less loop-again (search needs) (search needs)
-    returns (search needs) (search needs) returns-2)
+    tie.close (tie.spec Inv-loop μ-loop (λ _. (refl, spelling-begin))
+    (search needs) (search needs) (search needs) add-i loop-less
+    (λ c. (search needs, search (spelling-next, when-is)))
+    (search needs) (search needs) (λ c. search (spelling-end, when-closing))
+    (search needs) (search needs) (λ c. search (spelling-bad, when-bad)))

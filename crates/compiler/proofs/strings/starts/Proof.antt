@@ -12,11 +12,8 @@ Inv-loop table functions text₀ at x₀ k₀ text x k = (length text ≡ length
 abbrev μ-loop : tie.MeasureT-loop
 μ-loop table functions text₀ at x₀ k₀ text x k = functions - k
 
-loop-again : tie.Need-loop-again Inv-loop μ-loop
-loop-again c = (search needs, search starts-next)
-
 pub starts-spec : {M : Type 1} → statement M
 starts-spec =
-    tie.close
-    (tie.spec Inv-loop μ-loop (λ c. (refl, starts-begin)) (search needs) (search needs) (search needs) (search needs) loop-again (search needs)
-    (λ c. search starts-end))
+    tie.close (tie.spec Inv-loop μ-loop (λ c. (refl, starts-begin))
+    (search needs) (search needs) (search needs) (search needs) (λ c. (search needs, search starts-next))
+    (search needs) (λ c. search starts-end))

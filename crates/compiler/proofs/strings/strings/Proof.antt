@@ -17,22 +17,22 @@ abbrev μ-loop : tie.MeasureT-loop
 add-number : tie.Need-add-number Inv-loop μ-loop
 add-number c =
     let entry = c .before .before .before .before .before .before .entry in
-    let loop = c .before .before .before .before .before .before .before .before .loop in
-    omega (arith, c .one-if .ensures, oneIf-small (entry .result), loop .inv .1)
+    omega (arith, oneIf-small (entry .result))
 
 loop-again : tie.Need-loop-again Inv-loop μ-loop
 loop-again c =
     let entry = c .before .before .before .before .before .before .entry in
     let loop = c .before .before .before .before .before .before .before .before .loop in (
       search needs,
-      omega (arith, c .one-if .ensures, oneIf-small (entry .result), loop .inv .1),
-      listing-next (c .before .before .before .before .before .before .before .loop-test .taken)
-          (entry .ensures .0) (c .before .before .before .before .before .entry2 .ensures .0) (c .one-if .ensures)
-          (c .before .before .before .string-symbol .ensures) (loop .inv .2),
+      omega (arith, oneIf-small (entry .result)),
+      listing-next
+          (c .before .before .before .before .before .before .before .loop-test .taken) (entry .ensures .0)
+          (c .before .before .before .before .before .entry2 .ensures .0) (c .one-if .ensures) (c .before .before .before .string-symbol .ensures)
+          (loop .inv .2),
     )
 
 pub strings-spec : {M : Type 1} → statement M
 strings-spec =
-    tie.close
-    (tie.spec Inv-loop μ-loop (λ c. (refl, omega arith, listing-begin)) (search needs) (search needs) (search needs) (search needs) (search needs)
-    (search needs) (search needs) add-number (search needs) (search needs) loop-again (search needs) (λ c. search listing-end))
+    tie.close (tie.spec Inv-loop μ-loop (λ c. (refl, omega arith, listing-begin))
+    (search needs) (search needs) (search needs) (search needs) (search needs) (search needs) (search needs)
+    add-number (search needs) (search needs) loop-again (search needs) (λ c. search listing-end))
