@@ -1,6 +1,8 @@
 pub mod Texts
 pub mod Shapes
 pub mod ExampleSymbols
+pub mod Candidates
+pub mod ExampleCandidates
 pub mod ExampleRefusals
 pub mod ExampleExpressions
 pub mod ExampleGrammar

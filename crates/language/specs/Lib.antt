@@ -1,6 +1,7 @@
 pub mod Bytes
 pub mod Kinds
 pub mod Symbols
+pub mod Candidates
 pub mod Brackets
 pub mod Strings
 pub mod Semicolons

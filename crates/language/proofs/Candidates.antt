@@ -1,0 +1,109 @@
+-- The candidates of a word (document 02, Req 03) alone decide its kind, and of no list of bytes are there more than three.
+use Prim.Native.Nat.{ℕ, suc, _≤_}
+use mathlib.Core.Path.{_≡_, refl, sym, _∙_}
+use mathlib.Core.Bool.{Bool, true, false, cond, _&&_}
+use mathlib.Core.List.{List, [], _∷_}
+use native.Mathlib.Omega.{arith}
+use lib.Dec.{eqb, leb, eqb·zero-suc, eqb·suc-zero}
+use lib.ListN.{length, getD}
+use borrow.Author.Tests.{eqb-true, leb-true}
+use Rattle.language.specs.Kinds.{Spelled, reserved}
+use Rattle.language.specs.Symbols.{begins, same, kindIn, kindOf}
+use Rattle.language.specs.Candidates.{alike, candidatesIn, candidates, comparedIn, compared}
+
+both-left : (a b : Bool) → (a && b) ≡ true → a ≡ true
+both-left true b e = refl
+both-left false b e = e
+
+both-right : (a b : Bool) → (a && b) ≡ true → b ≡ true
+both-right true b e = e
+both-right false b e = let z : _≡_ {A = ℕ} 0 1 = cc in absurd (omega arith)
+
+-- ---- the kind is that of the first candidate that is the same, or a name's
+
+-- what is the same is alike
+same-alike : (ss bs : List ℕ) → alike ss bs ≡ false → same ss bs ≡ false
+unfolding begins
+same-alike [] [] e = let z : _≡_ {A = ℕ} 0 1 = cc in absurd (omega arith)
+same-alike [] (b ∷ bs) e = rw (eqb·zero-suc (length bs))
+same-alike (s ∷ ss) [] e = rw (eqb·suc-zero (length ss))
+same-alike (s ∷ ss) (b ∷ bs) e = go (eqb s b) (eqb (length (s ∷ ss)) (length (b ∷ bs))) (begins ss bs) e
+  where
+    go : (first long rest : Bool) → (first && long) ≡ false → (long && (first && rest)) ≡ false
+    go true true rest e = let z : _≡_ {A = ℕ} 0 1 = cc in absurd (omega arith)
+    go true false rest e = refl
+    go false true rest e = refl
+    go false false rest e = refl
+
+-- by whether the first word is that of the bytes
+pub kind-cons : (w : Spelled) (ws : List Spelled) (bs : List ℕ) → kindIn (w ∷ ws) bs ≡ cond (same (w .spelling) bs) (w .kind) (kindIn ws bs)
+unfolding kindIn
+kind-cons w ws bs = by (same (w .spelling) bs)
+  where
+    by : (t : Bool) → elim t [ true ↦ w .kind | false ↦ kindIn ws bs ] ≡ cond t (w .kind) (kindIn ws bs)
+    by true = refl
+    by false = refl
+
+kind-in-candidates : (ws : List Spelled) (bs : List ℕ) → kindIn ws bs ≡ kindIn (candidatesIn ws bs) bs
+unfolding candidatesIn
+kind-in-candidates [] bs = refl
+kind-in-candidates (w ∷ ws) bs = go (alike (w .spelling) bs) refl (kind-in-candidates ws bs)
+  where
+    go : (t : Bool) → alike (w .spelling) bs ≡ t → kindIn ws bs ≡ kindIn (candidatesIn ws bs) bs
+        → kindIn (w ∷ ws) bs ≡ kindIn (cond t (w ∷ candidatesIn ws bs) (candidatesIn ws bs)) bs
+    go true e ih = kind-cons w ws bs ∙ rw ih (sym (kind-cons w (candidatesIn ws bs) bs))
+    go false e ih = kind-cons w ws bs ∙ rw (same-alike (w .spelling) bs e) ih
+
+pub kind-by-candidates : (bs : List ℕ) → kindOf bs ≡ kindIn (candidates bs) bs
+unfolding kindOf candidates
+kind-by-candidates bs = kind-in-candidates reserved bs
+
+-- ---- never more than three
+
+compared-within : (ws : List Spelled) (bs : List ℕ) → comparedIn ws bs ≤ length ws
+unfolding comparedIn
+compared-within [] bs = omega arith
+compared-within (w ∷ ws) bs = go (same (w .spelling) bs) (compared-within ws bs)
+  where
+    go : (t : Bool) → comparedIn ws bs ≤ length ws → suc (cond t 0 (comparedIn ws bs)) ≤ suc (length ws)
+    go true h = omega arith
+    go false h = omega arith
+
+-- bytes alike have the same candidates
+alike-candidates : (ws : List Spelled) (ss bs : List ℕ) → alike ss bs ≡ true → candidatesIn ws ss ≡ candidatesIn ws bs
+unfolding candidatesIn
+alike-candidates [] ss bs e = refl
+alike-candidates (w ∷ ws) ss bs e =
+    let first : getD ss 0 0 ≡ getD bs 0 0 = eqb-true _ _ (both-left _ _ e) in
+    let long : length ss ≡ length bs = eqb-true _ _ (both-right (eqb (getD ss 0 0) (getD bs 0 0)) _ e) in
+    rw (first, long, alike-candidates ws ss bs e)
+
+-- the test over the table: no word of it has more than three candidates
+abbrev few : List Spelled → Bool
+few [] = true
+few (w ∷ ws) = leb (length (candidates (w .spelling))) 3 && few ws
+
+abbrev Few : List ℕ → Type 0
+Few bs = length (candidates bs) ≤ 3
+
+-- one that is alike to a word of the table has its candidates; one that is alike to none has none
+few-candidates : (ws : List Spelled) (bs : List ℕ) → few ws ≡ true → (length (candidatesIn ws bs) ≤ 3 → Few bs) → Few bs
+unfolding candidatesIn candidates
+few-candidates [] bs t k = k (omega arith)
+few-candidates (w ∷ ws) bs t k =
+    go (alike (w .spelling) bs) refl k (λ k. few-candidates ws bs (both-right (leb (length (candidates (w .spelling))) 3) (few ws) t) k)
+  where
+    go : (a : Bool) → alike (w .spelling) bs ≡ a → (length (cond a (w ∷ candidatesIn ws bs) (candidatesIn ws bs)) ≤ 3 → Few bs)
+        → ((length (candidatesIn ws bs) ≤ 3 → Few bs) → Few bs) → Few bs
+    go true e k further =
+        let h : Few (w .spelling) = leb-true _ _ (both-left (leb (length (candidates (w .spelling))) 3) (few ws) t) in
+        rw (← alike-candidates reserved (w .spelling) bs e) h
+    go false e k further = further k
+
+at-most-three : (bs : List ℕ) → Few bs
+unfolding candidatesIn candidates reserved
+at-most-three bs = few-candidates reserved bs refl (λ k. k)
+
+pub compared-at-most-three : (bs : List ℕ) → compared bs ≤ 3
+unfolding compared
+compared-at-most-three bs = omega (arith, compared-within (candidates bs) bs, at-most-three bs)
