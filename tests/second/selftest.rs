@@ -11,7 +11,7 @@ use assembler::{assemble, Assembly};
 use grammar::read_source;
 use machine::{resume, run, Ran, Registers};
 use std::path::{Path, PathBuf};
-use symbols::{kind::*, read_symbols, Refusal, Symbol};
+use symbols::{compared, kind::*, read_symbols, Refusal, Symbol};
 
 const PROGRAM: usize = 416;
 
@@ -533,6 +533,30 @@ fn reading_s9_lines() {
 fn reading_s10_then_and_characters() {
     assert_eq!(symbols_of("THEN DO"), [(DO, 4, 0), (DO, 2, 5)]);
     reads("MANIFEST $( A = 'A'; B = -'*N' $) LET F() BE $( LET V = VEC 'A'; IF A THEN BREAK $)");
+}
+
+/// How many words are compared whole. Five reserved words share length and first letter with one before them.
+#[test]
+fn reading_s11_words_compared() {
+    for (word, _) in symbols::WORDS {
+        let count = match word {
+            "BY" | "TEST" | "REPEATUNTIL" | "RETURN" => 2,
+            "THEN" => 3,
+            _ => 1,
+        };
+        assert_eq!(compared(word.as_bytes()), count, "{word}");
+    }
+    for (count, names) in [
+        (0, "X READ REPEATWHILES FORT LE Q.1 Z TES THENS repeat"),
+        (1, "FALSX BREA1 LOOQ WH.LE UNTIM DEFAULU FINISG CALL IS DI OF"),
+        (2, "BZ B1 REPEA1 RESULT RETURM REPEATUNTIM REPEATWHILF"),
+        (3, "TIME TRUF TEXT THE. T000"),
+    ] {
+        for name in names.split(' ') {
+            assert_eq!(compared(name.as_bytes()), count, "{name}");
+        }
+    }
+    assert_eq!(compared(b""), 0);
 }
 
 #[test]

@@ -288,6 +288,16 @@ fn symbol(rest: &[u8]) -> Result<(u32, u32, usize), u64> {
     }
 }
 
+/// With how many reserved words a word is compared whole: those of its length and first letter, in the rules' order, as far as
+/// the word itself.
+#[allow(dead_code)]
+pub fn compared(word: &[u8]) -> usize {
+    let candidates = WORDS.iter().map(|(reserved, _)| reserved.as_bytes());
+    let mut candidates = candidates.filter(|reserved| reserved.len() == word.len() && reserved.first() == word.first());
+    let all = candidates.clone().count();
+    candidates.position(|reserved| reserved == word).map_or(all, |before| before + 1)
+}
+
 /// How many bytes at the beginning belong together.
 fn run(text: &[u8], belongs: impl Fn(u8) -> bool) -> usize {
     text.iter().position(|&byte| !belongs(byte)).unwrap_or(text.len())

@@ -9,13 +9,13 @@ use lib.ListN.{length, getD}
 use borrow.Author.Tests.{eqb-true, leb-true}
 use Rattle.language.specs.Kinds.{Spelled, reserved}
 use Rattle.language.specs.Symbols.{begins, same, kindIn, kindOf}
-use Rattle.language.specs.Candidates.{alike, candidatesIn, candidates, comparedIn, compared}
+use Rattle.language.specs.Candidates.{alike, keep, candidatesIn, candidates, comparedIn, compared}
 
-both-left : (a b : Bool) → (a && b) ≡ true → a ≡ true
+pub both-left : (a b : Bool) → (a && b) ≡ true → a ≡ true
 both-left true b e = refl
 both-left false b e = e
 
-both-right : (a b : Bool) → (a && b) ≡ true → b ≡ true
+pub both-right : (a b : Bool) → (a && b) ≡ true → b ≡ true
 both-right true b e = e
 both-right false b e = let z : _≡_ {A = ℕ} 0 1 = cc in absurd (omega arith)
 
@@ -50,7 +50,7 @@ kind-in-candidates [] bs = refl
 kind-in-candidates (w ∷ ws) bs = go (alike (w .spelling) bs) refl (kind-in-candidates ws bs)
   where
     go : (t : Bool) → alike (w .spelling) bs ≡ t → kindIn ws bs ≡ kindIn (candidatesIn ws bs) bs
-        → kindIn (w ∷ ws) bs ≡ kindIn (cond t (w ∷ candidatesIn ws bs) (candidatesIn ws bs)) bs
+        → kindIn (w ∷ ws) bs ≡ kindIn (keep t w (candidatesIn ws bs)) bs
     go true e ih = kind-cons w ws bs ∙ rw ih (sym (kind-cons w (candidatesIn ws bs) bs))
     go false e ih = kind-cons w ws bs ∙ rw (same-alike (w .spelling) bs e) ih
 
@@ -93,7 +93,7 @@ few-candidates [] bs t k = k (omega arith)
 few-candidates (w ∷ ws) bs t k =
     go (alike (w .spelling) bs) refl k (λ k. few-candidates ws bs (both-right (leb (length (candidates (w .spelling))) 3) (few ws) t) k)
   where
-    go : (a : Bool) → alike (w .spelling) bs ≡ a → (length (cond a (w ∷ candidatesIn ws bs) (candidatesIn ws bs)) ≤ 3 → Few bs)
+    go : (a : Bool) → alike (w .spelling) bs ≡ a → (length (keep a w (candidatesIn ws bs)) ≤ 3 → Few bs)
         → ((length (candidatesIn ws bs) ≤ 3 → Few bs) → Few bs) → Few bs
     go true e k further =
         let h : Few (w .spelling) = leb-true _ _ (both-left (leb (length (candidates (w .spelling))) 3) (few ws) t) in

@@ -7,16 +7,19 @@ use native.Mathlib.Omega.{arith}
 use native.Mathlib.Numerals.{add-one}
 use native.Mathlib.Nat.{add-zero}
 use lib.Arith.{digits-div, digits-mod}
-use lib.Dec.{eqb, leb, leb→le}
-use lib.ListN.{length, getD, take, drop, drop-of-length-le, List·getD-append, length-drop}
-use lib.Seq.{drop-cons, length-take-le}
-use borrow.Author.Tests.{eq-eqb, ne-eqb}
-use Rattle.language.specs.Kinds.{Spelled, reserved, signs}
+use lib.Dec.{T, eqb, leb, leb→le}
+use lib.ListN.{length, getD, take, drop, drop-of-length-le, List·getD-append, length-drop, length-take}
+use lib.Seq.{drop-cons, length-take-le, take-length, getD-take, getD-drop, slice, slice-cons}
+use borrow.Author.Tests.{eqb-true, eq-eqb, ne-eqb}
+use Rattle.text.specs.Written.{bytes}
+use Rattle.language.specs.Kinds.{Spelled, reserved, signs, member}
 use Rattle.language.specs.Symbols.{Element, symbol, wrong, begins, same, kindIn, kindOf, signIn, sign}
-use Rattle.symbols.specs.Spellings.{spelled, spelledAt, spellingAt, entryOf, Rows, Skips}
+use Rattle.language.specs.Candidates.{keep, candidates, candidatesIn, comparedIn, compared}
+use Rattle.language.proofs.Candidates.{both-left, both-right, kind-cons, kind-by-candidates, compared-at-most-three}
+use Rattle.symbols.specs.Spellings.{nothing, byLetter, spelled, spelledAt, spellingAt, entryOf, Rows, ofLength, Spans, Skips}
 use Rattle.symbols.specs.Answers.{asElement}
 use Rattle.symbols.specs.declared.elements.Element.the-variants as E
-use Rattle.symbols.proofs.Table.{tabulate, tabulate-at, each}
+use Rattle.symbols.proofs.Table.{tabulate, tabulate-at, every, each}
 
 -- ---- the table
 
@@ -37,7 +40,7 @@ short : Spelled → Bool
 short s = leb (length (s .spelling)) 11
 
 pub short-row : (row : ℕ) → row < 59 → length (spellingAt row) ≤ 11
-unfolding short spelled reserved signs
+unfolding short spelled byLetter reserved signs
 short-row row h = leb→le _ _ (each short _ spelled tt row h)
 
 pub letter-is : (row i : ℕ) → entryOf row (i + 2) ≡ getD (spellingAt row) i 32
@@ -92,34 +95,16 @@ module _ (ss text : List ℕ) (at width : ℕ) (h : at + width ≤ length text) 
 
 -- ---- a row
 
-abbrev nothing : Spelled
-nothing = record { spelling = []; kind = 0 }
-
-rows : length reserved ≡ 35
-unfolding reserved
-rows = refl
+words : length byLetter ≡ 35
+unfolding byLetter reserved
+words = refl
 
 all-rows : length spelled ≡ 59
-unfolding spelled reserved signs
+unfolding spelled byLetter reserved signs
 all-rows = refl
-
-word-row : (row : ℕ) → row < 35 → drop row reserved ≡ spelledAt row ∷ drop (row + 1) reserved
-unfolding spelled
-word-row row h =
-    let k : row < length reserved = omega (arith, rows) in
-    drop-cons reserved row nothing k ∙ rw (add-one, ← List·getD-append reserved signs nothing row k)
 
 sign-row : (row : ℕ) → row < 59 → drop row spelled ≡ spelledAt row ∷ drop (row + 1) spelled
 sign-row row h = drop-cons spelled row nothing (omega (arith, all-rows)) ∙ rw add-one
-
--- by whether the row's spelling is that of the bytes
-kind-cons : (w : Spelled) (ws : List Spelled) (bs : List ℕ) → kindIn (w ∷ ws) bs ≡ cond (same (w .spelling) bs) (w .kind) (kindIn ws bs)
-unfolding kindIn
-kind-cons w ws bs = by (same (w .spelling) bs)
-  where
-    by : (t : Bool) → elim t [ true ↦ w .kind | false ↦ kindIn ws bs ] ≡ cond t (w .kind) (kindIn ws bs)
-    by true = refl
-    by false = refl
 
 abbrev asSign : Spelled → Element
 asSign s = symbol (s .kind) 0 (length (s .spelling))
@@ -133,16 +118,8 @@ sign-cons s ss bs = by (begins (s .spelling) bs)
     by false = refl
 
 module _ (bs : List ℕ) where
-  pub kind-start : kindOf bs ≡ kindIn (drop 0 reserved) bs
-  unfolding kindOf
-  kind-start = refl
-
-  pub kind-end : (row : ℕ) → 35 ≤ row → kindIn (drop row reserved) bs ≡ 59
-  unfolding kindIn
-  kind-end row h = let k : length reserved ≤ row = omega (arith, rows) in rw (drop-of-length-le reserved k)
-
   pub sign-start : sign bs ≡ signIn (drop 35 spelled) bs
-  unfolding sign spelled reserved
+  unfolding sign spelled byLetter reserved
   sign-start = refl
 
   pub sign-end : (row : ℕ) → 59 ≤ row → signIn (drop row spelled) bs ≡ wrong 2
@@ -150,13 +127,6 @@ module _ (bs : List ℕ) where
   sign-end row h = let k : length spelled ≤ row = omega (arith, all-rows) in rw (drop-of-length-le spelled k)
 
   module _ (row : ℕ) where
-    module _ (h : row < 35) where
-      pub kind-here : same (spellingAt row) bs ≡ true → kindIn (drop row reserved) bs ≡ spelledAt row .kind
-      kind-here e = rw (word-row row h, kind-cons, e)
-
-      pub kind-next : same (spellingAt row) bs ≡ false → kindIn (drop row reserved) bs ≡ kindIn (drop (row + 1) reserved) bs
-      kind-next e = rw (word-row row h, kind-cons, e)
-
     module _ (h : row < 59) where
       sign-here : begins (spellingAt row) bs ≡ true → signIn (drop row spelled) bs ≡ symbol (spelledAt row .kind) 0 (length (spellingAt row))
       sign-here e = rw (sign-row row h, sign-cons, e)
@@ -168,6 +138,137 @@ module _ (bs : List ℕ) where
           → E.Symbol k 0 n ≡ asElement (sign bs)
       unfolding asElement
       a-sign p q s e = rw (p, q, s ∙ sign-here e)
+
+-- ---- the search of a word
+
+-- the rows of a first letter
+pub spans : (c from past : ℕ) {byte : ℕ} → T (leb past 35)
+    → ((rest : List ℕ) → candidates (c ∷ rest) ≡ ofLength (suc (length rest)) (slice from past byLetter))
+    → byte ≡ c → Spans byte from past
+spans c from past k h e = rw e (record { words = leb→le past 35 k; holds = h })
+
+-- the first letters of the reserved words, the last first, as the code's `match` denies them one after another
+abbrev letters : List ℕ
+letters = bytes "WVUTSRONMLIGFEDCBA"
+
+abbrev NoneOf : List ℕ → (byte : ℕ) → Type 0
+NoneOf [] byte = Unit {0}
+NoneOf (c ∷ cs) byte = NoneOf cs byte × (byte ≡ c → ⊥)
+
+no-member : (cs : List ℕ) (byte : ℕ) → NoneOf cs byte → member byte cs ≡ false
+unfolding member
+no-member [] byte n = refl
+no-member (c ∷ cs) byte n = rw (ne-eqb byte c (n .1)) (no-member cs byte (n .0))
+
+abbrev lettered : Spelled → Bool
+lettered w = member (getD (w .spelling) 0 0) letters
+
+no-candidates : (ws : List Spelled) (byte : ℕ) (rest : List ℕ) → every lettered nothing ws ≡ true → member byte letters ≡ false
+    → candidatesIn ws (byte ∷ rest) ≡ []
+unfolding candidatesIn
+no-candidates [] byte rest t n = refl
+no-candidates (w ∷ ws) byte rest t n =
+    go (eqb (getD (w .spelling) 0 0) byte) refl (no-candidates ws byte rest (both-right (lettered w) (every lettered nothing ws) t) n)
+  where
+    go : (a : Bool) → eqb (getD (w .spelling) 0 0) byte ≡ a → candidatesIn ws (byte ∷ rest) ≡ []
+        → keep (a && eqb (length (w .spelling)) (suc (length rest))) w (candidatesIn ws (byte ∷ rest)) ≡ []
+    go true e ih =
+        let q : member byte letters ≡ true = rw (← eqb-true (getD (w .spelling) 0 0) byte e) (both-left (lettered w) (every lettered nothing ws) t) in
+        let z : _≡_ {A = ℕ} 0 1 = cc in
+        absurd (omega arith)
+    go false e ih = ih
+
+pub no-span : (byte : ℕ) → NoneOf letters byte → Spans byte 0 0
+unfolding candidates reserved ofLength member
+no-span byte n = record { words = omega arith; holds = λ rest. no-candidates reserved byte rest refl (no-member letters byte n) }
+
+pub no-bytes : (bs : List ℕ) {width : ℕ} → width ≡ 0 → (59 ≡ kindOf (take width bs)) × (0 ≡ compared (take width bs))
+unfolding kindIn kindOf candidatesIn candidates comparedIn compared reserved
+no-bytes bs e = rw e (refl, refl)
+
+-- where it stands at a row, with so many compared: what is left of the candidates decides the kind and the rest of the count
+pub record Searching (bs : List ℕ) (past compared-so-far row : ℕ) : Type 0 where
+  pub few : compared-so-far ≤ row
+  pub kind : kindOf bs ≡ kindIn (ofLength (length bs) (slice row past byLetter)) bs
+  pub count : compared bs ≡ compared-so-far + comparedIn (ofLength (length bs) (slice row past byLetter)) bs
+
+starts : (bs : List ℕ) {from past : ℕ} → 1 ≤ length bs → Spans (getD bs 0 0) from past → Searching bs past 0 from
+unfolding compared
+starts [] h s = absurd (omega arith)
+starts (b ∷ rest) h s = record {
+  few = omega arith;
+  kind = kind-by-candidates (b ∷ rest) ∙ rw (s .holds rest);
+  count = rw (s .holds rest) (omega arith);
+}
+
+module _ (text : List ℕ) (at width : ℕ) (h : at + width ≤ length text) where
+  abbrev word : List ℕ
+  word = take width (drop at text)
+
+  pub search-starts : {from past : ℕ} → (width ≡ 0 → ⊥) → Spans (getD text at 0) from past → Searching word past 0 from
+  search-starts n s =
+      let e : getD word 0 0 ≡ getD text at 0 = getD-take width (drop at text) 0 0 (omega arith) ∙ getD-drop at text 0 0 ∙ rw (add-zero at) in
+      starts word (omega (arith, taken [] text at width h)) (rw e s)
+
+  module _ {past n row : ℕ} (s : Searching word past n row) where
+    pub search-ends : past ≤ row → (59 ≡ kindOf word) × (n ≡ compared word)
+    unfolding kindIn comparedIn ofLength
+    search-ends k =
+        let e : slice row past byLetter ≡ [] = drop-of-length-le (take past byLetter) {i = row} (omega (arith, length-take past byLetter)) in
+        (sym (s .kind ∙ rw e), sym (s .count ∙ rw (e, add-zero n)))
+
+    module _ (k : row < past) (p : past ≤ 35) where
+      row-cons : slice row past byLetter ≡ spelledAt row ∷ slice (row + 1) past byLetter
+      unfolding spelled
+      row-cons =
+          slice-cons row past byLetter nothing k (omega (arith, words))
+          ∙ rw (add-one, ← List·getD-append byLetter signs nothing row (omega (arith, words)))
+
+      -- the words from this row on, by whether it has the word's length
+      left-passed : (length (spellingAt row) ≡ width → ⊥)
+          → ofLength (length word) (slice row past byLetter) ≡ ofLength (length word) (slice (row + 1) past byLetter)
+      unfolding ofLength
+      left-passed d = rw (row-cons, taken [] text at width h, ne-eqb (length (spellingAt row)) width d)
+
+      left-cons : length (spellingAt row) ≡ width
+          → ofLength (length word) (slice row past byLetter) ≡ spelledAt row ∷ ofLength (length word) (slice (row + 1) past byLetter)
+      unfolding ofLength
+      left-cons e = rw (row-cons, taken [] text at width h, eq-eqb (length (spellingAt row)) width e)
+
+      pub search-passes : (length (spellingAt row) ≡ width → ⊥) → Searching word past n (row + 1)
+      search-passes d = record {
+        few = omega (arith, s .few);
+        kind = s .kind ∙ rw (left-passed d);
+        count = s .count ∙ rw (left-passed d);
+      }
+
+      module _ (e : length (spellingAt row) ≡ width) where
+        pub search-finds : {k : ℕ} → k ≡ spelledAt row .kind → begins (spellingAt row) (drop at text) ≡ true
+            → (k ≡ kindOf word) × (n + 1 ≡ compared word)
+        unfolding comparedIn
+        search-finds q b =
+            let f : same (spellingAt row) word ≡ true = same-is (spellingAt row) text at width h e ∙ b in
+            (q ∙ sym (s .kind ∙ rw (left-cons e, kind-cons, f)), sym (s .count ∙ rw (left-cons e, f)))
+
+        pub search-goes-on : begins (spellingAt row) (drop at text) ≡ false → Searching word past (n + 1) (row + 1)
+        unfolding comparedIn
+        search-goes-on b =
+            let f : same (spellingAt row) word ≡ false = same-is (spellingAt row) text at width h e ∙ b in
+            let left : ℕ = comparedIn (ofLength (length word) (slice (row + 1) past byLetter)) word in
+            let add : n + suc left ≡ n + 1 + left = omega arith in
+            record {
+              few = omega (arith, s .few);
+              kind = s .kind ∙ rw (left-cons e, kind-cons, f);
+              count = s .count ∙ rw (left-cons e, f) add;
+            }
+
+-- the search of all of some bytes
+pub search-all : (bs : List ℕ) {kind n : ℕ} → kind ≡ kindOf (take (length bs) (drop 0 bs)) → n ≡ compared (take (length bs) (drop 0 bs))
+    → (kind ≡ kindOf bs) × ((n ≡ compared bs) × (n ≤ 3))
+search-all bs {n = n} p q =
+    let e : take (length bs) bs ≡ bs = take-length bs in
+    let c : n ≡ compared bs = rw (← e) q in
+    (rw (← e) p, (c, omega (arith, compared-at-most-three bs)))
 
 -- ---- the row where the search of a sign starts
 

@@ -105,7 +105,8 @@ fn word_at(classes: &[u8; 256], table: &[u8; 767], text: &[u8], at: usize) -> El
     ensures { λ r. ⌜ r ≡ asElement (word (drop at (now (text .entry)))) ⌝ }
 {
     let width = word_width(classes, text, at);
-    Element::Symbol(spellings::kind_of(table, text, at, width), width, width)
+    let found = spellings::kind_of(table, text, at, width);
+    Element::Symbol(found.kind, width, width)
 }
 
 fn is_digit(base: usize, c: usize) -> bool

@@ -21,6 +21,8 @@ ghost use mathlib.Core.List.{[], _∷_, _++_};
 ghost use lib.ListN.{length, replicate, take};
 ghost use lib.Seq.{sets};
 ghost use lib.Dec.{eqb};
+ghost use Rattle.language.specs.Symbols.{kindOf};
+ghost use Rattle.language.specs.Candidates.{compared};
 ghost use Rattle.language.specs.Source.{tooLong, scratchTooShort};
 ghost use Rattle.language.specs.Semicolons.{endsLine, beginsLine};
 ghost use Rattle.symbols.specs.Read.{Reads};
@@ -33,6 +35,12 @@ pub enum SymbolsRead {
     TooShort,
     Read(usize),
     Refused { number: u16, place: usize },
+}
+
+// A word's kind, and how many reserved words it was compared whole with.
+pub struct Word {
+    pub kind: usize,
+    pub compared: usize,
 }
 
 // A symbol with its place and the place past it, and whether a newline stands before it; the end; or a refusal.
@@ -307,6 +315,15 @@ fn read_all(
             }
         }
     }
+}
+
+// The search of the reserved words by itself: the kind of any bytes, taken as a word.
+pub fn word_kind(word: &[u8]) -> Word
+    ensures { λ r. ⌜ r .kind ≡ kindOf (now (word .entry)) ⌝ }
+    ensures { λ r. ⌜ (r .compared ≡ compared (now (word .entry))) × (r .compared ≤ 3) ⌝ }
+{
+    let table = spellings::all_rows();
+    spellings::kind_of(&table, word, 0, word.len())
 }
 
 // There are no more brackets than bytes. `read_symbols` makes the stack and lends it.

@@ -1,13 +1,13 @@
 use mathlib.Core.Path.{refl}
 use Rattle.language.specs.Kinds.{reserved, signs}
 use Rattle.language.specs.Symbols.{begins, signIn, sign}
-use Rattle.symbols.specs.Spellings.{spelled}
+use Rattle.symbols.specs.Spellings.{byLetter, spelled}
 use Rattle.symbols.proofs.Spelling.{skips, skips-none}
 use Rattle.symbols.proofs.spellings.first_row.Statement.{statement}
 use Rattle.symbols.proofs.spellings.first_row.Tie as tie
 
 pub first-row-spec : {M : Type 1} → statement M
-unfolding begins signIn sign spelled reserved signs
+unfolding begins signIn sign spelled byLetter reserved signs
 first-row-spec =
     tie.close
     (tie.spec (λ c. skips 60 36 (λ _. refl) (c .match .keys1)) (λ c. skips 62 37 (λ _. refl) (c .match .keys2))
