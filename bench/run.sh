@@ -2,7 +2,7 @@
 # Machine: the same images on minicode and on a plain interpreter in C, in turn: medians of five and their ratio. minicode's time
 # includes assembling the text; both include starting the program.
 # Compiler: the proved one and the second one on the same sources, in turn: medians of five, ratios, and growth with the size.
-# Assembler: the same on the texts with the most labels.
+# Assembler: the same on the texts with the most labels. Symbols: the same on names, reserved words and a program.
 set -euo pipefail
 cd "$(dirname "$0")/.."
 rt check minicode bcpl > /dev/null
@@ -35,3 +35,5 @@ rustc -O --edition 2021 --cfg proved tests/second/compile_time.rs -L target/stat
 target/bench/compile_time
 rustc -O --edition 2021 --cfg proved tests/second/assemble_time.rs -L target/staticlib -l static=testbed -o target/bench/assemble_time
 target/bench/assemble_time
+rustc -O --edition 2021 --cfg proved tests/second/symbols_time.rs -L target/staticlib -l static=testbed -o target/bench/symbols_time
+target/bench/symbols_time
