@@ -3,7 +3,7 @@
 //!     compare [CASES]               CASES of each of the three kinds (40000 unless said)
 //!     compare --self-check [CASES]  without the proved library: what the generators make, and the second program alone
 //!
-//! It exits 1 at the first difference, and also when some refusal or stop came up too rarely to have been tested.
+//! It exits 1 at the first difference, and also when some refusal, stop or store came up too rarely to have been tested.
 
 mod assembler;
 mod generate;
@@ -14,7 +14,7 @@ mod telling;
 
 use assembler::Assembly;
 use generate::{ImageCase, TextCase};
-use machine::Ran;
+use machine::{Ran, Store};
 use proved::Library;
 use random::Random;
 use std::fmt::Write;
@@ -33,6 +33,7 @@ fn compare_all(library: Option<Library>, cases: u64) -> Result<String, String> {
     let mut texts = Tally::new();
     let mut stops = Tally::new();
     let mut resumed = Tally::new();
+    let mut stored = Tally::new();
     let mut acts = Tally::new();
     for number in 0..cases {
         let seed = number;
@@ -60,6 +61,7 @@ fn compare_all(library: Option<Library>, cases: u64) -> Result<String, String> {
         let case = generate::image(seed);
         let wanted = compare_image(library, &case, seed).map_err(|report| headed("image", number, seed, &report))?;
         *stops.entry(wanted.stop).or_default() += 1;
+        *stored.entry(u64::from(wanted.registers.last_store.words)).or_default() += 1;
         let wanted_on = compare_resumed(library, &case, wanted.count, seed)
             .map_err(|report| headed("resumed image", number, seed, &report))?;
         *resumed.entry(wanted_on.stop).or_default() += 1;
@@ -71,9 +73,10 @@ fn compare_all(library: Option<Library>, cases: u64) -> Result<String, String> {
     let told_texts =
         format!("{} texts ({} accepted, {})", 2 * cases, often(&texts, 0), enough(&texts, &REFUSALS, least)?);
     let told_images = format!(
-        "{cases} images ({}; carried on {})",
+        "{cases} images ({}; carried on {}; words stored last {})",
         enough(&stops, &STOPS, least)?,
-        enough(&resumed, &STOPS, least)?
+        enough(&resumed, &STOPS, least)?,
+        enough(&stored, &[0, 1, 2], least)?
     );
     if library.is_some() {
         return Ok(format!("compared {told_texts} and {told_images}: all equal"));
@@ -135,10 +138,14 @@ fn told_difference<T: PartialEq + std::fmt::Display>(what: &str, wanted: &[T], g
     }
 }
 
-fn numbers(ran: &Ran) -> [u64; 9] {
+const NUMBERS: &str = "stop, count, taken, written, A, B, C, P, G; the last store: any, first, words";
+
+fn numbers(ran: &Ran) -> [u64; 12] {
     let registers = ran.registers;
     let [a, b, c, p, g] = [registers.a, registers.b, registers.c, registers.p, registers.g].map(u64::from);
-    [ran.stop, ran.count, ran.taken as u64, ran.written as u64, a, b, c, p, g]
+    let Store { any, first, words } = registers.last_store;
+    let store = [u64::from(any), u64::from(first), u64::from(words)];
+    [ran.stop, ran.count, ran.taken as u64, ran.written as u64, a, b, c, p, g, store[0], store[1], store[2]]
 }
 
 /// The second machine's run of a case with a budget, and the memory and output it leaves.
@@ -148,9 +155,9 @@ fn second_run(case: &ImageCase, budget: u64) -> (Ran, Vec<u16>, Vec<u8>) {
     (ran, memory, output)
 }
 
-fn proved_run(library: Library, case: &ImageCase, budget: u64, junk: u64) -> ([u64; 9], Vec<u16>, Vec<u8>) {
+fn proved_run(library: Library, case: &ImageCase, budget: u64, junk: u64) -> ([u64; 12], Vec<u16>, Vec<u8>) {
     let (mut memory, mut output) = (case.memory.clone(), case.output.clone());
-    let mut answer = [junk; 9];
+    let mut answer = [junk; 12];
     (library.run)(&mut memory, case.first, &case.input, &mut output, budget, &mut answer);
     (answer, memory, output)
 }
@@ -165,7 +172,7 @@ fn compare_image(library: Option<Library>, case: &ImageCase, seed: u64) -> Resul
         return Ok(wanted);
     }
     let mut report = told_image(case);
-    _ = writeln!(report, "stop, count, taken, written, A, B, C, P, G:");
+    _ = writeln!(report, "{NUMBERS}:");
     _ = writeln!(report, "second program: {:?}\nproved library: {answer:?}", numbers(&wanted));
     report += &told_difference("memory", &wanted_memory, &memory);
     report += &told_difference("output", &wanted_output, &output);
@@ -189,17 +196,18 @@ fn compare_image(library: Option<Library>, case: &ImageCase, seed: u64) -> Resul
 fn compare_resumed(library: Option<Library>, case: &ImageCase, count: u64, seed: u64) -> Result<Ran, String> {
     let mut random = Random::new(!seed);
     let (start, memory, output) = second_run(case, random.next() % (count + 1));
-    let machine::Registers { a, b, c, p, g } = start.registers;
+    let machine::Registers { a, b, c, p, g, mut last_store } = start.registers;
     let mut words = [a, b, c, p, g];
     let mut places = [start.taken, start.written];
     if random.one_in(2) {
         let (word, place) = (random.below(5), random.below(2));
         words[word] = random.word();
         places[place] = random.pick(&[0, case.input.len(), case.output.len(), case.output.len() + 1, usize::MAX]);
+        last_store = Store { any: random.one_in(2), first: random.word(), words: random.word() };
     }
     let [a, b, c, p, g] = words;
     let (mut wanted_memory, mut wanted_output) = (memory.clone(), output.clone());
-    let registers = machine::Registers { a, b, c, p, g };
+    let registers = machine::Registers { a, b, c, p, g, last_store };
     let [taken, written] = places;
     let wanted = machine::resume(
         registers,
@@ -212,11 +220,12 @@ fn compare_resumed(library: Option<Library>, case: &ImageCase, count: u64, seed:
     );
     let Some(library) = library else { return Ok(wanted) };
     let (mut given_memory, mut given_output) = (memory, output);
-    let mut answer = [!seed; 9];
+    let mut answer = [!seed; 12];
     (library.resume)(
         words,
         taken,
         written,
+        last_store,
         &mut given_memory,
         &case.input,
         &mut given_output,
@@ -227,8 +236,8 @@ fn compare_resumed(library: Option<Library>, case: &ImageCase, count: u64, seed:
         return Ok(wanted);
     }
     let mut report = told_image(case);
-    _ = writeln!(report, "carried on from A, B, C, P, G {words:?}, taken and written {places:?}");
-    _ = writeln!(report, "stop, count, taken, written, A, B, C, P, G:");
+    _ = writeln!(report, "carried on from A, B, C, P, G {words:?}, taken and written {places:?}, {last_store:?}");
+    _ = writeln!(report, "{NUMBERS}:");
     _ = writeln!(report, "second program: {:?}\nproved library: {answer:?}", numbers(&wanted));
     report += &told_difference("memory", &wanted_memory, &given_memory);
     report += &told_difference("output", &wanted_output, &given_output);

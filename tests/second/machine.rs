@@ -8,6 +8,15 @@ pub struct Registers {
     pub c: u16,
     pub p: u16,
     pub g: u16,
+    pub last_store: Store,
+}
+
+/// What the last completed instruction stored: whether anything, the first address, and the number of words.
+#[derive(Clone, Copy, Debug, Default, PartialEq, Eq)]
+pub struct Store {
+    pub any: bool,
+    pub first: u16,
+    pub words: u16,
 }
 
 /// How a run ended. `taken` and `written` are the input and output places that it left.
@@ -30,7 +39,7 @@ const MEMORY_LENGTH: u64 = 24;
 
 /// A run from the start: registers as the rules set them, input and output at their first byte.
 pub fn run(memory: &mut [u16], first: u16, input: &[u8], output: &mut [u8], budget: u64) -> Ran {
-    let start = Registers { a: 0, b: 0, c: 0, p: first, g: 16 };
+    let start = Registers { a: 0, b: 0, c: 0, p: first, g: 16, last_store: Store::default() };
     resume(start, 0, 0, memory, input, output, budget)
 }
 
@@ -91,7 +100,7 @@ impl World<'_> {
 
     /// Does one instruction: the registers after it, and whether it was the finish.
     fn instruction(&mut self, before: Registers) -> Result<(Registers, bool), u64> {
-        let mut now = before;
+        let mut now = Registers { last_store: Store::default(), ..before };
         let word = self.read(now.c)?;
         now.c = now.c.wrapping_add(1);
         let mut operand = word & 511;
@@ -113,7 +122,10 @@ impl World<'_> {
                 now.b = now.a;
                 now.a = operand;
             }
-            1 => self.write(operand, now.a)?,
+            1 => {
+                self.write(operand, now.a)?;
+                now.last_store = Store { any: true, first: operand, words: 1 };
+            }
             2 => now.a = now.a.wrapping_add(operand),
             3 => now.c = operand,
             4 if now.a != 0 => now.c = operand,
@@ -125,6 +137,7 @@ impl World<'_> {
                 self.read(frame.wrapping_add(1))?;
                 self.write(frame, now.p)?;
                 self.write(frame.wrapping_add(1), now.c)?;
+                now.last_store = Store { any: true, first: frame, words: 2 };
                 now.p = frame;
                 now.c = now.a;
             }

@@ -1,14 +1,17 @@
 //! The proved library behind safe functions. It is linked in when this is built with `--cfg proved`; without that the
 //! generators and the second program can still be run by themselves.
 
+use crate::machine::Store;
+
 /// Text, memory, labels (number * 65536 + address), and the answer: 0, first stack word, 0; or number, place, line.
 pub type Assemble = fn(&[u8], &mut [u16], &mut [u32], &mut [u64; 3]);
 
-/// Memory, first stack word, input, output, budget, and the answer: stop, count, taken, written, A, B, C, P, G.
-pub type Run = fn(&mut [u16], u16, &[u8], &mut [u8], u64, &mut [u64; 9]);
+/// Memory, first stack word, input, output, budget, and the answer: stop, count, taken, written, A, B, C, P, G, and of the last
+/// store whether there was any, 1 or 0, the first address, and the number of words.
+pub type Run = fn(&mut [u16], u16, &[u8], &mut [u8], u64, &mut [u64; 12]);
 
-/// The same from registers and places: A, B, C, P, G, and the bytes taken and written.
-pub type Resume = fn([u16; 5], usize, usize, &mut [u16], &[u8], &mut [u8], u64, &mut [u64; 9]);
+/// The same from registers and places: A, B, C, P, G, the bytes taken and written, and the last store.
+pub type Resume = fn([u16; 5], usize, usize, Store, &mut [u16], &[u8], &mut [u8], u64, &mut [u64; 12]);
 
 #[derive(Clone, Copy)]
 pub struct Library {
@@ -29,6 +32,8 @@ pub fn library() -> Option<Library> {
 
 #[cfg(proved)]
 mod linked {
+    use crate::machine::Store;
+
     /// A record of the library's label table: two words, the first first.
     #[repr(C)]
     #[derive(Clone, Copy)]
@@ -66,6 +71,9 @@ mod linked {
             g: u16,
             taken: usize,
             written: usize,
+            stored: bool,
+            from: u16,
+            words: u16,
             memory: *mut u16,
             memory_len: usize,
             input: *const u8,
@@ -98,7 +106,7 @@ mod linked {
         }
     }
 
-    pub fn run(memory: &mut [u16], first: u16, input: &[u8], output: &mut [u8], budget: u64, answer: &mut [u64; 9]) {
+    pub fn run(memory: &mut [u16], first: u16, input: &[u8], output: &mut [u8], budget: u64, answer: &mut [u64; 12]) {
         // Sound: as above.
         unsafe {
             morkvasil_run(
@@ -120,11 +128,12 @@ mod linked {
         [a, b, c, p, g]: [u16; 5],
         taken: usize,
         written: usize,
+        last_store: Store,
         memory: &mut [u16],
         input: &[u8],
         output: &mut [u8],
         budget: u64,
-        answer: &mut [u64; 9],
+        answer: &mut [u64; 12],
     ) {
         // Sound: as above.
         unsafe {
@@ -136,6 +145,9 @@ mod linked {
                 g,
                 taken,
                 written,
+                last_store.any,
+                last_store.first,
+                last_store.words,
                 memory.as_mut_ptr(),
                 memory.len(),
                 input.as_ptr(),

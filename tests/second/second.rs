@@ -54,9 +54,9 @@ fn run_file(file: &str, budget: u64) -> Result<ExitCode, String> {
     if ran.stop == 30 {
         return Ok(ExitCode::SUCCESS);
     }
-    let machine::Registers { a, b, c, p, g } = ran.registers;
+    let machine::Registers { a, b, c, p, g, last_store } = ran.registers;
     eprintln!(
-        "stopped {} after {} instructions and {} bytes of input: A={a} B={b} C={c} P={p} G={g}",
+        "stopped {} after {} instructions and {} bytes of input: A={a} B={b} C={c} P={p} G={g} {last_store:?}",
         ran.stop, ran.count, ran.taken
     );
     Ok(ExitCode::FAILURE)

@@ -9,7 +9,7 @@ mod symbols;
 
 use assembler::{assemble, Assembly};
 use grammar::read_source;
-use machine::{resume, run, Ran, Registers};
+use machine::{resume, run, Ran, Registers, Store};
 use std::path::{Path, PathBuf};
 use symbols::{compared, kind::*, read_symbols, Refusal, Symbol};
 
@@ -259,7 +259,7 @@ fn reading_m6_input_and_output() {
 
 #[test]
 fn reading_m6a_m10b_stops() {
-    let start = Registers { a: 0, b: 0, c: 0, p: 9, g: 16 };
+    let start = Registers { a: 0, b: 0, c: 0, p: 9, g: 16, last_store: Store::default() };
     for memory_len in [0, 1, 511, 32769] {
         let mut memory = vec![57372; memory_len];
         let mut output = [170; 4];
@@ -293,6 +293,36 @@ fn reading_m6a_m10b_stops() {
     assert_eq!((fetch.stop, fetch.count, fetch.registers.c), (32, 1, 511));
 }
 
+/// Document 02, Req 07.
+#[test]
+fn last_store() {
+    let none = Store { any: false, first: 0, words: 0 };
+    let one = Store { any: true, first: 300, words: 1 };
+    // L5 S300 L6 X22: at the start, after each, and after the finish.
+    let image = [5, 8192 + 300, 6, 57366];
+    for (budget, store) in [(0, none), (1, none), (2, one), (3, none), (4, none)] {
+        let (now, _, _) = ran(&image, &[], 0, budget);
+        assert_eq!((now.count, now.registers.last_store), (budget, store));
+    }
+    // K2 stores P, here 100, and C at 102 and 103.
+    let (called, memory, _) = ran(&[49154], &[], 0, 1);
+    assert_eq!(called.registers.last_store, Store { any: true, first: 102, words: 2 });
+    assert_eq!(memory[102..104], [100, 1]);
+    // S300 and then an instruction that is not done: unknown act, zero divisor, store past the memory, half a K, full output.
+    for (met, stop) in [([57364, 0], 34), ([57350, 0], 33), ([8704, 600], 32), ([49152 + 411, 0], 32), ([57372, 0], 35)] {
+        let (undone, _, _) = ran(&[8192 + 300, met[0], met[1]], &[], 0, 9);
+        assert_eq!((undone.stop, undone.count, undone.registers.last_store), (stop, 1, one));
+    }
+    // An S through a word.
+    let (through, _, _) = ran(&[8192 + 4096 + 2, 57366, 7], &[], 0, 1);
+    assert_eq!(through.registers.last_store, Store { any: true, first: 7, words: 1 });
+    // Handed in, it stays until an instruction completes.
+    let mut memory = vec![57364; 512];
+    let given = Registers { a: 1, b: 2, c: 3, p: 4, g: 5, last_store: Store { any: true, first: 6, words: 7 } };
+    let stopped = resume(given, 0, 0, &mut memory, &[], &mut [], 9);
+    assert_eq!((stopped.stop, stopped.registers), (34, given));
+}
+
 #[test]
 fn carried_on() {
     // Copies its input: X27 A1 F7 A-1 X28 J0 X22, one word each but A-1.
@@ -306,7 +336,7 @@ fn carried_on() {
     assert_eq!((rest.stop, rest.count, rest.taken, rest.written), (30, 12, 3, 3));
     assert_eq!(&output, b"abc\0\0\0\0\0");
     // Places past the end: input reads -1, output is full.
-    let past = Registers { a: 0, b: 0, c: 0, p: 0, g: 16 };
+    let past = Registers { a: 0, b: 0, c: 0, p: 0, g: 16, last_store: Store::default() };
     let ended = resume(past, 9, 9, &mut memory, b"abc", &mut output, 100);
     assert_eq!((ended.stop, ended.count, ended.taken, ended.written), (30, 4, 9, 9));
     let write = Registers { c: 5, ..past };

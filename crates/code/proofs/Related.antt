@@ -434,7 +434,7 @@ module _ (Γ : Env) where
   }
 
   abbrev pub storing : ℕ → ℕ → Mach → Mach
-  storing b a v = withMem (M.withC b (v .regs)) (set (v .mem) a (v .regs .a)) v
+  storing b a v = withMem (M.havingStored a 1 (M.withC b (v .regs))) (set (v .mem) a (v .regs .a)) v
 
   -- a store to a word that waits
   pub temp : {p h a b : ℕ} {s : State} {v : Mach} → Rel p h s v → Goes (Γ .input) 1 v (storing b a v) → p + h ≤ a → Sim 1 p h h s v s (storing b a v)

@@ -9,7 +9,7 @@ use lib.ListN.{length, getD, set, length-set}
 use borrow.Author.Tests.{lt-ltb, le-ltb, eq-eqb, ne-eqb}
 use Rattle.words.specs.Words.{add}
 use Rattle.machine.specs.Outcome.{Out, ok, stop, _>>=_, read, write}
-use Rattle.machine.specs.State.{State, at, withA, withC, framed, took, wrote}
+use Rattle.machine.specs.State.{State, at, withA, withC, framed, havingStored, took, wrote}
 use Rattle.machine.specs.Acts.{indirected, returned, search, switched, received, sent}
 use Rattle.machine.specs.Step.{Turn, done, finished, stopped, turn, keep, stored, called, jumped}
 use Rattle.machine.specs.Answers.{asWord, asActed, asTurn, numberOf, registersOf, left, Turns}
@@ -115,7 +115,7 @@ module _ (r : Registers) (m : List ℕ) where
 -- ---- S, K, act 28 and the jumps
 
 module _ (x : ℕ) (r : Registers) (m out : List ℕ) where
-  pub stored-in : x < length m → stored x (at r m out) ≡ ok (at r (set m x (r .a)) out)
+  pub stored-in : x < length m → stored x (at r m out) ≡ ok (at (havingStored x 1 r) (set m x (r .a)) out)
   unfolding stored
   stored-in h = simp (write-in m x (r .a) h)
 
@@ -129,9 +129,14 @@ module _ (x : ℕ) (r : Registers) (m out : List ℕ) where
     called-past h = simp (← hq, write-past m q (r .p) h)
 
     module _ {j : ℕ} (hj : j ≡ add q 1) where
-      pub called-in : q < length m → j < length m → called x (at r m out) ≡ ok (at (framed q (r .a) r) (set (set m q (r .p)) j (r .c)) out)
+      called-in : q < length m → j < length m → called x (at r m out) ≡ ok (at (havingStored q 2 (framed q (r .a) r)) (set (set m q (r .p)) j (r .c)) out)
       unfolding called
       called-in h k = simp (← hq, ← hj, write-in m q (r .p) h, write-in (set m q (r .p)) j (r .c) (simp length-set k))
+
+      -- the frame put, then what was stored
+      pub called-turns : q < length m → j < length m → {t u : Registers} → t ≡ framed q (r .a) r → u ≡ havingStored q 2 t
+          → Turns (at r m out) (turn (called x (at r m out))) (T.Done u) (set (set m q (r .p)) j (r .c)) out
+      called-turns h k e f = turned (called-in h k) (f ∙ ap (havingStored q 2) e)
 
       pub called-half : q < length m → length m ≤ j → called x (at r m out) ≡ stop 32
       unfolding called

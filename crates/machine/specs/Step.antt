@@ -6,7 +6,7 @@ use lib.ListN.{getD}
 use lib.Dec.{eqb}
 use Rattle.words.specs.Words.{add, neg, complement}
 use Rattle.machine.specs.Outcome.{Out, ok, stop, _>>=_, write}
-use Rattle.machine.specs.State.{State, at, withA, withC, loaded, framed}
+use Rattle.machine.specs.State.{State, at, withA, withC, loaded, framed, havingStored}
 use Rattle.machine.specs.Fetch.{Fetch, fetch}
 use Rattle.machine.specs.Acts.{Act, unlisted, indirect, negate, invert, back, finish, switch, rdch, wrch, dyadic, actOf, indirected, returned, combined, switched, received, sent}
 use Rattle.machine.specs.declared.Registers.{Registers}
@@ -25,19 +25,19 @@ unfoldable pub keep : State → Out Registers → Turn
 keep s (ok r) = done (at r (s .mem) (s .out))
 keep s (stop k) = stopped k
 
--- 1 S: stores A
+-- 1 S: stores A, one word
 unfoldable pub stored : ℕ → State → Out State
 stored x s = do
   m ← write (s .mem) x (s .regs .a)
-  ok (at (s .regs) m (s .out))
+  ok (at (havingStored x 1 (s .regs)) m (s .out))
 
--- 6 K: at P+operand store P and C; P becomes it; C:=A. Both words are checked before either is stored: a stop keeps the memory
+-- 6 K: at P+operand store P and C, two words; P becomes it; C:=A. Both words are checked before either is stored: a stop keeps the memory
 unfoldable pub called : ℕ → State → Out State
 called x s = do
   let p = add (s .regs .p) x
   m ← write (s .mem) p (s .regs .p)
   n ← write m (add p 1) (s .regs .c)
-  ok (at (framed p (s .regs .a) (s .regs)) n (s .out))
+  ok (at (havingStored p 2 (framed p (s .regs .a) (s .regs))) n (s .out))
 
 -- 3 J, 4 T, 5 F: C becomes the operand where the test holds
 unfoldable pub jumped : Bool → ℕ → Registers → Registers

@@ -8,7 +8,7 @@ ghost use mathlib.Core.Bool.{cond};
 ghost use lib.Dec.{eqb};
 ghost use Rattle.words.specs.Words.{add, neg, complement};
 ghost use Rattle.machine.specs.Outcome.{Out, ok, read};
-ghost use Rattle.machine.specs.State.{at, startRegisters, withA, withC, loaded, framed};
+ghost use Rattle.machine.specs.State.{at, startRegisters, withA, withC, loaded, framed, havingStored};
 ghost use Rattle.machine.specs.Fetch.{fetch};
 ghost use Rattle.machine.specs.Forms.{fetchedAt, fetchedFrom, decoded};
 ghost use Rattle.machine.specs.Acts.{actOf, indirected, returned, combined, search, switched, received, sent};
@@ -18,7 +18,8 @@ ghost use Rattle.machine.specs.Answers.{asWord, asQuotient, asFetched, a
 ghost use Rattle.machine.specs.Numbers.{valueOf};
 use words::Divided;
 
-// The registers, and the places reached in the input and the output.
+// The registers, the places reached in the input and the output, and what the last completed instruction stored: whether anything,
+// the first address, and the number of words.
 pub struct Registers {
     pub a: u16,
     pub b: u16,
@@ -27,6 +28,9 @@ pub struct Registers {
     pub g: u16,
     pub taken: usize,
     pub written: usize,
+    pub stored: bool,
+    pub from: u16,
+    pub words: u16,
 }
 
 // A word, or the number of the stop.
@@ -141,6 +145,9 @@ impl Registers {
             g: 16,
             taken: 0,
             written: 0,
+            stored: false,
+            from: 0,
+            words: 0,
         }
     }
 
@@ -232,6 +239,9 @@ impl Registers {
             g: self.g,
             taken: self.taken,
             written: self.written,
+            stored: false,
+            from: 0,
+            words: 0,
         }
     }
 
@@ -246,6 +256,9 @@ impl Registers {
             g: self.g,
             taken: self.taken,
             written: self.written,
+            stored: false,
+            from: 0,
+            words: 0,
         }
     }
 
@@ -260,6 +273,9 @@ impl Registers {
             g: self.g,
             taken: self.taken,
             written: self.written,
+            stored: false,
+            from: 0,
+            words: 0,
         }
     }
 
@@ -274,6 +290,27 @@ impl Registers {
             g: self.g,
             taken: self.taken,
             written: self.written,
+            stored: false,
+            from: 0,
+            words: 0,
+        }
+    }
+
+    // The registers of an instruction that stored so many words from an address on.
+    fn having_stored(self, from: u16, words: u16) -> Self
+        ensures { λ r. ⌜ r ≡ havingStored from words self ⌝ }
+    {
+        Registers {
+            a: self.a,
+            b: self.b,
+            c: self.c,
+            p: self.p,
+            g: self.g,
+            taken: self.taken,
+            written: self.written,
+            stored: true,
+            from: from,
+            words: words,
         }
     }
 
@@ -361,10 +398,18 @@ impl Registers {
     {
         let taken = self.taken;
         if taken < input.len() {
-            let mut r = self;
-            r.a = input[taken] as u16;
-            r.taken = taken + 1;
-            r
+            Registers {
+                a: input[taken] as u16,
+                b: self.b,
+                c: self.c,
+                p: self.p,
+                g: self.g,
+                taken: taken + 1,
+                written: self.written,
+                stored: false,
+                from: 0,
+                words: 0,
+            }
         } else {
             self.with_a(65535)
         }
@@ -377,9 +422,18 @@ impl Registers {
         let written = self.written;
         if written < output.len() {
             output[written] = (self.a % 256) as u8;
-            let mut r = self;
-            r.written = written + 1;
-            Turn::Done(r)
+            Turn::Done(Registers {
+                a: self.a,
+                b: self.b,
+                c: self.c,
+                p: self.p,
+                g: self.g,
+                taken: self.taken,
+                written: written + 1,
+                stored: false,
+                from: 0,
+                words: 0,
+            })
         } else {
             Turn::Stopped(35)
         }
@@ -393,7 +447,7 @@ impl Registers {
         let a = self.a;
         if i < memory.len() {
             memory[i] = a;
-            Turn::Done(self)
+            Turn::Done(self.having_stored(x, 1))
         } else {
             Turn::Stopped(32)
         }
@@ -412,7 +466,7 @@ impl Registers {
             if j < memory.len() {
                 memory[i] = p;
                 memory[j] = c;
-                Turn::Done(self.framed(frame, self.a))
+                Turn::Done(self.framed(frame, self.a).having_stored(frame, 2))
             } else {
                 Turn::Stopped(32)
             }

@@ -18,12 +18,21 @@ use Rattle.symbols.specs.declared.SymbolsRead.{SymbolsRead}
 use Rattle.tree.specs.Read.{ReadsTree}
 use Rattle.tree.specs.declared.TreeRead.{TreeRead}
 use Rattle.tree.specs.declared.TreeRead.the-variants as T
-use Rattle.testbed.specs.Exported.{AssembleExported, RunExported, SymbolsExported, TreeAnswered, AfterSymbols, TreeExported, CompileExported, ranNumbers, treeNumbers, compiledNumbers}
+use Rattle.testbed.specs.Exported.{AssembleExported, RunExported, SymbolsExported, TreeAnswered, AfterSymbols, TreeExported, CompileExported, flagOf, ranNumbers, treeNumbers, compiledNumbers}
 use Rattle.text.specs.Line.{refusal}
 use Rattle.language.specs.Program.{Refused, accepted, refused}
 use Rattle.compiler.specs.Compiles.{decided, answerOf, Compiles}
 use Rattle.compiler.specs.declared.Compiled.{Compiled}
 use Rattle.compiler.specs.declared.Compiled.the-variants as C
+
+-- a run's numbers, with a flag made of whether anything was stored
+abbrev toldNumbers : Ran → ℕ → List ℕ
+toldNumbers ran flag =
+    let r = ran .registers in
+    ran .stop ∷ ran .count ∷ r .taken ∷ r .written ∷ r .a ∷ r .b ∷ r .c ∷ r .p ∷ r .g ∷ flag ∷ r .from ∷ r .words ∷ []
+
+pub told : (ran : Ran) {flag : ℕ} → flag ≡ flagOf (ran .registers .stored) → toldNumbers ran flag ≡ ranNumbers ran
+told ran e = ap (λ (f : ℕ). toldNumbers ran f) e
 
 -- a run's answer, told
 pub run-exported : {o : Outcome} {r : Ran} {memory output numbers : List ℕ} → Ends o r memory output → numbers ≡ ranNumbers r → RunExported o memory output numbers
@@ -31,7 +40,7 @@ run-exported e q =
     record {
       stores = e .stores;
       writes = e .writes;
-      answers = q ∙ λ i. e .stops i ∷ e .counts i ∷ e .leaves i .taken ∷ e .leaves i .written ∷ e .leaves i .a ∷ e .leaves i .b ∷ e .leaves i .c ∷ e .leaves i .p ∷ e .leaves i .g ∷ [];
+      answers = q ∙ ap ranNumbers (λ i. record { stop = e .stops i; count = e .counts i; registers = e .leaves i });
     }
 
 -- an assembly's answer, told

@@ -1,6 +1,7 @@
 -- What an exported call leaves in the lent answer.
 use Prim.Native.Nat.{ℕ}
 use mathlib.Core.Path.{_≡_}
+use mathlib.Core.Bool.{Bool, cond}
 use mathlib.Core.List.{List, [], _∷_}
 use lib.ListN.{length, replicate}
 use Rattle.machine.specs.Run.{Outcome}
@@ -21,12 +22,17 @@ use Rattle.language.specs.Program.{Refused, accepted, refused}
 use Rattle.code.specs.Generate.{textOf}
 use Rattle.compiler.specs.Compiles.{decided, textAfter}
 
-abbrev pub registersOf : (a b c p g taken written : ℕ) → Registers
-registersOf a b c p g taken written = record { a = a; b = b; c = c; p = p; g = g; taken = taken; written = written }
+abbrev pub registersOf : (a b c p g taken written : ℕ) (stored : Bool) (from words : ℕ) → Registers
+registersOf a b c p g taken written stored from words =
+    record { a = a; b = b; c = c; p = p; g = g; taken = taken; written = written; stored = stored; from = from; words = words }
 
--- stop, count, taken, written, A, B, C, P, G
+abbrev pub flagOf : Bool → ℕ
+flagOf b = cond b 1 0
+
+-- stop, count, taken, written, A, B, C, P, G; whether anything was stored last, 1 or 0, the first address, and the number of words
 abbrev runNumbers : (stop count : ℕ) → Registers → List ℕ
-runNumbers stop count r = stop ∷ count ∷ r .taken ∷ r .written ∷ r .a ∷ r .b ∷ r .c ∷ r .p ∷ r .g ∷ []
+runNumbers stop count r =
+    stop ∷ count ∷ r .taken ∷ r .written ∷ r .a ∷ r .b ∷ r .c ∷ r .p ∷ r .g ∷ flagOf (r .stored) ∷ r .from ∷ r .words ∷ []
 
 abbrev pub ranNumbers : Ran → List ℕ
 ranNumbers ran = runNumbers (ran .stop) (ran .count) (ran .registers)

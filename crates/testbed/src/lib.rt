@@ -4,7 +4,7 @@ ghost use lib.ListN.{length};
 ghost use Rattle.assembler.specs.Assemble.{assembled, numbers};
 ghost use Rattle.machine.specs.Run.{resume, run};
 ghost use Rattle.machine.specs.State.{at};
-ghost use Rattle.testbed.specs.Exported.{registersOf, ranNumbers, AssembleExported, RunExported, SymbolsExported, TreeExported, TreeAnswered, CompileExported};
+ghost use Rattle.testbed.specs.Exported.{registersOf, flagOf, ranNumbers, AssembleExported, RunExported, SymbolsExported, TreeExported, TreeAnswered, CompileExported};
 use assembler::Assembled;
 use assembler::Label;
 use compiler::Compiled;
@@ -46,7 +46,7 @@ pub extern "C" fn morkvasil_run(
     input: &[u8],
     output: &mut [u8],
     budget: u64,
-    answer: &mut [u64; 9],
+    answer: &mut [u64; 12],
 )
     ensures { λ _. ⌜ RunExported (run first (now (memory .entry)) (now (input .entry)) (now (output .entry)) budget) (now (memory .exit)) (now (output .exit)) (now (answer .exit)) ⌝ }
 {
@@ -63,13 +63,16 @@ pub extern "C" fn morkvasil_resume(
     g: u16,
     taken: usize,
     written: usize,
+    stored: bool,
+    from: u16,
+    words: u16,
     memory: &mut [u16],
     input: &[u8],
     output: &mut [u8],
     budget: u64,
-    answer: &mut [u64; 9],
+    answer: &mut [u64; 12],
 )
-    ensures { λ _. ⌜ RunExported (resume (now (input .entry)) budget (at (registersOf a b c p g taken written) (now (memory .entry)) (now (output .entry)))) (now (memory .exit)) (now (output .exit)) (now (answer .exit)) ⌝ }
+    ensures { λ _. ⌜ RunExported (resume (now (input .entry)) budget (at (registersOf a b c p g taken written stored from words) (now (memory .entry)) (now (output .entry)))) (now (memory .exit)) (now (output .exit)) (now (answer .exit)) ⌝ }
 {
     let registers = Registers {
         a: a,
@@ -79,12 +82,21 @@ pub extern "C" fn morkvasil_resume(
         g: g,
         taken: taken,
         written: written,
+        stored: stored,
+        from: from,
+        words: words,
     };
     let ran = machine::resume(registers, memory, input, output, budget);
     tell_run(ran, answer);
 }
 
-fn tell_run(ran: Ran, answer: &mut [u64; 9])
+fn flag(b: bool) -> u64
+    ensures { λ r. ⌜ r ≡ flagOf b ⌝ }
+{
+    if b { 1 } else { 0 }
+}
+
+fn tell_run(ran: Ran, answer: &mut [u64; 12])
     ensures { λ _. ⌜ now (answer .exit) ≡ ranNumbers ran ⌝ }
 {
     let r = ran.registers;
@@ -98,6 +110,9 @@ fn tell_run(ran: Ran, answer: &mut [u64; 9])
         r.c as u64,
         r.p as u64,
         r.g as u64,
+        flag(r.stored),
+        r.from as u64,
+        r.words as u64,
     ];
 }
 

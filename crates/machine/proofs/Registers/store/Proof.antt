@@ -1,4 +1,3 @@
-use mathlib.Core.Path.{refl}
 use Rattle.machine.proofs.Laws.{turned, turned-stop, stored-in, stored-past}
 use borrow.Author.Needs.{needs}
 use Rattle.machine.proofs.Registers.store.Statement.{statement}
@@ -7,5 +6,5 @@ use Rattle.machine.proofs.Registers.store.Tie as tie
 pub store-spec : {M : Type 1} → statement M
 store-spec =
     tie.close
-    (tie.spec (search needs) (search needs) (search needs) (λ c. turned (stored-in _ _ _ _ (c .if1 .taken)) refl)
+    (tie.spec (search needs) (search needs) (search needs) (search needs) (λ c. search (turned, stored-in))
     (λ c. search (turned-stop, stored-past)))
