@@ -1,7 +1,7 @@
 -- Worked examples by computation: small images, each stop, and closed instances of the laws.
 use Prim.Native.Nat.{ℕ, _+_, _-_, _≤_}
 use mathlib.Core.Path.{_≡_, refl}
-use mathlib.Core.Bool.{cond}
+use mathlib.Core.Bool.{Bool, true, false, cond}
 use mathlib.Core.List.{List, [], _∷_, _++_}
 use lib.Dec.{lit≤}
 use lib.ListN.{length, getD, take, drop, replicate}
@@ -13,6 +13,8 @@ use Rattle.machine.specs.Acts.{indirected, returned, combined, search, s
 use Rattle.machine.specs.Step.{keep, stored, called, jumped, perform, execute, step}
 use Rattle.machine.specs.Run.{Outcome, steps, resume, run}
 use Rattle.machine.proofs.Budget.{Grows, carriedOn, resume-add, budget-beginning}
+use Rattle.machine.proofs.Without as W
+use Rattle.machine.proofs.Unchanged.{bareOutcome, run-unchanged}
 
 -- a memory of 512 words that begins with these
 image : List ℕ → List ℕ
@@ -102,6 +104,59 @@ runs =
       short-memory = refl;
       short-memory-count = refl;
     }
+
+-- ---- the last store (document 02, Req 07)
+
+-- L5; S300; L6; X22
+storing : List ℕ
+storing = image (5 ∷ 8492 ∷ 6 ∷ 57366 ∷ [])
+
+-- what the registers say of it: whether anything, the first address, and the number of words
+said : Outcome → Bool × ℕ × ℕ
+said o = (o .state .regs .stored, o .state .regs .from, o .state .regs .words)
+
+nothing : Bool × ℕ × ℕ
+nothing = (false, 0, 0)
+
+record Stores : Type 0 where
+  -- at the start, after the L, after the S, and after the next L
+  at-start : said (ran 0 storing) ≡ nothing
+  after-load : said (ran 1 storing) ≡ nothing
+  after-store : said (ran 2 storing) ≡ (true, 300, 1)
+  after-other : said (ran 3 storing) ≡ nothing
+  -- K2, P being 100
+  after-call : said (ran 2 letter) ≡ (true, 102, 2)
+  -- S300 and X22: the finish is done, and stores nothing
+  after-finish : said (ran 9 (image (8492 ∷ 57366 ∷ []))) ≡ nothing
+  -- S300, and an instruction that is not done: X20, X6 by zero, a second S past the memory, half a K
+  act-undone : said (ran 9 (image (8492 ∷ 57364 ∷ []))) ≡ (true, 300, 1)
+  quotient-undone : said (ran 9 (image (8492 ∷ 57350 ∷ []))) ≡ (true, 300, 1)
+  store-undone : said (ran 9 (image (8492 ∷ 8704 ∷ 600 ∷ []))) ≡ (true, 300, 1)
+  call-undone : said (ran 9 (image (8492 ∷ 49563 ∷ []))) ≡ (true, 300, 1)
+
+stores : Stores
+unfolding image letter storing ran said nothing value wordOf mul quot rem below shl shr read write fetch indirected returned combined search switched received sent keep stored called jumped perform execute step steps resume
+stores =
+    record {
+      at-start = refl;
+      after-load = refl;
+      after-store = refl;
+      after-other = refl;
+      after-call = refl;
+      after-finish = refl;
+      act-undone = refl;
+      quotient-undone = refl;
+      store-undone = refl;
+      call-undone = refl;
+    }
+
+-- a closed instance of the law of Unchanged: the letter's run, and the same run without the last store, which finishes too
+unchanged : bareOutcome (run 100 letter [] (7 ∷ []) 100) ≡ W.run 100 letter [] (7 ∷ []) 100
+unchanged = run-unchanged 100 letter [] (7 ∷ []) 100
+
+unchanged-count : W.run 100 letter [] (7 ∷ []) 100 .count ≡ 6
+unfolding letter value wordOf mul quot rem below shl shr read write search W.fetch W.indirected W.returned W.combined W.switched W.received W.sent W.keep W.stored W.called W.jumped W.perform W.execute W.step W.steps W.resume
+unchanged-count = refl
 
 -- closed instances of the laws of Budget: the letter's run of 2 + 98 instructions, and of 2 against 100
 carried : run 100 letter [] (7 ∷ []) (2 + 98) ≡ carriedOn (run 100 letter [] (7 ∷ []) 2) (λ t. resume [] 98 t)

@@ -6,4 +6,6 @@ pub mod Runs
 pub mod Shape
 pub mod Budget
 pub mod Room
+pub mod Without
+pub mod Unchanged
 pub mod Examples

@@ -1,0 +1,164 @@
+-- The last store changes nothing else (document 02, Req 07: "Word values, output and count are the same as without it"): taken off the
+-- registers, every instruction and every run is that of the machine without it, whatever the registers say of the last store.
+use Prim.Native.Nat.{ℕ, zero, suc, _+_}
+use mathlib.Core.Path.{_≡_, refl, ap, _∙_}
+use mathlib.Core.Bool.{Bool, true, false, not, cond, _&&_}
+use mathlib.Core.List.{List}
+use lib.Dec.{ltb, leb, eqb}
+use lib.ListN.{length}
+use Rattle.machine.specs.Outcome.{Out, ok, stop, _>>=_, read, write}
+use Rattle.machine.specs.State.{State, at}
+use Rattle.machine.specs.Fetch.{Fetch, fetch}
+use Rattle.machine.specs.Acts.{Act, unlisted, indirect, negate, invert, back, finish, switch, rdch, wrch, dyadic, actOf, indirected, returned, combined, search, switched, received, sent}
+use Rattle.machine.specs.Step.{Turn, done, finished, stopped, turn, keep, stored, called, jumped, perform, Function, L, S, A, J, T, F, K, X, functionOf, execute, onFetch, step}
+use Rattle.machine.specs.Run.{Outcome, onTurn, steps, resume, run}
+use Rattle.machine.specs.declared.Registers.{Registers}
+use Rattle.machine.proofs.Without as W
+
+-- ---- the last store taken off
+
+abbrev pub bare : Registers → W.Registers
+bare r = record { a = r .a; b = r .b; c = r .c; p = r .p; g = r .g; taken = r .taken; written = r .written }
+
+abbrev pub bareState : State → W.State
+bareState s = W.at (bare (s .regs)) (s .mem) (s .out)
+
+abbrev pub bareTurn : Turn → W.Turn
+bareTurn (done t) = W.done (bareState t)
+bareTurn (finished t) = W.finished (bareState t)
+bareTurn (stopped k) = W.stopped k
+
+abbrev pub bareOutcome : Outcome → W.Outcome
+bareOutcome o = record { stop = o .stop; count = o .count; state = bareState (o .state) }
+
+-- ---- outcomes
+
+abbrev map : {A B : Type 0} → (A → B) → Out A → Out B
+map f (ok a) = ok (f a)
+map f (stop k) = stop k
+
+map-bind : {A B C : Type 0} (h : B → C) (o : Out A) (f : A → Out B) {g : A → Out C} → ((a : A) → map h (f a) ≡ g a) → map h (o >>= f) ≡ (o >>= g)
+map-bind h (ok a) f e = e a
+map-bind h (stop k) f e = refl
+
+same-keep : (s : State) (o : Out Registers) {o′ : Out W.Registers} → map bare o ≡ o′ → bareTurn (keep s o) ≡ W.keep (bareState s) o′
+unfolding keep W.keep
+same-keep s (ok r) e = rw (← e) refl
+same-keep s (stop k) e = rw (← e) refl
+
+same-turn : (o : Out State) {o′ : Out W.State} → map bareState o ≡ o′ → bareTurn (turn o) ≡ W.turn o′
+same-turn (ok s) e = rw (← e) refl
+same-turn (stop k) e = rw (← e) refl
+
+-- ---- the acts
+
+module _ (r : Registers) (m : List ℕ) where
+  same-fetch : fetch r m ≡ W.fetch (bare r) m
+  unfolding fetch W.fetch
+  same-fetch = refl
+
+  same-indirected : map bare (indirected r m) ≡ W.indirected (bare r) m
+  unfolding indirected W.indirected
+  same-indirected = map-bind bare (read m (r .a)) _ (λ v. refl)
+
+  same-returned : map bare (returned r m) ≡ W.returned (bare r) m
+  unfolding returned W.returned
+  same-returned = map-bind bare (read m _) _ (λ c. map-bind bare (read m (r .p)) _ (λ p. refl))
+
+  same-switched : map bare (switched r m) ≡ W.switched (bare r) m
+  unfolding switched W.switched
+  same-switched = map-bind bare (read m (r .c)) _ (λ n. map-bind bare (read m _) _ (λ d. map-bind bare (search m (r .a) d n _) _ (λ c. refl)))
+
+  same-combined : (f : ℕ → ℕ → Out ℕ) → map bare (combined f r) ≡ W.combined f (bare r)
+  unfolding combined W.combined
+  same-combined f = map-bind bare (f (r .b) (r .a)) _ (λ v. refl)
+
+  -- m is the input
+  same-received : bare (received r m) ≡ W.received (bare r) m
+  unfolding received W.received
+  same-received = go (ltb (r .taken) (length m)) refl
+    where
+      go : (b : Bool) → ltb (r .taken) (length m) ≡ b → bare (received r m) ≡ W.received (bare r) m
+      go true e = rw e refl
+      go false e = rw e refl
+
+same-jumped : (b : Bool) (x : ℕ) (r : Registers) → bare (jumped b x r) ≡ W.jumped b x (bare r)
+unfolding jumped W.jumped
+same-jumped true x r = refl
+same-jumped false x r = refl
+
+same-sent : (s : State) → map bareState (sent s) ≡ W.sent (bareState s)
+unfolding sent W.sent
+same-sent s = go (ltb (s .regs .written) (length (s .out))) refl
+  where
+    go : (b : Bool) → ltb (s .regs .written) (length (s .out)) ≡ b → map bareState (sent s) ≡ W.sent (bareState s)
+    go true e = rw e refl
+    go false e = rw e refl
+
+same-stored : (x : ℕ) (s : State) → map bareState (stored x s) ≡ W.stored x (bareState s)
+unfolding stored W.stored
+same-stored x s = map-bind bareState (write (s .mem) x (s .regs .a)) _ (λ m. refl)
+
+same-called : (x : ℕ) (s : State) → map bareState (called x s) ≡ W.called x (bareState s)
+unfolding called W.called
+same-called x s = map-bind bareState (write (s .mem) _ (s .regs .p)) _ (λ m. map-bind bareState (write m _ (s .regs .c)) _ (λ n. refl))
+
+-- ---- one instruction
+
+same-perform : (input : List ℕ) (a : Act) (s : State) → bareTurn (perform input a s) ≡ W.perform input a (bareState s)
+unfolding perform W.perform
+same-perform input unlisted s = refl
+same-perform input indirect s = same-keep s _ (same-indirected (s .regs) (s .mem))
+same-perform input negate s = same-keep s _ refl
+same-perform input invert s = same-keep s _ refl
+same-perform input back s = same-keep s _ (same-returned (s .regs) (s .mem))
+same-perform input (dyadic f) s = same-keep s _ (same-combined (s .regs) (s .mem) f)
+same-perform input finish s = refl
+same-perform input switch s = same-keep s _ (same-switched (s .regs) (s .mem))
+same-perform input rdch s = same-keep s _ (ap ok (same-received (s .regs) input))
+same-perform input wrch s = same-turn (sent s) (same-sent s)
+
+same-execute : (input : List ℕ) (f : Function) (x : ℕ) (s : State) → bareTurn (execute input f x s) ≡ W.execute input f x (bareState s)
+unfolding execute W.execute
+same-execute input L x s = same-keep s _ refl
+same-execute input S x s = same-turn (stored x s) (same-stored x s)
+same-execute input A x s = same-keep s _ refl
+same-execute input J x s = same-keep s _ refl
+same-execute input T x s = same-keep s _ (ap ok (same-jumped _ x (s .regs)))
+same-execute input F x s = same-keep s _ (ap ok (same-jumped _ x (s .regs)))
+same-execute input K x s = same-turn (called x s) (same-called x s)
+same-execute input X x s = same-perform input (actOf x) s
+
+same-fetched : (input : List ℕ) (s : State) (o : Out Fetch) → bareTurn (onFetch input s o) ≡ W.onFetch input (bareState s) o
+same-fetched input s (ok f) = same-execute input (functionOf (f .function)) (f .operand) _
+same-fetched input s (stop k) = refl
+
+pub step-unchanged : (input : List ℕ) (s : State) → bareTurn (step input s) ≡ W.step input (bareState s)
+unfolding step W.step
+step-unchanged input s = same-fetched input s (fetch (s .regs) (s .mem)) ∙ ap (W.onFetch input (bareState s)) (same-fetch (s .regs) (s .mem))
+
+-- ---- a run, whatever its stop
+
+same-on-turn : (s : State) (t : Turn) (f : State → Outcome) (g : W.State → W.Outcome) → ((u : State) → bareOutcome (f u) ≡ g (bareState u))
+    → bareOutcome (onTurn s t f) ≡ W.onTurn (bareState s) (bareTurn t) g
+same-on-turn s (done t) f g e = ap (W.after 1) (e t)
+same-on-turn s (finished t) f g e = refl
+same-on-turn s (stopped k) f g e = refl
+
+pub steps-unchanged : (input : List ℕ) (n : ℕ) (s : State) → bareOutcome (steps input n s) ≡ W.steps input n (bareState s)
+unfolding steps W.steps
+steps-unchanged input zero s = refl
+steps-unchanged input (suc n) s =
+    same-on-turn s (step input s) (λ t. steps input n t) (λ t. W.steps input n t) (λ t. steps-unchanged input n t)
+    ∙ ap (λ (t : W.Turn). W.onTurn (bareState s) t (λ u. W.steps input n u)) (step-unchanged input s)
+
+pub resume-unchanged : (input : List ℕ) (n : ℕ) (s : State) → bareOutcome (resume input n s) ≡ W.resume input n (bareState s)
+unfolding resume W.resume
+resume-unchanged input n s = go (leb 512 (length (s .mem)) && leb (length (s .mem)) 32768) refl
+  where
+    go : (b : Bool) → leb 512 (length (s .mem)) && leb (length (s .mem)) 32768 ≡ b → bareOutcome (resume input n s) ≡ W.resume input n (bareState s)
+    go true e = rw e (steps-unchanged input n s)
+    go false e = rw e refl
+
+pub run-unchanged : (first : ℕ) (memory input output : List ℕ) (n : ℕ) → bareOutcome (run first memory input output n) ≡ W.run first memory input output n
+run-unchanged first memory input output n = resume-unchanged input n _
