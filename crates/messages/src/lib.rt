@@ -22,6 +22,7 @@ pub use given::load_file;
 pub use given::load_input;
 use libc::STDERR_FILENO;
 use libc::STDOUT_FILENO;
+use machine::Registers;
 pub use running::carry_on;
 pub use running::run_image;
 use text::Refusal;
@@ -82,17 +83,40 @@ pub fn say_refusal(program: &[u8], source: &[u8], r: Refusal) {
     advice::say_advice(source, number, place);
 }
 
-// A stop other than 30: what happened, after how many instructions, with C where, and what to do.
-pub fn say_stop(program: &[u8], stop: u16, count: u64, c: u16) {
+// Which words changed last: those that the last instruction done stored.
+fn say_last_store(r: Registers) {
+    say(b"The last instruction done stored ");
+    if !r.stored {
+        say(b"nothing.\n");
+        return;
+    }
+    let first = r.from as u64;
+    if r.words == 1 {
+        say(b"the word at ");
+        say_number(first);
+    } else {
+        say(b"the words at ");
+        say_number(first);
+        say(b" and ");
+        say_number(first + 1);
+    }
+    say(b".\n");
+}
+
+// A stop other than 30: what happened, after how many instructions, with C where, what was stored last, and what to do.
+pub fn say_stop(program: &[u8], stop: u16, count: u64, r: Registers) {
     say(program);
     say(b": stopped ");
     say_number(stop as u64);
     say(b" after ");
     say_number(count);
     say(b" instructions with C at ");
-    say_number(c as u64);
+    say_number(r.c as u64);
     say(b": ");
     causes::say_stop_cause(stop);
     say(b".\n");
+    if count > 0 {
+        say_last_store(r);
+    }
     advice::say_stop_advice(stop);
 }

@@ -31,7 +31,7 @@ pub fn carry_on(
         }
         left -= done;
         if !flush(output, r.written) {
-            say_stop(program, 35, budget - left, r.c);
+            say_stop(program, 35, budget - left, r);
             return false;
         }
         r.written = 0;
@@ -40,11 +40,11 @@ pub fn carry_on(
             return true;
         }
         if stop != 35 {
-            say_stop(program, stop, budget - left, r.c);
+            say_stop(program, stop, budget - left, r);
             return false;
         }
         if done == 0 {
-            say_stop(program, stop, budget - left, r.c);
+            say_stop(program, stop, budget - left, r);
             return false;
         }
         ran = machine::resume(r, memory, input, output, left);
