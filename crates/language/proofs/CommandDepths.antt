@@ -1,24 +1,22 @@
 -- The depth of commands, and of whole programs: at most 8 for each of the 64 levels, and 8 more.
-use Prim.Native.Nat.{ℕ, zero, suc, _+_, _*_, _≤_, max}
-use mathlib.Core.Path.{_≡_, refl}
-use mathlib.Core.Bool.{Bool, true, false, cond}
+use Prim.Native.Nat.{ℕ, zero, suc, _+_, _*_, _≤_}
+use mathlib.Core.Path.{_≡_}
 use mathlib.Core.List.{List, [], _∷_}
-use mathlib.Core.Option.{Option}
 use native.Mathlib.Omega.{arith}
 use lib.ListN.{length}
 use lib.Dec.{eqb}
 use Rattle.language.specs.Kinds as K
 use Rattle.language.specs.Binding.{LOOSEST, isLabel, isGuard, isLeave, isRepeat, isDeclaration, goesOnAssignment, beginsCommand}
 use Rattle.language.specs.Tree as T
-use Rattle.language.specs.Tree.{Name, Label, Expression, Expressions, Command, Commands, Unlabelled, Repeats, Locals, Function, Declaration, Program, isCall, count}
-use Rattle.language.proofs.Depth.{depth, expressionsDepth, commandDepth, commandsDepth, unlabelledDepth, repeatsDepth, localsDepth, bodyDepth, functionsDepth, declarationDepth, programDepth}
-use Rattle.language.specs.Reader.{Source, Out, ok, no, Reader, _>>=_, return, kindAt, is, unexpected, any, here, the, optional, aName, many, items, furtherItems, upToClose}
+use Rattle.language.specs.Tree.{Name, Label, Expression, Function, Declaration, Program, isCall, count}
+use Rattle.language.proofs.Depth.{depth, bodyDepth, functionsDepth, declarationDepth, programDepth}
+use Rattle.language.specs.Reader.{Source, Out, ok, no, Reader, _>>=_, return, kindAt, is, unexpected, any, the, optional, aName, many, items, furtherItems, upToClose}
 use Rattle.language.specs.Expressions as E
-use Rattle.language.specs.Expressions.{Readers, Inside, shut, inside, opening}
+use Rattle.language.specs.Expressions.{Readers, Inside}
 use Rattle.language.specs.Commands as C
 use Rattle.language.specs.Grammar as G
 use Rattle.language.specs.Grammar.{within, treeOf}
-use Rattle.language.proofs.Gives.{Of, given, refused, Gives, Any, whatever, Keeps, gives-bind, gives-return, gives-cond, gives-unexpected, gives-any, gives-here, gives-the, gives-optional, gives-name, gives-many, gives-items, gives-further, gives-up-to-close}
+use Rattle.language.proofs.Gives.{Of, given, refused, Gives, Any, whatever, Keeps, gives-bind, gives-return, gives-cond, gives-unexpected, gives-any, gives-the, gives-optional, gives-name, gives-many, gives-items, gives-further}
 use Rattle.language.proofs.Depths as D
 use Rattle.language.proofs.Depths.{Low, LowList, LowCommand, LowCommands, LowUnlabelled, LowRepeats, LowLocals, LowReaders, LowInside, gives-opening}
 

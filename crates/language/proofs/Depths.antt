@@ -1,22 +1,17 @@
 -- The depth of what the readers give is bounded by the levels: a tree read with so many levels left is at most 8 deep for each of
 -- them, and 8 more.
-use Prim.Native.Nat.{ℕ, zero, suc, _+_, _*_, _≤_, max}
-use mathlib.Core.Path.{_≡_, refl}
-use mathlib.Core.Bool.{Bool, true, false, cond}
-use mathlib.Core.List.{List, [], _∷_}
+use Prim.Native.Nat.{ℕ, zero, suc, _+_, _≤_}
 use native.Mathlib.Omega.{arith}
-use lib.ListN.{length, getD}
 use lib.Dec.{eqb}
 use Rattle.language.specs.Kinds as K
-use Rattle.language.specs.Binding.{bindingOf, RELATION, LOOSEST, isMonadic, reachOf, isSuffix, isLabel, isRepeat, goesOnAssignment, beginsCommand}
+use Rattle.language.specs.Binding.{bindingOf, LOOSEST, isMonadic, reachOf, isSuffix}
 use Rattle.language.specs.Tree as T
-use Rattle.language.specs.Tree.{Expression, Expressions, Suffixes, Operations, Command, Commands, Unlabelled, Repeats, Locals, withSuffixes, withOperations, isCall, count}
+use Rattle.language.specs.Tree.{Expression, Expressions, Suffixes, Operations, Command, Commands, Unlabelled, Repeats, Locals, withSuffixes, withOperations}
 use Rattle.language.proofs.Depth.{depth, expressionsDepth, suffixesDepth, operationsDepth, commandDepth, commandsDepth, unlabelledDepth, repeatsDepth, localsDepth}
-use Rattle.language.specs.Reader.{Source, Out, ok, no, Reader, return, kindAt, is, unexpected, any, here, the, optional, aName, manyUpTo, many, items, furtherItems, upToClose}
+use Rattle.language.specs.Reader.{Out, Reader, kindAt, is, any, the, aName}
 use Rattle.language.specs.Expressions as E
 use Rattle.language.specs.Expressions.{Readers, Inside, shut, inside, opening}
-use Rattle.language.specs.Commands as C
-use Rattle.language.proofs.Gives.{Of, given, refused, Gives, Any, whatever, Keeps, gives-bind, gives-return, gives-cond, gives-unexpected, gives-any, gives-here, gives-the, gives-optional, gives-name, gives-many-up-to, gives-many, gives-items, gives-further, gives-up-to-close}
+use Rattle.language.proofs.Gives.{Of, given, refused, Gives, Any, Keeps, gives-bind, gives-return, gives-cond, gives-unexpected, gives-any, gives-the, gives-name, gives-many-up-to, gives-many, gives-up-to-close}
 
 -- trees at most so deep
 pub record Low (d : ℕ) (e : Expression) : Type 0 where

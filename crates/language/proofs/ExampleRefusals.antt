@@ -1,8 +1,7 @@
 -- Worked examples: refusals 1 to 5, and 15 for scratch.
-use Prim.Native.Nat.{ℕ}
 use mathlib.Core.Path.{_≡_, refl}
-use mathlib.Core.Bool.{true, false}
-use mathlib.Core.List.{List, [], _∷_, _++_}
+use mathlib.Core.Bool.{false}
+use mathlib.Core.List.{[], _∷_, _++_}
 use lib.ListN.{replicate}
 use Rattle.text.specs.Written.{bytes}
 use Rattle.language.specs.Source.{refused, tooLong, scratchTooShort, readSource}

@@ -2,10 +2,10 @@
 use Prim.Native.Nat.{ℕ}
 use mathlib.Core.Path.{_≡_, refl}
 use mathlib.Core.Bool.{true, false}
-use mathlib.Core.List.{List, [], _∷_}
+use mathlib.Core.List.{[], _∷_}
 use Rattle.language.specs.Kinds as K
 use Rattle.language.specs.Tree as T
-use Rattle.language.specs.Tree.{Name, Command, Expression, Constant, Declaration, noExpressions, andExpression, noSuffixes, noOperations, operation, command, noRepeats, noCommands, andCommand, noLocals}
+use Rattle.language.specs.Tree.{Name, Command, Expression, Constant, noExpressions, andExpression, noSuffixes, noOperations, operation, command, noRepeats, noCommands, andCommand, noLocals}
 use Rattle.language.specs.Source.{Read, read}
 use Rattle.language.proofs.Texts.{programIn}
 

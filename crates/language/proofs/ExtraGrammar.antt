@@ -11,7 +11,7 @@ use Rattle.language.specs.Kinds.{member}
 use Rattle.language.specs.Binding.{bindingOf, RELATION, LOOSEST, isMonadic, reachOf, isSuffix, isLabel, isGuard, isLeave, isRepeat, goesOnAssignment, isDeclaration, beginsCommand}
 use Rattle.language.specs.Tree as T
 use Rattle.language.specs.Tree.{Name, Label, Expression, Program, isCall, count}
-use Rattle.language.specs.Reader.{no, Reader, _>>=_, return, kindAt, is, any, here, the, optional, manyUpTo, many, items}
+use Rattle.language.specs.Reader.{Reader, _>>=_, return, kindAt, any, the, manyUpTo, many, items}
 use Rattle.language.specs.Expressions as E
 use Rattle.language.specs.Expressions.{Readers, Inside, shut, inside, opening}
 use Rattle.language.specs.Commands as C

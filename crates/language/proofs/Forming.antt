@@ -15,7 +15,7 @@ use Rattle.language.specs.Faults.{twice}
 use Rattle.language.specs.Program as P
 use Rattle.language.specs.Program.{globalsAfter, manifestsAfter, startOf, withFunction, functionsAfter, declaredBy, inside, bodyOf, resolved, bodyFaults, functionFaults, Walk, afterDeclaration, groupNameFaults, groupFaults, declarationFaults, Named, groupOf, declarationFunctions, faultsFrom, functionsFrom, begin, functionsOf, faultsOfProgram}
 use Rattle.language.specs.Run.{noFun}
-use Rattle.language.specs.Whole.{funs, functionsIn}
+use Rattle.language.specs.Whole.{funs}
 use Rattle.language.specs.Fine.{FineBody, FineFunctions, FineItems, FineDeclaration, FineProgram}
 use Rattle.language.proofs.Formed.{FormedF}
 use Rattle.language.proofs.Leaving.{none-left, none-right, LeavesF, leave-e, leave-c}

@@ -1,10 +1,8 @@
 -- What a reader gives, when it gives a tree at all: one rule for each way to put readers together.
 use Prim.Native.Nat.{ℕ, zero, suc}
-use mathlib.Core.Path.{_≡_, refl}
 use mathlib.Core.Bool.{Bool, true, false, cond}
 use lib.ListN.{length}
 use Rattle.language.specs.Kinds.{COMMA, SEMICOLON, CLOSE, END, NAME}
-use Rattle.language.specs.Tree.{Name}
 use Rattle.language.specs.Reader.{Source, Out, ok, no, Reader, onOut, _>>=_, return, kindAt, is, unexpected, any, here, the, optional, aName, whenHere, endOr, manyUpTo, many, moreUpTo, items, isComma, furtherItems, oneUpToClose, upToClose}
 
 pub data Of {A : Type 0} (P : A → Type 0) : Out A → Type 0 where

@@ -8,8 +8,7 @@ use native.Mathlib.Omega.{arith}
 use lib.Dec.{eqb}
 use Rattle.language.specs.Kinds.{NOT}
 use Rattle.language.specs.Binding.{NEGATION}
-use Rattle.language.specs.Tree.{Expression}
-use Rattle.language.specs.Reader.{Source, Reader, is}
+use Rattle.language.specs.Reader.{Source, is}
 use Rattle.language.specs.Expressions.{Inside, operand, products, sums, relations, shifts, negations, conjunctions, disjunctions, chain, monadic, expression}
 
 -- the binding of the right operands

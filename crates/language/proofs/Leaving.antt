@@ -1,5 +1,5 @@
 -- A text without refusal 13 has BREAK and LOOP in loops, ENDCASE in a SWITCHON and RESULTIS in a VALOF only, after it is resolved too.
-use Prim.Native.Nat.{ℕ, suc, _+_}
+use Prim.Native.Nat.{ℕ, _+_}
 use mathlib.Core.Path.{_≡_, refl, sym, _∙_}
 use mathlib.Core.Bool.{Bool, true, false, cond}
 use mathlib.Core.List.{List, [], _∷_, _++_}

@@ -8,7 +8,7 @@ use lib.ListN.{length, List·getD-eq-default}
 use lib.Dec.{eqb}
 use Rattle.language.specs.Kinds as K
 use Rattle.language.specs.Symbols.{Symbol}
-use Rattle.language.specs.Reader.{Source, Out, ok, no, Reader, onOut, _>>=_, return, symbolAt, kindAt, placeAt, is, unexpected, any, here, the, optional, aName, whenHere, endOr, manyUpTo, many, moreUpTo, items, isComma, furtherItems, oneUpToClose, upToClose}
+use Rattle.language.specs.Reader.{Source, Out, ok, no, Reader, onOut, _>>=_, return, symbolAt, kindAt, placeAt, is, unexpected, any, here, the, optional, aName, manyUpTo, many, moreUpTo, items, isComma, furtherItems, oneUpToClose, upToClose}
 
 -- two sources have the same symbols at all positions up to one, the end included
 pub record Agree (s t : Source) (p : ℕ) : Type 0 where

@@ -1,6 +1,6 @@
 -- A refusal 6 or 7 depends only on the symbols up to the one refused: a source that has the same symbols up to there is refused alike.
-use Prim.Native.Nat.{ℕ, zero, suc, _+_, _≤_}
-use mathlib.Core.Path.{_≡_, refl, sym, ap, _∙_}
+use Prim.Native.Nat.{ℕ, zero, suc}
+use mathlib.Core.Path.{_≡_, refl, _∙_}
 use mathlib.Core.Bool.{Bool, true, false, cond}
 use mathlib.Core.List.{List, [], _∷_}
 use native.Mathlib.Omega.{arith}
@@ -10,14 +10,14 @@ use Rattle.language.specs.Kinds as K
 use Rattle.language.specs.Kinds.{member}
 use Rattle.language.specs.Binding.{bindingOf, RELATION, LOOSEST, isMonadic, reachOf, isSuffix, isLabel, isGuard, isLeave, isRepeat, goesOnAssignment, isDeclaration, beginsCommand}
 use Rattle.language.specs.Tree as T
-use Rattle.language.specs.Tree.{Name, Label, Expression, Program, isCall, count, withSuffixes, withOperations}
-use Rattle.language.specs.Reader.{Source, Out, ok, no, Reader, _>>=_, return, kindAt, is, unexpected, any, here, the, optional, aName, manyUpTo, many, items, furtherItems, upToClose}
+use Rattle.language.specs.Tree.{Name, Label, Expression, Program, isCall, count}
+use Rattle.language.specs.Reader.{Source, no, Reader, _>>=_, return, any, here, the, aName, manyUpTo, items}
 use Rattle.language.specs.Expressions as E
 use Rattle.language.specs.Expressions.{Readers, Inside, shut, inside, opening}
 use Rattle.language.specs.Commands as C
 use Rattle.language.specs.Grammar as G
 use Rattle.language.specs.Grammar.{within, treeOf}
-use Rattle.language.proofs.Local.{Agree, EndsBy, stopped, Rel, rel-no, rel-cond, rel-after, Local, local-weaker, local-return, local-unexpected, local-cond, local-choice, local-bind, local-any, local-here, local-the, local-optional, local-name, fixed, each, local-many, local-items, local-further, local-up-to-close}
+use Rattle.language.proofs.Local.{Agree, stopped, rel-no, rel-after, Local, local-weaker, local-return, local-unexpected, local-cond, local-choice, local-bind, local-any, local-here, local-the, local-optional, local-name, fixed, each, local-many, local-items, local-further, local-up-to-close}
 
 module _ {A : Type 0} where
   past : (kind : ℕ) {f : ℕ → Reader A} → ((place : ℕ) → Local 0 (f place)) → Local 1 (the kind >>= f)

@@ -14,7 +14,7 @@ use Rattle.language.specs.Kinds.{member}
 use Rattle.language.specs.Symbols.{Symbol, Fault, none, fault, scan}
 use Rattle.language.specs.Brackets.{firstFault, brackets}
 use Rattle.language.specs.Strings.{withValue, numbered}
-use Rattle.language.specs.Semicolons.{firsts, seconds, endsLine, beginsLine, linesDiffer, gains, semicolon, inserted, semicolonsAfter, semicolons}
+use Rattle.language.specs.Semicolons.{firsts, seconds, endsLine, beginsLine, linesDiffer, gains, inserted, semicolonsAfter, semicolons}
 use Rattle.language.specs.Tree.{Program}
 use Rattle.language.specs.Reader.{Source, Out}
 use Rattle.language.specs.Grammar.{treeOf}

@@ -1,5 +1,5 @@
 -- What the grammar reads: no tree is written with fewer symbols than its tokens, and its numbers and strings are fine.
-use Prim.Native.Nat.{ℕ, zero, suc, _+_, _-_, _≤_, _<_}
+use Prim.Native.Nat.{ℕ, zero, suc, _+_, _≤_, _<_}
 use mathlib.Core.Path.{_≡_, refl, sym, ap, _∙_}
 use mathlib.Core.Bool.{Bool, true, false, not, cond, _&&_}
 use mathlib.Core.List.{List, [], _∷_}
@@ -23,7 +23,7 @@ use Rattle.language.specs.Symbols.{Symbol}
 use Rattle.language.specs.Fine.{labelCount, FineName, FineNames, FineConstant, FineBy, FineLabels, Fine, FineList, FineSuffixes, FineOperations, FineCommand, FineCommands, FineUnlabelled, FineRepeats, FineLocals, FineBody, FineFunctions, FineItems, FineDeclaration, FineProgram}
 use Rattle.language.proofs.Tokens.{begun, begun-not-empty, labels-tokens, labelsTokens, byTokens, tokens, listTokens, suffixesTokens, operationsTokens, commandTokens, commandsTokens, unlabelledTokens, repeatsTokens, localsTokens, bodyTokens, functionsTokens, declarationTokens, programTokens}
 use Rattle.language.proofs.Takes as X
-use Rattle.language.proofs.Takes.{Counts, Solid, Of, given, refused, OfPut, puts, refuses, Any, whatever, Symbolic, it-is, NameHere}
+use Rattle.language.proofs.Takes.{Counts, Solid, Of, given, refused, OfPut, puts, refuses, Any, Symbolic, it-is, NameHere}
 
 -- ---- kinds that are symbols, and no semicolons
 

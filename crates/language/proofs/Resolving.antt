@@ -1,5 +1,5 @@
 -- From a tree to a resolved tree that is formed: names mean what stands in the scope, and the scope's words lie below the height.
-use Prim.Native.Nat.{ℕ, suc, _+_, _-_, _≤_, _<_}
+use Prim.Native.Nat.{ℕ, suc, _+_, _≤_, _<_}
 use mathlib.Core.Path.{_≡_, refl, ap, _∙_}
 use mathlib.Core.Bool.{Bool, true, false, cond}
 use mathlib.Core.List.{List, [], _∷_}
@@ -8,7 +8,7 @@ use native.Mathlib.Omega.{arith}
 use native.Mathlib.Nat.{le-refl}
 use lib.Dec.{eqb, leb}
 use lib.ListN.{length}
-use borrow.Author.Tests.{leb-true, eqb-true}
+use borrow.Author.Tests.{leb-true}
 use Rattle.language.specs.Kinds.{IF, WHILE, UNTIL, REPEATWHILE, BREAK, LOOP, ENDCASE, RETURN, PLING, AT}
 use Rattle.language.specs.Tree as T
 use Rattle.language.specs.Tree.{Name, Simple, Constant, Label, Expression, Expressions, Suffixes, Operations, Command, Commands, Unlabelled, Repeats}

@@ -1,5 +1,5 @@
 -- How many symbols a tree is written with at least, inserted semicolons apart.
-use Prim.Native.Nat.{ℕ, _+_, _≤_, _<_}
+use Prim.Native.Nat.{ℕ, _+_, _≤_}
 use mathlib.Core.Path.{_≡_, refl}
 use mathlib.Core.Bool.{Bool, true, false, cond}
 use mathlib.Core.List.{List, [], _∷_}
@@ -8,7 +8,7 @@ use mathlib.Core.Option.{Option, none, some}
 use lib.ListN.{length}
 use Rattle.language.specs.Tree as T
 use Rattle.language.specs.Fine.{EmptyAfterLabels}
-use Rattle.language.specs.Tree.{Simple, Constant, Label, Expression, Expressions, Suffixes, Operations, Command, Commands, Unlabelled, Repeats, Locals, Body, Function, Declaration, Item, Program}
+use Rattle.language.specs.Tree.{Constant, Label, Expression, Expressions, Suffixes, Operations, Command, Commands, Unlabelled, Repeats, Locals, Body, Function, Declaration, Program}
 
 unfoldable pub labelsTokens : List Label → ℕ
 labelsTokens [] = 0

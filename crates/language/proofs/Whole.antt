@@ -12,7 +12,6 @@ use Rattle.language.specs.Resolve.{declareAll, sideOf, under, scopeAfter
 use Rattle.language.specs.Faults.{twice, misplaced, doubled, inExpression}
 use Rattle.language.specs.Heights as H
 use Rattle.language.specs.Heights.{greatest, largestHeight, heightsOf}
-use Rattle.language.specs.Program as P
 use Rattle.language.specs.Program.{Refused, accepted, refused, globalsAfter, manifestsAfter, functionsAfter, declaredBy, resolved, functionFaults, globalFaults, manifestFaults, takenAfter, afterDeclaration, among, groupNameFaults, groupFaults, groupOf, faultsFrom, functionsFrom, faultsOfProgram, functionsOf, heightFaults, hasStart, leastFrom, rulesRefuse}
 use Rattle.language.specs.Resolved.{hasCase, hasDefault, Fun}
 use Rattle.language.specs.Operators.{applyMonadic, applyDyadic}
@@ -86,11 +85,6 @@ usedBy text = useOf (runOf 32768 100 (bytes text) [])
 unfoldable pub ranIn : (memory : ℕ) → String → Told
 unfolding runOf
 ranIn memory text = tell (runOf memory 100 (bytes text) [])
-
--- a run with fuel for the examples
-unfoldable pub ran : (text input : String) → Told
-unfolding ranBytes
-ran text input = ranBytes 100 (bytes text) (bytes input)
 
 -- the empty source, with 64 scratch entries
 pub empty-source : refusalOf [] 64 ≡ refused 14 0

@@ -1,7 +1,7 @@
 -- Which symbols stand where: how operators bind, and which symbols begin what (document 01, "Grammar": "Binding, tightest first").
 use Prim.Native.Nat.{ℕ}
-use mathlib.Core.Bool.{Bool, true, false, cond}
-use mathlib.Core.List.{List, [], _∷_}
+use mathlib.Core.Bool.{Bool, true, cond}
+use mathlib.Core.List.{[], _∷_}
 use lib.Dec.{eqb}
 use Rattle.language.specs.Kinds as K
 use Rattle.language.specs.Kinds.{member}

@@ -2,7 +2,7 @@
 -- A byte is a number from 0 to 255. Its class says which symbols it may start; here the classes are given by ranges, and the
 -- compiler's table is proved equal to this.
 use Prim.Native.Nat.{ℕ}
-use mathlib.Core.Bool.{Bool, true, false, cond, _&&_}
+use mathlib.Core.Bool.{Bool, cond, _&&_}
 use lib.Dec.{eqb, leb}
 
 -- The classes. No symbol starts with it

@@ -1,7 +1,7 @@
 -- Commands (document 01, "Grammar"). A command opens a level at its first symbol after its labels; what stands in it, the REPEAT
 -- forms after it included, is read with the readers inside that level.
 use Prim.Native.Nat.{ℕ, zero, suc, _+_}
-use mathlib.Core.Bool.{Bool, true, false, cond}
+use mathlib.Core.Bool.{cond}
 use mathlib.Core.List.{List, [], _∷_}
 use mathlib.Core.Option.{Option, none, some}
 use lib.ListN.{length}
@@ -10,8 +10,8 @@ use Rattle.language.specs.Kinds as K
 use Rattle.language.specs.Binding.{LOOSEST, isLabel, isGuard, isLeave, isRepeat, goesOnAssignment, beginsCommand}
 use Rattle.language.specs.Tree as T
 use Rattle.language.specs.Tree.{Name, Constant, Label, Expression, Expressions, noExpressions, andExpression, Command, Commands, noCommands, andCommand, Unlabelled, Repeats, noRepeats, Locals, noLocals, isCall, count}
-use Rattle.language.specs.Reader.{Source, Out, ok, no, Reader, onOut, _>>=_, return, kindAt, is, unexpected, any, the, optional, aName, many, items, furtherItems}
-use Rattle.language.specs.Expressions.{Readers, Inside, shut, inside, opening, constant}
+use Rattle.language.specs.Reader.{ok, Reader, _>>=_, return, kindAt, is, unexpected, any, the, optional, aName, many, items, furtherItems}
+use Rattle.language.specs.Expressions.{Readers, Inside, opening, constant}
 
 module _ (r : Readers) where
   -- TEST expression DO command OR command

@@ -6,16 +6,16 @@
 -- nest to 64 levels in all. What stands inside a level is read by the readers for one level less. `Inside` has them, or says
 -- that no level is left: then what would open one is refused 7 at its first symbol. Nothing else makes the grammar go round in a
 -- circle, so the only recursion on it is `within` in Grammar, on the number of levels left.
-use Prim.Native.Nat.{ℕ, zero, suc, _+_}
-use mathlib.Core.Bool.{Bool, true, false, cond}
-use mathlib.Core.List.{List, [], _∷_}
+use Prim.Native.Nat.{ℕ}
+use mathlib.Core.Bool.{true, false, cond}
+use mathlib.Core.List.{[], _∷_}
 use lib.ListN.{length, getD}
 use lib.Dec.{eqb}
 use Rattle.language.specs.Kinds as K
 use Rattle.language.specs.Binding.{bindingOf, RELATION, LOOSEST, isMonadic, reachOf, isSuffix}
 use Rattle.language.specs.Tree as T
 use Rattle.language.specs.Tree.{Simple, Constant, Expression, noExpressions, andExpression, Suffixes, noSuffixes, Operations, noOperations, Command, withSuffixes, withOperations}
-use Rattle.language.specs.Reader.{Source, Out, ok, no, Reader, onOut, _>>=_, return, kindAt, is, unexpected, any, here, the, aName, manyUpTo, many, upToClose}
+use Rattle.language.specs.Reader.{Source, no, Reader, _>>=_, return, kindAt, is, unexpected, any, here, the, aName, manyUpTo, many, upToClose}
 
 -- the readers at some number of levels left: of expressions, by the loosest binding that their operators may have, of commands and
 -- of constants

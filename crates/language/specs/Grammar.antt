@@ -2,14 +2,14 @@
 -- A text that is refused 6 is refused at the first symbol that cannot follow those before it, and 7 at the symbol that would open a
 -- 65th level, if that symbol may stand there at all; the first of these is the answer, since a reader never goes back.
 use Prim.Native.Nat.{ℕ, zero, suc}
-use mathlib.Core.Bool.{Bool, true, false, cond}
+use mathlib.Core.Bool.{cond}
 use mathlib.Core.List.{List, [], _∷_}
 use lib.Dec.{eqb}
 use Rattle.language.specs.Kinds as K
 use Rattle.language.specs.Binding.{LOOSEST, isDeclaration}
 use Rattle.language.specs.Tree as T
 use Rattle.language.specs.Tree.{Item, Body, Function, Declaration, Program}
-use Rattle.language.specs.Reader.{Source, Out, ok, no, Reader, onOut, _>>=_, return, is, unexpected, the, optional, aName, many, items, upToClose}
+use Rattle.language.specs.Reader.{Source, Out, ok, Reader, _>>=_, return, is, unexpected, the, optional, aName, many, items, upToClose}
 use Rattle.language.specs.Expressions.{Readers, Inside, shut, inside, expression, constant}
 use Rattle.language.specs.Commands.{command}
 

@@ -1,6 +1,6 @@
 -- What the operators make of words (document 01, "The source run", first paragraph), by their symbol kinds.
 use Prim.Native.Nat.{ℕ}
-use mathlib.Core.Bool.{Bool, cond}
+use mathlib.Core.Bool.{cond}
 use mathlib.Core.Option.{Option, none, some}
 use lib.Dec.{eqb}
 use Rattle.words.specs.Words.{add, sub, neg, complement, mul, quot, rem, eq, ne, lt, ge, gt, le, conj, disj, shl, shr}

@@ -1,5 +1,5 @@
 -- A whole program: its declarations in order, its functions resolved, and the refusals 8 to 14 and 16 (document 01).
-use Prim.Native.Nat.{ℕ, zero, suc, _+_}
+use Prim.Native.Nat.{ℕ, _+_}
 use mathlib.Core.Bool.{Bool, true, false, cond}
 use mathlib.Core.List.{List, [], _∷_, _++_}
 use lib.ListN.{length}
@@ -12,7 +12,7 @@ use Rattle.language.specs.Constants.{Fault, fault, judge, forGlobal, jud
 use Rattle.language.specs.Resolved as R
 use Rattle.language.specs.Resolved.{Body, Fun, Start, nowhere, inGlobal}
 use Rattle.language.specs.Resolve.{declareAll, expression, command}
-use Rattle.language.specs.Faults.{Leavable, twice, inExpression, inCommand}
+use Rattle.language.specs.Faults.{twice, inExpression, inCommand}
 use Rattle.language.specs.Heights.{largestHeight}
 
 -- ---- the outermost scope. Each item of GLOBAL and MANIFEST is known from its end on

@@ -3,7 +3,7 @@
 -- and never goes back.
 use Prim.Native.Nat.{ℕ, zero, suc, _+_}
 use mathlib.Core.Bool.{Bool, true, false, cond}
-use mathlib.Core.List.{List, [], _∷_}
+use mathlib.Core.List.{List}
 use lib.ListN.{length, getD}
 use lib.Dec.{eqb}
 use Rattle.language.specs.Kinds.{NOTHING, COMMA, SEMICOLON, CLOSE, END, NAME}

@@ -1,8 +1,8 @@
 -- From a tree to the resolved tree. Where there is an error a stand-in is given: the tree is total, and Faults has the errors.
 -- The height is carried along, since the words of locals are counted from it (document 01, "Places").
 use Prim.Native.Nat.{ℕ, _+_}
-use mathlib.Core.Bool.{Bool, true, false, cond}
-use mathlib.Core.List.{List, [], _∷_, _++_}
+use mathlib.Core.Bool.{true, false, cond}
+use mathlib.Core.List.{List, [], _∷_}
 use mathlib.Core.Option.{Option, none, some}
 use lib.ListN.{length}
 use lib.Dec.{eqb}

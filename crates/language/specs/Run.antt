@@ -9,10 +9,10 @@ use lib.ListN.{length, getD}
 use lib.Dec.{eqb, leb, ltb}
 use Rattle.words.specs.Words.{add, below}
 use Rattle.language.specs.Resolved as R
-use Rattle.language.specs.Resolved.{Expr, Exprs, Target, Pairs, Cmd, Cmds, Cases, CaseLabel, hasCase, hasDefault, Locals, Body, Fun, Start, nowhere, inGlobal}
+use Rattle.language.specs.Resolved.{Expr, Exprs, Target, Pairs, Cmd, Cmds, Cases, CaseLabel, hasCase, hasDefault, Locals, Body, Fun, nowhere}
 use Rattle.language.specs.Heights.{heightWith, count}
 use Rattle.language.specs.Operators.{applyMonadic, applyDyadic}
-use Rattle.language.specs.State.{Cell, gone, unset, holds, Value, absent, word, State, Result, unfinished, undefined, finished, returned, ok, bind, step, withCells, put, forget, read, write, demand}
+use Rattle.language.specs.State.{Cell, unset, holds, Value, absent, word, State, Result, unfinished, undefined, finished, returned, ok, bind, step, withCells, put, forget, read, write, demand}
 
 -- how a command ends: to the next one, by BREAK, LOOP or ENDCASE, or by RESULTIS
 pub data Flow : Type 0 where

@@ -5,7 +5,7 @@ use mathlib.Core.Bool.{Bool, cond}
 use mathlib.Core.List.{List, []}
 use lib.ListN.{length}
 use lib.Dec.{ltb}
-use Rattle.language.specs.Symbols.{Symbol, Fault, none, fault, Scan, scan}
+use Rattle.language.specs.Symbols.{Symbol, Fault, none, fault, scan}
 use Rattle.language.specs.Brackets.{firstFault, brackets}
 use Rattle.language.specs.Strings.{numbered}
 use Rattle.language.specs.Semicolons.{semicolons}

@@ -1,8 +1,8 @@
 -- The state of a source run, and what may come of a part of it (document 01, "The source run").
-use Prim.Native.Nat.{ℕ, suc, _+_, _-_}
-use mathlib.Core.Bool.{Bool, true, false, cond}
-use mathlib.Core.List.{List, [], _∷_, _++_}
-use lib.Dec.{eqb, leb, ltb}
+use Prim.Native.Nat.{ℕ, suc}
+use mathlib.Core.Bool.{cond}
+use mathlib.Core.List.{List}
+use lib.Dec.{eqb, leb}
 
 -- a word of memory: no global, string word or live named word; live, and not stored since its declaration; or stored
 pub data Cell : Type 0 where

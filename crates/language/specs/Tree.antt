@@ -6,7 +6,7 @@
 -- a label's word, a name, and the words that leave something.
 use Prim.Native.Nat.{ℕ, suc}
 use mathlib.Core.Bool.{Bool, true, false}
-use mathlib.Core.List.{List, [], _∷_}
+use mathlib.Core.List.{List}
 use mathlib.Core.Option.{Option}
 
 -- a name: where it stands and how many bytes it has. Names are compared by their bytes in the text

@@ -1,8 +1,7 @@
 -- A whole source: all its refusals in 01's order, its functions and strings, and its source run.
-use Prim.Native.Nat.{ℕ, zero, suc, _+_, _-_, _≤_}
-use mathlib.Core.Path.{_≡_}
-use mathlib.Core.Bool.{Bool, true, false, cond}
-use mathlib.Core.List.{List, [], _∷_, _++_}
+use Prim.Native.Nat.{ℕ, suc, _+_, _-_}
+use mathlib.Core.Bool.{cond}
+use mathlib.Core.List.{List, [], _∷_}
 use lib.ListN.{length, getD, set, drop}
 use lib.Dec.{eqb, leb, ltb}
 use Rattle.text.specs.Quoted.{Quoted, closed, faulty, quoted}
@@ -14,8 +13,8 @@ use Rattle.language.specs.Source as S
 use Rattle.language.specs.Source.{symbolsOf, readSource}
 use Rattle.language.specs.Resolved.{Fun, Start, nowhere, inGlobal}
 use Rattle.language.specs.Program.{Refused, accepted, refused, rulesRefuse, Named, functionsOf}
-use Rattle.language.specs.State.{Cell, gone, holds, Value, State, Result, unfinished, undefined, finished, returned, ok}
-use Rattle.language.specs.Run.{Placement, Sem, called, sem}
+use Rattle.language.specs.State.{Cell, gone, holds, Value, State, Result, finished, ok}
+use Rattle.language.specs.Run.{Placement, called, sem}
 
 -- ---- refusals: 1; 15 for scratch; 2 to 5; 6 and 7; 8 to 13; 16; 14; 15 for text
 
