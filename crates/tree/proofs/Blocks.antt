@@ -1,5 +1,5 @@
 -- Labels, the commands that hold others, and blocks: what each construct's parts make together.
-use Prim.Native.Nat.{ℕ, suc, _+_, _-_, _≤_, _<_}
+use Prim.Native.Nat.{ℕ, _+_, _-_, _≤_, _<_}
 use mathlib.Core.Path.{_≡_, refl, sym, ap, subst, _∙_}
 use mathlib.Core.Bool.{Bool, true, false, cond}
 use mathlib.Core.List.{List, [], _∷_, _++_, append-assoc}
@@ -8,9 +8,10 @@ use lib.ListN.{length, length-append}
 use lib.Dec.{eqb}
 use borrow.Author.Tests.{eq-eqb, ne-eqb}
 use Rattle.language.specs.Kinds as K
+use Rattle.language.specs.Kinds.{member}
 use Rattle.language.specs.Tree as T
 use Rattle.language.specs.Tree.{Label, Command, Unlabelled}
-use Rattle.language.specs.Reader.{Source, Out, ok, no, onOut, kindAt, unexpected, any, the, aName, manyUpTo, many, moreUpTo}
+use Rattle.language.specs.Reader.{Source, Out, ok, no, onOut, kindAt, unexpected, the, aName, manyUpTo, many, moreUpTo}
 use Rattle.language.specs.Binding.{LOOSEST, isLabel, isRepeat, beginsCommand}
 use Rattle.language.specs.Expressions as E
 use Rattle.language.specs.Expressions.{Inside, inside, shut, opening}
@@ -20,13 +21,11 @@ use Rattle.tree.specs.Reads.{Lies, KindHere, Goes, Puts, Reads, Refuses,
 use Rattle.tree.specs.Between.{Repeated, repeatedBy, repeatedOnly, encodeRepeatedOnly, opened, bodyAfter}
 use Rattle.tree.specs.Encoding.{LABELLED, closed, encode, encodeName, encodeBy, encodeLabels, encodeCommand, encodeCommands, encodeUnlabelled, encodeRepeats, encodeLocals, labelled, repeated}
 use Rattle.tree.proofs.Steps.{follow, bind, here, added, adds-on, goes-on, _then_, nothing, stopped}
-use Rattle.tree.proofs.Symbols.{mapped, the-is, inside as among}
-use Rattle.tree.proofs.Lists.{turn, last}
+use Rattle.tree.proofs.Symbols.{mapped, the-is}
 use Rattle.tree.proofs.ListEnd.{listed-items}
 use Rattle.tree.proofs.Chains.{grown}
-use Rattle.tree.proofs.Classes.{label-positive}
 use Rattle.tree.proofs.Commands.{two, three}
-use Rattle.tree.proofs.Readers.{deeper, shut-at, item-alone, put-first, nests}
+use Rattle.tree.proofs.Readers.{deeper, shut-at, item-alone, put-first, many-none, many-first}
 use Rattle.tree.specs.declared.scratch.Answer.{Answer}
 
 -- ---- a command after its labels, if there are any
@@ -96,31 +95,17 @@ unfolding labelled
 labelled-words [] w h = absurd (omega arith)
 labelled-words (x ∷ ls) w h = refl
 
-module _ (x : ℕ) (src : Source) where
-  no-labels : (at : ℕ) → isLabel (kindAt src at) ≡ false → many [] isLabel (C.label (within x)) src at ≡ ok [] at
-  unfolding many
-  no-labels at h = last [] isLabel (C.label (within x)) src (length (src .symbols)) at h
-
-  first-label : (n at : ℕ) → length (src .symbols) ≡ n → 0 < n → isLabel (kindAt src at) ≡ true → many [] isLabel (C.label (within x)) src at ≡ onOut (C.label (within x) src at) (λ put q. onOut (manyUpTo (n - 1) [] isLabel (C.label (within x)) src q) (λ more w. ok (put more) w))
-  unfolding many
-  first-label n at e h q =
-      let y : length (src .symbols) ≡ suc (n - 1) = omega arith in
-      ap (λ (m : ℕ). manyUpTo m [] isLabel (C.label (within x)) src at) y ∙ turn [] isLabel (C.label (within x)) src (n - 1) at q
-
 pub command-plain : (src : Source) (x : ℕ) {s s′ : List ℕ} {r r′ : Answer} {kind : ℕ} → KindHere src r kind → isLabel kind ≡ false → Reads (bodyAfter false x src) encodeRepeatedOnly s s′ r r′ → Reads (C.command (within x) src) encodeCommand s s′ r r′
 unfolding C.command encodeCommand encodeLabels labelled encodeRepeatedOnly
 command-plain src x k q d =
-    here _ (λ at free e. ap (λ (o : Out (List Label)). onOut o (λ ls m. C.afterLabels (within x) ls src m)) (no-labels x src at (sym (ap isLabel (k .here at free e)) ∙ q)) ∙ after-none x src at)
+    here _ (λ at free e. many-none k [] isLabel (C.label (within x)) (λ ls m. C.afterLabels (within x) ls src m) e q ∙ after-none x src at)
     (mapped (with-labels []) (λ c. refl) d)
 
 module _ {src : Source} {n : ℕ} {s₀ : List ℕ} (l : Lies src n s₀) (size x : ℕ) {r : Answer} {kind : ℕ} (k : KindHere src r kind) where
   pub labelled-read : {s s₁ s₂ s₃ s₄ : List ℕ} {r₁ r₂ r₃ r₄ : Answer} {lo value : ℕ} → isLabel kind ≡ true → lo ≡ freeOf size r → value ≡ freeOf size r₂ - lo → Goes (C.label (within x) src) (Puts encodeLabels) s s₁ r r₁ → Reads (manyUpTo (n - 1) [] isLabel (C.label (within x)) src) encodeLabels s₁ s₂ r₁ r₂ → Reads (bodyAfter true x src) encodeRepeatedOnly s₂ s₃ r₂ r₃ → Adds (recordFrom lo value 0 LABELLED) s₃ s₄ r₃ r₄ → Reads (C.command (within x) src) encodeCommand s s₄ r r₄
-  unfolding C.command encodeCommand encodeRepeatedOnly
+  unfolding C.command encodeCommand encodeRepeatedOnly isLabel member
   labelled-read {s} {s₁} {s₂} {s₃} {s₄} {r₁} {r₂} {r₃} {r₄} {lo} {value} hb lo-is ev d₁ d₂ d₃ d₄ =
-      let kp : 0 < kind = label-positive kind hb in
-      here _ (λ at free y.
-      let i : at < n = among l at (omega (arith, k .here at free y)) in
-      ap (λ (o : Out (List Label)). onOut o (λ ls m. C.afterLabels (within x) ls src m)) (first-label x src n at (l .count) (omega arith) (sym (ap isLabel (k .here at free y)) ∙ hb)) ∙ nests (C.label (within x) src at) (λ q. manyUpTo (n - 1) [] isLabel (C.label (within x)) src q) (λ ls m. C.afterLabels (within x) ls src m))
+      here _ (λ at free y. many-first k [] isLabel (C.label (within x)) (λ ls m. C.afterLabels (within x) ls src m) y l refl hb)
       (follow size d₁ (goes-on d₂ then goes-on d₃ then adds-on d₄) (λ put w h q₁. bind size encodeLabels d₂ (goes-on d₃ then adds-on d₄) (λ ls q₂.
       let some : 0 < length (encodeLabels (put ls)) = grown w (encodeLabels ls) (encodeLabels (put ls)) (h .puts ls) (h .some) in
       let both : length (encodeLabels (put ls)) ≡ length w + length (encodeLabels ls) = ap length (h .puts ls) ∙ length-append w (encodeLabels ls) in

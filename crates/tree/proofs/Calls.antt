@@ -13,7 +13,8 @@ use Rattle.language.specs.Tree.{Expression, isCall, endsInCall, placeOf}
 use Rattle.tree.specs.Reads.{Ready}
 use Rattle.tree.specs.Between.{CallHere, PlaceHere}
 use Rattle.tree.specs.Encoding.{MONADIC, CALLED, DYADIC, suffixedKind, closed, encode, encodeName, encodeCommand, encodeSuffixes, encodeOperations}
-use Rattle.tree.proofs.Helpers.{free-is, free-of-refused, room-is}
+use Rattle.tree.proofs.Helpers.{free-is, room-is}
+use Rattle.tree.proofs.Symbols.{clash}
 use Rattle.tree.specs.declared.scratch.Answer.{Answer}
 use Rattle.tree.specs.declared.scratch.Answer.the-variants.{Read, Refused}
 
@@ -94,11 +95,8 @@ module _ {s : List ℕ} {n : ℕ} {r : Answer} {at free : ℕ} (h : Ready 0 s n 
   pub place-entry : PlaceHere s r (getD s (free - 2) 0)
   place-entry = record { here = λ at′ free′ before x e′ t. place-is at′ free′ before x e′ t }
 
-never : {r : Answer} {k p at free : ℕ} → r ≡ Refused k p → r ≡ Read at free → ⊥
-never e e′ = omega (arith, free-of-refused e 0, free-of-refused e 1, free-is e′ 0, free-is e′ 1)
-
 pub call-refused : {s : List ℕ} {r : Answer} {k p : ℕ} {call : Bool} → r ≡ Refused k p → CallHere s r call
-call-refused e = record { here = λ at free before x e′ t. absurd (never e e′) }
+call-refused e = record { here = λ at free before x e′ t. absurd (clash e e′) }
 
 pub place-refused : {s : List ℕ} {r : Answer} {k p place : ℕ} → r ≡ Refused k p → PlaceHere s r place
-place-refused e = record { here = λ at free before x e′ t. absurd (never e e′) }
+place-refused e = record { here = λ at free before x e′ t. absurd (clash e e′) }

@@ -7,9 +7,10 @@ use native.Mathlib.Omega.{arith}
 use lib.ListN.{length, length-append}
 use lib.Dec.{eqb}
 use borrow.Author.Tests.{eq-eqb, ne-eqb}
+use Rattle.language.specs.Kinds.{member}
 use Rattle.language.specs.Tree as T
 use Rattle.language.specs.Tree.{Expressions, Suffixes, Operations, withOperations, withSuffixes, count, endsInCall}
-use Rattle.language.specs.Reader.{Source, Out, ok, no, onOut, kindAt, manyUpTo, many}
+use Rattle.language.specs.Reader.{Source, Out, ok, onOut, kindAt, manyUpTo}
 use Rattle.language.specs.Binding.{bindingOf, isSuffix, RELATION, NEGATION, LOOSEST}
 use Rattle.language.specs.Expressions as E
 use Rattle.language.specs.Expressions.{Inside}
@@ -20,8 +21,8 @@ use Rattle.tree.specs.Encoding.{DYADIC, closed, suffixedKind, encode, en
 use Rattle.tree.proofs.Steps.{follow, bind, look, here, added, adds-on, goes-on, _then_, nothing}
 use Rattle.tree.proofs.Lists.{turn, last}
 use Rattle.tree.proofs.Symbols.{inside as among, stays}
-use Rattle.tree.proofs.Readers.{chain-is, nests, parts, encode-dyadic, encode-suffixed}
-use Rattle.tree.proofs.Classes.{binding-positive, suffix-positive}
+use Rattle.tree.proofs.Readers.{chain-is, nests, many-none, many-first, parts, encode-dyadic, encode-suffixed}
+use Rattle.tree.proofs.Classes.{binding-positive}
 use Rattle.tree.specs.declared.scratch.Answer.{Answer}
 
 -- the words of a chain, part by part
@@ -70,30 +71,17 @@ module _ {src : Source} {n : ℕ} {s₀ : List ℕ} (l : Lies src n s₀) (size 
       ap (λ (o : Out Operations). onOut o (λ os q. ok (withOperations e os) q)) (first-operation (within x) right src b n at (l .count) (omega arith) (sym (ap bindingOf (k .here at free y)) ∙ hb)) ∙ nests (E.operation (E.expression (within x) right) src at) (λ q. manyUpTo (furtherMost b n) T.noOperations (λ kind. eqb (bindingOf kind) b) (E.operation (E.expression (within x) right)) src q) (λ os q. ok (withOperations e os) q))
       (follow size d₂ (goes-on d₃ then adds-on d₄) (λ put w h q₂. bind size encodeOperations d₃ (adds-on d₄) (λ os q₃. added size d₄ (record { same = chained (encode e) w (encodeOperations os) (encodeOperations (put os)) (freeOf size r₃ - lo) value place DYADIC (omega arith) (omega arith) (h .puts os) ∙ ap (λ (p : ℕ). closed (encode e ++ encodeOperations (put os)) (length (encode e)) p DYADIC) (ep .here (v .next) (v .free) (v .before) e (v .reads) (v .stands)) ∙ sym (encode-dyadic e (put os) (grown w (encodeOperations os) (encodeOperations (put os)) (h .puts os) (h .some))) }))))))
 
-module _ (inner : Inside) (src : Source) where
-  no-suffixes : (at : ℕ) → isSuffix (kindAt src at) ≡ false → many T.noSuffixes isSuffix (E.suffix inner) src at ≡ ok T.noSuffixes at
-  unfolding many
-  no-suffixes at h = last T.noSuffixes isSuffix (E.suffix inner) src (length (src .symbols)) at h
-
-  first-suffix : (n at : ℕ) → length (src .symbols) ≡ n → 0 < n → isSuffix (kindAt src at) ≡ true → many T.noSuffixes isSuffix (E.suffix inner) src at ≡ onOut (E.suffix inner src at) (λ put q. onOut (manyUpTo (n - 1) T.noSuffixes isSuffix (E.suffix inner) src q) (λ more w. ok (put more) w))
-  unfolding many
-  first-suffix n at e h q =
-      let y : length (src .symbols) ≡ suc (n - 1) = omega arith in
-      ap (λ (m : ℕ). manyUpTo m T.noSuffixes isSuffix (E.suffix inner) src at) y ∙ turn T.noSuffixes isSuffix (E.suffix inner) src (n - 1) at q
-
 module _ {src : Source} {n : ℕ} {s₀ : List ℕ} (l : Lies src n s₀) (size x : ℕ) {s s₁ : List ℕ} {r r₁ : Answer} {kind : ℕ} (k : KindHere src r₁ kind) (d₁ : Reads (E.primary (within x) src) encode s s₁ r r₁) where
   pub suffixed-one : isSuffix kind ≡ false → Reads (E.suffixed (within x) src) encode s s₁ r r₁
   unfolding E.suffixed withSuffixes
   suffixed-one h =
-      bind size encode d₁ stays (λ e q. here (λ m. ok e m) (λ at free y. ap (λ (o : Out Suffixes). onOut o (λ ss q. ok (withSuffixes e ss) q)) (no-suffixes (within x) src at (sym (ap isSuffix (k .here at free y)) ∙ h))) (nothing (record { same = append-nil (encode e) })))
+      bind size encode d₁ stays (λ e q. here (λ m. ok e m) (λ at free y. many-none k T.noSuffixes isSuffix (E.suffix (within x)) (λ ss q. ok (withSuffixes e ss) q) y h) (nothing (record { same = append-nil (encode e) })))
 
   pub suffixed-more : {s₂ s₃ s₄ : List ℕ} {r₂ r₃ r₄ : Answer} {lo value place tag : ℕ} {first last : Bool} → isSuffix kind ≡ true → lo ≡ freeOf size r → value ≡ freeOf size r₁ - lo → PlaceHere s₁ r₁ place → tag ≡ suffixedKind last → Goes (E.suffix (within x) src) (PutsSuffix first) s₁ s₂ r₁ r₂ → Goes (manyUpTo (n - 1) T.noSuffixes isSuffix (E.suffix (within x)) src) (Ended first last) s₂ s₃ r₂ r₃ → Adds (recordFrom lo value place tag) s₃ s₄ r₃ r₄ → Reads (E.suffixed (within x) src) encode s s₄ r r₄
-  unfolding E.suffixed
+  unfolding E.suffixed isSuffix member
   suffixed-more {s₂} {s₃} {s₄} {r₂} {r₃} {r₄} {lo} {value} {place} {tag} {first} {last} hb lo-is ev ep et d₂ d₃ d₄ =
-      let kp : 0 < kind = suffix-positive kind hb in
-      look size encode d₁ (goes-on d₂ then goes-on d₃ then adds-on d₄) (λ e z q₁. here _ (λ at free y.
-      let i : at < n = among l at (omega (arith, k .here at free y)) in
-      ap (λ (o : Out Suffixes). onOut o (λ ss q. ok (withSuffixes e ss) q)) (first-suffix (within x) src n at (l .count) (omega arith) (sym (ap isSuffix (k .here at free y)) ∙ hb)) ∙ nests (E.suffix (within x) src at) (λ q. manyUpTo (n - 1) T.noSuffixes isSuffix (E.suffix (within x)) src q) (λ ss q. ok (withSuffixes e ss) q))
+      look size encode d₁ (goes-on d₂ then goes-on d₃ then adds-on d₄) (λ e z q₁. here _
+      (λ at free y. many-first k T.noSuffixes isSuffix (E.suffix (within x)) (λ ss q. ok (withSuffixes e ss) q) y l refl hb)
       (follow size d₂ (goes-on d₃ then adds-on d₄) (λ put w h q₂. follow size d₃ (adds-on d₄) (λ ss v g q₃. added size d₄ (record { same = ap (λ (u : List ℕ). encode e ++ (w ++ (u ++ recordFrom lo value place tag (freeOf size r₃)))) (g .same) ∙ chained (encode e) w (encodeSuffixes ss) (encodeSuffixes (put ss)) (freeOf size r₃ - lo) value place tag (omega (arith, ap length (g .same))) (omega arith) (h .puts ss) ∙ ap (λ (p : ℕ). closed (encode e ++ encodeSuffixes (put ss)) (length (encode e)) p tag) (ep .here (z .next) (z .free) (z .before) e (z .reads) (z .stands)) ∙ ap (λ (p : ℕ). closed (encode e ++ encodeSuffixes (put ss)) (length (encode e)) (T.placeOf e) p) (et ∙ ap suffixedKind (sym (h .ends false ss ∙ g .ends))) ∙ sym (encode-suffixed e (put ss) (grown w (encodeSuffixes ss) (encodeSuffixes (put ss)) (h .puts ss) (h .some))) })))))
 
 -- suffixes so far: whether the last of all is a call, where `before` says so of the one before them

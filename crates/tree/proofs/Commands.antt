@@ -1,5 +1,5 @@
 -- The readers of commands: what each construct's parts make together, one law for each.
-use Prim.Native.Nat.{ℕ, suc, _+_, _-_, _≤_, _<_}
+use Prim.Native.Nat.{ℕ, _+_, _-_, _≤_, _<_}
 use mathlib.Core.Path.{_≡_, refl, sym, ap, _∙_}
 use mathlib.Core.Bool.{Bool, true, false, cond}
 use mathlib.Core.List.{List, [], _∷_, _++_, append-assoc, append-nil}
@@ -10,8 +10,7 @@ use borrow.Author.Tests.{eq-eqb, ne-eqb}
 use Rattle.language.specs.Kinds as K
 use Rattle.language.specs.Kinds.{member}
 use Rattle.language.specs.Tree as T
-use Rattle.language.specs.Tree.{Repeats}
-use Rattle.language.specs.Reader.{Source, Out, ok, onOut, kindAt, placeAt, any, the, manyUpTo, many}
+use Rattle.language.specs.Reader.{Source, ok, onOut, kindAt, placeAt, any, the, manyUpTo}
 use Rattle.language.specs.Binding.{LOOSEST, isRepeat, isGuard, isLeave}
 use Rattle.language.specs.Expressions as E
 use Rattle.language.specs.Commands as C
@@ -20,12 +19,11 @@ use Rattle.tree.specs.Reads.{Lies, Here, KindHere, Goes, Puts, Reads, Ad
 use Rattle.tree.specs.Between.{leaving, repeatedBy, repeatedOnly, encodeRepeatedOnly}
 use Rattle.tree.specs.Encoding.{REPEATED, closed, encode, encodeCommand, encodeUnlabelled, encodeRepeats, repeated}
 use Rattle.tree.proofs.Steps.{follow, bind, here, added, adds-on, goes-on, _then_, nothing}
-use Rattle.tree.proofs.Symbols.{placed, stays, inside as among}
-use Rattle.tree.proofs.Lists.{turn, last}
+use Rattle.tree.proofs.Symbols.{placed, stays}
 use Rattle.tree.proofs.Chains.{chained, grown}
 use Rattle.text.proofs.Bytes.{Unlike}
-use Rattle.tree.proofs.Classes.{repeat-positive, unlike5}
-use Rattle.tree.proofs.Readers.{any-the, item-read, put-first, nests}
+use Rattle.tree.proofs.Classes.{unlike5}
+use Rattle.tree.proofs.Readers.{any-the, item-read, put-first, many-none, many-first}
 use Rattle.tree.specs.declared.scratch.Answer.{Answer}
 use Rattle.tree.specs.declared.scratch.Answer.the-variants.{Read}
 
@@ -81,31 +79,18 @@ unfolding repeated
 some-forms w [] h = absurd (omega arith)
 some-forms w (x ∷ rs) h = refl
 
-module _ (x : ℕ) (src : Source) where
-  no-forms : (at : ℕ) → isRepeat (kindAt src at) ≡ false → many T.noRepeats isRepeat (C.repeatForm (readers (within x))) src at ≡ ok T.noRepeats at
-  unfolding many
-  no-forms at h = last T.noRepeats isRepeat (C.repeatForm (readers (within x))) src (length (src .symbols)) at h
-
-  first-form : (n at : ℕ) → length (src .symbols) ≡ n → 0 < n → isRepeat (kindAt src at) ≡ true → many T.noRepeats isRepeat (C.repeatForm (readers (within x))) src at ≡ onOut (C.repeatForm (readers (within x)) src at) (λ put q. onOut (manyUpTo (n - 1) T.noRepeats isRepeat (C.repeatForm (readers (within x))) src q) (λ more w. ok (put more) w))
-  unfolding many
-  first-form n at e h q =
-      let y : length (src .symbols) ≡ suc (n - 1) = omega arith in
-      ap (λ (m : ℕ). manyUpTo m T.noRepeats isRepeat (C.repeatForm (readers (within x))) src at) y ∙ turn T.noRepeats isRepeat (C.repeatForm (readers (within x))) src (n - 1) at q
-
 -- a command and the REPEAT forms after it
 module _ {src : Source} {n : ℕ} {s₀ : List ℕ} (l : Lies src n s₀) (size x : ℕ) {s s₁ : List ℕ} {r r₁ : Answer} {kind : ℕ} (k : KindHere src r₁ kind) (d₁ : Reads (C.unlabelled (readers (within x)) src) encodeUnlabelled s s₁ r r₁) where
   pub repeated-one : isRepeat kind ≡ false → Reads (repeatedOnly x src) encodeRepeatedOnly s s₁ r r₁
   unfolding repeatedOnly repeatedBy encodeRepeatedOnly repeated encodeRepeats
   repeated-one h =
-      bind size encodeUnlabelled d₁ stays (λ u q. here (λ m. ok (record { body = u; forms = T.noRepeats }) m) (λ at free y. ap (λ (o : Out Repeats). onOut o (λ rs q. ok (record { body = u; forms = rs }) q)) (no-forms x src at (sym (ap isRepeat (k .here at free y)) ∙ h))) (nothing (record { same = append-nil (encodeUnlabelled u) })))
+      bind size encodeUnlabelled d₁ stays (λ u q. here (λ m. ok (record { body = u; forms = T.noRepeats }) m) (λ at free y. many-none k T.noRepeats isRepeat (C.repeatForm (readers (within x))) (λ rs q. ok (record { body = u; forms = rs }) q) y h) (nothing (record { same = append-nil (encodeUnlabelled u) })))
 
   pub repeated-more : {s₂ s₃ s₄ : List ℕ} {r₂ r₃ r₄ : Answer} {lo value : ℕ} → isRepeat kind ≡ true → lo ≡ freeOf size r → value ≡ freeOf size r₁ - lo → Goes (C.repeatForm (readers (within x)) src) (Puts encodeRepeats) s₁ s₂ r₁ r₂ → Reads (manyUpTo (n - 1) T.noRepeats isRepeat (C.repeatForm (readers (within x))) src) encodeRepeats s₂ s₃ r₂ r₃ → Adds (recordFrom lo value 0 REPEATED) s₃ s₄ r₃ r₄ → Reads (repeatedOnly x src) encodeRepeatedOnly s s₄ r r₄
-  unfolding repeatedOnly repeatedBy encodeRepeatedOnly
+  unfolding repeatedOnly repeatedBy encodeRepeatedOnly isRepeat member
   repeated-more {s₂} {s₃} {s₄} {r₂} {r₃} {r₄} {lo} {value} hb lo-is ev d₂ d₃ d₄ =
-      let kp : 0 < kind = repeat-positive kind hb in
-      bind size encodeUnlabelled d₁ (goes-on d₂ then goes-on d₃ then adds-on d₄) (λ u q₁. here _ (λ at free y.
-      let i : at < n = among l at (omega (arith, k .here at free y)) in
-      ap (λ (o : Out Repeats). onOut o (λ rs q. ok (record { body = u; forms = rs }) q)) (first-form x src n at (l .count) (omega arith) (sym (ap isRepeat (k .here at free y)) ∙ hb)) ∙ nests (C.repeatForm (readers (within x)) src at) (λ q. manyUpTo (n - 1) T.noRepeats isRepeat (C.repeatForm (readers (within x))) src q) (λ rs q. ok (record { body = u; forms = rs }) q))
+      bind size encodeUnlabelled d₁ (goes-on d₂ then goes-on d₃ then adds-on d₄) (λ u q₁. here _
+      (λ at free y. many-first k T.noRepeats isRepeat (C.repeatForm (readers (within x))) (λ rs q. ok (record { body = u; forms = rs }) q) y l refl hb)
       (follow size d₂ (goes-on d₃ then adds-on d₄) (λ put w h q₂. bind size encodeRepeats d₃ (adds-on d₄) (λ rs q₃. added size d₄ (record { same = chained (encodeUnlabelled u) w (encodeRepeats rs) (encodeRepeats (put rs)) (freeOf size r₃ - lo) value 0 REPEATED (omega arith) (omega arith) (h .puts rs) ∙ sym (some-forms (encodeUnlabelled u) (encodeRepeats (put rs)) (grown w (encodeRepeats rs) (encodeRepeats (put rs)) (h .puts rs) (h .some))) })))))
 
 -- which command it is, by its first symbol

@@ -9,7 +9,7 @@ use borrow.Author.Tests.{eq-eqb, ne-eqb, eqb-true}
 use Rattle.language.specs.Kinds as K
 use Rattle.language.specs.Tree as T
 use Rattle.language.specs.Tree.{Simple, Constant}
-use Rattle.language.specs.Reader.{Source, Out, ok, no, onOut, kindAt, valueAt, placeAt, is, unexpected, any, here as place-here, the, aName}
+use Rattle.language.specs.Reader.{Source, Out, ok, no, onOut, kindAt, valueAt, placeAt, unexpected, any, here as place-here, the, aName}
 use Rattle.language.specs.Expressions.{numeral, quotation, truth, named, literal, truthLiteral, known as knownName, simple, positive}
 use Rattle.tree.specs.Reads.{Lies, Here, KindHere, Reads, Refuses, Adds, recordFrom, freeOf}
 use Rattle.tree.specs.Between.{atomic, leaving}

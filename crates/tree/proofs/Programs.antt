@@ -1,5 +1,5 @@
 -- Programs: items, functions, declarations and the whole, one law for what each reader's parts make together.
-use Prim.Native.Nat.{ℕ, zero, suc, _+_, _-_, _≤_, _<_}
+use Prim.Native.Nat.{ℕ, _+_, _-_, _≤_, _<_}
 use mathlib.Core.Path.{_≡_, refl, sym, ap, subst, _∙_}
 use mathlib.Core.Bool.{Bool, true, false, cond}
 use mathlib.Core.List.{List, [], _∷_, _++_, append-nil}
@@ -25,6 +25,7 @@ use Rattle.tree.proofs.Symbols.{mapped, the-is, stays}
 use Rattle.tree.proofs.Lists.{sealed}
 use Rattle.tree.proofs.ListEnd.{listed-items}
 use Rattle.tree.proofs.Readers.{parts, nests}
+use Rattle.tree.proofs.Classes.{positive}
 use Rattle.tree.specs.declared.scratch.Answer.{Answer}
 
 -- the words that stand in an item before those of the items after it
@@ -112,8 +113,7 @@ functions-read src {s₁ = s₁} {s₂} {r₁} {r₂} en a b =
 -- the words that begin declarations
 pub declaration-positive : (kind : ℕ) → isDeclaration kind ≡ true → 0 < kind
 unfolding isDeclaration member
-declaration-positive zero e = let z : _≡_ {A = ℕ} 0 1 = ap (λ (b : Bool). cond b 1 0) e in absurd (omega arith)
-declaration-positive (suc k) e = omega arith
+declaration-positive kind e = positive isDeclaration kind refl e
 
 other-declaration : (kind : ℕ) → isDeclaration kind ≡ true → (kind ≡ K.GLOBAL → ⊥) → (kind ≡ K.MANIFEST → ⊥) → kind ≡ K.LET
 unfolding isDeclaration member

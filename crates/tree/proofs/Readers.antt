@@ -9,7 +9,7 @@ use borrow.Author.Tests.{eq-eqb, ne-eqb}
 use Rattle.language.specs.Kinds as K
 use Rattle.language.specs.Tree as T
 use Rattle.language.specs.Tree.{Expression, Suffixes, Operations, withOperations, withSuffixes}
-use Rattle.language.specs.Reader.{Source, Out, ok, no, onOut, kindAt, placeAt, is, any, the, manyUpTo, many, isComma, furtherItems, oneUpToClose, upToClose}
+use Rattle.language.specs.Reader.{Source, Out, ok, no, Reader, onOut, kindAt, placeAt, any, the, manyUpTo, many, isComma, furtherItems, oneUpToClose, upToClose}
 use Rattle.language.specs.Binding.{reachOf, NEGATION, LOOSEST}
 use Rattle.language.specs.Expressions as E
 use Rattle.language.specs.Expressions.{Inside, inside, shut, opening}
@@ -18,8 +18,9 @@ use Rattle.tree.specs.Reads.{Lies, Here, KindHere, Goes, Is, Puts, Reads
 use Rattle.tree.specs.Between.{PutsSuffix, PutsOne, anArgument, aFurther, rightOf}
 use Rattle.tree.specs.Encoding.{MONADIC, DYADIC, item, behind, closed, suffixedKind, encode, encodeExpressions, encodeSuffixes, encodeOperations, encodeCommand}
 use Rattle.tree.proofs.Steps.{follow, bind, here, added, adds-on, goes-on, _then_, nothing, stopped}
-use Rattle.tree.proofs.Lists.{sealed}
-use Rattle.tree.proofs.Symbols.{placed, mapped, the-is, stays}
+use Rattle.tree.proofs.Lists.{sealed, last, turned}
+use Rattle.tree.proofs.Symbols.{inside as among, placed, mapped, the-is, stays}
+use Rattle.tree.proofs.Classes.{positive}
 use Rattle.tree.specs.declared.scratch.Answer.{Answer}
 use Rattle.tree.specs.declared.scratch.Answer.the-variants.{Read}
 
@@ -171,6 +172,23 @@ nest (no k p) put G = refl
 pub nests : {A C : Type 0} (o : Out (A → A)) (M : ℕ → Out A) (G : A → ℕ → Out C) → onOut (onOut o (λ put q. onOut (M q) (λ more w. ok (put more) w))) G ≡ onOut o (λ put q. onOut (M q) (λ more w. G (put more) w))
 nests (ok put m) M G = nest (M m) put G
 nests (no k p) M G = refl
+
+-- { item }, and what is made of the list: no item stands here, or a first one does
+module _ {src : Source} {r : Answer} {kind : ℕ} (k : KindHere src r kind) where
+  module _ {A C : Type 0} (none : A) (begins : ℕ → Bool) (one : Reader (A → A)) (make : A → ℕ → Out C) {at free : ℕ} (e : r ≡ Read at free) where
+    pub many-none : begins kind ≡ false → onOut (many none begins one src at) make ≡ make none at
+    unfolding many
+    many-none h = ap (λ (o : Out A). onOut o make) (last none begins one src (length (src .symbols)) at (sym (ap begins (k .here at free e)) ∙ h))
+
+    pub many-first :
+        {n : ℕ} {s : List ℕ} → Lies src n s → begins 0 ≡ false → begins kind ≡ true
+        → onOut (many none begins one src at) make ≡ onOut (one src at) (λ put q. onOut (manyUpTo (n - 1) none begins one src q) (λ more w. make (put more) w))
+    unfolding many
+    many-first {n} l z h =
+        let b : begins (kindAt src at) ≡ true = sym (ap begins (k .here at free e)) ∙ h in
+        let i : at < n = among l at (positive begins (kindAt src at) z b) in
+        ap (λ (o : Out A). onOut o make) (ap (λ (m : ℕ). manyUpTo m none begins one src at) (l .count) ∙ turned none begins one src n at (omega arith) b)
+        ∙ nests (one src at) (λ q. manyUpTo (n - 1) none begins one src q) make
 
 -- what stands before a closing record, part by part
 pub parts : (a b c : List ℕ) (z v p k : ℕ) → z ≡ length (a ++ (b ++ c)) → a ++ (b ++ (c ++ (z ∷ v ∷ p ∷ k ∷ []))) ≡ closed (a ++ (b ++ c)) v p k

@@ -1,5 +1,5 @@
 -- Laws of the symbols that stand in scratch.
-use Prim.Native.Nat.{ℕ, _+_, _*_, _-_, _≤_, _<_}
+use Prim.Native.Nat.{ℕ, _+_, _*_, _≤_, _<_}
 use mathlib.Core.Path.{_≡_, refl, sym, ap, _∙_}
 use mathlib.Core.Bool.{Bool, true, false, cond}
 use mathlib.Core.List.{List, [], append-nil}
@@ -15,13 +15,8 @@ use Rattle.tree.proofs.Steps.{bind, here, nothing}
 use Rattle.tree.specs.declared.scratch.Answer.{Answer}
 use Rattle.tree.specs.declared.scratch.Answer.the-variants.{Read, Refused}
 
-tag : Answer → ℕ
-tag (Read at free) = 0
-tag (Refused k p) = 1
-
-clash : {r : Answer} {k p at free : ℕ} → r ≡ Refused k p → r ≡ Read at free → ⊥
-unfolding tag
-clash {r} e e′ = let z : _≡_ {A = ℕ} 1 0 = ap tag (sym e ∙ e′) in omega arith
+pub clash : {r : Answer} {k p at free : ℕ} → r ≡ Refused k p → r ≡ Read at free → ⊥
+clash e e′ = let z : _≡_ {A = ℕ} 1 0 = cc in omega arith
 
 same-at : {r : Answer} {at free at′ free′ : ℕ} → r ≡ Read at free → r ≡ Read at′ free′ → at ≡ at′
 unfolding nextOf

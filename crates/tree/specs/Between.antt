@@ -3,8 +3,9 @@ use Prim.Native.Nat.{ℕ, _+_, _-_, _<_}
 use mathlib.Core.Path.{_≡_}
 use mathlib.Core.Bool.{Bool, cond}
 use mathlib.Core.List.{List, [], _∷_, _++_}
-use lib.ListN.{length, take}
+use lib.ListN.{length, take, getD}
 use lib.Dec.{eqb}
+use Rattle.text.specs.Written.{bytes}
 use Rattle.language.specs.Kinds as K
 use Rattle.language.specs.Tree.{placeOf, Name, Expression, Expressions, andExpression, count, isCall, Suffixes, endsInCall, Unlabelled, leave, empty, Repeats, noRepeats, Locals, Body, Item, Function, Declaration, globals, manifests, functions, Program}
 use Rattle.language.specs.Binding.{RELATION, LOOSEST, isRepeat, beginsCommand}
@@ -16,6 +17,13 @@ use Rattle.tree.specs.Encoding.{closed, item, encode, encodeName, encode
 use Rattle.language.specs.Reader.{ok, Reader, _>>=_, return, is, unexpected, any, the, aName, many, items, kindAt}
 use Rattle.tree.specs.declared.scratch.Answer.{Answer}
 use Rattle.tree.specs.declared.scratch.Answer.the-variants.{Read}
+
+-- a letter for each kind of symbol, by what it may do: those of one letter stand in the same classes of `Binding`
+abbrev pub letters : List ℕ
+letters = bytes ".ddd...eceen1c..ggggrrrc..c.llxxxxx22113333334467!@(.,..,c.eee"
+
+unfoldable pub letterOf : (kind : ℕ) → ℕ
+letterOf kind = getD letters kind 46
 
 -- the binding of the right operands: those of a shift are sums
 unfoldable pub rightOf : (binding : ℕ) → ℕ

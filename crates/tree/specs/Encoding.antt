@@ -4,7 +4,7 @@
 -- The items of a list each have two entries in front, the size of what follows them and a tag: so a walk goes forwards over a list,
 -- item by item. Suffixes have the two entries behind, the size of what stands before them and the tag, since a walk goes from the last
 -- suffix in. A node that holds a first part and then a list has that part's size as its value.
-use Prim.Native.Nat.{ℕ, _+_}
+use Prim.Native.Nat.{ℕ}
 use mathlib.Core.Bool.{Bool, false, cond}
 use mathlib.Core.List.{List, [], _∷_, _++_}
 use mathlib.Core.Option.{Option, none, some}

@@ -4,10 +4,8 @@ use Prim.Native.Nat.{ℕ, _+_, _*_, _-_, _≤_, _<_, _^_}
 use mathlib.Core.Path.{_≡_}
 use mathlib.Core.List.{List, [], _∷_, _++_}
 use lib.ListN.{length, take, getD, set}
-use Rattle.language.specs.Kinds as K
-use Rattle.language.specs.Tree.{count, functions}
-use Rattle.tree.specs.Encoding.{item}
-use Rattle.language.specs.Reader.{Source, Out, ok, no, Reader, _>>=_, return, is, the, items, kindAt, valueAt, placeAt}
+use Rattle.language.specs.Tree.{count}
+use Rattle.language.specs.Reader.{Source, Out, ok, no, Reader, is, kindAt, valueAt, placeAt}
 use Rattle.tree.specs.declared.scratch.Answer.{Answer}
 use Rattle.tree.specs.declared.scratch.Answer.the-variants.{Read, Refused}
 

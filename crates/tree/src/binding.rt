@@ -1,64 +1,14 @@
 // Which symbols stand where: how operators bind, and which symbols begin what (language's `Binding`).
-use crate::kinds::AMPERSAND;
-use crate::kinds::ASSIGN;
-use crate::kinds::AT;
-use crate::kinds::ATLEAST;
-use crate::kinds::ATMOST;
-use crate::kinds::BAR;
-use crate::kinds::BEGIN;
-use crate::kinds::BREAK;
-use crate::kinds::CASE;
-use crate::kinds::COMMA;
-use crate::kinds::DEFAULT;
-use crate::kinds::ENDCASE;
-use crate::kinds::EQUAL;
-use crate::kinds::FALSE;
-use crate::kinds::FINISH;
-use crate::kinds::FOR;
-use crate::kinds::GLOBAL;
-use crate::kinds::IF;
-use crate::kinds::LEFT;
-use crate::kinds::LESS;
-use crate::kinds::LET;
-use crate::kinds::LOOP;
-use crate::kinds::MANIFEST;
-use crate::kinds::MINUS;
-use crate::kinds::MORE;
-use crate::kinds::NAME;
-use crate::kinds::NOT;
-use crate::kinds::NUMBER;
-use crate::kinds::OPEN;
-use crate::kinds::PLING;
-use crate::kinds::PLUS;
-use crate::kinds::REM;
-use crate::kinds::REPEAT;
-use crate::kinds::REPEATUNTIL;
-use crate::kinds::REPEATWHILE;
-use crate::kinds::RESULTIS;
-use crate::kinds::RETURN;
-use crate::kinds::RIGHT;
-use crate::kinds::SLASH;
-use crate::kinds::STAR;
-use crate::kinds::STRING;
-use crate::kinds::SWITCHON;
-use crate::kinds::TEST;
-use crate::kinds::TRUE;
-use crate::kinds::UNEQUAL;
-use crate::kinds::UNLESS;
-use crate::kinds::UNTIL;
-use crate::kinds::VALOF;
 use crate::kinds::VEC;
-use crate::kinds::WHILE;
 use crate::scratch::less;
 ghost use Prim.Native.Nat.{_-_, _<_, _≤_};
 ghost use mathlib.Core.Path.{_≡_};
-ghost use mathlib.Core.Bool.{true, false, cond};
+ghost use mathlib.Core.Bool.{false, cond};
 ghost use lib.Dec.{eqb};
 ghost use Rattle.language.specs.Kinds as K;
-ghost use Rattle.language.specs.Reader.{the};
 ghost use Rattle.language.specs.Binding as B;
 ghost use Rattle.language.specs.Binding.{bindingOf, isMonadic, isSuffix, isGuard, isLeave, isRepeat, isLabel, isDeclaration, goesOnAssignment, beginsExpression, beginsCommand, reachOf};
-ghost use Rattle.tree.specs.Between.{rightOf, furtherMost};
+ghost use Rattle.tree.specs.Between.{rightOf, furtherMost, letterOf};
 
 pub(crate) const LOOSEST: u32 = 7;
 
@@ -69,26 +19,33 @@ const SHIFT: u32 = 4;
 // The rung of NOT, which has no dyadic operator.
 pub(crate) const NEGATION: u32 = 5;
 
+// A letter for each kind of symbol, by what it may do. 1 2 3 4 6 7: a dyadic operator, by its binding (2 is also monadic);
+// ! @ n: the other monadic operators; (: an opening bracket; e: what else begins an expression; g: a guard; x: a word that leaves;
+// c: what else begins a command; r: a REPEAT form; l: a label; `,`: goes on an assignment; d: a declaration.
+const LETTERS: [u8; 62] = *b".ddd...eceen1c..ggggrrrc..c.llxxxxx22113333334467!@(.,..,c.eee";
+
+fn letter_of(kind: u32) -> u8
+    ensures { λ r. ⌜ r ≡ letterOf kind ⌝ }
+{
+    if kind < 62 {
+        LETTERS[kind as usize]
+    } else {
+        b'.'
+    }
+}
+
 // The binding of a dyadic operator, and 0 for any other symbol.
 pub(crate) fn binding_of(kind: u32) -> u32
     ensures { λ b. ⌜ b ≡ bindingOf kind ⌝ }
 {
-    match kind {
-        STAR => 1,
-        SLASH => 1,
-        REM => 1,
-        PLUS => 2,
-        MINUS => 2,
-        EQUAL => 3,
-        UNEQUAL => 3,
-        LESS => 3,
-        ATMOST => 3,
-        MORE => 3,
-        ATLEAST => 3,
-        LEFT => 4,
-        RIGHT => 4,
-        AMPERSAND => 6,
-        BAR => 7,
+    let letter = letter_of(kind);
+    match letter {
+        b'1' => 1,
+        b'2' => 2,
+        b'3' => 3,
+        b'4' => 4,
+        b'6' => 6,
+        b'7' => 7,
         _ => 0,
     }
 }
@@ -96,12 +53,12 @@ pub(crate) fn binding_of(kind: u32) -> u32
 pub(crate) fn is_monadic(kind: u32) -> bool
     ensures { λ b. ⌜ b ≡ isMonadic kind ⌝ }
 {
-    match kind {
-        PLING => true,
-        AT => true,
-        PLUS => true,
-        MINUS => true,
-        NOT => true,
+    let letter = letter_of(kind);
+    match letter {
+        b'2' => true,
+        b'!' => true,
+        b'@' => true,
+        b'n' => true,
         _ => false,
     }
 }
@@ -109,9 +66,10 @@ pub(crate) fn is_monadic(kind: u32) -> bool
 pub(crate) fn is_suffix(kind: u32) -> bool
     ensures { λ b. ⌜ b ≡ isSuffix kind ⌝ }
 {
-    match kind {
-        OPEN => true,
-        PLING => true,
+    let letter = letter_of(kind);
+    match letter {
+        b'(' => true,
+        b'!' => true,
         _ => false,
     }
 }
@@ -120,11 +78,11 @@ pub(crate) fn is_suffix(kind: u32) -> bool
 pub(crate) fn reach_of(kind: u32) -> u32
     ensures { λ b. ⌜ (b ≡ reachOf kind) × (b ≤ B.LOOSEST) ⌝ }
 {
-    match kind {
-        PLING => 0,
-        AT => 0,
-        PLUS => 1,
-        MINUS => 1,
+    let letter = letter_of(kind);
+    match letter {
+        b'!' => 0,
+        b'@' => 0,
+        b'2' => 1,
         _ => 4,
     }
 }
@@ -147,86 +105,50 @@ pub(crate) fn further_most(binding: u32, n: usize) -> usize
 pub(crate) fn is_guard(kind: u32) -> bool
     ensures { λ b. ⌜ b ≡ isGuard kind ⌝ }
 {
-    match kind {
-        IF => true,
-        UNLESS => true,
-        WHILE => true,
-        UNTIL => true,
-        _ => false,
-    }
+    letter_of(kind) == b'g'
 }
 
 pub(crate) fn is_leave(kind: u32) -> bool
     ensures { λ b. ⌜ b ≡ isLeave kind ⌝ }
 {
-    match kind {
-        ENDCASE => true,
-        BREAK => true,
-        LOOP => true,
-        RETURN => true,
-        FINISH => true,
-        _ => false,
-    }
+    letter_of(kind) == b'x'
 }
 
 pub(crate) fn is_repeat(kind: u32) -> bool
     ensures { λ b. ⌜ b ≡ isRepeat kind ⌝ }
 {
-    match kind {
-        REPEAT => true,
-        REPEATWHILE => true,
-        REPEATUNTIL => true,
-        _ => false,
-    }
+    letter_of(kind) == b'r'
 }
 
 pub(crate) fn is_label(kind: u32) -> bool
     ensures { λ b. ⌜ b ≡ isLabel kind ⌝ }
 {
-    match kind {
-        CASE => true,
-        DEFAULT => true,
-        _ => false,
-    }
+    letter_of(kind) == b'l'
 }
 
 pub(crate) fn goes_on_assignment(kind: u32) -> bool
     ensures { λ b. ⌜ b ≡ goesOnAssignment kind ⌝ }
 {
-    match kind {
-        COMMA => true,
-        ASSIGN => true,
-        _ => false,
-    }
+    letter_of(kind) == b','
 }
 
 pub(crate) fn is_declaration(kind: u32) -> bool
     ensures { λ b. ⌜ b ≡ isDeclaration kind ⌝ }
 {
-    match kind {
-        GLOBAL => true,
-        MANIFEST => true,
-        LET => true,
-        _ => false,
-    }
+    letter_of(kind) == b'd'
 }
 
 fn begins_expression(kind: u32) -> bool
     ensures { λ b. ⌜ b ≡ beginsExpression kind ⌝ }
 {
-    match kind {
-        NUMBER => true,
-        STRING => true,
-        TRUE => true,
-        FALSE => true,
-        NAME => true,
-        OPEN => true,
-        VALOF => true,
-        PLING => true,
-        AT => true,
-        PLUS => true,
-        MINUS => true,
-        NOT => true,
+    let letter = letter_of(kind);
+    match letter {
+        b'e' => true,
+        b'(' => true,
+        b'2' => true,
+        b'!' => true,
+        b'@' => true,
+        b'n' => true,
         _ => false,
     }
 }
@@ -234,22 +156,12 @@ fn begins_expression(kind: u32) -> bool
 pub(crate) fn begins_command(kind: u32) -> bool
     ensures { λ b. ⌜ b ≡ beginsCommand kind ⌝ }
 {
-    if begins_expression(kind) {
-        return true;
-    }
-    if is_guard(kind) {
-        return true;
-    }
-    if is_leave(kind) {
-        return true;
-    }
-    match kind {
-        TEST => true,
-        FOR => true,
-        SWITCHON => true,
-        RESULTIS => true,
-        BEGIN => true,
-        _ => false,
+    let letter = letter_of(kind);
+    match letter {
+        b'g' => true,
+        b'x' => true,
+        b'c' => true,
+        _ => begins_expression(kind),
     }
 }
 

@@ -1,93 +1,16 @@
-use mathlib.Core.Path.{sym}
-use Rattle.tree.proofs.Classes.{no-binding}
-use mathlib.Core.Path.{refl}
-use Rattle.language.specs.Kinds.{member}
-use Rattle.language.specs.Binding.{bindingOf}
+use Rattle.tree.proofs.Classes.{binding-arm, no-binding}
 use Rattle.tree.proofs.binding.binding_of.Statement.{statement}
 use Rattle.tree.proofs.binding.binding_of.Tie as tie
-use Rattle.tree.proofs.binding.binding_of.Reads as reads
-use Rattle.tree.proofs.binding.binding_of.Lts as lts
-
-returns : tie.Need-returns
-unfolding bindingOf member
-returns c = rw (c .match .keys1) refl
-
-returns-2 : tie.Need-returns-2
-unfolding bindingOf member
-returns-2 c = rw (c .match .keys2) refl
-
-returns-3 : tie.Need-returns-3
-unfolding bindingOf member
-returns-3 c = rw (c .match .keys3) refl
-
-returns-4 : tie.Need-returns-4
-unfolding bindingOf member
-returns-4 c = rw (c .match .keys4) refl
-
-returns-5 : tie.Need-returns-5
-unfolding bindingOf member
-returns-5 c = rw (c .match .keys5) refl
-
-returns-6 : tie.Need-returns-6
-unfolding bindingOf member
-returns-6 c = rw (c .match .keys6) refl
-
-returns-7 : tie.Need-returns-7
-unfolding bindingOf member
-returns-7 c = rw (c .match .keys7) refl
-
-returns-8 : tie.Need-returns-8
-unfolding bindingOf member
-returns-8 c = rw (c .match .keys8) refl
-
-returns-9 : tie.Need-returns-9
-unfolding bindingOf member
-returns-9 c = rw (c .match .keys9) refl
-
-returns-10 : tie.Need-returns-10
-unfolding bindingOf member
-returns-10 c = rw (c .match .keys10) refl
-
-returns-11 : tie.Need-returns-11
-unfolding bindingOf member
-returns-11 c = rw (c .match .keys11) refl
-
-returns-12 : tie.Need-returns-12
-unfolding bindingOf member
-returns-12 c = rw (c .match .keys12) refl
-
-returns-13 : tie.Need-returns-13
-unfolding bindingOf member
-returns-13 c = rw (c .match .keys13) refl
-
-returns-14 : tie.Need-returns-14
-unfolding bindingOf member
-returns-14 c = rw (c .match .keys14) refl
-
-returns-15 : tie.Need-returns-15
-unfolding bindingOf member
-returns-15 c = rw (c .match .keys15) refl
-
-returns-16 : tie.Need-returns-16
-returns-16 c = sym (no-binding _ (c .match .rest))
 
 pub binding-of-spec : {M : Type 1} → statement M
 binding-of-spec =
     tie.close
     (tie.spec
-    returns
-    returns-2
-    returns-3
-    returns-4
-    returns-5
-    returns-6
-    returns-7
-    returns-8
-    returns-9
-    returns-10
-    returns-11
-    returns-12
-    returns-13
-    returns-14
-    returns-15
-    returns-16)
+    (λ c κs. tt)
+    (λ c. binding-arm _ (c .before .letter-of .ensures) (c .match .keys1))
+    (λ c. binding-arm _ (c .before .letter-of .ensures) (c .match .keys2))
+    (λ c. binding-arm _ (c .before .letter-of .ensures) (c .match .keys3))
+    (λ c. binding-arm _ (c .before .letter-of .ensures) (c .match .keys4))
+    (λ c. binding-arm _ (c .before .letter-of .ensures) (c .match .keys5))
+    (λ c. binding-arm _ (c .before .letter-of .ensures) (c .match .keys6))
+    (λ c. no-binding _ (c .before .letter-of .ensures) (c .match .rest)))
