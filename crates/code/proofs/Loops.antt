@@ -1,4 +1,4 @@
--- The simulation of loops: WHILE and UNTIL, the REPEAT forms, and FOR in both directions. Each turn pays for what goes round.
+-- The simulation of loops: WHILE and UNTIL, the REPEAT forms, and FOR in both directions. The jump back is counted with the turn's own step.
 use Prim.Native.Nat.{ℕ, suc, _+_, _≤_}
 use mathlib.Core.Path.{_≡_, refl, ap, _∙_}
 use mathlib.Core.Bool.{Bool, true, false, not, cond}

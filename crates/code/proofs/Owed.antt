@@ -1,4 +1,4 @@
--- What a run that goes to a finish owes: with every budget and every output room, as demand 3 says.
+-- Demand 3 of a run that goes to a finish: what it says of every budget and every output room.
 use Prim.Native.Nat.{ℕ, zero, suc, _+_, _-_, _*_, _≤_, _<_}
 use mathlib.Core.Path.{_≡_, refl, sym, ap, _∙_}
 use mathlib.Core.Logic.{_⊎_, inl, inr}

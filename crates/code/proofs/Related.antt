@@ -194,7 +194,7 @@ module _ (Γ : Env) where
     time = omega (arith, e .time);
   }
 
-  -- the step of the source pays
+  -- one step of the source more allows 16 instructions more
   pub paid : {A : Type 0} {Q : A → Mach → Type 0} {t p h h₂ : ℕ} {s : State} {v : Mach} {x : Result A}
       → Runs Q t p h h₂ (step s) v x → t ≤ 16 → Runs Q 0 p h h₂ s v x
   paid z l = loose (omega arith, (λ n m k. omega arith), (λ a. refl)) z

@@ -1,4 +1,4 @@
--- Demand 3: what a compiled text owes its source. In the mission's words:
+-- Demand 3: what holds of a compiled text and its source. In the mission's words:
 -- "Take any source that is compiled and whose text is assembled, and any input. Suppose its source run, by the definition in 01 and
 -- with that image's placement, ends without an undefined act and uses none of the memory's last eight words. Run the image, untouched,
 -- from its start, with output room for at least the bytes that the source run writes. For every budget of at least sixteen times the
@@ -37,7 +37,7 @@ placementOf source table first =
       first = first;
     }
 
--- ---- what a run of the machine owes a source run that ended in a state
+-- ---- what a run of the machine has to be, where the source run ended in a state
 
 -- a word ends equal: the source run's holds what the machine's is
 pub record SameWord (s : State) (o : Outcome) (address : ℕ) : Type 0 where

@@ -23,7 +23,7 @@ use Rattle.symbols.specs.declared.SymbolsRead.{SymbolsRead}
 use Rattle.symbols.specs.declared.SymbolsRead.the-variants as YA
 use Rattle.tree.specs.Encoding.{encodeProgram}
 use Rattle.tree.specs.Read as R
-use Rattle.tree.specs.Read.{ReadsTree, treeRead, treeLeft, leftBy, padded, decoded, sourceIn, unfit, Within}
+use Rattle.tree.specs.Read.{ReadsTree, treeRead, treeLeft, leftBy, padded, decoded, sourceIn, tooShort, Within}
 use Rattle.tree.specs.declared.TreeRead.{TreeRead}
 use Rattle.tree.specs.declared.TreeRead.the-variants as RA
 use Rattle.tree.proofs.Stages.{few-good, decoded-entries, entries-size}
@@ -181,8 +181,8 @@ module _ {source s : List ℕ} {count : ℕ} (y : ReadySymbols source s count) w
   rest-is : drop most s ≡ replicate (length s - most) 0
   rest-is = ap (drop most) stands ∙ drop-at (padded most ss) (replicate (length s - most) 0) most long
 
-  fits : unfit (length (take most s)) count ≡ false
-  unfolding unfit
+  fits : tooShort (length (take most s)) count ≡ false
+  unfolding tooShort
   fits =
       let small : most ≤ 2 ^ 32 - 1 = omega (arith, few, y .lent .short) in
       rw (length-take-le most s tree-room, le-ltb most most (omega arith), le-ltb (2 ^ 32 - 1) most small) refl

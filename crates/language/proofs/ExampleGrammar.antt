@@ -59,7 +59,7 @@ verdict-table =
     "LET F() BE TEST A DO F()" gives (6, 24) ∷
     -- an empty command takes no REPEAT, but the IF around it does
     "LET F() BE SWITCHON A INTO $( IF B DO CASE 1: REPEAT $)" gives (0, 0) ∷
-    -- NOT is a rung of the ladder: what cannot follow its operand without it cannot follow with it
+    -- NOT is one of the bindings: what cannot follow its operand without it cannot follow with it
     "LET F() = NOT A >> 5 = 14" gives (6, 21) ∷
     "LET F() = NOT A = B = C" gives (6, 20) ∷
     "LET F() = A & NOT B = C = A" gives (6, 24) ∷

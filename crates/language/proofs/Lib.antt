@@ -19,7 +19,7 @@ pub mod Extra
 pub mod ExtraGrammar
 pub mod Loops
 pub mod ExampleLoops
-pub mod Ladder
+pub mod Bindings
 pub mod Whole
 pub mod ExampleRules
 pub mod ExampleRuns

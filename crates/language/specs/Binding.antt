@@ -7,7 +7,7 @@ use Rattle.language.specs.Kinds as K
 use Rattle.language.specs.Kinds.{member}
 
 -- the binding of a dyadic operator, tightest first: 1 for * / REM, 2 for + -, 3 for a relation, 4 for << >>, 6 for &, 7 for |;
--- 0 for any other symbol. 5 is the rung of NOT. (A primary, then calls and dyadic !, then monadic ! and @ bind tighter than these.)
+-- 0 for any other symbol. 5 is the binding of NOT. (A primary, then calls and dyadic !, then monadic ! and @ bind tighter than these.)
 unfoldable pub bindingOf : (kind : ℕ) → ℕ
 bindingOf kind =
     cond (member kind (K.STAR ∷ K.SLASH ∷ K.REM ∷ [])) 1

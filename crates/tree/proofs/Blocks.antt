@@ -17,7 +17,7 @@ use Rattle.language.specs.Expressions as E
 use Rattle.language.specs.Expressions.{Inside, inside, shut, opening}
 use Rattle.language.specs.Commands as C
 use Rattle.language.specs.Grammar.{within, readers}
-use Rattle.tree.specs.Reads.{Lies, KindHere, Goes, Puts, Reads, Refuses, Adds, recordFrom, Seals, freeOf}
+use Rattle.tree.specs.Reads.{HoldsSymbols, KindHere, Follows, Prepends, Reads, Refuses, Adds, recordFrom, Seals, freeOf}
 use Rattle.tree.specs.Between.{Repeated, repeatedBy, repeatedOnly, encodeRepeatedOnly, opened, bodyAfter}
 use Rattle.tree.specs.Encoding.{LABELLED, closed, encode, encodeName, encodeBy, encodeLabels, encodeCommand, encodeCommands, encodeUnlabelled, encodeRepeats, encodeLocals, labelled, repeated}
 use Rattle.tree.proofs.Steps.{follow, bind, here, added, adds-on, goes-on, _then_, nothing, stopped}
@@ -26,7 +26,7 @@ use Rattle.tree.proofs.ListEnd.{listed-items}
 use Rattle.tree.proofs.Chains.{grown}
 use Rattle.tree.proofs.Commands.{two, three}
 use Rattle.tree.proofs.Readers.{deeper, shut-at, item-alone, put-first, many-none, many-first}
-use Rattle.tree.specs.declared.scratch.Answer.{Answer}
+use Rattle.tree.specs.declared.scratch.State.{State}
 
 -- ---- a command after its labels, if there are any
 
@@ -34,7 +34,7 @@ use Rattle.tree.specs.declared.scratch.Answer.{Answer}
 abbrev with-labels : List Label → Repeated → Command
 with-labels ls c = T.command ls (c .body) (c .forms)
 
-module _ (src : Source) (x : ℕ) {s s′ : List ℕ} {r r′ : Answer} {kind : ℕ} (k : KindHere src r kind) (labels : Bool) where
+module _ (src : Source) (x : ℕ) {s s′ : List ℕ} {r r′ : State} {kind : ℕ} (k : KindHere src r kind) (labels : Bool) where
   pub body-shut : beginsCommand kind ≡ true → x ≡ 0 → Refuses 7 r r′ → Reads (bodyAfter labels x src) encodeRepeatedOnly s s′ r r′
   unfolding bodyAfter opened opening
   body-shut q h d =
@@ -49,7 +49,7 @@ module _ (src : Source) (x : ℕ) {s s′ : List ℕ} {r r′ : Answer} {kind : 
   unfolding bodyAfter unexpected
   body-none q h d = stopped (λ at free e. rw (sym (ap beginsCommand (k .here at free e)) ∙ q, h) refl) d
 
-module _ (src : Source) (x : ℕ) {s : List ℕ} {r : Answer} {kind : ℕ} (k : KindHere src r kind) (labels : Bool) where
+module _ (src : Source) (x : ℕ) {s : List ℕ} {r : State} {kind : ℕ} (k : KindHere src r kind) (labels : Bool) where
   pub body-empty : beginsCommand kind ≡ false → labels ≡ true → Reads (bodyAfter labels x src) encodeRepeatedOnly s s r r
   unfolding bodyAfter encodeRepeatedOnly repeated encodeUnlabelled encodeRepeats
   body-empty q h =
@@ -95,14 +95,14 @@ unfolding labelled
 labelled-words [] w h = absurd (omega arith)
 labelled-words (x ∷ ls) w h = refl
 
-pub command-plain : (src : Source) (x : ℕ) {s s′ : List ℕ} {r r′ : Answer} {kind : ℕ} → KindHere src r kind → isLabel kind ≡ false → Reads (bodyAfter false x src) encodeRepeatedOnly s s′ r r′ → Reads (C.command (within x) src) encodeCommand s s′ r r′
+pub command-plain : (src : Source) (x : ℕ) {s s′ : List ℕ} {r r′ : State} {kind : ℕ} → KindHere src r kind → isLabel kind ≡ false → Reads (bodyAfter false x src) encodeRepeatedOnly s s′ r r′ → Reads (C.command (within x) src) encodeCommand s s′ r r′
 unfolding C.command encodeCommand encodeLabels labelled encodeRepeatedOnly
 command-plain src x k q d =
     here _ (λ at free e. many-none k [] isLabel (C.label (within x)) (λ ls m. C.afterLabels (within x) ls src m) e q ∙ after-none x src at)
     (mapped (with-labels []) (λ c. refl) d)
 
-module _ {src : Source} {n : ℕ} {s₀ : List ℕ} (l : Lies src n s₀) (size x : ℕ) {r : Answer} {kind : ℕ} (k : KindHere src r kind) where
-  pub labelled-read : {s s₁ s₂ s₃ s₄ : List ℕ} {r₁ r₂ r₃ r₄ : Answer} {lo value : ℕ} → isLabel kind ≡ true → lo ≡ freeOf size r → value ≡ freeOf size r₂ - lo → Goes (C.label (within x) src) (Puts encodeLabels) s s₁ r r₁ → Reads (manyUpTo (n - 1) [] isLabel (C.label (within x)) src) encodeLabels s₁ s₂ r₁ r₂ → Reads (bodyAfter true x src) encodeRepeatedOnly s₂ s₃ r₂ r₃ → Adds (recordFrom lo value 0 LABELLED) s₃ s₄ r₃ r₄ → Reads (C.command (within x) src) encodeCommand s s₄ r r₄
+module _ {src : Source} {n : ℕ} {s₀ : List ℕ} (l : HoldsSymbols src n s₀) (size x : ℕ) {r : State} {kind : ℕ} (k : KindHere src r kind) where
+  pub labelled-read : {s s₁ s₂ s₃ s₄ : List ℕ} {r₁ r₂ r₃ r₄ : State} {lo value : ℕ} → isLabel kind ≡ true → lo ≡ freeOf size r → value ≡ freeOf size r₂ - lo → Follows (C.label (within x) src) (Prepends encodeLabels) s s₁ r r₁ → Reads (manyUpTo (n - 1) [] isLabel (C.label (within x)) src) encodeLabels s₁ s₂ r₁ r₂ → Reads (bodyAfter true x src) encodeRepeatedOnly s₂ s₃ r₂ r₃ → Adds (recordFrom lo value 0 LABELLED) s₃ s₄ r₃ r₄ → Reads (C.command (within x) src) encodeCommand s s₄ r r₄
   unfolding C.command encodeCommand encodeRepeatedOnly isLabel member
   labelled-read {s} {s₁} {s₂} {s₃} {s₄} {r₁} {r₂} {r₃} {r₄} {lo} {value} hb lo-is ev d₁ d₂ d₃ d₄ =
       here _ (λ at free y. many-first k [] isLabel (C.label (within x)) (λ ls m. C.afterLabels (within x) ls src m) y l refl hb)
@@ -122,8 +122,8 @@ five : (a b c d f : List ℕ) (z v p k : ℕ) → z ≡ length a + (length b + (
 five a b c d f z v p k e =
     ap (λ (w : List ℕ). a ++ (b ++ (c ++ w))) (sym (append-assoc d f (z ∷ v ∷ p ∷ k ∷ []))) ∙ four a b c (d ++ f) z v p k (omega (arith, length-append d f))
 
-module _ {src : Source} {n : ℕ} {s : List ℕ} (l : Lies src n s) {r : Answer} (size x : ℕ) {lo : ℕ} (lo-is : lo ≡ freeOf size r) where
-  pub for-read : {value : ℕ} {s₂ s₄ s₆ s₇ s₉ t : List ℕ} {r₁ r₂ r₃ r₄ r₅ r₆ r₇ r₈ r₉ q : Answer} → Reads (the K.FOR src) (λ _. []) s s r r₁ → Reads (aName src) encodeName s s₂ r₁ r₂ → Reads (the K.EQUAL src) (λ _. []) s₂ s₂ r₂ r₃ → Reads (E.expression (within x) LOOSEST src) encode s₂ s₄ r₃ r₄ → Reads (the K.TO src) (λ _. []) s₄ s₄ r₄ r₅ → Reads (E.expression (within x) LOOSEST src) encode s₄ s₆ r₅ r₆ → Reads (C.optionalBy (readers (within x)) src) encodeBy s₆ s₇ r₆ r₇ → Reads (the K.DO src) (λ _. []) s₇ s₇ r₇ r₈ → Reads (C.command (within x) src) encodeCommand s₇ s₉ r₈ r₉ → value ≡ freeOf size r₇ - freeOf size r₆ → Adds (recordFrom lo value 0 K.FOR) s₉ t r₉ q → Reads (C.for (readers (within x)) src) encodeUnlabelled s t r q
+module _ {src : Source} {n : ℕ} {s : List ℕ} (l : HoldsSymbols src n s) {r : State} (size x : ℕ) {lo : ℕ} (lo-is : lo ≡ freeOf size r) where
+  pub for-read : {value : ℕ} {s₂ s₄ s₆ s₇ s₉ t : List ℕ} {r₁ r₂ r₃ r₄ r₅ r₆ r₇ r₈ r₉ q : State} → Reads (the K.FOR src) (λ _. []) s s r r₁ → Reads (aName src) encodeName s s₂ r₁ r₂ → Reads (the K.EQUAL src) (λ _. []) s₂ s₂ r₂ r₃ → Reads (E.expression (within x) LOOSEST src) encode s₂ s₄ r₃ r₄ → Reads (the K.TO src) (λ _. []) s₄ s₄ r₄ r₅ → Reads (E.expression (within x) LOOSEST src) encode s₄ s₆ r₅ r₆ → Reads (C.optionalBy (readers (within x)) src) encodeBy s₆ s₇ r₆ r₇ → Reads (the K.DO src) (λ _. []) s₇ s₇ r₇ r₈ → Reads (C.command (within x) src) encodeCommand s₇ s₉ r₈ r₉ → value ≡ freeOf size r₇ - freeOf size r₆ → Adds (recordFrom lo value 0 K.FOR) s₉ t r₉ q → Reads (C.for (readers (within x)) src) encodeUnlabelled s t r q
   unfolding C.for encodeUnlabelled
   for-read {value} a b c d f g h i j v k =
       let kp = goes-on j then adds-on k in
@@ -135,20 +135,20 @@ module _ {src : Source} {n : ℕ} {s : List ℕ} (l : Lies src n s) {r : Answer}
       let cp = goes-on c then dp in
       bind size (λ _. []) a (goes-on b then cp) (λ _ q₁. bind size encodeName b cp (λ m q₂. bind size (λ _. []) c dp (λ _ q₃. bind size encode d fp (λ e q₄. bind size (λ _. []) f gp (λ _ q₅. bind size encode g hp (λ y q₆. bind size encodeBy h ip (λ o q₇. bind size (λ _. []) i kp (λ _ q₈. bind size encodeCommand j (adds-on k) (λ z q₉. added size k (record { same = five (encodeName m) (encode e) (encode y) (encodeBy o) (encodeCommand z) _ value 0 K.FOR (omega arith) ∙ ap (λ (u : ℕ). closed (encodeName m ++ (encode e ++ (encode y ++ (encodeBy o ++ encodeCommand z)))) u 0 K.FOR) (omega arith) }))))))))))
 
-  pub switchon-read : {value : ℕ} {s₂ s₅ s₆ t : List ℕ} {r₁ r₂ r₃ r₄ r₅ r₆ q : Answer} → Reads (the K.SWITCHON src) (λ _. []) s s r r₁ → Reads (E.expression (within x) LOOSEST src) encode s s₂ r₁ r₂ → Reads (the K.INTO src) (λ _. []) s₂ s₂ r₂ r₃ → Reads (the K.BEGIN src) (λ _. []) s₂ s₂ r₃ r₄ → Goes (C.listed (readers (within x)) src) (Puts encodeCommands) s₂ s₅ r₄ r₅ → Reads (moreUpTo n T.noCommands (C.listed (readers (within x))) src) encodeCommands s₅ s₆ r₅ r₆ → value ≡ freeOf size r₂ - lo → Adds (recordFrom lo value 0 K.SWITCHON) s₆ t r₆ q → Reads (C.switchon (readers (within x)) src) encodeUnlabelled s t r q
+  pub switchon-read : {value : ℕ} {s₂ s₅ s₆ t : List ℕ} {r₁ r₂ r₃ r₄ r₅ r₆ q : State} → Reads (the K.SWITCHON src) (λ _. []) s s r r₁ → Reads (E.expression (within x) LOOSEST src) encode s s₂ r₁ r₂ → Reads (the K.INTO src) (λ _. []) s₂ s₂ r₂ r₃ → Reads (the K.BEGIN src) (λ _. []) s₂ s₂ r₃ r₄ → Follows (C.listed (readers (within x)) src) (Prepends encodeCommands) s₂ s₅ r₄ r₅ → Reads (moreUpTo n T.noCommands (C.listed (readers (within x))) src) encodeCommands s₅ s₆ r₅ r₆ → value ≡ freeOf size r₂ - lo → Adds (recordFrom lo value 0 K.SWITCHON) s₆ t r₆ q → Reads (C.switchon (readers (within x)) src) encodeUnlabelled s t r q
   unfolding C.switchon encodeUnlabelled
   switchon-read {value} a b c d f g v k =
       let fg = listed-items T.noCommands (C.listed (readers (within x))) src (l .count) f g in
       let dp = goes-on d then goes-on fg then adds-on k in
       bind size (λ _. []) a (goes-on b then goes-on c then dp) (λ _ q₁. bind size encode b (goes-on c then dp) (λ e q₂. bind size (λ _. []) c dp (λ _ q₃. bind size (λ _. []) d (goes-on fg then adds-on k) (λ _ q₄. bind size encodeCommands fg (adds-on k) (λ cs q₅. added size k (record { same = two (encode e) (encodeCommands cs) _ value 0 K.SWITCHON (omega arith) ∙ ap (λ (u : ℕ). closed (encode e ++ encodeCommands cs) u 0 K.SWITCHON) (omega arith) }))))))
 
-  pub block-read : {value : ℕ} {s₂ s₃ t : List ℕ} {r₁ r₂ r₃ q : Answer} → Reads (the K.BEGIN src) (λ _. []) s s r r₁ → Reads (manyUpTo n T.noLocals (λ kind. eqb kind K.LET) (C.local (readers (within x))) src) encodeLocals s s₂ r₁ r₂ → Reads (C.commandsToEnd (readers (within x)) src) encodeCommands s₂ s₃ r₂ r₃ → value ≡ freeOf size r₂ - lo → Adds (recordFrom lo value 0 K.BEGIN) s₃ t r₃ q → Reads (C.block (readers (within x)) src) encodeUnlabelled s t r q
+  pub block-read : {value : ℕ} {s₂ s₃ t : List ℕ} {r₁ r₂ r₃ q : State} → Reads (the K.BEGIN src) (λ _. []) s s r r₁ → Reads (manyUpTo n T.noLocals (λ kind. eqb kind K.LET) (C.local (readers (within x))) src) encodeLocals s s₂ r₁ r₂ → Reads (C.commandsToEnd (readers (within x)) src) encodeCommands s₂ s₃ r₂ r₃ → value ≡ freeOf size r₂ - lo → Adds (recordFrom lo value 0 K.BEGIN) s₃ t r₃ q → Reads (C.block (readers (within x)) src) encodeUnlabelled s t r q
   unfolding C.block many encodeUnlabelled
   block-read {value} {s₂} {s₃} {t} {r₁} {r₂} a b c v k =
       bind size (λ _. []) a (goes-on b then goes-on c then adds-on k) (λ _ q₁. bind size encodeLocals (subst (λ (m : ℕ). Reads (manyUpTo m T.noLocals (λ kind. eqb kind K.LET) (C.local (readers (within x))) src) encodeLocals s s₂ r₁ r₂) (sym (l .count)) b) (goes-on c then adds-on k) (λ ls q₂. bind size encodeCommands c (adds-on k) (λ cs q₃. added size k (record { same = two (encodeLocals ls) (encodeCommands cs) _ value 0 K.BEGIN (omega arith) ∙ ap (λ (u : ℕ). closed (encodeLocals ls ++ encodeCommands cs) u 0 K.BEGIN) (omega arith) }))))
 
 -- a command of a list
-pub listed-read : (src : Source) (size x : ℕ) {lo : ℕ} {s s₁ s₂ s₃ : List ℕ} {r r₁ r₂ : Answer} → lo ≡ freeOf size r → freeOf size r ≤ length s → Adds (λ _. 0 ∷ 0 ∷ []) s s₁ r r₁ → Reads (C.command (within x) src) encodeCommand s₁ s₂ r₁ r₂ → Seals lo s₂ s₃ r₂ → Goes (C.listed (readers (within x)) src) (Puts encodeCommands) s s₃ r r₂
+pub listed-read : (src : Source) (size x : ℕ) {lo : ℕ} {s s₁ s₂ s₃ : List ℕ} {r r₁ r₂ : State} → lo ≡ freeOf size r → freeOf size r ≤ length s → Adds (λ _. 0 ∷ 0 ∷ []) s s₁ r r₁ → Reads (C.command (within x) src) encodeCommand s₁ s₂ r₁ r₂ → Seals lo s₂ s₃ r₂ → Follows (C.listed (readers (within x)) src) (Prepends encodeCommands) s s₃ r r₂
 unfolding C.listed encodeCommands
 listed-read src size x lo-is le a d b =
     item-alone T.andCommand 0 size encodeCommand (put-first T.andCommand 0 encodeCommand encodeCommands (λ e rest. refl)) lo-is le a d b
@@ -158,20 +158,20 @@ unfolding encodeCommands
 no-command-words = refl
 
 -- [ command { ; command } ] [;] $)
-module _ (src : Source) (x : ℕ) {s : List ℕ} {r : Answer} {kind : ℕ} (k : KindHere src r kind) where
-  pub no-commands : {r₁ : Answer} → kind ≡ K.END → Reads (the K.END src) (λ _. []) s s r r₁ → Reads (C.commandsToEnd (readers (within x)) src) encodeCommands s s r r₁
+module _ (src : Source) (x : ℕ) {s : List ℕ} {r : State} {kind : ℕ} (k : KindHere src r kind) where
+  pub no-commands : {r₁ : State} → kind ≡ K.END → Reads (the K.END src) (λ _. []) s s r r₁ → Reads (C.commandsToEnd (readers (within x)) src) encodeCommands s s r r₁
   unfolding C.commandsToEnd encodeCommands
   no-commands q d =
       here _ (λ at free e. let y : kindAt src at ≡ K.END = sym (k .here at free e) ∙ q in
       rw (eq-eqb (kindAt src at) K.END y) (sym (ap (λ (o : Out ℕ). onOut o (λ _ m. ok T.noCommands m)) (the-is src K.END at y))))
       (mapped (λ _. T.noCommands) (λ _. refl) d)
 
-  pub semicolon-commands : {r₁ r₂ : Answer} → kind ≡ K.SEMICOLON → Reads (the K.SEMICOLON src) (λ _. []) s s r r₁ → Reads (the K.END src) (λ _. []) s s r₁ r₂ → Reads (C.commandsToEnd (readers (within x)) src) encodeCommands s s r r₂
+  pub semicolon-commands : {r₁ r₂ : State} → kind ≡ K.SEMICOLON → Reads (the K.SEMICOLON src) (λ _. []) s s r r₁ → Reads (the K.END src) (λ _. []) s s r₁ r₂ → Reads (C.commandsToEnd (readers (within x)) src) encodeCommands s s r r₂
   unfolding C.commandsToEnd C.semicolonEnd encodeCommands
   semicolon-commands q d g =
       here _ (λ at free e. rw (sym (k .here at free e) ∙ q) refl) (bind 0 (λ _. []) d (goes-on g) (λ _ _. mapped (λ _. T.noCommands) (λ _. refl) g))
 
-  pub some-commands : {n : ℕ} {s₁ s₂ : List ℕ} {r₁ r₂ : Answer} → length (src .symbols) ≡ n → (kind ≡ K.END → ⊥) → (kind ≡ K.SEMICOLON → ⊥) → Goes (C.listed (readers (within x)) src) (Puts encodeCommands) s s₁ r r₁ → Reads (moreUpTo n T.noCommands (C.listed (readers (within x))) src) encodeCommands s₁ s₂ r₁ r₂ → Reads (C.commandsToEnd (readers (within x)) src) encodeCommands s s₂ r r₂
+  pub some-commands : {n : ℕ} {s₁ s₂ : List ℕ} {r₁ r₂ : State} → length (src .symbols) ≡ n → (kind ≡ K.END → ⊥) → (kind ≡ K.SEMICOLON → ⊥) → Follows (C.listed (readers (within x)) src) (Prepends encodeCommands) s s₁ r r₁ → Reads (moreUpTo n T.noCommands (C.listed (readers (within x))) src) encodeCommands s₁ s₂ r₁ r₂ → Reads (C.commandsToEnd (readers (within x)) src) encodeCommands s s₂ r r₂
   unfolding C.commandsToEnd
   some-commands en p q d g =
       here _ (λ at free e. rw (ne-eqb (kindAt src at) K.END (λ y. p (k .here at free e ∙ y)), ne-eqb (kindAt src at) K.SEMICOLON (λ y. q (k .here at free e ∙ y))) refl) (listed-items T.noCommands (C.listed (readers (within x))) src en d g)

@@ -15,8 +15,8 @@ use Rattle.tree.specs.Between.{CallHere, PlaceHere}
 use Rattle.tree.specs.Encoding.{MONADIC, CALLED, DYADIC, suffixedKind, closed, encode, encodeName, encodeCommand, encodeSuffixes, encodeOperations}
 use Rattle.tree.proofs.Helpers.{free-is, room-is}
 use Rattle.tree.proofs.Symbols.{clash}
-use Rattle.tree.specs.declared.scratch.Answer.{Answer}
-use Rattle.tree.specs.declared.scratch.Answer.the-variants.{Read, Refused}
+use Rattle.tree.specs.declared.scratch.State.{State}
+use Rattle.tree.specs.declared.scratch.State.the-variants.{Read, Refused}
 
 -- an expression's words end in its record, which has its place and says by its kind whether it is a call
 record Recorded (e : Expression) : Type 0 where
@@ -64,7 +64,7 @@ module _ (a b : List ℕ) (v p k : ℕ) (s : List ℕ) (free : ℕ) (le : free �
   place-last = behind (free - 2) 2 (omega (arith, front-size)) (omega (arith, front-size))
 
 -- the entries that the code reads
-module _ {s : List ℕ} {n : ℕ} {r : Answer} {at free : ℕ} (h : Ready 0 s n r) (e : r ≡ Read at free) where
+module _ {s : List ℕ} {n : ℕ} {r : State} {at free : ℕ} (h : Ready 0 s n r) (e : r ≡ Read at free) where
   module _ (at′ free′ : ℕ) (before : List ℕ) (x : Expression) (e′ : r ≡ Read at′ free′) (t : take free′ s ≡ before ++ encode x) where
     last-record : take free s ≡ before ++ closed (recorded x .contents) (recorded x .value) (placeOf x) (recorded x .kind)
     last-record =
@@ -95,8 +95,8 @@ module _ {s : List ℕ} {n : ℕ} {r : Answer} {at free : ℕ} (h : Ready 0 s n 
   pub place-entry : PlaceHere s r (getD s (free - 2) 0)
   place-entry = record { here = λ at′ free′ before x e′ t. place-is at′ free′ before x e′ t }
 
-pub call-refused : {s : List ℕ} {r : Answer} {k p : ℕ} {call : Bool} → r ≡ Refused k p → CallHere s r call
+pub call-refused : {s : List ℕ} {r : State} {k p : ℕ} {call : Bool} → r ≡ Refused k p → CallHere s r call
 call-refused e = record { here = λ at free before x e′ t. absurd (clash e e′) }
 
-pub place-refused : {s : List ℕ} {r : Answer} {k p place : ℕ} → r ≡ Refused k p → PlaceHere s r place
+pub place-refused : {s : List ℕ} {r : State} {k p place : ℕ} → r ≡ Refused k p → PlaceHere s r place
 place-refused e = record { here = λ at free before x e′ t. absurd (clash e e′) }

@@ -13,12 +13,12 @@ use Rattle.language.specs.Reader.{Source, Out, ok, onOut, kindAt, placeAt, the}
 use Rattle.language.specs.Expressions as E
 use Rattle.language.specs.Commands as C
 use Rattle.language.specs.Grammar.{within}
-use Rattle.tree.specs.Reads.{Lies, Here, KindHere, Goes, Is, Puts, Reads, Adds, recordFrom, Seals, freeOf}
+use Rattle.tree.specs.Reads.{HoldsSymbols, Here, KindHere, Follows, Encodes, Prepends, Reads, Adds, recordFrom, Seals, freeOf}
 use Rattle.tree.specs.Encoding.{item, closed, encodeConstant, encodeLabels}
 use Rattle.tree.proofs.Steps.{bind, here, added, adds-on, goes-on, _then_, nothing}
 use Rattle.tree.proofs.Lists.{sealed}
 use Rattle.tree.proofs.Symbols.{placed, stays}
-use Rattle.tree.specs.declared.scratch.Answer.{Answer}
+use Rattle.tree.specs.declared.scratch.State.{State}
 
 pub no-label-words : encodeLabels [] ≡ []
 unfolding encodeLabels
@@ -39,7 +39,7 @@ one-some (T.case place c) = omega arith
 one-some (T.default place) = omega arith
 
 -- a label before those after it
-put-label : {read : ℕ → Out Label} {s s′ : List ℕ} {r r′ : Answer} → Reads read one s s′ r r′ → Goes (λ m. onOut (read m) (λ l q. ok (l ∷_) q)) (Puts encodeLabels) s s′ r r′
+put-label : {read : ℕ → Out Label} {s s′ : List ℕ} {r r′ : State} → Reads read one s s′ r r′ → Follows (λ m. onOut (read m) (λ l q. ok (l ∷_) q)) (Prepends encodeLabels) s s′ r r′
 put-label d =
     bind 0 one d stays
     (λ l _. nothing (record {
@@ -48,13 +48,13 @@ put-label d =
     }))
 
 -- its word, an item's two entries, what stands in it, its record, and the item's size
-module _ {src : Source} {n : ℕ} {s : List ℕ} (l : Lies src n s) {r : Answer} (size : ℕ) (x : ℕ) {lo start p : ℕ} (lo-is : lo ≡ freeOf size r) (h : Here (placeAt src) n r p) {s₁ s₃ s₄ : List ℕ} {r₀ r₁ r₃ r₄ : Answer} (le : freeOf size r₀ ≤ length s) (start-is : start ≡ freeOf size r₁) where
-  pub case-read : {s₂ : List ℕ} {r₂ : Answer} → Reads (the K.CASE src) (λ _. []) s s r r₀ → Adds (λ _. 0 ∷ K.CASE ∷ []) s s₁ r₀ r₁ → Reads (E.constant (within x) src) encodeConstant s₁ s₂ r₁ r₂ → Reads (the K.COLON src) (λ _. []) s₂ s₂ r₂ r₃ → Adds (recordFrom start 0 p K.CASE) s₂ s₃ r₃ r₄ → Seals lo s₃ s₄ r₄ → Reads (C.case (within x) src) one s s₄ r r₄
+module _ {src : Source} {n : ℕ} {s : List ℕ} (l : HoldsSymbols src n s) {r : State} (size : ℕ) (x : ℕ) {lo start p : ℕ} (lo-is : lo ≡ freeOf size r) (h : Here (placeAt src) n r p) {s₁ s₃ s₄ : List ℕ} {r₀ r₁ r₃ r₄ : State} (le : freeOf size r₀ ≤ length s) (start-is : start ≡ freeOf size r₁) where
+  pub case-read : {s₂ : List ℕ} {r₂ : State} → Reads (the K.CASE src) (λ _. []) s s r r₀ → Adds (λ _. 0 ∷ K.CASE ∷ []) s s₁ r₀ r₁ → Reads (E.constant (within x) src) encodeConstant s₁ s₂ r₁ r₂ → Reads (the K.COLON src) (λ _. []) s₂ s₂ r₂ r₃ → Adds (recordFrom start 0 p K.CASE) s₂ s₃ r₃ r₄ → Seals lo s₃ s₄ r₄ → Reads (C.case (within x) src) one s s₄ r r₄
   unfolding C.case encodeLabels
   case-read a b c d f g =
       here _ (placed l h K.CASE (omega arith) (λ place m. onOut (E.constant (within x) src m) (λ k q. onOut (the K.COLON src q) (λ _ w. ok (T.case place k) w))))
       (bind size (λ _. []) a (adds-on b then goes-on c then goes-on d then adds-on f) (λ _ q₀.
-      sealed (Is one) K.CASE size (λ y w e. e) le (omega arith) b
+      sealed (Encodes one) K.CASE size (λ y w e. e) le (omega arith) b
       (bind size encodeConstant c (goes-on d then adds-on f) (λ k q₁. bind size (λ _. []) d (adds-on f) (λ _ q₂.
       added size f (record { same = ap (λ (z : ℕ). item K.CASE (encodeConstant k ++ (z ∷ 0 ∷ p ∷ K.CASE ∷ []))) (omega arith) ∙ sym (append-nil _) })))) g))
 
@@ -63,18 +63,18 @@ module _ {src : Source} {n : ℕ} {s : List ℕ} (l : Lies src n s) {r : Answer}
   default-read a b d f g =
       here _ (placed l h K.DEFAULT (omega arith) (λ place m. onOut (the K.COLON src m) (λ _ w. ok (T.default place) w)))
       (bind size (λ _. []) a (adds-on b then goes-on d then adds-on f) (λ _ q₀.
-      sealed (Is one) K.DEFAULT size (λ y w e. e) le (omega arith) b
+      sealed (Encodes one) K.DEFAULT size (λ y w e. e) le (omega arith) b
       (bind size (λ _. []) d (adds-on f) (λ _ q₂.
       added size f (record { same = ap (λ (z : ℕ). item K.DEFAULT (z ∷ 0 ∷ p ∷ K.DEFAULT ∷ [])) (omega arith) }))) g))
 
 -- the choice
-module _ (src : Source) (x : ℕ) {s s′ : List ℕ} {r r′ : Answer} {kind : ℕ} (k : KindHere src r kind) where
-  pub label-case : kind ≡ K.CASE → Reads (C.case (within x) src) one s s′ r r′ → Goes (C.label (within x) src) (Puts encodeLabels) s s′ r r′
+module _ (src : Source) (x : ℕ) {s s′ : List ℕ} {r r′ : State} {kind : ℕ} (k : KindHere src r kind) where
+  pub label-case : kind ≡ K.CASE → Reads (C.case (within x) src) one s s′ r r′ → Follows (C.label (within x) src) (Prepends encodeLabels) s s′ r r′
   unfolding C.label
   label-case q d =
       here _ (λ at free e. ap (λ (b : Bool). onOut (cond b (C.case (within x) src at) (C.default (within x) src at)) (λ y m. ok (y ∷_) m)) (eq-eqb (kindAt src at) K.CASE (sym (k .here at free e) ∙ q))) (put-label d)
 
-  pub label-default : (kind ≡ K.CASE → ⊥) → Reads (C.default (within x) src) one s s′ r r′ → Goes (C.label (within x) src) (Puts encodeLabels) s s′ r r′
+  pub label-default : (kind ≡ K.CASE → ⊥) → Reads (C.default (within x) src) one s s′ r r′ → Follows (C.label (within x) src) (Prepends encodeLabels) s s′ r r′
   unfolding C.label
   label-default q d =
       here _ (λ at free e. ap (λ (b : Bool). onOut (cond b (C.case (within x) src at) (C.default (within x) src at)) (λ y m. ok (y ∷_) m)) (ne-eqb (kindAt src at) K.CASE (λ y. q (k .here at free e ∙ y)))) (put-label d)

@@ -15,15 +15,15 @@ use Rattle.language.specs.Binding.{bindingOf, isSuffix, RELATION, NEGATION, LOO
 use Rattle.language.specs.Expressions as E
 use Rattle.language.specs.Expressions.{Inside}
 use Rattle.language.specs.Grammar.{within}
-use Rattle.tree.specs.Reads.{Lies, KindHere, Goes, Puts, Reads, Adds, recordFrom, freeOf}
-use Rattle.tree.specs.Between.{PlaceHere, PutsSuffix, Ended, PutsOne, Counted, rightOf, furtherMost}
+use Rattle.tree.specs.Reads.{HoldsSymbols, KindHere, Follows, Prepends, Reads, Adds, recordFrom, freeOf}
+use Rattle.tree.specs.Between.{PlaceHere, PrependsSuffix, Ended, PrependsOne, Counted, rightOf, furtherMost}
 use Rattle.tree.specs.Encoding.{DYADIC, closed, suffixedKind, encode, encodeExpressions, encodeSuffixes, encodeOperations}
 use Rattle.tree.proofs.Steps.{follow, bind, look, here, added, adds-on, goes-on, _then_, nothing}
 use Rattle.tree.proofs.Lists.{turn, last}
 use Rattle.tree.proofs.Symbols.{inside as among, stays}
 use Rattle.tree.proofs.Readers.{chain-is, nests, many-none, many-first, parts, encode-dyadic, encode-suffixed}
 use Rattle.tree.proofs.Classes.{binding-positive}
-use Rattle.tree.specs.declared.scratch.Answer.{Answer}
+use Rattle.tree.specs.declared.scratch.State.{State}
 
 -- the words of a chain, part by part
 pub chained : (a w c whole : List ℕ) (z v p k : ℕ) → z ≡ length a + (length w + length c) → v ≡ length a → whole ≡ w ++ c → a ++ (w ++ (c ++ (z ∷ v ∷ p ∷ k ∷ []))) ≡ closed (a ++ whole) (length a) p k
@@ -55,14 +55,14 @@ module _ (inner : Inside) (right : ℕ) (src : Source) (b : ℕ) where
       ap (λ (m : ℕ). manyUpTo m T.noOperations (λ kind. eqb (bindingOf kind) b) (E.operation (E.expression inner right)) src at) (most-is src b n e h)
       ∙ turn T.noOperations (λ kind. eqb (bindingOf kind) b) (E.operation (E.expression inner right)) src (furtherMost b n) at (eq-eqb (bindingOf (kindAt src at)) b q)
 
-module _ {src : Source} {n : ℕ} {s₀ : List ℕ} (l : Lies src n s₀) (size x b : ℕ) (pos : b ≡ 0 → ⊥) (rung : b ≡ NEGATION → ⊥) (most : b ≤ LOOSEST) {s s₁ : List ℕ} {r r₁ : Answer} {kind : ℕ} (k : KindHere src r₁ kind) (d₁ : Reads (E.expression (within x) (b - 1) src) encode s s₁ r r₁) where
+module _ {src : Source} {n : ℕ} {s₀ : List ℕ} (l : HoldsSymbols src n s₀) (size x b : ℕ) (pos : b ≡ 0 → ⊥) (rung : b ≡ NEGATION → ⊥) (most : b ≤ LOOSEST) {s s₁ : List ℕ} {r r₁ : State} {kind : ℕ} (k : KindHere src r₁ kind) (d₁ : Reads (E.expression (within x) (b - 1) src) encode s s₁ r r₁) where
   pub expression-one : (bindingOf kind ≡ b → ⊥) → Reads (E.expression (within x) b src) encode s s₁ r r₁
   unfolding withOperations
   expression-one h =
       here _ (λ at free e. chain-is (within x) src b at pos rung most)
       (bind size encode d₁ stays (λ e q. here (λ m. ok e m) (λ at free y. ap (λ (o : Out Operations). onOut o (λ os q. ok (withOperations e os) q)) (no-operations (within x) (rightOf b) src b at (λ z. h (ap bindingOf (k .here at free y) ∙ z)))) (nothing (record { same = append-nil (encode e) }))))
 
-  pub expression-more : {s₂ s₃ s₄ : List ℕ} {r₂ r₃ r₄ : Answer} {lo value place right : ℕ} → right ≡ rightOf b → bindingOf kind ≡ b → lo ≡ freeOf size r → value ≡ freeOf size r₁ - lo → PlaceHere s₁ r₁ place → Goes (E.operation (E.expression (within x) right) src) (Puts encodeOperations) s₁ s₂ r₁ r₂ → Reads (manyUpTo (furtherMost b n) T.noOperations (λ kind. eqb (bindingOf kind) b) (E.operation (E.expression (within x) right)) src) encodeOperations s₂ s₃ r₂ r₃ → Adds (recordFrom lo value place DYADIC) s₃ s₄ r₃ r₄ → Reads (E.expression (within x) b src) encode s s₄ r r₄
+  pub expression-more : {s₂ s₃ s₄ : List ℕ} {r₂ r₃ r₄ : State} {lo value place right : ℕ} → right ≡ rightOf b → bindingOf kind ≡ b → lo ≡ freeOf size r → value ≡ freeOf size r₁ - lo → PlaceHere s₁ r₁ place → Follows (E.operation (E.expression (within x) right) src) (Prepends encodeOperations) s₁ s₂ r₁ r₂ → Reads (manyUpTo (furtherMost b n) T.noOperations (λ kind. eqb (bindingOf kind) b) (E.operation (E.expression (within x) right)) src) encodeOperations s₂ s₃ r₂ r₃ → Adds (recordFrom lo value place DYADIC) s₃ s₄ r₃ r₄ → Reads (E.expression (within x) b src) encode s s₄ r r₄
   expression-more {s₂} {s₃} {s₄} {r₂} {r₃} {r₄} {lo} {value} {place} {right} er hb lo-is ev ep d₂ d₃ d₄ =
       let kp : 0 < kind = binding-positive kind (omega arith) in
       here _ (λ at free e. chain-is (within x) src b at pos rung most ∙ ap (λ (y : ℕ). onOut (E.expression (within x) (b - 1) src at) (λ e m. onOut (E.operations b (E.expression (within x) y) src m) (λ os q. ok (withOperations e os) q))) (sym er))
@@ -71,13 +71,13 @@ module _ {src : Source} {n : ℕ} {s₀ : List ℕ} (l : Lies src n s₀) (size 
       ap (λ (o : Out Operations). onOut o (λ os q. ok (withOperations e os) q)) (first-operation (within x) right src b n at (l .count) (omega arith) (sym (ap bindingOf (k .here at free y)) ∙ hb)) ∙ nests (E.operation (E.expression (within x) right) src at) (λ q. manyUpTo (furtherMost b n) T.noOperations (λ kind. eqb (bindingOf kind) b) (E.operation (E.expression (within x) right)) src q) (λ os q. ok (withOperations e os) q))
       (follow size d₂ (goes-on d₃ then adds-on d₄) (λ put w h q₂. bind size encodeOperations d₃ (adds-on d₄) (λ os q₃. added size d₄ (record { same = chained (encode e) w (encodeOperations os) (encodeOperations (put os)) (freeOf size r₃ - lo) value place DYADIC (omega arith) (omega arith) (h .puts os) ∙ ap (λ (p : ℕ). closed (encode e ++ encodeOperations (put os)) (length (encode e)) p DYADIC) (ep .here (v .next) (v .free) (v .before) e (v .reads) (v .stands)) ∙ sym (encode-dyadic e (put os) (grown w (encodeOperations os) (encodeOperations (put os)) (h .puts os) (h .some))) }))))))
 
-module _ {src : Source} {n : ℕ} {s₀ : List ℕ} (l : Lies src n s₀) (size x : ℕ) {s s₁ : List ℕ} {r r₁ : Answer} {kind : ℕ} (k : KindHere src r₁ kind) (d₁ : Reads (E.primary (within x) src) encode s s₁ r r₁) where
+module _ {src : Source} {n : ℕ} {s₀ : List ℕ} (l : HoldsSymbols src n s₀) (size x : ℕ) {s s₁ : List ℕ} {r r₁ : State} {kind : ℕ} (k : KindHere src r₁ kind) (d₁ : Reads (E.primary (within x) src) encode s s₁ r r₁) where
   pub suffixed-one : isSuffix kind ≡ false → Reads (E.suffixed (within x) src) encode s s₁ r r₁
   unfolding E.suffixed withSuffixes
   suffixed-one h =
       bind size encode d₁ stays (λ e q. here (λ m. ok e m) (λ at free y. many-none k T.noSuffixes isSuffix (E.suffix (within x)) (λ ss q. ok (withSuffixes e ss) q) y h) (nothing (record { same = append-nil (encode e) })))
 
-  pub suffixed-more : {s₂ s₃ s₄ : List ℕ} {r₂ r₃ r₄ : Answer} {lo value place tag : ℕ} {first last : Bool} → isSuffix kind ≡ true → lo ≡ freeOf size r → value ≡ freeOf size r₁ - lo → PlaceHere s₁ r₁ place → tag ≡ suffixedKind last → Goes (E.suffix (within x) src) (PutsSuffix first) s₁ s₂ r₁ r₂ → Goes (manyUpTo (n - 1) T.noSuffixes isSuffix (E.suffix (within x)) src) (Ended first last) s₂ s₃ r₂ r₃ → Adds (recordFrom lo value place tag) s₃ s₄ r₃ r₄ → Reads (E.suffixed (within x) src) encode s s₄ r r₄
+  pub suffixed-more : {s₂ s₃ s₄ : List ℕ} {r₂ r₃ r₄ : State} {lo value place tag : ℕ} {first last : Bool} → isSuffix kind ≡ true → lo ≡ freeOf size r → value ≡ freeOf size r₁ - lo → PlaceHere s₁ r₁ place → tag ≡ suffixedKind last → Follows (E.suffix (within x) src) (PrependsSuffix first) s₁ s₂ r₁ r₂ → Follows (manyUpTo (n - 1) T.noSuffixes isSuffix (E.suffix (within x)) src) (Ended first last) s₂ s₃ r₂ r₃ → Adds (recordFrom lo value place tag) s₃ s₄ r₃ r₄ → Reads (E.suffixed (within x) src) encode s s₄ r r₄
   unfolding E.suffixed isSuffix member
   suffixed-more {s₂} {s₃} {s₄} {r₂} {r₃} {r₄} {lo} {value} {place} {tag} {first} {last} hb lo-is ev ep et d₂ d₃ d₄ =
       look size encode d₁ (goes-on d₂ then goes-on d₃ then adds-on d₄) (λ e z q₁. here _
@@ -92,7 +92,7 @@ pub record EndedSoFar (before last : Bool) (put : Suffixes → Suffixes) (words 
 pub suffix-first : {b : Bool} → EndedSoFar b b (λ ss. ss) []
 suffix-first = record { puts = λ rest. refl; ends = λ rest. refl }
 
-pub suffix-next : {b c d : Bool} (put put′ : Suffixes → Suffixes) (w w′ : List ℕ) → EndedSoFar b c put w → PutsSuffix d put′ w′ → EndedSoFar b d (λ ss. put (put′ ss)) (w ++ w′)
+pub suffix-next : {b c d : Bool} (put put′ : Suffixes → Suffixes) (w w′ : List ℕ) → EndedSoFar b c put w → PrependsSuffix d put′ w′ → EndedSoFar b d (λ ss. put (put′ ss)) (w ++ w′)
 suffix-next {b} {c} {d} put put′ w w′ h g =
     record { puts = λ rest. h .puts (put′ rest) ∙ ap (λ (l : List ℕ). w ++ l) (g .puts rest) ∙ sym (append-assoc w w′ (encodeSuffixes rest)); ends = λ rest. h .ends (put′ rest) ∙ g .ends c rest }
 
@@ -112,7 +112,7 @@ pub record CountedSoFar (number : ℕ) (put : Expressions → Expressions) (word
 pub expression-first : CountedSoFar 0 (λ es. es) []
 expression-first = record { puts = λ rest. refl; many = λ rest. omega arith }
 
-pub expression-next : {m : ℕ} (put put′ : Expressions → Expressions) (w w′ : List ℕ) → CountedSoFar m put w → PutsOne put′ w′ → CountedSoFar (m + 1) (λ es. put (put′ es)) (w ++ w′)
+pub expression-next : {m : ℕ} (put put′ : Expressions → Expressions) (w w′ : List ℕ) → CountedSoFar m put w → PrependsOne put′ w′ → CountedSoFar (m + 1) (λ es. put (put′ es)) (w ++ w′)
 expression-next {m} put put′ w w′ h g =
     record { puts = λ rest. h .puts (put′ rest) ∙ ap (λ (l : List ℕ). w ++ l) (g .puts rest) ∙ sym (append-assoc w w′ (encodeExpressions rest)); many = λ rest. omega (arith, h .many (put′ rest), g .one rest) }
 
@@ -124,7 +124,7 @@ pub no-expression-counted : Counted 0 T.noExpressions []
 unfolding encodeExpressions T.count
 no-expression-counted = record { same = refl; many = refl }
 
-pub expression-none : (src : Source) (x b : ℕ) {s s₁ : List ℕ} {r r₁ : Answer} → b ≡ 0 → Reads (E.operand (within x) src) encode s s₁ r r₁ → Reads (E.expression (within x) b src) encode s s₁ r r₁
+pub expression-none : (src : Source) (x b : ℕ) {s s₁ : List ℕ} {r r₁ : State} → b ≡ 0 → Reads (E.operand (within x) src) encode s s₁ r r₁ → Reads (E.expression (within x) b src) encode s s₁ r r₁
 unfolding E.expression
 expression-none src x b h d = here _ (λ at free e. ap (λ (y : ℕ). E.expression (within x) y src at) h) d
 

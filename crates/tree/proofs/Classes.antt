@@ -88,10 +88,10 @@ module _ (f g : ℕ → ℕ) (e : below f ≡ below (λ kind. g (letterOf kind))
           sym (entry (λ k. g (letterOf k)) h) ∙ ap (λ (r : List ℕ). getD r kind 0) (sym e) ∙ entry f h
       go false l = let h : 62 ≤ kind = ltb-false kind 62 l in ap g (past-letters kind h) ∙ sym (past kind h)
 
-abbrev mark : Bool → ℕ
-mark b = cond b 1 0
+abbrev begin-item : Bool → ℕ
+begin-item b = cond b 1 0
 
-unmarked : (a b : Bool) → mark a ≡ mark b → a ≡ b
+unmarked : (a b : Bool) → begin-item a ≡ begin-item b → a ≡ b
 unmarked true true e = refl
 unmarked true false e = absurd (omega arith)
 unmarked false true e = absurd (omega arith)
@@ -111,9 +111,9 @@ past-all (k ∷ ks) t kind h = go (ltb k 62) refl t (λ t. past-all ks t kind h)
     go true l t more = let d : k < 62 = ltb-true k 62 l in rw (ne-eqb kind k (omega arith)) (more t)
     go false l t more = absurd t
 
-module _ (class : ℕ → Bool) (among : List ℕ) (e : below (λ kind. mark (class kind)) ≡ below (λ kind. mark (member (letterOf kind) among))) where
+module _ (class : ℕ → Bool) (among : List ℕ) (e : below (λ kind. begin-item (class kind)) ≡ below (λ kind. begin-item (member (letterOf kind) among))) where
   class-of : member 46 among ≡ false → ((kind : ℕ) → 62 ≤ kind → class kind ≡ false) → Class class among
-  class-of dot past = record { agrees = λ kind. unmarked _ _ (agree (λ k. mark (class k)) (λ l. mark (member l among)) e (λ k h. ap mark (past k h ∙ sym dot)) kind) }
+  class-of dot past = record { agrees = λ kind. unmarked _ _ (agree (λ k. begin-item (class k)) (λ l. begin-item (member l among)) e (λ k h. ap begin-item (past k h ∙ sym dot)) kind) }
 
 unlike : (letter : ℕ) (l : List ℕ) → Unlike letter l → member letter l ≡ false
 unfolding member

@@ -15,7 +15,7 @@ use Rattle.language.specs.Binding.{LOOSEST, isRepeat, isGuard, isLeave}
 use Rattle.language.specs.Expressions as E
 use Rattle.language.specs.Commands as C
 use Rattle.language.specs.Grammar.{within, readers}
-use Rattle.tree.specs.Reads.{Lies, Here, KindHere, Goes, Puts, Reads, Adds, recordFrom, Seals, freeOf}
+use Rattle.tree.specs.Reads.{HoldsSymbols, Here, KindHere, Follows, Prepends, Reads, Adds, recordFrom, Seals, freeOf}
 use Rattle.tree.specs.Between.{leaving, repeatedBy, repeatedOnly, encodeRepeatedOnly}
 use Rattle.tree.specs.Encoding.{REPEATED, closed, encode, encodeCommand, encodeUnlabelled, encodeRepeats, repeated}
 use Rattle.tree.proofs.Steps.{follow, bind, here, added, adds-on, goes-on, _then_, nothing}
@@ -24,8 +24,8 @@ use Rattle.tree.proofs.Chains.{chained, grown}
 use Rattle.text.proofs.Bytes.{Unlike}
 use Rattle.tree.proofs.Classes.{unlike5}
 use Rattle.tree.proofs.Readers.{any-the, item-read, put-first, many-none, many-first}
-use Rattle.tree.specs.declared.scratch.Answer.{Answer}
-use Rattle.tree.specs.declared.scratch.Answer.the-variants.{Read}
+use Rattle.tree.specs.declared.scratch.State.{State}
+use Rattle.tree.specs.declared.scratch.State.the-variants.{Read}
 
 -- two or three parts and a record
 pub two : (a b : List ℕ) (z v p k : ℕ) → z ≡ length a + length b → a ++ (b ++ (z ∷ v ∷ p ∷ k ∷ [])) ≡ closed (a ++ b) v p k
@@ -36,34 +36,34 @@ pub three : (a b c : List ℕ) (z v p k : ℕ) → z ≡ length a + (length b + 
 three a b c z v p k e =
     ap (λ (w : List ℕ). a ++ w) (sym (append-assoc b c (z ∷ v ∷ p ∷ k ∷ []))) ∙ two a (b ++ c) z v p k (omega (arith, length-append b c))
 
-module _ {src : Source} {n : ℕ} {s : List ℕ} (l : Lies src n s) {r : Answer} (size x : ℕ) {lo : ℕ} (lo-is : lo ≡ freeOf size r) where
-  pub resultis-read : {p : ℕ} {s₂ s₃ : List ℕ} {r₁ r₂ r₃ : Answer} → Here (placeAt src) n r p → Reads (the K.RESULTIS src) (λ _. []) s s r r₁ → Reads (E.expression (within x) LOOSEST src) encode s s₂ r₁ r₂ → Adds (recordFrom lo 0 p K.RESULTIS) s₂ s₃ r₂ r₃ → Reads (C.resultis (readers (within x)) src) encodeUnlabelled s s₃ r r₃
+module _ {src : Source} {n : ℕ} {s : List ℕ} (l : HoldsSymbols src n s) {r : State} (size x : ℕ) {lo : ℕ} (lo-is : lo ≡ freeOf size r) where
+  pub resultis-read : {p : ℕ} {s₂ s₃ : List ℕ} {r₁ r₂ r₃ : State} → Here (placeAt src) n r p → Reads (the K.RESULTIS src) (λ _. []) s s r r₁ → Reads (E.expression (within x) LOOSEST src) encode s s₂ r₁ r₂ → Adds (recordFrom lo 0 p K.RESULTIS) s₂ s₃ r₂ r₃ → Reads (C.resultis (readers (within x)) src) encodeUnlabelled s s₃ r r₃
   unfolding C.resultis encodeUnlabelled
   resultis-read {p} h a b d =
       here _ (placed l h K.RESULTIS (omega arith) (λ place m. onOut (E.expression (within x) LOOSEST src m) (λ e w. ok (T.resultis place e) w)))
       (bind size (λ _. []) a (goes-on b then adds-on d) (λ _ q₁. bind size encode b (adds-on d) (λ e q₂. added size d (record { same = ap (λ (z : ℕ). encode e ++ (z ∷ 0 ∷ p ∷ K.RESULTIS ∷ [])) (omega arith) }))))
 
-  pub guarded-read : {kind : ℕ} {s₂ s₄ s₅ : List ℕ} {r₁ r₂ r₃ r₄ r₅ : Answer} → KindHere src r kind → Reads (the kind src) (λ _. []) s s r r₁ → Reads (E.expression (within x) LOOSEST src) encode s s₂ r₁ r₂ → Reads (the K.DO src) (λ _. []) s₂ s₂ r₂ r₃ → Reads (C.command (within x) src) encodeCommand s₂ s₄ r₃ r₄ → Adds (recordFrom lo 0 0 kind) s₄ s₅ r₄ r₅ → Reads (C.guarded (readers (within x)) src) encodeUnlabelled s s₅ r r₅
+  pub guarded-read : {kind : ℕ} {s₂ s₄ s₅ : List ℕ} {r₁ r₂ r₃ r₄ r₅ : State} → KindHere src r kind → Reads (the kind src) (λ _. []) s s r r₁ → Reads (E.expression (within x) LOOSEST src) encode s s₂ r₁ r₂ → Reads (the K.DO src) (λ _. []) s₂ s₂ r₂ r₃ → Reads (C.command (within x) src) encodeCommand s₂ s₄ r₃ r₄ → Adds (recordFrom lo 0 0 kind) s₄ s₅ r₄ r₅ → Reads (C.guarded (readers (within x)) src) encodeUnlabelled s s₅ r r₅
   unfolding C.guarded any encodeUnlabelled
   guarded-read {kind} k a b c d f =
       here _ (any-the k (λ y _ m. onOut (E.expression (within x) LOOSEST src m) (λ e q. onOut (the K.DO src q) (λ _ w. onOut (C.command (within x) src w) (λ c u. ok (T.guarded y e c) u)))))
       (bind size (λ _. []) a (goes-on b then goes-on c then goes-on d then adds-on f) (λ _ q₁. bind size encode b (goes-on c then goes-on d then adds-on f) (λ e q₂. bind size (λ _. []) c (goes-on d then adds-on f) (λ _ q₃. bind size encodeCommand d (adds-on f) (λ y q₄. added size f (record { same = two (encode e) (encodeCommand y) _ 0 0 kind (omega arith) }))))))
 
-  pub test-read : {s₂ s₄ s₆ s₇ : List ℕ} {r₁ r₂ r₃ r₄ r₅ r₆ r₇ : Answer} → Reads (the K.TEST src) (λ _. []) s s r r₁ → Reads (E.expression (within x) LOOSEST src) encode s s₂ r₁ r₂ → Reads (the K.DO src) (λ _. []) s₂ s₂ r₂ r₃ → Reads (C.command (within x) src) encodeCommand s₂ s₄ r₃ r₄ → Reads (the K.OR src) (λ _. []) s₄ s₄ r₄ r₅ → Reads (C.command (within x) src) encodeCommand s₄ s₆ r₅ r₆ → Adds (recordFrom lo 0 0 K.TEST) s₆ s₇ r₆ r₇ → Reads (C.test (readers (within x)) src) encodeUnlabelled s s₇ r r₇
+  pub test-read : {s₂ s₄ s₆ s₇ : List ℕ} {r₁ r₂ r₃ r₄ r₅ r₆ r₇ : State} → Reads (the K.TEST src) (λ _. []) s s r r₁ → Reads (E.expression (within x) LOOSEST src) encode s s₂ r₁ r₂ → Reads (the K.DO src) (λ _. []) s₂ s₂ r₂ r₃ → Reads (C.command (within x) src) encodeCommand s₂ s₄ r₃ r₄ → Reads (the K.OR src) (λ _. []) s₄ s₄ r₄ r₅ → Reads (C.command (within x) src) encodeCommand s₄ s₆ r₅ r₆ → Adds (recordFrom lo 0 0 K.TEST) s₆ s₇ r₆ r₇ → Reads (C.test (readers (within x)) src) encodeUnlabelled s s₇ r r₇
   unfolding C.test encodeUnlabelled
   test-read a b c d f g i =
       bind size (λ _. []) a (goes-on b then goes-on c then goes-on d then goes-on f then goes-on g then adds-on i) (λ _ q₁. bind size encode b (goes-on c then goes-on d then goes-on f then goes-on g then adds-on i) (λ e q₂. bind size (λ _. []) c (goes-on d then goes-on f then goes-on g then adds-on i) (λ _ q₃. bind size encodeCommand d (goes-on f then goes-on g then adds-on i) (λ y q₄. bind size (λ _. []) f (goes-on g then adds-on i) (λ _ q₅. bind size encodeCommand g (adds-on i) (λ z q₆. added size i (record { same = three (encode e) (encodeCommand y) (encodeCommand z) _ 0 0 K.TEST (omega arith) })))))))
 
 -- REPEAT forms
-module _ (src : Source) {r : Answer} (size x : ℕ) {kind : ℕ} (k : KindHere src r kind) {s s₁ : List ℕ} {r₀ r₁ : Answer} where
-  pub repeat-read : kind ≡ K.REPEAT → Reads (the kind src) (λ _. []) s s r r₀ → Adds (λ _. 0 ∷ kind ∷ []) s s₁ r₀ r₁ → Goes (C.repeatForm (readers (within x)) src) (Puts encodeRepeats) s s₁ r r₁
+module _ (src : Source) {r : State} (size x : ℕ) {kind : ℕ} (k : KindHere src r kind) {s s₁ : List ℕ} {r₀ r₁ : State} where
+  pub repeat-read : kind ≡ K.REPEAT → Reads (the kind src) (λ _. []) s s r r₀ → Adds (λ _. 0 ∷ kind ∷ []) s s₁ r₀ r₁ → Follows (C.repeatForm (readers (within x)) src) (Prepends encodeRepeats) s s₁ r r₁
   unfolding C.repeatForm C.repeat encodeRepeats
   repeat-read q c a =
       here (λ at. onOut (the kind src at) (λ _ m. ok T.repeat m))
       (λ at free e. ap (λ (b : Bool). cond b (C.repeat (readers (within x)) src at) (C.repeatOn (readers (within x)) src at)) (eq-eqb (kindAt src at) K.REPEAT (sym (k .here at free e) ∙ q)) ∙ ap (λ (y : ℕ). onOut (the y src at) (λ _ m. ok T.repeat m)) (sym q))
       (bind size (λ _. []) c (adds-on a) (λ _ _. added size a (record { puts = λ rest. ap (λ (y : ℕ). 0 ∷ y ∷ encodeRepeats rest) (sym q); some = omega arith })))
 
-  pub repeat-on-read : {lo : ℕ} {s₂ s₃ : List ℕ} {r₂ : Answer} → lo ≡ freeOf size r → (kind ≡ K.REPEAT → ⊥) → freeOf size r₀ ≤ length s → Reads (the kind src) (λ _. []) s s r r₀ → Adds (λ _. 0 ∷ kind ∷ []) s s₁ r₀ r₁ → Reads (E.expression (within x) LOOSEST src) encode s₁ s₂ r₁ r₂ → Seals lo s₂ s₃ r₂ → Goes (C.repeatForm (readers (within x)) src) (Puts encodeRepeats) s s₃ r r₂
+  pub repeat-on-read : {lo : ℕ} {s₂ s₃ : List ℕ} {r₂ : State} → lo ≡ freeOf size r → (kind ≡ K.REPEAT → ⊥) → freeOf size r₀ ≤ length s → Reads (the kind src) (λ _. []) s s r r₀ → Adds (λ _. 0 ∷ kind ∷ []) s s₁ r₀ r₁ → Reads (E.expression (within x) LOOSEST src) encode s₁ s₂ r₁ r₂ → Seals lo s₂ s₃ r₂ → Follows (C.repeatForm (readers (within x)) src) (Prepends encodeRepeats) s s₃ r r₂
   unfolding C.repeatForm C.repeatOn any encodeRepeats
   repeat-on-read lo-is q le c a d b =
       here (C.repeatOn (readers (within x)) src) (λ at free e. ap (λ (b : Bool). cond b (C.repeat (readers (within x)) src at) (C.repeatOn (readers (within x)) src at)) (ne-eqb (kindAt src at) K.REPEAT (λ y. q (k .here at free e ∙ y))))
@@ -80,13 +80,13 @@ some-forms w [] h = absurd (omega arith)
 some-forms w (x ∷ rs) h = refl
 
 -- a command and the REPEAT forms after it
-module _ {src : Source} {n : ℕ} {s₀ : List ℕ} (l : Lies src n s₀) (size x : ℕ) {s s₁ : List ℕ} {r r₁ : Answer} {kind : ℕ} (k : KindHere src r₁ kind) (d₁ : Reads (C.unlabelled (readers (within x)) src) encodeUnlabelled s s₁ r r₁) where
+module _ {src : Source} {n : ℕ} {s₀ : List ℕ} (l : HoldsSymbols src n s₀) (size x : ℕ) {s s₁ : List ℕ} {r r₁ : State} {kind : ℕ} (k : KindHere src r₁ kind) (d₁ : Reads (C.unlabelled (readers (within x)) src) encodeUnlabelled s s₁ r r₁) where
   pub repeated-one : isRepeat kind ≡ false → Reads (repeatedOnly x src) encodeRepeatedOnly s s₁ r r₁
   unfolding repeatedOnly repeatedBy encodeRepeatedOnly repeated encodeRepeats
   repeated-one h =
       bind size encodeUnlabelled d₁ stays (λ u q. here (λ m. ok (record { body = u; forms = T.noRepeats }) m) (λ at free y. many-none k T.noRepeats isRepeat (C.repeatForm (readers (within x))) (λ rs q. ok (record { body = u; forms = rs }) q) y h) (nothing (record { same = append-nil (encodeUnlabelled u) })))
 
-  pub repeated-more : {s₂ s₃ s₄ : List ℕ} {r₂ r₃ r₄ : Answer} {lo value : ℕ} → isRepeat kind ≡ true → lo ≡ freeOf size r → value ≡ freeOf size r₁ - lo → Goes (C.repeatForm (readers (within x)) src) (Puts encodeRepeats) s₁ s₂ r₁ r₂ → Reads (manyUpTo (n - 1) T.noRepeats isRepeat (C.repeatForm (readers (within x))) src) encodeRepeats s₂ s₃ r₂ r₃ → Adds (recordFrom lo value 0 REPEATED) s₃ s₄ r₃ r₄ → Reads (repeatedOnly x src) encodeRepeatedOnly s s₄ r r₄
+  pub repeated-more : {s₂ s₃ s₄ : List ℕ} {r₂ r₃ r₄ : State} {lo value : ℕ} → isRepeat kind ≡ true → lo ≡ freeOf size r → value ≡ freeOf size r₁ - lo → Follows (C.repeatForm (readers (within x)) src) (Prepends encodeRepeats) s₁ s₂ r₁ r₂ → Reads (manyUpTo (n - 1) T.noRepeats isRepeat (C.repeatForm (readers (within x))) src) encodeRepeats s₂ s₃ r₂ r₃ → Adds (recordFrom lo value 0 REPEATED) s₃ s₄ r₃ r₄ → Reads (repeatedOnly x src) encodeRepeatedOnly s s₄ r r₄
   unfolding repeatedOnly repeatedBy encodeRepeatedOnly isRepeat member
   repeated-more {s₂} {s₃} {s₄} {r₂} {r₃} {r₄} {lo} {value} hb lo-is ev d₂ d₃ d₄ =
       bind size encodeUnlabelled d₁ (goes-on d₂ then goes-on d₃ then adds-on d₄) (λ u q₁. here _
@@ -97,7 +97,7 @@ module _ {src : Source} {n : ℕ} {s₀ : List ℕ} (l : Lies src n s₀) (size 
 differs : {kind x : ℕ} (f : ℕ → Bool) → f kind ≡ true → f x ≡ false → kind ≡ x → ⊥
 differs f e g q = let z : _≡_ {A = ℕ} 1 0 = ap (λ (b : Bool). cond b 1 0) (sym e ∙ ap f q ∙ g) in omega arith
 
-other-kind : {src : Source} {r : Answer} {kind : ℕ} (k : KindHere src r kind) {y at free : ℕ} → (kind ≡ y → ⊥) → r ≡ Read at free → eqb (kindAt src at) y ≡ false
+other-kind : {src : Source} {r : State} {kind : ℕ} (k : KindHere src r kind) {y at free : ℕ} → (kind ≡ y → ⊥) → r ≡ Read at free → eqb (kindAt src at) y ≡ false
 other-kind {src} k {y} {at} {free} h e = ne-eqb (kindAt src at) y (λ z. h (k .here at free e ∙ z))
 
 not-test : isGuard K.TEST ≡ false
@@ -108,7 +108,7 @@ stays-on : (isLeave K.TEST ≡ false) × (isLeave K.FOR ≡ false) × (isLeave K
 unfolding isLeave member
 stays-on = (refl, refl, refl, refl)
 
-module _ (src : Source) (x : ℕ) {s s′ : List ℕ} {r r′ : Answer} {kind : ℕ} (k : KindHere src r kind) where
+module _ (src : Source) (x : ℕ) {s s′ : List ℕ} {r r′ : State} {kind : ℕ} (k : KindHere src r kind) where
   pub unlabelled-guarded : isGuard kind ≡ true → Reads (C.guarded (readers (within x)) src) encodeUnlabelled s s′ r r′ → Reads (C.unlabelled (readers (within x)) src) encodeUnlabelled s s′ r r′
   unfolding C.unlabelled
   unlabelled-guarded q d =

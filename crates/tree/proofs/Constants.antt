@@ -12,13 +12,13 @@ use Rattle.language.specs.Reader.{Source, Out, ok, no, onOut, kindAt, valueAt, 
 use Rattle.language.specs.Expressions as E
 use Rattle.language.specs.Expressions.{Inside, inside, opening}
 use Rattle.language.specs.Grammar.{within, readers}
-use Rattle.tree.specs.Reads.{Lies, Here, KindHere, Reads, Refuses, Adds, recordFrom, freeOf}
+use Rattle.tree.specs.Reads.{HoldsSymbols, Here, KindHere, Reads, Refuses, Adds, recordFrom, freeOf}
 use Rattle.tree.specs.Encoding.{closed, leaf, encodeName, encodeNegative, encodeConstant}
 use Rattle.tree.proofs.Steps.{bind, here, added, adds-on, goes-on, stopped}
 use Rattle.tree.proofs.Symbols.{placed, mapped, the-is}
 use Rattle.tree.proofs.Leaves.{known, valued, name-at, nameOf, same-out}
 use Rattle.tree.proofs.Readers.{deeper, shut-at}
-use Rattle.tree.specs.declared.scratch.Answer.{Answer}
+use Rattle.tree.specs.declared.scratch.State.{State}
 
 abbrev minus : ℕ → Simple → Constant
 minus p x = record { place = p; minus = true; simple = x }
@@ -28,16 +28,16 @@ nested p (ok y m) = refl
 nested p (no i j) = refl
 
 -- a name's leaf and the record around it
-pub negated-name-read : {first : ℕ → Out ℕ} (size : ℕ) {value place lo : ℕ} {s s₁ s₂ : List ℕ} {r r₁ r₂ : Answer} → lo ≡ freeOf size r → Reads first (λ at. leaf value at K.NAME) s s₁ r r₁ → Adds (recordFrom lo 0 place K.MINUS) s₁ s₂ r₁ r₂ → Reads first (λ at. closed (leaf value at K.NAME) 0 place 36) s s₂ r r₂
+pub negated-name-read : {first : ℕ → Out ℕ} (size : ℕ) {value place lo : ℕ} {s s₁ s₂ : List ℕ} {r r₁ r₂ : State} → lo ≡ freeOf size r → Reads first (λ at. leaf value at K.NAME) s s₁ r r₁ → Adds (recordFrom lo 0 place K.MINUS) s₁ s₂ r₁ r₂ → Reads first (λ at. closed (leaf value at K.NAME) 0 place 36) s s₂ r r₂
 negated-name-read {first} size {value} {place} {lo} {s} {s₁} {s₂} {r} {r₁} {r₂} lo-is d a =
     here (λ at. onOut (first at) (λ x m. ok x m)) (λ at free q. same-out (first at))
     (bind size (λ at. leaf value at K.NAME) d (adds-on a) (λ x q. added size a (record { same = ap (λ (z : ℕ). leaf value x K.NAME ++ (z ∷ 0 ∷ place ∷ K.MINUS ∷ [])) (omega arith) })))
 
-pub negative-shut : (src : Source) {s s′ : List ℕ} {r r′ : Answer} (x : ℕ) → x ≡ 0 → Refuses 7 r r′ → Reads (E.negative (within x) src) encodeConstant s s′ r r′
+pub negative-shut : (src : Source) {s s′ : List ℕ} {r r′ : State} (x : ℕ) → x ≡ 0 → Refuses 7 r r′ → Reads (E.negative (within x) src) encodeConstant s s′ r r′
 unfolding E.negative opening
 negative-shut src x h d = stopped (λ at free e. ap (λ (i : Inside). E.negative i src at) (shut-at x h)) d
 
-module _ {src : Source} {n : ℕ} {s : List ℕ} (l : Lies src n s) {r : Answer} (x : ℕ) {p : ℕ} (h : Here (placeAt src) n r p) (deep : x ≡ 0 → ⊥) {r₁ r₂ : Answer} {s₂ : List ℕ} (a : Reads (the K.MINUS src) (λ _. []) s s r r₁) {kind : ℕ} (k : KindHere src r₁ kind) where
+module _ {src : Source} {n : ℕ} {s : List ℕ} (l : HoldsSymbols src n s) {r : State} (x : ℕ) {p : ℕ} (h : Here (placeAt src) n r p) (deep : x ≡ 0 → ⊥) {r₁ r₂ : State} {s₂ : List ℕ} (a : Reads (the K.MINUS src) (λ _. []) s s r r₁) {kind : ℕ} (k : KindHere src r₁ kind) where
   after-minus : Reads (λ m. onOut (E.simple src m) (λ y q. ok (minus p y) q)) encodeConstant s s₂ r₁ r₂ → Reads (E.negative (within x) src) encodeConstant s s₂ r r₂
   unfolding E.negative opening
   after-minus b =
@@ -65,7 +65,7 @@ module _ {src : Source} {n : ℕ} {s : List ℕ} (l : Lies src n s) {r : Answer}
   negative-name {value} v u w y d =
       after-minus (here _ (λ at free e. rw (ne-eqb (kindAt src at) K.NUMBER (λ z. u (k .here at free e ∙ z)), ne-eqb (kindAt src at) K.TRUE (λ z. w (k .here at free e ∙ z)), ne-eqb (kindAt src at) K.FALSE (λ z. y (k .here at free e ∙ z))) (nested p (aName src at) ∙ name-at l v (λ y m. ok (minus p (T.known y)) m) at free e)) (mapped (λ at. minus p (T.known (nameOf at value))) (λ _. refl) d))
 
-module _ (src : Source) (x : ℕ) {s s′ : List ℕ} {r r′ : Answer} {kind : ℕ} (k : KindHere src r kind) where
+module _ (src : Source) (x : ℕ) {s s′ : List ℕ} {r r′ : State} {kind : ℕ} (k : KindHere src r kind) where
   pub constant-negative : kind ≡ K.MINUS → Reads (E.negative (within x) src) encodeConstant s s′ r r′ → Reads (E.constant (within x) src) encodeConstant s s′ r r′
   unfolding E.constant
   constant-negative q d =

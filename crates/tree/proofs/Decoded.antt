@@ -13,11 +13,11 @@ use Rattle.language.specs.Reader.{Source, Out, ok, no, placeAt}
 use Rattle.language.specs.Tree.{Program}
 use Rattle.language.specs.Grammar.{treeOf, program}
 use Rattle.tree.specs.Encoding.{encodeProgram}
-use Rattle.tree.specs.Reads.{Lies, Ready, Fits, Is, Wrote, GoesBy, Reads, nextOf, lowOf, live, reach}
-use Rattle.tree.specs.Read.{decoded, sourceIn, unfit, answerOf, numbersOf, numbersBy, treeNumbers, treeRead, padded, leftBy, treeLeft, Within, ReadsTree}
+use Rattle.tree.specs.Reads.{HoldsSymbols, Ready, LeavesRoom, Encodes, Wrote, FollowsBy, Reads, nextOf, lowOf, live, reach}
+use Rattle.tree.specs.Read.{decoded, sourceIn, tooShort, answerOf, numbersOf, numbersBy, treeNumbers, treeRead, padded, leftBy, treeLeft, Within, ReadsTree}
 use Rattle.tree.proofs.Symbols.{lies-still}
-use Rattle.tree.specs.declared.scratch.Answer.{Answer}
-use Rattle.tree.specs.declared.scratch.Answer.the-variants.{Read, Refused}
+use Rattle.tree.specs.declared.scratch.State.{State}
+use Rattle.tree.specs.declared.scratch.State.the-variants.{Read, Refused}
 use Rattle.tree.specs.declared.TreeRead.{TreeRead}
 use Rattle.tree.specs.declared.TreeRead.the-variants.{TooShort, Read as ReadTo, Refused as RefusedAt}
 
@@ -46,7 +46,7 @@ decoded-at (suc n) s d zero h = refl
 decoded-at (suc n) s d (suc i) h =
     decoded-at n (drop 3 s) d i (omega arith) ∙ shifted s (i * 3) (suc i * 3) (omega arith)
 
-pub lies : (s : List ℕ) (n size : ℕ) → Lies (sourceIn s n size) n s
+pub lies : (s : List ℕ) (n size : ℕ) → HoldsSymbols (sourceIn s n size) n s
 unfolding sourceIn
 lies s n size =
     record {
@@ -77,50 +77,50 @@ module _ (s s′ : List ℕ) (n size at : ℕ) (e : take (n * 3) s′ ≡ take (
 
 -- whether scratch is fit
 module _ (room count : ℕ) where
-  pub unfit-long : 2 ^ 32 - 1 < room → true ≡ unfit room count
-  unfolding unfit
-  unfit-long h = sym (ap (λ (b : Bool). cond (ltb room (count * 8 + 64)) true b) (lt-ltb (2 ^ 32 - 1) room h) ∙ anyhow (ltb room (count * 8 + 64)))
+  pub too-short-long : 2 ^ 32 - 1 < room → true ≡ tooShort room count
+  unfolding tooShort
+  too-short-long h = sym (ap (λ (b : Bool). cond (ltb room (count * 8 + 64)) true b) (lt-ltb (2 ^ 32 - 1) room h) ∙ anyhow (ltb room (count * 8 + 64)))
     where
       anyhow : (b : Bool) → cond b true true ≡ true
       anyhow true = refl
       anyhow false = refl
 
-  pub unfit-few : room < count * 8 + 64 → true ≡ unfit room count
-  unfolding unfit
-  unfit-few h = sym (ap (λ (b : Bool). cond b true (ltb (2 ^ 32 - 1) room)) (lt-ltb room (count * 8 + 64) h))
+  pub too-short-few : room < count * 8 + 64 → true ≡ tooShort room count
+  unfolding tooShort
+  too-short-few h = sym (ap (λ (b : Bool). cond b true (ltb (2 ^ 32 - 1) room)) (lt-ltb room (count * 8 + 64) h))
 
-  unfit-not : room ≤ 2 ^ 32 - 1 → count * 8 + 64 ≤ room → false ≡ unfit room count
-  unfolding unfit
-  unfit-not h q =
+  too-short-not : room ≤ 2 ^ 32 - 1 → count * 8 + 64 ≤ room → false ≡ tooShort room count
+  unfolding tooShort
+  too-short-not h q =
       sym (ap (λ (b : Bool). cond b true (ltb (2 ^ 32 - 1) room)) (le-ltb room (count * 8 + 64) q) ∙ le-ltb (2 ^ 32 - 1) room h)
 
-  restBy : (b : Bool) → ltb ((room - 64) / 8) count ≡ b → room ≤ 2 ^ 32 - 1 → 64 ≤ room → b ≡ unfit room count
-  restBy true e h q = unfit-few (omega (arith, ltb-true ((room - 64) / 8) count e))
-  restBy false e h q = unfit-not h (omega (arith, ltb-false ((room - 64) / 8) count e))
+  restBy : (b : Bool) → ltb ((room - 64) / 8) count ≡ b → room ≤ 2 ^ 32 - 1 → 64 ≤ room → b ≡ tooShort room count
+  restBy true e h q = too-short-few (omega (arith, ltb-true ((room - 64) / 8) count e))
+  restBy false e h q = too-short-not h (omega (arith, ltb-false ((room - 64) / 8) count e))
 
-  pub unfit-rest : room ≤ 2 ^ 32 - 1 → 64 ≤ room → ltb ((room - 64) / 8) count ≡ unfit room count
-  unfit-rest h q = restBy (ltb ((room - 64) / 8) count) refl h q
+  pub too-short-rest : room ≤ 2 ^ 32 - 1 → 64 ≤ room → ltb ((room - 64) / 8) count ≡ tooShort room count
+  too-short-rest h q = restBy (ltb ((room - 64) / 8) count) refl h q
 
   fitBy : (b c : Bool) → ltb room (count * 8 + 64) ≡ b → ltb (2 ^ 32 - 1) room ≡ c → cond b true c ≡ false → (count * 8 + 64 ≤ room) × (room < 2 ^ 32)
   fitBy true c e f g = let z : _≡_ {A = ℕ} 1 0 = ap (λ (b : Bool). cond b 1 0) g in absurd (omega arith)
   fitBy false true e f g = let z : _≡_ {A = ℕ} 1 0 = ap (λ (b : Bool). cond b 1 0) g in absurd (omega arith)
   fitBy false false e f g = (ltb-false room (count * 8 + 64) e, omega (arith, ltb-false (2 ^ 32 - 1) room f))
 
-  fit-is : unfit room count ≡ false → (count * 8 + 64 ≤ room) × (room < 2 ^ 32)
-  unfolding unfit
+  fit-is : tooShort room count ≡ false → (count * 8 + 64 ≤ room) × (room < 2 ^ 32)
+  unfolding tooShort
   fit-is h = fitBy (ltb room (count * 8 + 64)) (ltb (2 ^ 32 - 1) room) refl refl h
 
 -- the reading may begin
-pub starts : (s : List ℕ) (n : ℕ) → unfit (length s) n ≡ false → Ready 0 s n (Read 0 (n * 3))
+pub starts : (s : List ℕ) (n : ℕ) → tooShort (length s) n ≡ false → Ready 0 s n (Read 0 (n * 3))
 unfolding nextOf lowOf reach
 starts s n h =
     let f = fit-is (length s) n h in
     record { placed = omega arith; above = omega arith; room = omega (arith, f); wide = omega (arith, f); small = f .1 }
 
 -- what is read
-pub too-short : (s : List ℕ) (n size : ℕ) → unfit (length s) n ≡ true → ReadsTree s n size TooShort s
+pub tree-short : (s : List ℕ) (n size : ℕ) → tooShort (length s) n ≡ true → ReadsTree s n size TooShort s
 unfolding treeRead treeNumbers treeLeft
-too-short s n size h =
+tree-short s n size h =
     record {
       answers = sym (ap (λ (b : Bool). cond b TooShort (answerOf (sourceIn s n size) n (treeOf (sourceIn s n size)))) h);
       numbers = sym (ap (λ (b : Bool). cond b (numbersOf TooShort) (numbersBy (sourceIn s n size) n (treeOf (sourceIn s n size)))) h);
@@ -129,10 +129,10 @@ too-short s n size h =
     }
 
 -- the tree ends within the room
-within : {s s′ : List ℕ} {n next free : ℕ} {r : Answer} → Fits 0 s s′ n (Read 0 (n * 3)) r → r ≡ Read next free → free ≤ n * 8
+within : {s s′ : List ℕ} {n next free : ℕ} {r : State} → LeavesRoom 0 s s′ n (Read 0 (n * 3)) r → r ≡ Read next free → free ≤ n * 8
 unfolding reach live
 within {n = n} {next} {free} f e =
-    let h : reach n (Read next free) + live (Read next free) * 0 ≤ reach n (Read 0 (n * 3)) = subst (λ (x : Answer). reach n x + live x * 0 ≤ reach n (Read 0 (n * 3))) e (f .less) in
+    let h : reach n (Read next free) + live (Read next free) * 0 ≤ reach n (Read 0 (n * 3)) = subst (λ (x : State). reach n x + live x * 0 ≤ reach n (Read 0 (n * 3))) e (f .leaves) in
     omega arith
 
 -- what stands behind is cleared
@@ -145,7 +145,7 @@ told : (src : Source) (n : ℕ) (o : Out Program) → numbersOf (answerOf src n 
 told src n (ok p next) = refl
 told src n (no number at) = refl
 
-answered : {s s″ : List ℕ} {n size : ℕ} {answer : TreeRead} → unfit (length s) n ≡ false → (o : Out Program) → treeOf (sourceIn s n size) ≡ o → answer ≡ answerOf (sourceIn s n size) n o → s″ ≡ leftBy n s o → Within (n * 8) answer → ReadsTree s n size answer s″
+answered : {s s″ : List ℕ} {n size : ℕ} {answer : TreeRead} → tooShort (length s) n ≡ false → (o : Out Program) → treeOf (sourceIn s n size) ≡ o → answer ≡ answerOf (sourceIn s n size) n o → s″ ≡ leftBy n s o → Within (n * 8) answer → ReadsTree s n size answer s″
 unfolding treeRead treeNumbers treeLeft
 answered {s} {n = n} {size} fit o e a w h =
     record {
@@ -155,8 +155,8 @@ answered {s} {n = n} {size} fit o e a w h =
       room = h;
     }
 
-module _ {s s′ s″ : List ℕ} {n size : ℕ} (fit : unfit (length s) n ≡ false) (same : length s′ ≡ length s) where
-  wrote : (next free : ℕ) → Wrote (program (sourceIn s n size) 0) (Is encodeProgram) (n * 3) s s′ next free → free ≤ n * 8 → s″ ≡ take free s′ ++ replicate (length s′ - free) 0 → ReadsTree s n size (ReadTo free) s″
+module _ {s s′ s″ : List ℕ} {n size : ℕ} (fit : tooShort (length s) n ≡ false) (same : length s′ ≡ length s) where
+  wrote : (next free : ℕ) → Wrote (program (sourceIn s n size) 0) (Encodes encodeProgram) (n * 3) s s′ next free → free ≤ n * 8 → s″ ≡ take free s′ ++ replicate (length s′ - free) 0 → ReadsTree s n size (ReadTo free) s″
   unfolding treeOf
   wrote next free w h c =
       let q : free ≡ n * 3 + length (encodeProgram (w .tree)) = w .size ∙ ap (λ (x : List ℕ). n * 3 + length x) (w .says .same) in
@@ -164,16 +164,16 @@ module _ {s s′ s″ : List ℕ} {n size : ℕ} (fit : unfit (length s) n ≡ f
       (cleared-is s s′ s″ (take (n * 3) s ++ encodeProgram (w .tree)) free same (omega (arith, fit-is (length s) n fit)) (w .written ∙ ap (λ (x : List ℕ). take (n * 3) s ++ x) (w .says .same)) c)
       h
 
-  module _ {r : Answer} (d : Reads (program (sourceIn s n size)) encodeProgram s s′ (Read 0 (n * 3)) r) where
-    pub tree-read : {next free : ℕ} → Fits 0 s s′ n (Read 0 (n * 3)) r → r ≡ Read next free → s″ ≡ take free s′ ++ replicate (length s′ - free) 0 → ReadsTree s n size (ReadTo free) s″
+  module _ {r : State} (d : Reads (program (sourceIn s n size)) encodeProgram s s′ (Read 0 (n * 3)) r) where
+    pub tree-read : {next free : ℕ} → LeavesRoom 0 s s′ n (Read 0 (n * 3)) r → r ≡ Read next free → s″ ≡ take free s′ ++ replicate (length s′ - free) 0 → ReadsTree s n size (ReadTo free) s″
     tree-read {next} {free} f e c =
-        wrote next free (subst (λ (x : Answer). GoesBy (program (sourceIn s n size)) (Is encodeProgram) s s′ (Read 0 (n * 3)) x) e (d .by)) (within f e) c
+        wrote next free (subst (λ (x : State). FollowsBy (program (sourceIn s n size)) (Encodes encodeProgram) s s′ (Read 0 (n * 3)) x) e (d .by)) (within f e) c
 
     pub tree-refused : {number at place : ℕ} → r ≡ Refused number at → take (n * 3) s′ ≡ take (n * 3) s → place ≡ placeAt (sourceIn s′ n size) at → s″ ≡ take (n * 3) s′ ++ replicate (length s′ - n * 3) 0 → ReadsTree s n size (RefusedAt number place) s″
     unfolding treeOf
     tree-refused {number} {at} {place} e k p c =
-        answered fit (no number at) (subst (λ (x : Answer). GoesBy (program (sourceIn s n size)) (Is encodeProgram) s s′ (Read 0 (n * 3)) x) e (d .by)) (ap (RefusedAt number) (p ∙ place-kept s s′ n size at k)) (cleared-is s s′ s″ (take (n * 3) s) (n * 3) same (omega (arith, fit-is (length s) n fit)) k c) tt
+        answered fit (no number at) (subst (λ (x : State). FollowsBy (program (sourceIn s n size)) (Encodes encodeProgram) s s′ (Read 0 (n * 3)) x) e (d .by)) (ap (RefusedAt number) (p ∙ place-kept s s′ n size at k)) (cleared-is s s′ s″ (take (n * 3) s) (n * 3) same (omega (arith, fit-is (length s) n fit)) k c) tt
 
 -- the tree's end is an entry of scratch
-pub end-inside : {s s′ : List ℕ} {n next free : ℕ} {r : Answer} → unfit (length s) n ≡ false → Fits 0 s s′ n (Read 0 (n * 3)) r → r ≡ Read next free → free ≤ length s
+pub end-inside : {s s′ : List ℕ} {n next free : ℕ} {r : State} → tooShort (length s) n ≡ false → LeavesRoom 0 s s′ n (Read 0 (n * 3)) r → r ≡ Read next free → free ≤ length s
 end-inside {s} {n = n} fit f e = omega (arith, within f e, fit-is (length s) n fit)

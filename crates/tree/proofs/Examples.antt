@@ -14,7 +14,7 @@ use Rattle.language.specs.Source.{Symbols, good, faulty, symbolsOf, Read, read,
 use Rattle.language.proofs.Texts.{symbolsIn, answer, times}
 use Rattle.symbols.specs.Read.{entries, outcome}
 use Rattle.tree.specs.Encoding.{CALLED, SUFFIXED, DYADIC, LABELLED, MONADIC, suffixedKind, encodeName, encodeNames, encodePositive, encodeConstant, encodeLabels, labelled, repeated, encode, encodeBody, bodyWord, encodeFunctions, encodeProgram}
-use Rattle.tree.specs.Read.{decoded, sourceIn, unfit, treeRead, treeLeft}
+use Rattle.tree.specs.Read.{decoded, sourceIn, tooShort, treeRead, treeLeft}
 use Rattle.tree.specs.declared.TreeRead.{TreeRead}
 use Rattle.tree.specs.declared.TreeRead.the-variants as Answers
 use Rattle.tree.proofs.Stages.{enough, asAnswer, stages}
@@ -39,7 +39,7 @@ then room size (good ss) = treeRead (outcome room (good ss) .scratch) (length ss
 then room size (faulty number place) = Answers.Refused number place
 
 unfoldable answerWith : (room : ℕ) → (text : List ℕ) → TreeRead
-unfolding treeIn decoded sourceIn unfit treeRead entries
+unfolding treeIn decoded sourceIn tooShort treeRead entries
 answerWith room text = then room (length text) (symbolsOf text)
 
 -- ---- the whole
@@ -148,9 +148,9 @@ unfolding answerWith times
 levels-65 = refl
 
 -- one entry fewer than 8 * 6 + 64
-too-short : treeRead (six ++ replicate 93 0) 6 11 ≡ Answers.TooShort
+one-entry-short : treeRead (six ++ replicate 93 0) 6 11 ≡ Answers.TooShort
 unfolding answerWith
-too-short = refl
+one-entry-short = refl
 
 -- ---- the laws of both stages, for LET F() = 1
 
@@ -165,7 +165,7 @@ unfolding symbolsIn decoded
 symbols-are = refl
 
 -- 8 * 11 + 64 entries are enough
-enough-here : unfit 152 6 ≡ false
+enough-here : tooShort 152 6 ≡ false
 unfolding decoded
 enough-here = enough text symbols 152 symbols-are (omega arith) (omega arith)
 

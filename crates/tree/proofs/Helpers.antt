@@ -5,9 +5,9 @@ use mathlib.Core.List.{List, [], _∷_, _++_, append-assoc}
 use native.Mathlib.Omega.{arith}
 use lib.ListN.{length, take, set, length-set}
 use lib.Seq.{take-suc-set, take-take, take-append-le, length-take-le}
-use Rattle.tree.specs.Reads.{Ready, Fits, Grows, Refuses, Adds, Seals, nextOf, freeOf, lowOf, live, reach}
-use Rattle.tree.specs.declared.scratch.Answer.{Answer}
-use Rattle.tree.specs.declared.scratch.Answer.the-variants.{Read, Refused}
+use Rattle.tree.specs.Reads.{Ready, LeavesRoom, TakesRoom, Refuses, Adds, Seals, nextOf, freeOf, lowOf, live, reach}
+use Rattle.tree.specs.declared.scratch.State.{State}
+use Rattle.tree.specs.declared.scratch.State.the-variants.{Read, Refused}
 
 -- one entry and then the next
 pub put2 : (s : List ℕ) (i x y : ℕ) → i + 2 ≤ length s → take (i + 2) (set (set s i x) (i + 1) y) ≡ take i s ++ (x ∷ y ∷ [])
@@ -52,7 +52,7 @@ set-past (y ∷ s) zero x h = absurd (omega arith)
 set-past (y ∷ s) (suc i) x h = ap (λ (l : List ℕ). y ∷ l) (set-past s i x (omega arith))
 
 -- where the answer is known
-module _ {r : Answer} {at free : ℕ} (e : r ≡ Read at free) where
+module _ {r : State} {at free : ℕ} (e : r ≡ Read at free) where
   pub free-is : (size : ℕ) → freeOf size r ≡ free
   unfolding freeOf
   free-is size = ap (freeOf size) e
@@ -61,7 +61,7 @@ module _ {r : Answer} {at free : ℕ} (e : r ≡ Read at free) where
   unfolding nextOf lowOf live reach
   facts-read n = (ap nextOf e, ap (lowOf n) e, ap live e, ap (reach n) e)
 
-pub free-of-refused : {r : Answer} {k p : ℕ} → r ≡ Refused k p → (size : ℕ) → freeOf size r ≡ size
+pub free-of-refused : {r : State} {k p : ℕ} → r ≡ Refused k p → (size : ℕ) → freeOf size r ≡ size
 unfolding freeOf
 free-of-refused e size = ap (freeOf size) e
 
@@ -72,47 +72,47 @@ refused-facts : (n k p : ℕ) → (nextOf (Refused k p) ≡ 0) × (lowOf n (Refu
 unfolding nextOf lowOf live reach
 refused-facts n k p = (refl, refl, refl, refl)
 
-lowBy : (n size : ℕ) (r : Answer) → reach n r ≤ size → freeOf size r ≤ size
+lowBy : (n size : ℕ) (r : State) → reach n r ≤ size → freeOf size r ≤ size
 unfolding freeOf reach
 lowBy n size (Read at free) h = omega arith
 lowBy n size (Refused k p) h = omega arith
 
 -- the next free entry is no further than scratch goes, and no symbol's
-pub low : {m n : ℕ} {s : List ℕ} {r : Answer} → Ready m s n r → freeOf (length s) r ≤ length s
+pub low : {m n : ℕ} {s : List ℕ} {r : State} → Ready m s n r → freeOf (length s) r ≤ length s
 low {m} {n} {s} {r} h = lowBy n (length s) r (omega (arith, h .room))
 
-baseBy : (n size : ℕ) (r : Answer) → n * 3 ≤ lowOf n r → n * 3 ≤ size → n * 3 ≤ freeOf size r
+baseBy : (n size : ℕ) (r : State) → n * 3 ≤ lowOf n r → n * 3 ≤ size → n * 3 ≤ freeOf size r
 unfolding freeOf lowOf
 baseBy n size (Read at free) h l = h
 baseBy n size (Refused k p) h l = l
 
-pub base : {m n : ℕ} {s : List ℕ} {r : Answer} → Ready m s n r → n * 3 ≤ freeOf (length s) r
+pub base : {m n : ℕ} {s : List ℕ} {r : State} → Ready m s n r → n * 3 ≤ freeOf (length s) r
 base {m} {n} {s} {r} h = baseBy n (length s) r (h .above) (omega (arith, h .wide))
 
 -- the room that an answer has, and what it leaves
-module _ {m : ℕ} {s : List ℕ} {n : ℕ} {r : Answer} (h : Ready m s n r) where
-  pub refused-fits : {k p q : ℕ} → Fits k s s n r (Refused p q)
+module _ {m : ℕ} {s : List ℕ} {n : ℕ} {r : State} (h : Ready m s n r) where
+  pub refused-fits : {k p q : ℕ} → LeavesRoom k s s n r (Refused p q)
   refused-fits {k} {p} {q} =
       let f = refused-facts n p q in
-      record { placed = omega (arith, f); above = omega (arith, f); less = rw (f .2) (omega (arith, f)); lives = omega (arith, f); dead = omega (arith, f); kept = refl }
+      record { placed = omega (arith, f); above = omega (arith, f); leaves = rw (f .2) (omega (arith, f)); lives = omega (arith, f); dead = omega (arith, f); kept = refl }
 
-  pub refused-grows : {k p q : ℕ} → Grows k s s n r (Refused p q)
+  pub refused-grows : {k p q : ℕ} → TakesRoom k s s n r (Refused p q)
   refused-grows {k} {p} {q} =
       let f = refused-facts n p q in
       record { placed = omega (arith, f); above = omega (arith, f); more = rw (f .2) (omega (arith, f)); lives = omega (arith, f); dead = omega (arith, f); kept = refl }
 
   module _ {at free : ℕ} (e : r ≡ Read at free) where
-    pub next-fits : at < n → Fits 5 s s n r (Read (at + 1) free)
+    pub next-fits : at < n → LeavesRoom 5 s s n r (Read (at + 1) free)
     next-fits l =
         let f = read-facts n (at + 1) free in
         let g = facts-read e n in
-        record { placed = omega (arith, f); above = omega (arith, f, g, h .above); less = omega (arith, f, g); lives = omega (arith, f, g); dead = omega (arith, f, g, h .room, h .small); kept = refl }
+        record { placed = omega (arith, f); above = omega (arith, f, g, h .above); leaves = omega (arith, f, g); lives = omega (arith, f, g); dead = omega (arith, f, g, h .room, h .small); kept = refl }
 
     pub room-is : (free + m ≤ length s) × (n * 3 ≤ free) × (at ≤ n) × (length s < 2 ^ 32) × (n * 3 + 64 ≤ length s)
     room-is = omega (arith, facts-read e n, h .room, h .above, h .placed, h .small, h .wide)
 
     module _ (words : ℕ → List ℕ) (s′ : List ℕ) (k nf : ℕ) (el : nf ≡ free + k) (len : length (words free) ≡ k) (le : k ≤ m) (w : take nf s′ ≡ take free s ++ words free) where
-      pub added-grows : Grows k s s′ n r (Read at nf)
+      pub added-grows : TakesRoom k s s′ n r (Read at nf)
       added-grows =
           let f = read-facts n at nf in
           let g = facts-read e n in
@@ -130,30 +130,30 @@ module _ {m : ℕ} {s : List ℕ} {n : ℕ} {r : Answer} (h : Ready m s n r) whe
           let q : nf ≡ free + length (words free) = omega arith in
           record { by = rw e (ap (λ (x : ℕ). Read at x) q, ap (λ (x : ℕ). take x s′) (sym q) ∙ w) }
 
-pub adds-refused : {words : ℕ → List ℕ} {s s′ : List ℕ} {r : Answer} {k p : ℕ} → r ≡ Refused k p → Adds words s s′ r (Refused k p)
+pub adds-refused : {words : ℕ → List ℕ} {s s′ : List ℕ} {r : State} {k p : ℕ} → r ≡ Refused k p → Adds words s s′ r (Refused k p)
 adds-refused e = record { by = rw e refl }
 
-pub refuses-read : {number at free : ℕ} {r : Answer} → r ≡ Read at free → Refuses number r (Refused number at)
+pub refuses-read : {number at free : ℕ} {r : State} → r ≡ Read at free → Refuses number r (Refused number at)
 refuses-read e = record { by = rw e refl }
 
-pub refuses-refused : {number k p : ℕ} {r : Answer} → r ≡ Refused k p → Refuses number r (Refused k p)
+pub refuses-refused : {number k p : ℕ} {r : State} → r ≡ Refused k p → Refuses number r (Refused k p)
 refuses-refused e = record { by = rw e refl }
 
-liveBy : (r : Answer) → live r ≤ 1
+liveBy : (r : State) → live r ≤ 1
 unfolding live
 liveBy (Read at free) = omega arith
 liveBy (Refused k p) = omega arith
 
-deadBy : (n : ℕ) (r : Answer) → reach n r < 2 ^ 32 → reach n r ≤ live r * 2 ^ 32
+deadBy : (n : ℕ) (r : State) → reach n r < 2 ^ 32 → reach n r ≤ live r * 2 ^ 32
 unfolding live reach
 deadBy n (Read at free) h = omega arith
 deadBy n (Refused k p) h = omega arith
 
 -- the size of an item is set
-module _ {s : List ℕ} {n : ℕ} {r : Answer} {lo : ℕ} (h : Ready 0 s n r) (l : n * 3 ≤ lo) where
-  pub seal-fits : (s′ : List ℕ) → take (n * 3) s′ ≡ take (n * 3) s → Fits 0 s s′ n r r
-  seal-fits s′ e =
-      record { placed = h .placed; above = h .above; less = omega arith; lives = omega arith; dead = deadBy n r (omega (arith, h .room, h .small)); kept = e }
+module _ {s : List ℕ} {n : ℕ} {r : State} {lo : ℕ} (h : Ready 0 s n r) (l : n * 3 ≤ lo) where
+  pub set-size-fits : (s′ : List ℕ) → take (n * 3) s′ ≡ take (n * 3) s → LeavesRoom 0 s s′ n r r
+  set-size-fits s′ e =
+      record { placed = h .placed; above = h .above; leaves = omega arith; lives = omega arith; dead = deadBy n r (omega (arith, h .room, h .small)); kept = e }
 
   pub set-kept : (z : ℕ) → take (n * 3) (set s lo z) ≡ take (n * 3) s
   set-kept z =
@@ -166,15 +166,15 @@ module _ {s : List ℕ} {n : ℕ} {r : Answer} {lo : ℕ} (h : Ready 0 s n r) (l
   sealed-past {at} {free} e q =
       record { by = rw e (sym (set-past (take free s) lo (free - lo - 2) (omega (arith, length-take-le free s (omega (arith, room-is h e)))))) }
 
-pub sealed-refused : {lo : ℕ} {s s′ : List ℕ} {r : Answer} {k p : ℕ} → r ≡ Refused k p → Seals lo s s′ r
+pub sealed-refused : {lo : ℕ} {s s′ : List ℕ} {r : State} {k p : ℕ} → r ≡ Refused k p → Seals lo s s′ r
 sealed-refused e = record { by = rw e tt }
 
-pub alive : (r : Answer) → live r ≤ 1
+pub alive : (r : State) → live r ≤ 1
 alive r = liveBy r
 
-pub weaker : {j k : ℕ} {s s′ : List ℕ} {n : ℕ} {r r′ : Answer} → k ≤ j → Fits j s s′ n r r′ → Fits k s s′ n r r′
+pub weaker : {j k : ℕ} {s s′ : List ℕ} {n : ℕ} {r r′ : State} → k ≤ j → LeavesRoom j s s′ n r r′ → LeavesRoom k s s′ n r r′
 weaker {j} {k} {n = n} {r = r} {r′} h f =
-    record { placed = f .placed; above = f .above; less = lessBy (live r′) (alive r′) (f .less); lives = f .lives; dead = f .dead; kept = f .kept }
+    record { placed = f .placed; above = f .above; leaves = lessBy (live r′) (alive r′) (f .leaves); lives = f .lives; dead = f .dead; kept = f .kept }
   where
     lessBy : (x : ℕ) → x ≤ 1 → reach n r′ + x * j ≤ reach n r → reach n r′ + x * k ≤ reach n r
     lessBy zero l g = omega arith
@@ -206,18 +206,18 @@ room-more a b zero k m L h f d r p q w = omega arith
 room-more a b (suc zero) k m L h f d r p q w = omega arith
 room-more a b (suc (suc x)) k m L h f d r p q w = absurd (omega arith)
 
-module _ {s s′ : List ℕ} {n : ℕ} {r r′ : Answer} where
-  pub fitted : {m k : ℕ} → Ready m s n r → Fits k s s′ n r r′ → length s′ ≡ length s → m + k ≤ 64 → Ready (m + k) s′ n r′
+module _ {s s′ : List ℕ} {n : ℕ} {r r′ : State} where
+  pub fitted : {m k : ℕ} → Ready m s n r → LeavesRoom k s s′ n r r′ → length s′ ≡ length s → m + k ≤ 64 → Ready (m + k) s′ n r′
   fitted {m} {k} h f e q =
       record {
         placed = f .placed;
         above = f .above;
-        room = omega (arith, e, room-both (reach n r) (reach n r′) (live r′) k m (length s) (alive r′) (f .less) (f .dead) (h .room) q (omega (arith, h .wide)));
+        room = omega (arith, e, room-both (reach n r) (reach n r′) (live r′) k m (length s) (alive r′) (f .leaves) (f .dead) (h .room) q (omega (arith, h .wide)));
         wide = omega (arith, e, h .wide);
         small = omega (arith, e, h .small);
       }
 
-  pub enlarged : {m k : ℕ} → Ready m s n r → Grows k s s′ n r r′ → length s′ ≡ length s → k ≤ m → m ≤ 64 → Ready (m - k) s′ n r′
+  pub enlarged : {m k : ℕ} → Ready m s n r → TakesRoom k s s′ n r r′ → length s′ ≡ length s → k ≤ m → m ≤ 64 → Ready (m - k) s′ n r′
   enlarged {m} {k} h f e p q =
       record {
         placed = f .placed;
@@ -227,98 +227,98 @@ module _ {s s′ : List ℕ} {n : ℕ} {r r′ : Answer} where
         small = omega (arith, e, h .small);
       }
 
-  module _ {s″ : List ℕ} {r″ : Answer} where
-    pub both : {j k : ℕ} → Fits j s s′ n r r′ → Fits k s′ s″ n r′ r″ → Fits (j + k) s s″ n r r″
+  module _ {s″ : List ℕ} {r″ : State} where
+    pub both : {j k : ℕ} → LeavesRoom j s s′ n r r′ → LeavesRoom k s′ s″ n r′ r″ → LeavesRoom (j + k) s s″ n r r″
     both {j} {k} f g =
         record {
           placed = g .placed;
           above = g .above;
-          less = add-both (reach n r) (reach n r′) (reach n r″) (live r′) (live r″) j k (alive r′) (alive r″) (g .lives) (f .less) (g .less);
+          leaves = add-both (reach n r) (reach n r′) (reach n r″) (live r′) (live r″) j k (alive r′) (alive r″) (g .lives) (f .leaves) (g .leaves);
           lives = omega (arith, f .lives, g .lives);
           dead = g .dead;
           kept = g .kept ∙ f .kept;
         }
 
-    pub then-grows : {j m : ℕ} → Fits j s s′ n r r′ → Grows m s′ s″ n r′ r″ → m ≤ j → Fits (j - m) s s″ n r r″
+    pub then-grows : {j m : ℕ} → LeavesRoom j s s′ n r r′ → TakesRoom m s′ s″ n r′ r″ → m ≤ j → LeavesRoom (j - m) s s″ n r r″
     then-grows {j} {m} f g q =
         record {
           placed = g .placed;
           above = g .above;
-          less = grow-both (reach n r) (reach n r′) (reach n r″) (live r′) (live r″) j m (alive r′) (alive r″) (g .lives) q (f .less) (g .more);
+          leaves = grow-both (reach n r) (reach n r′) (reach n r″) (live r′) (live r″) j m (alive r′) (alive r″) (g .lives) q (f .leaves) (g .more);
           lives = omega (arith, f .lives, g .lives);
           dead = g .dead;
           kept = g .kept ∙ f .kept;
         }
 
-pub smaller : {m k : ℕ} {s : List ℕ} {n : ℕ} {r : Answer} → Ready m s n r → k ≤ m → Ready k s n r
+pub smaller : {m k : ℕ} {s : List ℕ} {n : ℕ} {r : State} → Ready m s n r → k ≤ m → Ready k s n r
 smaller h q = record { placed = h .placed; above = h .above; room = omega (arith, h .room); wide = h .wide; small = h .small }
 
-pub itself : {m : ℕ} {s : List ℕ} {n : ℕ} {r : Answer} → Ready m s n r → Fits 0 s s n r r
+pub itself : {m : ℕ} {s : List ℕ} {n : ℕ} {r : State} → Ready m s n r → LeavesRoom 0 s s n r r
 itself {m} {s} {n} {r} h =
-    record { placed = h .placed; above = h .above; less = omega arith; lives = omega arith; dead = deadBy n r (omega (arith, h .room, h .small)); kept = refl }
+    record { placed = h .placed; above = h .above; leaves = omega arith; lives = omega arith; dead = deadBy n r (omega (arith, h .room, h .small)); kept = refl }
 
-grow-less : (a b c x y k m : ℕ) → x ≤ 1 → y ≤ 1 → y ≤ x → k ≤ m → b ≤ a + x * m → c + y * k ≤ b → c ≤ y * 2 ^ 32 → c ≤ a + y * (m - k)
-grow-less a b c x zero k m h h′ l q f g d = omega arith
-grow-less a b c zero (suc y) k m h h′ l q f g d = absurd (omega arith)
-grow-less a b c (suc zero) (suc zero) k m h h′ l q f g d = omega arith
-grow-less a b c (suc zero) (suc (suc y)) k m h h′ l q f g d = absurd (omega arith)
-grow-less a b c (suc (suc x)) (suc y) k m h h′ l q f g d = absurd (omega arith)
+grow-minus : (a b c x y k m : ℕ) → x ≤ 1 → y ≤ 1 → y ≤ x → k ≤ m → b ≤ a + x * m → c + y * k ≤ b → c ≤ y * 2 ^ 32 → c ≤ a + y * (m - k)
+grow-minus a b c x zero k m h h′ l q f g d = omega arith
+grow-minus a b c zero (suc y) k m h h′ l q f g d = absurd (omega arith)
+grow-minus a b c (suc zero) (suc zero) k m h h′ l q f g d = omega arith
+grow-minus a b c (suc zero) (suc (suc y)) k m h h′ l q f g d = absurd (omega arith)
+grow-minus a b c (suc (suc x)) (suc y) k m h h′ l q f g d = absurd (omega arith)
 
-less-more : (a b c x y k m : ℕ) → x ≤ 1 → y ≤ 1 → y ≤ x → m ≤ k → b ≤ a + x * m → c + y * k ≤ b → c ≤ y * 2 ^ 32 → c + y * (k - m) ≤ a
-less-more a b c x zero k m h h′ l q f g d = omega arith
-less-more a b c zero (suc y) k m h h′ l q f g d = absurd (omega arith)
-less-more a b c (suc zero) (suc zero) k m h h′ l q f g d = omega arith
-less-more a b c (suc zero) (suc (suc y)) k m h h′ l q f g d = absurd (omega arith)
-less-more a b c (suc (suc x)) (suc y) k m h h′ l q f g d = absurd (omega arith)
+minus-more : (a b c x y k m : ℕ) → x ≤ 1 → y ≤ 1 → y ≤ x → m ≤ k → b ≤ a + x * m → c + y * k ≤ b → c ≤ y * 2 ^ 32 → c + y * (k - m) ≤ a
+minus-more a b c x zero k m h h′ l q f g d = omega arith
+minus-more a b c zero (suc y) k m h h′ l q f g d = absurd (omega arith)
+minus-more a b c (suc zero) (suc zero) k m h h′ l q f g d = omega arith
+minus-more a b c (suc zero) (suc (suc y)) k m h h′ l q f g d = absurd (omega arith)
+minus-more a b c (suc (suc x)) (suc y) k m h h′ l q f g d = absurd (omega arith)
 
-module _ {s s′ s″ : List ℕ} {n : ℕ} {r r′ r″ : Answer} where
-  pub grows-then : {m k : ℕ} → Grows m s s′ n r r′ → Fits k s′ s″ n r′ r″ → k ≤ m → Grows (m - k) s s″ n r r″
+module _ {s s′ s″ : List ℕ} {n : ℕ} {r r′ r″ : State} where
+  pub grows-then : {m k : ℕ} → TakesRoom m s s′ n r r′ → LeavesRoom k s′ s″ n r′ r″ → k ≤ m → TakesRoom (m - k) s s″ n r r″
   grows-then {m} {k} f g q =
       record {
         placed = g .placed;
         above = g .above;
-        more = grow-less (reach n r) (reach n r′) (reach n r″) (live r′) (live r″) k m (alive r′) (alive r″) (g .lives) q (f .more) (g .less) (g .dead);
+        more = grow-minus (reach n r) (reach n r′) (reach n r″) (live r′) (live r″) k m (alive r′) (alive r″) (g .lives) q (f .more) (g .leaves) (g .dead);
         lives = omega (arith, f .lives, g .lives);
         dead = g .dead;
         kept = g .kept ∙ f .kept;
       }
 
-  pub grows-fits : {m k : ℕ} → Grows m s s′ n r r′ → Fits k s′ s″ n r′ r″ → m ≤ k → Fits (k - m) s s″ n r r″
+  pub grows-fits : {m k : ℕ} → TakesRoom m s s′ n r r′ → LeavesRoom k s′ s″ n r′ r″ → m ≤ k → LeavesRoom (k - m) s s″ n r r″
   grows-fits {m} {k} f g q =
       record {
         placed = g .placed;
         above = g .above;
-        less = less-more (reach n r) (reach n r′) (reach n r″) (live r′) (live r″) k m (alive r′) (alive r″) (g .lives) q (f .more) (g .less) (g .dead);
+        leaves = minus-more (reach n r) (reach n r′) (reach n r″) (live r′) (live r″) k m (alive r′) (alive r″) (g .lives) q (f .more) (g .leaves) (g .dead);
         lives = omega (arith, f .lives, g .lives);
         dead = g .dead;
         kept = g .kept ∙ f .kept;
       }
 
-less-grow : (a b c x y j m : ℕ) → x ≤ 1 → y ≤ 1 → y ≤ x → j ≤ m → b + x * j ≤ a → c ≤ b + y * m → c ≤ y * 2 ^ 32 → c ≤ a + y * (m - j)
-less-grow a b c x zero j m h h′ l q f g d = omega arith
-less-grow a b c zero (suc y) j m h h′ l q f g d = absurd (omega arith)
-less-grow a b c (suc zero) (suc zero) j m h h′ l q f g d = omega arith
-less-grow a b c (suc zero) (suc (suc y)) j m h h′ l q f g d = absurd (omega arith)
-less-grow a b c (suc (suc x)) (suc y) j m h h′ l q f g d = absurd (omega arith)
+minus-grow : (a b c x y j m : ℕ) → x ≤ 1 → y ≤ 1 → y ≤ x → j ≤ m → b + x * j ≤ a → c ≤ b + y * m → c ≤ y * 2 ^ 32 → c ≤ a + y * (m - j)
+minus-grow a b c x zero j m h h′ l q f g d = omega arith
+minus-grow a b c zero (suc y) j m h h′ l q f g d = absurd (omega arith)
+minus-grow a b c (suc zero) (suc zero) j m h h′ l q f g d = omega arith
+minus-grow a b c (suc zero) (suc (suc y)) j m h h′ l q f g d = absurd (omega arith)
+minus-grow a b c (suc (suc x)) (suc y) j m h h′ l q f g d = absurd (omega arith)
 
-pub fits-grows : {s s′ s″ : List ℕ} {n : ℕ} {r r′ r″ : Answer} {j m : ℕ} → Fits j s s′ n r r′ → Grows m s′ s″ n r′ r″ → j ≤ m → Grows (m - j) s s″ n r r″
+pub fits-grows : {s s′ s″ : List ℕ} {n : ℕ} {r r′ r″ : State} {j m : ℕ} → LeavesRoom j s s′ n r r′ → TakesRoom m s′ s″ n r′ r″ → j ≤ m → TakesRoom (m - j) s s″ n r r″
 fits-grows {n = n} {r} {r′} {r″} {j} {m} f g q =
     record {
       placed = g .placed;
       above = g .above;
-      more = less-grow (reach n r) (reach n r′) (reach n r″) (live r′) (live r″) j m (alive r′) (alive r″) (g .lives) q (f .less) (g .more) (g .dead);
+      more = minus-grow (reach n r) (reach n r′) (reach n r″) (live r′) (live r″) j m (alive r′) (alive r″) (g .lives) q (f .leaves) (g .more) (g .dead);
       lives = omega (arith, f .lives, g .lives);
       dead = g .dead;
       kept = g .kept ∙ f .kept;
     }
 
 -- what is read leaves room for what is written
-less-then : (a b p q : ℕ) → b + p ≤ a → b ≤ a + q
-less-then a b p q h = omega arith
+minus-then : (a b p q : ℕ) → b + p ≤ a → b ≤ a + q
+minus-then a b p q h = omega arith
 
-pub as-grows : {s s′ : List ℕ} {n : ℕ} {r r′ : Answer} {k m : ℕ} → Fits k s s′ n r r′ → Grows m s s′ n r r′
+pub as-grows : {s s′ : List ℕ} {n : ℕ} {r r′ : State} {k m : ℕ} → LeavesRoom k s s′ n r r′ → TakesRoom m s s′ n r r′
 as-grows {n = n} {r} {r′} {k} {m} f =
-    record { placed = f .placed; above = f .above; more = less-then (reach n r) (reach n r′) (live r′ * k) (live r′ * m) (f .less); lives = f .lives; dead = f .dead; kept = f .kept }
+    record { placed = f .placed; above = f .above; more = minus-then (reach n r) (reach n r′) (live r′ * k) (live r′ * m) (f .leaves); lives = f .lives; dead = f .dead; kept = f .kept }
 
 more-more : (a b c x y j m : ℕ) → x ≤ 1 → y ≤ 1 → y ≤ x → b ≤ a + x * j → c ≤ b + y * m → c ≤ y * 2 ^ 32 → c ≤ a + y * (j + m)
 more-more a b c x zero j m h h′ l f g d = omega arith
@@ -327,7 +327,7 @@ more-more a b c (suc zero) (suc zero) j m h h′ l f g d = omega arith
 more-more a b c (suc zero) (suc (suc y)) j m h h′ l f g d = absurd (omega arith)
 more-more a b c (suc (suc x)) (suc y) j m h h′ l f g d = absurd (omega arith)
 
-pub grows-more : {s s′ s″ : List ℕ} {n : ℕ} {r r′ r″ : Answer} {j m : ℕ} → Grows j s s′ n r r′ → Grows m s′ s″ n r′ r″ → Grows (j + m) s s″ n r r″
+pub grows-more : {s s′ s″ : List ℕ} {n : ℕ} {r r′ r″ : State} {j m : ℕ} → TakesRoom j s s′ n r r′ → TakesRoom m s′ s″ n r′ r″ → TakesRoom (j + m) s s″ n r r″
 grows-more {n = n} {r} {r′} {r″} {j} {m} f g =
     record {
       placed = g .placed;

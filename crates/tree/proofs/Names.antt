@@ -12,25 +12,25 @@ use Rattle.language.specs.Reader.{Source, Out, ok, no, onOut, kindAt, valueAt, 
 use Rattle.language.specs.Expressions as E
 use Rattle.language.specs.Commands as C
 use Rattle.language.specs.Grammar.{within, readers}
-use Rattle.tree.specs.Reads.{Lies, Here, KindHere, Goes, Puts, Reads}
+use Rattle.tree.specs.Reads.{HoldsSymbols, Here, KindHere, Follows, Prepends, Reads}
 use Rattle.tree.specs.Between.{aFurtherName}
 use Rattle.tree.specs.Encoding.{leaf, encodeName, encodeNames, encodeConstant, encodeBy}
 use Rattle.tree.proofs.Steps.{bind, here, goes-on, nothing}
 use Rattle.tree.proofs.Symbols.{mapped, the-is, stays}
 use Rattle.tree.proofs.Leaves.{name-at, nameOf}
-use Rattle.tree.specs.declared.scratch.Answer.{Answer}
+use Rattle.tree.specs.declared.scratch.State.{State}
 
 same-name : (o : Out Name) → o ≡ onOut o (λ y m. ok y m)
 same-name (ok y m) = refl
 same-name (no k p) = refl
 
-pub a-name-read : {src : Source} {n : ℕ} {s s′ : List ℕ} {r r′ : Answer} {value : ℕ} → Lies src n s → Here (valueAt src) n r value → Reads (the K.NAME src) (λ place. leaf value place K.NAME) s s′ r r′ → Reads (aName src) encodeName s s′ r r′
+pub a-name-read : {src : Source} {n : ℕ} {s s′ : List ℕ} {r r′ : State} {value : ℕ} → HoldsSymbols src n s → Here (valueAt src) n r value → Reads (the K.NAME src) (λ place. leaf value place K.NAME) s s′ r r′ → Reads (aName src) encodeName s s′ r r′
 unfolding encodeName
 a-name-read {src} {value = value} l h d =
     here _ (λ at free e. same-name (aName src at) ∙ name-at l h (λ y m. ok y m) at free e) (mapped (λ place. nameOf place value) (λ _. refl) d)
 
 -- a comma and a name
-pub further-name-read : (src : Source) {s s₁ : List ℕ} {r r₀ r₁ : Answer} → Reads (the K.COMMA src) (λ _. []) s s r r₀ → Reads (aName src) encodeName s s₁ r₀ r₁ → Goes (aFurtherName src) (Puts encodeNames) s s₁ r r₁
+pub further-name-read : (src : Source) {s s₁ : List ℕ} {r r₀ r₁ : State} → Reads (the K.COMMA src) (λ _. []) s s r r₀ → Reads (aName src) encodeName s s₁ r₀ r₁ → Follows (aFurtherName src) (Prepends encodeNames) s s₁ r r₁
 unfolding aFurtherName encodeName encodeNames
 further-name-read src c d =
     bind 0 (λ _. []) c (goes-on d) (λ _ _. bind 0 encodeName d stays (λ y _. nothing (record { puts = λ rest. refl; some = omega arith })))
@@ -40,8 +40,8 @@ unfolding encodeNames
 no-name-words = refl
 
 -- a symbol, if it stands here
-module _ (src : Source) (kind : ℕ) {s : List ℕ} {r : Answer} {x : ℕ} (k : KindHere src r x) where
-  pub optional-here : {r′ : Answer} → x ≡ kind → Reads (the kind src) (λ _. []) s s r r′ → Reads (optional kind src) (λ _. []) s s r r′
+module _ (src : Source) (kind : ℕ) {s : List ℕ} {r : State} {x : ℕ} (k : KindHere src r x) where
+  pub optional-here : {r′ : State} → x ≡ kind → Reads (the kind src) (λ _. []) s s r r′ → Reads (optional kind src) (λ _. []) s s r r′
   unfolding optional
   optional-here q d =
       here _ (λ at free e. let y : kindAt src at ≡ kind = sym (k .here at free e) ∙ q in
@@ -55,8 +55,8 @@ module _ (src : Source) (kind : ℕ) {s : List ℕ} {r : Answer} {x : ℕ} (k : 
       (nothing (record { same = refl }))
 
 -- BY and a constant, if BY stands here
-module _ (src : Source) (x : ℕ) {s : List ℕ} {r : Answer} {kind : ℕ} (k : KindHere src r kind) where
-  pub by-read : {s₁ : List ℕ} {r₀ r₁ : Answer} → kind ≡ K.BY → Reads (the K.BY src) (λ _. []) s s r r₀ → Reads (E.constant (within x) src) encodeConstant s s₁ r₀ r₁ → Reads (C.optionalBy (readers (within x)) src) encodeBy s s₁ r r₁
+module _ (src : Source) (x : ℕ) {s : List ℕ} {r : State} {kind : ℕ} (k : KindHere src r kind) where
+  pub by-read : {s₁ : List ℕ} {r₀ r₁ : State} → kind ≡ K.BY → Reads (the K.BY src) (λ _. []) s s r r₀ → Reads (E.constant (within x) src) encodeConstant s s₁ r₀ r₁ → Reads (C.optionalBy (readers (within x)) src) encodeBy s s₁ r r₁
   unfolding C.optionalBy C.by encodeBy
   by-read q a d =
       here (C.by (readers (within x)) src) (λ at free e. ap (λ (b : Bool). cond b (C.by (readers (within x)) src at) (ok none at)) (eq-eqb (kindAt src at) K.BY (sym (k .here at free e) ∙ q)))

@@ -14,15 +14,15 @@ use Rattle.language.specs.Binding.{reachOf, NEGATION, LOOSEST}
 use Rattle.language.specs.Expressions as E
 use Rattle.language.specs.Expressions.{Inside, inside, shut, opening}
 use Rattle.language.specs.Grammar.{within, readers}
-use Rattle.tree.specs.Reads.{Lies, Here, KindHere, Goes, Is, Puts, Reads, Refuses, Adds, recordFrom, behindFrom, Seals, freeOf}
-use Rattle.tree.specs.Between.{PutsSuffix, PutsOne, anArgument, aFurther, rightOf}
+use Rattle.tree.specs.Reads.{HoldsSymbols, Here, KindHere, Follows, Encodes, Prepends, Reads, Refuses, Adds, recordFrom, behindFrom, Seals, freeOf}
+use Rattle.tree.specs.Between.{PrependsSuffix, PrependsOne, anArgument, aFurther, rightOf}
 use Rattle.tree.specs.Encoding.{MONADIC, DYADIC, item, behind, closed, suffixedKind, encode, encodeExpressions, encodeSuffixes, encodeOperations, encodeCommand}
 use Rattle.tree.proofs.Steps.{follow, bind, here, added, adds-on, goes-on, _then_, nothing, stopped}
 use Rattle.tree.proofs.Lists.{sealed, last, turned}
 use Rattle.tree.proofs.Symbols.{inside as among, placed, mapped, the-is, stays}
 use Rattle.tree.proofs.Classes.{positive}
-use Rattle.tree.specs.declared.scratch.Answer.{Answer}
-use Rattle.tree.specs.declared.scratch.Answer.the-variants.{Read}
+use Rattle.tree.specs.declared.scratch.State.{State}
+use Rattle.tree.specs.declared.scratch.State.the-variants.{Read}
 
 -- a level is left, or none
 pub deeper : (x : ℕ) → (x ≡ 0 → ⊥) → within x ≡ inside (readers (within (x - 1)))
@@ -36,7 +36,7 @@ shut-at zero h = refl
 shut-at (suc x) h = absurd (omega arith)
 
 -- no level is left: refused 7
-module _ (src : Source) {s s′ : List ℕ} {r r′ : Answer} (x : ℕ) (h : x ≡ 0) (d : Refuses 7 r r′) where
+module _ (src : Source) {s s′ : List ℕ} {r r′ : State} (x : ℕ) (h : x ≡ 0) (d : Refuses 7 r r′) where
   pub bracketed-shut : Reads (E.bracketed (within x) src) encode s s′ r r′
   unfolding E.bracketed opening
   bracketed-shut = stopped (λ at free e. ap (λ (i : Inside). E.bracketed i src at) (shut-at x h)) d
@@ -49,18 +49,18 @@ module _ (src : Source) {s s′ : List ℕ} {r r′ : Answer} (x : ℕ) (h : x �
   unfolding E.monadic opening
   monadic-shut = stopped (λ at free e. ap (λ (i : Inside). E.monadic i src at) (shut-at x h)) d
 
-  pub arguments-shut : {Says : (Suffixes → Suffixes) → List ℕ → Type 0} → Goes (E.arguments (within x) src) Says s s′ r r′
+  pub arguments-shut : {Says : (Suffixes → Suffixes) → List ℕ → Type 0} → Follows (E.arguments (within x) src) Says s s′ r r′
   unfolding E.arguments opening
   arguments-shut = stopped (λ at free e. ap (λ (i : Inside). E.arguments i src at) (shut-at x h)) d
 
 -- the symbol here, whatever it is, is of the kind that stands here
-pub any-the : {C : Type 0} {src : Source} {r : Answer} {kind : ℕ} → KindHere src r kind → (F : ℕ → ℕ → ℕ → Out C) (at free : ℕ) → r ≡ Read at free → F (kindAt src at) (placeAt src at) (at + 1) ≡ onOut (the kind src at) (F kind)
+pub any-the : {C : Type 0} {src : Source} {r : State} {kind : ℕ} → KindHere src r kind → (F : ℕ → ℕ → ℕ → Out C) (at free : ℕ) → r ≡ Read at free → F (kindAt src at) (placeAt src at) (at + 1) ≡ onOut (the kind src at) (F kind)
 any-the {C} {src} {r} {kind} k F at free e =
     let q = k .here at free e in
     ap (λ (y : ℕ). F y (placeAt src at) (at + 1)) (sym q) ∙ sym (ap (λ (o : Out ℕ). onOut o (F kind)) (the-is src kind at (sym q)))
 
-module _ {src : Source} {n : ℕ} {s : List ℕ} (l : Lies src n s) {r : Answer} (size : ℕ) (x : ℕ) {lo p : ℕ} (lo-is : lo ≡ freeOf size r) (h : Here (placeAt src) n r p) (deep : x ≡ 0 → ⊥) {s₂ s₃ : List ℕ} {r₁ r₂ r₄ : Answer} where
-  pub bracketed-read : {r₃ : Answer} → Reads (the K.OPEN src) (λ _. []) s s r r₁ → Reads (E.expression (within (x - 1)) LOOSEST src) encode s s₂ r₁ r₂ → Reads (the K.CLOSE src) (λ _. []) s₂ s₂ r₂ r₃ → Adds (recordFrom lo 0 p K.OPEN) s₂ s₃ r₃ r₄ → Reads (E.bracketed (within x) src) encode s s₃ r r₄
+module _ {src : Source} {n : ℕ} {s : List ℕ} (l : HoldsSymbols src n s) {r : State} (size : ℕ) (x : ℕ) {lo p : ℕ} (lo-is : lo ≡ freeOf size r) (h : Here (placeAt src) n r p) (deep : x ≡ 0 → ⊥) {s₂ s₃ : List ℕ} {r₁ r₂ r₄ : State} where
+  pub bracketed-read : {r₃ : State} → Reads (the K.OPEN src) (λ _. []) s s r r₁ → Reads (E.expression (within (x - 1)) LOOSEST src) encode s s₂ r₁ r₂ → Reads (the K.CLOSE src) (λ _. []) s₂ s₂ r₂ r₃ → Adds (recordFrom lo 0 p K.OPEN) s₂ s₃ r₃ r₄ → Reads (E.bracketed (within x) src) encode s s₃ r r₄
   unfolding E.bracketed opening encode
   bracketed-read a b c d =
       here (E.bracketed (inside (readers (within (x - 1)))) src) (λ at free e. ap (λ (i : Inside). E.bracketed i src at) (deeper x deep))
@@ -84,71 +84,71 @@ module _ {src : Source} {n : ℕ} {s : List ℕ} (l : Lies src n s) {r : Answer}
 
 -- an item of a list
 module _ {A B : Type 0} (F : B → A → A) (tag size : ℕ) {body : ℕ → Out B} (enc : B → List ℕ) {lo : ℕ} {s s₁ s₂ s₃ : List ℕ} {Says : (A → A) → List ℕ → Type 0} (law : (e : B) → Says (F e) (item tag (enc e))) where
-  pub item-alone : {r r₁ r₂ : Answer} → lo ≡ freeOf size r → freeOf size r ≤ length s → Adds (λ _. 0 ∷ tag ∷ []) s s₁ r r₁ → Reads body enc s₁ s₂ r₁ r₂ → Seals lo s₂ s₃ r₂ → Goes (λ m. onOut (body m) (λ e w. ok (F e) w)) Says s s₃ r r₂
+  pub item-alone : {r r₁ r₂ : State} → lo ≡ freeOf size r → freeOf size r ≤ length s → Adds (λ _. 0 ∷ tag ∷ []) s s₁ r r₁ → Reads body enc s₁ s₂ r₁ r₂ → Seals lo s₂ s₃ r₂ → Follows (λ m. onOut (body m) (λ e w. ok (F e) w)) Says s s₃ r r₂
   item-alone lo-is le a d b =
-      bind size (λ e. item tag (enc e)) (sealed (Is (λ e. item tag (enc e))) tag size (λ e w h. record { same = ap (λ (v : List ℕ). item tag v) (h .same) }) le lo-is a d b) stays
+      bind size (λ e. item tag (enc e)) (sealed (Encodes (λ e. item tag (enc e))) tag size (λ e w h. record { same = ap (λ (v : List ℕ). item tag v) (h .same) }) le lo-is a d b) stays
       (λ e q. nothing (subst (λ (v : List ℕ). Says (F e) v) (sym (append-nil (item tag (enc e)))) (law e)))
 
-  pub item-read : {first : ℕ → Out ℕ} {r r₀ r₁ r₂ : Answer} → lo ≡ freeOf size r → freeOf size r₀ ≤ length s → Reads first (λ _. []) s s r r₀ → Adds (λ _. 0 ∷ tag ∷ []) s s₁ r₀ r₁ → Reads body enc s₁ s₂ r₁ r₂ → Seals lo s₂ s₃ r₂ → Goes (λ m. onOut (first m) (λ _ q. onOut (body q) (λ e w. ok (F e) w))) Says s s₃ r r₂
+  pub item-read : {first : ℕ → Out ℕ} {r r₀ r₁ r₂ : State} → lo ≡ freeOf size r → freeOf size r₀ ≤ length s → Reads first (λ _. []) s s r r₀ → Adds (λ _. 0 ∷ tag ∷ []) s s₁ r₀ r₁ → Reads body enc s₁ s₂ r₁ r₂ → Seals lo s₂ s₃ r₂ → Follows (λ m. onOut (first m) (λ _ q. onOut (body q) (λ e w. ok (F e) w))) Says s s₃ r r₂
   item-read lo-is le c a d b =
       bind size (λ _. []) c (adds-on a then goes-on d) (λ _ q. item-alone (omega arith) le a d b)
 
 -- a suffix, its two entries behind it
 module _ {A B : Type 0} (F : B → A → A) (tag size : ℕ) {first : ℕ → Out ℕ} {body : ℕ → Out B} (enc : B → List ℕ) {lo : ℕ} {s s₁ s₂ : List ℕ} {Says : (A → A) → List ℕ → Type 0} (law : (e : B) → Says (F e) (behind tag (enc e))) where
-  pub behind-read : {r r₀ r₁ r₂ : Answer} → lo ≡ freeOf size r → Reads first (λ _. []) s s r r₀ → Reads body enc s s₁ r₀ r₁ → Adds (behindFrom lo tag) s₁ s₂ r₁ r₂ → Goes (λ m. onOut (first m) (λ _ q. onOut (body q) (λ e w. ok (F e) w))) Says s s₂ r r₂
+  pub behind-read : {r r₀ r₁ r₂ : State} → lo ≡ freeOf size r → Reads first (λ _. []) s s r r₀ → Reads body enc s s₁ r₀ r₁ → Adds (behindFrom lo tag) s₁ s₂ r₁ r₂ → Follows (λ m. onOut (first m) (λ _ q. onOut (body q) (λ e w. ok (F e) w))) Says s s₂ r r₂
   behind-read {r} {r₀} {r₁} lo-is c d b =
       bind size (λ _. []) c (goes-on d then adds-on b) (λ _ q₁. bind size enc d (adds-on b) (λ e q₂.
       let z : length (enc e) ≡ freeOf size r₁ - lo = omega arith in
       added size b (subst (λ (y : ℕ). Says (F e) (enc e ++ (y ∷ tag ∷ []))) z (law e))))
 
 -- an item's words stand before those of the items after it
-pub put-first : {A B : Type 0} (F : B → A → A) (tag : ℕ) (enc : B → List ℕ) (encs : A → List ℕ) → ((e : B) (rest : A) → encs (F e rest) ≡ item tag (enc e) ++ encs rest) → (e : B) → Puts encs (F e) (item tag (enc e))
+pub put-first : {A B : Type 0} (F : B → A → A) (tag : ℕ) (enc : B → List ℕ) (encs : A → List ℕ) → ((e : B) (rest : A) → encs (F e rest) ≡ item tag (enc e) ++ encs rest) → (e : B) → Prepends encs (F e) (item tag (enc e))
 put-first F tag enc encs law e = record { puts = law e; some = omega arith }
 
 some-behind : (tag : ℕ) (w : List ℕ) → 0 < length (behind tag w)
 some-behind tag w = omega (arith, length-append w (length w ∷ tag ∷ []))
 
-module _ (src : Source) {r : Answer} (size : ℕ) (x : ℕ) {lo : ℕ} (lo-is : lo ≡ freeOf size r) {s s₁ s₂ s₃ : List ℕ} {r₁ r₂ : Answer} where
-  pub operation-read : {r₀ : Answer} {kind : ℕ} (right : ℕ) → freeOf size r₀ ≤ length s → KindHere src r kind → Reads (the kind src) (λ _. []) s s r r₀ → Adds (λ _. 0 ∷ kind ∷ []) s s₁ r₀ r₁ → Reads (E.expression (within x) right src) encode s₁ s₂ r₁ r₂ → Seals lo s₂ s₃ r₂ → Goes (E.operation (E.expression (within x) right) src) (Puts encodeOperations) s s₃ r r₂
+module _ (src : Source) {r : State} (size : ℕ) (x : ℕ) {lo : ℕ} (lo-is : lo ≡ freeOf size r) {s s₁ s₂ s₃ : List ℕ} {r₁ r₂ : State} where
+  pub operation-read : {r₀ : State} {kind : ℕ} (right : ℕ) → freeOf size r₀ ≤ length s → KindHere src r kind → Reads (the kind src) (λ _. []) s s r r₀ → Adds (λ _. 0 ∷ kind ∷ []) s s₁ r₀ r₁ → Reads (E.expression (within x) right src) encode s₁ s₂ r₁ r₂ → Seals lo s₂ s₃ r₂ → Follows (E.operation (E.expression (within x) right) src) (Prepends encodeOperations) s s₃ r r₂
   unfolding E.operation any encodeOperations
   operation-read {kind = kind} right le k c a d b =
       here _ (any-the k (λ y _ m. onOut (E.expression (within x) right src m) (λ e q. ok (T.operation y e) q)))
       (item-read (T.operation kind) kind size encode (put-first (T.operation kind) kind encode encodeOperations (λ e rest. refl)) lo-is le c a d b)
 
-  pub argument-read : freeOf size r ≤ length s → Adds (λ _. 0 ∷ 0 ∷ []) s s₁ r r₁ → Reads (E.expression (within x) LOOSEST src) encode s₁ s₂ r₁ r₂ → Seals lo s₂ s₃ r₂ → Goes (anArgument x src) PutsOne s s₃ r r₂
+  pub argument-read : freeOf size r ≤ length s → Adds (λ _. 0 ∷ 0 ∷ []) s s₁ r r₁ → Reads (E.expression (within x) LOOSEST src) encode s₁ s₂ r₁ r₂ → Seals lo s₂ s₃ r₂ → Follows (anArgument x src) PrependsOne s s₃ r r₂
   unfolding anArgument encodeExpressions T.count
   argument-read le a d b =
       item-alone T.andExpression 0 size encode (λ e. record { puts = λ rest. refl; one = λ rest. omega arith }) lo-is le a d b
 
-module _ (src : Source) {r : Answer} (size : ℕ) (x : ℕ) {lo : ℕ} (lo-is : lo ≡ freeOf size r) {s s₁ s₂ : List ℕ} {r₁ r₂ : Answer} where
-  pub index-read : {r₀ : Answer} → Reads (the K.PLING src) (λ _. []) s s r r₀ → Reads (E.subscript (within x) src) encode s s₁ r₀ r₁ → Adds (behindFrom lo K.PLING) s₁ s₂ r₁ r₂ → Goes (E.index (within x) src) (PutsSuffix false) s s₂ r r₂
+module _ (src : Source) {r : State} (size : ℕ) (x : ℕ) {lo : ℕ} (lo-is : lo ≡ freeOf size r) {s s₁ s₂ : List ℕ} {r₁ r₂ : State} where
+  pub index-read : {r₀ : State} → Reads (the K.PLING src) (λ _. []) s s r r₀ → Reads (E.subscript (within x) src) encode s s₁ r₀ r₁ → Adds (behindFrom lo K.PLING) s₁ s₂ r₁ r₂ → Follows (E.index (within x) src) (PrependsSuffix false) s s₂ r r₂
   unfolding E.index encodeSuffixes T.endsInCall
   index-read c d b =
       behind-read T.index K.PLING size encode (λ e. record { puts = λ rest. refl; some = some-behind K.PLING (encode e); ends = λ b rest. refl }) lo-is c d b
 
-  pub arguments-read : {r₀ : Answer} → (x ≡ 0 → ⊥) → Reads (the K.OPEN src) (λ _. []) s s r r₀ → Reads (upToClose T.noExpressions (anArgument (x - 1)) src) encodeExpressions s s₁ r₀ r₁ → Adds (behindFrom lo K.OPEN) s₁ s₂ r₁ r₂ → Goes (E.arguments (within x) src) (PutsSuffix true) s s₂ r r₂
+  pub arguments-read : {r₀ : State} → (x ≡ 0 → ⊥) → Reads (the K.OPEN src) (λ _. []) s s r r₀ → Reads (upToClose T.noExpressions (anArgument (x - 1)) src) encodeExpressions s s₁ r₀ r₁ → Adds (behindFrom lo K.OPEN) s₁ s₂ r₁ r₂ → Follows (E.arguments (within x) src) (PrependsSuffix true) s s₂ r r₂
   unfolding E.arguments opening encodeSuffixes anArgument T.endsInCall
   arguments-read deep c d b =
       here (E.arguments (inside (readers (within (x - 1)))) src) (λ at free e. ap (λ (i : Inside). E.arguments i src at) (deeper x deep))
       (behind-read T.call K.OPEN size encodeExpressions (λ e. record { puts = λ rest. refl; some = some-behind K.OPEN (encodeExpressions e); ends = λ b rest. refl }) lo-is c d b)
 
 -- the list of arguments up to the bracket
-module _ (src : Source) (x : ℕ) {s : List ℕ} {r : Answer} {kind : ℕ} (k : KindHere src r kind) where
-  pub no-arguments : {r₁ : Answer} → kind ≡ K.CLOSE → Reads (the K.CLOSE src) (λ _. []) s s r r₁ → Reads (upToClose T.noExpressions (anArgument x) src) encodeExpressions s s r r₁
+module _ (src : Source) (x : ℕ) {s : List ℕ} {r : State} {kind : ℕ} (k : KindHere src r kind) where
+  pub no-arguments : {r₁ : State} → kind ≡ K.CLOSE → Reads (the K.CLOSE src) (λ _. []) s s r r₁ → Reads (upToClose T.noExpressions (anArgument x) src) encodeExpressions s s r r₁
   unfolding upToClose encodeExpressions
   no-arguments q d =
       here _ (λ at free e. let y : kindAt src at ≡ K.CLOSE = sym (k .here at free e) ∙ q in
       ap (λ (b : Bool). cond b (ok T.noExpressions (at + 1)) (oneUpToClose T.noExpressions (anArgument x) src at)) (eq-eqb (kindAt src at) K.CLOSE y) ∙ sym (ap (λ (o : Out ℕ). onOut o (λ _ m. ok T.noExpressions m)) (the-is src K.CLOSE at y)))
       (mapped (λ _. T.noExpressions) (λ _. refl) d)
 
-  pub some-arguments : {n : ℕ} {s₁ s₂ : List ℕ} {r₁ r₂ r₃ : Answer} (size : ℕ) → length (src .symbols) ≡ n → (kind ≡ K.CLOSE → ⊥) → Goes (anArgument x src) PutsOne s s₁ r r₁ → Reads (manyUpTo n T.noExpressions isComma (aFurther x) src) encodeExpressions s₁ s₂ r₁ r₂ → Reads (the K.CLOSE src) (λ _. []) s₂ s₂ r₂ r₃ → Reads (upToClose T.noExpressions (anArgument x) src) encodeExpressions s s₂ r r₃
+  pub some-arguments : {n : ℕ} {s₁ s₂ : List ℕ} {r₁ r₂ r₃ : State} (size : ℕ) → length (src .symbols) ≡ n → (kind ≡ K.CLOSE → ⊥) → Follows (anArgument x src) PrependsOne s s₁ r r₁ → Reads (manyUpTo n T.noExpressions isComma (aFurther x) src) encodeExpressions s₁ s₂ r₁ r₂ → Reads (the K.CLOSE src) (λ _. []) s₂ s₂ r₂ r₃ → Reads (upToClose T.noExpressions (anArgument x) src) encodeExpressions s s₂ r r₃
   unfolding upToClose oneUpToClose furtherItems many aFurther
   some-arguments {n} {s₁} {s₂} {r₁} {r₂} {r₃} size en q a b c =
       here _ (λ at free e. ap (λ (z : Bool). cond z (ok T.noExpressions (at + 1)) (oneUpToClose T.noExpressions (anArgument x) src at)) (ne-eqb (kindAt src at) K.CLOSE (λ y. q (k .here at free e ∙ y))))
       (follow size a (goes-on b then goes-on c) (λ put w h q₁. bind size encodeExpressions (subst (λ (m : ℕ). Reads (manyUpTo m T.noExpressions isComma (aFurther x) src) encodeExpressions s₁ s₂ r₁ r₂) (sym en) b) (goes-on c) (λ rest q₂. bind size (λ _. []) c stays (λ _ q₃. nothing (record { same = ap (λ (v : List ℕ). w ++ v) (append-nil (encodeExpressions rest)) ∙ sym (h .puts rest) })))))
   -- a comma and an argument
 
-pub further-read : (src : Source) (x : ℕ) {s s₁ : List ℕ} {r r₀ r₁ : Answer} (size : ℕ) → Reads (the K.COMMA src) (λ _. []) s s r r₀ → Goes (anArgument x src) PutsOne s s₁ r₀ r₁ → Goes (aFurther x src) PutsOne s s₁ r r₁
+pub further-read : (src : Source) (x : ℕ) {s s₁ : List ℕ} {r r₀ r₁ : State} (size : ℕ) → Reads (the K.COMMA src) (λ _. []) s s r r₀ → Follows (anArgument x src) PrependsOne s s₁ r₀ r₁ → Follows (aFurther x src) PrependsOne s s₁ r r₁
 unfolding aFurther
 further-read src x size c a = bind size (λ _. []) c (goes-on a) (λ _ q. a)
 
@@ -174,14 +174,14 @@ nests (ok put m) M G = nest (M m) put G
 nests (no k p) M G = refl
 
 -- { item }, and what is made of the list: no item stands here, or a first one does
-module _ {src : Source} {r : Answer} {kind : ℕ} (k : KindHere src r kind) where
+module _ {src : Source} {r : State} {kind : ℕ} (k : KindHere src r kind) where
   module _ {A C : Type 0} (none : A) (begins : ℕ → Bool) (one : Reader (A → A)) (make : A → ℕ → Out C) {at free : ℕ} (e : r ≡ Read at free) where
     pub many-none : begins kind ≡ false → onOut (many none begins one src at) make ≡ make none at
     unfolding many
     many-none h = ap (λ (o : Out A). onOut o make) (last none begins one src (length (src .symbols)) at (sym (ap begins (k .here at free e)) ∙ h))
 
     pub many-first :
-        {n : ℕ} {s : List ℕ} → Lies src n s → begins 0 ≡ false → begins kind ≡ true
+        {n : ℕ} {s : List ℕ} → HoldsSymbols src n s → begins 0 ≡ false → begins kind ≡ true
         → onOut (many none begins one src at) make ≡ onOut (one src at) (λ put q. onOut (manyUpTo (n - 1) none begins one src q) (λ more w. make (put more) w))
     unfolding many
     many-first {n} l z h =

@@ -15,7 +15,7 @@ use Rattle.language.specs.Grammar.{treeOf}
 use Rattle.symbols.specs.Read.{entries, outcome}
 use Rattle.symbols.proofs.Semicolons.{symbolsIn, few}
 use Rattle.tree.specs.Encoding.{encodeProgram}
-use Rattle.tree.specs.Read.{decoded, sourceIn, unfit, answerOf, treeRead}
+use Rattle.tree.specs.Read.{decoded, sourceIn, tooShort, answerOf, treeRead}
 use Rattle.tree.specs.declared.TreeRead.{TreeRead}
 use Rattle.tree.specs.declared.TreeRead.the-variants as Answers
 
@@ -43,8 +43,8 @@ pub few-good : (text : List ℕ) (ss : List Symbol) → symbolsOf text ≡ good 
 unfolding symbolsOf symbolsIn number
 few-good text ss e = subst (λ (y : Symbols). number y ≤ length text) e (few-by (firstFault (length text) (brackets [] (scan text .symbols)) (scan text .ending)) (symbolsIn text) (length text) (few text))
 
-pub enough : (text : List ℕ) (ss : List Symbol) (room : ℕ) → symbolsOf text ≡ good ss → 8 * length text + 64 ≤ room → room < 2 ^ 32 → unfit room (length ss) ≡ false
-unfolding unfit
+pub enough : (text : List ℕ) (ss : List Symbol) (room : ℕ) → symbolsOf text ≡ good ss → 8 * length text + 64 ≤ room → room < 2 ^ 32 → tooShort room (length ss) ≡ false
+unfolding tooShort
 enough text ss room e h l =
     rw (le-ltb room (length ss * 8 + 64) (omega (arith, few-good text ss e)), le-ltb (2 ^ 32 - 1) room (omega arith)) refl
 

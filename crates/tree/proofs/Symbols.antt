@@ -10,23 +10,23 @@ use lib.Dec.{eqb, ltb}
 use borrow.Author.Tests.{eq-eqb, ne-eqb, eqb-true, ltb-true, ltb-false}
 use Rattle.language.specs.Symbols.{Symbol}
 use Rattle.language.specs.Reader.{Source, Out, ok, no, onOut, kindAt, valueAt, placeAt, is, unexpected, the}
-use Rattle.tree.specs.Reads.{Lies, Here, KindHere, Goes, Is, Reads, PassesBy, Passes, nextOf}
+use Rattle.tree.specs.Reads.{HoldsSymbols, Here, KindHere, Follows, Encodes, Reads, PassesBy, Passes, nextOf}
 use Rattle.tree.proofs.Steps.{bind, here, nothing}
-use Rattle.tree.specs.declared.scratch.Answer.{Answer}
-use Rattle.tree.specs.declared.scratch.Answer.the-variants.{Read, Refused}
+use Rattle.tree.specs.declared.scratch.State.{State}
+use Rattle.tree.specs.declared.scratch.State.the-variants.{Read, Refused}
 
-pub clash : {r : Answer} {k p at free : ℕ} → r ≡ Refused k p → r ≡ Read at free → ⊥
+pub clash : {r : State} {k p at free : ℕ} → r ≡ Refused k p → r ≡ Read at free → ⊥
 clash e e′ = let z : _≡_ {A = ℕ} 1 0 = cc in omega arith
 
-same-at : {r : Answer} {at free at′ free′ : ℕ} → r ≡ Read at free → r ≡ Read at′ free′ → at ≡ at′
+same-at : {r : State} {at free at′ free′ : ℕ} → r ≡ Read at free → r ≡ Read at′ free′ → at ≡ at′
 unfolding nextOf
 same-at e e′ = ap nextOf (sym e ∙ e′)
 
 -- past the symbols stands the end
-past : {src : Source} {n : ℕ} {s : List ℕ} → Lies src n s → (at : ℕ) → n ≤ at → kindAt src at ≡ 0
+past : {src : Source} {n : ℕ} {s : List ℕ} → HoldsSymbols src n s → (at : ℕ) → n ≤ at → kindAt src at ≡ 0
 past {src} l at h = ap (λ (x : Symbol). x .kind) (List·getD-eq-default (src .symbols) _ (omega (arith, l .count)))
 
-module _ {src : Source} {n : ℕ} {s : List ℕ} (l : Lies src n s) where
+module _ {src : Source} {n : ℕ} {s : List ℕ} (l : HoldsSymbols src n s) where
   -- a symbol of a kind other than 0 stands among the symbols
   insideBy : (at : ℕ) (b : Bool) → ltb at n ≡ b → 0 < kindAt src at → at < n
   insideBy at true e h = ltb-true at n e
@@ -35,7 +35,7 @@ module _ {src : Source} {n : ℕ} {s : List ℕ} (l : Lies src n s) where
   pub inside : (at : ℕ) → 0 < kindAt src at → at < n
   inside at h = insideBy at (ltb at n) refl h
 
-  module _ {r : Answer} {at free : ℕ} (e : r ≡ Read at free) where
+  module _ {r : State} {at free : ℕ} (e : r ≡ Read at free) where
     pub kind-in : at < n → KindHere src r (getD s (at * 3) 0)
     kind-in h =
         record { here = λ at′ free′ e′. l .kinds at h ∙ ap (kindAt src) (same-at e e′) }
@@ -51,13 +51,13 @@ module _ {src : Source} {n : ℕ} {s : List ℕ} (l : Lies src n s) where
     place-in h =
         record { here = λ at′ free′ e′ _. l .places at h ∙ ap (placeAt src) (same-at e e′) }
 
-  pub kind-refused : {r : Answer} {k p x : ℕ} → r ≡ Refused k p → KindHere src r x
+  pub kind-refused : {r : State} {k p x : ℕ} → r ≡ Refused k p → KindHere src r x
   kind-refused e = record { here = λ at free e′. absurd (clash e e′) }
 
-pub here-past : {what : ℕ → ℕ} {n : ℕ} {r : Answer} {at free x : ℕ} → r ≡ Read at free → n ≤ at → Here what n r x
+pub here-past : {what : ℕ → ℕ} {n : ℕ} {r : State} {at free x : ℕ} → r ≡ Read at free → n ≤ at → Here what n r x
 here-past e h = record { here = λ at′ free′ e′ i. absurd (omega (arith, same-at e e′)) }
 
-pub here-refused : {what : ℕ → ℕ} {n : ℕ} {r : Answer} {k p x : ℕ} → r ≡ Refused k p → Here what n r x
+pub here-refused : {what : ℕ → ℕ} {n : ℕ} {r : State} {k p x : ℕ} → r ≡ Refused k p → Here what n r x
 here-refused e = record { here = λ at free e′ i. absurd (clash e e′) }
 
 -- the symbols stay where they are
@@ -65,7 +65,7 @@ kept-at : (n : ℕ) (s s′ : List ℕ) → take (n * 3) s′ ≡ take (n * 3) s
 kept-at n s s′ e i h =
     sym (getD-take (n * 3) s′ i 0 h) ∙ ap (λ (x : List ℕ). getD x i 0) e ∙ getD-take (n * 3) s i 0 h
 
-pub lies-still : {src : Source} {n : ℕ} {s s′ : List ℕ} → Lies src n s → take (n * 3) s′ ≡ take (n * 3) s → Lies src n s′
+pub lies-still : {src : Source} {n : ℕ} {s s′ : List ℕ} → HoldsSymbols src n s → take (n * 3) s′ ≡ take (n * 3) s → HoldsSymbols src n s′
 lies-still {src} {n} {s} {s′} l e =
     record {
       count = l .count;
@@ -83,7 +83,7 @@ pub the-not : (src : Source) (kind at : ℕ) → (kindAt src at ≡ kind → ⊥
 unfolding the unexpected
 the-not src kind at e = ap (λ (b : Bool). cond b (ok (placeAt src at) (at + 1)) (no 6 at)) (ne-eqb (kindAt src at) kind e)
 
-module _ {src : Source} {n : ℕ} {s : List ℕ} (l : Lies src n s) {r : Answer} {at free kind : ℕ} (e : r ≡ Read at free) where
+module _ {src : Source} {n : ℕ} {s : List ℕ} (l : HoldsSymbols src n s) {r : State} {at free kind : ℕ} (e : r ≡ Read at free) where
   pub expect-ok : at < n → getD s (at * 3) 0 ≡ kind → Reads (the kind src) (λ _. []) s s r (Read (at + 1) free)
   expect-ok h q =
       record {
@@ -104,11 +104,11 @@ module _ {src : Source} {n : ℕ} {s : List ℕ} (l : Lies src n s) {r : Answer}
   expect-end h pos =
       record { by = rw e (the-not src kind at (λ x. let z : kindAt src at ≡ 0 = past l at (omega arith) in absurd (omega arith))) }
 
-pub expect-refused : (src : Source) {s : List ℕ} {r : Answer} {k p : ℕ} (kind : ℕ) → r ≡ Refused k p → Reads (the kind src) (λ _. []) s s r (Refused k p)
+pub expect-refused : (src : Source) {s : List ℕ} {r : State} {k p : ℕ} (kind : ℕ) → r ≡ Refused k p → Reads (the kind src) (λ _. []) s s r (Refused k p)
 expect-refused src kind e = record { by = rw e refl }
 
 -- the place of a symbol that is read is what stands here
-module _ {src : Source} {n : ℕ} {s : List ℕ} (l : Lies src n s) {r : Answer} {p : ℕ} (h : Here (placeAt src) n r p) (kind : ℕ) (pos : 0 < kind) where
+module _ {src : Source} {n : ℕ} {s : List ℕ} (l : HoldsSymbols src n s) {r : State} {p : ℕ} (h : Here (placeAt src) n r p) (kind : ℕ) (pos : 0 < kind) where
   placedBy : {C : Type 0} (F : ℕ → ℕ → Out C) (at free : ℕ) → r ≡ Read at free → (b : Bool) → eqb (kindAt src at) kind ≡ b → onOut (the kind src at) F ≡ onOut (the kind src at) (λ _ m. F p m)
   placedBy {C} F at free e true q =
       let k = eqb-true (kindAt src at) kind q in
@@ -125,14 +125,14 @@ module _ {src : Source} {n : ℕ} {s : List ℕ} (l : Lies src n s) {r : Answer}
   pub placed : {C : Type 0} (F : ℕ → ℕ → Out C) (at free : ℕ) → r ≡ Read at free → onOut (the kind src at) F ≡ onOut (the kind src at) (λ _ m. F p m)
   placed F at free e = placedBy F at free e (eqb (kindAt src at) kind) refl
 
-staysBy : (r : Answer) → PassesBy r r
+staysBy : (r : State) → PassesBy r r
 staysBy (Read at free) = tt
 staysBy (Refused k p) = refl
 
-pub stays : {r : Answer} → Passes r r
+pub stays : {r : State} → Passes r r
 stays {r} = record { by = staysBy r }
 
 -- a tree in another form
-pub mapped : {A C : Type 0} {read : ℕ → Out A} (F : A → C) {enc : A → List ℕ} {enc′ : C → List ℕ} {s s′ : List ℕ} {r r′ : Answer} → ((a : A) → enc′ (F a) ≡ enc a) → Reads read enc s s′ r r′ → Goes (λ m. onOut (read m) (λ a q. ok (F a) q)) (Is enc′) s s′ r r′
+pub mapped : {A C : Type 0} {read : ℕ → Out A} (F : A → C) {enc : A → List ℕ} {enc′ : C → List ℕ} {s s′ : List ℕ} {r r′ : State} → ((a : A) → enc′ (F a) ≡ enc a) → Reads read enc s s′ r r′ → Follows (λ m. onOut (read m) (λ a q. ok (F a) q)) (Encodes enc′) s s′ r r′
 mapped F {enc} {enc′} h d =
     bind 0 enc d stays (λ a q. nothing (record { same = append-nil (enc a) ∙ sym (h a) }))

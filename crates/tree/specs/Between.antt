@@ -15,8 +15,8 @@ use Rattle.language.specs.Grammar.{within, readers, function, andFunction}
 use Rattle.language.specs.Grammar.{item as itemOf}
 use Rattle.tree.specs.Encoding.{closed, item, encode, encodeName, encodeNames, bodyWord, encodeProgram, encodeExpressions, encodeSuffixes, encodeUnlabelled, encodeRepeats, encodeLocals, encodeBody, repeated}
 use Rattle.language.specs.Reader.{ok, Reader, _>>=_, return, is, unexpected, any, the, aName, many, items, kindAt}
-use Rattle.tree.specs.declared.scratch.Answer.{Answer}
-use Rattle.tree.specs.declared.scratch.Answer.the-variants.{Read}
+use Rattle.tree.specs.declared.scratch.State.{State}
+use Rattle.tree.specs.declared.scratch.State.the-variants.{Read}
 
 -- a letter for each kind of symbol, by what it may do: those of one letter stand in the same classes of `Binding`
 abbrev pub letters : List ℕ
@@ -96,7 +96,7 @@ aFurtherName = do
 
 -- a suffix that is a call or is not, and the suffixes after another: whether the last of all is a call, where `before` says so of
 -- the one before them
-pub record PutsSuffix (call : Bool) (put : Suffixes → Suffixes) (words : List ℕ) : Type 0 where
+pub record PrependsSuffix (call : Bool) (put : Suffixes → Suffixes) (words : List ℕ) : Type 0 where
   pub puts : (rest : Suffixes) → encodeSuffixes (put rest) ≡ words ++ encodeSuffixes rest
   pub some : 0 < length words
   pub ends : (b : Bool) (rest : Suffixes) → endsInCall b (put rest) ≡ endsInCall call rest
@@ -106,7 +106,7 @@ pub record Ended (before last : Bool) (ss : Suffixes) (words : List ℕ) : Type 
   pub ends : endsInCall before ss ≡ last
 
 -- an expression of a list, and a list's expressions: how many they are
-pub record PutsOne (put : Expressions → Expressions) (words : List ℕ) : Type 0 where
+pub record PrependsOne (put : Expressions → Expressions) (words : List ℕ) : Type 0 where
   pub puts : (rest : Expressions) → encodeExpressions (put rest) ≡ words ++ encodeExpressions rest
   pub one : (rest : Expressions) → count (put rest) ≡ count rest + 1
 
@@ -115,11 +115,11 @@ pub record Counted (number : ℕ) (es : Expressions) (words : List ℕ) : Type 0
   pub many : count es ≡ number
 
 -- whether the expression that is read last is a call
-pub record CallHere (s : List ℕ) (r : Answer) (call : Bool) : Type 0 where
+pub record CallHere (s : List ℕ) (r : State) (call : Bool) : Type 0 where
   pub here : (at free : ℕ) (before : List ℕ) (e : Expression) → r ≡ Read at free → take free s ≡ before ++ encode e → call ≡ isCall e
 
 -- the place of the expression that is read last
-pub record PlaceHere (s : List ℕ) (r : Answer) (place : ℕ) : Type 0 where
+pub record PlaceHere (s : List ℕ) (r : State) (place : ℕ) : Type 0 where
   pub here : (at free : ℕ) (before : List ℕ) (e : Expression) → r ≡ Read at free → take free s ≡ before ++ encode e → place ≡ placeOf e
 
 -- the words of an assignment after its first side, and of a local after its names

@@ -24,8 +24,8 @@ unfoldable pub sourceIn : (scratch : List ℕ) → (count size : ℕ) → Source
 sourceIn scratch count size = record { symbols = decoded count scratch; size = size }
 
 -- eight entries a symbol and 64 are enough for the symbols and the tree
-unfoldable pub unfit : (room count : ℕ) → Bool
-unfit room count = cond (ltb room (count * 8 + 64)) true (ltb (2 ^ 32 - 1) room)
+unfoldable pub tooShort : (room count : ℕ) → Bool
+tooShort room count = cond (ltb room (count * 8 + 64)) true (ltb (2 ^ 32 - 1) room)
 
 abbrev pub answerOf : Source → (count : ℕ) → Out Program → TreeRead
 answerOf src count (ok p next) = Read (count * 3 + length (encodeProgram p))
@@ -47,11 +47,11 @@ numbersBy src count (no number at) = record { number = number; value = placeAt s
 
 unfoldable pub treeNumbers : (scratch : List ℕ) → (count size : ℕ) → Numbers
 treeNumbers scratch count size =
-    cond (unfit (length scratch) count) (numbersOf TooShort) (numbersBy (sourceIn scratch count size) count (treeOf (sourceIn scratch count size)))
+    cond (tooShort (length scratch) count) (numbersOf TooShort) (numbersBy (sourceIn scratch count size) count (treeOf (sourceIn scratch count size)))
 
 unfoldable pub treeRead : (scratch : List ℕ) → (count size : ℕ) → TreeRead
 treeRead scratch count size =
-    cond (unfit (length scratch) count) TooShort (answerOf (sourceIn scratch count size) count (treeOf (sourceIn scratch count size)))
+    cond (tooShort (length scratch) count) TooShort (answerOf (sourceIn scratch count size) count (treeOf (sourceIn scratch count size)))
 
 -- these entries, and zeros up to so many
 abbrev pub padded : (room : ℕ) → List ℕ → List ℕ
@@ -64,7 +64,7 @@ leftBy count s (no number at) = padded (length s) (take (count * 3) s)
 -- what scratch holds at the end
 unfoldable pub treeLeft : (scratch : List ℕ) → (count size : ℕ) → List ℕ
 treeLeft scratch count size =
-    cond (unfit (length scratch) count) scratch (leftBy count scratch (treeOf (sourceIn scratch count size)))
+    cond (tooShort (length scratch) count) scratch (leftBy count scratch (treeOf (sourceIn scratch count size)))
 
 -- symbols and tree together take at most eight entries a symbol
 abbrev pub Within : (most : ℕ) → TreeRead → Type 0

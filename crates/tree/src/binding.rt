@@ -1,6 +1,6 @@
 // Which symbols stand where: how operators bind, and which symbols begin what (language's `Binding`).
 use crate::kinds::VEC;
-use crate::scratch::less;
+use crate::scratch::minus;
 ghost use Prim.Native.Nat.{_-_, _<_, _≤_};
 ghost use mathlib.Core.Path.{_≡_};
 ghost use mathlib.Core.Bool.{false, cond};
@@ -16,7 +16,7 @@ const RELATION: u32 = 3;
 
 const SHIFT: u32 = 4;
 
-// The rung of NOT, which has no dyadic operator.
+// The binding of NOT, which no dyadic operator has.
 pub(crate) const NEGATION: u32 = 5;
 
 // A letter for each kind of symbol, by what it may do. 1 2 3 4 6 7: a dyadic operator, by its binding (2 is also monadic);
@@ -99,7 +99,7 @@ pub(crate) fn right_of(binding: u32) -> u32
 pub(crate) fn further_most(binding: u32, n: usize) -> usize
     ensures { λ m. ⌜ m ≡ furtherMost binding n ⌝ }
 {
-    if binding == RELATION { 0 } else { less(n, 1) }
+    if binding == RELATION { 0 } else { minus(n, 1) }
 }
 
 pub(crate) fn is_guard(kind: u32) -> bool

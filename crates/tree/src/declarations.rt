@@ -18,16 +18,16 @@ use crate::parts::constant;
 use crate::parts::further_names;
 use crate::phrases::cmd;
 use crate::phrases::expr;
-use crate::scratch::Answer;
+use crate::scratch::State;
+use crate::scratch::begin_item;
 use crate::scratch::expect;
 use crate::scratch::free_of;
 use crate::scratch::kind_here;
-use crate::scratch::less;
-use crate::scratch::mark;
+use crate::scratch::minus;
 use crate::scratch::node;
 use crate::scratch::optional;
 use crate::scratch::refuse;
-use crate::scratch::seal;
+use crate::scratch::set_size;
 ghost use Prim.Native.Nat.{_+_, _-_, _<_};
 ghost use mathlib.Core.Path.{_≡_};
 ghost use mathlib.Core.Bool.{true};
@@ -40,30 +40,30 @@ ghost use Rattle.language.specs.Reader.{Source, the, optional, manyUpTo, moreUp
 ghost use Rattle.language.specs.Binding.{isDeclaration};
 ghost use Rattle.language.specs.Grammar as G;
 ghost use Rattle.tree.specs.Encoding.{item, encodeName, encodeNames, encodeItems, encodeFunctions, encodeProgram};
-ghost use Rattle.tree.specs.Reads.{Lies, Ready, Fits, KindHere, Goes, Puts, Passes, freeOf, Reading, Is};
+ghost use Rattle.tree.specs.Reads.{HoldsSymbols, Ready, LeavesRoom, KindHere, Follows, Prepends, Passes, freeOf, Reading, Encodes};
 ghost use Rattle.tree.specs.Between.{itemList, Bodies, functionList, declarationAfter, Declares};
 
 // Commands, brackets and expressions nest to 64 levels.
 const LEVELS: usize = 64;
 
 // name : constant, in GLOBAL; name = constant, in MANIFEST; as an item
-fn one_item(s: &mut [u32], n: usize, sign: u32, r: Answer) -> Answer
+fn one_item(s: &mut [u32], n: usize, sign: u32, r: State) -> State
     requires { ⌜ Ready 2 (now s) n r × (0 < sign) ⌝ }
-    ensures { λ a. ⌜ Reading 5 (G.item sign) (Puts encodeItems) (now (s .entry)) (now (s .exit)) n r a ⌝ }
+    ensures { λ a. ⌜ Reading 5 (G.item sign) (Prepends encodeItems) (now (s .entry)) (now (s .exit)) n r a ⌝ }
 {
     let lo = free_of(s, r);
-    let begun = mark(s, n, r, 0);
+    let begun = begin_item(s, n, r, 0);
     let name = a_name(s, n, begun);
     let middle = expect(s, n, name, sign);
     let a = constant(s, n, LEVELS, middle);
-    seal(s, n, a, lo);
+    set_size(s, n, a, lo);
     a
 }
 
 // { ; item } [;] $)
-fn further_items(s: &mut [u32], n: usize, sign: u32, r: Answer) -> Answer
+fn further_items(s: &mut [u32], n: usize, sign: u32, r: State) -> State
     requires { ⌜ Ready 0 (now s) n r × (0 < sign) ⌝ }
-    ensures { λ a. ⌜ Reading 5 (moreUpTo n [] (G.item sign)) (Is encodeItems) (now (s .entry)) (now (s .exit)) n r a ⌝ }
+    ensures { λ a. ⌜ Reading 5 (moreUpTo n [] (G.item sign)) (Encodes encodeItems) (now (s .entry)) (now (s .exit)) n r a ⌝ }
 {
     let mut turns = n;
     let mut a = r;
@@ -84,9 +84,9 @@ fn further_items(s: &mut [u32], n: usize, sign: u32, r: Answer) -> Answer
 }
 
 // $( item { ; item } [;] $)
-fn item_list(s: &mut [u32], n: usize, sign: u32, r: Answer) -> Answer
+fn item_list(s: &mut [u32], n: usize, sign: u32, r: State) -> State
     requires { ⌜ Ready 0 (now s) n r × (0 < sign) ⌝ }
-    ensures { λ a. ⌜ Reading 10 (itemList sign) (Is encodeItems) (now (s .entry)) (now (s .exit)) n r a ⌝ }
+    ensures { λ a. ⌜ Reading 10 (itemList sign) (Encodes encodeItems) (now (s .entry)) (now (s .exit)) n r a ⌝ }
 {
     let begin = expect(s, n, r, BEGIN);
     let first = one_item(s, n, sign, begin);
@@ -94,9 +94,9 @@ fn item_list(s: &mut [u32], n: usize, sign: u32, r: Answer) -> Answer
 }
 
 // [name {, name}] )
-fn parameters(s: &mut [u32], n: usize, r: Answer) -> Answer
+fn parameters(s: &mut [u32], n: usize, r: State) -> State
     requires { ⌜ Ready 0 (now s) n r ⌝ }
-    ensures { λ a. ⌜ Reading 5 (upToClose [] G.parameter) (Is encodeNames) (now (s .entry)) (now (s .exit)) n r a ⌝ }
+    ensures { λ a. ⌜ Reading 5 (upToClose [] G.parameter) (Encodes encodeNames) (now (s .entry)) (now (s .exit)) n r a ⌝ }
 {
     let kind = kind_here(s, n, r);
     if kind == CLOSE {
@@ -108,9 +108,9 @@ fn parameters(s: &mut [u32], n: usize, r: Answer) -> Answer
 }
 
 // = expression, or BE command, after the name, which begins at start, and the parameters
-fn function_body(s: &mut [u32], n: usize, start: usize, size: u32, r: Answer) -> Answer
+fn function_body(s: &mut [u32], n: usize, start: usize, size: u32, r: State) -> State
     requires { ⌜ Ready 0 (now s) n r ⌝ }
-    ensures { λ a. ⌜ Fits 1 (now (s .entry)) (now (s .exit)) n r a × ((src : Source) → Lies src n (now (s .entry)) → Passes r a × ((name : T.Name) (names : List T.Name) → freeOf (length (now (s .entry))) r ≡ start + (length (encodeName name) + length (encodeNames names)) → size ≡ length (encodeNames names) → Goes (G.body src) (Bodies name names) (now (s .entry)) (now (s .exit)) r a)) ⌝ }
+    ensures { λ a. ⌜ LeavesRoom 1 (now (s .entry)) (now (s .exit)) n r a × ((src : Source) → HoldsSymbols src n (now (s .entry)) → Passes r a × ((name : T.Name) (names : List T.Name) → freeOf (length (now (s .entry))) r ≡ start + (length (encodeName name) + length (encodeNames names)) → size ≡ length (encodeNames names) → Follows (G.body src) (Bodies name names) (now (s .entry)) (now (s .exit)) r a)) ⌝ }
 {
     let kind = kind_here(s, n, r);
     if kind == EQUAL {
@@ -124,26 +124,26 @@ fn function_body(s: &mut [u32], n: usize, start: usize, size: u32, r: Answer) ->
 }
 
 // name ( [name {, name}] ) ( = expression | BE command ), as an item
-fn function(s: &mut [u32], n: usize, r: Answer) -> Answer
+fn function(s: &mut [u32], n: usize, r: State) -> State
     requires { ⌜ Ready 2 (now s) n r ⌝ }
-    ensures { λ a. ⌜ Reading 5 G.function (Puts encodeFunctions) (now (s .entry)) (now (s .exit)) n r a ⌝ }
+    ensures { λ a. ⌜ Reading 5 G.function (Prepends encodeFunctions) (now (s .entry)) (now (s .exit)) n r a ⌝ }
 {
     let lo = free_of(s, r);
-    let begun = mark(s, n, r, 0);
+    let begun = begin_item(s, n, r, 0);
     let start = free_of(s, begun);
     let name = a_name(s, n, begun);
     let open = expect(s, n, name, OPEN);
     let parameters = parameters(s, n, open);
-    let size = less(free_of(s, parameters), free_of(s, open));
+    let size = minus(free_of(s, parameters), free_of(s, open));
     let a = function_body(s, n, start, size as u32, parameters);
-    seal(s, n, a, lo);
+    set_size(s, n, a, lo);
     a
 }
 
 // { AND function }
-fn further_functions(s: &mut [u32], n: usize, r: Answer) -> Answer
+fn further_functions(s: &mut [u32], n: usize, r: State) -> State
     requires { ⌜ Ready 0 (now s) n r ⌝ }
-    ensures { λ a. ⌜ Reading 0 (manyUpTo n [] (λ kind. eqb kind K.AND) G.andFunction) (Is encodeFunctions) (now (s .entry)) (now (s .exit)) n r a ⌝ }
+    ensures { λ a. ⌜ Reading 0 (manyUpTo n [] (λ kind. eqb kind K.AND) G.andFunction) (Encodes encodeFunctions) (now (s .entry)) (now (s .exit)) n r a ⌝ }
 {
     let mut turns = n;
     let mut a = r;
@@ -160,31 +160,31 @@ fn further_functions(s: &mut [u32], n: usize, r: Answer) -> Answer
 }
 
 // function { AND function }
-fn functions(s: &mut [u32], n: usize, r: Answer) -> Answer
+fn functions(s: &mut [u32], n: usize, r: State) -> State
     requires { ⌜ Ready 2 (now s) n r ⌝ }
-    ensures { λ a. ⌜ Reading 5 functionList (Is encodeFunctions) (now (s .entry)) (now (s .exit)) n r a ⌝ }
+    ensures { λ a. ⌜ Reading 5 functionList (Encodes encodeFunctions) (now (s .entry)) (now (s .exit)) n r a ⌝ }
 {
     let first = function(s, n, r);
     further_functions(s, n, first)
 }
 
 // declaration [;], as an item
-fn declared(s: &mut [u32], n: usize, kind: u32, r: Answer) -> Answer
+fn declared(s: &mut [u32], n: usize, kind: u32, r: State) -> State
     requires { ⌜ Ready 0 (now s) n r × (0 < kind) ⌝ }
-    ensures { λ a. ⌜ Fits 3 (now (s .entry)) (now (s .exit)) n r a × ((src : Source) → Lies src n (now (s .entry)) → KindHere src r kind → isDeclaration kind ≡ true → Goes (G.declared src) (Puts encodeProgram) (now (s .entry)) (now (s .exit)) r a) ⌝ }
+    ensures { λ a. ⌜ LeavesRoom 3 (now (s .entry)) (now (s .exit)) n r a × ((src : Source) → HoldsSymbols src n (now (s .entry)) → KindHere src r kind → isDeclaration kind ≡ true → Follows (G.declared src) (Prepends encodeProgram) (now (s .entry)) (now (s .exit)) r a) ⌝ }
 {
     let lo = free_of(s, r);
     let word = expect(s, n, r, kind);
-    let begun = mark(s, n, word, kind);
+    let begun = begin_item(s, n, word, kind);
     let a = declaration(s, n, kind, begun);
-    seal(s, n, a, lo);
+    set_size(s, n, a, lo);
     optional(s, n, SEMICOLON, a)
 }
 
 // What a declaration's word declares.
-fn declaration(s: &mut [u32], n: usize, kind: u32, r: Answer) -> Answer
+fn declaration(s: &mut [u32], n: usize, kind: u32, r: State) -> State
     requires { ⌜ Ready 2 (now s) n r ⌝ }
-    ensures { λ a. ⌜ Fits 0 (now (s .entry)) (now (s .exit)) n r a × ((src : Source) → Lies src n (now (s .entry)) → isDeclaration kind ≡ true → Goes (declarationAfter kind src) (Declares kind) (now (s .entry)) (now (s .exit)) r a) ⌝ }
+    ensures { λ a. ⌜ LeavesRoom 0 (now (s .entry)) (now (s .exit)) n r a × ((src : Source) → HoldsSymbols src n (now (s .entry)) → isDeclaration kind ≡ true → Follows (declarationAfter kind src) (Declares kind) (now (s .entry)) (now (s .exit)) r a) ⌝ }
 {
     match kind {
         GLOBAL => item_list(s, n, COLON, r),
@@ -194,9 +194,9 @@ fn declaration(s: &mut [u32], n: usize, kind: u32, r: Answer) -> Answer
 }
 
 // { declaration [;] }
-fn declarations(s: &mut [u32], n: usize, r: Answer) -> Answer
+fn declarations(s: &mut [u32], n: usize, r: State) -> State
     requires { ⌜ Ready 0 (now s) n r ⌝ }
-    ensures { λ a. ⌜ Reading 0 (manyUpTo n [] isDeclaration G.declared) (Is encodeProgram) (now (s .entry)) (now (s .exit)) n r a ⌝ }
+    ensures { λ a. ⌜ Reading 0 (manyUpTo n [] isDeclaration G.declared) (Encodes encodeProgram) (now (s .entry)) (now (s .exit)) n r a ⌝ }
 {
     let mut turns = n;
     let mut a = r;
@@ -213,9 +213,9 @@ fn declarations(s: &mut [u32], n: usize, r: Answer) -> Answer
 }
 
 // { declaration [;] }, and nothing after it
-pub(crate) fn program(s: &mut [u32], n: usize, r: Answer) -> Answer
+pub(crate) fn program(s: &mut [u32], n: usize, r: State) -> State
     requires { ⌜ Ready 0 (now s) n r ⌝ }
-    ensures { λ a. ⌜ Reading 0 G.program (Is encodeProgram) (now (s .entry)) (now (s .exit)) n r a ⌝ }
+    ensures { λ a. ⌜ Reading 0 G.program (Encodes encodeProgram) (now (s .entry)) (now (s .exit)) n r a ⌝ }
 {
     let a = declarations(s, n, r);
     let kind = kind_here(s, n, a);

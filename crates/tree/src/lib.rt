@@ -10,13 +10,13 @@ mod phrases;
 mod scratch;
 
 use crate::declarations::program;
-use crate::scratch::Answer;
+use crate::scratch::State;
 ghost use Prim.Native.Nat.{_*_, _-_, _≤_};
 ghost use mathlib.Core.Path.{_≡_};
 ghost use mathlib.Core.List.{_++_};
 ghost use lib.ListN.{length, take, replicate};
 ghost use Rattle.language.specs.Reader.{placeAt};
-ghost use Rattle.tree.specs.Read.{sourceIn, unfit, ReadsTree};
+ghost use Rattle.tree.specs.Read.{sourceIn, tooShort, ReadsTree};
 
 // The tree's end, or a refusal's number and place.
 pub enum TreeRead {
@@ -33,8 +33,8 @@ fn place_at(s: &[u32], n: usize, size: usize, at: usize) -> usize
     if at < n { s[at * 3 + 2] as usize } else { size }
 }
 
-fn unfit(s: &[u32], count: usize) -> bool
-    ensures { λ b. ⌜ b ≡ unfit (length (now (s .entry))) count ⌝ }
+fn too_short(s: &[u32], count: usize) -> bool
+    ensures { λ b. ⌜ b ≡ tooShort (length (now (s .entry))) count ⌝ }
 {
     let room = s.len();
     if 4294967295 < room {
@@ -63,16 +63,16 @@ fn clear_from(s: &mut [u32], from: usize)
 pub fn read_tree(scratch: &mut [u32], count: usize, size: usize) -> TreeRead
     ensures { λ r. ⌜ ReadsTree (now (scratch .entry)) count size r (now (scratch .exit)) ⌝ }
 {
-    if unfit(scratch, count) {
+    if too_short(scratch, count) {
         return TreeRead::TooShort;
     }
     let start = count * 3;
-    match program(scratch, count, Answer::Read(0, start)) {
-        Answer::Read(_, free) => {
+    match program(scratch, count, State::Read(0, start)) {
+        State::Read(_, free) => {
             clear_from(scratch, free);
             TreeRead::Read(free)
         }
-        Answer::Refused(number, at) => {
+        State::Refused(number, at) => {
             let place = place_at(scratch, count, size, at);
             clear_from(scratch, start);
             TreeRead::Refused { number, place }

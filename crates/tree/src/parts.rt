@@ -12,16 +12,16 @@ use crate::kinds::NUMBER;
 use crate::kinds::STRING;
 use crate::kinds::TRUE;
 use crate::kinds::VEC;
-use crate::scratch::Answer;
+use crate::scratch::State;
+use crate::scratch::begin_item;
 use crate::scratch::expect;
 use crate::scratch::free_of;
 use crate::scratch::kind_here;
-use crate::scratch::less;
-use crate::scratch::mark;
+use crate::scratch::minus;
 use crate::scratch::node;
 use crate::scratch::place_here;
 use crate::scratch::refuse;
-use crate::scratch::seal;
+use crate::scratch::set_size;
 use crate::scratch::value_here;
 ghost use Prim.Native.Nat.{ℕ, _+_, _-_, _<_};
 ghost use mathlib.Core.Path.{_≡_};
@@ -35,13 +35,13 @@ ghost use Rattle.language.specs.Expressions as E;
 ghost use Rattle.language.specs.Grammar.{within, readers};
 ghost use Rattle.language.specs.Commands as C;
 ghost use Rattle.tree.specs.Encoding.{closed, leaf, encode, encodeName, encodeNames, encodeBy, encodeLabels, encodeUnlabelled, encodeConstant};
-ghost use Rattle.tree.specs.Reads.{Lies, Ready, Fits, Grows, KindHere, Goes, Puts, Reads, Passes, freeOf, Reading, ReadingAt, Is};
+ghost use Rattle.tree.specs.Reads.{HoldsSymbols, Ready, LeavesRoom, TakesRoom, KindHere, Follows, Prepends, Reads, Passes, freeOf, Reading, ReadingAt, Encodes};
 ghost use Rattle.tree.specs.Between.{atomic, leaving, aFurtherName, Gives};
 
 // A symbol that is a leaf of the tree.
-fn leaf(s: &mut [u32], n: usize, r: Answer, kind: u32, value: u32, tag: u32) -> Answer
+fn leaf(s: &mut [u32], n: usize, r: State, kind: u32, value: u32, tag: u32) -> State
     requires { ⌜ Ready 0 (now s) n r × (0 < kind) ⌝ }
-    ensures { λ a. ⌜ Reading 1 (the kind) (Is (λ place. leaf value place tag)) (now (s .entry)) (now (s .exit)) n r a ⌝ }
+    ensures { λ a. ⌜ Reading 1 (the kind) (Encodes (λ place. leaf value place tag)) (now (s .entry)) (now (s .exit)) n r a ⌝ }
 {
     let place = place_here(s, n, r);
     let a = expect(s, n, r, kind);
@@ -50,9 +50,9 @@ fn leaf(s: &mut [u32], n: usize, r: Answer, kind: u32, value: u32, tag: u32) -> 
 }
 
 // number | string | TRUE | FALSE | name
-pub(crate) fn atom(s: &mut [u32], n: usize, r: Answer, kind: u32) -> Answer
+pub(crate) fn atom(s: &mut [u32], n: usize, r: State, kind: u32) -> State
     requires { ⌜ Ready 0 (now s) n r ⌝ }
-    ensures { λ a. ⌜ ReadingAt kind 1 atomic (Is encode) (now (s .entry)) (now (s .exit)) n r a ⌝ }
+    ensures { λ a. ⌜ ReadingAt kind 1 atomic (Encodes encode) (now (s .entry)) (now (s .exit)) n r a ⌝ }
 {
     let value = value_here(s, n, r);
     match kind {
@@ -66,17 +66,17 @@ pub(crate) fn atom(s: &mut [u32], n: usize, r: Answer, kind: u32) -> Answer
 }
 
 // BREAK | LOOP | ENDCASE | RETURN | FINISH
-pub(crate) fn leave(s: &mut [u32], n: usize, r: Answer, kind: u32) -> Answer
+pub(crate) fn leave(s: &mut [u32], n: usize, r: State, kind: u32) -> State
     requires { ⌜ Ready 0 (now s) n r × (0 < kind) ⌝ }
-    ensures { λ a. ⌜ ReadingAt kind 1 leaving (Is encodeUnlabelled) (now (s .entry)) (now (s .exit)) n r a ⌝ }
+    ensures { λ a. ⌜ ReadingAt kind 1 leaving (Encodes encodeUnlabelled) (now (s .entry)) (now (s .exit)) n r a ⌝ }
 {
     leaf(s, n, r, kind, 0, kind)
 }
 
 // [number | TRUE | FALSE | name], as a constant.
-fn positive(s: &mut [u32], n: usize, r: Answer, kind: u32) -> Answer
+fn positive(s: &mut [u32], n: usize, r: State, kind: u32) -> State
     requires { ⌜ Ready 0 (now s) n r ⌝ }
-    ensures { λ a. ⌜ ReadingAt kind 1 E.positive (Is encodeConstant) (now (s .entry)) (now (s .exit)) n r a ⌝ }
+    ensures { λ a. ⌜ ReadingAt kind 1 E.positive (Encodes encodeConstant) (now (s .entry)) (now (s .exit)) n r a ⌝ }
 {
     let value = value_here(s, n, r);
     match kind {
@@ -88,9 +88,9 @@ fn positive(s: &mut [u32], n: usize, r: Answer, kind: u32) -> Answer
 }
 
 // A number after its minus, which stands at that place.
-fn negated(s: &mut [u32], n: usize, r: Answer, kind: u32, value: u32, place: u32) -> Answer
+fn negated(s: &mut [u32], n: usize, r: State, kind: u32, value: u32, place: u32) -> State
     requires { ⌜ Ready 0 (now s) n r × (0 < kind) ⌝ }
-    ensures { λ a. ⌜ Reading 1 (the kind) (Is (λ _. leaf value place K.MINUS)) (now (s .entry)) (now (s .exit)) n r a ⌝ }
+    ensures { λ a. ⌜ Reading 1 (the kind) (Encodes (λ _. leaf value place K.MINUS)) (now (s .entry)) (now (s .exit)) n r a ⌝ }
 {
     let a = expect(s, n, r, kind);
     let lo = free_of(s, a);
@@ -98,9 +98,9 @@ fn negated(s: &mut [u32], n: usize, r: Answer, kind: u32, value: u32, place: u32
 }
 
 // A name after its minus, which stands at that place.
-fn negated_name(s: &mut [u32], n: usize, r: Answer, value: u32, place: u32) -> Answer
+fn negated_name(s: &mut [u32], n: usize, r: State, value: u32, place: u32) -> State
     requires { ⌜ Ready 3 (now s) n r ⌝ }
-    ensures { λ a. ⌜ Grows 3 (now (s .entry)) (now (s .exit)) n r a × ((src : Source) → Lies src n (now (s .entry)) → Reads (the K.NAME src) (λ at. closed (leaf value at K.NAME) 0 place K.MINUS) (now (s .entry)) (now (s .exit)) r a) ⌝ }
+    ensures { λ a. ⌜ TakesRoom 3 (now (s .entry)) (now (s .exit)) n r a × ((src : Source) → HoldsSymbols src n (now (s .entry)) → Reads (the K.NAME src) (λ at. closed (leaf value at K.NAME) 0 place K.MINUS) (now (s .entry)) (now (s .exit)) r a) ⌝ }
 {
     let lo = free_of(s, r);
     let name = leaf(s, n, r, NAME, value, NAME);
@@ -108,9 +108,9 @@ fn negated_name(s: &mut [u32], n: usize, r: Answer, value: u32, place: u32) -> A
 }
 
 // - (number | TRUE | FALSE | name): the minus opens a level.
-fn negative(s: &mut [u32], n: usize, levels: usize, r: Answer) -> Answer
+fn negative(s: &mut [u32], n: usize, levels: usize, r: State) -> State
     requires { ⌜ Ready 0 (now s) n r ⌝ }
-    ensures { λ a. ⌜ Reading 1 (E.negative (within levels)) (Is encodeConstant) (now (s .entry)) (now (s .exit)) n r a ⌝ }
+    ensures { λ a. ⌜ Reading 1 (E.negative (within levels)) (Encodes encodeConstant) (now (s .entry)) (now (s .exit)) n r a ⌝ }
 {
     if levels == 0 {
         return refuse(s, n, r, 7);
@@ -128,9 +128,9 @@ fn negative(s: &mut [u32], n: usize, levels: usize, r: Answer) -> Answer
 }
 
 // A constant.
-pub(crate) fn constant(s: &mut [u32], n: usize, levels: usize, r: Answer) -> Answer
+pub(crate) fn constant(s: &mut [u32], n: usize, levels: usize, r: State) -> State
     requires { ⌜ Ready 0 (now s) n r ⌝ }
-    ensures { λ a. ⌜ Reading 1 (E.constant (within levels)) (Is encodeConstant) (now (s .entry)) (now (s .exit)) n r a ⌝ }
+    ensures { λ a. ⌜ Reading 1 (E.constant (within levels)) (Encodes encodeConstant) (now (s .entry)) (now (s .exit)) n r a ⌝ }
 {
     let kind = kind_here(s, n, r);
     if kind == MINUS {
@@ -141,18 +141,18 @@ pub(crate) fn constant(s: &mut [u32], n: usize, levels: usize, r: Answer) -> Ans
 }
 
 // A name.
-pub(crate) fn a_name(s: &mut [u32], n: usize, r: Answer) -> Answer
+pub(crate) fn a_name(s: &mut [u32], n: usize, r: State) -> State
     requires { ⌜ Ready 0 (now s) n r ⌝ }
-    ensures { λ a. ⌜ Reading 1 aName (Is encodeName) (now (s .entry)) (now (s .exit)) n r a ⌝ }
+    ensures { λ a. ⌜ Reading 1 aName (Encodes encodeName) (now (s .entry)) (now (s .exit)) n r a ⌝ }
 {
     let value = value_here(s, n, r);
     leaf(s, n, r, NAME, value, NAME)
 }
 
 // {, name}
-pub(crate) fn further_names(s: &mut [u32], n: usize, r: Answer) -> Answer
+pub(crate) fn further_names(s: &mut [u32], n: usize, r: State) -> State
     requires { ⌜ Ready 0 (now s) n r ⌝ }
-    ensures { λ a. ⌜ Reading 0 (manyUpTo n [] isComma aFurtherName) (Is encodeNames) (now (s .entry)) (now (s .exit)) n r a ⌝ }
+    ensures { λ a. ⌜ Reading 0 (manyUpTo n [] isComma aFurtherName) (Encodes encodeNames) (now (s .entry)) (now (s .exit)) n r a ⌝ }
 {
     let mut turns = n;
     let mut a = r;
@@ -169,42 +169,42 @@ pub(crate) fn further_names(s: &mut [u32], n: usize, r: Answer) -> Answer
 }
 
 // CASE constant :
-fn case_label(s: &mut [u32], n: usize, levels: usize, r: Answer) -> Answer
+fn case_label(s: &mut [u32], n: usize, levels: usize, r: State) -> State
     requires { ⌜ Ready 0 (now s) n r ⌝ }
-    ensures { λ a. ⌜ ReadingAt K.CASE 4 (C.label (within levels)) (Puts encodeLabels) (now (s .entry)) (now (s .exit)) n r a ⌝ }
+    ensures { λ a. ⌜ ReadingAt K.CASE 4 (C.label (within levels)) (Prepends encodeLabels) (now (s .entry)) (now (s .exit)) n r a ⌝ }
 {
     let lo = free_of(s, r);
     let place = place_here(s, n, r);
     let word = expect(s, n, r, CASE);
-    let begun = mark(s, n, word, CASE);
+    let begun = begin_item(s, n, word, CASE);
     let start = free_of(s, begun);
     let value = constant(s, n, levels, begun);
     let colon = expect(s, n, value, COLON);
     let a = node(s, n, colon, start, 0, place, CASE);
-    seal(s, n, a, lo);
+    set_size(s, n, a, lo);
     a
 }
 
 // DEFAULT :
-fn default_label(s: &mut [u32], n: usize, levels: usize, r: Answer) -> Answer
+fn default_label(s: &mut [u32], n: usize, levels: usize, r: State) -> State
     requires { ⌜ Ready 0 (now s) n r ⌝ }
-    ensures { λ a. ⌜ Fits 4 (now (s .entry)) (now (s .exit)) n r a × ((src : Source) → Lies src n (now (s .entry)) → (kind : ℕ) → KindHere src r kind → (kind ≡ K.CASE → ⊥) → Goes (C.label (within levels) src) (Puts encodeLabels) (now (s .entry)) (now (s .exit)) r a) ⌝ }
+    ensures { λ a. ⌜ LeavesRoom 4 (now (s .entry)) (now (s .exit)) n r a × ((src : Source) → HoldsSymbols src n (now (s .entry)) → (kind : ℕ) → KindHere src r kind → (kind ≡ K.CASE → ⊥) → Follows (C.label (within levels) src) (Prepends encodeLabels) (now (s .entry)) (now (s .exit)) r a) ⌝ }
 {
     let lo = free_of(s, r);
     let place = place_here(s, n, r);
     let word = expect(s, n, r, DEFAULT);
-    let begun = mark(s, n, word, DEFAULT);
+    let begun = begin_item(s, n, word, DEFAULT);
     let start = free_of(s, begun);
     let colon = expect(s, n, begun, COLON);
     let a = node(s, n, colon, start, 0, place, DEFAULT);
-    seal(s, n, a, lo);
+    set_size(s, n, a, lo);
     a
 }
 
 // CASE constant : | DEFAULT :
-pub(crate) fn label(s: &mut [u32], n: usize, levels: usize, kind: u32, r: Answer) -> Answer
+pub(crate) fn label(s: &mut [u32], n: usize, levels: usize, kind: u32, r: State) -> State
     requires { ⌜ Ready 0 (now s) n r ⌝ }
-    ensures { λ a. ⌜ ReadingAt kind 4 (C.label (within levels)) (Puts encodeLabels) (now (s .entry)) (now (s .exit)) n r a ⌝ }
+    ensures { λ a. ⌜ ReadingAt kind 4 (C.label (within levels)) (Prepends encodeLabels) (now (s .entry)) (now (s .exit)) n r a ⌝ }
 {
     if kind == CASE {
         case_label(s, n, levels, r)
@@ -214,11 +214,11 @@ pub(crate) fn label(s: &mut [u32], n: usize, levels: usize, kind: u32, r: Answer
 }
 
 // The labels after the first.
-pub(crate) fn labels(s: &mut [u32], n: usize, levels: usize, r: Answer) -> Answer
+pub(crate) fn labels(s: &mut [u32], n: usize, levels: usize, r: State) -> State
     requires { ⌜ Ready 0 (now s) n r ⌝ }
-    ensures { λ a. ⌜ Reading 0 (manyUpTo (n - 1) [] isLabel (C.label (within levels))) (Is encodeLabels) (now (s .entry)) (now (s .exit)) n r a ⌝ }
+    ensures { λ a. ⌜ Reading 0 (manyUpTo (n - 1) [] isLabel (C.label (within levels))) (Encodes encodeLabels) (now (s .entry)) (now (s .exit)) n r a ⌝ }
 {
-    let mut turns = less(n, 1);
+    let mut turns = minus(n, 1);
     let mut a = r;
     while turns > 0 {
         let kind = kind_here(s, n, a);
@@ -233,9 +233,9 @@ pub(crate) fn labels(s: &mut [u32], n: usize, levels: usize, r: Answer) -> Answe
 }
 
 // [BY constant]
-pub(crate) fn optional_by(s: &mut [u32], n: usize, levels: usize, r: Answer) -> Answer
+pub(crate) fn optional_by(s: &mut [u32], n: usize, levels: usize, r: State) -> State
     requires { ⌜ Ready 0 (now s) n r ⌝ }
-    ensures { λ a. ⌜ Reading 0 (C.optionalBy (readers (within levels))) (Is encodeBy) (now (s .entry)) (now (s .exit)) n r a ⌝ }
+    ensures { λ a. ⌜ Reading 0 (C.optionalBy (readers (within levels))) (Encodes encodeBy) (now (s .entry)) (now (s .exit)) n r a ⌝ }
 {
     let kind = kind_here(s, n, r);
     if kind == BY {
@@ -246,11 +246,11 @@ pub(crate) fn optional_by(s: &mut [u32], n: usize, levels: usize, r: Answer) -> 
 }
 
 // VEC constant, after the name, which begins at start.
-pub(crate) fn vector(s: &mut [u32], n: usize, levels: usize, start: usize, r: Answer) -> Answer
+pub(crate) fn vector(s: &mut [u32], n: usize, levels: usize, start: usize, r: State) -> State
     requires { ⌜ Ready 0 (now s) n r ⌝ }
-    ensures { λ a. ⌜ Fits 2 (now (s .entry)) (now (s .exit)) n r a × ((src : Source) → Lies src n (now (s .entry)) → Passes r a × ((name : T.Name) → freeOf (length (now (s .entry))) r ≡ start + length (encodeName name) → Goes (C.vector (readers (within levels)) name src) (Gives (name ∷ [])) (now (s .entry)) (now (s .exit)) r a)) ⌝ }
+    ensures { λ a. ⌜ LeavesRoom 2 (now (s .entry)) (now (s .exit)) n r a × ((src : Source) → HoldsSymbols src n (now (s .entry)) → Passes r a × ((name : T.Name) → freeOf (length (now (s .entry))) r ≡ start + length (encodeName name) → Follows (C.vector (readers (within levels)) name src) (Gives (name ∷ [])) (now (s .entry)) (now (s .exit)) r a)) ⌝ }
 {
-    let size = less(free_of(s, r), start);
+    let size = minus(free_of(s, r), start);
     let word = expect(s, n, r, VEC);
     let length = constant(s, n, levels, word);
     node(s, n, length, start, size as u32, 0, VEC)

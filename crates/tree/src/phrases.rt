@@ -51,20 +51,20 @@ use crate::parts::labels;
 use crate::parts::leave;
 use crate::parts::optional_by;
 use crate::parts::vector;
-use crate::scratch::Answer;
+use crate::scratch::State;
+use crate::scratch::begin_item;
 use crate::scratch::close_item;
 use crate::scratch::expect;
 use crate::scratch::free_of;
 use crate::scratch::is_call;
 use crate::scratch::kind_here;
-use crate::scratch::less;
-use crate::scratch::mark;
+use crate::scratch::minus;
 use crate::scratch::node;
 use crate::scratch::optional;
 use crate::scratch::place_here;
 use crate::scratch::place_of;
 use crate::scratch::refuse;
-use crate::scratch::seal;
+use crate::scratch::set_size;
 use crate::scratch::suffixed_kind;
 ghost use Prim.Native.Nat.{_+_, _-_, _<_, _≤_};
 ghost use mathlib.Core.Path.{_≡_};
@@ -81,26 +81,26 @@ ghost use Rattle.language.specs.Expressions as E;
 ghost use Rattle.language.specs.Grammar.{within, readers};
 ghost use Rattle.language.specs.Commands as C;
 ghost use Rattle.tree.specs.Encoding.{item, encode, encodeNames, encodeExpressions, encodeOperations, encodeCommand, encodeCommands, encodeUnlabelled, encodeRepeats, encodeLocals};
-ghost use Rattle.tree.specs.Reads.{Lies, Ready, Fits, Grows, KindHere, Goes, Puts, Reads, Passes, freeOf, Reading, ReadingAt, Is};
-ghost use Rattle.tree.specs.Between.{PutsSuffix, PutsOne, furtherMost, anArgument, aFurther, repeatedOnly, encodeRepeatedOnly, bodyAfter, Ended, Counted, After, Gives};
+ghost use Rattle.tree.specs.Reads.{HoldsSymbols, Ready, LeavesRoom, TakesRoom, KindHere, Follows, Prepends, Reads, Passes, freeOf, Reading, ReadingAt, Encodes};
+ghost use Rattle.tree.specs.Between.{PrependsSuffix, PrependsOne, furtherMost, anArgument, aFurther, repeatedOnly, encodeRepeatedOnly, bodyAfter, Ended, Counted, After, Gives};
 
 // What follows the first suffix: where it ends, and whether the last suffix is a call.
 struct SuffixesRead {
-    end: Answer,
+    end: State,
     call: bool,
 }
 
 // Expressions after the first of a list: where they end, and how many they are.
 struct FurtherRead {
-    end: Answer,
+    end: State,
     count: usize,
 }
 
-// An expression whose dyadic operators bind no more loosely than that. At the rung of NOT stands NOT and its operand, or a shift
+// An expression whose dyadic operators bind no more loosely than that. At the binding of NOT stands NOT and its operand, or a shift
 // expression.
-pub(crate) fn expr(s: &mut [u32], n: usize, levels: usize, binding: u32, r: Answer) -> Answer
+pub(crate) fn expr(s: &mut [u32], n: usize, levels: usize, binding: u32, r: State) -> State
     requires { ⌜ Ready 0 (now s) n r × (binding ≤ B.LOOSEST) ⌝ }
-    ensures { λ a. ⌜ Reading 1 (E.expression (within levels) binding) (Is encode) (now (s .entry)) (now (s .exit)) n r a ⌝ }
+    ensures { λ a. ⌜ Reading 1 (E.expression (within levels) binding) (Encodes encode) (now (s .entry)) (now (s .exit)) n r a ⌝ }
 {
     if binding == 0 {
         return term(s, n, levels, r);
@@ -118,7 +118,7 @@ pub(crate) fn expr(s: &mut [u32], n: usize, levels: usize, binding: u32, r: Answ
     if binding_of(kind) != binding {
         return left;
     }
-    let size = less(free_of(s, left), lo);
+    let size = minus(free_of(s, left), lo);
     let place = place_of(s, n, left);
     let right = right_of(binding);
     let first = op(s, n, levels, right, kind, left);
@@ -127,22 +127,22 @@ pub(crate) fn expr(s: &mut [u32], n: usize, levels: usize, binding: u32, r: Answ
 }
 
 // operator operand
-fn op(s: &mut [u32], n: usize, levels: usize, right: u32, kind: u32, r: Answer) -> Answer
+fn op(s: &mut [u32], n: usize, levels: usize, right: u32, kind: u32, r: State) -> State
     requires { ⌜ Ready 0 (now s) n r × (right ≤ B.LOOSEST) × (0 < kind) ⌝ }
-    ensures { λ a. ⌜ ReadingAt kind 4 (E.operation (E.expression (within levels) right)) (Puts encodeOperations) (now (s .entry)) (now (s .exit)) n r a ⌝ }
+    ensures { λ a. ⌜ ReadingAt kind 4 (E.operation (E.expression (within levels) right)) (Prepends encodeOperations) (now (s .entry)) (now (s .exit)) n r a ⌝ }
 {
     let lo = free_of(s, r);
     let operator = expect(s, n, r, kind);
-    let begun = mark(s, n, operator, kind);
+    let begun = begin_item(s, n, operator, kind);
     let a = expr(s, n, levels, right, begun);
-    seal(s, n, a, lo);
+    set_size(s, n, a, lo);
     a
 }
 
 // The operations after the first: there is at most one relation.
-fn run(s: &mut [u32], n: usize, levels: usize, binding: u32, right: u32, r: Answer) -> Answer
+fn run(s: &mut [u32], n: usize, levels: usize, binding: u32, right: u32, r: State) -> State
     requires { ⌜ Ready 0 (now s) n r × (right ≤ B.LOOSEST) × (0 < binding) ⌝ }
-    ensures { λ a. ⌜ Reading 0 (manyUpTo (furtherMost binding n) T.noOperations (λ kind. eqb (bindingOf kind) binding) (E.operation (E.expression (within levels) right))) (Is encodeOperations) (now (s .entry)) (now (s .exit)) n r a ⌝ }
+    ensures { λ a. ⌜ Reading 0 (manyUpTo (furtherMost binding n) T.noOperations (λ kind. eqb (bindingOf kind) binding) (E.operation (E.expression (within levels) right))) (Encodes encodeOperations) (now (s .entry)) (now (s .exit)) n r a ⌝ }
 {
     let mut turns = further_most(binding, n);
     let mut a = r;
@@ -158,9 +158,9 @@ fn run(s: &mut [u32], n: usize, levels: usize, binding: u32, right: u32, r: Answ
 }
 
 // An operand of the operators that bind tightest.
-fn term(s: &mut [u32], n: usize, levels: usize, r: Answer) -> Answer
+fn term(s: &mut [u32], n: usize, levels: usize, r: State) -> State
     requires { ⌜ Ready 0 (now s) n r ⌝ }
-    ensures { λ a. ⌜ Reading 1 (E.operand (within levels)) (Is encode) (now (s .entry)) (now (s .exit)) n r a ⌝ }
+    ensures { λ a. ⌜ Reading 1 (E.operand (within levels)) (Encodes encode) (now (s .entry)) (now (s .exit)) n r a ⌝ }
 {
     let kind = kind_here(s, n, r);
     if is_monadic(kind) {
@@ -171,9 +171,9 @@ fn term(s: &mut [u32], n: usize, levels: usize, r: Answer) -> Answer
 }
 
 // ! @ + - or NOT, and its operand.
-fn monad(s: &mut [u32], n: usize, levels: usize, kind: u32, r: Answer) -> Answer
+fn monad(s: &mut [u32], n: usize, levels: usize, kind: u32, r: State) -> State
     requires { ⌜ Ready 0 (now s) n r × (0 < kind) ⌝ }
-    ensures { λ a. ⌜ ReadingAt kind 1 (E.monadic (within levels)) (Is encode) (now (s .entry)) (now (s .exit)) n r a ⌝ }
+    ensures { λ a. ⌜ ReadingAt kind 1 (E.monadic (within levels)) (Encodes encode) (now (s .entry)) (now (s .exit)) n r a ⌝ }
 {
     if levels == 0 {
         return refuse(s, n, r, 7);
@@ -186,15 +186,15 @@ fn monad(s: &mut [u32], n: usize, levels: usize, kind: u32, r: Answer) -> Answer
 }
 
 // primary { ( arguments ) | ! primary }
-fn whole(s: &mut [u32], n: usize, levels: usize, r: Answer) -> Answer
+fn whole(s: &mut [u32], n: usize, levels: usize, r: State) -> State
     requires { ⌜ Ready 0 (now s) n r ⌝ }
-    ensures { λ a. ⌜ Reading 1 (E.suffixed (within levels)) (Is encode) (now (s .entry)) (now (s .exit)) n r a ⌝ }
+    ensures { λ a. ⌜ Reading 1 (E.suffixed (within levels)) (Encodes encode) (now (s .entry)) (now (s .exit)) n r a ⌝ }
 {
     let lo = free_of(s, r);
     let primary = unit(s, n, levels, r);
     let kind = kind_here(s, n, primary);
     if is_suffix(kind) {
-        let size = less(free_of(s, primary), lo);
+        let size = minus(free_of(s, primary), lo);
         let place = place_of(s, n, primary);
         let first = tail(s, n, levels, kind, primary);
         let last = tails(s, n, levels, kind == OPEN, first);
@@ -205,9 +205,9 @@ fn whole(s: &mut [u32], n: usize, levels: usize, r: Answer) -> Answer
 }
 
 // ( arguments ) | ! primary
-fn tail(s: &mut [u32], n: usize, levels: usize, kind: u32, r: Answer) -> Answer
+fn tail(s: &mut [u32], n: usize, levels: usize, kind: u32, r: State) -> State
     requires { ⌜ Ready 0 (now s) n r ⌝ }
-    ensures { λ a. ⌜ ReadingAt kind 4 (E.suffix (within levels)) (PutsSuffix (eqb kind K.OPEN)) (now (s .entry)) (now (s .exit)) n r a ⌝ }
+    ensures { λ a. ⌜ ReadingAt kind 4 (E.suffix (within levels)) (PrependsSuffix (eqb kind K.OPEN)) (now (s .entry)) (now (s .exit)) n r a ⌝ }
 {
     if kind == OPEN {
         call(s, n, levels, r)
@@ -217,11 +217,11 @@ fn tail(s: &mut [u32], n: usize, levels: usize, kind: u32, r: Answer) -> Answer
 }
 
 // The suffixes after the first, which is a call or is not.
-fn tails(s: &mut [u32], n: usize, levels: usize, first: bool, r: Answer) -> SuffixesRead
+fn tails(s: &mut [u32], n: usize, levels: usize, first: bool, r: State) -> SuffixesRead
     requires { ⌜ Ready 0 (now s) n r ⌝ }
     ensures { λ a. ⌜ Reading 0 (manyUpTo (n - 1) T.noSuffixes isSuffix (E.suffix (within levels))) (Ended first (a .call)) (now (s .entry)) (now (s .exit)) n r (a .end) ⌝ }
 {
-    let mut turns = less(n, 1);
+    let mut turns = minus(n, 1);
     let mut call = first;
     let mut a = r;
     while turns > 0 {
@@ -238,9 +238,9 @@ fn tails(s: &mut [u32], n: usize, levels: usize, first: bool, r: Answer) -> Suff
 }
 
 // ( [expression {, expression}] ), after what is called.
-fn call(s: &mut [u32], n: usize, levels: usize, r: Answer) -> Answer
+fn call(s: &mut [u32], n: usize, levels: usize, r: State) -> State
     requires { ⌜ Ready 0 (now s) n r ⌝ }
-    ensures { λ a. ⌜ Reading 4 (E.arguments (within levels)) (PutsSuffix true) (now (s .entry)) (now (s .exit)) n r a ⌝ }
+    ensures { λ a. ⌜ Reading 4 (E.arguments (within levels)) (PrependsSuffix true) (now (s .entry)) (now (s .exit)) n r a ⌝ }
 {
     if levels == 0 {
         return refuse(s, n, r, 7);
@@ -252,9 +252,9 @@ fn call(s: &mut [u32], n: usize, levels: usize, r: Answer) -> Answer
 }
 
 // [expression {, expression}] )
-fn pass(s: &mut [u32], n: usize, levels: usize, r: Answer) -> Answer
+fn pass(s: &mut [u32], n: usize, levels: usize, r: State) -> State
     requires { ⌜ Ready 3 (now s) n r ⌝ }
-    ensures { λ a. ⌜ Reading 4 (upToClose T.noExpressions (anArgument levels)) (Is encodeExpressions) (now (s .entry)) (now (s .exit)) n r a ⌝ }
+    ensures { λ a. ⌜ Reading 4 (upToClose T.noExpressions (anArgument levels)) (Encodes encodeExpressions) (now (s .entry)) (now (s .exit)) n r a ⌝ }
 {
     let kind = kind_here(s, n, r);
     if kind == CLOSE {
@@ -267,19 +267,19 @@ fn pass(s: &mut [u32], n: usize, levels: usize, r: Answer) -> Answer
 }
 
 // An argument, as an item.
-fn arg(s: &mut [u32], n: usize, levels: usize, r: Answer) -> Answer
+fn arg(s: &mut [u32], n: usize, levels: usize, r: State) -> State
     requires { ⌜ Ready 2 (now s) n r ⌝ }
-    ensures { λ a. ⌜ Grows 1 (now (s .entry)) (now (s .exit)) n r a × ((src : Source) → Lies src n (now (s .entry)) → Goes (anArgument levels src) PutsOne (now (s .entry)) (now (s .exit)) r a) ⌝ }
+    ensures { λ a. ⌜ TakesRoom 1 (now (s .entry)) (now (s .exit)) n r a × ((src : Source) → HoldsSymbols src n (now (s .entry)) → Follows (anArgument levels src) PrependsOne (now (s .entry)) (now (s .exit)) r a) ⌝ }
 {
     let lo = free_of(s, r);
-    let begun = mark(s, n, r, 0);
+    let begun = begin_item(s, n, r, 0);
     let a = expr(s, n, levels, LOOSEST, begun);
-    seal(s, n, a, lo);
+    set_size(s, n, a, lo);
     a
 }
 
 // {, expression}
-fn also(s: &mut [u32], n: usize, levels: usize, r: Answer) -> FurtherRead
+fn also(s: &mut [u32], n: usize, levels: usize, r: State) -> FurtherRead
     requires { ⌜ Ready 0 (now s) n r ⌝ }
     ensures { λ a. ⌜ Reading 0 (manyUpTo n T.noExpressions isComma (aFurther levels)) (Counted (a .count)) (now (s .entry)) (now (s .exit)) n r (a .end) ⌝ }
 {
@@ -300,9 +300,9 @@ fn also(s: &mut [u32], n: usize, levels: usize, r: Answer) -> FurtherRead
 }
 
 // ! primary
-fn index(s: &mut [u32], n: usize, levels: usize, r: Answer) -> Answer
+fn index(s: &mut [u32], n: usize, levels: usize, r: State) -> State
     requires { ⌜ Ready 0 (now s) n r ⌝ }
-    ensures { λ a. ⌜ Reading 4 (E.index (within levels)) (PutsSuffix false) (now (s .entry)) (now (s .exit)) n r a ⌝ }
+    ensures { λ a. ⌜ Reading 4 (E.index (within levels)) (PrependsSuffix false) (now (s .entry)) (now (s .exit)) n r a ⌝ }
 {
     let lo = free_of(s, r);
     let pling = expect(s, n, r, PLING);
@@ -311,9 +311,9 @@ fn index(s: &mut [u32], n: usize, levels: usize, r: Answer) -> Answer
 }
 
 // A monadic operator may begin any operand.
-fn key(s: &mut [u32], n: usize, levels: usize, r: Answer) -> Answer
+fn key(s: &mut [u32], n: usize, levels: usize, r: State) -> State
     requires { ⌜ Ready 0 (now s) n r ⌝ }
-    ensures { λ a. ⌜ Reading 1 (E.subscript (within levels)) (Is encode) (now (s .entry)) (now (s .exit)) n r a ⌝ }
+    ensures { λ a. ⌜ Reading 1 (E.subscript (within levels)) (Encodes encode) (now (s .entry)) (now (s .exit)) n r a ⌝ }
 {
     let kind = kind_here(s, n, r);
     if is_monadic(kind) {
@@ -324,9 +324,9 @@ fn key(s: &mut [u32], n: usize, levels: usize, r: Answer) -> Answer
 }
 
 // number | string | TRUE | FALSE | name | ( expression ) | VALOF command
-fn unit(s: &mut [u32], n: usize, levels: usize, r: Answer) -> Answer
+fn unit(s: &mut [u32], n: usize, levels: usize, r: State) -> State
     requires { ⌜ Ready 0 (now s) n r ⌝ }
-    ensures { λ a. ⌜ Reading 1 (E.primary (within levels)) (Is encode) (now (s .entry)) (now (s .exit)) n r a ⌝ }
+    ensures { λ a. ⌜ Reading 1 (E.primary (within levels)) (Encodes encode) (now (s .entry)) (now (s .exit)) n r a ⌝ }
 {
     let kind = kind_here(s, n, r);
     match kind {
@@ -337,9 +337,9 @@ fn unit(s: &mut [u32], n: usize, levels: usize, r: Answer) -> Answer
 }
 
 // ( expression )
-fn nest(s: &mut [u32], n: usize, levels: usize, r: Answer) -> Answer
+fn nest(s: &mut [u32], n: usize, levels: usize, r: State) -> State
     requires { ⌜ Ready 0 (now s) n r ⌝ }
-    ensures { λ a. ⌜ Reading 1 (E.bracketed (within levels)) (Is encode) (now (s .entry)) (now (s .exit)) n r a ⌝ }
+    ensures { λ a. ⌜ Reading 1 (E.bracketed (within levels)) (Encodes encode) (now (s .entry)) (now (s .exit)) n r a ⌝ }
 {
     if levels == 0 {
         return refuse(s, n, r, 7);
@@ -353,9 +353,9 @@ fn nest(s: &mut [u32], n: usize, levels: usize, r: Answer) -> Answer
 }
 
 // VALOF command
-fn valof(s: &mut [u32], n: usize, levels: usize, r: Answer) -> Answer
+fn valof(s: &mut [u32], n: usize, levels: usize, r: State) -> State
     requires { ⌜ Ready 0 (now s) n r ⌝ }
-    ensures { λ a. ⌜ Reading 1 (E.valof (within levels)) (Is encode) (now (s .entry)) (now (s .exit)) n r a ⌝ }
+    ensures { λ a. ⌜ Reading 1 (E.valof (within levels)) (Encodes encode) (now (s .entry)) (now (s .exit)) n r a ⌝ }
 {
     if levels == 0 {
         return refuse(s, n, r, 7);
@@ -368,9 +368,9 @@ fn valof(s: &mut [u32], n: usize, levels: usize, r: Answer) -> Answer
 }
 
 // A command, with its labels before it.
-pub(crate) fn cmd(s: &mut [u32], n: usize, levels: usize, r: Answer) -> Answer
+pub(crate) fn cmd(s: &mut [u32], n: usize, levels: usize, r: State) -> State
     requires { ⌜ Ready 0 (now s) n r ⌝ }
-    ensures { λ a. ⌜ Reading 0 (C.command (within levels)) (Is encodeCommand) (now (s .entry)) (now (s .exit)) n r a ⌝ }
+    ensures { λ a. ⌜ Reading 0 (C.command (within levels)) (Encodes encodeCommand) (now (s .entry)) (now (s .exit)) n r a ⌝ }
 {
     let kind = kind_here(s, n, r);
     if is_label(kind) {
@@ -380,22 +380,22 @@ pub(crate) fn cmd(s: &mut [u32], n: usize, levels: usize, r: Answer) -> Answer
 }
 
 // Labels and what follows them.
-fn cases(s: &mut [u32], n: usize, levels: usize, kind: u32, r: Answer) -> Answer
+fn cases(s: &mut [u32], n: usize, levels: usize, kind: u32, r: State) -> State
     requires { ⌜ Ready 0 (now s) n r ⌝ }
-    ensures { λ a. ⌜ Fits 0 (now (s .entry)) (now (s .exit)) n r a × ((src : Source) → Lies src n (now (s .entry)) → KindHere src r kind → isLabel kind ≡ true → Reads (C.command (within levels) src) encodeCommand (now (s .entry)) (now (s .exit)) r a) ⌝ }
+    ensures { λ a. ⌜ LeavesRoom 0 (now (s .entry)) (now (s .exit)) n r a × ((src : Source) → HoldsSymbols src n (now (s .entry)) → KindHere src r kind → isLabel kind ≡ true → Reads (C.command (within levels) src) encodeCommand (now (s .entry)) (now (s .exit)) r a) ⌝ }
 {
     let lo = free_of(s, r);
     let first = label(s, n, levels, kind, r);
     let last = labels(s, n, levels, first);
-    let size = less(free_of(s, last), lo);
+    let size = minus(free_of(s, last), lo);
     let a = body(s, n, levels, true, last);
     node(s, n, a, lo, size as u32, 0, LABELLED)
 }
 
 // unlabelled { REPEAT form }, whose first symbol opens a level; or an empty command, after labels.
-fn body(s: &mut [u32], n: usize, levels: usize, labelled: bool, r: Answer) -> Answer
+fn body(s: &mut [u32], n: usize, levels: usize, labelled: bool, r: State) -> State
     requires { ⌜ Ready 0 (now s) n r ⌝ }
-    ensures { λ a. ⌜ Reading 0 (bodyAfter labelled levels) (Is encodeRepeatedOnly) (now (s .entry)) (now (s .exit)) n r a ⌝ }
+    ensures { λ a. ⌜ Reading 0 (bodyAfter labelled levels) (Encodes encodeRepeatedOnly) (now (s .entry)) (now (s .exit)) n r a ⌝ }
 {
     let kind = kind_here(s, n, r);
     if begins_command(kind) {
@@ -411,15 +411,15 @@ fn body(s: &mut [u32], n: usize, levels: usize, labelled: bool, r: Answer) -> An
 }
 
 // unlabelled { REPEAT form }
-fn redo(s: &mut [u32], n: usize, levels: usize, r: Answer) -> Answer
+fn redo(s: &mut [u32], n: usize, levels: usize, r: State) -> State
     requires { ⌜ Ready 0 (now s) n r ⌝ }
-    ensures { λ a. ⌜ Reading 0 (repeatedOnly levels) (Is encodeRepeatedOnly) (now (s .entry)) (now (s .exit)) n r a ⌝ }
+    ensures { λ a. ⌜ Reading 0 (repeatedOnly levels) (Encodes encodeRepeatedOnly) (now (s .entry)) (now (s .exit)) n r a ⌝ }
 {
     let lo = free_of(s, r);
     let body = plain(s, n, levels, r);
     let kind = kind_here(s, n, body);
     if is_repeat(kind) {
-        let size = less(free_of(s, body), lo);
+        let size = minus(free_of(s, body), lo);
         let first = form(s, n, levels, kind, body);
         let last = forms(s, n, levels, first);
         return node(s, n, last, lo, size as u32, 0, REPEATED);
@@ -428,11 +428,11 @@ fn redo(s: &mut [u32], n: usize, levels: usize, r: Answer) -> Answer
 }
 
 // The REPEAT forms after the first.
-fn forms(s: &mut [u32], n: usize, levels: usize, r: Answer) -> Answer
+fn forms(s: &mut [u32], n: usize, levels: usize, r: State) -> State
     requires { ⌜ Ready 0 (now s) n r ⌝ }
-    ensures { λ a. ⌜ Reading 0 (manyUpTo (n - 1) T.noRepeats isRepeat (C.repeatForm (readers (within levels)))) (Is encodeRepeats) (now (s .entry)) (now (s .exit)) n r a ⌝ }
+    ensures { λ a. ⌜ Reading 0 (manyUpTo (n - 1) T.noRepeats isRepeat (C.repeatForm (readers (within levels)))) (Encodes encodeRepeats) (now (s .entry)) (now (s .exit)) n r a ⌝ }
 {
-    let mut turns = less(n, 1);
+    let mut turns = minus(n, 1);
     let mut a = r;
     while turns > 0 {
         let kind = kind_here(s, n, a);
@@ -447,25 +447,25 @@ fn forms(s: &mut [u32], n: usize, levels: usize, r: Answer) -> Answer
 }
 
 // REPEAT | REPEATWHILE expression | REPEATUNTIL expression
-fn form(s: &mut [u32], n: usize, levels: usize, kind: u32, r: Answer) -> Answer
+fn form(s: &mut [u32], n: usize, levels: usize, kind: u32, r: State) -> State
     requires { ⌜ Ready 0 (now s) n r × (0 < kind) ⌝ }
-    ensures { λ a. ⌜ ReadingAt kind 3 (C.repeatForm (readers (within levels))) (Puts encodeRepeats) (now (s .entry)) (now (s .exit)) n r a ⌝ }
+    ensures { λ a. ⌜ ReadingAt kind 3 (C.repeatForm (readers (within levels))) (Prepends encodeRepeats) (now (s .entry)) (now (s .exit)) n r a ⌝ }
 {
     let lo = free_of(s, r);
     let word = expect(s, n, r, kind);
-    let begun = mark(s, n, word, kind);
+    let begun = begin_item(s, n, word, kind);
     if kind == REPEAT {
         return begun;
     }
     let a = expr(s, n, levels, LOOSEST, begun);
-    seal(s, n, a, lo);
+    set_size(s, n, a, lo);
     a
 }
 
 // A command without its labels and REPEAT forms, by its first symbol.
-fn plain(s: &mut [u32], n: usize, levels: usize, r: Answer) -> Answer
+fn plain(s: &mut [u32], n: usize, levels: usize, r: State) -> State
     requires { ⌜ Ready 0 (now s) n r ⌝ }
-    ensures { λ a. ⌜ Reading 1 (C.unlabelled (readers (within levels))) (Is encodeUnlabelled) (now (s .entry)) (now (s .exit)) n r a ⌝ }
+    ensures { λ a. ⌜ Reading 1 (C.unlabelled (readers (within levels))) (Encodes encodeUnlabelled) (now (s .entry)) (now (s .exit)) n r a ⌝ }
 {
     let kind = kind_here(s, n, r);
     if is_guard(kind) {
@@ -485,9 +485,9 @@ fn plain(s: &mut [u32], n: usize, levels: usize, r: Answer) -> Answer
 }
 
 // TEST expression DO command OR command
-fn test(s: &mut [u32], n: usize, levels: usize, r: Answer) -> Answer
+fn test(s: &mut [u32], n: usize, levels: usize, r: State) -> State
     requires { ⌜ Ready 0 (now s) n r ⌝ }
-    ensures { λ a. ⌜ Reading 1 (C.test (readers (within levels))) (Is encodeUnlabelled) (now (s .entry)) (now (s .exit)) n r a ⌝ }
+    ensures { λ a. ⌜ Reading 1 (C.test (readers (within levels))) (Encodes encodeUnlabelled) (now (s .entry)) (now (s .exit)) n r a ⌝ }
 {
     let lo = free_of(s, r);
     let word = expect(s, n, r, TEST);
@@ -500,9 +500,9 @@ fn test(s: &mut [u32], n: usize, levels: usize, r: Answer) -> Answer
 }
 
 // IF expression DO command, and so UNLESS, WHILE and UNTIL
-fn when(s: &mut [u32], n: usize, levels: usize, kind: u32, r: Answer) -> Answer
+fn when(s: &mut [u32], n: usize, levels: usize, kind: u32, r: State) -> State
     requires { ⌜ Ready 0 (now s) n r × (0 < kind) ⌝ }
-    ensures { λ a. ⌜ ReadingAt kind 1 (C.guarded (readers (within levels))) (Is encodeUnlabelled) (now (s .entry)) (now (s .exit)) n r a ⌝ }
+    ensures { λ a. ⌜ ReadingAt kind 1 (C.guarded (readers (within levels))) (Encodes encodeUnlabelled) (now (s .entry)) (now (s .exit)) n r a ⌝ }
 {
     let lo = free_of(s, r);
     let word = expect(s, n, r, kind);
@@ -513,9 +513,9 @@ fn when(s: &mut [u32], n: usize, levels: usize, kind: u32, r: Answer) -> Answer
 }
 
 // RESULTIS expression
-fn give(s: &mut [u32], n: usize, levels: usize, r: Answer) -> Answer
+fn give(s: &mut [u32], n: usize, levels: usize, r: State) -> State
     requires { ⌜ Ready 0 (now s) n r ⌝ }
-    ensures { λ a. ⌜ Reading 1 (C.resultis (readers (within levels))) (Is encodeUnlabelled) (now (s .entry)) (now (s .exit)) n r a ⌝ }
+    ensures { λ a. ⌜ Reading 1 (C.resultis (readers (within levels))) (Encodes encodeUnlabelled) (now (s .entry)) (now (s .exit)) n r a ⌝ }
 {
     let lo = free_of(s, r);
     let place = place_here(s, n, r);
@@ -525,9 +525,9 @@ fn give(s: &mut [u32], n: usize, levels: usize, r: Answer) -> Answer
 }
 
 // FOR name = expression TO expression [BY constant] DO command
-fn step(s: &mut [u32], n: usize, levels: usize, r: Answer) -> Answer
+fn step(s: &mut [u32], n: usize, levels: usize, r: State) -> State
     requires { ⌜ Ready 0 (now s) n r ⌝ }
-    ensures { λ a. ⌜ Reading 1 (C.for (readers (within levels))) (Is encodeUnlabelled) (now (s .entry)) (now (s .exit)) n r a ⌝ }
+    ensures { λ a. ⌜ Reading 1 (C.for (readers (within levels))) (Encodes encodeUnlabelled) (now (s .entry)) (now (s .exit)) n r a ⌝ }
 {
     let lo = free_of(s, r);
     let word = expect(s, n, r, FOR);
@@ -537,21 +537,21 @@ fn step(s: &mut [u32], n: usize, levels: usize, r: Answer) -> Answer
     let to = expect(s, n, first, TO);
     let limit = expr(s, n, levels, LOOSEST, to);
     let by = optional_by(s, n, levels, limit);
-    let size = less(free_of(s, by), free_of(s, limit));
+    let size = minus(free_of(s, by), free_of(s, limit));
     let then = expect(s, n, by, DO);
     let a = cmd(s, n, levels, then);
     node(s, n, a, lo, size as u32, 0, FOR)
 }
 
 // SWITCHON expression INTO $( command { ; command } [;] $)
-fn pick(s: &mut [u32], n: usize, levels: usize, r: Answer) -> Answer
+fn pick(s: &mut [u32], n: usize, levels: usize, r: State) -> State
     requires { ⌜ Ready 0 (now s) n r ⌝ }
-    ensures { λ a. ⌜ Reading 1 (C.switchon (readers (within levels))) (Is encodeUnlabelled) (now (s .entry)) (now (s .exit)) n r a ⌝ }
+    ensures { λ a. ⌜ Reading 1 (C.switchon (readers (within levels))) (Encodes encodeUnlabelled) (now (s .entry)) (now (s .exit)) n r a ⌝ }
 {
     let lo = free_of(s, r);
     let word = expect(s, n, r, SWITCHON);
     let value = expr(s, n, levels, LOOSEST, word);
-    let size = less(free_of(s, value), lo);
+    let size = minus(free_of(s, value), lo);
     let into = expect(s, n, value, INTO);
     let begin = expect(s, n, into, BEGIN);
     let first = item(s, n, levels, begin);
@@ -560,21 +560,21 @@ fn pick(s: &mut [u32], n: usize, levels: usize, r: Answer) -> Answer
 }
 
 // A command, as an item.
-fn item(s: &mut [u32], n: usize, levels: usize, r: Answer) -> Answer
+fn item(s: &mut [u32], n: usize, levels: usize, r: State) -> State
     requires { ⌜ Ready 2 (now s) n r ⌝ }
-    ensures { λ a. ⌜ Grows 2 (now (s .entry)) (now (s .exit)) n r a × ((src : Source) → Lies src n (now (s .entry)) → Goes (C.listed (readers (within levels)) src) (Puts encodeCommands) (now (s .entry)) (now (s .exit)) r a) ⌝ }
+    ensures { λ a. ⌜ TakesRoom 2 (now (s .entry)) (now (s .exit)) n r a × ((src : Source) → HoldsSymbols src n (now (s .entry)) → Follows (C.listed (readers (within levels)) src) (Prepends encodeCommands) (now (s .entry)) (now (s .exit)) r a) ⌝ }
 {
     let lo = free_of(s, r);
-    let begun = mark(s, n, r, 0);
+    let begun = begin_item(s, n, r, 0);
     let a = cmd(s, n, levels, begun);
-    seal(s, n, a, lo);
+    set_size(s, n, a, lo);
     a
 }
 
 // { ; command } [;] $)
-fn list(s: &mut [u32], n: usize, levels: usize, r: Answer) -> Answer
+fn list(s: &mut [u32], n: usize, levels: usize, r: State) -> State
     requires { ⌜ Ready 0 (now s) n r ⌝ }
-    ensures { λ a. ⌜ Reading 5 (moreUpTo n T.noCommands (C.listed (readers (within levels)))) (Is encodeCommands) (now (s .entry)) (now (s .exit)) n r a ⌝ }
+    ensures { λ a. ⌜ Reading 5 (moreUpTo n T.noCommands (C.listed (readers (within levels)))) (Encodes encodeCommands) (now (s .entry)) (now (s .exit)) n r a ⌝ }
 {
     let mut turns = n;
     let mut a = r;
@@ -595,9 +595,9 @@ fn list(s: &mut [u32], n: usize, levels: usize, r: Answer) -> Answer
 }
 
 // [ command { ; command } ] [;] $)
-fn till(s: &mut [u32], n: usize, levels: usize, r: Answer) -> Answer
+fn till(s: &mut [u32], n: usize, levels: usize, r: State) -> State
     requires { ⌜ Ready 2 (now s) n r ⌝ }
-    ensures { λ a. ⌜ Reading 3 (C.commandsToEnd (readers (within levels))) (Is encodeCommands) (now (s .entry)) (now (s .exit)) n r a ⌝ }
+    ensures { λ a. ⌜ Reading 3 (C.commandsToEnd (readers (within levels))) (Encodes encodeCommands) (now (s .entry)) (now (s .exit)) n r a ⌝ }
 {
     let kind = kind_here(s, n, r);
     match kind {
@@ -614,22 +614,22 @@ fn till(s: &mut [u32], n: usize, levels: usize, r: Answer) -> Answer
 }
 
 // $( { LET local [;] } [ command { ; command } ] [;] $)
-fn block(s: &mut [u32], n: usize, levels: usize, r: Answer) -> Answer
+fn block(s: &mut [u32], n: usize, levels: usize, r: State) -> State
     requires { ⌜ Ready 0 (now s) n r ⌝ }
-    ensures { λ a. ⌜ Reading 1 (C.block (readers (within levels))) (Is encodeUnlabelled) (now (s .entry)) (now (s .exit)) n r a ⌝ }
+    ensures { λ a. ⌜ Reading 1 (C.block (readers (within levels))) (Encodes encodeUnlabelled) (now (s .entry)) (now (s .exit)) n r a ⌝ }
 {
     let lo = free_of(s, r);
     let begin = expect(s, n, r, BEGIN);
     let locals = lets(s, n, levels, begin);
-    let size = less(free_of(s, locals), lo);
+    let size = minus(free_of(s, locals), lo);
     let a = till(s, n, levels, locals);
     node(s, n, a, lo, size as u32, 0, BEGIN)
 }
 
 // { LET local [;] }
-fn lets(s: &mut [u32], n: usize, levels: usize, r: Answer) -> Answer
+fn lets(s: &mut [u32], n: usize, levels: usize, r: State) -> State
     requires { ⌜ Ready 0 (now s) n r ⌝ }
-    ensures { λ a. ⌜ Reading 0 (manyUpTo n T.noLocals (λ kind. eqb kind K.LET) (C.local (readers (within levels)))) (Is encodeLocals) (now (s .entry)) (now (s .exit)) n r a ⌝ }
+    ensures { λ a. ⌜ Reading 0 (manyUpTo n T.noLocals (λ kind. eqb kind K.LET) (C.local (readers (within levels)))) (Encodes encodeLocals) (now (s .entry)) (now (s .exit)) n r a ⌝ }
 {
     let mut turns = n;
     let mut a = r;
@@ -645,43 +645,43 @@ fn lets(s: &mut [u32], n: usize, levels: usize, r: Answer) -> Answer
 }
 
 // LET ( name = VEC constant | name {, name} = expression {, expression} ) [;]
-fn local(s: &mut [u32], n: usize, levels: usize, r: Answer) -> Answer
+fn local(s: &mut [u32], n: usize, levels: usize, r: State) -> State
     requires { ⌜ Ready 0 (now s) n r ⌝ }
-    ensures { λ a. ⌜ Reading 4 (C.local (readers (within levels))) (Puts encodeLocals) (now (s .entry)) (now (s .exit)) n r a ⌝ }
+    ensures { λ a. ⌜ Reading 4 (C.local (readers (within levels))) (Prepends encodeLocals) (now (s .entry)) (now (s .exit)) n r a ⌝ }
 {
     let lo = free_of(s, r);
     let word = expect(s, n, r, LET);
-    let begun = mark(s, n, word, LET);
+    let begun = begin_item(s, n, word, LET);
     let start = free_of(s, begun);
     let first = a_name(s, n, begun);
     let names = further_names(s, n, first);
-    let further = less(free_of(s, names), free_of(s, first)) / 4;
+    let further = minus(free_of(s, names), free_of(s, first)) / 4;
     let equal = expect(s, n, names, EQUAL);
     let value = init(s, n, levels, start, further, equal);
     let a = optional(s, n, SEMICOLON, value);
-    seal(s, n, a, lo);
+    set_size(s, n, a, lo);
     a
 }
 
 // What a local declaration gives its names, which begin at start.
-fn init(s: &mut [u32], n: usize, levels: usize, start: usize, further: usize, r: Answer) -> Answer
+fn init(s: &mut [u32], n: usize, levels: usize, start: usize, further: usize, r: State) -> State
     requires { ⌜ Ready 5 (now s) n r ⌝ }
-    ensures { λ a. ⌜ Grows 5 (now (s .entry)) (now (s .exit)) n r a × ((src : Source) → Lies src n (now (s .entry)) → Passes r a × ((name : T.Name) (names : List T.Name) → further ≡ length names → freeOf (length (now (s .entry))) r ≡ start + length (encodeNames (name ∷ names)) → Goes (C.given (readers (within levels)) name names src) (Gives (name ∷ names)) (now (s .entry)) (now (s .exit)) r a)) ⌝ }
+    ensures { λ a. ⌜ TakesRoom 5 (now (s .entry)) (now (s .exit)) n r a × ((src : Source) → HoldsSymbols src n (now (s .entry)) → Passes r a × ((name : T.Name) (names : List T.Name) → further ≡ length names → freeOf (length (now (s .entry))) r ≡ start + length (encodeNames (name ∷ names)) → Follows (C.given (readers (within levels)) name names src) (Gives (name ∷ names)) (now (s .entry)) (now (s .exit)) r a)) ⌝ }
 {
     let kind = kind_here(s, n, r);
     if is_vector(kind, further) {
         return vector(s, n, levels, start, r);
     }
-    let size = less(free_of(s, r), start);
+    let size = minus(free_of(s, r), start);
     let first = arg(s, n, levels, r);
     let last = rest(s, n, levels, further, first);
     node(s, n, last, start, size as u32, 0, LET)
 }
 
 // {, expression}, so many of them
-fn rest(s: &mut [u32], n: usize, levels: usize, number: usize, r: Answer) -> Answer
+fn rest(s: &mut [u32], n: usize, levels: usize, number: usize, r: State) -> State
     requires { ⌜ Ready 0 (now s) n r ⌝ }
-    ensures { λ a. ⌜ Reading 0 (C.further (readers (within levels)) number) (Is encodeExpressions) (now (s .entry)) (now (s .exit)) n r a ⌝ }
+    ensures { λ a. ⌜ Reading 0 (C.further (readers (within levels)) number) (Encodes encodeExpressions) (now (s .entry)) (now (s .exit)) n r a ⌝ }
 {
     let mut left = number;
     let mut a = r;
@@ -694,14 +694,14 @@ fn rest(s: &mut [u32], n: usize, levels: usize, number: usize, r: Answer) -> Ans
 }
 
 // {, expression} := expression {, expression}, after the first expression, which begins at lo; as many right as left
-fn set(s: &mut [u32], n: usize, levels: usize, lo: usize, r: Answer) -> Answer
+fn set(s: &mut [u32], n: usize, levels: usize, lo: usize, r: State) -> State
     requires { ⌜ Ready 0 (now s) n r ⌝ }
-    ensures { λ a. ⌜ Fits 0 (now (s .entry)) (now (s .exit)) n r a × ((src : Source) → Lies src n (now (s .entry)) → Passes r a × ((e : T.Expression) → freeOf (length (now (s .entry))) r ≡ lo + length (encode e) → Goes (C.assignment (readers (within levels)) e src) (After e) (now (s .entry)) (now (s .exit)) r a)) ⌝ }
+    ensures { λ a. ⌜ LeavesRoom 0 (now (s .entry)) (now (s .exit)) n r a × ((src : Source) → HoldsSymbols src n (now (s .entry)) → Passes r a × ((e : T.Expression) → freeOf (length (now (s .entry))) r ≡ lo + length (encode e) → Follows (C.assignment (readers (within levels)) e src) (After e) (now (s .entry)) (now (s .exit)) r a)) ⌝ }
 {
-    let size = less(free_of(s, r), lo);
+    let size = minus(free_of(s, r), lo);
     let left = also(s, n, levels, r);
     let end = left.end;
-    let all = less(free_of(s, end), lo);
+    let all = minus(free_of(s, end), lo);
     let word = expect(s, n, end, ASSIGN);
     let first = arg(s, n, levels, word);
     let last = rest(s, n, levels, left.count, first);
@@ -709,9 +709,9 @@ fn set(s: &mut [u32], n: usize, levels: usize, lo: usize, r: Answer) -> Answer
 }
 
 // An assignment, or an expression that is a call.
-fn bare(s: &mut [u32], n: usize, levels: usize, r: Answer) -> Answer
+fn bare(s: &mut [u32], n: usize, levels: usize, r: State) -> State
     requires { ⌜ Ready 0 (now s) n r ⌝ }
-    ensures { λ a. ⌜ Reading 1 (C.assignmentOrCall (readers (within levels))) (Is encodeUnlabelled) (now (s .entry)) (now (s .exit)) n r a ⌝ }
+    ensures { λ a. ⌜ Reading 1 (C.assignmentOrCall (readers (within levels))) (Encodes encodeUnlabelled) (now (s .entry)) (now (s .exit)) n r a ⌝ }
 {
     let lo = free_of(s, r);
     let first = expr(s, n, levels, LOOSEST, r);

@@ -10,10 +10,10 @@ ghost use mathlib.Core.List.{[], _∷_};
 ghost use lib.ListN.{length};
 ghost use Rattle.language.specs.Reader.{Source, valueAt, placeAt, the, optional};
 ghost use Rattle.tree.specs.Encoding.{item, suffixedKind};
-ghost use Rattle.tree.specs.Reads.{Lies, Ready, Fits, Grows, Here, KindHere, Refuses, Adds, recordFrom, behindFrom, Seals, freeOf, Reading, Is};
+ghost use Rattle.tree.specs.Reads.{HoldsSymbols, Ready, LeavesRoom, TakesRoom, Here, KindHere, Refuses, Adds, recordFrom, behindFrom, Seals, freeOf, Reading, Encodes};
 ghost use Rattle.tree.specs.Between.{CallHere, PlaceHere};
 
-pub(crate) enum Answer {
+pub(crate) enum State {
     // the position of the next symbol, and the next free entry
     Read(usize, usize),
     // a refusal's number, and the position of the symbol refused
@@ -21,84 +21,84 @@ pub(crate) enum Answer {
 }
 
 // a - b, or 0.
-pub(crate) fn less(a: usize, b: usize) -> usize
+pub(crate) fn minus(a: usize, b: usize) -> usize
     ensures { λ r. ⌜ r ≡ a - b ⌝ }
 {
     if b < a { a - b } else { 0 }
 }
 
-pub(crate) fn kind_here(s: &[u32], n: usize, r: Answer) -> u32
+pub(crate) fn kind_here(s: &[u32], n: usize, r: State) -> u32
     requires { ⌜ Ready 0 (now s) n r ⌝ }
-    ensures { λ k. ⌜ ((src : Source) → Lies src n (now (s .entry)) → KindHere src r k) ⌝ }
+    ensures { λ k. ⌜ ((src : Source) → HoldsSymbols src n (now (s .entry)) → KindHere src r k) ⌝ }
 {
     match r {
-        Answer::Read(at, _) => if at < n { s[at * 3] } else { NOTHING },
-        Answer::Refused(_, _) => NOTHING,
+        State::Read(at, _) => if at < n { s[at * 3] } else { NOTHING },
+        State::Refused(_, _) => NOTHING,
     }
 }
 
-pub(crate) fn value_here(s: &[u32], n: usize, r: Answer) -> u32
+pub(crate) fn value_here(s: &[u32], n: usize, r: State) -> u32
     requires { ⌜ Ready 0 (now s) n r ⌝ }
-    ensures { λ v. ⌜ ((src : Source) → Lies src n (now (s .entry)) → Here (valueAt src) n r v) ⌝ }
+    ensures { λ v. ⌜ ((src : Source) → HoldsSymbols src n (now (s .entry)) → Here (valueAt src) n r v) ⌝ }
 {
     match r {
-        Answer::Read(at, _) => if at < n { s[at * 3 + 1] } else { 0 },
-        Answer::Refused(_, _) => 0,
+        State::Read(at, _) => if at < n { s[at * 3 + 1] } else { 0 },
+        State::Refused(_, _) => 0,
     }
 }
 
-pub(crate) fn place_here(s: &[u32], n: usize, r: Answer) -> u32
+pub(crate) fn place_here(s: &[u32], n: usize, r: State) -> u32
     requires { ⌜ Ready 0 (now s) n r ⌝ }
-    ensures { λ p. ⌜ ((src : Source) → Lies src n (now (s .entry)) → Here (placeAt src) n r p) ⌝ }
+    ensures { λ p. ⌜ ((src : Source) → HoldsSymbols src n (now (s .entry)) → Here (placeAt src) n r p) ⌝ }
 {
     match r {
-        Answer::Read(at, _) => if at < n { s[at * 3 + 2] } else { 0 },
-        Answer::Refused(_, _) => 0,
+        State::Read(at, _) => if at < n { s[at * 3 + 2] } else { 0 },
+        State::Refused(_, _) => 0,
     }
 }
 
 // The next free entry.
-pub(crate) fn free_of(s: &[u32], r: Answer) -> usize
+pub(crate) fn free_of(s: &[u32], r: State) -> usize
     ensures { λ f. ⌜ f ≡ freeOf (length (now (s .entry))) r ⌝ }
 {
     match r {
-        Answer::Read(_, free) => free,
-        Answer::Refused(_, _) => s.len(),
+        State::Read(_, free) => free,
+        State::Refused(_, _) => s.len(),
     }
 }
 
-pub(crate) fn refuse(s: &[u32], n: usize, r: Answer, number: u16) -> Answer
+pub(crate) fn refuse(s: &[u32], n: usize, r: State, number: u16) -> State
     requires { ⌜ Ready 0 (now s) n r ⌝ }
-    ensures { λ a. ⌜ Fits 5 (now (s .entry)) (now (s .entry)) n r a × Refuses number r a ⌝ }
+    ensures { λ a. ⌜ LeavesRoom 5 (now (s .entry)) (now (s .entry)) n r a × Refuses number r a ⌝ }
 {
     match r {
-        Answer::Read(at, _) => Answer::Refused(number, at),
-        Answer::Refused(k, p) => Answer::Refused(k, p),
+        State::Read(at, _) => State::Refused(number, at),
+        State::Refused(k, p) => State::Refused(k, p),
     }
 }
 
 // The symbol here is of that kind, or it is refused.
-pub(crate) fn expect(s: &[u32], n: usize, r: Answer, kind: u32) -> Answer
+pub(crate) fn expect(s: &[u32], n: usize, r: State, kind: u32) -> State
     requires { ⌜ Ready 0 (now s) n r × (0 < kind) ⌝ }
-    ensures { λ a. ⌜ Reading 5 (the kind) (Is (λ _. [])) (now (s .entry)) (now (s .entry)) n r a ⌝ }
+    ensures { λ a. ⌜ Reading 5 (the kind) (Encodes (λ _. [])) (now (s .entry)) (now (s .entry)) n r a ⌝ }
 {
     match r {
-        Answer::Read(at, free) => {
+        State::Read(at, free) => {
             if at < n {
                 if s[at * 3] == kind {
-                    return Answer::Read(at + 1, free);
+                    return State::Read(at + 1, free);
                 }
             }
-            Answer::Refused(6, at)
+            State::Refused(6, at)
         }
-        Answer::Refused(k, p) => Answer::Refused(k, p),
+        State::Refused(k, p) => State::Refused(k, p),
     }
 }
 
 // [symbol]
-pub(crate) fn optional(s: &[u32], n: usize, kind: u32, r: Answer) -> Answer
+pub(crate) fn optional(s: &[u32], n: usize, kind: u32, r: State) -> State
     requires { ⌜ Ready 0 (now s) n r × (0 < kind) ⌝ }
-    ensures { λ a. ⌜ Reading 0 (optional kind) (Is (λ _. [])) (now (s .entry)) (now (s .entry)) n r a ⌝ }
+    ensures { λ a. ⌜ Reading 0 (optional kind) (Encodes (λ _. [])) (now (s .entry)) (now (s .entry)) n r a ⌝ }
 {
     let here = kind_here(s, n, r);
     if here == kind {
@@ -111,69 +111,69 @@ pub(crate) fn optional(s: &[u32], n: usize, kind: u32, r: Answer) -> Answer
 pub(crate) fn node(
     s: &mut [u32],
     n: usize,
-    r: Answer,
+    r: State,
     lo: usize,
     value: u32,
     place: u32,
     kind: u32,
-) -> Answer
+) -> State
     requires { ⌜ Ready 4 (now s) n r ⌝ }
-    ensures { λ a. ⌜ Grows 4 (now (s .entry)) (now (s .exit)) n r a × Adds (recordFrom lo value place kind) (now (s .entry)) (now (s .exit)) r a ⌝ }
+    ensures { λ a. ⌜ TakesRoom 4 (now (s .entry)) (now (s .exit)) n r a × Adds (recordFrom lo value place kind) (now (s .entry)) (now (s .exit)) r a ⌝ }
 {
     match r {
-        Answer::Read(at, free) => {
-            s[free] = less(free, lo) as u32;
+        State::Read(at, free) => {
+            s[free] = minus(free, lo) as u32;
             s[free + 1] = value;
             s[free + 2] = place;
             s[free + 3] = kind;
-            Answer::Read(at, free + 4)
+            State::Read(at, free + 4)
         }
-        Answer::Refused(k, p) => Answer::Refused(k, p),
+        State::Refused(k, p) => State::Refused(k, p),
     }
 }
 
 // Begins an item of a list: its size, which is set later, and its tag.
-pub(crate) fn mark(s: &mut [u32], n: usize, r: Answer, tag: u32) -> Answer
+pub(crate) fn begin_item(s: &mut [u32], n: usize, r: State, tag: u32) -> State
     requires { ⌜ Ready 2 (now s) n r ⌝ }
-    ensures { λ a. ⌜ Grows 2 (now (s .entry)) (now (s .exit)) n r a × Adds (λ _. 0 ∷ tag ∷ []) (now (s .entry)) (now (s .exit)) r a ⌝ }
+    ensures { λ a. ⌜ TakesRoom 2 (now (s .entry)) (now (s .exit)) n r a × Adds (λ _. 0 ∷ tag ∷ []) (now (s .entry)) (now (s .exit)) r a ⌝ }
 {
     match r {
-        Answer::Read(at, free) => {
+        State::Read(at, free) => {
             s[free] = 0;
             s[free + 1] = tag;
-            Answer::Read(at, free + 2)
+            State::Read(at, free + 2)
         }
-        Answer::Refused(k, p) => Answer::Refused(k, p),
+        State::Refused(k, p) => State::Refused(k, p),
     }
 }
 
 // Sets the size of the item that begins at lo.
-pub(crate) fn seal(s: &mut [u32], n: usize, r: Answer, lo: usize)
+pub(crate) fn set_size(s: &mut [u32], n: usize, r: State, lo: usize)
     requires { ⌜ Ready 0 (now s) n r × (n * 3 ≤ lo) ⌝ }
-    ensures { λ _. ⌜ Fits 0 (now (s .entry)) (now (s .exit)) n r r × Seals lo (now (s .entry)) (now (s .exit)) r ⌝ }
+    ensures { λ _. ⌜ LeavesRoom 0 (now (s .entry)) (now (s .exit)) n r r × Seals lo (now (s .entry)) (now (s .exit)) r ⌝ }
 {
     match r {
-        Answer::Read(_, free) => {
+        State::Read(_, free) => {
             if lo < free {
-                s[lo] = less(less(free, lo), 2) as u32;
+                s[lo] = minus(minus(free, lo), 2) as u32;
             }
         }
-        Answer::Refused(_, _) => {}
+        State::Refused(_, _) => {}
     }
 }
 
 // Ends a suffix, which begins at lo: its size and its tag behind it.
-pub(crate) fn close_item(s: &mut [u32], n: usize, r: Answer, lo: usize, tag: u32) -> Answer
+pub(crate) fn close_item(s: &mut [u32], n: usize, r: State, lo: usize, tag: u32) -> State
     requires { ⌜ Ready 2 (now s) n r ⌝ }
-    ensures { λ a. ⌜ Grows 2 (now (s .entry)) (now (s .exit)) n r a × Adds (behindFrom lo tag) (now (s .entry)) (now (s .exit)) r a ⌝ }
+    ensures { λ a. ⌜ TakesRoom 2 (now (s .entry)) (now (s .exit)) n r a × Adds (behindFrom lo tag) (now (s .entry)) (now (s .exit)) r a ⌝ }
 {
     match r {
-        Answer::Read(at, free) => {
-            s[free] = less(free, lo) as u32;
+        State::Read(at, free) => {
+            s[free] = minus(free, lo) as u32;
             s[free + 1] = tag;
-            Answer::Read(at, free + 2)
+            State::Read(at, free + 2)
         }
-        Answer::Refused(k, p) => Answer::Refused(k, p),
+        State::Refused(k, p) => State::Refused(k, p),
     }
 }
 
@@ -185,27 +185,27 @@ pub(crate) fn suffixed_kind(call: bool) -> u32
 }
 
 // Whether the expression that ends at the next free entry is a call: its record says so.
-pub(crate) fn is_call(s: &[u32], n: usize, r: Answer) -> bool
+pub(crate) fn is_call(s: &[u32], n: usize, r: State) -> bool
     requires { ⌜ Ready 0 (now s) n r ⌝ }
     ensures { λ b. ⌜ CallHere (now (s .entry)) r b ⌝ }
 {
     match r {
-        Answer::Read(_, free) => if free < 1 {
+        State::Read(_, free) => if free < 1 {
             false
         } else {
             s[free - 1] == CALLED
         },
-        Answer::Refused(_, _) => false,
+        State::Refused(_, _) => false,
     }
 }
 
 // The place of the expression that ends at the next free entry.
-pub(crate) fn place_of(s: &[u32], n: usize, r: Answer) -> u32
+pub(crate) fn place_of(s: &[u32], n: usize, r: State) -> u32
     requires { ⌜ Ready 0 (now s) n r ⌝ }
     ensures { λ p. ⌜ PlaceHere (now (s .entry)) r p ⌝ }
 {
     match r {
-        Answer::Read(_, free) => if free < 2 { 0 } else { s[free - 2] },
-        Answer::Refused(_, _) => 0,
+        State::Read(_, free) => if free < 2 { 0 } else { s[free - 2] },
+        State::Refused(_, _) => 0,
     }
 }

@@ -5,10 +5,10 @@ use Rattle.tree.proofs.binding.further_most.Statement.{statement}
 use Rattle.tree.proofs.binding.further_most.Tie as tie
 use Rattle.tree.proofs.binding.further_most.Reads as reads
 use Rattle.tree.proofs.binding.further_most.Lts as lts
-use Rattle.tree.proofs.scratch.less.Reads as less-reads
+use Rattle.tree.proofs.scratch.minus.Reads as minus-reads
 
-less-requires : tie.Need-less-requires
-less-requires c κs = search needs
+minus-requires : tie.Need-minus-requires
+minus-requires c κs = search needs
 
 returns : tie.Need-returns
 unfolding furtherMost
@@ -16,7 +16,7 @@ returns c = rw (eq-eqb _ _ (c .if1 .taken))
 
 returns-2 : tie.Need-returns-2
 unfolding furtherMost
-returns-2 c = rw (ne-eqb _ _ (c .before .if1 .left)) (c .less .ensures)
+returns-2 c = rw (ne-eqb _ _ (c .before .if1 .left)) (c .minus .ensures)
 
 pub further-most-spec : {M : Type 1} → statement M
-further-most-spec = tie.close (tie.spec less-requires returns returns-2)
+further-most-spec = tie.close (tie.spec minus-requires returns returns-2)

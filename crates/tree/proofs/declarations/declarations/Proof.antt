@@ -4,7 +4,7 @@ use Prim.Native.Nat.{_-_}
 use mathlib.Core.List.{[]}
 use lib.ListN.{length}
 use Rattle.tree.proofs.Symbols.{lies-still}
-use Rattle.tree.specs.Reads.{Lies, Fits}
+use Rattle.tree.specs.Reads.{HoldsSymbols, LeavesRoom}
 use Rattle.tree.proofs.Lists.{Partly}
 use mathlib.Core.Path.{_≡_, refl, sym, ap, _∙_}
 use Rattle.tree.proofs.Helpers.{itself, fitted, weaker, both}
@@ -23,7 +23,7 @@ use Rattle.tree.proofs.binding.is_declaration.Reads as is-declaration-r
 use Rattle.tree.proofs.scratch.kind_here.Reads as kind-here-reads
 
 abbrev Inv-loop : tie.InvT-loop
-Inv-loop s₀ n turns₀ a₀ s turns a = Fits 0 s₀ s n a₀ a × (length s ≡ length s₀) × ((src : Source) → Lies src n s₀ → Partly (manyUpTo turns₀ [] isDeclaration G.declared src) (manyUpTo turns [] isDeclaration G.declared src) encodeProgram s₀ s a₀ a)
+Inv-loop s₀ n turns₀ a₀ s turns a = LeavesRoom 0 s₀ s n a₀ a × (length s ≡ length s₀) × ((src : Source) → HoldsSymbols src n s₀ → Partly (manyUpTo turns₀ [] isDeclaration G.declared src) (manyUpTo turns [] isDeclaration G.declared src) encodeProgram s₀ s a₀ a)
 
 abbrev μ-loop : tie.MeasureT-loop
 μ-loop s₀ n turns₀ a₀ s turns a = turns

@@ -11,9 +11,9 @@ use Rattle.tree.proofs.declarations.declared.Lts as lts
 use Rattle.tree.proofs.declarations.declaration.Reads as declaration-reads
 use Rattle.tree.proofs.scratch.expect.Reads as expect-reads
 use Rattle.tree.proofs.scratch.free_of.Reads as free-of-reads
-use Rattle.tree.proofs.scratch.mark.Reads as mark-reads
+use Rattle.tree.proofs.scratch.begin_item.Reads as begin-item-reads
 use Rattle.tree.proofs.scratch.optional.Reads as optional-reads
-use Rattle.tree.proofs.scratch.seal.Reads as seal-reads
+use Rattle.tree.proofs.scratch.set_size.Reads as set-size-reads
 
 free-of-requires : tie.Need-free-of-requires
 free-of-requires c κs = search needs
@@ -21,14 +21,14 @@ free-of-requires c κs = search needs
 expect-requires : tie.Need-expect-requires
 expect-requires c κs = search needs
 
-mark-requires : tie.Need-mark-requires
-mark-requires c κs = search needs
+begin-item-requires : tie.Need-begin-item-requires
+begin-item-requires c κs = search needs
 
 declaration-requires : tie.Need-declaration-requires
 declaration-requires c κs = search needs
 
-seal-requires : tie.Need-seal-requires
-seal-requires c κs = (smaller (fitted (enlarged (fitted (c .before .before .before .before .before .before .before .before .before .before .before .before .before .before .pre .0) (c .before .before .before .before .before .before .before .before .before .expect .ensures .0) refl (omega arith)) (c .before .before .before .before .before .before .before .mark .ensures .0) (c .before .before .before .before .before .before .before .mark .kept .0) (omega arith) (omega arith)) (c .before .before .before .declaration .ensures .0) (c .before .before .before .declaration .kept .0) (omega arith)) (omega arith), omega (arith, base (c .before .before .before .before .before .before .before .before .before .before .before .before .before .before .pre .0), c .before .before .before .before .before .before .before .before .before .before .before .free-of .ensures))
+set-size-requires : tie.Need-set-size-requires
+set-size-requires c κs = (smaller (fitted (enlarged (fitted (c .before .before .before .before .before .before .before .before .before .before .before .before .before .before .pre .0) (c .before .before .before .before .before .before .before .before .before .expect .ensures .0) refl (omega arith)) (c .before .before .before .before .before .before .before .begin-item .ensures .0) (c .before .before .before .before .before .before .before .begin-item .kept .0) (omega arith) (omega arith)) (c .before .before .before .declaration .ensures .0) (c .before .before .before .declaration .kept .0) (omega arith)) (omega arith), omega (arith, base (c .before .before .before .before .before .before .before .before .before .before .before .before .before .before .pre .0), c .before .before .before .before .before .before .before .before .before .before .before .free-of .ensures))
 
 optional-requires : tie.Need-optional-requires
 optional-requires c κs = search needs
@@ -37,7 +37,7 @@ same-length : tie.Need-same-length
 same-length c = search needs
 
 returns : tie.Need-returns
-returns c = (weaker (omega arith) (both (both (both (then-grows (c .before .before .before .before .before .before .before .before .before .before .before .before .before .before .expect .ensures .0) (c .before .before .before .before .before .before .before .before .before .before .before .before .mark .ensures .0) (omega arith)) (c .before .before .before .before .before .before .before .before .declaration .ensures .0)) (c .before .before .before .before .seal .ensures .0)) (c .optional .ensures .0)), λ src l k h. (let l₁ = lies-still l (c .before .before .before .before .before .before .before .before .before .before .before .before .mark .ensures .0 .kept) in let l₃ = lies-still (lies-still l₁ (c .before .before .before .before .before .before .before .before .declaration .ensures .0 .kept)) (c .before .before .before .before .seal .ensures .0 .kept) in declared-read src _ k h (c .before .before .before .before .before .before .before .before .before .before .before .before .before .before .before .before .free-of .ensures) (low (fitted (c .before .before .before .before .before .before .before .before .before .before .before .before .before .before .before .before .before .before .before .pre .0) (c .before .before .before .before .before .before .before .before .before .before .before .before .before .before .expect .ensures .0) refl (omega arith))) (c .before .before .before .before .before .before .before .before .before .before .before .before .before .before .expect .ensures .1 src l) (c .before .before .before .before .before .before .before .before .before .before .before .before .mark .ensures .1) (c .before .before .before .before .before .before .before .before .declaration .ensures .1 src l₁ h) (c .before .before .before .before .seal .ensures .1) (c .optional .ensures .1 src l₃)))
+returns c = (weaker (omega arith) (both (both (both (then-grows (c .before .before .before .before .before .before .before .before .before .before .before .before .before .before .expect .ensures .0) (c .before .before .before .before .before .before .before .before .before .before .before .before .begin-item .ensures .0) (omega arith)) (c .before .before .before .before .before .before .before .before .declaration .ensures .0)) (c .before .before .before .before .set-size .ensures .0)) (c .optional .ensures .0)), λ src l k h. (let l₁ = lies-still l (c .before .before .before .before .before .before .before .before .before .before .before .before .begin-item .ensures .0 .kept) in let l₃ = lies-still (lies-still l₁ (c .before .before .before .before .before .before .before .before .declaration .ensures .0 .kept)) (c .before .before .before .before .set-size .ensures .0 .kept) in declared-read src _ k h (c .before .before .before .before .before .before .before .before .before .before .before .before .before .before .before .before .free-of .ensures) (low (fitted (c .before .before .before .before .before .before .before .before .before .before .before .before .before .before .before .before .before .before .before .pre .0) (c .before .before .before .before .before .before .before .before .before .before .before .before .before .before .expect .ensures .0) refl (omega arith))) (c .before .before .before .before .before .before .before .before .before .before .before .before .before .before .expect .ensures .1 src l) (c .before .before .before .before .before .before .before .before .before .before .before .before .begin-item .ensures .1) (c .before .before .before .before .before .before .before .before .declaration .ensures .1 src l₁ h) (c .before .before .before .before .set-size .ensures .1) (c .optional .ensures .1 src l₃)))
 
 pub declared-spec : {M : Type 1} → statement M
 declared-spec =
@@ -45,9 +45,9 @@ declared-spec =
     (tie.spec
     free-of-requires
     expect-requires
-    mark-requires
+    begin-item-requires
     declaration-requires
-    seal-requires
+    set-size-requires
     optional-requires
     same-length
     returns)

@@ -4,7 +4,7 @@ use Prim.Native.Nat.{_-_}
 use mathlib.Core.List.{[]}
 use lib.ListN.{length}
 use Rattle.tree.proofs.Symbols.{lies-still}
-use Rattle.tree.specs.Reads.{Lies, Fits}
+use Rattle.tree.specs.Reads.{HoldsSymbols, LeavesRoom}
 use Rattle.tree.proofs.Lists.{Partly}
 use mathlib.Core.Path.{_≡_, refl, _∙_}
 use Rattle.tree.proofs.Helpers.{itself, smaller, fitted, weaker, both}
@@ -24,7 +24,7 @@ use Rattle.tree.proofs.declarations.one_item.Reads as one-item-reads
 use Rattle.tree.proofs.scratch.refuse.Reads as refuse-reads
 
 abbrev Inv-loop : tie.InvT-loop
-Inv-loop s₀ n sign turns₀ a₀ s turns a = Fits 0 s₀ s n a₀ a × (length s ≡ length s₀) × ((src : Source) → Lies src n s₀ → Partly (moreUpTo turns₀ [] (G.item sign) src) (moreUpTo turns [] (G.item sign) src) encodeItems s₀ s a₀ a)
+Inv-loop s₀ n sign turns₀ a₀ s turns a = LeavesRoom 0 s₀ s n a₀ a × (length s ≡ length s₀) × ((src : Source) → HoldsSymbols src n s₀ → Partly (moreUpTo turns₀ [] (G.item sign) src) (moreUpTo turns [] (G.item sign) src) encodeItems s₀ s a₀ a)
 
 abbrev μ-loop : tie.MeasureT-loop
 μ-loop s₀ n sign turns₀ a₀ s turns a = turns

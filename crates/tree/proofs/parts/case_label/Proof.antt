@@ -13,10 +13,10 @@ use Rattle.tree.proofs.parts.case_label.Lts as lts
 use Rattle.tree.proofs.parts.constant.Reads as constant-reads
 use Rattle.tree.proofs.scratch.expect.Reads as expect-reads
 use Rattle.tree.proofs.scratch.free_of.Reads as free-of-reads
-use Rattle.tree.proofs.scratch.mark.Reads as mark-reads
+use Rattle.tree.proofs.scratch.begin_item.Reads as begin-item-reads
 use Rattle.tree.proofs.scratch.node.Reads as node-reads
 use Rattle.tree.proofs.scratch.place_here.Reads as place-here-reads
-use Rattle.tree.proofs.scratch.seal.Reads as seal-reads
+use Rattle.tree.proofs.scratch.set_size.Reads as set-size-reads
 
 free-of-requires : tie.Need-free-of-requires
 free-of-requires c κs = search needs
@@ -27,8 +27,8 @@ place-here-requires c κs = search needs
 expect-requires : tie.Need-expect-requires
 expect-requires c κs = search needs
 
-mark-requires : tie.Need-mark-requires
-mark-requires c κs = search needs
+begin-item-requires : tie.Need-begin-item-requires
+begin-item-requires c κs = search needs
 
 free-of-requires-2 : tie.Need-free-of-requires-2
 free-of-requires-2 c κs = search needs
@@ -37,19 +37,19 @@ constant-requires : tie.Need-constant-requires
 constant-requires c κs = search needs
 
 expect-requires-2 : tie.Need-expect-requires-2
-expect-requires-2 c κs = (smaller (fitted (enlarged (fitted (c .before .before .before .before .before .before .before .before .before .before .before .before .before .before .before .before .before .before .pre) (c .before .before .before .before .before .before .before .before .before .before .before .expect .ensures .0) refl (omega arith)) (c .before .before .before .before .before .before .before .before .before .mark .ensures .0) (c .before .before .before .before .before .before .before .before .before .mark .kept .0) (omega arith) (omega arith)) (c .before .before .before .constant .ensures .0) (c .before .before .before .constant .kept .0) (omega arith)) (omega arith), omega arith)
+expect-requires-2 c κs = (smaller (fitted (enlarged (fitted (c .before .before .before .before .before .before .before .before .before .before .before .before .before .before .before .before .before .before .pre) (c .before .before .before .before .before .before .before .before .before .before .before .expect .ensures .0) refl (omega arith)) (c .before .before .before .before .before .before .before .before .before .begin-item .ensures .0) (c .before .before .before .before .before .before .before .before .before .begin-item .kept .0) (omega arith) (omega arith)) (c .before .before .before .constant .ensures .0) (c .before .before .before .constant .kept .0) (omega arith)) (omega arith), omega arith)
 
 node-requires : tie.Need-node-requires
-node-requires c κs = smaller (fitted (fitted (enlarged (fitted (c .before .before .before .before .before .before .before .before .before .before .before .before .before .before .before .before .before .before .before .before .pre) (c .before .before .before .before .before .before .before .before .before .before .before .before .before .expect .ensures .0) refl (omega arith)) (c .before .before .before .before .before .before .before .before .before .before .before .mark .ensures .0) (c .before .before .before .before .before .before .before .before .before .before .before .mark .kept .0) (omega arith) (omega arith)) (c .before .before .before .before .before .constant .ensures .0) (c .before .before .before .before .before .constant .kept .0) (omega arith)) (c .before .expect2 .ensures .0) refl (omega arith)) (omega arith)
+node-requires c κs = smaller (fitted (fitted (enlarged (fitted (c .before .before .before .before .before .before .before .before .before .before .before .before .before .before .before .before .before .before .before .before .pre) (c .before .before .before .before .before .before .before .before .before .before .before .before .before .expect .ensures .0) refl (omega arith)) (c .before .before .before .before .before .before .before .before .before .before .before .begin-item .ensures .0) (c .before .before .before .before .before .before .before .before .before .before .before .begin-item .kept .0) (omega arith) (omega arith)) (c .before .before .before .before .before .constant .ensures .0) (c .before .before .before .before .before .constant .kept .0) (omega arith)) (c .before .expect2 .ensures .0) refl (omega arith)) (omega arith)
 
-seal-requires : tie.Need-seal-requires
-seal-requires c κs = (smaller (enlarged (fitted (fitted (enlarged (fitted (c .before .before .before .before .before .before .before .before .before .before .before .before .before .before .before .before .before .before .before .before .before .before .before .before .pre) (c .before .before .before .before .before .before .before .before .before .before .before .before .before .before .before .before .before .expect .ensures .0) refl (omega arith)) (c .before .before .before .before .before .before .before .before .before .before .before .before .before .before .before .mark .ensures .0) (c .before .before .before .before .before .before .before .before .before .before .before .before .before .before .before .mark .kept .0) (omega arith) (omega arith)) (c .before .before .before .before .before .before .before .before .before .constant .ensures .0) (c .before .before .before .before .before .before .before .before .before .constant .kept .0) (omega arith)) (c .before .before .before .before .before .expect2 .ensures .0) refl (omega arith)) (c .before .before .before .node .ensures .0) (c .before .before .before .node .kept .0) (omega arith) (omega arith)) (omega arith), omega (arith, base (c .before .before .before .before .before .before .before .before .before .before .before .before .before .before .before .before .before .before .before .before .before .before .before .before .pre), c .before .before .before .before .before .before .before .before .before .before .before .before .before .before .before .before .before .before .before .before .before .free-of .ensures))
+set-size-requires : tie.Need-set-size-requires
+set-size-requires c κs = (smaller (enlarged (fitted (fitted (enlarged (fitted (c .before .before .before .before .before .before .before .before .before .before .before .before .before .before .before .before .before .before .before .before .before .before .before .before .pre) (c .before .before .before .before .before .before .before .before .before .before .before .before .before .before .before .before .before .expect .ensures .0) refl (omega arith)) (c .before .before .before .before .before .before .before .before .before .before .before .before .before .before .before .begin-item .ensures .0) (c .before .before .before .before .before .before .before .before .before .before .before .before .before .before .before .begin-item .kept .0) (omega arith) (omega arith)) (c .before .before .before .before .before .before .before .before .before .constant .ensures .0) (c .before .before .before .before .before .before .before .before .before .constant .kept .0) (omega arith)) (c .before .before .before .before .before .expect2 .ensures .0) refl (omega arith)) (c .before .before .before .node .ensures .0) (c .before .before .before .node .kept .0) (omega arith) (omega arith)) (omega arith), omega (arith, base (c .before .before .before .before .before .before .before .before .before .before .before .before .before .before .before .before .before .before .before .before .before .before .before .before .pre), c .before .before .before .before .before .before .before .before .before .before .before .before .before .before .before .before .before .before .before .before .before .free-of .ensures))
 
 same-length : tie.Need-same-length
 same-length c = search needs
 
 returns : tie.Need-returns
-returns c = (weaker (omega arith) (both (then-grows (both (both (then-grows (c .before .before .before .before .before .before .before .before .before .before .before .before .before .before .before .before .before .before .before .before .expect .ensures .0) (c .before .before .before .before .before .before .before .before .before .before .before .before .before .before .before .before .before .before .mark .ensures .0) (omega arith)) (c .before .before .before .before .before .before .before .before .before .before .before .before .constant .ensures .0)) (c .before .before .before .before .before .before .before .before .expect2 .ensures .0)) (c .before .before .before .before .before .before .node .ensures .0) (omega arith)) (c .before .before .seal .ensures .0)), λ src l k. (let l₁ = lies-still l (c .before .before .before .before .before .before .before .before .before .before .before .before .before .before .before .before .before .before .mark .ensures .0 .kept) in label-case src _ k refl (case-read l _ _ (c .before .before .before .before .before .before .before .before .before .before .before .before .before .before .before .before .before .before .before .before .before .before .before .before .free-of .ensures) (c .before .before .before .before .before .before .before .before .before .before .before .before .before .before .before .before .before .before .before .before .before .before .place-here .ensures src l) (low (fitted (c .before .before .before .before .before .before .before .before .before .before .before .before .before .before .before .before .before .before .before .before .before .before .before .before .before .before .before .pre) (c .before .before .before .before .before .before .before .before .before .before .before .before .before .before .before .before .before .before .before .before .expect .ensures .0) refl (omega arith))) (c .before .before .before .before .before .before .before .before .before .before .before .before .before .before .free-of2 .ensures ∙ ap (λ (z : ℕ). freeOf z (c .before .before .before .before .before .before .before .before .before .before .before .before .before .before .before .before .before .before .mark .result)) (c .before .before .before .before .before .before .before .before .before .before .before .before .before .before .before .before .before .before .mark .kept .0)) (c .before .before .before .before .before .before .before .before .before .before .before .before .before .before .before .before .before .before .before .before .expect .ensures .1 src l) (c .before .before .before .before .before .before .before .before .before .before .before .before .before .before .before .before .before .before .mark .ensures .1) (c .before .before .before .before .before .before .before .before .before .before .before .before .constant .ensures .1 src l₁) (c .before .before .before .before .before .before .before .before .expect2 .ensures .1 src (lies-still l₁ (c .before .before .before .before .before .before .before .before .before .before .before .before .constant .ensures .0 .kept))) (c .before .before .before .before .before .before .node .ensures .1) (c .before .before .seal .ensures .1))))
+returns c = (weaker (omega arith) (both (then-grows (both (both (then-grows (c .before .before .before .before .before .before .before .before .before .before .before .before .before .before .before .before .before .before .before .before .expect .ensures .0) (c .before .before .before .before .before .before .before .before .before .before .before .before .before .before .before .before .before .before .begin-item .ensures .0) (omega arith)) (c .before .before .before .before .before .before .before .before .before .before .before .before .constant .ensures .0)) (c .before .before .before .before .before .before .before .before .expect2 .ensures .0)) (c .before .before .before .before .before .before .node .ensures .0) (omega arith)) (c .before .before .set-size .ensures .0)), λ src l k. (let l₁ = lies-still l (c .before .before .before .before .before .before .before .before .before .before .before .before .before .before .before .before .before .before .begin-item .ensures .0 .kept) in label-case src _ k refl (case-read l _ _ (c .before .before .before .before .before .before .before .before .before .before .before .before .before .before .before .before .before .before .before .before .before .before .before .before .free-of .ensures) (c .before .before .before .before .before .before .before .before .before .before .before .before .before .before .before .before .before .before .before .before .before .before .place-here .ensures src l) (low (fitted (c .before .before .before .before .before .before .before .before .before .before .before .before .before .before .before .before .before .before .before .before .before .before .before .before .before .before .before .pre) (c .before .before .before .before .before .before .before .before .before .before .before .before .before .before .before .before .before .before .before .before .expect .ensures .0) refl (omega arith))) (c .before .before .before .before .before .before .before .before .before .before .before .before .before .before .free-of2 .ensures ∙ ap (λ (z : ℕ). freeOf z (c .before .before .before .before .before .before .before .before .before .before .before .before .before .before .before .before .before .before .begin-item .result)) (c .before .before .before .before .before .before .before .before .before .before .before .before .before .before .before .before .before .before .begin-item .kept .0)) (c .before .before .before .before .before .before .before .before .before .before .before .before .before .before .before .before .before .before .before .before .expect .ensures .1 src l) (c .before .before .before .before .before .before .before .before .before .before .before .before .before .before .before .before .before .before .begin-item .ensures .1) (c .before .before .before .before .before .before .before .before .before .before .before .before .constant .ensures .1 src l₁) (c .before .before .before .before .before .before .before .before .expect2 .ensures .1 src (lies-still l₁ (c .before .before .before .before .before .before .before .before .before .before .before .before .constant .ensures .0 .kept))) (c .before .before .before .before .before .before .node .ensures .1) (c .before .before .set-size .ensures .1))))
 
 pub case-label-spec : {M : Type 1} → statement M
 case-label-spec =
@@ -58,11 +58,11 @@ case-label-spec =
     free-of-requires
     place-here-requires
     expect-requires
-    mark-requires
+    begin-item-requires
     free-of-requires-2
     constant-requires
     expect-requires-2
     node-requires
-    seal-requires
+    set-size-requires
     same-length
     returns)

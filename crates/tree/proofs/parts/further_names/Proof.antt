@@ -6,7 +6,7 @@ use lib.ListN.{length}
 use borrow.Author.Tests.{eq-eqb, ne-eqb}
 use Prim.Native.Nat.{_-_}
 use Rattle.language.specs.Reader.{Source, manyUpTo, isComma}
-use Rattle.tree.specs.Reads.{Lies, Fits}
+use Rattle.tree.specs.Reads.{HoldsSymbols, LeavesRoom}
 use Rattle.tree.specs.Between.{aFurtherName}
 use Rattle.tree.proofs.Lists.{Partly}
 use Rattle.tree.specs.Encoding.{encodeNames}
@@ -23,7 +23,7 @@ use Rattle.tree.proofs.scratch.expect.Reads as expect-reads
 use Rattle.tree.proofs.scratch.kind_here.Reads as kind-here-reads
 
 abbrev Inv-loop : tie.InvT-loop
-Inv-loop s₀ n turns₀ a₀ s turns a = Fits 0 s₀ s n a₀ a × (length s ≡ length s₀) × ((src : Source) → Lies src n s₀ → Partly (manyUpTo turns₀ [] isComma aFurtherName src) (manyUpTo turns [] isComma aFurtherName src) encodeNames s₀ s a₀ a)
+Inv-loop s₀ n turns₀ a₀ s turns a = LeavesRoom 0 s₀ s n a₀ a × (length s ≡ length s₀) × ((src : Source) → HoldsSymbols src n s₀ → Partly (manyUpTo turns₀ [] isComma aFurtherName src) (manyUpTo turns [] isComma aFurtherName src) encodeNames s₀ s a₀ a)
 
 abbrev μ-loop : tie.MeasureT-loop
 μ-loop s₀ n turns₀ a₀ s turns a = turns

@@ -8,7 +8,7 @@ use Rattle.language.specs.Reader.{Source, manyUpTo}
 use Rattle.language.specs.Binding.{isLabel}
 use Rattle.language.specs.Commands as C
 use Rattle.language.specs.Grammar.{within}
-use Rattle.tree.specs.Reads.{Lies, Fits, Reads}
+use Rattle.tree.specs.Reads.{HoldsSymbols, LeavesRoom, Reads}
 use Rattle.tree.proofs.Lists.{Partly}
 use Rattle.tree.specs.Encoding.{encodeLabels}
 use Rattle.tree.proofs.Helpers.{fitted, weaker, both, itself}
@@ -22,16 +22,16 @@ use Rattle.tree.proofs.parts.labels.Lts as lts
 use Rattle.tree.proofs.binding.is_label.Reads as is-label-reads
 use Rattle.tree.proofs.scratch.kind_here.Reads as kind-here-reads
 use Rattle.tree.proofs.parts.label.Reads as label-reads
-use Rattle.tree.proofs.scratch.less.Reads as less-reads
+use Rattle.tree.proofs.scratch.minus.Reads as minus-reads
 
 abbrev Inv-loop : tie.InvT-loop
-Inv-loop s₀ n levels turns₀ a₀ s turns a = Fits 0 s₀ s n a₀ a × (length s ≡ length s₀) × ((src : Source) → Lies src n s₀ → Partly (manyUpTo turns₀ [] isLabel (C.label (within levels)) src) (manyUpTo turns [] isLabel (C.label (within levels)) src) encodeLabels s₀ s a₀ a)
+Inv-loop s₀ n levels turns₀ a₀ s turns a = LeavesRoom 0 s₀ s n a₀ a × (length s ≡ length s₀) × ((src : Source) → HoldsSymbols src n s₀ → Partly (manyUpTo turns₀ [] isLabel (C.label (within levels)) src) (manyUpTo turns [] isLabel (C.label (within levels)) src) encodeLabels s₀ s a₀ a)
 
 abbrev μ-loop : tie.MeasureT-loop
 μ-loop s₀ n levels turns₀ a₀ s turns a = turns
 
-less-requires : tie.Need-less-requires Inv-loop μ-loop
-less-requires c κs = tt
+minus-requires : tie.Need-minus-requires Inv-loop μ-loop
+minus-requires c κs = tt
 
 loop-holds : tie.Need-loop-holds Inv-loop μ-loop
 loop-holds c = (itself (c .before .before .pre), refl, λ src l. begins)
@@ -58,13 +58,13 @@ same-length : tie.Need-same-length Inv-loop μ-loop
 same-length c = search needs
 
 returns : tie.Need-returns Inv-loop μ-loop
-returns c = (c .before .before .before .before .before .loop .inv .0, λ src l. subst (λ (m : ℕ). Reads (manyUpTo m [] isLabel (C.label (within (c .before .before .before .before .before .before .before .before .args .levels))) src) encodeLabels (c .before .before .before .before .before .before .before .before .args .s .now) (c .before .before .before .before .before .loop .s) (c .before .before .before .before .before .before .before .before .args .r) (c .before .before .before .before .before .loop .a)) (c .before .before .before .before .before .before .less .ensures) (ends [] no-label-words (λ at free e. last [] isLabel (C.label (within (c .before .before .before .before .before .before .before .before .args .levels))) src _ at (sym (c .before .is-label .ensures ∙ ap isLabel (c .before .before .kind-here .ensures src (lies-still l (c .before .before .before .before .before .loop .inv .0 .kept)) .here at free e)) ∙ c .if1 .left)) (c .before .before .before .before .before .loop .inv .2 src l)))
+returns c = (c .before .before .before .before .before .loop .inv .0, λ src l. subst (λ (m : ℕ). Reads (manyUpTo m [] isLabel (C.label (within (c .before .before .before .before .before .before .before .before .args .levels))) src) encodeLabels (c .before .before .before .before .before .before .before .before .args .s .now) (c .before .before .before .before .before .loop .s) (c .before .before .before .before .before .before .before .before .args .r) (c .before .before .before .before .before .loop .a)) (c .before .before .before .before .before .before .minus .ensures) (ends [] no-label-words (λ at free e. last [] isLabel (C.label (within (c .before .before .before .before .before .before .before .before .args .levels))) src _ at (sym (c .before .is-label .ensures ∙ ap isLabel (c .before .before .kind-here .ensures src (lies-still l (c .before .before .before .before .before .loop .inv .0 .kept)) .here at free e)) ∙ c .if1 .left)) (c .before .before .before .before .before .loop .inv .2 src l)))
 
 same-length-2 : tie.Need-same-length-2 Inv-loop μ-loop
 same-length-2 c = search needs
 
 returns-2 : tie.Need-returns-2 Inv-loop μ-loop
-returns-2 c = (c .before .loop .inv .0, λ src l. subst (λ (m : ℕ). Reads (manyUpTo m [] isLabel (C.label (within (c .before .before .before .before .args .levels))) src) encodeLabels (c .before .before .before .before .args .s .now) (c .before .loop .s) (c .before .before .before .before .args .r) (c .before .loop .a)) (c .before .before .less .ensures) (ends [] no-label-words (λ at free e. spent [] isLabel (C.label (within (c .before .before .before .before .args .levels))) src _ at (omega arith)) (c .before .loop .inv .2 src l)))
+returns-2 c = (c .before .loop .inv .0, λ src l. subst (λ (m : ℕ). Reads (manyUpTo m [] isLabel (C.label (within (c .before .before .before .before .args .levels))) src) encodeLabels (c .before .before .before .before .args .s .now) (c .before .loop .s) (c .before .before .before .before .args .r) (c .before .loop .a)) (c .before .before .minus .ensures) (ends [] no-label-words (λ at free e. spent [] isLabel (C.label (within (c .before .before .before .before .args .levels))) src _ at (omega arith)) (c .before .loop .inv .2 src l)))
 
 pub labels-spec : {M : Type 1} → statement M
 labels-spec =
@@ -72,7 +72,7 @@ labels-spec =
     (tie.spec
     Inv-loop
     μ-loop
-    less-requires
+    minus-requires
     loop-holds
     kind-here-requires
     is-label-requires

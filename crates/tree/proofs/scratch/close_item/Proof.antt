@@ -12,16 +12,16 @@ use Rattle.tree.proofs.scratch.close_item.Statement.{statement}
 use Rattle.tree.proofs.scratch.close_item.Tie as tie
 use Rattle.tree.proofs.scratch.close_item.Reads as reads
 use Rattle.tree.proofs.scratch.close_item.Lts as lts
-use Rattle.tree.proofs.scratch.less.Reads as less-reads
+use Rattle.tree.proofs.scratch.minus.Reads as minus-reads
 
 enum-known-r : tie.Need-enum-known-r
 enum-known-r c = search needs
 
-less-requires : tie.Need-less-requires
-less-requires c κs = search needs
+minus-requires : tie.Need-minus-requires
+minus-requires c κs = search needs
 
 cast-s : tie.Need-cast-s
-cast-s c = omega (arith, room-is (c .before .before .before .before .before .pre) (c .before .before .r .given .1), c .less .ensures)
+cast-s c = omega (arith, room-is (c .before .before .before .before .before .pre) (c .before .before .r .given .1), c .minus .ensures)
 
 mul-s : tie.Need-mul-s
 mul-s c = omega (arith, room-is (c .before .before .before .before .before .pre) (c .before .before .r .given .1))
@@ -52,7 +52,7 @@ returns c =
     let start = c .before .before .before .before .before in
     let given = c .before .before .r .given in
     let words = behindFrom (start .args .lo) (start .args .tag) in
-    let stands = put2 _ _ _ _ (room-is (start .pre) (given .1) .0) ∙ ap (λ (z : ℕ). take (given .0 .1 .0) (start .args .s .now) ++ (z ∷ start .args .tag ∷ [])) (c .less .ensures) in
+    let stands = put2 _ _ _ _ (room-is (start .pre) (given .1) .0) ∙ ap (λ (z : ℕ). take (given .0 .1 .0) (start .args .s .now) ++ (z ∷ start .args .tag ∷ [])) (c .minus .ensures) in
     (added-grows (start .pre) (given .1) words _ 2 _ refl refl (omega arith) stands, added-adds (start .pre) (given .1) words _ 2 _ refl refl (omega arith) stands)
 
 returns-2 : tie.Need-returns-2
@@ -63,7 +63,7 @@ close-item-spec =
     tie.close
     (tie.spec
     enum-known-r
-    less-requires
+    minus-requires
     cast-s
     mul-s
     slice-write-s

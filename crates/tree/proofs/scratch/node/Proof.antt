@@ -12,16 +12,16 @@ use Rattle.tree.proofs.scratch.node.Statement.{statement}
 use Rattle.tree.proofs.scratch.node.Tie as tie
 use Rattle.tree.proofs.scratch.node.Reads as reads
 use Rattle.tree.proofs.scratch.node.Lts as lts
-use Rattle.tree.proofs.scratch.less.Reads as less-reads
+use Rattle.tree.proofs.scratch.minus.Reads as minus-reads
 
 enum-known-r : tie.Need-enum-known-r
 enum-known-r c = search needs
 
-less-requires : tie.Need-less-requires
-less-requires c κs = search needs
+minus-requires : tie.Need-minus-requires
+minus-requires c κs = search needs
 
 cast-s : tie.Need-cast-s
-cast-s c = omega (arith, room-is (c .before .before .before .before .before .pre) (c .before .before .r .given .1), c .less .ensures)
+cast-s c = omega (arith, room-is (c .before .before .before .before .before .pre) (c .before .before .r .given .1), c .minus .ensures)
 
 mul-s : tie.Need-mul-s
 mul-s c = omega (arith, room-is (c .before .before .before .before .before .pre) (c .before .before .r .given .1))
@@ -66,7 +66,7 @@ same-length : tie.Need-same-length
 same-length c = search needs
 
 returns : tie.Need-returns
-returns c = (added-grows (c .before .before .before .before .before .pre) (c .before .before .r .given .1) (recordFrom (c .before .before .before .before .before .args .lo) (c .before .before .before .before .before .args .value) (c .before .before .before .before .before .args .place) (c .before .before .before .before .before .args .kind)) _ 4 _ refl refl (omega arith) (put4 _ _ _ _ _ _ (room-is (c .before .before .before .before .before .pre) (c .before .before .r .given .1) .0) ∙ ap (λ (z : ℕ). take (c .before .before .r .given .0 .1 .0) (c .before .before .before .before .before .args .s .now) ++ (z ∷ (c .before .before .before .before .before .args .value) ∷ (c .before .before .before .before .before .args .place) ∷ (c .before .before .before .before .before .args .kind) ∷ [])) (c .less .ensures)), added-adds (c .before .before .before .before .before .pre) (c .before .before .r .given .1) (recordFrom (c .before .before .before .before .before .args .lo) (c .before .before .before .before .before .args .value) (c .before .before .before .before .before .args .place) (c .before .before .before .before .before .args .kind)) _ 4 _ refl refl (omega arith) (put4 _ _ _ _ _ _ (room-is (c .before .before .before .before .before .pre) (c .before .before .r .given .1) .0) ∙ ap (λ (z : ℕ). take (c .before .before .r .given .0 .1 .0) (c .before .before .before .before .before .args .s .now) ++ (z ∷ (c .before .before .before .before .before .args .value) ∷ (c .before .before .before .before .before .args .place) ∷ (c .before .before .before .before .before .args .kind) ∷ [])) (c .less .ensures)))
+returns c = (added-grows (c .before .before .before .before .before .pre) (c .before .before .r .given .1) (recordFrom (c .before .before .before .before .before .args .lo) (c .before .before .before .before .before .args .value) (c .before .before .before .before .before .args .place) (c .before .before .before .before .before .args .kind)) _ 4 _ refl refl (omega arith) (put4 _ _ _ _ _ _ (room-is (c .before .before .before .before .before .pre) (c .before .before .r .given .1) .0) ∙ ap (λ (z : ℕ). take (c .before .before .r .given .0 .1 .0) (c .before .before .before .before .before .args .s .now) ++ (z ∷ (c .before .before .before .before .before .args .value) ∷ (c .before .before .before .before .before .args .place) ∷ (c .before .before .before .before .before .args .kind) ∷ [])) (c .minus .ensures)), added-adds (c .before .before .before .before .before .pre) (c .before .before .r .given .1) (recordFrom (c .before .before .before .before .before .args .lo) (c .before .before .before .before .before .args .value) (c .before .before .before .before .before .args .place) (c .before .before .before .before .before .args .kind)) _ 4 _ refl refl (omega arith) (put4 _ _ _ _ _ _ (room-is (c .before .before .before .before .before .pre) (c .before .before .r .given .1) .0) ∙ ap (λ (z : ℕ). take (c .before .before .r .given .0 .1 .0) (c .before .before .before .before .before .args .s .now) ++ (z ∷ (c .before .before .before .before .before .args .value) ∷ (c .before .before .before .before .before .args .place) ∷ (c .before .before .before .before .before .args .kind) ∷ [])) (c .minus .ensures)))
 
 returns-2 : tie.Need-returns-2
 returns-2 c = (refused-grows (c .before .before .before .before .pre), adds-refused (c .before .r2 .given .1))
@@ -76,7 +76,7 @@ node-spec =
     tie.close
     (tie.spec
     enum-known-r
-    less-requires
+    minus-requires
     cast-s
     mul-s
     slice-write-s

@@ -23,7 +23,7 @@ use Rattle.language.specs.Commands as C
 use Rattle.language.specs.Grammar.{within, readers}
 use Rattle.tree.specs.Encoding.{encodeCommands, encodeLocals}
 use Prim.Native.Nat.{_+_, _-_, ℕ}
-use Rattle.tree.specs.Reads.{Lies, Fits, freeOf}
+use Rattle.tree.specs.Reads.{HoldsSymbols, LeavesRoom, freeOf}
 use phrases.arg.Reads as arg
 use phrases.block.Reads as block
 use cycle.Lts-block as block-lts
@@ -55,16 +55,16 @@ use proofs.parts.vector.Reads as vector-reads
 use proofs.scratch.expect.Reads as expect-reads
 use proofs.scratch.free_of.Reads as free-of-reads
 use proofs.scratch.kind_here.Reads as kind-here-reads
-use proofs.scratch.less.Reads as less-reads
-use proofs.scratch.mark.Reads as mark-reads
+use proofs.scratch.minus.Reads as minus-reads
+use proofs.scratch.begin_item.Reads as begin-item-reads
 use proofs.scratch.node.Reads as node-reads
 use proofs.scratch.optional.Reads as optional-reads
 use proofs.scratch.refuse.Reads as refuse-reads
-use proofs.scratch.seal.Reads as seal-reads
+use proofs.scratch.set_size.Reads as set-size-reads
 use cycle.Proof.Ranks.{arg-below, block-at, cmd-below, expr-below, step-at, init-at, init-below, list-at, list-below, item-at, item-below, local-at, local-below, lets-at, lets-below, rest-below, pick-at, till-at, till-below}
 
 abbrev block-cs : ℕ → block-lts.Claims
-block-cs t = (free-of-reads.Asked, free-of-reads.Learnt, expect-reads.Asked, expect-reads.Learnt, lets-below t, lets.Post, less-reads.Asked, less-reads.Learnt, till-below t, till.Post, node-reads.Asked, node-reads.Learnt)
+block-cs t = (free-of-reads.Asked, free-of-reads.Learnt, expect-reads.Asked, expect-reads.Learnt, lets-below t, lets.Post, minus-reads.Asked, minus-reads.Learnt, till-below t, till.Post, node-reads.Asked, node-reads.Learnt)
 
 block-free-of-requires : (t : ℕ) → block-lts.Need-free-of-requires (block-cs t) (block-at t) block.Post
 block-free-of-requires t c κs = tt
@@ -78,14 +78,14 @@ block-lets-requires t c κs = (omega (arith, c .before .before .before .before .
 block-free-of-requires-2 : (t : ℕ) → block-lts.Need-free-of-requires-2 (block-cs t) (block-at t) block.Post
 block-free-of-requires-2 t c κs = tt
 
-block-less-requires : (t : ℕ) → block-lts.Need-less-requires (block-cs t) (block-at t) block.Post
-block-less-requires t c κs = tt
+block-minus-requires : (t : ℕ) → block-lts.Need-minus-requires (block-cs t) (block-at t) block.Post
+block-minus-requires t c κs = tt
 
 block-till-requires : (t : ℕ) → block-lts.Need-till-requires (block-cs t) (block-at t) block.Post
 block-till-requires t c κs = (omega (arith, c .before .before .before .before .before .before .before .before .before .before .before .before .before .pre .0), smaller (fitted (fitted (c .before .before .before .before .before .before .before .before .before .before .before .before .before .pre .1) (c .before .before .before .before .before .before .before .before .expect .ensures .0) refl (omega arith)) (c .before .before .before .before .before .before .lets .ensures .0) (c .before .before .before .before .before .before .lets .kept .0) (omega arith)) (omega arith))
 
 block-cast-node : (t : ℕ) → block-lts.Need-cast-node (block-cs t) (block-at t) block.Post
-block-cast-node t c = omega (arith, c .before .before .before .before .before .less .ensures, c .before .before .before .before .before .before .free-of2 .ensures, low (fitted (fitted (c .before .before .before .before .before .before .before .before .before .before .before .before .before .before .before .before .before .pre .1) (c .before .before .before .before .before .before .before .before .before .before .before .before .expect .ensures .0) refl (omega arith)) (c .before .before .before .before .before .before .before .before .before .before .lets .ensures .0) (c .before .before .before .before .before .before .before .before .before .before .lets .kept .0) (omega arith)), c .before .before .before .before .before .before .before .before .before .before .lets .kept .0, c .before .before .before .before .before .before .before .before .before .before .before .before .before .before .before .before .before .pre .1 .small)
+block-cast-node t c = omega (arith, c .before .before .before .before .before .minus .ensures, c .before .before .before .before .before .before .free-of2 .ensures, low (fitted (fitted (c .before .before .before .before .before .before .before .before .before .before .before .before .before .before .before .before .before .pre .1) (c .before .before .before .before .before .before .before .before .before .before .before .before .expect .ensures .0) refl (omega arith)) (c .before .before .before .before .before .before .before .before .before .before .lets .ensures .0) (c .before .before .before .before .before .before .before .before .before .before .lets .kept .0) (omega arith)), c .before .before .before .before .before .before .before .before .before .before .lets .kept .0, c .before .before .before .before .before .before .before .before .before .before .before .before .before .before .before .before .before .pre .1 .small)
 
 block-node-requires : (t : ℕ) → block-lts.Need-node-requires (block-cs t) (block-at t) block.Post
 block-node-requires t c κs = smaller (fitted (fitted (fitted (c .before .before .before .before .before .before .before .before .before .before .before .before .before .before .before .before .before .pre .1) (c .before .before .before .before .before .before .before .before .before .before .before .before .expect .ensures .0) refl (omega arith)) (c .before .before .before .before .before .before .before .before .before .before .lets .ensures .0) (c .before .before .before .before .before .before .before .before .before .before .lets .kept .0) (omega arith)) (c .before .before .before .till .ensures .0) (c .before .before .before .till .kept .0) (omega arith)) (omega arith)
@@ -94,13 +94,13 @@ block-same-length : (t : ℕ) → block-lts.Need-same-length (block-cs t) (block
 block-same-length t c = search needs
 
 block-returns : (t : ℕ) → block-lts.Need-returns (block-cs t) (block-at t) block.Post
-block-returns t c = (weaker (omega arith) (then-grows (both (both (c .before .before .before .before .before .before .before .before .before .before .before .before .before .before .before .expect .ensures .0) (c .before .before .before .before .before .before .before .before .before .before .before .before .before .lets .ensures .0)) (c .before .before .before .before .before .before .till .ensures .0)) (c .before .before .node .ensures .0) (omega arith)), λ src l. (let l₂ = lies-still l (c .before .before .before .before .before .before .before .before .before .before .before .before .before .lets .ensures .0 .kept) in block-read l _ _ (c .before .before .before .before .before .before .before .before .before .before .before .before .before .before .before .before .before .free-of .ensures) (c .before .before .before .before .before .before .before .before .before .before .before .before .before .before .before .expect .ensures .1 src l) (c .before .before .before .before .before .before .before .before .before .before .before .before .before .lets .ensures .1 src l) (c .before .before .before .before .before .before .till .ensures .1 src l₂) (c .before .before .before .before .before .before .before .before .less .ensures ∙ ap (λ (y : ℕ). y - c .before .before .before .before .before .before .before .before .before .before .before .before .before .before .before .before .before .free-of .result) (c .before .before .before .before .before .before .before .before .before .free-of2 .ensures ∙ ap (λ (z : ℕ). freeOf z (c .before .before .before .before .before .before .before .before .before .before .before .before .before .lets .result)) (c .before .before .before .before .before .before .before .before .before .before .before .before .before .lets .kept .0))) (c .before .before .node .ensures .1)))
+block-returns t c = (weaker (omega arith) (then-grows (both (both (c .before .before .before .before .before .before .before .before .before .before .before .before .before .before .before .expect .ensures .0) (c .before .before .before .before .before .before .before .before .before .before .before .before .before .lets .ensures .0)) (c .before .before .before .before .before .before .till .ensures .0)) (c .before .before .node .ensures .0) (omega arith)), λ src l. (let l₂ = lies-still l (c .before .before .before .before .before .before .before .before .before .before .before .before .before .lets .ensures .0 .kept) in block-read l _ _ (c .before .before .before .before .before .before .before .before .before .before .before .before .before .before .before .before .before .free-of .ensures) (c .before .before .before .before .before .before .before .before .before .before .before .before .before .before .before .expect .ensures .1 src l) (c .before .before .before .before .before .before .before .before .before .before .before .before .before .lets .ensures .1 src l) (c .before .before .before .before .before .before .till .ensures .1 src l₂) (c .before .before .before .before .before .before .before .before .minus .ensures ∙ ap (λ (y : ℕ). y - c .before .before .before .before .before .before .before .before .before .before .before .before .before .before .before .before .before .free-of .result) (c .before .before .before .before .before .before .before .before .before .free-of2 .ensures ∙ ap (λ (z : ℕ). freeOf z (c .before .before .before .before .before .before .before .before .before .before .before .before .before .lets .result)) (c .before .before .before .before .before .before .before .before .before .before .before .before .before .lets .kept .0))) (c .before .before .node .ensures .1)))
 
 pub block-ok : {M : Type 1} (t : ℕ) → block-lts.Closed (block-cs t) (block-at t) block.Post M
-block-ok t = block-lts.spec (block-cs t) (block-at t) block.Post (block-free-of-requires t) (block-expect-requires t) (block-lets-requires t) (block-free-of-requires-2 t) (block-less-requires t) (block-till-requires t) (block-cast-node t) (block-node-requires t) (block-same-length t) (block-returns t)
+block-ok t = block-lts.spec (block-cs t) (block-at t) block.Post (block-free-of-requires t) (block-expect-requires t) (block-lets-requires t) (block-free-of-requires-2 t) (block-minus-requires t) (block-till-requires t) (block-cast-node t) (block-node-requires t) (block-same-length t) (block-returns t)
 
 abbrev step-cs : ℕ → step-lts.Claims
-step-cs t = (free-of-reads.Asked, free-of-reads.Learnt, expect-reads.Asked, expect-reads.Learnt, a-name-reads.Asked, a-name-reads.Learnt, expr-below t, expr.Post, optional-by-reads.Asked, optional-by-reads.Learnt, less-reads.Asked, less-reads.Learnt, cmd-below t, cmd.Post, node-reads.Asked, node-reads.Learnt)
+step-cs t = (free-of-reads.Asked, free-of-reads.Learnt, expect-reads.Asked, expect-reads.Learnt, a-name-reads.Asked, a-name-reads.Learnt, expr-below t, expr.Post, optional-by-reads.Asked, optional-by-reads.Learnt, minus-reads.Asked, minus-reads.Learnt, cmd-below t, cmd.Post, node-reads.Asked, node-reads.Learnt)
 
 step-free-of-requires : (t : ℕ) → step-lts.Need-free-of-requires (step-cs t) (step-at t) step.Post
 step-free-of-requires t c κs = tt
@@ -132,8 +132,8 @@ step-free-of-requires-2 t c κs = tt
 step-free-of-requires-3 : (t : ℕ) → step-lts.Need-free-of-requires-3 (step-cs t) (step-at t) step.Post
 step-free-of-requires-3 t c κs = tt
 
-step-less-requires : (t : ℕ) → step-lts.Need-less-requires (step-cs t) (step-at t) step.Post
-step-less-requires t c κs = tt
+step-minus-requires : (t : ℕ) → step-lts.Need-minus-requires (step-cs t) (step-at t) step.Post
+step-minus-requires t c κs = tt
 
 step-expect-requires-4 : (t : ℕ) → step-lts.Need-expect-requires-4 (step-cs t) (step-at t) step.Post
 step-expect-requires-4 t c κs = (smaller (fitted (fitted (fitted (fitted (fitted (fitted (fitted (c .before .before .before .before .before .before .before .before .before .before .before .before .before .before .before .before .before .before .before .before .before .before .before .before .before .before .before .before .before .before .before .pre .1) (c .before .before .before .before .before .before .before .before .before .before .before .before .before .before .before .before .before .before .before .before .before .before .before .before .before .before .expect .ensures .0) refl (omega arith)) (c .before .before .before .before .before .before .before .before .before .before .before .before .before .before .before .before .before .before .before .before .before .before .before .before .a-name .ensures .0) (c .before .before .before .before .before .before .before .before .before .before .before .before .before .before .before .before .before .before .before .before .before .before .before .before .a-name .kept .0) (omega arith)) (c .before .before .before .before .before .before .before .before .before .before .before .before .before .before .before .before .before .before .before .before .expect2 .ensures .0) refl (omega arith)) (c .before .before .before .before .before .before .before .before .before .before .before .before .before .before .before .before .before .before .expr .ensures .0) (c .before .before .before .before .before .before .before .before .before .before .before .before .before .before .before .before .before .before .expr .kept .0) (omega arith)) (c .before .before .before .before .before .before .before .before .before .before .before .before .before .before .expect3 .ensures .0) refl (omega arith)) (c .before .before .before .before .before .before .before .before .before .before .before .before .expr2 .ensures .0) (c .before .before .before .before .before .before .before .before .before .before .before .before .expr2 .kept .0) (omega arith)) (c .before .before .before .before .before .before .before .before .optional-by .ensures .0) (c .before .before .before .before .before .before .before .before .optional-by .kept .0) (omega arith)) (omega arith), (omega arith))
@@ -142,7 +142,7 @@ step-cmd-requires : (t : ℕ) → step-lts.Need-cmd-requires (step-cs t) (step-a
 step-cmd-requires t c κs = (omega (arith, c .before .before .before .before .before .before .before .before .before .before .before .before .before .before .before .before .before .before .before .before .before .before .before .before .before .before .before .before .before .before .before .before .before .pre .0), smaller (fitted (fitted (fitted (fitted (fitted (fitted (fitted (fitted (c .before .before .before .before .before .before .before .before .before .before .before .before .before .before .before .before .before .before .before .before .before .before .before .before .before .before .before .before .before .before .before .before .before .pre .1) (c .before .before .before .before .before .before .before .before .before .before .before .before .before .before .before .before .before .before .before .before .before .before .before .before .before .before .before .before .expect .ensures .0) refl (omega arith)) (c .before .before .before .before .before .before .before .before .before .before .before .before .before .before .before .before .before .before .before .before .before .before .before .before .before .before .a-name .ensures .0) (c .before .before .before .before .before .before .before .before .before .before .before .before .before .before .before .before .before .before .before .before .before .before .before .before .before .before .a-name .kept .0) (omega arith)) (c .before .before .before .before .before .before .before .before .before .before .before .before .before .before .before .before .before .before .before .before .before .before .expect2 .ensures .0) refl (omega arith)) (c .before .before .before .before .before .before .before .before .before .before .before .before .before .before .before .before .before .before .before .before .expr .ensures .0) (c .before .before .before .before .before .before .before .before .before .before .before .before .before .before .before .before .before .before .before .before .expr .kept .0) (omega arith)) (c .before .before .before .before .before .before .before .before .before .before .before .before .before .before .before .before .expect3 .ensures .0) refl (omega arith)) (c .before .before .before .before .before .before .before .before .before .before .before .before .before .before .expr2 .ensures .0) (c .before .before .before .before .before .before .before .before .before .before .before .before .before .before .expr2 .kept .0) (omega arith)) (c .before .before .before .before .before .before .before .before .before .before .optional-by .ensures .0) (c .before .before .before .before .before .before .before .before .before .before .optional-by .kept .0) (omega arith)) (c .before .expect4 .ensures .0) refl (omega arith)) (omega arith))
 
 step-cast-node : (t : ℕ) → step-lts.Need-cast-node (step-cs t) (step-at t) step.Post
-step-cast-node t c = omega (arith, c .before .before .before .before .before .before .before .less .ensures, c .before .before .before .before .before .before .before .before .before .before .free-of2 .ensures, low (fitted (fitted (fitted (fitted (fitted (fitted (fitted (c .before .before .before .before .before .before .before .before .before .before .before .before .before .before .before .before .before .before .before .before .before .before .before .before .before .before .before .before .before .before .before .before .before .before .before .before .before .pre .1) (c .before .before .before .before .before .before .before .before .before .before .before .before .before .before .before .before .before .before .before .before .before .before .before .before .before .before .before .before .before .before .before .before .expect .ensures .0) refl (omega arith)) (c .before .before .before .before .before .before .before .before .before .before .before .before .before .before .before .before .before .before .before .before .before .before .before .before .before .before .before .before .before .before .a-name .ensures .0) (c .before .before .before .before .before .before .before .before .before .before .before .before .before .before .before .before .before .before .before .before .before .before .before .before .before .before .before .before .before .before .a-name .kept .0) (omega arith)) (c .before .before .before .before .before .before .before .before .before .before .before .before .before .before .before .before .before .before .before .before .before .before .before .before .before .before .expect2 .ensures .0) refl (omega arith)) (c .before .before .before .before .before .before .before .before .before .before .before .before .before .before .before .before .before .before .before .before .before .before .before .before .expr .ensures .0) (c .before .before .before .before .before .before .before .before .before .before .before .before .before .before .before .before .before .before .before .before .before .before .before .before .expr .kept .0) (omega arith)) (c .before .before .before .before .before .before .before .before .before .before .before .before .before .before .before .before .before .before .before .before .expect3 .ensures .0) refl (omega arith)) (c .before .before .before .before .before .before .before .before .before .before .before .before .before .before .before .before .before .before .expr2 .ensures .0) (c .before .before .before .before .before .before .before .before .before .before .before .before .before .before .before .before .before .before .expr2 .kept .0) (omega arith)) (c .before .before .before .before .before .before .before .before .before .before .before .before .before .before .optional-by .ensures .0) (c .before .before .before .before .before .before .before .before .before .before .before .before .before .before .optional-by .kept .0) (omega arith)), c .before .before .before .before .before .before .before .before .before .before .before .before .before .before .optional-by .kept .0, c .before .before .before .before .before .before .before .before .before .before .before .before .before .before .before .before .before .before .expr2 .kept .0, c .before .before .before .before .before .before .before .before .before .before .before .before .before .before .before .before .before .before .before .before .before .before .before .before .expr .kept .0, c .before .before .before .before .before .before .before .before .before .before .before .before .before .before .before .before .before .before .before .before .before .before .before .before .before .before .before .before .before .before .a-name .kept .0, c .before .before .before .before .before .before .before .before .before .before .before .before .before .before .before .before .before .before .before .before .before .before .before .before .before .before .before .before .before .before .before .before .before .before .before .before .before .pre .1 .small)
+step-cast-node t c = omega (arith, c .before .before .before .before .before .before .before .minus .ensures, c .before .before .before .before .before .before .before .before .before .before .free-of2 .ensures, low (fitted (fitted (fitted (fitted (fitted (fitted (fitted (c .before .before .before .before .before .before .before .before .before .before .before .before .before .before .before .before .before .before .before .before .before .before .before .before .before .before .before .before .before .before .before .before .before .before .before .before .before .pre .1) (c .before .before .before .before .before .before .before .before .before .before .before .before .before .before .before .before .before .before .before .before .before .before .before .before .before .before .before .before .before .before .before .before .expect .ensures .0) refl (omega arith)) (c .before .before .before .before .before .before .before .before .before .before .before .before .before .before .before .before .before .before .before .before .before .before .before .before .before .before .before .before .before .before .a-name .ensures .0) (c .before .before .before .before .before .before .before .before .before .before .before .before .before .before .before .before .before .before .before .before .before .before .before .before .before .before .before .before .before .before .a-name .kept .0) (omega arith)) (c .before .before .before .before .before .before .before .before .before .before .before .before .before .before .before .before .before .before .before .before .before .before .before .before .before .before .expect2 .ensures .0) refl (omega arith)) (c .before .before .before .before .before .before .before .before .before .before .before .before .before .before .before .before .before .before .before .before .before .before .before .before .expr .ensures .0) (c .before .before .before .before .before .before .before .before .before .before .before .before .before .before .before .before .before .before .before .before .before .before .before .before .expr .kept .0) (omega arith)) (c .before .before .before .before .before .before .before .before .before .before .before .before .before .before .before .before .before .before .before .before .expect3 .ensures .0) refl (omega arith)) (c .before .before .before .before .before .before .before .before .before .before .before .before .before .before .before .before .before .before .expr2 .ensures .0) (c .before .before .before .before .before .before .before .before .before .before .before .before .before .before .before .before .before .before .expr2 .kept .0) (omega arith)) (c .before .before .before .before .before .before .before .before .before .before .before .before .before .before .optional-by .ensures .0) (c .before .before .before .before .before .before .before .before .before .before .before .before .before .before .optional-by .kept .0) (omega arith)), c .before .before .before .before .before .before .before .before .before .before .before .before .before .before .optional-by .kept .0, c .before .before .before .before .before .before .before .before .before .before .before .before .before .before .before .before .before .before .expr2 .kept .0, c .before .before .before .before .before .before .before .before .before .before .before .before .before .before .before .before .before .before .before .before .before .before .before .before .expr .kept .0, c .before .before .before .before .before .before .before .before .before .before .before .before .before .before .before .before .before .before .before .before .before .before .before .before .before .before .before .before .before .before .a-name .kept .0, c .before .before .before .before .before .before .before .before .before .before .before .before .before .before .before .before .before .before .before .before .before .before .before .before .before .before .before .before .before .before .before .before .before .before .before .before .before .pre .1 .small)
 
 step-node-requires : (t : ℕ) → step-lts.Need-node-requires (step-cs t) (step-at t) step.Post
 step-node-requires t c κs = smaller (fitted (fitted (fitted (fitted (fitted (fitted (fitted (fitted (fitted (c .before .before .before .before .before .before .before .before .before .before .before .before .before .before .before .before .before .before .before .before .before .before .before .before .before .before .before .before .before .before .before .before .before .before .before .before .before .pre .1) (c .before .before .before .before .before .before .before .before .before .before .before .before .before .before .before .before .before .before .before .before .before .before .before .before .before .before .before .before .before .before .before .before .expect .ensures .0) refl (omega arith)) (c .before .before .before .before .before .before .before .before .before .before .before .before .before .before .before .before .before .before .before .before .before .before .before .before .before .before .before .before .before .before .a-name .ensures .0) (c .before .before .before .before .before .before .before .before .before .before .before .before .before .before .before .before .before .before .before .before .before .before .before .before .before .before .before .before .before .before .a-name .kept .0) (omega arith)) (c .before .before .before .before .before .before .before .before .before .before .before .before .before .before .before .before .before .before .before .before .before .before .before .before .before .before .expect2 .ensures .0) refl (omega arith)) (c .before .before .before .before .before .before .before .before .before .before .before .before .before .before .before .before .before .before .before .before .before .before .before .before .expr .ensures .0) (c .before .before .before .before .before .before .before .before .before .before .before .before .before .before .before .before .before .before .before .before .before .before .before .before .expr .kept .0) (omega arith)) (c .before .before .before .before .before .before .before .before .before .before .before .before .before .before .before .before .before .before .before .before .expect3 .ensures .0) refl (omega arith)) (c .before .before .before .before .before .before .before .before .before .before .before .before .before .before .before .before .before .before .expr2 .ensures .0) (c .before .before .before .before .before .before .before .before .before .before .before .before .before .before .before .before .before .before .expr2 .kept .0) (omega arith)) (c .before .before .before .before .before .before .before .before .before .before .before .before .before .before .optional-by .ensures .0) (c .before .before .before .before .before .before .before .before .before .before .before .before .before .before .optional-by .kept .0) (omega arith)) (c .before .before .before .before .before .expect4 .ensures .0) refl (omega arith)) (c .before .before .before .cmd .ensures .0) (c .before .before .before .cmd .kept .0) (omega arith)) (omega arith)
@@ -151,13 +151,13 @@ step-same-length : (t : ℕ) → step-lts.Need-same-length (step-cs t) (step-at 
 step-same-length t c = c .before .before .node .kept .0 ∙ c .before .before .before .before .before .before .cmd .kept .0 ∙ c .before .before .before .before .before .before .before .before .before .before .before .before .before .before .before .before .before .optional-by .kept .0 ∙ c .before .before .before .before .before .before .before .before .before .before .before .before .before .before .before .before .before .before .before .before .before .expr2 .kept .0 ∙ c .before .before .before .before .before .before .before .before .before .before .before .before .before .before .before .before .before .before .before .before .before .before .before .before .before .before .before .expr .kept .0 ∙ c .before .before .before .before .before .before .before .before .before .before .before .before .before .before .before .before .before .before .before .before .before .before .before .before .before .before .before .before .before .before .before .before .before .a-name .kept .0
 
 step-returns : (t : ℕ) → step-lts.Need-returns (step-cs t) (step-at t) step.Post
-step-returns t c = (weaker (omega arith) (then-grows (both (both (both (both (both (both (both (both (c .before .before .before .before .before .before .before .before .before .before .before .before .before .before .before .before .before .before .before .before .before .before .before .before .before .before .before .before .before .before .before .before .before .before .before .expect .ensures .0) (c .before .before .before .before .before .before .before .before .before .before .before .before .before .before .before .before .before .before .before .before .before .before .before .before .before .before .before .before .before .before .before .before .before .a-name .ensures .0)) (c .before .before .before .before .before .before .before .before .before .before .before .before .before .before .before .before .before .before .before .before .before .before .before .before .before .before .before .before .before .expect2 .ensures .0)) (c .before .before .before .before .before .before .before .before .before .before .before .before .before .before .before .before .before .before .before .before .before .before .before .before .before .before .before .expr .ensures .0)) (c .before .before .before .before .before .before .before .before .before .before .before .before .before .before .before .before .before .before .before .before .before .before .before .expect3 .ensures .0)) (c .before .before .before .before .before .before .before .before .before .before .before .before .before .before .before .before .before .before .before .before .before .expr2 .ensures .0)) (c .before .before .before .before .before .before .before .before .before .before .before .before .before .before .before .before .before .optional-by .ensures .0)) (c .before .before .before .before .before .before .before .before .expect4 .ensures .0)) (c .before .before .before .before .before .before .cmd .ensures .0)) (c .before .before .node .ensures .0) (omega arith)), λ src l. (let l₂ = lies-still l (c .before .before .before .before .before .before .before .before .before .before .before .before .before .before .before .before .before .before .before .before .before .before .before .before .before .before .before .before .before .before .before .before .before .a-name .ensures .0 .kept) in let l₄ = lies-still l₂ (c .before .before .before .before .before .before .before .before .before .before .before .before .before .before .before .before .before .before .before .before .before .before .before .before .before .before .before .expr .ensures .0 .kept) in let l₆ = lies-still l₄ (c .before .before .before .before .before .before .before .before .before .before .before .before .before .before .before .before .before .before .before .before .before .expr2 .ensures .0 .kept) in let l₇ = lies-still l₆ (c .before .before .before .before .before .before .before .before .before .before .before .before .before .before .before .before .before .optional-by .ensures .0 .kept) in for-read l _ _ (c .before .before .before .before .before .before .before .before .before .before .before .before .before .before .before .before .before .before .before .before .before .before .before .before .before .before .before .before .before .before .before .before .before .before .before .before .before .free-of .ensures) (c .before .before .before .before .before .before .before .before .before .before .before .before .before .before .before .before .before .before .before .before .before .before .before .before .before .before .before .before .before .before .before .before .before .before .before .expect .ensures .1 src l) (c .before .before .before .before .before .before .before .before .before .before .before .before .before .before .before .before .before .before .before .before .before .before .before .before .before .before .before .before .before .before .before .before .before .a-name .ensures .1 src l) (c .before .before .before .before .before .before .before .before .before .before .before .before .before .before .before .before .before .before .before .before .before .before .before .before .before .before .before .before .before .expect2 .ensures .1 src l₂) (c .before .before .before .before .before .before .before .before .before .before .before .before .before .before .before .before .before .before .before .before .before .before .before .before .before .before .before .expr .ensures .1 src l₂) (c .before .before .before .before .before .before .before .before .before .before .before .before .before .before .before .before .before .before .before .before .before .before .before .expect3 .ensures .1 src l₄) (c .before .before .before .before .before .before .before .before .before .before .before .before .before .before .before .before .before .before .before .before .before .expr2 .ensures .1 src l₄) (c .before .before .before .before .before .before .before .before .before .before .before .before .before .before .before .before .before .optional-by .ensures .1 src l₆) (c .before .before .before .before .before .before .before .before .expect4 .ensures .1 src l₇) (c .before .before .before .before .before .before .cmd .ensures .1 src l₇) (omega (arith, c .before .before .before .before .before .before .before .before .before .before .less .ensures, c .before .before .before .before .before .before .before .before .before .before .before .before .before .free-of2 .ensures ∙ ap (λ (z : ℕ). freeOf z (c .before .before .before .before .before .before .before .before .before .before .before .before .before .before .before .before .before .optional-by .result)) (c .before .before .before .before .before .before .before .before .before .before .before .before .before .before .before .before .before .optional-by .kept .0 ∙ c .before .before .before .before .before .before .before .before .before .before .before .before .before .before .before .before .before .before .before .before .before .expr2 .kept .0 ∙ c .before .before .before .before .before .before .before .before .before .before .before .before .before .before .before .before .before .before .before .before .before .before .before .before .before .before .before .expr .kept .0 ∙ c .before .before .before .before .before .before .before .before .before .before .before .before .before .before .before .before .before .before .before .before .before .before .before .before .before .before .before .before .before .before .before .before .before .a-name .kept .0), c .before .before .before .before .before .before .before .before .before .before .before .free-of3 .ensures ∙ ap (λ (z : ℕ). freeOf z (c .before .before .before .before .before .before .before .before .before .before .before .before .before .before .before .before .before .before .before .before .before .expr2 .result)) (c .before .before .before .before .before .before .before .before .before .before .before .before .before .before .before .before .before .optional-by .kept .0 ∙ c .before .before .before .before .before .before .before .before .before .before .before .before .before .before .before .before .before .before .before .before .before .expr2 .kept .0 ∙ c .before .before .before .before .before .before .before .before .before .before .before .before .before .before .before .before .before .before .before .before .before .before .before .before .before .before .before .expr .kept .0 ∙ c .before .before .before .before .before .before .before .before .before .before .before .before .before .before .before .before .before .before .before .before .before .before .before .before .before .before .before .before .before .before .before .before .before .a-name .kept .0))) (c .before .before .node .ensures .1)))
+step-returns t c = (weaker (omega arith) (then-grows (both (both (both (both (both (both (both (both (c .before .before .before .before .before .before .before .before .before .before .before .before .before .before .before .before .before .before .before .before .before .before .before .before .before .before .before .before .before .before .before .before .before .before .before .expect .ensures .0) (c .before .before .before .before .before .before .before .before .before .before .before .before .before .before .before .before .before .before .before .before .before .before .before .before .before .before .before .before .before .before .before .before .before .a-name .ensures .0)) (c .before .before .before .before .before .before .before .before .before .before .before .before .before .before .before .before .before .before .before .before .before .before .before .before .before .before .before .before .before .expect2 .ensures .0)) (c .before .before .before .before .before .before .before .before .before .before .before .before .before .before .before .before .before .before .before .before .before .before .before .before .before .before .before .expr .ensures .0)) (c .before .before .before .before .before .before .before .before .before .before .before .before .before .before .before .before .before .before .before .before .before .before .before .expect3 .ensures .0)) (c .before .before .before .before .before .before .before .before .before .before .before .before .before .before .before .before .before .before .before .before .before .expr2 .ensures .0)) (c .before .before .before .before .before .before .before .before .before .before .before .before .before .before .before .before .before .optional-by .ensures .0)) (c .before .before .before .before .before .before .before .before .expect4 .ensures .0)) (c .before .before .before .before .before .before .cmd .ensures .0)) (c .before .before .node .ensures .0) (omega arith)), λ src l. (let l₂ = lies-still l (c .before .before .before .before .before .before .before .before .before .before .before .before .before .before .before .before .before .before .before .before .before .before .before .before .before .before .before .before .before .before .before .before .before .a-name .ensures .0 .kept) in let l₄ = lies-still l₂ (c .before .before .before .before .before .before .before .before .before .before .before .before .before .before .before .before .before .before .before .before .before .before .before .before .before .before .before .expr .ensures .0 .kept) in let l₆ = lies-still l₄ (c .before .before .before .before .before .before .before .before .before .before .before .before .before .before .before .before .before .before .before .before .before .expr2 .ensures .0 .kept) in let l₇ = lies-still l₆ (c .before .before .before .before .before .before .before .before .before .before .before .before .before .before .before .before .before .optional-by .ensures .0 .kept) in for-read l _ _ (c .before .before .before .before .before .before .before .before .before .before .before .before .before .before .before .before .before .before .before .before .before .before .before .before .before .before .before .before .before .before .before .before .before .before .before .before .before .free-of .ensures) (c .before .before .before .before .before .before .before .before .before .before .before .before .before .before .before .before .before .before .before .before .before .before .before .before .before .before .before .before .before .before .before .before .before .before .before .expect .ensures .1 src l) (c .before .before .before .before .before .before .before .before .before .before .before .before .before .before .before .before .before .before .before .before .before .before .before .before .before .before .before .before .before .before .before .before .before .a-name .ensures .1 src l) (c .before .before .before .before .before .before .before .before .before .before .before .before .before .before .before .before .before .before .before .before .before .before .before .before .before .before .before .before .before .expect2 .ensures .1 src l₂) (c .before .before .before .before .before .before .before .before .before .before .before .before .before .before .before .before .before .before .before .before .before .before .before .before .before .before .before .expr .ensures .1 src l₂) (c .before .before .before .before .before .before .before .before .before .before .before .before .before .before .before .before .before .before .before .before .before .before .before .expect3 .ensures .1 src l₄) (c .before .before .before .before .before .before .before .before .before .before .before .before .before .before .before .before .before .before .before .before .before .expr2 .ensures .1 src l₄) (c .before .before .before .before .before .before .before .before .before .before .before .before .before .before .before .before .before .optional-by .ensures .1 src l₆) (c .before .before .before .before .before .before .before .before .expect4 .ensures .1 src l₇) (c .before .before .before .before .before .before .cmd .ensures .1 src l₇) (omega (arith, c .before .before .before .before .before .before .before .before .before .before .minus .ensures, c .before .before .before .before .before .before .before .before .before .before .before .before .before .free-of2 .ensures ∙ ap (λ (z : ℕ). freeOf z (c .before .before .before .before .before .before .before .before .before .before .before .before .before .before .before .before .before .optional-by .result)) (c .before .before .before .before .before .before .before .before .before .before .before .before .before .before .before .before .before .optional-by .kept .0 ∙ c .before .before .before .before .before .before .before .before .before .before .before .before .before .before .before .before .before .before .before .before .before .expr2 .kept .0 ∙ c .before .before .before .before .before .before .before .before .before .before .before .before .before .before .before .before .before .before .before .before .before .before .before .before .before .before .before .expr .kept .0 ∙ c .before .before .before .before .before .before .before .before .before .before .before .before .before .before .before .before .before .before .before .before .before .before .before .before .before .before .before .before .before .before .before .before .before .a-name .kept .0), c .before .before .before .before .before .before .before .before .before .before .before .free-of3 .ensures ∙ ap (λ (z : ℕ). freeOf z (c .before .before .before .before .before .before .before .before .before .before .before .before .before .before .before .before .before .before .before .before .before .expr2 .result)) (c .before .before .before .before .before .before .before .before .before .before .before .before .before .before .before .before .before .optional-by .kept .0 ∙ c .before .before .before .before .before .before .before .before .before .before .before .before .before .before .before .before .before .before .before .before .before .expr2 .kept .0 ∙ c .before .before .before .before .before .before .before .before .before .before .before .before .before .before .before .before .before .before .before .before .before .before .before .before .before .before .before .expr .kept .0 ∙ c .before .before .before .before .before .before .before .before .before .before .before .before .before .before .before .before .before .before .before .before .before .before .before .before .before .before .before .before .before .before .before .before .before .a-name .kept .0))) (c .before .before .node .ensures .1)))
 
 pub step-ok : {M : Type 1} (t : ℕ) → step-lts.Closed (step-cs t) (step-at t) step.Post M
-step-ok t = step-lts.spec (step-cs t) (step-at t) step.Post (step-free-of-requires t) (step-expect-requires t) (step-a-name-requires t) (step-expect-requires-2 t) (step-expr-requires t) (step-expect-requires-3 t) (step-expr-requires-2 t) (step-optional-by-requires t) (step-free-of-requires-2 t) (step-free-of-requires-3 t) (step-less-requires t) (step-expect-requires-4 t) (step-cmd-requires t) (step-cast-node t) (step-node-requires t) (step-same-length t) (step-returns t)
+step-ok t = step-lts.spec (step-cs t) (step-at t) step.Post (step-free-of-requires t) (step-expect-requires t) (step-a-name-requires t) (step-expect-requires-2 t) (step-expr-requires t) (step-expect-requires-3 t) (step-expr-requires-2 t) (step-optional-by-requires t) (step-free-of-requires-2 t) (step-free-of-requires-3 t) (step-minus-requires t) (step-expect-requires-4 t) (step-cmd-requires t) (step-cast-node t) (step-node-requires t) (step-same-length t) (step-returns t)
 
 abbrev init-cs : ℕ → init-lts.Claims
-init-cs t = (kind-here-reads.Asked, kind-here-reads.Learnt, is-vector-reads.Asked, is-vector-reads.Learnt, vector-reads.Asked, vector-reads.Learnt, free-of-reads.Asked, free-of-reads.Learnt, less-reads.Asked, less-reads.Learnt, arg-below t, arg.Post, rest-below t, rest.Post, node-reads.Asked, node-reads.Learnt)
+init-cs t = (kind-here-reads.Asked, kind-here-reads.Learnt, is-vector-reads.Asked, is-vector-reads.Learnt, vector-reads.Asked, vector-reads.Learnt, free-of-reads.Asked, free-of-reads.Learnt, minus-reads.Asked, minus-reads.Learnt, arg-below t, arg.Post, rest-below t, rest.Post, node-reads.Asked, node-reads.Learnt)
 
 init-kind-here-requires : (t : ℕ) → init-lts.Need-kind-here-requires (init-cs t) (init-at t) init.Post
 init-kind-here-requires t c κs = smaller (c .before .before .pre .1) (omega arith)
@@ -177,8 +177,8 @@ init-returns t c = (as-grows (c .before .before .vector .ensures .0), λ src l. 
 init-free-of-requires : (t : ℕ) → init-lts.Need-free-of-requires (init-cs t) (init-at t) init.Post
 init-free-of-requires t c κs = tt
 
-init-less-requires : (t : ℕ) → init-lts.Need-less-requires (init-cs t) (init-at t) init.Post
-init-less-requires t c κs = tt
+init-minus-requires : (t : ℕ) → init-lts.Need-minus-requires (init-cs t) (init-at t) init.Post
+init-minus-requires t c κs = tt
 
 init-arg-requires : (t : ℕ) → init-lts.Need-arg-requires (init-cs t) (init-at t) init.Post
 init-arg-requires t c κs = (omega (arith, c .before .before .before .before .before .before .before .before .before .pre .0), smaller (c .before .before .before .before .before .before .before .before .before .pre .1) (omega arith))
@@ -187,7 +187,7 @@ init-rest-requires : (t : ℕ) → init-lts.Need-rest-requires (init-cs t) (init
 init-rest-requires t c κs = (omega (arith, c .before .before .before .before .before .before .before .before .before .before .before .before .before .pre .0), smaller (enlarged (c .before .before .before .before .before .before .before .before .before .before .before .before .before .pre .1) (c .before .before .before .arg .ensures .0) (c .before .before .before .arg .kept .0) (omega arith) (omega arith)) (omega arith))
 
 init-cast-node : (t : ℕ) → init-lts.Need-cast-node (init-cs t) (init-at t) init.Post
-init-cast-node t c = omega (arith, c .before .before .before .before .before .before .before .before .before .less .ensures, c .before .before .before .before .before .before .before .before .before .before .free-of .ensures, low (c .before .before .before .before .before .before .before .before .before .before .before .before .before .before .before .before .before .pre .1), c .before .before .before .before .before .before .before .before .before .before .before .before .before .before .before .before .before .pre .1 .small)
+init-cast-node t c = omega (arith, c .before .before .before .before .before .before .before .before .before .minus .ensures, c .before .before .before .before .before .before .before .before .before .before .free-of .ensures, low (c .before .before .before .before .before .before .before .before .before .before .before .before .before .before .before .before .before .pre .1), c .before .before .before .before .before .before .before .before .before .before .before .before .before .before .before .before .before .pre .1 .small)
 
 init-node-requires : (t : ℕ) → init-lts.Need-node-requires (init-cs t) (init-at t) init.Post
 init-node-requires t c κs = smaller (fitted (enlarged (c .before .before .before .before .before .before .before .before .before .before .before .before .before .before .before .before .before .pre .1) (c .before .before .before .before .before .before .before .arg .ensures .0) (c .before .before .before .before .before .before .before .arg .kept .0) (omega arith) (omega arith)) (c .before .before .before .rest .ensures .0) (c .before .before .before .rest .kept .0) (omega arith)) (omega arith)
@@ -196,16 +196,16 @@ init-same-length-2 : (t : ℕ) → init-lts.Need-same-length-2 (init-cs t) (init
 init-same-length-2 t c = search needs
 
 init-returns-2 : (t : ℕ) → init-lts.Need-returns-2 (init-cs t) (init-at t) init.Post
-init-returns-2 t c = (grows-more (grows-then (c .before .before .before .before .before .before .before .before .before .before .arg .ensures .0) (c .before .before .before .before .before .before .rest .ensures .0) (omega arith)) (c .before .before .node .ensures .0), λ src l. (let l₁ = lies-still l (c .before .before .before .before .before .before .before .before .before .before .arg .ensures .0 .kept) in (goes-on (c .before .before .before .before .before .before .before .before .before .before .arg .ensures .1 src l) then goes-on (c .before .before .before .before .before .before .rest .ensures .1 src l₁) then adds-on (c .before .before .node .ensures .1), λ name names q e. given-values src _ (c .before .before .before .before .before .before .before .before .before .before .before .before .before .before .before .before .before .kind-here .ensures src l) name names (λ z. vector-not (c .before .before .before .before .before .before .before .before .before .before .before .before .before .before .before .before .before .kind-here .result) (c .before .before .before .before .before .before .before .before .before .before .before .before .before .before .before .before .before .before .before .before .args .further) (sym (c .before .before .before .before .before .before .before .before .before .before .before .before .before .before .before .before .is-vector .ensures) ∙ c .before .before .before .before .before .before .before .before .before .before .before .before .before .before .before .if1 .left) (omega (arith, q, z))) (values-read src _ _ name names _ q e (c .before .before .before .before .before .before .before .before .before .before .before .before .less .ensures ∙ ap (λ (y : ℕ). y - c .before .before .before .before .before .before .before .before .before .before .before .before .before .before .before .before .before .before .before .before .args .start) (c .before .before .before .before .before .before .before .before .before .before .before .before .before .free-of .ensures)) (c .before .before .before .before .before .before .before .before .before .before .arg .ensures .1 src l) (c .before .before .before .before .before .before .rest .ensures .1 src l₁) (c .before .before .node .ensures .1)))))
+init-returns-2 t c = (grows-more (grows-then (c .before .before .before .before .before .before .before .before .before .before .arg .ensures .0) (c .before .before .before .before .before .before .rest .ensures .0) (omega arith)) (c .before .before .node .ensures .0), λ src l. (let l₁ = lies-still l (c .before .before .before .before .before .before .before .before .before .before .arg .ensures .0 .kept) in (goes-on (c .before .before .before .before .before .before .before .before .before .before .arg .ensures .1 src l) then goes-on (c .before .before .before .before .before .before .rest .ensures .1 src l₁) then adds-on (c .before .before .node .ensures .1), λ name names q e. given-values src _ (c .before .before .before .before .before .before .before .before .before .before .before .before .before .before .before .before .before .kind-here .ensures src l) name names (λ z. vector-not (c .before .before .before .before .before .before .before .before .before .before .before .before .before .before .before .before .before .kind-here .result) (c .before .before .before .before .before .before .before .before .before .before .before .before .before .before .before .before .before .before .before .before .args .further) (sym (c .before .before .before .before .before .before .before .before .before .before .before .before .before .before .before .before .is-vector .ensures) ∙ c .before .before .before .before .before .before .before .before .before .before .before .before .before .before .before .if1 .left) (omega (arith, q, z))) (values-read src _ _ name names _ q e (c .before .before .before .before .before .before .before .before .before .before .before .before .minus .ensures ∙ ap (λ (y : ℕ). y - c .before .before .before .before .before .before .before .before .before .before .before .before .before .before .before .before .before .before .before .before .args .start) (c .before .before .before .before .before .before .before .before .before .before .before .before .before .free-of .ensures)) (c .before .before .before .before .before .before .before .before .before .before .arg .ensures .1 src l) (c .before .before .before .before .before .before .rest .ensures .1 src l₁) (c .before .before .node .ensures .1)))))
 
 pub init-ok : {M : Type 1} (t : ℕ) → init-lts.Closed (init-cs t) (init-at t) init.Post M
-init-ok t = init-lts.spec (init-cs t) (init-at t) init.Post (init-kind-here-requires t) (init-is-vector-requires t) (init-vector-requires t) (init-same-length t) (init-returns t) (init-free-of-requires t) (init-less-requires t) (init-arg-requires t) (init-rest-requires t) (init-cast-node t) (init-node-requires t) (init-same-length-2 t) (init-returns-2 t)
+init-ok t = init-lts.spec (init-cs t) (init-at t) init.Post (init-kind-here-requires t) (init-is-vector-requires t) (init-vector-requires t) (init-same-length t) (init-returns t) (init-free-of-requires t) (init-minus-requires t) (init-arg-requires t) (init-rest-requires t) (init-cast-node t) (init-node-requires t) (init-same-length-2 t) (init-returns-2 t)
 
 abbrev list-cs : ℕ → list-lts.Claims
 list-cs t = (kind-here-reads.Asked, kind-here-reads.Learnt, expect-reads.Asked, expect-reads.Learnt, item-below t, item.Post, refuse-reads.Asked, refuse-reads.Learnt)
 
 abbrev list-Inv-loop : list-lts.InvT-loop
-list-Inv-loop s₀ n levels turns₀ a₀ s turns a = Fits 0 s₀ s n a₀ a × (length s ≡ length s₀) × ((src : Source) → Lies src n s₀ → Partly (moreUpTo turns₀ T.noCommands (C.listed (readers (within levels))) src) (moreUpTo turns T.noCommands (C.listed (readers (within levels))) src) encodeCommands s₀ s a₀ a)
+list-Inv-loop s₀ n levels turns₀ a₀ s turns a = LeavesRoom 0 s₀ s n a₀ a × (length s ≡ length s₀) × ((src : Source) → HoldsSymbols src n s₀ → Partly (moreUpTo turns₀ T.noCommands (C.listed (readers (within levels))) src) (moreUpTo turns T.noCommands (C.listed (readers (within levels))) src) encodeCommands s₀ s a₀ a)
 
 abbrev list-μ-loop : list-lts.MeasureT-loop
 list-μ-loop s₀ n levels turns₀ a₀ s turns a = turns
@@ -265,31 +265,31 @@ pub list-ok : {M : Type 1} (t : ℕ) → list-lts.Closed (list-cs t) (list-at t)
 list-ok t = list-lts.spec (list-cs t) (list-at t) list.Post list-Inv-loop list-μ-loop (list-loop-holds t) (list-kind-here-requires t) (list-expect-requires t) (list-same-length t) (list-returns t) (list-expect-requires-2 t) (list-kind-here-requires-2 t) (list-expect-requires-3 t) (list-same-length-2 t) (list-returns-2 t) (list-item-requires t) (list-sub-turns t) (list-loop-less t) (list-loop-again t) (list-refuse-requires t) (list-same-length-3 t) (list-returns-3 t)
 
 abbrev item-cs : ℕ → item-lts.Claims
-item-cs t = (free-of-reads.Asked, free-of-reads.Learnt, mark-reads.Asked, mark-reads.Learnt, cmd-below t, cmd.Post, seal-reads.Asked, seal-reads.Learnt)
+item-cs t = (free-of-reads.Asked, free-of-reads.Learnt, begin-item-reads.Asked, begin-item-reads.Learnt, cmd-below t, cmd.Post, set-size-reads.Asked, set-size-reads.Learnt)
 
 item-free-of-requires : (t : ℕ) → item-lts.Need-free-of-requires (item-cs t) (item-at t) item.Post
 item-free-of-requires t c κs = tt
 
-item-mark-requires : (t : ℕ) → item-lts.Need-mark-requires (item-cs t) (item-at t) item.Post
-item-mark-requires t c κs = c .before .before .before .before .pre .1
+item-begin-item-requires : (t : ℕ) → item-lts.Need-begin-item-requires (item-cs t) (item-at t) item.Post
+item-begin-item-requires t c κs = c .before .before .before .before .pre .1
 
 item-cmd-requires : (t : ℕ) → item-lts.Need-cmd-requires (item-cs t) (item-at t) item.Post
-item-cmd-requires t c κs = (omega (arith, c .before .before .before .before .before .before .before .before .pre .0), smaller (enlarged (c .before .before .before .before .before .before .before .before .pre .1) (c .before .before .before .mark .ensures .0) (c .before .before .before .mark .kept .0) (omega arith) (omega arith)) (omega arith))
+item-cmd-requires t c κs = (omega (arith, c .before .before .before .before .before .before .before .before .pre .0), smaller (enlarged (c .before .before .before .before .before .before .before .before .pre .1) (c .before .before .before .begin-item .ensures .0) (c .before .before .before .begin-item .kept .0) (omega arith) (omega arith)) (omega arith))
 
-item-seal-requires : (t : ℕ) → item-lts.Need-seal-requires (item-cs t) (item-at t) item.Post
-item-seal-requires t c κs = (smaller (fitted (enlarged (c .before .before .before .before .before .before .before .before .before .before .before .before .pre .1) (c .before .before .before .before .before .before .before .mark .ensures .0) (c .before .before .before .before .before .before .before .mark .kept .0) (omega arith) (omega arith)) (c .before .before .before .cmd .ensures .0) (c .before .before .before .cmd .kept .0) (omega arith)) (omega arith), omega (arith, base (c .before .before .before .before .before .before .before .before .before .before .before .before .pre .1), c .before .before .before .before .before .before .before .before .before .free-of .ensures))
+item-set-size-requires : (t : ℕ) → item-lts.Need-set-size-requires (item-cs t) (item-at t) item.Post
+item-set-size-requires t c κs = (smaller (fitted (enlarged (c .before .before .before .before .before .before .before .before .before .before .before .before .pre .1) (c .before .before .before .before .before .before .before .begin-item .ensures .0) (c .before .before .before .before .before .before .before .begin-item .kept .0) (omega arith) (omega arith)) (c .before .before .before .cmd .ensures .0) (c .before .before .before .cmd .kept .0) (omega arith)) (omega arith), omega (arith, base (c .before .before .before .before .before .before .before .before .before .before .before .before .pre .1), c .before .before .before .before .before .before .before .before .before .free-of .ensures))
 
 item-same-length : (t : ℕ) → item-lts.Need-same-length (item-cs t) (item-at t) item.Post
 item-same-length t c = search needs
 
 item-returns : (t : ℕ) → item-lts.Need-returns (item-cs t) (item-at t) item.Post
-item-returns t c = (grows-then (c .before .before .before .before .before .before .before .before .before .before .mark .ensures .0) (both (c .before .before .before .before .before .before .cmd .ensures .0) (c .before .before .seal .ensures .0)) (omega arith), λ src l. listed-read src _ _ (c .before .before .before .before .before .before .before .before .before .before .before .before .free-of .ensures) (low (c .before .before .before .before .before .before .before .before .before .before .before .before .before .before .before .pre .1)) (c .before .before .before .before .before .before .before .before .before .before .mark .ensures .1) (c .before .before .before .before .before .before .cmd .ensures .1 src (lies-still l (c .before .before .before .before .before .before .before .before .before .before .mark .ensures .0 .kept))) (c .before .before .seal .ensures .1))
+item-returns t c = (grows-then (c .before .before .before .before .before .before .before .before .before .before .begin-item .ensures .0) (both (c .before .before .before .before .before .before .cmd .ensures .0) (c .before .before .set-size .ensures .0)) (omega arith), λ src l. listed-read src _ _ (c .before .before .before .before .before .before .before .before .before .before .before .before .free-of .ensures) (low (c .before .before .before .before .before .before .before .before .before .before .before .before .before .before .before .pre .1)) (c .before .before .before .before .before .before .before .before .before .before .begin-item .ensures .1) (c .before .before .before .before .before .before .cmd .ensures .1 src (lies-still l (c .before .before .before .before .before .before .before .before .before .before .begin-item .ensures .0 .kept))) (c .before .before .set-size .ensures .1))
 
 pub item-ok : {M : Type 1} (t : ℕ) → item-lts.Closed (item-cs t) (item-at t) item.Post M
-item-ok t = item-lts.spec (item-cs t) (item-at t) item.Post (item-free-of-requires t) (item-mark-requires t) (item-cmd-requires t) (item-seal-requires t) (item-same-length t) (item-returns t)
+item-ok t = item-lts.spec (item-cs t) (item-at t) item.Post (item-free-of-requires t) (item-begin-item-requires t) (item-cmd-requires t) (item-set-size-requires t) (item-same-length t) (item-returns t)
 
 abbrev local-cs : ℕ → local-lts.Claims
-local-cs t = (free-of-reads.Asked, free-of-reads.Learnt, expect-reads.Asked, expect-reads.Learnt, mark-reads.Asked, mark-reads.Learnt, a-name-reads.Asked, a-name-reads.Learnt, further-names-reads.Asked, further-names-reads.Learnt, less-reads.Asked, less-reads.Learnt, init-below t, init.Post, optional-reads.Asked, optional-reads.Learnt, seal-reads.Asked, seal-reads.Learnt)
+local-cs t = (free-of-reads.Asked, free-of-reads.Learnt, expect-reads.Asked, expect-reads.Learnt, begin-item-reads.Asked, begin-item-reads.Learnt, a-name-reads.Asked, a-name-reads.Learnt, further-names-reads.Asked, further-names-reads.Learnt, minus-reads.Asked, minus-reads.Learnt, init-below t, init.Post, optional-reads.Asked, optional-reads.Learnt, set-size-reads.Asked, set-size-reads.Learnt)
 
 local-free-of-requires : (t : ℕ) → local-lts.Need-free-of-requires (local-cs t) (local-at t) local.Post
 local-free-of-requires t c κs = tt
@@ -297,17 +297,17 @@ local-free-of-requires t c κs = tt
 local-expect-requires : (t : ℕ) → local-lts.Need-expect-requires (local-cs t) (local-at t) local.Post
 local-expect-requires t c κs = (c .before .before .before .before .pre .1, (omega arith))
 
-local-mark-requires : (t : ℕ) → local-lts.Need-mark-requires (local-cs t) (local-at t) local.Post
-local-mark-requires t c κs = smaller (fitted (c .before .before .before .before .before .before .pre .1) (c .before .expect .ensures .0) refl (omega arith)) (omega arith)
+local-begin-item-requires : (t : ℕ) → local-lts.Need-begin-item-requires (local-cs t) (local-at t) local.Post
+local-begin-item-requires t c κs = smaller (fitted (c .before .before .before .before .before .before .pre .1) (c .before .expect .ensures .0) refl (omega arith)) (omega arith)
 
 local-free-of-requires-2 : (t : ℕ) → local-lts.Need-free-of-requires-2 (local-cs t) (local-at t) local.Post
 local-free-of-requires-2 t c κs = tt
 
 local-a-name-requires : (t : ℕ) → local-lts.Need-a-name-requires (local-cs t) (local-at t) local.Post
-local-a-name-requires t c κs = smaller (enlarged (fitted (c .before .before .before .before .before .before .before .before .before .before .before .before .pre .1) (c .before .before .before .before .before .before .before .expect .ensures .0) refl (omega arith)) (c .before .before .before .before .before .mark .ensures .0) (c .before .before .before .before .before .mark .kept .0) (omega arith) (omega arith)) (omega arith)
+local-a-name-requires t c κs = smaller (enlarged (fitted (c .before .before .before .before .before .before .before .before .before .before .before .before .pre .1) (c .before .before .before .before .before .before .before .expect .ensures .0) refl (omega arith)) (c .before .before .before .before .before .begin-item .ensures .0) (c .before .before .before .before .before .begin-item .kept .0) (omega arith) (omega arith)) (omega arith)
 
 local-further-names-requires : (t : ℕ) → local-lts.Need-further-names-requires (local-cs t) (local-at t) local.Post
-local-further-names-requires t c κs = smaller (fitted (enlarged (fitted (c .before .before .before .before .before .before .before .before .before .before .before .before .before .before .before .before .pre .1) (c .before .before .before .before .before .before .before .before .before .before .before .expect .ensures .0) refl (omega arith)) (c .before .before .before .before .before .before .before .before .before .mark .ensures .0) (c .before .before .before .before .before .before .before .before .before .mark .kept .0) (omega arith) (omega arith)) (c .before .before .before .a-name .ensures .0) (c .before .before .before .a-name .kept .0) (omega arith)) (omega arith)
+local-further-names-requires t c κs = smaller (fitted (enlarged (fitted (c .before .before .before .before .before .before .before .before .before .before .before .before .before .before .before .before .pre .1) (c .before .before .before .before .before .before .before .before .before .before .before .expect .ensures .0) refl (omega arith)) (c .before .before .before .before .before .before .before .before .before .begin-item .ensures .0) (c .before .before .before .before .before .before .before .before .before .begin-item .kept .0) (omega arith) (omega arith)) (c .before .before .before .a-name .ensures .0) (c .before .before .before .a-name .kept .0) (omega arith)) (omega arith)
 
 local-free-of-requires-3 : (t : ℕ) → local-lts.Need-free-of-requires-3 (local-cs t) (local-at t) local.Post
 local-free-of-requires-3 t c κs = tt
@@ -315,35 +315,35 @@ local-free-of-requires-3 t c κs = tt
 local-free-of-requires-4 : (t : ℕ) → local-lts.Need-free-of-requires-4 (local-cs t) (local-at t) local.Post
 local-free-of-requires-4 t c κs = tt
 
-local-less-requires : (t : ℕ) → local-lts.Need-less-requires (local-cs t) (local-at t) local.Post
-local-less-requires t c κs = tt
+local-minus-requires : (t : ℕ) → local-lts.Need-minus-requires (local-cs t) (local-at t) local.Post
+local-minus-requires t c κs = tt
 
 local-expect-requires-2 : (t : ℕ) → local-lts.Need-expect-requires-2 (local-cs t) (local-at t) local.Post
-local-expect-requires-2 t c κs = (smaller (fitted (fitted (enlarged (fitted (c .before .before .before .before .before .before .before .before .before .before .before .before .before .before .before .before .before .before .before .before .before .before .before .before .before .pre .1) (c .before .before .before .before .before .before .before .before .before .before .before .before .before .before .before .before .before .before .before .before .expect .ensures .0) refl (omega arith)) (c .before .before .before .before .before .before .before .before .before .before .before .before .before .before .before .before .before .before .mark .ensures .0) (c .before .before .before .before .before .before .before .before .before .before .before .before .before .before .before .before .before .before .mark .kept .0) (omega arith) (omega arith)) (c .before .before .before .before .before .before .before .before .before .before .before .before .a-name .ensures .0) (c .before .before .before .before .before .before .before .before .before .before .before .before .a-name .kept .0) (omega arith)) (c .before .before .before .before .before .before .before .before .further-names .ensures .0) (c .before .before .before .before .before .before .before .before .further-names .kept .0) (omega arith)) (omega arith), (omega arith))
+local-expect-requires-2 t c κs = (smaller (fitted (fitted (enlarged (fitted (c .before .before .before .before .before .before .before .before .before .before .before .before .before .before .before .before .before .before .before .before .before .before .before .before .before .pre .1) (c .before .before .before .before .before .before .before .before .before .before .before .before .before .before .before .before .before .before .before .before .expect .ensures .0) refl (omega arith)) (c .before .before .before .before .before .before .before .before .before .before .before .before .before .before .before .before .before .before .begin-item .ensures .0) (c .before .before .before .before .before .before .before .before .before .before .before .before .before .before .before .before .before .before .begin-item .kept .0) (omega arith) (omega arith)) (c .before .before .before .before .before .before .before .before .before .before .before .before .a-name .ensures .0) (c .before .before .before .before .before .before .before .before .before .before .before .before .a-name .kept .0) (omega arith)) (c .before .before .before .before .before .before .before .before .further-names .ensures .0) (c .before .before .before .before .before .before .before .before .further-names .kept .0) (omega arith)) (omega arith), (omega arith))
 
 local-init-requires : (t : ℕ) → local-lts.Need-init-requires (local-cs t) (local-at t) local.Post
-local-init-requires t c κs = (omega (arith, c .before .before .before .before .before .before .before .before .before .before .before .before .before .before .before .before .before .before .before .before .before .before .before .before .before .before .before .pre .0), smaller (fitted (fitted (fitted (enlarged (fitted (c .before .before .before .before .before .before .before .before .before .before .before .before .before .before .before .before .before .before .before .before .before .before .before .before .before .before .before .pre .1) (c .before .before .before .before .before .before .before .before .before .before .before .before .before .before .before .before .before .before .before .before .before .before .expect .ensures .0) refl (omega arith)) (c .before .before .before .before .before .before .before .before .before .before .before .before .before .before .before .before .before .before .before .before .mark .ensures .0) (c .before .before .before .before .before .before .before .before .before .before .before .before .before .before .before .before .before .before .before .before .mark .kept .0) (omega arith) (omega arith)) (c .before .before .before .before .before .before .before .before .before .before .before .before .before .before .a-name .ensures .0) (c .before .before .before .before .before .before .before .before .before .before .before .before .before .before .a-name .kept .0) (omega arith)) (c .before .before .before .before .before .before .before .before .before .before .further-names .ensures .0) (c .before .before .before .before .before .before .before .before .before .before .further-names .kept .0) (omega arith)) (c .before .expect2 .ensures .0) refl (omega arith)) (omega arith))
+local-init-requires t c κs = (omega (arith, c .before .before .before .before .before .before .before .before .before .before .before .before .before .before .before .before .before .before .before .before .before .before .before .before .before .before .before .pre .0), smaller (fitted (fitted (fitted (enlarged (fitted (c .before .before .before .before .before .before .before .before .before .before .before .before .before .before .before .before .before .before .before .before .before .before .before .before .before .before .before .pre .1) (c .before .before .before .before .before .before .before .before .before .before .before .before .before .before .before .before .before .before .before .before .before .before .expect .ensures .0) refl (omega arith)) (c .before .before .before .before .before .before .before .before .before .before .before .before .before .before .before .before .before .before .before .before .begin-item .ensures .0) (c .before .before .before .before .before .before .before .before .before .before .before .before .before .before .before .before .before .before .before .before .begin-item .kept .0) (omega arith) (omega arith)) (c .before .before .before .before .before .before .before .before .before .before .before .before .before .before .a-name .ensures .0) (c .before .before .before .before .before .before .before .before .before .before .before .before .before .before .a-name .kept .0) (omega arith)) (c .before .before .before .before .before .before .before .before .before .before .further-names .ensures .0) (c .before .before .before .before .before .before .before .before .before .before .further-names .kept .0) (omega arith)) (c .before .expect2 .ensures .0) refl (omega arith)) (omega arith))
 
 local-optional-requires : (t : ℕ) → local-lts.Need-optional-requires (local-cs t) (local-at t) local.Post
-local-optional-requires t c κs = (smaller (enlarged (fitted (fitted (fitted (enlarged (fitted (c .before .before .before .before .before .before .before .before .before .before .before .before .before .before .before .before .before .before .before .before .before .before .before .before .before .before .before .before .before .before .before .pre .1) (c .before .before .before .before .before .before .before .before .before .before .before .before .before .before .before .before .before .before .before .before .before .before .before .before .before .before .expect .ensures .0) refl (omega arith)) (c .before .before .before .before .before .before .before .before .before .before .before .before .before .before .before .before .before .before .before .before .before .before .before .before .mark .ensures .0) (c .before .before .before .before .before .before .before .before .before .before .before .before .before .before .before .before .before .before .before .before .before .before .before .before .mark .kept .0) (omega arith) (omega arith)) (c .before .before .before .before .before .before .before .before .before .before .before .before .before .before .before .before .before .before .a-name .ensures .0) (c .before .before .before .before .before .before .before .before .before .before .before .before .before .before .before .before .before .before .a-name .kept .0) (omega arith)) (c .before .before .before .before .before .before .before .before .before .before .before .before .before .before .further-names .ensures .0) (c .before .before .before .before .before .before .before .before .before .before .before .before .before .before .further-names .kept .0) (omega arith)) (c .before .before .before .before .before .expect2 .ensures .0) refl (omega arith)) (c .before .before .before .init .ensures .0) (c .before .before .before .init .kept .0) (omega arith) (omega arith)) (omega arith), (omega arith))
+local-optional-requires t c κs = (smaller (enlarged (fitted (fitted (fitted (enlarged (fitted (c .before .before .before .before .before .before .before .before .before .before .before .before .before .before .before .before .before .before .before .before .before .before .before .before .before .before .before .before .before .before .before .pre .1) (c .before .before .before .before .before .before .before .before .before .before .before .before .before .before .before .before .before .before .before .before .before .before .before .before .before .before .expect .ensures .0) refl (omega arith)) (c .before .before .before .before .before .before .before .before .before .before .before .before .before .before .before .before .before .before .before .before .before .before .before .before .begin-item .ensures .0) (c .before .before .before .before .before .before .before .before .before .before .before .before .before .before .before .before .before .before .before .before .before .before .before .before .begin-item .kept .0) (omega arith) (omega arith)) (c .before .before .before .before .before .before .before .before .before .before .before .before .before .before .before .before .before .before .a-name .ensures .0) (c .before .before .before .before .before .before .before .before .before .before .before .before .before .before .before .before .before .before .a-name .kept .0) (omega arith)) (c .before .before .before .before .before .before .before .before .before .before .before .before .before .before .further-names .ensures .0) (c .before .before .before .before .before .before .before .before .before .before .before .before .before .before .further-names .kept .0) (omega arith)) (c .before .before .before .before .before .expect2 .ensures .0) refl (omega arith)) (c .before .before .before .init .ensures .0) (c .before .before .before .init .kept .0) (omega arith) (omega arith)) (omega arith), (omega arith))
 
-local-seal-requires : (t : ℕ) → local-lts.Need-seal-requires (local-cs t) (local-at t) local.Post
-local-seal-requires t c κs = (smaller (fitted (enlarged (fitted (fitted (fitted (enlarged (fitted (c .before .before .before .before .before .before .before .before .before .before .before .before .before .before .before .before .before .before .before .before .before .before .before .before .before .before .before .before .before .before .before .before .before .pre .1) (c .before .before .before .before .before .before .before .before .before .before .before .before .before .before .before .before .before .before .before .before .before .before .before .before .before .before .before .before .expect .ensures .0) refl (omega arith)) (c .before .before .before .before .before .before .before .before .before .before .before .before .before .before .before .before .before .before .before .before .before .before .before .before .before .before .mark .ensures .0) (c .before .before .before .before .before .before .before .before .before .before .before .before .before .before .before .before .before .before .before .before .before .before .before .before .before .before .mark .kept .0) (omega arith) (omega arith)) (c .before .before .before .before .before .before .before .before .before .before .before .before .before .before .before .before .before .before .before .before .a-name .ensures .0) (c .before .before .before .before .before .before .before .before .before .before .before .before .before .before .before .before .before .before .before .before .a-name .kept .0) (omega arith)) (c .before .before .before .before .before .before .before .before .before .before .before .before .before .before .before .before .further-names .ensures .0) (c .before .before .before .before .before .before .before .before .before .before .before .before .before .before .before .before .further-names .kept .0) (omega arith)) (c .before .before .before .before .before .before .before .expect2 .ensures .0) refl (omega arith)) (c .before .before .before .before .before .init .ensures .0) (c .before .before .before .before .before .init .kept .0) (omega arith) (omega arith)) (c .before .optional .ensures .0) refl (omega arith)) (omega arith), omega (arith, base (c .before .before .before .before .before .before .before .before .before .before .before .before .before .before .before .before .before .before .before .before .before .before .before .before .before .before .before .before .before .before .before .before .before .pre .1), c .before .before .before .before .before .before .before .before .before .before .before .before .before .before .before .before .before .before .before .before .before .before .before .before .before .before .before .before .before .before .free-of .ensures))
+local-set-size-requires : (t : ℕ) → local-lts.Need-set-size-requires (local-cs t) (local-at t) local.Post
+local-set-size-requires t c κs = (smaller (fitted (enlarged (fitted (fitted (fitted (enlarged (fitted (c .before .before .before .before .before .before .before .before .before .before .before .before .before .before .before .before .before .before .before .before .before .before .before .before .before .before .before .before .before .before .before .before .before .pre .1) (c .before .before .before .before .before .before .before .before .before .before .before .before .before .before .before .before .before .before .before .before .before .before .before .before .before .before .before .before .expect .ensures .0) refl (omega arith)) (c .before .before .before .before .before .before .before .before .before .before .before .before .before .before .before .before .before .before .before .before .before .before .before .before .before .before .begin-item .ensures .0) (c .before .before .before .before .before .before .before .before .before .before .before .before .before .before .before .before .before .before .before .before .before .before .before .before .before .before .begin-item .kept .0) (omega arith) (omega arith)) (c .before .before .before .before .before .before .before .before .before .before .before .before .before .before .before .before .before .before .before .before .a-name .ensures .0) (c .before .before .before .before .before .before .before .before .before .before .before .before .before .before .before .before .before .before .before .before .a-name .kept .0) (omega arith)) (c .before .before .before .before .before .before .before .before .before .before .before .before .before .before .before .before .further-names .ensures .0) (c .before .before .before .before .before .before .before .before .before .before .before .before .before .before .before .before .further-names .kept .0) (omega arith)) (c .before .before .before .before .before .before .before .expect2 .ensures .0) refl (omega arith)) (c .before .before .before .before .before .init .ensures .0) (c .before .before .before .before .before .init .kept .0) (omega arith) (omega arith)) (c .before .optional .ensures .0) refl (omega arith)) (omega arith), omega (arith, base (c .before .before .before .before .before .before .before .before .before .before .before .before .before .before .before .before .before .before .before .before .before .before .before .before .before .before .before .before .before .before .before .before .before .pre .1), c .before .before .before .before .before .before .before .before .before .before .before .before .before .before .before .before .before .before .before .before .before .before .before .before .before .before .before .before .before .before .free-of .ensures))
 
 local-same-length : (t : ℕ) → local-lts.Need-same-length (local-cs t) (local-at t) local.Post
-local-same-length t c = c .before .before .seal .kept .0 ∙ c .before .before .before .before .before .before .before .before .init .kept .0 ∙ c .before .before .before .before .before .before .before .before .before .before .before .before .before .before .before .before .before .before .before .further-names .kept .0 ∙ c .before .before .before .before .before .before .before .before .before .before .before .before .before .before .before .before .before .before .before .before .before .before .before .a-name .kept .0 ∙ c .before .before .before .before .before .before .before .before .before .before .before .before .before .before .before .before .before .before .before .before .before .before .before .before .before .before .before .before .before .mark .kept .0
+local-same-length t c = c .before .before .set-size .kept .0 ∙ c .before .before .before .before .before .before .before .before .init .kept .0 ∙ c .before .before .before .before .before .before .before .before .before .before .before .before .before .before .before .before .before .before .before .further-names .kept .0 ∙ c .before .before .before .before .before .before .before .before .before .before .before .before .before .before .before .before .before .before .before .before .before .before .before .a-name .kept .0 ∙ c .before .before .before .before .before .before .before .before .before .before .before .before .before .before .before .before .before .before .before .before .before .before .before .before .before .before .before .before .before .begin-item .kept .0
 
 local-returns : (t : ℕ) → local-lts.Need-returns (local-cs t) (local-at t) local.Post
-local-returns t c = (both (both (then-grows (both (both (both (then-grows (c .before .before .before .before .before .before .before .before .before .before .before .before .before .before .before .before .before .before .before .before .before .before .before .before .before .before .before .before .before .before .before .expect .ensures .0) (c .before .before .before .before .before .before .before .before .before .before .before .before .before .before .before .before .before .before .before .before .before .before .before .before .before .before .before .before .before .mark .ensures .0) (omega arith)) (c .before .before .before .before .before .before .before .before .before .before .before .before .before .before .before .before .before .before .before .before .before .before .before .a-name .ensures .0)) (c .before .before .before .before .before .before .before .before .before .before .before .before .before .before .before .before .before .before .before .further-names .ensures .0)) (c .before .before .before .before .before .before .before .before .before .before .expect2 .ensures .0)) (c .before .before .before .before .before .before .before .before .init .ensures .0) (omega arith)) (c .before .before .before .before .optional .ensures .0)) (c .before .before .seal .ensures .0), λ src l. (let l₁ = lies-still l (c .before .before .before .before .before .before .before .before .before .before .before .before .before .before .before .before .before .before .before .before .before .before .before .before .before .before .before .before .before .mark .ensures .0 .kept) in let l₂ = lies-still l₁ (c .before .before .before .before .before .before .before .before .before .before .before .before .before .before .before .before .before .before .before .before .before .before .before .a-name .ensures .0 .kept) in let l₃ = lies-still l₂ (c .before .before .before .before .before .before .before .before .before .before .before .before .before .before .before .before .before .before .before .further-names .ensures .0 .kept) in let l₄ = lies-still l₃ (c .before .before .before .before .before .before .before .before .init .ensures .0 .kept) in local-read src _ _ (l .count) (c .before .before .before .before .before .before .before .before .before .before .before .before .before .before .before .before .before .before .before .before .before .before .before .before .before .before .before .before .before .before .before .before .before .free-of .ensures) (low (fitted (c .before .before .before .before .before .before .before .before .before .before .before .before .before .before .before .before .before .before .before .before .before .before .before .before .before .before .before .before .before .before .before .before .before .before .before .before .pre .1) (c .before .before .before .before .before .before .before .before .before .before .before .before .before .before .before .before .before .before .before .before .before .before .before .before .before .before .before .before .before .before .before .expect .ensures .0) refl (omega arith))) (c .before .before .before .before .before .before .before .before .before .before .before .before .before .before .before .before .before .before .before .before .before .before .before .before .before .free-of2 .ensures ∙ ap (λ (z : ℕ). freeOf z (c .before .before .before .before .before .before .before .before .before .before .before .before .before .before .before .before .before .before .before .before .before .before .before .before .before .before .before .before .before .mark .result)) (c .before .before .before .before .before .before .before .before .before .before .before .before .before .before .before .before .before .before .before .before .before .before .before .before .before .before .before .before .before .mark .kept .0)) (omega (arith, c .before .before .before .before .before .before .before .before .before .before .before .before .less .ensures, c .before .before .before .before .before .before .before .before .before .before .before .before .before .before .before .free-of3 .ensures ∙ ap (λ (z : ℕ). freeOf z (c .before .before .before .before .before .before .before .before .before .before .before .before .before .before .before .before .before .before .before .further-names .result)) (c .before .before .before .before .before .before .before .before .before .before .before .before .before .before .before .before .before .before .before .further-names .kept .0 ∙ c .before .before .before .before .before .before .before .before .before .before .before .before .before .before .before .before .before .before .before .before .before .before .before .a-name .kept .0 ∙ c .before .before .before .before .before .before .before .before .before .before .before .before .before .before .before .before .before .before .before .before .before .before .before .before .before .before .before .before .before .mark .kept .0), c .before .before .before .before .before .before .before .before .before .before .before .before .before .free-of4 .ensures ∙ ap (λ (z : ℕ). freeOf z (c .before .before .before .before .before .before .before .before .before .before .before .before .before .before .before .before .before .before .before .before .before .before .before .a-name .result)) (c .before .before .before .before .before .before .before .before .before .before .before .before .before .before .before .before .before .before .before .further-names .kept .0 ∙ c .before .before .before .before .before .before .before .before .before .before .before .before .before .before .before .before .before .before .before .before .before .before .before .a-name .kept .0 ∙ c .before .before .before .before .before .before .before .before .before .before .before .before .before .before .before .before .before .before .before .before .before .before .before .before .before .before .before .before .before .mark .kept .0))) (c .before .before .before .before .before .before .before .before .before .before .before .before .before .before .before .before .before .before .before .before .before .before .before .before .before .before .before .before .before .before .before .expect .ensures .1 src l) (c .before .before .before .before .before .before .before .before .before .before .before .before .before .before .before .before .before .before .before .before .before .before .before .before .before .before .before .before .before .mark .ensures .1) (c .before .before .before .before .before .before .before .before .before .before .before .before .before .before .before .before .before .before .before .before .before .before .before .a-name .ensures .1 src l₁) (c .before .before .before .before .before .before .before .before .before .before .before .before .before .before .before .before .before .before .before .further-names .ensures .1 src l₂) (c .before .before .before .before .before .before .before .before .before .before .expect2 .ensures .1 src l₃) (λ name names q e. c .before .before .before .before .before .before .before .before .init .ensures .1 src l₃ .1 name names q (ap (λ (z : ℕ). freeOf z (c .before .before .before .before .before .before .before .before .before .before .expect2 .result)) (c .before .before .before .before .before .before .before .before .before .before .before .before .before .before .before .before .before .before .before .further-names .kept .0 ∙ c .before .before .before .before .before .before .before .before .before .before .before .before .before .before .before .before .before .before .before .before .before .before .before .a-name .kept .0 ∙ c .before .before .before .before .before .before .before .before .before .before .before .before .before .before .before .before .before .before .before .before .before .before .before .before .before .before .before .before .before .mark .kept .0) ∙ e)) (c .before .before .before .before .before .before .before .before .init .ensures .1 src l₃ .0) (c .before .before .before .before .optional .ensures .1 src l₄) (c .before .before .seal .ensures .1)))
+local-returns t c = (both (both (then-grows (both (both (both (then-grows (c .before .before .before .before .before .before .before .before .before .before .before .before .before .before .before .before .before .before .before .before .before .before .before .before .before .before .before .before .before .before .before .expect .ensures .0) (c .before .before .before .before .before .before .before .before .before .before .before .before .before .before .before .before .before .before .before .before .before .before .before .before .before .before .before .before .before .begin-item .ensures .0) (omega arith)) (c .before .before .before .before .before .before .before .before .before .before .before .before .before .before .before .before .before .before .before .before .before .before .before .a-name .ensures .0)) (c .before .before .before .before .before .before .before .before .before .before .before .before .before .before .before .before .before .before .before .further-names .ensures .0)) (c .before .before .before .before .before .before .before .before .before .before .expect2 .ensures .0)) (c .before .before .before .before .before .before .before .before .init .ensures .0) (omega arith)) (c .before .before .before .before .optional .ensures .0)) (c .before .before .set-size .ensures .0), λ src l. (let l₁ = lies-still l (c .before .before .before .before .before .before .before .before .before .before .before .before .before .before .before .before .before .before .before .before .before .before .before .before .before .before .before .before .before .begin-item .ensures .0 .kept) in let l₂ = lies-still l₁ (c .before .before .before .before .before .before .before .before .before .before .before .before .before .before .before .before .before .before .before .before .before .before .before .a-name .ensures .0 .kept) in let l₃ = lies-still l₂ (c .before .before .before .before .before .before .before .before .before .before .before .before .before .before .before .before .before .before .before .further-names .ensures .0 .kept) in let l₄ = lies-still l₃ (c .before .before .before .before .before .before .before .before .init .ensures .0 .kept) in local-read src _ _ (l .count) (c .before .before .before .before .before .before .before .before .before .before .before .before .before .before .before .before .before .before .before .before .before .before .before .before .before .before .before .before .before .before .before .before .before .free-of .ensures) (low (fitted (c .before .before .before .before .before .before .before .before .before .before .before .before .before .before .before .before .before .before .before .before .before .before .before .before .before .before .before .before .before .before .before .before .before .before .before .before .pre .1) (c .before .before .before .before .before .before .before .before .before .before .before .before .before .before .before .before .before .before .before .before .before .before .before .before .before .before .before .before .before .before .before .expect .ensures .0) refl (omega arith))) (c .before .before .before .before .before .before .before .before .before .before .before .before .before .before .before .before .before .before .before .before .before .before .before .before .before .free-of2 .ensures ∙ ap (λ (z : ℕ). freeOf z (c .before .before .before .before .before .before .before .before .before .before .before .before .before .before .before .before .before .before .before .before .before .before .before .before .before .before .before .before .before .begin-item .result)) (c .before .before .before .before .before .before .before .before .before .before .before .before .before .before .before .before .before .before .before .before .before .before .before .before .before .before .before .before .before .begin-item .kept .0)) (omega (arith, c .before .before .before .before .before .before .before .before .before .before .before .before .minus .ensures, c .before .before .before .before .before .before .before .before .before .before .before .before .before .before .before .free-of3 .ensures ∙ ap (λ (z : ℕ). freeOf z (c .before .before .before .before .before .before .before .before .before .before .before .before .before .before .before .before .before .before .before .further-names .result)) (c .before .before .before .before .before .before .before .before .before .before .before .before .before .before .before .before .before .before .before .further-names .kept .0 ∙ c .before .before .before .before .before .before .before .before .before .before .before .before .before .before .before .before .before .before .before .before .before .before .before .a-name .kept .0 ∙ c .before .before .before .before .before .before .before .before .before .before .before .before .before .before .before .before .before .before .before .before .before .before .before .before .before .before .before .before .before .begin-item .kept .0), c .before .before .before .before .before .before .before .before .before .before .before .before .before .free-of4 .ensures ∙ ap (λ (z : ℕ). freeOf z (c .before .before .before .before .before .before .before .before .before .before .before .before .before .before .before .before .before .before .before .before .before .before .before .a-name .result)) (c .before .before .before .before .before .before .before .before .before .before .before .before .before .before .before .before .before .before .before .further-names .kept .0 ∙ c .before .before .before .before .before .before .before .before .before .before .before .before .before .before .before .before .before .before .before .before .before .before .before .a-name .kept .0 ∙ c .before .before .before .before .before .before .before .before .before .before .before .before .before .before .before .before .before .before .before .before .before .before .before .before .before .before .before .before .before .begin-item .kept .0))) (c .before .before .before .before .before .before .before .before .before .before .before .before .before .before .before .before .before .before .before .before .before .before .before .before .before .before .before .before .before .before .before .expect .ensures .1 src l) (c .before .before .before .before .before .before .before .before .before .before .before .before .before .before .before .before .before .before .before .before .before .before .before .before .before .before .before .before .before .begin-item .ensures .1) (c .before .before .before .before .before .before .before .before .before .before .before .before .before .before .before .before .before .before .before .before .before .before .before .a-name .ensures .1 src l₁) (c .before .before .before .before .before .before .before .before .before .before .before .before .before .before .before .before .before .before .before .further-names .ensures .1 src l₂) (c .before .before .before .before .before .before .before .before .before .before .expect2 .ensures .1 src l₃) (λ name names q e. c .before .before .before .before .before .before .before .before .init .ensures .1 src l₃ .1 name names q (ap (λ (z : ℕ). freeOf z (c .before .before .before .before .before .before .before .before .before .before .expect2 .result)) (c .before .before .before .before .before .before .before .before .before .before .before .before .before .before .before .before .before .before .before .further-names .kept .0 ∙ c .before .before .before .before .before .before .before .before .before .before .before .before .before .before .before .before .before .before .before .before .before .before .before .a-name .kept .0 ∙ c .before .before .before .before .before .before .before .before .before .before .before .before .before .before .before .before .before .before .before .before .before .before .before .before .before .before .before .before .before .begin-item .kept .0) ∙ e)) (c .before .before .before .before .before .before .before .before .init .ensures .1 src l₃ .0) (c .before .before .before .before .optional .ensures .1 src l₄) (c .before .before .set-size .ensures .1)))
 
 pub local-ok : {M : Type 1} (t : ℕ) → local-lts.Closed (local-cs t) (local-at t) local.Post M
-local-ok t = local-lts.spec (local-cs t) (local-at t) local.Post (local-free-of-requires t) (local-expect-requires t) (local-mark-requires t) (local-free-of-requires-2 t) (local-a-name-requires t) (local-further-names-requires t) (local-free-of-requires-3 t) (local-free-of-requires-4 t) (local-less-requires t) (local-expect-requires-2 t) (local-init-requires t) (local-optional-requires t) (local-seal-requires t) (local-same-length t) (local-returns t)
+local-ok t = local-lts.spec (local-cs t) (local-at t) local.Post (local-free-of-requires t) (local-expect-requires t) (local-begin-item-requires t) (local-free-of-requires-2 t) (local-a-name-requires t) (local-further-names-requires t) (local-free-of-requires-3 t) (local-free-of-requires-4 t) (local-minus-requires t) (local-expect-requires-2 t) (local-init-requires t) (local-optional-requires t) (local-set-size-requires t) (local-same-length t) (local-returns t)
 
 abbrev lets-cs : ℕ → lets-lts.Claims
 lets-cs t = (kind-here-reads.Asked, kind-here-reads.Learnt, local-below t, local.Post)
 
 abbrev locals-Inv-loop : lets-lts.InvT-loop
-locals-Inv-loop s₀ n levels turns₀ a₀ s turns a = Fits 0 s₀ s n a₀ a × (length s ≡ length s₀) × ((src : Source) → Lies src n s₀ → Partly (manyUpTo turns₀ T.noLocals (λ kind. eqb kind K.LET) (C.local (readers (within levels))) src) (manyUpTo turns T.noLocals (λ kind. eqb kind K.LET) (C.local (readers (within levels))) src) encodeLocals s₀ s a₀ a)
+locals-Inv-loop s₀ n levels turns₀ a₀ s turns a = LeavesRoom 0 s₀ s n a₀ a × (length s ≡ length s₀) × ((src : Source) → HoldsSymbols src n s₀ → Partly (manyUpTo turns₀ T.noLocals (λ kind. eqb kind K.LET) (C.local (readers (within levels))) src) (manyUpTo turns T.noLocals (λ kind. eqb kind K.LET) (C.local (readers (within levels))) src) encodeLocals s₀ s a₀ a)
 
 abbrev locals-μ-loop : lets-lts.MeasureT-loop
 locals-μ-loop s₀ n levels turns₀ a₀ s turns a = turns
@@ -382,7 +382,7 @@ pub lets-ok : {M : Type 1} (t : ℕ) → lets-lts.Closed (lets-cs t) (lets-at t)
 lets-ok t = lets-lts.spec (lets-cs t) (lets-at t) lets.Post locals-Inv-loop locals-μ-loop (lets-loop-holds t) (lets-kind-here-requires t) (lets-same-length t) (lets-returns t) (lets-local-requires t) (lets-sub-turns t) (lets-loop-less t) (lets-loop-again t) (lets-same-length-2 t) (lets-returns-2 t)
 
 abbrev pick-cs : ℕ → pick-lts.Claims
-pick-cs t = (free-of-reads.Asked, free-of-reads.Learnt, expect-reads.Asked, expect-reads.Learnt, expr-below t, expr.Post, less-reads.Asked, less-reads.Learnt, item-below t, item.Post, list-below t, list.Post, node-reads.Asked, node-reads.Learnt)
+pick-cs t = (free-of-reads.Asked, free-of-reads.Learnt, expect-reads.Asked, expect-reads.Learnt, expr-below t, expr.Post, minus-reads.Asked, minus-reads.Learnt, item-below t, item.Post, list-below t, list.Post, node-reads.Asked, node-reads.Learnt)
 
 pick-free-of-requires : (t : ℕ) → pick-lts.Need-free-of-requires (pick-cs t) (pick-at t) pick.Post
 pick-free-of-requires t c κs = tt
@@ -396,8 +396,8 @@ pick-expr-requires t c κs = (omega (arith, c .before .before .before .before .b
 pick-free-of-requires-2 : (t : ℕ) → pick-lts.Need-free-of-requires-2 (pick-cs t) (pick-at t) pick.Post
 pick-free-of-requires-2 t c κs = tt
 
-pick-less-requires : (t : ℕ) → pick-lts.Need-less-requires (pick-cs t) (pick-at t) pick.Post
-pick-less-requires t c κs = tt
+pick-minus-requires : (t : ℕ) → pick-lts.Need-minus-requires (pick-cs t) (pick-at t) pick.Post
+pick-minus-requires t c κs = tt
 
 pick-expect-requires-2 : (t : ℕ) → pick-lts.Need-expect-requires-2 (pick-cs t) (pick-at t) pick.Post
 pick-expect-requires-2 t c κs = (smaller (fitted (fitted (c .before .before .before .before .before .before .before .before .before .before .before .before .before .pre .1) (c .before .before .before .before .before .before .before .before .expect .ensures .0) refl (omega arith)) (c .before .before .before .before .before .before .expr .ensures .0) (c .before .before .before .before .before .before .expr .kept .0) (omega arith)) (omega arith), (omega arith))
@@ -412,7 +412,7 @@ pick-list-requires : (t : ℕ) → pick-lts.Need-list-requires (pick-cs t) (pick
 pick-list-requires t c κs = (omega (arith, c .before .before .before .before .before .before .before .before .before .before .before .before .before .before .before .before .before .before .before .before .before .pre .0), smaller (enlarged (fitted (fitted (fitted (fitted (c .before .before .before .before .before .before .before .before .before .before .before .before .before .before .before .before .before .before .before .before .before .pre .1) (c .before .before .before .before .before .before .before .before .before .before .before .before .before .before .before .before .expect .ensures .0) refl (omega arith)) (c .before .before .before .before .before .before .before .before .before .before .before .before .before .before .expr .ensures .0) (c .before .before .before .before .before .before .before .before .before .before .before .before .before .before .expr .kept .0) (omega arith)) (c .before .before .before .before .before .before .before .expect2 .ensures .0) refl (omega arith)) (c .before .before .before .before .before .expect3 .ensures .0) refl (omega arith)) (c .before .before .before .item .ensures .0) (c .before .before .before .item .kept .0) (omega arith) (omega arith)) (omega arith))
 
 pick-cast-node : (t : ℕ) → pick-lts.Need-cast-node (pick-cs t) (pick-at t) pick.Post
-pick-cast-node t c = omega (arith, c .before .before .before .before .before .before .before .before .before .before .before .before .before .less .ensures, c .before .before .before .before .before .before .before .before .before .before .before .before .before .before .free-of2 .ensures, low (fitted (fitted (c .before .before .before .before .before .before .before .before .before .before .before .before .before .before .before .before .before .before .before .before .before .before .before .before .before .pre .1) (c .before .before .before .before .before .before .before .before .before .before .before .before .before .before .before .before .before .before .before .before .expect .ensures .0) refl (omega arith)) (c .before .before .before .before .before .before .before .before .before .before .before .before .before .before .before .before .before .before .expr .ensures .0) (c .before .before .before .before .before .before .before .before .before .before .before .before .before .before .before .before .before .before .expr .kept .0) (omega arith)), c .before .before .before .before .before .before .before .before .before .before .before .before .before .before .before .before .before .before .expr .kept .0, c .before .before .before .before .before .before .before .before .before .before .before .before .before .before .before .before .before .before .before .before .before .before .before .before .before .pre .1 .small)
+pick-cast-node t c = omega (arith, c .before .before .before .before .before .before .before .before .before .before .before .before .before .minus .ensures, c .before .before .before .before .before .before .before .before .before .before .before .before .before .before .free-of2 .ensures, low (fitted (fitted (c .before .before .before .before .before .before .before .before .before .before .before .before .before .before .before .before .before .before .before .before .before .before .before .before .before .pre .1) (c .before .before .before .before .before .before .before .before .before .before .before .before .before .before .before .before .before .before .before .before .expect .ensures .0) refl (omega arith)) (c .before .before .before .before .before .before .before .before .before .before .before .before .before .before .before .before .before .before .expr .ensures .0) (c .before .before .before .before .before .before .before .before .before .before .before .before .before .before .before .before .before .before .expr .kept .0) (omega arith)), c .before .before .before .before .before .before .before .before .before .before .before .before .before .before .before .before .before .before .expr .kept .0, c .before .before .before .before .before .before .before .before .before .before .before .before .before .before .before .before .before .before .before .before .before .before .before .before .before .pre .1 .small)
 
 pick-node-requires : (t : ℕ) → pick-lts.Need-node-requires (pick-cs t) (pick-at t) pick.Post
 pick-node-requires t c κs = smaller (fitted (enlarged (fitted (fitted (fitted (fitted (c .before .before .before .before .before .before .before .before .before .before .before .before .before .before .before .before .before .before .before .before .before .before .before .before .before .pre .1) (c .before .before .before .before .before .before .before .before .before .before .before .before .before .before .before .before .before .before .before .before .expect .ensures .0) refl (omega arith)) (c .before .before .before .before .before .before .before .before .before .before .before .before .before .before .before .before .before .before .expr .ensures .0) (c .before .before .before .before .before .before .before .before .before .before .before .before .before .before .before .before .before .before .expr .kept .0) (omega arith)) (c .before .before .before .before .before .before .before .before .before .before .before .expect2 .ensures .0) refl (omega arith)) (c .before .before .before .before .before .before .before .before .before .expect3 .ensures .0) refl (omega arith)) (c .before .before .before .before .before .before .before .item .ensures .0) (c .before .before .before .before .before .before .before .item .kept .0) (omega arith) (omega arith)) (c .before .before .before .list .ensures .0) (c .before .before .before .list .kept .0) (omega arith)) (omega arith)
@@ -421,10 +421,10 @@ pick-same-length : (t : ℕ) → pick-lts.Need-same-length (pick-cs t) (pick-at 
 pick-same-length t c = search needs
 
 pick-returns : (t : ℕ) → pick-lts.Need-returns (pick-cs t) (pick-at t) pick.Post
-pick-returns t c = (weaker (omega arith) (then-grows (both (then-grows (both (both (both (c .before .before .before .before .before .before .before .before .before .before .before .before .before .before .before .before .before .before .before .before .before .before .before .expect .ensures .0) (c .before .before .before .before .before .before .before .before .before .before .before .before .before .before .before .before .before .before .before .before .before .expr .ensures .0)) (c .before .before .before .before .before .before .before .before .before .before .before .before .before .before .expect2 .ensures .0)) (c .before .before .before .before .before .before .before .before .before .before .before .before .expect3 .ensures .0)) (c .before .before .before .before .before .before .before .before .before .before .item .ensures .0) (omega arith)) (c .before .before .before .before .before .before .list .ensures .0)) (c .before .before .node .ensures .0) (omega arith)), λ src l. (let l₂ = lies-still l (c .before .before .before .before .before .before .before .before .before .before .before .before .before .before .before .before .before .before .before .before .before .expr .ensures .0 .kept) in let l₃ = lies-still l₂ (c .before .before .before .before .before .before .before .before .before .before .item .ensures .0 .kept) in switchon-read l _ _ (c .before .before .before .before .before .before .before .before .before .before .before .before .before .before .before .before .before .before .before .before .before .before .before .before .before .free-of .ensures) (c .before .before .before .before .before .before .before .before .before .before .before .before .before .before .before .before .before .before .before .before .before .before .before .expect .ensures .1 src l) (c .before .before .before .before .before .before .before .before .before .before .before .before .before .before .before .before .before .before .before .before .before .expr .ensures .1 src l) (c .before .before .before .before .before .before .before .before .before .before .before .before .before .before .expect2 .ensures .1 src l₂) (c .before .before .before .before .before .before .before .before .before .before .before .before .expect3 .ensures .1 src l₂) (c .before .before .before .before .before .before .before .before .before .before .item .ensures .1 src l₂) (c .before .before .before .before .before .before .list .ensures .1 src l₃) (c .before .before .before .before .before .before .before .before .before .before .before .before .before .before .before .before .less .ensures ∙ ap (λ (y : ℕ). y - c .before .before .before .before .before .before .before .before .before .before .before .before .before .before .before .before .before .before .before .before .before .before .before .before .before .free-of .result) (c .before .before .before .before .before .before .before .before .before .before .before .before .before .before .before .before .before .free-of2 .ensures ∙ ap (λ (z : ℕ). freeOf z (c .before .before .before .before .before .before .before .before .before .before .before .before .before .before .before .before .before .before .before .before .before .expr .result)) (c .before .before .before .before .before .before .before .before .before .before .before .before .before .before .before .before .before .before .before .before .before .expr .kept .0))) (c .before .before .node .ensures .1)))
+pick-returns t c = (weaker (omega arith) (then-grows (both (then-grows (both (both (both (c .before .before .before .before .before .before .before .before .before .before .before .before .before .before .before .before .before .before .before .before .before .before .before .expect .ensures .0) (c .before .before .before .before .before .before .before .before .before .before .before .before .before .before .before .before .before .before .before .before .before .expr .ensures .0)) (c .before .before .before .before .before .before .before .before .before .before .before .before .before .before .expect2 .ensures .0)) (c .before .before .before .before .before .before .before .before .before .before .before .before .expect3 .ensures .0)) (c .before .before .before .before .before .before .before .before .before .before .item .ensures .0) (omega arith)) (c .before .before .before .before .before .before .list .ensures .0)) (c .before .before .node .ensures .0) (omega arith)), λ src l. (let l₂ = lies-still l (c .before .before .before .before .before .before .before .before .before .before .before .before .before .before .before .before .before .before .before .before .before .expr .ensures .0 .kept) in let l₃ = lies-still l₂ (c .before .before .before .before .before .before .before .before .before .before .item .ensures .0 .kept) in switchon-read l _ _ (c .before .before .before .before .before .before .before .before .before .before .before .before .before .before .before .before .before .before .before .before .before .before .before .before .before .free-of .ensures) (c .before .before .before .before .before .before .before .before .before .before .before .before .before .before .before .before .before .before .before .before .before .before .before .expect .ensures .1 src l) (c .before .before .before .before .before .before .before .before .before .before .before .before .before .before .before .before .before .before .before .before .before .expr .ensures .1 src l) (c .before .before .before .before .before .before .before .before .before .before .before .before .before .before .expect2 .ensures .1 src l₂) (c .before .before .before .before .before .before .before .before .before .before .before .before .expect3 .ensures .1 src l₂) (c .before .before .before .before .before .before .before .before .before .before .item .ensures .1 src l₂) (c .before .before .before .before .before .before .list .ensures .1 src l₃) (c .before .before .before .before .before .before .before .before .before .before .before .before .before .before .before .before .minus .ensures ∙ ap (λ (y : ℕ). y - c .before .before .before .before .before .before .before .before .before .before .before .before .before .before .before .before .before .before .before .before .before .before .before .before .before .free-of .result) (c .before .before .before .before .before .before .before .before .before .before .before .before .before .before .before .before .before .free-of2 .ensures ∙ ap (λ (z : ℕ). freeOf z (c .before .before .before .before .before .before .before .before .before .before .before .before .before .before .before .before .before .before .before .before .before .expr .result)) (c .before .before .before .before .before .before .before .before .before .before .before .before .before .before .before .before .before .before .before .before .before .expr .kept .0))) (c .before .before .node .ensures .1)))
 
 pub pick-ok : {M : Type 1} (t : ℕ) → pick-lts.Closed (pick-cs t) (pick-at t) pick.Post M
-pick-ok t = pick-lts.spec (pick-cs t) (pick-at t) pick.Post (pick-free-of-requires t) (pick-expect-requires t) (pick-expr-requires t) (pick-free-of-requires-2 t) (pick-less-requires t) (pick-expect-requires-2 t) (pick-expect-requires-3 t) (pick-item-requires t) (pick-list-requires t) (pick-cast-node t) (pick-node-requires t) (pick-same-length t) (pick-returns t)
+pick-ok t = pick-lts.spec (pick-cs t) (pick-at t) pick.Post (pick-free-of-requires t) (pick-expect-requires t) (pick-expr-requires t) (pick-free-of-requires-2 t) (pick-minus-requires t) (pick-expect-requires-2 t) (pick-expect-requires-3 t) (pick-item-requires t) (pick-list-requires t) (pick-cast-node t) (pick-node-requires t) (pick-same-length t) (pick-returns t)
 
 abbrev till-cs : ℕ → till-lts.Claims
 till-cs t = (kind-here-reads.Asked, kind-here-reads.Learnt, expect-reads.Asked, expect-reads.Learnt, item-below t, item.Post, list-below t, list.Post)

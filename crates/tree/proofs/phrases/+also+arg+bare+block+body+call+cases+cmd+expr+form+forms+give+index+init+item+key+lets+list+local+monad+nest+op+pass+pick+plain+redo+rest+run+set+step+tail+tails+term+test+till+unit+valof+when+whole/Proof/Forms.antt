@@ -21,7 +21,7 @@ use Rattle.language.specs.Commands as C
 use Rattle.language.specs.Grammar.{within, readers}
 use Rattle.tree.specs.Encoding.{encodeRepeats}
 use Prim.Native.Nat.{_-_, ℕ}
-use Rattle.tree.specs.Reads.{Reads, Lies, Fits, freeOf}
+use Rattle.tree.specs.Reads.{Reads, HoldsSymbols, LeavesRoom, freeOf}
 use phrases.arg.Reads as arg
 use phrases.set.Reads as set
 use cycle.Lts-set as set-lts
@@ -66,22 +66,22 @@ use proofs.scratch.expect.Reads as expect-reads
 use proofs.scratch.free_of.Reads as free-of-reads
 use proofs.scratch.is_call.Reads as is-call-reads
 use proofs.scratch.kind_here.Reads as kind-here-reads
-use proofs.scratch.less.Reads as less-reads
-use proofs.scratch.mark.Reads as mark-reads
+use proofs.scratch.minus.Reads as minus-reads
+use proofs.scratch.begin_item.Reads as begin-item-reads
 use proofs.scratch.node.Reads as node-reads
 use proofs.scratch.place_here.Reads as place-here-reads
 use proofs.scratch.refuse.Reads as refuse-reads
-use proofs.scratch.seal.Reads as seal-reads
+use proofs.scratch.set_size.Reads as set-size-reads
 use cycle.Proof.Ranks.{arg-below, set-at, set-below, block-below, body-at, body-below, cmd-at, cmd-below, also-below, expr-below, step-below, form-at, form-below, forms-at, forms-below, when-at, when-below, cases-at, cases-below, plain-at, plain-below, redo-at, redo-below, rest-below, give-at, give-below, bare-at, bare-below, pick-below, test-at, test-below}
 
 abbrev set-cs : ℕ → set-lts.Claims
-set-cs t = (free-of-reads.Asked, free-of-reads.Learnt, less-reads.Asked, less-reads.Learnt, also-below t, also.Post, expect-reads.Asked, expect-reads.Learnt, arg-below t, arg.Post, rest-below t, rest.Post, node-reads.Asked, node-reads.Learnt)
+set-cs t = (free-of-reads.Asked, free-of-reads.Learnt, minus-reads.Asked, minus-reads.Learnt, also-below t, also.Post, expect-reads.Asked, expect-reads.Learnt, arg-below t, arg.Post, rest-below t, rest.Post, node-reads.Asked, node-reads.Learnt)
 
 set-free-of-requires : (t : ℕ) → set-lts.Need-free-of-requires (set-cs t) (set-at t) set.Post
 set-free-of-requires t c κs = tt
 
-set-less-requires : (t : ℕ) → set-lts.Need-less-requires (set-cs t) (set-at t) set.Post
-set-less-requires t c κs = tt
+set-minus-requires : (t : ℕ) → set-lts.Need-minus-requires (set-cs t) (set-at t) set.Post
+set-minus-requires t c κs = tt
 
 set-also-requires : (t : ℕ) → set-lts.Need-also-requires (set-cs t) (set-at t) set.Post
 set-also-requires t c κs = (omega (arith, c .before .before .before .before .before .pre .0), c .before .before .before .before .before .pre .1)
@@ -89,8 +89,8 @@ set-also-requires t c κs = (omega (arith, c .before .before .before .before .be
 set-free-of-requires-2 : (t : ℕ) → set-lts.Need-free-of-requires-2 (set-cs t) (set-at t) set.Post
 set-free-of-requires-2 t c κs = tt
 
-set-less-requires-2 : (t : ℕ) → set-lts.Need-less-requires-2 (set-cs t) (set-at t) set.Post
-set-less-requires-2 t c κs = tt
+set-minus-requires-2 : (t : ℕ) → set-lts.Need-minus-requires-2 (set-cs t) (set-at t) set.Post
+set-minus-requires-2 t c κs = tt
 
 set-expect-requires : (t : ℕ) → set-lts.Need-expect-requires (set-cs t) (set-at t) set.Post
 set-expect-requires t c κs = (smaller (fitted (c .before .before .before .before .before .before .before .before .before .before .before .before .pre .1) (c .before .before .before .before .before .before .also .ensures .0) (c .before .before .before .before .before .before .also .kept .0) (omega arith)) (omega arith), (omega arith))
@@ -102,10 +102,10 @@ set-rest-requires : (t : ℕ) → set-lts.Need-rest-requires (set-cs t) (set-at 
 set-rest-requires t c κs = (omega (arith, c .before .before .before .before .before .before .before .before .before .before .before .before .before .before .before .before .before .before .pre .0), smaller (enlarged (fitted (fitted (c .before .before .before .before .before .before .before .before .before .before .before .before .before .before .before .before .before .before .pre .1) (c .before .before .before .before .before .before .before .before .before .before .before .before .also .ensures .0) (c .before .before .before .before .before .before .before .before .before .before .before .before .also .kept .0) (omega arith)) (c .before .before .before .before .before .expect .ensures .0) refl (omega arith)) (c .before .before .before .arg .ensures .0) (c .before .before .before .arg .kept .0) (omega arith) (omega arith)) (omega arith))
 
 set-cast-node : (t : ℕ) → set-lts.Need-cast-node (set-cs t) (set-at t) set.Post
-set-cast-node t c = omega (arith, c .before .before .before .before .before .before .before .before .before .before .before .before .before .before .before .before .before .before .less .ensures, c .before .before .before .before .before .before .before .before .before .before .before .before .before .before .before .before .before .before .before .free-of .ensures, low (c .before .before .before .before .before .before .before .before .before .before .before .before .before .before .before .before .before .before .before .before .before .before .pre .1), c .before .before .before .before .before .before .before .before .before .before .before .before .before .before .before .before .before .before .before .before .before .before .pre .1 .small)
+set-cast-node t c = omega (arith, c .before .before .before .before .before .before .before .before .before .before .before .before .before .before .before .before .before .before .minus .ensures, c .before .before .before .before .before .before .before .before .before .before .before .before .before .before .before .before .before .before .before .free-of .ensures, low (c .before .before .before .before .before .before .before .before .before .before .before .before .before .before .before .before .before .before .before .before .before .before .pre .1), c .before .before .before .before .before .before .before .before .before .before .before .before .before .before .before .before .before .before .before .before .before .before .pre .1 .small)
 
 set-cast-node-2 : (t : ℕ) → set-lts.Need-cast-node-2 (set-cs t) (set-at t) set.Post
-set-cast-node-2 t c = omega (arith, c .before .before .before .before .before .before .before .before .before .before .before .less2 .ensures, c .before .before .before .before .before .before .before .before .before .before .before .before .free-of2 .ensures, low (fitted (c .before .before .before .before .before .before .before .before .before .before .before .before .before .before .before .before .before .before .before .before .before .before .pre .1) (c .before .before .before .before .before .before .before .before .before .before .before .before .before .before .before .before .also .ensures .0) (c .before .before .before .before .before .before .before .before .before .before .before .before .before .before .before .before .also .kept .0) (omega arith)), c .before .before .before .before .before .before .before .before .before .before .before .before .before .before .before .before .also .kept .0, c .before .before .before .before .before .before .before .before .before .before .before .before .before .before .before .before .before .before .before .before .before .before .pre .1 .small)
+set-cast-node-2 t c = omega (arith, c .before .before .before .before .before .before .before .before .before .before .before .minus2 .ensures, c .before .before .before .before .before .before .before .before .before .before .before .before .free-of2 .ensures, low (fitted (c .before .before .before .before .before .before .before .before .before .before .before .before .before .before .before .before .before .before .before .before .before .before .pre .1) (c .before .before .before .before .before .before .before .before .before .before .before .before .before .before .before .before .also .ensures .0) (c .before .before .before .before .before .before .before .before .before .before .before .before .before .before .before .before .also .kept .0) (omega arith)), c .before .before .before .before .before .before .before .before .before .before .before .before .before .before .before .before .also .kept .0, c .before .before .before .before .before .before .before .before .before .before .before .before .before .before .before .before .before .before .before .before .before .before .pre .1 .small)
 
 set-node-requires : (t : ℕ) → set-lts.Need-node-requires (set-cs t) (set-at t) set.Post
 set-node-requires t c κs = smaller (fitted (enlarged (fitted (fitted (c .before .before .before .before .before .before .before .before .before .before .before .before .before .before .before .before .before .before .before .before .before .before .pre .1) (c .before .before .before .before .before .before .before .before .before .before .before .before .before .before .before .before .also .ensures .0) (c .before .before .before .before .before .before .before .before .before .before .before .before .before .before .before .before .also .kept .0) (omega arith)) (c .before .before .before .before .before .before .before .before .before .expect .ensures .0) refl (omega arith)) (c .before .before .before .before .before .before .before .arg .ensures .0) (c .before .before .before .before .before .before .before .arg .kept .0) (omega arith) (omega arith)) (c .before .before .before .rest .ensures .0) (c .before .before .before .rest .kept .0) (omega arith)) (omega arith)
@@ -114,10 +114,10 @@ set-same-length : (t : ℕ) → set-lts.Need-same-length (set-cs t) (set-at t) s
 set-same-length t c = search needs
 
 set-returns : (t : ℕ) → set-lts.Need-returns (set-cs t) (set-at t) set.Post
-set-returns t c = (then-grows (both (then-grows (both (c .before .before .before .before .before .before .before .before .before .before .before .before .before .before .before .before .before .before .before .also .ensures .0) (c .before .before .before .before .before .before .before .before .before .before .before .before .expect .ensures .0)) (c .before .before .before .before .before .before .before .before .before .before .arg .ensures .0) (omega arith)) (c .before .before .before .before .before .before .rest .ensures .0)) (c .before .before .node .ensures .0) (omega arith), λ src l. (let l₁ = lies-still l (c .before .before .before .before .before .before .before .before .before .before .before .before .before .before .before .before .before .before .before .also .ensures .0 .kept) in let l₂ = lies-still l₁ (c .before .before .before .before .before .before .before .before .before .before .arg .ensures .0 .kept) in (goes-on (c .before .before .before .before .before .before .before .before .before .before .before .before .before .before .before .before .before .before .before .also .ensures .1 src l) then goes-on (c .before .before .before .before .before .before .before .before .before .before .before .before .expect .ensures .1 src l₁) then goes-on (c .before .before .before .before .before .before .before .before .before .before .arg .ensures .1 src l₁) then goes-on (c .before .before .before .before .before .before .rest .ensures .1 src l₂) then adds-on (c .before .before .node .ensures .1), λ e q. assignment-read src _ _ _ e (l .count) q (c .before .before .before .before .before .before .before .before .before .before .before .before .before .before .before .before .before .before .before .before .before .less .ensures ∙ ap (λ (y : ℕ). y - c .before .before .before .before .before .before .before .before .before .before .before .before .before .before .before .before .before .before .before .before .before .before .before .before .before .args .lo) (c .before .before .before .before .before .before .before .before .before .before .before .before .before .before .before .before .before .before .before .before .before .before .free-of .ensures)) (c .before .before .before .before .before .before .before .before .before .before .before .before .before .before .less2 .ensures ∙ ap (λ (y : ℕ). y - c .before .before .before .before .before .before .before .before .before .before .before .before .before .before .before .before .before .before .before .before .before .before .before .before .before .args .lo) (c .before .before .before .before .before .before .before .before .before .before .before .before .before .before .before .free-of2 .ensures ∙ ap (λ (z : ℕ). freeOf z (c .before .before .before .before .before .before .before .before .before .before .before .before .before .before .before .before .before .before .before .also .result .end)) (c .before .before .before .before .before .before .before .before .before .before .before .before .before .before .before .before .before .before .before .also .kept .0))) (c .before .before .before .before .before .before .before .before .before .before .before .before .before .before .before .before .before .before .before .also .ensures .1 src l) (c .before .before .before .before .before .before .before .before .before .before .before .before .expect .ensures .1 src l₁) (c .before .before .before .before .before .before .before .before .before .before .arg .ensures .1 src l₁) (c .before .before .before .before .before .before .rest .ensures .1 src l₂) (c .before .before .node .ensures .1))))
+set-returns t c = (then-grows (both (then-grows (both (c .before .before .before .before .before .before .before .before .before .before .before .before .before .before .before .before .before .before .before .also .ensures .0) (c .before .before .before .before .before .before .before .before .before .before .before .before .expect .ensures .0)) (c .before .before .before .before .before .before .before .before .before .before .arg .ensures .0) (omega arith)) (c .before .before .before .before .before .before .rest .ensures .0)) (c .before .before .node .ensures .0) (omega arith), λ src l. (let l₁ = lies-still l (c .before .before .before .before .before .before .before .before .before .before .before .before .before .before .before .before .before .before .before .also .ensures .0 .kept) in let l₂ = lies-still l₁ (c .before .before .before .before .before .before .before .before .before .before .arg .ensures .0 .kept) in (goes-on (c .before .before .before .before .before .before .before .before .before .before .before .before .before .before .before .before .before .before .before .also .ensures .1 src l) then goes-on (c .before .before .before .before .before .before .before .before .before .before .before .before .expect .ensures .1 src l₁) then goes-on (c .before .before .before .before .before .before .before .before .before .before .arg .ensures .1 src l₁) then goes-on (c .before .before .before .before .before .before .rest .ensures .1 src l₂) then adds-on (c .before .before .node .ensures .1), λ e q. assignment-read src _ _ _ e (l .count) q (c .before .before .before .before .before .before .before .before .before .before .before .before .before .before .before .before .before .before .before .before .before .minus .ensures ∙ ap (λ (y : ℕ). y - c .before .before .before .before .before .before .before .before .before .before .before .before .before .before .before .before .before .before .before .before .before .before .before .before .before .args .lo) (c .before .before .before .before .before .before .before .before .before .before .before .before .before .before .before .before .before .before .before .before .before .before .free-of .ensures)) (c .before .before .before .before .before .before .before .before .before .before .before .before .before .before .minus2 .ensures ∙ ap (λ (y : ℕ). y - c .before .before .before .before .before .before .before .before .before .before .before .before .before .before .before .before .before .before .before .before .before .before .before .before .before .args .lo) (c .before .before .before .before .before .before .before .before .before .before .before .before .before .before .before .free-of2 .ensures ∙ ap (λ (z : ℕ). freeOf z (c .before .before .before .before .before .before .before .before .before .before .before .before .before .before .before .before .before .before .before .also .result .end)) (c .before .before .before .before .before .before .before .before .before .before .before .before .before .before .before .before .before .before .before .also .kept .0))) (c .before .before .before .before .before .before .before .before .before .before .before .before .before .before .before .before .before .before .before .also .ensures .1 src l) (c .before .before .before .before .before .before .before .before .before .before .before .before .expect .ensures .1 src l₁) (c .before .before .before .before .before .before .before .before .before .before .arg .ensures .1 src l₁) (c .before .before .before .before .before .before .rest .ensures .1 src l₂) (c .before .before .node .ensures .1))))
 
 pub set-ok : {M : Type 1} (t : ℕ) → set-lts.Closed (set-cs t) (set-at t) set.Post M
-set-ok t = set-lts.spec (set-cs t) (set-at t) set.Post (set-free-of-requires t) (set-less-requires t) (set-also-requires t) (set-free-of-requires-2 t) (set-less-requires-2 t) (set-expect-requires t) (set-arg-requires t) (set-rest-requires t) (set-cast-node t) (set-cast-node-2 t) (set-node-requires t) (set-same-length t) (set-returns t)
+set-ok t = set-lts.spec (set-cs t) (set-at t) set.Post (set-free-of-requires t) (set-minus-requires t) (set-also-requires t) (set-free-of-requires-2 t) (set-minus-requires-2 t) (set-expect-requires t) (set-arg-requires t) (set-rest-requires t) (set-cast-node t) (set-cast-node-2 t) (set-node-requires t) (set-same-length t) (set-returns t)
 
 abbrev body-cs : ℕ → body-lts.Claims
 body-cs t = (kind-here-reads.Asked, kind-here-reads.Learnt, begins-command-reads.Asked, begins-command-reads.Learnt, refuse-reads.Asked, refuse-reads.Learnt, redo-below t, redo.Post)
@@ -198,7 +198,7 @@ pub cmd-ok : {M : Type 1} (t : ℕ) → cmd-lts.Closed (cmd-cs t) (cmd-at t) cmd
 cmd-ok t = cmd-lts.spec (cmd-cs t) (cmd-at t) cmd.Post (cmd-kind-here-requires t) (cmd-is-label-requires t) (cmd-cases-requires t) (cmd-same-length t) (cmd-returns t) (cmd-body-requires t) (cmd-same-length-2 t) (cmd-returns-2 t)
 
 abbrev form-cs : ℕ → form-lts.Claims
-form-cs t = (free-of-reads.Asked, free-of-reads.Learnt, expect-reads.Asked, expect-reads.Learnt, mark-reads.Asked, mark-reads.Learnt, expr-below t, expr.Post, seal-reads.Asked, seal-reads.Learnt)
+form-cs t = (free-of-reads.Asked, free-of-reads.Learnt, expect-reads.Asked, expect-reads.Learnt, begin-item-reads.Asked, begin-item-reads.Learnt, expr-below t, expr.Post, set-size-reads.Asked, set-size-reads.Learnt)
 
 form-free-of-requires : (t : ℕ) → form-lts.Need-free-of-requires (form-cs t) (form-at t) form.Post
 form-free-of-requires t c κs = tt
@@ -206,47 +206,47 @@ form-free-of-requires t c κs = tt
 form-expect-requires : (t : ℕ) → form-lts.Need-expect-requires (form-cs t) (form-at t) form.Post
 form-expect-requires t c κs = omega (arith, c .before .before .before .before .pre .0, c .before .before .before .before .pre .1, c .before .free-of .ensures)
 
-form-mark-requires : (t : ℕ) → form-lts.Need-mark-requires (form-cs t) (form-at t) form.Post
-form-mark-requires t c κs = omega (arith, c .before .before .before .before .before .before .pre .0, c .before .before .before .before .before .before .pre .1, c .before .expect .ensures .0, alive (c .before .expect .result), c .before .before .before .free-of .ensures)
+form-begin-item-requires : (t : ℕ) → form-lts.Need-begin-item-requires (form-cs t) (form-at t) form.Post
+form-begin-item-requires t c κs = omega (arith, c .before .before .before .before .before .before .pre .0, c .before .before .before .before .before .before .pre .1, c .before .expect .ensures .0, alive (c .before .expect .result), c .before .before .before .free-of .ensures)
 
 form-same-length : (t : ℕ) → form-lts.Need-same-length (form-cs t) (form-at t) form.Post
 form-same-length t c = search needs
 
 form-returns : (t : ℕ) → form-lts.Need-returns (form-cs t) (form-at t) form.Post
-form-returns t c = (then-grows (c .before .before .before .before .before .expect .ensures .0) (c .before .before .before .mark .ensures .0) (omega arith), λ src l k. repeat-read src 0 _ k (c .if1 .taken) (c .before .before .before .before .before .expect .ensures .1 src l) (c .before .before .before .mark .ensures .1))
+form-returns t c = (then-grows (c .before .before .before .before .before .expect .ensures .0) (c .before .before .before .begin-item .ensures .0) (omega arith), λ src l k. repeat-read src 0 _ k (c .if1 .taken) (c .before .before .before .before .before .expect .ensures .1 src l) (c .before .before .before .begin-item .ensures .1))
 
 form-expr-requires : (t : ℕ) → form-lts.Need-expr-requires (form-cs t) (form-at t) form.Post
-form-expr-requires t c κs = omega (arith, c .before .before .before .before .before .before .before .before .before .before .before .pre .0, c .before .before .before .before .before .before .before .before .before .before .before .pre .1, c .before .before .before .before .mark .ensures .0, c .before .before .before .before .mark .kept .0, alive (c .before .before .before .before .mark .result), c .before .before .before .before .before .before .expect .ensures .0, alive (c .before .before .before .before .before .before .expect .result), c .before .before .before .before .before .before .before .before .free-of .ensures)
+form-expr-requires t c κs = omega (arith, c .before .before .before .before .before .before .before .before .before .before .before .pre .0, c .before .before .before .before .before .before .before .before .before .before .before .pre .1, c .before .before .before .before .begin-item .ensures .0, c .before .before .before .before .begin-item .kept .0, alive (c .before .before .before .before .begin-item .result), c .before .before .before .before .before .before .expect .ensures .0, alive (c .before .before .before .before .before .before .expect .result), c .before .before .before .before .before .before .before .before .free-of .ensures)
 
-form-seal-requires : (t : ℕ) → form-lts.Need-seal-requires (form-cs t) (form-at t) form.Post
-form-seal-requires t c κs = (smaller (fitted (enlarged (fitted (c .before .before .before .before .before .before .before .before .before .before .before .before .before .before .before .pre .1 .0) (c .before .before .before .before .before .before .before .before .before .before .expect .ensures .0) refl (omega arith)) (c .before .before .before .before .before .before .before .before .mark .ensures .0) (c .before .before .before .before .before .before .before .before .mark .kept .0) (omega arith) (omega arith)) (c .before .before .before .expr .ensures .0) (c .before .before .before .expr .kept .0) (omega arith)) (omega arith), omega (arith, base (c .before .before .before .before .before .before .before .before .before .before .before .before .before .before .before .pre .1 .0), c .before .before .before .before .before .before .before .before .before .before .before .before .free-of .ensures))
+form-set-size-requires : (t : ℕ) → form-lts.Need-set-size-requires (form-cs t) (form-at t) form.Post
+form-set-size-requires t c κs = (smaller (fitted (enlarged (fitted (c .before .before .before .before .before .before .before .before .before .before .before .before .before .before .before .pre .1 .0) (c .before .before .before .before .before .before .before .before .before .before .expect .ensures .0) refl (omega arith)) (c .before .before .before .before .before .before .before .before .begin-item .ensures .0) (c .before .before .before .before .before .before .before .before .begin-item .kept .0) (omega arith) (omega arith)) (c .before .before .before .expr .ensures .0) (c .before .before .before .expr .kept .0) (omega arith)) (omega arith), omega (arith, base (c .before .before .before .before .before .before .before .before .before .before .before .before .before .before .before .pre .1 .0), c .before .before .before .before .before .before .before .before .before .before .before .before .free-of .ensures))
 
 form-same-length-2 : (t : ℕ) → form-lts.Need-same-length-2 (form-cs t) (form-at t) form.Post
 form-same-length-2 t c = search needs
 
 form-returns-2 : (t : ℕ) → form-lts.Need-returns-2 (form-cs t) (form-at t) form.Post
-form-returns-2 t c = (weaker (omega arith) (both (both (then-grows (c .before .before .before .before .before .before .before .before .before .before .before .before .before .expect .ensures .0) (c .before .before .before .before .before .before .before .before .before .before .before .mark .ensures .0) (omega arith)) (c .before .before .before .before .before .before .expr .ensures .0)) (c .before .before .seal .ensures .0)), λ src l k. repeat-on-read src _ _ k (c .before .before .before .before .before .before .before .before .before .before .before .before .before .before .before .free-of .ensures) (c .before .before .before .before .before .before .before .before .if1 .left) (low (fitted (c .before .before .before .before .before .before .before .before .before .before .before .before .before .before .before .before .before .before .pre .1 .0) (c .before .before .before .before .before .before .before .before .before .before .before .before .before .expect .ensures .0) refl (omega arith))) (c .before .before .before .before .before .before .before .before .before .before .before .before .before .expect .ensures .1 src l) (c .before .before .before .before .before .before .before .before .before .before .before .mark .ensures .1) (c .before .before .before .before .before .before .expr .ensures .1 src (lies-still l (c .before .before .before .before .before .before .before .before .before .before .before .mark .ensures .0 .kept))) (c .before .before .seal .ensures .1))
+form-returns-2 t c = (weaker (omega arith) (both (both (then-grows (c .before .before .before .before .before .before .before .before .before .before .before .before .before .expect .ensures .0) (c .before .before .before .before .before .before .before .before .before .before .before .begin-item .ensures .0) (omega arith)) (c .before .before .before .before .before .before .expr .ensures .0)) (c .before .before .set-size .ensures .0)), λ src l k. repeat-on-read src _ _ k (c .before .before .before .before .before .before .before .before .before .before .before .before .before .before .before .free-of .ensures) (c .before .before .before .before .before .before .before .before .if1 .left) (low (fitted (c .before .before .before .before .before .before .before .before .before .before .before .before .before .before .before .before .before .before .pre .1 .0) (c .before .before .before .before .before .before .before .before .before .before .before .before .before .expect .ensures .0) refl (omega arith))) (c .before .before .before .before .before .before .before .before .before .before .before .before .before .expect .ensures .1 src l) (c .before .before .before .before .before .before .before .before .before .before .before .begin-item .ensures .1) (c .before .before .before .before .before .before .expr .ensures .1 src (lies-still l (c .before .before .before .before .before .before .before .before .before .before .before .begin-item .ensures .0 .kept))) (c .before .before .set-size .ensures .1))
 
 pub form-ok : {M : Type 1} (t : ℕ) → form-lts.Closed (form-cs t) (form-at t) form.Post M
-form-ok t = form-lts.spec (form-cs t) (form-at t) form.Post (form-free-of-requires t) (form-expect-requires t) (form-mark-requires t) (form-same-length t) (form-returns t) (form-expr-requires t) (form-seal-requires t) (form-same-length-2 t) (form-returns-2 t)
+form-ok t = form-lts.spec (form-cs t) (form-at t) form.Post (form-free-of-requires t) (form-expect-requires t) (form-begin-item-requires t) (form-same-length t) (form-returns t) (form-expr-requires t) (form-set-size-requires t) (form-same-length-2 t) (form-returns-2 t)
 
 abbrev forms-cs : ℕ → forms-lts.Claims
-forms-cs t = (less-reads.Asked, less-reads.Learnt, kind-here-reads.Asked, kind-here-reads.Learnt, is-repeat-reads.Asked, is-repeat-reads.Learnt, form-below t, form.Post)
+forms-cs t = (minus-reads.Asked, minus-reads.Learnt, kind-here-reads.Asked, kind-here-reads.Learnt, is-repeat-reads.Asked, is-repeat-reads.Learnt, form-below t, form.Post)
 
 abbrev forms-Inv-loop : forms-lts.InvT-loop
-forms-Inv-loop s₀ n levels turns₀ a₀ s turns a = Fits 0 s₀ s n a₀ a × (length s ≡ length s₀) × ((src : Source) → Lies src n s₀ → Partly (manyUpTo turns₀ T.noRepeats isRepeat (C.repeatForm (readers (within levels))) src) (manyUpTo turns T.noRepeats isRepeat (C.repeatForm (readers (within levels))) src) encodeRepeats s₀ s a₀ a)
+forms-Inv-loop s₀ n levels turns₀ a₀ s turns a = LeavesRoom 0 s₀ s n a₀ a × (length s ≡ length s₀) × ((src : Source) → HoldsSymbols src n s₀ → Partly (manyUpTo turns₀ T.noRepeats isRepeat (C.repeatForm (readers (within levels))) src) (manyUpTo turns T.noRepeats isRepeat (C.repeatForm (readers (within levels))) src) encodeRepeats s₀ s a₀ a)
 
 abbrev forms-μ-loop : forms-lts.MeasureT-loop
 forms-μ-loop s₀ n levels turns₀ a₀ s turns a = turns
 
-forms-less-requires : (t : ℕ) → forms-lts.Need-less-requires (forms-cs t) (forms-at t) forms.Post forms-Inv-loop forms-μ-loop
-forms-less-requires t c κs = tt
+forms-minus-requires : (t : ℕ) → forms-lts.Need-minus-requires (forms-cs t) (forms-at t) forms.Post forms-Inv-loop forms-μ-loop
+forms-minus-requires t c κs = tt
 
 forms-loop-holds : (t : ℕ) → forms-lts.Need-loop-holds (forms-cs t) (forms-at t) forms.Post forms-Inv-loop forms-μ-loop
 forms-loop-holds t c = (itself (c .before .before .pre .1), refl, λ src l. begins)
 
 forms-kind-here-requires : (t : ℕ) → forms-lts.Need-kind-here-requires (forms-cs t) (forms-at t) forms.Post forms-Inv-loop forms-μ-loop
-forms-kind-here-requires t c κs = omega (arith, c .before .before .before .before .before .pre .0, c .before .before .before .before .before .pre .1, c .before .before .loop .inv .0, c .before .before .loop .inv .1, alive (c .before .before .loop .a), c .before .before .before .less .ensures)
+forms-kind-here-requires t c κs = omega (arith, c .before .before .before .before .before .pre .0, c .before .before .before .before .before .pre .1, c .before .before .loop .inv .0, c .before .before .loop .inv .1, alive (c .before .before .loop .a), c .before .before .before .minus .ensures)
 
 forms-is-repeat-requires : (t : ℕ) → forms-lts.Need-is-repeat-requires (forms-cs t) (forms-at t) forms.Post forms-Inv-loop forms-μ-loop
 forms-is-repeat-requires t c κs = tt
@@ -255,7 +255,7 @@ forms-form-requires : (t : ℕ) → forms-lts.Need-form-requires (forms-cs t) (f
 forms-form-requires t c κs = (omega (arith, c .before .before .before .before .before .before .before .before .before .pre .0), (smaller (fitted (c .before .before .before .before .before .before .before .before .before .pre .1) (c .before .before .before .before .before .before .loop .inv .0) (c .before .before .before .before .before .before .loop .inv .1) (omega arith)) (omega arith), repeat-positive (c .before .before .before .kind-here .result) (sym (c .before .before .is-repeat .ensures) ∙ c .before .if1 .taken)))
 
 forms-sub-turns : (t : ℕ) → forms-lts.Need-sub-turns (forms-cs t) (forms-at t) forms.Post forms-Inv-loop forms-μ-loop
-forms-sub-turns t c = omega (arith, c .before .before .before .before .before .before .before .before .before .before .before .before .pre .0, c .before .before .before .before .before .before .before .before .before .before .before .before .pre .1, c .before .before .before .before .before .before .before .before .before .loop .inv .0, c .before .before .before .before .before .before .before .before .before .loop .inv .1, alive (c .before .before .before .before .before .before .before .before .before .loop .a), c .before .before .form .ensures .0, c .before .before .form .kept .0, alive (c .before .before .form .result), c .before .before .before .before .before .before .before .before .before .before .less .ensures)
+forms-sub-turns t c = omega (arith, c .before .before .before .before .before .before .before .before .before .before .before .before .pre .0, c .before .before .before .before .before .before .before .before .before .before .before .before .pre .1, c .before .before .before .before .before .before .before .before .before .loop .inv .0, c .before .before .before .before .before .before .before .before .before .loop .inv .1, alive (c .before .before .before .before .before .before .before .before .before .loop .a), c .before .before .form .ensures .0, c .before .before .form .kept .0, alive (c .before .before .form .result), c .before .before .before .before .before .before .before .before .before .before .minus .ensures)
 
 forms-loop-less : (t : ℕ) → forms-lts.Need-loop-less (forms-cs t) (forms-at t) forms.Post forms-Inv-loop forms-μ-loop
 forms-loop-less t c = omega arith
@@ -267,16 +267,16 @@ forms-same-length : (t : ℕ) → forms-lts.Need-same-length (forms-cs t) (forms
 forms-same-length t c = search needs
 
 forms-returns : (t : ℕ) → forms-lts.Need-returns (forms-cs t) (forms-at t) forms.Post forms-Inv-loop forms-μ-loop
-forms-returns t c = (c .before .before .before .before .before .loop .inv .0, λ src l. subst (λ (m : ℕ). Reads (manyUpTo m T.noRepeats isRepeat (C.repeatForm (readers (within (c .before .before .before .before .before .before .before .before .args .levels)))) src) encodeRepeats (c .before .before .before .before .before .before .before .before .args .s .now) (c .before .before .before .before .before .loop .s) (c .before .before .before .before .before .before .before .before .args .r) (c .before .before .before .before .before .loop .a)) (c .before .before .before .before .before .before .less .ensures) (ends T.noRepeats no-repeat-words (λ at free e. last T.noRepeats isRepeat (C.repeatForm (readers (within (c .before .before .before .before .before .before .before .before .args .levels)))) src _ at (sym (c .before .is-repeat .ensures ∙ ap isRepeat (c .before .before .kind-here .ensures src (lies-still l (c .before .before .before .before .before .loop .inv .0 .kept)) .here at free e)) ∙ c .if1 .left)) (c .before .before .before .before .before .loop .inv .2 src l)))
+forms-returns t c = (c .before .before .before .before .before .loop .inv .0, λ src l. subst (λ (m : ℕ). Reads (manyUpTo m T.noRepeats isRepeat (C.repeatForm (readers (within (c .before .before .before .before .before .before .before .before .args .levels)))) src) encodeRepeats (c .before .before .before .before .before .before .before .before .args .s .now) (c .before .before .before .before .before .loop .s) (c .before .before .before .before .before .before .before .before .args .r) (c .before .before .before .before .before .loop .a)) (c .before .before .before .before .before .before .minus .ensures) (ends T.noRepeats no-repeat-words (λ at free e. last T.noRepeats isRepeat (C.repeatForm (readers (within (c .before .before .before .before .before .before .before .before .args .levels)))) src _ at (sym (c .before .is-repeat .ensures ∙ ap isRepeat (c .before .before .kind-here .ensures src (lies-still l (c .before .before .before .before .before .loop .inv .0 .kept)) .here at free e)) ∙ c .if1 .left)) (c .before .before .before .before .before .loop .inv .2 src l)))
 
 forms-same-length-2 : (t : ℕ) → forms-lts.Need-same-length-2 (forms-cs t) (forms-at t) forms.Post forms-Inv-loop forms-μ-loop
 forms-same-length-2 t c = search needs
 
 forms-returns-2 : (t : ℕ) → forms-lts.Need-returns-2 (forms-cs t) (forms-at t) forms.Post forms-Inv-loop forms-μ-loop
-forms-returns-2 t c = (c .before .loop .inv .0, λ src l. subst (λ (m : ℕ). Reads (manyUpTo m T.noRepeats isRepeat (C.repeatForm (readers (within (c .before .before .before .before .args .levels)))) src) encodeRepeats (c .before .before .before .before .args .s .now) (c .before .loop .s) (c .before .before .before .before .args .r) (c .before .loop .a)) (c .before .before .less .ensures) (ends T.noRepeats no-repeat-words (λ at free e. spent T.noRepeats isRepeat (C.repeatForm (readers (within (c .before .before .before .before .args .levels)))) src _ at (omega arith)) (c .before .loop .inv .2 src l)))
+forms-returns-2 t c = (c .before .loop .inv .0, λ src l. subst (λ (m : ℕ). Reads (manyUpTo m T.noRepeats isRepeat (C.repeatForm (readers (within (c .before .before .before .before .args .levels)))) src) encodeRepeats (c .before .before .before .before .args .s .now) (c .before .loop .s) (c .before .before .before .before .args .r) (c .before .loop .a)) (c .before .before .minus .ensures) (ends T.noRepeats no-repeat-words (λ at free e. spent T.noRepeats isRepeat (C.repeatForm (readers (within (c .before .before .before .before .args .levels)))) src _ at (omega arith)) (c .before .loop .inv .2 src l)))
 
 pub forms-ok : {M : Type 1} (t : ℕ) → forms-lts.Closed (forms-cs t) (forms-at t) forms.Post M
-forms-ok t = forms-lts.spec (forms-cs t) (forms-at t) forms.Post forms-Inv-loop forms-μ-loop (forms-less-requires t) (forms-loop-holds t) (forms-kind-here-requires t) (forms-is-repeat-requires t) (forms-form-requires t) (forms-sub-turns t) (forms-loop-less t) (forms-loop-again t) (forms-same-length t) (forms-returns t) (forms-same-length-2 t) (forms-returns-2 t)
+forms-ok t = forms-lts.spec (forms-cs t) (forms-at t) forms.Post forms-Inv-loop forms-μ-loop (forms-minus-requires t) (forms-loop-holds t) (forms-kind-here-requires t) (forms-is-repeat-requires t) (forms-form-requires t) (forms-sub-turns t) (forms-loop-less t) (forms-loop-again t) (forms-same-length t) (forms-returns t) (forms-same-length-2 t) (forms-returns-2 t)
 
 abbrev when-cs : ℕ → when-lts.Claims
 when-cs t = (free-of-reads.Asked, free-of-reads.Learnt, expect-reads.Asked, expect-reads.Learnt, expr-below t, expr.Post, cmd-below t, cmd.Post, node-reads.Asked, node-reads.Learnt)
@@ -309,7 +309,7 @@ pub when-ok : {M : Type 1} (t : ℕ) → when-lts.Closed (when-cs t) (when-at t)
 when-ok t = when-lts.spec (when-cs t) (when-at t) when.Post (when-free-of-requires t) (when-expect-requires t) (when-expr-requires t) (when-expect-requires-2 t) (when-cmd-requires t) (when-node-requires t) (when-same-length t) (when-returns t)
 
 abbrev cases-cs : ℕ → cases-lts.Claims
-cases-cs t = (free-of-reads.Asked, free-of-reads.Learnt, label-reads.Asked, label-reads.Learnt, labels-reads.Asked, labels-reads.Learnt, less-reads.Asked, less-reads.Learnt, body-below t, body.Post, node-reads.Asked, node-reads.Learnt)
+cases-cs t = (free-of-reads.Asked, free-of-reads.Learnt, label-reads.Asked, label-reads.Learnt, labels-reads.Asked, labels-reads.Learnt, minus-reads.Asked, minus-reads.Learnt, body-below t, body.Post, node-reads.Asked, node-reads.Learnt)
 
 cases-free-of-requires : (t : ℕ) → cases-lts.Need-free-of-requires (cases-cs t) (cases-at t) cases.Post
 cases-free-of-requires t c κs = tt
@@ -323,14 +323,14 @@ cases-labels-requires t c κs = smaller (fitted (c .before .before .before .befo
 cases-free-of-requires-2 : (t : ℕ) → cases-lts.Need-free-of-requires-2 (cases-cs t) (cases-at t) cases.Post
 cases-free-of-requires-2 t c κs = tt
 
-cases-less-requires : (t : ℕ) → cases-lts.Need-less-requires (cases-cs t) (cases-at t) cases.Post
-cases-less-requires t c κs = tt
+cases-minus-requires : (t : ℕ) → cases-lts.Need-minus-requires (cases-cs t) (cases-at t) cases.Post
+cases-minus-requires t c κs = tt
 
 cases-body-requires : (t : ℕ) → cases-lts.Need-body-requires (cases-cs t) (cases-at t) cases.Post
 cases-body-requires t c κs = (omega (arith, c .before .before .before .before .before .before .before .before .before .before .before .before .before .before .before .pre .0), smaller (fitted (fitted (c .before .before .before .before .before .before .before .before .before .before .before .before .before .before .before .pre .1) (c .before .before .before .before .before .before .before .before .before .before .label .ensures .0) (c .before .before .before .before .before .before .before .before .before .before .label .kept .0) (omega arith)) (c .before .before .before .before .before .before .labels .ensures .0) (c .before .before .before .before .before .before .labels .kept .0) (omega arith)) (omega arith))
 
 cases-cast-node : (t : ℕ) → cases-lts.Need-cast-node (cases-cs t) (cases-at t) cases.Post
-cases-cast-node t c = omega (arith, c .before .before .before .before .before .less .ensures, c .before .before .before .before .before .before .free-of2 .ensures, low (fitted (fitted (c .before .before .before .before .before .before .before .before .before .before .before .before .before .before .before .before .before .before .before .pre .1) (c .before .before .before .before .before .before .before .before .before .before .before .before .before .before .label .ensures .0) (c .before .before .before .before .before .before .before .before .before .before .before .before .before .before .label .kept .0) (omega arith)) (c .before .before .before .before .before .before .before .before .before .before .labels .ensures .0) (c .before .before .before .before .before .before .before .before .before .before .labels .kept .0) (omega arith)), c .before .before .before .before .before .before .before .before .before .before .labels .kept .0, c .before .before .before .before .before .before .before .before .before .before .before .before .before .before .label .kept .0, c .before .before .before .before .before .before .before .before .before .before .before .before .before .before .before .before .before .before .before .pre .1 .small)
+cases-cast-node t c = omega (arith, c .before .before .before .before .before .minus .ensures, c .before .before .before .before .before .before .free-of2 .ensures, low (fitted (fitted (c .before .before .before .before .before .before .before .before .before .before .before .before .before .before .before .before .before .before .before .pre .1) (c .before .before .before .before .before .before .before .before .before .before .before .before .before .before .label .ensures .0) (c .before .before .before .before .before .before .before .before .before .before .before .before .before .before .label .kept .0) (omega arith)) (c .before .before .before .before .before .before .before .before .before .before .labels .ensures .0) (c .before .before .before .before .before .before .before .before .before .before .labels .kept .0) (omega arith)), c .before .before .before .before .before .before .before .before .before .before .labels .kept .0, c .before .before .before .before .before .before .before .before .before .before .before .before .before .before .label .kept .0, c .before .before .before .before .before .before .before .before .before .before .before .before .before .before .before .before .before .before .before .pre .1 .small)
 
 cases-node-requires : (t : ℕ) → cases-lts.Need-node-requires (cases-cs t) (cases-at t) cases.Post
 cases-node-requires t c κs = smaller (fitted (fitted (fitted (c .before .before .before .before .before .before .before .before .before .before .before .before .before .before .before .before .before .before .before .pre .1) (c .before .before .before .before .before .before .before .before .before .before .before .before .before .before .label .ensures .0) (c .before .before .before .before .before .before .before .before .before .before .before .before .before .before .label .kept .0) (omega arith)) (c .before .before .before .before .before .before .before .before .before .before .labels .ensures .0) (c .before .before .before .before .before .before .before .before .before .before .labels .kept .0) (omega arith)) (c .before .before .before .body .ensures .0) (c .before .before .before .body .kept .0) (omega arith)) (omega arith)
@@ -339,10 +339,10 @@ cases-same-length : (t : ℕ) → cases-lts.Need-same-length (cases-cs t) (cases
 cases-same-length t c = search needs
 
 cases-returns : (t : ℕ) → cases-lts.Need-returns (cases-cs t) (cases-at t) cases.Post
-cases-returns t c = (then-grows (both (both (c .before .before .before .before .before .before .before .before .before .before .before .before .before .before .before .before .before .label .ensures .0) (c .before .before .before .before .before .before .before .before .before .before .before .before .before .labels .ensures .0)) (c .before .before .before .before .before .before .body .ensures .0)) (c .before .before .node .ensures .0) (omega arith), λ src l k q. (let l₁ = lies-still l (c .before .before .before .before .before .before .before .before .before .before .before .before .before .before .before .before .before .label .ensures .0 .kept) in let l₂ = lies-still l₁ (c .before .before .before .before .before .before .before .before .before .before .before .before .before .labels .ensures .0 .kept) in labelled-read l _ _ k q (c .before .before .before .before .before .before .before .before .before .before .before .before .before .before .before .before .before .before .before .free-of .ensures) (c .before .before .before .before .before .before .before .before .less .ensures ∙ ap (λ (y : ℕ). y - c .before .before .before .before .before .before .before .before .before .before .before .before .before .before .before .before .before .before .before .free-of .result) (c .before .before .before .before .before .before .before .before .before .free-of2 .ensures ∙ ap (λ (z : ℕ). freeOf z (c .before .before .before .before .before .before .before .before .before .before .before .before .before .labels .result)) (c .before .before .before .before .before .before .before .before .before .before .before .before .before .labels .kept .0 ∙ c .before .before .before .before .before .before .before .before .before .before .before .before .before .before .before .before .before .label .kept .0))) (c .before .before .before .before .before .before .before .before .before .before .before .before .before .before .before .before .before .label .ensures .1 src l k) (c .before .before .before .before .before .before .before .before .before .before .before .before .before .labels .ensures .1 src l₁) (c .before .before .before .before .before .before .body .ensures .1 src l₂) (c .before .before .node .ensures .1)))
+cases-returns t c = (then-grows (both (both (c .before .before .before .before .before .before .before .before .before .before .before .before .before .before .before .before .before .label .ensures .0) (c .before .before .before .before .before .before .before .before .before .before .before .before .before .labels .ensures .0)) (c .before .before .before .before .before .before .body .ensures .0)) (c .before .before .node .ensures .0) (omega arith), λ src l k q. (let l₁ = lies-still l (c .before .before .before .before .before .before .before .before .before .before .before .before .before .before .before .before .before .label .ensures .0 .kept) in let l₂ = lies-still l₁ (c .before .before .before .before .before .before .before .before .before .before .before .before .before .labels .ensures .0 .kept) in labelled-read l _ _ k q (c .before .before .before .before .before .before .before .before .before .before .before .before .before .before .before .before .before .before .before .free-of .ensures) (c .before .before .before .before .before .before .before .before .minus .ensures ∙ ap (λ (y : ℕ). y - c .before .before .before .before .before .before .before .before .before .before .before .before .before .before .before .before .before .before .before .free-of .result) (c .before .before .before .before .before .before .before .before .before .free-of2 .ensures ∙ ap (λ (z : ℕ). freeOf z (c .before .before .before .before .before .before .before .before .before .before .before .before .before .labels .result)) (c .before .before .before .before .before .before .before .before .before .before .before .before .before .labels .kept .0 ∙ c .before .before .before .before .before .before .before .before .before .before .before .before .before .before .before .before .before .label .kept .0))) (c .before .before .before .before .before .before .before .before .before .before .before .before .before .before .before .before .before .label .ensures .1 src l k) (c .before .before .before .before .before .before .before .before .before .before .before .before .before .labels .ensures .1 src l₁) (c .before .before .before .before .before .before .body .ensures .1 src l₂) (c .before .before .node .ensures .1)))
 
 pub cases-ok : {M : Type 1} (t : ℕ) → cases-lts.Closed (cases-cs t) (cases-at t) cases.Post M
-cases-ok t = cases-lts.spec (cases-cs t) (cases-at t) cases.Post (cases-free-of-requires t) (cases-label-requires t) (cases-labels-requires t) (cases-free-of-requires-2 t) (cases-less-requires t) (cases-body-requires t) (cases-cast-node t) (cases-node-requires t) (cases-same-length t) (cases-returns t)
+cases-ok t = cases-lts.spec (cases-cs t) (cases-at t) cases.Post (cases-free-of-requires t) (cases-label-requires t) (cases-labels-requires t) (cases-free-of-requires-2 t) (cases-minus-requires t) (cases-body-requires t) (cases-cast-node t) (cases-node-requires t) (cases-same-length t) (cases-returns t)
 
 abbrev plain-cs : ℕ → plain-lts.Claims
 plain-cs t = (kind-here-reads.Asked, kind-here-reads.Learnt, is-guard-reads.Asked, is-guard-reads.Learnt, when-below t, when.Post, is-leave-reads.Asked, is-leave-reads.Learnt, leave-reads.Asked, leave-reads.Learnt, test-below t, test.Post, step-below t, step.Post, pick-below t, pick.Post, give-below t, give.Post, block-below t, block.Post, bare-below t, bare.Post)
@@ -432,7 +432,7 @@ pub plain-ok : {M : Type 1} (t : ℕ) → plain-lts.Closed (plain-cs t) (plain-a
 plain-ok t = plain-lts.spec (plain-cs t) (plain-at t) plain.Post (plain-kind-here-requires t) (plain-is-guard-requires t) (plain-when-requires t) (plain-same-length t) (plain-returns t) (plain-is-leave-requires t) (plain-leave-requires t) (plain-same-length-2 t) (plain-returns-2 t) (plain-test-requires t) (plain-step-requires t) (plain-pick-requires t) (plain-give-requires t) (plain-block-requires t) (plain-bare-requires t) (plain-same-length-3 t) (plain-returns-3 t) (plain-same-length-4 t) (plain-returns-4 t) (plain-same-length-5 t) (plain-returns-5 t) (plain-same-length-6 t) (plain-returns-6 t) (plain-same-length-7 t) (plain-returns-7 t) (plain-same-length-8 t) (plain-returns-8 t)
 
 abbrev redo-cs : ℕ → redo-lts.Claims
-redo-cs t = (free-of-reads.Asked, free-of-reads.Learnt, plain-below t, plain.Post, kind-here-reads.Asked, kind-here-reads.Learnt, is-repeat-reads.Asked, is-repeat-reads.Learnt, less-reads.Asked, less-reads.Learnt, form-below t, form.Post, forms-below t, forms.Post, node-reads.Asked, node-reads.Learnt)
+redo-cs t = (free-of-reads.Asked, free-of-reads.Learnt, plain-below t, plain.Post, kind-here-reads.Asked, kind-here-reads.Learnt, is-repeat-reads.Asked, is-repeat-reads.Learnt, minus-reads.Asked, minus-reads.Learnt, form-below t, form.Post, forms-below t, forms.Post, node-reads.Asked, node-reads.Learnt)
 
 redo-free-of-requires : (t : ℕ) → redo-lts.Need-free-of-requires (redo-cs t) (redo-at t) redo.Post
 redo-free-of-requires t c κs = tt
@@ -449,26 +449,26 @@ redo-is-repeat-requires t c κs = tt
 redo-free-of-requires-2 : (t : ℕ) → redo-lts.Need-free-of-requires-2 (redo-cs t) (redo-at t) redo.Post
 redo-free-of-requires-2 t c κs = tt
 
-redo-less-requires : (t : ℕ) → redo-lts.Need-less-requires (redo-cs t) (redo-at t) redo.Post
-redo-less-requires t c κs = tt
+redo-minus-requires : (t : ℕ) → redo-lts.Need-minus-requires (redo-cs t) (redo-at t) redo.Post
+redo-minus-requires t c κs = tt
 
 redo-form-requires : (t : ℕ) → redo-lts.Need-form-requires (redo-cs t) (redo-at t) redo.Post
 redo-form-requires t c κs = (omega (arith, c .before .before .before .before .before .before .before .before .before .before .before .before .before .before .before .pre .0), (smaller (fitted (c .before .before .before .before .before .before .before .before .before .before .before .before .before .before .before .pre .1) (c .before .before .before .before .before .before .before .before .before .before .plain .ensures .0) (c .before .before .before .before .before .before .before .before .before .before .plain .kept .0) (omega arith)) (omega arith), repeat-positive (c .before .before .before .before .before .before .kind-here .result) (sym (c .before .before .before .before .before .is-repeat .ensures) ∙ c .before .before .before .before .if1 .taken)))
 
 redo-forms-requires : (t : ℕ) → redo-lts.Need-forms-requires (redo-cs t) (redo-at t) redo.Post
-redo-forms-requires t c κs = omega (arith, c .before .before .before .before .before .before .before .before .before .before .before .before .before .before .before .before .before .before .before .pre .0, c .before .before .before .before .before .before .before .before .before .before .before .before .before .before .before .before .before .before .before .pre .1, c .before .before .before .form .ensures .0, c .before .before .before .form .kept .0, alive (c .before .before .before .form .result), c .before .before .before .before .before .less .ensures, c .before .before .before .before .before .before .free-of2 .ensures, c .before .before .before .before .before .before .before .before .before .before .before .before .before .before .plain .ensures .0, c .before .before .before .before .before .before .before .before .before .before .before .before .before .before .plain .kept .0, alive (c .before .before .before .before .before .before .before .before .before .before .before .before .before .before .plain .result), c .before .before .before .before .before .before .before .before .before .before .before .before .before .before .before .before .free-of .ensures)
+redo-forms-requires t c κs = omega (arith, c .before .before .before .before .before .before .before .before .before .before .before .before .before .before .before .before .before .before .before .pre .0, c .before .before .before .before .before .before .before .before .before .before .before .before .before .before .before .before .before .before .before .pre .1, c .before .before .before .form .ensures .0, c .before .before .before .form .kept .0, alive (c .before .before .before .form .result), c .before .before .before .before .before .minus .ensures, c .before .before .before .before .before .before .free-of2 .ensures, c .before .before .before .before .before .before .before .before .before .before .before .before .before .before .plain .ensures .0, c .before .before .before .before .before .before .before .before .before .before .before .before .before .before .plain .kept .0, alive (c .before .before .before .before .before .before .before .before .before .before .before .before .before .before .plain .result), c .before .before .before .before .before .before .before .before .before .before .before .before .before .before .before .before .free-of .ensures)
 
 redo-cast-node : (t : ℕ) → redo-lts.Need-cast-node (redo-cs t) (redo-at t) redo.Post
-redo-cast-node t c = omega (arith, c .before .before .before .before .before .before .before .before .before .less .ensures, c .before .before .before .before .before .before .before .before .before .before .free-of2 .ensures, low (fitted (c .before .before .before .before .before .before .before .before .before .before .before .before .before .before .before .before .before .before .before .before .before .before .before .pre .1) (c .before .before .before .before .before .before .before .before .before .before .before .before .before .before .before .before .before .before .plain .ensures .0) (c .before .before .before .before .before .before .before .before .before .before .before .before .before .before .before .before .before .before .plain .kept .0) (omega arith)), c .before .before .before .before .before .before .before .before .before .before .before .before .before .before .before .before .before .before .plain .kept .0, c .before .before .before .before .before .before .before .before .before .before .before .before .before .before .before .before .before .before .before .before .before .before .before .pre .1 .small)
+redo-cast-node t c = omega (arith, c .before .before .before .before .before .before .before .before .before .minus .ensures, c .before .before .before .before .before .before .before .before .before .before .free-of2 .ensures, low (fitted (c .before .before .before .before .before .before .before .before .before .before .before .before .before .before .before .before .before .before .before .before .before .before .before .pre .1) (c .before .before .before .before .before .before .before .before .before .before .before .before .before .before .before .before .before .before .plain .ensures .0) (c .before .before .before .before .before .before .before .before .before .before .before .before .before .before .before .before .before .before .plain .kept .0) (omega arith)), c .before .before .before .before .before .before .before .before .before .before .before .before .before .before .before .before .before .before .plain .kept .0, c .before .before .before .before .before .before .before .before .before .before .before .before .before .before .before .before .before .before .before .before .before .before .before .pre .1 .small)
 
 redo-node-requires : (t : ℕ) → redo-lts.Need-node-requires (redo-cs t) (redo-at t) redo.Post
-redo-node-requires t c κs = omega (arith, c .before .before .before .before .before .before .before .before .before .before .before .before .before .before .before .before .before .before .before .before .before .before .before .pre .0, c .before .before .before .before .before .before .before .before .before .before .before .before .before .before .before .before .before .before .before .before .before .before .before .pre .1, c .before .before .before .forms .ensures .0, c .before .before .before .forms .kept .0, alive (c .before .before .before .forms .result), c .before .before .before .before .before .before .before .form .ensures .0, c .before .before .before .before .before .before .before .form .kept .0, alive (c .before .before .before .before .before .before .before .form .result), c .before .before .before .before .before .before .before .before .before .less .ensures, c .before .before .before .before .before .before .before .before .before .before .free-of2 .ensures, c .before .before .before .before .before .before .before .before .before .before .before .before .before .before .before .before .before .before .plain .ensures .0, c .before .before .before .before .before .before .before .before .before .before .before .before .before .before .before .before .before .before .plain .kept .0, alive (c .before .before .before .before .before .before .before .before .before .before .before .before .before .before .before .before .before .before .plain .result), c .before .before .before .before .before .before .before .before .before .before .before .before .before .before .before .before .before .before .before .before .free-of .ensures)
+redo-node-requires t c κs = omega (arith, c .before .before .before .before .before .before .before .before .before .before .before .before .before .before .before .before .before .before .before .before .before .before .before .pre .0, c .before .before .before .before .before .before .before .before .before .before .before .before .before .before .before .before .before .before .before .before .before .before .before .pre .1, c .before .before .before .forms .ensures .0, c .before .before .before .forms .kept .0, alive (c .before .before .before .forms .result), c .before .before .before .before .before .before .before .form .ensures .0, c .before .before .before .before .before .before .before .form .kept .0, alive (c .before .before .before .before .before .before .before .form .result), c .before .before .before .before .before .before .before .before .before .minus .ensures, c .before .before .before .before .before .before .before .before .before .before .free-of2 .ensures, c .before .before .before .before .before .before .before .before .before .before .before .before .before .before .before .before .before .before .plain .ensures .0, c .before .before .before .before .before .before .before .before .before .before .before .before .before .before .before .before .before .before .plain .kept .0, alive (c .before .before .before .before .before .before .before .before .before .before .before .before .before .before .before .before .before .before .plain .result), c .before .before .before .before .before .before .before .before .before .before .before .before .before .before .before .before .before .before .before .before .free-of .ensures)
 
 redo-same-length : (t : ℕ) → redo-lts.Need-same-length (redo-cs t) (redo-at t) redo.Post
 redo-same-length t c = search needs
 
 redo-returns : (t : ℕ) → redo-lts.Need-returns (redo-cs t) (redo-at t) redo.Post
-redo-returns t c = (then-grows (both (both (c .before .before .before .before .before .before .before .before .before .before .before .before .before .before .before .before .before .before .before .before .before .plain .ensures .0) (c .before .before .before .before .before .before .before .before .before .before .form .ensures .0)) (c .before .before .before .before .before .before .forms .ensures .0)) (c .before .before .node .ensures .0) (omega arith), λ src l. (let l₁ = lies-still l (c .before .before .before .before .before .before .before .before .before .before .before .before .before .before .before .before .before .before .before .before .before .plain .ensures .0 .kept) in let l₂ = lies-still l₁ (c .before .before .before .before .before .before .before .before .before .before .form .ensures .0 .kept) in repeated-more l₁ _ _ (c .before .before .before .before .before .before .before .before .before .before .before .before .before .before .before .before .before .kind-here .ensures src l₁) (c .before .before .before .before .before .before .before .before .before .before .before .before .before .before .before .before .before .before .before .before .before .plain .ensures .1 src l) (sym (c .before .before .before .before .before .before .before .before .before .before .before .before .before .before .before .before .is-repeat .ensures) ∙ c .before .before .before .before .before .before .before .before .before .before .before .before .before .before .before .if1 .taken) (c .before .before .before .before .before .before .before .before .before .before .before .before .before .before .before .before .before .before .before .before .before .before .before .free-of .ensures) (c .before .before .before .before .before .before .before .before .before .before .before .before .less .ensures ∙ ap (λ (y : ℕ). y - c .before .before .before .before .before .before .before .before .before .before .before .before .before .before .before .before .before .before .before .before .before .before .before .free-of .result) (c .before .before .before .before .before .before .before .before .before .before .before .before .before .free-of2 .ensures ∙ ap (λ (z : ℕ). freeOf z (c .before .before .before .before .before .before .before .before .before .before .before .before .before .before .before .before .before .before .before .before .before .plain .result)) (c .before .before .before .before .before .before .before .before .before .before .before .before .before .before .before .before .before .before .before .before .before .plain .kept .0))) (c .before .before .before .before .before .before .before .before .before .before .form .ensures .1 src l₁ (c .before .before .before .before .before .before .before .before .before .before .before .before .before .before .before .before .before .kind-here .ensures src l₁)) (c .before .before .before .before .before .before .forms .ensures .1 src l₂) (c .before .before .node .ensures .1)))
+redo-returns t c = (then-grows (both (both (c .before .before .before .before .before .before .before .before .before .before .before .before .before .before .before .before .before .before .before .before .before .plain .ensures .0) (c .before .before .before .before .before .before .before .before .before .before .form .ensures .0)) (c .before .before .before .before .before .before .forms .ensures .0)) (c .before .before .node .ensures .0) (omega arith), λ src l. (let l₁ = lies-still l (c .before .before .before .before .before .before .before .before .before .before .before .before .before .before .before .before .before .before .before .before .before .plain .ensures .0 .kept) in let l₂ = lies-still l₁ (c .before .before .before .before .before .before .before .before .before .before .form .ensures .0 .kept) in repeated-more l₁ _ _ (c .before .before .before .before .before .before .before .before .before .before .before .before .before .before .before .before .before .kind-here .ensures src l₁) (c .before .before .before .before .before .before .before .before .before .before .before .before .before .before .before .before .before .before .before .before .before .plain .ensures .1 src l) (sym (c .before .before .before .before .before .before .before .before .before .before .before .before .before .before .before .before .is-repeat .ensures) ∙ c .before .before .before .before .before .before .before .before .before .before .before .before .before .before .before .if1 .taken) (c .before .before .before .before .before .before .before .before .before .before .before .before .before .before .before .before .before .before .before .before .before .before .before .free-of .ensures) (c .before .before .before .before .before .before .before .before .before .before .before .before .minus .ensures ∙ ap (λ (y : ℕ). y - c .before .before .before .before .before .before .before .before .before .before .before .before .before .before .before .before .before .before .before .before .before .before .before .free-of .result) (c .before .before .before .before .before .before .before .before .before .before .before .before .before .free-of2 .ensures ∙ ap (λ (z : ℕ). freeOf z (c .before .before .before .before .before .before .before .before .before .before .before .before .before .before .before .before .before .before .before .before .before .plain .result)) (c .before .before .before .before .before .before .before .before .before .before .before .before .before .before .before .before .before .before .before .before .before .plain .kept .0))) (c .before .before .before .before .before .before .before .before .before .before .form .ensures .1 src l₁ (c .before .before .before .before .before .before .before .before .before .before .before .before .before .before .before .before .before .kind-here .ensures src l₁)) (c .before .before .before .before .before .before .forms .ensures .1 src l₂) (c .before .before .node .ensures .1)))
 
 redo-same-length-2 : (t : ℕ) → redo-lts.Need-same-length-2 (redo-cs t) (redo-at t) redo.Post
 redo-same-length-2 t c = search needs
@@ -477,7 +477,7 @@ redo-returns-2 : (t : ℕ) → redo-lts.Need-returns-2 (redo-cs t) (redo-at t) r
 redo-returns-2 t c = (weaker (omega arith) (c .before .before .before .before .before .before .plain .ensures .0), λ src l. (let l₁ = lies-still l (c .before .before .before .before .before .before .plain .ensures .0 .kept) in repeated-one l₁ 0 _ (c .before .before .kind-here .ensures src l₁) (c .before .before .before .before .before .before .plain .ensures .1 src l) (sym (c .before .is-repeat .ensures) ∙ c .if1 .left)))
 
 pub redo-ok : {M : Type 1} (t : ℕ) → redo-lts.Closed (redo-cs t) (redo-at t) redo.Post M
-redo-ok t = redo-lts.spec (redo-cs t) (redo-at t) redo.Post (redo-free-of-requires t) (redo-plain-requires t) (redo-kind-here-requires t) (redo-is-repeat-requires t) (redo-free-of-requires-2 t) (redo-less-requires t) (redo-form-requires t) (redo-forms-requires t) (redo-cast-node t) (redo-node-requires t) (redo-same-length t) (redo-returns t) (redo-same-length-2 t) (redo-returns-2 t)
+redo-ok t = redo-lts.spec (redo-cs t) (redo-at t) redo.Post (redo-free-of-requires t) (redo-plain-requires t) (redo-kind-here-requires t) (redo-is-repeat-requires t) (redo-free-of-requires-2 t) (redo-minus-requires t) (redo-form-requires t) (redo-forms-requires t) (redo-cast-node t) (redo-node-requires t) (redo-same-length t) (redo-returns t) (redo-same-length-2 t) (redo-returns-2 t)
 
 abbrev give-cs : ℕ → give-lts.Claims
 give-cs t = (free-of-reads.Asked, free-of-reads.Learnt, place-here-reads.Asked, place-here-reads.Learnt, expect-reads.Asked, expect-reads.Learnt, expr-below t, expr.Post, node-reads.Asked, node-reads.Learnt)

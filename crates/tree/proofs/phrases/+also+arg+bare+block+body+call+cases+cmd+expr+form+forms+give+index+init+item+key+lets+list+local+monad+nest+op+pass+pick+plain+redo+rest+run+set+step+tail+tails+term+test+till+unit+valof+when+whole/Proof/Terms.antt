@@ -25,7 +25,7 @@ use Rattle.language.specs.Commands as C
 use Rattle.language.specs.Grammar.{within, readers}
 use Rattle.tree.specs.Encoding.{encodeExpressions, encodeOperations}
 use Prim.Native.Nat.{_+_, _-_, ℕ}
-use Rattle.tree.specs.Reads.{Reads, Lies, Fits, Goes, Is, freeOf}
+use Rattle.tree.specs.Reads.{Reads, HoldsSymbols, LeavesRoom, Follows, Encodes, freeOf}
 use Rattle.tree.specs.Between.{Ended, aFurther}
 use phrases.arg.Reads as arg
 use cycle.Lts-arg as arg-lts
@@ -76,39 +76,39 @@ use proofs.scratch.close_item.Reads as close-item-reads
 use proofs.scratch.expect.Reads as expect-reads
 use proofs.scratch.free_of.Reads as free-of-reads
 use proofs.scratch.kind_here.Reads as kind-here-reads
-use proofs.scratch.less.Reads as less-reads
-use proofs.scratch.mark.Reads as mark-reads
+use proofs.scratch.minus.Reads as minus-reads
+use proofs.scratch.begin_item.Reads as begin-item-reads
 use proofs.scratch.node.Reads as node-reads
 use proofs.scratch.place_here.Reads as place-here-reads
 use proofs.scratch.place_of.Reads as place-of-reads
 use proofs.scratch.refuse.Reads as refuse-reads
-use proofs.scratch.seal.Reads as seal-reads
+use proofs.scratch.set_size.Reads as set-size-reads
 use proofs.scratch.suffixed_kind.Reads as suffixed-kind-reads
 use cycle.Proof.Ranks.{arg-at, arg-below, call-at, call-below, run-at, run-below, cmd-below, also-at, also-below, op-at, op-below, expr-at, expr-below, index-at, index-below, key-at, key-below, monad-at, monad-below, pass-at, pass-below, unit-at, unit-below, rest-at, nest-at, nest-below, tail-at, tail-below, whole-at, whole-below, tails-at, tails-below, term-at, term-below, valof-at, valof-below}
 
 abbrev arg-cs : ℕ → arg-lts.Claims
-arg-cs t = (free-of-reads.Asked, free-of-reads.Learnt, mark-reads.Asked, mark-reads.Learnt, expr-below t, expr.Post, seal-reads.Asked, seal-reads.Learnt)
+arg-cs t = (free-of-reads.Asked, free-of-reads.Learnt, begin-item-reads.Asked, begin-item-reads.Learnt, expr-below t, expr.Post, set-size-reads.Asked, set-size-reads.Learnt)
 
 arg-free-of-requires : (t : ℕ) → arg-lts.Need-free-of-requires (arg-cs t) (arg-at t) arg.Post
 arg-free-of-requires t c κs = tt
 
-arg-mark-requires : (t : ℕ) → arg-lts.Need-mark-requires (arg-cs t) (arg-at t) arg.Post
-arg-mark-requires t c κs = omega (arith, c .before .before .before .before .pre .0, c .before .before .before .before .pre .1, c .before .free-of .ensures)
+arg-begin-item-requires : (t : ℕ) → arg-lts.Need-begin-item-requires (arg-cs t) (arg-at t) arg.Post
+arg-begin-item-requires t c κs = omega (arith, c .before .before .before .before .pre .0, c .before .before .before .before .pre .1, c .before .free-of .ensures)
 
 arg-expr-requires : (t : ℕ) → arg-lts.Need-expr-requires (arg-cs t) (arg-at t) arg.Post
-arg-expr-requires t c κs = omega (arith, c .before .before .before .before .before .before .before .before .pre .0, c .before .before .before .before .before .before .before .before .pre .1, c .before .before .before .mark .ensures .0, c .before .before .before .mark .kept .0, alive (c .before .before .before .mark .result), c .before .before .before .before .before .free-of .ensures)
+arg-expr-requires t c κs = omega (arith, c .before .before .before .before .before .before .before .before .pre .0, c .before .before .before .before .before .before .before .before .pre .1, c .before .before .before .begin-item .ensures .0, c .before .before .before .begin-item .kept .0, alive (c .before .before .before .begin-item .result), c .before .before .before .before .before .free-of .ensures)
 
-arg-seal-requires : (t : ℕ) → arg-lts.Need-seal-requires (arg-cs t) (arg-at t) arg.Post
-arg-seal-requires t c κs = (smaller (fitted (enlarged (c .before .before .before .before .before .before .before .before .before .before .before .before .pre .1) (c .before .before .before .before .before .before .before .mark .ensures .0) (c .before .before .before .before .before .before .before .mark .kept .0) (omega arith) (omega arith)) (c .before .before .before .expr .ensures .0) (c .before .before .before .expr .kept .0) (omega arith)) (omega arith), omega (arith, base (c .before .before .before .before .before .before .before .before .before .before .before .before .pre .1), c .before .before .before .before .before .before .before .before .before .free-of .ensures))
+arg-set-size-requires : (t : ℕ) → arg-lts.Need-set-size-requires (arg-cs t) (arg-at t) arg.Post
+arg-set-size-requires t c κs = (smaller (fitted (enlarged (c .before .before .before .before .before .before .before .before .before .before .before .before .pre .1) (c .before .before .before .before .before .before .before .begin-item .ensures .0) (c .before .before .before .before .before .before .before .begin-item .kept .0) (omega arith) (omega arith)) (c .before .before .before .expr .ensures .0) (c .before .before .before .expr .kept .0) (omega arith)) (omega arith), omega (arith, base (c .before .before .before .before .before .before .before .before .before .before .before .before .pre .1), c .before .before .before .before .before .before .before .before .before .free-of .ensures))
 
 arg-same-length : (t : ℕ) → arg-lts.Need-same-length (arg-cs t) (arg-at t) arg.Post
 arg-same-length t c = search needs
 
 arg-returns : (t : ℕ) → arg-lts.Need-returns (arg-cs t) (arg-at t) arg.Post
-arg-returns t c = (grows-then (c .before .before .before .before .before .before .before .before .before .before .mark .ensures .0) (both (c .before .before .before .before .before .before .expr .ensures .0) (c .before .before .seal .ensures .0)) (omega arith), λ src l. argument-read src _ _ (c .before .before .before .before .before .before .before .before .before .before .before .before .free-of .ensures) (low (c .before .before .before .before .before .before .before .before .before .before .before .before .before .before .before .pre .1)) (c .before .before .before .before .before .before .before .before .before .before .mark .ensures .1) (c .before .before .before .before .before .before .expr .ensures .1 src (lies-still l (c .before .before .before .before .before .before .before .before .before .before .mark .ensures .0 .kept))) (c .before .before .seal .ensures .1))
+arg-returns t c = (grows-then (c .before .before .before .before .before .before .before .before .before .before .begin-item .ensures .0) (both (c .before .before .before .before .before .before .expr .ensures .0) (c .before .before .set-size .ensures .0)) (omega arith), λ src l. argument-read src _ _ (c .before .before .before .before .before .before .before .before .before .before .before .before .free-of .ensures) (low (c .before .before .before .before .before .before .before .before .before .before .before .before .before .before .before .pre .1)) (c .before .before .before .before .before .before .before .before .before .before .begin-item .ensures .1) (c .before .before .before .before .before .before .expr .ensures .1 src (lies-still l (c .before .before .before .before .before .before .before .before .before .before .begin-item .ensures .0 .kept))) (c .before .before .set-size .ensures .1))
 
 pub arg-ok : {M : Type 1} (t : ℕ) → arg-lts.Closed (arg-cs t) (arg-at t) arg.Post M
-arg-ok t = arg-lts.spec (arg-cs t) (arg-at t) arg.Post (arg-free-of-requires t) (arg-mark-requires t) (arg-expr-requires t) (arg-seal-requires t) (arg-same-length t) (arg-returns t)
+arg-ok t = arg-lts.spec (arg-cs t) (arg-at t) arg.Post (arg-free-of-requires t) (arg-begin-item-requires t) (arg-expr-requires t) (arg-set-size-requires t) (arg-same-length t) (arg-returns t)
 
 abbrev call-cs : ℕ → call-lts.Claims
 call-cs t = (refuse-reads.Asked, refuse-reads.Learnt, free-of-reads.Asked, free-of-reads.Learnt, expect-reads.Asked, expect-reads.Learnt, pass-below t, pass.Post, close-item-reads.Asked, close-item-reads.Learnt)
@@ -150,7 +150,7 @@ abbrev run-cs : ℕ → run-lts.Claims
 run-cs t = (further-most-reads.Asked, further-most-reads.Learnt, kind-here-reads.Asked, kind-here-reads.Learnt, binding-of-reads.Asked, binding-of-reads.Learnt, op-below t, op.Post)
 
 abbrev chain-Inv-loop : run-lts.InvT-loop
-chain-Inv-loop s₀ n levels binding right turns₀ a₀ s turns a = Fits 0 s₀ s n a₀ a × (length s ≡ length s₀) × ((src : Source) → Lies src n s₀ → Partly (manyUpTo turns₀ T.noOperations (λ kind. eqb (bindingOf kind) binding) (E.operation (E.expression (within levels) right)) src) (manyUpTo turns T.noOperations (λ kind. eqb (bindingOf kind) binding) (E.operation (E.expression (within levels) right)) src) encodeOperations s₀ s a₀ a)
+chain-Inv-loop s₀ n levels binding right turns₀ a₀ s turns a = LeavesRoom 0 s₀ s n a₀ a × (length s ≡ length s₀) × ((src : Source) → HoldsSymbols src n s₀ → Partly (manyUpTo turns₀ T.noOperations (λ kind. eqb (bindingOf kind) binding) (E.operation (E.expression (within levels) right)) src) (manyUpTo turns T.noOperations (λ kind. eqb (bindingOf kind) binding) (E.operation (E.expression (within levels) right)) src) encodeOperations s₀ s a₀ a)
 
 abbrev chain-μ-loop : run-lts.MeasureT-loop
 chain-μ-loop s₀ n levels binding right turns₀ a₀ s turns a = turns
@@ -198,7 +198,7 @@ abbrev also-cs : ℕ → also-lts.Claims
 also-cs t = (kind-here-reads.Asked, kind-here-reads.Learnt, expect-reads.Asked, expect-reads.Learnt, arg-below t, arg.Post)
 
 abbrev commas-Inv-loop : also-lts.InvT-loop
-commas-Inv-loop s₀ n levels turns₀ count₀ a₀ s turns count a = Fits 0 s₀ s n a₀ a × (length s ≡ length s₀) × (count + turns ≡ count₀ + turns₀) × ((src : Source) → Lies src n s₀ → PartlyAs (manyUpTo turns₀ T.noExpressions isComma (aFurther levels) src) (manyUpTo turns T.noExpressions isComma (aFurther levels) src) (CountedSoFar count) s₀ s a₀ a)
+commas-Inv-loop s₀ n levels turns₀ count₀ a₀ s turns count a = LeavesRoom 0 s₀ s n a₀ a × (length s ≡ length s₀) × (count + turns ≡ count₀ + turns₀) × ((src : Source) → HoldsSymbols src n s₀ → PartlyAs (manyUpTo turns₀ T.noExpressions isComma (aFurther levels) src) (manyUpTo turns T.noExpressions isComma (aFurther levels) src) (CountedSoFar count) s₀ s a₀ a)
 
 abbrev commas-μ-loop : also-lts.MeasureT-loop
 commas-μ-loop s₀ n levels turns₀ count₀ a₀ s turns count a = turns
@@ -243,7 +243,7 @@ pub also-ok : {M : Type 1} (t : ℕ) → also-lts.Closed (also-cs t) (also-at t)
 also-ok t = also-lts.spec (also-cs t) (also-at t) also.Post commas-Inv-loop commas-μ-loop (also-loop-holds t) (also-kind-here-requires t) (also-same-length t) (also-returns t) (also-expect-requires t) (also-arg-requires t) (also-add-count t) (also-sub-turns t) (also-loop-less t) (also-loop-again t) (also-same-length-2 t) (also-returns-2 t)
 
 abbrev op-cs : ℕ → op-lts.Claims
-op-cs t = (free-of-reads.Asked, free-of-reads.Learnt, expect-reads.Asked, expect-reads.Learnt, mark-reads.Asked, mark-reads.Learnt, expr-below t, expr.Post, seal-reads.Asked, seal-reads.Learnt)
+op-cs t = (free-of-reads.Asked, free-of-reads.Learnt, expect-reads.Asked, expect-reads.Learnt, begin-item-reads.Asked, begin-item-reads.Learnt, expr-below t, expr.Post, set-size-reads.Asked, set-size-reads.Learnt)
 
 op-free-of-requires : (t : ℕ) → op-lts.Need-free-of-requires (op-cs t) (op-at t) op.Post
 op-free-of-requires t c κs = tt
@@ -251,26 +251,26 @@ op-free-of-requires t c κs = tt
 op-expect-requires : (t : ℕ) → op-lts.Need-expect-requires (op-cs t) (op-at t) op.Post
 op-expect-requires t c κs = omega (arith, c .before .before .before .before .pre .0, c .before .before .before .before .pre .1, c .before .free-of .ensures)
 
-op-mark-requires : (t : ℕ) → op-lts.Need-mark-requires (op-cs t) (op-at t) op.Post
-op-mark-requires t c κs = omega (arith, c .before .before .before .before .before .before .pre .0, c .before .before .before .before .before .before .pre .1, c .before .expect .ensures .0, alive (c .before .expect .result), c .before .before .before .free-of .ensures)
+op-begin-item-requires : (t : ℕ) → op-lts.Need-begin-item-requires (op-cs t) (op-at t) op.Post
+op-begin-item-requires t c κs = omega (arith, c .before .before .before .before .before .before .pre .0, c .before .before .before .before .before .before .pre .1, c .before .expect .ensures .0, alive (c .before .expect .result), c .before .before .before .free-of .ensures)
 
 op-expr-requires : (t : ℕ) → op-lts.Need-expr-requires (op-cs t) (op-at t) op.Post
-op-expr-requires t c κs = omega (arith, c .before .before .before .before .before .before .before .before .before .before .pre .0, c .before .before .before .before .before .before .before .before .before .before .pre .1, c .before .before .before .mark .ensures .0, c .before .before .before .mark .kept .0, alive (c .before .before .before .mark .result), c .before .before .before .before .before .expect .ensures .0, alive (c .before .before .before .before .before .expect .result), c .before .before .before .before .before .before .before .free-of .ensures)
+op-expr-requires t c κs = omega (arith, c .before .before .before .before .before .before .before .before .before .before .pre .0, c .before .before .before .before .before .before .before .before .before .before .pre .1, c .before .before .before .begin-item .ensures .0, c .before .before .before .begin-item .kept .0, alive (c .before .before .before .begin-item .result), c .before .before .before .before .before .expect .ensures .0, alive (c .before .before .before .before .before .expect .result), c .before .before .before .before .before .before .before .free-of .ensures)
 
-op-seal-requires : (t : ℕ) → op-lts.Need-seal-requires (op-cs t) (op-at t) op.Post
-op-seal-requires t c κs = (smaller (fitted (enlarged (fitted (c .before .before .before .before .before .before .before .before .before .before .before .before .before .before .pre .1 .0) (c .before .before .before .before .before .before .before .before .before .expect .ensures .0) refl (omega arith)) (c .before .before .before .before .before .before .before .mark .ensures .0) (c .before .before .before .before .before .before .before .mark .kept .0) (omega arith) (omega arith)) (c .before .before .before .expr .ensures .0) (c .before .before .before .expr .kept .0) (omega arith)) (omega arith), omega (arith, base (c .before .before .before .before .before .before .before .before .before .before .before .before .before .before .pre .1 .0), c .before .before .before .before .before .before .before .before .before .before .before .free-of .ensures))
+op-set-size-requires : (t : ℕ) → op-lts.Need-set-size-requires (op-cs t) (op-at t) op.Post
+op-set-size-requires t c κs = (smaller (fitted (enlarged (fitted (c .before .before .before .before .before .before .before .before .before .before .before .before .before .before .pre .1 .0) (c .before .before .before .before .before .before .before .before .before .expect .ensures .0) refl (omega arith)) (c .before .before .before .before .before .before .before .begin-item .ensures .0) (c .before .before .before .before .before .before .before .begin-item .kept .0) (omega arith) (omega arith)) (c .before .before .before .expr .ensures .0) (c .before .before .before .expr .kept .0) (omega arith)) (omega arith), omega (arith, base (c .before .before .before .before .before .before .before .before .before .before .before .before .before .before .pre .1 .0), c .before .before .before .before .before .before .before .before .before .before .before .free-of .ensures))
 
 op-same-length : (t : ℕ) → op-lts.Need-same-length (op-cs t) (op-at t) op.Post
 op-same-length t c = search needs
 
 op-returns : (t : ℕ) → op-lts.Need-returns (op-cs t) (op-at t) op.Post
-op-returns t c = (both (both (then-grows (c .before .before .before .before .before .before .before .before .before .before .before .before .expect .ensures .0) (c .before .before .before .before .before .before .before .before .before .before .mark .ensures .0) (omega arith)) (c .before .before .before .before .before .before .expr .ensures .0)) (c .before .before .seal .ensures .0), λ src l k. operation-read src _ _ (c .before .before .before .before .before .before .before .before .before .before .before .before .before .before .free-of .ensures) _ (low (fitted (c .before .before .before .before .before .before .before .before .before .before .before .before .before .before .before .before .before .pre .1 .0) (c .before .before .before .before .before .before .before .before .before .before .before .before .expect .ensures .0) refl (omega arith))) k (c .before .before .before .before .before .before .before .before .before .before .before .before .expect .ensures .1 src l) (c .before .before .before .before .before .before .before .before .before .before .mark .ensures .1) (c .before .before .before .before .before .before .expr .ensures .1 src (lies-still l (c .before .before .before .before .before .before .before .before .before .before .mark .ensures .0 .kept))) (c .before .before .seal .ensures .1))
+op-returns t c = (both (both (then-grows (c .before .before .before .before .before .before .before .before .before .before .before .before .expect .ensures .0) (c .before .before .before .before .before .before .before .before .before .before .begin-item .ensures .0) (omega arith)) (c .before .before .before .before .before .before .expr .ensures .0)) (c .before .before .set-size .ensures .0), λ src l k. operation-read src _ _ (c .before .before .before .before .before .before .before .before .before .before .before .before .before .before .free-of .ensures) _ (low (fitted (c .before .before .before .before .before .before .before .before .before .before .before .before .before .before .before .before .before .pre .1 .0) (c .before .before .before .before .before .before .before .before .before .before .before .before .expect .ensures .0) refl (omega arith))) k (c .before .before .before .before .before .before .before .before .before .before .before .before .expect .ensures .1 src l) (c .before .before .before .before .before .before .before .before .before .before .begin-item .ensures .1) (c .before .before .before .before .before .before .expr .ensures .1 src (lies-still l (c .before .before .before .before .before .before .before .before .before .before .begin-item .ensures .0 .kept))) (c .before .before .set-size .ensures .1))
 
 pub op-ok : {M : Type 1} (t : ℕ) → op-lts.Closed (op-cs t) (op-at t) op.Post M
-op-ok t = op-lts.spec (op-cs t) (op-at t) op.Post (op-free-of-requires t) (op-expect-requires t) (op-mark-requires t) (op-expr-requires t) (op-seal-requires t) (op-same-length t) (op-returns t)
+op-ok t = op-lts.spec (op-cs t) (op-at t) op.Post (op-free-of-requires t) (op-expect-requires t) (op-begin-item-requires t) (op-expr-requires t) (op-set-size-requires t) (op-same-length t) (op-returns t)
 
 abbrev expr-cs : ℕ → expr-lts.Claims
-expr-cs t = (term-below t, term.Post, kind-here-reads.Asked, kind-here-reads.Learnt, monad-below t, monad.Post, expr-below t, expr.Post, free-of-reads.Asked, free-of-reads.Learnt, binding-of-reads.Asked, binding-of-reads.Learnt, less-reads.Asked, less-reads.Learnt, place-of-reads.Asked, place-of-reads.Learnt, right-of-reads.Asked, right-of-reads.Learnt, op-below t, op.Post, run-below t, run.Post, node-reads.Asked, node-reads.Learnt)
+expr-cs t = (term-below t, term.Post, kind-here-reads.Asked, kind-here-reads.Learnt, monad-below t, monad.Post, expr-below t, expr.Post, free-of-reads.Asked, free-of-reads.Learnt, binding-of-reads.Asked, binding-of-reads.Learnt, minus-reads.Asked, minus-reads.Learnt, place-of-reads.Asked, place-of-reads.Learnt, right-of-reads.Asked, right-of-reads.Learnt, op-below t, op.Post, run-below t, run.Post, node-reads.Asked, node-reads.Learnt)
 
 expr-term-requires : (t : ℕ) → expr-lts.Need-term-requires (expr-cs t) (expr-at t) expr.Post
 expr-term-requires t c κs = omega (arith, c .before .before .before .pre .0, c .before .before .before .pre .1)
@@ -329,35 +329,35 @@ expr-returns-4 t c = (c .before .before .before .before .before .before .expr2 .
 expr-free-of-requires-2 : (t : ℕ) → expr-lts.Need-free-of-requires-2 (expr-cs t) (expr-at t) expr.Post
 expr-free-of-requires-2 t c κs = tt
 
-expr-less-requires : (t : ℕ) → expr-lts.Need-less-requires (expr-cs t) (expr-at t) expr.Post
-expr-less-requires t c κs = tt
+expr-minus-requires : (t : ℕ) → expr-lts.Need-minus-requires (expr-cs t) (expr-at t) expr.Post
+expr-minus-requires t c κs = tt
 
 expr-place-of-requires : (t : ℕ) → expr-lts.Need-place-of-requires (expr-cs t) (expr-at t) expr.Post
 expr-place-of-requires t c κs = smaller (fitted (c .before .before .before .before .before .before .before .before .before .before .before .before .before .before .before .before .before .pre .1 .0) (c .before .before .before .before .before .before .before .before .before .before .expr2 .ensures .0) (c .before .before .before .before .before .before .before .before .before .before .expr2 .kept .0) (omega arith)) (omega arith)
 
 expr-right-of-requires : (t : ℕ) → expr-lts.Need-right-of-requires (expr-cs t) (expr-at t) expr.Post
-expr-right-of-requires t c κs = omega (arith, c .before .before .before .before .before .before .before .before .before .before .before .before .before .before .before .before .before .before .pre .0, c .before .before .before .before .before .before .before .before .before .before .before .before .before .before .before .before .before .before .pre .1, c .before .before .less .ensures, c .before .before .before .free-of2 .ensures, c .before .before .before .before .before .before .before .before .before .before .before .expr2 .ensures .0, c .before .before .before .before .before .before .before .before .before .before .before .expr2 .kept .0, alive (c .before .before .before .before .before .before .before .before .before .before .before .expr2 .result), c .before .before .before .before .before .before .before .before .before .before .before .before .before .free-of .ensures)
+expr-right-of-requires t c κs = omega (arith, c .before .before .before .before .before .before .before .before .before .before .before .before .before .before .before .before .before .before .pre .0, c .before .before .before .before .before .before .before .before .before .before .before .before .before .before .before .before .before .before .pre .1, c .before .before .minus .ensures, c .before .before .before .free-of2 .ensures, c .before .before .before .before .before .before .before .before .before .before .before .expr2 .ensures .0, c .before .before .before .before .before .before .before .before .before .before .before .expr2 .kept .0, alive (c .before .before .before .before .before .before .before .before .before .before .before .expr2 .result), c .before .before .before .before .before .before .before .before .before .before .before .before .before .free-of .ensures)
 
 expr-op-requires : (t : ℕ) → expr-lts.Need-op-requires (expr-cs t) (expr-at t) expr.Post
-expr-op-requires t c κs = omega (arith, c .before .before .before .before .before .before .before .before .before .before .before .before .before .before .before .before .before .before .before .before .pre .0, c .before .before .before .before .before .before .before .before .before .before .before .before .before .before .before .before .before .before .before .before .pre .1, c .before .right-of .ensures .1, c .before .before .before .before .less .ensures, c .before .before .before .before .before .free-of2 .ensures, c .before .before .before .before .before .before .before .before .before .before .before .before .before .expr2 .ensures .0, c .before .before .before .before .before .before .before .before .before .before .before .before .before .expr2 .kept .0, alive (c .before .before .before .before .before .before .before .before .before .before .before .before .before .expr2 .result), c .before .before .before .before .before .before .before .before .before .before .before .before .before .before .before .free-of .ensures, binding-positive (c .before .before .before .before .before .before .before .before .before .kind-here2 .result) (omega (arith, c .before .before .before .before .before .before .before .before .binding-of .ensures, c .before .before .before .before .before .before .before .if4 .left, c .before .before .before .before .before .before .before .before .before .before .before .before .before .before .before .before .before .before .if1 .left)))
+expr-op-requires t c κs = omega (arith, c .before .before .before .before .before .before .before .before .before .before .before .before .before .before .before .before .before .before .before .before .pre .0, c .before .before .before .before .before .before .before .before .before .before .before .before .before .before .before .before .before .before .before .before .pre .1, c .before .right-of .ensures .1, c .before .before .before .before .minus .ensures, c .before .before .before .before .before .free-of2 .ensures, c .before .before .before .before .before .before .before .before .before .before .before .before .before .expr2 .ensures .0, c .before .before .before .before .before .before .before .before .before .before .before .before .before .expr2 .kept .0, alive (c .before .before .before .before .before .before .before .before .before .before .before .before .before .expr2 .result), c .before .before .before .before .before .before .before .before .before .before .before .before .before .before .before .free-of .ensures, binding-positive (c .before .before .before .before .before .before .before .before .before .kind-here2 .result) (omega (arith, c .before .before .before .before .before .before .before .before .binding-of .ensures, c .before .before .before .before .before .before .before .if4 .left, c .before .before .before .before .before .before .before .before .before .before .before .before .before .before .before .before .before .before .if1 .left)))
 
 expr-run-requires : (t : ℕ) → expr-lts.Need-run-requires (expr-cs t) (expr-at t) expr.Post
-expr-run-requires t c κs = omega (arith, c .before .before .before .before .before .before .before .before .before .before .before .before .before .before .before .before .before .before .before .before .before .before .before .before .pre .0, c .before .before .before .before .before .before .before .before .before .before .before .before .before .before .before .before .before .before .before .before .before .before .before .before .pre .1, c .before .before .before .op .ensures .0, c .before .before .before .op .kept .0, alive (c .before .before .before .op .result), c .before .before .before .before .before .right-of .ensures .1, c .before .before .before .before .before .before .before .before .less .ensures, c .before .before .before .before .before .before .before .before .before .free-of2 .ensures, c .before .before .before .before .before .before .before .before .before .before .before .before .before .before .before .before .before .expr2 .ensures .0, c .before .before .before .before .before .before .before .before .before .before .before .before .before .before .before .before .before .expr2 .kept .0, alive (c .before .before .before .before .before .before .before .before .before .before .before .before .before .before .before .before .before .expr2 .result), c .before .before .before .before .before .before .before .before .before .before .before .before .before .before .before .before .before .before .before .free-of .ensures)
+expr-run-requires t c κs = omega (arith, c .before .before .before .before .before .before .before .before .before .before .before .before .before .before .before .before .before .before .before .before .before .before .before .before .pre .0, c .before .before .before .before .before .before .before .before .before .before .before .before .before .before .before .before .before .before .before .before .before .before .before .before .pre .1, c .before .before .before .op .ensures .0, c .before .before .before .op .kept .0, alive (c .before .before .before .op .result), c .before .before .before .before .before .right-of .ensures .1, c .before .before .before .before .before .before .before .before .minus .ensures, c .before .before .before .before .before .before .before .before .before .free-of2 .ensures, c .before .before .before .before .before .before .before .before .before .before .before .before .before .before .before .before .before .expr2 .ensures .0, c .before .before .before .before .before .before .before .before .before .before .before .before .before .before .before .before .before .expr2 .kept .0, alive (c .before .before .before .before .before .before .before .before .before .before .before .before .before .before .before .before .before .expr2 .result), c .before .before .before .before .before .before .before .before .before .before .before .before .before .before .before .before .before .before .before .free-of .ensures)
 
 expr-cast-node : (t : ℕ) → expr-lts.Need-cast-node (expr-cs t) (expr-at t) expr.Post
-expr-cast-node t c = omega (arith, c .before .before .before .before .before .before .before .before .before .before .before .before .less .ensures, c .before .before .before .before .before .before .before .before .before .before .before .before .before .free-of2 .ensures, low (fitted (c .before .before .before .before .before .before .before .before .before .before .before .before .before .before .before .before .before .before .before .before .before .before .before .before .before .before .before .before .pre .1 .0) (c .before .before .before .before .before .before .before .before .before .before .before .before .before .before .before .before .before .before .before .before .before .expr2 .ensures .0) (c .before .before .before .before .before .before .before .before .before .before .before .before .before .before .before .before .before .before .before .before .before .expr2 .kept .0) (omega arith)), c .before .before .before .before .before .before .before .before .before .before .before .before .before .before .before .before .before .before .before .before .before .expr2 .kept .0, c .before .before .before .before .before .before .before .before .before .before .before .before .before .before .before .before .before .before .before .before .before .before .before .before .before .before .before .before .pre .1 .0 .small)
+expr-cast-node t c = omega (arith, c .before .before .before .before .before .before .before .before .before .before .before .before .minus .ensures, c .before .before .before .before .before .before .before .before .before .before .before .before .before .free-of2 .ensures, low (fitted (c .before .before .before .before .before .before .before .before .before .before .before .before .before .before .before .before .before .before .before .before .before .before .before .before .before .before .before .before .pre .1 .0) (c .before .before .before .before .before .before .before .before .before .before .before .before .before .before .before .before .before .before .before .before .before .expr2 .ensures .0) (c .before .before .before .before .before .before .before .before .before .before .before .before .before .before .before .before .before .before .before .before .before .expr2 .kept .0) (omega arith)), c .before .before .before .before .before .before .before .before .before .before .before .before .before .before .before .before .before .before .before .before .before .expr2 .kept .0, c .before .before .before .before .before .before .before .before .before .before .before .before .before .before .before .before .before .before .before .before .before .before .before .before .before .before .before .before .pre .1 .0 .small)
 
 expr-node-requires : (t : ℕ) → expr-lts.Need-node-requires (expr-cs t) (expr-at t) expr.Post
-expr-node-requires t c κs = omega (arith, c .before .before .before .before .before .before .before .before .before .before .before .before .before .before .before .before .before .before .before .before .before .before .before .before .before .before .before .before .pre .0, c .before .before .before .before .before .before .before .before .before .before .before .before .before .before .before .before .before .before .before .before .before .before .before .before .before .before .before .before .pre .1, c .before .before .before .run .ensures .0, c .before .before .before .run .kept .0, alive (c .before .before .before .run .result), c .before .before .before .before .before .before .before .op .ensures .0, c .before .before .before .before .before .before .before .op .kept .0, alive (c .before .before .before .before .before .before .before .op .result), c .before .before .before .before .before .before .before .before .before .right-of .ensures .1, c .before .before .before .before .before .before .before .before .before .before .before .before .less .ensures, c .before .before .before .before .before .before .before .before .before .before .before .before .before .free-of2 .ensures, c .before .before .before .before .before .before .before .before .before .before .before .before .before .before .before .before .before .before .before .before .before .expr2 .ensures .0, c .before .before .before .before .before .before .before .before .before .before .before .before .before .before .before .before .before .before .before .before .before .expr2 .kept .0, alive (c .before .before .before .before .before .before .before .before .before .before .before .before .before .before .before .before .before .before .before .before .before .expr2 .result), c .before .before .before .before .before .before .before .before .before .before .before .before .before .before .before .before .before .before .before .before .before .before .before .free-of .ensures)
+expr-node-requires t c κs = omega (arith, c .before .before .before .before .before .before .before .before .before .before .before .before .before .before .before .before .before .before .before .before .before .before .before .before .before .before .before .before .pre .0, c .before .before .before .before .before .before .before .before .before .before .before .before .before .before .before .before .before .before .before .before .before .before .before .before .before .before .before .before .pre .1, c .before .before .before .run .ensures .0, c .before .before .before .run .kept .0, alive (c .before .before .before .run .result), c .before .before .before .before .before .before .before .op .ensures .0, c .before .before .before .before .before .before .before .op .kept .0, alive (c .before .before .before .before .before .before .before .op .result), c .before .before .before .before .before .before .before .before .before .right-of .ensures .1, c .before .before .before .before .before .before .before .before .before .before .before .before .minus .ensures, c .before .before .before .before .before .before .before .before .before .before .before .before .before .free-of2 .ensures, c .before .before .before .before .before .before .before .before .before .before .before .before .before .before .before .before .before .before .before .before .before .expr2 .ensures .0, c .before .before .before .before .before .before .before .before .before .before .before .before .before .before .before .before .before .before .before .before .before .expr2 .kept .0, alive (c .before .before .before .before .before .before .before .before .before .before .before .before .before .before .before .before .before .before .before .before .before .expr2 .result), c .before .before .before .before .before .before .before .before .before .before .before .before .before .before .before .before .before .before .before .before .before .before .before .free-of .ensures)
 
 expr-same-length-5 : (t : ℕ) → expr-lts.Need-same-length-5 (expr-cs t) (expr-at t) expr.Post
 expr-same-length-5 t c = c .before .before .node .kept .0 ∙ c .before .before .before .before .before .before .run .kept .0 ∙ c .before .before .before .before .before .before .before .before .before .before .op .kept .0 ∙ c .before .before .before .before .before .before .before .before .before .before .before .before .before .before .before .before .before .before .before .before .before .before .before .before .expr2 .kept .0
 
 expr-returns-5 : (t : ℕ) → expr-lts.Need-returns-5 (expr-cs t) (expr-at t) expr.Post
-expr-returns-5 t c = (then-grows (both (both (c .before .before .before .before .before .before .before .before .before .before .before .before .before .before .before .before .before .before .before .before .before .before .before .before .expr2 .ensures .0) (c .before .before .before .before .before .before .before .before .before .before .op .ensures .0)) (c .before .before .before .before .before .before .run .ensures .0)) (c .before .before .node .ensures .0) (omega arith), λ src l. (let l₁ = lies-still l (c .before .before .before .before .before .before .before .before .before .before .before .before .before .before .before .before .before .before .before .before .before .before .before .before .expr2 .ensures .0 .kept) in let l₂ = lies-still l₁ (c .before .before .before .before .before .before .before .before .before .before .op .ensures .0 .kept) in expression-more l₁ _ _ _ (c .before .before .before .before .before .before .before .before .before .before .before .before .before .before .before .before .before .before .before .before .before .before .before .before .before .before .before .before .before .if1 .left) (c .before .before .before .before .before .before .before .before .before .before .before .before .before .before .before .before .before .before .before .before .before .before .before .before .before .before .before .before .if2 .left) (c .before .before .before .before .before .before .before .before .before .before .before .before .before .before .before .before .before .before .before .before .before .before .before .before .before .before .before .before .before .before .before .pre .1 .1) (c .before .before .before .before .before .before .before .before .before .before .before .before .before .before .before .before .before .before .before .before .kind-here2 .ensures src l₁) (c .before .before .before .before .before .before .before .before .before .before .before .before .before .before .before .before .before .before .before .before .before .before .before .before .expr2 .ensures .1 src l) (c .before .before .before .before .before .before .before .before .before .before .before .before .right-of .ensures .0) (sym (c .before .before .before .before .before .before .before .before .before .before .before .before .before .before .before .before .before .before .before .binding-of .ensures) ∙ c .before .before .before .before .before .before .before .before .before .before .before .before .before .before .before .before .before .before .if4 .left) (c .before .before .before .before .before .before .before .before .before .before .before .before .before .before .before .before .before .before .before .before .before .before .before .before .before .before .free-of .ensures) (c .before .before .before .before .before .before .before .before .before .before .before .before .before .before .before .less .ensures ∙ ap (λ (y : ℕ). y - c .before .before .before .before .before .before .before .before .before .before .before .before .before .before .before .before .before .before .before .before .before .before .before .before .before .before .free-of .result) (c .before .before .before .before .before .before .before .before .before .before .before .before .before .before .before .before .free-of2 .ensures ∙ ap (λ (z : ℕ). freeOf z (c .before .before .before .before .before .before .before .before .before .before .before .before .before .before .before .before .before .before .before .before .before .before .before .before .expr2 .result)) (c .before .before .before .before .before .before .before .before .before .before .before .before .before .before .before .before .before .before .before .before .before .before .before .before .expr2 .kept .0))) (c .before .before .before .before .before .before .before .before .before .before .before .before .before .place-of .ensures) (c .before .before .before .before .before .before .before .before .before .before .op .ensures .1 src l₁ (c .before .before .before .before .before .before .before .before .before .before .before .before .before .before .before .before .before .before .before .before .kind-here2 .ensures src l₁)) (c .before .before .before .before .before .before .run .ensures .1 src l₂) (c .before .before .node .ensures .1)))
+expr-returns-5 t c = (then-grows (both (both (c .before .before .before .before .before .before .before .before .before .before .before .before .before .before .before .before .before .before .before .before .before .before .before .before .expr2 .ensures .0) (c .before .before .before .before .before .before .before .before .before .before .op .ensures .0)) (c .before .before .before .before .before .before .run .ensures .0)) (c .before .before .node .ensures .0) (omega arith), λ src l. (let l₁ = lies-still l (c .before .before .before .before .before .before .before .before .before .before .before .before .before .before .before .before .before .before .before .before .before .before .before .before .expr2 .ensures .0 .kept) in let l₂ = lies-still l₁ (c .before .before .before .before .before .before .before .before .before .before .op .ensures .0 .kept) in expression-more l₁ _ _ _ (c .before .before .before .before .before .before .before .before .before .before .before .before .before .before .before .before .before .before .before .before .before .before .before .before .before .before .before .before .before .if1 .left) (c .before .before .before .before .before .before .before .before .before .before .before .before .before .before .before .before .before .before .before .before .before .before .before .before .before .before .before .before .if2 .left) (c .before .before .before .before .before .before .before .before .before .before .before .before .before .before .before .before .before .before .before .before .before .before .before .before .before .before .before .before .before .before .before .pre .1 .1) (c .before .before .before .before .before .before .before .before .before .before .before .before .before .before .before .before .before .before .before .before .kind-here2 .ensures src l₁) (c .before .before .before .before .before .before .before .before .before .before .before .before .before .before .before .before .before .before .before .before .before .before .before .before .expr2 .ensures .1 src l) (c .before .before .before .before .before .before .before .before .before .before .before .before .right-of .ensures .0) (sym (c .before .before .before .before .before .before .before .before .before .before .before .before .before .before .before .before .before .before .before .binding-of .ensures) ∙ c .before .before .before .before .before .before .before .before .before .before .before .before .before .before .before .before .before .before .if4 .left) (c .before .before .before .before .before .before .before .before .before .before .before .before .before .before .before .before .before .before .before .before .before .before .before .before .before .before .free-of .ensures) (c .before .before .before .before .before .before .before .before .before .before .before .before .before .before .before .minus .ensures ∙ ap (λ (y : ℕ). y - c .before .before .before .before .before .before .before .before .before .before .before .before .before .before .before .before .before .before .before .before .before .before .before .before .before .before .free-of .result) (c .before .before .before .before .before .before .before .before .before .before .before .before .before .before .before .before .free-of2 .ensures ∙ ap (λ (z : ℕ). freeOf z (c .before .before .before .before .before .before .before .before .before .before .before .before .before .before .before .before .before .before .before .before .before .before .before .before .expr2 .result)) (c .before .before .before .before .before .before .before .before .before .before .before .before .before .before .before .before .before .before .before .before .before .before .before .before .expr2 .kept .0))) (c .before .before .before .before .before .before .before .before .before .before .before .before .before .place-of .ensures) (c .before .before .before .before .before .before .before .before .before .before .op .ensures .1 src l₁ (c .before .before .before .before .before .before .before .before .before .before .before .before .before .before .before .before .before .before .before .before .kind-here2 .ensures src l₁)) (c .before .before .before .before .before .before .run .ensures .1 src l₂) (c .before .before .node .ensures .1)))
 
 pub expr-ok : {M : Type 1} (t : ℕ) → expr-lts.Closed (expr-cs t) (expr-at t) expr.Post M
-expr-ok t = expr-lts.spec (expr-cs t) (expr-at t) expr.Post (expr-term-requires t) (expr-same-length t) (expr-returns t) (expr-kind-here-requires t) (expr-monad-requires t) (expr-same-length-2 t) (expr-returns-2 t) (expr-sub-expr t) (expr-expr-requires t) (expr-same-length-3 t) (expr-returns-3 t) (expr-free-of-requires t) (expr-sub-expr-2 t) (expr-expr-requires-2 t) (expr-kind-here-requires-2 t) (expr-binding-of-requires t) (expr-same-length-4 t) (expr-returns-4 t) (expr-free-of-requires-2 t) (expr-less-requires t) (expr-place-of-requires t) (expr-right-of-requires t) (expr-op-requires t) (expr-run-requires t) (expr-cast-node t) (expr-node-requires t) (expr-same-length-5 t) (expr-returns-5 t)
+expr-ok t = expr-lts.spec (expr-cs t) (expr-at t) expr.Post (expr-term-requires t) (expr-same-length t) (expr-returns t) (expr-kind-here-requires t) (expr-monad-requires t) (expr-same-length-2 t) (expr-returns-2 t) (expr-sub-expr t) (expr-expr-requires t) (expr-same-length-3 t) (expr-returns-3 t) (expr-free-of-requires t) (expr-sub-expr-2 t) (expr-expr-requires-2 t) (expr-kind-here-requires-2 t) (expr-binding-of-requires t) (expr-same-length-4 t) (expr-returns-4 t) (expr-free-of-requires-2 t) (expr-minus-requires t) (expr-place-of-requires t) (expr-right-of-requires t) (expr-op-requires t) (expr-run-requires t) (expr-cast-node t) (expr-node-requires t) (expr-same-length-5 t) (expr-returns-5 t)
 
 abbrev index-cs : ℕ → index-lts.Claims
 index-cs t = (free-of-reads.Asked, free-of-reads.Learnt, expect-reads.Asked, expect-reads.Learnt, key-below t, key.Post, close-item-reads.Asked, close-item-reads.Learnt)
@@ -483,7 +483,7 @@ pass-same-length-2 : (t : ℕ) → pass-lts.Need-same-length-2 (pass-cs t) (pass
 pass-same-length-2 t c = search needs
 
 pass-returns-2 : (t : ℕ) → pass-lts.Need-returns-2 (pass-cs t) (pass-at t) pass.Post
-pass-returns-2 t c = (grows-fits (c .before .before .before .before .before .before .before .before .arg .ensures .0) (both (c .before .before .before .before .also .ensures .0) (c .expect2 .ensures .0)) (omega arith), λ src l. (let l₁ = lies-still l (c .before .before .before .before .before .before .before .before .arg .ensures .0 .kept) in let l₂ = lies-still l₁ (c .before .before .before .before .also .ensures .0 .kept) in some-arguments src _ (c .before .before .before .before .before .before .before .before .before .before .before .kind-here .ensures src l) 0 (l .count) (c .before .before .before .before .before .before .before .before .before .before .if1 .left) (c .before .before .before .before .before .before .before .before .arg .ensures .1 src l) (again (Is encodeExpressions) (λ es w h. record { same = h .same }) (c .before .before .before .before .also .ensures .1 src l₁)) (c .expect2 .ensures .1 src l₂)))
+pass-returns-2 t c = (grows-fits (c .before .before .before .before .before .before .before .before .arg .ensures .0) (both (c .before .before .before .before .also .ensures .0) (c .expect2 .ensures .0)) (omega arith), λ src l. (let l₁ = lies-still l (c .before .before .before .before .before .before .before .before .arg .ensures .0 .kept) in let l₂ = lies-still l₁ (c .before .before .before .before .also .ensures .0 .kept) in some-arguments src _ (c .before .before .before .before .before .before .before .before .before .before .before .kind-here .ensures src l) 0 (l .count) (c .before .before .before .before .before .before .before .before .before .before .if1 .left) (c .before .before .before .before .before .before .before .before .arg .ensures .1 src l) (again (Encodes encodeExpressions) (λ es w h. record { same = h .same }) (c .before .before .before .before .also .ensures .1 src l₁)) (c .expect2 .ensures .1 src l₂)))
 
 pub pass-ok : {M : Type 1} (t : ℕ) → pass-lts.Closed (pass-cs t) (pass-at t) pass.Post M
 pass-ok t = pass-lts.spec (pass-cs t) (pass-at t) pass.Post (pass-kind-here-requires t) (pass-expect-requires t) (pass-same-length t) (pass-returns t) (pass-arg-requires t) (pass-also-requires t) (pass-expect-requires-2 t) (pass-same-length-2 t) (pass-returns-2 t)
@@ -528,7 +528,7 @@ abbrev rest-cs : ℕ → rest-lts.Claims
 rest-cs t = (expect-reads.Asked, expect-reads.Learnt, arg-below t, arg.Post)
 
 abbrev rest-Inv-loop : rest-lts.InvT-loop
-rest-Inv-loop s₀ n levels number left₀ a₀ s left a = Fits 0 s₀ s n a₀ a × (length s ≡ length s₀) × ((src : Source) → Lies src n s₀ → Partly (C.further (readers (within levels)) left₀ src) (C.further (readers (within levels)) left src) encodeExpressions s₀ s a₀ a)
+rest-Inv-loop s₀ n levels number left₀ a₀ s left a = LeavesRoom 0 s₀ s n a₀ a × (length s ≡ length s₀) × ((src : Source) → HoldsSymbols src n s₀ → Partly (C.further (readers (within levels)) left₀ src) (C.further (readers (within levels)) left src) encodeExpressions s₀ s a₀ a)
 
 abbrev rest-μ-loop : rest-lts.MeasureT-loop
 rest-μ-loop s₀ n levels number left₀ a₀ s left a = left
@@ -627,7 +627,7 @@ pub tail-ok : {M : Type 1} (t : ℕ) → tail-lts.Closed (tail-cs t) (tail-at t)
 tail-ok t = tail-lts.spec (tail-cs t) (tail-at t) tail.Post (tail-call-requires t) (tail-index-requires t) (tail-same-length t) (tail-returns t) (tail-same-length-2 t) (tail-returns-2 t)
 
 abbrev whole-cs : ℕ → whole-lts.Claims
-whole-cs t = (free-of-reads.Asked, free-of-reads.Learnt, unit-below t, unit.Post, kind-here-reads.Asked, kind-here-reads.Learnt, is-suffix-reads.Asked, is-suffix-reads.Learnt, less-reads.Asked, less-reads.Learnt, place-of-reads.Asked, place-of-reads.Learnt, tail-below t, tail.Post, tails-below t, tails.Post, suffixed-kind-reads.Asked, suffixed-kind-reads.Learnt, node-reads.Asked, node-reads.Learnt)
+whole-cs t = (free-of-reads.Asked, free-of-reads.Learnt, unit-below t, unit.Post, kind-here-reads.Asked, kind-here-reads.Learnt, is-suffix-reads.Asked, is-suffix-reads.Learnt, minus-reads.Asked, minus-reads.Learnt, place-of-reads.Asked, place-of-reads.Learnt, tail-below t, tail.Post, tails-below t, tails.Post, suffixed-kind-reads.Asked, suffixed-kind-reads.Learnt, node-reads.Asked, node-reads.Learnt)
 
 whole-free-of-requires : (t : ℕ) → whole-lts.Need-free-of-requires (whole-cs t) (whole-at t) whole.Post
 whole-free-of-requires t c κs = tt
@@ -644,8 +644,8 @@ whole-is-suffix-requires t c κs = tt
 whole-free-of-requires-2 : (t : ℕ) → whole-lts.Need-free-of-requires-2 (whole-cs t) (whole-at t) whole.Post
 whole-free-of-requires-2 t c κs = tt
 
-whole-less-requires : (t : ℕ) → whole-lts.Need-less-requires (whole-cs t) (whole-at t) whole.Post
-whole-less-requires t c κs = tt
+whole-minus-requires : (t : ℕ) → whole-lts.Need-minus-requires (whole-cs t) (whole-at t) whole.Post
+whole-minus-requires t c κs = tt
 
 whole-place-of-requires : (t : ℕ) → whole-lts.Need-place-of-requires (whole-cs t) (whole-at t) whole.Post
 whole-place-of-requires t c κs = smaller (fitted (c .before .before .before .before .before .before .before .before .before .before .before .before .before .before .before .pre .1) (c .before .before .before .before .before .before .before .before .before .before .unit .ensures .0) (c .before .before .before .before .before .before .before .before .before .before .unit .kept .0) (omega arith)) (omega arith)
@@ -657,7 +657,7 @@ whole-tails-requires : (t : ℕ) → whole-lts.Need-tails-requires (whole-cs t) 
 whole-tails-requires t c κs = (omega (arith, c .before .before .before .before .before .before .before .before .before .before .before .before .before .before .before .before .before .before .before .before .before .pre .0), smaller (fitted (fitted (c .before .before .before .before .before .before .before .before .before .before .before .before .before .before .before .before .before .before .before .before .before .pre .1) (c .before .before .before .before .before .before .before .before .before .before .before .before .before .before .before .before .unit .ensures .0) (c .before .before .before .before .before .before .before .before .before .before .before .before .before .before .before .before .unit .kept .0) (omega arith)) (c .before .before .before .tail .ensures .0) (c .before .before .before .tail .kept .0) (omega arith)) (omega arith))
 
 whole-cast-node : (t : ℕ) → whole-lts.Need-cast-node (whole-cs t) (whole-at t) whole.Post
-whole-cast-node t c = omega (arith, c .before .before .before .before .before .before .before .before .before .before .before .less .ensures, c .before .before .before .before .before .before .before .before .before .before .before .before .free-of2 .ensures, low (fitted (c .before .before .before .before .before .before .before .before .before .before .before .before .before .before .before .before .before .before .before .before .before .before .before .before .before .pre .1) (c .before .before .before .before .before .before .before .before .before .before .before .before .before .before .before .before .before .before .before .before .unit .ensures .0) (c .before .before .before .before .before .before .before .before .before .before .before .before .before .before .before .before .before .before .before .before .unit .kept .0) (omega arith)), c .before .before .before .before .before .before .before .before .before .before .before .before .before .before .before .before .before .before .before .before .unit .kept .0, c .before .before .before .before .before .before .before .before .before .before .before .before .before .before .before .before .before .before .before .before .before .before .before .before .before .pre .1 .small)
+whole-cast-node t c = omega (arith, c .before .before .before .before .before .before .before .before .before .before .before .minus .ensures, c .before .before .before .before .before .before .before .before .before .before .before .before .free-of2 .ensures, low (fitted (c .before .before .before .before .before .before .before .before .before .before .before .before .before .before .before .before .before .before .before .before .before .before .before .before .before .pre .1) (c .before .before .before .before .before .before .before .before .before .before .before .before .before .before .before .before .before .before .before .before .unit .ensures .0) (c .before .before .before .before .before .before .before .before .before .before .before .before .before .before .before .before .before .before .before .before .unit .kept .0) (omega arith)), c .before .before .before .before .before .before .before .before .before .before .before .before .before .before .before .before .before .before .before .before .unit .kept .0, c .before .before .before .before .before .before .before .before .before .before .before .before .before .before .before .before .before .before .before .before .before .before .before .before .before .pre .1 .small)
 
 whole-suffixed-kind-requires : (t : ℕ) → whole-lts.Need-suffixed-kind-requires (whole-cs t) (whole-at t) whole.Post
 whole-suffixed-kind-requires t c κs = tt
@@ -669,7 +669,7 @@ whole-same-length : (t : ℕ) → whole-lts.Need-same-length (whole-cs t) (whole
 whole-same-length t c = c .before .before .node .kept .0 ∙ c .before .before .before .before .before .before .before .tails .kept .0 ∙ c .before .before .before .before .before .before .before .before .before .before .before .tail .kept .0 ∙ c .before .before .before .before .before .before .before .before .before .before .before .before .before .before .before .before .before .before .before .before .before .before .before .before .unit .kept .0
 
 whole-returns : (t : ℕ) → whole-lts.Need-returns (whole-cs t) (whole-at t) whole.Post
-whole-returns t c = (then-grows (both (both (c .before .before .before .before .before .before .before .before .before .before .before .before .before .before .before .before .before .before .before .before .before .before .before .before .unit .ensures .0) (c .before .before .before .before .before .before .before .before .before .before .before .tail .ensures .0)) (c .before .before .before .before .before .before .before .tails .ensures .0)) (c .before .before .node .ensures .0) (omega arith), λ src l. (let l₁ = lies-still l (c .before .before .before .before .before .before .before .before .before .before .before .before .before .before .before .before .before .before .before .before .before .before .before .before .unit .ensures .0 .kept) in let l₂ = lies-still l₁ (c .before .before .before .before .before .before .before .before .before .before .before .tail .ensures .0 .kept) in suffixed-more l₁ _ _ (c .before .before .before .before .before .before .before .before .before .before .before .before .before .before .before .before .before .before .before .before .kind-here .ensures src l₁) (c .before .before .before .before .before .before .before .before .before .before .before .before .before .before .before .before .before .before .before .before .before .before .before .before .unit .ensures .1 src l) (sym (c .before .before .before .before .before .before .before .before .before .before .before .before .before .before .before .before .before .before .before .is-suffix .ensures) ∙ c .before .before .before .before .before .before .before .before .before .before .before .before .before .before .before .before .before .before .if1 .taken) (c .before .before .before .before .before .before .before .before .before .before .before .before .before .before .before .before .before .before .before .before .before .before .before .before .before .before .free-of .ensures) (c .before .before .before .before .before .before .before .before .before .before .before .before .before .before .before .less .ensures ∙ ap (λ (y : ℕ). y - c .before .before .before .before .before .before .before .before .before .before .before .before .before .before .before .before .before .before .before .before .before .before .before .before .before .before .free-of .result) (c .before .before .before .before .before .before .before .before .before .before .before .before .before .before .before .before .free-of2 .ensures ∙ ap (λ (z : ℕ). freeOf z (c .before .before .before .before .before .before .before .before .before .before .before .before .before .before .before .before .before .before .before .before .before .before .before .before .unit .result)) (c .before .before .before .before .before .before .before .before .before .before .before .before .before .before .before .before .before .before .before .before .before .before .before .before .unit .kept .0))) (c .before .before .before .before .before .before .before .before .before .before .before .before .before .place-of .ensures) (c .before .before .before .suffixed-kind .ensures) (c .before .before .before .before .before .before .before .before .before .before .before .tail .ensures .1 src l₁ (c .before .before .before .before .before .before .before .before .before .before .before .before .before .before .before .before .before .before .before .before .kind-here .ensures src l₁)) (c .before .before .before .before .before .before .before .tails .ensures .1 src l₂) (c .before .before .node .ensures .1)))
+whole-returns t c = (then-grows (both (both (c .before .before .before .before .before .before .before .before .before .before .before .before .before .before .before .before .before .before .before .before .before .before .before .before .unit .ensures .0) (c .before .before .before .before .before .before .before .before .before .before .before .tail .ensures .0)) (c .before .before .before .before .before .before .before .tails .ensures .0)) (c .before .before .node .ensures .0) (omega arith), λ src l. (let l₁ = lies-still l (c .before .before .before .before .before .before .before .before .before .before .before .before .before .before .before .before .before .before .before .before .before .before .before .before .unit .ensures .0 .kept) in let l₂ = lies-still l₁ (c .before .before .before .before .before .before .before .before .before .before .before .tail .ensures .0 .kept) in suffixed-more l₁ _ _ (c .before .before .before .before .before .before .before .before .before .before .before .before .before .before .before .before .before .before .before .before .kind-here .ensures src l₁) (c .before .before .before .before .before .before .before .before .before .before .before .before .before .before .before .before .before .before .before .before .before .before .before .before .unit .ensures .1 src l) (sym (c .before .before .before .before .before .before .before .before .before .before .before .before .before .before .before .before .before .before .before .is-suffix .ensures) ∙ c .before .before .before .before .before .before .before .before .before .before .before .before .before .before .before .before .before .before .if1 .taken) (c .before .before .before .before .before .before .before .before .before .before .before .before .before .before .before .before .before .before .before .before .before .before .before .before .before .before .free-of .ensures) (c .before .before .before .before .before .before .before .before .before .before .before .before .before .before .before .minus .ensures ∙ ap (λ (y : ℕ). y - c .before .before .before .before .before .before .before .before .before .before .before .before .before .before .before .before .before .before .before .before .before .before .before .before .before .before .free-of .result) (c .before .before .before .before .before .before .before .before .before .before .before .before .before .before .before .before .free-of2 .ensures ∙ ap (λ (z : ℕ). freeOf z (c .before .before .before .before .before .before .before .before .before .before .before .before .before .before .before .before .before .before .before .before .before .before .before .before .unit .result)) (c .before .before .before .before .before .before .before .before .before .before .before .before .before .before .before .before .before .before .before .before .before .before .before .before .unit .kept .0))) (c .before .before .before .before .before .before .before .before .before .before .before .before .before .place-of .ensures) (c .before .before .before .suffixed-kind .ensures) (c .before .before .before .before .before .before .before .before .before .before .before .tail .ensures .1 src l₁ (c .before .before .before .before .before .before .before .before .before .before .before .before .before .before .before .before .before .before .before .before .kind-here .ensures src l₁)) (c .before .before .before .before .before .before .before .tails .ensures .1 src l₂) (c .before .before .node .ensures .1)))
 
 whole-same-length-2 : (t : ℕ) → whole-lts.Need-same-length-2 (whole-cs t) (whole-at t) whole.Post
 whole-same-length-2 t c = search needs
@@ -678,19 +678,19 @@ whole-returns-2 : (t : ℕ) → whole-lts.Need-returns-2 (whole-cs t) (whole-at 
 whole-returns-2 t c = (c .before .before .before .before .before .before .unit .ensures .0, λ src l. (let l₁ = lies-still l (c .before .before .before .before .before .before .unit .ensures .0 .kept) in suffixed-one l₁ 0 _ (c .before .before .kind-here .ensures src l₁) (c .before .before .before .before .before .before .unit .ensures .1 src l) (sym (c .before .is-suffix .ensures) ∙ c .if1 .left)))
 
 pub whole-ok : {M : Type 1} (t : ℕ) → whole-lts.Closed (whole-cs t) (whole-at t) whole.Post M
-whole-ok t = whole-lts.spec (whole-cs t) (whole-at t) whole.Post (whole-free-of-requires t) (whole-unit-requires t) (suffixed-kind-here-requires t) (whole-is-suffix-requires t) (whole-free-of-requires-2 t) (whole-less-requires t) (whole-place-of-requires t) (whole-tail-requires t) (whole-tails-requires t) (whole-cast-node t) (whole-suffixed-kind-requires t) (whole-node-requires t) (whole-same-length t) (whole-returns t) (whole-same-length-2 t) (whole-returns-2 t)
+whole-ok t = whole-lts.spec (whole-cs t) (whole-at t) whole.Post (whole-free-of-requires t) (whole-unit-requires t) (suffixed-kind-here-requires t) (whole-is-suffix-requires t) (whole-free-of-requires-2 t) (whole-minus-requires t) (whole-place-of-requires t) (whole-tail-requires t) (whole-tails-requires t) (whole-cast-node t) (whole-suffixed-kind-requires t) (whole-node-requires t) (whole-same-length t) (whole-returns t) (whole-same-length-2 t) (whole-returns-2 t)
 
 abbrev tails-cs : ℕ → tails-lts.Claims
-tails-cs t = (less-reads.Asked, less-reads.Learnt, kind-here-reads.Asked, kind-here-reads.Learnt, is-suffix-reads.Asked, is-suffix-reads.Learnt, tail-below t, tail.Post)
+tails-cs t = (minus-reads.Asked, minus-reads.Learnt, kind-here-reads.Asked, kind-here-reads.Learnt, is-suffix-reads.Asked, is-suffix-reads.Learnt, tail-below t, tail.Post)
 
 abbrev suffixes-Inv-loop : tails-lts.InvT-loop
-suffixes-Inv-loop s₀ n levels first turns₀ call₀ a₀ s turns call a = Fits 0 s₀ s n a₀ a × (length s ≡ length s₀) × ((src : Source) → Lies src n s₀ → PartlyAs (manyUpTo turns₀ T.noSuffixes isSuffix (E.suffix (within levels)) src) (manyUpTo turns T.noSuffixes isSuffix (E.suffix (within levels)) src) (EndedSoFar call₀ call) s₀ s a₀ a)
+suffixes-Inv-loop s₀ n levels first turns₀ call₀ a₀ s turns call a = LeavesRoom 0 s₀ s n a₀ a × (length s ≡ length s₀) × ((src : Source) → HoldsSymbols src n s₀ → PartlyAs (manyUpTo turns₀ T.noSuffixes isSuffix (E.suffix (within levels)) src) (manyUpTo turns T.noSuffixes isSuffix (E.suffix (within levels)) src) (EndedSoFar call₀ call) s₀ s a₀ a)
 
 abbrev suffixes-μ-loop : tails-lts.MeasureT-loop
 suffixes-μ-loop s₀ n levels first turns₀ call₀ a₀ s turns call a = turns
 
-tails-less-requires : (t : ℕ) → tails-lts.Need-less-requires (tails-cs t) (tails-at t) tails.Post suffixes-Inv-loop suffixes-μ-loop
-tails-less-requires t c κs = tt
+tails-minus-requires : (t : ℕ) → tails-lts.Need-minus-requires (tails-cs t) (tails-at t) tails.Post suffixes-Inv-loop suffixes-μ-loop
+tails-minus-requires t c κs = tt
 
 tails-loop-holds : (t : ℕ) → tails-lts.Need-loop-holds (tails-cs t) (tails-at t) tails.Post suffixes-Inv-loop suffixes-μ-loop
 tails-loop-holds t c = (itself (c .before .before .pre .1), refl, λ src l. begins-as suffix-first)
@@ -717,16 +717,16 @@ tails-same-length : (t : ℕ) → tails-lts.Need-same-length (tails-cs t) (tails
 tails-same-length t c = search needs
 
 tails-returns : (t : ℕ) → tails-lts.Need-returns (tails-cs t) (tails-at t) tails.Post suffixes-Inv-loop suffixes-μ-loop
-tails-returns t c = (c .before .before .before .before .before .loop .inv .0, λ src l. subst (λ (m : ℕ). Goes (manyUpTo m T.noSuffixes isSuffix (E.suffix (within (c .before .before .before .before .before .before .before .before .args .levels))) src) (Ended (c .before .before .before .before .before .before .before .before .args .first) (c .before .before .before .before .before .loop .call)) (c .before .before .before .before .before .before .before .before .args .s .now) (c .before .before .before .before .before .loop .s) (c .before .before .before .before .before .before .before .before .args .r) (c .before .before .before .before .before .loop .a)) (c .before .before .before .before .before .before .less .ensures) (closes-as suffix-last (c .before .before .before .before .before .loop .inv .2 src l) (here (λ m. ok T.noSuffixes m) (λ at free e. last T.noSuffixes isSuffix (E.suffix (within (c .before .before .before .before .before .before .before .before .args .levels))) src _ at (sym (c .before .is-suffix .ensures ∙ ap isSuffix ((c .before .before .kind-here .ensures src (lies-still l (c .before .before .before .before .before .loop .inv .0 .kept))) .here at free e)) ∙ c .if1 .left)) (nothing no-suffix-ended))))
+tails-returns t c = (c .before .before .before .before .before .loop .inv .0, λ src l. subst (λ (m : ℕ). Follows (manyUpTo m T.noSuffixes isSuffix (E.suffix (within (c .before .before .before .before .before .before .before .before .args .levels))) src) (Ended (c .before .before .before .before .before .before .before .before .args .first) (c .before .before .before .before .before .loop .call)) (c .before .before .before .before .before .before .before .before .args .s .now) (c .before .before .before .before .before .loop .s) (c .before .before .before .before .before .before .before .before .args .r) (c .before .before .before .before .before .loop .a)) (c .before .before .before .before .before .before .minus .ensures) (closes-as suffix-last (c .before .before .before .before .before .loop .inv .2 src l) (here (λ m. ok T.noSuffixes m) (λ at free e. last T.noSuffixes isSuffix (E.suffix (within (c .before .before .before .before .before .before .before .before .args .levels))) src _ at (sym (c .before .is-suffix .ensures ∙ ap isSuffix ((c .before .before .kind-here .ensures src (lies-still l (c .before .before .before .before .before .loop .inv .0 .kept))) .here at free e)) ∙ c .if1 .left)) (nothing no-suffix-ended))))
 
 tails-same-length-2 : (t : ℕ) → tails-lts.Need-same-length-2 (tails-cs t) (tails-at t) tails.Post suffixes-Inv-loop suffixes-μ-loop
 tails-same-length-2 t c = search needs
 
 tails-returns-2 : (t : ℕ) → tails-lts.Need-returns-2 (tails-cs t) (tails-at t) tails.Post suffixes-Inv-loop suffixes-μ-loop
-tails-returns-2 t c = (c .before .loop .inv .0, λ src l. subst (λ (m : ℕ). Goes (manyUpTo m T.noSuffixes isSuffix (E.suffix (within (c .before .before .before .before .args .levels))) src) (Ended (c .before .before .before .before .args .first) (c .before .loop .call)) (c .before .before .before .before .args .s .now) (c .before .loop .s) (c .before .before .before .before .args .r) (c .before .loop .a)) (c .before .before .less .ensures) (closes-as suffix-last (c .before .loop .inv .2 src l) (here (λ m. ok T.noSuffixes m) (λ at free e. spent T.noSuffixes isSuffix (E.suffix (within (c .before .before .before .before .args .levels))) src _ at (omega arith)) (nothing no-suffix-ended))))
+tails-returns-2 t c = (c .before .loop .inv .0, λ src l. subst (λ (m : ℕ). Follows (manyUpTo m T.noSuffixes isSuffix (E.suffix (within (c .before .before .before .before .args .levels))) src) (Ended (c .before .before .before .before .args .first) (c .before .loop .call)) (c .before .before .before .before .args .s .now) (c .before .loop .s) (c .before .before .before .before .args .r) (c .before .loop .a)) (c .before .before .minus .ensures) (closes-as suffix-last (c .before .loop .inv .2 src l) (here (λ m. ok T.noSuffixes m) (λ at free e. spent T.noSuffixes isSuffix (E.suffix (within (c .before .before .before .before .args .levels))) src _ at (omega arith)) (nothing no-suffix-ended))))
 
 pub tails-ok : {M : Type 1} (t : ℕ) → tails-lts.Closed (tails-cs t) (tails-at t) tails.Post M
-tails-ok t = tails-lts.spec (tails-cs t) (tails-at t) tails.Post suffixes-Inv-loop suffixes-μ-loop (tails-less-requires t) (tails-loop-holds t) (tails-kind-here-requires t) (tails-is-suffix-requires t) (tails-tail-requires t) (tails-sub-turns t) (tails-loop-less t) (tails-loop-again t) (tails-same-length t) (tails-returns t) (tails-same-length-2 t) (tails-returns-2 t)
+tails-ok t = tails-lts.spec (tails-cs t) (tails-at t) tails.Post suffixes-Inv-loop suffixes-μ-loop (tails-minus-requires t) (tails-loop-holds t) (tails-kind-here-requires t) (tails-is-suffix-requires t) (tails-tail-requires t) (tails-sub-turns t) (tails-loop-less t) (tails-loop-again t) (tails-same-length t) (tails-returns t) (tails-same-length-2 t) (tails-returns-2 t)
 
 abbrev term-cs : ℕ → term-lts.Claims
 term-cs t = (kind-here-reads.Asked, kind-here-reads.Learnt, is-monadic-reads.Asked, is-monadic-reads.Learnt, monad-below t, monad.Post, whole-below t, whole.Post)

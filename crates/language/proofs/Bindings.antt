@@ -1,5 +1,5 @@
--- The ladder of bindings, one rung at a time: an expression of a binding is a chain of the operators of that binding, its left
--- operands of the binding before. Right operands are so too, but a shift's are sums. The rung of NOT has no dyadic operator: there
+-- The bindings, one after another: an expression of a binding is a chain of the operators of that binding, its left
+-- operands of the binding before. Right operands are so too, but a shift's are sums. The binding of NOT has no dyadic operator: there
 -- stands NOT and a shift expression, or a shift expression.
 use Prim.Native.Nat.{ℕ, zero, suc, _≤_}
 use mathlib.Core.Path.{_≡_, refl}

@@ -4,10 +4,10 @@ use mathlib.Core.Path.{refl}
 use mathlib.Core.List.{[], _∷_}
 use Rattle.tree.proofs.Helpers.{room-is, put2, added-grows, added-adds, adds-refused, refused-grows}
 use borrow.Author.Needs.{needs}
-use Rattle.tree.proofs.scratch.mark.Statement.{statement}
-use Rattle.tree.proofs.scratch.mark.Tie as tie
-use Rattle.tree.proofs.scratch.mark.Reads as reads
-use Rattle.tree.proofs.scratch.mark.Lts as lts
+use Rattle.tree.proofs.scratch.begin_item.Statement.{statement}
+use Rattle.tree.proofs.scratch.begin_item.Tie as tie
+use Rattle.tree.proofs.scratch.begin_item.Reads as reads
+use Rattle.tree.proofs.scratch.begin_item.Lts as lts
 
 enum-known-r : tie.Need-enum-known-r
 enum-known-r c = search needs
@@ -42,8 +42,8 @@ returns c = (added-grows (c .before .before .before .pre) (c .before .r .given .
 returns-2 : tie.Need-returns-2
 returns-2 c = (refused-grows (c .before .before .before .pre), adds-refused (c .before .r2 .given .1))
 
-pub mark-spec : {M : Type 1} → statement M
-mark-spec =
+pub begin-item-spec : {M : Type 1} → statement M
+begin-item-spec =
     tie.close
     (tie.spec
     enum-known-r
