@@ -9,7 +9,8 @@ use mathlib.Core.List.{List, [], _++_}
 use lib.ListN.{length, take, replicate}
 use Rattle.text.specs.Line.{refusal}
 use Rattle.machine.specs.Run.{run}
-use Rattle.machine.specs.Answers.{Ends}
+use Rattle.machine.specs.Answers.{Ends, outcomeOf}
+use Rattle.machine.proofs.Parts.{came-out}
 use Rattle.machine.specs.declared.Ran.{Ran}
 use Rattle.assembler.specs.Assemble.{Assembly, Assembles, assembled, numbers}
 use Rattle.assembler.specs.declared.Label.{Label}
@@ -25,8 +26,7 @@ use Rattle.compiler.specs.declared.Compiled.{Compiled}
 use Rattle.compiler.specs.declared.Compiled.the-variants as C
 use Rattle.code.proofs.Theorem.{faithful, proper}
 use Rattle.code.proofs.Instance.{source, written, answers, accepts as source-accepted, final, runs, low}
-use Rattle.execution.specs.Executes.{outcomeOf}
-use Rattle.execution.proofs.Following.{came-out, front}
+use Rattle.execution.proofs.Following.{front}
 
 -- a call of `compile`
 module _ {source scratch scratch′ text text′ : List ℕ} {answer : Compiled} (call : Compiles source scratch scratch′ text text′ answer) where

@@ -7,9 +7,9 @@ use lib.ListN.{length, take, replicate, length-append}
 use lib.Seq.{take-append-seam, length-take-le}
 use Rattle.text.specs.declared.Refusal.{Refusal}
 use Rattle.text.specs.Line.{refusal}
-use Rattle.machine.specs.State.{at}
-use Rattle.machine.specs.Run.{Outcome, run}
+use Rattle.machine.specs.Run.{run}
 use Rattle.machine.specs.Answers.{Ends}
+use Rattle.machine.proofs.Parts.{came-out}
 use Rattle.machine.specs.declared.Ran.{Ran}
 use Rattle.assembler.specs.Assemble.{Assembly, assembled}
 use Rattle.assembler.specs.Passes.{Loads}
@@ -24,15 +24,7 @@ use Rattle.compiler.specs.declared.Compiled.{Compiled}
 use Rattle.compiler.specs.declared.Compiled.the-variants as C
 use Rattle.execution.specs.declared.Executed.{Executed}
 use Rattle.execution.specs.declared.Executed.the-variants as E
-use Rattle.execution.specs.Executes.{outcomeOf, image, RanFrom, RanBy, RunsText, ExecutedBy, Delivers, Executes}
-
--- what came out is the definition's run
-pub came-out : {o : Outcome} {ran : Ran} {memory output : List ℕ} → Ends o ran memory output → o ≡ outcomeOf ran memory output
-came-out e = λ i. record {
-  stop = sym (e .stops) i;
-  count = sym (e .counts) i;
-  state = at (sym (e .leaves) i) (sym (e .stores) i) (sym (e .writes) i);
-}
+use Rattle.execution.specs.Executes.{image, RanFrom, RanBy, RunsText, ExecutedBy, Delivers, Executes}
 
 -- ---- a text
 

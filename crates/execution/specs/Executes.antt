@@ -5,9 +5,8 @@ use mathlib.Core.Path.{_≡_}
 use mathlib.Core.List.{List}
 use lib.ListN.{length, replicate}
 use Rattle.text.specs.Line.{refusal}
-use Rattle.machine.specs.State.{at}
-use Rattle.machine.specs.Run.{Outcome, run}
-use Rattle.machine.specs.Answers.{Ends}
+use Rattle.machine.specs.Run.{run}
+use Rattle.machine.specs.Answers.{Ends, outcomeOf}
 use Rattle.machine.specs.declared.Ran.{Ran}
 use Rattle.assembler.specs.Assemble.{Assembly, assembled}
 use Rattle.assembler.specs.declared.Assembled.{Assembled}
@@ -20,10 +19,6 @@ use Rattle.code.specs.Generate.{textOf}
 use Rattle.compiler.specs.Compiles.{decided, textAfter}
 use Rattle.execution.specs.declared.Executed.{Executed}
 use Rattle.execution.specs.declared.Executed.the-variants as E
-
--- a run as it came out
-abbrev pub outcomeOf : Ran → (memory output : List ℕ) → Outcome
-outcomeOf ran memory output = record { stop = ran .stop; count = ran .count; state = at (ran .registers) memory output }
 
 -- ---- a text, assembled with room for every label
 

@@ -12,12 +12,8 @@ use lib.Seq.{getD-set-other}
 use borrow.Author.Tests.{ne-eqb}
 use Rattle.machine.specs.State.{State, at, startRegisters}
 use Rattle.machine.specs.Step.{Turn, done, finished, stopped, step}
-use Rattle.machine.specs.Run.{Outcome, after, onTurn, steps, resume, run}
+use Rattle.machine.specs.Run.{Outcome, after, onTurn, steps, resume, carriedOn, run}
 use Rattle.machine.proofs.Shape.{Shape, quiet, one-more, ends, halts, Quiet, OneMore, shape}
-
--- a run that stopped for budget, carried on
-abbrev pub carriedOn : Outcome → (State → Outcome) → Outcome
-carriedOn o more = cond (eqb (o .stop) 31) (after (o .count) (more (o .state))) o
 
 after-carried : (o : Outcome) (more : State → Outcome) → after 1 (carriedOn o more) ≡ carriedOn (after 1 o) more
 after-carried o more = go (eqb (o .stop) 31) refl

@@ -11,8 +11,10 @@ use Rattle.machine.specs.State.{State, at, startRegisters}
 use Rattle.machine.specs.Fetch.{fetch}
 use Rattle.machine.specs.Acts.{indirected, returned, combined, search, switched, received, sent}
 use Rattle.machine.specs.Step.{keep, stored, called, jumped, perform, execute, step}
-use Rattle.machine.specs.Run.{Outcome, steps, resume, run}
-use Rattle.machine.proofs.Budget.{Grows, carriedOn, resume-add, budget-beginning}
+use Rattle.machine.specs.Run.{Outcome, steps, resume, carriedOn, largest, allowed, run}
+use Rattle.machine.specs.declared.Registers.{Registers}
+use Rattle.machine.proofs.Budget.{Grows, resume-add, budget-beginning}
+use Rattle.machine.proofs.Parts.{TwoParts, two-parts, inParts, parts-are-whole}
 use Rattle.machine.proofs.Without as W
 use Rattle.machine.proofs.Unchanged.{bareOutcome, run-unchanged}
 
@@ -157,6 +159,60 @@ unchanged = run-unchanged 100 letter [] (7 ∷ []) 100
 unchanged-count : W.run 100 letter [] (7 ∷ []) 100 .count ≡ 6
 unfolding letter value wordOf mul quot rem below shl shr read write search W.fetch W.indirected W.returned W.combined W.switched W.received W.sent W.keep W.stored W.called W.jumped W.perform W.execute W.step W.steps W.resume
 unchanged-count = refl
+
+-- ---- parts and places (document 02, Req 08)
+
+-- registers at the start, with those places in input and output
+placed : (taken written : ℕ) → Registers
+placed taken written =
+    record { a = 0; b = 0; c = 0; p = 100; g = 16; taken = taken; written = written; stored = false; from = 0; words = 0 }
+
+-- L65; X27; X28, from those places, with an input of two bytes and one byte of room that holds 7
+from-places : (taken written budget : ℕ) → Outcome
+from-places taken written budget = resume (10 ∷ 11 ∷ []) budget (at (placed taken written) (image (65 ∷ 57371 ∷ 57372 ∷ [])) (7 ∷ []))
+
+record Places : Type 0 where
+  -- an input place past the end reads -1, and stays
+  reads-end : from-places 9 0 2 .state .regs .a ≡ 65535
+  takes-none : from-places 9 0 2 .state .regs .taken ≡ 9
+  -- so does the largest place
+  reads-end-largest : from-places largest 0 2 .state .regs .a ≡ 65535
+  -- an output place past the room stops 35 at the next write: the two instructions before it are done
+  stops-full : from-places 0 9 9 .stop ≡ 35
+  done-before : from-places 0 9 9 .count ≡ 2
+  place-kept : from-places 0 9 9 .state .regs .written ≡ 9
+  room-kept : from-places 0 9 9 .state .out ≡ 7 ∷ []
+  -- two parts of the letter's run: two instructions, then four of 98 allowed; the whole run's six
+  first-part : ran 2 letter .count ≡ 2
+  second-part : resume [] 98 (ran 2 letter .state) .count ≡ 4
+  whole-run : ran 100 letter .count ≡ 6
+  -- a further budget is cut at the largest budget number
+  cut : allowed (largest - 3) 5 ≡ 3
+
+places : Places
+unfolding image letter ran placed from-places value wordOf mul quot rem below shl shr read write fetch indirected returned combined search switched received sent keep stored called jumped perform execute step steps resume
+places =
+    record {
+      reads-end = refl;
+      takes-none = refl;
+      reads-end-largest = refl;
+      stops-full = refl;
+      done-before = refl;
+      place-kept = refl;
+      room-kept = refl;
+      first-part = refl;
+      second-part = refl;
+      whole-run = refl;
+      cut = refl;
+    }
+
+-- closed instances of the laws of Parts: the letter's run in two parts, and in three
+halves : TwoParts (ran (2 + 98) letter) (ran 2 letter) (resume [] 98 (ran 2 letter .state))
+unfolding ran
+halves = two-parts [] 2 98 (at (startRegisters 100) letter (7 ∷ []))
+
+thirds : inParts [] (2 ∷ 1 ∷ 97 ∷ []) (at (startRegisters 100) letter (7 ∷ [])) ≡ run 100 letter [] (7 ∷ []) 100
+thirds = parts-are-whole [] (2 ∷ 1 ∷ 97 ∷ []) (at (startRegisters 100) letter (7 ∷ []))
 
 -- closed instances of the laws of Budget: the letter's run of 2 + 98 instructions, and of 2 against 100
 carried : run 100 letter [] (7 ∷ []) (2 + 98) ≡ carriedOn (run 100 letter [] (7 ∷ []) 2) (λ t. resume [] 98 t)

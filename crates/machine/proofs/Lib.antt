@@ -6,6 +6,7 @@ pub mod Runs
 pub mod Shape
 pub mod Budget
 pub mod Room
+pub mod Parts
 pub mod Without
 pub mod Unchanged
 pub mod Examples

@@ -1,14 +1,14 @@
 -- What the code's enums say of the definitions' outcomes.
-use Prim.Native.Nat.{ℕ}
+use Prim.Native.Nat.{ℕ, _+_, _≤_}
 use mathlib.Core.Path.{_≡_}
 use mathlib.Core.List.{List}
 use Rattle.words.specs.declared.Divided.{Divided}
 use Rattle.words.specs.declared.Divided.the-variants.{Is, ByZero}
 use Rattle.machine.specs.Outcome.{Out, ok, stop}
-use Rattle.machine.specs.State.{State, withC}
+use Rattle.machine.specs.State.{State, at, withC}
 use Rattle.machine.specs.Fetch.{Fetch}
 use Rattle.machine.specs.Step as S
-use Rattle.machine.specs.Run.{Outcome}
+use Rattle.machine.specs.Run.{Outcome, resume, carriedOn, largest, allowed}
 use Rattle.machine.specs.declared.Registers.{Registers}
 use Rattle.machine.specs.declared.Ran.{Ran}
 use Rattle.machine.specs.declared.Turn.{Turn}
@@ -75,3 +75,14 @@ pub record Ends (outcome : Outcome) (answer : Ran) (memory output : List ℕ) : 
   pub leaves : answer .registers ≡ outcome .state .regs
   pub stores : memory ≡ outcome .state .mem
   pub writes : output ≡ outcome .state .out
+
+-- a run as it came out
+abbrev pub outcomeOf : Ran → (memory output : List ℕ) → Outcome
+outcomeOf ran memory output = record { stop = ran .stop; count = ran .count; state = at (ran .registers) memory output }
+
+-- a first part, as it came out, carried on with budget m in the same memory and output
+pub record CarriesOn (input : List ℕ) (first : Ran) (memory output : List ℕ) (m : ℕ) (answer : Ran) (memory′ output′ : List ℕ) : Type 0 where
+  -- any first part: with m, or what is left to the largest budget number
+  pub carries : Ends (carriedOn (outcomeOf first memory output) (λ t. resume input (allowed (first .count) m) t)) answer memory′ output′
+  -- the first part of a run with budget n: what one run with n + m gives
+  pub whole : (n : ℕ) (s : State) → n + m ≤ largest → Ends (resume input n s) first memory output → Ends (resume input (n + m) s) answer memory′ output′

@@ -13,8 +13,8 @@ ghost use Rattle.machine.specs.Fetch.{fetch};
 ghost use Rattle.machine.specs.Forms.{fetchedAt, fetchedFrom, decoded};
 ghost use Rattle.machine.specs.Acts.{actOf, indirected, returned, combined, search, switched, received, sent};
 ghost use Rattle.machine.specs.Step.{turn, stored, called, jumped, perform, functionOf, execute, step};
-ghost use Rattle.machine.specs.Run.{steps, resume, run};
-ghost use Rattle.machine.specs.Answers.{asWord, asQuotient, asFetched, asActed, Turns, Ends};
+ghost use Rattle.machine.specs.Run.{steps, resume, allowed, run};
+ghost use Rattle.machine.specs.Answers.{asWord, asQuotient, asFetched, asActed, Turns, Ends, CarriesOn};
 ghost use Rattle.machine.specs.Numbers.{valueOf};
 use words::Divided;
 
@@ -554,7 +554,8 @@ fn go(start: Registers, memory: &mut [u16], input: &[u8], output: &mut [u8], bud
     }
 }
 
-// Goes on from any registers and places. Memory of a length outside 512 to 32,768 is refused 24.
+// Goes on from any registers and places: an input place past the end reads -1, an output place past the room stops 35 at the next
+// write. Memory of a length outside 512 to 32,768 is refused 24.
 pub fn resume(
     registers: Registers,
     memory: &mut [u16],
@@ -579,6 +580,33 @@ pub fn resume(
         };
     }
     go(registers, memory, input, output, budget)
+}
+
+// A further budget, or what is left to the largest budget number after so many instructions.
+fn allowed(done: u64, budget: u64) -> u64
+    ensures { λ r. ⌜ r ≡ allowed done budget ⌝ }
+{
+    let left = 18446744073709551615 - done;
+    if budget <= left { budget } else { left }
+}
+
+// Carries a first part on with a further budget, in the buffers that it was lent: what one run with both budgets gives. A first part that
+// stopped otherwise than for budget is the whole run.
+pub fn carry_on(first: Ran, memory: &mut [u16], input: &[u8], output: &mut [u8], budget: u64) -> Ran
+    ensures { λ r. ⌜ CarriesOn (now (input .entry)) first (now (memory .entry)) (now (output .entry)) budget r (now (memory .exit)) (now (output .exit)) ⌝ }
+{
+    if first.stop != 31 {
+        return first;
+    }
+    let done = first.count;
+    let registers = first.registers;
+    let rest = resume(registers, memory, input, output, allowed(done, budget));
+    let left = rest.registers;
+    Ran {
+        stop: rest.stop,
+        count: done + rest.count,
+        registers: left,
+    }
 }
 
 // Runs an image from its start, with its first stack word.
