@@ -1,8 +1,9 @@
 // bcpl FILE [BUDGET] < input
+// bcpl -c FILE [BUDGET] < input
 // bcpl -S FILE
 //
-// Compiles a BCPL source, assembles its text and runs it in 32,768 words with standard input as its input; with -S it prints the
-// text instead. Standard output gets exactly the run's bytes, the text, or a refusal's one line; whatever else is to be said goes to
+// Compiles a BCPL source, assembles its text and runs it in 32,768 words with standard input as its input; with -c it asks at the terminal
+// for a further budget where the run stops for budget, and carries it on; with -S it prints the text instead. Standard output gets exactly the run's bytes, the text, or a refusal's one line; whatever else is to be said goes to
 // standard error (crate `messages`). What a run does is `execution`'s to promise.
 ghost use mathlib.Core.Path.{_≡_};
 ghost use lib.ListN.{length};
@@ -36,10 +37,13 @@ fn say_usage() {
     say(
         b"usage: bcpl FILE [BUDGET] < input    runs a BCPL source, for BUDGET instructions at most\n",
     );
+    say(
+        b"       bcpl -c FILE [BUDGET]         the same, and asks for more when BUDGET is used up\n",
+    );
     say(b"       bcpl -S FILE                  prints the MINICODE text that is made of it\n");
 }
 
-fn run(source: &[u8], input: &[u8], budget: u64) {
+fn run(source: &[u8], input: &[u8], budget: u64, asks: bool) {
     let mut scratch = scratch();
     let mut text = room();
     let mut memory = words();
@@ -59,7 +63,7 @@ fn run(source: &[u8], input: &[u8], budget: u64) {
             say(b"The place is in the MINICODE text, which is printed by: bcpl -S FILE\n");
         }
         Executed::Ran(ran) => {
-            if !messages::carry_on(b"bcpl", ran, &mut memory, input, &mut output, budget) {
+            if !messages::carry_on(b"bcpl", ran, &mut memory, input, &mut output, budget, asks) {
                 say(b"What the machine runs is printed by: bcpl -S FILE\n");
             }
         }
@@ -79,7 +83,7 @@ fn compiles(source: &[u8]) -> bool {
     }
 }
 
-fn run_with_input(source: &[u8], budget: u64) {
+fn run_with_input(source: &[u8], budget: u64, asks: bool) {
     if !compiles(source) {
         return;
     }
@@ -87,16 +91,16 @@ fn run_with_input(source: &[u8], budget: u64) {
     let Loaded::Is(m) = messages::load_input(b"bcpl", &mut input) else {
         return;
     };
-    run(source, &input[..m], budget);
+    run(source, &input[..m], budget, asks);
 }
 
 // A source has 16,384 bytes at most, and one that does not fit the buffer is refused as too long by what does.
-fn run_file(path: &[u8], budget: u64) {
+fn run_file(path: &[u8], budget: u64, asks: bool) {
     let mut source = io::large_buffer();
     let Loaded::Is(n) = messages::load_file(b"bcpl", path, &mut source) else {
         return;
     };
-    run_with_input(&source[..n], budget);
+    run_with_input(&source[..n], budget, asks);
 }
 
 fn print_text(source: &[u8]) {
@@ -123,10 +127,31 @@ fn run_with_arguments(path: &[u8], count: usize) {
         say_usage();
         return;
     }
-    let Budget::Is(budget) = messages::budget_argument(b"bcpl", count) else {
+    let Budget::Is(budget) = messages::budget_argument(b"bcpl", 2, count) else {
         return;
     };
-    run_file(path, budget);
+    run_file(path, budget, false);
+}
+
+fn ask_with_arguments(count: usize) {
+    if count < 3 {
+        say_usage();
+        return;
+    }
+    if count > 4 {
+        say_usage();
+        return;
+    }
+    let Budget::Is(budget) = messages::budget_argument(b"bcpl", 3, count) else {
+        return;
+    };
+    let mut path = io::buffer();
+    let n = os::arg(2, &mut path);
+    if os::errno() != 0 {
+        os::fail(b"bcpl: FILE");
+        return;
+    }
+    run_file(&path[..n], budget, true);
 }
 
 fn print_with_arguments(count: usize) {
@@ -146,6 +171,10 @@ fn print_with_arguments(count: usize) {
 fn by_first_argument(first: &[u8], count: usize) {
     if !messages::is_option(first) {
         run_with_arguments(first, count);
+        return;
+    }
+    if messages::asks_for(first, b'c') {
+        ask_with_arguments(count);
         return;
     }
     if messages::asks_for(first, b'S') {

@@ -26,13 +26,13 @@ pub fn say_unknown_option(program: &[u8], option: &[u8]) {
     say(b"; nothing was run. (A file of that name is given as ./NAME.)\n");
 }
 
-// The budget after the file, if there is one. What is no number is said.
-pub fn budget_argument(program: &[u8], count: usize) -> Budget {
-    if count < 3 {
+// The budget that is argument `at`, if there is one. What is no number is said.
+pub fn budget_argument(program: &[u8], at: usize, count: usize) -> Budget {
+    if count <= at {
         return Budget::Is(1000000000);
     }
     let mut digits = io::buffer();
-    let n = os::arg(2, &mut digits);
+    let n = os::arg(at, &mut digits);
     let budget = budget_of(&digits[..n]);
     match budget {
         Budget::Is(_) => budget,

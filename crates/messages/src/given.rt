@@ -41,7 +41,7 @@ pub fn budget_of(digits: &[u8]) -> Budget {
         if c > 57 {
             return Budget::Not;
         }
-        if value > 1844674407370955160 {
+        if value > 1844674407370955161 {
             return Budget::Not;
         }
         let tens = value * 10;
@@ -76,6 +76,10 @@ fn load(program: &[u8], fd: i32, buffer: &mut [u8], name: &[u8]) -> Loaded
     if n > MOST {
         say_too_long(program, name);
         return Loaded::Not;
+    }
+    // A further read tells an end from a failure; at a terminal it would wait for a further line.
+    if libc::isatty(fd) == 1 {
+        return Loaded::Is(n);
     }
     let mut more = [0u8; 1];
     if libc::read(fd, &mut more) < 0 {

@@ -2,10 +2,11 @@
 //
 // Standard output gets a refusal's one line; all that is said to a reader goes to standard error. `causes` says what is wrong,
 // `advice` what to do, each by document 01's number; `excerpt` shows the line with a caret under the place; `given` takes what
-// the user gives: a budget, a file, standard input, and `arguments` how; `running` runs an image and writes its output out. No contract can say
-// what is written, so most functions here have none: they are proved safe, and to end.
+// the user gives: a budget, a file, standard input, and `arguments` how; `running` runs an image and writes its output out, and `asking` asks for a
+// further budget. No contract can say what is written, so most functions here have none: they are proved safe, and to end.
 mod advice;
 mod arguments;
+mod asking;
 mod causes;
 mod excerpt;
 mod given;
@@ -103,7 +104,7 @@ fn say_last_store(r: Registers) {
     say(b".\n");
 }
 
-// A stop other than 30: what happened, after how many instructions, with C where, what was stored last, and what to do.
+// A stop other than 30: what happened, after how many instructions, with C where, and what was stored last.
 pub fn say_stop(program: &[u8], stop: u16, count: u64, r: Registers) {
     say(program);
     say(b": stopped ");
@@ -118,5 +119,4 @@ pub fn say_stop(program: &[u8], stop: u16, count: u64, r: Registers) {
     if count > 0 {
         say_last_store(r);
     }
-    advice::say_stop_advice(stop);
 }

@@ -1,4 +1,7 @@
-// The run of an image, its output written out as it comes.
+// The run of an image, its output written out as it comes, and carried on with a further budget where the user is to be asked.
+use crate::advice::say_stop_advice;
+use crate::asking::further_budget;
+use crate::say;
 use crate::say_stop;
 use libc::STDOUT_FILENO;
 use machine::Ran;
@@ -11,8 +14,35 @@ fn flush(output: &[u8], written: usize) -> bool {
     false
 }
 
-// Goes on with a run until a stop other than 35, writing the output out whenever it is full; whether it finished. Any other stop is
-// said. The budget is that of the whole run, of which `first` is the beginning.
+// The stop with which a run ends, if it did not finish.
+fn say_end(program: &[u8], stop: u16, ran: Ran) {
+    let r = ran.registers;
+    say_stop(program, stop, ran.count, r);
+    say_stop_advice(stop);
+}
+
+// Says a stop; how many instructions the run is to go on with, 0 for none.
+fn further(program: &[u8], ran: Ran, asks: bool) -> u64 {
+    let stop = ran.stop;
+    if stop == 31 {
+        if asks {
+            let r = ran.registers;
+            say_stop(program, stop, ran.count, r);
+            return further_budget(program);
+        }
+    }
+    say_end(program, stop, ran);
+    0
+}
+
+fn say_too_much(program: &[u8]) {
+    say(program);
+    say(b": all budgets together are to be at most 18446744073709551615.\n");
+}
+
+// Goes on with a run until it finishes or is to go on no more; whether it finished. At each stop the output is written out, and its room is
+// free again: a run stopped by 35 goes on with what is left of its budget, one stopped by 31, if the user is to be asked, with a further
+// budget. `first` is the first part, with that budget.
 pub fn carry_on(
     program: &[u8],
     first: Ran,
@@ -20,34 +50,51 @@ pub fn carry_on(
     input: &[u8],
     output: &mut [u8],
     budget: u64,
+    asks: bool,
 ) -> bool {
     let mut ran = first;
-    let mut left = budget;
+    let mut allowed = budget;
+    let mut before = 0;
     loop {
         let mut r = ran.registers;
-        let done = ran.count;
-        if done > left {
-            return false;
-        }
-        left -= done;
-        if !flush(output, r.written) {
-            say_stop(program, 35, budget - left, r);
-            return false;
-        }
-        r.written = 0;
         let stop = ran.stop;
+        let count = ran.count;
+        if !flush(output, r.written) {
+            say_end(program, 35, ran);
+            return false;
+        }
         if stop == 30 {
             return true;
         }
-        if stop != 35 {
-            say_stop(program, stop, budget - left, r);
-            return false;
+        let mut more = 0;
+        if stop == 35 {
+            if count <= before {
+                say_end(program, stop, ran);
+                return false;
+            }
+            if count > allowed {
+                return false;
+            }
+            before = count;
+            more = allowed - count;
+        } else {
+            more = further(program, ran, asks);
+            if more == 0 {
+                return false;
+            }
+            if more > 18446744073709551615 - allowed {
+                say_too_much(program);
+                return false;
+            }
+            allowed += more;
         }
-        if done == 0 {
-            say_stop(program, stop, budget - left, r);
-            return false;
-        }
-        ran = machine::resume(r, memory, input, output, left);
+        r.written = 0;
+        let part = Ran {
+            stop: 31,
+            count: count,
+            registers: r,
+        };
+        ran = machine::carry_on(part, memory, input, output, more);
     }
 }
 
@@ -58,8 +105,9 @@ pub fn run_image(
     memory: &mut [u16],
     input: &[u8],
     budget: u64,
+    asks: bool,
 ) -> bool {
     let mut output = io::large_buffer();
     let ran = machine::run(memory, first, input, &mut output, budget);
-    carry_on(program, ran, memory, input, &mut output, budget)
+    carry_on(program, ran, memory, input, &mut output, budget, asks)
 }

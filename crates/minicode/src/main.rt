@@ -1,8 +1,9 @@
 // minicode FILE [BUDGET] < input
+// minicode -c FILE [BUDGET] < input
 // minicode -l FILE
 //
-// Assembles a MINICODE text and runs it in 32,768 words with standard input as its input; with -l it lists the text beside
-// its words instead. Standard output gets exactly the run's bytes, the list, or a refusal's one line; whatever else is to be
+// Assembles a MINICODE text and runs it in 32,768 words with standard input as its input; with -c it asks at the terminal for a further
+// budget where the run stops for budget, and carries it on; with -l it lists the text beside its words instead. Standard output gets exactly the run's bytes, the list, or a refusal's one line; whatever else is to be
 // said goes to standard error (crate `messages`).
 mod listing;
 
@@ -23,6 +24,9 @@ fn words() -> [u16; 32768]
 fn say_usage() {
     say(
         b"usage: minicode FILE [BUDGET] < input    runs a MINICODE text, for BUDGET instructions at most\n",
+    );
+    say(
+        b"       minicode -c FILE [BUDGET]         the same, and asks for more when BUDGET is used up\n",
     );
     say(b"       minicode -l FILE                  lists the text with its addresses and words\n");
 }
@@ -45,22 +49,22 @@ fn say_after_stop(started: bool) {
 }
 
 // Runs an image with standard input as its input.
-fn run(first: u16, memory: &mut [u16], budget: u64) {
+fn run(first: u16, memory: &mut [u16], budget: u64, asks: bool) {
     let started = has_start(memory);
     let mut input = messages::bytes();
     let Loaded::Is(m) = messages::load_input(b"minicode", &mut input) else {
         return;
     };
-    if !messages::run_image(b"minicode", first, memory, &input[..m], budget) {
+    if !messages::run_image(b"minicode", first, memory, &input[..m], budget, asks) {
         say_after_stop(started);
     }
 }
 
-fn assemble_and_run(source: &[u8], budget: u64) {
+fn assemble_and_run(source: &[u8], budget: u64, asks: bool) {
     let mut memory = words();
     match assembler::load(source, &mut memory) {
         Assembled::Refused(r) => messages::say_refusal(b"minicode", source, r),
-        Assembled::Accepted(first) => run(first, &mut memory, budget),
+        Assembled::Accepted(first) => run(first, &mut memory, budget, asks),
     }
 }
 
@@ -72,12 +76,12 @@ fn assemble_and_list(source: &[u8]) {
     }
 }
 
-fn run_file(path: &[u8], budget: u64) {
+fn run_file(path: &[u8], budget: u64, asks: bool) {
     let mut source = messages::bytes();
     let Loaded::Is(n) = messages::load_file(b"minicode", path, &mut source) else {
         return;
     };
-    assemble_and_run(&source[..n], budget);
+    assemble_and_run(&source[..n], budget, asks);
 }
 
 fn list_file(path: &[u8]) {
@@ -93,10 +97,31 @@ fn run_with_arguments(path: &[u8], count: usize) {
         say_usage();
         return;
     }
-    let Budget::Is(budget) = messages::budget_argument(b"minicode", count) else {
+    let Budget::Is(budget) = messages::budget_argument(b"minicode", 2, count) else {
         return;
     };
-    run_file(path, budget);
+    run_file(path, budget, false);
+}
+
+fn ask_with_arguments(count: usize) {
+    if count < 3 {
+        say_usage();
+        return;
+    }
+    if count > 4 {
+        say_usage();
+        return;
+    }
+    let Budget::Is(budget) = messages::budget_argument(b"minicode", 3, count) else {
+        return;
+    };
+    let mut path = io::buffer();
+    let n = os::arg(2, &mut path);
+    if os::errno() != 0 {
+        os::fail(b"minicode: FILE");
+        return;
+    }
+    run_file(&path[..n], budget, true);
 }
 
 fn list_with_arguments(count: usize) {
@@ -116,6 +141,10 @@ fn list_with_arguments(count: usize) {
 fn by_first_argument(first: &[u8], count: usize) {
     if !messages::is_option(first) {
         run_with_arguments(first, count);
+        return;
+    }
+    if messages::asks_for(first, b'c') {
+        ask_with_arguments(count);
         return;
     }
     if messages::asks_for(first, b'l') {

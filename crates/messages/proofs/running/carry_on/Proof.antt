@@ -1,47 +1,34 @@
--- Each turn that goes on did an instruction, so what is left of the budget falls; memory and output keep their lengths.
+-- Each turn that goes on did more instructions than the last one with a full output, or adds to the budget; memory and output keep their
+-- lengths.
 use borrow.Author.Needs.{needs}
+use mathlib.Core.Logic.{⊎-elim}
 use mathlib.Core.Path.{_≡_}
-use Prim.Native.Nat.{_-_, _≤_}
+use native.Mathlib.Omega.{arith}
+use Prim.Native.Nat.{_+_, _-_, _≤_}
 use lib.ListN.{length}
 use Rattle.messages.proofs.running.carry_on.Statement.{statement}
 use Rattle.messages.proofs.running.carry_on.Tie as tie
 
 abbrev Inv-loop : tie.InvT-loop
-Inv-loop program memory₀ input output₀ budget ran₀ left₀ memory output ran left =
-    (left ≤ budget) × (length memory ≡ length memory₀) × (length output ≡ length output₀)
+Inv-loop program memory₀ input output₀ budget asks ran₀ allowed₀ before₀ memory output ran allowed before =
+    (allowed ≤ 18446744073709551615) × (before ≤ 18446744073709551615) × (length memory ≡ length memory₀) × (length output ≡ length output₀)
 
 abbrev μ-loop : tie.MeasureT-loop
-μ-loop program memory₀ input output₀ budget ran₀ left₀ memory output ran left = left
+μ-loop program memory₀ input output₀ budget asks ran₀ allowed₀ before₀ memory output ran allowed before =
+    18446744073709551615 - allowed + (18446744073709551615 - before)
+
+loop-less : tie.Need-loop-less Inv-loop μ-loop
+loop-less c = ⊎-elim (λ w. omega arith) (λ w. omega arith) (c .before .before .before .before .before .before .before .if3 .came)
+
+loop-again : tie.Need-loop-again Inv-loop μ-loop
+loop-again c =
+    (⊎-elim (λ w. omega arith) (λ w. omega arith) (c .before .before .before .before .before .before .before .if3 .came), ⊎-elim (λ w. omega arith) (λ w. omega arith) (c .before .before .before .before .before .before .before .if3 .came), omega arith, omega arith)
 
 pub carry-on-spec : {M : Type 1} → statement M
 carry-on-spec =
     tie.close
-    (tie.spec
-    Inv-loop
-    μ-loop
-    (search needs)
-    (search needs)
-    (search needs)
-    (search needs)
-    (search needs)
-    (search needs)
-    (search needs)
-    (search needs)
-    (search needs)
-    (search needs)
-    (search needs)
-    (search needs)
-    (search needs)
-    (search needs)
-    (search needs)
-    (search needs)
-    (search needs)
-    (search needs)
-    (search needs)
-    (search needs)
-    (search needs)
-    (search needs)
-    (search needs)
-    (search needs)
-    (search needs)
-    (search needs))
+    (tie.spec Inv-loop μ-loop (search needs) (search needs) (search needs) (search needs) (search needs)
+    (search needs) (search needs) (search needs) (search needs) (search needs) (search needs) (search needs)
+    (search needs) (search needs) (search needs) (search needs) (search needs) (search needs) (search needs)
+    (search needs) (search needs) (search needs) (search needs) (search needs) (search needs) (search needs)
+    (search needs) loop-less loop-again)
