@@ -2,7 +2,7 @@
 # Holds what a program says to the files in messages/, on standard output and on standard error.
 #     messages.sh PROGRAM
 # A case is NAME.args, the words that the program is given in that directory; NAME.out and NAME.err are what it has to write.
-# Exits 1 if a case differs, and shows how. The last three cases need more than a file of words.
+# Exits 1 if a case differs, and shows how. The last five cases need more than a file of words.
 program=$(readlink -f "$1") || exit 2
 [ -x "$program" ] || { echo "usage: messages.sh PROGRAM" >&2; exit 2; }
 cd "$(dirname "$0")/messages" || exit 2
@@ -42,6 +42,19 @@ if [ -c /dev/full ]; then
     : > "$said/out"
     "$program" writes.min < /dev/null > /dev/full 2> "$said/err"
     hold output-full
+fi
+
+# A further budget, asked for at a terminal (which `script` makes, of util-linux): what is no number, and then enough to finish.
+if script -q -E never -c true /dev/null < /dev/null > /dev/null 2>&1; then
+    : > "$said/err"
+    printf '1\nsoon\n1\n1\n9\n' | script -q -E never -c "$program -c store-one.min 2 < /dev/null" /dev/null | tr -d '\r' > "$said/out"
+    hold further
+fi
+
+# And with no terminal.
+if setsid -w true 2> /dev/null; then
+    setsid -w "$program" -c store-one.min 2 < /dev/null > "$said/out" 2> "$said/err"
+    hold further-nowhere
 fi
 
 echo "$count messages, $failed differ"

@@ -34,6 +34,7 @@ fn compare_all(library: Option<Library>, cases: u64) -> Result<String, String> {
     let mut stops = Tally::new();
     let mut resumed = Tally::new();
     let mut stored = Tally::new();
+    let mut in_parts = Tally::new();
     let mut acts = Tally::new();
     for number in 0..cases {
         let seed = number;
@@ -62,6 +63,9 @@ fn compare_all(library: Option<Library>, cases: u64) -> Result<String, String> {
         let wanted = compare_image(library, &case, seed).map_err(|report| headed("image", number, seed, &report))?;
         *stops.entry(wanted.stop).or_default() += 1;
         *stored.entry(u64::from(wanted.registers.last_store.words)).or_default() += 1;
+        let parts = compare_parts(library, &case, &wanted, seed)
+            .map_err(|report| headed("image in parts", number, seed, &report))?;
+        *in_parts.entry(parts.min(3)).or_default() += 1;
         let wanted_on = compare_resumed(library, &case, wanted.count, seed)
             .map_err(|report| headed("resumed image", number, seed, &report))?;
         *resumed.entry(wanted_on.stop).or_default() += 1;
@@ -73,10 +77,11 @@ fn compare_all(library: Option<Library>, cases: u64) -> Result<String, String> {
     let told_texts =
         format!("{} texts ({} accepted, {})", 2 * cases, often(&texts, 0), enough(&texts, &REFUSALS, least)?);
     let told_images = format!(
-        "{cases} images ({}; carried on {}; words stored last {})",
+        "{cases} images ({}; carried on {}; words stored last {}; in one, two and more parts {})",
         enough(&stops, &STOPS, least)?,
         enough(&resumed, &STOPS, least)?,
-        enough(&stored, &[0, 1, 2], least)?
+        enough(&stored, &[0, 1, 2], least)?,
+        enough(&in_parts, &[1, 2, 3], least)?
     );
     if library.is_some() {
         return Ok(format!("compared {told_texts} and {told_images}: all equal"));
@@ -189,6 +194,59 @@ fn compare_image(library: Option<Library>, case: &ImageCase, seed: u64) -> Resul
         }
     }
     Err(report)
+}
+
+/// A run carried on from where it stopped, with a further budget: by the proved library, or without it by the second machine.
+fn carried_on(
+    library: Option<Library>,
+    from: &Ran,
+    memory: &mut [u16],
+    input: &[u8],
+    output: &mut [u8],
+    budget: u64,
+) -> Ran {
+    let Some(library) = library else {
+        return machine::resume(from.registers, from.taken, from.written, memory, input, output, budget);
+    };
+    let machine::Registers { a, b, c, p, g, last_store } = from.registers;
+    let mut answer = [0; 12];
+    (library.resume)([a, b, c, p, g], from.taken, from.written, last_store, memory, input, output, budget, &mut answer);
+    let [stop, count, taken, written, registers @ ..] = answer;
+    let [a, b, c, p, g, any, first, words] = registers.map(|number| number as u16);
+    let last_store = Store { any: any == 1, first, words };
+    let registers = machine::Registers { a, b, c, p, g, last_store };
+    Ran { stop, count, taken: taken as usize, written: written as usize, registers }
+}
+
+/// Runs a case in two parts, and then in many, in the same buffers, until a part stops otherwise than for budget or the
+/// budgets add up to the whole: this must give what the second machine's whole run gave. How many parts were begun at most.
+fn compare_parts(library: Option<Library>, case: &ImageCase, whole: &Ran, seed: u64) -> Result<u64, String> {
+    let mut random = Random::new(seed ^ 0x5555);
+    let (_, whole_memory, whole_output) = second_run(case, case.budget);
+    let start = second_run(case, 0).0;
+    let mut most = 0;
+    for many in [false, true] {
+        let (mut memory, mut output) = (case.memory.clone(), case.output.clone());
+        let mut now = Ran { stop: 31, ..start };
+        let (mut left, mut parts) = (case.budget, 0);
+        while now.stop == 31 && (parts == 0 || left > 0) {
+            let part = match parts {
+                1 if !many => left,
+                _ => (random.next() % (whole.count + 2)).min(left),
+            };
+            let next = carried_on(library, &now, &mut memory, &case.input, &mut output, part);
+            now = Ran { count: now.count + next.count, ..next };
+            left -= part;
+            parts += 1;
+        }
+        if numbers(&now) != numbers(whole) || memory != whole_memory || output != whole_output {
+            let report = told_image(case);
+            let [given, wanted] = [numbers(&now), numbers(whole)];
+            return Err(format!("{report}{NUMBERS}:\nin {parts} parts {given:?}\nat once {wanted:?}\n"));
+        }
+        most = most.max(parts);
+    }
+    Ok(most)
 }
 
 /// The second machine's answer to a case carried on from where some budget left it, sometimes with other registers and
