@@ -3,8 +3,9 @@
 // bcpl -S FILE
 //
 // Compiles a BCPL source, assembles its text and runs it in 32,768 words with standard input as its input; with -c it asks at the terminal
-// for a further budget where the run stops for budget, and carries it on; with -S it prints the text instead. Standard output gets exactly the run's bytes, the text, or a refusal's one line; whatever else is to be said goes to
-// standard error (crate `messages`). What a run does is `execution`'s to promise.
+// for a further budget where the run stops for budget, and carries it on; with -S it prints the text instead. Standard output gets exactly
+// the run's bytes, the text, or a refusal's one line; whatever else is to be said goes to standard error (crate `messages`). What a run does
+// is `execution`'s to promise.
 ghost use mathlib.Core.Path.{_≡_};
 ghost use lib.ListN.{length};
 use compiler::Compiled;

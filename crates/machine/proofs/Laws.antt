@@ -129,7 +129,8 @@ module _ (x : ℕ) (r : Registers) (m out : List ℕ) where
     called-past h = simp (← hq, write-past m q (r .p) h)
 
     module _ {j : ℕ} (hj : j ≡ add q 1) where
-      called-in : q < length m → j < length m → called x (at r m out) ≡ ok (at (havingStored q 2 (framed q (r .a) r)) (set (set m q (r .p)) j (r .c)) out)
+      called-in : q < length m → j < length m
+          → called x (at r m out) ≡ ok (at (havingStored q 2 (framed q (r .a) r)) (set (set m q (r .p)) j (r .c)) out)
       unfolding called
       called-in h k = simp (← hq, ← hj, write-in m q (r .p) h, write-in (set m q (r .p)) j (r .c) (simp length-set k))
 

@@ -136,7 +136,9 @@ module _ (input : List ℕ) (first : Ran) (memory output : List ℕ) (m : ℕ) w
   -- a first part that stopped otherwise is the whole run
   pub carry-whole : (first .stop ≡ 31 → ⊥) → CarriesOn input first memory output m first memory output
   carry-whole z =
-      carries (rw (carried-other (outcomeOf first memory output) onwards z) (record { stops = refl; counts = refl; leaves = refl; stores = refl; writes = refl }))
+      carries
+      (rw (carried-other (outcomeOf first memory output) onwards z)
+      (record { stops = refl; counts = refl; leaves = refl; stores = refl; writes = refl }))
 
   module _ {b : ℕ} (hb : b ≡ allowed (first .count) m) {rest : Ran} {memory′ output′ : List ℕ}
       (e : Ends (resume input b (at (first .registers) memory output)) rest memory′ output′) where
@@ -147,4 +149,10 @@ module _ (input : List ℕ) (first : Ran) (memory output : List ℕ) (m : ℕ) w
         (record { stop = rest .stop; count = first .count + rest .count; registers = rest .registers }) memory′ output′
     carry-rest z =
         carries (rw (carried-31 (outcomeOf first memory output) onwards z, ← hb)
-        (record { stops = e .stops; counts = ap (λ (k : ℕ). first .count + k) (e .counts); leaves = e .leaves; stores = e .stores; writes = e .writes }))
+        (record {
+          stops = e .stops;
+          counts = ap (λ (k : ℕ). first .count + k) (e .counts);
+          leaves = e .leaves;
+          stores = e .stores;
+          writes = e .writes;
+        }))

@@ -160,5 +160,6 @@ resume-unchanged input n s = go (leb 512 (length (s .mem)) && leb (length (s .me
     go true e = rw e (steps-unchanged input n s)
     go false e = rw e refl
 
-pub run-unchanged : (first : ℕ) (memory input output : List ℕ) (n : ℕ) → bareOutcome (run first memory input output n) ≡ W.run first memory input output n
+pub run-unchanged : (first : ℕ) (memory input output : List ℕ) (n : ℕ)
+    → bareOutcome (run first memory input output n) ≡ W.run first memory input output n
 run-unchanged first memory input output n = resume-unchanged input n _

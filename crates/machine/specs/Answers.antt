@@ -85,4 +85,5 @@ pub record CarriesOn (input : List ℕ) (first : Ran) (memory output : List ℕ)
   -- any first part: with m, or what is left to the largest budget number
   pub carries : Ends (carriedOn (outcomeOf first memory output) (λ t. resume input (allowed (first .count) m) t)) answer memory′ output′
   -- the first part of a run with budget n: what one run with n + m gives
-  pub whole : (n : ℕ) (s : State) → n + m ≤ largest → Ends (resume input n s) first memory output → Ends (resume input (n + m) s) answer memory′ output′
+  pub whole : (n : ℕ) (s : State) → n + m ≤ largest → Ends (resume input n s) first memory output
+      → Ends (resume input (n + m) s) answer memory′ output′

@@ -3,8 +3,8 @@
 // minicode -l FILE
 //
 // Assembles a MINICODE text and runs it in 32,768 words with standard input as its input; with -c it asks at the terminal for a further
-// budget where the run stops for budget, and carries it on; with -l it lists the text beside its words instead. Standard output gets exactly the run's bytes, the list, or a refusal's one line; whatever else is to be
-// said goes to standard error (crate `messages`).
+// budget where the run stops for budget, and carries it on; with -l it lists the text beside its words instead. Standard output gets exactly
+// the run's bytes, the list, or a refusal's one line; whatever else is to be said goes to standard error (crate `messages`).
 mod listing;
 
 ghost use mathlib.Core.Path.{_≡_};

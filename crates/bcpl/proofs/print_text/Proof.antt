@@ -11,59 +11,45 @@ use Rattle.compiler.proofs.compile.Reads as compile-reads
 use Rattle.io.proofs.write_all.Reads as write-all-reads
 use Rattle.messages.proofs.say_refusal.Reads as say-refusal-reads
 
--- src/main.rt:103:23
 scratch-requires : tie.Need-scratch-requires
 scratch-requires c κs = search needs
 
--- src/main.rt:104:20
 room-requires : tie.Need-room-requires
 room-requires c κs = search needs
 
--- src/main.rt:105:37
 slice-aggregate-compile : tie.Need-slice-aggregate-compile
 slice-aggregate-compile c = search needs
 
--- src/main.rt:105:51
 slice-aggregate-compile-2 : tie.Need-slice-aggregate-compile-2
 slice-aggregate-compile-2 c = search needs
 
--- src/main.rt:105:11
 compile-requires : tie.Need-compile-requires
 compile-requires c κs = search needs
 
--- src/main.rt:106:28
 enum-known-n : tie.Need-enum-known-n
 enum-known-n c = search needs
 
--- src/main.rt:107:42
 array-share-prefix-text : tie.Need-array-share-prefix-text
 array-share-prefix-text c = text-fits (c .before .before .before .before .before .compile .ensures) (c .before .n .given .1)
 
--- src/main.rt:107:42
 slice-aggregate-write-all : tie.Need-slice-aggregate-write-all
 slice-aggregate-write-all c = text-front (c .before .before .before .before .before .before .compile .ensures) (c .before .before .n .given .1)
 
--- src/main.rt:107:13
 write-all-requires : tie.Need-write-all-requires
 write-all-requires c κs = search needs
 
--- src/main.rt:109:27
 enum-known-r : tie.Need-enum-known-r
 enum-known-r c = search needs
 
--- src/main.rt:109:55
 slice-aggregate-say-refusal : tie.Need-slice-aggregate-say-refusal
 slice-aggregate-say-refusal c = search needs
 
--- src/main.rt:109:33
 say-refusal-requires : tie.Need-say-refusal-requires
 say-refusal-requires c κs = search needs
 
--- src/main.rt:102:1
 returns : tie.Need-returns
 returns c = search needs
 
--- src/main.rt:102:1
 returns-2 : tie.Need-returns-2
 returns-2 c = search needs
 

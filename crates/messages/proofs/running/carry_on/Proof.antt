@@ -1,5 +1,5 @@
--- Each turn that goes on did more instructions than the last one with a full output, or adds to the budget; memory and output keep their
--- lengths.
+-- Each turn that goes on did more instructions than the last one that had a full output, or adds to the budget; memory and output keep
+-- their lengths.
 use borrow.Author.Needs.{needs}
 use mathlib.Core.Logic.{⊎-elim}
 use mathlib.Core.Path.{_≡_}
@@ -22,7 +22,8 @@ loop-less c = ⊎-elim (λ w. omega arith) (λ w. omega arith) (c .before .befor
 
 loop-again : tie.Need-loop-again Inv-loop μ-loop
 loop-again c =
-    (⊎-elim (λ w. omega arith) (λ w. omega arith) (c .before .before .before .before .before .before .before .if3 .came), ⊎-elim (λ w. omega arith) (λ w. omega arith) (c .before .before .before .before .before .before .before .if3 .came), omega arith, omega arith)
+    let by = c .before .before .before .before .before .before .before .if3 .came in
+    (⊎-elim (λ w. omega arith) (λ w. omega arith) by, ⊎-elim (λ w. omega arith) (λ w. omega arith) by, omega arith, omega arith)
 
 pub carry-on-spec : {M : Type 1} → statement M
 carry-on-spec =
