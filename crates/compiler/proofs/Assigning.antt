@@ -218,7 +218,7 @@ module _ (text t₀ : List ℕ) {s₀ : List ℕ} {left right end : ℕ} {here :
   pub assign-end : {s t : List ℕ} {l at : ℕ} {st : State} → end ≤ at → ((y : ReadyAssign s₀ left right end here st₀) → AssignPart y s t l at st) → GaveAssign text s₀ s left right end here t₀ t st₀ st
   unfolding inSides inRightSides sides G.pairsCode ofPairs G.pairsLabels T.count
   assign-end {s} {t} {l} {at} {st} k q = record {
-    by = λ y. let p = q y in let e = no-arg (p .rights) (p .ends) k in let f = no-count (p .lefts) (p .counts ∙ ap T.count e) in record {
+    by = λ y. let p = q y in let e = no-arg (p .rights) (omega (arith, p .ends)) in let f = no-count (p .lefts) (p .counts ∙ ap T.count e) in record {
       keeps = p .keeps;
       did = p .finish t st
           (subst (λ (ls : Expressions). Did (inSides text (y .ready .scope) (leavable here) (here .height + 1) ls ++ inRightSides text (y .ready .scope) (leavable here) (here .height) (p .rights)) (pairsSays here (pairUp (sides text (y .ready .scope) (here .height + 1) ls) (sides text (y .ready .scope) (here .height) (p .rights)))) (2 * (length (encodeSides (p .lefts)) + length (encodeExpressions (p .rights)))) t t st st) (sym f)

@@ -33,7 +33,7 @@ use Rattle.compiler.specs.Commands.{cmdSays, cmdsSays, ReadyC, GaveC, Re
 use Rattle.compiler.specs.Locals.{Local, aVector, someValues, withLocal, encodeLocal, localDepth, FineLocal, scopeWith, heightWith, faultsL, localSays, ReadyLocal, GaveLocal, localsSays, ReadyLocals, GaveLocals}
 use Rattle.compiler.proofs.Done.{did-none, did-then, did-as, same-refl, same-eq, code-is}
 use Rattle.compiler.proofs.Trees.{first, second, keeps-lies, ends}
-use Rattle.compiler.proofs.Parts.{sub, Part}
+use Rattle.compiler.proofs.Lists.{First, first-of, Kind, Part, begins, ready-one, rest-length, goes-on, ended}
 use Rattle.compiler.proofs.Calls.{count-resolved}
 use Rattle.compiler.proofs.Forms as F
 use Rattle.compiler.proofs.Forms.{Form, form-at}
@@ -41,100 +41,69 @@ use Rattle.compiler.proofs.Anywhere.{any-expressions}
 
 -- ---- a list of commands
 
-pub record IsCmd (s : List ℕ) (at end : ℕ) (cs : Commands) : Type 0 where
-  pub part : Command
-  pub more : Commands
-  pub same : cs ≡ T.andCommand part more
-  pub size-of : getD s at 0 ≡ length (encodeCommand part)
-  pub lies : Lies s (at + 2) (encodeCommand part)
-  pub lies-more : Lies s (at + 2 + length (encodeCommand part)) (encodeCommands more)
-  pub ends : end ≡ at + 2 + length (encodeCommand part) + length (encodeCommands more)
-
-pub is-cmd : {s : List ℕ} {at end : ℕ} (cs : Commands) → Lies s at (encodeCommands cs) → end ≡ at + length (encodeCommands cs) → at < end → IsCmd s at end cs
+pub is-cmd : {s : List ℕ} {at end : ℕ} (cs : Commands) → Lies s at (encodeCommands cs) → end ≡ at + length (encodeCommands cs) → at < end
+    → First encodeCommands encodeCommand (λ c. 0) T.andCommand s at end cs
 unfolding encodeCommands
 is-cmd T.noCommands h e l = absurd (omega arith)
-is-cmd {s} {at} {end} (T.andCommand c cs) h e l =
-    let two = length (encodeCommand c) ∷ 0 ∷ [] in
-    let a : at + 0 ≡ at = omega arith in
-    let r = second two (encodeCommand c ++ encodeCommands cs) (at + 2) h refl in
-    record {
-      part = c;
-      more = cs;
-      same = refl;
-      size-of = ap (λ (k : ℕ). getD s k 0) (sym a) ∙ h .at 0 (omega arith);
-      lies = first (encodeCommand c) (encodeCommands cs) r;
-      lies-more = second (encodeCommand c) (encodeCommands cs) (at + 2 + length (encodeCommand c)) r refl;
-      ends = omega (arith, e, length-append (encodeCommand c) (encodeCommands cs));
-    }
+is-cmd (T.andCommand c cs) h e l = first-of encodeCommands encodeCommand (λ c. 0) T.andCommand c cs h e
+
+pub no-cmd : (cs : Commands) → length (encodeCommands cs) ≡ 0 → cs ≡ T.noCommands
+unfolding encodeCommands
+no-cmd T.noCommands e = refl
+no-cmd (T.andCommand c cs) e = absurd (omega arith)
+
+pub cmd-deep : (c : Command) (cs : Commands) (k : ℕ) → commandsDepth (T.andCommand c cs) ≤ k → (commandDepth c ≤ k) × (commandsDepth cs ≤ k)
+unfolding commandsDepth
+cmd-deep c cs k l = (omega arith, omega arith)
+
+pub cmd-fine : (c : Command) (cs : Commands) → FineCs (T.andCommand c cs) → FineC c × FineCs cs
+unfolding FineCommands
+cmd-fine c cs f = f
+
+abbrev pub commandList : Kind Commands Command
+commandList = record {
+  all = encodeCommands;
+  one = encodeCommand;
+  word = λ c. 0;
+  with = T.andCommand;
+  none = T.noCommands;
+  deep = commandsDepth;
+  deep-one = commandDepth;
+  Fine = FineCs;
+  Fine-one = FineC;
+  takes = is-cmd;
+  empty = no-cmd;
+  deeper = cmd-deep;
+  finer = cmd-fine;
+}
 
 module _ (text t₀ : List ℕ) (w : Ways) {s₀ : List ℕ} {from end : ℕ} {here : Here} {st₀ : State} where
   abbrev pub ListPart : ReadyList s₀ from end here st₀ → (s t : List ℕ) (at : ℕ) (st : State) → Type 0
   ListPart y s t at st = let z = y .ready in
-      Part encodeCommands commandsDepth FineCs (λ h cs. inCommands text (z .scope) (leavableBy w here) (here .height) cs) (λ h cs. cmdsSays here w (commands text (z .scope) (here .height) cs)) (z .tree)
-      from end (z .base) (here .top) (here .left) (here .height) (here .height) s₀ s t₀ t st₀ st at
+      Part commandList (λ cs. length (encodeCommands cs)) (λ i cs. inCommands text (z .scope) (leavableBy w here) (here .height) cs)
+      (λ i cs. cmdsSays here w (commands text (z .scope) (here .height) cs)) (z .tree)
+      from end (z .base) (here .top) (here .left) (here .height) (here .height) 0 0 s₀ s t₀ t st₀ st at
 
   pub list-begin : (y : ReadyList s₀ from end here st₀) → ListPart y s₀ t₀ from st₀
-  list-begin y = let z = y .ready in record {
-    rest = z .tree;
-    lies = subst (λ (n : ℕ). Lies s₀ n (encodeCommands (z .tree))) (y .starts) (z .lies);
-    ends = omega (arith, z .ends, y .starts);
-    starts = omega arith;
-    keeps = keeps-all;
-    label = omega arith;
-    some = z .some;
-    shallow = z .shallow;
-    fine = z .fine;
-    height = omega arith;
-    finish = λ t′ st′ d. d;
-  }
+  list-begin y = begins (y .ready) (y .starts) refl refl (y .ready .some)
 
   module _ {s t : List ℕ} {at size next : ℕ} {st : State} (l : at < end) (es : size ≡ getD s at 0) (en : next ≡ at + 2 + size) where
-    pub list-size : (y : ReadyList s₀ from end here st₀) (p : ListPart y s t at st) → size ≡ length (encodeCommand (is-cmd (p .rest) (p .lies) (p .ends) l .part))
-    list-size y p = let u = is-cmd (p .rest) (p .lies) (p .ends) l in es ∙ p .keeps .above at (omega (arith, y .ready .above, y .starts, p .starts)) ∙ u .size-of
-
-    pub list-length : (y : ReadyList s₀ from end here st₀) (p : ListPart y s t at st) → let u = is-cmd (p .rest) (p .lies) (p .ends) l in length (encodeCommands (p .rest)) ≡ 2 + length (encodeCommand (u .part)) + length (encodeCommands (u .more))
-    list-length y p = let u = is-cmd (p .rest) (p .lies) (p .ends) l in omega (arith, p .ends, u .ends)
-
-    pub list-deep : (y : ReadyList s₀ from end here st₀) (p : ListPart y s t at st) → let u = is-cmd (p .rest) (p .lies) (p .ends) l in (commandDepth (u .part) ≤ here .left) × (commandsDepth (u .more) ≤ here .left)
-    unfolding commandsDepth
-    list-deep y p = let u = is-cmd (p .rest) (p .lies) (p .ends) l in (omega (arith, p .shallow, ap commandsDepth (u .same)), omega (arith, p .shallow, ap commandsDepth (u .same)))
-
-    pub list-fine : (y : ReadyList s₀ from end here st₀) (p : ListPart y s t at st) → let u = is-cmd (p .rest) (p .lies) (p .ends) l in FineC (u .part) × FineCs (u .more)
-    unfolding FineCommands
-    list-fine y p = subst FineCs (is-cmd (p .rest) (p .lies) (p .ends) l .same) (p .fine)
-
     abbrev pub list-part : (y : ReadyList s₀ from end here st₀) → ListPart y s t at st → ReadyC s next here st
-    list-part y p = let z = y .ready in let u = is-cmd (p .rest) (p .lies) (p .ends) l in
-        sub encodeCommand commandDepth FineC z (p .keeps) next (at + 2) here st (u .part) (u .lies) (omega (arith, en, list-size y p)) (omega (arith, y .starts, p .starts)) (omega (arith, en, list-size y p, u .ends)) refl refl
-        (omega (arith, z .height, p .height, list-length y p)) (omega (arith, z .label, p .label, list-length y p)) (p .some) (list-deep y p .0) (list-fine y p .0)
+    list-part y p = let z = y .ready in
+        ready-one z (y .starts) l es en p here st refl refl refl (omega arith)
+        (omega (arith, z .label, p .label, rest-length z (y .starts) l es en p)) (p .some)
 
-    pub list-next : {s₁ t₁ : List ℕ} {r : State} → GaveC text s s₁ next here w t t₁ st r → (y : ReadyList s₀ from end here st₀) → ListPart y s t at st → ListPart y s₁ t₁ next r
+    pub list-next : {s₁ t₁ : List ℕ} {r : State} → GaveC text s s₁ next here w t t₁ st r → (y : ReadyList s₀ from end here st₀) → ListPart y s t at st
+        → ListPart y s₁ t₁ next r
     unfolding inCommands commands G.cmdsCode ofCmds G.cmdsLabels
-    list-next {s₁} {t₁} {r} g y p =
-        let z = y .ready in let u = is-cmd (p .rest) (p .lies) (p .ends) l in let x = g .by (list-part y p) in let sc = z .scope in let h = here .height in
-        record {
-          rest = u .more;
-          lies = subst (λ (n : ℕ). Lies s₀ n (encodeCommands (u .more))) (omega (arith, en, list-size y p)) (u .lies-more);
-          ends = omega (arith, u .ends, en, list-size y p);
-          starts = omega (arith, p .starts, en);
-          keeps = keeps-then (p .keeps) (x .keeps);
-          label = omega (arith, p .label, list-length y p, x .did .few);
-          some = omega (arith, p .some, x .did .grows);
-          shallow = list-deep y p .1;
-          fine = list-fine y p .1;
-          height = omega (arith, p .height, list-length y p);
-          finish = λ t′ st′ d. p .finish t′ st′
-              (subst (λ (cs : Commands). Did (inCommands text sc (leavableBy w here) h cs) (cmdsSays here w (commands text sc h cs)) (2 * length (encodeCommands (p .rest))) t t′ st st′) (sym (u .same))
-              (did-as (cmdsSays here w (commands text sc h (T.andCommand (u .part) (u .more)))) _ (did-then (x .did) d) same-refl (λ k c. refl) (omega (arith, list-length y p))));
-        }
+    list-next g y p = let z = y .ready in let x = g .by (list-part y p) in let n = rest-length z (y .starts) l es en p in
+        goes-on z (y .starts) l es en p (x .keeps) (omega arith) (omega (arith, x .did .few)) (omega (arith, p .some, x .did .grows))
+        (λ t′ st′ d. did-as _ _ (did-then (x .did) d) same-refl (λ k c. refl) (omega arith))
 
-  pub list-end : {s t : List ℕ} {at : ℕ} {st : State} → end ≤ at → ((y : ReadyList s₀ from end here st₀) → ListPart y s t at st) → GaveList text s₀ s from end here w t₀ t st₀ st
-  unfolding inCommands commands G.cmdsCode ofCmds G.cmdsLabels encodeCommands
-  list-end {s} {t} {at} {st} l q = record { by = λ y. let p = q y in record { keeps = p .keeps; did = p .finish t st (none (p .rest) y (p .ends)) } }
-    where
-      none : (cs : Commands) (y : ReadyList s₀ from end here st₀) → end ≡ at + length (encodeCommands cs) → Did (inCommands text (y .ready .scope) (leavableBy w here) (here .height) cs) (cmdsSays here w (commands text (y .ready .scope) (here .height) cs)) (2 * length (encodeCommands cs)) t t st st
-      none T.noCommands y e = did-none _
-      none (T.andCommand c cs) y e = absurd (omega (arith, length-append (encodeCommand c) (encodeCommands cs)))
+  pub list-end : {s t : List ℕ} {at : ℕ} {st : State} → end ≤ at → ((y : ReadyList s₀ from end here st₀) → ListPart y s t at st)
+      → GaveList text s₀ s from end here w t₀ t st₀ st
+  unfolding inCommands commands G.cmdsCode ofCmds G.cmdsLabels
+  list-end l q = record { by = λ y. record { keeps = q y .keeps; did = ended (q y) l (λ m. did-none m) } }
 
 -- ---- what one declaration more says
 
@@ -203,34 +172,12 @@ code-with text sc here n (someValues ns es) ls f =
 
 -- ---- one of the list
 
-pub record IsLocal (s : List ℕ) (at end : ℕ) (ls : T.Locals) : Type 0 where
-  pub part : Local
-  pub more : T.Locals
-  pub same : ls ≡ withLocal part more
-  pub size-of : getD s at 0 ≡ length (encodeLocal part)
-  pub lies : Lies s (at + 2) (encodeLocal part)
-  pub lies-more : Lies s (at + 2 + length (encodeLocal part)) (encodeLocals more)
-  pub ends : end ≡ at + 2 + length (encodeLocal part) + length (encodeLocals more)
-
-is-local-of : {s : List ℕ} {at end : ℕ} (x : Local) (ls : T.Locals) → Lies s at (length (encodeLocal x) ∷ 3 ∷ (encodeLocal x ++ encodeLocals ls)) → end ≡ at + length (length (encodeLocal x) ∷ 3 ∷ (encodeLocal x ++ encodeLocals ls)) → IsLocal s at end (withLocal x ls)
-is-local-of {s} {at} {end} x ls h e =
-    let a : at + 0 ≡ at = omega arith in
-    let r = second (length (encodeLocal x) ∷ 3 ∷ []) (encodeLocal x ++ encodeLocals ls) (at + 2) h refl in
-    record {
-      part = x;
-      more = ls;
-      same = refl;
-      size-of = ap (λ (k : ℕ). getD s k 0) (sym a) ∙ h .at 0 (omega arith);
-      lies = first (encodeLocal x) (encodeLocals ls) r;
-      lies-more = second (encodeLocal x) (encodeLocals ls) (at + 2 + length (encodeLocal x)) r refl;
-      ends = omega (arith, e, length-append (encodeLocal x) (encodeLocals ls));
-    }
-
-pub is-local : {s : List ℕ} {at end : ℕ} (ls : T.Locals) → Lies s at (encodeLocals ls) → end ≡ at + length (encodeLocals ls) → at < end → IsLocal s at end ls
+pub is-local : {s : List ℕ} {at end : ℕ} (ls : T.Locals) → Lies s at (encodeLocals ls) → end ≡ at + length (encodeLocals ls) → at < end
+    → First encodeLocals encodeLocal (λ x. 3) withLocal s at end ls
 unfolding encodeLocals encodeLocal
 is-local T.noLocals h e l = absurd (omega arith)
-is-local (T.vector n c ls) h e l = is-local-of (aVector n c) ls h e
-is-local (T.values ns es ls) h e l = is-local-of (someValues ns es) ls h e
+is-local (T.vector n c ls) h e l = first-of encodeLocals encodeLocal (λ x. 3) withLocal (aVector n c) ls h e
+is-local (T.values ns es ls) h e l = first-of encodeLocals encodeLocal (λ x. 3) withLocal (someValues ns es) ls h e
 
 no-local : {at end : ℕ} (ls : T.Locals) → end ≡ at + length (encodeLocals ls) → end ≤ at → ls ≡ T.noLocals
 unfolding encodeLocals
@@ -238,12 +185,12 @@ no-local T.noLocals e l = refl
 no-local (T.vector n c ls) e l = absurd (omega arith)
 no-local (T.values ns es ls) e l = absurd (omega arith)
 
-local-deep : (x : Local) (ls : T.Locals) {k : ℕ} → localsDepth (withLocal x ls) ≤ k → (localDepth x ≤ k) × (localsDepth ls ≤ k)
+pub local-deep : (x : Local) (ls : T.Locals) {k : ℕ} → localsDepth (withLocal x ls) ≤ k → (localDepth x ≤ k) × (localsDepth ls ≤ k)
 unfolding localsDepth localDepth
 local-deep (aVector n c) ls h = (omega arith, h)
 local-deep (someValues ns es) ls h = (omega arith, omega arith)
 
-local-fine : (x : Local) (ls : T.Locals) → FineLs (withLocal x ls) → FineLocal x × FineLs ls
+pub local-fine : (x : Local) (ls : T.Locals) → FineLs (withLocal x ls) → FineLocal x × FineLs ls
 unfolding FineLocals FineLocal
 local-fine (aVector n c) ls f = ((f .0, f .2), f .1)
 local-fine (someValues ns es) ls f = ((sym (f .2), f .0, f .3), f .1)
@@ -293,20 +240,24 @@ module _ (text t₀ : List ℕ) {s₀ : List ℕ} {from end : ℕ} {here : Here}
   }
 
   module _ {s t : List ℕ} {at size next : ℕ} {r : Placed} (l : at < end) (es : size ≡ getD s at 0) (en : next ≡ at + 2 + size) where
-    pub locals-size : (y : ReadyLocals s₀ from end here st₀) (p : LocalsPart y s t at r) → size ≡ length (encodeLocal (is-local (p .rest) (p .lies) (p .ends) l .part))
-    locals-size y p = let u = is-local (p .rest) (p .lies) (p .ends) l in es ∙ p .keeps .above at (omega (arith, y .ready .above, y .starts, p .starts)) ∙ u .size-of
+    module _ (y : ReadyLocals s₀ from end here st₀) (p : LocalsPart y s t at r) where
+      abbrev pub one : First encodeLocals encodeLocal (λ x. 3) withLocal s₀ at end (p .rest)
+      one = is-local (p .rest) (p .lies) (p .ends) l
 
-    pub locals-length : (y : ReadyLocals s₀ from end here st₀) (p : LocalsPart y s t at r) → let u = is-local (p .rest) (p .lies) (p .ends) l in length (encodeLocals (p .rest)) ≡ 2 + length (encodeLocal (u .part)) + length (encodeLocals (u .more))
-    locals-length y p = let u = is-local (p .rest) (p .lies) (p .ends) l in omega (arith, p .ends, u .ends)
+      pub locals-size : size ≡ length (encodeLocal (one .part))
+      locals-size = es ∙ p .keeps .above at (omega (arith, y .ready .above, y .starts, p .starts)) ∙ one .size-of
 
-    pub locals-deep : (y : ReadyLocals s₀ from end here st₀) (p : LocalsPart y s t at r) → let u = is-local (p .rest) (p .lies) (p .ends) l in (localDepth (u .part) ≤ here .left) × (localsDepth (u .more) ≤ here .left)
-    locals-deep y p = let u = is-local (p .rest) (p .lies) (p .ends) l in local-deep (u .part) (u .more) (subst (λ (ls : T.Locals). localsDepth ls ≤ here .left) (u .same) (p .shallow))
+      pub locals-length : length (encodeLocals (p .rest)) ≡ 2 + length (encodeLocal (one .part)) + length (encodeLocals (one .more))
+      locals-length = omega (arith, p .ends, one .ends)
 
-    pub locals-fine : (y : ReadyLocals s₀ from end here st₀) (p : LocalsPart y s t at r) → let u = is-local (p .rest) (p .lies) (p .ends) l in FineLocal (u .part) × FineLs (u .more)
-    locals-fine y p = let u = is-local (p .rest) (p .lies) (p .ends) l in local-fine (u .part) (u .more) (subst FineLs (u .same) (p .fine))
+      pub locals-deep : (localDepth (one .part) ≤ here .left) × (localsDepth (one .more) ≤ here .left)
+      locals-deep = local-deep (one .part) (one .more) (subst (λ (ls : T.Locals). localsDepth ls ≤ here .left) (one .same) (p .shallow))
+
+      pub locals-fine : FineLocal (one .part) × FineLs (one .more)
+      locals-fine = local-fine (one .part) (one .more) (subst FineLs (one .same) (p .fine))
 
     abbrev pub locals-part : (y : ReadyLocals s₀ from end here st₀) → LocalsPart y s t at r → ReadyLocal s next (placed (r .top) (r .height) here) (r .done)
-    locals-part y p = let z = y .ready in let u = is-local (p .rest) (p .lies) (p .ends) l in record {
+    locals-part y p = let z = y .ready in let u = one y p in record {
       base = z .base;
       lo = at + 2;
       tree = u .part;
@@ -328,7 +279,7 @@ module _ (text t₀ : List ℕ) {s₀ : List ℕ} {from end : ℕ} {here : Here}
 
     pub locals-next : {s₁ t₁ : List ℕ} {r′ : Placed} → GaveLocal text s s₁ next (placed (r .top) (r .height) here) t t₁ (r .done) r′ → (y : ReadyLocals s₀ from end here st₀) → LocalsPart y s t at r → LocalsPart y s₁ t₁ next r′
     locals-next {s₁} {t₁} {r′} g y p =
-        let z = y .ready in let u = is-local (p .rest) (p .lies) (p .ends) l in let x = g .by (locals-part y p) in let sc = p .scope in let h = r .height in
+        let z = y .ready in let u = one y p in let x = g .by (locals-part y p) in let sc = p .scope in let h = r .height in
         let sc′ = scopeWith text sc h (u .part) in let h′ = heightWith text sc h (u .part) in let k = x .after in let now = placed (r .top) h here in
         record {
           rest = u .more;

@@ -34,122 +34,87 @@ use Rattle.compiler.proofs.Done.{emits-did, did-emit, did-put, did-afte
 use Rattle.compiler.proofs.Scoping.{Order, lt, ge, order}
 use Rattle.compiler.proofs.Trees.{first, second, find, IsTwo, Case, aNumber, aString, aName, aBracket, aValof, aMonadic, aSuffixed, aCalled, aDyadic}
 use Rattle.compiler.proofs.Counting.{expression-items}
-use Rattle.compiler.proofs.Parts.{sub, Part}
+use Rattle.compiler.proofs.Parts.{sub}
+use Rattle.compiler.proofs.Lists.{First, first-of, Kind, Part, begins, ready-one, item, rest-length, goes-on, ended}
 
 -- ---- an item of a list of expressions
 
-pub record IsArg (s : List ℕ) (at end : ℕ) (es : Expressions) : Type 0 where
-  pub part : Expression
-  pub more : Expressions
-  pub same : es ≡ T.andExpression part more
-  pub size-of : getD s at 0 ≡ length (encode part)
-  pub lies : Lies s (at + 2) (encode part)
-  pub lies-more : Lies s (at + 2 + length (encode part)) (encodeExpressions more)
-  pub ends : end ≡ at + 2 + length (encode part) + length (encodeExpressions more)
+abbrev pub IsArg : (s : List ℕ) (at end : ℕ) → Expressions → Type 0
+IsArg = First encodeExpressions encode (λ e. 0) T.andExpression
 
 pub is-arg : {s : List ℕ} {at end : ℕ} (es : Expressions) → Lies s at (encodeExpressions es) → end ≡ at + length (encodeExpressions es) → at < end → IsArg s at end es
 unfolding encodeExpressions
 is-arg T.noExpressions h e l = absurd (omega arith)
-is-arg {s} {at} {end} (T.andExpression d es) h e l =
-    let a : at + 0 ≡ at = omega arith in
-    let r = second (length (encode d) ∷ 0 ∷ []) (encode d ++ encodeExpressions es) (at + 2) h refl in
-    record {
-      part = d;
-      more = es;
-      same = refl;
-      size-of = ap (λ (k : ℕ). getD s k 0) (sym a) ∙ h .at 0 (omega arith);
-      lies = first (encode d) (encodeExpressions es) r;
-      lies-more = second (encode d) (encodeExpressions es) (at + 2 + length (encode d)) r refl;
-      ends = omega (arith, e, length-append (encode d) (encodeExpressions es));
-    }
+is-arg (T.andExpression d es) h e l = first-of encodeExpressions encode (λ e. 0) T.andExpression d es h e
 
-pub no-arg : {at end : ℕ} (es : Expressions) → end ≡ at + length (encodeExpressions es) → end ≤ at → es ≡ T.noExpressions
+pub no-arg : (es : Expressions) → length (encodeExpressions es) ≡ 0 → es ≡ T.noExpressions
 unfolding encodeExpressions
-no-arg T.noExpressions e l = refl
-no-arg (T.andExpression d es) e l = absurd (omega (arith, length-append (encode d) (encodeExpressions es)))
+no-arg T.noExpressions e = refl
+no-arg (T.andExpression d es) e = absurd (omega arith)
+
+pub arg-deep : (e : Expression) (es : Expressions) (k : ℕ) → expressionsDepth (T.andExpression e es) ≤ k → (depth e ≤ k) × (expressionsDepth es ≤ k)
+unfolding expressionsDepth
+arg-deep e es k l = (omega arith, omega arith)
+
+pub arg-fine : (e : Expression) (es : Expressions) → FineEs (T.andExpression e es) → FineE e × FineEs es
+unfolding Fine FineList
+arg-fine e es f = f
+
+abbrev pub argList : Kind Expressions Expression
+argList = record {
+  all = encodeExpressions;
+  one = encode;
+  word = λ e. 0;
+  with = T.andExpression;
+  none = T.noExpressions;
+  deep = expressionsDepth;
+  deep-one = depth;
+  Fine = FineEs;
+  Fine-one = FineE;
+  takes = is-arg;
+  empty = no-arg;
+  deeper = arg-deep;
+  finer = arg-fine;
+}
 
 -- ---- arguments
 
 module _ (text t₀ : List ℕ) {s₀ : List ℕ} {from end : ℕ} {here : Here} {st₀ : State} where
   abbrev pub ArgsPart : ReadyArgs s₀ from end here st₀ → (s t : List ℕ) (at k : ℕ) (st : State) → Type 0
   ArgsPart y s t at k st = let z = y .ready in
-      Part encodeExpressions expressionsDepth FineEs (λ h es. inExpressions text (z .scope) (leavable here) h es) (λ h es. exprsSays (here .strings) h (expressions text (z .scope) h es)) (z .tree)
-      from end (z .base) (here .top) (here .left) (here .height) (here .height + k) s₀ s t₀ t st₀ st at
+      Part argList (λ es. length (encodeExpressions es)) (λ h es. inExpressions text (z .scope) (leavable here) h es)
+      (λ h es. exprsSays (here .strings) h (expressions text (z .scope) h es)) (z .tree)
+      from end (z .base) (here .top) (here .left) (here .height) (here .height + k) (here .height) (here .height + k) s₀ s t₀ t st₀ st at
 
   pub args-begin : (y : ReadyArgs s₀ from end here st₀) → ArgsPart y s₀ t₀ from 0 st₀
-  args-begin y = let z = y .ready in let e : here .height + 0 ≡ here .height = omega arith in record {
-    rest = z .tree;
-    lies = subst (λ (n : ℕ). Lies s₀ n (encodeExpressions (z .tree))) (y .starts) (z .lies);
-    ends = omega (arith, z .ends, y .starts);
-    starts = omega arith;
-    keeps = keeps-all;
-    label = omega arith;
-    some = z .some;
-    shallow = z .shallow;
-    fine = z .fine;
-    height = omega arith;
-    finish = λ t′ st′ d. subst (λ (h : ℕ). Did (inExpressions text (z .scope) (leavable here) h (z .tree)) (exprsSays (here .strings) h (expressions text (z .scope) h (z .tree))) (2 * length (encodeExpressions (z .tree))) t₀ t′ st₀ st′) e d;
-  }
+  args-begin y = begins (y .ready) (y .starts) (omega arith) (omega arith) (y .ready .some)
 
   module _ (k : ℕ) {s t : List ℕ} {at size next : ℕ} {st : State} (l : at < end) (es : size ≡ getD s at 0) (en : next ≡ at + 2 + size) where
-    pub args-size : (y : ReadyArgs s₀ from end here st₀) (p : ArgsPart y s t at k st) → size ≡ length (encode (is-arg (p .rest) (p .lies) (p .ends) l .part))
-    args-size y p = let u = is-arg (p .rest) (p .lies) (p .ends) l in es ∙ p .keeps .above at (omega (arith, y .ready .above, y .starts, p .starts)) ∙ u .size-of
-
-    pub args-length : (y : ReadyArgs s₀ from end here st₀) (p : ArgsPart y s t at k st) → let u = is-arg (p .rest) (p .lies) (p .ends) l in length (encodeExpressions (p .rest)) ≡ 2 + length (encode (u .part)) + length (encodeExpressions (u .more))
-    args-length y p = let u = is-arg (p .rest) (p .lies) (p .ends) l in omega (arith, p .ends, u .ends)
-
-    pub args-deep : (y : ReadyArgs s₀ from end here st₀) (p : ArgsPart y s t at k st) → let u = is-arg (p .rest) (p .lies) (p .ends) l in (depth (u .part) ≤ here .left) × (expressionsDepth (u .more) ≤ here .left)
-    unfolding expressionsDepth
-    args-deep y p = let u = is-arg (p .rest) (p .lies) (p .ends) l in (omega (arith, p .shallow, ap expressionsDepth (u .same)), omega (arith, p .shallow, ap expressionsDepth (u .same)))
-
-    pub args-fine : (y : ReadyArgs s₀ from end here st₀) (p : ArgsPart y s t at k st) → let u = is-arg (p .rest) (p .lies) (p .ends) l in FineE (u .part) × FineEs (u .more)
-    unfolding Fine FineList
-    args-fine y p = subst FineEs (is-arg (p .rest) (p .lies) (p .ends) l .same) (p .fine)
-
     abbrev pub args-part : (y : ReadyArgs s₀ from end here st₀) → ArgsPart y s t at k st → ReadyE s next (raised k here) st
-    args-part y p = let z = y .ready in let u = is-arg (p .rest) (p .lies) (p .ends) l in
-        sub encode depth FineE z (p .keeps) next (at + 2) (raised k here) st (u .part) (u .lies) (omega (arith, en, args-size y p)) (omega (arith, y .starts, p .starts)) (omega (arith, en, args-size y p, u .ends)) refl refl
-        (omega (arith, z .height, p .height, args-length y p)) (omega (arith, z .label, p .label, args-length y p)) (p .some) (args-deep y p .0) (args-fine y p .0)
+    args-part y p = let z = y .ready in
+        ready-one z (y .starts) l es en p (raised k here) st refl refl refl (omega arith)
+        (omega (arith, z .label, p .label, rest-length z (y .starts) l es en p)) (p .some)
 
-    pub args-next : {s₁ t₁ t₂ : List ℕ} {a r : State} → GaveE text s s₁ next (raised k here) t t₁ st a → Emits (G.SP (here .height + k) ∷ []) ((here .height + k + 1) ∷ []) t₁ t₂ a r
+    pub args-next : {s₁ t₁ t₂ : List ℕ} {a r : State} → GaveE text s s₁ next (raised k here) t t₁ st a
+        → Emits (G.SP (here .height + k) ∷ []) ((here .height + k + 1) ∷ []) t₁ t₂ a r
         → (y : ReadyArgs s₀ from end here st₀) → ArgsPart y s t at k st → ArgsPart y s₁ t₂ next (k + 1) r
     unfolding inExpressions expressions exprsCode ofExprs exprsLabels
-    args-next {s₁} {t₁} {t₂} {a} {r} g f y p =
-        let z = y .ready in let u = is-arg (p .rest) (p .lies) (p .ends) l in let x = g .by (args-part y p) in let sc = z .scope in let h = here .height + k in
-        let E = expression text sc h (u .part) in
-        let e1 : here .height + (k + 1) ≡ h + 1 = omega arith in
-        record {
-          rest = u .more;
-          lies = subst (λ (n : ℕ). Lies s₀ n (encodeExpressions (u .more))) (omega (arith, en, args-size y p)) (u .lies-more);
-          ends = omega (arith, u .ends, en, args-size y p);
-          starts = omega (arith, p .starts, en);
-          keeps = keeps-then (p .keeps) (x .keeps);
-          label = omega (arith, p .label, args-length y p, x .did .few, f .label);
-          some = omega (arith, p .some, x .did .grows, f .label);
-          shallow = args-deep y p .1;
-          fine = args-fine y p .1;
-          height = omega (arith, p .height, args-length y p);
-          finish = λ t′ st′ d. p .finish t′ st′
-              (subst (λ (es : Expressions). Did (inExpressions text sc (leavable here) h es) (exprsSays (here .strings) h (expressions text sc h es)) (2 * length (encodeExpressions (p .rest))) t t′ st st′) (sym (u .same))
-              (did-as (exprsSays (here .strings) h (expressions text sc h (T.andExpression (u .part) (u .more)))) _
-              (did-then (did-emit (x .did) f) (subst (λ (m : ℕ). Did (inExpressions text sc (leavable here) m (u .more)) (exprsSays (here .strings) m (expressions text sc m (u .more))) (2 * length (encodeExpressions (u .more))) t₂ t′ r st′) e1 d)) same-refl
-              (λ n c. code-is
-              (append-assoc (exprCode (here .strings) h n E) (G.SP h ∷ []) (exprsCode (here .strings) (h + 1) (n + exprLabels E) (expressions text sc (h + 1) (u .more))))
-              (append-assoc (ofExpr h E) ((h + 1) ∷ []) (ofExprs (h + 1) (expressions text sc (h + 1) (u .more))))
-              refl)
-              (omega (arith, args-length y p))));
-        }
+    args-next {t₂ = t₂} {r = r} g f y p =
+        let z = y .ready in let u = item z (y .starts) l es en p in let x = g .by (args-part y p) in let sc = z .scope in let h = here .height + k in
+        let n = rest-length z (y .starts) l es en p in let E = expression text sc h (u .part) in let e1 : here .height + (k + 1) ≡ h + 1 = omega arith in
+        goes-on z (y .starts) l es en p (x .keeps) (omega arith) (omega (arith, x .did .few, f .label)) (omega (arith, p .some, x .did .grows, f .label))
+        (λ t′ st′ d. did-as _ _
+        (did-then (did-emit (x .did) f) (subst (λ (m : ℕ). Did (inExpressions text sc (leavable here) m (u .more)) (exprsSays (here .strings) m (expressions text sc m (u .more))) (2 * length (encodeExpressions (u .more))) t₂ t′ r st′) e1 d)) same-refl
+        (λ n c. code-is
+        (append-assoc (exprCode (here .strings) h n E) (G.SP h ∷ []) (exprsCode (here .strings) (h + 1) (n + exprLabels E) (expressions text sc (h + 1) (u .more))))
+        (append-assoc (ofExpr h E) ((h + 1) ∷ []) (ofExprs (h + 1) (expressions text sc (h + 1) (u .more))))
+        refl)
+        (omega arith))
 
-  pub args-end : (k : ℕ) {s t : List ℕ} {at : ℕ} {st : State} → end ≤ at → ((y : ReadyArgs s₀ from end here st₀) → ArgsPart y s t at k st) → GaveArgs text s₀ s from end here t₀ t st₀ st
+  pub args-end : (k : ℕ) {s t : List ℕ} {at : ℕ} {st : State} → end ≤ at → ((y : ReadyArgs s₀ from end here st₀) → ArgsPart y s t at k st)
+      → GaveArgs text s₀ s from end here t₀ t st₀ st
   unfolding inExpressions expressions exprsCode ofExprs exprsLabels
-  args-end k {s} {t} {at} {st} l q = record {
-    by = λ y. let p = q y in let z = y .ready in record {
-      keeps = p .keeps;
-      did = p .finish t st
-          (subst (λ (es : Expressions). Did (inExpressions text (z .scope) (leavable here) (here .height + k) es) (exprsSays (here .strings) (here .height + k) (expressions text (z .scope) (here .height + k) es)) (2 * length (encodeExpressions (p .rest))) t t st st)
-          (sym (no-arg (p .rest) (p .ends) l)) (did-none _));
-    };
-  }
+  args-end k l q = record { by = λ y. record { keeps = q y .keeps; did = ended (q y) l (λ m. did-none m) } }
 
 -- ---- the last of what follows a primary
 

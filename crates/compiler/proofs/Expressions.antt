@@ -30,7 +30,8 @@ use Rattle.language.specs.Fine.{Fine, FineOperations}
 use Rattle.compiler.specs.Walks.{Lies, Ready, Result, ReadyE, GaveE, faultsE, codeE, chainCode, chainHeights, chainLabels, chainSays, ReadyChain, GaveChain}
 use Rattle.compiler.proofs.Done.{emits-did, did-emit, did-put, did-after, did-none, did-then, did-as, same-refl, same-eq, code-is}
 use Rattle.compiler.proofs.Trees.{find, is-number, is-string, is-name, is-bracket, is-dyadic, first, second}
-use Rattle.compiler.proofs.Parts.{sub, Part}
+use Rattle.compiler.proofs.Parts.{sub}
+use Rattle.compiler.proofs.Lists.{First, first-of, Kind, Part, begins, item, one-size, one-word, rest-length, both-deep, both-fine, goes-on, ended}
 
 -- with more labels allowed
 more : {fs : List Fault} {f : ℕ → Code} {m : ℕ} (k : ℕ) {t t′ : List ℕ} {st r : State} → Did fs f m t t′ st r → m ≤ k → Did fs f k t t′ st r
@@ -172,116 +173,90 @@ module _ {s : List ℕ} {end : ℕ} {here : Here} {st : State} (n : Node) (nd : 
 
 -- ---- the loop over the operations
 
-pub record IsOperation (s : List ℕ) (at end : ℕ) (os : Operations) : Type 0 where
+pub record Operation : Type 0 where
   pub operator : ℕ
   pub operand : Expression
-  pub more : Operations
-  pub same : os ≡ T.operation operator operand more
-  pub size-of : getD s at 0 ≡ length (encode operand)
-  pub operator-of : getD s (at + 1) 0 ≡ operator
-  pub lies : Lies s (at + 2) (encode operand)
-  pub lies-more : Lies s (at + 2 + length (encode operand)) (encodeOperations more)
-  pub ends : end ≡ at + 2 + length (encode operand) + length (encodeOperations more)
 
-pub is-operation : {s : List ℕ} {at end : ℕ} (os : Operations) → Lies s at (encodeOperations os) → end ≡ at + length (encodeOperations os) → at < end → IsOperation s at end os
+abbrev pub withOperation : Operation → Operations → Operations
+withOperation x os = T.operation (x .operator) (x .operand) os
+
+pub is-operation : {s : List ℕ} {at end : ℕ} (os : Operations) → Lies s at (encodeOperations os) → end ≡ at + length (encodeOperations os) → at < end
+    → First encodeOperations (λ x. encode (x .operand)) (λ x. x .operator) withOperation s at end os
 unfolding encodeOperations
 is-operation T.noOperations h e l = absurd (omega arith)
-is-operation {s} {at} {end} (T.operation o d os) h e l =
-    let two = length (encode d) ∷ o ∷ [] in
-    let a : at + 0 ≡ at = omega arith in
-    let r = second two (encode d ++ encodeOperations os) (at + 2) h refl in
-    record {
-      operator = o;
-      operand = d;
-      more = os;
-      same = refl;
-      size-of = ap (λ (k : ℕ). getD s k 0) (sym a) ∙ h .at 0 (omega arith);
-      operator-of = h .at 1 (omega arith);
-      lies = first (encode d) (encodeOperations os) r;
-      lies-more = second (encode d) (encodeOperations os) (at + 2 + length (encode d)) r refl;
-      ends = omega (arith, e, length-append (encode d) (encodeOperations os));
-    }
+is-operation (T.operation o d os) h e l =
+    first-of encodeOperations (λ x. encode (x .operand)) (λ x. x .operator) withOperation (record { operator = o; operand = d }) os h e
+
+pub no-operation : (os : Operations) → length (encodeOperations os) ≡ 0 → os ≡ T.noOperations
+unfolding encodeOperations
+no-operation T.noOperations e = refl
+no-operation (T.operation o d os) e = absurd (omega arith)
+
+pub operation-deep : (x : Operation) (os : Operations) (k : ℕ) → operationsDepth (withOperation x os) ≤ k → (depth (x .operand) ≤ k) × (operationsDepth os ≤ k)
+unfolding operationsDepth
+operation-deep x os k l = (omega arith, omega arith)
+
+pub operation-fine : (x : Operation) (os : Operations) → FineOs (withOperation x os) → FineE (x .operand) × FineOs os
+unfolding Fine FineOperations
+operation-fine x os f = f
+
+abbrev pub operationList : Kind Operations Operation
+operationList = record {
+  all = encodeOperations;
+  one = λ x. encode (x .operand);
+  word = λ x. x .operator;
+  with = withOperation;
+  none = T.noOperations;
+  deep = operationsDepth;
+  deep-one = λ x. depth (x .operand);
+  Fine = FineOs;
+  Fine-one = λ x. FineE (x .operand);
+  takes = is-operation;
+  empty = no-operation;
+  deeper = operation-deep;
+  finer = operation-fine;
+}
 
 module _ (text t₀ : List ℕ) {s₀ : List ℕ} {from end : ℕ} {here : Here} {st₀ : State} where
   abbrev pub ChainPart : ReadyChain s₀ from end here st₀ → (s t : List ℕ) (at : ℕ) (st : State) → Type 0
   ChainPart y s t at st = let z = y .ready in
-      Part encodeOperations operationsDepth FineOs (λ h os. inOperations text (z .scope) (leavable here) (here .height) os) (λ h os. chainSays text here (z .scope) os) (z .tree)
-      from end (z .base) (here .top) (here .left) (here .height) (here .height) s₀ s t₀ t st₀ st at
+      Part operationList (λ os. length (encodeOperations os)) (λ i os. inOperations text (z .scope) (leavable here) (here .height) os)
+      (λ i os. chainSays text here (z .scope) os) (z .tree)
+      from end (z .base) (here .top) (here .left) (here .height) (here .height) 0 0 s₀ s t₀ t st₀ st at
 
   pub chain-begin : (y : ReadyChain s₀ from end here st₀) → ChainPart y s₀ t₀ from st₀
-  chain-begin y = let z = y .ready in record {
-    rest = z .tree;
-    lies = subst (λ (n : ℕ). Lies s₀ n (encodeOperations (z .tree))) (y .starts) (z .lies);
-    ends = omega (arith, z .ends, y .starts);
-    starts = omega arith;
-    keeps = keeps-all;
-    label = omega arith;
-    some = z .some;
-    shallow = z .shallow;
-    fine = z .fine;
-    height = omega arith;
-    finish = λ t′ st′ d. d;
-  }
+  chain-begin y = begins (y .ready) (y .starts) refl refl (y .ready .some)
 
-  module _ {s t : List ℕ} {at size next o : ℕ} {st : State} (l : at < end) (es : size ≡ getD s at 0) (eo : o ≡ getD s (at + 1) 0) (en : next ≡ at + 2 + size) where
-    pub chain-size : (y : ReadyChain s₀ from end here st₀) (p : ChainPart y s t at st) → size ≡ length (encode (is-operation (p .rest) (p .lies) (p .ends) l .operand))
-    chain-size y p = let u = is-operation (p .rest) (p .lies) (p .ends) l in es ∙ p .keeps .above at (omega (arith, y .ready .above, y .starts, p .starts)) ∙ u .size-of
-
-    pub chain-operator : (y : ReadyChain s₀ from end here st₀) (p : ChainPart y s t at st) → o ≡ is-operation (p .rest) (p .lies) (p .ends) l .operator
-    chain-operator y p = let u = is-operation (p .rest) (p .lies) (p .ends) l in eo ∙ p .keeps .above (at + 1) (omega (arith, y .ready .above, y .starts, p .starts)) ∙ u .operator-of
-
-    pub chain-length : (y : ReadyChain s₀ from end here st₀) (p : ChainPart y s t at st) → let u = is-operation (p .rest) (p .lies) (p .ends) l in length (encodeOperations (p .rest)) ≡ 2 + length (encode (u .operand)) + length (encodeOperations (u .more))
-    chain-length y p = let u = is-operation (p .rest) (p .lies) (p .ends) l in omega (arith, p .ends, u .ends)
-
-    pub chain-deep : (y : ReadyChain s₀ from end here st₀) (p : ChainPart y s t at st) → let u = is-operation (p .rest) (p .lies) (p .ends) l in (depth (u .operand) ≤ here .left) × (operationsDepth (u .more) ≤ here .left)
-    unfolding operationsDepth
-    chain-deep y p = let u = is-operation (p .rest) (p .lies) (p .ends) l in (omega (arith, p .shallow, ap operationsDepth (u .same)), omega (arith, p .shallow, ap operationsDepth (u .same)))
-
-    pub chain-fine : (y : ReadyChain s₀ from end here st₀) (p : ChainPart y s t at st) → let u = is-operation (p .rest) (p .lies) (p .ends) l in FineE (u .operand) × FineOs (u .more)
-    unfolding Fine FineOperations
-    chain-fine y p = subst FineOs (is-operation (p .rest) (p .lies) (p .ends) l .same) (p .fine)
-
-    abbrev pub chain-part : {a : State} → a .label ≡ st .label → (y : ReadyChain s₀ from end here st₀) → ChainPart y s t at st → ReadyE s next (raised 1 here) a
-    chain-part {a} ea y p = let z = y .ready in let u = is-operation (p .rest) (p .lies) (p .ends) l in
-        sub encode depth FineE z (p .keeps) next (at + 2) (raised 1 here) a (u .operand) (u .lies) (omega (arith, en, chain-size y p)) (omega (arith, y .starts, p .starts)) (omega (arith, en, chain-size y p, u .ends)) refl refl
-        (omega (arith, z .height, p .height, chain-length y p)) (omega (arith, z .label, p .label, chain-length y p)) (omega (arith, p .some)) (chain-deep y p .0) (chain-fine y p .0)
+  module _ {s t : List ℕ} {at size next o : ℕ} {st : State} (l : at < end) (es : size ≡ getD s at 0) (eo : o ≡ getD s (at + 1) 0)
+      (en : next ≡ at + 2 + size) where
+    abbrev pub chain-part : {a : State} → a .label ≡ st .label → (y : ReadyChain s₀ from end here st₀) → ChainPart y s t at st
+        → ReadyE s next (raised 1 here) a
+    chain-part {a} ea y p = let z = y .ready in let u = item z (y .starts) l es en p in let e = one-size z (y .starts) l es en p in
+        let n = rest-length z (y .starts) l es en p in
+        sub encode depth FineE z (p .keeps) next (at + 2) (raised 1 here) a (u .part .operand) (u .lies) (omega (arith, e)) (omega (arith, y .starts, p .starts))
+        (omega (arith, e, u .ends)) refl refl (omega (arith, z .height, p .height, n)) (omega (arith, z .label, p .label, n)) (omega (arith, p .some))
+        (both-deep z (y .starts) l es en p .0) (both-fine z (y .starts) l es en p .0)
 
     pub chain-next : {act : ℕ} {s₁ t₁ t₂ t₃ : List ℕ} {a b r : State} → act ≡ G.dyadicAct o → Emits (G.SP (here .height) ∷ []) ((here .height + 1) ∷ []) t t₁ st a
         → GaveE text s s₁ next (raised 1 here) t₁ t₂ a b → Emits (G.SP (here .height + 1) ∷ G.LIP (here .height) ∷ G.LIP (here .height + 1) ∷ G.X act ∷ []) [] t₂ t₃ b r
         → (y : ReadyChain s₀ from end here st₀) → ChainPart y s t at st → ChainPart y s₁ t₃ next r
     unfolding inOperations chainCode chainHeights chainLabels
-    chain-next {act} {s₁} {t₁} {t₂} {t₃} {a} {b} {r} ea e g f y p =
-        let z = y .ready in let u = is-operation (p .rest) (p .lies) (p .ends) l in let x = g .by (chain-part (e .label) y p) in let sc = z .scope in let h = here .height in
-        let D = expression text sc (h + 1) (u .operand) in
-        let op : act ≡ G.dyadicAct (u .operator) = ea ∙ ap G.dyadicAct (chain-operator y p) in
-        record {
-          rest = u .more;
-          lies = subst (λ (n : ℕ). Lies s₀ n (encodeOperations (u .more))) (omega (arith, en, chain-size y p)) (u .lies-more);
-          ends = omega (arith, u .ends, en, chain-size y p);
-          starts = omega (arith, p .starts, en);
-          keeps = keeps-then (p .keeps) (x .keeps);
-          label = omega (arith, p .label, chain-length y p, x .did .few, e .label, f .label);
-          some = omega (arith, p .some, x .did .grows, e .label, f .label);
-          shallow = chain-deep y p .1;
-          fine = chain-fine y p .1;
-          height = omega (arith, p .height, chain-length y p);
-          finish = λ t′ st′ d. p .finish t′ st′
-              (subst (λ (os : Operations). Did (inOperations text sc (leavable here) h os) (chainSays text here sc os) (2 * length (encodeOperations (p .rest))) t t′ st st′) (sym (u .same))
-              (did-as (chainSays text here sc (T.operation (u .operator) (u .operand) (u .more))) _ (did-after e (did-then (did-put (x .did) f) d)) same-refl
-              (λ k c. code-is
-              (ap (λ (l : List I.Item). G.SP h ∷ l) (append-assoc (exprCode (here .strings) (h + 1) k D) (G.SP (h + 1) ∷ G.LIP h ∷ G.LIP (h + 1) ∷ G.X act ∷ []) (chainCode text sc (here .strings) h (u .more) (k + exprLabels D))
-              ∙ ap (λ (v : ℕ). exprCode (here .strings) (h + 1) k D ++ (G.SP (h + 1) ∷ G.LIP h ∷ G.LIP (h + 1) ∷ G.X v ∷ chainCode text sc (here .strings) h (u .more) (k + exprLabels D))) op))
-              refl refl)
-              (omega (arith, chain-length y p))));
-        }
+    chain-next {act} ea e g f y p =
+        let z = y .ready in let u = item z (y .starts) l es en p in let x = g .by (chain-part (e .label) y p) in let sc = z .scope in let h = here .height in
+        let n = rest-length z (y .starts) l es en p in let D = expression text sc (h + 1) (u .part .operand) in
+        let op : act ≡ G.dyadicAct (u .part .operator) = ea ∙ ap G.dyadicAct (one-word z (y .starts) l es en p eo) in
+        goes-on z (y .starts) l es en p (x .keeps) (omega arith) (omega (arith, x .did .few, e .label, f .label)) (omega (arith, p .some, x .did .grows, e .label, f .label))
+        (λ t′ st′ d. did-as _ _ (did-after e (did-then (did-put (x .did) f) d)) same-refl
+        (λ k c. code-is
+        (ap (λ (l : List I.Item). G.SP h ∷ l) (append-assoc (exprCode (here .strings) (h + 1) k D) (G.SP (h + 1) ∷ G.LIP h ∷ G.LIP (h + 1) ∷ G.X act ∷ []) (chainCode text sc (here .strings) h (u .more) (k + exprLabels D))
+        ∙ ap (λ (v : ℕ). exprCode (here .strings) (h + 1) k D ++ (G.SP (h + 1) ∷ G.LIP h ∷ G.LIP (h + 1) ∷ G.X v ∷ chainCode text sc (here .strings) h (u .more) (k + exprLabels D))) op))
+        refl refl)
+        (omega arith))
 
-  pub chain-end : {s t : List ℕ} {at : ℕ} {st : State} → end ≤ at → ((y : ReadyChain s₀ from end here st₀) → ChainPart y s t at st) → GaveChain text s₀ s from end here t₀ t st₀ st
-  unfolding inOperations chainCode chainHeights chainLabels encodeOperations
-  chain-end {s} {t} {at} {st} l q = record { by = λ y. let p = q y in record { keeps = p .keeps; did = p .finish t st (none (p .rest) y (p .ends)) } }
-    where
-      none : (os : Operations) (y : ReadyChain s₀ from end here st₀) → end ≡ at + length (encodeOperations os) → Did (inOperations text (y .ready .scope) (leavable here) (here .height) os) (chainSays text here (y .ready .scope) os) (2 * length (encodeOperations os)) t t st st
-      none T.noOperations y e = did-none _
-      none (T.operation o d os) y e = absurd (omega (arith, length-append (encode d) (encodeOperations os)))
+  pub chain-end : {s t : List ℕ} {at : ℕ} {st : State} → end ≤ at → ((y : ReadyChain s₀ from end here st₀) → ChainPart y s t at st)
+      → GaveChain text s₀ s from end here t₀ t st₀ st
+  unfolding inOperations chainCode chainHeights chainLabels
+  chain-end l q = record { by = λ y. record { keeps = q y .keeps; did = ended (q y) l (λ m. did-none m) } }
 
 pub chain-ready-at : {s : List ℕ} {from end : ℕ} {d d′ : Here} {st : State} → d′ ≡ d → ReadyChain s from end d st → ReadyChain s from end d′ st
 chain-ready-at {s} {from} {end} {st = st} e y = subst (λ (x : Here). ReadyChain s from end x st) (sym e) y

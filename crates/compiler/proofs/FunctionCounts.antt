@@ -12,6 +12,7 @@ use Rattle.compiler.specs.Walks.{Lies}
 use Rattle.compiler.specs.Groups.{functionCount, CountsFunctions, CountsGroup}
 use Rattle.compiler.specs.Programs.{encodeDeclared, declaredWord}
 use Rattle.compiler.proofs.Trees.{first, second}
+use Rattle.compiler.proofs.Lists.{First, first-of}
 
 pub program-step : (d : Declaration) (p : Program)
     → encodeProgram (d ∷ p) ≡ (length (encodeDeclared d) ∷ declaredWord d ∷ encodeDeclared d) ++ encodeProgram p
@@ -21,37 +22,16 @@ program-step (T.manifests is) p = refl
 program-step (T.functions fs) p = refl
 
 -- the declaration at the front
-pub record IsDeclaration (s : List ℕ) (at end : ℕ) (p : Program) : Type 0 where
-  pub part : Declaration
-  pub more : Program
-  pub same : p ≡ part ∷ more
-  pub size-of : getD s at 0 ≡ length (encodeDeclared part)
-  pub word-of : getD s (at + 1) 0 ≡ declaredWord part
-  pub lies-one : Lies s (at + 2) (encodeDeclared part)
-  pub lies-more : Lies s (at + 2 + length (encodeDeclared part)) (encodeProgram more)
-  pub ends : end ≡ at + 2 + length (encodeDeclared part) + length (encodeProgram more)
+abbrev pub IsDeclaration : (s : List ℕ) (at end : ℕ) → Program → Type 0
+IsDeclaration = First encodeProgram encodeDeclared declaredWord (λ d p. d ∷ p)
 
 pub is-declaration : {s : List ℕ} {at end : ℕ} (p : Program)
     → Lies s at (encodeProgram p) → end ≡ at + length (encodeProgram p) → at < end → IsDeclaration s at end p
 unfolding encodeProgram
 is-declaration [] h e l = absurd (omega arith)
 is-declaration {s} {at} (d ∷ p) h e l =
-    let w : List ℕ = encodeDeclared d in
-    let x : List ℕ = length w ∷ declaredWord d ∷ w in
-    let two : List ℕ = length w ∷ declaredWord d ∷ [] in
-    let q = program-step d p in
-    let h′ : Lies s at (x ++ encodeProgram p) = subst (Lies s at) q h in
-    let front : Lies s at x = first x (encodeProgram p) h′ in
-    record {
-      part = d;
-      more = p;
-      same = refl;
-      size-of = ap (λ (z : ℕ). getD s z 0) (omega arith) ∙ front .at 0 (omega arith);
-      word-of = front .at 1 (omega arith);
-      lies-one = second two w (at + 2) front refl;
-      lies-more = second x (encodeProgram p) (at + 2 + length w) h′ (omega arith);
-      ends = omega (arith, e, ap length q, length-append x (encodeProgram p));
-    }
+    first-of encodeProgram encodeDeclared declaredWord (λ d p. d ∷ p) d p (subst (Lies s at) (program-step d p) h)
+    (e ∙ ap (λ (x : List ℕ). at + length x) (program-step d p))
 
 pub no-declaration : {at end : ℕ} (p : Program) → end ≡ at + length (encodeProgram p) → end ≤ at → p ≡ []
 no-declaration [] e l = refl
@@ -100,7 +80,7 @@ module _ {s : List ℕ} {from end at n size word : ℕ} (l : at < end) (es : siz
         rest = u .more;
         lies = subst (λ (z : ℕ). Lies s (at + 2 + z) (encodeProgram (u .more))) (sym k) (u .lies-more);
         ends = omega (arith, u .ends, k);
-        sum = omega (arith, c .sum, ap functionCount (u .same), count-step (u .part) (u .more), own (u .part) (ew ∙ u .word-of) (u .lies-one) k);
+        sum = omega (arith, c .sum, ap functionCount (u .same), count-step (u .part) (u .more), own (u .part) (ew ∙ u .word-of) (u .lies) k);
       }
 
   pub counted-group : {m : ℕ} → word ≡ K.LET → CountsGroup s (at + 2) (at + 2 + size) m → Counted s from end (at + 2 + size) (n + m)

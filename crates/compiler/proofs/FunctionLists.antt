@@ -290,7 +290,7 @@ module _ (text t₀ : List ℕ) {s₀ : List ℕ} {from end : ℕ} {here : Here}
       lo = at + 2;
       tree = group-one .part;
       scope = y .scope;
-      lies = keeps-lies (p .keeps) (omega (arith, y .above, p .starts)) (group-one .lies-one);
+      lies = keeps-lies (p .keeps) (omega (arith, y .above, p .starts)) (group-one .lies);
       ends = omega (arith, en, group-size);
       above = omega (arith, y .above, p .starts);
       long = omega (arith, y .long, p .keeps .long);
@@ -324,7 +324,7 @@ module _ (text t₀ : List ℕ) {s₀ : List ℕ} {from end : ℕ} {here : Here}
         let q4 : at + 2 + 2 ≡ at + 4 = omega arith in
         let one = yields-one text (y .scope) start (here .strings) l f (x .did) (p .low) er
         (ep ∙ x .keeps .above (at + 4) (omega (arith, y .above, p .starts)) ∙ p .keeps .above (at + 4) (omega (arith, y .above, p .starts))
-        ∙ ap (λ (z : ℕ). getD s₀ z 0) (sym q4) ∙ function-place f (u .lies-one)) small et in
+        ∙ ap (λ (z : ℕ). getD s₀ z 0) (sym q4) ∙ function-place f (u .lies)) small et in
         record {
           rest = u .more;
           found = p .found ++ functionFaults text (y .scope) f;

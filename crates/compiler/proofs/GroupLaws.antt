@@ -23,6 +23,7 @@ use Rattle.compiler.specs.Walks.{Lies}
 use Rattle.compiler.specs.Commands.{nothing}
 use Rattle.compiler.proofs.Done.{did-none}
 use Rattle.compiler.proofs.Trees.{first, second}
+use Rattle.compiler.proofs.Lists.{First, first-of}
 use Rattle.language.specs.Program.{startOf, withFunction, nameFault, alsoTaken}
 use Rattle.compiler.specs.Groups.{Taken, NameFaults, Enters, started, encodeFunction, CountsGroup}
 
@@ -149,30 +150,14 @@ pub record CountPart (s : List ℕ) (at end n : ℕ) (fs : List Function) : Type
 abbrev pub Counting : (s : List ℕ) (from end at n : ℕ) → Type 0
 Counting s from end at n = (fs : List Function) → Lies s from (encodeFunctions fs) → end ≡ from + length (encodeFunctions fs) → CountPart s at end n fs
 
-pub record IsFunction (s : List ℕ) (at end : ℕ) (fs : List Function) : Type 0 where
-  pub part : Function
-  pub more : List Function
-  pub same : fs ≡ part ∷ more
-  pub size-of : getD s at 0 ≡ length (encodeFunction part)
-  pub lies-one : Lies s (at + 2) (encodeFunction part)
-  pub lies-more : Lies s (at + 2 + length (encodeFunction part)) (encodeFunctions more)
-  pub ends : end ≡ at + 2 + length (encodeFunction part) + length (encodeFunctions more)
+abbrev pub IsFunction : (s : List ℕ) (at end : ℕ) → List Function → Type 0
+IsFunction = First encodeFunctions encodeFunction (λ f. 0) (λ f fs. f ∷ fs)
 
-pub is-function : {s : List ℕ} {at end : ℕ} (fs : List Function) → Lies s at (encodeFunctions fs) → end ≡ at + length (encodeFunctions fs) → at < end → IsFunction s at end fs
+pub is-function : {s : List ℕ} {at end : ℕ} (fs : List Function) → Lies s at (encodeFunctions fs) → end ≡ at + length (encodeFunctions fs) → at < end
+    → IsFunction s at end fs
 unfolding encodeFunctions
 is-function [] h e l = absurd (omega arith)
-is-function {s} {at} (f ∷ fs) h e l =
-    let w : List ℕ = encodeFunction f in let x : List ℕ = length w ∷ 0 ∷ w in let two : List ℕ = length w ∷ 0 ∷ [] in
-    let front : Lies s at x = first x (encodeFunctions fs) h in
-    record {
-      part = f;
-      more = fs;
-      same = refl;
-      size-of = ap (λ (z : ℕ). getD s z 0) (omega arith) ∙ front .at 0 (omega arith);
-      lies-one = second two w (at + 2) front refl;
-      lies-more = second x (encodeFunctions fs) (at + 2 + length w) h (omega arith);
-      ends = omega (arith, e, length-append x (encodeFunctions fs));
-    }
+is-function (f ∷ fs) h e l = first-of encodeFunctions encodeFunction (λ f. 0) (λ f fs. f ∷ fs) f fs h e
 
 pub no-function : {at end : ℕ} (fs : List Function) → end ≡ at + length (encodeFunctions fs) → end ≤ at → fs ≡ []
 unfolding encodeFunctions

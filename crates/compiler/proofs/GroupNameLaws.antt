@@ -214,7 +214,7 @@ module _ (text : List ℕ) {s₀ table₀ : List ℕ} {from end top before : ℕ
 
   function-name : {s table : List ℕ} {at k now : ℕ} {st : State} (l : at < end)
       (y : ReadyGroup s₀ table₀ from end top before) (p : GroupPart y s table at k now st) → nameAt s (at + 2) ≡ is-function (p .rest) (p .lies) (p .ends) l .part .name
-  function-name l y p = let u = is-function (p .rest) (p .lies) (p .ends) l in keeps-name (p .keeps) (omega (arith, y .above, p .starts)) ∙ name-of (u .part) (u .lies-one)
+  function-name l y p = let u = is-function (p .rest) (p .lies) (p .ends) l in keeps-name (p .keeps) (omega (arith, y .above, p .starts)) ∙ name-of (u .part) (u .lies)
 
   pub names-fit : {s table : List ℕ} {at k now : ℕ} {st : State} → at < end
       → (y : ReadyGroup s₀ table₀ from end top before) → GroupPart y s table at k now st → Fits y s table at k now

@@ -2,6 +2,7 @@ pub mod Scoping
 pub mod Done
 pub mod Trees
 pub mod Parts
+pub mod Lists
 pub mod Counting
 pub mod Forms
 pub mod Expressions

@@ -1,4 +1,4 @@
--- From a tree that is ready to its parts, and the loops over lists.
+-- From a tree that is ready to its parts.
 use Prim.Native.Nat.{ℕ, zero, suc, _+_, _*_, _-_, _≤_, _<_, _^_}
 use mathlib.Core.Path.{_≡_, refl, sym, ap, subst, _∙_}
 use mathlib.Core.List.{List, [], _∷_, _++_}
@@ -39,17 +39,3 @@ module _ {A B : Type 0} {encA : A → List ℕ} {deepA : A → ℕ} {FineA : A �
     shallow = deep;
     fine = fine;
   }
-
--- a loop over a list, at `at`, where `rest` is left; the list, and what it does, may depend on the height
-pub record Part {L : Type 0} (enc : L → List ℕ) (deep : L → ℕ) (Fine : L → Type 0) (fs : ℕ → L → List Fault) (code : ℕ → L → ℕ → Code) (all : L) (from end base top left h₀ h : ℕ) (s₀ s t₀ t : List ℕ) (st₀ st : State) (at : ℕ) : Type 0 where
-  pub rest : L
-  pub lies : Lies s₀ at (enc rest)
-  pub ends : end ≡ at + length (enc rest)
-  pub starts : from ≤ at
-  pub keeps : Keeps base top s₀ s
-  pub label : st .label + 2 * length (enc rest) ≤ st₀ .label + 2 * length (enc all)
-  pub some : 0 < st .label
-  pub shallow : deep rest ≤ left
-  pub fine : Fine rest
-  pub height : h + 4100 * length (enc rest) ≤ h₀ + 4100 * length (enc all)
-  pub finish : (t′ : List ℕ) (st′ : State) → Did (fs h rest) (code h rest) (2 * length (enc rest)) t t′ st st′ → Did (fs h₀ all) (code h₀ all) (2 * length (enc all)) t₀ t′ st₀ st′

@@ -161,7 +161,7 @@ module _ (text t₀ : List ℕ) {s₀ table₀ : List ℕ} {base end left string
       walk = p .walk;
       part = program-one .part;
       stands = p .stands;
-      lies = keeps-lies (p .keeps) (omega (arith, p .starts)) (program-one .lies-one);
+      lies = keeps-lies (p .keeps) (omega (arith, p .starts)) (program-one .lies);
       ends = omega (arith, en, program-size);
       word = program-word;
       above = omega (arith, p .starts);

@@ -34,6 +34,7 @@ use Rattle.compiler.specs.Commands.{cmdSays, ReadyU, GaveU, encodeRepeat
 use Rattle.compiler.proofs.Done.{emits-did, did-none, did-put, did-after, did-then, did-as, did-at, did-fresh, same-refl, same-eq, code-is}
 use Rattle.compiler.proofs.Trees.{first, second, kid, ends, value-is, size-is, kind-is}
 use Rattle.compiler.proofs.Parts.{sub}
+use Rattle.compiler.proofs.Lists.{First, first-of, Kind, Part, begins, item, one-size, one-word, rest-length, both-deep, both-fine, goes-on, ended}
 use Rattle.compiler.proofs.Anywhere.{any-expression}
 use Rattle.compiler.proofs.Guards.{expression-closed}
 use Rattle.compiler.proofs.Labelled.{closed-long}
@@ -76,47 +77,45 @@ abbrev pub oneSays : List ℕ → Here → Scope → (own : ℕ) → AForm → �
 oneSays text x sc own alone n = record { items = G.JL own ∷ []; heights = []; labels = 0 }
 oneSays text x sc own (onTest w e) n = formSays text x sc w own e n
 
-pub record IsForm (s : List ℕ) (at end : ℕ) (rs : Repeats) : Type 0 where
-  pub part : AForm
-  pub more : Repeats
-  pub same : rs ≡ withForm part more
-  pub size-of : getD s at 0 ≡ length (formEncoding part)
-  pub word-of : getD s (at + 1) 0 ≡ formWord part
-  pub lies : Lies s (at + 2) (formEncoding part)
-  pub lies-more : Lies s (at + 2 + length (formEncoding part)) (encodeRepeats more)
-  pub ends : end ≡ at + 2 + length (formEncoding part) + length (encodeRepeats more)
-
-is-form-of : {s : List ℕ} {at end : ℕ} (f : AForm) (rs : Repeats) → Lies s at (length (formEncoding f) ∷ formWord f ∷ (formEncoding f ++ encodeRepeats rs))
-    → end ≡ at + length (length (formEncoding f) ∷ formWord f ∷ (formEncoding f ++ encodeRepeats rs)) → IsForm s at end (withForm f rs)
-is-form-of {s} {at} {end} f rs h e =
-    let a : at + 0 ≡ at = omega arith in let x = formEncoding f in let y = encodeRepeats rs in
-    let r = second (length x ∷ formWord f ∷ []) (x ++ y) (at + 2) h refl in
-    record {
-      part = f;
-      more = rs;
-      same = refl;
-      size-of = ap (λ (k : ℕ). getD s k 0) (sym a) ∙ h .at 0 (omega arith);
-      word-of = h .at 1 (omega arith);
-      lies = first x y r;
-      lies-more = second x y (at + 2 + length x) r refl;
-      ends = omega (arith, e, length-append x y);
-    }
-
-pub is-form : {s : List ℕ} {at end : ℕ} (rs : Repeats) → Lies s at (encodeRepeats rs) → end ≡ at + length (encodeRepeats rs) → at < end → IsForm s at end rs
+pub is-form : {s : List ℕ} {at end : ℕ} (rs : Repeats) → Lies s at (encodeRepeats rs) → end ≡ at + length (encodeRepeats rs) → at < end
+    → First encodeRepeats formEncoding formWord withForm s at end rs
 unfolding encodeRepeats
 is-form T.noRepeats h e l = absurd (omega arith)
-is-form (T.repeat rs) h e l = is-form-of alone rs h e
-is-form (T.repeatOn w d rs) h e l = is-form-of (onTest w d) rs h e
+is-form (T.repeat rs) h e l = first-of encodeRepeats formEncoding formWord withForm alone rs h e
+is-form (T.repeatOn w d rs) h e l = first-of encodeRepeats formEncoding formWord withForm (onTest w d) rs h e
 
-form-deep : (f : AForm) (rs : Repeats) {k : ℕ} → repeatsDepth (withForm f rs) ≤ k → (formDepth f ≤ k) × (repeatsDepth rs ≤ k)
+pub no-form : (rs : Repeats) → length (encodeRepeats rs) ≡ 0 → rs ≡ T.noRepeats
+unfolding encodeRepeats
+no-form T.noRepeats e = refl
+no-form (T.repeat rs) e = absurd (omega arith)
+no-form (T.repeatOn w d rs) e = absurd (omega arith)
+
+pub form-deep : (f : AForm) (rs : Repeats) (k : ℕ) → repeatsDepth (withForm f rs) ≤ k → (formDepth f ≤ k) × (repeatsDepth rs ≤ k)
 unfolding repeatsDepth
-form-deep alone rs l = (omega arith, l)
-form-deep (onTest w e) rs l = (omega arith, omega arith)
+form-deep alone rs k l = (omega arith, l)
+form-deep (onTest w e) rs k l = (omega arith, omega arith)
 
-form-fine : (f : AForm) (rs : Repeats) → FineRs (withForm f rs) → FineForm f × FineRs rs
+pub form-fine : (f : AForm) (rs : Repeats) → FineRs (withForm f rs) → FineForm f × FineRs rs
 unfolding FineRepeats
 form-fine alone rs p = (tt, p)
 form-fine (onTest w e) rs p = p
+
+abbrev pub formList : Kind Repeats AForm
+formList = record {
+  all = encodeRepeats;
+  one = formEncoding;
+  word = formWord;
+  with = withForm;
+  none = T.noRepeats;
+  deep = repeatsDepth;
+  deep-one = formDepth;
+  Fine = FineRs;
+  Fine-one = FineForm;
+  takes = is-form;
+  empty = no-form;
+  deeper = form-deep;
+  finer = form-fine;
+}
 
 form-conditions : (f : AForm) (rs : Repeats) → conditions (withForm f rs) ≡ length (formEncoding f) + conditions rs
 unfolding conditions
@@ -147,116 +146,73 @@ form-code text x sc own n (onTest w e) rs =
 -- ---- the loop over them
 
 module _ (text t₀ : List ℕ) (own₀ : ℕ) {s₀ : List ℕ} {from end : ℕ} {here : Here} {st₀ : State} where
-  pub record FormsPart (y : ReadyForms s₀ from end here st₀) (s t : List ℕ) (at own : ℕ) (st : State) : Type 0 where
-    pub rest : Repeats
-    pub lies : Lies s₀ at (encodeRepeats rest)
-    pub ends : end ≡ at + length (encodeRepeats rest)
-    pub starts : from ≤ at
-    pub keeps : Keeps (y .ready .base) (here .top) s₀ s
-    pub label : st .label + 2 * conditions rest ≤ st₀ .label + 2 * conditions (y .ready .tree)
-    pub some : 0 < st .label
-    pub shallow : repeatsDepth rest ≤ here .left
-    pub fine : FineRs rest
-    pub finish : (t′ : List ℕ) (st′ : State) → Did (inRepeats text (y .ready .scope) (leavable here) (here .height) rest) (formsSays text here (y .ready .scope) own rest) (2 * conditions rest) t t′ st st′
-        → Did (inRepeats text (y .ready .scope) (leavable here) (here .height) (y .ready .tree)) (formsSays text here (y .ready .scope) own₀ (y .ready .tree)) (2 * conditions (y .ready .tree)) t₀ t′ st₀ st′
+  abbrev pub FormsPart : ReadyForms s₀ from end here st₀ → (s t : List ℕ) (at own : ℕ) (st : State) → Type 0
+  FormsPart y s t at own st = let z = y .ready in
+      Part formList conditions (λ i rs. inRepeats text (z .scope) (leavable here) (here .height) rs) (λ i rs. formsSays text here (z .scope) i rs) (z .tree)
+      from end (z .base) (here .top) (here .left) (here .height) (here .height) own₀ own s₀ s t₀ t st₀ st at
 
   pub forms-begin : (y : ReadyForms s₀ from end here st₀) → FormsPart y s₀ t₀ from own₀ st₀
-  forms-begin y = let z = y .ready in record {
-    rest = z .tree;
-    lies = subst (λ (n : ℕ). Lies s₀ n (encodeRepeats (z .tree))) (y .starts) (z .lies);
-    ends = omega (arith, z .ends, y .starts);
-    starts = omega arith;
-    keeps = keeps-all;
-    label = omega arith;
-    some = y .some;
-    shallow = z .shallow;
-    fine = z .fine;
-    finish = λ t′ st′ d. d;
-  }
+  forms-begin y = begins (y .ready) (y .starts) refl refl (y .some)
 
-  module _ {s t : List ℕ} {at size word next own : ℕ} {st : State} (l : at < end) (es : size ≡ getD s at 0) (ew : word ≡ getD s (at + 1) 0) (en : next ≡ at + 2 + size) where
-    pub forms-is : (y : ReadyForms s₀ from end here st₀) (p : FormsPart y s t at own st) → IsForm s₀ at end (p .rest)
-    forms-is y p = is-form (p .rest) (p .lies) (p .ends) l
+  module _ {s t : List ℕ} {at size word next own : ℕ} {st : State} (l : at < end) (es : size ≡ getD s at 0) (ew : word ≡ getD s (at + 1) 0) (en : next ≡ at + 2 + size)
+      (y : ReadyForms s₀ from end here st₀) (p : FormsPart y s t at own st) where
+    abbrev pub one : First encodeRepeats formEncoding formWord withForm s₀ at end (p .rest)
+    one = item (y .ready) (y .starts) l es en p
 
-    pub forms-size : (y : ReadyForms s₀ from end here st₀) (p : FormsPart y s t at own st) → size ≡ length (formEncoding (forms-is y p .part))
-    forms-size y p = es ∙ p .keeps .above at (omega (arith, y .ready .above, y .starts, p .starts)) ∙ forms-is y p .size-of
+    pub forms-size : size ≡ length (formEncoding (one .part))
+    forms-size = one-size (y .ready) (y .starts) l es en p
 
-    pub forms-word : (y : ReadyForms s₀ from end here st₀) (p : FormsPart y s t at own st) → word ≡ formWord (forms-is y p .part)
-    forms-word y p = ew ∙ p .keeps .above (at + 1) (omega (arith, y .ready .above, y .starts, p .starts)) ∙ forms-is y p .word-of
-
-    pub forms-length : (y : ReadyForms s₀ from end here st₀) (p : FormsPart y s t at own st) → let u = forms-is y p in length (encodeRepeats (p .rest)) ≡ 2 + length (formEncoding (u .part)) + length (encodeRepeats (u .more))
-    forms-length y p = let u = forms-is y p in omega (arith, p .ends, u .ends)
-
-    pub forms-conditions : (y : ReadyForms s₀ from end here st₀) (p : FormsPart y s t at own st) → let u = forms-is y p in conditions (p .rest) ≡ length (formEncoding (u .part)) + conditions (u .more)
-    forms-conditions y p = let u = forms-is y p in ap conditions (u .same) ∙ form-conditions (u .part) (u .more)
-
-    pub forms-deep : (y : ReadyForms s₀ from end here st₀) (p : FormsPart y s t at own st) → let u = forms-is y p in (formDepth (u .part) ≤ here .left) × (repeatsDepth (u .more) ≤ here .left)
-    forms-deep y p = let u = forms-is y p in form-deep (u .part) (u .more) (subst (λ (r : Repeats). repeatsDepth r ≤ here .left) (u .same) (p .shallow))
-
-    pub forms-fine : (y : ReadyForms s₀ from end here st₀) (p : FormsPart y s t at own st) → let u = forms-is y p in FineForm (u .part) × FineRs (u .more)
-    forms-fine y p = let u = forms-is y p in form-fine (u .part) (u .more) (subst FineRs (u .same) (p .fine))
+    pub forms-conditions : conditions (p .rest) ≡ length (formEncoding (one .part)) + conditions (one .more)
+    forms-conditions = ap conditions (one .same) ∙ form-conditions (one .part) (one .more)
 
     module _ {a : State} (el : a .label ≡ st .label) where
       -- what stands there, as its test's expression
-      abbrev ready-test : (w : ℕ) (e : Expression) (y : ReadyForms s₀ from end here st₀) (p : FormsPart y s t at own st) → forms-is y p .part ≡ onTest w e → Ready encode depth FineE s next here a
-      ready-test w e y p q =
-          let z = y .ready in let u = forms-is y p in
-          let h = subst (λ (f : AForm). Lies s₀ (at + 2) (formEncoding f)) q (u .lies) in
-          let m : length (formEncoding (u .part)) ≡ length (encode e) = ap (λ (f : AForm). length (formEncoding f)) q in
-          sub encode depth FineE z (p .keeps) next (at + 2) here a e h (omega (arith, en, forms-size y p, m)) (omega (arith, y .starts, p .starts)) (omega (arith, en, forms-size y p, u .ends)) refl refl
-          (omega (arith, z .height, z .ends, p .ends, p .starts, y .starts, forms-length y p, m)) (omega (arith, y .label, p .label, forms-conditions y p, m, el)) (omega (arith, p .some, el))
-          (subst (λ (f : AForm). formDepth f ≤ here .left) q (forms-deep y p .0)) (subst FineForm q (forms-fine y p .0))
+      abbrev ready-test : (w : ℕ) (e : Expression) → one .part ≡ onTest w e → Ready encode depth FineE s next here a
+      ready-test w e q =
+          let z = y .ready in let h = subst (λ (f : AForm). Lies s₀ (at + 2) (formEncoding f)) q (one .lies) in
+          let m : length (formEncoding (one .part)) ≡ length (encode e) = ap (λ (f : AForm). length (formEncoding f)) q in
+          sub encode depth FineE z (p .keeps) next (at + 2) here a e h (omega (arith, forms-size)) (omega (arith, y .starts, p .starts)) (omega (arith, forms-size, one .ends)) refl refl
+          (omega (arith, z .height, p .height, rest-length z (y .starts) l es en p)) (omega (arith, y .label, p .label, forms-conditions)) (omega (arith, p .some))
+          (subst (λ (f : AForm). formDepth f ≤ here .left) q (both-deep z (y .starts) l es en p .0)) (subst FineForm q (both-fine z (y .starts) l es en p .0))
 
-      pub forms-part : (y : ReadyForms s₀ from end here st₀) → FormsPart y s t at own st → ReadyForm s next size here a
-      forms-part y p = record { on = λ n. by n (forms-is y p .part) refl }
+      ready-form : ReadyForm s next size here a
+      ready-form = record { on = λ n. by n (one .part) refl }
         where
-          by : (size ≡ 0 → ⊥) → (f : AForm) → forms-is y p .part ≡ f → Ready encode depth FineE s next here a
-          by n alone q = absurd (n (forms-size y p ∙ ap (λ (f : AForm). length (formEncoding f)) q))
-          by n (onTest w e) q = ready-test w e y p q
+          by : (size ≡ 0 → ⊥) → (f : AForm) → one .part ≡ f → Ready encode depth FineE s next here a
+          by n alone q = absurd (n (forms-size ∙ ap (λ (f : AForm). length (formEncoding f)) q))
+          by n (onTest w e) q = ready-test w e q
 
       -- what it did
-      form-did : {s₁ t₁ t₂ : List ℕ} {b : State} → GaveForm text s s₁ next size word own here t₁ t₂ a b → (y : ReadyForms s₀ from end here st₀) (p : FormsPart y s t at own st) → let f = forms-is y p .part in
-          Keeps (y .ready .base) (here .top) s s₁ × Did (formFaults text (y .ready .scope) here f) (oneSays text here (y .ready .scope) own f) (2 * length (formEncoding f)) t₁ t₂ a b
-      form-did {s₁} {t₁} {t₂} {b} g y p = by (forms-is y p .part) refl
+      form-did : {s₁ t₁ t₂ : List ℕ} {b : State} → GaveForm text s s₁ next size word own here t₁ t₂ a b →
+          Keeps (y .ready .base) (here .top) s s₁ × Did (formFaults text (y .ready .scope) here (one .part)) (oneSays text here (y .ready .scope) own (one .part)) (2 * length (formEncoding (one .part))) t₁ t₂ a b
+      form-did {s₁} {t₁} {t₂} {b} g = by (one .part) refl
         where
-          by : (f : AForm) → forms-is y p .part ≡ f → Keeps (y .ready .base) (here .top) s s₁ × Did (formFaults text (y .ready .scope) here f) (oneSays text here (y .ready .scope) own f) (2 * length (formEncoding f)) t₁ t₂ a b
+          by : (f : AForm) → one .part ≡ f → Keeps (y .ready .base) (here .top) s s₁ × Did (formFaults text (y .ready .scope) here f) (oneSays text here (y .ready .scope) own f) (2 * length (formEncoding f)) t₁ t₂ a b
           by alone q =
-              let x = g .plain (forms-size y p ∙ ap (λ (f : AForm). length (formEncoding f)) q) in
+              let x = g .plain (forms-size ∙ ap (λ (f : AForm). length (formEncoding f)) q) in
               (subst (λ (z : List ℕ). Keeps (y .ready .base) (here .top) s z) (sym (x .0)) keeps-all, did-as _ _ (emits-did _ (x .1) (λ n. refl)) same-refl (λ n e. refl) (omega arith))
           by (onTest w e) q =
-              let m : length (formEncoding (forms-is y p .part)) ≡ length (encode e) = ap (λ (f : AForm). length (formEncoding f)) q in
-              let x = g .on (λ n. omega (arith, n, forms-size y p, m, closed-long (expression-closed e))) .by (ready-test w e y p q) in
-              (x .keeps, subst (λ (v : ℕ). Did (inExpression text (y .ready .scope) (leavable here) (here .height) e) (formSays text here (y .ready .scope) v own e) (2 * length (encode e)) t₁ t₂ a b) (forms-word y p ∙ ap formWord q) (x .did))
+              let m : length (formEncoding (one .part)) ≡ length (encode e) = ap (λ (f : AForm). length (formEncoding f)) q in
+              let x = g .on (λ n. omega (arith, n, forms-size, m, closed-long (expression-closed e))) .by (ready-test w e q) in
+              (x .keeps, subst (λ (v : ℕ). Did (inExpression text (y .ready .scope) (leavable here) (here .height) e) (formSays text here (y .ready .scope) v own e) (2 * length (encode e)) t₁ t₂ a b) (one-word (y .ready) (y .starts) l es en p ew ∙ ap formWord q) (x .did))
+
+  module _ {s t : List ℕ} {at size word next own : ℕ} {st : State} (l : at < end) (es : size ≡ getD s at 0) (ew : word ≡ getD s (at + 1) 0) (en : next ≡ at + 2 + size) where
+    pub forms-part : {a : State} → a .label ≡ st .label → (y : ReadyForms s₀ from end here st₀) → FormsPart y s t at own st → ReadyForm s next size here a
+    forms-part el y p = ready-form l es ew en y p el
 
     pub forms-next : {s₁ t₁ t₂ t₃ : List ℕ} {own′ : ℕ} {a b r : State} → Emits (I.label (own + 1) ∷ []) [] t t₁ st a → GaveForm text s s₁ next size word own here t₁ t₂ a b → Emits (I.label (own + 2) ∷ []) [] t₂ t₃ b r
         → own′ ≡ own - 3 → (y : ReadyForms s₀ from end here st₀) → FormsPart y s t at own st → FormsPart y s₁ t₃ next own′ r
-    forms-next {s₁} {t₁} {t₂} {t₃} {own′} {a} {b} {r} m₁ g m₂ eo y p =
-        let z = y .ready in let u = forms-is y p in let x = form-did (m₁ .label) g y p in let sc = z .scope in
-        record {
-          rest = u .more;
-          lies = subst (λ (n : ℕ). Lies s₀ n (encodeRepeats (u .more))) (omega (arith, en, forms-size y p)) (u .lies-more);
-          ends = omega (arith, u .ends, en, forms-size y p);
-          starts = omega (arith, p .starts, en);
-          keeps = keeps-then (p .keeps) (x .0);
-          label = omega (arith, p .label, forms-conditions y p, x .1 .few, m₁ .label, m₂ .label);
-          some = omega (arith, p .some, x .1 .grows, m₁ .label, m₂ .label);
-          shallow = forms-deep y p .1;
-          fine = forms-fine y p .1;
-          finish = λ t′ st′ d. p .finish t′ st′
-              (subst (λ (rs : Repeats). Did (inRepeats text sc (leavable here) (here .height) rs) (formsSays text here sc own rs) (2 * conditions (p .rest)) t t′ st st′) (sym (u .same))
-              (did-as (formsSays text here sc own (withForm (u .part) (u .more))) _
-              (did-then (did-put (did-after m₁ (x .1)) m₂) (subst (λ (o : ℕ). Did (inRepeats text sc (leavable here) (here .height) (u .more)) (formsSays text here sc o (u .more)) (2 * conditions (u .more)) t₃ t′ r st′) eo d))
-              (same-eq (sym (form-faults text sc here (u .part) (u .more)))) (λ k c. form-code text here sc own k (u .part) (u .more)) (omega (arith, forms-conditions y p))));
-        }
+    forms-next {t₃ = t₃} {r = r} m₁ g m₂ eo y p =
+        let z = y .ready in let u = one l es ew en y p in let x = form-did l es ew en y p (m₁ .label) g in let sc = z .scope in let n = forms-conditions l es ew en y p in
+        goes-on z (y .starts) l es en p (x .0) (omega arith) (omega (arith, x .1 .few, m₁ .label, m₂ .label)) (omega (arith, p .some, x .1 .grows, m₁ .label, m₂ .label))
+        (λ t′ st′ d. did-as _ _
+        (did-then (did-put (did-after m₁ (x .1)) m₂) (subst (λ (o : ℕ). Did (inRepeats text sc (leavable here) (here .height) (u .more)) (formsSays text here sc o (u .more)) (2 * conditions (u .more)) t₃ t′ r st′) eo d))
+        (same-eq (sym (form-faults text sc here (u .part) (u .more)))) (λ k c. form-code text here sc own k (u .part) (u .more)) (omega arith))
 
-  pub forms-end : {s t : List ℕ} {at own : ℕ} {st : State} → end ≤ at → ((y : ReadyForms s₀ from end here st₀) → FormsPart y s t at own st) → GaveForms text s₀ s from end own₀ here t₀ t st₀ st
-  unfolding inRepeats formsCode formsHeights formsLabels encodeRepeats
-  forms-end {s} {t} {at} {own} {st} l q = record { by = λ y. let p = q y in record { keeps = p .keeps; did = p .finish t st (none (p .rest) y (p .ends)) } }
-    where
-      none : (rs : Repeats) (y : ReadyForms s₀ from end here st₀) → end ≡ at + length (encodeRepeats rs) → Did (inRepeats text (y .ready .scope) (leavable here) (here .height) rs) (formsSays text here (y .ready .scope) own rs) (2 * conditions rs) t t st st
-      none T.noRepeats y e = did-none _
-      none (T.repeat rs) y e = absurd (omega arith)
-      none (T.repeatOn w d rs) y e = absurd (omega arith)
+  pub forms-end : {s t : List ℕ} {at own : ℕ} {st : State} → end ≤ at → ((y : ReadyForms s₀ from end here st₀) → FormsPart y s t at own st)
+      → GaveForms text s₀ s from end own₀ here t₀ t st₀ st
+  unfolding inRepeats formsCode formsHeights formsLabels
+  forms-end l q = record { by = λ y. record { keeps = q y .keeps; did = ended (q y) l (λ m. did-none m) } }
 
 -- ---- the jump back
 

@@ -36,7 +36,8 @@ use Rattle.compiler.proofs.Trees.{first, second, keeps-lies}
 use Rattle.compiler.proofs.Parts.{sub}
 use Rattle.compiler.proofs.Anywhere.{with-ways}
 use Rattle.compiler.proofs.Guards.{closed-start, unlabelled-closed}
-use Rattle.compiler.proofs.Blocks.{IsCmd, is-cmd}
+use Rattle.compiler.proofs.Blocks.{commandList}
+use Rattle.compiler.proofs.Lists.{Part, begins, item, ready-one, goes-on, ended}
 use Rattle.compiler.proofs.Counting.{command-items}
 use Rattle.compiler.proofs.Forms as F
 use Rattle.compiler.proofs.Forms.{Form, form-at}
@@ -44,93 +45,42 @@ use Rattle.compiler.proofs.Forms.{Form, form-at}
 -- ---- the loop
 
 module _ (text t₀ : List ℕ) (w : Ways) (l₀ : ℕ) {s₀ : List ℕ} {from end : ℕ} {here : Here} {st₀ : State} where
-  pub record CasesPart (y : ReadyCases s₀ from end here st₀) (s t : List ℕ) (at k : ℕ) (st : State) : Type 0 where
-    pub rest : Commands
-    pub lies : Lies s₀ at (encodeCommands rest)
-    pub ends : end ≡ at + length (encodeCommands rest)
-    pub starts : from ≤ at
-    pub count : k ≤ at
-    pub keeps : Keeps (y .ready .base) (here .top) s₀ s
-    pub label : st .label + 2 * entriesIn rest ≤ st₀ .label + 2 * entriesIn (y .ready .tree)
-    pub some : 0 < st .label
-    pub shallow : commandsDepth rest ≤ here .left
-    pub fine : FineCs rest
-    pub finish : (t′ : List ℕ) (st′ : State) → Did (casesFaults text (y .ready .scope) (leavableBy w here) (here .height) rest) (casesSays here w (l₀ + k) (caseList text (y .ready .scope) (here .height) rest)) (2 * entriesIn rest) t t′ st st′
-        → Did (casesFaults text (y .ready .scope) (leavableBy w here) (here .height) (y .ready .tree)) (casesSays here w l₀ (caseList text (y .ready .scope) (here .height) (y .ready .tree))) (2 * entriesIn (y .ready .tree)) t₀ t′ st₀ st′
+  abbrev pub CasesPart : ReadyCases s₀ from end here st₀ → (s t : List ℕ) (at k : ℕ) (st : State) → Type 0
+  CasesPart y s t at k st = let z = y .ready in
+      Part commandList entriesIn (λ i cs. casesFaults text (z .scope) (leavableBy w here) (here .height) cs)
+      (λ i cs. casesSays here w i (caseList text (z .scope) (here .height) cs)) (z .tree)
+      from end (z .base) (here .top) (here .left) (here .height) (here .height) l₀ (l₀ + k) s₀ s t₀ t st₀ st at
 
   pub cases-begin : (y : ReadyCases s₀ from end here st₀) → CasesPart y s₀ t₀ from 0 st₀
-  cases-begin y = let z = y .ready in let a : l₀ + 0 ≡ l₀ = omega arith in record {
-    rest = z .tree;
-    lies = subst (λ (n : ℕ). Lies s₀ n (encodeCommands (z .tree))) (y .starts) (z .lies);
-    ends = omega (arith, z .ends, y .starts);
-    starts = omega arith;
-    count = omega arith;
-    keeps = keeps-all;
-    label = omega arith;
-    some = y .some;
-    shallow = z .shallow;
-    fine = z .fine;
-    finish = λ t′ st′ d. subst (λ (i : ℕ). Did (casesFaults text (z .scope) (leavableBy w here) (here .height) (z .tree)) (casesSays here w i (caseList text (z .scope) (here .height) (z .tree))) (2 * entriesIn (z .tree)) t₀ t′ st₀ st′) a d;
-  }
+  cases-begin y = begins (y .ready) (y .starts) refl (omega arith) (y .some)
 
-  module _ {s t : List ℕ} {at size next k : ℕ} {st : State} (l : at < end) (es : size ≡ getD s at 0) (en : next ≡ at + 2 + size) where
-    pub case-is : (y : ReadyCases s₀ from end here st₀) (p : CasesPart y s t at k st) → IsCmd s₀ at end (p .rest)
-    case-is y p = is-cmd (p .rest) (p .lies) (p .ends) l
-
-    pub case-size : (y : ReadyCases s₀ from end here st₀) (p : CasesPart y s t at k st) → size ≡ length (encodeCommand (case-is y p .part))
-    case-size y p = es ∙ p .keeps .above at (omega (arith, y .ready .above, y .starts, p .starts)) ∙ case-is y p .size-of
-
-    pub case-length : (y : ReadyCases s₀ from end here st₀) (p : CasesPart y s t at k st) → let u = case-is y p in length (encodeCommands (p .rest)) ≡ 2 + length (encodeCommand (u .part)) + length (encodeCommands (u .more))
-    case-length y p = let u = case-is y p in omega (arith, p .ends, u .ends)
-
-    pub case-entries : (y : ReadyCases s₀ from end here st₀) (p : CasesPart y s t at k st) → let u = case-is y p in entriesIn (p .rest) ≡ length (encodeCommand (u .part)) + entriesIn (u .more)
+  module _ (k : ℕ) {s t : List ℕ} {at size next : ℕ} {st : State} (l : at < end) (es : size ≡ getD s at 0) (en : next ≡ at + 2 + size) where
+    pub case-entries : (y : ReadyCases s₀ from end here st₀) (p : CasesPart y s t at k st) → let u = item (y .ready) (y .starts) l es en p in
+        entriesIn (p .rest) ≡ length (encodeCommand (u .part)) + entriesIn (u .more)
     unfolding entriesIn
-    case-entries y p = ap entriesIn (case-is y p .same)
-
-    pub case-deep : (y : ReadyCases s₀ from end here st₀) (p : CasesPart y s t at k st) → let u = case-is y p in (commandDepth (u .part) ≤ here .left) × (commandsDepth (u .more) ≤ here .left)
-    unfolding commandsDepth
-    case-deep y p = let e = ap commandsDepth (case-is y p .same) in (omega (arith, p .shallow, e), omega (arith, p .shallow, e))
-
-    pub case-fine : (y : ReadyCases s₀ from end here st₀) (p : CasesPart y s t at k st) → let u = case-is y p in FineC (u .part) × FineCs (u .more)
-    unfolding FineCommands
-    case-fine y p = subst FineCs (case-is y p .same) (p .fine)
+    case-entries y p = ap entriesIn (item (y .ready) (y .starts) l es en p .same)
 
     module _ {t₁ : List ℕ} {a : State} (m : Emits (I.label (l₀ + k) ∷ []) [] t t₁ st a) where
       abbrev pub case-part : (y : ReadyCases s₀ from end here st₀) → CasesPart y s t at k st → ReadyC s next here a
-      case-part y p = let z = y .ready in let u = case-is y p in
-          sub encodeCommand commandDepth FineC z (p .keeps) next (at + 2) here a (u .part) (u .lies) (omega (arith, en, case-size y p)) (omega (arith, y .starts, p .starts)) (omega (arith, en, case-size y p, u .ends)) refl refl
-          (omega (arith, z .height, z .ends, p .ends, p .starts, y .starts, case-length y p)) (omega (arith, y .label, p .label, case-entries y p, m .label)) (omega (arith, p .some, m .label)) (case-deep y p .0) (case-fine y p .0)
+      case-part y p =
+          ready-one (y .ready) (y .starts) l es en p here a refl refl refl (omega arith) (omega (arith, y .label, p .label, case-entries y p, m .label))
+          (omega (arith, p .some, m .label))
 
-      pub cases-next : {s₁ t₂ : List ℕ} {r : State} → GaveCase text s s₁ next here w t₁ t₂ a r → (y : ReadyCases s₀ from end here st₀) → CasesPart y s t at k st → CasesPart y s₁ t₂ next (k + 1) r
+      pub cases-next : {s₁ t₂ : List ℕ} {r : State} → GaveCase text s s₁ next here w t₁ t₂ a r → (y : ReadyCases s₀ from end here st₀) → CasesPart y s t at k st
+          → CasesPart y s₁ t₂ next (k + 1) r
       unfolding casesFaults caseList G.casesCode ofCases G.casesLabels
-      cases-next {s₁} {t₂} {r} g y p =
-          let z = y .ready in let u = case-is y p in let x = g .by (case-part y p) in let sc = z .scope in let h = here .height in let lv = leavableBy w here in
-          let a : l₀ + (k + 1) ≡ suc (l₀ + k) = omega arith in
-          record {
-            rest = u .more;
-            lies = subst (λ (n : ℕ). Lies s₀ n (encodeCommands (u .more))) (omega (arith, en, case-size y p)) (u .lies-more);
-            ends = omega (arith, u .ends, en, case-size y p);
-            starts = omega (arith, p .starts, en);
-            count = omega (arith, p .count, en);
-            keeps = keeps-then (p .keeps) (x .keeps);
-            label = omega (arith, p .label, case-entries y p, x .did .few, m .label);
-            some = omega (arith, p .some, x .did .grows, m .label);
-            shallow = case-deep y p .1;
-            fine = case-fine y p .1;
-            finish = λ t′ st′ d. p .finish t′ st′
-                (subst (λ (cs : Commands). Did (casesFaults text sc lv h cs) (casesSays here w (l₀ + k) (caseList text sc h cs)) (2 * entriesIn (p .rest)) t t′ st st′) (sym (u .same))
-                (did-as (casesSays here w (l₀ + k) (caseList text sc h (T.andCommand (u .part) (u .more)))) _
-                (did-then (did-after m (x .did)) (subst (λ (i : ℕ). Did (casesFaults text sc lv h (u .more)) (casesSays here w i (caseList text sc h (u .more))) (2 * entriesIn (u .more)) t₂ t′ r st′) a d))
-                same-refl (λ i c. refl) (omega (arith, case-entries y p))));
-          }
+      cases-next {t₂ = t₂} {r} g y p =
+          let z = y .ready in let u = item z (y .starts) l es en p in let x = g .by (case-part y p) in let sc = z .scope in let h = here .height in
+          let n = case-entries y p in let a : l₀ + (k + 1) ≡ suc (l₀ + k) = omega arith in
+          goes-on z (y .starts) l es en p (x .keeps) (omega arith) (omega (arith, x .did .few, m .label)) (omega (arith, p .some, x .did .grows, m .label))
+          (λ t′ st′ d. did-as _ _
+          (did-then (did-after m (x .did)) (subst (λ (i : ℕ). Did (casesFaults text sc (leavableBy w here) h (u .more)) (casesSays here w i (caseList text sc h (u .more))) (2 * entriesIn (u .more)) t₂ t′ r st′) a d))
+          same-refl (λ i c. refl) (omega arith))
 
-  pub cases-end : {s t : List ℕ} {at k : ℕ} {st : State} → end ≤ at → ((y : ReadyCases s₀ from end here st₀) → CasesPart y s t at k st) → GaveCases text s₀ s from end l₀ here w t₀ t st₀ st
-  unfolding casesFaults caseList G.casesCode ofCases G.casesLabels encodeCommands
-  cases-end {s} {t} {at} {k} {st} l q = record { by = λ y. let p = q y in record { keeps = p .keeps; did = p .finish t st (none (p .rest) y (p .ends)) } }
-    where
-      none : (cs : Commands) (y : ReadyCases s₀ from end here st₀) → end ≡ at + length (encodeCommands cs) → Did (casesFaults text (y .ready .scope) (leavableBy w here) (here .height) cs) (casesSays here w (l₀ + k) (caseList text (y .ready .scope) (here .height) cs)) (2 * entriesIn cs) t t st st
-      none T.noCommands y e = did-none _
-      none (T.andCommand c cs) y e = absurd (omega (arith, length-append (encodeCommand c) (encodeCommands cs)))
+  pub cases-end : (k : ℕ) {s t : List ℕ} {at : ℕ} {st : State} → end ≤ at → ((y : ReadyCases s₀ from end here st₀) → CasesPart y s t at k st)
+      → GaveCases text s₀ s from end l₀ here w t₀ t st₀ st
+  unfolding casesFaults caseList G.casesCode ofCases G.casesLabels
+  cases-end k l q = record { by = λ y. record { keeps = q y .keeps; did = ended (q y) l (λ m. did-none m) } }
 
 -- ---- the faults of labels and commands, one by one or those of the labels first
 
