@@ -1,14 +1,14 @@
 -- From the walk of the tree to the answer: what the walk asks holds of every tree that is read, and what it leaves is the generator's text.
-use Prim.Native.Nat.{ℕ, zero, suc, _+_, _*_, _-_, _≤_, _<_, _^_}
+use Prim.Native.Nat.{ℕ, zero, suc, _+_, _*_, _-_, _≤_}
 use mathlib.Core.Path.{_≡_, refl, sym, ap, subst, _∙_}
 use mathlib.Core.Bool.{Bool, true, false, not, cond}
 use mathlib.Core.List.{List, [], _∷_, _++_, append-assoc}
 use native.Mathlib.Omega.{arith}
 use native.Mathlib.Numerals.{add-one}
-use lib.ListN.{length, getD, replicate, take, drop, length-append, length-replicate, List·getD-append}
+use lib.ListN.{length, getD, replicate, take, drop, length-append, List·getD-append}
 use lib.Seq.{getD-append-add, length-take-le}
 use lib.Dec.{eqb, ltb}
-use borrow.Author.Tests.{eq-eqb, ne-eqb, eqb-true, ltb-false}
+use borrow.Author.Tests.{ne-eqb, eqb-true, ltb-false}
 use Rattle.text.specs.Quoted.{quoted}
 use Rattle.language.specs.Kinds.{STRING}
 use Rattle.items.specs.Item.{Item}
@@ -17,14 +17,15 @@ use Rattle.language.specs.Symbols as Y
 use Rattle.language.specs.Symbols.{Symbol, scan}
 use Rattle.language.specs.Brackets.{firstFault, brackets}
 use Rattle.language.specs.Source as S
-use Rattle.language.specs.Source.{Symbols, good, faulty, symbolsOf, parsed, readSymbols}
-use Rattle.language.specs.Reader.{Source, Out, ok, no}
+use Rattle.language.specs.Source.{good, symbolsOf, parsed, readSymbols}
+use Rattle.language.specs.Reader.{ok}
 use Rattle.language.specs.Grammar.{treeOf}
 use Rattle.language.specs.Tree as T
-use Rattle.language.specs.Tree.{Program, Function, Declaration}
+use Rattle.language.specs.Tree.{Program, Function}
 use Rattle.language.specs.Constants.{Fault}
 use Rattle.language.specs.Resolved.{Fun, Start, nowhere, inGlobal}
-use Rattle.language.specs.Program.{Refused, accepted, refused, leastOr, rulesRefuse, Walk, begin, Named, afterDeclaration, declarationFunctions, functionsFrom, functionsOf, faultsFrom, faultsOfProgram, heightFaults, hasStart, startsInOne, functionsAfter, groupOf}
+use Rattle.language.specs.Program.{Refused, accepted, refused, leastOr, rulesRefuse, Walk, begin, Named, afterDeclaration, functionsFrom, functionsOf}
+use Rattle.language.specs.Program.{faultsFrom, faultsOfProgram, heightFaults, hasStart, startsInOne, functionsAfter, groupOf}
 use Rattle.language.specs.Whole.{functionsIn, stringsIn, charactersOf, stringsAmong, funs, unlessFits}
 use Rattle.language.proofs.Depth.{programDepth}
 use Rattle.language.proofs.CommandDepths.{LowProgram, low-program}
@@ -42,13 +43,11 @@ use Rattle.symbols.specs.declared.SymbolsRead.{SymbolsRead}
 use Rattle.tree.specs.Encoding.{encodeItems, encodeFunctions, encodeProgram}
 use Rattle.tree.specs.Read.{padded, decoded}
 use Rattle.code.specs.Generate.{functionsCode, stringsCode, startsCode, itemsOf, textOf}
-use Rattle.writing.specs.Text.{Text, Puts, over, upto, lines}
+use Rattle.writing.specs.Text.{Text, Puts, over, lines}
 use Rattle.writing.proofs.Laws.{over-length, lines-then, puts-none, puts-then, puts-as, upto-in}
 use Rattle.compiler.specs.declared.Compiled.{Compiled}
-use Rattle.compiler.specs.declared.steps.State.{State}
 use Rattle.compiler.specs.declared.program.Done.{Done}
 use Rattle.compiler.specs.Walks.{Lies}
-use Rattle.compiler.specs.Walked.{least, AllFit}
 use Rattle.compiler.specs.Groups.{FineDs, Starting, encodeFunction, functionCount, CountsFunctions}
 use Rattle.compiler.specs.Programs.{startsOf, ReadyProgram, Walked, GaveProgram}
 use Rattle.compiler.specs.Strings.{stringCount, AllEnd, WritesStrings, WritesStarts}
@@ -110,7 +109,8 @@ found-start (f ∷ ns) h = go (f .fun .start) refl h (found-start ns)
     after : Somewhere ns → Somewhere (f ∷ ns)
     after z = record { at = suc (z .at); starts = z .starts }
 
-    onto : (n : ℕ) → f .fun .start ≡ inGlobal n → (b : Bool) → eqb n 1 ≡ b → cond b true (hasStart ns) ≡ true → (hasStart ns ≡ true → Somewhere ns) → Somewhere (f ∷ ns)
+    onto : (n : ℕ) → f .fun .start ≡ inGlobal n → (b : Bool) → eqb n 1 ≡ b → cond b true (hasStart ns) ≡ true → (hasStart ns ≡ true → Somewhere ns)
+        → Somewhere (f ∷ ns)
     onto n e true k h more = record { at = 0; starts = e ∙ ap inGlobal (eqb-true n 1 k) }
     onto n e false k h more = after (more h)
 
@@ -240,9 +240,11 @@ module _ {source s : List ℕ} {count end : ℕ} (y : ReadyTree source s count e
   lies = record {
     at = λ i h.
         ap (λ (z : List ℕ). getD z (count * 3 + i) 0) (y .stand)
-        ∙ (List·getD-append (entries (y .symbols) ++ encodeProgram p) (replicate (length s - length (entries (y .symbols) ++ encodeProgram p)) 0) 0 (count * 3 + i)
+        ∙ (List·getD-append (entries (y .symbols) ++ encodeProgram p) (replicate (length s - length (entries (y .symbols) ++ encodeProgram p)) 0) 0
+        (count * 3 + i)
         (omega (arith, length-append (entries (y .symbols)) (encodeProgram p), size))
-        ∙ (ap (λ (n : ℕ). getD (entries (y .symbols) ++ encodeProgram p) (n + i) 0) (sym size) ∙ getD-append-add (entries (y .symbols)) (encodeProgram p) i 0));
+        ∙ (ap (λ (n : ℕ). getD (entries (y .symbols) ++ encodeProgram p) (n + i) 0) (sym size) ∙ getD-append-add (entries (y .symbols))
+        (encodeProgram p) i 0));
   }
 
   symbols-are : decoded count s ≡ y .symbols
@@ -292,7 +294,8 @@ module _ {source s : List ℕ} {count end : ℕ} (y : ReadyTree source s count e
   fine : FineDs p
   fine = go (rw tree-now at (readProgram (sourceNow source) STRINGS (λ at. cost 1 (take at (symbolsNow source))) counted))
     where
-      go : Takes.Of (sourceNow source) STRINGS (λ at. cost 1 (take at (symbolsNow source))) counted (FineProgram STRINGS) (programTokens 1) 0 (ok p (y .next)) → FineDs p
+      go : Takes.Of (sourceNow source) STRINGS (λ at. cost 1 (take at (symbolsNow source))) counted (FineProgram STRINGS) (programTokens 1) 0
+          (ok p (y .next)) → FineDs p
       go (Takes.given f l) = f
 
   shallow : programDepth p ≤ 520
@@ -321,7 +324,8 @@ module _ {source s : List ℕ} {count end : ℕ} (y : ReadyTree source s count e
     ready-behind e = (lent-still (y .lent) e, few-symbols, few-in-all)
 
     pub ready-program : (at : ℕ) {table : List ℕ} → table ≡ replicate 400 0
-        → ReadyProgram s table (count * 3) end 520 (functions + 1) (record { tall = NONE; state = record { at = at; label = functions + 1 + names; worst = NONE; high = 0 } })
+        → ReadyProgram s table (count * 3) end 520 (functions + 1)
+        (record { tall = NONE; state = record { at = at; label = functions + 1 + names; worst = NONE; high = 0 } })
     ready-program at e = record {
       program = p;
       lies = lies;
@@ -343,7 +347,8 @@ module _ {source s : List ℕ} {count end : ℕ} (y : ReadyTree source s count e
 
     module _ {s₁ s₂ table table′ t t₁ t₂ t₃ : List ℕ} {at last : ℕ} {d′ : Done}
         (o : Puts (36 ∷ 10 ∷ []) 0 at t t₁)
-        (g : GaveProgram source s s₁ table table′ (count * 3) end 520 (functions + 1) t₁ t₂ (record { tall = NONE; state = record { at = at; label = functions + 1 + names; worst = NONE; high = 0 } }) d′)
+        (g : GaveProgram source s s₁ table table′ (count * 3) end 520 (functions + 1) t₁ t₂
+        (record { tall = NONE; state = record { at = at; label = functions + 1 + names; worst = NONE; high = 0 } }) d′)
         (none : table ≡ replicate 400 0)
         (b : Behind source s₁ s₂ count names functions table′ (d′ .state .at) last t₂ t₃) where
       w : Walked source p (count * 3) (functions + 1) s s₁ table table′ t₁ t₂
@@ -370,7 +375,8 @@ module _ {source s : List ℕ} {count end : ℕ} (y : ReadyTree source s count e
       items-are =
           let strings = stringsAmong source (y .symbols) in
           let l : length (funs ns) ≡ functions = length-funs ns ∙ sym f in
-          let all : ℕ → ℕ → List Item = λ m k. functionsCode (suc m) 1 (suc m + k) (funs ns) ++ (stringsCode (suc m) strings ++ startsCode 1 (funs ns)) in
+          let all : ℕ → ℕ → List Item = λ m k. functionsCode (suc m) 1 (suc m + k) (funs ns)
+          ++ (stringsCode (suc m) strings ++ startsCode 1 (funs ns)) in
           ap (λ (z : List Fun). itemsOf z (stringsIn source)) functions-are
           ∙ (ap (itemsOf (funs ns)) strings-are
           ∙ (ap (λ (m : ℕ). all m (length strings)) l
@@ -381,7 +387,8 @@ module _ {source s : List ℕ} {count end : ℕ} (y : ReadyTree source s count e
       unfolding textOf
       the-text =
           append-assoc (36 ∷ 10 ∷ []) (lines code) (lines behind ++ (90 ∷ 10 ∷ []))
-          ∙ (ap (λ (z : List ℕ). (36 ∷ 10 ∷ []) ++ z) (sym (append-assoc (lines code) (lines behind) (90 ∷ 10 ∷ [])) ∙ ap (λ (z : List ℕ). z ++ (90 ∷ 10 ∷ [])) (sym (lines-then code behind)))
+          ∙ (ap (λ (z : List ℕ). (36 ∷ 10 ∷ []) ++ z)
+          (sym (append-assoc (lines code) (lines behind) (90 ∷ 10 ∷ [])) ∙ ap (λ (z : List ℕ). z ++ (90 ∷ 10 ∷ [])) (sym (lines-then code behind)))
           ∙ (sym (rendered (code ++ behind)) ∙ ap renderAll (sym items-are)))
 
       -- the text is the generator's
@@ -406,9 +413,13 @@ module _ {source s : List ℕ} {count end : ℕ} (y : ReadyTree source s count e
           go : (d : Refused) → decided source (length s) (length t) ≡ d → Begins source t₃ d
           go (refused number place) e = tt
           go accepted e =
-              let k = fitting (length (textOf source)) (length t) _ (sym (rules-decide (y .lent) (length t) (y .symbols) p (y .next) (y .reads) (y .parses)) ∙ e) in
-              let x = written (no-faults (faultsFrom source begin p) _ (k .0)) in
-              (ap (take (length (textOf source))) (x .is) ∙ over-front (textOf source) t (k .1), omega (arith, k .1, ap length (x .is), over-length (textOf source) t))
+              let k = fitting (length (textOf source)) (length t) _
+              (sym (rules-decide (y .lent) (length t) (y .symbols) p (y .next) (y .reads) (y .parses)) ∙ e) in
+              let x = written (no-faults (faultsFrom source begin p) _ (k .0)) in (
+                ap (take (length (textOf source))) (x .is) ∙ over-front (textOf source) t (k .1),
+                omega
+                    (arith, k .1, ap length (x .is), over-length (textOf source) t),
+              )
 
       clean-behind : Clean end s₂
       clean-behind = b .clean .by (y .symbols) (y .reads) (y .counts) (omega (arith, y .ends))
@@ -420,7 +431,9 @@ module _ {source s : List ℕ} {count end : ℕ} (y : ReadyTree source s count e
           → Translates source s (z ++ drop end s₂) t t₃ a
       translates {start} {room} e k q same c =
           record {
-            answers = q ∙ (ap (λ (v : ℕ). byKeys source (d′ .state .worst) (d′ .tall) v last room) e ∙ (ap (λ (v : ℕ). byKeys source (d′ .state .worst) (d′ .tall) (getD table′ 1 0) last v) k ∙ answers));
+            answers = q
+                ∙ (ap (λ (v : ℕ). byKeys source (d′ .state .worst) (d′ .tall) v last room) e
+                ∙ (ap (λ (v : ℕ). byKeys source (d′ .state .worst) (d′ .tall) (getD table′ 1 0) last v) k ∙ answers));
             clears = clean-all clean-behind (end-inside same) c ∙ ap (λ (v : ℕ). replicate v 0) same;
             begins = begins;
           }

@@ -1,8 +1,8 @@
 -- What an expression may leave is of no account but for RETURN: its faults are the same anywhere.
-use Prim.Native.Nat.{ℕ, suc, _+_}
-use mathlib.Core.Path.{_≡_, refl, sym, ap, subst, _∙_}
+use Prim.Native.Nat.{ℕ, _+_}
+use mathlib.Core.Path.{_≡_, refl, ap, subst}
 use mathlib.Core.Bool.{Bool, true, false, cond}
-use mathlib.Core.List.{List, [], _∷_, _++_}
+use mathlib.Core.List.{List, [], _++_}
 use lib.Dec.{eqb}
 use Rattle.language.specs.Kinds.{AT}
 use Rattle.language.specs.Tree as T
@@ -28,8 +28,10 @@ module _ (text : List ℕ) (l m : Leavable) (q : l .routine ≡ m .routine) wher
     any-expression sc h (T.string p v) = refl
     any-expression sc h (T.name n) = refl
     any-expression sc h (T.bracketed p e) = any-expression sc h e
-    any-expression sc h (T.valof p c) = ap (λ (b : Bool). inCommand text sc (record { loop = false; switch = false; valof = true; routine = b }) h c) q
-    any-expression sc h (T.monadic p o e) = ap (λ (z : List Fault). z ++ cond (eqb o AT) (unlessSide (placeOf e) (sideOf (expression text sc h e))) []) (any-expression sc h e)
+    any-expression sc h (T.valof p c) =
+        ap (λ (b : Bool). inCommand text sc (record { loop = false; switch = false; valof = true; routine = b }) h c) q
+    any-expression sc h (T.monadic p o e) =
+        ap (λ (z : List Fault). z ++ cond (eqb o AT) (unlessSide (placeOf e) (sideOf (expression text sc h e))) []) (any-expression sc h e)
     any-expression sc h (T.suffixed e ss) = two (any-expression sc (under ss h) e) (any-suffixes sc h ss)
     any-expression sc h (T.dyadic e os) = two (any-expression sc h e) (any-operations sc h os)
 
@@ -48,8 +50,10 @@ module _ (text : List ℕ) (l m : Leavable) (q : l .routine ≡ m .routine) wher
 
 -- what was done for an expression, said of a place with ways out
 module _ (text : List ℕ) (sc : Scope) (here : Here) (ways : Ways) (h : ℕ) {c : ℕ → Code} {k : ℕ} {t t′ : List ℕ} {st r : State} where
-  pub with-ways : (e : Expression) → Did (inExpression text sc (leavable here) h e) c k t t′ st r → Did (inExpression text sc (leavableBy ways here) h e) c k t t′ st r
+  pub with-ways : (e : Expression) → Did (inExpression text sc (leavable here) h e) c k t t′ st r
+      → Did (inExpression text sc (leavableBy ways here) h e) c k t t′ st r
   with-ways e d = subst (λ (f : List Fault). Did f c k t t′ st r) (any-expression text (leavable here) (leavableBy ways here) refl sc h e) d
 
-  pub all-with-ways : (es : Expressions) → Did (inExpressions text sc (leavable here) h es) c k t t′ st r → Did (inExpressions text sc (leavableBy ways here) h es) c k t t′ st r
+  pub all-with-ways : (es : Expressions) → Did (inExpressions text sc (leavable here) h es) c k t t′ st r
+      → Did (inExpressions text sc (leavableBy ways here) h es) c k t t′ st r
   all-with-ways es d = subst (λ (f : List Fault). Did f c k t t′ st r) (any-expressions text (leavable here) (leavableBy ways here) refl sc h es) d

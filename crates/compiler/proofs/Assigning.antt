@@ -50,9 +50,11 @@ same-pairs r l L R =
 
 pub data LeftAt (s : List ℕ) (from to l : ℕ) : Expressions → Type 0 where
   noLeft : LeftAt s from to l T.noExpressions
-  aLeft : {e : Expression} {es : Expressions} (lo : ℕ) → from ≤ lo → Lies s lo (encode e) → l ≡ lo + length (encode e) → Lies s l (encodeExpressions es) → l + length (encodeExpressions es) ≤ to → LeftAt s from to l (T.andExpression e es)
+  aLeft : {e : Expression} {es : Expressions} (lo : ℕ) → from ≤ lo → Lies s lo (encode e) → l ≡ lo + length (encode e)
+      → Lies s l (encodeExpressions es) → l + length (encodeExpressions es) ≤ to → LeftAt s from to l (T.andExpression e es)
 
-pub left-next : {s : List ℕ} {from to l l′ : ℕ} (es : Expressions) → from ≤ l → Lies s l (encodeExpressions es) → l + length (encodeExpressions es) ≤ to → l′ ≡ l + 2 + getD s l 0 → LeftAt s from to l′ es
+pub left-next : {s : List ℕ} {from to l l′ : ℕ} (es : Expressions) → from ≤ l → Lies s l (encodeExpressions es)
+    → l + length (encodeExpressions es) ≤ to → l′ ≡ l + 2 + getD s l 0 → LeftAt s from to l′ es
 unfolding encodeExpressions
 left-next T.noExpressions f h b q = noLeft
 left-next {s} {from} {to} {l} {l′} (T.andExpression e es) f h b q =
@@ -60,7 +62,8 @@ left-next {s} {from} {to} {l} {l′} (T.andExpression e es) f h b q =
     let r = second (length (encode e) ∷ 0 ∷ []) (encode e ++ encodeExpressions es) (l + 2) h refl in
     let z : getD s l 0 ≡ length (encode e) = ap (λ (k : ℕ). getD s k 0) (sym a) ∙ h .at 0 (omega arith) in
     let w : l′ ≡ l + 2 + length (encode e) = q ∙ ap (λ (k : ℕ). l + 2 + k) z in
-    aLeft {e = e} {es = es} (l + 2) (omega arith) (first (encode e) (encodeExpressions es) r) w (second (encode e) (encodeExpressions es) l′ r w) (omega (arith, w, length-append (encode e) (encodeExpressions es)))
+    aLeft {e = e} {es = es} (l + 2) (omega arith) (first (encode e) (encodeExpressions es) r) w (second (encode e) (encodeExpressions es) l′ r w)
+    (omega (arith, w, length-append (encode e) (encodeExpressions es)))
 
 -- a pair
 pub record IsPair (s : List ℕ) (from to l at end : ℕ) (ls rs : Expressions) : Type 0 where
@@ -76,7 +79,8 @@ pub record IsPair (s : List ℕ) (from to l at end : ℕ) (ls rs : Expressions) 
   pub right : IsArg s at end rs
   pub counts : T.count lefts ≡ T.count (right .more)
 
-pub is-pair : {s : List ℕ} {from to l at end : ℕ} (ls rs : Expressions) → LeftAt s from to l ls → T.count ls ≡ T.count rs → Lies s at (encodeExpressions rs) → end ≡ at + length (encodeExpressions rs) → at < end → IsPair s from to l at end ls rs
+pub is-pair : {s : List ℕ} {from to l at end : ℕ} (ls rs : Expressions) → LeftAt s from to l ls → T.count ls ≡ T.count rs
+    → Lies s at (encodeExpressions rs) → end ≡ at + length (encodeExpressions rs) → at < end → IsPair s from to l at end ls rs
 unfolding T.count
 is-pair T.noExpressions rs w c h e k = let u = is-arg rs h e k in absurd (omega (arith, c, ap T.count (u .same)))
 is-pair (T.andExpression x ls) rs (aLeft lo a b d f g) c h e k = let u = is-arg rs h e k in record {
@@ -102,10 +106,13 @@ sides-long : (e : Expression) (es : Expressions) → length (encodeSides (T.andE
 unfolding encodeSides
 sides-long e es = length-append (encode e) (encodeExpressions es)
 
-left-begin : {s : List ℕ} {lo right l : ℕ} (es : Expressions) → Lies s lo (encodeSides es) → l ≡ lo + length (encodeFirst es) → right ≡ lo + length (encodeSides es) → LeftAt s lo right l es
+left-begin : {s : List ℕ} {lo right l : ℕ} (es : Expressions) → Lies s lo (encodeSides es) → l ≡ lo + length (encodeFirst es)
+    → right ≡ lo + length (encodeSides es) → LeftAt s lo right l es
 unfolding encodeSides encodeFirst
 left-begin T.noExpressions h e f = noLeft
-left-begin {s} {lo} {right} {l} (T.andExpression e es) h q f = aLeft {e = e} {es = es} lo (omega arith) (first (encode e) (encodeExpressions es) h) q (second (encode e) (encodeExpressions es) l h q) (omega (arith, length-append (encode e) (encodeExpressions es)))
+left-begin {s} {lo} {right} {l} (T.andExpression e es) h q f =
+    aLeft {e = e} {es = es} lo (omega arith) (first (encode e) (encodeExpressions es) h) q (second (encode e) (encodeExpressions es) l h q)
+    (omega (arith, length-append (encode e) (encodeExpressions es)))
 
 no-count : (es : Expressions) → T.count es ≡ 0 → es ≡ T.noExpressions
 unfolding T.count
@@ -122,56 +129,82 @@ module _ (text t₀ : List ℕ) {s₀ : List ℕ} {left right end : ℕ} {here :
     pub starts : right ≤ at
     pub counts : T.count lefts ≡ T.count rights
     pub keeps : Keeps (y .ready .base) (here .top) s₀ s
-    pub label : st .label + 2 * (length (encodeSides lefts) + length (encodeExpressions rights)) ≤ st₀ .label + 2 * length (encodeBoth (y .ready .tree))
+    pub label : st .label + 2 * (length (encodeSides lefts) + length (encodeExpressions rights)) ≤ st₀ .label + 2 * length
+        (encodeBoth (y .ready .tree))
     pub some : 0 < st .label
     pub shallow : (expressionsDepth lefts ≤ here .left) × (expressionsDepth rights ≤ here .left)
     pub fine : FineEs lefts × FineEs rights
-    pub finish : (t′ : List ℕ) (st′ : State) → Did (inSides text (y .ready .scope) (leavable here) (here .height + 1) lefts ++ inRightSides text (y .ready .scope) (leavable here) (here .height) rights)
-        (pairsSays here (pairUp (sides text (y .ready .scope) (here .height + 1) lefts) (sides text (y .ready .scope) (here .height) rights))) (2 * (length (encodeSides lefts) + length (encodeExpressions rights))) t t′ st st′
-        → Did (inSides text (y .ready .scope) (leavable here) (here .height + 1) (y .ready .tree .left) ++ inRightSides text (y .ready .scope) (leavable here) (here .height) (y .ready .tree .right))
-        (pairsSays here (pairUp (sides text (y .ready .scope) (here .height + 1) (y .ready .tree .left)) (sides text (y .ready .scope) (here .height) (y .ready .tree .right)))) (2 * length (encodeBoth (y .ready .tree))) t₀ t′ st₀ st′
+    pub finish : (t′ : List ℕ) (st′ : State)
+        → Did (inSides text (y .ready .scope) (leavable here) (here .height + 1) lefts ++ inRightSides text (y .ready .scope) (leavable here)
+        (here .height) rights)
+        (pairsSays here (pairUp (sides text (y .ready .scope) (here .height + 1) lefts) (sides text (y .ready .scope) (here .height) rights)))
+        (2 * (length (encodeSides lefts) + length (encodeExpressions rights))) t t′ st st′
+        → Did (inSides text (y .ready .scope) (leavable here) (here .height + 1) (y .ready .tree .left) ++ inRightSides text (y .ready .scope)
+        (leavable here) (here .height) (y .ready .tree .right))
+        (pairsSays here (pairUp (sides text (y .ready .scope) (here .height + 1) (y .ready .tree .left))
+        (sides text (y .ready .scope) (here .height) (y .ready .tree .right)))) (2 * length (encodeBoth (y .ready .tree))) t₀ t′ st₀ st′
 
   module _ {s t : List ℕ} {l at size next : ℕ} {st : State} (k : at < end) (es : size ≡ getD s at 0) (en : next ≡ at + 2 + size) where
-    abbrev pub assign-is : (y : ReadyAssign s₀ left right end here st₀) (p : AssignPart y s t l at st) → IsPair s₀ (y .ready .lo) right l at end (p .lefts) (p .rights)
+    abbrev pub assign-is : (y : ReadyAssign s₀ left right end here st₀) (p : AssignPart y s t l at st)
+        → IsPair s₀ (y .ready .lo) right l at end (p .lefts) (p .rights)
     assign-is y p = is-pair (p .lefts) (p .rights) (p .at-left) (p .counts) (p .lies) (p .ends) k
 
-    pub assign-size : (y : ReadyAssign s₀ left right end here st₀) (p : AssignPart y s t l at st) → size ≡ length (encode (assign-is y p .right .part))
+    pub assign-size : (y : ReadyAssign s₀ left right end here st₀) (p : AssignPart y s t l at st)
+        → size ≡ length (encode (assign-is y p .right .part))
     assign-size y p = es ∙ p .keeps .above at (omega (arith, y .ready .above, y .second, p .starts)) ∙ assign-is y p .right .size-of
 
     pub assign-length : (y : ReadyAssign s₀ left right end here st₀) (p : AssignPart y s t l at st) → let u = assign-is y p in
-        (length (encodeExpressions (p .rights)) ≡ 2 + length (encode (u .right .part)) + length (encodeExpressions (u .right .more))) × (length (encodeSides (p .lefts)) ≡ length (encode (u .left)) + length (encodeExpressions (u .lefts)))
-    assign-length y p = let u = assign-is y p in (omega (arith, p .ends, u .right .ends), ap (λ (x : Expressions). length (encodeSides x)) (u .same) ∙ sides-long (u .left) (u .lefts))
+        (length (encodeExpressions (p .rights)) ≡ 2 + length (encode (u .right .part)) + length (encodeExpressions (u .right .more)))
+        × (length (encodeSides (p .lefts)) ≡ length (encode (u .left)) + length (encodeExpressions (u .lefts)))
+    assign-length y p =
+        let u = assign-is y p in
+        (omega (arith, p .ends, u .right .ends), ap (λ (x : Expressions). length (encodeSides x)) (u .same) ∙ sides-long (u .left) (u .lefts))
 
     pub assign-deep : (y : ReadyAssign s₀ left right end here st₀) (p : AssignPart y s t l at st) → let u = assign-is y p in
-        (depth (u .left) ≤ here .left) × (expressionsDepth (u .lefts) ≤ here .left) × (depth (u .right .part) ≤ here .left) × (expressionsDepth (u .right .more) ≤ here .left)
+        (depth (u .left) ≤ here .left) × (expressionsDepth (u .lefts) ≤ here .left) × (depth (u .right .part) ≤ here .left)
+        × (expressionsDepth (u .right .more) ≤ here .left)
     unfolding expressionsDepth
-    assign-deep y p = let u = assign-is y p in
-        (omega (arith, p .shallow .0, ap expressionsDepth (u .same)), omega (arith, p .shallow .0, ap expressionsDepth (u .same)), omega (arith, p .shallow .1, ap expressionsDepth (u .right .same)), omega (arith, p .shallow .1, ap expressionsDepth (u .right .same)))
+    assign-deep y p = let u = assign-is y p in (
+      omega (arith, p .shallow .0, ap expressionsDepth (u .same)),
+      omega (arith, p .shallow .0, ap expressionsDepth (u .same)),
+      omega
+          (arith, p .shallow .1, ap expressionsDepth (u .right .same)),
+      omega (arith, p .shallow .1, ap expressionsDepth (u .right .same)),
+    )
 
-    pub assign-fine : (y : ReadyAssign s₀ left right end here st₀) (p : AssignPart y s t l at st) → let u = assign-is y p in (FineE (u .left) × FineEs (u .lefts)) × (FineE (u .right .part) × FineEs (u .right .more))
+    pub assign-fine : (y : ReadyAssign s₀ left right end here st₀) (p : AssignPart y s t l at st)
+        → let u = assign-is y p in (FineE (u .left) × FineEs (u .lefts)) × (FineE (u .right .part) × FineEs (u .right .more))
     unfolding FineList
     assign-fine y p = let u = assign-is y p in (subst FineEs (u .same) (p .fine .0), subst FineEs (u .right .same) (p .fine .1))
 
     abbrev pub assign-right : (y : ReadyAssign s₀ left right end here st₀) → AssignPart y s t l at st → ReadyE s next here st
     assign-right y p = let z = y .ready in let u = assign-is y p in let v = u .right in
-        sub encode depth FineE z (p .keeps) next (at + 2) here st (v .part) (v .lies) (omega (arith, en, assign-size y p)) (omega (arith, y .second, p .starts)) (omega (arith, en, assign-size y p, v .ends)) refl refl
-        (omega (arith, z .height, z .ends, y .second, p .starts, v .ends)) (omega (arith, z .label, p .label, assign-length y p .0)) (p .some) (assign-deep y p .2) (assign-fine y p .1 .0)
+        sub encode depth FineE z (p .keeps) next (at + 2) here st (v .part) (v .lies) (omega (arith, en, assign-size y p))
+        (omega (arith, y .second, p .starts)) (omega (arith, en, assign-size y p, v .ends)) refl refl
+        (omega (arith, z .height, z .ends, y .second, p .starts, v .ends)) (omega (arith, z .label, p .label, assign-length y p .0)) (p .some)
+        (assign-deep y p .2) (assign-fine y p .1 .0)
 
     module _ {s₁ t₁ : List ℕ} {a : State} (g : GaveE text s s₁ next here t t₁ st a) where
       abbrev pub assign-left : (y : ReadyAssign s₀ left right end here st₀) → AssignPart y s t l at st → ReadyE s₁ l (raised 1 here) a
       assign-left y p = let z = y .ready in let u = assign-is y p in let x = g .by (assign-right y p) in
-          sub encode depth FineE z (keeps-then (p .keeps) (x .keeps)) l (u .start) (raised 1 here) a (u .left) (u .lies) (u .ends) (u .inside) (omega (arith, u .before, p .starts, k)) refl refl
-          (omega (arith, z .height, z .ends, y .second, u .inside, u .ends, u .before, p .starts, u .right .ends)) (omega (arith, z .label, p .label, assign-length y p .0, assign-length y p .1, x .did .few)) (omega (arith, p .some, x .did .grows)) (assign-deep y p .0) (assign-fine y p .0 .0)
+          sub encode depth FineE z (keeps-then (p .keeps) (x .keeps)) l (u .start) (raised 1 here) a (u .left) (u .lies) (u .ends) (u .inside)
+          (omega (arith, u .before, p .starts, k)) refl refl
+          (omega (arith, z .height, z .ends, y .second, u .inside, u .ends, u .before, p .starts, u .right .ends))
+          (omega (arith, z .label, p .label, assign-length y p .0, assign-length y p .1, x .did .few)) (omega (arith, p .some, x .did .grows))
+          (assign-deep y p .0) (assign-fine y p .0 .0)
 
-      pub assign-next : {s₂ t₂ : List ℕ} {l′ size′ : ℕ} {r : State} (n : Node) → NodeAt s₁ l n → GaveSide text s₁ s₂ l (n .place) here t₁ t₂ a r → size′ ≡ getD s₂ l 0 → l′ ≡ l + 2 + size′
+      pub assign-next : {s₂ t₂ : List ℕ} {l′ size′ : ℕ} {r : State} (n : Node) → NodeAt s₁ l n → GaveSide text s₁ s₂ l (n .place) here t₁ t₂ a r
+          → size′ ≡ getD s₂ l 0 → l′ ≡ l + 2 + size′
           → (y : ReadyAssign s₀ left right end here st₀) → AssignPart y s t l at st → AssignPart y s₂ t₂ l′ next r
       unfolding inSides inRightSides sides G.pairsCode ofPairs G.pairsLabels
       assign-next {s₂} {t₂} {l′} {size′} {r} n nd g₂ es′ el y p =
-          let z = y .ready in let u = assign-is y p in let v = u .right in let x = g .by (assign-right y p) in let w = g₂ .by (assign-left y p) in let sc = z .scope in let h = here .height in
+          let z = y .ready in let u = assign-is y p in let v = u .right in let x = g .by (assign-right y p) in let w = g₂ .by (assign-left y p) in
+          let sc = z .scope in let h = here .height in
           let ks = keeps-then (p .keeps) (keeps-then (x .keeps) (w .keeps)) in let L = leavable here in
           let E = expression text sc h (v .part) in let D = expression text sc (h + 1) (u .left) in let T′ = targetOf (sideOf D) in
           let PS = pairUp (sides text sc (h + 1) (u .lefts)) (sides text sc h (v .more)) in
-          let pl : n .place ≡ placeOf (u .left) = nd .place ∙ place-of (expression-closed (u .left)) (assign-left y p .lies) (assign-left y p .ends) ∙ place-closed (u .left) in
+          let pl : n .place ≡ placeOf (u .left) = nd .place ∙ place-of (expression-closed (u .left)) (assign-left y p .lies) (assign-left y p .ends)
+          ∙ place-closed (u .left) in
           let fl = inExpression text sc L (h + 1) (u .left) ++ unlessSide (placeOf (u .left)) (sideOf D) in
           let fr = inExpression text sc L h (v .part) in
           let z′ : size′ ≡ getD s₀ l 0 = es′ ∙ ks .above l (omega (arith, z .above, u .inside, u .ends)) in
@@ -189,10 +222,16 @@ module _ (text t₀ : List ℕ) {s₀ : List ℕ} {left right end : ℕ} {here :
             shallow = (assign-deep y p .1, assign-deep y p .3);
             fine = (assign-fine y p .0 .1, assign-fine y p .1 .1);
             finish = λ t′ st′ d. p .finish t′ st′
-                (subst (λ (ls : Expressions). Did (inSides text sc L (h + 1) ls ++ inRightSides text sc L h (p .rights)) (pairsSays here (pairUp (sides text sc (h + 1) ls) (sides text sc h (p .rights)))) (2 * (length (encodeSides (p .lefts)) + length (encodeExpressions (p .rights)))) t t′ st st′) (sym (u .same))
-                (subst (λ (rs : Expressions). Did (inSides text sc L (h + 1) (T.andExpression (u .left) (u .lefts)) ++ inRightSides text sc L h rs) (pairsSays here (pairUp (sides text sc (h + 1) (T.andExpression (u .left) (u .lefts))) (sides text sc h rs))) (2 * (length (encodeSides (p .lefts)) + length (encodeExpressions (p .rights)))) t t′ st st′) (sym (v .same))
+                (subst (λ (ls : Expressions). Did (inSides text sc L (h + 1) ls ++ inRightSides text sc L h (p .rights))
+                (pairsSays here (pairUp (sides text sc (h + 1) ls) (sides text sc h (p .rights))))
+                (2 * (length (encodeSides (p .lefts)) + length (encodeExpressions (p .rights)))) t t′ st st′) (sym (u .same))
+                (subst (λ (rs : Expressions). Did (inSides text sc L (h + 1) (T.andExpression (u .left) (u .lefts)) ++ inRightSides text sc L h rs)
+                (pairsSays here (pairUp (sides text sc (h + 1) (T.andExpression (u .left) (u .lefts))) (sides text sc h rs)))
+                (2 * (length (encodeSides (p .lefts)) + length (encodeExpressions (p .rights)))) t t′ st st′) (sym (v .same))
                 (did-as (pairsSays here (R.pair T′ E PS)) _
-                (did-then (x .did) (did-then (subst (λ (i : ℕ). Did (inExpression text sc L (h + 1) (u .left) ++ unlessSide i (sideOf D)) (targetSays here T′) (2 * length (encode (u .left))) t₁ t₂ a r) pl (w .did)) d))
+                (did-then (x .did)
+                (did-then (subst (λ (i : ℕ). Did (inExpression text sc L (h + 1) (u .left) ++ unlessSide i (sideOf D)) (targetSays here T′)
+                (2 * length (encode (u .left))) t₁ t₂ a r) pl (w .did)) d))
                 (same-pairs fr fl (inSides text sc L (h + 1) (u .lefts)) (inRightSides text sc L h (v .more)))
                 (λ m e. code-is refl (sym (append-assoc (ofExpr h E) (ofTarget h T′) (ofPairs h PS))) (omega arith))
                 (omega (arith, assign-length y p .0, assign-length y p .1, sides-short (u .lefts))))));
@@ -215,30 +254,41 @@ module _ (text t₀ : List ℕ) {s₀ : List ℕ} {left right end : ℕ} {here :
     finish = λ t′ st′ d. did-as _ _ d same-refl (λ m e. refl) (omega (arith, n));
   }
 
-  pub assign-end : {s t : List ℕ} {l at : ℕ} {st : State} → end ≤ at → ((y : ReadyAssign s₀ left right end here st₀) → AssignPart y s t l at st) → GaveAssign text s₀ s left right end here t₀ t st₀ st
+  pub assign-end : {s t : List ℕ} {l at : ℕ} {st : State} → end ≤ at → ((y : ReadyAssign s₀ left right end here st₀) → AssignPart y s t l at st)
+      → GaveAssign text s₀ s left right end here t₀ t st₀ st
   unfolding inSides inRightSides sides G.pairsCode ofPairs G.pairsLabels T.count
   assign-end {s} {t} {l} {at} {st} k q = record {
     by = λ y. let p = q y in let e = no-arg (p .rights) (omega (arith, p .ends)) in let f = no-count (p .lefts) (p .counts ∙ ap T.count e) in record {
       keeps = p .keeps;
       did = p .finish t st
-          (subst (λ (ls : Expressions). Did (inSides text (y .ready .scope) (leavable here) (here .height + 1) ls ++ inRightSides text (y .ready .scope) (leavable here) (here .height) (p .rights)) (pairsSays here (pairUp (sides text (y .ready .scope) (here .height + 1) ls) (sides text (y .ready .scope) (here .height) (p .rights)))) (2 * (length (encodeSides (p .lefts)) + length (encodeExpressions (p .rights)))) t t st st) (sym f)
-          (subst (λ (rs : Expressions). Did (inRightSides text (y .ready .scope) (leavable here) (here .height) rs) (λ n. record { items = []; heights = []; labels = 0 }) (2 * (length (encodeSides (p .lefts)) + length (encodeExpressions (p .rights)))) t t st st) (sym e) (did-none _)));
+          (subst (λ (ls : Expressions). Did
+          (inSides text (y .ready .scope) (leavable here) (here .height + 1) ls ++ inRightSides text (y .ready .scope) (leavable here)
+          (here .height) (p .rights))
+          (pairsSays here (pairUp (sides text (y .ready .scope) (here .height + 1) ls) (sides text (y .ready .scope) (here .height) (p .rights))))
+          (2 * (length (encodeSides (p .lefts)) + length (encodeExpressions (p .rights)))) t t st st) (sym f)
+          (subst (λ (rs : Expressions). Did (inRightSides text (y .ready .scope) (leavable here) (here .height) rs)
+          (λ n. record { items = []; heights = []; labels = 0 }) (2 * (length (encodeSides (p .lefts)) + length (encodeExpressions (p .rights))))
+          t t st st) (sym e) (did-none _)));
     };
   }
 
 -- ---- the assignment
 
-any-right : (text : List ℕ) (l m : Leavable) (q : l .routine ≡ m .routine) (sc : Scope) (h : ℕ) (es : Expressions) → inRightSides text sc l h es ≡ inRightSides text sc m h es
+any-right : (text : List ℕ) (l m : Leavable) (q : l .routine ≡ m .routine) (sc : Scope) (h : ℕ) (es : Expressions)
+    → inRightSides text sc l h es ≡ inRightSides text sc m h es
 unfolding inRightSides
 any-right text l m q sc h T.noExpressions = refl
 any-right text l m q sc h (T.andExpression e es) =
-    ap (λ (z : List Fault). z ++ inRightSides text sc l h es) (any-expression text l m q sc h e) ∙ ap (λ (z : List Fault). inExpression text sc m h e ++ z) (any-right text l m q sc h es)
+    ap (λ (z : List Fault). z ++ inRightSides text sc l h es) (any-expression text l m q sc h e) ∙ ap
+    (λ (z : List Fault). inExpression text sc m h e ++ z) (any-right text l m q sc h es)
 
-any-sides : (text : List ℕ) (l m : Leavable) (q : l .routine ≡ m .routine) (sc : Scope) (h : ℕ) (es : Expressions) → inSides text sc l h es ≡ inSides text sc m h es
+any-sides : (text : List ℕ) (l m : Leavable) (q : l .routine ≡ m .routine) (sc : Scope) (h : ℕ) (es : Expressions)
+    → inSides text sc l h es ≡ inSides text sc m h es
 unfolding inSides
 any-sides text l m q sc h T.noExpressions = refl
 any-sides text l m q sc h (T.andExpression e es) = let u = unlessSide (placeOf e) (sideOf (expression text sc h e)) in
-    ap (λ (z : List Fault). (z ++ u) ++ inSides text sc l h es) (any-expression text l m q sc h e) ∙ ap (λ (z : List Fault). (inExpression text sc m h e ++ u) ++ z) (any-sides text l m q sc h es)
+    ap (λ (z : List Fault). (z ++ u) ++ inSides text sc l h es) (any-expression text l m q sc h e) ∙ ap
+    (λ (z : List Fault). (inExpression text sc m h e ++ u) ++ z) (any-sides text l m q sc h es)
 
 pub record IsAssign (s : List ℕ) (lo end : ℕ) (u : Unlabelled) : Type 0 where
   pub left : Expressions
@@ -251,9 +301,11 @@ pub record IsAssign (s : List ℕ) (lo end : ℕ) (u : Unlabelled) : Type 0 wher
   pub ends : end ≡ lo + length (encodeSides left ++ encodeExpressions right) + 4
 
 is-assign : {s : List ℕ} {lo end : ℕ} {u : Unlabelled} → Form s lo end 56 u → IsAssign s lo end u
-is-assign (F.anAssignment {ls} {rs} h v p z q) = record { left = ls; right = rs; same = refl; lies = h; value-of = v; place-of = p; size-of = z; ends = q }
+is-assign (F.anAssignment {ls} {rs} h v p z q) =
+    record { left = ls; right = rs; same = refl; lies = h; value-of = v; place-of = p; size-of = z; ends = q }
 
-module _ {s : List ℕ} {end : ℕ} {here : Here} {st : State} (n : Node) (nd : NodeAt s end n) (q : n .kind ≡ 56) {left right : ℕ} (el : left ≡ n .start + n .value) (er : right ≡ n .start + n .place) where
+module _ {s : List ℕ} {end : ℕ} {here : Here} {st : State} (n : Node) (nd : NodeAt s end n) (q : n .kind ≡ 56) {left right : ℕ}
+    (el : left ≡ n .start + n .value) (er : right ≡ n .start + n .place) where
   pub assigned-is : (y : ReadyU s end here st) → IsAssign s (y .lo) end (y .tree)
   assigned-is y = is-assign (form-at n nd q y)
 
@@ -270,21 +322,29 @@ module _ {s : List ℕ} {end : ℕ} {here : Here} {st : State} (n : Node) (nd : 
 
   abbrev pub assigned-part : ReadyU s end here st → ReadyAssign s left right (n .inner) here st
   assigned-part y = let u = assigned-is y in record {
-    ready = sub encodeBoth deepBoth FineBoth y keeps-all (n .inner) (y .lo) here st (record { left = u .left; right = u .right }) (u .lies) (omega (arith, nd .inner, u .ends)) (omega arith) (omega (arith, nd .inner)) refl refl
+    ready =
+        sub encodeBoth deepBoth FineBoth y keeps-all (n .inner) (y .lo) here st (record { left = u .left; right = u .right }) (u .lies)
+        (omega (arith, nd .inner, u .ends)) (omega arith) (omega (arith, nd .inner)) refl refl
         (omega (arith, y .height, y .ends, u .ends)) (omega (arith, y .label, y .ends, u .ends)) (y .some) (assigned-deep y) (assigned-fine y);
     first = omega (arith, el, assigned-start y, nd .value, u .value-of);
     second = omega (arith, er, assigned-start y, nd .place, u .place-of);
   }
 
-  pub assigned-gave : (text : List ℕ) (ways : Ways) {s₁ t t₁ : List ℕ} {r : State} → GaveAssign text s s₁ left right (n .inner) here t t₁ st r → GaveU text s s₁ end here ways t t₁ st r
+  pub assigned-gave : (text : List ℕ) (ways : Ways) {s₁ t t₁ : List ℕ} {r : State} → GaveAssign text s s₁ left right (n .inner) here t t₁ st r
+      → GaveU text s s₁ end here ways t t₁ st r
   unfolding inUnlabelled unlabelled G.cmdCode ofCmd G.cmdLabels
   assigned-gave text ways {s₁} {t} {t₁} {r} g = record {
-    by = λ y. let u = assigned-is y in let x = g .by (assigned-part y) in let sc = y .scope in let h = here .height in let l = leavable here in let m = leavableBy ways here in
-        subst (λ (v : Unlabelled). Result (inUnlabelled text sc m h v) (cmdSays here ways (unlabelled text sc h v)) (length (encodeUnlabelled (y .tree))) (y .base) here s s₁ t t₁ st r) (sym (u .same))
+    by =
+        λ y. let u = assigned-is y in let x = g .by (assigned-part y) in let sc = y .scope in let h = here .height in let l = leavable here in
+        let m = leavableBy ways here in
+        subst
+        (λ (v : Unlabelled). Result (inUnlabelled text sc m h v) (cmdSays here ways (unlabelled text sc h v)) (length (encodeUnlabelled (y .tree)))
+        (y .base) here s s₁ t t₁ st r) (sym (u .same))
         (record {
           keeps = x .keeps;
           did = did-as _ _ (x .did)
-              (same-eq (ap (λ (z : List Fault). z ++ inRightSides text sc l h (u .right)) (any-sides text l m refl sc (h + 1) (u .left)) ∙ ap (λ (z : List Fault). inSides text sc m (h + 1) (u .left) ++ z) (any-right text l m refl sc h (u .right))))
+              (same-eq (ap (λ (z : List Fault). z ++ inRightSides text sc l h (u .right)) (any-sides text l m refl sc (h + 1) (u .left)) ∙ ap
+              (λ (z : List Fault). inSides text sc m (h + 1) (u .left) ++ z) (any-right text l m refl sc h (u .right))))
               (λ k e. refl) (omega (arith, y .ends, u .ends));
         });
   }

@@ -53,9 +53,11 @@ module _ {here : Here} {ways : Ways} {word place : ℕ} {t : List ℕ} {st r : S
     unfolding G.cmdCode ofCmd G.cmdLabels
     away-return q e f = at-word q (record { did = rw e (emits-did _ f (λ n. refl)) })
 
-    pub away-finish : (word ≡ K.BREAK → ⊥) → (word ≡ K.LOOP → ⊥) → (word ≡ K.ENDCASE → ⊥) → (word ≡ K.RETURN → ⊥) → Emits (G.X 22 ∷ []) [] t t′ st r → GoesAway here ways word place t t′ st r
+    pub away-finish : (word ≡ K.BREAK → ⊥) → (word ≡ K.LOOP → ⊥) → (word ≡ K.ENDCASE → ⊥) → (word ≡ K.RETURN → ⊥) → Emits (G.X 22 ∷ []) [] t t′ st r
+        → GoesAway here ways word place t t′ st r
     unfolding G.cmdCode ofCmd G.cmdLabels
-    away-finish a b c d f = record { did = rw (ne-eqb word K.BREAK a, ne-eqb word K.LOOP b, ne-eqb word K.ENDCASE c, ne-eqb word K.RETURN d) (emits-did _ f (λ n. refl)) }
+    away-finish a b c d f =
+        record { did = rw (ne-eqb word K.BREAK a, ne-eqb word K.LOOP b, ne-eqb word K.ENDCASE c, ne-eqb word K.RETURN d) (emits-did _ f (λ n. refl)) }
 
   pub away-nowhere : word ≡ K.LOOP → ways .after ≡ 0 → Faulted place 13 st r → GoesAway here ways word place t t st r
   away-nowhere q e f = at-word q (record { did = rw (eq-eqb (ways .after) 0 e) (f .by _ t) })
@@ -71,7 +73,8 @@ pub record IsLeave (s : List ℕ) (end w : ℕ) (u : Unlabelled) : Type 0 where
   pub place-of : getD s (end - 2) 0 ≡ place
 
 -- what is nothing else leaves
-is-leave : {s : List ℕ} {lo end k : ℕ} {u : Unlabelled} → Form s lo end k u → (k ≡ K.RESULTIS → ⊥) → (k ≡ K.IF → ⊥) → (k ≡ K.UNLESS → ⊥) → (k ≡ K.BEGIN → ⊥) → (k ≡ K.ASSIGN → ⊥) → (k ≡ K.TEST → ⊥) → (k ≡ K.WHILE → ⊥) → (k ≡ K.UNTIL → ⊥)
+is-leave : {s : List ℕ} {lo end k : ℕ} {u : Unlabelled} → Form s lo end k u → (k ≡ K.RESULTIS → ⊥) → (k ≡ K.IF → ⊥) → (k ≡ K.UNLESS → ⊥)
+    → (k ≡ K.BEGIN → ⊥) → (k ≡ K.ASSIGN → ⊥) → (k ≡ K.TEST → ⊥) → (k ≡ K.WHILE → ⊥) → (k ≡ K.UNTIL → ⊥)
     → (k ≡ K.FOR → ⊥) → (k ≡ K.SWITCHON → ⊥) → (k ≡ O.CALLED → ⊥) → IsLeave s end k u
 is-leave (F.anAssignment p q r t u) a b c d e f g h i j l = absurd (e refl)
 is-leave (F.aCall p q r) a b c d e f g h i j l = absurd (l refl)
@@ -91,14 +94,21 @@ is-leave (F.aReturn {p} x) a b c d e f g h i j l = record { place = p; same = re
 is-leave (F.aFinish {p} x) a b c d e f g h i j l = record { place = p; same = refl; place-of = x }
 
 pub away-gave : (text : List ℕ) (ways : Ways) {s t t′ : List ℕ} {end : ℕ} {here : Here} {st r : State} (n : Node) → NodeAt s end n
-    → (n .kind ≡ K.RESULTIS → ⊥) → (n .kind ≡ K.IF → ⊥) → (n .kind ≡ K.UNLESS → ⊥) → (n .kind ≡ K.BEGIN → ⊥) → (n .kind ≡ K.ASSIGN → ⊥) → (n .kind ≡ K.TEST → ⊥) → (n .kind ≡ K.WHILE → ⊥) → (n .kind ≡ K.UNTIL → ⊥)
-    → (n .kind ≡ K.FOR → ⊥) → (n .kind ≡ K.SWITCHON → ⊥) → (n .kind ≡ O.CALLED → ⊥) → GoesAway here ways (n .kind) (n .place) t t′ st r → GaveU text s s end here ways t t′ st r
+    → (n .kind ≡ K.RESULTIS → ⊥) → (n .kind ≡ K.IF → ⊥) → (n .kind ≡ K.UNLESS → ⊥) → (n .kind ≡ K.BEGIN → ⊥) → (n .kind ≡ K.ASSIGN → ⊥)
+    → (n .kind ≡ K.TEST → ⊥) → (n .kind ≡ K.WHILE → ⊥) → (n .kind ≡ K.UNTIL → ⊥)
+    → (n .kind ≡ K.FOR → ⊥) → (n .kind ≡ K.SWITCHON → ⊥) → (n .kind ≡ O.CALLED → ⊥) → GoesAway here ways (n .kind) (n .place) t t′ st r
+    → GaveU text s s end here ways t t′ st r
 unfolding inUnlabelled unlabelled
 away-gave text ways {s} {t} {t′} {end} {here} {st} {r} n nd a b c d e f g h i j l x = record {
   by = λ y.
       let u = is-leave (form-at n nd refl y) a b c d e f g h i j l in let sc = y .scope in
-      subst (λ (v : Unlabelled). Result (inUnlabelled text sc (leavableBy ways here) (here .height) v) (cmdSays here ways (unlabelled text sc (here .height) v)) (length (encodeUnlabelled (y .tree))) (y .base) here s s t t′ st r) (sym (u .same))
-      (record { keeps = keeps-all; did = did-as _ _ (subst (λ (p : ℕ). GoesAway here ways (n .kind) p t t′ st r) (nd .place ∙ u .place-of) x .did) same-refl (λ k v. refl) (omega arith) });
+      subst (λ (v : Unlabelled). Result (inUnlabelled text sc (leavableBy ways here) (here .height) v)
+      (cmdSays here ways (unlabelled text sc (here .height) v)) (length (encodeUnlabelled (y .tree))) (y .base) here s s t t′ st r) (sym (u .same))
+      (record {
+        keeps = keeps-all;
+        did = did-as _ _ (subst (λ (p : ℕ). GoesAway here ways (n .kind) p t t′ st r) (nd .place ∙ u .place-of) x .did) same-refl
+            (λ k v. refl) (omega arith);
+      });
 }
 
 -- ---- a call
@@ -129,11 +139,17 @@ module _ {s : List ℕ} {end : ℕ} {here : Here} {st : State} (n : Node) (nd : 
       sub encode depth FineE y keeps-all end (y .lo) here st (u .part) (u .lies) (u .ends) (omega arith) (omega arith) refl refl
       (omega (arith, y .height, y .ends, u .ends)) (omega (arith, y .label, y .ends, u .ends)) (y .some) (call-deep y) (call-fine y)
 
-  pub performed-gave : (text : List ℕ) (ways : Ways) {s₁ t t₁ : List ℕ} {r : State} → GaveE text s s₁ end here t t₁ st r → GaveU text s s₁ end here ways t t₁ st r
+  pub performed-gave : (text : List ℕ) (ways : Ways) {s₁ t t₁ : List ℕ} {r : State} → GaveE text s s₁ end here t t₁ st r
+      → GaveU text s s₁ end here ways t t₁ st r
   unfolding inUnlabelled unlabelled G.cmdCode ofCmd G.cmdLabels
   performed-gave text ways {s₁} {t} {t₁} {r} g = record {
     by = λ y.
         let u = call-is y in let x = g .by (performed-part y) in let sc = y .scope in let h = here .height in
-        subst (λ (v : Unlabelled). Result (inUnlabelled text sc (leavableBy ways here) h v) (cmdSays here ways (unlabelled text sc h v)) (length (encodeUnlabelled (y .tree))) (y .base) here s s₁ t t₁ st r) (sym (u .same))
-        (record { keeps = x .keeps; did = did-as _ _ (with-ways text sc here ways h (u .part) (x .did)) same-refl (λ k v. refl) (omega (arith, y .ends, u .ends)) });
+        subst (λ (v : Unlabelled). Result (inUnlabelled text sc (leavableBy ways here) h v) (cmdSays here ways (unlabelled text sc h v))
+        (length (encodeUnlabelled (y .tree))) (y .base) here s s₁ t t₁ st r) (sym (u .same))
+        (record {
+          keeps = x .keeps;
+          did = did-as _ _ (with-ways text sc here ways h (u .part) (x .did)) same-refl (λ k v. refl)
+              (omega (arith, y .ends, u .ends));
+        });
   }

@@ -30,7 +30,8 @@ use Rattle.language.specs.Fine.{FineCommands, FineLocals, FineUnlabelled}
 use Rattle.compiler.specs.Walked.{marked, placed, leavable, leavableBy, exits, NodeAt, Code, Did}
 use Rattle.compiler.specs.Walks.{Lies, Result}
 use Rattle.compiler.specs.Commands.{cmdSays, cmdsSays, ReadyC, GaveC, ReadyU, GaveU, ReadyList, GaveList}
-use Rattle.compiler.specs.Locals.{Local, aVector, someValues, withLocal, encodeLocal, localDepth, FineLocal, scopeWith, heightWith, faultsL, localSays, ReadyLocal, GaveLocal, localsSays, ReadyLocals, GaveLocals}
+use Rattle.compiler.specs.Locals.{Local, aVector, someValues, withLocal, encodeLocal, localDepth, FineLocal, scopeWith, heightWith, faultsL}
+use Rattle.compiler.specs.Locals.{localSays, ReadyLocal, GaveLocal, localsSays, ReadyLocals, GaveLocals}
 use Rattle.compiler.proofs.Done.{did-none, did-then, did-as, same-refl, same-eq, code-is}
 use Rattle.compiler.proofs.Trees.{first, second, keeps-lies, ends}
 use Rattle.compiler.proofs.Lists.{First, first-of, Kind, Part, begins, ready-one, rest-length, goes-on, ended}
@@ -108,31 +109,40 @@ module _ (text t₀ : List ℕ) (w : Ways) {s₀ : List ℕ} {from end : ℕ} {h
 -- ---- what one declaration more says
 
 module _ (text : List ℕ) (sc : Scope) (h : ℕ) where
-  scope-with : (x : Local) (ls : T.Locals) → scopeAfter text sc h (withLocal x ls) ≡ scopeAfter text (scopeWith text sc h x) (heightWith text sc h x) ls
+  scope-with : (x : Local) (ls : T.Locals)
+      → scopeAfter text sc h (withLocal x ls) ≡ scopeAfter text (scopeWith text sc h x) (heightWith text sc h x) ls
   unfolding scopeAfter scopeWith heightWith
   scope-with (aVector n c) ls = refl
   scope-with (someValues ns es) ls = refl
 
-  height-with : (x : Local) (ls : T.Locals) → heightAfter text sc h (withLocal x ls) ≡ heightAfter text (scopeWith text sc h x) (heightWith text sc h x) ls
+  height-with : (x : Local) (ls : T.Locals)
+      → heightAfter text sc h (withLocal x ls) ≡ heightAfter text (scopeWith text sc h x) (heightWith text sc h x) ls
   unfolding heightAfter scopeWith heightWith
   height-with (aVector n c) ls = refl
   height-with (someValues ns es) ls = refl
 
-faults-with : (text : List ℕ) (sc : Scope) (here : Here) (x : Local) (ls : T.Locals) → inLocals text sc (leavable here) (here .height) (withLocal x ls) ≡ faultsL text sc here x ++ inLocals text (scopeWith text sc (here .height) x) (leavable here) (heightWith text sc (here .height) x) ls
+faults-with : (text : List ℕ) (sc : Scope) (here : Here) (x : Local) (ls : T.Locals)
+    → inLocals text sc (leavable here) (here .height) (withLocal x ls) ≡ faultsL text sc here x ++ inLocals text (scopeWith text sc (here .height) x)
+    (leavable here) (heightWith text sc (here .height) x) ls
 unfolding inLocals faultsL scopeWith heightWith
 faults-with text sc here (aVector n c) ls = refl
 faults-with text sc here (someValues ns es) ls = refl
 
 module _ (strings : ℕ) where
-  values-code : (h n : ℕ) (es : R.Exprs) (ls : R.Locals) → G.localsCode strings h n (valuesBefore es ls) ≡ G.exprsCode strings h n es ++ G.localsCode strings (h + H.count es) (n + G.exprsLabels es) ls
+  values-code : (h n : ℕ) (es : R.Exprs) (ls : R.Locals)
+      → G.localsCode strings h n (valuesBefore es ls) ≡ G.exprsCode strings h n es ++ G.localsCode strings (h + H.count es) (n + G.exprsLabels es) ls
   unfolding G.localsCode G.exprsCode H.count G.exprsLabels
-  values-code h n R.none ls = let a : h ≡ h + 0 = omega arith in let b : n ≡ n + 0 = omega arith in ap (λ (k : ℕ). G.localsCode strings k n ls) a ∙ ap (λ (k : ℕ). G.localsCode strings (h + 0) k ls) b
+  values-code h n R.none ls =
+      let a : h ≡ h + 0 = omega arith in let b : n ≡ n + 0 = omega arith in
+      ap (λ (k : ℕ). G.localsCode strings k n ls) a ∙ ap (λ (k : ℕ). G.localsCode strings (h + 0) k ls) b
   values-code h n (R.and e es) ls =
-      let a : h + 1 + H.count es ≡ h + suc (H.count es) = omega arith in let b : n + G.exprLabels e + G.exprsLabels es ≡ n + (G.exprLabels e + G.exprsLabels es) = omega arith in
+      let a : h + 1 + H.count es ≡ h + suc (H.count es) = omega arith in
+      let b : n + G.exprLabels e + G.exprsLabels es ≡ n + (G.exprLabels e + G.exprsLabels es) = omega arith in
       ap (λ (z : List I.Item). G.exprCode strings h n e ++ (G.SP h ∷ z)) (values-code (h + 1) (n + G.exprLabels e) es ls
       ∙ ap (λ (k : ℕ). G.exprsCode strings (h + 1) (n + G.exprLabels e) es ++ G.localsCode strings k (n + G.exprLabels e + G.exprsLabels es) ls) a
       ∙ ap (λ (k : ℕ). G.exprsCode strings (h + 1) (n + G.exprLabels e) es ++ G.localsCode strings (h + suc (H.count es)) k ls) b)
-      ∙ sym (append-assoc (G.exprCode strings h n e) (G.SP h ∷ G.exprsCode strings (h + 1) (n + G.exprLabels e) es) (G.localsCode strings (h + suc (H.count es)) (n + (G.exprLabels e + G.exprsLabels es)) ls))
+      ∙ sym (append-assoc (G.exprCode strings h n e) (G.SP h ∷ G.exprsCode strings (h + 1) (n + G.exprLabels e) es)
+      (G.localsCode strings (h + suc (H.count es)) (n + (G.exprLabels e + G.exprsLabels es)) ls))
 
 values-heights : (h : ℕ) (es : R.Exprs) (ls : R.Locals) → ofLocals h (valuesBefore es ls) ≡ ofExprs h es ++ ofLocals (h + H.count es) ls
 unfolding ofLocals ofExprs H.count
@@ -150,23 +160,35 @@ values-labels (R.and e es) ls = omega (arith, values-labels es ls)
 values-after : (h : ℕ) (es : R.Exprs) (ls : R.Locals) → H.heightWith h (valuesBefore es ls) ≡ H.heightWith (h + H.count es) ls
 unfolding H.heightWith H.count
 values-after h R.none ls = let a : h ≡ h + 0 = omega arith in ap (λ (k : ℕ). H.heightWith k ls) a
-values-after h (R.and e es) ls = let a : h + 1 + H.count es ≡ h + suc (H.count es) = omega arith in values-after (h + 1) es ls ∙ ap (λ (k : ℕ). H.heightWith k ls) a
+values-after h (R.and e es) ls =
+    let a : h + 1 + H.count es ≡ h + suc (H.count es) = omega arith in values-after (h + 1) es ls ∙ ap (λ (k : ℕ). H.heightWith k ls) a
 
-count-is : (text : List ℕ) (sc : Scope) (h : ℕ) (ns : List Name) (es : Expressions) → length ns ≡ T.count es → h + H.count (expressions text sc h es) ≡ h + length ns
+count-is : (text : List ℕ) (sc : Scope) (h : ℕ) (ns : List Name) (es : Expressions) → length ns ≡ T.count es
+    → h + H.count (expressions text sc h es) ≡ h + length ns
 count-is text sc h ns es e = omega (arith, e, count-resolved text sc h es)
 
 -- the code of one and then of the others
-code-with : (text : List ℕ) (sc : Scope) (here : Here) (n : ℕ) (x : Local) (ls : T.Locals) → FineLocal x → let sc′ = scopeWith text sc (here .height) x in let h′ = heightWith text sc (here .height) x in let c = localSays text sc here x n in
-    _≡_ {A = Code} (record { items = c .items ++ G.localsCode (here .strings) h′ (n + c .labels) (locals text sc′ h′ ls); heights = c .heights ++ ofLocals h′ (locals text sc′ h′ ls); labels = c .labels + G.localsLabels (locals text sc′ h′ ls) })
+code-with : (text : List ℕ) (sc : Scope) (here : Here) (n : ℕ) (x : Local) (ls : T.Locals) → FineLocal x
+    → let sc′ = scopeWith text sc (here .height) x in let h′ = heightWith text sc (here .height) x in let c = localSays text sc here x n in
+    _≡_ {A = Code}
+    (record {
+      items = c .items ++ G.localsCode (here .strings) h′ (n + c .labels) (locals text sc′ h′ ls);
+      heights = c .heights ++ ofLocals h′
+          (locals text sc′ h′ ls);
+      labels = c .labels + G.localsLabels (locals text sc′ h′ ls);
+    })
     (localsSays here (here .height) (locals text sc (here .height) (withLocal x ls)) n)
 unfolding locals localSays scopeWith heightWith FineLocal G.localsCode ofLocals G.localsLabels
 code-with text sc here n (aVector m c) ls f =
-    let h = here .height in let h′ = h + 2 + judgedWord (forVector text sc c) in let ls′ = locals text (declared sc m (N.local h)) h′ ls in let a : n + 0 ≡ n = omega arith in
+    let h = here .height in let h′ = h + 2 + judgedWord (forVector text sc c) in let ls′ = locals text (declared sc m (N.local h)) h′ ls in
+    let a : n + 0 ≡ n = omega arith in
     code-is (ap (λ (k : ℕ). G.LP (h + 1) ∷ G.SP h ∷ G.localsCode (here .strings) h′ k ls′) a) refl (omega arith)
 code-with text sc here n (someValues ns es) ls f =
-    let h = here .height in let rs = expressions text sc h es in let ls′ = locals text (declareAll sc h ns) (h + length ns) ls in let k = count-is text sc h ns es (f .0) in
+    let h = here .height in let rs = expressions text sc h es in let ls′ = locals text (declareAll sc h ns) (h + length ns) ls in
+    let k = count-is text sc h ns es (f .0) in
     code-is
-    (ap (λ (m : ℕ). G.exprsCode (here .strings) h n rs ++ G.localsCode (here .strings) m (n + G.exprsLabels rs) ls′) (sym k) ∙ sym (values-code (here .strings) h n rs ls′))
+    (ap (λ (m : ℕ). G.exprsCode (here .strings) h n rs ++ G.localsCode (here .strings) m (n + G.exprsLabels rs) ls′) (sym k) ∙ sym
+    (values-code (here .strings) h n rs ls′))
     (ap (λ (m : ℕ). ofExprs h rs ++ ofLocals m ls′) (sym k) ∙ sym (values-heights h rs ls′))
     (sym (values-labels rs ls′))
 
@@ -215,8 +237,12 @@ module _ (text t₀ : List ℕ) {s₀ : List ℕ} {from end : ℕ} {here : Here}
     pub fine : FineLs rest
     pub scopes : scopeAfter text (y .ready .scope) (here .height) (y .ready .tree) ≡ scopeAfter text scope (r .height) rest
     pub heights : heightAfter text (y .ready .scope) (here .height) (y .ready .tree) ≡ heightAfter text scope (r .height) rest
-    pub finish : (t′ : List ℕ) (st′ : State) → Did (inLocals text scope (leavable here) (r .height) rest) (localsSays here (r .height) (locals text scope (r .height) rest)) (2 * length (encodeLocals rest)) t t′ (r .done) st′
-        → Did (inLocals text (y .ready .scope) (leavable here) (here .height) (y .ready .tree)) (localsSays here (here .height) (locals text (y .ready .scope) (here .height) (y .ready .tree))) (2 * length (encodeLocals (y .ready .tree))) t₀ t′ st₀ st′
+    pub finish : (t′ : List ℕ) (st′ : State)
+        → Did (inLocals text scope (leavable here) (r .height) rest) (localsSays here (r .height) (locals text scope (r .height) rest))
+        (2 * length (encodeLocals rest)) t t′ (r .done) st′
+        → Did (inLocals text (y .ready .scope) (leavable here) (here .height) (y .ready .tree))
+        (localsSays here (here .height) (locals text (y .ready .scope) (here .height) (y .ready .tree))) (2 * length (encodeLocals (y .ready .tree)))
+        t₀ t′ st₀ st′
 
   pub locals-begin : (y : ReadyLocals s₀ from end here st₀) → LocalsPart y s₀ t₀ from (record { top = here .top; height = here .height; done = st₀ })
   locals-begin y = let z = y .ready in record {
@@ -256,7 +282,8 @@ module _ (text t₀ : List ℕ) {s₀ : List ℕ} {from end : ℕ} {here : Here}
       pub locals-fine : FineLocal (one .part) × FineLs (one .more)
       locals-fine = local-fine (one .part) (one .more) (subst FineLs (one .same) (p .fine))
 
-    abbrev pub locals-part : (y : ReadyLocals s₀ from end here st₀) → LocalsPart y s t at r → ReadyLocal s next (placed (r .top) (r .height) here) (r .done)
+    abbrev pub locals-part : (y : ReadyLocals s₀ from end here st₀) → LocalsPart y s t at r
+        → ReadyLocal s next (placed (r .top) (r .height) here) (r .done)
     locals-part y p = let z = y .ready in let u = one y p in record {
       base = z .base;
       lo = at + 2;
@@ -277,7 +304,8 @@ module _ (text t₀ : List ℕ) {s₀ : List ℕ} {from end : ℕ} {here : Here}
       fine = locals-fine y p .0;
     }
 
-    pub locals-next : {s₁ t₁ : List ℕ} {r′ : Placed} → GaveLocal text s s₁ next (placed (r .top) (r .height) here) t t₁ (r .done) r′ → (y : ReadyLocals s₀ from end here st₀) → LocalsPart y s t at r → LocalsPart y s₁ t₁ next r′
+    pub locals-next : {s₁ t₁ : List ℕ} {r′ : Placed} → GaveLocal text s s₁ next (placed (r .top) (r .height) here) t t₁ (r .done) r′
+        → (y : ReadyLocals s₀ from end here st₀) → LocalsPart y s t at r → LocalsPart y s₁ t₁ next r′
     locals-next {s₁} {t₁} {r′} g y p =
         let z = y .ready in let u = one y p in let x = g .by (locals-part y p) in let sc = p .scope in let h = r .height in
         let sc′ = scopeWith text sc h (u .part) in let h′ = heightWith text sc h (u .part) in let k = x .after in let now = placed (r .top) h here in
@@ -296,16 +324,23 @@ module _ (text t₀ : List ℕ) {s₀ : List ℕ} {from end : ℕ} {here : Here}
           some = omega (arith, p .some, x .did .grows);
           shallow = locals-deep y p .1;
           fine = locals-fine y p .1;
-          scopes = p .scopes ∙ ap (scopeAfter text sc h) (u .same) ∙ scope-with text sc h (u .part) (u .more) ∙ ap (λ (n : ℕ). scopeAfter text sc′ n (u .more)) (sym (k .height));
-          heights = p .heights ∙ ap (heightAfter text sc h) (u .same) ∙ height-with text sc h (u .part) (u .more) ∙ ap (λ (n : ℕ). heightAfter text sc′ n (u .more)) (sym (k .height));
+          scopes = p .scopes ∙ ap (scopeAfter text sc h) (u .same) ∙ scope-with text sc h (u .part) (u .more) ∙ ap
+              (λ (n : ℕ). scopeAfter text sc′ n (u .more)) (sym (k .height));
+          heights = p .heights ∙ ap (heightAfter text sc h) (u .same) ∙ height-with text sc h (u .part) (u .more) ∙ ap
+              (λ (n : ℕ). heightAfter text sc′ n (u .more)) (sym (k .height));
           finish = λ t′ st′ d. p .finish t′ st′
-              (subst (λ (ls : T.Locals). Did (inLocals text sc (leavable here) h ls) (localsSays here h (locals text sc h ls)) (2 * length (encodeLocals (p .rest))) t t′ (r .done) st′) (sym (u .same))
+              (subst (λ (ls : T.Locals). Did (inLocals text sc (leavable here) h ls) (localsSays here h (locals text sc h ls))
+              (2 * length (encodeLocals (p .rest))) t t′ (r .done) st′) (sym (u .same))
               (did-as (localsSays here h (locals text sc h (withLocal (u .part) (u .more)))) _
-              (did-then (x .did) (subst (λ (n : ℕ). Did (inLocals text sc′ (leavable here) n (u .more)) (localsSays here n (locals text sc′ n (u .more))) (2 * length (encodeLocals (u .more))) t₁ t′ (r′ .done) st′) (k .height) d))
-              (same-eq (sym (faults-with text sc now (u .part) (u .more)))) (λ m e. code-with text sc now m (u .part) (u .more) (locals-fine y p .0)) (omega (arith, locals-length y p))));
+              (did-then (x .did)
+              (subst (λ (n : ℕ). Did (inLocals text sc′ (leavable here) n (u .more)) (localsSays here n (locals text sc′ n (u .more)))
+              (2 * length (encodeLocals (u .more))) t₁ t′ (r′ .done) st′) (k .height) d))
+              (same-eq (sym (faults-with text sc now (u .part) (u .more)))) (λ m e. code-with text sc now m (u .part) (u .more) (locals-fine y p .0))
+              (omega (arith, locals-length y p))));
         }
 
-  pub locals-end : {s t : List ℕ} {at : ℕ} {r : Placed} → end ≤ at → ((y : ReadyLocals s₀ from end here st₀) → LocalsPart y s t at r) → GaveLocals text s₀ s from end here t₀ t st₀ r
+  pub locals-end : {s t : List ℕ} {at : ℕ} {r : Placed} → end ≤ at → ((y : ReadyLocals s₀ from end here st₀) → LocalsPart y s t at r)
+      → GaveLocals text s₀ s from end here t₀ t st₀ r
   unfolding inLocals locals scopeAfter heightAfter G.localsCode ofLocals G.localsLabels encodeLocals
   locals-end {s} {t} {at} {r} l q = record {
     by = λ y. let p = q y in let e = no-local (p .rest) (p .ends) l in let z = y .ready in record {
@@ -317,7 +352,9 @@ module _ (text t₀ : List ℕ) {s₀ : List ℕ} {from end : ℕ} {here : Here}
         room = omega (arith, p .room);
         tall = omega (arith, p .tall);
       };
-      did = p .finish t (r .done) (subst (λ (ls : T.Locals). Did (inLocals text (p .scope) (leavable here) (r .height) ls) (localsSays here (r .height) (locals text (p .scope) (r .height) ls)) (2 * length (encodeLocals ls)) t t (r .done) (r .done)) (sym e) (did-none _));
+      did = p .finish t (r .done) (subst (λ (ls : T.Locals). Did (inLocals text (p .scope) (leavable here) (r .height) ls)
+          (localsSays here (r .height) (locals text (p .scope) (r .height) ls)) (2 * length (encodeLocals ls)) t t (r .done) (r .done)) (sym e)
+          (did-none _));
     };
   }
 
@@ -346,13 +383,17 @@ is-block {lo = lo} (F.aBlock {ls} {cs} h v z q) = record {
 }
 
 -- locals anywhere
-any-locals : (text : List ℕ) (l m : Leavable) (q : l .routine ≡ m .routine) (sc : Scope) (h : ℕ) (ls : T.Locals) → inLocals text sc l h ls ≡ inLocals text sc m h ls
+any-locals : (text : List ℕ) (l m : Leavable) (q : l .routine ≡ m .routine) (sc : Scope) (h : ℕ) (ls : T.Locals)
+    → inLocals text sc l h ls ≡ inLocals text sc m h ls
 unfolding inLocals
 any-locals text l m q sc h T.noLocals = refl
-any-locals text l m q sc h (T.vector n c ls) = ap (λ (z : List Fault). (faultsOf (forVector text sc c) ++ twice text sc h (n ∷ [])) ++ z) (any-locals text l m q (declared sc n (N.local h)) (h + 2 + judgedWord (forVector text sc c)) ls)
+any-locals text l m q sc h (T.vector n c ls) =
+    ap (λ (z : List Fault). (faultsOf (forVector text sc c) ++ twice text sc h (n ∷ [])) ++ z)
+    (any-locals text l m q (declared sc n (N.local h)) (h + 2 + judgedWord (forVector text sc c)) ls)
 any-locals text l m q sc h (T.values ns es ls) =
     ap (λ (z : List Fault). (z ++ twice text sc h ns) ++ inLocals text (declareAll sc h ns) l (h + length ns) ls) (any-expressions text l m q sc h es)
-    ∙ ap (λ (z : List Fault). (inExpressions text sc m h es ++ twice text sc h ns) ++ z) (any-locals text l m q (declareAll sc h ns) (h + length ns) ls)
+    ∙ ap (λ (z : List Fault). (inExpressions text sc m h es ++ twice text sc h ns) ++ z)
+    (any-locals text l m q (declareAll sc h ns) (h + length ns) ls)
 
 -- both ways to count the height agree
 heights-agree : (text : List ℕ) (sc : Scope) (h : ℕ) (ls : T.Locals) → FineLs ls → H.heightWith h (locals text sc h ls) ≡ heightAfter text sc h ls
@@ -361,9 +402,11 @@ heights-agree text sc h T.noLocals f = refl
 heights-agree text sc h (T.vector n c ls) f = heights-agree text (declared sc n (N.local h)) (h + 2 + judgedWord (forVector text sc c)) ls (f .1)
 heights-agree text sc h (T.values ns es ls) f =
     let ls′ = locals text (declareAll sc h ns) (h + length ns) ls in
-    values-after h (expressions text sc h es) ls′ ∙ ap (λ (k : ℕ). H.heightWith k ls′) (count-is text sc h ns es (sym (f .2))) ∙ heights-agree text (declareAll sc h ns) (h + length ns) ls (f .1)
+    values-after h (expressions text sc h es) ls′ ∙ ap (λ (k : ℕ). H.heightWith k ls′) (count-is text sc h ns es (sym (f .2))) ∙ heights-agree text
+    (declareAll sc h ns) (h + length ns) ls (f .1)
 
-module _ {s : List ℕ} {end : ℕ} {here : Here} {st : State} (n : Node) (nd : NodeAt s end n) (q : getD s (end - 1) 0 ≡ 57) {middle : ℕ} (m : middle ≡ n .start + n .value) where
+module _ {s : List ℕ} {end : ℕ} {here : Here} {st : State} (n : Node) (nd : NodeAt s end n) (q : getD s (end - 1) 0 ≡ 57) {middle : ℕ}
+    (m : middle ≡ n .start + n .value) where
   pub block-is : (y : ReadyU s end here st) → IsBlock s (y .lo) end (y .tree)
   block-is y = is-block (form-at n nd (nd .kind ∙ q) y)
 
@@ -371,12 +414,15 @@ module _ {s : List ℕ} {end : ℕ} {here : Here} {st : State} (n : Node) (nd : 
   unfolding FineUnlabelled
   block-fine y = subst FinePlain (block-is y .same) (y .fine) .0
 
-  pub block-deep : (y : ReadyU s end here st) → (localsDepth (block-is y .declarations) ≤ here .left) × (commandsDepth (block-is y .list) ≤ here .left)
+  pub block-deep : (y : ReadyU s end here st)
+      → (localsDepth (block-is y .declarations) ≤ here .left) × (commandsDepth (block-is y .list) ≤ here .left)
   unfolding unlabelledDepth
   block-deep y = (omega (arith, y .shallow, ap unlabelledDepth (block-is y .same)), omega (arith, y .shallow, ap unlabelledDepth (block-is y .same)))
 
   pub block-start : (y : ReadyU s end here st) → (n .start ≡ y .lo) × (middle ≡ y .lo + length (encodeLocals (block-is y .declarations)))
-  block-start y = let u = block-is y in (omega (arith, nd .start, u .size-of, u .ends), omega (arith, m, nd .start, nd .value, u .value-of, u .size-of, u .ends))
+  block-start y =
+      let u = block-is y in
+      (omega (arith, nd .start, u .size-of, u .ends), omega (arith, m, nd .start, nd .value, u .value-of, u .size-of, u .ends))
 
   pub block-room : (y : ReadyU s end here st) → (here .top + 2 ≤ y .base) × (here .top + 2 ≤ length s)
   block-room y = let u = block-is y in (omega (arith, y .room, y .ends, u .ends), omega (arith, y .room, y .ends, u .ends, y .long))
@@ -434,20 +480,33 @@ module _ {s : List ℕ} {end : ℕ} {here : Here} {st : State} (n : Node) (nd : 
         starts = sym (block-start y .1);
       }
 
-      pub block-gave : (ways : Ways) {s₃ t₂ : List ℕ} {r : State} → GaveList text s₂ s₃ middle (n .inner) (placed (a .top) (a .height) here) ways t₁ t₂ (a .done) r → GaveU text s s₃ end here ways t t₂ st r
+      pub block-gave : (ways : Ways) {s₃ t₂ : List ℕ} {r : State}
+          → GaveList text s₂ s₃ middle (n .inner) (placed (a .top) (a .height) here) ways t₁ t₂ (a .done) r → GaveU text s s₃ end here ways t t₂ st r
       unfolding inUnlabelled unlabelled G.cmdCode ofCmd G.cmdLabels
       block-gave ways {s₃} {t₂} {r} g₂ = record {
         by = λ y.
-            let u = block-is y in let x = g .by (block-locals y) in let z = g₂ .by (block-list y) in let sc = opened (y .scope) in let h = here .height in let ls = u .declarations in
+            let u = block-is y in let x = g .by (block-locals y) in let z = g₂ .by (block-list y) in let sc = opened (y .scope) in
+            let h = here .height in let ls = u .declarations in
             let LS = locals text sc h ls in let sc′ = scopeAfter text sc h ls in let h′ = heightAfter text sc h ls in let l = leavableBy ways here in
             let eh : H.heightWith h LS ≡ h′ = heights-agree text sc h ls (block-fine y .0) in
-            subst (λ (v : Unlabelled). Result (inUnlabelled text (y .scope) l h v) (cmdSays here ways (unlabelled text (y .scope) h v)) (length (encodeUnlabelled (y .tree))) (y .base) here s s₃ t t₂ st r) (sym (u .same))
+            subst (λ (v : Unlabelled). Result (inUnlabelled text (y .scope) l h v) (cmdSays here ways (unlabelled text (y .scope) h v))
+            (length (encodeUnlabelled (y .tree))) (y .base) here s s₃ t t₂ st r) (sym (u .same))
             (record {
               keeps = keeps-then (block-keeps y) (keeps-lower (omega (arith, x .after .above)) (z .keeps));
               did = did-as (cmdSays here ways (R.block LS (commands text sc′ h′ (u .list)))) _
-                  (did-then (x .did) (subst (λ (k : ℕ). Did (inCommands text sc′ l k (u .list)) (λ m. record { items = G.cmdsCode (here .strings) k m (exits ways) (commands text sc′ k (u .list)); heights = ofCmds k (commands text sc′ k (u .list)); labels = G.cmdsLabels (commands text sc′ k (u .list)) }) (2 * length (encodeCommands (u .list))) t₁ t₂ (a .done) r) (x .after .height) (z .did)))
+                  (did-then (x .did) (subst (λ (k : ℕ). Did (inCommands text sc′ l k (u .list))
+                  (λ m. record {
+                    items = G.cmdsCode (here .strings) k m (exits ways) (commands text sc′ k (u .list));
+                    heights = ofCmds k
+                        (commands text sc′ k (u .list));
+                    labels = G.cmdsLabels (commands text sc′ k (u .list));
+                  })
+                  (2 * length (encodeCommands (u .list))) t₁ t₂ (a .done) r) (x .after .height) (z .did)))
                   (same-eq (ap (λ (f : List Fault). f ++ inCommands text sc′ l h′ (u .list)) (any-locals text (leavable here) l refl sc h ls)))
-                  (λ k e. code-is (ap (λ (v : ℕ). G.localsCode (here .strings) h k LS ++ G.cmdsCode (here .strings) v (k + G.localsLabels LS) (exits ways) (commands text sc′ h′ (u .list))) (sym eh)) (ap (λ (v : ℕ). ofLocals h LS ++ ofCmds v (commands text sc′ h′ (u .list))) (sym eh)) refl)
+                  (λ k e. code-is
+                  (ap (λ (v : ℕ). G.localsCode (here .strings) h k LS ++ G.cmdsCode (here .strings) v (k + G.localsLabels LS) (exits ways)
+                  (commands text sc′ h′ (u .list))) (sym eh)) (ap (λ (v : ℕ). ofLocals h LS ++ ofCmds v (commands text sc′ h′ (u .list))) (sym eh))
+                  refl)
                   (omega (arith, y .ends, u .ends));
             });
       }
@@ -460,11 +519,14 @@ locals-ready-at {s} {from} {end} {st = st} e y = subst (λ (x : Here). ReadyLoca
 pub list-ready-at : {s : List ℕ} {from end : ℕ} {d d′ : Here} {st : State} → d′ ≡ d → ReadyList s from end d st → ReadyList s from end d′ st
 list-ready-at {s} {from} {end} {st = st} e y = subst (λ (x : Here). ReadyList s from end x st) (sym e) y
 
-pub local-gave-at : {text s s′ t t′ : List ℕ} {end : ℕ} {d d′ : Here} {st : State} {r : Placed} → d′ ≡ d → GaveLocal text s s′ end d′ t t′ st r → GaveLocal text s s′ end d t t′ st r
+pub local-gave-at : {text s s′ t t′ : List ℕ} {end : ℕ} {d d′ : Here} {st : State} {r : Placed} → d′ ≡ d → GaveLocal text s s′ end d′ t t′ st r
+    → GaveLocal text s s′ end d t t′ st r
 local-gave-at {text} {s} {s′} {t} {t′} {end} {st = st} {r} e g = subst (λ (x : Here). GaveLocal text s s′ end x t t′ st r) e g
 
-pub locals-gave-at : {text s s′ t t′ : List ℕ} {from end : ℕ} {d d′ : Here} {st : State} {r : Placed} → d′ ≡ d → GaveLocals text s s′ from end d′ t t′ st r → GaveLocals text s s′ from end d t t′ st r
+pub locals-gave-at : {text s s′ t t′ : List ℕ} {from end : ℕ} {d d′ : Here} {st : State} {r : Placed} → d′ ≡ d
+    → GaveLocals text s s′ from end d′ t t′ st r → GaveLocals text s s′ from end d t t′ st r
 locals-gave-at {text} {s} {s′} {t} {t′} {from} {end} {st = st} {r} e g = subst (λ (x : Here). GaveLocals text s s′ from end x t t′ st r) e g
 
-pub list-gave-at : {text s s′ t t′ : List ℕ} {from end : ℕ} {d d′ : Here} {w : Ways} {st r : State} → d′ ≡ d → GaveList text s s′ from end d′ w t t′ st r → GaveList text s s′ from end d w t t′ st r
+pub list-gave-at : {text s s′ t t′ : List ℕ} {from end : ℕ} {d d′ : Here} {w : Ways} {st r : State} → d′ ≡ d
+    → GaveList text s s′ from end d′ w t t′ st r → GaveList text s s′ from end d w t t′ st r
 list-gave-at {text} {s} {s′} {t} {t′} {from} {end} {w = w} {st} {r} e g = subst (λ (x : Here). GaveList text s s′ from end x w t t′ st r) e g

@@ -1,19 +1,17 @@
 -- Arguments, and what follows a primary.
-use Prim.Native.Nat.{ℕ, zero, suc, _+_, _*_, _-_, _≤_, _<_, _^_, max}
+use Prim.Native.Nat.{ℕ, suc, _+_, _*_, _-_, _≤_, _<_}
 use mathlib.Core.Path.{_≡_, refl, sym, ap, subst, _∙_}
-use mathlib.Core.Bool.{Bool, true, false}
 use mathlib.Core.List.{List, [], _∷_, _++_, append-nil, append-assoc}
 use native.Mathlib.Omega.{arith}
 use lib.ListN.{length, getD, length-append, List·getD-append}
 use lib.Seq.{getD-append-add}
-use Rattle.items.specs.Item as I
 use Rattle.language.specs.Tree as T
-use Rattle.language.specs.Tree.{Name, Expression, Expressions, Suffixes, Operations}
+use Rattle.language.specs.Tree.{Expression, Expressions, Suffixes}
 use Rattle.language.proofs.Depth.{depth, expressionsDepth, suffixesDepth}
 use Rattle.language.specs.Names.{Scope}
-use Rattle.language.specs.Constants.{Fault, fault}
+use Rattle.language.specs.Constants.{Fault}
 use Rattle.language.specs.Resolved as R
-use Rattle.language.specs.Resolved.{Expr, Exprs}
+use Rattle.language.specs.Resolved.{Expr}
 use Rattle.language.specs.Resolve.{expression, expressions, suffixes, under}
 use Rattle.language.specs.Heights as H
 use Rattle.language.specs.Heights.{ofExpr, ofExprs}
@@ -22,17 +20,18 @@ use Rattle.code.specs.Generate.{exprCode, exprsCode, exprLabels, exprsLabels}
 use Rattle.language.specs.Faults.{Leavable, inExpression, inExpressions, inSuffixes}
 use Rattle.tree.specs.Encoding.{encode, encodeExpressions, encodeSuffixes}
 use Rattle.compiler.specs.Scope.{Keeps}
-use Rattle.compiler.proofs.Scoping.{keeps-all, keeps-then}
+use Rattle.compiler.proofs.Scoping.{keeps-all, keeps-then, Order, lt, ge, order}
 use Rattle.compiler.specs.declared.steps.State.{State}
 use Rattle.compiler.specs.declared.steps.Here.{Here}
 use Rattle.compiler.specs.declared.steps.Node.{Node}
 use Rattle.compiler.specs.Fine.{FineE, FineEs, FineSs}
 use Rattle.language.specs.Fine.{Fine, FineList, FineSuffixes}
-use Rattle.compiler.specs.Walked.{inside, raised, leavable, NodeAt, Code, Did, Emits, Reached, exprSays, exprsSays}
-use Rattle.compiler.specs.Walks.{Lies, Ready, Result, ReadyE, GaveE, faultsE, codeE, ReadyArgs, GaveArgs, Counts, Applied, encodeApplied, deepApplied, FineApplied, faultsA, codeA, ReadySuffixes, GaveSuffixes, codeIndexed, GaveIndexed, codePassed, GavePassed}
-use Rattle.compiler.proofs.Done.{emits-did, did-emit, did-put, did-after, did-none, did-then, did-as, same-refl, same-eq, same-swap, same-then, Same, code-is}
-use Rattle.compiler.proofs.Scoping.{Order, lt, ge, order}
-use Rattle.compiler.proofs.Trees.{first, second, find, IsTwo, Case, aNumber, aString, aName, aBracket, aValof, aMonadic, aSuffixed, aCalled, aDyadic}
+use Rattle.compiler.specs.Walked.{inside, raised, leavable, NodeAt, Did, Emits, Reached, exprSays, exprsSays}
+use Rattle.compiler.specs.Walks.{Lies, Ready, Result, ReadyE, GaveE, faultsE, codeE, ReadyArgs, GaveArgs, Counts, encodeApplied, deepApplied}
+use Rattle.compiler.specs.Walks.{FineApplied, faultsA, codeA, ReadySuffixes, GaveSuffixes, GaveIndexed, GavePassed}
+use Rattle.compiler.proofs.Done.{did-emit, did-put, did-after, did-none, did-then, did-as, same-refl, same-eq, same-swap, same-then, code-is}
+use Rattle.compiler.proofs.Trees.{first, second, find, IsTwo, Case, aNumber, aString, aName, aBracket, aValof, aMonadic, aSuffixed, aCalled}
+use Rattle.compiler.proofs.Trees.{aDyadic}
 use Rattle.compiler.proofs.Counting.{expression-items}
 use Rattle.compiler.proofs.Parts.{sub}
 use Rattle.compiler.proofs.Lists.{First, first-of, Kind, Part, begins, ready-one, item, rest-length, goes-on, ended}
@@ -42,7 +41,8 @@ use Rattle.compiler.proofs.Lists.{First, first-of, Kind, Part, begins, 
 abbrev pub IsArg : (s : List ℕ) (at end : ℕ) → Expressions → Type 0
 IsArg = First encodeExpressions encode (λ e. 0) T.andExpression
 
-pub is-arg : {s : List ℕ} {at end : ℕ} (es : Expressions) → Lies s at (encodeExpressions es) → end ≡ at + length (encodeExpressions es) → at < end → IsArg s at end es
+pub is-arg : {s : List ℕ} {at end : ℕ} (es : Expressions) → Lies s at (encodeExpressions es) → end ≡ at + length (encodeExpressions es) → at < end
+    → IsArg s at end es
 unfolding encodeExpressions
 is-arg T.noExpressions h e l = absurd (omega arith)
 is-arg (T.andExpression d es) h e l = first-of encodeExpressions encode (λ e. 0) T.andExpression d es h e
@@ -101,12 +101,17 @@ module _ (text t₀ : List ℕ) {s₀ : List ℕ} {from end : ℕ} {here : Here}
     unfolding inExpressions expressions exprsCode ofExprs exprsLabels
     args-next {t₂ = t₂} {r = r} g f y p =
         let z = y .ready in let u = item z (y .starts) l es en p in let x = g .by (args-part y p) in let sc = z .scope in let h = here .height + k in
-        let n = rest-length z (y .starts) l es en p in let E = expression text sc h (u .part) in let e1 : here .height + (k + 1) ≡ h + 1 = omega arith in
-        goes-on z (y .starts) l es en p (x .keeps) (omega arith) (omega (arith, x .did .few, f .label)) (omega (arith, p .some, x .did .grows, f .label))
+        let n = rest-length z (y .starts) l es en p in let E = expression text sc h (u .part) in
+        let e1 : here .height + (k + 1) ≡ h + 1 = omega arith in
+        goes-on z (y .starts) l es en p (x .keeps) (omega arith) (omega (arith, x .did .few, f .label))
+        (omega (arith, p .some, x .did .grows, f .label))
         (λ t′ st′ d. did-as _ _
-        (did-then (did-emit (x .did) f) (subst (λ (m : ℕ). Did (inExpressions text sc (leavable here) m (u .more)) (exprsSays (here .strings) m (expressions text sc m (u .more))) (2 * length (encodeExpressions (u .more))) t₂ t′ r st′) e1 d)) same-refl
+        (did-then (did-emit (x .did) f)
+        (subst (λ (m : ℕ). Did (inExpressions text sc (leavable here) m (u .more)) (exprsSays (here .strings) m (expressions text sc m (u .more)))
+        (2 * length (encodeExpressions (u .more))) t₂ t′ r st′) e1 d)) same-refl
         (λ n c. code-is
-        (append-assoc (exprCode (here .strings) h n E) (G.SP h ∷ []) (exprsCode (here .strings) (h + 1) (n + exprLabels E) (expressions text sc (h + 1) (u .more))))
+        (append-assoc (exprCode (here .strings) h n E) (G.SP h ∷ [])
+        (exprsCode (here .strings) (h + 1) (n + exprLabels E) (expressions text sc (h + 1) (u .more))))
         (append-assoc (ofExpr h E) ((h + 1) ∷ []) (ofExprs (h + 1) (expressions text sc (h + 1) (u .more))))
         refl)
         (omega arith))
@@ -127,7 +132,8 @@ both {s} {lo} {m} x y f g e = record { at = λ i l. by i l (order i (length x)) 
         let j = i - length x in
         let q : i ≡ length x + j = omega arith in
         let p : lo + i ≡ m + j = omega arith in
-        ap (λ (k : ℕ). getD s k 0) p ∙ g .at j (omega (arith, length-append x y)) ∙ sym (getD-append-add x y j 0) ∙ ap (λ (k : ℕ). getD (x ++ y) k 0) (sym q)
+        ap (λ (k : ℕ). getD s k 0) p ∙ g .at j (omega (arith, length-append x y)) ∙ sym (getD-append-add x y j 0) ∙ ap (λ (k : ℕ). getD (x ++ y) k 0)
+        (sym q)
 
 unfoldable pub snocCall : Suffixes → Expressions → Suffixes
 snocCall T.noSuffixes es = T.call es T.noSuffixes
@@ -154,10 +160,13 @@ pub data Last (s : List ℕ) (m end : ℕ) (all : Suffixes) : ℕ → Type 0 whe
   anIndex : IsLast encode snocIndex s m end all → Last s m end all 49
 
 -- another one before all
-module _ {s : List ℕ} {m m′ end : ℕ} (w : List ℕ) (cons : Suffixes → Suffixes) (p : (x : Suffixes) → encodeSuffixes (cons x) ≡ w ++ encodeSuffixes x) (h : Lies s m w) (e : m′ ≡ m + length w) where
-  before : {A : Type 0} {enc : A → List ℕ} {snoc : Suffixes → A → Suffixes} {all : Suffixes} → ((x : Suffixes) (a : A) → cons (snoc x a) ≡ snoc (cons x) a) → IsLast enc snoc s m′ end all → IsLast enc snoc s m end (cons all)
+module _ {s : List ℕ} {m m′ end : ℕ} (w : List ℕ) (cons : Suffixes → Suffixes) (p : (x : Suffixes) → encodeSuffixes (cons x) ≡ w ++ encodeSuffixes x)
+    (h : Lies s m w) (e : m′ ≡ m + length w) where
+  before : {A : Type 0} {enc : A → List ℕ} {snoc : Suffixes → A → Suffixes} {all : Suffixes}
+      → ((x : Suffixes) (a : A) → cons (snoc x a) ≡ snoc (cons x) a) → IsLast enc snoc s m′ end all → IsLast enc snoc s m end (cons all)
   before {enc = enc} q u =
-      let k : length (encodeSuffixes (cons (u .init))) ≡ length w + length (encodeSuffixes (u .init)) = ap length (p (u .init)) ∙ length-append w (encodeSuffixes (u .init)) in
+      let k : length (encodeSuffixes (cons (u .init))) ≡ length w + length (encodeSuffixes (u .init)) = ap length (p (u .init)) ∙ length-append w
+      (encodeSuffixes (u .init)) in
       let z : m′ + length (encodeSuffixes (u .init)) ≡ m + length (encodeSuffixes (cons (u .init))) = omega arith in
       record {
         init = cons (u .init);
@@ -169,12 +178,14 @@ module _ {s : List ℕ} {m m′ end : ℕ} (w : List ℕ) (cons : Suffixes → S
         ends = omega (arith, u .ends, k);
       }
 
-  pub before-last : {all : Suffixes} {tag : ℕ} → ((x : Suffixes) (a : Expressions) → cons (snocCall x a) ≡ snocCall (cons x) a) → ((x : Suffixes) (a : Expression) → cons (snocIndex x a) ≡ snocIndex (cons x) a) → Last s m′ end all tag → Last s m end (cons all) tag
+  pub before-last : {all : Suffixes} {tag : ℕ} → ((x : Suffixes) (a : Expressions) → cons (snocCall x a) ≡ snocCall (cons x) a)
+      → ((x : Suffixes) (a : Expression) → cons (snocIndex x a) ≡ snocIndex (cons x) a) → Last s m′ end all tag → Last s m end (cons all) tag
   before-last a b (aCall u) = aCall (before a u)
   before-last a b (anIndex u) = anIndex (before b u)
 
 -- one alone
-module _ (tag : ℕ) {s : List ℕ} {m end : ℕ} (x : List ℕ) (h : Lies s m ((x ++ (length x ∷ tag ∷ [])) ++ [])) (e : end ≡ m + length ((x ++ (length x ∷ tag ∷ [])) ++ [])) where
+module _ (tag : ℕ) {s : List ℕ} {m end : ℕ} (x : List ℕ) (h : Lies s m ((x ++ (length x ∷ tag ∷ [])) ++ []))
+    (e : end ≡ m + length ((x ++ (length x ∷ tag ∷ [])) ++ [])) where
   alone-ends : end ≡ m + length x + 2
   alone-ends = omega (arith, length-append (x ++ (length x ∷ tag ∷ [])) [], length-append x (length x ∷ tag ∷ []))
 
@@ -196,27 +207,82 @@ module _ (tag : ℕ) {s : List ℕ} {m end : ℕ} (x : List ℕ) (h : Lies s m (
 nothing-lies : {s : List ℕ} {m : ℕ} → Lies s m []
 nothing-lies = record { at = λ i l. absurd (omega arith) }
 
-pub last : {s : List ℕ} {m end : ℕ} (ss : Suffixes) → Lies s m (encodeSuffixes ss) → end ≡ m + length (encodeSuffixes ss) → m < end → Last s m end ss (getD s (end - 1) 0)
+pub last : {s : List ℕ} {m end : ℕ} (ss : Suffixes) → Lies s m (encodeSuffixes ss) → end ≡ m + length (encodeSuffixes ss) → m < end
+    → Last s m end ss (getD s (end - 1) 0)
 unfolding encodeSuffixes snocCall snocIndex
 last T.noSuffixes h e l = absurd (omega arith)
 last {s} {m} {end} (T.call es T.noSuffixes) h e l =
     let x = encodeExpressions es in
-    subst (λ (k : ℕ). Last s m end (T.call es T.noSuffixes) k) (sym (alone-tag 51 x h e)) (aCall (record { init = T.noSuffixes; part = es; same = refl; lies = nothing-lies; lies-part = alone-part 51 x h e; size-of = alone-size 51 x h e; ends = omega (arith, alone-ends 51 x h e) }))
+    subst (λ (k : ℕ). Last s m end (T.call es T.noSuffixes) k) (sym (alone-tag 51 x h e))
+    (aCall (record {
+      init = T.noSuffixes;
+      part = es;
+      same = refl;
+      lies = nothing-lies;
+      lies-part = alone-part 51 x h e;
+      size-of = alone-size 51 x h e;
+      ends =
+          omega (arith, alone-ends 51 x h e);
+    }))
 last {s} {m} {end} (T.index d T.noSuffixes) h e l =
     let x = encode d in
-    subst (λ (k : ℕ). Last s m end (T.index d T.noSuffixes) k) (sym (alone-tag 49 x h e)) (anIndex (record { init = T.noSuffixes; part = d; same = refl; lies = nothing-lies; lies-part = alone-part 49 x h e; size-of = alone-size 49 x h e; ends = omega (arith, alone-ends 49 x h e) }))
+    subst (λ (k : ℕ). Last s m end (T.index d T.noSuffixes) k) (sym (alone-tag 49 x h e))
+    (anIndex (record {
+      init = T.noSuffixes;
+      part = d;
+      same = refl;
+      lies = nothing-lies;
+      lies-part = alone-part 49 x h e;
+      size-of = alone-size 49 x h e;
+      ends =
+          omega (arith, alone-ends 49 x h e);
+    }))
 last {s} {m} {end} (T.call es (T.call fs ss)) h e l =
     let w = encodeExpressions es ++ (length (encodeExpressions es) ∷ 51 ∷ []) in let r = encodeSuffixes (T.call fs ss) in
-    before-last w (T.call es) (λ x. refl) (first w r h) refl (λ x a. refl) (λ x a. refl) (last (T.call fs ss) (second w r (m + length w) h refl) (omega (arith, length-append w r)) (omega (arith, e, length-append w r, length-append (encodeExpressions fs ++ (length (encodeExpressions fs) ∷ 51 ∷ [])) (encodeSuffixes ss), length-append (encodeExpressions fs) (length (encodeExpressions fs) ∷ 51 ∷ []))))
+    before-last w (T.call es) (λ x. refl) (first w r h) refl (λ x a. refl) (λ x a. refl)
+    (last (T.call fs ss) (second w r (m + length w) h refl) (omega (arith, length-append w r))
+    (omega (
+      arith,
+      e,
+      length-append w r,
+      length-append (encodeExpressions fs ++ (length (encodeExpressions fs) ∷ 51 ∷ [])) (encodeSuffixes ss),
+      length-append (encodeExpressions fs) (length (encodeExpressions fs) ∷ 51 ∷ []),
+    )))
 last {s} {m} {end} (T.call es (T.index d ss)) h e l =
     let w = encodeExpressions es ++ (length (encodeExpressions es) ∷ 51 ∷ []) in let r = encodeSuffixes (T.index d ss) in
-    before-last w (T.call es) (λ x. refl) (first w r h) refl (λ x a. refl) (λ x a. refl) (last (T.index d ss) (second w r (m + length w) h refl) (omega (arith, length-append w r)) (omega (arith, e, length-append w r, length-append (encode d ++ (length (encode d) ∷ 49 ∷ [])) (encodeSuffixes ss), length-append (encode d) (length (encode d) ∷ 49 ∷ []))))
+    before-last w (T.call es) (λ x. refl) (first w r h) refl (λ x a. refl) (λ x a. refl)
+    (last (T.index d ss) (second w r (m + length w) h refl) (omega (arith, length-append w r))
+    (omega (
+      arith,
+      e,
+      length-append w r,
+      length-append (encode d ++ (length (encode d) ∷ 49 ∷ [])) (encodeSuffixes ss),
+      length-append (encode d)
+          (length (encode d) ∷ 49 ∷ []),
+    )))
 last {s} {m} {end} (T.index c (T.call fs ss)) h e l =
     let w = encode c ++ (length (encode c) ∷ 49 ∷ []) in let r = encodeSuffixes (T.call fs ss) in
-    before-last w (T.index c) (λ x. refl) (first w r h) refl (λ x a. refl) (λ x a. refl) (last (T.call fs ss) (second w r (m + length w) h refl) (omega (arith, length-append w r)) (omega (arith, e, length-append w r, length-append (encodeExpressions fs ++ (length (encodeExpressions fs) ∷ 51 ∷ [])) (encodeSuffixes ss), length-append (encodeExpressions fs) (length (encodeExpressions fs) ∷ 51 ∷ []))))
+    before-last w (T.index c) (λ x. refl) (first w r h) refl (λ x a. refl) (λ x a. refl)
+    (last (T.call fs ss) (second w r (m + length w) h refl) (omega (arith, length-append w r))
+    (omega (
+      arith,
+      e,
+      length-append w r,
+      length-append (encodeExpressions fs ++ (length (encodeExpressions fs) ∷ 51 ∷ [])) (encodeSuffixes ss),
+      length-append (encodeExpressions fs) (length (encodeExpressions fs) ∷ 51 ∷ []),
+    )))
 last {s} {m} {end} (T.index c (T.index d ss)) h e l =
     let w = encode c ++ (length (encode c) ∷ 49 ∷ []) in let r = encodeSuffixes (T.index d ss) in
-    before-last w (T.index c) (λ x. refl) (first w r h) refl (λ x a. refl) (λ x a. refl) (last (T.index d ss) (second w r (m + length w) h refl) (omega (arith, length-append w r)) (omega (arith, e, length-append w r, length-append (encode d ++ (length (encode d) ∷ 49 ∷ [])) (encodeSuffixes ss), length-append (encode d) (length (encode d) ∷ 49 ∷ []))))
+    before-last w (T.index c) (λ x. refl) (first w r h) refl (λ x a. refl) (λ x a. refl)
+    (last (T.index d ss) (second w r (m + length w) h refl) (omega (arith, length-append w r))
+    (omega (
+      arith,
+      e,
+      length-append w r,
+      length-append (encode d ++ (length (encode d) ∷ 49 ∷ [])) (encodeSuffixes ss),
+      length-append (encode d)
+          (length (encode d) ∷ 49 ∷ []),
+    )))
 
 -- ---- what the definitions say of the last one
 
@@ -233,17 +299,27 @@ module _ (text : List ℕ) (sc : Scope) where
   under-index (T.call ds ss) d h = ap (λ (z : ℕ). z + 2 + T.count ds) (under-index ss d h)
   under-index (T.index c ss) d h = under-index ss d h
 
-  pub suffixes-call : (ss : Suffixes) (es : Expressions) (h : ℕ) {k : ℕ} (e : Expr) → k ≡ h + 2 + T.count es → suffixes text sc h e (snocCall ss es) ≡ R.call (suffixes text sc k e ss) (expressions text sc (h + 2) es)
+  pub suffixes-call : (ss : Suffixes) (es : Expressions) (h : ℕ) {k : ℕ} (e : Expr) → k ≡ h + 2 + T.count es
+      → suffixes text sc h e (snocCall ss es) ≡ R.call (suffixes text sc k e ss) (expressions text sc (h + 2) es)
   unfolding suffixes snocCall under
   suffixes-call T.noSuffixes es h {k} e q = ap (λ (z : ℕ). R.call e (expressions text sc (z + 2) es)) refl
-  suffixes-call (T.call ds ss) es h {k} e q = suffixes-call ss es h (R.call e (expressions text sc (under (snocCall ss es) h + 2) ds)) q ∙ ap (λ (z : ℕ). R.call (suffixes text sc k (R.call e (expressions text sc (z + 2) ds)) ss) (expressions text sc (h + 2) es)) (under-call ss es h q)
-  suffixes-call (T.index d ss) es h {k} e q = suffixes-call ss es h (R.index e (expression text sc (under (snocCall ss es) h + 1) d)) q ∙ ap (λ (z : ℕ). R.call (suffixes text sc k (R.index e (expression text sc (z + 1) d)) ss) (expressions text sc (h + 2) es)) (under-call ss es h q)
+  suffixes-call (T.call ds ss) es h {k} e q =
+      suffixes-call ss es h (R.call e (expressions text sc (under (snocCall ss es) h + 2) ds)) q ∙ ap
+      (λ (z : ℕ). R.call (suffixes text sc k (R.call e (expressions text sc (z + 2) ds)) ss) (expressions text sc (h + 2) es)) (under-call ss es h q)
+  suffixes-call (T.index d ss) es h {k} e q =
+      suffixes-call ss es h (R.index e (expression text sc (under (snocCall ss es) h + 1) d)) q ∙ ap
+      (λ (z : ℕ). R.call (suffixes text sc k (R.index e (expression text sc (z + 1) d)) ss) (expressions text sc (h + 2) es)) (under-call ss es h q)
 
-  pub suffixes-index : (ss : Suffixes) (d : Expression) (h : ℕ) (e : Expr) → suffixes text sc h e (snocIndex ss d) ≡ R.index (suffixes text sc h e ss) (expression text sc (h + 1) d)
+  pub suffixes-index : (ss : Suffixes) (d : Expression) (h : ℕ) (e : Expr)
+      → suffixes text sc h e (snocIndex ss d) ≡ R.index (suffixes text sc h e ss) (expression text sc (h + 1) d)
   unfolding suffixes snocIndex under
   suffixes-index T.noSuffixes d h e = refl
-  suffixes-index (T.call ds ss) d h e = suffixes-index ss d h (R.call e (expressions text sc (under (snocIndex ss d) h + 2) ds)) ∙ ap (λ (z : ℕ). R.index (suffixes text sc h (R.call e (expressions text sc (z + 2) ds)) ss) (expression text sc (h + 1) d)) (under-index ss d h)
-  suffixes-index (T.index c ss) d h e = suffixes-index ss d h (R.index e (expression text sc (under (snocIndex ss d) h + 1) c)) ∙ ap (λ (z : ℕ). R.index (suffixes text sc h (R.index e (expression text sc (z + 1) c)) ss) (expression text sc (h + 1) d)) (under-index ss d h)
+  suffixes-index (T.call ds ss) d h e =
+      suffixes-index ss d h (R.call e (expressions text sc (under (snocIndex ss d) h + 2) ds)) ∙ ap
+      (λ (z : ℕ). R.index (suffixes text sc h (R.call e (expressions text sc (z + 2) ds)) ss) (expression text sc (h + 1) d)) (under-index ss d h)
+  suffixes-index (T.index c ss) d h e =
+      suffixes-index ss d h (R.index e (expression text sc (under (snocIndex ss d) h + 1) c)) ∙ ap
+      (λ (z : ℕ). R.index (suffixes text sc h (R.index e (expression text sc (z + 1) c)) ss) (expression text sc (h + 1) d)) (under-index ss d h)
 
 pub count-resolved : (text : List ℕ) (sc : Scope) (h : ℕ) (es : Expressions) → H.count (expressions text sc h es) ≡ T.count es
 unfolding expressions H.count T.count
@@ -256,7 +332,8 @@ count-few T.noExpressions = omega arith
 count-few (T.andExpression e es) = omega (arith, count-few es, length-append (encode e) (encodeExpressions es))
 
 module _ (text : List ℕ) (sc : Scope) (l : Leavable) where
-  pub faults-call : (ss : Suffixes) (es : Expressions) (h : ℕ) {k : ℕ} → k ≡ h + 2 + T.count es → inSuffixes text sc l h (snocCall ss es) ≡ inSuffixes text sc l k ss ++ inExpressions text sc l (h + 2) es
+  pub faults-call : (ss : Suffixes) (es : Expressions) (h : ℕ) {k : ℕ} → k ≡ h + 2 + T.count es
+      → inSuffixes text sc l h (snocCall ss es) ≡ inSuffixes text sc l k ss ++ inExpressions text sc l (h + 2) es
   unfolding inSuffixes snocCall under
   faults-call T.noSuffixes es h e = append-nil (inExpressions text sc l (h + 2) es)
   faults-call (T.call ds ss) es h {k} e =
@@ -268,7 +345,8 @@ module _ (text : List ℕ) (sc : Scope) (l : Leavable) where
       ∙ ap (λ (z : List Fault). inExpression text sc l (under ss k + 1) d ++ z) (faults-call ss es h e)
       ∙ sym (append-assoc (inExpression text sc l (under ss k + 1) d) (inSuffixes text sc l k ss) (inExpressions text sc l (h + 2) es))
 
-  pub faults-index : (ss : Suffixes) (e : Expression) (h : ℕ) → inSuffixes text sc l h (snocIndex ss e) ≡ inSuffixes text sc l h ss ++ inExpression text sc l (h + 1) e
+  pub faults-index : (ss : Suffixes) (e : Expression) (h : ℕ)
+      → inSuffixes text sc l h (snocIndex ss e) ≡ inSuffixes text sc l h ss ++ inExpression text sc l (h + 1) e
   unfolding inSuffixes snocIndex under
   faults-index T.noSuffixes e h = append-nil (inExpression text sc l (h + 1) e)
   faults-index (T.call ds ss) e h =
@@ -284,17 +362,22 @@ module _ (text : List ℕ) (sc : Scope) (l : Leavable) where
 
 module _ {s : List ℕ} {middle end : ℕ} {here : Here} {st : State} where
   pub applied-ends : (y : ReadySuffixes s middle end here st) → end ≡ middle + length (encodeSuffixes (y .ready .tree .suffixes))
-  applied-ends y = let a = y .ready .tree in omega (arith, y .ready .ends, y .parts, length-append (encode (a .primary)) (encodeSuffixes (a .suffixes)))
+  applied-ends y =
+      let a = y .ready .tree in
+      omega (arith, y .ready .ends, y .parts, length-append (encode (a .primary)) (encodeSuffixes (a .suffixes)))
 
   pub applied-lies : (y : ReadySuffixes s middle end here st) → Lies s middle (encodeSuffixes (y .ready .tree .suffixes))
   applied-lies y = let a = y .ready .tree in second (encode (a .primary)) (encodeSuffixes (a .suffixes)) middle (y .ready .lies) (y .parts)
 
   abbrev pub primary-part : end ≤ middle → ReadySuffixes s middle end here st → ReadyE s middle here st
   primary-part l y = let z = y .ready in let a = z .tree in
-      sub encode depth FineE z keeps-all middle (z .lo) here st (a .primary) (first (encode (a .primary)) (encodeSuffixes (a .suffixes)) (z .lies)) (y .parts) (omega arith) (omega (arith, applied-ends y)) refl refl
-      (omega (arith, z .height, z .ends, y .parts, applied-ends y)) (omega (arith, z .label, z .ends, y .parts, applied-ends y)) (z .some) (omega (arith, z .shallow)) (z .fine .0)
+      sub encode depth FineE z keeps-all middle (z .lo) here st (a .primary) (first (encode (a .primary)) (encodeSuffixes (a .suffixes)) (z .lies))
+      (y .parts) (omega arith) (omega (arith, applied-ends y)) refl refl
+      (omega (arith, z .height, z .ends, y .parts, applied-ends y)) (omega (arith, z .label, z .ends, y .parts, applied-ends y)) (z .some)
+      (omega (arith, z .shallow)) (z .fine .0)
 
-  pub primary-gave : (text : List ℕ) {s′ t t′ : List ℕ} {r : State} → end ≤ middle → GaveE text s s′ middle here t t′ st r → GaveSuffixes text s s′ middle end here t t′ st r
+  pub primary-gave : (text : List ℕ) {s′ t t′ : List ℕ} {r : State} → end ≤ middle → GaveE text s s′ middle here t t′ st r
+      → GaveSuffixes text s s′ middle end here t t′ st r
   unfolding inSuffixes suffixes under encodeSuffixes
   primary-gave text {s′} {t} {t′} {r} l g = record {
     by = λ y. let x = g .by (primary-part l y) in let z = y .ready in let a = z .tree in
@@ -302,11 +385,29 @@ module _ {s : List ℕ} {middle end : ℕ} {here : Here} {st : State} where
   }
     where
       none : (ss : Suffixes) (y : ReadySuffixes s middle end here st) → end ≡ middle + length (encodeSuffixes ss)
-          → Did (inExpression text (y .ready .scope) (leavable here) (here .height) (y .ready .tree .primary)) (exprSays (here .strings) (here .height) (expression text (y .ready .scope) (here .height) (y .ready .tree .primary))) (2 * length (encode (y .ready .tree .primary))) t t′ st r
-          → Did (faultsA text here (y .ready .scope) (record { primary = y .ready .tree .primary; suffixes = ss })) (codeA text here (y .ready .scope) (record { primary = y .ready .tree .primary; suffixes = ss })) (2 * length (encodeApplied (y .ready .tree))) t t′ st r
-      none T.noSuffixes y e d = did-as _ _ d (same-eq (sym (append-nil _))) (λ n c. refl) (omega (arith, length-append (encode (y .ready .tree .primary)) (encodeSuffixes (y .ready .tree .suffixes))))
-      none (T.call es ss) y e d = absurd (omega (arith, length-append (encodeExpressions es ++ (length (encodeExpressions es) ∷ 51 ∷ [])) (encodeSuffixes ss), length-append (encodeExpressions es) (length (encodeExpressions es) ∷ 51 ∷ [])))
-      none (T.index c ss) y e d = absurd (omega (arith, length-append (encode c ++ (length (encode c) ∷ 49 ∷ [])) (encodeSuffixes ss), length-append (encode c) (length (encode c) ∷ 49 ∷ [])))
+          → Did (inExpression text (y .ready .scope) (leavable here) (here .height) (y .ready .tree .primary))
+          (exprSays (here .strings) (here .height) (expression text (y .ready .scope) (here .height) (y .ready .tree .primary)))
+          (2 * length (encode (y .ready .tree .primary))) t t′ st r
+          → Did (faultsA text here (y .ready .scope) (record { primary = y .ready .tree .primary; suffixes = ss }))
+          (codeA text here (y .ready .scope) (record { primary = y .ready .tree .primary; suffixes = ss }))
+          (2 * length (encodeApplied (y .ready .tree))) t t′ st r
+      none T.noSuffixes y e d =
+          did-as _ _ d (same-eq (sym (append-nil _))) (λ n c. refl)
+          (omega (arith, length-append (encode (y .ready .tree .primary)) (encodeSuffixes (y .ready .tree .suffixes))))
+      none (T.call es ss) y e d =
+          absurd (omega (
+            arith,
+            length-append (encodeExpressions es ++ (length (encodeExpressions es) ∷ 51 ∷ [])) (encodeSuffixes ss),
+            length-append
+                (encodeExpressions es) (length (encodeExpressions es) ∷ 51 ∷ []),
+          ))
+      none (T.index c ss) y e d =
+          absurd (omega (
+            arith,
+            length-append (encode c ++ (length (encode c) ∷ 49 ∷ [])) (encodeSuffixes ss),
+            length-append (encode c)
+                (length (encode c) ∷ 49 ∷ []),
+          ))
 
 deep-call : (ss : Suffixes) (es : Expressions) {k : ℕ} → suffixesDepth (snocCall ss es) ≤ k → (suffixesDepth ss ≤ k) × (expressionsDepth es ≤ k)
 unfolding suffixesDepth snocCall
@@ -343,21 +444,30 @@ pub is-call : {s : List ℕ} {m end k : ℕ} {all : Suffixes} → (k ≡ 49 → 
 is-call n (aCall u) = u
 is-call n (anIndex u) = absurd (n refl)
 
-pub start-of : {s : List ℕ} {middle end inner size start : ℕ} → inner ≡ end - 2 → size ≡ getD s inner 0 → start ≡ inner - size → {A : Type 0} {enc : A → List ℕ} {snoc : Suffixes → A → Suffixes} {all : Suffixes} (u : IsLast enc snoc s middle end all) → start ≡ middle + length (encodeSuffixes (u .init))
+pub start-of : {s : List ℕ} {middle end inner size start : ℕ} → inner ≡ end - 2 → size ≡ getD s inner 0 → start ≡ inner - size
+    → {A : Type 0} {enc : A → List ℕ} {snoc : Suffixes → A → Suffixes} {all : Suffixes} (u : IsLast enc snoc s middle end all)
+    → start ≡ middle + length (encodeSuffixes (u .init))
 start-of {s} ei ez es {enc = enc} u = let z = ez ∙ ap (λ (n : ℕ). getD s n 0) ei ∙ u .size-of in omega (arith, z, es, ei, u .ends)
 
-module _ {s : List ℕ} {middle end tag inner size start : ℕ} {here : Here} {st : State} (l : middle < end) (et : tag ≡ getD s (end - 1) 0) (ei : inner ≡ end - 2) (ez : size ≡ getD s inner 0) (es : start ≡ inner - size) where
+module _ {s : List ℕ} {middle end tag inner size start : ℕ} {here : Here} {st : State} (l : middle < end) (et : tag ≡ getD s (end - 1) 0)
+    (ei : inner ≡ end - 2) (ez : size ≡ getD s inner 0) (es : start ≡ inner - size) where
   pub the-last : (y : ReadySuffixes s middle end here st) → Last s middle end (y .ready .tree .suffixes) tag
-  the-last y = subst (λ (n : ℕ). Last s middle end (y .ready .tree .suffixes) n) (sym et) (last (y .ready .tree .suffixes) (applied-lies y) (applied-ends y) l)
+  the-last y =
+      subst (λ (n : ℕ). Last s middle end (y .ready .tree .suffixes) n) (sym et) (last (y .ready .tree .suffixes) (applied-lies y) (applied-ends y) l)
 
   -- the primary with all but the last one
   module _ {A : Type 0} {enc : A → List ℕ} {snoc : Suffixes → A → Suffixes} where
-    abbrev pub init-part : {s₁ : List ℕ} (here′ : Here) {st′ : State} (y : ReadySuffixes s middle end here st) → Keeps (y .ready .base) (here .top) s s₁ → (u : IsLast enc snoc s middle end (y .ready .tree .suffixes)) → here′ .top ≡ here .top → here′ .strings ≡ here .strings → here′ .left ≡ here .left
-        → here′ .height ≤ here .height + 2 + length (enc (u .part)) → st′ .label ≤ st .label + 2 * length (enc (u .part)) → 0 < st′ .label → suffixesDepth (u .init) ≤ here .left → FineSs (u .init) → ReadySuffixes s₁ middle start here′ st′
+    abbrev pub init-part : {s₁ : List ℕ} (here′ : Here) {st′ : State} (y : ReadySuffixes s middle end here st)
+        → Keeps (y .ready .base) (here .top) s s₁ → (u : IsLast enc snoc s middle end (y .ready .tree .suffixes)) → here′ .top ≡ here .top
+        → here′ .strings ≡ here .strings → here′ .left ≡ here .left
+        → here′ .height ≤ here .height + 2 + length (enc (u .part)) → st′ .label ≤ st .label + 2 * length (enc (u .part)) → 0 < st′ .label
+        → suffixesDepth (u .init) ≤ here .left → FineSs (u .init) → ReadySuffixes s₁ middle start here′ st′
     init-part here′ {st′} y k u top strings left height label some deep fine = let z = y .ready in let a = z .tree in record {
       ready = sub encodeApplied deepApplied FineApplied z k start (z .lo) here′ st′ (record { primary = a .primary; suffixes = u .init })
-          (both (encode (a .primary)) (encodeSuffixes (u .init)) (first (encode (a .primary)) (encodeSuffixes (a .suffixes)) (z .lies)) (u .lies) (y .parts))
-          (omega (arith, start-of ei ez es u, y .parts, length-append (encode (a .primary)) (encodeSuffixes (u .init)))) (omega arith) (omega (arith, start-of ei ez es u, u .ends)) top strings
+          (both (encode (a .primary)) (encodeSuffixes (u .init)) (first (encode (a .primary)) (encodeSuffixes (a .suffixes)) (z .lies)) (u .lies)
+          (y .parts))
+          (omega (arith, start-of ei ez es u, y .parts, length-append (encode (a .primary)) (encodeSuffixes (u .init)))) (omega arith)
+          (omega (arith, start-of ei ez es u, u .ends)) top strings
           (omega (arith, height, z .height, z .ends, y .parts, u .ends, length-append (encode (a .primary)) (encodeSuffixes (u .init))))
           (omega (arith, label, z .label, z .ends, y .parts, u .ends, length-append (encode (a .primary)) (encodeSuffixes (u .init))))
           some (omega (arith, left, deep, z .shallow)) (z .fine .0, fine);
@@ -366,33 +476,45 @@ module _ {s : List ℕ} {middle end tag inner size start : ℕ} {here : Here} {s
 
   -- an index
   module _ (q : tag ≡ 49) where
-    pub index-deep : (y : ReadySuffixes s middle end here st) → let u = is-index q (the-last y) in (suffixesDepth (u .init) ≤ here .left) × (depth (u .part) ≤ here .left)
+    pub index-deep : (y : ReadySuffixes s middle end here st)
+        → let u = is-index q (the-last y) in (suffixesDepth (u .init) ≤ here .left) × (depth (u .part) ≤ here .left)
     index-deep y = let u = is-index q (the-last y) in deep-index (u .init) (u .part) (omega (arith, y .ready .shallow, ap suffixesDepth (u .same)))
 
     pub index-fine : (y : ReadySuffixes s middle end here st) → let u = is-index q (the-last y) in FineSs (u .init) × FineE (u .part)
     index-fine y = let u = is-index q (the-last y) in fine-index (u .init) (u .part) (subst FineSs (u .same) (y .ready .fine .1))
 
     abbrev pub index-left : ReadySuffixes s middle end here st → ReadySuffixes s middle start here st
-    index-left y = let u = is-index q (the-last y) in init-part here y keeps-all u refl refl refl (omega arith) (omega arith) (y .ready .some) (index-deep y .0) (index-fine y .0)
+    index-left y =
+        let u = is-index q (the-last y) in
+        init-part here y keeps-all u refl refl refl (omega arith) (omega arith) (y .ready .some) (index-deep y .0) (index-fine y .0)
 
     module _ (text : List ℕ) {s₁ t t₁ : List ℕ} {a : State} (g : GaveSuffixes text s s₁ middle start here t t₁ st a) where
       abbrev pub index-right : ReadySuffixes s middle end here st → ReadyE s₁ inner (raised 1 here) a
       index-right y = let z = y .ready in let u = is-index q (the-last y) in let x = g .by (index-left y) in
-          let n : length (encodeApplied (record { primary = z .tree .primary; suffixes = u .init })) ≡ length (encode (z .tree .primary)) + length (encodeSuffixes (u .init)) = length-append (encode (z .tree .primary)) (encodeSuffixes (u .init)) in
-          sub encode depth FineE z (x .keeps) inner (middle + length (encodeSuffixes (u .init))) (raised 1 here) a (u .part) (u .lies-part) (omega (arith, ei, u .ends)) (omega (arith, y .parts)) (omega (arith, ei)) refl refl
-          (omega (arith, z .height, z .ends, y .parts, u .ends)) (omega (arith, z .label, z .ends, y .parts, u .ends, x .did .few, n)) (omega (arith, z .some, x .did .grows)) (index-deep y .1) (index-fine y .1)
+          let n : length (encodeApplied (record { primary = z .tree .primary; suffixes = u .init })) ≡ length (encode (z .tree .primary)) + length
+          (encodeSuffixes (u .init)) = length-append (encode (z .tree .primary)) (encodeSuffixes (u .init)) in
+          sub encode depth FineE z (x .keeps) inner (middle + length (encodeSuffixes (u .init))) (raised 1 here) a (u .part) (u .lies-part)
+          (omega (arith, ei, u .ends)) (omega (arith, y .parts)) (omega (arith, ei)) refl refl
+          (omega (arith, z .height, z .ends, y .parts, u .ends)) (omega (arith, z .label, z .ends, y .parts, u .ends, x .did .few, n))
+          (omega (arith, z .some, x .did .grows)) (index-deep y .1) (index-fine y .1)
 
       pub index-gave : {s₂ t₂ : List ℕ} {d : State} → GaveIndexed text s₁ s₂ inner here t₁ t₂ a d → GaveSuffixes text s s₂ middle end here t t₂ st d
       unfolding exprCode ofExpr exprLabels
       index-gave {s₂} {t₂} {d} g₂ = record {
         by = λ y.
-            let z = y .ready in let sc = z .scope in let h = here .height in let p = z .tree .primary in let u = is-index q (the-last y) in let x = g .by (index-left y) in let w = g₂ .by (index-right y) in
+            let z = y .ready in let sc = z .scope in let h = here .height in let p = z .tree .primary in let u = is-index q (the-last y) in
+            let x = g .by (index-left y) in let w = g₂ .by (index-right y) in
             let A = suffixes text sc h (expression text sc (under (u .init) h) p) (u .init) in let B = expression text sc (h + 1) (u .part) in
-            let ef : faultsA text here sc (z .tree) ≡ (inExpression text sc (leavable here) (under (u .init) h) p ++ inSuffixes text sc (leavable here) h (u .init)) ++ inExpression text sc (leavable here) (h + 1) (u .part) =
+            let ef : faultsA text here sc (z .tree)
+            ≡ (inExpression text sc (leavable here) (under (u .init) h) p ++ inSuffixes text sc (leavable here) h (u .init)) ++ inExpression text sc
+            (leavable here) (h + 1) (u .part) =
             ap (λ (ss : Suffixes). faultsA text here sc (record { primary = p; suffixes = ss })) (u .same)
-            ∙ ap (λ (k : ℕ). inExpression text sc (leavable here) k p ++ inSuffixes text sc (leavable here) h (snocIndex (u .init) (u .part))) (under-index text sc (u .init) (u .part) h)
-            ∙ ap (λ (fs : List Fault). inExpression text sc (leavable here) (under (u .init) h) p ++ fs) (faults-index text sc (leavable here) (u .init) (u .part) h)
-            ∙ sym (append-assoc (inExpression text sc (leavable here) (under (u .init) h) p) (inSuffixes text sc (leavable here) h (u .init)) (inExpression text sc (leavable here) (h + 1) (u .part))) in
+            ∙ ap (λ (k : ℕ). inExpression text sc (leavable here) k p ++ inSuffixes text sc (leavable here) h (snocIndex (u .init) (u .part)))
+            (under-index text sc (u .init) (u .part) h)
+            ∙ ap (λ (fs : List Fault). inExpression text sc (leavable here) (under (u .init) h) p ++ fs)
+            (faults-index text sc (leavable here) (u .init) (u .part) h)
+            ∙ sym (append-assoc (inExpression text sc (leavable here) (under (u .init) h) p) (inSuffixes text sc (leavable here) h (u .init))
+            (inExpression text sc (leavable here) (h + 1) (u .part))) in
             let er : suffixes text sc h (expression text sc (under (z .tree .suffixes) h) p) (z .tree .suffixes) ≡ R.index A B =
             ap (λ (ss : Suffixes). suffixes text sc h (expression text sc (under ss h) p) ss) (u .same)
             ∙ ap (λ (k : ℕ). suffixes text sc h (expression text sc k p) (snocIndex (u .init) (u .part))) (under-index text sc (u .init) (u .part) h)
@@ -407,7 +529,8 @@ module _ {s : List ℕ} {middle end tag inner size start : ℕ} {here : Here} {s
 
   -- a call
   module _ (q : tag ≡ 49 → ⊥) where
-    pub call-deep : (y : ReadySuffixes s middle end here st) → let u = is-call q (the-last y) in (suffixesDepth (u .init) ≤ here .left) × (expressionsDepth (u .part) ≤ here .left)
+    pub call-deep : (y : ReadySuffixes s middle end here st)
+        → let u = is-call q (the-last y) in (suffixesDepth (u .init) ≤ here .left) × (expressionsDepth (u .part) ≤ here .left)
     call-deep y = let u = is-call q (the-last y) in deep-call (u .init) (u .part) (omega (arith, y .ready .shallow, ap suffixesDepth (u .same)))
 
     pub call-fine : (y : ReadySuffixes s middle end here st) → let u = is-call q (the-last y) in FineSs (u .init) × FineEs (u .part)
@@ -415,24 +538,34 @@ module _ {s : List ℕ} {middle end tag inner size start : ℕ} {here : Here} {s
 
     abbrev pub call-args : ReadySuffixes s middle end here st → ReadyArgs s start inner (raised 2 here) st
     call-args y = let z = y .ready in let u = is-call q (the-last y) in record {
-      ready = sub encodeExpressions expressionsDepth FineEs z keeps-all inner (middle + length (encodeSuffixes (u .init))) (raised 2 here) st (u .part) (u .lies-part) (omega (arith, ei, u .ends)) (omega (arith, y .parts)) (omega (arith, ei)) refl refl
-          (omega (arith, z .height, z .ends, y .parts, u .ends)) (omega (arith, z .label, z .ends, y .parts, u .ends)) (omega (arith, z .some)) (call-deep y .1) (call-fine y .1);
+      ready =
+          sub encodeExpressions expressionsDepth FineEs z keeps-all inner (middle + length (encodeSuffixes (u .init))) (raised 2 here) st (u .part)
+          (u .lies-part) (omega (arith, ei, u .ends)) (omega (arith, y .parts)) (omega (arith, ei)) refl refl
+          (omega (arith, z .height, z .ends, y .parts, u .ends)) (omega (arith, z .label, z .ends, y .parts, u .ends)) (omega (arith, z .some))
+          (call-deep y .1) (call-fine y .1);
       starts = sym (start-of ei ez es u);
     }
 
     pub call-count : {n : ℕ} → Counts s start inner n → (y : ReadySuffixes s middle end here st) → n ≡ T.count (is-call q (the-last y) .part)
-    call-count k y = let u = is-call q (the-last y) in k .by _ (expression-items (u .part) (subst (λ (m : ℕ). Lies s m (encodeExpressions (u .part))) (sym (start-of ei ez es u)) (u .lies-part)) (omega (arith, ei, u .ends, start-of ei ez es u)))
+    call-count k y =
+        let u = is-call q (the-last y) in
+        k .by _ (expression-items (u .part) (subst (λ (m : ℕ). Lies s m (encodeExpressions (u .part))) (sym (start-of ei ez es u)) (u .lies-part))
+        (omega (arith, ei, u .ends, start-of ei ez es u)))
 
-    module _ (text : List ℕ) {n : ℕ} {s₁ t t₁ : List ℕ} {b : State} (k : Counts s start inner n) (g : GavePassed text s s₁ start inner here t t₁ st b) where
+    module _ (text : List ℕ) {n : ℕ} {s₁ t t₁ : List ℕ} {b : State} (k : Counts s start inner n)
+        (g : GavePassed text s s₁ start inner here t t₁ st b) where
       abbrev pub call-callee : ReadySuffixes s middle end here st → ReadySuffixes s₁ middle start (raised (n + 2) here) b
       call-callee y = let z = y .ready in let u = is-call q (the-last y) in let x = g .by (call-args y) in
-          init-part (raised (n + 2) here) y (x .keeps) u refl refl refl (omega (arith, call-count k y, count-few (u .part))) (omega (arith, x .did .few)) (omega (arith, z .some, x .did .grows)) (call-deep y .0) (call-fine y .0)
+          init-part (raised (n + 2) here) y (x .keeps) u refl refl refl (omega (arith, call-count k y, count-few (u .part)))
+          (omega (arith, x .did .few)) (omega (arith, z .some, x .did .grows)) (call-deep y .0) (call-fine y .0)
 
-      pub call-gave : {s₂ t₂ t₃ : List ℕ} {c d : State} → GaveSuffixes text s₁ s₂ middle start (raised (n + 2) here) t₁ t₂ b c → Emits (G.K (here .height) ∷ []) [] t₂ t₃ c d → GaveSuffixes text s s₂ middle end here t t₃ st d
+      pub call-gave : {s₂ t₂ t₃ : List ℕ} {c d : State} → GaveSuffixes text s₁ s₂ middle start (raised (n + 2) here) t₁ t₂ b c
+          → Emits (G.K (here .height) ∷ []) [] t₂ t₃ c d → GaveSuffixes text s s₂ middle end here t t₃ st d
       unfolding exprCode ofExpr exprLabels
       call-gave {s₂} {t₂} {t₃} {c} {d} g₂ f₂ = record {
         by = λ y.
-            let z = y .ready in let sc = z .scope in let h = here .height in let p = z .tree .primary in let u = is-call q (the-last y) in let x = g .by (call-args y) in let w = g₂ .by (call-callee y) in
+            let z = y .ready in let sc = z .scope in let h = here .height in let p = z .tree .primary in let u = is-call q (the-last y) in
+            let x = g .by (call-args y) in let w = g₂ .by (call-callee y) in
             let Es = expressions text sc (h + 2) (u .part) in
             let K = h + 2 + H.count Es in
             let eK : K ≡ h + 2 + T.count (u .part) = ap (λ (m : ℕ). h + 2 + m) (count-resolved text sc (h + 2) (u .part)) in
@@ -441,11 +574,15 @@ module _ {s : List ℕ} {middle end tag inner size start : ℕ} {here : Here} {s
             let fp = inExpression text sc (leavable here) (under (u .init) K) p ++ inSuffixes text sc (leavable here) K (u .init) in
             let fa = inExpressions text sc (leavable here) (h + 2) (u .part) in
             let w′ : Did fp (exprSays (here .strings) K F) (2 * length (encodeApplied (record { primary = p; suffixes = u .init }))) t₁ t₂ b c =
-            subst (λ (m : ℕ). Did (inExpression text sc (leavable here) (under (u .init) m) p ++ inSuffixes text sc (leavable here) m (u .init)) (exprSays (here .strings) m (suffixes text sc m (expression text sc (under (u .init) m) p) (u .init))) (2 * length (encodeApplied (record { primary = p; suffixes = u .init }))) t₁ t₂ b c) eh (w .did) in
+            subst (λ (m : ℕ). Did (inExpression text sc (leavable here) (under (u .init) m) p ++ inSuffixes text sc (leavable here) m (u .init))
+            (exprSays (here .strings) m (suffixes text sc m (expression text sc (under (u .init) m) p) (u .init)))
+            (2 * length (encodeApplied (record { primary = p; suffixes = u .init }))) t₁ t₂ b c) eh (w .did) in
             let ef : faultsA text here sc (z .tree) ≡ fp ++ fa =
             ap (λ (ss : Suffixes). faultsA text here sc (record { primary = p; suffixes = ss })) (u .same)
-            ∙ ap (λ (m : ℕ). inExpression text sc (leavable here) m p ++ inSuffixes text sc (leavable here) h (snocCall (u .init) (u .part))) (under-call text sc (u .init) (u .part) h eK)
-            ∙ ap (λ (fs : List Fault). inExpression text sc (leavable here) (under (u .init) K) p ++ fs) (faults-call text sc (leavable here) (u .init) (u .part) h eK)
+            ∙ ap (λ (m : ℕ). inExpression text sc (leavable here) m p ++ inSuffixes text sc (leavable here) h (snocCall (u .init) (u .part)))
+            (under-call text sc (u .init) (u .part) h eK)
+            ∙ ap (λ (fs : List Fault). inExpression text sc (leavable here) (under (u .init) K) p ++ fs)
+            (faults-call text sc (leavable here) (u .init) (u .part) h eK)
             ∙ sym (append-assoc (inExpression text sc (leavable here) (under (u .init) K) p) (inSuffixes text sc (leavable here) K (u .init)) fa) in
             let er : suffixes text sc h (expression text sc (under (z .tree .suffixes) h) p) (z .tree .suffixes) ≡ R.call F Es =
             ap (λ (ss : Suffixes). suffixes text sc h (expression text sc (under ss h) p) ss) (u .same)
@@ -455,7 +592,8 @@ module _ {s : List ℕ} {middle end tag inner size start : ℕ} {here : Here} {s
               keeps = keeps-then (x .keeps) (w .keeps);
               did = did-as (codeA text here sc (z .tree)) _ (did-put (did-then (x .did) w′) f₂) (same-then (same-swap fa fp) (same-eq (sym ef)))
                   (λ m v. code-is
-                  (append-assoc (exprsCode (here .strings) (h + 2) m Es) (exprCode (here .strings) K (m + exprsLabels Es) F) (G.K h ∷ []) ∙ ap (exprCode (here .strings) h m) (sym er))
+                  (append-assoc (exprsCode (here .strings) (h + 2) m Es) (exprCode (here .strings) K (m + exprsLabels Es) F) (G.K h ∷ []) ∙ ap
+                  (exprCode (here .strings) h m) (sym er))
                   (ap (ofExpr h) (sym er))
                   (ap exprLabels (sym er)))
                   (omega (arith, z .ends, y .parts, u .ends, length-append (encode p) (encodeSuffixes (u .init))));
@@ -471,13 +609,16 @@ module _ {s : List ℕ} {middle end : ℕ} {d d′ : Here} {st : State} where
   pub suffixes-ready-at : d′ ≡ d → ReadySuffixes s middle end d st → ReadySuffixes s middle end d′ st
   suffixes-ready-at e y = subst (λ (x : Here). ReadySuffixes s middle end x st) (sym e) y
 
-  pub args-gave-at : {text s′ t t′ : List ℕ} {r : State} → d′ ≡ d → GaveArgs text s s′ middle end d′ t t′ st r → GaveArgs text s s′ middle end d t t′ st r
+  pub args-gave-at : {text s′ t t′ : List ℕ} {r : State} → d′ ≡ d → GaveArgs text s s′ middle end d′ t t′ st r
+      → GaveArgs text s s′ middle end d t t′ st r
   args-gave-at {text} {s′} {t} {t′} {r} e g = subst (λ (x : Here). GaveArgs text s s′ middle end x t t′ st r) e g
 
-  pub suffixes-gave-at : {text s′ t t′ : List ℕ} {r : State} → d′ ≡ d → GaveSuffixes text s s′ middle end d′ t t′ st r → GaveSuffixes text s s′ middle end d t t′ st r
+  pub suffixes-gave-at : {text s′ t t′ : List ℕ} {r : State} → d′ ≡ d → GaveSuffixes text s s′ middle end d′ t t′ st r
+      → GaveSuffixes text s s′ middle end d t t′ st r
   suffixes-gave-at {text} {s′} {t} {t′} {r} e g = subst (λ (x : Here). GaveSuffixes text s s′ middle end x t t′ st r) e g
 
-pub is-suffixed : {s : List ℕ} {lo end k : ℕ} {e : Expression} → (k ≡ 60 → ⊥) → (k ≡ 61 → ⊥) → (k ≡ 59 → ⊥) → (k ≡ 51 → ⊥) → (k ≡ 131 → ⊥) → (k ≡ 7 → ⊥) → (k ≡ 128 → ⊥) → Case s lo end k e → IsTwo encodeSuffixes T.suffixed s lo end e
+pub is-suffixed : {s : List ℕ} {lo end k : ℕ} {e : Expression} → (k ≡ 60 → ⊥) → (k ≡ 61 → ⊥) → (k ≡ 59 → ⊥) → (k ≡ 51 → ⊥) → (k ≡ 131 → ⊥)
+    → (k ≡ 7 → ⊥) → (k ≡ 128 → ⊥) → Case s lo end k e → IsTwo encodeSuffixes T.suffixed s lo end e
 is-suffixed n1 n2 n3 n4 n5 n6 n7 (aNumber h) = absurd (n1 refl)
 is-suffixed n1 n2 n3 n4 n5 n6 n7 (aString h) = absurd (n2 refl)
 is-suffixed n1 n2 n3 n4 n5 n6 n7 (aName w p q) = absurd (n3 refl)
@@ -507,12 +648,14 @@ is-suffixed {lo = lo} n1 n2 n3 n4 n5 n6 n7 (aCalled {e} {ss} h z v q) = record {
 }
 
 module _ {s : List ℕ} {end : ℕ} {here : Here} {st : State} (n : Node) (nd : NodeAt s end n)
-    (n1 : n .kind ≡ 60 → ⊥) (n2 : n .kind ≡ 61 → ⊥) (n3 : n .kind ≡ 59 → ⊥) (n4 : n .kind ≡ 51 → ⊥) (n5 : n .kind ≡ 131 → ⊥) (n6 : n .kind ≡ 7 → ⊥) (n7 : n .kind ≡ 128 → ⊥)
+    (n1 : n .kind ≡ 60 → ⊥) (n2 : n .kind ≡ 61 → ⊥) (n3 : n .kind ≡ 59 → ⊥) (n4 : n .kind ≡ 51 → ⊥) (n5 : n .kind ≡ 131 → ⊥) (n6 : n .kind ≡ 7 → ⊥)
+    (n7 : n .kind ≡ 128 → ⊥)
     {middle : ℕ} (m : middle ≡ n .start + n .value) where
   pub suffixed-is : (y : ReadyE s end here st) → IsTwo encodeSuffixes T.suffixed s (y .lo) end (y .tree)
   suffixed-is y = is-suffixed n1 n2 n3 n4 n5 n6 n7 (find n nd refl y)
 
-  pub suffixed-deep : (y : ReadyE s end here st) → let u = suffixed-is y in (depth (u .left) + 1 ≤ here .left) × (suffixesDepth (u .list) + 1 ≤ here .left)
+  pub suffixed-deep : (y : ReadyE s end here st)
+      → let u = suffixed-is y in (depth (u .left) + 1 ≤ here .left) × (suffixesDepth (u .list) + 1 ≤ here .left)
   unfolding depth
   suffixed-deep y = let u = suffixed-is y in (omega (arith, y .shallow, ap depth (u .same)), omega (arith, y .shallow, ap depth (u .same)))
 
@@ -525,27 +668,37 @@ module _ {s : List ℕ} {end : ℕ} {here : Here} {st : State} (n : Node) (nd : 
 
   abbrev pub suffixed-part : ReadyE s end here st → ReadySuffixes s middle (n .inner) (inside here) st
   suffixed-part y = let u = suffixed-is y in let k = length-append (encode (u .left)) (encodeSuffixes (u .list)) in record {
-    ready = sub encodeApplied deepApplied FineApplied y keeps-all (n .inner) (y .lo) (inside here) st (record { primary = u .left; suffixes = u .list })
-        (both (encode (u .left)) (encodeSuffixes (u .list)) (u .lies) (u .lies-list) refl) (omega (arith, nd .inner, u .ends, k)) (omega arith) (omega (arith, nd .inner)) refl refl
-        (omega (arith, y .height, y .ends, u .ends, k)) (omega (arith, y .label, y .ends, u .ends, k)) (y .some) (omega (arith, suffixed-deep y .0, suffixed-deep y .1)) (suffixed-fine y);
+    ready =
+        sub encodeApplied deepApplied FineApplied y keeps-all (n .inner) (y .lo) (inside here) st (record { primary = u .left; suffixes = u .list })
+        (both (encode (u .left)) (encodeSuffixes (u .list)) (u .lies) (u .lies-list) refl) (omega (arith, nd .inner, u .ends, k)) (omega arith)
+        (omega (arith, nd .inner)) refl refl
+        (omega (arith, y .height, y .ends, u .ends, k)) (omega (arith, y .label, y .ends, u .ends, k)) (y .some)
+        (omega (arith, suffixed-deep y .0, suffixed-deep y .1)) (suffixed-fine y);
     parts = suffixed-middle y;
   }
 
-  pub suffixed-gave : (text : List ℕ) {s′ t t′ : List ℕ} {r : State} → GaveSuffixes text s s′ middle (n .inner) (inside here) t t′ st r → GaveE text s s′ end here t t′ st r
+  pub suffixed-gave : (text : List ℕ) {s′ t t′ : List ℕ} {r : State} → GaveSuffixes text s s′ middle (n .inner) (inside here) t t′ st r
+      → GaveE text s s′ end here t t′ st r
   unfolding inExpression expression
   suffixed-gave text {s′} {t} {t′} {r} g = record {
     by = λ y. let u = suffixed-is y in let x = g .by (suffixed-part y) in let k = length-append (encode (u .left)) (encodeSuffixes (u .list)) in
-        subst (λ (e : Expression). Result (faultsE text here (y .scope) e) (codeE text here (y .scope) e) (length (encode (y .tree))) (y .base) here s s′ t t′ st r) (sym (u .same))
+        subst
+        (λ (e : Expression). Result (faultsE text here (y .scope) e) (codeE text here (y .scope) e) (length (encode (y .tree))) (y .base) here s s′ t
+        t′ st r) (sym (u .same))
         (record { keeps = x .keeps; did = did-as _ _ (x .did) same-refl (λ m v. refl) (omega (arith, y .ends, u .ends, k)) });
   }
 
-pub call-few : {s : List ℕ} {middle end tag inner size start n : ℕ} {here : Here} {st : State} (l : middle < end) (et : tag ≡ getD s (end - 1) 0) (ei : inner ≡ end - 2) (ez : size ≡ getD s inner 0) (es : start ≡ inner - size) (q : tag ≡ 49 → ⊥) → Counts s start inner n → ReadySuffixes s middle end here st → n < end
-call-few l et ei ez es q k y = let u = is-call q (the-last l et ei ez es y) in omega (arith, call-count l et ei ez es q k y, count-few (u .part), u .ends)
+pub call-few : {s : List ℕ} {middle end tag inner size start n : ℕ} {here : Here} {st : State} (l : middle < end) (et : tag ≡ getD s (end - 1) 0)
+    (ei : inner ≡ end - 2) (ez : size ≡ getD s inner 0) (es : start ≡ inner - size) (q : tag ≡ 49 → ⊥) → Counts s start inner n
+    → ReadySuffixes s middle end here st → n < end
+call-few l et ei ez es q k y =
+    let u = is-call q (the-last l et ei ez es y) in omega (arith, call-count l et ei ez es q k y, count-few (u .part), u .ends)
 
 -- ---- an index and arguments by themselves
 
 -- the same with another state
-abbrev pub with-state : {A : Type 0} {enc : A → List ℕ} {deep : A → ℕ} {Fine : A → Type 0} {s : List ℕ} {end : ℕ} {here : Here} {st st′ : State} → st′ .label ≡ st .label → Ready enc deep Fine s end here st → Ready enc deep Fine s end here st′
+abbrev pub with-state : {A : Type 0} {enc : A → List ℕ} {deep : A → ℕ} {Fine : A → Type 0} {s : List ℕ} {end : ℕ} {here : Here} {st st′ : State}
+    → st′ .label ≡ st .label → Ready enc deep Fine s end here st → Ready enc deep Fine s end here st′
 with-state e y = record {
   base = y .base;
   lo = y .lo;
@@ -566,11 +719,17 @@ with-state e y = record {
   fine = y .fine;
 }
 
-pub indexed-gave : (text : List ℕ) {s s₁ t t₁ t₂ t₃ : List ℕ} {end : ℕ} {here : Here} {st b c d : State} → Emits (G.SP (here .height) ∷ []) ((here .height + 1) ∷ []) t t₁ st b → GaveE text s s₁ end (raised 1 here) t₁ t₂ b c → Emits (G.AIP (here .height) ∷ G.X 1 ∷ []) [] t₂ t₃ c d → GaveIndexed text s s₁ end here t t₃ st d
-indexed-gave text f g f₂ = record { by = λ y. let x = g .by (with-state (f .label) y) in record { keeps = x .keeps; did = did-after f (did-put (x .did) f₂) } }
+pub indexed-gave : (text : List ℕ) {s s₁ t t₁ t₂ t₃ : List ℕ} {end : ℕ} {here : Here} {st b c d : State}
+    → Emits (G.SP (here .height) ∷ []) ((here .height + 1) ∷ []) t t₁ st b → GaveE text s s₁ end (raised 1 here) t₁ t₂ b c
+    → Emits (G.AIP (here .height) ∷ G.X 1 ∷ []) [] t₂ t₃ c d → GaveIndexed text s s₁ end here t t₃ st d
+indexed-gave text f g f₂ =
+    record { by = λ y. let x = g .by (with-state (f .label) y) in record { keeps = x .keeps; did = did-after f (did-put (x .did) f₂) } }
 
-abbrev pub args-with : {s : List ℕ} {from end : ℕ} {here : Here} {st st′ : State} → st′ .label ≡ st .label → ReadyArgs s from end here st → ReadyArgs s from end here st′
+abbrev pub args-with : {s : List ℕ} {from end : ℕ} {here : Here} {st st′ : State} → st′ .label ≡ st .label → ReadyArgs s from end here st
+    → ReadyArgs s from end here st′
 args-with e y = record { ready = with-state e (y .ready); starts = y .starts }
 
-pub passed-gave : (text : List ℕ) {s s₁ t t₁ : List ℕ} {from end : ℕ} {here : Here} {st a b : State} → Reached (here .height + 2) st a → GaveArgs text s s₁ from end (raised 2 here) t t₁ a b → GavePassed text s s₁ from end here t t₁ st b
-passed-gave text {t = t} e g = record { by = λ y. let x = g .by (args-with (e .by t .label) y) in record { keeps = x .keeps; did = did-after (e .by t) (x .did) } }
+pub passed-gave : (text : List ℕ) {s s₁ t t₁ : List ℕ} {from end : ℕ} {here : Here} {st a b : State} → Reached (here .height + 2) st a
+    → GaveArgs text s s₁ from end (raised 2 here) t t₁ a b → GavePassed text s s₁ from end here t t₁ st b
+passed-gave text {t = t} e g =
+    record { by = λ y. let x = g .by (args-with (e .by t .label) y) in record { keeps = x .keeps; did = did-after (e .by t) (x .did) } }

@@ -4,11 +4,10 @@ use mathlib.Core.Path.{_≡_, refl, sym, ap, _∙_}
 use mathlib.Core.List.{List, [], _∷_, _++_, append-assoc, append-nil}
 use native.Mathlib.Omega.{arith}
 use native.Mathlib.Numerals.{add-one}
-use lib.ListN.{length, getD, set, take, drop, replicate, length-append, length-drop, length-replicate, drop-of-length-le}
-use lib.ListN.{replicate-append-replicate, take-append-drop, List·getD-append}
+use lib.ListN.{length, getD, set, take, drop, replicate, length-append, length-drop, length-replicate, drop-of-length-le, replicate-append-replicate}
+use lib.ListN.{take-append-drop, List·getD-append}
 use lib.Seq.{length-take-le, set-at, drop-cons, ext-getD, getD-append-add, getD-drop, take-at}
 use Rattle.text.specs.declared.Refusal.{Refusal}
-use Rattle.text.specs.Line.{refusal}
 use Rattle.language.specs.Program.{Refused, accepted, refused}
 use Rattle.language.specs.Whole.{refusalOf, refusalIn, unlessFits}
 use Rattle.tree.specs.Read.{padded}
@@ -29,7 +28,8 @@ module _ (s₀ : List ℕ) (from i : ℕ) (h : from ≤ i) {s : List ℕ} (e : s
       let d : drop i s₀ ≡ getD s₀ i 0 ∷ drop (i + 1) s₀ = drop-cons s₀ i 0 k ∙ rw add-one in
       let l : length (take from s₀ ++ replicate (i - from) 0) ≡ i =
       length-append (take from s₀) (replicate (i - from) 0) ∙
-      (let z : length (take from s₀) + length (replicate (i - from) 0) ≡ i = omega (arith, length-take-le from s₀ (omega arith), length-replicate {A = ℕ} (i - from) 0) in z) in
+      (let z : length (take from s₀) + length (replicate (i - from) 0) ≡ i = omega
+      (arith, length-take-le from s₀ (omega arith), length-replicate {A = ℕ} (i - from) 0) in z) in
       let z : i + 1 - from ≡ i - from + 1 = omega arith in
       let r : replicate {A = ℕ} (i + 1 - from) 0 ≡ replicate (i - from) 0 ++ (0 ∷ []) = rw z (sym (replicate-append-replicate (i - from) 1 0)) in
       rw (e, d, set-at (take from s₀ ++ replicate {A = ℕ} (i - from) 0) (getD s₀ i 0) (drop (i + 1) s₀) 0 i l, r) (simp append-assoc)
@@ -107,13 +107,15 @@ zeros-behind s front k e h f w =
 
 -- ---- after the clearing
 
-accepted-text : (source text t′ : List ℕ) (n : ℕ) (d : Refused) → C.Accepted n ≡ answerOf source d → Begins source t′ d → length t′ ≡ length text → (n ≤ length t′) × (take n t′ ++ replicate (length t′ - n) 0 ≡ textAfter source (length text) d)
+accepted-text : (source text t′ : List ℕ) (n : ℕ) (d : Refused) → C.Accepted n ≡ answerOf source d → Begins source t′ d → length t′ ≡ length text
+    → (n ≤ length t′) × (take n t′ ++ replicate (length t′ - n) 0 ≡ textAfter source (length text) d)
 accepted-text source text t′ n accepted e b l =
     let z : n ≡ length (textOf source) = cc in
     (omega (arith, b .1), rw (z, l, b .0))
 accepted-text source text t′ n (refused number place) e b l = let z : _≡_ {A = ℕ} 0 1 = cc in absurd (omega arith)
 
-refused-text : (source text t′ : List ℕ) (w : Refusal) (d : Refused) → C.Refused w ≡ answerOf source d → length t′ ≡ length text → replicate {A = ℕ} (length t′ - 0) 0 ≡ textAfter source (length text) d
+refused-text : (source text t′ : List ℕ) (w : Refusal) (d : Refused) → C.Refused w ≡ answerOf source d → length t′ ≡ length text
+    → replicate {A = ℕ} (length t′ - 0) 0 ≡ textAfter source (length text) d
 refused-text source text t′ w accepted e l = let z : _≡_ {A = ℕ} 0 1 = cc in absurd (omega arith)
 refused-text source text t′ w (refused number place) e l = let z : length t′ - 0 ≡ length text = omega arith in rw z
 

@@ -18,7 +18,7 @@ use Rattle.code.specs.Generate as G
 use Rattle.language.specs.Faults as Y
 use Rattle.language.specs.Faults.{Leavable, unless, inExpression, inCommand, inUnlabelled}
 use Rattle.tree.specs.Encoding.{encode, encodeCommand, encodeUnlabelled}
-use Rattle.compiler.specs.Scope.{Keeps, Shows, Pushed, PushedName, code, named, nameAt}
+use Rattle.compiler.specs.Scope.{Keeps, Shows, Pushed, PushedName, code, nameAt}
 use Rattle.compiler.proofs.Scoping.{keeps-all, keeps-then, keeps-lower, keeps-name, pushed-keeps, pushed-mark, pushed-name}
 use Rattle.compiler.specs.declared.steps.State.{State}
 use Rattle.compiler.specs.declared.steps.Here.{Here}
@@ -52,21 +52,27 @@ module _ {s : List ℕ} {end : ℕ} {here : Here} {st : State} (n : Node) (nd : 
 
   abbrev pub valof-part : {a : State} → Fresh 1 st a → ReadyE s end here st → ReadyC s (n .inner) (inside here) a
   valof-part {a} e y = let u = is-valof (find n nd q y) in
-      sub encodeCommand commandDepth FineC y keeps-all (n .inner) (y .lo) (inside here) a (u .part) (u .lies) (omega (arith, nd .inner, u .ends)) (omega arith) (omega (arith, nd .inner)) refl refl
-      (omega (arith, y .height, y .ends, u .ends)) (omega (arith, y .label, y .ends, u .ends, e .label)) (omega (arith, e .label)) (omega (arith, valof-deep y (u .same))) (valof-fine y (u .same))
+      sub encodeCommand commandDepth FineC y keeps-all (n .inner) (y .lo) (inside here) a (u .part) (u .lies) (omega (arith, nd .inner, u .ends))
+      (omega arith) (omega (arith, nd .inner)) refl refl
+      (omega (arith, y .height, y .ends, u .ends)) (omega (arith, y .label, y .ends, u .ends, e .label)) (omega (arith, e .label))
+      (omega (arith, valof-deep y (u .same))) (valof-fine y (u .same))
 
-  pub valof-gave : (text : List ℕ) {s₁ t t₁ t₂ : List ℕ} {a b c : State} → Fresh 1 st a → GaveC text s s₁ (n .inner) (inside here) (inValof (st .label)) t t₁ a b → Emits (I.label (st .label) ∷ []) [] t₁ t₂ b c → GaveE text s s₁ end here t t₂ st c
+  pub valof-gave : (text : List ℕ) {s₁ t t₁ t₂ : List ℕ} {a b c : State} → Fresh 1 st a
+      → GaveC text s s₁ (n .inner) (inside here) (inValof (st .label)) t t₁ a b → Emits (I.label (st .label) ∷ []) [] t₁ t₂ b c
+      → GaveE text s s₁ end here t t₂ st c
   unfolding inExpression expression G.exprCode ofExpr G.exprLabels
   valof-gave text {s₁} {t} {t₁} {t₂} {a} {b} {c} e g f = record {
     by = λ y.
         let u = is-valof (find n nd q y) in let x = g .by (valof-part e y) in let sc = y .scope in let h = here .height in
         let C = command text sc h (u .part) in
         let l : leavableBy (inValof (st .label)) (inside here) ≡ Y.inValof (leavable here) = leaves-valof here (y .some) in
-        subst (λ (d : Expression). Result (faultsE text here sc d) (codeE text here sc d) (length (encode (y .tree))) (y .base) here s s₁ t t₂ st c) (sym (u .same))
+        subst (λ (d : Expression). Result (faultsE text here sc d) (codeE text here sc d) (length (encode (y .tree))) (y .base) here s s₁ t t₂ st c)
+        (sym (u .same))
         (record {
           keeps = x .keeps;
           did = did-at _ _ (did-put (did-fresh e (x .did)) f) (same-eq (ap (λ (z : Leavable). inCommand text sc z h (u .part)) l))
-              (λ v. code-is (ap (λ (m : ℕ). G.cmdCode (here .strings) h m (G.inValof (st .label)) C ++ (I.label (st .label) ∷ [])) (omega arith)) refl (omega arith))
+              (λ v. code-is (ap (λ (m : ℕ). G.cmdCode (here .strings) h m (G.inValof (st .label)) C ++ (I.label (st .label) ∷ [])) (omega arith))
+              refl (omega arith))
               (omega (arith, y .ends, u .ends));
         });
   }
@@ -98,35 +104,51 @@ module _ {s : List ℕ} {end : ℕ} {here : Here} {st : State} (n : Node) (nd : 
 
   abbrev pub result-part : ReadyU s end here st → ReadyE s (n .inner) here st
   result-part y = let u = result-is y in
-      sub encode depth FineE y keeps-all (n .inner) (y .lo) here st (u .part) (u .lies) (omega (arith, nd .inner, u .ends)) (omega arith) (omega (arith, nd .inner)) refl refl
+      sub encode depth FineE y keeps-all (n .inner) (y .lo) here st (u .part) (u .lies) (omega (arith, nd .inner, u .ends)) (omega arith)
+      (omega (arith, nd .inner)) refl refl
       (omega (arith, y .height, y .ends, u .ends)) (omega (arith, y .label, y .ends, u .ends)) (y .some) (result-deep y) (result-fine y)
 
-  pub result-gave : (text : List ℕ) (ways : Ways) {s₁ t t₁ t₂ : List ℕ} {a b : State} → GaveE text s s₁ (n .inner) here t t₁ st a → LeavesTo (ways .result) (n .place) t₁ t₂ a b → GaveU text s s₁ end here ways t t₂ st b
+  pub result-gave : (text : List ℕ) (ways : Ways) {s₁ t t₁ t₂ : List ℕ} {a b : State} → GaveE text s s₁ (n .inner) here t t₁ st a
+      → LeavesTo (ways .result) (n .place) t₁ t₂ a b → GaveU text s s₁ end here ways t t₂ st b
   unfolding inUnlabelled unlabelled G.cmdCode ofCmd G.cmdLabels
   result-gave text ways {s₁} {t} {t₁} {t₂} {a} {b} g f = record {
-    by = λ y. let u = result-is y in let x = g .by (result-part y) in let sc = y .scope in let h = here .height in let E = expression text sc h (u .part) in
-        subst (λ (v : Unlabelled). Result (inUnlabelled text sc (leavableBy ways here) h v) (cmdSays here ways (unlabelled text sc h v)) (length (encodeUnlabelled (y .tree))) (y .base) here s s₁ t t₂ st b) (sym (u .same))
+    by =
+        λ y. let u = result-is y in let x = g .by (result-part y) in let sc = y .scope in let h = here .height in
+        let E = expression text sc h (u .part) in
+        subst (λ (v : Unlabelled). Result (inUnlabelled text sc (leavableBy ways here) h v) (cmdSays here ways (unlabelled text sc h v))
+        (length (encodeUnlabelled (y .tree))) (y .base) here s s₁ t t₂ st b) (sym (u .same))
         (record {
           keeps = x .keeps;
           did = did-as _ _ (did-then (with-ways text sc here ways h (u .part) (x .did)) (f .did))
-              (same-then (same-swap (inExpression text sc (leavableBy ways here) h (u .part)) (unless (leavableBy ways here .valof) (fault (n .place) 13))) (same-eq (ap (λ (p : ℕ). unless (leavableBy ways here .valof) (fault p 13) ++ inExpression text sc (leavableBy ways here) h (u .part)) (nd .place ∙ u .place-of))))
+              (same-then
+              (same-swap (inExpression text sc (leavableBy ways here) h (u .part)) (unless (leavableBy ways here .valof) (fault (n .place) 13)))
+              (same-eq
+              (ap (λ (p : ℕ). unless (leavableBy ways here .valof) (fault p 13) ++ inExpression text sc (leavableBy ways here) h (u .part))
+              (nd .place ∙ u .place-of))))
               (λ m v. code-is refl (append-nil (ofExpr h E)) (omega arith)) (omega (arith, y .ends, u .ends));
         });
   }
 
 -- another name of the same place
-pub gave-c-at : (text : List ℕ) {s s′ t t′ : List ℕ} {end : ℕ} {d d′ : Here} {w w′ : Ways} {st r : State} → d′ ≡ d → w′ ≡ w → GaveC text s s′ end d′ w′ t t′ st r → GaveC text s s′ end d w t t′ st r
-gave-c-at text {s} {s′} {t} {t′} {end} {d} {w′ = w′} {st} {r} e q g = subst (λ (x : Ways). GaveC text s s′ end d x t t′ st r) q (subst (λ (x : Here). GaveC text s s′ end x w′ t t′ st r) e g)
+pub gave-c-at : (text : List ℕ) {s s′ t t′ : List ℕ} {end : ℕ} {d d′ : Here} {w w′ : Ways} {st r : State} → d′ ≡ d → w′ ≡ w
+    → GaveC text s s′ end d′ w′ t t′ st r → GaveC text s s′ end d w t t′ st r
+gave-c-at text {s} {s′} {t} {t′} {end} {d} {w′ = w′} {st} {r} e q g =
+    subst (λ (x : Ways). GaveC text s s′ end d x t t′ st r) q (subst (λ (x : Here). GaveC text s s′ end x w′ t t′ st r) e g)
 
-pub gave-u-at : (text : List ℕ) {s s′ t t′ : List ℕ} {end : ℕ} {d d′ : Here} {w w′ : Ways} {st r : State} → d′ ≡ d → w′ ≡ w → GaveU text s s′ end d′ w′ t t′ st r → GaveU text s s′ end d w t t′ st r
-gave-u-at text {s} {s′} {t} {t′} {end} {d} {w′ = w′} {st} {r} e q g = subst (λ (x : Ways). GaveU text s s′ end d x t t′ st r) q (subst (λ (x : Here). GaveU text s s′ end x w′ t t′ st r) e g)
+pub gave-u-at : (text : List ℕ) {s s′ t t′ : List ℕ} {end : ℕ} {d d′ : Here} {w w′ : Ways} {st r : State} → d′ ≡ d → w′ ≡ w
+    → GaveU text s s′ end d′ w′ t t′ st r → GaveU text s s′ end d w t t′ st r
+gave-u-at text {s} {s′} {t} {t′} {end} {d} {w′ = w′} {st} {r} e q g =
+    subst (λ (x : Ways). GaveU text s s′ end d x t t′ st r) q (subst (λ (x : Here). GaveU text s s′ end x w′ t t′ st r) e g)
 
 -- ---- a name in a block of its own, as FOR's: a mark and a name are pushed, and what the body does keeps what stood below
 
-module _ (h : ℕ) {s s₁ s₂ : List ℕ} {base top leaf m : ℕ} {sc : Scope} (sh : Shows s top sc) (long : base ≤ length s) (room : top + 4 ≤ base) (inside-tree : base ≤ leaf)
+module _ (h : ℕ) {s s₁ s₂ : List ℕ} {base top leaf m : ℕ} {sc : Scope} (sh : Shows s top sc) (long : base ≤ length s) (room : top + 4 ≤ base)
+    (inside-tree : base ≤ leaf)
     (p : Pushed s s₁ top 0 0) (q : PushedName s₁ s₂ (top + 2) leaf m) (e : m ≡ h * 4 + 1) where
   pub named-block-keeps : Keeps base top s s₂
-  named-block-keeps = keeps-then (pushed-keeps p (omega arith) long) (keeps-lower (omega arith) (pushed-keeps (q .pushed) (omega arith) (omega (arith, pushed-keeps p (omega arith) long .long))))
+  named-block-keeps =
+      keeps-then (pushed-keeps p (omega arith) long)
+      (keeps-lower (omega arith) (pushed-keeps (q .pushed) (omega arith) (omega (arith, pushed-keeps p (omega arith) long .long))))
 
   pub named-block-shows : Shows s₂ (top + 4) (declared (opened sc) (nameAt s leaf) (N.local h))
   unfolding code
@@ -136,7 +158,8 @@ module _ (h : ℕ) {s s₁ s₂ : List ℕ} {base top leaf m : ℕ} {sc : Scope}
       let a : top + 2 + 2 ≡ top + 4 = omega arith in
       let x = pushed-name q (omega arith) l (N.local h) (pushed-mark p (omega arith) long sh refl) e tt in
       let n : nameAt s₁ leaf ≡ nameAt s leaf = keeps-name k inside-tree in
-      subst (λ (z : ℕ). Shows s₂ z (declared (opened sc) (nameAt s leaf) (N.local h))) a (subst (λ (z : Name). Shows s₂ (top + 2 + 2) (declared (opened sc) z (N.local h))) n x)
+      subst (λ (z : ℕ). Shows s₂ z (declared (opened sc) (nameAt s leaf) (N.local h))) a
+      (subst (λ (z : Name). Shows s₂ (top + 2 + 2) (declared (opened sc) z (N.local h))) n x)
 
 -- after a part with more names in scope, the names below are as they were
 pub after-block : {base top high : ℕ} {s s₁ s₂ : List ℕ} → top ≤ high → Keeps base top s s₁ → Keeps base high s₁ s₂ → Keeps base top s s₂

@@ -26,7 +26,8 @@ Counting s from end at n = (m : ℕ) → Items s end from m → CountPart s end 
 pub count-begin : {s : List ℕ} {from end : ℕ} → Counting s from end from 0
 count-begin m i = record { rest = m; items = i; sum = omega arith }
 
-pub count-next : {s : List ℕ} {from end at n size : ℕ} → at < end → size ≡ getD s at 0 → Counting s from end at n → Counting s from end (at + 2 + size) (n + 1)
+pub count-next : {s : List ℕ} {from end at n size : ℕ} → at < end → size ≡ getD s at 0 → Counting s from end at n
+    → Counting s from end (at + 2 + size) (n + 1)
 count-next {s} {from} {end} {at} {n} {size} l z q m i = let p = q m i in go (p .items) (p .sum)
   where
     go : {k : ℕ} → Items s end at k → m ≡ n + k → CountPart s end (at + 2 + size) (n + 1) m
@@ -41,7 +42,8 @@ count-end {s} {from} {end} {at} {n} l q = record { by = λ m i. let p = q m i in
     go (anItem h r) e = absurd (omega arith)
 
 -- an item in front of others
-pub item-first : {s : List ℕ} {at end tag n : ℕ} (w rest : List ℕ) → Lies s at (length w ∷ tag ∷ (w ++ rest)) → end ≡ at + length (length w ∷ tag ∷ (w ++ rest))
+pub item-first : {s : List ℕ} {at end tag n : ℕ} (w rest : List ℕ) → Lies s at (length w ∷ tag ∷ (w ++ rest))
+    → end ≡ at + length (length w ∷ tag ∷ (w ++ rest))
     → (Lies s (at + 2 + length w) rest → end ≡ at + 2 + length w + length rest → Items s end (at + 2 + length w) n) → Items s end at (suc n)
 item-first {s} {at} {end} {tag} {n} w rest h e f =
     let a : at + 0 ≡ at = omega arith in
@@ -50,18 +52,22 @@ item-first {s} {at} {end} {tag} {n} w rest h e f =
     let q = f (second w rest (at + 2 + length w) r refl) (omega (arith, length-append w rest)) in
     anItem {from = at} (omega (arith, length-append w rest)) (subst (λ (x : ℕ). Items s end (at + 2 + x) n) (sym z) q)
 
-pub expression-items : {s : List ℕ} {at end : ℕ} (es : Expressions) → Lies s at (encodeExpressions es) → end ≡ at + length (encodeExpressions es) → Items s end at (T.count es)
+pub expression-items : {s : List ℕ} {at end : ℕ} (es : Expressions) → Lies s at (encodeExpressions es) → end ≡ at + length (encodeExpressions es)
+    → Items s end at (T.count es)
 unfolding encodeExpressions T.count
 expression-items {at = at} T.noExpressions h e = noItem {from = at} (omega arith)
 expression-items (T.andExpression d es) h e = item-first (encode d) (encodeExpressions es) h e (λ r q. expression-items es r q)
 
-pub repeat-items : {s : List ℕ} {at end : ℕ} (rs : Repeats) → Lies s at (encodeRepeats rs) → end ≡ at + length (encodeRepeats rs) → Items s end at (forms rs)
+pub repeat-items : {s : List ℕ} {at end : ℕ} (rs : Repeats) → Lies s at (encodeRepeats rs) → end ≡ at + length (encodeRepeats rs)
+    → Items s end at (forms rs)
 unfolding encodeRepeats forms
 repeat-items {at = at} T.noRepeats h e = noItem {from = at} (omega arith)
 repeat-items (T.repeat rs) h e = item-first [] (encodeRepeats rs) h e (λ r q. repeat-items rs r q)
 repeat-items (T.repeatOn w d rs) h e = item-first (encode d) (encodeRepeats rs) h e (λ r q. repeat-items rs r q)
 
-pub command-items : {s : List ℕ} {at end : ℕ} (text : List ℕ) (sc : Scope) (height : ℕ) (cs : Commands) → Lies s at (encodeCommands cs) → end ≡ at + length (encodeCommands cs) → Items s end at (commandsIn (caseList text sc height cs))
+pub command-items : {s : List ℕ} {at end : ℕ} (text : List ℕ) (sc : Scope) (height : ℕ) (cs : Commands) → Lies s at (encodeCommands cs)
+    → end ≡ at + length (encodeCommands cs) → Items s end at (commandsIn (caseList text sc height cs))
 unfolding encodeCommands caseList commandsIn
 command-items {at = at} text sc height T.noCommands h e = noItem {from = at} (omega arith)
-command-items text sc height (T.andCommand c cs) h e = item-first (encodeCommand c) (encodeCommands cs) h e (λ r q. command-items text sc height cs r q)
+command-items text sc height (T.andCommand c cs) h e =
+    item-first (encodeCommand c) (encodeCommands cs) h e (λ r q. command-items text sc height cs r q)

@@ -3,7 +3,7 @@ use Prim.Native.Nat.{ℕ, _+_, _*_, _/_, _%_, _<_, _≤_, _^_}
 use mathlib.Core.Path.{_≡_, refl, sym, ap, _∙_}
 use mathlib.Core.Logic.{_≢_}
 use mathlib.Core.Bool.{Bool, true, false, not, cond}
-use mathlib.Core.List.{List, [], _∷_, _++_}
+use mathlib.Core.List.{List, [], _∷_}
 use native.Mathlib.Omega.{arith}
 use lib.Dec.{eqb, ltb}
 use lib.ListN.{length}
@@ -51,7 +51,8 @@ pub least-from : (f : Fault) (fs : List Fault) → f .number < 32 → AllFit fs 
 unfolding least leastFrom
 least-from f [] a h = refl
 least-from f (g ∷ gs) a (andFit p n h) =
-    ap (λ (z : ℕ). least z gs) (ap (λ (b : Bool). cond b (key g) (key f)) (keys (g .place) (g .number) (f .place) (f .number) n a) ∙ cond-key (before g f) f g)
+    ap (λ (z : ℕ). least z gs)
+    (ap (λ (b : Bool). cond b (key g) (key f)) (keys (g .place) (g .number) (f .place) (f .number) n a) ∙ cond-key (before g f) f g)
     ∙ least-from (cond (before g f) g f) gs (cond-small (before g f) f g a n) h
 
 -- from a number above all keys
@@ -106,7 +107,8 @@ by-least source k size room (f ∷ fs) (andFit p n h) e other rest o =
     rw (z, lt-ltb (key (leastFrom f fs)) NONE below) (key-refusal source (leastFrom f fs) x)
 
 -- the end of the text, as far as it is told
-by-room : (source : List ℕ) (at size room : ℕ) → at ≡ upto room size → cond (ltb room at) (C.Refused (refusal source 15 0)) (C.Accepted at) ≡ answer source size (unlessFits size room accepted)
+by-room : (source : List ℕ) (at size room : ℕ) → at ≡ upto room size
+    → cond (ltb room at) (C.Refused (refusal source 15 0)) (C.Accepted at) ≡ answer source size (unlessFits size room accepted)
 by-room source at size room e = go (order room size)
   where
     go : Order room size → cond (ltb room at) (C.Refused (refusal source 15 0)) (C.Accepted at) ≡ answer source size (unlessFits size room accepted)
@@ -120,9 +122,11 @@ by-start source true start at size room e h = rw e (by-room source at size room 
 by-start source false start at size room e h = rw e refl
 
 -- the answer by the least keys is that of the rules: 8 to 13, 16, 14, and 15 where the text is too long
-pub decides : (source : List ℕ) (fs hs : List Fault) (b : Bool) (worst tall start at room : ℕ) → AllFit fs → AllFit hs → worst ≡ least NONE fs → (fs ≡ [] → tall ≡ least NONE hs)
+pub decides : (source : List ℕ) (fs hs : List Fault) (b : Bool) (worst tall start at room : ℕ) → AllFit fs → AllFit hs → worst ≡ least NONE fs
+    → (fs ≡ [] → tall ≡ least NONE hs)
     → (fs ≡ [] → eqb start 0 ≡ not b) → (fs ≡ [] → at ≡ upto room (length (textOf source)))
-    → byKeys source worst tall start at room ≡ answerOf source (unlessFits (length (textOf source)) room (leastOr fs (leastOr hs (cond b accepted (refused 14 0)))))
+    → byKeys source worst tall start at room ≡ answerOf source
+    (unlessFits (length (textOf source)) room (leastOr fs (leastOr hs (cond b accepted (refused 14 0)))))
 unfolding byKeys
 decides source fs hs b worst tall start at room f h w t s e =
     let size : ℕ = length (textOf source) in

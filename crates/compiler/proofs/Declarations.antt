@@ -1,13 +1,13 @@
 -- Names declared one after another.
-use Prim.Native.Nat.{ℕ, zero, suc, _+_, _*_, _-_, _≤_, _<_, _^_}
+use Prim.Native.Nat.{ℕ, _+_, _*_, _≤_, _<_, _^_}
 use mathlib.Core.Path.{_≡_, refl, sym, ap, subst, _∙_}
-use mathlib.Core.List.{List, [], _∷_, _++_}
+use mathlib.Core.List.{List, [], _∷_}
 use native.Mathlib.Omega.{arith}
-use lib.ListN.{length, getD, length-append}
+use lib.ListN.{length, getD}
 use Rattle.language.specs.Tree.{Name}
 use Rattle.language.specs.Names as N
 use Rattle.language.specs.Names.{Scope, declared, inBlock, onFound}
-use Rattle.language.specs.Constants.{Fault, fault}
+use Rattle.language.specs.Constants.{fault}
 use Rattle.language.specs.Resolve.{declareAll}
 use Rattle.language.specs.Faults.{twice}
 use Rattle.tree.specs.Encoding.{encodeName, encodeNames}
@@ -15,11 +15,11 @@ use Rattle.language.specs.Fine.{FineName, FineNames}
 use Rattle.compiler.specs.Scope.{Shows, Keeps, PushedName, Told, code, found, named, nameAt}
 use Rattle.compiler.proofs.Scoping.{keeps-all, keeps-then, keeps-lower, keeps-name, code-not, pushed-keeps, pushed-name}
 use Rattle.compiler.specs.declared.steps.State.{State}
-use Rattle.compiler.specs.Walked.{Code, Did, Faulted}
+use Rattle.compiler.specs.Walked.{Did, Faulted}
 use Rattle.compiler.specs.Walks.{Lies}
-use Rattle.compiler.specs.Commands.{nothing, ReadyNames, Declared, Declares, Again}
-use Rattle.compiler.proofs.Done.{did-none, did-then, did-as, same-refl, code-is}
-use Rattle.compiler.proofs.Trees.{first, second}
+use Rattle.compiler.specs.Commands.{nothing, ReadyNames, Declares, Again}
+use Rattle.compiler.proofs.Done.{did-none, did-then, did-as, same-refl}
+use Rattle.compiler.proofs.Trees.{second}
 
 pub again-not : {m place : ℕ} {st : State} → m ≡ 0 → Again m place st st
 unfolding found
@@ -51,7 +51,8 @@ module _ (text : List ℕ) {s₀ : List ℕ} {from end top height : ℕ} (st₀ 
     pub many : k + length rest ≡ length (y .names)
     pub fine : FineNames rest
     pub same : declareAll (y .scope) height (y .names) ≡ declareAll scope (height + k) rest
-    pub finish : (t : List ℕ) (st′ : State) → Did (twice text scope (height + k) rest) nothing 0 t t st st′ → Did (twice text (y .scope) height (y .names)) nothing 0 t t st₀ st′
+    pub finish : (t : List ℕ) (st′ : State) → Did (twice text scope (height + k) rest) nothing 0 t t st st′
+        → Did (twice text (y .scope) height (y .names)) nothing 0 t t st₀ st′
 
   pub names-begin : (y : ReadyNames s₀ from end top height) → NamesPart y s₀ from 0 st₀
   names-begin y =
@@ -78,7 +79,8 @@ pub record IsNames (s : List ℕ) (at end : ℕ) (ns : List Name) : Type 0 where
   pub lies-more : Lies s (at + 4) (encodeNames more)
   pub ends : end ≡ at + 4 + length (encodeNames more)
 
-pub is-names : {s : List ℕ} {at end : ℕ} (ns : List Name) → Lies s at (encodeNames ns) → end ≡ at + length (encodeNames ns) → at < end → IsNames s at end ns
+pub is-names : {s : List ℕ} {at end : ℕ} (ns : List Name) → Lies s at (encodeNames ns) → end ≡ at + length (encodeNames ns) → at < end
+    → IsNames s at end ns
 unfolding encodeNames encodeName
 is-names [] h e l = absurd (omega arith)
 is-names {s} {at} (n ∷ ns) h e l = record {
@@ -96,7 +98,8 @@ no-names [] e l = refl
 no-names (n ∷ ns) e l = absurd (omega arith)
 
 module _ (text : List ℕ) {s₀ : List ℕ} {from end top height : ℕ} {st₀ : State} where
-  pub names-next : {s s₁ : List ℕ} {at m place x : ℕ} (k : ℕ) {st r : State} → at < end → Told text s (top + 2 * k) at m → place ≡ getD s (at + 2) 0 → Again m place st r → PushedName s s₁ (top + 2 * k) at x → x ≡ (height + k) * 4 + 1
+  pub names-next : {s s₁ : List ℕ} {at m place x : ℕ} (k : ℕ) {st r : State} → at < end → Told text s (top + 2 * k) at m → place ≡ getD s (at + 2) 0
+      → Again m place st r → PushedName s s₁ (top + 2 * k) at x → x ≡ (height + k) * 4 + 1
       → (y : ReadyNames s₀ from end top height) → NamesPart text st₀ y s at k st → NamesPart text st₀ y s₁ (at + 4) (k + 1) r
   unfolding declareAll twice code FineNames
   names-next {s} {s₁} {at} {m} {place} {x} k {st} {r} l told ep ag pu ex y p =
@@ -115,7 +118,8 @@ module _ (text : List ℕ) {s₀ : List ℕ} {from end top height : ℕ} {st₀ 
         lies = u .lies-more;
         ends = u .ends;
         starts = omega (arith, p .starts);
-        shows = subst (λ (z : ℕ). Shows s₁ z sc′) tk (subst (λ (z : Name). Shows s₁ (top + 2 * k + 2) (declared sc z w)) n (pushed-name pu rm lg w (p .shows) ex tt));
+        shows = subst (λ (z : ℕ). Shows s₁ z sc′) tk
+            (subst (λ (z : Name). Shows s₁ (top + 2 * k + 2) (declared sc z w)) n (pushed-name pu rm lg w (p .shows) ex tt));
         keeps = keeps-then (p .keeps) (keeps-lower (omega arith) (pushed-keeps (pu .pushed) rm lg));
         many = c;
         fine = subst FineNames (u .same) (p .fine) .1;
@@ -128,20 +132,30 @@ module _ (text : List ℕ) {s₀ : List ℕ} {from end top height : ℕ} {st₀ 
             (subst (λ (z : ℕ). Did (twice text sc′ z (u .more)) nothing 0 t t r st′) hk d)) same-refl (λ v e. refl) (omega arith)));
       }
 
-  pub names-end : {s : List ℕ} {at : ℕ} (k : ℕ) {st : State} → end ≤ at → ((y : ReadyNames s₀ from end top height) → NamesPart text st₀ y s at k st) → Declares text s₀ s from end top height st₀ st
+  pub names-end : {s : List ℕ} {at : ℕ} (k : ℕ) {st : State} → end ≤ at → ((y : ReadyNames s₀ from end top height) → NamesPart text st₀ y s at k st)
+      → Declares text s₀ s from end top height st₀ st
   unfolding declareAll twice encodeNames
   names-end {s} {at} k {st} l q = record {
     by = λ y. let p = q y in let e = no-names (p .rest) (p .ends) l in
         let c : top + 2 * k ≡ top + 2 * length (y .names) = omega (arith, p .many, ap length e) in record {
-          shows = subst (λ (z : ℕ). Shows s z (declareAll (y .scope) height (y .names))) c (subst (λ (z : Scope). Shows s (top + 2 * k) z) (sym (p .same ∙ ap (declareAll (p .scope) (height + k)) e)) (p .shows));
+          shows = subst (λ (z : ℕ). Shows s z (declareAll (y .scope) height (y .names))) c
+              (subst (λ (z : Scope). Shows s (top + 2 * k) z) (sym (p .same ∙ ap (declareAll (p .scope) (height + k)) e)) (p .shows));
           keeps = p .keeps;
-          did = λ t. p .finish t st (subst (λ (ns : List Name). Did (twice text (p .scope) (height + k) ns) nothing 0 t t st st) (sym e) (did-none 0));
+          did = λ t. p .finish t st
+              (subst (λ (ns : List Name). Did (twice text (p .scope) (height + k) ns) nothing 0 t t st st) (sym e) (did-none 0));
         };
   }
 
-  pub names-fit : {s : List ℕ} {at : ℕ} (k : ℕ) {st : State} → at < end → (y : ReadyNames s₀ from end top height) → NamesPart text st₀ y s at k st → (top + 2 * k + 2 ≤ length s) × (height + k < 2 ^ 29) × (at < 2 ^ 32) × (top + 2 * k + 2 ≤ y .base) × FineName (nameAt s at)
+  pub names-fit : {s : List ℕ} {at : ℕ} (k : ℕ) {st : State} → at < end → (y : ReadyNames s₀ from end top height) → NamesPart text st₀ y s at k st
+      → (top + 2 * k + 2 ≤ length s) × (height + k < 2 ^ 29) × (at < 2 ^ 32) × (top + 2 * k + 2 ≤ y .base) × FineName (nameAt s at)
   unfolding FineNames
   names-fit k l y p =
       let u = is-names (p .rest) (p .lies) (p .ends) l in
-      let c : k + 1 + length (u .more) ≡ length (y .names) = omega (arith, p .many, ap length (u .same)) in
-      (omega (arith, y .room, c, y .long, p .keeps .long), omega (arith, y .heights, c), omega (arith, y .small), omega (arith, y .room, c), subst FineName (sym (keeps-name (p .keeps) (omega (arith, y .above, p .starts)) ∙ u .is)) (subst FineNames (u .same) (p .fine) .0))
+      let c : k + 1 + length (u .more) ≡ length (y .names) = omega (arith, p .many, ap length (u .same)) in (
+        omega (arith, y .room, c, y .long, p .keeps .long),
+        omega (arith, y .heights, c),
+        omega (arith, y .small),
+        omega (arith, y .room, c),
+        subst
+            FineName (sym (keeps-name (p .keeps) (omega (arith, y .above, p .starts)) ∙ u .is)) (subst FineNames (u .same) (p .fine) .0),
+      )

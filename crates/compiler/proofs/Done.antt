@@ -1,27 +1,28 @@
 -- Laws of what is done: faults, items, heights and labels, one after another.
-use Prim.Native.Nat.{ℕ, zero, suc, _+_, _*_, _-_, _≤_, _<_, _/_, _%_, _^_, min}
+use Prim.Native.Nat.{ℕ, suc, _+_, _*_, _-_, _≤_, _<_, _/_, _%_, _^_, min}
 use mathlib.Core.Path.{_≡_, refl, sym, ap, subst, _∙_}
-use mathlib.Core.Bool.{Bool, true, false, cond}
-use mathlib.Core.List.{List, [], _∷_, _++_, append-nil, append-assoc}
+use mathlib.Core.Bool.{true, false, cond}
+use mathlib.Core.List.{List, [], _∷_, _++_, append-nil}
 use native.Mathlib.Omega.{arith}
 use lib.ListN.{length, getD}
 use lib.Dec.{ltb}
 use borrow.Author.Tests.{lt-ltb, le-ltb, eq-eqb, ne-eqb}
 use Rattle.items.specs.Item as I
-use Rattle.language.specs.Names.{Meaning, local, global, manifest, function, Found, unknown, known, onFound}
+use Rattle.language.specs.Names.{local, global, manifest, function, Found, unknown, known, onFound}
 use Rattle.language.specs.Constants.{Fault, fault}
 use Rattle.language.specs.Heights.{ofExpr, greatest}
 use Rattle.language.specs.Resolve.{ofMeaning}
 use Rattle.code.specs.Generate as G
 use Rattle.code.specs.Generate.{exprCode, exprLabels}
-use Rattle.writing.specs.Text.{Text, Puts, line, lines}
+use Rattle.writing.specs.Text.{Puts, line, lines}
 use Rattle.writing.proofs.Laws.{puts-none, puts-then, puts-as, lines-then}
 use Rattle.compiler.specs.Scope.{code, found}
 use Rattle.compiler.proofs.Scoping.{Order, lt, ge, order}
 use Rattle.compiler.specs.declared.steps.State.{State}
 use Rattle.compiler.specs.declared.steps.Here.{Here}
 use Rattle.compiler.specs.declared.steps.Node.{Node}
-use Rattle.compiler.specs.Walked.{inside, raised, NodeAt, key, least, AllFit, noFit, andFit, Code, Wrote, Did, Emits, Reached, Faulted, Means, Fresh, LeavesTo, exprSays}
+use Rattle.compiler.specs.Walked.{inside, NodeAt, key, least, AllFit, noFit, andFit, Code, Wrote, Did, Emits, Reached, Faulted, Means, Fresh}
+use Rattle.compiler.specs.Walked.{LeavesTo, exprSays}
 
 -- ---- folds
 
@@ -82,15 +83,36 @@ fault-not {place} {number} e = let z : length (fault place number) ≡ 0 = ap le
 module _ {place number : ℕ} {st r : State} (fits : (place < 2 ^ 32) × (number < 32)) (label : r .label ≡ st .label) where
   pub faulted-new : place * 32 + number < st .worst → r .worst ≡ place * 32 + number → Faulted place number st r
   unfolding least
-  faulted-new l e = record { by = λ code t. record { worst = e ∙ rw (lt-ltb (place * 32 + number) (st .worst) l); fits = andFit (fits .0) (fits .1) noFit; few = omega arith; grows = omega arith; clean = λ n. absurd (fault-not n) } }
+  faulted-new l e =
+      record {
+        by = λ code t. record {
+          worst = e ∙ rw (lt-ltb (place * 32 + number) (st .worst) l);
+          fits = andFit (fits .0) (fits .1) noFit;
+          few = omega arith;
+          grows = omega
+              arith;
+          clean = λ n. absurd (fault-not n);
+        };
+      }
 
   pub faulted-old : st .worst ≤ place * 32 + number → r .worst ≡ st .worst → Faulted place number st r
   unfolding least
-  faulted-old l e = record { by = λ code t. record { worst = e ∙ rw (le-ltb (place * 32 + number) (st .worst) l); fits = andFit (fits .0) (fits .1) noFit; few = omega arith; grows = omega arith; clean = λ n. absurd (fault-not n) } }
+  faulted-old l e =
+      record {
+        by = λ code t. record {
+          worst = e ∙ rw (le-ltb (place * 32 + number) (st .worst) l);
+          fits = andFit (fits .0) (fits .1) noFit;
+          few = omega arith;
+          grows = omega
+              arith;
+          clean = λ n. absurd (fault-not n);
+        };
+      }
 
 -- ---- one after another
 
-pub emits-then : {xs ys : List I.Item} {hs ks : List ℕ} {t t₁ t₂ : List ℕ} {st a b : State} → Emits xs hs t t₁ st a → Emits ys ks t₁ t₂ a b → Emits (xs ++ ys) (hs ++ ks) t t₂ st b
+pub emits-then : {xs ys : List I.Item} {hs ks : List ℕ} {t t₁ t₂ : List ℕ} {st a b : State} → Emits xs hs t t₁ st a → Emits ys ks t₁ t₂ a b
+    → Emits (xs ++ ys) (hs ++ ks) t t₂ st b
 emits-then {xs} {ys} {hs} {ks} {st = st} f g = record {
   text = puts-as (puts-then (f .text) (g .text)) (lines-then xs ys);
   high = g .high ∙ ap (λ (z : ℕ). greatest z ks) (f .high) ∙ greatest-then (st .high) hs ks;
@@ -99,7 +121,8 @@ emits-then {xs} {ys} {hs} {ks} {st = st} f g = record {
 }
 
 -- no faults
-pub emits-did : {xs : List I.Item} {hs : List ℕ} {t t′ : List ℕ} {st r : State} (code : ℕ → Code) → Emits xs hs t t′ st r → ((n : ℕ) → code n ≡ record { items = xs; heights = hs; labels = 0 }) → Did [] code 0 t t′ st r
+pub emits-did : {xs : List I.Item} {hs : List ℕ} {t t′ : List ℕ} {st r : State} (code : ℕ → Code) → Emits xs hs t t′ st r
+    → ((n : ℕ) → code n ≡ record { items = xs; heights = hs; labels = 0 }) → Did [] code 0 t t′ st r
 unfolding least
 emits-did {xs} {hs} {t} {t′} {st} {r} code f e = record {
   worst = f .worst;
@@ -148,14 +171,16 @@ module _ {fs : List Fault} {f : ℕ → Code} {m : ℕ} {t t₁ t₂ : List ℕ}
         let l = f (st .label) .labels in
         record {
           text = puts-as (puts-then (w .text) (v .text)) (lines-then (f (st .label) .items) (g (st .label + l) .items));
-          high = v .high ∙ ap (λ (z : ℕ). greatest z (g (st .label + l) .heights)) (w .high) ∙ greatest-then (st .high) (f (st .label) .heights) (g (st .label + l) .heights);
+          high = v .high ∙ ap (λ (z : ℕ). greatest z (g (st .label + l) .heights)) (w .high) ∙ greatest-then (st .high) (f (st .label) .heights)
+              (g (st .label + l) .heights);
           label = omega (arith, v .label, w .label);
         };
   }
 
 -- items alone, behind and before
 module _ {fs : List Fault} {f : ℕ → Code} {m : ℕ} {t t₁ t₂ : List ℕ} {st a b : State} where
-  pub did-put : {xs : List I.Item} → Did fs f m t t₁ st a → Emits xs [] t₁ t₂ a b → Did fs (λ n. record { items = f n .items ++ xs; heights = f n .heights; labels = f n .labels }) m t t₂ st b
+  pub did-put : {xs : List I.Item} → Did fs f m t t₁ st a → Emits xs [] t₁ t₂ a b
+      → Did fs (λ n. record { items = f n .items ++ xs; heights = f n .heights; labels = f n .labels }) m t t₂ st b
   unfolding greatest
   did-put {xs} x e = record {
     worst = e .worst ∙ x .worst;
@@ -169,7 +194,8 @@ module _ {fs : List Fault} {f : ℕ → Code} {m : ℕ} {t t₁ t₂ : List ℕ}
     };
   }
 
-  pub did-after : {xs : List I.Item} {hs : List ℕ} → Emits xs hs t t₁ st a → Did fs f m t₁ t₂ a b → Did fs (λ n. record { items = xs ++ f n .items; heights = hs ++ f n .heights; labels = f n .labels }) m t t₂ st b
+  pub did-after : {xs : List I.Item} {hs : List ℕ} → Emits xs hs t t₁ st a → Did fs f m t₁ t₂ a b
+      → Did fs (λ n. record { items = xs ++ f n .items; heights = hs ++ f n .heights; labels = f n .labels }) m t t₂ st b
   did-after {xs} {hs} e x = record {
     worst = x .worst ∙ ap (λ (z : ℕ). least z fs) (e .worst);
     fits = x .fits;
@@ -186,7 +212,9 @@ module _ {fs : List Fault} {f : ℕ → Code} {m : ℕ} {t t₁ t₂ : List ℕ}
 
 pub did-none : (k : ℕ) {t : List ℕ} {st : State} → Did [] (λ n. record { items = []; heights = []; labels = 0 }) k t t st st
 unfolding least greatest lines
-did-none k = record { worst = refl; fits = noFit; few = omega arith; grows = omega arith; clean = λ n. record { text = puts-none; high = refl; label = omega arith } }
+did-none k =
+    record
+    { worst = refl; fits = noFit; few = omega arith; grows = omega arith; clean = λ n. record { text = puts-none; high = refl; label = omega arith } }
 
 -- ---- the same, said otherwise
 
@@ -213,7 +241,8 @@ least-min : (x k : ℕ) (a : List Fault) → least (min x k) a ≡ min (least x 
 unfolding least
 least-min x k [] = refl
 least-min x k (f ∷ a) =
-    let e : cond (ltb (key f) (min x k)) (key f) (min x k) ≡ min (cond (ltb (key f) x) (key f) x) k = step-min (key f) (min x k) ∙ omega arith ∙ ap (λ (z : ℕ). min z k) (sym (step-min (key f) x)) in
+    let e : cond (ltb (key f) (min x k)) (key f) (min x k) ≡ min (cond (ltb (key f) x) (key f) x) k = step-min (key f) (min x k) ∙ omega arith ∙ ap
+    (λ (z : ℕ). min z k) (sym (step-min (key f) x)) in
     ap (λ (z : ℕ). least z a) e ∙ least-min (cond (ltb (key f) x) (key f) x) k a
 
 least-swap : (x : ℕ) (a b : List Fault) → least x (a ++ b) ≡ least x (b ++ a)
@@ -221,10 +250,13 @@ unfolding least
 least-swap x [] b = ap (least x) (sym (append-nil b))
 least-swap x (f ∷ a) b =
     ap (λ (z : ℕ). least z (a ++ b)) (step-min (key f) x) ∙ least-swap (min x (key f)) a b ∙ least-min x (key f) (b ++ a)
-    ∙ ap (λ (z : ℕ). min z (key f)) (sym (least-then x b a)) ∙ sym (least-min (least x b) (key f) a) ∙ ap (λ (z : ℕ). least z a) (sym (step-min (key f) (least x b))) ∙ least-then x b (f ∷ a)
+    ∙ ap (λ (z : ℕ). min z (key f)) (sym (least-then x b a)) ∙ sym (least-min (least x b) (key f) a) ∙ ap (λ (z : ℕ). least z a)
+    (sym (step-min (key f) (least x b))) ∙ least-then x b (f ∷ a)
 
 pub same-swap : (a b : List Fault) → Same (a ++ b) (b ++ a)
-same-swap a b = record { least = λ x. least-swap x a b; none = λ e. rw (nil-left b a e, nil-right b a e); fits = λ f. fit-then (fit-right a b f) (fit-left a b f) }
+same-swap a b =
+    record
+    { least = λ x. least-swap x a b; none = λ e. rw (nil-left b a e, nil-right b a e); fits = λ f. fit-then (fit-right a b f) (fit-left a b f) }
 
 pub same-then : {a b c : List Fault} → Same a b → Same b c → Same a c
 same-then p q = record { least = λ x. p .least x ∙ q .least x; none = λ e. p .none (q .none e); fits = λ f. q .fits (p .fits f) }
@@ -236,7 +268,8 @@ same-both {a} {b} {c} {d} p q = record {
   fits = λ f. fit-then (p .fits (fit-left a c f)) (q .fits (fit-right a c f));
 }
 
-pub did-as : {fs gs : List Fault} {f : ℕ → Code} (g : ℕ → Code) {m : ℕ} (k : ℕ) {t t′ : List ℕ} {st r : State} → Did fs f m t t′ st r → Same fs gs → ((n : ℕ) → gs ≡ [] → f n ≡ g n) → m ≤ k → Did gs g k t t′ st r
+pub did-as : {fs gs : List Fault} {f : ℕ → Code} (g : ℕ → Code) {m : ℕ} (k : ℕ) {t t′ : List ℕ} {st r : State} → Did fs f m t t′ st r → Same fs gs
+    → ((n : ℕ) → gs ≡ [] → f n ≡ g n) → m ≤ k → Did gs g k t t′ st r
 did-as {fs} {gs} {f} g {m} k {t} {t′} {st} {r} x s e l = record {
   worst = x .worst ∙ s .least (st .worst);
   fits = s .fits (x .fits);
@@ -246,7 +279,8 @@ did-as {fs} {gs} {f} g {m} k {t} {t′} {st} {r} x s e l = record {
 }
 
 -- the same at its first label
-pub did-at : {fs gs : List Fault} {f : ℕ → Code} (g : ℕ → Code) {m : ℕ} (k : ℕ) {t t′ : List ℕ} {st r : State} → Did fs f m t t′ st r → Same fs gs → (gs ≡ [] → f (st .label) ≡ g (st .label)) → m ≤ k → Did gs g k t t′ st r
+pub did-at : {fs gs : List Fault} {f : ℕ → Code} (g : ℕ → Code) {m : ℕ} (k : ℕ) {t t′ : List ℕ} {st r : State} → Did fs f m t t′ st r → Same fs gs
+    → (gs ≡ [] → f (st .label) ≡ g (st .label)) → m ≤ k → Did gs g k t t′ st r
 did-at {fs} {gs} {f} g {m} k {t} {t′} {st} {r} x s e l = record {
   worst = x .worst ∙ s .least (st .worst);
   fits = s .fits (x .fits);
@@ -256,7 +290,8 @@ did-at {fs} {gs} {f} g {m} k {t} {t′} {st} {r} x s e l = record {
 }
 
 -- after new labels
-pub did-fresh : {fs : List Fault} {f : ℕ → Code} {k m : ℕ} {t t′ : List ℕ} {st a b : State} → Fresh k st a → Did fs f m t t′ a b → Did fs (λ n. record { items = f (n + k) .items; heights = f (n + k) .heights; labels = k + f (n + k) .labels }) (k + m) t t′ st b
+pub did-fresh : {fs : List Fault} {f : ℕ → Code} {k m : ℕ} {t t′ : List ℕ} {st a b : State} → Fresh k st a → Did fs f m t t′ a b
+    → Did fs (λ n. record { items = f (n + k) .items; heights = f (n + k) .heights; labels = k + f (n + k) .labels }) (k + m) t t′ st b
 did-fresh {fs} {f} {k} {m} {t} {t′} {st} {a} {b} e x = record {
   worst = x .worst ∙ ap (λ (z : ℕ). least z fs) (e .worst);
   fits = x .fits;
@@ -277,7 +312,8 @@ leaves-wrong {to} {place} {t} {st} {r} e f = record { did = rw (eq-eqb to 0 e) (
 pub leaves-jump : {to place : ℕ} {t t′ : List ℕ} {st r : State} → (to ≡ 0 → ⊥) → Emits (G.JL to ∷ []) [] t t′ st r → LeavesTo to place t t′ st r
 leaves-jump {to} e f = record { did = rw (ne-eqb to 0 e) (emits-did _ f (λ n. refl)) }
 
-pub code-is : {xs ys : List I.Item} {hs ks : List ℕ} {l m : ℕ} → xs ≡ ys → hs ≡ ks → l ≡ m → _≡_ {A = Code} (record { items = xs; heights = hs; labels = l }) (record { items = ys; heights = ks; labels = m })
+pub code-is : {xs ys : List I.Item} {hs ks : List ℕ} {l m : ℕ} → xs ≡ ys → hs ≡ ks → l ≡ m
+    → _≡_ {A = Code} (record { items = xs; heights = hs; labels = l }) (record { items = ys; heights = ks; labels = m })
 code-is a b c = cc
 
 -- ---- the value of a name
@@ -321,7 +357,9 @@ module _ (place : ℕ) {m : ℕ} {t t′ : List ℕ} {st r : State} where
   value-0 q f et = record { by = by }
     where
       by : (strings h : ℕ) (w : Found) → m ≡ found w → Did (onFound w (fault place 8) []) (exprSays strings h (ofMeaning w)) 0 t t′ st r
-      by strings h unknown e = subst (λ (z : List ℕ). Did (fault place 8) (exprSays strings h (ofMeaning unknown)) 0 t z st r) (sym et) (f .by (exprSays strings h (ofMeaning unknown)) t)
+      by strings h unknown e =
+          subst (λ (z : List ℕ). Did (fault place 8) (exprSays strings h (ofMeaning unknown)) 0 t z st r) (sym et)
+          (f .by (exprSays strings h (ofMeaning unknown)) t)
       by strings h (known (local k)) e = absurd (omega arith)
       by strings h (known (global k)) e = absurd (omega arith)
       by strings h (known (manifest k)) e = absurd (omega arith)
@@ -340,7 +378,9 @@ module _ (place : ℕ) {m : ℕ} {t t′ : List ℕ} {st r : State} where
 
 -- ---- places
 
-pub node-is : {s : List ℕ} {end : ℕ} (n : Node) {size e₃ e₂ e₁ : ℕ} → n .inner ≡ end - 4 → size ≡ getD s (n .inner) 0 → n .start ≡ n .inner - size → e₃ ≡ end - 3 → n .value ≡ getD s e₃ 0 → e₂ ≡ end - 2 → n .place ≡ getD s e₂ 0 → e₁ ≡ end - 1 → n .kind ≡ getD s e₁ 0 → n .value < 2 ^ 32 → n .place < 2 ^ 32 → NodeAt s end n
+pub node-is : {s : List ℕ} {end : ℕ} (n : Node) {size e₃ e₂ e₁ : ℕ} → n .inner ≡ end - 4 → size ≡ getD s (n .inner) 0 → n .start ≡ n .inner - size
+    → e₃ ≡ end - 3 → n .value ≡ getD s e₃ 0 → e₂ ≡ end - 2 → n .place ≡ getD s e₂ 0 → e₁ ≡ end - 1 → n .kind ≡ getD s e₁ 0 → n .value < 2 ^ 32
+    → n .place < 2 ^ 32 → NodeAt s end n
 node-is {s} {end} n {size} i z st a v b p c k fv fp = record {
   value-fits = fv;
   place-fits = fp;
@@ -351,5 +391,6 @@ node-is {s} {end} n {size} i z st a v b p c k fv fp = record {
   kind = k ∙ ap (λ (x : ℕ). getD s x 0) c;
 }
 
-pub inside-is : (here : Here) {l : ℕ} → l ≡ here .left - 1 → _≡_ {A = Here} (record { top = here .top; height = here .height; left = l; strings = here .strings; routine = here .routine }) (inside here)
+pub inside-is : (here : Here) {l : ℕ} → l ≡ here .left - 1
+    → _≡_ {A = Here} (record { top = here .top; height = here .height; left = l; strings = here .strings; routine = here .routine }) (inside here)
 inside-is here e = cc

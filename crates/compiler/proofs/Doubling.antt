@@ -24,7 +24,8 @@ use Rattle.compiler.specs.Walked.{NodeAt, Did, Faulted}
 use Rattle.compiler.specs.Commands.{nothing}
 use Rattle.compiler.specs.Locals.{Says, fit, unfit, Judges, Blames}
 use Rattle.compiler.specs.Switching.{labelFaults, ReadyLabels, JudgesLabels}
-use Rattle.compiler.specs.Labels.{NextItem, LabelAt, aCase, aDefault, CommandAt, Spans, Listed, marks, flag, Marks, Notes, Marked, JudgesLabel, JudgesCommand, faultsAmong}
+use Rattle.compiler.specs.Labels.{NextItem, LabelAt, aCase, aDefault, CommandAt, Spans, Listed, marks, flag, Marks, Notes, Marked, JudgesLabel}
+use Rattle.compiler.specs.Labels.{JudgesCommand, faultsAmong}
 use Rattle.compiler.proofs.Done.{did-none, did-then, did-as, same-refl}
 use Rattle.compiler.proofs.Flags.{flag-none, flag-free, flag-here, flag-other, flag-taken, flag-beyond}
 use Rattle.compiler.proofs.Judging.{judged-word}
@@ -79,14 +80,16 @@ marks-long {n = n} e = ap length e ∙ length-replicate {A = ℕ} n 0
 
 marks-none : {seen : List ℕ} {n : ℕ} → n ≡ 8193 → seen ≡ replicate n 0 → Marks seen []
 unfolding hasCase hasDefault
-marks-none {n = n} z e = record { long = marks-long e ∙ z; cases = λ v l. flag-none {n = n} v e (omega arith); default = flag-none {n = n} 65536 e (omega arith) }
+marks-none {n = n} z e =
+    record { long = marks-long e ∙ z; cases = λ v l. flag-none {n = n} v e (omega arith); default = flag-none {n = n} 65536 e (omega arith) }
 
 module _ {i place : ℕ} {seen seen′ : List ℕ} {st r : State} (n : Notes i place seen seen′ st r) where
   note-did : (b : Bool) → i / 8 < length seen → flag seen i ≡ cond b 1 0 → (t : List ℕ) → Did (cond b (fault place 12) []) nothing 0 t t st r
   note-did true l e t = n .again (λ z. let k : _≡_ {A = ℕ} 1 0 = sym e ∙ z in omega arith) .by nothing t
   note-did false l e t = subst (λ (x : State). Did [] nothing 0 t t st x) (sym (n .fresh l e)) (did-none 0)
 
-module _ {v place : ℕ} {seen seen′ : List ℕ} {st r : State} {ls : List CaseLabel} (n : Notes v place seen seen′ st r) (low : v < 65536) (m : Marks seen ls) where
+module _ {v place : ℕ} {seen seen′ : List ℕ} {st r : State} {ls : List CaseLabel} (n : Notes v place seen seen′ st r) (low : v < 65536)
+    (m : Marks seen ls) where
   case-marks : Marks seen′ (ls ++ (R.case v ∷ []))
   case-marks = record {
     long = n .long ∙ m .long;
@@ -115,7 +118,8 @@ module _ {place : ℕ} {seen seen′ : List ℕ} {st r : State} {ls : List CaseL
   default-did : (t : List ℕ) → Did (cond (hasDefault ls) (fault place 12) []) nothing 0 t t st r
   default-did = note-did n (hasDefault ls) (omega (arith, m .long)) (m .default)
 
-pub note-first : {i place x p : ℕ} {seen seen′ : List ℕ} {st : State} → i / 8 < length seen → x ≡ getD seen (i / 8) 0 → p ≡ 2 ^ (i % 8) → x / p % 2 ≡ 0 → seen′ ≡ set seen (i / 8) (x + p)
+pub note-first : {i place x p : ℕ} {seen seen′ : List ℕ} {st : State} → i / 8 < length seen → x ≡ getD seen (i / 8) 0 → p ≡ 2 ^ (i % 8)
+    → x / p % 2 ≡ 0 → seen′ ≡ set seen (i / 8) (x + p)
     → Notes i place seen seen′ st st
 note-first {i} {place} {x} {p} {seen = seen} {seen′} l ex ep z e = record {
   long = ap length e ∙ length-set seen (i / 8) (x + p);
@@ -125,8 +129,10 @@ note-first {i} {place} {x} {p} {seen = seen} {seen′} l ex ep z e = record {
   again = λ n. absurd (n (flag-free seen i ex ep z));
 }
 
-pub note-again : {i place x p : ℕ} {seen : List ℕ} {st r : State} → x ≡ getD seen (i / 8) 0 → p ≡ 2 ^ (i % 8) → (x / p % 2 ≡ 0 → ⊥) → Faulted place 12 st r → Notes i place seen seen st r
-note-again {i} {p = p} {seen = seen} ex ep n f = record { long = refl; here = λ a. flag-taken seen i there; other = λ k n. refl; fresh = λ a z. absurd (there z); again = λ n. f }
+pub note-again : {i place x p : ℕ} {seen : List ℕ} {st r : State} → x ≡ getD seen (i / 8) 0 → p ≡ 2 ^ (i % 8) → (x / p % 2 ≡ 0 → ⊥)
+    → Faulted place 12 st r → Notes i place seen seen st r
+note-again {i} {p = p} {seen = seen} ex ep n f =
+    record { long = refl; here = λ a. flag-taken seen i there; other = λ k n. refl; fresh = λ a z. absurd (there z); again = λ n. f }
   where
     there : flag seen i ≡ 0 → ⊥
     there z = n (ap (λ (y : ℕ). y / p % 2) ex ∙ ap (λ (y : ℕ). getD seen (i / 8) 0 / y % 2) ep ∙ z)
@@ -155,7 +161,8 @@ module _ (text : List ℕ) {s : List ℕ} {end : ℕ} (top : ℕ) (st r : State)
       go sc before (T.case p c) sh (aCase a e i en f) m = absurd (q (nd .kind ∙ a))
       go sc before (T.default p) sh (aDefault a e) m = record {
         marks = subst (λ (z : List CaseLabel). Marks seen′ z) (sym (labels-then text sc before (T.default p ∷ []))) (default-marks w m);
-        did = λ t. subst (λ (k : ℕ). Did (cond (hasDefault (labelsOf text sc before)) (fault k 12) []) nothing 0 t t st r) (nd .place ∙ e) (default-did w m t);
+        did = λ t. subst (λ (k : ℕ). Did (cond (hasDefault (labelsOf text sc before)) (fault k 12) []) nothing 0 t t st r) (nd .place ∙ e)
+            (default-did w m t);
       }
 
   -- a CASE, by what its constant is judged
@@ -179,14 +186,18 @@ module _ (text : List ℕ) {s : List ℕ} {end : ℕ} (top : ℕ) (st r : State)
       where
         go : By seen seen
         go p ls (good v) (fit w) e low m = absurd (z w)
-        go p ls (refused fs) (unfit a k w) e low m = (subst (λ (x : List CaseLabel). Marks seen x) (sym (append-nil ls)) m, b .by (refused fs) (unfit a k w))
+        go p ls (refused fs) (unfit a k w) e low m =
+            (subst (λ (x : List CaseLabel). Marks seen x) (sym (append-nil ls)) m, b .by (refused fs) (unfit a k w))
 
     pub label-case : {seen seen′ : List ℕ} → j .number ≡ 0 → Notes (j .word) (n .place) seen seen′ st r → JudgesLabel text s end top seen seen′ st r
     label-case {seen} {seen′} z w = case-by go
       where
         go : By seen seen′
-        go p ls (good v) (fit k) e low m =
-            (case-marks w low m, λ t. subst (λ (x : ℕ). Did (cond (hasCase (j .word) ls) (fault x 12) []) nothing 0 t t st r) (nd .place ∙ e) (case-did w low m t))
+        go p ls (good v) (fit k) e low m = (
+          case-marks w low m,
+          λ t. subst (λ (x : ℕ). Did (cond (hasCase (j .word) ls) (fault x 12) []) nothing 0 t t st r) (nd .place ∙ e)
+              (case-did w low m t),
+        )
         go p ls (refused fs) (unfit a k u) e low m = absurd (k (sym a ∙ z))
 
 -- ---- all labels of a command, and of all commands
@@ -200,12 +211,14 @@ pub record Going (text : List ℕ) (sc : Scope) (seen : List ℕ) (Q : (before :
 module _ (text : List ℕ) {s : List ℕ} {from end top : ℕ} (st₀ : State) where
   abbrev Rest : (y : Listed (LabelAt s) s from end top) (first : List Label) (seen : List ℕ) (st : State) (rest : List Label) → Type 0
   Rest y first seen st rest = let sc = y .scope in Going text sc seen (λ before. (seen′ : List ℕ) (st′ : State)
-      → Marked text sc (before ++ rest) (doubled text sc before rest) seen′ st st′ → Marked text sc (first ++ y .all) (doubled text sc first (y .all)) seen′ st₀ st′)
+      → Marked text sc (before ++ rest) (doubled text sc before rest) seen′ st st′
+      → Marked text sc (first ++ y .all) (doubled text sc first (y .all)) seen′ st₀ st′)
 
   abbrev pub OwnPart : (y : Listed (LabelAt s) s from end top) (first : List Label) (seen : List ℕ) (at : ℕ) (st : State) → Type 0
   OwnPart y first seen at st = Left (LabelAt s) s end at (Rest y first seen st)
 
-  pub own-begin : {seen : List ℕ} (y : Listed (LabelAt s) s from end top) (first : List Label) → Marks seen (labelsOf text (y .scope) first) → OwnPart y first seen from st₀
+  pub own-begin : {seen : List ℕ} (y : Listed (LabelAt s) s from end top) (first : List Label) → Marks seen (labelsOf text (y .scope) first)
+      → OwnPart y first seen from st₀
   own-begin {seen} y first m = left-all (Rest y first seen st₀) (y .row) (record { before = first; marks = m; finish = λ seen′ st′ d. d })
 
   pub own-next : {at next : ℕ} {seen seen₁ : List ℕ} {st r : State} → at < end → NextItem s at end next → JudgesLabel text s next top seen seen₁ st r
@@ -223,17 +236,23 @@ module _ (text : List ℕ) {s : List ℕ} {from end top : ℕ} (st₀ : State) w
       })
 
   pub own-end : {at : ℕ} {seen₀ seen : List ℕ} {st : State} → end ≤ at
-      → ((y : Listed (LabelAt s) s from end top) (first : List Label) → Marks seen₀ (labelsOf text (y .scope) first) → OwnPart y first seen at st) → JudgesCommand text s from end top seen₀ seen st₀ st
+      → ((y : Listed (LabelAt s) s from end top) (first : List Label) → Marks seen₀ (labelsOf text (y .scope) first) → OwnPart y first seen at st)
+      → JudgesCommand text s from end top seen₀ seen st₀ st
   unfolding doubled
   own-end {seen = seen} {st} l p = record {
     by = λ y first m. let k = left-end l (p y first m) in
-        k .finish seen st (record { marks = subst (λ (z : List Label). Marks seen (labelsOf text (y .scope) z)) (sym (append-nil (k .before))) (k .marks); did = λ t. did-none 0 });
+        k .finish seen st (record {
+          marks = subst (λ (z : List Label). Marks seen (labelsOf text (y .scope) z)) (sym (append-nil (k .before))) (k .marks);
+          did = λ t. did-none
+              0;
+        });
   }
 
 among-is : (text : List ℕ) (sc : Scope) (before : List Label) (cs : Commands) → faultsAmong text sc before (marks cs) ≡ labelFaults text sc before cs
 unfolding faultsAmong labelFaults marks
 among-is text sc before T.noCommands = refl
-among-is text sc before (T.andCommand c cs) = ap (λ (z : List Fault). doubled text sc before (labelsBefore c) ++ z) (among-is text sc (before ++ labelsBefore c) cs)
+among-is text sc before (T.andCommand c cs) =
+    ap (λ (z : List Fault). doubled text sc before (labelsBefore c) ++ z) (among-is text sc (before ++ labelsBefore c) cs)
 
 module _ (text : List ℕ) {s : List ℕ} {from end top : ℕ} (st₀ : State) where
   abbrev Others : (y : ReadyLabels s from end top) (seen : List ℕ) (st : State) (rest : List (List Label)) → Type 0
@@ -251,7 +270,8 @@ module _ (text : List ℕ) {s : List ℕ} {from end top : ℕ} (st₀ : State) w
     finish = λ t st′ d. subst (λ (z : List Fault). Did z nothing 0 t t st₀ st′) (among-is text (y .scope) [] (y .commands)) d;
   })
 
-  pub list-next : {at next : ℕ} {sp : Span} {seen seen₁ : List ℕ} {st r : State} → at < end → NextItem s at end next → Spans s next sp → JudgesCommand text s (sp .from) (sp .to) top seen seen₁ st r
+  pub list-next : {at next : ℕ} {sp : Span} {seen seen₁ : List ℕ} {st r : State} → at < end → NextItem s at end next → Spans s next sp
+      → JudgesCommand text s (sp .from) (sp .to) top seen seen₁ st r
       → (y : ReadyLabels s from end top) → ListPart y seen at st → ListPart y seen₁ next r
   unfolding faultsAmong
   list-next {seen₁ = seen₁} {r = r} l n i j y p =
@@ -262,6 +282,7 @@ module _ (text : List ℕ) {s : List ℕ} {from end top : ℕ} (st₀ : State) w
         finish = λ t st′ d. h .finish t st′ (did-as nothing 0 (did-then (k .did t) d) same-refl (λ v z. refl) (omega arith));
       })
 
-  pub list-end : {at : ℕ} {seen : List ℕ} {st : State} → end ≤ at → ((y : ReadyLabels s from end top) → ListPart y seen at st) → JudgesLabels text s from end top st₀ st
+  pub list-end : {at : ℕ} {seen : List ℕ} {st : State} → end ≤ at → ((y : ReadyLabels s from end top) → ListPart y seen at st)
+      → JudgesLabels text s from end top st₀ st
   unfolding faultsAmong
   list-end {at} {seen} {st} l p = record { by = λ y t. left-end l (p y) .finish t st (did-none 0) }

@@ -13,13 +13,13 @@ use Rattle.language.specs.Constants.{judge}
 use Rattle.language.specs.Resolved.{hasCase}
 use Rattle.language.specs.Resolve.{labelsOf}
 use Rattle.language.specs.Faults.{doubled}
-use Rattle.tree.specs.Encoding.{encode, encodeCommands, encodeCommand, encodeLabels, encodeConstant, encodePositive, encodeUnlabelled, encodeRepeats, labelled, repeated}
-use Rattle.compiler.specs.Scope.{Shows, nothing}
+use Rattle.tree.specs.Encoding.{encode, encodeCommands, encodeCommand, encodeLabels, encodeConstant, encodePositive, encodeUnlabelled, encodeRepeats}
+use Rattle.tree.specs.Encoding.{labelled, repeated}
+use Rattle.compiler.specs.Scope.{nothing}
 use Rattle.compiler.specs.declared.steps.State.{State}
 use Rattle.compiler.specs.declared.steps.Here.{Here}
-use Rattle.compiler.specs.Fine.{FineE}
 use Rattle.language.specs.Fine.{Fine, FineCommands, FineCommand, FineLabels, FineUnlabelled, FineRepeats}
-use Rattle.compiler.specs.Walks.{Lies, ReadyE}
+use Rattle.compiler.specs.Walks.{ReadyE}
 use Rattle.compiler.specs.Switching.{labelFaults, ReadyLabels}
 
 abbrev scratch : List ℕ
@@ -81,7 +81,18 @@ ready-labels = record {
   above = omega arith;
   small = list-long;
   shows = nothing refl;
-  fine = (((record { small = λ v e. let z : 5 ≡ v = literal-is e in omega arith; place = λ n e q. let z : _≡_ {A = ℕ} 0 1 = cc in absurd (omega arith) }, tt), tt, tt, record { labels = λ e. omega arith; alone = λ e. refl }), tt);
+  fine = (
+    (
+      (
+        record { small = λ v e. let z : 5 ≡ v = literal-is e in omega arith; place = λ n e q. let z : _≡_ {A = ℕ} 0 1 = cc in absurd (omega arith) },
+        tt,
+      ),
+      tt,
+      tt,
+      record { labels = λ e. omega arith; alone = λ e. refl },
+    ),
+    tt,
+  );
 }
   where
     literal-is : {v : ℕ} → T.literal 5 ≡ T.literal v → 5 ≡ v

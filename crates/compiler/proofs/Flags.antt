@@ -33,7 +33,8 @@ more-other x zero zero n e = absurd (n refl)
 more-other x zero (suc b) n e = let z : (x + 1) / 2 ≡ x / 2 = omega arith in bit-half (x + 1) b ∙ ap (λ (y : ℕ). bit y b) z ∙ sym (bit-half x b)
 more-other x (suc a) zero n e = omega (arith, pow-suc 2 a)
 more-other x (suc a) (suc b) n e =
-    bit-half (x + 2 ^ suc a) b ∙ ap (λ (z : ℕ). bit z b) (half-more x a) ∙ more-other (x / 2) a b (λ q. n (ap suc q)) (sym (bit-half x a) ∙ e) ∙ sym (bit-half x b)
+    bit-half (x + 2 ^ suc a) b ∙ ap (λ (z : ℕ). bit z b) (half-more x a) ∙ more-other (x / 2) a b (λ q. n (ap suc q)) (sym (bit-half x a) ∙ e) ∙ sym
+    (bit-half x b)
 
 more-small : (n x a : ℕ) → a < n → x < 2 ^ n → bit x a ≡ 0 → x + 2 ^ a < 2 ^ n
 more-small zero x a l s e = absurd (omega arith)
@@ -50,7 +51,8 @@ pub flag-beyond : (seen : List ℕ) (i : ℕ) → length seen ≤ i / 8 → flag
 flag-beyond seen i l = ap (λ (x : ℕ). x / 2 ^ (i % 8) % 2) (List·getD-eq-default seen 0 l) ∙ nothing (2 ^ (i % 8))
 
 pub flag-none : {seen : List ℕ} {n : ℕ} (i : ℕ) → seen ≡ replicate n 0 → i / 8 < n → flag seen i ≡ 0
-flag-none {n = n} i e l = ap (λ (x : List ℕ). flag x i) e ∙ ap (λ (x : ℕ). x / 2 ^ (i % 8) % 2) (getD-replicate {A = ℕ} n (i / 8) 0 0 l) ∙ nothing (2 ^ (i % 8))
+flag-none {n = n} i e l =
+    ap (λ (x : List ℕ). flag x i) e ∙ ap (λ (x : ℕ). x / 2 ^ (i % 8) % 2) (getD-replicate {A = ℕ} n (i / 8) 0 0 l) ∙ nothing (2 ^ (i % 8))
 
 -- an entry with one flag more
 module _ (seen : List ℕ) (i : ℕ) {x p : ℕ} (ex : x ≡ getD seen (i / 8) 0) (ep : p ≡ 2 ^ (i % 8)) (e : x / p % 2 ≡ 0) where
@@ -62,7 +64,8 @@ module _ (seen : List ℕ) (i : ℕ) {x p : ℕ} (ex : x ≡ getD seen (i / 8) 0
 
   pub flag-here : i / 8 < length seen → flag (set seen (i / 8) (x + p)) i ≡ 1
   flag-here l =
-      ap (λ (y : ℕ). bit y (i % 8)) (getD-set-same seen (i / 8) (x + p) 0 l ∙ ap (λ (k : ℕ). x + k) ep) ∙ more-here x (i % 8) (ap (λ (k : ℕ). x / k % 2) (sym ep) ∙ e)
+      ap (λ (y : ℕ). bit y (i % 8)) (getD-set-same seen (i / 8) (x + p) 0 l ∙ ap (λ (k : ℕ). x + k) ep) ∙ more-here x (i % 8)
+      (ap (λ (k : ℕ). x / k % 2) (sym ep) ∙ e)
 
   pub flag-other : i / 8 < length seen → (k : ℕ) → (k ≡ i → ⊥) → flag (set seen (i / 8) (x + p)) k ≡ flag seen k
   flag-other l k n = go (eqb (k / 8) (i / 8)) refl

@@ -15,7 +15,8 @@ use Rattle.language.specs.Tree.{Name, Constant, Expression, Expressions, Comman
 use Rattle.language.specs.Binding.{isGuard, isLeave}
 use Rattle.language.specs.Fine.{FineUnlabelled}
 use Rattle.tree.specs.Encoding as O
-use Rattle.tree.specs.Encoding.{encode, encodeName, encodeBy, encodeCommand, encodeCommands, encodeExpressions, encodeSides, encodeFirst, encodeLocals, encodeUnlabelled, suffixedKind}
+use Rattle.tree.specs.Encoding.{encode, encodeName, encodeBy, encodeCommand, encodeCommands, encodeExpressions, encodeSides, encodeFirst}
+use Rattle.tree.specs.Encoding.{encodeLocals, encodeUnlabelled, suffixedKind}
 use Rattle.compiler.specs.declared.steps.State.{State}
 use Rattle.compiler.specs.declared.steps.Here.{Here}
 use Rattle.compiler.specs.declared.steps.Node.{Node}
@@ -56,7 +57,8 @@ none-of k m = let z : _≡_ {A = ℕ} 0 1 = cc in absurd (omega arith)
 pub guard-word : (w : ℕ) → isGuard w ≡ true → GuardWord w
 unfolding isGuard
 guard-word w m =
-    one-of GuardWord w K.IF _ m ifWord (λ m. one-of GuardWord w K.UNLESS _ m unlessWord (λ m. one-of GuardWord w K.WHILE _ m whileWord (λ m. one-of GuardWord w K.UNTIL _ m untilWord (none-of w))))
+    one-of GuardWord w K.IF _ m ifWord (λ m. one-of GuardWord w K.UNLESS _ m unlessWord
+    (λ m. one-of GuardWord w K.WHILE _ m whileWord (λ m. one-of GuardWord w K.UNTIL _ m untilWord (none-of w))))
 
 pub leave-word : (w : ℕ) → isLeave w ≡ true → LeaveWord w
 unfolding isLeave
@@ -68,22 +70,32 @@ leave-word w m =
 
 module _ (s : List ℕ) (lo end : ℕ) where
   pub data Form : ℕ → Unlabelled → Type 0 where
-    anAssignment : {ls rs : Expressions} → Lies s lo (encodeSides ls ++ encodeExpressions rs) → getD s (end - 3) 0 ≡ length (encodeFirst ls) → getD s (end - 2) 0 ≡ length (encodeSides ls)
-        → getD s (end - 4) 0 ≡ length (encodeSides ls ++ encodeExpressions rs) → end ≡ lo + length (encodeSides ls ++ encodeExpressions rs) + 4 → Form K.ASSIGN (T.assignment ls rs)
+    anAssignment : {ls rs : Expressions} → Lies s lo (encodeSides ls ++ encodeExpressions rs) → getD s (end - 3) 0 ≡ length (encodeFirst ls)
+        → getD s (end - 2) 0 ≡ length (encodeSides ls)
+        → getD s (end - 4) 0 ≡ length (encodeSides ls ++ encodeExpressions rs) → end ≡ lo + length (encodeSides ls ++ encodeExpressions rs) + 4
+        → Form K.ASSIGN (T.assignment ls rs)
     aCall : {e : Expression} → Lies s lo (encode e) → end ≡ lo + length (encode e) → isCall e ≡ true → Form O.CALLED (T.callCommand e)
     aTest : {e : Expression} {c d : Command} → Lies s lo (encode e ++ (encodeCommand c ++ encodeCommand d))
         → end ≡ lo + length (encode e ++ (encodeCommand c ++ encodeCommand d)) + 4 → Form K.TEST (T.test e c d)
-    anIf : {e : Expression} {c : Command} → Lies s lo (encode e ++ encodeCommand c) → end ≡ lo + length (encode e ++ encodeCommand c) + 4 → Form K.IF (T.guarded K.IF e c)
-    anUnless : {e : Expression} {c : Command} → Lies s lo (encode e ++ encodeCommand c) → end ≡ lo + length (encode e ++ encodeCommand c) + 4 → Form K.UNLESS (T.guarded K.UNLESS e c)
-    aWhile : {e : Expression} {c : Command} → Lies s lo (encode e ++ encodeCommand c) → end ≡ lo + length (encode e ++ encodeCommand c) + 4 → Form K.WHILE (T.guarded K.WHILE e c)
-    anUntil : {e : Expression} {c : Command} → Lies s lo (encode e ++ encodeCommand c) → end ≡ lo + length (encode e ++ encodeCommand c) + 4 → Form K.UNTIL (T.guarded K.UNTIL e c)
-    aFor : {n : Name} {e d : Expression} {k : Option Constant} {c : Command} → Lies s lo (encodeName n ++ (encode e ++ (encode d ++ (encodeBy k ++ encodeCommand c))))
-        → getD s (end - 3) 0 ≡ length (encodeBy k) → end ≡ lo + length (encodeName n ++ (encode e ++ (encode d ++ (encodeBy k ++ encodeCommand c)))) + 4 → Form K.FOR (T.for n e d k c)
+    anIf : {e : Expression} {c : Command} → Lies s lo (encode e ++ encodeCommand c) → end ≡ lo + length (encode e ++ encodeCommand c) + 4
+        → Form K.IF (T.guarded K.IF e c)
+    anUnless : {e : Expression} {c : Command} → Lies s lo (encode e ++ encodeCommand c) → end ≡ lo + length (encode e ++ encodeCommand c) + 4
+        → Form K.UNLESS (T.guarded K.UNLESS e c)
+    aWhile : {e : Expression} {c : Command} → Lies s lo (encode e ++ encodeCommand c) → end ≡ lo + length (encode e ++ encodeCommand c) + 4
+        → Form K.WHILE (T.guarded K.WHILE e c)
+    anUntil : {e : Expression} {c : Command} → Lies s lo (encode e ++ encodeCommand c) → end ≡ lo + length (encode e ++ encodeCommand c) + 4
+        → Form K.UNTIL (T.guarded K.UNTIL e c)
+    aFor : {n : Name} {e d : Expression} {k : Option Constant} {c : Command}
+        → Lies s lo (encodeName n ++ (encode e ++ (encode d ++ (encodeBy k ++ encodeCommand c))))
+        → getD s (end - 3) 0 ≡ length (encodeBy k)
+        → end ≡ lo + length (encodeName n ++ (encode e ++ (encode d ++ (encodeBy k ++ encodeCommand c)))) + 4 → Form K.FOR (T.for n e d k c)
     aSwitch : {e : Expression} {cs : Commands} → Lies s lo (encode e ++ encodeCommands cs) → getD s (end - 3) 0 ≡ length (encode e)
         → end ≡ lo + length (encode e ++ encodeCommands cs) + 4 → Form K.SWITCHON (T.switchon e cs)
-    aResult : {p : ℕ} {e : Expression} → getD s (end - 2) 0 ≡ p → Lies s lo (encode e) → end ≡ lo + length (encode e) + 4 → Form K.RESULTIS (T.resultis p e)
+    aResult : {p : ℕ} {e : Expression} → getD s (end - 2) 0 ≡ p → Lies s lo (encode e) → end ≡ lo + length (encode e) + 4
+        → Form K.RESULTIS (T.resultis p e)
     aBlock : {ls : Locals} {cs : Commands} → Lies s lo (encodeLocals ls ++ encodeCommands cs) → getD s (end - 3) 0 ≡ length (encodeLocals ls)
-        → getD s (end - 4) 0 ≡ length (encodeLocals ls ++ encodeCommands cs) → end ≡ lo + length (encodeLocals ls ++ encodeCommands cs) + 4 → Form K.BEGIN (T.block ls cs)
+        → getD s (end - 4) 0 ≡ length (encodeLocals ls ++ encodeCommands cs) → end ≡ lo + length (encodeLocals ls ++ encodeCommands cs) + 4
+        → Form K.BEGIN (T.block ls cs)
     anEndcase : {p : ℕ} → getD s (end - 2) 0 ≡ p → Form K.ENDCASE (T.leave K.ENDCASE p)
     aBreak : {p : ℕ} → getD s (end - 2) 0 ≡ p → Form K.BREAK (T.leave K.BREAK p)
     aLoop : {p : ℕ} → getD s (end - 2) 0 ≡ p → Form K.LOOP (T.leave K.LOOP p)
@@ -112,7 +124,8 @@ module _ (s : List ℕ) (lo end : ℕ) where
   so : {k : ℕ} {u : Unlabelled} → getD s (end - 1) 0 ≡ k → Form k u → Form (getD s (end - 1) 0) u
   so {u = u} q c = subst (λ (n : ℕ). Form n u) (sym q) c
 
-  guard-form : {w : ℕ} {e : Expression} {c : Command} → GuardWord w → Lies s lo (encode e ++ encodeCommand c) → end ≡ lo + length (encode e ++ encodeCommand c) + 4 → Form w (T.guarded w e c)
+  guard-form : {w : ℕ} {e : Expression} {c : Command} → GuardWord w → Lies s lo (encode e ++ encodeCommand c)
+      → end ≡ lo + length (encode e ++ encodeCommand c) + 4 → Form w (T.guarded w e c)
   guard-form ifWord h q = anIf h q
   guard-form unlessWord h q = anUnless h q
   guard-form whileWord h q = aWhile h q
@@ -136,28 +149,40 @@ module _ (s : List ℕ) (lo end : ℕ) where
   called-kind (T.monadic p o d) f h q = let z : _≡_ {A = ℕ} 0 1 = cc in absurd (omega arith)
   called-kind (T.dyadic d os) f h q = let z : _≡_ {A = ℕ} 0 1 = cc in absurd (omega arith)
   called-kind (T.suffixed d ss) f h q =
-      kind-is (encode d ++ O.encodeSuffixes ss) (length (encode d)) (placeOf d) (suffixedKind (endsInCall false ss)) h q ∙ ap (λ (b : Bool). cond b O.CALLED O.SUFFIXED) f
+      kind-is (encode d ++ O.encodeSuffixes ss) (length (encode d)) (placeOf d) (suffixedKind (endsInCall false ss)) h q ∙ ap
+      (λ (b : Bool). cond b O.CALLED O.SUFFIXED) f
 
   pub form-of : (u : Unlabelled) → FinePlain u → Lies s lo (encodeUnlabelled u) → end ≡ lo + length (encodeUnlabelled u) → Form (getD s (end - 1) 0) u
   unfolding FineUnlabelled encodeUnlabelled
   form-of T.empty f h q = absurd (f .1 refl)
   form-of (T.assignment ls rs) f h q =
       let w = encodeSides ls ++ encodeExpressions rs in let v = length (encodeFirst ls) in let p = length (encodeSides ls) in
-      so (kind-is w v p K.ASSIGN h q) (anAssignment (kid w v p K.ASSIGN h q) (value-is w v p K.ASSIGN h q) (place-is w v p K.ASSIGN h q) (size-is w v p K.ASSIGN h q) (ends w v p K.ASSIGN h q))
+      so (kind-is w v p K.ASSIGN h q)
+      (anAssignment (kid w v p K.ASSIGN h q) (value-is w v p K.ASSIGN h q) (place-is w v p K.ASSIGN h q) (size-is w v p K.ASSIGN h q)
+      (ends w v p K.ASSIGN h q))
   form-of (T.callCommand e) f h q = so (called-kind e (f .0 .1) h q) (aCall h q (f .0 .1))
-  form-of (T.test e c d) f h q = let w = encode e ++ (encodeCommand c ++ encodeCommand d) in so (kind-is w 0 0 K.TEST h q) (aTest (kid w 0 0 K.TEST h q) (ends w 0 0 K.TEST h q))
-  form-of (T.guarded v e c) f h q = let w = encode e ++ encodeCommand c in so (kind-is w 0 0 v h q) (guard-form (guard-word v (f .0 .2)) (kid w 0 0 v h q) (ends w 0 0 v h q))
+  form-of (T.test e c d) f h q =
+      let w = encode e ++ (encodeCommand c ++ encodeCommand d) in
+      so (kind-is w 0 0 K.TEST h q) (aTest (kid w 0 0 K.TEST h q) (ends w 0 0 K.TEST h q))
+  form-of (T.guarded v e c) f h q =
+      let w = encode e ++ encodeCommand c in
+      so (kind-is w 0 0 v h q) (guard-form (guard-word v (f .0 .2)) (kid w 0 0 v h q) (ends w 0 0 v h q))
   form-of (T.for n e d k c) f h q =
       let w = encodeName n ++ (encode e ++ (encode d ++ (encodeBy k ++ encodeCommand c))) in let v = length (encodeBy k) in
       so (kind-is w v 0 K.FOR h q) (aFor (kid w v 0 K.FOR h q) (value-is w v 0 K.FOR h q) (ends w v 0 K.FOR h q))
   form-of (T.switchon e cs) f h q =
       let w = encode e ++ encodeCommands cs in let v = length (encode e) in
       so (kind-is w v 0 K.SWITCHON h q) (aSwitch (kid w v 0 K.SWITCHON h q) (value-is w v 0 K.SWITCHON h q) (ends w v 0 K.SWITCHON h q))
-  form-of (T.resultis p e) f h q = so (kind-is (encode e) 0 p K.RESULTIS h q) (aResult (place-is (encode e) 0 p K.RESULTIS h q) (kid (encode e) 0 p K.RESULTIS h q) (ends (encode e) 0 p K.RESULTIS h q))
+  form-of (T.resultis p e) f h q =
+      so (kind-is (encode e) 0 p K.RESULTIS h q)
+      (aResult (place-is (encode e) 0 p K.RESULTIS h q) (kid (encode e) 0 p K.RESULTIS h q) (ends (encode e) 0 p K.RESULTIS h q))
   form-of (T.leave w p) f h q = so (kind-is [] 0 p w h q) (leave-form (leave-word w (f .0)) (place-is [] 0 p w h q))
   form-of (T.block ls cs) f h q =
       let w = encodeLocals ls ++ encodeCommands cs in let v = length (encodeLocals ls) in
-      so (kind-is w v 0 K.BEGIN h q) (aBlock (kid w v 0 K.BEGIN h q) (value-is w v 0 K.BEGIN h q) (size-is w v 0 K.BEGIN h q) (ends w v 0 K.BEGIN h q))
+      so (kind-is w v 0 K.BEGIN h q)
+      (aBlock (kid w v 0 K.BEGIN h q) (value-is w v 0 K.BEGIN h q) (size-is w v 0 K.BEGIN h q) (ends w v 0 K.BEGIN h q))
 
-pub form-at : {s : List ℕ} {end k : ℕ} {here : Here} {st : State} (n : Node) → NodeAt s end n → n .kind ≡ k → (y : ReadyU s end here st) → Form s (y .lo) end k (y .tree)
-form-at {s} {end} n nd q y = subst (λ (k : ℕ). Form s (y .lo) end k (y .tree)) (sym (nd .kind) ∙ q) (form-of s (y .lo) end (y .tree) (y .fine) (y .lies) (y .ends))
+pub form-at : {s : List ℕ} {end k : ℕ} {here : Here} {st : State} (n : Node) → NodeAt s end n → n .kind ≡ k → (y : ReadyU s end here st)
+    → Form s (y .lo) end k (y .tree)
+form-at {s} {end} n nd q y =
+    subst (λ (k : ℕ). Form s (y .lo) end k (y .tree)) (sym (nd .kind) ∙ q) (form-of s (y .lo) end (y .tree) (y .fine) (y .lies) (y .ends))

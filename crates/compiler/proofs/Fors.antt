@@ -101,8 +101,10 @@ says-word (fit e) = refl
 says-word (unfit e n w) = w
 
 -- refusals alone, after what was done
-did-judged : {fs gs : List Fault} {f : ℕ → Code} {m : ℕ} {t t₁ : List ℕ} {st a b : State} → Did fs f m t t₁ st a → Did gs nothing 0 t₁ t₁ a b → Did (fs ++ gs) f m t t₁ st b
-did-judged {f = f} {m} x y = did-as f m (did-then x y) same-refl (λ n e. code-is (append-nil (f n .items)) (append-nil (f n .heights)) (omega arith)) (omega arith)
+did-judged : {fs gs : List Fault} {f : ℕ → Code} {m : ℕ} {t t₁ : List ℕ} {st a b : State} → Did fs f m t t₁ st a → Did gs nothing 0 t₁ t₁ a b
+    → Did (fs ++ gs) f m t t₁ st b
+did-judged {f = f} {m} x y =
+    did-as f m (did-then x y) same-refl (λ n e. code-is (append-nil (f n .items)) (append-nil (f n .heights)) (omega arith)) (omega arith)
 
 abbrev tests : (L h by : ℕ) → List I.Item
 tests L h by = I.label L ∷ G.LIP h ∷ G.LIP (h + 1) ∷ G.X (G.limitAct by) ∷ G.FL (L + 2) ∷ []
@@ -112,35 +114,46 @@ steps L h by = I.label (L + 1) ∷ G.LIP h ∷ G.A by ∷ G.SP h ∷ G.JL L ∷ 
 
 for-shape : (e a f b t c p : List I.Item) → (((((e ++ a) ++ f) ++ b) ++ t) ++ c) ++ p ≡ e ++ (a ++ (f ++ (b ++ (t ++ (c ++ p)))))
 for-shape e a f b t c p =
-    append-assoc ((((e ++ a) ++ f) ++ b) ++ t) c p ∙ append-assoc (((e ++ a) ++ f) ++ b) t (c ++ p) ∙ append-assoc ((e ++ a) ++ f) b (t ++ (c ++ p)) ∙ append-assoc (e ++ a) f (b ++ (t ++ (c ++ p))) ∙ append-assoc e a (f ++ (b ++ (t ++ (c ++ p))))
+    append-assoc ((((e ++ a) ++ f) ++ b) ++ t) c p ∙ append-assoc (((e ++ a) ++ f) ++ b) t (c ++ p) ∙ append-assoc ((e ++ a) ++ f) b (t ++ (c ++ p))
+    ∙ append-assoc (e ++ a) f (b ++ (t ++ (c ++ p))) ∙ append-assoc e a (f ++ (b ++ (t ++ (c ++ p))))
 
 heights-shape : (e a f b c : List ℕ) → (((e ++ a) ++ f) ++ b) ++ c ≡ (e ++ (a ++ f)) ++ (b ++ c)
 heights-shape e a f b c = append-assoc ((e ++ a) ++ f) b c ∙ ap (λ (z : List ℕ). z ++ (b ++ c)) (append-assoc e a f)
 
-module _ {s : List ℕ} {end : ℕ} {here : Here} {st : State} (n b l : Node) {le : ℕ} (nd : NodeAt s end n) (bd : NodeAt s (n .inner) b) (el : le ≡ b .start - n .value) (ld : NodeAt s le l) (q : getD s (end - 1) 0 ≡ K.FOR) where
+module _ {s : List ℕ} {end : ℕ} {here : Here} {st : State} (n b l : Node) {le : ℕ} (nd : NodeAt s end n) (bd : NodeAt s (n .inner) b)
+    (el : le ≡ b .start - n .value) (ld : NodeAt s le l) (q : getD s (end - 1) 0 ≡ K.FOR) where
   pub for-is : (y : ReadyU s end here st) → IsFor s (y .lo) end (y .tree)
   for-is y = is-for (form-at n nd (nd .kind ∙ q) y)
 
-  pub for-fine : (y : ReadyU s end here st) → let u = for-is y in FineE (u .start) × FineE (u .limit) × FineBy (u .by) × FineC (u .body) × FineName (u .name)
+  pub for-fine : (y : ReadyU s end here st)
+      → let u = for-is y in FineE (u .start) × FineE (u .limit) × FineBy (u .by) × FineC (u .body) × FineName (u .name)
   unfolding FineUnlabelled
   for-fine y = subst FinePlain (for-is y .same) (y .fine) .0
 
-  pub for-deep : (y : ReadyU s end here st) → let u = for-is y in (depth (u .start) ≤ here .left) × (depth (u .limit) ≤ here .left) × (commandDepth (u .body) ≤ here .left)
+  pub for-deep : (y : ReadyU s end here st)
+      → let u = for-is y in (depth (u .start) ≤ here .left) × (depth (u .limit) ≤ here .left) × (commandDepth (u .body) ≤ here .left)
   unfolding unlabelledDepth
-  for-deep y = let e = ap unlabelledDepth (for-is y .same) in (omega (arith, y .shallow, e), omega (arith, y .shallow, e), omega (arith, y .shallow, e))
+  for-deep y =
+      let e = ap unlabelledDepth (for-is y .same) in
+      (omega (arith, y .shallow, e), omega (arith, y .shallow, e), omega (arith, y .shallow, e))
 
   -- where its name's leaf, its body, its limit and its first value stand
   pub for-start : (y : ReadyU s end here st) → n .start ≡ y .lo
   for-start y = nd .start ∙ sym (closed-start {end = end} (unlabelled-closed (y .tree) (y .fine)) (y .lies) (y .ends) .0)
 
-  pub for-body-start : (y : ReadyU s end here st) → let u = for-is y in b .start ≡ y .lo + 4 + length (encode (u .start)) + length (encode (u .limit)) + length (encodeBy (u .by))
-  for-body-start y = let u = for-is y in bd .start ∙ sym (closed-start {end = n .inner} (command-closed (u .body) (for-fine y .3)) (u .lies-body) (omega (arith, nd .inner, u .ends)) .0)
+  pub for-body-start : (y : ReadyU s end here st)
+      → let u = for-is y in b .start ≡ y .lo + 4 + length (encode (u .start)) + length (encode (u .limit)) + length (encodeBy (u .by))
+  for-body-start y =
+      let u = for-is y in
+      bd .start ∙ sym (closed-start {end = n .inner} (command-closed (u .body) (for-fine y .3)) (u .lies-body) (omega (arith, nd .inner, u .ends)) .0)
 
   pub for-limit-end : (y : ReadyU s end here st) → let u = for-is y in le ≡ y .lo + 4 + length (encode (u .start)) + length (encode (u .limit))
   for-limit-end y = let u = for-is y in omega (arith, el, for-body-start y, nd .value, u .value-of)
 
   pub for-limit-start : (y : ReadyU s end here st) → l .start ≡ y .lo + 4 + length (encode (for-is y .start))
-  for-limit-start y = let u = for-is y in ld .start ∙ sym (closed-start {end = le} (expression-closed (u .limit)) (u .lies-limit) (for-limit-end y) .0)
+  for-limit-start y =
+      let u = for-is y in
+      ld .start ∙ sym (closed-start {end = le} (expression-closed (u .limit)) (u .lies-limit) (for-limit-end y) .0)
 
   -- room for its mark and its name
   pub for-room : (y : ReadyU s end here st) → here .top + 4 ≤ y .base
@@ -148,18 +161,25 @@ module _ {s : List ℕ} {end : ℕ} {here : Here} {st : State} (n b l : Node) {l
 
   abbrev pub for-first : {a : State} → Fresh 3 st a → ReadyU s end here st → ReadyE s (l .start) here a
   for-first {a} e y = let u = for-is y in
-      sub encode depth FineE y keeps-all (l .start) (y .lo + 4) here a (u .start) (u .lies-start) (for-limit-start y) (omega arith) (omega (arith, for-limit-start y, u .ends)) refl refl
-      (omega (arith, y .height, y .ends, u .ends)) (omega (arith, y .label, y .ends, u .ends, e .label)) (omega (arith, e .label)) (for-deep y .0) (for-fine y .0)
+      sub encode depth FineE y keeps-all (l .start) (y .lo + 4) here a (u .start) (u .lies-start) (for-limit-start y) (omega arith)
+      (omega (arith, for-limit-start y, u .ends)) refl refl
+      (omega (arith, y .height, y .ends, u .ends)) (omega (arith, y .label, y .ends, u .ends, e .label)) (omega (arith, e .label)) (for-deep y .0)
+      (for-fine y .0)
 
-  module _ (text : List ℕ) {s₁ t t₁ t₂ : List ℕ} {a c d : State} (e : Fresh 3 st a) (g : GaveE text s s₁ (l .start) here t t₁ a c) (f : Emits (G.SP (here .height) ∷ []) ((here .height + 1) ∷ []) t₁ t₂ c d) where
+  module _ (text : List ℕ) {s₁ t t₁ t₂ : List ℕ} {a c d : State} (e : Fresh 3 st a) (g : GaveE text s s₁ (l .start) here t t₁ a c)
+      (f : Emits (G.SP (here .height) ∷ []) ((here .height + 1) ∷ []) t₁ t₂ c d) where
     abbrev pub for-limit : ReadyU s end here st → ReadyE s₁ le (raised 1 here) d
     for-limit y = let u = for-is y in let x = g .by (for-first e y) in
-        sub encode depth FineE y (x .keeps) le (y .lo + 4 + length (encode (u .start))) (raised 1 here) d (u .limit) (u .lies-limit) (for-limit-end y) (omega arith) (omega (arith, for-limit-end y, u .ends)) refl refl
-        (omega (arith, y .height, y .ends, u .ends)) (omega (arith, y .label, y .ends, u .ends, e .label, x .did .few, f .label)) (omega (arith, e .label, x .did .grows, f .label)) (for-deep y .1) (for-fine y .1)
+        sub encode depth FineE y (x .keeps) le (y .lo + 4 + length (encode (u .start))) (raised 1 here) d (u .limit) (u .lies-limit) (for-limit-end y)
+        (omega arith) (omega (arith, for-limit-end y, u .ends)) refl refl
+        (omega (arith, y .height, y .ends, u .ends)) (omega (arith, y .label, y .ends, u .ends, e .label, x .did .few, f .label))
+        (omega (arith, e .label, x .did .grows, f .label)) (for-deep y .1) (for-fine y .1)
 
-    module _ {s₂ t₃ t₄ : List ℕ} {i j : State} (g₂ : GaveE text s₁ s₂ le (raised 1 here) t₂ t₃ d i) (f₂ : Emits (G.SP (here .height + 1) ∷ []) ((here .height + 1 + 1) ∷ []) t₃ t₄ i j)
+    module _ {s₂ t₃ t₄ : List ℕ} {i j : State} (g₂ : GaveE text s₁ s₂ le (raised 1 here) t₂ t₃ d i)
+        (f₂ : Emits (G.SP (here .height + 1) ∷ []) ((here .height + 1 + 1) ∷ []) t₃ t₄ i j)
         {v : Verdict} (jb : JudgesBy text s₂ le (b .start) (here .top) v) {k : State} (bl : Blames v j k) {t₅ : List ℕ} {m : State}
-        (f₃ : Emits (I.label (st .label) ∷ G.LIP (here .height) ∷ G.LIP (here .height + 1) ∷ G.X (G.limitAct (v .word)) ∷ G.FL (st .label + 2) ∷ []) [] t₄ t₅ k m) where
+        (f₃ : Emits (I.label (st .label) ∷ G.LIP (here .height) ∷ G.LIP (here .height + 1) ∷ G.X (G.limitAct (v .word)) ∷ G.FL (st .label + 2) ∷ [])
+        [] t₄ t₅ k m) where
       pub for-keeps : (y : ReadyU s end here st) → Keeps (y .base) (here .top) s s₂
       for-keeps y = keeps-then (g .by (for-first e y) .keeps) (g₂ .by (for-limit y) .keeps)
 
@@ -174,56 +194,72 @@ module _ {s : List ℕ} {end : ℕ} {here : Here} {st : State} (n b l : Node) {l
       pub for-says : (y : ReadyU s end here st) → Says v (byJudged text (y .scope) (for-is y .by))
       for-says y = let u = for-is y in
           jb .by (y .scope) (u .by) (keeps-shows (for-keeps y) (omega arith) (y .shows)) (for-fine y .2)
-          (keeps-lies (for-keeps y) (omega (arith, y .above, for-limit-end y)) (subst (λ (z : ℕ). Lies s z (encodeBy (u .by))) (sym (for-limit-end y)) (u .lies-by))) (omega (arith, for-body-start y, for-limit-end y))
+          (keeps-lies (for-keeps y) (omega (arith, y .above, for-limit-end y))
+          (subst (λ (z : ℕ). Lies s z (encodeBy (u .by))) (sym (for-limit-end y)) (u .lies-by))) (omega (arith, for-body-start y, for-limit-end y))
 
-      pub for-labels : (y : ReadyU s end here st) → (m .label ≤ st .label + 3 + 2 * length (encode (for-is y .start)) + 2 * length (encode (for-is y .limit))) × (st .label ≤ m .label)
-      for-labels y = let x = g .by (for-first e y) in let z = g₂ .by (for-limit y) in let w = bl .by (byJudged text (y .scope) (for-is y .by)) (for-says y) t₄ in
-          (omega (arith, e .label, x .did .few, f .label, z .did .few, f₂ .label, w .few, f₃ .label), omega (arith, e .label, x .did .grows, f .label, z .did .grows, f₂ .label, w .grows, f₃ .label))
+      pub for-labels : (y : ReadyU s end here st)
+          → (m .label ≤ st .label + 3 + 2 * length (encode (for-is y .start)) + 2 * length (encode (for-is y .limit))) × (st .label ≤ m .label)
+      for-labels y =
+          let x = g .by (for-first e y) in let z = g₂ .by (for-limit y) in let w = bl .by (byJudged text (y .scope) (for-is y .by)) (for-says y) t₄ in (
+            omega (arith, e .label, x .did .few, f .label, z .did .few, f₂ .label, w .few, f₃ .label),
+            omega
+                (arith, e .label, x .did .grows, f .label, z .did .grows, f₂ .label, w .grows, f₃ .label),
+          )
 
-      module _ {s₃ s₄ : List ℕ} {x₄ : ℕ} (p : Pushed s₂ s₃ (here .top) 0 0) (p₂ : PushedName s₃ s₄ (here .top + 2) (n .start) x₄) (ex : x₄ ≡ here .height * 4 + 1) where
+      module _ {s₃ s₄ : List ℕ} {x₄ : ℕ} (p : Pushed s₂ s₃ (here .top) 0 0) (p₂ : PushedName s₃ s₄ (here .top + 2) (n .start) x₄)
+          (ex : x₄ ≡ here .height * 4 + 1) where
         pub for-long : (y : ReadyU s end here st) → y .base ≤ length s₂
         for-long y = omega (arith, y .long, for-keeps y .long)
 
         pub for-block-keeps : (y : ReadyU s end here st) → Keeps (y .base) (here .top) s s₄
         for-block-keeps y = keeps-then (for-keeps y)
-            (named-block-keeps (here .height) (keeps-shows (for-keeps y) (omega arith) (y .shows)) (for-long y) (for-room y) (omega (arith, for-start y, y .above)) p p₂ ex)
+            (named-block-keeps (here .height) (keeps-shows (for-keeps y) (omega arith) (y .shows)) (for-long y) (for-room y)
+            (omega (arith, for-start y, y .above)) p p₂ ex)
 
-        pub for-block-shows : (y : ReadyU s end here st) → Shows s₄ (here .top + 4) (declared (opened (y .scope)) (for-is y .name) (N.local (here .height)))
+        pub for-block-shows : (y : ReadyU s end here st)
+            → Shows s₄ (here .top + 4) (declared (opened (y .scope)) (for-is y .name) (N.local (here .height)))
         for-block-shows y =
             let u = for-is y in let k = for-keeps y in
-            let w = named-block-shows (here .height) (keeps-shows k (omega arith) (y .shows)) (for-long y) (for-room y) (omega (arith, for-start y, y .above)) p p₂ ex in
+            let w = named-block-shows (here .height) (keeps-shows k (omega arith) (y .shows)) (for-long y) (for-room y)
+            (omega (arith, for-start y, y .above)) p p₂ ex in
             subst (λ (i : Name). Shows s₄ (here .top + 4) (declared (opened (y .scope)) i (N.local (here .height)))) (for-name y) w
 
         abbrev pub for-body : ReadyU s end here st → ReadyC s₄ (n .inner) (placed (here .top + 4) (here .height + 2) here) m
-        for-body y = let u = for-is y in let k = for-block-keeps y in let lo′ = y .lo + 4 + length (encode (u .start)) + length (encode (u .limit)) + length (encodeBy (u .by)) in record {
-          base = y .base;
-          lo = lo′;
-          tree = u .body;
-          scope = declared (opened (y .scope)) (u .name) (N.local (here .height));
-          lies = keeps-lies k (omega (arith, y .above)) (u .lies-body);
-          ends = omega (arith, nd .inner, u .ends);
-          above = omega (arith, y .above);
-          long = omega (arith, y .long, k .long);
-          small = omega (arith, y .small, nd .inner);
-          shows = for-block-shows y;
-          room = omega (arith, y .room, y .ends, u .ends);
-          height = omega (arith, y .height, y .ends, u .ends);
-          label = omega (arith, y .label, y .ends, u .ends, for-labels y);
-          some = omega (arith, y .some, for-labels y);
-          strings = y .strings;
-          shallow = for-deep y .2;
-          fine = for-fine y .3;
-        }
+        for-body y =
+            let u = for-is y in let k = for-block-keeps y in
+            let lo′ = y .lo + 4 + length (encode (u .start)) + length (encode (u .limit)) + length (encodeBy (u .by)) in record {
+              base = y .base;
+              lo = lo′;
+              tree = u .body;
+              scope = declared (opened (y .scope)) (u .name) (N.local (here .height));
+              lies = keeps-lies k (omega (arith, y .above)) (u .lies-body);
+              ends = omega (arith, nd .inner, u .ends);
+              above = omega (arith, y .above);
+              long = omega (arith, y .long, k .long);
+              small = omega (arith, y .small, nd .inner);
+              shows = for-block-shows y;
+              room = omega (arith, y .room, y .ends, u .ends);
+              height = omega (arith, y .height, y .ends, u .ends);
+              label = omega (arith, y .label, y .ends, u .ends, for-labels y);
+              some = omega (arith, y .some, for-labels y);
+              strings = y .strings;
+              shallow = for-deep y .2;
+              fine = for-fine y .3;
+            }
 
-        pub for-gave : (ways : Ways) {s₅ t₆ t₇ : List ℕ} {o r : State} → GaveC text s₄ s₅ (n .inner) (placed (here .top + 4) (here .height + 2) here) (inLoop (st .label + 1) (st .label + 2) ways) t₅ t₆ m o
-            → Emits (I.label (st .label + 1) ∷ G.LIP (here .height) ∷ G.A (v .word) ∷ G.SP (here .height) ∷ G.JL (st .label) ∷ I.label (st .label + 2) ∷ []) [] t₆ t₇ o r → GaveU text s s₅ end here ways t t₇ st r
+        pub for-gave : (ways : Ways) {s₅ t₆ t₇ : List ℕ} {o r : State}
+            → GaveC text s₄ s₅ (n .inner) (placed (here .top + 4) (here .height + 2) here) (inLoop (st .label + 1) (st .label + 2) ways) t₅ t₆ m o
+            → Emits
+            (I.label (st .label + 1) ∷ G.LIP (here .height) ∷ G.A (v .word) ∷ G.SP (here .height) ∷ G.JL (st .label) ∷ I.label (st .label + 2) ∷ [])
+            [] t₆ t₇ o r → GaveU text s s₅ end here ways t t₇ st r
         unfolding inUnlabelled unlabelled G.cmdCode ofCmd G.cmdLabels
         for-gave ways {s₅} {t₆} {t₇} {o} {r} g₃ f₄ = record {
           by = λ y.
               let u = for-is y in let x = g .by (for-first e y) in let z = g₂ .by (for-limit y) in let w = g₃ .by (for-body y) in
               let sc = y .scope in let h = here .height in let L = st .label in let S = here .strings in let lv = leavableBy ways here in
               let sc′ = declared (opened sc) (u .name) (N.local h) in
-              let E = expression text sc h (u .start) in let D = expression text sc (h + 1) (u .limit) in let C = command text sc′ (h + 2) (u .body) in let B = byOf text sc (u .by) in let w′ = exits (inLoop (L + 1) (L + 2) ways) in
+              let E = expression text sc h (u .start) in let D = expression text sc (h + 1) (u .limit) in
+              let C = command text sc′ (h + 2) (u .body) in let B = byOf text sc (u .by) in let w′ = exits (inLoop (L + 1) (L + 2) ways) in
               let eb : v .word ≡ B = says-word (for-says y) ∙ by-word text sc (u .by) in
               let eh : h + 1 + 1 ≡ h + 2 = omega arith in
               let ec : L + 3 + (G.exprLabels E + G.exprLabels D) ≡ L + 3 + G.exprLabels E + G.exprLabels D = omega arith in
@@ -231,17 +267,28 @@ module _ {s : List ℕ} {end : ℕ} {here : Here} {st : State} (n b l : Node) {l
               let bf = bl .by (byJudged text sc (u .by)) (for-says y) t₄ in
               let EC = G.exprCode S h (L + 3) E in let DC = G.exprCode S (h + 1) (L + 3 + G.exprLabels E) D in
               let in₃ = (inExpression text sc lv h (u .start) ++ inExpression text sc lv (h + 1) (u .limit)) in
-              subst (λ (i : Unlabelled). Result (inUnlabelled text sc lv h i) (cmdSays here ways (unlabelled text sc h i)) (length (encodeUnlabelled (y .tree))) (y .base) here s s₅ t t₇ st r) (sym (u .same))
+              subst (λ (i : Unlabelled). Result (inUnlabelled text sc lv h i) (cmdSays here ways (unlabelled text sc h i))
+              (length (encodeUnlabelled (y .tree))) (y .base) here s s₅ t t₇ st r) (sym (u .same))
               (record {
                 keeps = after-block (omega arith) (for-block-keeps y) (w .keeps);
                 did = did-at (cmdSays here ways (R.for E D B C)) _
-                    (did-fresh e (did-put (did-then (did-put (did-judged (did-emit (did-then (did-emit (with-ways text sc here ways h (u .start) (x .did)) f) (with-ways text sc here ways (h + 1) (u .limit) (z .did))) f₂) bf) f₃) (w .did)) f₄))
-                    (same-eq (ap (λ (i : List Fault). (in₃ ++ i) ++ inCommand text sc′ (leavableBy (inLoop (L + 1) (L + 2) ways) here) (h + 2) (u .body)) (by-faults text sc (u .by)) ∙ ap (λ (i : Leavable). (in₃ ++ byFaults text sc (u .by)) ++ inCommand text sc′ i (h + 2) (u .body)) ll))
+                    (did-fresh e
+                    (did-put (did-then (did-put (did-judged (did-emit (did-then (did-emit (with-ways text sc here ways h (u .start) (x .did)) f)
+                    (with-ways text sc here ways (h + 1) (u .limit) (z .did))) f₂) bf) f₃) (w .did)) f₄))
+                    (same-eq
+                    (ap (λ (i : List Fault). (in₃ ++ i) ++ inCommand text sc′ (leavableBy (inLoop (L + 1) (L + 2) ways) here) (h + 2) (u .body))
+                    (by-faults text sc (u .by)) ∙ ap
+                    (λ (i : Leavable). (in₃ ++ byFaults text sc (u .by)) ++ inCommand text sc′ i (h + 2) (u .body)) ll))
                     (λ _. code-is
-                    (for-shape EC (G.SP h ∷ []) DC (G.SP (h + 1) ∷ []) (tests L h (v .word)) (G.cmdCode S (h + 2) (L + 3 + (G.exprLabels E + G.exprLabels D)) w′ C) (steps L h (v .word))
-                    ∙ ap (λ (i : ℕ). EC ++ (G.SP h ∷ (DC ++ (G.SP (h + 1) ∷ (tests L h i ++ (G.cmdCode S (h + 2) (L + 3 + (G.exprLabels E + G.exprLabels D)) w′ C ++ steps L h i)))))) eb
+                    (for-shape EC (G.SP h ∷ []) DC (G.SP (h + 1) ∷ []) (tests L h (v .word))
+                    (G.cmdCode S (h + 2) (L + 3 + (G.exprLabels E + G.exprLabels D)) w′ C) (steps L h (v .word))
+                    ∙ ap (λ (i : ℕ). EC
+                    ++ (G.SP h
+                    ∷ (DC
+                    ++ (G.SP (h + 1) ∷ (tests L h i ++ (G.cmdCode S (h + 2) (L + 3 + (G.exprLabels E + G.exprLabels D)) w′ C ++ steps L h i)))))) eb
                     ∙ ap (λ (i : ℕ). EC ++ (G.SP h ∷ (DC ++ (G.SP (h + 1) ∷ (tests L h B ++ (G.cmdCode S (h + 2) i w′ C ++ steps L h B)))))) ec)
-                    (heights-shape (ofExpr h E) ((h + 1) ∷ []) (ofExpr (h + 1) D) ((h + 1 + 1) ∷ []) (ofCmd (h + 2) C) ∙ ap (λ (i : ℕ). (ofExpr h E ++ ((h + 1) ∷ ofExpr (h + 1) D)) ++ (i ∷ ofCmd (h + 2) C)) eh)
+                    (heights-shape (ofExpr h E) ((h + 1) ∷ []) (ofExpr (h + 1) D) ((h + 1 + 1) ∷ []) (ofCmd (h + 2) C) ∙ ap
+                    (λ (i : ℕ). (ofExpr h E ++ ((h + 1) ∷ ofExpr (h + 1) D)) ++ (i ∷ ofCmd (h + 2) C)) eh)
                     (omega arith))
                     (omega (arith, y .ends, u .ends));
               });

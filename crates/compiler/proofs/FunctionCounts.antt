@@ -11,7 +11,6 @@ use Rattle.tree.specs.Encoding.{encodeProgram}
 use Rattle.compiler.specs.Walks.{Lies}
 use Rattle.compiler.specs.Groups.{functionCount, CountsFunctions, CountsGroup}
 use Rattle.compiler.specs.Programs.{encodeDeclared, declaredWord}
-use Rattle.compiler.proofs.Trees.{first, second}
 use Rattle.compiler.proofs.Lists.{First, first-of}
 
 pub program-step : (d : Declaration) (p : Program)
@@ -36,7 +35,8 @@ is-declaration {s} {at} (d ∷ p) h e l =
 pub no-declaration : {at end : ℕ} (p : Program) → end ≡ at + length (encodeProgram p) → end ≤ at → p ≡ []
 no-declaration [] e l = refl
 no-declaration {at} {end} (d ∷ p) e l =
-    absurd (omega (arith, e, ap length (program-step d p), length-append (length (encodeDeclared d) ∷ declaredWord d ∷ encodeDeclared d) (encodeProgram p)))
+    absurd
+    (omega (arith, e, ap length (program-step d p), length-append (length (encodeDeclared d) ∷ declaredWord d ∷ encodeDeclared d) (encodeProgram p)))
 
 -- the functions of one declaration
 abbrev ownCount : Declaration → ℕ
@@ -70,7 +70,8 @@ counted-begin p h e = record { rest = p; lies = h; ends = e; sum = omega arith }
 module _ {s : List ℕ} {from end at n size word : ℕ} (l : at < end) (es : size ≡ getD s at 0) (ew : word ≡ getD s (at + 1) 0)
     (q : Counted s from end at n) where
   -- one more, with so many functions of its own
-  onwards : (m : ℕ) → ((d : Declaration) → word ≡ declaredWord d → Lies s (at + 2) (encodeDeclared d) → size ≡ length (encodeDeclared d) → m ≡ ownCount d)
+  onwards : (m : ℕ)
+      → ((d : Declaration) → word ≡ declaredWord d → Lies s (at + 2) (encodeDeclared d) → size ≡ length (encodeDeclared d) → m ≡ ownCount d)
       → Counted s from end (at + 2 + size) (n + m)
   onwards m own p h e =
       let c = q p h e in

@@ -94,7 +94,8 @@ module _ {s : List ℕ} {end : ℕ} {here : Here} {st : State} (n : Node) (nd : 
           base = y .base;
           scope = opened (y .scope);
           names = y .tree .parameters;
-          lies = subst (λ (i : ℕ). Lies s₁ (i + 4) (encodeNames (y .tree .parameters))) (sym q) (keeps-lies k (omega (arith, y .above)) (u .lies-names));
+          lies = subst (λ (i : ℕ). Lies s₁ (i + 4) (encodeNames (y .tree .parameters))) (sym q)
+              (keeps-lies k (omega (arith, y .above)) (u .lies-names));
           ends = omega (arith, nd .value, u .value-of);
           above = omega (arith, y .above, q);
           long = omega (arith, y .long, k .long);
@@ -160,7 +161,9 @@ module _ {s : List ℕ} {end : ℕ} {here : Here} {st : State} (n : Node) (nd : 
             let h = 2 + length (f .parameters) in let rb = bodyOf text sc h (f .body) in
             record {
               keeps = keeps-then (function-keeps y) (keeps-lower (omega arith) (x .keeps));
-              did = did-as (functionSays text (here .strings) label (y .scope) f) _ (did-after em (did-then (w .did t₁) (did-after top (did-put body pt)))) same-refl
+              did =
+                  did-as (functionSays text (here .strings) label (y .scope) f) _
+                  (did-after em (did-then (w .did t₁) (did-after top (did-put body pt)))) same-refl
                   (λ i e. let q : i + 0 ≡ i = omega arith in
                   code-is (ap (λ (j : ℕ). I.label label ∷ (G.bodyCode (here .strings) h j rb ++ (G.X 4 ∷ []))) q) refl (omega arith))
                   (omega (arith, function-length y));

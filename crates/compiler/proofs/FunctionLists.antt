@@ -1,5 +1,5 @@
 -- The functions of a group, one after another: what each adds to the faults, the code and the heights, and the loop.
-use Prim.Native.Nat.{ℕ, suc, _+_, _*_, _-_, _≤_, _<_, _^_}
+use Prim.Native.Nat.{ℕ, suc, _+_, _*_, _≤_, _<_, _^_}
 use mathlib.Core.Path.{_≡_, refl, sym, ap, subst, _∙_}
 use mathlib.Core.Bool.{Bool, true, false, cond}
 use mathlib.Core.List.{List, [], _∷_, _++_, append-nil, append-assoc}
@@ -22,7 +22,6 @@ use Rattle.tree.specs.Encoding.{encodeName, encodeNames, encodeBody, bodyWord, 
 use Rattle.compiler.specs.Scope.{Keeps}
 use Rattle.compiler.specs.Walked.{Did, Code, least, AllFit, noFit, andFit}
 use Rattle.compiler.specs.Walks.{Lies}
-use Rattle.compiler.specs.Commands.{nothing}
 use Rattle.compiler.specs.Groups.{encodeFunction, functionDepth, FineF, FineFs, functionSays, functionsSays, innerLabels, ReadyF, GaveF}
 use Rattle.compiler.specs.Groups.{ReadyFs, GaveFs}
 use Rattle.compiler.specs.Programs.{Yields}
@@ -185,7 +184,8 @@ functions-step f fs =
     omega (
       arith,
       length-append (encodeFunction f) (encodeFunctions fs),
-      length-append (encodeName (f .name) ++ w) (length (encodeName (f .name) ++ w) ∷ length (encodeNames (f .parameters)) ∷ 0 ∷ bodyWord (f .body) ∷ []),
+      length-append (encodeName (f .name) ++ w)
+          (length (encodeName (f .name) ++ w) ∷ length (encodeNames (f .parameters)) ∷ 0 ∷ bodyWord (f .body) ∷ []),
     )
 
 pub functions-long : (fs : List Function) → 10 * length fs ≤ length (encodeFunctions fs)

@@ -1,5 +1,5 @@
 -- The names of a group: the loop over its functions, and where they start.
-use Prim.Native.Nat.{ℕ, suc, _+_, _*_, _-_, _≤_, _<_, _^_}
+use Prim.Native.Nat.{ℕ, suc, _+_, _*_, _≤_, _<_, _^_}
 use mathlib.Core.Path.{_≡_, refl, sym, ap, subst, _∙_}
 use mathlib.Core.Bool.{Bool, true, false, cond}
 use mathlib.Core.List.{List, [], _∷_, _++_, append-nil, append-assoc}
@@ -21,7 +21,8 @@ use Rattle.compiler.specs.declared.steps.State.{State}
 use Rattle.compiler.specs.Walked.{Did}
 use Rattle.compiler.specs.Walks.{Lies}
 use Rattle.compiler.specs.Commands.{nothing}
-use Rattle.compiler.specs.Groups.{Small, Taken, Starting, startsIn, started, NameFaults, Enters, encodeFunction, FineF, FineFs, ReadyGroup, GroupNames}
+use Rattle.compiler.specs.Groups.{Small, Taken, Starting, startsIn, started, NameFaults, Enters, encodeFunction, FineF, FineFs, ReadyGroup}
+use Rattle.compiler.specs.Groups.{GroupNames}
 use Rattle.compiler.proofs.Scoping.{keeps-all, keeps-then, keeps-lower, keeps-name, Order, lt, ge, order}
 use Rattle.compiler.proofs.Done.{nil-left, nil-right, did-none, did-then, did-as, same-refl}
 use Rattle.compiler.proofs.Trees.{first}
@@ -112,7 +113,8 @@ starting-global {table} {ss} {k} m lm free e z = record { is = is; has = has }
         go (later h) = absurd (nowhere-not (sym (start-after ss (inGlobal m) e h) ∙ q))
 
 -- no fault at the name: its global was free
-starting-more : (place : ℕ) (f : N.Found) {table table′ ns : List ℕ} {ss : List Start} {k : ℕ} → Taken table ns → ((n : ℕ) → f ≡ N.known (N.global n) → n < 400)
+starting-more : (place : ℕ) (f : N.Found) {table table′ ns : List ℕ} {ss : List Start} {k : ℕ} → Taken table ns
+    → ((n : ℕ) → f ≡ N.known (N.global n) → n < 400)
     → nameFault place ns f ≡ [] → table′ ≡ started table k (startOf f) → length ss ≡ k → Starting table ss → Starting table′ (ss ++ (startOf f ∷ []))
 starting-more place f {table} {table′} {ns} {ss} {k} tk b q et e z = subst (λ (x : List ℕ). Starting x (ss ++ (startOf f ∷ []))) (sym et) (go f b q)
   where
@@ -120,7 +122,8 @@ starting-more place f {table} {table′} {ns} {ss} {k} tk b q et e z = subst (λ
     free n l false a q = tk .free n l a
     free n l true a q = let c : length (fault place 9) ≡ 0 = ap length q in absurd (omega arith)
 
-    go : (f : N.Found) → ((n : ℕ) → f ≡ N.known (N.global n) → n < 400) → nameFault place ns f ≡ [] → Starting (started table k (startOf f)) (ss ++ (startOf f ∷ []))
+    go : (f : N.Found) → ((n : ℕ) → f ≡ N.known (N.global n) → n < 400) → nameFault place ns f ≡ []
+        → Starting (started table k (startOf f)) (ss ++ (startOf f ∷ []))
     go N.unknown b q = starting-nowhere e z
     go (N.known (N.local i)) b q = starting-nowhere e z
     go (N.known (N.manifest i)) b q = starting-nowhere e z
@@ -213,8 +216,11 @@ module _ (text : List ℕ) {s₀ table₀ : List ℕ} {from end top before : ℕ
     pub name : FineName (nameAt s (at + 2))
 
   function-name : {s table : List ℕ} {at k now : ℕ} {st : State} (l : at < end)
-      (y : ReadyGroup s₀ table₀ from end top before) (p : GroupPart y s table at k now st) → nameAt s (at + 2) ≡ is-function (p .rest) (p .lies) (p .ends) l .part .name
-  function-name l y p = let u = is-function (p .rest) (p .lies) (p .ends) l in keeps-name (p .keeps) (omega (arith, y .above, p .starts)) ∙ name-of (u .part) (u .lies)
+      (y : ReadyGroup s₀ table₀ from end top before) (p : GroupPart y s table at k now st) → nameAt s (at + 2) ≡ is-function (p .rest) (p .lies)
+      (p .ends) l .part .name
+  function-name l y p =
+      let u = is-function (p .rest) (p .lies) (p .ends) l in
+      keeps-name (p .keeps) (omega (arith, y .above, p .starts)) ∙ name-of (u .part) (u .lies)
 
   pub names-fit : {s table : List ℕ} {at k now : ℕ} {st : State} → at < end
       → (y : ReadyGroup s₀ table₀ from end top before) → GroupPart y s table at k now st → Fits y s table at k now
@@ -232,7 +238,8 @@ module _ (text : List ℕ) {s₀ table₀ : List ℕ} {from end top before : ℕ
         name = subst FineName (sym (function-name l y p)) (fine-first (u .part) (u .more) (subst FineFs (u .same) (p .fine)) .0 .name);
       }
 
-  pub names-next : {s s′ table table′ : List ℕ} {at k now size next m place now′ : ℕ} {st r : State} → at < end → size ≡ getD s at 0 → next ≡ at + 2 + size
+  pub names-next : {s s′ table table′ : List ℕ} {at k now size next m place now′ : ℕ} {st r : State} → at < end → size ≡ getD s at 0
+      → next ≡ at + 2 + size
       → Looked text s now (at + 2) m → place ≡ getD s (at + 4) 0 → NameFaults table m place st r → Enters s s′ table table′ now (at + 2) m k now′
       → (y : ReadyGroup s₀ table₀ from end top before) → GroupPart y s table at k now st → GroupPart y s′ table′ next (k + 1) now′ r
   unfolding functionsAfter takenAfter groupNameFaults startsIn
@@ -266,7 +273,8 @@ module _ (text : List ℕ) {s₀ table₀ : List ℕ} {from end top before : ℕ
         free = e .2;
         scopes = p .scopes ∙ ap (functionsAfter text k sc) (u .same);
         takens = p .takens ∙ ap (takenAfter text k sc (p .taken)) (u .same);
-        faults = p .faults ∙ ap (λ (z : List Function). p .bad ++ groupNameFaults text k sc (p .taken) z) (u .same) ∙ sym (append-assoc (p .bad) fs _);
+        faults = p .faults ∙ ap (λ (z : List Function). p .bad ++ groupNameFaults text k sc (p .taken) z) (u .same) ∙ sym
+            (append-assoc (p .bad) fs _);
         did = λ t.
             did-as nothing 0 (did-then (p .did t)
             (subst (λ (z : ℕ). Did (nameFault z (p .taken) f) nothing 0 t t st r) place-is (nf .by f (p .taken) m-is (p .free) small t)))
@@ -279,7 +287,8 @@ module _ (text : List ℕ) {s₀ table₀ : List ℕ} {from end top before : ℕ
             (starting-more (name .place) f (p .free) small (nil-right (p .bad) fs q) (e .5) long (p .starting (nil-left (p .bad) fs q) ss h z));
       }
 
-  pub names-end : {s table : List ℕ} {at k now : ℕ} {st : State} → end ≤ at → ((y : ReadyGroup s₀ table₀ from end top before) → GroupPart y s table at k now st)
+  pub names-end : {s table : List ℕ} {at k now : ℕ} {st : State} → end ≤ at
+      → ((y : ReadyGroup s₀ table₀ from end top before) → GroupPart y s table at k now st)
       → GroupNames text s₀ s table₀ table from end top before st₀ (record { top = now; state = st })
   unfolding functionsAfter takenAfter groupNameFaults startsIn
   names-end {s} {table} {at} {k} {now} {st} l q = record {

@@ -68,11 +68,13 @@ expression-closed (T.dyadic e os) = shut (encode e ++ O.encodeOperations os) (le
 pub unlabelled-closed : (u : Unlabelled) → FinePlain u → IsClosed (encodeUnlabelled u)
 unfolding FineUnlabelled encodeUnlabelled
 unlabelled-closed T.empty f = absurd (f .1 refl)
-unlabelled-closed (T.assignment ls rs) f = shut (O.encodeSides ls ++ O.encodeExpressions rs) (length (O.encodeFirst ls)) (length (O.encodeSides ls)) 56
+unlabelled-closed (T.assignment ls rs) f =
+    shut (O.encodeSides ls ++ O.encodeExpressions rs) (length (O.encodeFirst ls)) (length (O.encodeSides ls)) 56
 unlabelled-closed (T.callCommand e) f = expression-closed e
 unlabelled-closed (T.test e c d) f = shut (encode e ++ (encodeCommand c ++ encodeCommand d)) 0 0 13
 unlabelled-closed (T.guarded w e c) f = shut (encode e ++ encodeCommand c) 0 0 w
-unlabelled-closed (T.for n e d k c) f = shut (O.encodeName n ++ (encode e ++ (encode d ++ (O.encodeBy k ++ encodeCommand c)))) (length (O.encodeBy k)) 0 23
+unlabelled-closed (T.for n e d k c) f =
+    shut (O.encodeName n ++ (encode e ++ (encode d ++ (O.encodeBy k ++ encodeCommand c)))) (length (O.encodeBy k)) 0 23
 unlabelled-closed (T.switchon e cs) f = shut (encode e ++ O.encodeCommands cs) (length (encode e)) 0 26
 unlabelled-closed (T.resultis p e) f = shut (encode e) 0 p 8
 unlabelled-closed (T.leave w p) f = shut [] 0 p w
@@ -82,9 +84,13 @@ pub command-closed : (c : Command) → FineC c → IsClosed (encodeCommand c)
 unfolding FineCommand encodeCommand O.labelled O.repeated O.encodeLabels O.encodeRepeats
 command-closed (T.command [] u T.noRepeats) f = unlabelled-closed u (f .1, λ z. omega (arith, f .3 .labels z))
 command-closed (T.command [] u (T.repeat rs)) f = shut (encodeUnlabelled u ++ O.encodeRepeats (T.repeat rs)) (length (encodeUnlabelled u)) 0 133
-command-closed (T.command [] u (T.repeatOn w d rs)) f = shut (encodeUnlabelled u ++ O.encodeRepeats (T.repeatOn w d rs)) (length (encodeUnlabelled u)) 0 133
-command-closed (T.command (T.case p c ∷ ls) u rs) f = shut (O.encodeLabels (T.case p c ∷ ls) ++ O.repeated (encodeUnlabelled u) (O.encodeRepeats rs)) (length (O.encodeLabels (T.case p c ∷ ls))) 0 132
-command-closed (T.command (T.default p ∷ ls) u rs) f = shut (O.encodeLabels (T.default p ∷ ls) ++ O.repeated (encodeUnlabelled u) (O.encodeRepeats rs)) (length (O.encodeLabels (T.default p ∷ ls))) 0 132
+command-closed (T.command [] u (T.repeatOn w d rs)) f =
+    shut (encodeUnlabelled u ++ O.encodeRepeats (T.repeatOn w d rs)) (length (encodeUnlabelled u)) 0 133
+command-closed (T.command (T.case p c ∷ ls) u rs) f =
+    shut (O.encodeLabels (T.case p c ∷ ls) ++ O.repeated (encodeUnlabelled u) (O.encodeRepeats rs)) (length (O.encodeLabels (T.case p c ∷ ls))) 0 132
+command-closed (T.command (T.default p ∷ ls) u rs) f =
+    shut (O.encodeLabels (T.default p ∷ ls) ++ O.repeated (encodeUnlabelled u) (O.encodeRepeats rs)) (length (O.encodeLabels (T.default p ∷ ls))) 0
+    132
 
 -- ---- IF and UNLESS
 
@@ -101,7 +107,8 @@ kind-of {s} {x} {lo} u h e =
     let w = u .inner in let v = u .value in let p = u .place in let k = u .kind in
     kind-is w v p k (subst (λ (l : List ℕ). Lies s lo l) (u .is) h) (e ∙ ap (λ (l : List ℕ). lo + length l) (u .is))
 
-pub guarded-of : {s : List ℕ} {lo end w : ℕ} {e : Expression} {c : Command} → Lies s lo (encode e ++ encodeCommand c) → end ≡ lo + length (encode e ++ encodeCommand c) + 4 → IsGuarded s lo end w (T.guarded w e c)
+pub guarded-of : {s : List ℕ} {lo end w : ℕ} {e : Expression} {c : Command} → Lies s lo (encode e ++ encodeCommand c)
+    → end ≡ lo + length (encode e ++ encodeCommand c) + 4 → IsGuarded s lo end w (T.guarded w e c)
 guarded-of {lo = lo} {e = e} {c} h q = record {
   test = e;
   body = c;
@@ -115,17 +122,20 @@ is-guarded : {s : List ℕ} {lo end w : ℕ} {u : Unlabelled} → WhenWord w →
 is-guarded anIf (F.anIf h q) = guarded-of h q
 is-guarded anUnless (F.anUnless h q) = guarded-of h q
 
-when-means : (text : List ℕ) (sc : Scope) (h : ℕ) {w : ℕ} → WhenWord w → (e : Expression) (c : Command) → unlabelled text sc h (T.guarded w e c) ≡ R.when (eqb w 16) (expression text sc h e) (command text sc h c)
+when-means : (text : List ℕ) (sc : Scope) (h : ℕ) {w : ℕ} → WhenWord w → (e : Expression) (c : Command)
+    → unlabelled text sc h (T.guarded w e c) ≡ R.when (eqb w 16) (expression text sc h e) (command text sc h c)
 unfolding unlabelled
 when-means text sc h anIf e c = refl
 when-means text sc h anUnless e c = refl
 
-when-faults : (text : List ℕ) (sc : Scope) (l : Leavable) (h : ℕ) {w : ℕ} → WhenWord w → (e : Expression) (c : Command) → inUnlabelled text sc l h (T.guarded w e c) ≡ inExpression text sc l h e ++ inCommand text sc l h c
+when-faults : (text : List ℕ) (sc : Scope) (l : Leavable) (h : ℕ) {w : ℕ} → WhenWord w → (e : Expression) (c : Command)
+    → inUnlabelled text sc l h (T.guarded w e c) ≡ inExpression text sc l h e ++ inCommand text sc l h c
 unfolding inUnlabelled
 when-faults text sc l h anIf e c = refl
 when-faults text sc l h anUnless e c = refl
 
-module _ {s : List ℕ} {end : ℕ} {here : Here} {st : State} (n b : Node) (nd : NodeAt s end n) (bd : NodeAt s (n .inner) b) (w : WhenWord (getD s (end - 1) 0)) where
+module _ {s : List ℕ} {end : ℕ} {here : Here} {st : State} (n b : Node) (nd : NodeAt s end n) (bd : NodeAt s (n .inner) b)
+    (w : WhenWord (getD s (end - 1) 0)) where
   pub guard-is : (y : ReadyU s end here st) → IsGuarded s (y .lo) end (getD s (end - 1) 0) (y .tree)
   guard-is y = is-guarded w (form-at n nd (nd .kind) y)
 
@@ -144,31 +154,43 @@ module _ {s : List ℕ} {end : ℕ} {here : Here} {st : State} (n b : Node) (nd 
 
   abbrev pub guard-test : {a : State} → Fresh 1 st a → ReadyU s end here st → ReadyE s (b .start) here a
   guard-test {a} e y = let u = guard-is y in
-      sub encode depth FineE y keeps-all (b .start) (y .lo) here a (u .test) (u .lies) (guard-middle y) (omega arith) (omega (arith, guard-middle y, u .ends)) refl refl
-      (omega (arith, y .height, y .ends, u .ends)) (omega (arith, y .label, y .ends, u .ends, e .label)) (omega (arith, e .label)) (guard-deep y .0) (guard-fine y .0)
+      sub encode depth FineE y keeps-all (b .start) (y .lo) here a (u .test) (u .lies) (guard-middle y) (omega arith)
+      (omega (arith, guard-middle y, u .ends)) refl refl
+      (omega (arith, y .height, y .ends, u .ends)) (omega (arith, y .label, y .ends, u .ends, e .label)) (omega (arith, e .label)) (guard-deep y .0)
+      (guard-fine y .0)
 
-  module _ (text : List ℕ) {s₁ t t₁ t₂ : List ℕ} {a c d : State} {j : ℕ} (e : Fresh 1 st a) (g : GaveE text s s₁ (b .start) here t t₁ a c) (f : Emits (G.to j (st .label) ∷ []) [] t₁ t₂ c d) where
+  module _ (text : List ℕ) {s₁ t t₁ t₂ : List ℕ} {a c d : State} {j : ℕ} (e : Fresh 1 st a) (g : GaveE text s s₁ (b .start) here t t₁ a c)
+      (f : Emits (G.to j (st .label) ∷ []) [] t₁ t₂ c d) where
     abbrev pub guard-body : ReadyU s end here st → ReadyC s₁ (n .inner) here d
     guard-body y = let u = guard-is y in let x = g .by (guard-test e y) in
-        sub encodeCommand commandDepth FineC y (x .keeps) (n .inner) (y .lo + length (encode (u .test))) here d (u .body) (u .lies-body) (omega (arith, nd .inner, u .ends)) (omega arith) (omega (arith, nd .inner)) refl refl
-        (omega (arith, y .height, y .ends, u .ends)) (omega (arith, y .label, y .ends, u .ends, e .label, x .did .few, f .label)) (omega (arith, e .label, x .did .grows, f .label)) (guard-deep y .1) (guard-fine y .1)
+        sub encodeCommand commandDepth FineC y (x .keeps) (n .inner) (y .lo + length (encode (u .test))) here d (u .body) (u .lies-body)
+        (omega (arith, nd .inner, u .ends)) (omega arith) (omega (arith, nd .inner)) refl refl
+        (omega (arith, y .height, y .ends, u .ends)) (omega (arith, y .label, y .ends, u .ends, e .label, x .did .few, f .label))
+        (omega (arith, e .label, x .did .grows, f .label)) (guard-deep y .1) (guard-fine y .1)
 
-    pub guard-gave : (ways : Ways) {s₂ t₃ t₄ : List ℕ} {k r : State} → j ≡ cond (eqb (n .kind) 16) 5 4 → GaveC text s₁ s₂ (n .inner) here ways t₂ t₃ d k → Emits (I.label (st .label) ∷ []) [] t₃ t₄ k r → GaveU text s s₂ end here ways t t₄ st r
+    pub guard-gave : (ways : Ways) {s₂ t₃ t₄ : List ℕ} {k r : State} → j ≡ cond (eqb (n .kind) 16) 5 4
+        → GaveC text s₁ s₂ (n .inner) here ways t₂ t₃ d k → Emits (I.label (st .label) ∷ []) [] t₃ t₄ k r → GaveU text s s₂ end here ways t t₄ st r
     unfolding G.cmdCode ofCmd G.cmdLabels
     guard-gave ways {s₂} {t₃} {t₄} {k} {r} ej g₂ f₂ = record {
       by = λ y.
           let u = guard-is y in let x = g .by (guard-test e y) in let z = g₂ .by (guard-body y) in let sc = y .scope in let h = here .height in
           let E = expression text sc h (u .test) in let C = command text sc h (u .body) in let W = getD s (end - 1) 0 in let L = st .label in
           let em = ap (unlabelled text sc h) (u .same) ∙ when-means text sc h w (u .test) (u .body) in
-          let ef = ap (inUnlabelled text sc (leavableBy ways here) h) (u .same) ∙ when-faults text sc (leavableBy ways here) h w (u .test) (u .body) in
+          let ef = ap (inUnlabelled text sc (leavableBy ways here) h) (u .same) ∙ when-faults text sc (leavableBy ways here) h w (u .test) (u .body)
+          in
           let jj : j ≡ cond (eqb W 16) 5 4 = ej ∙ ap (λ (v : ℕ). cond (eqb v 16) 5 4) (nd .kind) in
           record {
             keeps = keeps-then (x .keeps) (z .keeps);
-            did = did-at (cmdSays here ways (unlabelled text sc h (y .tree))) _ (did-fresh e (did-put (did-then (did-put (with-ways text sc here ways h (u .test) (x .did)) f) (z .did)) f₂)) (same-eq (sym ef))
+            did =
+                did-at (cmdSays here ways (unlabelled text sc h (y .tree))) _
+                (did-fresh e (did-put (did-then (did-put (with-ways text sc here ways h (u .test) (x .did)) f) (z .did)) f₂)) (same-eq (sym ef))
                 (λ v. code-is
-                (append-assoc (G.exprCode (here .strings) h (L + 1) E ++ (G.to j L ∷ [])) (G.cmdCode (here .strings) h (L + 1 + G.exprLabels E) (exits ways) C) (I.label L ∷ [])
-                ∙ append-assoc (G.exprCode (here .strings) h (L + 1) E) (G.to j L ∷ []) (G.cmdCode (here .strings) h (L + 1 + G.exprLabels E) (exits ways) C ++ (I.label L ∷ []))
-                ∙ ap (λ (v : ℕ). G.exprCode (here .strings) h (L + 1) E ++ (G.to v L ∷ (G.cmdCode (here .strings) h (L + 1 + G.exprLabels E) (exits ways) C ++ (I.label L ∷ [])))) jj
+                (append-assoc (G.exprCode (here .strings) h (L + 1) E ++ (G.to j L ∷ []))
+                (G.cmdCode (here .strings) h (L + 1 + G.exprLabels E) (exits ways) C) (I.label L ∷ [])
+                ∙ append-assoc (G.exprCode (here .strings) h (L + 1) E) (G.to j L ∷ [])
+                (G.cmdCode (here .strings) h (L + 1 + G.exprLabels E) (exits ways) C ++ (I.label L ∷ []))
+                ∙ ap (λ (v : ℕ). G.exprCode (here .strings) h (L + 1) E
+                ++ (G.to v L ∷ (G.cmdCode (here .strings) h (L + 1 + G.exprLabels E) (exits ways) C ++ (I.label L ∷ [])))) jj
                 ∙ ap (G.cmdCode (here .strings) h L (exits ways)) (sym em))
                 (ap (ofCmd h) (sym em))
                 (omega (arith, ap G.cmdLabels em)))

@@ -1,16 +1,15 @@
 -- The items of GLOBAL and MANIFEST.
-use Prim.Native.Nat.{ℕ, zero, suc, _+_, _*_, _-_, _≤_, _<_, _^_}
+use Prim.Native.Nat.{ℕ, _+_, _*_, _≤_, _<_, _^_}
 use mathlib.Core.Path.{_≡_, refl, sym, ap, subst, _∙_}
-use mathlib.Core.Bool.{Bool, true, false, cond}
+use mathlib.Core.Bool.{Bool, true, false}
 use mathlib.Core.List.{List, [], _∷_, _++_, append-assoc}
 use native.Mathlib.Omega.{arith}
 use lib.ListN.{length, getD, length-append}
 use Rattle.language.specs.Tree as T
 use Rattle.language.specs.Tree.{Name, Item}
-use Rattle.language.specs.Names as N
 use Rattle.language.specs.Names.{Scope, declared, inBlock, onFound}
 use Rattle.language.specs.Constants as K
-use Rattle.language.specs.Constants.{Fault, fault, Judged, judge, forGlobal, judgedWord, faultsOf}
+use Rattle.language.specs.Constants.{Fault, fault, Judged, judgedWord, faultsOf}
 use Rattle.tree.specs.Encoding.{encodeName, encodeConstant, encodeItems}
 use Rattle.compiler.specs.Scope as S
 use Rattle.compiler.specs.Scope.{Shows, Keeps, PushedName, Worded, code, found, named, nameAt}
@@ -27,10 +26,10 @@ use Rattle.compiler.specs.Fine.{STRINGS}
 use Rattle.compiler.specs.Locals.{Says, fit, unfit, Judges, JudgesMost, Blames}
 use Rattle.compiler.specs.declared.steps.Verdict.{Verdict}
 use Rattle.language.specs.Program.{globalsAfter, manifestsAfter, globalFaults, manifestFaults}
-use Rattle.compiler.specs.Items.{judged, meaning, after, faults, FineIs, JudgesItem, ReadyItems, ItemsKnown, Items}
-use Rattle.compiler.specs.declared.outer.Known.{Known}
+use Rattle.compiler.specs.Items.{judged, meaning, after, faults, FineIs, JudgesItem, ReadyItems, Items}
 
-pub item-global : {text s : List ℕ} {end top : ℕ} {g : Bool} {r : Verdict} → g ≡ true → JudgesMost 399 text s end top r → JudgesItem g text s end top r
+pub item-global : {text s : List ℕ} {end top : ℕ} {g : Bool} {r : Verdict} → g ≡ true → JudgesMost 399 text s end top r
+    → JudgesItem g text s end top r
 unfolding judged
 item-global e j = rw e (record { by = j .by; fits = j .fits; low = omega (arith, j .small) })
 
@@ -59,7 +58,8 @@ pub record IsItem (s : List ℕ) (at end : ℕ) (is : List Item) : Type 0 where
   pub lies-more : Lies s (at + 6 + length (encodeConstant (item .constant))) (encodeItems more)
   pub ends : end ≡ at + 6 + length (encodeConstant (item .constant)) + length (encodeItems more)
 
-pub is-item : {s : List ℕ} {at end : ℕ} (is : List Item) → Lies s at (encodeItems is) → end ≡ at + length (encodeItems is) → at < end → IsItem s at end is
+pub is-item : {s : List ℕ} {at end : ℕ} (is : List Item) → Lies s at (encodeItems is) → end ≡ at + length (encodeItems is) → at < end
+    → IsItem s at end is
 unfolding encodeItems encodeName
 is-item [] h e l = absurd (omega arith)
 is-item {s} {at} (i ∷ is) h e l =
@@ -99,7 +99,8 @@ word-is : {r : Verdict} (j : Judged) → Says r j → r .word ≡ judgedWord j
 word-is (K.good v) (fit q) = refl
 word-is (K.refused fs) (unfit a b w) = w
 
-meaning-word : (g : Bool) (text : List ℕ) (sc : Scope) (c : T.Constant) {s : List ℕ} {top : ℕ} → Shows s top sc → FineConstant c → Worded (meaning g (judgedWord (judged g text sc c)))
+meaning-word : (g : Bool) (text : List ℕ) (sc : Scope) (c : T.Constant) {s : List ℕ} {top : ℕ} → Shows s top sc → FineConstant c
+    → Worded (meaning g (judgedWord (judged g text sc c)))
 unfolding meaning judged
 meaning-word true text sc c sh f = tt
 meaning-word false text sc c sh f = judged-word text sc c sh f
@@ -118,7 +119,8 @@ after-none true text sc = refl
 after-none false text sc = refl
 
 faults-step : (g : Bool) (text : List ℕ) (sc : Scope) (i : Item) (is : List Item) → faults g text sc (i ∷ is)
-    ≡ faultsOf (judged g text sc (i .constant)) ++ (onFound (inBlock text sc (i .name)) [] (fault (i .name .place) 9) ++ faults g text (scopeWith g text sc i) is)
+    ≡ faultsOf (judged g text sc (i .constant))
+    ++ (onFound (inBlock text sc (i .name)) [] (fault (i .name .place) 9) ++ faults g text (scopeWith g text sc i) is)
 unfolding faults globalFaults manifestFaults meaning judged
 faults-step true text sc i is = simp append-assoc
 faults-step false text sc i is = simp append-assoc
@@ -142,7 +144,8 @@ module _ (g : Bool) (text : List ℕ) {s₀ : List ℕ} {from end top : ℕ} (st
     pub many : k + length rest ≡ length (y .items)
     pub fine : FineIs rest
     pub same : after g text (y .scope) (y .items) ≡ after g text scope rest
-    pub finish : (t : List ℕ) (st′ : State) → Did (faults g text scope rest) nothing 0 t t st st′ → Did (faults g text (y .scope) (y .items)) nothing 0 t t st₀ st′
+    pub finish : (t : List ℕ) (st′ : State) → Did (faults g text scope rest) nothing 0 t t st st′
+        → Did (faults g text (y .scope) (y .items)) nothing 0 t t st₀ st′
 
   pub items-begin : (y : ReadyItems s₀ from end top) → ItemsPart y s₀ from 0 st₀
   items-begin y =
@@ -170,11 +173,13 @@ module _ (g : Bool) (text : List ℕ) {s₀ : List ℕ} {from end top : ℕ} (st
     pub low : y .base ≤ end
     pub name : FineName (nameAt s (at + 2))
 
-  item-name : {s : List ℕ} {at : ℕ} (k : ℕ) {st : State} (l : at < end) (y : ReadyItems s₀ from end top) (p : ItemsPart y s at k st) → nameAt s (at + 2) ≡ is-item (p .rest) (p .lies) (p .ends) l .item .name
+  item-name : {s : List ℕ} {at : ℕ} (k : ℕ) {st : State} (l : at < end) (y : ReadyItems s₀ from end top) (p : ItemsPart y s at k st)
+      → nameAt s (at + 2) ≡ is-item (p .rest) (p .lies) (p .ends) l .item .name
   item-name {s} {at} k l y p =
       let u = is-item (p .rest) (p .lies) (p .ends) l in
       let q2 : at + 2 + 2 ≡ at + 4 = omega arith in let q1 : at + 2 + 1 ≡ at + 3 = omega arith in
-      keeps-name (p .keeps) (omega (arith, y .above, p .starts)) ∙ ap (λ (z : ℕ). named z (getD s₀ (at + 2 + 1) 0)) (ap (λ (z : ℕ). getD s₀ z 0) q2 ∙ u .place)
+      keeps-name (p .keeps) (omega (arith, y .above, p .starts)) ∙ ap (λ (z : ℕ). named z (getD s₀ (at + 2 + 1) 0))
+      (ap (λ (z : ℕ). getD s₀ z 0) q2 ∙ u .place)
       ∙ ap (λ (z : ℕ). named (u .item .name .place) z) (ap (λ (z : ℕ). getD s₀ z 0) q1 ∙ u .width)
 
   pub items-fit : {s : List ℕ} {at : ℕ} (k : ℕ) {st : State} → at < end → (y : ReadyItems s₀ from end top) → ItemsPart y s at k st → Fits y s at k
@@ -191,16 +196,20 @@ module _ (g : Bool) (text : List ℕ) {s₀ : List ℕ} {from end top : ℕ} (st
       }
 
   -- its constant judged
-  item-says : {s : List ℕ} {at size next : ℕ} (k : ℕ) {st : State} {c : Verdict} (l : at < end) → size ≡ getD s at 0 → next ≡ at + 2 + size → JudgesItem g text s next (top + 2 * k) c
-      → (y : ReadyItems s₀ from end top) (p : ItemsPart y s at k st) → Says c (judged g text (p .scope) (is-item (p .rest) (p .lies) (p .ends) l .item .constant))
+  item-says : {s : List ℕ} {at size next : ℕ} (k : ℕ) {st : State} {c : Verdict} (l : at < end) → size ≡ getD s at 0 → next ≡ at + 2 + size
+      → JudgesItem g text s next (top + 2 * k) c
+      → (y : ReadyItems s₀ from end top) (p : ItemsPart y s at k st)
+      → Says c (judged g text (p .scope) (is-item (p .rest) (p .lies) (p .ends) l .item .constant))
   item-says {s} {at} k l es en ju y p =
       let u = is-item (p .rest) (p .lies) (p .ends) l in
       ju .by (p .scope) (at + 6) (u .item .constant) (p .shows) (fine-first (u .item) (u .more) (subst FineIs (u .same) (p .fine)) .constant)
       (keeps-lies (p .keeps) (omega (arith, y .above, p .starts)) (u .lies-k))
       (omega (arith, es, en, p .keeps .above at (omega (arith, y .above, p .starts)), u .size-of))
 
-  pub items-next : {s s₁ : List ℕ} {at size next m place x : ℕ} {c : Verdict} (k : ℕ) {st a r : State} → at < end → size ≡ getD s at 0 → next ≡ at + 2 + size → JudgesItem g text s next (top + 2 * k) c
-      → S.Told text s (top + 2 * k) (at + 2) m → place ≡ getD s (at + 4) 0 → Blames c st a → Again m place a r → PushedName s s₁ (top + 2 * k) (at + 2) x → x ≡ code (meaning g (c .word))
+  pub items-next : {s s₁ : List ℕ} {at size next m place x : ℕ} {c : Verdict} (k : ℕ) {st a r : State} → at < end → size ≡ getD s at 0
+      → next ≡ at + 2 + size → JudgesItem g text s next (top + 2 * k) c
+      → S.Told text s (top + 2 * k) (at + 2) m → place ≡ getD s (at + 4) 0 → Blames c st a → Again m place a r
+      → PushedName s s₁ (top + 2 * k) (at + 2) x → x ≡ code (meaning g (c .word))
       → (y : ReadyItems s₀ from end top) → ItemsPart y s at k st → ItemsPart y s₁ next (k + 1) r
   items-next {s} {s₁} {at} {size} {next} {m} {place} {x} {c} k {st} {a} {r} l es en ju told ep bl ag pu ex y p =
       let u = is-item (p .rest) (p .lies) (p .ends) l in
@@ -236,14 +245,18 @@ module _ (g : Bool) (text : List ℕ) {s₀ : List ℕ} {from end top : ℕ} (st
             d)) same-refl (λ v e. refl) (omega arith)));
       }
 
-  pub items-end : {s : List ℕ} {at : ℕ} (k : ℕ) {st : State} → end ≤ at → ((y : ReadyItems s₀ from end top) → ItemsPart y s at k st) → Items g text s₀ s from end top st₀ (record { top = top + 2 * k; state = st })
+  pub items-end : {s : List ℕ} {at : ℕ} (k : ℕ) {st : State} → end ≤ at → ((y : ReadyItems s₀ from end top) → ItemsPart y s at k st)
+      → Items g text s₀ s from end top st₀ (record { top = top + 2 * k; state = st })
   items-end {s} {at} k {st} l q = record {
     by = λ y. let p = q y in let e = no-item (p .rest) (p .ends) l in
         let c : k ≡ length (y .items) = omega (arith, p .many, ap length e) in record {
           moved = omega arith;
-          shows = subst (λ (z : Scope). Shows s (top + 2 * k) z) (sym (p .same ∙ ap (after g text (p .scope)) e ∙ after-none g text (p .scope))) (p .shows);
+          shows = subst (λ (z : Scope). Shows s (top + 2 * k) z) (sym (p .same ∙ ap (after g text (p .scope)) e ∙ after-none g text (p .scope)))
+              (p .shows);
           keeps = p .keeps;
-          did = λ t. p .finish t st (subst (λ (fs : List Fault). Did fs nothing 0 t t st st) (sym (ap (faults g text (p .scope)) e ∙ faults-none g text (p .scope))) (did-none 0));
+          did = λ t. p .finish t st
+              (subst (λ (fs : List Fault). Did fs nothing 0 t t st st) (sym (ap (faults g text (p .scope)) e ∙ faults-none g text (p .scope)))
+              (did-none 0));
         };
   }
 

@@ -1,39 +1,36 @@
 -- Constants, and one declaration of locals.
-use Prim.Native.Nat.{ℕ, zero, suc, _+_, _*_, _-_, _≤_, _<_, _/_, _%_, _^_}
+use Prim.Native.Nat.{ℕ, _+_, _*_, _-_, _≤_, _<_, _/_, _%_, _^_}
 use mathlib.Core.Path.{_≡_, refl, sym, ap, subst, _∙_}
 use mathlib.Core.Bool.{Bool, true, false, cond}
-use mathlib.Core.List.{List, [], _∷_, _++_, append-nil, append-assoc}
+use mathlib.Core.List.{List, [], _∷_, _++_, append-nil}
 use native.Mathlib.Omega.{arith}
 use lib.ListN.{length, getD, length-append}
 use lib.Dec.{leb}
 use borrow.Author.Tests.{le-leb, lt-leb}
 use Rattle.words.specs.Words.{word}
-use Rattle.items.specs.Item as I
 use Rattle.language.specs.Tree as T
 use Rattle.language.specs.Tree.{Name, Simple, Constant, Expressions}
 use Rattle.language.proofs.Depth.{expressionsDepth}
 use Rattle.language.specs.Names as N
 use Rattle.language.specs.Names.{Scope, lookup, declared}
-use Rattle.language.specs.Constants.{Fault, fault, Judged, good, refused, judge, forVector, judgedWord, faultsOf, signed, ofFound, ofSimple, within}
-use Rattle.language.specs.Resolve.{expressions, declareAll}
-use Rattle.language.specs.Heights.{ofExprs}
+use Rattle.language.specs.Constants.{fault, Judged, good, refused, judge, forVector, judgedWord, faultsOf, signed, ofFound, ofSimple, within}
+use Rattle.language.specs.Resolve.{declareAll}
 use Rattle.code.specs.Generate as G
-use Rattle.language.specs.Faults.{inExpressions, twice}
-use Rattle.tree.specs.Encoding.{closed, encodeName, encodeNames, encodeConstant, encodePositive, encodeNegative, encodeExpressions}
-use Rattle.compiler.specs.Scope.{Shows, Keeps, Looked, code, found, named, nameAt}
+use Rattle.tree.specs.Encoding.{encodeName, encodeNames, encodeConstant, encodePositive, encodeNegative, encodeExpressions}
+use Rattle.compiler.specs.Scope.{Shows, Looked, code, found, named, nameAt}
 use Rattle.compiler.proofs.Scoping.{keeps-all, keeps-then, keeps-shows, code-not, Held, looked-word}
 use Rattle.compiler.specs.declared.steps.State.{State}
 use Rattle.compiler.specs.declared.steps.Here.{Here}
 use Rattle.compiler.specs.declared.steps.Node.{Node}
-use Rattle.compiler.specs.declared.steps.Placed.{Placed}
 use Rattle.compiler.specs.declared.steps.Verdict.{Verdict}
 use Rattle.compiler.specs.Fine.{FineEs}
 use Rattle.language.specs.Fine.{FineName, FineNames, FineConstant}
-use Rattle.compiler.specs.Walked.{leavable, NodeAt, Code, Did, Emits, Faulted}
-use Rattle.compiler.specs.Walks.{Lies, Ready, ReadyArgs, GaveArgs}
-use Rattle.compiler.specs.Commands.{nothing, ReadyNames, Declared, Declares}
-use Rattle.compiler.specs.Locals.{Says, fit, unfit, NamedConstant, Judges, JudgesMost, Blames, Local, aVector, someValues, encodeLocal, localDepth, FineLocal, scopeWith, heightWith, faultsL, localSays, ReadyLocal, After, LocalDone, GaveLocal}
-use Rattle.compiler.proofs.Done.{did-none, did-then, did-emit, did-as, same-refl, same-eq, code-is}
+use Rattle.compiler.specs.Walked.{NodeAt, Did, Emits, Faulted}
+use Rattle.compiler.specs.Walks.{Lies, ReadyArgs, GaveArgs}
+use Rattle.compiler.specs.Commands.{nothing, ReadyNames, Declares}
+use Rattle.compiler.specs.Locals.{Says, fit, unfit, NamedConstant, Judges, JudgesMost, Blames, Local, aVector, someValues, encodeLocal}
+use Rattle.compiler.specs.Locals.{localDepth, FineLocal, scopeWith, heightWith, faultsL, localSays, ReadyLocal, LocalDone, GaveLocal}
+use Rattle.compiler.proofs.Done.{did-none, did-then, did-emit, did-as, same-refl, code-is}
 use Rattle.compiler.proofs.Trees.{first, second, keeps-lies, kid, ends, value-is, place-is, size-is, kind-is}
 use Rattle.compiler.proofs.Parts.{sub}
 
@@ -54,15 +51,19 @@ module _ {m : ℕ} (minus : Bool) {name place : ℕ} (fits : (name < 2 ^ 32) × 
       r : Verdict
       r = record { word = 0; number = 8; place = name }
 
-      by : (c : Constant) (n : Name) (f : N.Found) → m ≡ found f → c .minus ≡ minus → c .place ≡ place → n .place ≡ name → Says (record { word = 0; number = 8; place = name }) (ofFound c n f)
-      by c n N.unknown q em ep en = subst (λ (k : ℕ). Says (record { word = 0; number = 8; place = name }) (refused (fault k 8))) (sym en) (unfit refl (λ z. omega arith) refl)
+      by : (c : Constant) (n : Name) (f : N.Found) → m ≡ found f → c .minus ≡ minus → c .place ≡ place → n .place ≡ name
+          → Says (record { word = 0; number = 8; place = name }) (ofFound c n f)
+      by c n N.unknown q em ep en =
+          subst (λ (k : ℕ). Says (record { word = 0; number = 8; place = name }) (refused (fault k 8))) (sym en) (unfit refl (λ z. omega arith) refl)
       by c n (N.known w) q em ep en = absurd (code-not w (sym q ∙ e))
 
   pub named-manifest : {x : ℕ} → m % 4 ≡ 3 → x ≡ signed minus (m / 4) → NamedConstant m minus name place (record { word = x; number = 0; place = 0 })
   unfolding found code
-  named-manifest {x} e ex = record { by = by; fits = (omega arith, omega arith); low = omega (arith, signed-low minus (m / 4) (omega (arith, fits .2))) }
+  named-manifest {x} e ex =
+      record { by = by; fits = (omega arith, omega arith); low = omega (arith, signed-low minus (m / 4) (omega (arith, fits .2))) }
     where
-      by : (c : Constant) (n : Name) (f : N.Found) → m ≡ found f → c .minus ≡ minus → c .place ≡ place → n .place ≡ name → Says (record { word = x; number = 0; place = 0 }) (ofFound c n f)
+      by : (c : Constant) (n : Name) (f : N.Found) → m ≡ found f → c .minus ≡ minus → c .place ≡ place → n .place ≡ name
+          → Says (record { word = x; number = 0; place = 0 }) (ofFound c n f)
       by c n N.unknown q em ep en = absurd (omega arith)
       by c n (N.known (N.local k)) q em ep en = absurd (omega arith)
       by c n (N.known (N.global k)) q em ep en = absurd (omega arith)
@@ -77,9 +78,12 @@ module _ {m : ℕ} (minus : Bool) {name place : ℕ} (fits : (name < 2 ^ 32) × 
   named-other n0 n3 = record { by = by; fits = (fits .1, omega arith); low = omega arith }
     where
       eleven : (c : Constant) → c .place ≡ place → Says (record { word = 0; number = 11; place = place }) (refused (fault (c .place) 11))
-      eleven c ep = subst (λ (k : ℕ). Says (record { word = 0; number = 11; place = place }) (refused (fault k 11))) (sym ep) (unfit refl (λ z. omega arith) refl)
+      eleven c ep =
+          subst (λ (k : ℕ). Says (record { word = 0; number = 11; place = place }) (refused (fault k 11))) (sym ep)
+          (unfit refl (λ z. omega arith) refl)
 
-      by : (c : Constant) (n : Name) (f : N.Found) → m ≡ found f → c .minus ≡ minus → c .place ≡ place → n .place ≡ name → Says (record { word = 0; number = 11; place = place }) (ofFound c n f)
+      by : (c : Constant) (n : Name) (f : N.Found) → m ≡ found f → c .minus ≡ minus → c .place ≡ place → n .place ≡ name
+          → Says (record { word = 0; number = 11; place = place }) (ofFound c n f)
       by c n N.unknown q em ep en = absurd (n0 q)
       by c n (N.known (N.local k)) q em ep en = eleven c ep
       by c n (N.known (N.global k)) q em ep en = eleven c ep
@@ -98,7 +102,8 @@ found-word c n (N.known (N.manifest v)) u = signed-word (c .minus) v u
 found-word c n (N.known (N.function k)) u = omega arith
 
 -- a constant is a word
-pub judged-word : (text : List ℕ) (sc : Scope) (c : Constant) {s : List ℕ} {top : ℕ} → Shows s top sc → FineConstant c → judgedWord (judge text sc c) < 65536
+pub judged-word : (text : List ℕ) (sc : Scope) (c : Constant) {s : List ℕ} {top : ℕ} → Shows s top sc → FineConstant c
+    → judgedWord (judge text sc c) < 65536
 unfolding judge
 judged-word text sc c sh f = go (c .simple) (f .small)
   where
@@ -117,23 +122,30 @@ FineSimple p b x = ((v : ℕ) → x ≡ T.literal v → v < 65536) × ((n : Name
 
 module _ (text : List ℕ) {s : List ℕ} {end : ℕ} (top : ℕ) (n : Node) (nd : NodeAt s end n) where
   abbrev Go : Verdict → Type 0
-  Go r = (sc : Scope) (lo p : ℕ) (b : Bool) (x : Simple) → Shows s top sc → FineSimple p b x → Lies s lo (cond b (encodeNegative p x) (encodePositive p x)) → end ≡ lo + length (cond b (encodeNegative p x) (encodePositive p x)) → Says r (ofSimple text sc (record { place = p; minus = b; simple = x }) x)
+  Go r =
+      (sc : Scope) (lo p : ℕ) (b : Bool) (x : Simple) → Shows s top sc → FineSimple p b x → Lies s lo
+      (cond b (encodeNegative p x) (encodePositive p x)) → end ≡ lo + length (cond b (encodeNegative p x) (encodePositive p x)) → Says r
+      (ofSimple text sc (record { place = p; minus = b; simple = x }) x)
 
   judges : {r : Verdict} → (r .place < 2 ^ 32) × (r .number < 32) → r .word < 2 ^ 30 → Go r → Judges text s end top r
   unfolding judge encodeConstant
-  judges f l go = record { fits = f; low = l; by = λ sc lo c sh fine h e. go sc lo (c .place) (c .minus) (c .simple) sh (fine .small, fine .place) h e }
+  judges f l go =
+      record { fits = f; low = l; by = λ sc lo c sh fine h e. go sc lo (c .place) (c .minus) (c .simple) sh (fine .small, fine .place) h e }
 
   pub judge-number : n .kind ≡ 60 → Judges text s end top (record { word = n .value % 65536; number = 0; place = 0 })
   unfolding encodePositive encodeNegative encodeName
   judge-number q = judges (omega arith, omega arith) (omega arith) go
     where
       go : Go (record { word = n .value % 65536; number = 0; place = 0 })
-      go sc lo p false (T.literal v) sh f h e = subst (λ (k : ℕ). Says (record { word = n .value % 65536; number = 0; place = 0 }) (good k)) (let z : n .value ≡ v = nd .value ∙ value-is [] v p 60 h e in omega (arith, f .0 v refl)) (fit refl)
+      go sc lo p false (T.literal v) sh f h e =
+          subst (λ (k : ℕ). Says (record { word = n .value % 65536; number = 0; place = 0 }) (good k))
+          (let z : n .value ≡ v = nd .value ∙ value-is [] v p 60 h e in omega (arith, f .0 v refl)) (fit refl)
       go sc lo p false (T.known x) sh f h e = absurd (omega (arith, q, nd .kind, kind-is [] (x .width) (x .place) 59 h e))
       go sc lo p true (T.literal v) sh f h e = absurd (omega (arith, q, nd .kind, kind-is [] v p 36 h e))
       go sc lo p true (T.known x) sh f h e = absurd (omega (arith, q, nd .kind, kind-is (0 ∷ x .width ∷ x .place ∷ 59 ∷ []) 0 p 36 h e))
 
-  pub judge-name : {m : ℕ} {r : Verdict} → n .kind ≡ 59 → Looked text s top (n .inner) m → NamedConstant m false (n .place) (n .place) r → Judges text s end top r
+  pub judge-name : {m : ℕ} {r : Verdict} → n .kind ≡ 59 → Looked text s top (n .inner) m → NamedConstant m false (n .place) (n .place) r
+      → Judges text s end top r
   unfolding encodePositive encodeNegative encodeName
   judge-name {m} {r} q lk nm = judges (nm .fits) (nm .low) go
     where
@@ -142,23 +154,31 @@ module _ (text : List ℕ) {s : List ℕ} {end : ℕ} (top : ℕ) (n : Node) (nd
       go sc lo p false (T.known x) sh f h e =
           let a : n .inner + 1 ≡ end - 3 = omega (arith, nd .inner, ends [] (x .width) (x .place) 59 h e) in
           let b : n .inner + 2 ≡ end - 2 = omega (arith, nd .inner, ends [] (x .width) (x .place) 59 h e) in
-          let ex : nameAt s (n .inner) ≡ x = name-there s (n .inner) x (ap (λ (k : ℕ). getD s k 0) a ∙ value-is [] (x .width) (x .place) 59 h e) (ap (λ (k : ℕ). getD s k 0) b ∙ place-is [] (x .width) (x .place) 59 h e) in
+          let ex : nameAt s (n .inner) ≡ x = name-there s (n .inner) x (ap (λ (k : ℕ). getD s k 0) a ∙ value-is [] (x .width) (x .place) 59 h e)
+          (ap (λ (k : ℕ). getD s k 0) b ∙ place-is [] (x .width) (x .place) 59 h e) in
           let ep : x .place ≡ n .place = sym (nd .place ∙ place-is [] (x .width) (x .place) 59 h e) in
-          nm .by (record { place = p; minus = false; simple = T.known x }) x (lookup text sc x) (lk .by sc sh ∙ ap (λ (z : Name). found (lookup text sc z)) ex) refl (f .1 x refl refl ∙ ep) ep
+          nm .by (record { place = p; minus = false; simple = T.known x }) x (lookup text sc x)
+          (lk .by sc sh ∙ ap (λ (z : Name). found (lookup text sc z)) ex) refl (f .1 x refl refl ∙ ep) ep
       go sc lo p true (T.literal v) sh f h e = absurd (omega (arith, q, nd .kind, kind-is [] v p 36 h e))
       go sc lo p true (T.known x) sh f h e = absurd (omega (arith, q, nd .kind, kind-is (0 ∷ x .width ∷ x .place ∷ 59 ∷ []) 0 p 36 h e))
 
-  pub judge-negative : {w : ℕ} → (n .kind ≡ 60 → ⊥) → (n .kind ≡ 59 → ⊥) → n .start ≡ n .inner → w ≡ signed true (n .value) → Judges text s end top (record { word = w; number = 0; place = 0 })
+  pub judge-negative : {w : ℕ} → (n .kind ≡ 60 → ⊥) → (n .kind ≡ 59 → ⊥) → n .start ≡ n .inner → w ≡ signed true (n .value)
+      → Judges text s end top (record { word = w; number = 0; place = 0 })
   unfolding encodePositive encodeNegative encodeName
   judge-negative {w} n1 n2 q ew = judges (omega arith, omega arith) (omega arith) go
     where
       go : Go (record { word = w; number = 0; place = 0 })
       go sc lo p false (T.literal v) sh f h e = absurd (n1 (nd .kind ∙ kind-is [] v p 60 h e))
       go sc lo p false (T.known x) sh f h e = absurd (n2 (nd .kind ∙ kind-is [] (x .width) (x .place) 59 h e))
-      go sc lo p true (T.literal v) sh f h e = subst (λ (k : ℕ). Says (record { word = w; number = 0; place = 0 }) (good k)) (ew ∙ ap (signed true) (nd .value ∙ value-is [] v p 36 h e)) (fit refl)
-      go sc lo p true (T.known x) sh f h e = let c : List ℕ = 0 ∷ x .width ∷ x .place ∷ 59 ∷ [] in absurd (omega (arith, q, nd .start, nd .inner, size-is c 0 p 36 h e, ends c 0 p 36 h e))
+      go sc lo p true (T.literal v) sh f h e =
+          subst (λ (k : ℕ). Says (record { word = w; number = 0; place = 0 }) (good k)) (ew ∙ ap (signed true) (nd .value ∙ value-is [] v p 36 h e))
+          (fit refl)
+      go sc lo p true (T.known x) sh f h e =
+          let c : List ℕ = 0 ∷ x .width ∷ x .place ∷ 59 ∷ [] in
+          absurd (omega (arith, q, nd .start, nd .inner, size-is c 0 p 36 h e, ends c 0 p 36 h e))
 
-  pub judge-negated : {m name : ℕ} {r : Verdict} → (n .kind ≡ 60 → ⊥) → (n .kind ≡ 59 → ⊥) → (n .start ≡ n .inner → ⊥) → Looked text s top (n .start) m → name ≡ getD s (n .start + 2) 0 → NamedConstant m true name (n .place) r → Judges text s end top r
+  pub judge-negated : {m name : ℕ} {r : Verdict} → (n .kind ≡ 60 → ⊥) → (n .kind ≡ 59 → ⊥) → (n .start ≡ n .inner → ⊥)
+      → Looked text s top (n .start) m → name ≡ getD s (n .start + 2) 0 → NamedConstant m true name (n .place) r → Judges text s end top r
   unfolding encodePositive encodeNegative encodeName
   judge-negated {m} {name} {r} n1 n2 q lk ename nm = judges (nm .fits) (nm .low) go
     where
@@ -172,22 +192,29 @@ module _ (text : List ℕ) {s : List ℕ} {end : ℕ} (top : ℕ) (n : Node) (nd
           let a : n .start + 1 ≡ lo + 1 = omega arith in let b : n .start + 2 ≡ lo + 2 = omega arith in
           let ep : getD s (n .start + 2) 0 ≡ x .place = ap (λ (k : ℕ). getD s k 0) b ∙ hc .at 2 (omega arith) in
           let ex : nameAt s (n .start) ≡ x = name-there s (n .start) x (ap (λ (k : ℕ). getD s k 0) a ∙ hc .at 1 (omega arith)) ep in
-          nm .by (record { place = p; minus = true; simple = T.known x }) x (lookup text sc x) (lk .by sc sh ∙ ap (λ (z : Name). found (lookup text sc z)) ex) refl (sym (nd .place ∙ place-is c 0 p 36 h e)) (sym (ename ∙ ep))
+          nm .by (record { place = p; minus = true; simple = T.known x }) x (lookup text sc x)
+          (lk .by sc sh ∙ ap (λ (z : Name). found (lookup text sc z)) ex) refl (sym (nd .place ∙ place-is c 0 p 36 h e)) (sym (ename ∙ ep))
 
 -- its place is that of its record
-constant-place : {s : List ℕ} {lo end : ℕ} (p : ℕ) (b : Bool) (x : Simple) → FineSimple p b x → Lies s lo (cond b (encodeNegative p x) (encodePositive p x)) → end ≡ lo + length (cond b (encodeNegative p x) (encodePositive p x)) → getD s (end - 2) 0 ≡ p
+constant-place : {s : List ℕ} {lo end : ℕ} (p : ℕ) (b : Bool) (x : Simple) → FineSimple p b x
+    → Lies s lo (cond b (encodeNegative p x) (encodePositive p x)) → end ≡ lo + length (cond b (encodeNegative p x) (encodePositive p x))
+    → getD s (end - 2) 0 ≡ p
 unfolding encodePositive encodeNegative encodeName
 constant-place p false (T.literal v) f h e = place-is [] v p 60 h e
 constant-place p false (T.known x) f h e = place-is [] (x .width) (x .place) 59 h e ∙ sym (f .1 x refl refl)
 constant-place p true (T.literal v) f h e = place-is [] v p 36 h e
 constant-place p true (T.known x) f h e = place-is (0 ∷ x .width ∷ x .place ∷ 59 ∷ []) 0 p 36 h e
 
-pub place-there : {s : List ℕ} {lo end : ℕ} (c : Constant) → FineConstant c → Lies s lo (encodeConstant c) → end ≡ lo + length (encodeConstant c) → getD s (end - 2) 0 ≡ c .place
+pub place-there : {s : List ℕ} {lo end : ℕ} (c : Constant) → FineConstant c → Lies s lo (encodeConstant c) → end ≡ lo + length (encodeConstant c)
+    → getD s (end - 2) 0 ≡ c .place
 unfolding encodeConstant
 place-there c f h e = constant-place (c .place) (c .minus) (c .simple) (f .small, f .place) h e
 
-too-big : {j : Verdict} (most : ℕ) (c : Constant) (x : Judged) {p : ℕ} → most < j .word → p ≡ c .place → Says j x → Says (record { word = 0; number = 11; place = p }) (within c (λ v. leb v most) x)
-too-big {j} most c (good v) {p} l e (fit q) = rw (lt-leb (j .word) most l) (subst (λ (k : ℕ). Says (record { word = 0; number = 11; place = p }) (refused (fault k 11))) e (unfit refl (λ z. omega arith) refl))
+too-big : {j : Verdict} (most : ℕ) (c : Constant) (x : Judged) {p : ℕ} → most < j .word → p ≡ c .place → Says j x
+    → Says (record { word = 0; number = 11; place = p }) (within c (λ v. leb v most) x)
+too-big {j} most c (good v) {p} l e (fit q) =
+    rw (lt-leb (j .word) most l)
+    (subst (λ (k : ℕ). Says (record { word = 0; number = 11; place = p }) (refused (fault k 11))) e (unfit refl (λ z. omega arith) refl))
 too-big most c (refused fs) l e (unfit a b w) = absurd (omega arith)
 
 not-too-big : {j : Verdict} (most : ℕ) (c : Constant) (x : Judged) → j .word ≤ most → Says j x → Says j (within c (λ v. leb v most) x)
@@ -195,7 +222,8 @@ not-too-big {j} most c (good v) l (fit q) = rw (le-leb (j .word) most l) (fit q)
 not-too-big most c (refused fs) l (unfit a b w) = unfit a b w
 
 module _ (most : ℕ) {text s : List ℕ} {end top : ℕ} {j : Verdict} (g : Judges text s end top j) where
-  pub most-big : {p e₂ : ℕ} → most < j .word → e₂ ≡ end - 2 → p ≡ getD s e₂ 0 → p < 2 ^ 32 → JudgesMost most text s end top (record { word = 0; number = 11; place = p })
+  pub most-big : {p e₂ : ℕ} → most < j .word → e₂ ≡ end - 2 → p ≡ getD s e₂ 0 → p < 2 ^ 32
+      → JudgesMost most text s end top (record { word = 0; number = 11; place = p })
   most-big {p} {e₂} l q e f = record {
     small = omega arith;
     fits = (f, omega arith);
@@ -235,7 +263,8 @@ pub record IsVector (s : List ℕ) (lo end : ℕ) (x : Local) : Type 0 where
   pub size-of : getD s (end - 4) 0 ≡ 4 + length (encodeConstant constant)
   pub ends : end ≡ lo + 4 + length (encodeConstant constant) + 4
 
-pub is-vector : {s : List ℕ} {lo end : ℕ} (x : Local) → Lies s lo (encodeLocal x) → end ≡ lo + length (encodeLocal x) → getD s (end - 1) 0 ≡ 6 → IsVector s lo end x
+pub is-vector : {s : List ℕ} {lo end : ℕ} (x : Local) → Lies s lo (encodeLocal x) → end ≡ lo + length (encodeLocal x) → getD s (end - 1) 0 ≡ 6
+    → IsVector s lo end x
 unfolding encodeLocal encodeNames encodeName
 is-vector {lo = lo} (aVector n c) h e q =
     let a : List ℕ = 0 ∷ n .width ∷ n .place ∷ 59 ∷ [] in let x = a ++ encodeConstant c in
@@ -286,8 +315,10 @@ module _ {s : List ℕ} {end : ℕ} {here : Here} {st : State} (n : Node) (nd : 
     fine = one-fine (vector-fine y .1);
   }
 
-  pub vector-gave : (text : List ℕ) {s₁ t t′ : List ℕ} {e hh : ℕ} {j : Verdict} {a b c : State} (ee : e ≡ n .start + 4) → JudgesMost 4095 text s (n .inner) (here .top) j → Blames j st a → Declares text s s₁ (n .start) e (here .top) (here .height) a b
-      → Emits (G.LP (here .height + 1) ∷ G.SP (here .height) ∷ []) ((here .height + 2 + j .word) ∷ []) t t′ b c → hh ≡ here .height + 2 + j .word → GaveLocal text s s₁ end here t t′ st (record { top = here .top + 2; height = hh; done = c })
+  pub vector-gave : (text : List ℕ) {s₁ t t′ : List ℕ} {e hh : ℕ} {j : Verdict} {a b c : State} (ee : e ≡ n .start + 4)
+      → JudgesMost 4095 text s (n .inner) (here .top) j → Blames j st a → Declares text s s₁ (n .start) e (here .top) (here .height) a b
+      → Emits (G.LP (here .height + 1) ∷ G.SP (here .height) ∷ []) ((here .height + 2 + j .word) ∷ []) t t′ b c → hh ≡ here .height + 2 + j .word
+      → GaveLocal text s s₁ end here t t′ st (record { top = here .top + 2; height = hh; done = c })
   unfolding scopeWith heightWith faultsL localSays declareAll
   vector-gave text {s₁} {t} {t′} {e} {hh} {j} {a} {b} {c} ee jv bl de em eh = record {
     by = λ y.
@@ -295,7 +326,8 @@ module _ {s : List ℕ} {end : ℕ} {here : Here} {st : State} (n : Node) (nd : 
         let sa = jv .by sc (y .lo + 4) K (y .shows) (vector-fine y .0) (u .lies-constant) (omega (arith, nd .inner, u .ends)) in
         let d = de .by (vector-names ee y) in let w = says-word (forVector text sc K) sa in
         let two : here .top + 2 * length (u .name ∷ []) ≡ here .top + 2 = omega arith in
-        subst (λ (x : Local). LocalDone text sc x (y .base) here s s₁ t t′ st (record { top = here .top + 2; height = hh; done = c })) (sym (u .same)) (record {
+        subst (λ (x : Local). LocalDone text sc x (y .base) here s s₁ t t′ st (record { top = here .top + 2; height = hh; done = c })) (sym (u .same))
+        (record {
           after = record {
             shows = subst (λ (k : ℕ). Shows s₁ k (declared sc (u .name) (N.local h))) two (d .shows);
             height = eh ∙ ap (λ (k : ℕ). h + 2 + k) w;
@@ -304,7 +336,9 @@ module _ {s : List ℕ} {end : ℕ} {here : Here} {st : State} (n : Node) (nd : 
             room = omega (arith, y .ends, u .ends, ap (λ (x : Local). length (encodeLocal x)) (u .same));
             tall = omega (arith, y .ends, u .ends, jv .small, eh, ap (λ (x : Local). length (encodeLocal x)) (u .same));
           };
-          did = did-as (localSays text sc here (aVector (u .name) K)) _ (did-emit (did-then (bl .by (forVector text sc K) sa t) (d .did t)) em) same-refl
+          did =
+              did-as (localSays text sc here (aVector (u .name) K)) _ (did-emit (did-then (bl .by (forVector text sc K) sa t) (d .did t)) em)
+              same-refl
               (λ m v. code-is refl (ap (λ (k : ℕ). (h + 2 + k) ∷ []) w) (omega arith)) (omega arith);
         });
   }
@@ -321,7 +355,8 @@ pub record IsValues (s : List ℕ) (lo end : ℕ) (x : Local) : Type 0 where
   pub size-of : getD s (end - 4) 0 ≡ length (encodeNames names) + length (encodeExpressions values)
   pub ends : end ≡ lo + length (encodeNames names) + length (encodeExpressions values) + 4
 
-pub is-values : {s : List ℕ} {lo end : ℕ} (x : Local) → Lies s lo (encodeLocal x) → end ≡ lo + length (encodeLocal x) → (getD s (end - 1) 0 ≡ 6 → ⊥) → IsValues s lo end x
+pub is-values : {s : List ℕ} {lo end : ℕ} (x : Local) → Lies s lo (encodeLocal x) → end ≡ lo + length (encodeLocal x) → (getD s (end - 1) 0 ≡ 6 → ⊥)
+    → IsValues s lo end x
 unfolding encodeLocal encodeName
 is-values (aVector n c) h e q = absurd (q (kind-is ((0 ∷ n .width ∷ n .place ∷ 59 ∷ []) ++ encodeConstant c) 4 0 6 h e))
 is-values {lo = lo} (someValues ns es) h e q =
@@ -337,14 +372,18 @@ is-values {lo = lo} (someValues ns es) h e q =
       ends = omega (arith, ends x v 0 3 h e, length-append (encodeNames ns) (encodeExpressions es));
     }
 
-module _ {s : List ℕ} {end : ℕ} {here : Here} {st : State} (n : Node) (nd : NodeAt s end n) (q : n .kind ≡ 6 → ⊥) {middle : ℕ} (m : middle ≡ n .start + n .value) where
+module _ {s : List ℕ} {end : ℕ} {here : Here} {st : State} (n : Node) (nd : NodeAt s end n) (q : n .kind ≡ 6 → ⊥) {middle : ℕ}
+    (m : middle ≡ n .start + n .value) where
   pub values-is : (y : ReadyLocal s end here st) → IsValues s (y .lo) end (y .tree)
   values-is y = is-values (y .tree) (y .lies) (y .ends) (λ e. q (nd .kind ∙ e))
 
   pub values-start : (y : ReadyLocal s end here st) → (n .start ≡ y .lo) × (middle ≡ y .lo + length (encodeNames (values-is y .names)))
-  values-start y = let u = values-is y in (omega (arith, nd .start, u .size-of, u .ends), omega (arith, m, nd .start, nd .value, u .value-of, u .size-of, u .ends))
+  values-start y =
+      let u = values-is y in
+      (omega (arith, nd .start, u .size-of, u .ends), omega (arith, m, nd .start, nd .value, u .value-of, u .size-of, u .ends))
 
-  pub values-fine : (y : ReadyLocal s end here st) → (length (values-is y .names) ≡ T.count (values-is y .values)) × FineEs (values-is y .values) × FineNames (values-is y .names)
+  pub values-fine : (y : ReadyLocal s end here st)
+      → (length (values-is y .names) ≡ T.count (values-is y .values)) × FineEs (values-is y .values) × FineNames (values-is y .names)
   unfolding FineLocal
   values-fine y = subst FineLocal (values-is y .same) (y .fine)
 
@@ -354,7 +393,9 @@ module _ {s : List ℕ} {end : ℕ} {here : Here} {st : State} (n : Node) (nd : 
 
   abbrev pub values-args : ReadyLocal s end here st → ReadyArgs s middle (n .inner) here st
   values-args y = let u = values-is y in record {
-    ready = sub encodeExpressions expressionsDepth FineEs y keeps-all (n .inner) (y .lo + length (encodeNames (u .names))) here st (u .values) (u .lies-values) (omega (arith, nd .inner, u .ends)) (omega arith) (omega (arith, nd .inner)) refl refl
+    ready =
+        sub encodeExpressions expressionsDepth FineEs y keeps-all (n .inner) (y .lo + length (encodeNames (u .names))) here st (u .values)
+        (u .lies-values) (omega (arith, nd .inner, u .ends)) (omega arith) (omega (arith, nd .inner)) refl refl
         (omega (arith, y .height, y .ends, u .ends)) (omega (arith, y .label, y .ends, u .ends)) (y .some) (values-deep y) (values-fine y .1);
     starts = sym (values-start y .1);
   }
@@ -365,7 +406,8 @@ module _ {s : List ℕ} {end : ℕ} {here : Here} {st : State} (n : Node) (nd : 
       base = y .base;
       scope = y .scope;
       names = u .names;
-      lies = keeps-lies k (omega (arith, y .above, values-start y .0)) (subst (λ (x : ℕ). Lies s x (encodeNames (u .names))) (sym (values-start y .0)) (u .lies));
+      lies = keeps-lies k (omega (arith, y .above, values-start y .0))
+          (subst (λ (x : ℕ). Lies s x (encodeNames (u .names))) (sym (values-start y .0)) (u .lies));
       ends = omega (arith, values-start y .0, values-start y .1);
       above = omega (arith, y .above, values-start y .0);
       long = omega (arith, y .long, k .long);
@@ -376,15 +418,18 @@ module _ {s : List ℕ} {end : ℕ} {here : Here} {st : State} (n : Node) (nd : 
       fine = values-fine y .2;
     }
 
-    pub values-gave : {s₂ : List ℕ} {top height : ℕ} {b : State} → Declares text s₁ s₂ (n .start) middle (here .top) (here .height) a b → top ≡ here .top + n .value / 2 → height ≡ here .height + n .value / 4
+    pub values-gave : {s₂ : List ℕ} {top height : ℕ} {b : State} → Declares text s₁ s₂ (n .start) middle (here .top) (here .height) a b
+        → top ≡ here .top + n .value / 2 → height ≡ here .height + n .value / 4
         → GaveLocal text s s₂ end here t t′ st (record { top = top; height = height; done = b })
     unfolding scopeWith heightWith faultsL localSays
     values-gave {s₂} {top} {height} {b} de et eh = record {
       by = λ y.
-          let u = values-is y in let sc = y .scope in let h = here .height in let ns = u .names in let x = g .by (values-args y) in let d = de .by (values-names y) in
+          let u = values-is y in let sc = y .scope in let h = here .height in let ns = u .names in let x = g .by (values-args y) in
+          let d = de .by (values-names y) in
           let v : n .value ≡ 4 * length ns = nd .value ∙ u .value-of ∙ names-long ns in
           let two : here .top + 2 * length ns ≡ top = omega (arith, et, v) in
-          subst (λ (z : Local). LocalDone text sc z (y .base) here s s₂ t t′ st (record { top = top; height = height; done = b })) (sym (u .same)) (record {
+          subst (λ (z : Local). LocalDone text sc z (y .base) here s s₂ t t′ st (record { top = top; height = height; done = b })) (sym (u .same))
+          (record {
             after = record {
               shows = subst (λ (k : ℕ). Shows s₂ k (declareAll sc h ns)) two (d .shows);
               height = omega (arith, eh, v);
@@ -394,6 +439,7 @@ module _ {s : List ℕ} {end : ℕ} {here : Here} {st : State} (n : Node) (nd : 
               tall = omega (arith, eh, v, y .ends, u .ends, names-long ns, ap (λ (z : Local). length (encodeLocal z)) (u .same));
             };
             did = did-as (localSays text sc here (someValues ns (u .values))) _ (did-then (x .did) (d .did t′)) same-refl
-                (λ k e. code-is (append-nil _) (append-nil _) (omega arith)) (omega (arith, y .ends, u .ends, ap (λ (z : Local). length (encodeLocal z)) (u .same)));
+                (λ k e. code-is (append-nil _) (append-nil _) (omega arith))
+                (omega (arith, y .ends, u .ends, ap (λ (z : Local). length (encodeLocal z)) (u .same)));
           });
     }

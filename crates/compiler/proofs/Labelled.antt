@@ -45,12 +45,15 @@ pub record IsLabelled (s : List ℕ) (lo end : ℕ) (c : Command) : Type 0 where
   pub ends : end ≡ lo + length (encodeLabels labels) + length (O.repeated (encodeUnlabelled body) (encodeRepeats forms)) + 4
 
 -- a command without labels has another kind
-not-labelled : {s : List ℕ} {lo end : ℕ} (u : Unlabelled) (rs : Repeats) → FinePlain u → Lies s lo (O.repeated (encodeUnlabelled u) (encodeRepeats rs))
+not-labelled : {s : List ℕ} {lo end : ℕ} (u : Unlabelled) (rs : Repeats) → FinePlain u
+    → Lies s lo (O.repeated (encodeUnlabelled u) (encodeRepeats rs))
     → end ≡ lo + length (O.repeated (encodeUnlabelled u) (encodeRepeats rs)) → getD s (end - 1) 0 ≡ O.LABELLED → ⊥
 unfolding O.repeated encodeRepeats
 not-labelled {s} {lo} {end} u T.noRepeats f h e q = omega (arith, form-small s lo end (form-of s lo end u f h e))
-not-labelled u (T.repeat rs) f h e q = omega (arith, kind-is (encodeUnlabelled u ++ encodeRepeats (T.repeat rs)) (length (encodeUnlabelled u)) 0 O.REPEATED h e)
-not-labelled u (T.repeatOn w d rs) f h e q = omega (arith, kind-is (encodeUnlabelled u ++ encodeRepeats (T.repeatOn w d rs)) (length (encodeUnlabelled u)) 0 O.REPEATED h e)
+not-labelled u (T.repeat rs) f h e q =
+    omega (arith, kind-is (encodeUnlabelled u ++ encodeRepeats (T.repeat rs)) (length (encodeUnlabelled u)) 0 O.REPEATED h e)
+not-labelled u (T.repeatOn w d rs) f h e q =
+    omega (arith, kind-is (encodeUnlabelled u ++ encodeRepeats (T.repeatOn w d rs)) (length (encodeUnlabelled u)) 0 O.REPEATED h e)
 
 plain-when : (u : Unlabelled) (rs : Repeats) → FineC (T.command [] u rs) → FinePlain u
 unfolding FineCommand
@@ -58,7 +61,8 @@ plain-when u rs f = (f .1, λ z. omega (arith, f .3 .labels z))
 
 with-labels : {s : List ℕ} {lo end : ℕ} (ls : List Label) (u : Unlabelled) (rs : Repeats) {l : ℕ} {k : List ℕ} → encodeLabels ls ≡ l ∷ k
     → Lies s lo (closed (encodeLabels ls ++ O.repeated (encodeUnlabelled u) (encodeRepeats rs)) (length (encodeLabels ls)) 0 O.LABELLED)
-    → end ≡ lo + length (closed (encodeLabels ls ++ O.repeated (encodeUnlabelled u) (encodeRepeats rs)) (length (encodeLabels ls)) 0 O.LABELLED) → IsLabelled s lo end (T.command ls u rs)
+    → end ≡ lo + length (closed (encodeLabels ls ++ O.repeated (encodeUnlabelled u) (encodeRepeats rs)) (length (encodeLabels ls)) 0 O.LABELLED)
+    → IsLabelled s lo end (T.command ls u rs)
 with-labels {lo = lo} ls u rs p h e =
     let w = encodeLabels ls in let x = O.repeated (encodeUnlabelled u) (encodeRepeats rs) in
     record {
@@ -73,7 +77,8 @@ with-labels {lo = lo} ls u rs p h e =
       ends = omega (arith, ends (w ++ x) (length w) 0 O.LABELLED h e, length-append w x);
     }
 
-pub is-labelled : {s : List ℕ} {lo end : ℕ} (c : Command) → FineC c → Lies s lo (encodeCommand c) → end ≡ lo + length (encodeCommand c) → getD s (end - 1) 0 ≡ O.LABELLED → IsLabelled s lo end c
+pub is-labelled : {s : List ℕ} {lo end : ℕ} (c : Command) → FineC c → Lies s lo (encodeCommand c) → end ≡ lo + length (encodeCommand c)
+    → getD s (end - 1) 0 ≡ O.LABELLED → IsLabelled s lo end c
 unfolding encodeCommand labelled encodeLabels
 is-labelled (T.command [] u rs) f h e q = absurd (not-labelled u rs (plain-when u rs f) h e q)
 is-labelled (T.command (T.case p c ∷ ls) u rs) f h e q = with-labels (T.case p c ∷ ls) u rs refl h e
@@ -88,17 +93,23 @@ pub record IsBare (s : List ℕ) (lo end : ℕ) (c : Command) : Type 0 where
   pub lies : Lies s lo (O.repeated (encodeUnlabelled body) (encodeRepeats forms))
   pub ends : end ≡ lo + length (O.repeated (encodeUnlabelled body) (encodeRepeats forms))
 
-pub is-bare : {s : List ℕ} {lo end : ℕ} (c : Command) → Lies s lo (encodeCommand c) → end ≡ lo + length (encodeCommand c) → (getD s (end - 1) 0 ≡ O.LABELLED → ⊥) → IsBare s lo end c
+pub is-bare : {s : List ℕ} {lo end : ℕ} (c : Command) → Lies s lo (encodeCommand c) → end ≡ lo + length (encodeCommand c)
+    → (getD s (end - 1) 0 ≡ O.LABELLED → ⊥) → IsBare s lo end c
 unfolding encodeCommand labelled encodeLabels
 is-bare (T.command [] u rs) h e q = record { body = u; forms = rs; same = refl; lies = h; ends = e }
 is-bare (T.command (T.case p c ∷ ls) u rs) h e q =
-    absurd (q (kind-is (encodeLabels (T.case p c ∷ ls) ++ O.repeated (encodeUnlabelled u) (encodeRepeats rs)) (length (encodeLabels (T.case p c ∷ ls))) 0 O.LABELLED h e))
+    absurd
+    (q (kind-is (encodeLabels (T.case p c ∷ ls) ++ O.repeated (encodeUnlabelled u) (encodeRepeats rs)) (length (encodeLabels (T.case p c ∷ ls))) 0
+    O.LABELLED h e))
 is-bare (T.command (T.default p ∷ ls) u rs) h e q =
-    absurd (q (kind-is (encodeLabels (T.default p ∷ ls) ++ O.repeated (encodeUnlabelled u) (encodeRepeats rs)) (length (encodeLabels (T.default p ∷ ls))) 0 O.LABELLED h e))
+    absurd
+    (q (kind-is (encodeLabels (T.default p ∷ ls) ++ O.repeated (encodeUnlabelled u) (encodeRepeats rs)) (length (encodeLabels (T.default p ∷ ls))) 0
+    O.LABELLED h e))
 
 -- ---- the labels are judged, then the rest is walked
 
-module _ {s : List ℕ} {end : ℕ} {here : Here} {st : State} (n : Node) (nd : NodeAt s end n) (q : n .kind ≡ O.LABELLED) {middle : ℕ} (m : middle ≡ n .start + n .value) where
+module _ {s : List ℕ} {end : ℕ} {here : Here} {st : State} (n : Node) (nd : NodeAt s end n) (q : n .kind ≡ O.LABELLED) {middle : ℕ}
+    (m : middle ≡ n .start + n .value) where
   pub labelled-is : (y : ReadyC s end here st) → IsLabelled s (y .lo) end (y .tree)
   labelled-is y = is-labelled (y .tree) (y .fine) (y .lies) (y .ends) (sym (nd .kind) ∙ q)
 
@@ -131,7 +142,8 @@ module _ {s : List ℕ} {end : ℕ} {here : Here} {st : State} (n : Node) (nd : 
   pub labelled-bare : (text : List ℕ) {a : State} → Misplaces text s (n .start) middle (here .top) st a → ReadyC s end here st → ReadyC s end here a
   labelled-bare text j y = let d = j .by (labelled-labels y) [] in with-state (omega (arith, d .few, d .grows)) y
 
-  pub labelled-gave : (text : List ℕ) (ways : Ways) {s₁ t t₁ : List ℕ} {a r : State} → Misplaces text s (n .start) middle (here .top) st a → GaveCase text s s₁ end here ways t t₁ a r → GaveC text s s₁ end here ways t t₁ st r
+  pub labelled-gave : (text : List ℕ) (ways : Ways) {s₁ t t₁ : List ℕ} {a r : State} → Misplaces text s (n .start) middle (here .top) st a
+      → GaveCase text s s₁ end here ways t t₁ a r → GaveC text s s₁ end here ways t t₁ st r
   unfolding inCommand inCase
   labelled-gave text ways {s₁} {t} {t₁} {a} {r} j g = record {
     by = λ y.
@@ -143,8 +155,10 @@ module _ {s : List ℕ} {end : ℕ} {here : Here} {st : State} (n : Node) (nd : 
         record {
           keeps = x .keeps;
           did = did-as (cmdSays here ways (command text sc h (y .tree))) _ (did-then d (x .did))
-              (same-eq (ap (λ (c : Command). misplaced text sc (u .labels) ++ inCase text sc lv h c) (u .same) ∙ sym (append-assoc (misplaced text sc (u .labels)) U R) ∙ ap (inCommand text sc lv h) (sym (u .same))))
-              (λ k v. let a : k + 0 ≡ k = omega arith in code-is (ap (λ (i : ℕ). G.cmdCode (here .strings) h i (exits ways) (command text sc h (y .tree))) a) refl (omega arith)) (omega arith);
+              (same-eq (ap (λ (c : Command). misplaced text sc (u .labels) ++ inCase text sc lv h c) (u .same) ∙ sym
+              (append-assoc (misplaced text sc (u .labels)) U R) ∙ ap (inCommand text sc lv h) (sym (u .same))))
+              (λ k v. let a : k + 0 ≡ k = omega arith in code-is
+              (ap (λ (i : ℕ). G.cmdCode (here .strings) h i (exits ways) (command text sc h (y .tree))) a) refl (omega arith)) (omega arith);
         };
   }
 
@@ -172,9 +186,11 @@ closed-long {x} u = omega (arith, ap length (u .is), length-append (u .inner) (l
 repeated-long : (w x : List ℕ) → length w ≤ length (O.repeated w x)
 unfolding O.repeated
 repeated-long w [] = omega arith
-repeated-long w (a ∷ x) = omega (arith, length-append (w ++ (a ∷ x)) (length (w ++ (a ∷ x)) ∷ length w ∷ 0 ∷ O.REPEATED ∷ []), length-append w (a ∷ x))
+repeated-long w (a ∷ x) =
+    omega (arith, length-append (w ++ (a ∷ x)) (length (w ++ (a ∷ x)) ∷ length w ∷ 0 ∷ O.REPEATED ∷ []), length-append w (a ∷ x))
 
-nothing-left : (ls : List Label) (u : Unlabelled) (rs : Repeats) → FineC (T.command ls u rs) → length (O.repeated (encodeUnlabelled u) (encodeRepeats rs)) ≡ 0 → u ≡ T.empty
+nothing-left : (ls : List Label) (u : Unlabelled) (rs : Repeats) → FineC (T.command ls u rs)
+    → length (O.repeated (encodeUnlabelled u) (encodeRepeats rs)) ≡ 0 → u ≡ T.empty
 unfolding FineCommand
 nothing-left ls u rs f z = by (emptiness u)
   where
@@ -191,12 +207,20 @@ empty-length : length (O.repeated (encodeUnlabelled T.empty) (encodeRepeats T.no
 unfolding O.repeated encodeUnlabelled encodeRepeats
 empty-length = refl
 
-pub something-left : (ls : List Label) (u : Unlabelled) (rs : Repeats) → FineC (T.command ls u rs) → (length (O.repeated (encodeUnlabelled u) (encodeRepeats rs)) ≡ 0 → ⊥) → FineRepeated (record { body = u; forms = rs })
+pub something-left : (ls : List Label) (u : Unlabelled) (rs : Repeats) → FineC (T.command ls u rs)
+    → (length (O.repeated (encodeUnlabelled u) (encodeRepeats rs)) ≡ 0 → ⊥) → FineRepeated (record { body = u; forms = rs })
 unfolding FineCommand
-something-left ls u rs f n =
-    ((f .1, λ e. n (ap (λ (v : Unlabelled). length (O.repeated (encodeUnlabelled v) (encodeRepeats rs))) e ∙ ap (λ (v : Repeats). length (O.repeated (encodeUnlabelled T.empty) (encodeRepeats v))) (empty-alone ls u rs f e) ∙ empty-length)), f .2)
+something-left ls u rs f n = (
+  (
+    f .1,
+    λ e. n (ap (λ (v : Unlabelled). length (O.repeated (encodeUnlabelled v) (encodeRepeats rs))) e ∙ ap
+        (λ (v : Repeats). length (O.repeated (encodeUnlabelled T.empty) (encodeRepeats v))) (empty-alone ls u rs f e) ∙ empty-length),
+  ),
+  f .2,
+)
 
-pub command-deep : (ls : List Label) (u : Unlabelled) (rs : Repeats) {c : Command} {k : ℕ} → c ≡ T.command ls u rs → commandDepth c ≤ k → deepRepeated (record { body = u; forms = rs }) + 1 ≤ k
+pub command-deep : (ls : List Label) (u : Unlabelled) (rs : Repeats) {c : Command} {k : ℕ} → c ≡ T.command ls u rs → commandDepth c ≤ k
+    → deepRepeated (record { body = u; forms = rs }) + 1 ≤ k
 unfolding commandDepth
 command-deep ls u rs e l = omega (arith, l, ap commandDepth e)
 
@@ -207,8 +231,10 @@ some-depth (T.command ls u rs) = omega arith
 pub command-some : {s : List ℕ} {end : ℕ} {here : Here} {st : State} → ReadyC s end here st → 1 ≤ here .left
 command-some y = omega (arith, y .shallow, some-depth (y .tree))
 
-module _ {s : List ℕ} {end : ℕ} {here : Here} {st : State} (n : Node) (nd : NodeAt s end n) (q : n .kind ≡ O.LABELLED) {middle : ℕ} (m : middle ≡ n .start + n .value) where
-  pub rest-length : (y : ReadyC s end here st) → let u = labelled-is n nd q m y in n .inner ≡ middle + length (O.repeated (encodeUnlabelled (u .body)) (encodeRepeats (u .forms)))
+module _ {s : List ℕ} {end : ℕ} {here : Here} {st : State} (n : Node) (nd : NodeAt s end n) (q : n .kind ≡ O.LABELLED) {middle : ℕ}
+    (m : middle ≡ n .start + n .value) where
+  pub rest-length : (y : ReadyC s end here st)
+      → let u = labelled-is n nd q m y in n .inner ≡ middle + length (O.repeated (encodeUnlabelled (u .body)) (encodeRepeats (u .forms)))
   rest-length y = let u = labelled-is n nd q m y in omega (arith, nd .inner, u .ends, labelled-middle n nd q m y)
 
   pub bare-empty : middle ≡ n .inner → (text : List ℕ) (ways : Ways) {t : List ℕ} → GaveCase text s s end here ways t t st st
@@ -217,25 +243,31 @@ module _ {s : List ℕ} {end : ℕ} {here : Here} {st : State} (n : Node) (nd : 
     by = λ y.
         let u = labelled-is n nd q m y in let sc = y .scope in let h = here .height in let f = labelled-fine n nd q m y in
         let z = nothing-left (u .labels) (u .body) (u .forms) f (omega (arith, rest-length y, e)) in
-        let w = u .same ∙ ap (λ (v : Unlabelled). T.command (u .labels) v (u .forms)) z ∙ ap (T.command (u .labels) T.empty) (empty-alone (u .labels) (u .body) (u .forms) f z) in
-        subst (λ (c : Command). Result (inCase text sc (leavableBy ways here) h c) (cmdSays here ways (command text sc h c)) (length (encodeCommand (y .tree))) (y .base) here s s t t st st) (sym w)
+        let w = u .same ∙ ap (λ (v : Unlabelled). T.command (u .labels) v (u .forms)) z ∙ ap (T.command (u .labels) T.empty)
+        (empty-alone (u .labels) (u .body) (u .forms) f z) in
+        subst (λ (c : Command). Result (inCase text sc (leavableBy ways here) h c) (cmdSays here ways (command text sc h c))
+        (length (encodeCommand (y .tree))) (y .base) here s s t t st st) (sym w)
         (record { keeps = keeps-all; did = did-none _ });
   }
 
   module _ (some : middle ≡ n .inner → ⊥) where
     abbrev pub labelled-rest : ReadyC s end here st → ReadyR s (n .inner) (inside here) st
     labelled-rest y = let u = labelled-is n nd q m y in let f = labelled-fine n nd q m y in
-        sub encodeRepeated deepRepeated FineRepeated y keeps-all (n .inner) (y .lo + length (encodeLabels (u .labels))) (inside here) st (record { body = u .body; forms = u .forms }) (u .lies-rest)
+        sub encodeRepeated deepRepeated FineRepeated y keeps-all (n .inner) (y .lo + length (encodeLabels (u .labels))) (inside here) st
+        (record { body = u .body; forms = u .forms }) (u .lies-rest)
         (omega (arith, nd .inner, u .ends)) (omega arith) (omega (arith, nd .inner)) refl refl
-        (omega (arith, y .height, y .ends, u .ends)) (omega (arith, y .label, y .ends, u .ends)) (y .some) (omega (arith, command-deep (u .labels) (u .body) (u .forms) (u .same) (y .shallow)))
+        (omega (arith, y .height, y .ends, u .ends)) (omega (arith, y .label, y .ends, u .ends)) (y .some)
+        (omega (arith, command-deep (u .labels) (u .body) (u .forms) (u .same) (y .shallow)))
         (something-left (u .labels) (u .body) (u .forms) f (λ z. some (omega (arith, z, rest-length y))))
 
-    pub bare-labelled : (text : List ℕ) (ways : Ways) {s₁ t t₁ : List ℕ} {r : State} → GaveR text s s₁ (n .inner) (inside here) ways t t₁ st r → GaveCase text s s₁ end here ways t t₁ st r
+    pub bare-labelled : (text : List ℕ) (ways : Ways) {s₁ t t₁ : List ℕ} {r : State} → GaveR text s s₁ (n .inner) (inside here) ways t t₁ st r
+        → GaveCase text s s₁ end here ways t t₁ st r
     unfolding inCase command
     bare-labelled text ways {s₁} {t} {t₁} {r} g = record {
       by = λ y.
           let u = labelled-is n nd q m y in let x = g .by (labelled-rest y) in let sc = y .scope in let h = here .height in
-          subst (λ (c : Command). Result (inCase text sc (leavableBy ways here) h c) (cmdSays here ways (command text sc h c)) (length (encodeCommand (y .tree))) (y .base) here s s₁ t t₁ st r) (sym (u .same))
+          subst (λ (c : Command). Result (inCase text sc (leavableBy ways here) h c) (cmdSays here ways (command text sc h c))
+          (length (encodeCommand (y .tree))) (y .base) here s s₁ t t₁ st r) (sym (u .same))
           (record { keeps = x .keeps; did = did-as _ _ (x .did) same-refl (λ k v. refl) (omega (arith, y .ends, u .ends)) });
     }
 
@@ -251,26 +283,37 @@ module _ {s : List ℕ} {end : ℕ} {here : Here} {st : State} (n : Node) (nd : 
 
   abbrev pub bare-part : ReadyC s end here st → ReadyR s end (inside here) st
   bare-part y = let u = bare-is y in
-      sub encodeRepeated deepRepeated FineRepeated y keeps-all end (y .lo) (inside here) st (record { body = u .body; forms = u .forms }) (u .lies) (u .ends) (omega arith) (omega arith) refl refl
-      (omega (arith, y .height, y .ends, u .ends)) (omega (arith, y .label, y .ends, u .ends)) (y .some) (omega (arith, command-deep [] (u .body) (u .forms) (u .same) (y .shallow))) (bare-fine y)
+      sub encodeRepeated deepRepeated FineRepeated y keeps-all end (y .lo) (inside here) st (record { body = u .body; forms = u .forms }) (u .lies)
+      (u .ends) (omega arith) (omega arith) refl refl
+      (omega (arith, y .height, y .ends, u .ends)) (omega (arith, y .label, y .ends, u .ends)) (y .some)
+      (omega (arith, command-deep [] (u .body) (u .forms) (u .same) (y .shallow))) (bare-fine y)
 
-  pub bare-gave : (text : List ℕ) (ways : Ways) {s₁ t t₁ : List ℕ} {r : State} → GaveR text s s₁ end (inside here) ways t t₁ st r → GaveCase text s s₁ end here ways t t₁ st r
+  pub bare-gave : (text : List ℕ) (ways : Ways) {s₁ t t₁ : List ℕ} {r : State} → GaveR text s s₁ end (inside here) ways t t₁ st r
+      → GaveCase text s s₁ end here ways t t₁ st r
   unfolding inCase command
   bare-gave text ways {s₁} {t} {t₁} {r} g = record {
     by = λ y.
         let u = bare-is y in let x = g .by (bare-part y) in let sc = y .scope in let h = here .height in
-        subst (λ (c : Command). Result (inCase text sc (leavableBy ways here) h c) (cmdSays here ways (command text sc h c)) (length (encodeCommand (y .tree))) (y .base) here s s₁ t t₁ st r) (sym (u .same))
+        subst (λ (c : Command). Result (inCase text sc (leavableBy ways here) h c) (cmdSays here ways (command text sc h c))
+        (length (encodeCommand (y .tree))) (y .base) here s s₁ t t₁ st r) (sym (u .same))
         (record { keeps = x .keeps; did = did-as _ _ (x .did) same-refl (λ k v. refl) (omega (arith, y .ends, u .ends)) });
   }
 
   -- no labels are misplaced
-  pub unlabelled-gave : (text : List ℕ) (ways : Ways) {s₁ t t₁ : List ℕ} {r : State} → GaveCase text s s₁ end here ways t t₁ st r → GaveC text s s₁ end here ways t t₁ st r
+  pub unlabelled-gave : (text : List ℕ) (ways : Ways) {s₁ t t₁ : List ℕ} {r : State} → GaveCase text s s₁ end here ways t t₁ st r
+      → GaveC text s s₁ end here ways t t₁ st r
   unfolding inCommand inCase misplaced
   unlabelled-gave text ways {s₁} {t} {t₁} {r} g = record {
     by = λ y.
         let u = bare-is y in let x = g .by y in let sc = y .scope in let h = here .height in let lv = leavableBy ways here in
-        record { keeps = x .keeps; did = did-as _ _ (x .did) (same-eq (ap (inCase text sc lv h) (u .same) ∙ ap (inCommand text sc lv h) (sym (u .same)))) (λ k v. refl) (omega arith) };
+        record {
+          keeps = x .keeps;
+          did = did-as _ _ (x .did)
+              (same-eq (ap (inCase text sc lv h) (u .same) ∙ ap (inCommand text sc lv h) (sym (u .same)))) (λ k v. refl) (omega arith);
+        };
   }
 
-pub gave-r-at : (text : List ℕ) {s s′ t t′ : List ℕ} {end : ℕ} {d d′ : Here} {w w′ : Ways} {st r : State} → d′ ≡ d → w′ ≡ w → GaveR text s s′ end d′ w′ t t′ st r → GaveR text s s′ end d w t t′ st r
-gave-r-at text {s} {s′} {t} {t′} {end} {d} {w′ = w′} {st} {r} e q g = subst (λ (x : Ways). GaveR text s s′ end d x t t′ st r) q (subst (λ (x : Here). GaveR text s s′ end x w′ t t′ st r) e g)
+pub gave-r-at : (text : List ℕ) {s s′ t t′ : List ℕ} {end : ℕ} {d d′ : Here} {w w′ : Ways} {st r : State} → d′ ≡ d → w′ ≡ w
+    → GaveR text s s′ end d′ w′ t t′ st r → GaveR text s s′ end d w t t′ st r
+gave-r-at text {s} {s′} {t} {t′} {end} {d} {w′ = w′} {st} {r} e q g =
+    subst (λ (x : Ways). GaveR text s s′ end d x t t′ st r) q (subst (λ (x : Here). GaveR text s s′ end x w′ t t′ st r) e g)

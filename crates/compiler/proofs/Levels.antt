@@ -1,5 +1,5 @@
 -- One declaration of the outermost level: the items of GLOBAL and MANIFEST, or a group of functions, and where the walk then stands.
-use Prim.Native.Nat.{ℕ, suc, _+_, _*_, _-_, _≤_, _<_}
+use Prim.Native.Nat.{ℕ, suc, _+_, _*_, _≤_, _<_}
 use mathlib.Core.Path.{_≡_, refl, sym, ap, subst, _∙_}
 use mathlib.Core.Bool.{Bool, true, false, cond}
 use mathlib.Core.List.{List, [], _∷_, _++_, append-nil}
@@ -9,11 +9,11 @@ use lib.Dec.{eqb, leb}
 use borrow.Author.Tests.{eq-eqb, ne-eqb, leb-true}
 use Rattle.language.specs.Kinds as K
 use Rattle.language.specs.Tree as T
-use Rattle.language.specs.Tree.{Name, Item, Function, Declaration}
+use Rattle.language.specs.Tree.{Item, Function, Declaration}
 use Rattle.language.specs.Names.{Scope, lookup}
 use Rattle.language.specs.Constants as J
 use Rattle.language.specs.Constants.{Fault, fault, Judged, judge, within, judgedWord}
-use Rattle.language.specs.Resolved.{Start, nowhere, inGlobal}
+use Rattle.language.specs.Resolved.{Start}
 use Rattle.language.specs.Program.{Walk, startOf, withFunction, resolved, globalsAfter, manifestsAfter, functionsAfter, declaredBy, groupNameFaults}
 use Rattle.language.specs.Program.{groupFaults, groupOf, heightFaults, afterDeclaration}
 use Rattle.language.specs.Whole.{funs}

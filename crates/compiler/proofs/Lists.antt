@@ -15,15 +15,16 @@ use Rattle.compiler.proofs.Trees.{first, second}
 use Rattle.compiler.proofs.Parts.{sub}
 
 -- the first item of a list that stands at `at`
-pub record First {L A : Type 0} (all : L → List ℕ) (one : A → List ℕ) (word : A → ℕ) (with : A → L → L) (s : List ℕ) (at end : ℕ) (xs : L) : Type 0 where
-  pub part : A
-  pub more : L
-  pub same : xs ≡ with part more
-  pub size-of : getD s at 0 ≡ length (one part)
-  pub word-of : getD s (at + 1) 0 ≡ word part
-  pub lies : Lies s (at + 2) (one part)
-  pub lies-more : Lies s (at + 2 + length (one part)) (all more)
-  pub ends : end ≡ at + 2 + length (one part) + length (all more)
+pub record First {L A : Type 0} (all : L → List ℕ) (one : A → List ℕ) (word : A → ℕ) (with : A → L → L) (s : List ℕ) (at end : ℕ) (xs : L) : Type 0
+  where
+    pub part : A
+    pub more : L
+    pub same : xs ≡ with part more
+    pub size-of : getD s at 0 ≡ length (one part)
+    pub word-of : getD s (at + 1) 0 ≡ word part
+    pub lies : Lies s (at + 2) (one part)
+    pub lies-more : Lies s (at + 2 + length (one part)) (all more)
+    pub ends : end ≡ at + 2 + length (one part) + length (all more)
 
 pub first-of : {L A : Type 0} (all : L → List ℕ) (one : A → List ℕ) (word : A → ℕ) (with : A → L → L) {s : List ℕ} {at end : ℕ} (x : A) (xs : L)
     → Lies s at (length (one x) ∷ word x ∷ (one x ++ all xs)) → end ≡ at + length (length (one x) ∷ word x ∷ (one x ++ all xs))
@@ -71,7 +72,8 @@ pub record Part {L A : Type 0} (k : Kind L A) (few : L → ℕ) (fs : ℕ → L 
   pub shallow : k .deep rest ≤ left
   pub fine : k .Fine rest
   pub height : h + 4100 * length (k .all rest) ≤ h₀ + 4100 * length (k .all all)
-  pub finish : (t′ : List ℕ) (st′ : State) → Did (fs i rest) (code i rest) (2 * few rest) t t′ st st′ → Did (fs i₀ all) (code i₀ all) (2 * few all) t₀ t′ st₀ st′
+  pub finish : (t′ : List ℕ) (st′ : State) → Did (fs i rest) (code i rest) (2 * few rest) t t′ st st′
+      → Did (fs i₀ all) (code i₀ all) (2 * few all) t₀ t′ st₀ st′
 
 module _ {L A : Type 0} {k : Kind L A} {few : L → ℕ} {fs : ℕ → L → List Fault} {code : ℕ → L → ℕ → Code}
     {s₀ : List ℕ} {from end : ℕ} {here : Here} {before : State} (z : Ready (k .all) (k .deep) (k .Fine) s₀ end here before) (zs : z .lo ≡ from) where
@@ -142,7 +144,8 @@ module _ {L A : Type 0} {k : Kind L A} {few : L → ℕ} {fs : ℕ → L → Lis
     }
 
 -- the loop at its end
-pub ended : {L A : Type 0} {k : Kind L A} {few : L → ℕ} {fs : ℕ → L → List Fault} {code : ℕ → L → ℕ → Code} {all : L} {from end base top left h₀ h i₀ i at : ℕ}
+pub ended : {L A : Type 0} {k : Kind L A} {few : L → ℕ} {fs : ℕ → L → List Fault} {code : ℕ → L → ℕ → Code} {all : L}
+    {from end base top left h₀ h i₀ i at : ℕ}
     {s₀ s t₀ t : List ℕ} {st₀ st : State} → Part k few fs code all from end base top left h₀ h i₀ i s₀ s t₀ t st₀ st at → end ≤ at
     → ((m : ℕ) → Did (fs i (k .none)) (code i (k .none)) m t t st st) → Did (fs i₀ all) (code i₀ all) (2 * few all) t₀ t st₀ st
 ended {k = k} {few} {fs} {code} {i = i} {t = t} {st = st} p l d =

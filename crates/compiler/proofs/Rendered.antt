@@ -1,6 +1,6 @@
 -- The text as lines; globals in scope.
 use Prim.Native.Nat.{ℕ, _<_}
-use mathlib.Core.Path.{_≡_, refl, sym, ap, _∙_}
+use mathlib.Core.Path.{_≡_, refl, ap, _∙_}
 use mathlib.Core.Bool.{Bool, true, false, cond}
 use mathlib.Core.List.{List, [], _∷_, _++_, append-assoc}
 use native.Mathlib.Omega.{arith}
@@ -29,7 +29,8 @@ small-found text N.outermost n m h e = let z : _≡_ {A = ℕ} 0 1 = cc in absur
 small-found text (N.opened s) n m h e = small-found text s n m h e
 small-found text (N.declared s x w) n m h e = go w h (sameName text x n) e (small-found text s n m)
   where
-    go : (w : N.Meaning) → Small (N.declared s x w) → (b : Bool) → cond b (N.known w) (lookup text s n) ≡ N.known (N.global m) → (Small s → lookup text s n ≡ N.known (N.global m) → m < 400) → m < 400
+    go : (w : N.Meaning) → Small (N.declared s x w) → (b : Bool) → cond b (N.known w) (lookup text s n) ≡ N.known (N.global m)
+        → (Small s → lookup text s n ≡ N.known (N.global m) → m < 400) → m < 400
     go (N.global k) h true e ih = let z : k ≡ m = cc in omega (arith, h .0)
     go (N.global k) h false e ih = ih (h .1) e
     go (N.local k) h true e ih = let z : _≡_ {A = ℕ} 0 1 = cc in absurd (omega arith)

@@ -34,7 +34,8 @@ use Rattle.compiler.specs.Commands.{cmdSays, ReadyU, GaveU, encodeRepeat
 use Rattle.compiler.proofs.Done.{emits-did, did-none, did-put, did-after, did-then, did-as, did-at, did-fresh, same-refl, same-eq, code-is}
 use Rattle.compiler.proofs.Trees.{first, second, kid, ends, value-is, size-is, kind-is}
 use Rattle.compiler.proofs.Parts.{sub}
-use Rattle.compiler.proofs.Lists.{First, first-of, Kind, Part, begins, item, one-size, one-word, rest-length, both-deep, both-fine, goes-on, ended}
+use Rattle.compiler.proofs.Lists.{First, first-of, Kind, Part, begins, item, one-size, one-word, rest-length, both-deep, both-fine, goes-on}
+use Rattle.compiler.proofs.Lists.{ended}
 use Rattle.compiler.proofs.Anywhere.{any-expression}
 use Rattle.compiler.proofs.Guards.{expression-closed}
 use Rattle.compiler.proofs.Labelled.{closed-long}
@@ -122,7 +123,8 @@ unfolding conditions
 form-conditions alone rs = omega arith
 form-conditions (onTest w e) rs = refl
 
-form-faults : (text : List ℕ) (sc : Scope) (x : Here) (f : AForm) (rs : Repeats) → inRepeats text sc (leavable x) (x .height) (withForm f rs) ≡ formFaults text sc x f ++ inRepeats text sc (leavable x) (x .height) rs
+form-faults : (text : List ℕ) (sc : Scope) (x : Here) (f : AForm) (rs : Repeats)
+    → inRepeats text sc (leavable x) (x .height) (withForm f rs) ≡ formFaults text sc x f ++ inRepeats text sc (leavable x) (x .height) rs
 unfolding inRepeats
 form-faults text sc x alone rs = refl
 form-faults text sc x (onTest w e) rs = refl
@@ -137,24 +139,28 @@ form-code : (text : List ℕ) (x : Here) (sc : Scope) (own n : ℕ) (f : AForm) 
 unfolding formsCode formsHeights formsLabels
 form-code text x sc own n alone rs =
     let a : n + 0 ≡ n = omega arith in
-    code-is (ap (λ (k : ℕ). I.label (own + 1) ∷ G.JL own ∷ I.label (own + 2) ∷ formsCode text sc (x .strings) (x .height) (own - 3) rs k) a) refl (omega arith)
+    code-is (ap (λ (k : ℕ). I.label (own + 1) ∷ G.JL own ∷ I.label (own + 2) ∷ formsCode text sc (x .strings) (x .height) (own - 3) rs k) a) refl
+    (omega arith)
 form-code text x sc own n (onTest w e) rs =
     let E = G.exprCode (x .strings) (x .height) n (expression text sc (x .height) e) in let J = G.jumpWhen (eqb w K.REPEATWHILE) own in
     let F = formsCode text sc (x .strings) (x .height) (own - 3) rs (n + G.exprLabels (expression text sc (x .height) e)) in
-    code-is (ap (λ (z : List I.Item). I.label (own + 1) ∷ z) (append-assoc (E ++ (J ∷ [])) (I.label (own + 2) ∷ []) F ∙ append-assoc E (J ∷ []) (I.label (own + 2) ∷ F))) refl refl
+    code-is (ap (λ (z : List I.Item). I.label (own + 1) ∷ z)
+    (append-assoc (E ++ (J ∷ [])) (I.label (own + 2) ∷ []) F ∙ append-assoc E (J ∷ []) (I.label (own + 2) ∷ F))) refl refl
 
 -- ---- the loop over them
 
 module _ (text t₀ : List ℕ) (own₀ : ℕ) {s₀ : List ℕ} {from end : ℕ} {here : Here} {st₀ : State} where
   abbrev pub FormsPart : ReadyForms s₀ from end here st₀ → (s t : List ℕ) (at own : ℕ) (st : State) → Type 0
   FormsPart y s t at own st = let z = y .ready in
-      Part formList conditions (λ i rs. inRepeats text (z .scope) (leavable here) (here .height) rs) (λ i rs. formsSays text here (z .scope) i rs) (z .tree)
+      Part formList conditions (λ i rs. inRepeats text (z .scope) (leavable here) (here .height) rs) (λ i rs. formsSays text here (z .scope) i rs)
+      (z .tree)
       from end (z .base) (here .top) (here .left) (here .height) (here .height) own₀ own s₀ s t₀ t st₀ st at
 
   pub forms-begin : (y : ReadyForms s₀ from end here st₀) → FormsPart y s₀ t₀ from own₀ st₀
   forms-begin y = begins (y .ready) (y .starts) refl refl (y .some)
 
-  module _ {s t : List ℕ} {at size word next own : ℕ} {st : State} (l : at < end) (es : size ≡ getD s at 0) (ew : word ≡ getD s (at + 1) 0) (en : next ≡ at + 2 + size)
+  module _ {s t : List ℕ} {at size word next own : ℕ} {st : State} (l : at < end) (es : size ≡ getD s at 0) (ew : word ≡ getD s (at + 1) 0)
+      (en : next ≡ at + 2 + size)
       (y : ReadyForms s₀ from end here st₀) (p : FormsPart y s t at own st) where
     abbrev pub one : First encodeRepeats formEncoding formWord withForm s₀ at end (p .rest)
     one = item (y .ready) (y .starts) l es en p
@@ -171,9 +177,12 @@ module _ (text t₀ : List ℕ) (own₀ : ℕ) {s₀ : List ℕ} {from end : ℕ
       ready-test w e q =
           let z = y .ready in let h = subst (λ (f : AForm). Lies s₀ (at + 2) (formEncoding f)) q (one .lies) in
           let m : length (formEncoding (one .part)) ≡ length (encode e) = ap (λ (f : AForm). length (formEncoding f)) q in
-          sub encode depth FineE z (p .keeps) next (at + 2) here a e h (omega (arith, forms-size)) (omega (arith, y .starts, p .starts)) (omega (arith, forms-size, one .ends)) refl refl
-          (omega (arith, z .height, p .height, rest-length z (y .starts) l es en p)) (omega (arith, y .label, p .label, forms-conditions)) (omega (arith, p .some))
-          (subst (λ (f : AForm). formDepth f ≤ here .left) q (both-deep z (y .starts) l es en p .0)) (subst FineForm q (both-fine z (y .starts) l es en p .0))
+          sub encode depth FineE z (p .keeps) next (at + 2) here a e h (omega (arith, forms-size)) (omega (arith, y .starts, p .starts))
+          (omega (arith, forms-size, one .ends)) refl refl
+          (omega (arith, z .height, p .height, rest-length z (y .starts) l es en p)) (omega (arith, y .label, p .label, forms-conditions))
+          (omega (arith, p .some))
+          (subst (λ (f : AForm). formDepth f ≤ here .left) q (both-deep z (y .starts) l es en p .0))
+          (subst FineForm q (both-fine z (y .starts) l es en p .0))
 
       ready-form : ReadyForm s next size here a
       ready-form = record { on = λ n. by n (one .part) refl }
@@ -184,29 +193,46 @@ module _ (text t₀ : List ℕ) (own₀ : ℕ) {s₀ : List ℕ} {from end : ℕ
 
       -- what it did
       form-did : {s₁ t₁ t₂ : List ℕ} {b : State} → GaveForm text s s₁ next size word own here t₁ t₂ a b →
-          Keeps (y .ready .base) (here .top) s s₁ × Did (formFaults text (y .ready .scope) here (one .part)) (oneSays text here (y .ready .scope) own (one .part)) (2 * length (formEncoding (one .part))) t₁ t₂ a b
+          Keeps (y .ready .base) (here .top) s s₁ × Did (formFaults text (y .ready .scope) here (one .part))
+          (oneSays text here (y .ready .scope) own (one .part)) (2 * length (formEncoding (one .part))) t₁ t₂ a b
       form-did {s₁} {t₁} {t₂} {b} g = by (one .part) refl
         where
-          by : (f : AForm) → one .part ≡ f → Keeps (y .ready .base) (here .top) s s₁ × Did (formFaults text (y .ready .scope) here f) (oneSays text here (y .ready .scope) own f) (2 * length (formEncoding f)) t₁ t₂ a b
+          by : (f : AForm) → one .part ≡ f
+              → Keeps (y .ready .base) (here .top) s s₁ × Did (formFaults text (y .ready .scope) here f) (oneSays text here (y .ready .scope) own f)
+              (2 * length (formEncoding f)) t₁ t₂ a b
           by alone q =
-              let x = g .plain (forms-size ∙ ap (λ (f : AForm). length (formEncoding f)) q) in
-              (subst (λ (z : List ℕ). Keeps (y .ready .base) (here .top) s z) (sym (x .0)) keeps-all, did-as _ _ (emits-did _ (x .1) (λ n. refl)) same-refl (λ n e. refl) (omega arith))
+              let x = g .plain (forms-size ∙ ap (λ (f : AForm). length (formEncoding f)) q) in (
+                subst (λ (z : List ℕ). Keeps (y .ready .base) (here .top) s z) (sym (x .0)) keeps-all,
+                did-as _ _ (emits-did _ (x .1) (λ n. refl))
+                    same-refl (λ n e. refl) (omega arith),
+              )
           by (onTest w e) q =
               let m : length (formEncoding (one .part)) ≡ length (encode e) = ap (λ (f : AForm). length (formEncoding f)) q in
-              let x = g .on (λ n. omega (arith, n, forms-size, m, closed-long (expression-closed e))) .by (ready-test w e q) in
-              (x .keeps, subst (λ (v : ℕ). Did (inExpression text (y .ready .scope) (leavable here) (here .height) e) (formSays text here (y .ready .scope) v own e) (2 * length (encode e)) t₁ t₂ a b) (one-word (y .ready) (y .starts) l es en p ew ∙ ap formWord q) (x .did))
+              let x = g .on (λ n. omega (arith, n, forms-size, m, closed-long (expression-closed e))) .by (ready-test w e q) in (
+                x .keeps,
+                subst
+                    (λ (v : ℕ). Did (inExpression text (y .ready .scope) (leavable here) (here .height) e) (formSays text here (y .ready .scope) v own e)
+                    (2 * length (encode e)) t₁ t₂ a b) (one-word (y .ready) (y .starts) l es en p ew ∙ ap formWord q) (x .did),
+              )
 
-  module _ {s t : List ℕ} {at size word next own : ℕ} {st : State} (l : at < end) (es : size ≡ getD s at 0) (ew : word ≡ getD s (at + 1) 0) (en : next ≡ at + 2 + size) where
-    pub forms-part : {a : State} → a .label ≡ st .label → (y : ReadyForms s₀ from end here st₀) → FormsPart y s t at own st → ReadyForm s next size here a
+  module _ {s t : List ℕ} {at size word next own : ℕ} {st : State} (l : at < end) (es : size ≡ getD s at 0) (ew : word ≡ getD s (at + 1) 0)
+      (en : next ≡ at + 2 + size) where
+    pub forms-part : {a : State} → a .label ≡ st .label → (y : ReadyForms s₀ from end here st₀) → FormsPart y s t at own st
+        → ReadyForm s next size here a
     forms-part el y p = ready-form l es ew en y p el
 
-    pub forms-next : {s₁ t₁ t₂ t₃ : List ℕ} {own′ : ℕ} {a b r : State} → Emits (I.label (own + 1) ∷ []) [] t t₁ st a → GaveForm text s s₁ next size word own here t₁ t₂ a b → Emits (I.label (own + 2) ∷ []) [] t₂ t₃ b r
+    pub forms-next : {s₁ t₁ t₂ t₃ : List ℕ} {own′ : ℕ} {a b r : State} → Emits (I.label (own + 1) ∷ []) [] t t₁ st a
+        → GaveForm text s s₁ next size word own here t₁ t₂ a b → Emits (I.label (own + 2) ∷ []) [] t₂ t₃ b r
         → own′ ≡ own - 3 → (y : ReadyForms s₀ from end here st₀) → FormsPart y s t at own st → FormsPart y s₁ t₃ next own′ r
     forms-next {t₃ = t₃} {r = r} m₁ g m₂ eo y p =
-        let z = y .ready in let u = one l es ew en y p in let x = form-did l es ew en y p (m₁ .label) g in let sc = z .scope in let n = forms-conditions l es ew en y p in
-        goes-on z (y .starts) l es en p (x .0) (omega arith) (omega (arith, x .1 .few, m₁ .label, m₂ .label)) (omega (arith, p .some, x .1 .grows, m₁ .label, m₂ .label))
+        let z = y .ready in let u = one l es ew en y p in let x = form-did l es ew en y p (m₁ .label) g in let sc = z .scope in
+        let n = forms-conditions l es ew en y p in
+        goes-on z (y .starts) l es en p (x .0) (omega arith) (omega (arith, x .1 .few, m₁ .label, m₂ .label))
+        (omega (arith, p .some, x .1 .grows, m₁ .label, m₂ .label))
         (λ t′ st′ d. did-as _ _
-        (did-then (did-put (did-after m₁ (x .1)) m₂) (subst (λ (o : ℕ). Did (inRepeats text sc (leavable here) (here .height) (u .more)) (formsSays text here sc o (u .more)) (2 * conditions (u .more)) t₃ t′ r st′) eo d))
+        (did-then (did-put (did-after m₁ (x .1)) m₂)
+        (subst (λ (o : ℕ). Did (inRepeats text sc (leavable here) (here .height) (u .more)) (formsSays text here sc o (u .more))
+        (2 * conditions (u .more)) t₃ t′ r st′) eo d))
         (same-eq (sym (form-faults text sc here (u .part) (u .more)))) (λ k c. form-code text here sc own k (u .part) (u .more)) (omega arith))
 
   pub forms-end : {s t : List ℕ} {at own : ℕ} {st : State} → end ≤ at → ((y : ReadyForms s₀ from end here st₀) → FormsPart y s t at own st)
@@ -216,14 +242,19 @@ module _ (text t₀ : List ℕ) (own₀ : ℕ) {s₀ : List ℕ} {from end : ℕ
 
 -- ---- the jump back
 
-pub form-alone : (text : List ℕ) {s t t′ : List ℕ} {end size word own : ℕ} {here : Here} {st r : State} → size ≡ 0 → Emits (G.JL own ∷ []) [] t t′ st r → GaveForm text s s end size word own here t t′ st r
+pub form-alone : (text : List ℕ) {s t t′ : List ℕ} {end size word own : ℕ} {here : Here} {st r : State} → size ≡ 0
+    → Emits (G.JL own ∷ []) [] t t′ st r → GaveForm text s s end size word own here t t′ st r
 form-alone text e f = record { plain = λ q. (refl, f); on = λ n. absurd (n e) }
 
-pub form-tested : (text : List ℕ) {s s₁ t t₁ t₂ : List ℕ} {end size word own j : ℕ} {here : Here} {st a r : State} → (size ≡ 0 → ⊥) → GaveE text s s₁ end here t t₁ st a → j ≡ cond (eqb word K.REPEATWHILE) 4 5
+pub form-tested : (text : List ℕ) {s s₁ t t₁ t₂ : List ℕ} {end size word own j : ℕ} {here : Here} {st a r : State} → (size ≡ 0 → ⊥)
+    → GaveE text s s₁ end here t t₁ st a → j ≡ cond (eqb word K.REPEATWHILE) 4 5
     → Emits (G.to j own ∷ []) [] t₁ t₂ a r → GaveForm text s s₁ end size word own here t t₂ st r
 form-tested text {t₁ = t₁} {t₂} {own = own} {a = a} {r} n g ej f = record {
   plain = λ q. absurd (n q);
-  on = λ q. record { by = λ y. let x = g .by y in record { keeps = x .keeps; did = did-put (x .did) (subst (λ (k : ℕ). Emits (G.to k own ∷ []) [] t₁ t₂ a r) ej f) } };
+  on = λ q. record {
+    by = λ y. let x = g .by y in record
+        { keeps = x .keeps; did = did-put (x .did) (subst (λ (k : ℕ). Emits (G.to k own ∷ []) [] t₁ t₂ a r) ej f) };
+  };
 }
 
 -- ---- a command with REPEAT forms
@@ -236,7 +267,8 @@ pub record IsRepeated (s : List ℕ) (lo end : ℕ) (u : Unlabelled) (rs : Repea
   pub size-of : getD s (end - 4) 0 ≡ length (encodeUnlabelled u) + length (encodeRepeats rs)
   pub ends : end ≡ lo + length (encodeUnlabelled u) + length (encodeRepeats rs) + 4
 
-repeated-of : {s : List ℕ} {lo end : ℕ} (u : Unlabelled) (rs : Repeats) → 1 ≤ forms rs → Lies s lo (O.closed (encodeUnlabelled u ++ encodeRepeats rs) (length (encodeUnlabelled u)) 0 O.REPEATED)
+repeated-of : {s : List ℕ} {lo end : ℕ} (u : Unlabelled) (rs : Repeats) → 1 ≤ forms rs
+    → Lies s lo (O.closed (encodeUnlabelled u ++ encodeRepeats rs) (length (encodeUnlabelled u)) 0 O.REPEATED)
     → end ≡ lo + length (O.closed (encodeUnlabelled u ++ encodeRepeats rs) (length (encodeUnlabelled u)) 0 O.REPEATED) → IsRepeated s lo end u rs
 repeated-of {lo = lo} u rs k h e =
     let x = encodeUnlabelled u in let y = encodeRepeats rs in
@@ -249,7 +281,8 @@ repeated-of {lo = lo} u rs k h e =
       ends = omega (arith, ends (x ++ y) (length x) 0 O.REPEATED h e, length-append x y);
     }
 
-is-repeated : {s : List ℕ} {lo end : ℕ} (u : Unlabelled) (rs : Repeats) → FinePlain u → Lies s lo (O.repeated (encodeUnlabelled u) (encodeRepeats rs)) → end ≡ lo + length (O.repeated (encodeUnlabelled u) (encodeRepeats rs))
+is-repeated : {s : List ℕ} {lo end : ℕ} (u : Unlabelled) (rs : Repeats) → FinePlain u → Lies s lo (O.repeated (encodeUnlabelled u) (encodeRepeats rs))
+    → end ≡ lo + length (O.repeated (encodeUnlabelled u) (encodeRepeats rs))
     → getD s (end - 1) 0 ≡ O.REPEATED → IsRepeated s lo end u rs
 unfolding O.repeated encodeRepeats forms
 is-repeated {s} {lo} {end} u T.noRepeats f h e q = absurd (omega (arith, q, form-small s lo end (form-of s lo end u f h e)))
@@ -261,12 +294,15 @@ pub record IsOnce (s : List ℕ) (lo end : ℕ) (u : Unlabelled) (rs : Repeats) 
   pub lies : Lies s lo (encodeUnlabelled u)
   pub ends : end ≡ lo + length (encodeUnlabelled u)
 
-is-once : {s : List ℕ} {lo end : ℕ} (u : Unlabelled) (rs : Repeats) → Lies s lo (O.repeated (encodeUnlabelled u) (encodeRepeats rs)) → end ≡ lo + length (O.repeated (encodeUnlabelled u) (encodeRepeats rs))
+is-once : {s : List ℕ} {lo end : ℕ} (u : Unlabelled) (rs : Repeats) → Lies s lo (O.repeated (encodeUnlabelled u) (encodeRepeats rs))
+    → end ≡ lo + length (O.repeated (encodeUnlabelled u) (encodeRepeats rs))
     → (getD s (end - 1) 0 ≡ O.REPEATED → ⊥) → IsOnce s lo end u rs
 unfolding O.repeated encodeRepeats
 is-once u T.noRepeats h e q = record { same = refl; lies = h; ends = e }
-is-once u (T.repeat rs) h e q = absurd (q (kind-is (encodeUnlabelled u ++ encodeRepeats (T.repeat rs)) (length (encodeUnlabelled u)) 0 O.REPEATED h e))
-is-once u (T.repeatOn w d rs) h e q = absurd (q (kind-is (encodeUnlabelled u ++ encodeRepeats (T.repeatOn w d rs)) (length (encodeUnlabelled u)) 0 O.REPEATED h e))
+is-once u (T.repeat rs) h e q =
+    absurd (q (kind-is (encodeUnlabelled u ++ encodeRepeats (T.repeat rs)) (length (encodeUnlabelled u)) 0 O.REPEATED h e))
+is-once u (T.repeatOn w d rs) h e q =
+    absurd (q (kind-is (encodeUnlabelled u ++ encodeRepeats (T.repeatOn w d rs)) (length (encodeUnlabelled u)) 0 O.REPEATED h e))
 
 -- two entries stand in front of each condition
 pub forms-entries : (rs : Repeats) → length (encodeRepeats rs) ≡ 2 * forms rs + conditions rs
@@ -275,12 +311,14 @@ forms-entries T.noRepeats = omega arith
 forms-entries (T.repeat rs) = omega (arith, forms-entries rs)
 forms-entries (T.repeatOn w e rs) = omega (arith, forms-entries rs, length-append (encode e) (encodeRepeats rs))
 
-any-repeats : (text : List ℕ) (l m : Leavable) (q : l .routine ≡ m .routine) (sc : Scope) (h : ℕ) (rs : Repeats) → inRepeats text sc l h rs ≡ inRepeats text sc m h rs
+any-repeats : (text : List ℕ) (l m : Leavable) (q : l .routine ≡ m .routine) (sc : Scope) (h : ℕ) (rs : Repeats)
+    → inRepeats text sc l h rs ≡ inRepeats text sc m h rs
 unfolding inRepeats
 any-repeats text l m q sc h T.noRepeats = refl
 any-repeats text l m q sc h (T.repeat rs) = any-repeats text l m q sc h rs
 any-repeats text l m q sc h (T.repeatOn w e rs) =
-    ap (λ (z : List Fault). z ++ inRepeats text sc l h rs) (any-expression text l m q sc h e) ∙ ap (λ (z : List Fault). inExpression text sc m h e ++ z) (any-repeats text l m q sc h rs)
+    ap (λ (z : List Fault). z ++ inRepeats text sc l h rs) (any-expression text l m q sc h e) ∙ ap
+    (λ (z : List Fault). inExpression text sc m h e ++ z) (any-repeats text l m q sc h rs)
 
 -- a command with forms is in a loop
 forms-leave : (rs : Repeats) (l : Leavable) → 1 ≤ forms rs → Y.repeated rs l ≡ Y.inLoop l
@@ -293,7 +331,8 @@ innermost-is : (n k own : ℕ) (ways : Ways) → 1 ≤ k → own ≡ n + 3 * k -
 innermost-is n zero own ways l e = absurd (omega arith)
 innermost-is n (suc k) own ways l e = let q : own ≡ n + 3 * k = omega arith in ap (λ (i : ℕ). exits (inLoop (i + 1) (i + 2) ways)) q
 
-module _ {s : List ℕ} {end : ℕ} {here : Here} {st : State} (n : Node) (nd : NodeAt s end n) (q : n .kind ≡ O.REPEATED) {middle : ℕ} (m : middle ≡ n .start + n .value) where
+module _ {s : List ℕ} {end : ℕ} {here : Here} {st : State} (n : Node) (nd : NodeAt s end n) (q : n .kind ≡ O.REPEATED) {middle : ℕ}
+    (m : middle ≡ n .start + n .value) where
   pub repeated-is : (y : ReadyR s end here st) → IsRepeated s (y .lo) end (y .tree .body) (y .tree .forms)
   repeated-is y = is-repeated (y .tree .body) (y .tree .forms) (y .fine .0) (y .lies) (y .ends) (sym (nd .kind) ∙ q)
 
@@ -303,41 +342,58 @@ module _ {s : List ℕ} {end : ℕ} {here : Here} {st : State} (n : Node) (nd : 
   module _ {k : ℕ} (c : Counts s middle (n .inner) k) where
     pub repeated-count : (y : ReadyR s end here st) → k ≡ forms (y .tree .forms)
     repeated-count y = let u = repeated-is y in
-        c .by (forms (y .tree .forms)) (repeat-items (y .tree .forms) (subst (λ (i : ℕ). Lies s i (encodeRepeats (y .tree .forms))) (sym (repeated-middle y)) (u .lies-forms)) (omega (arith, nd .inner, u .ends, repeated-middle y)))
+        c .by (forms (y .tree .forms))
+        (repeat-items (y .tree .forms) (subst (λ (i : ℕ). Lies s i (encodeRepeats (y .tree .forms))) (sym (repeated-middle y)) (u .lies-forms))
+        (omega (arith, nd .inner, u .ends, repeated-middle y)))
 
     pub repeated-few : (y : ReadyR s end here st) → (1 ≤ k) × (st .label + 3 * k + 3 ≤ 2 ^ 29)
-    repeated-few y = let u = repeated-is y in (omega (arith, repeated-count y, u .some), omega (arith, repeated-count y, forms-entries (y .tree .forms), y .label, y .ends, u .ends))
+    repeated-few y =
+        let u = repeated-is y in
+        (omega (arith, repeated-count y, u .some), omega (arith, repeated-count y, forms-entries (y .tree .forms), y .label, y .ends, u .ends))
 
     module _ {a b : State} {t t₁ : List ℕ} (e : Fresh (3 * k) st a) (f : Emits (topsCode (st .label) k) [] t t₁ a b) where
       abbrev pub repeated-body : ReadyR s end here st → ReadyU s middle here b
       repeated-body y = let u = repeated-is y in
-          sub encodeUnlabelled unlabelledDepth FinePlain y keeps-all middle (y .lo) here b (y .tree .body) (u .lies) (repeated-middle y) (omega arith) (omega (arith, repeated-middle y, u .ends)) refl refl
-          (omega (arith, y .height, y .ends, u .ends)) (omega (arith, y .label, y .ends, u .ends, e .label, f .label, repeated-count y, forms-entries (y .tree .forms))) (omega (arith, y .some, e .label, f .label))
+          sub encodeUnlabelled unlabelledDepth FinePlain y keeps-all middle (y .lo) here b (y .tree .body) (u .lies) (repeated-middle y) (omega arith)
+          (omega (arith, repeated-middle y, u .ends)) refl refl
+          (omega (arith, y .height, y .ends, u .ends))
+          (omega (arith, y .label, y .ends, u .ends, e .label, f .label, repeated-count y, forms-entries (y .tree .forms)))
+          (omega (arith, y .some, e .label, f .label))
           (omega (arith, y .shallow)) (y .fine .0)
 
-      module _ (text : List ℕ) (ways : Ways) {own : ℕ} (eo : own ≡ st .label + 3 * k - 3) {s₁ t₂ : List ℕ} {d : State} (g : GaveU text s s₁ middle here (inLoop (own + 1) (own + 2) ways) t₁ t₂ b d) where
+      module _ (text : List ℕ) (ways : Ways) {own : ℕ} (eo : own ≡ st .label + 3 * k - 3) {s₁ t₂ : List ℕ} {d : State}
+          (g : GaveU text s s₁ middle here (inLoop (own + 1) (own + 2) ways) t₁ t₂ b d) where
         abbrev pub repeated-forms : ReadyR s end here st → ReadyForms s₁ middle (n .inner) here d
         repeated-forms y = let u = repeated-is y in let x = g .by (repeated-body y) in record {
           before = st;
-          ready = sub encodeRepeats repeatsDepth FineRs y (x .keeps) (n .inner) (y .lo + length (encodeUnlabelled (y .tree .body))) here st (y .tree .forms) (u .lies-forms) (omega (arith, nd .inner, u .ends)) (omega arith) (omega (arith, nd .inner)) refl refl
-              (omega (arith, y .height, y .ends, u .ends)) (omega (arith, y .label, y .ends, u .ends)) (y .some) (omega (arith, y .shallow)) (y .fine .1);
+          ready =
+              sub encodeRepeats repeatsDepth FineRs y (x .keeps) (n .inner) (y .lo + length (encodeUnlabelled (y .tree .body))) here st
+              (y .tree .forms) (u .lies-forms) (omega (arith, nd .inner, u .ends)) (omega arith) (omega (arith, nd .inner)) refl refl
+              (omega (arith, y .height, y .ends, u .ends)) (omega (arith, y .label, y .ends, u .ends)) (y .some) (omega (arith, y .shallow))
+              (y .fine .1);
           starts = sym (repeated-middle y);
           label = omega (arith, y .label, y .ends, u .ends, e .label, f .label, repeated-count y, forms-entries (y .tree .forms), x .did .few);
           some = omega (arith, y .some, e .label, f .label, x .did .grows);
         }
 
-        pub repeated-gave : {s₂ t₃ : List ℕ} {r : State} → GaveForms text s₁ s₂ middle (n .inner) own here t₂ t₃ d r → GaveR text s s₂ end here ways t t₃ st r
+        pub repeated-gave : {s₂ t₃ : List ℕ} {r : State} → GaveForms text s₁ s₂ middle (n .inner) own here t₂ t₃ d r
+            → GaveR text s s₂ end here ways t t₃ st r
         repeated-gave {s₂} {t₃} {r} g₂ = record {
           by = λ y.
-              let u = repeated-is y in let x = g .by (repeated-body y) in let z = g₂ .by (repeated-forms y) in let sc = y .scope in let h = here .height in let S = here .strings in let L = st .label in
+              let u = repeated-is y in let x = g .by (repeated-body y) in let z = g₂ .by (repeated-forms y) in let sc = y .scope in
+              let h = here .height in let S = here .strings in let L = st .label in
               let rs = y .tree .forms in let C = unlabelled text sc h (y .tree .body) in let lv = leavableBy ways here in let N = L + 3 * k in
               let ek = repeated-count y in
-              let l₁ : leavableBy (inLoop (own + 1) (own + 2) ways) here ≡ Y.repeated rs lv = leaves-loop here ways (own + 1) (own + 2) (omega arith) ∙ sym (forms-leave rs lv (u .some)) in
-              let ei : exits (inLoop (own + 1) (own + 2) ways) ≡ innermost L (forms rs) (exits ways) = innermost-is L (forms rs) own ways (u .some) (eo ∙ ap (λ (i : ℕ). L + 3 * i - 3) ek) in
+              let l₁ : leavableBy (inLoop (own + 1) (own + 2) ways) here ≡ Y.repeated rs lv = leaves-loop here ways (own + 1) (own + 2) (omega arith)
+              ∙ sym (forms-leave rs lv (u .some)) in
+              let ei : exits (inLoop (own + 1) (own + 2) ways) ≡ innermost L (forms rs) (exits ways) = innermost-is L (forms rs) own ways (u .some)
+              (eo ∙ ap (λ (i : ℕ). L + 3 * i - 3) ek) in
               record {
                 keeps = keeps-then (x .keeps) (z .keeps);
                 did = did-at (cmdSays here ways (repeats text sc h C rs)) _ (did-fresh e (did-after f (did-then (x .did) (z .did))))
-                    (same-eq (ap (λ (p : Leavable). inUnlabelled text sc p h (y .tree .body) ++ inRepeats text sc (leavable here) h rs) l₁ ∙ ap (λ (w : List Fault). inUnlabelled text sc (Y.repeated rs lv) h (y .tree .body) ++ w) (any-repeats text (leavable here) lv refl sc h rs)))
+                    (same-eq (ap (λ (p : Leavable). inUnlabelled text sc p h (y .tree .body) ++ inRepeats text sc (leavable here) h rs) l₁ ∙ ap
+                    (λ (w : List Fault). inUnlabelled text sc (Y.repeated rs lv) h (y .tree .body) ++ w)
+                    (any-repeats text (leavable here) lv refl sc h rs)))
                     (λ v. code-is
                     (ap (λ (i : ℕ). topsCode L i ++ (G.cmdCode S h N (exits (inLoop (own + 1) (own + 2) ways)) C ++ formsCode text sc S h own rs (N + G.cmdLabels C))) ek
                     ∙ ap (λ (w : G.Exits). topsCode L (forms rs) ++ (G.cmdCode S h N w C ++ formsCode text sc S h own rs (N + G.cmdLabels C))) ei
@@ -354,14 +410,19 @@ module _ {s : List ℕ} {end : ℕ} {here : Here} {st : State} (n : Node) (nd : 
 
   abbrev pub once-part : ReadyR s end here st → ReadyU s end here st
   once-part y = let u = once-is y in
-      sub encodeUnlabelled unlabelledDepth FinePlain y keeps-all end (y .lo) here st (y .tree .body) (u .lies) (u .ends) (omega arith) (omega arith) refl refl
+      sub encodeUnlabelled unlabelledDepth FinePlain y keeps-all end (y .lo) here st (y .tree .body) (u .lies) (u .ends) (omega arith) (omega arith)
+      refl refl
       (omega (arith, y .height, y .ends, u .ends)) (omega (arith, y .label, y .ends, u .ends)) (y .some) (omega (arith, y .shallow)) (y .fine .0)
 
-  pub once-gave : (text : List ℕ) (ways : Ways) {s₁ t t₁ : List ℕ} {r : State} → GaveU text s s₁ end here ways t t₁ st r → GaveR text s s₁ end here ways t t₁ st r
+  pub once-gave : (text : List ℕ) (ways : Ways) {s₁ t t₁ : List ℕ} {r : State} → GaveU text s s₁ end here ways t t₁ st r
+      → GaveR text s s₁ end here ways t t₁ st r
   unfolding inRepeats repeats
   once-gave text ways {s₁} {t} {t₁} {r} g = record {
     by = λ y.
-        let u = once-is y in let x = g .by (once-part y) in let sc = y .scope in let h = here .height in let lv = leavableBy ways here in let U = y .tree .body in
-        subst (λ (rs : Repeats). Result (inUnlabelled text sc (Y.repeated rs lv) h U ++ inRepeats text sc lv h rs) (cmdSays here ways (repeats text sc h (unlabelled text sc h U) rs)) (length (encodeRepeated (y .tree))) (y .base) here s s₁ t t₁ st r) (sym (u .same))
+        let u = once-is y in let x = g .by (once-part y) in let sc = y .scope in let h = here .height in let lv = leavableBy ways here in
+        let U = y .tree .body in
+        subst (λ (rs : Repeats). Result (inUnlabelled text sc (Y.repeated rs lv) h U ++ inRepeats text sc lv h rs)
+        (cmdSays here ways (repeats text sc h (unlabelled text sc h U) rs)) (length (encodeRepeated (y .tree))) (y .base) here s s₁ t t₁ st r)
+        (sym (u .same))
         (record { keeps = x .keeps; did = did-as _ _ (x .did) (same-eq (sym (append-nil _))) (λ k v. refl) (omega (arith, y .ends, u .ends)) });
   }

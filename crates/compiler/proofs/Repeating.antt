@@ -24,14 +24,17 @@ use Rattle.compiler.specs.Repeats.{forms, topsCode, formsCode, formsHeig
 tops-snoc : (n k : ℕ) → topsCode n (suc k) ≡ topsCode n k ++ (I.label (n + 3 * k) ∷ [])
 unfolding topsCode
 tops-snoc n zero = let a : n ≡ n + 3 * 0 = omega arith in ap (λ (z : ℕ). I.label z ∷ []) a
-tops-snoc n (suc k) = let a : n + 3 + 3 * k ≡ n + 3 * suc k = omega arith in ap (λ (z : List I.Item). I.label n ∷ z) (tops-snoc (n + 3) k ∙ ap (λ (z : ℕ). topsCode (n + 3) k ++ (I.label z ∷ [])) a)
+tops-snoc n (suc k) =
+    let a : n + 3 + 3 * k ≡ n + 3 * suc k = omega arith in
+    ap (λ (z : List I.Item). I.label n ∷ z) (tops-snoc (n + 3) k ∙ ap (λ (z : ℕ). topsCode (n + 3) k ++ (I.label z ∷ [])) a)
 
 -- the loop that writes them
 pub tops-none : (n : ℕ) {t : List ℕ} {st : State} → Emits (topsCode n 0) [] t t st st
 unfolding topsCode lines greatest
 tops-none n = record { text = puts-none; high = refl; worst = refl; label = refl }
 
-pub tops-next : (n i : ℕ) {t t₁ t₂ : List ℕ} {st a b : State} → Emits (topsCode n i) [] t t₁ st a → Emits (I.label (n + 3 * i) ∷ []) [] t₁ t₂ a b → Emits (topsCode n (i + 1)) [] t t₂ st b
+pub tops-next : (n i : ℕ) {t t₁ t₂ : List ℕ} {st a b : State} → Emits (topsCode n i) [] t t₁ st a → Emits (I.label (n + 3 * i) ∷ []) [] t₁ t₂ a b
+    → Emits (topsCode n (i + 1)) [] t t₂ st b
 tops-next n i {t} {t₁} {t₂} {st} {a} {b} f g =
     let q : suc i ≡ i + 1 = omega arith in
     subst (λ (z : List I.Item). Emits z [] t t₂ st b) (sym (tops-snoc n i) ∙ ap (topsCode n) q) (emits-then f g)
@@ -47,16 +50,22 @@ module _ (text : List ℕ) (sc : Scope) (strings h : ℕ) where
   abbrev Whole : (n k N own m : ℕ) → Exits → Cmd → Repeats → List I.Item
   Whole n k N own m x c rs = topsCode n k ++ (cmdCode strings h N (innermost n k x) c ++ formsCode text sc strings h own rs m)
 
-  pub repeats-code : (rs : Repeats) (c : Cmd) (n N own m : ℕ) (x : Exits) → N ≡ n + 3 * forms rs → own ≡ N - 3 → m ≡ N + cmdLabels c → cmdCode strings h n x (repeats text sc h c rs) ≡ Whole n (forms rs) N own m x c rs
+  pub repeats-code : (rs : Repeats) (c : Cmd) (n N own m : ℕ) (x : Exits) → N ≡ n + 3 * forms rs → own ≡ N - 3 → m ≡ N + cmdLabels c
+      → cmdCode strings h n x (repeats text sc h c rs) ≡ Whole n (forms rs) N own m x c rs
   unfolding repeats forms formsCode topsCode cmdCode cmdLabels
-  repeats-code T.noRepeats c n N own m x e eo em = let a : n ≡ N = omega arith in ap (λ (z : ℕ). cmdCode strings h z x c) a ∙ sym (append-nil (cmdCode strings h N x c))
+  repeats-code T.noRepeats c n N own m x e eo em =
+      let a : n ≡ N = omega arith in
+      ap (λ (z : ℕ). cmdCode strings h z x c) a ∙ sym (append-nil (cmdCode strings h N x c))
   repeats-code (T.repeat rs) c n N own m x e eo em =
-      let k = forms rs in let M = n + 3 * k in let q : M + 3 ≡ N = omega arith in let p : own ≡ M = omega arith in let r : M + (3 + cmdLabels c) ≡ m = omega arith in
+      let k = forms rs in let M = n + 3 * k in let q : M + 3 ≡ N = omega arith in let p : own ≡ M = omega arith in
+      let r : M + (3 + cmdLabels c) ≡ m = omega arith in
       let C = cmdCode strings h N (G.inLoop (M + 1) (M + 2) x) c in
       let tail = I.label (M + 1) ∷ G.JL M ∷ I.label (M + 2) ∷ [] in
       let F = formsCode text sc strings h (M - 3) rs m in
       repeats-code rs (R.repeat c) n M (M - 3) m x refl refl (sym r)
-      ∙ ap (λ (z : List I.Item). topsCode n k ++ ((I.label M ∷ (z ++ tail)) ++ F)) (ap (λ (y : Exits). cmdCode strings h (M + 3) y c) (in-loops n k (M + 1) (M + 2) x) ∙ ap (λ (v : ℕ). cmdCode strings h v (G.inLoop (M + 1) (M + 2) x) c) q)
+      ∙ ap (λ (z : List I.Item). topsCode n k ++ ((I.label M ∷ (z ++ tail)) ++ F))
+      (ap (λ (y : Exits). cmdCode strings h (M + 3) y c) (in-loops n k (M + 1) (M + 2) x) ∙ ap
+      (λ (v : ℕ). cmdCode strings h v (G.inLoop (M + 1) (M + 2) x) c) q)
       ∙ ap (λ (z : List I.Item). topsCode n k ++ (I.label M ∷ z)) (append-assoc C tail F)
       ∙ sym (append-assoc (topsCode n k) (I.label M ∷ []) (C ++ (I.label (M + 1) ∷ G.JL M ∷ I.label (M + 2) ∷ F)))
       ∙ ap (λ (z : List I.Item). z ++ (C ++ (I.label (M + 1) ∷ G.JL M ∷ I.label (M + 2) ∷ F))) (sym (tops-snoc n k))
@@ -70,20 +79,28 @@ module _ (text : List ℕ) (sc : Scope) (strings h : ℕ) where
       let end = G.jumpWhen b M ∷ I.label (M + 2) ∷ [] in
       let F = formsCode text sc strings h (M - 3) rs (m + exprLabels E) in
       repeats-code rs (R.repeatWhile b c E) n M (M - 3) (m + exprLabels E) x refl refl (sym r)
-      ∙ ap (λ (z : List I.Item). topsCode n k ++ ((I.label M ∷ (z ++ (I.label (M + 1) ∷ (exprCode strings h (M + 3 + cmdLabels c) E ++ end)))) ++ F)) (ap (λ (y : Exits). cmdCode strings h (M + 3) y c) (in-loops n k (M + 1) (M + 2) x) ∙ ap (λ (v : ℕ). cmdCode strings h v (G.inLoop (M + 1) (M + 2) x) c) q)
+      ∙ ap (λ (z : List I.Item). topsCode n k ++ ((I.label M ∷ (z ++ (I.label (M + 1) ∷ (exprCode strings h (M + 3 + cmdLabels c) E ++ end)))) ++ F))
+      (ap (λ (y : Exits). cmdCode strings h (M + 3) y c) (in-loops n k (M + 1) (M + 2) x) ∙ ap
+      (λ (v : ℕ). cmdCode strings h v (G.inLoop (M + 1) (M + 2) x) c) q)
       ∙ ap (λ (v : ℕ). topsCode n k ++ ((I.label M ∷ (C ++ (I.label (M + 1) ∷ (exprCode strings h v E ++ end)))) ++ F)) r′
-      ∙ ap (λ (z : List I.Item). topsCode n k ++ (I.label M ∷ z)) (append-assoc C (I.label (M + 1) ∷ (X ++ end)) F ∙ ap (λ (z : List I.Item). C ++ (I.label (M + 1) ∷ z)) (append-assoc X end F))
+      ∙ ap (λ (z : List I.Item). topsCode n k ++ (I.label M ∷ z))
+      (append-assoc C (I.label (M + 1) ∷ (X ++ end)) F ∙ ap (λ (z : List I.Item). C ++ (I.label (M + 1) ∷ z)) (append-assoc X end F))
       ∙ sym (append-assoc (topsCode n k) (I.label M ∷ []) (C ++ (I.label (M + 1) ∷ (X ++ (G.jumpWhen b M ∷ I.label (M + 2) ∷ F)))))
       ∙ ap (λ (z : List I.Item). z ++ (C ++ (I.label (M + 1) ∷ (X ++ (G.jumpWhen b M ∷ I.label (M + 2) ∷ F))))) (sym (tops-snoc n k))
-      ∙ ap (λ (v : ℕ). topsCode n (suc k) ++ (C ++ (I.label (v + 1) ∷ (X ++ (G.jumpWhen b v ∷ I.label (v + 2) ∷ formsCode text sc strings h (v - 3) rs (m + exprLabels E)))))) (sym p)
+      ∙ ap (λ (v : ℕ). topsCode n (suc k)
+      ++ (C ++ (I.label (v + 1) ∷ (X ++ (G.jumpWhen b v ∷ I.label (v + 2) ∷ formsCode text sc strings h (v - 3) rs (m + exprLabels E)))))) (sym p)
 
-pub repeats-heights : (text : List ℕ) (sc : Scope) (h : ℕ) (rs : Repeats) (c : Cmd) → ofCmd h (repeats text sc h c rs) ≡ ofCmd h c ++ formsHeights text sc h rs
+pub repeats-heights : (text : List ℕ) (sc : Scope) (h : ℕ) (rs : Repeats) (c : Cmd)
+    → ofCmd h (repeats text sc h c rs) ≡ ofCmd h c ++ formsHeights text sc h rs
 unfolding repeats formsHeights ofCmd
 repeats-heights text sc h T.noRepeats c = sym (append-nil (ofCmd h c))
 repeats-heights text sc h (T.repeat rs) c = repeats-heights text sc h rs (R.repeat c)
-repeats-heights text sc h (T.repeatOn w e rs) c = let E = expression text sc h e in repeats-heights text sc h rs (R.repeatWhile (eqb w 21) c E) ∙ append-assoc (ofCmd h c) (ofExpr h E) (formsHeights text sc h rs)
+repeats-heights text sc h (T.repeatOn w e rs) c =
+    let E = expression text sc h e in
+    repeats-heights text sc h rs (R.repeatWhile (eqb w 21) c E) ∙ append-assoc (ofCmd h c) (ofExpr h E) (formsHeights text sc h rs)
 
-pub repeats-labels : (text : List ℕ) (sc : Scope) (h : ℕ) (rs : Repeats) (c : Cmd) → cmdLabels (repeats text sc h c rs) ≡ 3 * forms rs + (cmdLabels c + formsLabels text sc h rs)
+pub repeats-labels : (text : List ℕ) (sc : Scope) (h : ℕ) (rs : Repeats) (c : Cmd)
+    → cmdLabels (repeats text sc h c rs) ≡ 3 * forms rs + (cmdLabels c + formsLabels text sc h rs)
 unfolding repeats formsLabels forms cmdLabels
 repeats-labels text sc h T.noRepeats c = omega arith
 repeats-labels text sc h (T.repeat rs) c = omega (arith, repeats-labels text sc h rs (R.repeat c))

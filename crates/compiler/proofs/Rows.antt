@@ -49,12 +49,16 @@ constant-long c = go (c .minus)
     go true = negative-long (c .place) (c .simple)
     go false = positive-long (c .place) (c .simple)
 
-not-zero : {j : Verdict} (c : Constant) (x : Judged) → (j .number ≡ 0 → j .word ≡ 0 → ⊥) → Says j x → Says j (within c (λ v. cond (eqb v 0) false true) x)
+not-zero : {j : Verdict} (c : Constant) (x : Judged) → (j .number ≡ 0 → j .word ≡ 0 → ⊥) → Says j x
+    → Says j (within c (λ v. cond (eqb v 0) false true) x)
 not-zero {j} c (good v) n (fit q) = rw (ne-eqb (j .word) 0 (n q)) (fit q)
 not-zero c (refused fs) n (unfit a b w) = unfit a b w
 
-a-zero : {j : Verdict} (c : Constant) (x : Judged) {p : ℕ} → j .number ≡ 0 → j .word ≡ 0 → p ≡ c .place → Says j x → Says (record { word = 0; number = 11; place = p }) (within c (λ v. cond (eqb v 0) false true) x)
-a-zero {j} c (good v) {p} e w q (fit z) = rw (eq-eqb (j .word) 0 w) (subst (λ (k : ℕ). Says (record { word = 0; number = 11; place = p }) (refused (fault k 11))) q (unfit refl (λ z. omega arith) refl))
+a-zero : {j : Verdict} (c : Constant) (x : Judged) {p : ℕ} → j .number ≡ 0 → j .word ≡ 0 → p ≡ c .place → Says j x
+    → Says (record { word = 0; number = 11; place = p }) (within c (λ v. cond (eqb v 0) false true) x)
+a-zero {j} c (good v) {p} e w q (fit z) =
+    rw (eq-eqb (j .word) 0 w)
+    (subst (λ (k : ℕ). Says (record { word = 0; number = 11; place = p }) (refused (fault k 11))) q (unfit refl (λ z. omega arith) refl))
 a-zero c (refused fs) e w q (unfit a b z) = absurd (b (sym a ∙ e))
 
 module _ (text : List ℕ) {s : List ℕ} {from end top : ℕ} where
@@ -62,17 +66,21 @@ module _ (text : List ℕ) {s : List ℕ} {from end top : ℕ} where
   unfolding encodeBy
   by-none l = record { fits = (omega arith, omega arith); by = go }
     where
-      go : (sc : Scope) (k : Option Constant) → Shows s top sc → FineBy k → Lies s from (encodeBy k) → end ≡ from + length (encodeBy k) → Says (record { word = 1; number = 0; place = 0 }) (byJudged text sc k)
+      go : (sc : Scope) (k : Option Constant) → Shows s top sc → FineBy k → Lies s from (encodeBy k) → end ≡ from + length (encodeBy k)
+          → Says (record { word = 1; number = 0; place = 0 }) (byJudged text sc k)
       go sc none sh f h e = fit refl
       go sc (some c) sh f h e = absurd (omega (arith, constant-long c))
 
   -- whatever a constant there is judged, if there is one
   judges-by : {r : Verdict} → from < end → (r .place < 2 ^ 32) × (r .number < 32)
-      → ((sc : Scope) (c : Constant) → Shows s top sc → FineConstant c → Lies s from (encodeConstant c) → end ≡ from + length (encodeConstant c) → Says r (byJudged text sc (some c))) → JudgesBy text s from end top r
+      →
+      ((sc : Scope) (c : Constant) → Shows s top sc → FineConstant c → Lies s from (encodeConstant c) → end ≡ from + length (encodeConstant c) → Says
+      r (byJudged text sc (some c))) → JudgesBy text s from end top r
   unfolding encodeBy
   judges-by {r} l f g = record { fits = f; by = go }
     where
-      go : (sc : Scope) (k : Option Constant) → Shows s top sc → FineBy k → Lies s from (encodeBy k) → end ≡ from + length (encodeBy k) → Says r (byJudged text sc k)
+      go : (sc : Scope) (k : Option Constant) → Shows s top sc → FineBy k → Lies s from (encodeBy k) → end ≡ from + length (encodeBy k)
+          → Says r (byJudged text sc k)
       go sc none sh f h e = absurd (omega arith)
       go sc (some c) sh f h e = g sc c sh f h e
 
@@ -80,7 +88,8 @@ module _ (text : List ℕ) {s : List ℕ} {from end top : ℕ} where
     pub by-judged : (j .number ≡ 0 → j .word ≡ 0 → ⊥) → JudgesBy text s from end top j
     by-judged n = judges-by l (g .fits) (λ sc c sh f h e. not-zero c (judge text sc c) n (g .by sc from c sh f h e))
 
-    pub by-zero : {p e₂ : ℕ} → j .number ≡ 0 → j .word ≡ 0 → e₂ ≡ end - 2 → p ≡ getD s e₂ 0 → p < 2 ^ 32 → JudgesBy text s from end top (record { word = 0; number = 11; place = p })
+    pub by-zero : {p e₂ : ℕ} → j .number ≡ 0 → j .word ≡ 0 → e₂ ≡ end - 2 → p ≡ getD s e₂ 0 → p < 2 ^ 32
+        → JudgesBy text s from end top (record { word = 0; number = 11; place = p })
     by-zero {p} {e₂} n w q e f = judges-by l (f, omega arith) (λ sc c sh fine h en.
         a-zero c (judge text sc c) n w (e ∙ ap (λ (k : ℕ). getD s k 0) q ∙ place-there c fine h en) (g .by sc from c sh fine h en))
 
@@ -102,7 +111,8 @@ module _ {A : Type 0} {P : ℕ → A → Type 0} {s : List ℕ} {end : ℕ} wher
   pub left-all : {from : ℕ} (Q : List A → Type 0) {xs : List A} → Row P s end from xs → Q xs → Left P s end from Q
   left-all Q {xs} r h = record { rest = xs; row = r; holds = h }
 
-  pub left-next : {at next : ℕ} {Q : List A → Type 0} (Q′ : List A → Type 0) → at < end → NextItem s at end next → Left P s end at Q → ((x : A) (xs : List A) → next ≡ at + 2 + getD s at 0 → P next x → Q (x ∷ xs) → Q′ xs) → Left P s end next Q′
+  pub left-next : {at next : ℕ} {Q : List A → Type 0} (Q′ : List A → Type 0) → at < end → NextItem s at end next → Left P s end at Q
+      → ((x : A) (xs : List A) → next ≡ at + 2 + getD s at 0 → P next x → Q (x ∷ xs) → Q′ xs) → Left P s end next Q′
   left-next {at} {next} {Q} Q′ l n p step = go (p .rest) (p .row) (p .holds)
     where
       go : (xs : List A) → Row P s end at xs → Q xs → Left P s end next Q′
@@ -119,22 +129,27 @@ module _ {A : Type 0} {P : ℕ → A → Type 0} {s : List ℕ} {end : ℕ} wher
 
 -- ---- labels stand in a row
 
-pub an-item : {s : List ℕ} {at end tag : ℕ} (w rest : List ℕ) → Lies s at (length w ∷ tag ∷ (w ++ rest)) → end ≡ at + length (length w ∷ tag ∷ (w ++ rest)) → {T : Type 0}
-    → (at + 2 + getD s at 0 ≡ at + 2 + length w → Lies s (at + 2) w → Lies s (at + 2 + getD s at 0) rest → end ≡ at + 2 + getD s at 0 + length rest → T) → T
+pub an-item : {s : List ℕ} {at end tag : ℕ} (w rest : List ℕ) → Lies s at (length w ∷ tag ∷ (w ++ rest))
+    → end ≡ at + length (length w ∷ tag ∷ (w ++ rest)) → {T : Type 0}
+    →
+    (at + 2 + getD s at 0 ≡ at + 2 + length w → Lies s (at + 2) w → Lies s (at + 2 + getD s at 0) rest → end ≡ at + 2 + getD s at 0 + length rest → T)
+    → T
 an-item {s} {at} {end} {tag} w rest h e f =
     let a : at + 0 ≡ at = omega arith in
     let z : getD s at 0 ≡ length w = ap (λ (k : ℕ). getD s k 0) (sym a) ∙ h .at 0 (omega arith) in
     let r = second (length w ∷ tag ∷ []) (w ++ rest) (at + 2) h refl in
     f (omega arith) (first w rest r) (second w rest (at + 2 + getD s at 0) r (omega arith)) (omega (arith, length-append w rest))
 
-case-at : {s : List ℕ} {lo end : ℕ} (p : ℕ) (c : Constant) → FineConstant c → Lies s lo (closed (encodeConstant c) 0 p 28) → end ≡ lo + length (closed (encodeConstant c) 0 p 28) → LabelAt s end (T.case p c)
+case-at : {s : List ℕ} {lo end : ℕ} (p : ℕ) (c : Constant) → FineConstant c → Lies s lo (closed (encodeConstant c) 0 p 28)
+    → end ≡ lo + length (closed (encodeConstant c) 0 p 28) → LabelAt s end (T.case p c)
 case-at {s} {lo} {end} p c f h e = let w = encodeConstant c in
     aCase (kind-is w 0 p 28 h e) (place-is w 0 p 28 h e) (kid w 0 p 28 h e) (omega (arith, ends w 0 p 28 h e)) f
 
 default-at : {s : List ℕ} {lo end : ℕ} (p : ℕ) → Lies s lo (closed [] 0 p 29) → end ≡ lo + length (closed [] 0 p 29) → LabelAt s end (T.default p)
 default-at p h e = aDefault (kind-is [] 0 p 29 h e) (place-is [] 0 p 29 h e)
 
-pub labels-row : {s : List ℕ} {at end : ℕ} (ls : List Label) → FineLabels ls → Lies s at (encodeLabels ls) → end ≡ at + length (encodeLabels ls) → Row (LabelAt s) s end at ls
+pub labels-row : {s : List ℕ} {at end : ℕ} (ls : List Label) → FineLabels ls → Lies s at (encodeLabels ls) → end ≡ at + length (encodeLabels ls)
+    → Row (LabelAt s) s end at ls
 unfolding encodeLabels FineLabels
 labels-row {at = at} [] f h e = noMore {at = at} (omega arith)
 labels-row {s} {at} {end} (T.case p c ∷ ls) f h e = an-item (closed (encodeConstant c) 0 p 28) (encodeLabels ls) h e
@@ -144,7 +159,8 @@ labels-row {s} {at} {end} (T.default p ∷ ls) f h e = an-item (closed [] 0 p 29
 
 -- ---- a label before no command of a list
 
-pub twelve : {s : List ℕ} {end : ℕ} {st a : State} {n : Node} → NodeAt s end n → Faulted (n .place) 12 st a → {place : ℕ} → getD s (end - 2) 0 ≡ place → (t : List ℕ) → Did (fault place 12) nothing 0 t t st a
+pub twelve : {s : List ℕ} {end : ℕ} {st a : State} {n : Node} → NodeAt s end n → Faulted (n .place) 12 st a → {place : ℕ} → getD s (end - 2) 0 ≡ place
+    → (t : List ℕ) → Did (fault place 12) nothing 0 t t st a
 twelve {st = st} {a} nd w e t = subst (λ (k : ℕ). Did (fault k 12) nothing 0 t t st a) (nd .place ∙ e) (w .by nothing t)
 
 module _ (text : List ℕ) {s : List ℕ} {end top : ℕ} {st : State} (n : Node) (nd : NodeAt s end n) {a : State} (w : Faulted (n .place) 12 st a) where
@@ -162,27 +178,41 @@ module _ (text : List ℕ) {s : List ℕ} {end top : ℕ} {st : State} (n : Node
     where
       go : (sc : Scope) (l : Label) → Shows s top sc → LabelAt s end l → (t : List ℕ) → Did (misplaced text sc (l ∷ [])) nothing 0 t t st r
       go sc (T.case p c) sh (aCase {lo = lo} k e h en f) t =
-          did-as nothing 0 (did-then (twelve nd w e t) (b .by (judge text sc c) (g .by sc lo c sh f h (nd .inner ∙ en)) t)) (same-eq (sym (append-nil _))) (λ v z. refl) (omega arith)
+          did-as nothing 0 (did-then (twelve nd w e t) (b .by (judge text sc c) (g .by sc lo c sh f h (nd .inner ∙ en)) t))
+          (same-eq (sym (append-nil _))) (λ v z. refl) (omega arith)
       go sc (T.default p) sh (aDefault k e) t = absurd (omega (arith, nd .kind))
 
-misplaced-then : (text : List ℕ) (sc : Scope) (l : Label) (ls : List Label) → misplaced text sc (l ∷ []) ++ misplaced text sc ls ≡ misplaced text sc (l ∷ ls)
+misplaced-then : (text : List ℕ) (sc : Scope) (l : Label) (ls : List Label)
+    → misplaced text sc (l ∷ []) ++ misplaced text sc ls ≡ misplaced text sc (l ∷ ls)
 unfolding misplaced
 misplaced-then text sc (T.case p c) ls = ap (λ (z : List Fault). z ++ misplaced text sc ls) (append-nil (fault p 12 ++ faultsOf (judge text sc c)))
 misplaced-then text sc (T.default p) ls = refl
 
 module _ (text : List ℕ) {s : List ℕ} {from end top : ℕ} (st₀ : State) where
   abbrev pub MisplacedPart : (y : ReadyMisplaced s from end top) (at : ℕ) (st : State) → Type 0
-  MisplacedPart y at st = Left (LabelAt s) s end at (λ rest. (t : List ℕ) (st′ : State) → Did (misplaced text (y .scope) rest) nothing 0 t t st st′ → Did (misplaced text (y .scope) (y .labels)) nothing 0 t t st₀ st′)
+  MisplacedPart y at st =
+      Left (LabelAt s) s end at
+      (λ rest. (t : List ℕ) (st′ : State) → Did (misplaced text (y .scope) rest) nothing 0 t t st st′ → Did (misplaced text (y .scope) (y .labels))
+      nothing 0 t t st₀ st′)
 
   pub misplaced-begin : (y : ReadyMisplaced s from end top) → MisplacedPart y from st₀
-  misplaced-begin y = left-all (λ rest. (t : List ℕ) (st′ : State) → Did (misplaced text (y .scope) rest) nothing 0 t t st₀ st′ → Did (misplaced text (y .scope) (y .labels)) nothing 0 t t st₀ st′)
+  misplaced-begin y =
+      left-all
+      (λ rest. (t : List ℕ) (st′ : State) → Did (misplaced text (y .scope) rest) nothing 0 t t st₀ st′ → Did (misplaced text (y .scope) (y .labels))
+      nothing 0 t t st₀ st′)
       (labels-row (y .labels) (y .fine) (y .lies) (y .ends)) (λ t st′ d. d)
 
-  pub misplaced-next : {at next : ℕ} {st r : State} → at < end → NextItem s at end next → MisplacesLabel text s next top st r → (y : ReadyMisplaced s from end top) → MisplacedPart y at st → MisplacedPart y next r
+  pub misplaced-next : {at next : ℕ} {st r : State} → at < end → NextItem s at end next → MisplacesLabel text s next top st r
+      → (y : ReadyMisplaced s from end top) → MisplacedPart y at st → MisplacedPart y next r
   misplaced-next {at} {next} {st} {r} l n m y p =
-      left-next (λ rest. (t : List ℕ) (st′ : State) → Did (misplaced text (y .scope) rest) nothing 0 t t r st′ → Did (misplaced text (y .scope) (y .labels)) nothing 0 t t st₀ st′) l n p
-      (λ x xs e q h t st′ d. h t st′ (did-as nothing 0 (did-then (m .by (y .scope) x (y .shows) q t) d) (same-eq (misplaced-then text (y .scope) x xs)) (λ v z. refl) (omega arith)))
+      left-next
+      (λ rest. (t : List ℕ) (st′ : State) → Did (misplaced text (y .scope) rest) nothing 0 t t r st′ → Did (misplaced text (y .scope) (y .labels))
+      nothing 0 t t st₀ st′) l n p
+      (λ x xs e q h t st′ d. h t st′
+      (did-as nothing 0 (did-then (m .by (y .scope) x (y .shows) q t) d) (same-eq (misplaced-then text (y .scope) x xs)) (λ v z. refl)
+      (omega arith)))
 
-  pub misplaced-end : {at : ℕ} {st : State} → end ≤ at → ((y : ReadyMisplaced s from end top) → MisplacedPart y at st) → Misplaces text s from end top st₀ st
+  pub misplaced-end : {at : ℕ} {st : State} → end ≤ at → ((y : ReadyMisplaced s from end top) → MisplacedPart y at st)
+      → Misplaces text s from end top st₀ st
   unfolding misplaced
   misplaced-end {at} {st} l q = record { by = λ y t. left-end l (q y) t st (did-none 0) }

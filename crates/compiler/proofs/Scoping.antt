@@ -1,6 +1,6 @@
 -- Laws of spelling, of the stack of names, and of what is pushed on it.
 use mathlib.Core.Path.{_≡_, refl, sym, ap, subst, _∙_}
-use mathlib.Core.List.{List, [], _∷_, _++_}
+use mathlib.Core.List.{List, [], _∷_}
 use mathlib.Core.Bool.{Bool, true, false, cond, _&&_}
 use Prim.Native.Nat.{ℕ, zero, suc, _+_, _*_, _-_, _/_, _%_, _≤_, _<_, min}
 use native.Mathlib.Omega.{arith}
@@ -10,9 +10,10 @@ use lib.Seq.{getD-drop, getD-set-same, getD-set-other}
 use lib.Dec.{eqb}
 use borrow.Author.Tests.{eq-eqb, ne-eqb}
 use Rattle.language.specs.Tree.{Name}
-use Rattle.language.specs.Names.{Meaning, local, global, manifest, function, Found, unknown, known, Scope, outermost, opened, declared, lookup, inBlock, sameBytes, sameName}
+use Rattle.language.specs.Names.{Meaning, local, global, manifest, function, Found, unknown, known, Scope, opened, declared, lookup, inBlock}
+use Rattle.language.specs.Names.{sameBytes, sameName}
 use Rattle.language.specs.Fine.{FineName}
-use Rattle.compiler.specs.Scope.{named, nameAt, packed, code, found, Worded, Shows, nothing, mark, name, Looked, Told, Pushed, PushedName, Keeps}
+use Rattle.compiler.specs.Scope.{named, nameAt, packed, code, found, Worded, Shows, nothing, mark, name, Pushed, PushedName, Keeps}
 
 -- ---- spelling
 
@@ -40,34 +41,41 @@ module _ (text : List ℕ) (p q n : ℕ) where
   width : (p : ℕ) → length (take n (drop p text)) ≡ min n (length text - p)
   width p = length-take n (drop p text) ∙ ap (λ (k : ℕ). min n k) (length-drop p text)
 
-  pub not-long : {a b : ℕ} → a ≡ min n (length text - p) → b ≡ min n (length text - q) → (a ≡ b → ⊥) → false ≡ sameBytes (take n (drop p text)) (take n (drop q text))
+  pub not-long : {a b : ℕ} → a ≡ min n (length text - p) → b ≡ min n (length text - q) → (a ≡ b → ⊥)
+      → false ≡ sameBytes (take n (drop p text)) (take n (drop q text))
   not-long ea eb h = sym (sameBytes-length (take n (drop p text)) (take n (drop q text)) (λ e. h (ea ∙ sym (width p) ∙ e ∙ width q ∙ sym eb)))
 
-  pub long : {a b : ℕ} → a ≡ min n (length text - p) → b ≡ min n (length text - q) → a ≡ b → sameBytes (take a (drop p text)) (take a (drop q text)) ≡ sameBytes (take n (drop p text)) (take n (drop q text))
+  pub long : {a b : ℕ} → a ≡ min n (length text - p) → b ≡ min n (length text - q) → a ≡ b
+      → sameBytes (take a (drop p text)) (take a (drop q text)) ≡ sameBytes (take n (drop p text)) (take n (drop q text))
   long {a} {b} ea eb h =
       let x : take a (drop p text) ≡ take n (drop p text) = ap (λ (k : ℕ). take k (drop p text)) ea ∙ sym (spelt p) in
       let y : take a (drop q text) ≡ take n (drop q text) = ap (λ (k : ℕ). take k (drop q text)) (h ∙ eb) ∙ sym (spelt q) in
       ap (λ (l : List ℕ). sameBytes l (take a (drop q text))) x ∙ ap (λ (l : List ℕ). sameBytes (take n (drop p text)) l) y
 
 -- names of other widths, and of the same
-pub other-width : (text : List ℕ) (x place width : ℕ) → (x % 65536 ≡ width → ⊥) → false ≡ sameName text (named (x / 65536) (x % 65536)) (named place width)
-other-width text x place width h = sym (ap (λ (t : Bool). t && sameBytes (take (x % 65536) (drop (x / 65536) text)) (take width (drop place text))) (ne-eqb (x % 65536) width h))
+pub other-width : (text : List ℕ) (x place width : ℕ) → (x % 65536 ≡ width → ⊥)
+    → false ≡ sameName text (named (x / 65536) (x % 65536)) (named place width)
+other-width text x place width h =
+    sym (ap (λ (t : Bool). t && sameBytes (take (x % 65536) (drop (x / 65536) text)) (take width (drop place text))) (ne-eqb (x % 65536) width h))
 
-pub same-width : (text : List ℕ) (x place width : ℕ) {t : Bool} → x % 65536 ≡ width → t ≡ sameBytes (take width (drop (x / 65536) text)) (take width (drop place text))
+pub same-width : (text : List ℕ) (x place width : ℕ) {t : Bool} → x % 65536 ≡ width
+    → t ≡ sameBytes (take width (drop (x / 65536) text)) (take width (drop place text))
     → t ≡ sameName text (named (x / 65536) (x % 65536)) (named place width)
 same-width text x place width h e =
     e ∙ ap (λ (k : ℕ). sameBytes (take k (drop (x / 65536) text)) (take width (drop place text))) (sym h)
     ∙ sym (ap (λ (t : Bool). t && sameBytes (take (x % 65536) (drop (x / 65536) text)) (take width (drop place text))) (eq-eqb (x % 65536) width h))
 
 -- the bytes up to one, by that one
-last-same : (i : ℕ) (x y : List ℕ) → i < length x → i < length y → getD x i 0 ≡ getD y i 0 → sameBytes (take (suc i) x) (take (suc i) y) ≡ sameBytes (take i x) (take i y)
+last-same : (i : ℕ) (x y : List ℕ) → i < length x → i < length y → getD x i 0 ≡ getD y i 0
+    → sameBytes (take (suc i) x) (take (suc i) y) ≡ sameBytes (take i x) (take i y)
 unfolding sameBytes
 last-same i [] y a b e = absurd (omega arith)
 last-same i (c ∷ x) [] a b e = absurd (omega arith)
 last-same zero (c ∷ x) (d ∷ y) a b e = rw (eq-eqb c d e) refl
 last-same (suc i) (c ∷ x) (d ∷ y) a b e = ap (λ (t : Bool). cond (eqb c d) t false) (last-same i x y (omega arith) (omega arith) e)
 
-last-differs : (i : ℕ) (x y : List ℕ) → i < length x → i < length y → (getD x i 0 ≡ getD y i 0 → ⊥) → sameBytes (take (suc i) x) (take (suc i) y) ≡ false
+last-differs : (i : ℕ) (x y : List ℕ) → i < length x → i < length y → (getD x i 0 ≡ getD y i 0 → ⊥)
+    → sameBytes (take (suc i) x) (take (suc i) y) ≡ false
 unfolding sameBytes
 last-differs i [] y a b e = absurd (omega arith)
 last-differs i (c ∷ x) [] a b e = absurd (omega arith)
@@ -91,7 +99,8 @@ module _ (text : List ℕ) (p q i : ℕ) (h : 1 ≤ i) (hp : p + i ≤ length te
   whole : sameBytes (take i (drop p text)) (take i (drop q text)) ≡ sameBytes (take (suc (i - 1)) (drop p text)) (take (suc (i - 1)) (drop q text))
   whole = ap (λ (k : ℕ). sameBytes (take k (drop p text)) (take k (drop q text))) last
 
-  pub one-fewer : getD text (p + (i - 1)) 0 ≡ getD text (q + (i - 1)) 0 → sameBytes (take i (drop p text)) (take i (drop q text)) ≡ sameBytes (take (i - 1) (drop p text)) (take (i - 1) (drop q text))
+  pub one-fewer : getD text (p + (i - 1)) 0 ≡ getD text (q + (i - 1)) 0
+      → sameBytes (take i (drop p text)) (take i (drop q text)) ≡ sameBytes (take (i - 1) (drop p text)) (take (i - 1) (drop q text))
   one-fewer e = whole ∙ last-same (i - 1) (drop p text) (drop q text) (within p hp) (within q hq) (sym (byte p) ∙ e ∙ byte q)
 
   pub differs : (getD text (p + (i - 1)) 0 ≡ getD text (q + (i - 1)) 0 → ⊥) → false ≡ sameBytes (take i (drop p text)) (take i (drop q text))
@@ -119,7 +128,8 @@ pub record Left {A : Type 0} (ask : Scope → A) (s : List ℕ) (at : ℕ) (sc :
 pub left-all : {A : Type 0} (ask : Scope → A) {s : List ℕ} {at : ℕ} (sc : Scope) → Shows s at sc → Left ask s at sc
 left-all ask sc h = record { rest = sc; shows = h; same = refl }
 
-pub left-then : {A : Type 0} (ask : Scope → A) {s : List ℕ} {at at′ : ℕ} (sc : Scope) (l : Left ask s at sc) → Left ask s at′ (l .rest) → Left ask s at′ sc
+pub left-then : {A : Type 0} (ask : Scope → A) {s : List ℕ} {at at′ : ℕ} (sc : Scope) (l : Left ask s at sc) → Left ask s at′ (l .rest)
+    → Left ask s at′ sc
 left-then ask sc l r = record { rest = r .rest; shows = r .shows; same = l .same ∙ r .same }
 
 at-as : {s : List ℕ} {at at′ : ℕ} {sc : Scope} → at ≡ at′ → Shows s at sc → Shows s at′ sc
@@ -161,46 +171,63 @@ module _ (text s : List ℕ) (leaf at : ℕ) where
     in-open (name {below = b} {w = w} h e v p n y u) q =
         let g : at - 2 + 1 ≡ b + 1 = omega arith in absurd (code-not w (sym y ∙ sym (get-as s g) ∙ sym r ∙ q))
 
-    module _ {x place width : ℕ} (q : z ≡ 0 → ⊥) (rx : x ≡ getD s (at - 2) 0) (rw : width ≡ getD s (leaf + 1) 0) (rp : place ≡ getD s (leaf + 2) 0) where
+    module _ {x place width : ℕ} (q : z ≡ 0 → ⊥) (rx : x ≡ getD s (at - 2) 0) (rw : width ≡ getD s (leaf + 1) 0)
+        (rp : place ≡ getD s (leaf + 2) 0) where
       not-mark : (b : ℕ) → at ≡ b + 2 → getD s (b + 1) 0 ≡ 0 → ⊥
       not-mark b e y = let g : at - 2 + 1 ≡ b + 1 = omega arith in q (r ∙ get-as s g ∙ y)
 
       sought : named place width ≡ nameAt s leaf
       sought = ap (λ (k : ℕ). named k width) rp ∙ ap (λ (k : ℕ). named (getD s (leaf + 2) 0) k) rw
 
-      told : (b : ℕ) {n : Name} {t : Bool} → at ≡ b + 2 → getD s b 0 ≡ packed n → FineName n → t ≡ sameName text (named (x / 65536) (x % 65536)) (named place width) → t ≡ sameName text n (nameAt s leaf)
+      told : (b : ℕ) {n : Name} {t : Bool} → at ≡ b + 2 → getD s b 0 ≡ packed n → FineName n
+          → t ≡ sameName text (named (x / 65536) (x % 65536)) (named place width) → t ≡ sameName text n (nameAt s leaf)
       told b {n} {t} e y fine f =
           let g : at - 2 ≡ b = omega arith in
           let v : x ≡ packed n = rx ∙ get-as s g ∙ y in
           let h : x / 65536 ≡ n .place = omega (arith, fine .width) in
           let l : x % 65536 ≡ n .width = omega (arith, fine .width) in
-          f ∙ ap (λ (k : ℕ). sameName text (named k (x % 65536)) (named place width)) h ∙ ap (λ (k : ℕ). sameName text (named (n .place) k) (named place width)) l ∙ ap (λ (m : Name). sameName text n m) sought
+          f ∙ ap (λ (k : ℕ). sameName text (named k (x % 65536)) (named place width)) h ∙ ap
+          (λ (k : ℕ). sameName text (named (n .place) k) (named place width)) l ∙ ap (λ (m : Name). sameName text n m) sought
 
       code-is : (b : ℕ) (w : Meaning) → at ≡ b + 2 → getD s (b + 1) 0 ≡ code w → z ≡ code w
       code-is b w e y = let g : at - 2 + 1 ≡ b + 1 = omega arith in r ∙ get-as s g ∙ y
 
-      pub at-other : {sc : Scope} → Shows s at sc → false ≡ sameName text (named (x / 65536) (x % 65536)) (named place width) → Left (λ (k : Scope). lookup text k (nameAt s leaf)) s (at - 2) sc
+      pub at-other : {sc : Scope} → Shows s at sc → false ≡ sameName text (named (x / 65536) (x % 65536)) (named place width)
+          → Left (λ (k : Scope). lookup text k (nameAt s leaf)) s (at - 2) sc
       unfolding lookup
       at-other (nothing e) f = absurd (omega arith)
       at-other (mark {below = b} h e v y) f = absurd (not-mark b e y)
       at-other (name {below = b} {sc} {n} {w} h e v p y c u) f =
-          record { rest = sc; shows = at-as (omega arith) h; same = ap (λ (t : Bool). cond t (known w) (lookup text sc (nameAt s leaf))) (sym (told b e p y f)) }
+          record {
+            rest = sc;
+            shows = at-as (omega arith) h;
+            same = ap (λ (t : Bool). cond t (known w) (lookup text sc (nameAt s leaf)))
+                (sym (told b e p y f));
+          }
 
-      pub at-found : {sc : Scope} → Shows s at sc → true ≡ sameName text (named (x / 65536) (x % 65536)) (named place width) → z ≡ found (lookup text sc (nameAt s leaf))
+      pub at-found : {sc : Scope} → Shows s at sc → true ≡ sameName text (named (x / 65536) (x % 65536)) (named place width)
+          → z ≡ found (lookup text sc (nameAt s leaf))
       unfolding lookup found
       at-found (nothing e) f = absurd (omega arith)
       at-found (mark {below = b} h e v y) f = absurd (not-mark b e y)
       at-found (name {below = b} {sc} {n} {w} h e v p y c u) f =
           code-is b w e c ∙ ap (λ (t : Bool). found (cond t (known w) (lookup text sc (nameAt s leaf)))) (told b e p y f)
 
-      pub in-other : {sc : Scope} → Shows s at sc → false ≡ sameName text (named (x / 65536) (x % 65536)) (named place width) → Left (λ (k : Scope). inBlock text k (nameAt s leaf)) s (at - 2) sc
+      pub in-other : {sc : Scope} → Shows s at sc → false ≡ sameName text (named (x / 65536) (x % 65536)) (named place width)
+          → Left (λ (k : Scope). inBlock text k (nameAt s leaf)) s (at - 2) sc
       unfolding inBlock
       in-other (nothing e) f = absurd (omega arith)
       in-other (mark {below = b} h e v y) f = absurd (not-mark b e y)
       in-other (name {below = b} {sc} {n} {w} h e v p y c u) f =
-          record { rest = sc; shows = at-as (omega arith) h; same = ap (λ (t : Bool). cond t (known w) (inBlock text sc (nameAt s leaf))) (sym (told b e p y f)) }
+          record {
+            rest = sc;
+            shows = at-as (omega arith) h;
+            same = ap (λ (t : Bool). cond t (known w) (inBlock text sc (nameAt s leaf)))
+                (sym (told b e p y f));
+          }
 
-      pub in-found : {sc : Scope} → Shows s at sc → true ≡ sameName text (named (x / 65536) (x % 65536)) (named place width) → z ≡ found (inBlock text sc (nameAt s leaf))
+      pub in-found : {sc : Scope} → Shows s at sc → true ≡ sameName text (named (x / 65536) (x % 65536)) (named place width)
+          → z ≡ found (inBlock text sc (nameAt s leaf))
       unfolding inBlock found
       in-found (nothing e) f = absurd (omega arith)
       in-found (mark {below = b} h e v y) f = absurd (not-mark b e y)
@@ -227,7 +254,8 @@ looked-word text n (name {sc = sc} {n = m} {w = w} h e v p y c u) = go (sameName
 pub keeps-shows : {base top : ℕ} {s s′ : List ℕ} {at : ℕ} {sc : Scope} → Keeps base top s s′ → at ≤ top → Shows s at sc → Shows s′ at sc
 keeps-shows k l (nothing e) = nothing e
 keeps-shows k l (mark {below = b} h e v z) = mark (keeps-shows k (omega arith) h) e (omega (arith, k .long)) (k .below (b + 1) (omega arith) ∙ z)
-keeps-shows k l (name {below = b} h e v p f w u) = name (keeps-shows k (omega arith) h) e (omega (arith, k .long)) (k .below b (omega arith) ∙ p) f (k .below (b + 1) (omega arith) ∙ w) u
+keeps-shows k l (name {below = b} h e v p f w u) =
+    name (keeps-shows k (omega arith) h) e (omega (arith, k .long)) (k .below b (omega arith) ∙ p) f (k .below (b + 1) (omega arith) ∙ w) u
 
 pub keeps-all : {base top : ℕ} {s : List ℕ} → Keeps base top s s
 keeps-all = record { below = λ i l. refl; above = λ i l. refl; long = refl }
@@ -238,7 +266,8 @@ keeps-then a b = record { below = λ i l. b .below i l ∙ a .below i l; above =
 -- the tree's leaves are the same
 pub keeps-name : {base top leaf : ℕ} {s s′ : List ℕ} → Keeps base top s s′ → base ≤ leaf → nameAt s′ leaf ≡ nameAt s leaf
 keeps-name {leaf = leaf} {s} {s′} k l =
-    ap (λ (z : ℕ). named z (getD s′ (leaf + 1) 0)) (k .above (leaf + 2) (omega arith)) ∙ ap (λ (z : ℕ). named (getD s (leaf + 2) 0) z) (k .above (leaf + 1) (omega arith))
+    ap (λ (z : ℕ). named z (getD s′ (leaf + 1) 0)) (k .above (leaf + 2) (omega arith)) ∙ ap (λ (z : ℕ). named (getD s (leaf + 2) 0) z)
+    (k .above (leaf + 1) (omega arith))
 
 -- what keeps a higher stack keeps a lower one
 pub keeps-lower : {base top low : ℕ} {s s′ : List ℕ} → low ≤ top → Keeps base top s s′ → Keeps base low s s′
@@ -256,10 +285,13 @@ module _ {s s′ : List ℕ} {top first m base : ℕ} (h : Pushed s s′ top fir
       other i a b = ap (λ (z : List ℕ). getD z i 0) (h .is) ∙ getD-set-other (set s top first) (top + 1) i m 0 b ∙ getD-set-other s top i first 0 a
 
   push-first : getD s′ top 0 ≡ first
-  push-first = ap (λ (z : List ℕ). getD z top 0) (h .is) ∙ getD-set-other (set s top first) (top + 1) top m 0 (λ e. omega arith) ∙ getD-set-same s top first 0 (omega arith)
+  push-first =
+      ap (λ (z : List ℕ). getD z top 0) (h .is) ∙ getD-set-other (set s top first) (top + 1) top m 0 (λ e. omega arith) ∙ getD-set-same s top first 0
+      (omega arith)
 
   push-second : getD s′ (top + 1) 0 ≡ m
-  push-second = ap (λ (z : List ℕ). getD z (top + 1) 0) (h .is) ∙ getD-set-same (set s top first) (top + 1) m 0 (omega (arith, length-set s top first))
+  push-second =
+      ap (λ (z : List ℕ). getD z (top + 1) 0) (h .is) ∙ getD-set-same (set s top first) (top + 1) m 0 (omega (arith, length-set s top first))
 
   pub pushed-keeps : Keeps base top s s′
   pushed-keeps = push-keeps
@@ -267,14 +299,18 @@ module _ {s s′ : List ℕ} {top first m base : ℕ} (h : Pushed s s′ top fir
   pub pushed-mark : {sc : Scope} → Shows s top sc → m ≡ 0 → Shows s′ (top + 2) (opened sc)
   pushed-mark sh e = mark (keeps-shows push-keeps (omega arith) sh) refl (omega (arith, push-keeps .long)) (push-second ∙ e)
 
-  pushed-as : {sc : Scope} (n : Name) (w : Meaning) → Shows s top sc → first ≡ packed n → FineName n → m ≡ code w → Worded w → Shows s′ (top + 2) (declared sc n w)
-  pushed-as n w sh f g e u = name (keeps-shows push-keeps (omega arith) sh) refl (omega (arith, push-keeps .long)) (push-first ∙ f) g (push-second ∙ e) u
+  pushed-as : {sc : Scope} (n : Name) (w : Meaning) → Shows s top sc → first ≡ packed n → FineName n → m ≡ code w → Worded w
+      → Shows s′ (top + 2) (declared sc n w)
+  pushed-as n w sh f g e u =
+      name (keeps-shows push-keeps (omega arith) sh) refl (omega (arith, push-keeps .long)) (push-first ∙ f) g (push-second ∙ e) u
 
-pub pushed-name : {s s′ : List ℕ} {top leaf m base : ℕ} → PushedName s s′ top leaf m → top + 2 ≤ base → base ≤ length s → {sc : Scope} (w : Meaning) → Shows s top sc → m ≡ code w → Worded w
+pub pushed-name : {s s′ : List ℕ} {top leaf m base : ℕ} → PushedName s s′ top leaf m → top + 2 ≤ base → base ≤ length s → {sc : Scope} (w : Meaning)
+    → Shows s top sc → m ≡ code w → Worded w
     → Shows s′ (top + 2) (declared sc (nameAt s leaf) w)
 pushed-name {s} {leaf = leaf} h l long w sh e u = pushed-as (h .pushed) l long (nameAt s leaf) w sh refl (h .fine) e u
 
-pub pushed-leaf : {s s′ : List ℕ} {top leaf m width place : ℕ} → Pushed s s′ top (place * 65536 + width) m → width ≡ getD s (leaf + 1) 0 → place ≡ getD s (leaf + 2) 0 → FineName (nameAt s leaf)
+pub pushed-leaf : {s s′ : List ℕ} {top leaf m width place : ℕ} → Pushed s s′ top (place * 65536 + width) m → width ≡ getD s (leaf + 1) 0
+    → place ≡ getD s (leaf + 2) 0 → FineName (nameAt s leaf)
     → PushedName s s′ top leaf m
 pushed-leaf {s} {top = top} {leaf} {m} {width} {place} h ew ep f =
     let e : place * 65536 + width ≡ packed (nameAt s leaf) = omega (arith, ew, ep) in

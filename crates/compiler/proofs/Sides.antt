@@ -1,12 +1,12 @@
 -- Monadic operators, what @ may take, and left sides.
-use Prim.Native.Nat.{ℕ, zero, suc, _+_, _*_, _-_, _≤_, _<_, _/_, _%_, _^_, max}
+use Prim.Native.Nat.{ℕ, _+_, _*_, _-_, _≤_, _<_, _/_, _%_}
 use mathlib.Core.Path.{_≡_, refl, sym, ap, subst, _∙_}
 use mathlib.Core.Bool.{Bool, true, false, cond}
 use mathlib.Core.List.{List, [], _∷_, _++_, append-nil, append-assoc}
 use native.Mathlib.Omega.{arith}
 use lib.ListN.{length, getD, length-append}
 use lib.Dec.{eqb}
-use borrow.Author.Tests.{eq-eqb, ne-eqb}
+use borrow.Author.Tests.{ne-eqb}
 use Rattle.items.specs.Item as I
 use Rattle.language.specs.Tree as T
 use Rattle.language.specs.Tree.{Name, Expression, Expressions, Suffixes, Operations, placeOf, endsInCall}
@@ -16,7 +16,8 @@ use Rattle.language.specs.Names.{Scope, lookup, onFound}
 use Rattle.language.specs.Constants.{Fault, fault}
 use Rattle.language.specs.Resolved as R
 use Rattle.language.specs.Resolved.{Expr}
-use Rattle.language.specs.Resolve.{expression, expressions, suffixes, operations, ofMeaning, Side, side, noSide, sideOf, targetOf, addressOf, resolvedMonadic, under}
+use Rattle.language.specs.Resolve.{expression, expressions, suffixes, operations, ofMeaning, Side, side, noSide, sideOf, targetOf, addressOf}
+use Rattle.language.specs.Resolve.{resolvedMonadic, under}
 use Rattle.language.specs.Heights.{ofExpr, ofTarget}
 use Rattle.code.specs.Generate as G
 use Rattle.code.specs.Generate.{exprCode, exprLabels, monadicAct}
@@ -28,16 +29,19 @@ use Rattle.compiler.proofs.Scoping.{keeps-all, keeps-then, code-not}
 use Rattle.compiler.specs.declared.steps.State.{State}
 use Rattle.compiler.specs.declared.steps.Here.{Here}
 use Rattle.compiler.specs.declared.steps.Node.{Node}
-use Rattle.compiler.specs.Fine.{FineE, FineSs}
+use Rattle.compiler.specs.Fine.{FineE}
 use Rattle.language.specs.Fine.{Fine}
 use Rattle.compiler.specs.Walked.{inside, raised, leavable, NodeAt, Code, Did, Emits, Faulted}
-use Rattle.compiler.specs.Walks.{Lies, Ready, Result, Gave, ReadyE, GaveE, ReadySuffixes, GaveSuffixes, faultsE, codeE, encodeApplied}
-use Rattle.compiler.specs.Commands.{exprSays, targetSays, GaveMonadic, GaveAddress, GaveAddressIndex, GaveSide, GaveSideIndex, GaveRefused, IndexKind, AddressOf, StoreTo}
-use Rattle.compiler.proofs.Done.{emits-did, did-emit, did-put, did-after, did-then, did-as, did-at, same-refl, same-eq, code-is, nil-right}
-use Rattle.compiler.proofs.Trees.{Case, aMonadic, find, is-bracket, is-name, value-is, place-is, kind-is}
+use Rattle.compiler.specs.Walks.{Lies, Result, ReadyE, GaveE, ReadySuffixes, GaveSuffixes, faultsE, codeE}
+use Rattle.compiler.specs.Commands.{exprSays, targetSays, GaveMonadic, GaveAddress, GaveAddressIndex, GaveSide, GaveSideIndex, GaveRefused}
+use Rattle.compiler.specs.Commands.{AddressOf, StoreTo}
+use Rattle.compiler.proofs.Done.{emits-did, did-emit, did-put, did-after, did-then, did-as, same-refl, same-eq, code-is, nil-right}
+use Rattle.compiler.proofs.Trees.{Case, aMonadic, find, is-bracket, is-name, value-is, place-is}
 use Rattle.compiler.proofs.Parts.{sub}
 use Rattle.compiler.proofs.Expressions.{bracket-part}
-use Rattle.compiler.proofs.Calls.{Last, aCall, anIndex, last, snocCall, snocIndex, is-index, the-last, index-left, index-right, applied-lies, applied-ends, suffixed-is, suffixed-part, suffixed-middle, with-state, under-index, suffixes-index, faults-index}
+use Rattle.compiler.proofs.Calls.{Last, aCall, anIndex, last, snocCall, snocIndex, is-index, the-last, index-left, index-right, applied-lies}
+use Rattle.compiler.proofs.Calls.{applied-ends, suffixed-is, suffixed-part, suffixed-middle, with-state, under-index, suffixes-index}
+use Rattle.compiler.proofs.Calls.{faults-index}
 use Rattle.compiler.proofs.Guards.{IsClosed, expression-closed, kind-of, shut}
 
 -- ---- places and values of records
@@ -94,18 +98,25 @@ module _ {s : List ℕ} {end : ℕ} {here : Here} {st : State} (n : Node) (nd : 
 
   abbrev pub monadic-part : ReadyE s end here st → ReadyE s (n .inner) (inside here) st
   monadic-part y = let u = monadic-is y in
-      sub encode depth FineE y keeps-all (n .inner) (y .lo) (inside here) st (u .part) (u .lies) (omega (arith, nd .inner, u .ends)) (omega arith) (omega (arith, nd .inner)) refl refl
-      (omega (arith, y .height, y .ends, u .ends)) (omega (arith, y .label, y .ends, u .ends)) (y .some) (omega (arith, monadic-deep y)) (monadic-fine y)
+      sub encode depth FineE y keeps-all (n .inner) (y .lo) (inside here) st (u .part) (u .lies) (omega (arith, nd .inner, u .ends)) (omega arith)
+      (omega (arith, nd .inner)) refl refl
+      (omega (arith, y .height, y .ends, u .ends)) (omega (arith, y .label, y .ends, u .ends)) (y .some) (omega (arith, monadic-deep y))
+      (monadic-fine y)
 
-  pub monadic-gave : (text : List ℕ) {s′ t t′ : List ℕ} {r : State} → GaveMonadic text s s′ (n .value) (n .inner) (inside here) t t′ st r → GaveE text s s′ end here t t′ st r
+  pub monadic-gave : (text : List ℕ) {s′ t t′ : List ℕ} {r : State} → GaveMonadic text s s′ (n .value) (n .inner) (inside here) t t′ st r
+      → GaveE text s s′ end here t t′ st r
   unfolding inExpression expression
   monadic-gave text {s′} {t} {t′} {r} g = record {
     by = λ y. let u = monadic-is y in let x = g .by (monadic-part y) in let sc = y .scope in let h = here .height in
-        subst (λ (e : Expression). Result (faultsE text here sc e) (codeE text here sc e) (length (encode (y .tree))) (y .base) here s s′ t t′ st r) (sym (u .same))
+        subst (λ (e : Expression). Result (faultsE text here sc e) (codeE text here sc e) (length (encode (y .tree))) (y .base) here s s′ t t′ st r)
+        (sym (u .same))
         (record {
           keeps = x .keeps;
           did = more _
-              (subst (λ (o : ℕ). Did (inExpression text sc (leavable here) h (u .part) ++ cond (eqb o 50) (unlessSide (placeOf (u .part)) (sideOf (expression text sc h (u .part)))) []) (exprSays here (resolvedMonadic o (expression text sc h (u .part)))) (2 * length (encode (u .part))) t t′ st r) (nd .value ∙ u .value-of) (x .did))
+              (subst (λ (o : ℕ). Did (inExpression text sc (leavable here) h (u .part) ++ cond (eqb o 50)
+              (unlessSide (placeOf (u .part)) (sideOf (expression text sc h (u .part)))) [])
+              (exprSays here (resolvedMonadic o (expression text sc h (u .part)))) (2 * length (encode (u .part))) t t′ st r)
+              (nd .value ∙ u .value-of) (x .did))
               (omega (arith, y .ends, u .ends));
         });
   }
@@ -114,12 +125,14 @@ module _ (text : List ℕ) {s s₁ t t₂ : List ℕ} {o end : ℕ} {here : Here
   so : {k : ℕ} → o ≡ k → GaveMonadic text s s₁ k end here t t₂ st r → GaveMonadic text s s₁ o end here t t₂ st r
   so e g = subst (λ (z : ℕ). GaveMonadic text s s₁ z end here t t₂ st r) (sym e) g
 
-  pub monadic-address : (n : Node) → NodeAt s end n → o ≡ 50 → GaveAddress text s s₁ end (n .place) here t t₂ st r → GaveMonadic text s s₁ o end here t t₂ st r
+  pub monadic-address : (n : Node) → NodeAt s end n → o ≡ 50 → GaveAddress text s s₁ end (n .place) here t t₂ st r
+      → GaveMonadic text s s₁ o end here t t₂ st r
   monadic-address n nd e g = so e (record {
     by = λ y. let x = g .by y in let sc = y .scope in let h = here .height in record {
       keeps = x .keeps;
       did =
-          subst (λ (p : ℕ). Did (inExpression text sc (leavable here) h (y .tree) ++ unlessSide p (sideOf (expression text sc h (y .tree)))) (exprSays here (addressOf (sideOf (expression text sc h (y .tree))))) (2 * length (encode (y .tree))) t t₂ st r)
+          subst (λ (p : ℕ). Did (inExpression text sc (leavable here) h (y .tree) ++ unlessSide p (sideOf (expression text sc h (y .tree))))
+          (exprSays here (addressOf (sideOf (expression text sc h (y .tree))))) (2 * length (encode (y .tree))) t t₂ st r)
           (nd .place ∙ place-of (expression-closed (y .tree)) (y .lies) (y .ends) ∙ place-closed (y .tree)) (x .did);
     };
   })
@@ -127,17 +140,30 @@ module _ (text : List ℕ) {s s₁ t t₂ : List ℕ} {o end : ℕ} {here : Here
 module _ (text : List ℕ) {s s₁ t t₁ t₂ : List ℕ} {o end : ℕ} {here : Here} {st a r : State} where
   pub monadic-pling : o ≡ 49 → GaveE text s s₁ end here t t₁ st a → Emits (G.X 1 ∷ []) [] t₁ t₂ a r → GaveMonadic text s s₁ o end here t t₂ st r
   unfolding exprCode ofExpr exprLabels
-  monadic-pling e g f = so text e (record { by = λ y. let x = g .by y in record { keeps = x .keeps; did = did-as _ _ (did-put (x .did) f) (same-eq (sym (append-nil _))) (λ n v. refl) (omega arith) } })
+  monadic-pling e g f =
+      so text e (record {
+        by = λ y. let x = g .by y in record
+            { keeps = x .keeps; did = did-as _ _ (did-put (x .did) f) (same-eq (sym (append-nil _))) (λ n v. refl) (omega arith) };
+      })
 
   pub monadic-minus : o ≡ 36 → GaveE text s s₁ end here t t₁ st a → Emits (G.X 2 ∷ []) [] t₁ t₂ a r → GaveMonadic text s s₁ o end here t t₂ st r
   unfolding exprCode ofExpr exprLabels monadicAct
-  monadic-minus e g f = so text e (record { by = λ y. let x = g .by y in record { keeps = x .keeps; did = did-as _ _ (did-put (x .did) f) (same-eq (sym (append-nil _))) (λ n v. refl) (omega arith) } })
+  monadic-minus e g f =
+      so text e (record {
+        by = λ y. let x = g .by y in record
+            { keeps = x .keeps; did = did-as _ _ (did-put (x .did) f) (same-eq (sym (append-nil _))) (λ n v. refl) (omega arith) };
+      })
 
   pub monadic-not : o ≡ 11 → GaveE text s s₁ end here t t₁ st a → Emits (G.X 3 ∷ []) [] t₁ t₂ a r → GaveMonadic text s s₁ o end here t t₂ st r
   unfolding exprCode ofExpr exprLabels monadicAct
-  monadic-not e g f = so text e (record { by = λ y. let x = g .by y in record { keeps = x .keeps; did = did-as _ _ (did-put (x .did) f) (same-eq (sym (append-nil _))) (λ n v. refl) (omega arith) } })
+  monadic-not e g f =
+      so text e (record {
+        by = λ y. let x = g .by y in record
+            { keeps = x .keeps; did = did-as _ _ (did-put (x .did) f) (same-eq (sym (append-nil _))) (λ n v. refl) (omega arith) };
+      })
 
-pub monadic-other : (text : List ℕ) {s s₁ t t₁ : List ℕ} {o end : ℕ} {here : Here} {st r : State} → (o ≡ 50 → ⊥) → (o ≡ 49 → ⊥) → (o ≡ 36 → ⊥) → (o ≡ 11 → ⊥) → GaveE text s s₁ end here t t₁ st r → GaveMonadic text s s₁ o end here t t₁ st r
+pub monadic-other : (text : List ℕ) {s s₁ t t₁ : List ℕ} {o end : ℕ} {here : Here} {st r : State} → (o ≡ 50 → ⊥) → (o ≡ 49 → ⊥) → (o ≡ 36 → ⊥)
+    → (o ≡ 11 → ⊥) → GaveE text s s₁ end here t t₁ st r → GaveMonadic text s s₁ o end here t t₁ st r
 unfolding exprCode ofExpr exprLabels monadicAct
 monadic-other text {s} {s₁} {t} {t₁} {o} {end} {here} {st} {r} n1 n2 n3 n4 g = record {
   by = λ y. let x = g .by y in let sc = y .scope in let h = here .height in let E = expression text sc h (y .tree) in
@@ -146,37 +172,50 @@ monadic-other text {s} {s₁} {t} {t₁} {o} {end} {here} {st} {r} n1 n2 n3 n4 g
       let ef : cond (eqb o 50) (unlessSide (placeOf (y .tree)) (sideOf E)) [] ≡ [] = rw (ne-eqb o 50 n1) in
       record {
         keeps = x .keeps;
-        did = did-as (exprSays here (resolvedMonadic o E)) _ (x .did) (same-eq (sym (append-nil _) ∙ ap (λ (z : List Fault). inExpression text sc (leavable here) h (y .tree) ++ z) (sym ef)))
-            (λ n v. code-is (sym (append-nil _) ∙ ap (λ (z : List I.Item). exprCode (here .strings) h n E ++ z) (sym ea) ∙ ap (exprCode (here .strings) h n) (sym em)) (ap (ofExpr h) (sym em)) (ap exprLabels (sym em))) (omega arith);
+        did =
+            did-as (exprSays here (resolvedMonadic o E)) _ (x .did)
+            (same-eq (sym (append-nil _) ∙ ap (λ (z : List Fault). inExpression text sc (leavable here) h (y .tree) ++ z) (sym ef)))
+            (λ n v. code-is
+            (sym (append-nil _) ∙ ap (λ (z : List I.Item). exprCode (here .strings) h n E ++ z) (sym ea) ∙ ap (exprCode (here .strings) h n)
+            (sym em)) (ap (ofExpr h) (sym em)) (ap exprLabels (sym em))) (omega arith);
       };
 }
 
 -- ---- what a name means, as a side
 
 abbrev pub Of : (say : Here → Side → ℕ → Code) (name place m : ℕ) (t t′ : List ℕ) (st r : State) → Type 0
-Of say name place m t t′ st r = (x : Here) (f : N.Found) → m ≡ found f → Did (onFound f (fault name 8) [] ++ unlessSide place (sideOf (ofMeaning f))) (say x (sideOf (ofMeaning f))) 0 t t′ st r
+Of say name place m t t′ st r =
+    (x : Here) (f : N.Found) → m ≡ found f → Did (onFound f (fault name 8) [] ++ unlessSide place (sideOf (ofMeaning f)))
+    (say x (sideOf (ofMeaning f))) 0 t t′ st r
 
 module _ (say : Here → Side → ℕ → Code) (name place : ℕ) {m : ℕ} {t t′ : List ℕ} {st r : State} where
-  pub of-local : (i : ℕ → I.Item) → ((x : Here) (k n : ℕ) → say x (side (R.toLocal k)) n ≡ record { items = i k ∷ []; heights = []; labels = 0 }) → m % 4 ≡ 1 → Emits (i (m / 4) ∷ []) [] t t′ st r → Of say name place m t t′ st r
+  pub of-local : (i : ℕ → I.Item) → ((x : Here) (k n : ℕ) → say x (side (R.toLocal k)) n ≡ record { items = i k ∷ []; heights = []; labels = 0 })
+      → m % 4 ≡ 1 → Emits (i (m / 4) ∷ []) [] t t′ st r → Of say name place m t t′ st r
   unfolding found code sideOf
   of-local i es q f x N.unknown e = absurd (omega arith)
-  of-local i es q f x (N.known (N.local k)) e = let z : m / 4 ≡ k = omega arith in emits-did _ f (λ n. es x k n ∙ ap (λ (j : ℕ). record { items = i j ∷ []; heights = []; labels = 0 }) (sym z))
+  of-local i es q f x (N.known (N.local k)) e =
+      let z : m / 4 ≡ k = omega arith in
+      emits-did _ f (λ n. es x k n ∙ ap (λ (j : ℕ). record { items = i j ∷ []; heights = []; labels = 0 }) (sym z))
   of-local i es q f x (N.known (N.global k)) e = absurd (omega arith)
   of-local i es q f x (N.known (N.manifest k)) e = absurd (omega arith)
   of-local i es q f x (N.known (N.function k)) e = absurd (omega arith)
 
-  pub of-global : (i : ℕ → I.Item) → ((x : Here) (k n : ℕ) → say x (side (R.toGlobal k)) n ≡ record { items = i k ∷ []; heights = []; labels = 0 }) → m % 4 ≡ 2 → Emits (i (m / 4) ∷ []) [] t t′ st r → Of say name place m t t′ st r
+  pub of-global : (i : ℕ → I.Item) → ((x : Here) (k n : ℕ) → say x (side (R.toGlobal k)) n ≡ record { items = i k ∷ []; heights = []; labels = 0 })
+      → m % 4 ≡ 2 → Emits (i (m / 4) ∷ []) [] t t′ st r → Of say name place m t t′ st r
   unfolding found code sideOf
   of-global i es q f x N.unknown e = absurd (omega arith)
   of-global i es q f x (N.known (N.local k)) e = absurd (omega arith)
-  of-global i es q f x (N.known (N.global k)) e = let z : m / 4 ≡ k = omega arith in emits-did _ f (λ n. es x k n ∙ ap (λ (j : ℕ). record { items = i j ∷ []; heights = []; labels = 0 }) (sym z))
+  of-global i es q f x (N.known (N.global k)) e =
+      let z : m / 4 ≡ k = omega arith in
+      emits-did _ f (λ n. es x k n ∙ ap (λ (j : ℕ). record { items = i j ∷ []; heights = []; labels = 0 }) (sym z))
   of-global i es q f x (N.known (N.manifest k)) e = absurd (omega arith)
   of-global i es q f x (N.known (N.function k)) e = absurd (omega arith)
 
   pub of-unknown : {a : State} → m ≡ 0 → Faulted name 8 st a → Faulted place 10 a r → t′ ≡ t → Of say name place m t t′ st r
   unfolding found sideOf
   of-unknown q f g et x N.unknown e = subst (λ (z : List ℕ). Did (fault name 8 ++ fault place 10) (say x noSide) 0 t z st r) (sym et)
-      (did-as (say x noSide) 0 (did-then (f .by (say x noSide) t) (g .by (say x noSide) t)) same-refl (λ n v. let z : length (fault name 8 ++ fault place 10) ≡ 0 = ap length v in absurd (omega arith)) (omega arith))
+      (did-as (say x noSide) 0 (did-then (f .by (say x noSide) t) (g .by (say x noSide) t)) same-refl
+      (λ n v. let z : length (fault name 8 ++ fault place 10) ≡ 0 = ap length v in absurd (omega arith)) (omega arith))
   of-unknown q f g et x (N.known w) e = absurd (code-not w (sym e ∙ q))
 
   pub of-other : (m % 4 ≡ 1 → ⊥) → (m % 4 ≡ 2 → ⊥) → (m ≡ 0 → ⊥) → Faulted place 10 st r → t′ ≡ t → Of say name place m t t′ st r
@@ -184,8 +223,10 @@ module _ (say : Here → Side → ℕ → Code) (name place : ℕ) {m : ℕ} {t 
   of-other q1 q2 q0 f et x N.unknown e = absurd (q0 e)
   of-other q1 q2 q0 f et x (N.known (N.local k)) e = absurd (q1 (omega arith))
   of-other q1 q2 q0 f et x (N.known (N.global k)) e = absurd (q2 (omega arith))
-  of-other q1 q2 q0 f et x (N.known (N.manifest k)) e = subst (λ (z : List ℕ). Did (fault place 10) (say x noSide) 0 t z st r) (sym et) (f .by (say x noSide) t)
-  of-other q1 q2 q0 f et x (N.known (N.function k)) e = subst (λ (z : List ℕ). Did (fault place 10) (say x noSide) 0 t z st r) (sym et) (f .by (say x noSide) t)
+  of-other q1 q2 q0 f et x (N.known (N.manifest k)) e =
+      subst (λ (z : List ℕ). Did (fault place 10) (say x noSide) 0 t z st r) (sym et) (f .by (say x noSide) t)
+  of-other q1 q2 q0 f et x (N.known (N.function k)) e =
+      subst (λ (z : List ℕ). Did (fault place 10) (say x noSide) 0 t z st r) (sym et) (f .by (say x noSide) t)
 
 abbrev pub sayAddress : Here → Side → ℕ → Code
 sayAddress x z = exprSays x (addressOf z)
@@ -233,18 +274,22 @@ module _ (text : List ℕ) (sc : Scope) (h : ℕ) where
   no-operation E T.noOperations e = e
   no-operation E (T.operation o d os) e = no-operation (R.binary o E (expression text sc (h + 1) d)) os refl
 
-  no-call : (b : Bool) (E : Expr) (ss : Suffixes) → endsInCall b ss ≡ true → (b ≡ true → sideOf E ≡ noSide) → sideOf (suffixes text sc h E ss) ≡ noSide
+  no-call : (b : Bool) (E : Expr) (ss : Suffixes) → endsInCall b ss ≡ true → (b ≡ true → sideOf E ≡ noSide)
+      → sideOf (suffixes text sc h E ss) ≡ noSide
   unfolding suffixes sideOf endsInCall
   no-call b E T.noSuffixes e f = f e
   no-call b E (T.call es ss) e f = no-call true (R.call E (expressions text sc (under ss h + 2) es)) ss e (λ z. refl)
-  no-call b E (T.index d ss) e f = no-call false (R.index E (expression text sc (under ss h + 1) d)) ss e (λ z. let x : _≡_ {A = ℕ} 0 1 = cc in absurd (omega arith))
+  no-call b E (T.index d ss) e f =
+      no-call false (R.index E (expression text sc (under ss h + 1) d)) ss e (λ z. let x : _≡_ {A = ℕ} 0 1 = cc in absurd (omega arith))
 
   call-of : (b : Bool) → (O.suffixedKind b ≡ 129 → ⊥) → b ≡ true
   unfolding O.suffixedKind
   call-of true n = refl
   call-of false n = absurd (n refl)
 
-  pub no-side : (e : Expression) → FineE e → (expression-closed e .kind ≡ 51 → ⊥) → (expression-closed e .kind ≡ 59 → ⊥) → (expression-closed e .kind ≡ 129 → ⊥) → (expression-closed e .kind ≡ 128 → expression-closed e .value ≡ 49 → ⊥) → sideOf (expression text sc h e) ≡ noSide
+  pub no-side : (e : Expression) → FineE e → (expression-closed e .kind ≡ 51 → ⊥) → (expression-closed e .kind ≡ 59 → ⊥)
+      → (expression-closed e .kind ≡ 129 → ⊥) → (expression-closed e .kind ≡ 128 → expression-closed e .value ≡ 49 → ⊥)
+      → sideOf (expression text sc h e) ≡ noSide
   unfolding expression sideOf Fine expression-closed shut operations
   no-side (T.number p v) f n1 n2 n3 n4 = refl
   no-side (T.string p v) f n1 n2 n3 n4 = refl
@@ -252,20 +297,24 @@ module _ (text : List ℕ) (sc : Scope) (h : ℕ) where
   no-side (T.bracketed p e) f n1 n2 n3 n4 = absurd (n1 refl)
   no-side (T.valof p c) f n1 n2 n3 n4 = refl
   no-side (T.monadic p o e) f n1 n2 n3 n4 = no-monadic o (expression text sc h e) (n4 refl)
-  no-side (T.suffixed e ss) f n1 n2 n3 n4 = no-call false (expression text sc (under ss h) e) ss (call-of (endsInCall false ss) n3) (λ z. let x : _≡_ {A = ℕ} 0 1 = cc in absurd (omega arith))
+  no-side (T.suffixed e ss) f n1 n2 n3 n4 =
+      no-call false (expression text sc (under ss h) e) ss (call-of (endsInCall false ss) n3)
+      (λ z. let x : _≡_ {A = ℕ} 0 1 = cc in absurd (omega arith))
   no-side (T.dyadic e T.noOperations) f n1 n2 n3 n4 = absurd (f .2 refl)
   no-side (T.dyadic e (T.operation o d os)) f n1 n2 n3 n4 = no-operation (R.binary o (expression text sc h e) (expression text sc (h + 1) d)) os refl
 
 fault-not : (fs : List Fault) (place : ℕ) → fs ++ fault place 10 ≡ [] → ⊥
 fault-not fs place e = let z : length (fault place 10) ≡ 0 = ap length (nil-right fs (fault place 10) e) in omega arith
 
-pub refuse-gave : (text : List ℕ) {s s₁ t t₁ : List ℕ} {end place : ℕ} {here : Here} {st a r : State} → GaveE text s s₁ end here t t₁ st a → Faulted place 10 a r → GaveRefused text s s₁ end place here t t₁ st r
+pub refuse-gave : (text : List ℕ) {s s₁ t t₁ : List ℕ} {end place : ℕ} {here : Here} {st a r : State} → GaveE text s s₁ end here t t₁ st a
+    → Faulted place 10 a r → GaveRefused text s s₁ end place here t t₁ st r
 refuse-gave text {s} {s₁} {t} {t₁} {end} {place} {here} {st} {a} {r} g f = record {
   by = λ c. record {
     by = λ y. let x = g .by y in record {
       keeps = x .keeps;
       did =
-          did-as (c (y .scope) (y .tree)) _ (did-then (x .did) (f .by (λ n. record { items = []; heights = []; labels = 0 }) t₁)) same-refl (λ n v. absurd (fault-not (inExpression text (y .scope) (leavable here) (here .height) (y .tree)) place v)) (omega arith);
+          did-as (c (y .scope) (y .tree)) _ (did-then (x .did) (f .by (λ n. record { items = []; heights = []; labels = 0 }) t₁)) same-refl
+          (λ n v. absurd (fault-not (inExpression text (y .scope) (leavable here) (here .height) (y .tree)) place v)) (omega arith);
     };
   };
 }
@@ -273,48 +322,70 @@ refuse-gave text {s} {s₁} {t} {t₁} {end} {place} {here} {st} {a} {r} g f = r
 -- ---- what @ may take
 
 abbrev Address : (text s : List ℕ) (place : ℕ) (s′ t t′ : List ℕ) (st r : State) (here : Here) → Scope → (base k : ℕ) → Expression → Type 0
-Address text s place s′ t t′ st r here sc base k e = Result (inExpression text sc (leavable here) (here .height) e ++ unlessSide place (sideOf (expression text sc (here .height) e))) (exprSays here (addressOf (sideOf (expression text sc (here .height) e)))) k base here s s′ t t′ st r
+Address text s place s′ t t′ st r here sc base k e =
+    Result (inExpression text sc (leavable here) (here .height) e ++ unlessSide place (sideOf (expression text sc (here .height) e)))
+    (exprSays here (addressOf (sideOf (expression text sc (here .height) e)))) k base here s s′ t t′ st r
 
 module _ (text : List ℕ) {s s′ t t′ : List ℕ} {end : ℕ} (place : ℕ) {here : Here} {st r : State} (n : Node) (nd : NodeAt s end n) where
-  pub address-open : (q : n .kind ≡ 51) → GaveAddress text s s′ (n .inner) place (inside here) t t′ st r → GaveAddress text s s′ end place here t t′ st r
+  pub address-open : (q : n .kind ≡ 51) → GaveAddress text s s′ (n .inner) place (inside here) t t′ st r
+      → GaveAddress text s s′ end place here t t′ st r
   unfolding inExpression expression
   address-open q g = record {
     by = λ y. let u = is-bracket (find n nd q y) in let x = g .by (bracket-part n nd q y) in
-        subst (Address text s place s′ t t′ st r here (y .scope) (y .base) (length (encode (y .tree)))) (sym (u .same)) (record { keeps = x .keeps; did = more _ (x .did) (omega (arith, y .ends, u .ends)) });
+        subst (Address text s place s′ t t′ st r here (y .scope) (y .base) (length (encode (y .tree)))) (sym (u .same))
+        (record { keeps = x .keeps; did = more _ (x .did) (omega (arith, y .ends, u .ends)) });
   }
 
-  pub address-pling : (q : n .kind ≡ 128) → n .value ≡ 49 → GaveE text s s′ (n .inner) (inside here) t t′ st r → GaveAddress text s s′ end place here t t′ st r
+  pub address-pling : (q : n .kind ≡ 128) → n .value ≡ 49 → GaveE text s s′ (n .inner) (inside here) t t′ st r
+      → GaveAddress text s s′ end place here t t′ st r
   unfolding inExpression expression exprCode ofExpr exprLabels sideOf
   address-pling q ev g = record {
     by = λ y. let u = monadic-is n nd q y in let x = g .by (monadic-part n nd q y) in let sc = y .scope in
         let ou : u .operator ≡ 49 = sym (u .value-of) ∙ sym (nd .value) ∙ ev in
-        subst (Address text s place s′ t t′ st r here sc (y .base) (length (encode (y .tree)))) (sym (u .same ∙ ap (λ (o : ℕ). T.monadic (u .place) o (u .part)) ou))
-        (record { keeps = x .keeps; did = did-as _ _ (x .did) (same-eq (sym (append-nil _) ∙ sym (append-nil _))) (λ m v. refl) (omega (arith, y .ends, u .ends)) });
+        subst (Address text s place s′ t t′ st r here sc (y .base) (length (encode (y .tree))))
+        (sym (u .same ∙ ap (λ (o : ℕ). T.monadic (u .place) o (u .part)) ou))
+        (record {
+          keeps = x .keeps;
+          did = did-as _ _ (x .did) (same-eq (sym (append-nil _) ∙ sym (append-nil _))) (λ m v. refl)
+              (omega (arith, y .ends, u .ends));
+        });
   }
 
-  pub address-refused : (n .kind ≡ 51 → ⊥) → (n .kind ≡ 59 → ⊥) → (n .kind ≡ 129 → ⊥) → (n .kind ≡ 128 → n .value ≡ 49 → ⊥) → GaveRefused text s s′ end place here t t′ st r → GaveAddress text s s′ end place here t t′ st r
+  pub address-refused : (n .kind ≡ 51 → ⊥) → (n .kind ≡ 59 → ⊥) → (n .kind ≡ 129 → ⊥) → (n .kind ≡ 128 → n .value ≡ 49 → ⊥)
+      → GaveRefused text s s′ end place here t t′ st r → GaveAddress text s s′ end place here t t′ st r
   address-refused n1 n2 n3 n4 g = record {
     by = λ y.
         let sc = y .scope in let e = y .tree in let c = expression-closed e in let E = expression text sc (here .height) e in
         let k = nd .kind ∙ kind-of c (y .lies) (y .ends) in let v = nd .value ∙ value-of c (y .lies) (y .ends) in
         let z = no-side text sc (here .height) e (y .fine) (λ i. n1 (k ∙ i)) (λ i. n2 (k ∙ i)) (λ i. n3 (k ∙ i)) (λ i j. n4 (k ∙ i) (v ∙ j)) in
         let x = g .by (λ sc e. exprSays here (addressOf (sideOf (expression text sc (here .height) e)))) .by y in
-        record { keeps = x .keeps; did = did-as _ _ (x .did) (same-eq (ap (λ (w : Side). inExpression text sc (leavable here) (here .height) e ++ unlessSide place w) (sym z))) (λ m v. refl) (omega arith) };
+        record {
+          keeps = x .keeps;
+          did = did-as _ _ (x .did)
+              (same-eq (ap (λ (w : Side). inExpression text sc (leavable here) (here .height) e ++ unlessSide place w) (sym z))) (λ m v. refl)
+              (omega arith);
+        };
   }
 
 module _ (text : List ℕ) {s t t′ : List ℕ} {end : ℕ} (place : ℕ) {here : Here} {st r : State} (n : Node) (nd : NodeAt s end n) where
-  pub address-name : {m : ℕ} → n .kind ≡ 59 → Looked text s (here .top) (n .inner) m → AddressOf m (n .place) place t t′ st r → GaveAddress text s s end place here t t′ st r
+  pub address-name : {m : ℕ} → n .kind ≡ 59 → Looked text s (here .top) (n .inner) m → AddressOf m (n .place) place t t′ st r
+      → GaveAddress text s s end place here t t′ st r
   unfolding inExpression expression
   address-name {m} q lk f = record {
     by = λ y. let u = is-name (find n nd q y) in let sc = y .scope in let w = lookup text sc (u .name) in
         let a : n .inner + 2 ≡ end - 2 = omega (arith, nd .inner, u .ends) in
         let b : n .inner + 1 ≡ end - 3 = omega (arith, nd .inner, u .ends) in
-        let ex : nameAt s (n .inner) ≡ u .name = ap (λ (k : ℕ). named k (getD s (n .inner + 1) 0)) (ap (λ (k : ℕ). getD s k 0) a ∙ u .place-of) ∙ ap (λ (k : ℕ). named (u .name .place) k) (ap (λ (k : ℕ). getD s k 0) b ∙ u .width-of) in
-        subst (λ (e : Expression). Result (inExpression text sc (leavable here) (here .height) e ++ unlessSide place (sideOf (expression text sc (here .height) e))) (exprSays here (addressOf (sideOf (expression text sc (here .height) e)))) (length (encode (y .tree))) (y .base) here s s t t′ st r) (sym (u .same))
+        let ex : nameAt s (n .inner) ≡ u .name = ap (λ (k : ℕ). named k (getD s (n .inner + 1) 0)) (ap (λ (k : ℕ). getD s k 0) a ∙ u .place-of) ∙ ap
+        (λ (k : ℕ). named (u .name .place) k) (ap (λ (k : ℕ). getD s k 0) b ∙ u .width-of) in
+        subst (λ (e : Expression). Result
+        (inExpression text sc (leavable here) (here .height) e ++ unlessSide place (sideOf (expression text sc (here .height) e)))
+        (exprSays here (addressOf (sideOf (expression text sc (here .height) e)))) (length (encode (y .tree))) (y .base) here s s t t′ st r)
+        (sym (u .same))
         (record {
           keeps = keeps-all;
           did = more _
-              (subst (λ (p : ℕ). Did (onFound w (fault p 8) [] ++ unlessSide place (sideOf (ofMeaning w))) (exprSays here (addressOf (sideOf (ofMeaning w)))) 0 t t′ st r) (nd .place ∙ u .place-of)
+              (subst (λ (p : ℕ). Did (onFound w (fault p 8) [] ++ unlessSide place (sideOf (ofMeaning w)))
+              (exprSays here (addressOf (sideOf (ofMeaning w)))) 0 t t′ st r) (nd .place ∙ u .place-of)
               (f .by here w (lk .by sc (y .shows) ∙ ap (λ (z : Name). found (lookup text sc z)) ex))) (omega arith);
         });
   }
@@ -339,48 +410,65 @@ index-of false n = refl
 some-suffix : (ss : Suffixes) → (ss ≡ T.noSuffixes → ⊥) → 0 < length (encodeSuffixes ss)
 unfolding encodeSuffixes
 some-suffix T.noSuffixes n = absurd (n refl)
-some-suffix (T.call es ss) n = let x = O.encodeExpressions es in omega (arith, length-append (x ++ (length x ∷ 51 ∷ [])) (encodeSuffixes ss), length-append x (length x ∷ 51 ∷ []))
-some-suffix (T.index e ss) n = let x = encode e in omega (arith, length-append (x ++ (length x ∷ 49 ∷ [])) (encodeSuffixes ss), length-append x (length x ∷ 49 ∷ []))
+some-suffix (T.call es ss) n =
+    let x = O.encodeExpressions es in
+    omega (arith, length-append (x ++ (length x ∷ 51 ∷ [])) (encodeSuffixes ss), length-append x (length x ∷ 51 ∷ []))
+some-suffix (T.index e ss) n =
+    let x = encode e in
+    omega (arith, length-append (x ++ (length x ∷ 49 ∷ [])) (encodeSuffixes ss), length-append x (length x ∷ 49 ∷ []))
 
-module _ {s : List ℕ} {end : ℕ} {here : Here} {st : State} (n : Node) (nd : NodeAt s end n) (q : n .kind ≡ 129) {middle : ℕ} (m : middle ≡ n .start + n .value) where
+module _ {s : List ℕ} {end : ℕ} {here : Here} {st : State} (n : Node) (nd : NodeAt s end n) (q : n .kind ≡ 129) {middle : ℕ}
+    (m : middle ≡ n .start + n .value) where
   abbrev pub indexed-part : ReadyE s end here st → ReadySuffixes s middle (n .inner) (inside here) st
-  indexed-part y = suffixed-part n nd (λ e. omega arith) (λ e. omega arith) (λ e. omega arith) (λ e. omega arith) (λ e. omega arith) (λ e. omega arith) (λ e. omega arith) m y
+  indexed-part y =
+      suffixed-part n nd (λ e. omega arith) (λ e. omega arith) (λ e. omega arith) (λ e. omega arith) (λ e. omega arith) (λ e. omega arith)
+      (λ e. omega arith) m y
 
   pub indexed-some : (y : ReadyE s end here st) → middle < n .inner
   unfolding Fine
   indexed-some y =
-      let u = suffixed-is n nd (λ e. omega arith) (λ e. omega arith) (λ e. omega arith) (λ e. omega arith) (λ e. omega arith) (λ e. omega arith) (λ e. omega arith) m y in
+      let u = suffixed-is n nd (λ e. omega arith) (λ e. omega arith) (λ e. omega arith) (λ e. omega arith) (λ e. omega arith) (λ e. omega arith)
+      (λ e. omega arith) m y in
       let f = subst FineE (u .same) (y .fine) in
       omega (arith, applied-ends (indexed-part y), some-suffix (u .list) (f .2))
 
   pub indexed-tag : (y : ReadyE s end here st) → getD s (n .inner - 1) 0 ≡ 49
   unfolding expression-closed shut
   indexed-tag y =
-      let u = suffixed-is n nd (λ e. omega arith) (λ e. omega arith) (λ e. omega arith) (λ e. omega arith) (λ e. omega arith) (λ e. omega arith) (λ e. omega arith) m y in
+      let u = suffixed-is n nd (λ e. omega arith) (λ e. omega arith) (λ e. omega arith) (λ e. omega arith) (λ e. omega arith) (λ e. omega arith)
+      (λ e. omega arith) m y in
       let Y = indexed-part y in
-      let k = sym (ap (λ (e : Expression). expression-closed e .kind) (u .same)) ∙ sym (kind-of (expression-closed (y .tree)) (y .lies) (y .ends)) ∙ sym (nd .kind) ∙ q in
+      let k = sym (ap (λ (e : Expression). expression-closed e .kind) (u .same)) ∙ sym (kind-of (expression-closed (y .tree)) (y .lies) (y .ends))
+      ∙ sym (nd .kind) ∙ q in
       index-tag (last (u .list) (applied-lies Y) (applied-ends Y) (indexed-some y)) (index-of (endsInCall false (u .list)) k)
 
-  module _ {inner size start : ℕ} (ei : inner ≡ n .inner - 2) (ez : size ≡ getD s inner 0) (es : start ≡ inner - size) (l : middle < n .inner) (tag : getD s (n .inner - 1) 0 ≡ 49) where
+  module _ {inner size start : ℕ} (ei : inner ≡ n .inner - 2) (ez : size ≡ getD s inner 0) (es : start ≡ inner - size) (l : middle < n .inner)
+      (tag : getD s (n .inner - 1) 0 ≡ 49) where
     abbrev pub address-left : ReadyE s end here st → ReadySuffixes s middle start (inside here) st
     address-left y = index-left l refl ei ez es tag (indexed-part y)
 
-    module _ (text : List ℕ) {s₁ t t₁ t₂ : List ℕ} {a b : State} (g : GaveSuffixes text s s₁ middle start (inside here) t t₁ st a) (f : Emits (G.SP (here .height) ∷ []) ((here .height + 1) ∷ []) t₁ t₂ a b) where
+    module _ (text : List ℕ) {s₁ t t₁ t₂ : List ℕ} {a b : State} (g : GaveSuffixes text s s₁ middle start (inside here) t t₁ st a)
+        (f : Emits (G.SP (here .height) ∷ []) ((here .height + 1) ∷ []) t₁ t₂ a b) where
       abbrev pub address-right : ReadyE s end here st → ReadyE s₁ inner (raised 1 (inside here)) b
       address-right y = with-state (f .label) (index-right l refl ei ez es tag text g (indexed-part y))
 
-      pub address-index-gave : {s₂ t₃ t₄ : List ℕ} {c d : State} → GaveE text s₁ s₂ inner (raised 1 (inside here)) t₂ t₃ b c → Emits (G.AIP (here .height) ∷ []) [] t₃ t₄ c d → GaveAddressIndex text s s₂ end here t t₄ st d
+      pub address-index-gave : {s₂ t₃ t₄ : List ℕ} {c d : State} → GaveE text s₁ s₂ inner (raised 1 (inside here)) t₂ t₃ b c
+          → Emits (G.AIP (here .height) ∷ []) [] t₃ t₄ c d → GaveAddressIndex text s s₂ end here t t₄ st d
       unfolding inExpression expression exprCode ofExpr exprLabels sideOf
       address-index-gave {s₂} {t₃} {t₄} {c} {d} g₂ f₂ place = record {
         by = λ y.
-            let U = suffixed-is n nd (λ e. omega arith) (λ e. omega arith) (λ e. omega arith) (λ e. omega arith) (λ e. omega arith) (λ e. omega arith) (λ e. omega arith) m y in
-            let Y = indexed-part y in let sc = y .scope in let h = here .height in let p = U .left in let u = is-index tag (the-last l refl ei ez es Y) in
+            let U = suffixed-is n nd (λ e. omega arith) (λ e. omega arith) (λ e. omega arith) (λ e. omega arith) (λ e. omega arith) (λ e. omega arith)
+            (λ e. omega arith) m y in
+            let Y = indexed-part y in let sc = y .scope in let h = here .height in let p = U .left in
+            let u = is-index tag (the-last l refl ei ez es Y) in
             let x = g .by (address-left y) in let w = g₂ .by (address-right y) in let L = leavable here in
             let A = suffixes text sc h (expression text sc (under (u .init) h) p) (u .init) in let B = expression text sc (h + 1) (u .part) in
-            let fa = inExpression text sc L (under (u .init) h) p ++ inSuffixes text sc L h (u .init) in let fb = inExpression text sc L (h + 1) (u .part) in
+            let fa = inExpression text sc L (under (u .init) h) p ++ inSuffixes text sc L h (u .init) in
+            let fb = inExpression text sc L (h + 1) (u .part) in
             let ef : inExpression text sc L (under (U .list) h) p ++ inSuffixes text sc L h (U .list) ≡ fa ++ fb =
             ap (λ (ss : Suffixes). inExpression text sc L (under ss h) p ++ inSuffixes text sc L h ss) (u .same)
-            ∙ ap (λ (k : ℕ). inExpression text sc L k p ++ inSuffixes text sc L h (snocIndex (u .init) (u .part))) (under-index text sc (u .init) (u .part) h)
+            ∙ ap (λ (k : ℕ). inExpression text sc L k p ++ inSuffixes text sc L h (snocIndex (u .init) (u .part)))
+            (under-index text sc (u .init) (u .part) h)
             ∙ ap (λ (fs : List Fault). inExpression text sc L (under (u .init) h) p ++ fs) (faults-index text sc L (u .init) (u .part) h)
             ∙ sym (append-assoc (inExpression text sc L (under (u .init) h) p) (inSuffixes text sc L h (u .init)) fb) in
             let er : suffixes text sc h (expression text sc (under (U .list) h) p) (U .list) ≡ R.index A B =
@@ -388,27 +476,44 @@ module _ {s : List ℕ} {end : ℕ} {here : Here} {st : State} (n : Node) (nd : 
             ∙ ap (λ (k : ℕ). suffixes text sc h (expression text sc k p) (snocIndex (u .init) (u .part))) (under-index text sc (u .init) (u .part) h)
             ∙ suffixes-index text sc (u .init) (u .part) h (expression text sc (under (u .init) h) p) in
             let E = suffixes text sc h (expression text sc (under (U .list) h) p) (U .list) in
-            subst (λ (e : Expression). Result (inExpression text sc L h e ++ unlessSide place (sideOf (expression text sc h e))) (exprSays here (addressOf (sideOf (expression text sc h e)))) (length (encode (y .tree))) (y .base) here s s₂ t t₄ st d) (sym (U .same))
+            subst (λ (e : Expression). Result (inExpression text sc L h e ++ unlessSide place (sideOf (expression text sc h e)))
+            (exprSays here (addressOf (sideOf (expression text sc h e)))) (length (encode (y .tree))) (y .base) here s s₂ t t₄ st d) (sym (U .same))
             (record {
               keeps = keeps-then (x .keeps) (w .keeps);
               did = did-as (exprSays here (addressOf (sideOf E))) _ (did-put (did-then (did-emit (x .did) f) (w .did)) f₂)
-                  (same-eq (sym ef ∙ sym (append-nil _) ∙ ap (λ (e : Expr). (inExpression text sc L (under (U .list) h) p ++ inSuffixes text sc L h (U .list)) ++ unlessSide place (sideOf e)) (sym er)))
+                  (same-eq (sym ef ∙ sym (append-nil _) ∙ ap
+                  (λ (e : Expr). (inExpression text sc L (under (U .list) h) p ++ inSuffixes text sc L h (U .list)) ++ unlessSide place
+                  (sideOf e)) (sym er)))
                   (λ k v. code-is
-                  (append-assoc (exprCode (here .strings) h k A ++ (G.SP h ∷ [])) (exprCode (here .strings) (h + 1) (k + exprLabels A) B) (G.AIP h ∷ [])
-                  ∙ append-assoc (exprCode (here .strings) h k A) (G.SP h ∷ []) (exprCode (here .strings) (h + 1) (k + exprLabels A) B ++ (G.AIP h ∷ []))
+                  (append-assoc (exprCode (here .strings) h k A ++ (G.SP h ∷ [])) (exprCode (here .strings) (h + 1) (k + exprLabels A) B)
+                  (G.AIP h ∷ [])
+                  ∙ append-assoc (exprCode (here .strings) h k A) (G.SP h ∷ [])
+                  (exprCode (here .strings) (h + 1) (k + exprLabels A) B ++ (G.AIP h ∷ []))
                   ∙ ap (λ (e : Expr). exprCode (here .strings) h k (addressOf (sideOf e))) (sym er))
                   (append-assoc (ofExpr h A) ((h + 1) ∷ []) (ofExpr (h + 1) B) ∙ ap (λ (e : Expr). ofExpr h (addressOf (sideOf e))) (sym er))
                   (ap (λ (e : Expr). exprLabels (addressOf (sideOf e))) (sym er)))
-                  (omega (arith, y .ends, U .ends, u .ends, applied-ends Y, suffixed-middle n nd (λ e. omega arith) (λ e. omega arith) (λ e. omega arith) (λ e. omega arith) (λ e. omega arith) (λ e. omega arith) (λ e. omega arith) m y, length-append (encode p) (encodeSuffixes (u .init))));
+                  (omega (
+                    arith,
+                    y .ends,
+                    U .ends,
+                    u .ends,
+                    applied-ends Y,
+                    suffixed-middle n nd (λ e. omega arith) (λ e. omega arith) (λ e. omega arith)
+                        (λ e. omega arith) (λ e. omega arith) (λ e. omega arith) (λ e. omega arith) m y,
+                    length-append (encode p)
+                        (encodeSuffixes (u .init)),
+                  ));
             });
       }
 
 -- ---- another name of the same place
 
-pub gave-address-at : (text : List ℕ) (place : ℕ) {s s′ t t′ : List ℕ} {end : ℕ} {d d′ : Here} {st r : State} → d′ ≡ d → GaveAddress text s s′ end place d′ t t′ st r → GaveAddress text s s′ end place d t t′ st r
+pub gave-address-at : (text : List ℕ) (place : ℕ) {s s′ t t′ : List ℕ} {end : ℕ} {d d′ : Here} {st r : State} → d′ ≡ d
+    → GaveAddress text s s′ end place d′ t t′ st r → GaveAddress text s s′ end place d t t′ st r
 gave-address-at text place {s} {s′} {t} {t′} {end} {st = st} {r} e g = subst (λ (x : Here). GaveAddress text s s′ end place x t t′ st r) e g
 
-pub gave-monadic-at : (text : List ℕ) (o : ℕ) {s s′ t t′ : List ℕ} {end : ℕ} {d d′ : Here} {st r : State} → d′ ≡ d → GaveMonadic text s s′ o end d′ t t′ st r → GaveMonadic text s s′ o end d t t′ st r
+pub gave-monadic-at : (text : List ℕ) (o : ℕ) {s s′ t t′ : List ℕ} {end : ℕ} {d d′ : Here} {st r : State} → d′ ≡ d
+    → GaveMonadic text s s′ o end d′ t t′ st r → GaveMonadic text s s′ o end d t t′ st r
 gave-monadic-at text o {s} {s′} {t} {t′} {end} {st = st} {r} e g = subst (λ (x : Here). GaveMonadic text s s′ o end x t t′ st r) e g
 
 -- ---- left sides: a right side is in A, and the parts are found one word above
@@ -418,101 +523,150 @@ module _ (text : List ℕ) {s s′ t t′ : List ℕ} {end : ℕ} (place : ℕ) 
   unfolding inExpression expression
   side-open q g = record {
     by = λ y. let u = is-bracket (find n nd q y) in let x = g .by (bracket-part n nd q y) in let sc = y .scope in let h = here .height in
-        subst (λ (e : Expression). Result (inExpression text sc (leavable here) (h + 1) e ++ unlessSide place (sideOf (expression text sc (h + 1) e))) (targetSays here (targetOf (sideOf (expression text sc (h + 1) e)))) (length (encode (y .tree))) (y .base) (raised 1 here) s s′ t t′ st r) (sym (u .same))
+        subst (λ (e : Expression). Result (inExpression text sc (leavable here) (h + 1) e ++ unlessSide place (sideOf (expression text sc (h + 1) e)))
+        (targetSays here (targetOf (sideOf (expression text sc (h + 1) e)))) (length (encode (y .tree))) (y .base) (raised 1 here) s s′ t t′ st r)
+        (sym (u .same))
         (record { keeps = x .keeps; did = more _ (x .did) (omega (arith, y .ends, u .ends)) });
   }
 
-  pub side-refused : (n .kind ≡ 51 → ⊥) → (n .kind ≡ 59 → ⊥) → (n .kind ≡ 129 → ⊥) → (n .kind ≡ 128 → n .value ≡ 49 → ⊥) → GaveRefused text s s′ end place (raised 1 here) t t′ st r → GaveSide text s s′ end place here t t′ st r
+  pub side-refused : (n .kind ≡ 51 → ⊥) → (n .kind ≡ 59 → ⊥) → (n .kind ≡ 129 → ⊥) → (n .kind ≡ 128 → n .value ≡ 49 → ⊥)
+      → GaveRefused text s s′ end place (raised 1 here) t t′ st r → GaveSide text s s′ end place here t t′ st r
   side-refused n1 n2 n3 n4 g = record {
     by = λ y.
         let sc = y .scope in let e = y .tree in let c = expression-closed e in let h = here .height in
         let k = nd .kind ∙ kind-of c (y .lies) (y .ends) in let v = nd .value ∙ value-of c (y .lies) (y .ends) in
         let z = no-side text sc (h + 1) e (y .fine) (λ i. n1 (k ∙ i)) (λ i. n2 (k ∙ i)) (λ i. n3 (k ∙ i)) (λ i j. n4 (k ∙ i) (v ∙ j)) in
         let x = g .by (λ sc e. targetSays here (targetOf (sideOf (expression text sc (h + 1) e)))) .by y in
-        record { keeps = x .keeps; did = did-as _ _ (x .did) (same-eq (ap (λ (w : Side). inExpression text sc (leavable here) (h + 1) e ++ unlessSide place w) (sym z))) (λ m v. refl) (omega arith) };
+        record {
+          keeps = x .keeps;
+          did = did-as _ _ (x .did)
+              (same-eq (ap (λ (w : Side). inExpression text sc (leavable here) (h + 1) e ++ unlessSide place w) (sym z))) (λ m v. refl) (omega arith);
+        };
   }
 
 module _ (text : List ℕ) {s t t′ : List ℕ} {end : ℕ} (place : ℕ) (here : Here) {st r : State} (n : Node) (nd : NodeAt s end n) where
-  pub side-name : {m : ℕ} → n .kind ≡ 59 → Looked text s (here .top) (n .inner) m → StoreTo m (n .place) place t t′ st r → GaveSide text s s end place here t t′ st r
+  pub side-name : {m : ℕ} → n .kind ≡ 59 → Looked text s (here .top) (n .inner) m → StoreTo m (n .place) place t t′ st r
+      → GaveSide text s s end place here t t′ st r
   unfolding inExpression expression
   side-name {m} q lk f = record {
     by = λ y. let u = is-name (find n nd q y) in let sc = y .scope in let w = lookup text sc (u .name) in let h = here .height in
         let a : n .inner + 2 ≡ end - 2 = omega (arith, nd .inner, u .ends) in
         let b : n .inner + 1 ≡ end - 3 = omega (arith, nd .inner, u .ends) in
-        let ex : nameAt s (n .inner) ≡ u .name = ap (λ (k : ℕ). named k (getD s (n .inner + 1) 0)) (ap (λ (k : ℕ). getD s k 0) a ∙ u .place-of) ∙ ap (λ (k : ℕ). named (u .name .place) k) (ap (λ (k : ℕ). getD s k 0) b ∙ u .width-of) in
-        subst (λ (e : Expression). Result (inExpression text sc (leavable here) (h + 1) e ++ unlessSide place (sideOf (expression text sc (h + 1) e))) (targetSays here (targetOf (sideOf (expression text sc (h + 1) e)))) (length (encode (y .tree))) (y .base) (raised 1 here) s s t t′ st r) (sym (u .same))
+        let ex : nameAt s (n .inner) ≡ u .name = ap (λ (k : ℕ). named k (getD s (n .inner + 1) 0)) (ap (λ (k : ℕ). getD s k 0) a ∙ u .place-of) ∙ ap
+        (λ (k : ℕ). named (u .name .place) k) (ap (λ (k : ℕ). getD s k 0) b ∙ u .width-of) in
+        subst (λ (e : Expression). Result (inExpression text sc (leavable here) (h + 1) e ++ unlessSide place (sideOf (expression text sc (h + 1) e)))
+        (targetSays here (targetOf (sideOf (expression text sc (h + 1) e)))) (length (encode (y .tree))) (y .base) (raised 1 here) s s t t′ st r)
+        (sym (u .same))
         (record {
           keeps = keeps-all;
           did = more _
-              (subst (λ (p : ℕ). Did (onFound w (fault p 8) [] ++ unlessSide place (sideOf (ofMeaning w))) (targetSays here (targetOf (sideOf (ofMeaning w)))) 0 t t′ st r) (nd .place ∙ u .place-of)
+              (subst (λ (p : ℕ). Did (onFound w (fault p 8) [] ++ unlessSide place (sideOf (ofMeaning w)))
+              (targetSays here (targetOf (sideOf (ofMeaning w)))) 0 t t′ st r) (nd .place ∙ u .place-of)
               (f .by here w (lk .by sc (y .shows) ∙ ap (λ (z : Name). found (lookup text sc z)) ex))) (omega arith);
         });
   }
 
-module _ (text : List ℕ) {s : List ℕ} {end : ℕ} (place : ℕ) {here : Here} {st a : State} {t t₁ : List ℕ} (n : Node) (nd : NodeAt s end n) (q : n .kind ≡ 128) (f : Emits (G.SP (here .height) ∷ []) ((here .height + 1) ∷ []) t t₁ st a) where
+module _ (text : List ℕ) {s : List ℕ} {end : ℕ} (place : ℕ) {here : Here} {st a : State} {t t₁ : List ℕ} (n : Node) (nd : NodeAt s end n)
+    (q : n .kind ≡ 128) (f : Emits (G.SP (here .height) ∷ []) ((here .height + 1) ∷ []) t t₁ st a) where
   abbrev pub side-part : ReadyE s end (raised 1 here) st → ReadyE s (n .inner) (raised 1 (inside here)) a
   side-part y = with-state (f .label) (monadic-part n nd q y)
 
-  pub side-pling : {s′ t₂ t₃ : List ℕ} {b r : State} → n .value ≡ 49 → GaveE text s s′ (n .inner) (raised 1 (inside here)) t₁ t₂ a b → Emits (G.SP (here .height + 1) ∷ G.LIP (here .height) ∷ G.SIP (here .height + 1) ∷ []) [] t₂ t₃ b r → GaveSide text s s′ end place here t t₃ st r
+  pub side-pling : {s′ t₂ t₃ : List ℕ} {b r : State} → n .value ≡ 49 → GaveE text s s′ (n .inner) (raised 1 (inside here)) t₁ t₂ a b
+      → Emits (G.SP (here .height + 1) ∷ G.LIP (here .height) ∷ G.SIP (here .height + 1) ∷ []) [] t₂ t₃ b r
+      → GaveSide text s s′ end place here t t₃ st r
   unfolding inExpression expression G.targetCode ofTarget G.targetLabels sideOf
   side-pling {s′} {t₂} {t₃} {b} {r} ev g f₂ = record {
     by = λ y. let u = monadic-is n nd q y in let x = g .by (side-part y) in let sc = y .scope in let h = here .height in
         let ou : u .operator ≡ 49 = sym (u .value-of) ∙ sym (nd .value) ∙ ev in
-        subst (λ (e : Expression). Result (inExpression text sc (leavable here) (h + 1) e ++ unlessSide place (sideOf (expression text sc (h + 1) e))) (targetSays here (targetOf (sideOf (expression text sc (h + 1) e)))) (length (encode (y .tree))) (y .base) (raised 1 here) s s′ t t₃ st r) (sym (u .same ∙ ap (λ (o : ℕ). T.monadic (u .place) o (u .part)) ou))
-        (record { keeps = x .keeps; did = did-as _ _ (did-after f (did-put (x .did) f₂)) (same-eq (sym (append-nil _) ∙ sym (append-nil _))) (λ m v. refl) (omega (arith, y .ends, u .ends)) });
+        subst (λ (e : Expression). Result (inExpression text sc (leavable here) (h + 1) e ++ unlessSide place (sideOf (expression text sc (h + 1) e)))
+        (targetSays here (targetOf (sideOf (expression text sc (h + 1) e)))) (length (encode (y .tree))) (y .base) (raised 1 here) s s′ t t₃ st r)
+        (sym (u .same ∙ ap (λ (o : ℕ). T.monadic (u .place) o (u .part)) ou))
+        (record {
+          keeps = x .keeps;
+          did = did-as _ _ (did-after f (did-put (x .did) f₂)) (same-eq (sym (append-nil _) ∙ sym (append-nil _))) (λ m v. refl)
+              (omega (arith, y .ends, u .ends));
+        });
   }
 
-module _ {s : List ℕ} {end : ℕ} {here : Here} {st : State} (n : Node) (nd : NodeAt s end n) (q : n .kind ≡ 129) {middle : ℕ} (m : middle ≡ n .start + n .value) where
-  module _ {inner size start : ℕ} (ei : inner ≡ n .inner - 2) (ez : size ≡ getD s inner 0) (es : start ≡ inner - size) (l : middle < n .inner) (tag : getD s (n .inner - 1) 0 ≡ 49) where
+module _ {s : List ℕ} {end : ℕ} {here : Here} {st : State} (n : Node) (nd : NodeAt s end n) (q : n .kind ≡ 129) {middle : ℕ}
+    (m : middle ≡ n .start + n .value) where
+  module _ {inner size start : ℕ} (ei : inner ≡ n .inner - 2) (ez : size ≡ getD s inner 0) (es : start ≡ inner - size) (l : middle < n .inner)
+      (tag : getD s (n .inner - 1) 0 ≡ 49) where
     module _ (text : List ℕ) {t t₀ : List ℕ} {st₀ : State} (f₀ : Emits (G.SP (here .height) ∷ []) ((here .height + 1) ∷ []) t t₀ st st₀) where
       abbrev pub side-left : ReadyE s end (raised 1 here) st → ReadySuffixes s middle start (raised 1 (inside here)) st₀
       side-left y = index-left l refl ei ez es tag (indexed-part n nd q m (with-state (f₀ .label) y))
 
-      module _ {s₁ t₁ t₂ : List ℕ} {a b : State} (g : GaveSuffixes text s s₁ middle start (raised 1 (inside here)) t₀ t₁ st₀ a) (f : Emits (G.SP (here .height + 1) ∷ []) ((here .height + 1 + 1) ∷ []) t₁ t₂ a b) where
+      module _ {s₁ t₁ t₂ : List ℕ} {a b : State} (g : GaveSuffixes text s s₁ middle start (raised 1 (inside here)) t₀ t₁ st₀ a)
+          (f : Emits (G.SP (here .height + 1) ∷ []) ((here .height + 1 + 1) ∷ []) t₁ t₂ a b) where
         abbrev pub side-right : ReadyE s end (raised 1 here) st → ReadyE s₁ inner (raised 1 (raised 1 (inside here))) b
         side-right y = with-state (f .label) (index-right l refl ei ez es tag text g (indexed-part n nd q m (with-state (f₀ .label) y)))
 
         pub side-index-gave : {s₂ t₃ t₄ : List ℕ} {c d : State} → GaveE text s₁ s₂ inner (raised 1 (raised 1 (inside here))) t₂ t₃ b c
-            → Emits (G.AIP (here .height + 1) ∷ G.SP (here .height + 1) ∷ G.LIP (here .height) ∷ G.SIP (here .height + 1) ∷ []) [] t₃ t₄ c d → GaveSideIndex text s s₂ end here t t₄ st d
+            → Emits (G.AIP (here .height + 1) ∷ G.SP (here .height + 1) ∷ G.LIP (here .height) ∷ G.SIP (here .height + 1) ∷ []) [] t₃ t₄ c d
+            → GaveSideIndex text s s₂ end here t t₄ st d
         unfolding inExpression expression G.targetCode ofTarget G.targetLabels sideOf
         side-index-gave {s₂} {t₃} {t₄} {c} {d} g₂ f₂ place = record {
           by = λ y.
               let y₀ = with-state (f₀ .label) y in
-              let U = suffixed-is n nd (λ e. omega arith) (λ e. omega arith) (λ e. omega arith) (λ e. omega arith) (λ e. omega arith) (λ e. omega arith) (λ e. omega arith) m y₀ in
-              let Y = indexed-part n nd q m y₀ in let sc = y .scope in let h = here .height in let k = h + 1 in let p = U .left in let u = is-index tag (the-last l refl ei ez es Y) in
+              let U = suffixed-is n nd (λ e. omega arith) (λ e. omega arith) (λ e. omega arith) (λ e. omega arith) (λ e. omega arith)
+              (λ e. omega arith) (λ e. omega arith) m y₀ in
+              let Y = indexed-part n nd q m y₀ in let sc = y .scope in let h = here .height in let k = h + 1 in let p = U .left in
+              let u = is-index tag (the-last l refl ei ez es Y) in
               let x = g .by (side-left y) in let w = g₂ .by (side-right y) in let L = leavable here in
               let A = suffixes text sc k (expression text sc (under (u .init) k) p) (u .init) in let B = expression text sc (k + 1) (u .part) in
-              let fa = inExpression text sc L (under (u .init) k) p ++ inSuffixes text sc L k (u .init) in let fb = inExpression text sc L (k + 1) (u .part) in
+              let fa = inExpression text sc L (under (u .init) k) p ++ inSuffixes text sc L k (u .init) in
+              let fb = inExpression text sc L (k + 1) (u .part) in
               let kk : k + 1 ≡ h + 2 = omega arith in
               let ef : inExpression text sc L (under (U .list) k) p ++ inSuffixes text sc L k (U .list) ≡ fa ++ fb =
               ap (λ (ss : Suffixes). inExpression text sc L (under ss k) p ++ inSuffixes text sc L k ss) (u .same)
-              ∙ ap (λ (v : ℕ). inExpression text sc L v p ++ inSuffixes text sc L k (snocIndex (u .init) (u .part))) (under-index text sc (u .init) (u .part) k)
+              ∙ ap (λ (v : ℕ). inExpression text sc L v p ++ inSuffixes text sc L k (snocIndex (u .init) (u .part)))
+              (under-index text sc (u .init) (u .part) k)
               ∙ ap (λ (fs : List Fault). inExpression text sc L (under (u .init) k) p ++ fs) (faults-index text sc L (u .init) (u .part) k)
               ∙ sym (append-assoc (inExpression text sc L (under (u .init) k) p) (inSuffixes text sc L k (u .init)) fb) in
               let er : suffixes text sc k (expression text sc (under (U .list) k) p) (U .list) ≡ R.index A B =
               ap (λ (ss : Suffixes). suffixes text sc k (expression text sc (under ss k) p) ss) (u .same)
-              ∙ ap (λ (v : ℕ). suffixes text sc k (expression text sc v p) (snocIndex (u .init) (u .part))) (under-index text sc (u .init) (u .part) k)
+              ∙ ap (λ (v : ℕ). suffixes text sc k (expression text sc v p) (snocIndex (u .init) (u .part)))
+              (under-index text sc (u .init) (u .part) k)
               ∙ suffixes-index text sc (u .init) (u .part) k (expression text sc (under (u .init) k) p) in
               let E = suffixes text sc k (expression text sc (under (U .list) k) p) (U .list) in
               let Z = G.AIP k ∷ G.SP k ∷ G.LIP h ∷ G.SIP k ∷ [] in
-              subst (λ (e : Expression). Result (inExpression text sc L k e ++ unlessSide place (sideOf (expression text sc k e))) (targetSays here (targetOf (sideOf (expression text sc k e)))) (length (encode (y .tree))) (y .base) (raised 1 here) s s₂ t t₄ st d) (sym (U .same))
+              subst (λ (e : Expression). Result (inExpression text sc L k e ++ unlessSide place (sideOf (expression text sc k e)))
+              (targetSays here (targetOf (sideOf (expression text sc k e)))) (length (encode (y .tree))) (y .base) (raised 1 here) s s₂ t t₄ st d)
+              (sym (U .same))
               (record {
                 keeps = keeps-then (x .keeps) (w .keeps);
                 did = did-as (targetSays here (targetOf (sideOf E))) _ (did-after f₀ (did-put (did-then (did-emit (x .did) f) (w .did)) f₂))
-                    (same-eq (sym ef ∙ sym (append-nil _) ∙ ap (λ (e : Expr). (inExpression text sc L (under (U .list) k) p ++ inSuffixes text sc L k (U .list)) ++ unlessSide place (sideOf e)) (sym er)))
+                    (same-eq (sym ef ∙ sym (append-nil _) ∙ ap
+                    (λ (e : Expr). (inExpression text sc L (under (U .list) k) p ++ inSuffixes text sc L k (U .list)) ++ unlessSide place
+                    (sideOf e)) (sym er)))
                     (λ v e. code-is
-                    (ap (λ (z : List I.Item). G.SP h ∷ z) (append-assoc (exprCode (here .strings) k v A ++ (G.SP k ∷ [])) (exprCode (here .strings) (k + 1) (v + exprLabels A) B) Z
+                    (ap (λ (z : List I.Item). G.SP h ∷ z) (append-assoc (exprCode (here .strings) k v A ++ (G.SP k ∷ [])) (exprCode (here .strings) (k
+                    + 1) (v + exprLabels A) B) Z
                     ∙ append-assoc (exprCode (here .strings) k v A) (G.SP k ∷ []) (exprCode (here .strings) (k + 1) (v + exprLabels A) B ++ Z)
                     ∙ ap (λ (i : ℕ). exprCode (here .strings) k v A ++ (G.SP k ∷ (exprCode (here .strings) i (v + exprLabels A) B ++ Z))) kk)
                     ∙ ap (λ (e : Expr). G.targetCode (here .strings) h v (targetOf (sideOf e))) (sym er))
-                    (ap (λ (z : List ℕ). k ∷ z) (append-assoc (ofExpr k A) ((k + 1) ∷ []) (ofExpr (k + 1) B) ∙ ap (λ (i : ℕ). ofExpr k A ++ (i ∷ ofExpr i B)) kk) ∙ ap (λ (e : Expr). ofTarget h (targetOf (sideOf e))) (sym er))
+                    (ap (λ (z : List ℕ). k ∷ z)
+                    (append-assoc (ofExpr k A) ((k + 1) ∷ []) (ofExpr (k + 1) B) ∙ ap (λ (i : ℕ). ofExpr k A ++ (i ∷ ofExpr i B)) kk) ∙ ap
+                    (λ (e : Expr). ofTarget h (targetOf (sideOf e))) (sym er))
                     (ap (λ (e : Expr). G.targetLabels (targetOf (sideOf e))) (sym er)))
-                    (omega (arith, y .ends, U .ends, u .ends, applied-ends Y, suffixed-middle n nd (λ e. omega arith) (λ e. omega arith) (λ e. omega arith) (λ e. omega arith) (λ e. omega arith) (λ e. omega arith) (λ e. omega arith) m y₀, length-append (encode p) (encodeSuffixes (u .init))));
+                    (omega (
+                      arith,
+                      y .ends,
+                      U .ends,
+                      u .ends,
+                      applied-ends Y,
+                      suffixed-middle n nd (λ e. omega arith) (λ e. omega arith)
+                          (λ e. omega arith) (λ e. omega arith) (λ e. omega arith) (λ e. omega arith) (λ e. omega arith) m y₀,
+                      length-append (encode p)
+                          (encodeSuffixes (u .init)),
+                    ));
               });
         }
 
-pub gave-side-at : (text : List ℕ) (place : ℕ) {s s′ t t′ : List ℕ} {end : ℕ} {d d′ : Here} {st r : State} → d′ ≡ d → GaveSide text s s′ end place d′ t t′ st r → GaveSide text s s′ end place d t t′ st r
+pub gave-side-at : (text : List ℕ) (place : ℕ) {s s′ t t′ : List ℕ} {end : ℕ} {d d′ : Here} {st r : State} → d′ ≡ d
+    → GaveSide text s s′ end place d′ t t′ st r → GaveSide text s s′ end place d t t′ st r
 gave-side-at text place {s} {s′} {t} {t′} {end} {st = st} {r} e g = subst (λ (x : Here). GaveSide text s s′ end place x t t′ st r) e g
 
-pub gave-refused-at : {text s s′ t t′ : List ℕ} {end place : ℕ} {d d′ : Here} {st r : State} → d′ ≡ d → GaveRefused text s s′ end place d′ t t′ st r → GaveRefused text s s′ end place d t t′ st r
+pub gave-refused-at : {text s s′ t t′ : List ℕ} {end place : ℕ} {d d′ : Here} {st r : State} → d′ ≡ d → GaveRefused text s s′ end place d′ t t′ st r
+    → GaveRefused text s s′ end place d t t′ st r
 gave-refused-at {text} {s} {s′} {t} {t′} {end} {place} {st = st} {r} e g = subst (λ (x : Here). GaveRefused text s s′ end place x t t′ st r) e g

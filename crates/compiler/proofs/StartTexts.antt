@@ -96,7 +96,8 @@ one-start {table} {k} {ss} s l q e = record {
 pub starts-next : {table : List ℕ} {functions k at x r : ℕ} {t t₁ t₂ : List ℕ} → k < functions → WritesStart table (k + 1) x r t₁ t₂
     → StartsSoFar table functions k at x t t₁ → StartsSoFar table functions (k + 1) at r t t₂
 unfolding startsCode
-starts-next {table} {functions} {k} {at} {x} {r} {t} {t₁} {t₂} h w q = record { by = λ fs l e s. let y = q .by fs l e s in go fs l e s y (y .rest) refl }
+starts-next {table} {functions} {k} {at} {x} {r} {t} {t₁} {t₂} h w q =
+    record { by = λ fs l e s. let y = q .by fs l e s in go fs l e s y (y .rest) refl }
   where
     go : (fs : List Fun) → length table ≡ 400 → functions ≡ length fs → Starting table (startsOf fs) → (y : StartsPart k at x t t₁ fs)
         → (rest : List Fun) → y .rest ≡ rest → StartsPart (k + 1) at r t t₂ fs

@@ -9,29 +9,29 @@ use Rattle.items.specs.Item as I
 use Rattle.language.specs.Kinds as K
 use Rattle.language.specs.Tree as T
 use Rattle.language.specs.Tree.{Label, Expression, Commands, Unlabelled}
-use Rattle.language.proofs.Depth.{depth, commandDepth, commandsDepth, unlabelledDepth}
+use Rattle.language.proofs.Depth.{depth, commandsDepth, unlabelledDepth}
 use Rattle.language.specs.Names.{Scope}
 use Rattle.language.specs.Constants.{Fault}
 use Rattle.language.specs.Resolved as R
 use Rattle.language.specs.Resolve.{expression, unlabelled, labelsBefore, caseList}
 use Rattle.language.specs.Heights.{ofCmd, ofCases}
-use Rattle.language.specs.Fine.{FineCommands, FineUnlabelled}
+use Rattle.language.specs.Fine.{FineUnlabelled}
 use Rattle.code.specs.Generate as G
 use Rattle.language.specs.Faults as Y
 use Rattle.language.specs.Faults.{Leavable, doubled, inExpression, inCase, inCases, inUnlabelled}
 use Rattle.tree.specs.Encoding.{encode, encodeCommand, encodeCommands, encodeUnlabelled}
-use Rattle.compiler.specs.Scope.{Keeps}
 use Rattle.compiler.proofs.Scoping.{keeps-all, keeps-then, keeps-shows}
 use Rattle.compiler.specs.declared.steps.State.{State}
 use Rattle.compiler.specs.declared.steps.Here.{Here}
 use Rattle.compiler.specs.declared.steps.Ways.{Ways}
 use Rattle.compiler.specs.declared.steps.Node.{Node}
-use Rattle.compiler.specs.Fine.{FineE, FineC, FineCs, FinePlain}
+use Rattle.compiler.specs.Fine.{FineE, FineCs, FinePlain}
 use Rattle.compiler.specs.Walked.{inSwitch, leavableBy, exits, NodeAt, Code, Did, Emits, Fresh}
 use Rattle.compiler.specs.Walks.{Lies, Result, ReadyE, GaveE, Counts}
 use Rattle.compiler.specs.Commands.{cmdSays, ReadyC, GaveCase, ReadyU, GaveU, casesFaults, casesSays, entriesIn, ReadyCases, GaveCases}
 use Rattle.compiler.specs.Switching.{labelFaults, ReadyLabels, JudgesLabels, tableItems, WritesTable}
-use Rattle.compiler.proofs.Done.{did-none, did-put, did-after, did-then, did-as, did-at, did-fresh, Same, same-refl, same-eq, same-swap, same-then, same-both, code-is}
+use Rattle.compiler.proofs.Done.{did-none, did-put, did-after, did-then, did-as, did-at, did-fresh, Same, same-refl, same-eq, same-swap}
+use Rattle.compiler.proofs.Done.{same-then, same-both, code-is}
 use Rattle.compiler.proofs.Trees.{first, second, keeps-lies}
 use Rattle.compiler.proofs.Parts.{sub}
 use Rattle.compiler.proofs.Anywhere.{with-ways}
@@ -63,18 +63,23 @@ module _ (text t₀ : List ℕ) (w : Ways) (l₀ : ℕ) {s₀ : List ℕ} {from 
     module _ {t₁ : List ℕ} {a : State} (m : Emits (I.label (l₀ + k) ∷ []) [] t t₁ st a) where
       abbrev pub case-part : (y : ReadyCases s₀ from end here st₀) → CasesPart y s t at k st → ReadyC s next here a
       case-part y p =
-          ready-one (y .ready) (y .starts) l es en p here a refl refl refl (omega arith) (omega (arith, y .label, p .label, case-entries y p, m .label))
+          ready-one (y .ready) (y .starts) l es en p here a refl refl refl (omega arith)
+          (omega (arith, y .label, p .label, case-entries y p, m .label))
           (omega (arith, p .some, m .label))
 
-      pub cases-next : {s₁ t₂ : List ℕ} {r : State} → GaveCase text s s₁ next here w t₁ t₂ a r → (y : ReadyCases s₀ from end here st₀) → CasesPart y s t at k st
+      pub cases-next : {s₁ t₂ : List ℕ} {r : State} → GaveCase text s s₁ next here w t₁ t₂ a r → (y : ReadyCases s₀ from end here st₀)
+          → CasesPart y s t at k st
           → CasesPart y s₁ t₂ next (k + 1) r
       unfolding casesFaults caseList G.casesCode ofCases G.casesLabels
       cases-next {t₂ = t₂} {r} g y p =
           let z = y .ready in let u = item z (y .starts) l es en p in let x = g .by (case-part y p) in let sc = z .scope in let h = here .height in
           let n = case-entries y p in let a : l₀ + (k + 1) ≡ suc (l₀ + k) = omega arith in
-          goes-on z (y .starts) l es en p (x .keeps) (omega arith) (omega (arith, x .did .few, m .label)) (omega (arith, p .some, x .did .grows, m .label))
+          goes-on z (y .starts) l es en p (x .keeps) (omega arith) (omega (arith, x .did .few, m .label))
+          (omega (arith, p .some, x .did .grows, m .label))
           (λ t′ st′ d. did-as _ _
-          (did-then (did-after m (x .did)) (subst (λ (i : ℕ). Did (casesFaults text sc (leavableBy w here) h (u .more)) (casesSays here w i (caseList text sc h (u .more))) (2 * entriesIn (u .more)) t₂ t′ r st′) a d))
+          (did-then (did-after m (x .did))
+          (subst (λ (i : ℕ). Did (casesFaults text sc (leavableBy w here) h (u .more)) (casesSays here w i (caseList text sc h (u .more)))
+          (2 * entriesIn (u .more)) t₂ t′ r st′) a d))
           same-refl (λ i c. refl) (omega arith))
 
   pub cases-end : (k : ℕ) {s t : List ℕ} {at : ℕ} {st : State} → end ≤ at → ((y : ReadyCases s₀ from end here st₀) → CasesPart y s t at k st)
@@ -91,12 +96,15 @@ same-crossed a b c d =
     (same-then (same-both (same-refl {a = a}) (same-both (same-swap b c) (same-refl {a = d})))
     (same-eq (ap (λ (z : List Fault). a ++ z) (append-assoc c b d) ∙ sym (append-assoc a c (b ++ d)))))
 
-cases-same : (text : List ℕ) (sc : Scope) (l : Leavable) (h : ℕ) (before : List Label) (cs : Commands) → Same (labelFaults text sc before cs ++ casesFaults text sc l h cs) (inCases text sc l h before cs)
+cases-same : (text : List ℕ) (sc : Scope) (l : Leavable) (h : ℕ) (before : List Label) (cs : Commands)
+    → Same (labelFaults text sc before cs ++ casesFaults text sc l h cs) (inCases text sc l h before cs)
 unfolding labelFaults casesFaults inCases
 cases-same text sc l h before T.noCommands = same-refl
 cases-same text sc l h before (T.andCommand c cs) =
-    same-then (same-crossed (doubled text sc before (labelsBefore c)) (labelFaults text sc (before ++ labelsBefore c) cs) (inCase text sc l h c) (casesFaults text sc l h cs))
-    (same-both (same-refl {a = doubled text sc before (labelsBefore c) ++ inCase text sc l h c}) (cases-same text sc l h (before ++ labelsBefore c) cs))
+    same-then (same-crossed (doubled text sc before (labelsBefore c)) (labelFaults text sc (before ++ labelsBefore c) cs) (inCase text sc l h c)
+    (casesFaults text sc l h cs))
+    (same-both (same-refl {a = doubled text sc before (labelsBefore c) ++ inCase text sc l h c})
+    (cases-same text sc l h (before ++ labelsBefore c) cs))
 
 -- ---- the whole
 
@@ -121,7 +129,8 @@ is-switch {lo = lo} (F.aSwitch {e} {cs} h v q) = record {
 }
 
 -- two entries stand in front of each command
-pub list-entries : (text : List ℕ) (sc : Scope) (h : ℕ) (cs : Commands) → length (encodeCommands cs) ≡ 2 * G.commandsIn (caseList text sc h cs) + entriesIn cs
+pub list-entries : (text : List ℕ) (sc : Scope) (h : ℕ) (cs : Commands)
+    → length (encodeCommands cs) ≡ 2 * G.commandsIn (caseList text sc h cs) + entriesIn cs
 unfolding G.commandsIn caseList encodeCommands entriesIn
 list-entries text sc h T.noCommands = omega arith
 list-entries text sc h (T.andCommand c cs) = omega (arith, list-entries text sc h cs, length-append (encodeCommand c) (encodeCommands cs))
@@ -130,8 +139,10 @@ leaves-switch : (here : Here) (ways : Ways) (end : ℕ) → 0 < end → leavable
 leaves-switch here ways end h = rw (ne-eqb end 0 (λ e. omega arith))
 
 -- the words after X23, and the refusals of the labels
-table-did : {text s t t₁ : List ℕ} {from end top first done : ℕ} {b c d : State} (h : ℕ) → JudgesLabels text s from end top b c → WritesTable text s from end top first done t t₁ c d → (y : ReadyLabels s from end top)
-    → Did (labelFaults text (y .scope) [] (y .commands)) (λ n. record { items = tableItems first done (caseList text (y .scope) h (y .commands)); heights = []; labels = 0 }) 0 t t₁ b d
+table-did : {text s t t₁ : List ℕ} {from end top first done : ℕ} {b c d : State} (h : ℕ) → JudgesLabels text s from end top b c
+    → WritesTable text s from end top first done t t₁ c d → (y : ReadyLabels s from end top)
+    → Did (labelFaults text (y .scope) [] (y .commands))
+    (λ n. record { items = tableItems first done (caseList text (y .scope) h (y .commands)); heights = []; labels = 0 }) 0 t t₁ b d
 table-did {t = t} h j w y = let x = j .by y t in record {
   worst = w .worst ∙ x .worst;
   fits = x .fits;
@@ -143,12 +154,14 @@ table-did {t = t} h j w y = let x = j .by y t in record {
 -- what is written after the value: the end is at the first label, the commands are labelled after it
 abbrev switchSays : Here → Ways → R.Cases → ℕ → Code
 switchSays x w cs n = record {
-  items = tableItems (n + 1) n cs ++ (G.casesCode (x .strings) (x .height) (n + 1) (n + 1 + G.commandsIn cs) (exits (inSwitch n w)) cs ++ (I.label n ∷ []));
+  items = tableItems (n + 1) n cs
+      ++ (G.casesCode (x .strings) (x .height) (n + 1) (n + 1 + G.commandsIn cs) (exits (inSwitch n w)) cs ++ (I.label n ∷ []));
   heights = ofCases (x .height) cs;
   labels = 1 + G.commandsIn cs + G.casesLabels cs;
 }
 
-module _ {s : List ℕ} {end : ℕ} {here : Here} {st : State} (n : Node) (nd : NodeAt s end n) (q : getD s (end - 1) 0 ≡ K.SWITCHON) {middle : ℕ} (m : middle ≡ n .start + n .value) where
+module _ {s : List ℕ} {end : ℕ} {here : Here} {st : State} (n : Node) (nd : NodeAt s end n) (q : getD s (end - 1) 0 ≡ K.SWITCHON) {middle : ℕ}
+    (m : middle ≡ n .start + n .value) where
   pub switch-is : (y : ReadyU s end here st) → IsSwitch s (y .lo) end (y .tree)
   switch-is y = is-switch (form-at n nd (nd .kind ∙ q) y)
 
@@ -167,13 +180,16 @@ module _ {s : List ℕ} {end : ℕ} {here : Here} {st : State} (n : Node) (nd : 
 
   abbrev pub switch-value : ReadyU s end here st → ReadyE s middle here st
   switch-value y = let u = switch-is y in
-      sub encode depth FineE y keeps-all middle (y .lo) here st (u .value) (u .lies) (switch-middle y) (omega arith) (omega (arith, switch-middle y, u .ends)) refl refl
+      sub encode depth FineE y keeps-all middle (y .lo) here st (u .value) (u .lies) (switch-middle y) (omega arith)
+      (omega (arith, switch-middle y, u .ends)) refl refl
       (omega (arith, y .height, y .ends, u .ends)) (omega (arith, y .label, y .ends, u .ends)) (y .some) (switch-deep y .0) (switch-fine y .0)
 
-  module _ (text : List ℕ) {s₁ t t₁ : List ℕ} {a : State} (g : GaveE text s s₁ middle here t t₁ st a) {k : ℕ} (c : Counts s₁ middle (n .inner) k) where
+  module _ (text : List ℕ) {s₁ t t₁ : List ℕ} {a : State} (g : GaveE text s s₁ middle here t t₁ st a) {k : ℕ}
+      (c : Counts s₁ middle (n .inner) k) where
     pub switch-lies : (y : ReadyU s end here st) → Lies s₁ middle (encodeCommands (switch-is y .list))
     switch-lies y = let u = switch-is y in
-        subst (λ (i : ℕ). Lies s₁ i (encodeCommands (u .list))) (sym (switch-middle y)) (keeps-lies (g .by (switch-value y) .keeps) (omega (arith, y .above)) (u .lies-list))
+        subst (λ (i : ℕ). Lies s₁ i (encodeCommands (u .list))) (sym (switch-middle y))
+        (keeps-lies (g .by (switch-value y) .keeps) (omega (arith, y .above)) (u .lies-list))
 
     pub switch-ends : (y : ReadyU s end here st) → n .inner ≡ middle + length (encodeCommands (switch-is y .list))
     switch-ends y = let u = switch-is y in omega (arith, nd .inner, u .ends, switch-middle y)
@@ -198,30 +214,39 @@ module _ {s : List ℕ} {end : ℕ} {here : Here} {st : State} (n : Node) (nd : 
       fine = switch-fine y .1;
     }
 
-    module _ {b i d : State} {t₂ : List ℕ} (e : Fresh (k + 1) a b) (j : JudgesLabels text s₁ middle (n .inner) (here .top) b i) {first : ℕ} (ef : first ≡ a .label + 1) (w : WritesTable text s₁ middle (n .inner) (here .top) first (a .label) t₁ t₂ i d) where
+    module _ {b i d : State} {t₂ : List ℕ} (e : Fresh (k + 1) a b) (j : JudgesLabels text s₁ middle (n .inner) (here .top) b i) {first : ℕ}
+        (ef : first ≡ a .label + 1) (w : WritesTable text s₁ middle (n .inner) (here .top) first (a .label) t₁ t₂ i d) where
       pub switch-state : (y : ReadyU s end here st) → d .label ≡ a .label + (k + 1)
       switch-state y = let x = j .by (switch-labels y) t₁ in omega (arith, e .label, x .few, x .grows, w .label)
 
       abbrev pub switch-cases : ReadyU s end here st → ReadyCases s₁ middle (n .inner) here d
-      switch-cases y = let u = switch-is y in let x = g .by (switch-value y) in let v = list-entries text (y .scope) (here .height) (u .list) in record {
-        before = st;
-        ready = sub encodeCommands commandsDepth FineCs y (x .keeps) (n .inner) (y .lo + length (encode (u .value))) here st (u .list) (u .lies-list) (omega (arith, nd .inner, u .ends)) (omega arith) (omega (arith, nd .inner)) refl refl
-            (omega (arith, y .height, y .ends, u .ends)) (omega (arith, y .label, y .ends, u .ends)) (y .some) (switch-deep y .1) (switch-fine y .1);
-        starts = sym (switch-middle y);
-        label = omega (arith, switch-state y, x .did .few, switch-count y, v, y .label, y .ends, u .ends);
-        some = omega (arith, switch-state y);
-      }
+      switch-cases y =
+          let u = switch-is y in let x = g .by (switch-value y) in let v = list-entries text (y .scope) (here .height) (u .list) in record {
+            before = st;
+            ready =
+                sub encodeCommands commandsDepth FineCs y (x .keeps) (n .inner) (y .lo + length (encode (u .value))) here st (u .list) (u .lies-list)
+                (omega (arith, nd .inner, u .ends)) (omega arith) (omega (arith, nd .inner)) refl refl
+                (omega (arith, y .height, y .ends, u .ends)) (omega (arith, y .label, y .ends, u .ends)) (y .some) (switch-deep y .1) (switch-fine y .1);
+            starts = sym (switch-middle y);
+            label = omega (arith, switch-state y, x .did .few, switch-count y, v, y .label, y .ends, u .ends);
+            some = omega (arith, switch-state y);
+          }
 
-      pub switch-gave : (ways : Ways) {s₂ t₃ t₄ : List ℕ} {o r : State} → GaveCases text s₁ s₂ middle (n .inner) first here (inSwitch (a .label) ways) t₂ t₃ d o → Emits (I.label (a .label) ∷ []) [] t₃ t₄ o r → GaveU text s s₂ end here ways t t₄ st r
+      pub switch-gave : (ways : Ways) {s₂ t₃ t₄ : List ℕ} {o r : State}
+          → GaveCases text s₁ s₂ middle (n .inner) first here (inSwitch (a .label) ways) t₂ t₃ d o → Emits (I.label (a .label) ∷ []) [] t₃ t₄ o r
+          → GaveU text s s₂ end here ways t t₄ st r
       unfolding inUnlabelled unlabelled G.cmdCode ofCmd G.cmdLabels
       switch-gave ways {s₂} {t₃} {t₄} {o} {r} g₂ f = record {
         by = λ y.
-            let u = switch-is y in let x = g .by (switch-value y) in let z = g₂ .by (switch-cases y) in let sc = y .scope in let h = here .height in let S = here .strings in let lv = leavableBy ways here in let A = a .label in
-            let E = expression text sc h (u .value) in let CS = caseList text sc h (u .list) in let v = list-entries text sc h (u .list) in let ek = switch-count y in
+            let u = switch-is y in let x = g .by (switch-value y) in let z = g₂ .by (switch-cases y) in let sc = y .scope in let h = here .height in
+            let S = here .strings in let lv = leavableBy ways here in let A = a .label in
+            let E = expression text sc h (u .value) in let CS = caseList text sc h (u .list) in let v = list-entries text sc h (u .list) in
+            let ek = switch-count y in
             let ls : leavableBy (inSwitch A ways) here ≡ Y.inSwitch lv = leaves-switch here ways A (omega (arith, x .did .grows, y .some)) in
             let en : A + (k + 1) + 0 ≡ A + 1 + G.commandsIn CS = omega (arith, ek) in
             let F = labelFaults text sc [] (u .list) in
-            let rest : Did (F ++ casesFaults text sc (leavableBy (inSwitch A ways) here) h (u .list)) (switchSays here ways CS) (k + 1 + (0 + 2 * entriesIn (u .list))) t₁ t₄ a r =
+            let rest : Did (F ++ casesFaults text sc (leavableBy (inSwitch A ways) here) h (u .list)) (switchSays here ways CS)
+            (k + 1 + (0 + 2 * entriesIn (u .list))) t₁ t₄ a r =
             did-at (switchSays here ways CS) _ (did-fresh e (did-put (did-then (table-did h j w (switch-labels y)) (z .did)) f)) same-refl
             (λ p. code-is
             (append-assoc (tableItems first A CS) (G.casesCode S h first (A + (k + 1) + 0) (exits (inSwitch A ways)) CS) (I.label A ∷ [])
@@ -229,16 +254,21 @@ module _ {s : List ℕ} {end : ℕ} {here : Here} {st : State} (n : Node) (nd : 
             ∙ ap (λ (i : ℕ). tableItems (A + 1) A CS ++ (G.casesCode S h (A + 1) i (exits (inSwitch A ways)) CS ++ (I.label A ∷ []))) en)
             refl (omega (arith, ek)))
             (omega arith) in
-            subst (λ (p : Unlabelled). Result (inUnlabelled text sc lv h p) (cmdSays here ways (unlabelled text sc h p)) (length (encodeUnlabelled (y .tree))) (y .base) here s s₂ t t₄ st r) (sym (u .same))
+            subst (λ (p : Unlabelled). Result (inUnlabelled text sc lv h p) (cmdSays here ways (unlabelled text sc h p))
+            (length (encodeUnlabelled (y .tree))) (y .base) here s s₂ t t₄ st r) (sym (u .same))
             (record {
               keeps = keeps-then (x .keeps) (z .keeps);
               did = did-as (cmdSays here ways (R.switch E CS)) _ (did-then (with-ways text sc here ways h (u .value) (x .did)) rest)
-                  (same-both (same-refl {a = inExpression text sc lv h (u .value)}) (same-then (same-eq (ap (λ (p : Leavable). F ++ casesFaults text sc p h (u .list)) ls)) (cases-same text sc (Y.inSwitch lv) h [] (u .list))))
+                  (same-both (same-refl {a = inExpression text sc lv h (u .value)})
+                  (same-then (same-eq (ap (λ (p : Leavable). F ++ casesFaults text sc p h (u .list)) ls))
+                  (cases-same text sc (Y.inSwitch lv) h [] (u .list))))
                   (λ p c. code-is refl refl (omega arith))
                   (omega (arith, y .ends, u .ends, ek, v));
             });
       }
 
 -- another name of the same ways
-pub gave-cases-at : {text s s′ t t′ : List ℕ} {from end l : ℕ} {here : Here} {w w′ : Ways} {st r : State} → w′ ≡ w → GaveCases text s s′ from end l here w′ t t′ st r → GaveCases text s s′ from end l here w t t′ st r
-gave-cases-at {text} {s} {s′} {t} {t′} {from} {end} {l} {here} {st = st} {r} e g = subst (λ (x : Ways). GaveCases text s s′ from end l here x t t′ st r) e g
+pub gave-cases-at : {text s s′ t t′ : List ℕ} {from end l : ℕ} {here : Here} {w w′ : Ways} {st r : State} → w′ ≡ w
+    → GaveCases text s s′ from end l here w′ t t′ st r → GaveCases text s s′ from end l here w t t′ st r
+gave-cases-at {text} {s} {s′} {t} {t′} {from} {end} {l} {here} {st = st} {r} e g =
+    subst (λ (x : Ways). GaveCases text s s′ from end l here x t t′ st r) e g

@@ -34,7 +34,9 @@ use Rattle.compiler.specs.Walks.{Lies}
 use Rattle.compiler.specs.Locals.{Says, fit, unfit, Judges}
 use Rattle.compiler.specs.Switching.{labelFaults, ReadyLabels, WritesTable}
 use Rattle.compiler.specs.Labels as L
-use Rattle.compiler.specs.Labels.{Row, noMore, andMore, NextItem, LabelAt, aCase, aDefault, CommandAt, Spans, Listed, marks, flat, caseItems, CountsLabel, CountsAll, HasDefault, defaultAmong, FindsDefault, Sound, noLabel, anyDefault, tableAmong, Still, WritesPair, WritesPairs, WritesAll}
+use Rattle.compiler.specs.Labels.{Row, noMore, andMore, NextItem, LabelAt, aCase, aDefault, CommandAt, Spans, Listed, marks, flat, caseItems}
+use Rattle.compiler.specs.Labels.{CountsLabel, CountsAll, HasDefault, defaultAmong, FindsDefault, Sound, noLabel, anyDefault, tableAmong, Still}
+use Rattle.compiler.specs.Labels.{WritesPair, WritesPairs, WritesAll}
 use Rattle.compiler.proofs.Done.{emits-then, nil-left, nil-right}
 use Rattle.compiler.proofs.Trees.{first, kid, ends, value-is, size-is, kind-is}
 use Rattle.compiler.proofs.Guards.{expression-closed, kind-of, shut}
@@ -44,20 +46,30 @@ use Rattle.compiler.proofs.Rows.{Left, left-all, left-next, left-end, a
 
 module _ {s : List ℕ} {end : ℕ} (n : Node) (nd : NodeAt s end n) where
   pub spans-bare : (n .kind ≡ 132 → ⊥) → Spans s end (record { from = 0; to = 0 })
-  spans-bare q = record { small = omega arith; by = λ ls c. subst (λ (x : List Label). Row (LabelAt s) s 0 0 x) (sym (c .bare (λ k. q (nd .kind ∙ k)))) (noMore {at = 0} refl) }
+  spans-bare q =
+      record {
+        small = omega arith;
+        by = λ ls c. subst (λ (x : List Label). Row (LabelAt s) s 0 0 x) (sym (c .bare (λ k. q (nd .kind ∙ k))))
+            (noMore {at = 0} refl);
+      }
 
   pub spans-none : {to : ℕ} → n .kind ≡ 132 → to ≡ n .start + n .value → n .inner < to → Spans s end (record { from = 0; to = 0 })
-  spans-none q e l = record { small = omega arith; by = λ ls c. absurd (omega (arith, c .inside (sym (nd .kind) ∙ q), nd .start, nd .value, nd .inner)) }
+  spans-none q e l =
+      record { small = omega arith; by = λ ls c. absurd (omega (arith, c .inside (sym (nd .kind) ∙ q), nd .start, nd .value, nd .inner)) }
 
-  pub spans-is : {to : ℕ} → end < 2 ^ 32 → n .kind ≡ 132 → to ≡ n .start + n .value → to ≤ n .inner → Spans s end (record { from = n .start; to = to })
+  pub spans-is : {to : ℕ} → end < 2 ^ 32 → n .kind ≡ 132 → to ≡ n .start + n .value → to ≤ n .inner
+      → Spans s end (record { from = n .start; to = to })
   spans-is {to} m q e l = record {
     small = omega (arith, nd .inner);
     by = λ ls c.
         let b : end - 4 - getD s (end - 4) 0 + getD s (end - 3) 0 ≡ to = omega (arith, nd .start, nd .value) in
-        subst (λ (k : ℕ). Row (LabelAt s) s to k ls) (sym (nd .start)) (subst (λ (k : ℕ). Row (LabelAt s) s k (end - 4 - getD s (end - 4) 0) ls) b (c .row (sym (nd .kind) ∙ q)));
+        subst (λ (k : ℕ). Row (LabelAt s) s to k ls) (sym (nd .start))
+        (subst (λ (k : ℕ). Row (LabelAt s) s k (end - 4 - getD s (end - 4) 0) ls) b (c .row (sym (nd .kind) ∙ q)));
   }
 
-labelled-at : {s : List ℕ} {lo end : ℕ} (ls : List Label) (w : List ℕ) → FineLabels ls → Lies s lo (closed (encodeLabels ls ++ w) (length (encodeLabels ls)) 0 132) → end ≡ lo + length (closed (encodeLabels ls ++ w) (length (encodeLabels ls)) 0 132) → CommandAt s end ls
+labelled-at : {s : List ℕ} {lo end : ℕ} (ls : List Label) (w : List ℕ) → FineLabels ls
+    → Lies s lo (closed (encodeLabels ls ++ w) (length (encodeLabels ls)) 0 132)
+    → end ≡ lo + length (closed (encodeLabels ls ++ w) (length (encodeLabels ls)) 0 132) → CommandAt s end ls
 labelled-at {s} {lo} {end} ls w f h e =
     let x = encodeLabels ls in let v = length x in
     let z : getD s (end - 4) 0 ≡ length x + length w = size-is (x ++ w) v 0 132 h e ∙ length-append x w in
@@ -67,7 +79,8 @@ labelled-at {s} {lo} {end} ls w f h e =
     record {
       bare = λ q. absurd (q (kind-is (x ++ w) v 0 132 h e));
       inside = λ q. omega arith;
-      row = λ q. subst (λ (k : ℕ). Row (LabelAt s) s (end - 4 - getD s (end - 4) 0 + getD s (end - 3) 0) k ls) a (labels-row ls f (first x w (kid (x ++ w) v 0 132 h e)) b);
+      row = λ q. subst (λ (k : ℕ). Row (LabelAt s) s (end - 4 - getD s (end - 4) 0 + getD s (end - 3) 0) k ls) a
+          (labels-row ls f (first x w (kid (x ++ w) v 0 132 h e)) b);
     }
 
 guard-not : {w : ℕ} → isGuard w ≡ true → w ≡ 132 → ⊥
@@ -95,14 +108,17 @@ expression-low (T.monadic p o d) = omega arith
 expression-low (T.suffixed d ss) = suffixed-low (endsInCall false ss)
 expression-low (T.dyadic d os) = omega arith
 
-plain-not : {s : List ℕ} {lo end : ℕ} (u : Unlabelled) → FinePlain u → Lies s lo (encodeUnlabelled u) → end ≡ lo + length (encodeUnlabelled u) → getD s (end - 1) 0 ≡ 132 → ⊥
+plain-not : {s : List ℕ} {lo end : ℕ} (u : Unlabelled) → FinePlain u → Lies s lo (encodeUnlabelled u) → end ≡ lo + length (encodeUnlabelled u)
+    → getD s (end - 1) 0 ≡ 132 → ⊥
 unfolding FineUnlabelled encodeUnlabelled
 plain-not T.empty f h e q = f .1 refl
-plain-not (T.assignment ls rs) f h e q = omega (arith, q, kind-is (O.encodeSides ls ++ O.encodeExpressions rs) (length (O.encodeFirst ls)) (length (O.encodeSides ls)) 56 h e)
+plain-not (T.assignment ls rs) f h e q =
+    omega (arith, q, kind-is (O.encodeSides ls ++ O.encodeExpressions rs) (length (O.encodeFirst ls)) (length (O.encodeSides ls)) 56 h e)
 plain-not (T.callCommand d) f h e q = omega (arith, q, expression-low d, kind-of (expression-closed d) h e)
 plain-not (T.test d c c′) f h e q = omega (arith, q, kind-is (encode d ++ (encodeCommand c ++ encodeCommand c′)) 0 0 13 h e)
 plain-not (T.guarded w d c) f h e q = guard-not (f .0 .2) (sym (kind-is (encode d ++ encodeCommand c) 0 0 w h e) ∙ q)
-plain-not (T.for x d d′ k c) f h e q = omega (arith, q, kind-is (O.encodeName x ++ (encode d ++ (encode d′ ++ (O.encodeBy k ++ encodeCommand c)))) (length (O.encodeBy k)) 0 23 h e)
+plain-not (T.for x d d′ k c) f h e q =
+    omega (arith, q, kind-is (O.encodeName x ++ (encode d ++ (encode d′ ++ (O.encodeBy k ++ encodeCommand c)))) (length (O.encodeBy k)) 0 23 h e)
 plain-not (T.switchon d cs) f h e q = omega (arith, q, kind-is (encode d ++ O.encodeCommands cs) (length (encode d)) 0 26 h e)
 plain-not (T.resultis p d) f h e q = omega (arith, q, kind-is (encode d) 0 p 8 h e)
 plain-not (T.leave w p) f h e q = leave-not (f .0) (sym (kind-is [] 0 p w h e) ∙ q)
@@ -111,25 +127,32 @@ plain-not (T.block ls cs) f h e q = omega (arith, q, kind-is (O.encodeLocals ls 
 no-labels : {s : List ℕ} {end : ℕ} → (getD s (end - 1) 0 ≡ 132 → ⊥) → CommandAt s end []
 no-labels n = record { bare = λ q. refl; inside = λ q. absurd (n q); row = λ q. absurd (n q) }
 
-command-at : {s : List ℕ} {lo end : ℕ} (c : Command) → FineC c → Lies s lo (encodeCommand c) → end ≡ lo + length (encodeCommand c) → CommandAt s end (labelsBefore c)
+command-at : {s : List ℕ} {lo end : ℕ} (c : Command) → FineC c → Lies s lo (encodeCommand c) → end ≡ lo + length (encodeCommand c)
+    → CommandAt s end (labelsBefore c)
 unfolding FineCommand encodeCommand labelled O.repeated encodeLabels encodeRepeats
 command-at (T.command [] u T.noRepeats) f h e = no-labels (plain-not u (f .1, λ z. omega (arith, f .3 .labels z)) h e)
-command-at (T.command [] u (T.repeat rs)) f h e = no-labels (λ q. omega (arith, q, kind-is (encodeUnlabelled u ++ encodeRepeats (T.repeat rs)) (length (encodeUnlabelled u)) 0 133 h e))
-command-at (T.command [] u (T.repeatOn w d rs)) f h e = no-labels (λ q. omega (arith, q, kind-is (encodeUnlabelled u ++ encodeRepeats (T.repeatOn w d rs)) (length (encodeUnlabelled u)) 0 133 h e))
+command-at (T.command [] u (T.repeat rs)) f h e =
+    no-labels (λ q. omega (arith, q, kind-is (encodeUnlabelled u ++ encodeRepeats (T.repeat rs)) (length (encodeUnlabelled u)) 0 133 h e))
+command-at (T.command [] u (T.repeatOn w d rs)) f h e =
+    no-labels (λ q. omega (arith, q, kind-is (encodeUnlabelled u ++ encodeRepeats (T.repeatOn w d rs)) (length (encodeUnlabelled u)) 0 133 h e))
 command-at (T.command (T.case p c ∷ ls) u rs) f h e = labelled-at (T.case p c ∷ ls) (O.repeated (encodeUnlabelled u) (encodeRepeats rs)) (f .0) h e
 command-at (T.command (T.default p ∷ ls) u rs) f h e = labelled-at (T.default p ∷ ls) (O.repeated (encodeUnlabelled u) (encodeRepeats rs)) (f .0) h e
 
-pub commands-row : {s : List ℕ} {at end : ℕ} (cs : Commands) → FineCs cs → Lies s at (encodeCommands cs) → end ≡ at + length (encodeCommands cs) → Row (CommandAt s) s end at (marks cs)
+pub commands-row : {s : List ℕ} {at end : ℕ} (cs : Commands) → FineCs cs → Lies s at (encodeCommands cs) → end ≡ at + length (encodeCommands cs)
+    → Row (CommandAt s) s end at (marks cs)
 unfolding encodeCommands FineCommands marks
 commands-row {at = at} T.noCommands f h e = noMore {at = at} (omega arith)
 commands-row {at = at} (T.andCommand c cs) f h e = an-item (encodeCommand c) (encodeCommands cs) h e
     (λ z lies more en. andMore {at = at} (omega arith) (command-at c (f .0) lies z) (commands-row cs (f .1) more en))
 
 abbrev pub list-of : {s : List ℕ} {from end top : ℕ} → ReadyLabels s from end top → Listed (CommandAt s) s from end top
-list-of y = record { base = y .base; scope = y .scope; shows = y .shows; all = marks (y .commands); row = commands-row (y .commands) (y .fine) (y .lies) (y .ends) }
+list-of y =
+    record
+    { base = y .base; scope = y .scope; shows = y .shows; all = marks (y .commands); row = commands-row (y .commands) (y .fine) (y .lies) (y .ends) }
 
 -- a command's own labels
-abbrev pub own-labels : {s : List ℕ} {from end next top : ℕ} {sp : Span} → Spans s next sp → Listed (CommandAt s) s from end top → (ls : List Label) → CommandAt s next ls → Listed (LabelAt s) s (sp .from) (sp .to) top
+abbrev pub own-labels : {s : List ℕ} {from end next top : ℕ} {sp : Span} → Spans s next sp → Listed (CommandAt s) s from end top → (ls : List Label)
+    → CommandAt s next ls → Listed (LabelAt s) s (sp .from) (sp .to) top
 own-labels i y ls q = record { base = y .base; scope = y .scope; shows = y .shows; all = ls; row = i .by ls q }
 
 -- ---- how many labels are CASE
@@ -171,7 +194,8 @@ module _ {A : Type 0} (K : Holding A) where
     pub count-begin : {from : ℕ} (xs : List A) → Row (K .At) s end from xs → CountPart from 0 xs
     count-begin xs r = left-all (λ rest. caseItems (K .every xs) ≡ 0 + caseItems (K .every rest)) r (omega arith)
 
-    pub count-next : {at next k : ℕ} (n : ℕ) → at < end → NextItem s at end next → ((x : A) → K .At next x → k ≡ caseItems (K .one x)) → (xs : List A) → CountPart at n xs → CountPart next (n + k) xs
+    pub count-next : {at next k : ℕ} (n : ℕ) → at < end → NextItem s at end next → ((x : A) → K .At next x → k ≡ caseItems (K .one x)) → (xs : List A)
+        → CountPart at n xs → CountPart next (n + k) xs
     count-next {at} {next} {k} n l m f xs p = left-next (λ rest. caseItems (K .every xs) ≡ n + k + caseItems (K .every rest)) l m p
         (λ x ys e q h. omega (arith, h, f x q, ap caseItems (K .more x ys), cases-then (K .one x) (K .every ys)))
 
@@ -207,7 +231,8 @@ unfolding caseItems labelsOf hasDefault
 default-there text sc (T.case p c) ls e = absurd (omega arith)
 default-there text sc (T.default p) ls e = refl
 
-default-not : (text : List ℕ) (sc : Scope) (l : Label) (ls : List Label) → (caseItems (l ∷ []) ≡ 0 → ⊥) → hasDefault (labelsOf text sc (l ∷ ls)) ≡ hasDefault (labelsOf text sc ls)
+default-not : (text : List ℕ) (sc : Scope) (l : Label) (ls : List Label) → (caseItems (l ∷ []) ≡ 0 → ⊥)
+    → hasDefault (labelsOf text sc (l ∷ ls)) ≡ hasDefault (labelsOf text sc ls)
 unfolding caseItems labelsOf hasDefault
 default-not text sc (T.case p c) ls n = go (judge text sc c)
   where
@@ -218,10 +243,12 @@ default-not text sc (T.default p) ls n = absurd (n refl)
 
 module _ (s : List ℕ) (end : ℕ) where
   abbrev pub AmongPart : (at : ℕ) → List Label → Type 0
-  AmongPart at ls = Left (LabelAt s) s end at (λ rest. (text : List ℕ) (sc : Scope) → hasDefault (labelsOf text sc ls) ≡ hasDefault (labelsOf text sc rest))
+  AmongPart at ls =
+      Left (LabelAt s) s end at (λ rest. (text : List ℕ) (sc : Scope) → hasDefault (labelsOf text sc ls) ≡ hasDefault (labelsOf text sc rest))
 
   pub among-begin : {from : ℕ} (ls : List Label) → Row (LabelAt s) s end from ls → AmongPart from ls
-  among-begin ls r = left-all (λ rest. (text : List ℕ) (sc : Scope) → hasDefault (labelsOf text sc ls) ≡ hasDefault (labelsOf text sc rest)) r (λ text sc. refl)
+  among-begin ls r =
+      left-all (λ rest. (text : List ℕ) (sc : Scope) → hasDefault (labelsOf text sc ls) ≡ hasDefault (labelsOf text sc rest)) r (λ text sc. refl)
 
   module _ {at next k : ℕ} (l : at < end) (n : NextItem s at end next) (f : CountsLabel s next k) where
     pub among-next : (k ≡ 0 → ⊥) → (ls : List Label) → AmongPart at ls → AmongPart next ls
@@ -238,25 +265,33 @@ module _ (s : List ℕ) (end : ℕ) where
 
 module _ (s : List ℕ) (end first done : ℕ) where
   abbrev pub DefaultPart : (at k : ℕ) → List (List Label) → Type 0
-  DefaultPart at k lss = Left (CommandAt s) s end at (λ rest. (text : List ℕ) (sc : Scope) → defaultAmong text sc first done lss ≡ defaultAmong text sc k done rest)
+  DefaultPart at k lss =
+      Left (CommandAt s) s end at (λ rest. (text : List ℕ) (sc : Scope) → defaultAmong text sc first done lss ≡ defaultAmong text sc k done rest)
 
   pub default-begin : {from : ℕ} (lss : List (List Label)) → Row (CommandAt s) s end from lss → DefaultPart from first lss
-  default-begin lss r = left-all (λ rest. (text : List ℕ) (sc : Scope) → defaultAmong text sc first done lss ≡ defaultAmong text sc first done rest) r (λ text sc. refl)
+  default-begin lss r =
+      left-all (λ rest. (text : List ℕ) (sc : Scope) → defaultAmong text sc first done lss ≡ defaultAmong text sc first done rest) r (λ text sc. refl)
 
-  module _ {at next : ℕ} (k : ℕ) {sp : Span} {b : Bool} (l : at < end) (n : NextItem s at end next) (i : Spans s next sp) (h : HasDefault s (sp .from) (sp .to) b) where
-    pub default-found : {from : ℕ} → b ≡ true → ((lss : List (List Label)) → Row (CommandAt s) s end from lss → DefaultPart at k lss) → FindsDefault s from end first done k
+  module _ {at next : ℕ} (k : ℕ) {sp : Span} {b : Bool} (l : at < end) (n : NextItem s at end next) (i : Spans s next sp)
+      (h : HasDefault s (sp .from) (sp .to) b) where
+    pub default-found : {from : ℕ} → b ≡ true → ((lss : List (List Label)) → Row (CommandAt s) s end from lss → DefaultPart at k lss)
+        → FindsDefault s from end first done k
     unfolding defaultAmong
     default-found e p = record {
       by = λ lss r text sc. left-next (λ rest. k ≡ defaultAmong text sc first done lss) l n (p lss r)
-          (λ ls more z q g. sym (g text sc ∙ ap (λ (x : Bool). cond x k (defaultAmong text sc (k + 1) done more)) (sym (h .by ls (i .by ls q) text sc) ∙ e))) .holds;
+          (λ ls more z q g. sym
+          (g text sc ∙ ap (λ (x : Bool). cond x k (defaultAmong text sc (k + 1) done more)) (sym (h .by ls (i .by ls q) text sc) ∙ e))) .holds;
     }
 
     pub default-next : b ≡ false → (lss : List (List Label)) → DefaultPart at k lss → DefaultPart next (k + 1) lss
     unfolding defaultAmong
-    default-next e lss p = left-next (λ rest. (text : List ℕ) (sc : Scope) → defaultAmong text sc first done lss ≡ defaultAmong text sc (k + 1) done rest) l n p
-        (λ ls more z q g text sc. g text sc ∙ ap (λ (x : Bool). cond x k (defaultAmong text sc (k + 1) done more)) (sym (h .by ls (i .by ls q) text sc) ∙ e))
+    default-next e lss p =
+        left-next (λ rest. (text : List ℕ) (sc : Scope) → defaultAmong text sc first done lss ≡ defaultAmong text sc (k + 1) done rest) l n p
+        (λ ls more z q g text sc. g text sc ∙ ap (λ (x : Bool). cond x k (defaultAmong text sc (k + 1) done more))
+        (sym (h .by ls (i .by ls q) text sc) ∙ e))
 
-  pub default-end : {from at : ℕ} (k : ℕ) → end ≤ at → ((lss : List (List Label)) → Row (CommandAt s) s end from lss → DefaultPart at k lss) → FindsDefault s from end first done done
+  pub default-end : {from at : ℕ} (k : ℕ) → end ≤ at → ((lss : List (List Label)) → Row (CommandAt s) s end from lss → DefaultPart at k lss)
+      → FindsDefault s from end first done done
   unfolding defaultAmong
   default-end k l p = record { by = λ lss r text sc. sym (left-end l (p lss r) text sc) }
 
@@ -283,7 +318,8 @@ unfolding G.pairsOf
 pairs-good k (good v) ls = refl
 pairs-good k (refused fs) ls = refl
 
-pairs-then : (text : List ℕ) (sc : Scope) (k : ℕ) (l : Label) (ls : List Label) → G.pairsOf k (labelsOf text sc (l ∷ [])) ++ G.pairsOf k (labelsOf text sc ls) ≡ G.pairsOf k (labelsOf text sc (l ∷ ls))
+pairs-then : (text : List ℕ) (sc : Scope) (k : ℕ) (l : Label) (ls : List Label)
+    → G.pairsOf k (labelsOf text sc (l ∷ [])) ++ G.pairsOf k (labelsOf text sc ls) ≡ G.pairsOf k (labelsOf text sc (l ∷ ls))
 unfolding labelsOf G.pairsOf
 pairs-then text sc k (T.case p c) ls = pairs-good k (judge text sc c) (labelsOf text sc ls)
 pairs-then text sc k (T.default p) ls = refl
@@ -307,59 +343,85 @@ module _ (text : List ℕ) {s : List ℕ} {end top : ℕ} (n : Node) (nd : NodeA
   unfolding labelsOf G.pairsOf
   pair-not {k} {t} {st} q = record { still = still-here; by = go }
     where
-      go : (sc : Scope) (x : Label) → Shows s top sc → LabelAt s end x → Sound text sc (x ∷ []) → Emits (G.pairsOf k (labelsOf text sc (x ∷ []))) [] t t st st
+      go : (sc : Scope) (x : Label) → Shows s top sc → LabelAt s end x → Sound text sc (x ∷ [])
+          → Emits (G.pairsOf k (labelsOf text sc (x ∷ []))) [] t t st st
       go sc (T.case p c) sh (aCase a e h en f) so = absurd (q (nd .kind ∙ a))
       go sc (T.default p) sh (aDefault a e) so = emits-none
 
-  pub pair-is : {k : ℕ} {t t₁ t₂ : List ℕ} {st a r : State} {j : Verdict} → n .kind ≡ 28 → Judges text s (n .inner) top j → Emits (G.D (j .word) ∷ []) [] t t₁ st a → Emits (G.DL k ∷ []) [] t₁ t₂ a r → WritesPair text s end top k t t₂ st r
+  pub pair-is : {k : ℕ} {t t₁ t₂ : List ℕ} {st a r : State} {j : Verdict} → n .kind ≡ 28 → Judges text s (n .inner) top j
+      → Emits (G.D (j .word) ∷ []) [] t t₁ st a → Emits (G.DL k ∷ []) [] t₁ t₂ a r → WritesPair text s end top k t t₂ st r
   unfolding labelsOf G.pairsOf
   pair-is {k} {t} {t₁} {t₂} {st} {a} {r} {j} q g d e = record { still = still-then (emits-still d) (emits-still e); by = go }
     where
-      go : (sc : Scope) (x : Label) → Shows s top sc → LabelAt s end x → Sound text sc (x ∷ []) → Emits (G.pairsOf k (labelsOf text sc (x ∷ []))) [] t t₂ st r
+      go : (sc : Scope) (x : Label) → Shows s top sc → LabelAt s end x → Sound text sc (x ∷ [])
+          → Emits (G.pairsOf k (labelsOf text sc (x ∷ []))) [] t t₂ st r
       go sc (T.case p c) sh (aCase {lo = lo} a en h z f) (L.goodCase v w so) =
           emits-as (emits-then d e) (sym (ap (λ (x : Judged). G.pairsOf k (goodCase x [])) (says-is (g .by sc lo c sh f h (nd .inner ∙ z)) w)))
       go sc (T.default p) sh (aDefault a en) so = absurd (omega (arith, nd .kind))
 
 module _ (text : List ℕ) {s : List ℕ} {from end top : ℕ} (k : ℕ) (t₀ : List ℕ) (st₀ : State) where
   abbrev pub PairsPart : (y : Listed (LabelAt s) s from end top) (t : List ℕ) (at : ℕ) (st : State) → Type 0
-  PairsPart y t at st = Left (LabelAt s) s end at (λ rest. Sound text (y .scope) rest × ((t′ : List ℕ) (st′ : State) → Emits (G.pairsOf k (labelsOf text (y .scope) rest)) [] t t′ st st′ → Emits (G.pairsOf k (labelsOf text (y .scope) (y .all))) [] t₀ t′ st₀ st′))
+  PairsPart y t at st =
+      Left (LabelAt s) s end at (λ rest. Sound text (y .scope) rest
+      × ((t′ : List ℕ) (st′ : State) → Emits (G.pairsOf k (labelsOf text (y .scope) rest)) [] t t′ st st′ → Emits
+      (G.pairsOf k (labelsOf text (y .scope) (y .all))) [] t₀ t′ st₀ st′))
 
   pub pairs-begin : (y : Listed (LabelAt s) s from end top) → Sound text (y .scope) (y .all) → PairsPart y t₀ from st₀
-  pairs-begin y so = left-all (λ rest. Sound text (y .scope) rest × ((t′ : List ℕ) (st′ : State) → Emits (G.pairsOf k (labelsOf text (y .scope) rest)) [] t₀ t′ st₀ st′ → Emits (G.pairsOf k (labelsOf text (y .scope) (y .all))) [] t₀ t′ st₀ st′))
+  pairs-begin y so =
+      left-all (λ rest. Sound text (y .scope) rest
+      × ((t′ : List ℕ) (st′ : State) → Emits (G.pairsOf k (labelsOf text (y .scope) rest)) [] t₀ t′ st₀ st′ → Emits
+      (G.pairsOf k (labelsOf text (y .scope) (y .all))) [] t₀ t′ st₀ st′))
       (y .row) (so, λ t′ st′ e. e)
 
-  pub pairs-next : {at next : ℕ} {t t₁ : List ℕ} {st r : State} → at < end → NextItem s at end next → WritesPair text s next top k t t₁ st r → (y : Listed (LabelAt s) s from end top) → PairsPart y t at st → PairsPart y t₁ next r
+  pub pairs-next : {at next : ℕ} {t t₁ : List ℕ} {st r : State} → at < end → NextItem s at end next → WritesPair text s next top k t t₁ st r
+      → (y : Listed (LabelAt s) s from end top) → PairsPart y t at st → PairsPart y t₁ next r
   pairs-next {at} {next} {t} {t₁} {st} {r} l n w y p = let sc = y .scope in
-      left-next (λ rest. Sound text sc rest × ((t′ : List ℕ) (st′ : State) → Emits (G.pairsOf k (labelsOf text sc rest)) [] t₁ t′ r st′ → Emits (G.pairsOf k (labelsOf text sc (y .all))) [] t₀ t′ st₀ st′)) l n p
+      left-next (λ rest. Sound text sc rest
+      × ((t′ : List ℕ) (st′ : State) → Emits (G.pairsOf k (labelsOf text sc rest)) [] t₁ t′ r st′ → Emits (G.pairsOf k (labelsOf text sc (y .all)))
+      [] t₀ t′ st₀ st′)) l n p
       (λ x xs e q h. (
         sound-right (x ∷ []) xs (h .0),
         λ t′ st′ d. h .1 t′ st′
             (emits-as (emits-then (w .by sc x (y .shows) q (sound-left (x ∷ []) xs (h .0))) d) (pairs-then text sc k x xs)),
       ))
 
-  pub pairs-end : {at : ℕ} {t : List ℕ} {st : State} → end ≤ at → Still st₀ st → ((y : Listed (LabelAt s) s from end top) → Sound text (y .scope) (y .all) → PairsPart y t at st) → WritesPairs text s from end top k t₀ t st₀ st
+  pub pairs-end : {at : ℕ} {t : List ℕ} {st : State} → end ≤ at → Still st₀ st
+      → ((y : Listed (LabelAt s) s from end top) → Sound text (y .scope) (y .all) → PairsPart y t at st)
+      → WritesPairs text s from end top k t₀ t st₀ st
   unfolding labelsOf G.pairsOf
   pairs-end {at} {t} {st} l f p = record { still = f; by = λ y so. left-end l (p y so) .1 t st emits-none }
 
 module _ (text : List ℕ) {s : List ℕ} {from end top : ℕ} (first : ℕ) (t₀ : List ℕ) (st₀ : State) where
   abbrev pub TablePart : (y : Listed (CommandAt s) s from end top) (t : List ℕ) (at k : ℕ) (st : State) → Type 0
-  TablePart y t at k st = Left (CommandAt s) s end at (λ rest. Sound text (y .scope) (flat rest) × ((t′ : List ℕ) (st′ : State) → Emits (tableAmong text (y .scope) k rest) [] t t′ st st′ → Emits (tableAmong text (y .scope) first (y .all)) [] t₀ t′ st₀ st′))
+  TablePart y t at k st =
+      Left (CommandAt s) s end at (λ rest. Sound text (y .scope) (flat rest)
+      × ((t′ : List ℕ) (st′ : State) → Emits (tableAmong text (y .scope) k rest) [] t t′ st st′ → Emits (tableAmong text (y .scope) first (y .all))
+      [] t₀ t′ st₀ st′))
 
   pub table-begin : (y : Listed (CommandAt s) s from end top) → Sound text (y .scope) (flat (y .all)) → TablePart y t₀ from first st₀
-  table-begin y so = left-all (λ rest. Sound text (y .scope) (flat rest) × ((t′ : List ℕ) (st′ : State) → Emits (tableAmong text (y .scope) first rest) [] t₀ t′ st₀ st′ → Emits (tableAmong text (y .scope) first (y .all)) [] t₀ t′ st₀ st′))
+  table-begin y so =
+      left-all (λ rest. Sound text (y .scope) (flat rest)
+      × ((t′ : List ℕ) (st′ : State) → Emits (tableAmong text (y .scope) first rest) [] t₀ t′ st₀ st′ → Emits
+      (tableAmong text (y .scope) first (y .all)) [] t₀ t′ st₀ st′))
       (y .row) (so, λ t′ st′ e. e)
 
-  pub table-next : {at next k : ℕ} {sp : Span} {t t₁ : List ℕ} {st r : State} → at < end → NextItem s at end next → Spans s next sp → WritesPairs text s (sp .from) (sp .to) top k t t₁ st r → (y : Listed (CommandAt s) s from end top) → TablePart y t at k st → TablePart y t₁ next (k + 1) r
+  pub table-next : {at next k : ℕ} {sp : Span} {t t₁ : List ℕ} {st r : State} → at < end → NextItem s at end next → Spans s next sp
+      → WritesPairs text s (sp .from) (sp .to) top k t t₁ st r → (y : Listed (CommandAt s) s from end top) → TablePart y t at k st
+      → TablePart y t₁ next (k + 1) r
   unfolding flat tableAmong
   table-next {at} {next} {k} {sp} {t} {t₁} {st} {r} l n i w y p = let sc = y .scope in
-      left-next (λ rest. Sound text sc (flat rest) × ((t′ : List ℕ) (st′ : State) → Emits (tableAmong text sc (k + 1) rest) [] t₁ t′ r st′ → Emits (tableAmong text sc first (y .all)) [] t₀ t′ st₀ st′)) l n p
+      left-next (λ rest. Sound text sc (flat rest)
+      × ((t′ : List ℕ) (st′ : State) → Emits (tableAmong text sc (k + 1) rest) [] t₁ t′ r st′ → Emits (tableAmong text sc first (y .all)) [] t₀ t′
+      st₀ st′)) l n p
       (λ ls lss e q h. (
         sound-right ls (flat lss) (h .0),
         λ t′ st′ d. h .1 t′ st′
             (emits-then (w .by (own-labels i y ls q) (sound-left ls (flat lss) (h .0))) d),
       ))
 
-  pub table-end : {at : ℕ} (k : ℕ) {t : List ℕ} {st : State} → end ≤ at → Still st₀ st → ((y : Listed (CommandAt s) s from end top) → Sound text (y .scope) (flat (y .all)) → TablePart y t at k st) → WritesAll text s from end top first t₀ t st₀ st
+  pub table-end : {at : ℕ} (k : ℕ) {t : List ℕ} {st : State} → end ≤ at → Still st₀ st
+      → ((y : Listed (CommandAt s) s from end top) → Sound text (y .scope) (flat (y .all)) → TablePart y t at k st)
+      → WritesAll text s from end top first t₀ t st₀ st
   unfolding tableAmong
   table-end {at} k {t} {st} l f p = record { still = f; by = λ y so. left-end l (p y so) .1 t st emits-none }
 
@@ -407,42 +469,51 @@ sound-then [] ms noLabel t = t
 sound-then (T.case p c ∷ ls) ms (L.goodCase v e s) t = L.goodCase v e (sound-then ls ms s t)
 sound-then (T.default p ∷ ls) ms (anyDefault s) t = anyDefault (sound-then ls ms s t)
 
-pub sound-all : (text : List ℕ) (sc : Scope) (before : List Label) (cs : Commands) → labelFaults text sc before cs ≡ [] → Sound text sc (flat (marks cs))
+pub sound-all : (text : List ℕ) (sc : Scope) (before : List Label) (cs : Commands) → labelFaults text sc before cs ≡ []
+    → Sound text sc (flat (marks cs))
 unfolding labelFaults marks flat
 sound-all text sc before T.noCommands e = noLabel
 sound-all text sc before (T.andCommand c cs) e =
     let a = doubled text sc before (labelsBefore c) in let b = labelFaults text sc (before ++ labelsBefore c) cs in
-    sound-then (labelsBefore c) (flat (marks cs)) (sound-doubled text sc before (labelsBefore c) (nil-left a b e)) (sound-all text sc (before ++ labelsBefore c) cs (nil-right a b e))
+    sound-then (labelsBefore c) (flat (marks cs)) (sound-doubled text sc before (labelsBefore c) (nil-left a b e))
+    (sound-all text sc (before ++ labelsBefore c) cs (nil-right a b e))
 
 cases-are : (text : List ℕ) (sc : Scope) (ls : List Label) → Sound text sc ls → casesOf (labelsOf text sc ls) ≡ caseItems ls
 unfolding casesOf labelsOf caseItems
 cases-are text sc [] noLabel = refl
-cases-are text sc (T.case p c ∷ ls) (L.goodCase v e s) = ap (λ (x : Judged). casesOf (goodCase x (labelsOf text sc ls))) e ∙ ap suc (cases-are text sc ls s)
+cases-are text sc (T.case p c ∷ ls) (L.goodCase v e s) =
+    ap (λ (x : Judged). casesOf (goodCase x (labelsOf text sc ls))) e ∙ ap suc (cases-are text sc ls s)
 cases-are text sc (T.default p ∷ ls) (anyDefault s) = cases-are text sc ls s
 
-pub count-is : (text : List ℕ) (sc : Scope) (h : ℕ) (cs : Commands) → Sound text sc (flat (marks cs)) → caseCount (caseList text sc h cs) ≡ caseItems (flat (marks cs))
+pub count-is : (text : List ℕ) (sc : Scope) (h : ℕ) (cs : Commands) → Sound text sc (flat (marks cs))
+    → caseCount (caseList text sc h cs) ≡ caseItems (flat (marks cs))
 unfolding caseCount caseList caseItems marks flat
 count-is text sc h T.noCommands s = refl
 count-is text sc h (T.andCommand c cs) s =
     let ls = labelsBefore c in let ms = flat (marks cs) in
     omega (arith, cases-are text sc ls (sound-left ls ms s), count-is text sc h cs (sound-right ls ms s), cases-then ls ms)
 
-pub default-is : (text : List ℕ) (sc : Scope) (h l done : ℕ) (cs : Commands) → G.defaultOf l done (caseList text sc h cs) ≡ defaultAmong text sc l done (marks cs)
+pub default-is : (text : List ℕ) (sc : Scope) (h l done : ℕ) (cs : Commands)
+    → G.defaultOf l done (caseList text sc h cs) ≡ defaultAmong text sc l done (marks cs)
 unfolding G.defaultOf caseList marks defaultAmong
 default-is text sc h l done T.noCommands = refl
 default-is text sc h l done (T.andCommand c cs) =
     let a : suc l ≡ l + 1 = omega arith in
-    ap (cond (hasDefault (labelsOf text sc (labelsBefore c))) l) (ap (λ (k : ℕ). G.defaultOf k done (caseList text sc h cs)) a ∙ default-is text sc h (l + 1) done cs)
+    ap (cond (hasDefault (labelsOf text sc (labelsBefore c))) l)
+    (ap (λ (k : ℕ). G.defaultOf k done (caseList text sc h cs)) a ∙ default-is text sc h (l + 1) done cs)
 
 pub table-is : (text : List ℕ) (sc : Scope) (h l : ℕ) (cs : Commands) → G.tableOf l (caseList text sc h cs) ≡ tableAmong text sc l (marks cs)
 unfolding G.tableOf caseList marks tableAmong
 table-is text sc h l T.noCommands = refl
 table-is text sc h l (T.andCommand c cs) =
     let a : suc l ≡ l + 1 = omega arith in
-    ap (λ (z : List I.Item). G.pairsOf l (labelsOf text sc (labelsBefore c)) ++ z) (ap (λ (k : ℕ). G.tableOf k (caseList text sc h cs)) a ∙ table-is text sc h (l + 1) cs)
+    ap (λ (z : List I.Item). G.pairsOf l (labelsOf text sc (labelsBefore c)) ++ z)
+    (ap (λ (k : ℕ). G.tableOf k (caseList text sc h cs)) a ∙ table-is text sc h (l + 1) cs)
 
-pub table-gave : (text : List ℕ) {s : List ℕ} {from end top first done m d : ℕ} {t t₁ t₂ t₃ t₄ : List ℕ} {st a b c r : State} → Emits (G.X 23 ∷ []) [] t t₁ st a → CountsAll s from end m → Emits (G.D m ∷ []) [] t₁ t₂ a b
-    → FindsDefault s from end first done d → Emits (G.DL d ∷ []) [] t₂ t₃ b c → WritesAll text s from end top first t₃ t₄ c r → WritesTable text s from end top first done t t₄ st r
+pub table-gave : (text : List ℕ) {s : List ℕ} {from end top first done m d : ℕ} {t t₁ t₂ t₃ t₄ : List ℕ} {st a b c r : State}
+    → Emits (G.X 23 ∷ []) [] t t₁ st a → CountsAll s from end m → Emits (G.D m ∷ []) [] t₁ t₂ a b
+    → FindsDefault s from end first done d → Emits (G.DL d ∷ []) [] t₂ t₃ b c → WritesAll text s from end top first t₃ t₄ c r
+    → WritesTable text s from end top first done t t₄ st r
 table-gave text {s} {from} {end} {top} {first} {done} {m} {d} {t} {t₄ = t₄} {st} {r = r} x n e f g w = record {
   worst = k .worst;
   label = k .label;
@@ -451,7 +522,8 @@ table-gave text {s} {from} {end} {top} {first} {done} {m} {d} {t} {t₄ = t₄} 
       let ed : d ≡ G.defaultOf first done (caseList text sc h cs) = f .by (marks cs) (u .row) text sc ∙ sym (default-is text sc h first done cs) in
       emits-as (emits-then x (emits-then e (emits-then g (w .by u so))))
       (ap (λ (i : ℕ). G.X 23 ∷ G.D i ∷ G.DL d ∷ tableAmong text sc first (marks cs)) en ∙ ap (λ (i : ℕ). G.X 23 ∷ G.D (caseCount (caseList text sc h cs)) ∷ G.DL i ∷ tableAmong text sc first (marks cs)) ed
-      ∙ ap (λ (z : List I.Item). G.X 23 ∷ G.D (caseCount (caseList text sc h cs)) ∷ G.DL (G.defaultOf first done (caseList text sc h cs)) ∷ z) (sym (table-is text sc h first cs)));
+      ∙ ap (λ (z : List I.Item). G.X 23 ∷ G.D (caseCount (caseList text sc h cs)) ∷ G.DL (G.defaultOf first done (caseList text sc h cs)) ∷ z)
+      (sym (table-is text sc h first cs)));
 }
   where
     k : Still st r

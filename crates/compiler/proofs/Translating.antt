@@ -10,7 +10,6 @@ use borrow.Author.Tests.{le-ltb, ltb-false}
 use Rattle.text.specs.declared.Refusal.{Refusal}
 use Rattle.text.specs.Line.{refusal}
 use Rattle.language.specs.Symbols.{Symbol}
-use Rattle.language.specs.Source as S
 use Rattle.language.specs.Source.{Symbols, good, faulty, symbolsOf, parsed, readSymbols, readSource, tooLong, scratchTooShort}
 use Rattle.language.specs.Reader.{Source, Out, ok, no, placeAt}
 use Rattle.language.specs.Grammar.{treeOf}
@@ -79,12 +78,14 @@ module _ {source : List ℕ} {scratch : ℕ} (l : Lent source scratch) (room : �
   unfolding parsed
   symbols-refused number place e = by-parsed ∙ rw e refl
 
-  pub tree-refused : (ss : List Symbol) (number at : ℕ) → symbolsOf source ≡ good ss → treeOf (record { symbols = ss; size = length source }) ≡ no number at
+  pub tree-refused : (ss : List Symbol) (number at : ℕ) → symbolsOf source ≡ good ss
+      → treeOf (record { symbols = ss; size = length source }) ≡ no number at
       → decided source scratch room ≡ refused number (placeAt (record { symbols = ss; size = length source }) at)
   unfolding parsed readSymbols
   tree-refused ss number at e k = by-parsed ∙ rw (e, k) refl
 
-  pub rules-decide : (ss : List Symbol) (p : Program) (next : ℕ) → symbolsOf source ≡ good ss → treeOf (record { symbols = ss; size = length source }) ≡ ok p next
+  pub rules-decide : (ss : List Symbol) (p : Program) (next : ℕ) → symbolsOf source ≡ good ss
+      → treeOf (record { symbols = ss; size = length source }) ≡ ok p next
       → decided source scratch room ≡ unlessFits (length (textOf source)) room (rulesRefuse source p)
   unfolding parsed readSymbols
   rules-decide ss p next e k = by-parsed ∙ rw (e, k) refl
@@ -114,7 +115,8 @@ module _ {source s s′ : List ℕ} {a : SymbolsRead} (l : Lent source (length s
   pub ready-symbols : {count : ℕ} → length s′ ≡ length s → a ≡ YA.Read count → ReadySymbols source s′ count
   ready-symbols {count} same e = go (symbolsOf source) refl (sym e ∙ answer-is) (symbols-left (l .short) room r (symbolsOf source) refl)
     where
-      go : (x : Symbols) → symbolsOf source ≡ x → YA.Read count ≡ outcome (length s) x .answer → s′ ≡ outcome (length s) x .scratch → ReadySymbols source s′ count
+      go : (x : Symbols) → symbolsOf source ≡ x → YA.Read count ≡ outcome (length s) x .answer → s′ ≡ outcome (length s) x .scratch
+          → ReadySymbols source s′ count
       go (good ss) q w z =
           let k : count ≡ length ss = cc in
           let stand = z ∙ ap (λ (n : ℕ). outcome n (good ss) .scratch) (sym same) in

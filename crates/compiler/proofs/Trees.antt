@@ -1,5 +1,5 @@
 -- What stands in scratch: a node by its kind, and its parts.
-use Prim.Native.Nat.{ℕ, zero, suc, _+_, _*_, _-_, _≤_, _<_, _^_}
+use Prim.Native.Nat.{ℕ, _+_, _-_, _≤_, _<_}
 use mathlib.Core.Path.{_≡_, refl, sym, ap, subst, _∙_}
 use mathlib.Core.Bool.{Bool, true, false}
 use mathlib.Core.List.{List, [], _∷_, _++_}
@@ -7,21 +7,22 @@ use native.Mathlib.Omega.{arith}
 use lib.ListN.{length, getD, length-append, List·getD-append}
 use lib.Seq.{getD-append-add}
 use Rattle.language.specs.Tree as T
-use Rattle.language.specs.Tree.{Name, Expression, Expressions, Suffixes, Operations, Command, placeOf, endsInCall}
-use Rattle.tree.specs.Encoding.{closed, encode, encodeName, encodeExpressions, encodeSuffixes, encodeOperations, encodeCommand, suffixedKind}
+use Rattle.language.specs.Tree.{Name, Expression, Suffixes, Operations, Command, placeOf, endsInCall}
+use Rattle.tree.specs.Encoding.{closed, encode, encodeName, encodeSuffixes, encodeOperations, encodeCommand, suffixedKind}
 use Rattle.compiler.specs.Scope.{Keeps}
 use Rattle.compiler.specs.declared.steps.State.{State}
 use Rattle.compiler.specs.declared.steps.Here.{Here}
 use Rattle.compiler.specs.declared.steps.Node.{Node}
 use Rattle.compiler.specs.Walked.{NodeAt}
-use Rattle.compiler.specs.Walks.{Lies, Ready, ReadyE}
+use Rattle.compiler.specs.Walks.{Lies, ReadyE}
 
 pub first : {s : List ℕ} {lo : ℕ} (x y : List ℕ) → Lies s lo (x ++ y) → Lies s lo x
 first x y h = record { at = λ i l. h .at i (omega (arith, length-append x y)) ∙ List·getD-append x y 0 i l }
 
 pub second : {s : List ℕ} {lo : ℕ} (x y : List ℕ) (m : ℕ) → Lies s lo (x ++ y) → m ≡ lo + length x → Lies s m y
 second {s} {lo} x y m h e = record {
-  at = λ i l. let q : m + i ≡ lo + (length x + i) = omega arith in ap (λ (k : ℕ). getD s k 0) q ∙ h .at (length x + i) (omega (arith, length-append x y)) ∙ getD-append-add x y i 0;
+  at = λ i l. let q : m + i ≡ lo + (length x + i) = omega arith in
+      ap (λ (k : ℕ). getD s k 0) q ∙ h .at (length x + i) (omega (arith, length-append x y)) ∙ getD-append-add x y i 0;
 }
 
 pub keeps-lies : {base top lo : ℕ} {s s′ x : List ℕ} → Keeps base top s s′ → base ≤ lo → Lies s lo x → Lies s′ lo x
@@ -60,16 +61,24 @@ pub data Case (s : List ℕ) (lo end : ℕ) : ℕ → Expression → Type 0 wher
   aName : {n : Name} → getD s (end - 3) 0 ≡ n .width → getD s (end - 2) 0 ≡ n .place → end ≡ lo + 4 → Case s lo end 59 (T.name n)
   aBracket : {p : ℕ} {e : Expression} → Lies s lo (encode e) → end ≡ lo + length (encode e) + 4 → Case s lo end 51 (T.bracketed p e)
   aValof : {p : ℕ} {c : Command} → Lies s lo (encodeCommand c) → end ≡ lo + length (encodeCommand c) + 4 → Case s lo end 7 (T.valof p c)
-  aMonadic : {p o : ℕ} {e : Expression} → getD s (end - 3) 0 ≡ o → Lies s lo (encode e) → end ≡ lo + length (encode e) + 4 → Case s lo end 128 (T.monadic p o e)
-  aSuffixed : {e : Expression} {ss : Suffixes} → Lies s lo (encode e ++ encodeSuffixes ss) → getD s (end - 4) 0 ≡ length (encode e ++ encodeSuffixes ss) → getD s (end - 3) 0 ≡ length (encode e) → end ≡ lo + length (encode e ++ encodeSuffixes ss) + 4 → Case s lo end 129 (T.suffixed e ss)
-  aCalled : {e : Expression} {ss : Suffixes} → Lies s lo (encode e ++ encodeSuffixes ss) → getD s (end - 4) 0 ≡ length (encode e ++ encodeSuffixes ss) → getD s (end - 3) 0 ≡ length (encode e) → end ≡ lo + length (encode e ++ encodeSuffixes ss) + 4 → Case s lo end 130 (T.suffixed e ss)
-  aDyadic : {e : Expression} {os : Operations} → Lies s lo (encode e ++ encodeOperations os) → getD s (end - 4) 0 ≡ length (encode e ++ encodeOperations os) → getD s (end - 3) 0 ≡ length (encode e) → end ≡ lo + length (encode e ++ encodeOperations os) + 4 → Case s lo end 131 (T.dyadic e os)
+  aMonadic : {p o : ℕ} {e : Expression} → getD s (end - 3) 0 ≡ o → Lies s lo (encode e) → end ≡ lo + length (encode e) + 4
+      → Case s lo end 128 (T.monadic p o e)
+  aSuffixed : {e : Expression} {ss : Suffixes} → Lies s lo (encode e ++ encodeSuffixes ss)
+      → getD s (end - 4) 0 ≡ length (encode e ++ encodeSuffixes ss) → getD s (end - 3) 0 ≡ length (encode e)
+      → end ≡ lo + length (encode e ++ encodeSuffixes ss) + 4 → Case s lo end 129 (T.suffixed e ss)
+  aCalled : {e : Expression} {ss : Suffixes} → Lies s lo (encode e ++ encodeSuffixes ss) → getD s (end - 4) 0 ≡ length (encode e ++ encodeSuffixes ss)
+      → getD s (end - 3) 0 ≡ length (encode e) → end ≡ lo + length (encode e ++ encodeSuffixes ss) + 4 → Case s lo end 130 (T.suffixed e ss)
+  aDyadic : {e : Expression} {os : Operations} → Lies s lo (encode e ++ encodeOperations os)
+      → getD s (end - 4) 0 ≡ length (encode e ++ encodeOperations os) → getD s (end - 3) 0 ≡ length (encode e)
+      → end ≡ lo + length (encode e ++ encodeOperations os) + 4 → Case s lo end 131 (T.dyadic e os)
 
 module _ {s : List ℕ} {lo end : ℕ} where
   so : {k : ℕ} {e : Expression} → getD s (end - 1) 0 ≡ k → Case s lo end k e → Case s lo end (getD s (end - 1) 0) e
   so {e = e} q c = subst (λ (n : ℕ). Case s lo end n e) (sym q) c
 
-  suffixedCase : {e : Expression} {ss : Suffixes} (b : Bool) → Lies s lo (encode e ++ encodeSuffixes ss) → getD s (end - 4) 0 ≡ length (encode e ++ encodeSuffixes ss) → getD s (end - 3) 0 ≡ length (encode e) → end ≡ lo + length (encode e ++ encodeSuffixes ss) + 4 → Case s lo end (suffixedKind b) (T.suffixed e ss)
+  suffixedCase : {e : Expression} {ss : Suffixes} (b : Bool) → Lies s lo (encode e ++ encodeSuffixes ss)
+      → getD s (end - 4) 0 ≡ length (encode e ++ encodeSuffixes ss) → getD s (end - 3) 0 ≡ length (encode e)
+      → end ≡ lo + length (encode e ++ encodeSuffixes ss) + 4 → Case s lo end (suffixedKind b) (T.suffixed e ss)
   unfolding suffixedKind
   suffixedCase true a b c d = aCalled a b c d
   suffixedCase false a b c d = aSuffixed a b c d
@@ -78,10 +87,13 @@ module _ {s : List ℕ} {lo end : ℕ} where
   unfolding encode encodeName
   view (T.number p v) h q = so (kind-is [] v p 60 h q) (aNumber (value-is [] v p 60 h q))
   view (T.string p v) h q = so (kind-is [] v p 61 h q) (aString (value-is [] v p 61 h q))
-  view (T.name n) h q = so (kind-is [] (n .width) (n .place) 59 h q) (aName (value-is [] (n .width) (n .place) 59 h q) (place-is [] (n .width) (n .place) 59 h q) (omega (arith, ends [] (n .width) (n .place) 59 h q)))
+  view (T.name n) h q =
+      so (kind-is [] (n .width) (n .place) 59 h q) (aName (value-is [] (n .width) (n .place) 59 h q) (place-is [] (n .width) (n .place) 59 h q)
+      (omega (arith, ends [] (n .width) (n .place) 59 h q)))
   view (T.bracketed p e) h q = so (kind-is (encode e) 0 p 51 h q) (aBracket (kid (encode e) 0 p 51 h q) (ends (encode e) 0 p 51 h q))
   view (T.valof p c) h q = so (kind-is (encodeCommand c) 0 p 7 h q) (aValof (kid (encodeCommand c) 0 p 7 h q) (ends (encodeCommand c) 0 p 7 h q))
-  view (T.monadic p o e) h q = so (kind-is (encode e) o p 128 h q) (aMonadic (value-is (encode e) o p 128 h q) (kid (encode e) o p 128 h q) (ends (encode e) o p 128 h q))
+  view (T.monadic p o e) h q =
+      so (kind-is (encode e) o p 128 h q) (aMonadic (value-is (encode e) o p 128 h q) (kid (encode e) o p 128 h q) (ends (encode e) o p 128 h q))
   view (T.suffixed e ss) h q =
       let w = encode e ++ encodeSuffixes ss in let k = suffixedKind (endsInCall false ss) in let p = placeOf e in let v = length (encode e) in
       so (kind-is w v p k h q) (suffixedCase (endsInCall false ss) (kid w v p k h q) (size-is w v p k h q) (value-is w v p k h q) (ends w v p k h q))
@@ -89,7 +101,8 @@ module _ {s : List ℕ} {lo end : ℕ} where
       let w = encode e ++ encodeOperations os in let p = placeOf e in let v = length (encode e) in
       so (kind-is w v p 131 h q) (aDyadic (kid w v p 131 h q) (size-is w v p 131 h q) (value-is w v p 131 h q) (ends w v p 131 h q))
 
-pub find : {s : List ℕ} {end k : ℕ} {here : Here} {st : State} (n : Node) → NodeAt s end n → n .kind ≡ k → (y : ReadyE s end here st) → Case s (y .lo) end k (y .tree)
+pub find : {s : List ℕ} {end k : ℕ} {here : Here} {st : State} (n : Node) → NodeAt s end n → n .kind ≡ k → (y : ReadyE s end here st)
+    → Case s (y .lo) end k (y .tree)
 find {s} {end} n nd q y = subst (λ (k : ℕ). Case s (y .lo) end k (y .tree)) (sym (nd .kind) ∙ q) (view (y .tree) (y .lies) (y .ends))
 
 -- ---- what each kind is

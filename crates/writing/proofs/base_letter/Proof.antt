@@ -4,12 +4,10 @@ use borrow.Author.Needs.{needs}
 use Rattle.writing.proofs.base_letter.Statement.{statement}
 use Rattle.writing.proofs.base_letter.Tie as tie
 
--- src/lib.rt:68:1
 returns-2 : tie.Need-returns-2
 unfolding baseText
 returns-2 c = rw (c .before .before .before .before .enum-told2 .given .1) (c .before .before .emit .ensures)
 
--- src/lib.rt:68:1
 returns-3 : tie.Need-returns-3
 unfolding baseText
 returns-3 c = rw (c .before .before .before .before .enum-told3 .given .1) (c .before .before .emit2 .ensures)

@@ -4,7 +4,6 @@ use borrow.Author.Needs.{needs}
 use Rattle.writing.proofs.indirect.Statement.{statement}
 use Rattle.writing.proofs.indirect.Tie as tie
 
--- src/lib.rt:63:9
 returns : tie.Need-returns
 unfolding indirectText
 returns c = rw (c .before .before .before .before .if1 .taken) (c .before .before .emit .ensures)

@@ -5,7 +5,6 @@ use borrow.Author.Needs.{needs}
 use Rattle.writing.proofs.label_word.Statement.{statement}
 use Rattle.writing.proofs.label_word.Tie as tie
 
--- src/lib.rt:130:1
 returns : tie.Need-returns
 unfolding line render operandText
 returns c = puts-then (c .before .before .before .before .before .before .emit .ensures) (c .before .before .last-label .ensures)

@@ -3,7 +3,6 @@ use borrow.Author.Needs.{needs}
 use Rattle.writing.proofs.last_label.Statement.{statement}
 use Rattle.writing.proofs.last_label.Tie as tie
 
--- src/lib.rt:87:1
 returns : tie.Need-returns
 returns c = puts-then (c .before .before .before .before .before .before .emit .ensures) (c .before .before .last .ensures)
 

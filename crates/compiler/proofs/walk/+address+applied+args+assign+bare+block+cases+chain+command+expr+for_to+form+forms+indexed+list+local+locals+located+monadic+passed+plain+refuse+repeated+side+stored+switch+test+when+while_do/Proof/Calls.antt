@@ -4,9 +4,7 @@ use Rattle.compiler.proofs.walk.+address+applied+args+assign+bare+block
 use Prim.Native.Nat.{_-_, ℕ}
 use Rattle.compiler.specs.Walked.{raised}
 use mathlib.Core.Path.{ap, _∙_, _≡_, refl}
-use Rattle.compiler.proofs.Calls.{indexed-gave, passed-gave, with-state, args-with, ArgsPart, args-begin, args-part, args-next, args-end}
-use Rattle.compiler.proofs.Calls.{primary-part, primary-gave, index-left, index-right, index-gave, call-args, call-callee, call-gave, call-few}
-use Rattle.compiler.proofs.Calls.{args-ready-at, suffixes-ready-at, args-gave-at, suffixes-gave-at}
+use Rattle.compiler.proofs.Calls.{indexed-gave, passed-gave, with-state, args-with, ArgsPart, args-begin, args-part, args-next, args-end, primary-part, primary-gave, index-left, index-right, index-gave, call-args, call-callee, call-gave, call-few, args-ready-at, suffixes-ready-at, args-gave-at, suffixes-gave-at}
 use lib.ListN.{getD, length}
 use Rattle.compiler.specs.Walks.{ReadyArgs}
 use native.Mathlib.Omega.{arith}

@@ -1,8 +1,7 @@
 -- IF, TEST and SWITCHON.
 use Rattle.compiler.proofs as proofs
 use Rattle.compiler.proofs.walk.+address+applied+args+assign+bare+block+cases+chain+command+expr+for_to+form+forms+indexed+list+local+locals+located+monadic+passed+plain+refuse+repeated+side+stored+switch+test+when+while_do as cycle
-use Rattle.compiler.proofs.Switches.{CasesPart, cases-begin, case-part, cases-next, cases-end, switch-value, switch-few, switch-cases}
-use Rattle.compiler.proofs.Switches.{switch-gave, gave-cases-at}
+use Rattle.compiler.proofs.Switches.{CasesPart, cases-begin, case-part, cases-next, cases-end, switch-value, switch-few, switch-cases, switch-gave, gave-cases-at}
 use Rattle.compiler.specs.Commands.{ReadyCases}
 use Rattle.compiler.proofs.Conditions.{test-first, test-body, test-rest, test-gave}
 use Prim.Native.Nat.{_≤_, _-_, ℕ}

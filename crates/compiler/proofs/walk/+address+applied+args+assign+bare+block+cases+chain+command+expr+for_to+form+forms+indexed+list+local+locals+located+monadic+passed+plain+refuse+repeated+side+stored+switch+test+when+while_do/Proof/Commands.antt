@@ -1,8 +1,7 @@
 -- A command: its labels, and then by its kind.
 use Rattle.compiler.proofs as proofs
 use Rattle.compiler.proofs.walk.+address+applied+args+assign+bare+block+cases+chain+command+expr+for_to+form+forms+indexed+list+local+locals+located+monadic+passed+plain+refuse+repeated+side+stored+switch+test+when+while_do as cycle
-use Rattle.compiler.proofs.Labelled.{labelled-labels, labelled-bare, labelled-gave, unlabelled-gave, bare-empty, labelled-rest, bare-labelled}
-use Rattle.compiler.proofs.Labelled.{bare-part, bare-gave, command-some, gave-r-at}
+use Rattle.compiler.proofs.Labelled.{labelled-labels, labelled-bare, labelled-gave, unlabelled-gave, bare-empty, labelled-rest, bare-labelled, bare-part, bare-gave, command-some, gave-r-at}
 use Rattle.compiler.proofs.Conditions.{while-while, while-until}
 use Rattle.compiler.proofs.Aways.{performed-part, performed-gave, away-gave}
 use Prim.Native.Nat.{ℕ}
@@ -33,8 +32,7 @@ use proofs.steps.away.Reads as away-reads
 use proofs.steps.inside.Reads as inside-reads
 use proofs.steps.leave.Reads as leave-reads
 use proofs.steps.node_at.Reads as node-at-reads
-use cycle.Proof.Ranks.{at, below, assign-rank, bare-rank, block-rank, command-rank, expr-rank, for-to-rank, plain-rank, repeated-rank, switch-rank}
-use cycle.Proof.Ranks.{test-rank, when-rank, while-do-rank}
+use cycle.Proof.Ranks.{at, below, assign-rank, bare-rank, block-rank, command-rank, expr-rank, for-to-rank, plain-rank, repeated-rank, switch-rank, test-rank, when-rank, while-do-rank}
 
 abbrev command-cs : ℕ → command-lts.Claims
 command-cs t =

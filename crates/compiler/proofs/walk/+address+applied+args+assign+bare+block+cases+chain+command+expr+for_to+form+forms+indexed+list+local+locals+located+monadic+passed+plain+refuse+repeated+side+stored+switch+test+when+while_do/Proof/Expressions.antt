@@ -2,8 +2,7 @@
 use Rattle.compiler.proofs as proofs
 use Rattle.compiler.proofs.walk.+address+applied+args+assign+bare+block+cases+chain+command+expr+for_to+form+forms+indexed+list+local+locals+located+monadic+passed+plain+refuse+repeated+side+stored+switch+test+when+while_do as cycle
 use Prim.Native.Nat.{_-_, ℕ}
-use Rattle.compiler.proofs.Sides.{monadic-part, monadic-gave, monadic-address, monadic-pling, monadic-minus, monadic-not, monadic-other}
-use Rattle.compiler.proofs.Sides.{gave-monadic-at}
+use Rattle.compiler.proofs.Sides.{monadic-part, monadic-gave, monadic-address, monadic-pling, monadic-minus, monadic-not, monadic-other, gave-monadic-at}
 use Rattle.compiler.specs.Walked.{raised}
 use mathlib.Core.Path.{_∙_, _≡_, refl}
 use Rattle.compiler.proofs.Calls.{suffixes-ready-at, suffixes-gave-at, suffixed-part, suffixed-gave}
@@ -12,9 +11,7 @@ use lib.ListN.{length}
 use Rattle.compiler.specs.Walks.{ReadyChain}
 use native.Mathlib.Omega.{arith}
 use borrow.Author.Needs.{needs}
-use Rattle.compiler.proofs.Expressions.{ChainPart, chain-begin, chain-part, chain-next, chain-end, number-gave, string-gave, name-gave}
-use Rattle.compiler.proofs.Expressions.{bracket-part, bracket-gave, dyadic-left, dyadic-rest, dyadic-gave, ready-at, gave-at, chain-ready-at}
-use Rattle.compiler.proofs.Expressions.{chain-gave-at, left-at, some-left}
+use Rattle.compiler.proofs.Expressions.{ChainPart, chain-begin, chain-part, chain-next, chain-end, number-gave, string-gave, name-gave, bracket-part, bracket-gave, dyadic-left, dyadic-rest, dyadic-gave, ready-at, gave-at, chain-ready-at, chain-gave-at, left-at, some-left}
 use proofs.walk.address.Reads as address
 use proofs.walk.applied.Reads as applied
 use proofs.walk.chain.Reads as chain

@@ -4,8 +4,7 @@ use Rattle.compiler.proofs.walk.+address+applied+args+assign+bare+block
 use Rattle.compiler.specs.Commands.{ReadyForms}
 use Rattle.compiler.proofs.Fors.{for-room, for-first, for-limit, for-keeps, for-name-fine, for-body, for-gave}
 use Rattle.compiler.proofs.Conditions.{while-test, while-body, while-gave}
-use Rattle.compiler.proofs.RepeatForms.{FormsPart, forms-begin, forms-part, forms-next, forms-end, form-alone, form-tested, repeated-few}
-use Rattle.compiler.proofs.RepeatForms.{repeated-body, repeated-forms, repeated-gave, once-part, once-gave}
+use Rattle.compiler.proofs.RepeatForms.{FormsPart, forms-begin, forms-part, forms-next, forms-end, form-alone, form-tested, repeated-few, repeated-body, repeated-forms, repeated-gave, once-part, once-gave}
 use Prim.Native.Nat.{_≤_, _-_, ℕ}
 use Rattle.compiler.specs.Walked.{raised}
 use mathlib.Core.Path.{_∙_, _≡_, refl}

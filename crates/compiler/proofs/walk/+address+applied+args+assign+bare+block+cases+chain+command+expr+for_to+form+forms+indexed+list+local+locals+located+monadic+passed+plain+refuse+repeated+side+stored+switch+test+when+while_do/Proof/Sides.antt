@@ -3,9 +3,7 @@ use Rattle.compiler.proofs as proofs
 use Rattle.compiler.proofs.walk.+address+applied+args+assign+bare+block+cases+chain+command+expr+for_to+form+forms+indexed+list+local+locals+located+monadic+passed+plain+refuse+repeated+side+stored+switch+test+when+while_do as cycle
 use Prim.Native.Nat.{_-_, ℕ}
 use Rattle.compiler.proofs.Assigning.{AssignPart, assign-begin, assign-is, assign-right, assign-left, assign-next, assign-end}
-use Rattle.compiler.proofs.Sides.{side-open, side-refused, side-name, side-part, side-pling, side-left, side-right, side-index-gave}
-use Rattle.compiler.proofs.Sides.{gave-side-at, gave-refused-at, monadic-part, refuse-gave, address-open, address-pling, address-refused}
-use Rattle.compiler.proofs.Sides.{address-name, indexed-some, indexed-tag, address-left, address-right, address-index-gave, gave-address-at}
+use Rattle.compiler.proofs.Sides.{side-open, side-refused, side-name, side-part, side-pling, side-left, side-right, side-index-gave, gave-side-at, gave-refused-at, monadic-part, refuse-gave, address-open, address-pling, address-refused, address-name, indexed-some, indexed-tag, address-left, address-right, address-index-gave, gave-address-at}
 use Rattle.compiler.specs.Assigns.{ReadyAssign}
 use Rattle.compiler.specs.declared.steps.Here.{Here}
 use Rattle.compiler.specs.Walked.{raised}
