@@ -241,8 +241,7 @@ module _ {source s : List ℕ} {count end : ℕ} (y : ReadyTree source s count e
     at = λ i h.
         ap (λ (z : List ℕ). getD z (count * 3 + i) 0) (y .stand)
         ∙ (List·getD-append (entries (y .symbols) ++ encodeProgram p) (replicate (length s - length (entries (y .symbols) ++ encodeProgram p)) 0) 0
-        (count * 3 + i)
-        (omega (arith, length-append (entries (y .symbols)) (encodeProgram p), size))
+        (count * 3 + i) (omega (arith, length-append (entries (y .symbols)) (encodeProgram p), size))
         ∙ (ap (λ (n : ℕ). getD (entries (y .symbols) ++ encodeProgram p) (n + i) 0) (sym size) ∙ getD-append-add (entries (y .symbols))
         (encodeProgram p) i 0));
   }
@@ -250,8 +249,7 @@ module _ {source s : List ℕ} {count end : ℕ} (y : ReadyTree source s count e
   symbols-are : decoded count s ≡ y .symbols
   symbols-are =
       ap (λ (n : ℕ). decoded n s) (y .counts)
-      ∙ (ap (decoded (length (y .symbols))) (y .stand ∙ append-assoc (entries (y .symbols)) (encodeProgram p) _)
-      ∙ decoded-entries (y .symbols) _)
+      ∙ (ap (decoded (length (y .symbols))) (y .stand ∙ append-assoc (entries (y .symbols)) (encodeProgram p) _) ∙ decoded-entries (y .symbols) _)
 
   pub end-inside : {k : ℕ} → k ≡ length s → end ≤ k
   end-inside e = omega (arith, y .room, y .counts, few-good source (y .symbols) (y .reads), y .lent .asked)
@@ -346,8 +344,7 @@ module _ {source s : List ℕ} {count end : ℕ} (y : ReadyTree source s count e
     -- ---- the answer
 
     module _ {s₁ s₂ table table′ t t₁ t₂ t₃ : List ℕ} {at last : ℕ} {d′ : Done}
-        (o : Puts (36 ∷ 10 ∷ []) 0 at t t₁)
-        (g : GaveProgram source s s₁ table table′ (count * 3) end 520 (functions + 1) t₁ t₂
+        (o : Puts (36 ∷ 10 ∷ []) 0 at t t₁) (g : GaveProgram source s s₁ table table′ (count * 3) end 520 (functions + 1) t₁ t₂
         (record { tall = NONE; state = record { at = at; label = functions + 1 + names; worst = NONE; high = 0 } }) d′)
         (none : table ≡ replicate 400 0)
         (b : Behind source s₁ s₂ count names functions table′ (d′ .state .at) last t₂ t₃) where
@@ -373,15 +370,13 @@ module _ {source s : List ℕ} {count end : ℕ} (y : ReadyTree source s count e
       items-are : itemsOf (functionsIn source) (stringsIn source) ≡ code ++ behind
       unfolding itemsOf
       items-are =
-          let strings = stringsAmong source (y .symbols) in
-          let l : length (funs ns) ≡ functions = length-funs ns ∙ sym f in
+          let strings = stringsAmong source (y .symbols) in let l : length (funs ns) ≡ functions = length-funs ns ∙ sym f in
           let all : ℕ → ℕ → List Item = λ m k. functionsCode (suc m) 1 (suc m + k) (funs ns)
           ++ (stringsCode (suc m) strings ++ startsCode 1 (funs ns)) in
           ap (λ (z : List Fun). itemsOf z (stringsIn source)) functions-are
           ∙ (ap (itemsOf (funs ns)) strings-are
           ∙ (ap (λ (m : ℕ). all m (length strings)) l
-          ∙ (ap (all functions) (sym n)
-          ∙ ap (λ (m : ℕ). functionsCode m 1 (m + names) (funs ns) ++ behind) (sym (add-one functions)))))
+          ∙ (ap (all functions) (sym n) ∙ ap (λ (m : ℕ). functionsCode m 1 (m + names) (funs ns) ++ behind) (sym (add-one functions)))))
 
       the-text : ((36 ∷ 10 ∷ []) ++ lines code) ++ (lines behind ++ (90 ∷ 10 ∷ [])) ≡ textOf source
       unfolding textOf
@@ -394,8 +389,7 @@ module _ {source s : List ℕ} {count end : ℕ} (y : ReadyTree source s count e
       -- the text is the generator's
       written : faultsFrom source begin p ≡ [] → Text t (textOf source) last t₃
       written e =
-          let x = o .by t [] (text-start t) in
-          let y′ = w .did .clean e .text .by t (36 ∷ 10 ∷ []) x in
+          let x = o .by t [] (text-start t) in let y′ = w .did .clean e .text .by t (36 ∷ 10 ∷ []) x in
           let z = b .by (y .symbols) (funs ns) (y .reads) (y .counts) n (w .long) (f ∙ sym (length-funs ns)) (w .starting e) in
           subst (λ (out : List ℕ). Text t out last t₃) the-text (z .by t _ y′)
 
@@ -426,9 +420,8 @@ module _ {source s : List ℕ} {count end : ℕ} (y : ReadyTree source s count e
           (record { zeros = λ i h. w .keeps .above i (omega (arith, y .ends)) ∙ clean-at-end .zeros i h })
 
       pub translates : {start room : ℕ} {a : Compiled} {z : List ℕ} → start ≡ getD table′ 1 0 → room ≡ length t
-          → a ≡ byKeys source (d′ .state .worst) (d′ .tall) start last room → length s₂ ≡ length s
-          → z ≡ take 0 (take end s₂) ++ replicate (length (take end s₂) - 0) 0
-          → Translates source s (z ++ drop end s₂) t t₃ a
+          → a ≡ byKeys source (d′ .state .worst) (d′ .tall) start last room → length s₂ ≡ length s → z ≡ take 0 (take end s₂) ++ replicate
+          (length (take end s₂) - 0) 0 → Translates source s (z ++ drop end s₂) t t₃ a
       translates {start} {room} e k q same c =
           record {
             answers = q

@@ -42,8 +42,7 @@ use Rattle.compiler.proofs.Anywhere.{any-expression}
 -- right, left, then the others, as left ones and then right ones
 same-pairs : (r l L R : List Fault) → Same (r ++ (l ++ (L ++ R))) ((l ++ L) ++ (r ++ R))
 same-pairs r l L R =
-    same-then (same-swap r (l ++ (L ++ R)))
-    (same-then (same-eq (append-assoc l (L ++ R) r ∙ ap (λ (z : List Fault). l ++ z) (append-assoc L R r)))
+    same-then (same-swap r (l ++ (L ++ R))) (same-then (same-eq (append-assoc l (L ++ R) r ∙ ap (λ (z : List Fault). l ++ z) (append-assoc L R r)))
     (same-then (same-both (same-refl {a = l}) (same-both (same-refl {a = L}) (same-swap R r))) (same-eq (sym (append-assoc l L (r ++ R))))))
 
 -- ---- where the left sides stand, between two places: the next one ends at l, the others follow it as items
@@ -58,8 +57,7 @@ pub left-next : {s : List ℕ} {from to l l′ : ℕ} (es : Expressions) → fro
 unfolding encodeExpressions
 left-next T.noExpressions f h b q = noLeft
 left-next {s} {from} {to} {l} {l′} (T.andExpression e es) f h b q =
-    let a : l + 0 ≡ l = omega arith in
-    let r = second (length (encode e) ∷ 0 ∷ []) (encode e ++ encodeExpressions es) (l + 2) h refl in
+    let a : l + 0 ≡ l = omega arith in let r = second (length (encode e) ∷ 0 ∷ []) (encode e ++ encodeExpressions es) (l + 2) h refl in
     let z : getD s l 0 ≡ length (encode e) = ap (λ (k : ℕ). getD s k 0) (sym a) ∙ h .at 0 (omega arith) in
     let w : l′ ≡ l + 2 + length (encode e) = q ∙ ap (λ (k : ℕ). l + 2 + k) z in
     aLeft {e = e} {es = es} (l + 2) (omega arith) (first (encode e) (encodeExpressions es) r) w (second (encode e) (encodeExpressions es) l′ r w)
@@ -199,13 +197,11 @@ module _ (text t₀ : List ℕ) {s₀ : List ℕ} {left right end : ℕ} {here :
       unfolding inSides inRightSides sides G.pairsCode ofPairs G.pairsLabels
       assign-next {s₂} {t₂} {l′} {size′} {r} n nd g₂ es′ el y p =
           let z = y .ready in let u = assign-is y p in let v = u .right in let x = g .by (assign-right y p) in let w = g₂ .by (assign-left y p) in
-          let sc = z .scope in let h = here .height in
-          let ks = keeps-then (p .keeps) (keeps-then (x .keeps) (w .keeps)) in let L = leavable here in
+          let sc = z .scope in let h = here .height in let ks = keeps-then (p .keeps) (keeps-then (x .keeps) (w .keeps)) in let L = leavable here in
           let E = expression text sc h (v .part) in let D = expression text sc (h + 1) (u .left) in let T′ = targetOf (sideOf D) in
           let PS = pairUp (sides text sc (h + 1) (u .lefts)) (sides text sc h (v .more)) in
           let pl : n .place ≡ placeOf (u .left) = nd .place ∙ place-of (expression-closed (u .left)) (assign-left y p .lies) (assign-left y p .ends)
-          ∙ place-closed (u .left) in
-          let fl = inExpression text sc L (h + 1) (u .left) ++ unlessSide (placeOf (u .left)) (sideOf D) in
+          ∙ place-closed (u .left) in let fl = inExpression text sc L (h + 1) (u .left) ++ unlessSide (placeOf (u .left)) (sideOf D) in
           let fr = inExpression text sc L h (v .part) in
           let z′ : size′ ≡ getD s₀ l 0 = es′ ∙ ks .above l (omega (arith, z .above, u .inside, u .ends)) in
           record {
@@ -227,13 +223,11 @@ module _ (text t₀ : List ℕ) {s₀ : List ℕ} {left right end : ℕ} {here :
                 (2 * (length (encodeSides (p .lefts)) + length (encodeExpressions (p .rights)))) t t′ st st′) (sym (u .same))
                 (subst (λ (rs : Expressions). Did (inSides text sc L (h + 1) (T.andExpression (u .left) (u .lefts)) ++ inRightSides text sc L h rs)
                 (pairsSays here (pairUp (sides text sc (h + 1) (T.andExpression (u .left) (u .lefts))) (sides text sc h rs)))
-                (2 * (length (encodeSides (p .lefts)) + length (encodeExpressions (p .rights)))) t t′ st st′) (sym (v .same))
-                (did-as (pairsSays here (R.pair T′ E PS)) _
-                (did-then (x .did)
-                (did-then (subst (λ (i : ℕ). Did (inExpression text sc L (h + 1) (u .left) ++ unlessSide i (sideOf D)) (targetSays here T′)
-                (2 * length (encode (u .left))) t₁ t₂ a r) pl (w .did)) d))
-                (same-pairs fr fl (inSides text sc L (h + 1) (u .lefts)) (inRightSides text sc L h (v .more)))
-                (λ m e. code-is refl (sym (append-assoc (ofExpr h E) (ofTarget h T′) (ofPairs h PS))) (omega arith))
+                (2 * (length (encodeSides (p .lefts)) + length (encodeExpressions (p .rights)))) t t′ st st′) (sym (v .same)) (did-as (pairsSays
+                here (R.pair T′ E PS)) _ (did-then (x .did) (did-then (subst (λ (i : ℕ). Did (inExpression text sc L (h + 1) (u .left) ++
+                unlessSide i (sideOf D)) (targetSays here T′) (2 * length (encode (u .left))) t₁ t₂ a r) pl (w .did)) d)) (same-pairs fr fl
+                (inSides text sc L (h + 1) (u .lefts)) (inRightSides text sc L h (v .more))) (λ m e. code-is refl (sym (append-assoc (ofExpr h E)
+                (ofTarget h T′) (ofPairs h PS))) (omega arith))
                 (omega (arith, assign-length y p .0, assign-length y p .1, sides-short (u .lefts))))));
           }
 

@@ -95,9 +95,8 @@ is-leave (F.aFinish {p} x) a b c d e f g h i j l = record { place = p; same = re
 
 pub away-gave : (text : List ℕ) (ways : Ways) {s t t′ : List ℕ} {end : ℕ} {here : Here} {st r : State} (n : Node) → NodeAt s end n
     → (n .kind ≡ K.RESULTIS → ⊥) → (n .kind ≡ K.IF → ⊥) → (n .kind ≡ K.UNLESS → ⊥) → (n .kind ≡ K.BEGIN → ⊥) → (n .kind ≡ K.ASSIGN → ⊥)
-    → (n .kind ≡ K.TEST → ⊥) → (n .kind ≡ K.WHILE → ⊥) → (n .kind ≡ K.UNTIL → ⊥)
-    → (n .kind ≡ K.FOR → ⊥) → (n .kind ≡ K.SWITCHON → ⊥) → (n .kind ≡ O.CALLED → ⊥) → GoesAway here ways (n .kind) (n .place) t t′ st r
-    → GaveU text s s end here ways t t′ st r
+    → (n .kind ≡ K.TEST → ⊥) → (n .kind ≡ K.WHILE → ⊥) → (n .kind ≡ K.UNTIL → ⊥) → (n .kind ≡ K.FOR → ⊥) → (n .kind ≡ K.SWITCHON → ⊥)
+    → (n .kind ≡ O.CALLED → ⊥) → GoesAway here ways (n .kind) (n .place) t t′ st r → GaveU text s s end here ways t t′ st r
 unfolding inUnlabelled unlabelled
 away-gave text ways {s} {t} {t′} {end} {here} {st} {r} n nd a b c d e f g h i j l x = record {
   by = λ y.

@@ -186,10 +186,8 @@ code-with text sc here n (aVector m c) ls f =
 code-with text sc here n (someValues ns es) ls f =
     let h = here .height in let rs = expressions text sc h es in let ls′ = locals text (declareAll sc h ns) (h + length ns) ls in
     let k = count-is text sc h ns es (f .0) in
-    code-is
-    (ap (λ (m : ℕ). G.exprsCode (here .strings) h n rs ++ G.localsCode (here .strings) m (n + G.exprsLabels rs) ls′) (sym k) ∙ sym
-    (values-code (here .strings) h n rs ls′))
-    (ap (λ (m : ℕ). ofExprs h rs ++ ofLocals m ls′) (sym k) ∙ sym (values-heights h rs ls′))
+    code-is (ap (λ (m : ℕ). G.exprsCode (here .strings) h n rs ++ G.localsCode (here .strings) m (n + G.exprsLabels rs) ls′) (sym k) ∙ sym
+    (values-code (here .strings) h n rs ls′)) (ap (λ (m : ℕ). ofExprs h rs ++ ofLocals m ls′) (sym k) ∙ sym (values-heights h rs ls′))
     (sym (values-labels rs ls′))
 
 -- ---- one of the list
@@ -239,8 +237,7 @@ module _ (text t₀ : List ℕ) {s₀ : List ℕ} {from end : ℕ} {here : Here}
     pub heights : heightAfter text (y .ready .scope) (here .height) (y .ready .tree) ≡ heightAfter text scope (r .height) rest
     pub finish : (t′ : List ℕ) (st′ : State)
         → Did (inLocals text scope (leavable here) (r .height) rest) (localsSays here (r .height) (locals text scope (r .height) rest))
-        (2 * length (encodeLocals rest)) t t′ (r .done) st′
-        → Did (inLocals text (y .ready .scope) (leavable here) (here .height) (y .ready .tree))
+        (2 * length (encodeLocals rest)) t t′ (r .done) st′ → Did (inLocals text (y .ready .scope) (leavable here) (here .height) (y .ready .tree))
         (localsSays here (here .height) (locals text (y .ready .scope) (here .height) (y .ready .tree))) (2 * length (encodeLocals (y .ready .tree)))
         t₀ t′ st₀ st′
 
@@ -501,12 +498,11 @@ module _ {s : List ℕ} {end : ℕ} {here : Here} {st : State} (n : Node) (nd : 
                         (commands text sc′ k (u .list));
                     labels = G.cmdsLabels (commands text sc′ k (u .list));
                   })
-                  (2 * length (encodeCommands (u .list))) t₁ t₂ (a .done) r) (x .after .height) (z .did)))
-                  (same-eq (ap (λ (f : List Fault). f ++ inCommands text sc′ l h′ (u .list)) (any-locals text (leavable here) l refl sc h ls)))
-                  (λ k e. code-is
-                  (ap (λ (v : ℕ). G.localsCode (here .strings) h k LS ++ G.cmdsCode (here .strings) v (k + G.localsLabels LS) (exits ways)
-                  (commands text sc′ h′ (u .list))) (sym eh)) (ap (λ (v : ℕ). ofLocals h LS ++ ofCmds v (commands text sc′ h′ (u .list))) (sym eh))
-                  refl)
+                  (2 * length (encodeCommands (u .list))) t₁ t₂ (a .done) r) (x .after .height) (z .did))) (same-eq (ap (λ (f : List Fault). f
+                  ++ inCommands text sc′ l h′ (u .list)) (any-locals text (leavable here) l refl sc h ls))) (λ k e. code-is (ap (λ (v : ℕ).
+                  G.localsCode (here .strings) h k LS ++ G.cmdsCode (here .strings) v (k + G.localsLabels LS) (exits ways)
+                  (commands text sc′ h′ (u .list))) (sym eh)) (ap (λ (v : ℕ). ofLocals h LS ++ ofCmds v (commands text sc′ h′ (u .list))) (sym
+                  eh)) refl)
                   (omega (arith, y .ends, u .ends));
             });
       }

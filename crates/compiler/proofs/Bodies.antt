@@ -72,15 +72,13 @@ module _ {s : List ℕ} {end word : ℕ} {x : Here} {st : State} where
   abbrev pub ready-value : word ≡ K.EQUAL → ReadyBody s end x st word → ReadyE s end x st
   unfolding encodeBody bodyDepth
   ready-value e y =
-      let z = y .ready in
-      let v = value-is (z .tree) (sym (y .word-is) ∙ e) in
+      let z = y .ready in let v = value-is (z .tree) (sym (y .word-is) ∙ e) in
       ready-as encode depth FineE z (v .part) (ap encodeBody (v .same)) (ap bodyDepth (v .same)) (subst FineB (v .same) (z .fine))
 
   abbrev pub ready-routine : (word ≡ K.EQUAL → ⊥) → ReadyBody s end x st word → ReadyC s end x st
   unfolding encodeBody bodyDepth
   ready-routine e y =
-      let z = y .ready in
-      let v = routine-is (z .tree) (λ k. e (y .word-is ∙ k)) in
+      let z = y .ready in let v = routine-is (z .tree) (λ k. e (y .word-is ∙ k)) in
       ready-as encodeCommand commandDepth FineC z (v .part) (ap encodeBody (v .same)) (ap bodyDepth (v .same)) (subst FineB (v .same) (z .fine))
 
   abbrev Owed : ReadyBody s end x st word → (text s′ t t′ : List ℕ) (r : State) → T.Body → Type 0
@@ -92,14 +90,11 @@ module _ {s : List ℕ} {end word : ℕ} {x : Here} {st : State} where
     unfolding encodeBody G.bodyCode G.bodyLabels ready-value
     gave-value e g = record {
       by = λ y.
-          let z = y .ready in
-          let v = value-is (z .tree) (sym (y .word-is) ∙ e) in
+          let z = y .ready in let v = value-is (z .tree) (sym (y .word-is) ∙ e) in
           let out : x .routine ≡ false = y .routine-is ∙ ap not (eq-eqb word K.EQUAL e) in
           subst (Owed y text s′ t t′ r) (sym (v .same))
-          (subst
-          (λ (k : Bool).
-          Result (inExpression text (z .scope) (record { loop = false; switch = false; valof = false; routine = k }) (x .height) (v .part))
-          (bodySays text x (z .scope) (T.value (v .part))) (length (encode (v .part))) (z .base) x s s′ t t′ st r)
+          (subst (λ (k : Bool). Result (inExpression text (z .scope) (record { loop = false; switch = false; valof = false; routine = k }) (x
+          .height) (v .part)) (bodySays text x (z .scope) (T.value (v .part))) (length (encode (v .part))) (z .base) x s s′ t t′ st r)
           out (g .by (ready-value e y)));
     }
 
@@ -107,13 +102,10 @@ module _ {s : List ℕ} {end word : ℕ} {x : Here} {st : State} where
     unfolding encodeBody G.bodyCode G.bodyLabels ready-routine
     gave-routine e g = record {
       by = λ y.
-          let z = y .ready in
-          let v = routine-is (z .tree) (λ k. e (y .word-is ∙ k)) in
+          let z = y .ready in let v = routine-is (z .tree) (λ k. e (y .word-is ∙ k)) in
           let out : x .routine ≡ true = y .routine-is ∙ ap not (ne-eqb word K.EQUAL e) in
           subst (Owed y text s′ t t′ r) (sym (v .same))
-          (subst
-          (λ (k : Bool).
-          Result (inCommand text (z .scope) (record { loop = false; switch = false; valof = false; routine = k }) (x .height) (v .part))
-          (bodySays text x (z .scope) (T.routine (v .part))) (length (encodeCommand (v .part))) (z .base) x s s′ t t′ st r)
+          (subst (λ (k : Bool). Result (inCommand text (z .scope) (record { loop = false; switch = false; valof = false; routine = k }) (x .height)
+          (v .part)) (bodySays text x (z .scope) (T.routine (v .part))) (length (encodeCommand (v .part))) (z .base) x s s′ t t′ st r)
           out (g .by (ready-routine e y)));
     }

@@ -104,17 +104,12 @@ module _ (text t₀ : List ℕ) {s₀ : List ℕ} {from end : ℕ} {here : Here}
         let n = rest-length z (y .starts) l es en p in let E = expression text sc h (u .part) in
         let e1 : here .height + (k + 1) ≡ h + 1 = omega arith in
         goes-on z (y .starts) l es en p (x .keeps) (omega arith) (omega (arith, x .did .few, f .label))
-        (omega (arith, p .some, x .did .grows, f .label))
-        (λ t′ st′ d. did-as _ _
-        (did-then (did-emit (x .did) f)
-        (subst (λ (m : ℕ). Did (inExpressions text sc (leavable here) m (u .more)) (exprsSays (here .strings) m (expressions text sc m (u .more)))
+        (omega (arith, p .some, x .did .grows, f .label)) (λ t′ st′ d. did-as _ _ (did-then (did-emit (x .did) f) (subst
+        (λ (m : ℕ). Did (inExpressions text sc (leavable here) m (u .more)) (exprsSays (here .strings) m (expressions text sc m (u .more)))
         (2 * length (encodeExpressions (u .more))) t₂ t′ r st′) e1 d)) same-refl
-        (λ n c. code-is
-        (append-assoc (exprCode (here .strings) h n E) (G.SP h ∷ [])
+        (λ n c. code-is (append-assoc (exprCode (here .strings) h n E) (G.SP h ∷ [])
         (exprsCode (here .strings) (h + 1) (n + exprLabels E) (expressions text sc (h + 1) (u .more))))
-        (append-assoc (ofExpr h E) ((h + 1) ∷ []) (ofExprs (h + 1) (expressions text sc (h + 1) (u .more))))
-        refl)
-        (omega arith))
+        (append-assoc (ofExpr h E) ((h + 1) ∷ []) (ofExprs (h + 1) (expressions text sc (h + 1) (u .more)))) refl) (omega arith))
 
   pub args-end : (k : ℕ) {s t : List ℕ} {at : ℕ} {st : State} → end ≤ at → ((y : ReadyArgs s₀ from end here st₀) → ArgsPart y s t at k st)
       → GaveArgs text s₀ s from end here t₀ t st₀ st
@@ -129,9 +124,7 @@ both {s} {lo} {m} x y f g e = record { at = λ i l. by i l (order i (length x)) 
     by : (i : ℕ) → i < length (x ++ y) → Order i (length x) → getD s (lo + i) 0 ≡ getD (x ++ y) i 0
     by i l (lt h) = f .at i h ∙ sym (List·getD-append x y 0 i h)
     by i l (ge h) =
-        let j = i - length x in
-        let q : i ≡ length x + j = omega arith in
-        let p : lo + i ≡ m + j = omega arith in
+        let j = i - length x in let q : i ≡ length x + j = omega arith in let p : lo + i ≡ m + j = omega arith in
         ap (λ (k : ℕ). getD s k 0) p ∙ g .at j (omega (arith, length-append x y)) ∙ sym (getD-append-add x y j 0) ∙ ap (λ (k : ℕ). getD (x ++ y) k 0)
         (sym q)
 
@@ -166,8 +159,7 @@ module _ {s : List ℕ} {m m′ end : ℕ} (w : List ℕ) (cons : Suffixes → S
       → ((x : Suffixes) (a : A) → cons (snoc x a) ≡ snoc (cons x) a) → IsLast enc snoc s m′ end all → IsLast enc snoc s m end (cons all)
   before {enc = enc} q u =
       let k : length (encodeSuffixes (cons (u .init))) ≡ length w + length (encodeSuffixes (u .init)) = ap length (p (u .init)) ∙ length-append w
-      (encodeSuffixes (u .init)) in
-      let z : m′ + length (encodeSuffixes (u .init)) ≡ m + length (encodeSuffixes (cons (u .init))) = omega arith in
+      (encodeSuffixes (u .init)) in let z : m′ + length (encodeSuffixes (u .init)) ≡ m + length (encodeSuffixes (cons (u .init))) = omega arith in
       record {
         init = cons (u .init);
         part = u .part;
@@ -321,6 +313,14 @@ module _ (text : List ℕ) (sc : Scope) where
       suffixes-index ss d h (R.index e (expression text sc (under (snocIndex ss d) h + 1) c)) ∙ ap
       (λ (z : ℕ). R.index (suffixes text sc h (R.index e (expression text sc (z + 1) c)) ss) (expression text sc (h + 1) d)) (under-index ss d h)
 
+  pub index-means : (h : ℕ) (p : Expression) {ss : Suffixes} (i : Suffixes) (d : Expression) → ss ≡ snocIndex i d
+      → suffixes text sc h (expression text sc (under ss h) p) ss
+      ≡ R.index (suffixes text sc h (expression text sc (under i h) p) i) (expression text sc (h + 1) d)
+  index-means h p i d q =
+      ap (λ (ss : Suffixes). suffixes text sc h (expression text sc (under ss h) p) ss) q
+      ∙ ap (λ (k : ℕ). suffixes text sc h (expression text sc k p) (snocIndex i d)) (under-index i d h)
+      ∙ suffixes-index i d h (expression text sc (under i h) p)
+
 pub count-resolved : (text : List ℕ) (sc : Scope) (h : ℕ) (es : Expressions) → H.count (expressions text sc h es) ≡ T.count es
 unfolding expressions H.count T.count
 count-resolved text sc h T.noExpressions = refl
@@ -358,6 +358,16 @@ module _ (text : List ℕ) (sc : Scope) (l : Leavable) where
       ∙ ap (λ (z : List Fault). inExpression text sc l (under ss h + 1) d ++ z) (faults-index ss e h)
       ∙ sym (append-assoc (inExpression text sc l (under ss h + 1) d) (inSuffixes text sc l h ss) (inExpression text sc l (h + 1) e))
 
+  -- a primary with suffixes of which the last is an index
+  pub index-faults : (h : ℕ) (p : Expression) {ss : Suffixes} (i : Suffixes) (e : Expression) → ss ≡ snocIndex i e
+      → inExpression text sc l (under ss h) p ++ inSuffixes text sc l h ss
+      ≡ (inExpression text sc l (under i h) p ++ inSuffixes text sc l h i) ++ inExpression text sc l (h + 1) e
+  index-faults h p i e q =
+      ap (λ (ss : Suffixes). inExpression text sc l (under ss h) p ++ inSuffixes text sc l h ss) q
+      ∙ ap (λ (k : ℕ). inExpression text sc l k p ++ inSuffixes text sc l h (snocIndex i e)) (under-index text sc i e h)
+      ∙ ap (λ (fs : List Fault). inExpression text sc l (under i h) p ++ fs) (faults-index i e h)
+      ∙ sym (append-assoc (inExpression text sc l (under i h) p) (inSuffixes text sc l h i) (inExpression text sc l (h + 1) e))
+
 -- ---- what follows a primary: nothing, a call or an index last
 
 module _ {s : List ℕ} {middle end : ℕ} {here : Here} {st : State} where
@@ -372,9 +382,8 @@ module _ {s : List ℕ} {middle end : ℕ} {here : Here} {st : State} where
   abbrev pub primary-part : end ≤ middle → ReadySuffixes s middle end here st → ReadyE s middle here st
   primary-part l y = let z = y .ready in let a = z .tree in
       sub encode depth FineE z keeps-all middle (z .lo) here st (a .primary) (first (encode (a .primary)) (encodeSuffixes (a .suffixes)) (z .lies))
-      (y .parts) (omega arith) (omega (arith, applied-ends y)) refl refl
-      (omega (arith, z .height, z .ends, y .parts, applied-ends y)) (omega (arith, z .label, z .ends, y .parts, applied-ends y)) (z .some)
-      (omega (arith, z .shallow)) (z .fine .0)
+      (y .parts) (omega arith) (omega (arith, applied-ends y)) refl refl (omega (arith, z .height, z .ends, y .parts, applied-ends y))
+      (omega (arith, z .label, z .ends, y .parts, applied-ends y)) (z .some) (omega (arith, z .shallow)) (z .fine .0)
 
   pub primary-gave : (text : List ℕ) {s′ t t′ : List ℕ} {r : State} → end ≤ middle → GaveE text s s′ middle here t t′ st r
       → GaveSuffixes text s s′ middle end here t t′ st r
@@ -449,11 +458,12 @@ pub start-of : {s : List ℕ} {middle end inner size start : ℕ} → inner ≡ 
     → start ≡ middle + length (encodeSuffixes (u .init))
 start-of {s} ei ez es {enc = enc} u = let z = ez ∙ ap (λ (n : ℕ). getD s n 0) ei ∙ u .size-of in omega (arith, z, es, ei, u .ends)
 
-module _ {s : List ℕ} {middle end tag inner size start : ℕ} {here : Here} {st : State} (l : middle < end) (et : tag ≡ getD s (end - 1) 0)
+module _ {s : List ℕ} {middle end j tag inner size start : ℕ} {here : Here} {st : State} (l : middle < end) (ej : j ≡ end - 1) (et : tag ≡ getD s j 0)
     (ei : inner ≡ end - 2) (ez : size ≡ getD s inner 0) (es : start ≡ inner - size) where
   pub the-last : (y : ReadySuffixes s middle end here st) → Last s middle end (y .ready .tree .suffixes) tag
   the-last y =
-      subst (λ (n : ℕ). Last s middle end (y .ready .tree .suffixes) n) (sym et) (last (y .ready .tree .suffixes) (applied-lies y) (applied-ends y) l)
+      subst (λ (n : ℕ). Last s middle end (y .ready .tree .suffixes) n) (sym (et ∙ ap (λ (k : ℕ). getD s k 0) ej))
+      (last (y .ready .tree .suffixes) (applied-lies y) (applied-ends y) l)
 
   -- the primary with all but the last one
   module _ {A : Type 0} {enc : A → List ℕ} {snoc : Suffixes → A → Suffixes} where
@@ -465,8 +475,7 @@ module _ {s : List ℕ} {middle end tag inner size start : ℕ} {here : Here} {s
     init-part here′ {st′} y k u top strings left height label some deep fine = let z = y .ready in let a = z .tree in record {
       ready = sub encodeApplied deepApplied FineApplied z k start (z .lo) here′ st′ (record { primary = a .primary; suffixes = u .init })
           (both (encode (a .primary)) (encodeSuffixes (u .init)) (first (encode (a .primary)) (encodeSuffixes (a .suffixes)) (z .lies)) (u .lies)
-          (y .parts))
-          (omega (arith, start-of ei ez es u, y .parts, length-append (encode (a .primary)) (encodeSuffixes (u .init)))) (omega arith)
+          (y .parts)) (omega (arith, start-of ei ez es u, y .parts, length-append (encode (a .primary)) (encodeSuffixes (u .init)))) (omega arith)
           (omega (arith, start-of ei ez es u, u .ends)) top strings
           (omega (arith, height, z .height, z .ends, y .parts, u .ends, length-append (encode (a .primary)) (encodeSuffixes (u .init))))
           (omega (arith, label, z .label, z .ends, y .parts, u .ends, length-append (encode (a .primary)) (encodeSuffixes (u .init))))
@@ -504,21 +513,8 @@ module _ {s : List ℕ} {middle end tag inner size start : ℕ} {here : Here} {s
         by = λ y.
             let z = y .ready in let sc = z .scope in let h = here .height in let p = z .tree .primary in let u = is-index q (the-last y) in
             let x = g .by (index-left y) in let w = g₂ .by (index-right y) in
-            let A = suffixes text sc h (expression text sc (under (u .init) h) p) (u .init) in let B = expression text sc (h + 1) (u .part) in
-            let ef : faultsA text here sc (z .tree)
-            ≡ (inExpression text sc (leavable here) (under (u .init) h) p ++ inSuffixes text sc (leavable here) h (u .init)) ++ inExpression text sc
-            (leavable here) (h + 1) (u .part) =
-            ap (λ (ss : Suffixes). faultsA text here sc (record { primary = p; suffixes = ss })) (u .same)
-            ∙ ap (λ (k : ℕ). inExpression text sc (leavable here) k p ++ inSuffixes text sc (leavable here) h (snocIndex (u .init) (u .part)))
-            (under-index text sc (u .init) (u .part) h)
-            ∙ ap (λ (fs : List Fault). inExpression text sc (leavable here) (under (u .init) h) p ++ fs)
-            (faults-index text sc (leavable here) (u .init) (u .part) h)
-            ∙ sym (append-assoc (inExpression text sc (leavable here) (under (u .init) h) p) (inSuffixes text sc (leavable here) h (u .init))
-            (inExpression text sc (leavable here) (h + 1) (u .part))) in
-            let er : suffixes text sc h (expression text sc (under (z .tree .suffixes) h) p) (z .tree .suffixes) ≡ R.index A B =
-            ap (λ (ss : Suffixes). suffixes text sc h (expression text sc (under ss h) p) ss) (u .same)
-            ∙ ap (λ (k : ℕ). suffixes text sc h (expression text sc k p) (snocIndex (u .init) (u .part))) (under-index text sc (u .init) (u .part) h)
-            ∙ suffixes-index text sc (u .init) (u .part) h (expression text sc (under (u .init) h) p) in
+            let ef = index-faults text sc (leavable here) h p (u .init) (u .part) (u .same) in
+            let er = index-means text sc h p (u .init) (u .part) (u .same) in
             record {
               keeps = keeps-then (x .keeps) (w .keeps);
               did = did-as (codeA text here sc (z .tree)) _ (did-then (x .did) (w .did)) (same-eq (sym ef))
@@ -565,37 +561,33 @@ module _ {s : List ℕ} {middle end tag inner size start : ℕ} {here : Here} {s
       call-gave {s₂} {t₂} {t₃} {c} {d} g₂ f₂ = record {
         by = λ y.
             let z = y .ready in let sc = z .scope in let h = here .height in let p = z .tree .primary in let u = is-call q (the-last y) in
-            let x = g .by (call-args y) in let w = g₂ .by (call-callee y) in
-            let Es = expressions text sc (h + 2) (u .part) in
+            let x = g .by (call-args y) in let w = g₂ .by (call-callee y) in let Es = expressions text sc (h + 2) (u .part) in
             let K = h + 2 + H.count Es in
             let eK : K ≡ h + 2 + T.count (u .part) = ap (λ (m : ℕ). h + 2 + m) (count-resolved text sc (h + 2) (u .part)) in
             let eh : h + (n + 2) ≡ K = omega (arith, eK, call-count k y) in
             let F = suffixes text sc K (expression text sc (under (u .init) K) p) (u .init) in
             let fp = inExpression text sc (leavable here) (under (u .init) K) p ++ inSuffixes text sc (leavable here) K (u .init) in
             let fa = inExpressions text sc (leavable here) (h + 2) (u .part) in
-            let w′ : Did fp (exprSays (here .strings) K F) (2 * length (encodeApplied (record { primary = p; suffixes = u .init }))) t₁ t₂ b c =
-            subst (λ (m : ℕ). Did (inExpression text sc (leavable here) (under (u .init) m) p ++ inSuffixes text sc (leavable here) m (u .init))
+            let w′ : Did fp (exprSays (here .strings) K F) (2 * length (encodeApplied (record { primary = p; suffixes = u .init }))) t₁ t₂ b c = subst
+            (λ (m : ℕ). Did (inExpression text sc (leavable here) (under (u .init) m) p ++ inSuffixes text sc (leavable here) m (u .init))
             (exprSays (here .strings) m (suffixes text sc m (expression text sc (under (u .init) m) p) (u .init)))
             (2 * length (encodeApplied (record { primary = p; suffixes = u .init }))) t₁ t₂ b c) eh (w .did) in
-            let ef : faultsA text here sc (z .tree) ≡ fp ++ fa =
-            ap (λ (ss : Suffixes). faultsA text here sc (record { primary = p; suffixes = ss })) (u .same)
-            ∙ ap (λ (m : ℕ). inExpression text sc (leavable here) m p ++ inSuffixes text sc (leavable here) h (snocCall (u .init) (u .part)))
-            (under-call text sc (u .init) (u .part) h eK)
-            ∙ ap (λ (fs : List Fault). inExpression text sc (leavable here) (under (u .init) K) p ++ fs)
-            (faults-call text sc (leavable here) (u .init) (u .part) h eK)
-            ∙ sym (append-assoc (inExpression text sc (leavable here) (under (u .init) K) p) (inSuffixes text sc (leavable here) K (u .init)) fa) in
-            let er : suffixes text sc h (expression text sc (under (z .tree .suffixes) h) p) (z .tree .suffixes) ≡ R.call F Es =
-            ap (λ (ss : Suffixes). suffixes text sc h (expression text sc (under ss h) p) ss) (u .same)
-            ∙ ap (λ (m : ℕ). suffixes text sc h (expression text sc m p) (snocCall (u .init) (u .part))) (under-call text sc (u .init) (u .part) h eK)
+            let ef : faultsA text here sc (z .tree) ≡ fp ++ fa = ap (λ (ss : Suffixes). faultsA text here sc (record { primary = p; suffixes = ss }))
+            (u .same) ∙ ap
+            (λ (m : ℕ). inExpression text sc (leavable here) m p ++ inSuffixes text sc (leavable here) h (snocCall (u .init) (u .part)))
+            (under-call text sc (u .init) (u .part) h eK) ∙ ap (λ (fs : List Fault). inExpression text sc (leavable here) (under (u .init) K) p ++ fs)
+            (faults-call text sc (leavable here) (u .init) (u .part) h eK) ∙ sym
+            (append-assoc (inExpression text sc (leavable here) (under (u .init) K) p) (inSuffixes text sc (leavable here) K (u .init)) fa) in
+            let er : suffixes text sc h (expression text sc (under (z .tree .suffixes) h) p) (z .tree .suffixes) ≡ R.call F Es = ap
+            (λ (ss : Suffixes). suffixes text sc h (expression text sc (under ss h) p) ss) (u .same) ∙ ap
+            (λ (m : ℕ). suffixes text sc h (expression text sc m p) (snocCall (u .init) (u .part))) (under-call text sc (u .init) (u .part) h eK)
             ∙ suffixes-call text sc (u .init) (u .part) h (expression text sc (under (u .init) K) p) eK in
             record {
               keeps = keeps-then (x .keeps) (w .keeps);
               did = did-as (codeA text here sc (z .tree)) _ (did-put (did-then (x .did) w′) f₂) (same-then (same-swap fa fp) (same-eq (sym ef)))
                   (λ m v. code-is
                   (append-assoc (exprsCode (here .strings) (h + 2) m Es) (exprCode (here .strings) K (m + exprsLabels Es) F) (G.K h ∷ []) ∙ ap
-                  (exprCode (here .strings) h m) (sym er))
-                  (ap (ofExpr h) (sym er))
-                  (ap exprLabels (sym er)))
+                  (exprCode (here .strings) h m) (sym er)) (ap (ofExpr h) (sym er)) (ap exprLabels (sym er)))
                   (omega (arith, z .ends, y .parts, u .ends, length-append (encode p) (encodeSuffixes (u .init))));
             };
       }
@@ -671,8 +663,7 @@ module _ {s : List ℕ} {end : ℕ} {here : Here} {st : State} (n : Node) (nd : 
     ready =
         sub encodeApplied deepApplied FineApplied y keeps-all (n .inner) (y .lo) (inside here) st (record { primary = u .left; suffixes = u .list })
         (both (encode (u .left)) (encodeSuffixes (u .list)) (u .lies) (u .lies-list) refl) (omega (arith, nd .inner, u .ends, k)) (omega arith)
-        (omega (arith, nd .inner)) refl refl
-        (omega (arith, y .height, y .ends, u .ends, k)) (omega (arith, y .label, y .ends, u .ends, k)) (y .some)
+        (omega (arith, nd .inner)) refl refl (omega (arith, y .height, y .ends, u .ends, k)) (omega (arith, y .label, y .ends, u .ends, k)) (y .some)
         (omega (arith, suffixed-deep y .0, suffixed-deep y .1)) (suffixed-fine y);
     parts = suffixed-middle y;
   }
@@ -688,11 +679,11 @@ module _ {s : List ℕ} {end : ℕ} {here : Here} {st : State} (n : Node) (nd : 
         (record { keeps = x .keeps; did = did-as _ _ (x .did) same-refl (λ m v. refl) (omega (arith, y .ends, u .ends, k)) });
   }
 
-pub call-few : {s : List ℕ} {middle end tag inner size start n : ℕ} {here : Here} {st : State} (l : middle < end) (et : tag ≡ getD s (end - 1) 0)
-    (ei : inner ≡ end - 2) (ez : size ≡ getD s inner 0) (es : start ≡ inner - size) (q : tag ≡ 49 → ⊥) → Counts s start inner n
-    → ReadySuffixes s middle end here st → n < end
-call-few l et ei ez es q k y =
-    let u = is-call q (the-last l et ei ez es y) in omega (arith, call-count l et ei ez es q k y, count-few (u .part), u .ends)
+pub call-few : {s : List ℕ} {middle end j tag inner size start n : ℕ} {here : Here} {st : State} (l : middle < end) (ej : j ≡ end - 1)
+    (et : tag ≡ getD s j 0) (ei : inner ≡ end - 2) (ez : size ≡ getD s inner 0) (es : start ≡ inner - size) (q : tag ≡ 49 → ⊥) → Counts s start inner
+    n → ReadySuffixes s middle end here st → n < end
+call-few l ej et ei ez es q k y =
+    let u = is-call q (the-last l ej et ei ez es y) in omega (arith, call-count l ej et ei ez es q k y, count-few (u .part), u .ends)
 
 -- ---- an index and arguments by themselves
 

@@ -1,4 +1,4 @@
--- Zeros from a place on, where scratch holds nothing but zeros, and what `compile` owes once they are written.
+-- Zeros from a place on, where scratch holds nothing but zeros, and `compile`'s contract once they are written.
 use Prim.Native.Nat.{ℕ, zero, suc, _+_, _-_, _<_, _≤_}
 use mathlib.Core.Path.{_≡_, refl, sym, ap, _∙_}
 use mathlib.Core.List.{List, [], _∷_, _++_, append-assoc, append-nil}
@@ -26,9 +26,8 @@ module _ (s₀ : List ℕ) (from i : ℕ) (h : from ≤ i) {s : List ℕ} (e : s
   pub clear-more : i < length s₀ → set s i 0 ≡ cleared s₀ from (i + 1)
   clear-more k =
       let d : drop i s₀ ≡ getD s₀ i 0 ∷ drop (i + 1) s₀ = drop-cons s₀ i 0 k ∙ rw add-one in
-      let l : length (take from s₀ ++ replicate (i - from) 0) ≡ i =
-      length-append (take from s₀) (replicate (i - from) 0) ∙
-      (let z : length (take from s₀) + length (replicate (i - from) 0) ≡ i = omega
+      let l : length (take from s₀ ++ replicate (i - from) 0) ≡ i = length-append (take from s₀) (replicate (i - from) 0)
+      ∙ (let z : length (take from s₀) + length (replicate (i - from) 0) ≡ i = omega
       (arith, length-take-le from s₀ (omega arith), length-replicate {A = ℕ} (i - from) 0) in z) in
       let z : i + 1 - from ≡ i - from + 1 = omega arith in
       let r : replicate {A = ℕ} (i + 1 - from) 0 ≡ replicate (i - from) 0 ++ (0 ∷ []) = rw z (sym (replicate-append-replicate (i - from) 1 0)) in
@@ -36,8 +35,7 @@ module _ (s₀ : List ℕ) (from i : ℕ) (h : from ≤ i) {s : List ℕ} (e : s
 
   pub clear-all : i ≤ length s₀ → length s₀ ≤ i → s ≡ take from s₀ ++ replicate (length s₀ - from) 0
   clear-all k l =
-      let z : i ≡ length s₀ = omega arith in
-      e ∙ rw (drop-of-length-le s₀ l, append-nil, z)
+      let z : i ≡ length s₀ = omega arith in e ∙ rw (drop-of-length-le s₀ l, append-nil, z)
 
 pub cleared-all : (s : List ℕ) {s′ : List ℕ} → s′ ≡ take 0 s ++ replicate (length s - 0) 0 → s′ ≡ replicate (length s) 0
 cleared-all s e = let z : length s - 0 ≡ length s = omega arith in e ∙ ap (λ (n : ℕ). replicate n 0) z
@@ -64,8 +62,7 @@ zero-at (suc n) (suc i) = zero-at n i
 
 at-behind : (xs ys : List ℕ) (i : ℕ) → length xs ≤ i → getD (xs ++ ys) i 0 ≡ getD ys (i - length xs) 0
 at-behind xs ys i h =
-    let z : i ≡ length xs + (i - length xs) = omega arith in
-    ap (λ (k : ℕ). getD (xs ++ ys) k 0) z ∙ getD-append-add xs ys (i - length xs) 0
+    let z : i ≡ length xs + (i - length xs) = omega arith in ap (λ (k : ℕ). getD (xs ++ ys) k 0) z ∙ getD-append-add xs ys (i - length xs) 0
 
 pub padded-clean : {s : List ℕ} {used : ℕ} (w : List ℕ) (room : ℕ) → s ≡ padded room w → length w ≤ used → Clean used s
 padded-clean w room e h = record {
@@ -86,10 +83,9 @@ clean-front {s} {front} {used} k e f c = record { zeros = λ i h. go i h (order 
 pub clean-all : {s z : List ℕ} {used : ℕ} → Clean used s → used ≤ length s → z ≡ take 0 (take used s) ++ replicate (length (take used s) - 0) 0
     → z ++ drop used s ≡ replicate (length s) 0
 clean-all {s} {z} {used} c h e =
-    let l : length (take used s) ≡ used = length-take-le used s h in
-    let n : used + (length s - used) ≡ length s = omega arith in
-    let behind : drop used s ≡ replicate (length s - used) 0 =
-    ext-getD 0 (drop used s) (replicate (length s - used) 0) (length-drop used s ∙ sym (length-replicate {A = ℕ} (length s - used) 0))
+    let l : length (take used s) ≡ used = length-take-le used s h in let n : used + (length s - used) ≡ length s = omega arith in
+    let behind : drop used s ≡ replicate (length s - used) 0 = ext-getD 0 (drop used s) (replicate (length s - used) 0)
+    (length-drop used s ∙ sym (length-replicate {A = ℕ} (length s - used) 0))
     (λ i k. getD-drop used s i 0 ∙ (c .zeros (used + i) (omega arith) ∙ sym (zero-at (length s - used) i))) in
     ap (λ (y : List ℕ). y ++ drop used s) (cleared-all (take used s) e ∙ ap (λ (m : ℕ). replicate m 0) l)
     ∙ (ap (λ (y : List ℕ). replicate used 0 ++ y) behind ∙ (replicate-append-replicate used (length s - used) 0 ∙ ap (λ (m : ℕ). replicate m 0) n))
@@ -110,8 +106,7 @@ zeros-behind s front k e h f w =
 accepted-text : (source text t′ : List ℕ) (n : ℕ) (d : Refused) → C.Accepted n ≡ answerOf source d → Begins source t′ d → length t′ ≡ length text
     → (n ≤ length t′) × (take n t′ ++ replicate (length t′ - n) 0 ≡ textAfter source (length text) d)
 accepted-text source text t′ n accepted e b l =
-    let z : n ≡ length (textOf source) = cc in
-    (omega (arith, b .1), rw (z, l, b .0))
+    let z : n ≡ length (textOf source) = cc in (omega (arith, b .1), rw (z, l, b .0))
 accepted-text source text t′ n (refused number place) e b l = let z : _≡_ {A = ℕ} 0 1 = cc in absurd (omega arith)
 
 refused-text : (source text t′ : List ℕ) (w : Refusal) (d : Refused) → C.Refused w ≡ answerOf source d → length t′ ≡ length text

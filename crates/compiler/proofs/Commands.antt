@@ -53,9 +53,8 @@ module _ {s : List ℕ} {end : ℕ} {here : Here} {st : State} (n : Node) (nd : 
   abbrev pub valof-part : {a : State} → Fresh 1 st a → ReadyE s end here st → ReadyC s (n .inner) (inside here) a
   valof-part {a} e y = let u = is-valof (find n nd q y) in
       sub encodeCommand commandDepth FineC y keeps-all (n .inner) (y .lo) (inside here) a (u .part) (u .lies) (omega (arith, nd .inner, u .ends))
-      (omega arith) (omega (arith, nd .inner)) refl refl
-      (omega (arith, y .height, y .ends, u .ends)) (omega (arith, y .label, y .ends, u .ends, e .label)) (omega (arith, e .label))
-      (omega (arith, valof-deep y (u .same))) (valof-fine y (u .same))
+      (omega arith) (omega (arith, nd .inner)) refl refl (omega (arith, y .height, y .ends, u .ends))
+      (omega (arith, y .label, y .ends, u .ends, e .label)) (omega (arith, e .label)) (omega (arith, valof-deep y (u .same))) (valof-fine y (u .same))
 
   pub valof-gave : (text : List ℕ) {s₁ t t₁ t₂ : List ℕ} {a b c : State} → Fresh 1 st a
       → GaveC text s s₁ (n .inner) (inside here) (inValof (st .label)) t t₁ a b → Emits (I.label (st .label) ∷ []) [] t₁ t₂ b c
@@ -153,9 +152,7 @@ module _ (h : ℕ) {s s₁ s₂ : List ℕ} {base top leaf m : ℕ} {sc : Scope}
   pub named-block-shows : Shows s₂ (top + 4) (declared (opened sc) (nameAt s leaf) (N.local h))
   unfolding code
   named-block-shows =
-      let k = pushed-keeps p (omega arith) long in
-      let l : base ≤ length s₁ = omega (arith, k .long) in
-      let a : top + 2 + 2 ≡ top + 4 = omega arith in
+      let k = pushed-keeps p (omega arith) long in let l : base ≤ length s₁ = omega (arith, k .long) in let a : top + 2 + 2 ≡ top + 4 = omega arith in
       let x = pushed-name q (omega arith) l (N.local h) (pushed-mark p (omega arith) long sh refl) e tt in
       let n : nameAt s₁ leaf ≡ nameAt s leaf = keeps-name k inside-tree in
       subst (λ (z : ℕ). Shows s₂ z (declared (opened sc) (nameAt s leaf) (N.local h))) a

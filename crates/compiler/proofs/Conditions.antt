@@ -52,8 +52,7 @@ pub record IsTest (s : List ℕ) (lo end : ℕ) (u : Unlabelled) : Type 0 where
 
 is-test : {s : List ℕ} {lo end : ℕ} {u : Unlabelled} → Form s lo end K.TEST u → IsTest s lo end u
 is-test {lo = lo} (F.aTest {e} {c} {d} h q) =
-    let a = encode e in let b = encodeCommand c in let g = encodeCommand d in
-    let r = second a (b ++ g) (lo + length a) h refl in
+    let a = encode e in let b = encodeCommand c in let g = encodeCommand d in let r = second a (b ++ g) (lo + length a) h refl in
     record {
       test = e;
       body = c;
@@ -98,9 +97,8 @@ module _ {s : List ℕ} {end : ℕ} {here : Here} {st : State} (n o b : Node) (n
   abbrev pub test-first : {a : State} → Fresh 2 st a → ReadyU s end here st → ReadyE s (b .start) here a
   test-first {a} e y = let u = test-is y in
       sub encode depth FineE y keeps-all (b .start) (y .lo) here a (u .test) (u .lies) (test-start y) (omega arith)
-      (omega (arith, test-start y, u .ends)) refl refl
-      (omega (arith, y .height, y .ends, u .ends)) (omega (arith, y .label, y .ends, u .ends, e .label)) (omega (arith, e .label)) (test-deep y .0)
-      (test-fine y .0)
+      (omega (arith, test-start y, u .ends)) refl refl (omega (arith, y .height, y .ends, u .ends))
+      (omega (arith, y .label, y .ends, u .ends, e .label)) (omega (arith, e .label)) (test-deep y .0) (test-fine y .0)
 
   module _ (text : List ℕ) {s₁ t t₁ t₂ : List ℕ} {a c d : State} (e : Fresh 2 st a) (g : GaveE text s s₁ (b .start) here t t₁ a c)
       (f : Emits (G.FL (st .label) ∷ []) [] t₁ t₂ c d) where
@@ -116,9 +114,8 @@ module _ {s : List ℕ} {end : ℕ} {here : Here} {st : State} (n o b : Node) (n
       abbrev pub test-rest : ReadyU s end here st → ReadyC s₂ (n .inner) here k
       test-rest y = let u = test-is y in let x = g .by (test-first e y) in let z = g₂ .by (test-body y) in
           sub encodeCommand commandDepth FineC y (keeps-then (x .keeps) (z .keeps)) (n .inner)
-          (y .lo + length (encode (u .test)) + length (encodeCommand (u .body))) here k (u .other) (u .lies-other)
-          (omega (arith, nd .inner, u .ends)) (omega arith) (omega (arith, nd .inner)) refl refl
-          (omega (arith, y .height, y .ends, u .ends))
+          (y .lo + length (encode (u .test)) + length (encodeCommand (u .body))) here k (u .other) (u .lies-other) (omega (arith, nd .inner, u .ends))
+          (omega arith) (omega (arith, nd .inner)) refl refl (omega (arith, y .height, y .ends, u .ends))
           (omega (arith, y .label, y .ends, u .ends, e .label, x .did .few, f .label, z .did .few, f₂ .label, f₃ .label))
           (omega (arith, e .label, x .did .grows, f .label, z .did .grows, f₂ .label, f₃ .label)) (test-deep y .2) (test-fine y .2)
 
@@ -128,9 +125,8 @@ module _ {s : List ℕ} {end : ℕ} {here : Here} {st : State} (n o b : Node) (n
       test-gave {s₃} {t₆} {t₇} {l} {r} g₃ f₄ = record {
         by = λ y.
             let u = test-is y in let x = g .by (test-first e y) in let z = g₂ .by (test-body y) in let v = g₃ .by (test-rest y) in
-            let sc = y .scope in let h = here .height in
-            let E = expression text sc h (u .test) in let C = command text sc h (u .body) in let D = command text sc h (u .other) in
-            let L = st .label in let S = here .strings in let w = exits ways in
+            let sc = y .scope in let h = here .height in let E = expression text sc h (u .test) in let C = command text sc h (u .body) in
+            let D = command text sc h (u .other) in let L = st .label in let S = here .strings in let w = exits ways in
             let m : L + 2 + (G.exprLabels E + G.cmdLabels C) ≡ L + 2 + G.exprLabels E + G.cmdLabels C = omega arith in
             subst (λ (p : Unlabelled). Result (inUnlabelled text sc (leavableBy ways here) h p) (cmdSays here ways (unlabelled text sc h p))
             (length (encodeUnlabelled (y .tree))) (y .base) here s s₃ t t₇ st r) (sym (u .same))
@@ -195,9 +191,8 @@ module _ {s : List ℕ} {end : ℕ} {here : Here} {st : State} (n b : Node) (nd 
     abbrev pub while-test : ReadyU s end here st → ReadyE s (b .start) here c
     while-test y = let u = while-is y in
         sub encode depth FineE y keeps-all (b .start) (y .lo) here c (u .test) (u .lies) (while-middle y) (omega arith)
-        (omega (arith, while-middle y, u .ends)) refl refl
-        (omega (arith, y .height, y .ends, u .ends)) (omega (arith, y .label, y .ends, u .ends, e .label, m .label))
-        (omega (arith, e .label, m .label)) (while-deep y .0) (while-fine y .0)
+        (omega (arith, while-middle y, u .ends)) refl refl (omega (arith, y .height, y .ends, u .ends))
+        (omega (arith, y .label, y .ends, u .ends, e .label, m .label)) (omega (arith, e .label, m .label)) (while-deep y .0) (while-fine y .0)
 
     module _ (text : List ℕ) {s₁ t₂ t₃ : List ℕ} {d i : State} {j : ℕ} (g : GaveE text s s₁ (b .start) here t₁ t₂ c d)
         (f : Emits (G.to j (st .label + 1) ∷ []) [] t₂ t₃ d i) where
@@ -215,9 +210,8 @@ module _ {s : List ℕ} {end : ℕ} {here : Here} {st : State} (n b : Node) (nd 
       while-gave ways {s₂} {t₄} {t₅} {t₆} {k} {l} {r} ej g₂ f₂ f₃ = record {
         by = λ y.
             let u = while-is y in let x = g .by (while-test y) in let z = g₂ .by (while-body y) in let sc = y .scope in let h = here .height in
-            let L = st .label in let S = here .strings in
-            let E = expression text sc h (u .test) in let C = command text sc h (u .body) in let W = getD s (end - 1) 0 in
-            let lv = leavableBy ways here in let w′ = exits (inLoop L (L + 1) ways) in
+            let L = st .label in let S = here .strings in let E = expression text sc h (u .test) in let C = command text sc h (u .body) in
+            let W = getD s (end - 1) 0 in let lv = leavableBy ways here in let w′ = exits (inLoop L (L + 1) ways) in
             let em = ap (unlabelled text sc h) (u .same) ∙ while-means text sc h w (u .test) (u .body) in
             let ef = ap (inUnlabelled text sc lv h) (u .same) ∙ while-faults text sc lv h w (u .test) (u .body) in
             let jj : j ≡ cond (eqb W K.WHILE) 5 4 = ej ∙ ap (λ (v : ℕ). cond (eqb v K.WHILE) 5 4) (nd .kind) in
@@ -228,17 +222,13 @@ module _ {s : List ℕ} {end : ℕ} {here : Here} {st : State} (n b : Node) (nd 
                   (did-fresh e
                   (did-after m (did-put (did-then (did-put (with-ways text sc here ways h (u .test) (x .did)) f) (z .did)) (emits-then f₂ f₃))))
                   (same-eq (ap (λ (p : Leavable). inExpression text sc lv h (u .test) ++ inCommand text sc p h (u .body)) lo ∙ sym ef))
-                  (λ v. code-is
-                  (ap (λ (p : List I.Item). I.label L ∷ p)
+                  (λ v. code-is (ap (λ (p : List I.Item). I.label L ∷ p)
                   (append-assoc (G.exprCode S h (L + 2) E ++ (G.to j (L + 1) ∷ [])) (G.cmdCode S h (L + 2 + G.exprLabels E) w′ C)
-                  (G.JL L ∷ I.label (L + 1) ∷ [])
-                  ∙ append-assoc (G.exprCode S h (L + 2) E) (G.to j (L + 1) ∷ [])
-                  (G.cmdCode S h (L + 2 + G.exprLabels E) w′ C ++ (G.JL L ∷ I.label (L + 1) ∷ []))
-                  ∙ ap (λ (v : ℕ). G.exprCode S h (L + 2) E
-                  ++ (G.to v (L + 1) ∷ (G.cmdCode S h (L + 2 + G.exprLabels E) w′ C ++ (G.JL L ∷ I.label (L + 1) ∷ [])))) jj)
-                  ∙ ap (G.cmdCode S h L (exits ways)) (sym em))
-                  (ap (ofCmd h) (sym em))
-                  (omega (arith, ap G.cmdLabels em)))
+                  (G.JL L ∷ I.label (L + 1) ∷ []) ∙ append-assoc (G.exprCode S h (L + 2) E) (G.to j (L + 1) ∷ [])
+                  (G.cmdCode S h (L + 2 + G.exprLabels E) w′ C ++ (G.JL L ∷ I.label (L + 1) ∷ [])) ∙ ap
+                  (λ (v : ℕ). G.exprCode S h (L + 2) E
+                  ++ (G.to v (L + 1) ∷ (G.cmdCode S h (L + 2 + G.exprLabels E) w′ C ++ (G.JL L ∷ I.label (L + 1) ∷ [])))) jj) ∙ ap
+                  (G.cmdCode S h L (exits ways)) (sym em)) (ap (ofCmd h) (sym em)) (omega (arith, ap G.cmdLabels em)))
                   (omega (arith, y .ends, u .ends));
             };
       }

@@ -46,8 +46,7 @@ pub item-first : {s : List ℕ} {at end tag n : ℕ} (w rest : List ℕ) → Lie
     → end ≡ at + length (length w ∷ tag ∷ (w ++ rest))
     → (Lies s (at + 2 + length w) rest → end ≡ at + 2 + length w + length rest → Items s end (at + 2 + length w) n) → Items s end at (suc n)
 item-first {s} {at} {end} {tag} {n} w rest h e f =
-    let a : at + 0 ≡ at = omega arith in
-    let z : getD s at 0 ≡ length w = ap (λ (k : ℕ). getD s k 0) (sym a) ∙ h .at 0 (omega arith) in
+    let a : at + 0 ≡ at = omega arith in let z : getD s at 0 ≡ length w = ap (λ (k : ℕ). getD s k 0) (sym a) ∙ h .at 0 (omega arith) in
     let r = second (length w ∷ tag ∷ []) (w ++ rest) (at + 2) h refl in
     let q = f (second w rest (at + 2 + length w) r refl) (omega (arith, length-append w rest)) in
     anItem {from = at} (omega (arith, length-append w rest)) (subst (λ (x : ℕ). Items s end (at + 2 + x) n) (sym z) q)

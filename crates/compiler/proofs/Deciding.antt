@@ -90,9 +90,7 @@ byKey source k = C.Refused (refusal source (k % 32) (k / 32))
 
 key-refusal : (source : List ℕ) (f : Fault) → Fits f → byKey source (key f) ≡ C.Refused (refusal source (f .number) (f .place))
 key-refusal source f a =
-    let n : key f % 32 ≡ f .number = omega (arith, a .number) in
-    let p : key f / 32 ≡ f .place = omega (arith, a .number) in
-    rw (n, p) refl
+    let n : key f % 32 ≡ f .number = omega (arith, a .number) in let p : key f / 32 ≡ f .place = omega (arith, a .number) in rw (n, p) refl
 
 -- faults by their least key, and else what else is answered
 by-least : (source : List ℕ) (k size room : ℕ) (fs : List Fault) → AllFit fs → k ≡ least NONE fs → (other : Compiled) (rest : Refused)
@@ -101,8 +99,7 @@ by-least : (source : List ℕ) (k size room : ℕ) (fs : List Fault) → AllFit 
 unfolding least
 by-least source k size room [] a e other rest o = rw e (o refl)
 by-least source k size room (f ∷ fs) (andFit p n h) e other rest o =
-    let z : k ≡ key (leastFrom f fs) = e ∙ least-first f fs (andFit p n h) in
-    let x = least-fits f fs (record { place = p; number = n }) h in
+    let z : k ≡ key (leastFrom f fs) = e ∙ least-first f fs (andFit p n h) in let x = least-fits f fs (record { place = p; number = n }) h in
     let below : key (leastFrom f fs) < NONE = omega (arith, x .place, x .number) in
     rw (z, lt-ltb (key (leastFrom f fs)) NONE below) (key-refusal source (leastFrom f fs) x)
 
@@ -123,17 +120,14 @@ by-start source false start at size room e h = rw e refl
 
 -- the answer by the least keys is that of the rules: 8 to 13, 16, 14, and 15 where the text is too long
 pub decides : (source : List ℕ) (fs hs : List Fault) (b : Bool) (worst tall start at room : ℕ) → AllFit fs → AllFit hs → worst ≡ least NONE fs
-    → (fs ≡ [] → tall ≡ least NONE hs)
-    → (fs ≡ [] → eqb start 0 ≡ not b) → (fs ≡ [] → at ≡ upto room (length (textOf source)))
-    → byKeys source worst tall start at room ≡ answerOf source
-    (unlessFits (length (textOf source)) room (leastOr fs (leastOr hs (cond b accepted (refused 14 0)))))
+    → (fs ≡ [] → tall ≡ least NONE hs) → (fs ≡ [] → eqb start 0 ≡ not b) → (fs ≡ [] → at ≡ upto room (length (textOf source))) → byKeys source worst
+    tall start at room ≡ answerOf source (unlessFits (length (textOf source)) room (leastOr fs (leastOr hs (cond b accepted (refused 14 0)))))
 unfolding byKeys
 decides source fs hs b worst tall start at room f h w t s e =
-    let size : ℕ = length (textOf source) in
-    let last : Refused = cond b accepted (refused 14 0) in
+    let size : ℕ = length (textOf source) in let last : Refused = cond b accepted (refused 14 0) in
     by-least source worst size room fs f w _ (leastOr hs last)
-    (λ z. by-least source tall size room hs h (t z) _ last (λ _. by-start source b start at size room (s z) (e z)))
-    ∙ same-answer source (unlessFits size room (leastOr fs (leastOr hs last)))
+    (λ z. by-least source tall size room hs h (t z) _ last (λ _. by-start source b start at size room (s z) (e z))) ∙ same-answer source
+    (unlessFits size room (leastOr fs (leastOr hs last)))
 
 -- ---- `byKeys`, case by case
 

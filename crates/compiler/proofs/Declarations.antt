@@ -106,12 +106,9 @@ module _ (text : List ℕ) {s₀ : List ℕ} {from end top height : ℕ} {st₀ 
       let u = is-names (p .rest) (p .lies) (p .ends) l in
       let n : nameAt s at ≡ u .name = keeps-name (p .keeps) (omega (arith, y .above, p .starts)) ∙ u .is in
       let c : k + 1 + length (u .more) ≡ length (y .names) = omega (arith, p .many, ap length (u .same)) in
-      let rm : top + 2 * k + 2 ≤ y .base = omega (arith, y .room, c) in
-      let lg : y .base ≤ length s = omega (arith, y .long, p .keeps .long) in
-      let w = N.local (height + k) in
-      let hk : height + (k + 1) ≡ height + k + 1 = omega arith in
-      let tk : top + 2 * k + 2 ≡ top + 2 * (k + 1) = omega arith in
-      let sc = p .scope in let sc′ = declared sc (u .name) w in
+      let rm : top + 2 * k + 2 ≤ y .base = omega (arith, y .room, c) in let lg : y .base ≤ length s = omega (arith, y .long, p .keeps .long) in
+      let w = N.local (height + k) in let hk : height + (k + 1) ≡ height + k + 1 = omega arith in
+      let tk : top + 2 * k + 2 ≡ top + 2 * (k + 1) = omega arith in let sc = p .scope in let sc′ = declared sc (u .name) w in
       record {
         rest = u .more;
         scope = sc′;

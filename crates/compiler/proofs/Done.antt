@@ -166,8 +166,7 @@ module _ {fs : List Fault} {f : ℕ → Code} {m : ℕ} {t t₁ t₂ : List ℕ}
     few = omega (arith, x .few, y .few);
     grows = omega (arith, x .grows, y .grows);
     clean = λ n.
-        let w = x .clean (nil-left fs gs n) in
-        let v = subst (λ (z : ℕ). Wrote (g z) t₁ t₂ a b) (w .label) (y .clean (nil-right fs gs n)) in
+        let w = x .clean (nil-left fs gs n) in let v = subst (λ (z : ℕ). Wrote (g z) t₁ t₂ a b) (w .label) (y .clean (nil-right fs gs n)) in
         let l = f (st .label) .labels in
         record {
           text = puts-as (puts-then (w .text) (v .text)) (lines-then (f (st .label) .items) (g (st .label + l) .items));
@@ -242,8 +241,7 @@ unfolding least
 least-min x k [] = refl
 least-min x k (f ∷ a) =
     let e : cond (ltb (key f) (min x k)) (key f) (min x k) ≡ min (cond (ltb (key f) x) (key f) x) k = step-min (key f) (min x k) ∙ omega arith ∙ ap
-    (λ (z : ℕ). min z k) (sym (step-min (key f) x)) in
-    ap (λ (z : ℕ). least z a) e ∙ least-min (cond (ltb (key f) x) (key f) x) k a
+    (λ (z : ℕ). min z k) (sym (step-min (key f) x)) in ap (λ (z : ℕ). least z a) e ∙ least-min (cond (ltb (key f) x) (key f) x) k a
 
 least-swap : (x : ℕ) (a b : List Fault) → least x (a ++ b) ≡ least x (b ++ a)
 unfolding least

@@ -119,8 +119,7 @@ module _ {place : ℕ} {seen seen′ : List ℕ} {st r : State} {ls : List CaseL
   default-did = note-did n (hasDefault ls) (omega (arith, m .long)) (m .default)
 
 pub note-first : {i place x p : ℕ} {seen seen′ : List ℕ} {st : State} → i / 8 < length seen → x ≡ getD seen (i / 8) 0 → p ≡ 2 ^ (i % 8)
-    → x / p % 2 ≡ 0 → seen′ ≡ set seen (i / 8) (x + p)
-    → Notes i place seen seen′ st st
+    → x / p % 2 ≡ 0 → seen′ ≡ set seen (i / 8) (x + p) → Notes i place seen seen′ st st
 note-first {i} {place} {x} {p} {seen = seen} {seen′} l ex ep z e = record {
   long = ap length e ∙ length-set seen (i / 8) (x + p);
   here = λ a. ap (λ (y : List ℕ). flag y i) e ∙ flag-here seen i ex ep z l;

@@ -84,8 +84,7 @@ module _ (text : List ℕ) {s t t′ : List ℕ} {end : ℕ} {here : Here} {st r
     where
       leaf : (z : Name) → getD s (end - 3) 0 ≡ z .width → getD s (end - 2) 0 ≡ z .place → 4 ≤ end → nameAt s (n .inner) ≡ z
       leaf z w p l =
-          let a : n .inner + 2 ≡ end - 2 = omega (arith, nd .inner) in
-          let b : n .inner + 1 ≡ end - 3 = omega (arith, nd .inner) in
+          let a : n .inner + 2 ≡ end - 2 = omega (arith, nd .inner) in let b : n .inner + 1 ≡ end - 3 = omega (arith, nd .inner) in
           ap (λ (k : ℕ). named k (getD s (n .inner + 1) 0)) (ap (λ (k : ℕ). getD s k 0) a ∙ p) ∙ ap (λ (k : ℕ). named (z .place) k)
           (ap (λ (k : ℕ). getD s k 0) b ∙ w)
 
@@ -103,9 +102,8 @@ module _ {s : List ℕ} {end : ℕ} {here : Here} {st : State} (n : Node) (nd : 
   abbrev pub bracket-part : ReadyE s end here st → ReadyE s (n .inner) (inside here) st
   bracket-part y = let u = is-bracket (find n nd q y) in
       sub encode depth FineE y keeps-all (n .inner) (y .lo) (inside here) st (u .part) (u .lies) (omega (arith, nd .inner, u .ends)) (omega arith)
-      (omega (arith, nd .inner)) refl refl
-      (omega (arith, y .height, y .ends, u .ends)) (omega (arith, y .label, y .ends, u .ends)) (y .some) (omega (arith, shallower y (u .same)))
-      (bracket-fine y (u .same))
+      (omega (arith, nd .inner)) refl refl (omega (arith, y .height, y .ends, u .ends)) (omega (arith, y .label, y .ends, u .ends)) (y .some)
+      (omega (arith, shallower y (u .same))) (bracket-fine y (u .same))
 
   pub bracket-gave : (text : List ℕ) {s′ t t′ : List ℕ} {r : State} → GaveE text s s′ (n .inner) (inside here) t t′ st r
       → GaveE text s s′ end here t t′ st r
@@ -123,15 +121,12 @@ module _ (text : List ℕ) (sc : Scope) (strings h : ℕ) where
   unfolding operations chainCode exprCode exprLabels
   chain-items e T.noOperations n = sym (append-nil (exprCode strings h n e))
   chain-items e (T.operation o d os) n =
-      let D = expression text sc (h + 1) d in
-      let a = exprCode strings h n e in
-      let b = exprCode strings (h + 1) (n + exprLabels e) D in
+      let D = expression text sc (h + 1) d in let a = exprCode strings h n e in let b = exprCode strings (h + 1) (n + exprLabels e) D in
       let z = G.SP (h + 1) ∷ G.LIP h ∷ G.LIP (h + 1) ∷ G.X (G.dyadicAct o) ∷ [] in
       let k : n + (exprLabels e + exprLabels D) ≡ n + exprLabels e + exprLabels D = omega arith in
-      chain-items (R.binary o e D) os n
-      ∙ append-assoc a (G.SP h ∷ (b ++ z)) (chainCode text sc strings h os (n + (exprLabels e + exprLabels D)))
-      ∙ ap (λ (l : List I.Item). a ++ (G.SP h ∷ l)) (append-assoc b z (chainCode text sc strings h os (n + (exprLabels e + exprLabels D))))
-      ∙ ap (λ (m : ℕ). a ++ (G.SP h ∷ (b ++ (G.SP (h + 1) ∷ G.LIP h ∷ G.LIP (h + 1) ∷ G.X (G.dyadicAct o) ∷ chainCode text sc strings h os m)))) k
+      chain-items (R.binary o e D) os n ∙ append-assoc a (G.SP h ∷ (b ++ z)) (chainCode text sc strings h os (n + (exprLabels e + exprLabels D))) ∙ ap
+      (λ (l : List I.Item). a ++ (G.SP h ∷ l)) (append-assoc b z (chainCode text sc strings h os (n + (exprLabels e + exprLabels D)))) ∙ ap
+      (λ (m : ℕ). a ++ (G.SP h ∷ (b ++ (G.SP (h + 1) ∷ G.LIP h ∷ G.LIP (h + 1) ∷ G.X (G.dyadicAct o) ∷ chainCode text sc strings h os m)))) k
 
   pub chain-heights : (e : Expr) (os : Operations) → ofExpr h (operations text sc h e os) ≡ ofExpr h e ++ chainHeights text sc h os
   unfolding operations chainHeights ofExpr
@@ -171,9 +166,8 @@ module _ {s : List ℕ} {end : ℕ} {here : Here} {st : State} (n : Node) (nd : 
   abbrev pub dyadic-left : ReadyE s end here st → ReadyE s middle (inside here) st
   dyadic-left y = let u = is-dyadic (find n nd q y) in
       sub encode depth FineE y keeps-all middle (y .lo) (inside here) st (u .left) (u .lies) (middle-is y) (omega arith)
-      (omega (arith, middle-is y, u .ends)) refl refl
-      (omega (arith, y .height, y .ends, u .ends)) (omega (arith, y .label, y .ends, u .ends)) (y .some) (omega (arith, deep-left y (u .same) .0))
-      (dyadic-fine y (u .same) .0)
+      (omega (arith, middle-is y, u .ends)) refl refl (omega (arith, y .height, y .ends, u .ends)) (omega (arith, y .label, y .ends, u .ends))
+      (y .some) (omega (arith, deep-left y (u .same) .0)) (dyadic-fine y (u .same) .0)
 
   module _ (text : List ℕ) {s₁ t t₁ : List ℕ} {a : State} (g : GaveE text s s₁ middle (inside here) t t₁ st a) where
     abbrev pub dyadic-rest : ReadyE s end here st → ReadyChain s₁ middle (n .inner) (inside here) a
@@ -266,31 +260,25 @@ module _ (text t₀ : List ℕ) {s₀ : List ℕ} {from end : ℕ} {here : Here}
     chain-part {a} ea y p = let z = y .ready in let u = item z (y .starts) l es en p in let e = one-size z (y .starts) l es en p in
         let n = rest-length z (y .starts) l es en p in
         sub encode depth FineE z (p .keeps) next (at + 2) (raised 1 here) a (u .part .operand) (u .lies) (omega (arith, e))
-        (omega (arith, y .starts, p .starts))
-        (omega (arith, e, u .ends)) refl refl (omega (arith, z .height, p .height, n)) (omega (arith, z .label, p .label, n)) (omega (arith, p .some))
-        (both-deep z (y .starts) l es en p .0) (both-fine z (y .starts) l es en p .0)
+        (omega (arith, y .starts, p .starts)) (omega (arith, e, u .ends)) refl refl (omega (arith, z .height, p .height, n))
+        (omega (arith, z .label, p .label, n)) (omega (arith, p .some)) (both-deep z (y .starts) l es en p .0) (both-fine z (y .starts) l es en p .0)
 
     pub chain-next : {act : ℕ} {s₁ t₁ t₂ t₃ : List ℕ} {a b r : State} → act ≡ G.dyadicAct o
-        → Emits (G.SP (here .height) ∷ []) ((here .height + 1) ∷ []) t t₁ st a
-        → GaveE text s s₁ next (raised 1 here) t₁ t₂ a b
-        → Emits (G.SP (here .height + 1) ∷ G.LIP (here .height) ∷ G.LIP (here .height + 1) ∷ G.X act ∷ []) [] t₂ t₃ b r
+        → Emits (G.SP (here .height) ∷ []) ((here .height + 1) ∷ []) t t₁ st a → GaveE text s s₁ next (raised 1 here) t₁ t₂ a b → Emits
+        (G.SP (here .height + 1) ∷ G.LIP (here .height) ∷ G.LIP (here .height + 1) ∷ G.X act ∷ []) [] t₂ t₃ b r
         → (y : ReadyChain s₀ from end here st₀) → ChainPart y s t at st → ChainPart y s₁ t₃ next r
     unfolding inOperations chainCode chainHeights chainLabels
     chain-next {act} ea e g f y p =
         let z = y .ready in let u = item z (y .starts) l es en p in let x = g .by (chain-part (e .label) y p) in let sc = z .scope in
-        let h = here .height in
-        let n = rest-length z (y .starts) l es en p in let D = expression text sc (h + 1) (u .part .operand) in
+        let h = here .height in let n = rest-length z (y .starts) l es en p in let D = expression text sc (h + 1) (u .part .operand) in
         let op : act ≡ G.dyadicAct (u .part .operator) = ea ∙ ap G.dyadicAct (one-word z (y .starts) l es en p eo) in
         goes-on z (y .starts) l es en p (x .keeps) (omega arith) (omega (arith, x .did .few, e .label, f .label))
-        (omega (arith, p .some, x .did .grows, e .label, f .label))
-        (λ t′ st′ d. did-as _ _ (did-after e (did-then (did-put (x .did) f) d)) same-refl
-        (λ k c. code-is
-        (ap (λ (l : List I.Item). G.SP h ∷ l)
+        (omega (arith, p .some, x .did .grows, e .label, f .label)) (λ t′ st′ d. did-as _ _ (did-after e (did-then (did-put (x .did) f) d)) same-refl
+        (λ k c. code-is (ap (λ (l : List I.Item). G.SP h ∷ l)
         (append-assoc (exprCode (here .strings) (h + 1) k D) (G.SP (h + 1) ∷ G.LIP h ∷ G.LIP (h + 1) ∷ G.X act ∷ [])
-        (chainCode text sc (here .strings) h (u .more) (k + exprLabels D))
-        ∙ ap (λ (v : ℕ). exprCode (here .strings) (h + 1) k D
-        ++ (G.SP (h + 1) ∷ G.LIP h ∷ G.LIP (h + 1) ∷ G.X v ∷ chainCode text sc (here .strings) h (u .more) (k + exprLabels D))) op))
-        refl refl)
+        (chainCode text sc (here .strings) h (u .more) (k + exprLabels D)) ∙ ap
+        (λ (v : ℕ). exprCode (here .strings) (h + 1) k D
+        ++ (G.SP (h + 1) ∷ G.LIP h ∷ G.LIP (h + 1) ∷ G.X v ∷ chainCode text sc (here .strings) h (u .more) (k + exprLabels D))) op)) refl refl)
         (omega arith))
 
   pub chain-end : {s t : List ℕ} {at : ℕ} {st : State} → end ≤ at → ((y : ReadyChain s₀ from end here st₀) → ChainPart y s t at st)

@@ -72,10 +72,9 @@ module _ (seen : List ℕ) (i : ℕ) {x p : ℕ} (ex : x ≡ getD seen (i / 8) 0
     where
       go : (b : Bool) → eqb (k / 8) (i / 8) ≡ b → flag (set seen (i / 8) (x + p)) k ≡ flag seen k
       go true q = let j : k / 8 ≡ i / 8 = eqb-true (k / 8) (i / 8) q in
-          ap (λ (y : ℕ). bit (getD (set seen (i / 8) (x + p)) y 0) (k % 8)) j
-          ∙ ap (λ (y : ℕ). bit y (k % 8)) (getD-set-same seen (i / 8) (x + p) 0 l ∙ ap (λ (y : ℕ). x + y) ep)
-          ∙ more-other x (i % 8) (k % 8) (λ z. n (omega arith)) (ap (λ (y : ℕ). x / y % 2) (sym ep) ∙ e)
-          ∙ ap (λ (y : ℕ). bit y (k % 8)) (ex ∙ ap (λ (y : ℕ). getD seen y 0) (sym j))
+          ap (λ (y : ℕ). bit (getD (set seen (i / 8) (x + p)) y 0) (k % 8)) j ∙ ap (λ (y : ℕ). bit y (k % 8))
+          (getD-set-same seen (i / 8) (x + p) 0 l ∙ ap (λ (y : ℕ). x + y) ep) ∙ more-other x (i % 8) (k % 8) (λ z. n (omega arith))
+          (ap (λ (y : ℕ). x / y % 2) (sym ep) ∙ e) ∙ ap (λ (y : ℕ). bit y (k % 8)) (ex ∙ ap (λ (y : ℕ). getD seen y 0) (sym j))
       go false q = ap (λ (y : ℕ). bit y (k % 8)) (getD-set-other seen (i / 8) (k / 8) (x + p) 0 (eqb-false (k / 8) (i / 8) q))
 
 pub flag-taken : (seen : List ℕ) (i : ℕ) → (flag seen i ≡ 0 → ⊥) → flag seen i ≡ 1

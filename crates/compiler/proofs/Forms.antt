@@ -71,9 +71,8 @@ leave-word w m =
 module _ (s : List ℕ) (lo end : ℕ) where
   pub data Form : ℕ → Unlabelled → Type 0 where
     anAssignment : {ls rs : Expressions} → Lies s lo (encodeSides ls ++ encodeExpressions rs) → getD s (end - 3) 0 ≡ length (encodeFirst ls)
-        → getD s (end - 2) 0 ≡ length (encodeSides ls)
-        → getD s (end - 4) 0 ≡ length (encodeSides ls ++ encodeExpressions rs) → end ≡ lo + length (encodeSides ls ++ encodeExpressions rs) + 4
-        → Form K.ASSIGN (T.assignment ls rs)
+        → getD s (end - 2) 0 ≡ length (encodeSides ls) → getD s (end - 4) 0 ≡ length (encodeSides ls ++ encodeExpressions rs) → end ≡ lo + length
+        (encodeSides ls ++ encodeExpressions rs) + 4 → Form K.ASSIGN (T.assignment ls rs)
     aCall : {e : Expression} → Lies s lo (encode e) → end ≡ lo + length (encode e) → isCall e ≡ true → Form O.CALLED (T.callCommand e)
     aTest : {e : Expression} {c d : Command} → Lies s lo (encode e ++ (encodeCommand c ++ encodeCommand d))
         → end ≡ lo + length (encode e ++ (encodeCommand c ++ encodeCommand d)) + 4 → Form K.TEST (T.test e c d)
@@ -86,9 +85,8 @@ module _ (s : List ℕ) (lo end : ℕ) where
     anUntil : {e : Expression} {c : Command} → Lies s lo (encode e ++ encodeCommand c) → end ≡ lo + length (encode e ++ encodeCommand c) + 4
         → Form K.UNTIL (T.guarded K.UNTIL e c)
     aFor : {n : Name} {e d : Expression} {k : Option Constant} {c : Command}
-        → Lies s lo (encodeName n ++ (encode e ++ (encode d ++ (encodeBy k ++ encodeCommand c))))
-        → getD s (end - 3) 0 ≡ length (encodeBy k)
-        → end ≡ lo + length (encodeName n ++ (encode e ++ (encode d ++ (encodeBy k ++ encodeCommand c)))) + 4 → Form K.FOR (T.for n e d k c)
+        → Lies s lo (encodeName n ++ (encode e ++ (encode d ++ (encodeBy k ++ encodeCommand c)))) → getD s (end - 3) 0 ≡ length (encodeBy k) → end
+        ≡ lo + length (encodeName n ++ (encode e ++ (encode d ++ (encodeBy k ++ encodeCommand c)))) + 4 → Form K.FOR (T.for n e d k c)
     aSwitch : {e : Expression} {cs : Commands} → Lies s lo (encode e ++ encodeCommands cs) → getD s (end - 3) 0 ≡ length (encode e)
         → end ≡ lo + length (encode e ++ encodeCommands cs) + 4 → Form K.SWITCHON (T.switchon e cs)
     aResult : {p : ℕ} {e : Expression} → getD s (end - 2) 0 ≡ p → Lies s lo (encode e) → end ≡ lo + length (encode e) + 4

@@ -67,8 +67,7 @@ is-for : {s : List ℕ} {lo end : ℕ} {u : Unlabelled} → Form s lo end K.FOR 
 unfolding encodeName
 is-for {s} {lo} (F.aFor {n} {e} {d} {k} {c} h v q) =
     let a = encode e in let b = encode d in let g = encodeBy k in let i = encodeCommand c in
-    let r₁ = second (encodeName n) (a ++ (b ++ (g ++ i))) (lo + 4) h refl in
-    let r₂ = second a (b ++ (g ++ i)) (lo + 4 + length a) r₁ refl in
+    let r₁ = second (encodeName n) (a ++ (b ++ (g ++ i))) (lo + 4) h refl in let r₂ = second a (b ++ (g ++ i)) (lo + 4 + length a) r₁ refl in
     let r₃ = second b (g ++ i) (lo + 4 + length a + length b) r₂ refl in
     record {
       name = n;
@@ -162,9 +161,8 @@ module _ {s : List ℕ} {end : ℕ} {here : Here} {st : State} (n b l : Node) {l
   abbrev pub for-first : {a : State} → Fresh 3 st a → ReadyU s end here st → ReadyE s (l .start) here a
   for-first {a} e y = let u = for-is y in
       sub encode depth FineE y keeps-all (l .start) (y .lo + 4) here a (u .start) (u .lies-start) (for-limit-start y) (omega arith)
-      (omega (arith, for-limit-start y, u .ends)) refl refl
-      (omega (arith, y .height, y .ends, u .ends)) (omega (arith, y .label, y .ends, u .ends, e .label)) (omega (arith, e .label)) (for-deep y .0)
-      (for-fine y .0)
+      (omega (arith, for-limit-start y, u .ends)) refl refl (omega (arith, y .height, y .ends, u .ends))
+      (omega (arith, y .label, y .ends, u .ends, e .label)) (omega (arith, e .label)) (for-deep y .0) (for-fine y .0)
 
   module _ (text : List ℕ) {s₁ t t₁ t₂ : List ℕ} {a c d : State} (e : Fresh 3 st a) (g : GaveE text s s₁ (l .start) here t t₁ a c)
       (f : Emits (G.SP (here .height) ∷ []) ((here .height + 1) ∷ []) t₁ t₂ c d) where
@@ -255,16 +253,14 @@ module _ {s : List ℕ} {end : ℕ} {here : Here} {st : State} (n b l : Node) {l
         unfolding inUnlabelled unlabelled G.cmdCode ofCmd G.cmdLabels
         for-gave ways {s₅} {t₆} {t₇} {o} {r} g₃ f₄ = record {
           by = λ y.
-              let u = for-is y in let x = g .by (for-first e y) in let z = g₂ .by (for-limit y) in let w = g₃ .by (for-body y) in
-              let sc = y .scope in let h = here .height in let L = st .label in let S = here .strings in let lv = leavableBy ways here in
-              let sc′ = declared (opened sc) (u .name) (N.local h) in
-              let E = expression text sc h (u .start) in let D = expression text sc (h + 1) (u .limit) in
-              let C = command text sc′ (h + 2) (u .body) in let B = byOf text sc (u .by) in let w′ = exits (inLoop (L + 1) (L + 2) ways) in
-              let eb : v .word ≡ B = says-word (for-says y) ∙ by-word text sc (u .by) in
+              let u = for-is y in let x = g .by (for-first e y) in let z = g₂ .by (for-limit y) in let w = g₃ .by (for-body y) in let sc = y .scope in
+              let h = here .height in let L = st .label in let S = here .strings in let lv = leavableBy ways here in
+              let sc′ = declared (opened sc) (u .name) (N.local h) in let E = expression text sc h (u .start) in
+              let D = expression text sc (h + 1) (u .limit) in let C = command text sc′ (h + 2) (u .body) in let B = byOf text sc (u .by) in
+              let w′ = exits (inLoop (L + 1) (L + 2) ways) in let eb : v .word ≡ B = says-word (for-says y) ∙ by-word text sc (u .by) in
               let eh : h + 1 + 1 ≡ h + 2 = omega arith in
               let ec : L + 3 + (G.exprLabels E + G.exprLabels D) ≡ L + 3 + G.exprLabels E + G.exprLabels D = omega arith in
-              let ll = leaves-loop here ways (L + 1) (L + 2) (omega arith) in
-              let bf = bl .by (byJudged text sc (u .by)) (for-says y) t₄ in
+              let ll = leaves-loop here ways (L + 1) (L + 2) (omega arith) in let bf = bl .by (byJudged text sc (u .by)) (for-says y) t₄ in
               let EC = G.exprCode S h (L + 3) E in let DC = G.exprCode S (h + 1) (L + 3 + G.exprLabels E) D in
               let in₃ = (inExpression text sc lv h (u .start) ++ inExpression text sc lv (h + 1) (u .limit)) in
               subst (λ (i : Unlabelled). Result (inUnlabelled text sc lv h i) (cmdSays here ways (unlabelled text sc h i))
@@ -279,17 +275,16 @@ module _ {s : List ℕ} {end : ℕ} {here : Here} {st : State} (n b l : Node) {l
                     (ap (λ (i : List Fault). (in₃ ++ i) ++ inCommand text sc′ (leavableBy (inLoop (L + 1) (L + 2) ways) here) (h + 2) (u .body))
                     (by-faults text sc (u .by)) ∙ ap
                     (λ (i : Leavable). (in₃ ++ byFaults text sc (u .by)) ++ inCommand text sc′ i (h + 2) (u .body)) ll))
-                    (λ _. code-is
-                    (for-shape EC (G.SP h ∷ []) DC (G.SP (h + 1) ∷ []) (tests L h (v .word))
-                    (G.cmdCode S (h + 2) (L + 3 + (G.exprLabels E + G.exprLabels D)) w′ C) (steps L h (v .word))
-                    ∙ ap (λ (i : ℕ). EC
+                    (λ _. code-is (for-shape EC (G.SP h ∷ []) DC (G.SP (h + 1) ∷ []) (tests L h (v .word))
+                    (G.cmdCode S (h + 2) (L + 3 + (G.exprLabels E + G.exprLabels D)) w′ C) (steps L h (v .word)) ∙ ap
+                    (λ (i : ℕ). EC
                     ++ (G.SP h
                     ∷ (DC
-                    ++ (G.SP (h + 1) ∷ (tests L h i ++ (G.cmdCode S (h + 2) (L + 3 + (G.exprLabels E + G.exprLabels D)) w′ C ++ steps L h i)))))) eb
+                    ++
+                    (G.SP (h + 1) ∷ (tests L h i ++ (G.cmdCode S (h + 2) (L + 3 + (G.exprLabels E + G.exprLabels D)) w′ C ++ steps L h i)))))) eb
                     ∙ ap (λ (i : ℕ). EC ++ (G.SP h ∷ (DC ++ (G.SP (h + 1) ∷ (tests L h B ++ (G.cmdCode S (h + 2) i w′ C ++ steps L h B)))))) ec)
                     (heights-shape (ofExpr h E) ((h + 1) ∷ []) (ofExpr (h + 1) D) ((h + 1 + 1) ∷ []) (ofCmd (h + 2) C) ∙ ap
-                    (λ (i : ℕ). (ofExpr h E ++ ((h + 1) ∷ ofExpr (h + 1) D)) ++ (i ∷ ofCmd (h + 2) C)) eh)
-                    (omega arith))
+                    (λ (i : ℕ). (ofExpr h E ++ ((h + 1) ∷ ofExpr (h + 1) D)) ++ (i ∷ ofCmd (h + 2) C)) eh) (omega arith))
                     (omega (arith, y .ends, u .ends));
               });
         }

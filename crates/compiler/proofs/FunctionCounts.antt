@@ -74,8 +74,7 @@ module _ {s : List ℕ} {from end at n size word : ℕ} (l : at < end) (es : siz
       → ((d : Declaration) → word ≡ declaredWord d → Lies s (at + 2) (encodeDeclared d) → size ≡ length (encodeDeclared d) → m ≡ ownCount d)
       → Counted s from end (at + 2 + size) (n + m)
   onwards m own p h e =
-      let c = q p h e in
-      let u = is-declaration (c .rest) (c .lies) (c .ends) l in
+      let c = q p h e in let u = is-declaration (c .rest) (c .lies) (c .ends) l in
       let k : size ≡ length (encodeDeclared (u .part)) = es ∙ u .size-of in
       record {
         rest = u .more;
@@ -103,8 +102,7 @@ module _ {s : List ℕ} {from end at n size word : ℕ} (l : at < end) (es : siz
   -- a group never reaches past the end
   pub counted-past : end < at + 2 + size → Counted s from end (at + 2 + size) n
   counted-past g p h e =
-      let c = q p h e in let u = is-declaration (c .rest) (c .lies) (c .ends) l in
-      absurd (omega (arith, g, es, u .size-of, u .ends))
+      let c = q p h e in let u = is-declaration (c .rest) (c .lies) (c .ends) l in absurd (omega (arith, g, es, u .size-of, u .ends))
 
 pub counted-end : {s : List ℕ} {from end at n : ℕ} → end ≤ at → Counted s from end at n → CountsFunctions s from end n
 counted-end l q = record {

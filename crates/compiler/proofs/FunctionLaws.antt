@@ -148,17 +148,14 @@ module _ {s : List ℕ} {end : ℕ} {here : Here} {st : State} (n : Node) (nd : 
       function-gave {s₃} {t₂} {t₃} {d} {r} g pt = record {
         by = λ y.
             let f = y .tree in let sc = inside (y .scope) f in let w = de .by (function-names y) in let x = g .by (function-body y) in
-            let body = subst
-            (λ (k : ℕ). Did (bodyFaults text sc (2 + k) (f .body))
+            let body = subst (λ (k : ℕ). Did (bodyFaults text sc (2 + k) (f .body))
             (λ i. record {
               items = G.bodyCode (here .strings) (2 + k) i (bodyOf text sc (2 + k) (f .body));
               heights = ofBody (2 + k) (bodyOf text sc (2 + k) (f .body));
               labels = G.bodyLabels (bodyOf text sc (2 + k) (f .body));
             })
-            (2 * length (encodeBody (f .body))) t₁ t₂ c d)
-            (function-many y) (x .did) in
-            let top = subst (λ (k : ℕ). Emits [] ((2 + k) ∷ []) t₁ t₁ b c) (function-many y) (re .by t₁) in
-            let h = 2 + length (f .parameters) in let rb = bodyOf text sc h (f .body) in
+            (2 * length (encodeBody (f .body))) t₁ t₂ c d) (function-many y) (x .did) in let top = subst (λ (k : ℕ). Emits [] ((2 + k) ∷ []) t₁ t₁ b
+            c) (function-many y) (re .by t₁) in let h = 2 + length (f .parameters) in let rb = bodyOf text sc h (f .body) in
             record {
               keeps = keeps-then (function-keeps y) (keeps-lower (omega arith) (x .keeps));
               did =

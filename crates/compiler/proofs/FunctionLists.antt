@@ -83,10 +83,9 @@ code-then strings l n [] gs {k} {m} a b =
     let p : l ≡ k = omega arith in let q : n ≡ m = omega arith in
     ap (λ (z : ℕ). G.functionsCode strings z n gs) p ∙ ap (λ (z : ℕ). G.functionsCode strings k z gs) q
 code-then strings l n (f ∷ fs) gs {k} {m} a b =
-    let c = G.bodyCode strings (2 + f .parameters) n (f .body) in
-    let n′ = n + G.bodyLabels (f .body) in
-    ap (λ (z : List I.Item). I.label l ∷ c ++ (G.X 4 ∷ z)) (code-then strings (suc l) n′ fs gs (omega arith) (omega arith))
-    ∙ ap (λ (z : List I.Item). I.label l ∷ z) (sym (append-assoc c (G.X 4 ∷ G.functionsCode strings (suc l) n′ fs) (G.functionsCode strings k m gs)))
+    let c = G.bodyCode strings (2 + f .parameters) n (f .body) in let n′ = n + G.bodyLabels (f .body) in
+    ap (λ (z : List I.Item). I.label l ∷ c ++ (G.X 4 ∷ z)) (code-then strings (suc l) n′ fs gs (omega arith) (omega arith)) ∙ ap
+    (λ (z : List I.Item). I.label l ∷ z) (sym (append-assoc c (G.X 4 ∷ G.functionsCode strings (suc l) n′ fs) (G.functionsCode strings k m gs)))
 
 pub says-then : (strings l n : ℕ) (gs hs : List Named) {k : ℕ} → k ≡ l + length gs → let a = functionsSays strings l (funs gs) n in
     _≡_ {A = Code} (record {
@@ -117,8 +116,7 @@ yields-then {strings} {l} k {fs} {fs′} {gs} {gs′} {m} {m′} {t} {t₁} {t�
 }
 
 pub yields-as : {strings l : ℕ} {fs fs′ : List Fault} {gs gs′ : List Named} {m : ℕ} (m′ : ℕ) {t t′ : List ℕ} {d d′ : Done} → fs ≡ fs′ → gs ≡ gs′
-    → m ≤ m′
-    → Yields strings l fs gs m t t′ d d′ → Yields strings l fs′ gs′ m′ t t′ d d′
+    → m ≤ m′ → Yields strings l fs gs m t t′ d d′ → Yields strings l fs′ gs′ m′ t t′ d d′
 yields-as {strings} {l} {fs} {fs′} {gs} {gs′} {m} m′ {t} {t′} {d} {d′} a b c x =
     subst (λ (z : List Fault). Yields strings l z gs′ m′ t t′ d d′) a
     (subst (λ (z : List Named). Yields strings l fs z m′ t t′ d d′) b
@@ -147,15 +145,12 @@ abbrev namedBy : (text : List ℕ) (sc : Scope) (start : Start) → Function →
 namedBy text sc start f = record { name = f .name; fun = resolved text sc start f }
 
 pub yields-one : (text : List ℕ) (sc : Scope) (start : Start) (strings l : ℕ) (f : Function) {m tall tall′ place : ℕ} {t t′ : List ℕ} {st a r : State}
-    → Did (functionFaults text sc f) (functionSays text strings l sc f) m t t′ st a → st .high ≡ 0 → r ≡ flat a → place ≡ f .name .place
-    → place < 2 ^ 32
-    → tall′ ≡ least tall (cond (ltb 8192 (a .high)) (fault place 16) [])
-    → Yields strings l (functionFaults text sc f) (namedBy text sc start f ∷ []) m t t′ (record { tall = tall; state = st })
-    (record { tall = tall′; state = r })
+    → Did (functionFaults text sc f) (functionSays text strings l sc f) m t t′ st a → st .high ≡ 0 → r ≡ flat a → place ≡ f .name .place → place < 2 ^
+    32 → tall′ ≡ least tall (cond (ltb 8192 (a .high)) (fault place 16) []) → Yields strings l (functionFaults text sc f)
+    (namedBy text sc start f ∷ []) m t t′ (record { tall = tall; state = st }) (record { tall = tall′; state = r })
 unfolding funs G.functionsCode innerLabels heightFaults largestHeight heightsOf resolved
 yields-one text sc start strings l f {m} {tall} {tall′} {place} {t} {t′} {st} {a} {r} x low e ep small et =
-    let g = namedBy text sc start f in
-    let hf : ℕ → List Fault = λ h. cond (ltb 8192 h) (fault (f .name .place) 16) [] in
+    let g = namedBy text sc start f in let hf : ℕ → List Fault = λ h. cond (ltb 8192 h) (fault (f .name .place) 16) [] in
     record {
       did = did-as (functionsSays strings l (funs (g ∷ []))) m (did-flat low e x) same-refl (λ n c. code-is refl refl (omega arith)) (omega arith);
       tall = λ c.
@@ -313,18 +308,15 @@ module _ (text t₀ : List ℕ) {s₀ : List ℕ} {from end : ℕ} {here : Here}
     }
 
     pub group-next : {s₁ t₁ : List ℕ} {tall place : ℕ} {a r : State} → GaveF text s s₁ l next here t t₁ (d .state) a → place ≡ getD s₁ (at + 4) 0
-        → place < 2 ^ 32
-        → tall ≡ least (d .tall) (cond (ltb 8192 (a .high)) (fault place 16) []) → r ≡ flat a
-        → GroupPart y before k s₁ t₁ next (l + 1) (record { tall = tall; state = r })
+        → place < 2 ^ 32 → tall ≡ least (d .tall) (cond (ltb 8192 (a .high)) (fault place 16) []) → r ≡ flat a → GroupPart y before k s₁ t₁ next
+        (l + 1) (record { tall = tall; state = r })
     unfolding groupFaults groupOf
     group-next {s₁} {t₁} {tall} {place} {a} {r} g ep small et er =
-        let u = group-one in let f = u .part in let x = g .by group-ready in
-        let start = startOf (lookup text (p .scope) (f .name)) in
-        let n = namedBy text (y .scope) start f in
-        let q4 : at + 2 + 2 ≡ at + 4 = omega arith in
+        let u = group-one in let f = u .part in let x = g .by group-ready in let start = startOf (lookup text (p .scope) (f .name)) in
+        let n = namedBy text (y .scope) start f in let q4 : at + 2 + 2 ≡ at + 4 = omega arith in
         let one = yields-one text (y .scope) start (here .strings) l f (x .did) (p .low) er
-        (ep ∙ x .keeps .above (at + 4) (omega (arith, y .above, p .starts)) ∙ p .keeps .above (at + 4) (omega (arith, y .above, p .starts))
-        ∙ ap (λ (z : ℕ). getD s₀ z 0) (sym q4) ∙ function-place f (u .lies)) small et in
+        (ep ∙ x .keeps .above (at + 4) (omega (arith, y .above, p .starts)) ∙ p .keeps .above (at + 4) (omega (arith, y .above, p .starts)) ∙ ap
+        (λ (z : ℕ). getD s₀ z 0) (sym q4) ∙ function-place f (u .lies)) small et in
         record {
           rest = u .more;
           found = p .found ++ functionFaults text (y .scope) f;
@@ -365,11 +357,10 @@ module _ (text t₀ : List ℕ) {s₀ : List ℕ} {from end : ℕ} {here : Here}
   unfolding groupFaults groupOf
   group-end {s} {t} {at} {l} {d} lt q = record {
     by = λ y before k. let p = q y before k in let e = no-function (p .rest) (p .ends) lt in
-        let fe : p .found ≡ groupFaults text (y .scope) (y .functions) =
-        sym (append-nil (p .found)) ∙ ap (λ (z : List Function). p .found ++ groupFaults text (y .scope) z) (sym e) ∙ p .faults-are in
-        let me : p .made ≡ groupOf text k before (y .scope) (y .functions) =
-        sym (append-nil (p .made)) ∙ ap (λ (z : List Function). p .made ++ groupOf text (p .number) (p .scope) (y .scope) z) (sym e)
-        ∙ p .made-are in
+        let fe : p .found ≡ groupFaults text (y .scope) (y .functions) = sym (append-nil (p .found)) ∙ ap
+        (λ (z : List Function). p .found ++ groupFaults text (y .scope) z) (sym e) ∙ p .faults-are in
+        let me : p .made ≡ groupOf text k before (y .scope) (y .functions) = sym (append-nil (p .made)) ∙ ap
+        (λ (z : List Function). p .made ++ groupOf text (p .number) (p .scope) (y .scope) z) (sym e) ∙ p .made-are in
         let r = yields-as (2 * length (encodeFunctions (y .functions))) fe me (omega (arith, p .uses)) (p .yields) in
         record { result = record { keeps = p .keeps; did = r .did }; tall = r .tall; fits = r .fits; low = p .low };
   }

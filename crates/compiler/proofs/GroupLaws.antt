@@ -101,9 +101,8 @@ unfolding found code
 enters-global {s} {table} {table′} {top} {leaf} {m} {k} {n} {v} e en ev et = record { long = (refl, ap length et ∙ length-set table n v); by = by }
   where
     by : (f : N.Found) (base : ℕ) (sc : Scope) (ns : List ℕ) (name : Name) → m ≡ found f → Shows s top sc → base ≤ length s → top + 2 ≤ base
-        → nameAt s leaf ≡ name → Taken table ns → ((i : ℕ) → f ≡ N.known (N.global i) → i < 400)
-        → Shows s top (withFunction sc name k (startOf f)) × Keeps base top s s × Taken table′ (alsoTaken (startOf f) ns) × (top ≤ top)
-        × (top ≤ top + 2) × (table′ ≡ started table k (startOf f))
+        → nameAt s leaf ≡ name → Taken table ns → ((i : ℕ) → f ≡ N.known (N.global i) → i < 400) → Shows s top (withFunction sc name k (startOf f))
+        × Keeps base top s s × Taken table′ (alsoTaken (startOf f) ns) × (top ≤ top) × (top ≤ top + 2) × (table′ ≡ started table k (startOf f))
     by N.unknown base sc ns name q sh l r nm tk b = absurd (omega arith)
     by (N.known (N.local i)) base sc ns name q sh l r nm tk b = absurd (omega arith)
     by (N.known (N.manifest i)) base sc ns name q sh l r nm tk b = absurd (omega arith)
@@ -124,9 +123,8 @@ unfolding found code
 enters-name {s} {s′} {table} {top} {leaf} {m} {k} {x} e pu ex el = record { long = (el, refl); by = by }
   where
     there : (base : ℕ) (sc : Scope) (ns : List ℕ) (name : Name) → Shows s top sc → base ≤ length s → top + 2 ≤ base → nameAt s leaf ≡ name
-        → Taken table ns
-        → Shows s′ (top + 2) (declared sc name (N.function k)) × Keeps base top s s′ × Taken table ns × (top ≤ top + 2) × (top + 2 ≤ top + 2)
-        × (table ≡ table)
+        → Taken table ns → Shows s′ (top + 2) (declared sc name (N.function k)) × Keeps base top s s′ × Taken table ns × (top ≤ top + 2)
+        × (top + 2 ≤ top + 2) × (table ≡ table)
     there base sc ns name sh l r nm tk = (
       subst (λ (z : Name). Shows s′ (top + 2) (declared sc z (N.function k))) nm (pushed-name pu r l (N.function k) sh ex tt),
       pushed-keeps
@@ -152,9 +150,8 @@ unfolding found code
 enters-far {s} {table} {top} {leaf} {m} {k} {n} e en l₀ = record { long = (refl, refl); by = by }
   where
     by : (f : N.Found) (base : ℕ) (sc : Scope) (ns : List ℕ) (name : Name) → m ≡ found f → Shows s top sc → base ≤ length s → top + 2 ≤ base
-        → nameAt s leaf ≡ name → Taken table ns → ((i : ℕ) → f ≡ N.known (N.global i) → i < 400)
-        → Shows s top (withFunction sc name k (startOf f)) × Keeps base top s s × Taken table (alsoTaken (startOf f) ns) × (top ≤ top)
-        × (top ≤ top + 2) × (table ≡ started table k (startOf f))
+        → nameAt s leaf ≡ name → Taken table ns → ((i : ℕ) → f ≡ N.known (N.global i) → i < 400) → Shows s top (withFunction sc name k (startOf f))
+        × Keeps base top s s × Taken table (alsoTaken (startOf f) ns) × (top ≤ top) × (top ≤ top + 2) × (table ≡ started table k (startOf f))
     by N.unknown base sc ns name q sh l r nm tk b = absurd (omega arith)
     by (N.known (N.local i)) base sc ns name q sh l r nm tk b = absurd (omega arith)
     by (N.known (N.manifest i)) base sc ns name q sh l r nm tk b = absurd (omega arith)
@@ -193,8 +190,7 @@ count-begin fs h e = record { rest = fs; lies = h; ends = e; sum = omega arith }
 pub count-next : {s : List ℕ} {from end at n size : ℕ} → at < end → size ≡ getD s at 0 → Counting s from end at n
     → Counting s from end (at + 2 + size) (n + 1)
 count-next {s} {from} {end} {at} {n} {size} l z q fs h e =
-    let p = q fs h e in let u = is-function (p .rest) (p .lies) (p .ends) l in
-    let k : size ≡ length (encodeFunction (u .part)) = z ∙ u .size-of in
+    let p = q fs h e in let u = is-function (p .rest) (p .lies) (p .ends) l in let k : size ≡ length (encodeFunction (u .part)) = z ∙ u .size-of in
     record {
       rest = u .more;
       lies = subst (λ (m : ℕ). Lies s (at + 2 + m) (encodeFunctions (u .more))) (sym k) (u .lies-more);

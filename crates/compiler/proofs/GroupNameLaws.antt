@@ -239,21 +239,19 @@ module _ (text : List ℕ) {s₀ table₀ : List ℕ} {from end top before : ℕ
       }
 
   pub names-next : {s s′ table table′ : List ℕ} {at k now size next m place now′ : ℕ} {st r : State} → at < end → size ≡ getD s at 0
-      → next ≡ at + 2 + size
-      → Looked text s now (at + 2) m → place ≡ getD s (at + 4) 0 → NameFaults table m place st r → Enters s s′ table table′ now (at + 2) m k now′
-      → (y : ReadyGroup s₀ table₀ from end top before) → GroupPart y s table at k now st → GroupPart y s′ table′ next (k + 1) now′ r
+      → next ≡ at + 2 + size → Looked text s now (at + 2) m → place ≡ getD s (at + 4) 0 → NameFaults table m place st r → Enters s s′ table table′ now
+      (at + 2) m k now′ → (y : ReadyGroup s₀ table₀ from end top before) → GroupPart y s table at k now st → GroupPart y s′ table′ next (k + 1) now′ r
   unfolding functionsAfter takenAfter groupNameFaults startsIn
   names-next {s} {s′} {table} {table′} {at} {k} {now} {size} {next} {m} {place} {now′} {st} {r} l es en lk ep nf ent y p =
-      let u = is-function (p .rest) (p .lies) (p .ends) l in let w = names-fit l y p in let c = ap length (u .same) in
-      let sc = p .scope in let name = u .part .name in let f = lookup text sc name in
-      let n : nameAt s (at + 2) ≡ name = function-name l y p in
+      let u = is-function (p .rest) (p .lies) (p .ends) l in let w = names-fit l y p in let c = ap length (u .same) in let sc = p .scope in
+      let name = u .part .name in let f = lookup text sc name in let n : nameAt s (at + 2) ≡ name = function-name l y p in
       let four : at + 4 ≡ at + 2 + 2 = omega arith in
       let place-is : place ≡ name .place = ep ∙ ap (λ (z : ℕ). getD s z 0) four ∙ ap (λ (z : Name). z .place) n in
       let m-is : m ≡ found f = lk .by sc (p .shows) ∙ ap (λ (z : Name). found (lookup text sc z)) n in
       let small : (i : ℕ) → f ≡ N.known (N.global i) → i < 400 = λ i e. small-found text sc name i (p .globals) e in
       let e = ent .by f (y .base) sc (p .taken) name m-is (p .shows) (w .long) (w .room) n (p .free) small in
-      let sz : size ≡ length (encodeFunction (u .part)) = es ∙ p .keeps .above at (w .low) ∙ u .size-of in
-      let x = startOf f in let fs = nameFault (name .place) (p .taken) f in
+      let sz : size ≡ length (encodeFunction (u .part)) = es ∙ p .keeps .above at (w .low) ∙ u .size-of in let x = startOf f in
+      let fs = nameFault (name .place) (p .taken) f in
       record {
         rest = u .more;
         scope = withFunction sc name k x;

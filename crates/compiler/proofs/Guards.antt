@@ -155,9 +155,8 @@ module _ {s : List ℕ} {end : ℕ} {here : Here} {st : State} (n b : Node) (nd 
   abbrev pub guard-test : {a : State} → Fresh 1 st a → ReadyU s end here st → ReadyE s (b .start) here a
   guard-test {a} e y = let u = guard-is y in
       sub encode depth FineE y keeps-all (b .start) (y .lo) here a (u .test) (u .lies) (guard-middle y) (omega arith)
-      (omega (arith, guard-middle y, u .ends)) refl refl
-      (omega (arith, y .height, y .ends, u .ends)) (omega (arith, y .label, y .ends, u .ends, e .label)) (omega (arith, e .label)) (guard-deep y .0)
-      (guard-fine y .0)
+      (omega (arith, guard-middle y, u .ends)) refl refl (omega (arith, y .height, y .ends, u .ends))
+      (omega (arith, y .label, y .ends, u .ends, e .label)) (omega (arith, e .label)) (guard-deep y .0) (guard-fine y .0)
 
   module _ (text : List ℕ) {s₁ t t₁ t₂ : List ℕ} {a c d : State} {j : ℕ} (e : Fresh 1 st a) (g : GaveE text s s₁ (b .start) here t t₁ a c)
       (f : Emits (G.to j (st .label) ∷ []) [] t₁ t₂ c d) where
@@ -177,23 +176,19 @@ module _ {s : List ℕ} {end : ℕ} {here : Here} {st : State} (n b : Node) (nd 
           let E = expression text sc h (u .test) in let C = command text sc h (u .body) in let W = getD s (end - 1) 0 in let L = st .label in
           let em = ap (unlabelled text sc h) (u .same) ∙ when-means text sc h w (u .test) (u .body) in
           let ef = ap (inUnlabelled text sc (leavableBy ways here) h) (u .same) ∙ when-faults text sc (leavableBy ways here) h w (u .test) (u .body)
-          in
-          let jj : j ≡ cond (eqb W 16) 5 4 = ej ∙ ap (λ (v : ℕ). cond (eqb v 16) 5 4) (nd .kind) in
+          in let jj : j ≡ cond (eqb W 16) 5 4 = ej ∙ ap (λ (v : ℕ). cond (eqb v 16) 5 4) (nd .kind) in
           record {
             keeps = keeps-then (x .keeps) (z .keeps);
             did =
                 did-at (cmdSays here ways (unlabelled text sc h (y .tree))) _
                 (did-fresh e (did-put (did-then (did-put (with-ways text sc here ways h (u .test) (x .did)) f) (z .did)) f₂)) (same-eq (sym ef))
-                (λ v. code-is
-                (append-assoc (G.exprCode (here .strings) h (L + 1) E ++ (G.to j L ∷ []))
-                (G.cmdCode (here .strings) h (L + 1 + G.exprLabels E) (exits ways) C) (I.label L ∷ [])
-                ∙ append-assoc (G.exprCode (here .strings) h (L + 1) E) (G.to j L ∷ [])
-                (G.cmdCode (here .strings) h (L + 1 + G.exprLabels E) (exits ways) C ++ (I.label L ∷ []))
-                ∙ ap (λ (v : ℕ). G.exprCode (here .strings) h (L + 1) E
-                ++ (G.to v L ∷ (G.cmdCode (here .strings) h (L + 1 + G.exprLabels E) (exits ways) C ++ (I.label L ∷ [])))) jj
-                ∙ ap (G.cmdCode (here .strings) h L (exits ways)) (sym em))
-                (ap (ofCmd h) (sym em))
-                (omega (arith, ap G.cmdLabels em)))
+                (λ v. code-is (append-assoc (G.exprCode (here .strings) h (L + 1) E ++ (G.to j L ∷ []))
+                (G.cmdCode (here .strings) h (L + 1 + G.exprLabels E) (exits ways) C) (I.label L ∷ []) ∙ append-assoc
+                (G.exprCode (here .strings) h (L + 1) E) (G.to j L ∷ [])
+                (G.cmdCode (here .strings) h (L + 1 + G.exprLabels E) (exits ways) C ++ (I.label L ∷ [])) ∙ ap
+                (λ (v : ℕ). G.exprCode (here .strings) h (L + 1) E
+                ++ (G.to v L ∷ (G.cmdCode (here .strings) h (L + 1 + G.exprLabels E) (exits ways) C ++ (I.label L ∷ [])))) jj ∙ ap
+                (G.cmdCode (here .strings) h L (exits ways)) (sym em)) (ap (ofCmd h) (sym em)) (omega (arith, ap G.cmdLabels em)))
                 (omega (arith, y .ends, u .ends));
           };
     }

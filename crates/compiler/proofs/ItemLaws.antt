@@ -63,11 +63,8 @@ pub is-item : {s : List ℕ} {at end : ℕ} (is : List Item) → Lies s at (enco
 unfolding encodeItems encodeName
 is-item [] h e l = absurd (omega arith)
 is-item {s} {at} (i ∷ is) h e l =
-    let pk = encodeConstant (i .constant) in
-    let w : List ℕ = 0 ∷ i .name .width ∷ i .name .place ∷ 59 ∷ pk in
-    let x : List ℕ = length w ∷ 0 ∷ w in
-    let six : List ℕ = length w ∷ 0 ∷ 0 ∷ i .name .width ∷ i .name .place ∷ 59 ∷ [] in
-    let front : Lies s at x = first x (encodeItems is) h in
+    let pk = encodeConstant (i .constant) in let w : List ℕ = 0 ∷ i .name .width ∷ i .name .place ∷ 59 ∷ pk in let x : List ℕ = length w ∷ 0 ∷ w in
+    let six : List ℕ = length w ∷ 0 ∷ 0 ∷ i .name .width ∷ i .name .place ∷ 59 ∷ [] in let front : Lies s at x = first x (encodeItems is) h in
     record {
       item = i;
       more = is;
@@ -176,11 +173,9 @@ module _ (g : Bool) (text : List ℕ) {s₀ : List ℕ} {from end top : ℕ} (st
   item-name : {s : List ℕ} {at : ℕ} (k : ℕ) {st : State} (l : at < end) (y : ReadyItems s₀ from end top) (p : ItemsPart y s at k st)
       → nameAt s (at + 2) ≡ is-item (p .rest) (p .lies) (p .ends) l .item .name
   item-name {s} {at} k l y p =
-      let u = is-item (p .rest) (p .lies) (p .ends) l in
-      let q2 : at + 2 + 2 ≡ at + 4 = omega arith in let q1 : at + 2 + 1 ≡ at + 3 = omega arith in
+      let u = is-item (p .rest) (p .lies) (p .ends) l in let q2 : at + 2 + 2 ≡ at + 4 = omega arith in let q1 : at + 2 + 1 ≡ at + 3 = omega arith in
       keeps-name (p .keeps) (omega (arith, y .above, p .starts)) ∙ ap (λ (z : ℕ). named z (getD s₀ (at + 2 + 1) 0))
-      (ap (λ (z : ℕ). getD s₀ z 0) q2 ∙ u .place)
-      ∙ ap (λ (z : ℕ). named (u .item .name .place) z) (ap (λ (z : ℕ). getD s₀ z 0) q1 ∙ u .width)
+      (ap (λ (z : ℕ). getD s₀ z 0) q2 ∙ u .place) ∙ ap (λ (z : ℕ). named (u .item .name .place) z) (ap (λ (z : ℕ). getD s₀ z 0) q1 ∙ u .width)
 
   pub items-fit : {s : List ℕ} {at : ℕ} (k : ℕ) {st : State} → at < end → (y : ReadyItems s₀ from end top) → ItemsPart y s at k st → Fits y s at k
   items-fit {s} {at} k l y p =
@@ -197,9 +192,8 @@ module _ (g : Bool) (text : List ℕ) {s₀ : List ℕ} {from end top : ℕ} (st
 
   -- its constant judged
   item-says : {s : List ℕ} {at size next : ℕ} (k : ℕ) {st : State} {c : Verdict} (l : at < end) → size ≡ getD s at 0 → next ≡ at + 2 + size
-      → JudgesItem g text s next (top + 2 * k) c
-      → (y : ReadyItems s₀ from end top) (p : ItemsPart y s at k st)
-      → Says c (judged g text (p .scope) (is-item (p .rest) (p .lies) (p .ends) l .item .constant))
+      → JudgesItem g text s next (top + 2 * k) c → (y : ReadyItems s₀ from end top) (p : ItemsPart y s at k st) → Says c
+      (judged g text (p .scope) (is-item (p .rest) (p .lies) (p .ends) l .item .constant))
   item-says {s} {at} k l es en ju y p =
       let u = is-item (p .rest) (p .lies) (p .ends) l in
       ju .by (p .scope) (at + 6) (u .item .constant) (p .shows) (fine-first (u .item) (u .more) (subst FineIs (u .same) (p .fine)) .constant)
@@ -207,23 +201,17 @@ module _ (g : Bool) (text : List ℕ) {s₀ : List ℕ} {from end top : ℕ} (st
       (omega (arith, es, en, p .keeps .above at (omega (arith, y .above, p .starts)), u .size-of))
 
   pub items-next : {s s₁ : List ℕ} {at size next m place x : ℕ} {c : Verdict} (k : ℕ) {st a r : State} → at < end → size ≡ getD s at 0
-      → next ≡ at + 2 + size → JudgesItem g text s next (top + 2 * k) c
-      → S.Told text s (top + 2 * k) (at + 2) m → place ≡ getD s (at + 4) 0 → Blames c st a → Again m place a r
-      → PushedName s s₁ (top + 2 * k) (at + 2) x → x ≡ code (meaning g (c .word))
-      → (y : ReadyItems s₀ from end top) → ItemsPart y s at k st → ItemsPart y s₁ next (k + 1) r
+      → next ≡ at + 2 + size → JudgesItem g text s next (top + 2 * k) c → S.Told text s (top + 2 * k) (at + 2) m → place ≡ getD s (at + 4) 0 → Blames
+      c st a → Again m place a r → PushedName s s₁ (top + 2 * k) (at + 2) x → x ≡ code (meaning g (c .word)) → (y : ReadyItems s₀ from end top)
+      → ItemsPart y s at k st → ItemsPart y s₁ next (k + 1) r
   items-next {s} {s₁} {at} {size} {next} {m} {place} {x} {c} k {st} {a} {r} l es en ju told ep bl ag pu ex y p =
-      let u = is-item (p .rest) (p .lies) (p .ends) l in
-      let f = items-fit k l y p in
-      let told-k = item-says k l es en ju y p in
-      let i = u .item in let sc = p .scope in let sc′ = scopeWith g text sc i in
-      let j = judged g text sc (i .constant) in
-      let b4 : y .base ≤ at = omega (arith, y .above, p .starts) in
-      let n : nameAt s (at + 2) ≡ i .name = item-name k l y p in
+      let u = is-item (p .rest) (p .lies) (p .ends) l in let f = items-fit k l y p in let told-k = item-says k l es en ju y p in let i = u .item in
+      let sc = p .scope in let sc′ = scopeWith g text sc i in let j = judged g text sc (i .constant) in
+      let b4 : y .base ≤ at = omega (arith, y .above, p .starts) in let n : nameAt s (at + 2) ≡ i .name = item-name k l y p in
       let ep′ : place ≡ i .name .place = ep ∙ p .keeps .above (at + 4) (omega arith) ∙ u .place in
       let w : meaning g (c .word) ≡ meaning g (judgedWord j) = ap (meaning g) (word-is j told-k) in
       let sz : size ≡ 4 + length (encodeConstant (i .constant)) = es ∙ p .keeps .above at b4 ∙ u .size-of in
-      let nx : at + 6 + length (encodeConstant (i .constant)) ≡ next = omega arith in
-      let tk : top + 2 * k + 2 ≡ top + 2 * (k + 1) = omega arith in
+      let nx : at + 6 + length (encodeConstant (i .constant)) ≡ next = omega arith in let tk : top + 2 * k + 2 ≡ top + 2 * (k + 1) = omega arith in
       record {
         rest = u .more;
         scope = sc′;
@@ -239,9 +227,8 @@ module _ (g : Bool) (text : List ℕ) {s₀ : List ℕ} {from end top : ℕ} (st
         same = p .same ∙ ap (after g text sc) (u .same) ∙ after-step g text sc i (u .more);
         finish = λ t st′ d. p .finish t st′
             (subst (λ (fs : List Fault). Did fs nothing 0 t t st st′) (sym (ap (faults g text sc) (u .same) ∙ faults-step g text sc i (u .more)))
-            (did-as nothing 0 (did-then (bl .by j told-k t) (did-then
-            (subst (λ (z : ℕ). Did (onFound (inBlock text sc (i .name)) [] (fault z 9)) nothing 0 t t a r) ep′
-            (ag .by (inBlock text sc (i .name)) (told .by sc (p .shows) ∙ ap (λ (z : Name). found (inBlock text sc z)) n) t))
+            (did-as nothing 0 (did-then (bl .by j told-k t) (did-then (subst (λ (z : ℕ). Did (onFound (inBlock text sc (i .name)) [] (fault z 9))
+            nothing 0 t t a r) ep′ (ag .by (inBlock text sc (i .name)) (told .by sc (p .shows) ∙ ap (λ (z : Name). found (inBlock text sc z)) n) t))
             d)) same-refl (λ v e. refl) (omega arith)));
       }
 

@@ -68,8 +68,7 @@ module _ {m : ℕ} (minus : Bool) {name place : ℕ} (fits : (name < 2 ^ 32) × 
       by c n (N.known (N.local k)) q em ep en = absurd (omega arith)
       by c n (N.known (N.global k)) q em ep en = absurd (omega arith)
       by c n (N.known (N.manifest v)) q em ep en =
-          let z : m / 4 ≡ v = omega arith in
-          let w : x ≡ signed (c .minus) v = ex ∙ ap (signed minus) z ∙ ap (λ (b : Bool). signed b v) (sym em) in
+          let z : m / 4 ≡ v = omega arith in let w : x ≡ signed (c .minus) v = ex ∙ ap (signed minus) z ∙ ap (λ (b : Bool). signed b v) (sym em) in
           subst (λ (k : ℕ). Says (record { word = x; number = 0; place = 0 }) (good k)) w (fit refl)
       by c n (N.known (N.function k)) q em ep en = absurd (omega arith)
 
@@ -425,8 +424,7 @@ module _ {s : List ℕ} {end : ℕ} {here : Here} {st : State} (n : Node) (nd : 
     values-gave {s₂} {top} {height} {b} de et eh = record {
       by = λ y.
           let u = values-is y in let sc = y .scope in let h = here .height in let ns = u .names in let x = g .by (values-args y) in
-          let d = de .by (values-names y) in
-          let v : n .value ≡ 4 * length ns = nd .value ∙ u .value-of ∙ names-long ns in
+          let d = de .by (values-names y) in let v : n .value ≡ 4 * length ns = nd .value ∙ u .value-of ∙ names-long ns in
           let two : here .top + 2 * length ns ≡ top = omega (arith, et, v) in
           subst (λ (z : Local). LocalDone text sc z (y .base) here s s₂ t t′ st (record { top = top; height = height; done = b })) (sym (u .same))
           (record {

@@ -147,10 +147,8 @@ module _ {s : List ℕ} {end : ℕ} {here : Here} {st : State} (n : Node) (nd : 
   unfolding inCommand inCase
   labelled-gave text ways {s₁} {t} {t₁} {a} {r} j g = record {
     by = λ y.
-        let u = labelled-is y in let sc = y .scope in let h = here .height in
-        let d = j .by (labelled-labels y) t in
-        let x = g .by (with-state (omega (arith, d .few, d .grows)) y) in
-        let lv = leavableBy ways here in
+        let u = labelled-is y in let sc = y .scope in let h = here .height in let d = j .by (labelled-labels y) t in
+        let x = g .by (with-state (omega (arith, d .few, d .grows)) y) in let lv = leavableBy ways here in
         let U = inUnlabelled text sc (repeated (u .forms) lv) h (u .body) in let R = inRepeats text sc lv h (u .forms) in
         record {
           keeps = x .keeps;
@@ -254,9 +252,8 @@ module _ {s : List ℕ} {end : ℕ} {here : Here} {st : State} (n : Node) (nd : 
     abbrev pub labelled-rest : ReadyC s end here st → ReadyR s (n .inner) (inside here) st
     labelled-rest y = let u = labelled-is n nd q m y in let f = labelled-fine n nd q m y in
         sub encodeRepeated deepRepeated FineRepeated y keeps-all (n .inner) (y .lo + length (encodeLabels (u .labels))) (inside here) st
-        (record { body = u .body; forms = u .forms }) (u .lies-rest)
-        (omega (arith, nd .inner, u .ends)) (omega arith) (omega (arith, nd .inner)) refl refl
-        (omega (arith, y .height, y .ends, u .ends)) (omega (arith, y .label, y .ends, u .ends)) (y .some)
+        (record { body = u .body; forms = u .forms }) (u .lies-rest) (omega (arith, nd .inner, u .ends)) (omega arith) (omega (arith, nd .inner)) refl
+        refl (omega (arith, y .height, y .ends, u .ends)) (omega (arith, y .label, y .ends, u .ends)) (y .some)
         (omega (arith, command-deep (u .labels) (u .body) (u .forms) (u .same) (y .shallow)))
         (something-left (u .labels) (u .body) (u .forms) f (λ z. some (omega (arith, z, rest-length y))))
 
@@ -284,9 +281,8 @@ module _ {s : List ℕ} {end : ℕ} {here : Here} {st : State} (n : Node) (nd : 
   abbrev pub bare-part : ReadyC s end here st → ReadyR s end (inside here) st
   bare-part y = let u = bare-is y in
       sub encodeRepeated deepRepeated FineRepeated y keeps-all end (y .lo) (inside here) st (record { body = u .body; forms = u .forms }) (u .lies)
-      (u .ends) (omega arith) (omega arith) refl refl
-      (omega (arith, y .height, y .ends, u .ends)) (omega (arith, y .label, y .ends, u .ends)) (y .some)
-      (omega (arith, command-deep [] (u .body) (u .forms) (u .same) (y .shallow))) (bare-fine y)
+      (u .ends) (omega arith) (omega arith) refl refl (omega (arith, y .height, y .ends, u .ends)) (omega (arith, y .label, y .ends, u .ends))
+      (y .some) (omega (arith, command-deep [] (u .body) (u .forms) (u .same) (y .shallow))) (bare-fine y)
 
   pub bare-gave : (text : List ℕ) (ways : Ways) {s₁ t t₁ : List ℕ} {r : State} → GaveR text s s₁ end (inside here) ways t t₁ st r
       → GaveCase text s s₁ end here ways t t₁ st r

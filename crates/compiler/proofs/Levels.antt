@@ -95,8 +95,7 @@ yields-faults m e x = record { did = did-as nothing m x same-refl (λ n c. refl)
 -- ---- GLOBAL and MANIFEST
 
 pub items-flat : {g : Bool} {text s s′ : List ℕ} {from end top : ℕ} {st r : State} {k : Known} → st .high ≡ 0 → r ≡ flat (k .state)
-    → Items g text s s′ from end top st k
-    → Items g text s s′ from end top st (record { top = k .top; state = r })
+    → Items g text s s′ from end top st k → Items g text s s′ from end top st (record { top = k .top; state = r })
 items-flat low e x = record {
   by = λ y. let i = x .by y in record { moved = i .moved; shows = i .shows; keeps = i .keeps; did = λ t. did-flat low e (i .did t) };
 }
@@ -146,10 +145,8 @@ module _ {s table : List ℕ} {from end tag left strings : ℕ} {l : Progress} (
   }
 
 walked-items : {text s s′ table t : List ℕ} {from end base strings : ℕ} {l r : Progress} (w : Walk) (g : Bool) (is : List Item)
-    → Stands base s table w l
-    → ItemsKnown g text s s′ base (w .scope) is (l .top) (l .done .state) (record { top = r .top; state = r .done .state })
-    → NamedItems g text s s′ from end l r
-    → WalkedOn text w (itemsOf g is) base strings s s′ table table t t l r
+    → Stands base s table w l → ItemsKnown g text s s′ base (w .scope) is (l .top) (l .done .state) (record { top = r .top; state = r .done .state })
+    → NamedItems g text s s′ from end l r → WalkedOn text w (itemsOf g is) base strings s s′ table table t t l r
 unfolding after faults afterDeclaration declaredBy funs startsOf
 walked-items {text} {t = t} w true is a i n = record {
   stands = record {
@@ -181,8 +178,7 @@ walked-items {text} {t = t} w false is a i n = record {
 }
 
 pub gave-items : {text s s′ table t : List ℕ} {from end tag left strings : ℕ} {l r : Progress} → (tag ≡ K.LET → ⊥)
-    → NamedItems (eqb tag K.GLOBAL) text s s′ from end l r
-    → GaveDeclaration text s s′ table table from end tag left strings t t l r
+    → NamedItems (eqb tag K.GLOBAL) text s s′ from end l r → GaveDeclaration text s s′ table table from end tag left strings t t l r
 gave-items {text} {s} {s′} {table} {t} {tag = tag} {strings = strings} {l} {r} n x = record {
   by = λ y. let u = is-items (y .part) (y .word) n in
       subst (λ (p : Declaration). WalkedOn text (y .walk) p (y .base) strings s s′ table table t t l r) (sym (u .same))
@@ -240,9 +236,7 @@ module _ {s table : List ℕ} {from end left strings : ℕ} {l : Progress} (y : 
 
     abbrev pub ready-fs : {st : State} → st ≡ flat (k .state) → ReadyFs s₁ from end groupHere (record { tall = l .done .tall; state = st })
     ready-fs {st} e =
-        let x = names-known in
-        let f = x .did [] in
-        let sl : st .label ≡ k .state .label = ap (λ (z : State). z .label) e in
+        let x = names-known in let f = x .did [] in let sl : st .label ≡ k .state .label = ap (λ (z : State). z .label) e in
         record {
           base = y .base;
           scope = functionsAfter text (l .functions) (y .walk .scope) (grp .functions);
@@ -268,21 +262,15 @@ abbrev counted : Walk → ℕ → Walk
 counted w k = record { scope = w .scope; functions = k; taken = w .taken }
 
 walked-group : {text s s₁ s₂ table table₁ t t′ : List ℕ} {base left strings n : ℕ} {l : Progress} {k : Known} {st : State} {d : Done} (w : Walk)
-    (fs : List Function)
-    → Stands base s table w l → GroupKnown text s s₁ table table₁ base (w .scope) (w .taken) fs (l .top) (l .functions) (l .done .state) k
-    → st ≡ flat (k .state)
-    → GroupWalked text (functionsAfter text (l .functions) (w .scope) fs) fs
+    (fs : List Function) → Stands base s table w l → GroupKnown text s s₁ table table₁ base (w .scope) (w .taken) fs (l .top) (l .functions)
+    (l .done .state) k → st ≡ flat (k .state) → GroupWalked text (functionsAfter text (l .functions) (w .scope) fs) fs
     (groupOf text (l .functions) (w .scope) (functionsAfter text (l .functions) (w .scope) fs) fs) (l .functions + 1) base
     (record { top = k .top; height = 0; left = left; strings = strings; routine = false }) s₁ s₂ t t′ (record { tall = l .done .tall; state = st }) d
-    → n ≡ length fs
-    → WalkedOn text (counted w (l .functions)) (T.functions fs) base strings s s₂ table table₁ t t′ l
+    → n ≡ length fs → WalkedOn text (counted w (l .functions)) (T.functions fs) base strings s s₂ table table₁ t t′ l
     (record { top = k .top; functions = l .functions + n; done = d })
 unfolding afterDeclaration declaredBy
 walked-group {text} {table₁ = table₁} {t} {l = l} {k} {st} {d} w fs a x e z q =
-    let i = l .functions in
-    let sc = functionsAfter text i (w .scope) fs in
-    let gs = groupOf text i (w .scope) sc fs in
-    let r = z .result in
+    let i = l .functions in let sc = functionsAfter text i (w .scope) fs in let gs = groupOf text i (w .scope) sc fs in let r = z .result in
     record {
       stands = record {
         shows = keeps-shows (r .keeps) (omega arith) (x .shows);
@@ -308,13 +296,11 @@ pub gave-group : {text s s₁ s₂ table table₁ t t′ : List ℕ} {from end l
     → GaveDeclaration text s s₂ table table₁ from end K.LET left strings t t′ l (record { top = k .top; functions = l .functions + n; done = d })
 gave-group {text} {s} {s₁} {s₂} {table} {table₁} {t} {t′} {from} {end} {left} {strings} {n} {l} {k} {st} {d} c g e h = record {
   by = λ y.
-      let u = grp y in let w = y .walk in let fs = u .functions in
-      let x = ready-group y in
+      let u = grp y in let w = y .walk in let fs = u .functions in let x = ready-group y in
       let same : counted w (l .functions) ≡ w = ap (counted w) (y .stands .many) in
       subst (λ (p : Declaration). WalkedOn text w p (y .base) strings s s₂ table table₁ t t′ l
-      (record { top = k .top; functions = l .functions + n; done = d })) (sym (u .same))
-      (subst (λ (v : Walk). WalkedOn text v (T.functions fs) (y .base) strings s s₂ table table₁ t t′ l
-      (record { top = k .top; functions = l .functions + n; done = d })) same
+      (record { top = k .top; functions = l .functions + n; done = d })) (sym (u .same)) (subst (λ (v : Walk). WalkedOn text v (T.functions fs) (y
+      .base) strings s s₂ table table₁ t t′ l (record { top = k .top; functions = l .functions + n; done = d })) same
       (walked-group w fs (y .stands) (g .by x) e (h .by (ready-fs y g e) (w .scope) (l .functions)) (c .by fs (x .lies) (x .ends))));
 }
 

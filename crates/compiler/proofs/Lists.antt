@@ -30,8 +30,7 @@ pub first-of : {L A : Type 0} (all : L → List ℕ) (one : A → List ℕ) (wor
     → Lies s at (length (one x) ∷ word x ∷ (one x ++ all xs)) → end ≡ at + length (length (one x) ∷ word x ∷ (one x ++ all xs))
     → First all one word with s at end (with x xs)
 first-of all one word with {s} {at} x xs h e =
-    let a : at + 0 ≡ at = omega arith in
-    let r = second (length (one x) ∷ word x ∷ []) (one x ++ all xs) (at + 2) h refl in
+    let a : at + 0 ≡ at = omega arith in let r = second (length (one x) ∷ word x ∷ []) (one x ++ all xs) (at + 2) h refl in
     record {
       part = x;
       more = xs;
@@ -145,8 +144,7 @@ module _ {L A : Type 0} {k : Kind L A} {few : L → ℕ} {fs : ℕ → L → Lis
 
 -- the loop at its end
 pub ended : {L A : Type 0} {k : Kind L A} {few : L → ℕ} {fs : ℕ → L → List Fault} {code : ℕ → L → ℕ → Code} {all : L}
-    {from end base top left h₀ h i₀ i at : ℕ}
-    {s₀ s t₀ t : List ℕ} {st₀ st : State} → Part k few fs code all from end base top left h₀ h i₀ i s₀ s t₀ t st₀ st at → end ≤ at
-    → ((m : ℕ) → Did (fs i (k .none)) (code i (k .none)) m t t st st) → Did (fs i₀ all) (code i₀ all) (2 * few all) t₀ t st₀ st
+    {from end base top left h₀ h i₀ i at : ℕ} {s₀ s t₀ t : List ℕ} {st₀ st : State} → Part k few fs code all from end base top left h₀ h i₀ i s₀ s t₀
+    t st₀ st at → end ≤ at → ((m : ℕ) → Did (fs i (k .none)) (code i (k .none)) m t t st st) → Did (fs i₀ all) (code i₀ all) (2 * few all) t₀ t st₀ st
 ended {k = k} {few} {fs} {code} {i = i} {t = t} {st = st} p l d =
     p .finish t st (subst (λ x. Did (fs i x) (code i x) (2 * few (p .rest)) t t st st) (sym (k .empty (p .rest) (omega (arith, p .ends)))) (d _))

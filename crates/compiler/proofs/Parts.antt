@@ -15,11 +15,9 @@ module _ {A B : Type 0} {encA : A → List ℕ} {deepA : A → ℕ} {FineA : A �
     {s s′ : List ℕ} {end : ℕ} {here : Here} {st : State} where
   -- a part in the same scope, somewhere inside, at another height
   abbrev pub sub : (y : Ready encA deepA FineA s end here st) → Keeps (y .base) (here .top) s s′
-      → (end′ lo′ : ℕ) (here′ : Here) (st′ : State) (part : B)
-      → Lies s lo′ (encB part) → end′ ≡ lo′ + length (encB part) → y .lo ≤ lo′ → end′ ≤ end → here′ .top ≡ here .top → here′ .strings ≡ here .strings
-      → here′ .height + 4100 * length (encB part) ≤ 2 ^ 29 → st′ .label + 2 * length (encB part) ≤ 2 ^ 29 → 0 < st′ .label → deepB part ≤ here′ .left
-      → FineB part
-      → Ready encB deepB FineB s′ end′ here′ st′
+      → (end′ lo′ : ℕ) (here′ : Here) (st′ : State) (part : B) → Lies s lo′ (encB part) → end′ ≡ lo′ + length (encB part) → y .lo ≤ lo′ → end′ ≤ end
+      → here′ .top ≡ here .top → here′ .strings ≡ here .strings → here′ .height + 4100 * length (encB part) ≤ 2 ^ 29 → st′ .label + 2 * length
+      (encB part) ≤ 2 ^ 29 → 0 < st′ .label → deepB part ≤ here′ .left → FineB part → Ready encB deepB FineB s′ end′ here′ st′
   sub y k end′ lo′ here′ st′ part h e l m top strings height label some deep fine = record {
     base = y .base;
     lo = lo′;

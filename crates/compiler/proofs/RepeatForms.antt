@@ -153,8 +153,7 @@ module _ (text t₀ : List ℕ) (own₀ : ℕ) {s₀ : List ℕ} {from end : ℕ
   abbrev pub FormsPart : ReadyForms s₀ from end here st₀ → (s t : List ℕ) (at own : ℕ) (st : State) → Type 0
   FormsPart y s t at own st = let z = y .ready in
       Part formList conditions (λ i rs. inRepeats text (z .scope) (leavable here) (here .height) rs) (λ i rs. formsSays text here (z .scope) i rs)
-      (z .tree)
-      from end (z .base) (here .top) (here .left) (here .height) (here .height) own₀ own s₀ s t₀ t st₀ st at
+      (z .tree) from end (z .base) (here .top) (here .left) (here .height) (here .height) own₀ own s₀ s t₀ t st₀ st at
 
   pub forms-begin : (y : ReadyForms s₀ from end here st₀) → FormsPart y s₀ t₀ from own₀ st₀
   forms-begin y = begins (y .ready) (y .starts) refl refl (y .some)
@@ -178,9 +177,8 @@ module _ (text t₀ : List ℕ) (own₀ : ℕ) {s₀ : List ℕ} {from end : ℕ
           let z = y .ready in let h = subst (λ (f : AForm). Lies s₀ (at + 2) (formEncoding f)) q (one .lies) in
           let m : length (formEncoding (one .part)) ≡ length (encode e) = ap (λ (f : AForm). length (formEncoding f)) q in
           sub encode depth FineE z (p .keeps) next (at + 2) here a e h (omega (arith, forms-size)) (omega (arith, y .starts, p .starts))
-          (omega (arith, forms-size, one .ends)) refl refl
-          (omega (arith, z .height, p .height, rest-length z (y .starts) l es en p)) (omega (arith, y .label, p .label, forms-conditions))
-          (omega (arith, p .some))
+          (omega (arith, forms-size, one .ends)) refl refl (omega (arith, z .height, p .height, rest-length z (y .starts) l es en p))
+          (omega (arith, y .label, p .label, forms-conditions)) (omega (arith, p .some))
           (subst (λ (f : AForm). formDepth f ≤ here .left) q (both-deep z (y .starts) l es en p .0))
           (subst FineForm q (both-fine z (y .starts) l es en p .0))
 
@@ -228,12 +226,10 @@ module _ (text t₀ : List ℕ) (own₀ : ℕ) {s₀ : List ℕ} {from end : ℕ
         let z = y .ready in let u = one l es ew en y p in let x = form-did l es ew en y p (m₁ .label) g in let sc = z .scope in
         let n = forms-conditions l es ew en y p in
         goes-on z (y .starts) l es en p (x .0) (omega arith) (omega (arith, x .1 .few, m₁ .label, m₂ .label))
-        (omega (arith, p .some, x .1 .grows, m₁ .label, m₂ .label))
-        (λ t′ st′ d. did-as _ _
-        (did-then (did-put (did-after m₁ (x .1)) m₂)
+        (omega (arith, p .some, x .1 .grows, m₁ .label, m₂ .label)) (λ t′ st′ d. did-as _ _ (did-then (did-put (did-after m₁ (x .1)) m₂)
         (subst (λ (o : ℕ). Did (inRepeats text sc (leavable here) (here .height) (u .more)) (formsSays text here sc o (u .more))
-        (2 * conditions (u .more)) t₃ t′ r st′) eo d))
-        (same-eq (sym (form-faults text sc here (u .part) (u .more)))) (λ k c. form-code text here sc own k (u .part) (u .more)) (omega arith))
+        (2 * conditions (u .more)) t₃ t′ r st′) eo d)) (same-eq (sym (form-faults text sc here (u .part) (u .more))))
+        (λ k c. form-code text here sc own k (u .part) (u .more)) (omega arith))
 
   pub forms-end : {s t : List ℕ} {at own : ℕ} {st : State} → end ≤ at → ((y : ReadyForms s₀ from end here st₀) → FormsPart y s t at own st)
       → GaveForms text s₀ s from end own₀ here t₀ t st₀ st
@@ -282,8 +278,7 @@ repeated-of {lo = lo} u rs k h e =
     }
 
 is-repeated : {s : List ℕ} {lo end : ℕ} (u : Unlabelled) (rs : Repeats) → FinePlain u → Lies s lo (O.repeated (encodeUnlabelled u) (encodeRepeats rs))
-    → end ≡ lo + length (O.repeated (encodeUnlabelled u) (encodeRepeats rs))
-    → getD s (end - 1) 0 ≡ O.REPEATED → IsRepeated s lo end u rs
+    → end ≡ lo + length (O.repeated (encodeUnlabelled u) (encodeRepeats rs)) → getD s (end - 1) 0 ≡ O.REPEATED → IsRepeated s lo end u rs
 unfolding O.repeated encodeRepeats forms
 is-repeated {s} {lo} {end} u T.noRepeats f h e q = absurd (omega (arith, q, form-small s lo end (form-of s lo end u f h e)))
 is-repeated u (T.repeat rs) f h e q = repeated-of u (T.repeat rs) (omega arith) h e
@@ -295,8 +290,7 @@ pub record IsOnce (s : List ℕ) (lo end : ℕ) (u : Unlabelled) (rs : Repeats) 
   pub ends : end ≡ lo + length (encodeUnlabelled u)
 
 is-once : {s : List ℕ} {lo end : ℕ} (u : Unlabelled) (rs : Repeats) → Lies s lo (O.repeated (encodeUnlabelled u) (encodeRepeats rs))
-    → end ≡ lo + length (O.repeated (encodeUnlabelled u) (encodeRepeats rs))
-    → (getD s (end - 1) 0 ≡ O.REPEATED → ⊥) → IsOnce s lo end u rs
+    → end ≡ lo + length (O.repeated (encodeUnlabelled u) (encodeRepeats rs)) → (getD s (end - 1) 0 ≡ O.REPEATED → ⊥) → IsOnce s lo end u rs
 unfolding O.repeated encodeRepeats
 is-once u T.noRepeats h e q = record { same = refl; lies = h; ends = e }
 is-once u (T.repeat rs) h e q =
@@ -355,11 +349,9 @@ module _ {s : List ℕ} {end : ℕ} {here : Here} {st : State} (n : Node) (nd : 
       abbrev pub repeated-body : ReadyR s end here st → ReadyU s middle here b
       repeated-body y = let u = repeated-is y in
           sub encodeUnlabelled unlabelledDepth FinePlain y keeps-all middle (y .lo) here b (y .tree .body) (u .lies) (repeated-middle y) (omega arith)
-          (omega (arith, repeated-middle y, u .ends)) refl refl
-          (omega (arith, y .height, y .ends, u .ends))
+          (omega (arith, repeated-middle y, u .ends)) refl refl (omega (arith, y .height, y .ends, u .ends))
           (omega (arith, y .label, y .ends, u .ends, e .label, f .label, repeated-count y, forms-entries (y .tree .forms)))
-          (omega (arith, y .some, e .label, f .label))
-          (omega (arith, y .shallow)) (y .fine .0)
+          (omega (arith, y .some, e .label, f .label)) (omega (arith, y .shallow)) (y .fine .0)
 
       module _ (text : List ℕ) (ways : Ways) {own : ℕ} (eo : own ≡ st .label + 3 * k - 3) {s₁ t₂ : List ℕ} {d : State}
           (g : GaveU text s s₁ middle here (inLoop (own + 1) (own + 2) ways) t₁ t₂ b d) where
@@ -381,9 +373,8 @@ module _ {s : List ℕ} {end : ℕ} {here : Here} {st : State} (n : Node) (nd : 
         repeated-gave {s₂} {t₃} {r} g₂ = record {
           by = λ y.
               let u = repeated-is y in let x = g .by (repeated-body y) in let z = g₂ .by (repeated-forms y) in let sc = y .scope in
-              let h = here .height in let S = here .strings in let L = st .label in
-              let rs = y .tree .forms in let C = unlabelled text sc h (y .tree .body) in let lv = leavableBy ways here in let N = L + 3 * k in
-              let ek = repeated-count y in
+              let h = here .height in let S = here .strings in let L = st .label in let rs = y .tree .forms in
+              let C = unlabelled text sc h (y .tree .body) in let lv = leavableBy ways here in let N = L + 3 * k in let ek = repeated-count y in
               let l₁ : leavableBy (inLoop (own + 1) (own + 2) ways) here ≡ Y.repeated rs lv = leaves-loop here ways (own + 1) (own + 2) (omega arith)
               ∙ sym (forms-leave rs lv (u .some)) in
               let ei : exits (inLoop (own + 1) (own + 2) ways) ≡ innermost L (forms rs) (exits ways) = innermost-is L (forms rs) own ways (u .some)
@@ -393,13 +384,11 @@ module _ {s : List ℕ} {end : ℕ} {here : Here} {st : State} (n : Node) (nd : 
                 did = did-at (cmdSays here ways (repeats text sc h C rs)) _ (did-fresh e (did-after f (did-then (x .did) (z .did))))
                     (same-eq (ap (λ (p : Leavable). inUnlabelled text sc p h (y .tree .body) ++ inRepeats text sc (leavable here) h rs) l₁ ∙ ap
                     (λ (w : List Fault). inUnlabelled text sc (Y.repeated rs lv) h (y .tree .body) ++ w)
-                    (any-repeats text (leavable here) lv refl sc h rs)))
-                    (λ v. code-is
-                    (ap (λ (i : ℕ). topsCode L i ++ (G.cmdCode S h N (exits (inLoop (own + 1) (own + 2) ways)) C ++ formsCode text sc S h own rs (N + G.cmdLabels C))) ek
-                    ∙ ap (λ (w : G.Exits). topsCode L (forms rs) ++ (G.cmdCode S h N w C ++ formsCode text sc S h own rs (N + G.cmdLabels C))) ei
-                    ∙ sym (repeats-code text sc S h rs C L N own (N + G.cmdLabels C) (exits ways) (ap (λ (i : ℕ). L + 3 * i) ek) eo refl))
-                    (sym (repeats-heights text sc h rs C))
-                    (omega (arith, repeats-labels text sc h rs C, ek)))
+                    (any-repeats text (leavable here) lv refl sc h rs))) (λ v. code-is (ap (λ (i : ℕ). topsCode L i
+                    ++ (G.cmdCode S h N (exits (inLoop (own + 1) (own + 2) ways)) C ++ formsCode text sc S h own rs (N + G.cmdLabels C))) ek ∙ ap
+                    (λ (w : G.Exits). topsCode L (forms rs) ++ (G.cmdCode S h N w C ++ formsCode text sc S h own rs (N + G.cmdLabels C))) ei ∙ sym
+                    (repeats-code text sc S h rs C L N own (N + G.cmdLabels C) (exits ways) (ap (λ (i : ℕ). L + 3 * i) ek) eo refl))
+                    (sym (repeats-heights text sc h rs C)) (omega (arith, repeats-labels text sc h rs C, ek)))
                     (omega (arith, y .ends, u .ends, ek, forms-entries rs));
               };
         }

@@ -135,8 +135,7 @@ pub an-item : {s : List ℕ} {at end tag : ℕ} (w rest : List ℕ) → Lies s a
     (at + 2 + getD s at 0 ≡ at + 2 + length w → Lies s (at + 2) w → Lies s (at + 2 + getD s at 0) rest → end ≡ at + 2 + getD s at 0 + length rest → T)
     → T
 an-item {s} {at} {end} {tag} w rest h e f =
-    let a : at + 0 ≡ at = omega arith in
-    let z : getD s at 0 ≡ length w = ap (λ (k : ℕ). getD s k 0) (sym a) ∙ h .at 0 (omega arith) in
+    let a : at + 0 ≡ at = omega arith in let z : getD s at 0 ≡ length w = ap (λ (k : ℕ). getD s k 0) (sym a) ∙ h .at 0 (omega arith) in
     let r = second (length w ∷ tag ∷ []) (w ++ rest) (at + 2) h refl in
     f (omega arith) (first w rest r) (second w rest (at + 2 + getD s at 0) r (omega arith)) (omega (arith, length-append w rest))
 
@@ -199,16 +198,14 @@ module _ (text : List ℕ) {s : List ℕ} {from end top : ℕ} (st₀ : State) w
   misplaced-begin y =
       left-all
       (λ rest. (t : List ℕ) (st′ : State) → Did (misplaced text (y .scope) rest) nothing 0 t t st₀ st′ → Did (misplaced text (y .scope) (y .labels))
-      nothing 0 t t st₀ st′)
-      (labels-row (y .labels) (y .fine) (y .lies) (y .ends)) (λ t st′ d. d)
+      nothing 0 t t st₀ st′) (labels-row (y .labels) (y .fine) (y .lies) (y .ends)) (λ t st′ d. d)
 
   pub misplaced-next : {at next : ℕ} {st r : State} → at < end → NextItem s at end next → MisplacesLabel text s next top st r
       → (y : ReadyMisplaced s from end top) → MisplacedPart y at st → MisplacedPart y next r
   misplaced-next {at} {next} {st} {r} l n m y p =
       left-next
       (λ rest. (t : List ℕ) (st′ : State) → Did (misplaced text (y .scope) rest) nothing 0 t t r st′ → Did (misplaced text (y .scope) (y .labels))
-      nothing 0 t t st₀ st′) l n p
-      (λ x xs e q h t st′ d. h t st′
+      nothing 0 t t st₀ st′) l n p (λ x xs e q h t st′ d. h t st′
       (did-as nothing 0 (did-then (m .by (y .scope) x (y .shows) q t) d) (same-eq (misplaced-then text (y .scope) x xs)) (λ v z. refl)
       (omega arith)))
 

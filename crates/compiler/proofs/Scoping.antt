@@ -182,10 +182,8 @@ module _ (text s : List ℕ) (leaf at : ℕ) where
       told : (b : ℕ) {n : Name} {t : Bool} → at ≡ b + 2 → getD s b 0 ≡ packed n → FineName n
           → t ≡ sameName text (named (x / 65536) (x % 65536)) (named place width) → t ≡ sameName text n (nameAt s leaf)
       told b {n} {t} e y fine f =
-          let g : at - 2 ≡ b = omega arith in
-          let v : x ≡ packed n = rx ∙ get-as s g ∙ y in
-          let h : x / 65536 ≡ n .place = omega (arith, fine .width) in
-          let l : x % 65536 ≡ n .width = omega (arith, fine .width) in
+          let g : at - 2 ≡ b = omega arith in let v : x ≡ packed n = rx ∙ get-as s g ∙ y in
+          let h : x / 65536 ≡ n .place = omega (arith, fine .width) in let l : x % 65536 ≡ n .width = omega (arith, fine .width) in
           f ∙ ap (λ (k : ℕ). sameName text (named k (x % 65536)) (named place width)) h ∙ ap
           (λ (k : ℕ). sameName text (named (n .place) k) (named place width)) l ∙ ap (λ (m : Name). sameName text n m) sought
 
@@ -305,13 +303,11 @@ module _ {s s′ : List ℕ} {top first m base : ℕ} (h : Pushed s s′ top fir
       name (keeps-shows push-keeps (omega arith) sh) refl (omega (arith, push-keeps .long)) (push-first ∙ f) g (push-second ∙ e) u
 
 pub pushed-name : {s s′ : List ℕ} {top leaf m base : ℕ} → PushedName s s′ top leaf m → top + 2 ≤ base → base ≤ length s → {sc : Scope} (w : Meaning)
-    → Shows s top sc → m ≡ code w → Worded w
-    → Shows s′ (top + 2) (declared sc (nameAt s leaf) w)
+    → Shows s top sc → m ≡ code w → Worded w → Shows s′ (top + 2) (declared sc (nameAt s leaf) w)
 pushed-name {s} {leaf = leaf} h l long w sh e u = pushed-as (h .pushed) l long (nameAt s leaf) w sh refl (h .fine) e u
 
 pub pushed-leaf : {s s′ : List ℕ} {top leaf m width place : ℕ} → Pushed s s′ top (place * 65536 + width) m → width ≡ getD s (leaf + 1) 0
-    → place ≡ getD s (leaf + 2) 0 → FineName (nameAt s leaf)
-    → PushedName s s′ top leaf m
+    → place ≡ getD s (leaf + 2) 0 → FineName (nameAt s leaf) → PushedName s s′ top leaf m
 pushed-leaf {s} {top = top} {leaf} {m} {width} {place} h ew ep f =
     let e : place * 65536 + width ≡ packed (nameAt s leaf) = omega (arith, ew, ep) in
     record { pushed = record { is = h .is ∙ ap (λ (z : ℕ). set (set s top z) (top + 1) m) e }; fine = f }

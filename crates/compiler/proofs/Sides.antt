@@ -33,15 +33,14 @@ use Rattle.compiler.specs.Fine.{FineE}
 use Rattle.language.specs.Fine.{Fine}
 use Rattle.compiler.specs.Walked.{inside, raised, leavable, NodeAt, Code, Did, Emits, Faulted}
 use Rattle.compiler.specs.Walks.{Lies, Result, ReadyE, GaveE, ReadySuffixes, GaveSuffixes, faultsE, codeE}
-use Rattle.compiler.specs.Commands.{exprSays, targetSays, GaveMonadic, GaveAddress, GaveAddressIndex, GaveSide, GaveSideIndex, GaveRefused}
-use Rattle.compiler.specs.Commands.{AddressOf, StoreTo}
+use Rattle.compiler.specs.Commands.{exprSays, targetSays, GaveMonadic, GaveAddress, GaveAddressIndex, GaveSide, GaveSideIndex, IndexKind}
+use Rattle.compiler.specs.Commands.{GaveRefused, AddressOf, StoreTo}
 use Rattle.compiler.proofs.Done.{emits-did, did-emit, did-put, did-after, did-then, did-as, same-refl, same-eq, code-is, nil-right}
-use Rattle.compiler.proofs.Trees.{Case, aMonadic, find, is-bracket, is-name, value-is, place-is}
+use Rattle.compiler.proofs.Trees.{IsTwo, Case, aMonadic, find, is-bracket, is-name, value-is, place-is}
 use Rattle.compiler.proofs.Parts.{sub}
 use Rattle.compiler.proofs.Expressions.{bracket-part}
-use Rattle.compiler.proofs.Calls.{Last, aCall, anIndex, last, snocCall, snocIndex, is-index, the-last, index-left, index-right, applied-lies}
-use Rattle.compiler.proofs.Calls.{applied-ends, suffixed-is, suffixed-part, suffixed-middle, with-state, under-index, suffixes-index}
-use Rattle.compiler.proofs.Calls.{faults-index}
+use Rattle.compiler.proofs.Calls.{IsLast, index-faults, index-means, Last, aCall, anIndex, last, snocCall, snocIndex, is-index, the-last}
+use Rattle.compiler.proofs.Calls.{index-left, index-right, applied-lies, applied-ends, suffixed-is, suffixed-part, suffixed-middle, with-state}
 use Rattle.compiler.proofs.Guards.{IsClosed, expression-closed, kind-of, shut}
 
 -- ---- places and values of records
@@ -99,9 +98,8 @@ module _ {s : List ℕ} {end : ℕ} {here : Here} {st : State} (n : Node) (nd : 
   abbrev pub monadic-part : ReadyE s end here st → ReadyE s (n .inner) (inside here) st
   monadic-part y = let u = monadic-is y in
       sub encode depth FineE y keeps-all (n .inner) (y .lo) (inside here) st (u .part) (u .lies) (omega (arith, nd .inner, u .ends)) (omega arith)
-      (omega (arith, nd .inner)) refl refl
-      (omega (arith, y .height, y .ends, u .ends)) (omega (arith, y .label, y .ends, u .ends)) (y .some) (omega (arith, monadic-deep y))
-      (monadic-fine y)
+      (omega (arith, nd .inner)) refl refl (omega (arith, y .height, y .ends, u .ends)) (omega (arith, y .label, y .ends, u .ends)) (y .some)
+      (omega (arith, monadic-deep y)) (monadic-fine y)
 
   pub monadic-gave : (text : List ℕ) {s′ t t′ : List ℕ} {r : State} → GaveMonadic text s s′ (n .value) (n .inner) (inside here) t t′ st r
       → GaveE text s s′ end here t t′ st r
@@ -373,8 +371,7 @@ module _ (text : List ℕ) {s t t′ : List ℕ} {end : ℕ} (place : ℕ) {here
   unfolding inExpression expression
   address-name {m} q lk f = record {
     by = λ y. let u = is-name (find n nd q y) in let sc = y .scope in let w = lookup text sc (u .name) in
-        let a : n .inner + 2 ≡ end - 2 = omega (arith, nd .inner, u .ends) in
-        let b : n .inner + 1 ≡ end - 3 = omega (arith, nd .inner, u .ends) in
+        let a : n .inner + 2 ≡ end - 2 = omega (arith, nd .inner, u .ends) in let b : n .inner + 1 ≡ end - 3 = omega (arith, nd .inner, u .ends) in
         let ex : nameAt s (n .inner) ≡ u .name = ap (λ (k : ℕ). named k (getD s (n .inner + 1) 0)) (ap (λ (k : ℕ). getD s k 0) a ∙ u .place-of) ∙ ap
         (λ (k : ℕ). named (u .name .place) k) (ap (λ (k : ℕ). getD s k 0) b ∙ u .width-of) in
         subst (λ (e : Expression). Result
@@ -417,64 +414,57 @@ some-suffix (T.index e ss) n =
     let x = encode e in
     omega (arith, length-append (x ++ (length x ∷ 49 ∷ [])) (encodeSuffixes ss), length-append x (length x ∷ 49 ∷ []))
 
-module _ {s : List ℕ} {end : ℕ} {here : Here} {st : State} (n : Node) (nd : NodeAt s end n) (q : n .kind ≡ 129) {middle : ℕ}
+module _ {s : List ℕ} {end : ℕ} {here : Here} {st : State} (n : Node) (nd : NodeAt s end n) (q : IndexKind s end) {middle : ℕ}
     (m : middle ≡ n .start + n .value) where
+  abbrev pub indexed-is : (y : ReadyE s end here st) → IsTwo encodeSuffixes T.suffixed s (y .lo) end (y .tree)
+  indexed-is y =
+      suffixed-is n nd (λ e. omega arith) (λ e. omega arith) (λ e. omega arith) (λ e. omega arith)
+      (λ e. omega arith) (λ e. omega arith) (λ e. omega arith) m y
+
   abbrev pub indexed-part : ReadyE s end here st → ReadySuffixes s middle (n .inner) (inside here) st
   indexed-part y =
-      suffixed-part n nd (λ e. omega arith) (λ e. omega arith) (λ e. omega arith) (λ e. omega arith) (λ e. omega arith) (λ e. omega arith)
+      suffixed-part n nd (λ e. omega arith) (λ e. omega arith) (λ e. omega arith) (λ e. omega arith)
+      (λ e. omega arith) (λ e. omega arith) (λ e. omega arith) m y
+
+  pub indexed-middle : (y : ReadyE s end here st) → middle ≡ y .lo + length (encode (indexed-is y .left))
+  indexed-middle y =
+      suffixed-middle n nd (λ e. omega arith) (λ e. omega arith) (λ e. omega arith) (λ e. omega arith) (λ e. omega arith) (λ e. omega arith)
       (λ e. omega arith) m y
 
   pub indexed-some : (y : ReadyE s end here st) → middle < n .inner
   unfolding Fine
-  indexed-some y =
-      let u = suffixed-is n nd (λ e. omega arith) (λ e. omega arith) (λ e. omega arith) (λ e. omega arith) (λ e. omega arith) (λ e. omega arith)
-      (λ e. omega arith) m y in
-      let f = subst FineE (u .same) (y .fine) in
-      omega (arith, applied-ends (indexed-part y), some-suffix (u .list) (f .2))
+  indexed-some y = let u = indexed-is y in
+      omega (arith, applied-ends (indexed-part y), some-suffix (u .list) (subst FineE (u .same) (y .fine) .2))
 
   pub indexed-tag : (y : ReadyE s end here st) → getD s (n .inner - 1) 0 ≡ 49
   unfolding expression-closed shut
   indexed-tag y =
-      let u = suffixed-is n nd (λ e. omega arith) (λ e. omega arith) (λ e. omega arith) (λ e. omega arith) (λ e. omega arith) (λ e. omega arith)
-      (λ e. omega arith) m y in
-      let Y = indexed-part y in
+      let u = indexed-is y in let Y = indexed-part y in
       let k = sym (ap (λ (e : Expression). expression-closed e .kind) (u .same)) ∙ sym (kind-of (expression-closed (y .tree)) (y .lies) (y .ends))
-      ∙ sym (nd .kind) ∙ q in
+      ∙ q .is in
       index-tag (last (u .list) (applied-lies Y) (applied-ends Y) (indexed-some y)) (index-of (endsInCall false (u .list)) k)
 
-  module _ {inner size start : ℕ} (ei : inner ≡ n .inner - 2) (ez : size ≡ getD s inner 0) (es : start ≡ inner - size) (l : middle < n .inner)
-      (tag : getD s (n .inner - 1) 0 ≡ 49) where
+  module _ {inner size start : ℕ} (ei : inner ≡ n .inner - 2) (ez : size ≡ getD s inner 0) (es : start ≡ inner - size) where
+    abbrev pub last-index : (y : ReadyE s end here st) → IsLast encode snocIndex s middle (n .inner) (indexed-is y .list)
+    last-index y = is-index (indexed-tag y) (the-last (indexed-some y) refl refl ei ez es (indexed-part y))
+
     abbrev pub address-left : ReadyE s end here st → ReadySuffixes s middle start (inside here) st
-    address-left y = index-left l refl ei ez es tag (indexed-part y)
+    address-left y = index-left (indexed-some y) refl refl ei ez es (indexed-tag y) (indexed-part y)
 
     module _ (text : List ℕ) {s₁ t t₁ t₂ : List ℕ} {a b : State} (g : GaveSuffixes text s s₁ middle start (inside here) t t₁ st a)
         (f : Emits (G.SP (here .height) ∷ []) ((here .height + 1) ∷ []) t₁ t₂ a b) where
       abbrev pub address-right : ReadyE s end here st → ReadyE s₁ inner (raised 1 (inside here)) b
-      address-right y = with-state (f .label) (index-right l refl ei ez es tag text g (indexed-part y))
+      address-right y = with-state (f .label) (index-right (indexed-some y) refl refl ei ez es (indexed-tag y) text g (indexed-part y))
 
       pub address-index-gave : {s₂ t₃ t₄ : List ℕ} {c d : State} → GaveE text s₁ s₂ inner (raised 1 (inside here)) t₂ t₃ b c
           → Emits (G.AIP (here .height) ∷ []) [] t₃ t₄ c d → GaveAddressIndex text s s₂ end here t t₄ st d
       unfolding inExpression expression exprCode ofExpr exprLabels sideOf
       address-index-gave {s₂} {t₃} {t₄} {c} {d} g₂ f₂ place = record {
         by = λ y.
-            let U = suffixed-is n nd (λ e. omega arith) (λ e. omega arith) (λ e. omega arith) (λ e. omega arith) (λ e. omega arith) (λ e. omega arith)
-            (λ e. omega arith) m y in
-            let Y = indexed-part y in let sc = y .scope in let h = here .height in let p = U .left in
-            let u = is-index tag (the-last l refl ei ez es Y) in
+            let U = indexed-is y in let Y = indexed-part y in let sc = y .scope in let h = here .height in let p = U .left in let u = last-index y in
             let x = g .by (address-left y) in let w = g₂ .by (address-right y) in let L = leavable here in
             let A = suffixes text sc h (expression text sc (under (u .init) h) p) (u .init) in let B = expression text sc (h + 1) (u .part) in
-            let fa = inExpression text sc L (under (u .init) h) p ++ inSuffixes text sc L h (u .init) in
-            let fb = inExpression text sc L (h + 1) (u .part) in
-            let ef : inExpression text sc L (under (U .list) h) p ++ inSuffixes text sc L h (U .list) ≡ fa ++ fb =
-            ap (λ (ss : Suffixes). inExpression text sc L (under ss h) p ++ inSuffixes text sc L h ss) (u .same)
-            ∙ ap (λ (k : ℕ). inExpression text sc L k p ++ inSuffixes text sc L h (snocIndex (u .init) (u .part)))
-            (under-index text sc (u .init) (u .part) h)
-            ∙ ap (λ (fs : List Fault). inExpression text sc L (under (u .init) h) p ++ fs) (faults-index text sc L (u .init) (u .part) h)
-            ∙ sym (append-assoc (inExpression text sc L (under (u .init) h) p) (inSuffixes text sc L h (u .init)) fb) in
-            let er : suffixes text sc h (expression text sc (under (U .list) h) p) (U .list) ≡ R.index A B =
-            ap (λ (ss : Suffixes). suffixes text sc h (expression text sc (under ss h) p) ss) (u .same)
-            ∙ ap (λ (k : ℕ). suffixes text sc h (expression text sc k p) (snocIndex (u .init) (u .part))) (under-index text sc (u .init) (u .part) h)
-            ∙ suffixes-index text sc (u .init) (u .part) h (expression text sc (under (u .init) h) p) in
+            let ef = index-faults text sc L h p (u .init) (u .part) (u .same) in let er = index-means text sc h p (u .init) (u .part) (u .same) in
             let E = suffixes text sc h (expression text sc (under (U .list) h) p) (U .list) in
             subst (λ (e : Expression). Result (inExpression text sc L h e ++ unlessSide place (sideOf (expression text sc h e)))
             (exprSays here (addressOf (sideOf (expression text sc h e)))) (length (encode (y .tree))) (y .base) here s s₂ t t₄ st d) (sym (U .same))
@@ -483,13 +473,11 @@ module _ {s : List ℕ} {end : ℕ} {here : Here} {st : State} (n : Node) (nd : 
               did = did-as (exprSays here (addressOf (sideOf E))) _ (did-put (did-then (did-emit (x .did) f) (w .did)) f₂)
                   (same-eq (sym ef ∙ sym (append-nil _) ∙ ap
                   (λ (e : Expr). (inExpression text sc L (under (U .list) h) p ++ inSuffixes text sc L h (U .list)) ++ unlessSide place
-                  (sideOf e)) (sym er)))
-                  (λ k v. code-is
+                  (sideOf e)) (sym er))) (λ k v. code-is
                   (append-assoc (exprCode (here .strings) h k A ++ (G.SP h ∷ [])) (exprCode (here .strings) (h + 1) (k + exprLabels A) B)
-                  (G.AIP h ∷ [])
-                  ∙ append-assoc (exprCode (here .strings) h k A) (G.SP h ∷ [])
-                  (exprCode (here .strings) (h + 1) (k + exprLabels A) B ++ (G.AIP h ∷ []))
-                  ∙ ap (λ (e : Expr). exprCode (here .strings) h k (addressOf (sideOf e))) (sym er))
+                  (G.AIP h ∷ []) ∙ append-assoc (exprCode (here .strings) h k A) (G.SP h ∷ [])
+                  (exprCode (here .strings) (h + 1) (k + exprLabels A) B ++ (G.AIP h ∷ [])) ∙ ap
+                  (λ (e : Expr). exprCode (here .strings) h k (addressOf (sideOf e))) (sym er))
                   (append-assoc (ofExpr h A) ((h + 1) ∷ []) (ofExpr (h + 1) B) ∙ ap (λ (e : Expr). ofExpr h (addressOf (sideOf e))) (sym er))
                   (ap (λ (e : Expr). exprLabels (addressOf (sideOf e))) (sym er)))
                   (omega (
@@ -498,8 +486,7 @@ module _ {s : List ℕ} {end : ℕ} {here : Here} {st : State} (n : Node) (nd : 
                     U .ends,
                     u .ends,
                     applied-ends Y,
-                    suffixed-middle n nd (λ e. omega arith) (λ e. omega arith) (λ e. omega arith)
-                        (λ e. omega arith) (λ e. omega arith) (λ e. omega arith) (λ e. omega arith) m y,
+                    indexed-middle y,
                     length-append (encode p)
                         (encodeSuffixes (u .init)),
                   ));
@@ -550,8 +537,7 @@ module _ (text : List ℕ) {s t t′ : List ℕ} {end : ℕ} (place : ℕ) (here
   unfolding inExpression expression
   side-name {m} q lk f = record {
     by = λ y. let u = is-name (find n nd q y) in let sc = y .scope in let w = lookup text sc (u .name) in let h = here .height in
-        let a : n .inner + 2 ≡ end - 2 = omega (arith, nd .inner, u .ends) in
-        let b : n .inner + 1 ≡ end - 3 = omega (arith, nd .inner, u .ends) in
+        let a : n .inner + 2 ≡ end - 2 = omega (arith, nd .inner, u .ends) in let b : n .inner + 1 ≡ end - 3 = omega (arith, nd .inner, u .ends) in
         let ex : nameAt s (n .inner) ≡ u .name = ap (λ (k : ℕ). named k (getD s (n .inner + 1) 0)) (ap (λ (k : ℕ). getD s k 0) a ∙ u .place-of) ∙ ap
         (λ (k : ℕ). named (u .name .place) k) (ap (λ (k : ℕ). getD s k 0) b ∙ u .width-of) in
         subst (λ (e : Expression). Result (inExpression text sc (leavable here) (h + 1) e ++ unlessSide place (sideOf (expression text sc (h + 1) e)))
@@ -588,18 +574,17 @@ module _ (text : List ℕ) {s : List ℕ} {end : ℕ} (place : ℕ) {here : Here
         });
   }
 
-module _ {s : List ℕ} {end : ℕ} {here : Here} {st : State} (n : Node) (nd : NodeAt s end n) (q : n .kind ≡ 129) {middle : ℕ}
+module _ {s : List ℕ} {end : ℕ} {here : Here} {st : State} (n : Node) (nd : NodeAt s end n) (q : IndexKind s end) {middle : ℕ}
     (m : middle ≡ n .start + n .value) where
-  module _ {inner size start : ℕ} (ei : inner ≡ n .inner - 2) (ez : size ≡ getD s inner 0) (es : start ≡ inner - size) (l : middle < n .inner)
-      (tag : getD s (n .inner - 1) 0 ≡ 49) where
+  module _ {inner size start : ℕ} (ei : inner ≡ n .inner - 2) (ez : size ≡ getD s inner 0) (es : start ≡ inner - size) where
     module _ (text : List ℕ) {t t₀ : List ℕ} {st₀ : State} (f₀ : Emits (G.SP (here .height) ∷ []) ((here .height + 1) ∷ []) t t₀ st st₀) where
       abbrev pub side-left : ReadyE s end (raised 1 here) st → ReadySuffixes s middle start (raised 1 (inside here)) st₀
-      side-left y = index-left l refl ei ez es tag (indexed-part n nd q m (with-state (f₀ .label) y))
+      side-left y = address-left n nd q m ei ez es (with-state (f₀ .label) y)
 
       module _ {s₁ t₁ t₂ : List ℕ} {a b : State} (g : GaveSuffixes text s s₁ middle start (raised 1 (inside here)) t₀ t₁ st₀ a)
           (f : Emits (G.SP (here .height + 1) ∷ []) ((here .height + 1 + 1) ∷ []) t₁ t₂ a b) where
         abbrev pub side-right : ReadyE s end (raised 1 here) st → ReadyE s₁ inner (raised 1 (raised 1 (inside here))) b
-        side-right y = with-state (f .label) (index-right l refl ei ez es tag text g (indexed-part n nd q m (with-state (f₀ .label) y)))
+        side-right y = address-right n nd q m ei ez es text g f (with-state (f₀ .label) y)
 
         pub side-index-gave : {s₂ t₃ t₄ : List ℕ} {c d : State} → GaveE text s₁ s₂ inner (raised 1 (raised 1 (inside here))) t₂ t₃ b c
             → Emits (G.AIP (here .height + 1) ∷ G.SP (here .height + 1) ∷ G.LIP (here .height) ∷ G.SIP (here .height + 1) ∷ []) [] t₃ t₄ c d
@@ -607,29 +592,12 @@ module _ {s : List ℕ} {end : ℕ} {here : Here} {st : State} (n : Node) (nd : 
         unfolding inExpression expression G.targetCode ofTarget G.targetLabels sideOf
         side-index-gave {s₂} {t₃} {t₄} {c} {d} g₂ f₂ place = record {
           by = λ y.
-              let y₀ = with-state (f₀ .label) y in
-              let U = suffixed-is n nd (λ e. omega arith) (λ e. omega arith) (λ e. omega arith) (λ e. omega arith) (λ e. omega arith)
-              (λ e. omega arith) (λ e. omega arith) m y₀ in
-              let Y = indexed-part n nd q m y₀ in let sc = y .scope in let h = here .height in let k = h + 1 in let p = U .left in
-              let u = is-index tag (the-last l refl ei ez es Y) in
-              let x = g .by (side-left y) in let w = g₂ .by (side-right y) in let L = leavable here in
+              let y₀ = with-state (f₀ .label) y in let U = indexed-is n nd q m y₀ in let Y = indexed-part n nd q m y₀ in let sc = y .scope in
+              let h = here .height in let k = h + 1 in let p = U .left in let u = last-index n nd q m ei ez es y₀ in let x = g .by (side-left y) in
+              let w = g₂ .by (side-right y) in let L = leavable here in let kk : k + 1 ≡ h + 2 = omega arith in
               let A = suffixes text sc k (expression text sc (under (u .init) k) p) (u .init) in let B = expression text sc (k + 1) (u .part) in
-              let fa = inExpression text sc L (under (u .init) k) p ++ inSuffixes text sc L k (u .init) in
-              let fb = inExpression text sc L (k + 1) (u .part) in
-              let kk : k + 1 ≡ h + 2 = omega arith in
-              let ef : inExpression text sc L (under (U .list) k) p ++ inSuffixes text sc L k (U .list) ≡ fa ++ fb =
-              ap (λ (ss : Suffixes). inExpression text sc L (under ss k) p ++ inSuffixes text sc L k ss) (u .same)
-              ∙ ap (λ (v : ℕ). inExpression text sc L v p ++ inSuffixes text sc L k (snocIndex (u .init) (u .part)))
-              (under-index text sc (u .init) (u .part) k)
-              ∙ ap (λ (fs : List Fault). inExpression text sc L (under (u .init) k) p ++ fs) (faults-index text sc L (u .init) (u .part) k)
-              ∙ sym (append-assoc (inExpression text sc L (under (u .init) k) p) (inSuffixes text sc L k (u .init)) fb) in
-              let er : suffixes text sc k (expression text sc (under (U .list) k) p) (U .list) ≡ R.index A B =
-              ap (λ (ss : Suffixes). suffixes text sc k (expression text sc (under ss k) p) ss) (u .same)
-              ∙ ap (λ (v : ℕ). suffixes text sc k (expression text sc v p) (snocIndex (u .init) (u .part)))
-              (under-index text sc (u .init) (u .part) k)
-              ∙ suffixes-index text sc (u .init) (u .part) k (expression text sc (under (u .init) k) p) in
-              let E = suffixes text sc k (expression text sc (under (U .list) k) p) (U .list) in
-              let Z = G.AIP k ∷ G.SP k ∷ G.LIP h ∷ G.SIP k ∷ [] in
+              let ef = index-faults text sc L k p (u .init) (u .part) (u .same) in let er = index-means text sc k p (u .init) (u .part) (u .same) in
+              let E = suffixes text sc k (expression text sc (under (U .list) k) p) (U .list) in let Z = G.AIP k ∷ G.SP k ∷ G.LIP h ∷ G.SIP k ∷ [] in
               subst (λ (e : Expression). Result (inExpression text sc L k e ++ unlessSide place (sideOf (expression text sc k e)))
               (targetSays here (targetOf (sideOf (expression text sc k e)))) (length (encode (y .tree))) (y .base) (raised 1 here) s s₂ t t₄ st d)
               (sym (U .same))
@@ -638,25 +606,21 @@ module _ {s : List ℕ} {end : ℕ} {here : Here} {st : State} (n : Node) (nd : 
                 did = did-as (targetSays here (targetOf (sideOf E))) _ (did-after f₀ (did-put (did-then (did-emit (x .did) f) (w .did)) f₂))
                     (same-eq (sym ef ∙ sym (append-nil _) ∙ ap
                     (λ (e : Expr). (inExpression text sc L (under (U .list) k) p ++ inSuffixes text sc L k (U .list)) ++ unlessSide place
-                    (sideOf e)) (sym er)))
-                    (λ v e. code-is
-                    (ap (λ (z : List I.Item). G.SP h ∷ z) (append-assoc (exprCode (here .strings) k v A ++ (G.SP k ∷ [])) (exprCode (here .strings) (k
-                    + 1) (v + exprLabels A) B) Z
+                    (sideOf e)) (sym er))) (λ v e. code-is (ap (λ (z : List I.Item). G.SP h ∷ z)
+                    (append-assoc (exprCode (here .strings) k v A ++ (G.SP k ∷ [])) (exprCode (here .strings) (k + 1) (v + exprLabels A) B) Z
                     ∙ append-assoc (exprCode (here .strings) k v A) (G.SP k ∷ []) (exprCode (here .strings) (k + 1) (v + exprLabels A) B ++ Z)
-                    ∙ ap (λ (i : ℕ). exprCode (here .strings) k v A ++ (G.SP k ∷ (exprCode (here .strings) i (v + exprLabels A) B ++ Z))) kk)
-                    ∙ ap (λ (e : Expr). G.targetCode (here .strings) h v (targetOf (sideOf e))) (sym er))
+                    ∙ ap (λ (i : ℕ). exprCode (here .strings) k v A ++ (G.SP k ∷ (exprCode (here .strings) i (v + exprLabels A) B ++ Z))) kk) ∙ ap
+                    (λ (e : Expr). G.targetCode (here .strings) h v (targetOf (sideOf e))) (sym er))
                     (ap (λ (z : List ℕ). k ∷ z)
                     (append-assoc (ofExpr k A) ((k + 1) ∷ []) (ofExpr (k + 1) B) ∙ ap (λ (i : ℕ). ofExpr k A ++ (i ∷ ofExpr i B)) kk) ∙ ap
-                    (λ (e : Expr). ofTarget h (targetOf (sideOf e))) (sym er))
-                    (ap (λ (e : Expr). G.targetLabels (targetOf (sideOf e))) (sym er)))
+                    (λ (e : Expr). ofTarget h (targetOf (sideOf e))) (sym er)) (ap (λ (e : Expr). G.targetLabels (targetOf (sideOf e))) (sym er)))
                     (omega (
                       arith,
                       y .ends,
                       U .ends,
                       u .ends,
                       applied-ends Y,
-                      suffixed-middle n nd (λ e. omega arith) (λ e. omega arith)
-                          (λ e. omega arith) (λ e. omega arith) (λ e. omega arith) (λ e. omega arith) (λ e. omega arith) m y₀,
+                      indexed-middle n nd q m y₀,
                       length-append (encode p)
                           (encodeSuffixes (u .init)),
                     ));

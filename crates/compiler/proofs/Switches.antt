@@ -64,23 +64,18 @@ module _ (text t₀ : List ℕ) (w : Ways) (l₀ : ℕ) {s₀ : List ℕ} {from 
       abbrev pub case-part : (y : ReadyCases s₀ from end here st₀) → CasesPart y s t at k st → ReadyC s next here a
       case-part y p =
           ready-one (y .ready) (y .starts) l es en p here a refl refl refl (omega arith)
-          (omega (arith, y .label, p .label, case-entries y p, m .label))
-          (omega (arith, p .some, m .label))
+          (omega (arith, y .label, p .label, case-entries y p, m .label)) (omega (arith, p .some, m .label))
 
       pub cases-next : {s₁ t₂ : List ℕ} {r : State} → GaveCase text s s₁ next here w t₁ t₂ a r → (y : ReadyCases s₀ from end here st₀)
-          → CasesPart y s t at k st
-          → CasesPart y s₁ t₂ next (k + 1) r
+          → CasesPart y s t at k st → CasesPart y s₁ t₂ next (k + 1) r
       unfolding casesFaults caseList G.casesCode ofCases G.casesLabels
       cases-next {t₂ = t₂} {r} g y p =
           let z = y .ready in let u = item z (y .starts) l es en p in let x = g .by (case-part y p) in let sc = z .scope in let h = here .height in
           let n = case-entries y p in let a : l₀ + (k + 1) ≡ suc (l₀ + k) = omega arith in
           goes-on z (y .starts) l es en p (x .keeps) (omega arith) (omega (arith, x .did .few, m .label))
-          (omega (arith, p .some, x .did .grows, m .label))
-          (λ t′ st′ d. did-as _ _
-          (did-then (did-after m (x .did))
+          (omega (arith, p .some, x .did .grows, m .label)) (λ t′ st′ d. did-as _ _ (did-then (did-after m (x .did))
           (subst (λ (i : ℕ). Did (casesFaults text sc (leavableBy w here) h (u .more)) (casesSays here w i (caseList text sc h (u .more)))
-          (2 * entriesIn (u .more)) t₂ t′ r st′) a d))
-          same-refl (λ i c. refl) (omega arith))
+          (2 * entriesIn (u .more)) t₂ t′ r st′) a d)) same-refl (λ i c. refl) (omega arith))
 
   pub cases-end : (k : ℕ) {s t : List ℕ} {at : ℕ} {st : State} → end ≤ at → ((y : ReadyCases s₀ from end here st₀) → CasesPart y s t at k st)
       → GaveCases text s₀ s from end l₀ here w t₀ t st₀ st
@@ -102,8 +97,7 @@ unfolding labelFaults casesFaults inCases
 cases-same text sc l h before T.noCommands = same-refl
 cases-same text sc l h before (T.andCommand c cs) =
     same-then (same-crossed (doubled text sc before (labelsBefore c)) (labelFaults text sc (before ++ labelsBefore c) cs) (inCase text sc l h c)
-    (casesFaults text sc l h cs))
-    (same-both (same-refl {a = doubled text sc before (labelsBefore c) ++ inCase text sc l h c})
+    (casesFaults text sc l h cs)) (same-both (same-refl {a = doubled text sc before (labelsBefore c) ++ inCase text sc l h c})
     (cases-same text sc l h (before ++ labelsBefore c) cs))
 
 -- ---- the whole
@@ -140,8 +134,7 @@ leaves-switch here ways end h = rw (ne-eqb end 0 (λ e. omega arith))
 
 -- the words after X23, and the refusals of the labels
 table-did : {text s t t₁ : List ℕ} {from end top first done : ℕ} {b c d : State} (h : ℕ) → JudgesLabels text s from end top b c
-    → WritesTable text s from end top first done t t₁ c d → (y : ReadyLabels s from end top)
-    → Did (labelFaults text (y .scope) [] (y .commands))
+    → WritesTable text s from end top first done t t₁ c d → (y : ReadyLabels s from end top) → Did (labelFaults text (y .scope) [] (y .commands))
     (λ n. record { items = tableItems first done (caseList text (y .scope) h (y .commands)); heights = []; labels = 0 }) 0 t t₁ b d
 table-did {t = t} h j w y = let x = j .by y t in record {
   worst = w .worst ∙ x .worst;
@@ -239,21 +232,18 @@ module _ {s : List ℕ} {end : ℕ} {here : Here} {st : State} (n : Node) (nd : 
       switch-gave ways {s₂} {t₃} {t₄} {o} {r} g₂ f = record {
         by = λ y.
             let u = switch-is y in let x = g .by (switch-value y) in let z = g₂ .by (switch-cases y) in let sc = y .scope in let h = here .height in
-            let S = here .strings in let lv = leavableBy ways here in let A = a .label in
-            let E = expression text sc h (u .value) in let CS = caseList text sc h (u .list) in let v = list-entries text sc h (u .list) in
-            let ek = switch-count y in
+            let S = here .strings in let lv = leavableBy ways here in let A = a .label in let E = expression text sc h (u .value) in
+            let CS = caseList text sc h (u .list) in let v = list-entries text sc h (u .list) in let ek = switch-count y in
             let ls : leavableBy (inSwitch A ways) here ≡ Y.inSwitch lv = leaves-switch here ways A (omega (arith, x .did .grows, y .some)) in
-            let en : A + (k + 1) + 0 ≡ A + 1 + G.commandsIn CS = omega (arith, ek) in
-            let F = labelFaults text sc [] (u .list) in
+            let en : A + (k + 1) + 0 ≡ A + 1 + G.commandsIn CS = omega (arith, ek) in let F = labelFaults text sc [] (u .list) in
             let rest : Did (F ++ casesFaults text sc (leavableBy (inSwitch A ways) here) h (u .list)) (switchSays here ways CS)
             (k + 1 + (0 + 2 * entriesIn (u .list))) t₁ t₄ a r =
             did-at (switchSays here ways CS) _ (did-fresh e (did-put (did-then (table-did h j w (switch-labels y)) (z .did)) f)) same-refl
             (λ p. code-is
-            (append-assoc (tableItems first A CS) (G.casesCode S h first (A + (k + 1) + 0) (exits (inSwitch A ways)) CS) (I.label A ∷ [])
-            ∙ ap (λ (i : ℕ). tableItems i A CS ++ (G.casesCode S h i (A + (k + 1) + 0) (exits (inSwitch A ways)) CS ++ (I.label A ∷ []))) ef
-            ∙ ap (λ (i : ℕ). tableItems (A + 1) A CS ++ (G.casesCode S h (A + 1) i (exits (inSwitch A ways)) CS ++ (I.label A ∷ []))) en)
-            refl (omega (arith, ek)))
-            (omega arith) in
+            (append-assoc (tableItems first A CS) (G.casesCode S h first (A + (k + 1) + 0) (exits (inSwitch A ways)) CS) (I.label A ∷ []) ∙ ap
+            (λ (i : ℕ). tableItems i A CS ++ (G.casesCode S h i (A + (k + 1) + 0) (exits (inSwitch A ways)) CS ++ (I.label A ∷ []))) ef ∙ ap
+            (λ (i : ℕ). tableItems (A + 1) A CS ++ (G.casesCode S h (A + 1) i (exits (inSwitch A ways)) CS ++ (I.label A ∷ []))) en) refl
+            (omega (arith, ek))) (omega arith) in
             subst (λ (p : Unlabelled). Result (inUnlabelled text sc lv h p) (cmdSays here ways (unlabelled text sc h p))
             (length (encodeUnlabelled (y .tree))) (y .base) here s s₂ t t₄ st r) (sym (u .same))
             (record {
@@ -261,8 +251,7 @@ module _ {s : List ℕ} {end : ℕ} {here : Here} {st : State} (n : Node) (nd : 
               did = did-as (cmdSays here ways (R.switch E CS)) _ (did-then (with-ways text sc here ways h (u .value) (x .did)) rest)
                   (same-both (same-refl {a = inExpression text sc lv h (u .value)})
                   (same-then (same-eq (ap (λ (p : Leavable). F ++ casesFaults text sc p h (u .list)) ls))
-                  (cases-same text sc (Y.inSwitch lv) h [] (u .list))))
-                  (λ p c. code-is refl refl (omega arith))
+                  (cases-same text sc (Y.inSwitch lv) h [] (u .list)))) (λ p c. code-is refl refl (omega arith))
                   (omega (arith, y .ends, u .ends, ek, v));
             });
       }

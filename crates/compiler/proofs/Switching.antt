@@ -370,8 +370,7 @@ module _ (text : List ℕ) {s : List ℕ} {from end top : ℕ} (k : ℕ) (t₀ :
   pairs-begin y so =
       left-all (λ rest. Sound text (y .scope) rest
       × ((t′ : List ℕ) (st′ : State) → Emits (G.pairsOf k (labelsOf text (y .scope) rest)) [] t₀ t′ st₀ st′ → Emits
-      (G.pairsOf k (labelsOf text (y .scope) (y .all))) [] t₀ t′ st₀ st′))
-      (y .row) (so, λ t′ st′ e. e)
+      (G.pairsOf k (labelsOf text (y .scope) (y .all))) [] t₀ t′ st₀ st′)) (y .row) (so, λ t′ st′ e. e)
 
   pub pairs-next : {at next : ℕ} {t t₁ : List ℕ} {st r : State} → at < end → NextItem s at end next → WritesPair text s next top k t t₁ st r
       → (y : Listed (LabelAt s) s from end top) → PairsPart y t at st → PairsPart y t₁ next r
@@ -402,8 +401,7 @@ module _ (text : List ℕ) {s : List ℕ} {from end top : ℕ} (first : ℕ) (t�
   table-begin y so =
       left-all (λ rest. Sound text (y .scope) (flat rest)
       × ((t′ : List ℕ) (st′ : State) → Emits (tableAmong text (y .scope) first rest) [] t₀ t′ st₀ st′ → Emits
-      (tableAmong text (y .scope) first (y .all)) [] t₀ t′ st₀ st′))
-      (y .row) (so, λ t′ st′ e. e)
+      (tableAmong text (y .scope) first (y .all)) [] t₀ t′ st₀ st′)) (y .row) (so, λ t′ st′ e. e)
 
   pub table-next : {at next k : ℕ} {sp : Span} {t t₁ : List ℕ} {st r : State} → at < end → NextItem s at end next → Spans s next sp
       → WritesPairs text s (sp .from) (sp .to) top k t t₁ st r → (y : Listed (CommandAt s) s from end top) → TablePart y t at k st
@@ -511,9 +509,8 @@ table-is text sc h l (T.andCommand c cs) =
     (ap (λ (k : ℕ). G.tableOf k (caseList text sc h cs)) a ∙ table-is text sc h (l + 1) cs)
 
 pub table-gave : (text : List ℕ) {s : List ℕ} {from end top first done m d : ℕ} {t t₁ t₂ t₃ t₄ : List ℕ} {st a b c r : State}
-    → Emits (G.X 23 ∷ []) [] t t₁ st a → CountsAll s from end m → Emits (G.D m ∷ []) [] t₁ t₂ a b
-    → FindsDefault s from end first done d → Emits (G.DL d ∷ []) [] t₂ t₃ b c → WritesAll text s from end top first t₃ t₄ c r
-    → WritesTable text s from end top first done t t₄ st r
+    → Emits (G.X 23 ∷ []) [] t t₁ st a → CountsAll s from end m → Emits (G.D m ∷ []) [] t₁ t₂ a b → FindsDefault s from end first done d → Emits
+    (G.DL d ∷ []) [] t₂ t₃ b c → WritesAll text s from end top first t₃ t₄ c r → WritesTable text s from end top first done t t₄ st r
 table-gave text {s} {from} {end} {top} {first} {done} {m} {d} {t} {t₄ = t₄} {st} {r = r} x n e f g w = record {
   worst = k .worst;
   label = k .label;

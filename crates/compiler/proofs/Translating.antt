@@ -118,8 +118,7 @@ module _ {source s s′ : List ℕ} {a : SymbolsRead} (l : Lent source (length s
       go : (x : Symbols) → symbolsOf source ≡ x → YA.Read count ≡ outcome (length s) x .answer → s′ ≡ outcome (length s) x .scratch
           → ReadySymbols source s′ count
       go (good ss) q w z =
-          let k : count ≡ length ss = cc in
-          let stand = z ∙ ap (λ (n : ℕ). outcome n (good ss) .scratch) (sym same) in
+          let k : count ≡ length ss = cc in let stand = z ∙ ap (λ (n : ℕ). outcome n (good ss) .scratch) (sym same) in
           record { lent = lent-still l same; symbols = ss; reads = q; counts = k; stand = stand }
       go (faulty number place) q w z = let k : _≡_ {A = ℕ} 0 1 = cc in absurd (omega arith)
 
@@ -227,10 +226,8 @@ module _ {source s : List ℕ} {count : ℕ} (y : ReadySymbols source s count) w
         go : (o : Out Program) → treeOf src ≡ o → RA.Read end ≡ R.answerOf src count o → front ≡ leftBy count (take most s) o
             → ReadyTree source s′ count end
         go (ok p next) q w z =
-            let k : end ≡ count * 3 + length (encodeProgram p) = cc in
-            let within : end ≤ count * 8 = subst (Within (count * 8)) e (r .room) in
-            let all : List ℕ = ss ++ encodeProgram p in
-            let few : length all ≤ most = omega (arith, length-append ss (encodeProgram p), size) in
+            let k : end ≡ count * 3 + length (encodeProgram p) = cc in let within : end ≤ count * 8 = subst (Within (count * 8)) e (r .room) in
+            let all : List ℕ = ss ++ encodeProgram p in let few : length all ≤ most = omega (arith, length-append ss (encodeProgram p), size) in
             let stand = whole all few (z ∙ ap (λ (x : List ℕ). padded (length (take most s)) (x ++ encodeProgram p)) symbols-first) in
             let same = as-long all few stand in
             record {
@@ -257,11 +254,8 @@ module _ {source s : List ℕ} {count : ℕ} (y : ReadySymbols source s count) w
             → Translates source s (z ++ drop (count * 3) s′) t t′ (C.Refused w)
         go (ok p next) k v l = let k : _≡_ {A = ℕ} 0 1 = cc in absurd (omega arith)
         go (no m at) k v l =
-            let i : m ≡ number = cc in
-            let j : placeAt src at ≡ place = cc in
-            let few : length ss ≤ most = omega (arith, size) in
-            let stand = whole ss few (l ∙ ap (padded (length (take most s))) symbols-first) in
-            let same = as-long ss few stand in
+            let i : m ≡ number = cc in let j : placeAt src at ≡ place = cc in let few : length ss ≤ most = omega (arith, size) in
+            let stand = whole ss few (l ∙ ap (padded (length (take most s))) symbols-first) in let same = as-long ss few stand in
             let clean : Clean (count * 3) s′ = padded-clean ss (length s) stand (omega (arith, size)) in
             refusing q (tree-refused (y .lent) (length t) (y .symbols) m at (y .reads) k ∙ rw (i, j) refl)
             (clean-all clean (symbols-room same) c ∙ ap (λ (n : ℕ). replicate n 0) same)

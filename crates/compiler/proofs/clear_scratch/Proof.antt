@@ -13,7 +13,6 @@ Inv-loop scratch₀ from i₀ scratch i = (from ≤ i) × (i ≤ length scratch�
 abbrev μ-loop : tie.MeasureT-loop
 μ-loop scratch₀ from i₀ scratch i = length scratch₀ - i
 
--- src/lib.rt:22:5
 loop-again : tie.Need-loop-again Inv-loop μ-loop
 loop-again c = (
   search needs,
@@ -23,7 +22,6 @@ loop-again c = (
   search needs,
 )
 
--- src/lib.rt:17:1
 returns : tie.Need-returns Inv-loop μ-loop
 returns c =
     clear-all (c .before .before .args .scratch .now) (c .before .before .args .from) (c .before .loop .i) (c .before .loop .inv .0)

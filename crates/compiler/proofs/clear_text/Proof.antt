@@ -13,7 +13,6 @@ Inv-loop text₀ from i₀ text i = (from ≤ i) × (i ≤ length text₀) × (t
 abbrev μ-loop : tie.MeasureT-loop
 μ-loop text₀ from i₀ text i = length text₀ - i
 
--- src/lib.rt:33:5
 loop-again : tie.Need-loop-again Inv-loop μ-loop
 loop-again c = (
   search needs,
@@ -23,7 +22,6 @@ loop-again c = (
   search needs,
 )
 
--- src/lib.rt:28:1
 returns : tie.Need-returns Inv-loop μ-loop
 returns c =
     clear-all (c .before .before .args .text .now) (c .before .before .args .from) (c .before .loop .i) (c .before .loop .inv .0)

@@ -6,11 +6,9 @@ use borrow.Author.Needs.{needs}
 use Rattle.compiler.proofs.parsed.Statement.{statement}
 use Rattle.compiler.proofs.parsed.Tie as tie
 
--- src/lib.rt:197:36
 mul-clear-scratch : tie.Need-mul-clear-scratch
 mul-clear-scratch c = omega (arith, tree-room (c .before .before .before .before .before .before .before .before .before .before .pre))
 
--- src/lib.rt:190:1
 returns-3 : tie.Need-returns-3
 returns-3 c =
     absurd

@@ -3,14 +3,12 @@ use borrow.Author.Needs.{needs}
 use Rattle.compiler.proofs.translated.Statement.{statement}
 use Rattle.compiler.proofs.translated.Tie as tie
 
--- src/lib.rt:205:1
 returns-3 : tie.Need-returns-3
 returns-3 c =
     absurd
     (never-short (c .before .before .before .before .before .before .before .before .before .before .pre)
     (c .before .before .before .before .before .read-symbols .ensures) (c .before .enum-told .given .1))
 
--- src/lib.rt:205:1
 returns-4 : tie.Need-returns-4
 returns-4 c =
     absurd

@@ -6,36 +6,30 @@ use borrow.Author.Needs.{needs}
 use Rattle.compiler.proofs.walked.Statement.{statement}
 use Rattle.compiler.proofs.walked.Tie as tie
 
--- src/lib.rt:153:9
 function-count-requires : tie.Need-function-count-requires
 function-count-requires c κs = omega (arith, few-symbols (c .before .before .before .before .pre))
 
--- src/lib.rt:154:9
 string-count-requires : tie.Need-string-count-requires
 string-count-requires c κs = omega (arith, few-symbols (c .before .before .before .before .before .before .pre))
 
--- src/lib.rt:161:20
 add-decide : tie.Need-add-decide
 add-decide c =
     let s = c .before .before .before .before .before in
     let f = s .before .before in
     omega (arith, few-labels (f .before .before .before .before .before .pre) (f .function-count .ensures) (s .string-count .ensures))
 
--- src/lib.rt:161:20
 add-decide-2 : tie.Need-add-decide-2
 add-decide-2 c =
     let s = c .before .before .before .before .before in
     let f = s .before .before in
     omega (arith, few-labels (f .before .before .before .before .before .pre) (f .function-count .ensures) (s .string-count .ensures))
 
--- src/lib.rt:173:9
 add-program : tie.Need-add-program
 add-program c =
     let s = c .before .before .before .before .before .before .before in
     let f = s .before .before in
     omega (arith, few-labels (f .before .before .before .before .before .pre) (f .function-count .ensures) (s .string-count .ensures))
 
--- src/lib.rt:177:9
 behind-requires : tie.Need-behind-requires
 behind-requires c κs =
     let p = c .before .before .before .before .before .before .before .before in
@@ -43,20 +37,17 @@ behind-requires c κs =
     let f = s .before .before in
     ready-behind (f .before .before .before .before .before .pre) (f .function-count .ensures) (s .string-count .ensures) (search needs)
 
--- src/lib.rt:178:19
 slice-relend-prefix-clear-scratch : tie.Need-slice-relend-prefix-clear-scratch
 slice-relend-prefix-clear-scratch c =
     let p = c .before .before .before .before .before .before .before .before .before .before .before .before .before .before .before in
     end-inside (p .before .before .before .before .before .before .before .before .before .before .before .before .before .before .pre) (search needs)
 
--- src/lib.rt:178:19
 slice-aggregate-clear-scratch : tie.Need-slice-aggregate-clear-scratch
 slice-aggregate-clear-scratch c =
     let p = c .before .before .before .before .before .before .before .before .before .before .before .before .before .before .before .before in
     sym (length-take-le _ _ (end-inside
     (p .before .before .before .before .before .before .before .before .before .before .before .before .before .before .pre) (search needs)))
 
--- src/lib.rt:148:1
 returns : tie.Need-returns
 returns c =
     let a = c .before .before .before .before .before in

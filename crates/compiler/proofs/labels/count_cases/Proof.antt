@@ -17,8 +17,13 @@ abbrev μ-loop : tie.MeasureT-loop
 loop-again : tie.Need-loop-again Inv-loop μ-loop
 loop-again c = (
   omega (arith, c .before .before .before .loop .inv .0, c .one-case .ensures .few, c .before .next-item .ensures .further),
-  omega
-      (arith, c .before .before .before .loop .inv .0, c .one-case .ensures .few, c .before .next-item .ensures .further, c .before .next-item .ensures .within),
+  omega (
+    arith,
+    c .before .before .before .loop .inv .0,
+    c .one-case .ensures .few,
+    c .before .next-item .ensures .further,
+    c .before .next-item .ensures .within,
+  ),
   λ ls r. count-next (labels (c .before .before .before .before .before .args .s .now))
       (c .before .before .before .before .before .args .s .now) (c .before .before .before .before .before .args .end)
       (c .before .before .before .loop .n) (c .before .before .loop-test .taken) (c .before .next-item .ensures)

@@ -19,7 +19,8 @@ returns c =
     record {
       by = λ ls r. among-found (c .before .before .before .before .before .before .args .s .now)
           (c .before .before .before .before .before .before .args .end) (c .before .before .before .loop-test .taken)
-          (c .before .before .next-item .ensures) (c .before .one-case .ensures) (c .if1 .taken) ls (c .before .before .before .before .loop .inv ls r);
+          (c .before .before .next-item .ensures) (c .before .one-case .ensures) (c .if1 .taken) ls
+          (c .before .before .before .before .loop .inv ls r);
     }
 
 loop-again : tie.Need-loop-again Inv-loop μ-loop

@@ -27,7 +27,10 @@ returns-7 : tie.Need-returns-7
 returns-7 c = (ap (λ (x : ℕ). 2 ^ x) (sym (c .match .keys7)), omega arith, omega arith)
 
 returns-8 : tie.Need-returns-8
-returns-8 c = let n = c .match .rest in let z = last-of-eight (c .before .pre) (n .0 .0 .0 .0 .0 .0 .1) (n .0 .0 .0 .0 .0 .1) (n .0 .0 .0 .0 .1) (n .0 .0 .0 .1) (n .0 .0 .1) (n .0 .1) (n .1) in
+returns-8 c =
+    let n = c .match .rest in
+    let z = last-of-eight (c .before .pre) (n .0 .0 .0 .0 .0 .0 .1) (n .0 .0 .0 .0 .0 .1) (n .0 .0 .0 .0 .1) (n .0 .0 .0 .1) (n .0 .0 .1) (n .0 .1)
+    (n .1) in
     (ap (λ (x : ℕ). 2 ^ x) z, omega arith, omega arith)
 
 pub power-spec : {M : Type 1} → statement M

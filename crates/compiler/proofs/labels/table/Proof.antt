@@ -5,14 +5,17 @@ use Rattle.compiler.proofs.labels.table.Tie as tie
 
 all-pairs-requires : tie.Need-all-pairs-requires
 all-pairs-requires c κs = (
-  c .before .before .before .before .before .before .before .before .before .before .before .before .before .before .before .before .before .before .pre .0,
-  c .before .before .before .before .before .before .before .before .before .before .before .before .before .before .before .before .before .before .pre .1,
+  c .before .before .before .before .before .before .before .before .before .before .before .before .before .before .before .before .before .before
+      .pre .0,
+  c .before .before .before .before .before .before .before .before .before .before .before .before .before .before .before .before .before .before
+      .pre .1,
 )
 
 returns : tie.Need-returns
 returns c =
     table-gave
-    (c .before .before .before .before .before .before .before .before .before .before .before .before .before .before .before .before .before .before .before .before .before .args .source .now)
+    (c .before .before .before .before .before .before .before .before .before .before .before .before .before .before .before .before .before
+    .before .before .before .before .args .source .now)
     (c .before .before .before .before .before .before .before .before .before .before .before .before .before .before .before .before .put .ensures)
     (c .before .before .before .before .before .before .before .before .before .before .before .before .before .count-all .ensures)
     (c .before .before .before .before .before .before .before .before .before .before .before .put-word .ensures)

@@ -45,12 +45,18 @@ add-k c =
     omega (
       arith,
       names-fit
-          (c .before .before .before .before .before .before .before .before .before .before .before .before .before .before .before .before .before .before .before .before .args .source .now)
-          (c .before .before .before .before .before .before .before .before .before .before .before .before .before .before .before .before .before .before .before .before .args .st)
-          (c .before .before .before .before .before .before .before .before .before .before .before .before .before .before .before .loop-test .taken)
-          (c .before .before .before .before .before .before .before .before .before .before .before .before .before .before .before .before .before .before .before .before .pre)
-          (c .before .before .before .before .before .before .before .before .before .before .before .before .before .before .before .before .loop .inv .2
-          (c .before .before .before .before .before .before .before .before .before .before .before .before .before .before .before .before .before .before .before .before .pre)),
+          (c .before .before .before .before .before .before .before .before .before .before .before .before .before .before .before .before .before
+          .before .before .before .args .source .now)
+          (c .before .before .before .before .before .before .before .before .before .before .before .before .before .before .before .before .before
+          .before .before .before .args .st)
+          (c .before .before .before .before .before .before .before .before .before .before .before .before .before .before .before .loop-test
+          .taken)
+          (c .before .before .before .before .before .before .before .before .before .before .before .before .before .before .before .before .before
+          .before .before .before .pre)
+          (c .before .before .before .before .before .before .before .before .before .before .before .before .before .before .before .before .loop
+          .inv .2
+          (c .before .before .before .before .before .before .before .before .before .before .before .before .before .before .before .before .before
+          .before .before .before .pre)),
     )
 
 loop-again : tie.Need-loop-again Inv-loop μ-loop
@@ -60,8 +66,10 @@ loop-again c = (
   c .before .before .before .before .enter .kept .1 .0 ∙
       c .before .before .before .before .before .before .before .before .before .before .before .before .before .before .before .before .loop .inv .1,
   λ y. names-next
-      (c .before .before .before .before .before .before .before .before .before .before .before .before .before .before .before .before .before .before .before .before .args .source .now)
-      (c .before .before .before .before .before .before .before .before .before .before .before .before .before .before .before .before .before .before .before .before .args .st)
+      (c .before .before .before .before .before .before .before .before .before .before .before .before .before .before .before .before .before
+      .before .before .before .args .source .now)
+      (c .before .before .before .before .before .before .before .before .before .before .before .before .before .before .before .before .before
+      .before .before .before .args .st)
       (c .before .before .before .before .before .before .before .before .before .before .before .before .before .before .before .loop-test .taken)
       (c .before .before .before .before .before .before .before .before .before .before .before .before .before .entry .ensures .0) refl
       (c .before .before .before .before .before .before .before .before .before .before .before .lookup .ensures .0)

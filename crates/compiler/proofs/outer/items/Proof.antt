@@ -93,7 +93,8 @@ mul-push-name c =
       arith,
       items-fit
           (c .before .before .before .before .before .before .before .before .before .before .before .before .before .before .before .args .global)
-          (c .before .before .before .before .before .before .before .before .before .before .before .before .before .before .before .args .source .now)
+          (c .before .before .before .before .before .before .before .before .before .before .before .before .before .before .before .args .source
+          .now)
           (c .before .before .before .before .before .before .before .before .before .before .before .before .before .before .before .args .st)
           (c .before .before .before .before .before .before .before .before .before .before .before .before .loop .k)
           (c .before .before .before .before .before .before .before .before .before .before .before .loop-test .taken)
@@ -108,7 +109,8 @@ add-push-name c =
       arith,
       items-fit
           (c .before .before .before .before .before .before .before .before .before .before .before .before .before .before .before .args .global)
-          (c .before .before .before .before .before .before .before .before .before .before .before .before .before .before .before .args .source .now)
+          (c .before .before .before .before .before .before .before .before .before .before .before .before .before .before .before .args .source
+          .now)
           (c .before .before .before .before .before .before .before .before .before .before .before .before .before .before .before .args .st)
           (c .before .before .before .before .before .before .before .before .before .before .before .before .loop .k)
           (c .before .before .before .before .before .before .before .before .before .before .before .loop-test .taken)
@@ -123,7 +125,8 @@ add-push-name-2 c =
       arith,
       items-fit
           (c .before .before .before .before .before .before .before .before .before .before .before .before .before .before .before .args .global)
-          (c .before .before .before .before .before .before .before .before .before .before .before .before .before .before .before .args .source .now)
+          (c .before .before .before .before .before .before .before .before .before .before .before .before .before .before .before .args .source
+          .now)
           (c .before .before .before .before .before .before .before .before .before .before .before .before .before .before .before .args .st)
           (c .before .before .before .before .before .before .before .before .before .before .before .before .loop .k)
           (c .before .before .before .before .before .before .before .before .before .before .before .loop-test .taken)
@@ -136,7 +139,8 @@ push-name-requires : tie.Need-push-name-requires Inv-loop μ-loop
 push-name-requires c κs =
     let w = items-fit
     (c .before .before .before .before .before .before .before .before .before .before .before .before .before .before .before .before .args .global)
-    (c .before .before .before .before .before .before .before .before .before .before .before .before .before .before .before .before .args .source .now)
+    (c .before .before .before .before .before .before .before .before .before .before .before .before .before .before .before .before .args .source
+    .now)
     (c .before .before .before .before .before .before .before .before .before .before .before .before .before .before .before .before .args .st)
     (c .before .before .before .before .before .before .before .before .before .before .before .before .before .loop .k)
     (c .before .before .before .before .before .before .before .before .before .before .before .before .loop-test .taken)
@@ -145,8 +149,13 @@ push-name-requires c κs =
     (c .before .before .before .before .before .before .before .before .before .before .before .before .before .before .before .before .pre)) in (
       omega arith,
       omega arith,
-      omega
-          (arith, code-small (c .before .before .before .before .before .before .before .before .before .before .before .before .before .before .before .before .args .global) (c .before .before .before .before .before .before .before .before .item-constant .result .word) (c .before .before .before .before .before .before .before .before .item-constant .ensures .low)),
+      omega (
+        arith,
+        code-small
+            (c .before .before .before .before .before .before .before .before .before .before .before .before .before .before .before .before .args
+            .global) (c .before .before .before .before .before .before .before .before .item-constant .result .word)
+            (c .before .before .before .before .before .before .before .before .item-constant .ensures .low),
+      ),
       w .name,
     )
 
@@ -155,14 +164,21 @@ add-k c =
     omega (
       arith,
       items-fit
-          (c .before .before .before .before .before .before .before .before .before .before .before .before .before .before .before .before .before .before .before .args .global)
-          (c .before .before .before .before .before .before .before .before .before .before .before .before .before .before .before .before .before .before .before .args .source .now)
-          (c .before .before .before .before .before .before .before .before .before .before .before .before .before .before .before .before .before .before .before .args .st)
+          (c .before .before .before .before .before .before .before .before .before .before .before .before .before .before .before .before .before
+          .before .before .args .global)
+          (c .before .before .before .before .before .before .before .before .before .before .before .before .before .before .before .before .before
+          .before .before .args .source .now)
+          (c .before .before .before .before .before .before .before .before .before .before .before .before .before .before .before .before .before
+          .before .before .args .st)
           (c .before .before .before .before .before .before .before .before .before .before .before .before .before .before .before .before .loop .k)
-          (c .before .before .before .before .before .before .before .before .before .before .before .before .before .before .before .loop-test .taken)
-          (c .before .before .before .before .before .before .before .before .before .before .before .before .before .before .before .before .before .before .before .pre)
-          (c .before .before .before .before .before .before .before .before .before .before .before .before .before .before .before .before .loop .inv .1
-          (c .before .before .before .before .before .before .before .before .before .before .before .before .before .before .before .before .before .before .before .pre)),
+          (c .before .before .before .before .before .before .before .before .before .before .before .before .before .before .before .loop-test
+          .taken)
+          (c .before .before .before .before .before .before .before .before .before .before .before .before .before .before .before .before .before
+          .before .before .pre)
+          (c .before .before .before .before .before .before .before .before .before .before .before .before .before .before .before .before .loop
+          .inv .1
+          (c .before .before .before .before .before .before .before .before .before .before .before .before .before .before .before .before .before
+          .before .before .pre)),
     )
 
 loop-again : tie.Need-loop-again Inv-loop μ-loop
@@ -170,9 +186,12 @@ loop-again c = (
   c .before .before .push-name .kept .0 ∙
       c .before .before .before .before .before .before .before .before .before .before .before .before .before .before .before .before .loop .inv .0,
   λ y. items-next
-      (c .before .before .before .before .before .before .before .before .before .before .before .before .before .before .before .before .before .before .before .args .global)
-      (c .before .before .before .before .before .before .before .before .before .before .before .before .before .before .before .before .before .before .before .args .source .now)
-      (c .before .before .before .before .before .before .before .before .before .before .before .before .before .before .before .before .before .before .before .args .st)
+      (c .before .before .before .before .before .before .before .before .before .before .before .before .before .before .before .before .before
+      .before .before .args .global)
+      (c .before .before .before .before .before .before .before .before .before .before .before .before .before .before .before .before .before
+      .before .before .args .source .now)
+      (c .before .before .before .before .before .before .before .before .before .before .before .before .before .before .before .before .before
+      .before .before .args .st)
       (c .before .before .before .before .before .before .before .before .before .before .before .before .before .before .before .before .loop .k)
       (c .before .before .before .before .before .before .before .before .before .before .before .before .before .before .before .loop-test .taken)
       (c .before .before .before .before .before .before .before .before .before .before .before .before .before .entry .ensures .0) refl

@@ -5,21 +5,23 @@ use Rattle.compiler.proofs.Levels.{ready-group, ready-fs, gave-group}
 use Rattle.compiler.proofs.program.functions.Statement.{statement}
 use Rattle.compiler.proofs.program.functions.Tie as tie
 
--- src/program.rt:155:20
 add-t26 : tie.Need-add-t26
 add-t26 c =
     omega (
       arith,
-      c .before .before .before .before .before .before .before .before .before .before .before .before .before .before .before .before .before .before .before .before .before .before .before .pre .few,
-      c .before .before .before .before .before .before .before .before .before .before .before .before .before .before .before .before .before .before .before .before .before .before .before .pre .small,
-      c .before .before .before .before .before .before .before .before .before .before .before .before .before .before .before .before .before .group-count .ensures .1,
+      c .before .before .before .before .before .before .before .before .before .before .before .before .before .before .before .before .before
+          .before .before .before .before .before .before .pre .few,
+      c .before .before .before .before .before .before .before .before .before .before .before .before .before .before .before .before .before
+          .before .before .before .before .before .before .pre .small,
+      c .before .before .before .before .before .before .before .before .before .before .before .before .before .before .before .before .before
+          .group-count .ensures .1,
     )
 
--- src/program.rt:118:1
 returns : tie.Need-returns
 returns c =
     gave-group
-    (c .before .before .before .before .before .before .before .before .before .before .before .before .before .before .before .before .before .group-count .ensures .0)
+    (c .before .before .before .before .before .before .before .before .before .before .before .before .before .before .before .before .before
+    .group-count .ensures .0)
     (c .before .before .before .before .before .before .before .before .before .before .before .before .before .before .group-names .ensures)
     (c .before .before .before .before .before .before .before .level .ensures) (c .before .before .before .before .before .group .ensures)
 

@@ -33,9 +33,11 @@ add-l c =
       group-fits _ _ _ _
           (c .before .before .before .before .before .before .before .before .before .before .before .before .before .loop-test .taken)
           (c .before .before .before .before .before .before .before .before .before .before .before .entry .ensures .0) refl
-          (c .before .before .before .before .before .before .before .before .before .before .before .before .before .before .before .before .before .before .before .pre .0)
+          (c .before .before .before .before .before .before .before .before .before .before .before .before .before .before .before .before .before
+          .before .before .pre .0)
           (c .before .before .before .before .before .before .before .before .before .before .before .before .before .before .loop .inv .2
-          (c .before .before .before .before .before .before .before .before .before .before .before .before .before .before .before .before .before .before .before .pre .0)
+          (c .before .before .before .before .before .before .before .before .before .before .before .before .before .before .before .before .before
+          .before .before .pre .0)
           outermost 0),
     )
 

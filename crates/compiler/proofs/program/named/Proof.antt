@@ -6,7 +6,6 @@ use Rattle.compiler.proofs.Levels.{items-flat}
 use Rattle.compiler.proofs.program.named.Statement.{statement}
 use Rattle.compiler.proofs.program.named.Tie as tie
 
--- src/program.rt:95:1
 returns : tie.Need-returns
 returns c =
     record {

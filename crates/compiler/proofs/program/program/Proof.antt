@@ -17,7 +17,6 @@ Inv-loop source s₀ table₀ base end left strings text₀ at₀ l₀ s table t
 abbrev μ-loop : tie.MeasureT-loop
 μ-loop source s₀ table₀ base end left strings text₀ at₀ l₀ s table text at l = end - at
 
--- src/program.rt:206:9
 declaration-requires : tie.Need-declaration-requires Inv-loop μ-loop
 declaration-requires c κs =
     program-ready _ _ _ (c .before .before .before .before .before .before .before .loop-test .taken)
@@ -26,7 +25,6 @@ declaration-requires c κs =
     (c .before .before .before .before .before .before .before .before .loop .inv .3
     (c .before .before .before .before .before .before .before .before .before .before .before .before .before .pre))
 
--- src/program.rt:203:5
 loop-again : tie.Need-loop-again Inv-loop μ-loop
 loop-again c = (
   c .before .before .before .before .before .before .declaration .kept .1 .0 ∙

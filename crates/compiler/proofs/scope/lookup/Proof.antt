@@ -28,8 +28,12 @@ returns c = (record { by = λ sc h. absurd (omega (arith, c .if1 .taken, shows-l
 returns-2 : tie.Need-returns-2 Inv-loop μ-loop Inv-search μ-search
 unfolding found
 returns-2 c = (
-  record
-      { by = λ sc h. let l = c .before .loop .inv .2 sc h in sym (ap found (l .same ∙ at-outer (c .before .before .before .before .before .before .before .before .before .args .source .now) (c .before .before .before .before .before .before .before .before .before .args .s .now) (c .before .before .before .before .before .before .before .before .before .args .leaf) (c .before .loop .at) (l .shows) (c .if2 .taken))) },
+  record {
+    by = λ sc h. let l = c .before .loop .inv .2 sc h in sym
+        (ap found (l .same ∙ at-outer (c .before .before .before .before .before .before .before .before .before .args .source .now)
+        (c .before .before .before .before .before .before .before .before .before .args .s .now)
+        (c .before .before .before .before .before .before .before .before .before .args .leaf) (c .before .loop .at) (l .shows) (c .if2 .taken)));
+  },
   omega arith,
 )
 
@@ -64,8 +68,19 @@ loop-again c = (
 
 returns-3 : tie.Need-returns-3 Inv-loop μ-loop Inv-search μ-search
 returns-3 c = (
-  record
-      { by = λ sc h. let l = c .before .before .before .before .before .before .before .loop .inv .2 sc h in at-found (c .before .before .before .before .before .before .before .before .before .before .before .before .before .before .before .args .source .now) (c .before .before .before .before .before .before .before .before .before .before .before .before .before .before .before .args .s .now) (c .before .before .before .before .before .before .before .before .before .before .before .before .before .before .before .args .leaf) (c .before .before .before .before .before .before .before .loop .at) (c .before .before .before .before .before .before .if2 .left) (c .stacked3 .ensures .0) (λ e. c .before .before .before .before .if3 .left (c .before .before .before .before .before .stacked .ensures .0 ∙ sym (c .stacked3 .ensures .0) ∙ e)) (c .before .before .before .stacked2 .ensures .0) (c .before .before .before .before .before .before .before .before .before .before .before .entry .ensures .0) (c .before .before .before .before .before .before .before .before .before .before .entry2 .ensures .0) (l .shows) (sym (c .before .if4 .taken) ∙ c .before .before .spelt .ensures) ∙ ap found (sym (l .same)) },
+  record {
+    by = λ sc h. let l = c .before .before .before .before .before .before .before .loop .inv .2 sc h in at-found
+        (c .before .before .before .before .before .before .before .before .before .before .before .before .before .before .before .args .source .now)
+        (c .before .before .before .before .before .before .before .before .before .before .before .before .before .before .before .args .s .now)
+        (c .before .before .before .before .before .before .before .before .before .before .before .before .before .before .before .args .leaf)
+        (c .before .before .before .before .before .before .before .loop .at) (c .before .before .before .before .before .before .if2 .left)
+        (c .stacked3 .ensures .0) (λ e. c .before .before .before .before .if3 .left
+        (c .before .before .before .before .before .stacked .ensures .0 ∙ sym (c .stacked3 .ensures .0) ∙ e))
+        (c .before .before .before .stacked2 .ensures .0)
+        (c .before .before .before .before .before .before .before .before .before .before .before .entry .ensures .0)
+        (c .before .before .before .before .before .before .before .before .before .before .entry2 .ensures .0) (l .shows)
+        (sym (c .before .if4 .taken) ∙ c .before .before .spelt .ensures) ∙ ap found (sym (l .same));
+  },
   c .stacked3 .ensures .1,
 )
 

@@ -9,7 +9,8 @@ add-mark-2 : tie.Need-add-mark-2
 add-mark-2 c =
     omega (
       arith,
-      c .before .before .before .before .before .before .before .before .before .before .before .before .before .before .before .before .before .before .before .before .before .before .pre,
+      c .before .before .before .before .before .before .before .before .before .before .before .before .before .before .before .before .before
+          .before .before .before .before .before .pre,
     )
 
 same-length : tie.Need-same-length
@@ -17,16 +18,20 @@ same-length c =
     c .before .before .mark2 .kept .0 ∙ c .before .before .before .before .before .before .put-to .kept .0 ∙
     c .before .before .before .before .before .before .before .before .before .before .put3 .kept .0 ∙
     c .before .before .before .before .before .before .before .before .before .before .before .before .before .before .put2 .kept .0 ∙
-    c .before .before .before .before .before .before .before .before .before .before .before .before .before .before .before .before .before .before .put .kept .0
+    c .before .before .before .before .before .before .before .before .before .before .before .before .before .before .before .before .before .before
+    .put .kept .0
     ∙
-    c .before .before .before .before .before .before .before .before .before .before .before .before .before .before .before .before .before .before .before .before .before .before .mark .kept .0
+    c .before .before .before .before .before .before .before .before .before .before .before .before .before .before .before .before .before .before
+    .before .before .before .before .mark .kept .0
 
 returns : tie.Need-returns
 returns c =
     emits-then
-    (c .before .before .before .before .before .before .before .before .before .before .before .before .before .before .before .before .before .before .before .before .before .before .mark .ensures)
+    (c .before .before .before .before .before .before .before .before .before .before .before .before .before .before .before .before .before
+    .before .before .before .before .before .mark .ensures)
     (emits-then
-    (c .before .before .before .before .before .before .before .before .before .before .before .before .before .before .before .before .before .before .put .ensures)
+    (c .before .before .before .before .before .before .before .before .before .before .before .before .before .before .before .before .before
+    .before .put .ensures)
     (emits-then
     (c .before .before .before .before .before .before .before .before .before .before .before .before .before .before .put2 .ensures)
     (emits-then (c .before .before .before .before .before .before .before .before .before .before .put3 .ensures)

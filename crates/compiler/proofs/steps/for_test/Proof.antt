@@ -10,7 +10,8 @@ add-put-to : tie.Need-add-put-to
 add-put-to c =
     omega (
       arith,
-      c .before .before .before .before .before .before .before .before .before .before .before .before .before .before .before .before .before .before .before .pre,
+      c .before .before .before .before .before .before .before .before .before .before .before .before .before .before .before .before .before
+          .before .before .pre,
     )
 
 same-length : tie.Need-same-length
@@ -18,12 +19,14 @@ same-length c =
     c .before .before .put-to .kept .0 ∙ c .before .before .before .before .before .before .put3 .kept .0 ∙
     c .before .before .before .before .before .before .before .before .before .before .before .put2 .kept .0 ∙
     c .before .before .before .before .before .before .before .before .before .before .before .before .before .before .before .put .kept .0 ∙
-    c .before .before .before .before .before .before .before .before .before .before .before .before .before .before .before .before .before .before .before .mark .kept .0
+    c .before .before .before .before .before .before .before .before .before .before .before .before .before .before .before .before .before .before
+    .before .mark .kept .0
 
 returns : tie.Need-returns
 returns c =
     emits-then
-    (c .before .before .before .before .before .before .before .before .before .before .before .before .before .before .before .before .before .before .before .mark .ensures)
+    (c .before .before .before .before .before .before .before .before .before .before .before .before .before .before .before .before .before
+    .before .before .mark .ensures)
     (emits-then
     (c .before .before .before .before .before .before .before .before .before .before .before .before .before .before .before .put .ensures)
     (emits-then (c .before .before .before .before .before .before .before .before .before .before .before .put2 .ensures)

@@ -16,24 +16,30 @@ add-t18 : tie.Need-add-t18
 add-t18 c =
     omega (
       arith,
-      c .before .before .before .before .before .before .before .before .before .before .before .before .before .before .before .before .before .before .pre .0 .room,
-      c .before .before .before .before .before .before .before .before .before .before .before .before .before .before .before .before .before .before .pre .0 .above,
-      c .before .before .before .before .before .before .before .before .before .before .before .before .before .before .before .before .before .before .pre .0 .ends,
-      c .before .before .before .before .before .before .before .before .before .before .before .before .before .before .before .before .before .before .pre .0 .small,
+      c .before .before .before .before .before .before .before .before .before .before .before .before .before .before .before .before .before
+          .before .pre .0 .room,
+      c .before .before .before .before .before .before .before .before .before .before .before .before .before .before .before .before .before
+          .before .pre .0 .above,
+      c .before .before .before .before .before .before .before .before .before .before .before .before .before .before .before .before .before
+          .before .pre .0 .ends,
+      c .before .before .before .before .before .before .before .before .before .before .before .before .before .before .before .before .before
+          .before .pre .0 .small,
     )
 
 add-t21 : tie.Need-add-t21
 add-t21 c =
     omega (
       arith,
-      c .before .before .before .before .before .before .before .before .before .before .before .before .before .before .before .before .before .before .before .pre .0 .height,
+      c .before .before .before .before .before .before .before .before .before .before .before .before .before .before .before .before .before
+          .before .before .pre .0 .height,
     )
 
 add-t22 : tie.Need-add-t22
 add-t22 c =
     omega (
       arith,
-      c .before .before .before .before .before .before .before .before .before .before .before .before .before .before .before .before .before .before .before .before .pre .0 .height,
+      c .before .before .before .before .before .before .before .before .before .before .before .before .before .before .before .before .before
+          .before .before .before .pre .0 .height,
       c .before .before .before .before .before .before .before .before .before .before .before .before .before .judge-most .ensures .small,
     )
 
@@ -41,8 +47,10 @@ returns : tie.Need-returns
 returns c =
     vector-gave _
     (c .before .before .before .before .before .before .before .before .before .before .before .before .before .before .before .node-at .ensures)
-    (c .before .before .before .before .before .before .before .before .before .before .before .before .before .before .before .before .before .before .before .before .pre .1 .is)
-    (c .before .before .before .before .before .before .before .before .before .before .before .before .before .before .before .before .before .before .before .before .args .source .now)
+    (c .before .before .before .before .before .before .before .before .before .before .before .before .before .before .before .before .before
+    .before .before .before .pre .1 .is)
+    (c .before .before .before .before .before .before .before .before .before .before .before .before .before .before .before .before .before
+    .before .before .before .args .source .now)
     refl (c .before .before .before .before .before .before .before .before .before .before .before .before .before .judge-most .ensures)
     (c .before .before .before .before .before .before .before .before .before .before .before .before .blame .ensures)
     (c .before .before .before .before .before .before .before .before .before .declare .ensures)

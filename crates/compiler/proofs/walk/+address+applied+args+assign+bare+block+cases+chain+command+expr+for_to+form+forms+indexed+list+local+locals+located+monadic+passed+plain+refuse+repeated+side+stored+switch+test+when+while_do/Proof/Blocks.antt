@@ -3,7 +3,9 @@ use Rattle.compiler.proofs as proofs
 use Rattle.compiler.proofs.walk.+address+applied+args+assign+bare+block+cases+chain+command+expr+for_to+form+forms+indexed+list+local+locals+located+monadic+passed+plain+refuse+repeated+side+stored+switch+test+when+while_do as cycle
 use Rattle.compiler.specs.Commands.{ReadyList}
 use Prim.Native.Nat.{_-_, ℕ}
-use Rattle.compiler.proofs.Blocks.{ListPart, list-begin, list-part, list-next, list-end, LocalsPart, locals-begin, locals-part, locals-next, locals-end, locals-ready-at, list-ready-at, local-gave-at, locals-gave-at, list-gave-at, block-room, block-locals, block-list, block-gave}
+use Rattle.compiler.proofs.Blocks.{ListPart, list-begin, list-part, list-next, list-end, LocalsPart, locals-begin, locals-part, locals-next}
+use Rattle.compiler.proofs.Blocks.{locals-end, locals-ready-at, list-ready-at, local-gave-at, locals-gave-at, list-gave-at, block-room}
+use Rattle.compiler.proofs.Blocks.{block-locals, block-list, block-gave}
 use Rattle.compiler.proofs.Judging.{values-args, values-names, values-gave}
 use Rattle.compiler.specs.Locals.{ReadyLocals}
 use mathlib.Core.Path.{_∙_, _≡_, refl}
@@ -11,6 +13,7 @@ use lib.ListN.{length}
 use native.Mathlib.Omega.{arith}
 use borrow.Author.Needs.{needs}
 use Rattle.compiler.proofs.Expressions.{ready-at, left-at}
+use borrow.Fn.PlainCycle.{is}
 use proofs.walk.args.Reads as args
 use proofs.walk.block.Reads as block
 use cycle.Lts-block as block-lts
@@ -21,27 +24,27 @@ use proofs.walk.local.Reads as local
 use cycle.Lts-local as local-lts
 use proofs.walk.locals.Reads as locals
 use cycle.Lts-locals as locals-lts
-use proofs.scope.entry.Reads as entry-reads
-use proofs.scope.push.Reads as push-reads
-use proofs.steps.declare.Reads as declare-reads
-use proofs.steps.marked.Reads as marked-reads
-use proofs.steps.node_at.Reads as node-at-reads
-use proofs.steps.set_at.Reads as set-at-reads
-use proofs.steps.vector.Reads as vector-reads
-use cycle.Proof.Ranks.{at, below, args-rank, block-rank, command-rank, list-rank, local-rank, locals-rank}
+use proofs.scope.entry.Reads as entry
+use proofs.scope.push.Reads as push
+use proofs.steps.declare.Reads as declare
+use proofs.steps.marked.Reads as marked
+use proofs.steps.node_at.Reads as node-at
+use proofs.steps.set_at.Reads as set-at
+use proofs.steps.vector.Reads as vector
+use cycle.Proof.Ranks.{at, below, both, args-rank, block-rank, command-rank, list-rank, local-rank, locals-rank}
 
 abbrev block-cs : ℕ → block-lts.Claims
 block-cs t = (
-  node-at-reads.Asked,
-  node-at-reads.Learnt,
-  push-reads.Asked,
-  push-reads.Learnt,
-  marked-reads.Asked,
-  marked-reads.Learnt,
+  node-at.Asked,
+  node-at.Learnt,
+  push.Asked,
+  push.Learnt,
+  marked.Asked,
+  marked.Learnt,
   below locals-rank t,
   locals.Post,
-  set-at-reads.Asked,
-  set-at-reads.Learnt,
+  set-at.Asked,
+  set-at.Learnt,
   below list-rank t,
   list.Post,
 )
@@ -64,32 +67,24 @@ block-marked-requires t c κs =
     )
 
 block-locals-requires : (t : ℕ) → block-lts.Need-locals-requires (block-cs t) (at block-rank t) block.Post
-block-locals-requires t c κs = (
-  omega (arith, c .before .before .before .before .before .before .before .before .before .before .before .before .before .pre .0, left-at),
-  search (locals-ready-at, block-locals),
-)
+block-locals-requires t c κs =
+    both (omega (arith, c .before .before .before .before .before .before .before .before .before .before .before .before .before .pre .0, left-at))
+    (search (locals-ready-at, block-locals))
 
 block-list-requires : (t : ℕ) → block-lts.Need-list-requires (block-cs t) (at block-rank t) block.Post
 block-list-requires t c κs =
-    let after-locals = c .before .before .before .before .before .before .before .before in
-    let after-marked = after-locals .before in
-    let after-push = after-marked .before .before .before .before .before in
-    let after-node-at = after-push .before .before .before in
-    let start = after-node-at .before .before .before .before .before in (
-      omega (arith, start .pre .0, left-at),
-      list-ready-at (c .set-at .ensures)
-          (block-list _ (after-node-at .node-at .ensures) (start .pre .1 .1 .is) refl (after-push .push .ensures) _
-          (locals-gave-at (after-marked .marked .ensures) (after-locals .locals .ensures)) (start .pre .1 .0)),
-    )
+    let after-locals = c .before .before .before .before .before .before .before .before in let after-marked = after-locals .before in
+    let after-push = after-marked .before .before .before .before .before in let after-node-at = after-push .before .before .before in
+    let start = after-node-at .before .before .before .before .before in
+    both (omega (arith, start .pre .0, left-at))
+    (list-ready-at (c .set-at .ensures) (block-list _ (after-node-at .node-at .ensures) (start .pre .1 .1 .is) refl (after-push .push .ensures) _
+    (locals-gave-at (after-marked .marked .ensures) (after-locals .locals .ensures)) (start .pre .1 .0)))
 
 block-returns : (t : ℕ) → block-lts.Need-returns (block-cs t) (at block-rank t) block.Post
 block-returns t c =
-    let after-list = c .before .before .before .before in
-    let after-set-at = after-list .before in
-    let after-locals = after-set-at .before .before .before .before .before .before .before .before in
-    let after-marked = after-locals .before in
-    let after-push = after-marked .before .before .before .before .before in
-    let after-node-at = after-push .before .before .before in
+    let after-list = c .before .before .before .before in let after-set-at = after-list .before in
+    let after-locals = after-set-at .before .before .before .before .before .before .before .before in let after-marked = after-locals .before in
+    let after-push = after-marked .before .before .before .before .before in let after-node-at = after-push .before .before .before in
     let start = after-node-at .before .before .before .before .before in
     block-gave _ (after-node-at .node-at .ensures) (start .pre .1 .1 .is) refl (after-push .push .ensures) _
     (locals-gave-at (after-marked .marked .ensures) (after-locals .locals .ensures)) _
@@ -98,12 +93,11 @@ block-returns t c =
 pub block-ok : {M : Type 1} (t : ℕ) → block-lts.Closed (block-cs t) (at block-rank t) block.Post M
 block-ok t =
     block-lts.spec (block-cs t) (at block-rank t) block.Post (λ c κs. search needs) (λ c. omega arith) (block-push-requires t)
-    (block-marked-requires t) (block-locals-requires t) (λ c κs. search needs) (block-list-requires t) (λ c. search needs)
-    (λ c. search needs) (block-returns t)
+    (block-marked-requires t) (block-locals-requires t) (λ c κs. search needs) (block-list-requires t) (λ c. search needs) (λ c. search needs)
+    (block-returns t)
 
 abbrev list-cs : ℕ → list-lts.Claims
-list-cs t =
-    (entry-reads.Asked, entry-reads.Learnt, below command-rank t, command.Post)
+list-cs t = (entry.Asked, entry.Learnt, below command-rank t, command.Post)
 
 abbrev list-Inv-loop : list-lts.InvT-loop
 list-Inv-loop source s₀ from end text₀ here ways at₀ r₀ s text at r =
@@ -114,13 +108,10 @@ list-μ-loop source s₀ from end text₀ here ways at₀ r₀ s text at r = end
 
 list-command-requires : (t : ℕ) → list-lts.Need-command-requires (list-cs t) (at list-rank t) list.Post list-Inv-loop list-μ-loop
 list-command-requires t c κs =
-    let after-loop-test = c .before .before .before .before in
-    let after-loop = after-loop-test .before in
-    let start = after-loop .before .before .before .before in (
-      omega arith,
-      list-part _ _ _ (after-loop-test .loop-test .taken) (c .before .before .entry .ensures .0) refl (start .pre .1)
-          (after-loop .loop .inv .2 (start .pre .1)),
-    )
+    let after-loop-test = c .before .before .before .before in let after-loop = after-loop-test .before in
+    let start = after-loop .before .before .before .before in
+    both (omega arith) (list-part _ _ _ (after-loop-test .loop-test .taken) (c .before .before .entry .ensures .0) refl (start .pre .1)
+    (after-loop .loop .inv .2 (start .pre .1)))
 
 list-loop-again : (t : ℕ) → list-lts.Need-loop-again (list-cs t) (at list-rank t) list.Post list-Inv-loop list-μ-loop
 list-loop-again t c =
@@ -133,16 +124,7 @@ list-ok t =
     (λ c. search needs) (λ c. search needs) (λ c. search list-end)
 
 abbrev local-cs : ℕ → local-lts.Claims
-local-cs t = (
-  node-at-reads.Asked,
-  node-at-reads.Learnt,
-  vector-reads.Asked,
-  vector-reads.Learnt,
-  below args-rank t,
-  args.Post,
-  declare-reads.Asked,
-  declare-reads.Learnt,
-)
+local-cs t = (node-at.Asked, node-at.Learnt, vector.Asked, vector.Learnt, below args-rank t, args.Post, declare.Asked, declare.Learnt)
 
 local-add-t25 : (t : ℕ) → local-lts.Need-add-t25 (local-cs t) (at local-rank t) local.Post
 local-add-t25 t c =
@@ -155,28 +137,25 @@ local-add-t27 : (t : ℕ) → local-lts.Need-add-t27 (local-cs t) (at local-rank
 local-add-t27 t c =
     let after-node-at =
     c .before .before .before .before .before .before .before .before .before .before .before .before .before .before .before .before .before .before
-    in
-    let start = after-node-at .before .before .before .before .before in
+    in let start = after-node-at .before .before .before .before .before in
     omega (arith, after-node-at .node-at .ensures .value-fits, start .pre .1 .height)
 
 local-returns-2 : (t : ℕ) → local-lts.Need-returns-2 (local-cs t) (at local-rank t) local.Post
 local-returns-2 t c =
     let after-declare = c .before .before .before .before .before .before in
-    let after-args2 = after-declare .before .before .before .before .before .before in
-    let after-if1 = after-args2 .before .before .before .before in
+    let after-args2 = after-declare .before .before .before .before .before .before in let after-if1 = after-args2 .before .before .before .before in
     let after-node-at = after-if1 .before .before in
     values-gave _ (after-node-at .node-at .ensures) (after-if1 .if1 .left) refl _ (after-args2 .args2 .ensures) (after-declare .declare .ensures) refl
     refl
 
 pub local-ok : {M : Type 1} (t : ℕ) → local-lts.Closed (local-cs t) (at local-rank t) local.Post M
 local-ok t =
-    local-lts.spec (local-cs t) (at local-rank t) local.Post (λ c κs. search needs) (λ c κs. search needs) (λ c. search needs)
-    (λ c. search needs) (λ c. c .before .before .before .before .vector .ensures) (λ c. omega arith) (λ c κs. search (needs, values-args))
-    (λ c κs. search values-names) (local-add-t25 t) (local-add-t27 t) (λ c. search needs) (λ c. search needs) (local-returns-2 t)
+    local-lts.spec (local-cs t) (at local-rank t) local.Post (λ c κs. search needs) (λ c κs. search needs) (λ c. search needs) (λ c. search needs)
+    (λ c. c .before .before .before .before .vector .ensures) (λ c. omega arith) (λ c κs. search (needs, values-args)) (λ c κs. search values-names)
+    (local-add-t25 t) (local-add-t27 t) (λ c. search needs) (λ c. search needs) (local-returns-2 t)
 
 abbrev locals-cs : ℕ → locals-lts.Claims
-locals-cs t =
-    (entry-reads.Asked, entry-reads.Learnt, set-at-reads.Asked, set-at-reads.Learnt, below local-rank t, local.Post)
+locals-cs t = (entry.Asked, entry.Learnt, set-at.Asked, set-at.Learnt, below local-rank t, local.Post)
 
 abbrev locals-Inv-loop : locals-lts.InvT-loop
 locals-Inv-loop source s₀ from end text₀ here at₀ r₀ s text at r =
@@ -187,24 +166,16 @@ locals-μ-loop source s₀ from end text₀ here at₀ r₀ s text at r = end - 
 
 locals-local-requires : (t : ℕ) → locals-lts.Need-local-requires (locals-cs t) (at locals-rank t) locals.Post locals-Inv-loop locals-μ-loop
 locals-local-requires t c κs =
-    let after-set-at = c .before .before .before in
-    let after-entry = after-set-at .before in
-    let after-loop-test = after-entry .before .before in
-    let after-loop = after-loop-test .before in
-    let start = after-loop .before .before .before .before in (
-      omega (arith, start .pre .0, left-at),
-      ready-at (after-set-at .set-at .ensures)
-          (locals-part _ _ (after-loop-test .loop-test .taken) (after-entry .entry .ensures .0) refl (start .pre .1)
-          (after-loop .loop .inv .2 (start .pre .1))),
-    )
+    let after-set-at = c .before .before .before in let after-entry = after-set-at .before in let after-loop-test = after-entry .before .before in
+    let after-loop = after-loop-test .before in let start = after-loop .before .before .before .before in
+    both (omega (arith, start .pre .0, left-at)) (ready-at (after-set-at .set-at .ensures)
+    (locals-part _ _ (after-loop-test .loop-test .taken) (after-entry .entry .ensures .0) refl (start .pre .1)
+    (after-loop .loop .inv .2 (start .pre .1))))
 
 locals-loop-again : (t : ℕ) → locals-lts.Need-loop-again (locals-cs t) (at locals-rank t) locals.Post locals-Inv-loop locals-μ-loop
 locals-loop-again t c =
-    let after-local = c .before .before .before .before in
-    let after-set-at = after-local .before .before .before .before in
-    let after-entry = after-set-at .before in
-    let after-loop-test = after-entry .before .before in
-    let after-loop = after-loop-test .before in (
+    let after-local = c .before .before .before .before in let after-set-at = after-local .before .before .before .before in
+    let after-entry = after-set-at .before in let after-loop-test = after-entry .before .before in let after-loop = after-loop-test .before in (
       after-local .local .kept .1 .0 ∙ after-loop .loop .inv .0,
       after-local .local .kept .1 .1 .1 .0 ∙ after-loop .loop .inv .1,
       λ y. locals-next _ _
@@ -214,6 +185,6 @@ locals-loop-again t c =
 
 pub locals-ok : {M : Type 1} (t : ℕ) → locals-lts.Closed (locals-cs t) (at locals-rank t) locals.Post M
 locals-ok t =
-    locals-lts.spec (locals-cs t) (at locals-rank t) locals.Post locals-Inv-loop locals-μ-loop (λ c. search (needs, locals-begin))
-    (λ c. omega arith) (λ c κs. search needs) (λ c. omega (arith, c .entry .ensures .1)) (λ c κs. search needs) (locals-local-requires t)
-    (λ c. omega arith) (locals-loop-again t) (λ c. search needs) (λ c. search needs) (λ c. search locals-end)
+    locals-lts.spec (locals-cs t) (at locals-rank t) locals.Post locals-Inv-loop locals-μ-loop (λ c. search (needs, locals-begin)) (λ c. omega arith)
+    (λ c κs. search needs) (λ c. omega (arith, c .entry .ensures .1)) (λ c κs. search needs) (locals-local-requires t) (λ c. omega arith)
+    (locals-loop-again t) (λ c. search needs) (λ c. search needs) (λ c. search locals-end)

@@ -3,9 +3,11 @@ use Rattle.compiler.proofs as proofs
 use Rattle.compiler.proofs.walk.+address+applied+args+assign+bare+block+cases+chain+command+expr+for_to+form+forms+indexed+list+local+locals+located+monadic+passed+plain+refuse+repeated+side+stored+switch+test+when+while_do as cycle
 use Prim.Native.Nat.{_-_, ℕ}
 use Rattle.compiler.specs.Walked.{raised}
-use mathlib.Core.Path.{ap, _∙_, _≡_, refl}
-use Rattle.compiler.proofs.Calls.{indexed-gave, passed-gave, with-state, args-with, ArgsPart, args-begin, args-part, args-next, args-end, primary-part, primary-gave, index-left, index-right, index-gave, call-args, call-callee, call-gave, call-few, args-ready-at, suffixes-ready-at, args-gave-at, suffixes-gave-at}
-use lib.ListN.{getD, length}
+use mathlib.Core.Path.{_∙_, _≡_, refl}
+use Rattle.compiler.proofs.Calls.{indexed-gave, passed-gave, with-state, args-with, ArgsPart, args-begin, args-part, args-next, args-end}
+use Rattle.compiler.proofs.Calls.{primary-part, primary-gave, index-left, index-right, index-gave, call-args, call-callee, call-gave, call-few}
+use Rattle.compiler.proofs.Calls.{args-ready-at, suffixes-ready-at, args-gave-at, suffixes-gave-at}
+use lib.ListN.{length}
 use Rattle.compiler.specs.Walks.{ReadyArgs}
 use native.Mathlib.Omega.{arith}
 use borrow.Author.Needs.{needs}
@@ -19,138 +21,99 @@ use proofs.walk.indexed.Reads as indexed
 use cycle.Lts-indexed as indexed-lts
 use proofs.walk.passed.Reads as passed
 use cycle.Lts-passed as passed-lts
-use proofs.scope.entry.Reads as entry-reads
-use proofs.steps.count.Reads as count-reads
-use proofs.steps.index_end.Reads as index-end-reads
-use proofs.steps.keep.Reads as keep-reads
-use proofs.steps.less.Reads as less-reads
-use proofs.steps.put.Reads as put-reads
+use proofs.scope.entry.Reads as entry
+use proofs.steps.count.Reads as count
+use proofs.steps.index_end.Reads as index-end
+use proofs.steps.keep.Reads as keep
+use proofs.steps.less.Reads as less
+use proofs.steps.put.Reads as put
 use proofs.steps.raised.Reads as raised-reads
-use proofs.steps.reached.Reads as reached-reads
-use cycle.Proof.Ranks.{at, below, applied-rank, args-rank, expr-rank, indexed-rank, passed-rank}
+use proofs.steps.reached.Reads as reached
+use cycle.Proof.Ranks.{at, below, both, applied-rank, args-rank, expr-rank, indexed-rank, passed-rank}
 
 abbrev applied-cs : ℕ → applied-lts.Claims
 applied-cs t = (
   below expr-rank t,
   expr.Post,
-  less-reads.Asked,
-  less-reads.Learnt,
-  entry-reads.Asked,
-  entry-reads.Learnt,
+  less.Asked,
+  less.Learnt,
+  entry.Asked,
+  entry.Learnt,
   below applied-rank t,
   applied.Post,
   below indexed-rank t,
   indexed.Post,
-  count-reads.Asked,
-  count-reads.Learnt,
+  count.Asked,
+  count.Learnt,
   below passed-rank t,
   passed.Post,
   raised-reads.Asked,
   raised-reads.Learnt,
-  put-reads.Asked,
-  put-reads.Learnt,
+  put.Asked,
+  put.Learnt,
 )
 
 applied-applied-requires : (t : ℕ) → applied-lts.Need-applied-requires (applied-cs t) (at applied-rank t) applied.Post
 applied-applied-requires t c κs =
-    let after-entry2 = c .before .before .before in
-    let after-less3 = after-entry2 .before in
-    let after-less2 = after-less3 .before .before in
-    let after-entry = after-less2 .before in
-    let after-less = after-entry .before .before in
-    let after-if1 = after-less .before in
-    let start = after-if1 .before .before .before .before in (
-      omega (arith, start .pre .0, after-if1 .if1 .left),
-      index-left (after-if1 .if1 .left)
-          (after-entry2 .entry2 .ensures .0 ∙ ap (λ (n : ℕ). getD (start .args .s .now) n 0) (after-less3 .less3 .ensures)) (after-less .less .ensures)
-          (after-entry .entry .ensures .0) (after-less2 .less2 .ensures) (c .before .before .if2 .taken) (start .pre .1),
-    )
+    let after-entry2 = c .before .before .before in let after-less3 = after-entry2 .before in let after-less2 = after-less3 .before .before in
+    let after-entry = after-less2 .before in let after-less = after-entry .before .before in let after-if1 = after-less .before in
+    let start = after-if1 .before .before .before .before in
+    both (omega (arith, start .pre .0, after-if1 .if1 .left))
+    (index-left (after-if1 .if1 .left) (after-less3 .less3 .ensures) (after-entry2 .entry2 .ensures .0) (after-less .less .ensures)
+    (after-entry .entry .ensures .0) (after-less2 .less2 .ensures) (c .before .before .if2 .taken) (start .pre .1))
 
 applied-indexed-requires : (t : ℕ) → applied-lts.Need-indexed-requires (applied-cs t) (at applied-rank t) applied.Post
 applied-indexed-requires t c κs =
-    let after-applied = c .before .before .before .before .before .before in
-    let after-if2 = after-applied .before .before .before in
-    let after-entry2 = after-if2 .before in
-    let after-less3 = after-entry2 .before in
-    let after-less2 = after-less3 .before .before in
-    let after-entry = after-less2 .before in
-    let after-less = after-entry .before .before in
-    let after-if1 = after-less .before in
-    let start = after-if1 .before .before .before .before in (
-      omega (arith, start .pre .0),
-      index-right (after-if1 .if1 .left)
-          (after-entry2 .entry2 .ensures .0 ∙ ap (λ (n : ℕ). getD (start .args .s .now) n 0) (after-less3 .less3 .ensures)) (after-less .less .ensures)
-          (after-entry .entry .ensures .0) (after-less2 .less2 .ensures) (after-if2 .if2 .taken) (start .args .source .now)
-          (after-applied .applied .ensures) (start .pre .1),
-    )
+    let after-applied = c .before .before .before .before .before .before in let after-if2 = after-applied .before .before .before in
+    let after-entry2 = after-if2 .before in let after-less3 = after-entry2 .before in let after-less2 = after-less3 .before .before in
+    let after-entry = after-less2 .before in let after-less = after-entry .before .before in let after-if1 = after-less .before in
+    let start = after-if1 .before .before .before .before in
+    both (omega (arith, start .pre .0))
+    (index-right (after-if1 .if1 .left) (after-less3 .less3 .ensures) (after-entry2 .entry2 .ensures .0) (after-less .less .ensures)
+    (after-entry .entry .ensures .0) (after-less2 .less2 .ensures) (after-if2 .if2 .taken) _ (after-applied .applied .ensures) (start .pre .1))
 
 applied-returns-2 : (t : ℕ) → applied-lts.Need-returns-2 (applied-cs t) (at applied-rank t) applied.Post
 applied-returns-2 t c =
     let after-indexed = c .before .before .before .before in
     let after-applied = after-indexed .before .before .before .before .before .before .before in
-    let after-if2 = after-applied .before .before .before in
-    let after-entry2 = after-if2 .before in
-    let after-less3 = after-entry2 .before in
-    let after-less2 = after-less3 .before .before in
-    let after-entry = after-less2 .before in
-    let after-less = after-entry .before .before in
+    let after-if2 = after-applied .before .before .before in let after-entry2 = after-if2 .before in let after-less3 = after-entry2 .before in
+    let after-less2 = after-less3 .before .before in let after-entry = after-less2 .before in let after-less = after-entry .before .before in
     let after-if1 = after-less .before in
-    let start = after-if1 .before .before .before .before in
-    index-gave (after-if1 .if1 .left)
-    (after-entry2 .entry2 .ensures .0 ∙ ap (λ (n : ℕ). getD (start .args .s .now) n 0) (after-less3 .less3 .ensures)) (after-less .less .ensures)
-    (after-entry .entry .ensures .0) (after-less2 .less2 .ensures) (after-if2 .if2 .taken) (start .args .source .now)
-    (after-applied .applied .ensures) (after-indexed .indexed .ensures)
+    index-gave (after-if1 .if1 .left) (after-less3 .less3 .ensures) (after-entry2 .entry2 .ensures .0) (after-less .less .ensures)
+    (after-entry .entry .ensures .0) (after-less2 .less2 .ensures) (after-if2 .if2 .taken) _ (after-applied .applied .ensures)
+    (after-indexed .indexed .ensures)
 
 applied-passed-requires : (t : ℕ) → applied-lts.Need-passed-requires (applied-cs t) (at applied-rank t) applied.Post
 applied-passed-requires t c κs =
-    let after-if2 = c .before .before .before .before in
-    let after-entry2 = after-if2 .before in
-    let after-less3 = after-entry2 .before in
-    let after-less2 = after-less3 .before .before in
-    let after-entry = after-less2 .before in
-    let after-less = after-entry .before .before in
-    let after-if1 = after-less .before in
-    let start = after-if1 .before .before .before .before in (
-      omega (arith, start .pre .0),
-      call-args (after-if1 .if1 .left)
-          (after-entry2 .entry2 .ensures .0 ∙ ap (λ (n : ℕ). getD (start .args .s .now) n 0) (after-less3 .less3 .ensures)) (after-less .less .ensures)
-          (after-entry .entry .ensures .0) (after-less2 .less2 .ensures) (after-if2 .if2 .left) (start .pre .1),
-    )
+    let after-if2 = c .before .before .before .before in let after-entry2 = after-if2 .before in let after-less3 = after-entry2 .before in
+    let after-less2 = after-less3 .before .before in let after-entry = after-less2 .before in let after-less = after-entry .before .before in
+    let after-if1 = after-less .before in let start = after-if1 .before .before .before .before in
+    both (omega (arith, start .pre .0))
+    (call-args (after-if1 .if1 .left) (after-less3 .less3 .ensures) (after-entry2 .entry2 .ensures .0) (after-less .less .ensures)
+    (after-entry .entry .ensures .0) (after-less2 .less2 .ensures) (after-if2 .if2 .left) (start .pre .1))
 
 applied-add-raised : (t : ℕ) → applied-lts.Need-add-raised (applied-cs t) (at applied-rank t) applied.Post
 applied-add-raised t c =
-    let after-count = c .before .before .before .before .before .before .before .before .before in
-    let after-if2 = after-count .before .before in
-    let after-entry2 = after-if2 .before in
-    let after-less3 = after-entry2 .before in
-    let after-less2 = after-less3 .before .before in
-    let after-entry = after-less2 .before in
-    let after-less = after-entry .before .before in
-    let after-if1 = after-less .before in
+    let after-count = c .before .before .before .before .before .before .before .before .before in let after-if2 = after-count .before .before in
+    let after-entry2 = after-if2 .before in let after-less3 = after-entry2 .before in let after-less2 = after-less3 .before .before in
+    let after-entry = after-less2 .before in let after-less = after-entry .before .before in let after-if1 = after-less .before in
     let start = after-if1 .before .before .before .before in
     omega (
       arith,
-      call-few (after-if1 .if1 .left)
-          (after-entry2 .entry2 .ensures .0 ∙ ap (λ (n : ℕ). getD (start .args .s .now) n 0) (after-less3 .less3 .ensures)) (after-less .less .ensures)
+      call-few (after-if1 .if1 .left) (after-less3 .less3 .ensures) (after-entry2 .entry2 .ensures .0) (after-less .less .ensures)
           (after-entry .entry .ensures .0) (after-less2 .less2 .ensures) (after-if2 .if2 .left) (after-count .count .ensures) (start .pre .1),
       start .pre .1 .ready .small,
     )
 
 applied-raised-requires : (t : ℕ) → applied-lts.Need-raised-requires (applied-cs t) (at applied-rank t) applied.Post
 applied-raised-requires t c κs =
-    let after-count = c .before .before .before .before .before .before .before .before .before in
-    let after-if2 = after-count .before .before in
-    let after-entry2 = after-if2 .before in
-    let after-less3 = after-entry2 .before in
-    let after-less2 = after-less3 .before .before in
-    let after-entry = after-less2 .before in
-    let after-less = after-entry .before .before in
-    let after-if1 = after-less .before in
+    let after-count = c .before .before .before .before .before .before .before .before .before in let after-if2 = after-count .before .before in
+    let after-entry2 = after-if2 .before in let after-less3 = after-entry2 .before in let after-less2 = after-less3 .before .before in
+    let after-entry = after-less2 .before in let after-less = after-entry .before .before in let after-if1 = after-less .before in
     let start = after-if1 .before .before .before .before in
     omega (
       arith,
-      call-few (after-if1 .if1 .left)
-          (after-entry2 .entry2 .ensures .0 ∙ ap (λ (n : ℕ). getD (start .args .s .now) n 0) (after-less3 .less3 .ensures)) (after-less .less .ensures)
+      call-few (after-if1 .if1 .left) (after-less3 .less3 .ensures) (after-entry2 .entry2 .ensures .0) (after-less .less .ensures)
           (after-entry .entry .ensures .0) (after-less2 .less2 .ensures) (after-if2 .if2 .left) (after-count .count .ensures) (start .pre .1),
       start .pre .1 .ready .small,
       start .pre .1 .ready .height,
@@ -158,63 +121,38 @@ applied-raised-requires t c κs =
 
 applied-applied-requires-2 : (t : ℕ) → applied-lts.Need-applied-requires-2 (applied-cs t) (at applied-rank t) applied.Post
 applied-applied-requires-2 t c κs =
-    let after-passed = c .before .before .before .before .before .before .before in
-    let after-count = after-passed .before .before .before in
-    let after-if2 = after-count .before .before in
-    let after-entry2 = after-if2 .before in
-    let after-less3 = after-entry2 .before in
-    let after-less2 = after-less3 .before .before in
-    let after-entry = after-less2 .before in
-    let after-less = after-entry .before .before in
-    let after-if1 = after-less .before in
-    let start = after-if1 .before .before .before .before in (
-      omega (arith, start .pre .0, left-at, after-less .less .ensures, after-less2 .less2 .ensures, after-if1 .if1 .left),
-      suffixes-ready-at
-          (c .raised .ensures) (call-callee (after-if1 .if1 .left)
-          (after-entry2 .entry2 .ensures .0 ∙ ap (λ (n : ℕ). getD (start .args .s .now) n 0) (after-less3 .less3 .ensures)) (after-less .less .ensures)
-          (after-entry .entry .ensures .0) (after-less2 .less2 .ensures) (after-if2 .if2 .left) (start .args .source .now) (after-count .count .ensures)
-          (after-passed .passed .ensures) (start .pre .1)),
-    )
+    let after-passed = c .before .before .before .before .before .before .before in let after-count = after-passed .before .before .before in
+    let after-if2 = after-count .before .before in let after-entry2 = after-if2 .before in let after-less3 = after-entry2 .before in
+    let after-less2 = after-less3 .before .before in let after-entry = after-less2 .before in let after-less = after-entry .before .before in
+    let after-if1 = after-less .before in let start = after-if1 .before .before .before .before in
+    both (omega (arith, start .pre .0, left-at, after-less .less .ensures, after-less2 .less2 .ensures, after-if1 .if1 .left))
+    (suffixes-ready-at (c .raised .ensures)
+    (call-callee (after-if1 .if1 .left) (after-less3 .less3 .ensures) (after-entry2 .entry2 .ensures .0) (after-less .less .ensures)
+    (after-entry .entry .ensures .0) (after-less2 .less2 .ensures) (after-if2 .if2 .left) _ (after-count .count .ensures)
+    (after-passed .passed .ensures) (start .pre .1)))
 
 applied-returns-3 : (t : ℕ) → applied-lts.Need-returns-3 (applied-cs t) (at applied-rank t) applied.Post
 applied-returns-3 t c =
-    let after-applied2 = c .before .before .before .before .before .before .before .before in
-    let after-raised = after-applied2 .before in
+    let after-applied2 = c .before .before .before .before .before .before .before .before in let after-raised = after-applied2 .before in
     let after-passed = after-raised .before .before .before .before .before .before .before in
-    let after-count = after-passed .before .before .before in
-    let after-if2 = after-count .before .before in
-    let after-entry2 = after-if2 .before in
-    let after-less3 = after-entry2 .before in
-    let after-less2 = after-less3 .before .before in
-    let after-entry = after-less2 .before in
-    let after-less = after-entry .before .before in
-    let after-if1 = after-less .before in
-    let start = after-if1 .before .before .before .before in
-    call-gave (after-if1 .if1 .left) (after-entry2 .entry2 .ensures .0 ∙ ap (λ (n : ℕ). getD (start .args .s .now) n 0) (after-less3 .less3 .ensures))
-    (after-less .less .ensures) (after-entry .entry .ensures .0) (after-less2 .less2 .ensures) (after-if2 .if2 .left) (start .args .source .now)
-    (after-count .count .ensures) (after-passed .passed .ensures)
-    (suffixes-gave-at (after-raised .raised .ensures) (after-applied2 .applied2 .ensures)) (c .before .before .put .ensures)
+    let after-count = after-passed .before .before .before in let after-if2 = after-count .before .before in let after-entry2 = after-if2 .before in
+    let after-less3 = after-entry2 .before in let after-less2 = after-less3 .before .before in let after-entry = after-less2 .before in
+    let after-less = after-entry .before .before in let after-if1 = after-less .before in
+    call-gave (after-if1 .if1 .left) (after-less3 .less3 .ensures) (after-entry2 .entry2 .ensures .0) (after-less .less .ensures)
+    (after-entry .entry .ensures .0) (after-less2 .less2 .ensures) (after-if2 .if2 .left) _ (after-count .count .ensures)
+    (after-passed .passed .ensures) (suffixes-gave-at (after-raised .raised .ensures) (after-applied2 .applied2 .ensures))
+    (c .before .before .put .ensures)
 
 pub applied-ok : {M : Type 1} (t : ℕ) → applied-lts.Closed (applied-cs t) (at applied-rank t) applied.Post M
 applied-ok t =
-    applied-lts.spec (applied-cs t) (at applied-rank t) applied.Post (λ c κs. search (needs, primary-part)) (λ c. search needs)
-    (λ c. search needs) (λ c. search primary-gave) (λ c κs. search needs) (λ c κs. search needs) (λ c κs. search needs)
-    (λ c κs. search needs) (λ c κs. search needs) (applied-applied-requires t) (applied-indexed-requires t) (λ c. search needs)
-    (λ c. search needs) (applied-returns-2 t) (λ c κs. omega arith) (applied-passed-requires t) (applied-add-raised t)
-    (applied-raised-requires t) (applied-applied-requires-2 t) (λ c κs. search needs) (λ c. search needs) (λ c. search needs)
-    (applied-returns-3 t)
+    applied-lts.spec (applied-cs t) (at applied-rank t) applied.Post (λ c κs. search (needs, primary-part)) (λ c. search needs) (λ c. search needs)
+    (λ c. search primary-gave) (λ c κs. search needs) (λ c κs. search needs) (λ c κs. search needs) (λ c κs. search needs) (λ c κs. search needs)
+    (applied-applied-requires t) (applied-indexed-requires t) (λ c. search needs) (λ c. search needs) (applied-returns-2 t) (λ c κs. omega arith)
+    (applied-passed-requires t) (applied-add-raised t) (applied-raised-requires t) (applied-applied-requires-2 t) (λ c κs. search needs)
+    (λ c. search needs) (λ c. search needs) (applied-returns-3 t)
 
 abbrev args-cs : ℕ → args-lts.Claims
-args-cs t = (
-  entry-reads.Asked,
-  entry-reads.Learnt,
-  raised-reads.Asked,
-  raised-reads.Learnt,
-  below expr-rank t,
-  expr.Post,
-  keep-reads.Asked,
-  keep-reads.Learnt,
-)
+args-cs t = (entry.Asked, entry.Learnt, raised-reads.Asked, raised-reads.Learnt, below expr-rank t, expr.Post, keep.Asked, keep.Learnt)
 
 abbrev args-Inv-loop : args-lts.InvT-loop
 args-Inv-loop source s₀ from end text₀ here at₀ k₀ r₀ s text at k r =
@@ -233,15 +171,11 @@ args-raised-requires t c κs =
 
 args-expr-requires : (t : ℕ) → args-lts.Need-expr-requires (args-cs t) (at args-rank t) args.Post args-Inv-loop args-μ-loop
 args-expr-requires t c κs =
-    let after-entry = c .before .before .before in
-    let after-loop-test = after-entry .before .before in
-    let after-loop = after-loop-test .before in
-    let start = after-loop .before .before .before .before in (
-      omega (arith, start .pre .0, left-at),
-      ready-at (c .raised .ensures)
-          (args-part _ _ (after-loop .loop .k) (after-loop-test .loop-test .taken) (after-entry .entry .ensures .0) refl (start .pre .1)
-          (after-loop .loop .inv .2 (start .pre .1))),
-    )
+    let after-entry = c .before .before .before in let after-loop-test = after-entry .before .before in let after-loop = after-loop-test .before in
+    let start = after-loop .before .before .before .before in
+    both (omega (arith, start .pre .0, left-at)) (ready-at (c .raised .ensures)
+    (args-part _ _ (after-loop .loop .k) (after-loop-test .loop-test .taken) (after-entry .entry .ensures .0) refl (start .pre .1)
+    (after-loop .loop .inv .2 (start .pre .1))))
 
 args-add-keep : (t : ℕ) → args-lts.Need-add-keep (args-cs t) (at args-rank t) args.Post args-Inv-loop args-μ-loop
 args-add-keep t c =
@@ -258,16 +192,13 @@ args-keep-requires t c κs =
 args-add-k : (t : ℕ) → args-lts.Need-add-k (args-cs t) (at args-rank t) args.Post args-Inv-loop args-μ-loop
 args-add-k t c =
     let after-loop = c .before .before .before .before .before .before .before .before .before .before .before .before .before .before .before .before
-    in
-    let start = after-loop .before .before .before .before in
+    in let start = after-loop .before .before .before .before in
     omega (arith, after-loop .loop .inv .2 (start .pre .1) .height, start .pre .1 .ready .height)
 
 args-loop-again : (t : ℕ) → args-lts.Need-loop-again (args-cs t) (at args-rank t) args.Post args-Inv-loop args-μ-loop
 args-loop-again t c =
-    let after-expr = c .before .before .before .before .before .before .before .before .before in
-    let after-raised = after-expr .before in
-    let after-entry = after-raised .before .before .before in
-    let after-loop-test = after-entry .before .before in
+    let after-expr = c .before .before .before .before .before .before .before .before .before in let after-raised = after-expr .before in
+    let after-entry = after-raised .before .before .before in let after-loop-test = after-entry .before .before in
     let after-loop = after-loop-test .before in (
       after-expr .expr .kept .1 .0 ∙ after-loop .loop .inv .0,
       c .before .before .keep .kept .0 ∙ after-expr .expr .kept .1 .1 .1 .0
@@ -284,16 +215,7 @@ args-ok t =
     (λ c. args-end _ _ (c .before .loop .k) (c .loop-test .left) (c .before .loop .inv .2))
 
 abbrev indexed-cs : ℕ → indexed-lts.Claims
-indexed-cs t = (
-  keep-reads.Asked,
-  keep-reads.Learnt,
-  raised-reads.Asked,
-  raised-reads.Learnt,
-  below expr-rank t,
-  expr.Post,
-  index-end-reads.Asked,
-  index-end-reads.Learnt,
-)
+indexed-cs t = (keep.Asked, keep.Learnt, raised-reads.Asked, raised-reads.Learnt, below expr-rank t, expr.Post, index-end.Asked, index-end.Learnt)
 
 indexed-expr-requires : (t : ℕ) → indexed-lts.Need-expr-requires (indexed-cs t) (at indexed-rank t) indexed.Post
 indexed-expr-requires t c κs =
@@ -305,17 +227,13 @@ indexed-ok t =
     (λ c κs. search needs) (λ c. search needs) (λ c. search needs) (λ c. search (indexed-gave, gave-at))
 
 abbrev passed-cs : ℕ → passed-lts.Claims
-passed-cs t =
-    (reached-reads.Asked, reached-reads.Learnt, raised-reads.Asked, raised-reads.Learnt, below args-rank t, args.Post)
+passed-cs t = (reached.Asked, reached.Learnt, raised-reads.Asked, raised-reads.Learnt, below args-rank t, args.Post)
 
 passed-args-requires : (t : ℕ) → passed-lts.Need-args-requires (passed-cs t) (at passed-rank t) passed.Post
 passed-args-requires t c κs =
-    let after-reached = c .before .before .before in
-    let start = after-reached .before .before .before .before .before in (
-      omega (arith, left-at),
-      args-ready-at (c .raised .ensures)
-          (args-with (after-reached .reached .ensures .by (start .args .text .now) .label) (start .pre .1)),
-    )
+    let after-reached = c .before .before .before in let start = after-reached .before .before .before .before .before in
+    both (omega (arith, left-at))
+    (args-ready-at (c .raised .ensures) (args-with (after-reached .reached .ensures .by (start .args .text .now) .label) (start .pre .1)))
 
 pub passed-ok : {M : Type 1} (t : ℕ) → passed-lts.Closed (passed-cs t) (at passed-rank t) passed.Post M
 passed-ok t =

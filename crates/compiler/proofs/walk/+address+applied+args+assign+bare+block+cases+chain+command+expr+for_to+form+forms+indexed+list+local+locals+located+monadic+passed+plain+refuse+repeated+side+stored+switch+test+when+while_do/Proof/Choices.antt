@@ -1,7 +1,8 @@
 -- IF, TEST and SWITCHON.
 use Rattle.compiler.proofs as proofs
 use Rattle.compiler.proofs.walk.+address+applied+args+assign+bare+block+cases+chain+command+expr+for_to+form+forms+indexed+list+local+locals+located+monadic+passed+plain+refuse+repeated+side+stored+switch+test+when+while_do as cycle
-use Rattle.compiler.proofs.Switches.{CasesPart, cases-begin, case-part, cases-next, cases-end, switch-value, switch-few, switch-cases, switch-gave, gave-cases-at}
+use Rattle.compiler.proofs.Switches.{CasesPart, cases-begin, case-part, cases-next, cases-end, switch-value, switch-few, switch-cases}
+use Rattle.compiler.proofs.Switches.{switch-gave, gave-cases-at}
 use Rattle.compiler.specs.Commands.{ReadyCases}
 use Rattle.compiler.proofs.Conditions.{test-first, test-body, test-rest, test-gave}
 use Prim.Native.Nat.{_≤_, _-_, ℕ}
@@ -10,6 +11,7 @@ use Rattle.compiler.proofs.Guards.{guard-test, guard-body, guard-gave}
 use lib.ListN.{length}
 use native.Mathlib.Omega.{arith}
 use borrow.Author.Needs.{needs}
+use borrow.Fn.PlainCycle.{is}
 use proofs.walk.args.Reads as args
 use proofs.walk.bare.Reads as bare
 use proofs.walk.cases.Reads as cases
@@ -22,58 +24,51 @@ use proofs.walk.test.Reads as test
 use cycle.Lts-test as test-lts
 use proofs.walk.when.Reads as when
 use cycle.Lts-when as when-lts
-use proofs.labels.doubled.Reads as doubled-reads
-use proofs.labels.table.Reads as table-reads
-use proofs.scope.entry.Reads as entry-reads
-use proofs.steps.count.Reads as count-reads
-use proofs.steps.fresh.Reads as fresh-reads
-use proofs.steps.in_switch.Reads as in-switch-reads
-use proofs.steps.jump_unless.Reads as jump-unless-reads
-use proofs.steps.mark.Reads as mark-reads
-use proofs.steps.node_at.Reads as node-at-reads
-use proofs.steps.put_to.Reads as put-to-reads
-use cycle.Proof.Ranks.{at, below, bare-rank, cases-rank, command-rank, expr-rank, switch-rank, test-rank, when-rank}
+use proofs.labels.doubled.Reads as doubled
+use proofs.labels.table.Reads as table
+use proofs.scope.entry.Reads as entry
+use proofs.steps.count.Reads as count
+use proofs.steps.fresh.Reads as fresh
+use proofs.steps.in_switch.Reads as in-switch
+use proofs.steps.jump_unless.Reads as jump-unless
+use proofs.steps.mark.Reads as mark
+use proofs.steps.node_at.Reads as node-at
+use proofs.steps.put_to.Reads as put-to
+use cycle.Proof.Ranks.{at, below, both, bare-rank, cases-rank, command-rank, expr-rank, switch-rank, test-rank, when-rank}
 
 abbrev when-cs : ℕ → when-lts.Claims
 when-cs t = (
-  node-at-reads.Asked,
-  node-at-reads.Learnt,
-  fresh-reads.Asked,
-  fresh-reads.Learnt,
+  node-at.Asked,
+  node-at.Learnt,
+  fresh.Asked,
+  fresh.Learnt,
   below expr-rank t,
   expr.Post,
-  jump-unless-reads.Asked,
-  jump-unless-reads.Learnt,
-  put-to-reads.Asked,
-  put-to-reads.Learnt,
+  jump-unless.Asked,
+  jump-unless.Learnt,
+  put-to.Asked,
+  put-to.Learnt,
   below command-rank t,
   command.Post,
-  mark-reads.Asked,
-  mark-reads.Learnt,
+  mark.Asked,
+  mark.Learnt,
 )
 
 when-command-requires : (t : ℕ) → when-lts.Need-command-requires (when-cs t) (at when-rank t) when.Post
 when-command-requires t c κs =
-    let after-put-to = c .before .before .before .before in
-    let after-expr = after-put-to .before .before .before .before .before .before .before in
-    let after-fresh = after-expr .before .before .before in
-    let after-node-at2 = after-fresh .before in
-    let after-node-at = after-node-at2 .before .before in
-    let start = after-node-at .before .before .before .before .before in (
-      omega (arith, start .pre .0),
-      guard-body _ _ (after-node-at .node-at .ensures) (after-node-at2 .node-at2 .ensures) (start .pre .1 .1 .word) _
-          (after-fresh .fresh .ensures) (after-expr .expr .ensures) (after-put-to .put-to .ensures) (start .pre .1 .0),
-    )
+    let after-put-to = c .before .before .before .before in let after-expr = after-put-to .before .before .before .before .before .before .before in
+    let after-fresh = after-expr .before .before .before in let after-node-at2 = after-fresh .before in
+    let after-node-at = after-node-at2 .before .before in let start = after-node-at .before .before .before .before .before in
+    both (omega (arith, start .pre .0))
+    (guard-body _ _ (after-node-at .node-at .ensures) (after-node-at2 .node-at2 .ensures) (start .pre .1 .1 .word) _ (after-fresh .fresh .ensures)
+    (after-expr .expr .ensures) (after-put-to .put-to .ensures) (start .pre .1 .0))
 
 when-returns : (t : ℕ) → when-lts.Need-returns (when-cs t) (at when-rank t) when.Post
 when-returns t c =
     let after-command = c .before .before .before .before .before .before .before .before in
-    let after-put-to = after-command .before .before .before .before .before in
-    let after-jump-unless = after-put-to .before in
-    let after-expr = after-jump-unless .before .before .before .before .before .before in
-    let after-fresh = after-expr .before .before .before in
-    let after-node-at2 = after-fresh .before in
-    let after-node-at = after-node-at2 .before .before in
+    let after-put-to = after-command .before .before .before .before .before in let after-jump-unless = after-put-to .before in
+    let after-expr = after-jump-unless .before .before .before .before .before .before in let after-fresh = after-expr .before .before .before in
+    let after-node-at2 = after-fresh .before in let after-node-at = after-node-at2 .before .before in
     let start = after-node-at .before .before .before .before .before in
     guard-gave _ _ (after-node-at .node-at .ensures) (after-node-at2 .node-at2 .ensures) (start .pre .1 .1 .word) _ (after-fresh .fresh .ensures)
     (after-expr .expr .ensures) (after-put-to .put-to .ensures) _ (after-jump-unless .jump-unless .ensures) (after-command .command .ensures)
@@ -87,45 +82,37 @@ when-ok t =
 
 abbrev test-cs : ℕ → test-lts.Claims
 test-cs t = (
-  node-at-reads.Asked,
-  node-at-reads.Learnt,
-  fresh-reads.Asked,
-  fresh-reads.Learnt,
+  node-at.Asked,
+  node-at.Learnt,
+  fresh.Asked,
+  fresh.Learnt,
   below expr-rank t,
   expr.Post,
-  put-to-reads.Asked,
-  put-to-reads.Learnt,
+  put-to.Asked,
+  put-to.Learnt,
   below command-rank t,
   command.Post,
-  mark-reads.Asked,
-  mark-reads.Learnt,
+  mark.Asked,
+  mark.Learnt,
 )
 
 test-expr-requires : (t : ℕ) → test-lts.Need-expr-requires (test-cs t) (at test-rank t) test.Post
 test-expr-requires t c κs =
-    let after-node-at3 = c .before .before .before in
-    let after-node-at2 = after-node-at3 .before .before in
-    let after-node-at = after-node-at2 .before .before in
-    let start = after-node-at .before .before .before .before .before in (
-      omega (arith, start .pre .0),
-      test-first _ _ _ (after-node-at .node-at .ensures) (after-node-at2 .node-at2 .ensures)
-          (after-node-at3 .node-at3 .ensures) (start .pre .1 .1 .is) (c .before .before .fresh .ensures) (start .pre .1 .0),
-    )
+    let after-node-at3 = c .before .before .before in let after-node-at2 = after-node-at3 .before .before in
+    let after-node-at = after-node-at2 .before .before in let start = after-node-at .before .before .before .before .before in
+    both (omega (arith, start .pre .0))
+    (test-first _ _ _ (after-node-at .node-at .ensures) (after-node-at2 .node-at2 .ensures) (after-node-at3 .node-at3 .ensures)
+    (start .pre .1 .1 .is) (c .before .before .fresh .ensures) (start .pre .1 .0))
 
 test-command-requires : (t : ℕ) → test-lts.Need-command-requires (test-cs t) (at test-rank t) test.Post
 test-command-requires t c κs =
-    let after-put-to = c .before .before .before .before in
-    let after-expr = after-put-to .before .before .before .before .before .before in
-    let after-fresh = after-expr .before .before .before in
-    let after-node-at3 = after-fresh .before in
-    let after-node-at2 = after-node-at3 .before .before in
-    let after-node-at = after-node-at2 .before .before in
-    let start = after-node-at .before .before .before .before .before in (
-      omega (arith, start .pre .0),
-      test-body _ _ _ (after-node-at .node-at .ensures) (after-node-at2 .node-at2 .ensures)
-          (after-node-at3 .node-at3 .ensures) (start .pre .1 .1 .is) _ (after-fresh .fresh .ensures) (after-expr .expr .ensures)
-          (after-put-to .put-to .ensures) (start .pre .1 .0),
-    )
+    let after-put-to = c .before .before .before .before in let after-expr = after-put-to .before .before .before .before .before .before in
+    let after-fresh = after-expr .before .before .before in let after-node-at3 = after-fresh .before in
+    let after-node-at2 = after-node-at3 .before .before in let after-node-at = after-node-at2 .before .before in
+    let start = after-node-at .before .before .before .before .before in
+    both (omega (arith, start .pre .0))
+    (test-body _ _ _ (after-node-at .node-at .ensures) (after-node-at2 .node-at2 .ensures) (after-node-at3 .node-at3 .ensures) (start .pre .1 .1 .is)
+    _ (after-fresh .fresh .ensures) (after-expr .expr .ensures) (after-put-to .put-to .ensures) (start .pre .1 .0))
 
 test-add-put-to : (t : ℕ) → test-lts.Need-add-put-to (test-cs t) (at test-rank t) test.Post
 test-add-put-to t c =
@@ -137,22 +124,16 @@ test-add-put-to t c =
 
 test-command-requires-2 : (t : ℕ) → test-lts.Need-command-requires-2 (test-cs t) (at test-rank t) test.Post
 test-command-requires-2 t c κs =
-    let after-mark = c .before .before .before .before in
-    let after-put-to2 = after-mark .before .before .before .before in
+    let after-mark = c .before .before .before .before in let after-put-to2 = after-mark .before .before .before .before in
     let after-command = after-put-to2 .before .before .before .before .before .before .before in
     let after-put-to = after-command .before .before .before .before .before in
-    let after-expr = after-put-to .before .before .before .before .before .before in
-    let after-fresh = after-expr .before .before .before in
-    let after-node-at3 = after-fresh .before in
-    let after-node-at2 = after-node-at3 .before .before in
-    let after-node-at = after-node-at2 .before .before in
-    let start = after-node-at .before .before .before .before .before in (
-      omega (arith, start .pre .0),
-      test-rest _ _ _ (after-node-at .node-at .ensures) (after-node-at2 .node-at2 .ensures)
-          (after-node-at3 .node-at3 .ensures) (start .pre .1 .1 .is) _ (after-fresh .fresh .ensures) (after-expr .expr .ensures)
-          (after-put-to .put-to .ensures) _ (after-command .command .ensures) (after-put-to2 .put-to2 .ensures) (after-mark .mark .ensures)
-          (start .pre .1 .0),
-    )
+    let after-expr = after-put-to .before .before .before .before .before .before in let after-fresh = after-expr .before .before .before in
+    let after-node-at3 = after-fresh .before in let after-node-at2 = after-node-at3 .before .before in
+    let after-node-at = after-node-at2 .before .before in let start = after-node-at .before .before .before .before .before in
+    both (omega (arith, start .pre .0))
+    (test-rest _ _ _ (after-node-at .node-at .ensures) (after-node-at2 .node-at2 .ensures) (after-node-at3 .node-at3 .ensures) (start .pre .1 .1 .is)
+    _ (after-fresh .fresh .ensures) (after-expr .expr .ensures) (after-put-to .put-to .ensures) _ (after-command .command .ensures)
+    (after-put-to2 .put-to2 .ensures) (after-mark .mark .ensures) (start .pre .1 .0))
 
 test-add-mark : (t : ℕ) → test-lts.Need-add-mark (test-cs t) (at test-rank t) test.Post
 test-add-mark t c =
@@ -174,8 +155,7 @@ test-same-length t c =
 test-same-length-2 : (t : ℕ) → test-lts.Need-same-length-2 (test-cs t) (at test-rank t) test.Post
 test-same-length-2 t c =
     let after-command2 = c .before .before .before .before .before .before .before .before .before in
-    let after-mark = after-command2 .before .before .before .before .before in
-    let after-put-to2 = after-mark .before .before .before .before in
+    let after-mark = after-command2 .before .before .before .before .before in let after-put-to2 = after-mark .before .before .before .before in
     let after-command = after-put-to2 .before .before .before .before .before .before .before in
     let after-put-to = after-command .before .before .before .before .before in
     let after-expr = after-put-to .before .before .before .before .before .before in
@@ -185,53 +165,47 @@ test-same-length-2 t c =
 test-returns : (t : ℕ) → test-lts.Need-returns (test-cs t) (at test-rank t) test.Post
 test-returns t c =
     let after-command2 = c .before .before .before .before .before .before .before .before .before in
-    let after-mark = after-command2 .before .before .before .before .before in
-    let after-put-to2 = after-mark .before .before .before .before in
+    let after-mark = after-command2 .before .before .before .before .before in let after-put-to2 = after-mark .before .before .before .before in
     let after-command = after-put-to2 .before .before .before .before .before .before .before in
     let after-put-to = after-command .before .before .before .before .before in
-    let after-expr = after-put-to .before .before .before .before .before .before in
-    let after-fresh = after-expr .before .before .before in
-    let after-node-at3 = after-fresh .before in
-    let after-node-at2 = after-node-at3 .before .before in
-    let after-node-at = after-node-at2 .before .before in
-    let start = after-node-at .before .before .before .before .before in
+    let after-expr = after-put-to .before .before .before .before .before .before in let after-fresh = after-expr .before .before .before in
+    let after-node-at3 = after-fresh .before in let after-node-at2 = after-node-at3 .before .before in
+    let after-node-at = after-node-at2 .before .before in let start = after-node-at .before .before .before .before .before in
     test-gave _ _ _ (after-node-at .node-at .ensures) (after-node-at2 .node-at2 .ensures) (after-node-at3 .node-at3 .ensures) (start .pre .1 .1 .is) _
     (after-fresh .fresh .ensures) (after-expr .expr .ensures) (after-put-to .put-to .ensures) _ (after-command .command .ensures)
     (after-put-to2 .put-to2 .ensures) (after-mark .mark .ensures) (after-command2 .command2 .ensures) (c .before .before .mark2 .ensures)
 
 pub test-ok : {M : Type 1} (t : ℕ) → test-lts.Closed (test-cs t) (at test-rank t) test.Post M
 test-ok t =
-    test-lts.spec (test-cs t) (at test-rank t) test.Post (λ c κs. search needs) (λ c κs. search needs) (λ c κs. search needs)
-    (λ c κs. omega arith) (test-expr-requires t) (λ c κs. search needs) (test-command-requires t) (test-add-put-to t) (λ c κs. search needs)
-    (λ c κs. search needs) (test-command-requires-2 t) (test-add-mark t) (λ c κs. search needs) (test-same-length t) (test-same-length-2 t)
-    (test-returns t)
+    test-lts.spec (test-cs t) (at test-rank t) test.Post (λ c κs. search needs) (λ c κs. search needs) (λ c κs. search needs) (λ c κs. omega arith)
+    (test-expr-requires t) (λ c κs. search needs) (test-command-requires t) (test-add-put-to t) (λ c κs. search needs) (λ c κs. search needs)
+    (test-command-requires-2 t) (test-add-mark t) (λ c κs. search needs) (test-same-length t) (test-same-length-2 t) (test-returns t)
 
 abbrev switch-cs : ℕ → switch-lts.Claims
 switch-cs t = (
-  node-at-reads.Asked,
-  node-at-reads.Learnt,
+  node-at.Asked,
+  node-at.Learnt,
   below expr-rank t,
   expr.Post,
-  count-reads.Asked,
-  count-reads.Learnt,
-  fresh-reads.Asked,
-  fresh-reads.Learnt,
-  doubled-reads.Asked,
-  doubled-reads.Learnt,
-  table-reads.Asked,
-  table-reads.Learnt,
-  in-switch-reads.Asked,
-  in-switch-reads.Learnt,
+  count.Asked,
+  count.Learnt,
+  fresh.Asked,
+  fresh.Learnt,
+  doubled.Asked,
+  doubled.Learnt,
+  table.Asked,
+  table.Learnt,
+  in-switch.Asked,
+  in-switch.Learnt,
   below cases-rank t,
   cases.Post,
-  mark-reads.Asked,
-  mark-reads.Learnt,
+  mark.Asked,
+  mark.Learnt,
 )
 
 switch-add-fresh : (t : ℕ) → switch-lts.Need-add-fresh (switch-cs t) (at switch-rank t) switch.Post
 switch-add-fresh t c =
-    let after-expr = c .before .before .before .before .before .before in
-    let after-node-at = after-expr .before .before .before .before in
+    let after-expr = c .before .before .before .before .before .before in let after-node-at = after-expr .before .before .before .before in
     let start = after-node-at .before .before .before .before .before in
     omega (
       arith,
@@ -241,8 +215,7 @@ switch-add-fresh t c =
 
 switch-fresh-requires : (t : ℕ) → switch-lts.Need-fresh-requires (switch-cs t) (at switch-rank t) switch.Post
 switch-fresh-requires t c κs =
-    let after-expr = c .before .before .before .before .before .before in
-    let after-node-at = after-expr .before .before .before .before in
+    let after-expr = c .before .before .before .before .before .before in let after-node-at = after-expr .before .before .before .before in
     let start = after-node-at .before .before .before .before .before in
     omega (
       arith,
@@ -259,8 +232,7 @@ switch-doubled-requires t c κs =
 switch-add-table : (t : ℕ) → switch-lts.Need-add-table (switch-cs t) (at switch-rank t) switch.Post
 switch-add-table t c =
     let after-count = c .before .before .before .before .before .before in
-    let after-expr = after-count .before .before .before .before .before .before in
-    let after-node-at = after-expr .before .before .before .before in
+    let after-expr = after-count .before .before .before .before .before .before in let after-node-at = after-expr .before .before .before .before in
     let start = after-node-at .before .before .before .before .before in
     omega (
       arith,
@@ -271,8 +243,7 @@ switch-add-table t c =
 switch-table-requires : (t : ℕ) → switch-lts.Need-table-requires (switch-cs t) (at switch-rank t) switch.Post
 switch-table-requires t c κs =
     let after-count = c .before .before .before .before .before .before in
-    let after-expr = after-count .before .before .before .before .before .before in
-    let after-node-at = after-expr .before .before .before .before in
+    let after-expr = after-count .before .before .before .before .before .before in let after-node-at = after-expr .before .before .before .before in
     let start = after-node-at .before .before .before .before .before in (
       omega (arith, after-node-at .node-at .ensures .inner, start .pre .1 .0 .small),
       omega (
@@ -290,8 +261,7 @@ switch-table-requires t c κs =
 switch-add-cases : (t : ℕ) → switch-lts.Need-add-cases (switch-cs t) (at switch-rank t) switch.Post
 switch-add-cases t c =
     let after-count = c .before .before .before .before .before .before .before .before .before .before .before .before .before in
-    let after-expr = after-count .before .before .before .before .before .before in
-    let after-node-at = after-expr .before .before .before .before in
+    let after-expr = after-count .before .before .before .before .before .before in let after-node-at = after-expr .before .before .before .before in
     let start = after-node-at .before .before .before .before .before in
     omega (
       arith,
@@ -301,24 +271,18 @@ switch-add-cases t c =
 
 switch-cases-requires : (t : ℕ) → switch-lts.Need-cases-requires (switch-cs t) (at switch-rank t) switch.Post
 switch-cases-requires t c κs =
-    let after-table = c .before .before .before .before .before .before in
-    let after-doubled = after-table .before .before .before .before in
-    let after-fresh = after-doubled .before .before in
-    let after-count = after-fresh .before in
-    let after-expr = after-count .before .before .before .before .before .before in
-    let after-node-at = after-expr .before .before .before .before in
-    let start = after-node-at .before .before .before .before .before in (
-      omega (arith, start .pre .0),
-      (
-        switch-cases _ (after-node-at .node-at .ensures) (start .pre .1 .1 .is) refl _ (after-expr .expr .ensures) (after-count .count .ensures)
-            (after-fresh .fresh .ensures) (after-doubled .doubled .ensures) refl (after-table .table .ensures) (start .pre .1 .0),
-        omega (
-          arith,
-          switch-few _ (after-node-at .node-at .ensures) (start .pre .1 .1 .is) refl (start .args .source .now) (after-expr .expr .ensures)
-              (after-count .count .ensures) (start .pre .1 .0),
-        ),
-      ),
-    )
+    let after-table = c .before .before .before .before .before .before in let after-doubled = after-table .before .before .before .before in
+    let after-fresh = after-doubled .before .before in let after-count = after-fresh .before in
+    let after-expr = after-count .before .before .before .before .before .before in let after-node-at = after-expr .before .before .before .before in
+    let start = after-node-at .before .before .before .before .before in
+    both (omega (arith, start .pre .0))
+    (both (switch-cases _ (after-node-at .node-at .ensures) (start .pre .1 .1 .is) refl _ (after-expr .expr .ensures) (after-count .count .ensures)
+    (after-fresh .fresh .ensures) (after-doubled .doubled .ensures) refl (after-table .table .ensures) (start .pre .1 .0))
+    (omega (
+      arith,
+      switch-few _ (after-node-at .node-at .ensures) (start .pre .1 .1 .is) refl (start .args .source .now) (after-expr .expr .ensures)
+          (after-count .count .ensures) (start .pre .1 .0),
+    )))
 
 switch-same-length : (t : ℕ) → switch-lts.Need-same-length (switch-cs t) (at switch-rank t) switch.Post
 switch-same-length t c =
@@ -336,14 +300,10 @@ switch-same-length-2 t c =
 
 switch-returns : (t : ℕ) → switch-lts.Need-returns (switch-cs t) (at switch-rank t) switch.Post
 switch-returns t c =
-    let after-cases = c .before .before .before .before .before .before .before .before in
-    let after-in-switch = after-cases .before .before in
-    let after-table = after-in-switch .before .before .before .before .before in
-    let after-doubled = after-table .before .before .before .before in
-    let after-fresh = after-doubled .before .before in
-    let after-count = after-fresh .before in
-    let after-expr = after-count .before .before .before .before .before .before in
-    let after-node-at = after-expr .before .before .before .before in
+    let after-cases = c .before .before .before .before .before .before .before .before in let after-in-switch = after-cases .before .before in
+    let after-table = after-in-switch .before .before .before .before .before in let after-doubled = after-table .before .before .before .before in
+    let after-fresh = after-doubled .before .before in let after-count = after-fresh .before in
+    let after-expr = after-count .before .before .before .before .before .before in let after-node-at = after-expr .before .before .before .before in
     let start = after-node-at .before .before .before .before .before in
     switch-gave _ (after-node-at .node-at .ensures) (start .pre .1 .1 .is) refl _ (after-expr .expr .ensures) (after-count .count .ensures)
     (after-fresh .fresh .ensures) (after-doubled .doubled .ensures) refl (after-table .table .ensures) _
@@ -351,14 +311,13 @@ switch-returns t c =
 
 pub switch-ok : {M : Type 1} (t : ℕ) → switch-lts.Closed (switch-cs t) (at switch-rank t) switch.Post M
 switch-ok t =
-    switch-lts.spec (switch-cs t) (at switch-rank t) switch.Post (λ c κs. search needs) (λ c. omega arith)
-    (λ c κs. search (needs, switch-value)) (λ c κs. omega arith) (switch-add-fresh t) (switch-fresh-requires t) (switch-doubled-requires t)
-    (switch-add-table t) (switch-table-requires t) (λ c κs. search needs) (switch-add-cases t) (switch-cases-requires t)
-    (λ c κs. search needs) (switch-same-length t) (switch-same-length-2 t) (switch-returns t)
+    switch-lts.spec (switch-cs t) (at switch-rank t) switch.Post (λ c κs. search needs) (λ c. omega arith) (λ c κs. search (needs, switch-value))
+    (λ c κs. omega arith) (switch-add-fresh t) (switch-fresh-requires t) (switch-doubled-requires t) (switch-add-table t) (switch-table-requires t)
+    (λ c κs. search needs) (switch-add-cases t) (switch-cases-requires t) (λ c κs. search needs) (switch-same-length t) (switch-same-length-2 t)
+    (switch-returns t)
 
 abbrev cases-cs : ℕ → cases-lts.Claims
-cases-cs t =
-    (entry-reads.Asked, entry-reads.Learnt, mark-reads.Asked, mark-reads.Learnt, below bare-rank t, bare.Post)
+cases-cs t = (entry.Asked, entry.Learnt, mark.Asked, mark.Learnt, below bare-rank t, bare.Post)
 
 abbrev cases-Inv-loop : cases-lts.InvT-loop
 cases-Inv-loop source s₀ from end text₀ here ways first at₀ k₀ r₀ s text at k r =
@@ -369,30 +328,23 @@ cases-μ-loop source s₀ from end text₀ here ways first at₀ k₀ r₀ s tex
 
 cases-bare-requires : (t : ℕ) → cases-lts.Need-bare-requires (cases-cs t) (at cases-rank t) cases.Post cases-Inv-loop cases-μ-loop
 cases-bare-requires t c κs =
-    let after-mark = c .before .before .before .before in
-    let after-entry = after-mark .before .before in
-    let after-loop-test = after-entry .before .before in
-    let after-loop = after-loop-test .before in
-    let start = after-loop .before .before .before .before in (
-      omega (arith, start .pre .0),
-      case-part _ _ _ (start .args .first) (after-loop .loop .k) (after-loop-test .loop-test .taken)
-          (after-entry .entry .ensures .0) refl (after-mark .mark .ensures) (start .pre .1 .0) (after-loop .loop .inv .3 (start .pre .1 .0)),
-    )
+    let after-mark = c .before .before .before .before in let after-entry = after-mark .before .before in
+    let after-loop-test = after-entry .before .before in let after-loop = after-loop-test .before in
+    let start = after-loop .before .before .before .before in
+    both (omega (arith, start .pre .0))
+    (case-part _ _ _ (start .args .first) (after-loop .loop .k) (after-loop-test .loop-test .taken) (after-entry .entry .ensures .0) refl
+    (after-mark .mark .ensures) (start .pre .1 .0) (after-loop .loop .inv .3 (start .pre .1 .0)))
 
 cases-add-k : (t : ℕ) → cases-lts.Need-add-k (cases-cs t) (at cases-rank t) cases.Post cases-Inv-loop cases-μ-loop
 cases-add-k t c =
     let after-loop-test = c .before .before .before .before .before .before .before .before .before .before .before .before .before in
-    let after-loop = after-loop-test .before in
-    let start = after-loop .before .before .before .before in
+    let after-loop = after-loop-test .before in let start = after-loop .before .before .before .before in
     omega (arith, after-loop .loop .inv .2, after-loop-test .loop-test .taken, start .pre .1 .0 .ready .small)
 
 cases-loop-again : (t : ℕ) → cases-lts.Need-loop-again (cases-cs t) (at cases-rank t) cases.Post cases-Inv-loop cases-μ-loop
 cases-loop-again t c =
-    let after-bare = c .before .before .before .before in
-    let after-mark = after-bare .before .before .before .before .before in
-    let after-entry = after-mark .before .before in
-    let after-loop-test = after-entry .before .before in
-    let after-loop = after-loop-test .before in
+    let after-bare = c .before .before .before .before in let after-mark = after-bare .before .before .before .before .before in
+    let after-entry = after-mark .before .before in let after-loop-test = after-entry .before .before in let after-loop = after-loop-test .before in
     let start = after-loop .before .before .before .before in (
       after-bare .bare .kept .1 .0 ∙ after-loop .loop .inv .0,
       after-bare .bare .kept .1 .1 .1 .0 ∙ after-mark .mark .kept .0
@@ -409,6 +361,6 @@ cases-returns t c =
 
 pub cases-ok : {M : Type 1} (t : ℕ) → cases-lts.Closed (cases-cs t) (at cases-rank t) cases.Post M
 cases-ok t =
-    cases-lts.spec (cases-cs t) (at cases-rank t) cases.Post cases-Inv-loop cases-μ-loop (λ c. search (needs, cases-begin))
-    (λ c. omega arith) (λ c κs. search needs) (λ c. omega arith) (λ c. omega arith) (λ c κs. search needs) (cases-bare-requires t)
-    (cases-add-k t) (λ c. omega arith) (cases-loop-again t) (λ c. c .before .loop .inv .0) (λ c. c .before .loop .inv .1) (cases-returns t)
+    cases-lts.spec (cases-cs t) (at cases-rank t) cases.Post cases-Inv-loop cases-μ-loop (λ c. search (needs, cases-begin)) (λ c. omega arith)
+    (λ c κs. search needs) (λ c. omega arith) (λ c. omega arith) (λ c κs. search needs) (cases-bare-requires t) (cases-add-k t) (λ c. omega arith)
+    (cases-loop-again t) (λ c. c .before .loop .inv .0) (λ c. c .before .loop .inv .1) (cases-returns t)

@@ -1,7 +1,8 @@
 -- A command: its labels, and then by its kind.
 use Rattle.compiler.proofs as proofs
 use Rattle.compiler.proofs.walk.+address+applied+args+assign+bare+block+cases+chain+command+expr+for_to+form+forms+indexed+list+local+locals+located+monadic+passed+plain+refuse+repeated+side+stored+switch+test+when+while_do as cycle
-use Rattle.compiler.proofs.Labelled.{labelled-labels, labelled-bare, labelled-gave, unlabelled-gave, bare-empty, labelled-rest, bare-labelled, bare-part, bare-gave, command-some, gave-r-at}
+use Rattle.compiler.proofs.Labelled.{labelled-labels, labelled-bare, labelled-gave, unlabelled-gave, bare-empty, labelled-rest, bare-labelled}
+use Rattle.compiler.proofs.Labelled.{bare-part, bare-gave, command-some, gave-r-at}
 use Rattle.compiler.proofs.Conditions.{while-while, while-until}
 use Rattle.compiler.proofs.Aways.{performed-part, performed-gave, away-gave}
 use Prim.Native.Nat.{ℕ}
@@ -12,6 +13,7 @@ use Rattle.compiler.proofs.Commands.{result-part, result-gave}
 use native.Mathlib.Omega.{arith}
 use borrow.Author.Needs.{needs}
 use Rattle.compiler.proofs.Expressions.{ready-at, left-at}
+use borrow.Fn.PlainCycle.{is}
 use proofs.walk.assign.Reads as assign
 use proofs.walk.bare.Reads as bare
 use cycle.Lts-bare as bare-lts
@@ -27,16 +29,16 @@ use proofs.walk.switch.Reads as switch
 use proofs.walk.test.Reads as test
 use proofs.walk.when.Reads as when
 use proofs.walk.while_do.Reads as while-do
-use proofs.labels.misplaced.Reads as misplaced-reads
-use proofs.steps.away.Reads as away-reads
-use proofs.steps.inside.Reads as inside-reads
-use proofs.steps.leave.Reads as leave-reads
-use proofs.steps.node_at.Reads as node-at-reads
-use cycle.Proof.Ranks.{at, below, assign-rank, bare-rank, block-rank, command-rank, expr-rank, for-to-rank, plain-rank, repeated-rank, switch-rank, test-rank, when-rank, while-do-rank}
+use proofs.labels.misplaced.Reads as misplaced
+use proofs.steps.away.Reads as away
+use proofs.steps.inside.Reads as inside
+use proofs.steps.leave.Reads as leave
+use proofs.steps.node_at.Reads as node-at
+use cycle.Proof.Ranks.{at, below, both, assign-rank, bare-rank, block-rank, command-rank, expr-rank, for-to-rank, plain-rank, repeated-rank}
+use cycle.Proof.Ranks.{switch-rank, test-rank, when-rank, while-do-rank}
 
 abbrev command-cs : ℕ → command-lts.Claims
-command-cs t =
-    (node-at-reads.Asked, node-at-reads.Learnt, misplaced-reads.Asked, misplaced-reads.Learnt, below bare-rank t, bare.Post)
+command-cs t = (node-at.Asked, node-at.Learnt, misplaced.Asked, misplaced.Learnt, below bare-rank t, bare.Post)
 
 command-misplaced-requires : (t : ℕ) → command-lts.Need-misplaced-requires (command-cs t) (at command-rank t) command.Post
 command-misplaced-requires t c κs =
@@ -45,66 +47,54 @@ command-misplaced-requires t c κs =
 
 command-bare-requires : (t : ℕ) → command-lts.Need-bare-requires (command-cs t) (at command-rank t) command.Post
 command-bare-requires t c κs =
-    let after-if1 = c .before .before .before .before .before in
-    let after-node-at = after-if1 .before .before in
-    let start = after-node-at .before .before .before .before .before in (
-      omega (arith, start .pre .0),
-      labelled-bare _ (after-node-at .node-at .ensures) (after-if1 .if1 .taken) refl _
-          (c .before .before .misplaced .ensures) (start .pre .1),
-    )
+    let after-if1 = c .before .before .before .before .before in let after-node-at = after-if1 .before .before in
+    let start = after-node-at .before .before .before .before .before in
+    both (omega (arith, start .pre .0))
+    (labelled-bare _ (after-node-at .node-at .ensures) (after-if1 .if1 .taken) refl _ (c .before .before .misplaced .ensures) (start .pre .1))
 
 pub command-ok : {M : Type 1} (t : ℕ) → command-lts.Closed (command-cs t) (at command-rank t) command.Post M
 command-ok t =
-    command-lts.spec (command-cs t) (at command-rank t) command.Post (λ c κs. search needs) (λ c. omega arith)
-    (command-misplaced-requires t) (command-bare-requires t) (λ c. search needs) (λ c. search needs) (λ c. search labelled-gave)
-    (λ c κs. search needs) (λ c. search needs) (λ c. search needs) (λ c. search unlabelled-gave)
+    command-lts.spec (command-cs t) (at command-rank t) command.Post (λ c κs. search needs) (λ c. omega arith) (command-misplaced-requires t)
+    (command-bare-requires t) (λ c. search needs) (λ c. search needs) (λ c. search labelled-gave) (λ c κs. search needs) (λ c. search needs)
+    (λ c. search needs) (λ c. search unlabelled-gave)
 
 abbrev bare-cs : ℕ → bare-lts.Claims
-bare-cs t =
-    (node-at-reads.Asked, node-at-reads.Learnt, inside-reads.Asked, inside-reads.Learnt, below repeated-rank t, repeated.Post)
+bare-cs t = (node-at.Asked, node-at.Learnt, inside.Asked, inside.Learnt, below repeated-rank t, repeated.Post)
 
 bare-repeated-requires : (t : ℕ) → bare-lts.Need-repeated-requires (bare-cs t) (at bare-rank t) bare.Post
 bare-repeated-requires t c κs =
-    let after-if2 = c .before .before .before in
-    let after-if1 = after-if2 .before .before .before in
-    let after-node-at = after-if1 .before .before in
-    let start = after-node-at .before .before .before .before .before in (
-      omega (arith, start .pre .0, left-at, command-some),
-      ready-at (c .inside .ensures)
-          (labelled-rest _ (after-node-at .node-at .ensures) (after-if1 .if1 .taken) refl (after-if2 .if2 .left) (start .pre .1)),
-    )
+    let after-if2 = c .before .before .before in let after-if1 = after-if2 .before .before .before in let after-node-at = after-if1 .before .before in
+    let start = after-node-at .before .before .before .before .before in
+    both (omega (arith, start .pre .0, left-at, command-some)) (ready-at (c .inside .ensures)
+    (labelled-rest _ (after-node-at .node-at .ensures) (after-if1 .if1 .taken) refl (after-if2 .if2 .left) (start .pre .1)))
 
 bare-returns-2 : (t : ℕ) → bare-lts.Need-returns-2 (bare-cs t) (at bare-rank t) bare.Post
 bare-returns-2 t c =
-    let after-repeated = c .before .before .before .before in
-    let after-inside = after-repeated .before in
-    let after-if2 = after-inside .before .before .before in
-    let after-if1 = after-if2 .before .before .before in
+    let after-repeated = c .before .before .before .before in let after-inside = after-repeated .before in
+    let after-if2 = after-inside .before .before .before in let after-if1 = after-if2 .before .before .before in
     let after-node-at = after-if1 .before .before in
     bare-labelled _ (after-node-at .node-at .ensures) (after-if1 .if1 .taken) refl (after-if2 .if2 .left) _ _
     (gave-r-at _ (after-inside .inside .ensures) refl (after-repeated .repeated .ensures))
 
 bare-repeated-requires-2 : (t : ℕ) → bare-lts.Need-repeated-requires-2 (bare-cs t) (at bare-rank t) bare.Post
-bare-repeated-requires-2 t c κs = (
-  omega (arith, c .before .before .before .before .before .before .before .before .before .before .pre .0, left-at, command-some),
-  search
-      (ready-at, bare-part),
-)
+bare-repeated-requires-2 t c κs =
+    both (omega (arith, c .before .before .before .before .before .before .before .before .before .before .pre .0, left-at, command-some))
+    (search (ready-at, bare-part))
 
 pub bare-ok : {M : Type 1} (t : ℕ) → bare-lts.Closed (bare-cs t) (at bare-rank t) bare.Post M
 bare-ok t =
-    bare-lts.spec (bare-cs t) (at bare-rank t) bare.Post (λ c κs. search needs) (λ c. omega arith) (λ c. search needs)
-    (λ c. search bare-empty) (λ c κs. search needs) (bare-repeated-requires t) (λ c. search needs) (λ c. search needs) (bare-returns-2 t)
-    (λ c κs. search needs) (bare-repeated-requires-2 t) (λ c. search needs) (λ c. search needs) (λ c. search (bare-gave, gave-r-at))
+    bare-lts.spec (bare-cs t) (at bare-rank t) bare.Post (λ c κs. search needs) (λ c. omega arith) (λ c. search needs) (λ c. search bare-empty)
+    (λ c κs. search needs) (bare-repeated-requires t) (λ c. search needs) (λ c. search needs) (bare-returns-2 t) (λ c κs. search needs)
+    (bare-repeated-requires-2 t) (λ c. search needs) (λ c. search needs) (λ c. search (bare-gave, gave-r-at))
 
 abbrev plain-cs : ℕ → plain-lts.Claims
 plain-cs t = (
-  node-at-reads.Asked,
-  node-at-reads.Learnt,
+  node-at.Asked,
+  node-at.Learnt,
   below expr-rank t,
   expr.Post,
-  leave-reads.Asked,
-  leave-reads.Learnt,
+  leave.Asked,
+  leave.Learnt,
   below when-rank t,
   when.Post,
   below block-rank t,
@@ -119,24 +109,23 @@ plain-cs t = (
   for-to.Post,
   below switch-rank t,
   switch.Post,
-  away-reads.Asked,
-  away-reads.Learnt,
+  away.Asked,
+  away.Learnt,
 )
 
 pub plain-ok : {M : Type 1} (t : ℕ) → plain-lts.Closed (plain-cs t) (at plain-rank t) plain.Post M
 plain-ok t =
-    plain-lts.spec (plain-cs t) (at plain-rank t) plain.Post (λ c κs. search needs) (λ c κs. search (needs, result-part))
-    (λ c κs. search needs) (λ c κs. search (needs, when-if)) (λ c κs. search (needs, when-unless)) (λ c κs. search needs) (λ c. omega arith)
-    (λ c. omega arith) (λ c κs. search (needs, assigned-part)) (λ c κs. search needs) (λ c κs. search (needs, while-while))
-    (λ c κs. search (needs, while-until)) (λ c κs. (omega arith, (search needs, record { is = cc })))
-    (λ c κs. (omega arith, (search needs, record { is = cc }))) (λ c κs. search (needs, performed-part))
-    (λ c _. c .before .before .node-at .ensures .place-fits) (λ c. search needs) (λ c. search needs) (λ c. search result-gave)
-    (λ c. search needs) (λ c. search needs) (λ c. c .before .before .before .before .when .ensures) (λ c. search needs) (λ c. search needs)
-    (λ c. c .before .before .before .before .when2 .ensures) (λ c. search needs) (λ c. search needs)
-    (λ c. c .before .before .before .before .block .ensures) (λ c. search needs) (λ c. search needs) (λ c. search assigned-gave)
-    (λ c. search needs) (λ c. search needs) (λ c. c .before .before .before .before .test .ensures) (λ c. search needs) (λ c. search needs)
+    plain-lts.spec (plain-cs t) (at plain-rank t) plain.Post (λ c κs. search needs) (λ c κs. search (needs, result-part)) (λ c κs. search needs)
+    (λ c κs. search (needs, when-if)) (λ c κs. search (needs, when-unless)) (λ c κs. search needs) (λ c. omega arith) (λ c. omega arith)
+    (λ c κs. search (needs, assigned-part)) (λ c κs. search needs) (λ c κs. search (needs, while-while)) (λ c κs. search (needs, while-until))
+    (λ c κs. (omega arith, (search needs, record { is = cc }))) (λ c κs. (omega arith, (search needs, record { is = cc })))
+    (λ c κs. search (needs, performed-part)) (λ c _. c .before .before .node-at .ensures .place-fits) (λ c. search needs) (λ c. search needs)
+    (λ c. search result-gave) (λ c. search needs) (λ c. search needs) (λ c. c .before .before .before .before .when .ensures) (λ c. search needs)
+    (λ c. search needs) (λ c. c .before .before .before .before .when2 .ensures) (λ c. search needs) (λ c. search needs)
+    (λ c. c .before .before .before .before .block .ensures) (λ c. search needs) (λ c. search needs) (λ c. search assigned-gave) (λ c. search needs)
+    (λ c. search needs) (λ c. c .before .before .before .before .test .ensures) (λ c. search needs) (λ c. search needs)
     (λ c. c .before .before .before .before .while-do .ensures) (λ c. search needs) (λ c. search needs)
     (λ c. c .before .before .before .before .while-do2 .ensures) (λ c. search needs) (λ c. search needs)
     (λ c. c .before .before .before .before .for-to .ensures) (λ c. search needs) (λ c. search needs)
-    (λ c. c .before .before .before .before .switch .ensures) (λ c. search needs) (λ c. search needs) (λ c. search performed-gave)
-    (λ c. search needs) (λ c. search needs) (λ c. search away-gave)
+    (λ c. c .before .before .before .before .switch .ensures) (λ c. search needs) (λ c. search needs) (λ c. search performed-gave) (λ c. search needs)
+    (λ c. search needs) (λ c. search away-gave)

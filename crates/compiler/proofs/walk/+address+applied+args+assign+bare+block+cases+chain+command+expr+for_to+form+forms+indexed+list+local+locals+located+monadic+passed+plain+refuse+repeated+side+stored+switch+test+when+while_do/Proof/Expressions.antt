@@ -2,7 +2,8 @@
 use Rattle.compiler.proofs as proofs
 use Rattle.compiler.proofs.walk.+address+applied+args+assign+bare+block+cases+chain+command+expr+for_to+form+forms+indexed+list+local+locals+located+monadic+passed+plain+refuse+repeated+side+stored+switch+test+when+while_do as cycle
 use Prim.Native.Nat.{_-_, ℕ}
-use Rattle.compiler.proofs.Sides.{monadic-part, monadic-gave, monadic-address, monadic-pling, monadic-minus, monadic-not, monadic-other, gave-monadic-at}
+use Rattle.compiler.proofs.Sides.{monadic-part, monadic-gave, monadic-address, monadic-pling, monadic-minus, monadic-not, monadic-other}
+use Rattle.compiler.proofs.Sides.{gave-monadic-at}
 use Rattle.compiler.specs.Walked.{raised}
 use mathlib.Core.Path.{_∙_, _≡_, refl}
 use Rattle.compiler.proofs.Calls.{suffixes-ready-at, suffixes-gave-at, suffixed-part, suffixed-gave}
@@ -11,7 +12,9 @@ use lib.ListN.{length}
 use Rattle.compiler.specs.Walks.{ReadyChain}
 use native.Mathlib.Omega.{arith}
 use borrow.Author.Needs.{needs}
-use Rattle.compiler.proofs.Expressions.{ChainPart, chain-begin, chain-part, chain-next, chain-end, number-gave, string-gave, name-gave, bracket-part, bracket-gave, dyadic-left, dyadic-rest, dyadic-gave, ready-at, gave-at, chain-ready-at, chain-gave-at, left-at, some-left}
+use Rattle.compiler.proofs.Expressions.{ChainPart, chain-begin, chain-part, chain-next, chain-end, number-gave, string-gave, name-gave}
+use Rattle.compiler.proofs.Expressions.{bracket-part, bracket-gave, dyadic-left, dyadic-rest, dyadic-gave, ready-at, gave-at, chain-ready-at}
+use Rattle.compiler.proofs.Expressions.{chain-gave-at, left-at, some-left}
 use proofs.walk.address.Reads as address
 use proofs.walk.applied.Reads as applied
 use proofs.walk.chain.Reads as chain
@@ -21,48 +24,48 @@ use proofs.walk.expr.Reads as expr
 use cycle.Lts-expr as expr-lts
 use proofs.walk.monadic.Reads as monadic
 use cycle.Lts-monadic as monadic-lts
-use proofs.scope.entry.Reads as entry-reads
-use proofs.scope.lookup.Reads as lookup-reads
-use proofs.steps.act_of.Reads as act-of-reads
-use proofs.steps.fresh.Reads as fresh-reads
-use proofs.steps.in_valof.Reads as in-valof-reads
-use proofs.steps.inside.Reads as inside-reads
-use proofs.steps.keep.Reads as keep-reads
-use proofs.steps.mark.Reads as mark-reads
-use proofs.steps.node_at.Reads as node-at-reads
-use proofs.steps.operate.Reads as operate-reads
-use proofs.steps.put.Reads as put-reads
-use proofs.steps.put_to.Reads as put-to-reads
+use proofs.scope.entry.Reads as entry
+use proofs.scope.lookup.Reads as lookup
+use proofs.steps.act_of.Reads as act-of
+use proofs.steps.fresh.Reads as fresh
+use proofs.steps.in_valof.Reads as in-valof
+use proofs.steps.inside.Reads as inside
+use proofs.steps.keep.Reads as keep
+use proofs.steps.mark.Reads as mark
+use proofs.steps.node_at.Reads as node-at
+use proofs.steps.operate.Reads as operate
+use proofs.steps.put.Reads as put
+use proofs.steps.put_to.Reads as put-to
 use proofs.steps.raised.Reads as raised-reads
-use proofs.steps.value.Reads as value-reads
-use cycle.Proof.Ranks.{at, below, address-rank, applied-rank, chain-rank, command-rank, expr-rank, monadic-rank}
+use proofs.steps.value.Reads as value
+use cycle.Proof.Ranks.{at, below, both, address-rank, applied-rank, chain-rank, command-rank, expr-rank, monadic-rank}
 
 abbrev expr-cs : ℕ → expr-lts.Claims
 expr-cs t = (
-  node-at-reads.Asked,
-  node-at-reads.Learnt,
-  put-reads.Asked,
-  put-reads.Learnt,
-  put-to-reads.Asked,
-  put-to-reads.Learnt,
-  lookup-reads.Asked,
-  lookup-reads.Learnt,
-  value-reads.Asked,
-  value-reads.Learnt,
-  inside-reads.Asked,
-  inside-reads.Learnt,
+  node-at.Asked,
+  node-at.Learnt,
+  put.Asked,
+  put.Learnt,
+  put-to.Asked,
+  put-to.Learnt,
+  lookup.Asked,
+  lookup.Learnt,
+  value.Asked,
+  value.Learnt,
+  inside.Asked,
+  inside.Learnt,
   below expr-rank t,
   expr.Post,
   below chain-rank t,
   chain.Post,
-  fresh-reads.Asked,
-  fresh-reads.Learnt,
-  in-valof-reads.Asked,
-  in-valof-reads.Learnt,
+  fresh.Asked,
+  fresh.Learnt,
+  in-valof.Asked,
+  in-valof.Learnt,
   below command-rank t,
   command.Post,
-  mark-reads.Asked,
-  mark-reads.Learnt,
+  mark.Asked,
+  mark.Learnt,
   below monadic-rank t,
   monadic.Post,
   below applied-rank t,
@@ -70,50 +73,38 @@ expr-cs t = (
 )
 
 expr-expr-requires-2 : (t : ℕ) → expr-lts.Need-expr-requires-2 (expr-cs t) (at expr-rank t) expr.Post
-expr-expr-requires-2 t c κs = (
-  omega (arith, c .before .before .before .before .before .before .before .before .before .before .pre .0, left-at, some-left),
-  search
-      (ready-at, dyadic-left),
-)
+expr-expr-requires-2 t c κs =
+    both (omega (arith, c .before .before .before .before .before .before .before .before .before .before .pre .0, left-at, some-left))
+    (search (ready-at, dyadic-left))
 
 expr-chain-requires : (t : ℕ) → expr-lts.Need-chain-requires (expr-cs t) (at expr-rank t) expr.Post
 expr-chain-requires t c κs =
-    let after-expr2 = c .before .before .before .before .before .before in
-    let after-inside2 = after-expr2 .before .before .before .before in
-    let after-match = after-inside2 .before in
-    let after-node-at = after-match .before in
-    let start = after-node-at .before .before .before .before .before in (
-      omega (arith, start .pre .0, left-at, some-left),
-      chain-ready-at (after-inside2 .inside2 .ensures)
-          (dyadic-rest _ (after-node-at .node-at .ensures) (after-match .match .keys5) refl _
-          (gave-at _ (after-inside2 .inside2 .ensures) (after-expr2 .expr2 .ensures)) (start .pre .1)),
-    )
+    let after-expr2 = c .before .before .before .before .before .before in let after-inside2 = after-expr2 .before .before .before .before in
+    let after-match = after-inside2 .before in let after-node-at = after-match .before in
+    let start = after-node-at .before .before .before .before .before in
+    both (omega (arith, start .pre .0, left-at, some-left))
+    (chain-ready-at (after-inside2 .inside2 .ensures) (dyadic-rest _ (after-node-at .node-at .ensures) (after-match .match .keys5) refl _
+    (gave-at _ (after-inside2 .inside2 .ensures) (after-expr2 .expr2 .ensures)) (start .pre .1)))
 
 expr-command-requires : (t : ℕ) → expr-lts.Need-command-requires (expr-cs t) (at expr-rank t) expr.Post
-expr-command-requires t c κs = (
-  omega (arith, c .before .before .before .before .before .before .before .before .before .before .before .pre .0, left-at, some-left),
-  search
-      (ready-at, valof-part),
-)
+expr-command-requires t c κs =
+    both (omega (arith, c .before .before .before .before .before .before .before .before .before .before .before .pre .0, left-at, some-left))
+    (search (ready-at, valof-part))
 
 expr-applied-requires : (t : ℕ) → expr-lts.Need-applied-requires (expr-cs t) (at expr-rank t) expr.Post
-expr-applied-requires t c κs = (
-  omega (
-    arith,
-    c .before .before .before .before .before .before .before .before .before .before .pre .0,
-    left-at,
-    some-left,
-    c .before .before .before .before .before .before .before .before .before .before .pre .1 .small,
-  ),
-  search (suffixes-ready-at, suffixed-part),
-)
+expr-applied-requires t c κs =
+    both (omega (
+      arith,
+      c .before .before .before .before .before .before .before .before .before .before .pre .0,
+      left-at,
+      some-left,
+      c .before .before .before .before .before .before .before .before .before .before .pre .1 .small,
+    )) (search (suffixes-ready-at, suffixed-part))
 
 expr-returns-5 : (t : ℕ) → expr-lts.Need-returns-5 (expr-cs t) (at expr-rank t) expr.Post
 expr-returns-5 t c =
-    let after-chain = c .before .before .before .before in
-    let after-expr2 = after-chain .before .before .before .before .before .before .before in
-    let after-inside2 = after-expr2 .before .before .before .before in
-    let after-match = after-inside2 .before in
+    let after-chain = c .before .before .before .before in let after-expr2 = after-chain .before .before .before .before .before .before .before in
+    let after-inside2 = after-expr2 .before .before .before .before in let after-match = after-inside2 .before in
     let after-node-at = after-match .before in
     dyadic-gave _ (after-node-at .node-at .ensures) (after-match .match .keys5) refl _
     (gave-at _ (after-inside2 .inside2 .ensures) (after-expr2 .expr2 .ensures))
@@ -121,10 +112,8 @@ expr-returns-5 t c =
 
 expr-returns-8 : (t : ℕ) → expr-lts.Need-returns-8 (expr-cs t) (at expr-rank t) expr.Post
 expr-returns-8 t c =
-    let after-applied = c .before .before .before .before in
-    let after-inside5 = after-applied .before in
-    let after-match = after-inside5 .before .before .before .before in
-    let after-node-at = after-match .before in
+    let after-applied = c .before .before .before .before in let after-inside5 = after-applied .before in
+    let after-match = after-inside5 .before .before .before .before in let after-node-at = after-match .before in
     suffixed-gave _ (after-node-at .node-at .ensures) (after-match .match .rest .0 .0 .0 .0 .0 .0 .1) (after-match .match .rest .0 .0 .0 .0 .0 .1)
     (after-match .match .rest .0 .0 .0 .0 .1) (after-match .match .rest .0 .0 .0 .1) (after-match .match .rest .0 .0 .1)
     (after-match .match .rest .0 .1) (after-match .match .rest .1) refl _
@@ -132,32 +121,30 @@ expr-returns-8 t c =
 
 pub expr-ok : {M : Type 1} (t : ℕ) → expr-lts.Closed (expr-cs t) (at expr-rank t) expr.Post M
 expr-ok t =
-    expr-lts.spec (expr-cs t) (at expr-rank t) expr.Post (λ c κs. search needs) (λ c κs. search needs) (λ c. omega arith)
-    (λ c κs. search needs) (λ c κs. omega arith) (λ c κs. search needs) (λ c κs. search needs)
-    (λ c κs. (omega (arith, left-at, some-left), search (ready-at, bracket-part))) (λ c κs. search needs) (λ c. omega arith)
-    (expr-expr-requires-2 t) (expr-chain-requires t) (λ c κs. omega arith) (λ c κs. search needs) (λ c κs. search needs)
-    (expr-command-requires t) (λ c κs. search needs) (λ c κs. search needs)
-    (λ c κs. (omega (arith, left-at, some-left), search (ready-at, monadic-part))) (λ c. omega arith) (λ c κs. search needs)
-    (expr-applied-requires t) (λ c. search needs) (λ c. search needs) (λ c. search number-gave) (λ c. search needs) (λ c. search needs)
-    (λ c. search string-gave) (λ c. search needs) (λ c. search needs) (λ c. search name-gave) (λ c. search needs) (λ c. search needs)
-    (λ c. search (bracket-gave, gave-at)) (λ c. search needs) (λ c. search needs) (expr-returns-5 t) (λ c. search needs) (λ c. search needs)
-    (λ c. search (valof-gave, gave-c-at)) (λ c. search needs) (λ c. search needs) (λ c. search (monadic-gave, gave-monadic-at))
-    (λ c. search needs) (λ c. search needs) (expr-returns-8 t)
+    expr-lts.spec (expr-cs t) (at expr-rank t) expr.Post (λ c κs. search needs) (λ c κs. search needs) (λ c. omega arith) (λ c κs. search needs)
+    (λ c κs. omega arith) (λ c κs. search needs) (λ c κs. search needs) (λ c κs. (omega (arith, left-at, some-left), search (ready-at, bracket-part)))
+    (λ c κs. search needs) (λ c. omega arith) (expr-expr-requires-2 t) (expr-chain-requires t) (λ c κs. omega arith) (λ c κs. search needs)
+    (λ c κs. search needs) (expr-command-requires t) (λ c κs. search needs) (λ c κs. search needs)
+    (λ c κs. (omega (arith, left-at, some-left), search (ready-at, monadic-part))) (λ c. omega arith) (λ c κs. search needs) (expr-applied-requires t)
+    (λ c. search needs) (λ c. search needs) (λ c. search number-gave) (λ c. search needs) (λ c. search needs) (λ c. search string-gave)
+    (λ c. search needs) (λ c. search needs) (λ c. search name-gave) (λ c. search needs) (λ c. search needs) (λ c. search (bracket-gave, gave-at))
+    (λ c. search needs) (λ c. search needs) (expr-returns-5 t) (λ c. search needs) (λ c. search needs) (λ c. search (valof-gave, gave-c-at))
+    (λ c. search needs) (λ c. search needs) (λ c. search (monadic-gave, gave-monadic-at)) (λ c. search needs) (λ c. search needs) (expr-returns-8 t)
 
 abbrev chain-cs : ℕ → chain-lts.Claims
 chain-cs t = (
-  entry-reads.Asked,
-  entry-reads.Learnt,
-  keep-reads.Asked,
-  keep-reads.Learnt,
+  entry.Asked,
+  entry.Learnt,
+  keep.Asked,
+  keep.Learnt,
   raised-reads.Asked,
   raised-reads.Learnt,
   below expr-rank t,
   expr.Post,
-  act-of-reads.Asked,
-  act-of-reads.Learnt,
-  operate-reads.Asked,
-  operate-reads.Learnt,
+  act-of.Asked,
+  act-of.Learnt,
+  operate.Asked,
+  operate.Learnt,
 )
 
 abbrev chain-Inv-loop : chain-lts.InvT-loop
@@ -169,17 +156,12 @@ chain-μ-loop source s₀ from end text₀ here at₀ r₀ s text at r = end - a
 
 chain-expr-requires : (t : ℕ) → chain-lts.Need-expr-requires (chain-cs t) (at chain-rank t) chain.Post chain-Inv-loop chain-μ-loop
 chain-expr-requires t c κs =
-    let after-keep = c .before .before .before .before .before in
-    let after-entry2 = after-keep .before .before in
-    let after-entry = after-entry2 .before .before in
-    let after-loop-test = after-entry .before .before in
-    let after-loop = after-loop-test .before in
-    let start = after-loop .before .before .before .before in (
-      omega (arith, start .pre .0, left-at),
-      ready-at (c .raised .ensures)
-          (chain-part _ _ (after-loop-test .loop-test .taken) (after-entry .entry .ensures .0) (after-entry2 .entry2 .ensures .0) refl
-          (after-keep .keep .ensures .label) (start .pre .1) (after-loop .loop .inv .2 (start .pre .1))),
-    )
+    let after-keep = c .before .before .before .before .before in let after-entry2 = after-keep .before .before in
+    let after-entry = after-entry2 .before .before in let after-loop-test = after-entry .before .before in let after-loop = after-loop-test .before in
+    let start = after-loop .before .before .before .before in
+    both (omega (arith, start .pre .0, left-at)) (ready-at (c .raised .ensures)
+    (chain-part _ _ (after-loop-test .loop-test .taken) (after-entry .entry .ensures .0) (after-entry2 .entry2 .ensures .0) refl
+    (after-keep .keep .ensures .label) (start .pre .1) (after-loop .loop .inv .2 (start .pre .1))))
 
 chain-operate-requires : (t : ℕ) → chain-lts.Need-operate-requires (chain-cs t) (at chain-rank t) chain.Post chain-Inv-loop chain-μ-loop
 chain-operate-requires t c κs =
@@ -199,14 +181,10 @@ chain-loop-less t c =
 
 chain-loop-again : (t : ℕ) → chain-lts.Need-loop-again (chain-cs t) (at chain-rank t) chain.Post chain-Inv-loop chain-μ-loop
 chain-loop-again t c =
-    let after-act-of = c .before .before .before in
-    let after-expr = after-act-of .before .before .before .before .before .before in
-    let after-raised = after-expr .before in
-    let after-keep = after-raised .before .before .before .before .before in
-    let after-entry2 = after-keep .before .before in
-    let after-entry = after-entry2 .before .before in
-    let after-loop-test = after-entry .before .before in
-    let after-loop = after-loop-test .before in (
+    let after-act-of = c .before .before .before in let after-expr = after-act-of .before .before .before .before .before .before in
+    let after-raised = after-expr .before in let after-keep = after-raised .before .before .before .before .before in
+    let after-entry2 = after-keep .before .before in let after-entry = after-entry2 .before .before in
+    let after-loop-test = after-entry .before .before in let after-loop = after-loop-test .before in (
       after-expr .expr .kept .1 .0 ∙ after-loop .loop .inv .0,
       c .before .before .operate .kept .0 ∙ after-expr .expr .kept .1 .1 .1 .0
           ∙ after-keep .keep .kept .0 ∙ after-loop .loop .inv .1,
@@ -217,28 +195,17 @@ chain-loop-again t c =
 
 pub chain-ok : {M : Type 1} (t : ℕ) → chain-lts.Closed (chain-cs t) (at chain-rank t) chain.Post M
 chain-ok t =
-    chain-lts.spec (chain-cs t) (at chain-rank t) chain.Post chain-Inv-loop chain-μ-loop (λ c. search (needs, chain-begin))
-    (λ c κs. search needs) (λ c. omega arith) (λ c κs. search needs) (λ c. omega arith)
-    (λ c. omega (arith, c .before .before .entry .ensures .1)) (λ c κs. omega arith) (λ c κs. omega arith) (chain-expr-requires t)
-    (λ c κs. search needs) (chain-operate-requires t) (chain-loop-less t) (chain-loop-again t) (λ c. search needs) (λ c. search needs)
-    (λ c. search chain-end)
+    chain-lts.spec (chain-cs t) (at chain-rank t) chain.Post chain-Inv-loop chain-μ-loop (λ c. search (needs, chain-begin)) (λ c κs. search needs)
+    (λ c. omega arith) (λ c κs. search needs) (λ c. omega arith) (λ c. omega (arith, c .before .before .entry .ensures .1)) (λ c κs. omega arith)
+    (λ c κs. omega arith) (chain-expr-requires t) (λ c κs. search needs) (chain-operate-requires t) (chain-loop-less t) (chain-loop-again t)
+    (λ c. search needs) (λ c. search needs) (λ c. search chain-end)
 
 abbrev monadic-cs : ℕ → monadic-lts.Claims
-monadic-cs t = (
-  node-at-reads.Asked,
-  node-at-reads.Learnt,
-  below address-rank t,
-  address.Post,
-  below expr-rank t,
-  expr.Post,
-  put-reads.Asked,
-  put-reads.Learnt,
-)
+monadic-cs t = (node-at.Asked, node-at.Learnt, below address-rank t, address.Post, below expr-rank t, expr.Post, put.Asked, put.Learnt)
 
 pub monadic-ok : {M : Type 1} (t : ℕ) → monadic-lts.Closed (monadic-cs t) (at monadic-rank t) monadic.Post M
 monadic-ok t =
     monadic-lts.spec (monadic-cs t) (at monadic-rank t) monadic.Post (λ c κs. search needs) (λ c κs. search needs) (λ c. search needs)
-    (λ c. search needs) (λ c. search monadic-address) (λ c κs. search needs) (λ c κs. search needs) (λ c κs. search needs)
-    (λ c κs. search needs) (λ c. search needs) (λ c. search needs) (λ c. search monadic-pling) (λ c. search needs) (λ c. search needs)
-    (λ c. search monadic-minus) (λ c. search needs) (λ c. search needs) (λ c. search monadic-not) (λ c. search needs) (λ c. search needs)
-    (λ c. search monadic-other)
+    (λ c. search needs) (λ c. search monadic-address) (λ c κs. search needs) (λ c κs. search needs) (λ c κs. search needs) (λ c κs. search needs)
+    (λ c. search needs) (λ c. search needs) (λ c. search monadic-pling) (λ c. search needs) (λ c. search needs) (λ c. search monadic-minus)
+    (λ c. search needs) (λ c. search needs) (λ c. search monadic-not) (λ c. search needs) (λ c. search needs) (λ c. search monadic-other)

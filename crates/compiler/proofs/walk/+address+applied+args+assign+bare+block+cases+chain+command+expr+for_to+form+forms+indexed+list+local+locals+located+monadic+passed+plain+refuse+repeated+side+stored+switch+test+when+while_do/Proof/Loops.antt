@@ -4,7 +4,8 @@ use Rattle.compiler.proofs.walk.+address+applied+args+assign+bare+block
 use Rattle.compiler.specs.Commands.{ReadyForms}
 use Rattle.compiler.proofs.Fors.{for-room, for-first, for-limit, for-keeps, for-name-fine, for-body, for-gave}
 use Rattle.compiler.proofs.Conditions.{while-test, while-body, while-gave}
-use Rattle.compiler.proofs.RepeatForms.{FormsPart, forms-begin, forms-part, forms-next, forms-end, form-alone, form-tested, repeated-few, repeated-body, repeated-forms, repeated-gave, once-part, once-gave}
+use Rattle.compiler.proofs.RepeatForms.{FormsPart, forms-begin, forms-part, forms-next, forms-end, form-alone, form-tested, repeated-few}
+use Rattle.compiler.proofs.RepeatForms.{repeated-body, repeated-forms, repeated-gave, once-part, once-gave}
 use Prim.Native.Nat.{_≤_, _-_, ℕ}
 use Rattle.compiler.specs.Walked.{raised}
 use mathlib.Core.Path.{_∙_, _≡_, refl}
@@ -13,6 +14,7 @@ use lib.ListN.{length}
 use native.Mathlib.Omega.{arith}
 use borrow.Author.Needs.{needs}
 use Rattle.compiler.proofs.Expressions.{ready-at, gave-at, left-at}
+use borrow.Fn.PlainCycle.{is}
 use proofs.walk.args.Reads as args
 use proofs.walk.command.Reads as command
 use proofs.walk.expr.Reads as expr
@@ -27,59 +29,55 @@ use proofs.walk.repeated.Reads as repeated
 use cycle.Lts-repeated as repeated-lts
 use proofs.walk.while_do.Reads as while-do
 use cycle.Lts-while_do as while-do-lts
-use proofs.labels.by_constant.Reads as by-constant-reads
-use proofs.scope.entry.Reads as entry-reads
-use proofs.scope.push.Reads as push-reads
-use proofs.scope.push_name.Reads as push-name-reads
-use proofs.steps.blame.Reads as blame-reads
-use proofs.steps.count.Reads as count-reads
-use proofs.steps.for_step.Reads as for-step-reads
-use proofs.steps.for_test.Reads as for-test-reads
-use proofs.steps.fresh.Reads as fresh-reads
-use proofs.steps.in_loop.Reads as in-loop-reads
-use proofs.steps.jump_unless.Reads as jump-unless-reads
-use proofs.steps.jump_when.Reads as jump-when-reads
-use proofs.steps.keep.Reads as keep-reads
-use proofs.steps.less.Reads as less-reads
-use proofs.steps.mark.Reads as mark-reads
-use proofs.steps.node_at.Reads as node-at-reads
-use proofs.steps.put_to.Reads as put-to-reads
+use proofs.labels.by_constant.Reads as by-constant
+use proofs.scope.entry.Reads as entry
+use proofs.scope.push.Reads as push
+use proofs.scope.push_name.Reads as push-name
+use proofs.steps.blame.Reads as blame
+use proofs.steps.count.Reads as count
+use proofs.steps.for_step.Reads as for-step
+use proofs.steps.for_test.Reads as for-test
+use proofs.steps.fresh.Reads as fresh
+use proofs.steps.in_loop.Reads as in-loop
+use proofs.steps.jump_unless.Reads as jump-unless
+use proofs.steps.jump_when.Reads as jump-when
+use proofs.steps.keep.Reads as keep
+use proofs.steps.less.Reads as less
+use proofs.steps.mark.Reads as mark
+use proofs.steps.node_at.Reads as node-at
+use proofs.steps.put_to.Reads as put-to
 use proofs.steps.raised.Reads as raised-reads
-use proofs.steps.set_at.Reads as set-at-reads
-use proofs.steps.tops.Reads as tops-reads
-use cycle.Proof.Ranks.{at, below, command-rank, expr-rank, for-to-rank, form-rank, forms-rank, plain-rank, repeated-rank, while-do-rank}
+use proofs.steps.set_at.Reads as set-at
+use proofs.steps.tops.Reads as tops
+use cycle.Proof.Ranks.{at, below, both, command-rank, expr-rank, for-to-rank, form-rank, forms-rank, plain-rank, repeated-rank, while-do-rank}
 
 abbrev while-do-cs : ℕ → while-do-lts.Claims
 while-do-cs t = (
-  node-at-reads.Asked,
-  node-at-reads.Learnt,
-  fresh-reads.Asked,
-  fresh-reads.Learnt,
-  mark-reads.Asked,
-  mark-reads.Learnt,
+  node-at.Asked,
+  node-at.Learnt,
+  fresh.Asked,
+  fresh.Learnt,
+  mark.Asked,
+  mark.Learnt,
   below expr-rank t,
   expr.Post,
-  jump-unless-reads.Asked,
-  jump-unless-reads.Learnt,
-  put-to-reads.Asked,
-  put-to-reads.Learnt,
-  in-loop-reads.Asked,
-  in-loop-reads.Learnt,
+  jump-unless.Asked,
+  jump-unless.Learnt,
+  put-to.Asked,
+  put-to.Learnt,
+  in-loop.Asked,
+  in-loop.Learnt,
   below command-rank t,
   command.Post,
 )
 
 while-do-expr-requires : (t : ℕ) → while-do-lts.Need-expr-requires (while-do-cs t) (at while-do-rank t) while-do.Post
 while-do-expr-requires t c κs =
-    let after-mark = c .before .before .before .before in
-    let after-fresh = after-mark .before .before in
-    let after-node-at2 = after-fresh .before in
-    let after-node-at = after-node-at2 .before .before in
-    let start = after-node-at .before .before .before .before .before in (
-      omega (arith, start .pre .0),
-      while-test _ _ (after-node-at .node-at .ensures) (after-node-at2 .node-at2 .ensures) (start .pre .1 .1 .word)
-          (after-fresh .fresh .ensures) (after-mark .mark .ensures) (start .pre .1 .0),
-    )
+    let after-mark = c .before .before .before .before in let after-fresh = after-mark .before .before in let after-node-at2 = after-fresh .before in
+    let after-node-at = after-node-at2 .before .before in let start = after-node-at .before .before .before .before .before in
+    both (omega (arith, start .pre .0))
+    (while-test _ _ (after-node-at .node-at .ensures) (after-node-at2 .node-at2 .ensures) (start .pre .1 .1 .word) (after-fresh .fresh .ensures)
+    (after-mark .mark .ensures) (start .pre .1 .0))
 
 while-do-add-in-loop : (t : ℕ) → while-do-lts.Need-add-in-loop (while-do-cs t) (at while-do-rank t) while-do.Post
 while-do-add-in-loop t c =
@@ -93,15 +91,12 @@ while-do-command-requires : (t : ℕ) → while-do-lts.Need-command-requires (wh
 while-do-command-requires t c κs =
     let after-put-to = c .before .before .before .before .before .before in
     let after-expr = after-put-to .before .before .before .before .before .before .before .before in
-    let after-mark = after-expr .before .before .before .before .before in
-    let after-fresh = after-mark .before .before in
-    let after-node-at2 = after-fresh .before in
-    let after-node-at = after-node-at2 .before .before in
-    let start = after-node-at .before .before .before .before .before in (
-      omega (arith, start .pre .0),
-      while-body _ _ (after-node-at .node-at .ensures) (after-node-at2 .node-at2 .ensures) (start .pre .1 .1 .word)
-          (after-fresh .fresh .ensures) (after-mark .mark .ensures) _ (after-expr .expr .ensures) (after-put-to .put-to .ensures) (start .pre .1 .0),
-    )
+    let after-mark = after-expr .before .before .before .before .before in let after-fresh = after-mark .before .before in
+    let after-node-at2 = after-fresh .before in let after-node-at = after-node-at2 .before .before in
+    let start = after-node-at .before .before .before .before .before in
+    both (omega (arith, start .pre .0))
+    (while-body _ _ (after-node-at .node-at .ensures) (after-node-at2 .node-at2 .ensures) (start .pre .1 .1 .word) (after-fresh .fresh .ensures)
+    (after-mark .mark .ensures) _ (after-expr .expr .ensures) (after-put-to .put-to .ensures) (start .pre .1 .0))
 
 while-do-add-mark : (t : ℕ) → while-do-lts.Need-add-mark (while-do-cs t) (at while-do-rank t) while-do.Post
 while-do-add-mark t c =
@@ -132,15 +127,11 @@ while-do-same-length-2 t c =
 while-do-returns : (t : ℕ) → while-do-lts.Need-returns (while-do-cs t) (at while-do-rank t) while-do.Post
 while-do-returns t c =
     let after-put-to2 = c .before .before .before .before .before .before .before in
-    let after-command = after-put-to2 .before .before .before .before .before .before in
-    let after-in-loop = after-command .before in
-    let after-put-to = after-in-loop .before .before .before .before .before .before in
-    let after-jump-unless = after-put-to .before .before in
+    let after-command = after-put-to2 .before .before .before .before .before .before in let after-in-loop = after-command .before in
+    let after-put-to = after-in-loop .before .before .before .before .before .before in let after-jump-unless = after-put-to .before .before in
     let after-expr = after-jump-unless .before .before .before .before .before .before in
-    let after-mark = after-expr .before .before .before .before .before in
-    let after-fresh = after-mark .before .before in
-    let after-node-at2 = after-fresh .before in
-    let after-node-at = after-node-at2 .before .before in
+    let after-mark = after-expr .before .before .before .before .before in let after-fresh = after-mark .before .before in
+    let after-node-at2 = after-fresh .before in let after-node-at = after-node-at2 .before .before in
     let start = after-node-at .before .before .before .before .before in
     while-gave _ _ (after-node-at .node-at .ensures) (after-node-at2 .node-at2 .ensures) (start .pre .1 .1 .word) (after-fresh .fresh .ensures)
     (after-mark .mark .ensures) _ (after-expr .expr .ensures) (after-put-to .put-to .ensures) _ (after-jump-unless .jump-unless .ensures)
@@ -150,55 +141,51 @@ while-do-returns t c =
 pub while-do-ok : {M : Type 1} (t : ℕ) → while-do-lts.Closed (while-do-cs t) (at while-do-rank t) while-do.Post M
 while-do-ok t =
     while-do-lts.spec (while-do-cs t) (at while-do-rank t) while-do.Post (λ c κs. search needs) (λ c κs. search needs) (λ c κs. omega arith)
-    (λ c κs. search needs) (while-do-expr-requires t) (λ c κs. search needs) (λ c. omega arith) (λ c κs. search needs)
-    (while-do-add-in-loop t) (λ c κs. search needs) (while-do-command-requires t) (λ c κs. search needs) (while-do-add-mark t)
-    (λ c κs. search needs) (while-do-same-length t) (while-do-same-length-2 t) (while-do-returns t)
+    (λ c κs. search needs) (while-do-expr-requires t) (λ c κs. search needs) (λ c. omega arith) (λ c κs. search needs) (while-do-add-in-loop t)
+    (λ c κs. search needs) (while-do-command-requires t) (λ c κs. search needs) (while-do-add-mark t) (λ c κs. search needs) (while-do-same-length t)
+    (while-do-same-length-2 t) (while-do-returns t)
 
 abbrev for-to-cs : ℕ → for-to-lts.Claims
 for-to-cs t = (
-  node-at-reads.Asked,
-  node-at-reads.Learnt,
-  less-reads.Asked,
-  less-reads.Learnt,
-  fresh-reads.Asked,
-  fresh-reads.Learnt,
+  node-at.Asked,
+  node-at.Learnt,
+  less.Asked,
+  less.Learnt,
+  fresh.Asked,
+  fresh.Learnt,
   below expr-rank t,
   expr.Post,
-  keep-reads.Asked,
-  keep-reads.Learnt,
+  keep.Asked,
+  keep.Learnt,
   raised-reads.Asked,
   raised-reads.Learnt,
-  by-constant-reads.Asked,
-  by-constant-reads.Learnt,
-  blame-reads.Asked,
-  blame-reads.Learnt,
-  for-test-reads.Asked,
-  for-test-reads.Learnt,
-  push-reads.Asked,
-  push-reads.Learnt,
-  push-name-reads.Asked,
-  push-name-reads.Learnt,
-  set-at-reads.Asked,
-  set-at-reads.Learnt,
-  in-loop-reads.Asked,
-  in-loop-reads.Learnt,
+  by-constant.Asked,
+  by-constant.Learnt,
+  blame.Asked,
+  blame.Learnt,
+  for-test.Asked,
+  for-test.Learnt,
+  push.Asked,
+  push.Learnt,
+  push-name.Asked,
+  push-name.Learnt,
+  set-at.Asked,
+  set-at.Learnt,
+  in-loop.Asked,
+  in-loop.Learnt,
   below command-rank t,
   command.Post,
-  for-step-reads.Asked,
-  for-step-reads.Learnt,
+  for-step.Asked,
+  for-step.Learnt,
 )
 
 for-to-expr-requires : (t : ℕ) → for-to-lts.Need-expr-requires (for-to-cs t) (at for-to-rank t) for-to.Post
 for-to-expr-requires t c κs =
-    let after-node-at3 = c .before .before .before in
-    let after-less = after-node-at3 .before .before in
-    let after-node-at2 = after-less .before in
-    let after-node-at = after-node-at2 .before .before in
-    let start = after-node-at .before .before .before .before .before in (
-      omega (arith, start .pre .0),
-      for-first _ _ _ (after-node-at .node-at .ensures) (after-node-at2 .node-at2 .ensures) (after-less .less .ensures)
-          (after-node-at3 .node-at3 .ensures) (start .pre .1 .1 .is) (c .before .before .fresh .ensures) (start .pre .1 .0),
-    )
+    let after-node-at3 = c .before .before .before in let after-less = after-node-at3 .before .before in let after-node-at2 = after-less .before in
+    let after-node-at = after-node-at2 .before .before in let start = after-node-at .before .before .before .before .before in
+    both (omega (arith, start .pre .0))
+    (for-first _ _ _ (after-node-at .node-at .ensures) (after-node-at2 .node-at2 .ensures) (after-less .less .ensures)
+    (after-node-at3 .node-at3 .ensures) (start .pre .1 .1 .is) (c .before .before .fresh .ensures) (start .pre .1 .0))
 
 for-to-keep-requires : (t : ℕ) → for-to-lts.Need-keep-requires (for-to-cs t) (at for-to-rank t) for-to.Post
 for-to-keep-requires t c κs =
@@ -218,20 +205,14 @@ for-to-raised-requires t c κs =
 
 for-to-expr-requires-2 : (t : ℕ) → for-to-lts.Need-expr-requires-2 (for-to-cs t) (at for-to-rank t) for-to.Post
 for-to-expr-requires-2 t c κs =
-    let after-keep = c .before .before .before .before .before in
-    let after-expr = after-keep .before .before .before .before .before .before in
-    let after-fresh = after-expr .before .before .before in
-    let after-node-at3 = after-fresh .before in
-    let after-less = after-node-at3 .before .before in
-    let after-node-at2 = after-less .before in
-    let after-node-at = after-node-at2 .before .before in
-    let start = after-node-at .before .before .before .before .before in (
-      omega (arith, start .pre .0, left-at),
-      ready-at (c .raised .ensures)
-          (for-limit _ _ _ (after-node-at .node-at .ensures) (after-node-at2 .node-at2 .ensures) (after-less .less .ensures)
-          (after-node-at3 .node-at3 .ensures) (start .pre .1 .1 .is) _ (after-fresh .fresh .ensures) (after-expr .expr .ensures)
-          (after-keep .keep .ensures) (start .pre .1 .0)),
-    )
+    let after-keep = c .before .before .before .before .before in let after-expr = after-keep .before .before .before .before .before .before in
+    let after-fresh = after-expr .before .before .before in let after-node-at3 = after-fresh .before in
+    let after-less = after-node-at3 .before .before in let after-node-at2 = after-less .before in
+    let after-node-at = after-node-at2 .before .before in let start = after-node-at .before .before .before .before .before in
+    both (omega (arith, start .pre .0, left-at))
+    (ready-at (c .raised .ensures) (for-limit _ _ _ (after-node-at .node-at .ensures) (after-node-at2 .node-at2 .ensures) (after-less .less .ensures)
+    (after-node-at3 .node-at3 .ensures) (start .pre .1 .1 .is) _ (after-fresh .fresh .ensures) (after-expr .expr .ensures)
+    (after-keep .keep .ensures) (start .pre .1 .0)))
 
 for-to-add-keep : (t : ℕ) → for-to-lts.Need-add-keep (for-to-cs t) (at for-to-rank t) for-to.Post
 for-to-add-keep t c =
@@ -251,36 +232,27 @@ for-to-keep-requires-2 t c κs =
 
 for-to-by-constant-requires : (t : ℕ) → for-to-lts.Need-by-constant-requires (for-to-cs t) (at for-to-rank t) for-to.Post
 for-to-by-constant-requires t c κs =
-    let after-node-at2 =
-    c .before .before .before .before .before .before .before .before .before .before .before .before .before .before .before .before .before .before .before .before .before .before .before .before .before .before .before .before .before
-    in
-    let after-node-at = after-node-at2 .before .before in
-    let start = after-node-at .before .before .before .before .before in
+    let after-node-at2 = c .before .before .before .before .before .before .before .before .before .before .before .before .before .before .before
+    .before .before .before .before .before .before .before .before .before .before .before .before .before .before in
+    let after-node-at = after-node-at2 .before .before in let start = after-node-at .before .before .before .before .before in
     omega (arith, after-node-at2 .node-at2 .ensures .start, after-node-at .node-at .ensures .inner, start .pre .1 .0 .small)
 
 for-to-for-test-requires : (t : ℕ) → for-to-lts.Need-for-test-requires (for-to-cs t) (at for-to-rank t) for-to.Post
 for-to-for-test-requires t c κs =
-    let start =
-    c .before .before .before .before .before .before .before .before .before .before .before .before .before .before .before .before .before .before .before .before .before .before .before .before .before .before .before .before .before .before .before .before .before .before .before .before .before .before .before
-    in
+    let start = c .before .before .before .before .before .before .before .before .before .before .before .before .before .before .before .before
+    .before .before .before .before .before .before .before .before .before .before .before .before .before .before .before .before .before .before
+    .before .before .before .before .before in
     (omega (arith, start .pre .1 .0 .height), omega (arith, start .pre .1 .0 .label))
 
 for-to-push-requires : (t : ℕ) → for-to-lts.Need-push-requires (for-to-cs t) (at for-to-rank t) for-to.Post
 for-to-push-requires t c κs =
-    let after-for-test = c .before .before .before in
-    let after-blame = after-for-test .before .before in
-    let after-by-constant = after-blame .before in
-    let after-keep2 = after-by-constant .before .before .before .before in
-    let after-expr2 = after-keep2 .before .before .before .before .before .before .before in
-    let after-raised = after-expr2 .before in
+    let after-for-test = c .before .before .before in let after-blame = after-for-test .before .before in
+    let after-by-constant = after-blame .before in let after-keep2 = after-by-constant .before .before .before .before in
+    let after-expr2 = after-keep2 .before .before .before .before .before .before .before in let after-raised = after-expr2 .before in
     let after-keep = after-raised .before .before .before .before .before in
-    let after-expr = after-keep .before .before .before .before .before .before in
-    let after-fresh = after-expr .before .before .before in
-    let after-node-at3 = after-fresh .before in
-    let after-less = after-node-at3 .before .before in
-    let after-node-at2 = after-less .before in
-    let after-node-at = after-node-at2 .before .before in
-    let start = after-node-at .before .before .before .before .before in (
+    let after-expr = after-keep .before .before .before .before .before .before in let after-fresh = after-expr .before .before .before in
+    let after-node-at3 = after-fresh .before in let after-less = after-node-at3 .before .before in let after-node-at2 = after-less .before in
+    let after-node-at = after-node-at2 .before .before in let start = after-node-at .before .before .before .before .before in (
       omega (
         arith,
         for-room _ _ _ (after-node-at .node-at .ensures) (after-node-at2 .node-at2 .ensures) (after-less .less .ensures)
@@ -298,13 +270,10 @@ for-to-push-requires t c κs =
 
 for-to-add-push-name : (t : ℕ) → for-to-lts.Need-add-push-name (for-to-cs t) (at for-to-rank t) for-to.Post
 for-to-add-push-name t c =
-    let after-node-at3 =
-    c .before .before .before .before .before .before .before .before .before .before .before .before .before .before .before .before .before .before .before .before .before .before .before .before .before .before .before .before .before .before .before .before .before .before .before .before .before .before
-    in
-    let after-less = after-node-at3 .before .before in
-    let after-node-at2 = after-less .before in
-    let after-node-at = after-node-at2 .before .before in
-    let start = after-node-at .before .before .before .before .before in
+    let after-node-at3 = c .before .before .before .before .before .before .before .before .before .before .before .before .before .before .before
+    .before .before .before .before .before .before .before .before .before .before .before .before .before .before .before .before .before .before
+    .before .before .before .before .before in let after-less = after-node-at3 .before .before in let after-node-at2 = after-less .before in
+    let after-node-at = after-node-at2 .before .before in let start = after-node-at .before .before .before .before .before in
     omega (
       arith,
       for-room _ _ _ (after-node-at .node-at .ensures) (after-node-at2 .node-at2 .ensures) (after-less .less .ensures)
@@ -336,68 +305,24 @@ for-to-push-name-requires : (t : ℕ) → for-to-lts.Need-push-name-requires (fo
 for-to-push-name-requires t c κs = (
   omega (
     arith,
-    for-room _ _ _
-        (c .before .before .before .before .before .before .before .before .before .before .before .before .before .before .before .before .before
+    (let after-node-at3 = c .before .before .before .before .before .before .before .before .before .before .before .before .before .before
         .before .before .before .before .before .before .before .before .before .before .before .before .before .before .before .before .before
-        .before .before .before .before .before .before .before .before .before .before .node-at .ensures)
-        (c .before .before .before .before .before .before .before .before .before .before .before .before .before .before .before .before .before
-        .before .before .before .before .before .before .before .before .before .before .before .before .before .before .before .before .before
-        .before .before .before .before .before .before .before .before .node-at2 .ensures)
-        (c .before .before .before .before .before .before .before .before .before .before .before .before .before .before .before .before .before
-        .before .before .before .before .before .before .before .before .before .before .before .before .before .before .before .before .before
-        .before .before .before .before .before .before .before .less .ensures)
-        (c .before .before .before .before .before .before .before .before .before .before .before .before .before .before .before .before .before
-        .before .before .before .before .before .before .before .before .before .before .before .before .before .before .before .before .before
-        .before .before .before .before .before .node-at3 .ensures)
-        (c .before .before .before .before .before .before .before .before .before .before .before .before .before .before .before .before .before
-        .before .before .before .before .before .before .before .before .before .before .before .before .before .before .before .before .before
-        .before .before .before .before .before .before .before .before .before .before .before .before .before .before .before .pre .1 .1 .is)
-        (c .before .before .before .before .before .before .before .before .before .before .before .before .before .before .before .before .before
-        .before .before .before .before .before .before .before .before .before .before .before .before .before .before .before .before .before
-        .before .before .before .before .before .before .before .before .before .before .before .before .before .before .before .pre .1 .0),
-    for-keeps
-        _ _ _
-        (c .before .before .before .before .before .before .before .before .before .before .before .before .before .before .before .before .before
-        .before .before .before .before .before .before .before .before .before .before .before .before .before .before .before .before .before
-        .before .before .before .before .before .before .before .before .before .before .node-at .ensures)
-        (c .before .before .before .before .before .before .before .before .before .before .before .before .before .before .before .before .before
-        .before .before .before .before .before .before .before .before .before .before .before .before .before .before .before .before .before
-        .before .before .before .before .before .before .before .before .node-at2 .ensures)
-        (c .before .before .before .before .before .before .before .before .before .before .before .before .before .before .before .before .before
-        .before .before .before .before .before .before .before .before .before .before .before .before .before .before .before .before .before
-        .before .before .before .before .before .before .before .less .ensures)
-        (c .before .before .before .before .before .before .before .before .before .before .before .before .before .before .before .before .before
-        .before .before .before .before .before .before .before .before .before .before .before .before .before .before .before .before .before
-        .before .before .before .before .before .node-at3 .ensures)
-        (c .before .before .before .before .before .before .before .before .before .before .before .before .before .before .before .before .before
-        .before .before .before .before .before .before .before .before .before .before .before .before .before .before .before .before .before
-        .before .before .before .before .before .before .before .before .before .before .before .before .before .before .before .pre .1 .1 .is)
-        (c .before .before .before .before .before .before .before .before .before .before .before .before .before .before .before .before .before
-        .before .before .before .before .before .before .before .before .before .before .before .before .before .before .before .before .before
-        .before .before .before .before .before .before .before .before .before .before .before .before .before .before .before .args .source .now)
-        (c .before .before .before .before .before .before .before .before .before .before .before .before .before .before .before .before .before
-        .before .before .before .before .before .before .before .before .before .before .before .before .before .before .before .before .before
-        .before .before .before .before .fresh .ensures)
-        (c .before .before .before .before .before .before .before .before .before .before .before .before .before .before .before .before .before
-        .before .before .before .before .before .before .before .before .before .before .before .before .before .before .before .before .before
-        .before .expr .ensures)
-        (c .before .before .before .before .before .before .before .before .before .before .before .before .before .before .before .before .before
-        .before .before .before .before .before .before .before .before .before .before .before .before .keep .ensures)
-        (gave-at
-        (c .before .before .before .before .before .before .before .before .before .before .before .before .before .before .before .before .before
-        .before .before .before .before .before .before .before .before .before .before .before .before .before .before .before .before .before
-        .before .before .before .before .before .before .before .before .before .before .before .before .before .before .before .args .source .now)
-        (c .before .before .before .before .before .before .before .before .before .before .before .before .before .before .before .before .before
-        .before .before .before .before .before .before .before .raised .ensures)
-        (c .before .before .before .before .before .before .before .before .before .before .before .before .before .before .before .before .before
-        .before .before .before .before .before .before .expr2 .ensures))
-        (c .before .before .before .before .before .before .before .before .before .before .before .before .before .before .before .before .keep2
-        .ensures) (c .before .before .before .before .before .before .before .before .before .before .before .before .by-constant .ensures)
-        (c .before .before .before .before .before .before .before .before .before .before .before .blame .ensures)
-        (c .before .before .before .before .before .before .before .before .before .for-test .ensures)
-        (c .before .before .before .before .before .before .before .before .before .before .before .before .before .before .before .before .before
-        .before .before .before .before .before .before .before .before .before .before .before .before .before .before .before .before .before
-        .before .before .before .before .before .before .before .before .before .before .before .before .before .before .before .pre .1 .0) .long,
+        .before .before .before .before .before .before .before .before in let after-less = after-node-at3 .before .before in let after-node-at2 =
+        after-less .before in let after-node-at = after-node-at2 .before .before in let start =
+        after-node-at .before .before .before .before .before in for-room _ _ _ (after-node-at .node-at .ensures)
+        (after-node-at2 .node-at2 .ensures) (after-less .less .ensures) (after-node-at3 .node-at3 .ensures) (start .pre .1 .1 .is)
+        (start .pre .1 .0)),
+    (let after-for-test = c .before .before .before .before .before .before .before .before .before in let after-blame =
+        after-for-test .before .before in let after-by-constant = after-blame .before in let after-keep2 =
+        after-by-constant .before .before .before .before in let after-expr2 = after-keep2 .before .before .before .before .before .before .before
+        in let after-raised = after-expr2 .before in let after-keep = after-raised .before .before .before .before .before in let after-expr =
+        after-keep .before .before .before .before .before .before in let after-fresh = after-expr .before .before .before in let after-node-at3 =
+        after-fresh .before in let after-less = after-node-at3 .before .before in let after-node-at2 = after-less .before in let after-node-at =
+        after-node-at2 .before .before in let start = after-node-at .before .before .before .before .before in for-keeps _ _ _
+        (after-node-at .node-at .ensures) (after-node-at2 .node-at2 .ensures) (after-less .less .ensures) (after-node-at3 .node-at3 .ensures)
+        (start .pre .1 .1 .is) (start .args .source .now) (after-fresh .fresh .ensures) (after-expr .expr .ensures) (after-keep .keep .ensures)
+        (gave-at (start .args .source .now) (after-raised .raised .ensures) (after-expr2 .expr2 .ensures)) (after-keep2 .keep2 .ensures)
+        (after-by-constant .by-constant .ensures) (after-blame .blame .ensures) (after-for-test .for-test .ensures) (start .pre .1 .0) .long),
     c
         .before .before .before .before .before .before .before .before .before .before .before .before .before .before .before .before .before
         .before .before .before .before .before .before .before .before .before .before .before .before .before .before .before .before .before
@@ -420,53 +345,26 @@ for-to-push-name-requires t c κs = (
         .before .before .before .before .before .before .before .before .before .before .before .before .before .before .before .before .pre .1 .0
         .height,
   ),
-  for-name-fine _ _ _
-      (c .before .before .before .before .before .before .before .before .before .before .before .before .before .before .before .before .before
-      .before .before .before .before .before .before .before .before .before .before .before .before .before .before .before .before .before
-      .before .before .before .before .before .before .before .before .before .before .node-at .ensures)
-      (c .before .before .before .before .before .before .before .before .before .before .before .before .before .before .before .before .before
-      .before .before .before .before .before .before .before .before .before .before .before .before .before .before .before .before .before
-      .before .before .before .before .before .before .before .before .node-at2 .ensures)
-      (c .before .before .before .before .before .before .before .before .before .before .before .before .before .before .before .before .before
-      .before .before .before .before .before .before .before .before .before .before .before .before .before .before .before .before .before
-      .before .before .before .before .before .before .before .less .ensures)
-      (c .before .before .before .before .before .before .before .before .before .before .before .before .before .before .before .before .before
-      .before .before .before .before .before .before .before .before .before .before .before .before .before .before .before .before .before
-      .before .before .before .before .before .node-at3 .ensures)
-      (c .before .before .before .before .before .before .before .before .before .before .before .before .before .before .before .before .before
-      .before .before .before .before .before .before .before .before .before .before .before .before .before .before .before .before .before
-      .before .before .before .before .before .before .before .before .before .before .before .before .before .before .before .pre .1 .1 .is) _
-      (c .before .before .before .before .before .before .before .before .before .before .before .before .before .before .before .before .before
-      .before .before .before .before .before .before .before .before .before .before .before .before .before .before .before .before .before
-      .before .before .before .before .fresh .ensures)
-      (c .before .before .before .before .before .before .before .before .before .before .before .before .before .before .before .before .before
-      .before .before .before .before .before .before .before .before .before .before .before .before .before .before .before .before .before
-      .before .expr .ensures)
-      (c .before .before .before .before .before .before .before .before .before .before .before .before .before .before .before .before .before
-      .before .before .before .before .before .before .before .before .before .before .before .before .keep .ensures)
-      (gave-at _
-      (c .before .before .before .before .before .before .before .before .before .before .before .before .before .before .before .before .before
-      .before .before .before .before .before .before .before .raised .ensures)
-      (c .before .before .before .before .before .before .before .before .before .before .before .before .before .before .before .before .before
-      .before .before .before .before .before .before .expr2 .ensures))
-      (c .before .before .before .before .before .before .before .before .before .before .before .before .before .before .before .before .keep2
-      .ensures) (c .before .before .before .before .before .before .before .before .before .before .before .before .by-constant .ensures)
-      (c .before .before .before .before .before .before .before .before .before .before .before .blame .ensures)
-      (c .before .before .before .before .before .before .before .before .before .for-test .ensures)
-      (c .before .before .before .before .before .push .ensures)
-      (c .before .before .before .before .before .before .before .before .before .before .before .before .before .before .before .before .before
-      .before .before .before .before .before .before .before .before .before .before .before .before .before .before .before .before .before
-      .before .before .before .before .before .before .before .before .before .before .before .before .before .before .before .pre .1 .0),
+  (let after-push = c .before .before .before .before .before in let after-for-test = after-push .before .before .before .before in let
+      after-blame = after-for-test .before .before in let after-by-constant = after-blame .before in let after-keep2 =
+      after-by-constant .before .before .before .before in let after-expr2 = after-keep2 .before .before .before .before .before .before .before in
+      let after-raised = after-expr2 .before in let after-keep = after-raised .before .before .before .before .before in let after-expr =
+      after-keep .before .before .before .before .before .before in let after-fresh = after-expr .before .before .before in let after-node-at3 =
+      after-fresh .before in let after-less = after-node-at3 .before .before in let after-node-at2 = after-less .before in let after-node-at =
+      after-node-at2 .before .before in let start = after-node-at .before .before .before .before .before in for-name-fine _ _ _
+      (after-node-at .node-at .ensures) (after-node-at2 .node-at2 .ensures) (after-less .less .ensures) (after-node-at3 .node-at3 .ensures)
+      (start .pre .1 .1 .is) _ (after-fresh .fresh .ensures) (after-expr .expr .ensures) (after-keep .keep .ensures)
+      (gave-at _ (after-raised .raised .ensures) (after-expr2 .expr2 .ensures)) (after-keep2 .keep2 .ensures)
+      (after-by-constant .by-constant .ensures) (after-blame .blame .ensures) (after-for-test .for-test .ensures) (after-push .push .ensures)
+      (start .pre .1 .0)),
 )
 
 for-to-add-set-at : (t : ℕ) → for-to-lts.Need-add-set-at (for-to-cs t) (at for-to-rank t) for-to.Post
 for-to-add-set-at t c =
-    let after-node-at3 =
-    c .before .before .before .before .before .before .before .before .before .before .before .before .before .before .before .before .before .before .before .before .before .before .before .before .before .before .before .before .before .before .before .before .before .before .before .before .before .before .before .before .before .before .before
-    in
-    let after-less = after-node-at3 .before .before in
-    let after-node-at2 = after-less .before in
-    let after-node-at = after-node-at2 .before .before in
+    let after-node-at3 = c .before .before .before .before .before .before .before .before .before .before .before .before .before .before .before
+    .before .before .before .before .before .before .before .before .before .before .before .before .before .before .before .before .before .before
+    .before .before .before .before .before .before .before .before .before .before in let after-less = after-node-at3 .before .before in
+    let after-node-at2 = after-less .before in let after-node-at = after-node-at2 .before .before in
     let start = after-node-at .before .before .before .before .before in
     omega (
       arith,
@@ -509,37 +407,28 @@ for-to-add-in-loop-2 t c =
 
 for-to-command-requires : (t : ℕ) → for-to-lts.Need-command-requires (for-to-cs t) (at for-to-rank t) for-to.Post
 for-to-command-requires t c κs =
-    let after-set-at = c .before .before .before .before .before in
-    let after-push-name = after-set-at .before .before .before .before .before in
+    let after-set-at = c .before .before .before .before .before in let after-push-name = after-set-at .before .before .before .before .before in
     let after-push = after-push-name .before .before .before .before .before .before in
-    let after-for-test = after-push .before .before .before .before in
-    let after-blame = after-for-test .before .before in
-    let after-by-constant = after-blame .before in
-    let after-keep2 = after-by-constant .before .before .before .before in
-    let after-expr2 = after-keep2 .before .before .before .before .before .before .before in
-    let after-raised = after-expr2 .before in
+    let after-for-test = after-push .before .before .before .before in let after-blame = after-for-test .before .before in
+    let after-by-constant = after-blame .before in let after-keep2 = after-by-constant .before .before .before .before in
+    let after-expr2 = after-keep2 .before .before .before .before .before .before .before in let after-raised = after-expr2 .before in
     let after-keep = after-raised .before .before .before .before .before in
-    let after-expr = after-keep .before .before .before .before .before .before in
-    let after-fresh = after-expr .before .before .before in
-    let after-node-at3 = after-fresh .before in
-    let after-less = after-node-at3 .before .before in
-    let after-node-at2 = after-less .before in
-    let after-node-at = after-node-at2 .before .before in
-    let start = after-node-at .before .before .before .before .before in (
-      omega (arith, start .pre .0, left-at),
-      ready-at (after-set-at .set-at .ensures)
-          (for-body _ _ _ (after-node-at .node-at .ensures) (after-node-at2 .node-at2 .ensures) (after-less .less .ensures)
-          (after-node-at3 .node-at3 .ensures) (start .pre .1 .1 .is) _ (after-fresh .fresh .ensures) (after-expr .expr .ensures)
-          (after-keep .keep .ensures) (gave-at _ (after-raised .raised .ensures) (after-expr2 .expr2 .ensures)) (after-keep2 .keep2 .ensures)
-          (after-by-constant .by-constant .ensures) (after-blame .blame .ensures) (after-for-test .for-test .ensures) (after-push .push .ensures)
-          (after-push-name .push-name .ensures) refl (start .pre .1 .0)),
-    )
+    let after-expr = after-keep .before .before .before .before .before .before in let after-fresh = after-expr .before .before .before in
+    let after-node-at3 = after-fresh .before in let after-less = after-node-at3 .before .before in let after-node-at2 = after-less .before in
+    let after-node-at = after-node-at2 .before .before in let start = after-node-at .before .before .before .before .before in
+    both (omega (arith, start .pre .0, left-at)) (ready-at (after-set-at .set-at .ensures)
+    (for-body _ _ _ (after-node-at .node-at .ensures) (after-node-at2 .node-at2 .ensures) (after-less .less .ensures)
+    (after-node-at3 .node-at3 .ensures) (start .pre .1 .1 .is) _ (after-fresh .fresh .ensures) (after-expr .expr .ensures)
+    (after-keep .keep .ensures) (gave-at _ (after-raised .raised .ensures) (after-expr2 .expr2 .ensures)) (after-keep2 .keep2 .ensures)
+    (after-by-constant .by-constant .ensures) (after-blame .blame .ensures) (after-for-test .for-test .ensures) (after-push .push .ensures)
+    (after-push-name .push-name .ensures) refl (start .pre .1 .0)))
 
 for-to-for-step-requires : (t : ℕ) → for-to-lts.Need-for-step-requires (for-to-cs t) (at for-to-rank t) for-to.Post
 for-to-for-step-requires t c κs =
-    let start =
-    c .before .before .before .before .before .before .before .before .before .before .before .before .before .before .before .before .before .before .before .before .before .before .before .before .before .before .before .before .before .before .before .before .before .before .before .before .before .before .before .before .before .before .before .before .before .before .before .before .before .before .before .before .before .before .before .before .before .before .before .before .before .before .before .before .before .before
-    in
+    let start = c .before .before .before .before .before .before .before .before .before .before .before .before .before .before .before .before
+    .before .before .before .before .before .before .before .before .before .before .before .before .before .before .before .before .before .before
+    .before .before .before .before .before .before .before .before .before .before .before .before .before .before .before .before .before .before
+    .before .before .before .before .before .before .before .before .before .before .before .before .before .before in
     (omega (arith, start .pre .1 .0 .height), omega (arith, start .pre .1 .0 .label))
 
 for-to-same-length : (t : ℕ) → for-to-lts.Need-same-length (for-to-cs t) (at for-to-rank t) for-to.Post
@@ -547,9 +436,8 @@ for-to-same-length t c =
     let after-command = c .before .before .before .before .before .before .before .before in
     let after-push-name = after-command .before .before .before .before .before .before .before .before .before .before .before in
     let after-push = after-push-name .before .before .before .before .before .before in
-    let after-expr2 =
-    after-push .before .before .before .before .before .before .before .before .before .before .before .before .before .before .before .before .before .before
-    in
+    let after-expr2 = after-push .before .before .before .before .before .before .before .before .before .before .before .before .before .before
+    .before .before .before .before in
     let after-expr = after-expr2 .before .before .before .before .before .before .before .before .before .before .before .before in
     after-command .command .kept .1 .0 ∙ after-push-name .push-name .kept .0 ∙ after-push .push .kept .0 ∙ after-expr2 .expr2 .kept .1 .0
     ∙ after-expr .expr .kept .1 .0
@@ -557,9 +445,8 @@ for-to-same-length t c =
 for-to-same-length-2 : (t : ℕ) → for-to-lts.Need-same-length-2 (for-to-cs t) (at for-to-rank t) for-to.Post
 for-to-same-length-2 t c =
     let after-command = c .before .before .before .before .before .before .before .before in
-    let after-for-test =
-    after-command .before .before .before .before .before .before .before .before .before .before .before .before .before .before .before .before .before .before .before .before .before
-    in
+    let after-for-test = after-command .before .before .before .before .before .before .before .before .before .before .before .before .before .before
+    .before .before .before .before .before .before .before in
     let after-keep2 = after-for-test .before .before .before .before .before .before .before in
     let after-expr2 = after-keep2 .before .before .before .before .before .before .before in
     let after-keep = after-expr2 .before .before .before .before .before .before in
@@ -569,25 +456,17 @@ for-to-same-length-2 t c =
 
 for-to-returns : (t : ℕ) → for-to-lts.Need-returns (for-to-cs t) (at for-to-rank t) for-to.Post
 for-to-returns t c =
-    let after-command = c .before .before .before .before .before .before .before .before in
-    let after-in-loop = after-command .before in
+    let after-command = c .before .before .before .before .before .before .before .before in let after-in-loop = after-command .before in
     let after-set-at = after-in-loop .before .before .before .before .before in
     let after-push-name = after-set-at .before .before .before .before .before in
     let after-push = after-push-name .before .before .before .before .before .before in
-    let after-for-test = after-push .before .before .before .before in
-    let after-blame = after-for-test .before .before in
-    let after-by-constant = after-blame .before in
-    let after-keep2 = after-by-constant .before .before .before .before in
-    let after-expr2 = after-keep2 .before .before .before .before .before .before .before in
-    let after-raised = after-expr2 .before in
+    let after-for-test = after-push .before .before .before .before in let after-blame = after-for-test .before .before in
+    let after-by-constant = after-blame .before in let after-keep2 = after-by-constant .before .before .before .before in
+    let after-expr2 = after-keep2 .before .before .before .before .before .before .before in let after-raised = after-expr2 .before in
     let after-keep = after-raised .before .before .before .before .before in
-    let after-expr = after-keep .before .before .before .before .before .before in
-    let after-fresh = after-expr .before .before .before in
-    let after-node-at3 = after-fresh .before in
-    let after-less = after-node-at3 .before .before in
-    let after-node-at2 = after-less .before in
-    let after-node-at = after-node-at2 .before .before in
-    let start = after-node-at .before .before .before .before .before in
+    let after-expr = after-keep .before .before .before .before .before .before in let after-fresh = after-expr .before .before .before in
+    let after-node-at3 = after-fresh .before in let after-less = after-node-at3 .before .before in let after-node-at2 = after-less .before in
+    let after-node-at = after-node-at2 .before .before in let start = after-node-at .before .before .before .before .before in
     for-gave _ _ _ (after-node-at .node-at .ensures) (after-node-at2 .node-at2 .ensures) (after-less .less .ensures)
     (after-node-at3 .node-at3 .ensures) (start .pre .1 .1 .is) _ (after-fresh .fresh .ensures) (after-expr .expr .ensures) (after-keep .keep .ensures)
     (gave-at _ (after-raised .raised .ensures) (after-expr2 .expr2 .ensures)) (after-keep2 .keep2 .ensures) (after-by-constant .by-constant .ensures)
@@ -599,33 +478,22 @@ pub for-to-ok : {M : Type 1} (t : ℕ) → for-to-lts.Closed (for-to-cs t) (at f
 for-to-ok t =
     for-to-lts.spec (for-to-cs t) (at for-to-rank t) for-to.Post (λ c κs. search needs) (λ c κs. search needs) (λ c κs. search needs)
     (λ c κs. search needs) (λ c κs. omega arith) (for-to-expr-requires t) (for-to-keep-requires t) (for-to-raised-requires t)
-    (for-to-expr-requires-2 t) (for-to-add-keep t) (for-to-keep-requires-2 t) (for-to-by-constant-requires t)
-    (λ c _. c .by-constant .ensures .fits) (for-to-for-test-requires t) (for-to-push-requires t) (for-to-add-push-name t)
-    (for-to-mul-push-name t) (for-to-add-push-name-2 t) (for-to-push-name-requires t) (for-to-add-set-at t) (for-to-add-set-at-2 t)
-    (λ c κs. search needs) (for-to-add-in-loop t) (for-to-add-in-loop-2 t) (λ c κs. search needs) (for-to-command-requires t)
-    (for-to-for-step-requires t) (for-to-same-length t) (for-to-same-length-2 t) (for-to-returns t)
+    (for-to-expr-requires-2 t) (for-to-add-keep t) (for-to-keep-requires-2 t) (for-to-by-constant-requires t) (λ c _. c .by-constant .ensures .fits)
+    (for-to-for-test-requires t) (for-to-push-requires t) (for-to-add-push-name t) (for-to-mul-push-name t) (for-to-add-push-name-2 t)
+    (for-to-push-name-requires t) (for-to-add-set-at t) (for-to-add-set-at-2 t) (λ c κs. search needs) (for-to-add-in-loop t) (for-to-add-in-loop-2 t)
+    (λ c κs. search needs) (for-to-command-requires t) (for-to-for-step-requires t) (for-to-same-length t) (for-to-same-length-2 t) (for-to-returns t)
 
 abbrev form-cs : ℕ → form-lts.Claims
-form-cs t =
-    (put-to-reads.Asked, put-to-reads.Learnt, below expr-rank t, expr.Post, jump-when-reads.Asked, jump-when-reads.Learnt)
+form-cs t = (put-to.Asked, put-to.Learnt, below expr-rank t, expr.Post, jump-when.Asked, jump-when.Learnt)
 
 pub form-ok : {M : Type 1} (t : ℕ) → form-lts.Closed (form-cs t) (at form-rank t) form.Post M
 form-ok t =
     form-lts.spec (form-cs t) (at form-rank t) form.Post (λ c κs. search needs) (λ c. search needs) (λ c. search form-alone)
-    (λ c κs. (omega arith, c .before .before .before .before .before .before .pre .1 .on (c .before .before .if1 .left)))
-    (λ c κs. search needs) (λ c κs. search needs) (λ c. search needs) (λ c. search needs) (λ c. search form-tested)
+    (λ c κs. (omega arith, c .before .before .before .before .before .before .pre .1 .on (c .before .before .if1 .left))) (λ c κs. search needs)
+    (λ c κs. search needs) (λ c. search needs) (λ c. search needs) (λ c. search form-tested)
 
 abbrev forms-cs : ℕ → forms-lts.Claims
-forms-cs t = (
-  entry-reads.Asked,
-  entry-reads.Learnt,
-  mark-reads.Asked,
-  mark-reads.Learnt,
-  below form-rank t,
-  form.Post,
-  less-reads.Asked,
-  less-reads.Learnt,
-)
+forms-cs t = (entry.Asked, entry.Learnt, mark.Asked, mark.Learnt, below form-rank t, form.Post, less.Asked, less.Learnt)
 
 abbrev forms-Inv-loop : forms-lts.InvT-loop
 forms-Inv-loop source s₀ from end text₀ here innermost at₀ own₀ r₀ s text at own r =
@@ -637,23 +505,18 @@ forms-μ-loop source s₀ from end text₀ here innermost at₀ own₀ r₀ s te
 
 forms-form-requires : (t : ℕ) → forms-lts.Need-form-requires (forms-cs t) (at forms-rank t) forms.Post forms-Inv-loop forms-μ-loop
 forms-form-requires t c κs =
-    let after-mark = c .before .before .before .before in
-    let after-entry2 = after-mark .before .before in
-    let after-entry = after-entry2 .before .before in
-    let after-loop-test = after-entry .before .before in
-    let after-loop = after-loop-test .before in
-    let start = after-loop .before .before .before .before in (
-      omega (arith, start .pre .0),
-      forms-part _ _ (start .args .innermost) (after-loop-test .loop-test .taken) (after-entry .entry .ensures .0)
-          (after-entry2 .entry2 .ensures .0) refl (after-mark .mark .ensures .label) (start .pre .1 .0) (after-loop .loop .inv .3 (start .pre .1 .0)),
-    )
+    let after-mark = c .before .before .before .before in let after-entry2 = after-mark .before .before in
+    let after-entry = after-entry2 .before .before in let after-loop-test = after-entry .before .before in let after-loop = after-loop-test .before in
+    let start = after-loop .before .before .before .before in
+    both (omega (arith, start .pre .0))
+    (forms-part _ _ (start .args .innermost) (after-loop-test .loop-test .taken) (after-entry .entry .ensures .0) (after-entry2 .entry2 .ensures .0)
+    refl (after-mark .mark .ensures .label) (start .pre .1 .0) (after-loop .loop .inv .3 (start .pre .1 .0)))
 
 forms-add-mark-2 : (t : ℕ) → forms-lts.Need-add-mark-2 (forms-cs t) (at forms-rank t) forms.Post forms-Inv-loop forms-μ-loop
 forms-add-mark-2 t c =
     let after-loop =
     c .before .before .before .before .before .before .before .before .before .before .before .before .before .before .before .before .before in
-    let start = after-loop .before .before .before .before in
-    omega (arith, after-loop .loop .inv .2, start .pre .1 .1)
+    let start = after-loop .before .before .before .before in omega (arith, after-loop .loop .inv .2, start .pre .1 .1)
 
 forms-loop-less : (t : ℕ) → forms-lts.Need-loop-less (forms-cs t) (at forms-rank t) forms.Post forms-Inv-loop forms-μ-loop
 forms-loop-less t c =
@@ -665,13 +528,9 @@ forms-loop-less t c =
 
 forms-loop-again : (t : ℕ) → forms-lts.Need-loop-again (forms-cs t) (at forms-rank t) forms.Post forms-Inv-loop forms-μ-loop
 forms-loop-again t c =
-    let after-mark2 = c .before .before .before in
-    let after-form = after-mark2 .before .before .before .before .before .before in
-    let after-mark = after-form .before .before .before .before .before in
-    let after-entry2 = after-mark .before .before in
-    let after-entry = after-entry2 .before .before in
-    let after-loop-test = after-entry .before .before in
-    let after-loop = after-loop-test .before in
+    let after-mark2 = c .before .before .before in let after-form = after-mark2 .before .before .before .before .before .before in
+    let after-mark = after-form .before .before .before .before .before in let after-entry2 = after-mark .before .before in
+    let after-entry = after-entry2 .before .before in let after-loop-test = after-entry .before .before in let after-loop = after-loop-test .before in
     let start = after-loop .before .before .before .before in (
       after-form .form .kept .1 .0 ∙ after-loop .loop .inv .0,
       after-mark2 .mark2 .kept .0 ∙ after-form .form .kept .1 .1 .1 .0
@@ -684,26 +543,26 @@ forms-loop-again t c =
 
 pub forms-ok : {M : Type 1} (t : ℕ) → forms-lts.Closed (forms-cs t) (at forms-rank t) forms.Post M
 forms-ok t =
-    forms-lts.spec (forms-cs t) (at forms-rank t) forms.Post forms-Inv-loop forms-μ-loop (λ c. search (needs, forms-begin))
-    (λ c κs. search needs) (λ c. omega arith) (λ c κs. search needs) (λ c. omega arith) (λ c. omega arith) (λ c. omega arith)
-    (λ c κs. search needs) (forms-form-requires t) (forms-add-mark-2 t) (λ c κs. search needs) (λ c κs. search needs) (forms-loop-less t)
-    (forms-loop-again t) (λ c. c .before .loop .inv .0) (λ c. c .before .loop .inv .1)
+    forms-lts.spec (forms-cs t) (at forms-rank t) forms.Post forms-Inv-loop forms-μ-loop (λ c. search (needs, forms-begin)) (λ c κs. search needs)
+    (λ c. omega arith) (λ c κs. search needs) (λ c. omega arith) (λ c. omega arith) (λ c. omega arith) (λ c κs. search needs) (forms-form-requires t)
+    (forms-add-mark-2 t) (λ c κs. search needs) (λ c κs. search needs) (forms-loop-less t) (forms-loop-again t) (λ c. c .before .loop .inv .0)
+    (λ c. c .before .loop .inv .1)
     (λ c. forms-end _ _ (c .before .before .before .before .before .args .innermost) (c .loop-test .left) (c .before .loop .inv .3))
 
 abbrev repeated-cs : ℕ → repeated-lts.Claims
 repeated-cs t = (
-  node-at-reads.Asked,
-  node-at-reads.Learnt,
-  count-reads.Asked,
-  count-reads.Learnt,
-  less-reads.Asked,
-  less-reads.Learnt,
-  fresh-reads.Asked,
-  fresh-reads.Learnt,
-  tops-reads.Asked,
-  tops-reads.Learnt,
-  in-loop-reads.Asked,
-  in-loop-reads.Learnt,
+  node-at.Asked,
+  node-at.Learnt,
+  count.Asked,
+  count.Learnt,
+  less.Asked,
+  less.Learnt,
+  fresh.Asked,
+  fresh.Learnt,
+  tops.Asked,
+  tops.Learnt,
+  in-loop.Asked,
+  in-loop.Learnt,
   below plain-rank t,
   plain.Post,
   below forms-rank t,
@@ -746,84 +605,61 @@ repeated-fresh-requires t c κs =
 
 repeated-tops-requires : (t : ℕ) → repeated-lts.Need-tops-requires (repeated-cs t) (at repeated-rank t) repeated.Post
 repeated-tops-requires t c κs =
-    let after-count = c .before .before .before .before in
-    let after-if1 = after-count .before .before .before in
-    let after-node-at = after-if1 .before .before in
-    let start = after-node-at .before .before .before .before .before in
+    let after-count = c .before .before .before .before in let after-if1 = after-count .before .before .before in
+    let after-node-at = after-if1 .before .before in let start = after-node-at .before .before .before .before .before in
     omega (arith, repeated-few _ (after-node-at .node-at .ensures) (after-if1 .if1 .taken) refl (after-count .count .ensures) (start .pre .1))
 
 repeated-add-in-loop : (t : ℕ) → repeated-lts.Need-add-in-loop (repeated-cs t) (at repeated-rank t) repeated.Post
 repeated-add-in-loop t c =
     omega (
       arith,
-      repeated-few _
-          (c .before .before .before .before .before .before .before .before .before .before .before .before .before .before .node-at .ensures)
-          (c .before .before .before .before .before .before .before .before .before .before .before .before .if1 .taken) refl
-          (c .before .before .before .before .before .before .before .before .before .count .ensures)
-          (c .before .before .before .before .before .before .before .before .before .before .before .before .before .before .before .before .before
-          .before .before .pre .1),
+      (let after-count = c .before .before .before .before .before .before .before .before .before in let after-if1 =
+          after-count .before .before .before in let after-node-at = after-if1 .before .before in let start =
+          after-node-at .before .before .before .before .before in repeated-few _ (after-node-at .node-at .ensures) (after-if1 .if1 .taken) refl
+          (after-count .count .ensures) (start .pre .1)),
     )
 
 repeated-add-in-loop-2 : (t : ℕ) → repeated-lts.Need-add-in-loop-2 (repeated-cs t) (at repeated-rank t) repeated.Post
 repeated-add-in-loop-2 t c =
     omega (
       arith,
-      repeated-few _
-          (c .before .before .before .before .before .before .before .before .before .before .before .before .before .before .node-at .ensures)
-          (c .before .before .before .before .before .before .before .before .before .before .before .before .if1 .taken) refl
-          (c .before .before .before .before .before .before .before .before .before .count .ensures)
-          (c .before .before .before .before .before .before .before .before .before .before .before .before .before .before .before .before .before
-          .before .before .pre .1),
+      (let after-count = c .before .before .before .before .before .before .before .before .before in let after-if1 =
+          after-count .before .before .before in let after-node-at = after-if1 .before .before in let start =
+          after-node-at .before .before .before .before .before in repeated-few _ (after-node-at .node-at .ensures) (after-if1 .if1 .taken) refl
+          (after-count .count .ensures) (start .pre .1)),
     )
 
 repeated-plain-requires : (t : ℕ) → repeated-lts.Need-plain-requires (repeated-cs t) (at repeated-rank t) repeated.Post
 repeated-plain-requires t c κs =
-    let after-tops = c .before .before .before .before .before in
-    let after-fresh = after-tops .before .before in
-    let after-count = after-fresh .before .before .before in
-    let after-if1 = after-count .before .before .before in
-    let after-node-at = after-if1 .before .before in
-    let start = after-node-at .before .before .before .before .before in (
-      omega (arith, start .pre .0),
-      repeated-body _ (after-node-at .node-at .ensures) (after-if1 .if1 .taken) refl (after-count .count .ensures)
-          (after-fresh .fresh .ensures) (after-tops .tops .ensures) (start .pre .1),
-    )
+    let after-tops = c .before .before .before .before .before in let after-fresh = after-tops .before .before in
+    let after-count = after-fresh .before .before .before in let after-if1 = after-count .before .before .before in
+    let after-node-at = after-if1 .before .before in let start = after-node-at .before .before .before .before .before in
+    both (omega (arith, start .pre .0))
+    (repeated-body _ (after-node-at .node-at .ensures) (after-if1 .if1 .taken) refl (after-count .count .ensures) (after-fresh .fresh .ensures)
+    (after-tops .tops .ensures) (start .pre .1))
 
 repeated-forms-requires : (t : ℕ) → repeated-lts.Need-forms-requires (repeated-cs t) (at repeated-rank t) repeated.Post
 repeated-forms-requires t c κs =
-    let after-plain = c .before .before .before .before .before .before in
-    let after-in-loop = after-plain .before in
-    let after-tops = after-in-loop .before .before .before .before .before in
-    let after-fresh = after-tops .before .before in
-    let after-less = after-fresh .before in
-    let after-count = after-less .before .before in
-    let after-if1 = after-count .before .before .before in
-    let after-node-at = after-if1 .before .before in
-    let start = after-node-at .before .before .before .before .before in (
-      omega (arith, start .pre .0),
-      (
-        repeated-forms _ (after-node-at .node-at .ensures) (after-if1 .if1 .taken) refl (after-count .count .ensures) (after-fresh .fresh .ensures)
-            (after-tops .tops .ensures) (start .args .source .now) (start .args .ways) (after-less .less .ensures)
-            (gave-u-at (start .args .source .now) refl (after-in-loop .in-loop .ensures) (after-plain .plain .ensures)) (start .pre .1),
-        omega (
-          arith,
-          repeated-few _ (after-node-at .node-at .ensures) (after-if1 .if1 .taken) refl (after-count .count .ensures) (start .pre .1),
-          after-less .less .ensures,
-        ),
-      ),
-    )
+    let after-plain = c .before .before .before .before .before .before in let after-in-loop = after-plain .before in
+    let after-tops = after-in-loop .before .before .before .before .before in let after-fresh = after-tops .before .before in
+    let after-less = after-fresh .before in let after-count = after-less .before .before in let after-if1 = after-count .before .before .before in
+    let after-node-at = after-if1 .before .before in let start = after-node-at .before .before .before .before .before in
+    both (omega (arith, start .pre .0)) (both
+    (repeated-forms _ (after-node-at .node-at .ensures) (after-if1 .if1 .taken) refl (after-count .count .ensures) (after-fresh .fresh .ensures)
+    (after-tops .tops .ensures) (start .args .source .now) (start .args .ways) (after-less .less .ensures)
+    (gave-u-at (start .args .source .now) refl (after-in-loop .in-loop .ensures) (after-plain .plain .ensures)) (start .pre .1))
+    (omega (
+      arith,
+      repeated-few _ (after-node-at .node-at .ensures) (after-if1 .if1 .taken) refl (after-count .count .ensures) (start .pre .1),
+      after-less .less .ensures,
+    )))
 
 repeated-returns : (t : ℕ) → repeated-lts.Need-returns (repeated-cs t) (at repeated-rank t) repeated.Post
 repeated-returns t c =
-    let after-forms = c .before .before .before .before in
-    let after-plain = after-forms .before .before .before .before .before .before .before in
-    let after-in-loop = after-plain .before in
-    let after-tops = after-in-loop .before .before .before .before .before in
-    let after-fresh = after-tops .before .before in
-    let after-less = after-fresh .before in
-    let after-count = after-less .before .before in
-    let after-if1 = after-count .before .before .before in
-    let after-node-at = after-if1 .before .before in
+    let after-forms = c .before .before .before .before in let after-plain = after-forms .before .before .before .before .before .before .before in
+    let after-in-loop = after-plain .before in let after-tops = after-in-loop .before .before .before .before .before in
+    let after-fresh = after-tops .before .before in let after-less = after-fresh .before in let after-count = after-less .before .before in
+    let after-if1 = after-count .before .before .before in let after-node-at = after-if1 .before .before in
     repeated-gave _ (after-node-at .node-at .ensures) (after-if1 .if1 .taken) refl (after-count .count .ensures) (after-fresh .fresh .ensures)
     (after-tops .tops .ensures) _ _ (after-less .less .ensures) (gave-u-at _ refl (after-in-loop .in-loop .ensures) (after-plain .plain .ensures))
     (after-forms .forms .ensures)
@@ -831,7 +667,7 @@ repeated-returns t c =
 pub repeated-ok : {M : Type 1} (t : ℕ) → repeated-lts.Closed (repeated-cs t) (at repeated-rank t) repeated.Post M
 repeated-ok t =
     repeated-lts.spec (repeated-cs t) (at repeated-rank t) repeated.Post (λ c κs. search needs) (λ c. omega arith) (λ c κs. omega arith)
-    (repeated-mul-less t) (repeated-add-less t) (λ c κs. search needs) (repeated-mul-fresh t) (repeated-fresh-requires t)
-    (repeated-tops-requires t) (repeated-add-in-loop t) (repeated-add-in-loop-2 t) (λ c κs. search needs) (repeated-plain-requires t)
-    (repeated-forms-requires t) (λ c. search needs) (λ c. search needs) (repeated-returns t) (λ c κs. search (needs, once-part))
-    (λ c. search needs) (λ c. search needs) (λ c. search once-gave)
+    (repeated-mul-less t) (repeated-add-less t) (λ c κs. search needs) (repeated-mul-fresh t) (repeated-fresh-requires t) (repeated-tops-requires t)
+    (repeated-add-in-loop t) (repeated-add-in-loop-2 t) (λ c κs. search needs) (repeated-plain-requires t) (repeated-forms-requires t)
+    (λ c. search needs) (λ c. search needs) (repeated-returns t) (λ c κs. search (needs, once-part)) (λ c. search needs) (λ c. search needs)
+    (λ c. search once-gave)

@@ -20,6 +20,10 @@ module _ (m : Member) (t : ℕ) where
   abbrev pub below : In 3 (m .ps)
   below = and 3 (m .ps) (falls 3 (m .ps) _<_ (m .measure) t) (m .pre)
 
+-- that the measure falls, and what a call asks besides
+abbrev pub both : {A B : Type 0} → A → B → A × B
+both a b = (a, b)
+
 abbrev pub address-rank : Member
 address-rank = record { ps = walk.address.Kinds.ps; measure = λ κs a. a .1 .1 .1 .1 .0 .left * 4294967300 + 5; pre = walk.address.Reads.Pre }
 
