@@ -4,7 +4,7 @@
 
 use crate::deep::deep;
 use crate::grammar::{self, read_tree, Action, Constant, Declaration, Label, Tree};
-use crate::symbols::{character, kind::*, read_symbols, refusal, Fault, Refusal, Symbol};
+use crate::symbols::{constant, kind::*, read_symbols, refusal, Fault, Refusal, Symbol};
 use std::collections::BTreeMap;
 
 const MOST_GLOBAL: i16 = 399;
@@ -116,7 +116,7 @@ pub type Verdict = Result<Program, Refusal>;
 pub fn judge(source: &[u8]) -> Verdict {
     let symbols = read_symbols(source)?;
     let strings = symbols.iter().filter(|symbol| symbol.kind == STRING);
-    let strings = strings.map(|string| characters(&source[string.place as usize..])).collect();
+    let strings = strings.map(|string| constant(&source[string.place as usize..]).expect("it was read").0).collect();
     let judged = deep(|| {
         let tree = read_tree(&symbols, source.len())?;
         Resolver::new(source).program(&tree)
@@ -125,17 +125,6 @@ pub fn judge(source: &[u8]) -> Verdict {
         Ok((functions, in_globals)) => Ok(Program { functions, strings, in_globals }),
         Err(fault) => Err(refusal(source, fault)),
     }
-}
-
-/// The characters of the string that begins a text.
-fn characters(text: &[u8]) -> Vec<u8> {
-    let mut characters = Vec::new();
-    let mut place = 1;
-    while let Some((value, length)) = character(&text[place..], b'"') {
-        characters.push(value as u8);
-        place += length;
-    }
-    characters
 }
 
 /// A string's words: byte 0 is the length, high half first, and an unused low half is 0.

@@ -395,7 +395,8 @@ fn reading_s1_first_error() {
     refused_at_mark(5, "LET LET ^) %");
     refused_at_mark(3, "LET ^99999 %");
     refused_at_mark(2, "( ^% ");
-    refused_at_mark(4, "(\n^'% $)");
+    refused_at_mark(40, "(\n^'% $)");
+    refused_at_mark(41, "(\n'^*% '$)");
     // These come before all of the grammar.
     refused_at_mark(5, "; ; ; (^");
 }
@@ -418,7 +419,7 @@ fn reading_s2_bytes_that_start_nothing() {
             b'(' => Some((5, 3, 2)),
             b')' => Some((5, 2, 2)),
             b'#' => Some((3, 2, 2)),
-            b'\'' | b'"' => Some((4, 2, 2)),
+            b'\'' | b'"' => Some((40, 2, 2)),
             _ => Some((2, 2, 2)),
         };
         let refused = read_symbols(&[b'A', b'\n', byte]).err();
@@ -471,16 +472,27 @@ fn reading_s5_characters_and_strings() {
     }
     assert_eq!(symbols_of("'A''B'"), [(NUMBER, 65, 0), (NUMBER, 66, 3)]);
     assert_eq!(symbols_of("\"\" A \"'*\"**\" \"//\""), [(61, 0, 0), (59, 1, 3), (61, 1, 5), (61, 2, 13)]);
-    for text in [
-        "'", "''", "'''", "'A", "'AB'", "'*'", "'*", "'*N", "'*Q'", "'*n'", "'*1'", "'\t'", "'\n'", "'\u{1f}'",
-        "'\u{7f}'", "'\u{e9}'", "'*N*N'", "\"", "\"A", "\"*\"", "\"*", "\"*Q\"", "\"*n\"", "\"\t\"", "\"A\nB\"",
-        "\"\u{7f}\"", "\"\u{1f}\"", "\"\u{80}\"",
+    for (number, texts) in [
+        (40, &["^'", "^'A", "^'*'", "^'*", "^'*N", "^'\n'", "^'AB", "^'*Q\n'", "^'\t"][..]),
+        (40, &["^\"", "^\"A", "^\"*\"", "^\"*", "^\"A\nB\"", "^\"*\nB\"", "^\"*Q", "^\"\t*Q\n\"", "^\"*Q*\""]),
+        (41, &["'^*Q'", "'^*n'", "'^*1'", "'A^*Q'", "'^*Q\t'", "\"^*Q\"", "\"A^*n\"", "\"A^*Q\t*Q\"", "\"^* \"", "\"^*Q*\"\""]),
+        (42, &["'^\t'", "'^\u{1f}'", "'^\u{7f}'", "'^\u{e9}'", "'A^\t'", "'^\r*Q'", "\"^\t\"", "\"^\u{7f}\"", "\"^\u{1f}\"", "\"A^\u{80}*Q\""]),
+        (43, &["^''", "^'''", "'A^B'", "'A^*N'", "'*N^*N'", "'*'^*''", "'A^BC'", "'A^B*Q'", "'A^B\t'"]),
     ] {
-        refused_at_mark(4, &format!("A \n ^{text}"));
+        for text in texts {
+            refused_at_mark(number, &format!("A \n {text}"));
+        }
     }
     for part in ["A", "*N", "'", "*\""] {
-        assert_eq!(symbols_of(&format!("\"{}\"", part.repeat(255))), [(STRING, 0, 0)]);
-        refused_at_mark(4, &format!("^\"{}\"", part.repeat(256)));
+        let longest = part.repeat(255);
+        assert_eq!(symbols_of(&format!("\"{longest}\"")), [(STRING, 0, 0)]);
+        refused_at_mark(43, &format!("\"{longest}^{part}\""));
+        refused_at_mark(43, &format!("\"{longest}^{part}*Q\t\""));
+        refused_at_mark(41, &format!("\"{longest}^*Q\""));
+        refused_at_mark(42, &format!("\"{longest}^\t{part}\""));
+        refused_at_mark(41, &format!("\"^*Q{longest}\""));
+        refused_at_mark(40, &format!("^\"{longest}"));
+        refused_at_mark(40, &format!("^\"{longest}{part}\n\""));
     }
 }
 
@@ -849,7 +861,7 @@ fn vectors_texts() {
             ["refused", number, "at", place, "line", line] => {
                 let [number, place, line] =
                     [number, place, line].map(|field| field.parse::<usize>().expect("a number"));
-                (number <= 7).then_some((number as u64, place, line))
+                matches!(number, 1..=7 | 40..=43).then_some((number as u64, place, line))
             }
             ["accepted"] => None,
             _ => panic!("neither a refusal nor `accepted`: {line}"),

@@ -26,7 +26,7 @@ use symbols::{Refusal, Symbol};
 use telling::{enough, headed, often, Tally};
 
 const CASES: u64 = 60_000;
-const REFUSALS: [u64; 7] = [1, 2, 3, 4, 5, 6, 7];
+const REFUSALS: [u64; 10] = [1, 2, 3, 5, 6, 7, 40, 41, 42, 43];
 /// The stack of a thread that reads a steep source: an eighth of the 8 MiB that a reader may take.
 const STACK: usize = 1 << 20;
 

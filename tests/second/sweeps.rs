@@ -1,5 +1,6 @@
 //! Sources that leave nothing to chance: programs damaged at every symbol in every way, nests of every form about the deepest
-//! allowed, chains of every link as long as a text may be, and the sources that a reader needs most stack for.
+//! allowed, chains of every link as long as a text may be, constants with every byte in every position, and the sources that a
+//! reader needs most stack for.
 
 use crate::random::Random;
 use crate::sources::{any_token, equal_list, nest_of, program, token, tokens, Case, Token};
@@ -12,11 +13,12 @@ pub struct Sweep {
     pub each: fn(&mut dyn FnMut(Case) -> Result<(), String>) -> Result<(), String>,
 }
 
-pub const SWEEPS: [Sweep; 4] = [
+pub const SWEEPS: [Sweep; 5] = [
     Sweep { name: "damaged at every symbol", each: damaged },
     Sweep { name: "generated and damaged at every symbol", each: generated },
     Sweep { name: "nests of every form", each: nests },
     Sweep { name: "chains of every link", each: chains },
+    Sweep { name: "constants with every byte", each: constants },
 ];
 
 /// Between them they have every construct.
@@ -143,4 +145,33 @@ pub fn steepest() -> Vec<Vec<u8>> {
         text
     };
     STEEP_FORMS.iter().map(steep).collect()
+}
+
+/// The places of a constant's characters that get every byte: all of a short one, those about the ends of a long one.
+fn places(length: usize) -> Vec<usize> {
+    (0..=length).filter(|&place| place < 3 || place + 3 > length).collect()
+}
+
+/// Short constants and those about the longest, plain and of escapes, with every byte, and an asterisk and every byte, put in and in
+/// the place of a character; closed, and ended by the text's end or a newline.
+fn constants(check: &mut dyn FnMut(Case) -> Result<(), String>) -> Result<(), String> {
+    for (quote, lengths) in [(b'\'', &[0, 1, 2, 3][..]), (b'"', &[0, 1, 2, 3, 254, 255, 256])] {
+        for &length in lengths {
+            for plain in [&b"A"[..], b"*N"] {
+                let ends = [&[quote][..], &[quote, b' ', quote], b"", b"\n", &[b'\n', quote]];
+                for (place, byte) in places(length).into_iter().flat_map(|place| (0..=255).map(move |byte| (place, byte))) {
+                    for put in [&[byte][..], &[b'*', byte]] {
+                        for taken in 0..=usize::from(place < length) {
+                            let (before, after) = (plain.repeat(place), plain.repeat(length - place - taken));
+                            for end in ends {
+                                let text = [b"LET F() = ", &[quote][..], &before, put, &after, end].concat();
+                                check(Case { text, expected: None })?;
+                            }
+                        }
+                    }
+                }
+            }
+        }
+    }
+    Ok(())
 }

@@ -216,7 +216,7 @@ fn list(text: &[u8]) -> Result<Vec<Symbol>, Fault> {
                 place += rest.iter().position(|&byte| byte == b'\n').unwrap_or(rest.len());
             }
             _ => {
-                let (kind, mut value, length) = symbol(rest).map_err(|number| (number, place))?;
+                let (kind, mut value, length) = symbol(rest).map_err(|(number, offset)| (number, place + offset))?;
                 match kind {
                     OPEN => wanted.push(CLOSE),
                     BEGIN => wanted.push(END),
@@ -245,8 +245,8 @@ fn list(text: &[u8]) -> Result<Vec<Symbol>, Fault> {
     }
 }
 
-/// The kind, value and length of the symbol at the beginning of a text that is not empty, or a refusal's number.
-fn symbol(rest: &[u8]) -> Result<(u32, u32, usize), u64> {
+/// The kind, value and length of the symbol at the beginning of a text that is not empty, or a refusal's number and place.
+fn symbol(rest: &[u8]) -> Result<(u32, u32, usize), Fault> {
     match rest[0] {
         b'A'..=b'Z' => {
             let length = run(rest, |byte| matches!(byte, b'A'..=b'Z' | b'0'..=b'9' | b'.'));
@@ -255,35 +255,21 @@ fn symbol(rest: &[u8]) -> Result<(u32, u32, usize), u64> {
         }
         b'0'..=b'9' => {
             let length = run(rest, |byte| byte.is_ascii_digit());
-            Ok((NUMBER, number(&rest[..length], 10, 32_767)?, length))
+            Ok((NUMBER, number(&rest[..length], 10, 32_767).ok_or((3, 0))?, length))
         }
         b'#' => {
             let length = run(&rest[1..], |byte| matches!(byte, b'0'..=b'7'));
-            Ok((NUMBER, number(&rest[1..1 + length], 8, 0o177777)?, 1 + length))
+            Ok((NUMBER, number(&rest[1..1 + length], 8, 0o177777).ok_or((3, 0))?, 1 + length))
         }
         b'\'' => {
-            let (value, length) = character(&rest[1..], b'\'').ok_or(4u64)?;
-            match rest.get(1 + length) {
-                Some(b'\'') => Ok((NUMBER, value, length + 2)),
-                _ => Err(4),
-            }
+            let (characters, length) = constant(rest)?;
+            Ok((NUMBER, u32::from(characters[0]), length))
         }
-        b'"' => {
-            let mut length = 1;
-            let mut characters = 0;
-            while rest.get(length) != Some(&b'"') {
-                length += character(&rest[length..], b'"').ok_or(4u64)?.1;
-                characters += 1;
-            }
-            if characters > LONGEST_STRING {
-                return Err(4);
-            }
-            Ok((STRING, 0, length + 1))
-        }
+        b'"' => Ok((STRING, 0, constant(rest)?.1)),
         _ => {
             let sign =
                 SIGNS.iter().filter(|(sign, _)| rest.starts_with(sign.as_bytes())).max_by_key(|(sign, _)| sign.len());
-            sign.map(|&(sign, kind)| (kind, 0, sign.len())).ok_or(2)
+            sign.map(|&(sign, kind)| (kind, 0, sign.len())).ok_or((2, 0))
         }
     }
 }
@@ -303,33 +289,66 @@ fn run(text: &[u8], belongs: impl Fn(u8) -> bool) -> usize {
     text.iter().position(|&byte| !belongs(byte)).unwrap_or(text.len())
 }
 
-fn number(digits: &[u8], base: u32, largest: u32) -> Result<u32, u64> {
+fn number(digits: &[u8], base: u32, largest: u32) -> Option<u32> {
     // The value stops growing once it is too large, since digits may be many.
     let value = digits.iter().fold(0, |value, digit| (value * base + u32::from(digit - b'0')).min(1_000_000));
-    if digits.is_empty() || value > largest {
-        Err(3)
-    } else {
-        Ok(value)
+    (!digits.is_empty() && value <= largest).then_some(value)
+}
+
+/// The characters of the constant that begins a text with its quote, and its length, both quotes included; or of all its faults the
+/// one with the smallest place, then the smallest number.
+pub fn constant(text: &[u8]) -> Result<(Vec<u8>, usize), Fault> {
+    let quote = text[0];
+    let most = if quote == b'"' { LONGEST_STRING } else { 1 };
+    let mut characters = Vec::new();
+    // Each as its place and its number.
+    let mut faults = Vec::new();
+    let mut place = 1;
+    while text.get(place) != Some(&quote) {
+        let Some(&byte) = text.get(place).filter(|&&byte| byte != b'\n') else {
+            faults.push((0, 40));
+            break;
+        };
+        let (value, length) = match byte {
+            b'*' => match escape(&text[place + 1..]) {
+                Some((value, length)) => (value, 1 + length),
+                None => {
+                    faults.push((place, 41));
+                    (byte, 1)
+                }
+            },
+            32..=126 => (byte, 1),
+            _ => {
+                faults.push((place, 42));
+                (byte, 1)
+            }
+        };
+        if characters.len() == most {
+            faults.push((place, 43));
+        }
+        characters.push(value);
+        place += length;
+    }
+    if quote == b'\'' && characters.is_empty() {
+        faults.push((0, 43));
+    }
+    match faults.into_iter().min() {
+        Some((place, number)) => Err((number, place)),
+        None => Ok((characters, place + 1)),
     }
 }
 
-/// One character or escape between quotes, and its length; the quote itself needs its escape.
-pub fn character(text: &[u8], quote: u8) -> Option<(u32, usize)> {
-    match *text.first()? {
-        b'*' => {
-            let value = match *text.get(1)? {
-                b'N' => 10,
-                b'S' => 32,
-                b'T' => 9,
-                b'B' => 8,
-                b'P' => 12,
-                b'C' => 13,
-                itself @ (b'*' | b'\'' | b'"') => itself,
-                _ => return None,
-            };
-            Some((u32::from(value), 2))
-        }
-        byte @ 32..=126 if byte != quote => Some((u32::from(byte), 1)),
-        _ => None,
-    }
+/// What an escape stands for, by what follows its asterisk, and the length of that.
+fn escape(text: &[u8]) -> Option<(u8, usize)> {
+    let value = match *text.first()? {
+        b'N' => 10,
+        b'S' => 32,
+        b'T' => 9,
+        b'B' => 8,
+        b'P' => 12,
+        b'C' => 13,
+        itself @ (b'*' | b'\'' | b'"') => itself,
+        _ => return None,
+    };
+    Some((value, 1))
 }

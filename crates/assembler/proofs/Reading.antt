@@ -115,7 +115,7 @@ sound-item (I.global n m) h = tt
 spelled-string : (text : List ℕ) (place : ℕ) {cs : List ℕ} → G.Between (drop place text) cs → Quoting text place × (letters text place ≡ cs) × (place ≤ length text)
 unfolding letters
 spelled-string text place {cs} b =
-    let c : Closed 0 (length (drop place text)) cs (b .width) = is-closed 34 0 (drop place text) (b .reading) in
+    let c : Closed 255 0 (length (drop place text)) cs (b .width) = is-closed 34 255 0 (drop place text) (b .reading) in
     let l : length (drop place text) ≡ length text - place = length-drop place text in
     (record { width = b .width; reads = rw (b .reading) }, rw (b .reading), omega arith)
 

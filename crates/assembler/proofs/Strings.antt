@@ -6,8 +6,9 @@ use native.Mathlib.Omega.{arith}
 use native.Mathlib.Numerals.{add-one}
 use lib.ListN.{length, set, drop, length-set, length-drop}
 use lib.Seq.{sets, drop-drop}
-use Rattle.text.specs.Quoted.{Quoted, closed, faulty, quoted, is, closing, bad, character}
-use Rattle.text.proofs.Quotes.{Written, is-written, onward, quoted-next, quoted-end, quoted-bad}
+use Rattle.text.specs.Quoted.{quoted, is, closing, ended, mistake, character}
+use Rattle.text.proofs.Quotes.{Written, is-written}
+use Rattle.text.proofs.Constants.{Continues, closed-next, closed-end, closed-goes-on, closed-right}
 use Rattle.text.specs.Packed.{pairs}
 use Rattle.assembler.specs.Passes.{letters, Quoting, Spelling}
 
@@ -21,31 +22,18 @@ module _ (text : List ℕ) (place : ℕ) (q : Quoting text place) where
 
   follows : {v w : ℕ} → character 34 (drop place text) ≡ is v w → Follows v w
   unfolding letters
-  follows {v} {w} e = go (quoted 34 0 (drop (place + w) text)) refl
-    where
-      here : quoted 34 0 (drop place text) ≡ onward v w (quoted 34 0 (drop (place + w) text))
-      here = quoted-next 34 (drop place text) e ∙ rw drop-drop
-
-      go : (r : Quoted) → quoted 34 0 (drop (place + w) text) ≡ r → Follows v w
-      go (closed cs n) f =
-          record {
-            letters-are = rw (here, f);
-            quoting = record { width = n; reads = rw f };
-          }
-      go faulty f =
-          let y : closed (letters text place) (q .width) ≡ faulty = sym (q .reads) ∙ here ∙ rw f in
-          let z : _≡_ {A = ℕ} 0 1 = cc in
-          absurd (omega arith)
+  follows {v} {w} e =
+      let k : Continues 34 255 text (place + w) v w (letters text place) (q .width) = closed-next 34 255 text place (q .reads) e in
+      record { letters-are = k .are ∙ rw (k .more); quoting = record { width = k .width; reads = rw (k .more) } }
 
   no-letters : character 34 (drop place text) ≡ closing → letters text place ≡ []
-  unfolding letters
-  no-letters e = rw (quoted-end 34 (drop place text) e)
+  no-letters e = closed-end 34 255 text place (q .reads) e
 
-  pub not-bad : character 34 (drop place text) ≡ bad → ⊥
-  not-bad e =
-      let y : closed (letters text place) (q .width) ≡ faulty = sym (q .reads) ∙ quoted-bad 34 (drop place text) e in
-      let z : _≡_ {A = ℕ} 0 1 = cc in
-      omega arith
+  pub not-ended : character 34 (drop place text) ≡ ended → ⊥
+  not-ended e = closed-goes-on 34 255 text place (q .reads) e
+
+  pub no-mistake : {number : ℕ} → character 34 (drop place text) ≡ mistake number → ⊥
+  no-mistake e = closed-right 34 255 text place (q .reads) e
 
 pub past-character : (text : List ℕ) (place : ℕ) {v w : ℕ} → character 34 (drop place text) ≡ is v w → (place + w ≤ length text) × (1 ≤ w)
 past-character text place {v} {w} e =
@@ -75,8 +63,11 @@ module _ (text : List ℕ) (memory₀ : List ℕ) (at from first place to high :
     next : Follows text place quoting low width
     next = follows text place quoting e
 
-    pub second-bad : character 34 (drop (place + width) text) ≡ bad → ⊥
-    second-bad f = not-bad text (place + width) (next .quoting) f
+    pub second-not-ended : character 34 (drop (place + width) text) ≡ ended → ⊥
+    second-not-ended f = not-ended text (place + width) (next .quoting) f
+
+    pub second-no-mistake : {number : ℕ} → character 34 (drop (place + width) text) ≡ mistake number → ⊥
+    second-no-mistake f = no-mistake text (place + width) (next .quoting) f
 
     pub spells-odd : character 34 (drop (place + width) text) ≡ closing → set memory to word ≡ sets memory₀ at (pairs first (letters text from))
     unfolding pairs

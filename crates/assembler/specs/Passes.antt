@@ -7,7 +7,7 @@ use mathlib.Core.List.{List, [], _∷_, _++_, map}
 use lib.ListN.{length, getD, set, replicate, take, drop}
 use lib.Dec.{eqb, leb, ltb}
 use lib.Seq.{sets}
-use Rattle.text.specs.Quoted.{Quoted, closed, faulty, quoted}
+use Rattle.text.specs.Quoted.{closed, charactersOf, quoted}
 use Rattle.items.specs.Item as I
 use Rattle.items.specs.Scan.{Ending, whole, unreadable, Scan}
 use Rattle.items.specs.declared.Operand.{Operand}
@@ -168,16 +168,12 @@ pub record Writes (labels : List Label) (i : I.Item) (at : ℕ) (memory : List �
   pub writes : known labels i ≡ true → memory′ ≡ put labels at memory i
 
 -- the characters between double quotes from a place on
-abbrev pub charactersOf : Quoted → List ℕ
-charactersOf (closed cs width) = cs
-charactersOf faulty = []
-
 unfoldable pub letters : List ℕ → ℕ → List ℕ
-letters text place = charactersOf (quoted 34 0 (drop place text))
+letters text place = charactersOf (quoted 34 255 0 (drop place text))
 
 pub record Quoting (text : List ℕ) (place : ℕ) : Type 0 where
   pub width : ℕ
-  pub reads : quoted 34 0 (drop place text) ≡ closed (letters text place) width
+  pub reads : quoted 34 255 0 (drop place text) ≡ closed (letters text place) width
 
 -- a string's words fit at an address
 pub record Spelling (text : List ℕ) (place high at : ℕ) (memory : List ℕ) : Type 0 where

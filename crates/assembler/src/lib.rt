@@ -377,7 +377,10 @@ fn write_string(memory: &mut [u16], at: usize, text: &[u8], from: usize, first: 
     loop {
         let one = text::character_at(text, place, b'"');
         match one {
-            Character::Bad => {
+            Character::Ended => {
+                return;
+            }
+            Character::Mistake(_) => {
                 return;
             }
             Character::Closing => {
@@ -391,7 +394,10 @@ fn write_string(memory: &mut [u16], at: usize, text: &[u8], from: usize, first: 
         }
         let two = text::character_at(text, place, b'"');
         match two {
-            Character::Bad => {
+            Character::Ended => {
+                return;
+            }
+            Character::Mistake(_) => {
                 return;
             }
             Character::Closing => {

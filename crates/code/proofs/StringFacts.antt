@@ -8,7 +8,7 @@ use lib.Dec.{eqb, leb}
 use lib.ListN.{length, drop}
 use lib.Seq.{drop-drop}
 use borrow.Author.Tests.{eqb-true, eqb-false, leb-true, not-true}
-use Rattle.text.specs.Quoted.{Quoted, closed, faulty, quoted}
+use Rattle.text.specs.Quoted.{Quoted, closed, unclosed, faulty, charactersOf, quoted}
 use Rattle.text.proofs.Quotes.{is-closed, Writable}
 use Rattle.items.specs.Item as I
 use Rattle.text.proofs.Booleans.{both-true}
@@ -17,19 +17,19 @@ use Rattle.language.specs.Kinds.{Spelled, NUMBER, STRING, reserved, signs}
 use Rattle.language.specs.Symbols.{Symbol, Element, symbol, gap, wrong, same, begins, kindIn, kindOf, word, digits, valueOf, decimal, octal, asCharacter, character, asString, string, signIn, comment, sign, signOrComment, byClass, Scan, onElement, scanFrom, scan}
 use Rattle.language.specs.Strings.{withValue, numbered}
 use Rattle.language.specs.Semicolons.{inserted, gains, semicolonsAfter, semicolons}
-use Rattle.language.specs.Whole.{charactersOf, stringsAmong}
+use Rattle.language.specs.Whole.{stringsAmong}
 use Rattle.code.specs.Generate.{stringsCode}
 use Rattle.language.proofs.SymbolFacts.{symbolsNow}
 use Rattle.code.proofs.Sounding.{Span, span, Sounds, s-none, s-more}
 
 -- the characters of a string that begins at some bytes
 abbrev inside : List ℕ → List ℕ
-inside bs = charactersOf (quoted 34 0 (drop 1 bs))
+inside bs = charactersOf (quoted 34 255 0 (drop 1 bs))
 
 data ShortElement (bs : List ℕ) : Element → Type 0 where
   a-symbol : {kind value width : ℕ} → (kind ≡ STRING → length (inside bs) ≤ 255) → ShortElement bs (symbol kind value width)
   a-gap : {width : ℕ} → ShortElement bs (gap width)
-  a-fault : {number : ℕ} → ShortElement bs (wrong number)
+  a-fault : {number offset : ℕ} → ShortElement bs (wrong number offset)
 
 is-symbol : {bs : List ℕ} {kind value width : ℕ} → (kind ≡ STRING → length (inside bs) ≤ 255) → ShortElement bs (symbol kind value width)
 is-symbol f = a-symbol f
@@ -75,22 +75,23 @@ module _ (bs : List ℕ) where
 
   short-character : (cs : List ℕ) → ShortElement bs (character cs)
   unfolding character
-  short-character cs = go (quoted 39 0 cs)
+  short-character cs = go (quoted 39 1 0 cs)
     where
       go : (q : Quoted) → ShortElement bs (asCharacter q)
       go (closed [] n) = a-fault
-      go (closed (x ∷ []) n) = is-symbol {kind = NUMBER} {value = x} {width = suc n} (λ e. absurd (omega arith))
-      go (closed (x ∷ y ∷ xs) n) = a-fault
-      go faulty = a-fault
+      go (closed (x ∷ xs) n) = is-symbol {kind = NUMBER} {value = x} {width = suc n} (λ e. absurd (omega arith))
+      go unclosed = a-fault
+      go (faulty number n) = a-fault
 
   short-string : ShortElement bs (string (drop 1 bs))
   unfolding string
-  short-string = go (quoted 34 0 (drop 1 bs)) refl
+  short-string = go (quoted 34 255 0 (drop 1 bs)) refl
     where
-      go : (q : Quoted) → quoted 34 0 (drop 1 bs) ≡ q → ShortElement bs (asString q)
+      go : (q : Quoted) → quoted 34 255 0 (drop 1 bs) ≡ q → ShortElement bs (asString q)
       go (closed cs n) e =
-          either (leb (length cs) 255) (λ h. is-symbol {kind = STRING} {value = length cs} {width = suc n} (λ _. rw e (leb-true (length cs) 255 h))) a-fault
-      go faulty e = a-fault
+          is-symbol {kind = STRING} {value = length cs} {width = suc n} (λ _. rw e (is-closed 34 255 0 (drop 1 bs) e .short))
+      go unclosed e = a-fault
+      go (faulty number n) e = a-fault
 
   short-sign : ShortElement bs (signOrComment bs)
   unfolding signOrComment comment sign noString signs
@@ -110,7 +111,7 @@ module _ (bs : List ℕ) where
 
 module _ (text : List ℕ) where
   abbrev charactersAt : ℕ → List ℕ
-  charactersAt place = charactersOf (quoted 34 0 (drop (suc place) text))
+  charactersAt place = charactersOf (quoted 34 255 0 (drop (suc place) text))
 
   unfoldable Shorts : List Symbol → Type 0
   Shorts [] = Unit {0}
@@ -125,7 +126,7 @@ module _ (text : List ℕ) where
       let z : drop 1 bs ≡ drop (suc place) text = next-drop place q in
       ((λ e. rw z at (f e)), g (width - 1))
   on-element place bs (gap width) more q f g = g (width - 1)
-  on-element place bs (wrong number) more q f g = tt
+  on-element place bs (wrong number offset) more q f g = tt
 
   scanned-shorts : (over place : ℕ) (bs : List ℕ) → bs ≡ drop place text → Shorts (scanFrom over place bs .symbols)
   unfolding scanFrom Shorts
@@ -160,11 +161,12 @@ module _ (text : List ℕ) where
   all-shorts (x ∷ xs) h = (h .0, after-shorts x xs (h .1))
 
   writable-at : (place : ℕ) → Writable (charactersAt place)
-  writable-at place = go (quoted 34 0 (drop (suc place) text)) refl
+  writable-at place = go (quoted 34 255 0 (drop (suc place) text)) refl
     where
-      go : (q : Quoted) → quoted 34 0 (drop (suc place) text) ≡ q → Writable (charactersOf q)
-      go (closed cs n) e = is-closed 34 0 (drop (suc place) text) e .each
-      go faulty e = tt
+      go : (q : Quoted) → quoted 34 255 0 (drop (suc place) text) ≡ q → Writable (charactersOf q)
+      go (closed cs n) e = is-closed 34 255 0 (drop (suc place) text) e .each
+      go unclosed e = tt
+      go (faulty number n) e = tt
 
   -- the strings' items
   strings-sound : {T : ℕ} (l : ℕ) (xs : List Symbol) → Shorts xs → Span T l (length (stringsAmong text xs)) → Sounds T (stringsCode l (stringsAmong text xs))

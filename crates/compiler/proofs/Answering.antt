@@ -9,7 +9,7 @@ use lib.ListN.{length, getD, replicate, take, drop, length-append, List·getD-ap
 use lib.Seq.{getD-append-add, length-take-le}
 use lib.Dec.{eqb, ltb}
 use borrow.Author.Tests.{ne-eqb, eqb-true, ltb-false}
-use Rattle.text.specs.Quoted.{quoted}
+use Rattle.text.specs.Quoted.{charactersOf, quoted}
 use Rattle.language.specs.Kinds.{STRING}
 use Rattle.items.specs.Item.{Item}
 use Rattle.items.specs.Render.{renderAll}
@@ -26,7 +26,7 @@ use Rattle.language.specs.Constants.{Fault}
 use Rattle.language.specs.Resolved.{Fun, Start, nowhere, inGlobal}
 use Rattle.language.specs.Program.{Refused, accepted, refused, leastOr, rulesRefuse, Walk, begin, Named, afterDeclaration, functionsFrom, functionsOf}
 use Rattle.language.specs.Program.{faultsFrom, faultsOfProgram, heightFaults, hasStart, startsInOne, functionsAfter, groupOf}
-use Rattle.language.specs.Whole.{functionsIn, stringsIn, charactersOf, stringsAmong, funs, unlessFits}
+use Rattle.language.specs.Whole.{functionsIn, stringsIn, stringsAmong, funs, unlessFits}
 use Rattle.language.proofs.Depth.{programDepth}
 use Rattle.language.proofs.CommandDepths.{LowProgram, low-program}
 use Rattle.language.proofs.Forming.{length-funs, group-length}
@@ -90,7 +90,7 @@ few-strings text [] = omega arith
 few-strings text (s ∷ ss) = go (eqb (s .kind) STRING) (few-strings text ss)
   where
     go : (b : Bool) → length (stringsAmong text ss) ≤ length ss
-        → length (cond b (charactersOf (quoted 34 0 (drop (suc (s .place)) text)) ∷ stringsAmong text ss) (stringsAmong text ss)) ≤ suc (length ss)
+        → length (cond b (charactersOf (quoted 34 255 0 (drop (suc (s .place)) text)) ∷ stringsAmong text ss) (stringsAmong text ss)) ≤ suc (length ss)
     go true h = omega arith
     go false h = omega arith
 

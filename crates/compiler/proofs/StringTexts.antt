@@ -8,14 +8,14 @@ use lib.ListN.{length, getD, drop, length-append}
 use lib.Seq.{getD-drop, drop-drop}
 use lib.Dec.{eqb}
 use borrow.Author.Tests.{eq-eqb, ne-eqb}
-use Rattle.text.specs.Quoted.{Quoted, closed, faulty, quoted, character, is, closing, bad}
+use Rattle.text.specs.Quoted.{closed, charactersOf, quoted, character, is, closing, ended, mistake}
 use Rattle.text.proofs.Bytes.{Unlike}
-use Rattle.text.proofs.Quotes.{onward, quoted-next, quoted-end, quoted-bad}
+use Rattle.text.proofs.Constants.{Continues, closed-next, closed-end, closed-goes-on, closed-right}
 use Rattle.items.specs.Item as I
 use Rattle.items.specs.Render.{characterText, charactersText, render}
 use Rattle.language.specs.Kinds.{STRING}
 use Rattle.language.specs.Symbols.{Symbol}
-use Rattle.language.specs.Whole.{charactersOf, stringsAmong}
+use Rattle.language.specs.Whole.{stringsAmong}
 use Rattle.code.specs.Generate.{stringsCode}
 use Rattle.tree.specs.Read.{decoded}
 use Rattle.writing.specs.Text.{Puts, line, lines}
@@ -61,11 +61,11 @@ pub record CharactersPart (source : List ℕ) (i at x : ℕ) (t t′ : List ℕ)
   pub rest : List ℕ
   pub width : ℕ
   pub all : cs ≡ done ++ rest
-  pub left : quoted 34 0 (drop i source) ≡ closed rest width
+  pub left : quoted 34 255 0 (drop i source) ≡ closed rest width
   pub puts : Puts (charactersText done) at x t t′
 
 pub record Spelling (source : List ℕ) (from i at x : ℕ) (t t′ : List ℕ) : Type 0 where
-  pub by : (cs : List ℕ) (width : ℕ) → quoted 34 0 (drop from source) ≡ closed cs width → CharactersPart source i at x t t′ cs
+  pub by : (cs : List ℕ) (width : ℕ) → quoted 34 255 0 (drop from source) ≡ closed cs width → CharactersPart source i at x t t′ cs
 
 pub spelling-begin : {source : List ℕ} {from at : ℕ} {t : List ℕ} → Spelling source from from at at t t
 unfolding charactersText
@@ -81,25 +81,20 @@ pub spelling-next : {source : List ℕ} {from i at x r c w : ℕ} {t t₁ t₂ :
     → Puts (characterText c) x r t₁ t₂
     → Spelling source from i at x t t₁ → Spelling source from (i + w) at r t t₂
 unfolding charactersText
-spelling-next {source} {from} {i} {at} {x} {r} {c} {w} {t} {t₁} {t₂} e p q = record {
-  by = λ cs width z. let k = q .by cs width z in
-      go cs k (quoted 34 0 (drop w (drop i source))) refl (sym (quoted-next 34 (drop i source) e) ∙ k .left);
-}
+spelling-next {source} {from} {i} {at} {x} {r} {c} {w} {t} {t₁} {t₂} e p q = record { by = λ cs width z. go cs (q .by cs width z) }
   where
-    go : (cs : List ℕ) (k : CharactersPart source i at x t t₁ cs) → (d : Quoted) → quoted 34 0 (drop w (drop i source)) ≡ d
-        → onward c w d ≡ closed (k .rest) (k .width) → CharactersPart source (i + w) at r t t₂ cs
-    go cs k (closed ds n) f h =
-        let g : k .rest ≡ c ∷ ds = cc in
+    go : (cs : List ℕ) → CharactersPart source i at x t t₁ cs → CharactersPart source (i + w) at r t t₂ cs
+    go cs k =
+        let n : Continues 34 255 source (i + w) c w (k .rest) (k .width) = closed-next 34 255 source i (k .left) e in
         record {
           done = k .done ++ (c ∷ []);
-          rest = ds;
-          width = n;
-          all = k .all ∙ ap (λ (l : List ℕ). k .done ++ l) g ∙ sym (append-assoc (k .done) (c ∷ []) ds);
-          left = rw drop-drop at f;
+          rest = n .rest;
+          width = n .width;
+          all = k .all ∙ ap (λ (l : List ℕ). k .done ++ l) (n .are) ∙ sym (append-assoc (k .done) (c ∷ []) (n .rest));
+          left = n .more;
           puts = puts-as (puts-then (k .puts) p)
               (characters-then (k .done) (c ∷ []) ∙ ap (λ (l : List ℕ). charactersText (k .done) ++ l) (append-nil (characterText c)));
         }
-    go cs k faulty f h = let z : _≡_ {A = ℕ} 0 1 = cc in absurd (omega arith)
 
 pub spelling-end : {source : List ℕ} {from i at x : ℕ} {t t′ : List ℕ} → character 34 (drop i source) ≡ closing
     → Spelling source from i at x t t′ → WritesCharacters source from at x t t′
@@ -107,19 +102,17 @@ spelling-end {source} {from} {i} {at} {x} {t} {t′} e q = record { by = λ cs w
   where
     go : (cs : List ℕ) → CharactersPart source i at x t t′ cs → Puts (charactersText cs) at x t t′
     go cs k =
-        let f : closed [] 1 ≡ closed (k .rest) (k .width) = sym (quoted-end 34 (drop i source) e) ∙ k .left in
-        let g : k .rest ≡ [] = cc in
+        let g : k .rest ≡ [] = closed-end 34 255 source i (k .left) e in
         puts-as (k .puts) (ap charactersText (k .all ∙ ap (λ (l : List ℕ). k .done ++ l) g ∙ append-nil (k .done)))
 
-pub spelling-bad : {source : List ℕ} {from i at x : ℕ} {t t′ : List ℕ} → character 34 (drop i source) ≡ bad
+-- what is closed goes on to its quote, and has no mistake before it
+pub spelling-ended : {source : List ℕ} {from i at x : ℕ} {t t′ : List ℕ} → character 34 (drop i source) ≡ ended
     → Spelling source from i at x t t′ → WritesCharacters source from at x t t′
-spelling-bad {source} {from} {i} {at} {x} {t} {t′} e q = record { by = λ cs width z. absurd (go cs (q .by cs width z)) }
-  where
-    go : (cs : List ℕ) → CharactersPart source i at x t t′ cs → ⊥
-    go cs k =
-        let f : faulty ≡ closed (k .rest) (k .width) = sym (quoted-bad 34 (drop i source) e) ∙ k .left in
-        let z : _≡_ {A = ℕ} 0 1 = cc in
-        omega arith
+spelling-ended {source} {i = i} e q = record { by = λ cs width z. absurd (closed-goes-on 34 255 source i (q .by cs width z .left) e) }
+
+pub spelling-mistake : {source : List ℕ} {from i at x number : ℕ} {t t′ : List ℕ} → character 34 (drop i source) ≡ mistake number
+    → Spelling source from i at x t t′ → WritesCharacters source from at x t t′
+spelling-mistake {source} {i = i} e q = record { by = λ cs width z. absurd (closed-right 34 255 source i (q .by cs width z .left) e) }
 
 -- ---- a string's line, and a symbol's lines
 
@@ -246,14 +239,14 @@ strings-then l (c ∷ a) b =
 
 -- the strings of one symbol, as many as oneIf says
 unfoldable ofSymbol : (source : List ℕ) (kind place : ℕ) → List (List ℕ)
-ofSymbol source kind place = cond (eqb kind STRING) (charactersOf (quoted 34 0 (drop (suc place) source)) ∷ []) []
+ofSymbol source kind place = cond (eqb kind STRING) (charactersOf (quoted 34 255 0 (drop (suc place) source)) ∷ []) []
 
 of-symbol-code : (source : List ℕ) (kind place l : ℕ) → symbolCode source kind place l ≡ stringsCode l (ofSymbol source kind place)
 unfolding symbolCode stringsCode ofSymbol
 of-symbol-code source kind place l = go (eqb kind STRING)
   where
-    go : (b : Bool) → cond b (I.label l ∷ I.string (charactersOf (quoted 34 0 (drop (suc place) source))) ∷ []) []
-        ≡ stringsCode l (cond b (charactersOf (quoted 34 0 (drop (suc place) source)) ∷ []) [])
+    go : (b : Bool) → cond b (I.label l ∷ I.string (charactersOf (quoted 34 255 0 (drop (suc place) source))) ∷ []) []
+        ≡ stringsCode l (cond b (charactersOf (quoted 34 255 0 (drop (suc place) source)) ∷ []) [])
     go true = refl
     go false = refl
 
@@ -261,7 +254,7 @@ of-symbol-count : (source : List ℕ) (kind place : ℕ) → length (ofSymbol so
 unfolding oneIf ofSymbol
 of-symbol-count source kind place = go (eqb kind STRING)
   where
-    go : (b : Bool) → length (cond b (charactersOf (quoted 34 0 (drop (suc place) source)) ∷ []) []) ≡ cond b 1 0
+    go : (b : Bool) → length (cond b (charactersOf (quoted 34 255 0 (drop (suc place) source)) ∷ []) []) ≡ cond b 1 0
     go true = refl
     go false = refl
 
@@ -270,8 +263,8 @@ of-symbol-first : (source : List ℕ) (x : Symbol) (xs : List Symbol)
 unfolding stringsAmong ofSymbol
 of-symbol-first source x xs = go (eqb (x .kind) STRING)
   where
-    go : (b : Bool) → cond b (charactersOf (quoted 34 0 (drop (suc (x .place)) source)) ∷ stringsAmong source xs) (stringsAmong source xs)
-        ≡ cond b (charactersOf (quoted 34 0 (drop (suc (x .place)) source)) ∷ []) [] ++ stringsAmong source xs
+    go : (b : Bool) → cond b (charactersOf (quoted 34 255 0 (drop (suc (x .place)) source)) ∷ stringsAmong source xs) (stringsAmong source xs)
+        ≡ cond b (charactersOf (quoted 34 255 0 (drop (suc (x .place)) source)) ∷ []) [] ++ stringsAmong source xs
     go true = refl
     go false = refl
 

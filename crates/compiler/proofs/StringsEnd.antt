@@ -9,7 +9,7 @@ use lib.Dec.{eqb, leb}
 use lib.ListN.{length, drop}
 use lib.Seq.{drop-drop}
 use borrow.Author.Tests.{eqb-false, not-true}
-use Rattle.text.specs.Quoted.{Quoted, closed, faulty, quoted}
+use Rattle.text.specs.Quoted.{Quoted, closed, unclosed, faulty, charactersOf, quoted}
 use Rattle.text.proofs.Booleans.{both-true}
 use Rattle.language.specs.Bytes.{LETTER, DIGIT, HASH, QUOTE, DOUBLE, SIGN, SEPARATOR, NEWLINE, classOf}
 use Rattle.language.specs.Kinds.{Spelled, NUMBER, STRING, reserved, signs}
@@ -20,7 +20,7 @@ use Rattle.language.specs.Semicolons.{inserted, gains, semicolonsAfter, semicol
 use Rattle.language.specs.Brackets.{firstFault, brackets}
 use Rattle.language.specs.Source as S
 use Rattle.language.specs.Source.{symbolsOf, onFault}
-use Rattle.language.specs.Whole.{charactersOf, stringsAmong}
+use Rattle.language.specs.Whole.{stringsAmong}
 use Rattle.compiler.specs.Strings.{stringCount, Ends, AllEnd, noSymbol, andSymbol}
 
 -- ---- counts
@@ -32,7 +32,7 @@ string-count-is source (x ∷ xs) = go (eqb (x .kind) STRING) (string-count-is s
   where
     go : (b : Bool) → stringCount xs ≡ length (stringsAmong source xs)
         → cond b (suc (stringCount xs)) (stringCount xs) ≡
-        length (cond b (charactersOf (quoted 34 0 (drop (suc (x .place)) source)) ∷ stringsAmong source xs) (stringsAmong source xs))
+        length (cond b (charactersOf (quoted 34 255 0 (drop (suc (x .place)) source)) ∷ stringsAmong source xs) (stringsAmong source xs))
     go true e = ap suc e
     go false e = e
 
@@ -50,12 +50,12 @@ string-count-most (x ∷ xs) = go (eqb (x .kind) STRING) (string-count-most xs)
 record Closes (bs : List ℕ) : Type 0 where
   characters : List ℕ
   width : ℕ
-  closes : quoted 34 0 (drop 1 bs) ≡ closed characters width
+  closes : quoted 34 255 0 (drop 1 bs) ≡ closed characters width
 
 data EndingElement (bs : List ℕ) : Element → Type 0 where
   a-symbol : {kind value width : ℕ} → (kind ≡ STRING → Closes bs) → EndingElement bs (symbol kind value width)
   a-gap : {width : ℕ} → EndingElement bs (gap width)
-  a-fault : {number : ℕ} → EndingElement bs (wrong number)
+  a-fault : {number offset : ℕ} → EndingElement bs (wrong number offset)
 
 noString : List Spelled → Bool
 noString [] = true
@@ -113,21 +113,22 @@ module _ (bs : List ℕ) where
 
   ending-character : (cs : List ℕ) → EndingElement bs (character cs)
   unfolding character
-  ending-character cs = go (quoted 39 0 cs)
+  ending-character cs = go (quoted 39 1 0 cs)
     where
       go : (q : Quoted) → EndingElement bs (asCharacter q)
       go (closed [] n) = a-fault
-      go (closed (x ∷ []) n) = number
-      go (closed (x ∷ y ∷ xs) n) = a-fault
-      go faulty = a-fault
+      go (closed (x ∷ xs) n) = number
+      go unclosed = a-fault
+      go (faulty k n) = a-fault
 
   ending-string : EndingElement bs (string (drop 1 bs))
   unfolding string
-  ending-string = go (quoted 34 0 (drop 1 bs)) refl
+  ending-string = go (quoted 34 255 0 (drop 1 bs)) refl
     where
-      go : (q : Quoted) → quoted 34 0 (drop 1 bs) ≡ q → EndingElement bs (asString q)
-      go (closed cs n) e = either (leb (length cs) 255) (λ h. a-symbol (λ _. record { characters = cs; width = n; closes = e })) a-fault
-      go faulty e = a-fault
+      go : (q : Quoted) → quoted 34 255 0 (drop 1 bs) ≡ q → EndingElement bs (asString q)
+      go (closed cs n) e = a-symbol {kind = STRING} {value = length cs} {width = suc n} (λ _. record { characters = cs; width = n; closes = e })
+      go unclosed e = a-fault
+      go (faulty k n) e = a-fault
 
   ending-sign : EndingElement bs (signOrComment bs)
   unfolding signOrComment comment sign noString signs
@@ -168,7 +169,7 @@ module _ (text : List ℕ) where
       and-symbol (record { kind = kind; value = value; place = place })
       (λ e. let k = f e in record { characters = k .characters; width = k .width; closes = rw z at (k .closes) }) (g (width - 1))
   on-element place bs (gap width) more q f g = g (width - 1)
-  on-element place bs (wrong number) more q f g = noSymbol
+  on-element place bs (wrong number offset) more q f g = noSymbol
 
   scanned-end : (over place : ℕ) (bs : List ℕ) → bs ≡ drop place text → AllEnd text (scanFrom over place bs .symbols)
   unfolding scanFrom

@@ -7,11 +7,11 @@ use lib.ListN.{length, getD, drop}
 use lib.Dec.{eqb}
 use Rattle.items.specs.Item as I
 use Rattle.items.specs.Render.{characterText, charactersText}
-use Rattle.text.specs.Quoted.{closed, quoted}
+use Rattle.text.specs.Quoted.{closed, charactersOf, quoted}
 use Rattle.language.specs.Kinds.{STRING}
 use Rattle.language.specs.Symbols.{Symbol}
 use Rattle.language.specs.Resolved.{Fun, Start, inGlobal}
-use Rattle.language.specs.Whole.{charactersOf, stringsAmong}
+use Rattle.language.specs.Whole.{stringsAmong}
 use Rattle.code.specs.Generate.{stringsCode, startIn, startsCode}
 use Rattle.tree.specs.Read.{decoded}
 use Rattle.writing.specs.Text.{Puts, line, lines}
@@ -31,7 +31,7 @@ oneIf kind = cond (eqb kind STRING) 1 0
 pub record Ends (source : List ℕ) (place : ℕ) : Type 0 where
   pub characters : List ℕ
   pub width : ℕ
-  pub closes : quoted 34 0 (drop (suc place) source) ≡ closed characters width
+  pub closes : quoted 34 255 0 (drop (suc place) source) ≡ closed characters width
 
 pub data AllEnd (source : List ℕ) : List Symbol → Type 0 where
   noSymbol : AllEnd source []
@@ -44,7 +44,7 @@ pub record Escapes (c e : ℕ) : Type 0 where
 
 -- the characters from a place on
 pub record WritesCharacters (source : List ℕ) (from at at′ : ℕ) (t t′ : List ℕ) : Type 0 where
-  pub by : (cs : List ℕ) (width : ℕ) → quoted 34 0 (drop from source) ≡ closed cs width → Puts (charactersText cs) at at′ t t′
+  pub by : (cs : List ℕ) (width : ℕ) → quoted 34 255 0 (drop from source) ≡ closed cs width → Puts (charactersText cs) at at′ t t′
 
 pub record WritesString (source : List ℕ) (place at at′ : ℕ) (t t′ : List ℕ) : Type 0 where
   pub by : (e : Ends source place) → Puts (line (I.string (e .characters))) at at′ t t′
@@ -52,7 +52,7 @@ pub record WritesString (source : List ℕ) (place at at′ : ℕ) (t t′ : Lis
 -- the items of one symbol
 unfoldable pub symbolCode : (source : List ℕ) (kind place label : ℕ) → List I.Item
 symbolCode source kind place label =
-    cond (eqb kind STRING) (I.label label ∷ I.string (charactersOf (quoted 34 0 (drop (suc place) source))) ∷ []) []
+    cond (eqb kind STRING) (I.label label ∷ I.string (charactersOf (quoted 34 255 0 (drop (suc place) source))) ∷ []) []
 
 pub record WritesSymbol (source : List ℕ) (kind place label at at′ : ℕ) (t t′ : List ℕ) : Type 0 where
   pub by : (kind ≡ STRING → Ends source place) → Puts (lines (symbolCode source kind place label)) at at′ t t′

@@ -84,7 +84,10 @@ fn characters(source: &[u8], from: usize, text: &mut [u8], at: usize) -> usize
             Character::Closing => {
                 return x;
             }
-            Character::Bad => {
+            Character::Ended => {
+                return x;
+            }
+            Character::Mistake(_) => {
                 return x;
             }
         }

@@ -7,25 +7,23 @@ use native.Mathlib.Omega.{arith}
 use lib.Dec.{ltb}
 use lib.ListN.{length, drop}
 use lib.Seq.{drop-drop}
-use borrow.Author.Tests.{ne-eqb, lt-ltb, le-ltb, le-leb, lt-leb, ltb-true, ltb-false}
-use Rattle.text.specs.Quoted.{Quoted, closed, faulty, is, closing, bad, character, quoted}
+use borrow.Author.Tests.{ne-eqb, lt-ltb, le-ltb, ltb-true, ltb-false}
+use Rattle.text.specs.Quoted.{unclosed, faulty, quoted}
 use Rattle.text.proofs.Bytes.{Unlike}
-use Rattle.text.proofs.Quotes.{onward, quoted-next, quoted-end, quoted-bad}
+use Rattle.text.proofs.Answers.{Counted}
 use Rattle.items.specs.Reader.{Got, got, nothing, Reader, wide, head, byte, optional, isDigit, decimal}
 use Rattle.items.specs.Read.{ended, quotedString, operand, base, labelItem, instructionItem, constantItem, stringItem, globalItem, functionOf, item}
 use Rattle.items.specs.Answers.{asItem}
-use Rattle.items.specs.Parts.{asItemAt, asStringAt, globalLabel}
+use Rattle.items.specs.Parts.{asItemAt, globalLabel}
 use Rattle.items.specs.declared.Operand.{Operand}
 use Rattle.items.specs.declared.Based.{Based}
 use Rattle.items.specs.declared.Item.{Item}
 use Rattle.items.specs.declared.ReadItem.{ReadItem}
-use Rattle.items.specs.declared.ReadString.{ReadString}
 use Rattle.items.proofs.Places.{Reads, onto, head-past, byte-reads, byte-fails}
 use Rattle.items.proofs.Operands.{OperandRead, BaseRead}
 use Rattle.items.specs.Item as I
 use Rattle.items.specs.declared.Item.the-variants as K
 use Rattle.items.specs.declared.ReadItem.the-variants as C
-use Rattle.items.specs.declared.ReadString.the-variants as S
 
 -- ---- the answer, from a reading and back
 
@@ -150,91 +148,30 @@ module _ (text : List ℕ) (at : ℕ) {p : ℕ} {o : Operand} where
 
 -- ---- strings
 
--- characters counted so far, before those that are read
-abbrev pub added : ℕ → ReadString → ReadString
-added n (S.Got m p) = S.Got (n + m) p
-added n S.Nothing = S.Nothing
-
-pub added-none : (r : ReadString) → r ≡ added 0 r
-added-none (S.Got m p) = ap (λ (k : ℕ). S.Got k p) (omega arith)
-added-none S.Nothing = refl
-
-added-more : (n : ℕ) (r : ReadString) → added n (added 1 r) ≡ added (n + 1) r
-added-more n (S.Got m p) = ap (λ (k : ℕ). S.Got k p) (omega arith)
-added-more n S.Nothing = refl
-
-module _ (text : List ℕ) (i n : ℕ) where
-  pub characters-more : {v w : ℕ} → character 34 (drop i text) ≡ is v w → added n (asStringAt i (quoted 34 0 (drop i text))) ≡ added (n + 1) (asStringAt (i + w) (quoted 34 0 (drop (i + w) text)))
-  unfolding asStringAt
-  characters-more {v} {w} e =
-      rw (quoted-next 34 (drop i text) e, drop-drop w i text) (ap (added n) (by (quoted 34 0 (drop (i + w) text))) ∙ added-more n (asStringAt (i + w) (quoted 34 0 (drop (i + w) text))))
-    where
-      by : (q : Quoted) → asStringAt i (onward v w q) ≡ added 1 (asStringAt (i + w) q)
-      by (closed cs m) = let a : suc (length cs) ≡ 1 + length cs = omega arith in let b : i + (w + m) ≡ i + w + m = omega arith in cc
-      by faulty = refl
-
-  pub characters-end : character 34 (drop i text) ≡ closing → S.Got n (i + 1) ≡ added n (asStringAt i (quoted 34 0 (drop i text)))
-  unfolding asStringAt
-  characters-end e = rw (quoted-end 34 (drop i text) e) (ap (λ (k : ℕ). S.Got k (i + 1)) (omega arith))
-
-  pub characters-bad : character 34 (drop i text) ≡ bad → S.Nothing ≡ added n (asStringAt i (quoted 34 0 (drop i text)))
-  unfolding asStringAt
-  characters-bad e = rw (quoted-bad 34 (drop i text) e)
-
--- an answer that stands for a string that was read
-pub record StringRead (text : List ℕ) (at n past : ℕ) : Type 0 where
-  pub characters : List ℕ
-  pub width : ℕ
-  pub reading : quoted 34 0 (drop at text) ≡ closed characters width
-  pub same : n ≡ length characters
-  pub ends : past ≡ at + width
-
-module _ (text : List ℕ) (at : ℕ) {r : ReadString} (e : r ≡ asStringAt at (quoted 34 0 (drop at text))) where
-  pub characters-read : {n p : ℕ} → r ≡ S.Got n p → StringRead text at n p
-  unfolding asStringAt
-  characters-read {n} {p} k = by (quoted 34 0 (drop at text)) refl e
-    where
-      by : (q : Quoted) → quoted 34 0 (drop at text) ≡ q → r ≡ asStringAt at q → StringRead text at n p
-      by (closed cs w) d j = record { characters = cs; width = w; reading = d; same = cc; ends = cc }
-      by faulty d j = absurd (let z : _≡_ {A = ℕ} 0 1 = cc in omega arith)
-
-  pub characters-fail : r ≡ S.Nothing → quoted 34 0 (drop at text) ≡ faulty
-  unfolding asStringAt
-  characters-fail k = by (quoted 34 0 (drop at text)) e
-    where
-      by : (q : Quoted) → r ≡ asStringAt at q → q ≡ faulty
-      by (closed cs w) j = absurd (let z : _≡_ {A = ℕ} 0 1 = cc in omega arith)
-      by faulty j = refl
-
 module _ (text : List ℕ) (at : ℕ) where
   module _ (b : Reads (byte 34) text at true (at + 1)) where
-    module _ {n p : ℕ} (h : StringRead text (at + 1) n p) where
-      string-onto : drop (h .width) (drop (at + 1) text) ≡ drop p text
-      string-onto = drop-drop (h .width) (at + 1) text ∙ ap (λ (k : ℕ). drop k text) (sym (h .ends))
+    module _ {n w p : ℕ} (h : Counted (quoted 34 255 0 (drop (at + 1) text)) n w) (past : p ≡ at + 1 + w) where
+      string-onto : drop w (drop (at + 1) text) ≡ drop p text
+      string-onto = drop-drop w (at + 1) text ∙ ap (λ (k : ℕ). drop k text) (sym past)
 
-      pub string-reads : n ≤ 255 → Reads ended text p true p → Reads stringItem text at (I.string (h .characters)) p
+      pub string-reads : Reads ended text p true p → Reads stringItem text at (I.string (h .characters)) p
       unfolding stringItem quotedString
-      string-reads l k =
-          let m : length (h .characters) ≤ 255 = omega arith in
+      string-reads k =
           record {
-            width = b .width + (h .width + (k .width + 0));
-            reading = rw (b .reading, onto b, h .reading, le-leb _ _ m, string-onto, k .reading);
+            width = b .width + (w + (k .width + 0));
+            reading = rw (b .reading, onto b, h .is, string-onto, k .reading);
             ends = omega arith;
           }
 
-      pub string-open : n ≤ 255 → ended (drop p text) ≡ nothing → stringItem (drop at text) ≡ nothing
+      pub string-open : ended (drop p text) ≡ nothing → stringItem (drop at text) ≡ nothing
       unfolding stringItem quotedString
-      string-open l k =
-          let m : length (h .characters) ≤ 255 = omega arith in
-          rw (b .reading, onto b, h .reading, le-leb _ _ m, string-onto, k)
+      string-open k = rw (b .reading, onto b, h .is, string-onto, k)
 
-      pub string-long : 255 < n → stringItem (drop at text) ≡ nothing
-      unfolding stringItem quotedString
-      string-long l =
-          let m : 255 < length (h .characters) = omega arith in
-          rw (b .reading, onto b, h .reading, lt-leb _ _ m)
+    pub string-unclosed : quoted 34 255 0 (drop (at + 1) text) ≡ unclosed → stringItem (drop at text) ≡ nothing
+    unfolding stringItem quotedString
+    string-unclosed h = rw (b .reading, onto b, h)
 
-    pub string-faulty : quoted 34 0 (drop (at + 1) text) ≡ faulty → stringItem (drop at text) ≡ nothing
+    pub string-faulty : {number offset : ℕ} → quoted 34 255 0 (drop (at + 1) text) ≡ faulty number offset → stringItem (drop at text) ≡ nothing
     unfolding stringItem quotedString
     string-faulty h = rw (b .reading, onto b, h)
 
@@ -242,9 +179,10 @@ module _ (text : List ℕ) (at : ℕ) where
   unfolding stringItem
   string-none h = rw (byte-fails text at 34 h)
 
-  pub a-string : {n p : ℕ} → Reads (byte 34) text at true (at + 1) → StringRead text (at + 1) n p → n ≤ 255 → Reads ended text p true p → C.Got (K.String n) p ≡ asItemAt at (stringItem (drop at text))
+  pub a-string : {n w p : ℕ} → Reads (byte 34) text at true (at + 1) → Counted (quoted 34 255 0 (drop (at + 1) text)) n w → p ≡ at + 1 + w
+      → Reads ended text p true p → C.Got (K.String n) p ≡ asItemAt at (stringItem (drop at text))
   unfolding asItem
-  a-string b h l k = rw (h .same) (an-item stringItem text at (string-reads b h l k))
+  a-string b h past k = rw (h .count) (an-item stringItem text at (string-reads b h past k))
 
 -- ---- one item, by the byte that it begins with
 

@@ -1,17 +1,19 @@
 -- Operands and bases, by the byte that they begin with.
 use Prim.Native.Nat.{ℕ, _+_, _-_}
-use mathlib.Core.Path.{_≡_, refl, ap, _∙_}
+use mathlib.Core.Path.{_≡_, refl, sym, ap, _∙_}
 use mathlib.Core.Bool.{Bool, true, false, cond}
 use mathlib.Core.List.{List, [], _∷_}
 use native.Mathlib.Omega.{arith}
 use native.Mathlib.Nat.{add-zero}
 use lib.Dec.{eqb}
-use lib.ListN.{drop}
+use lib.ListN.{length, drop}
 use lib.Seq.{drop-drop}
 use borrow.Author.Tests.{eq-eqb, ne-eqb}
-use Rattle.text.specs.Quoted.{is, closing, bad, character, Quoted, closed, faulty, quoted}
+use Rattle.text.specs.Quoted.{character, closed, unclosed, faulty, quoted}
+use Rattle.text.specs.Parts.{valueOf}
 use Rattle.text.proofs.Bytes.{Unlike}
-use Rattle.text.proofs.Quotes.{onward, quoted-next, quoted-end, quoted-bad}
+use Rattle.text.proofs.Quotes.{first-is}
+use Rattle.text.proofs.Answers.{Counted}
 use Rattle.items.specs.Reader.{Got, got, nothing, Reader, wide, head, byte, decimal}
 use Rattle.items.specs.Read.{asCharacter, quotedCharacter, negative, quotation, labelled, positive, operand, base}
 use Rattle.items.specs.Answers.{asOperand, asBase}
@@ -90,57 +92,42 @@ module _ (text : List ℕ) (at : ℕ) where
   unfolding positive
   positive-fails h = rw h
 
--- a quoted character: one character and the closing quote
+-- a quoted character
 abbrev one : List ℕ → Got I.Operand
-one bytes = asCharacter (quoted 39 0 bytes)
+one bytes = asCharacter (quoted 39 1 0 bytes)
 
 wide-character : (bytes : List ℕ) → head bytes ≡ 39 → quotation bytes ≡ wide 1 (one (drop 1 bytes))
 unfolding quotation quotedCharacter byte
 wide-character bytes e = rw (eq-eqb _ 39 e)
 
-module _ (bytes : List ℕ) where
-  module _ {v w : ℕ} (e : character 39 bytes ≡ is v w) where
-    one-is : character 39 (drop w bytes) ≡ closing → one bytes ≡ got (I.number false v) (w + 1)
-    one-is h = rw (quoted-next 39 bytes e, quoted-end 39 (drop w bytes) h)
-
-    two-are : {u z : ℕ} → character 39 (drop w bytes) ≡ is u z → one bytes ≡ nothing
-    two-are {u} {z} h = rw (quoted-next 39 bytes e, quoted-next 39 (drop w bytes) h) (by (quoted 39 0 (drop z (drop w bytes))))
-      where
-        by : (q : Quoted) → asCharacter (onward v w (onward u z q)) ≡ nothing
-        by (closed cs n) = refl
-        by faulty = refl
-
-    one-open : character 39 (drop w bytes) ≡ bad → one bytes ≡ nothing
-    one-open h = rw (quoted-next 39 bytes e, quoted-bad 39 (drop w bytes) h)
-
-  none-is : character 39 bytes ≡ closing → one bytes ≡ nothing
-  none-is h = rw (quoted-end 39 bytes h)
-
-  bad-is : character 39 bytes ≡ bad → one bytes ≡ nothing
-  bad-is h = rw (quoted-bad 39 bytes h)
-
 module _ (text : List ℕ) (at : ℕ) (e : head (drop at text) ≡ 39) where
   opened : quotation (drop at text) ≡ wide 1 (one (drop (at + 1) text))
   opened = wide-character (drop at text) e ∙ ap (λ (l : List ℕ). wide 1 (one l)) (drop-drop 1 at text)
 
-  module _ {v w : ℕ} (f : character 39 (drop (at + 1) text) ≡ is v w) where
-    next : drop w (drop (at + 1) text) ≡ drop (at + 1 + w) text
-    next = drop-drop w (at + 1) text
+  module _ {n w : ℕ} (h : Counted (quoted 39 1 0 (drop (at + 1) text)) n w) where
+    pub quotation-none : n ≡ 0 → quotation (drop at text) ≡ nothing
+    quotation-none z = by (h .characters) (h .is) (sym (h .count) ∙ z)
+      where
+        by : (cs : List ℕ) → quoted 39 1 0 (drop (at + 1) text) ≡ closed cs w → length cs ≡ 0 → quotation (drop at text) ≡ nothing
+        by [] k l = opened ∙ rw k
+        by (c ∷ cs) k l = absurd (omega arith)
 
-    pub quotation-reads : character 39 (drop (at + 1 + w) text) ≡ closing → Reads quotation text at (I.number false v) (at + 1 + w + 1)
-    quotation-reads h = record { width = 1 + (w + 1); reading = opened ∙ rw (one-is (drop (at + 1) text) f (rw next h)); ends = omega arith }
+    pub quotation-reads : {v : ℕ} → (n ≡ 0 → ⊥) → v ≡ valueOf (character 39 (drop (at + 1) text))
+        → Reads quotation text at (I.number false v) (at + 1 + w)
+    quotation-reads {v} some f = by (h .characters) (h .is) (h .count)
+      where
+        by : (cs : List ℕ) → quoted 39 1 0 (drop (at + 1) text) ≡ closed cs w → n ≡ length cs
+            → Reads quotation text at (I.number false v) (at + 1 + w)
+        by [] k l = absurd (some l)
+        by (c ∷ cs) k l =
+            let u : v ≡ c = f ∙ first-is 39 1 (drop (at + 1) text) k in
+            record { width = 1 + w; reading = opened ∙ rw (k, u); ends = omega arith }
 
-    pub quotation-two : {u z : ℕ} → character 39 (drop (at + 1 + w) text) ≡ is u z → quotation (drop at text) ≡ nothing
-    quotation-two {u} {z} h = opened ∙ rw (two-are (drop (at + 1) text) f {u = u} {z = z} (rw next h))
+  pub quotation-unclosed : quoted 39 1 0 (drop (at + 1) text) ≡ unclosed → quotation (drop at text) ≡ nothing
+  quotation-unclosed h = opened ∙ rw h
 
-    pub quotation-open : character 39 (drop (at + 1 + w) text) ≡ bad → quotation (drop at text) ≡ nothing
-    quotation-open h = opened ∙ rw (one-open (drop (at + 1) text) f (rw next h))
-
-  pub quotation-none : character 39 (drop (at + 1) text) ≡ closing → quotation (drop at text) ≡ nothing
-  quotation-none h = opened ∙ rw (none-is (drop (at + 1) text) h)
-
-  pub quotation-bad : character 39 (drop (at + 1) text) ≡ bad → quotation (drop at text) ≡ nothing
-  quotation-bad h = opened ∙ rw (bad-is (drop (at + 1) text) h)
+  pub quotation-faulty : {number offset : ℕ} → quoted 39 1 0 (drop (at + 1) text) ≡ faulty number offset → quotation (drop at text) ≡ nothing
+  quotation-faulty h = opened ∙ rw h
 
 -- ---- by the byte at the head
 

@@ -164,13 +164,20 @@ character-text c rest w =
     plain : (c ≡ 34 → ⊥) → (c ≡ 42 → ⊥) → (32 ≤ c) × (c ≤ 126) → Shows rest c (c ∷ [])
     plain n34 n42 b = record { shows = at-plain 34 c rest n34 n42 (b .0) (b .1) }
 
-pub characters-text : (cs rest : List ℕ) → Writable cs → quoted 34 0 (charactersText cs ++ (34 ∷ rest)) ≡ closed cs (length (charactersText cs) + 1)
+pub characters-text : (room : ℕ) (cs rest : List ℕ) → length cs ≤ room → Writable cs
+    → quoted 34 room 0 (charactersText cs ++ (34 ∷ rest)) ≡ closed cs (length (charactersText cs) + 1)
 unfolding charactersText
-characters-text [] rest w = quoted-end 34 (34 ∷ rest) (at-quote 34 34 rest refl)
-characters-text (c ∷ cs) rest w =
+characters-text room [] rest l w = quoted-end 34 room (34 ∷ rest) (at-quote 34 34 rest refl)
+characters-text zero (c ∷ cs) rest l w = absurd (omega arith)
+characters-text (suc room) (c ∷ cs) rest l w =
     let s : Shows (charactersText cs ++ (34 ∷ rest)) c (characterText c) = character-text c (charactersText cs ++ (34 ∷ rest)) (w .0) in
-    rw (append-assoc, quoted-next 34 _ (s .shows), drop-append-seam (characterText c) (charactersText cs ++ (34 ∷ rest)), characters-text cs rest (w .1), length-append (characterText c) (charactersText cs))
-    (ap (closed (c ∷ cs)) (omega arith))
+    rw (
+      append-assoc,
+      quoted-next 34 room _ (s .shows),
+      drop-append-seam (characterText c) (charactersText cs ++ (34 ∷ rest)),
+      characters-text room cs rest (omega arith) (w .1),
+      length-append (characterText c) (charactersText cs),
+    ) (ap (closed (c ∷ cs)) (omega arith))
 
 -- ---- items
 
@@ -194,7 +201,12 @@ module _ (rest : List ℕ) where
   string-text : (cs : List ℕ) → SoundString cs → item (render (string cs) ++ (10 ∷ rest)) ≡ got (string cs) (length (render (string cs)))
   unfolding render item stringItem quotedString ended byte head
   string-text cs h =
-      rw (append-assoc, characters-text cs (10 ∷ rest) (h .each), le-leb _ _ (h .short), drop-append-add (charactersText cs) (34 ∷ 10 ∷ rest) 1, length-append (charactersText cs) (34 ∷ []))
+      rw (
+        append-assoc,
+        characters-text 255 cs (10 ∷ rest) (h .short) (h .each),
+        drop-append-add (charactersText cs) (34 ∷ 10 ∷ rest) 1,
+        length-append (charactersText cs) (34 ∷ []),
+      )
       (ap (got (string cs)) (omega arith))
 
 -- a function's letter, from A to X, begins its instruction

@@ -9,7 +9,7 @@ use lib.Dec.{eqb, leb, ltb}
 use lib.ListN.{length, drop, length-drop}
 use lib.Seq.{drop-drop}
 use borrow.Author.Tests.{eqb-true, ltb-true, leb-true}
-use Rattle.text.specs.Quoted.{Quoted, closed, faulty, quoted}
+use Rattle.text.specs.Quoted.{Quoted, closed, unclosed, faulty, quoted}
 use Rattle.text.proofs.Quotes.{Writable, ascii, Closed, is-closed}
 use Rattle.items.specs.Item.{capped, Operand, number, address, Item, label, instruction, constant, string, global}
 use Rattle.items.specs.Reader.{Got, got, nothing, wide, onGot, head, byte, optional, isDigit, digits, digitCount, decimal}
@@ -45,7 +45,7 @@ Sound (global n m) = SoundGlobal n m
 -- characters between double quotes, from past the first of them on
 pub record Between (bytes characters : List ℕ) : Type 0 where
   pub width : ℕ
-  pub reading : quoted 34 0 bytes ≡ closed characters width
+  pub reading : quoted 34 255 0 bytes ≡ closed characters width
 
 -- a string's characters are those of the bytes from the third on
 abbrev pub Quoting : List ℕ → Item → Type 0
@@ -153,15 +153,15 @@ decimal-meets (c ∷ r) = either (isDigit c) (λ e. gives (digits-small 0 (c ∷
 
 character-meets : (bytes : List ℕ) → Meets (length bytes) 1 SoundOperand (quotedCharacter bytes)
 unfolding quotedCharacter
-character-meets bytes = by (quoted 39 0 bytes) refl
+character-meets bytes = by (quoted 39 1 0 bytes) refl
   where
-    by : (q : Quoted) → quoted 39 0 bytes ≡ q → Meets (length bytes) 1 SoundOperand (asCharacter q)
+    by : (q : Quoted) → quoted 39 1 0 bytes ≡ q → Meets (length bytes) 1 SoundOperand (asCharacter q)
     by (closed [] w) e = fails
-    by (closed (c ∷ []) w) e =
-        let k : Closed 0 (length bytes) (c ∷ []) w = is-closed 39 0 bytes e in
-        gives (omega (arith, ascii (c ∷ []) (k .each) 0)) (omega arith) (omega arith)
-    by (closed (c ∷ d ∷ cs) w) e = fails
-    by faulty e = fails
+    by (closed (c ∷ cs) w) e =
+        let k : Closed 1 0 (length bytes) (c ∷ cs) w = is-closed 39 1 0 bytes e in
+        gives (omega (arith, ascii (c ∷ cs) (k .each) 0)) (omega arith) (omega arith)
+    by unclosed e = fails
+    by (faulty k n) e = fails
 
 negative-meets : (bytes : List ℕ) → Meets (length bytes) 2 SoundOperand (negative bytes)
 unfolding negative
@@ -244,15 +244,14 @@ after nothing h = fails
 -- the characters of a string that begins with the bytes c and d
 characters-meet : (c d : ℕ) (bytes : List ℕ) → Meets (length bytes) 1 (Stands (c ∷ d ∷ bytes)) (quotedString bytes)
 unfolding quotedString
-characters-meet c d bytes = by (quoted 34 0 bytes) refl
+characters-meet c d bytes = by (quoted 34 255 0 bytes) refl
   where
-    by : (q : Quoted) → quoted 34 0 bytes ≡ q → Meets (length bytes) 1 (Stands (c ∷ d ∷ bytes)) (asString q)
-    by faulty e = fails
+    by : (q : Quoted) → quoted 34 255 0 bytes ≡ q → Meets (length bytes) 1 (Stands (c ∷ d ∷ bytes)) (asString q)
+    by unclosed e = fails
+    by (faulty k n) e = fails
     by (closed cs w) e =
-        let k : Closed 0 (length bytes) cs w = is-closed 34 0 bytes e in
-        either (leb (length cs) 255)
-        (λ l. gives (record { sound = record { short = leb-true (length cs) 255 l; each = k .each }; quotes = record { width = w; reading = e } }) (omega arith) (omega arith))
-        fails
+        let k : Closed 255 0 (length bytes) cs w = is-closed 34 255 0 bytes e in
+        gives (record { sound = record { short = k .short; each = k .each }; quotes = record { width = w; reading = e } }) (omega arith) (omega arith)
 
 string-meets : (c : ℕ) (bytes : List ℕ) → Meets (length bytes) 2 (Stands (c ∷ bytes)) (stringItem bytes)
 unfolding stringItem byte head

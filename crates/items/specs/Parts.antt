@@ -2,8 +2,6 @@
 use Prim.Native.Nat.{ℕ, _+_}
 use mathlib.Core.Bool.{Bool, true, false, not, cond}
 use lib.Dec.{eqb}
-use lib.ListN.{length}
-use Rattle.text.specs.Quoted.{Quoted, closed, faulty}
 use Rattle.items.specs.Item as I
 use Rattle.items.specs.Reader as R
 use Rattle.items.specs.Reader.{_>>=_, return, byte, decimal}
@@ -15,8 +13,6 @@ use Rattle.items.specs.declared.ReadDecimal.{ReadDecimal}
 use Rattle.items.specs.declared.ReadDecimal.the-variants as D
 use Rattle.items.specs.declared.ReadOperand.{ReadOperand}
 use Rattle.items.specs.declared.ReadOperand.the-variants as O
-use Rattle.items.specs.declared.ReadString.{ReadString}
-use Rattle.items.specs.declared.ReadString.the-variants as S
 use Rattle.items.specs.declared.ReadItem.{ReadItem}
 use Rattle.items.specs.declared.ReadItem.the-variants as C
 
@@ -36,10 +32,6 @@ asOperandAt at R.nothing = O.Nothing
 unfoldable pub asBased : ℕ → R.Got I.Base → Based
 asBased at (R.got b n) = record { base = asBase b; past = at + n }
 asBased at R.nothing = record { base = B.Plain; past = at }
-
-unfoldable pub asStringAt : ℕ → Quoted → ReadString
-asStringAt at (closed cs n) = S.Got (length cs) (at + n)
-asStringAt at faulty = S.Nothing
 
 unfoldable pub asItemAt : ℕ → R.Got I.Item → ReadItem
 asItemAt at (R.got i n) = C.Got (asItem i) (at + n)

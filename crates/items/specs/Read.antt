@@ -2,9 +2,9 @@
 use Prim.Native.Nat.{ℕ, zero, suc, _+_}
 use mathlib.Core.Bool.{Bool, true, false, cond}
 use mathlib.Core.List.{List, [], _∷_}
-use lib.ListN.{length, drop}
-use lib.Dec.{eqb, leb, ltb}
-use Rattle.text.specs.Quoted.{Quoted, closed, faulty, quoted}
+use lib.ListN.{drop}
+use lib.Dec.{eqb, ltb}
+use Rattle.text.specs.Quoted.{Quoted, closed, unclosed, faulty, quoted}
 use Rattle.items.specs.Item.{Operand, number, address, Base, none, P, G, Item, label, instruction, constant, string, global}
 use Rattle.items.specs.Reader.{Got, got, nothing, Reader, wide, _>>=_, return, head, byte, optional, isDigit, decimal}
 
@@ -16,23 +16,24 @@ ended bytes =
     (cond (eqb (head bytes) 47) (got true 0)
     (cond (eqb (head bytes) 256) (got true 0) nothing)))
 
--- one character between single quotes, from past the first quote on
+-- one character between single quotes, not none and at most one, from past the first quote on
 abbrev pub asCharacter : Quoted → Got Operand
-asCharacter (closed (c ∷ []) n) = got (number false c) n
 asCharacter (closed [] n) = nothing
-asCharacter (closed (c ∷ d ∷ cs) n) = nothing
-asCharacter faulty = nothing
+asCharacter (closed (c ∷ cs) n) = got (number false c) n
+asCharacter unclosed = nothing
+asCharacter (faulty k n) = nothing
 
 unfoldable pub quotedCharacter : Reader Operand
-quotedCharacter bytes = asCharacter (quoted 39 0 bytes)
+quotedCharacter bytes = asCharacter (quoted 39 1 0 bytes)
 
 -- at most 255 characters between double quotes, from past the first quote on
 abbrev pub asString : Quoted → Got Item
-asString (closed cs n) = cond (leb (length cs) 255) (got (string cs) n) nothing
-asString faulty = nothing
+asString (closed cs n) = got (string cs) n
+asString unclosed = nothing
+asString (faulty k n) = nothing
 
 unfoldable pub quotedString : Reader Item
-quotedString bytes = asString (quoted 34 0 bytes)
+quotedString bytes = asString (quoted 34 255 0 bytes)
 
 -- a decimal (- allowed), a quoted character, or L and a label
 unfoldable pub negative : Reader Operand

@@ -3,20 +3,19 @@
 // `start_in` finds where the items begin and `next_in` reads one of them; both look at any place of any bytes. Below
 // them each function reads one part, and answers with the part and the place past it. A place past the end has the
 // byte 256, as in the definitions.
-use text::Character;
+use text::Quoted;
 ghost use Prim.Native.Nat.{_+_, _-_, _*_, _≤_};
 ghost use mathlib.Core.Path.{_≡_};
 ghost use mathlib.Core.Bool.{false, cond};
 ghost use lib.Dec.{eqb};
 ghost use lib.ListN.{drop};
-ghost use Rattle.text.specs.Quoted.{quoted};
 ghost use Rattle.items.specs.Item.{capped};
 ghost use Rattle.items.specs.Reader.{head, isDigit, decimal};
 ghost use Rattle.items.specs.Read.{ended, negative, quotation, labelled, positive, operand, base, labelItem, instructionItem, constantItem, stringItem, globalItem, functionOf, item};
 ghost use Rattle.items.specs.Scan.{gaps, mark};
 ghost use Rattle.items.specs.Next.{elementAt, nextIn, startIn};
 ghost use Rattle.items.specs.Answers.{asNext, asStart};
-ghost use Rattle.items.specs.Parts.{isGot, asDecimal, asOperandAt, asBased, asStringAt, asItemAt, globalLabel, inGap, inComment};
+ghost use Rattle.items.specs.Parts.{isGot, asDecimal, asOperandAt, asBased, asItemAt, globalLabel, inGap, inComment};
 
 // A number as it is written, with a minus or not; or a label.
 pub enum Operand {
@@ -65,12 +64,6 @@ enum ReadDecimal {
 
 enum ReadOperand {
     Got(Operand, usize),
-    Nothing,
-}
-
-// The number of a string's characters.
-enum ReadString {
-    Got(usize, usize),
     Nothing,
 }
 
@@ -252,22 +245,17 @@ fn quotation(text: &[u8], at: usize) -> ReadOperand
     requires { ⌜ head (drop at (now text)) ≡ 39 ⌝ }
     ensures { λ r. ⌜ r ≡ asOperandAt at (quotation (drop at (now (text .entry)))) ⌝ }
 {
-    let first = text::character_at(text, at + 1, b'\'');
-    match first {
-        Character::Is(value, width) => {
-            let end = at + 1 + width;
-            let second = text::character_at(text, end, b'\'');
-            match second {
-                Character::Closing => ReadOperand::Got(
-                    Operand::Number(false, value as u32),
-                    end + 1,
-                ),
-                Character::Is(_, _) => ReadOperand::Nothing,
-                Character::Bad => ReadOperand::Nothing,
+    let constant = text::quoted_at(text, at + 1, b'\'', 1);
+    match constant {
+        Quoted::Closed(n, width) => {
+            if n == 0 {
+                return ReadOperand::Nothing;
             }
+            let value = text::value_at(text, at + 1, b'\'');
+            ReadOperand::Got(Operand::Number(false, value as u32), at + 1 + width)
         }
-        Character::Closing => ReadOperand::Nothing,
-        Character::Bad => ReadOperand::Nothing,
+        Quoted::Unclosed => ReadOperand::Nothing,
+        Quoted::Faulty(_, _) => ReadOperand::Nothing,
     }
 }
 
@@ -363,29 +351,6 @@ fn label_at(text: &[u8], at: usize) -> ReadItem
     }
 }
 
-// The characters up to the closing double quote.
-fn characters_at(text: &[u8], at: usize) -> ReadString
-    ensures { λ r. ⌜ r ≡ asStringAt at (quoted 34 0 (drop at (now (text .entry)))) ⌝ }
-{
-    let mut n: usize = 0;
-    let mut i = at;
-    loop {
-        let c = text::character_at(text, i, b'"');
-        match c {
-            Character::Is(_, width) => {
-                n += 1;
-                i += width;
-            }
-            Character::Closing => {
-                return ReadString::Got(n, i + 1);
-            }
-            Character::Bad => {
-                return ReadString::Nothing;
-            }
-        }
-    }
-}
-
 // What follows C.
 fn string_at(text: &[u8], at: usize) -> ReadItem
     ensures { λ r. ⌜ r ≡ asItemAt at (stringItem (drop at (now (text .entry)))) ⌝ }
@@ -393,18 +358,17 @@ fn string_at(text: &[u8], at: usize) -> ReadItem
     if !has(text, at, b'"') {
         return ReadItem::Nothing;
     }
-    let s = characters_at(text, at + 1);
+    let s = text::quoted_at(text, at + 1, b'"', 255);
     match s {
-        ReadString::Got(n, past) => {
-            if n > 255 {
-                return ReadItem::Nothing;
-            }
+        Quoted::Closed(n, width) => {
+            let past = at + 1 + width;
             if ended(text, past) {
                 return ReadItem::Got(Item::String(n), past);
             }
             ReadItem::Nothing
         }
-        ReadString::Nothing => ReadItem::Nothing,
+        Quoted::Unclosed => ReadItem::Nothing,
+        Quoted::Faulty(_, _) => ReadItem::Nothing,
     }
 }
 

@@ -1,7 +1,8 @@
 -- Worked examples: refusals 1 to 5, and 15 for scratch.
 use mathlib.Core.Path.{_≡_, refl}
+use Prim.Native.String.{String}
 use mathlib.Core.Bool.{false}
-use mathlib.Core.List.{[], _∷_, _++_}
+use mathlib.Core.List.{[], _∷_, _++_, map}
 use lib.ListN.{replicate}
 use Rattle.text.specs.Written.{bytes}
 use Rattle.language.specs.Source.{refused, tooLong, scratchTooShort, readSource}
@@ -74,33 +75,48 @@ octal-none : verdict "LET F()=#8" ≡ (3, 8)
 unfolding verdict
 octal-none = refl
 
--- 4: no closing quote, an unknown escape, a newline in a string, none or two characters
-unclosed : verdict "LET F()=\"AB" ≡ (4, 8)
+-- 40: not closed, at the opening quote: the text's end or a newline comes first, also after an asterisk, whatever else is wrong before it
+not-closed : map verdict ("LET F()=\"AB" ∷ "LET F()=\"A\nB\"" ∷ "LET F()=\"A*\nB\"" ∷ "LET F()=\"A*Q\t" ∷ "LET F()=\"AB*\"" ∷ [])
+    ≡ (40, 8) ∷ (40, 8) ∷ (40, 8) ∷ (40, 8) ∷ (40, 8) ∷ []
 unfolding verdict
-unclosed = refl
+not-closed = refl
 
-escape : verdict "LET F()=\"A*Q\"" ≡ (4, 8)
+characters-not-closed : map verdict ("LET F()='" ∷ "LET F()='A" ∷ "LET F()='AB\n'" ∷ "LET F()='*'" ∷ []) ≡ (40, 8) ∷ (40, 8) ∷ (40, 8) ∷ (40, 8) ∷ []
+unfolding verdict
+characters-not-closed = refl
+
+-- 41: an escape, at its asterisk, which alone is taken: the quote after Q closes, and so does the one that follows *" here
+escape : map verdict ("LET F()=\"A*Q\"" ∷ "LET F()=\"*Q*\"\"" ∷ "LET F()='*n'" ∷ "LET F()='A*X'" ∷ []) ≡ (41, 10) ∷ (41, 9) ∷ (41, 9) ∷ (41, 10) ∷ []
 unfolding verdict
 escape = refl
 
-newline : verdict "LET F()=\"A\nB\"" ≡ (4, 8)
+-- 42: a byte outside 32 to 126, at that byte; a tab here, and the byte 200
+byte : map verdict ("LET F()=\"A\tB\"" ∷ "LET F()='\t'" ∷ []) ≡ (42, 10) ∷ (42, 9) ∷ []
 unfolding verdict
-newline = refl
+byte = refl
 
-no-character : verdict "LET F()=''" ≡ (4, 8)
+high-byte : verdictOf (bytes "LET F()=\"A" ++ (200 ∷ 34 ∷ [])) ≡ (42, 10)
+unfolding verdictOf
+high-byte = refl
+
+-- of several faults, the first
+first-fault : map verdict ("LET F()=\"A\t*Q\"" ∷ "LET F()=\"A*Q\t\"" ∷ "LET F()='*X\t'" ∷ []) ≡ (42, 10) ∷ (41, 10) ∷ (41, 9) ∷ []
 unfolding verdict
-no-character = refl
+first-fault = refl
 
-two-characters : verdict "LET F()='AB'" ≡ (4, 8)
+-- 43: a character constant of no characters, at its opening quote, and of several, at the second, however it is written
+no-or-several : map verdict ("LET F()=''" ∷ "LET F()='AB'" ∷ "LET F()='*NB'" ∷ "LET F()='A*N'" ∷ "LET F()='ABC'" ∷ "LET F()='''" ∷ [])
+    ≡ (43, 8) ∷ (43, 10) ∷ (43, 11) ∷ (43, 10) ∷ (43, 10) ∷ (43, 8) ∷ []
 unfolding verdict
-two-characters = refl
+no-or-several = refl
 
--- at most 255 characters
+-- 43: at most 255 characters, at the 256th; but a 256th that is a mistake is that mistake, and one before it comes first
 string-255 : verdictOf (bytes "LET F()=" ++ 34 ∷ (times 255 (65 ∷ []) ++ 34 ∷ [])) ≡ (0, 0)
 unfolding verdictOf times
 string-255 = refl
 
-string-256 : verdictOf (bytes "LET F()=" ++ 34 ∷ (times 256 (65 ∷ []) ++ 34 ∷ [])) ≡ (4, 8)
+string-256 : map (λ (end : String). verdictOf (bytes "LET F()=\"" ++ (times 255 (65 ∷ []) ++ bytes end))) ("A\"" ∷ "*N*Q\"" ∷ "\t\"" ∷ "*Q\"" ∷ "A\n\"" ∷ [])
+    ≡ (43, 264) ∷ (43, 264) ∷ (42, 264) ∷ (41, 264) ∷ (40, 8) ∷ []
 unfolding verdictOf times
 string-256 = refl
 
@@ -122,11 +138,11 @@ earlier-bracket : verdict ") %" ≡ (5, 0)
 unfolding verdict
 earlier-bracket = refl
 
-earlier-byte : verdict "( % )" ≡ (2, 2)
+earlier-byte : map verdict ("( % )" ∷ "( \"A*Q\" )) %" ∷ ") \"*Q\"" ∷ []) ≡ (2, 2) ∷ (41, 4) ∷ (5, 0) ∷ []
 unfolding verdict
 earlier-byte = refl
 
 -- 2 to 5 come before 6
-before-grammar : verdict "LET LET LET F() BE 'A" ≡ (4, 19)
+before-grammar : verdict "LET LET LET F() BE 'A" ≡ (40, 19)
 unfolding verdict
 before-grammar = refl

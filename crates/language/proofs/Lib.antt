@@ -2,6 +2,7 @@ pub mod Table
 pub mod Texts
 pub mod Shapes
 pub mod ExampleSymbols
+pub mod Formerly
 pub mod Candidates
 pub mod ExampleCandidates
 pub mod ExampleRefusals

@@ -8,7 +8,7 @@ use native.Mathlib.Omega.{arith}
 use lib.Dec.{eqb, leb}
 use lib.ListN.{length, getD, take, drop}
 use borrow.Author.Tests.{eqb-true, eqb-false, ne-eqb, leb-true, not-true}
-use Rattle.text.specs.Quoted.{Quoted, closed, faulty, quoted}
+use Rattle.text.specs.Quoted.{Quoted, closed, unclosed, faulty, charactersOf, quoted}
 use Rattle.text.proofs.Quotes.{Closed, is-closed, ascii}
 use Rattle.text.proofs.Booleans.{both-true}
 use Rattle.language.specs.Kinds.{Spelled, member, NOTHING, NAME, NUMBER, STRING, SEMICOLON, reserved, signs}
@@ -16,7 +16,7 @@ use Rattle.language.specs.Bytes.{LETTER, DIGIT, HASH, QUOTE, DOUBLE, SIG
 use Rattle.language.specs.Symbols.{Symbol, Element, symbol, gap, wrong, same, begins, inWord, wordWidth, kindIn, kindOf, word, digits, valueOf, decimal, octal, asCharacter, character, asString, string, signIn, comment, sign, signOrComment, byClass, Scan, onElement, scanFrom, scan}
 use Rattle.language.specs.Strings.{withValue, numbered}
 use Rattle.language.specs.Semicolons.{inserted, gains, semicolonsAfter, semicolons}
-use Rattle.language.specs.Whole.{charactersOf, stringsAmong}
+use Rattle.language.specs.Whole.{stringsAmong}
 use Rattle.language.specs.Binding.{isRepeat}
 use Rattle.language.specs.Reader.{Source, symbolAt}
 use Rattle.language.specs.Fine.{FineName}
@@ -27,7 +27,7 @@ use Rattle.language.proofs.Takes.{Counts}
 data FineElement (bs : List ℕ) : Element → Type 0 where
   a-symbol : {kind value width : ℕ} → (kind ≡ NUMBER → value < 65536) → (kind ≡ NAME → value ≤ length bs) → FineElement bs (symbol kind value width)
   a-gap : {width : ℕ} → FineElement bs (gap width)
-  a-fault : {number : ℕ} → FineElement bs (wrong number)
+  a-fault : {number offset : ℕ} → FineElement bs (wrong number offset)
 
 is-number : {bs : List ℕ} {value width : ℕ} → value < 65536 → FineElement bs (symbol NUMBER value width)
 is-number l = a-symbol (λ _. l) (λ e. absurd (not-name e))
@@ -64,21 +64,22 @@ either false f g = g
 
 fine-character : (all bs : List ℕ) → FineElement all (character bs)
 unfolding character
-fine-character all bs = go (quoted 39 0 bs) refl
+fine-character all bs = go (quoted 39 1 0 bs) refl
   where
-    go : (q : Quoted) → quoted 39 0 bs ≡ q → FineElement all (asCharacter q)
+    go : (q : Quoted) → quoted 39 1 0 bs ≡ q → FineElement all (asCharacter q)
     go (closed [] n) e = a-fault
-    go (closed (x ∷ []) n) e = let k : Closed 0 (length bs) (x ∷ []) n = is-closed 39 0 bs e in is-number (omega (arith, ascii (x ∷ []) (k .each) 0))
-    go (closed (x ∷ y ∷ xs) n) e = a-fault
-    go faulty e = a-fault
+    go (closed (x ∷ xs) n) e = let k : Closed 1 0 (length bs) (x ∷ xs) n = is-closed 39 1 0 bs e in is-number (omega (arith, ascii (x ∷ xs) (k .each) 0))
+    go unclosed e = a-fault
+    go (faulty number n) e = a-fault
 
 fine-string : (all bs : List ℕ) → FineElement all (string bs)
 unfolding string
-fine-string all bs = go (quoted 34 0 bs)
+fine-string all bs = go (quoted 34 255 0 bs)
   where
     go : (q : Quoted) → FineElement all (asString q)
-    go (closed cs n) = either (leb (length cs) 255) (λ _. a-symbol (λ e. absurd (omega arith)) (λ e. absurd (omega arith))) a-fault
-    go faulty = a-fault
+    go (closed cs n) = a-symbol {kind = STRING} {value = length cs} {width = suc n} (λ e. absurd (omega arith)) (λ e. absurd (omega arith))
+    go unclosed = a-fault
+    go (faulty number n) = a-fault
 
 word-within : (bs : List ℕ) → wordWidth bs ≤ length bs
 unfolding wordWidth
@@ -138,7 +139,7 @@ unfolding AllWords
 on-element place bs (symbol kind value width) more l (a-symbol f g) h =
     (record { number = f; name = λ e. record { place = omega arith; width = omega (arith, g e) } }, h (width - 1))
 on-element place bs (gap width) more l f h = h (width - 1)
-on-element place bs (wrong number) more l f h = tt
+on-element place bs (wrong number offset) more l f h = tt
 
 scanned-words : (over place : ℕ) (bs : List ℕ) → place + length bs ≤ 65535 → AllWords (scanFrom over place bs .symbols)
 unfolding scanFrom AllWords
@@ -150,7 +151,7 @@ scanned-words zero place (b ∷ bs) l = on-element place (b ∷ bs) _ _ l (fine-
 on-element-length : (place : ℕ) (e : Element) (more : ℕ → Scan) (n : ℕ) → ((k : ℕ) → length (more k .symbols) ≤ n) → length (onElement place e more .symbols) ≤ suc n
 on-element-length place (symbol kind value width) more n g = omega (arith, g (width - 1))
 on-element-length place (gap width) more n g = omega (arith, g (width - 1))
-on-element-length place (wrong number) more n g = omega arith
+on-element-length place (wrong number offset) more n g = omega arith
 
 scanned-length : (over place : ℕ) (bs : List ℕ) → length (scanFrom over place bs .symbols) ≤ length bs
 unfolding scanFrom
@@ -225,7 +226,7 @@ numbered-same text n [] = refl
 numbered-same text n (x ∷ xs) = go (eqb (x .kind) STRING) refl (numbered-same text (suc n) xs) (numbered-same text n xs)
   where
     go : (b : Bool) → eqb (x .kind) STRING ≡ b → stringsAmong text (numbered (suc n) xs) ≡ stringsAmong text xs → stringsAmong text (numbered n xs) ≡ stringsAmong text xs
-        → stringsAmong text (cond b (withValue n x ∷ numbered (suc n) xs) (x ∷ numbered n xs)) ≡ cond b (charactersOf (quoted 34 0 (drop (suc (x .place)) text)) ∷ stringsAmong text xs) (stringsAmong text xs)
+        → stringsAmong text (cond b (withValue n x ∷ numbered (suc n) xs) (x ∷ numbered n xs)) ≡ cond b (charactersOf (quoted 34 255 0 (drop (suc (x .place)) text)) ∷ stringsAmong text xs) (stringsAmong text xs)
     go true e f g = rw (e, f)
     go false e f g = rw (e, g)
 
@@ -278,7 +279,7 @@ strings-count text [] = refl
 strings-count text (x ∷ xs) = go (eqb (x .kind) STRING) (strings-count text xs)
   where
     go : (b : Bool) → length (stringsAmong text xs) ≡ countStrings xs
-        → length (cond b (charactersOf (quoted 34 0 (drop (suc (x .place)) text)) ∷ stringsAmong text xs) (stringsAmong text xs)) ≡ cond b (suc (countStrings xs)) (countStrings xs)
+        → length (cond b (charactersOf (quoted 34 255 0 (drop (suc (x .place)) text)) ∷ stringsAmong text xs) (stringsAmong text xs)) ≡ cond b (suc (countStrings xs)) (countStrings xs)
     go true e = ap suc e
     go false e = e
 

@@ -8,14 +8,14 @@ use lib.Dec.{eqb, leb}
 use lib.ListN.{length, take, drop, length-take, length-drop}
 use lib.Seq.{drop-drop}
 use borrow.Author.Tests.{eqb-true, eqb-false, leb-true, ne-eqb, not-true}
-use Rattle.text.specs.Quoted.{Quoted, closed, faulty, quoted}
+use Rattle.text.specs.Quoted.{Quoted, closed, unclosed, faulty, charactersOf, quoted}
 use Rattle.text.proofs.Quotes.{Closed, is-closed}
 use Rattle.text.proofs.Booleans.{both-true}
 use Rattle.language.specs.Bytes.{LETTER, DIGIT, HASH, QUOTE, DOUBLE, SIGN, SEPARATOR, NEWLINE, classOf}
 use Rattle.language.specs.Kinds.{Spelled, member, NUMBER, STRING, SEMICOLON, reserved, signs}
 use Rattle.language.specs.Binding.{isRepeat}
 use Rattle.language.specs.Symbols.{Symbol, Element, symbol, gap, wrong, same, begins, inWord, wordWidth, kindIn, kindOf, word, digits, valueOf, decimal, octal, asCharacter, character, asString, string, signIn, comment, sign, signOrComment, byClass, Scan, onElement, scanFrom, scan}
-use Rattle.language.specs.Whole.{charactersOf, stringsAmong}
+use Rattle.language.specs.Whole.{stringsAmong}
 use Rattle.language.proofs.SymbolFacts.{cost, countStrings}
 
 -- the bytes that a kind takes at least, and the characters if it is a string's
@@ -24,13 +24,13 @@ needs kind cs = cond (isRepeat kind) 3 (cond (eqb kind STRING) (length cs + 2) 1
 
 -- the characters of a string that begins at some bytes
 abbrev inside : List ℕ → List ℕ
-inside bs = charactersOf (quoted 34 0 (drop 1 bs))
+inside bs = charactersOf (quoted 34 255 0 (drop 1 bs))
 
 data WideElement (bs : List ℕ) : Element → Type 0 where
   small : {kind value width : ℕ} → needs kind (inside bs) ≤ 1 → WideElement bs (symbol kind value width)
   large : {kind value width : ℕ} → needs kind (inside bs) ≤ width → width ≤ length bs → WideElement bs (symbol kind value width)
   a-gap : {width : ℕ} → WideElement bs (gap width)
-  a-fault : {number : ℕ} → WideElement bs (wrong number)
+  a-fault : {number offset : ℕ} → WideElement bs (wrong number offset)
 
 either : {bs : List ℕ} (b : Bool) {x y : Element} → (b ≡ true → WideElement bs x) → WideElement bs y → WideElement bs (cond b x y)
 either true f g = f refl
@@ -107,24 +107,25 @@ module _ (bs : List ℕ) where
 
   wide-character : (cs : List ℕ) → WideElement bs (character cs)
   unfolding character
-  wide-character cs = go (quoted 39 0 cs)
+  wide-character cs = go (quoted 39 1 0 cs)
     where
       go : (q : Quoted) → WideElement bs (asCharacter q)
       go (closed [] n) = a-fault
-      go (closed (x ∷ []) n) = number-small x (suc n)
-      go (closed (x ∷ y ∷ xs) n) = a-fault
-      go faulty = a-fault
+      go (closed (x ∷ xs) n) = number-small x (suc n)
+      go unclosed = a-fault
+      go (faulty number n) = a-fault
 
   wide-string : WideElement bs (string (drop 1 bs))
   unfolding string isRepeat member
-  wide-string = go (quoted 34 0 (drop 1 bs)) refl
+  wide-string = go (quoted 34 255 0 (drop 1 bs)) refl
     where
-      go : (q : Quoted) → quoted 34 0 (drop 1 bs) ≡ q → WideElement bs (asString q)
+      go : (q : Quoted) → quoted 34 255 0 (drop 1 bs) ≡ q → WideElement bs (asString q)
       go (closed cs n) e =
-          let k : Closed 0 (length (drop 1 bs)) cs n = is-closed 34 0 (drop 1 bs) e in
+          let k : Closed 255 0 (length (drop 1 bs)) cs n = is-closed 34 255 0 (drop 1 bs) e in
           let l : length (drop 1 bs) ≡ length bs - 1 = length-drop 1 bs in
-          either (leb (length cs) 255) (λ h. large {kind = STRING} {value = length cs} {width = suc n} (rw e (omega (arith, k .enough))) (omega (arith, k .enough, k .within))) a-fault
-      go faulty e = a-fault
+          large {kind = STRING} {value = length cs} {width = suc n} (rw e (omega (arith, k .enough))) (omega (arith, k .enough, k .within))
+      go unclosed e = a-fault
+      go (faulty number n) e = a-fault
 
   sign-in : (ws : List Spelled) (cs : List ℕ) → noneAll ws ≡ true → WideElement bs (signIn ws cs)
   unfolding signIn noneAll
@@ -161,7 +162,7 @@ stringBytes (cs ∷ ss) = length cs + 2 + stringBytes ss
 
 module _ (text : List ℕ) where
   abbrev charactersAt : ℕ → List ℕ
-  charactersAt place = charactersOf (quoted 34 0 (drop (suc place) text))
+  charactersAt place = charactersOf (quoted 34 255 0 (drop (suc place) text))
 
   unfoldable covers : List Symbol → ℕ
   covers [] = 0
@@ -182,7 +183,7 @@ module _ (text : List ℕ) where
       let l : needs kind (charactersAt place) ≤ width = rw z at f in
       omega (arith, g (width - 1))
   on-element place b bs (gap width) more q f g = omega (arith, g (width - 1))
-  on-element place b bs (wrong number) more q f g = omega arith
+  on-element place b bs (wrong number offset) more q f g = omega arith
 
   scanned-covers : (over place : ℕ) (bs : List ℕ) → bs ≡ drop place text → covers (scanFrom over place bs .symbols) ≤ length bs - over
   unfolding scanFrom covers

@@ -1,7 +1,8 @@
 -- From bytes to symbols (document 01, "Symbols"; what is open there is read as docs/DECISIONS.md says).
 -- The text is read from left to right. At each place that belongs to no symbol before it stands an element: a symbol, a gap
--- (a separator or a comment), or neither, which is refused 2, 3 or 4 at that place. A symbol is its kind, its value and the
--- place of its first byte. The value of a number or character is that number, of a word its length, of a string the number of
+-- (a separator or a comment), or neither, which is refused: 2 or 3 at that place, 40 to 43 at the byte of a constant that is wrong. A symbol
+-- is its kind, its value and the place of its first byte.
+-- The value of a number or character is that number, of a word its length, of a string the number of
 -- its characters (Strings then puts its position among the strings there), of a sign 0. A name's bytes and a string's characters
 -- are found again from the place.
 use Prim.Native.Nat.{ℕ, zero, suc, _+_, _-_, _*_}
@@ -9,7 +10,7 @@ use mathlib.Core.Bool.{Bool, true, false, cond, _&&_}
 use mathlib.Core.List.{List, [], _∷_}
 use lib.ListN.{length, take, drop}
 use lib.Dec.{eqb, leb, ltb}
-use Rattle.text.specs.Quoted.{Quoted, closed, faulty, quoted}
+use Rattle.text.specs.Quoted.{UNCLOSED, LENGTH, Quoted, closed, unclosed, faulty, quoted}
 use Rattle.language.specs.Bytes.{LETTER, DIGIT, DOT, HASH, QUOTE, DOUBLE, SIGN, SEPARATOR, NEWLINE, classOf}
 use Rattle.language.specs.Kinds.{Spelled, NAME, NUMBER, STRING, reserved, signs}
 
@@ -18,11 +19,12 @@ pub record Symbol : Type 0 where
   pub value : ℕ
   pub place : ℕ
 
--- what stands at the head of some bytes, with the number of bytes that write it; or a refusal's number
+-- what stands at the head of some bytes, with the number of bytes that write it; or a refusal's number, and the number of bytes before the one
+-- that is wrong
 pub data Element : Type 0 where
   symbol : (kind value width : ℕ) → Element
   gap : (width : ℕ) → Element
-  wrong : (number : ℕ) → Element
+  wrong : (number offset : ℕ) → Element
 
 -- whether some bytes begin with a spelling
 unfoldable pub begins : (spelling : List ℕ) → List ℕ → Bool
@@ -66,36 +68,37 @@ valueOf base v (c ∷ r) = elim (digitOf base c) [ true ↦ valueOf base (v * ba
 
 -- decimal 0 to 32767
 unfoldable pub decimal : List ℕ → Element
-decimal bs = cond (leb (valueOf 10 0 bs) 32767) (symbol NUMBER (valueOf 10 0 bs) (digits 10 bs)) (wrong 3)
+decimal bs = cond (leb (valueOf 10 0 bs) 32767) (symbol NUMBER (valueOf 10 0 bs) (digits 10 bs)) (wrong 3 0)
 
 -- # and octal digits, at least one, to #177777; from past the # on
 unfoldable pub octal : List ℕ → Element
 octal bs =
     cond (leb 1 (digits 8 bs) && leb (valueOf 8 0 bs) 65535)
     (symbol NUMBER (valueOf 8 0 bs) (suc (digits 8 bs)))
-    (wrong 3)
+    (wrong 3 0)
 
--- 'c', one character between single quotes; from past the first quote on
+-- 'c', one character between single quotes, not none and at most one; from past the first quote on
 abbrev pub asCharacter : Quoted → Element
-asCharacter (closed [] n) = wrong 4
-asCharacter (closed (c ∷ []) n) = symbol NUMBER c (suc n)
-asCharacter (closed (c ∷ d ∷ cs) n) = wrong 4
-asCharacter faulty = wrong 4
+asCharacter (closed [] n) = wrong LENGTH 0
+asCharacter (closed (c ∷ cs) n) = symbol NUMBER c (suc n)
+asCharacter unclosed = wrong UNCLOSED 0
+asCharacter (faulty number n) = wrong number (suc n)
 
 unfoldable pub character : List ℕ → Element
-character bs = asCharacter (quoted 39 0 bs)
+character bs = asCharacter (quoted 39 1 0 bs)
 
 -- "..", at most 255 characters between double quotes; from past the first quote on
 abbrev pub asString : Quoted → Element
-asString (closed cs n) = cond (leb (length cs) 255) (symbol STRING (length cs) (suc n)) (wrong 4)
-asString faulty = wrong 4
+asString (closed cs n) = symbol STRING (length cs) (suc n)
+asString unclosed = wrong UNCLOSED 0
+asString (faulty number n) = wrong number (suc n)
 
 unfoldable pub string : List ℕ → Element
-string bs = asString (quoted 34 0 bs)
+string bs = asString (quoted 34 255 0 bs)
 
 -- Signs. The longest sign is taken
 unfoldable pub signIn : List Spelled → List ℕ → Element
-signIn [] bs = wrong 2
+signIn [] bs = wrong 2 0
 signIn (s ∷ ss) bs = elim (begins (s .spelling) bs) [ true ↦ symbol (s .kind) 0 (length (s .spelling)) | false ↦ signIn ss bs ]
 
 -- // comments to the line's end: the number of bytes before the newline
@@ -123,7 +126,7 @@ byClass class bs =
     (cond (eqb class SIGN) (signOrComment bs)
     (cond (eqb class SEPARATOR) (gap 1)
     (cond (eqb class NEWLINE) (gap 1)
-    (wrong 2))))))))
+    (wrong 2 0))))))))
 
 -- the symbols of a text up to its first fault, and that fault if there is one
 pub data Fault : Type 0 where
@@ -144,7 +147,7 @@ abbrev pub onElement : (place : ℕ) → Element → (ℕ → Scan) → Scan
 onElement place (symbol kind value width) more =
     goesOn (record { kind = kind; value = value; place = place }) (more (width - 1))
 onElement place (gap width) more = more (width - 1)
-onElement place (wrong number) more = ends (fault number place)
+onElement place (wrong number offset) more = ends (fault number (place + offset))
 
 -- `over` is the number of bytes at the head that belong to the element before them
 unfoldable pub scanFrom : (over place : ℕ) → List ℕ → Scan

@@ -4,7 +4,7 @@ use mathlib.Core.Bool.{cond}
 use mathlib.Core.List.{List, [], _∷_}
 use lib.ListN.{length, getD, set, drop}
 use lib.Dec.{eqb, leb, ltb}
-use Rattle.text.specs.Quoted.{Quoted, closed, faulty, quoted}
+use Rattle.text.specs.Quoted.{charactersOf, quoted}
 use Rattle.text.specs.Packed.{pairs}
 use Rattle.words.specs.Globals.{noGlobals}
 use Rattle.language.specs.Kinds.{STRING}
@@ -46,14 +46,10 @@ onProgram source (S.refused number place) = []
 unfoldable pub functionsIn : List ℕ → List Fun
 functionsIn source = onProgram source (S.parsed source)
 
-abbrev pub charactersOf : Quoted → List ℕ
-charactersOf (closed cs n) = cs
-charactersOf faulty = []
-
 unfoldable pub stringsAmong : List ℕ → List Symbol → List (List ℕ)
 stringsAmong source [] = []
 stringsAmong source (s ∷ ss) =
-    cond (eqb (s .kind) STRING) (charactersOf (quoted 34 0 (drop (suc (s .place)) source)) ∷ stringsAmong source ss) (stringsAmong source ss)
+    cond (eqb (s .kind) STRING) (charactersOf (quoted 34 255 0 (drop (suc (s .place)) source)) ∷ stringsAmong source ss) (stringsAmong source ss)
 
 abbrev pub onSymbols : List ℕ → S.Symbols → List (List ℕ)
 onSymbols source (S.good ss) = stringsAmong source ss

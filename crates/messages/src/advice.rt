@@ -9,6 +9,7 @@ pub fn say_advice(source: &[u8], number: u16, place: usize) {
         6..=10 => on_phrases(number),
         11..=16 => on_places(number),
         20 => on_unreadable(source, place),
+        40..=43 => on_quotes(number),
         _ => on_assembly(number),
     }
 }
@@ -20,7 +21,6 @@ fn on_symbols(number: u16) {
         ),
         2 => on_bytes(),
         3 => on_numbers(),
-        4 => on_quotes(),
         _ => say(
             b"Each ( needs its ) and each $( its $), the inner pair closed before the outer one.\n",
         ),
@@ -41,11 +41,31 @@ fn on_numbers() {
     say(b"#100000 is -32768, and #177777 is -1.\n");
 }
 
-fn on_quotes() {
+fn on_quotes(number: u16) {
+    match number {
+        40 => on_closing(),
+        41 => say(
+            b"After * comes one of N S T B P C * ' \": *N is a newline, and ** is the * itself.\n",
+        ),
+        42 => on_quoted_bytes(),
+        _ => say(
+            b"A character stands alone, as 'A'; a string, as \"TEXT\", has 255 characters at most.\n",
+        ),
+    }
+}
+
+fn on_closing() {
     say(
-        b"Close it on its own line: a character as 'A', just one; a string as \"TEXT\", of 255 characters at most.\n",
+        b"End it with the quote that it begins with. After an asterisk a quote does not close: *' and *\" are\n",
     );
-    say(b"After * comes one of N S T B P C * ' \": *N is a newline, and ** is the * itself.\n");
+    say(b"characters, and the * itself is written **.\n");
+}
+
+fn on_quoted_bytes() {
+    say(
+        b"It may hold the characters from blank to ~ only. Write a tab as *T; leave accents and signs such as the\n",
+    );
+    say(b"degree sign to the comments.\n");
 }
 
 fn on_phrases(number: u16) {

@@ -42,6 +42,7 @@ pub fn say_cause(source: &[u8], number: u16, place: usize) {
         6..=10 => of_phrases(number, at_end),
         11..=16 => of_places(number),
         20 => of_item(source, place),
+        40..=43 => of_quotes(number),
         _ => of_assembly(number),
     }
 }
@@ -51,8 +52,16 @@ fn of_symbols(number: u16, at_end: bool) {
         1 => say(b"the source is longer than 16384 bytes"),
         2 => say(b"no symbol of the language begins with this character"),
         3 => say(b"this number has no digits, or is too large"),
-        4 => say(b"this string or character constant is not well formed"),
         _ => of_bracket(at_end),
+    }
+}
+
+fn of_quotes(number: u16) {
+    match number {
+        40 => say(b"this string or character constant is not closed on its line"),
+        41 => say(b"this asterisk begins no escape"),
+        42 => say(b"a string or character constant may not hold this byte"),
+        _ => say(b"this is one character too many, or a character constant with none"),
     }
 }
 

@@ -73,7 +73,7 @@ module _ (bs : List ℕ) where
     pub of-class : (m : ℕ) → k ≡ m → byClass m bs ≡ byClass (classOf c) bs
     of-class m q = rw (← e, q)
 
-    pub no-class : Unlike k (9 ∷ 8 ∷ 7 ∷ 6 ∷ 5 ∷ 4 ∷ 2 ∷ 1 ∷ []) → wrong 2 ≡ byClass (classOf c) bs
+    pub no-class : Unlike k (9 ∷ 8 ∷ 7 ∷ 6 ∷ 5 ∷ 4 ∷ 2 ∷ 1 ∷ []) → wrong 2 0 ≡ byClass (classOf c) bs
     unfolding byClass
     no-class h =
         rw (

@@ -9,8 +9,8 @@ use lib.ListN.{length, take}
 use borrow.Author.Tests.{ne-eqb, eqb-true, leb-true, ltb-true, lt-ltb}
 use Rattle.text.specs.Line.{newlines}
 use Rattle.text.specs.Quoted as Q
-use Rattle.text.specs.Quoted.{Quoted, closed, faulty, quoted}
-use Rattle.text.proofs.Quotes.{Written, is-written, ascii, Closed, is-closed}
+use Rattle.text.specs.Quoted.{Quoted, closed, unclosed, faulty, quoted}
+use Rattle.text.proofs.Quotes.{Written, is-written, ascii, Closed, is-closed, fault-within}
 use Rattle.language.specs.Bytes.{between, classOf, LETTER, DIGIT, HASH, QUOTE, DOUBLE, SIGN, SEPARATOR, NEWLINE}
 use Rattle.language.specs.Kinds.{Spelled, reserved, signs}
 use Rattle.language.specs.Symbols.{Element, symbol, gap, wrong, begins, inWord, wordWidth, same, kindIn, kindOf, word, digitOf, digits, valueOf, decimal, octal, asCharacter, character, asString, string, signIn, sign, comment, signOrComment, byClass}
@@ -27,7 +27,8 @@ either P false p q = q refl
 abbrev CharacterLine : List ℕ → Q.Character → Type 0
 CharacterLine bs (Q.is v w) = newlines (take w bs) ≡ 0
 CharacterLine bs Q.closing = newlines (take 1 bs) ≡ 0
-CharacterLine bs Q.bad = Unit {0}
+CharacterLine bs Q.ended = Unit {0}
+CharacterLine bs (Q.mistake number) = Unit {0}
 
 record OneLine (bs : List ℕ) (ch : Q.Character) : Type 0 where
   pub line : CharacterLine bs ch
@@ -47,36 +48,48 @@ character-line quote n [] = tt
 character-line quote n (c ∷ r) =
     either (CharacterLine (c ∷ r)) (eqb c quote) (λ e. rw (eqb-true c quote e, n))
     (λ _. either (CharacterLine (c ∷ r)) (eqb c 42) (λ e. rw (eqb-true c 42 e) (escape-line r .line))
+    (λ _. either (CharacterLine (c ∷ r)) (eqb c 10) (λ _. tt)
     (λ _. either (CharacterLine (c ∷ r)) (leb 32 c)
     (λ l. either (CharacterLine (c ∷ r)) (leb c 126) (λ h. rw (ne-eqb c 10 (λ e. omega (arith, leb-true 32 c l)))) (λ _. tt))
-    (λ _. tt)))
+    (λ _. tt))))
 
 -- the newlines of a quotation are those of the bytes passed over first
 abbrev QuotedLine : (k : ℕ) → List ℕ → Quoted → Type 0
 QuotedLine k bs (closed cs n) = newlines (take n bs) ≡ newlines (take k bs)
-QuotedLine k bs faulty = Unit {0}
+QuotedLine k bs unclosed = Unit {0}
+QuotedLine k bs (faulty number n) = Unit {0}
 
 wider-line : (c : ℕ) (r : List ℕ) (k : ℕ) (q : Quoted) → QuotedLine k r q → QuotedLine (suc k) (c ∷ r) (Q.wider q)
 unfolding newlines
 wider-line c r k (closed cs m) h = rw h
-wider-line c r k faulty h = tt
+wider-line c r k unclosed h = tt
+wider-line c r k (faulty number n) h = tt
 
 after-line : (v w c : ℕ) (r : List ℕ) (q : Quoted) → newlines (take (suc w) (c ∷ r)) ≡ 0 → QuotedLine w r q → QuotedLine 0 (c ∷ r) (Q.after v q)
 unfolding newlines
 after-line v w c r (closed cs m) h k = rw k h
-after-line v w c r faulty h k = tt
+after-line v w c r unclosed h k = tt
+after-line v w c r (faulty number n) h k = tt
 
-quoted-line : (quote : ℕ) → eqb quote 10 ≡ false → (k : ℕ) (bs : List ℕ) → QuotedLine k bs (quoted quote k bs)
+fault-line : (number k : ℕ) (bs : List ℕ) (q : Quoted) → QuotedLine k bs (Q.faultBefore number q)
+fault-line number k bs (closed cs m) = tt
+fault-line number k bs unclosed = tt
+fault-line number k bs (faulty j n) = tt
+
+quoted-line : (quote : ℕ) → eqb quote 10 ≡ false → (room k : ℕ) (bs : List ℕ) → QuotedLine k bs (quoted quote room k bs)
 unfolding quoted newlines
-quoted-line quote n k [] = tt
-quoted-line quote n (suc k) (c ∷ r) = wider-line c r k (quoted quote k r) (quoted-line quote n k r)
-quoted-line quote n zero (c ∷ r) = by (Q.character quote (c ∷ r)) refl (character-line quote n (c ∷ r)) (λ k. quoted-line quote n k r)
+quoted-line quote n room k [] = tt
+quoted-line quote n room (suc k) (c ∷ r) = wider-line c r k (quoted quote room k r) (quoted-line quote n room k r)
+quoted-line quote n room zero (c ∷ r) = by (Q.character quote (c ∷ r)) room refl (character-line quote n (c ∷ r)) (λ a k. quoted-line quote n a k r)
   where
-    by : (ch : Q.Character) → Q.character quote (c ∷ r) ≡ ch → CharacterLine (c ∷ r) ch → ((k : ℕ) → QuotedLine k r (quoted quote k r)) → QuotedLine 0 (c ∷ r) (Q.onCharacter ch (λ k. quoted quote k r))
-    by (Q.is v zero) e h more = absurd (let w : Written (suc (length r)) v zero = is-written quote (c ∷ r) e in omega arith)
-    by (Q.is v (suc w)) e h more = let z : suc w - 1 ≡ w = omega arith in rw z (after-line v w c r (quoted quote w r) h (more w))
-    by Q.closing e h more = h
-    by Q.bad e h more = tt
+    by : (ch : Q.Character) (room : ℕ) → Q.character quote (c ∷ r) ≡ ch → CharacterLine (c ∷ r) ch → ((a k : ℕ)
+        → QuotedLine k r (quoted quote a k r)) → QuotedLine 0 (c ∷ r) (Q.onCharacter ch room (λ a k. quoted quote a k r))
+    by (Q.is v zero) room e h more = absurd (let w : Written (suc (length r)) v zero = is-written quote (c ∷ r) e in omega arith)
+    by (Q.is v (suc w)) (suc a) e h more = let z : suc w - 1 ≡ w = omega arith in rw z (after-line v w c r (quoted quote a w r) h (more a w))
+    by (Q.is v (suc w)) zero e h more = fault-line 43 0 (c ∷ r) (quoted quote 0 (suc w - 1) r)
+    by Q.closing room e h more = h
+    by Q.ended room e h more = tt
+    by (Q.mistake number) room e h more = fault-line number 0 (c ∷ r) (quoted quote room 0 r)
 
 -- ---- what stands at a place
 
@@ -89,7 +102,7 @@ pub record Stood (bs : List ℕ) (lines width : ℕ) : Type 0 where
 abbrev pub Given : List ℕ → (lines : ℕ) → Element → Type 0
 Given bs lines (symbol k v w) = Stood bs 0 w × (k < 62) × (v ≤ 65535 + w)
 Given bs lines (gap w) = Stood bs lines w
-Given bs lines (wrong n) = Unit {0}
+Given bs lines (wrong n k) = k < length bs
 
 both-left : (a b : Bool) → (a && b) ≡ true → a ≡ true
 both-left true b e = refl
@@ -124,10 +137,11 @@ begins-within (s ∷ ss) (b ∷ bs) e =
     let h : (length ss ≤ length bs) × (newlines (take (length ss) bs) ≡ newlines ss) = begins-within ss bs (both-right (eqb s b) (begins ss bs) e) in
     (omega (arith, h .0), rw (k, h .1))
 
-sign-given : (ss : List Spelled) (bs : List ℕ) (lines : ℕ) → every onOneLine (record { spelling = []; kind = 0 }) ss ≡ true → Given bs lines (signIn ss bs)
+sign-given : (ss : List Spelled) (bs : List ℕ) (lines : ℕ) → 0 < length bs → every onOneLine (record { spelling = []; kind = 0 }) ss ≡ true
+    → Given bs lines (signIn ss bs)
 unfolding signIn
-sign-given [] bs lines t = tt
-sign-given (s ∷ ss) bs lines t = by (begins (s .spelling) bs) refl (both-left (onOneLine s) _ t) (sign-given ss bs lines (both-right (onOneLine s) _ t))
+sign-given [] bs lines l t = l
+sign-given (s ∷ ss) bs lines l t = by (begins (s .spelling) bs) refl (both-left (onOneLine s) _ t) (sign-given ss bs lines l (both-right (onOneLine s) _ t))
   where
     by : (b : Bool) → begins (s .spelling) bs ≡ b → onOneLine s ≡ true → Given bs lines (signIn ss bs)
         → Given bs lines (elim b [ true ↦ symbol (s .kind) 0 (length (s .spelling)) | false ↦ signIn ss bs ])
@@ -231,7 +245,7 @@ module _ (c : ℕ) (r : List ℕ) (lines : ℕ) where
   decimal-given e =
       either (Given (c ∷ r) lines) (leb (valueOf 10 0 (c ∷ r)) 32767)
       (λ h. (run-stood (digits-run 10) c r (digit-class c e) refl, omega arith, omega (arith, leb-true (valueOf 10 0 (c ∷ r)) 32767 h)))
-      (λ _. tt)
+      (λ _. omega arith)
 
   module _ (n : c ≡ 10 → ⊥) where
     octal-given : Given (c ∷ r) lines (octal r)
@@ -243,28 +257,30 @@ module _ (c : ℕ) (r : List ℕ) (lines : ℕ) where
           omega arith,
           omega (arith, leb-true (valueOf 8 0 r) 65535 (both-right (leb 1 (digits 8 r)) _ h)),
         ))
-        (λ _. tt)
+        (λ _. omega arith)
 
     character-given : Given (c ∷ r) lines (character r)
     unfolding character newlines
-    character-given = by (quoted 39 0 r) (λ cs w e. is-closed 39 0 r e) (quoted-line 39 refl 0 r)
+    character-given = by (quoted 39 1 0 r) refl (quoted-line 39 refl 1 0 r)
       where
-        by : (q : Quoted) → ((cs : List ℕ) (w : ℕ) → q ≡ closed cs w → Closed 0 (length r) cs w) → QuotedLine 0 r q → Given (c ∷ r) lines (asCharacter q)
-        by (closed [] w) h k = tt
-        by (closed (v ∷ []) w) h k = let d : Closed 0 (length r) (v ∷ []) w = h (v ∷ []) w refl in (past-stood c r n (d .within) k, omega arith, omega (arith, ascii (v ∷ []) (d .each) 0))
-        by (closed (v ∷ u ∷ cs) w) h k = tt
-        by faulty h k = tt
+        by : (q : Quoted) → quoted 39 1 0 r ≡ q → QuotedLine 0 r q → Given (c ∷ r) lines (asCharacter q)
+        by (closed [] w) e k = omega arith
+        by (closed (v ∷ vs) w) e k =
+            let d : Closed 1 0 (length r) (v ∷ vs) w = is-closed 39 1 0 r e in
+            (past-stood c r n (d .within) k, omega arith, omega (arith, ascii (v ∷ vs) (d .each) 0))
+        by unclosed e k = omega arith
+        by (faulty number w) e k = omega (arith, fault-within 39 1 0 r e)
 
     string-given : Given (c ∷ r) lines (string r)
     unfolding string newlines
-    string-given = by (quoted 34 0 r) (λ cs w e. is-closed 34 0 r e) (quoted-line 34 refl 0 r)
+    string-given = by (quoted 34 255 0 r) refl (quoted-line 34 refl 255 0 r)
       where
-        by : (q : Quoted) → ((cs : List ℕ) (w : ℕ) → q ≡ closed cs w → Closed 0 (length r) cs w) → QuotedLine 0 r q → Given (c ∷ r) lines (asString q)
-        by (closed cs w) h k =
-            either (Given (c ∷ r) lines) (leb (length cs) 255)
-            (λ l. (past-stood c r n (h cs w refl .within) k, omega arith, omega (arith, leb-true (length cs) 255 l)))
-            (λ _. tt)
-        by faulty h k = tt
+        by : (q : Quoted) → quoted 34 255 0 r ≡ q → QuotedLine 0 r q → Given (c ∷ r) lines (asString q)
+        by (closed cs w) e k =
+            let d : Closed 255 0 (length r) cs w = is-closed 34 255 0 r e in
+            (past-stood c r n (d .within) k, omega arith, omega (arith, d .short))
+        by unclosed e k = omega arith
+        by (faulty number w) e k = omega (arith, fault-within 34 255 0 r e)
 
 module _ (c : ℕ) (r : List ℕ) where
   abbrev here : ℕ
@@ -285,7 +301,7 @@ module _ (c : ℕ) (r : List ℕ) where
   unfolding signOrComment sign signs newlines
   sign-or-comment-given =
       either (Given (c ∷ r) here) (begins (47 ∷ 47 ∷ []) (c ∷ r)) comment-given
-      (λ _. sign-given signs (c ∷ r) here refl)
+      (λ _. sign-given signs (c ∷ r) here (omega arith) refl)
 
   pub element-given : Given (c ∷ r) here (byClass (classOf c) (c ∷ r))
   unfolding byClass
@@ -297,4 +313,4 @@ module _ (c : ℕ) (r : List ℕ) where
       (λ _. either (Given (c ∷ r) here) (eqb (classOf c) DOUBLE) (λ e. string-given c r here (other-class c 6 (eqb-true _ _ e) (λ k. omega arith)))
       (λ _. either (Given (c ∷ r) here) (eqb (classOf c) SIGN) (λ _. sign-or-comment-given)
       (λ _. either (Given (c ∷ r) here) (eqb (classOf c) SEPARATOR) (λ _. one-given)
-      (λ _. either (Given (c ∷ r) here) (eqb (classOf c) NEWLINE) (λ _. one-given) (λ _. tt))))))))
+      (λ _. either (Given (c ∷ r) here) (eqb (classOf c) NEWLINE) (λ _. one-given) (λ _. omega arith))))))))

@@ -122,12 +122,12 @@ module _ (bs : List ℕ) where
     unfolding decimal asElement
     a-decimal d h = let k : valueOf 10 0 bs ≡ v = uncapped _ e (omega arith) in rw (k, le-leb v 32767 h, ← d)
 
-    pub no-decimal : 32767 < v → E.Wrong 3 ≡ asElement (decimal bs)
+    pub no-decimal : 32767 < v → E.Wrong 3 0 ≡ asElement (decimal bs)
     unfolding decimal asElement
     no-decimal h = let k : 32767 < valueOf 10 0 bs = ⊎-elim (λ l. omega (arith, uncapped _ e l)) (λ l. omega (arith, uncapped-high _ e l)) (either-side v) in rw (lt-leb _ 32767 k)
 
   module _ {n : ℕ} (d : n ≡ digits 8 bs) where
-    pub no-digits : n < 1 → E.Wrong 3 ≡ asElement (octal bs)
+    pub no-digits : n < 1 → E.Wrong 3 0 ≡ asElement (octal bs)
     unfolding octal asElement
     no-digits h = rw (← d, lt-leb 1 n h)
 
@@ -139,6 +139,6 @@ module _ (bs : List ℕ) where
           let s : n + 1 ≡ suc n = omega arith in
           rw (k, ← d, le-leb 1 n m, le-leb v 65535 h, s)
 
-      pub no-octal : 65535 < v → E.Wrong 3 ≡ asElement (octal bs)
+      pub no-octal : 65535 < v → E.Wrong 3 0 ≡ asElement (octal bs)
       unfolding octal asElement
       no-octal h = let k : 65535 < valueOf 8 0 bs = omega (arith, uncapped-high _ e (omega arith)) in rw (← d, le-leb 1 n m, lt-leb _ 65535 k)

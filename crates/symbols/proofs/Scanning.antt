@@ -27,19 +27,19 @@ pub when-symbol : (e : Element) {r : C.Element} {k v w : ℕ} → r ≡ asElemen
 unfolding asElement
 when-symbol (symbol a b c) p q = cc
 when-symbol (gap a) p q = absurd (let z : _≡_ {A = ℕ} 0 1 = cc in omega arith)
-when-symbol (wrong a) p q = absurd (let z : _≡_ {A = ℕ} 0 1 = cc in omega arith)
+when-symbol (wrong a b) p q = absurd (let z : _≡_ {A = ℕ} 0 1 = cc in omega arith)
 
 pub when-gap : (e : Element) {r : C.Element} {w : ℕ} → r ≡ asElement e → r ≡ E.Gap w → e ≡ gap w
 unfolding asElement
 when-gap (symbol a b c) p q = absurd (let z : _≡_ {A = ℕ} 0 1 = cc in omega arith)
 when-gap (gap a) p q = cc
-when-gap (wrong a) p q = absurd (let z : _≡_ {A = ℕ} 0 1 = cc in omega arith)
+when-gap (wrong a b) p q = absurd (let z : _≡_ {A = ℕ} 0 1 = cc in omega arith)
 
-pub when-wrong : (e : Element) {r : C.Element} {n : ℕ} → r ≡ asElement e → r ≡ E.Wrong n → e ≡ wrong n
+pub when-wrong : (e : Element) {r : C.Element} {n k : ℕ} → r ≡ asElement e → r ≡ E.Wrong n k → e ≡ wrong n k
 unfolding asElement
 when-wrong (symbol a b c) p q = absurd (let z : _≡_ {A = ℕ} 0 1 = cc in omega arith)
 when-wrong (gap a) p q = absurd (let z : _≡_ {A = ℕ} 0 1 = cc in omega arith)
-when-wrong (wrong a) p q = cc
+when-wrong (wrong a b) p q = cc
 
 -- ---- lines
 
@@ -117,8 +117,12 @@ module _ (text : List ℕ) (i : ℕ) where
       pub scan-gap : scanAt text i ≡ scanAt text (i + w)
       scan-gap = scan-here ∙ rw e (scan-rest w (gap-given .some))
 
-    pub scan-wrong : {n : ℕ} → elementAt text i ≡ wrong n → scanAt text i ≡ ends (fault n i)
-    scan-wrong e = scan-here ∙ rw e
+    module _ {n k : ℕ} (e : elementAt text i ≡ wrong n k) where
+      pub scan-wrong : scanAt text i ≡ ends (fault n (i + k))
+      scan-wrong = scan-here ∙ rw e
+
+      pub wrong-inside : i + k < length text
+      wrong-inside = let g : k < length (drop i text) = rw e at given-here in omega (arith, length-drop i text)
 
 -- ---- the search for the next symbol, from a place on
 
@@ -137,7 +141,7 @@ module _ (text : List ℕ) (at i : ℕ) {newline : Bool} (s : Seeking text at i 
   seek-end h = record { scans = s .scans ∙ scan-end text i h; found = tt }
 
   module _ (h : i < length text) where
-    pub seek-wrong : {n : ℕ} → elementAt text i ≡ wrong n → Finds text at (N.Wrong n i)
+    pub seek-wrong : {n k : ℕ} → elementAt text i ≡ wrong n k → Finds text at (N.Wrong n (i + k))
     unfolding scanBy IfOne
     seek-wrong e = record { scans = s .scans ∙ scan-wrong text i h e; found = tt }
 

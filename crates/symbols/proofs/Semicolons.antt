@@ -109,7 +109,7 @@ few-more text fuel ih at before from strings h k l = go (ltb at (length text)) r
     by i (gap w) e =
         let g : Stood (drop at text) _ w = gap-given text at i e in
         rw (scan-gap text at i e) (ih (at + w) before from strings (omega (arith, g .some)) (omega arith) (omega (arith, g .within, length-drop at text)))
-    by i (wrong n) e = few-ended text before from strings (scanAt text at) (scan-wrong text at i e)
+    by i (wrong n k) e = few-ended text before from strings (scanAt text at) (scan-wrong text at i e)
 
     go : (t : Bool) → ltb at (length text) ≡ t → length (following text before from strings (scanAt text at .symbols)) ≤ length text - from
     go true e = by (ltb-true at (length text) e) (elementAt text at) refl

@@ -122,7 +122,7 @@ module _ (bs : List ℕ) where
   unfolding sign spelled byLetter reserved
   sign-start = refl
 
-  pub sign-end : (row : ℕ) → 59 ≤ row → signIn (drop row spelled) bs ≡ wrong 2
+  pub sign-end : (row : ℕ) → 59 ≤ row → signIn (drop row spelled) bs ≡ wrong 2 0
   unfolding signIn
   sign-end row h = let k : length spelled ≤ row = omega (arith, all-rows) in rw (drop-of-length-le spelled k)
 

@@ -6,4 +6,4 @@ use Rattle.symbols.specs.declared.elements.Element.the-variants as E
 unfoldable pub asElement : S.Element → Element
 asElement (S.symbol kind value width) = E.Symbol kind value width
 asElement (S.gap width) = E.Gap width
-asElement (S.wrong number) = E.Wrong number
+asElement (S.wrong number offset) = E.Wrong number offset

@@ -2,22 +2,22 @@
 use crate::kinds::NUMBER;
 use crate::kinds::STRING;
 use crate::spellings;
-use text::Character;
+use text::Quoted;
 ghost use Prim.Native.Nat.{_+_, _-_, _*_, _<_, _≤_};
 ghost use mathlib.Core.Path.{_≡_};
 ghost use lib.ListN.{length, getD, drop};
-ghost use Rattle.text.specs.Quoted.{quoted};
 ghost use Rattle.language.specs.Bytes.{classOf};
 ghost use Rattle.language.specs.Symbols.{inWord, wordWidth, word, digitOf, digits, valueOf, decimal, octal, character, string, toLineEnd, comment, signOrComment, byClass};
 ghost use Rattle.symbols.specs.Answers.{asElement};
 ghost use Rattle.symbols.specs.Parts.{capped, slashes, Classes};
 ghost use Rattle.symbols.specs.Spellings.{Rows};
 
-// A symbol's kind, its value and the number of bytes that write it; the bytes of a gap; or a refusal's number.
+// A symbol's kind, its value and the number of bytes that write it; the bytes of a gap; or a refusal's number, and the number of bytes before the
+// one that is wrong.
 pub(crate) enum Element {
     Symbol(usize, usize, usize),
     Gap(usize),
-    Wrong(u16),
+    Wrong(u16, usize),
 }
 
 // How many digits stand at a place, and their value; 65,536 stands for all that are larger.
@@ -161,7 +161,7 @@ fn decimal_at(text: &[u8], at: usize) -> Element
     if number.value <= 32767 {
         return Element::Symbol(NUMBER, number.value, number.count);
     }
-    Element::Wrong(3)
+    Element::Wrong(3, 0)
 }
 
 // What follows #.
@@ -170,58 +170,41 @@ fn octal_at(text: &[u8], at: usize) -> Element
 {
     let number = digits_at(text, at, 8);
     if number.count < 1 {
-        return Element::Wrong(3);
+        return Element::Wrong(3, 0);
     }
     if number.value <= 65535 {
         return Element::Symbol(NUMBER, number.value, number.count + 1);
     }
-    Element::Wrong(3)
+    Element::Wrong(3, 0)
 }
 
 // What follows a single quote.
 fn character_at(text: &[u8], at: usize) -> Element
-    requires { ⌜ at ≤ length (now text) ⌝ }
     ensures { λ r. ⌜ r ≡ asElement (character (drop at (now (text .entry)))) ⌝ }
 {
-    let first = text::character_at(text, at, b'\'');
-    match first {
-        Character::Is(value, width) => {
-            let second = text::character_at(text, at + width, b'\'');
-            match second {
-                Character::Closing => Element::Symbol(NUMBER, wide(value), width + 2),
-                Character::Is(_, _) => Element::Wrong(4),
-                Character::Bad => Element::Wrong(4),
+    let constant = text::quoted_at(text, at, b'\'', 1);
+    match constant {
+        Quoted::Closed(n, width) => {
+            if n == 0 {
+                return Element::Wrong(43, 0);
             }
+            let value = text::value_at(text, at, b'\'');
+            Element::Symbol(NUMBER, wide(value), width + 1)
         }
-        Character::Closing => Element::Wrong(4),
-        Character::Bad => Element::Wrong(4),
+        Quoted::Unclosed => Element::Wrong(40, 0),
+        Quoted::Faulty(number, offset) => Element::Wrong(number, offset + 1),
     }
 }
 
 // What follows a double quote.
 fn string_at(text: &[u8], at: usize) -> Element
-    requires { ⌜ at ≤ length (now text) ⌝ }
     ensures { λ r. ⌜ r ≡ asElement (string (drop at (now (text .entry)))) ⌝ }
 {
-    let mut n: usize = 0;
-    let mut i = at;
-    loop {
-        let c = text::character_at(text, i, b'"');
-        match c {
-            Character::Is(_, width) => {
-                n += 1;
-                i += width;
-            }
-            Character::Closing => {
-                if n <= 255 {
-                    return Element::Symbol(STRING, n, i - at + 2);
-                }
-                return Element::Wrong(4);
-            }
-            Character::Bad => {
-                return Element::Wrong(4);
-            }
-        }
+    let constant = text::quoted_at(text, at, b'"', 255);
+    match constant {
+        Quoted::Closed(n, width) => Element::Symbol(STRING, n, width + 1),
+        Quoted::Unclosed => Element::Wrong(40, 0),
+        Quoted::Faulty(number, offset) => Element::Wrong(number, offset + 1),
     }
 }
 
@@ -277,6 +260,6 @@ pub(crate) fn element_at(classes: &[u8; 256], table: &[u8; 767], text: &[u8], at
         SIGN => sign_or_comment(table, text, at),
         SEPARATOR => Element::Gap(1),
         NEWLINE => Element::Gap(1),
-        _ => Element::Wrong(2),
+        _ => Element::Wrong(2, 0),
     }
 }

@@ -113,8 +113,8 @@ fn next_symbol(classes: &[u8; 256], table: &[u8; 767], text: &[u8], at: usize) -
                     newline: newline,
                 };
             }
-            Element::Wrong(number) => {
-                return Next::Wrong(number, i);
+            Element::Wrong(number, offset) => {
+                return Next::Wrong(number, i + offset);
             }
             Element::Gap(width) => {
                 newline = or_newline(newline, text[i]);

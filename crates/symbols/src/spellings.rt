@@ -211,5 +211,5 @@ pub(crate) fn sign_at(table: &[u8; 767], text: &[u8], at: usize) -> Element
         }
         row += 1;
     }
-    Element::Wrong(2)
+    Element::Wrong(2, 0)
 }

@@ -1,26 +1,64 @@
--- From the code's answer back to the value that it stands for.
+-- From the code's answers back to the values that they stand for.
 use Prim.Native.Nat.{ℕ}
 use mathlib.Core.Path.{_≡_}
+use mathlib.Core.List.{List}
 use native.Mathlib.Omega.{arith}
-use Rattle.text.specs.Answers.{asCharacter}
+use lib.ListN.{length}
+use Rattle.text.specs.Answers.{asCharacter, asQuoted}
 use Rattle.text.specs.declared.Character.{Character}
-use Rattle.text.specs.declared.Character.the-variants.{Is, Closing, Bad}
+use Rattle.text.specs.declared.Character.the-variants.{Is, Closing, Ended, Mistake}
+use Rattle.text.specs.declared.Quoted.{Quoted}
+use Rattle.text.specs.declared.Quoted.the-variants.{Closed, Unclosed, Faulty}
 use Rattle.text.specs.Quoted as Q
 
 pub when-is : (ch : Q.Character) {r : Character} {v w : ℕ} → r ≡ asCharacter ch → r ≡ Is v w → ch ≡ Q.is v w
 unfolding asCharacter
 when-is (Q.is a b) p q = cc
 when-is Q.closing p q = absurd (let z : _≡_ {A = ℕ} 0 1 = cc in omega arith)
-when-is Q.bad p q = absurd (let z : _≡_ {A = ℕ} 0 1 = cc in omega arith)
+when-is Q.ended p q = absurd (let z : _≡_ {A = ℕ} 0 1 = cc in omega arith)
+when-is (Q.mistake number) p q = absurd (let z : _≡_ {A = ℕ} 0 1 = cc in omega arith)
 
 pub when-closing : (ch : Q.Character) {r : Character} → r ≡ asCharacter ch → r ≡ Closing → ch ≡ Q.closing
 unfolding asCharacter
 when-closing (Q.is a b) p q = absurd (let z : _≡_ {A = ℕ} 0 1 = cc in omega arith)
 when-closing Q.closing p q = cc
-when-closing Q.bad p q = absurd (let z : _≡_ {A = ℕ} 0 1 = cc in omega arith)
+when-closing Q.ended p q = absurd (let z : _≡_ {A = ℕ} 0 1 = cc in omega arith)
+when-closing (Q.mistake number) p q = absurd (let z : _≡_ {A = ℕ} 0 1 = cc in omega arith)
 
-pub when-bad : (ch : Q.Character) {r : Character} → r ≡ asCharacter ch → r ≡ Bad → ch ≡ Q.bad
+pub when-ended : (ch : Q.Character) {r : Character} → r ≡ asCharacter ch → r ≡ Ended → ch ≡ Q.ended
 unfolding asCharacter
-when-bad (Q.is a b) p q = absurd (let z : _≡_ {A = ℕ} 0 1 = cc in omega arith)
-when-bad Q.closing p q = absurd (let z : _≡_ {A = ℕ} 0 1 = cc in omega arith)
-when-bad Q.bad p q = cc
+when-ended (Q.is a b) p q = absurd (let z : _≡_ {A = ℕ} 0 1 = cc in omega arith)
+when-ended Q.closing p q = absurd (let z : _≡_ {A = ℕ} 0 1 = cc in omega arith)
+when-ended Q.ended p q = cc
+when-ended (Q.mistake number) p q = absurd (let z : _≡_ {A = ℕ} 0 1 = cc in omega arith)
+
+pub when-mistake : (ch : Q.Character) {r : Character} {number : ℕ} → r ≡ asCharacter ch → r ≡ Mistake number → ch ≡ Q.mistake number
+unfolding asCharacter
+when-mistake (Q.is a b) p q = absurd (let z : _≡_ {A = ℕ} 0 1 = cc in omega arith)
+when-mistake Q.closing p q = absurd (let z : _≡_ {A = ℕ} 0 1 = cc in omega arith)
+when-mistake Q.ended p q = absurd (let z : _≡_ {A = ℕ} 0 1 = cc in omega arith)
+when-mistake (Q.mistake number) p q = cc
+
+-- of a constant that is closed, its characters
+pub record Counted (q : Q.Quoted) (n width : ℕ) : Type 0 where
+  pub characters : List ℕ
+  pub is : q ≡ Q.closed characters width
+  pub count : n ≡ length characters
+
+pub when-closed : (q : Q.Quoted) {r : Quoted} {n w : ℕ} → r ≡ asQuoted q → r ≡ Closed n w → Counted q n w
+unfolding asQuoted
+when-closed (Q.closed cs m) p e = record { characters = cs; is = cc; count = cc }
+when-closed Q.unclosed p e = absurd (let z : _≡_ {A = ℕ} 0 1 = cc in omega arith)
+when-closed (Q.faulty k m) p e = absurd (let z : _≡_ {A = ℕ} 0 1 = cc in omega arith)
+
+pub when-unclosed : (q : Q.Quoted) {r : Quoted} → r ≡ asQuoted q → r ≡ Unclosed → q ≡ Q.unclosed
+unfolding asQuoted
+when-unclosed (Q.closed cs m) p e = absurd (let z : _≡_ {A = ℕ} 0 1 = cc in omega arith)
+when-unclosed Q.unclosed p e = cc
+when-unclosed (Q.faulty k m) p e = absurd (let z : _≡_ {A = ℕ} 0 1 = cc in omega arith)
+
+pub when-faulty : (q : Q.Quoted) {r : Quoted} {number offset : ℕ} → r ≡ asQuoted q → r ≡ Faulty number offset → q ≡ Q.faulty number offset
+unfolding asQuoted
+when-faulty (Q.closed cs m) p e = absurd (let z : _≡_ {A = ℕ} 0 1 = cc in omega arith)
+when-faulty Q.unclosed p e = absurd (let z : _≡_ {A = ℕ} 0 1 = cc in omega arith)
+when-faulty (Q.faulty k m) p e = cc

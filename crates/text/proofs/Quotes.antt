@@ -9,7 +9,9 @@ use lib.Dec.{eqb, leb}
 use borrow.Author.Tests.{eq-eqb, ne-eqb, le-leb, lt-leb, leb-true, leb-false}
 use Rattle.text.proofs.Bytes.{Unlike}
 use Rattle.text.specs.Values.{writable}
-use Rattle.text.specs.Quoted.{Character, is, closing, bad, escape, character, Quoted, closed, faulty, wider, after, onCharacter, quoted}
+use Rattle.text.specs.Quoted.{Character, is, closing, ended, mistake, escape, character}
+use Rattle.text.specs.Quoted.{Quoted, closed, unclosed, faulty, wider, after, faultBefore, onCharacter, quoted}
+use Rattle.text.specs.Parts.{valueOf, isClosed, widened}
 
 -- ---- the character at the head, by the head
 
@@ -24,21 +26,25 @@ module _ (quote c : ℕ) (r : List ℕ) where
     at-asterisk e = rw (ne-eqb c quote other, eq-eqb c 42 e)
 
     module _ (no-escape : c ≡ 42 → ⊥) where
-      pub at-control : c < 32 → character quote (c ∷ r) ≡ bad
+      pub at-newline : c ≡ 10 → character quote (c ∷ r) ≡ ended
       unfolding character
-      at-control h = rw (ne-eqb c quote other, ne-eqb c 42 no-escape, lt-leb 32 c h)
+      at-newline e = rw (ne-eqb c quote other, ne-eqb c 42 no-escape, eq-eqb c 10 e)
 
-      pub at-high : 126 < c → character quote (c ∷ r) ≡ bad
+      pub at-control : (c ≡ 10 → ⊥) → c < 32 → character quote (c ∷ r) ≡ mistake 42
+      unfolding character
+      at-control n h = rw (ne-eqb c quote other, ne-eqb c 42 no-escape, ne-eqb c 10 n, lt-leb 32 c h)
+
+      pub at-high : 126 < c → character quote (c ∷ r) ≡ mistake 42
       unfolding character
       at-high h =
           let k : 32 ≤ c = omega arith in
-          rw (ne-eqb c quote other, ne-eqb c 42 no-escape, le-leb 32 c k, lt-leb c 126 h)
+          rw (ne-eqb c quote other, ne-eqb c 42 no-escape, ne-eqb c 10 (λ n. omega arith), le-leb 32 c k, lt-leb c 126 h)
 
       pub at-plain : 32 ≤ c → c ≤ 126 → character quote (c ∷ r) ≡ is c 1
       unfolding character
-      at-plain l h = rw (ne-eqb c quote other, ne-eqb c 42 no-escape, le-leb 32 c l, le-leb c 126 h)
+      at-plain l h = rw (ne-eqb c quote other, ne-eqb c 42 no-escape, ne-eqb c 10 (λ n. omega arith), le-leb 32 c l, le-leb c 126 h)
 
-pub no-escape : (c : ℕ) (r : List ℕ) → Unlike c (34 ∷ 39 ∷ 42 ∷ 67 ∷ 80 ∷ 66 ∷ 84 ∷ 83 ∷ 78 ∷ []) → escape (c ∷ r) ≡ bad
+pub no-escape : (c : ℕ) (r : List ℕ) → Unlike c (34 ∷ 39 ∷ 42 ∷ 67 ∷ 80 ∷ 66 ∷ 84 ∷ 83 ∷ 78 ∷ []) → escape (c ∷ r) ≡ mistake 41
 unfolding escape
 no-escape c r h =
     rw (
@@ -82,7 +88,8 @@ ascii (c ∷ cs) w (suc k) = ascii cs (w .1) k
 abbrev pub IfIs : ℕ → Character → Type 0
 IfIs n (is v w) = Written n v w
 IfIs n closing = Unit {0}
-IfIs n bad = Unit {0}
+IfIs n ended = Unit {0}
+IfIs n (mistake number) = Unit {0}
 
 -- of each character that n bytes may begin with
 record Fits (n : ℕ) (ch : Character) : Type 0 where
@@ -107,9 +114,10 @@ character-written quote [] = record { fits = tt }
 character-written quote (c ∷ r) =
     either (eqb c quote) (λ _. record { fits = tt })
     (either (eqb c 42) (λ _. escape-written r)
+    (either (eqb c 10) (λ _. record { fits = tt })
     (either (leb 32 c)
     (λ l. either (leb c 126) (λ h. record { fits = record { some = omega arith; within = omega arith; one = rw (l, h) } }) (record { fits = tt }))
-    (record { fits = tt })))
+    (record { fits = tt }))))
 
 pub is-written : (quote : ℕ) (bytes : List ℕ) {v w : ℕ} → character quote bytes ≡ is v w → Written (length bytes) v w
 is-written quote bytes e = (rw e at (character-written quote bytes)) .fits
@@ -122,94 +130,240 @@ module _ (quote : ℕ) (text : List ℕ) (at : ℕ) where
       let l : length (drop at text) ≡ length text - at = length-drop at text in
       (h .some, omega arith)
 
-  pub closing-inside : character quote (drop at text) ≡ closing → at < length text
+  some-inside : (character quote (drop at text) ≡ ended → ⊥) → at < length text
   unfolding character
-  closing-inside e = by (drop at text) e (length-drop at text)
+  some-inside other = by (drop at text) other (length-drop at text)
     where
-      by : (bytes : List ℕ) → character quote bytes ≡ closing → length bytes ≡ length text - at → at < length text
-      by [] k l = absurd (let z : _≡_ {A = ℕ} 0 1 = cc in omega arith)
+      by : (bytes : List ℕ) → (character quote bytes ≡ ended → ⊥) → length bytes ≡ length text - at → at < length text
+      by [] k l = absurd (k refl)
       by (c ∷ r) k l = omega arith
 
--- ---- the characters up to the closing quote
+  pub closing-inside : character quote (drop at text) ≡ closing → at < length text
+  closing-inside e = some-inside (λ k. let z : _≡_ {A = ℕ} 0 1 = cc in absurd (omega arith))
 
--- k bytes passed over first
-abbrev pub widened : ℕ → Quoted → Quoted
-widened k (closed cs n) = closed cs (k + n)
-widened k faulty = faulty
+  pub mistake-inside : {number : ℕ} → character quote (drop at text) ≡ mistake number → at < length text
+  mistake-inside e = some-inside (λ k. let z : _≡_ {A = ℕ} 0 1 = cc in absurd (omega arith))
 
--- a character v of w bytes before them
+-- ---- a constant by the character at its head
+
+-- a character v of w bytes before it
 abbrev pub onward : (v w : ℕ) → Quoted → Quoted
 onward v w (closed cs n) = closed (v ∷ cs) (w + n)
-onward v w faulty = faulty
+onward v w unclosed = unclosed
+onward v w (faulty number n) = faulty number (w + n)
 
 widened-zero : (q : Quoted) → widened 0 q ≡ q
 widened-zero (closed cs n) = ap (closed cs) (omega arith)
-widened-zero faulty = refl
+widened-zero unclosed = refl
+widened-zero (faulty number n) = ap (faulty number) (omega arith)
 
 widened-suc : (k : ℕ) (q : Quoted) → wider (widened k q) ≡ widened (suc k) q
 widened-suc k (closed cs n) = ap (closed cs) (omega arith)
-widened-suc k faulty = refl
+widened-suc k unclosed = refl
+widened-suc k (faulty number n) = ap (faulty number) (omega arith)
 
 after-widened : (v w : ℕ) (q : Quoted) → after v (widened w q) ≡ onward v (suc w) q
 after-widened v w (closed cs n) = ap (closed (v ∷ cs)) (omega arith)
-after-widened v w faulty = refl
+after-widened v w unclosed = refl
+after-widened v w (faulty number n) = ap (faulty number) (omega arith)
 
-pub quoted-over : (quote k : ℕ) (bytes : List ℕ) → quoted quote k bytes ≡ widened k (quoted quote 0 (drop k bytes))
+fault-widened : (number w : ℕ) (q : Quoted) → faultBefore number (widened w q) ≡ faultBefore number q
+fault-widened number w (closed cs n) = refl
+fault-widened number w unclosed = refl
+fault-widened number w (faulty k n) = refl
+
+pub quoted-over : (quote room k : ℕ) (bytes : List ℕ) → quoted quote room k bytes ≡ widened k (quoted quote room 0 (drop k bytes))
 unfolding quoted
-quoted-over quote zero bytes = sym (widened-zero (quoted quote 0 bytes))
-quoted-over quote (suc k) [] = refl
-quoted-over quote (suc k) (c ∷ r) = ap wider (quoted-over quote k r) ∙ widened-suc k (quoted quote 0 (drop k r))
+quoted-over quote room zero bytes = sym (widened-zero (quoted quote room 0 bytes))
+quoted-over quote room (suc k) [] = refl
+quoted-over quote room (suc k) (c ∷ r) = ap wider (quoted-over quote room k r) ∙ widened-suc k (quoted quote room 0 (drop k r))
 
--- by the character at the head
-module _ (quote : ℕ) where
-  pub quoted-next : (bytes : List ℕ) {v w : ℕ} → character quote bytes ≡ is v w → quoted quote 0 bytes ≡ onward v w (quoted quote 0 (drop w bytes))
+module _ (quote room : ℕ) where
+  pub quoted-next : (bytes : List ℕ) {v w : ℕ} → character quote bytes ≡ is v w
+      → quoted quote (suc room) 0 bytes ≡ onward v w (quoted quote room 0 (drop w bytes))
   unfolding quoted
   quoted-next [] {v = v} {w = w} e = absurd (let h : Written 0 v w = is-written quote [] e in omega arith)
   quoted-next (c ∷ r) {v = v} {w = zero} e = absurd (let h : Written (suc (length r)) v zero = is-written quote (c ∷ r) e in omega arith)
   quoted-next (c ∷ r) {v = v} {w = suc w} e =
       let z : suc w - 1 ≡ w = omega arith in
-      rw (e, z, quoted-over quote w r) (after-widened v w (quoted quote 0 (drop w r)))
+      rw (e, z, quoted-over quote room w r) (after-widened v w (quoted quote room 0 (drop w r)))
 
-  pub quoted-end : (bytes : List ℕ) → character quote bytes ≡ closing → quoted quote 0 bytes ≡ closed [] 1
+  pub quoted-end : (bytes : List ℕ) → character quote bytes ≡ closing → quoted quote room 0 bytes ≡ closed [] 1
   unfolding quoted character
   quoted-end [] e = absurd (let z : _≡_ {A = ℕ} 0 1 = cc in omega arith)
   quoted-end (c ∷ r) e = rw e
 
-  pub quoted-bad : (bytes : List ℕ) → character quote bytes ≡ bad → quoted quote 0 bytes ≡ faulty
+  pub quoted-ended : (bytes : List ℕ) → character quote bytes ≡ ended → quoted quote room 0 bytes ≡ unclosed
   unfolding quoted
-  quoted-bad [] e = refl
-  quoted-bad (c ∷ r) e = rw e
+  quoted-ended [] e = refl
+  quoted-ended (c ∷ r) e = rw e
 
--- ---- what every reading of n bytes satisfies, k of them passed over first
+  pub quoted-mistake : (bytes : List ℕ) {number : ℕ} → character quote bytes ≡ mistake number
+      → quoted quote room 0 bytes ≡ faultBefore number (quoted quote room 0 (drop 1 bytes))
+  unfolding quoted character
+  quoted-mistake [] e = absurd (let z : _≡_ {A = ℕ} 0 1 = cc in omega arith)
+  quoted-mistake (c ∷ r) e = rw e
 
-pub record Closed (k n : ℕ) (characters : List ℕ) (width : ℕ) : Type 0 where
+-- a character that there is no room for
+pub quoted-full : (quote : ℕ) (bytes : List ℕ) {v w : ℕ} → character quote bytes ≡ is v w
+    → quoted quote 0 0 bytes ≡ faultBefore 43 (quoted quote 0 0 (drop w bytes))
+unfolding quoted
+quoted-full quote [] {v = v} {w = w} e = absurd (let h : Written 0 v w = is-written quote [] e in omega arith)
+quoted-full quote (c ∷ r) {v = v} {w = zero} e = absurd (let h : Written (suc (length r)) v zero = is-written quote (c ∷ r) e in omega arith)
+quoted-full quote (c ∷ r) {v = v} {w = suc w} e =
+    let z : suc w - 1 ≡ w = omega arith in
+    rw (e, z, quoted-over quote 0 w r) (fault-widened 43 w (quoted quote 0 0 (drop w r)))
+
+-- ---- whether a constant is closed, however much room there is
+
+closed-wider : (q : Quoted) → isClosed (wider q) ≡ isClosed q
+closed-wider (closed cs n) = refl
+closed-wider unclosed = refl
+closed-wider (faulty number n) = refl
+
+closed-after : (v : ℕ) (q : Quoted) → isClosed (after v q) ≡ isClosed q
+closed-after v (closed cs n) = refl
+closed-after v unclosed = refl
+closed-after v (faulty number n) = refl
+
+pub closed-fault : (number : ℕ) (q : Quoted) → isClosed (faultBefore number q) ≡ isClosed q
+closed-fault number (closed cs n) = refl
+closed-fault number unclosed = refl
+closed-fault number (faulty k n) = refl
+
+pub closed-alike : (quote room k : ℕ) (bytes : List ℕ) → isClosed (quoted quote room k bytes) ≡ isClosed (quoted quote 0 k bytes)
+unfolding quoted
+closed-alike quote room k [] = refl
+closed-alike quote room (suc k) (c ∷ r) =
+    closed-wider (quoted quote room k r) ∙ closed-alike quote room k r ∙ sym (closed-wider (quoted quote 0 k r))
+closed-alike quote room zero (c ∷ r) = by (character quote (c ∷ r)) room (λ a k. closed-alike quote a k r)
+  where
+    by : (ch : Character) (room : ℕ) → ((a k : ℕ) → isClosed (quoted quote a k r) ≡ isClosed (quoted quote 0 k r))
+        → isClosed (onCharacter ch room (λ a k. quoted quote a k r)) ≡ isClosed (onCharacter ch 0 (λ a k. quoted quote a k r))
+    by (is v w) zero more = refl
+    by (is v w) (suc a) more =
+        closed-after v (quoted quote a (w - 1) r) ∙ more a (w - 1) ∙ sym (closed-fault 43 (quoted quote 0 (w - 1) r))
+    by closing room more = refl
+    by ended room more = refl
+    by (mistake number) room more =
+        closed-fault number (quoted quote room 0 r) ∙ more room 0 ∙ sym (closed-fault number (quoted quote 0 0 r))
+
+-- ---- what every constant of n bytes satisfies, k of them passed over first, if it is closed; and a fault in it is at one of its bytes
+
+pub record Closed (room k n : ℕ) (characters : List ℕ) (width : ℕ) : Type 0 where
   -- the quote, and at least a byte for each character
   pub enough : k + 1 + length characters ≤ width
   pub within : width ≤ n
+  pub short : length characters ≤ room
   pub each : Writable characters
 
-abbrev IfClosed : (k n : ℕ) → Quoted → Type 0
-IfClosed k n (closed cs w) = Closed k n cs w
-IfClosed k n faulty = Unit {0}
+abbrev IfClosed : (room k n : ℕ) → Quoted → Type 0
+IfClosed room k n (closed cs w) = Closed room k n cs w
+IfClosed room k n unclosed = Unit {0}
+IfClosed room k n (faulty number w) = w < n
 
-wider-closed : (k n : ℕ) (q : Quoted) → IfClosed k n q → IfClosed (suc k) (suc n) (wider q)
-wider-closed k n (closed cs w) h = record { enough = omega arith; within = omega arith; each = h .each }
-wider-closed k n faulty h = tt
+wider-closed : (room k n : ℕ) (q : Quoted) → IfClosed room k n q → IfClosed room (suc k) (suc n) (wider q)
+wider-closed room k n (closed cs w) h = record { enough = omega arith; within = omega arith; short = h .short; each = h .each }
+wider-closed room k n unclosed h = tt
+wider-closed room k n (faulty number w) h = omega arith
 
-after-closed : (v k n : ℕ) (q : Quoted) → writable v ≡ true → IfClosed k n q → IfClosed 0 (suc n) (after v q)
-after-closed v k n (closed cs w) one h = record { enough = omega arith; within = omega arith; each = (one, h .each) }
-after-closed v k n faulty one h = tt
+after-closed : (v room k n : ℕ) (q : Quoted) → writable v ≡ true → IfClosed room k n q → IfClosed (suc room) 0 (suc n) (after v q)
+after-closed v room k n (closed cs w) one h = record { enough = omega arith; within = omega arith; short = omega arith; each = (one, h .each) }
+after-closed v room k n unclosed one h = tt
+after-closed v room k n (faulty number w) one h = omega arith
 
-quoted-each : (quote k : ℕ) (bytes : List ℕ) → IfClosed k (length bytes) (quoted quote k bytes)
+fault-closed : (number room k n : ℕ) (q : Quoted) → IfClosed room k (suc n) (faultBefore number q)
+fault-closed number room k n (closed cs w) = omega arith
+fault-closed number room k n unclosed = tt
+fault-closed number room k n (faulty j w) = omega arith
+
+quoted-each : (quote room k : ℕ) (bytes : List ℕ) → IfClosed room k (length bytes) (quoted quote room k bytes)
 unfolding quoted
-quoted-each quote k [] = tt
-quoted-each quote (suc k) (c ∷ r) = wider-closed k (length r) (quoted quote k r) (quoted-each quote k r)
-quoted-each quote zero (c ∷ r) = by (character quote (c ∷ r)) (character-written quote (c ∷ r)) (λ k. quoted-each quote k r)
+quoted-each quote room k [] = tt
+quoted-each quote room (suc k) (c ∷ r) = wider-closed room k (length r) (quoted quote room k r) (quoted-each quote room k r)
+quoted-each quote room zero (c ∷ r) = by (character quote (c ∷ r)) room (character-written quote (c ∷ r)) (λ a k. quoted-each quote a k r)
   where
-    by : (ch : Character) → Fits (suc (length r)) ch → ((k : ℕ) → IfClosed k (length r) (quoted quote k r)) → IfClosed 0 (suc (length r)) (onCharacter ch (λ k. quoted quote k r))
-    by (is v w) f more = after-closed v (w - 1) (length r) (quoted quote (w - 1) r) (f .fits .one) (more (w - 1))
-    by closing f more = record { enough = omega arith; within = omega arith; each = tt }
-    by bad f more = tt
+    by : (ch : Character) (room : ℕ) → Fits (suc (length r)) ch → ((a k : ℕ) → IfClosed a k (length r) (quoted quote a k r))
+        → IfClosed room 0 (suc (length r)) (onCharacter ch room (λ a k. quoted quote a k r))
+    by (is v w) (suc a) f more = after-closed v a (w - 1) (length r) (quoted quote a (w - 1) r) (f .fits .one) (more a (w - 1))
+    by (is v w) zero f more = fault-closed 43 0 0 (length r) (quoted quote 0 (w - 1) r)
+    by closing room f more = record { enough = omega arith; within = omega arith; short = omega arith; each = tt }
+    by ended room f more = tt
+    by (mistake number) room f more = fault-closed number room 0 (length r) (quoted quote room 0 r)
 
-pub is-closed : (quote k : ℕ) (bytes : List ℕ) {cs : List ℕ} {w : ℕ} → quoted quote k bytes ≡ closed cs w → Closed k (length bytes) cs w
-is-closed quote k bytes e = rw e at (quoted-each quote k bytes)
+pub is-closed : (quote room k : ℕ) (bytes : List ℕ) {cs : List ℕ} {w : ℕ} → quoted quote room k bytes ≡ closed cs w
+    → Closed room k (length bytes) cs w
+is-closed quote room k bytes e = rw e at (quoted-each quote room k bytes)
+
+pub fault-within : (quote room k : ℕ) (bytes : List ℕ) {number w : ℕ} → quoted quote room k bytes ≡ faulty number w → w < length bytes
+fault-within quote room k bytes e = rw e at (quoted-each quote room k bytes)
+
+-- the first of its characters
+pub first-is : (quote room : ℕ) (bytes : List ℕ) {c : ℕ} {cs : List ℕ} {w : ℕ} → quoted quote room 0 bytes ≡ closed (c ∷ cs) w
+    → valueOf (character quote bytes) ≡ c
+unfolding quoted
+first-is quote room [] e = absurd (let z : _≡_ {A = ℕ} 0 1 = cc in omega arith)
+first-is quote room (b ∷ r) {c} {cs} {w} e = by (character quote (b ∷ r)) room e
+  where
+    after-first : (v : ℕ) (q : Quoted) → after v q ≡ closed (c ∷ cs) w → v ≡ c
+    after-first v (closed ds n) k = cc
+    after-first v unclosed k = absurd (let z : _≡_ {A = ℕ} 0 1 = cc in omega arith)
+    after-first v (faulty number n) k = absurd (let z : _≡_ {A = ℕ} 0 1 = cc in omega arith)
+
+    no-fault : {A : Type 0} (number : ℕ) (q : Quoted) → faultBefore number q ≡ closed (c ∷ cs) w → A
+    no-fault number (closed ds n) k = absurd (let z : _≡_ {A = ℕ} 0 1 = cc in omega arith)
+    no-fault number unclosed k = absurd (let z : _≡_ {A = ℕ} 0 1 = cc in omega arith)
+    no-fault number (faulty j n) k = absurd (let z : _≡_ {A = ℕ} 0 1 = cc in omega arith)
+
+    by : (ch : Character) (room : ℕ) → onCharacter ch room (λ a k. quoted quote a k r) ≡ closed (c ∷ cs) w → valueOf ch ≡ c
+    by (is v n) (suc a) k = after-first v (quoted quote a (n - 1) r) k
+    by (is v n) zero k = no-fault 43 (quoted quote 0 (n - 1) r) k
+    by closing room k = absurd (let z : _≡_ {A = ℕ} 0 1 = cc in omega arith)
+    by ended room k = absurd (let z : _≡_ {A = ℕ} 0 1 = cc in omega arith)
+    by (mistake number) room k = no-fault number (quoted quote room 0 r) k
+
+-- ---- a constant that is closed is so in any room for its characters
+
+abbrev IfSame : (room : ℕ) (p q : Quoted) → Type 0
+IfSame room (closed cs w) q = length cs ≤ room → q ≡ closed cs w
+IfSame room unclosed q = Unit {0}
+IfSame room (faulty number n) q = Unit {0}
+
+wider-same : (room : ℕ) (p q : Quoted) → IfSame room p q → IfSame room (wider p) (wider q)
+wider-same room (closed cs w) q h = λ l. ap wider (h l)
+wider-same room unclosed q h = tt
+wider-same room (faulty number n) q h = tt
+
+after-same : (v room : ℕ) (p q : Quoted) → IfSame room p q → IfSame (suc room) (after v p) (after v q)
+after-same v room (closed cs w) q h = λ l. ap (after v) (h (omega arith))
+after-same v room unclosed q h = tt
+after-same v room (faulty number n) q h = tt
+
+after-full : (v : ℕ) (p q : Quoted) → IfSame 0 (after v p) q
+after-full v (closed cs w) q = λ l. absurd (omega arith)
+after-full v unclosed q = tt
+after-full v (faulty number n) q = tt
+
+fault-same : (number room : ℕ) (p q : Quoted) → IfSame room (faultBefore number p) q
+fault-same number room (closed cs w) q = tt
+fault-same number room unclosed q = tt
+fault-same number room (faulty k n) q = tt
+
+quoted-same : (quote some other k : ℕ) (bytes : List ℕ) → IfSame other (quoted quote some k bytes) (quoted quote other k bytes)
+unfolding quoted
+quoted-same quote some other k [] = tt
+quoted-same quote some other (suc k) (c ∷ r) = wider-same other (quoted quote some k r) (quoted quote other k r) (quoted-same quote some other k r)
+quoted-same quote some other zero (c ∷ r) = by (character quote (c ∷ r)) some other (λ a b k. quoted-same quote a b k r)
+  where
+    by : (ch : Character) (a b : ℕ) → ((a b k : ℕ) → IfSame b (quoted quote a k r) (quoted quote b k r))
+        → IfSame b (onCharacter ch a (λ a k. quoted quote a k r)) (onCharacter ch b (λ a k. quoted quote a k r))
+    by (is v w) (suc a) (suc b) h = after-same v b (quoted quote a (w - 1) r) (quoted quote b (w - 1) r) (h a b (w - 1))
+    by (is v w) (suc a) zero h = after-full v (quoted quote a (w - 1) r) (faultBefore 43 (quoted quote 0 (w - 1) r))
+    by (is v w) zero b h = fault-same 43 b (quoted quote 0 (w - 1) r) (onCharacter (is v w) b (λ a k. quoted quote a k r))
+    by closing a b h = λ l. refl
+    by ended a b h = tt
+    by (mistake number) a b h = fault-same number b (quoted quote a 0 r) (faultBefore number (quoted quote b 0 r))
+
+pub with-room : (quote some other k : ℕ) (bytes : List ℕ) {cs : List ℕ} {w : ℕ} → quoted quote some k bytes ≡ closed cs w → length cs ≤ other
+    → quoted quote other k bytes ≡ closed cs w
+with-room quote some other k bytes e = rw e at (quoted-same quote some other k bytes)

@@ -1,6 +1,7 @@
 pub mod Written
 pub mod Line
 pub mod Quoted
+pub mod Parts
 pub mod Answers
 pub mod Values
 pub mod Packed

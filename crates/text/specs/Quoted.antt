@@ -1,18 +1,34 @@
--- Characters between quotes, in source and in assembly alike (document 01: "Escapes in both", "Neither may hold a byte outside 32 to 126").
+-- Constants between quotes, in source and in assembly alike (document 01: "Escapes in both", "Neither may hold a byte outside 32 to 126"), and what
+-- is wrong with one, and where (document 02, Req 02).
 use Prim.Native.Nat.{ℕ, zero, suc, _-_}
 use mathlib.Core.Bool.{Bool, true, false, cond}
 use mathlib.Core.List.{List, [], _∷_}
 use lib.Dec.{eqb, leb}
 
--- what stands at the head of some bytes between quotes: a character, with the number of bytes that write it; the closing quote; or neither
+-- a constant's faults: not closed; escape; byte; too long, or a character constant of no or several characters
+abbrev pub UNCLOSED : ℕ
+UNCLOSED = 40
+
+abbrev pub ESCAPE : ℕ
+ESCAPE = 41
+
+abbrev pub BYTE : ℕ
+BYTE = 42
+
+abbrev pub LENGTH : ℕ
+LENGTH = 43
+
+-- what stands at the head of some bytes between quotes: a character, with the number of bytes that write it; the closing quote; a newline or the
+-- end, where a constant ends that is not closed; or a mistake, which takes one byte, by the fault's number
 pub data Character : Type 0 where
   is : (value width : ℕ) → Character
   closing : Character
-  bad : Character
+  ended : Character
+  mistake : (number : ℕ) → Character
 
 -- *N 10, *S 32, *T 9, *B 8, *P 12, *C 13; ** *' *" themselves
 unfoldable pub escape : List ℕ → Character
-escape [] = bad
+escape [] = mistake ESCAPE
 escape (c ∷ r) =
     cond (eqb c 78) (is 10 2)
     (cond (eqb c 83) (is 32 2)
@@ -22,37 +38,59 @@ escape (c ∷ r) =
     (cond (eqb c 67) (is 13 2)
     (cond (eqb c 42) (is 42 2)
     (cond (eqb c 39) (is 39 2)
-    (cond (eqb c 34) (is 34 2) bad))))))))
+    (cond (eqb c 34) (is 34 2) (mistake ESCAPE)))))))))
 
 -- a byte from 32 to 126, other than the quote and the asterisk, stands for itself
 unfoldable pub character : ℕ → List ℕ → Character
-character quote [] = bad
+character quote [] = ended
 character quote (c ∷ r) =
     cond (eqb c quote) closing
     (cond (eqb c 42) (escape r)
-    (cond (leb 32 c) (cond (leb c 126) (is c 1) bad) bad))
+    (cond (eqb c 10) ended
+    (cond (leb 32 c) (cond (leb c 126) (is c 1) (mistake BYTE)) (mistake BYTE))))
 
--- the characters up to the closing quote, with the number of bytes taken, that quote included; or a fault among them
+-- a constant, from past its opening quote on: its characters, with the number of bytes taken, the closing quote included; one that is not closed;
+-- or, of one that is closed, the first fault in it and the number of bytes before it
 pub data Quoted : Type 0 where
   closed : (characters : List ℕ) (width : ℕ) → Quoted
-  faulty : Quoted
+  unclosed : Quoted
+  faulty : (number offset : ℕ) → Quoted
 
+-- its characters; none where there is a fault
+abbrev pub charactersOf : Quoted → List ℕ
+charactersOf (closed cs width) = cs
+charactersOf unclosed = []
+charactersOf (faulty number offset) = []
+
+-- with one byte more in front
 abbrev pub wider : Quoted → Quoted
 wider (closed cs n) = closed cs (suc n)
-wider faulty = faulty
+wider unclosed = unclosed
+wider (faulty k n) = faulty k (suc n)
 
+-- with a character of one byte in front
 abbrev pub after : ℕ → Quoted → Quoted
 after v (closed cs n) = closed (v ∷ cs) (suc n)
-after v faulty = faulty
+after v unclosed = unclosed
+after v (faulty k n) = faulty k (suc n)
 
--- by what stands at the head, with the rest of the characters once that one's other bytes are passed over
-abbrev pub onCharacter : Character → (ℕ → Quoted) → Quoted
-onCharacter (is v width) more = after v (more (width - 1))
-onCharacter closing more = closed [] 1
-onCharacter bad more = faulty
+-- with a fault in front: its place comes before those of the others, but the opening quote's, where a constant is not closed, before all
+abbrev pub faultBefore : ℕ → Quoted → Quoted
+faultBefore number (closed cs n) = faulty number 0
+faultBefore number unclosed = unclosed
+faultBefore number (faulty k n) = faulty number 0
 
--- `over` is the number of bytes at the head that belong to the character before them
-unfoldable pub quoted : (quote over : ℕ) → List ℕ → Quoted
-quoted quote over [] = faulty
-quoted quote (suc k) (c ∷ r) = wider (quoted quote k r)
-quoted quote zero (c ∷ r) = onCharacter (character quote (c ∷ r)) (λ k. quoted quote k r)
+-- by what stands at the head and the number of characters that there is room for, with the rest once that one's other bytes are passed over. A
+-- mistake that is also one character too many is a mistake: at one place the smaller number
+abbrev pub onCharacter : Character → (room : ℕ) → ((room over : ℕ) → Quoted) → Quoted
+onCharacter (is v width) (suc room) more = after v (more room (width - 1))
+onCharacter (is v width) zero more = faultBefore LENGTH (more zero (width - 1))
+onCharacter closing room more = closed [] 1
+onCharacter ended room more = unclosed
+onCharacter (mistake number) room more = faultBefore number (more room 0)
+
+-- at most `room` characters; `over` is the number of bytes at the head that belong to the character before them
+unfoldable pub quoted : (quote room over : ℕ) → List ℕ → Quoted
+quoted quote room over [] = unclosed
+quoted quote room (suc k) (c ∷ r) = wider (quoted quote room k r)
+quoted quote room zero (c ∷ r) = onCharacter (character quote (c ∷ r)) room (λ room k. quoted quote room k r)

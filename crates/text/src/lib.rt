@@ -2,8 +2,9 @@
 ghost use mathlib.Core.Path.{_≡_};
 ghost use lib.ListN.{drop};
 ghost use Rattle.text.specs.Line.{lineOf, refusal};
-ghost use Rattle.text.specs.Quoted.{character, escape};
-ghost use Rattle.text.specs.Answers.{asCharacter};
+ghost use Rattle.text.specs.Quoted.{character, escape, faultBefore, quoted};
+ghost use Rattle.text.specs.Parts.{valueOf, isClosed, widened};
+ghost use Rattle.text.specs.Answers.{asCharacter, asQuoted};
 
 // A refusal: document 01's number, the place of the byte (from 0) and its line (from 1).
 pub struct Refusal {
@@ -12,12 +13,28 @@ pub struct Refusal {
     pub line: usize,
 }
 
-// What stands at a place between quotes: a character and the bytes that write it, the closing quote, or neither.
+// What stands at a place between quotes: a character and the bytes that write it, the closing quote, a newline or the end, or a mistake, by the
+// number of its refusal in a source.
 pub enum Character {
     Is(u8, usize),
     Closing,
-    Bad,
+    Ended,
+    Mistake(u16),
 }
+
+// A constant from past its opening quote on: how many characters it has, and how many bytes write them and the closing quote; one that is not
+// closed; or the number of the first fault and how many bytes stand before it.
+pub enum Quoted {
+    Closed(usize, usize),
+    Unclosed,
+    Faulty(u16, usize),
+}
+
+const ESCAPE: u16 = 41;
+
+const BYTE: u16 = 42;
+
+const LENGTH: u16 = 43;
 
 // A place past the end is on the last line.
 pub fn line_of(text: &[u8], place: usize) -> usize
@@ -53,7 +70,7 @@ fn escape(text: &[u8], at: usize) -> Character
     ensures { λ r. ⌜ r ≡ asCharacter (escape (drop at (now (text .entry)))) ⌝ }
 {
     if at >= text.len() {
-        return Character::Bad;
+        return Character::Mistake(ESCAPE);
     }
     let c = text[at];
     match c {
@@ -66,7 +83,7 @@ fn escape(text: &[u8], at: usize) -> Character
         b'*' => Character::Is(42, 2),
         b'\'' => Character::Is(39, 2),
         b'"' => Character::Is(34, 2),
-        _ => Character::Bad,
+        _ => Character::Mistake(ESCAPE),
     }
 }
 
@@ -74,7 +91,7 @@ pub fn character_at(text: &[u8], at: usize, quote: u8) -> Character
     ensures { λ r. ⌜ r ≡ asCharacter (character quote (drop at (now (text .entry)))) ⌝ }
 {
     if at >= text.len() {
-        return Character::Bad;
+        return Character::Ended;
     }
     let c = text[at];
     if c == quote {
@@ -83,11 +100,90 @@ pub fn character_at(text: &[u8], at: usize, quote: u8) -> Character
     if c == b'*' {
         return escape(text, at + 1);
     }
+    if c == b'\n' {
+        return Character::Ended;
+    }
     if c < 32 {
-        return Character::Bad;
+        return Character::Mistake(BYTE);
     }
     if c > 126 {
-        return Character::Bad;
+        return Character::Mistake(BYTE);
     }
     Character::Is(c, 1)
+}
+
+// The value of the character at a place between quotes; 0 where there is none.
+pub fn value_at(text: &[u8], at: usize, quote: u8) -> u8
+    ensures { λ r. ⌜ r ≡ valueOf (character quote (drop at (now (text .entry)))) ⌝ }
+{
+    let c = character_at(text, at, quote);
+    match c {
+        Character::Is(value, _) => value,
+        Character::Closing => 0,
+        Character::Ended => 0,
+        Character::Mistake(_) => 0,
+    }
+}
+
+// Whether the closing quote comes before a newline and the end.
+fn closes(text: &[u8], at: usize, quote: u8) -> bool
+    ensures { λ r. ⌜ r ≡ isClosed (quoted quote 0 0 (drop at (now (text .entry)))) ⌝ }
+{
+    let mut i = at;
+    loop {
+        let c = character_at(text, i, quote);
+        match c {
+            Character::Is(_, width) => {
+                i += width;
+            }
+            Character::Closing => {
+                return true;
+            }
+            Character::Ended => {
+                return false;
+            }
+            Character::Mistake(_) => {
+                i += 1;
+            }
+        }
+    }
+}
+
+// A fault at a place, so many bytes into a constant, which may not be closed.
+fn fault_at(text: &[u8], at: usize, quote: u8, number: u16, offset: usize) -> Quoted
+    ensures { λ r. ⌜ r ≡ asQuoted (widened offset (faultBefore number (quoted quote 0 0 (drop at (now (text .entry)))))) ⌝ }
+{
+    if closes(text, at, quote) {
+        return Quoted::Faulty(number, offset);
+    }
+    Quoted::Unclosed
+}
+
+// A constant of at most `room` characters, from past its opening quote on.
+pub fn quoted_at(text: &[u8], at: usize, quote: u8, room: usize) -> Quoted
+    ensures { λ r. ⌜ r ≡ asQuoted (quoted quote room 0 (drop at (now (text .entry)))) ⌝ }
+{
+    let mut n: usize = 0;
+    let mut i = at;
+    loop {
+        let c = character_at(text, i, quote);
+        match c {
+            Character::Is(_, width) => {
+                if n == room {
+                    return fault_at(text, i, quote, LENGTH, i - at);
+                }
+                n += 1;
+                i += width;
+            }
+            Character::Closing => {
+                return Quoted::Closed(n, i - at + 1);
+            }
+            Character::Ended => {
+                return Quoted::Unclosed;
+            }
+            Character::Mistake(number) => {
+                return fault_at(text, i, quote, number, i - at);
+            }
+        }
+    }
 }

@@ -3,9 +3,9 @@ use mathlib.Core.Path.{_≡_, refl}
 use native.Mathlib.Omega.{arith}
 use borrow.Author.Needs.{needs}
 use lib.ListN.{length}
-use Rattle.text.proofs.Answers.{when-is, when-closing, when-bad}
+use Rattle.text.proofs.Answers.{when-is, when-closing, when-ended, when-mistake}
 use Rattle.text.proofs.Quotes.{is-inside}
-use Rattle.compiler.proofs.StringTexts.{Spelling, spelling-begin, spelling-next, spelling-end, spelling-bad}
+use Rattle.compiler.proofs.StringTexts.{Spelling, spelling-begin, spelling-next, spelling-end, spelling-ended, spelling-mistake}
 use Rattle.compiler.proofs.strings.characters.Statement.{statement}
 use Rattle.compiler.proofs.strings.characters.Tie as tie
 
@@ -31,10 +31,14 @@ loop-less c =
     (c .before .before .before .before .before .one .given .1) in
     omega (arith, is-inside 34 source i one)
 
+returns-3 : tie.Need-returns-3 Inv-loop μ-loop
+returns-3 c = spelling-mistake (when-mistake _ (c .before .before .character-at .ensures) (c .enum-told3 .given .1)) (c .before .before .before .loop .inv .1)
+
 pub characters-spec : {M : Type 1} → statement M
 characters-spec =
     tie.close (tie.spec Inv-loop μ-loop (λ _. (refl, spelling-begin))
     (search needs) (search needs) (search needs) add-i loop-less
     (λ c. (search needs, search (spelling-next, when-is)))
     (search needs) (search needs) (λ c. search (spelling-end, when-closing))
-    (search needs) (search needs) (λ c. search (spelling-bad, when-bad)))
+    (search needs) (search needs) (λ c. search (spelling-ended, when-ended))
+    (search needs) (search needs) returns-3)
