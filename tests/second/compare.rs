@@ -10,7 +10,7 @@ mod generate;
 mod machine;
 mod proved;
 mod random;
-mod telling;
+mod summary;
 
 use assembler::Assembly;
 use generate::{ImageCase, TextCase};
@@ -19,14 +19,14 @@ use proved::Library;
 use random::Random;
 use std::fmt::Write;
 use std::process::ExitCode;
-use telling::{enough, headed, often, Tally};
+use summary::{enough, headed, often, Tally};
 
 const CASES: u64 = 40_000;
 const REFUSALS: [u64; 6] = [20, 21, 22, 23, 24, 25];
 const STOPS: [u64; 7] = [24, 30, 31, 32, 33, 34, 35];
 
 fn main() -> ExitCode {
-    telling::run("compare", CASES, proved::library(), compare_all)
+    summary::run("compare", CASES, proved::library(), compare_all)
 }
 
 fn compare_all(library: Option<Library>, cases: u64) -> Result<String, String> {

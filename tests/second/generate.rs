@@ -260,7 +260,7 @@ fn gap(random: &mut Random, text: &mut Vec<u8>) {
 pub fn damaged_text(seed: u64) -> TextCase {
     let mut random = Random::new(seed);
     if random.one_in(25) {
-        return soup(&mut random);
+        return text_without_plan(&mut random);
     }
     let mut draft = draft(&mut random);
     let mut memory_len = fitting_memory(&mut random, draft.words + 8);
@@ -300,7 +300,7 @@ pub fn damaged_text(seed: u64) -> TextCase {
 }
 
 /// A text of no plan at all, from the letters of MINICODE or from all bytes.
-fn soup(random: &mut Random) -> TextCase {
+fn text_without_plan(random: &mut Random) -> TextCase {
     let length = random.below(40);
     let mut text = if random.one_in(5) { Vec::new() } else { b"$ ".to_vec() };
     for _ in 0..length {

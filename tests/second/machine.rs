@@ -57,13 +57,13 @@ pub fn resume(
     if !(512..=32768).contains(&memory.len()) {
         return ran;
     }
-    let mut world = World { memory, input, output, taken: input_place, written: output_place };
+    let mut surroundings = Surroundings { memory, input, output, taken: input_place, written: output_place };
     ran.stop = loop {
         if ran.count == budget {
             break BUDGET;
         }
-        // An instruction that cannot be done changes neither the registers nor the world.
-        match world.instruction(ran.registers) {
+        // An instruction that cannot be done changes neither the registers nor its surroundings.
+        match surroundings.instruction(ran.registers) {
             Ok((after, finished)) => {
                 ran.registers = after;
                 ran.count += 1;
@@ -74,13 +74,13 @@ pub fn resume(
             Err(stop) => break stop,
         }
     };
-    ran.taken = world.taken;
-    ran.written = world.written;
+    ran.taken = surroundings.taken;
+    ran.written = surroundings.written;
     ran
 }
 
 /// All that an instruction may touch beside the registers.
-struct World<'a> {
+struct Surroundings<'a> {
     memory: &'a mut [u16],
     input: &'a [u8],
     output: &'a mut [u8],
@@ -88,7 +88,7 @@ struct World<'a> {
     written: usize,
 }
 
-impl World<'_> {
+impl Surroundings<'_> {
     fn read(&self, address: u16) -> Result<u16, u64> {
         self.memory.get(usize::from(address)).copied().ok_or(ADDRESS)
     }

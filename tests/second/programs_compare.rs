@@ -24,7 +24,7 @@ mod run;
 #[allow(dead_code)]
 mod sources;
 mod symbols;
-mod telling;
+mod summary;
 
 use demand::Held;
 use proved_compile::Compile;
@@ -33,7 +33,7 @@ use rules::{judge, Program};
 use run::{End, Undefined};
 use std::process::ExitCode;
 use symbols::{Refusal, LONGEST_TEXT};
-use telling::{enough, headed, often, Tally};
+use summary::{enough, headed, often, Tally};
 
 const CASES: u64 = 20_000;
 const REFUSALS: [u64; 8] = [8, 9, 10, 11, 12, 13, 14, 16];
@@ -51,7 +51,7 @@ fn any_grammar(seed: u64) -> Vec<u8> {
 }
 
 fn main() -> ExitCode {
-    deep::deep(|| telling::run("programs_compare", CASES, proved_compile::library(), compare_all))
+    deep::deep(|| summary::run("programs_compare", CASES, proved_compile::library(), compare_all))
 }
 
 /// What came up: refusals, ends of runs, and the most instructions that were done for so many steps.

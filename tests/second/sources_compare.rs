@@ -14,7 +14,7 @@ mod random;
 mod sources;
 mod sweeps;
 mod symbols;
-mod telling;
+mod summary;
 
 use grammar::Tree;
 use proved_source::{Library, Read};
@@ -23,7 +23,7 @@ use sources::{Case, KINDS};
 use std::process::ExitCode;
 use sweeps::SWEEPS;
 use symbols::{Refusal, Symbol};
-use telling::{enough, headed, often, Tally};
+use summary::{enough, headed, often, Tally};
 
 const CASES: u64 = 60_000;
 const REFUSALS: [u64; 10] = [1, 2, 3, 5, 6, 7, 40, 41, 42, 43];
@@ -31,7 +31,7 @@ const REFUSALS: [u64; 10] = [1, 2, 3, 5, 6, 7, 40, 41, 42, 43];
 const STACK: usize = 1 << 20;
 
 fn main() -> ExitCode {
-    telling::run("sources_compare", CASES, proved_source::library(), compare_all)
+    summary::run("sources_compare", CASES, proved_source::library(), compare_all)
 }
 
 fn compare_all(library: Option<Library>, cases: u64) -> Result<String, String> {
