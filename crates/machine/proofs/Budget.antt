@@ -11,7 +11,7 @@ use lib.ListN.{length, getD, length-set}
 use lib.Seq.{getD-set-other}
 use borrow.Author.Tests.{ne-eqb}
 use Rattle.machine.specs.State.{State, at, startRegisters}
-use Rattle.machine.specs.Step.{Turn, done, finished, stopped, step}
+use Rattle.machine.specs.Step.{StepResult, done, finished, stopped, step}
 use Rattle.machine.specs.Run.{Outcome, after, onTurn, steps, resume, carriedOn, run}
 use Rattle.machine.proofs.Shape.{Shape, quiet, one-more, ends, halts, Quiet, OneMore, shape}
 
@@ -25,7 +25,7 @@ after-carried o more = go (eqb (o .stop) 31) refl
         rw e (λ i. record { stop = r .stop; count = z i; state = r .state })
     go false e = rw e refl
 
-turn-carried : (s : State) {t : Turn} → Shape s t → (f g h : State → Outcome) → ((u : State) → f u ≡ carriedOn (g u) h)
+turn-carried : (s : State) {t : StepResult} → Shape s t → (f g h : State → Outcome) → ((u : State) → f u ≡ carriedOn (g u) h)
     → onTurn s t f ≡ carriedOn (onTurn s t g) h
 turn-carried s (quiet {t = t} q) f g h e = ap (after 1) (e t) ∙ after-carried (g t) h
 turn-carried s (one-more {t = t} q) f g h e = ap (after 1) (e t) ∙ after-carried (g t) h
@@ -91,7 +91,7 @@ grows-one {s} {t} q =
       within = λ l. let h = q .room in omega arith;
     }
 
-grows-turn : (s : State) {t : Turn} → Shape s t → (f : State → Outcome) → ((u : State) → Grows u (f u .state)) → Grows s (onTurn s t f .state)
+grows-turn : (s : State) {t : StepResult} → Shape s t → (f : State → Outcome) → ((u : State) → Grows u (f u .state)) → Grows s (onTurn s t f .state)
 grows-turn s (quiet {t = t} q) f h = grows-on (grows-quiet q) (h t)
 grows-turn s (one-more {t = t} q) f h = grows-on (grows-one q) (h t)
 grows-turn s (ends q) f h = grows-quiet q

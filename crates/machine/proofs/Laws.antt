@@ -11,13 +11,13 @@ use Rattle.words.specs.Words.{add}
 use Rattle.machine.specs.Outcome.{Out, ok, stop, _>>=_, read, write}
 use Rattle.machine.specs.State.{State, at, withA, withC, framed, havingStored, took, wrote}
 use Rattle.machine.specs.Acts.{indirected, returned, search, switched, received, sent}
-use Rattle.machine.specs.Step.{Turn, done, finished, stopped, turn, keep, stored, called, jumped}
-use Rattle.machine.specs.Answers.{asWord, asActed, asTurn, numberOf, registersOf, left, Turns}
+use Rattle.machine.specs.Step.{StepResult, done, finished, stopped, turn, keep, stored, called, jumped}
+use Rattle.machine.specs.Answers.{asWord, asActed, asTurn, numberOf, registersOf, left, Steps}
 use Rattle.machine.specs.declared.Registers.{Registers}
 use Rattle.machine.specs.declared.Word.{Word}
 use Rattle.machine.specs.declared.Word.the-variants as W
-use Rattle.machine.specs.declared.Turn as D
-use Rattle.machine.specs.declared.Turn.the-variants as T
+use Rattle.machine.specs.declared.StepResult as D
+use Rattle.machine.specs.declared.StepResult.the-variants as T
 
 -- ---- words: a callee's answer, matched
 
@@ -52,34 +52,34 @@ module _ (m : List ℕ) (i : ℕ) where
 
 -- ---- a turn, from an outcome
 
-left-registers : (s : State) (t : Turn) → registersOf (s .regs) (asTurn t) ≡ left s t .regs
+left-registers : (s : State) (t : StepResult) → registersOf (s .regs) (asTurn t) ≡ left s t .regs
 unfolding asTurn left
 left-registers s (done t) = refl
 left-registers s (finished t) = refl
 left-registers s (stopped k) = refl
 
-pub turns : (s : State) (t : Turn) {d : D.Turn} {m o : List ℕ} → d ≡ asTurn t → m ≡ left s t .mem → o ≡ left s t .out → Turns s t d m o
+pub turns : (s : State) (t : StepResult) {d : D.StepResult} {m o : List ℕ} → d ≡ asTurn t → m ≡ left s t .mem → o ≡ left s t .out → Steps s t d m o
 turns s t e f g =
     record { answers = e; stops = ap numberOf e; leaves = ap (registersOf (s .regs)) e ∙ left-registers s t; stores = f; writes = g }
 
-pub turned : {s : State} {o : Out State} {r : Registers} {m out : List ℕ} → o ≡ ok (at r m out) → {r′ : Registers} → r′ ≡ r → Turns s (turn o) (T.Done r′) m out
+pub turned : {s : State} {o : Out State} {r : Registers} {m out : List ℕ} → o ≡ ok (at r m out) → {r′ : Registers} → r′ ≡ r → Steps s (turn o) (T.Done r′) m out
 unfolding asTurn left
 turned e q = turns _ _ (simp (e, q)) (simp e) (simp e)
 
-pub turned-stop : {s : State} {o : Out State} {k : ℕ} → o ≡ stop k → Turns s (turn o) (T.Stopped k) (s .mem) (s .out)
+pub turned-stop : {s : State} {o : Out State} {k : ℕ} → o ≡ stop k → Steps s (turn o) (T.Stopped k) (s .mem) (s .out)
 unfolding asTurn left
 turned-stop e = turns _ _ (simp e) (simp e) (simp e)
 
-pub kept : (s : State) (o : Out Registers) {d : D.Turn} → d ≡ asActed o → Turns s (keep s o) d (s .mem) (s .out)
+pub kept : (s : State) (o : Out Registers) {d : D.StepResult} → d ≡ asActed o → Steps s (keep s o) d (s .mem) (s .out)
 unfolding keep asActed asTurn left
 kept s (ok r) e = turns s _ e refl refl
 kept s (stop k) e = turns s _ e refl refl
 
-pub kept-to : (s : State) {r r′ : Registers} → r′ ≡ r → Turns s (keep s (ok r)) (T.Done r′) (s .mem) (s .out)
+pub kept-to : (s : State) {r r′ : Registers} → r′ ≡ r → Steps s (keep s (ok r)) (T.Done r′) (s .mem) (s .out)
 unfolding keep asTurn left
 kept-to s e = turns s _ (ap T.Done e) refl refl
 
-pub kept-finished : (s : State) → Turns s (finished s) (T.Finished (s .regs)) (s .mem) (s .out)
+pub kept-finished : (s : State) → Steps s (finished s) (T.Finished (s .regs)) (s .mem) (s .out)
 unfolding asTurn left
 kept-finished s = turns s _ refl refl refl
 
@@ -136,7 +136,7 @@ module _ (x : ℕ) (r : Registers) (m out : List ℕ) where
 
       -- the frame put, then what was stored
       pub called-turns : q < length m → j < length m → {t u : Registers} → t ≡ framed q (r .a) r → u ≡ havingStored q 2 t
-          → Turns (at r m out) (turn (called x (at r m out))) (T.Done u) (set (set m q (r .p)) j (r .c)) out
+          → Steps (at r m out) (turn (called x (at r m out))) (T.Done u) (set (set m q (r .p)) j (r .c)) out
       called-turns h k e f = turned (called-in h k) (f ∙ ap (havingStored q 2) e)
 
       pub called-half : q < length m → length m ≤ j → called x (at r m out) ≡ stop 32
@@ -190,20 +190,20 @@ module _ (m : List ℕ) (a d : ℕ) where
 
 -- where the whole search is what is left of it, of n pairs from i on
 module _ (m : List ℕ) (a d n i : ℕ) {o : Out ℕ} (inv : o ≡ search m a d n i) where
-  pub find-none : n ≤ 0 → W.Is d ≡ asWord o
+  pub switch-address-none : n ≤ 0 → W.Is d ≡ asWord o
   unfolding search asWord
-  find-none z = let e : n ≡ 0 = omega arith in let q : o ≡ search m a d 0 i = rw e at inv in simp q
+  switch-address-none z = let e : n ≡ 0 = omega arith in let q : o ≡ search m a d 0 i = rw e at inv in simp q
 
   module _ (h : 0 < n) {w : Word} (p : w ≡ asWord (read m i)) where
-    pub find-stops : {k : ℕ} → w ≡ W.Stopped k → W.Stopped k ≡ asWord o
+    pub switch-address-stops : {k : ℕ} → w ≡ W.Stopped k → W.Stopped k ≡ asWord o
     unfolding asWord
-    find-stops q = simp (inv, search-past m a d n i h (is-stop _ p q))
+    switch-address-stops q = simp (inv, search-past m a d n i h (is-stop _ p q))
 
-    pub find-hits : {v j : ℕ} {r : Word} → w ≡ W.Is v → v ≡ a → j ≡ add i 1 → r ≡ asWord (read m j) → r ≡ asWord o
-    find-hits q e hj hr = simp (inv, search-hit m a d n i h (is-ok _ p q) e, ← hj) hr
+    pub switch-address-hits : {v j : ℕ} {r : Word} → w ≡ W.Is v → v ≡ a → j ≡ add i 1 → r ≡ asWord (read m j) → r ≡ asWord o
+    switch-address-hits q e hj hr = simp (inv, search-hit m a d n i h (is-ok _ p q) e, ← hj) hr
 
-    pub find-goes : {v j : ℕ} → w ≡ W.Is v → (v ≡ a → ⊥) → j ≡ add i 2 → o ≡ search m a d (n - 1) j
-    find-goes q e hj = inv ∙ search-next m a d n i h (is-ok _ p q) e hj
+    pub switch-address-goes : {v j : ℕ} → w ≡ W.Is v → (v ≡ a → ⊥) → j ≡ add i 2 → o ≡ search m a d (n - 1) j
+    switch-address-goes q e hj = inv ∙ search-next m a d n i h (is-ok _ p q) e hj
 
 module _ (r : Registers) (m : List ℕ) {a : Word} (pa : a ≡ asWord (read m (r .c))) where
   pub switch-count-past : {k : ℕ} → a ≡ W.Stopped k → T.Stopped k ≡ asActed (switched r m)

@@ -12,16 +12,16 @@ use Rattle.machine.specs.State.{State, withA}
 use Rattle.machine.specs.Acts.{Act, unlisted, indirect, negate, invert, back, finish, switch, rdch, wrch, dyadic, acts, actOf, combined}
 use Rattle.machine.specs.Step.{keep, perform, Function, L, S, A, J, T, F, K, X, functions, functionOf, execute}
 use Rattle.machine.specs.Numbers.{valueOf}
-use Rattle.machine.specs.Answers.{asWord, asQuotient, asActed, Turns}
+use Rattle.machine.specs.Answers.{asWord, asQuotient, asActed, Steps}
 use Rattle.machine.specs.declared.Registers.{Registers}
 use Rattle.machine.specs.declared.Word.{Word}
 use Rattle.machine.specs.declared.Word.the-variants as W
-use Rattle.machine.specs.declared.Turn as D
-use Rattle.machine.specs.declared.Turn.the-variants as R
+use Rattle.machine.specs.declared.StepResult as D
+use Rattle.machine.specs.declared.StepResult.the-variants as R
 use Rattle.machine.proofs.Table.{Absent, rule}
 use Rattle.machine.proofs.Laws.{is-ok, is-stop, kept}
 
--- the numbers that the matches of `value`, `perform` and `execute` list, the last first
+-- the numbers that the matches of `dyadic_act`, `perform` and `execute` list, the last first
 abbrev dyads : List ℕ
 dyads = 19 ∷ 18 ∷ 17 ∷ 16 ∷ 15 ∷ 14 ∷ 13 ∷ 12 ∷ 11 ∷ 10 ∷ 9 ∷ 8 ∷ 7 ∷ 6 ∷ 5 ∷ []
 
@@ -34,9 +34,9 @@ letters = 6 ∷ 5 ∷ 4 ∷ 3 ∷ 2 ∷ 1 ∷ 0 ∷ []
 -- ---- acts 5 to 19
 
 -- the value of the act of number n is that of the number k that n is
-pub value-is : {n t : ℕ} (b a k : ℕ) → n ≡ k → ok t ≡ valueOf (actOf k) b a → W.Is t ≡ asWord (valueOf (actOf n) b a)
+pub dyadic-act-is : {n t : ℕ} (b a k : ℕ) → n ≡ k → ok t ≡ valueOf (actOf k) b a → W.Is t ≡ asWord (valueOf (actOf n) b a)
 unfolding asWord
-value-is b a k e q = rw e (ap asWord q)
+dyadic-act-is b a k e q = rw e (ap asWord q)
 
 quotient-word : (a v : ℕ) → asQuotient (divided a v) ≡ asWord (cond (eqb a 0) (stop 33) (ok v))
 unfolding asQuotient divided asWord
@@ -54,9 +54,9 @@ pub quotient-by-zero : {d : Divided} → d ≡ ByZero → W.Stopped 33 ≡ asQuo
 unfolding asQuotient
 quotient-by-zero e = rw e refl
 
-pub value-divides : {n : ℕ} {r : Word} {d : Divided} (b a k v : ℕ) → n ≡ k → d ≡ divided a v → r ≡ asQuotient d
+pub dyadic-act-divides : {n : ℕ} {r : Word} {d : Divided} (b a k v : ℕ) → n ≡ k → d ≡ divided a v → r ≡ asQuotient d
     → cond (eqb a 0) (stop 33) (ok v) ≡ valueOf (actOf k) b a → r ≡ asWord (valueOf (actOf n) b a)
-value-divides b a k v e hd hr q = rw e (hr ∙ ap asQuotient hd ∙ quotient-word a v ∙ ap asWord q)
+dyadic-act-divides b a k v e hd hr q = rw e (hr ∙ ap asQuotient hd ∙ quotient-word a v ∙ ap asWord q)
 
 isNotDyadic : Act → Bool
 isNotDyadic unlisted = true
@@ -83,15 +83,15 @@ not-dyadic rdch b a e = refl
 not-dyadic wrch b a e = refl
 not-dyadic (dyadic f) b a e = absurd (subst IsT (sym e) tt)
 
-pub value-not : {n : ℕ} (b a : ℕ) → Absent n dyads → W.Stopped 34 ≡ asWord (valueOf (actOf n) b a)
+pub dyadic-act-not : {n : ℕ} (b a : ℕ) → Absent n dyads → W.Stopped 34 ≡ asWord (valueOf (actOf n) b a)
 unfolding asWord isNotDyadic
-value-not {n} b a h = simp (not-dyadic (actOf n) b a (rule isNotDyadic unlisted refl dyads acts tt n h))
+dyadic-act-not {n} b a h = simp (not-dyadic (actOf n) b a (rule isNotDyadic unlisted refl dyads acts tt n h))
 
 -- ---- all acts
 
 -- the act of number n is that of the number k that n is
-pub act-at : {n : ℕ} {d : D.Turn} {m o : List ℕ} (input : List ℕ) (s : State) (k : ℕ) → n ≡ k
-    → Turns s (perform input (actOf k) s) d m o → Turns s (perform input (actOf n) s) d m o
+pub act-at : {n : ℕ} {d : D.StepResult} {m o : List ℕ} (input : List ℕ) (s : State) (k : ℕ) → n ≡ k
+    → Steps s (perform input (actOf k) s) d m o → Steps s (perform input (actOf n) s) d m o
 act-at input s k e h = rw e h
 
 isValued : Act → Bool
@@ -120,23 +120,23 @@ valued wrch input s e = absurd (subst IsT (sym e) tt)
 valued (dyadic f) input s e = refl
 
 module _ (f : ℕ → ℕ → Out ℕ) (r : Registers) {w : Word} (p : w ≡ asWord (f (r .b) (r .a))) where
-  pub combine-value : {v : ℕ} {t : Registers} → w ≡ W.Is v → t ≡ withA v r → R.Done t ≡ asActed (combined f r)
+  pub combine-dyadic-act : {v : ℕ} {t : Registers} → w ≡ W.Is v → t ≡ withA v r → R.Done t ≡ asActed (combined f r)
   unfolding combined asActed
-  combine-value q e = simp (is-ok _ p q, e)
+  combine-dyadic-act q e = simp (is-ok _ p q, e)
 
   pub combine-stop : {k : ℕ} → w ≡ W.Stopped k → R.Stopped k ≡ asActed (combined f r)
   unfolding combined asActed
   combine-stop q = simp (is-stop _ p q)
 
-pub act-combined : {n : ℕ} {d : D.Turn} (input : List ℕ) (s : State) → Absent n others → d ≡ asActed (combined (valueOf (actOf n)) (s .regs))
-    → Turns s (perform input (actOf n) s) d (s .mem) (s .out)
+pub act-combined : {n : ℕ} {d : D.StepResult} (input : List ℕ) (s : State) → Absent n others → d ≡ asActed (combined (valueOf (actOf n)) (s .regs))
+    → Steps s (perform input (actOf n) s) d (s .mem) (s .out)
 unfolding isValued
 act-combined {n} input s h e = rw (valued (actOf n) input s (rule isValued unlisted refl others acts tt n h)) (kept s _ e)
 
 -- ---- the functions
 
-pub function-at : {f : ℕ} {d : D.Turn} {m o : List ℕ} (input : List ℕ) (x : ℕ) (s : State) (k : ℕ) → f ≡ k
-    → Turns s (execute input (functionOf k) x s) d m o → Turns s (execute input (functionOf f) x s) d m o
+pub function-at : {f : ℕ} {d : D.StepResult} {m o : List ℕ} (input : List ℕ) (x : ℕ) (s : State) (k : ℕ) → f ≡ k
+    → Steps s (execute input (functionOf k) x s) d m o → Steps s (execute input (functionOf f) x s) d m o
 function-at input x s k e h = rw e h
 
 isX : Function → Bool
@@ -160,7 +160,7 @@ is-x F e = absurd (subst IsT (sym e) tt)
 is-x K e = absurd (subst IsT (sym e) tt)
 is-x X e = refl
 
-pub function-x : {f : ℕ} {d : D.Turn} {m o : List ℕ} (input : List ℕ) (x : ℕ) (s : State) → Absent f letters
-    → Turns s (perform input (actOf x) s) d m o → Turns s (execute input (functionOf f) x s) d m o
+pub function-x : {f : ℕ} {d : D.StepResult} {m o : List ℕ} (input : List ℕ) (x : ℕ) (s : State) → Absent f letters
+    → Steps s (perform input (actOf x) s) d m o → Steps s (execute input (functionOf f) x s) d m o
 unfolding isX execute
 function-x {f} input x s a h = rw (is-x (functionOf f) (rule isX X refl letters functions tt f a)) h

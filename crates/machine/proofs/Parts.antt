@@ -11,7 +11,7 @@ use mir.Val.{Fits}
 use lib.ListN.{length}
 use borrow.Author.Tests.{eq-eqb, ne-eqb, le-leb, lt-leb, leb-true}
 use Rattle.machine.specs.State.{State, at}
-use Rattle.machine.specs.Step.{Turn, done, finished, stopped, step}
+use Rattle.machine.specs.Step.{StepResult, done, finished, stopped, step}
 use Rattle.machine.specs.Run.{Outcome, after, onTurn, steps, resume, carriedOn, largest, allowed}
 use Rattle.machine.specs.Answers.{Ends, outcomeOf, CarriesOn}
 use Rattle.machine.specs.declared.Ran.{Ran}
@@ -71,7 +71,7 @@ parts-are-whole input (n ∷ ns) s =
 
 -- ---- a run does no more instructions than its budget
 
-counts-turn : (s : State) (t : Turn) (n : ℕ) (f : State → Outcome) → ((u : State) → f u .count ≤ n) → onTurn s t f .count ≤ suc n
+counts-turn : (s : State) (t : StepResult) (n : ℕ) (f : State → Outcome) → ((u : State) → f u .count ≤ n) → onTurn s t f .count ≤ suc n
 counts-turn s (done t) n f h = let l = h t in omega arith
 counts-turn s (finished t) n f h = omega arith
 counts-turn s (stopped k) n f h = omega arith

@@ -14,7 +14,7 @@ use Rattle.machine.specs.Outcome.{Out, ok, stop, _>>=_, write}
 use Rattle.machine.specs.State.{State, at, withC}
 use Rattle.machine.specs.Fetch.{Fetch, fetch}
 use Rattle.machine.specs.Acts.{Act, unlisted, indirect, negate, invert, back, finish, switch, rdch, wrch, dyadic, actOf, combined, sent}
-use Rattle.machine.specs.Step.{Turn, done, finished, stopped, turn, keep, stored, called, perform, Function, L, S, A, J, T, F, K, X, functionOf, execute, onFetch, step}
+use Rattle.machine.specs.Step.{StepResult, done, finished, stopped, turn, keep, stored, called, perform, Function, L, S, A, J, T, F, K, X, functionOf, execute, onFetch, step}
 use Rattle.machine.specs.Run.{Outcome, after, onTurn, steps}
 use Rattle.machine.specs.declared.Registers.{Registers}
 use Rattle.machine.proofs.Shape.{Yields, gives, stops, yields-bind, Any, SameWritten, yields-indirected, yields-returned, yields-switched, yields-received, yields-jumped, Sound, sound-act}
@@ -26,11 +26,11 @@ pub record Roomier (written : ℕ) (o o′ : List ℕ) : Type 0 where
   pub same : (i : ℕ) → i < written → getD o i 0 ≡ getD o′ i 0
 
 -- two turns alike but for the output's room, or the first stopped for it
-data Alike : Turn → Turn → Type 0 where
+data Alike : StepResult → StepResult → Type 0 where
   both-done : (r : Registers) (m : List ℕ) {o o′ : List ℕ} → Roomier (r .written) o o′ → Alike (done (at r m o)) (done (at r m o′))
   both-finished : (r : Registers) (m : List ℕ) {o o′ : List ℕ} → Roomier (r .written) o o′ → Alike (finished (at r m o)) (finished (at r m o′))
   both-stopped : (k : ℕ) → Alike (stopped k) (stopped k)
-  full : (t : Turn) → Alike (stopped 35) t
+  full : (t : StepResult) → Alike (stopped 35) t
 
 module _ (r : Registers) {o o′ : List ℕ} (h : Roomier (r .written) o o′) where
   moved : {r′ : Registers} → SameWritten r r′ → Roomier (r′ .written) o o′
@@ -128,7 +128,7 @@ one-later (cut n s x h k) = cut (1 + n) s (after 1 x) h k
 
 turn-beginning : (r : Registers) (m : List ℕ) {o o′ : List ℕ} → Roomier (r .written) o o′ → (f : State → Outcome)
     → ((r₁ : Registers) (m₁ o₁ o₂ : List ℕ) → Roomier (r₁ .written) o₁ o₂ → Beginning (f (at r₁ m₁ o₁)) (f (at r₁ m₁ o₂)))
-    → {t t′ : Turn} → Alike t t′ → Grows (at r m o′) (onTurn (at r m o′) t′ f .state)
+    → {t t′ : StepResult} → Alike t t′ → Grows (at r m o′) (onTurn (at r m o′) t′ f .state)
     → Beginning (onTurn (at r m o) t f) (onTurn (at r m o′) t′ f)
 turn-beginning r m h f ih (both-done r₁ m₁ {o = o₁} {o′ = o₂} k) g = one-later (ih r₁ m₁ o₁ o₂ k)
 turn-beginning r m h f ih (both-finished r₁ m₁ k) g = whole 30 1 r₁ m₁ k

@@ -1,4 +1,4 @@
--- One instruction, and a run of them: what `step`, `go` and `resume` cite.
+-- One instruction, and a run of them: what `step`, `run_steps` and `resume` cite.
 use Prim.Native.Nat.{ℕ, zero, suc, _+_, _-_, _<_, _≤_}
 use mathlib.Core.Path.{_≡_, refl, sym, ap, _∙_}
 use mathlib.Core.List.{List}
@@ -8,15 +8,15 @@ use lib.ListN.{length}
 use Rattle.machine.specs.Outcome.{Out, ok, stop}
 use Rattle.machine.specs.State.{State, at, withC, startRegisters}
 use Rattle.machine.specs.Fetch.{Fetch, fetch}
-use Rattle.machine.specs.Step.{Turn, done, finished, stopped, functionOf, execute, step}
+use Rattle.machine.specs.Step.{StepResult, done, finished, stopped, functionOf, execute, step}
 use Rattle.machine.specs.Run.{Outcome, after, onTurn, steps, resume, run}
-use Rattle.machine.specs.Answers.{asFetched, asTurn, left, Turns, Ends}
+use Rattle.machine.specs.Answers.{asFetched, asTurn, left, Steps, Ends}
 use Rattle.machine.specs.declared.Registers.{Registers}
 use Rattle.machine.specs.declared.Ran.{Ran}
 use Rattle.machine.specs.declared.Fetched.{Fetched}
 use Rattle.machine.specs.declared.Fetched.the-variants as F
-use Rattle.machine.specs.declared.Turn as D
-use Rattle.machine.specs.declared.Turn.the-variants as T
+use Rattle.machine.specs.declared.StepResult as D
+use Rattle.machine.specs.declared.StepResult.the-variants as T
 use Rattle.machine.proofs.Laws.{turns}
 
 -- ---- one instruction, from the fetch's answer, matched
@@ -41,31 +41,31 @@ fetched-stop r (ok t) p q = let z : _≡_ {A = ℕ} 0 1 = cc in absurd (omega ar
 fetched-stop r (stop k) p q = cc
 
 -- a turn said from a state with other registers
-from-other : (r r′ : Registers) (m out : List ℕ) (t : Turn) {d : D.Turn} {m′ o′ : List ℕ} → Turns (at r′ m out) t d m′ o′ → Turns (at r m out) t d m′ o′
+from-other : (r r′ : Registers) (m out : List ℕ) (t : StepResult) {d : D.StepResult} {m′ o′ : List ℕ} → Steps (at r′ m out) t d m′ o′ → Steps (at r m out) t d m′ o′
 unfolding left
 from-other r r′ m out (done t) h = turns _ _ (h .answers) (h .stores) (h .writes)
 from-other r r′ m out (finished t) h = turns _ _ (h .answers) (h .stores) (h .writes)
 from-other r r′ m out (stopped k) h = turns _ _ (h .answers) (h .stores) (h .writes)
 
 module _ (input : List ℕ) (r : Registers) (m out : List ℕ) {a : Fetched} (p : a ≡ asFetched r (fetch r m)) where
-  pub step-stop : {k : ℕ} → a ≡ F.Stopped k → Turns (at r m out) (step input (at r m out)) (T.Stopped k) m out
+  pub step-stop : {k : ℕ} → a ≡ F.Stopped k → Steps (at r m out) (step input (at r m out)) (T.Stopped k) m out
   unfolding step asTurn left
   step-stop q = let e = fetched-stop r (fetch r m) p q in turns _ _ (simp e) (simp e) (simp e)
 
-  step-from : {f x c : ℕ} {r′ : Registers} {d : D.Turn} {m′ o′ : List ℕ} → fetch r m ≡ ok (record { function = f; operand = x; past = c }) → r′ ≡ withC c r
-      → Turns (at r′ m out) (execute input (functionOf f) x (at r′ m out)) d m′ o′ → Turns (at r m out) (step input (at r m out)) d m′ o′
+  step-from : {f x c : ℕ} {r′ : Registers} {d : D.StepResult} {m′ o′ : List ℕ} → fetch r m ≡ ok (record { function = f; operand = x; past = c }) → r′ ≡ withC c r
+      → Steps (at r′ m out) (execute input (functionOf f) x (at r′ m out)) d m′ o′ → Steps (at r m out) (step input (at r m out)) d m′ o′
   unfolding step
   step-from {f} {x} {c} g e h =
       let z : step input (at r m out) ≡ execute input (functionOf f) x (at (withC c r) m out) = simp g in
       rw z (from-other r (withC c r) m out (execute input (functionOf f) x (at (withC c r) m out)) (rw e at h))
 
-  pub step-one : {f x : ℕ} {r′ : Registers} {d : D.Turn} {m′ o′ : List ℕ} → a ≡ F.One f x r′
-      → Turns (at r′ m out) (execute input (functionOf f) x (at r′ m out)) d m′ o′ → Turns (at r m out) (step input (at r m out)) d m′ o′
+  pub step-one : {f x : ℕ} {r′ : Registers} {d : D.StepResult} {m′ o′ : List ℕ} → a ≡ F.One f x r′
+      → Steps (at r′ m out) (execute input (functionOf f) x (at r′ m out)) d m′ o′ → Steps (at r m out) (step input (at r m out)) d m′ o′
   step-one q h = let one = fetched-one r (fetch r m) p q in step-from (one .fetched) (one .moved) h
 
 -- ---- a turn's answer, matched
 
-turned-done : {s : State} (t : Turn) {d : D.Turn} {r : Registers} {m out : List ℕ} → Turns s t d m out → d ≡ T.Done r → t ≡ done (at r m out)
+turned-done : {s : State} (t : StepResult) {d : D.StepResult} {r : Registers} {m out : List ℕ} → Steps s t d m out → d ≡ T.Done r → t ≡ done (at r m out)
 unfolding asTurn left
 turned-done (done t) {r = r} h q =
     let e : t .regs ≡ r = cc (h .answers) in
@@ -73,7 +73,7 @@ turned-done (done t) {r = r} h q =
 turned-done (finished t) h q = let z : _≡_ {A = ℕ} 0 1 = cc (h .answers) in absurd (omega arith)
 turned-done (stopped k) h q = let z : _≡_ {A = ℕ} 0 1 = cc (h .answers) in absurd (omega arith)
 
-turned-finished : {s : State} (t : Turn) {d : D.Turn} {r : Registers} {m out : List ℕ} → Turns s t d m out → d ≡ T.Finished r → t ≡ finished (at r m out)
+turned-finished : {s : State} (t : StepResult) {d : D.StepResult} {r : Registers} {m out : List ℕ} → Steps s t d m out → d ≡ T.Finished r → t ≡ finished (at r m out)
 unfolding asTurn left
 turned-finished (finished t) {r = r} h q =
     let e : t .regs ≡ r = cc (h .answers) in
@@ -81,12 +81,12 @@ turned-finished (finished t) {r = r} h q =
 turned-finished (done t) h q = let z : _≡_ {A = ℕ} 0 1 = cc (h .answers) in absurd (omega arith)
 turned-finished (stopped k) h q = let z : _≡_ {A = ℕ} 0 1 = cc (h .answers) in absurd (omega arith)
 
-record Stuck (s : State) (t : Turn) (k : ℕ) (m out : List ℕ) : Type 0 where
+record Stuck (s : State) (t : StepResult) (k : ℕ) (m out : List ℕ) : Type 0 where
   stops : t ≡ stopped k
   stores : m ≡ s .mem
   writes : out ≡ s .out
 
-turned-stopped : {s : State} (t : Turn) {d : D.Turn} {k : ℕ} {m out : List ℕ} → Turns s t d m out → d ≡ T.Stopped k → Stuck s t k m out
+turned-stopped : {s : State} (t : StepResult) {d : D.StepResult} {k : ℕ} {m out : List ℕ} → Steps s t d m out → d ≡ T.Stopped k → Stuck s t k m out
 unfolding asTurn left
 turned-stopped (done t) h q = let z : _≡_ {A = ℕ} 0 1 = cc (h .answers) in absurd (omega arith)
 turned-stopped (finished t) h q = let z : _≡_ {A = ℕ} 0 1 = cc (h .answers) in absurd (omega arith)
@@ -121,12 +121,12 @@ module _ (input : List ℕ) (n : ℕ) (s₀ : State) (rest : ℕ) (r : Registers
       let q : steps input n s₀ ≡ after (n - 0) (steps input 0 (at r m out)) = rw e at (h .whole) in
       rw q (record { stops = refl; counts = omega arith; leaves = refl; stores = refl; writes = refl })
 
-  module _ (pos : 0 < rest) {d : D.Turn} {m′ out′ : List ℕ} (did : Turns (at r m out) (step input (at r m out)) d m′ out′) where
-    first : {t : Turn} → step input (at r m out) ≡ t → steps input n s₀ ≡ after (n - rest) (onTurn (at r m out) t (λ u. steps input (rest - 1) u))
-    first e = h .whole ∙ ap (after (n - rest)) (steps-turn input rest (at r m out) pos ∙ ap (λ (t : Turn). onTurn (at r m out) t (λ u. steps input (rest - 1) u)) e)
+  module _ (pos : 0 < rest) {d : D.StepResult} {m′ out′ : List ℕ} (did : Steps (at r m out) (step input (at r m out)) d m′ out′) where
+    first : {t : StepResult} → step input (at r m out) ≡ t → steps input n s₀ ≡ after (n - rest) (onTurn (at r m out) t (λ u. steps input (rest - 1) u))
+    first e = h .whole ∙ ap (after (n - rest)) (steps-turn input rest (at r m out) pos ∙ ap (λ (t : StepResult). onTurn (at r m out) t (λ u. steps input (rest - 1) u)) e)
 
-    pub left-go : {t : Registers} → d ≡ T.Done t → Left input n s₀ (rest - 1) (at t m′ out′)
-    left-go q =
+    pub left-run-steps : {t : Registers} → d ≡ T.Done t → Left input n s₀ (rest - 1) (at t m′ out′)
+    left-run-steps q =
         let le = h .within in
         record {
           within = omega arith;

@@ -11,7 +11,7 @@ use Rattle.machine.specs.Outcome.{Out, ok, stop, _>>=_, read, write}
 use Rattle.machine.specs.State.{State, at, withA, withC}
 use Rattle.machine.specs.Fetch.{Fetch, fetch, bit}
 use Rattle.machine.specs.Acts.{Act, unlisted, indirect, negate, invert, back, finish, switch, rdch, wrch, dyadic, unlessZero, acts, actOf, indirected, returned, combined, search, switched, received, sent}
-use Rattle.machine.specs.Step.{Turn, done, finished, stopped, turn, keep, stored, called, jumped, perform, Function, L, S, A, J, T, F, K, X, functionOf, execute, step, onFetch}
+use Rattle.machine.specs.Step.{StepResult, done, finished, stopped, turn, keep, stored, called, jumped, perform, Function, L, S, A, J, T, F, K, X, functionOf, execute, step, onFetch}
 use Rattle.machine.specs.declared.Registers.{Registers}
 
 -- ---- what a part gives satisfies P, or it stops with a number above 31, which is kept for the budget
@@ -192,7 +192,7 @@ pub record OneMore (s t : State) : Type 0 where
   pub output : t .out ≡ set (s .out) (s .regs .written) byte
   pub place : t .regs .written ≡ s .regs .written + 1
 
-pub data Shape (s : State) : Turn → Type 0 where
+pub data Shape (s : State) : StepResult → Type 0 where
   quiet : {t : State} → Quiet s t → Shape s (done t)
   one-more : {t : State} → OneMore s t → Shape s (done t)
   ends : {t : State} → Quiet s t → Shape s (finished t)
@@ -268,7 +268,7 @@ yields-fetch r m =
     yields-bind (yields-cond (bit 4096 w) (yields-read m _) (gives tt)) (λ x _. gives tt)))
 
 -- the fetch changes only C
-from-fetched : {s : State} {c : ℕ} {t : Turn} → Shape (at (withC c (s .regs)) (s .mem) (s .out)) t → Shape s t
+from-fetched : {s : State} {c : ℕ} {t : StepResult} → Shape (at (withC c (s .regs)) (s .mem) (s .out)) t → Shape s t
 from-fetched (quiet q) = quiet (record { memory = q .memory; output = q .output; place = q .place })
 from-fetched (one-more q) = one-more (record { memory = q .memory; byte = q .byte; room = q .room; output = q .output; place = q .place })
 from-fetched (ends q) = ends (record { memory = q .memory; output = q .output; place = q .place })

@@ -10,7 +10,7 @@ use Rattle.machine.specs.Outcome.{Out, ok, stop, _>>=_, read, write}
 use Rattle.machine.specs.State.{State, at}
 use Rattle.machine.specs.Fetch.{Fetch, fetch}
 use Rattle.machine.specs.Acts.{Act, unlisted, indirect, negate, invert, back, finish, switch, rdch, wrch, dyadic, actOf, indirected, returned, combined, search, switched, received, sent}
-use Rattle.machine.specs.Step.{Turn, done, finished, stopped, turn, keep, stored, called, jumped, perform, Function, L, S, A, J, T, F, K, X, functionOf, execute, onFetch, step}
+use Rattle.machine.specs.Step.{StepResult, done, finished, stopped, turn, keep, stored, called, jumped, perform, Function, L, S, A, J, T, F, K, X, functionOf, execute, onFetch, step}
 use Rattle.machine.specs.Run.{Outcome, onTurn, steps, resume, run}
 use Rattle.machine.specs.declared.Registers.{Registers}
 use Rattle.machine.proofs.Without as W
@@ -23,7 +23,7 @@ bare r = record { a = r .a; b = r .b; c = r .c; p = r .p; g = r .g; taken = r .t
 abbrev pub bareState : State → W.State
 bareState s = W.at (bare (s .regs)) (s .mem) (s .out)
 
-abbrev pub bareTurn : Turn → W.Turn
+abbrev pub bareTurn : StepResult → W.StepResult
 bareTurn (done t) = W.done (bareState t)
 bareTurn (finished t) = W.finished (bareState t)
 bareTurn (stopped k) = W.stopped k
@@ -139,7 +139,7 @@ step-unchanged input s = same-fetched input s (fetch (s .regs) (s .mem)) ∙ ap 
 
 -- ---- a run, whatever its stop
 
-same-on-turn : (s : State) (t : Turn) (f : State → Outcome) (g : W.State → W.Outcome) → ((u : State) → bareOutcome (f u) ≡ g (bareState u))
+same-on-turn : (s : State) (t : StepResult) (f : State → Outcome) (g : W.State → W.Outcome) → ((u : State) → bareOutcome (f u) ≡ g (bareState u))
     → bareOutcome (onTurn s t f) ≡ W.onTurn (bareState s) (bareTurn t) g
 same-on-turn s (done t) f g e = ap (W.after 1) (e t)
 same-on-turn s (finished t) f g e = refl
@@ -150,7 +150,7 @@ unfolding steps W.steps
 steps-unchanged input zero s = refl
 steps-unchanged input (suc n) s =
     same-on-turn s (step input s) (λ t. steps input n t) (λ t. W.steps input n t) (λ t. steps-unchanged input n t)
-    ∙ ap (λ (t : W.Turn). W.onTurn (bareState s) t (λ u. W.steps input n u)) (step-unchanged input s)
+    ∙ ap (λ (t : W.StepResult). W.onTurn (bareState s) t (λ u. W.steps input n u)) (step-unchanged input s)
 
 pub resume-unchanged : (input : List ℕ) (n : ℕ) (s : State) → bareOutcome (resume input n s) ≡ W.resume input n (bareState s)
 unfolding resume W.resume

@@ -95,15 +95,15 @@ sent s =
 
 -- ---- one instruction
 
-pub data Turn : Type 0 where
-  done finished : State → Turn
-  stopped : ℕ → Turn
+pub data StepResult : Type 0 where
+  done finished : State → StepResult
+  stopped : ℕ → StepResult
 
-abbrev pub turn : Out State → Turn
+abbrev pub turn : Out State → StepResult
 turn (ok s) = done s
 turn (stop k) = stopped k
 
-unfoldable pub keep : State → Out Registers → Turn
+unfoldable pub keep : State → Out Registers → StepResult
 keep s (ok r) = done (at r (s .mem) (s .out))
 keep s (stop k) = stopped k
 
@@ -123,7 +123,7 @@ unfoldable pub jumped : Bool → ℕ → Registers → Registers
 jumped true x r = withC x r
 jumped false x r = r
 
-unfoldable pub perform : List ℕ → Act → State → Turn
+unfoldable pub perform : List ℕ → Act → State → StepResult
 perform input unlisted s = stopped 34
 perform input indirect s = keep s (indirected (s .regs) (s .mem))
 perform input negate s = keep s (ok (withA (neg (s .regs .a)) (s .regs)))
@@ -135,7 +135,7 @@ perform input switch s = keep s (switched (s .regs) (s .mem))
 perform input rdch s = keep s (ok (received (s .regs) input))
 perform input wrch s = turn (sent s)
 
-unfoldable pub execute : List ℕ → Function → ℕ → State → Turn
+unfoldable pub execute : List ℕ → Function → ℕ → State → StepResult
 execute input L x s = keep s (ok (loaded x (s .regs)))
 execute input S x s = turn (stored x s)
 execute input A x s = keep s (ok (withA (add (s .regs .a) x) (s .regs)))
@@ -145,11 +145,11 @@ execute input F x s = keep s (ok (jumped (eqb (s .regs .a) 0) x (s .regs)))
 execute input K x s = turn (called x s)
 execute input X x s = perform input (actOf x) s
 
-abbrev pub onFetch : List ℕ → State → Out Fetch → Turn
+abbrev pub onFetch : List ℕ → State → Out Fetch → StepResult
 onFetch input s (ok f) = execute input (functionOf (f .function)) (f .operand) (at (withC (f .past) (s .regs)) (s .mem) (s .out))
 onFetch input s (stop k) = stopped k
 
-unfoldable pub step : List ℕ → State → Turn
+unfoldable pub step : List ℕ → State → StepResult
 step input s = onFetch input s (fetch (s .regs) (s .mem))
 
 -- ---- a run
@@ -162,7 +162,7 @@ pub record Outcome : Type 0 where
 abbrev pub after : ℕ → Outcome → Outcome
 after n o = record { stop = o .stop; count = n + o .count; state = o .state }
 
-abbrev pub onTurn : State → Turn → (State → Outcome) → Outcome
+abbrev pub onTurn : State → StepResult → (State → Outcome) → Outcome
 onTurn s (done t) more = after 1 (more t)
 onTurn s (finished t) more = record { stop = 30; count = 1; state = t }
 onTurn s (stopped k) more = record { stop = k; count = 0; state = s }

@@ -11,8 +11,8 @@ use Rattle.machine.specs.Step as S
 use Rattle.machine.specs.Run.{Outcome, resume, carriedOn, largest, allowed}
 use Rattle.machine.specs.declared.Registers.{Registers}
 use Rattle.machine.specs.declared.Ran.{Ran}
-use Rattle.machine.specs.declared.Turn.{Turn}
-use Rattle.machine.specs.declared.Turn.the-variants as T
+use Rattle.machine.specs.declared.StepResult.{StepResult}
+use Rattle.machine.specs.declared.StepResult.the-variants as T
 use Rattle.machine.specs.declared.Word.{Word}
 use Rattle.machine.specs.declared.Word.the-variants as W
 use Rattle.machine.specs.declared.Fetched.{Fetched}
@@ -33,35 +33,35 @@ asFetched r (ok f) = F.One (f .function) (f .operand) (withC (f .past) r)
 asFetched r (stop k) = F.Stopped k
 
 -- an act on the registers alone
-unfoldable pub asActed : Out Registers → Turn
+unfoldable pub asActed : Out Registers → StepResult
 asActed (ok r) = T.Done r
 asActed (stop k) = T.Stopped k
 
-unfoldable pub asTurn : S.Turn → Turn
+unfoldable pub asTurn : S.StepResult → StepResult
 asTurn (S.done t) = T.Done (t .regs)
 asTurn (S.finished t) = T.Finished (t .regs)
 asTurn (S.stopped k) = T.Stopped k
 
 -- document 01's numbers of an answer: 30 finished, or the stop, and 0 where the run goes on; and the registers, which a stop leaves as
 -- they were
-abbrev pub numberOf : Turn → ℕ
+abbrev pub numberOf : StepResult → ℕ
 numberOf (T.Done r) = 0
 numberOf (T.Finished r) = 30
 numberOf (T.Stopped k) = k
 
-abbrev pub registersOf : Registers → Turn → Registers
+abbrev pub registersOf : Registers → StepResult → Registers
 registersOf r (T.Done t) = t
 registersOf r (T.Finished t) = t
 registersOf r (T.Stopped k) = r
 
 -- where a turn leaves the state: a stop leaves it as it was
-unfoldable pub left : State → S.Turn → State
+unfoldable pub left : State → S.StepResult → State
 left s (S.done t) = t
 left s (S.finished t) = t
 left s (S.stopped k) = s
 
 -- an answer, and the lent memory and output at exit, are what a turn from a state gives
-pub record Turns (s : State) (turn : S.Turn) (answer : Turn) (memory output : List ℕ) : Type 0 where
+pub record Steps (s : State) (turn : S.StepResult) (answer : StepResult) (memory output : List ℕ) : Type 0 where
   pub answers : answer ≡ asTurn turn
   pub stops : numberOf answer ≡ numberOf (asTurn turn)
   pub leaves : registersOf (s .regs) answer ≡ left s turn .regs

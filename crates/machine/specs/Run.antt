@@ -5,7 +5,7 @@ use mathlib.Core.List.{List}
 use lib.ListN.{length}
 use lib.Dec.{eqb, leb}
 use Rattle.machine.specs.State.{State, at, startRegisters}
-use Rattle.machine.specs.Step.{Turn, done, finished, stopped, step}
+use Rattle.machine.specs.Step.{StepResult, done, finished, stopped, step}
 
 -- the stop, the number of instructions done, and the state at the end: registers, memory, output, input taken, output written
 pub record Outcome : Type 0 where
@@ -17,7 +17,7 @@ abbrev pub after : ℕ → Outcome → Outcome
 after n o = record { stop = o .stop; count = n + o .count; state = o .state }
 
 -- 30: finished, which is counted. On any other stop the state is the one before the instruction met
-abbrev pub onTurn : State → Turn → (State → Outcome) → Outcome
+abbrev pub onTurn : State → StepResult → (State → Outcome) → Outcome
 onTurn s (done t) more = after 1 (more t)
 onTurn s (finished t) more = record { stop = 30; count = 1; state = t }
 onTurn s (stopped k) more = record { stop = k; count = 0; state = s }

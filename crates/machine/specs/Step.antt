@@ -12,16 +12,16 @@ use Rattle.machine.specs.Acts.{Act, unlisted, indirect, negate, invert, 
 use Rattle.machine.specs.declared.Registers.{Registers}
 
 -- an instruction is done, is done and finishes the run, or is not done because of a stop
-pub data Turn : Type 0 where
-  done finished : State → Turn
-  stopped : ℕ → Turn
+pub data StepResult : Type 0 where
+  done finished : State → StepResult
+  stopped : ℕ → StepResult
 
-abbrev pub turn : Out State → Turn
+abbrev pub turn : Out State → StepResult
 turn (ok s) = done s
 turn (stop k) = stopped k
 
 -- the state with what an act on the registers gives
-unfoldable pub keep : State → Out Registers → Turn
+unfoldable pub keep : State → Out Registers → StepResult
 keep s (ok r) = done (at r (s .mem) (s .out))
 keep s (stop k) = stopped k
 
@@ -45,7 +45,7 @@ jumped true x r = withC x r
 jumped false x r = r
 
 -- 7 X. 34: X number not listed
-unfoldable pub perform : List ℕ → Act → State → Turn
+unfoldable pub perform : List ℕ → Act → State → StepResult
 perform input unlisted s = stopped 34
 perform input indirect s = keep s (indirected (s .regs) (s .mem))
 perform input negate s = keep s (ok (withA (neg (s .regs .a)) (s .regs)))
@@ -67,7 +67,7 @@ abbrev pub functionOf : ℕ → Function
 functionOf n = getD functions n X
 
 -- what a function does with its operand, C being past the instruction
-unfoldable pub execute : List ℕ → Function → ℕ → State → Turn
+unfoldable pub execute : List ℕ → Function → ℕ → State → StepResult
 execute input L x s = keep s (ok (loaded x (s .regs)))
 execute input S x s = turn (stored x s)
 execute input A x s = keep s (ok (withA (add (s .regs .a) x) (s .regs)))
@@ -77,9 +77,9 @@ execute input F x s = keep s (ok (jumped (eqb (s .regs .a) 0) x (s .regs)))
 execute input K x s = turn (called x s)
 execute input X x s = perform input (actOf x) s
 
-abbrev pub onFetch : List ℕ → State → Out Fetch → Turn
+abbrev pub onFetch : List ℕ → State → Out Fetch → StepResult
 onFetch input s (ok f) = execute input (functionOf (f .function)) (f .operand) (at (withC (f .past) (s .regs)) (s .mem) (s .out))
 onFetch input s (stop k) = stopped k
 
-unfoldable pub step : List ℕ → State → Turn
+unfoldable pub step : List ℕ → State → StepResult
 step input s = onFetch input s (fetch (s .regs) (s .mem))

@@ -14,7 +14,7 @@ ghost use Rattle.machine.specs.Forms.{fetchedAt, fetchedFrom, decoded};
 ghost use Rattle.machine.specs.Acts.{actOf, indirected, returned, combined, search, switched, received, sent};
 ghost use Rattle.machine.specs.Step.{turn, stored, called, jumped, perform, functionOf, execute, step};
 ghost use Rattle.machine.specs.Run.{steps, resume, allowed, run};
-ghost use Rattle.machine.specs.Answers.{asWord, asQuotient, asFetched, asActed, Turns, Ends, CarriesOn};
+ghost use Rattle.machine.specs.Answers.{asWord, asQuotient, asFetched, asActed, Steps, Ends, CarriesOn};
 ghost use Rattle.machine.specs.Numbers.{valueOf};
 use words::Divided;
 
@@ -46,7 +46,7 @@ pub enum Fetched {
 }
 
 // What one instruction leaves in the registers, or the number of the stop that left it undone.
-pub enum Turn {
+pub enum StepResult {
     Done(Registers),
     Finished(Registers),
     Stopped(u16),
@@ -70,7 +70,7 @@ fn word_at(memory: &[u16], i: u16) -> Word
     }
 }
 
-fn when(bit: u16, x: u16, y: u16) -> u16
+fn if_set(bit: u16, x: u16, y: u16) -> u16
     ensures { λ r. ⌜ r ≡ cond (eqb bit 1) x y ⌝ }
 {
     if bit == 1 { x } else { y }
@@ -86,7 +86,7 @@ fn quotient_word(d: Divided) -> Word
 }
 
 // What the acts 5 to 19 make of B and A.
-fn value(n: u16, b: u16, a: u16) -> Word
+fn dyadic_act(n: u16, b: u16, a: u16) -> Word
     ensures { λ r. ⌜ r ≡ asWord (valueOf (actOf n) b a) ⌝ }
 {
     match n {
@@ -110,7 +110,7 @@ fn value(n: u16, b: u16, a: u16) -> Word
 }
 
 // The address beside the first number equal to a among n pairs from `from` on, or the default.
-fn find(memory: &[u16], a: u16, default: u16, n: u16, from: u16) -> Word
+fn switch_address(memory: &[u16], a: u16, default: u16, n: u16, from: u16) -> Word
     ensures { λ r. ⌜ r ≡ asWord (search (now (memory .entry)) a default n from) ⌝ }
 {
     let mut i = from;
@@ -169,8 +169,8 @@ impl Registers {
     fn operand(self, memory: &[u16], w: u16, n: u16, past: u16) -> Fetched
         ensures { λ r. ⌜ r ≡ asFetched self (fetchedFrom self (now (memory .entry)) w n past) ⌝ }
     {
-        let p = when(w / 2048 % 2, self.p, 0);
-        let g = when(w / 1024 % 2, self.g, 0);
+        let p = if_set(w / 2048 % 2, self.p, 0);
+        let g = if_set(w / 1024 % 2, self.g, 0);
         let y = words::sum(words::sum(n, p), g);
         if w / 4096 % 2 == 1 {
             return self.reading(memory, w / 8192, y, past);
@@ -329,12 +329,12 @@ impl Registers {
     }
 
     // X1.
-    fn indirect(self, memory: &[u16]) -> Turn
+    fn indirect(self, memory: &[u16]) -> StepResult
         ensures { λ r. ⌜ r ≡ asActed (indirected self (now (memory .entry))) ⌝ }
     {
         match word_at(memory, self.a) {
-            Word::Stopped(k) => Turn::Stopped(k),
-            Word::Is(v) => Turn::Done(self.with_a(v)),
+            Word::Stopped(k) => StepResult::Stopped(k),
+            Word::Is(v) => StepResult::Done(self.with_a(v)),
         }
     }
 
@@ -353,40 +353,46 @@ impl Registers {
     }
 
     // X4.
-    fn back(self, memory: &[u16]) -> Turn
+    fn back(self, memory: &[u16]) -> StepResult
         ensures { λ r. ⌜ r ≡ asActed (returned self (now (memory .entry))) ⌝ }
     {
         match word_at(memory, words::sum(self.p, 1)) {
-            Word::Stopped(k) => Turn::Stopped(k),
+            Word::Stopped(k) => StepResult::Stopped(k),
             Word::Is(c) => match word_at(memory, self.p) {
-                Word::Stopped(k) => Turn::Stopped(k),
-                Word::Is(p) => Turn::Done(self.framed(p, c)),
+                Word::Stopped(k) => StepResult::Stopped(k),
+                Word::Is(p) => StepResult::Done(self.framed(p, c)),
             },
         }
     }
 
     // X5 to X19; 34 for a number that is not listed.
-    fn combine(self, n: u16) -> Turn
+    fn combine(self, n: u16) -> StepResult
         ensures { λ r. ⌜ r ≡ asActed (combined (valueOf (actOf n)) self) ⌝ }
     {
-        match value(n, self.b, self.a) {
-            Word::Stopped(k) => Turn::Stopped(k),
-            Word::Is(v) => Turn::Done(self.with_a(v)),
+        match dyadic_act(n, self.b, self.a) {
+            Word::Stopped(k) => StepResult::Stopped(k),
+            Word::Is(v) => StepResult::Done(self.with_a(v)),
         }
     }
 
     // X23.
-    fn switch(self, memory: &[u16]) -> Turn
+    fn switch(self, memory: &[u16]) -> StepResult
         ensures { λ r. ⌜ r ≡ asActed (switched self (now (memory .entry))) ⌝ }
     {
         let c = self.c;
         match word_at(memory, c) {
-            Word::Stopped(k) => Turn::Stopped(k),
+            Word::Stopped(k) => StepResult::Stopped(k),
             Word::Is(n) => match word_at(memory, words::sum(c, 1)) {
-                Word::Stopped(k) => Turn::Stopped(k),
-                Word::Is(default) => match find(memory, self.a, default, n, words::sum(c, 2)) {
-                    Word::Stopped(k) => Turn::Stopped(k),
-                    Word::Is(to) => Turn::Done(self.with_c(to)),
+                Word::Stopped(k) => StepResult::Stopped(k),
+                Word::Is(default) => match switch_address(
+                    memory,
+                    self.a,
+                    default,
+                    n,
+                    words::sum(c, 2),
+                ) {
+                    Word::Stopped(k) => StepResult::Stopped(k),
+                    Word::Is(to) => StepResult::Done(self.with_c(to)),
                 },
             },
         }
@@ -416,13 +422,13 @@ impl Registers {
     }
 
     // X28.
-    fn wrch(self, memory: &mut [u16], output: &mut [u8]) -> Turn
-        ensures { λ r. ⌜ Turns (at self (now (memory .entry)) (now (output .entry))) (turn (sent (at self (now (memory .entry)) (now (output .entry))))) r (now (memory .exit)) (now (output .exit)) ⌝ }
+    fn wrch(self, memory: &mut [u16], output: &mut [u8]) -> StepResult
+        ensures { λ r. ⌜ Steps (at self (now (memory .entry)) (now (output .entry))) (turn (sent (at self (now (memory .entry)) (now (output .entry))))) r (now (memory .exit)) (now (output .exit)) ⌝ }
     {
         let written = self.written;
         if written < output.len() {
             output[written] = (self.a % 256) as u8;
-            Turn::Done(Registers {
+            StepResult::Done(Registers {
                 a: self.a,
                 b: self.b,
                 c: self.c,
@@ -435,27 +441,27 @@ impl Registers {
                 words: 0,
             })
         } else {
-            Turn::Stopped(35)
+            StepResult::Stopped(35)
         }
     }
 
     // S.
-    fn store(self, x: u16, memory: &mut [u16], output: &mut [u8]) -> Turn
-        ensures { λ r. ⌜ Turns (at self (now (memory .entry)) (now (output .entry))) (turn (stored x (at self (now (memory .entry)) (now (output .entry))))) r (now (memory .exit)) (now (output .exit)) ⌝ }
+    fn store(self, x: u16, memory: &mut [u16], output: &mut [u8]) -> StepResult
+        ensures { λ r. ⌜ Steps (at self (now (memory .entry)) (now (output .entry))) (turn (stored x (at self (now (memory .entry)) (now (output .entry))))) r (now (memory .exit)) (now (output .exit)) ⌝ }
     {
         let i = x as usize;
         let a = self.a;
         if i < memory.len() {
             memory[i] = a;
-            Turn::Done(self.having_stored(x, 1))
+            StepResult::Done(self.having_stored(x, 1))
         } else {
-            Turn::Stopped(32)
+            StepResult::Stopped(32)
         }
     }
 
     // K.
-    fn call(self, x: u16, memory: &mut [u16], output: &mut [u8]) -> Turn
-        ensures { λ r. ⌜ Turns (at self (now (memory .entry)) (now (output .entry))) (turn (called x (at self (now (memory .entry)) (now (output .entry))))) r (now (memory .exit)) (now (output .exit)) ⌝ }
+    fn call(self, x: u16, memory: &mut [u16], output: &mut [u8]) -> StepResult
+        ensures { λ r. ⌜ Steps (at self (now (memory .entry)) (now (output .entry))) (turn (called x (at self (now (memory .entry)) (now (output .entry))))) r (now (memory .exit)) (now (output .exit)) ⌝ }
     {
         let frame = words::sum(self.p, x);
         let p = self.p;
@@ -466,82 +472,95 @@ impl Registers {
             if j < memory.len() {
                 memory[i] = p;
                 memory[j] = c;
-                Turn::Done(self.framed(frame, self.a).having_stored(frame, 2))
+                StepResult::Done(self.framed(frame, self.a).having_stored(frame, 2))
             } else {
-                Turn::Stopped(32)
+                StepResult::Stopped(32)
             }
         } else {
-            Turn::Stopped(32)
+            StepResult::Stopped(32)
         }
     }
 
     // X.
-    fn perform(self, n: u16, memory: &mut [u16], input: &[u8], output: &mut [u8]) -> Turn
-        ensures { λ r. ⌜ Turns (at self (now (memory .entry)) (now (output .entry))) (perform (now (input .entry)) (actOf n) (at self (now (memory .entry)) (now (output .entry)))) r (now (memory .exit)) (now (output .exit)) ⌝ }
+    fn perform(self, n: u16, memory: &mut [u16], input: &[u8], output: &mut [u8]) -> StepResult
+        ensures { λ r. ⌜ Steps (at self (now (memory .entry)) (now (output .entry))) (perform (now (input .entry)) (actOf n) (at self (now (memory .entry)) (now (output .entry)))) r (now (memory .exit)) (now (output .exit)) ⌝ }
     {
         match n {
             1 => self.indirect(memory),
-            2 => Turn::Done(self.negate()),
-            3 => Turn::Done(self.invert()),
+            2 => StepResult::Done(self.negate()),
+            3 => StepResult::Done(self.invert()),
             4 => self.back(memory),
-            22 => Turn::Finished(self),
+            22 => StepResult::Finished(self),
             23 => self.switch(memory),
-            27 => Turn::Done(self.rdch(input)),
+            27 => StepResult::Done(self.rdch(input)),
             28 => self.wrch(memory, output),
             _ => self.combine(n),
         }
     }
 
     // The function f with its operand x, C being past the instruction.
-    fn execute(self, f: u16, x: u16, memory: &mut [u16], input: &[u8], output: &mut [u8]) -> Turn
-        ensures { λ r. ⌜ Turns (at self (now (memory .entry)) (now (output .entry))) (execute (now (input .entry)) (functionOf f) x (at self (now (memory .entry)) (now (output .entry)))) r (now (memory .exit)) (now (output .exit)) ⌝ }
+    fn execute(
+        self,
+        f: u16,
+        x: u16,
+        memory: &mut [u16],
+        input: &[u8],
+        output: &mut [u8],
+    ) -> StepResult
+        ensures { λ r. ⌜ Steps (at self (now (memory .entry)) (now (output .entry))) (execute (now (input .entry)) (functionOf f) x (at self (now (memory .entry)) (now (output .entry)))) r (now (memory .exit)) (now (output .exit)) ⌝ }
     {
         match f {
-            0 => Turn::Done(self.load(x)),
+            0 => StepResult::Done(self.load(x)),
             1 => self.store(x, memory, output),
-            2 => Turn::Done(self.add(x)),
-            3 => Turn::Done(self.jump(true, x)),
-            4 => Turn::Done(self.jump(self.a != 0, x)),
-            5 => Turn::Done(self.jump(self.a == 0, x)),
+            2 => StepResult::Done(self.add(x)),
+            3 => StepResult::Done(self.jump(true, x)),
+            4 => StepResult::Done(self.jump(self.a != 0, x)),
+            5 => StepResult::Done(self.jump(self.a == 0, x)),
             6 => self.call(x, memory, output),
             _ => self.perform(x, memory, input, output),
         }
     }
 
     // One instruction.
-    pub fn step(self, memory: &mut [u16], input: &[u8], output: &mut [u8]) -> Turn
-        ensures { λ r. ⌜ Turns (at self (now (memory .entry)) (now (output .entry))) (step (now (input .entry)) (at self (now (memory .entry)) (now (output .entry)))) r (now (memory .exit)) (now (output .exit)) ⌝ }
+    pub fn step(self, memory: &mut [u16], input: &[u8], output: &mut [u8]) -> StepResult
+        ensures { λ r. ⌜ Steps (at self (now (memory .entry)) (now (output .entry))) (step (now (input .entry)) (at self (now (memory .entry)) (now (output .entry)))) r (now (memory .exit)) (now (output .exit)) ⌝ }
     {
         match self.fetch(memory) {
-            Fetched::Stopped(k) => Turn::Stopped(k),
+            Fetched::Stopped(k) => StepResult::Stopped(k),
             Fetched::One(f, x, r) => r.execute(f, x, memory, input, output),
         }
     }
 }
 
 // Instructions until a stop; what is left of the budget falls by one each.
-fn go(start: Registers, memory: &mut [u16], input: &[u8], output: &mut [u8], budget: u64) -> Ran
+fn run_steps(
+    start: Registers,
+    memory: &mut [u16],
+    input: &[u8],
+    output: &mut [u8],
+    budget: u64,
+) -> Ran
     ensures { λ r. ⌜ Ends (steps (now (input .entry)) budget (at start (now (memory .entry)) (now (output .entry)))) r (now (memory .exit)) (now (output .exit)) ⌝ }
 {
     let mut r = start;
     let mut left = budget;
     while left > 0 {
         match r.step(memory, input, output) {
-            Turn::Stopped(k) => {
+            StepResult::Stopped(k) => {
                 return Ran {
                     stop: k,
                     count: budget - left,
                     registers: r,
                 };
             }
-            Turn::Finished(t) => {
+            StepResult::Finished(t) => {
                 return Ran {
                     stop: 30,
                     count: budget - left + 1,
                     registers: t,
                 };
             }
-            Turn::Done(t) => {
+            StepResult::Done(t) => {
                 r = t;
                 left -= 1;
             }
@@ -579,7 +598,7 @@ pub fn resume(
             registers: registers,
         };
     }
-    go(registers, memory, input, output, budget)
+    run_steps(registers, memory, input, output, budget)
 }
 
 // A further budget, or what is left to the largest budget number after so many instructions.

@@ -1,4 +1,4 @@
-use Rattle.machine.proofs.Numbers.{combine-value, combine-stop}
+use Rattle.machine.proofs.Numbers.{combine-dyadic-act, combine-stop}
 use borrow.Author.Needs.{needs}
 use Rattle.machine.proofs.Registers.combine.Statement.{statement}
 use Rattle.machine.proofs.Registers.combine.Tie as tie
@@ -6,4 +6,4 @@ use Rattle.machine.proofs.Registers.combine.Tie as tie
 pub combine-spec : {M : Type 1} → statement M
 combine-spec =
     tie.close (tie.spec (search needs) (search needs) (search needs) (search needs) (λ c. search combine-stop)
-    (λ c. search combine-value))
+    (λ c. search combine-dyadic-act))

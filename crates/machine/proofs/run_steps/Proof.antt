@@ -3,9 +3,9 @@ use native.Mathlib.Omega.{arith}
 use borrow.Author.Needs.{needs}
 use lib.ListN.{length}
 use Rattle.machine.specs.State.{at}
-use Rattle.machine.proofs.Runs.{Left, left-all, left-out, left-go, left-finish, left-stop}
-use Rattle.machine.proofs.go.Statement.{statement}
-use Rattle.machine.proofs.go.Tie as tie
+use Rattle.machine.proofs.Runs.{Left, left-all, left-out, left-run-steps, left-finish, left-stop}
+use Rattle.machine.proofs.run_steps.Statement.{statement}
+use Rattle.machine.proofs.run_steps.Tie as tie
 
 abbrev Inv-loop : tie.InvT-loop
 Inv-loop memory₀ input output₀ budget r₀ left₀ memory output r left =
@@ -14,10 +14,10 @@ Inv-loop memory₀ input output₀ budget r₀ left₀ memory output r left =
 abbrev μ-loop : tie.MeasureT-loop
 μ-loop memory₀ input output₀ budget r₀ left₀ memory output r left = left
 
-pub go-spec : {M : Type 1} → statement M
-go-spec =
+pub run-steps-spec : {M : Type 1} → statement M
+run-steps-spec =
     tie.close (tie.spec Inv-loop μ-loop (λ _. (left-all _ _ _, refl, refl))
     (search needs) (search needs) (search needs) (λ c. omega arith) (λ c. omega arith) (λ c. search left-stop)
     (search needs) (search needs) (λ c. omega arith) (λ c. omega arith) (λ c. omega arith) (λ c. search left-finish)
-    (search needs) (λ c. omega arith) (λ c. omega arith) (λ c. (search left-go, omega arith, omega arith))
+    (search needs) (λ c. omega arith) (λ c. omega arith) (λ c. (search left-run-steps, omega arith, omega arith))
     (λ c. omega arith) (λ c. omega arith) (λ c. search left-out))
