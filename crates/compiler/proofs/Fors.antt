@@ -198,7 +198,8 @@ module _ {s : List ℕ} {end : ℕ} {here : Here} {st : State} (n b l : Node) {l
       pub for-labels : (y : ReadyU s end here st)
           → (m .label ≤ st .label + 3 + 2 * length (encode (for-is y .start)) + 2 * length (encode (for-is y .limit))) × (st .label ≤ m .label)
       for-labels y =
-          let x = g .by (for-first e y) in let z = g₂ .by (for-limit y) in let w = bl .by (byJudged text (y .scope) (for-is y .by)) (for-says y) t₄ in (
+          let x = g .by (for-first e y) in let z = g₂ .by (for-limit y) in let w = bl .by
+          (byJudged text (y .scope) (for-is y .by)) (for-says y) t₄ in (
             omega (arith, e .label, x .did .few, f .label, z .did .few, f₂ .label, w .few, f₃ .label),
             omega
                 (arith, e .label, x .did .grows, f .label, z .did .grows, f₂ .label, w .grows, f₃ .label),

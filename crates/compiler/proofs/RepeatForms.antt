@@ -209,7 +209,8 @@ module _ (text t₀ : List ℕ) (own₀ : ℕ) {s₀ : List ℕ} {from end : ℕ
               let x = g .on (λ n. omega (arith, n, forms-size, m, closed-long (expression-closed e))) .by (ready-test w e q) in (
                 x .keeps,
                 subst
-                    (λ (v : ℕ). Did (inExpression text (y .ready .scope) (leavable here) (here .height) e) (formSays text here (y .ready .scope) v own e)
+                    (λ (v : ℕ). Did (inExpression text (y .ready .scope) (leavable here) (here .height) e)
+                    (formSays text here (y .ready .scope) v own e)
                     (2 * length (encode e)) t₁ t₂ a b) (one-word (y .ready) (y .starts) l es en p ew ∙ ap formWord q) (x .did),
               )
 

@@ -219,7 +219,8 @@ module _ {s : List ℕ} {end : ℕ} {here : Here} {st : State} (n : Node) (nd : 
             ready =
                 sub encodeCommands commandsDepth FineCs y (x .keeps) (n .inner) (y .lo + length (encode (u .value))) here st (u .list) (u .lies-list)
                 (omega (arith, nd .inner, u .ends)) (omega arith) (omega (arith, nd .inner)) refl refl
-                (omega (arith, y .height, y .ends, u .ends)) (omega (arith, y .label, y .ends, u .ends)) (y .some) (switch-deep y .1) (switch-fine y .1);
+                (omega (arith, y .height, y .ends, u .ends)) (omega (arith, y .label, y .ends, u .ends)) (y .some)
+                (switch-deep y .1) (switch-fine y .1);
             starts = sym (switch-middle y);
             label = omega (arith, switch-state y, x .did .few, switch-count y, v, y .label, y .ends, u .ends);
             some = omega (arith, switch-state y);

@@ -518,7 +518,8 @@ table-gave text {s} {from} {end} {top} {first} {done} {m} {d} {t} {t₄ = t₄} 
       let en : m ≡ caseCount (caseList text sc h cs) = n .by (marks cs) (u .row) ∙ sym (count-is text sc h cs so) in
       let ed : d ≡ G.defaultOf first done (caseList text sc h cs) = f .by (marks cs) (u .row) text sc ∙ sym (default-is text sc h first done cs) in
       emits-as (emits-then x (emits-then e (emits-then g (w .by u so))))
-      (ap (λ (i : ℕ). G.X 23 ∷ G.D i ∷ G.DL d ∷ tableAmong text sc first (marks cs)) en ∙ ap (λ (i : ℕ). G.X 23 ∷ G.D (caseCount (caseList text sc h cs)) ∷ G.DL i ∷ tableAmong text sc first (marks cs)) ed
+      (ap (λ (i : ℕ). G.X 23 ∷ G.D i ∷ G.DL d ∷ tableAmong text sc first (marks cs)) en ∙ ap
+      (λ (i : ℕ). G.X 23 ∷ G.D (caseCount (caseList text sc h cs)) ∷ G.DL i ∷ tableAmong text sc first (marks cs)) ed
       ∙ ap (λ (z : List I.Item). G.X 23 ∷ G.D (caseCount (caseList text sc h cs)) ∷ G.DL (G.defaultOf first done (caseList text sc h cs)) ∷ z)
       (sym (table-is text sc h first cs)));
 }

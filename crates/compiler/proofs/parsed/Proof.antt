@@ -6,23 +6,15 @@ use borrow.Author.Needs.{needs}
 use Rattle.compiler.proofs.parsed.Statement.{statement}
 use Rattle.compiler.proofs.parsed.Tie as tie
 
-mul-clear-scratch : tie.Need-mul-clear-scratch
-mul-clear-scratch c = omega (arith, tree-room (c .before .before .before .before .before .before .before .before .before .before .pre))
-
-returns-3 : tie.Need-returns-3
-returns-3 c =
-    absurd
-    (never-unfit (c .before .before .before .before .before .before .before .before .before .before .pre)
-    (c .before .before .before .before .before .read-tree .ensures) (c .before .enum-told .given .1))
-
 pub parsed-spec : {M : Type 1} → statement M
 parsed-spec =
     tie.close (tie.spec (λ c. omega (arith, tree-room (c .before .before .before .pre)))
     (λ c. omega (arith, tree-room (c .before .before .before .pre))) (λ c. search tree-room)
     (λ c. sym (search (length-take-le, tree-room)))
     (search needs) (search needs) (λ c κs. search ready-tree)
-    (search needs) mul-clear-scratch (λ c. search symbols-room) (λ c. sym (search (length-take-le, symbols-room)))
+    (search needs) (λ c. omega (arith, tree-room)) (λ c. search symbols-room)
+    (λ c. sym (search (length-take-le, symbols-room)))
     (search needs) (search needs) (search needs) (search needs) (search needs) (search needs)
     (λ c. search with-scratch)
     (search needs) (λ c. search tree-answer)
-    (search needs) returns-3)
+    (search needs) (λ c. search never-unfit))

@@ -8,12 +8,8 @@ returns-2 c =
     by-judged (c .before .before .before .before .before .before .args .source .now) (c .before .before .before .if1 .left)
     (c .before .before .judge .ensures) (λ e w. c .if2 .taken e)
 
-returns-3 : tie.Need-returns-3
-returns-3 c =
-    by-judged (c .before .before .before .before .before .before .before .before .args .source .now)
-    (c .before .before .before .before .before .if1 .left) (c .before .before .before .before .judge .ensures) (λ e w. c .if3 .taken w)
-
 pub by-constant-spec : {M : Type 1} → statement M
 by-constant-spec =
     tie.close (tie.spec (λ c. search by-none)
-    (search needs) returns-2 returns-3 (search needs) (search needs) (λ c. search by-zero))
+    (search needs) returns-2 (λ c. search by-judged)
+    (search needs) (search needs) (λ c. search by-zero))

@@ -18,10 +18,10 @@ abbrev μ-loop : tie.MeasureT-loop
 loop-again : tie.Need-loop-again Inv-loop μ-loop
 loop-again c = (
   omega (arith, c .before .before .before .before .loop .inv .0, c .count-cases .ensures .few, c .before .before .next-item .ensures .further),
-  λ lss r. count-next (commands (c .before .before .before .before .before .before .args .s .now))
-      (c .before .before .before .before .before .before .args .s .now) (c .before .before .before .before .before .before .args .end)
-      (c .before .before .before .before .loop .n) (c .before .before .before .loop-test .taken) (c .before .before .next-item .ensures)
-      (λ ls q. c .count-cases .ensures .by ls (c .before .labels-of .ensures .by ls q)) lss (c .before .before .before .before .loop .inv .1 lss r),
+  (let after-loop-test = c .before .before .before in let after-loop = after-loop-test .before in let start = after-loop .before .before in λ lss
+      r. count-next (commands (start .args .s .now)) (start .args .s .now) (start .args .end) (after-loop .loop .n)
+      (after-loop-test .loop-test .taken) (c .before .before .next-item .ensures)
+      (λ ls q. c .count-cases .ensures .by ls (c .before .labels-of .ensures .by ls q)) lss (after-loop .loop .inv .1 lss r)),
 )
 
 returns : tie.Need-returns Inv-loop μ-loop

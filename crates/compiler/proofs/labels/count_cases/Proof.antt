@@ -24,10 +24,9 @@ loop-again c = (
     c .before .next-item .ensures .further,
     c .before .next-item .ensures .within,
   ),
-  λ ls r. count-next (labels (c .before .before .before .before .before .args .s .now))
-      (c .before .before .before .before .before .args .s .now) (c .before .before .before .before .before .args .end)
-      (c .before .before .before .loop .n) (c .before .before .loop-test .taken) (c .before .next-item .ensures)
-      (λ x q. c .one-case .ensures .by x q) ls (c .before .before .before .loop .inv .2 ls r),
+  (let after-loop = c .before .before .before in let start = after-loop .before .before in λ ls r. count-next (labels (start .args .s .now))
+      (start .args .s .now) (start .args .end) (after-loop .loop .n) (c .before .before .loop-test .taken) (c .before .next-item .ensures)
+      (λ x q. c .one-case .ensures .by x q) ls (after-loop .loop .inv .2 ls r)),
 )
 
 returns : tie.Need-returns Inv-loop μ-loop

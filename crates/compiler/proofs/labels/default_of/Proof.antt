@@ -18,18 +18,17 @@ abbrev μ-loop : tie.MeasureT-loop
 loop-again : tie.Need-loop-again Inv-loop μ-loop
 loop-again c = (
   omega arith,
-  λ lss r. default-next (c .before .before .before .before .before .before .before .args .s .now)
-      (c .before .before .before .before .before .before .before .args .end)
-      (c .before .before .before .before .before .before .before .args .first)
-      (c .before .before .before .before .before .before .before .args .done) (c .before .before .before .before .before .loop .k)
-      (c .before .before .before .before .loop-test .taken) (c .before .before .before .next-item .ensures) (c .before .before .labels-of .ensures)
-      (c .before .has-default .ensures) (c .if1 .left) lss (c .before .before .before .before .before .loop .inv .1 lss r),
+  (let after-next-item = c .before .before .before in let after-loop-test = after-next-item .before in let after-loop = after-loop-test .before
+      in let start = after-loop .before .before in λ lss r. default-next (start .args .s .now) (start .args .end) (start .args .first)
+      (start .args .done) (after-loop .loop .k) (after-loop-test .loop-test .taken) (after-next-item .next-item .ensures)
+      (c .before .before .labels-of .ensures) (c .before .has-default .ensures) (c .if1 .left) lss (after-loop .loop .inv .1 lss r)),
 )
 
 returns-2 : tie.Need-returns-2 Inv-loop μ-loop
 returns-2 c =
-    default-end (c .before .before .before .args .s .now) (c .before .before .before .args .end) (c .before .before .before .args .first)
-    (c .before .before .before .args .done) (c .before .loop .k) (c .loop-test .left) (c .before .loop .inv .1)
+    let start = c .before .before .before in
+    default-end (start .args .s .now) (start .args .end) (start .args .first) (start .args .done) (c .before .loop .k) (c .loop-test .left)
+    (c .before .loop .inv .1)
 
 pub default-of-spec : {M : Type 1} → statement M
 default-of-spec =

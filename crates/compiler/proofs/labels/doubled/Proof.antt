@@ -15,15 +15,16 @@ abbrev μ-loop : tie.MeasureT-loop
 μ-loop source s from end top seen₀ at₀ r₀ seen at r = end - at
 
 loop-again : tie.Need-loop-again Inv-loop μ-loop
-loop-again c = (
-  c .before .doubled-in .kept .1 .1 .1 .1 .1 .0 ∙ c .before .before .before .before .before .before .loop .inv .0,
-  λ y. list-next
-      (c .before .before .before .before .before .before .before .before .before .before .args .source .now)
-      (c .before .before .before .before .before .before .before .before .before .before .args .st)
-      (c .before .before .before .before .before .loop-test .taken) (c .before .before .before .before .next-item .ensures)
-      (c .before .before .before .labels-of .ensures) (c .before .doubled-in .ensures) y
-      (c .before .before .before .before .before .before .loop .inv .1 y),
-)
+loop-again c =
+    let after-labels-of = c .before .before .before in let after-next-item = after-labels-of .before in
+    let after-loop-test = after-next-item .before in let after-loop = after-loop-test .before in
+    let start = after-loop .before .before .before .before in (
+      c .before .doubled-in .kept .1 .1 .1 .1 .1 .0 ∙ after-loop .loop .inv .0,
+      λ y. list-next (start .args .source .now) (start .args .st)
+          (after-loop-test .loop-test .taken) (after-next-item .next-item .ensures) (after-labels-of .labels-of .ensures)
+          (c .before .doubled-in .ensures)
+          y (after-loop .loop .inv .1 y),
+    )
 
 returns : tie.Need-returns Inv-loop μ-loop
 returns c =

@@ -21,14 +21,15 @@ abbrev μ-loop : tie.MeasureT-loop
 μ-loop source s from end top seen₀ at₀ r₀ seen at r = end - at
 
 loop-again : tie.Need-loop-again Inv-loop μ-loop
-loop-again c = (
-  c .before .before .doubled-label .kept .1 .1 .1 .1 .0 ∙ c .before .before .before .before .before .before .loop .inv .0,
-  λ y first m. own-next
-      (c .before .before .before .before .before .before .before .before .before .before .args .source .now)
-      (c .before .before .before .before .before .before .before .before .before .before .args .st)
-      (c .before .before .before .before .before .loop-test .taken) (c .before .before .before .before .next-item .ensures)
-      (c .before .before .doubled-label .ensures) y first (c .before .before .before .before .before .before .loop .inv .1 y first m),
-)
+loop-again c =
+    let after-next-item = c .before .before .before .before in let after-loop-test = after-next-item .before in
+    let after-loop = after-loop-test .before in let start = after-loop .before .before .before .before in (
+      c .before .before .doubled-label .kept .1 .1 .1 .1 .0 ∙ after-loop .loop .inv .0,
+      λ y first m. own-next (start .args .source .now)
+          (start .args .st) (after-loop-test .loop-test .taken) (after-next-item .next-item .ensures)
+          (c .before .before .doubled-label .ensures) y first
+          (after-loop .loop .inv .1 y first m),
+    )
 
 pub doubled-in-spec : {M : Type 1} → statement M
 doubled-in-spec =

@@ -20,13 +20,10 @@ loop-again : tie.Need-loop-again Inv-loop μ-loop
 loop-again c = (
   c .before .before .pair .kept .1 .1 .1 .1 .0 ∙ c .before .before .before .before .before .before .loop .inv .0,
   search still-then,
-  λ y so.
-      pairs-next (c .before .before .before .before .before .before .before .before .before .before .args .source .now)
-      (c .before .before .before .before .before .before .before .before .before .before .args .k)
-      (c .before .before .before .before .before .before .before .before .before .before .args .text .now)
-      (c .before .before .before .before .before .before .before .before .before .before .args .st)
-      (c .before .before .before .before .before .loop-test .taken) (c .before .before .before .before .next-item .ensures)
-      (c .before .before .pair .ensures) y (c .before .before .before .before .before .before .loop .inv .2 y so),
+  (let after-next-item = c .before .before .before .before in let after-loop-test = after-next-item .before in let after-loop =
+      after-loop-test .before in let start = after-loop .before .before .before .before in λ y so. pairs-next (start .args .source .now)
+      (start .args .k) (start .args .text .now) (start .args .st) (after-loop-test .loop-test .taken) (after-next-item .next-item .ensures)
+      (c .before .before .pair .ensures) y (after-loop .loop .inv .2 y so)),
 )
 
 pub pairs-spec : {M : Type 1} → statement M

@@ -4,23 +4,18 @@ use Rattle.compiler.proofs.labels.table.Statement.{statement}
 use Rattle.compiler.proofs.labels.table.Tie as tie
 
 all-pairs-requires : tie.Need-all-pairs-requires
-all-pairs-requires c κs = (
-  c .before .before .before .before .before .before .before .before .before .before .before .before .before .before .before .before .before .before
-      .pre .0,
-  c .before .before .before .before .before .before .before .before .before .before .before .before .before .before .before .before .before .before
-      .pre .1,
-)
+all-pairs-requires c κs =
+    let start =
+    c .before .before .before .before .before .before .before .before .before .before .before .before .before .before .before .before .before .before
+    in (start .pre .0, start .pre .1)
 
 returns : tie.Need-returns
 returns c =
-    table-gave
-    (c .before .before .before .before .before .before .before .before .before .before .before .before .before .before .before .before .before
-    .before .before .before .before .args .source .now)
-    (c .before .before .before .before .before .before .before .before .before .before .before .before .before .before .before .before .put .ensures)
-    (c .before .before .before .before .before .before .before .before .before .before .before .before .before .count-all .ensures)
-    (c .before .before .before .before .before .before .before .before .before .before .before .put-word .ensures)
-    (c .before .before .before .before .before .before .before .before .default-of .ensures)
-    (c .before .before .before .before .before .before .put-address .ensures) (c .before .before .all-pairs .ensures)
+    let after-put-address = c .before .before .before .before .before .before in let after-default-of = after-put-address .before .before in
+    let after-put-word = after-default-of .before .before .before in let after-count-all = after-put-word .before .before in
+    let after-put = after-count-all .before .before .before in let start = after-put .before .before .before .before .before in
+    table-gave (start .args .source .now) (after-put .put .ensures) (after-count-all .count-all .ensures) (after-put-word .put-word .ensures)
+    (after-default-of .default-of .ensures) (after-put-address .put-address .ensures) (c .before .before .all-pairs .ensures)
 
 pub table-spec : {M : Type 1} → statement M
 table-spec =

@@ -20,64 +20,42 @@ lookup-requires : tie.Need-lookup-requires Inv-loop μ-loop
 lookup-requires c κs =
     omega (
       arith,
-      names-fit (c .before .before .before .before .before .before .before .before .args .source .now)
-          (c .before .before .before .before .before .before .before .before .args .st) (c .before .before .before .loop-test .taken)
-          (c .before .before .before .before .before .before .before .before .pre)
-          (c .before .before .before .before .loop .inv .2 (c .before .before .before .before .before .before .before .before .pre)),
+      (let after-loop-test = c .before .before .before in let after-loop = after-loop-test .before in let start =
+          after-loop .before .before .before .before in names-fit (start .args .source .now) (start .args .st) (after-loop-test .loop-test .taken)
+          (start .pre) (after-loop .loop .inv .2 (start .pre))),
     )
-
-name-fault-requires : tie.Need-name-fault-requires Inv-loop μ-loop
-name-fault-requires c κs = (c .before .entry2 .ensures .1, search (needs, names-fit))
 
 enter-requires : tie.Need-enter-requires Inv-loop μ-loop
 enter-requires c κs =
-    let w = names-fit
-    (c .before .before .before .before .before .before .before .before .before .before .before .before .before .before .before .args .source .now)
-    (c .before .before .before .before .before .before .before .before .before .before .before .before .before .before .before .args .st)
-    (c .before .before .before .before .before .before .before .before .before .before .loop-test .taken)
-    (c .before .before .before .before .before .before .before .before .before .before .before .before .before .before .before .pre)
-    (c .before .before .before .before .before .before .before .before .before .before .before .loop .inv .2
-    (c .before .before .before .before .before .before .before .before .before .before .before .before .before .before .before .pre)) in
-    (omega arith, omega arith, w .few, w .name)
+    (let after-loop-test = c .before .before .before .before .before .before .before .before .before .before in let after-loop =
+    after-loop-test .before in let start = after-loop .before .before .before .before in let w = names-fit (start .args .source .now)
+    (start .args .st) (after-loop-test .loop-test .taken) (start .pre) (after-loop .loop .inv .2 (start .pre)) in
+    (omega arith, omega arith, w .few, w .name))
 
 add-k : tie.Need-add-k Inv-loop μ-loop
 add-k c =
     omega (
       arith,
-      names-fit
-          (c .before .before .before .before .before .before .before .before .before .before .before .before .before .before .before .before .before
-          .before .before .before .args .source .now)
-          (c .before .before .before .before .before .before .before .before .before .before .before .before .before .before .before .before .before
-          .before .before .before .args .st)
-          (c .before .before .before .before .before .before .before .before .before .before .before .before .before .before .before .loop-test
-          .taken)
-          (c .before .before .before .before .before .before .before .before .before .before .before .before .before .before .before .before .before
-          .before .before .before .pre)
-          (c .before .before .before .before .before .before .before .before .before .before .before .before .before .before .before .before .loop
-          .inv .2
-          (c .before .before .before .before .before .before .before .before .before .before .before .before .before .before .before .before .before
-          .before .before .before .pre)),
+      (let after-loop-test =
+          c .before .before .before .before .before .before .before .before .before .before .before .before .before .before .before in let after-loop =
+          after-loop-test .before in let start = after-loop .before .before .before .before in names-fit (start .args .source .now) (start .args .st)
+          (after-loop-test .loop-test .taken) (start .pre) (after-loop .loop .inv .2 (start .pre))),
     )
 
 loop-again : tie.Need-loop-again Inv-loop μ-loop
-loop-again c = (
-  c .before .before .before .before .enter .kept .0 ∙
-      c .before .before .before .before .before .before .before .before .before .before .before .before .before .before .before .before .loop .inv .0,
-  c .before .before .before .before .enter .kept .1 .0 ∙
-      c .before .before .before .before .before .before .before .before .before .before .before .before .before .before .before .before .loop .inv .1,
-  λ y. names-next
-      (c .before .before .before .before .before .before .before .before .before .before .before .before .before .before .before .before .before
-      .before .before .before .args .source .now)
-      (c .before .before .before .before .before .before .before .before .before .before .before .before .before .before .before .before .before
-      .before .before .before .args .st)
-      (c .before .before .before .before .before .before .before .before .before .before .before .before .before .before .before .loop-test .taken)
-      (c .before .before .before .before .before .before .before .before .before .before .before .before .before .entry .ensures .0) refl
-      (c .before .before .before .before .before .before .before .before .before .before .before .lookup .ensures .0)
-      (c .before .before .before .before .before .before .before .before .before .entry2 .ensures .0)
-      (c .before .before .before .before .before .before .before .name-fault .ensures) (c .before .before .before .before .enter .ensures) y
-      (c .before .before .before .before .before .before .before .before .before .before .before .before .before .before .before .before .loop .inv .2
-      y),
-)
+loop-again c =
+    let after-enter = c .before .before .before .before in let after-name-fault = after-enter .before .before .before in
+    let after-entry2 = after-name-fault .before .before in let after-lookup = after-entry2 .before .before in
+    let after-entry = after-lookup .before .before in let after-loop-test = after-entry .before .before in let after-loop = after-loop-test .before in
+    let start = after-loop .before .before .before .before in (
+      after-enter .enter .kept .0 ∙ after-loop .loop .inv .0,
+      after-enter .enter .kept .1 .0 ∙ after-loop .loop .inv .1,
+      λ y. names-next
+          (start .args .source .now) (start .args .st) (after-loop-test .loop-test .taken) (after-entry .entry .ensures .0) refl
+          (after-lookup .lookup .ensures .0) (after-entry2 .entry2 .ensures .0) (after-name-fault .name-fault .ensures)
+          (after-enter .enter .ensures) y
+          (after-loop .loop .inv .2 y),
+    )
 
 returns : tie.Need-returns Inv-loop μ-loop
 returns c =
@@ -88,5 +66,5 @@ pub group-names-spec : {M : Type 1} → statement M
 group-names-spec =
     tie.close (tie.spec Inv-loop μ-loop (λ c. (refl, refl, λ y. search names-begin)) (λ c. omega arith)
     (search needs) (λ c. omega arith) (λ c. omega arith) lookup-requires (λ c. omega arith) (search needs)
-    name-fault-requires (λ c. omega arith) enter-requires add-k (λ c. omega arith) loop-again
+    (λ c κs. search (needs, names-fit)) (λ c. omega arith) enter-requires add-k (λ c. omega arith) loop-again
     (λ c. c .before .loop .inv .0) (λ c. c .before .loop .inv .1) returns)

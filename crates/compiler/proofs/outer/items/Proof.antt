@@ -19,207 +19,138 @@ mul-item-constant : tie.Need-mul-item-constant Inv-loop μ-loop
 mul-item-constant c =
     omega (
       arith,
-      items-fit (c .before .before .before .before .before .before .before .args .global)
-          (c .before .before .before .before .before .before .before .args .source .now)
-          (c .before .before .before .before .before .before .before .args .st) (c .before .before .before .before .loop .k)
-          (c .before .before .before .loop-test .taken) (c .before .before .before .before .before .before .before .pre)
-          (c .before .before .before .before .loop .inv .1 (c .before .before .before .before .before .before .before .pre)),
+      (let after-loop-test = c .before .before .before in let after-loop = after-loop-test .before in let start = after-loop .before .before .before
+          in items-fit (start .args .global) (start .args .source .now) (start .args .st) (after-loop .loop .k) (after-loop-test .loop-test .taken)
+          (start .pre) (after-loop .loop .inv .1 (start .pre))),
     )
 
 add-item-constant : tie.Need-add-item-constant Inv-loop μ-loop
 add-item-constant c =
     omega (
       arith,
-      items-fit (c .before .before .before .before .before .before .before .args .global)
-          (c .before .before .before .before .before .before .before .args .source .now)
-          (c .before .before .before .before .before .before .before .args .st) (c .before .before .before .before .loop .k)
-          (c .before .before .before .loop-test .taken) (c .before .before .before .before .before .before .before .pre)
-          (c .before .before .before .before .loop .inv .1 (c .before .before .before .before .before .before .before .pre)),
+      (let after-loop-test = c .before .before .before in let after-loop = after-loop-test .before in let start = after-loop .before .before .before
+          in items-fit (start .args .global) (start .args .source .now) (start .args .st) (after-loop .loop .k) (after-loop-test .loop-test .taken)
+          (start .pre) (after-loop .loop .inv .1 (start .pre))),
     )
 
 item-constant-requires : tie.Need-item-constant-requires Inv-loop μ-loop
 item-constant-requires c κs =
     omega (
       arith,
-      items-fit (c .before .before .before .before .before .before .before .args .global)
-          (c .before .before .before .before .before .before .before .args .source .now)
-          (c .before .before .before .before .before .before .before .args .st) (c .before .before .before .before .loop .k)
-          (c .before .before .before .loop-test .taken) (c .before .before .before .before .before .before .before .pre)
-          (c .before .before .before .before .loop .inv .1 (c .before .before .before .before .before .before .before .pre)),
+      (let after-loop-test = c .before .before .before in let after-loop = after-loop-test .before in let start = after-loop .before .before .before
+          in items-fit (start .args .global) (start .args .source .now) (start .args .st) (after-loop .loop .k) (after-loop-test .loop-test .taken)
+          (start .pre) (after-loop .loop .inv .1 (start .pre))),
     )
 
 mul-in-block : tie.Need-mul-in-block Inv-loop μ-loop
 mul-in-block c =
     omega (
       arith,
-      items-fit (c .before .before .before .before .before .before .before .before .before .args .global)
-          (c .before .before .before .before .before .before .before .before .before .args .source .now)
-          (c .before .before .before .before .before .before .before .before .before .args .st)
-          (c .before .before .before .before .before .before .loop .k) (c .before .before .before .before .before .loop-test .taken)
-          (c .before .before .before .before .before .before .before .before .before .pre)
-          (c .before .before .before .before .before .before .loop .inv .1
-          (c .before .before .before .before .before .before .before .before .before .pre)),
+      (let after-loop-test = c .before .before .before .before .before in let after-loop = after-loop-test .before in let start =
+          after-loop .before .before .before in items-fit (start .args .global) (start .args .source .now) (start .args .st) (after-loop .loop .k)
+          (after-loop-test .loop-test .taken) (start .pre) (after-loop .loop .inv .1 (start .pre))),
     )
 
 add-in-block : tie.Need-add-in-block Inv-loop μ-loop
 add-in-block c =
     omega (
       arith,
-      items-fit (c .before .before .before .before .before .before .before .before .before .args .global)
-          (c .before .before .before .before .before .before .before .before .before .args .source .now)
-          (c .before .before .before .before .before .before .before .before .before .args .st)
-          (c .before .before .before .before .before .before .loop .k) (c .before .before .before .before .before .loop-test .taken)
-          (c .before .before .before .before .before .before .before .before .before .pre)
-          (c .before .before .before .before .before .before .loop .inv .1
-          (c .before .before .before .before .before .before .before .before .before .pre)),
+      (let after-loop-test = c .before .before .before .before .before in let after-loop = after-loop-test .before in let start =
+          after-loop .before .before .before in items-fit (start .args .global) (start .args .source .now) (start .args .st) (after-loop .loop .k)
+          (after-loop-test .loop-test .taken) (start .pre) (after-loop .loop .inv .1 (start .pre))),
     )
 
 in-block-requires : tie.Need-in-block-requires Inv-loop μ-loop
 in-block-requires c κs =
     omega (
       arith,
-      items-fit (c .before .before .before .before .before .before .before .before .before .args .global)
-          (c .before .before .before .before .before .before .before .before .before .args .source .now)
-          (c .before .before .before .before .before .before .before .before .before .args .st)
-          (c .before .before .before .before .before .before .loop .k) (c .before .before .before .before .before .loop-test .taken)
-          (c .before .before .before .before .before .before .before .before .before .pre)
-          (c .before .before .before .before .before .before .loop .inv .1
-          (c .before .before .before .before .before .before .before .before .before .pre)),
+      (let after-loop-test = c .before .before .before .before .before in let after-loop = after-loop-test .before in let start =
+          after-loop .before .before .before in items-fit (start .args .global) (start .args .source .now) (start .args .st) (after-loop .loop .k)
+          (after-loop-test .loop-test .taken) (start .pre) (after-loop .loop .inv .1 (start .pre))),
     )
 
 mul-push-name : tie.Need-mul-push-name Inv-loop μ-loop
 mul-push-name c =
     omega (
       arith,
-      items-fit
-          (c .before .before .before .before .before .before .before .before .before .before .before .before .before .before .before .args .global)
-          (c .before .before .before .before .before .before .before .before .before .before .before .before .before .before .before .args .source
-          .now)
-          (c .before .before .before .before .before .before .before .before .before .before .before .before .before .before .before .args .st)
-          (c .before .before .before .before .before .before .before .before .before .before .before .before .loop .k)
-          (c .before .before .before .before .before .before .before .before .before .before .before .loop-test .taken)
-          (c .before .before .before .before .before .before .before .before .before .before .before .before .before .before .before .pre)
-          (c .before .before .before .before .before .before .before .before .before .before .before .before .loop .inv .1
-          (c .before .before .before .before .before .before .before .before .before .before .before .before .before .before .before .pre)),
+      (let after-loop-test = c .before .before .before .before .before .before .before .before .before .before .before in let after-loop =
+          after-loop-test .before in let start = after-loop .before .before .before in items-fit (start .args .global) (start .args .source .now)
+          (start .args .st) (after-loop .loop .k) (after-loop-test .loop-test .taken) (start .pre) (after-loop .loop .inv .1 (start .pre))),
     )
 
 add-push-name : tie.Need-add-push-name Inv-loop μ-loop
 add-push-name c =
     omega (
       arith,
-      items-fit
-          (c .before .before .before .before .before .before .before .before .before .before .before .before .before .before .before .args .global)
-          (c .before .before .before .before .before .before .before .before .before .before .before .before .before .before .before .args .source
-          .now)
-          (c .before .before .before .before .before .before .before .before .before .before .before .before .before .before .before .args .st)
-          (c .before .before .before .before .before .before .before .before .before .before .before .before .loop .k)
-          (c .before .before .before .before .before .before .before .before .before .before .before .loop-test .taken)
-          (c .before .before .before .before .before .before .before .before .before .before .before .before .before .before .before .pre)
-          (c .before .before .before .before .before .before .before .before .before .before .before .before .loop .inv .1
-          (c .before .before .before .before .before .before .before .before .before .before .before .before .before .before .before .pre)),
+      (let after-loop-test = c .before .before .before .before .before .before .before .before .before .before .before in let after-loop =
+          after-loop-test .before in let start = after-loop .before .before .before in items-fit (start .args .global) (start .args .source .now)
+          (start .args .st) (after-loop .loop .k) (after-loop-test .loop-test .taken) (start .pre) (after-loop .loop .inv .1 (start .pre))),
     )
 
 add-push-name-2 : tie.Need-add-push-name-2 Inv-loop μ-loop
 add-push-name-2 c =
     omega (
       arith,
-      items-fit
-          (c .before .before .before .before .before .before .before .before .before .before .before .before .before .before .before .args .global)
-          (c .before .before .before .before .before .before .before .before .before .before .before .before .before .before .before .args .source
-          .now)
-          (c .before .before .before .before .before .before .before .before .before .before .before .before .before .before .before .args .st)
-          (c .before .before .before .before .before .before .before .before .before .before .before .before .loop .k)
-          (c .before .before .before .before .before .before .before .before .before .before .before .loop-test .taken)
-          (c .before .before .before .before .before .before .before .before .before .before .before .before .before .before .before .pre)
-          (c .before .before .before .before .before .before .before .before .before .before .before .before .loop .inv .1
-          (c .before .before .before .before .before .before .before .before .before .before .before .before .before .before .before .pre)),
+      (let after-loop-test = c .before .before .before .before .before .before .before .before .before .before .before in let after-loop =
+          after-loop-test .before in let start = after-loop .before .before .before in items-fit (start .args .global) (start .args .source .now)
+          (start .args .st) (after-loop .loop .k) (after-loop-test .loop-test .taken) (start .pre) (after-loop .loop .inv .1 (start .pre))),
     )
 
 push-name-requires : tie.Need-push-name-requires Inv-loop μ-loop
 push-name-requires c κs =
-    let w = items-fit
-    (c .before .before .before .before .before .before .before .before .before .before .before .before .before .before .before .before .args .global)
-    (c .before .before .before .before .before .before .before .before .before .before .before .before .before .before .before .before .args .source
-    .now)
-    (c .before .before .before .before .before .before .before .before .before .before .before .before .before .before .before .before .args .st)
-    (c .before .before .before .before .before .before .before .before .before .before .before .before .before .loop .k)
-    (c .before .before .before .before .before .before .before .before .before .before .before .before .loop-test .taken)
-    (c .before .before .before .before .before .before .before .before .before .before .before .before .before .before .before .before .pre)
-    (c .before .before .before .before .before .before .before .before .before .before .before .before .before .loop .inv .1
-    (c .before .before .before .before .before .before .before .before .before .before .before .before .before .before .before .before .pre)) in (
+    (let after-item-constant = c .before .before .before .before .before .before .before .before in let after-loop-test =
+    after-item-constant .before .before .before .before in let after-loop = after-loop-test .before in let start =
+    after-loop .before .before .before in let w = items-fit (start .args .global) (start .args .source .now) (start .args .st) (after-loop .loop .k)
+    (after-loop-test .loop-test .taken) (start .pre) (after-loop .loop .inv .1 (start .pre)) in (
       omega arith,
       omega arith,
       omega (
         arith,
-        code-small
-            (c .before .before .before .before .before .before .before .before .before .before .before .before .before .before .before .before .args
-            .global) (c .before .before .before .before .before .before .before .before .item-constant .result .word)
-            (c .before .before .before .before .before .before .before .before .item-constant .ensures .low),
+        code-small (start .args .global) (after-item-constant .item-constant .result .word)
+            (after-item-constant .item-constant .ensures .low),
       ),
       w .name,
-    )
+    ))
 
 add-k : tie.Need-add-k Inv-loop μ-loop
 add-k c =
     omega (
       arith,
-      items-fit
-          (c .before .before .before .before .before .before .before .before .before .before .before .before .before .before .before .before .before
-          .before .before .args .global)
-          (c .before .before .before .before .before .before .before .before .before .before .before .before .before .before .before .before .before
-          .before .before .args .source .now)
-          (c .before .before .before .before .before .before .before .before .before .before .before .before .before .before .before .before .before
-          .before .before .args .st)
-          (c .before .before .before .before .before .before .before .before .before .before .before .before .before .before .before .before .loop .k)
-          (c .before .before .before .before .before .before .before .before .before .before .before .before .before .before .before .loop-test
-          .taken)
-          (c .before .before .before .before .before .before .before .before .before .before .before .before .before .before .before .before .before
-          .before .before .pre)
-          (c .before .before .before .before .before .before .before .before .before .before .before .before .before .before .before .before .loop
-          .inv .1
-          (c .before .before .before .before .before .before .before .before .before .before .before .before .before .before .before .before .before
-          .before .before .pre)),
+      (let after-loop-test =
+          c .before .before .before .before .before .before .before .before .before .before .before .before .before .before .before in let after-loop =
+          after-loop-test .before in let start = after-loop .before .before .before in items-fit (start .args .global) (start .args .source .now)
+          (start .args .st) (after-loop .loop .k) (after-loop-test .loop-test .taken) (start .pre) (after-loop .loop .inv .1 (start .pre))),
     )
 
 loop-again : tie.Need-loop-again Inv-loop μ-loop
-loop-again c = (
-  c .before .before .push-name .kept .0 ∙
-      c .before .before .before .before .before .before .before .before .before .before .before .before .before .before .before .before .loop .inv .0,
-  λ y. items-next
-      (c .before .before .before .before .before .before .before .before .before .before .before .before .before .before .before .before .before
-      .before .before .args .global)
-      (c .before .before .before .before .before .before .before .before .before .before .before .before .before .before .before .before .before
-      .before .before .args .source .now)
-      (c .before .before .before .before .before .before .before .before .before .before .before .before .before .before .before .before .before
-      .before .before .args .st)
-      (c .before .before .before .before .before .before .before .before .before .before .before .before .before .before .before .before .loop .k)
-      (c .before .before .before .before .before .before .before .before .before .before .before .before .before .before .before .loop-test .taken)
-      (c .before .before .before .before .before .before .before .before .before .before .before .before .before .entry .ensures .0) refl
-      (c .before .before .before .before .before .before .before .before .before .before .before .item-constant .ensures)
-      (c .before .before .before .before .before .before .before .before .before .in-block .ensures)
-      (c .before .before .before .before .before .before .before .entry2 .ensures .0)
-      (c .before .before .before .before .before .before .blame .ensures) (c .before .before .before .before .before .again .ensures)
-      (c .before .before .push-name .ensures) (c .before .before .before .meaning .ensures) y
-      (c .before .before .before .before .before .before .before .before .before .before .before .before .before .before .before .before .loop .inv .1
-      y),
-)
+loop-again c =
+    let after-meaning = c .before .before .before in let after-again = after-meaning .before .before in let after-blame = after-again .before in
+    let after-entry2 = after-blame .before in let after-in-block = after-entry2 .before .before in
+    let after-item-constant = after-in-block .before .before in let after-entry = after-item-constant .before .before in
+    let after-loop-test = after-entry .before .before in let after-loop = after-loop-test .before in let start =
+    after-loop .before .before .before in (
+      c .before .before .push-name .kept .0 ∙ after-loop .loop .inv .0,
+      λ y. items-next (start .args .global) (start .args .source .now)
+          (start .args .st) (after-loop .loop .k) (after-loop-test .loop-test .taken) (after-entry .entry .ensures .0) refl
+          (after-item-constant .item-constant .ensures) (after-in-block .in-block .ensures) (after-entry2 .entry2 .ensures .0)
+          (after-blame .blame .ensures) (after-again .again .ensures) (c .before .before .push-name .ensures) (after-meaning .meaning .ensures) y
+          (after-loop .loop .inv .1 y),
+    )
 
 mul-t32 : tie.Need-mul-t32 Inv-loop μ-loop
 mul-t32 c =
     omega (
       arith,
-      items-out (c .before .before .before .before .args .global) (c .before .before .before .before .args .source .now)
-          (c .before .before .before .before .args .st) (c .before .loop .k) (c .before .before .before .before .pre)
-          (c .before .loop .inv .1 (c .before .before .before .before .pre)),
+      (let start = c .before .before .before .before in items-out (start .args .global) (start .args .source .now) (start .args .st)
+          (c .before .loop .k) (start .pre) (c .before .loop .inv .1 (start .pre))),
     )
 
 add-t33 : tie.Need-add-t33 Inv-loop μ-loop
 add-t33 c =
     omega (
       arith,
-      items-out (c .before .before .before .before .args .global) (c .before .before .before .before .args .source .now)
-          (c .before .before .before .before .args .st) (c .before .loop .k) (c .before .before .before .before .pre)
-          (c .before .loop .inv .1 (c .before .before .before .before .pre)),
+      (let start = c .before .before .before .before in items-out (start .args .global) (start .args .source .now) (start .args .st)
+          (c .before .loop .k) (start .pre) (c .before .loop .inv .1 (start .pre))),
     )
 
 pub items-spec : {M : Type 1} → statement M

@@ -21,40 +21,34 @@ abbrev μ-loop : tie.MeasureT-loop
 
 function-requires : tie.Need-function-requires Inv-loop μ-loop
 function-requires c κs =
-    group-ready _ _ _ _ (c .before .before .before .before .loop-test .taken) (c .before .before .entry .ensures .0) refl
-    (c .before .before .before .before .before .before .before .before .before .before .pre .0)
-    (c .before .before .before .before .before .loop .inv .2
-    (c .before .before .before .before .before .before .before .before .before .before .pre .0) outermost 0)
+    let after-loop-test = c .before .before .before .before in let after-loop = after-loop-test .before in
+    let start = after-loop .before .before .before .before .before in
+    group-ready _ _ _ _ (after-loop-test .loop-test .taken) (c .before .before .entry .ensures .0) refl (start .pre .0)
+    (after-loop .loop .inv .2 (start .pre .0) outermost 0)
 
 add-l : tie.Need-add-l Inv-loop μ-loop
 add-l c =
     omega (
       arith,
-      group-fits _ _ _ _
-          (c .before .before .before .before .before .before .before .before .before .before .before .before .before .loop-test .taken)
-          (c .before .before .before .before .before .before .before .before .before .before .before .entry .ensures .0) refl
-          (c .before .before .before .before .before .before .before .before .before .before .before .before .before .before .before .before .before
-          .before .before .pre .0)
-          (c .before .before .before .before .before .before .before .before .before .before .before .before .before .before .loop .inv .2
-          (c .before .before .before .before .before .before .before .before .before .before .before .before .before .before .before .before .before
-          .before .before .pre .0)
-          outermost 0),
+      (let after-entry = c .before .before .before .before .before .before .before .before .before .before .before in let after-loop-test =
+          after-entry .before .before in let after-loop = after-loop-test .before in let start = after-loop .before .before .before .before .before in
+          group-fits _ _ _ _ (after-loop-test .loop-test .taken) (after-entry .entry .ensures .0) refl (start .pre .0)
+          (after-loop .loop .inv .2 (start .pre .0) outermost 0)),
     )
 
 loop-again : tie.Need-loop-again Inv-loop μ-loop
-loop-again c = (
-  c .before .before .before .before .before .before .before .before .function .kept .1 .0 ∙
-      c .before .before .before .before .before .before .before .before .before .before .before .before .before .before .loop .inv .0,
-  c .before .before .before .before .before .before .before .before .function .kept .1 .1 .1 .0 ∙
-      c .before .before .before .before .before .before .before .before .before .before .before .before .before .before .loop .inv .1,
-  λ y before k.
-      group-next _ _ _ _
-      (c .before .before .before .before .before .before .before .before .before .before .before .before .before .loop-test .taken)
-      (c .before .before .before .before .before .before .before .before .before .before .before .entry .ensures .0) refl y
-      (c .before .before .before .before .before .before .before .before .before .before .before .before .before .before .loop .inv .2 y before k)
-      (c .before .before .before .before .before .before .before .before .function .ensures) (c .before .before .entry2 .ensures .0)
-      (c .before .before .entry2 .ensures .1) (c .before .too-tall .ensures) (c .level .ensures),
-)
+loop-again c =
+    let after-function = c .before .before .before .before .before .before .before .before in
+    let after-entry = after-function .before .before .before in let after-loop-test = after-entry .before .before in
+    let after-loop = after-loop-test .before in (
+      after-function .function .kept .1 .0 ∙ after-loop .loop .inv .0,
+      after-function .function .kept .1 .1 .1 .0 ∙ after-loop .loop .inv .1,
+      λ y
+          before k. group-next _ _ _ _ (after-loop-test .loop-test .taken) (after-entry .entry .ensures .0) refl y
+          (after-loop .loop .inv .2 y before k)
+          (after-function .function .ensures) (c .before .before .entry2 .ensures .0) (c .before .before .entry2 .ensures .1)
+          (c .before .too-tall .ensures) (c .level .ensures),
+    )
 
 returns : tie.Need-returns Inv-loop μ-loop
 returns c = group-end _ _ _ _ (c .loop-test .left) (c .before .loop .inv .2)

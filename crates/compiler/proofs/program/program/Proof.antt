@@ -19,27 +19,24 @@ abbrev μ-loop : tie.MeasureT-loop
 
 declaration-requires : tie.Need-declaration-requires Inv-loop μ-loop
 declaration-requires c κs =
-    program-ready _ _ _ (c .before .before .before .before .before .before .before .loop-test .taken)
-    (c .before .before .before .before .before .entry .ensures .0) refl (c .before .before .before .entry2 .ensures .0)
-    (c .before .before .before .before .before .before .before .before .before .before .before .before .before .pre)
-    (c .before .before .before .before .before .before .before .before .loop .inv .3
-    (c .before .before .before .before .before .before .before .before .before .before .before .before .before .pre))
+    let after-entry2 = c .before .before .before in let after-entry = after-entry2 .before .before in
+    let after-loop-test = after-entry .before .before in let after-loop = after-loop-test .before in
+    let start = after-loop .before .before .before .before .before in
+    program-ready _ _ _ (after-loop-test .loop-test .taken) (after-entry .entry .ensures .0) refl (after-entry2 .entry2 .ensures .0) (start .pre)
+    (after-loop .loop .inv .3 (start .pre))
 
 loop-again : tie.Need-loop-again Inv-loop μ-loop
-loop-again c = (
-  c .before .before .before .before .before .before .declaration .kept .1 .0 ∙
-      c .before .before .before .before .before .before .before .before .before .before .before .before .before .before .before .loop .inv .0,
-  c .before .before .before .before .before .before .declaration .kept .1 .1 .0 ∙
-      c .before .before .before .before .before .before .before .before .before .before .before .before .before .before .before .loop .inv .1,
-  c .before .before .before .before .before .before .declaration .kept .1 .1 .1 .1 .1 .1 .1 .1 .0 ∙
-      c .before .before .before .before .before .before .before .before .before .before .before .before .before .before .before .loop .inv .2,
-  λ y. program-next _ _ _
-      (c .before .before .before .before .before .before .before .before .before .before .before .before .before .before .loop-test .taken)
-      (c .before .before .before .before .before .before .before .before .before .before .before .before .entry .ensures .0) refl
-      (c .before .before .before .before .before .before .before .before .before .before .entry2 .ensures .0) y
-      (c .before .before .before .before .before .before .before .before .before .before .before .before .before .before .before .loop .inv .3 y)
-      (c .before .before .before .before .before .before .declaration .ensures),
-)
+loop-again c =
+    let after-declaration = c .before .before .before .before .before .before in
+    let after-entry2 = after-declaration .before .before .before .before in let after-entry = after-entry2 .before .before in
+    let after-loop-test = after-entry .before .before in let after-loop = after-loop-test .before in (
+      after-declaration .declaration .kept .1 .0 ∙ after-loop .loop .inv .0,
+      after-declaration .declaration .kept .1 .1 .0 ∙ after-loop .loop .inv .1,
+      after-declaration .declaration .kept .1 .1 .1 .1 .1 .1 .1 .1 .0 ∙ after-loop .loop .inv .2,
+      λ y. program-next _ _ _
+          (after-loop-test .loop-test .taken) (after-entry .entry .ensures .0) refl (after-entry2 .entry2 .ensures .0) y (after-loop .loop .inv .3 y)
+          (after-declaration .declaration .ensures),
+    )
 
 pub program-spec : {M : Type 1} → statement M
 program-spec =

@@ -16,9 +16,8 @@ cast-if4 c =
 
 returns-3 : tie.Need-returns-3
 returns-3 c =
-    differs (c .before .before .before .before .before .before .args .source .now) (c .before .before .before .before .before .before .args .p)
-    (c .before .before .before .before .before .before .args .q) (c .before .before .before .before .before .before .args .n) (omega arith)
-    (omega arith) (omega arith) (λ e. c .if4 .taken (e ∙ sym (c .before .before .before .before .before .before .pre .3)))
+    (let start = c .before .before .before .before .before .before in differs (start .args .source .now) (start .args .p) (start .args .q)
+    (start .args .n) (omega arith) (omega arith) (omega arith) (λ e. c .if4 .taken (e ∙ sym (start .pre .3))))
 
 pub alike-spec : {M : Type 1} → statement M
 alike-spec =

@@ -28,61 +28,49 @@ returns c = (record { by = λ sc h. absurd (omega (arith, c .if1 .taken, shows-l
 returns-2 : tie.Need-returns-2 Inv-loop μ-loop Inv-search μ-search
 unfolding found
 returns-2 c = (
-  record {
-    by = λ sc h. let l = c .before .loop .inv .2 sc h in sym
-        (ap found (l .same ∙ at-outer (c .before .before .before .before .before .before .before .before .before .args .source .now)
-        (c .before .before .before .before .before .before .before .before .before .args .s .now)
-        (c .before .before .before .before .before .before .before .before .before .args .leaf) (c .before .loop .at) (l .shows) (c .if2 .taken)));
-  },
+  (let start = c .before .before .before .before .before .before .before .before .before in record {
+    by = λ sc h. let l = c .before .loop .inv .2 sc h in sym (ap found
+        (l .same ∙ at-outer (start .args .source .now) (start .args .s .now) (start .args .leaf) (c .before .loop .at) (l .shows) (c .if2 .taken)));
+  }),
   omega arith,
 )
 
 search-again : tie.Need-search-again Inv-loop μ-loop Inv-search μ-search
 search-again c = (
   omega arith,
-  λ sc h. let l = c .before .before .before .loop .inv .2 sc h in left-then _ sc l
-      (at-open (c .before .before .before .before .before .before .before .before .before .before .before .args .source .now)
-      (c .before .before .before .before .before .before .before .before .before .before .before .args .s .now)
-      (c .before .before .before .before .before .before .before .before .before .before .before .args .leaf)
-      (c .before .before .before .loop .at) (c .before .before .if2 .left) (c .before .stacked .ensures .0) (l .shows) (c .if3 .taken)),
+  (let after-loop = c .before .before .before in let start = after-loop .before .before .before .before .before .before .before .before in λ sc
+      h. let l = after-loop .loop .inv .2 sc h in left-then _ sc l
+      (at-open (start .args .source .now) (start .args .s .now) (start .args .leaf) (after-loop .loop .at) (c .before .before .if2 .left)
+      (c .before .stacked .ensures .0) (l .shows) (c .if3 .taken))),
 )
-
-spelt-requires : tie.Need-spelt-requires Inv-loop μ-loop Inv-search μ-search
-spelt-requires c κs = (c .stacked2 .ensures .1, search needs, search needs, search needs)
 
 loop-again : tie.Need-loop-again Inv-loop μ-loop Inv-search μ-search
 loop-again c = (
   omega arith,
   omega arith,
-  λ sc h. let l = c .before .before .before .before .before .before .loop .inv .2 sc h in left-then _ sc l
-      (at-other
-      (c .before .before .before .before .before .before .before .before .before .before .before .before .before .before .args .source .now)
-      (c .before .before .before .before .before .before .before .before .before .before .before .before .before .before .args .s .now)
-      (c .before .before .before .before .before .before .before .before .before .before .before .before .before .before .args .leaf)
-      (c .before .before .before .before .before .before .loop .at) (c .before .before .before .before .before .if2 .left)
-      (c .before .before .before .before .stacked .ensures .0) (c .before .before .before .if3 .left) (c .before .before .stacked2 .ensures .0)
-      (c .before .before .before .before .before .before .before .before .before .before .entry .ensures .0)
-      (c .before .before .before .before .before .before .before .before .before .entry2 .ensures .0) (l .shows)
-      (sym (c .if4 .left) ∙ c .before .spelt .ensures)),
+  (let after-if3 = c .before .before .before in let after-stacked = after-if3 .before in let after-if2 = after-stacked .before in let after-loop
+      = after-if2 .before in let after-entry2 = after-loop .before .before .before in let after-entry = after-entry2 .before in let start =
+      after-entry .before .before .before .before in λ sc h. let l = after-loop .loop .inv .2 sc h in left-then _ sc l
+      (at-other (start .args .source .now) (start .args .s .now) (start .args .leaf) (after-loop .loop .at) (after-if2 .if2 .left)
+      (after-stacked .stacked .ensures .0) (after-if3 .if3 .left) (c .before .before .stacked2 .ensures .0) (after-entry .entry .ensures .0)
+      (after-entry2 .entry2 .ensures .0) (l .shows) (sym (c .if4 .left) ∙ c .before .spelt .ensures))),
 )
 
 returns-3 : tie.Need-returns-3 Inv-loop μ-loop Inv-search μ-search
-returns-3 c = (
-  record {
-    by = λ sc h. let l = c .before .before .before .before .before .before .before .loop .inv .2 sc h in at-found
-        (c .before .before .before .before .before .before .before .before .before .before .before .before .before .before .before .args .source .now)
-        (c .before .before .before .before .before .before .before .before .before .before .before .before .before .before .before .args .s .now)
-        (c .before .before .before .before .before .before .before .before .before .before .before .before .before .before .before .args .leaf)
-        (c .before .before .before .before .before .before .before .loop .at) (c .before .before .before .before .before .before .if2 .left)
-        (c .stacked3 .ensures .0) (λ e. c .before .before .before .before .if3 .left
-        (c .before .before .before .before .before .stacked .ensures .0 ∙ sym (c .stacked3 .ensures .0) ∙ e))
-        (c .before .before .before .stacked2 .ensures .0)
-        (c .before .before .before .before .before .before .before .before .before .before .before .entry .ensures .0)
-        (c .before .before .before .before .before .before .before .before .before .before .entry2 .ensures .0) (l .shows)
-        (sym (c .before .if4 .taken) ∙ c .before .before .spelt .ensures) ∙ ap found (sym (l .same));
-  },
-  c .stacked3 .ensures .1,
-)
+returns-3 c =
+    let after-stacked2 = c .before .before .before in let after-if3 = after-stacked2 .before in let after-stacked = after-if3 .before in
+    let after-if2 = after-stacked .before in let after-loop = after-if2 .before in let after-entry2 = after-loop .before .before .before in
+    let after-entry = after-entry2 .before in let start = after-entry .before .before .before .before in (
+      record {
+        by = λ sc h. let l = after-loop .loop .inv .2 sc h in at-found (start .args .source .now) (start .args .s .now) (start .args .leaf)
+            (after-loop .loop .at) (after-if2 .if2 .left) (c .stacked3 .ensures .0)
+            (λ e. after-if3 .if3 .left (after-stacked .stacked .ensures .0 ∙ sym (c .stacked3 .ensures .0) ∙ e))
+            (after-stacked2 .stacked2 .ensures .0)
+            (after-entry .entry .ensures .0) (after-entry2 .entry2 .ensures .0) (l .shows)
+            (sym (c .before .if4 .taken) ∙ c .before .before .spelt .ensures) ∙ ap found (sym (l .same));
+      },
+      c .stacked3 .ensures .1,
+    )
 
 pub lookup-spec : {M : Type 1} → statement M
 lookup-spec =
@@ -90,5 +78,5 @@ lookup-spec =
     (tie.spec Inv-loop μ-loop Inv-search μ-search returns (search needs) (search needs) (search needs) (search needs)
     (λ c _. (c .entry2 .ensures .1, c .before .entry .ensures .1)) (λ c. (omega arith, λ sc h. left-all _ sc h))
     (λ c. (omega arith, c .search .inv .0, c .search .inv .1)) returns-2 (λ c. omega arith) (λ c κs. omega arith)
-    (λ c. omega arith) search-again (λ c κs. omega arith) spelt-requires (λ c. omega arith) loop-again
+    (λ c. omega arith) search-again (λ c κs. omega arith) (λ c κs. search needs) (λ c. omega arith) loop-again
     (λ c. omega arith) (λ c κs. omega arith) returns-3)

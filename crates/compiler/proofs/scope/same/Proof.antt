@@ -17,16 +17,14 @@ abbrev μ-loop : tie.MeasureT-loop
 
 returns : tie.Need-returns Inv-loop μ-loop
 returns c =
-    differs (c .before .before .before .before .before .args .source .now) (c .before .before .before .before .before .args .p)
-    (c .before .before .before .before .before .args .q) (c .before .before .before .before .loop .i) (omega arith) (omega arith) (omega arith)
-    (c .if1 .taken) ∙ sym (search needs)
+    (let after-loop = c .before .before .before .before in let start = after-loop .before in differs (start .args .source .now) (start .args .p)
+    (start .args .q) (after-loop .loop .i) (omega arith) (omega arith) (omega arith) (c .if1 .taken) ∙ sym (search needs))
 
 loop-again : tie.Need-loop-again Inv-loop μ-loop
 loop-again c = (
   omega arith,
-  c .before .before .before .before .loop .inv .1 ∙ one-fewer (c .before .before .before .before .before .args .source .now)
-      (c .before .before .before .before .before .args .p) (c .before .before .before .before .before .args .q)
-      (c .before .before .before .before .loop .i) (omega arith) (omega arith) (omega arith) (c .if1 .left),
+  (let after-loop = c .before .before .before .before in let start = after-loop .before in after-loop .loop .inv .1 ∙ one-fewer
+      (start .args .source .now) (start .args .p) (start .args .q) (after-loop .loop .i) (omega arith) (omega arith) (omega arith) (c .if1 .left)),
 )
 
 returns-2 : tie.Need-returns-2 Inv-loop μ-loop

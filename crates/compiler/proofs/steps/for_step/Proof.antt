@@ -15,27 +15,19 @@ add-mark-2 c =
 
 same-length : tie.Need-same-length
 same-length c =
-    c .before .before .mark2 .kept .0 ∙ c .before .before .before .before .before .before .put-to .kept .0 ∙
-    c .before .before .before .before .before .before .before .before .before .before .put3 .kept .0 ∙
-    c .before .before .before .before .before .before .before .before .before .before .before .before .before .before .put2 .kept .0 ∙
-    c .before .before .before .before .before .before .before .before .before .before .before .before .before .before .before .before .before .before
-    .put .kept .0
-    ∙
-    c .before .before .before .before .before .before .before .before .before .before .before .before .before .before .before .before .before .before
-    .before .before .before .before .mark .kept .0
+    let after-put-to = c .before .before .before .before .before .before in let after-put3 = after-put-to .before .before .before .before in
+    let after-put2 = after-put3 .before .before .before .before in let after-put = after-put2 .before .before .before .before in
+    let after-mark = after-put .before .before .before .before in
+    c .before .before .mark2 .kept .0 ∙ after-put-to .put-to .kept .0 ∙ after-put3 .put3 .kept .0 ∙ after-put2 .put2 .kept .0
+    ∙ after-put .put .kept .0 ∙ after-mark .mark .kept .0
 
 returns : tie.Need-returns
 returns c =
-    emits-then
-    (c .before .before .before .before .before .before .before .before .before .before .before .before .before .before .before .before .before
-    .before .before .before .before .before .mark .ensures)
-    (emits-then
-    (c .before .before .before .before .before .before .before .before .before .before .before .before .before .before .before .before .before
-    .before .put .ensures)
-    (emits-then
-    (c .before .before .before .before .before .before .before .before .before .before .before .before .before .before .put2 .ensures)
-    (emits-then (c .before .before .before .before .before .before .before .before .before .before .put3 .ensures)
-    (emits-then (c .before .before .before .before .before .before .put-to .ensures) (c .before .before .mark2 .ensures)))))
+    let after-put-to = c .before .before .before .before .before .before in let after-put3 = after-put-to .before .before .before .before in
+    let after-put2 = after-put3 .before .before .before .before in let after-put = after-put2 .before .before .before .before in
+    let after-mark = after-put .before .before .before .before in
+    emits-then (after-mark .mark .ensures) (emits-then (after-put .put .ensures) (emits-then (after-put2 .put2 .ensures)
+    (emits-then (after-put3 .put3 .ensures) (emits-then (after-put-to .put-to .ensures) (c .before .before .mark2 .ensures)))))
 
 pub for-step-spec : {M : Type 1} → statement M
 for-step-spec =

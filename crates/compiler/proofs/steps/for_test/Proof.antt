@@ -16,23 +16,17 @@ add-put-to c =
 
 same-length : tie.Need-same-length
 same-length c =
-    c .before .before .put-to .kept .0 ∙ c .before .before .before .before .before .before .put3 .kept .0 ∙
-    c .before .before .before .before .before .before .before .before .before .before .before .put2 .kept .0 ∙
-    c .before .before .before .before .before .before .before .before .before .before .before .before .before .before .before .put .kept .0 ∙
-    c .before .before .before .before .before .before .before .before .before .before .before .before .before .before .before .before .before .before
-    .before .mark .kept .0
+    let after-put3 = c .before .before .before .before .before .before in let after-put2 = after-put3 .before .before .before .before .before in
+    let after-put = after-put2 .before .before .before .before in let after-mark = after-put .before .before .before .before in
+    c .before .before .put-to .kept .0 ∙ after-put3 .put3 .kept .0 ∙ after-put2 .put2 .kept .0 ∙ after-put .put .kept .0 ∙ after-mark .mark .kept .0
 
 returns : tie.Need-returns
 returns c =
-    emits-then
-    (c .before .before .before .before .before .before .before .before .before .before .before .before .before .before .before .before .before
-    .before .before .mark .ensures)
-    (emits-then
-    (c .before .before .before .before .before .before .before .before .before .before .before .before .before .before .before .put .ensures)
-    (emits-then (c .before .before .before .before .before .before .before .before .before .before .before .put2 .ensures)
-    (emits-then
-    (act-is (c .before .before .before .before .before .before .before .limit-act .ensures)
-    (c .before .before .before .before .before .before .put3 .ensures)) (c .before .before .put-to .ensures))))
+    let after-put3 = c .before .before .before .before .before .before in let after-limit-act = after-put3 .before in
+    let after-put2 = after-limit-act .before .before .before .before in let after-put = after-put2 .before .before .before .before in
+    let after-mark = after-put .before .before .before .before in
+    emits-then (after-mark .mark .ensures) (emits-then (after-put .put .ensures) (emits-then (after-put2 .put2 .ensures)
+    (emits-then (act-is (after-limit-act .limit-act .ensures) (after-put3 .put3 .ensures)) (c .before .before .put-to .ensures))))
 
 pub for-test-spec : {M : Type 1} → statement M
 for-test-spec =

@@ -1,5 +1,5 @@
 use Prim.Native.Nat.{_-_, _≤_}
-use mathlib.Core.Path.{_≡_, refl, _∙_}
+use mathlib.Core.Path.{_≡_, refl}
 use mathlib.Core.List.{[]}
 use native.Mathlib.Omega.{arith}
 use borrow.Author.Needs.{needs}
@@ -16,11 +16,8 @@ Inv-loop text₀ first k i₀ r₀ text i r = (length text ≡ length text₀) �
 abbrev μ-loop : tie.MeasureT-loop
 μ-loop text₀ first k i₀ r₀ text i r = k - i
 
-loop-again : tie.Need-loop-again Inv-loop μ-loop
-loop-again c = (c .before .before .mark .kept .0 ∙ c .before .before .before .before .before .loop .inv .0, omega arith, search tops-next)
-
 pub tops-spec : {M : Type 1} → statement M
 tops-spec =
     tie.close (tie.spec Inv-loop μ-loop (λ c. (refl, omega arith, tops-none _)) (λ c. omega arith) (λ c. omega arith)
-    (search needs) (λ c. omega arith) (λ c. omega arith) loop-again (λ c. c .before .loop .inv .0)
-    (λ c. search tops-all))
+    (search needs) (λ c. omega arith) (λ c. omega arith) (λ c. search (needs, tops-next))
+    (λ c. c .before .loop .inv .0) (λ c. search tops-all))

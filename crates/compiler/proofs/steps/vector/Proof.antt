@@ -45,16 +45,11 @@ add-t22 c =
 
 returns : tie.Need-returns
 returns c =
-    vector-gave _
-    (c .before .before .before .before .before .before .before .before .before .before .before .before .before .before .before .node-at .ensures)
-    (c .before .before .before .before .before .before .before .before .before .before .before .before .before .before .before .before .before
-    .before .before .before .pre .1 .is)
-    (c .before .before .before .before .before .before .before .before .before .before .before .before .before .before .before .before .before
-    .before .before .before .args .source .now)
-    refl (c .before .before .before .before .before .before .before .before .before .before .before .before .before .judge-most .ensures)
-    (c .before .before .before .before .before .before .before .before .before .before .before .before .blame .ensures)
-    (c .before .before .before .before .before .before .before .before .before .declare .ensures)
-    (c .before .before .before .before .before .vector-code .ensures) refl
+    let after-vector-code = c .before .before .before .before .before in let after-declare = after-vector-code .before .before .before .before in
+    let after-blame = after-declare .before .before .before in let after-judge-most = after-blame .before in
+    let after-node-at = after-judge-most .before .before in let start = after-node-at .before .before .before .before .before in
+    vector-gave _ (after-node-at .node-at .ensures) (start .pre .1 .is) (start .args .source .now) refl (after-judge-most .judge-most .ensures)
+    (after-blame .blame .ensures) (after-declare .declare .ensures) (after-vector-code .vector-code .ensures) refl
 
 pub vector-spec : {M : Type 1} → statement M
 vector-spec =

@@ -10,7 +10,9 @@ mod Commands
 use Rattle.compiler.proofs.walk.+address+applied+args+assign+bare+block+cases+chain+command+expr+for_to+form+forms+indexed+list+local+locals+located+monadic+passed+plain+refuse+repeated+side+stored+switch+test+when+while_do as cycle
 use cycle.{statement}
 use cycle.Tie.{close}
-use Ranks.{address-rank, applied-rank, args-rank, assign-rank, bare-rank, block-rank, cases-rank, chain-rank, command-rank, expr-rank, for-to-rank, form-rank, forms-rank, indexed-rank, list-rank, local-rank, locals-rank, located-rank, monadic-rank, passed-rank, plain-rank, refuse-rank, repeated-rank, side-rank, stored-rank, switch-rank, test-rank, when-rank, while-do-rank}
+use Ranks.{address-rank, applied-rank, args-rank, assign-rank, bare-rank, block-rank, cases-rank, chain-rank, command-rank, expr-rank, for-to-rank}
+use Ranks.{form-rank, forms-rank, indexed-rank, list-rank, local-rank, locals-rank, located-rank, monadic-rank, passed-rank, plain-rank, refuse-rank}
+use Ranks.{repeated-rank, side-rank, stored-rank, switch-rank, test-rank, when-rank, while-do-rank}
 use Expressions.{expr-ok, chain-ok, monadic-ok}
 use Calls.{applied-ok, args-ok, indexed-ok, passed-ok}
 use Sides.{address-ok, located-ok, refuse-ok, side-ok, stored-ok, assign-ok}

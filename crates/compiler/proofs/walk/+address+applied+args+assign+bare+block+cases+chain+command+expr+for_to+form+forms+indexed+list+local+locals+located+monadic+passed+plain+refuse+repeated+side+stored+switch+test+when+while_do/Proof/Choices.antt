@@ -140,7 +140,8 @@ test-add-mark t c =
     omega (
       arith,
       c .before .before .before .before .before .before .before .before .before .before .before .before .before .before .before .before .before
-          .before .before .before .before .before .before .before .before .before .before .before .before .before .before .before .before .before .before
+          .before .before .before .before .before .before .before .before .before .before .before .before .before .before .before .before
+          .before .before
           .before .before .before .before .before .before .before .before .before .before .before .pre .1 .0 .label,
     )
 
@@ -321,7 +322,8 @@ cases-cs t = (entry.Asked, entry.Learnt, mark.Asked, mark.Learnt, below bare-ran
 
 abbrev cases-Inv-loop : cases-lts.InvT-loop
 cases-Inv-loop source s₀ from end text₀ here ways first at₀ k₀ r₀ s text at k r =
-    (length s ≡ length s₀) × (length text ≡ length text₀) × (k ≤ at) × ((y : ReadyCases s₀ from end here r₀) → CasesPart source text₀ ways first y s text at k r)
+    (length s ≡ length s₀) × (length text ≡ length text₀) × (k ≤ at) ×
+    ((y : ReadyCases s₀ from end here r₀) → CasesPart source text₀ ways first y s text at k r)
 
 abbrev cases-μ-loop : cases-lts.MeasureT-loop
 cases-μ-loop source s₀ from end text₀ here ways first at₀ k₀ r₀ s text at k r = end - at

@@ -190,7 +190,8 @@ chain-loop-again t c =
           ∙ after-keep .keep .kept .0 ∙ after-loop .loop .inv .1,
       λ y. chain-next _ _ (after-loop-test .loop-test .taken) (after-entry .entry .ensures .0)
           (after-entry2 .entry2 .ensures .0) refl (after-act-of .act-of .ensures) (after-keep .keep .ensures)
-          (gave-at _ (after-raised .raised .ensures) (after-expr .expr .ensures)) (c .before .before .operate .ensures) y (after-loop .loop .inv .2 y),
+          (gave-at _ (after-raised .raised .ensures) (after-expr .expr .ensures)) (c .before .before .operate .ensures) y
+          (after-loop .loop .inv .2 y),
     )
 
 pub chain-ok : {M : Type 1} (t : ℕ) → chain-lts.Closed (chain-cs t) (at chain-rank t) chain.Post M

@@ -28,7 +28,11 @@ abbrev pub address-rank : Member
 address-rank = record { ps = walk.address.Kinds.ps; measure = λ κs a. a .1 .1 .1 .1 .0 .left * 4294967300 + 5; pre = walk.address.Reads.Pre }
 
 abbrev pub applied-rank : Member
-applied-rank = record { ps = walk.applied.Kinds.ps; measure = λ κs a. a .1 .1 .1 .1 .1 .0 .left * 4294967300 + 3 + a .1 .1 .1 .0; pre = walk.applied.Reads.Pre }
+applied-rank = record {
+  ps = walk.applied.Kinds.ps;
+  measure = λ κs a. a .1 .1 .1 .1 .1 .0 .left * 4294967300 + 3 + a .1 .1 .1 .0;
+  pre = walk.applied.Reads.Pre;
+}
 
 abbrev pub args-rank : Member
 args-rank = record { ps = walk.args.Kinds.ps; measure = λ κs a. a .1 .1 .1 .1 .1 .0 .left * 4294967300 + 1; pre = walk.args.Reads.Pre }

@@ -417,7 +417,8 @@ stored-store-indexed-requires t c κs =
     omega (
       arith,
       c .before .before .before .before .before .before .before .before .before .before .before .before .before .before .before .before .before
-          .before .before .before .before .before .before .before .before .before .before .before .before .before .before .before .before .before .before
+          .before .before .before .before .before .before .before .before .before .before .before .before .before .before .before .before
+          .before .before
           .before .before .pre .1 .0 .height,
     )
 
