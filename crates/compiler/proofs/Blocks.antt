@@ -3,7 +3,7 @@ use Prim.Native.Nat.{ℕ, suc, _+_, _*_, _-_, _≤_, _<_}
 use mathlib.Core.Path.{_≡_, refl, sym, ap, subst, _∙_}
 use mathlib.Core.List.{List, [], _∷_, _++_, append-assoc}
 use native.Mathlib.Omega.{arith}
-use lib.ListN.{length, getD, length-append}
+use lib.ListN.{length, getD}
 use Rattle.items.specs.Item as I
 use Rattle.language.specs.Tree as T
 use Rattle.language.specs.Tree.{Name, Expressions, Command, Commands, Unlabelled}
@@ -33,7 +33,8 @@ use Rattle.compiler.specs.Commands.{cmdSays, cmdsSays, ReadyC, GaveC, Re
 use Rattle.compiler.specs.Locals.{Local, aVector, someValues, withLocal, encodeLocal, localDepth, FineLocal, scopeWith, heightWith, faultsL}
 use Rattle.compiler.specs.Locals.{localSays, ReadyLocal, GaveLocal, localsSays, ReadyLocals, GaveLocals}
 use Rattle.compiler.proofs.Done.{did-none, did-then, did-as, same-refl, same-eq, code-is}
-use Rattle.compiler.proofs.Trees.{first, second, keeps-lies, ends}
+use Rattle.compiler.proofs.Trees.{IsTwo, is-two, ends}
+use Rattle.compiler.proofs.Parts.{moved}
 use Rattle.compiler.proofs.Lists.{First, first-of, Kind, Part, begins, ready-one, rest-length, goes-on, ended}
 use Rattle.compiler.proofs.Calls.{count-resolved}
 use Rattle.compiler.proofs.Forms as F
@@ -281,25 +282,11 @@ module _ (text t₀ : List ℕ) {s₀ : List ℕ} {from end : ℕ} {here : Here}
 
     abbrev pub locals-part : (y : ReadyLocals s₀ from end here st₀) → LocalsPart y s t at r
         → ReadyLocal s next (placed (r .top) (r .height) here) (r .done)
-    locals-part y p = let z = y .ready in let u = one y p in record {
-      base = z .base;
-      lo = at + 2;
-      tree = u .part;
-      scope = p .scope;
-      lies = keeps-lies (p .keeps) (omega (arith, z .above, y .starts, p .starts)) (u .lies);
-      ends = omega (arith, en, locals-size y p);
-      above = omega (arith, z .above, y .starts, p .starts);
-      long = omega (arith, z .long, p .keeps .long);
-      small = omega (arith, z .small, en, locals-size y p, u .ends);
-      shows = p .shows;
-      room = omega (arith, z .room, p .room, locals-length y p);
-      height = omega (arith, z .height, p .tall, locals-length y p);
-      label = omega (arith, z .label, p .label, locals-length y p);
-      some = p .some;
-      strings = z .strings;
-      shallow = locals-deep y p .0;
-      fine = locals-fine y p .0;
-    }
+    locals-part y p = let z = y .ready in let u = one y p in
+        moved encodeLocal localDepth FineLocal z (p .keeps) next (at + 2) (placed (r .top) (r .height) here) (r .done) (u .part) (p .scope) (u .lies)
+        (omega (arith, en, locals-size y p)) (omega (arith, y .starts, p .starts)) (omega (arith, en, locals-size y p, u .ends)) (p .shows)
+        (omega (arith, z .room, p .room, locals-length y p)) refl (omega (arith, z .height, p .tall, locals-length y p))
+        (omega (arith, z .label, p .label, locals-length y p)) (p .some) (locals-deep y p .0) (locals-fine y p .0)
 
     pub locals-next : {s₁ t₁ : List ℕ} {r′ : Placed} → GaveLocal text s s₁ next (placed (r .top) (r .height) here) t t₁ (r .done) r′
         → (y : ReadyLocals s₀ from end here st₀) → LocalsPart y s t at r → LocalsPart y s₁ t₁ next r′
@@ -357,27 +344,8 @@ module _ (text t₀ : List ℕ) {s₀ : List ℕ} {from end : ℕ} {here : Here}
 
 -- ---- a block
 
-pub record IsBlock (s : List ℕ) (lo end : ℕ) (u : Unlabelled) : Type 0 where
-  pub declarations : T.Locals
-  pub list : Commands
-  pub same : u ≡ T.block declarations list
-  pub lies : Lies s lo (encodeLocals declarations)
-  pub lies-list : Lies s (lo + length (encodeLocals declarations)) (encodeCommands list)
-  pub value-of : getD s (end - 3) 0 ≡ length (encodeLocals declarations)
-  pub size-of : getD s (end - 4) 0 ≡ length (encodeLocals declarations) + length (encodeCommands list)
-  pub ends : end ≡ lo + length (encodeLocals declarations) + length (encodeCommands list) + 4
-
-is-block : {s : List ℕ} {lo end : ℕ} {u : Unlabelled} → Form s lo end 57 u → IsBlock s lo end u
-is-block {lo = lo} (F.aBlock {ls} {cs} h v z q) = record {
-  declarations = ls;
-  list = cs;
-  same = refl;
-  lies = first (encodeLocals ls) (encodeCommands cs) h;
-  lies-list = second (encodeLocals ls) (encodeCommands cs) (lo + length (encodeLocals ls)) h refl;
-  value-of = v;
-  size-of = z ∙ length-append (encodeLocals ls) (encodeCommands cs);
-  ends = omega (arith, q, length-append (encodeLocals ls) (encodeCommands cs));
-}
+is-block : {s : List ℕ} {lo end : ℕ} {u : Unlabelled} → Form s lo end 57 u → IsTwo encodeLocals encodeCommands T.block s lo end u
+is-block (F.aBlock {ls} {cs} h v z q) = is-two encodeLocals encodeCommands T.block ls cs h z v q
 
 -- locals anywhere
 any-locals : (text : List ℕ) (l m : Leavable) (q : l .routine ≡ m .routine) (sc : Scope) (h : ℕ) (ls : T.Locals)
@@ -404,19 +372,19 @@ heights-agree text sc h (T.values ns es ls) f =
 
 module _ {s : List ℕ} {end : ℕ} {here : Here} {st : State} (n : Node) (nd : NodeAt s end n) (q : getD s (end - 1) 0 ≡ 57) {middle : ℕ}
     (m : middle ≡ n .start + n .value) where
-  pub block-is : (y : ReadyU s end here st) → IsBlock s (y .lo) end (y .tree)
+  pub block-is : (y : ReadyU s end here st) → IsTwo encodeLocals encodeCommands T.block s (y .lo) end (y .tree)
   block-is y = is-block (form-at n nd (nd .kind ∙ q) y)
 
-  pub block-fine : (y : ReadyU s end here st) → FineLs (block-is y .declarations) × FineCs (block-is y .list)
+  pub block-fine : (y : ReadyU s end here st) → FineLs (block-is y .left) × FineCs (block-is y .list)
   unfolding FineUnlabelled
   block-fine y = subst FinePlain (block-is y .same) (y .fine) .0
 
   pub block-deep : (y : ReadyU s end here st)
-      → (localsDepth (block-is y .declarations) ≤ here .left) × (commandsDepth (block-is y .list) ≤ here .left)
+      → (localsDepth (block-is y .left) ≤ here .left) × (commandsDepth (block-is y .list) ≤ here .left)
   unfolding unlabelledDepth
   block-deep y = (omega (arith, y .shallow, ap unlabelledDepth (block-is y .same)), omega (arith, y .shallow, ap unlabelledDepth (block-is y .same)))
 
-  pub block-start : (y : ReadyU s end here st) → (n .start ≡ y .lo) × (middle ≡ y .lo + length (encodeLocals (block-is y .declarations)))
+  pub block-start : (y : ReadyU s end here st) → (n .start ≡ y .lo) × (middle ≡ y .lo + length (encodeLocals (block-is y .left)))
   block-start y =
       let u = block-is y in
       (omega (arith, nd .start, u .size-of, u .ends), omega (arith, m, nd .start, nd .value, u .value-of, u .size-of, u .ends))
@@ -427,25 +395,10 @@ module _ {s : List ℕ} {end : ℕ} {here : Here} {st : State} (n : Node) (nd : 
   module _ {s₁ : List ℕ} (pu : Pushed s s₁ (here .top) 0 0) where
     abbrev pub block-locals : ReadyU s end here st → ReadyLocals s₁ (n .start) middle (marked here) st
     block-locals y = let u = block-is y in let k = pushed-keeps pu (block-room y .0) (y .long) in record {
-      ready = record {
-        base = y .base;
-        lo = y .lo;
-        tree = u .declarations;
-        scope = opened (y .scope);
-        lies = keeps-lies k (y .above) (u .lies);
-        ends = block-start y .1;
-        above = y .above;
-        long = omega (arith, y .long, k .long);
-        small = omega (arith, y .small, block-start y .1, u .ends);
-        shows = pushed-mark pu (block-room y .0) (y .long) (y .shows) refl;
-        room = omega (arith, y .room, y .ends, u .ends);
-        height = omega (arith, y .height, y .ends, u .ends);
-        label = omega (arith, y .label, y .ends, u .ends);
-        some = y .some;
-        strings = y .strings;
-        shallow = block-deep y .0;
-        fine = block-fine y .0;
-      };
+      ready = moved encodeLocals localsDepth FineLs y k middle (y .lo) (marked here) st (u .left) (opened (y .scope)) (u .lies) (block-start y .1)
+          (omega arith) (omega (arith, block-start y .1, u .ends)) (pushed-mark pu (block-room y .0) (y .long) (y .shows) refl)
+          (omega (arith, y .room, y .ends, u .ends)) refl (omega (arith, y .height, y .ends, u .ends)) (omega (arith, y .label, y .ends, u .ends))
+          (y .some) (block-deep y .0) (block-fine y .0);
       starts = sym (block-start y .0);
     }
 
@@ -455,25 +408,11 @@ module _ {s : List ℕ} {end : ℕ} {here : Here} {st : State} (n : Node) (nd : 
 
       abbrev pub block-list : ReadyU s end here st → ReadyList s₂ middle (n .inner) (placed (a .top) (a .height) here) (a .done)
       block-list y = let u = block-is y in let x = g .by (block-locals y) in let k = block-keeps y in record {
-        ready = record {
-          base = y .base;
-          lo = y .lo + length (encodeLocals (u .declarations));
-          tree = u .list;
-          scope = scopeAfter text (opened (y .scope)) (here .height) (u .declarations);
-          lies = keeps-lies k (omega (arith, y .above)) (u .lies-list);
-          ends = omega (arith, nd .inner, u .ends);
-          above = omega (arith, y .above);
-          long = omega (arith, y .long, k .long);
-          small = omega (arith, y .small, nd .inner);
-          shows = x .after .shows;
-          room = omega (arith, y .room, y .ends, u .ends, x .after .room);
-          height = omega (arith, y .height, y .ends, u .ends, x .after .tall);
-          label = omega (arith, y .label, y .ends, u .ends, x .did .few);
-          some = omega (arith, y .some, x .did .grows);
-          strings = y .strings;
-          shallow = block-deep y .1;
-          fine = block-fine y .1;
-        };
+        ready = moved encodeCommands commandsDepth FineCs y k (n .inner) (y .lo + length (encodeLocals (u .left))) (placed (a .top) (a .height) here)
+            (a .done) (u .list) (scopeAfter text (opened (y .scope)) (here .height) (u .left)) (u .lies-list) (omega (arith, nd .inner, u .ends))
+            (omega arith) (omega (arith, nd .inner)) (x .after .shows) (omega (arith, y .room, y .ends, u .ends, x .after .room)) refl
+            (omega (arith, y .height, y .ends, u .ends, x .after .tall)) (omega (arith, y .label, y .ends, u .ends, x .did .few))
+            (omega (arith, y .some, x .did .grows)) (block-deep y .1) (block-fine y .1);
         starts = sym (block-start y .1);
       }
 
@@ -483,7 +422,7 @@ module _ {s : List ℕ} {end : ℕ} {here : Here} {st : State} (n : Node) (nd : 
       block-gave ways {s₃} {t₂} {r} g₂ = record {
         by = λ y.
             let u = block-is y in let x = g .by (block-locals y) in let z = g₂ .by (block-list y) in let sc = opened (y .scope) in
-            let h = here .height in let ls = u .declarations in
+            let h = here .height in let ls = u .left in
             let LS = locals text sc h ls in let sc′ = scopeAfter text sc h ls in let h′ = heightAfter text sc h ls in let l = leavableBy ways here in
             let eh : H.heightWith h LS ≡ h′ = heights-agree text sc h ls (block-fine y .0) in
             subst (λ (v : Unlabelled). Result (inUnlabelled text (y .scope) l h v) (cmdSays here ways (unlabelled text (y .scope) h v))

@@ -30,8 +30,8 @@ use Rattle.compiler.specs.Walked.{inside, raised, leavable, NodeAt, Did,
 use Rattle.compiler.specs.Walks.{Lies, Ready, Result, ReadyE, GaveE, faultsE, codeE, ReadyArgs, GaveArgs, Counts, encodeApplied, deepApplied}
 use Rattle.compiler.specs.Walks.{FineApplied, faultsA, codeA, ReadySuffixes, GaveSuffixes, GaveIndexed, GavePassed}
 use Rattle.compiler.proofs.Done.{did-emit, did-put, did-after, did-none, did-then, did-as, same-refl, same-eq, same-swap, same-then, code-is}
-use Rattle.compiler.proofs.Trees.{first, second, find, IsTwo, Case, aNumber, aString, aName, aBracket, aValof, aMonadic, aSuffixed, aCalled}
-use Rattle.compiler.proofs.Trees.{aDyadic}
+use Rattle.compiler.proofs.Trees.{first, second, find, IsTwo, is-two, Case, aNumber, aString, aName, aBracket, aValof, aMonadic, aSuffixed}
+use Rattle.compiler.proofs.Trees.{aCalled, aDyadic}
 use Rattle.compiler.proofs.Counting.{expression-items}
 use Rattle.compiler.proofs.Parts.{sub}
 use Rattle.compiler.proofs.Lists.{First, first-of, Kind, Part, begins, ready-one, item, rest-length, goes-on, ended}
@@ -610,7 +610,7 @@ module _ {s : List ℕ} {middle end : ℕ} {d d′ : Here} {st : State} where
   suffixes-gave-at {text} {s′} {t} {t′} {r} e g = subst (λ (x : Here). GaveSuffixes text s s′ middle end x t t′ st r) e g
 
 pub is-suffixed : {s : List ℕ} {lo end k : ℕ} {e : Expression} → (k ≡ 60 → ⊥) → (k ≡ 61 → ⊥) → (k ≡ 59 → ⊥) → (k ≡ 51 → ⊥) → (k ≡ 131 → ⊥)
-    → (k ≡ 7 → ⊥) → (k ≡ 128 → ⊥) → Case s lo end k e → IsTwo encodeSuffixes T.suffixed s lo end e
+    → (k ≡ 7 → ⊥) → (k ≡ 128 → ⊥) → Case s lo end k e → IsTwo encode encodeSuffixes T.suffixed s lo end e
 is-suffixed n1 n2 n3 n4 n5 n6 n7 (aNumber h) = absurd (n1 refl)
 is-suffixed n1 n2 n3 n4 n5 n6 n7 (aString h) = absurd (n2 refl)
 is-suffixed n1 n2 n3 n4 n5 n6 n7 (aName w p q) = absurd (n3 refl)
@@ -618,32 +618,14 @@ is-suffixed n1 n2 n3 n4 n5 n6 n7 (aBracket h q) = absurd (n4 refl)
 is-suffixed n1 n2 n3 n4 n5 n6 n7 (aValof h q) = absurd (n6 refl)
 is-suffixed n1 n2 n3 n4 n5 n6 n7 (aMonadic v h q) = absurd (n7 refl)
 is-suffixed n1 n2 n3 n4 n5 n6 n7 (aDyadic h z v q) = absurd (n5 refl)
-is-suffixed {lo = lo} n1 n2 n3 n4 n5 n6 n7 (aSuffixed {e} {ss} h z v q) = record {
-  left = e;
-  list = ss;
-  same = refl;
-  lies = first (encode e) (encodeSuffixes ss) h;
-  lies-list = second (encode e) (encodeSuffixes ss) (lo + length (encode e)) h refl;
-  value-of = v;
-  size-of = z ∙ length-append (encode e) (encodeSuffixes ss);
-  ends = omega (arith, q, length-append (encode e) (encodeSuffixes ss));
-}
-is-suffixed {lo = lo} n1 n2 n3 n4 n5 n6 n7 (aCalled {e} {ss} h z v q) = record {
-  left = e;
-  list = ss;
-  same = refl;
-  lies = first (encode e) (encodeSuffixes ss) h;
-  lies-list = second (encode e) (encodeSuffixes ss) (lo + length (encode e)) h refl;
-  value-of = v;
-  size-of = z ∙ length-append (encode e) (encodeSuffixes ss);
-  ends = omega (arith, q, length-append (encode e) (encodeSuffixes ss));
-}
+is-suffixed n1 n2 n3 n4 n5 n6 n7 (aSuffixed {e} {ss} h z v q) = is-two encode encodeSuffixes T.suffixed e ss h z v q
+is-suffixed n1 n2 n3 n4 n5 n6 n7 (aCalled {e} {ss} h z v q) = is-two encode encodeSuffixes T.suffixed e ss h z v q
 
 module _ {s : List ℕ} {end : ℕ} {here : Here} {st : State} (n : Node) (nd : NodeAt s end n)
     (n1 : n .kind ≡ 60 → ⊥) (n2 : n .kind ≡ 61 → ⊥) (n3 : n .kind ≡ 59 → ⊥) (n4 : n .kind ≡ 51 → ⊥) (n5 : n .kind ≡ 131 → ⊥) (n6 : n .kind ≡ 7 → ⊥)
     (n7 : n .kind ≡ 128 → ⊥)
     {middle : ℕ} (m : middle ≡ n .start + n .value) where
-  pub suffixed-is : (y : ReadyE s end here st) → IsTwo encodeSuffixes T.suffixed s (y .lo) end (y .tree)
+  pub suffixed-is : (y : ReadyE s end here st) → IsTwo encode encodeSuffixes T.suffixed s (y .lo) end (y .tree)
   suffixed-is y = is-suffixed n1 n2 n3 n4 n5 n6 n7 (find n nd refl y)
 
   pub suffixed-deep : (y : ReadyE s end here st)
@@ -690,25 +672,9 @@ call-few l ej et ei ez es q k y =
 -- the same with another state
 abbrev pub with-state : {A : Type 0} {enc : A → List ℕ} {deep : A → ℕ} {Fine : A → Type 0} {s : List ℕ} {end : ℕ} {here : Here} {st st′ : State}
     → st′ .label ≡ st .label → Ready enc deep Fine s end here st → Ready enc deep Fine s end here st′
-with-state e y = record {
-  base = y .base;
-  lo = y .lo;
-  tree = y .tree;
-  scope = y .scope;
-  lies = y .lies;
-  ends = y .ends;
-  above = y .above;
-  long = y .long;
-  small = y .small;
-  shows = y .shows;
-  room = y .room;
-  height = y .height;
-  label = omega (arith, y .label);
-  some = omega (arith, y .some);
-  strings = y .strings;
-  shallow = y .shallow;
-  fine = y .fine;
-}
+with-state {enc = enc} {deep} {Fine} {end = end} {here} {st′ = st′} e y =
+    sub enc deep Fine y keeps-all end (y .lo) here st′ (y .tree) (y .lies) (y .ends) (omega arith) (omega arith) refl refl (y .height)
+    (omega (arith, y .label)) (omega (arith, y .some)) (y .shallow) (y .fine)
 
 pub indexed-gave : (text : List ℕ) {s s₁ t t₁ t₂ t₃ : List ℕ} {end : ℕ} {here : Here} {st b c d : State}
     → Emits (G.SP (here .height) ∷ []) ((here .height + 1) ∷ []) t t₁ st b → GaveE text s s₁ end (raised 1 here) t₁ t₂ b c

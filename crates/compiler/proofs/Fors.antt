@@ -35,7 +35,7 @@ use Rattle.compiler.specs.Locals.{Says, fit, unfit, Blames}
 use Rattle.compiler.specs.Switching.{byJudged, JudgesBy}
 use Rattle.compiler.proofs.Done.{did-emit, did-put, did-then, did-as, did-at, did-fresh, same-refl, same-eq, code-is}
 use Rattle.compiler.proofs.Trees.{first, second, keeps-lies}
-use Rattle.compiler.proofs.Parts.{sub}
+use Rattle.compiler.proofs.Parts.{sub, moved}
 use Rattle.compiler.proofs.Anywhere.{with-ways}
 use Rattle.compiler.proofs.Guards.{closed-start, command-closed, expression-closed, unlabelled-closed}
 use Rattle.compiler.proofs.Commands.{named-block-keeps, named-block-shows, after-block}
@@ -226,25 +226,12 @@ module _ {s : List ℕ} {end : ℕ} {here : Here} {st : State} (n b l : Node) {l
         abbrev pub for-body : ReadyU s end here st → ReadyC s₄ (n .inner) (placed (here .top + 4) (here .height + 2) here) m
         for-body y =
             let u = for-is y in let k = for-block-keeps y in
-            let lo′ = y .lo + 4 + length (encode (u .start)) + length (encode (u .limit)) + length (encodeBy (u .by)) in record {
-              base = y .base;
-              lo = lo′;
-              tree = u .body;
-              scope = declared (opened (y .scope)) (u .name) (N.local (here .height));
-              lies = keeps-lies k (omega (arith, y .above)) (u .lies-body);
-              ends = omega (arith, nd .inner, u .ends);
-              above = omega (arith, y .above);
-              long = omega (arith, y .long, k .long);
-              small = omega (arith, y .small, nd .inner);
-              shows = for-block-shows y;
-              room = omega (arith, y .room, y .ends, u .ends);
-              height = omega (arith, y .height, y .ends, u .ends);
-              label = omega (arith, y .label, y .ends, u .ends, for-labels y);
-              some = omega (arith, y .some, for-labels y);
-              strings = y .strings;
-              shallow = for-deep y .2;
-              fine = for-fine y .3;
-            }
+            let lo′ = y .lo + 4 + length (encode (u .start)) + length (encode (u .limit)) + length (encodeBy (u .by)) in
+            moved encodeCommand commandDepth FineC y k (n .inner) lo′ (placed (here .top + 4) (here .height + 2) here) m (u .body)
+            (declared (opened (y .scope)) (u .name) (N.local (here .height))) (u .lies-body) (omega (arith, nd .inner, u .ends)) (omega arith)
+            (omega (arith, nd .inner)) (for-block-shows y) (omega (arith, y .room, y .ends, u .ends)) refl
+            (omega (arith, y .height, y .ends, u .ends))
+            (omega (arith, y .label, y .ends, u .ends, for-labels y)) (omega (arith, y .some, for-labels y)) (for-deep y .2) (for-fine y .3)
 
         pub for-gave : (ways : Ways) {s₅ t₆ t₇ : List ℕ} {o r : State}
             → GaveC text s₄ s₅ (n .inner) (placed (here .top + 4) (here .height + 2) here) (inLoop (st .label + 1) (st .label + 2) ways) t₅ t₆ m o

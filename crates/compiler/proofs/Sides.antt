@@ -416,7 +416,7 @@ some-suffix (T.index e ss) n =
 
 module _ {s : List ℕ} {end : ℕ} {here : Here} {st : State} (n : Node) (nd : NodeAt s end n) (q : IndexKind s end) {middle : ℕ}
     (m : middle ≡ n .start + n .value) where
-  abbrev pub indexed-is : (y : ReadyE s end here st) → IsTwo encodeSuffixes T.suffixed s (y .lo) end (y .tree)
+  abbrev pub indexed-is : (y : ReadyE s end here st) → IsTwo encode encodeSuffixes T.suffixed s (y .lo) end (y .tree)
   indexed-is y =
       suffixed-is n nd (λ e. omega arith) (λ e. omega arith) (λ e. omega arith) (λ e. omega arith)
       (λ e. omega arith) (λ e. omega arith) (λ e. omega arith) m y

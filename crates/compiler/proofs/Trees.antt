@@ -145,24 +145,29 @@ pub is-valof : {s : List ℕ} {lo end : ℕ} {e : Expression} → Case s lo end 
 is-valof (aValof {p} {c} h q) = record { place = p; value = 0; part = c; same = refl; lies = h; ends = q }
 
 -- a part and then a list
-pub record IsTwo {L : Type 0} (enc : L → List ℕ) (Is : Expression → L → Expression) (s : List ℕ) (lo end : ℕ) (e : Expression) : Type 0 where
-  pub left : Expression
+pub record IsTwo {A L T : Type 0} (one : A → List ℕ) (enc : L → List ℕ) (Is : A → L → T) (s : List ℕ) (lo end : ℕ) (e : T) : Type 0 where
+  pub left : A
   pub list : L
   pub same : e ≡ Is left list
-  pub lies : Lies s lo (encode left)
-  pub lies-list : Lies s (lo + length (encode left)) (enc list)
-  pub value-of : getD s (end - 3) 0 ≡ length (encode left)
-  pub size-of : getD s (end - 4) 0 ≡ length (encode left) + length (enc list)
-  pub ends : end ≡ lo + length (encode left) + length (enc list) + 4
+  pub lies : Lies s lo (one left)
+  pub lies-list : Lies s (lo + length (one left)) (enc list)
+  pub value-of : getD s (end - 3) 0 ≡ length (one left)
+  pub size-of : getD s (end - 4) 0 ≡ length (one left) + length (enc list)
+  pub ends : end ≡ lo + length (one left) + length (enc list) + 4
 
-pub is-dyadic : {s : List ℕ} {lo end : ℕ} {e : Expression} → Case s lo end 131 e → IsTwo encodeOperations T.dyadic s lo end e
-is-dyadic {lo = lo} (aDyadic {e} {os} h z v q) = record {
-  left = e;
-  list = os;
+pub is-two : {A L T : Type 0} (one : A → List ℕ) (enc : L → List ℕ) (Is : A → L → T) {s : List ℕ} {lo end : ℕ} (x : A) (xs : L)
+    → Lies s lo (one x ++ enc xs) → getD s (end - 4) 0 ≡ length (one x ++ enc xs) → getD s (end - 3) 0 ≡ length (one x)
+    → end ≡ lo + length (one x ++ enc xs) + 4 → IsTwo one enc Is s lo end (Is x xs)
+is-two one enc Is {lo = lo} x xs h z v q = record {
+  left = x;
+  list = xs;
   same = refl;
-  lies = first (encode e) (encodeOperations os) h;
-  lies-list = second (encode e) (encodeOperations os) (lo + length (encode e)) h refl;
+  lies = first (one x) (enc xs) h;
+  lies-list = second (one x) (enc xs) (lo + length (one x)) h refl;
   value-of = v;
-  size-of = z ∙ length-append (encode e) (encodeOperations os);
-  ends = omega (arith, q, length-append (encode e) (encodeOperations os));
+  size-of = z ∙ length-append (one x) (enc xs);
+  ends = omega (arith, q, length-append (one x) (enc xs));
 }
+
+pub is-dyadic : {s : List ℕ} {lo end : ℕ} {e : Expression} → Case s lo end 131 e → IsTwo encode encodeOperations T.dyadic s lo end e
+is-dyadic (aDyadic {e} {os} h z v q) = is-two encode encodeOperations T.dyadic e os h z v q
