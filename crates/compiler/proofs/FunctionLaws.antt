@@ -14,6 +14,7 @@ use Rattle.language.specs.Resolve.{declareAll}
 use Rattle.language.specs.Heights.{heightsOf, ofBody}
 use Rattle.language.specs.Program.{inside, bodyOf, bodyFaults, functionFaults, resolved}
 use Rattle.code.specs.Generate as G
+use Rattle.language.proofs.Depth.{bodyDepth}
 use Rattle.tree.specs.Encoding.{encodeName, encodeNames, encodeBody, bodyWord}
 use Rattle.compiler.specs.Scope.{Shows, Keeps, Pushed}
 use Rattle.compiler.specs.declared.steps.State.{State}
@@ -22,10 +23,11 @@ use Rattle.compiler.specs.declared.steps.Node.{Node}
 use Rattle.compiler.specs.Walked.{NodeAt, Did, Emits, Reached}
 use Rattle.compiler.specs.Walks.{Lies}
 use Rattle.compiler.specs.Commands.{ReadyNames, Declares}
-use Rattle.compiler.specs.Groups.{encodeFunction, ReadyBody, GaveBody, functionSays, ReadyF, GaveF}
+use Rattle.compiler.specs.Groups.{encodeFunction, FineB, ReadyBody, GaveBody, functionSays, ReadyF, GaveF}
 use Rattle.compiler.proofs.Scoping.{keeps-then, keeps-lower, pushed-keeps, pushed-mark}
 use Rattle.compiler.proofs.Done.{did-then, did-put, did-after, did-as, same-refl, code-is}
 use Rattle.compiler.proofs.Trees.{first, second, keeps-lies, ends, kid, size-is, value-is, kind-is}
+use Rattle.compiler.proofs.Parts.{moved}
 use Rattle.compiler.proofs.Judging.{names-long}
 
 -- ---- where its parts stand
@@ -119,25 +121,14 @@ module _ {s : List ℕ} {end : ℕ} {here : Here} {st : State} (n : Node) (nd : 
           let u = function-parts y in let d = de .by (function-names y) in let k = function-keeps y in let z = function-length y in
           let m = function-many y in let l = function-label y in
           record {
-            ready = record {
-              base = y .base;
-              lo = y .lo + 4 + length (encodeNames (y .tree .parameters));
-              tree = y .tree .body;
-              scope = declareAll (opened (y .scope)) 2 (y .tree .parameters);
-              lies = keeps-lies k (omega (arith, y .above)) (u .lies-body);
-              ends = omega (arith, nd .inner, u .ends);
-              above = omega (arith, y .above);
-              long = omega (arith, y .long, k .long);
-              small = omega (arith, y .small, nd .inner);
-              shows = subst (λ (i : ℕ). Shows s₂ (here .top + 2 + 2 * i) (declareAll (opened (y .scope)) 2 (y .tree .parameters))) (sym m) (d .shows);
-              room = omega (arith, y .room, z, m);
-              height = omega (arith, y .height, z, m);
-              label = omega (arith, y .label, z, l);
-              some = omega (arith, y .some, l);
-              strings = y .strings;
-              shallow = y .shallow;
-              fine = y .fine .body;
-            };
+            ready =
+                moved encodeBody bodyDepth FineB y k (n .inner) (y .lo + 4 + length (encodeNames (y .tree .parameters))) (within n here) c
+                (y .tree .body)
+                (declareAll (opened (y .scope)) 2 (y .tree .parameters)) (u .lies-body) (omega (arith, nd .inner, u .ends)) (omega arith)
+                (omega (arith, nd .inner))
+                (subst (λ (i : ℕ). Shows s₂ (here .top + 2 + 2 * i) (declareAll (opened (y .scope)) 2 (y .tree .parameters))) (sym m) (d .shows))
+                (omega (arith, y .room, z, m)) refl (omega (arith, y .height, z, m)) (omega (arith, y .label, z, l)) (omega (arith, y .some, l))
+                (y .shallow) (y .fine .body);
             word-is = nd .kind ∙ u .kind-of;
             routine-is = refl;
           }

@@ -116,11 +116,9 @@ test-command-requires t c κs =
 
 test-add-put-to : (t : ℕ) → test-lts.Need-add-put-to (test-cs t) (at test-rank t) test.Post
 test-add-put-to t c =
-    omega (
-      arith,
-      c .before .before .before .before .before .before .before .before .before .before .before .before .before .before .before .before .before
-          .before .before .before .before .before .before .before .before .before .before .before .before .before .pre .1 .0 .label,
-    )
+    let start = c .before .before .before .before .before .before .before .before .before .before .before .before .before .before .before .before
+    .before .before .before .before .before .before .before .before .before .before .before .before .before .before in
+    omega (arith, start .pre .1 .0 .label)
 
 test-command-requires-2 : (t : ℕ) → test-lts.Need-command-requires-2 (test-cs t) (at test-rank t) test.Post
 test-command-requires-2 t c κs =
@@ -137,13 +135,10 @@ test-command-requires-2 t c κs =
 
 test-add-mark : (t : ℕ) → test-lts.Need-add-mark (test-cs t) (at test-rank t) test.Post
 test-add-mark t c =
-    omega (
-      arith,
-      c .before .before .before .before .before .before .before .before .before .before .before .before .before .before .before .before .before
-          .before .before .before .before .before .before .before .before .before .before .before .before .before .before .before .before
-          .before .before
-          .before .before .before .before .before .before .before .before .before .before .before .pre .1 .0 .label,
-    )
+    let start = c .before .before .before .before .before .before .before .before .before .before .before .before .before .before .before .before
+    .before .before .before .before .before .before .before .before .before .before .before .before .before .before .before .before .before .before
+    .before .before .before .before .before .before .before .before .before .before .before .before in
+    omega (arith, start .pre .1 .0 .label)
 
 test-same-length : (t : ℕ) → test-lts.Need-same-length (test-cs t) (at test-rank t) test.Post
 test-same-length t c =

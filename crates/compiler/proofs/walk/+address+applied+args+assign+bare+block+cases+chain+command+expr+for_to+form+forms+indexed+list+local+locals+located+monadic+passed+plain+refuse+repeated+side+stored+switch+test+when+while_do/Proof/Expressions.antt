@@ -165,19 +165,15 @@ chain-expr-requires t c κs =
 
 chain-operate-requires : (t : ℕ) → chain-lts.Need-operate-requires (chain-cs t) (at chain-rank t) chain.Post chain-Inv-loop chain-μ-loop
 chain-operate-requires t c κs =
-    omega (
-      arith,
-      c .before .before .before .before .before .before .before .before .before .before .before .before .before .before .before .before .before
-          .before .before .before .before .before .before .pre .1 .ready .height,
-    )
+    let start = c .before .before .before .before .before .before .before .before .before .before .before .before .before .before .before .before
+    .before .before .before .before .before .before .before in
+    omega (arith, start .pre .1 .ready .height)
 
 chain-loop-less : (t : ℕ) → chain-lts.Need-loop-less (chain-cs t) (at chain-rank t) chain.Post chain-Inv-loop chain-μ-loop
 chain-loop-less t c =
-    omega (
-      arith,
-      c .before .before .before .before .before .before .before .before .before .before .before .before .before .before .before .before .before
-          .before .before .before .before .loop-test .taken,
-    )
+    let after-loop-test = c .before .before .before .before .before .before .before .before .before .before .before .before .before .before .before
+    .before .before .before .before .before .before in
+    omega (arith, after-loop-test .loop-test .taken)
 
 chain-loop-again : (t : ℕ) → chain-lts.Need-loop-again (chain-cs t) (at chain-rank t) chain.Post chain-Inv-loop chain-μ-loop
 chain-loop-again t c =

@@ -81,11 +81,9 @@ while-do-expr-requires t c κs =
 
 while-do-add-in-loop : (t : ℕ) → while-do-lts.Need-add-in-loop (while-do-cs t) (at while-do-rank t) while-do.Post
 while-do-add-in-loop t c =
-    omega (
-      arith,
-      c .before .before .before .before .before .before .before .before .before .before .before .before .before .before .before .before .before
-          .before .before .before .before .before .before .before .before .before .before .before .pre .1 .0 .label,
-    )
+    let start = c .before .before .before .before .before .before .before .before .before .before .before .before .before .before .before .before
+    .before .before .before .before .before .before .before .before .before .before .before .before in
+    omega (arith, start .pre .1 .0 .label)
 
 while-do-command-requires : (t : ℕ) → while-do-lts.Need-command-requires (while-do-cs t) (at while-do-rank t) while-do.Post
 while-do-command-requires t c κs =
@@ -100,13 +98,10 @@ while-do-command-requires t c κs =
 
 while-do-add-mark : (t : ℕ) → while-do-lts.Need-add-mark (while-do-cs t) (at while-do-rank t) while-do.Post
 while-do-add-mark t c =
-    omega (
-      arith,
-      c .before .before .before .before .before .before .before .before .before .before .before .before .before .before .before .before .before
-          .before .before .before .before .before .before .before .before .before .before .before .before .before .before .before .before
-          .before .before
-          .before .before .before .before .before .pre .1 .0 .label,
-    )
+    let start = c .before .before .before .before .before .before .before .before .before .before .before .before .before .before .before .before
+    .before .before .before .before .before .before .before .before .before .before .before .before .before .before .before .before .before .before
+    .before .before .before .before .before .before in
+    omega (arith, start .pre .1 .0 .label)
 
 while-do-same-length : (t : ℕ) → while-do-lts.Need-same-length (while-do-cs t) (at while-do-rank t) while-do.Post
 while-do-same-length t c =
@@ -190,19 +185,15 @@ for-to-expr-requires t c κs =
 
 for-to-keep-requires : (t : ℕ) → for-to-lts.Need-keep-requires (for-to-cs t) (at for-to-rank t) for-to.Post
 for-to-keep-requires t c κs =
-    omega (
-      arith,
-      c .before .before .before .before .before .before .before .before .before .before .before .before .before .before .before .before .before
-          .before .before .pre .1 .0 .height,
-    )
+    let start = c .before .before .before .before .before .before .before .before .before .before .before .before .before .before .before .before
+    .before .before .before in
+    omega (arith, start .pre .1 .0 .height)
 
 for-to-raised-requires : (t : ℕ) → for-to-lts.Need-raised-requires (for-to-cs t) (at for-to-rank t) for-to.Post
 for-to-raised-requires t c κs =
-    omega (
-      arith,
-      c .before .before .before .before .before .before .before .before .before .before .before .before .before .before .before .before .before
-          .before .before .before .before .before .before .before .pre .1 .0 .height,
-    )
+    let start = c .before .before .before .before .before .before .before .before .before .before .before .before .before .before .before .before
+    .before .before .before .before .before .before .before .before in
+    omega (arith, start .pre .1 .0 .height)
 
 for-to-expr-requires-2 : (t : ℕ) → for-to-lts.Need-expr-requires-2 (for-to-cs t) (at for-to-rank t) for-to.Post
 for-to-expr-requires-2 t c κs =
@@ -217,19 +208,15 @@ for-to-expr-requires-2 t c κs =
 
 for-to-add-keep : (t : ℕ) → for-to-lts.Need-add-keep (for-to-cs t) (at for-to-rank t) for-to.Post
 for-to-add-keep t c =
-    omega (
-      arith,
-      c .before .before .before .before .before .before .before .before .before .before .before .before .before .before .before .before .before
-          .before .before .before .before .before .before .before .before .before .before .before .before .before .before .before .pre .1 .0 .height,
-    )
+    let start = c .before .before .before .before .before .before .before .before .before .before .before .before .before .before .before .before
+    .before .before .before .before .before .before .before .before .before .before .before .before .before .before .before .before in
+    omega (arith, start .pre .1 .0 .height)
 
 for-to-keep-requires-2 : (t : ℕ) → for-to-lts.Need-keep-requires-2 (for-to-cs t) (at for-to-rank t) for-to.Post
 for-to-keep-requires-2 t c κs =
-    omega (
-      arith,
-      c .before .before .before .before .before .before .before .before .before .before .before .before .before .before .before .before .before
-          .before .before .before .before .before .before .before .before .before .before .before .before .before .before .before .pre .1 .0 .height,
-    )
+    let start = c .before .before .before .before .before .before .before .before .before .before .before .before .before .before .before .before
+    .before .before .before .before .before .before .before .before .before .before .before .before .before .before .before .before in
+    omega (arith, start .pre .1 .0 .height)
 
 for-to-by-constant-requires : (t : ℕ) → for-to-lts.Need-by-constant-requires (for-to-cs t) (at for-to-rank t) for-to.Post
 for-to-by-constant-requires t c κs =
@@ -286,23 +273,17 @@ for-to-add-push-name t c =
 
 for-to-mul-push-name : (t : ℕ) → for-to-lts.Need-mul-push-name (for-to-cs t) (at for-to-rank t) for-to.Post
 for-to-mul-push-name t c =
-    omega (
-      arith,
-      c .before .before .before .before .before .before .before .before .before .before .before .before .before .before .before .before .before
-          .before .before .before .before .before .before .before .before .before .before .before .before .before .before .before .before
-          .before .before
-          .before .before .before .before .before .before .before .before .before .before .before .before .before .before .pre .1 .0 .height,
-    )
+    let start = c .before .before .before .before .before .before .before .before .before .before .before .before .before .before .before .before
+    .before .before .before .before .before .before .before .before .before .before .before .before .before .before .before .before .before .before
+    .before .before .before .before .before .before .before .before .before .before .before .before .before .before .before in
+    omega (arith, start .pre .1 .0 .height)
 
 for-to-add-push-name-2 : (t : ℕ) → for-to-lts.Need-add-push-name-2 (for-to-cs t) (at for-to-rank t) for-to.Post
 for-to-add-push-name-2 t c =
-    omega (
-      arith,
-      c .before .before .before .before .before .before .before .before .before .before .before .before .before .before .before .before .before
-          .before .before .before .before .before .before .before .before .before .before .before .before .before .before .before .before
-          .before .before
-          .before .before .before .before .before .before .before .before .before .before .before .before .before .before .pre .1 .0 .height,
-    )
+    let start = c .before .before .before .before .before .before .before .before .before .before .before .before .before .before .before .before
+    .before .before .before .before .before .before .before .before .before .before .before .before .before .before .before .before .before .before
+    .before .before .before .before .before .before .before .before .before .before .before .before .before .before .before in
+    omega (arith, start .pre .1 .0 .height)
 
 for-to-push-name-requires : (t : ℕ) → for-to-lts.Need-push-name-requires (for-to-cs t) (at for-to-rank t) for-to.Post
 for-to-push-name-requires t c κs = (
@@ -380,39 +361,27 @@ for-to-add-set-at t c =
 
 for-to-add-set-at-2 : (t : ℕ) → for-to-lts.Need-add-set-at-2 (for-to-cs t) (at for-to-rank t) for-to.Post
 for-to-add-set-at-2 t c =
-    omega (
-      arith,
-      c .before .before .before .before .before .before .before .before .before .before .before .before .before .before .before .before .before
-          .before .before .before .before .before .before .before .before .before .before .before .before .before .before .before .before
-          .before .before
-          .before .before .before .before .before .before .before .before .before .before .before .before .before .before .before .before
-          .before .before
-          .before .pre .1 .0 .height,
-    )
+    let start = c .before .before .before .before .before .before .before .before .before .before .before .before .before .before .before .before
+    .before .before .before .before .before .before .before .before .before .before .before .before .before .before .before .before .before .before
+    .before .before .before .before .before .before .before .before .before .before .before .before .before .before .before .before .before .before
+    .before .before in
+    omega (arith, start .pre .1 .0 .height)
 
 for-to-add-in-loop : (t : ℕ) → for-to-lts.Need-add-in-loop (for-to-cs t) (at for-to-rank t) for-to.Post
 for-to-add-in-loop t c =
-    omega (
-      arith,
-      c .before .before .before .before .before .before .before .before .before .before .before .before .before .before .before .before .before
-          .before .before .before .before .before .before .before .before .before .before .before .before .before .before .before .before
-          .before .before
-          .before .before .before .before .before .before .before .before .before .before .before .before .before .before .before .before
-          .before .before
-          .before .before .before .before .before .pre .1 .0 .label,
-    )
+    let start = c .before .before .before .before .before .before .before .before .before .before .before .before .before .before .before .before
+    .before .before .before .before .before .before .before .before .before .before .before .before .before .before .before .before .before .before
+    .before .before .before .before .before .before .before .before .before .before .before .before .before .before .before .before .before .before
+    .before .before .before .before .before .before in
+    omega (arith, start .pre .1 .0 .label)
 
 for-to-add-in-loop-2 : (t : ℕ) → for-to-lts.Need-add-in-loop-2 (for-to-cs t) (at for-to-rank t) for-to.Post
 for-to-add-in-loop-2 t c =
-    omega (
-      arith,
-      c .before .before .before .before .before .before .before .before .before .before .before .before .before .before .before .before .before
-          .before .before .before .before .before .before .before .before .before .before .before .before .before .before .before .before
-          .before .before
-          .before .before .before .before .before .before .before .before .before .before .before .before .before .before .before .before
-          .before .before
-          .before .before .before .before .before .before .pre .1 .0 .label,
-    )
+    let start = c .before .before .before .before .before .before .before .before .before .before .before .before .before .before .before .before
+    .before .before .before .before .before .before .before .before .before .before .before .before .before .before .before .before .before .before
+    .before .before .before .before .before .before .before .before .before .before .before .before .before .before .before .before .before .before
+    .before .before .before .before .before .before .before in
+    omega (arith, start .pre .1 .0 .label)
 
 for-to-command-requires : (t : ℕ) → for-to-lts.Need-command-requires (for-to-cs t) (at for-to-rank t) for-to.Post
 for-to-command-requires t c κs =
@@ -529,11 +498,9 @@ forms-add-mark-2 t c =
 
 forms-loop-less : (t : ℕ) → forms-lts.Need-loop-less (forms-cs t) (at forms-rank t) forms.Post forms-Inv-loop forms-μ-loop
 forms-loop-less t c =
-    omega (
-      arith,
-      c .before .before .before .before .before .before .before .before .before .before .before .before .before .before .before .before .before
-          .before .before .before .loop-test .taken,
-    )
+    let after-loop-test = c .before .before .before .before .before .before .before .before .before .before .before .before .before .before .before
+    .before .before .before .before .before in
+    omega (arith, after-loop-test .loop-test .taken)
 
 forms-loop-again : (t : ℕ) → forms-lts.Need-loop-again (forms-cs t) (at forms-rank t) forms.Post forms-Inv-loop forms-μ-loop
 forms-loop-again t c =

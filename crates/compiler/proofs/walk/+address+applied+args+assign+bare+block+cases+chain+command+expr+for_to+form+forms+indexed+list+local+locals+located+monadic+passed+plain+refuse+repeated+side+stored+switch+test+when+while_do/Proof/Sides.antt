@@ -135,11 +135,9 @@ located-applied-requires t c κs =
 
 located-keep-requires : (t : ℕ) → located-lts.Need-keep-requires (located-cs t) (at located-rank t) located.Post
 located-keep-requires t c κs =
-    omega (
-      arith,
-      c .before .before .before .before .before .before .before .before .before .before .before .before .before .before .before .before .before
-          .before .before .pre .1 .0 .height,
-    )
+    let start = c .before .before .before .before .before .before .before .before .before .before .before .before .before .before .before .before
+    .before .before .before in
+    omega (arith, start .pre .1 .0 .height)
 
 located-raised-requires : (t : ℕ) → located-lts.Need-raised-requires (located-cs t) (at located-rank t) located.Post
 located-raised-requires t c κs =
@@ -250,11 +248,9 @@ side-expr-requires t c κs =
 
 side-store-through-requires : (t : ℕ) → side-lts.Need-store-through-requires (side-cs t) (at side-rank t) side.Post
 side-store-through-requires t c κs =
-    omega (
-      arith,
-      c .before .before .before .before .before .before .before .before .before .before .before .before .before .before .before .before .before
-          .before .before .before .before .before .pre .1 .0 .height,
-    )
+    let start = c .before .before .before .before .before .before .before .before .before .before .before .before .before .before .before .before
+    .before .before .before .before .before .before in
+    omega (arith, start .pre .1 .0 .height)
 
 side-returns : (t : ℕ) → side-lts.Need-returns (side-cs t) (at side-rank t) side.Post
 side-returns t c =
@@ -363,19 +359,15 @@ stored-applied-requires t c κs =
 
 stored-add-keep : (t : ℕ) → stored-lts.Need-add-keep (stored-cs t) (at stored-rank t) stored.Post
 stored-add-keep t c =
-    omega (
-      arith,
-      c .before .before .before .before .before .before .before .before .before .before .before .before .before .before .before .before .before
-          .before .before .before .before .before .before .before .before .pre .1 .0 .height,
-    )
+    let start = c .before .before .before .before .before .before .before .before .before .before .before .before .before .before .before .before
+    .before .before .before .before .before .before .before .before .before in
+    omega (arith, start .pre .1 .0 .height)
 
 stored-keep-requires-2 : (t : ℕ) → stored-lts.Need-keep-requires-2 (stored-cs t) (at stored-rank t) stored.Post
 stored-keep-requires-2 t c κs =
-    omega (
-      arith,
-      c .before .before .before .before .before .before .before .before .before .before .before .before .before .before .before .before .before
-          .before .before .before .before .before .before .before .before .pre .1 .0 .height,
-    )
+    let start = c .before .before .before .before .before .before .before .before .before .before .before .before .before .before .before .before
+    .before .before .before .before .before .before .before .before .before in
+    omega (arith, start .pre .1 .0 .height)
 
 stored-raised-requires-2 : (t : ℕ) → stored-lts.Need-raised-requires-2 (stored-cs t) (at stored-rank t) stored.Post
 stored-raised-requires-2 t c κs =
@@ -414,13 +406,10 @@ stored-expr-requires t c κs =
 
 stored-store-indexed-requires : (t : ℕ) → stored-lts.Need-store-indexed-requires (stored-cs t) (at stored-rank t) stored.Post
 stored-store-indexed-requires t c κs =
-    omega (
-      arith,
-      c .before .before .before .before .before .before .before .before .before .before .before .before .before .before .before .before .before
-          .before .before .before .before .before .before .before .before .before .before .before .before .before .before .before .before
-          .before .before
-          .before .before .pre .1 .0 .height,
-    )
+    let start = c .before .before .before .before .before .before .before .before .before .before .before .before .before .before .before .before
+    .before .before .before .before .before .before .before .before .before .before .before .before .before .before .before .before .before .before
+    .before .before .before in
+    omega (arith, start .pre .1 .0 .height)
 
 stored-same-length : (t : ℕ) → stored-lts.Need-same-length (stored-cs t) (at stored-rank t) stored.Post
 stored-same-length t c =
@@ -520,11 +509,9 @@ assign-add-l-2 t c =
 
 assign-loop-less : (t : ℕ) → assign-lts.Need-loop-less (assign-cs t) (at assign-rank t) assign.Post assign-Inv-loop assign-μ-loop
 assign-loop-less t c =
-    omega (
-      arith,
-      c .before .before .before .before .before .before .before .before .before .before .before .before .before .before .before .before .before
-          .before .before .before .loop-test .taken,
-    )
+    let after-loop-test = c .before .before .before .before .before .before .before .before .before .before .before .before .before .before .before
+    .before .before .before .before .before in
+    omega (arith, after-loop-test .loop-test .taken)
 
 assign-loop-again : (t : ℕ) → assign-lts.Need-loop-again (assign-cs t) (at assign-rank t) assign.Post assign-Inv-loop assign-μ-loop
 assign-loop-again t c =
