@@ -298,6 +298,10 @@ impl Reader<'_> {
         (self.place > first).then_some(value)
     }
 
+    fn digit(&mut self) -> Option<u32> {
+        char::from(self.next()?).to_digit(10)
+    }
+
     fn string(&mut self) -> Option<Vec<u8>> {
         if !self.take(b'"') {
             return None;
@@ -320,6 +324,10 @@ impl Reader<'_> {
                 b'P' => Some(12),
                 b'C' => Some(13),
                 itself @ (b'*' | b'\'' | b'"') => Some(itself),
+                hundreds @ b'0'..=b'9' => {
+                    let (tens, units) = (self.digit()?, self.digit()?);
+                    u8::try_from(u32::from(hundreds - b'0') * 100 + tens * 10 + units).ok()
+                }
                 _ => None,
             },
             byte @ 32..=126 if byte != quote => Some(byte),

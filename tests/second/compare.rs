@@ -57,6 +57,10 @@ fn compare_all(library: Option<Library>, cases: u64) -> Result<String, String> {
             compare_text(library, &case, seed).map_err(|report| headed("damaged text", number, seed, &report))?;
         *texts.entry(wanted.refusal.map_or(0, |refusal| refusal.number)).or_default() += 1;
     }
+    let numbered = generate::numbered_texts();
+    for (number, case) in (0..).zip(&numbered) {
+        compare_text(library, case, number).map_err(|report| headed("character by number", number, number, &report))?;
+    }
     for number in 0..cases {
         let seed = (2 << 32) + number;
         let case = generate::image(seed);
@@ -74,8 +78,13 @@ fn compare_all(library: Option<Library>, cases: u64) -> Result<String, String> {
         }
     }
     let least = cases / 100;
-    let told_texts =
-        format!("{} texts ({} accepted, {})", 2 * cases, often(&texts, 0), enough(&texts, &REFUSALS, least)?);
+    let told_texts = format!(
+        "{} texts ({} accepted, {}), {} with a character by number",
+        2 * cases,
+        often(&texts, 0),
+        enough(&texts, &REFUSALS, least)?,
+        numbered.len()
+    );
     let told_images = format!(
         "{cases} images ({}; carried on {}; words stored last {}; in one, two and more parts {})",
         enough(&stops, &STOPS, least)?,

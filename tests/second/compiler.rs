@@ -93,18 +93,14 @@ impl Writer {
         self.exits = outside;
     }
 
-    /// A string's characters, those that may not stand by themselves as escapes.
+    /// A string's characters, those that may not stand by themselves as escapes or by number.
     fn string(&mut self, characters: &[u8]) {
         self.text.push_str("\nC\"");
         for &character in characters {
             match character {
                 b'*' | b'"' => self.text.extend(['*', character as char]),
                 32..=126 => self.text.push(character as char),
-                _ => {
-                    let escapes = [(10, 'N'), (9, 'T'), (8, 'B'), (12, 'P'), (13, 'C')];
-                    let escape = escapes.iter().find(|&&(code, _)| code == character).expect("an escape's character");
-                    self.text.extend(['*', escape.1]);
-                }
+                _ => self.text.push_str(&format!("*{character:03}")),
             }
         }
         self.text.push('"');

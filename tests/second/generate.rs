@@ -186,11 +186,32 @@ fn operand(random: &mut Random, labels: &[i64], item: &mut Vec<u8>) -> usize {
     }
 }
 
+/// Texts with a character by number: every number of three digits, every byte in the place of each digit, and all of them cut short.
+pub fn numbered_texts() -> Vec<TextCase> {
+    let mut written: Vec<Vec<u8>> = (0..1000).map(|number| format!("*{number:03}").into_bytes()).collect();
+    for byte in 0..=255 {
+        written.extend([vec![b'*', byte, b'2', b'5'], vec![b'*', b'1', byte, b'5'], vec![b'*', b'1', b'2', byte]]);
+    }
+    let mut texts = Vec::new();
+    for character in written {
+        for (before, after) in [(&b"$ D1 D'"[..], &b"' Z"[..]), (b"$ D1 C\"", b"\" Z"), (b"$ C\"A", b"7\" Z")] {
+            let text = [before, &character, after].concat();
+            let shortest = before.len();
+            texts.extend((shortest..=text.len()).map(|end| text[..end].to_vec()));
+        }
+    }
+    texts.into_iter().map(|text| TextCase { text, memory_len: 512, label_room: 1 }).collect()
+}
+
 /// Writes one character or escape, as it stands between the given quotes.
 fn character(random: &mut Random, quote: u8, item: &mut Vec<u8>) {
     if random.one_in(4) {
         item.push(b'*');
         item.push(random.pick(b"NSTBPC*'\""));
+        return;
+    }
+    if random.one_in(6) {
+        item.extend(format!("*{:03}", random.below(256)).bytes());
         return;
     }
     let byte = if random.one_in(4) { random.pick(b" /'\"$Z:~}") } else { random.between(32, 126) as u8 };

@@ -96,6 +96,7 @@ fn operands() {
         words("$ L' ' L'/' L'\"' D'*N' D'*S' D'*T' D'*B' D'*P' D'*C' D'**' D'*'' D'*\"' Z"),
         [32, 47, 34, 10, 32, 9, 8, 12, 13, 42, 39, 34]
     );
+    assert_eq!(words("$ C\"*000*255*0651\" D'*200' L'*010' Z"), [4 * 256, 255 * 256 + 65, 49 * 256, 200, 10]);
     assert_eq!(words("$ C\"\" C\"/ '*\"\" Z"), [0, 4 * 256 + 47, 32 * 256 + 39, 34 * 256]);
     let longest = format!("$ C\"{}\" Z", "*N".repeat(255));
     assert_eq!(words(&longest), [vec![255 * 256 + 10], vec![2570; 127]].concat());
@@ -470,11 +471,24 @@ fn reading_s5_characters_and_strings() {
     for (character, value) in [("*N", 10), ("*S", 32), ("*T", 9), ("*B", 8), ("*P", 12), ("*C", 13)] {
         assert_eq!(symbols_of(&format!("'{character}'")), [(NUMBER, value, 0)]);
     }
+    for number in 0..1000 {
+        let (character, string) = (format!("'*{number:03}'"), format!("\"A*{number:03}\""));
+        if number < 256 {
+            assert_eq!(symbols_of(&character), [(NUMBER, number, 0)]);
+            assert_eq!(symbols_of(&string), [(STRING, 0, 0)]);
+        } else {
+            refused_at_mark(41, &character.replace('*', "^*"));
+            refused_at_mark(41, &string.replace('*', "^*"));
+        }
+    }
     assert_eq!(symbols_of("'A''B'"), [(NUMBER, 65, 0), (NUMBER, 66, 3)]);
     assert_eq!(symbols_of("\"\" A \"'*\"**\" \"//\""), [(61, 0, 0), (59, 1, 3), (61, 1, 5), (61, 2, 13)]);
     for (number, texts) in [
         (40, &["^'", "^'A", "^'*'", "^'*", "^'*N", "^'\n'", "^'AB", "^'*Q\n'", "^'\t"][..]),
         (40, &["^\"", "^\"A", "^\"*\"", "^\"*", "^\"A\nB\"", "^\"*\nB\"", "^\"*Q", "^\"\t*Q\n\"", "^\"*Q*\""]),
+        (40, &["^'*0", "^'*00", "^'*000", "^\"*1", "^\"*12", "^\"*12\n\"", "^\"*123"]),
+        (41, &["'^*1'", "'^*12'", "'^*1A2'", "'^* 12'", "'^*-12'", "'^*+12'", "\"^*12\"", "\"*000^*00\"", "\"*255^*256\"", "\"^*0\"1"]),
+        (43, &["'*065^1'", "'*065^*066'", "'A^*000'"]),
         (41, &["'^*Q'", "'^*n'", "'^*1'", "'A^*Q'", "'^*Q\t'", "\"^*Q\"", "\"A^*n\"", "\"A^*Q\t*Q\"", "\"^* \"", "\"^*Q*\"\""]),
         (42, &["'^\t'", "'^\u{1f}'", "'^\u{7f}'", "'^\u{e9}'", "'A^\t'", "'^\r*Q'", "\"^\t\"", "\"^\u{7f}\"", "\"^\u{1f}\"", "\"A^\u{80}*Q\""]),
         (43, &["^''", "^'''", "'A^B'", "'A^*N'", "'*N^*N'", "'*'^*''", "'A^BC'", "'A^B*Q'", "'A^B\t'"]),
@@ -483,7 +497,7 @@ fn reading_s5_characters_and_strings() {
             refused_at_mark(number, &format!("A \n {text}"));
         }
     }
-    for part in ["A", "*N", "'", "*\""] {
+    for part in ["A", "*N", "'", "*\"", "*000", "*255"] {
         let longest = part.repeat(255);
         assert_eq!(symbols_of(&format!("\"{longest}\"")), [(STRING, 0, 0)]);
         refused_at_mark(43, &format!("\"{longest}^{part}\""));

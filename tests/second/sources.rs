@@ -649,7 +649,9 @@ pub fn quoted(random: &mut Random, quote: u8, length: usize) -> Vec<u8> {
     let mut text = vec![quote];
     for _ in 0..length {
         let byte = 32 + random.below(95) as u8;
-        if random.one_in(4) || byte == quote || byte == b'*' {
+        if random.one_in(6) {
+            text.extend(format!("*{:03}", random.below(256)).bytes());
+        } else if random.one_in(4) || byte == quote || byte == b'*' {
             text.extend([b'*', random.pick(b"NSTBPC*'\"")]);
         } else {
             text.push(byte);

@@ -13,12 +13,13 @@ pub struct Sweep {
     pub each: fn(&mut dyn FnMut(Case) -> Result<(), String>) -> Result<(), String>,
 }
 
-pub const SWEEPS: [Sweep; 5] = [
+pub const SWEEPS: [Sweep; 6] = [
     Sweep { name: "damaged at every symbol", each: damaged },
     Sweep { name: "generated and damaged at every symbol", each: generated },
     Sweep { name: "nests of every form", each: nests },
     Sweep { name: "chains of every link", each: chains },
     Sweep { name: "constants with every byte", each: constants },
+    Sweep { name: "characters of every number", each: numbered },
 ];
 
 /// Between them they have every construct.
@@ -152,12 +153,12 @@ fn places(length: usize) -> Vec<usize> {
     (0..=length).filter(|&place| place < 3 || place + 3 > length).collect()
 }
 
-/// Short constants and those about the longest, plain and of escapes, with every byte, and an asterisk and every byte, put in and in
+/// Short constants and those about the longest, plain, of escapes and by number, with every byte, and an asterisk and every byte, put in and in
 /// the place of a character; closed, and ended by the text's end or a newline.
 fn constants(check: &mut dyn FnMut(Case) -> Result<(), String>) -> Result<(), String> {
     for (quote, lengths) in [(b'\'', &[0, 1, 2, 3][..]), (b'"', &[0, 1, 2, 3, 254, 255, 256])] {
         for &length in lengths {
-            for plain in [&b"A"[..], b"*N"] {
+            for plain in [&b"A"[..], b"*N", b"*255"] {
                 let ends = [&[quote][..], &[quote, b' ', quote], b"", b"\n", &[b'\n', quote]];
                 for (place, byte) in places(length).into_iter().flat_map(|place| (0..=255).map(move |byte| (place, byte))) {
                     for put in [&[byte][..], &[b'*', byte]] {
@@ -168,6 +169,29 @@ fn constants(check: &mut dyn FnMut(Case) -> Result<(), String>) -> Result<(), St
                                 check(Case { text, expected: None })?;
                             }
                         }
+                    }
+                }
+            }
+        }
+    }
+    Ok(())
+}
+
+/// Every number of three digits, and every byte in the place of each digit, alone and after a character, cut short at every byte and
+/// closed.
+fn numbered(check: &mut dyn FnMut(Case) -> Result<(), String>) -> Result<(), String> {
+    let mut written: Vec<Vec<u8>> = (0..1000).map(|number| format!("*{number:03}").into_bytes()).collect();
+    for byte in 0..=255 {
+        written.extend([vec![b'*', byte, b'2', b'5'], vec![b'*', b'1', byte, b'5'], vec![b'*', b'1', b'2', byte]]);
+    }
+    for character in written {
+        for quote in [b'\'', b'"'] {
+            for before in [&b""[..], b"A"] {
+                for end in 0..=character.len() {
+                    let cut = [b"LET F() = ", &[quote][..], before, &character[..end]].concat();
+                    let closed = [&cut[..], &[quote]].concat();
+                    for text in [cut, closed] {
+                        check(Case { text, expected: None })?;
                     }
                 }
             }

@@ -348,7 +348,16 @@ fn escape(text: &[u8]) -> Option<(u8, usize)> {
         b'P' => 12,
         b'C' => 13,
         itself @ (b'*' | b'\'' | b'"') => itself,
-        _ => return None,
+        _ => return numbered(text.get(..3)?).map(|value| (value, 3)),
     };
     Some((value, 1))
+}
+
+/// The byte that three digits stand for.
+fn numbered(digits: &[u8]) -> Option<u8> {
+    if digits.iter().all(u8::is_ascii_digit) {
+        std::str::from_utf8(digits).ok()?.parse().ok()
+    } else {
+        None
+    }
 }

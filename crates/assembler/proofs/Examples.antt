@@ -6,7 +6,7 @@ use mathlib.Core.List.{List, [], _∷_, _++_}
 use lib.ListN.{take, drop, replicate}
 use Rattle.text.specs.Written.{bytes}
 use Rattle.text.specs.Line.{refusal, lineOf, newlines}
-use Rattle.text.specs.Quoted.{quoted, character, escape}
+use Rattle.text.specs.Quoted.{quoted, character, byDigits, byNumber, escape}
 use Rattle.items.specs.Reader.{head, byte, optional, digits, digitCount, decimal}
 use Rattle.items.specs.Read.{ended, quotedCharacter, quotedString, negative, quotation, labelled, positive, operand, base, labelItem, instructionItem, constantItem, stringItem, globalItem, functionOf, item}
 use Rattle.items.specs.Scan.{gaps, mark, trailing, body, scan}
@@ -50,6 +50,8 @@ pub record Accepted-texts : Type 0 where
   pub short-limit : made "$ L511 L512 Z" 416 3 ≡ 511 ∷ 512 ∷ 512 ∷ []
   pub label-long : made "$ D1 1: JL1 Z" 416 3 ≡ 1 ∷ 25088 ∷ 417 ∷ []
   pub quoted-character : made "$ D'A' L'*N' Z" 416 2 ≡ 65 ∷ 10 ∷ []
+  -- characters by number
+  pub numbered : made "$ D'*255' L'*000' C\"*000*255A\" Z" 416 4 ≡ 255 ∷ 0 ∷ 768 ∷ 65345 ∷ []
   -- a string's length comes first; a low half that no character fills is 0
   pub half-filled : made "$ C\"AB\" C\"\" D7 Z" 416 4 ≡ 577 ∷ 16896 ∷ 0 ∷ 7 ∷ []
   -- the last G for a number counts, 13 and 14 too
@@ -70,6 +72,9 @@ pub record Refused-texts : Type 0 where
   pub tab : answer "$ \tL1 Z" ≡ refused 20 2 1
   pub after-z : answer "$ Z\nZ" ≡ refused 20 4 2
   pub third-line : answer "$\nL1\nDI5 Z" ≡ refused 20 5 3
+  -- a character above 255, or of two digits, at its item
+  pub large-character : answer "$ D1 D'*256' Z" ≡ refused 20 5 1
+  pub short-character : answer "$ C\"A*12\" Z" ≡ refused 20 2 1
   pub label-twice : answer "$ 1: D1\n1: Z" ≡ refused 21 8 2
   -- 22 at the first use, GnLm too, and only where there is no other fault
   pub unknown : answer "$ 1: JL1 JL2 JL3 Z" ≡ refused 22 9 1
@@ -112,9 +117,9 @@ pub record Lengths : Type 0 where
 
 -- every one of them, by computation
 pub examples : Accepted-texts × Refused-texts × Lengths
-unfolding refusal lineOf newlines quoted character escape head byte optional digits digitCount decimal ended quotedCharacter quotedString negative quotation labelled positive operand base labelItem instructionItem constantItem stringItem globalItem functionOf item gaps mark trailing body scan operandInRange inRange short size pairs operandWord words defined addressOf noted misplaced fault lay uses known unknowns noGlobals globalsAfter globals program image refuse accept assembled lookedUp
+unfolding refusal lineOf newlines quoted character byNumber byDigits escape head byte optional digits digitCount decimal ended quotedCharacter quotedString negative quotation labelled positive operand base labelItem instructionItem constantItem stringItem globalItem functionOf item gaps mark trailing body scan operandInRange inRange short size pairs operandWord words defined addressOf noted misplaced fault lay uses known unknowns noGlobals globalsAfter globals program image refuse accept assembled lookedUp
 examples = (
-  record { mixed = refl; mixed-words = refl; empty = refl; start-words = refl; start-globals = refl; bounds = refl; short-limit = refl; label-long = refl; quoted-character = refl; half-filled = refl; last-global = refl; table = refl; looked-up = refl; not-there = refl; no-label = refl },
-  record { no-text = refl; no-dollar = refl; no-z = refl; tab = refl; after-z = refl; third-line = refl; label-twice = refl; unknown = refl; unknown-global = refl; unknown-then-range = refl; unknown-then-no-z = refl; label-zero = refl; label-large = refl; label-item-large = refl; global-large = refl; number-large = refl; number-huge = refl; number-small = refl; table-full = refl; twice-and-full = refl; range-first = refl; twice-first = refl; unreadable-first = refl; no-words = refl; no-labels = refl },
+  record { mixed = refl; mixed-words = refl; empty = refl; start-words = refl; start-globals = refl; bounds = refl; short-limit = refl; label-long = refl; quoted-character = refl; numbered = refl; half-filled = refl; last-global = refl; table = refl; looked-up = refl; not-there = refl; no-label = refl },
+  record { no-text = refl; no-dollar = refl; no-z = refl; tab = refl; after-z = refl; third-line = refl; large-character = refl; short-character = refl; label-twice = refl; unknown = refl; unknown-global = refl; unknown-then-range = refl; unknown-then-no-z = refl; label-zero = refl; label-large = refl; label-item-large = refl; global-large = refl; number-large = refl; number-huge = refl; number-small = refl; table-full = refl; twice-and-full = refl; range-first = refl; twice-first = refl; unreadable-first = refl; no-words = refl; no-labels = refl },
   record { too-short = refl; too-long = refl; full = refl; last-label = refl; over = refl; next-over = refl },
 )

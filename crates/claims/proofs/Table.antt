@@ -11,7 +11,7 @@ use Rattle.machine.specs.Outcome.{Out, ok, stop}
 use Rattle.machine.specs.Acts.{Act, unlisted, indirect, negate, invert, back, finish, switch, rdch, wrch, dyadic, actOf}
 use Rattle.machine.specs.Run.{Outcome, steps, resume, run}
 use Rattle.text.specs.Written.{bytes}
-use Rattle.text.specs.Quoted.{quoted, character, escape}
+use Rattle.text.specs.Quoted.{quoted, character, byDigits, byNumber, escape}
 use Rattle.items.specs.Reader.{head, byte, optional, digits, digitCount, decimal}
 use Rattle.items.specs.Read.{ended, quotedCharacter, quotedString, negative, quotation, labelled, positive, operand, base, labelItem, instructionItem, constantItem, stringItem, globalItem, functionOf, item}
 use Rattle.items.specs.Scan.{gaps, mark, trailing, body, scan}
@@ -81,7 +81,7 @@ record ProvedTable : Type 0 where
   budget-count : (first : ℕ) (memory input output : List ℕ) → Fits memory → run first memory input output 0 .count ≡ 0
 
 proved-table : ProvedTable
-unfolding applyDyadic symbolsIn value wordOf quot rem steps resume quoted character escape head byte optional digits digitCount decimal ended quotedCharacter quotedString negative quotation labelled positive operand base labelItem instructionItem constantItem stringItem globalItem functionOf item gaps mark trailing body scan operandInRange inRange short size pairs operandWord words defined addressOf noted misplaced fault lay uses known unknowns noGlobals globalsAfter globals program image refuse accept assembled
+unfolding applyDyadic symbolsIn value wordOf quot rem steps resume quoted character byNumber byDigits escape head byte optional digits digitCount decimal ended quotedCharacter quotedString negative quotation labelled positive operand base labelItem instructionItem constantItem stringItem globalItem functionOf item gaps mark trailing body scan operandInRange inRange short size pairs operandWord words defined addressOf noted misplaced fault lay uses known unknowns noGlobals globalsAfter globals program image refuse accept assembled
 proved-table =
     record {
       load = record { accepts = refl; stand = refl };

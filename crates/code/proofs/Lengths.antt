@@ -2,15 +2,15 @@
 -- global, and a string twice its characters and 4.
 use Prim.Native.Nat.{ℕ, zero, suc, _+_, _*_, _/_, _%_, _≤_, _<_}
 use mathlib.Core.Path.{_≡_, refl}
-use mathlib.Core.Bool.{Bool, true, false, cond}
+use mathlib.Core.Bool.{Bool, true, false, cond, _&&_}
 use mathlib.Core.List.{List, [], _∷_, _++_}
 use native.Mathlib.Omega.{arith}
-use lib.Dec.{eqb, ltb}
+use lib.Dec.{eqb, leb, ltb}
 use lib.ListN.{length, length-append}
 use borrow.Author.Tests.{lt-ltb}
 use Rattle.items.specs.Item as I
 use Rattle.items.specs.Item.{Operand, number, address, Base, Item, label, instruction, constant}
-use Rattle.items.specs.Render.{numeral, numeralOf, operandText, baseText, indirectText, characterText, charactersText, render, renderLines, renderAll}
+use Rattle.items.specs.Render.{numeral, numeralOf, operandText, baseText, indirectText, plainText, characterText, charactersText, render, renderLines, renderAll}
 use Rattle.items.proofs.Sound.{Sound, SoundOperand}
 use Rattle.items.proofs.Rendered.{AllSound}
 use Rattle.language.specs.Resolved.{Fun, Start, nowhere, inGlobal}
@@ -68,16 +68,25 @@ unfolding indirectText
 indirect-short true = omega arith
 indirect-short false = omega arith
 
-character-short : (c : ℕ) → length (characterText c) ≤ 2
+plain-short : (c : ℕ) → length (plainText c) ≤ 4
+unfolding plainText
+plain-short c = by (leb 32 c && leb c 126)
+  where
+    by : (t : Bool) → length (cond t (c ∷ []) (42 ∷ (48 + c / 100) ∷ (48 + c / 10 % 10) ∷ (48 + c % 10) ∷ [])) ≤ 4
+    by true = omega arith
+    by false = omega arith
+
+character-short : (c : ℕ) → length (characterText c) ≤ 4
 unfolding characterText
 character-short c =
-    two (eqb c 10) 42 78 _ (two (eqb c 9) 42 84 _ (two (eqb c 8) 42 66 _ (two (eqb c 12) 42 80 _ (two (eqb c 13) 42 67 _ (two (eqb c 42) 42 42 _ (two (eqb c 34) 42 34 _ (omega arith)))))))
+    two (eqb c 10) 42 78 _ (two (eqb c 9) 42 84 _ (two (eqb c 8) 42 66 _ (two (eqb c 12) 42 80 _ (two (eqb c 13) 42 67 _ (two (eqb c 42) 42 42 _
+    (two (eqb c 34) 42 34 _ (plain-short c)))))))
   where
-    two : (t : Bool) (a b : ℕ) (more : List ℕ) → length more ≤ 2 → length (cond t (a ∷ b ∷ []) more) ≤ 2
+    two : (t : Bool) (a b : ℕ) (more : List ℕ) → length more ≤ 4 → length (cond t (a ∷ b ∷ []) more) ≤ 4
     two true a b more h = omega arith
     two false a b more h = h
 
-characters-short : (cs : List ℕ) → length (charactersText cs) ≤ 2 * length cs
+characters-short : (cs : List ℕ) → length (charactersText cs) ≤ 4 * length cs
 unfolding charactersText
 characters-short [] = omega arith
 characters-short (c ∷ cs) = omega (arith, length-append (characterText c) (charactersText cs), character-short c, characters-short cs)
@@ -89,7 +98,7 @@ abbrev beside : Item → ℕ
 beside (label n) = 0
 beside (instruction f t b x) = 0
 beside (constant x) = 0
-beside (I.string cs) = 2 * length cs + 4
+beside (I.string cs) = 4 * length cs + 4
 beside (I.global n m) = 13
 
 abbrev isOne : Item → ℕ
@@ -146,7 +155,7 @@ besides-plain (l p) = omega (arith, besides-plain p)
 besides-plain (i p) = omega (arith, besides-plain p)
 besides-plain (d p) = omega (arith, besides-plain p)
 
-besides-strings : (t : ℕ) (ss : List (List ℕ)) → besides (stringsCode t ss) ≤ 2 * stringBytes ss
+besides-strings : (t : ℕ) (ss : List (List ℕ)) → besides (stringsCode t ss) ≤ 4 * stringBytes ss
 unfolding besides stringsCode stringBytes
 besides-strings t [] = omega arith
 besides-strings t (cs ∷ ss) = omega (arith, besides-strings (suc t) ss)
@@ -160,7 +169,7 @@ besides-starts t (f ∷ fs) = go (f .start) (besides-starts (suc t) fs)
     go nowhere k = omega arith
     go (inGlobal n) k = omega arith
 
-besides-items : (fs : List Fun) (ss : List (List ℕ)) → besides (itemsOf fs ss) ≤ 2 * stringBytes ss + 13 * length fs
+besides-items : (fs : List Fun) (ss : List (List ℕ)) → besides (itemsOf fs ss) ≤ 4 * stringBytes ss + 13 * length fs
 unfolding itemsOf
 besides-items fs ss =
     let f : List Item = functionsCode (suc (length fs)) 1 (suc (length fs) + length ss) fs in
@@ -174,7 +183,7 @@ unfolding stringWords stringBytes
 words-bytes [] = omega arith
 words-bytes (cs ∷ ss) = omega (arith, words-bytes ss, length-pairs (length cs) cs)
 
-pub short : (source : List ℕ) (scratch : ℕ) → refusalOf source scratch ≡ accepted → length (textOf source) ≤ 58 * length source + 4
+pub short : (source : List ℕ) (scratch : ℕ) → refusalOf source scratch ≡ accepted → length (textOf source) ≤ 60 * length source + 4
 unfolding textOf ns
 short source scratch a =
     let x : Facts source = facts source scratch a in

@@ -1,5 +1,5 @@
 -- The text of the strings: a character by its escape, a string's line, the lines of one symbol, and loops over all symbols.
-use Prim.Native.Nat.{ℕ, suc, _+_, _*_, _-_, _≤_, _<_}
+use Prim.Native.Nat.{ℕ, suc, _+_, _*_, _-_, _/_, _%_, _≤_, _<_}
 use mathlib.Core.Path.{_≡_, refl, sym, ap, _∙_}
 use mathlib.Core.Bool.{Bool, true, false, cond}
 use mathlib.Core.List.{List, [], _∷_, _++_, append-assoc, append-nil}
@@ -7,12 +7,12 @@ use native.Mathlib.Omega.{arith}
 use lib.ListN.{length, getD, drop, length-append}
 use lib.Seq.{getD-drop, drop-drop}
 use lib.Dec.{eqb}
-use borrow.Author.Tests.{eq-eqb, ne-eqb}
+use borrow.Author.Tests.{eq-eqb, ne-eqb, le-leb, lt-leb}
 use Rattle.text.specs.Quoted.{closed, charactersOf, quoted, character, is, closing, ended, mistake}
 use Rattle.text.proofs.Bytes.{Unlike}
 use Rattle.text.proofs.Constants.{Continues, closed-next, closed-end, closed-goes-on, closed-right}
 use Rattle.items.specs.Item as I
-use Rattle.items.specs.Render.{characterText, charactersText, render}
+use Rattle.items.specs.Render.{plainText, characterText, charactersText, render}
 use Rattle.language.specs.Kinds.{STRING}
 use Rattle.language.specs.Symbols.{Symbol}
 use Rattle.language.specs.Whole.{stringsAmong}
@@ -27,6 +27,24 @@ pub two-bytes : {a b at x r : ℕ} {t t₁ t₂ : List ℕ} → Puts (a ∷ []) 
 two-bytes p q = puts-then p q
 
 -- ---- a character
+
+-- four bytes, one after the other
+pub four-bytes : {a b c d at x y z r : ℕ} {t t₁ t₂ t₃ t₄ : List ℕ} → Puts (a ∷ []) at x t t₁ → Puts (b ∷ []) x y t₁ t₂ → Puts (c ∷ []) y z t₂ t₃
+    → Puts (d ∷ []) z r t₃ t₄ → Puts (a ∷ b ∷ c ∷ d ∷ []) at r t t₄
+four-bytes p q u v = puts-then p (puts-then q (puts-then u v))
+
+module _ {c at r : ℕ} {t t′ : List ℕ} where
+  pub plain-low : c < 32 → Puts (42 ∷ (48 + c / 100) ∷ (48 + c / 10 % 10) ∷ (48 + c % 10) ∷ []) at r t t′ → Puts (plainText c) at r t t′
+  unfolding plainText
+  plain-low h p = puts-as p (rw (lt-leb 32 c h))
+
+  pub plain-high : 32 ≤ c → 126 < c → Puts (42 ∷ (48 + c / 100) ∷ (48 + c / 10 % 10) ∷ (48 + c % 10) ∷ []) at r t t′ → Puts (plainText c) at r t t′
+  unfolding plainText
+  plain-high l h p = puts-as p (rw (le-leb 32 c l, lt-leb c 126 h))
+
+  pub plain-itself : 32 ≤ c → c ≤ 126 → Puts (c ∷ []) at r t t′ → Puts (plainText c) at r t t′
+  unfolding plainText
+  plain-itself l h p = puts-as p (rw (le-leb 32 c l, le-leb c 126 h))
 
 pub no-escape : {c : ℕ} → Unlike c (34 ∷ 42 ∷ 13 ∷ 12 ∷ 8 ∷ 9 ∷ 10 ∷ []) → Escapes c 0
 unfolding characterText
@@ -47,7 +65,7 @@ no-escape {c} h = record {
 pub escapes : {c : ℕ} (k e : ℕ) → c ≡ k → (e ≡ 0 → ⊥) → characterText k ≡ 42 ∷ e ∷ [] → Escapes c e
 escapes k e q n h = record { plain = λ z. absurd (n z); starred = λ _. rw q h }
 
-pub put-plain : {c e at r : ℕ} {t t′ : List ℕ} → Escapes c e → e ≡ 0 → Puts (c ∷ []) at r t t′ → Puts (characterText c) at r t t′
+pub put-plain : {c e at r : ℕ} {t t′ : List ℕ} → Escapes c e → e ≡ 0 → Puts (plainText c) at r t t′ → Puts (characterText c) at r t t′
 put-plain x z p = puts-as p (x .plain z)
 
 pub put-starred : {c e at x r : ℕ} {t t₁ t₂ : List ℕ} → Escapes c e → (e ≡ 0 → ⊥) → Puts (42 ∷ []) at x t t₁ → Puts (e ∷ []) x r t₁ t₂

@@ -6,7 +6,7 @@ use mathlib.Core.List.{List, [], _∷_}
 use lib.ListN.{length, getD, drop}
 use lib.Dec.{eqb}
 use Rattle.items.specs.Item as I
-use Rattle.items.specs.Render.{characterText, charactersText}
+use Rattle.items.specs.Render.{plainText, characterText, charactersText}
 use Rattle.text.specs.Quoted.{closed, charactersOf, quoted}
 use Rattle.language.specs.Kinds.{STRING}
 use Rattle.language.specs.Symbols.{Symbol}
@@ -39,7 +39,7 @@ pub data AllEnd (source : List ℕ) : List Symbol → Type 0 where
 
 -- e is the byte after the asterisk of c's escape, or 0
 pub record Escapes (c e : ℕ) : Type 0 where
-  pub plain : e ≡ 0 → characterText c ≡ c ∷ []
+  pub plain : e ≡ 0 → characterText c ≡ plainText c
   pub starred : (e ≡ 0 → ⊥) → characterText c ≡ 42 ∷ e ∷ []
 
 -- the characters from a place on

@@ -8,9 +8,9 @@ use writing::global;
 use writing::label;
 ghost use mathlib.Core.Path.{_≡_};
 ghost use mathlib.Core.List.{List, [], _∷_, _++_};
-ghost use Prim.Native.Nat.{ℕ, suc, _+_, _*_, _≤_, _<_, _^_};
+ghost use Prim.Native.Nat.{ℕ, suc, _+_, _*_, _/_, _%_, _≤_, _<_, _^_};
 ghost use lib.ListN.{length, getD, drop};
-ghost use Rattle.items.specs.Render.{characterText};
+ghost use Rattle.items.specs.Render.{plainText, characterText};
 ghost use Rattle.tree.specs.Read.{decoded};
 ghost use Rattle.writing.specs.Text.{Puts};
 ghost use Rattle.compiler.specs.Strings.{stringCount, oneIf, Escapes, WritesCharacters, WritesString, WritesSymbol};
@@ -40,7 +40,7 @@ pub(crate) fn string_count(s: &[u32], count: usize) -> usize
     n
 }
 
-// The byte after the asterisk in a character's escape; 0 where the character stands for itself.
+// The byte after the asterisk in a character's escape; 0 where it has none of its own.
 fn escape_of(c: u8) -> u8
     ensures { λ r. ⌜ Escapes c r ⌝ }
 {
@@ -56,13 +56,36 @@ fn escape_of(c: u8) -> u8
     }
 }
 
+// A character that has no escape of its own, by its number.
+fn numbered(text: &mut [u8], at: usize, c: u8) -> usize
+    ensures { λ r. ⌜ Puts (42 ∷ (48 + c / 100) ∷ (48 + c / 10 % 10) ∷ (48 + c % 10) ∷ []) at r (now (text .entry)) (now (text .exit)) ⌝ }
+{
+    let a = emit(text, at, b'*');
+    let b = emit(text, a, 48 + c / 100);
+    let d = emit(text, b, 48 + c / 10 % 10);
+    emit(text, d, 48 + c % 10)
+}
+
+// As it stands, or by its number.
+fn plain(text: &mut [u8], at: usize, c: u8) -> usize
+    ensures { λ r. ⌜ Puts (plainText c) at r (now (text .entry)) (now (text .exit)) ⌝ }
+{
+    if c < 32 {
+        return numbered(text, at, c);
+    }
+    if c > 126 {
+        return numbered(text, at, c);
+    }
+    emit(text, at, c)
+}
+
 // A character of a string.
 fn character(text: &mut [u8], at: usize, c: u8) -> usize
     ensures { λ r. ⌜ Puts (characterText c) at r (now (text .entry)) (now (text .exit)) ⌝ }
 {
     let e = escape_of(c);
     if e == 0 {
-        return emit(text, at, c);
+        return plain(text, at, c);
     }
     let x = emit(text, at, b'*');
     emit(text, x, e)

@@ -3,7 +3,7 @@ use Prim.Native.Nat.{ℕ}
 use mathlib.Core.Path.{_≡_, refl}
 use mathlib.Core.Bool.{true, false}
 use mathlib.Core.List.{List, [], _∷_, map}
-use Rattle.text.specs.Quoted.{quoted, character, escape}
+use Rattle.text.specs.Quoted.{quoted, character, byDigits, byNumber, escape}
 use Rattle.items.specs.Item.{number, address, none, P, Item, Placed, label, instruction, constant, string, global}
 use Rattle.items.specs.Reader.{got, nothing, head, byte, optional, digits, digitCount, decimal}
 use Rattle.items.specs.Read.{ended, quotedCharacter, quotedString, negative, quotation, labelled, positive, operand, base, labelItem, instructionItem, constantItem, stringItem, globalItem, functionOf, item}
@@ -109,5 +109,5 @@ Starts = map startIn ((47 ∷ 10 ∷ 32 ∷ 36 ∷ 10 ∷ []) ∷ (32 ∷ 68 ∷
 -- ----
 
 examples : Readable × Unreadable × Capped × Texts × Steps × Starts
-unfolding quoted character escape head byte optional digits digitCount decimal ended quotedCharacter quotedString negative quotation labelled positive operand base labelItem instructionItem constantItem stringItem globalItem functionOf item gaps mark trailing body scan elementAt nextIn startIn
+unfolding quoted character byNumber byDigits escape head byte optional digits digitCount decimal ended quotedCharacter quotedString negative quotation labelled positive operand base labelItem instructionItem constantItem stringItem globalItem functionOf item gaps mark trailing body scan elementAt nextIn startIn
 examples = (refl, refl, refl, refl, refl, refl)

@@ -1,7 +1,7 @@
 -- What is rendered is read back: an item alone, and a whole text. Every item that is read (`Sound`) can be rendered.
 use Prim.Native.Nat.{ℕ, zero, suc, _+_, _-_, _*_, _/_, _%_, _<_, _≤_}
 use mathlib.Core.Path.{_≡_, refl, sym, ap, _∙_}
-use mathlib.Core.Bool.{Bool, true, false, cond}
+use mathlib.Core.Bool.{Bool, true, false, cond, _&&_}
 use mathlib.Core.List.{List, [], _∷_, _++_, append-assoc}
 use native.Mathlib.Omega.{arith}
 use native.Mathlib.Numerals.{add-one}
@@ -9,15 +9,14 @@ use lib.Dec.{eqb, leb, ltb}
 use lib.ListN.{length, drop, length-append}
 use lib.Seq.{drop-drop, drop-append-seam, drop-append-add}
 use borrow.Author.Tests.{ltb-true, ltb-false, leb-true, eqb-true, eqb-false, ne-eqb, le-leb}
-use Rattle.text.specs.Quoted.{is, character, escape, closed, quoted}
-use Rattle.text.specs.Values.{writable}
-use Rattle.text.proofs.Quotes.{Writable, at-quote, at-plain, quoted-next, quoted-end}
+use Rattle.text.specs.Quoted.{is, byNumber, escape, character, closed, quoted}
+use Rattle.text.proofs.Quotes.{Writable, at-quote, at-asterisk, at-plain, no-letter, a-byte, quoted-next, quoted-end}
 use Rattle.items.specs.Item.{capped, Operand, number, address, Base, none, P, G, Item, Placed, label, instruction, constant, string, global}
 use Rattle.items.specs.Reader.{got, wide, head, byte, optional, isDigit, digits, digitCount, decimal}
 use Rattle.items.specs.Read.{ended, quotedString, negative, labelled, positive, operand, base, labelItem, instructionItem, constantItem, stringItem, globalItem, functionOf, item}
 use Rattle.items.specs.Scan.{gaps, whole, goesOn, mark, trailing, body, scan}
 use Rattle.items.specs.Next.{one, elementAt}
-use Rattle.items.specs.Render.{numeral, numeralOf, operandText, baseText, indirectText, letter, characterText, charactersText, render, renderLines, renderAll}
+use Rattle.items.specs.Render.{numeral, numeralOf, operandText, baseText, indirectText, letter, plainText, characterText, charactersText, render, renderLines, renderAll}
 use Rattle.items.proofs.Decimals.{digit-bounds}
 use Rattle.items.proofs.Scans.{onNext, body-element}
 use Rattle.items.proofs.Sound.{SoundOperand, SoundString, SoundInstruction, SoundGlobal, Sound}
@@ -130,21 +129,6 @@ base-begins G rest h k = omega arith
 
 -- ---- strings
 
--- a character that needs no escape for being outside 32 to 126
-plain-bounds : (c : ℕ) → writable c ≡ true → (c ≡ 10 → ⊥) → (c ≡ 9 → ⊥) → (c ≡ 8 → ⊥) → (c ≡ 12 → ⊥) → (c ≡ 13 → ⊥) → (32 ≤ c) × (c ≤ 126)
-unfolding writable
-plain-bounds c w n10 n9 n8 n12 n13 = by (leb 32 c) refl w
-  where
-    controls : Bool
-    controls = cond (eqb c 8) true (cond (eqb c 9) true (cond (eqb c 10) true (cond (eqb c 12) true (eqb c 13))))
-
-    none-is : controls ≡ false
-    none-is = rw (ne-eqb c 8 n8, ne-eqb c 9 n9, ne-eqb c 10 n10, ne-eqb c 12 n12, ne-eqb c 13 n13)
-
-    by : (t : Bool) → leb 32 c ≡ t → cond t (leb c 126) controls ≡ true → (32 ≤ c) × (c ≤ 126)
-    by true l h = (leb-true 32 c l, leb-true c 126 h)
-    by false l h = absurd (let z : true ≡ false = sym h ∙ none-is in let y : _≡_ {A = ℕ} 0 1 = cc in omega arith)
-
 record Shows (rest : List ℕ) (c : ℕ) (l : List ℕ) : Type 0 where
   pub shows : character 34 (l ++ rest) ≡ is c (length l)
 
@@ -155,14 +139,34 @@ escaped {rest} {l} {c} e k h more = by (eqb c k) refl
     by true j = record { shows = h ∙ ap (λ (v : ℕ). is v 2) (sym (eqb-true c k j)) }
     by false j = more (eqb-false c k j)
 
-character-text : (c : ℕ) (rest : List ℕ) → writable c ≡ true → Shows rest c (characterText c)
-unfolding characterText character escape
-character-text c rest w =
-    escaped 78 10 refl (λ n10. escaped 84 9 refl (λ n9. escaped 66 8 refl (λ n8. escaped 80 12 refl (λ n12. escaped 67 13 refl
-    (λ n13. escaped 42 42 refl (λ n42. escaped 34 34 refl (λ n34. plain n34 n42 (plain-bounds c w n10 n9 n8 n12 n13))))))))
+-- three digits of a byte
+three-digits : (c : ℕ) → c ≤ 255 → (rest : List ℕ) → escape ((48 + c / 100) ∷ (48 + c / 10 % 10) ∷ (48 + c % 10) ∷ rest) ≡ is c 4
+unfolding byNumber
+three-digits c h rest =
+    let a : c / 100 ≤ 2 = omega arith in
+    no-letter (48 + c / 100) _ (omega arith) ∙
+    a-byte (48 + c / 100) (48 + c / 10 % 10) (48 + c % 10) (digit (c / 100) (omega arith)) (digit (c / 10 % 10) (omega arith))
+    (digit (c % 10) (omega arith)) (omega arith) h
+
+plain-text : (c : ℕ) (rest : List ℕ) → c ≤ 255 → (c ≡ 34 → ⊥) → (c ≡ 42 → ⊥) → Shows rest c (plainText c)
+unfolding plainText
+plain-text c rest h n34 n42 = by (leb 32 c) (leb c 126) refl refl
   where
-    plain : (c ≡ 34 → ⊥) → (c ≡ 42 → ⊥) → (32 ≤ c) × (c ≤ 126) → Shows rest c (c ∷ [])
-    plain n34 n42 b = record { shows = at-plain 34 c rest n34 n42 (b .0) (b .1) }
+    numbered : Shows rest c (42 ∷ (48 + c / 100) ∷ (48 + c / 10 % 10) ∷ (48 + c % 10) ∷ [])
+    numbered = record { shows = at-asterisk 34 42 _ (λ e. omega arith) refl ∙ three-digits c h rest }
+
+    by : (s t : Bool) → leb 32 c ≡ s → leb c 126 ≡ t
+        → Shows rest c (cond (s && t) (c ∷ []) (42 ∷ (48 + c / 100) ∷ (48 + c / 10 % 10) ∷ (48 + c % 10) ∷ []))
+    by true true e f = record { shows = at-plain 34 c rest n34 n42 (leb-true 32 c e) (leb-true c 126 f) }
+    by true false e f = numbered
+    by false t e f = numbered
+
+-- every byte is read back
+character-text : (c : ℕ) (rest : List ℕ) → c ≤ 255 → Shows rest c (characterText c)
+unfolding characterText character escape
+character-text c rest h =
+    escaped 78 10 refl (λ _. escaped 84 9 refl (λ _. escaped 66 8 refl (λ _. escaped 80 12 refl (λ _. escaped 67 13 refl
+    (λ _. escaped 42 42 refl (λ n42. escaped 34 34 refl (λ n34. plain-text c rest h n34 n42)))))))
 
 pub characters-text : (room : ℕ) (cs rest : List ℕ) → length cs ≤ room → Writable cs
     → quoted 34 room 0 (charactersText cs ++ (34 ∷ rest)) ≡ closed cs (length (charactersText cs) + 1)
@@ -344,7 +348,7 @@ sample =
     instruction 0 true P (number false 65535) ∷
     instruction 3 false none (address 10) ∷
     constant (number true 32768) ∷
-    string (104 ∷ 34 ∷ 42 ∷ 10 ∷ []) ∷
+    string (104 ∷ 34 ∷ 42 ∷ 10 ∷ 0 ∷ 255 ∷ []) ∷
     global 0 1 ∷ []
 
 sample-text : renderAll sample ≡
@@ -353,14 +357,14 @@ sample-text : renderAll sample ≡
     76 ∷ 73 ∷ 80 ∷ 54 ∷ 53 ∷ 53 ∷ 51 ∷ 53 ∷ 10 ∷
     74 ∷ 76 ∷ 49 ∷ 48 ∷ 10 ∷
     68 ∷ 45 ∷ 51 ∷ 50 ∷ 55 ∷ 54 ∷ 56 ∷ 10 ∷
-    67 ∷ 34 ∷ 104 ∷ 42 ∷ 34 ∷ 42 ∷ 42 ∷ 42 ∷ 78 ∷ 34 ∷ 10 ∷
+    67 ∷ 34 ∷ 104 ∷ 42 ∷ 34 ∷ 42 ∷ 42 ∷ 42 ∷ 78 ∷ 42 ∷ 48 ∷ 48 ∷ 48 ∷ 42 ∷ 50 ∷ 53 ∷ 53 ∷ 34 ∷ 10 ∷
     71 ∷ 48 ∷ 76 ∷ 49 ∷ 10 ∷
     90 ∷ 10 ∷ []
-unfolding sample numeral numeralOf operandText baseText indirectText letter characterText charactersText render renderLines renderAll
+unfolding sample numeral numeralOf operandText baseText indirectText letter plainText characterText charactersText render renderLines renderAll
 sample-text = refl
 
 sample-sound : AllSound sample
-unfolding sample writable
+unfolding sample
 sample-sound = (
   omega arith,
   (
@@ -370,7 +374,7 @@ sample-sound = (
       (
         omega arith,
         (
-          record { short = omega arith; each = (refl, (refl, (refl, (refl, tt)))) },
+          record { short = omega arith; each = (omega arith, (omega arith, (omega arith, (omega arith, (omega arith, (omega arith, tt)))))) },
           (record { first = omega arith; second = omega arith }, tt),
         ),
       ),

@@ -10,7 +10,7 @@ use lib.ListN.{length, drop, length-drop}
 use lib.Seq.{drop-drop}
 use borrow.Author.Tests.{eqb-true, ltb-true, leb-true}
 use Rattle.text.specs.Quoted.{Quoted, closed, unclosed, faulty, quoted}
-use Rattle.text.proofs.Quotes.{Writable, ascii, Closed, is-closed}
+use Rattle.text.proofs.Quotes.{Writable, each-byte, Closed, is-closed}
 use Rattle.items.specs.Item.{capped, Operand, number, address, Item, label, instruction, constant, string, global}
 use Rattle.items.specs.Reader.{Got, got, nothing, wide, onGot, head, byte, optional, isDigit, digits, digitCount, decimal}
 use Rattle.items.specs.Read.{ended, asCharacter, quotedCharacter, asString, quotedString, negative, quotation, labelled, positive, operand, base, labelItem, instructionItem, constantItem, stringItem, globalItem, functionOf, past, item}
@@ -159,7 +159,7 @@ character-meets bytes = by (quoted 39 1 0 bytes) refl
     by (closed [] w) e = fails
     by (closed (c ∷ cs) w) e =
         let k : Closed 1 0 (length bytes) (c ∷ cs) w = is-closed 39 1 0 bytes e in
-        gives (omega (arith, ascii (c ∷ cs) (k .each) 0)) (omega arith) (omega arith)
+        gives (omega (arith, each-byte (c ∷ cs) (k .each) 0)) (omega arith) (omega arith)
     by unclosed e = fails
     by (faulty k n) e = fails
 

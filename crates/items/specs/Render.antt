@@ -1,9 +1,9 @@
 -- The canonical text of items: what a lister and the compiler write.
 use Prim.Native.Nat.{ℕ, zero, suc, _+_, _/_, _%_}
-use mathlib.Core.Bool.{Bool, true, false, cond}
+use mathlib.Core.Bool.{Bool, true, false, cond, _&&_}
 use mathlib.Core.List.{List, [], _∷_, _++_}
 use lib.ListN.{getD}
-use lib.Dec.{eqb, ltb}
+use lib.Dec.{eqb, leb, ltb}
 use Rattle.items.specs.Item.{Operand, number, address, Base, none, P, G, Item, label, instruction, constant, string, global}
 
 -- the last digit after those of n / 10; fuel above n is enough
@@ -32,6 +32,10 @@ indirectText false = []
 unfoldable pub letter : ℕ → ℕ
 letter f = getD (76 ∷ 83 ∷ 65 ∷ 74 ∷ 84 ∷ 70 ∷ 75 ∷ 88 ∷ []) f 0
 
+-- a character that has no escape of its own: as it stands from 32 to 126, else by its number
+unfoldable pub plainText : ℕ → List ℕ
+plainText c = cond (leb 32 c && leb c 126) (c ∷ []) (42 ∷ (48 + c / 100) ∷ (48 + c / 10 % 10) ∷ (48 + c % 10) ∷ [])
+
 -- a character of a string, by its escape where it needs one
 unfoldable pub characterText : ℕ → List ℕ
 characterText c =
@@ -42,7 +46,7 @@ characterText c =
     (cond (eqb c 13) (42 ∷ 67 ∷ [])
     (cond (eqb c 42) (42 ∷ 42 ∷ [])
     (cond (eqb c 34) (42 ∷ 34 ∷ [])
-    (c ∷ [])))))))
+    (plainText c)))))))
 
 unfoldable pub charactersText : List ℕ → List ℕ
 charactersText [] = []

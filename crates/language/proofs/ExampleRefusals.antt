@@ -90,6 +90,17 @@ escape : map verdict ("LET F()=\"A*Q\"" ∷ "LET F()=\"*Q*\"\"" ∷ "LET F()='*n
 unfolding verdict
 escape = refl
 
+-- by number: *000 and *255 are characters; three digits above 255, and a digit that two more do not follow, are wrong at the asterisk, which alone
+-- is taken: the quote of "*12" closes, and the text's end after *1 is no closing
+numbers : map verdict ("LET F()='*255'" ∷ "LET F()=\"*000*0651\"" ∷ []) ≡ (0, 0) ∷ (0, 0) ∷ []
+unfolding verdict
+numbers = refl
+
+wrong-numbers : map verdict ("LET F()='*256'" ∷ "LET F()=\"A*12\"" ∷ "LET F()='*12A'" ∷ "LET F()=\"*1" ∷ "LET F()='*0650'" ∷ [])
+    ≡ (41, 9) ∷ (41, 10) ∷ (41, 9) ∷ (40, 8) ∷ (43, 13) ∷ []
+unfolding verdict
+wrong-numbers = refl
+
 -- 42: a byte outside 32 to 126, at that byte; a tab here, and the byte 200
 byte : map verdict ("LET F()=\"A\tB\"" ∷ "LET F()='\t'" ∷ []) ≡ (42, 10) ∷ (42, 9) ∷ []
 unfolding verdict
@@ -114,6 +125,11 @@ no-or-several = refl
 string-255 : verdictOf (bytes "LET F()=" ++ 34 ∷ (times 255 (65 ∷ []) ++ 34 ∷ [])) ≡ (0, 0)
 unfolding verdictOf times
 string-255 = refl
+
+numbered-255 : map (λ (end : String). verdictOf (bytes "LET F()=\"" ++ (times 255 (bytes "*000") ++ bytes end))) ("\"" ∷ "*000\"" ∷ "*300\"" ∷ [])
+    ≡ (0, 0) ∷ (43, 1029) ∷ (41, 1029) ∷ []
+unfolding verdictOf times
+numbered-255 = refl
 
 string-256 : map (λ (end : String). verdictOf (bytes "LET F()=\"" ++ (times 255 (65 ∷ []) ++ bytes end))) ("A\"" ∷ "*N*Q\"" ∷ "\t\"" ∷ "*Q\"" ∷ "A\n\"" ∷ [])
     ≡ (43, 264) ∷ (43, 264) ∷ (42, 264) ∷ (41, 264) ∷ (40, 8) ∷ []

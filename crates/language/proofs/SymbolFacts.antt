@@ -9,7 +9,7 @@ use lib.Dec.{eqb, leb}
 use lib.ListN.{length, getD, take, drop}
 use borrow.Author.Tests.{eqb-true, eqb-false, ne-eqb, leb-true, not-true}
 use Rattle.text.specs.Quoted.{Quoted, closed, unclosed, faulty, charactersOf, quoted}
-use Rattle.text.proofs.Quotes.{Closed, is-closed, ascii}
+use Rattle.text.proofs.Quotes.{Closed, is-closed, each-byte}
 use Rattle.text.proofs.Booleans.{both-true}
 use Rattle.language.specs.Kinds.{Spelled, member, NOTHING, NAME, NUMBER, STRING, SEMICOLON, reserved, signs}
 use Rattle.language.specs.Bytes.{LETTER, DIGIT, HASH, QUOTE, DOUBLE, SIGN, SEPARATOR, NEWLINE, classOf}
@@ -68,7 +68,7 @@ fine-character all bs = go (quoted 39 1 0 bs) refl
   where
     go : (q : Quoted) → quoted 39 1 0 bs ≡ q → FineElement all (asCharacter q)
     go (closed [] n) e = a-fault
-    go (closed (x ∷ xs) n) e = let k : Closed 1 0 (length bs) (x ∷ xs) n = is-closed 39 1 0 bs e in is-number (omega (arith, ascii (x ∷ xs) (k .each) 0))
+    go (closed (x ∷ xs) n) e = let k : Closed 1 0 (length bs) (x ∷ xs) n = is-closed 39 1 0 bs e in is-number (omega (arith, each-byte (x ∷ xs) (k .each) 0))
     go unclosed e = a-fault
     go (faulty number n) e = a-fault
 

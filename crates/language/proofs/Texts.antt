@@ -4,7 +4,7 @@ use mathlib.Core.Path.{_≡_, refl}
 use mathlib.Core.List.{List, [], _++_}
 use Rattle.text.specs.Line.{lineOf, newlines}
 use Rattle.text.specs.Quoted as Q
-use Rattle.text.specs.Quoted.{quoted, escape}
+use Rattle.text.specs.Quoted.{quoted, byDigits, byNumber, escape}
 use Prim.Native.String.{String}
 use Rattle.text.specs.Written.{bytes}
 use Rattle.language.specs.Bytes.{classOf}
@@ -24,12 +24,12 @@ use Rattle.language.specs.Source.{Symbols, symbolsOf, Read, read, refuse
 
 -- a text's symbols, or its refusal
 unfoldable pub symbolsIn : String → Symbols
-unfolding quoted Q.character escape newlines lineOf classOf reserved signs begins wordWidth kindIn kindOf word digits valueOf decimal octal S.character string signIn toLineEnd comment sign signOrComment byClass scanFrom scan closing bracket brackets member endsLine beginsLine linesDiffer gains semicolonsAfter semicolons numbered symbolsOf
+unfolding quoted Q.character byNumber byDigits escape newlines lineOf classOf reserved signs begins wordWidth kindIn kindOf word digits valueOf decimal octal S.character string signIn toLineEnd comment sign signOrComment byClass scanFrom scan closing bracket brackets member endsLine beginsLine linesDiffer gains semicolonsAfter semicolons numbered symbolsOf
 symbolsIn text = symbolsOf (bytes text)
 
 -- the program of some bytes, or its refusal, with scratch enough for any text
 unfoldable pub answer : List ℕ → Read
-unfolding quoted Q.character escape newlines lineOf classOf reserved signs begins wordWidth kindIn kindOf word digits valueOf decimal octal S.character string signIn toLineEnd comment sign signOrComment byClass scanFrom scan closing bracket brackets member endsLine beginsLine linesDiffer gains semicolonsAfter semicolons numbered symbolsOf withSuffixes withOperations endsInCall isCall count unexpected any here the optional aName manyUpTo many moreUpTo items furtherItems oneUpToClose upToClose bindingOf isMonadic reachOf isSuffix isLabel isGuard isLeave isRepeat goesOnAssignment isDeclaration beginsExpression beginsCommand opening numeral truth quotation named bracketed valof primary monadic arguments subscript index suffix suffixed operand operation mostOf operations chain products sums relations shifts negations conjunctions disjunctions expression literal truthLiteral known simple positive negative constant test guarded by optionalBy for listed switchon resultis leave further vector values given furtherName local semicolonEnd commandsToEnd block furtherSide assignment callCommand afterExpression assignmentOrCall unlabelled repeat repeatOn repeatForm repeated emptyCommand case default label afterLabels command within item globals manifests value routine body parameter function andFunction functions declaration declared whole program treeOf tooLong scratchTooShort readSymbols parsed readSource
+unfolding quoted Q.character byNumber byDigits escape newlines lineOf classOf reserved signs begins wordWidth kindIn kindOf word digits valueOf decimal octal S.character string signIn toLineEnd comment sign signOrComment byClass scanFrom scan closing bracket brackets member endsLine beginsLine linesDiffer gains semicolonsAfter semicolons numbered symbolsOf withSuffixes withOperations endsInCall isCall count unexpected any here the optional aName manyUpTo many moreUpTo items furtherItems oneUpToClose upToClose bindingOf isMonadic reachOf isSuffix isLabel isGuard isLeave isRepeat goesOnAssignment isDeclaration beginsExpression beginsCommand opening numeral truth quotation named bracketed valof primary monadic arguments subscript index suffix suffixed operand operation mostOf operations chain products sums relations shifts negations conjunctions disjunctions expression literal truthLiteral known simple positive negative constant test guarded by optionalBy for listed switchon resultis leave further vector values given furtherName local semicolonEnd commandsToEnd block furtherSide assignment callCommand afterExpression assignmentOrCall unlabelled repeat repeatOn repeatForm repeated emptyCommand case default label afterLabels command within item globals manifests value routine body parameter function andFunction functions declaration declared whole program treeOf tooLong scratchTooShort readSymbols parsed readSource
 answer text = readSource text 131136
 
 unfoldable pub programIn : String → Read

@@ -44,9 +44,7 @@ fn on_numbers() {
 fn on_quotes(number: u16) {
     match number {
         40 => on_closing(),
-        41 => say(
-            b"After * comes one of N S T B P C * ' \": *N is a newline, and ** is the * itself.\n",
-        ),
+        41 => on_escapes(),
         42 => on_quoted_bytes(),
         _ => say(
             b"A character stands alone, as 'A'; a string, as \"TEXT\", has 255 characters at most.\n",
@@ -61,11 +59,18 @@ fn on_closing() {
     say(b"characters, and the * itself is written **.\n");
 }
 
+fn on_escapes() {
+    say(
+        b"After * comes one of N S T B P C * ' \", or just three digits, 000 to 255: *N is a newline, *002 the\n",
+    );
+    say(b"byte 2, and ** the * itself.\n");
+}
+
 fn on_quoted_bytes() {
     say(
-        b"It may hold the characters from blank to ~ only. Write a tab as *T; leave accents and signs such as the\n",
+        b"Only the characters from blank to ~ stand for themselves. Write a tab as *T, and any other byte by its\n",
     );
-    say(b"degree sign to the comments.\n");
+    say(b"number, as *176: an asterisk and three digits.\n");
 }
 
 fn on_phrases(number: u16) {

@@ -10,7 +10,8 @@ use borrow.Author.Tests.{ne-eqb, eqb-true, leb-true, ltb-true, lt-ltb}
 use Rattle.text.specs.Line.{newlines}
 use Rattle.text.specs.Quoted as Q
 use Rattle.text.specs.Quoted.{Quoted, closed, unclosed, faulty, quoted}
-use Rattle.text.proofs.Quotes.{Written, is-written, ascii, Closed, is-closed, fault-within}
+use Rattle.text.proofs.Booleans.{both-true}
+use Rattle.text.proofs.Quotes.{Written, is-written, each-byte, digit-bounds, Closed, is-closed, fault-within}
 use Rattle.language.specs.Bytes.{between, classOf, LETTER, DIGIT, HASH, QUOTE, DOUBLE, SIGN, SEPARATOR, NEWLINE}
 use Rattle.language.specs.Kinds.{Spelled, reserved, signs}
 use Rattle.language.specs.Symbols.{Element, symbol, gap, wrong, begins, inWord, wordWidth, same, kindIn, kindOf, word, digitOf, digits, valueOf, decimal, octal, asCharacter, character, asString, string, signIn, sign, comment, signOrComment, byClass}
@@ -33,11 +34,26 @@ CharacterLine bs (Q.mistake number) = Unit {0}
 record OneLine (bs : List ℕ) (ch : Q.Character) : Type 0 where
   pub line : CharacterLine bs ch
 
+number-line : (bs : List ℕ) → OneLine (42 ∷ bs) (Q.byNumber bs)
+unfolding Q.byNumber Q.byDigits newlines
+number-line [] = record { line = tt }
+number-line (a ∷ []) = record { line = tt }
+number-line (a ∷ b ∷ []) = record { line = tt }
+number-line (a ∷ b ∷ c ∷ r) =
+    either (OneLine (42 ∷ a ∷ b ∷ c ∷ r)) (Q.digit a && (Q.digit b && (Q.digit c && leb (Q.numberOf a b c) 255)))
+    (λ e. let p = both-true (Q.digit a) _ e in
+    let q = both-true (Q.digit b) _ (p .1) in
+    record { line = rw (no-newline a (p .0), no-newline b (q .0), no-newline c (both-true (Q.digit c) _ (q .1) .0)) })
+    (λ _. record { line = tt })
+  where
+    no-newline : (d : ℕ) → Q.digit d ≡ true → eqb d 10 ≡ false
+    no-newline d e = ne-eqb d 10 (λ k. omega (arith, digit-bounds d e))
+
 escape-line : (bs : List ℕ) → OneLine (42 ∷ bs) (Q.escape bs)
 unfolding Q.escape newlines
 escape-line [] = record { line = tt }
 escape-line (c ∷ r) =
-    one 78 10 refl (one 83 32 refl (one 84 9 refl (one 66 8 refl (one 80 12 refl (one 67 13 refl (one 42 42 refl (one 39 39 refl (one 34 34 refl (record { line = tt })))))))))
+    one 78 10 refl (one 83 32 refl (one 84 9 refl (one 66 8 refl (one 80 12 refl (one 67 13 refl (one 42 42 refl (one 39 39 refl (one 34 34 refl (number-line (c ∷ r))))))))))
   where
     one : (k v : ℕ) {other : Q.Character} → eqb k 10 ≡ false → OneLine (42 ∷ c ∷ r) other → OneLine (42 ∷ c ∷ r) (cond (eqb c k) (Q.is v 2) other)
     one k v n p = either (OneLine (42 ∷ c ∷ r)) (eqb c k) (λ e. record { line = rw (eqb-true c k e, n) }) (λ e. p)
@@ -267,7 +283,7 @@ module _ (c : ℕ) (r : List ℕ) (lines : ℕ) where
         by (closed [] w) e k = omega arith
         by (closed (v ∷ vs) w) e k =
             let d : Closed 1 0 (length r) (v ∷ vs) w = is-closed 39 1 0 r e in
-            (past-stood c r n (d .within) k, omega arith, omega (arith, ascii (v ∷ vs) (d .each) 0))
+            (past-stood c r n (d .within) k, omega arith, omega (arith, each-byte (v ∷ vs) (d .each) 0))
         by unclosed e k = omega arith
         by (faulty number w) e k = omega (arith, fault-within 39 1 0 r e)
 

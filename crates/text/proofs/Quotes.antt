@@ -1,15 +1,15 @@
 -- Characters between quotes: one at a time, and what every reading of them satisfies.
 use Prim.Native.Nat.{ℕ, zero, suc, _+_, _-_, _<_, _≤_}
 use mathlib.Core.Path.{_≡_, refl, sym, ap, _∙_}
-use mathlib.Core.Bool.{Bool, true, false, cond}
+use mathlib.Core.Bool.{Bool, true, false, cond, _&&_}
 use mathlib.Core.List.{List, [], _∷_}
 use native.Mathlib.Omega.{arith}
 use lib.ListN.{length, getD, drop, length-drop}
 use lib.Dec.{eqb, leb}
 use borrow.Author.Tests.{eq-eqb, ne-eqb, le-leb, lt-leb, leb-true, leb-false}
-use Rattle.text.proofs.Bytes.{Unlike}
-use Rattle.text.specs.Values.{writable}
-use Rattle.text.specs.Quoted.{Character, is, closing, ended, mistake, escape, character}
+use Rattle.text.proofs.Booleans.{both-true}
+use Rattle.text.proofs.Bytes.{Unlike, at-byte}
+use Rattle.text.specs.Quoted.{Character, is, closing, ended, mistake, digit, numberOf, byDigits, byNumber, escape, character}
 use Rattle.text.specs.Quoted.{Quoted, closed, unclosed, faulty, wider, after, faultBefore, onCharacter, quoted}
 use Rattle.text.specs.Parts.{valueOf, isClosed, widened}
 
@@ -44,9 +44,9 @@ module _ (quote c : ℕ) (r : List ℕ) where
       unfolding character
       at-plain l h = rw (ne-eqb c quote other, ne-eqb c 42 no-escape, ne-eqb c 10 (λ n. omega arith), le-leb 32 c l, le-leb c 126 h)
 
-pub no-escape : (c : ℕ) (r : List ℕ) → Unlike c (34 ∷ 39 ∷ 42 ∷ 67 ∷ 80 ∷ 66 ∷ 84 ∷ 83 ∷ 78 ∷ []) → escape (c ∷ r) ≡ mistake 41
+pub no-letter : (c : ℕ) (r : List ℕ) → Unlike c (34 ∷ 39 ∷ 42 ∷ 67 ∷ 80 ∷ 66 ∷ 84 ∷ 83 ∷ 78 ∷ []) → escape (c ∷ r) ≡ byNumber (c ∷ r)
 unfolding escape
-no-escape c r h =
+no-letter c r h =
     rw (
       ne-eqb c 78 (h .0 .0 .0 .0 .0 .0 .0 .0 .1),
       ne-eqb c 83 (h .0 .0 .0 .0 .0 .0 .0 .1),
@@ -59,31 +59,76 @@ no-escape c r h =
       ne-eqb c 34 (h .1),
     )
 
+-- ---- a character by its number
+
+pub digit-bounds : (c : ℕ) → digit c ≡ true → (48 ≤ c) × (c ≤ 57)
+digit-bounds c = by (leb 48 c) refl
+  where
+    by : (t : Bool) → leb 48 c ≡ t → cond t (leb c 57) false ≡ true → (48 ≤ c) × (c ≤ 57)
+    by true l h = (leb-true 48 c l, leb-true c 57 h)
+    by false l h = let z : _≡_ {A = ℕ} 0 1 = cc in absurd (omega arith)
+
+module _ (a b c : ℕ) where
+  pub no-first : digit a ≡ false → byDigits a b c ≡ mistake 41
+  unfolding byDigits
+  no-first e = rw e
+
+  module _ (x : digit a ≡ true) where
+    pub no-second : digit b ≡ false → byDigits a b c ≡ mistake 41
+    unfolding byDigits
+    no-second e = rw (x, e)
+
+    module _ (y : digit b ≡ true) where
+      pub no-third : digit c ≡ false → byDigits a b c ≡ mistake 41
+      unfolding byDigits
+      no-third e = rw (x, y, e)
+
+      module _ (z : digit c ≡ true) where
+        pub too-large : {n : ℕ} → n ≡ numberOf a b c → 255 < n → byDigits a b c ≡ mistake 41
+        unfolding byDigits
+        too-large e h = rw (x, y, z, ← e, lt-leb _ 255 h)
+
+        pub a-byte : {n : ℕ} → n ≡ numberOf a b c → n ≤ 255 → byDigits a b c ≡ is n 4
+        unfolding byDigits
+        a-byte e h = rw (x, y, z, ← e, le-leb _ 255 h)
+
+-- the digits at a place, if there are three bytes
+module _ (text : List ℕ) (at : ℕ) where
+  pub three-bytes : at + 3 ≤ length text → byNumber (drop at text) ≡ byDigits (getD text at 0) (getD text (at + 1) 0) (getD text (at + 2) 0)
+  unfolding byNumber
+  three-bytes h =
+      let e : at + 1 + 1 ≡ at + 2 = omega arith in
+      at-byte byNumber text at (omega arith) refl ∙
+      at-byte (λ (l : List ℕ). byNumber (getD text at 0 ∷ l)) text (at + 1) (omega arith) refl ∙
+      at-byte (λ (l : List ℕ). byNumber (getD text at 0 ∷ getD text (at + 1) 0 ∷ l)) text (at + 1 + 1) (omega arith) (rw e)
+
+  pub few-bytes : length text < at + 3 → byNumber (drop at text) ≡ mistake 41
+  unfolding byNumber
+  few-bytes h = by (drop at text) (length-drop at text)
+    where
+      by : (l : List ℕ) → length l ≡ length text - at → byNumber l ≡ mistake 41
+      by [] e = refl
+      by (a ∷ []) e = refl
+      by (a ∷ b ∷ []) e = refl
+      by (a ∷ b ∷ c ∷ r) e = absurd (omega arith)
+
 -- ---- a character's value and width
 
 -- a character written by `width` of some n bytes
 pub record Written (n value width : ℕ) : Type 0 where
   pub some : 1 ≤ width
   pub within : width ≤ n
-  pub one : writable value ≡ true
+  pub one : value ≤ 255
 
--- each of some characters can be written
+-- each of some characters can be written: it is a byte
 abbrev pub Writable : List ℕ → Type 0
 Writable [] = Unit {0}
-Writable (c ∷ cs) = (writable c ≡ true) × Writable cs
+Writable (c ∷ cs) = (c ≤ 255) × Writable cs
 
-writable-ascii : (c : ℕ) → writable c ≡ true → c ≤ 126
-unfolding writable
-writable-ascii c = by (leb 32 c) refl
-  where
-    by : (t : Bool) → leb 32 c ≡ t → cond t (leb c 126) (cond (eqb c 8) true (cond (eqb c 9) true (cond (eqb c 10) true (cond (eqb c 12) true (eqb c 13))))) ≡ true → c ≤ 126
-    by true l h = leb-true c 126 h
-    by false l h = omega (arith, leb-false 32 c l)
-
-pub ascii : (characters : List ℕ) → Writable characters → (k : ℕ) → getD characters k 0 ≤ 126
-ascii [] w k = omega arith
-ascii (c ∷ cs) w zero = writable-ascii c (w .0)
-ascii (c ∷ cs) w (suc k) = ascii cs (w .1) k
+pub each-byte : (characters : List ℕ) → Writable characters → (k : ℕ) → getD characters k 0 ≤ 255
+each-byte [] w k = omega arith
+each-byte (c ∷ cs) w zero = w .0
+each-byte (c ∷ cs) w (suc k) = each-byte cs (w .1) k
 
 abbrev pub IfIs : ℕ → Character → Type 0
 IfIs n (is v w) = Written n v w
@@ -99,24 +144,40 @@ either : {n : ℕ} {a b : Character} (t : Bool) → (t ≡ true → Fits n a) �
 either true p q = p refl
 either false p q = q
 
+number-written : (bytes : List ℕ) → Fits (suc (length bytes)) (byNumber bytes)
+unfolding byNumber byDigits
+number-written [] = record { fits = tt }
+number-written (a ∷ []) = record { fits = tt }
+number-written (a ∷ b ∷ []) = record { fits = tt }
+number-written (a ∷ b ∷ c ∷ r) =
+    either (digit a && (digit b && (digit c && leb (numberOf a b c) 255)))
+    (λ e. record { fits = record { some = omega arith; within = omega arith; one = small e } })
+    (record { fits = tt })
+  where
+    small : (digit a && (digit b && (digit c && leb (numberOf a b c) 255))) ≡ true → numberOf a b c ≤ 255
+    small e = leb-true (numberOf a b c) 255 (both-true (digit c) _ (both-true (digit b) _ (both-true (digit a) _ e .1) .1) .1)
+
 escape-written : (bytes : List ℕ) → Fits (suc (length bytes)) (escape bytes)
-unfolding escape writable
+unfolding escape
 escape-written [] = record { fits = tt }
 escape-written (c ∷ r) =
-    one 78 10 refl (one 83 32 refl (one 84 9 refl (one 66 8 refl (one 80 12 refl (one 67 13 refl (one 42 42 refl (one 39 39 refl (one 34 34 refl (record { fits = tt })))))))))
+    each 78 10 (omega arith) (each 83 32 (omega arith) (each 84 9 (omega arith) (each 66 8 (omega arith) (each 80 12 (omega arith)
+    (each 67 13 (omega arith) (each 42 42 (omega arith) (each 39 39 (omega arith) (each 34 34 (omega arith) (number-written (c ∷ r))))))))))
   where
-    one : (k v : ℕ) {other : Character} → writable v ≡ true → Fits (suc (suc (length r))) other → Fits (suc (suc (length r))) (cond (eqb c k) (is v 2) other)
-    one k v w p = either (eqb c k) (λ _. record { fits = record { some = omega arith; within = omega arith; one = w } }) p
+    each : (k v : ℕ) {other : Character} → v ≤ 255 → Fits (suc (suc (length r))) other → Fits (suc (suc (length r))) (cond (eqb c k) (is v 2) other)
+    each k v w p = either (eqb c k) (λ _. record { fits = record { some = omega arith; within = omega arith; one = w } }) p
 
 character-written : (quote : ℕ) (bytes : List ℕ) → Fits (length bytes) (character quote bytes)
-unfolding character writable
+unfolding character
 character-written quote [] = record { fits = tt }
 character-written quote (c ∷ r) =
     either (eqb c quote) (λ _. record { fits = tt })
     (either (eqb c 42) (λ _. escape-written r)
     (either (eqb c 10) (λ _. record { fits = tt })
     (either (leb 32 c)
-    (λ l. either (leb c 126) (λ h. record { fits = record { some = omega arith; within = omega arith; one = rw (l, h) } }) (record { fits = tt }))
+    (λ _. either (leb c 126)
+    (λ h. record { fits = record { some = omega arith; within = omega arith; one = omega (arith, leb-true c 126 h) } })
+    (record { fits = tt }))
     (record { fits = tt }))))
 
 pub is-written : (quote : ℕ) (bytes : List ℕ) {v w : ℕ} → character quote bytes ≡ is v w → Written (length bytes) v w
@@ -267,7 +328,7 @@ wider-closed room k n (closed cs w) h = record { enough = omega arith; within = 
 wider-closed room k n unclosed h = tt
 wider-closed room k n (faulty number w) h = omega arith
 
-after-closed : (v room k n : ℕ) (q : Quoted) → writable v ≡ true → IfClosed room k n q → IfClosed (suc room) 0 (suc n) (after v q)
+after-closed : (v room k n : ℕ) (q : Quoted) → v ≤ 255 → IfClosed room k n q → IfClosed (suc room) 0 (suc n) (after v q)
 after-closed v room k n (closed cs w) one h = record { enough = omega arith; within = omega arith; short = omega arith; each = (one, h .each) }
 after-closed v room k n unclosed one h = tt
 after-closed v room k n (faulty number w) one h = omega arith

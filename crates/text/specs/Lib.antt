@@ -3,5 +3,4 @@ pub mod Line
 pub mod Quoted
 pub mod Parts
 pub mod Answers
-pub mod Values
 pub mod Packed

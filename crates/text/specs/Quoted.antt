@@ -1,7 +1,7 @@
--- Constants between quotes, in source and in assembly alike (document 01: "Escapes in both", "Neither may hold a byte outside 32 to 126"), and what
--- is wrong with one, and where (document 02, Req 02).
-use Prim.Native.Nat.{ℕ, zero, suc, _-_}
-use mathlib.Core.Bool.{Bool, true, false, cond}
+-- Constants between quotes, in source and in assembly alike (document 01: "Escapes in both", "Neither may hold a byte outside 32 to 126"; document
+-- 02, Req 04: characters by number), and what is wrong with one, and where (document 02, Req 02).
+use Prim.Native.Nat.{ℕ, zero, suc, _+_, _-_, _*_}
+use mathlib.Core.Bool.{Bool, true, false, cond, _&&_}
 use mathlib.Core.List.{List, [], _∷_}
 use lib.Dec.{eqb, leb}
 
@@ -26,7 +26,23 @@ pub data Character : Type 0 where
   ended : Character
   mistake : (number : ℕ) → Character
 
--- *N 10, *S 32, *T 9, *B 8, *P 12, *C 13; ** *' *" themselves
+-- an asterisk and exactly three decimal digits, 000 to 255, stand for that byte
+abbrev pub digit : ℕ → Bool
+digit c = cond (leb 48 c) (leb c 57) false
+
+abbrev pub numberOf : (a b c : ℕ) → ℕ
+numberOf a b c = (a - 48) * 100 + (b - 48) * 10 + (c - 48)
+
+unfoldable pub byDigits : (a b c : ℕ) → Character
+byDigits a b c = cond (digit a && (digit b && (digit c && leb (numberOf a b c) 255))) (is (numberOf a b c) 4) (mistake ESCAPE)
+
+unfoldable pub byNumber : List ℕ → Character
+byNumber [] = mistake ESCAPE
+byNumber (a ∷ []) = mistake ESCAPE
+byNumber (a ∷ b ∷ []) = mistake ESCAPE
+byNumber (a ∷ b ∷ c ∷ r) = byDigits a b c
+
+-- *N 10, *S 32, *T 9, *B 8, *P 12, *C 13; ** *' *" themselves; or by number. From past the asterisk on
 unfoldable pub escape : List ℕ → Character
 escape [] = mistake ESCAPE
 escape (c ∷ r) =
@@ -38,7 +54,7 @@ escape (c ∷ r) =
     (cond (eqb c 67) (is 13 2)
     (cond (eqb c 42) (is 42 2)
     (cond (eqb c 39) (is 39 2)
-    (cond (eqb c 34) (is 34 2) (mistake ESCAPE)))))))))
+    (cond (eqb c 34) (is 34 2) (byNumber (c ∷ r))))))))))
 
 -- a byte from 32 to 126, other than the quote and the asterisk, stands for itself
 unfoldable pub character : ℕ → List ℕ → Character

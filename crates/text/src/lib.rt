@@ -2,7 +2,7 @@
 ghost use mathlib.Core.Path.{_≡_};
 ghost use lib.ListN.{drop};
 ghost use Rattle.text.specs.Line.{lineOf, refusal};
-ghost use Rattle.text.specs.Quoted.{character, escape, faultBefore, quoted};
+ghost use Rattle.text.specs.Quoted.{digit, byDigits, byNumber, escape, character, faultBefore, quoted};
 ghost use Rattle.text.specs.Parts.{valueOf, isClosed, widened};
 ghost use Rattle.text.specs.Answers.{asCharacter, asQuoted};
 
@@ -65,6 +65,44 @@ pub fn refuse(text: &[u8], number: u16, place: usize) -> Refusal
     }
 }
 
+fn is_digit(c: u8) -> bool
+    ensures { λ r. ⌜ r ≡ digit c ⌝ }
+{
+    if c < b'0' { false } else { c <= b'9' }
+}
+
+// Three digits for a byte.
+fn by_digits(a: u8, b: u8, c: u8) -> Character
+    ensures { λ r. ⌜ r ≡ asCharacter (byDigits a b c) ⌝ }
+{
+    if !is_digit(a) {
+        return Character::Mistake(ESCAPE);
+    }
+    if !is_digit(b) {
+        return Character::Mistake(ESCAPE);
+    }
+    if !is_digit(c) {
+        return Character::Mistake(ESCAPE);
+    }
+    let number = (a - b'0') as u16 * 100 + (b - b'0') as u16 * 10 + (c - b'0') as u16;
+    if number > 255 {
+        return Character::Mistake(ESCAPE);
+    }
+    Character::Is(number as u8, 4)
+}
+
+fn by_number(text: &[u8], at: usize) -> Character
+    ensures { λ r. ⌜ r ≡ asCharacter (byNumber (drop at (now (text .entry)))) ⌝ }
+{
+    if text.len() < 3 {
+        return Character::Mistake(ESCAPE);
+    }
+    if at > text.len() - 3 {
+        return Character::Mistake(ESCAPE);
+    }
+    by_digits(text[at], text[at + 1], text[at + 2])
+}
+
 // What stands after an asterisk.
 fn escape(text: &[u8], at: usize) -> Character
     ensures { λ r. ⌜ r ≡ asCharacter (escape (drop at (now (text .entry)))) ⌝ }
@@ -83,7 +121,7 @@ fn escape(text: &[u8], at: usize) -> Character
         b'*' => Character::Is(42, 2),
         b'\'' => Character::Is(39, 2),
         b'"' => Character::Is(34, 2),
-        _ => Character::Mistake(ESCAPE),
+        _ => by_number(text, at),
     }
 }
 

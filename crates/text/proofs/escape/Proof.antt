@@ -1,6 +1,6 @@
-use Rattle.text.proofs.Quotes.{no-escape}
+use Rattle.text.proofs.Quotes.{no-letter}
 use mathlib.Core.Path.{refl, ap, _∙_, sym}
-use Rattle.text.specs.Quoted.{escape}
+use Rattle.text.specs.Quoted.{byNumber, escape}
 use Rattle.text.specs.Answers.{asCharacter}
 use mathlib.Core.List.{List}
 use Prim.Native.Nat.{ℕ}
@@ -50,12 +50,17 @@ unfolding escape asCharacter
 returns-10 c = sym (at-byte (λ (l : List ℕ). asCharacter (escape l)) _ _ (c .before .before .if1 .left) (c .match .keys9))
 
 returns-11 : tie.Need-returns-11
-unfolding asCharacter
 returns-11 c =
-    sym (at-byte (λ (l : List ℕ). asCharacter (escape l)) _ _ (c .before .before .if1 .left) refl ∙ ap asCharacter (no-escape _ _ (c .match .rest)))
+    let by-number = c .by-number in
+    let if1 = c .before .before .before .if1 in
+    let match = c .before .match in
+    by-number .ensures ∙
+    sym
+    (at-byte (λ (l : List ℕ). asCharacter (escape l)) _ _ (if1 .left) refl ∙
+    ap asCharacter (no-letter _ _ (match .rest) ∙ sym (at-byte byNumber _ _ (if1 .left) refl)))
 
 pub escape-spec : {M : Type 1} → statement M
 escape-spec =
     tie.close
-    (tie.spec returns (search needs) returns-2 returns-3 returns-4 returns-5 returns-6 returns-7 returns-8 returns-9
+    (tie.spec returns (search needs) (search needs) returns-2 returns-3 returns-4 returns-5 returns-6 returns-7 returns-8 returns-9
     returns-10 returns-11)

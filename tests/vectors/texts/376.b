@@ -1,0 +1,1 @@
+GLOBAL $( START:1; G:2; RDCH:13; WRCH:14 $) MANIFEST $( M=5 $) LET F(X) = X AND R(X) BE $( $) LET START() BE G := "A*12"
