@@ -12,6 +12,8 @@ mod deep;
 #[allow(dead_code)]
 mod grammar;
 #[allow(dead_code)]
+mod machine;
+#[allow(dead_code)]
 mod proved;
 #[allow(dead_code)]
 mod rules;
