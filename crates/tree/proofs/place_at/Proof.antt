@@ -4,8 +4,6 @@ use Rattle.tree.proofs.Decoded.{lies, place-past}
 use borrow.Author.Needs.{needs}
 use Rattle.tree.proofs.place_at.Statement.{statement}
 use Rattle.tree.proofs.place_at.Tie as tie
-use Rattle.tree.proofs.place_at.Reads as reads
-use Rattle.tree.proofs.place_at.Lts as lts
 
 mul-result : tie.Need-mul-result
 mul-result c = search needs

@@ -4,12 +4,6 @@ use Rattle.tree.proofs.Decoded.{lies, starts, tree-short, tree-read, tr
 use borrow.Author.Needs.{needs}
 use Rattle.tree.proofs.read_tree.Statement.{statement}
 use Rattle.tree.proofs.read_tree.Tie as tie
-use Rattle.tree.proofs.read_tree.Reads as reads
-use Rattle.tree.proofs.read_tree.Lts as lts
-use Rattle.tree.proofs.clear_from.Reads as clear-from-reads
-use Rattle.tree.proofs.declarations.program.Reads as program-reads
-use Rattle.tree.proofs.place_at.Reads as place-at-reads
-use Rattle.tree.proofs.too_short.Reads as too-short-reads
 
 too-short-requires : tie.Need-too-short-requires
 too-short-requires c κs = search needs

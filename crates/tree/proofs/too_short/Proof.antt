@@ -2,8 +2,6 @@ use native.Mathlib.Omega.{arith}
 use Rattle.tree.proofs.Decoded.{too-short-long, too-short-few, too-short-rest}
 use Rattle.tree.proofs.too_short.Statement.{statement}
 use Rattle.tree.proofs.too_short.Tie as tie
-use Rattle.tree.proofs.too_short.Reads as reads
-use Rattle.tree.proofs.too_short.Lts as lts
 
 returns : tie.Need-returns
 returns c = too-short-long _ _ (c .if1 .taken)

@@ -3,9 +3,6 @@ use Rattle.tree.specs.Between.{furtherMost}
 use borrow.Author.Needs.{needs}
 use Rattle.tree.proofs.binding.further_most.Statement.{statement}
 use Rattle.tree.proofs.binding.further_most.Tie as tie
-use Rattle.tree.proofs.binding.further_most.Reads as reads
-use Rattle.tree.proofs.binding.further_most.Lts as lts
-use Rattle.tree.proofs.scratch.minus.Reads as minus-reads
 
 minus-requires : tie.Need-minus-requires
 minus-requires c κs = search needs

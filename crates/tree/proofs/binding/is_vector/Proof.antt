@@ -2,8 +2,6 @@ use borrow.Author.Tests.{eq-eqb, ne-eqb}
 use mathlib.Core.Path.{refl}
 use Rattle.tree.proofs.binding.is_vector.Statement.{statement}
 use Rattle.tree.proofs.binding.is_vector.Tie as tie
-use Rattle.tree.proofs.binding.is_vector.Reads as reads
-use Rattle.tree.proofs.binding.is_vector.Lts as lts
 
 returns : tie.Need-returns
 returns c = rw (eq-eqb _ _ (c .if1 .taken)) refl

@@ -1,4 +1,3 @@
-use mathlib.Core.Path.{refl, sym}
 use borrow.Author.Needs.{needs}
 use Rattle.tree.proofs.Classes.{letter-in, letter-past}
 use Rattle.tree.proofs.binding.letter_of.Statement.{statement}

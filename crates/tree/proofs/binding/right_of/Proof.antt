@@ -5,8 +5,6 @@ use Rattle.tree.specs.Between.{rightOf}
 use borrow.Author.Needs.{needs}
 use Rattle.tree.proofs.binding.right_of.Statement.{statement}
 use Rattle.tree.proofs.binding.right_of.Tie as tie
-use Rattle.tree.proofs.binding.right_of.Reads as reads
-use Rattle.tree.proofs.binding.right_of.Lts as lts
 
 sub-result : tie.Need-sub-result
 sub-result c = search needs

@@ -5,10 +5,6 @@ use Rattle.tree.proofs.Programs.{declaration-globals, declaration-manif
 use borrow.Author.Needs.{needs}
 use Rattle.tree.proofs.declarations.declaration.Statement.{statement}
 use Rattle.tree.proofs.declarations.declaration.Tie as tie
-use Rattle.tree.proofs.declarations.declaration.Reads as reads
-use Rattle.tree.proofs.declarations.declaration.Lts as lts
-use Rattle.tree.proofs.declarations.functions.Reads as functions-reads
-use Rattle.tree.proofs.declarations.item_list.Reads as item-list-reads
 
 item-list-requires : tie.Need-item-list-requires
 item-list-requires c κs = search needs

@@ -16,11 +16,6 @@ use Rattle.tree.proofs.Lists.{begins, more, ends, turned, last, spent}
 use Rattle.tree.proofs.Programs.{declaration-positive, no-program-words}
 use Rattle.tree.proofs.declarations.declarations.Statement.{statement}
 use Rattle.tree.proofs.declarations.declarations.Tie as tie
-use Rattle.tree.proofs.declarations.declarations.Reads as reads
-use Rattle.tree.proofs.declarations.declarations.Lts as lts
-use Rattle.tree.proofs.declarations.declared.Reads as declared-reads
-use Rattle.tree.proofs.binding.is_declaration.Reads as is-declaration-reads
-use Rattle.tree.proofs.scratch.kind_here.Reads as kind-here-reads
 
 abbrev Inv-loop : tie.InvT-loop
 Inv-loop s₀ n turns₀ a₀ s turns a = LeavesRoom 0 s₀ s n a₀ a × (length s ≡ length s₀) × ((src : Source) → HoldsSymbols src n s₀ → Partly (manyUpTo turns₀ [] isDeclaration G.declared src) (manyUpTo turns [] isDeclaration G.declared src) encodeProgram s₀ s a₀ a)

@@ -6,14 +6,6 @@ use Rattle.tree.proofs.Programs.{declared-read}
 use borrow.Author.Needs.{needs}
 use Rattle.tree.proofs.declarations.declared.Statement.{statement}
 use Rattle.tree.proofs.declarations.declared.Tie as tie
-use Rattle.tree.proofs.declarations.declared.Reads as reads
-use Rattle.tree.proofs.declarations.declared.Lts as lts
-use Rattle.tree.proofs.declarations.declaration.Reads as declaration-reads
-use Rattle.tree.proofs.scratch.expect.Reads as expect-reads
-use Rattle.tree.proofs.scratch.free_of.Reads as free-of-reads
-use Rattle.tree.proofs.scratch.begin_item.Reads as begin-item-reads
-use Rattle.tree.proofs.scratch.optional.Reads as optional-reads
-use Rattle.tree.proofs.scratch.set_size.Reads as set-size-reads
 
 free-of-requires : tie.Need-free-of-requires
 free-of-requires c κs = search needs

@@ -8,16 +8,6 @@ use Rattle.tree.proofs.Programs.{function-here}
 use borrow.Author.Needs.{needs}
 use Rattle.tree.proofs.declarations.function.Statement.{statement}
 use Rattle.tree.proofs.declarations.function.Tie as tie
-use Rattle.tree.proofs.declarations.function.Reads as reads
-use Rattle.tree.proofs.declarations.function.Lts as lts
-use Rattle.tree.proofs.parts.a_name.Reads as a-name-reads
-use Rattle.tree.proofs.scratch.expect.Reads as expect-reads
-use Rattle.tree.proofs.scratch.free_of.Reads as free-of-reads
-use Rattle.tree.proofs.declarations.function_body.Reads as function-body-reads
-use Rattle.tree.proofs.scratch.minus.Reads as minus-reads
-use Rattle.tree.proofs.scratch.begin_item.Reads as begin-item-reads
-use Rattle.tree.proofs.declarations.parameters.Reads as parameters-reads
-use Rattle.tree.proofs.scratch.set_size.Reads as set-size-reads
 
 free-of-requires : tie.Need-free-of-requires
 free-of-requires c κs = search needs

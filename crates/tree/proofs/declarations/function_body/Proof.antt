@@ -6,13 +6,6 @@ use Rattle.tree.proofs.Programs.{body-value, body-routine}
 use borrow.Author.Needs.{needs}
 use Rattle.tree.proofs.declarations.function_body.Statement.{statement}
 use Rattle.tree.proofs.declarations.function_body.Tie as tie
-use Rattle.tree.proofs.declarations.function_body.Reads as reads
-use Rattle.tree.proofs.declarations.function_body.Lts as lts
-use Rattle.tree.proofs.phrases.cmd.Reads as cmd-reads
-use Rattle.tree.proofs.scratch.expect.Reads as expect-reads
-use Rattle.tree.proofs.phrases.expr.Reads as expr-reads
-use Rattle.tree.proofs.scratch.kind_here.Reads as kind-here-reads
-use Rattle.tree.proofs.scratch.node.Reads as node-reads
 
 kind-here-requires : tie.Need-kind-here-requires
 kind-here-requires c κs = search needs

@@ -5,10 +5,6 @@ use Rattle.tree.proofs.Programs.{functions-read}
 use borrow.Author.Needs.{needs}
 use Rattle.tree.proofs.declarations.functions.Statement.{statement}
 use Rattle.tree.proofs.declarations.functions.Tie as tie
-use Rattle.tree.proofs.declarations.functions.Reads as reads
-use Rattle.tree.proofs.declarations.functions.Lts as lts
-use Rattle.tree.proofs.declarations.function.Reads as function-reads
-use Rattle.tree.proofs.declarations.further_functions.Reads as further-functions-reads
 
 function-requires : tie.Need-function-requires
 function-requires c κs = search needs

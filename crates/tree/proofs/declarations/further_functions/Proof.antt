@@ -18,11 +18,6 @@ use Rattle.tree.proofs.Lists.{begins, more, ends, turned, last, spent}
 use Rattle.tree.proofs.Programs.{and-function-read, no-function-words}
 use Rattle.tree.proofs.declarations.further_functions.Statement.{statement}
 use Rattle.tree.proofs.declarations.further_functions.Tie as tie
-use Rattle.tree.proofs.declarations.further_functions.Reads as reads
-use Rattle.tree.proofs.declarations.further_functions.Lts as lts
-use Rattle.tree.proofs.scratch.expect.Reads as expect-reads
-use Rattle.tree.proofs.declarations.function.Reads as function-reads
-use Rattle.tree.proofs.scratch.kind_here.Reads as kind-here-reads
 
 abbrev Inv-loop : tie.InvT-loop
 Inv-loop s₀ n turns₀ a₀ s turns a = LeavesRoom 0 s₀ s n a₀ a × (length s ≡ length s₀) × ((src : Source) → HoldsSymbols src n s₀ → Partly (manyUpTo turns₀ [] (λ kind. eqb kind K.AND) G.andFunction src) (manyUpTo turns [] (λ kind. eqb kind K.AND) G.andFunction src) encodeFunctions s₀ s a₀ a)

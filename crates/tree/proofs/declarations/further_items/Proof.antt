@@ -16,12 +16,6 @@ use Rattle.tree.proofs.ListEnd.{list-end, list-semicolon-end, list-more
 use Rattle.tree.proofs.Programs.{no-item-words}
 use Rattle.tree.proofs.declarations.further_items.Statement.{statement}
 use Rattle.tree.proofs.declarations.further_items.Tie as tie
-use Rattle.tree.proofs.declarations.further_items.Reads as reads
-use Rattle.tree.proofs.declarations.further_items.Lts as lts
-use Rattle.tree.proofs.scratch.expect.Reads as expect-reads
-use Rattle.tree.proofs.scratch.kind_here.Reads as kind-here-reads
-use Rattle.tree.proofs.declarations.one_item.Reads as one-item-reads
-use Rattle.tree.proofs.scratch.refuse.Reads as refuse-reads
 
 abbrev Inv-loop : tie.InvT-loop
 Inv-loop s₀ n sign turns₀ a₀ s turns a = LeavesRoom 0 s₀ s n a₀ a × (length s ≡ length s₀) × ((src : Source) → HoldsSymbols src n s₀ → Partly (moreUpTo turns₀ [] (G.item sign) src) (moreUpTo turns [] (G.item sign) src) encodeItems s₀ s a₀ a)

@@ -6,11 +6,6 @@ use Rattle.tree.proofs.Programs.{item-list-read}
 use borrow.Author.Needs.{needs}
 use Rattle.tree.proofs.declarations.item_list.Statement.{statement}
 use Rattle.tree.proofs.declarations.item_list.Tie as tie
-use Rattle.tree.proofs.declarations.item_list.Reads as reads
-use Rattle.tree.proofs.declarations.item_list.Lts as lts
-use Rattle.tree.proofs.scratch.expect.Reads as expect-reads
-use Rattle.tree.proofs.declarations.further_items.Reads as further-items-reads
-use Rattle.tree.proofs.declarations.one_item.Reads as one-item-reads
 
 expect-requires : tie.Need-expect-requires
 expect-requires c κs = search needs

@@ -6,14 +6,6 @@ use Rattle.tree.proofs.Programs.{item-here}
 use borrow.Author.Needs.{needs}
 use Rattle.tree.proofs.declarations.one_item.Statement.{statement}
 use Rattle.tree.proofs.declarations.one_item.Tie as tie
-use Rattle.tree.proofs.declarations.one_item.Reads as reads
-use Rattle.tree.proofs.declarations.one_item.Lts as lts
-use Rattle.tree.proofs.parts.a_name.Reads as a-name-reads
-use Rattle.tree.proofs.parts.constant.Reads as constant-reads
-use Rattle.tree.proofs.scratch.expect.Reads as expect-reads
-use Rattle.tree.proofs.scratch.free_of.Reads as free-of-reads
-use Rattle.tree.proofs.scratch.begin_item.Reads as begin-item-reads
-use Rattle.tree.proofs.scratch.set_size.Reads as set-size-reads
 
 free-of-requires : tie.Need-free-of-requires
 free-of-requires c κs = search needs

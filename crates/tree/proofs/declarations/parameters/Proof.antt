@@ -5,12 +5,6 @@ use Rattle.tree.proofs.Programs.{no-parameters, some-parameters}
 use borrow.Author.Needs.{needs}
 use Rattle.tree.proofs.declarations.parameters.Statement.{statement}
 use Rattle.tree.proofs.declarations.parameters.Tie as tie
-use Rattle.tree.proofs.declarations.parameters.Reads as reads
-use Rattle.tree.proofs.declarations.parameters.Lts as lts
-use Rattle.tree.proofs.parts.a_name.Reads as a-name-reads
-use Rattle.tree.proofs.scratch.expect.Reads as expect-reads
-use Rattle.tree.proofs.parts.further_names.Reads as further-names-reads
-use Rattle.tree.proofs.scratch.kind_here.Reads as kind-here-reads
 
 kind-here-requires : tie.Need-kind-here-requires
 kind-here-requires c κs = search needs

@@ -5,11 +5,6 @@ use Rattle.tree.proofs.Programs.{program-read, program-refused}
 use borrow.Author.Needs.{needs}
 use Rattle.tree.proofs.declarations.program.Statement.{statement}
 use Rattle.tree.proofs.declarations.program.Tie as tie
-use Rattle.tree.proofs.declarations.program.Reads as reads
-use Rattle.tree.proofs.declarations.program.Lts as lts
-use Rattle.tree.proofs.declarations.declarations.Reads as declarations-reads
-use Rattle.tree.proofs.scratch.kind_here.Reads as kind-here-reads
-use Rattle.tree.proofs.scratch.refuse.Reads as refuse-reads
 
 declarations-requires : tie.Need-declarations-requires
 declarations-requires c κs = search needs

@@ -2,10 +2,6 @@ use Rattle.tree.proofs.Names.{a-name-read}
 use borrow.Author.Needs.{needs}
 use Rattle.tree.proofs.parts.a_name.Statement.{statement}
 use Rattle.tree.proofs.parts.a_name.Tie as tie
-use Rattle.tree.proofs.parts.a_name.Reads as reads
-use Rattle.tree.proofs.parts.a_name.Lts as lts
-use Rattle.tree.proofs.parts.leaf.Reads as leaf-reads
-use Rattle.tree.proofs.scratch.value_here.Reads as value-here-reads
 
 value-here-requires : tie.Need-value-here-requires
 value-here-requires c κs = search needs

@@ -5,11 +5,6 @@ use Rattle.tree.proofs.Leaves.{number-read, string-read, name-read, tru
 use borrow.Author.Needs.{needs}
 use Rattle.tree.proofs.parts.atom.Statement.{statement}
 use Rattle.tree.proofs.parts.atom.Tie as tie
-use Rattle.tree.proofs.parts.atom.Reads as reads
-use Rattle.tree.proofs.parts.atom.Lts as lts
-use Rattle.tree.proofs.parts.leaf.Reads as leaf-reads
-use Rattle.tree.proofs.scratch.refuse.Reads as refuse-reads
-use Rattle.tree.proofs.scratch.value_here.Reads as value-here-reads
 
 value-here-requires : tie.Need-value-here-requires
 value-here-requires c κs = search needs

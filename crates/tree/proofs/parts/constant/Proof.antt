@@ -2,11 +2,6 @@ use Rattle.tree.proofs.Constants.{constant-negative, constant-positive}
 use borrow.Author.Needs.{needs}
 use Rattle.tree.proofs.parts.constant.Statement.{statement}
 use Rattle.tree.proofs.parts.constant.Tie as tie
-use Rattle.tree.proofs.parts.constant.Reads as reads
-use Rattle.tree.proofs.parts.constant.Lts as lts
-use Rattle.tree.proofs.scratch.kind_here.Reads as kind-here-reads
-use Rattle.tree.proofs.parts.negative.Reads as negative-reads
-use Rattle.tree.proofs.parts.positive.Reads as positive-reads
 
 kind-here-requires : tie.Need-kind-here-requires
 kind-here-requires c κs = search needs

@@ -8,14 +8,6 @@ use Rattle.tree.proofs.Cases.{default-read, label-default}
 use borrow.Author.Needs.{needs}
 use Rattle.tree.proofs.parts.default_label.Statement.{statement}
 use Rattle.tree.proofs.parts.default_label.Tie as tie
-use Rattle.tree.proofs.parts.default_label.Reads as reads
-use Rattle.tree.proofs.parts.default_label.Lts as lts
-use Rattle.tree.proofs.scratch.expect.Reads as expect-reads
-use Rattle.tree.proofs.scratch.free_of.Reads as free-of-reads
-use Rattle.tree.proofs.scratch.begin_item.Reads as begin-item-reads
-use Rattle.tree.proofs.scratch.node.Reads as node-reads
-use Rattle.tree.proofs.scratch.place_here.Reads as place-here-reads
-use Rattle.tree.proofs.scratch.set_size.Reads as set-size-reads
 
 free-of-requires : tie.Need-free-of-requires
 free-of-requires c κs = search needs

@@ -16,11 +16,6 @@ use Rattle.tree.proofs.Lists.{begins, more, ends, turned, last, spent}
 use Rattle.tree.proofs.Names.{further-name-read, no-name-words}
 use Rattle.tree.proofs.parts.further_names.Statement.{statement}
 use Rattle.tree.proofs.parts.further_names.Tie as tie
-use Rattle.tree.proofs.parts.further_names.Reads as reads
-use Rattle.tree.proofs.parts.further_names.Lts as lts
-use Rattle.tree.proofs.parts.a_name.Reads as a-name-reads
-use Rattle.tree.proofs.scratch.expect.Reads as expect-reads
-use Rattle.tree.proofs.scratch.kind_here.Reads as kind-here-reads
 
 abbrev Inv-loop : tie.InvT-loop
 Inv-loop s₀ n turns₀ a₀ s turns a = LeavesRoom 0 s₀ s n a₀ a × (length s ≡ length s₀) × ((src : Source) → HoldsSymbols src n s₀ → Partly (manyUpTo turns₀ [] isComma aFurtherName src) (manyUpTo turns [] isComma aFurtherName src) encodeNames s₀ s a₀ a)

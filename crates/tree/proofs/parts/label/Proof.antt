@@ -4,10 +4,6 @@ use Rattle.tree.specs.Reads.{KindHere}
 use borrow.Author.Needs.{needs}
 use Rattle.tree.proofs.parts.label.Statement.{statement}
 use Rattle.tree.proofs.parts.label.Tie as tie
-use Rattle.tree.proofs.parts.label.Reads as reads
-use Rattle.tree.proofs.parts.label.Lts as lts
-use Rattle.tree.proofs.parts.case_label.Reads as case-label-reads
-use Rattle.tree.proofs.parts.default_label.Reads as default-label-reads
 
 case-label-requires : tie.Need-case-label-requires
 case-label-requires c κs = search needs

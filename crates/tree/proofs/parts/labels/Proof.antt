@@ -17,12 +17,6 @@ use Rattle.tree.proofs.Lists.{begins, more, ends, turned, last, spent}
 use Rattle.tree.proofs.Cases.{no-label-words}
 use Rattle.tree.proofs.parts.labels.Statement.{statement}
 use Rattle.tree.proofs.parts.labels.Tie as tie
-use Rattle.tree.proofs.parts.labels.Reads as reads
-use Rattle.tree.proofs.parts.labels.Lts as lts
-use Rattle.tree.proofs.binding.is_label.Reads as is-label-reads
-use Rattle.tree.proofs.scratch.kind_here.Reads as kind-here-reads
-use Rattle.tree.proofs.parts.label.Reads as label-reads
-use Rattle.tree.proofs.scratch.minus.Reads as minus-reads
 
 abbrev Inv-loop : tie.InvT-loop
 Inv-loop s₀ n levels turns₀ a₀ s turns a = LeavesRoom 0 s₀ s n a₀ a × (length s ≡ length s₀) × ((src : Source) → HoldsSymbols src n s₀ → Partly (manyUpTo turns₀ [] isLabel (C.label (within levels)) src) (manyUpTo turns [] isLabel (C.label (within levels)) src) encodeLabels s₀ s a₀ a)

@@ -1,16 +1,9 @@
 use Rattle.tree.proofs.Helpers.{then-grows}
 use native.Mathlib.Omega.{arith}
-use mathlib.Core.Path.{refl}
 use Rattle.tree.proofs.Leaves.{leaf-read}
 use borrow.Author.Needs.{needs}
 use Rattle.tree.proofs.parts.leaf.Statement.{statement}
 use Rattle.tree.proofs.parts.leaf.Tie as tie
-use Rattle.tree.proofs.parts.leaf.Reads as reads
-use Rattle.tree.proofs.parts.leaf.Lts as lts
-use Rattle.tree.proofs.scratch.expect.Reads as expect-reads
-use Rattle.tree.proofs.scratch.free_of.Reads as free-of-reads
-use Rattle.tree.proofs.scratch.node.Reads as node-reads
-use Rattle.tree.proofs.scratch.place_here.Reads as place-here-reads
 
 place-here-requires : tie.Need-place-here-requires
 place-here-requires c κs = search needs

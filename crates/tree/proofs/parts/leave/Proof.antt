@@ -2,9 +2,6 @@ use Rattle.tree.proofs.Leaves.{leave-read}
 use borrow.Author.Needs.{needs}
 use Rattle.tree.proofs.parts.leave.Statement.{statement}
 use Rattle.tree.proofs.parts.leave.Tie as tie
-use Rattle.tree.proofs.parts.leave.Reads as reads
-use Rattle.tree.proofs.parts.leave.Lts as lts
-use Rattle.tree.proofs.parts.leaf.Reads as leaf-reads
 
 leaf-requires : tie.Need-leaf-requires
 leaf-requires c κs = search needs

@@ -4,11 +4,6 @@ use Rattle.tree.proofs.Leaves.{negated-read}
 use borrow.Author.Needs.{needs}
 use Rattle.tree.proofs.parts.negated.Statement.{statement}
 use Rattle.tree.proofs.parts.negated.Tie as tie
-use Rattle.tree.proofs.parts.negated.Reads as reads
-use Rattle.tree.proofs.parts.negated.Lts as lts
-use Rattle.tree.proofs.scratch.expect.Reads as expect-reads
-use Rattle.tree.proofs.scratch.free_of.Reads as free-of-reads
-use Rattle.tree.proofs.scratch.node.Reads as node-reads
 
 expect-requires : tie.Need-expect-requires
 expect-requires c κs = search needs

@@ -4,11 +4,6 @@ use Rattle.tree.proofs.Constants.{negated-name-read}
 use borrow.Author.Needs.{needs}
 use Rattle.tree.proofs.parts.negated_name.Statement.{statement}
 use Rattle.tree.proofs.parts.negated_name.Tie as tie
-use Rattle.tree.proofs.parts.negated_name.Reads as reads
-use Rattle.tree.proofs.parts.negated_name.Lts as lts
-use Rattle.tree.proofs.scratch.free_of.Reads as free-of-reads
-use Rattle.tree.proofs.parts.leaf.Reads as leaf-reads
-use Rattle.tree.proofs.scratch.node.Reads as node-reads
 
 free-of-requires : tie.Need-free-of-requires
 free-of-requires c κs = search needs

@@ -5,15 +5,6 @@ use Rattle.tree.proofs.Constants.{negative-shut, negative-number, negat
 use borrow.Author.Needs.{needs}
 use Rattle.tree.proofs.parts.negative.Statement.{statement}
 use Rattle.tree.proofs.parts.negative.Tie as tie
-use Rattle.tree.proofs.parts.negative.Reads as reads
-use Rattle.tree.proofs.parts.negative.Lts as lts
-use Rattle.tree.proofs.scratch.expect.Reads as expect-reads
-use Rattle.tree.proofs.scratch.kind_here.Reads as kind-here-reads
-use Rattle.tree.proofs.parts.negated.Reads as negated-reads
-use Rattle.tree.proofs.parts.negated_name.Reads as negated-name-reads
-use Rattle.tree.proofs.scratch.place_here.Reads as place-here-reads
-use Rattle.tree.proofs.scratch.refuse.Reads as refuse-reads
-use Rattle.tree.proofs.scratch.value_here.Reads as value-here-reads
 
 refuse-requires : tie.Need-refuse-requires
 refuse-requires c κs = search needs

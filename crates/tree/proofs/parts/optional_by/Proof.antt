@@ -4,11 +4,6 @@ use Rattle.tree.proofs.Names.{by-read, no-by}
 use borrow.Author.Needs.{needs}
 use Rattle.tree.proofs.parts.optional_by.Statement.{statement}
 use Rattle.tree.proofs.parts.optional_by.Tie as tie
-use Rattle.tree.proofs.parts.optional_by.Reads as reads
-use Rattle.tree.proofs.parts.optional_by.Lts as lts
-use Rattle.tree.proofs.parts.constant.Reads as constant-reads
-use Rattle.tree.proofs.scratch.expect.Reads as expect-reads
-use Rattle.tree.proofs.scratch.kind_here.Reads as kind-here-reads
 
 kind-here-requires : tie.Need-kind-here-requires
 kind-here-requires c κs = search needs

@@ -3,10 +3,6 @@ use Rattle.tree.proofs.Classes.{unlike3}
 use borrow.Author.Needs.{needs}
 use Rattle.tree.proofs.parts.positive.Statement.{statement}
 use Rattle.tree.proofs.parts.positive.Tie as tie
-use Rattle.tree.proofs.parts.positive.Reads as reads
-use Rattle.tree.proofs.parts.positive.Lts as lts
-use Rattle.tree.proofs.parts.leaf.Reads as leaf-reads
-use Rattle.tree.proofs.scratch.value_here.Reads as value-here-reads
 
 value-here-requires : tie.Need-value-here-requires
 value-here-requires c κs = search needs

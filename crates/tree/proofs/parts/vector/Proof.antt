@@ -7,13 +7,6 @@ use Rattle.tree.proofs.Lets.{vector-read}
 use borrow.Author.Needs.{needs}
 use Rattle.tree.proofs.parts.vector.Statement.{statement}
 use Rattle.tree.proofs.parts.vector.Tie as tie
-use Rattle.tree.proofs.parts.vector.Reads as reads
-use Rattle.tree.proofs.parts.vector.Lts as lts
-use Rattle.tree.proofs.parts.constant.Reads as constant-reads
-use Rattle.tree.proofs.scratch.expect.Reads as expect-reads
-use Rattle.tree.proofs.scratch.free_of.Reads as free-of-reads
-use Rattle.tree.proofs.scratch.minus.Reads as minus-reads
-use Rattle.tree.proofs.scratch.node.Reads as node-reads
 
 free-of-requires : tie.Need-free-of-requires
 free-of-requires c κs = search needs

@@ -6,8 +6,6 @@ use Rattle.tree.proofs.Helpers.{room-is, put2, added-grows, added-adds,
 use borrow.Author.Needs.{needs}
 use Rattle.tree.proofs.scratch.begin_item.Statement.{statement}
 use Rattle.tree.proofs.scratch.begin_item.Tie as tie
-use Rattle.tree.proofs.scratch.begin_item.Reads as reads
-use Rattle.tree.proofs.scratch.begin_item.Lts as lts
 
 enum-known-r : tie.Need-enum-known-r
 enum-known-r c = search needs

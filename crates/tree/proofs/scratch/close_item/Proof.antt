@@ -10,9 +10,6 @@ use Rattle.tree.proofs.Helpers.{room-is, put2, added-grows, added-adds,
 use borrow.Author.Needs.{needs}
 use Rattle.tree.proofs.scratch.close_item.Statement.{statement}
 use Rattle.tree.proofs.scratch.close_item.Tie as tie
-use Rattle.tree.proofs.scratch.close_item.Reads as reads
-use Rattle.tree.proofs.scratch.close_item.Lts as lts
-use Rattle.tree.proofs.scratch.minus.Reads as minus-reads
 
 enum-known-r : tie.Need-enum-known-r
 enum-known-r c = search needs

@@ -3,8 +3,6 @@ use Rattle.tree.proofs.Symbols.{expect-ok, expect-other, expect-end, ex
 use borrow.Author.Needs.{needs}
 use Rattle.tree.proofs.scratch.expect.Statement.{statement}
 use Rattle.tree.proofs.scratch.expect.Tie as tie
-use Rattle.tree.proofs.scratch.expect.Reads as reads
-use Rattle.tree.proofs.scratch.expect.Lts as lts
 
 enum-known-r : tie.Need-enum-known-r
 enum-known-r c = search needs

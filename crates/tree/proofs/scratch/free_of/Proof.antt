@@ -3,8 +3,6 @@ use Rattle.tree.proofs.Helpers.{free-is, free-of-refused}
 use borrow.Author.Needs.{needs}
 use Rattle.tree.proofs.scratch.free_of.Statement.{statement}
 use Rattle.tree.proofs.scratch.free_of.Tie as tie
-use Rattle.tree.proofs.scratch.free_of.Reads as reads
-use Rattle.tree.proofs.scratch.free_of.Lts as lts
 
 enum-known-r : tie.Need-enum-known-r
 enum-known-r c = search needs

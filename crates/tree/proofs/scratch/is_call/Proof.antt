@@ -4,8 +4,6 @@ use Rattle.tree.proofs.Calls.{call-short, call-kind, call-refused}
 use borrow.Author.Needs.{needs}
 use Rattle.tree.proofs.scratch.is_call.Statement.{statement}
 use Rattle.tree.proofs.scratch.is_call.Tie as tie
-use Rattle.tree.proofs.scratch.is_call.Reads as reads
-use Rattle.tree.proofs.scratch.is_call.Lts as lts
 
 enum-known-r : tie.Need-enum-known-r
 enum-known-r c = search needs

@@ -2,8 +2,6 @@ use Rattle.tree.proofs.Symbols.{kind-in, kind-past, kind-refused}
 use borrow.Author.Needs.{needs}
 use Rattle.tree.proofs.scratch.kind_here.Statement.{statement}
 use Rattle.tree.proofs.scratch.kind_here.Tie as tie
-use Rattle.tree.proofs.scratch.kind_here.Reads as reads
-use Rattle.tree.proofs.scratch.kind_here.Lts as lts
 
 enum-known-r : tie.Need-enum-known-r
 enum-known-r c = search needs

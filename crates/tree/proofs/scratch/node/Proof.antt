@@ -10,9 +10,6 @@ use Rattle.tree.proofs.Helpers.{room-is, put4, added-grows, added-adds,
 use borrow.Author.Needs.{needs}
 use Rattle.tree.proofs.scratch.node.Statement.{statement}
 use Rattle.tree.proofs.scratch.node.Tie as tie
-use Rattle.tree.proofs.scratch.node.Reads as reads
-use Rattle.tree.proofs.scratch.node.Lts as lts
-use Rattle.tree.proofs.scratch.minus.Reads as minus-reads
 
 enum-known-r : tie.Need-enum-known-r
 enum-known-r c = search needs

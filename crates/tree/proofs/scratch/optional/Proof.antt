@@ -4,10 +4,6 @@ use Rattle.tree.proofs.Names.{optional-here, optional-not}
 use borrow.Author.Needs.{needs}
 use Rattle.tree.proofs.scratch.optional.Statement.{statement}
 use Rattle.tree.proofs.scratch.optional.Tie as tie
-use Rattle.tree.proofs.scratch.optional.Reads as reads
-use Rattle.tree.proofs.scratch.optional.Lts as lts
-use Rattle.tree.proofs.scratch.expect.Reads as expect-reads
-use Rattle.tree.proofs.scratch.kind_here.Reads as kind-here-reads
 
 kind-here-requires : tie.Need-kind-here-requires
 kind-here-requires c κs = search needs

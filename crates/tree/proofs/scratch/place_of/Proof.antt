@@ -4,8 +4,6 @@ use Rattle.tree.proofs.Calls.{place-short, place-entry, place-refused}
 use borrow.Author.Needs.{needs}
 use Rattle.tree.proofs.scratch.place_of.Statement.{statement}
 use Rattle.tree.proofs.scratch.place_of.Tie as tie
-use Rattle.tree.proofs.scratch.place_of.Reads as reads
-use Rattle.tree.proofs.scratch.place_of.Lts as lts
 
 enum-known-r : tie.Need-enum-known-r
 enum-known-r c = search needs

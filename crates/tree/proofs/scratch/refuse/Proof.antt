@@ -2,8 +2,6 @@ use Rattle.tree.proofs.Helpers.{refused-fits, refuses-read, refuses-ref
 use borrow.Author.Needs.{needs}
 use Rattle.tree.proofs.scratch.refuse.Statement.{statement}
 use Rattle.tree.proofs.scratch.refuse.Tie as tie
-use Rattle.tree.proofs.scratch.refuse.Reads as reads
-use Rattle.tree.proofs.scratch.refuse.Lts as lts
 
 enum-known-r : tie.Need-enum-known-r
 enum-known-r c = search needs

@@ -5,9 +5,6 @@ use Rattle.tree.proofs.Helpers.{room-is, set-size-fits, set-kept, seale
 use borrow.Author.Needs.{needs}
 use Rattle.tree.proofs.scratch.set_size.Statement.{statement}
 use Rattle.tree.proofs.scratch.set_size.Tie as tie
-use Rattle.tree.proofs.scratch.set_size.Reads as reads
-use Rattle.tree.proofs.scratch.set_size.Lts as lts
-use Rattle.tree.proofs.scratch.minus.Reads as minus-reads
 
 enum-known-r : tie.Need-enum-known-r
 enum-known-r c = search needs

@@ -2,8 +2,6 @@ use mathlib.Core.Path.{refl}
 use Rattle.tree.specs.Encoding.{suffixedKind}
 use Rattle.tree.proofs.scratch.suffixed_kind.Statement.{statement}
 use Rattle.tree.proofs.scratch.suffixed_kind.Tie as tie
-use Rattle.tree.proofs.scratch.suffixed_kind.Reads as reads
-use Rattle.tree.proofs.scratch.suffixed_kind.Lts as lts
 
 returns : tie.Need-returns
 unfolding suffixedKind

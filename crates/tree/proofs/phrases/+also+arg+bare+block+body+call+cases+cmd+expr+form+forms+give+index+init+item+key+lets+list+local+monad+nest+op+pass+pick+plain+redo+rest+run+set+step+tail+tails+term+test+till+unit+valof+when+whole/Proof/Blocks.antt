@@ -42,7 +42,6 @@ use cycle.Lts-local as local-lts
 use phrases.lets.Reads as lets
 use cycle.Lts-lets as lets-lts
 use phrases.rest.Reads as rest
-use phrases.give.Reads as give
 use phrases.pick.Reads as pick
 use cycle.Lts-pick as pick-lts
 use phrases.till.Reads as till

@@ -52,7 +52,6 @@ use phrases.unit.Reads as unit
 use cycle.Lts-unit as unit-lts
 use phrases.rest.Reads as rest
 use cycle.Lts-rest as rest-lts
-use phrases.give.Reads as give
 use phrases.nest.Reads as nest
 use cycle.Lts-nest as nest-lts
 use phrases.tail.Reads as tail
