@@ -8,10 +8,8 @@ pub begins-command-spec : {M : Type 1} → statement M
 unfolding member
 begins-command-spec =
     tie.close
-    (tie.spec
-    (λ c κs. tt)
-    (λ c κs. tt)
-    (λ c. arm command _ (c .before .letter-of .ensures) (c .match .keys1))
+    (tie.spec (λ c κs. tt) (λ c κs. tt) (λ c. arm command _ (c .before .letter-of .ensures) (c .match .keys1))
     (λ c. arm command _ (c .before .letter-of .ensures) (c .match .keys2))
     (λ c. arm command _ (c .before .letter-of .ensures) (c .match .keys3))
-    (λ c. c .begins-expression .ensures ∙ command-else _ (c .before .before .letter-of .ensures) (c .before .match .rest)))
+    (λ c. c .begins-expression .ensures ∙ command-else _ (c .before .before .letter-of .ensures)
+    (c .before .match .rest)))

@@ -4,16 +4,10 @@ use borrow.Author.Needs.{needs}
 use Rattle.tree.proofs.binding.further_most.Statement.{statement}
 use Rattle.tree.proofs.binding.further_most.Tie as tie
 
-minus-requires : tie.Need-minus-requires
-minus-requires c κs = search needs
-
-returns : tie.Need-returns
-unfolding furtherMost
-returns c = rw (eq-eqb _ _ (c .if1 .taken))
-
 returns-2 : tie.Need-returns-2
 unfolding furtherMost
 returns-2 c = rw (ne-eqb _ _ (c .before .if1 .left)) (c .minus .ensures)
 
 pub further-most-spec : {M : Type 1} → statement M
-further-most-spec = tie.close (tie.spec minus-requires returns returns-2)
+unfolding furtherMost
+further-most-spec = tie.close (tie.spec (search needs) (λ c. rw (eq-eqb _ _ (c .if1 .taken))) returns-2)

@@ -3,8 +3,4 @@ use Rattle.tree.proofs.binding.goes_on_assignment.Statement.{statement}
 use Rattle.tree.proofs.binding.goes_on_assignment.Tie as tie
 
 pub goes-on-assignment-spec : {M : Type 1} → statement M
-goes-on-assignment-spec =
-    tie.close
-    (tie.spec
-    (λ c κs. tt)
-    (λ c. only going-on _ (c .letter-of .ensures)))
+goes-on-assignment-spec = tie.close (tie.spec (λ c κs. tt) (λ c. only going-on _ (c .letter-of .ensures)))

@@ -3,8 +3,4 @@ use Rattle.tree.proofs.binding.is_declaration.Statement.{statement}
 use Rattle.tree.proofs.binding.is_declaration.Tie as tie
 
 pub is-declaration-spec : {M : Type 1} → statement M
-is-declaration-spec =
-    tie.close
-    (tie.spec
-    (λ c κs. tt)
-    (λ c. only declaration _ (c .letter-of .ensures)))
+is-declaration-spec = tie.close (tie.spec (λ c κs. tt) (λ c. only declaration _ (c .letter-of .ensures)))

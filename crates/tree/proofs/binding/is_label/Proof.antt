@@ -3,8 +3,4 @@ use Rattle.tree.proofs.binding.is_label.Statement.{statement}
 use Rattle.tree.proofs.binding.is_label.Tie as tie
 
 pub is-label-spec : {M : Type 1} → statement M
-is-label-spec =
-    tie.close
-    (tie.spec
-    (λ c κs. tt)
-    (λ c. only label _ (c .letter-of .ensures)))
+is-label-spec = tie.close (tie.spec (λ c κs. tt) (λ c. only label _ (c .letter-of .ensures)))

@@ -6,10 +6,7 @@ use Rattle.tree.proofs.binding.is_monadic.Tie as tie
 pub is-monadic-spec : {M : Type 1} → statement M
 unfolding member
 is-monadic-spec =
-    tie.close
-    (tie.spec
-    (λ c κs. tt)
-    (λ c. arm monadic _ (c .before .letter-of .ensures) (c .match .keys1))
+    tie.close (tie.spec (λ c κs. tt) (λ c. arm monadic _ (c .before .letter-of .ensures) (c .match .keys1))
     (λ c. arm monadic _ (c .before .letter-of .ensures) (c .match .keys2))
     (λ c. arm monadic _ (c .before .letter-of .ensures) (c .match .keys3))
     (λ c. arm monadic _ (c .before .letter-of .ensures) (c .match .keys4))

@@ -3,8 +3,4 @@ use Rattle.tree.proofs.binding.is_repeat.Statement.{statement}
 use Rattle.tree.proofs.binding.is_repeat.Tie as tie
 
 pub is-repeat-spec : {M : Type 1} → statement M
-is-repeat-spec =
-    tie.close
-    (tie.spec
-    (λ c κs. tt)
-    (λ c. only repeat _ (c .letter-of .ensures)))
+is-repeat-spec = tie.close (tie.spec (λ c κs. tt) (λ c. only repeat _ (c .letter-of .ensures)))

@@ -4,9 +4,4 @@ use Rattle.tree.proofs.binding.letter_of.Statement.{statement}
 use Rattle.tree.proofs.binding.letter_of.Tie as tie
 
 pub letter-of-spec : {M : Type 1} → statement M
-letter-of-spec =
-    tie.close
-    (tie.spec
-    (search needs)
-    (λ c. search (needs, letter-in))
-    (λ c. search (needs, letter-past)))
+letter-of-spec = tie.close (tie.spec (search needs) (λ c. search (needs, letter-in)) (λ c. search (needs, letter-past)))

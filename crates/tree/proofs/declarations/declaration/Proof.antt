@@ -6,43 +6,29 @@ use borrow.Author.Needs.{needs}
 use Rattle.tree.proofs.declarations.declaration.Statement.{statement}
 use Rattle.tree.proofs.declarations.declaration.Tie as tie
 
-item-list-requires : tie.Need-item-list-requires
-item-list-requires c κs = search needs
-
-item-list-requires-2 : tie.Need-item-list-requires-2
-item-list-requires-2 c κs = search needs
-
-functions-requires : tie.Need-functions-requires
-functions-requires c κs = search needs
-
-same-length : tie.Need-same-length
-same-length c = search needs
-
 returns : tie.Need-returns
-returns c = (weaker (omega arith) (c .before .before .item-list .ensures .0), λ src l h. declaration-globals src (c .before .before .before .before .match .keys1) (c .before .before .item-list .ensures .1 src l))
-
-same-length-2 : tie.Need-same-length-2
-same-length-2 c = search needs
+returns c = (
+  weaker (omega arith) (c .before .before .item-list .ensures .0),
+  λ src l h. declaration-globals src
+      (c .before .before .before .before .match .keys1) (c .before .before .item-list .ensures .1 src l),
+)
 
 returns-2 : tie.Need-returns-2
-returns-2 c = (weaker (omega arith) (c .before .before .item-list2 .ensures .0), λ src l h. declaration-manifests src (c .before .before .before .before .match .keys2) (c .before .before .item-list2 .ensures .1 src l))
-
-same-length-3 : tie.Need-same-length-3
-same-length-3 c = search needs
+returns-2 c = (
+  weaker (omega arith) (c .before .before .item-list2 .ensures .0),
+  λ src l h. declaration-manifests src
+      (c .before .before .before .before .match .keys2) (c .before .before .item-list2 .ensures .1 src l),
+)
 
 returns-3 : tie.Need-returns-3
-returns-3 c = (weaker (omega arith) (c .before .before .functions .ensures .0), λ src l h. (let u = unlike2 (c .before .before .before .before .match .rest) in declaration-functions src h (u .0) (u .1) (c .before .before .functions .ensures .1 src l)))
+returns-3 c = (
+  weaker (omega arith) (c .before .before .functions .ensures .0),
+  λ src l h.
+      (let u = unlike2 (c .before .before .before .before .match .rest) in declaration-functions src h (u .0) (u .1)
+      (c .before .before .functions .ensures .1 src l)),
+)
 
 pub declaration-spec : {M : Type 1} → statement M
 declaration-spec =
-    tie.close
-    (tie.spec
-    item-list-requires
-    item-list-requires-2
-    functions-requires
-    same-length
-    returns
-    same-length-2
-    returns-2
-    same-length-3
-    returns-3)
+    tie.close (tie.spec (search needs) (search needs) (search needs) (search needs) returns (search needs) returns-2
+    (search needs) returns-3)

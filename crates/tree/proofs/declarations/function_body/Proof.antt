@@ -7,51 +7,44 @@ use borrow.Author.Needs.{needs}
 use Rattle.tree.proofs.declarations.function_body.Statement.{statement}
 use Rattle.tree.proofs.declarations.function_body.Tie as tie
 
-kind-here-requires : tie.Need-kind-here-requires
-kind-here-requires c κs = search needs
-
-expect-requires : tie.Need-expect-requires
-expect-requires c κs = search needs
-
-expr-requires : tie.Need-expr-requires
-expr-requires c κs = search needs
-
 node-requires : tie.Need-node-requires
-node-requires c κs = smaller (fitted (fitted (c .before .before .before .before .before .before .before .before .before .before .before .pre) (c .before .before .before .before .before .expect .ensures .0) refl (omega arith)) (c .before .before .before .expr .ensures .0) (c .before .before .before .expr .kept .0) (omega arith)) (omega arith)
-
-same-length : tie.Need-same-length
-same-length c = search needs
+node-requires c κs =
+    smaller
+    (fitted
+    (fitted (c .before .before .before .before .before .before .before .before .before .before .before .pre)
+    (c .before .before .before .before .before .expect .ensures .0) refl (omega arith)) (c .before .before .before .expr .ensures .0)
+    (c .before .before .before .expr .kept .0) (omega arith)) (omega arith)
 
 returns : tie.Need-returns
-returns c = (weaker (omega arith) (then-grows (both (c .before .before .before .before .before .before .before .before .expect .ensures .0) (c .before .before .before .before .before .before .expr .ensures .0)) (c .before .before .node .ensures .0) (omega arith)), λ src l. (let a = c .before .before .before .before .before .before .before .before .expect .ensures .1 src l in let b = c .before .before .before .before .before .before .expr .ensures .1 src l in let d = c .before .before .node .ensures .1 in (goes-on a then goes-on b then adds-on d, λ name names e q. body-value src (c .before .before .before .before .before .before .before .before .before .before .before .kind-here .ensures src l) _ _ name names e q (c .before .before .before .before .before .before .before .before .before .before .if1 .taken) a b d)))
-
-expect-requires-2 : tie.Need-expect-requires-2
-expect-requires-2 c κs = search needs
-
-cmd-requires : tie.Need-cmd-requires
-cmd-requires c κs = search needs
-
-node-requires-2 : tie.Need-node-requires-2
-node-requires-2 c κs = search needs
-
-same-length-2 : tie.Need-same-length-2
-same-length-2 c = search needs
+returns c = (
+  weaker (omega arith)
+      (then-grows (both (c .before .before .before .before .before .before .before .before .expect .ensures .0) (c .before .before .before .before .before .before .expr .ensures .0)) (c .before .before .node .ensures .0) (omega arith)),
+  λ src l.
+      (let a = c .before .before .before .before .before .before .before .before .expect .ensures .1 src l in let b =
+      c .before .before .before .before .before .before .expr .ensures .1 src l in let d = c .before .before .node .ensures .1 in (
+        goes-on a then goes-on b then adds-on d,
+        λ name names e q. body-value src
+            (c .before .before .before .before .before .before .before .before .before .before .before .kind-here .ensures src l) _ _ name names e
+            q (c .before .before .before .before .before .before .before .before .before .before .if1 .taken) a b d,
+      )),
+)
 
 returns-2 : tie.Need-returns-2
-returns-2 c = (weaker (omega arith) (then-grows (both (c .before .before .before .before .before .before .before .before .expect2 .ensures .0) (c .before .before .before .before .before .before .cmd .ensures .0)) (c .before .before .node2 .ensures .0) (omega arith)), λ src l. (let a = c .before .before .before .before .before .before .before .before .expect2 .ensures .1 src l in let b = c .before .before .before .before .before .before .cmd .ensures .1 src l in let d = c .before .before .node2 .ensures .1 in (goes-on a then goes-on b then adds-on d, λ name names e q. body-routine src (c .before .before .before .before .before .before .before .before .before .before .before .kind-here .ensures src l) _ _ name names e q (c .before .before .before .before .before .before .before .before .before .before .if1 .left) a b d)))
+returns-2 c = (
+  weaker (omega arith)
+      (then-grows (both (c .before .before .before .before .before .before .before .before .expect2 .ensures .0) (c .before .before .before .before .before .before .cmd .ensures .0)) (c .before .before .node2 .ensures .0) (omega arith)),
+  λ src l.
+      (let a = c .before .before .before .before .before .before .before .before .expect2 .ensures .1 src l in let b =
+      c .before .before .before .before .before .before .cmd .ensures .1 src l in let d = c .before .before .node2 .ensures .1 in (
+        goes-on a then goes-on b then adds-on d,
+        λ name names e q. body-routine src
+            (c .before .before .before .before .before .before .before .before .before .before .before .kind-here .ensures src l) _ _ name names e
+            q (c .before .before .before .before .before .before .before .before .before .before .if1 .left) a b d,
+      )),
+)
 
 pub function-body-spec : {M : Type 1} → statement M
 function-body-spec =
     tie.close
-    (tie.spec
-    kind-here-requires
-    expect-requires
-    expr-requires
-    node-requires
-    same-length
-    returns
-    expect-requires-2
-    cmd-requires
-    node-requires-2
-    same-length-2
-    returns-2)
+    (tie.spec (search needs) (search needs) (search needs) node-requires (search needs) returns (search needs)
+    (search needs) (search needs) (search needs) returns-2)

@@ -6,43 +6,28 @@ use borrow.Author.Needs.{needs}
 use Rattle.tree.proofs.declarations.parameters.Statement.{statement}
 use Rattle.tree.proofs.declarations.parameters.Tie as tie
 
-kind-here-requires : tie.Need-kind-here-requires
-kind-here-requires c κs = search needs
-
-expect-requires : tie.Need-expect-requires
-expect-requires c κs = search needs
-
-same-length : tie.Need-same-length
-same-length c = search needs
-
 returns : tie.Need-returns
-returns c = (c .expect .ensures .0, λ src l. no-parameters src (c .before .before .before .kind-here .ensures src l) (c .before .before .if1 .taken) (c .expect .ensures .1 src l))
-
-a-name-requires : tie.Need-a-name-requires
-a-name-requires c κs = search needs
-
-further-names-requires : tie.Need-further-names-requires
-further-names-requires c κs = search needs
-
-expect-requires-2 : tie.Need-expect-requires-2
-expect-requires-2 c κs = search needs
-
-same-length-2 : tie.Need-same-length-2
-same-length-2 c = search needs
+returns c = (
+  c .expect .ensures .0,
+  λ src l. no-parameters src (c .before .before .before .kind-here .ensures src l) (c .before .before .if1 .taken)
+      (c .expect .ensures .1 src l),
+)
 
 returns-2 : tie.Need-returns-2
-returns-2 c = (weaker (omega arith) (both (both (c .before .before .before .before .before .before .before .before .a-name .ensures .0) (c .before .before .before .before .further-names .ensures .0)) (c .expect2 .ensures .0)), λ src l. (let l₁ = lies-still l (c .before .before .before .before .before .before .before .before .a-name .ensures .0 .kept) in let l₂ = lies-still l₁ (c .before .before .before .before .further-names .ensures .0 .kept) in some-parameters src (c .before .before .before .before .before .before .before .before .before .before .before .kind-here .ensures src l) (l .count) (c .before .before .before .before .before .before .before .before .before .before .if1 .left) (c .before .before .before .before .before .before .before .before .a-name .ensures .1 src l) (c .before .before .before .before .further-names .ensures .1 src l₁) (c .expect2 .ensures .1 src l₂)))
+returns-2 c = (
+  weaker (omega arith)
+      (both (both (c .before .before .before .before .before .before .before .before .a-name .ensures .0) (c .before .before .before .before .further-names .ensures .0)) (c .expect2 .ensures .0)),
+  λ src l.
+      (let l₁ = lies-still l (c .before .before .before .before .before .before .before .before .a-name .ensures .0 .kept) in let l₂ = lies-still
+      l₁ (c .before .before .before .before .further-names .ensures .0 .kept) in some-parameters src
+      (c .before .before .before .before .before .before .before .before .before .before .before .kind-here .ensures src l) (l .count)
+      (c .before .before .before .before .before .before .before .before .before .before .if1 .left)
+      (c .before .before .before .before .before .before .before .before .a-name .ensures .1 src l)
+      (c .before .before .before .before .further-names .ensures .1 src l₁) (c .expect2 .ensures .1 src l₂)),
+)
 
 pub parameters-spec : {M : Type 1} → statement M
 parameters-spec =
     tie.close
-    (tie.spec
-    kind-here-requires
-    expect-requires
-    same-length
-    returns
-    a-name-requires
-    further-names-requires
-    expect-requires-2
-    same-length-2
-    returns-2)
+    (tie.spec (search needs) (search needs) (search needs) returns (search needs) (search needs) (search needs)
+    (search needs) returns-2)

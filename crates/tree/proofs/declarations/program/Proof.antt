@@ -6,35 +6,25 @@ use borrow.Author.Needs.{needs}
 use Rattle.tree.proofs.declarations.program.Statement.{statement}
 use Rattle.tree.proofs.declarations.program.Tie as tie
 
-declarations-requires : tie.Need-declarations-requires
-declarations-requires c κs = search needs
-
-kind-here-requires : tie.Need-kind-here-requires
-kind-here-requires c κs = search needs
-
-same-length : tie.Need-same-length
-same-length c = search needs
-
 returns : tie.Need-returns
-returns c = (c .before .before .before .before .before .declarations .ensures .0, λ src l. program-read src (l .count) (c .before .kind-here .ensures src (lies-still l (c .before .before .before .before .before .declarations .ensures .0 .kept))) (c .before .before .before .before .before .declarations .ensures .1 src l) (c .if1 .taken))
-
-refuse-requires : tie.Need-refuse-requires
-refuse-requires c κs = search needs
-
-same-length-2 : tie.Need-same-length-2
-same-length-2 c = search needs
+returns c = (
+  search needs,
+  λ src l. program-read src (l .count)
+      (c .before .kind-here .ensures src (lies-still l (c .before .before .before .before .before .declarations .ensures .0 .kept)))
+      (c .before .before .before .before .before .declarations .ensures .1 src l) (c .if1 .taken),
+)
 
 returns-2 : tie.Need-returns-2
-returns-2 c = (weaker (omega arith) (both (c .before .before .before .before .before .before .before .declarations .ensures .0) (c .refuse .ensures .0)), λ src l. program-refused src (l .count) (c .before .before .before .kind-here .ensures src (lies-still l (c .before .before .before .before .before .before .before .declarations .ensures .0 .kept))) (c .before .before .before .before .before .before .before .declarations .ensures .1 src l) (c .before .before .if1 .left) (c .refuse .ensures .1))
+returns-2 c = (
+  weaker (omega arith) (both (c .before .before .before .before .before .before .before .declarations .ensures .0) (c .refuse .ensures .0)),
+  λ
+      src l. program-refused src (l .count)
+      (c .before .before .before .kind-here .ensures src
+      (lies-still l (c .before .before .before .before .before .before .before .declarations .ensures .0 .kept)))
+      (c .before .before .before .before .before .before .before .declarations .ensures .1 src l) (c .before .before .if1 .left)
+      (c .refuse .ensures .1),
+)
 
 pub program-spec : {M : Type 1} → statement M
 program-spec =
-    tie.close
-    (tie.spec
-    declarations-requires
-    kind-here-requires
-    same-length
-    returns
-    refuse-requires
-    same-length-2
-    returns-2)
+    tie.close (tie.spec (search needs) (search needs) (search needs) returns (search needs) (search needs) returns-2)

@@ -3,17 +3,12 @@ use borrow.Author.Needs.{needs}
 use Rattle.tree.proofs.parts.a_name.Statement.{statement}
 use Rattle.tree.proofs.parts.a_name.Tie as tie
 
-value-here-requires : tie.Need-value-here-requires
-value-here-requires c κs = search needs
-
-leaf-requires : tie.Need-leaf-requires
-leaf-requires c κs = search needs
-
-same-length : tie.Need-same-length
-same-length c = search needs
-
 returns : tie.Need-returns
-returns c = (c .before .before .leaf .ensures .0, λ src l. a-name-read l (c .before .before .before .before .value-here .ensures src l) (c .before .before .leaf .ensures .1 src l))
+returns c = (
+  c .before .before .leaf .ensures .0,
+  λ src l. a-name-read l (c .before .before .before .before .value-here .ensures src l)
+      (c .before .before .leaf .ensures .1 src l),
+)
 
 pub a-name-spec : {M : Type 1} → statement M
-a-name-spec = tie.close (tie.spec value-here-requires leaf-requires same-length returns)
+a-name-spec = tie.close (tie.spec (search needs) (search needs) (search needs) returns)

@@ -9,51 +9,93 @@ use borrow.Author.Needs.{needs}
 use Rattle.tree.proofs.parts.case_label.Statement.{statement}
 use Rattle.tree.proofs.parts.case_label.Tie as tie
 
-free-of-requires : tie.Need-free-of-requires
-free-of-requires c κs = search needs
-
-place-here-requires : tie.Need-place-here-requires
-place-here-requires c κs = search needs
-
-expect-requires : tie.Need-expect-requires
-expect-requires c κs = search needs
-
-begin-item-requires : tie.Need-begin-item-requires
-begin-item-requires c κs = search needs
-
-free-of-requires-2 : tie.Need-free-of-requires-2
-free-of-requires-2 c κs = search needs
-
-constant-requires : tie.Need-constant-requires
-constant-requires c κs = search needs
-
 expect-requires-2 : tie.Need-expect-requires-2
-expect-requires-2 c κs = (smaller (fitted (enlarged (fitted (c .before .before .before .before .before .before .before .before .before .before .before .before .before .before .before .before .before .before .pre) (c .before .before .before .before .before .before .before .before .before .before .before .expect .ensures .0) refl (omega arith)) (c .before .before .before .before .before .before .before .before .before .begin-item .ensures .0) (c .before .before .before .before .before .before .before .before .before .begin-item .kept .0) (omega arith) (omega arith)) (c .before .before .before .constant .ensures .0) (c .before .before .before .constant .kept .0) (omega arith)) (omega arith), omega arith)
+expect-requires-2 c κs = (
+  smaller
+      (fitted
+      (enlarged
+      (fitted
+      (c .before .before .before .before .before .before .before .before .before .before .before .before .before .before .before .before .before .before .pre)
+      (c .before .before .before .before .before .before .before .before .before .before .before .expect .ensures .0) refl (omega arith))
+      (c .before .before .before .before .before .before .before .before .before .begin-item .ensures .0)
+      (c .before .before .before .before .before .before .before .before .before .begin-item .kept .0) (omega arith) (omega arith))
+      (c .before .before .before .constant .ensures .0) (c .before .before .before .constant .kept .0) (omega arith)) (omega arith),
+  omega arith,
+)
 
 node-requires : tie.Need-node-requires
-node-requires c κs = smaller (fitted (fitted (enlarged (fitted (c .before .before .before .before .before .before .before .before .before .before .before .before .before .before .before .before .before .before .before .before .pre) (c .before .before .before .before .before .before .before .before .before .before .before .before .before .expect .ensures .0) refl (omega arith)) (c .before .before .before .before .before .before .before .before .before .before .before .begin-item .ensures .0) (c .before .before .before .before .before .before .before .before .before .before .before .begin-item .kept .0) (omega arith) (omega arith)) (c .before .before .before .before .before .constant .ensures .0) (c .before .before .before .before .before .constant .kept .0) (omega arith)) (c .before .expect2 .ensures .0) refl (omega arith)) (omega arith)
+node-requires c κs =
+    smaller
+    (fitted
+    (fitted
+    (enlarged
+    (fitted
+    (c .before .before .before .before .before .before .before .before .before .before .before .before .before .before .before .before .before .before .before .before .pre)
+    (c .before .before .before .before .before .before .before .before .before .before .before .before .before .expect .ensures .0)
+    refl (omega arith))
+    (c .before .before .before .before .before .before .before .before .before .before .before .begin-item .ensures .0)
+    (c .before .before .before .before .before .before .before .before .before .before .before .begin-item .kept .0) (omega arith)
+    (omega arith)) (c .before .before .before .before .before .constant .ensures .0)
+    (c .before .before .before .before .before .constant .kept .0) (omega arith)) (c .before .expect2 .ensures .0) refl (omega arith))
+    (omega arith)
 
 set-size-requires : tie.Need-set-size-requires
-set-size-requires c κs = (smaller (enlarged (fitted (fitted (enlarged (fitted (c .before .before .before .before .before .before .before .before .before .before .before .before .before .before .before .before .before .before .before .before .before .before .before .before .pre) (c .before .before .before .before .before .before .before .before .before .before .before .before .before .before .before .before .before .expect .ensures .0) refl (omega arith)) (c .before .before .before .before .before .before .before .before .before .before .before .before .before .before .before .begin-item .ensures .0) (c .before .before .before .before .before .before .before .before .before .before .before .before .before .before .before .begin-item .kept .0) (omega arith) (omega arith)) (c .before .before .before .before .before .before .before .before .before .constant .ensures .0) (c .before .before .before .before .before .before .before .before .before .constant .kept .0) (omega arith)) (c .before .before .before .before .before .expect2 .ensures .0) refl (omega arith)) (c .before .before .before .node .ensures .0) (c .before .before .before .node .kept .0) (omega arith) (omega arith)) (omega arith), omega (arith, base (c .before .before .before .before .before .before .before .before .before .before .before .before .before .before .before .before .before .before .before .before .before .before .before .before .pre), c .before .before .before .before .before .before .before .before .before .before .before .before .before .before .before .before .before .before .before .before .before .free-of .ensures))
-
-same-length : tie.Need-same-length
-same-length c = search needs
+set-size-requires c κs = (
+  smaller
+      (enlarged
+      (fitted
+      (fitted
+      (enlarged
+      (fitted
+      (c .before .before .before .before .before .before .before .before .before .before .before .before .before .before .before .before .before .before .before .before .before .before .before .before .pre)
+      (c .before .before .before .before .before .before .before .before .before .before .before .before .before .before .before .before .before .expect .ensures .0)
+      refl (omega arith))
+      (c .before .before .before .before .before .before .before .before .before .before .before .before .before .before .before .begin-item .ensures .0)
+      (c .before .before .before .before .before .before .before .before .before .before .before .before .before .before .before .begin-item .kept .0)
+      (omega arith) (omega arith)) (c .before .before .before .before .before .before .before .before .before .constant .ensures .0)
+      (c .before .before .before .before .before .before .before .before .before .constant .kept .0) (omega arith))
+      (c .before .before .before .before .before .expect2 .ensures .0) refl (omega arith)) (c .before .before .before .node .ensures .0)
+      (c .before .before .before .node .kept .0) (omega arith) (omega arith)) (omega arith),
+  omega (
+    arith,
+    base
+        (c .before .before .before .before .before .before .before .before .before .before .before .before .before .before .before .before .before .before .before .before .before .before .before .before .pre),
+  ),
+)
 
 returns : tie.Need-returns
-returns c = (weaker (omega arith) (both (then-grows (both (both (then-grows (c .before .before .before .before .before .before .before .before .before .before .before .before .before .before .before .before .before .before .before .before .expect .ensures .0) (c .before .before .before .before .before .before .before .before .before .before .before .before .before .before .before .before .before .before .begin-item .ensures .0) (omega arith)) (c .before .before .before .before .before .before .before .before .before .before .before .before .constant .ensures .0)) (c .before .before .before .before .before .before .before .before .expect2 .ensures .0)) (c .before .before .before .before .before .before .node .ensures .0) (omega arith)) (c .before .before .set-size .ensures .0)), λ src l k. (let l₁ = lies-still l (c .before .before .before .before .before .before .before .before .before .before .before .before .before .before .before .before .before .before .begin-item .ensures .0 .kept) in label-case src _ k refl (case-read l _ _ (c .before .before .before .before .before .before .before .before .before .before .before .before .before .before .before .before .before .before .before .before .before .before .before .before .free-of .ensures) (c .before .before .before .before .before .before .before .before .before .before .before .before .before .before .before .before .before .before .before .before .before .before .place-here .ensures src l) (low (fitted (c .before .before .before .before .before .before .before .before .before .before .before .before .before .before .before .before .before .before .before .before .before .before .before .before .before .before .before .pre) (c .before .before .before .before .before .before .before .before .before .before .before .before .before .before .before .before .before .before .before .before .expect .ensures .0) refl (omega arith))) (c .before .before .before .before .before .before .before .before .before .before .before .before .before .before .free-of2 .ensures ∙ ap (λ (z : ℕ). freeOf z (c .before .before .before .before .before .before .before .before .before .before .before .before .before .before .before .before .before .before .begin-item .result)) (c .before .before .before .before .before .before .before .before .before .before .before .before .before .before .before .before .before .before .begin-item .kept .0)) (c .before .before .before .before .before .before .before .before .before .before .before .before .before .before .before .before .before .before .before .before .expect .ensures .1 src l) (c .before .before .before .before .before .before .before .before .before .before .before .before .before .before .before .before .before .before .begin-item .ensures .1) (c .before .before .before .before .before .before .before .before .before .before .before .before .constant .ensures .1 src l₁) (c .before .before .before .before .before .before .before .before .expect2 .ensures .1 src (lies-still l₁ (c .before .before .before .before .before .before .before .before .before .before .before .before .constant .ensures .0 .kept))) (c .before .before .before .before .before .before .node .ensures .1) (c .before .before .set-size .ensures .1))))
+returns c = (
+  weaker (omega arith)
+      (both (then-grows (both (both (then-grows (c .before .before .before .before .before .before .before .before .before .before .before .before .before .before .before .before .before .before .before .before .expect .ensures .0) (c .before .before .before .before .before .before .before .before .before .before .before .before .before .before .before .before .before .before .begin-item .ensures .0) (omega arith)) (c .before .before .before .before .before .before .before .before .before .before .before .before .constant .ensures .0)) (c .before .before .before .before .before .before .before .before .expect2 .ensures .0)) (c .before .before .before .before .before .before .node .ensures .0) (omega arith)) (c .before .before .set-size .ensures .0)),
+  λ src l k.
+      (let l₁ = lies-still l
+      (c .before .before .before .before .before .before .before .before .before .before .before .before .before .before .before .before .before .before .begin-item .ensures .0 .kept)
+      in label-case src _ k refl
+      (case-read l _ _
+      (c .before .before .before .before .before .before .before .before .before .before .before .before .before .before .before .before .before .before .before .before .before .before .before .before .free-of .ensures)
+      (c .before .before .before .before .before .before .before .before .before .before .before .before .before .before .before .before .before .before .before .before .before .before .place-here .ensures
+      src l)
+      (low
+      (fitted
+      (c .before .before .before .before .before .before .before .before .before .before .before .before .before .before .before .before .before .before .before .before .before .before .before .before .before .before .before .pre)
+      (c .before .before .before .before .before .before .before .before .before .before .before .before .before .before .before .before .before .before .before .before .expect .ensures .0)
+      refl (omega arith)))
+      (c .before .before .before .before .before .before .before .before .before .before .before .before .before .before .free-of2 .ensures
+      ∙ ap
+      (λ (z : ℕ). freeOf z
+      (c .before .before .before .before .before .before .before .before .before .before .before .before .before .before .before .before .before .before .begin-item .result))
+      (c .before .before .before .before .before .before .before .before .before .before .before .before .before .before .before .before .before .before .begin-item .kept .0))
+      (c .before .before .before .before .before .before .before .before .before .before .before .before .before .before .before .before .before .before .before .before .expect .ensures .1
+      src l)
+      (c .before .before .before .before .before .before .before .before .before .before .before .before .before .before .before .before .before .before .begin-item .ensures .1)
+      (c .before .before .before .before .before .before .before .before .before .before .before .before .constant .ensures .1 src l₁)
+      (c .before .before .before .before .before .before .before .before .expect2 .ensures .1 src
+      (lies-still l₁
+      (c .before .before .before .before .before .before .before .before .before .before .before .before .constant .ensures .0 .kept)))
+      (c .before .before .before .before .before .before .node .ensures .1) (c .before .before .set-size .ensures .1))),
+)
 
 pub case-label-spec : {M : Type 1} → statement M
 case-label-spec =
-    tie.close
-    (tie.spec
-    free-of-requires
-    place-here-requires
-    expect-requires
-    begin-item-requires
-    free-of-requires-2
-    constant-requires
-    expect-requires-2
-    node-requires
-    set-size-requires
-    same-length
-    returns)
+    tie.close (tie.spec (search needs) (search needs) (search needs) (search needs) (search needs) (search needs)
+    expect-requires-2 node-requires set-size-requires (search needs) returns)

@@ -5,21 +5,13 @@ use borrow.Author.Needs.{needs}
 use Rattle.tree.proofs.parts.negated.Statement.{statement}
 use Rattle.tree.proofs.parts.negated.Tie as tie
 
-expect-requires : tie.Need-expect-requires
-expect-requires c κs = search needs
-
-free-of-requires : tie.Need-free-of-requires
-free-of-requires c κs = search needs
-
-node-requires : tie.Need-node-requires
-node-requires c κs = search needs
-
-same-length : tie.Need-same-length
-same-length c = search needs
-
 returns : tie.Need-returns
-returns c = (then-grows (c .before .before .before .before .before .before .expect .ensures .0) (c .before .before .node .ensures .0) (omega arith), λ src l. negated-read _ (c .before .before .before .before .before .before .expect .ensures .1 src l) (c .before .before .before .before .free-of .ensures) (c .before .before .node .ensures .1))
+returns c = (
+  then-grows (c .before .before .before .before .before .before .expect .ensures .0) (c .before .before .node .ensures .0) (omega arith),
+  λ src
+      l. negated-read _ (c .before .before .before .before .before .before .expect .ensures .1 src l)
+      (c .before .before .before .before .free-of .ensures) (c .before .before .node .ensures .1),
+)
 
 pub negated-spec : {M : Type 1} → statement M
-negated-spec =
-    tie.close (tie.spec expect-requires free-of-requires node-requires same-length returns)
+negated-spec = tie.close (tie.spec (search needs) (search needs) (search needs) (search needs) returns)

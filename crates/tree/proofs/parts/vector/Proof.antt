@@ -8,39 +8,46 @@ use borrow.Author.Needs.{needs}
 use Rattle.tree.proofs.parts.vector.Statement.{statement}
 use Rattle.tree.proofs.parts.vector.Tie as tie
 
-free-of-requires : tie.Need-free-of-requires
-free-of-requires c κs = search needs
-
-minus-requires : tie.Need-minus-requires
-minus-requires c κs = search needs
-
-expect-requires : tie.Need-expect-requires
-expect-requires c κs = search needs
-
-constant-requires : tie.Need-constant-requires
-constant-requires c κs = search needs
-
 cast-node : tie.Need-cast-node
-cast-node c = omega (arith, c .before .before .before .before .before .before .before .minus .ensures, c .before .before .before .before .before .before .before .before .free-of .ensures, low (c .before .before .before .before .before .before .before .before .before .before .before .pre), c .before .before .before .before .before .before .before .before .before .before .before .pre .small)
+cast-node c =
+    omega (
+      arith,
+      c .before .before .before .before .before .before .before .minus .ensures,
+      c .before .before .before .before .before .before .before .before .free-of .ensures,
+      low
+          (c .before .before .before .before .before .before .before .before .before .before .before .pre),
+      c .before .before .before .before .before .before .before .before .before .before .before .pre .small,
+    )
 
 node-requires : tie.Need-node-requires
-node-requires c κs = smaller (fitted (fitted (c .before .before .before .before .before .before .before .before .before .before .before .pre) (c .before .before .before .before .before .expect .ensures .0) refl (omega arith)) (c .before .before .before .constant .ensures .0) (c .before .before .before .constant .kept .0) (omega arith)) (omega arith)
-
-same-length : tie.Need-same-length
-same-length c = search needs
+node-requires c κs =
+    smaller
+    (fitted
+    (fitted (c .before .before .before .before .before .before .before .before .before .before .before .pre)
+    (c .before .before .before .before .before .expect .ensures .0) refl (omega arith)) (c .before .before .before .constant .ensures .0)
+    (c .before .before .before .constant .kept .0) (omega arith)) (omega arith)
 
 returns : tie.Need-returns
-returns c = (then-grows (both (c .before .before .before .before .before .before .before .before .expect .ensures .0) (c .before .before .before .before .before .before .constant .ensures .0)) (c .before .before .node .ensures .0) (omega arith), λ src l. (goes-on (c .before .before .before .before .before .before .before .before .expect .ensures .1 src l) then goes-on (c .before .before .before .before .before .before .constant .ensures .1 src l) then adds-on (c .before .before .node .ensures .1), λ name q. vector-read src _ _ name _ q (c .before .before .before .before .before .before .before .before .before .before .minus .ensures ∙ ap (λ (z : ℕ). z - c .before .before .before .before .before .before .before .before .before .before .before .before .before .before .args .start) (c .before .before .before .before .before .before .before .before .before .before .before .free-of .ensures)) (c .before .before .before .before .before .before .before .before .expect .ensures .1 src l) (c .before .before .before .before .before .before .constant .ensures .1 src l) (c .before .before .node .ensures .1)))
+returns c = (
+  then-grows
+      (both (c .before .before .before .before .before .before .before .before .expect .ensures .0)
+      (c .before .before .before .before .before .before .constant .ensures .0)) (c .before .before .node .ensures .0) (omega arith),
+  λ src l. (
+    goes-on (c .before .before .before .before .before .before .before .before .expect .ensures .1 src l) then goes-on
+        (c .before .before .before .before .before .before .constant .ensures .1 src l) then adds-on (c .before .before .node .ensures .1),
+    λ name
+        q. vector-read src _ _ name _ q
+        (c .before .before .before .before .before .before .before .before .before .before .minus .ensures ∙ ap
+        (λ (z : ℕ). z -
+        c .before .before .before .before .before .before .before .before .before .before .before .before .before .before .args .start)
+        (c .before .before .before .before .before .before .before .before .before .before .before .free-of .ensures))
+        (c .before .before .before .before .before .before .before .before .expect .ensures .1 src l)
+        (c .before .before .before .before .before .before .constant .ensures .1 src l) (c .before .before .node .ensures .1),
+  ),
+)
 
 pub vector-spec : {M : Type 1} → statement M
 vector-spec =
     tie.close
-    (tie.spec
-    free-of-requires
-    minus-requires
-    expect-requires
-    constant-requires
-    cast-node
-    node-requires
-    same-length
+    (tie.spec (search needs) (search needs) (search needs) (search needs) cast-node node-requires (search needs)
     returns)

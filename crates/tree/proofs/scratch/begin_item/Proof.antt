@@ -7,9 +7,6 @@ use borrow.Author.Needs.{needs}
 use Rattle.tree.proofs.scratch.begin_item.Statement.{statement}
 use Rattle.tree.proofs.scratch.begin_item.Tie as tie
 
-enum-known-r : tie.Need-enum-known-r
-enum-known-r c = search needs
-
 mul-s : tie.Need-mul-s
 mul-s c = omega (arith, room-is (c .before .before .before .pre) (c .before .r .given .1))
 
@@ -28,30 +25,17 @@ slice-write-s-2 c = simp length-set (omega (arith, room-is (c .before .before .b
 add-t10 : tie.Need-add-t10
 add-t10 c = omega (arith, room-is (c .before .before .before .pre) (c .before .r .given .1))
 
-enum-known-r-2 : tie.Need-enum-known-r-2
-enum-known-r-2 c = search needs
-
-same-length : tie.Need-same-length
-same-length c = search needs
-
 returns : tie.Need-returns
-returns c = (added-grows (c .before .before .before .pre) (c .before .r .given .1) (λ _. 0 ∷ (c .before .before .before .args .tag) ∷ []) _ 2 _ refl refl (omega arith) (put2 _ _ _ _ (room-is (c .before .before .before .pre) (c .before .r .given .1) .0)), added-adds (c .before .before .before .pre) (c .before .r .given .1) (λ _. 0 ∷ (c .before .before .before .args .tag) ∷ []) _ 2 _ refl refl (omega arith) (put2 _ _ _ _ (room-is (c .before .before .before .pre) (c .before .r .given .1) .0)))
-
-returns-2 : tie.Need-returns-2
-returns-2 c = (refused-grows (c .before .before .before .pre), adds-refused (c .before .r2 .given .1))
+returns c = (
+  added-grows (c .before .before .before .pre) (c .before .r .given .1) (λ _. 0 ∷ (c .before .before .before .args .tag) ∷ []) _ 2 _ refl refl
+      (omega arith) (put2 _ _ _ _ (room-is (c .before .before .before .pre) (c .before .r .given .1) .0)),
+  added-adds
+      (c .before .before .before .pre) (c .before .r .given .1) (λ _. 0 ∷ (c .before .before .before .args .tag) ∷ []) _ 2 _ refl refl (omega arith)
+      (put2 _ _ _ _ (room-is (c .before .before .before .pre) (c .before .r .given .1) .0)),
+)
 
 pub begin-item-spec : {M : Type 1} → statement M
 begin-item-spec =
     tie.close
-    (tie.spec
-    enum-known-r
-    mul-s
-    slice-write-s
-    add-s
-    mul-s-2
-    slice-write-s-2
-    add-t10
-    enum-known-r-2
-    same-length
-    returns
-    returns-2)
+    (tie.spec (search needs) mul-s slice-write-s add-s mul-s-2 slice-write-s-2 add-t10 (search needs) (search needs)
+    returns (λ c. (search refused-grows, search adds-refused)))

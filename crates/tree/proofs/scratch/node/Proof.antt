@@ -1,24 +1,16 @@
 use Prim.Native.Nat.{ℕ}
-use lib.ListN.{take}
-use mathlib.Core.List.{_++_}
+use lib.ListN.{take, length-set}
+use mathlib.Core.List.{_++_, [], _∷_}
 use native.Mathlib.Omega.{arith}
-use lib.ListN.{length-set}
 use mathlib.Core.Path.{refl, ap, _∙_}
-use mathlib.Core.List.{[], _∷_}
 use Rattle.tree.specs.Reads.{recordFrom}
 use Rattle.tree.proofs.Helpers.{room-is, put4, added-grows, added-adds, adds-refused, refused-grows}
 use borrow.Author.Needs.{needs}
 use Rattle.tree.proofs.scratch.node.Statement.{statement}
 use Rattle.tree.proofs.scratch.node.Tie as tie
 
-enum-known-r : tie.Need-enum-known-r
-enum-known-r c = search needs
-
-minus-requires : tie.Need-minus-requires
-minus-requires c κs = search needs
-
 cast-s : tie.Need-cast-s
-cast-s c = omega (arith, room-is (c .before .before .before .before .before .pre) (c .before .before .r .given .1), c .minus .ensures)
+cast-s c = omega (arith, room-is (c .before .before .before .before .before .pre) (c .before .before .r .given .1))
 
 mul-s : tie.Need-mul-s
 mul-s c = omega (arith, room-is (c .before .before .before .before .before .pre) (c .before .before .r .given .1))
@@ -56,38 +48,26 @@ slice-write-s-4 c = simp length-set (omega (arith, room-is (c .before .before .b
 add-t13 : tie.Need-add-t13
 add-t13 c = omega (arith, room-is (c .before .before .before .before .before .pre) (c .before .before .r .given .1))
 
-enum-known-r-2 : tie.Need-enum-known-r-2
-enum-known-r-2 c = search needs
-
-same-length : tie.Need-same-length
-same-length c = search needs
-
 returns : tie.Need-returns
-returns c = (added-grows (c .before .before .before .before .before .pre) (c .before .before .r .given .1) (recordFrom (c .before .before .before .before .before .args .lo) (c .before .before .before .before .before .args .value) (c .before .before .before .before .before .args .place) (c .before .before .before .before .before .args .kind)) _ 4 _ refl refl (omega arith) (put4 _ _ _ _ _ _ (room-is (c .before .before .before .before .before .pre) (c .before .before .r .given .1) .0) ∙ ap (λ (z : ℕ). take (c .before .before .r .given .0 .1 .0) (c .before .before .before .before .before .args .s .now) ++ (z ∷ (c .before .before .before .before .before .args .value) ∷ (c .before .before .before .before .before .args .place) ∷ (c .before .before .before .before .before .args .kind) ∷ [])) (c .minus .ensures)), added-adds (c .before .before .before .before .before .pre) (c .before .before .r .given .1) (recordFrom (c .before .before .before .before .before .args .lo) (c .before .before .before .before .before .args .value) (c .before .before .before .before .before .args .place) (c .before .before .before .before .before .args .kind)) _ 4 _ refl refl (omega arith) (put4 _ _ _ _ _ _ (room-is (c .before .before .before .before .before .pre) (c .before .before .r .given .1) .0) ∙ ap (λ (z : ℕ). take (c .before .before .r .given .0 .1 .0) (c .before .before .before .before .before .args .s .now) ++ (z ∷ (c .before .before .before .before .before .args .value) ∷ (c .before .before .before .before .before .args .place) ∷ (c .before .before .before .before .before .args .kind) ∷ [])) (c .minus .ensures)))
-
-returns-2 : tie.Need-returns-2
-returns-2 c = (refused-grows (c .before .before .before .before .pre), adds-refused (c .before .r2 .given .1))
+returns c = (
+  added-grows (c .before .before .before .before .before .pre) (c .before .before .r .given .1)
+      (recordFrom (c .before .before .before .before .before .args .lo) (c .before .before .before .before .before .args .value)
+      (c .before .before .before .before .before .args .place) (c .before .before .before .before .before .args .kind)) _ 4 _ refl refl
+      (omega arith)
+      (put4 _ _ _ _ _ _ (room-is (c .before .before .before .before .before .pre) (c .before .before .r .given .1) .0) ∙ ap (λ (z : ℕ). take (c .before .before .r .given .0 .1 .0) (c .before .before .before .before .before .args .s .now) ++ (z ∷ (c .before .before .before .before .before .args .value) ∷ (c .before .before .before .before .before .args .place) ∷ (c .before .before .before .before .before .args .kind) ∷ [])) (c .minus .ensures)),
+  added-adds (c .before .before .before .before .before .pre) (c .before .before .r .given .1)
+      (recordFrom (c .before .before .before .before .before .args .lo) (c .before .before .before .before .before .args .value)
+      (c .before .before .before .before .before .args .place) (c .before .before .before .before .before .args .kind)) _ 4 _ refl refl
+      (omega arith)
+      (put4 _ _ _ _ _ _ (room-is (c .before .before .before .before .before .pre) (c .before .before .r .given .1) .0) ∙ ap
+      (λ (z : ℕ). take (c .before .before .r .given .0 .1 .0) (c .before .before .before .before .before .args .s .now) ++
+      (z ∷ (c .before .before .before .before .before .args .value) ∷ (c .before .before .before .before .before .args .place) ∷
+      (c .before .before .before .before .before .args .kind) ∷ [])) (c .minus .ensures)),
+)
 
 pub node-spec : {M : Type 1} → statement M
 node-spec =
     tie.close
-    (tie.spec
-    enum-known-r
-    minus-requires
-    cast-s
-    mul-s
-    slice-write-s
-    add-s
-    mul-s-2
-    slice-write-s-2
-    add-s-2
-    mul-s-3
-    slice-write-s-3
-    add-s-3
-    mul-s-4
-    slice-write-s-4
-    add-t13
-    enum-known-r-2
-    same-length
-    returns
-    returns-2)
+    (tie.spec (search needs) (search needs) cast-s mul-s slice-write-s add-s mul-s-2 slice-write-s-2 add-s-2 mul-s-3
+    slice-write-s-3 add-s-3 mul-s-4 slice-write-s-4 add-t13 (search needs) (search needs) returns
+    (λ c. (search refused-grows, search adds-refused)))

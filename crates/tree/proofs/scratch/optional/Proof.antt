@@ -5,17 +5,15 @@ use borrow.Author.Needs.{needs}
 use Rattle.tree.proofs.scratch.optional.Statement.{statement}
 use Rattle.tree.proofs.scratch.optional.Tie as tie
 
-kind-here-requires : tie.Need-kind-here-requires
-kind-here-requires c κs = search needs
-
-expect-requires : tie.Need-expect-requires
-expect-requires c κs = search needs
-
 returns : tie.Need-returns
-returns c = (weaker (omega arith) (c .expect .ensures .0), λ src l. optional-here src _ (c .before .before .kind-here .ensures src l) (c .before .if1 .taken) (c .expect .ensures .1 src l))
+returns c = (
+  weaker (omega arith) (c .expect .ensures .0),
+  λ src l. optional-here src _ (c .before .before .kind-here .ensures src l)
+      (c .before .if1 .taken) (c .expect .ensures .1 src l),
+)
 
 returns-2 : tie.Need-returns-2
-returns-2 c = (itself (c .before .before .before .pre .0), λ src l. optional-not src _ (c .before .kind-here .ensures src l) (c .if1 .left))
+returns-2 c = (search itself, λ src l. optional-not src _ (c .before .kind-here .ensures src l) (c .if1 .left))
 
 pub optional-spec : {M : Type 1} → statement M
-optional-spec = tie.close (tie.spec kind-here-requires expect-requires returns returns-2)
+optional-spec = tie.close (tie.spec (search needs) (search needs) returns returns-2)
