@@ -25,21 +25,21 @@ unfolding bindingOf member
 binding-positive zero h = absurd (omega arith)
 binding-positive (suc k) h = omega arith
 
-pub monadic-positive : (kind : ℕ) → isMonadic kind ≡ true → 0 < kind
+pub monadic-positive : (kind : ℕ) {b : Bool} → b ≡ isMonadic kind → b ≡ true → 0 < kind
 unfolding isMonadic member
-monadic-positive kind e = positive isMonadic kind refl e
+monadic-positive kind e q = positive isMonadic kind refl (sym e ∙ q)
 
-pub guard-positive : (kind : ℕ) → isGuard kind ≡ true → 0 < kind
+pub guard-positive : (kind : ℕ) {b : Bool} → b ≡ isGuard kind → b ≡ true → 0 < kind
 unfolding isGuard member
-guard-positive kind e = positive isGuard kind refl e
+guard-positive kind e q = positive isGuard kind refl (sym e ∙ q)
 
-pub repeat-positive : (kind : ℕ) → isRepeat kind ≡ true → 0 < kind
+pub repeat-positive : (kind : ℕ) {b : Bool} → b ≡ isRepeat kind → b ≡ true → 0 < kind
 unfolding isRepeat member
-repeat-positive kind e = positive isRepeat kind refl e
+repeat-positive kind e q = positive isRepeat kind refl (sym e ∙ q)
 
-pub leave-positive : (kind : ℕ) → isLeave kind ≡ true → 0 < kind
+pub leave-positive : (kind : ℕ) {b : Bool} → b ≡ isLeave kind → b ≡ true → 0 < kind
 unfolding isLeave member
-leave-positive kind e = positive isLeave kind refl e
+leave-positive kind e q = positive isLeave kind refl (sym e ∙ q)
 
 -- none of a list, one by one
 pub unlike5 : {c a b d e f : ℕ} → Unlike c (f ∷ e ∷ d ∷ b ∷ a ∷ []) → (c ≡ a → ⊥) × (c ≡ b → ⊥) × (c ≡ d → ⊥) × (c ≡ e → ⊥) × (c ≡ f → ⊥)

@@ -2,6 +2,7 @@ pub mod Steps
 pub mod Lists
 pub mod ListEnd
 pub mod Helpers
+pub mod Rooms
 pub mod Symbols
 pub mod Classes
 pub mod Leaves

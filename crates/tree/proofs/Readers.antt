@@ -14,13 +14,15 @@ use Rattle.language.specs.Binding.{reachOf, NEGATION, LOOSEST}
 use Rattle.language.specs.Expressions as E
 use Rattle.language.specs.Expressions.{Inside, inside, shut, opening}
 use Rattle.language.specs.Grammar.{within, readers}
-use Rattle.tree.specs.Reads.{HoldsSymbols, Here, KindHere, Follows, Encodes, Prepends, Reads, Refuses, Adds, recordFrom, behindFrom, Seals, freeOf}
+use Rattle.tree.specs.Reads.{Ready, LeavesRoom, TakesRoom, Reading, HoldsSymbols, Here, KindHere, Follows, Encodes, Prepends, Reads, Refuses, Adds, recordFrom, behindFrom, Seals, freeOf}
 use Rattle.tree.specs.Between.{PrependsSuffix, PrependsOne, anArgument, aFurther, rightOf}
 use Rattle.tree.specs.Encoding.{MONADIC, DYADIC, item, behind, closed, suffixedKind, encode, encodeExpressions, encodeSuffixes, encodeOperations, encodeCommand}
 use Rattle.tree.proofs.Steps.{follow, bind, here, added, adds-on, goes-on, _then_, nothing, stopped}
 use Rattle.tree.proofs.Lists.{sealed, last, turned}
-use Rattle.tree.proofs.Symbols.{inside as among, placed, mapped, the-is, stays}
+use Rattle.tree.proofs.Symbols.{inside as among, placed, mapped, the-is, stays, lies-still}
 use Rattle.tree.proofs.Classes.{positive}
+use Rattle.tree.proofs.Rooms.{rooms}
+use Rattle.tree.proofs.Helpers.{low}
 use Rattle.tree.specs.declared.scratch.State.{State}
 use Rattle.tree.specs.declared.scratch.State.the-variants.{Read}
 
@@ -119,6 +121,14 @@ module _ (src : Source) {r : State} (size : ℕ) (x : ℕ) {lo : ℕ} (lo-is : l
   unfolding anArgument encodeExpressions T.count
   argument-read le a d b =
       item-alone T.andExpression 0 size encode (λ e. record { puts = λ rest. refl; one = λ rest. omega arith }) lo-is le a d b
+
+pub argument-reads :
+    (x : ℕ) {lo n : ℕ} {s s₁ s₂ s₃ : List ℕ} {r r₁ r₂ : State} → lo ≡ freeOf (length s) r → Ready 2 s n r
+    → TakesRoom 2 s s₁ n r r₁ × Adds (λ _. 0 ∷ 0 ∷ []) s s₁ r r₁ → Reading 1 (E.expression (within x) LOOSEST) (Encodes encode) s₁ s₂ n r₁ r₂
+    → LeavesRoom 0 s₂ s₃ n r₂ r₂ × Seals lo s₂ s₃ r₂
+    → TakesRoom 1 s s₃ n r r₂ × ((src : Source) → HoldsSymbols src n s → Follows (anArgument x src) PrependsOne s s₃ r r₂)
+argument-reads x q h a d b =
+    (search rooms, λ src l. argument-read src _ _ q (low h) (a .1) (d .1 src (lies-still l (a .0 .kept))) (b .1))
 
 module _ (src : Source) {r : State} (size : ℕ) (x : ℕ) {lo : ℕ} (lo-is : lo ≡ freeOf size r) {s s₁ s₂ : List ℕ} {r₁ r₂ : State} where
   pub index-read : {r₀ : State} → Reads (the K.PLING src) (λ _. []) s s r r₀ → Reads (E.subscript (within x) src) encode s s₁ r₀ r₁ → Adds (behindFrom lo K.PLING) s₁ s₂ r₁ r₂ → Follows (E.index (within x) src) (PrependsSuffix false) s s₂ r r₂

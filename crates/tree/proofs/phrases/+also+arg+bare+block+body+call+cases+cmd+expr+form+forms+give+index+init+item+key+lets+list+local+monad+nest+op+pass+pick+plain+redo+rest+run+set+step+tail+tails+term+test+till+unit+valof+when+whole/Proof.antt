@@ -1,22 +1,31 @@
 -- Expressions and commands: one proof, since they call one another. Its measures stand in `Ranks`, its answers in the others.
 mod Ranks
-mod Terms
-mod Forms
+mod Operators
+mod Operands
+mod Commands
 mod Blocks
 use Rattle.tree.proofs.phrases.+also+arg+bare+block+body+call+cases+cmd+expr+form+forms+give+index+init+item+key+lets+list+local+monad+nest+op+pass+pick+plain+redo+rest+run+set+step+tail+tails+term+test+till+unit+valof+when+whole.{statement}
 use Rattle.tree.proofs.phrases.+also+arg+bare+block+body+call+cases+cmd+expr+form+forms+give+index+init+item+key+lets+list+local+monad+nest+op+pass+pick+plain+redo+rest+run+set+step+tail+tails+term+test+till+unit+valof+when+whole.Tie.{close}
-use Ranks.{μ-arg, μ-set, μ-block, μ-body, μ-call, μ-run, μ-cmd, μ-also, μ-op, μ-expr, μ-step, μ-form, μ-forms, μ-init, μ-when, μ-index, μ-key, μ-cases, μ-list, μ-item, μ-local, μ-lets, μ-monad, μ-pass, μ-plain, μ-unit, μ-redo, μ-rest, μ-give, μ-nest, μ-bare, μ-tail, μ-whole, μ-tails, μ-pick, μ-term, μ-test, μ-till, μ-valof}
-use Terms.{arg-ok, call-ok, run-ok, also-ok, op-ok, expr-ok, index-ok, key-ok, monad-ok, pass-ok, unit-ok, rest-ok, nest-ok, tail-ok, whole-ok, tails-ok, term-ok, valof-ok}
-use Forms.{set-ok, body-ok, cmd-ok, form-ok, forms-ok, when-ok, cases-ok, plain-ok, redo-ok, give-ok, bare-ok, test-ok}
-use Blocks.{block-ok, step-ok, init-ok, list-ok, item-ok, local-ok, lets-ok, pick-ok, till-ok}
+use Ranks.{also-rank, arg-rank, bare-rank, block-rank, body-rank, call-rank, cases-rank, cmd-rank, expr-rank, form-rank, forms-rank, give-rank}
+use Ranks.{index-rank, init-rank, item-rank, key-rank, lets-rank, list-rank, local-rank, monad-rank, nest-rank, op-rank, pass-rank, pick-rank}
+use Ranks.{plain-rank, redo-rank, rest-rank, run-rank, set-rank, step-rank, tail-rank, tails-rank, term-rank, test-rank, till-rank, unit-rank}
+use Ranks.{valof-rank, when-rank, whole-rank}
+use Operators.{expr-ok, monad-ok, op-ok, run-ok, term-ok}
+use Operands.{also-ok, arg-ok, call-ok, index-ok, key-ok, nest-ok, pass-ok, rest-ok, tail-ok, tails-ok, unit-ok, valof-ok, whole-ok}
+use Commands.{bare-ok, body-ok, cases-ok, cmd-ok, form-ok, forms-ok, give-ok, plain-ok, redo-ok, set-ok, test-ok, when-ok}
+use Blocks.{block-ok, init-ok, item-ok, lets-ok, list-ok, local-ok, pick-ok, step-ok, till-ok}
 
 pub +also+arg+bare+block+body+call+cases+cmd+expr+form+forms+give+index+init+item+key+lets+list+local+monad+nest+op+pass+pick+plain+redo+rest+run+set+step+tail+tails+term+test+till+unit+valof+when+whole-spec :
     {M : Type 1} → statement M
 +also+arg+bare+block+body+call+cases+cmd+expr+form+forms+give+index+init+item+key+lets+list+local+monad+nest+op+pass+pick+plain+redo+rest+run+set+step+tail+tails+term+test+till+unit+valof+when+whole-spec =
     close
-    μ-also μ-arg μ-bare μ-block μ-body μ-call μ-cases μ-cmd μ-expr μ-form μ-forms μ-give μ-index μ-init μ-item μ-key
-    μ-lets μ-list μ-local μ-monad μ-nest μ-op μ-pass μ-pick μ-plain μ-redo μ-rest μ-run μ-set μ-step μ-tail μ-tails
-    μ-term μ-test μ-till μ-unit μ-valof μ-when μ-whole
-    also-ok arg-ok bare-ok block-ok body-ok call-ok cases-ok cmd-ok expr-ok form-ok forms-ok give-ok index-ok init-ok
-    item-ok key-ok lets-ok list-ok local-ok monad-ok nest-ok op-ok pass-ok pick-ok plain-ok redo-ok rest-ok run-ok
-    set-ok step-ok tail-ok tails-ok term-ok test-ok till-ok unit-ok valof-ok when-ok whole-ok
+    (also-rank .measure) (arg-rank .measure) (bare-rank .measure) (block-rank .measure) (body-rank .measure) (call-rank .measure)
+    (cases-rank .measure) (cmd-rank .measure) (expr-rank .measure) (form-rank .measure) (forms-rank .measure) (give-rank .measure)
+    (index-rank .measure) (init-rank .measure) (item-rank .measure) (key-rank .measure) (lets-rank .measure) (list-rank .measure)
+    (local-rank .measure) (monad-rank .measure) (nest-rank .measure) (op-rank .measure) (pass-rank .measure) (pick-rank .measure)
+    (plain-rank .measure) (redo-rank .measure) (rest-rank .measure) (run-rank .measure) (set-rank .measure) (step-rank .measure) (tail-rank .measure)
+    (tails-rank .measure) (term-rank .measure) (test-rank .measure) (till-rank .measure) (unit-rank .measure) (valof-rank .measure)
+    (when-rank .measure) (whole-rank .measure)
+    also-ok arg-ok bare-ok block-ok body-ok call-ok cases-ok cmd-ok expr-ok form-ok forms-ok give-ok index-ok init-ok item-ok key-ok lets-ok list-ok
+    local-ok monad-ok nest-ok op-ok pass-ok pick-ok plain-ok redo-ok rest-ok run-ok set-ok step-ok tail-ok tails-ok term-ok test-ok till-ok unit-ok
+    valof-ok when-ok whole-ok

@@ -1,0 +1,143 @@
+-- Laws of room: what one call after another leaves of what the symbols read allow, and what the next call may ask.
+-- A premise's numbers come from the conclusion and from the call that the first premise names, so that `search` finds every argument.
+use Prim.Native.Nat.{ℕ, _+_, _*_, _-_, _≤_, _<_, _^_}
+use mathlib.Core.Path.{_≡_, refl, _∙_}
+use mathlib.Core.Bool.{true}
+use mathlib.Core.List.{List}
+use native.Mathlib.Omega.{arith}
+use lib.ListN.{length, take}
+use lib.Dec.{leb}
+use borrow.Author.Tests.{leb-true}
+use Rattle.tree.specs.Reads.{Ready, LeavesRoom, TakesRoom, nextOf, lowOf, freeOf, live, reach}
+use Rattle.tree.proofs.Helpers.{itself, base, low}
+use Rattle.tree.specs.declared.scratch.State.{State}
+use Rattle.tree.specs.declared.scratch.State.the-variants.{Read, Refused}
+
+-- a refusal stays one
+by-lives : (P : ℕ → ℕ → Type 0) → P 0 0 → P 1 0 → P 1 1 → (r r′ : State) → live r′ ≤ live r → P (live r) (live r′)
+unfolding live
+by-lives P a b c (Refused k p) (Refused i q) h = a
+by-lives P a b c (Refused k p) (Read at free) h = absurd (omega arith)
+by-lives P a b c (Read at free) (Refused k p) h = b
+by-lives P a b c (Read at free) (Read m nf) h = c
+
+-- from r to r′ so many entries are gained, and so many lost
+record Moves (gain loss : ℕ) (s s′ : List ℕ) (n : ℕ) (r r′ : State) : Type 0 where
+  placed : nextOf r′ ≤ n
+  above : n * 3 ≤ lowOf n r′
+  moves : reach n r′ + live r′ * gain ≤ reach n r + live r′ * loss
+  lives : live r′ ≤ live r
+  dead : reach n r′ ≤ live r′ * 2 ^ 32
+  kept : take (n * 3) s′ ≡ take (n * 3) s
+
+module _ {s s′ : List ℕ} {n : ℕ} {r r′ : State} where
+  gains : {k : ℕ} → LeavesRoom k s s′ n r r′ → Moves k 0 s s′ n r r′
+  gains f = record { placed = f .placed; above = f .above; moves = omega (arith, f .leaves); lives = f .lives; dead = f .dead; kept = f .kept }
+
+  loses : {k : ℕ} → TakesRoom k s s′ n r r′ → Moves 0 k s s′ n r r′
+  loses f = record { placed = f .placed; above = f .above; moves = omega (arith, f .more); lives = f .lives; dead = f .dead; kept = f .kept }
+
+  leaving : {a b m : ℕ} → Moves a b s s′ n r r′ → m + b ≤ a → LeavesRoom m s s′ n r r′
+  leaving {a} {b} {m} f h =
+      record {
+        placed = f .placed;
+        above = f .above;
+        leaves = by-lives (λ _ y. reach n r′ + y * a ≤ reach n r + y * b → reach n r′ + y * m ≤ reach n r) (omega arith) (omega arith) (omega arith) r r′ (f .lives) (f .moves);
+        lives = f .lives;
+        dead = f .dead;
+        kept = f .kept;
+      }
+
+  taking : {a b m : ℕ} → Moves a b s s′ n r r′ → b ≤ a + m → TakesRoom m s s′ n r r′
+  taking {a} {b} {m} f h =
+      record {
+        placed = f .placed;
+        above = f .above;
+        more = by-lives (λ _ y. reach n r′ + y * a ≤ reach n r + y * b → reach n r′ ≤ reach n r + y * m) (omega arith) (omega arith) (omega arith) r r′ (f .lives) (f .moves);
+        lives = f .lives;
+        dead = f .dead;
+        kept = f .kept;
+      }
+
+  -- one call
+  pub leaves-less : {m j : ℕ} → LeavesRoom j s s′ n r r′ → leb m j ≡ true → LeavesRoom m s s′ n r r′
+  leaves-less {m} {j} f h = leaving (gains f) (omega (arith, leb-true m j h))
+
+  pub takes-more : {m j : ℕ} → TakesRoom j s s′ n r r′ → leb j m ≡ true → TakesRoom m s s′ n r r′
+  takes-more {m} {j} f h = taking (loses f) (omega (arith, leb-true j m h))
+
+  pub takes-none : {m j : ℕ} → LeavesRoom j s s′ n r r′ → TakesRoom m s s′ n r r′
+  takes-none f = taking (gains f) (omega arith)
+
+  -- what the next call may ask
+  pub ready-leaves : {m k : ℕ} → LeavesRoom k s s′ n r r′ → length s′ ≡ length s → leb m 64 ≡ true → Ready (m - k) s n r → Ready m s′ n r′
+  ready-leaves {m} {k} f e q h =
+      record {
+        placed = f .placed;
+        above = f .above;
+        room = by-lives (λ _ y. reach n r′ + y * k ≤ reach n r → reach n r′ ≤ y * 2 ^ 32 → reach n r′ + m ≤ length s′)
+            (omega (arith, h .wide, leb-true m 64 q)) (omega (arith, h .wide, leb-true m 64 q)) (omega (arith, h .room)) r r′ (f .lives) (f .leaves) (f .dead);
+        wide = omega (arith, h .wide);
+        small = omega (arith, h .small);
+      }
+
+  pub ready-takes : {m k : ℕ} → TakesRoom k s s′ n r r′ → length s′ ≡ length s → Ready (m + k) s n r → Ready m s′ n r′
+  ready-takes {m} {k} f e h =
+      record {
+        placed = f .placed;
+        above = f .above;
+        room = by-lives (λ _ y. reach n r′ ≤ reach n r + y * k → reach n r′ ≤ y * 2 ^ 32 → reach n r′ + m ≤ length s′)
+            (omega (arith, h .room)) (omega (arith, h .room)) (omega (arith, h .room)) r r′ (f .lives) (f .more) (f .dead);
+        wide = omega (arith, h .wide);
+        small = omega (arith, h .small);
+      }
+
+module _ {s s′ s″ : List ℕ} {n : ℕ} {r r′ r″ : State} where
+  infixr 5 _and-then_
+  _and-then_ : {a b c d : ℕ} → Moves a b s s′ n r r′ → Moves c d s′ s″ n r′ r″ → Moves (a + c) (b + d) s s″ n r r″
+  _and-then_ {a} {b} {c} {d} f g =
+      record {
+        placed = g .placed;
+        above = g .above;
+        moves = by-lives (λ x y. reach n r′ + x * a ≤ reach n r + x * b → reach n r″ + y * c ≤ reach n r′ + y * d → reach n r″ ≤ y * 2 ^ 32 → reach n r″ + y * (a + c) ≤ reach n r + y * (b + d))
+            (omega arith) (omega arith) (omega arith) r′ r″ (g .lives) (f .moves) (g .moves) (g .dead);
+        lives = omega (arith, f .lives, g .lives);
+        dead = g .dead;
+        kept = g .kept ∙ f .kept;
+      }
+
+  -- a last call, after what was left or taken before it
+  pub leaves-leaves : {m k : ℕ} → LeavesRoom k s′ s″ n r′ r″ → LeavesRoom (m - k) s s′ n r r′ → LeavesRoom m s s″ n r r″
+  leaves-leaves g f = leaving (gains f and-then gains g) (omega arith)
+
+  pub takes-leaves : {m k : ℕ} → TakesRoom k s′ s″ n r′ r″ → LeavesRoom (m + k) s s′ n r r′ → LeavesRoom m s s″ n r r″
+  takes-leaves g f = leaving (gains f and-then loses g) (omega arith)
+
+  pub leaves-after : {m k : ℕ} → LeavesRoom k s′ s″ n r′ r″ → leb m k ≡ true → TakesRoom (k - m) s s′ n r r′ → LeavesRoom m s s″ n r r″
+  leaves-after {m} {k} g h f = leaving (loses f and-then gains g) (omega (arith, leb-true m k h))
+
+  pub leaves-takes : {m k : ℕ} → LeavesRoom k s′ s″ n r′ r″ → TakesRoom (m + k) s s′ n r r′ → TakesRoom m s s″ n r r″
+  leaves-takes g f = taking (loses f and-then gains g) (omega arith)
+
+  pub takes-takes : {m k : ℕ} → TakesRoom k s′ s″ n r′ r″ → leb k m ≡ true → TakesRoom (m - k) s s′ n r r′ → TakesRoom m s s″ n r r″
+  takes-takes {m} {k} g h f = taking (loses f and-then loses g) (omega (arith, leb-true k m h))
+
+  pub takes-after : {m k : ℕ} → TakesRoom k s′ s″ n r′ r″ → leb m k ≡ true → LeavesRoom (k - m) s s′ n r r′ → TakesRoom m s s″ n r r″
+  takes-after {m} {k} g h f = taking (gains f and-then loses g) (omega (arith, leb-true m k h))
+
+module _ {j : ℕ} {s : List ℕ} {n : ℕ} {r : State} where
+  pub ready-part : {m : ℕ} → Ready j s n r → leb m j ≡ true → Ready m s n r
+  ready-part {m} h q = record { placed = h .placed; above = h .above; room = omega (arith, h .room, leb-true m j q); wide = h .wide; small = h .small }
+
+  pub leaves-all : Ready j s n r → LeavesRoom 0 s s n r r
+  leaves-all h = itself h
+
+-- an item begins behind the symbols, and what it holds is smaller than an entry can count
+module _ {s : List ℕ} {n : ℕ} {r : State} where
+  pub item-low : {lo : ℕ} → lo ≡ freeOf (length s) r → Ready 0 s n r → n * 3 ≤ lo
+  item-low e h = omega (arith, base h)
+
+  pub size-small : (lo : ℕ) {size free : ℕ} → size ≡ free - lo → free ≡ freeOf (length s) r → Ready 0 s n r → size < 2 ^ 32
+  size-small lo q e h = omega (arith, low h, h .small)
+
+pub ruleset rooms = (leaves-less, leaves-leaves, takes-leaves, leaves-after, takes-more, takes-none, leaves-takes, takes-takes, takes-after, leaves-all)
