@@ -4,6 +4,7 @@ pub mod ListEnd
 pub mod Helpers
 pub mod Rooms
 pub mod Symbols
+pub mod Loops
 pub mod Classes
 pub mod Leaves
 pub mod Readers

@@ -14,15 +14,14 @@ use Rattle.language.specs.Binding.{reachOf, NEGATION, LOOSEST}
 use Rattle.language.specs.Expressions as E
 use Rattle.language.specs.Expressions.{Inside, inside, shut, opening}
 use Rattle.language.specs.Grammar.{within, readers}
-use Rattle.tree.specs.Reads.{Ready, LeavesRoom, TakesRoom, Reading, HoldsSymbols, Here, KindHere, Follows, Encodes, Prepends, Reads, Refuses, Adds, recordFrom, behindFrom, Seals, freeOf}
+use Rattle.tree.specs.Reads.{TakesRoom, Reading, HoldsSymbols, Here, KindHere, Follows, Encodes, Prepends, Reads, Refuses, Adds, recordFrom, behindFrom, Seals, freeOf}
 use Rattle.tree.specs.Between.{PrependsSuffix, PrependsOne, anArgument, aFurther, rightOf}
 use Rattle.tree.specs.Encoding.{MONADIC, DYADIC, item, behind, closed, suffixedKind, encode, encodeExpressions, encodeSuffixes, encodeOperations, encodeCommand}
 use Rattle.tree.proofs.Steps.{follow, bind, here, added, adds-on, goes-on, _then_, nothing, stopped}
 use Rattle.tree.proofs.Lists.{sealed, last, turned}
-use Rattle.tree.proofs.Symbols.{inside as among, placed, mapped, the-is, stays, lies-still}
+use Rattle.tree.proofs.Symbols.{inside as among, placed, mapped, the-is, stays}
 use Rattle.tree.proofs.Classes.{positive}
-use Rattle.tree.proofs.Rooms.{rooms}
-use Rattle.tree.proofs.Helpers.{low}
+use Rattle.tree.proofs.Rooms.{takes-leaves}
 use Rattle.tree.specs.declared.scratch.State.{State}
 use Rattle.tree.specs.declared.scratch.State.the-variants.{Read}
 
@@ -122,14 +121,6 @@ module _ (src : Source) {r : State} (size : ℕ) (x : ℕ) {lo : ℕ} (lo-is : l
   argument-read le a d b =
       item-alone T.andExpression 0 size encode (λ e. record { puts = λ rest. refl; one = λ rest. omega arith }) lo-is le a d b
 
-pub argument-reads :
-    (x : ℕ) {lo n : ℕ} {s s₁ s₂ s₃ : List ℕ} {r r₁ r₂ : State} → lo ≡ freeOf (length s) r → Ready 2 s n r
-    → TakesRoom 2 s s₁ n r r₁ × Adds (λ _. 0 ∷ 0 ∷ []) s s₁ r r₁ → Reading 1 (E.expression (within x) LOOSEST) (Encodes encode) s₁ s₂ n r₁ r₂
-    → LeavesRoom 0 s₂ s₃ n r₂ r₂ × Seals lo s₂ s₃ r₂
-    → TakesRoom 1 s s₃ n r r₂ × ((src : Source) → HoldsSymbols src n s → Follows (anArgument x src) PrependsOne s s₃ r r₂)
-argument-reads x q h a d b =
-    (search rooms, λ src l. argument-read src _ _ q (low h) (a .1) (d .1 src (lies-still l (a .0 .kept))) (b .1))
-
 module _ (src : Source) {r : State} (size : ℕ) (x : ℕ) {lo : ℕ} (lo-is : lo ≡ freeOf size r) {s s₁ s₂ : List ℕ} {r₁ r₂ : State} where
   pub index-read : {r₀ : State} → Reads (the K.PLING src) (λ _. []) s s r r₀ → Reads (E.subscript (within x) src) encode s s₁ r₀ r₁ → Adds (behindFrom lo K.PLING) s₁ s₂ r₁ r₂ → Follows (E.index (within x) src) (PrependsSuffix false) s s₂ r r₂
   unfolding E.index encodeSuffixes T.endsInCall
@@ -156,11 +147,15 @@ module _ (src : Source) (x : ℕ) {s : List ℕ} {r : State} {kind : ℕ} (k : K
   some-arguments {n} {s₁} {s₂} {r₁} {r₂} {r₃} size en q a b c =
       here _ (λ at free e. ap (λ (z : Bool). cond z (ok T.noExpressions (at + 1)) (oneUpToClose T.noExpressions (anArgument x) src at)) (ne-eqb (kindAt src at) K.CLOSE (λ y. q (k .here at free e ∙ y))))
       (follow size a (goes-on b then goes-on c) (λ put w h q₁. bind size encodeExpressions (subst (λ (m : ℕ). Reads (manyUpTo m T.noExpressions isComma (aFurther x) src) encodeExpressions s₁ s₂ r₁ r₂) (sym en) b) (goes-on c) (λ rest q₂. bind size (λ _. []) c stays (λ _ q₃. nothing (record { same = ap (λ (v : List ℕ). w ++ v) (append-nil (encodeExpressions rest)) ∙ sym (h .puts rest) })))))
-  -- a comma and an argument
 
-pub further-read : (src : Source) (x : ℕ) {s s₁ : List ℕ} {r r₀ r₁ : State} (size : ℕ) → Reads (the K.COMMA src) (λ _. []) s s r r₀ → Follows (anArgument x src) PrependsOne s s₁ r₀ r₁ → Follows (aFurther x src) PrependsOne s s₁ r r₁
+-- a comma and an argument
+pub further-reads :
+    (x : ℕ) {n : ℕ} {s s₁ : List ℕ} {r r₀ r₁ : State} → Reading 5 (the K.COMMA) (Encodes (λ _. [])) s s n r r₀
+    → TakesRoom 1 s s₁ n r₀ r₁ × ((src : Source) → HoldsSymbols src n s → Follows (anArgument x src) PrependsOne s s₁ r₀ r₁)
+    → Reading 4 (aFurther x) PrependsOne s s₁ n r r₁
 unfolding aFurther
-further-read src x size c a = bind size (λ _. []) c (goes-on a) (λ _ q. a)
+further-reads x c a =
+    (takes-leaves (a .0) (c .0), λ src l. bind 0 (λ _. []) (c .1 src l) (goes-on (a .1 src l)) (λ _ q. a .1 src l))
 
 -- chains of operators
 pub chain-is : (inner : Inside) (src : Source) (b at : ℕ) → (b ≡ 0 → ⊥) → (b ≡ NEGATION → ⊥) → b ≤ LOOSEST → E.expression inner b src at ≡ onOut (E.expression inner (b - 1) src at) (λ e m. onOut (E.operations b (E.expression inner (rightOf b)) src m) (λ os q. ok (withOperations e os) q))

@@ -106,6 +106,13 @@ module _ {s s′ s″ : List ℕ} {n : ℕ} {r r′ r″ : State} where
         kept = g .kept ∙ f .kept;
       }
 
+  -- what either of two calls leaves, both leave
+  pub leaves-first : {j k : ℕ} → LeavesRoom j s s′ n r r′ → LeavesRoom k s′ s″ n r′ r″ → LeavesRoom j s s″ n r r″
+  leaves-first f g = leaving (gains f and-then gains g) (omega arith)
+
+  pub leaves-last : {j k : ℕ} → LeavesRoom j s s′ n r r′ → LeavesRoom k s′ s″ n r′ r″ → LeavesRoom k s s″ n r r″
+  leaves-last f g = leaving (gains f and-then gains g) (omega arith)
+
   -- a last call, after what was left or taken before it
   pub leaves-leaves : {m k : ℕ} → LeavesRoom k s′ s″ n r′ r″ → LeavesRoom (m - k) s s′ n r r′ → LeavesRoom m s s″ n r r″
   leaves-leaves g f = leaving (gains f and-then gains g) (omega arith)

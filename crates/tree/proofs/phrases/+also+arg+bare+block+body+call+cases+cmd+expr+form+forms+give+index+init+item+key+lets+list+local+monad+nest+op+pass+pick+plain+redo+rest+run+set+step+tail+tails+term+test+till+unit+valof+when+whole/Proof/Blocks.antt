@@ -7,24 +7,24 @@ use Rattle.language.specs.Tree as T
 use Rattle.language.specs.Commands as C
 use Prim.Native.Nat.{ℕ, _+_, _-_}
 use Rattle.language.specs.Grammar.{within, readers}
-use Rattle.language.specs.Reader.{Source, manyUpTo, moreUpTo}
+use Rattle.language.specs.Reader.{manyUpTo, moreUpTo}
 use Rattle.tree.proofs.Blocks.{for-read, switchon-read, block-read, listed-read, no-command-words, no-commands, semicolon-commands}
 use Rattle.tree.proofs.Blocks.{some-commands}
 use Rattle.tree.proofs.Classes.{unlike2}
-use Rattle.tree.proofs.Helpers.{low, weaker, fitted, both, then-grows, itself, grows-then, grows-fits, as-grows, grows-more}
+use Rattle.tree.proofs.Helpers.{low, weaker, fitted, both, then-grows, grows-then, grows-fits, as-grows, grows-more}
 use Rattle.tree.proofs.Lets.{values-read, one-name, vector-is, vector-not, given-vector, given-values, no-local-words, local-read}
-use Rattle.tree.proofs.ListEnd.{list-end, list-semicolon-end, list-more, semicolon-item, list-spent}
-use Rattle.tree.proofs.Lists.{Partly, begins, more, closes, ends, last, turned, spent}
-use Rattle.tree.proofs.Rooms.{ready-leaves, ready-takes, ready-part, item-low, size-small}
+use Rattle.tree.proofs.Lists.{Before}
+use Rattle.tree.proofs.Loops.{SoFar, at-any, before-first, before-next, before-last, wordless, so-begins, many-turns, many-ends, many-spent}
+use Rattle.tree.proofs.Loops.{list-spents, list-ends, list-semicolon-ends, list-goes-on}
+use Rattle.tree.proofs.Rooms.{takes-more, ready-leaves, ready-takes, ready-part, item-low, size-small}
 use Rattle.tree.proofs.Steps.{goes-on, adds-on, _then_}
 use Rattle.tree.proofs.Symbols.{lies-still}
 use Rattle.tree.specs.Encoding.{encodeCommands, encodeLocals}
-use Rattle.tree.specs.Reads.{HoldsSymbols, freeOf, LeavesRoom}
+use Rattle.tree.specs.Reads.{freeOf}
 use borrow.Author.Needs.{needs}
 use borrow.Author.Tests.{eq-eqb, ne-eqb}
 use lib.Dec.{eqb}
-use lib.ListN.{length}
-use mathlib.Core.Path.{_≡_, refl, sym, ap, _∙_}
+use mathlib.Core.Path.{refl, sym, ap, _∙_}
 use native.Mathlib.Omega.{arith}
 use proofs.parts.a_name.Reads as a-name
 use proofs.scratch.begin_item.Reads as begin-item
@@ -40,8 +40,8 @@ use proofs.parts.optional_by.Reads as optional-by
 use proofs.scratch.refuse.Reads as refuse
 use proofs.scratch.set_size.Reads as set-size
 use proofs.parts.vector.Reads as vector
-use cycle.Proof.Ranks.{at, below, pair, three, claims-4, claims-6, claims-7, claims-8, claims-9, arg-rank, block-rank, cmd-rank, expr-rank}
-use cycle.Proof.Ranks.{init-rank, item-rank, lets-rank, list-rank, local-rank, pick-rank, rest-rank, step-rank, till-rank}
+use cycle.Proof.Ranks.{at, below, pair, claims-4, claims-6, claims-7, claims-8, claims-9, arg-rank, block-rank, cmd-rank, expr-rank, init-rank}
+use cycle.Proof.Ranks.{item-rank, lets-rank, list-rank, local-rank, pick-rank, rest-rank, step-rank, till-rank}
 
 abbrev step-cs : ℕ → cycle.Lts-step.Claims
 step-cs t =
@@ -268,9 +268,8 @@ list-cs t = (kind-here.Asked, kind-here.Learnt, expect.Asked, expect.Learnt, bel
 
 abbrev list-inv : cycle.Lts-list.InvT-loop
 list-inv s₀ n levels turns₀ a₀ s turns a =
-    LeavesRoom 0 s₀ s n a₀ a × (length s ≡ length s₀) ×
-    ((src : Source) → HoldsSymbols src n s₀ → Partly (moreUpTo turns₀ T.noCommands (C.listed (readers (within levels))) src)
-    (moreUpTo turns T.noCommands (C.listed (readers (within levels))) src) encodeCommands s₀ s a₀ a)
+    SoFar (Before encodeCommands) (moreUpTo turns₀ T.noCommands (C.listed (readers (within levels))))
+    (moreUpTo turns T.noCommands (C.listed (readers (within levels)))) s₀ s n a₀ a
 
 abbrev list-turns : cycle.Lts-list.MeasureT-loop
 list-turns s₀ n levels turns₀ a₀ s turns a = turns
@@ -278,16 +277,13 @@ list-turns s₀ n levels turns₀ a₀ s turns a = turns
 list-kind-here-requires : (t : ℕ) → cycle.Lts-list.Need-kind-here-requires (list-cs t) (at list-rank t) phrases.list.Reads.Post list-inv list-turns
 list-kind-here-requires t c κs =
     let in-loop = c .before .before in let start = in-loop .before .before in
-    ready-leaves (in-loop .loop .inv .0) (in-loop .loop .inv .1) refl (start .pre .1)
+    ready-leaves (in-loop .loop .inv .room) (in-loop .loop .inv .same) refl (start .pre .1)
 
 list-returns : (t : ℕ) → cycle.Lts-list.Need-returns (list-cs t) (at list-rank t) phrases.list.Reads.Post list-inv list-turns
 list-returns t c =
     let after-if1 = c .before .before in let after-kind-here = after-if1 .before in let in-loop = after-kind-here .before .before .before in
-    let start = in-loop .before .before in
-    pair (both (in-loop .loop .inv .0) (c .expect .ensures .0))
-    (λ src l. closes (in-loop .loop .inv .2 src l) (list-end T.noCommands (C.listed (readers (within (start .args .levels)))) src
-    (after-kind-here .kind-here .ensures src (lies-still l (in-loop .loop .inv .0 .kept))) encodeCommands no-command-words (in-loop .loop .turns)
-    (omega arith) (after-if1 .if1 .taken) (c .expect .ensures .1 src (lies-still l (in-loop .loop .inv .0 .kept)))))
+    list-ends _ _ _ (in-loop .loop .inv) (after-kind-here .kind-here .ensures) no-command-words (after-if1 .if1 .taken) (c .expect .ensures)
+    (omega arith)
 
 list-expect-requires-2 : (t : ℕ) → cycle.Lts-list.Need-expect-requires-2 (list-cs t) (at list-rank t) phrases.list.Reads.Post list-inv list-turns
 list-expect-requires-2 t c κs = (list-kind-here-requires t (c .before .before .before) κs, omega arith)
@@ -300,13 +296,9 @@ list-returns-2 : (t : ℕ) → cycle.Lts-list.Need-returns-2 (list-cs t) (at lis
 list-returns-2 t c =
     let after-if2 = c .before .before in let after-kind-here2 = after-if2 .before in let after-expect2 = after-kind-here2 .before .before in
     let after-if1 = after-expect2 .before .before in let after-kind-here = after-if1 .before in
-    let in-loop = after-kind-here .before .before .before in let start = in-loop .before .before in
-    pair (weaker (omega arith) (both (both (in-loop .loop .inv .0) (after-expect2 .expect2 .ensures .0)) (c .expect3 .ensures .0)))
-    (λ src l. closes (in-loop .loop .inv .2 src l) (list-semicolon-end T.noCommands (C.listed (readers (within (start .args .levels)))) src
-    (after-kind-here .kind-here .ensures src (lies-still l (in-loop .loop .inv .0 .kept))) encodeCommands no-command-words (in-loop .loop .turns)
-    (omega arith) (after-if1 .if1 .left) (after-kind-here2 .kind-here2 .ensures src (lies-still l (in-loop .loop .inv .0 .kept)))
-    (after-if2 .if2 .taken) (after-expect2 .expect2 .ensures .1 src (lies-still l (in-loop .loop .inv .0 .kept)))
-    (c .expect3 .ensures .1 src (lies-still l (in-loop .loop .inv .0 .kept)))))
+    let in-loop = after-kind-here .before .before .before in
+    list-semicolon-ends _ _ _ (in-loop .loop .inv) (after-kind-here .kind-here .ensures) no-command-words (after-if1 .if1 .left)
+    (after-expect2 .expect2 .ensures) (after-kind-here2 .kind-here2 .ensures) (after-if2 .if2 .taken) (c .expect3 .ensures) (omega arith)
 
 list-item-requires : (t : ℕ) → cycle.Lts-list.Need-item-requires (list-cs t) (at list-rank t) phrases.list.Reads.Post list-inv list-turns
 list-item-requires t c κs =
@@ -319,39 +311,26 @@ list-loop-again : (t : ℕ) → cycle.Lts-list.Need-loop-again (list-cs t) (at l
 list-loop-again t c =
     let after-item = c .before .before in let after-if2 = after-item .before .before in let after-kind-here2 = after-if2 .before in
     let after-expect2 = after-kind-here2 .before .before in let after-if1 = after-expect2 .before .before in
-    let after-kind-here = after-if1 .before in let in-loop = after-kind-here .before .before .before in let start = in-loop .before .before in
-    three (weaker (omega arith) (then-grows (both (in-loop .loop .inv .0) (after-expect2 .expect2 .ensures .0)) (after-item .item .ensures .0)
-    (omega arith))) (after-item .item .kept .0 ∙ in-loop .loop .inv .1)
-    (λ src l. (let d = after-expect2 .expect2 .ensures .1 src (lies-still l (in-loop .loop .inv .0 .kept)) in more
-    (moreUpTo (in-loop .loop .turns - 1) T.noCommands (C.listed (readers (within (start .args .levels)))) src)
-    (list-more T.noCommands (C.listed (readers (within (start .args .levels)))) src
-    (after-kind-here .kind-here .ensures src (lies-still l (in-loop .loop .inv .0 .kept))) (after-if1 .if1 .left)
-    (after-kind-here2 .kind-here2 .ensures src (lies-still l (in-loop .loop .inv .0 .kept))) (after-if2 .if2 .left) d (in-loop .loop .turns)
-    (omega arith)) (in-loop .loop .inv .2 src l) (semicolon-item T.noCommands (C.listed (readers (within (start .args .levels)))) src
-    (after-kind-here .kind-here .ensures src (lies-still l (in-loop .loop .inv .0 .kept))) (after-if1 .if1 .left)
-    (after-kind-here2 .kind-here2 .ensures src (lies-still l (in-loop .loop .inv .0 .kept))) (after-if2 .if2 .left) d
-    (after-item .item .ensures .1 src (lies-still l (in-loop .loop .inv .0 .kept))))))
+    let after-kind-here = after-if1 .before in let in-loop = after-kind-here .before .before .before in
+    list-goes-on _ _ _ (in-loop .loop .inv) (after-kind-here .kind-here .ensures) (after-if1 .if1 .left) (after-expect2 .expect2 .ensures)
+    (after-kind-here2 .kind-here2 .ensures) (after-if2 .if2 .left) (takes-more (after-item .item .ensures .0) refl) (after-item .item .kept .0)
+    (after-item .item .ensures .1) (omega arith)
 
 list-refuse-requires : (t : ℕ) → cycle.Lts-list.Need-refuse-requires (list-cs t) (at list-rank t) phrases.list.Reads.Post list-inv list-turns
 list-refuse-requires t c κs =
     let in-loop = c .before .before in let start = in-loop .before .before in
-    ready-leaves (in-loop .loop .inv .0) (in-loop .loop .inv .1) refl (start .pre .1)
+    ready-leaves (in-loop .loop .inv .room) (in-loop .loop .inv .same) refl (start .pre .1)
 
 list-returns-3 : (t : ℕ) → cycle.Lts-list.Need-returns-3 (list-cs t) (at list-rank t) phrases.list.Reads.Post list-inv list-turns
-list-returns-3 t c =
-    let in-loop = c .before .before .before in let start = in-loop .before .before in
-    pair (both (in-loop .loop .inv .0) (c .refuse .ensures .0))
-    (λ src l. closes (in-loop .loop .inv .2 src l) (list-spent T.noCommands (C.listed (readers (within (start .args .levels)))) src
-    (in-loop .loop .turns) (omega arith) (c .refuse .ensures .1)))
+list-returns-3 t c = list-spents _ _ _ (c .before .before .before .loop .inv) (c .refuse .ensures) (omega arith)
 
 pub list-ok : {M : Type 1} (t : ℕ) → cycle.Lts-list.Closed (list-cs t) (at list-rank t) phrases.list.Reads.Post M
 list-ok t =
-    cycle.Lts-list.spec (list-cs t) (at list-rank t) phrases.list.Reads.Post list-inv list-turns
-    (λ c. (itself (c .before .pre .1), refl, λ src l. begins)) (list-kind-here-requires t)
-    (λ c κs. (list-kind-here-requires t (c .before .before .before) κs, omega arith)) (λ c. search needs) (list-returns t) (list-expect-requires-2 t)
-    (list-kind-here-requires-2 t) (λ c κs. (list-kind-here-requires-2 t (c .before .before .before) κs, omega arith)) (λ c. search needs)
-    (list-returns-2 t) (list-item-requires t) (λ c. omega arith) (λ c. omega arith) (list-loop-again t) (list-refuse-requires t) (λ c. search needs)
-    (list-returns-3 t)
+    cycle.Lts-list.spec (list-cs t) (at list-rank t) phrases.list.Reads.Post list-inv list-turns (λ c. so-begins (c .before .pre .1) before-first)
+    (list-kind-here-requires t) (λ c κs. (list-kind-here-requires t (c .before .before .before) κs, omega arith)) (λ c. search needs) (list-returns t)
+    (list-expect-requires-2 t) (list-kind-here-requires-2 t) (λ c κs. (list-kind-here-requires-2 t (c .before .before .before) κs, omega arith))
+    (λ c. search needs) (list-returns-2 t) (list-item-requires t) (λ c. omega arith) (λ c. omega arith) (list-loop-again t) (list-refuse-requires t)
+    (λ c. search needs) (list-returns-3 t)
 
 abbrev till-cs : ℕ → cycle.Lts-till.Claims
 till-cs t =
@@ -450,9 +429,8 @@ lets-cs t = (kind-here.Asked, kind-here.Learnt, below local-rank t, phrases.loca
 
 abbrev lets-inv : cycle.Lts-lets.InvT-loop
 lets-inv s₀ n levels turns₀ a₀ s turns a =
-    LeavesRoom 0 s₀ s n a₀ a × (length s ≡ length s₀) ×
-    ((src : Source) → HoldsSymbols src n s₀ → Partly (manyUpTo turns₀ T.noLocals (λ kind. eqb kind K.LET) (C.local (readers (within levels))) src)
-    (manyUpTo turns T.noLocals (λ kind. eqb kind K.LET) (C.local (readers (within levels))) src) encodeLocals s₀ s a₀ a)
+    SoFar (Before encodeLocals) (manyUpTo turns₀ T.noLocals (λ kind. eqb kind K.LET) (C.local (readers (within levels))))
+    (manyUpTo turns T.noLocals (λ kind. eqb kind K.LET) (C.local (readers (within levels)))) s₀ s n a₀ a
 
 abbrev lets-turns : cycle.Lts-lets.MeasureT-loop
 lets-turns s₀ n levels turns₀ a₀ s turns a = turns
@@ -460,39 +438,29 @@ lets-turns s₀ n levels turns₀ a₀ s turns a = turns
 lets-kind-here-requires : (t : ℕ) → cycle.Lts-lets.Need-kind-here-requires (lets-cs t) (at lets-rank t) phrases.lets.Reads.Post lets-inv lets-turns
 lets-kind-here-requires t c κs =
     let in-loop = c .before .before in let start = in-loop .before .before in
-    ready-leaves (in-loop .loop .inv .0) (in-loop .loop .inv .1) refl (start .pre .1)
+    ready-leaves (in-loop .loop .inv .room) (in-loop .loop .inv .same) refl (start .pre .1)
 
 lets-returns : (t : ℕ) → cycle.Lts-lets.Need-returns (lets-cs t) (at lets-rank t) phrases.lets.Reads.Post lets-inv lets-turns
 lets-returns t c =
-    let after-kind-here = c .before in let in-loop = after-kind-here .before .before .before in let start = in-loop .before .before in
-    pair (in-loop .loop .inv .0) (λ src l. ends T.noLocals no-local-words
-    (λ at free e. last T.noLocals (λ kind. eqb kind K.LET) (C.local (readers (within (start .args .levels)))) src _ at
-    (ne-eqb _ _ (λ z. c .if1 .taken ((after-kind-here .kind-here .ensures src (lies-still l (in-loop .loop .inv .0 .kept))) .here at free e ∙ z))))
-    (in-loop .loop .inv .2 src l))
+    let after-kind-here = c .before in let in-loop = after-kind-here .before .before .before in
+    many-ends _ _ _ _ before-last (wordless no-local-words) refl (in-loop .loop .inv) (after-kind-here .kind-here .ensures)
+    (ne-eqb _ _ (c .if1 .taken))
 
 lets-loop-again : (t : ℕ) → cycle.Lts-lets.Need-loop-again (lets-cs t) (at lets-rank t) phrases.lets.Reads.Post lets-inv lets-turns
 lets-loop-again t c =
     let after-local = c .before .before in let after-if1 = after-local .before .before in let after-kind-here = after-if1 .before in
-    let in-loop = after-kind-here .before .before .before in let start = in-loop .before .before in
-    three (weaker (omega arith) (both (in-loop .loop .inv .0) (after-local .local .ensures .0))) (after-local .local .kept .0 ∙ in-loop .loop .inv .1)
-    (λ src l. more (manyUpTo (in-loop .loop .turns - 1) T.noLocals (λ kind. eqb kind K.LET) (C.local (readers (within (start .args .levels)))) src)
-    (λ at free e. turned T.noLocals (λ kind. eqb kind K.LET) (C.local (readers (within (start .args .levels)))) src (in-loop .loop .turns) at
-    (omega arith) (eq-eqb _ _ (sym ((after-kind-here .kind-here .ensures src (lies-still l (in-loop .loop .inv .0 .kept))) .here at free e) ∙
-    after-if1 .if1 .left))) (in-loop .loop .inv .2 src l) (after-local .local .ensures .1 src (lies-still l (in-loop .loop .inv .0 .kept))))
+    let in-loop = after-kind-here .before .before .before in
+    many-turns _ _ _ _ before-next (in-loop .loop .inv) (after-kind-here .kind-here .ensures) (eq-eqb _ _ (after-if1 .if1 .left))
+    (at-any (after-local .local .ensures)) (after-local .local .kept .0) (omega arith)
 
 lets-returns-2 : (t : ℕ) → cycle.Lts-lets.Need-returns-2 (lets-cs t) (at lets-rank t) phrases.lets.Reads.Post lets-inv lets-turns
-lets-returns-2 t c =
-    let in-loop = c .before in let start = in-loop .before .before in
-    pair (in-loop .loop .inv .0) (λ src l. ends T.noLocals no-local-words
-    (λ at free e. spent T.noLocals (λ kind. eqb kind K.LET) (C.local (readers (within (start .args .levels)))) src _ at (omega arith))
-    (in-loop .loop .inv .2 src l))
+lets-returns-2 t c = many-spent _ _ _ _ before-last (wordless no-local-words) refl (c .before .loop .inv) (omega arith)
 
 pub lets-ok : {M : Type 1} (t : ℕ) → cycle.Lts-lets.Closed (lets-cs t) (at lets-rank t) phrases.lets.Reads.Post M
 lets-ok t =
-    cycle.Lts-lets.spec (lets-cs t) (at lets-rank t) phrases.lets.Reads.Post lets-inv lets-turns
-    (λ c. (itself (c .before .pre .1), refl, λ src l. begins)) (lets-kind-here-requires t) (λ c. search needs) (lets-returns t)
-    (λ c κs. (omega arith, lets-kind-here-requires t (c .before .before .before) κs)) (λ c. omega arith) (λ c. omega arith) (lets-loop-again t)
-    (λ c. search needs) (lets-returns-2 t)
+    cycle.Lts-lets.spec (lets-cs t) (at lets-rank t) phrases.lets.Reads.Post lets-inv lets-turns (λ c. so-begins (c .before .pre .1) before-first)
+    (lets-kind-here-requires t) (λ c. search needs) (lets-returns t) (λ c κs. (omega arith, lets-kind-here-requires t (c .before .before .before) κs))
+    (λ c. omega arith) (λ c. omega arith) (lets-loop-again t) (λ c. search needs) (lets-returns-2 t)
 
 abbrev local-cs : ℕ → cycle.Lts-local.Claims
 local-cs t =

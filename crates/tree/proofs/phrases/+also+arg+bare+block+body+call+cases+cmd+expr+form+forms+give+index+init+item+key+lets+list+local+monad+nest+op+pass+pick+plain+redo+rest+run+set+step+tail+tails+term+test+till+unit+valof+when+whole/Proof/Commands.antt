@@ -7,7 +7,7 @@ use Rattle.language.specs.Commands as C
 use Prim.Native.Nat.{ℕ, _-_}
 use Rattle.language.specs.Binding.{isRepeat}
 use Rattle.language.specs.Grammar.{within, readers}
-use Rattle.language.specs.Reader.{Source, manyUpTo}
+use Rattle.language.specs.Reader.{manyUpTo}
 use Rattle.tree.proofs.Assignments.{assignment-read, assignment-first, call-alone, no-call}
 use Rattle.tree.proofs.Blocks.{body-shut, body-open, body-none, body-empty, command-plain, labelled-read}
 use Rattle.tree.proofs.Classes.{guard-positive, repeat-positive, leave-positive}
@@ -15,15 +15,15 @@ use Rattle.tree.proofs.Commands.{resultis-read, guarded-read, test-read
 use Rattle.tree.proofs.Commands.{repeated-more, unlabelled-guarded, unlabelled-test, unlabelled-resultis, unlabelled-leave, unlabelled-for}
 use Rattle.tree.proofs.Commands.{unlabelled-switchon, unlabelled-block, unlabelled-other}
 use Rattle.tree.proofs.Helpers.{low, weaker, fitted, both, then-grows, itself}
-use Rattle.tree.proofs.Lists.{Partly, begins, more, ends, last, turned, spent}
+use Rattle.tree.proofs.Lists.{Before}
+use Rattle.tree.proofs.Loops.{SoFar, before-first, before-next, before-last, wordless, so-begins, many-turns, many-ends, many-spent}
 use Rattle.tree.proofs.Rooms.{ready-leaves, ready-takes, ready-part, item-low, size-small}
 use Rattle.tree.proofs.Steps.{goes-on, adds-on, refuses-on, _then_}
 use Rattle.tree.proofs.Symbols.{lies-still}
 use Rattle.tree.specs.Encoding.{encodeRepeats}
-use Rattle.tree.specs.Reads.{HoldsSymbols, freeOf, LeavesRoom, Reads}
+use Rattle.tree.specs.Reads.{freeOf}
 use borrow.Author.Needs.{needs}
-use lib.ListN.{length}
-use mathlib.Core.Path.{_≡_, refl, sym, ap, subst, _∙_}
+use mathlib.Core.Path.{refl, sym, ap, _∙_}
 use native.Mathlib.Omega.{arith}
 use proofs.scratch.begin_item.Reads as begin-item
 use proofs.binding.begins_command.Reads as begins-command
@@ -44,9 +44,9 @@ use proofs.scratch.node.Reads as node
 use proofs.scratch.place_here.Reads as place-here
 use proofs.scratch.refuse.Reads as refuse
 use proofs.scratch.set_size.Reads as set-size
-use cycle.Proof.Ranks.{at, below, pair, three, claims-11, claims-4, claims-5, claims-6, claims-7, claims-8, also-rank, arg-rank, bare-rank}
-use cycle.Proof.Ranks.{block-rank, body-rank, cases-rank, cmd-rank, expr-rank, form-rank, forms-rank, give-rank, pick-rank, plain-rank, redo-rank}
-use cycle.Proof.Ranks.{rest-rank, set-rank, step-rank, test-rank, when-rank}
+use cycle.Proof.Ranks.{at, below, pair, claims-11, claims-4, claims-5, claims-6, claims-7, claims-8, also-rank, arg-rank, bare-rank, block-rank}
+use cycle.Proof.Ranks.{body-rank, cases-rank, cmd-rank, expr-rank, form-rank, forms-rank, give-rank, pick-rank, plain-rank, redo-rank, rest-rank}
+use cycle.Proof.Ranks.{set-rank, step-rank, test-rank, when-rank}
 
 abbrev cmd-cs : ℕ → cycle.Lts-cmd.Claims
 cmd-cs t =
@@ -245,9 +245,8 @@ forms-cs t =
 
 abbrev forms-inv : cycle.Lts-forms.InvT-loop
 forms-inv s₀ n levels turns₀ a₀ s turns a =
-    LeavesRoom 0 s₀ s n a₀ a × (length s ≡ length s₀) ×
-    ((src : Source) → HoldsSymbols src n s₀ → Partly (manyUpTo turns₀ T.noRepeats isRepeat (C.repeatForm (readers (within levels))) src)
-    (manyUpTo turns T.noRepeats isRepeat (C.repeatForm (readers (within levels))) src) encodeRepeats s₀ s a₀ a)
+    SoFar (Before encodeRepeats) (manyUpTo turns₀ T.noRepeats isRepeat (C.repeatForm (readers (within levels))))
+    (manyUpTo turns T.noRepeats isRepeat (C.repeatForm (readers (within levels)))) s₀ s n a₀ a
 
 abbrev forms-turns : cycle.Lts-forms.MeasureT-loop
 forms-turns s₀ n levels turns₀ a₀ s turns a = turns
@@ -256,7 +255,7 @@ forms-kind-here-requires :
     (t : ℕ) → cycle.Lts-forms.Need-kind-here-requires (forms-cs t) (at forms-rank t) phrases.forms.Reads.Post forms-inv forms-turns
 forms-kind-here-requires t c κs =
     let in-loop = c .before .before in let start = in-loop .before .before .before in
-    ready-leaves (in-loop .loop .inv .0) (in-loop .loop .inv .1) refl (start .pre .1)
+    ready-leaves (in-loop .loop .inv .room) (in-loop .loop .inv .same) refl (start .pre .1)
 
 forms-form-requires : (t : ℕ) → cycle.Lts-forms.Need-form-requires (forms-cs t) (at forms-rank t) phrases.forms.Reads.Post forms-inv forms-turns
 forms-form-requires t c κs =
@@ -268,41 +267,25 @@ forms-loop-again : (t : ℕ) → cycle.Lts-forms.Need-loop-again (forms-cs t) (a
 forms-loop-again t c =
     let after-form = c .before .before in let after-if1 = after-form .before .before in let after-is-repeat = after-if1 .before in
     let after-kind-here = after-is-repeat .before in let in-loop = after-kind-here .before .before .before in
-    let start = in-loop .before .before .before in
-    three (weaker (omega arith) (both (in-loop .loop .inv .0) (after-form .form .ensures .0))) (after-form .form .kept .0 ∙ in-loop .loop .inv .1)
-    (λ src l. more (manyUpTo (in-loop .loop .turns - 1) T.noRepeats isRepeat (C.repeatForm (readers (within (start .args .levels)))) src)
-    (λ at free e. turned T.noRepeats isRepeat (C.repeatForm (readers (within (start .args .levels)))) src (in-loop .loop .turns) at (omega arith)
-    (sym (after-is-repeat .is-repeat .ensures ∙ ap isRepeat
-    (after-kind-here .kind-here .ensures src (lies-still l (in-loop .loop .inv .0 .kept)) .here at free e)) ∙ after-if1 .if1 .taken))
-    (in-loop .loop .inv .2 src l) (after-form .form .ensures .1 src (lies-still l (in-loop .loop .inv .0 .kept))
-    (after-kind-here .kind-here .ensures src (lies-still l (in-loop .loop .inv .0 .kept)))))
+    many-turns _ _ _ _ before-next (in-loop .loop .inv) (after-kind-here .kind-here .ensures)
+    (sym (after-is-repeat .is-repeat .ensures) ∙ after-if1 .if1 .taken) (after-form .form .ensures) (after-form .form .kept .0) (omega arith)
 
 forms-returns : (t : ℕ) → cycle.Lts-forms.Need-returns (forms-cs t) (at forms-rank t) phrases.forms.Reads.Post forms-inv forms-turns
 forms-returns t c =
     let after-is-repeat = c .before in let after-kind-here = after-is-repeat .before in let in-loop = after-kind-here .before .before .before in
-    let after-minus = in-loop .before in let start = after-minus .before .before in
-    pair (in-loop .loop .inv .0) (λ src l. subst
-    (λ (m : ℕ). Reads (manyUpTo m T.noRepeats isRepeat (C.repeatForm (readers (within (start .args .levels)))) src) encodeRepeats
-    (start .args .s .now) (in-loop .loop .s) (start .args .r) (in-loop .loop .a)) (after-minus .minus .ensures)
-    (ends T.noRepeats no-repeat-words (λ at free e. last T.noRepeats isRepeat (C.repeatForm (readers (within (start .args .levels)))) src _ at
-    (sym (after-is-repeat .is-repeat .ensures ∙ ap isRepeat
-    (after-kind-here .kind-here .ensures src (lies-still l (in-loop .loop .inv .0 .kept)) .here at free e)) ∙ c .if1 .left))
-    (in-loop .loop .inv .2 src l)))
+    let after-minus = in-loop .before in
+    many-ends _ _ _ _ before-last (wordless no-repeat-words) (after-minus .minus .ensures) (in-loop .loop .inv) (after-kind-here .kind-here .ensures)
+    (sym (after-is-repeat .is-repeat .ensures) ∙ c .if1 .left)
 
 forms-returns-2 : (t : ℕ) → cycle.Lts-forms.Need-returns-2 (forms-cs t) (at forms-rank t) phrases.forms.Reads.Post forms-inv forms-turns
 forms-returns-2 t c =
-    let in-loop = c .before in let after-minus = in-loop .before in let start = after-minus .before .before in
-    pair (in-loop .loop .inv .0) (λ src l. subst
-    (λ (m : ℕ). Reads (manyUpTo m T.noRepeats isRepeat (C.repeatForm (readers (within (start .args .levels)))) src) encodeRepeats
-    (start .args .s .now) (in-loop .loop .s) (start .args .r) (in-loop .loop .a)) (after-minus .minus .ensures)
-    (ends T.noRepeats no-repeat-words (λ at free e. spent T.noRepeats isRepeat (C.repeatForm (readers (within (start .args .levels)))) src _ at
-    (omega arith)) (in-loop .loop .inv .2 src l)))
+    many-spent _ _ _ _ before-last (wordless no-repeat-words) (c .before .before .minus .ensures) (c .before .loop .inv) (omega arith)
 
 pub forms-ok : {M : Type 1} (t : ℕ) → cycle.Lts-forms.Closed (forms-cs t) (at forms-rank t) phrases.forms.Reads.Post M
 forms-ok t =
     cycle.Lts-forms.spec (forms-cs t) (at forms-rank t) phrases.forms.Reads.Post forms-inv forms-turns (λ c κs. tt)
-    (λ c. (itself (c .before .before .pre .1), refl, λ src l. begins)) (forms-kind-here-requires t) (λ c κs. tt) (forms-form-requires t)
-    (λ c. omega arith) (λ c. omega arith) (forms-loop-again t) (λ c. search needs) (forms-returns t) (λ c. search needs) (forms-returns-2 t)
+    (λ c. so-begins (c .before .before .pre .1) before-first) (forms-kind-here-requires t) (λ c κs. tt) (forms-form-requires t) (λ c. omega arith)
+    (λ c. omega arith) (forms-loop-again t) (λ c. search needs) (forms-returns t) (λ c. search needs) (forms-returns-2 t)
 
 abbrev form-cs : ℕ → cycle.Lts-form.Claims
 form-cs t =

@@ -8,27 +8,28 @@ use Rattle.language.specs.Commands as C
 use Prim.Native.Nat.{ℕ, _+_, _-_}
 use Rattle.language.specs.Binding.{isSuffix}
 use Rattle.language.specs.Grammar.{within, readers}
-use Rattle.language.specs.Reader.{Source, ok, manyUpTo, isComma}
+use Rattle.language.specs.Reader.{manyUpTo, isComma}
 use Rattle.tree.proofs.Chains.{suffixed-one, suffixed-more, EndedSoFar, suffix-first, suffix-next, suffix-last, no-suffix-ended}
 use Rattle.tree.proofs.Chains.{CountedSoFar, expression-first, expression-next, expression-last, no-expression-counted, no-expression-words}
 use Rattle.tree.proofs.Choices.{subscript-monadic, subscript-primary, suffix-arguments, suffix-index, primary-bracketed, primary-valof}
 use Rattle.tree.proofs.Choices.{primary-atom}
 use Rattle.tree.proofs.Classes.{monadic-positive, unlike2}
-use Rattle.tree.proofs.Helpers.{low, weaker, both, then-grows, itself, grows-then, grows-fits}
+use Rattle.tree.proofs.Helpers.{low, weaker, both, then-grows, grows-then, grows-fits}
 use Rattle.tree.proofs.Lets.{value-turn, value-last, value-next}
-use Rattle.tree.proofs.Lists.{PartlyAs, Partly, begins-as, more-as, closes-as, begins, ends, last, turned, spent}
+use Rattle.tree.proofs.Lists.{Before}
+use Rattle.tree.proofs.Loops.{SoFar, at-any, before-first, before-last, wordless, so-begins, so-turns, so-ends, many-turns, many-ends}
+use Rattle.tree.proofs.Loops.{many-spent}
 use Rattle.tree.proofs.Readers.{bracketed-shut, valof-shut, arguments-shut, bracketed-read, valof-read, argument-read, index-read}
-use Rattle.tree.proofs.Readers.{arguments-read, no-arguments, some-arguments, further-read}
+use Rattle.tree.proofs.Readers.{arguments-read, no-arguments, some-arguments, further-reads}
 use Rattle.tree.proofs.Rooms.{ready-leaves, ready-takes, ready-part, item-low, size-small}
-use Rattle.tree.proofs.Steps.{here, again, nothing}
+use Rattle.tree.proofs.Steps.{again}
 use Rattle.tree.proofs.Symbols.{lies-still}
-use Rattle.tree.specs.Between.{aFurther, Ended}
+use Rattle.tree.specs.Between.{aFurther}
 use Rattle.tree.specs.Encoding.{encodeExpressions}
-use Rattle.tree.specs.Reads.{HoldsSymbols, freeOf, LeavesRoom, Follows, Encodes}
+use Rattle.tree.specs.Reads.{freeOf, Encodes}
 use borrow.Author.Needs.{needs}
 use borrow.Author.Tests.{eq-eqb, ne-eqb}
-use lib.ListN.{length}
-use mathlib.Core.Path.{_≡_, refl, sym, ap, subst, _∙_}
+use mathlib.Core.Path.{_≡_, refl, sym, ap, _∙_}
 use native.Mathlib.Omega.{arith}
 use proofs.parts.atom.Reads as atom
 use proofs.scratch.begin_item.Reads as begin-item
@@ -45,8 +46,8 @@ use proofs.scratch.place_of.Reads as place-of
 use proofs.scratch.refuse.Reads as refuse
 use proofs.scratch.set_size.Reads as set-size
 use proofs.scratch.suffixed_kind.Reads as suffixed-kind
-use cycle.Proof.Ranks.{at, below, pair, three, four, claims-10, claims-4, claims-5, claims-6, also-rank, arg-rank, call-rank, cmd-rank, expr-rank}
-use cycle.Proof.Ranks.{index-rank, key-rank, monad-rank, nest-rank, pass-rank, rest-rank, tail-rank, tails-rank, unit-rank, valof-rank, whole-rank}
+use cycle.Proof.Ranks.{at, below, pair, claims-10, claims-4, claims-5, claims-6, also-rank, arg-rank, call-rank, cmd-rank, expr-rank, index-rank}
+use cycle.Proof.Ranks.{key-rank, monad-rank, nest-rank, pass-rank, rest-rank, tail-rank, tails-rank, unit-rank, valof-rank, whole-rank}
 
 abbrev whole-cs : ℕ → cycle.Lts-whole.Claims
 whole-cs t =
@@ -261,9 +262,8 @@ tails-cs t =
 
 abbrev tails-inv : cycle.Lts-tails.InvT-loop
 tails-inv s₀ n levels first turns₀ call₀ a₀ s turns call a =
-    LeavesRoom 0 s₀ s n a₀ a × (length s ≡ length s₀) ×
-    ((src : Source) → HoldsSymbols src n s₀ → PartlyAs (manyUpTo turns₀ T.noSuffixes isSuffix (E.suffix (within levels)) src)
-    (manyUpTo turns T.noSuffixes isSuffix (E.suffix (within levels)) src) (EndedSoFar call₀ call) s₀ s a₀ a)
+    SoFar (EndedSoFar call₀ call) (manyUpTo turns₀ T.noSuffixes isSuffix (E.suffix (within levels)))
+    (manyUpTo turns T.noSuffixes isSuffix (E.suffix (within levels))) s₀ s n a₀ a
 
 abbrev tails-turns : cycle.Lts-tails.MeasureT-loop
 tails-turns s₀ n levels first turns₀ call₀ a₀ s turns call a = turns
@@ -272,46 +272,29 @@ tails-kind-here-requires :
     (t : ℕ) → cycle.Lts-tails.Need-kind-here-requires (tails-cs t) (at tails-rank t) phrases.tails.Reads.Post tails-inv tails-turns
 tails-kind-here-requires t c κs =
     let in-loop = c .before .before in let start = in-loop .before .before .before in
-    ready-leaves (in-loop .loop .inv .0) (in-loop .loop .inv .1) refl (start .pre .1)
+    ready-leaves (in-loop .loop .inv .room) (in-loop .loop .inv .same) refl (start .pre .1)
 
 tails-loop-again : (t : ℕ) → cycle.Lts-tails.Need-loop-again (tails-cs t) (at tails-rank t) phrases.tails.Reads.Post tails-inv tails-turns
 tails-loop-again t c =
     let after-tail = c .before .before in let after-if1 = after-tail .before .before in let after-is-suffix = after-if1 .before in
     let after-kind-here = after-is-suffix .before in let in-loop = after-kind-here .before .before .before in
-    let start = in-loop .before .before .before in
-    three (weaker (omega arith) (both (in-loop .loop .inv .0) (after-tail .tail .ensures .0))) (after-tail .tail .kept .0 ∙ in-loop .loop .inv .1)
-    (λ src l. more-as (manyUpTo (in-loop .loop .turns - 1) T.noSuffixes isSuffix (E.suffix (within (start .args .levels))) src) suffix-next
-    (λ at free e. turned T.noSuffixes isSuffix (E.suffix (within (start .args .levels))) src (in-loop .loop .turns) at (omega arith)
-    (sym (after-is-suffix .is-suffix .ensures ∙ ap isSuffix
-    ((after-kind-here .kind-here .ensures src (lies-still l (in-loop .loop .inv .0 .kept))) .here at free e)) ∙ after-if1 .if1 .taken))
-    (in-loop .loop .inv .2 src l) (after-tail .tail .ensures .1 src (lies-still l (in-loop .loop .inv .0 .kept))
-    (after-kind-here .kind-here .ensures src (lies-still l (in-loop .loop .inv .0 .kept)))))
+    many-turns _ _ _ _ suffix-next (in-loop .loop .inv) (after-kind-here .kind-here .ensures)
+    (sym (after-is-suffix .is-suffix .ensures) ∙ after-if1 .if1 .taken) (after-tail .tail .ensures) (after-tail .tail .kept .0) (omega arith)
 
 tails-returns : (t : ℕ) → cycle.Lts-tails.Need-returns (tails-cs t) (at tails-rank t) phrases.tails.Reads.Post tails-inv tails-turns
 tails-returns t c =
     let after-is-suffix = c .before in let after-kind-here = after-is-suffix .before in let in-loop = after-kind-here .before .before .before in
-    let after-minus = in-loop .before in let start = after-minus .before .before in
-    pair (in-loop .loop .inv .0) (λ src l. subst (λ (m : ℕ). Follows (manyUpTo m T.noSuffixes isSuffix (E.suffix (within (start .args .levels))) src)
-    (Ended (start .args .first) (in-loop .loop .call)) (start .args .s .now) (in-loop .loop .s) (start .args .r) (in-loop .loop .a))
-    (after-minus .minus .ensures) (closes-as suffix-last (in-loop .loop .inv .2 src l)
-    (here (λ m. ok T.noSuffixes m) (λ at free e. last T.noSuffixes isSuffix (E.suffix (within (start .args .levels))) src _ at
-    (sym (after-is-suffix .is-suffix .ensures ∙ ap isSuffix
-    ((after-kind-here .kind-here .ensures src (lies-still l (in-loop .loop .inv .0 .kept))) .here at free e)) ∙ c .if1 .left))
-    (nothing no-suffix-ended))))
+    let after-minus = in-loop .before in
+    many-ends _ _ _ _ suffix-last no-suffix-ended (after-minus .minus .ensures) (in-loop .loop .inv) (after-kind-here .kind-here .ensures)
+    (sym (after-is-suffix .is-suffix .ensures) ∙ c .if1 .left)
 
 tails-returns-2 : (t : ℕ) → cycle.Lts-tails.Need-returns-2 (tails-cs t) (at tails-rank t) phrases.tails.Reads.Post tails-inv tails-turns
-tails-returns-2 t c =
-    let in-loop = c .before in let after-minus = in-loop .before in let start = after-minus .before .before in
-    pair (in-loop .loop .inv .0) (λ src l. subst (λ (m : ℕ). Follows (manyUpTo m T.noSuffixes isSuffix (E.suffix (within (start .args .levels))) src)
-    (Ended (start .args .first) (in-loop .loop .call)) (start .args .s .now) (in-loop .loop .s) (start .args .r) (in-loop .loop .a))
-    (after-minus .minus .ensures) (closes-as suffix-last (in-loop .loop .inv .2 src l)
-    (here (λ m. ok T.noSuffixes m) (λ at free e. spent T.noSuffixes isSuffix (E.suffix (within (start .args .levels))) src _ at (omega arith))
-    (nothing no-suffix-ended))))
+tails-returns-2 t c = many-spent _ _ _ _ suffix-last no-suffix-ended (c .before .before .minus .ensures) (c .before .loop .inv) (omega arith)
 
 pub tails-ok : {M : Type 1} (t : ℕ) → cycle.Lts-tails.Closed (tails-cs t) (at tails-rank t) phrases.tails.Reads.Post M
 tails-ok t =
     cycle.Lts-tails.spec (tails-cs t) (at tails-rank t) phrases.tails.Reads.Post tails-inv tails-turns (λ c κs. tt)
-    (λ c. (itself (c .before .before .pre .1), refl, λ src l. begins-as suffix-first)) (tails-kind-here-requires t) (λ c κs. tt)
+    (λ c. so-begins (c .before .before .pre .1) suffix-first) (tails-kind-here-requires t) (λ c κs. tt)
     (λ c κs. (omega arith, tails-kind-here-requires t (c .before .before .before .before) κs)) (λ c. omega arith) (λ c. omega arith)
     (tails-loop-again t) (λ c. search needs) (tails-returns t) (λ c. search needs) (tails-returns-2 t)
 
@@ -421,9 +404,8 @@ also-cs t = (kind-here.Asked, kind-here.Learnt, expect.Asked, expect.Learnt, bel
 
 abbrev also-inv : cycle.Lts-also.InvT-loop
 also-inv s₀ n levels turns₀ count₀ a₀ s turns count a =
-    LeavesRoom 0 s₀ s n a₀ a × (length s ≡ length s₀) × (count + turns ≡ count₀ + turns₀) ×
-    ((src : Source) → HoldsSymbols src n s₀ → PartlyAs (manyUpTo turns₀ T.noExpressions isComma (aFurther levels) src)
-    (manyUpTo turns T.noExpressions isComma (aFurther levels) src) (CountedSoFar count) s₀ s a₀ a)
+    SoFar (CountedSoFar count) (manyUpTo turns₀ T.noExpressions isComma (aFurther levels)) (manyUpTo turns T.noExpressions isComma (aFurther levels))
+    s₀ s n a₀ a × (count + turns ≡ count₀ + turns₀)
 
 abbrev also-turns : cycle.Lts-also.MeasureT-loop
 also-turns s₀ n levels turns₀ count₀ a₀ s turns count a = turns
@@ -431,15 +413,13 @@ also-turns s₀ n levels turns₀ count₀ a₀ s turns count a = turns
 also-kind-here-requires : (t : ℕ) → cycle.Lts-also.Need-kind-here-requires (also-cs t) (at also-rank t) phrases.also.Reads.Post also-inv also-turns
 also-kind-here-requires t c κs =
     let in-loop = c .before .before in let start = in-loop .before .before in
-    ready-leaves (in-loop .loop .inv .0) (in-loop .loop .inv .1) refl (start .pre .1)
+    ready-leaves (in-loop .loop .inv .0 .room) (in-loop .loop .inv .0 .same) refl (start .pre .1)
 
 also-returns : (t : ℕ) → cycle.Lts-also.Need-returns (also-cs t) (at also-rank t) phrases.also.Reads.Post also-inv also-turns
 also-returns t c =
-    let after-kind-here = c .before in let in-loop = after-kind-here .before .before .before in let start = in-loop .before .before in
-    pair (in-loop .loop .inv .0) (λ src l. closes-as expression-last (in-loop .loop .inv .3 src l)
-    (here (λ m. ok T.noExpressions m) (λ at free e. last T.noExpressions isComma (aFurther (start .args .levels)) src _ at
-    (ne-eqb _ _ (λ z. c .if1 .taken ((after-kind-here .kind-here .ensures src (lies-still l (in-loop .loop .inv .0 .kept))) .here at free e ∙ z))))
-    (nothing no-expression-counted)))
+    let after-kind-here = c .before in let in-loop = after-kind-here .before .before .before in
+    many-ends _ _ _ _ expression-last no-expression-counted refl (in-loop .loop .inv .0) (after-kind-here .kind-here .ensures)
+    (ne-eqb _ _ (c .if1 .taken))
 
 also-expect-requires : (t : ℕ) → cycle.Lts-also.Need-expect-requires (also-cs t) (at also-rank t) phrases.also.Reads.Post also-inv also-turns
 also-expect-requires t c κs = (also-kind-here-requires t (c .before .before .before) κs, omega arith)
@@ -452,38 +432,27 @@ also-arg-requires t c κs =
 also-loop-again : (t : ℕ) → cycle.Lts-also.Need-loop-again (also-cs t) (at also-rank t) phrases.also.Reads.Post also-inv also-turns
 also-loop-again t c =
     let after-arg = c .before .before in let after-expect = after-arg .before .before in let after-if1 = after-expect .before .before in
-    let after-kind-here = after-if1 .before in let in-loop = after-kind-here .before .before .before in let start = in-loop .before .before in
-    four (weaker (omega arith) (then-grows (both (in-loop .loop .inv .0) (after-expect .expect .ensures .0)) (after-arg .arg .ensures .0)
-    (omega arith))) (after-arg .arg .kept .0 ∙ in-loop .loop .inv .1) (omega (arith, in-loop .loop .inv .2))
-    (λ src l. more-as (manyUpTo (in-loop .loop .turns - 1) T.noExpressions isComma (aFurther (start .args .levels)) src) expression-next
-    (λ at free e. turned T.noExpressions isComma (aFurther (start .args .levels)) src (in-loop .loop .turns) at (omega arith)
-    (eq-eqb _ _ (sym ((after-kind-here .kind-here .ensures src (lies-still l (in-loop .loop .inv .0 .kept))) .here at free e) ∙
-    after-if1 .if1 .left))) (in-loop .loop .inv .3 src l)
-    (further-read src _ 0 (after-expect .expect .ensures .1 src (lies-still l (in-loop .loop .inv .0 .kept)))
-    (after-arg .arg .ensures .1 src (lies-still l (in-loop .loop .inv .0 .kept)))))
+    let after-kind-here = after-if1 .before in let in-loop = after-kind-here .before .before .before in
+    pair (many-turns _ _ _ _ expression-next (in-loop .loop .inv .0) (after-kind-here .kind-here .ensures) (eq-eqb _ _ (after-if1 .if1 .left))
+    (at-any (further-reads _ (after-expect .expect .ensures) (after-arg .arg .ensures))) (after-arg .arg .kept .0) (omega arith))
+    (omega (arith, in-loop .loop .inv .1))
 
 also-returns-2 : (t : ℕ) → cycle.Lts-also.Need-returns-2 (also-cs t) (at also-rank t) phrases.also.Reads.Post also-inv also-turns
-also-returns-2 t c =
-    let in-loop = c .before in let start = in-loop .before .before in
-    pair (in-loop .loop .inv .0) (λ src l. closes-as expression-last (in-loop .loop .inv .3 src l)
-    (here (λ m. ok T.noExpressions m) (λ at free e. spent T.noExpressions isComma (aFurther (start .args .levels)) src _ at (omega arith))
-    (nothing no-expression-counted)))
+also-returns-2 t c = many-spent _ _ _ _ expression-last no-expression-counted refl (c .before .loop .inv .0) (omega arith)
 
 pub also-ok : {M : Type 1} (t : ℕ) → cycle.Lts-also.Closed (also-cs t) (at also-rank t) phrases.also.Reads.Post M
 also-ok t =
     cycle.Lts-also.spec (also-cs t) (at also-rank t) phrases.also.Reads.Post also-inv also-turns
-    (λ c. (itself (c .before .pre .1), refl, refl, λ src l. begins-as expression-first)) (also-kind-here-requires t) (λ c. search needs)
-    (also-returns t) (also-expect-requires t) (also-arg-requires t) (λ c. omega arith) (λ c. omega arith) (λ c. omega arith) (also-loop-again t)
-    (λ c. search needs) (also-returns-2 t)
+    (λ c. (so-begins (c .before .pre .1) expression-first, refl)) (also-kind-here-requires t) (λ c. search needs) (also-returns t)
+    (also-expect-requires t) (also-arg-requires t) (λ c. omega arith) (λ c. omega arith) (λ c. omega arith) (also-loop-again t) (λ c. search needs)
+    (also-returns-2 t)
 
 abbrev rest-cs : ℕ → cycle.Lts-rest.Claims
 rest-cs t = (expect.Asked, expect.Learnt, below arg-rank t, phrases.arg.Reads.Post)
 
 abbrev rest-inv : cycle.Lts-rest.InvT-loop
 rest-inv s₀ n levels number left₀ a₀ s left a =
-    LeavesRoom 0 s₀ s n a₀ a × (length s ≡ length s₀) ×
-    ((src : Source) → HoldsSymbols src n s₀ → Partly (C.further (readers (within levels)) left₀ src) (C.further (readers (within levels)) left src)
-    encodeExpressions s₀ s a₀ a)
+    SoFar (Before encodeExpressions) (C.further (readers (within levels)) left₀) (C.further (readers (within levels)) left) s₀ s n a₀ a
 
 abbrev rest-turns : cycle.Lts-rest.MeasureT-loop
 rest-turns s₀ n levels number left₀ a₀ s left a = left
@@ -491,7 +460,7 @@ rest-turns s₀ n levels number left₀ a₀ s left a = left
 rest-expect-requires : (t : ℕ) → cycle.Lts-rest.Need-expect-requires (rest-cs t) (at rest-rank t) phrases.rest.Reads.Post rest-inv rest-turns
 rest-expect-requires t c κs =
     let in-loop = c .before .before in let start = in-loop .before .before in
-    (ready-leaves (in-loop .loop .inv .0) (in-loop .loop .inv .1) refl (start .pre .1), omega arith)
+    (ready-leaves (in-loop .loop .inv .room) (in-loop .loop .inv .same) refl (start .pre .1), omega arith)
 
 rest-arg-requires : (t : ℕ) → cycle.Lts-rest.Need-arg-requires (rest-cs t) (at rest-rank t) phrases.rest.Reads.Post rest-inv rest-turns
 rest-arg-requires t c κs =
@@ -502,24 +471,19 @@ rest-loop-again : (t : ℕ) → cycle.Lts-rest.Need-loop-again (rest-cs t) (at r
 rest-loop-again t c =
     let after-arg = c .before .before in let after-expect = after-arg .before .before in let in-loop = after-expect .before .before .before in
     let start = in-loop .before .before in
-    three (weaker (omega arith) (then-grows (both (in-loop .loop .inv .0) (after-expect .expect .ensures .0)) (after-arg .arg .ensures .0)
-    (omega arith))) (after-arg .arg .kept .0 ∙ in-loop .loop .inv .1)
-    (λ src l. more-as (C.further (readers (within (start .args .levels))) (in-loop .loop .left - 1) src) value-next
-    (λ at free e. value-turn (start .args .levels) src (in-loop .loop .left) at (omega arith)) (in-loop .loop .inv .2 src l)
-    (further-read src _ 0 (after-expect .expect .ensures .1 src (lies-still l (in-loop .loop .inv .0 .kept)))
-    (after-arg .arg .ensures .1 src (lies-still l (in-loop .loop .inv .0 .kept)))))
+    so-turns (in-loop .loop .inv) (C.further (readers (within (start .args .levels))) (in-loop .loop .left - 1)) value-next
+    (further-reads _ (after-expect .expect .ensures) (after-arg .arg .ensures)) (after-arg .arg .kept .0)
+    (λ src l at free e. value-turn (start .args .levels) src (in-loop .loop .left) at (omega arith))
 
 rest-returns : (t : ℕ) → cycle.Lts-rest.Need-returns (rest-cs t) (at rest-rank t) phrases.rest.Reads.Post rest-inv rest-turns
 rest-returns t c =
-    let in-loop = c .before in let start = in-loop .before .before in
-    pair (in-loop .loop .inv .0) (λ src l. ends T.noExpressions no-expression-words
-    (λ at free e. value-last (start .args .levels) src _ at (omega arith)) (in-loop .loop .inv .2 src l))
+    so-ends (c .before .loop .inv) T.noExpressions before-last (wordless no-expression-words)
+    (λ src l at free e. value-last (c .before .before .before .args .levels) src _ at (omega arith))
 
 pub rest-ok : {M : Type 1} (t : ℕ) → cycle.Lts-rest.Closed (rest-cs t) (at rest-rank t) phrases.rest.Reads.Post M
 rest-ok t =
-    cycle.Lts-rest.spec (rest-cs t) (at rest-rank t) phrases.rest.Reads.Post rest-inv rest-turns
-    (λ c. (itself (c .before .pre .1), refl, λ src l. begins)) (rest-expect-requires t) (rest-arg-requires t) (λ c. omega arith) (λ c. omega arith)
-    (rest-loop-again t) (λ c. search needs) (rest-returns t)
+    cycle.Lts-rest.spec (rest-cs t) (at rest-rank t) phrases.rest.Reads.Post rest-inv rest-turns (λ c. so-begins (c .before .pre .1) before-first)
+    (rest-expect-requires t) (rest-arg-requires t) (λ c. omega arith) (λ c. omega arith) (rest-loop-again t) (λ c. search needs) (rest-returns t)
 
 abbrev index-cs : ℕ → cycle.Lts-index.Claims
 index-cs t =

@@ -7,22 +7,22 @@ use Rattle.language.specs.Expressions as E
 use Prim.Native.Nat.{ℕ, _-_}
 use Rattle.language.specs.Binding.{bindingOf}
 use Rattle.language.specs.Grammar.{within}
-use Rattle.language.specs.Reader.{Source, manyUpTo}
+use Rattle.language.specs.Reader.{manyUpTo}
 use Rattle.tree.proofs.Chains.{expression-one, expression-more, expression-none, no-operation-words}
 use Rattle.tree.proofs.Choices.{operand-monadic, operand-suffixed, expression-not, expression-shift}
 use Rattle.tree.proofs.Classes.{binding-positive, monadic-positive}
-use Rattle.tree.proofs.Helpers.{low, alive, weaker, fitted, both, then-grows, itself}
-use Rattle.tree.proofs.Lists.{Partly, begins, more, ends, last, turned, spent}
+use Rattle.tree.proofs.Helpers.{low, alive, weaker, fitted, both, then-grows}
+use Rattle.tree.proofs.Lists.{Before}
+use Rattle.tree.proofs.Loops.{SoFar, before-first, before-next, before-last, wordless, so-begins, many-turns, many-ends, many-spent}
 use Rattle.tree.proofs.Readers.{monadic-shut, monadic-read, operation-read}
 use Rattle.tree.proofs.Rooms.{ready-leaves, ready-takes, item-low, size-small}
 use Rattle.tree.proofs.Symbols.{lies-still}
 use Rattle.tree.specs.Encoding.{encodeOperations}
-use Rattle.tree.specs.Reads.{HoldsSymbols, freeOf, LeavesRoom, Reads}
+use Rattle.tree.specs.Reads.{freeOf}
 use borrow.Author.Needs.{needs}
 use borrow.Author.Tests.{eq-eqb, ne-eqb}
 use lib.Dec.{eqb}
-use lib.ListN.{length}
-use mathlib.Core.Path.{_≡_, refl, sym, ap, subst, _∙_}
+use mathlib.Core.Path.{refl, sym, ap, _∙_}
 use native.Mathlib.Omega.{arith}
 use proofs.scratch.begin_item.Reads as begin-item
 use proofs.binding.binding_of.Reads as binding-of
@@ -218,11 +218,9 @@ run-cs t =
 
 abbrev run-inv : cycle.Lts-run.InvT-loop
 run-inv s₀ n levels binding right turns₀ a₀ s turns a =
-    LeavesRoom 0 s₀ s n a₀ a × (length s ≡ length s₀) ×
-    ((src : Source) → HoldsSymbols src n s₀ → Partly
-    (manyUpTo turns₀ T.noOperations (λ kind. eqb (bindingOf kind) binding) (E.operation (E.expression (within levels) right)) src)
-    (manyUpTo turns T.noOperations (λ kind. eqb (bindingOf kind) binding) (E.operation (E.expression (within levels) right)) src) encodeOperations s₀
-    s a₀ a)
+    SoFar (Before encodeOperations) (manyUpTo turns₀ T.noOperations (λ kind. eqb (bindingOf kind) binding)
+    (E.operation (E.expression (within levels) right)))
+    (manyUpTo turns T.noOperations (λ kind. eqb (bindingOf kind) binding) (E.operation (E.expression (within levels) right))) s₀ s n a₀ a
 
 abbrev run-turns : cycle.Lts-run.MeasureT-loop
 run-turns s₀ n levels binding right turns₀ a₀ s turns a = turns
@@ -230,20 +228,14 @@ run-turns s₀ n levels binding right turns₀ a₀ s turns a = turns
 run-kind-here-requires : (t : ℕ) → cycle.Lts-run.Need-kind-here-requires (run-cs t) (at run-rank t) phrases.run.Reads.Post run-inv run-turns
 run-kind-here-requires t c κs =
     let in-loop = c .before .before in let start = in-loop .before .before .before in
-    ready-leaves (in-loop .loop .inv .0) (in-loop .loop .inv .1) refl (start .pre .1 .0)
+    ready-leaves (in-loop .loop .inv .room) (in-loop .loop .inv .same) refl (start .pre .1 .0)
 
 run-returns : (t : ℕ) → cycle.Lts-run.Need-returns (run-cs t) (at run-rank t) phrases.run.Reads.Post run-inv run-turns
 run-returns t c =
     let after-binding-of = c .before in let after-kind-here = after-binding-of .before in let in-loop = after-kind-here .before .before .before in
-    let after-further-most = in-loop .before in let start = after-further-most .before .before in
-    pair (in-loop .loop .inv .0) (λ src l. subst
-    (λ (m : ℕ). Reads (manyUpTo m T.noOperations (λ kind. eqb (bindingOf kind) (start .args .binding))
-    (E.operation (E.expression (within (start .args .levels)) (start .args .right))) src) encodeOperations (start .args .s .now) (in-loop .loop .s)
-    (start .args .r) (in-loop .loop .a)) (after-further-most .further-most .ensures)
-    (ends T.noOperations no-operation-words (λ at free e. last T.noOperations (λ kind. eqb (bindingOf kind) (start .args .binding))
-    (E.operation (E.expression (within (start .args .levels)) (start .args .right))) src _ at
-    (ne-eqb _ _ (λ z. c .if1 .taken (after-binding-of .binding-of .ensures ∙ ap bindingOf
-    (after-kind-here .kind-here .ensures src (lies-still l (in-loop .loop .inv .0 .kept)) .here at free e) ∙ z)))) (in-loop .loop .inv .2 src l)))
+    let after-further-most = in-loop .before in
+    many-ends _ _ _ _ before-last (wordless no-operation-words) (after-further-most .further-most .ensures) (in-loop .loop .inv)
+    (after-kind-here .kind-here .ensures) (ne-eqb _ _ (λ z. c .if1 .taken (after-binding-of .binding-of .ensures ∙ z)))
 
 run-op-requires : (t : ℕ) → cycle.Lts-run.Need-op-requires (run-cs t) (at run-rank t) phrases.run.Reads.Post run-inv run-turns
 run-op-requires t c κs =
@@ -256,31 +248,17 @@ run-loop-again : (t : ℕ) → cycle.Lts-run.Need-loop-again (run-cs t) (at run-
 run-loop-again t c =
     let after-op = c .before .before in let after-if1 = after-op .before .before in let after-binding-of = after-if1 .before in
     let after-kind-here = after-binding-of .before in let in-loop = after-kind-here .before .before .before in
-    let start = in-loop .before .before .before in
-    three (weaker (omega arith) (both (in-loop .loop .inv .0) (after-op .op .ensures .0))) (after-op .op .kept .0 ∙ in-loop .loop .inv .1)
-    (λ src l. more (manyUpTo (in-loop .loop .turns - 1) T.noOperations (λ kind. eqb (bindingOf kind) (start .args .binding))
-    (E.operation (E.expression (within (start .args .levels)) (start .args .right))) src)
-    (λ at free e. turned T.noOperations (λ kind. eqb (bindingOf kind) (start .args .binding))
-    (E.operation (E.expression (within (start .args .levels)) (start .args .right))) src (in-loop .loop .turns) at (omega arith)
-    (eq-eqb _ _ (sym (after-binding-of .binding-of .ensures ∙ ap bindingOf
-    (after-kind-here .kind-here .ensures src (lies-still l (in-loop .loop .inv .0 .kept)) .here at free e)) ∙ after-if1 .if1 .left)))
-    (in-loop .loop .inv .2 src l) (after-op .op .ensures .1 src (lies-still l (in-loop .loop .inv .0 .kept))
-    (after-kind-here .kind-here .ensures src (lies-still l (in-loop .loop .inv .0 .kept)))))
+    many-turns _ _ _ _ before-next (in-loop .loop .inv) (after-kind-here .kind-here .ensures)
+    (eq-eqb _ _ (sym (after-binding-of .binding-of .ensures) ∙ after-if1 .if1 .left)) (after-op .op .ensures) (after-op .op .kept .0) (omega arith)
 
 run-returns-2 : (t : ℕ) → cycle.Lts-run.Need-returns-2 (run-cs t) (at run-rank t) phrases.run.Reads.Post run-inv run-turns
 run-returns-2 t c =
-    let in-loop = c .before in let after-further-most = in-loop .before in let start = after-further-most .before .before in
-    pair (in-loop .loop .inv .0) (λ src l. subst
-    (λ (m : ℕ). Reads (manyUpTo m T.noOperations (λ kind. eqb (bindingOf kind) (start .args .binding))
-    (E.operation (E.expression (within (start .args .levels)) (start .args .right))) src) encodeOperations (start .args .s .now) (in-loop .loop .s)
-    (start .args .r) (in-loop .loop .a)) (after-further-most .further-most .ensures)
-    (ends T.noOperations no-operation-words (λ at free e. spent T.noOperations (λ kind. eqb (bindingOf kind) (start .args .binding))
-    (E.operation (E.expression (within (start .args .levels)) (start .args .right))) src _ at (omega arith)) (in-loop .loop .inv .2 src l)))
+    many-spent _ _ _ _ before-last (wordless no-operation-words) (c .before .before .further-most .ensures) (c .before .loop .inv) (omega arith)
 
 pub run-ok : {M : Type 1} (t : ℕ) → cycle.Lts-run.Closed (run-cs t) (at run-rank t) phrases.run.Reads.Post M
 run-ok t =
     cycle.Lts-run.spec (run-cs t) (at run-rank t) phrases.run.Reads.Post run-inv run-turns (λ c κs. tt)
-    (λ c. (itself (c .before .before .pre .1 .0), refl, λ src l. begins)) (run-kind-here-requires t) (λ c κs. tt) (λ c. search needs) (run-returns t)
+    (λ c. so-begins (c .before .before .pre .1 .0) before-first) (run-kind-here-requires t) (λ c κs. tt) (λ c. search needs) (run-returns t)
     (run-op-requires t) (λ c. omega arith) (λ c. omega arith) (run-loop-again t) (λ c. search needs) (run-returns-2 t)
 
 abbrev term-cs : ℕ → cycle.Lts-term.Claims
