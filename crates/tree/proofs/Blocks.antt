@@ -17,15 +17,19 @@ use Rattle.language.specs.Expressions as E
 use Rattle.language.specs.Expressions.{Inside, inside, shut, opening}
 use Rattle.language.specs.Commands as C
 use Rattle.language.specs.Grammar.{within, readers}
-use Rattle.tree.specs.Reads.{HoldsSymbols, KindHere, Follows, Prepends, Reads, Refuses, Adds, recordFrom, Seals, freeOf}
+use Rattle.tree.specs.Reads.{Ready, TakesRoom, Encodes, Reading, HoldsSymbols, KindHere, Follows, Prepends, Reads, Refuses, Adds, recordFrom, Seals, freeOf}
 use Rattle.tree.specs.Between.{Repeated, repeatedBy, repeatedOnly, encodeRepeatedOnly, opened, bodyAfter}
 use Rattle.tree.specs.Encoding.{LABELLED, closed, encode, encodeName, encodeBy, encodeLabels, encodeCommand, encodeCommands, encodeUnlabelled, encodeRepeats, encodeLocals, labelled, repeated}
 use Rattle.tree.proofs.Steps.{follow, bind, here, added, adds-on, goes-on, _then_, nothing, stopped}
-use Rattle.tree.proofs.Symbols.{mapped, the-is}
+use Rattle.tree.proofs.Symbols.{mapped, the-is, lies-still}
 use Rattle.tree.proofs.ListEnd.{listed-items}
 use Rattle.tree.proofs.Chains.{grown}
 use Rattle.tree.proofs.Commands.{two, three}
-use Rattle.tree.proofs.Readers.{deeper, shut-at, item-alone, put-first, many-none, many-first}
+use Rattle.tree.proofs.Choices.{KindsHere, Refusing, Expects, chosen, picked, refused-at, shut-at}
+use Rattle.tree.proofs.Rooms.{leaves-all, leaves-less, leaves-last, leaves-after}
+use Rattle.tree.proofs.Classes.{unlike2}
+use Rattle.text.proofs.Bytes.{Unlike}
+use Rattle.tree.proofs.Readers.{deeper, item-alone, put-first, many-none, many-first}
 use Rattle.tree.specs.declared.scratch.State.{State}
 
 -- ---- a command after its labels, if there are any
@@ -34,26 +38,30 @@ use Rattle.tree.specs.declared.scratch.State.{State}
 abbrev with-labels : List Label → Repeated → Command
 with-labels ls c = T.command ls (c .body) (c .forms)
 
-module _ (src : Source) (x : ℕ) {s s′ : List ℕ} {r r′ : State} {kind : ℕ} (k : KindHere src r kind) (labels : Bool) where
-  pub body-shut : beginsCommand kind ≡ true → x ≡ 0 → Refuses 7 r r′ → Reads (bodyAfter labels x src) encodeRepeatedOnly s s′ r r′
-  unfolding bodyAfter opened opening
-  body-shut q h d =
-      stopped (λ at free e. rw (sym (ap beginsCommand (k .here at free e)) ∙ q) (ap (λ (i : Inside). opening i repeatedBy src at) (shut-at x h))) d
+module _ (x : ℕ) (labels : Bool) {s : List ℕ} {n : ℕ} {r : State} {kind : ℕ} (kinds : KindsHere s n r kind) {b : Bool} (e : b ≡ beginsCommand kind) where
+  module _ (q : b ≡ true) where
+    pub body-shut : {r′ : State} → x ≡ 0 → Refusing 7 s n r r′ → Reading 0 (bodyAfter labels x) (Encodes encodeRepeatedOnly) s s n r r′
+    unfolding bodyAfter opened opening
+    body-shut z d =
+        refused-at refl d kinds (λ src at h. rw (ap beginsCommand h ∙ sym e ∙ q) (ap (λ (i : Inside). opening i repeatedBy src at) (shut-at x z)))
 
-  pub body-open : beginsCommand kind ≡ true → (x ≡ 0 → ⊥) → Reads (repeatedOnly (x - 1) src) encodeRepeatedOnly s s′ r r′ → Reads (bodyAfter labels x src) encodeRepeatedOnly s s′ r r′
-  unfolding bodyAfter opened opening repeatedOnly
-  body-open q h d =
-      here _ (λ at free e. rw (sym (ap beginsCommand (k .here at free e)) ∙ q) (ap (λ (i : Inside). opening i repeatedBy src at) (deeper x h))) d
+    pub body-open :
+        {s′ : List ℕ} {r′ : State} → (x ≡ 0 → ⊥) → Reading 0 (repeatedOnly (x - 1)) (Encodes encodeRepeatedOnly) s s′ n r r′
+        → Reading 0 (bodyAfter labels x) (Encodes encodeRepeatedOnly) s s′ n r r′
+    unfolding bodyAfter opened opening repeatedOnly
+    body-open z d =
+        picked kinds _ (λ src at h. rw (ap beginsCommand h ∙ sym e ∙ q) (ap (λ (i : Inside). opening i repeatedBy src at) (deeper x z))) d
 
-  pub body-none : beginsCommand kind ≡ false → labels ≡ false → Refuses 6 r r′ → Reads (bodyAfter labels x src) encodeRepeatedOnly s s′ r r′
-  unfolding bodyAfter unexpected
-  body-none q h d = stopped (λ at free e. rw (sym (ap beginsCommand (k .here at free e)) ∙ q, h) refl) d
+  module _ (q : b ≡ false) where
+    pub body-none : {r′ : State} → labels ≡ false → Refusing 6 s n r r′ → Reading 0 (bodyAfter labels x) (Encodes encodeRepeatedOnly) s s n r r′
+    unfolding bodyAfter unexpected
+    body-none z d = refused-at refl d kinds (λ src at h. rw (ap beginsCommand h ∙ sym e ∙ q, z))
 
-module _ (src : Source) (x : ℕ) {s : List ℕ} {r : State} {kind : ℕ} (k : KindHere src r kind) (labels : Bool) where
-  pub body-empty : beginsCommand kind ≡ false → labels ≡ true → Reads (bodyAfter labels x src) encodeRepeatedOnly s s r r
-  unfolding bodyAfter encodeRepeatedOnly repeated encodeUnlabelled encodeRepeats
-  body-empty q h =
-      here (λ m. ok (record { body = T.empty; forms = T.noRepeats }) m) (λ at free e. rw (sym (ap beginsCommand (k .here at free e)) ∙ q, h) refl) (nothing (record { same = refl }))
+    pub body-empty : Ready 0 s n r → labels ≡ true → Reading 0 (bodyAfter labels x) (Encodes encodeRepeatedOnly) s s n r r
+    unfolding bodyAfter encodeRepeatedOnly repeated encodeUnlabelled encodeRepeats
+    body-empty p z =
+        picked kinds (λ _ m. ok (record { body = T.empty; forms = T.noRepeats }) m) (λ src at h. rw (ap beginsCommand h ∙ sym e ∙ q, z))
+        (leaves-all p, λ src l. nothing (record { same = refl }))
 
 -- after labels or none, a command is what `bodyAfter` reads, with its labels
 afterBy : (ls : List Label) (i : Inside) (src : Source) (at : ℕ) → opening i (λ r. C.repeated r ls) src at ≡ onOut (opening i repeatedBy src at) (λ c m. ok (with-labels ls c) m)
@@ -95,11 +103,15 @@ unfolding labelled
 labelled-words [] w h = absurd (omega arith)
 labelled-words (x ∷ ls) w h = refl
 
-pub command-plain : (src : Source) (x : ℕ) {s s′ : List ℕ} {r r′ : State} {kind : ℕ} → KindHere src r kind → isLabel kind ≡ false → Reads (bodyAfter false x src) encodeRepeatedOnly s s′ r r′ → Reads (C.command (within x) src) encodeCommand s s′ r r′
+pub command-plain :
+    (x : ℕ) {s s′ : List ℕ} {n : ℕ} {r r′ : State} {kind : ℕ} → KindsHere s n r kind → {b : Bool} → b ≡ isLabel kind → b ≡ false
+    → Reading 0 (bodyAfter false x) (Encodes encodeRepeatedOnly) s s′ n r r′ → Reading 0 (C.command (within x)) (Encodes encodeCommand) s s′ n r r′
 unfolding C.command encodeCommand encodeLabels labelled encodeRepeatedOnly
-command-plain src x k q d =
-    here _ (λ at free e. many-none k [] isLabel (C.label (within x)) (λ ls m. C.afterLabels (within x) ls src m) e q ∙ after-none x src at)
-    (mapped (with-labels []) (λ c. refl) d)
+command-plain x k e q d = (
+  d .0,
+  λ src l. here _ (λ at free h. many-none (k src l) [] isLabel (C.label (within x)) (λ ls m. C.afterLabels (within x) ls src m) h (sym e ∙ q) ∙ after-none x src at)
+      (mapped (with-labels []) (λ c. refl) (d .1 src l)),
+)
 
 module _ {src : Source} {n : ℕ} {s₀ : List ℕ} (l : HoldsSymbols src n s₀) (size x : ℕ) {r : State} {kind : ℕ} (k : KindHere src r kind) where
   pub labelled-read : {s s₁ s₂ s₃ s₄ : List ℕ} {r₁ r₂ r₃ r₄ : State} {lo value : ℕ} → isLabel kind ≡ true → lo ≡ freeOf size r → value ≡ freeOf size r₂ - lo → Follows (C.label (within x) src) (Prepends encodeLabels) s s₁ r r₁ → Reads (manyUpTo (n - 1) [] isLabel (C.label (within x)) src) encodeLabels s₁ s₂ r₁ r₂ → Reads (bodyAfter true x src) encodeRepeatedOnly s₂ s₃ r₂ r₃ → Adds (recordFrom lo value 0 LABELLED) s₃ s₄ r₃ r₄ → Reads (C.command (within x) src) encodeCommand s s₄ r r₄
@@ -158,20 +170,29 @@ unfolding encodeCommands
 no-command-words = refl
 
 -- [ command { ; command } ] [;] $)
-module _ (src : Source) (x : ℕ) {s : List ℕ} {r : State} {kind : ℕ} (k : KindHere src r kind) where
-  pub no-commands : {r₁ : State} → kind ≡ K.END → Reads (the K.END src) (λ _. []) s s r r₁ → Reads (C.commandsToEnd (readers (within x)) src) encodeCommands s s r r₁
+module _ (x : ℕ) {s : List ℕ} {n : ℕ} {r : State} {kind : ℕ} (kinds : KindsHere s n r kind) where
+  pub no-commands : {r₁ : State} → kind ≡ K.END → Expects K.END s n r r₁ → Reading 3 (C.commandsToEnd (readers (within x))) (Encodes encodeCommands) s s n r r₁
   unfolding C.commandsToEnd encodeCommands
   no-commands q d =
-      here _ (λ at free e. let y : kindAt src at ≡ K.END = sym (k .here at free e) ∙ q in
-      rw (eq-eqb (kindAt src at) K.END y) (sym (ap (λ (o : Out ℕ). onOut o (λ _ m. ok T.noCommands m)) (the-is src K.END at y))))
-      (mapped (λ _. T.noCommands) (λ _. refl) d)
+      picked kinds (λ src at. onOut (the K.END src at) (λ _ m. ok T.noCommands m))
+      (λ src at h. rw (eq-eqb (kindAt src at) K.END (h ∙ q)) (sym (ap (λ (o : Out ℕ). onOut o (λ _ m. ok T.noCommands m)) (the-is src K.END at (h ∙ q)))))
+      (leaves-less (d .0) refl, λ src l. mapped (λ _. T.noCommands) (λ _. refl) (d .1 src l))
 
-  pub semicolon-commands : {r₁ r₂ : State} → kind ≡ K.SEMICOLON → Reads (the K.SEMICOLON src) (λ _. []) s s r r₁ → Reads (the K.END src) (λ _. []) s s r₁ r₂ → Reads (C.commandsToEnd (readers (within x)) src) encodeCommands s s r r₂
+  pub semicolon-commands :
+      {r₁ r₂ : State} → kind ≡ K.SEMICOLON → Expects K.SEMICOLON s n r r₁ → Expects K.END s n r₁ r₂
+      → Reading 3 (C.commandsToEnd (readers (within x))) (Encodes encodeCommands) s s n r r₂
   unfolding C.commandsToEnd C.semicolonEnd encodeCommands
   semicolon-commands q d g =
-      here _ (λ at free e. rw (sym (k .here at free e) ∙ q) refl) (bind 0 (λ _. []) d (goes-on g) (λ _ _. mapped (λ _. T.noCommands) (λ _. refl) g))
+      picked kinds _ (λ src at h. rw (h ∙ q))
+      (leaves-less (leaves-last (d .0) (g .0)) refl, λ src l. bind 0 (λ _. []) (d .1 src l) (goes-on (g .1 src l)) (λ _ _. mapped (λ _. T.noCommands) (λ _. refl) (g .1 src l)))
 
-  pub some-commands : {n : ℕ} {s₁ s₂ : List ℕ} {r₁ r₂ : State} → length (src .symbols) ≡ n → (kind ≡ K.END → ⊥) → (kind ≡ K.SEMICOLON → ⊥) → Follows (C.listed (readers (within x)) src) (Prepends encodeCommands) s s₁ r r₁ → Reads (moreUpTo n T.noCommands (C.listed (readers (within x))) src) encodeCommands s₁ s₂ r₁ r₂ → Reads (C.commandsToEnd (readers (within x)) src) encodeCommands s s₂ r r₂
+  pub some-commands :
+      {s₁ s₂ : List ℕ} {r₁ r₂ : State} → Unlike kind (K.SEMICOLON ∷ K.END ∷ [])
+      → TakesRoom 2 s s₁ n r r₁ × ((src : Source) → HoldsSymbols src n s → Follows (C.listed (readers (within x)) src) (Prepends encodeCommands) s s₁ r r₁)
+      → Reading 5 (moreUpTo n T.noCommands (C.listed (readers (within x)))) (Encodes encodeCommands) s₁ s₂ n r₁ r₂
+      → Reading 3 (C.commandsToEnd (readers (within x))) (Encodes encodeCommands) s s₂ n r r₂
   unfolding C.commandsToEnd
-  some-commands en p q d g =
-      here _ (λ at free e. rw (ne-eqb (kindAt src at) K.END (λ y. p (k .here at free e ∙ y)), ne-eqb (kindAt src at) K.SEMICOLON (λ y. q (k .here at free e ∙ y))) refl) (listed-items T.noCommands (C.listed (readers (within x))) src en d g)
+  some-commands u d g =
+      let q = unlike2 u in
+      picked kinds _ (λ src at h. rw (ne-eqb (kindAt src at) K.END (λ y. q .0 (sym h ∙ y)), ne-eqb (kindAt src at) K.SEMICOLON (λ y. q .1 (sym h ∙ y))))
+      (leaves-after (g .0) refl (d .0), λ src l. listed-items T.noCommands (C.listed (readers (within x))) src (l .count) (d .1 src l) (g .1 src (lies-still l (d .0 .kept))))

@@ -124,10 +124,6 @@ pub no-expression-counted : Counted 0 T.noExpressions []
 unfolding encodeExpressions T.count
 no-expression-counted = record { same = refl; many = refl }
 
-pub expression-none : (src : Source) (x b : ℕ) {s s₁ : List ℕ} {r r₁ : State} → b ≡ 0 → Reads (E.operand (within x) src) encode s s₁ r r₁ → Reads (E.expression (within x) b src) encode s s₁ r r₁
-unfolding E.expression
-expression-none src x b h d = here _ (λ at free e. ap (λ (y : ℕ). E.expression (within x) y src at) h) d
-
 -- no items
 pub no-operation-words : encodeOperations T.noOperations ≡ []
 unfolding encodeOperations

@@ -15,7 +15,7 @@ use Rattle.language.specs.Binding.{LOOSEST, isRepeat, isGuard, isLeave}
 use Rattle.language.specs.Expressions as E
 use Rattle.language.specs.Commands as C
 use Rattle.language.specs.Grammar.{within, readers}
-use Rattle.tree.specs.Reads.{HoldsSymbols, Here, KindHere, Follows, Prepends, Reads, Adds, recordFrom, Seals, freeOf}
+use Rattle.tree.specs.Reads.{Encodes, Reading, ReadingAt, HoldsSymbols, Here, KindHere, Follows, Prepends, Reads, Adds, recordFrom, Seals, freeOf}
 use Rattle.tree.specs.Between.{leaving, repeatedBy, repeatedOnly, encodeRepeatedOnly}
 use Rattle.tree.specs.Encoding.{REPEATED, closed, encode, encodeCommand, encodeUnlabelled, encodeRepeats, repeated}
 use Rattle.tree.proofs.Steps.{follow, bind, here, added, adds-on, goes-on, _then_, nothing}
@@ -23,6 +23,7 @@ use Rattle.tree.proofs.Symbols.{placed, stays}
 use Rattle.tree.proofs.Chains.{chained, grown}
 use Rattle.text.proofs.Bytes.{Unlike}
 use Rattle.tree.proofs.Classes.{unlike5}
+use Rattle.tree.proofs.Choices.{KindsHere, chosen, picked}
 use Rattle.tree.proofs.Readers.{any-the, item-read, put-first, many-none, many-first}
 use Rattle.tree.specs.declared.scratch.State.{State}
 use Rattle.tree.specs.declared.scratch.State.the-variants.{Read}
@@ -97,8 +98,8 @@ module _ {src : Source} {n : ℕ} {s₀ : List ℕ} (l : HoldsSymbols src n s₀
 differs : {kind x : ℕ} (f : ℕ → Bool) → f kind ≡ true → f x ≡ false → kind ≡ x → ⊥
 differs f e g q = let z : _≡_ {A = ℕ} 1 0 = ap (λ (b : Bool). cond b 1 0) (sym e ∙ ap f q ∙ g) in omega arith
 
-other-kind : {src : Source} {r : State} {kind : ℕ} (k : KindHere src r kind) {y at free : ℕ} → (kind ≡ y → ⊥) → r ≡ Read at free → eqb (kindAt src at) y ≡ false
-other-kind {src} k {y} {at} {free} h e = ne-eqb (kindAt src at) y (λ z. h (k .here at free e ∙ z))
+other : {k kind x : ℕ} → k ≡ kind → (kind ≡ x → ⊥) → eqb k x ≡ false
+other {k} {kind} {x} e h = ne-eqb k x (λ z. h (sym e ∙ z))
 
 not-test : isGuard K.TEST ≡ false
 unfolding isGuard member
@@ -108,39 +109,50 @@ stays-on : (isLeave K.TEST ≡ false) × (isLeave K.FOR ≡ false) × (isLeave K
 unfolding isLeave member
 stays-on = (refl, refl, refl, refl)
 
-module _ (src : Source) (x : ℕ) {s s′ : List ℕ} {r r′ : State} {kind : ℕ} (k : KindHere src r kind) where
-  pub unlabelled-guarded : isGuard kind ≡ true → Reads (C.guarded (readers (within x)) src) encodeUnlabelled s s′ r r′ → Reads (C.unlabelled (readers (within x)) src) encodeUnlabelled s s′ r r′
+module _ (x : ℕ) {s s′ : List ℕ} {n : ℕ} {r r′ : State} {kind : ℕ} (kinds : KindsHere s n r kind) where
+  pub unlabelled-test : kind ≡ K.TEST → Reading 1 (C.test (readers (within x))) (Encodes encodeUnlabelled) s s′ n r r′ → Reading 1 (C.unlabelled (readers (within x))) (Encodes encodeUnlabelled) s s′ n r r′
   unfolding C.unlabelled
-  unlabelled-guarded q d =
-      here _ (λ at free e. rw (other-kind k {y = K.TEST} (differs isGuard q not-test) e, sym (ap isGuard (k .here at free e)) ∙ q) refl) d
+  unlabelled-test q d = picked kinds _ (λ src at h. rw (h ∙ q)) d
 
-  pub unlabelled-test : kind ≡ K.TEST → Reads (C.test (readers (within x)) src) encodeUnlabelled s s′ r r′ → Reads (C.unlabelled (readers (within x)) src) encodeUnlabelled s s′ r r′
-  unfolding C.unlabelled
-  unlabelled-test q d = here _ (λ at free e. rw (sym (k .here at free e) ∙ q) refl) d
-
-  pub unlabelled-resultis : kind ≡ K.RESULTIS → Reads (C.resultis (readers (within x)) src) encodeUnlabelled s s′ r r′ → Reads (C.unlabelled (readers (within x)) src) encodeUnlabelled s s′ r r′
+  pub unlabelled-resultis : kind ≡ K.RESULTIS → Reading 1 (C.resultis (readers (within x))) (Encodes encodeUnlabelled) s s′ n r r′ → Reading 1 (C.unlabelled (readers (within x))) (Encodes encodeUnlabelled) s s′ n r r′
   unfolding C.unlabelled isGuard member
-  unlabelled-resultis q d = here _ (λ at free e. rw (sym (k .here at free e) ∙ q) refl) d
+  unlabelled-resultis q d = picked kinds _ (λ src at h. rw (h ∙ q)) d
 
-  pub unlabelled-leave : isGuard kind ≡ false → isLeave kind ≡ true → Reads (leaving src) encodeUnlabelled s s′ r r′ → Reads (C.unlabelled (readers (within x)) src) encodeUnlabelled s s′ r r′
-  unfolding C.unlabelled C.leave leaving
-  unlabelled-leave g q d =
-      here (leaving src) (λ at free e. rw (other-kind k {y = K.TEST} (differs isLeave q (stays-on .0)) e, sym (ap isGuard (k .here at free e)) ∙ g, other-kind k {y = K.FOR} (differs isLeave q (stays-on .1)) e, other-kind k {y = K.SWITCHON} (differs isLeave q (stays-on .2)) e, other-kind k {y = K.RESULTIS} (differs isLeave q (stays-on .3)) e, sym (ap isLeave (k .here at free e)) ∙ q) refl) d
-
-  pub unlabelled-for : kind ≡ K.FOR → Reads (C.for (readers (within x)) src) encodeUnlabelled s s′ r r′ → Reads (C.unlabelled (readers (within x)) src) encodeUnlabelled s s′ r r′
+  pub unlabelled-for : kind ≡ K.FOR → Reading 1 (C.for (readers (within x))) (Encodes encodeUnlabelled) s s′ n r r′ → Reading 1 (C.unlabelled (readers (within x))) (Encodes encodeUnlabelled) s s′ n r r′
   unfolding C.unlabelled isGuard member
-  unlabelled-for q d = here _ (λ at free e. rw (sym (k .here at free e) ∙ q) refl) d
+  unlabelled-for q d = picked kinds _ (λ src at h. rw (h ∙ q)) d
 
-  pub unlabelled-switchon : kind ≡ K.SWITCHON → Reads (C.switchon (readers (within x)) src) encodeUnlabelled s s′ r r′ → Reads (C.unlabelled (readers (within x)) src) encodeUnlabelled s s′ r r′
+  pub unlabelled-switchon : kind ≡ K.SWITCHON → Reading 1 (C.switchon (readers (within x))) (Encodes encodeUnlabelled) s s′ n r r′ → Reading 1 (C.unlabelled (readers (within x))) (Encodes encodeUnlabelled) s s′ n r r′
   unfolding C.unlabelled isGuard member
-  unlabelled-switchon q d = here _ (λ at free e. rw (sym (k .here at free e) ∙ q) refl) d
+  unlabelled-switchon q d = picked kinds _ (λ src at h. rw (h ∙ q)) d
 
-  pub unlabelled-block : kind ≡ K.BEGIN → Reads (C.block (readers (within x)) src) encodeUnlabelled s s′ r r′ → Reads (C.unlabelled (readers (within x)) src) encodeUnlabelled s s′ r r′
+  pub unlabelled-block : kind ≡ K.BEGIN → Reading 1 (C.block (readers (within x))) (Encodes encodeUnlabelled) s s′ n r r′ → Reading 1 (C.unlabelled (readers (within x))) (Encodes encodeUnlabelled) s s′ n r r′
   unfolding C.unlabelled isGuard isLeave member
-  unlabelled-block q d = here _ (λ at free e. rw (sym (k .here at free e) ∙ q) refl) d
+  unlabelled-block q d = picked kinds _ (λ src at h. rw (h ∙ q)) d
 
-  pub unlabelled-other : isGuard kind ≡ false → isLeave kind ≡ false → Unlike kind (K.BEGIN ∷ K.RESULTIS ∷ K.SWITCHON ∷ K.FOR ∷ K.TEST ∷ []) → Reads (C.assignmentOrCall (readers (within x)) src) encodeUnlabelled s s′ r r′ → Reads (C.unlabelled (readers (within x)) src) encodeUnlabelled s s′ r r′
-  unfolding C.unlabelled
-  unlabelled-other g w u d =
-      let q = unlike5 u in
-      here (C.assignmentOrCall (readers (within x)) src) (λ at free e. rw (other-kind k {y = K.TEST} (q .0) e, sym (ap isGuard (k .here at free e)) ∙ g, other-kind k {y = K.FOR} (q .1) e, other-kind k {y = K.SWITCHON} (q .2) e, other-kind k {y = K.RESULTIS} (q .3) e, sym (ap isLeave (k .here at free e)) ∙ w, other-kind k {y = K.BEGIN} (q .4) e) refl) d
+  -- a class of symbols, and none of them
+  module _ {g : Bool} (guard : g ≡ isGuard kind) where
+    pub unlabelled-guarded : g ≡ true → ReadingAt kind 1 (C.guarded (readers (within x))) (Encodes encodeUnlabelled) s s′ n r r′ → Reading 1 (C.unlabelled (readers (within x))) (Encodes encodeUnlabelled) s s′ n r r′
+    unfolding C.unlabelled
+    unlabelled-guarded q d =
+        chosen kinds _ (λ src at h. rw (other {x = K.TEST} h (differs isGuard (sym guard ∙ q) not-test), ap isGuard h ∙ sym guard ∙ q)) d
+
+    module _ (p : g ≡ false) {w : Bool} (leave : w ≡ isLeave kind) where
+      pub unlabelled-leave : w ≡ true → ReadingAt kind 1 leaving (Encodes encodeUnlabelled) s s′ n r r′ → Reading 1 (C.unlabelled (readers (within x))) (Encodes encodeUnlabelled) s s′ n r r′
+      unfolding C.unlabelled C.leave leaving
+      unlabelled-leave q d =
+          let yes = sym leave ∙ q in
+          chosen kinds leaving
+          (λ src at h. rw (other h (differs isLeave yes (stays-on .0)), ap isGuard h ∙ sym guard ∙ p, other h (differs isLeave yes (stays-on .1)), other h (differs isLeave yes (stays-on .2)), other h (differs isLeave yes (stays-on .3)), ap isLeave h ∙ sym leave ∙ q))
+          d
+
+      pub unlabelled-other :
+          w ≡ false → Unlike kind (K.BEGIN ∷ K.RESULTIS ∷ K.SWITCHON ∷ K.FOR ∷ K.TEST ∷ [])
+          → Reading 1 (C.assignmentOrCall (readers (within x))) (Encodes encodeUnlabelled) s s′ n r r′
+          → Reading 1 (C.unlabelled (readers (within x))) (Encodes encodeUnlabelled) s s′ n r r′
+      unfolding C.unlabelled
+      unlabelled-other q u d =
+          let v = unlike5 u in
+          picked kinds (C.assignmentOrCall (readers (within x)))
+          (λ src at h. rw (other h (v .0), ap isGuard h ∙ sym guard ∙ p, other h (v .1), other h (v .2), other h (v .3), ap isLeave h ∙ sym leave ∙ q, other h (v .4)))
+          d

@@ -12,12 +12,13 @@ use Rattle.language.specs.Reader.{Source, Out, ok, no, onOut, kindAt, valueAt, 
 use Rattle.language.specs.Expressions as E
 use Rattle.language.specs.Expressions.{Inside, inside, opening}
 use Rattle.language.specs.Grammar.{within, readers}
-use Rattle.tree.specs.Reads.{HoldsSymbols, Here, KindHere, Reads, Refuses, Adds, recordFrom, freeOf}
+use Rattle.tree.specs.Reads.{Encodes, Reading, ReadingAt, HoldsSymbols, Here, KindHere, Reads, Refuses, Adds, recordFrom, freeOf}
 use Rattle.tree.specs.Encoding.{closed, leaf, encodeName, encodeNegative, encodeConstant}
 use Rattle.tree.proofs.Steps.{bind, here, added, adds-on, goes-on, stopped}
 use Rattle.tree.proofs.Symbols.{placed, mapped, the-is}
 use Rattle.tree.proofs.Leaves.{known, valued, name-at, nameOf, same-out}
-use Rattle.tree.proofs.Readers.{deeper, shut-at}
+use Rattle.tree.proofs.Readers.{deeper}
+use Rattle.tree.proofs.Choices.{KindsHere, shut-at, chosen, picked}
 use Rattle.tree.specs.declared.scratch.State.{State}
 
 abbrev minus : ℕ → Simple → Constant
@@ -65,13 +66,11 @@ module _ {src : Source} {n : ℕ} {s : List ℕ} (l : HoldsSymbols src n s) {r :
   negative-name {value} v u w y d =
       after-minus (here _ (λ at free e. rw (ne-eqb (kindAt src at) K.NUMBER (λ z. u (k .here at free e ∙ z)), ne-eqb (kindAt src at) K.TRUE (λ z. w (k .here at free e ∙ z)), ne-eqb (kindAt src at) K.FALSE (λ z. y (k .here at free e ∙ z))) (nested p (aName src at) ∙ name-at l v (λ y m. ok (minus p (T.known y)) m) at free e)) (mapped (λ at. minus p (T.known (nameOf at value))) (λ _. refl) d))
 
-module _ (src : Source) (x : ℕ) {s s′ : List ℕ} {r r′ : State} {kind : ℕ} (k : KindHere src r kind) where
-  pub constant-negative : kind ≡ K.MINUS → Reads (E.negative (within x) src) encodeConstant s s′ r r′ → Reads (E.constant (within x) src) encodeConstant s s′ r r′
+module _ (x : ℕ) {s s′ : List ℕ} {n : ℕ} {r r′ : State} {kind : ℕ} (kinds : KindsHere s n r kind) where
+  pub constant-negative : kind ≡ K.MINUS → Reading 1 (E.negative (within x)) (Encodes encodeConstant) s s′ n r r′ → Reading 1 (E.constant (within x)) (Encodes encodeConstant) s s′ n r r′
   unfolding E.constant
-  constant-negative q d =
-      here _ (λ at free e. ap (λ (b : Bool). cond b (E.negative (within x) src at) (E.positive src at)) (eq-eqb (kindAt src at) K.MINUS (sym (k .here at free e) ∙ q))) d
+  constant-negative q d = picked kinds _ (λ src at h. rw (h ∙ q)) d
 
-  pub constant-positive : (kind ≡ K.MINUS → ⊥) → Reads (E.positive src) encodeConstant s s′ r r′ → Reads (E.constant (within x) src) encodeConstant s s′ r r′
+  pub constant-positive : (kind ≡ K.MINUS → ⊥) → ReadingAt kind 1 E.positive (Encodes encodeConstant) s s′ n r r′ → Reading 1 (E.constant (within x)) (Encodes encodeConstant) s s′ n r r′
   unfolding E.constant
-  constant-positive q d =
-      here _ (λ at free e. ap (λ (b : Bool). cond b (E.negative (within x) src at) (E.positive src at)) (ne-eqb (kindAt src at) K.MINUS (λ y. q (k .here at free e ∙ y)))) d
+  constant-positive q d = chosen kinds _ (λ src at h. rw (ne-eqb (kindAt src at) K.MINUS (λ y. q (sym h ∙ y)))) d

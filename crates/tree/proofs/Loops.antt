@@ -7,9 +7,10 @@ use native.Mathlib.Omega.{arith}
 use lib.ListN.{length}
 use Rattle.language.specs.Kinds as K
 use Rattle.language.specs.Reader.{Source, Out, ok, Reader, onOut, the, manyUpTo, moreUpTo}
-use Rattle.tree.specs.Reads.{HoldsSymbols, Ready, LeavesRoom, TakesRoom, KindHere, Follows, Encodes, Prepends, Refuses, Reading, ReadingAt}
+use Rattle.tree.specs.Reads.{HoldsSymbols, Ready, LeavesRoom, TakesRoom, Follows, Encodes, Prepends, Refuses, Reading, ReadingAt}
 use Rattle.tree.proofs.Steps.{here, nothing}
 use Rattle.tree.proofs.Lists.{PartlyAs, Before, begins-as, more-as, closes-as, turned, last, spent}
+use Rattle.tree.proofs.Choices.{KindsHere}
 use Rattle.tree.proofs.ListEnd.{list-end, list-semicolon-end, list-more, semicolon-item, list-spent}
 use Rattle.tree.proofs.Symbols.{lies-still}
 use Rattle.tree.proofs.Rooms.{leaves-all, leaves-first, leaves-last, leaves-less, takes-leaves}
@@ -21,15 +22,6 @@ pub record SoFar {A : Type 0} (Says : (A → A) → List ℕ → Type 0) (read r
   pub room : LeavesRoom 0 s₀ s n r₀ r
   pub same : length s ≡ length s₀
   pub partly : (src : Source) → HoldsSymbols src n s₀ → PartlyAs (read src) (rest src) Says s₀ s r₀ r
-
--- the symbol here is of that kind, whatever the source
-abbrev pub KindsHere : (s : List ℕ) → (n : ℕ) → State → (kind : ℕ) → Type 0
-KindsHere s n r kind = (src : Source) → HoldsSymbols src n s → KindHere src r kind
-
-pub at-any :
-    {A : Type 0} {k : ℕ} {read : Reader A} {Says : A → List ℕ → Type 0} {s s′ : List ℕ} {n : ℕ} {r r′ : State} {kind : ℕ}
-    → Reading k read Says s s′ n r r′ → ReadingAt kind k read Says s s′ n r r′
-at-any d = (d .0, λ src l _. d .1 src l)
 
 -- how what is said of the items so far goes on, and how it ends
 abbrev pub Goes : {A : Type 0} → (Says One Says′ : (A → A) → List ℕ → Type 0) → Type 0

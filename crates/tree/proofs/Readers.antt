@@ -31,29 +31,6 @@ unfolding within
 deeper zero h = absurd (h refl)
 deeper (suc x) h = let e : x ≡ suc x - 1 = omega arith in ap (λ (y : ℕ). inside (readers (within y))) e
 
-pub shut-at : (x : ℕ) → x ≡ 0 → within x ≡ shut
-unfolding within
-shut-at zero h = refl
-shut-at (suc x) h = absurd (omega arith)
-
--- no level is left: refused 7
-module _ (src : Source) {s s′ : List ℕ} {r r′ : State} (x : ℕ) (h : x ≡ 0) (d : Refuses 7 r r′) where
-  pub bracketed-shut : Reads (E.bracketed (within x) src) encode s s′ r r′
-  unfolding E.bracketed opening
-  bracketed-shut = stopped (λ at free e. ap (λ (i : Inside). E.bracketed i src at) (shut-at x h)) d
-
-  pub valof-shut : Reads (E.valof (within x) src) encode s s′ r r′
-  unfolding E.valof opening
-  valof-shut = stopped (λ at free e. ap (λ (i : Inside). E.valof i src at) (shut-at x h)) d
-
-  pub monadic-shut : Reads (E.monadic (within x) src) encode s s′ r r′
-  unfolding E.monadic opening
-  monadic-shut = stopped (λ at free e. ap (λ (i : Inside). E.monadic i src at) (shut-at x h)) d
-
-  pub arguments-shut : {Says : (Suffixes → Suffixes) → List ℕ → Type 0} → Follows (E.arguments (within x) src) Says s s′ r r′
-  unfolding E.arguments opening
-  arguments-shut = stopped (λ at free e. ap (λ (i : Inside). E.arguments i src at) (shut-at x h)) d
-
 -- the symbol here, whatever it is, is of the kind that stands here
 pub any-the : {C : Type 0} {src : Source} {r : State} {kind : ℕ} → KindHere src r kind → (F : ℕ → ℕ → ℕ → Out C) (at free : ℕ) → r ≡ Read at free → F (kindAt src at) (placeAt src at) (at + 1) ≡ onOut (the kind src at) (F kind)
 any-the {C} {src} {r} {kind} k F at free e =

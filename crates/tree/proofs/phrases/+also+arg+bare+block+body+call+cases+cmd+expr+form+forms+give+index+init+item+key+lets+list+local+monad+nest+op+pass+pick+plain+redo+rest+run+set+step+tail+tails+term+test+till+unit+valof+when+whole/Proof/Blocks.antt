@@ -10,13 +10,14 @@ use Rattle.language.specs.Grammar.{within, readers}
 use Rattle.language.specs.Reader.{manyUpTo, moreUpTo}
 use Rattle.tree.proofs.Blocks.{for-read, switchon-read, block-read, listed-read, no-command-words, no-commands, semicolon-commands}
 use Rattle.tree.proofs.Blocks.{some-commands}
-use Rattle.tree.proofs.Classes.{unlike2}
-use Rattle.tree.proofs.Helpers.{low, weaker, fitted, both, then-grows, grows-then, grows-fits, as-grows, grows-more}
+use Rattle.tree.proofs.Choices.{at-any}
+use Rattle.tree.proofs.Helpers.{low, fitted}
 use Rattle.tree.proofs.Lets.{values-read, one-name, vector-is, vector-not, given-vector, given-values, no-local-words, local-read}
 use Rattle.tree.proofs.Lists.{Before}
-use Rattle.tree.proofs.Loops.{SoFar, at-any, before-first, before-next, before-last, wordless, so-begins, many-turns, many-ends, many-spent}
+use Rattle.tree.proofs.Loops.{SoFar, before-first, before-next, before-last, wordless, so-begins, many-turns, many-ends, many-spent}
 use Rattle.tree.proofs.Loops.{list-spents, list-ends, list-semicolon-ends, list-goes-on}
-use Rattle.tree.proofs.Rooms.{takes-more, ready-leaves, ready-takes, ready-part, item-low, size-small}
+use Rattle.tree.proofs.Rooms.{leaves-less, takes-more, takes-none, ready-leaves, ready-takes, leaves-leaves, takes-leaves, leaves-takes}
+use Rattle.tree.proofs.Rooms.{takes-takes, ready-part, item-low, size-small}
 use Rattle.tree.proofs.Steps.{goes-on, adds-on, _then_}
 use Rattle.tree.proofs.Symbols.{lies-still}
 use Rattle.tree.specs.Encoding.{encodeCommands, encodeLocals}
@@ -134,25 +135,30 @@ step-returns t c =
     let after-expr = after-expect3 .before .before .before .before in let after-expect2 = after-expr .before .before in
     let after-a-name = after-expect2 .before .before .before .before in let after-expect = after-a-name .before .before in
     let after-free-of = after-expect .before .before in
-    pair (weaker (omega arith) (then-grows (both
-    (both (both (both (both (both (both (both (after-expect .expect .ensures .0) (after-a-name .a-name .ensures .0))
-    (after-expect2 .expect2 .ensures .0)) (after-expr .expr .ensures .0)) (after-expect3 .expect3 .ensures .0)) (after-expr2 .expr2 .ensures .0))
-    (after-optional-by .optional-by .ensures .0)) (after-expect4 .expect4 .ensures .0)) (after-cmd .cmd .ensures .0)) (after-node .node .ensures .0)
-    (omega arith))) (λ src l. (let l₂ = lies-still l (after-a-name .a-name .ensures .0 .kept) in let l₄ = lies-still l₂
-    (after-expr .expr .ensures .0 .kept) in let l₆ = lies-still l₄ (after-expr2 .expr2 .ensures .0 .kept) in let l₇ = lies-still l₆
-    (after-optional-by .optional-by .ensures .0 .kept) in for-read l _ _ (after-free-of .free-of .ensures) (after-expect .expect .ensures .1 src l)
-    (after-a-name .a-name .ensures .1 src l) (after-expect2 .expect2 .ensures .1 src l₂) (after-expr .expr .ensures .1 src l₂)
-    (after-expect3 .expect3 .ensures .1 src l₄) (after-expr2 .expr2 .ensures .1 src l₄) (after-optional-by .optional-by .ensures .1 src l₆)
-    (after-expect4 .expect4 .ensures .1 src l₇) (after-cmd .cmd .ensures .1 src l₇)
-    (omega (
+    pair (takes-leaves (after-node .node .ensures .0)
+    (leaves-leaves (after-cmd .cmd .ensures .0)
+    (leaves-leaves (after-expect4 .expect4 .ensures .0)
+    (leaves-leaves (after-optional-by .optional-by .ensures .0)
+    (leaves-leaves (after-expr2 .expr2 .ensures .0)
+    (leaves-leaves (after-expect3 .expect3 .ensures .0)
+    (leaves-leaves (after-expr .expr .ensures .0)
+    (leaves-leaves (after-expect2 .expect2 .ensures .0)
+    (leaves-leaves (after-a-name .a-name .ensures .0) (leaves-less (after-expect .expect .ensures .0) refl))))))))))
+    (λ src l. (let l₂ = lies-still l (after-a-name .a-name .ensures .0 .kept) in let l₄ = lies-still l₂ (after-expr .expr .ensures .0 .kept) in let l₆
+    = lies-still l₄ (after-expr2 .expr2 .ensures .0 .kept) in let l₇ = lies-still l₆ (after-optional-by .optional-by .ensures .0 .kept) in for-read l
+    _ _ (after-free-of .free-of .ensures) (after-expect .expect .ensures .1 src l) (after-a-name .a-name .ensures .1 src l)
+    (after-expect2 .expect2 .ensures .1 src l₂) (after-expr .expr .ensures .1 src l₂) (after-expect3 .expect3 .ensures .1 src l₄)
+    (after-expr2 .expr2 .ensures .1 src l₄) (after-optional-by .optional-by .ensures .1 src l₆) (after-expect4 .expect4 .ensures .1 src l₇)
+    (after-cmd .cmd .ensures .1 src l₇) (omega (
       arith,
       after-minus .minus .ensures,
-      after-free-of2 .free-of2 .ensures ∙ ap (λ (z : ℕ). freeOf z (after-optional-by .optional-by .result))
-          (after-optional-by .optional-by .kept .0 ∙ after-expr2 .expr2 .kept .0 ∙ after-expr .expr .kept .0 ∙ after-a-name .a-name .kept .0),
-      after-free-of3 .free-of3 .ensures ∙ ap (λ (z : ℕ). freeOf z (after-expr2 .expr2 .result))
-          (after-optional-by .optional-by .kept .0 ∙ after-expr2 .expr2 .kept .0 ∙ after-expr .expr .kept .0 ∙ after-a-name .a-name .kept .0),
-    ))
-    (after-node .node .ensures .1)))
+      after-free-of2 .free-of2 .ensures ∙ ap
+          (λ (z : ℕ). freeOf z (after-optional-by .optional-by .result)) (after-optional-by .optional-by .kept .0 ∙ after-expr2 .expr2 .kept .0 ∙
+          after-expr .expr .kept .0 ∙ after-a-name .a-name .kept .0),
+      after-free-of3 .free-of3 .ensures ∙ ap
+          (λ (z : ℕ). freeOf z (after-expr2 .expr2 .result)) (after-optional-by .optional-by .kept .0 ∙ after-expr2 .expr2 .kept .0 ∙
+          after-expr .expr .kept .0 ∙ after-a-name .a-name .kept .0),
+    )) (after-node .node .ensures .1)))
 
 pub step-ok : {M : Type 1} (t : ℕ) → cycle.Lts-step.Closed (step-cs t) (at step-rank t) phrases.step.Reads.Post M
 step-ok t =
@@ -216,14 +222,16 @@ pick-returns t c =
     let after-expect2 = after-expect3 .before .before in let after-minus = after-expect2 .before .before in
     let after-free-of2 = after-minus .before in let after-expr = after-free-of2 .before .before .before .before in
     let after-expect = after-expr .before .before in let after-free-of = after-expect .before .before in
-    pair (weaker (omega arith) (then-grows (both
-    (then-grows (both (both (both (after-expect .expect .ensures .0) (after-expr .expr .ensures .0)) (after-expect2 .expect2 .ensures .0))
-    (after-expect3 .expect3 .ensures .0)) (after-item .item .ensures .0) (omega arith)) (after-list .list .ensures .0)) (after-node .node .ensures .0)
-    (omega arith))) (λ src l. (let l₂ = lies-still l (after-expr .expr .ensures .0 .kept) in let l₃ = lies-still l₂
-    (after-item .item .ensures .0 .kept) in switchon-read l _ _ (after-free-of .free-of .ensures) (after-expect .expect .ensures .1 src l)
-    (after-expr .expr .ensures .1 src l) (after-expect2 .expect2 .ensures .1 src l₂) (after-expect3 .expect3 .ensures .1 src l₂)
-    (after-item .item .ensures .1 src l₂) (after-list .list .ensures .1 src l₃)
-    (after-minus .minus .ensures ∙ ap (λ (y : ℕ). y - after-free-of .free-of .result)
+    pair (takes-leaves (after-node .node .ensures .0)
+    (leaves-leaves (after-list .list .ensures .0)
+    (takes-leaves (after-item .item .ensures .0)
+    (leaves-leaves (after-expect3 .expect3 .ensures .0)
+    (leaves-leaves (after-expect2 .expect2 .ensures .0)
+    (leaves-leaves (after-expr .expr .ensures .0) (leaves-less (after-expect .expect .ensures .0) refl)))))))
+    (λ src l. (let l₂ = lies-still l (after-expr .expr .ensures .0 .kept) in let l₃ = lies-still l₂ (after-item .item .ensures .0 .kept)
+    in switchon-read l _ _ (after-free-of .free-of .ensures) (after-expect .expect .ensures .1 src l) (after-expr .expr .ensures .1 src l)
+    (after-expect2 .expect2 .ensures .1 src l₂) (after-expect3 .expect3 .ensures .1 src l₂) (after-item .item .ensures .1 src l₂)
+    (after-list .list .ensures .1 src l₃) (after-minus .minus .ensures ∙ ap (λ (y : ℕ). y - after-free-of .free-of .result)
     (after-free-of2 .free-of2 .ensures ∙ ap (λ (z : ℕ). freeOf z (after-expr .expr .result)) (after-expr .expr .kept .0)))
     (after-node .node .ensures .1)))
 
@@ -254,8 +262,8 @@ item-returns t c =
     let after-set-size = c .before .before in let after-cmd = after-set-size .before .before .before .before in
     let after-begin-item = after-cmd .before .before .before .before in let after-free-of = after-begin-item .before .before in
     let start = after-free-of .before .before .before in
-    pair (grows-then (after-begin-item .begin-item .ensures .0) (both (after-cmd .cmd .ensures .0) (after-set-size .set-size .ensures .0))
-    (omega arith)) (λ src l. listed-read src _ _ (after-free-of .free-of .ensures) (low (start .pre .1)) (after-begin-item .begin-item .ensures .1)
+    pair (leaves-takes (after-set-size .set-size .ensures .0) (leaves-takes (after-cmd .cmd .ensures .0) (after-begin-item .begin-item .ensures .0)))
+    (λ src l. listed-read src _ _ (after-free-of .free-of .ensures) (low (start .pre .1)) (after-begin-item .begin-item .ensures .1)
     (after-cmd .cmd .ensures .1 src (lies-still l (after-begin-item .begin-item .ensures .0 .kept))) (after-set-size .set-size .ensures .1))
 
 pub item-ok : {M : Type 1} (t : ℕ) → cycle.Lts-item.Closed (item-cs t) (at item-rank t) phrases.item.Reads.Post M
@@ -321,16 +329,13 @@ list-refuse-requires t c κs =
     let in-loop = c .before .before in let start = in-loop .before .before in
     ready-leaves (in-loop .loop .inv .room) (in-loop .loop .inv .same) refl (start .pre .1)
 
-list-returns-3 : (t : ℕ) → cycle.Lts-list.Need-returns-3 (list-cs t) (at list-rank t) phrases.list.Reads.Post list-inv list-turns
-list-returns-3 t c = list-spents _ _ _ (c .before .before .before .loop .inv) (c .refuse .ensures) (omega arith)
-
 pub list-ok : {M : Type 1} (t : ℕ) → cycle.Lts-list.Closed (list-cs t) (at list-rank t) phrases.list.Reads.Post M
 list-ok t =
     cycle.Lts-list.spec (list-cs t) (at list-rank t) phrases.list.Reads.Post list-inv list-turns (λ c. so-begins (c .before .pre .1) before-first)
     (list-kind-here-requires t) (λ c κs. (list-kind-here-requires t (c .before .before .before) κs, omega arith)) (λ c. search needs) (list-returns t)
     (list-expect-requires-2 t) (list-kind-here-requires-2 t) (λ c κs. (list-kind-here-requires-2 t (c .before .before .before) κs, omega arith))
     (λ c. search needs) (list-returns-2 t) (list-item-requires t) (λ c. omega arith) (λ c. omega arith) (list-loop-again t) (list-refuse-requires t)
-    (λ c. search needs) (list-returns-3 t)
+    (λ c. search needs) (λ c. list-spents _ _ _ (c .before .before .before .loop .inv) (c .refuse .ensures) (omega arith))
 
 abbrev till-cs : ℕ → cycle.Lts-till.Claims
 till-cs t =
@@ -347,33 +352,19 @@ till-list-requires t c κs =
     let after-item = c .before .before .before in let start = after-item .before .before .before .before .before .before in
     (omega arith, ready-takes (after-item .item .ensures .0) (after-item .item .kept .0) (start .pre .1))
 
-till-returns : (t : ℕ) → cycle.Lts-till.Need-returns (till-cs t) (at till-rank t) phrases.till.Reads.Post
-till-returns t c =
-    let after-match = c .before .before in let after-kind-here = after-match .before in
-    pair (weaker (omega arith) (c .expect .ensures .0)) (λ src l. no-commands src _ (after-kind-here .kind-here .ensures src l)
-    (after-match .match .keys1) (c .expect .ensures .1 src l))
-
-till-returns-2 : (t : ℕ) → cycle.Lts-till.Need-returns-2 (till-cs t) (at till-rank t) phrases.till.Reads.Post
-till-returns-2 t c =
-    let after-expect2 = c .before .before in let after-match = after-expect2 .before .before in let after-kind-here = after-match .before in
-    pair (weaker (omega arith) (both (after-expect2 .expect2 .ensures .0) (c .expect3 .ensures .0)))
-    (λ src l. semicolon-commands src _ (after-kind-here .kind-here .ensures src l) (after-match .match .keys2)
-    (after-expect2 .expect2 .ensures .1 src l) (c .expect3 .ensures .1 src l))
-
 till-returns-3 : (t : ℕ) → cycle.Lts-till.Need-returns-3 (till-cs t) (at till-rank t) phrases.till.Reads.Post
 till-returns-3 t c =
     let after-list = c .before .before in let after-item = after-list .before .before .before .before in
     let after-match = after-item .before .before in let after-kind-here = after-match .before in
-    pair (grows-fits (after-item .item .ensures .0) (after-list .list .ensures .0) (omega arith))
-    (λ src l. some-commands src _ (after-kind-here .kind-here .ensures src l) (l .count) (unlike2 (after-match .match .rest) .0)
-    (unlike2 (after-match .match .rest) .1) (after-item .item .ensures .1 src l)
-    (after-list .list .ensures .1 src (lies-still l (after-item .item .ensures .0 .kept))))
+    some-commands _ (after-kind-here .kind-here .ensures) (after-match .match .rest) (after-item .item .ensures) (after-list .list .ensures)
 
 pub till-ok : {M : Type 1} (t : ℕ) → cycle.Lts-till.Closed (till-cs t) (at till-rank t) phrases.till.Reads.Post M
 till-ok t =
     cycle.Lts-till.spec (till-cs t) (at till-rank t) phrases.till.Reads.Post (λ c κs. omega arith) (λ c κs. omega arith) (λ c κs. omega arith)
-    (till-expect-requires-3 t) (λ c κs. omega arith) (till-list-requires t) (λ c. search needs) (till-returns t) (λ c. search needs)
-    (till-returns-2 t) (λ c. search needs) (till-returns-3 t)
+    (till-expect-requires-3 t) (λ c κs. omega arith) (till-list-requires t) (λ c. search needs)
+    (λ c. no-commands _ (c .before .before .before .kind-here .ensures) (c .before .before .match .keys1) (c .expect .ensures)) (λ c. search needs)
+    (λ c. semicolon-commands _ (c .before .before .before .before .before .kind-here .ensures) (c .before .before .before .before .match .keys2)
+    (c .before .before .expect2 .ensures) (c .expect3 .ensures)) (λ c. search needs) (till-returns-3 t)
 
 abbrev block-cs : ℕ → cycle.Lts-block.Claims
 block-cs t =
@@ -411,8 +402,9 @@ block-returns t c =
     let after-minus = after-till .before .before in let after-free-of2 = after-minus .before in
     let after-lets = after-free-of2 .before .before .before .before in let after-expect = after-lets .before .before in
     let after-free-of = after-expect .before .before in
-    pair (weaker (omega arith) (then-grows (both (both (after-expect .expect .ensures .0) (after-lets .lets .ensures .0))
-    (after-till .till .ensures .0)) (after-node .node .ensures .0) (omega arith)))
+    pair (takes-leaves (after-node .node .ensures .0)
+    (leaves-leaves (after-till .till .ensures .0)
+    (leaves-leaves (after-lets .lets .ensures .0) (leaves-less (after-expect .expect .ensures .0) refl))))
     (λ src l. (let l₂ = lies-still l (after-lets .lets .ensures .0 .kept) in block-read l _ _ (after-free-of .free-of .ensures)
     (after-expect .expect .ensures .1 src l) (after-lets .lets .ensures .1 src l) (after-till .till .ensures .1 src l₂)
     (after-minus .minus .ensures ∙ ap (λ (y : ℕ). y - after-free-of .free-of .result)
@@ -440,12 +432,6 @@ lets-kind-here-requires t c κs =
     let in-loop = c .before .before in let start = in-loop .before .before in
     ready-leaves (in-loop .loop .inv .room) (in-loop .loop .inv .same) refl (start .pre .1)
 
-lets-returns : (t : ℕ) → cycle.Lts-lets.Need-returns (lets-cs t) (at lets-rank t) phrases.lets.Reads.Post lets-inv lets-turns
-lets-returns t c =
-    let after-kind-here = c .before in let in-loop = after-kind-here .before .before .before in
-    many-ends _ _ _ _ before-last (wordless no-local-words) refl (in-loop .loop .inv) (after-kind-here .kind-here .ensures)
-    (ne-eqb _ _ (c .if1 .taken))
-
 lets-loop-again : (t : ℕ) → cycle.Lts-lets.Need-loop-again (lets-cs t) (at lets-rank t) phrases.lets.Reads.Post lets-inv lets-turns
 lets-loop-again t c =
     let after-local = c .before .before in let after-if1 = after-local .before .before in let after-kind-here = after-if1 .before in
@@ -453,14 +439,14 @@ lets-loop-again t c =
     many-turns _ _ _ _ before-next (in-loop .loop .inv) (after-kind-here .kind-here .ensures) (eq-eqb _ _ (after-if1 .if1 .left))
     (at-any (after-local .local .ensures)) (after-local .local .kept .0) (omega arith)
 
-lets-returns-2 : (t : ℕ) → cycle.Lts-lets.Need-returns-2 (lets-cs t) (at lets-rank t) phrases.lets.Reads.Post lets-inv lets-turns
-lets-returns-2 t c = many-spent _ _ _ _ before-last (wordless no-local-words) refl (c .before .loop .inv) (omega arith)
-
 pub lets-ok : {M : Type 1} (t : ℕ) → cycle.Lts-lets.Closed (lets-cs t) (at lets-rank t) phrases.lets.Reads.Post M
 lets-ok t =
     cycle.Lts-lets.spec (lets-cs t) (at lets-rank t) phrases.lets.Reads.Post lets-inv lets-turns (λ c. so-begins (c .before .pre .1) before-first)
-    (lets-kind-here-requires t) (λ c. search needs) (lets-returns t) (λ c κs. (omega arith, lets-kind-here-requires t (c .before .before .before) κs))
-    (λ c. omega arith) (λ c. omega arith) (lets-loop-again t) (λ c. search needs) (lets-returns-2 t)
+    (lets-kind-here-requires t) (λ c. search needs)
+    (λ c. many-ends _ _ _ _ before-last (wordless no-local-words) refl (c .before .before .before .before .loop .inv) (c .before .kind-here .ensures)
+    (ne-eqb _ _ (c .if1 .taken))) (λ c κs. (omega arith, lets-kind-here-requires t (c .before .before .before) κs)) (λ c. omega arith)
+    (λ c. omega arith) (lets-loop-again t) (λ c. search needs)
+    (λ c. many-spent _ _ _ _ before-last (wordless no-local-words) refl (c .before .loop .inv) (omega arith))
 
 abbrev local-cs : ℕ → cycle.Lts-local.Claims
 local-cs t =
@@ -529,9 +515,13 @@ local-returns t c =
     let after-a-name = after-further-names .before .before .before .before in let after-free-of2 = after-a-name .before .before in
     let after-begin-item = after-free-of2 .before .before .before .before in let after-expect = after-begin-item .before .before in
     let after-free-of = after-expect .before .before in let start = after-free-of .before .before .before in
-    pair (both (both (then-grows (both (both (both (then-grows (after-expect .expect .ensures .0) (after-begin-item .begin-item .ensures .0)
-    (omega arith)) (after-a-name .a-name .ensures .0)) (after-further-names .further-names .ensures .0)) (after-expect2 .expect2 .ensures .0))
-    (after-init .init .ensures .0) (omega arith)) (after-optional .optional .ensures .0)) (after-set-size .set-size .ensures .0))
+    pair (leaves-leaves (after-set-size .set-size .ensures .0)
+    (leaves-leaves (after-optional .optional .ensures .0)
+    (takes-leaves (after-init .init .ensures .0)
+    (leaves-leaves (after-expect2 .expect2 .ensures .0)
+    (leaves-leaves (after-further-names .further-names .ensures .0)
+    (leaves-leaves (after-a-name .a-name .ensures .0)
+    (takes-leaves (after-begin-item .begin-item .ensures .0) (after-expect .expect .ensures .0))))))))
     (λ src l. (let l₁ = lies-still l (after-begin-item .begin-item .ensures .0 .kept) in let l₂ = lies-still l₁
     (after-a-name .a-name .ensures .0 .kept) in let l₃ = lies-still l₂ (after-further-names .further-names .ensures .0 .kept) in let l₄ = lies-still
     l₃ (after-init .init .ensures .0 .kept) in local-read src _ _ (l .count) (after-free-of .free-of .ensures)
@@ -568,7 +558,7 @@ init-returns : (t : ℕ) → cycle.Lts-init.Need-returns (init-cs t) (at init-ra
 init-returns t c =
     let after-vector = c .before .before in let after-if1 = after-vector .before .before in let after-is-vector = after-if1 .before in
     let after-kind-here = after-is-vector .before in let start = after-kind-here .before .before .before in
-    pair (as-grows (after-vector .vector .ensures .0))
+    pair (takes-none (after-vector .vector .ensures .0))
     (λ src l. (
       after-vector .vector .ensures .1 src l .0,
       λ name names q e. given-vector src _ (after-kind-here .kind-here .ensures src l) name names
@@ -614,7 +604,7 @@ init-returns-2 t c =
     let after-arg = after-rest .before .before .before .before in let after-minus = after-arg .before .before in
     let after-free-of = after-minus .before in let after-if1 = after-free-of .before .before in let after-is-vector = after-if1 .before in
     let after-kind-here = after-is-vector .before in let start = after-kind-here .before .before .before in
-    pair (grows-more (grows-then (after-arg .arg .ensures .0) (after-rest .rest .ensures .0) (omega arith)) (after-node .node .ensures .0))
+    pair (takes-takes (after-node .node .ensures .0) refl (leaves-takes (after-rest .rest .ensures .0) (after-arg .arg .ensures .0)))
     (λ src l. (let l₁ = lies-still l (after-arg .arg .ensures .0 .kept)
     in (
       goes-on (after-arg .arg .ensures .1 src l) then goes-on (after-rest .rest .ensures .1 src l₁) then adds-on (after-node .node .ensures .1),

@@ -12,12 +12,12 @@ use Rattle.tree.proofs.Assignments.{assignment-read, assignment-first, 
 use Rattle.tree.proofs.Blocks.{body-shut, body-open, body-none, body-empty, command-plain, labelled-read}
 use Rattle.tree.proofs.Classes.{guard-positive, repeat-positive, leave-positive}
 use Rattle.tree.proofs.Commands.{resultis-read, guarded-read, test-read, repeat-read, repeat-on-read, no-repeat-words, repeated-one}
-use Rattle.tree.proofs.Commands.{repeated-more, unlabelled-guarded, unlabelled-test, unlabelled-resultis, unlabelled-leave, unlabelled-for}
-use Rattle.tree.proofs.Commands.{unlabelled-switchon, unlabelled-block, unlabelled-other}
-use Rattle.tree.proofs.Helpers.{low, weaker, fitted, both, then-grows, itself}
+use Rattle.tree.proofs.Commands.{repeated-more, unlabelled-test, unlabelled-resultis, unlabelled-for, unlabelled-switchon, unlabelled-block}
+use Rattle.tree.proofs.Commands.{unlabelled-guarded, unlabelled-leave, unlabelled-other}
+use Rattle.tree.proofs.Helpers.{low, fitted}
 use Rattle.tree.proofs.Lists.{Before}
 use Rattle.tree.proofs.Loops.{SoFar, before-first, before-next, before-last, wordless, so-begins, many-turns, many-ends, many-spent}
-use Rattle.tree.proofs.Rooms.{ready-leaves, ready-takes, ready-part, item-low, size-small}
+use Rattle.tree.proofs.Rooms.{leaves-less, ready-leaves, ready-takes, leaves-leaves, takes-leaves, ready-part, item-low, size-small}
 use Rattle.tree.proofs.Steps.{goes-on, adds-on, refuses-on, _then_}
 use Rattle.tree.proofs.Symbols.{lies-still}
 use Rattle.tree.specs.Encoding.{encodeRepeats}
@@ -64,8 +64,7 @@ cmd-returns-2 : (t : ℕ) → cycle.Lts-cmd.Need-returns-2 (cmd-cs t) (at cmd-ra
 cmd-returns-2 t c =
     let after-body = c .before .before in let after-if1 = after-body .before .before in let after-is-label = after-if1 .before in
     let after-kind-here = after-is-label .before in
-    pair (after-body .body .ensures .0) (λ src l. command-plain src _ (after-kind-here .kind-here .ensures src l)
-    (sym (after-is-label .is-label .ensures) ∙ after-if1 .if1 .left) (after-body .body .ensures .1 src l))
+    command-plain _ (after-kind-here .kind-here .ensures) (after-is-label .is-label .ensures) (after-if1 .if1 .left) (after-body .body .ensures)
 
 pub cmd-ok : {M : Type 1} (t : ℕ) → cycle.Lts-cmd.Closed (cmd-cs t) (at cmd-rank t) phrases.cmd.Reads.Post M
 cmd-ok t =
@@ -113,8 +112,8 @@ cases-returns t c =
     let after-minus = after-body .before .before in let after-free-of2 = after-minus .before in
     let after-labels = after-free-of2 .before .before .before .before in let after-label = after-labels .before .before .before .before in
     let after-free-of = after-label .before .before in
-    pair (then-grows (both (both (after-label .label .ensures .0) (after-labels .labels .ensures .0)) (after-body .body .ensures .0))
-    (after-node .node .ensures .0) (omega arith))
+    pair (takes-leaves (after-node .node .ensures .0)
+    (leaves-leaves (after-body .body .ensures .0) (leaves-leaves (after-labels .labels .ensures .0) (after-label .label .ensures .0))))
     (λ src l k q. (let l₁ = lies-still l (after-label .label .ensures .0 .kept) in let l₂ = lies-still l₁ (after-labels .labels .ensures .0 .kept)
     in labelled-read l _ _ k q (after-free-of .free-of .ensures) (after-minus .minus .ensures ∙ ap (λ (y : ℕ). y - after-free-of .free-of .result)
     (after-free-of2 .free-of2 .ensures ∙ ap (λ (z : ℕ). freeOf z (after-labels .labels .result))
@@ -135,29 +134,29 @@ body-returns : (t : ℕ) → cycle.Lts-body.Need-returns (body-cs t) (at body-ra
 body-returns t c =
     let after-if2 = c .before .before in let after-if1 = after-if2 .before in let after-begins-command = after-if1 .before in
     let after-kind-here = after-begins-command .before in
-    pair (weaker (omega arith) (c .refuse .ensures .0)) (λ src l. body-shut src _ (after-kind-here .kind-here .ensures src l) _
-    (sym (after-begins-command .begins-command .ensures) ∙ after-if1 .if1 .taken) (after-if2 .if2 .taken) (c .refuse .ensures .1))
+    body-shut _ _ (after-kind-here .kind-here .ensures) (after-begins-command .begins-command .ensures) (after-if1 .if1 .taken)
+    (after-if2 .if2 .taken) (c .refuse .ensures)
 
 body-returns-2 : (t : ℕ) → cycle.Lts-body.Need-returns-2 (body-cs t) (at body-rank t) phrases.body.Reads.Post
 body-returns-2 t c =
     let after-redo = c .before .before in let after-if2 = after-redo .before .before in let after-if1 = after-if2 .before in
     let after-begins-command = after-if1 .before in let after-kind-here = after-begins-command .before in
-    pair (after-redo .redo .ensures .0) (λ src l. body-open src _ (after-kind-here .kind-here .ensures src l) _
-    (sym (after-begins-command .begins-command .ensures) ∙ after-if1 .if1 .taken) (after-if2 .if2 .left) (after-redo .redo .ensures .1 src l))
+    body-open _ _ (after-kind-here .kind-here .ensures) (after-begins-command .begins-command .ensures) (after-if1 .if1 .taken) (after-if2 .if2 .left)
+    (after-redo .redo .ensures)
 
 body-returns-3 : (t : ℕ) → cycle.Lts-body.Need-returns-3 (body-cs t) (at body-rank t) phrases.body.Reads.Post
 body-returns-3 t c =
     let after-if1 = c .before in let after-begins-command = after-if1 .before in let after-kind-here = after-begins-command .before in
     let start = after-kind-here .before .before .before in
-    pair (itself (start .pre .1)) (λ src l. body-empty src _ (after-kind-here .kind-here .ensures src l) _
-    (sym (after-begins-command .begins-command .ensures) ∙ after-if1 .if1 .left) (c .if3 .taken))
+    body-empty _ _ (after-kind-here .kind-here .ensures) (after-begins-command .begins-command .ensures) (after-if1 .if1 .left) (start .pre .1)
+    (c .if3 .taken)
 
 body-returns-4 : (t : ℕ) → cycle.Lts-body.Need-returns-4 (body-cs t) (at body-rank t) phrases.body.Reads.Post
 body-returns-4 t c =
     let after-if3 = c .before .before in let after-if1 = after-if3 .before in let after-begins-command = after-if1 .before in
     let after-kind-here = after-begins-command .before in
-    pair (weaker (omega arith) (c .refuse2 .ensures .0)) (λ src l. body-none src _ (after-kind-here .kind-here .ensures src l) _
-    (sym (after-begins-command .begins-command .ensures) ∙ after-if1 .if1 .left) (after-if3 .if3 .left) (c .refuse2 .ensures .1))
+    body-none _ _ (after-kind-here .kind-here .ensures) (after-begins-command .begins-command .ensures) (after-if1 .if1 .left) (after-if3 .if3 .left)
+    (c .refuse2 .ensures)
 
 pub body-ok : {M : Type 1} (t : ℕ) → cycle.Lts-body.Closed (body-cs t) (at body-rank t) phrases.body.Reads.Post M
 body-ok t =
@@ -215,8 +214,8 @@ redo-returns t c =
     let after-free-of2 = after-minus .before in let after-if1 = after-free-of2 .before .before in let after-is-repeat = after-if1 .before in
     let after-kind-here = after-is-repeat .before in let after-plain = after-kind-here .before .before .before .before in
     let after-free-of = after-plain .before .before in
-    pair (then-grows (both (both (after-plain .plain .ensures .0) (after-form .form .ensures .0)) (after-forms .forms .ensures .0))
-    (after-node .node .ensures .0) (omega arith))
+    pair (takes-leaves (after-node .node .ensures .0)
+    (leaves-leaves (after-forms .forms .ensures .0) (leaves-leaves (after-form .form .ensures .0) (after-plain .plain .ensures .0))))
     (λ src l. (let l₁ = lies-still l (after-plain .plain .ensures .0 .kept) in let l₂ = lies-still l₁ (after-form .form .ensures .0 .kept)
     in repeated-more l₁ _ _ (after-kind-here .kind-here .ensures src l₁) (after-plain .plain .ensures .1 src l)
     (sym (after-is-repeat .is-repeat .ensures) ∙ after-if1 .if1 .taken) (after-free-of .free-of .ensures)
@@ -229,7 +228,7 @@ redo-returns-2 : (t : ℕ) → cycle.Lts-redo.Need-returns-2 (redo-cs t) (at red
 redo-returns-2 t c =
     let after-is-repeat = c .before in let after-kind-here = after-is-repeat .before in
     let after-plain = after-kind-here .before .before .before .before in
-    pair (weaker (omega arith) (after-plain .plain .ensures .0))
+    pair (leaves-less (after-plain .plain .ensures .0) refl)
     (λ src l. (let l₁ = lies-still l (after-plain .plain .ensures .0 .kept) in repeated-one l₁ 0 _ (after-kind-here .kind-here .ensures src l₁)
     (after-plain .plain .ensures .1 src l) (sym (after-is-repeat .is-repeat .ensures) ∙ c .if1 .left)))
 
@@ -277,15 +276,12 @@ forms-returns t c =
     many-ends _ _ _ _ before-last (wordless no-repeat-words) (after-minus .minus .ensures) (in-loop .loop .inv) (after-kind-here .kind-here .ensures)
     (sym (after-is-repeat .is-repeat .ensures) ∙ c .if1 .left)
 
-forms-returns-2 : (t : ℕ) → cycle.Lts-forms.Need-returns-2 (forms-cs t) (at forms-rank t) phrases.forms.Reads.Post forms-inv forms-turns
-forms-returns-2 t c =
-    many-spent _ _ _ _ before-last (wordless no-repeat-words) (c .before .before .minus .ensures) (c .before .loop .inv) (omega arith)
-
 pub forms-ok : {M : Type 1} (t : ℕ) → cycle.Lts-forms.Closed (forms-cs t) (at forms-rank t) phrases.forms.Reads.Post M
 forms-ok t =
     cycle.Lts-forms.spec (forms-cs t) (at forms-rank t) phrases.forms.Reads.Post forms-inv forms-turns (λ c κs. tt)
     (λ c. so-begins (c .before .before .pre .1) before-first) (forms-kind-here-requires t) (λ c κs. tt) (forms-form-requires t) (λ c. omega arith)
-    (λ c. omega arith) (forms-loop-again t) (λ c. search needs) (forms-returns t) (λ c. search needs) (forms-returns-2 t)
+    (λ c. omega arith) (forms-loop-again t) (λ c. search needs) (forms-returns t) (λ c. search needs)
+    (λ c. many-spent _ _ _ _ before-last (wordless no-repeat-words) (c .before .before .minus .ensures) (c .before .loop .inv) (omega arith))
 
 abbrev form-cs : ℕ → cycle.Lts-form.Claims
 form-cs t =
@@ -299,7 +295,7 @@ form-begin-item-requires t c κs =
 form-returns : (t : ℕ) → cycle.Lts-form.Need-returns (form-cs t) (at form-rank t) phrases.form.Reads.Post
 form-returns t c =
     let after-begin-item = c .before .before .before in let after-expect = after-begin-item .before .before in
-    pair (then-grows (after-expect .expect .ensures .0) (after-begin-item .begin-item .ensures .0) (omega arith))
+    pair (takes-leaves (after-begin-item .begin-item .ensures .0) (after-expect .expect .ensures .0))
     (λ src l k. repeat-read src 0 _ k (c .if1 .taken) (after-expect .expect .ensures .1 src l) (after-begin-item .begin-item .ensures .1))
 
 form-expr-requires : (t : ℕ) → cycle.Lts-form.Need-expr-requires (form-cs t) (at form-rank t) phrases.form.Reads.Post
@@ -323,8 +319,9 @@ form-returns-2 t c =
     let after-if1 = after-expr .before .before in let after-begin-item = after-if1 .before .before .before in
     let after-expect = after-begin-item .before .before in let after-free-of = after-expect .before .before in
     let start = after-free-of .before .before .before in
-    pair (weaker (omega arith) (both (both (then-grows (after-expect .expect .ensures .0) (after-begin-item .begin-item .ensures .0) (omega arith))
-    (after-expr .expr .ensures .0)) (after-set-size .set-size .ensures .0)))
+    pair (leaves-leaves (after-set-size .set-size .ensures .0)
+    (leaves-leaves (after-expr .expr .ensures .0)
+    (takes-leaves (after-begin-item .begin-item .ensures .0) (leaves-less (after-expect .expect .ensures .0) refl))))
     (λ src l k. repeat-on-read src _ _ k (after-free-of .free-of .ensures) (after-if1 .if1 .left)
     (low (fitted (start .pre .1 .0) (after-expect .expect .ensures .0) refl (omega arith))) (after-expect .expect .ensures .1 src l)
     (after-begin-item .begin-item .ensures .1) (after-expr .expr .ensures .1 src (lies-still l (after-begin-item .begin-item .ensures .0 .kept)))
@@ -351,9 +348,7 @@ plain-returns : (t : ℕ) → cycle.Lts-plain.Need-returns (plain-cs t) (at plai
 plain-returns t c =
     let after-when = c .before .before in let after-if1 = after-when .before .before in let after-is-guard = after-if1 .before in
     let after-kind-here = after-is-guard .before in
-    pair (after-when .when .ensures .0) (λ src l. unlabelled-guarded src _ (after-kind-here .kind-here .ensures src l)
-    (sym (after-is-guard .is-guard .ensures) ∙ after-if1 .if1 .taken)
-    (after-when .when .ensures .1 src l (after-kind-here .kind-here .ensures src l)))
+    unlabelled-guarded _ (after-kind-here .kind-here .ensures) (after-is-guard .is-guard .ensures) (after-if1 .if1 .taken) (after-when .when .ensures)
 
 plain-leave-requires : (t : ℕ) → cycle.Lts-plain.Need-leave-requires (plain-cs t) (at plain-rank t) phrases.plain.Reads.Post
 plain-leave-requires t c κs =
@@ -365,61 +360,32 @@ plain-returns-2 : (t : ℕ) → cycle.Lts-plain.Need-returns-2 (plain-cs t) (at 
 plain-returns-2 t c =
     let after-leave = c .before .before in let after-if2 = after-leave .before .before in let after-is-leave = after-if2 .before in
     let after-if1 = after-is-leave .before in let after-is-guard = after-if1 .before in let after-kind-here = after-is-guard .before in
-    pair (after-leave .leave .ensures .0) (λ src l. unlabelled-leave src _ (after-kind-here .kind-here .ensures src l)
-    (sym (after-is-guard .is-guard .ensures) ∙ after-if1 .if1 .left) (sym (after-is-leave .is-leave .ensures) ∙ after-if2 .if2 .taken)
-    (after-leave .leave .ensures .1 src l (after-kind-here .kind-here .ensures src l)))
-
-plain-returns-3 : (t : ℕ) → cycle.Lts-plain.Need-returns-3 (plain-cs t) (at plain-rank t) phrases.plain.Reads.Post
-plain-returns-3 t c =
-    let after-test = c .before .before in let after-match = after-test .before .before in
-    let after-kind-here = after-match .before .before .before .before .before in
-    pair (after-test .test .ensures .0) (λ src l. unlabelled-test src _ (after-kind-here .kind-here .ensures src l) (after-match .match .keys1)
-    (after-test .test .ensures .1 src l))
-
-plain-returns-4 : (t : ℕ) → cycle.Lts-plain.Need-returns-4 (plain-cs t) (at plain-rank t) phrases.plain.Reads.Post
-plain-returns-4 t c =
-    let after-step = c .before .before in let after-match = after-step .before .before in
-    let after-kind-here = after-match .before .before .before .before .before in
-    pair (after-step .step .ensures .0) (λ src l. unlabelled-for src _ (after-kind-here .kind-here .ensures src l) (after-match .match .keys2)
-    (after-step .step .ensures .1 src l))
-
-plain-returns-5 : (t : ℕ) → cycle.Lts-plain.Need-returns-5 (plain-cs t) (at plain-rank t) phrases.plain.Reads.Post
-plain-returns-5 t c =
-    let after-pick = c .before .before in let after-match = after-pick .before .before in
-    let after-kind-here = after-match .before .before .before .before .before in
-    pair (after-pick .pick .ensures .0) (λ src l. unlabelled-switchon src _ (after-kind-here .kind-here .ensures src l) (after-match .match .keys3)
-    (after-pick .pick .ensures .1 src l))
-
-plain-returns-6 : (t : ℕ) → cycle.Lts-plain.Need-returns-6 (plain-cs t) (at plain-rank t) phrases.plain.Reads.Post
-plain-returns-6 t c =
-    let after-give = c .before .before in let after-match = after-give .before .before in
-    let after-kind-here = after-match .before .before .before .before .before in
-    pair (after-give .give .ensures .0) (λ src l. unlabelled-resultis src _ (after-kind-here .kind-here .ensures src l) (after-match .match .keys4)
-    (after-give .give .ensures .1 src l))
-
-plain-returns-7 : (t : ℕ) → cycle.Lts-plain.Need-returns-7 (plain-cs t) (at plain-rank t) phrases.plain.Reads.Post
-plain-returns-7 t c =
-    let after-block = c .before .before in let after-match = after-block .before .before in
-    let after-kind-here = after-match .before .before .before .before .before in
-    pair (after-block .block .ensures .0) (λ src l. unlabelled-block src _ (after-kind-here .kind-here .ensures src l) (after-match .match .keys5)
-    (after-block .block .ensures .1 src l))
+    unlabelled-leave _ (after-kind-here .kind-here .ensures) (after-is-guard .is-guard .ensures) (after-if1 .if1 .left)
+    (after-is-leave .is-leave .ensures) (after-if2 .if2 .taken) (after-leave .leave .ensures)
 
 plain-returns-8 : (t : ℕ) → cycle.Lts-plain.Need-returns-8 (plain-cs t) (at plain-rank t) phrases.plain.Reads.Post
 plain-returns-8 t c =
     let after-bare = c .before .before in let after-match = after-bare .before .before in let after-if2 = after-match .before in
     let after-is-leave = after-if2 .before in let after-if1 = after-is-leave .before in let after-is-guard = after-if1 .before in
     let after-kind-here = after-is-guard .before in
-    pair (after-bare .bare .ensures .0) (λ src l. unlabelled-other src _ (after-kind-here .kind-here .ensures src l)
-    (sym (after-is-guard .is-guard .ensures) ∙ after-if1 .if1 .left) (sym (after-is-leave .is-leave .ensures) ∙ after-if2 .if2 .left)
-    (after-match .match .rest) (after-bare .bare .ensures .1 src l))
+    unlabelled-other _ (after-kind-here .kind-here .ensures) (after-is-guard .is-guard .ensures) (after-if1 .if1 .left)
+    (after-is-leave .is-leave .ensures) (after-if2 .if2 .left) (after-match .match .rest) (after-bare .bare .ensures)
 
 pub plain-ok : {M : Type 1} (t : ℕ) → cycle.Lts-plain.Closed (plain-cs t) (at plain-rank t) phrases.plain.Reads.Post M
 plain-ok t =
     cycle.Lts-plain.spec (plain-cs t) (at plain-rank t) phrases.plain.Reads.Post (λ c κs. omega arith) (λ c κs. tt) (plain-when-requires t)
     (λ c. search needs) (plain-returns t) (λ c κs. tt) (plain-leave-requires t) (λ c. search needs) (plain-returns-2 t) (λ c κs. omega arith)
     (λ c κs. omega arith) (λ c κs. omega arith) (λ c κs. omega arith) (λ c κs. omega arith) (λ c κs. omega arith) (λ c. search needs)
-    (plain-returns-3 t) (λ c. search needs) (plain-returns-4 t) (λ c. search needs) (plain-returns-5 t) (λ c. search needs) (plain-returns-6 t)
-    (λ c. search needs) (plain-returns-7 t) (λ c. search needs) (plain-returns-8 t)
+    (λ c. unlabelled-test _ (c .before .before .before .before .before .before .before .before .before .kind-here .ensures)
+    (c .before .before .before .before .match .keys1) (c .before .before .test .ensures)) (λ c. search needs)
+    (λ c. unlabelled-for _ (c .before .before .before .before .before .before .before .before .before .kind-here .ensures)
+    (c .before .before .before .before .match .keys2) (c .before .before .step .ensures)) (λ c. search needs)
+    (λ c. unlabelled-switchon _ (c .before .before .before .before .before .before .before .before .before .kind-here .ensures)
+    (c .before .before .before .before .match .keys3) (c .before .before .pick .ensures)) (λ c. search needs)
+    (λ c. unlabelled-resultis _ (c .before .before .before .before .before .before .before .before .before .kind-here .ensures)
+    (c .before .before .before .before .match .keys4) (c .before .before .give .ensures)) (λ c. search needs)
+    (λ c. unlabelled-block _ (c .before .before .before .before .before .before .before .before .before .kind-here .ensures)
+    (c .before .before .before .before .match .keys5) (c .before .before .block .ensures)) (λ c. search needs) (plain-returns-8 t)
 
 abbrev test-cs : ℕ → cycle.Lts-test.Claims
 test-cs t =
@@ -466,9 +432,12 @@ test-returns t c =
     let after-expect3 = after-cmd2 .before .before in let after-cmd = after-expect3 .before .before .before .before in
     let after-expect2 = after-cmd .before .before in let after-expr = after-expect2 .before .before .before .before in
     let after-expect = after-expr .before .before in let after-free-of = after-expect .before .before in
-    pair (weaker (omega arith) (then-grows (both
-    (both (both (both (both (after-expect .expect .ensures .0) (after-expr .expr .ensures .0)) (after-expect2 .expect2 .ensures .0))
-    (after-cmd .cmd .ensures .0)) (after-expect3 .expect3 .ensures .0)) (after-cmd2 .cmd2 .ensures .0)) (after-node .node .ensures .0) (omega arith)))
+    pair (takes-leaves (after-node .node .ensures .0)
+    (leaves-leaves (after-cmd2 .cmd2 .ensures .0)
+    (leaves-leaves (after-expect3 .expect3 .ensures .0)
+    (leaves-leaves (after-cmd .cmd .ensures .0)
+    (leaves-leaves (after-expect2 .expect2 .ensures .0)
+    (leaves-leaves (after-expr .expr .ensures .0) (leaves-less (after-expect .expect .ensures .0) refl)))))))
     (λ src l. (let l₂ = lies-still l (after-expr .expr .ensures .0 .kept) in let l₄ = lies-still l₂ (after-cmd .cmd .ensures .0 .kept) in test-read l
     _ _ (after-free-of .free-of .ensures) (after-expect .expect .ensures .1 src l) (after-expr .expr .ensures .1 src l)
     (after-expect2 .expect2 .ensures .1 src l₂) (after-cmd .cmd .ensures .1 src l₂) (after-expect3 .expect3 .ensures .1 src l₄)
@@ -513,8 +482,10 @@ when-returns t c =
     let after-node = c .before .before in let after-cmd = after-node .before .before .before .before in
     let after-expect2 = after-cmd .before .before in let after-expr = after-expect2 .before .before .before .before in
     let after-expect = after-expr .before .before in let after-free-of = after-expect .before .before in
-    pair (weaker (omega arith) (then-grows (both (both (both (after-expect .expect .ensures .0) (after-expr .expr .ensures .0))
-    (after-expect2 .expect2 .ensures .0)) (after-cmd .cmd .ensures .0)) (after-node .node .ensures .0) (omega arith)))
+    pair (takes-leaves (after-node .node .ensures .0)
+    (leaves-leaves (after-cmd .cmd .ensures .0)
+    (leaves-leaves (after-expect2 .expect2 .ensures .0)
+    (leaves-leaves (after-expr .expr .ensures .0) (leaves-less (after-expect .expect .ensures .0) refl)))))
     (λ src l k. (let l₂ = lies-still l (after-expr .expr .ensures .0 .kept) in guarded-read l _ _ (after-free-of .free-of .ensures) k
     (after-expect .expect .ensures .1 src l) (after-expr .expr .ensures .1 src l) (after-expect2 .expect2 .ensures .1 src l₂)
     (after-cmd .cmd .ensures .1 src l₂) (after-node .node .ensures .1)))
@@ -546,8 +517,9 @@ give-returns t c =
     let after-node = c .before .before in let after-expr = after-node .before .before .before .before in
     let after-expect = after-expr .before .before in let after-place-here = after-expect .before .before in
     let after-free-of = after-place-here .before .before in
-    pair (weaker (omega arith) (then-grows (both (after-expect .expect .ensures .0) (after-expr .expr .ensures .0)) (after-node .node .ensures .0)
-    (omega arith))) (λ src l. resultis-read l _ _ (after-free-of .free-of .ensures) (after-place-here .place-here .ensures src l)
+    pair (takes-leaves (after-node .node .ensures .0)
+    (leaves-leaves (after-expr .expr .ensures .0) (leaves-less (after-expect .expect .ensures .0) refl)))
+    (λ src l. resultis-read l _ _ (after-free-of .free-of .ensures) (after-place-here .place-here .ensures src l)
     (after-expect .expect .ensures .1 src l) (after-expr .expr .ensures .1 src l) (after-node .node .ensures .1))
 
 pub give-ok : {M : Type 1} (t : ℕ) → cycle.Lts-give.Closed (give-cs t) (at give-rank t) phrases.give.Reads.Post M
@@ -570,7 +542,7 @@ bare-returns t c =
     let after-set = c .before .before in let after-if1 = after-set .before .before in let after-goes-on-assignment = after-if1 .before in
     let after-kind-here = after-goes-on-assignment .before in let after-expr = after-kind-here .before .before .before .before in
     let after-free-of = after-expr .before .before in
-    pair (both (after-expr .expr .ensures .0) (after-set .set .ensures .0))
+    pair (leaves-leaves (after-set .set .ensures .0) (after-expr .expr .ensures .0))
     (λ src l. (let l₁ = lies-still l (after-expr .expr .ensures .0 .kept) in assignment-first src _ _ (after-kind-here .kind-here .ensures src l₁)
     (after-expr .expr .ensures .1 src l) (after-free-of .free-of .ensures)
     (sym (after-goes-on-assignment .goes-on-assignment .ensures) ∙ after-if1 .if1 .taken) (after-set .set .ensures .1 src l₁ .0)
@@ -584,15 +556,12 @@ bare-returns-2 t c =
     (after-kind-here .kind-here .ensures src l₁) (after-expr .expr .ensures .1 src l) (after-is-call .is-call .ensures)
     (sym (after-goes-on-assignment .goes-on-assignment .ensures) ∙ after-if1 .if1 .left) (c .if2 .taken)))
 
-bare-refuse-requires : (t : ℕ) → cycle.Lts-bare.Need-refuse-requires (bare-cs t) (at bare-rank t) phrases.bare.Reads.Post
-bare-refuse-requires t c κs = bare-kind-here-requires t (c .before .before .before .before .before .before .before) κs
-
 bare-returns-3 : (t : ℕ) → cycle.Lts-bare.Need-returns-3 (bare-cs t) (at bare-rank t) phrases.bare.Reads.Post
 bare-returns-3 t c =
     let after-if2 = c .before .before in let after-is-call = after-if2 .before in let after-if1 = after-is-call .before .before in
     let after-goes-on-assignment = after-if1 .before in let after-kind-here = after-goes-on-assignment .before in
     let after-expr = after-kind-here .before .before .before .before in
-    pair (weaker (omega arith) (both (after-expr .expr .ensures .0) (c .refuse .ensures .0)))
+    pair (leaves-leaves (c .refuse .ensures .0) (leaves-less (after-expr .expr .ensures .0) refl))
     (λ src l. (let l₁ = lies-still l (after-expr .expr .ensures .0 .kept) in no-call src 0 _ (after-kind-here .kind-here .ensures src l₁)
     (after-expr .expr .ensures .1 src l) (after-is-call .is-call .ensures)
     (sym (after-goes-on-assignment .goes-on-assignment .ensures) ∙ after-if1 .if1 .left) (after-if2 .if2 .left) (c .refuse .ensures .1)
@@ -602,8 +571,8 @@ pub bare-ok : {M : Type 1} (t : ℕ) → cycle.Lts-bare.Closed (bare-cs t) (at b
 bare-ok t =
     cycle.Lts-bare.spec (bare-cs t) (at bare-rank t) phrases.bare.Reads.Post (λ c κs. tt) (λ c κs. omega arith) (bare-kind-here-requires t)
     (λ c κs. tt) (λ c κs. (omega arith, bare-kind-here-requires t (c .before .before .before .before) κs)) (λ c. search needs) (bare-returns t)
-    (λ c κs. bare-kind-here-requires t (c .before .before .before .before) κs) (λ c. search needs) (bare-returns-2 t) (bare-refuse-requires t)
-    (λ c. search needs) (bare-returns-3 t)
+    (λ c κs. bare-kind-here-requires t (c .before .before .before .before) κs) (λ c. search needs) (bare-returns-2 t)
+    (λ c κs. bare-kind-here-requires t (c .before .before .before .before .before .before .before) κs) (λ c. search needs) (bare-returns-3 t)
 
 abbrev set-cs : ℕ → cycle.Lts-set.Claims
 set-cs t =
@@ -659,8 +628,9 @@ set-returns t c =
     let after-minus2 = after-expect .before .before in let after-free-of2 = after-minus2 .before in
     let after-also = after-free-of2 .before .before .before .before in let after-minus = after-also .before .before in
     let after-free-of = after-minus .before in let start = after-free-of .before .before .before in
-    pair (then-grows (both (then-grows (both (after-also .also .ensures .0) (after-expect .expect .ensures .0)) (after-arg .arg .ensures .0)
-    (omega arith)) (after-rest .rest .ensures .0)) (after-node .node .ensures .0) (omega arith))
+    pair (takes-leaves (after-node .node .ensures .0)
+    (leaves-leaves (after-rest .rest .ensures .0)
+    (takes-leaves (after-arg .arg .ensures .0) (leaves-leaves (after-expect .expect .ensures .0) (after-also .also .ensures .0)))))
     (λ src l. (let l₁ = lies-still l (after-also .also .ensures .0 .kept) in let l₂ = lies-still l₁ (after-arg .arg .ensures .0 .kept)
     in (
       goes-on (after-also .also .ensures .1 src l) then goes-on (after-expect .expect .ensures .1 src l₁) then goes-on

@@ -11,17 +11,17 @@ use Rattle.language.specs.Grammar.{within, readers}
 use Rattle.language.specs.Reader.{manyUpTo, isComma}
 use Rattle.tree.proofs.Chains.{suffixed-one, suffixed-more, EndedSoFar, suffix-first, suffix-next, suffix-last, no-suffix-ended}
 use Rattle.tree.proofs.Chains.{CountedSoFar, expression-first, expression-next, expression-last, no-expression-counted, no-expression-words}
-use Rattle.tree.proofs.Choices.{subscript-monadic, subscript-primary, suffix-arguments, suffix-index, primary-bracketed, primary-valof}
-use Rattle.tree.proofs.Choices.{primary-atom}
-use Rattle.tree.proofs.Classes.{monadic-positive, unlike2}
-use Rattle.tree.proofs.Helpers.{low, weaker, both, then-grows, grows-then, grows-fits}
+use Rattle.tree.proofs.Choices.{at-any, bracketed-shut, valof-shut, arguments-shut, subscript-monadic, subscript-primary, primary-bracketed}
+use Rattle.tree.proofs.Choices.{primary-valof, primary-atom, suffix-arguments, suffix-index}
+use Rattle.tree.proofs.Classes.{monadic-positive}
+use Rattle.tree.proofs.Helpers.{low}
 use Rattle.tree.proofs.Lets.{value-turn, value-last, value-next}
 use Rattle.tree.proofs.Lists.{Before}
-use Rattle.tree.proofs.Loops.{SoFar, at-any, before-first, before-last, wordless, so-begins, so-turns, so-ends, many-turns, many-ends}
-use Rattle.tree.proofs.Loops.{many-spent}
-use Rattle.tree.proofs.Readers.{bracketed-shut, valof-shut, arguments-shut, bracketed-read, valof-read, argument-read, index-read}
-use Rattle.tree.proofs.Readers.{arguments-read, no-arguments, some-arguments, further-reads}
-use Rattle.tree.proofs.Rooms.{ready-leaves, ready-takes, ready-part, item-low, size-small}
+use Rattle.tree.proofs.Loops.{SoFar, before-first, before-last, wordless, so-begins, so-turns, so-ends, many-turns, many-ends, many-spent}
+use Rattle.tree.proofs.Readers.{bracketed-read, valof-read, argument-read, index-read, arguments-read, no-arguments, some-arguments}
+use Rattle.tree.proofs.Readers.{further-reads}
+use Rattle.tree.proofs.Rooms.{leaves-less, ready-leaves, ready-takes, leaves-leaves, takes-leaves, leaves-after, leaves-takes, ready-part}
+use Rattle.tree.proofs.Rooms.{item-low, size-small}
 use Rattle.tree.proofs.Steps.{again}
 use Rattle.tree.proofs.Symbols.{lies-still}
 use Rattle.tree.specs.Between.{aFurther}
@@ -107,8 +107,8 @@ whole-returns t c =
     let after-place-of = after-tail .before .before in let after-minus = after-place-of .before .before in let after-free-of2 = after-minus .before in
     let after-if1 = after-free-of2 .before .before in let after-is-suffix = after-if1 .before in let after-kind-here = after-is-suffix .before in
     let after-unit = after-kind-here .before .before .before .before in let after-free-of = after-unit .before .before in
-    pair (then-grows (both (both (after-unit .unit .ensures .0) (after-tail .tail .ensures .0)) (after-tails .tails .ensures .0))
-    (after-node .node .ensures .0) (omega arith))
+    pair (takes-leaves (after-node .node .ensures .0)
+    (leaves-leaves (after-tails .tails .ensures .0) (leaves-leaves (after-tail .tail .ensures .0) (after-unit .unit .ensures .0))))
     (λ src l. (let l₁ = lies-still l (after-unit .unit .ensures .0 .kept) in let l₂ = lies-still l₁ (after-tail .tail .ensures .0 .kept)
     in suffixed-more l₁ _ _ (after-kind-here .kind-here .ensures src l₁) (after-unit .unit .ensures .1 src l)
     (sym (after-is-suffix .is-suffix .ensures) ∙ after-if1 .if1 .taken) (after-free-of .free-of .ensures)
@@ -136,39 +136,21 @@ unit-cs t =
     claims-4 kind-here.Asked kind-here.Learnt (below nest-rank t) phrases.nest.Reads.Post (below valof-rank t) phrases.valof.Reads.Post atom.Asked
     atom.Learnt
 
-unit-returns : (t : ℕ) → cycle.Lts-unit.Need-returns (unit-cs t) (at unit-rank t) phrases.unit.Reads.Post
-unit-returns t c =
-    let after-nest = c .before .before in let after-match = after-nest .before .before in let after-kind-here = after-match .before in
-    pair (after-nest .nest .ensures .0) (λ src l. primary-bracketed src _ (after-kind-here .kind-here .ensures src l) (after-match .match .keys1)
-    (after-nest .nest .ensures .1 src l))
-
-unit-returns-2 : (t : ℕ) → cycle.Lts-unit.Need-returns-2 (unit-cs t) (at unit-rank t) phrases.unit.Reads.Post
-unit-returns-2 t c =
-    let after-valof = c .before .before in let after-match = after-valof .before .before in let after-kind-here = after-match .before in
-    pair (after-valof .valof .ensures .0) (λ src l. primary-valof src _ (after-kind-here .kind-here .ensures src l) (after-match .match .keys2)
-    (after-valof .valof .ensures .1 src l))
-
-unit-returns-3 : (t : ℕ) → cycle.Lts-unit.Need-returns-3 (unit-cs t) (at unit-rank t) phrases.unit.Reads.Post
-unit-returns-3 t c =
-    let after-atom = c .before .before in let after-match = after-atom .before .before in let after-kind-here = after-match .before in
-    pair (after-atom .atom .ensures .0) (λ src l.
-    (let u = unlike2 (after-match .match .rest) in primary-atom src _ (after-kind-here .kind-here .ensures src l) (u .0) (u .1)
-    (after-atom .atom .ensures .1 src l (after-kind-here .kind-here .ensures src l))))
-
 pub unit-ok : {M : Type 1} (t : ℕ) → cycle.Lts-unit.Closed (unit-cs t) (at unit-rank t) phrases.unit.Reads.Post M
 unit-ok t =
     cycle.Lts-unit.spec (unit-cs t) (at unit-rank t) phrases.unit.Reads.Post (λ c κs. omega arith) (λ c κs. omega arith) (λ c κs. omega arith)
-    (λ c κs. omega arith) (λ c. search needs) (unit-returns t) (λ c. search needs) (unit-returns-2 t) (λ c. search needs) (unit-returns-3 t)
+    (λ c κs. omega arith) (λ c. search needs)
+    (λ c. primary-bracketed _ (c .before .before .before .before .before .kind-here .ensures) (c .before .before .before .before .match .keys1)
+    (c .before .before .nest .ensures)) (λ c. search needs)
+    (λ c. primary-valof _ (c .before .before .before .before .before .kind-here .ensures) (c .before .before .before .before .match .keys2)
+    (c .before .before .valof .ensures)) (λ c. search needs)
+    (λ c. primary-atom _ (c .before .before .before .before .before .kind-here .ensures) (c .before .before .before .before .match .rest)
+    (c .before .before .atom .ensures))
 
 abbrev nest-cs : ℕ → cycle.Lts-nest.Claims
 nest-cs t =
     claims-6 refuse.Asked refuse.Learnt free-of.Asked free-of.Learnt place-here.Asked place-here.Learnt expect.Asked expect.Learnt (below expr-rank t)
     phrases.expr.Reads.Post node.Asked node.Learnt
-
-nest-returns : (t : ℕ) → cycle.Lts-nest.Need-returns (nest-cs t) (at nest-rank t) phrases.nest.Reads.Post
-nest-returns t c =
-    let after-if1 = c .before .before in
-    (weaker (omega arith) (c .refuse .ensures .0), λ src l. bracketed-shut src _ (after-if1 .if1 .taken) (c .refuse .ensures .1))
 
 nest-expr-requires : (t : ℕ) → cycle.Lts-nest.Need-expr-requires (nest-cs t) (at nest-rank t) phrases.nest.Reads.Post
 nest-expr-requires t c κs =
@@ -180,36 +162,31 @@ nest-expect-requires-2 t c κs =
     let after-expr = c .before .before .before in
     (ready-leaves (after-expr .expr .ensures .0) (after-expr .expr .kept .0) refl (nest-expr-requires t (after-expr .before) κs .1 .0), omega arith)
 
-nest-node-requires : (t : ℕ) → cycle.Lts-nest.Need-node-requires (nest-cs t) (at nest-rank t) phrases.nest.Reads.Post
-nest-node-requires t c κs = ready-leaves (c .before .expect2 .ensures .0) refl refl (nest-expect-requires-2 t (c .before .before) κs .0)
-
 nest-returns-2 : (t : ℕ) → cycle.Lts-nest.Need-returns-2 (nest-cs t) (at nest-rank t) phrases.nest.Reads.Post
 nest-returns-2 t c =
     let after-node = c .before .before in let after-expect2 = after-node .before .before in
     let after-expr = after-expect2 .before .before .before .before in let after-expect = after-expr .before .before in
     let after-place-here = after-expect .before .before in let after-free-of = after-place-here .before .before in
     let after-if1 = after-free-of .before .before in
-    pair (weaker (omega arith) (then-grows (both (both (after-expect .expect .ensures .0) (after-expr .expr .ensures .0))
-    (after-expect2 .expect2 .ensures .0)) (after-node .node .ensures .0) (omega arith)))
+    pair (takes-leaves (after-node .node .ensures .0)
+    (leaves-leaves (after-expect2 .expect2 .ensures .0)
+    (leaves-leaves (after-expr .expr .ensures .0) (leaves-less (after-expect .expect .ensures .0) refl))))
     (λ src l. bracketed-read l _ _ (after-free-of .free-of .ensures) (after-place-here .place-here .ensures src l) (after-if1 .if1 .left)
     (after-expect .expect .ensures .1 src l) (after-expr .expr .ensures .1 src l)
     (after-expect2 .expect2 .ensures .1 src (lies-still l (after-expr .expr .ensures .0 .kept))) (after-node .node .ensures .1))
 
 pub nest-ok : {M : Type 1} (t : ℕ) → cycle.Lts-nest.Closed (nest-cs t) (at nest-rank t) phrases.nest.Reads.Post M
 nest-ok t =
-    cycle.Lts-nest.spec (nest-cs t) (at nest-rank t) phrases.nest.Reads.Post (λ c κs. omega arith) (λ c. search needs) (nest-returns t) (λ c κs. tt)
-    (λ c κs. omega arith) (λ c κs. omega arith) (λ c. omega arith) (nest-expr-requires t) (nest-expect-requires-2 t) (nest-node-requires t)
-    (λ c. search needs) (nest-returns-2 t)
+    cycle.Lts-nest.spec (nest-cs t) (at nest-rank t) phrases.nest.Reads.Post (λ c κs. omega arith) (λ c. search needs)
+    (λ c. bracketed-shut _ (c .before .before .if1 .taken) (c .refuse .ensures)) (λ c κs. tt) (λ c κs. omega arith) (λ c κs. omega arith)
+    (λ c. omega arith) (nest-expr-requires t) (nest-expect-requires-2 t)
+    (λ c κs. ready-leaves (c .before .expect2 .ensures .0) refl refl (nest-expect-requires-2 t (c .before .before) κs .0)) (λ c. search needs)
+    (nest-returns-2 t)
 
 abbrev valof-cs : ℕ → cycle.Lts-valof.Claims
 valof-cs t =
     claims-6 refuse.Asked refuse.Learnt free-of.Asked free-of.Learnt place-here.Asked place-here.Learnt expect.Asked expect.Learnt (below cmd-rank t)
     phrases.cmd.Reads.Post node.Asked node.Learnt
-
-valof-returns : (t : ℕ) → cycle.Lts-valof.Need-returns (valof-cs t) (at valof-rank t) phrases.valof.Reads.Post
-valof-returns t c =
-    let after-if1 = c .before .before in
-    (weaker (omega arith) (c .refuse .ensures .0), λ src l. valof-shut src _ (after-if1 .if1 .taken) (c .refuse .ensures .1))
 
 valof-cmd-requires : (t : ℕ) → cycle.Lts-valof.Need-cmd-requires (valof-cs t) (at valof-rank t) phrases.valof.Reads.Post
 valof-cmd-requires t c κs =
@@ -228,33 +205,24 @@ valof-returns-2 t c =
     let after-node = c .before .before in let after-cmd = after-node .before .before .before .before in
     let after-expect = after-cmd .before .before in let after-place-here = after-expect .before .before in
     let after-free-of = after-place-here .before .before in let after-if1 = after-free-of .before .before in
-    pair (weaker (omega arith) (then-grows (both (after-expect .expect .ensures .0) (after-cmd .cmd .ensures .0)) (after-node .node .ensures .0)
-    (omega arith))) (λ src l. valof-read l _ _ (after-free-of .free-of .ensures) (after-place-here .place-here .ensures src l) (after-if1 .if1 .left)
+    pair (takes-leaves (after-node .node .ensures .0) (leaves-leaves (after-cmd .cmd .ensures .0) (after-expect .expect .ensures .0)))
+    (λ src l. valof-read l _ _ (after-free-of .free-of .ensures) (after-place-here .place-here .ensures src l) (after-if1 .if1 .left)
     (after-expect .expect .ensures .1 src l) (after-cmd .cmd .ensures .1 src l) (after-node .node .ensures .1))
 
 pub valof-ok : {M : Type 1} (t : ℕ) → cycle.Lts-valof.Closed (valof-cs t) (at valof-rank t) phrases.valof.Reads.Post M
 valof-ok t =
-    cycle.Lts-valof.spec (valof-cs t) (at valof-rank t) phrases.valof.Reads.Post (λ c κs. omega arith) (λ c. search needs) (valof-returns t)
-    (λ c κs. tt) (λ c κs. omega arith) (λ c κs. omega arith) (λ c. omega arith) (valof-cmd-requires t) (valof-node-requires t) (λ c. search needs)
-    (valof-returns-2 t)
+    cycle.Lts-valof.spec (valof-cs t) (at valof-rank t) phrases.valof.Reads.Post (λ c κs. omega arith) (λ c. search needs)
+    (λ c. valof-shut _ (c .before .before .if1 .taken) (c .refuse .ensures)) (λ c κs. tt) (λ c κs. omega arith) (λ c κs. omega arith)
+    (λ c. omega arith) (valof-cmd-requires t) (valof-node-requires t) (λ c. search needs) (valof-returns-2 t)
 
 abbrev tail-cs : ℕ → cycle.Lts-tail.Claims
 tail-cs t = (below call-rank t, phrases.call.Reads.Post, below index-rank t, phrases.index.Reads.Post)
 
-tail-returns : (t : ℕ) → cycle.Lts-tail.Need-returns (tail-cs t) (at tail-rank t) phrases.tail.Reads.Post
-tail-returns t c =
-    let after-call = c .before .before in let after-if1 = after-call .before .before in
-    (after-call .call .ensures .0, λ src l k. suffix-arguments src _ k (after-if1 .if1 .taken) (after-call .call .ensures .1 src l))
-
-tail-returns-2 : (t : ℕ) → cycle.Lts-tail.Need-returns-2 (tail-cs t) (at tail-rank t) phrases.tail.Reads.Post
-tail-returns-2 t c =
-    let after-index = c .before .before in let after-if1 = after-index .before .before in
-    (after-index .index .ensures .0, λ src l k. suffix-index src _ k (after-if1 .if1 .left) (after-index .index .ensures .1 src l))
-
 pub tail-ok : {M : Type 1} (t : ℕ) → cycle.Lts-tail.Closed (tail-cs t) (at tail-rank t) phrases.tail.Reads.Post M
 tail-ok t =
     cycle.Lts-tail.spec (tail-cs t) (at tail-rank t) phrases.tail.Reads.Post (λ c κs. omega arith) (λ c κs. omega arith) (λ c. search needs)
-    (tail-returns t) (λ c. search needs) (tail-returns-2 t)
+    (λ c. suffix-arguments _ (c .before .before .before .before .if1 .taken) (c .before .before .call .ensures)) (λ c. search needs)
+    (λ c. suffix-index _ (c .before .before .before .before .if1 .left) (c .before .before .index .ensures))
 
 abbrev tails-cs : ℕ → cycle.Lts-tails.Claims
 tails-cs t =
@@ -288,25 +256,18 @@ tails-returns t c =
     many-ends _ _ _ _ suffix-last no-suffix-ended (after-minus .minus .ensures) (in-loop .loop .inv) (after-kind-here .kind-here .ensures)
     (sym (after-is-suffix .is-suffix .ensures) ∙ c .if1 .left)
 
-tails-returns-2 : (t : ℕ) → cycle.Lts-tails.Need-returns-2 (tails-cs t) (at tails-rank t) phrases.tails.Reads.Post tails-inv tails-turns
-tails-returns-2 t c = many-spent _ _ _ _ suffix-last no-suffix-ended (c .before .before .minus .ensures) (c .before .loop .inv) (omega arith)
-
 pub tails-ok : {M : Type 1} (t : ℕ) → cycle.Lts-tails.Closed (tails-cs t) (at tails-rank t) phrases.tails.Reads.Post M
 tails-ok t =
     cycle.Lts-tails.spec (tails-cs t) (at tails-rank t) phrases.tails.Reads.Post tails-inv tails-turns (λ c κs. tt)
     (λ c. so-begins (c .before .before .pre .1) suffix-first) (tails-kind-here-requires t) (λ c κs. tt)
     (λ c κs. (omega arith, tails-kind-here-requires t (c .before .before .before .before) κs)) (λ c. omega arith) (λ c. omega arith)
-    (tails-loop-again t) (λ c. search needs) (tails-returns t) (λ c. search needs) (tails-returns-2 t)
+    (tails-loop-again t) (λ c. search needs) (tails-returns t) (λ c. search needs)
+    (λ c. many-spent _ _ _ _ suffix-last no-suffix-ended (c .before .before .minus .ensures) (c .before .loop .inv) (omega arith))
 
 abbrev call-cs : ℕ → cycle.Lts-call.Claims
 call-cs t =
     claims-5 refuse.Asked refuse.Learnt free-of.Asked free-of.Learnt expect.Asked expect.Learnt (below pass-rank t) phrases.pass.Reads.Post
     close-item.Asked close-item.Learnt
-
-call-returns : (t : ℕ) → cycle.Lts-call.Need-returns (call-cs t) (at call-rank t) phrases.call.Reads.Post
-call-returns t c =
-    let after-if1 = c .before .before in
-    (weaker (omega arith) (c .refuse .ensures .0), λ src l. arguments-shut src _ (after-if1 .if1 .taken) (c .refuse .ensures .1))
 
 call-pass-requires : (t : ℕ) → cycle.Lts-call.Need-pass-requires (call-cs t) (at call-rank t) phrases.call.Reads.Post
 call-pass-requires t c κs =
@@ -323,26 +284,21 @@ call-returns-2 t c =
     let after-close-item = c .before .before in let after-pass = after-close-item .before .before .before .before in
     let after-expect = after-pass .before .before in let after-free-of = after-expect .before .before in
     let after-if1 = after-free-of .before .before in
-    pair (weaker (omega arith) (then-grows (both (after-expect .expect .ensures .0) (after-pass .pass .ensures .0))
-    (after-close-item .close-item .ensures .0) (omega arith)))
+    pair (takes-leaves (after-close-item .close-item .ensures .0)
+    (leaves-leaves (after-pass .pass .ensures .0) (leaves-less (after-expect .expect .ensures .0) refl)))
     (λ src l. arguments-read src _ _ (after-free-of .free-of .ensures) (after-if1 .if1 .left) (after-expect .expect .ensures .1 src l)
     (after-pass .pass .ensures .1 src l) (after-close-item .close-item .ensures .1))
 
 pub call-ok : {M : Type 1} (t : ℕ) → cycle.Lts-call.Closed (call-cs t) (at call-rank t) phrases.call.Reads.Post M
 call-ok t =
-    cycle.Lts-call.spec (call-cs t) (at call-rank t) phrases.call.Reads.Post (λ c κs. omega arith) (λ c. search needs) (call-returns t) (λ c κs. tt)
-    (λ c κs. omega arith) (λ c. omega arith) (call-pass-requires t) (call-close-item-requires t) (λ c. search needs) (call-returns-2 t)
+    cycle.Lts-call.spec (call-cs t) (at call-rank t) phrases.call.Reads.Post (λ c κs. omega arith) (λ c. search needs)
+    (λ c. arguments-shut _ (c .before .before .if1 .taken) (c .refuse .ensures)) (λ c κs. tt) (λ c κs. omega arith) (λ c. omega arith)
+    (call-pass-requires t) (call-close-item-requires t) (λ c. search needs) (call-returns-2 t)
 
 abbrev pass-cs : ℕ → cycle.Lts-pass.Claims
 pass-cs t =
     claims-4 kind-here.Asked kind-here.Learnt expect.Asked expect.Learnt (below arg-rank t) phrases.arg.Reads.Post (below also-rank t)
     phrases.also.Reads.Post
-
-pass-returns : (t : ℕ) → cycle.Lts-pass.Need-returns (pass-cs t) (at pass-rank t) phrases.pass.Reads.Post
-pass-returns t c =
-    let after-if1 = c .before .before in let after-kind-here = after-if1 .before in
-    pair (weaker (omega arith) (c .expect .ensures .0)) (λ src l. no-arguments src _ (after-kind-here .kind-here .ensures src l)
-    (after-if1 .if1 .taken) (c .expect .ensures .1 src l))
 
 pass-also-requires : (t : ℕ) → cycle.Lts-pass.Need-also-requires (pass-cs t) (at pass-rank t) phrases.pass.Reads.Post
 pass-also-requires t c κs =
@@ -358,7 +314,7 @@ pass-returns-2 : (t : ℕ) → cycle.Lts-pass.Need-returns-2 (pass-cs t) (at pas
 pass-returns-2 t c =
     let after-also = c .before .before .before .before in let after-arg = after-also .before .before .before .before in
     let after-if1 = after-arg .before .before in let after-kind-here = after-if1 .before in
-    pair (grows-fits (after-arg .arg .ensures .0) (both (after-also .also .ensures .0) (c .expect2 .ensures .0)) (omega arith))
+    pair (leaves-after (c .expect2 .ensures .0) refl (leaves-takes (after-also .also .ensures .0) (after-arg .arg .ensures .0)))
     (λ src l. (let l₁ = lies-still l (after-arg .arg .ensures .0 .kept) in let l₂ = lies-still l₁ (after-also .also .ensures .0 .kept)
     in some-arguments src _ (after-kind-here .kind-here .ensures src l) 0 (l .count) (after-if1 .if1 .left) (after-arg .arg .ensures .1 src l)
     (again (Encodes encodeExpressions) (λ es w h. record { same = h .same }) (after-also .also .ensures .1 src l₁)) (c .expect2 .ensures .1 src l₂)))
@@ -366,7 +322,12 @@ pass-returns-2 t c =
 pub pass-ok : {M : Type 1} (t : ℕ) → cycle.Lts-pass.Closed (pass-cs t) (at pass-rank t) phrases.pass.Reads.Post M
 pass-ok t =
     cycle.Lts-pass.spec (pass-cs t) (at pass-rank t) phrases.pass.Reads.Post (λ c κs. omega arith) (λ c κs. omega arith) (λ c. search needs)
-    (pass-returns t) (λ c κs. omega arith) (pass-also-requires t) (pass-expect-requires-2 t) (λ c. search needs) (pass-returns-2 t)
+    (λ c. (
+      leaves-less (c .expect .ensures .0) refl,
+      λ src l. no-arguments src _ (c .before .before .before .kind-here .ensures src l)
+          (c .before .before .if1 .taken) (c .expect .ensures .1 src l),
+    )) (λ c κs. omega arith) (pass-also-requires t) (pass-expect-requires-2 t)
+    (λ c. search needs) (pass-returns-2 t)
 
 abbrev arg-cs : ℕ → cycle.Lts-arg.Claims
 arg-cs t =
@@ -390,8 +351,9 @@ arg-returns t c =
     let after-set-size = c .before .before in let after-expr = after-set-size .before .before .before .before in
     let after-begin-item = after-expr .before .before .before .before in let after-free-of = after-begin-item .before .before in
     let start = after-free-of .before .before .before in
-    pair (grows-then (after-begin-item .begin-item .ensures .0) (both (after-expr .expr .ensures .0) (after-set-size .set-size .ensures .0))
-    (omega arith)) (λ src l. argument-read src _ _ (after-free-of .free-of .ensures) (low (start .pre .1)) (after-begin-item .begin-item .ensures .1)
+    pair (leaves-takes (after-set-size .set-size .ensures .0)
+    (leaves-takes (after-expr .expr .ensures .0) (after-begin-item .begin-item .ensures .0)))
+    (λ src l. argument-read src _ _ (after-free-of .free-of .ensures) (low (start .pre .1)) (after-begin-item .begin-item .ensures .1)
     (after-expr .expr .ensures .1 src (lies-still l (after-begin-item .begin-item .ensures .0 .kept))) (after-set-size .set-size .ensures .1))
 
 pub arg-ok : {M : Type 1} (t : ℕ) → cycle.Lts-arg.Closed (arg-cs t) (at arg-rank t) phrases.arg.Reads.Post M
@@ -415,12 +377,6 @@ also-kind-here-requires t c κs =
     let in-loop = c .before .before in let start = in-loop .before .before in
     ready-leaves (in-loop .loop .inv .0 .room) (in-loop .loop .inv .0 .same) refl (start .pre .1)
 
-also-returns : (t : ℕ) → cycle.Lts-also.Need-returns (also-cs t) (at also-rank t) phrases.also.Reads.Post also-inv also-turns
-also-returns t c =
-    let after-kind-here = c .before in let in-loop = after-kind-here .before .before .before in
-    many-ends _ _ _ _ expression-last no-expression-counted refl (in-loop .loop .inv .0) (after-kind-here .kind-here .ensures)
-    (ne-eqb _ _ (c .if1 .taken))
-
 also-expect-requires : (t : ℕ) → cycle.Lts-also.Need-expect-requires (also-cs t) (at also-rank t) phrases.also.Reads.Post also-inv also-turns
 also-expect-requires t c κs = (also-kind-here-requires t (c .before .before .before) κs, omega arith)
 
@@ -437,15 +393,14 @@ also-loop-again t c =
     (at-any (further-reads _ (after-expect .expect .ensures) (after-arg .arg .ensures))) (after-arg .arg .kept .0) (omega arith))
     (omega (arith, in-loop .loop .inv .1))
 
-also-returns-2 : (t : ℕ) → cycle.Lts-also.Need-returns-2 (also-cs t) (at also-rank t) phrases.also.Reads.Post also-inv also-turns
-also-returns-2 t c = many-spent _ _ _ _ expression-last no-expression-counted refl (c .before .loop .inv .0) (omega arith)
-
 pub also-ok : {M : Type 1} (t : ℕ) → cycle.Lts-also.Closed (also-cs t) (at also-rank t) phrases.also.Reads.Post M
 also-ok t =
     cycle.Lts-also.spec (also-cs t) (at also-rank t) phrases.also.Reads.Post also-inv also-turns
-    (λ c. (so-begins (c .before .pre .1) expression-first, refl)) (also-kind-here-requires t) (λ c. search needs) (also-returns t)
-    (also-expect-requires t) (also-arg-requires t) (λ c. omega arith) (λ c. omega arith) (λ c. omega arith) (also-loop-again t) (λ c. search needs)
-    (also-returns-2 t)
+    (λ c. (so-begins (c .before .pre .1) expression-first, refl)) (also-kind-here-requires t) (λ c. search needs)
+    (λ c. many-ends _ _ _ _ expression-last no-expression-counted refl (c .before .before .before .before .loop .inv .0)
+    (c .before .kind-here .ensures) (ne-eqb _ _ (c .if1 .taken))) (also-expect-requires t) (also-arg-requires t) (λ c. omega arith) (λ c. omega arith)
+    (λ c. omega arith) (also-loop-again t) (λ c. search needs)
+    (λ c. many-spent _ _ _ _ expression-last no-expression-counted refl (c .before .loop .inv .0) (omega arith))
 
 abbrev rest-cs : ℕ → cycle.Lts-rest.Claims
 rest-cs t = (expect.Asked, expect.Learnt, below arg-rank t, phrases.arg.Reads.Post)
@@ -475,23 +430,16 @@ rest-loop-again t c =
     (further-reads _ (after-expect .expect .ensures) (after-arg .arg .ensures)) (after-arg .arg .kept .0)
     (λ src l at free e. value-turn (start .args .levels) src (in-loop .loop .left) at (omega arith))
 
-rest-returns : (t : ℕ) → cycle.Lts-rest.Need-returns (rest-cs t) (at rest-rank t) phrases.rest.Reads.Post rest-inv rest-turns
-rest-returns t c =
-    so-ends (c .before .loop .inv) T.noExpressions before-last (wordless no-expression-words)
-    (λ src l at free e. value-last (c .before .before .before .args .levels) src _ at (omega arith))
-
 pub rest-ok : {M : Type 1} (t : ℕ) → cycle.Lts-rest.Closed (rest-cs t) (at rest-rank t) phrases.rest.Reads.Post M
 rest-ok t =
     cycle.Lts-rest.spec (rest-cs t) (at rest-rank t) phrases.rest.Reads.Post rest-inv rest-turns (λ c. so-begins (c .before .pre .1) before-first)
-    (rest-expect-requires t) (rest-arg-requires t) (λ c. omega arith) (λ c. omega arith) (rest-loop-again t) (λ c. search needs) (rest-returns t)
+    (rest-expect-requires t) (rest-arg-requires t) (λ c. omega arith) (λ c. omega arith) (rest-loop-again t) (λ c. search needs)
+    (λ c. so-ends (c .before .loop .inv) T.noExpressions before-last (wordless no-expression-words)
+    (λ src l at free e. value-last (c .before .before .before .args .levels) src _ at (omega arith)))
 
 abbrev index-cs : ℕ → cycle.Lts-index.Claims
 index-cs t =
     claims-4 free-of.Asked free-of.Learnt expect.Asked expect.Learnt (below key-rank t) phrases.key.Reads.Post close-item.Asked close-item.Learnt
-
-index-key-requires : (t : ℕ) → cycle.Lts-index.Need-key-requires (index-cs t) (at index-rank t) phrases.index.Reads.Post
-index-key-requires t c κs =
-    (omega arith, ready-leaves (c .before .expect .ensures .0) refl refl (c .before .before .before .before .before .before .pre .1))
 
 index-close-item-requires : (t : ℕ) → cycle.Lts-index.Need-close-item-requires (index-cs t) (at index-rank t) phrases.index.Reads.Post
 index-close-item-requires t c κs =
@@ -504,13 +452,14 @@ index-returns : (t : ℕ) → cycle.Lts-index.Need-returns (index-cs t) (at inde
 index-returns t c =
     let after-close-item = c .before .before in let after-key = after-close-item .before .before .before .before in
     let after-expect = after-key .before .before in let after-free-of = after-expect .before .before in
-    pair (then-grows (both (after-expect .expect .ensures .0) (after-key .key .ensures .0)) (after-close-item .close-item .ensures .0) (omega arith))
+    pair (takes-leaves (after-close-item .close-item .ensures .0) (leaves-leaves (after-key .key .ensures .0) (after-expect .expect .ensures .0)))
     (λ src l. index-read src _ _ (after-free-of .free-of .ensures) (after-expect .expect .ensures .1 src l) (after-key .key .ensures .1 src l)
     (after-close-item .close-item .ensures .1))
 
 pub index-ok : {M : Type 1} (t : ℕ) → cycle.Lts-index.Closed (index-cs t) (at index-rank t) phrases.index.Reads.Post M
 index-ok t =
-    cycle.Lts-index.spec (index-cs t) (at index-rank t) phrases.index.Reads.Post (λ c κs. tt) (λ c κs. omega arith) (index-key-requires t)
+    cycle.Lts-index.spec (index-cs t) (at index-rank t) phrases.index.Reads.Post (λ c κs. tt) (λ c κs. omega arith)
+    (λ c κs. (omega arith, ready-leaves (c .before .expect .ensures .0) refl refl (c .before .before .before .before .before .before .pre .1)))
     (index-close-item-requires t) (λ c. search needs) (index-returns t)
 
 abbrev key-cs : ℕ → cycle.Lts-key.Claims
@@ -527,16 +476,15 @@ key-returns : (t : ℕ) → cycle.Lts-key.Need-returns (key-cs t) (at key-rank t
 key-returns t c =
     let after-monad = c .before .before in let after-if1 = after-monad .before .before in let after-is-monadic = after-if1 .before in
     let after-kind-here = after-is-monadic .before in
-    pair (after-monad .monad .ensures .0) (λ src l. subscript-monadic src _ (after-kind-here .kind-here .ensures src l)
-    (sym (after-is-monadic .is-monadic .ensures) ∙ after-if1 .if1 .taken)
-    (after-monad .monad .ensures .1 src l (after-kind-here .kind-here .ensures src l)))
+    subscript-monadic _ (after-kind-here .kind-here .ensures) (after-is-monadic .is-monadic .ensures) (after-if1 .if1 .taken)
+    (after-monad .monad .ensures)
 
 key-returns-2 : (t : ℕ) → cycle.Lts-key.Need-returns-2 (key-cs t) (at key-rank t) phrases.key.Reads.Post
 key-returns-2 t c =
     let after-unit = c .before .before in let after-if1 = after-unit .before .before in let after-is-monadic = after-if1 .before in
     let after-kind-here = after-is-monadic .before in
-    pair (after-unit .unit .ensures .0) (λ src l. subscript-primary src _ (after-kind-here .kind-here .ensures src l)
-    (sym (after-is-monadic .is-monadic .ensures) ∙ after-if1 .if1 .left) (after-unit .unit .ensures .1 src l))
+    subscript-primary _ (after-kind-here .kind-here .ensures) (after-is-monadic .is-monadic .ensures) (after-if1 .if1 .left)
+    (after-unit .unit .ensures)
 
 pub key-ok : {M : Type 1} (t : ℕ) → cycle.Lts-key.Closed (key-cs t) (at key-rank t) phrases.key.Reads.Post M
 key-ok t =

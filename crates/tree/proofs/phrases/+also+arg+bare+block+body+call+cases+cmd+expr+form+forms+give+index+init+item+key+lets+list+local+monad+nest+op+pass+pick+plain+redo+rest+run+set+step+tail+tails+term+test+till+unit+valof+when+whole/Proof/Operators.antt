@@ -8,14 +8,14 @@ use Prim.Native.Nat.{ℕ, _-_}
 use Rattle.language.specs.Binding.{bindingOf}
 use Rattle.language.specs.Grammar.{within}
 use Rattle.language.specs.Reader.{manyUpTo}
-use Rattle.tree.proofs.Chains.{expression-one, expression-more, expression-none, no-operation-words}
-use Rattle.tree.proofs.Choices.{operand-monadic, operand-suffixed, expression-not, expression-shift}
+use Rattle.tree.proofs.Chains.{expression-one, expression-more, no-operation-words}
+use Rattle.tree.proofs.Choices.{monadic-shut, expression-none, operand-monadic, operand-suffixed, expression-not, expression-shift}
 use Rattle.tree.proofs.Classes.{binding-positive, monadic-positive}
-use Rattle.tree.proofs.Helpers.{low, alive, weaker, fitted, both, then-grows}
+use Rattle.tree.proofs.Helpers.{low, alive, fitted}
 use Rattle.tree.proofs.Lists.{Before}
 use Rattle.tree.proofs.Loops.{SoFar, before-first, before-next, before-last, wordless, so-begins, many-turns, many-ends, many-spent}
-use Rattle.tree.proofs.Readers.{monadic-shut, monadic-read, operation-read}
-use Rattle.tree.proofs.Rooms.{ready-leaves, ready-takes, item-low, size-small}
+use Rattle.tree.proofs.Readers.{monadic-read, operation-read}
+use Rattle.tree.proofs.Rooms.{leaves-less, ready-leaves, ready-takes, leaves-leaves, takes-leaves, item-low, size-small}
 use Rattle.tree.proofs.Symbols.{lies-still}
 use Rattle.tree.specs.Encoding.{encodeOperations}
 use Rattle.tree.specs.Reads.{freeOf}
@@ -49,29 +49,17 @@ expr-cs t =
     place-of.Asked place-of.Learnt right-of.Asked right-of.Learnt (below op-rank t) phrases.op.Reads.Post (below run-rank t) phrases.run.Reads.Post
     node.Asked node.Learnt
 
-expr-returns : (t : ℕ) → cycle.Lts-expr.Need-returns (expr-cs t) (at expr-rank t) phrases.expr.Reads.Post
-expr-returns t c =
-    let after-term = c .before .before in let after-if1 = after-term .before .before in
-    (after-term .term .ensures .0, λ src l. expression-none src _ _ (after-if1 .if1 .taken) (after-term .term .ensures .1 src l))
-
-expr-monad-requires : (t : ℕ) → cycle.Lts-expr.Need-monad-requires (expr-cs t) (at expr-rank t) phrases.expr.Reads.Post
-expr-monad-requires t c κs =
-    let start = c .before .before .before .before .before .before .before in
-    (omega arith, (start .pre .1 .0, omega arith))
-
 expr-returns-2 : (t : ℕ) → cycle.Lts-expr.Need-returns-2 (expr-cs t) (at expr-rank t) phrases.expr.Reads.Post
 expr-returns-2 t c =
     let after-monad = c .before .before in let after-if3 = after-monad .before .before in let after-kind-here = after-if3 .before in
     let after-if2 = after-kind-here .before .before in
-    pair (after-monad .monad .ensures .0) (λ src l. expression-not src _ (after-kind-here .kind-here .ensures src l) _ (after-if2 .if2 .taken)
-    (after-if3 .if3 .taken) (after-monad .monad .ensures .1 src l (after-kind-here .kind-here .ensures src l)))
+    expression-not _ (after-kind-here .kind-here .ensures) _ (after-if2 .if2 .taken) (after-if3 .if3 .taken) (after-monad .monad .ensures)
 
 expr-returns-3 : (t : ℕ) → cycle.Lts-expr.Need-returns-3 (expr-cs t) (at expr-rank t) phrases.expr.Reads.Post
 expr-returns-3 t c =
     let after-expr = c .before .before in let after-if3 = after-expr .before .before in let after-kind-here = after-if3 .before in
     let after-if2 = after-kind-here .before .before in
-    pair (after-expr .expr .ensures .0) (λ src l. expression-shift src _ (after-kind-here .kind-here .ensures src l) _ (after-if2 .if2 .taken)
-    (after-if3 .if3 .left) (after-expr .expr .ensures .1 src l))
+    expression-shift _ (after-kind-here .kind-here .ensures) _ (after-if2 .if2 .taken) (after-if3 .if3 .left) (after-expr .expr .ensures)
 
 expr-kind-here-requires-2 : (t : ℕ) → cycle.Lts-expr.Need-kind-here-requires-2 (expr-cs t) (at expr-rank t) phrases.expr.Reads.Post
 expr-kind-here-requires-2 t c κs =
@@ -155,8 +143,8 @@ expr-returns-5 t c =
     let after-if4 = after-free-of2 .before .before in let after-binding-of = after-if4 .before in let after-kind-here2 = after-binding-of .before in
     let after-expr2 = after-kind-here2 .before .before .before .before in let after-free-of = after-expr2 .before .before in
     let after-if2 = after-free-of .before .before in let after-if1 = after-if2 .before in let start = after-if1 .before .before in
-    pair (then-grows (both (both (after-expr2 .expr2 .ensures .0) (after-op .op .ensures .0)) (after-run .run .ensures .0))
-    (after-node .node .ensures .0) (omega arith))
+    pair (takes-leaves (after-node .node .ensures .0)
+    (leaves-leaves (after-run .run .ensures .0) (leaves-leaves (after-op .op .ensures .0) (after-expr2 .expr2 .ensures .0))))
     (λ src l. (let l₁ = lies-still l (after-expr2 .expr2 .ensures .0 .kept) in let l₂ = lies-still l₁ (after-op .op .ensures .0 .kept)
     in expression-more l₁ _ _ _ (after-if1 .if1 .left) (after-if2 .if2 .left) (start .pre .1 .1) (after-kind-here2 .kind-here2 .ensures src l₁)
     (after-expr2 .expr2 .ensures .1 src l) (after-right-of .right-of .ensures .0) (sym (after-binding-of .binding-of .ensures) ∙ after-if4 .if4 .left)
@@ -167,11 +155,13 @@ expr-returns-5 t c =
 
 pub expr-ok : {M : Type 1} (t : ℕ) → cycle.Lts-expr.Closed (expr-cs t) (at expr-rank t) phrases.expr.Reads.Post M
 expr-ok t =
-    cycle.Lts-expr.spec (expr-cs t) (at expr-rank t) phrases.expr.Reads.Post (λ c κs. omega arith) (λ c. search needs) (expr-returns t)
-    (λ c κs. omega arith) (expr-monad-requires t) (λ c. search needs) (expr-returns-2 t) (λ c. omega arith) (λ c κs. omega arith) (λ c. search needs)
-    (expr-returns-3 t) (λ c κs. tt) (λ c. omega arith) (λ c κs. omega arith) (expr-kind-here-requires-2 t) (λ c κs. tt) (λ c. search needs)
-    (expr-returns-4 t) (λ c κs. tt) (λ c κs. tt) (expr-place-of-requires t) (expr-right-of-requires t) (expr-op-requires t) (expr-run-requires t)
-    (expr-cast-node t) (expr-node-requires t) (expr-same-length-5 t) (expr-returns-5 t)
+    cycle.Lts-expr.spec (expr-cs t) (at expr-rank t) phrases.expr.Reads.Post (λ c κs. omega arith) (λ c. search needs)
+    (λ c. expression-none _ _ (c .before .before .before .before .if1 .taken) (c .before .before .term .ensures)) (λ c κs. omega arith)
+    (λ c κs. (omega arith, (c .before .before .before .before .before .before .before .pre .1 .0, omega arith))) (λ c. search needs)
+    (expr-returns-2 t) (λ c. omega arith) (λ c κs. omega arith) (λ c. search needs) (expr-returns-3 t) (λ c κs. tt) (λ c. omega arith)
+    (λ c κs. omega arith) (expr-kind-here-requires-2 t) (λ c κs. tt) (λ c. search needs) (expr-returns-4 t) (λ c κs. tt) (λ c κs. tt)
+    (expr-place-of-requires t) (expr-right-of-requires t) (expr-op-requires t) (expr-run-requires t) (expr-cast-node t) (expr-node-requires t)
+    (expr-same-length-5 t) (expr-returns-5 t)
 
 abbrev op-cs : ℕ → cycle.Lts-op.Claims
 op-cs t =
@@ -199,8 +189,8 @@ op-returns t c =
     let after-set-size = c .before .before in let after-expr = after-set-size .before .before .before .before in
     let after-begin-item = after-expr .before .before .before .before in let after-expect = after-begin-item .before .before in
     let after-free-of = after-expect .before .before in let start = after-free-of .before .before .before in
-    pair (both (both (then-grows (after-expect .expect .ensures .0) (after-begin-item .begin-item .ensures .0) (omega arith))
-    (after-expr .expr .ensures .0)) (after-set-size .set-size .ensures .0))
+    pair (leaves-leaves (after-set-size .set-size .ensures .0)
+    (leaves-leaves (after-expr .expr .ensures .0) (takes-leaves (after-begin-item .begin-item .ensures .0) (after-expect .expect .ensures .0))))
     (λ src l k. operation-read src _ _ (after-free-of .free-of .ensures) _
     (low (fitted (start .pre .1 .0) (after-expect .expect .ensures .0) refl (omega arith))) k (after-expect .expect .ensures .1 src l)
     (after-begin-item .begin-item .ensures .1) (after-expr .expr .ensures .1 src (lies-still l (after-begin-item .begin-item .ensures .0 .kept)))
@@ -251,15 +241,13 @@ run-loop-again t c =
     many-turns _ _ _ _ before-next (in-loop .loop .inv) (after-kind-here .kind-here .ensures)
     (eq-eqb _ _ (sym (after-binding-of .binding-of .ensures) ∙ after-if1 .if1 .left)) (after-op .op .ensures) (after-op .op .kept .0) (omega arith)
 
-run-returns-2 : (t : ℕ) → cycle.Lts-run.Need-returns-2 (run-cs t) (at run-rank t) phrases.run.Reads.Post run-inv run-turns
-run-returns-2 t c =
-    many-spent _ _ _ _ before-last (wordless no-operation-words) (c .before .before .further-most .ensures) (c .before .loop .inv) (omega arith)
-
 pub run-ok : {M : Type 1} (t : ℕ) → cycle.Lts-run.Closed (run-cs t) (at run-rank t) phrases.run.Reads.Post M
 run-ok t =
     cycle.Lts-run.spec (run-cs t) (at run-rank t) phrases.run.Reads.Post run-inv run-turns (λ c κs. tt)
     (λ c. so-begins (c .before .before .pre .1 .0) before-first) (run-kind-here-requires t) (λ c κs. tt) (λ c. search needs) (run-returns t)
-    (run-op-requires t) (λ c. omega arith) (λ c. omega arith) (run-loop-again t) (λ c. search needs) (run-returns-2 t)
+    (run-op-requires t) (λ c. omega arith) (λ c. omega arith) (run-loop-again t) (λ c. search needs)
+    (λ c. many-spent _ _ _ _ before-last (wordless no-operation-words) (c .before .before .further-most .ensures) (c .before .loop .inv)
+    (omega arith))
 
 abbrev term-cs : ℕ → cycle.Lts-term.Claims
 term-cs t =
@@ -275,16 +263,15 @@ term-returns : (t : ℕ) → cycle.Lts-term.Need-returns (term-cs t) (at term-ra
 term-returns t c =
     let after-monad = c .before .before in let after-if1 = after-monad .before .before in let after-is-monadic = after-if1 .before in
     let after-kind-here = after-is-monadic .before in
-    pair (after-monad .monad .ensures .0) (λ src l. operand-monadic src _ (after-kind-here .kind-here .ensures src l)
-    (sym (after-is-monadic .is-monadic .ensures) ∙ after-if1 .if1 .taken)
-    (after-monad .monad .ensures .1 src l (after-kind-here .kind-here .ensures src l)))
+    operand-monadic _ (after-kind-here .kind-here .ensures) (after-is-monadic .is-monadic .ensures) (after-if1 .if1 .taken)
+    (after-monad .monad .ensures)
 
 term-returns-2 : (t : ℕ) → cycle.Lts-term.Need-returns-2 (term-cs t) (at term-rank t) phrases.term.Reads.Post
 term-returns-2 t c =
     let after-whole = c .before .before in let after-if1 = after-whole .before .before in let after-is-monadic = after-if1 .before in
     let after-kind-here = after-is-monadic .before in
-    pair (after-whole .whole .ensures .0) (λ src l. operand-suffixed src _ (after-kind-here .kind-here .ensures src l)
-    (sym (after-is-monadic .is-monadic .ensures) ∙ after-if1 .if1 .left) (after-whole .whole .ensures .1 src l))
+    operand-suffixed _ (after-kind-here .kind-here .ensures) (after-is-monadic .is-monadic .ensures) (after-if1 .if1 .left)
+    (after-whole .whole .ensures)
 
 pub term-ok : {M : Type 1} (t : ℕ) → cycle.Lts-term.Closed (term-cs t) (at term-rank t) phrases.term.Reads.Post M
 term-ok t =
@@ -295,11 +282,6 @@ abbrev monad-cs : ℕ → cycle.Lts-monad.Claims
 monad-cs t =
     claims-7 refuse.Asked refuse.Learnt free-of.Asked free-of.Learnt place-here.Asked place-here.Learnt expect.Asked expect.Learnt reach-of.Asked
     reach-of.Learnt (below expr-rank t) phrases.expr.Reads.Post node.Asked node.Learnt
-
-monad-returns : (t : ℕ) → cycle.Lts-monad.Need-returns (monad-cs t) (at monad-rank t) phrases.monad.Reads.Post
-monad-returns t c =
-    let after-if1 = c .before .before in
-    (weaker (omega arith) (c .refuse .ensures .0), λ src l k. monadic-shut src _ (after-if1 .if1 .taken) (c .refuse .ensures .1))
 
 monad-expr-requires : (t : ℕ) → cycle.Lts-monad.Need-expr-requires (monad-cs t) (at monad-rank t) phrases.monad.Reads.Post
 monad-expr-requires t c κs =
@@ -318,13 +300,14 @@ monad-returns-2 t c =
     let after-node = c .before .before in let after-expr = after-node .before .before .before .before in let after-reach-of = after-expr .before in
     let after-expect = after-reach-of .before .before in let after-place-here = after-expect .before .before in
     let after-free-of = after-place-here .before .before in let after-if1 = after-free-of .before .before in let start = after-if1 .before .before in
-    pair (weaker (omega arith) (then-grows (both (after-expect .expect .ensures .0) (after-expr .expr .ensures .0)) (after-node .node .ensures .0)
-    (omega arith))) (λ src l k. monadic-read l _ _ (after-free-of .free-of .ensures) (after-place-here .place-here .ensures src l)
-    (after-if1 .if1 .left) k (start .pre .1 .1) (after-reach-of .reach-of .ensures .0) (after-expect .expect .ensures .1 src l)
-    (after-expr .expr .ensures .1 src l) (after-node .node .ensures .1))
+    pair (takes-leaves (after-node .node .ensures .0)
+    (leaves-leaves (after-expr .expr .ensures .0) (leaves-less (after-expect .expect .ensures .0) refl)))
+    (λ src l k. monadic-read l _ _ (after-free-of .free-of .ensures) (after-place-here .place-here .ensures src l) (after-if1 .if1 .left) k
+    (start .pre .1 .1) (after-reach-of .reach-of .ensures .0) (after-expect .expect .ensures .1 src l) (after-expr .expr .ensures .1 src l)
+    (after-node .node .ensures .1))
 
 pub monad-ok : {M : Type 1} (t : ℕ) → cycle.Lts-monad.Closed (monad-cs t) (at monad-rank t) phrases.monad.Reads.Post M
 monad-ok t =
-    cycle.Lts-monad.spec (monad-cs t) (at monad-rank t) phrases.monad.Reads.Post (λ c κs. omega arith) (λ c. search needs) (monad-returns t)
-    (λ c κs. tt) (λ c κs. omega arith) (λ c κs. omega arith) (λ c. omega arith) (λ c κs. tt) (monad-expr-requires t) (monad-node-requires t)
-    (λ c. search needs) (monad-returns-2 t)
+    cycle.Lts-monad.spec (monad-cs t) (at monad-rank t) phrases.monad.Reads.Post (λ c κs. omega arith) (λ c. search needs)
+    (λ c. monadic-shut _ (c .before .before .if1 .taken) (c .refuse .ensures)) (λ c κs. tt) (λ c κs. omega arith) (λ c κs. omega arith)
+    (λ c. omega arith) (λ c κs. tt) (monad-expr-requires t) (monad-node-requires t) (λ c. search needs) (monad-returns-2 t)
