@@ -17,15 +17,15 @@ use Rattle.language.specs.Expressions as E
 use Rattle.language.specs.Expressions.{Inside, inside, shut, opening}
 use Rattle.language.specs.Commands as C
 use Rattle.language.specs.Grammar.{within, readers}
-use Rattle.tree.specs.Reads.{Ready, TakesRoom, Encodes, Reading, HoldsSymbols, KindHere, Follows, Prepends, Reads, Refuses, Adds, recordFrom, Seals, freeOf}
+use Rattle.tree.specs.Reads.{Ready, TakesRoom, Encodes, Reading, HoldsSymbols, KindHere, Follows, Prepends, Reads, Adds, recordFrom, Seals, freeOf}
 use Rattle.tree.specs.Between.{Repeated, repeatedBy, repeatedOnly, encodeRepeatedOnly, opened, bodyAfter}
 use Rattle.tree.specs.Encoding.{LABELLED, closed, encode, encodeName, encodeBy, encodeLabels, encodeCommand, encodeCommands, encodeUnlabelled, encodeRepeats, encodeLocals, labelled, repeated}
-use Rattle.tree.proofs.Steps.{follow, bind, here, added, adds-on, goes-on, _then_, nothing, stopped}
+use Rattle.tree.proofs.Steps.{follow, bind, here, added, adds-on, goes-on, _then_, nothing}
 use Rattle.tree.proofs.Symbols.{mapped, the-is, lies-still}
 use Rattle.tree.proofs.ListEnd.{listed-items}
 use Rattle.tree.proofs.Chains.{grown}
 use Rattle.tree.proofs.Commands.{two, three}
-use Rattle.tree.proofs.Choices.{KindsHere, Refusing, Expects, chosen, picked, refused-at, shut-at}
+use Rattle.tree.proofs.Choices.{KindsHere, Refusing, Expects, picked, refused-at, shut-at}
 use Rattle.tree.proofs.Rooms.{leaves-all, leaves-less, leaves-last, leaves-after}
 use Rattle.tree.proofs.Classes.{unlike2}
 use Rattle.text.proofs.Bytes.{Unlike}

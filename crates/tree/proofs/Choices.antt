@@ -1,6 +1,6 @@
 -- Choices by the symbol here: what the next call reads is what is to be read.
 use Prim.Native.Nat.{ℕ, zero, suc, _-_}
-use mathlib.Core.Path.{_≡_, refl, sym, ap, subst, _∙_}
+use mathlib.Core.Path.{_≡_, refl, sym, ap, _∙_}
 use mathlib.Core.Bool.{Bool, true, false, cond}
 use mathlib.Core.List.{List, [], _∷_}
 use native.Mathlib.Omega.{arith}
@@ -22,7 +22,6 @@ use Rattle.tree.proofs.Rooms.{leaves-less}
 use Rattle.tree.proofs.Classes.{unlike2}
 use Rattle.text.proofs.Bytes.{Unlike}
 use Rattle.tree.specs.declared.scratch.State.{State}
-use Rattle.tree.specs.declared.scratch.State.the-variants.{Read}
 
 -- the symbol here is of that kind, whatever the source
 abbrev pub KindsHere : (s : List ℕ) → (n : ℕ) → State → (kind : ℕ) → Type 0

@@ -26,7 +26,6 @@ use Rattle.tree.proofs.Classes.{unlike5}
 use Rattle.tree.proofs.Choices.{KindsHere, chosen, picked}
 use Rattle.tree.proofs.Readers.{any-the, item-read, put-first, many-none, many-first}
 use Rattle.tree.specs.declared.scratch.State.{State}
-use Rattle.tree.specs.declared.scratch.State.the-variants.{Read}
 
 -- two or three parts and a record
 pub two : (a b : List ℕ) (z v p k : ℕ) → z ≡ length a + length b → a ++ (b ++ (z ∷ v ∷ p ∷ k ∷ [])) ≡ closed (a ++ b) v p k

@@ -3,17 +3,16 @@ use Prim.Native.Nat.{ℕ, _-_, _<_}
 use mathlib.Core.Path.{_≡_, refl, sym, ap, subst, _∙_}
 use mathlib.Core.Bool.{Bool, true, false}
 use mathlib.Core.List.{List, [], _++_, append-assoc}
-use native.Mathlib.Omega.{arith}
 use lib.ListN.{length}
 use Rattle.language.specs.Kinds as K
-use Rattle.language.specs.Reader.{Source, Out, ok, Reader, onOut, the, manyUpTo, moreUpTo}
+use Rattle.language.specs.Reader.{Source, ok, Reader, onOut, the, manyUpTo, moreUpTo}
 use Rattle.tree.specs.Reads.{HoldsSymbols, Ready, LeavesRoom, TakesRoom, Follows, Encodes, Prepends, Refuses, Reading, ReadingAt}
 use Rattle.tree.proofs.Steps.{here, nothing}
 use Rattle.tree.proofs.Lists.{PartlyAs, Before, begins-as, more-as, closes-as, turned, last, spent}
 use Rattle.tree.proofs.Choices.{KindsHere}
 use Rattle.tree.proofs.ListEnd.{list-end, list-semicolon-end, list-more, semicolon-item, list-spent}
 use Rattle.tree.proofs.Symbols.{lies-still}
-use Rattle.tree.proofs.Rooms.{leaves-all, leaves-first, leaves-last, leaves-less, takes-leaves}
+use Rattle.tree.proofs.Rooms.{leaves-all, leaves-first, leaves-last, takes-leaves}
 use Rattle.tree.specs.declared.scratch.State.{State}
 use Rattle.tree.specs.declared.scratch.State.the-variants.{Read}
 

@@ -12,9 +12,11 @@ use Rattle.language.specs.Reader.{Source, Out, ok, no, onOut, kindAt, valueAt, 
 use Rattle.language.specs.Expressions as E
 use Rattle.language.specs.Commands as C
 use Rattle.language.specs.Grammar.{within, readers}
-use Rattle.tree.specs.Reads.{HoldsSymbols, Here, KindHere, Follows, Prepends, Reads}
+use Rattle.tree.specs.Reads.{HoldsSymbols, Here, KindHere, Prepends, Reads, Encodes, Reading}
 use Rattle.tree.specs.Between.{aFurtherName}
 use Rattle.tree.specs.Encoding.{leaf, encodeName, encodeNames, encodeConstant, encodeBy}
+use Rattle.tree.proofs.Choices.{Expects}
+use Rattle.tree.proofs.Rooms.{leaves-last}
 use Rattle.tree.proofs.Steps.{bind, here, goes-on, nothing}
 use Rattle.tree.proofs.Symbols.{mapped, the-is, stays}
 use Rattle.tree.proofs.Leaves.{name-at, nameOf}
@@ -30,10 +32,15 @@ a-name-read {src} {value = value} l h d =
     here _ (λ at free e. same-name (aName src at) ∙ name-at l h (λ y m. ok y m) at free e) (mapped (λ place. nameOf place value) (λ _. refl) d)
 
 -- a comma and a name
-pub further-name-read : (src : Source) {s s₁ : List ℕ} {r r₀ r₁ : State} → Reads (the K.COMMA src) (λ _. []) s s r r₀ → Reads (aName src) encodeName s s₁ r₀ r₁ → Follows (aFurtherName src) (Prepends encodeNames) s s₁ r r₁
+pub further-name-reads :
+    {s s₁ : List ℕ} {n : ℕ} {r r₀ r₁ : State} → Expects K.COMMA s n r r₀ → Reading 1 aName (Encodes encodeName) s s₁ n r₀ r₁
+    → Reading 1 aFurtherName (Prepends encodeNames) s s₁ n r r₁
 unfolding aFurtherName encodeName encodeNames
-further-name-read src c d =
-    bind 0 (λ _. []) c (goes-on d) (λ _ _. bind 0 encodeName d stays (λ y _. nothing (record { puts = λ rest. refl; some = omega arith })))
+further-name-reads c d = (
+  leaves-last (c .0) (d .0),
+  λ src l. bind 0 (λ _. []) (c .1 src l) (goes-on (d .1 src l))
+      (λ _ _. bind 0 encodeName (d .1 src l) stays (λ y _. nothing (record { puts = λ rest. refl; some = omega arith }))),
+)
 
 pub no-name-words : encodeNames [] ≡ []
 unfolding encodeNames

@@ -17,9 +17,11 @@ use Rattle.language.specs.Expressions as E
 use Rattle.language.specs.Commands as C
 use Rattle.language.specs.Grammar as G
 use Rattle.language.specs.Grammar.{within}
-use Rattle.tree.specs.Reads.{KindHere, Follows, Prepends, Reads, Refuses, Adds, recordFrom, Seals, Passes, freeOf}
+use Rattle.tree.specs.Reads.{KindHere, Follows, Prepends, Reads, Refuses, Adds, recordFrom, Seals, Passes, freeOf, Reading}
 use Rattle.tree.specs.Between.{aFurtherName, Bodies, itemList, functionList, globalsAfter, manifestsAfter, functionsAfter, declarationAfter, Declares}
 use Rattle.tree.specs.Encoding.{item, closed, encode, encodeName, encodeNames, encodeConstant, encodeCommand, encodeItems, encodeBody, bodyWord, encodeFunctions, encodeProgram}
+use Rattle.tree.proofs.Choices.{Expects}
+use Rattle.tree.proofs.Rooms.{leaves-last}
 use Rattle.tree.proofs.Steps.{follow, bind, here, added, adds-on, goes-on, _then_, nothing, stopped}
 use Rattle.tree.proofs.Symbols.{mapped, the-is, stays}
 use Rattle.tree.proofs.Lists.{sealed}
@@ -97,9 +99,12 @@ function-here src size lo-is le a start-is b c d value-is body on f =
     (bind size encodeName b (goes-on c then goes-on d then on) (λ name q₁. bind size (λ _. []) c (goes-on d then on) (λ _ q₂. bind size encodeNames d on (λ names q₃. follow size (body name names (omega arith) (omega arith)) stays (λ x w h _. nothing (λ rest. ap (λ (v : List ℕ). item 0 v ++ encodeFunctions rest) (h .same ∙ ap (λ (v : List ℕ). encodeName name ++ (encodeNames names ++ v)) (sym (append-nil w)))))))))
     f
 
-pub and-function-read : (src : Source) {s s₁ : List ℕ} {r r₀ r₁ : State} → Reads (the K.AND src) (λ _. []) s s r r₀ → Follows (G.function src) (Prepends encodeFunctions) s s₁ r₀ r₁ → Follows (G.andFunction src) (Prepends encodeFunctions) s s₁ r r₁
+pub and-function-reads :
+    {s s₁ : List ℕ} {n : ℕ} {r r₀ r₁ : State} → Expects K.AND s n r r₀ → Reading 5 G.function (Prepends encodeFunctions) s s₁ n r₀ r₁
+    → Reading 5 G.andFunction (Prepends encodeFunctions) s s₁ n r r₁
 unfolding G.andFunction
-and-function-read src c a = bind 0 (λ _. []) c (goes-on a) (λ _ _. a)
+and-function-reads c a =
+    (leaves-last (c .0) (a .0), λ src l. bind 0 (λ _. []) (c .1 src l) (goes-on (a .1 src l)) (λ _ _. a .1 src l))
 
 pub no-function-words : encodeFunctions [] ≡ []
 unfolding encodeFunctions
@@ -111,9 +116,9 @@ functions-read src {s₁ = s₁} {s₂} {r₁} {r₂} en a b =
     follow 0 a (goes-on b) (λ put w h _. bind 0 encodeFunctions (subst (λ (m : ℕ). Reads (manyUpTo m [] (λ kind. eqb kind K.AND) G.andFunction src) encodeFunctions s₁ s₂ r₁ r₂) (sym en) b) stays (λ fs _. nothing (record { same = ap (λ (v : List ℕ). w ++ v) (append-nil (encodeFunctions fs)) ∙ sym (h .puts fs) })))
 
 -- the words that begin declarations
-pub declaration-positive : (kind : ℕ) → isDeclaration kind ≡ true → 0 < kind
+pub declaration-positive : (kind : ℕ) {b : Bool} → b ≡ isDeclaration kind → b ≡ true → 0 < kind
 unfolding isDeclaration member
-declaration-positive kind e = positive isDeclaration kind refl e
+declaration-positive kind e q = positive isDeclaration kind refl (sym e ∙ q)
 
 other-declaration : (kind : ℕ) → isDeclaration kind ≡ true → (kind ≡ K.GLOBAL → ⊥) → (kind ≡ K.MANIFEST → ⊥) → kind ≡ K.LET
 unfolding isDeclaration member

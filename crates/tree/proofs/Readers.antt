@@ -12,12 +12,12 @@ use Rattle.language.specs.Tree.{Expression, Suffixes, Operations, withOperation
 use Rattle.language.specs.Reader.{Source, Out, ok, no, Reader, onOut, kindAt, placeAt, any, the, manyUpTo, many, isComma, furtherItems, oneUpToClose, upToClose}
 use Rattle.language.specs.Binding.{reachOf, NEGATION, LOOSEST}
 use Rattle.language.specs.Expressions as E
-use Rattle.language.specs.Expressions.{Inside, inside, shut, opening}
+use Rattle.language.specs.Expressions.{Inside, inside, opening}
 use Rattle.language.specs.Grammar.{within, readers}
-use Rattle.tree.specs.Reads.{TakesRoom, Reading, HoldsSymbols, Here, KindHere, Follows, Encodes, Prepends, Reads, Refuses, Adds, recordFrom, behindFrom, Seals, freeOf}
+use Rattle.tree.specs.Reads.{TakesRoom, Reading, HoldsSymbols, Here, KindHere, Follows, Encodes, Prepends, Reads, Adds, recordFrom, behindFrom, Seals, freeOf}
 use Rattle.tree.specs.Between.{PrependsSuffix, PrependsOne, anArgument, aFurther, rightOf}
 use Rattle.tree.specs.Encoding.{MONADIC, DYADIC, item, behind, closed, suffixedKind, encode, encodeExpressions, encodeSuffixes, encodeOperations, encodeCommand}
-use Rattle.tree.proofs.Steps.{follow, bind, here, added, adds-on, goes-on, _then_, nothing, stopped}
+use Rattle.tree.proofs.Steps.{follow, bind, here, added, adds-on, goes-on, _then_, nothing}
 use Rattle.tree.proofs.Lists.{sealed, last, turned}
 use Rattle.tree.proofs.Symbols.{inside as among, placed, mapped, the-is, stays}
 use Rattle.tree.proofs.Classes.{positive}

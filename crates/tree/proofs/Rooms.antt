@@ -1,7 +1,7 @@
 -- Laws of room: what one call after another leaves of what the symbols read allow, and what the next call may ask.
 -- A premise's numbers come from the conclusion and from the call that the first premise names, so that `search` finds every argument.
 use Prim.Native.Nat.{ℕ, _+_, _*_, _-_, _≤_, _<_, _^_}
-use mathlib.Core.Path.{_≡_, refl, _∙_}
+use mathlib.Core.Path.{_≡_, _∙_}
 use mathlib.Core.Bool.{true}
 use mathlib.Core.List.{List}
 use native.Mathlib.Omega.{arith}

@@ -9,6 +9,13 @@ use Rattle.tree.specs.Reads.{FollowsBy, Follows, Encodes, Reads, PassesB
 use Rattle.tree.specs.declared.scratch.State.{State}
 use Rattle.tree.specs.declared.scratch.State.the-variants.{Read, Refused}
 
+-- two facts, on several lines
+abbrev pub pair : {A B : Type 0} → A → B → A × B
+pair a b = (a, b)
+
+abbrev pub triple : {A B C : Type 0} → A → B → C → A × B × C
+triple a b c = (a, b, c)
+
 -- refusals stay
 passes-goesBy : {A : Type 0} (read : ℕ → Out A) (Says : A → List ℕ → Type 0) (s s′ : List ℕ) (r r′ : State) → FollowsBy read Says s s′ r r′ → PassesBy r r′
 passes-goesBy read Says s s′ (Refused k p) r′ d = d

@@ -1,48 +1,40 @@
 use mathlib.Core.Path.{refl}
 use native.Mathlib.Omega.{arith}
-use Rattle.tree.proofs.Helpers.{smaller, fitted, enlarged, weaker, both, then-grows, base, low}
+use Rattle.tree.proofs.Helpers.{fitted, low}
 use Rattle.tree.proofs.Symbols.{lies-still}
 use Rattle.tree.proofs.Programs.{declared-read}
 use borrow.Author.Needs.{needs}
+use Rattle.tree.proofs.Rooms.{ready-leaves, leaves-leaves, takes-leaves, ready-part, item-low}
+use Rattle.tree.proofs.Steps.{pair}
 use Rattle.tree.proofs.declarations.declared.Statement.{statement}
 use Rattle.tree.proofs.declarations.declared.Tie as tie
 
+declaration-requires : tie.Need-declaration-requires
+declaration-requires c κs = search needs
+
 set-size-requires : tie.Need-set-size-requires
-set-size-requires c κs = (
-  smaller
-      (fitted
-      (enlarged
-      (fitted (c .before .before .before .before .before .before .before .before .before .before .before .before .before .before .pre .0)
-      (c .before .before .before .before .before .before .before .before .before .expect .ensures .0) refl (omega arith))
-      (c .before .before .before .before .before .before .before .begin-item .ensures .0)
-      (c .before .before .before .before .before .before .before .begin-item .kept .0) (omega arith) (omega arith))
-      (c .before .before .before .declaration .ensures .0) (c .before .before .before .declaration .kept .0) (omega arith)) (omega arith),
-  omega
-      (arith, base (c .before .before .before .before .before .before .before .before .before .before .before .before .before .before .pre .0)),
-)
+set-size-requires c κs =
+    let after-declaration = c .before .before .before in
+    let after-free-of = after-declaration .before .before .before .before .before .before .before .before in
+    let start = after-free-of .before .before .before in
+    pair (ready-leaves (after-declaration .declaration .ensures .0) (after-declaration .declaration .kept .0) refl
+    (ready-part (declaration-requires (after-declaration .before) κs) refl)) (item-low (after-free-of .free-of .ensures) (start .pre .0))
 
 returns : tie.Need-returns
-returns c = (
-  weaker (omega arith)
-      (both (both (both (then-grows (c .before .before .before .before .before .before .before .before .before .before .before .before .before .before .expect .ensures .0) (c .before .before .before .before .before .before .before .before .before .before .before .before .begin-item .ensures .0) (omega arith)) (c .before .before .before .before .before .before .before .before .declaration .ensures .0)) (c .before .before .before .before .set-size .ensures .0)) (c .optional .ensures .0)),
-  λ src l k h.
-      (let l₁ = lies-still l
-      (c .before .before .before .before .before .before .before .before .before .before .before .before .begin-item .ensures .0 .kept) in let
-      l₃ = lies-still (lies-still l₁ (c .before .before .before .before .before .before .before .before .declaration .ensures .0 .kept))
-      (c .before .before .before .before .set-size .ensures .0 .kept) in declared-read src _ k h
-      (c .before .before .before .before .before .before .before .before .before .before .before .before .before .before .before .before .free-of .ensures)
-      (low
-      (fitted
-      (c .before .before .before .before .before .before .before .before .before .before .before .before .before .before .before .before .before .before .before .pre .0)
-      (c .before .before .before .before .before .before .before .before .before .before .before .before .before .before .expect .ensures .0)
-      refl (omega arith)))
-      (c .before .before .before .before .before .before .before .before .before .before .before .before .before .before .expect .ensures .1
-      src l) (c .before .before .before .before .before .before .before .before .before .before .before .before .begin-item .ensures .1)
-      (c .before .before .before .before .before .before .before .before .declaration .ensures .1 src l₁ h)
-      (c .before .before .before .before .set-size .ensures .1) (c .optional .ensures .1 src l₃)),
-)
+returns c =
+    let after-set-size = c .before .before .before .before in let after-declaration = after-set-size .before .before .before .before in
+    let after-begin-item = after-declaration .before .before .before .before in let after-expect = after-begin-item .before .before in
+    let after-free-of = after-expect .before .before in let start = after-free-of .before .before .before in
+    pair (leaves-leaves (c .optional .ensures .0)
+    (leaves-leaves (after-set-size .set-size .ensures .0)
+    (leaves-leaves (after-declaration .declaration .ensures .0)
+    (takes-leaves (after-begin-item .begin-item .ensures .0) (after-expect .expect .ensures .0)))))
+    (λ src l k h. (let l₁ = lies-still l (after-begin-item .begin-item .ensures .0 .kept) in let l₃ = lies-still
+    (lies-still l₁ (after-declaration .declaration .ensures .0 .kept)) (after-set-size .set-size .ensures .0 .kept) in declared-read src _ k h
+    (after-free-of .free-of .ensures) (low (fitted (start .pre .0) (after-expect .expect .ensures .0) refl (omega arith)))
+    (after-expect .expect .ensures .1 src l) (after-begin-item .begin-item .ensures .1) (after-declaration .declaration .ensures .1 src l₁ h)
+    (after-set-size .set-size .ensures .1) (c .optional .ensures .1 src l₃)))
 
 pub declared-spec : {M : Type 1} → statement M
 declared-spec =
-    tie.close (tie.spec (search needs) (search needs) (search needs) (search needs) set-size-requires (search needs)
-    (search needs) returns)
+    tie.close (tie.spec (search needs) (search needs) (search needs) declaration-requires set-size-requires (search needs) (search needs) returns)

@@ -1,31 +1,30 @@
 use native.Mathlib.Omega.{arith}
 use mathlib.Core.Path.{refl}
-use Rattle.tree.proofs.Helpers.{smaller, fitted, weaker, both}
 use Rattle.tree.proofs.Symbols.{lies-still}
 use Rattle.tree.proofs.Programs.{item-list-read}
 use borrow.Author.Needs.{needs}
+use Rattle.tree.proofs.Rooms.{leaves-less, ready-leaves, leaves-leaves, ready-part}
+use Rattle.tree.proofs.Steps.{pair}
 use Rattle.tree.proofs.declarations.item_list.Statement.{statement}
 use Rattle.tree.proofs.declarations.item_list.Tie as tie
 
+one-item-requires : tie.Need-one-item-requires
+one-item-requires c κs = search needs
+
 further-items-requires : tie.Need-further-items-requires
-further-items-requires c κs = (
-  smaller
-      (fitted
-      (fitted (c .before .before .before .before .before .before .before .before .pre .0)
-      (c .before .before .before .before .before .expect .ensures .0) refl (omega arith)) (c .before .before .before .one-item .ensures .0)
-      (c .before .before .before .one-item .kept .0) (omega arith)) (omega arith),
-  search needs,
-)
+further-items-requires c κs =
+    let after-one-item = c .before .before .before in
+    pair (ready-leaves (after-one-item .one-item .ensures .0) (after-one-item .one-item .kept .0) refl
+    (ready-part (one-item-requires (after-one-item .before) κs .0) refl)) (omega arith)
 
 returns : tie.Need-returns
-returns c = (
-  weaker (omega arith)
-      (both (both (c .before .before .before .before .before .before .before .before .expect .ensures .0) (c .before .before .before .before .before .before .one-item .ensures .0)) (c .before .before .further-items .ensures .0)),
-  λ src l. item-list-read src _ (l .count) (c .before .before .before .before .before .before .before .before .expect .ensures .1 src l)
-      (c .before .before .before .before .before .before .one-item .ensures .1 src l)
-      (c .before .before .further-items .ensures .1 src
-      (lies-still l (c .before .before .before .before .before .before .one-item .ensures .0 .kept))),
-)
+returns c =
+    let after-further-items = c .before .before in let after-one-item = after-further-items .before .before .before .before in
+    let after-expect = after-one-item .before .before in
+    pair (leaves-leaves (after-further-items .further-items .ensures .0)
+    (leaves-leaves (after-one-item .one-item .ensures .0) (leaves-less (after-expect .expect .ensures .0) refl)))
+    (λ src l. item-list-read src _ (l .count) (after-expect .expect .ensures .1 src l) (after-one-item .one-item .ensures .1 src l)
+    (after-further-items .further-items .ensures .1 src (lies-still l (after-one-item .one-item .ensures .0 .kept))))
 
 pub item-list-spec : {M : Type 1} → statement M
-item-list-spec = tie.close (tie.spec (search needs) (search needs) further-items-requires (search needs) returns)
+item-list-spec = tie.close (tie.spec (search needs) one-item-requires further-items-requires (search needs) returns)

@@ -1,82 +1,50 @@
 use native.Mathlib.Omega.{arith}
 use mathlib.Core.Path.{refl}
-use Rattle.tree.proofs.Helpers.{smaller, fitted, enlarged, weaker, both, grows-fits, base, low}
+use Rattle.tree.proofs.Helpers.{low}
 use Rattle.tree.proofs.Symbols.{lies-still}
 use Rattle.tree.proofs.Programs.{item-here}
 use borrow.Author.Needs.{needs}
+use Rattle.tree.proofs.Rooms.{ready-leaves, ready-takes, leaves-leaves, leaves-after, leaves-takes, ready-part, item-low}
+use Rattle.tree.proofs.Steps.{pair}
 use Rattle.tree.proofs.declarations.one_item.Statement.{statement}
 use Rattle.tree.proofs.declarations.one_item.Tie as tie
 
 a-name-requires : tie.Need-a-name-requires
 a-name-requires c κs =
-    smaller
-    (enlarged (c .before .before .before .before .before .before .before .before .pre .0) (c .before .before .before .begin-item .ensures .0)
-    (c .before .before .before .begin-item .kept .0) (omega arith) (omega arith)) (omega arith)
+    let after-begin-item = c .before .before .before in let start = after-begin-item .before .before .before .before .before in
+    ready-takes (after-begin-item .begin-item .ensures .0) (after-begin-item .begin-item .kept .0) (start .pre .0)
 
 expect-requires : tie.Need-expect-requires
-expect-requires c κs = (
-  smaller
-      (fitted
-      (enlarged (c .before .before .before .before .before .before .before .before .before .before .before .before .pre .0)
-      (c .before .before .before .before .before .before .before .begin-item .ensures .0)
-      (c .before .before .before .before .before .before .before .begin-item .kept .0) (omega arith) (omega arith))
-      (c .before .before .before .a-name .ensures .0) (c .before .before .before .a-name .kept .0) (omega arith)) (omega arith),
-  search needs,
-)
+expect-requires c κs =
+    let after-a-name = c .before .before .before in
+    (ready-leaves (after-a-name .a-name .ensures .0) (after-a-name .a-name .kept .0) refl (a-name-requires (after-a-name .before) κs), omega arith)
 
 constant-requires : tie.Need-constant-requires
-constant-requires c κs =
-    smaller
-    (fitted
-    (fitted
-    (enlarged (c .before .before .before .before .before .before .before .before .before .before .before .before .before .before .pre .0)
-    (c .before .before .before .before .before .before .before .before .before .begin-item .ensures .0)
-    (c .before .before .before .before .before .before .before .before .before .begin-item .kept .0) (omega arith) (omega arith))
-    (c .before .before .before .before .before .a-name .ensures .0) (c .before .before .before .before .before .a-name .kept .0) (omega arith))
-    (c .before .expect .ensures .0) refl (omega arith)) (omega arith)
+constant-requires c κs = ready-leaves (c .before .expect .ensures .0) refl refl (expect-requires (c .before .before) κs .0)
 
 set-size-requires : tie.Need-set-size-requires
-set-size-requires c κs = (
-  smaller
-      (fitted
-      (fitted
-      (fitted
-      (enlarged
-      (c .before .before .before .before .before .before .before .before .before .before .before .before .before .before .before .before .before .before .pre .0)
-      (c .before .before .before .before .before .before .before .before .before .before .before .before .before .begin-item .ensures .0)
-      (c .before .before .before .before .before .before .before .before .before .before .before .before .before .begin-item .kept .0)
-      (omega arith) (omega arith)) (c .before .before .before .before .before .before .before .before .before .a-name .ensures .0)
-      (c .before .before .before .before .before .before .before .before .before .a-name .kept .0) (omega arith))
-      (c .before .before .before .before .before .expect .ensures .0) refl (omega arith)) (c .before .before .before .constant .ensures .0)
-      (c .before .before .before .constant .kept .0) (omega arith)) (omega arith),
-  omega (
-    arith,
-    base
-        (c .before .before .before .before .before .before .before .before .before .before .before .before .before .before .before .before .before .before .pre .0),
-  ),
-)
+set-size-requires c κs =
+    let after-constant = c .before .before .before in
+    let after-free-of = after-constant .before .before .before .before .before .before .before .before .before .before .before .before in
+    let start = after-free-of .before .before .before in
+    pair (ready-leaves (after-constant .constant .ensures .0) (after-constant .constant .kept .0) refl
+    (constant-requires (after-constant .before) κs)) (item-low (after-free-of .free-of .ensures) (ready-part (start .pre .0) refl))
 
 returns : tie.Need-returns
-returns c = (
-  weaker (omega arith)
-      (grows-fits (c .before .before .before .before .before .before .before .before .before .before .before .before .before .before .before .before .begin-item .ensures .0) (both (both (both (c .before .before .before .before .before .before .before .before .before .before .before .before .a-name .ensures .0) (c .before .before .before .before .before .before .before .before .expect .ensures .0)) (c .before .before .before .before .before .before .constant .ensures .0)) (c .before .before .set-size .ensures .0)) (omega arith)),
-  λ src l.
-      (let l₁ = lies-still l
-      (c .before .before .before .before .before .before .before .before .before .before .before .before .before .before .before .before .begin-item .ensures .0 .kept)
-      in let l₂ = lies-still l₁
-      (c .before .before .before .before .before .before .before .before .before .before .before .before .a-name .ensures .0 .kept) in item-here
-      src _ _
-      (c .before .before .before .before .before .before .before .before .before .before .before .before .before .before .before .before .before .before .free-of .ensures)
-      (low
-      (c .before .before .before .before .before .before .before .before .before .before .before .before .before .before .before .before .before .before .before .before .before .pre .0))
-      (c .before .before .before .before .before .before .before .before .before .before .before .before .before .before .before .before .begin-item .ensures .1)
-      (c .before .before .before .before .before .before .before .before .before .before .before .before .a-name .ensures .1 src l₁)
-      (c .before .before .before .before .before .before .before .before .expect .ensures .1 src l₂)
-      (c .before .before .before .before .before .before .constant .ensures .1 src l₂) (c .before .before .set-size .ensures .1)),
-)
+returns c =
+    let after-set-size = c .before .before in let after-constant = after-set-size .before .before .before .before in
+    let after-expect = after-constant .before .before in let after-a-name = after-expect .before .before .before .before in
+    let after-begin-item = after-a-name .before .before .before .before in let after-free-of = after-begin-item .before .before in
+    let start = after-free-of .before .before .before in
+    pair (leaves-leaves (after-set-size .set-size .ensures .0)
+    (leaves-leaves (after-constant .constant .ensures .0)
+    (leaves-after (after-expect .expect .ensures .0) refl
+    (leaves-takes (after-a-name .a-name .ensures .0) (after-begin-item .begin-item .ensures .0)))))
+    (λ src l. (let l₁ = lies-still l (after-begin-item .begin-item .ensures .0 .kept) in let l₂ = lies-still l₁
+    (after-a-name .a-name .ensures .0 .kept) in item-here src _ _ (after-free-of .free-of .ensures) (low (start .pre .0))
+    (after-begin-item .begin-item .ensures .1) (after-a-name .a-name .ensures .1 src l₁) (after-expect .expect .ensures .1 src l₂)
+    (after-constant .constant .ensures .1 src l₂) (after-set-size .set-size .ensures .1)))
 
 pub one-item-spec : {M : Type 1} → statement M
 one-item-spec =
-    tie.close
-    (tie.spec (search needs) (search needs) a-name-requires expect-requires constant-requires set-size-requires
-    (search needs) returns)
+    tie.close (tie.spec (search needs) (search needs) a-name-requires expect-requires constant-requires set-size-requires (search needs) returns)

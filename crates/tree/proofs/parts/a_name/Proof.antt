@@ -3,12 +3,11 @@ use borrow.Author.Needs.{needs}
 use Rattle.tree.proofs.parts.a_name.Statement.{statement}
 use Rattle.tree.proofs.parts.a_name.Tie as tie
 
-returns : tie.Need-returns
-returns c = (
-  c .before .before .leaf .ensures .0,
-  λ src l. a-name-read l (c .before .before .before .before .value-here .ensures src l)
-      (c .before .before .leaf .ensures .1 src l),
-)
-
 pub a-name-spec : {M : Type 1} → statement M
-a-name-spec = tie.close (tie.spec (search needs) (search needs) (search needs) returns)
+a-name-spec =
+    tie.close (tie.spec (search needs) (search needs) (search needs)
+    (λ c. (
+      c .before .before .leaf .ensures .0,
+      λ src l. a-name-read l (c .before .before .before .before .value-here .ensures src l)
+          (c .before .before .leaf .ensures .1 src l),
+    )))

@@ -3,81 +3,46 @@ use Prim.Native.Nat.{ℕ}
 use mathlib.Core.Path.{refl, ap, _∙_}
 use Rattle.tree.specs.Reads.{freeOf}
 use Rattle.tree.proofs.Symbols.{lies-still}
-use Rattle.tree.proofs.Helpers.{base, low, fitted, enlarged, smaller, both, then-grows}
+use Rattle.tree.proofs.Helpers.{low, fitted}
 use Rattle.tree.proofs.Cases.{default-read, label-default}
 use borrow.Author.Needs.{needs}
+use Rattle.tree.proofs.Rooms.{ready-leaves, ready-takes, leaves-leaves, takes-leaves, item-low}
+use Rattle.tree.proofs.Steps.{pair}
 use Rattle.tree.proofs.parts.default_label.Statement.{statement}
 use Rattle.tree.proofs.parts.default_label.Tie as tie
 
+expect-requires-2 : tie.Need-expect-requires-2
+expect-requires-2 c κs = search needs
+
 node-requires : tie.Need-node-requires
-node-requires c κs =
-    smaller
-    (fitted
-    (enlarged
-    (fitted
-    (c .before .before .before .before .before .before .before .before .before .before .before .before .before .before .before .before .pre)
-    (c .before .before .before .before .before .before .before .before .before .expect .ensures .0) refl (omega arith))
-    (c .before .before .before .before .before .before .before .begin-item .ensures .0)
-    (c .before .before .before .before .before .before .before .begin-item .kept .0) (omega arith) (omega arith))
-    (c .before .expect2 .ensures .0) refl (omega arith)) (omega arith)
+node-requires c κs = ready-leaves (c .before .expect2 .ensures .0) refl refl (expect-requires-2 (c .before .before) κs .0)
 
 set-size-requires : tie.Need-set-size-requires
-set-size-requires c κs = (
-  smaller
-      (enlarged
-      (fitted
-      (enlarged
-      (fitted
-      (c .before .before .before .before .before .before .before .before .before .before .before .before .before .before .before .before .before .before .before .before .pre)
-      (c .before .before .before .before .before .before .before .before .before .before .before .before .before .expect .ensures .0)
-      refl (omega arith))
-      (c .before .before .before .before .before .before .before .before .before .before .before .begin-item .ensures .0)
-      (c .before .before .before .before .before .before .before .before .before .before .before .begin-item .kept .0) (omega arith)
-      (omega arith)) (c .before .before .before .before .before .expect2 .ensures .0) refl (omega arith))
-      (c .before .before .before .node .ensures .0) (c .before .before .before .node .kept .0) (omega arith) (omega arith)) (omega arith),
-  omega (
-    arith,
-    base
-        (c .before .before .before .before .before .before .before .before .before .before .before .before .before .before .before .before .before .before .before .before .pre),
-  ),
-)
+set-size-requires c κs =
+    let after-node = c .before .before .before in let after-begin-item = after-node .before .before .before .before .before .before .before .before in
+    let after-free-of = after-begin-item .before .before .before .before .before .before in let start = after-free-of .before .before .before in
+    pair (ready-takes (after-node .node .ensures .0) (after-node .node .kept .0) (node-requires (after-node .before) κs))
+    (item-low (after-free-of .free-of .ensures) (start .pre))
 
 returns : tie.Need-returns
-returns c = (
-  both
-      (then-grows
-      (both
-      (then-grows
-      (c .before .before .before .before .before .before .before .before .before .before .before .before .before .before .before .before .expect .ensures .0)
-      (c .before .before .before .before .before .before .before .before .before .before .before .before .before .before .begin-item .ensures .0)
-      (omega arith)) (c .before .before .before .before .before .before .before .before .expect2 .ensures .0))
-      (c .before .before .before .before .before .before .node .ensures .0) (omega arith)) (c .before .before .set-size .ensures .0),
-  λ src l kind
-      k q. label-default src _ k q
-      (default-read l _ _
-      (c .before .before .before .before .before .before .before .before .before .before .before .before .before .before .before .before .before .before .before .before .free-of .ensures)
-      (c .before .before .before .before .before .before .before .before .before .before .before .before .before .before .before .before .before .before .place-here .ensures
-      src l)
-      (low
-      (fitted
-      (c .before .before .before .before .before .before .before .before .before .before .before .before .before .before .before .before .before .before .before .before .before .before .before .pre)
-      (c .before .before .before .before .before .before .before .before .before .before .before .before .before .before .before .before .expect .ensures .0)
-      refl (omega arith)))
-      (c .before .before .before .before .before .before .before .before .before .before .free-of2 .ensures ∙ ap
-      (λ (z : ℕ). freeOf z
-      (c .before .before .before .before .before .before .before .before .before .before .before .before .before .before .begin-item .result))
-      (c .before .before .before .before .before .before .before .before .before .before .before .before .before .before .begin-item .kept .0))
-      (c .before .before .before .before .before .before .before .before .before .before .before .before .before .before .before .before .expect .ensures .1
-      src l)
-      (c .before .before .before .before .before .before .before .before .before .before .before .before .before .before .begin-item .ensures .1)
-      (c .before .before .before .before .before .before .before .before .expect2 .ensures .1 src
-      (lies-still l
-      (c .before .before .before .before .before .before .before .before .before .before .before .before .before .before .begin-item .ensures .0 .kept)))
-      (c .before .before .before .before .before .before .node .ensures .1) (c .before .before .set-size .ensures .1)),
-)
+returns c =
+    let after-set-size = c .before .before in let after-node = after-set-size .before .before .before .before in
+    let after-expect2 = after-node .before .before in let after-free-of2 = after-expect2 .before .before in
+    let after-begin-item = after-free-of2 .before .before .before .before in let after-expect = after-begin-item .before .before in
+    let after-place-here = after-expect .before .before in let after-free-of = after-place-here .before .before in
+    let start = after-free-of .before .before .before in
+    pair (leaves-leaves (after-set-size .set-size .ensures .0)
+    (takes-leaves (after-node .node .ensures .0)
+    (leaves-leaves (after-expect2 .expect2 .ensures .0)
+    (takes-leaves (after-begin-item .begin-item .ensures .0) (after-expect .expect .ensures .0)))))
+    (λ src l kind k q. label-default src _ k q (default-read l _ _ (after-free-of .free-of .ensures) (after-place-here .place-here .ensures src l)
+    (low (fitted (start .pre) (after-expect .expect .ensures .0) refl (omega arith)))
+    (after-free-of2 .free-of2 .ensures ∙ ap (λ (z : ℕ). freeOf z (after-begin-item .begin-item .result)) (after-begin-item .begin-item .kept .0))
+    (after-expect .expect .ensures .1 src l) (after-begin-item .begin-item .ensures .1)
+    (after-expect2 .expect2 .ensures .1 src (lies-still l (after-begin-item .begin-item .ensures .0 .kept))) (after-node .node .ensures .1)
+    (after-set-size .set-size .ensures .1)))
 
 pub default-label-spec : {M : Type 1} → statement M
 default-label-spec =
-    tie.close
-    (tie.spec (search needs) (search needs) (search needs) (search needs) (search needs) (search needs) node-requires
-    set-size-requires (search needs) returns)
+    tie.close (tie.spec (search needs) (search needs) (search needs) (search needs) (search needs) expect-requires-2 node-requires set-size-requires
+    (search needs) returns)

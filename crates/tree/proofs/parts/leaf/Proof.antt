@@ -1,19 +1,17 @@
-use Rattle.tree.proofs.Helpers.{then-grows}
-use native.Mathlib.Omega.{arith}
 use Rattle.tree.proofs.Leaves.{leaf-read}
 use borrow.Author.Needs.{needs}
+use Rattle.tree.proofs.Rooms.{takes-leaves}
+use Rattle.tree.proofs.Steps.{pair}
 use Rattle.tree.proofs.parts.leaf.Statement.{statement}
 use Rattle.tree.proofs.parts.leaf.Tie as tie
 
 returns : tie.Need-returns
-returns c = (
-  then-grows (c .before .before .before .before .before .before .expect .ensures .0) (c .before .before .node .ensures .0) (omega arith),
-  λ src
-      l. leaf-read l _ (c .before .before .before .before .before .before .before .before .place-here .ensures src l)
-      (c .before .before .before .before .before .before .before .before .before .before .before .pre .1)
-      (c .before .before .before .before .before .before .expect .ensures .1 src l) (c .before .before .before .before .free-of .ensures)
-      (c .before .before .node .ensures .1),
-)
+returns c =
+    let after-node = c .before .before in let after-free-of = after-node .before .before in let after-expect = after-free-of .before .before in
+    let after-place-here = after-expect .before .before in let start = after-place-here .before .before .before in
+    pair (takes-leaves (after-node .node .ensures .0) (after-expect .expect .ensures .0))
+    (λ src l. leaf-read l _ (after-place-here .place-here .ensures src l) (start .pre .1) (after-expect .expect .ensures .1 src l)
+    (after-free-of .free-of .ensures) (after-node .node .ensures .1))
 
 pub leaf-spec : {M : Type 1} → statement M
 leaf-spec = tie.close (tie.spec (search needs) (search needs) (search needs) (search needs) (search needs) returns)

@@ -3,8 +3,7 @@ use borrow.Author.Needs.{needs}
 use Rattle.tree.proofs.parts.leave.Statement.{statement}
 use Rattle.tree.proofs.parts.leave.Tie as tie
 
-returns : tie.Need-returns
-returns c = (c .before .before .leaf .ensures .0, λ src l k. leave-read k (c .before .before .leaf .ensures .1 src l))
-
 pub leave-spec : {M : Type 1} → statement M
-leave-spec = tie.close (tie.spec (search needs) (search needs) returns)
+leave-spec =
+    tie.close (tie.spec (search needs) (search needs)
+    (λ c. (c .before .before .leaf .ensures .0, λ src l k. leave-read k (c .before .before .leaf .ensures .1 src l))))

@@ -1,22 +1,20 @@
-use native.Mathlib.Omega.{arith}
-use Rattle.tree.proofs.Helpers.{weaker, both, itself}
 use Rattle.tree.proofs.Names.{by-read, no-by}
 use borrow.Author.Needs.{needs}
+use Rattle.tree.proofs.Rooms.{leaves-less, leaves-leaves, leaves-all}
+use Rattle.tree.proofs.Steps.{pair}
+use mathlib.Core.Path.{refl}
 use Rattle.tree.proofs.parts.optional_by.Statement.{statement}
 use Rattle.tree.proofs.parts.optional_by.Tie as tie
 
 returns : tie.Need-returns
-returns c = (
-  weaker (omega arith) (both (c .before .before .before .before .expect .ensures .0) (c .before .before .constant .ensures .0)),
-  λ src l.
-      by-read src _ (c .before .before .before .before .before .before .before .kind-here .ensures src l)
-      (c .before .before .before .before .before .before .if1 .taken) (c .before .before .before .before .expect .ensures .1 src l)
-      (c .before .before .constant .ensures .1 src l),
-)
-
-returns-2 : tie.Need-returns-2
-returns-2 c = (search itself, λ src l. no-by src _ (c .before .kind-here .ensures src l) (c .if1 .left))
+returns c =
+    let after-constant = c .before .before in let after-expect = after-constant .before .before in let after-if1 = after-expect .before .before in
+    let after-kind-here = after-if1 .before in
+    pair (leaves-leaves (after-constant .constant .ensures .0) (leaves-less (after-expect .expect .ensures .0) refl))
+    (λ src l. by-read src _ (after-kind-here .kind-here .ensures src l) (after-if1 .if1 .taken) (after-expect .expect .ensures .1 src l)
+    (after-constant .constant .ensures .1 src l))
 
 pub optional-by-spec : {M : Type 1} → statement M
 optional-by-spec =
-    tie.close (tie.spec (search needs) (search needs) (search needs) (search needs) returns (search needs) returns-2)
+    tie.close (tie.spec (search needs) (search needs) (search needs) (search needs) returns (search needs)
+    (λ c. (leaves-all (c .before .before .before .before .pre), λ src l. no-by src _ (c .before .kind-here .ensures src l) (c .if1 .left))))

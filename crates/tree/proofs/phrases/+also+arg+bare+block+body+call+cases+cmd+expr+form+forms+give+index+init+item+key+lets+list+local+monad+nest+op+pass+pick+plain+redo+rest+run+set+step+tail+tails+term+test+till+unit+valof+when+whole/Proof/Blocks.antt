@@ -18,7 +18,7 @@ use Rattle.tree.proofs.Loops.{SoFar, before-first, before-next, before-
 use Rattle.tree.proofs.Loops.{list-spents, list-ends, list-semicolon-ends, list-goes-on}
 use Rattle.tree.proofs.Rooms.{leaves-less, takes-more, takes-none, ready-leaves, ready-takes, leaves-leaves, takes-leaves, leaves-takes}
 use Rattle.tree.proofs.Rooms.{takes-takes, ready-part, item-low, size-small}
-use Rattle.tree.proofs.Steps.{goes-on, adds-on, _then_}
+use Rattle.tree.proofs.Steps.{pair, goes-on, adds-on, _then_}
 use Rattle.tree.proofs.Symbols.{lies-still}
 use Rattle.tree.specs.Encoding.{encodeCommands, encodeLocals}
 use Rattle.tree.specs.Reads.{freeOf}
@@ -41,8 +41,8 @@ use proofs.parts.optional_by.Reads as optional-by
 use proofs.scratch.refuse.Reads as refuse
 use proofs.scratch.set_size.Reads as set-size
 use proofs.parts.vector.Reads as vector
-use cycle.Proof.Ranks.{at, below, pair, claims-4, claims-6, claims-7, claims-8, claims-9, arg-rank, block-rank, cmd-rank, expr-rank, init-rank}
-use cycle.Proof.Ranks.{item-rank, lets-rank, list-rank, local-rank, pick-rank, rest-rank, step-rank, till-rank}
+use cycle.Proof.Ranks.{at, below, claims-4, claims-6, claims-7, claims-8, claims-9, arg-rank, block-rank, cmd-rank, expr-rank, init-rank, item-rank}
+use cycle.Proof.Ranks.{lets-rank, list-rank, local-rank, pick-rank, rest-rank, step-rank, till-rank}
 
 abbrev step-cs : ℕ → cycle.Lts-step.Claims
 step-cs t =

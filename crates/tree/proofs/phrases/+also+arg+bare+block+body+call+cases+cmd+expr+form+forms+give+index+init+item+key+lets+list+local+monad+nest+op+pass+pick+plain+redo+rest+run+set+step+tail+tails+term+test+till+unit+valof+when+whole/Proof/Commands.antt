@@ -18,7 +18,7 @@ use Rattle.tree.proofs.Helpers.{low, fitted}
 use Rattle.tree.proofs.Lists.{Before}
 use Rattle.tree.proofs.Loops.{SoFar, before-first, before-next, before-last, wordless, so-begins, many-turns, many-ends, many-spent}
 use Rattle.tree.proofs.Rooms.{leaves-less, ready-leaves, ready-takes, leaves-leaves, takes-leaves, ready-part, item-low, size-small}
-use Rattle.tree.proofs.Steps.{goes-on, adds-on, refuses-on, _then_}
+use Rattle.tree.proofs.Steps.{pair, goes-on, adds-on, refuses-on, _then_}
 use Rattle.tree.proofs.Symbols.{lies-still}
 use Rattle.tree.specs.Encoding.{encodeRepeats}
 use Rattle.tree.specs.Reads.{freeOf}
@@ -44,7 +44,7 @@ use proofs.scratch.node.Reads as node
 use proofs.scratch.place_here.Reads as place-here
 use proofs.scratch.refuse.Reads as refuse
 use proofs.scratch.set_size.Reads as set-size
-use cycle.Proof.Ranks.{at, below, pair, claims-11, claims-4, claims-5, claims-6, claims-7, claims-8, also-rank, arg-rank, bare-rank, block-rank}
+use cycle.Proof.Ranks.{at, below, claims-11, claims-4, claims-5, claims-6, claims-7, claims-8, also-rank, arg-rank, bare-rank, block-rank}
 use cycle.Proof.Ranks.{body-rank, cases-rank, cmd-rank, expr-rank, form-rank, forms-rank, give-rank, pick-rank, plain-rank, redo-rank, rest-rank}
 use cycle.Proof.Ranks.{set-rank, step-rank, test-rank, when-rank}
 

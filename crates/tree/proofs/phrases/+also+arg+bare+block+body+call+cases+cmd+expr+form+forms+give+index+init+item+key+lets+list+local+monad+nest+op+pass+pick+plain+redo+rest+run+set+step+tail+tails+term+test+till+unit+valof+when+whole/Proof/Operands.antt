@@ -22,7 +22,7 @@ use Rattle.tree.proofs.Readers.{bracketed-read, valof-read, argument-re
 use Rattle.tree.proofs.Readers.{further-reads}
 use Rattle.tree.proofs.Rooms.{leaves-less, ready-leaves, ready-takes, leaves-leaves, takes-leaves, leaves-after, leaves-takes, ready-part}
 use Rattle.tree.proofs.Rooms.{item-low, size-small}
-use Rattle.tree.proofs.Steps.{again}
+use Rattle.tree.proofs.Steps.{pair, again}
 use Rattle.tree.proofs.Symbols.{lies-still}
 use Rattle.tree.specs.Between.{aFurther}
 use Rattle.tree.specs.Encoding.{encodeExpressions}
@@ -46,7 +46,7 @@ use proofs.scratch.place_of.Reads as place-of
 use proofs.scratch.refuse.Reads as refuse
 use proofs.scratch.set_size.Reads as set-size
 use proofs.scratch.suffixed_kind.Reads as suffixed-kind
-use cycle.Proof.Ranks.{at, below, pair, claims-10, claims-4, claims-5, claims-6, also-rank, arg-rank, call-rank, cmd-rank, expr-rank, index-rank}
+use cycle.Proof.Ranks.{at, below, claims-10, claims-4, claims-5, claims-6, also-rank, arg-rank, call-rank, cmd-rank, expr-rank, index-rank}
 use cycle.Proof.Ranks.{key-rank, monad-rank, nest-rank, pass-rank, rest-rank, tail-rank, tails-rank, unit-rank, valof-rank, whole-rank}
 
 abbrev whole-cs : ℕ → cycle.Lts-whole.Claims

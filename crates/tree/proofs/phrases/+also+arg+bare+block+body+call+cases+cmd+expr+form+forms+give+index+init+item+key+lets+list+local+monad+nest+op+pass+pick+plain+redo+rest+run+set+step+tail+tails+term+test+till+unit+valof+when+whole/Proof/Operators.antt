@@ -16,6 +16,7 @@ use Rattle.tree.proofs.Lists.{Before}
 use Rattle.tree.proofs.Loops.{SoFar, before-first, before-next, before-last, wordless, so-begins, many-turns, many-ends, many-spent}
 use Rattle.tree.proofs.Readers.{monadic-read, operation-read}
 use Rattle.tree.proofs.Rooms.{leaves-less, ready-leaves, ready-takes, leaves-leaves, takes-leaves, item-low, size-small}
+use Rattle.tree.proofs.Steps.{pair, triple}
 use Rattle.tree.proofs.Symbols.{lies-still}
 use Rattle.tree.specs.Encoding.{encodeOperations}
 use Rattle.tree.specs.Reads.{freeOf}
@@ -39,8 +40,7 @@ use proofs.binding.reach_of.Reads as reach-of
 use proofs.scratch.refuse.Reads as refuse
 use proofs.binding.right_of.Reads as right-of
 use proofs.scratch.set_size.Reads as set-size
-use cycle.Proof.Ranks.{at, below, pair, three, claims-12, claims-4, claims-5, claims-7, expr-rank, monad-rank, op-rank, run-rank, term-rank}
-use cycle.Proof.Ranks.{whole-rank}
+use cycle.Proof.Ranks.{at, below, claims-12, claims-4, claims-5, claims-7, expr-rank, monad-rank, op-rank, run-rank, term-rank, whole-rank}
 
 abbrev expr-cs : ℕ → cycle.Lts-expr.Claims
 expr-cs t =
@@ -100,7 +100,7 @@ expr-op-requires t c κs =
     let after-if4 = c .before .before .before .before .before .before .before in let after-binding-of = after-if4 .before in
     let after-if1 = after-binding-of .before .before .before .before .before .before .before .before .before .before in
     let start = after-if1 .before .before in
-    pair (omega (arith, start .pre .0)) (three (expr-place-of-requires t (c .before .before .before) κs) (omega arith)
+    pair (omega (arith, start .pre .0)) (triple (expr-place-of-requires t (c .before .before .before) κs) (omega arith)
     (binding-positive _ (omega (arith, after-binding-of .binding-of .ensures, after-if4 .if4 .left, after-if1 .if1 .left))))
 
 expr-run-requires : (t : ℕ) → cycle.Lts-expr.Need-run-requires (expr-cs t) (at expr-rank t) phrases.expr.Reads.Post
@@ -108,7 +108,7 @@ expr-run-requires t c κs =
     let after-op = c .before .before .before in
     let after-kind-here2 = after-op .before .before .before .before .before .before .before .before .before .before in
     let start = after-kind-here2 .before .before .before .before .before .before .before .before .before .before .before in
-    pair (omega (arith, start .pre .0)) (three
+    pair (omega (arith, start .pre .0)) (triple
     (ready-leaves (after-op .op .ensures .0) (after-op .op .kept .0) refl (expr-op-requires t (after-op .before) κs .1 .0)) (omega arith)
     (omega arith))
 
@@ -231,7 +231,7 @@ run-op-requires : (t : ℕ) → cycle.Lts-run.Need-op-requires (run-cs t) (at ru
 run-op-requires t c κs =
     let after-if1 = c .before in let after-binding-of = after-if1 .before in
     let start = after-binding-of .before .before .before .before .before .before .before in
-    pair (omega arith) (three (run-kind-here-requires t (after-binding-of .before .before) κs) (omega arith)
+    pair (omega arith) (triple (run-kind-here-requires t (after-binding-of .before .before) κs) (omega arith)
     (binding-positive _ (omega (arith, after-binding-of .binding-of .ensures, after-if1 .if1 .left, start .pre .1))))
 
 run-loop-again : (t : ℕ) → cycle.Lts-run.Need-loop-again (run-cs t) (at run-rank t) phrases.run.Reads.Post run-inv run-turns

@@ -22,16 +22,6 @@ module _ (m : Member) (t : ℕ) where
   abbrev pub below : In 1 (m .ps)
   below = and 1 (m .ps) (falls 1 (m .ps) _<_ (m .measure) t) (m .pre)
 
--- two facts, three and four
-abbrev pub pair : {A B : Type 0} → A → B → A × B
-pair a b = (a, b)
-
-abbrev pub three : {A B C : Type 0} → A → B → C → A × B × C
-three a b c = (a, b, c)
-
-abbrev pub four : {A B C D : Type 0} → A → B → C → D → A × B × C × D
-four a b c d = (a, b, c, d)
-
 -- what a member of so many callees asks of them and learns, as a tuple that may stand on several lines
 module _ {A B C D E F G H : Type 1} where
   abbrev pub claims-4 : A → B → C → D → E → F → G → H → A × B × C × D × E × F × G × H
