@@ -81,6 +81,9 @@ lowBy n size (Refused k p) h = omega arith
 pub low : {m n : ℕ} {s : List ℕ} {r : State} → Ready m s n r → freeOf (length s) r ≤ length s
 low {m} {n} {s} {r} h = lowBy n (length s) r (omega (arith, h .room))
 
+pub low-past : {m k n : ℕ} {s : List ℕ} {r r′ : State} → Ready m s n r → LeavesRoom k s s n r r′ → freeOf (length s) r′ ≤ length s
+low-past {m} {k} {n} {s} {r} {r′} h f = lowBy n (length s) r′ (omega (arith, h .room, f .leaves))
+
 baseBy : (n size : ℕ) (r : State) → n * 3 ≤ lowOf n r → n * 3 ≤ size → n * 3 ≤ freeOf size r
 unfolding freeOf lowOf
 baseBy n size (Read at free) h l = h
@@ -139,11 +142,6 @@ refuses-read e = record { by = rw e refl }
 pub refuses-refused : {number k p : ℕ} {r : State} → r ≡ Refused k p → Refuses number r (Refused k p)
 refuses-refused e = record { by = rw e refl }
 
-liveBy : (r : State) → live r ≤ 1
-unfolding live
-liveBy (Read at free) = omega arith
-liveBy (Refused k p) = omega arith
-
 deadBy : (n : ℕ) (r : State) → reach n r < 2 ^ 32 → reach n r ≤ live r * 2 ^ 32
 unfolding live reach
 deadBy n (Read at free) h = omega arith
@@ -169,171 +167,6 @@ module _ {s : List ℕ} {n : ℕ} {r : State} {lo : ℕ} (h : Ready 0 s n r) (l 
 pub sealed-refused : {lo : ℕ} {s s′ : List ℕ} {r : State} {k p : ℕ} → r ≡ Refused k p → Seals lo s s′ r
 sealed-refused e = record { by = rw e tt }
 
-pub alive : (r : State) → live r ≤ 1
-alive r = liveBy r
-
-pub weaker : {j k : ℕ} {s s′ : List ℕ} {n : ℕ} {r r′ : State} → k ≤ j → LeavesRoom j s s′ n r r′ → LeavesRoom k s s′ n r r′
-weaker {j} {k} {n = n} {r = r} {r′} h f =
-    record { placed = f .placed; above = f .above; leaves = lessBy (live r′) (alive r′) (f .leaves); lives = f .lives; dead = f .dead; kept = f .kept }
-  where
-    lessBy : (x : ℕ) → x ≤ 1 → reach n r′ + x * j ≤ reach n r → reach n r′ + x * k ≤ reach n r
-    lessBy zero l g = omega arith
-    lessBy (suc zero) l g = omega arith
-    lessBy (suc (suc x)) l g = absurd (omega arith)
-
--- what two calls leave together, and what the next may ask
-add-both : (a b c x y j k : ℕ) → x ≤ 1 → y ≤ 1 → y ≤ x → b + x * j ≤ a → c + y * k ≤ b → c + y * (j + k) ≤ a
-add-both a b c x zero j k h h′ l f g = omega arith
-add-both a b c zero (suc y) j k h h′ l f g = absurd (omega arith)
-add-both a b c (suc zero) (suc zero) j k h h′ l f g = omega arith
-add-both a b c (suc zero) (suc (suc y)) j k h h′ l f g = absurd (omega arith)
-add-both a b c (suc (suc x)) (suc y) j k h h′ l f g = absurd (omega arith)
-
-grow-both : (a b c x y j m : ℕ) → x ≤ 1 → y ≤ 1 → y ≤ x → m ≤ j → b + x * j ≤ a → c ≤ b + y * m → c + y * (j - m) ≤ a
-grow-both a b c x zero j m h h′ l q f g = omega arith
-grow-both a b c zero (suc y) j m h h′ l q f g = absurd (omega arith)
-grow-both a b c (suc zero) (suc zero) j m h h′ l q f g = omega arith
-grow-both a b c (suc zero) (suc (suc y)) j m h h′ l q f g = absurd (omega arith)
-grow-both a b c (suc (suc x)) (suc y) j m h h′ l q f g = absurd (omega arith)
-
-room-both : (a b x k m L : ℕ) → x ≤ 1 → b + x * k ≤ a → b ≤ x * 2 ^ 32 → a + m ≤ L → m + k ≤ 64 → 64 ≤ L → b + (m + k) ≤ L
-room-both a b zero k m L h f d r q w = omega arith
-room-both a b (suc zero) k m L h f d r q w = omega arith
-room-both a b (suc (suc x)) k m L h f d r q w = absurd (omega arith)
-
-room-more : (a b x k m L : ℕ) → x ≤ 1 → b ≤ a + x * k → b ≤ x * 2 ^ 32 → a + m ≤ L → k ≤ m → m ≤ 64 → 64 ≤ L → b + (m - k) ≤ L
-room-more a b zero k m L h f d r p q w = omega arith
-room-more a b (suc zero) k m L h f d r p q w = omega arith
-room-more a b (suc (suc x)) k m L h f d r p q w = absurd (omega arith)
-
-module _ {s s′ : List ℕ} {n : ℕ} {r r′ : State} where
-  pub fitted : {m k : ℕ} → Ready m s n r → LeavesRoom k s s′ n r r′ → length s′ ≡ length s → m + k ≤ 64 → Ready (m + k) s′ n r′
-  fitted {m} {k} h f e q =
-      record {
-        placed = f .placed;
-        above = f .above;
-        room = omega (arith, e, room-both (reach n r) (reach n r′) (live r′) k m (length s) (alive r′) (f .leaves) (f .dead) (h .room) q (omega (arith, h .wide)));
-        wide = omega (arith, e, h .wide);
-        small = omega (arith, e, h .small);
-      }
-
-  pub enlarged : {m k : ℕ} → Ready m s n r → TakesRoom k s s′ n r r′ → length s′ ≡ length s → k ≤ m → m ≤ 64 → Ready (m - k) s′ n r′
-  enlarged {m} {k} h f e p q =
-      record {
-        placed = f .placed;
-        above = f .above;
-        room = omega (arith, e, room-more (reach n r) (reach n r′) (live r′) k m (length s) (alive r′) (f .more) (f .dead) (h .room) p q (omega (arith, h .wide)));
-        wide = omega (arith, e, h .wide);
-        small = omega (arith, e, h .small);
-      }
-
-  module _ {s″ : List ℕ} {r″ : State} where
-    pub both : {j k : ℕ} → LeavesRoom j s s′ n r r′ → LeavesRoom k s′ s″ n r′ r″ → LeavesRoom (j + k) s s″ n r r″
-    both {j} {k} f g =
-        record {
-          placed = g .placed;
-          above = g .above;
-          leaves = add-both (reach n r) (reach n r′) (reach n r″) (live r′) (live r″) j k (alive r′) (alive r″) (g .lives) (f .leaves) (g .leaves);
-          lives = omega (arith, f .lives, g .lives);
-          dead = g .dead;
-          kept = g .kept ∙ f .kept;
-        }
-
-    pub then-grows : {j m : ℕ} → LeavesRoom j s s′ n r r′ → TakesRoom m s′ s″ n r′ r″ → m ≤ j → LeavesRoom (j - m) s s″ n r r″
-    then-grows {j} {m} f g q =
-        record {
-          placed = g .placed;
-          above = g .above;
-          leaves = grow-both (reach n r) (reach n r′) (reach n r″) (live r′) (live r″) j m (alive r′) (alive r″) (g .lives) q (f .leaves) (g .more);
-          lives = omega (arith, f .lives, g .lives);
-          dead = g .dead;
-          kept = g .kept ∙ f .kept;
-        }
-
-pub smaller : {m k : ℕ} {s : List ℕ} {n : ℕ} {r : State} → Ready m s n r → k ≤ m → Ready k s n r
-smaller h q = record { placed = h .placed; above = h .above; room = omega (arith, h .room); wide = h .wide; small = h .small }
-
 pub itself : {m : ℕ} {s : List ℕ} {n : ℕ} {r : State} → Ready m s n r → LeavesRoom 0 s s n r r
 itself {m} {s} {n} {r} h =
     record { placed = h .placed; above = h .above; leaves = omega arith; lives = omega arith; dead = deadBy n r (omega (arith, h .room, h .small)); kept = refl }
-
-grow-minus : (a b c x y k m : ℕ) → x ≤ 1 → y ≤ 1 → y ≤ x → k ≤ m → b ≤ a + x * m → c + y * k ≤ b → c ≤ y * 2 ^ 32 → c ≤ a + y * (m - k)
-grow-minus a b c x zero k m h h′ l q f g d = omega arith
-grow-minus a b c zero (suc y) k m h h′ l q f g d = absurd (omega arith)
-grow-minus a b c (suc zero) (suc zero) k m h h′ l q f g d = omega arith
-grow-minus a b c (suc zero) (suc (suc y)) k m h h′ l q f g d = absurd (omega arith)
-grow-minus a b c (suc (suc x)) (suc y) k m h h′ l q f g d = absurd (omega arith)
-
-minus-more : (a b c x y k m : ℕ) → x ≤ 1 → y ≤ 1 → y ≤ x → m ≤ k → b ≤ a + x * m → c + y * k ≤ b → c ≤ y * 2 ^ 32 → c + y * (k - m) ≤ a
-minus-more a b c x zero k m h h′ l q f g d = omega arith
-minus-more a b c zero (suc y) k m h h′ l q f g d = absurd (omega arith)
-minus-more a b c (suc zero) (suc zero) k m h h′ l q f g d = omega arith
-minus-more a b c (suc zero) (suc (suc y)) k m h h′ l q f g d = absurd (omega arith)
-minus-more a b c (suc (suc x)) (suc y) k m h h′ l q f g d = absurd (omega arith)
-
-module _ {s s′ s″ : List ℕ} {n : ℕ} {r r′ r″ : State} where
-  pub grows-then : {m k : ℕ} → TakesRoom m s s′ n r r′ → LeavesRoom k s′ s″ n r′ r″ → k ≤ m → TakesRoom (m - k) s s″ n r r″
-  grows-then {m} {k} f g q =
-      record {
-        placed = g .placed;
-        above = g .above;
-        more = grow-minus (reach n r) (reach n r′) (reach n r″) (live r′) (live r″) k m (alive r′) (alive r″) (g .lives) q (f .more) (g .leaves) (g .dead);
-        lives = omega (arith, f .lives, g .lives);
-        dead = g .dead;
-        kept = g .kept ∙ f .kept;
-      }
-
-  pub grows-fits : {m k : ℕ} → TakesRoom m s s′ n r r′ → LeavesRoom k s′ s″ n r′ r″ → m ≤ k → LeavesRoom (k - m) s s″ n r r″
-  grows-fits {m} {k} f g q =
-      record {
-        placed = g .placed;
-        above = g .above;
-        leaves = minus-more (reach n r) (reach n r′) (reach n r″) (live r′) (live r″) k m (alive r′) (alive r″) (g .lives) q (f .more) (g .leaves) (g .dead);
-        lives = omega (arith, f .lives, g .lives);
-        dead = g .dead;
-        kept = g .kept ∙ f .kept;
-      }
-
-minus-grow : (a b c x y j m : ℕ) → x ≤ 1 → y ≤ 1 → y ≤ x → j ≤ m → b + x * j ≤ a → c ≤ b + y * m → c ≤ y * 2 ^ 32 → c ≤ a + y * (m - j)
-minus-grow a b c x zero j m h h′ l q f g d = omega arith
-minus-grow a b c zero (suc y) j m h h′ l q f g d = absurd (omega arith)
-minus-grow a b c (suc zero) (suc zero) j m h h′ l q f g d = omega arith
-minus-grow a b c (suc zero) (suc (suc y)) j m h h′ l q f g d = absurd (omega arith)
-minus-grow a b c (suc (suc x)) (suc y) j m h h′ l q f g d = absurd (omega arith)
-
-pub fits-grows : {s s′ s″ : List ℕ} {n : ℕ} {r r′ r″ : State} {j m : ℕ} → LeavesRoom j s s′ n r r′ → TakesRoom m s′ s″ n r′ r″ → j ≤ m → TakesRoom (m - j) s s″ n r r″
-fits-grows {n = n} {r} {r′} {r″} {j} {m} f g q =
-    record {
-      placed = g .placed;
-      above = g .above;
-      more = minus-grow (reach n r) (reach n r′) (reach n r″) (live r′) (live r″) j m (alive r′) (alive r″) (g .lives) q (f .leaves) (g .more) (g .dead);
-      lives = omega (arith, f .lives, g .lives);
-      dead = g .dead;
-      kept = g .kept ∙ f .kept;
-    }
-
--- what is read leaves room for what is written
-minus-then : (a b p q : ℕ) → b + p ≤ a → b ≤ a + q
-minus-then a b p q h = omega arith
-
-pub as-grows : {s s′ : List ℕ} {n : ℕ} {r r′ : State} {k m : ℕ} → LeavesRoom k s s′ n r r′ → TakesRoom m s s′ n r r′
-as-grows {n = n} {r} {r′} {k} {m} f =
-    record { placed = f .placed; above = f .above; more = minus-then (reach n r) (reach n r′) (live r′ * k) (live r′ * m) (f .leaves); lives = f .lives; dead = f .dead; kept = f .kept }
-
-more-more : (a b c x y j m : ℕ) → x ≤ 1 → y ≤ 1 → y ≤ x → b ≤ a + x * j → c ≤ b + y * m → c ≤ y * 2 ^ 32 → c ≤ a + y * (j + m)
-more-more a b c x zero j m h h′ l f g d = omega arith
-more-more a b c zero (suc y) j m h h′ l f g d = absurd (omega arith)
-more-more a b c (suc zero) (suc zero) j m h h′ l f g d = omega arith
-more-more a b c (suc zero) (suc (suc y)) j m h h′ l f g d = absurd (omega arith)
-more-more a b c (suc (suc x)) (suc y) j m h h′ l f g d = absurd (omega arith)
-
-pub grows-more : {s s′ s″ : List ℕ} {n : ℕ} {r r′ r″ : State} {j m : ℕ} → TakesRoom j s s′ n r r′ → TakesRoom m s′ s″ n r′ r″ → TakesRoom (j + m) s s″ n r r″
-grows-more {n = n} {r} {r′} {r″} {j} {m} f g =
-    record {
-      placed = g .placed;
-      above = g .above;
-      more = more-more (reach n r) (reach n r′) (reach n r″) (live r′) (live r″) j m (alive r′) (alive r″) (g .lives) (f .more) (g .more) (g .dead);
-      lives = omega (arith, f .lives, g .lives);
-      dead = g .dead;
-      kept = g .kept ∙ f .kept;
-    }

@@ -1,5 +1,5 @@
 -- Names, one and after commas, and what may be left out: a symbol, and BY with its constant.
-use Prim.Native.Nat.{ℕ, _+_}
+use Prim.Native.Nat.{ℕ}
 use mathlib.Core.Path.{_≡_, refl, sym, ap, _∙_}
 use mathlib.Core.Bool.{Bool, true, false, cond}
 use mathlib.Core.List.{List, []}
@@ -12,11 +12,11 @@ use Rattle.language.specs.Reader.{Source, Out, ok, no, onOut, kindAt, valueAt, 
 use Rattle.language.specs.Expressions as E
 use Rattle.language.specs.Commands as C
 use Rattle.language.specs.Grammar.{within, readers}
-use Rattle.tree.specs.Reads.{HoldsSymbols, Here, KindHere, Prepends, Reads, Encodes, Reading}
+use Rattle.tree.specs.Reads.{HoldsSymbols, Here, KindHere, Prepends, Reads, Encodes, Reading, Ready}
 use Rattle.tree.specs.Between.{aFurtherName}
 use Rattle.tree.specs.Encoding.{leaf, encodeName, encodeNames, encodeConstant, encodeBy}
-use Rattle.tree.proofs.Choices.{Expects}
-use Rattle.tree.proofs.Rooms.{leaves-last}
+use Rattle.tree.proofs.Choices.{KindsHere, Expects, picked}
+use Rattle.tree.proofs.Rooms.{leaves-all, leaves-less, leaves-last}
 use Rattle.tree.proofs.Steps.{bind, here, goes-on, nothing}
 use Rattle.tree.proofs.Symbols.{mapped, the-is, stays}
 use Rattle.tree.proofs.Leaves.{name-at, nameOf}
@@ -47,19 +47,19 @@ unfolding encodeNames
 no-name-words = refl
 
 -- a symbol, if it stands here
-module _ (src : Source) (kind : ℕ) {s : List ℕ} {r : State} {x : ℕ} (k : KindHere src r x) where
-  pub optional-here : {r′ : State} → x ≡ kind → Reads (the kind src) (λ _. []) s s r r′ → Reads (optional kind src) (λ _. []) s s r r′
+module _ (kind : ℕ) {s : List ℕ} {n : ℕ} {r : State} {x : ℕ} (kinds : KindsHere s n r x) where
+  pub optional-here : {r′ : State} → x ≡ kind → Expects kind s n r r′ → Reading 0 (optional kind) (Encodes (λ _. [])) s s n r r′
   unfolding optional
   optional-here q d =
-      here _ (λ at free e. let y : kindAt src at ≡ kind = sym (k .here at free e) ∙ q in
-      ap (λ (b : Bool). cond b (ok true (at + 1)) (ok false at)) (eq-eqb (kindAt src at) kind y) ∙ sym (ap (λ (o : Out ℕ). onOut o (λ _ m. ok true m)) (the-is src kind at y)))
-      (mapped (λ _. true) (λ _. refl) d)
+      picked kinds (λ src at. onOut (the kind src at) (λ _ m. ok true m))
+      (λ src at h. rw (eq-eqb (kindAt src at) kind (h ∙ q)) (sym (ap (λ (o : Out ℕ). onOut o (λ _ m. ok true m)) (the-is src kind at (h ∙ q)))))
+      (leaves-less (d .0) refl, λ src l. mapped (λ _. true) (λ _. refl) (d .1 src l))
 
-  pub optional-not : (x ≡ kind → ⊥) → Reads (optional kind src) (λ _. []) s s r r
+  pub optional-not : (x ≡ kind → ⊥) → Ready 0 s n r → Reading 0 (optional kind) (Encodes (λ _. [])) s s n r r
   unfolding optional
-  optional-not q =
-      here (λ m. ok false m) (λ at free e. ap (λ (b : Bool). cond b (ok true (at + 1)) (ok false at)) (ne-eqb (kindAt src at) kind (λ y. q (k .here at free e ∙ y))))
-      (nothing (record { same = refl }))
+  optional-not q p =
+      picked kinds (λ _ m. ok false m) (λ src at h. rw (ne-eqb (kindAt src at) kind (λ y. q (sym h ∙ y))))
+      (leaves-all p, λ src l. nothing (record { same = refl }))
 
 -- BY and a constant, if BY stands here
 module _ (src : Source) (x : ℕ) {s : List ℕ} {r : State} {kind : ℕ} (k : KindHere src r kind) where

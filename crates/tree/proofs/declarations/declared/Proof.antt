@@ -1,6 +1,5 @@
 use mathlib.Core.Path.{refl}
-use native.Mathlib.Omega.{arith}
-use Rattle.tree.proofs.Helpers.{fitted, low}
+use Rattle.tree.proofs.Helpers.{low-past}
 use Rattle.tree.proofs.Symbols.{lies-still}
 use Rattle.tree.proofs.Programs.{declared-read}
 use borrow.Author.Needs.{needs}
@@ -31,7 +30,7 @@ returns c =
     (takes-leaves (after-begin-item .begin-item .ensures .0) (after-expect .expect .ensures .0)))))
     (λ src l k h. (let l₁ = lies-still l (after-begin-item .begin-item .ensures .0 .kept) in let l₃ = lies-still
     (lies-still l₁ (after-declaration .declaration .ensures .0 .kept)) (after-set-size .set-size .ensures .0 .kept) in declared-read src _ k h
-    (after-free-of .free-of .ensures) (low (fitted (start .pre .0) (after-expect .expect .ensures .0) refl (omega arith)))
+    (after-free-of .free-of .ensures) (low-past (start .pre .0) (after-expect .expect .ensures .0))
     (after-expect .expect .ensures .1 src l) (after-begin-item .begin-item .ensures .1) (after-declaration .declaration .ensures .1 src l₁ h)
     (after-set-size .set-size .ensures .1) (c .optional .ensures .1 src l₃)))
 

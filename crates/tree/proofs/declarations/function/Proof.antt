@@ -1,12 +1,12 @@
 use native.Mathlib.Omega.{arith}
 use Prim.Native.Nat.{ℕ}
 use mathlib.Core.Path.{refl, ap, _∙_}
-use Rattle.tree.proofs.Helpers.{fitted, enlarged, low}
+use Rattle.tree.proofs.Helpers.{low}
 use Rattle.tree.proofs.Symbols.{lies-still}
 use Rattle.tree.specs.Reads.{freeOf}
 use Rattle.tree.proofs.Programs.{function-here}
 use borrow.Author.Needs.{needs}
-use Rattle.tree.proofs.Rooms.{takes-more, ready-leaves, ready-takes, leaves-leaves, leaves-after, leaves-takes, ready-part, item-low}
+use Rattle.tree.proofs.Rooms.{size-small, takes-more, ready-leaves, ready-takes, leaves-leaves, leaves-after, leaves-takes, ready-part, item-low}
 use Rattle.tree.proofs.Steps.{pair}
 use Rattle.tree.proofs.declarations.function.Statement.{statement}
 use Rattle.tree.proofs.declarations.function.Tie as tie
@@ -27,14 +27,13 @@ parameters-requires c κs = ready-leaves (c .before .expect .ensures .0) refl re
 cast-function-body : tie.Need-cast-function-body
 cast-function-body c =
     let after-minus = c .before in let after-free-of3 = after-minus .before .before .before in
-    let after-parameters = after-free-of3 .before .before .before .before in let after-expect = after-parameters .before .before in
-    let after-a-name = after-expect .before .before .before .before in
-    let after-begin-item = after-a-name .before .before .before .before .before .before in
-    let start = after-begin-item .before .before .before .before .before in
-    (let h = fitted (fitted (fitted (enlarged (start .pre) (after-begin-item .begin-item .ensures .0) (after-begin-item .begin-item .kept .0)
-    (omega arith) (omega arith)) (after-a-name .a-name .ensures .0) (after-a-name .a-name .kept .0) (omega arith)) (after-expect .expect .ensures .0)
-    refl (omega arith)) (after-parameters .parameters .ensures .0) (after-parameters .parameters .kept .0) (omega arith) in omega
-    (arith, after-minus .minus .ensures, after-free-of3 .free-of3 .ensures, low h, h .small))
+    let after-parameters = after-free-of3 .before .before .before .before in
+    let after-a-name = after-parameters .before .before .before .before .before .before in
+    let start = after-a-name .before .before .before .before .before .before .before .before .before .before .before in
+    let small = size-small _ (after-minus .minus .ensures) (after-free-of3 .free-of3 .ensures)
+    (ready-leaves (after-parameters .parameters .ensures .0) (after-parameters .parameters .kept .0) refl
+    (parameters-requires (after-parameters .before) (start .κs))) in
+    omega arith
 
 function-body-requires : tie.Need-function-body-requires
 function-body-requires c κs =

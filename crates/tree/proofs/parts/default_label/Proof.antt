@@ -1,9 +1,8 @@
-use native.Mathlib.Omega.{arith}
 use Prim.Native.Nat.{ℕ}
 use mathlib.Core.Path.{refl, ap, _∙_}
 use Rattle.tree.specs.Reads.{freeOf}
 use Rattle.tree.proofs.Symbols.{lies-still}
-use Rattle.tree.proofs.Helpers.{low, fitted}
+use Rattle.tree.proofs.Helpers.{low-past}
 use Rattle.tree.proofs.Cases.{default-read, label-default}
 use borrow.Author.Needs.{needs}
 use Rattle.tree.proofs.Rooms.{ready-leaves, ready-takes, leaves-leaves, takes-leaves, item-low}
@@ -36,7 +35,7 @@ returns c =
     (leaves-leaves (after-expect2 .expect2 .ensures .0)
     (takes-leaves (after-begin-item .begin-item .ensures .0) (after-expect .expect .ensures .0)))))
     (λ src l kind k q. label-default src _ k q (default-read l _ _ (after-free-of .free-of .ensures) (after-place-here .place-here .ensures src l)
-    (low (fitted (start .pre) (after-expect .expect .ensures .0) refl (omega arith)))
+    (low-past (start .pre) (after-expect .expect .ensures .0))
     (after-free-of2 .free-of2 .ensures ∙ ap (λ (z : ℕ). freeOf z (after-begin-item .begin-item .result)) (after-begin-item .begin-item .kept .0))
     (after-expect .expect .ensures .1 src l) (after-begin-item .begin-item .ensures .1)
     (after-expect2 .expect2 .ensures .1 src (lies-still l (after-begin-item .begin-item .ensures .0 .kept))) (after-node .node .ensures .1)

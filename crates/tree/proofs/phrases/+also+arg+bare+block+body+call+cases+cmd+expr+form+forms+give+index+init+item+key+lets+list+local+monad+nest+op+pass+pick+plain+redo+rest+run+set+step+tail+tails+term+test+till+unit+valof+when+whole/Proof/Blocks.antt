@@ -11,7 +11,7 @@ use Rattle.language.specs.Reader.{manyUpTo, moreUpTo}
 use Rattle.tree.proofs.Blocks.{for-read, switchon-read, block-read, listed-read, no-command-words, no-commands, semicolon-commands}
 use Rattle.tree.proofs.Blocks.{some-commands}
 use Rattle.tree.proofs.Choices.{at-any}
-use Rattle.tree.proofs.Helpers.{low, fitted}
+use Rattle.tree.proofs.Helpers.{low, low-past}
 use Rattle.tree.proofs.Lets.{values-read, one-name, vector-is, vector-not, given-vector, given-values, no-local-words, local-read}
 use Rattle.tree.proofs.Lists.{Before}
 use Rattle.tree.proofs.Loops.{SoFar, before-first, before-next, before-last, wordless, so-begins, many-turns, many-ends, many-spent}
@@ -525,7 +525,7 @@ local-returns t c =
     (λ src l. (let l₁ = lies-still l (after-begin-item .begin-item .ensures .0 .kept) in let l₂ = lies-still l₁
     (after-a-name .a-name .ensures .0 .kept) in let l₃ = lies-still l₂ (after-further-names .further-names .ensures .0 .kept) in let l₄ = lies-still
     l₃ (after-init .init .ensures .0 .kept) in local-read src _ _ (l .count) (after-free-of .free-of .ensures)
-    (low (fitted (start .pre .1) (after-expect .expect .ensures .0) refl (omega arith)))
+    (low-past (start .pre .1) (after-expect .expect .ensures .0))
     (after-free-of2 .free-of2 .ensures ∙ ap (λ (z : ℕ). freeOf z (after-begin-item .begin-item .result)) (after-begin-item .begin-item .kept .0))
     (omega (
       arith,

@@ -14,7 +14,7 @@ use Rattle.tree.proofs.Classes.{guard-positive, repeat-positive, leave-
 use Rattle.tree.proofs.Commands.{resultis-read, guarded-read, test-read, repeat-read, repeat-on-read, no-repeat-words, repeated-one}
 use Rattle.tree.proofs.Commands.{repeated-more, unlabelled-test, unlabelled-resultis, unlabelled-for, unlabelled-switchon, unlabelled-block}
 use Rattle.tree.proofs.Commands.{unlabelled-guarded, unlabelled-leave, unlabelled-other}
-use Rattle.tree.proofs.Helpers.{low, fitted}
+use Rattle.tree.proofs.Helpers.{low-past}
 use Rattle.tree.proofs.Lists.{Before}
 use Rattle.tree.proofs.Loops.{SoFar, before-first, before-next, before-last, wordless, so-begins, many-turns, many-ends, many-spent}
 use Rattle.tree.proofs.Rooms.{leaves-less, ready-leaves, ready-takes, leaves-leaves, takes-leaves, ready-part, item-low, size-small}
@@ -323,7 +323,7 @@ form-returns-2 t c =
     (leaves-leaves (after-expr .expr .ensures .0)
     (takes-leaves (after-begin-item .begin-item .ensures .0) (leaves-less (after-expect .expect .ensures .0) refl))))
     (λ src l k. repeat-on-read src _ _ k (after-free-of .free-of .ensures) (after-if1 .if1 .left)
-    (low (fitted (start .pre .1 .0) (after-expect .expect .ensures .0) refl (omega arith))) (after-expect .expect .ensures .1 src l)
+    (low-past (start .pre .1 .0) (after-expect .expect .ensures .0)) (after-expect .expect .ensures .1 src l)
     (after-begin-item .begin-item .ensures .1) (after-expr .expr .ensures .1 src (lies-still l (after-begin-item .begin-item .ensures .0 .kept)))
     (after-set-size .set-size .ensures .1))
 

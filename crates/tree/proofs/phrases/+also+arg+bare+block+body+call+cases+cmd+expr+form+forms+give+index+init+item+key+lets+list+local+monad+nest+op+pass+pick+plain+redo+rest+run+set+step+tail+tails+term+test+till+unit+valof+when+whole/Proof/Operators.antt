@@ -11,7 +11,7 @@ use Rattle.language.specs.Reader.{manyUpTo}
 use Rattle.tree.proofs.Chains.{expression-one, expression-more, no-operation-words}
 use Rattle.tree.proofs.Choices.{monadic-shut, expression-none, operand-monadic, operand-suffixed, expression-not, expression-shift}
 use Rattle.tree.proofs.Classes.{binding-positive, monadic-positive}
-use Rattle.tree.proofs.Helpers.{low, alive, fitted}
+use Rattle.tree.proofs.Helpers.{low-past}
 use Rattle.tree.proofs.Lists.{Before}
 use Rattle.tree.proofs.Loops.{SoFar, before-first, before-next, before-last, wordless, so-begins, many-turns, many-ends, many-spent}
 use Rattle.tree.proofs.Readers.{monadic-read, operation-read}
@@ -78,23 +78,6 @@ expr-returns-4 t c =
 expr-place-of-requires : (t : ℕ) → cycle.Lts-expr.Need-place-of-requires (expr-cs t) (at expr-rank t) phrases.expr.Reads.Post
 expr-place-of-requires t c κs = expr-kind-here-requires-2 t (c .before .before .before .before .before .before .before) κs
 
-expr-right-of-requires : (t : ℕ) → cycle.Lts-expr.Need-right-of-requires (expr-cs t) (at expr-rank t) phrases.expr.Reads.Post
-expr-right-of-requires t c κs =
-    let after-minus = c .before .before in let after-free-of2 = after-minus .before in
-    let after-expr2 = after-free-of2 .before .before .before .before .before .before .before .before in
-    let after-free-of = after-expr2 .before .before in let start = after-free-of .before .before .before .before .before in
-    omega (
-      arith,
-      start .pre .0,
-      start .pre .1,
-      after-minus .minus .ensures,
-      after-free-of2 .free-of2 .ensures,
-      after-expr2 .expr2 .ensures .0,
-      after-expr2 .expr2 .kept .0,
-      alive (after-expr2 .expr2 .result),
-      after-free-of .free-of .ensures,
-    )
-
 expr-op-requires : (t : ℕ) → cycle.Lts-expr.Need-op-requires (expr-cs t) (at expr-rank t) phrases.expr.Reads.Post
 expr-op-requires t c κs =
     let after-if4 = c .before .before .before .before .before .before .before in let after-binding-of = after-if4 .before in
@@ -160,7 +143,7 @@ expr-ok t =
     (λ c κs. (omega arith, (c .before .before .before .before .before .before .before .pre .1 .0, omega arith))) (λ c. search needs)
     (expr-returns-2 t) (λ c. omega arith) (λ c κs. omega arith) (λ c. search needs) (expr-returns-3 t) (λ c κs. tt) (λ c. omega arith)
     (λ c κs. omega arith) (expr-kind-here-requires-2 t) (λ c κs. tt) (λ c. search needs) (expr-returns-4 t) (λ c κs. tt) (λ c κs. tt)
-    (expr-place-of-requires t) (expr-right-of-requires t) (expr-op-requires t) (expr-run-requires t) (expr-cast-node t) (expr-node-requires t)
+    (expr-place-of-requires t) (λ c κs. omega arith) (expr-op-requires t) (expr-run-requires t) (expr-cast-node t) (expr-node-requires t)
     (expr-same-length-5 t) (expr-returns-5 t)
 
 abbrev op-cs : ℕ → cycle.Lts-op.Claims
@@ -192,7 +175,7 @@ op-returns t c =
     pair (leaves-leaves (after-set-size .set-size .ensures .0)
     (leaves-leaves (after-expr .expr .ensures .0) (takes-leaves (after-begin-item .begin-item .ensures .0) (after-expect .expect .ensures .0))))
     (λ src l k. operation-read src _ _ (after-free-of .free-of .ensures) _
-    (low (fitted (start .pre .1 .0) (after-expect .expect .ensures .0) refl (omega arith))) k (after-expect .expect .ensures .1 src l)
+    (low-past (start .pre .1 .0) (after-expect .expect .ensures .0)) k (after-expect .expect .ensures .1 src l)
     (after-begin-item .begin-item .ensures .1) (after-expr .expr .ensures .1 src (lies-still l (after-begin-item .begin-item .ensures .0 .kept)))
     (after-set-size .set-size .ensures .1))
 
