@@ -12,7 +12,8 @@ use Rattle.language.specs.Tree as T
 use Rattle.language.specs.Tree.{Expression, isCall, endsInCall, placeOf}
 use Rattle.tree.specs.Reads.{Ready}
 use Rattle.tree.specs.Between.{CallHere, PlaceHere}
-use Rattle.tree.specs.Encoding.{MONADIC, CALLED, DYADIC, suffixedKind, closed, encode, encodeName, encodeCommand, encodeSuffixes, encodeOperations}
+use Rattle.tree.specs.Encoding.{MONADIC, CALLED, DYADIC, suffixedKind, closed, encode, encodeName, encodeCommand, encodeSuffixes}
+use Rattle.tree.specs.Encoding.{encodeOperations}
 use Rattle.tree.proofs.Helpers.{free-is, room-is}
 use Rattle.tree.proofs.Symbols.{clash}
 use Rattle.tree.specs.declared.scratch.State.{State}
@@ -40,7 +41,14 @@ recorded (T.bracketed p e) = record { contents = encode e; value = 0; kind = K.O
 recorded (T.valof p c) = record { contents = encodeCommand c; value = 0; kind = K.VALOF; words = refl; call = refl }
 recorded (T.monadic p o e) = record { contents = encode e; value = o; kind = MONADIC; words = refl; call = refl }
 recorded (T.suffixed e ss) =
-    record { contents = encode e ++ encodeSuffixes ss; value = length (encode e); kind = suffixedKind (endsInCall false ss); words = refl; call = called (endsInCall false ss) }
+    record {
+      contents = encode e ++ encodeSuffixes ss;
+      value = length (encode e);
+      kind = suffixedKind (endsInCall false ss);
+      words = refl;
+      call
+          = called (endsInCall false ss);
+    }
 recorded (T.dyadic e os) =
     record { contents = encode e ++ encodeOperations os; value = length (encode e); kind = DYADIC; words = refl; call = refl }
 
@@ -55,7 +63,8 @@ module _ (a b : List ℕ) (v p k : ℕ) (s : List ℕ) (free : ℕ) (le : free �
 
   behind : (i j : ℕ) → i < free → i ≡ length (a ++ b) + j → getD s i 0 ≡ getD (length b ∷ v ∷ p ∷ k ∷ []) j 0
   behind i j h q =
-      sym (getD-take free s i 0 h) ∙ ap (λ (l : List ℕ). getD l i 0) front ∙ ap (λ (m : ℕ). getD ((a ++ b) ++ (length b ∷ v ∷ p ∷ k ∷ [])) m 0) q ∙ getD-append-add (a ++ b) (length b ∷ v ∷ p ∷ k ∷ []) j 0
+      sym (getD-take free s i 0 h) ∙ ap (λ (l : List ℕ). getD l i 0) front ∙ ap (λ (m : ℕ). getD ((a ++ b) ++ (length b ∷ v ∷ p ∷ k ∷ [])) m 0) q
+      ∙ getD-append-add (a ++ b) (length b ∷ v ∷ p ∷ k ∷ []) j 0
 
   kind-last : getD s (free - 1) 0 ≡ k
   kind-last = behind (free - 1) 3 (omega (arith, front-size)) (omega (arith, front-size))

@@ -30,7 +30,8 @@ one l = encodeLabels (l ∷ [])
 
 one-first : (l : Label) (rest : List Label) → encodeLabels (l ∷ rest) ≡ one l ++ encodeLabels rest
 unfolding encodeLabels
-one-first (T.case place c) rest = ap (λ (v : List ℕ). v ++ encodeLabels rest) (sym (append-nil (item K.CASE (closed (encodeConstant c) 0 place K.CASE))))
+one-first (T.case place c) rest =
+    ap (λ (v : List ℕ). v ++ encodeLabels rest) (sym (append-nil (item K.CASE (closed (encodeConstant c) 0 place K.CASE))))
 one-first (T.default place) rest = refl
 
 one-some : (l : Label) → 0 < length (one l)
@@ -39,7 +40,9 @@ one-some (T.case place c) = omega arith
 one-some (T.default place) = omega arith
 
 -- a label before those after it
-put-label : {read : ℕ → Out Label} {s s′ : List ℕ} {r r′ : State} → Reads read one s s′ r r′ → Follows (λ m. onOut (read m) (λ l q. ok (l ∷_) q)) (Prepends encodeLabels) s s′ r r′
+put-label :
+    {read : ℕ → Out Label} {s s′ : List ℕ} {r r′ : State} → Reads read one s s′ r r′
+    → Follows (λ m. onOut (read m) (λ l q. ok (l ∷_) q)) (Prepends encodeLabels) s s′ r r′
 put-label d =
     bind 0 one d stays
     (λ l _. nothing (record {
@@ -48,17 +51,28 @@ put-label d =
     }))
 
 -- its word, an item's two entries, what stands in it, its record, and the item's size
-module _ {src : Source} {n : ℕ} {s : List ℕ} (l : HoldsSymbols src n s) {r : State} (size : ℕ) (x : ℕ) {lo start p : ℕ} (lo-is : lo ≡ freeOf size r) (h : Here (placeAt src) n r p) {s₁ s₃ s₄ : List ℕ} {r₀ r₁ r₃ r₄ : State} (le : freeOf size r₀ ≤ length s) (start-is : start ≡ freeOf size r₁) where
-  pub case-read : {s₂ : List ℕ} {r₂ : State} → Reads (the K.CASE src) (λ _. []) s s r r₀ → Adds (λ _. 0 ∷ K.CASE ∷ []) s s₁ r₀ r₁ → Reads (E.constant (within x) src) encodeConstant s₁ s₂ r₁ r₂ → Reads (the K.COLON src) (λ _. []) s₂ s₂ r₂ r₃ → Adds (recordFrom start 0 p K.CASE) s₂ s₃ r₃ r₄ → Seals lo s₃ s₄ r₄ → Reads (C.case (within x) src) one s s₄ r r₄
+module _ {src : Source} {n : ℕ} {s : List ℕ} (l : HoldsSymbols src n s) {r : State} (size : ℕ) (x : ℕ) {lo start p : ℕ}
+    (lo-is : lo ≡ freeOf size r) (h : Here (placeAt src) n r p) {s₁ s₃ s₄ : List ℕ} {r₀ r₁ r₃ r₄ : State} (le : freeOf size r₀ ≤ length s)
+    (start-is : start ≡ freeOf size r₁) where
+  pub case-read :
+      {s₂ : List ℕ} {r₂ : State} → Reads (the K.CASE src) (λ _. []) s s r r₀ → Adds (λ _. 0 ∷ K.CASE ∷ []) s s₁ r₀ r₁
+      → Reads (E.constant (within x) src) encodeConstant s₁ s₂ r₁ r₂ → Reads (the K.COLON src) (λ _. []) s₂ s₂ r₂ r₃
+      → Adds (recordFrom start 0 p K.CASE) s₂ s₃ r₃ r₄ → Seals lo s₃ s₄ r₄ → Reads (C.case (within x) src) one s s₄ r r₄
   unfolding C.case encodeLabels
   case-read a b c d f g =
-      here _ (placed l h K.CASE (omega arith) (λ place m. onOut (E.constant (within x) src m) (λ k q. onOut (the K.COLON src q) (λ _ w. ok (T.case place k) w))))
+      here _ (placed l h K.CASE (omega arith)
+      (λ place m. onOut (E.constant (within x) src m) (λ k q. onOut (the K.COLON src q) (λ _ w. ok (T.case place k) w))))
       (bind size (λ _. []) a (adds-on b then goes-on c then goes-on d then adds-on f) (λ _ q₀.
       sealed (Encodes one) K.CASE size (λ y w e. e) le (omega arith) b
       (bind size encodeConstant c (goes-on d then adds-on f) (λ k q₁. bind size (λ _. []) d (adds-on f) (λ _ q₂.
-      added size f (record { same = ap (λ (z : ℕ). item K.CASE (encodeConstant k ++ (z ∷ 0 ∷ p ∷ K.CASE ∷ []))) (omega arith) ∙ sym (append-nil _) })))) g))
+      added size f (record {
+        same = ap (λ (z : ℕ). item K.CASE (encodeConstant k ++ (z ∷ 0 ∷ p ∷ K.CASE ∷ []))) (omega arith)
+            ∙ sym (append-nil _);
+      })))) g))
 
-  pub default-read : Reads (the K.DEFAULT src) (λ _. []) s s r r₀ → Adds (λ _. 0 ∷ K.DEFAULT ∷ []) s s₁ r₀ r₁ → Reads (the K.COLON src) (λ _. []) s₁ s₁ r₁ r₃ → Adds (recordFrom start 0 p K.DEFAULT) s₁ s₃ r₃ r₄ → Seals lo s₃ s₄ r₄ → Reads (C.default (within x) src) one s s₄ r r₄
+  pub default-read :
+      Reads (the K.DEFAULT src) (λ _. []) s s r r₀ → Adds (λ _. 0 ∷ K.DEFAULT ∷ []) s s₁ r₀ r₁ → Reads (the K.COLON src) (λ _. []) s₁ s₁ r₁ r₃
+      → Adds (recordFrom start 0 p K.DEFAULT) s₁ s₃ r₃ r₄ → Seals lo s₃ s₄ r₄ → Reads (C.default (within x) src) one s s₄ r r₄
   unfolding C.default encodeLabels
   default-read a b d f g =
       here _ (placed l h K.DEFAULT (omega arith) (λ place m. onOut (the K.COLON src m) (λ _ w. ok (T.default place) w)))
@@ -72,9 +86,12 @@ module _ (src : Source) (x : ℕ) {s s′ : List ℕ} {r r′ : State} {kind : �
   pub label-case : kind ≡ K.CASE → Reads (C.case (within x) src) one s s′ r r′ → Follows (C.label (within x) src) (Prepends encodeLabels) s s′ r r′
   unfolding C.label
   label-case q d =
-      here _ (λ at free e. ap (λ (b : Bool). onOut (cond b (C.case (within x) src at) (C.default (within x) src at)) (λ y m. ok (y ∷_) m)) (eq-eqb (kindAt src at) K.CASE (sym (k .here at free e) ∙ q))) (put-label d)
+      here _ (λ at free e. ap (λ (b : Bool). onOut (cond b (C.case (within x) src at) (C.default (within x) src at)) (λ y m. ok (y ∷_) m))
+      (eq-eqb (kindAt src at) K.CASE (sym (k .here at free e) ∙ q))) (put-label d)
 
-  pub label-default : (kind ≡ K.CASE → ⊥) → Reads (C.default (within x) src) one s s′ r r′ → Follows (C.label (within x) src) (Prepends encodeLabels) s s′ r r′
+  pub label-default :
+      (kind ≡ K.CASE → ⊥) → Reads (C.default (within x) src) one s s′ r r′ → Follows (C.label (within x) src) (Prepends encodeLabels) s s′ r r′
   unfolding C.label
   label-default q d =
-      here _ (λ at free e. ap (λ (b : Bool). onOut (cond b (C.case (within x) src at) (C.default (within x) src at)) (λ y m. ok (y ∷_) m)) (ne-eqb (kindAt src at) K.CASE (λ y. q (k .here at free e ∙ y)))) (put-label d)
+      here _ (λ at free e. ap (λ (b : Bool). onOut (cond b (C.case (within x) src at) (C.default (within x) src at)) (λ y m. ok (y ∷_) m))
+      (ne-eqb (kindAt src at) K.CASE (λ y. q (k .here at free e ∙ y)))) (put-label d)

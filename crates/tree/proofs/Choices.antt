@@ -52,8 +52,11 @@ module _ {A : Type 0} {Says : A → List ℕ → Type 0} {k : ℕ} {s s′ : Lis
     picked read′ e d = chosen read′ e (at-any {read = read′} d)
 
 -- refused, whatever is to be read: no level is left
-module _ {A : Type 0} {Says : A → List ℕ → Type 0} {m number : ℕ} {s : List ℕ} {n : ℕ} {r r′ : State} (few : leb m 5 ≡ true) (d : Refusing number s n r r′) where
-  pub refused-at : {read : Reader A} {kind : ℕ} → KindsHere s n r kind → ((src : Source) (at : ℕ) → kindAt src at ≡ kind → read src at ≡ no number at) → Reading m read Says s s n r r′
+module _ {A : Type 0} {Says : A → List ℕ → Type 0} {m number : ℕ} {s : List ℕ} {n : ℕ} {r r′ : State} (few : leb m 5 ≡ true)
+    (d : Refusing number s n r r′) where
+  pub refused-at :
+      {read : Reader A} {kind : ℕ} → KindsHere s n r kind → ((src : Source) (at : ℕ) → kindAt src at ≡ kind → read src at ≡ no number at)
+      → Reading m read Says s s n r r′
   refused-at kinds e =
       (leaves-less (d .0) few, λ src l. stopped (λ at free q. e src at (sym (kinds src l .here at free q))) (d .1))
 
@@ -90,7 +93,9 @@ unfolding E.expression
 expression-none x b h d = (d .0, λ src l. here _ (λ at free e. ap (λ (y : ℕ). E.expression (within x) y src at) h) (d .1 src l))
 
 -- the binding of NOT
-at-not : (x b : ℕ) → b ≡ NEGATION → (src : Source) (at : ℕ) → E.expression (within x) b src at ≡ cond (eqb (kindAt src at) K.NOT) (E.monadic (within x) src at) (E.expression (within x) 4 src at)
+at-not :
+    (x b : ℕ) → b ≡ NEGATION → (src : Source) (at : ℕ)
+    → E.expression (within x) b src at ≡ cond (eqb (kindAt src at) K.NOT) (E.monadic (within x) src at) (E.expression (within x) 4 src at)
 at-not x b rung src at = ap (λ (y : ℕ). E.expression (within x) y src at) rung ∙ negation (within x) src at
 
 module _ (x : ℕ) {s s′ : List ℕ} {n : ℕ} {r r′ : State} {kind : ℕ} where
@@ -106,44 +111,70 @@ module _ (x : ℕ) {s s′ : List ℕ} {n : ℕ} {r r′ : State} {kind : ℕ} w
         subscript-monadic = chosen kinds _ (λ src at h. rw (ap isMonadic h ∙ sym e ∙ q)) d
 
       module _ (q : b ≡ false) where
-        pub operand-suffixed : Reading 1 (E.suffixed (within x)) (Encodes encode) s s′ n r r′ → Reading 1 (E.operand (within x)) (Encodes encode) s s′ n r r′
+        pub operand-suffixed :
+            Reading 1 (E.suffixed (within x)) (Encodes encode) s s′ n r r′ → Reading 1 (E.operand (within x)) (Encodes encode) s s′ n r r′
         unfolding E.operand
         operand-suffixed d = picked kinds _ (λ src at h. rw (ap isMonadic h ∙ sym e ∙ q)) d
 
-        pub subscript-primary : Reading 1 (E.primary (within x)) (Encodes encode) s s′ n r r′ → Reading 1 (E.subscript (within x)) (Encodes encode) s s′ n r r′
+        pub subscript-primary :
+            Reading 1 (E.primary (within x)) (Encodes encode) s s′ n r r′ → Reading 1 (E.subscript (within x)) (Encodes encode) s s′ n r r′
         unfolding E.subscript
         subscript-primary d = picked kinds _ (λ src at h. rw (ap isMonadic h ∙ sym e ∙ q)) d
 
     module _ (b : ℕ) (rung : b ≡ NEGATION) where
-      pub expression-not : kind ≡ K.NOT → ReadingAt kind 1 (E.monadic (within x)) (Encodes encode) s s′ n r r′ → Reading 1 (E.expression (within x) b) (Encodes encode) s s′ n r r′
+      pub expression-not :
+          kind ≡ K.NOT → ReadingAt kind 1 (E.monadic (within x)) (Encodes encode) s s′ n r r′
+          → Reading 1 (E.expression (within x) b) (Encodes encode) s s′ n r r′
       expression-not q d = chosen kinds _ (λ src at h. at-not x b rung src at ∙ rw (eq-eqb _ _ (h ∙ q))) d
 
-      pub expression-shift : (kind ≡ K.NOT → ⊥) → Reading 1 (E.expression (within x) (b - 1)) (Encodes encode) s s′ n r r′ → Reading 1 (E.expression (within x) b) (Encodes encode) s s′ n r r′
+      pub expression-shift :
+          (kind ≡ K.NOT → ⊥) → Reading 1 (E.expression (within x) (b - 1)) (Encodes encode) s s′ n r r′
+          → Reading 1 (E.expression (within x) b) (Encodes encode) s s′ n r r′
       expression-shift q d =
           let z : 4 ≡ b - 1 = omega arith in
-          picked kinds _ (λ src at h. at-not x b rung src at ∙ rw (ne-eqb (kindAt src at) K.NOT (λ y. q (sym h ∙ y))) (ap (λ (y : ℕ). E.expression (within x) y src at) z)) d
+          picked kinds _ (λ src at h. at-not x b rung src at ∙ rw (ne-eqb (kindAt src at) K.NOT (λ y. q (sym h ∙ y)))
+          (ap (λ (y : ℕ). E.expression (within x) y src at) z)) d
 
-    pub primary-bracketed : kind ≡ K.OPEN → Reading 1 (E.bracketed (within x)) (Encodes encode) s s′ n r r′ → Reading 1 (E.primary (within x)) (Encodes encode) s s′ n r r′
+    pub primary-bracketed :
+        kind ≡ K.OPEN → Reading 1 (E.bracketed (within x)) (Encodes encode) s s′ n r r′
+        → Reading 1 (E.primary (within x)) (Encodes encode) s s′ n r r′
     unfolding E.primary
     primary-bracketed q d = picked kinds _ (λ src at h. rw (h ∙ q)) d
 
-    pub primary-valof : kind ≡ K.VALOF → Reading 1 (E.valof (within x)) (Encodes encode) s s′ n r r′ → Reading 1 (E.primary (within x)) (Encodes encode) s s′ n r r′
+    pub primary-valof :
+        kind ≡ K.VALOF → Reading 1 (E.valof (within x)) (Encodes encode) s s′ n r r′ → Reading 1 (E.primary (within x)) (Encodes encode) s s′ n r r′
     unfolding E.primary
     primary-valof q d = picked kinds _ (λ src at h. rw (h ∙ q)) d
 
-    pub primary-atom : Unlike kind (K.VALOF ∷ K.OPEN ∷ []) → ReadingAt kind 1 atomic (Encodes encode) s s′ n r r′ → Reading 1 (E.primary (within x)) (Encodes encode) s s′ n r r′
+    pub primary-atom :
+        Unlike kind (K.VALOF ∷ K.OPEN ∷ []) → ReadingAt kind 1 atomic (Encodes encode) s s′ n r r′
+        → Reading 1 (E.primary (within x)) (Encodes encode) s s′ n r r′
     unfolding E.primary atomic
     primary-atom u d =
         let q = unlike2 u in
-        chosen kinds atomic (λ src at h. rw (ne-eqb (kindAt src at) K.OPEN (λ y. q .0 (sym h ∙ y)), ne-eqb (kindAt src at) K.VALOF (λ y. q .1 (sym h ∙ y)))) d
+        chosen kinds atomic (λ src at h. rw (
+          ne-eqb (kindAt src at) K.OPEN (λ y. q .0 (sym h ∙ y)),
+          ne-eqb (kindAt src at) K.VALOF
+              (λ y. q .1 (sym h ∙ y)),
+        )) d
 
   -- a suffix, where the symbol's kind is given
-  pub suffix-arguments : kind ≡ K.OPEN → Reading 4 (E.arguments (within x)) (PrependsSuffix true) s s′ n r r′ → ReadingAt kind 4 (E.suffix (within x)) (PrependsSuffix (eqb kind K.OPEN)) s s′ n r r′
+  pub suffix-arguments :
+      kind ≡ K.OPEN → Reading 4 (E.arguments (within x)) (PrependsSuffix true) s s′ n r r′
+      → ReadingAt kind 4 (E.suffix (within x)) (PrependsSuffix (eqb kind K.OPEN)) s s′ n r r′
   unfolding E.suffix
-  suffix-arguments q d =
-      (d .0, λ src l k. here (E.arguments (within x) src) (λ at free e. rw (eq-eqb (kindAt src at) K.OPEN (sym (k .here at free e) ∙ q))) (rw (eq-eqb kind K.OPEN q) (d .1 src l)))
+  suffix-arguments q d = (
+    d .0,
+    λ src l k. here (E.arguments (within x) src) (λ at free e. rw (eq-eqb (kindAt src at) K.OPEN (sym (k .here at free e) ∙ q)))
+        (rw (eq-eqb kind K.OPEN q) (d .1 src l)),
+  )
 
-  pub suffix-index : (kind ≡ K.OPEN → ⊥) → Reading 4 (E.index (within x)) (PrependsSuffix false) s s′ n r r′ → ReadingAt kind 4 (E.suffix (within x)) (PrependsSuffix (eqb kind K.OPEN)) s s′ n r r′
+  pub suffix-index :
+      (kind ≡ K.OPEN → ⊥) → Reading 4 (E.index (within x)) (PrependsSuffix false) s s′ n r r′
+      → ReadingAt kind 4 (E.suffix (within x)) (PrependsSuffix (eqb kind K.OPEN)) s s′ n r r′
   unfolding E.suffix
-  suffix-index q d =
-      (d .0, λ src l k. here (E.index (within x) src) (λ at free e. rw (ne-eqb (kindAt src at) K.OPEN (λ y. q (k .here at free e ∙ y)))) (rw (ne-eqb kind K.OPEN q) (d .1 src l)))
+  suffix-index q d = (
+    d .0,
+    λ src l k. here (E.index (within x) src) (λ at free e. rw (ne-eqb (kindAt src at) K.OPEN (λ y. q (k .here at free e ∙ y))))
+        (rw (ne-eqb kind K.OPEN q) (d .1 src l)),
+  )

@@ -11,7 +11,8 @@ use Rattle.text.specs.Written.{bytes}
 use Rattle.text.proofs.Bytes.{Unlike}
 use Rattle.language.specs.Kinds as K
 use Rattle.language.specs.Kinds.{member}
-use Rattle.language.specs.Binding.{bindingOf, isMonadic, isSuffix, isGuard, isLeave, isRepeat, isLabel, isDeclaration, goesOnAssignment, beginsExpression, beginsCommand, reachOf}
+use Rattle.language.specs.Binding.{bindingOf, isMonadic, isSuffix, isGuard, isLeave, isRepeat, isLabel, isDeclaration, goesOnAssignment}
+use Rattle.language.specs.Binding.{beginsExpression, beginsCommand, reachOf}
 use Rattle.symbols.proofs.Table.{tabulate, tabulate-at, every}
 use Rattle.tree.specs.Between.{letters, letterOf}
 
@@ -107,13 +108,20 @@ unfolding member
 past-all [] t kind h = refl
 past-all (k ∷ ks) t kind h = go (ltb k 62) refl t (λ t. past-all ks t kind h)
   where
-    go : (b : Bool) → ltb k 62 ≡ b → T (b && every (λ k. ltb k 62) 0 ks) → (T (every (λ k. ltb k 62) 0 ks) → member kind ks ≡ false) → cond (eqb kind k) true (member kind ks) ≡ false
+    go :
+        (b : Bool) → ltb k 62 ≡ b → T (b && every (λ k. ltb k 62) 0 ks) → (T (every (λ k. ltb k 62) 0 ks) → member kind ks ≡ false)
+        → cond (eqb kind k) true (member kind ks) ≡ false
     go true l t more = let d : k < 62 = ltb-true k 62 l in rw (ne-eqb kind k (omega arith)) (more t)
     go false l t more = absurd t
 
-module _ (class : ℕ → Bool) (among : List ℕ) (e : below (λ kind. begin-item (class kind)) ≡ below (λ kind. begin-item (member (letterOf kind) among))) where
+module _ (class : ℕ → Bool) (among : List ℕ)
+    (e : below (λ kind. begin-item (class kind)) ≡ below (λ kind. begin-item (member (letterOf kind) among))) where
   class-of : member 46 among ≡ false → ((kind : ℕ) → 62 ≤ kind → class kind ≡ false) → Class class among
-  class-of dot past = record { agrees = λ kind. unmarked _ _ (agree (λ k. begin-item (class k)) (λ l. begin-item (member l among)) e (λ k h. ap begin-item (past k h ∙ sym dot)) kind) }
+  class-of dot past =
+      record {
+        agrees = λ kind. unmarked _ _ (agree (λ k. begin-item (class k)) (λ l. begin-item (member l among)) e
+            (λ k h. ap begin-item (past k h ∙ sym dot)) kind);
+      }
 
 unlike : (letter : ℕ) (l : List ℕ) → Unlike letter l → member letter l ≡ false
 unfolding member
@@ -170,7 +178,9 @@ declaration = class-of isDeclaration (bytes "d") refl refl (past-all (K.GLOBAL �
 
 pub expression : Class beginsExpression (bytes "n@!2(e")
 unfolding beginsExpression member letterOf
-expression = class-of beginsExpression (bytes "n@!2(e") refl refl (past-all (K.NUMBER ∷ K.STRING ∷ K.TRUE ∷ K.FALSE ∷ K.NAME ∷ K.OPEN ∷ K.VALOF ∷ K.PLING ∷ K.AT ∷ K.PLUS ∷ K.MINUS ∷ K.NOT ∷ []) tt)
+expression =
+    class-of beginsExpression (bytes "n@!2(e") refl refl
+    (past-all (K.NUMBER ∷ K.STRING ∷ K.TRUE ∷ K.FALSE ∷ K.NAME ∷ K.OPEN ∷ K.VALOF ∷ K.PLING ∷ K.AT ∷ K.PLUS ∷ K.MINUS ∷ K.NOT ∷ []) tt)
 
 pub command : Class beginsCommand (bytes "n@!2(ecxg")
 unfolding beginsCommand beginsExpression isGuard isLeave member letterOf
@@ -191,7 +201,8 @@ pub command-else : (kind : ℕ) {letter : ℕ} → letter ≡ letterOf kind → 
 unfolding member
 command-else kind {letter} is u =
     sym (expression .agrees kind) ∙ ap (λ (x : ℕ). member x (bytes "n@!2(e")) (sym is)
-    ∙ rw (ne-eqb letter 99 (u .1), ne-eqb letter 120 (u .0 .1), ne-eqb letter 103 (u .0 .0 .1)) at (ap (λ (x : ℕ). member x (bytes "n@!2(ecxg")) is ∙ command .agrees kind)
+    ∙ rw (ne-eqb letter 99 (u .1), ne-eqb letter 120 (u .0 .1), ne-eqb letter 103 (u .0 .0 .1)) at
+    (ap (λ (x : ℕ). member x (bytes "n@!2(ecxg")) is ∙ command .agrees kind)
 
 -- ---- values by letters
 
@@ -228,7 +239,15 @@ module _ (kind : ℕ) {letter : ℕ} (is : letter ≡ letterOf kind) where
 
   pub no-binding : Unlike letter (bytes "764321") → 0 ≡ bindingOf kind
   no-binding u =
-      rw (ne-eqb letter 49 (u .0 .0 .0 .0 .0 .1), ne-eqb letter 50 (u .0 .0 .0 .0 .1), ne-eqb letter 51 (u .0 .0 .0 .1), ne-eqb letter 52 (u .0 .0 .1), ne-eqb letter 54 (u .0 .1), ne-eqb letter 55 (u .1))
+      rw (
+        ne-eqb letter 49 (u .0 .0 .0 .0 .0 .1),
+        ne-eqb letter 50 (u .0 .0 .0 .0 .1),
+        ne-eqb letter 51 (u .0 .0 .0 .1),
+        ne-eqb letter 52
+            (u .0 .0 .1),
+        ne-eqb letter 54 (u .0 .1),
+        ne-eqb letter 55 (u .1),
+      )
       at (ap bindingBy is ∙ binding kind)
 
   pub reach-arm : {l : ℕ} → letter ≡ l → reachBy l ≡ reachOf kind

@@ -14,7 +14,8 @@ use Rattle.language.specs.Tree.{Program}
 use Rattle.language.specs.Grammar.{treeOf, program}
 use Rattle.tree.specs.Encoding.{encodeProgram}
 use Rattle.tree.specs.Reads.{HoldsSymbols, Ready, LeavesRoom, Encodes, Wrote, FollowsBy, Reads, nextOf, lowOf, live, reach}
-use Rattle.tree.specs.Read.{decoded, sourceIn, tooShort, answerOf, numbersOf, numbersBy, treeNumbers, treeRead, padded, leftBy, treeLeft, Within, ReadsTree}
+use Rattle.tree.specs.Read.{decoded, sourceIn, tooShort, answerOf, numbersOf, numbersBy, treeNumbers, treeRead, padded, leftBy, treeLeft}
+use Rattle.tree.specs.Read.{Within, ReadsTree}
 use Rattle.tree.proofs.Symbols.{lies-still}
 use Rattle.tree.specs.declared.scratch.State.{State}
 use Rattle.tree.specs.declared.scratch.State.the-variants.{Read, Refused}
@@ -30,7 +31,8 @@ dropped s i j k e = getD-drop 3 s (i + k) 0 ∙ ap (λ (x : ℕ). getD s x 0) (o
 
 shifted : (s : List ℕ) (i j : ℕ) → j ≡ i + 3 → symbolFrom (drop 3 s) i ≡ symbolFrom s j
 shifted s i j e =
-    ap (λ (x : ℕ). record { kind = x; value = getD (drop 3 s) (i + 1) 0; place = getD (drop 3 s) (i + 2) 0 }) (getD-drop 3 s i 0 ∙ ap (λ (x : ℕ). getD s x 0) (omega arith))
+    ap (λ (x : ℕ). record { kind = x; value = getD (drop 3 s) (i + 1) 0; place = getD (drop 3 s) (i + 2) 0 }) (getD-drop 3 s i 0
+    ∙ ap (λ (x : ℕ). getD s x 0) (omega arith))
     ∙ ap (λ (x : ℕ). record { kind = getD s j 0; value = x; place = getD (drop 3 s) (i + 2) 0 }) (dropped s i j 1 e)
     ∙ ap (λ (x : ℕ). record { kind = getD s j 0; value = getD s (j + 1) 0; place = x }) (dropped s i j 2 e)
 
@@ -79,7 +81,8 @@ module _ (s s′ : List ℕ) (n size at : ℕ) (e : take (n * 3) s′ ≡ take (
 module _ (room count : ℕ) where
   pub too-short-long : 2 ^ 32 - 1 < room → true ≡ tooShort room count
   unfolding tooShort
-  too-short-long h = sym (ap (λ (b : Bool). cond (ltb room (count * 8 + 64)) true b) (lt-ltb (2 ^ 32 - 1) room h) ∙ anyhow (ltb room (count * 8 + 64)))
+  too-short-long h =
+      sym (ap (λ (b : Bool). cond (ltb room (count * 8 + 64)) true b) (lt-ltb (2 ^ 32 - 1) room h) ∙ anyhow (ltb room (count * 8 + 64)))
     where
       anyhow : (b : Bool) → cond b true true ≡ true
       anyhow true = refl
@@ -132,11 +135,14 @@ tree-short s n size h =
 within : {s s′ : List ℕ} {n next free : ℕ} {r : State} → LeavesRoom 0 s s′ n (Read 0 (n * 3)) r → r ≡ Read next free → free ≤ n * 8
 unfolding reach live
 within {n = n} {next} {free} f e =
-    let h : reach n (Read next free) + live (Read next free) * 0 ≤ reach n (Read 0 (n * 3)) = subst (λ (x : State). reach n x + live x * 0 ≤ reach n (Read 0 (n * 3))) e (f .leaves) in
+    let h : reach n (Read next free) + live (Read next free) * 0 ≤ reach n (Read 0 (n * 3)) = subst
+    (λ (x : State). reach n x + live x * 0 ≤ reach n (Read 0 (n * 3))) e (f .leaves) in
     omega arith
 
 -- what stands behind is cleared
-cleared-is : (s s′ s″ front : List ℕ) (free : ℕ) → length s′ ≡ length s → free ≤ length s → take free s′ ≡ front → s″ ≡ take free s′ ++ replicate (length s′ - free) 0 → s″ ≡ padded (length s) front
+cleared-is :
+    (s s′ s″ front : List ℕ) (free : ℕ) → length s′ ≡ length s → free ≤ length s → take free s′ ≡ front
+    → s″ ≡ take free s′ ++ replicate (length s′ - free) 0 → s″ ≡ padded (length s) front
 cleared-is s s′ s″ front free l h e c =
     let z : length s′ - free ≡ length s - length front = omega (arith, ap length e, length-take-le free s′ (omega arith)) in
     c ∙ ap (λ (m : ℕ). take free s′ ++ replicate m 0) z ∙ ap (λ (w : List ℕ). w ++ replicate (length s - length front) 0) e
@@ -145,35 +151,51 @@ told : (src : Source) (n : ℕ) (o : Out Program) → numbersOf (answerOf src n 
 told src n (ok p next) = refl
 told src n (no number at) = refl
 
-answered : {s s″ : List ℕ} {n size : ℕ} {answer : TreeRead} → tooShort (length s) n ≡ false → (o : Out Program) → treeOf (sourceIn s n size) ≡ o → answer ≡ answerOf (sourceIn s n size) n o → s″ ≡ leftBy n s o → Within (n * 8) answer → ReadsTree s n size answer s″
+answered :
+    {s s″ : List ℕ} {n size : ℕ} {answer : TreeRead} → tooShort (length s) n ≡ false → (o : Out Program) → treeOf (sourceIn s n size) ≡ o
+    → answer ≡ answerOf (sourceIn s n size) n o → s″ ≡ leftBy n s o → Within (n * 8) answer → ReadsTree s n size answer s″
 unfolding treeRead treeNumbers treeLeft
 answered {s} {n = n} {size} fit o e a w h =
     record {
-      answers = a ∙ ap (answerOf (sourceIn s n size) n) (sym e) ∙ sym (ap (λ (b : Bool). cond b TooShort (answerOf (sourceIn s n size) n (treeOf (sourceIn s n size)))) fit);
-      numbers = ap numbersOf a ∙ told (sourceIn s n size) n o ∙ ap (numbersBy (sourceIn s n size) n) (sym e) ∙ sym (ap (λ (b : Bool). cond b (numbersOf TooShort) (numbersBy (sourceIn s n size) n (treeOf (sourceIn s n size)))) fit);
+      answers = a ∙ ap (answerOf (sourceIn s n size) n) (sym e)
+          ∙ sym (ap (λ (b : Bool). cond b TooShort (answerOf (sourceIn s n size) n (treeOf (sourceIn s n size)))) fit);
+      numbers = ap numbersOf a ∙ told (sourceIn s n size) n o ∙ ap (numbersBy (sourceIn s n size) n) (sym e)
+          ∙ sym (ap (λ (b : Bool). cond b (numbersOf TooShort) (numbersBy (sourceIn s n size) n (treeOf (sourceIn s n size)))) fit);
       leaves = w ∙ ap (leftBy n s) (sym e) ∙ sym (ap (λ (b : Bool). cond b s (leftBy n s (treeOf (sourceIn s n size)))) fit);
       room = h;
     }
 
 module _ {s s′ s″ : List ℕ} {n size : ℕ} (fit : tooShort (length s) n ≡ false) (same : length s′ ≡ length s) where
-  wrote : (next free : ℕ) → Wrote (program (sourceIn s n size) 0) (Encodes encodeProgram) (n * 3) s s′ next free → free ≤ n * 8 → s″ ≡ take free s′ ++ replicate (length s′ - free) 0 → ReadsTree s n size (ReadTo free) s″
+  wrote :
+      (next free : ℕ) → Wrote (program (sourceIn s n size) 0) (Encodes encodeProgram) (n * 3) s s′ next free → free ≤ n * 8
+      → s″ ≡ take free s′ ++ replicate (length s′ - free) 0 → ReadsTree s n size (ReadTo free) s″
   unfolding treeOf
   wrote next free w h c =
       let q : free ≡ n * 3 + length (encodeProgram (w .tree)) = w .size ∙ ap (λ (x : List ℕ). n * 3 + length x) (w .says .same) in
       answered fit (ok (w .tree) next) (w .is) (ap ReadTo q)
-      (cleared-is s s′ s″ (take (n * 3) s ++ encodeProgram (w .tree)) free same (omega (arith, fit-is (length s) n fit)) (w .written ∙ ap (λ (x : List ℕ). take (n * 3) s ++ x) (w .says .same)) c)
+      (cleared-is s s′ s″ (take (n * 3) s ++ encodeProgram (w .tree)) free same (omega (arith, fit-is (length s) n fit))
+      (w .written ∙ ap (λ (x : List ℕ). take (n * 3) s ++ x) (w .says .same)) c)
       h
 
   module _ {r : State} (d : Reads (program (sourceIn s n size)) encodeProgram s s′ (Read 0 (n * 3)) r) where
-    pub tree-read : {next free : ℕ} → LeavesRoom 0 s s′ n (Read 0 (n * 3)) r → r ≡ Read next free → s″ ≡ take free s′ ++ replicate (length s′ - free) 0 → ReadsTree s n size (ReadTo free) s″
+    pub tree-read :
+        {next free : ℕ} → LeavesRoom 0 s s′ n (Read 0 (n * 3)) r → r ≡ Read next free → s″ ≡ take free s′ ++ replicate (length s′ - free) 0
+        → ReadsTree s n size (ReadTo free) s″
     tree-read {next} {free} f e c =
-        wrote next free (subst (λ (x : State). FollowsBy (program (sourceIn s n size)) (Encodes encodeProgram) s s′ (Read 0 (n * 3)) x) e (d .by)) (within f e) c
+        wrote next free (subst (λ (x : State). FollowsBy (program (sourceIn s n size)) (Encodes encodeProgram) s s′ (Read 0 (n * 3)) x) e (d .by))
+        (within f e) c
 
-    pub tree-refused : {number at place : ℕ} → r ≡ Refused number at → take (n * 3) s′ ≡ take (n * 3) s → place ≡ placeAt (sourceIn s′ n size) at → s″ ≡ take (n * 3) s′ ++ replicate (length s′ - n * 3) 0 → ReadsTree s n size (RefusedAt number place) s″
+    pub tree-refused :
+        {number at place : ℕ} → r ≡ Refused number at → take (n * 3) s′ ≡ take (n * 3) s → place ≡ placeAt (sourceIn s′ n size) at
+        → s″ ≡ take (n * 3) s′ ++ replicate (length s′ - n * 3) 0 → ReadsTree s n size (RefusedAt number place) s″
     unfolding treeOf
     tree-refused {number} {at} {place} e k p c =
-        answered fit (no number at) (subst (λ (x : State). FollowsBy (program (sourceIn s n size)) (Encodes encodeProgram) s s′ (Read 0 (n * 3)) x) e (d .by)) (ap (RefusedAt number) (p ∙ place-kept s s′ n size at k)) (cleared-is s s′ s″ (take (n * 3) s) (n * 3) same (omega (arith, fit-is (length s) n fit)) k c) tt
+        answered fit (no number at) (subst (λ (x : State). FollowsBy (program (sourceIn s n size)) (Encodes encodeProgram) s s′ (Read 0 (n * 3)) x) e
+        (d .by)) (ap (RefusedAt number) (p ∙ place-kept s s′ n size at k))
+        (cleared-is s s′ s″ (take (n * 3) s) (n * 3) same (omega (arith, fit-is (length s) n fit)) k c) tt
 
 -- the tree's end is an entry of scratch
-pub end-inside : {s s′ : List ℕ} {n next free : ℕ} {r : State} → tooShort (length s) n ≡ false → LeavesRoom 0 s s′ n (Read 0 (n * 3)) r → r ≡ Read next free → free ≤ length s
+pub end-inside :
+    {s s′ : List ℕ} {n next free : ℕ} {r : State} → tooShort (length s) n ≡ false → LeavesRoom 0 s s′ n (Read 0 (n * 3)) r → r ≡ Read next free
+    → free ≤ length s
 end-inside {s} {n = n} fit f e = omega (arith, within f e, fit-is (length s) n fit)

@@ -13,7 +13,9 @@ use Rattle.language.specs.Tree.{placeOf}
 use Rattle.language.specs.Source.{Symbols, good, faulty, symbolsOf, Read, read, refused, parsed}
 use Rattle.language.proofs.Texts.{symbolsIn, answer, times}
 use Rattle.symbols.specs.Read.{entries, outcome}
-use Rattle.tree.specs.Encoding.{CALLED, SUFFIXED, DYADIC, LABELLED, MONADIC, suffixedKind, encodeName, encodeNames, encodePositive, encodeConstant, encodeLabels, labelled, repeated, encode, encodeBody, bodyWord, encodeFunctions, encodeProgram}
+use Rattle.tree.specs.Encoding.{CALLED, SUFFIXED, DYADIC, LABELLED, MONADIC, suffixedKind, encodeName, encodeNames, encodePositive}
+use Rattle.tree.specs.Encoding.{encodeConstant, encodeLabels, labelled, repeated, encode, encodeBody, bodyWord, encodeFunctions}
+use Rattle.tree.specs.Encoding.{encodeProgram}
 use Rattle.tree.specs.Read.{decoded, sourceIn, tooShort, treeRead, treeLeft}
 use Rattle.tree.specs.declared.TreeRead.{TreeRead}
 use Rattle.tree.specs.declared.TreeRead.the-variants as Answers
@@ -25,7 +27,8 @@ entriesOf (read p) = encodeProgram p
 entriesOf (refused number place) = []
 
 unfoldable treeIn : String → List ℕ
-unfolding answer suffixedKind placeOf encodeName encodeNames encodePositive encodeConstant encodeLabels labelled repeated encode encodeBody bodyWord encodeFunctions encodeProgram
+unfolding answer suffixedKind placeOf encodeName encodeNames encodePositive encodeConstant encodeLabels labelled repeated encode encodeBody bodyWord
+    encodeFunctions encodeProgram
 treeIn text = entriesOf (parsed (bytes text))
 
 -- so many entries of the body, where a text is one function without parameters: LET, the function's item and its name are eight
@@ -47,7 +50,8 @@ answerWith room text = then room (length text) (symbolsOf text)
 -- the six symbols of LET F() = 1: kind, value and place of each
 abbrev six : List ℕ
 six =
-    (K.LET ∷ 3 ∷ 0 ∷ []) ++ (K.NAME ∷ 1 ∷ 4 ∷ []) ++ (K.OPEN ∷ 0 ∷ 5 ∷ []) ++ (K.CLOSE ∷ 0 ∷ 6 ∷ []) ++ (K.EQUAL ∷ 0 ∷ 8 ∷ []) ++ (K.NUMBER ∷ 1 ∷ 10 ∷ [])
+    (K.LET ∷ 3 ∷ 0 ∷ []) ++ (K.NAME ∷ 1 ∷ 4 ∷ []) ++ (K.OPEN ∷ 0 ∷ 5 ∷ []) ++ (K.CLOSE ∷ 0 ∷ 6 ∷ []) ++ (K.EQUAL ∷ 0 ∷ 8 ∷ []) ++
+    (K.NUMBER ∷ 1 ∷ 10 ∷ [])
 
 -- they stand at the beginning of scratch of 8 * 6 + 64 entries, and zeros after them
 whole-before : outcome 112 (symbolsIn "LET F() = 1") .scratch ≡ six ++ replicate 94 0
@@ -108,21 +112,24 @@ chain = refl
 -- a call with two arguments, and an index, which is last: each has its size and its tag behind it
 index-last :
     bodyIn 28 "LET G() = F(A,B)!C" ≡
-    (0 ∷ 1 ∷ 10 ∷ K.NAME ∷ []) ++ (4 ∷ 0 ∷ 0 ∷ 1 ∷ 12 ∷ K.NAME ∷ 4 ∷ 0 ∷ 0 ∷ 1 ∷ 14 ∷ K.NAME ∷ 12 ∷ K.OPEN ∷ []) ++ (0 ∷ 1 ∷ 17 ∷ K.NAME ∷ 4 ∷ K.PLING ∷ []) ++ (24 ∷ 4 ∷ 10 ∷ SUFFIXED ∷ [])
+    (0 ∷ 1 ∷ 10 ∷ K.NAME ∷ []) ++ (4 ∷ 0 ∷ 0 ∷ 1 ∷ 12 ∷ K.NAME ∷ 4 ∷ 0 ∷ 0 ∷ 1 ∷ 14 ∷ K.NAME ∷ 12 ∷ K.OPEN ∷ []) ++
+    (0 ∷ 1 ∷ 17 ∷ K.NAME ∷ 4 ∷ K.PLING ∷ []) ++ (24 ∷ 4 ∷ 10 ∷ SUFFIXED ∷ [])
 unfolding bodyIn
 index-last = refl
 
 -- an index and then a call: the record's kind says so
 call-last :
     bodyIn 22 "LET G() = F!A(B)" ≡
-    (0 ∷ 1 ∷ 10 ∷ K.NAME ∷ []) ++ (0 ∷ 1 ∷ 12 ∷ K.NAME ∷ 4 ∷ K.PLING ∷ []) ++ (4 ∷ 0 ∷ 0 ∷ 1 ∷ 14 ∷ K.NAME ∷ 6 ∷ K.OPEN ∷ []) ++ (18 ∷ 4 ∷ 10 ∷ CALLED ∷ [])
+    (0 ∷ 1 ∷ 10 ∷ K.NAME ∷ []) ++ (0 ∷ 1 ∷ 12 ∷ K.NAME ∷ 4 ∷ K.PLING ∷ []) ++ (4 ∷ 0 ∷ 0 ∷ 1 ∷ 14 ∷ K.NAME ∷ 6 ∷ K.OPEN ∷ []) ++
+    (18 ∷ 4 ∷ 10 ∷ CALLED ∷ [])
 unfolding bodyIn
 call-last = refl
 
 -- NOT takes a shift expression: what stands after it and binds tighter than & is its operand
 not :
     bodyIn 28 "LET F() = NOT A=B & C" ≡
-    (0 ∷ 1 ∷ 14 ∷ K.NAME ∷ []) ++ (4 ∷ K.EQUAL ∷ 0 ∷ 1 ∷ 16 ∷ K.NAME ∷ []) ++ (10 ∷ 4 ∷ 14 ∷ DYADIC ∷ []) ++ (14 ∷ K.NOT ∷ 10 ∷ MONADIC ∷ []) ++ (4 ∷ K.AMPERSAND ∷ 0 ∷ 1 ∷ 20 ∷ K.NAME ∷ []) ++ (24 ∷ 18 ∷ 10 ∷ DYADIC ∷ [])
+    (0 ∷ 1 ∷ 14 ∷ K.NAME ∷ []) ++ (4 ∷ K.EQUAL ∷ 0 ∷ 1 ∷ 16 ∷ K.NAME ∷ []) ++ (10 ∷ 4 ∷ 14 ∷ DYADIC ∷ []) ++ (14 ∷ K.NOT ∷ 10 ∷ MONADIC ∷ []) ++
+    (4 ∷ K.AMPERSAND ∷ 0 ∷ 1 ∷ 20 ∷ K.NAME ∷ []) ++ (24 ∷ 18 ∷ 10 ∷ DYADIC ∷ [])
 unfolding bodyIn
 not = refl
 

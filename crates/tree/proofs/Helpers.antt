@@ -21,7 +21,9 @@ put2 s i x y h =
     ∙ ap (λ (l : List ℕ). l ++ (y ∷ [])) (ap (λ (m : ℕ). take m (set s i x)) e1 ∙ take-suc-set s i x l1)
     ∙ append-assoc (take i s) (x ∷ []) (y ∷ [])
 
-pub put4 : (s : List ℕ) (i x y z w : ℕ) → i + 4 ≤ length s → take (i + 4) (set (set (set (set s i x) (i + 1) y) (i + 2) z) (i + 3) w) ≡ take i s ++ (x ∷ y ∷ z ∷ w ∷ [])
+pub put4 :
+    (s : List ℕ) (i x y z w : ℕ) → i + 4 ≤ length s
+    → take (i + 4) (set (set (set (set s i x) (i + 1) y) (i + 2) z) (i + 3) w) ≡ take i s ++ (x ∷ y ∷ z ∷ w ∷ [])
 put4 s i x y z w h =
     let t : List ℕ = set (set s i x) (i + 1) y in
     let e4 : i + 4 ≡ i + 2 + 2 = omega arith in
@@ -65,7 +67,9 @@ pub free-of-refused : {r : State} {k p : ℕ} → r ≡ Refused k p → (size : 
 unfolding freeOf
 free-of-refused e size = ap (freeOf size) e
 
-read-facts : (n at free : ℕ) → (nextOf (Read at free) ≡ at) × (lowOf n (Read at free) ≡ free) × (live (Read at free) ≡ 1) × (reach n (Read at free) ≡ free + 5 * (n - at))
+read-facts :
+    (n at free : ℕ)
+    → (nextOf (Read at free) ≡ at) × (lowOf n (Read at free) ≡ free) × (live (Read at free) ≡ 1) × (reach n (Read at free) ≡ free + 5 * (n - at))
 read-facts n at free = facts-read {r = Read at free} refl n
 
 refused-facts : (n k p : ℕ) → (nextOf (Refused k p) ≡ 0) × (lowOf n (Refused k p) ≡ n * 3) × (live (Refused k p) ≡ 0) × (reach n (Refused k p) ≡ 0)
@@ -97,24 +101,49 @@ module _ {m : ℕ} {s : List ℕ} {n : ℕ} {r : State} (h : Ready m s n r) wher
   pub refused-fits : {k p q : ℕ} → LeavesRoom k s s n r (Refused p q)
   refused-fits {k} {p} {q} =
       let f = refused-facts n p q in
-      record { placed = omega (arith, f); above = omega (arith, f); leaves = rw (f .2) (omega (arith, f)); lives = omega (arith, f); dead = omega (arith, f); kept = refl }
+      record {
+        placed = omega (arith, f);
+        above = omega (arith, f);
+        leaves = rw (f .2) (omega (arith, f));
+        lives = omega (arith, f);
+        dead = omega
+            (arith, f);
+        kept = refl;
+      }
 
   pub refused-grows : {k p q : ℕ} → TakesRoom k s s n r (Refused p q)
   refused-grows {k} {p} {q} =
       let f = refused-facts n p q in
-      record { placed = omega (arith, f); above = omega (arith, f); more = rw (f .2) (omega (arith, f)); lives = omega (arith, f); dead = omega (arith, f); kept = refl }
+      record {
+        placed = omega (arith, f);
+        above = omega (arith, f);
+        more = rw (f .2) (omega (arith, f));
+        lives = omega (arith, f);
+        dead = omega
+            (arith, f);
+        kept = refl;
+      }
 
   module _ {at free : ℕ} (e : r ≡ Read at free) where
     pub next-fits : at < n → LeavesRoom 5 s s n r (Read (at + 1) free)
     next-fits l =
         let f = read-facts n (at + 1) free in
         let g = facts-read e n in
-        record { placed = omega (arith, f); above = omega (arith, f, g, h .above); leaves = omega (arith, f, g); lives = omega (arith, f, g); dead = omega (arith, f, g, h .room, h .small); kept = refl }
+        record {
+          placed = omega (arith, f);
+          above = omega (arith, f, g, h .above);
+          leaves = omega (arith, f, g);
+          lives = omega (arith, f, g);
+          dead
+              = omega (arith, f, g, h .room, h .small);
+          kept = refl;
+        }
 
     pub room-is : (free + m ≤ length s) × (n * 3 ≤ free) × (at ≤ n) × (length s < 2 ^ 32) × (n * 3 + 64 ≤ length s)
     room-is = omega (arith, facts-read e n, h .room, h .above, h .placed, h .small, h .wide)
 
-    module _ (words : ℕ → List ℕ) (s′ : List ℕ) (k nf : ℕ) (el : nf ≡ free + k) (len : length (words free) ≡ k) (le : k ≤ m) (w : take nf s′ ≡ take free s ++ words free) where
+    module _ (words : ℕ → List ℕ) (s′ : List ℕ) (k nf : ℕ) (el : nf ≡ free + k) (len : length (words free) ≡ k) (le : k ≤ m)
+        (w : take nf s′ ≡ take free s ++ words free) where
       pub added-grows : TakesRoom k s s′ n r (Read at nf)
       added-grows =
           let f = read-facts n at nf in
@@ -151,7 +180,14 @@ deadBy n (Refused k p) h = omega arith
 module _ {s : List ℕ} {n : ℕ} {r : State} {lo : ℕ} (h : Ready 0 s n r) (l : n * 3 ≤ lo) where
   pub set-size-fits : (s′ : List ℕ) → take (n * 3) s′ ≡ take (n * 3) s → LeavesRoom 0 s s′ n r r
   set-size-fits s′ e =
-      record { placed = h .placed; above = h .above; leaves = omega arith; lives = omega arith; dead = deadBy n r (omega (arith, h .room, h .small)); kept = e }
+      record {
+        placed = h .placed;
+        above = h .above;
+        leaves = omega arith;
+        lives = omega arith;
+        dead = deadBy n r (omega (arith, h .room, h .small));
+        kept = e;
+      }
 
   pub set-kept : (z : ℕ) → take (n * 3) (set s lo z) ≡ take (n * 3) s
   set-kept z =
@@ -169,4 +205,11 @@ sealed-refused e = record { by = rw e tt }
 
 pub itself : {m : ℕ} {s : List ℕ} {n : ℕ} {r : State} → Ready m s n r → LeavesRoom 0 s s n r r
 itself {m} {s} {n} {r} h =
-    record { placed = h .placed; above = h .above; leaves = omega arith; lives = omega arith; dead = deadBy n r (omega (arith, h .room, h .small)); kept = refl }
+    record {
+      placed = h .placed;
+      above = h .above;
+      leaves = omega arith;
+      lives = omega arith;
+      dead = deadBy n r (omega (arith, h .room, h .small));
+      kept = refl;
+    }

@@ -75,7 +75,8 @@ module _ {A : Type 0} {Says : (A → A) → List ℕ → Type 0} {read : Reader 
         (so .room, λ src l. closes-as end (so .partly src l) (here (λ m. ok none m) (q src (lies-still l (so .room .kept))) (nothing e)))
 
 -- { item }, up to so many
-module _ {A : Type 0} (none : A) (starts : ℕ → Bool) (one : Reader (A → A)) {Says : (A → A) → List ℕ → Type 0} (t : ℕ) {s₀ s : List ℕ} {n : ℕ} {r₀ r : State} where
+module _ {A : Type 0} (none : A) (starts : ℕ → Bool) (one : Reader (A → A)) {Says : (A → A) → List ℕ → Type 0} (t : ℕ) {s₀ s : List ℕ} {n : ℕ}
+    {r₀ r : State} where
   pub many-turns :
       {read : Reader A} {One Says′ : (A → A) → List ℕ → Type 0} {k kind : ℕ} {s₁ : List ℕ} {r₁ : State}
       → Goes Says One Says′ → SoFar Says read (manyUpTo t none starts one) s₀ s n r₀ r → KindsHere s n r kind → starts kind ≡ true
@@ -85,7 +86,8 @@ module _ {A : Type 0} (none : A) (starts : ℕ → Bool) (one : Reader (A → A)
       so-turns so (manyUpTo (t - 1) none starts one) next (d .0, λ src l. d .1 src l (k src l)) e
       (λ src l at free q. turned none starts one src t at h (sym (ap starts (k src l .here at free q)) ∙ b))
 
-  module _ {Rest Full : A → List ℕ → Type 0} (end : Ends Says Rest Full) (empty : Rest none []) {t₀ m : ℕ} (all : t₀ ≡ m) (so : SoFar Says (manyUpTo t₀ none starts one) (manyUpTo t none starts one) s₀ s n r₀ r) where
+  module _ {Rest Full : A → List ℕ → Type 0} (end : Ends Says Rest Full) (empty : Rest none []) {t₀ m : ℕ} (all : t₀ ≡ m)
+      (so : SoFar Says (manyUpTo t₀ none starts one) (manyUpTo t none starts one) s₀ s n r₀ r) where
     all-of : Reading 0 (manyUpTo t₀ none starts one) Full s₀ s n r₀ r → Reading 0 (manyUpTo m none starts one) Full s₀ s n r₀ r
     all-of d = subst (λ (u : ℕ). Reading 0 (manyUpTo u none starts one) Full s₀ s n r₀ r) all d
 
@@ -97,7 +99,8 @@ module _ {A : Type 0} (none : A) (starts : ℕ → Bool) (one : Reader (A → A)
     many-spent z = all-of (so-ends so none end empty (λ src l at free q. spent none starts one src t at z))
 
 -- { ; item } [;] $), up to so many
-module _ {A : Type 0} (none : A) (one : Reader (A → A)) {enc : A → List ℕ} (t : ℕ) {read : Reader A} {s₀ s : List ℕ} {n : ℕ} {r₀ r : State} (so : SoFar (Before enc) read (moreUpTo t none one) s₀ s n r₀ r) where
+module _ {A : Type 0} (none : A) (one : Reader (A → A)) {enc : A → List ℕ} (t : ℕ) {read : Reader A} {s₀ s : List ℕ} {n : ℕ} {r₀ r : State}
+    (so : SoFar (Before enc) read (moreUpTo t none one) s₀ s n r₀ r) where
   pub list-spents : {k : ℕ} {r₁ : State} → LeavesRoom k s s n r r₁ × Refuses 6 r r₁ → t ≡ 0 → Reading k read (Encodes enc) s₀ s n r₀ r₁
   list-spents d z = so-closes so before-last (d .0, λ src l. list-spent none one src t z (d .1))
 

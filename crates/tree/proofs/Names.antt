@@ -26,7 +26,9 @@ same-name : (o : Out Name) → o ≡ onOut o (λ y m. ok y m)
 same-name (ok y m) = refl
 same-name (no k p) = refl
 
-pub a-name-read : {src : Source} {n : ℕ} {s s′ : List ℕ} {r r′ : State} {value : ℕ} → HoldsSymbols src n s → Here (valueAt src) n r value → Reads (the K.NAME src) (λ place. leaf value place K.NAME) s s′ r r′ → Reads (aName src) encodeName s s′ r r′
+pub a-name-read :
+    {src : Source} {n : ℕ} {s s′ : List ℕ} {r r′ : State} {value : ℕ} → HoldsSymbols src n s → Here (valueAt src) n r value
+    → Reads (the K.NAME src) (λ place. leaf value place K.NAME) s s′ r r′ → Reads (aName src) encodeName s s′ r r′
 unfolding encodeName
 a-name-read {src} {value = value} l h d =
     here _ (λ at free e. same-name (aName src at) ∙ name-at l h (λ y m. ok y m) at free e) (mapped (λ place. nameOf place value) (λ _. refl) d)
@@ -63,14 +65,18 @@ module _ (kind : ℕ) {s : List ℕ} {n : ℕ} {r : State} {x : ℕ} (kinds : Ki
 
 -- BY and a constant, if BY stands here
 module _ (src : Source) (x : ℕ) {s : List ℕ} {r : State} {kind : ℕ} (k : KindHere src r kind) where
-  pub by-read : {s₁ : List ℕ} {r₀ r₁ : State} → kind ≡ K.BY → Reads (the K.BY src) (λ _. []) s s r r₀ → Reads (E.constant (within x) src) encodeConstant s s₁ r₀ r₁ → Reads (C.optionalBy (readers (within x)) src) encodeBy s s₁ r r₁
+  pub by-read :
+      {s₁ : List ℕ} {r₀ r₁ : State} → kind ≡ K.BY → Reads (the K.BY src) (λ _. []) s s r r₀
+      → Reads (E.constant (within x) src) encodeConstant s s₁ r₀ r₁ → Reads (C.optionalBy (readers (within x)) src) encodeBy s s₁ r r₁
   unfolding C.optionalBy C.by encodeBy
   by-read q a d =
-      here (C.by (readers (within x)) src) (λ at free e. ap (λ (b : Bool). cond b (C.by (readers (within x)) src at) (ok none at)) (eq-eqb (kindAt src at) K.BY (sym (k .here at free e) ∙ q)))
+      here (C.by (readers (within x)) src) (λ at free e. ap (λ (b : Bool). cond b (C.by (readers (within x)) src at) (ok none at))
+      (eq-eqb (kindAt src at) K.BY (sym (k .here at free e) ∙ q)))
       (bind 0 (λ _. []) a (goes-on d) (λ _ _. mapped some (λ _. refl) d))
 
   pub no-by : (kind ≡ K.BY → ⊥) → Reads (C.optionalBy (readers (within x)) src) encodeBy s s r r
   unfolding C.optionalBy encodeBy
   no-by q =
-      here (λ m. ok none m) (λ at free e. ap (λ (b : Bool). cond b (C.by (readers (within x)) src at) (ok none at)) (ne-eqb (kindAt src at) K.BY (λ y. q (k .here at free e ∙ y))))
+      here (λ m. ok none m) (λ at free e. ap (λ (b : Bool). cond b (C.by (readers (within x)) src at) (ok none at))
+      (ne-eqb (kindAt src at) K.BY (λ y. q (k .here at free e ∙ y))))
       (nothing (record { same = refl }))

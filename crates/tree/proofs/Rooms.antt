@@ -42,7 +42,8 @@ module _ {s s′ : List ℕ} {n : ℕ} {r r′ : State} where
       record {
         placed = f .placed;
         above = f .above;
-        leaves = by-lives (λ _ y. reach n r′ + y * a ≤ reach n r + y * b → reach n r′ + y * m ≤ reach n r) (omega arith) (omega arith) (omega arith) r r′ (f .lives) (f .moves);
+        leaves = by-lives (λ _ y. reach n r′ + y * a ≤ reach n r + y * b → reach n r′ + y * m ≤ reach n r) (omega arith) (omega arith) (omega arith) r
+            r′ (f .lives) (f .moves);
         lives = f .lives;
         dead = f .dead;
         kept = f .kept;
@@ -53,7 +54,8 @@ module _ {s s′ : List ℕ} {n : ℕ} {r r′ : State} where
       record {
         placed = f .placed;
         above = f .above;
-        more = by-lives (λ _ y. reach n r′ + y * a ≤ reach n r + y * b → reach n r′ ≤ reach n r + y * m) (omega arith) (omega arith) (omega arith) r r′ (f .lives) (f .moves);
+        more = by-lives (λ _ y. reach n r′ + y * a ≤ reach n r + y * b → reach n r′ ≤ reach n r + y * m) (omega arith) (omega arith) (omega arith) r
+            r′ (f .lives) (f .moves);
         lives = f .lives;
         dead = f .dead;
         kept = f .kept;
@@ -76,7 +78,8 @@ module _ {s s′ : List ℕ} {n : ℕ} {r r′ : State} where
         placed = f .placed;
         above = f .above;
         room = by-lives (λ _ y. reach n r′ + y * k ≤ reach n r → reach n r′ ≤ y * 2 ^ 32 → reach n r′ + m ≤ length s′)
-            (omega (arith, h .wide, leb-true m 64 q)) (omega (arith, h .wide, leb-true m 64 q)) (omega (arith, h .room)) r r′ (f .lives) (f .leaves) (f .dead);
+            (omega (arith, h .wide, leb-true m 64 q)) (omega (arith, h .wide, leb-true m 64 q)) (omega (arith, h .room)) r r′ (f .lives) (f .leaves)
+            (f .dead);
         wide = omega (arith, h .wide);
         small = omega (arith, h .small);
       }
@@ -99,7 +102,9 @@ module _ {s s′ s″ : List ℕ} {n : ℕ} {r r′ r″ : State} where
       record {
         placed = g .placed;
         above = g .above;
-        moves = by-lives (λ x y. reach n r′ + x * a ≤ reach n r + x * b → reach n r″ + y * c ≤ reach n r′ + y * d → reach n r″ ≤ y * 2 ^ 32 → reach n r″ + y * (a + c) ≤ reach n r + y * (b + d))
+        moves =
+            by-lives (λ x y. reach n r′ + x * a ≤ reach n r + x * b → reach n r″ + y * c ≤ reach n r′ + y * d → reach n r″ ≤ y * 2 ^ 32
+            → reach n r″ + y * (a + c) ≤ reach n r + y * (b + d))
             (omega arith) (omega arith) (omega arith) r′ r″ (g .lives) (f .moves) (g .moves) (g .dead);
         lives = omega (arith, f .lives, g .lives);
         dead = g .dead;
@@ -134,7 +139,8 @@ module _ {s s′ s″ : List ℕ} {n : ℕ} {r r′ r″ : State} where
 
 module _ {j : ℕ} {s : List ℕ} {n : ℕ} {r : State} where
   pub ready-part : {m : ℕ} → Ready j s n r → leb m j ≡ true → Ready m s n r
-  ready-part {m} h q = record { placed = h .placed; above = h .above; room = omega (arith, h .room, leb-true m j q); wide = h .wide; small = h .small }
+  ready-part {m} h q =
+      record { placed = h .placed; above = h .above; room = omega (arith, h .room, leb-true m j q); wide = h .wide; small = h .small }
 
   pub leaves-all : Ready j s n r → LeavesRoom 0 s s n r r
   leaves-all h = itself h
@@ -147,4 +153,5 @@ module _ {s : List ℕ} {n : ℕ} {r : State} where
   pub size-small : (lo : ℕ) {size free : ℕ} → size ≡ free - lo → free ≡ freeOf (length s) r → Ready 0 s n r → size < 2 ^ 32
   size-small lo q e h = omega (arith, low h, h .small)
 
-pub ruleset rooms = (leaves-less, leaves-leaves, takes-leaves, leaves-after, takes-more, takes-none, leaves-takes, takes-takes, takes-after, leaves-all)
+pub ruleset rooms =
+    (leaves-less, leaves-leaves, takes-leaves, leaves-after, takes-more, takes-none, leaves-takes, takes-takes, takes-after, leaves-all)

@@ -41,9 +41,13 @@ few-by (fault k place) ss m h = omega arith
 
 pub few-good : (text : List ℕ) (ss : List Symbol) → symbolsOf text ≡ good ss → length ss ≤ length text
 unfolding symbolsOf symbolsIn number
-few-good text ss e = subst (λ (y : Symbols). number y ≤ length text) e (few-by (firstFault (length text) (brackets [] (scan text .symbols)) (scan text .ending)) (symbolsIn text) (length text) (few text))
+few-good text ss e =
+    subst (λ (y : Symbols). number y ≤ length text) e (few-by (firstFault (length text) (brackets [] (scan text .symbols)) (scan text .ending))
+    (symbolsIn text) (length text) (few text))
 
-pub enough : (text : List ℕ) (ss : List Symbol) (room : ℕ) → symbolsOf text ≡ good ss → 8 * length text + 64 ≤ room → room < 2 ^ 32 → tooShort room (length ss) ≡ false
+pub enough :
+    (text : List ℕ) (ss : List Symbol) (room : ℕ) → symbolsOf text ≡ good ss → 8 * length text + 64 ≤ room → room < 2 ^ 32
+    → tooShort room (length ss) ≡ false
 unfolding tooShort
 enough text ss room e h l =
     rw (le-ltb room (length ss * 8 + 64) (omega (arith, few-good text ss e)), le-ltb (2 ^ 32 - 1) room (omega arith)) refl
@@ -58,9 +62,13 @@ unfolding asAnswer
 same-answer src count (ok p next) = refl
 same-answer src count (no k at) = refl
 
-pub stages : (text : List ℕ) (ss : List Symbol) (room : ℕ) → symbolsOf text ≡ good ss → 8 * length text + 64 ≤ room → room < 2 ^ 32 → treeRead (outcome room (good ss) .scratch) (length ss) (length text) ≡ asAnswer (length ss) (parsed text)
+pub stages :
+    (text : List ℕ) (ss : List Symbol) (room : ℕ) → symbolsOf text ≡ good ss → 8 * length text + 64 ≤ room → room < 2 ^ 32
+    → treeRead (outcome room (good ss) .scratch) (length ss) (length text) ≡ asAnswer (length ss) (parsed text)
 unfolding treeRead sourceIn parsed readSymbols
 stages text ss room e h l =
     let rest : List ℕ = replicate (room - length (entries ss)) 0 in
-    let size : length (entries ss ++ rest) ≡ room = omega (arith, length-append (entries ss) rest, length-replicate {A = ℕ} (room - length (entries ss)) 0, entries-size ss, few-good text ss e) in
-    rw (size, enough text ss room e h l, decoded-entries ss rest, e) (same-answer (record { symbols = ss; size = length text }) (length ss) (treeOf (record { symbols = ss; size = length text })))
+    let size : length (entries ss ++ rest) ≡ room = omega
+    (arith, length-append (entries ss) rest, length-replicate {A = ℕ} (room - length (entries ss)) 0, entries-size ss, few-good text ss e) in
+    rw (size, enough text ss room e h l, decoded-entries ss rest, e) (same-answer (record { symbols = ss; size = length text }) (length ss)
+    (treeOf (record { symbols = ss; size = length text })))

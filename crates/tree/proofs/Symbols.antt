@@ -104,12 +104,16 @@ module _ {src : Source} {n : ℕ} {s : List ℕ} (l : HoldsSymbols src n s) {r :
   expect-end h pos =
       record { by = rw e (the-not src kind at (λ x. let z : kindAt src at ≡ 0 = past l at (omega arith) in absurd (omega arith))) }
 
-pub expect-refused : (src : Source) {s : List ℕ} {r : State} {k p : ℕ} (kind : ℕ) → r ≡ Refused k p → Reads (the kind src) (λ _. []) s s r (Refused k p)
+pub expect-refused :
+    (src : Source) {s : List ℕ} {r : State} {k p : ℕ} (kind : ℕ) → r ≡ Refused k p → Reads (the kind src) (λ _. []) s s r (Refused k p)
 expect-refused src kind e = record { by = rw e refl }
 
 -- the place of a symbol that is read is what stands here
-module _ {src : Source} {n : ℕ} {s : List ℕ} (l : HoldsSymbols src n s) {r : State} {p : ℕ} (h : Here (placeAt src) n r p) (kind : ℕ) (pos : 0 < kind) where
-  placedBy : {C : Type 0} (F : ℕ → ℕ → Out C) (at free : ℕ) → r ≡ Read at free → (b : Bool) → eqb (kindAt src at) kind ≡ b → onOut (the kind src at) F ≡ onOut (the kind src at) (λ _ m. F p m)
+module _ {src : Source} {n : ℕ} {s : List ℕ} (l : HoldsSymbols src n s) {r : State} {p : ℕ} (h : Here (placeAt src) n r p) (kind : ℕ)
+    (pos : 0 < kind) where
+  placedBy :
+      {C : Type 0} (F : ℕ → ℕ → Out C) (at free : ℕ) → r ≡ Read at free → (b : Bool) → eqb (kindAt src at) kind ≡ b
+      → onOut (the kind src at) F ≡ onOut (the kind src at) (λ _ m. F p m)
   placedBy {C} F at free e true q =
       let k = eqb-true (kindAt src at) kind q in
       let t = the-is src kind at k in
@@ -133,6 +137,8 @@ pub stays : {r : State} → Passes r r
 stays {r} = record { by = staysBy r }
 
 -- a tree in another form
-pub mapped : {A C : Type 0} {read : ℕ → Out A} (F : A → C) {enc : A → List ℕ} {enc′ : C → List ℕ} {s s′ : List ℕ} {r r′ : State} → ((a : A) → enc′ (F a) ≡ enc a) → Reads read enc s s′ r r′ → Follows (λ m. onOut (read m) (λ a q. ok (F a) q)) (Encodes enc′) s s′ r r′
+pub mapped :
+    {A C : Type 0} {read : ℕ → Out A} (F : A → C) {enc : A → List ℕ} {enc′ : C → List ℕ} {s s′ : List ℕ} {r r′ : State}
+    → ((a : A) → enc′ (F a) ≡ enc a) → Reads read enc s s′ r r′ → Follows (λ m. onOut (read m) (λ a q. ok (F a) q)) (Encodes enc′) s s′ r r′
 mapped F {enc} {enc′} h d =
     bind 0 enc d stays (λ a q. nothing (record { same = append-nil (enc a) ∙ sym (h a) }))
