@@ -60,10 +60,7 @@ step-expect-requires-2 t c κs =
 
 step-expr-requires : (t : ℕ) → cycle.Lts-step.Need-expr-requires (step-cs t) (at step-rank t) phrases.step.Reads.Post
 step-expr-requires t c κs =
-    let after-expect2 = c .before in
-    let start = after-expect2 .before .before .before .before .before .before .before .before .before .before .before in
-    pair (omega (arith, start .pre .0)) (pair
-    (ready-leaves (after-expect2 .expect2 .ensures .0) refl refl (step-expect-requires-2 t (after-expect2 .before) κs .0)) (omega arith))
+    (omega arith, (ready-leaves (c .before .expect2 .ensures .0) refl refl (step-expect-requires-2 t (c .before .before) κs .0), omega arith))
 
 step-expect-requires-3 : (t : ℕ) → cycle.Lts-step.Need-expect-requires-3 (step-cs t) (at step-rank t) phrases.step.Reads.Post
 step-expect-requires-3 t c κs =
@@ -187,10 +184,7 @@ pick-expect-requires-3 t c κs =
 
 pick-item-requires : (t : ℕ) → cycle.Lts-pick.Need-item-requires (pick-cs t) (at pick-rank t) phrases.pick.Reads.Post
 pick-item-requires t c κs =
-    let after-expect3 = c .before in let after-expr = after-expect3 .before .before .before .before .before .before .before .before .before in
-    let start = after-expr .before .before .before .before .before .before .before in
-    pair (omega (arith, start .pre .0)) (ready-leaves (after-expect3 .expect3 .ensures .0) refl refl
-    (pick-expect-requires-3 t (after-expect3 .before) κs .0))
+    (omega arith, ready-leaves (c .before .expect3 .ensures .0) refl refl (pick-expect-requires-3 t (c .before .before) κs .0))
 
 pick-list-requires : (t : ℕ) → cycle.Lts-pick.Need-list-requires (pick-cs t) (at pick-rank t) phrases.pick.Reads.Post
 pick-list-requires t c κs =
@@ -310,10 +304,8 @@ list-returns-2 t c =
 
 list-item-requires : (t : ℕ) → cycle.Lts-list.Need-item-requires (list-cs t) (at list-rank t) phrases.list.Reads.Post list-inv list-turns
 list-item-requires t c κs =
-    let after-expect2 = c .before .before .before .before in
-    let start = after-expect2 .before .before .before .before .before .before .before .before in
-    pair (omega (arith, start .pre .0)) (ready-leaves (after-expect2 .expect2 .ensures .0) refl refl
-    (list-expect-requires-2 t (after-expect2 .before) κs .0))
+    pair (omega arith) (ready-leaves (c .before .before .before .before .expect2 .ensures .0) refl refl
+    (list-expect-requires-2 t (c .before .before .before .before .before) κs .0))
 
 list-loop-again : (t : ℕ) → cycle.Lts-list.Need-loop-again (list-cs t) (at list-rank t) phrases.list.Reads.Post list-inv list-turns
 list-loop-again t c =
@@ -379,7 +371,7 @@ block-till-requires : (t : ℕ) → cycle.Lts-block.Need-till-requires (block-cs
 block-till-requires t c κs =
     let after-lets = c .before .before .before .before .before .before in let after-expect = after-lets .before .before in
     let start = after-expect .before .before .before .before .before in
-    pair (omega (arith, start .pre .0)) (ready-leaves (after-lets .lets .ensures .0) (after-lets .lets .kept .0) refl
+    pair (omega arith) (ready-leaves (after-lets .lets .ensures .0) (after-lets .lets .kept .0) refl
     (ready-leaves (after-expect .expect .ensures .0) refl refl (start .pre .1)))
 
 block-cast-node : (t : ℕ) → cycle.Lts-block.Need-cast-node (block-cs t) (at block-rank t) phrases.block.Reads.Post
@@ -583,7 +575,7 @@ init-rest-requires : (t : ℕ) → cycle.Lts-init.Need-rest-requires (init-cs t)
 init-rest-requires t c κs =
     let after-arg = c .before .before .before in
     let start = after-arg .before .before .before .before .before .before .before .before .before .before in
-    (omega (arith, start .pre .0), ready-takes (after-arg .arg .ensures .0) (after-arg .arg .kept .0) (ready-part (start .pre .1) refl))
+    (omega arith, ready-takes (after-arg .arg .ensures .0) (after-arg .arg .kept .0) (ready-part (start .pre .1) refl))
 
 init-cast-node : (t : ℕ) → cycle.Lts-init.Need-cast-node (init-cs t) (at init-rank t) phrases.init.Reads.Post
 init-cast-node t c =

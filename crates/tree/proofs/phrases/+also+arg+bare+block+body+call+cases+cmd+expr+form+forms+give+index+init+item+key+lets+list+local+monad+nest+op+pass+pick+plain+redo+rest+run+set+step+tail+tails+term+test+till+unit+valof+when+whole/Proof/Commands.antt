@@ -84,8 +84,7 @@ cases-labels-requires t c κs =
 cases-body-requires : (t : ℕ) → cycle.Lts-cases.Need-body-requires (cases-cs t) (at cases-rank t) phrases.cases.Reads.Post
 cases-body-requires t c κs =
     let after-labels = c .before .before .before .before .before .before in
-    let start = after-labels .before .before .before .before .before .before .before .before .before in
-    pair (omega (arith, start .pre .0)) (ready-leaves (after-labels .labels .ensures .0) (after-labels .labels .kept .0) refl
+    pair (omega arith) (ready-leaves (after-labels .labels .ensures .0) (after-labels .labels .kept .0) refl
     (cases-labels-requires t (after-labels .before) κs))
 
 cases-cast-node : (t : ℕ) → cycle.Lts-cases.Need-cast-node (cases-cs t) (at cases-rank t) phrases.cases.Reads.Post
@@ -301,8 +300,7 @@ form-returns t c =
 form-expr-requires : (t : ℕ) → cycle.Lts-form.Need-expr-requires (form-cs t) (at form-rank t) phrases.form.Reads.Post
 form-expr-requires t c κs =
     let after-begin-item = c .before .before .before .before in
-    let start = after-begin-item .before .before .before .before .before .before .before in
-    pair (omega (arith, start .pre .0)) (pair (ready-takes (after-begin-item .begin-item .ensures .0) (after-begin-item .begin-item .kept .0)
+    pair (omega arith) (pair (ready-takes (after-begin-item .begin-item .ensures .0) (after-begin-item .begin-item .kept .0)
     (form-begin-item-requires t (after-begin-item .before) κs)) (omega arith))
 
 form-set-size-requires : (t : ℕ) → cycle.Lts-form.Need-set-size-requires (form-cs t) (at form-rank t) phrases.form.Reads.Post
@@ -402,23 +400,12 @@ test-expect-requires-2 t c κs =
     (ready-leaves (after-expr .expr .ensures .0) (after-expr .expr .kept .0) refl (test-expr-requires t (after-expr .before) κs .1 .0), omega arith)
 
 test-cmd-requires : (t : ℕ) → cycle.Lts-test.Need-cmd-requires (test-cs t) (at test-rank t) phrases.test.Reads.Post
-test-cmd-requires t c κs =
-    let after-expect2 = c .before in
-    let start = after-expect2 .before .before .before .before .before .before .before .before .before .before .before in
-    pair (omega (arith, start .pre .0)) (ready-leaves (after-expect2 .expect2 .ensures .0) refl refl
-    (test-expect-requires-2 t (after-expect2 .before) κs .0))
+test-cmd-requires t c κs = (omega arith, ready-leaves (c .before .expect2 .ensures .0) refl refl (test-expect-requires-2 t (c .before .before) κs .0))
 
 test-expect-requires-3 : (t : ℕ) → cycle.Lts-test.Need-expect-requires-3 (test-cs t) (at test-rank t) phrases.test.Reads.Post
 test-expect-requires-3 t c κs =
     let after-cmd = c .before .before .before in
     (ready-leaves (after-cmd .cmd .ensures .0) (after-cmd .cmd .kept .0) refl (test-cmd-requires t (after-cmd .before) κs .1), omega arith)
-
-test-cmd-requires-2 : (t : ℕ) → cycle.Lts-test.Need-cmd-requires-2 (test-cs t) (at test-rank t) phrases.test.Reads.Post
-test-cmd-requires-2 t c κs =
-    let after-expect3 = c .before in let after-expr = after-expect3 .before .before .before .before .before .before .before .before .before .before in
-    let start = after-expr .before .before .before .before .before .before .before in
-    pair (omega (arith, start .pre .0)) (ready-leaves (after-expect3 .expect3 .ensures .0) refl refl
-    (test-expect-requires-3 t (after-expect3 .before) κs .0))
 
 test-node-requires : (t : ℕ) → cycle.Lts-test.Need-node-requires (test-cs t) (at test-rank t) phrases.test.Reads.Post
 test-node-requires t c κs =
@@ -446,8 +433,9 @@ test-returns t c =
 pub test-ok : {M : Type 1} (t : ℕ) → cycle.Lts-test.Closed (test-cs t) (at test-rank t) phrases.test.Reads.Post M
 test-ok t =
     cycle.Lts-test.spec (test-cs t) (at test-rank t) phrases.test.Reads.Post (λ c κs. tt) (λ c κs. omega arith) (test-expr-requires t)
-    (test-expect-requires-2 t) (test-cmd-requires t) (test-expect-requires-3 t) (test-cmd-requires-2 t) (test-node-requires t) (λ c. search needs)
-    (test-returns t)
+    (test-expect-requires-2 t) (test-cmd-requires t) (test-expect-requires-3 t)
+    (λ c κs. (omega arith, ready-leaves (c .before .expect3 .ensures .0) refl refl (test-expect-requires-3 t (c .before .before) κs .0)))
+    (test-node-requires t) (λ c. search needs) (test-returns t)
 
 abbrev when-cs : ℕ → cycle.Lts-when.Claims
 when-cs t =
@@ -463,13 +451,6 @@ when-expect-requires-2 : (t : ℕ) → cycle.Lts-when.Need-expect-requires-2 (wh
 when-expect-requires-2 t c κs =
     let after-expr = c .before .before .before in
     (ready-leaves (after-expr .expr .ensures .0) (after-expr .expr .kept .0) refl (when-expr-requires t (after-expr .before) κs .1 .0), omega arith)
-
-when-cmd-requires : (t : ℕ) → cycle.Lts-when.Need-cmd-requires (when-cs t) (at when-rank t) phrases.when.Reads.Post
-when-cmd-requires t c κs =
-    let after-expect2 = c .before in
-    let start = after-expect2 .before .before .before .before .before .before .before .before .before .before .before in
-    pair (omega (arith, start .pre .0)) (ready-leaves (after-expect2 .expect2 .ensures .0) refl refl
-    (when-expect-requires-2 t (after-expect2 .before) κs .0))
 
 when-node-requires : (t : ℕ) → cycle.Lts-when.Need-node-requires (when-cs t) (at when-rank t) phrases.when.Reads.Post
 when-node-requires t c κs =
@@ -493,7 +474,9 @@ when-returns t c =
 pub when-ok : {M : Type 1} (t : ℕ) → cycle.Lts-when.Closed (when-cs t) (at when-rank t) phrases.when.Reads.Post M
 when-ok t =
     cycle.Lts-when.spec (when-cs t) (at when-rank t) phrases.when.Reads.Post (λ c κs. tt) (λ c κs. omega arith) (when-expr-requires t)
-    (when-expect-requires-2 t) (when-cmd-requires t) (when-node-requires t) (λ c. search needs) (when-returns t)
+    (when-expect-requires-2 t)
+    (λ c κs. (omega arith, ready-leaves (c .before .expect2 .ensures .0) refl refl (when-expect-requires-2 t (c .before .before) κs .0)))
+    (when-node-requires t) (λ c. search needs) (when-returns t)
 
 abbrev give-cs : ℕ → cycle.Lts-give.Claims
 give-cs t =
@@ -585,10 +568,7 @@ set-expect-requires t c κs =
     (ready-leaves (after-also .also .ensures .0) (after-also .also .kept .0) refl (start .pre .1), omega arith)
 
 set-arg-requires : (t : ℕ) → cycle.Lts-set.Need-arg-requires (set-cs t) (at set-rank t) phrases.set.Reads.Post
-set-arg-requires t c κs =
-    let after-expect = c .before in let after-also = after-expect .before .before .before .before .before .before .before in
-    let start = after-also .before .before .before .before .before .before in
-    (omega (arith, start .pre .0), ready-leaves (after-expect .expect .ensures .0) refl refl (set-expect-requires t (after-expect .before) κs .0))
+set-arg-requires t c κs = (omega arith, ready-leaves (c .before .expect .ensures .0) refl refl (set-expect-requires t (c .before .before) κs .0))
 
 set-rest-requires : (t : ℕ) → cycle.Lts-set.Need-rest-requires (set-cs t) (at set-rank t) phrases.set.Reads.Post
 set-rest-requires t c κs =

@@ -64,10 +64,7 @@ whole-place-of-requires : (t : ℕ) → cycle.Lts-whole.Need-place-of-requires (
 whole-place-of-requires t c κs = whole-kind-here-requires t (c .before .before .before .before .before .before .before) κs
 
 whole-tail-requires : (t : ℕ) → cycle.Lts-whole.Need-tail-requires (whole-cs t) (at whole-rank t) phrases.whole.Reads.Post
-whole-tail-requires t c κs =
-    let after-kind-here = c .before .before .before .before .before .before .before .before in
-    let start = after-kind-here .before .before .before .before .before .before .before .before .before in
-    (omega (arith, start .pre .0), whole-place-of-requires t (c .before .before) κs)
+whole-tail-requires t c κs = (omega arith, whole-place-of-requires t (c .before .before) κs)
 
 whole-tails-requires : (t : ℕ) → cycle.Lts-whole.Need-tails-requires (whole-cs t) (at whole-rank t) phrases.whole.Reads.Post
 whole-tails-requires t c κs =
@@ -380,11 +377,6 @@ also-kind-here-requires t c κs =
 also-expect-requires : (t : ℕ) → cycle.Lts-also.Need-expect-requires (also-cs t) (at also-rank t) phrases.also.Reads.Post also-inv also-turns
 also-expect-requires t c κs = (also-kind-here-requires t (c .before .before .before) κs, omega arith)
 
-also-arg-requires : (t : ℕ) → cycle.Lts-also.Need-arg-requires (also-cs t) (at also-rank t) phrases.also.Reads.Post also-inv also-turns
-also-arg-requires t c κs =
-    let after-expect = c .before in let start = after-expect .before .before .before .before .before .before .before .before in
-    (omega (arith, start .pre .0), ready-leaves (after-expect .expect .ensures .0) refl refl (also-expect-requires t (after-expect .before) κs .0))
-
 also-loop-again : (t : ℕ) → cycle.Lts-also.Need-loop-again (also-cs t) (at also-rank t) phrases.also.Reads.Post also-inv also-turns
 also-loop-again t c =
     let after-arg = c .before .before in let after-expect = after-arg .before .before in let after-if1 = after-expect .before .before in
@@ -398,8 +390,9 @@ also-ok t =
     cycle.Lts-also.spec (also-cs t) (at also-rank t) phrases.also.Reads.Post also-inv also-turns
     (λ c. (so-begins (c .before .pre .1) expression-first, refl)) (also-kind-here-requires t) (λ c. search needs)
     (λ c. many-ends _ _ _ _ expression-last no-expression-counted refl (c .before .before .before .before .loop .inv .0)
-    (c .before .kind-here .ensures) (ne-eqb _ _ (c .if1 .taken))) (also-expect-requires t) (also-arg-requires t) (λ c. omega arith) (λ c. omega arith)
-    (λ c. omega arith) (also-loop-again t) (λ c. search needs)
+    (c .before .kind-here .ensures) (ne-eqb _ _ (c .if1 .taken))) (also-expect-requires t)
+    (λ c κs. (omega arith, ready-leaves (c .before .expect .ensures .0) refl refl (also-expect-requires t (c .before .before) κs .0)))
+    (λ c. omega arith) (λ c. omega arith) (λ c. omega arith) (also-loop-again t) (λ c. search needs)
     (λ c. many-spent _ _ _ _ expression-last no-expression-counted refl (c .before .loop .inv .0) (omega arith))
 
 abbrev rest-cs : ℕ → cycle.Lts-rest.Claims
@@ -417,11 +410,6 @@ rest-expect-requires t c κs =
     let in-loop = c .before .before in let start = in-loop .before .before in
     (ready-leaves (in-loop .loop .inv .room) (in-loop .loop .inv .same) refl (start .pre .1), omega arith)
 
-rest-arg-requires : (t : ℕ) → cycle.Lts-rest.Need-arg-requires (rest-cs t) (at rest-rank t) phrases.rest.Reads.Post rest-inv rest-turns
-rest-arg-requires t c κs =
-    let after-expect = c .before in let start = after-expect .before .before .before .before .before in
-    (omega (arith, start .pre .0), ready-leaves (after-expect .expect .ensures .0) refl refl (rest-expect-requires t (after-expect .before) κs .0))
-
 rest-loop-again : (t : ℕ) → cycle.Lts-rest.Need-loop-again (rest-cs t) (at rest-rank t) phrases.rest.Reads.Post rest-inv rest-turns
 rest-loop-again t c =
     let after-arg = c .before .before in let after-expect = after-arg .before .before in let in-loop = after-expect .before .before .before in
@@ -433,7 +421,9 @@ rest-loop-again t c =
 pub rest-ok : {M : Type 1} (t : ℕ) → cycle.Lts-rest.Closed (rest-cs t) (at rest-rank t) phrases.rest.Reads.Post M
 rest-ok t =
     cycle.Lts-rest.spec (rest-cs t) (at rest-rank t) phrases.rest.Reads.Post rest-inv rest-turns (λ c. so-begins (c .before .pre .1) before-first)
-    (rest-expect-requires t) (rest-arg-requires t) (λ c. omega arith) (λ c. omega arith) (rest-loop-again t) (λ c. search needs)
+    (rest-expect-requires t)
+    (λ c κs. (omega arith, ready-leaves (c .before .expect .ensures .0) refl refl (rest-expect-requires t (c .before .before) κs .0)))
+    (λ c. omega arith) (λ c. omega arith) (rest-loop-again t) (λ c. search needs)
     (λ c. so-ends (c .before .loop .inv) T.noExpressions before-last (wordless no-expression-words)
     (λ src l at free e. value-last (c .before .before .before .args .levels) src _ at (omega arith)))
 

@@ -82,8 +82,7 @@ expr-op-requires : (t : ℕ) → cycle.Lts-expr.Need-op-requires (expr-cs t) (at
 expr-op-requires t c κs =
     let after-if4 = c .before .before .before .before .before .before .before in let after-binding-of = after-if4 .before in
     let after-if1 = after-binding-of .before .before .before .before .before .before .before .before .before .before in
-    let start = after-if1 .before .before in
-    pair (omega (arith, start .pre .0)) (triple (expr-place-of-requires t (c .before .before .before) κs) (omega arith)
+    pair (omega arith) (triple (expr-place-of-requires t (c .before .before .before) κs) (omega arith)
     (binding-positive _ (omega (arith, after-binding-of .binding-of .ensures, after-if4 .if4 .left, after-if1 .if1 .left))))
 
 expr-run-requires : (t : ℕ) → cycle.Lts-expr.Need-run-requires (expr-cs t) (at expr-rank t) phrases.expr.Reads.Post
@@ -156,8 +155,8 @@ op-begin-item-requires t c κs = ready-leaves (c .before .expect .ensures .0) re
 
 op-expr-requires : (t : ℕ) → cycle.Lts-op.Need-expr-requires (op-cs t) (at op-rank t) phrases.op.Reads.Post
 op-expr-requires t c κs =
-    let after-begin-item = c .before .before .before in let start = after-begin-item .before .before .before .before .before .before .before in
-    pair (omega (arith, start .pre .0)) (pair (ready-takes (after-begin-item .begin-item .ensures .0) (after-begin-item .begin-item .kept .0)
+    let after-begin-item = c .before .before .before in
+    pair (omega arith) (pair (ready-takes (after-begin-item .begin-item .ensures .0) (after-begin-item .begin-item .kept .0)
     (op-begin-item-requires t (after-begin-item .before) κs)) (omega arith))
 
 op-set-size-requires : (t : ℕ) → cycle.Lts-op.Need-set-size-requires (op-cs t) (at op-rank t) phrases.op.Reads.Post
@@ -174,10 +173,9 @@ op-returns t c =
     let after-free-of = after-expect .before .before in let start = after-free-of .before .before .before in
     pair (leaves-leaves (after-set-size .set-size .ensures .0)
     (leaves-leaves (after-expr .expr .ensures .0) (takes-leaves (after-begin-item .begin-item .ensures .0) (after-expect .expect .ensures .0))))
-    (λ src l k. operation-read src _ _ (after-free-of .free-of .ensures) _
-    (low-past (start .pre .1 .0) (after-expect .expect .ensures .0)) k (after-expect .expect .ensures .1 src l)
-    (after-begin-item .begin-item .ensures .1) (after-expr .expr .ensures .1 src (lies-still l (after-begin-item .begin-item .ensures .0 .kept)))
-    (after-set-size .set-size .ensures .1))
+    (λ src l k. operation-read src _ _ (after-free-of .free-of .ensures) _ (low-past (start .pre .1 .0) (after-expect .expect .ensures .0)) k
+    (after-expect .expect .ensures .1 src l) (after-begin-item .begin-item .ensures .1)
+    (after-expr .expr .ensures .1 src (lies-still l (after-begin-item .begin-item .ensures .0 .kept))) (after-set-size .set-size .ensures .1))
 
 pub op-ok : {M : Type 1} (t : ℕ) → cycle.Lts-op.Closed (op-cs t) (at op-rank t) phrases.op.Reads.Post M
 op-ok t =
