@@ -5,12 +5,12 @@ use mathlib.Core.List.{List, [], _∷_, _++_, append-assoc}
 use native.Mathlib.Omega.{arith}
 use lib.ListN.{length, take, set, length-set}
 use lib.Seq.{take-suc-set, take-take, take-append-le, length-take-le}
-use Rattle.tree.specs.Reads.{Ready, LeavesRoom, TakesRoom, Refuses, Adds, Seals, nextOf, freeOf, lowOf, live, reach}
+use Rattle.tree.specs.Reads.{Ready, LeavesRoom, TakesRoom, Refuses, Adds, Seals, nextOf, freeOf, lowOf, live, reach, recordFrom, behindFrom}
 use Rattle.tree.specs.declared.scratch.State.{State}
 use Rattle.tree.specs.declared.scratch.State.the-variants.{Read, Refused}
 
 -- one entry and then the next
-pub put2 : (s : List ℕ) (i x y : ℕ) → i + 2 ≤ length s → take (i + 2) (set (set s i x) (i + 1) y) ≡ take i s ++ (x ∷ y ∷ [])
+put2 : (s : List ℕ) (i x y : ℕ) → i + 2 ≤ length s → take (i + 2) (set (set s i x) (i + 1) y) ≡ take i s ++ (x ∷ y ∷ [])
 put2 s i x y h =
     let e2 : i + 2 ≡ suc (i + 1) = omega arith in
     let e1 : i + 1 ≡ suc i = omega arith in
@@ -21,7 +21,7 @@ put2 s i x y h =
     ∙ ap (λ (l : List ℕ). l ++ (y ∷ [])) (ap (λ (m : ℕ). take m (set s i x)) e1 ∙ take-suc-set s i x l1)
     ∙ append-assoc (take i s) (x ∷ []) (y ∷ [])
 
-pub put4 :
+put4 :
     (s : List ℕ) (i x y z w : ℕ) → i + 4 ≤ length s
     → take (i + 4) (set (set (set (set s i x) (i + 1) y) (i + 2) z) (i + 3) w) ≡ take i s ++ (x ∷ y ∷ z ∷ w ∷ [])
 put4 s i x y z w h =
@@ -144,7 +144,7 @@ module _ {m : ℕ} {s : List ℕ} {n : ℕ} {r : State} (h : Ready m s n r) wher
 
     module _ (words : ℕ → List ℕ) (s′ : List ℕ) (k nf : ℕ) (el : nf ≡ free + k) (len : length (words free) ≡ k) (le : k ≤ m)
         (w : take nf s′ ≡ take free s ++ words free) where
-      pub added-grows : TakesRoom k s s′ n r (Read at nf)
+      added-grows : TakesRoom k s s′ n r (Read at nf)
       added-grows =
           let f = read-facts n at nf in
           let g = facts-read e n in
@@ -157,10 +157,36 @@ module _ {m : ℕ} {s : List ℕ} {n : ℕ} {r : State} (h : Ready m s n r) wher
             kept = below s s′ (n * 3) free nf (words free) w (omega (arith, room-is)) (omega arith) (omega (arith, room-is));
           }
 
-      pub added-adds : Adds words s s′ r (Read at nf)
+      added-adds : Adds words s s′ r (Read at nf)
       added-adds =
           let q : nf ≡ free + length (words free) = omega arith in
           record { by = rw e (ap (λ (x : ℕ). Read at x) q, ap (λ (x : ℕ). take x s′) (sym q) ∙ w) }
+
+-- the entries that are written behind, and the state after them
+module _ {s : List ℕ} {n : ℕ} {r : State} {at free : ℕ} (e : r ≡ Read at free) where
+  pub record-written :
+      Ready 4 s n r → (lo v p k : ℕ) {z : ℕ} → z ≡ free - lo
+      → TakesRoom 4 s (set (set (set (set s free z) (free + 1) v) (free + 2) p) (free + 3) k) n r (Read at (free + 4))
+      × Adds (recordFrom lo v p k) s (set (set (set (set s free z) (free + 1) v) (free + 2) p) (free + 3) k) r (Read at (free + 4))
+  record-written h lo v p k q =
+      let w = put4 s free _ v p k (room-is h e .0) ∙ ap (λ (y : ℕ). take free s ++ (y ∷ v ∷ p ∷ k ∷ [])) q in
+      (added-grows h e (recordFrom lo v p k) _ 4 _ refl refl (omega arith) w, added-adds h e (recordFrom lo v p k) _ 4 _ refl refl (omega arith) w)
+
+  module _ (h : Ready 2 s n r) (tag : ℕ) where
+    pub item-ended :
+        (lo : ℕ) {z : ℕ} → z ≡ free - lo
+        → TakesRoom 2 s (set (set s free z) (free + 1) tag) n r (Read at (free + 2))
+        × Adds (behindFrom lo tag) s (set (set s free z) (free + 1) tag) r (Read at (free + 2))
+    item-ended lo q =
+        let w = put2 s free _ tag (room-is h e .0) ∙ ap (λ (y : ℕ). take free s ++ (y ∷ tag ∷ [])) q in
+        (added-grows h e (behindFrom lo tag) _ 2 _ refl refl (omega arith) w, added-adds h e (behindFrom lo tag) _ 2 _ refl refl (omega arith) w)
+
+    pub item-begun :
+        TakesRoom 2 s (set (set s free 0) (free + 1) tag) n r (Read at (free + 2))
+        × Adds (λ _. 0 ∷ tag ∷ []) s (set (set s free 0) (free + 1) tag) r (Read at (free + 2))
+    item-begun =
+        let w = put2 s free 0 tag (room-is h e .0) in
+        (added-grows h e (λ _. 0 ∷ tag ∷ []) _ 2 _ refl refl (omega arith) w, added-adds h e (λ _. 0 ∷ tag ∷ []) _ 2 _ refl refl (omega arith) w)
 
 pub adds-refused : {words : ℕ → List ℕ} {s s′ : List ℕ} {r : State} {k p : ℕ} → r ≡ Refused k p → Adds words s s′ r (Refused k p)
 adds-refused e = record { by = rw e refl }

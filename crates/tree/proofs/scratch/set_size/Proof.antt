@@ -6,16 +6,6 @@ use borrow.Author.Needs.{needs}
 use Rattle.tree.proofs.scratch.set_size.Statement.{statement}
 use Rattle.tree.proofs.scratch.set_size.Tie as tie
 
-cast-s : tie.Need-cast-s
-cast-s c = omega (arith, room-is (c .before .before .before .before .before .before .before .pre .0) (c .before .before .before .before .r .given .1))
-
-mul-s : tie.Need-mul-s
-mul-s c = omega (arith, room-is (c .before .before .before .before .before .before .before .pre .0) (c .before .before .before .before .r .given .1))
-
-slice-write-s : tie.Need-slice-write-s
-slice-write-s c =
-    omega (arith, room-is (c .before .before .before .before .before .before .before .pre .0) (c .before .before .before .before .r .given .1))
-
 returns : tie.Need-returns
 returns c = (
   search (set-size-fits, set-kept),
@@ -27,5 +17,8 @@ returns c = (
 pub set-size-spec : {M : Type 1} → statement M
 set-size-spec =
     tie.close
-    (tie.spec (search needs) (search needs) (search needs) cast-s mul-s slice-write-s (search needs) (search needs)
-    returns (λ c. (search set-size-fits, search sealed-past)) (λ c. (search set-size-fits, search sealed-refused)))
+    (tie.spec (search needs) (search needs) (search needs)
+    (λ c. omega (arith, room-is (c .before .before .before .before .before .before .before .pre .0) (c .before .before .before .before .r .given .1)))
+    (λ c. omega (arith, room-is (c .before .before .before .before .before .before .before .pre .0) (c .before .before .before .before .r .given .1)))
+    (λ c. omega (arith, room-is (c .before .before .before .before .before .before .before .pre .0) (c .before .before .before .before .r .given .1)))
+    (search needs) (search needs) returns (λ c. (search set-size-fits, search sealed-past)) (λ c. (search set-size-fits, search sealed-refused)))
