@@ -25,7 +25,7 @@ use Rattle.tree.specs.Encoding.{item, closed, encode, encodeName, encode
 use Rattle.tree.specs.Encoding.{bodyWord, encodeFunctions, encodeProgram}
 use Rattle.tree.proofs.Choices.{Expects}
 use Rattle.tree.proofs.Rooms.{leaves-last}
-use Rattle.tree.proofs.Steps.{follow, bind, here, added, adds-on, goes-on, _then_, nothing, stopped}
+use Rattle.tree.proofs.Steps.{refuses-on, follow, bind, here, added, adds-on, goes-on, _then_, nothing, stopped}
 use Rattle.tree.proofs.Symbols.{mapped, the-is, stays}
 use Rattle.tree.proofs.Lists.{sealed}
 use Rattle.tree.proofs.ListEnd.{listed-items}
@@ -259,7 +259,7 @@ pub declared-read :
     → Follows (G.declared src) (Prepends encodeProgram) s s₃ r r₃
 unfolding G.declared
 declared-read src size {kind} k h lo-is le a b c d f =
-    follow {First = λ x w. Prepends encodeProgram (λ rest. x ∷ rest) w} size
+    follow size {First = λ x w. Prepends encodeProgram (λ rest. x ∷ rest) w}
     (here _ (λ at free e. declarationBy src at kind (k .here at free e) h (eqb kind K.GLOBAL) (eqb kind K.MANIFEST) refl refl)
     (bind size (λ _. []) a (adds-on b then goes-on c) (λ _ q. sealed {Says = Declares kind} (λ x w. Prepends encodeProgram (λ rest. x ∷ rest) w) kind
     size (λ x w g. record { puts = g .same; some = omega arith }) le (omega arith) b c d)))
@@ -292,6 +292,6 @@ module _ (src : Source) {n : ℕ} (en : length (src .symbols) ≡ n) {s s₁ : L
   pub program-refused : {r₂ : State} → (kind ≡ K.NOTHING → ⊥) → Refuses 6 r₁ r₂ → Reads (G.program src) encodeProgram s s₁ r r₂
   unfolding G.program G.whole unexpected
   program-refused q g =
-      bind 0 encodeProgram whole-read (goes-on (stopped {A = ℕ} {read = λ m. no 6 m} {Says = λ _ _. ⊥} {s = s} {s′ = s} (λ _ _ _. refl) g))
+      bind 0 encodeProgram whole-read (refuses-on g)
       (λ p _. stopped (λ at free e. ap (λ (b : Bool). cond b (ok p at) (no 6 at)) (ne-eqb (kindAt src at) K.NOTHING (λ y. q (k .here at free e ∙ y))))
       g)
