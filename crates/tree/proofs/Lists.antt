@@ -7,8 +7,7 @@ use native.Mathlib.Omega.{arith}
 use lib.ListN.{length, take, set, length-append}
 use lib.Seq.{length-take-le}
 use Rattle.language.specs.Reader.{Source, Out, ok, no, Reader, onOut, manyUpTo, kindAt}
-use Rattle.tree.specs.Reads.{Wrote, FollowsBy, Follows, Prepends, Reads, AddsBy, Adds, SealsBy, Seals, freeOf}
-use Rattle.tree.proofs.Steps.{here, nothing}
+use Rattle.tree.specs.Reads.{Wrote, FollowsBy, Follows, Adds, Seals, freeOf}
 use Rattle.tree.specs.Encoding.{item}
 use Rattle.tree.specs.declared.scratch.State.{State}
 use Rattle.tree.specs.declared.scratch.State.the-variants.{Read, Refused}
@@ -35,44 +34,11 @@ pub record PartlyAs {A : Type 0} (read rest : ℕ → Out A) (Says : (A → A) �
 pub record Before {A : Type 0} (enc : A → List ℕ) (put : A → A) (words : List ℕ) : Type 0 where
   pub puts : (rest : A) → enc (put rest) ≡ words ++ enc rest
 
-abbrev pub Partly : {A : Type 0} → (ℕ → Out A) → (ℕ → Out A) → (A → List ℕ) → List ℕ → List ℕ → State → State → Type 0
-Partly read rest enc s s′ r r′ = PartlyAs read rest (Before enc) s s′ r r′
-
 set-between : (a b : List ℕ) (i x z : ℕ) → i ≡ length a → set (a ++ (x ∷ b)) i z ≡ a ++ (z ∷ b)
 set-between [] b zero x z e = refl
 set-between [] b (suc i) x z e = absurd (omega arith)
 set-between (c ∷ a) b zero x z e = absurd (omega arith)
 set-between (c ∷ a) b (suc i) x z e = ap (λ (l : List ℕ). c ∷ l) (set-between a b i x z (omega arith))
-
-module _ {A : Type 0} (read : ℕ → Out A) (Says Says′ : A → List ℕ → Type 0) (tag size : ℕ) (s₀ s₁ s₂ s₃ : List ℕ)
-    (h : (a : A) (w : List ℕ) → Says a w → Says′ a (item tag w)) where
-  itemWrote :
-      (at free m nf lo : ℕ) → lo ≡ free → free ≤ length s₀ → take (free + 2) s₁ ≡ take free s₀ ++ (0 ∷ tag ∷ [])
-      → Wrote (read at) Says (free + 2) s₁ s₂ m nf → take nf s₃ ≡ set (take nf s₂) lo (nf - lo - 2) → Wrote (read at) Says′ free s₀ s₃ m nf
-  itemWrote at free m nf lo el le e₁ d e₃ =
-      let w = d .words in
-      let ez : nf - lo - 2 ≡ length w = omega (arith, d .size) in
-      let e₂ : take nf s₂ ≡ take free s₀ ++ (0 ∷ tag ∷ w) = d .written ∙ ap (λ (l : List ℕ). l ++ w) e₁
-      ∙ append-assoc (take free s₀) (0 ∷ tag ∷ []) w in
-      record {
-        tree = d .tree;
-        words = item tag w;
-        is = d .is;
-        says = h (d .tree) w (d .says);
-        written = e₃ ∙ ap (λ (z : ℕ). set (take nf s₂) lo z) ez ∙ ap (λ (l : List ℕ). set l lo (length w)) e₂
-            ∙ set-between (take free s₀) (tag ∷ w) lo 0 (length w) (omega (arith, length-take-le free s₀ le));
-        size = omega (arith, d .size);
-      }
-
-  itemBy :
-      (r₀ r₁ r₂ : State) → freeOf size r₀ ≤ length s₀ → (lo : ℕ) → lo ≡ freeOf size r₀ → AddsBy (λ _. 0 ∷ tag ∷ []) s₀ s₁ r₀ r₁
-      → FollowsBy read Says s₁ s₂ r₁ r₂ → SealsBy lo s₂ s₃ r₂ → FollowsBy read Says′ s₀ s₃ r₀ r₂
-  unfolding freeOf
-  itemBy (Refused k p) r₁ r₂ le lo el a d b = subst (λ (x : State). FollowsBy read Says s₁ s₂ x r₂) a d
-  itemBy (Read at free) r₁ (Refused k p) le lo el a d b =
-      subst (λ (x : State). FollowsBy read Says s₁ s₂ x (Refused k p)) (a .0) d
-  itemBy (Read at free) r₁ (Read m nf) le lo el a d b =
-      itemWrote at free m nf lo el le (a .1) (subst (λ (x : State). FollowsBy read Says s₁ s₂ x (Read m nf)) (a .0) d) b
 
 -- an item: its two entries in front, what stands in it, and its size set
 pub sealed :
@@ -80,8 +46,28 @@ pub sealed :
     {r₀ r₁ r₂ : State} (size : ℕ)
     → ((a : A) (w : List ℕ) → Says a w → Says′ a (item tag w)) → freeOf size r₀ ≤ length s₀ → lo ≡ freeOf size r₀
     → Adds (λ _. 0 ∷ tag ∷ []) s₀ s₁ r₀ r₁ → Follows read Says s₁ s₂ r₁ r₂ → Seals lo s₂ s₃ r₂ → Follows read Says′ s₀ s₃ r₀ r₂
-sealed {read = read} {Says} Says′ tag {lo} {s₀} {s₁} {s₂} {s₃} {r₀} {r₁} {r₂} size h le el a d b =
-    record { by = itemBy read Says Says′ tag size s₀ s₁ s₂ s₃ h r₀ r₁ r₂ le lo el (a .by) (d .by) (b .by) }
+unfolding freeOf
+sealed {read = read} {Says} Says′ tag {s₁ = s₁} {s₂} {r₀ = Refused k p} {r₂ = r₂} size h le el a d b =
+    record { by = subst (λ (x : State). FollowsBy read Says s₁ s₂ x r₂) (a .by) (d .by) }
+sealed {read = read} {Says} Says′ tag {s₁ = s₁} {s₂} {r₀ = Read at free} {r₂ = Refused k p} size h le el a d b =
+    record { by = subst (λ (x : State). FollowsBy read Says s₁ s₂ x (Refused k p)) (a .by .0) (d .by) }
+sealed {read = read} {Says} Says′ tag {lo} {s₀} {s₁} {s₂} {r₀ = Read at free} {r₂ = Read m nf} size h le el a d b =
+    let v : Wrote (read at) Says (free + 2) s₁ s₂ m nf = subst (λ (x : State). FollowsBy read Says s₁ s₂ x (Read m nf)) (a .by .0) (d .by) in
+    let w = v .words in
+    let ez : nf - lo - 2 ≡ length w = omega (arith, v .size) in
+    let e₂ : take nf s₂ ≡ take free s₀ ++ (0 ∷ tag ∷ w) = v .written ∙ ap (λ (l : List ℕ). l ++ w) (a .by .1)
+    ∙ append-assoc (take free s₀) (0 ∷ tag ∷ []) w in
+    record {
+      by = record {
+        tree = v .tree;
+        words = item tag w;
+        is = v .is;
+        says = h (v .tree) w (v .says);
+        written = b .by ∙ ap (λ (z : ℕ). set (take nf s₂) lo z) ez ∙ ap (λ (l : List ℕ). set l lo (length w)) e₂
+            ∙ set-between (take free s₀) (tag ∷ w) lo 0 (length w) (omega (arith, length-take-le free s₀ le));
+        size = omega (arith, v .size);
+      };
+    }
 
 onOut-id : {A : Type 0} (o : Out A) → o ≡ onOut o (λ more m. ok more m)
 onOut-id (ok a m) = refl
@@ -93,98 +79,69 @@ onOut-put :
 onOut-put (ok a m) put put′ = refl
 onOut-put (no k p) put put′ = refl
 
-module _ {A : Type 0} (read : ℕ → Out A) (Says : (A → A) → List ℕ → Type 0) where
-  beginsBy : Says (λ x. x) [] → (s : List ℕ) (r : State) → PartlyBy read read Says s s r r
-  beginsBy h s (Refused k p) = refl
-  beginsBy h s (Read at free) =
-      record { put = λ x. x; words = []; is = onOut-id (read at); says = h; written = sym (append-nil (take free s)); size = omega arith }
+-- a loop begins, goes on, and ends, where something is said of the items so far
+module _ {A : Type 0} {read : ℕ → Out A} {Says : (A → A) → List ℕ → Type 0} where
+  pub begins-as : {s : List ℕ} {r : State} → Says (λ x. x) [] → PartlyAs read read Says s s r r
+  begins-as {r = Refused k p} h = record { by = refl }
+  begins-as {s = s} {r = Read at free} h =
+      record {
+        by = record { put = λ x. x; words = []; is = onOut-id (read at); says = h; written = sym (append-nil (take free s)); size = omega arith };
+      }
 
-  module _ (Says′ One : (A → A) → List ℕ → Type 0) (rest rest′ : ℕ → Out A) (one : ℕ → Out (A → A)) (s₀ s₁ s₂ : List ℕ)
-      (both : (put put′ : A → A) (w w′ : List ℕ) → Says put w → One put′ w′ → Says′ (λ x. put (put′ x)) (w ++ w′)) where
-    moreBy :
-        (r₀ r₁ r₂ : State) → ((at free : ℕ) → r₁ ≡ Read at free → rest at ≡ onOut (one at) (λ put m. onOut (rest′ m) (λ more q. ok (put more) q)))
-        → PartlyBy read rest Says s₀ s₁ r₀ r₁ → FollowsBy one One s₁ s₂ r₁ r₂ → PartlyBy read rest′ Says′ s₀ s₂ r₀ r₂
-    moreBy (Refused k p) r₁ r₂ e d g = subst (λ (x : State). FollowsBy one One s₁ s₂ x r₂) d g
-    moreBy (Read at free) (Refused k p) r₂ e d g =
-        subst (λ (x : State). PartlyBy read rest′ Says′ s₀ s₂ (Read at free) x) (sym g) d
-    moreBy (Read at free) (Read m nf) (Refused k p) e d g =
-        d .is ∙ ap (λ (o : Out A). onOut o (λ more q. ok (d .put more) q))
-        (e m nf refl ∙ ap (λ (o : Out (A → A)). onOut o (λ put q. onOut (rest′ q) (λ more x. ok (put more) x))) g)
-    moreBy (Read at free) (Read m nf) (Read q mf) e d g =
+  module _ {rest : ℕ → Out A} {s₀ s₁ s₂ : List ℕ} where
+    pub more-as :
+        (rest′ : ℕ → Out A) {one : ℕ → Out (A → A)} {Says′ One : (A → A) → List ℕ → Type 0} {r₀ r₁ r₂ : State}
+        → ((put put′ : A → A) (w w′ : List ℕ) → Says put w → One put′ w′ → Says′ (λ x. put (put′ x)) (w ++ w′))
+        → ((at free : ℕ) → r₁ ≡ Read at free → rest at ≡ onOut (one at) (λ put m. onOut (rest′ m) (λ more q. ok (put more) q)))
+        → PartlyAs read rest Says s₀ s₁ r₀ r₁ → Follows one One s₁ s₂ r₁ r₂ → PartlyAs read rest′ Says′ s₀ s₂ r₀ r₂
+    more-as rest′ {one} {One = One} {r₀ = Refused k p} {r₂ = r₂} both e d g =
+        record { by = subst (λ (x : State). FollowsBy one One s₁ s₂ x r₂) (d .by) (g .by) }
+    more-as rest′ {Says′ = Says′} {r₀ = Read at free} {r₁ = Refused k p} both e d g =
+        record { by = subst (λ (x : State). PartlyBy read rest′ Says′ s₀ s₂ (Read at free) x) (sym (g .by)) (d .by) }
+    more-as rest′ {r₀ = Read at free} {r₁ = Read m nf} {r₂ = Refused k p} both e d g =
         record {
-          put = λ x. d .put (g .tree x);
-          words = d .words ++ g .words;
-          is = d .is ∙ ap (λ (o : Out A). onOut o (λ more x. ok (d .put more) x))
-              (e m nf refl ∙ ap (λ (o : Out (A → A)). onOut o (λ put x. onOut (rest′ x) (λ more y. ok (put more) y))) (g .is))
-              ∙ onOut-put (rest′ q) (d .put) (g .tree);
-          says = both (d .put) (g .tree) (d .words) (g .words) (d .says) (g .says);
-          written = g .written ∙ ap (λ (l : List ℕ). l ++ g .words) (d .written) ∙ append-assoc (take free s₀) (d .words) (g .words);
-          size = omega (arith, d .size, g .size, length-append (d .words) (g .words));
+          by = d .by .is ∙ ap (λ (o : Out A). onOut o (λ more q. ok (d .by .put more) q))
+              (e m nf refl ∙ ap (λ (o : Out (A → A)). onOut o (λ put q. onOut (rest′ q) (λ more x. ok (put more) x))) (g .by));
+        }
+    more-as rest′ {r₀ = Read at free} {r₁ = Read m nf} {r₂ = Read q mf} both e d g =
+        let v = d .by in
+        let w = g .by in
+        record {
+          by = record {
+            put = λ x. v .put (w .tree x);
+            words = v .words ++ w .words;
+            is = v .is ∙ ap (λ (o : Out A). onOut o (λ more x. ok (v .put more) x))
+                (e m nf refl ∙ ap (λ (o : Out (A → A)). onOut o (λ put x. onOut (rest′ x) (λ more y. ok (put more) y))) (w .is))
+                ∙ onOut-put (rest′ q) (v .put) (w .tree);
+            says = both (v .put) (w .tree) (v .words) (w .words) (v .says) (w .says);
+            written = w .written ∙ ap (λ (l : List ℕ). l ++ w .words) (v .written) ∙ append-assoc (take free s₀) (v .words) (w .words);
+            size = omega (arith, v .size, w .size, length-append (v .words) (w .words));
+          };
         }
 
-  module _ (Rest Full : A → List ℕ → Type 0) (rest : ℕ → Out A) (s₀ s₁ s₂ : List ℕ)
-      (both : (put : A → A) (a : A) (w v : List ℕ) → Says put w → Rest a v → Full (put a) (w ++ v)) where
-    closesBy : (r₀ r₁ r₂ : State) → PartlyBy read rest Says s₀ s₁ r₀ r₁ → FollowsBy rest Rest s₁ s₂ r₁ r₂ → FollowsBy read Full s₀ s₂ r₀ r₂
-    closesBy (Refused k p) r₁ r₂ d g = subst (λ (x : State). FollowsBy rest Rest s₁ s₂ x r₂) d g
-    closesBy (Read at free) (Refused k p) r₂ d g =
-        subst (λ (x : State). FollowsBy read Full s₀ s₂ (Read at free) x) (sym g) d
-    closesBy (Read at free) (Read m nf) (Refused k p) d g =
-        d .is ∙ ap (λ (o : Out A). onOut o (λ more q. ok (d .put more) q)) g
-    closesBy (Read at free) (Read m nf) (Read q mf) d g =
+    pub closes-as :
+        {Rest Full : A → List ℕ → Type 0} {r₀ r₁ r₂ : State}
+        → ((put : A → A) (a : A) (w v : List ℕ) → Says put w → Rest a v → Full (put a) (w ++ v)) → PartlyAs read rest Says s₀ s₁ r₀ r₁
+        → Follows rest Rest s₁ s₂ r₁ r₂ → Follows read Full s₀ s₂ r₀ r₂
+    closes-as {Rest = Rest} {r₀ = Refused k p} {r₂ = r₂} both d g =
+        record { by = subst (λ (x : State). FollowsBy rest Rest s₁ s₂ x r₂) (d .by) (g .by) }
+    closes-as {Full = Full} {r₀ = Read at free} {r₁ = Refused k p} both d g =
+        record { by = subst (λ (x : State). FollowsBy read Full s₀ s₂ (Read at free) x) (sym (g .by)) (d .by) }
+    closes-as {r₀ = Read at free} {r₁ = Read m nf} {r₂ = Refused k p} both d g =
+        record { by = d .by .is ∙ ap (λ (o : Out A). onOut o (λ more q. ok (d .by .put more) q)) (g .by) }
+    closes-as {r₀ = Read at free} {r₁ = Read m nf} {r₂ = Read q mf} both d g =
+        let v = d .by in
+        let w = g .by in
         record {
-          tree = d .put (g .tree);
-          words = d .words ++ g .words;
-          is = d .is ∙ ap (λ (o : Out A). onOut o (λ more q. ok (d .put more) q)) (g .is);
-          says = both (d .put) (g .tree) (d .words) (g .words) (d .says) (g .says);
-          written = g .written ∙ ap (λ (l : List ℕ). l ++ g .words) (d .written) ∙ append-assoc (take free s₀) (d .words) (g .words);
-          size = omega (arith, d .size, g .size, length-append (d .words) (g .words));
+          by = record {
+            tree = v .put (w .tree);
+            words = v .words ++ w .words;
+            is = v .is ∙ ap (λ (o : Out A). onOut o (λ more q. ok (v .put more) q)) (w .is);
+            says = both (v .put) (w .tree) (v .words) (w .words) (v .says) (w .says);
+            written = w .written ∙ ap (λ (l : List ℕ). l ++ w .words) (v .written) ∙ append-assoc (take free s₀) (v .words) (w .words);
+            size = omega (arith, v .size, w .size, length-append (v .words) (w .words));
+          };
         }
-
--- the loop begins, goes on, and ends, where something is said of the items so far
-pub begins-as :
-    {A : Type 0} {read : ℕ → Out A} {Says : (A → A) → List ℕ → Type 0} {s : List ℕ} {r : State} → Says (λ x. x) [] → PartlyAs read read Says s s r r
-begins-as {read = read} {Says} {s} {r} h = record { by = beginsBy read Says h s r }
-
-pub more-as :
-    {A : Type 0} {read rest : ℕ → Out A} (rest′ : ℕ → Out A) {one : ℕ → Out (A → A)} {Says Says′ One : (A → A) → List ℕ → Type 0} {s₀ s₁ s₂ : List ℕ}
-    {r₀ r₁ r₂ : State}
-    → ((put put′ : A → A) (w w′ : List ℕ) → Says put w → One put′ w′ → Says′ (λ x. put (put′ x)) (w ++ w′))
-    → ((at free : ℕ) → r₁ ≡ Read at free → rest at ≡ onOut (one at) (λ put m. onOut (rest′ m) (λ more q. ok (put more) q)))
-    → PartlyAs read rest Says s₀ s₁ r₀ r₁ → Follows one One s₁ s₂ r₁ r₂ → PartlyAs read rest′ Says′ s₀ s₂ r₀ r₂
-more-as {read = read} {rest} rest′ {one} {Says} {Says′} {One} {s₀} {s₁} {s₂} {r₀} {r₁} {r₂} h e d g =
-    record { by = moreBy read Says Says′ One rest rest′ one s₀ s₁ s₂ h r₀ r₁ r₂ e (d .by) (g .by) }
-
-pub closes-as :
-    {A : Type 0} {read rest : ℕ → Out A} {Says : (A → A) → List ℕ → Type 0} {Rest Full : A → List ℕ → Type 0} {s₀ s₁ s₂ : List ℕ} {r₀ r₁ r₂ : State}
-    → ((put : A → A) (a : A) (w v : List ℕ) → Says put w → Rest a v → Full (put a) (w ++ v)) → PartlyAs read rest Says s₀ s₁ r₀ r₁
-    → Follows rest Rest s₁ s₂ r₁ r₂ → Follows read Full s₀ s₂ r₀ r₂
-closes-as {read = read} {rest} {Says} {Rest} {Full} {s₀} {s₁} {s₂} {r₀} {r₁} {r₂} h d g =
-    record { by = closesBy read Says Rest Full rest s₀ s₁ s₂ h r₀ r₁ r₂ (d .by) (g .by) }
-
--- the same, where the items' words stand one after another
-pub begins : {A : Type 0} {read : ℕ → Out A} {enc : A → List ℕ} {s : List ℕ} {r : State} → Partly read read enc s s r r
-begins = begins-as (record { puts = λ x. refl })
-
-pub more :
-    {A : Type 0} {read rest : ℕ → Out A} (rest′ : ℕ → Out A) {one : ℕ → Out (A → A)} {enc : A → List ℕ} {s₀ s₁ s₂ : List ℕ} {r₀ r₁ r₂ : State}
-    → ((at free : ℕ) → r₁ ≡ Read at free → rest at ≡ onOut (one at) (λ put m. onOut (rest′ m) (λ more q. ok (put more) q)))
-    → Partly read rest enc s₀ s₁ r₀ r₁ → Follows one (Prepends enc) s₁ s₂ r₁ r₂ → Partly read rest′ enc s₀ s₂ r₀ r₂
-more rest′ {enc = enc} e d g =
-    more-as rest′ (λ put put′ w w′ h h′. record {
-      puts = λ x. h .puts (put′ x) ∙ ap (λ (l : List ℕ). w ++ l) (h′ .puts x)
-          ∙ sym (append-assoc w w′ (enc x));
-    }) e d g
-
-pub closes :
-    {A : Type 0} {read rest : ℕ → Out A} {enc : A → List ℕ} {s₀ s₁ s₂ : List ℕ} {r₀ r₁ r₂ : State} → Partly read rest enc s₀ s₁ r₀ r₁
-    → Reads rest enc s₁ s₂ r₁ r₂ → Reads read enc s₀ s₂ r₀ r₂
-closes d g =
-    closes-as (λ put a w v h h′. record { same = ap (λ (l : List ℕ). w ++ l) (h′ .same) ∙ sym (h .puts a) }) d g
-
-pub ends :
-    {A : Type 0} {read rest : ℕ → Out A} {enc : A → List ℕ} (none : A) {s₀ s₁ : List ℕ} {r₀ r₁ : State} → enc none ≡ []
-    → ((at free : ℕ) → r₁ ≡ Read at free → rest at ≡ ok none at) → Partly read rest enc s₀ s₁ r₀ r₁ → Reads read enc s₀ s₁ r₀ r₁
-ends none en e d = closes d (here (λ m. ok none m) e (nothing (record { same = sym en })))
 
 pub so : {B : Type 0} (x y : B) {b : Bool} → b ≡ true → elim b as (λ _. B) [ true ↦ x | false ↦ y ] ≡ x
 so x y e = rw e refl

@@ -10,7 +10,7 @@ use lib.Dec.{eqb, ltb}
 use borrow.Author.Tests.{eq-eqb, ne-eqb, eqb-true, ltb-true, ltb-false}
 use Rattle.language.specs.Symbols.{Symbol}
 use Rattle.language.specs.Reader.{Source, Out, ok, no, onOut, kindAt, valueAt, placeAt, is, unexpected, the}
-use Rattle.tree.specs.Reads.{HoldsSymbols, Here, KindHere, Follows, Encodes, Reads, PassesBy, Passes, nextOf}
+use Rattle.tree.specs.Reads.{HoldsSymbols, Here, KindHere, Follows, Encodes, Reads, Passes, nextOf}
 use Rattle.tree.proofs.Steps.{bind, here, nothing}
 use Rattle.tree.specs.declared.scratch.State.{State}
 use Rattle.tree.specs.declared.scratch.State.the-variants.{Read, Refused}
@@ -129,12 +129,9 @@ module _ {src : Source} {n : ℕ} {s : List ℕ} (l : HoldsSymbols src n s) {r :
   pub placed : {C : Type 0} (F : ℕ → ℕ → Out C) (at free : ℕ) → r ≡ Read at free → onOut (the kind src at) F ≡ onOut (the kind src at) (λ _ m. F p m)
   placed F at free e = placedBy F at free e (eqb (kindAt src at) kind) refl
 
-staysBy : (r : State) → PassesBy r r
-staysBy (Read at free) = tt
-staysBy (Refused k p) = refl
-
 pub stays : {r : State} → Passes r r
-stays {r} = record { by = staysBy r }
+stays {r = Read at free} = record { by = tt }
+stays {r = Refused k p} = record { by = refl }
 
 -- a tree in another form
 pub mapped :
