@@ -17,7 +17,7 @@ use Rattle.language.specs.Expressions as E
 use Rattle.language.specs.Expressions.{Inside, inside, shut, opening}
 use Rattle.language.specs.Commands as C
 use Rattle.language.specs.Grammar.{within, readers}
-use Rattle.tree.specs.Reads.{Ready, TakesRoom, Encodes, Reading, HoldsSymbols, KindHere, Follows, Prepends, Reads, Adds, recordFrom, Seals}
+use Rattle.tree.specs.Reads.{Ready, TakesRoom, Encodes, Reading, HoldsSymbols, KindHere, Follows, Prepends, Reads, Adds, recordFrom, SetsSize}
 use Rattle.tree.specs.Reads.{freeOf}
 use Rattle.tree.specs.Between.{Repeated, repeatedBy, repeatedOnly, encodeRepeatedOnly, opened, bodyAfter}
 use Rattle.tree.specs.Encoding.{LABELLED, closed, encode, encodeName, encodeBy, encodeLabels, encodeCommand, encodeCommands, encodeUnlabelled}
@@ -245,7 +245,7 @@ module _ {src : Source} {n : ℕ} {s : List ℕ} (l : HoldsSymbols src n s) {r :
 -- a command of a list
 pub listed-read :
     (src : Source) (size x : ℕ) {lo : ℕ} {s s₁ s₂ s₃ : List ℕ} {r r₁ r₂ : State} → lo ≡ freeOf size r → freeOf size r ≤ length s
-    → Adds (λ _. 0 ∷ 0 ∷ []) s s₁ r r₁ → Reads (C.command (within x) src) encodeCommand s₁ s₂ r₁ r₂ → Seals lo s₂ s₃ r₂
+    → Adds (λ _. 0 ∷ 0 ∷ []) s s₁ r r₁ → Reads (C.command (within x) src) encodeCommand s₁ s₂ r₁ r₂ → SetsSize lo s₂ s₃ r₂
     → Follows (C.listed (readers (within x)) src) (Prepends encodeCommands) s s₃ r r₂
 unfolding C.listed encodeCommands
 listed-read src size x lo-is le a d b =

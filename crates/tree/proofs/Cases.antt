@@ -13,10 +13,10 @@ use Rattle.language.specs.Reader.{Source, Out, ok, onOut, kindAt, placeAt, the}
 use Rattle.language.specs.Expressions as E
 use Rattle.language.specs.Commands as C
 use Rattle.language.specs.Grammar.{within}
-use Rattle.tree.specs.Reads.{HoldsSymbols, Here, KindHere, Follows, Encodes, Prepends, Reads, Adds, recordFrom, Seals, freeOf}
+use Rattle.tree.specs.Reads.{HoldsSymbols, Here, KindHere, Follows, Encodes, Prepends, Reads, Adds, recordFrom, SetsSize, freeOf}
 use Rattle.tree.specs.Encoding.{item, closed, encodeConstant, encodeLabels}
 use Rattle.tree.proofs.Steps.{bind, here, added, adds-on, goes-on, _then_, nothing}
-use Rattle.tree.proofs.Lists.{sealed}
+use Rattle.tree.proofs.Lists.{sized}
 use Rattle.tree.proofs.Symbols.{placed, stays}
 use Rattle.tree.specs.declared.scratch.State.{State}
 
@@ -57,13 +57,13 @@ module _ {src : Source} {n : ℕ} {s : List ℕ} (l : HoldsSymbols src n s) {r :
   pub case-read :
       {s₂ : List ℕ} {r₂ : State} → Reads (the K.CASE src) (λ _. []) s s r r₀ → Adds (λ _. 0 ∷ K.CASE ∷ []) s s₁ r₀ r₁
       → Reads (E.constant (within x) src) encodeConstant s₁ s₂ r₁ r₂ → Reads (the K.COLON src) (λ _. []) s₂ s₂ r₂ r₃
-      → Adds (recordFrom start 0 p K.CASE) s₂ s₃ r₃ r₄ → Seals lo s₃ s₄ r₄ → Reads (C.case (within x) src) one s s₄ r r₄
+      → Adds (recordFrom start 0 p K.CASE) s₂ s₃ r₃ r₄ → SetsSize lo s₃ s₄ r₄ → Reads (C.case (within x) src) one s s₄ r r₄
   unfolding C.case encodeLabels
   case-read a b c d f g =
       here _ (placed l h K.CASE (omega arith)
       (λ place m. onOut (E.constant (within x) src m) (λ k q. onOut (the K.COLON src q) (λ _ w. ok (T.case place k) w))))
       (bind size (λ _. []) a (adds-on b then goes-on c then goes-on d then adds-on f) (λ _ q₀.
-      sealed (Encodes one) K.CASE size (λ y w e. e) le (omega arith) b
+      sized (Encodes one) K.CASE size (λ y w e. e) le (omega arith) b
       (bind size encodeConstant c (goes-on d then adds-on f) (λ k q₁. bind size (λ _. []) d (adds-on f) (λ _ q₂.
       added size f (record {
         same = ap (λ (z : ℕ). item K.CASE (encodeConstant k ++ (z ∷ 0 ∷ p ∷ K.CASE ∷ []))) (omega arith)
@@ -72,12 +72,12 @@ module _ {src : Source} {n : ℕ} {s : List ℕ} (l : HoldsSymbols src n s) {r :
 
   pub default-read :
       Reads (the K.DEFAULT src) (λ _. []) s s r r₀ → Adds (λ _. 0 ∷ K.DEFAULT ∷ []) s s₁ r₀ r₁ → Reads (the K.COLON src) (λ _. []) s₁ s₁ r₁ r₃
-      → Adds (recordFrom start 0 p K.DEFAULT) s₁ s₃ r₃ r₄ → Seals lo s₃ s₄ r₄ → Reads (C.default (within x) src) one s s₄ r r₄
+      → Adds (recordFrom start 0 p K.DEFAULT) s₁ s₃ r₃ r₄ → SetsSize lo s₃ s₄ r₄ → Reads (C.default (within x) src) one s s₄ r r₄
   unfolding C.default encodeLabels
   default-read a b d f g =
       here _ (placed l h K.DEFAULT (omega arith) (λ place m. onOut (the K.COLON src m) (λ _ w. ok (T.default place) w)))
       (bind size (λ _. []) a (adds-on b then goes-on d then adds-on f) (λ _ q₀.
-      sealed (Encodes one) K.DEFAULT size (λ y w e. e) le (omega arith) b
+      sized (Encodes one) K.DEFAULT size (λ y w e. e) le (omega arith) b
       (bind size (λ _. []) d (adds-on f) (λ _ q₂.
       added size f (record { same = ap (λ (z : ℕ). item K.DEFAULT (z ∷ 0 ∷ p ∷ K.DEFAULT ∷ [])) (omega arith) }))) g))
 

@@ -15,7 +15,7 @@ use Rattle.language.specs.Binding.{LOOSEST, isRepeat, isGuard, isLeave}
 use Rattle.language.specs.Expressions as E
 use Rattle.language.specs.Commands as C
 use Rattle.language.specs.Grammar.{within, readers}
-use Rattle.tree.specs.Reads.{Encodes, Reading, ReadingAt, HoldsSymbols, Here, KindHere, Follows, Prepends, Reads, Adds, recordFrom, Seals}
+use Rattle.tree.specs.Reads.{Encodes, Reading, ReadingAt, HoldsSymbols, Here, KindHere, Follows, Prepends, Reads, Adds, recordFrom, SetsSize}
 use Rattle.tree.specs.Reads.{freeOf}
 use Rattle.tree.specs.Between.{leaving, repeatedBy, repeatedOnly, encodeRepeatedOnly}
 use Rattle.tree.specs.Encoding.{REPEATED, closed, encode, encodeCommand, encodeUnlabelled, encodeRepeats, repeated}
@@ -97,7 +97,7 @@ module _ (src : Source) {r : State} (size x : ℕ) {kind : ℕ} (k : KindHere sr
   pub repeat-on-read :
       {lo : ℕ} {s₂ s₃ : List ℕ} {r₂ : State} → lo ≡ freeOf size r → (kind ≡ K.REPEAT → ⊥) → freeOf size r₀ ≤ length s
       → Reads (the kind src) (λ _. []) s s r r₀ → Adds (λ _. 0 ∷ kind ∷ []) s s₁ r₀ r₁
-      → Reads (E.expression (within x) LOOSEST src) encode s₁ s₂ r₁ r₂ → Seals lo s₂ s₃ r₂
+      → Reads (E.expression (within x) LOOSEST src) encode s₁ s₂ r₁ r₂ → SetsSize lo s₂ s₃ r₂
       → Follows (C.repeatForm (readers (within x)) src) (Prepends encodeRepeats) s s₃ r r₂
   unfolding C.repeatForm C.repeatOn any encodeRepeats
   repeat-on-read lo-is q le c a d b =

@@ -5,7 +5,7 @@ use mathlib.Core.List.{List, [], _∷_, _++_, append-assoc}
 use native.Mathlib.Omega.{arith}
 use lib.ListN.{length, take, set, length-set}
 use lib.Seq.{take-suc-set, take-take, take-append-le, length-take-le}
-use Rattle.tree.specs.Reads.{Ready, LeavesRoom, TakesRoom, Refuses, Adds, Seals, nextOf, freeOf, lowOf, live, reach, recordFrom, behindFrom}
+use Rattle.tree.specs.Reads.{Ready, LeavesRoom, TakesRoom, Refuses, Adds, SetsSize, nextOf, freeOf, lowOf, live, reach, recordFrom, behindFrom}
 use Rattle.tree.specs.declared.scratch.State.{State}
 use Rattle.tree.specs.declared.scratch.State.the-variants.{Read, Refused}
 
@@ -53,7 +53,7 @@ set-past [] i x h = refl
 set-past (y ∷ s) zero x h = absurd (omega arith)
 set-past (y ∷ s) (suc i) x h = ap (λ (l : List ℕ). y ∷ l) (set-past s i x (omega arith))
 
--- where the answer is known
+-- where the state is known
 module _ {r : State} {at free : ℕ} (e : r ≡ Read at free) where
   pub free-is : (size : ℕ) → freeOf size r ≡ free
   unfolding freeOf
@@ -96,7 +96,7 @@ baseBy n size (Refused k p) h l = l
 pub base : {m n : ℕ} {s : List ℕ} {r : State} → Ready m s n r → n * 3 ≤ freeOf (length s) r
 base {m} {n} {s} {r} h = baseBy n (length s) r (h .above) (omega (arith, h .wide))
 
--- the room that an answer has, and what it leaves
+-- the room that a state has, and what it leaves
 module _ {m : ℕ} {s : List ℕ} {n : ℕ} {r : State} (h : Ready m s n r) where
   pub refused-fits : {k p q : ℕ} → LeavesRoom k s s n r (Refused p q)
   refused-fits {k} {p} {q} =
@@ -219,15 +219,15 @@ module _ {s : List ℕ} {n : ℕ} {r : State} {lo : ℕ} (h : Ready 0 s n r) (l 
   set-kept z =
       take-set s (n * 3) lo z ∙ set-past (take (n * 3) s) lo z (omega (arith, length-take-le (n * 3) s (omega (arith, h .wide))))
 
-  pub sealed-set : {at free : ℕ} → r ≡ Read at free → (z : ℕ) → z ≡ free - lo - 2 → Seals lo s (set s lo z) r
-  sealed-set {at} {free} e z q = record { by = rw e (take-set s free lo z ∙ ap (set (take free s) lo) q) }
+  pub sized-set : {at free : ℕ} → r ≡ Read at free → (z : ℕ) → z ≡ free - lo - 2 → SetsSize lo s (set s lo z) r
+  sized-set {at} {free} e z q = record { by = rw e (take-set s free lo z ∙ ap (set (take free s) lo) q) }
 
-  pub sealed-past : {at free : ℕ} → r ≡ Read at free → free ≤ lo → Seals lo s s r
-  sealed-past {at} {free} e q =
+  pub sized-past : {at free : ℕ} → r ≡ Read at free → free ≤ lo → SetsSize lo s s r
+  sized-past {at} {free} e q =
       record { by = rw e (sym (set-past (take free s) lo (free - lo - 2) (omega (arith, length-take-le free s (omega (arith, room-is h e)))))) }
 
-pub sealed-refused : {lo : ℕ} {s s′ : List ℕ} {r : State} {k p : ℕ} → r ≡ Refused k p → Seals lo s s′ r
-sealed-refused e = record { by = rw e tt }
+pub sized-refused : {lo : ℕ} {s s′ : List ℕ} {r : State} {k p : ℕ} → r ≡ Refused k p → SetsSize lo s s′ r
+sized-refused e = record { by = rw e tt }
 
 pub itself : {m : ℕ} {s : List ℕ} {n : ℕ} {r : State} → Ready m s n r → LeavesRoom 0 s s n r r
 itself {m} {s} {n} {r} h =

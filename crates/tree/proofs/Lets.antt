@@ -15,12 +15,12 @@ use Rattle.language.specs.Binding.{LOOSEST}
 use Rattle.language.specs.Expressions as E
 use Rattle.language.specs.Commands as C
 use Rattle.language.specs.Grammar.{within, readers}
-use Rattle.tree.specs.Reads.{KindHere, Follows, Prepends, Passes, Reads, Adds, recordFrom, Seals, freeOf}
+use Rattle.tree.specs.Reads.{KindHere, Follows, Prepends, Passes, Reads, Adds, recordFrom, SetsSize, freeOf}
 use Rattle.tree.specs.Between.{PrependsOne, anArgument, aFurther, aFurtherName, Gives}
 use Rattle.tree.proofs.Lists.{Before}
 use Rattle.tree.specs.Encoding.{item, closed, encodeName, encodeNames, encodeConstant, encodeExpressions, encodeLocals}
 use Rattle.tree.proofs.Steps.{follow, bind, here, added, adds-on, goes-on, _then_, nothing}
-use Rattle.tree.proofs.Lists.{sealed}
+use Rattle.tree.proofs.Lists.{sized}
 use Rattle.tree.proofs.Symbols.{stays}
 use Rattle.tree.proofs.Readers.{parts}
 use Rattle.tree.specs.declared.scratch.State.{State}
@@ -164,7 +164,7 @@ pub local-read :
     → Reads (the K.EQUAL src) (λ _. []) s₃ s₃ r₃ r₄
     → ((name : Name) (names : List Name) → further ≡ length names → freeOf size r₄ ≡ start + length (encodeNames (name ∷ names))
     → Follows (C.given (readers (within x)) name names src) (Gives (name ∷ names)) s₃ s₄ r₄ r₅)
-    → Passes r₄ r₅ → Reads (optional K.SEMICOLON src) (λ _. []) s₄ s₄ r₅ r₆ → Seals lo s₄ s₅ r₆
+    → Passes r₄ r₅ → Reads (optional K.SEMICOLON src) (λ _. []) s₄ s₄ r₅ r₆ → SetsSize lo s₄ s₅ r₆
     → Follows (C.local (readers (within x)) src) (Prepends encodeLocals) s s₅ r r₆
 unfolding C.local furtherItems many C.furtherName aFurtherName encodeNames
 local-read src {n} size x {lo} {start} {further} {s} {s₁} {s₂} {s₃} {s₄} {s₅} {r} {r₀} {r₁} {r₂} {r₃} {r₄} {r₅} {r₆} en lo-is le st fu a b c
@@ -172,7 +172,7 @@ local-read src {n} size x {lo} {start} {further} {s} {s₁} {s₂} {s₃} {s₄}
     let op = goes-on o in
     let fp = goes-on f then gp then op in
     bind size (λ _. []) a (adds-on b then goes-on c then goes-on d then fp) (λ _ q₀.
-    sealed (Prepends encodeLocals) K.LET size (λ put w h. record { puts = h .puts; some = omega arith }) le (omega arith) b
+    sized (Prepends encodeLocals) K.LET size (λ put w h. record { puts = h .puts; some = omega arith }) le (omega arith) b
     (bind {Says = Gives []} size encodeName c (goes-on d then fp)
     (λ m q₁. bind size encodeNames (subst (λ (y : ℕ). Reads (manyUpTo y [] isComma aFurtherName src) encodeNames s₂ s₃ r₂ r₃) (sym en) d) fp
     (λ ns q₂. bind size (λ _. []) f (gp then op)

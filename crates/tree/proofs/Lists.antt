@@ -7,7 +7,7 @@ use native.Mathlib.Omega.{arith}
 use lib.ListN.{length, take, set, length-append}
 use lib.Seq.{length-take-le}
 use Rattle.language.specs.Reader.{Source, Out, ok, no, Reader, onOut, manyUpTo, kindAt}
-use Rattle.tree.specs.Reads.{Wrote, FollowsBy, Follows, Adds, Seals, freeOf}
+use Rattle.tree.specs.Reads.{Wrote, FollowsBy, Follows, Adds, SetsSize, freeOf}
 use Rattle.tree.specs.Encoding.{item}
 use Rattle.tree.specs.declared.scratch.State.{State}
 use Rattle.tree.specs.declared.scratch.State.the-variants.{Read, Refused}
@@ -41,17 +41,17 @@ set-between (c ∷ a) b zero x z e = absurd (omega arith)
 set-between (c ∷ a) b (suc i) x z e = ap (λ (l : List ℕ). c ∷ l) (set-between a b i x z (omega arith))
 
 -- an item: its two entries in front, what stands in it, and its size set
-pub sealed :
+pub sized :
     {A : Type 0} {read : ℕ → Out A} {Says : A → List ℕ → Type 0} (Says′ : A → List ℕ → Type 0) (tag : ℕ) {lo : ℕ} {s₀ s₁ s₂ s₃ : List ℕ}
     {r₀ r₁ r₂ : State} (size : ℕ)
     → ((a : A) (w : List ℕ) → Says a w → Says′ a (item tag w)) → freeOf size r₀ ≤ length s₀ → lo ≡ freeOf size r₀
-    → Adds (λ _. 0 ∷ tag ∷ []) s₀ s₁ r₀ r₁ → Follows read Says s₁ s₂ r₁ r₂ → Seals lo s₂ s₃ r₂ → Follows read Says′ s₀ s₃ r₀ r₂
+    → Adds (λ _. 0 ∷ tag ∷ []) s₀ s₁ r₀ r₁ → Follows read Says s₁ s₂ r₁ r₂ → SetsSize lo s₂ s₃ r₂ → Follows read Says′ s₀ s₃ r₀ r₂
 unfolding freeOf
-sealed {read = read} {Says} Says′ tag {s₁ = s₁} {s₂} {r₀ = Refused k p} {r₂ = r₂} size h le el a d b =
+sized {read = read} {Says} Says′ tag {s₁ = s₁} {s₂} {r₀ = Refused k p} {r₂ = r₂} size h le el a d b =
     record { by = subst (λ (x : State). FollowsBy read Says s₁ s₂ x r₂) (a .by) (d .by) }
-sealed {read = read} {Says} Says′ tag {s₁ = s₁} {s₂} {r₀ = Read at free} {r₂ = Refused k p} size h le el a d b =
+sized {read = read} {Says} Says′ tag {s₁ = s₁} {s₂} {r₀ = Read at free} {r₂ = Refused k p} size h le el a d b =
     record { by = subst (λ (x : State). FollowsBy read Says s₁ s₂ x (Refused k p)) (a .by .0) (d .by) }
-sealed {read = read} {Says} Says′ tag {lo} {s₀} {s₁} {s₂} {r₀ = Read at free} {r₂ = Read m nf} size h le el a d b =
+sized {read = read} {Says} Says′ tag {lo} {s₀} {s₁} {s₂} {r₀ = Read at free} {r₂ = Read m nf} size h le el a d b =
     let v : Wrote (read at) Says (free + 2) s₁ s₂ m nf = subst (λ (x : State). FollowsBy read Says s₁ s₂ x (Read m nf)) (a .by .0) (d .by) in
     let w = v .words in
     let ez : nf - lo - 2 ≡ length w = omega (arith, v .size) in

@@ -18,7 +18,7 @@ use Rattle.language.specs.Expressions as E
 use Rattle.language.specs.Commands as C
 use Rattle.language.specs.Grammar as G
 use Rattle.language.specs.Grammar.{within}
-use Rattle.tree.specs.Reads.{KindHere, Follows, Prepends, Reads, Refuses, Adds, recordFrom, Seals, Passes, freeOf, Reading}
+use Rattle.tree.specs.Reads.{KindHere, Follows, Prepends, Reads, Refuses, Adds, recordFrom, SetsSize, Passes, freeOf, Reading}
 use Rattle.tree.specs.Between.{aFurtherName, Bodies, itemList, functionList, globalsAfter, manifestsAfter, functionsAfter, declarationAfter}
 use Rattle.tree.specs.Between.{Declares}
 use Rattle.tree.specs.Encoding.{item, closed, encode, encodeName, encodeNames, encodeConstant, encodeCommand, encodeItems, encodeBody}
@@ -27,7 +27,7 @@ use Rattle.tree.proofs.Choices.{Expects}
 use Rattle.tree.proofs.Rooms.{leaves-last}
 use Rattle.tree.proofs.Steps.{refuses-on, follow, bind, here, added, adds-on, goes-on, _then_, nothing, stopped}
 use Rattle.tree.proofs.Symbols.{mapped, the-is, stays}
-use Rattle.tree.proofs.Lists.{sealed}
+use Rattle.tree.proofs.Lists.{sized}
 use Rattle.tree.proofs.ListEnd.{listed-items}
 use Rattle.tree.proofs.Readers.{parts, nests}
 use Rattle.tree.proofs.Classes.{positive}
@@ -44,10 +44,10 @@ itself enc tag put w h = record { puts = h; some = omega arith }
 pub item-here :
     (src : Source) (sign size : ℕ) {lo : ℕ} {s s₁ s₂ s₄ s₅ : List ℕ} {r r₁ r₂ r₃ r₄ : State} → lo ≡ freeOf size r → freeOf size r ≤ length s
     → Adds (λ _. 0 ∷ 0 ∷ []) s s₁ r r₁ → Reads (aName src) encodeName s₁ s₂ r₁ r₂ → Reads (the sign src) (λ _. []) s₂ s₂ r₂ r₃
-    → Reads (E.constant (within 64) src) encodeConstant s₂ s₄ r₃ r₄ → Seals lo s₄ s₅ r₄ → Follows (G.item sign src) (Prepends encodeItems) s s₅ r r₄
+    → Reads (E.constant (within 64) src) encodeConstant s₂ s₄ r₃ r₄ → SetsSize lo s₄ s₅ r₄ → Follows (G.item sign src) (Prepends encodeItems) s s₅ r r₄
 unfolding G.item encodeItems
 item-here src sign size lo-is le a b c d f =
-    sealed {Says = Inside encodeItems 0} (Prepends encodeItems) 0 size (itself encodeItems 0) le lo-is a
+    sized {Says = Inside encodeItems 0} (Prepends encodeItems) 0 size (itself encodeItems 0) le lo-is a
     (bind size encodeName b (goes-on c then goes-on d)
     (λ name _. bind size (λ _. []) c (goes-on d)
     (λ _ _. bind size encodeConstant d stays
@@ -140,10 +140,10 @@ pub function-here :
     → value ≡ freeOf size r₄ - freeOf size r₃
     → ((name : Name) (names : List Name) → freeOf size r₄ ≡ start + (length (encodeName name) + length (encodeNames names))
     → value ≡ length (encodeNames names) → Follows (G.body src) (Bodies name names) s₄ s₅ r₄ r₅)
-    → Passes r₄ r₅ → Seals lo s₅ s₆ r₅ → Follows (G.function src) (Prepends encodeFunctions) s s₆ r r₅
+    → Passes r₄ r₅ → SetsSize lo s₅ s₆ r₅ → Follows (G.function src) (Prepends encodeFunctions) s s₆ r r₅
 unfolding G.function encodeFunctions
 function-here src size lo-is le a start-is b c d value-is body on f =
-    sealed {Says = Inside encodeFunctions 0} (Prepends encodeFunctions) 0 size (itself encodeFunctions 0) le lo-is a
+    sized {Says = Inside encodeFunctions 0} (Prepends encodeFunctions) 0 size (itself encodeFunctions 0) le lo-is a
     (bind size encodeName b (goes-on c then goes-on d then on)
     (λ name q₁. bind size (λ _. []) c (goes-on d then on)
     (λ _ q₂. bind size encodeNames d on (λ names q₃. follow size (body name names (omega arith) (omega arith)) stays
@@ -255,13 +255,13 @@ module _ (src : Source) (at : ℕ) where
 pub declared-read :
     (src : Source) (size : ℕ) {kind lo : ℕ} {s s₁ s₂ s₃ : List ℕ} {r r₀ r₁ r₂ r₃ : State} → KindHere src r kind → isDeclaration kind ≡ true
     → lo ≡ freeOf size r → freeOf size r₀ ≤ length s → Reads (the kind src) (λ _. []) s s r r₀ → Adds (λ _. 0 ∷ kind ∷ []) s s₁ r₀ r₁
-    → Follows (declarationAfter kind src) (Declares kind) s₁ s₂ r₁ r₂ → Seals lo s₂ s₃ r₂ → Reads (optional K.SEMICOLON src) (λ _. []) s₃ s₃ r₂ r₃
+    → Follows (declarationAfter kind src) (Declares kind) s₁ s₂ r₁ r₂ → SetsSize lo s₂ s₃ r₂ → Reads (optional K.SEMICOLON src) (λ _. []) s₃ s₃ r₂ r₃
     → Follows (G.declared src) (Prepends encodeProgram) s s₃ r r₃
 unfolding G.declared
 declared-read src size {kind} k h lo-is le a b c d f =
     follow size {First = λ x w. Prepends encodeProgram (λ rest. x ∷ rest) w}
     (here _ (λ at free e. declarationBy src at kind (k .here at free e) h (eqb kind K.GLOBAL) (eqb kind K.MANIFEST) refl refl)
-    (bind size (λ _. []) a (adds-on b then goes-on c) (λ _ q. sealed {Says = Declares kind} (λ x w. Prepends encodeProgram (λ rest. x ∷ rest) w) kind
+    (bind size (λ _. []) a (adds-on b then goes-on c) (λ _ q. sized {Says = Declares kind} (λ x w. Prepends encodeProgram (λ rest. x ∷ rest) w) kind
     size (λ x w g. record { puts = g .same; some = omega arith }) le (omega arith) b c d)))
     (goes-on f)
     (λ x w g _. bind size (λ _. []) f stays

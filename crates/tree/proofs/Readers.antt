@@ -16,12 +16,12 @@ use Rattle.language.specs.Expressions as E
 use Rattle.language.specs.Expressions.{Inside, inside, opening}
 use Rattle.language.specs.Grammar.{within, readers}
 use Rattle.tree.specs.Reads.{TakesRoom, Reading, HoldsSymbols, Here, KindHere, Follows, Encodes, Prepends, Reads, Adds, recordFrom}
-use Rattle.tree.specs.Reads.{behindFrom, Seals, freeOf}
+use Rattle.tree.specs.Reads.{behindFrom, SetsSize, freeOf}
 use Rattle.tree.specs.Between.{PrependsSuffix, PrependsOne, anArgument, aFurther, rightOf}
 use Rattle.tree.specs.Encoding.{MONADIC, DYADIC, item, behind, closed, suffixedKind, encode, encodeExpressions, encodeSuffixes}
 use Rattle.tree.specs.Encoding.{encodeOperations, encodeCommand}
 use Rattle.tree.proofs.Steps.{follow, bind, here, added, adds-on, goes-on, _then_, nothing}
-use Rattle.tree.proofs.Lists.{sealed, last, turned}
+use Rattle.tree.proofs.Lists.{sized, last, turned}
 use Rattle.tree.proofs.Symbols.{inside as among, placed, mapped, the-is, stays}
 use Rattle.tree.proofs.Classes.{positive}
 use Rattle.tree.proofs.Rooms.{takes-leaves}
@@ -87,15 +87,15 @@ module _ {A B : Type 0} (F : B → A → A) (tag size : ℕ) {body : ℕ → Out
     {Says : (A → A) → List ℕ → Type 0} (law : (e : B) → Says (F e) (item tag (enc e))) where
   pub item-alone :
       {r r₁ r₂ : State} → lo ≡ freeOf size r → freeOf size r ≤ length s → Adds (λ _. 0 ∷ tag ∷ []) s s₁ r r₁ → Reads body enc s₁ s₂ r₁ r₂
-      → Seals lo s₂ s₃ r₂ → Follows (λ m. onOut (body m) (λ e w. ok (F e) w)) Says s s₃ r r₂
+      → SetsSize lo s₂ s₃ r₂ → Follows (λ m. onOut (body m) (λ e w. ok (F e) w)) Says s s₃ r r₂
   item-alone lo-is le a d b =
       bind size (λ e. item tag (enc e))
-      (sealed (Encodes (λ e. item tag (enc e))) tag size (λ e w h. record { same = ap (λ (v : List ℕ). item tag v) (h .same) }) le lo-is a d b) stays
+      (sized (Encodes (λ e. item tag (enc e))) tag size (λ e w h. record { same = ap (λ (v : List ℕ). item tag v) (h .same) }) le lo-is a d b) stays
       (λ e q. nothing (subst (λ (v : List ℕ). Says (F e) v) (sym (append-nil (item tag (enc e)))) (law e)))
 
   pub item-read :
       {first : ℕ → Out ℕ} {r r₀ r₁ r₂ : State} → lo ≡ freeOf size r → freeOf size r₀ ≤ length s → Reads first (λ _. []) s s r r₀
-      → Adds (λ _. 0 ∷ tag ∷ []) s s₁ r₀ r₁ → Reads body enc s₁ s₂ r₁ r₂ → Seals lo s₂ s₃ r₂
+      → Adds (λ _. 0 ∷ tag ∷ []) s s₁ r₀ r₁ → Reads body enc s₁ s₂ r₁ r₂ → SetsSize lo s₂ s₃ r₂
       → Follows (λ m. onOut (first m) (λ _ q. onOut (body q) (λ e w. ok (F e) w))) Says s s₃ r r₂
   item-read lo-is le c a d b =
       bind size (λ _. []) c (adds-on a then goes-on d) (λ _ q. item-alone (omega arith) le a d b)
@@ -123,7 +123,7 @@ some-behind tag w = omega (arith, length-append w (length w ∷ tag ∷ []))
 module _ (src : Source) {r : State} (size : ℕ) (x : ℕ) {lo : ℕ} (lo-is : lo ≡ freeOf size r) {s s₁ s₂ s₃ : List ℕ} {r₁ r₂ : State} where
   pub operation-read :
       {r₀ : State} {kind : ℕ} (right : ℕ) → freeOf size r₀ ≤ length s → KindHere src r kind → Reads (the kind src) (λ _. []) s s r r₀
-      → Adds (λ _. 0 ∷ kind ∷ []) s s₁ r₀ r₁ → Reads (E.expression (within x) right src) encode s₁ s₂ r₁ r₂ → Seals lo s₂ s₃ r₂
+      → Adds (λ _. 0 ∷ kind ∷ []) s s₁ r₀ r₁ → Reads (E.expression (within x) right src) encode s₁ s₂ r₁ r₂ → SetsSize lo s₂ s₃ r₂
       → Follows (E.operation (E.expression (within x) right) src) (Prepends encodeOperations) s s₃ r r₂
   unfolding E.operation any encodeOperations
   operation-read {kind = kind} right le k c a d b =
@@ -131,7 +131,7 @@ module _ (src : Source) {r : State} (size : ℕ) (x : ℕ) {lo : ℕ} (lo-is : l
       (item-read (T.operation kind) kind size encode (put-first (T.operation kind) kind encode encodeOperations (λ e rest. refl)) lo-is le c a d b)
 
   pub argument-read :
-      freeOf size r ≤ length s → Adds (λ _. 0 ∷ 0 ∷ []) s s₁ r r₁ → Reads (E.expression (within x) LOOSEST src) encode s₁ s₂ r₁ r₂ → Seals lo s₂ s₃ r₂
+      freeOf size r ≤ length s → Adds (λ _. 0 ∷ 0 ∷ []) s s₁ r r₁ → Reads (E.expression (within x) LOOSEST src) encode s₁ s₂ r₁ r₂ → SetsSize lo s₂ s₃ r₂
       → Follows (anArgument x src) PrependsOne s s₃ r r₂
   unfolding anArgument encodeExpressions T.count
   argument-read le a d b =

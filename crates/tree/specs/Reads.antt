@@ -1,5 +1,5 @@
 -- What the functions of the reader ask and ensure.
--- Each takes an answer, the state of the reading so far, and gives the next one; a refusal is passed on as it is.
+-- Each takes the state of the reading so far and gives the next one; a refusal is passed on as it is.
 use Prim.Native.Nat.{ℕ, _+_, _*_, _-_, _≤_, _<_, _^_}
 use mathlib.Core.Path.{_≡_}
 use mathlib.Core.List.{List, [], _∷_, _++_}
@@ -65,7 +65,7 @@ pub record TakesRoom (m : ℕ) (s s′ : List ℕ) (n : ℕ) (r r′ : State) : 
   pub dead : reach n r′ ≤ live r′ * 2 ^ 32
   pub kept : take (n * 3) s′ ≡ take (n * 3) s
 
--- what stands at the answer's position
+-- what stands at the state's position
 pub record Here (what : ℕ → ℕ) (n : ℕ) (r : State) (x : ℕ) : Type 0 where
   pub here : (at free : ℕ) → r ≡ Read at free → at < n → x ≡ what at
 
@@ -120,7 +120,7 @@ PassesBy (Read at free) r′ = Unit {0}
 pub record Passes (r r′ : State) : Type 0 where
   pub by : PassesBy r r′
 
--- refused with that number at the answer's position
+-- refused with that number at the state's position
 abbrev pub RefusesBy : (number : ℕ) → State → State → Type 0
 RefusesBy number (Refused k p) r′ = r′ ≡ Refused k p
 RefusesBy number (Read at free) r′ = r′ ≡ Refused number at
@@ -146,9 +146,9 @@ abbrev pub behindFrom : (lo tag : ℕ) → (free : ℕ) → List ℕ
 behindFrom lo tag free = (free - lo) ∷ tag ∷ []
 
 -- the item that begins at lo has its size set
-abbrev pub SealsBy : (lo : ℕ) → List ℕ → List ℕ → State → Type 0
-SealsBy lo s s′ (Refused number at) = Unit {0}
-SealsBy lo s s′ (Read at free) = take free s′ ≡ set (take free s) lo (free - lo - 2)
+abbrev pub SetsSizeBy : (lo : ℕ) → List ℕ → List ℕ → State → Type 0
+SetsSizeBy lo s s′ (Refused number at) = Unit {0}
+SetsSizeBy lo s s′ (Read at free) = take free s′ ≡ set (take free s) lo (free - lo - 2)
 
-pub record Seals (lo : ℕ) (s s′ : List ℕ) (r : State) : Type 0 where
-  pub by : SealsBy lo s s′ r
+pub record SetsSize (lo : ℕ) (s s′ : List ℕ) (r : State) : Type 0 where
+  pub by : SetsSizeBy lo s s′ r

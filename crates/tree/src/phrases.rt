@@ -1,7 +1,7 @@
 // Expressions and commands: a cycle of functions, since an expression may hold a command (VALOF) and a command expressions.
 //
-// Each function takes an answer, the state of the reading so far, and gives the next one; a refusal is passed on as it is, so that a
-// construct is a few lines, one for each part. `levels` is how many levels are left; every round of the cycle takes one.
+// Each function takes the state of the reading so far and gives the next one; a refusal is passed on as it is, so that a construct
+// is a few lines, one for each part. `levels` is how many levels are left; every round of the cycle takes one.
 // The names are short because the proof of a cycle is named after all its functions, and that name may have 200 bytes (README).
 use crate::binding::LOOSEST;
 use crate::binding::NEGATION;

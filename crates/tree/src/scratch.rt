@@ -10,7 +10,7 @@ ghost use mathlib.Core.List.{[], _∷_};
 ghost use lib.ListN.{length};
 ghost use Rattle.language.specs.Reader.{Source, valueAt, placeAt, the, optional};
 ghost use Rattle.tree.specs.Encoding.{item, suffixedKind};
-ghost use Rattle.tree.specs.Reads.{HoldsSymbols, Ready, LeavesRoom, TakesRoom, Here, KindHere, Refuses, Adds, recordFrom, behindFrom, Seals, freeOf, Reading, Encodes};
+ghost use Rattle.tree.specs.Reads.{HoldsSymbols, Ready, LeavesRoom, TakesRoom, Here, KindHere, Refuses, Adds, recordFrom, behindFrom, SetsSize, freeOf, Reading, Encodes};
 ghost use Rattle.tree.specs.Between.{CallHere, PlaceHere};
 
 pub(crate) enum State {
@@ -150,7 +150,7 @@ pub(crate) fn begin_item(s: &mut [u32], n: usize, r: State, tag: u32) -> State
 // Sets the size of the item that begins at lo.
 pub(crate) fn set_size(s: &mut [u32], n: usize, r: State, lo: usize)
     requires { ⌜ Ready 0 (now s) n r × (n * 3 ≤ lo) ⌝ }
-    ensures { λ _. ⌜ LeavesRoom 0 (now (s .entry)) (now (s .exit)) n r r × Seals lo (now (s .entry)) (now (s .exit)) r ⌝ }
+    ensures { λ _. ⌜ LeavesRoom 0 (now (s .entry)) (now (s .exit)) n r r × SetsSize lo (now (s .entry)) (now (s .exit)) r ⌝ }
 {
     match r {
         State::Read(_, free) => {

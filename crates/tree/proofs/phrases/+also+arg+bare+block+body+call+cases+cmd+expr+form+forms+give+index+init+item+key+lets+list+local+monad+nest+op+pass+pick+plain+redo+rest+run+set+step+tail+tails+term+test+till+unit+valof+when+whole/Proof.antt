@@ -1,8 +1,8 @@
 -- Expressions and commands: one proof, since they call one another. Its measures stand in `Ranks`, its answers in the others.
 mod Ranks
-mod Operators
-mod Operands
-mod Commands
+mod Chains
+mod Terms
+mod Forms
 mod Blocks
 use Rattle.tree.proofs.phrases.+also+arg+bare+block+body+call+cases+cmd+expr+form+forms+give+index+init+item+key+lets+list+local+monad+nest+op+pass+pick+plain+redo+rest+run+set+step+tail+tails+term+test+till+unit+valof+when+whole.{statement}
 use Rattle.tree.proofs.phrases.+also+arg+bare+block+body+call+cases+cmd+expr+form+forms+give+index+init+item+key+lets+list+local+monad+nest+op+pass+pick+plain+redo+rest+run+set+step+tail+tails+term+test+till+unit+valof+when+whole.Tie.{close}
@@ -10,9 +10,9 @@ use Ranks.{also-rank, arg-rank, bare-rank, block-rank, body-rank, call-rank, cas
 use Ranks.{index-rank, init-rank, item-rank, key-rank, lets-rank, list-rank, local-rank, monad-rank, nest-rank, op-rank, pass-rank, pick-rank}
 use Ranks.{plain-rank, redo-rank, rest-rank, run-rank, set-rank, step-rank, tail-rank, tails-rank, term-rank, test-rank, till-rank, unit-rank}
 use Ranks.{valof-rank, when-rank, whole-rank}
-use Operators.{expr-ok, monad-ok, op-ok, run-ok, term-ok}
-use Operands.{also-ok, arg-ok, call-ok, index-ok, key-ok, nest-ok, pass-ok, rest-ok, tail-ok, tails-ok, unit-ok, valof-ok, whole-ok}
-use Commands.{bare-ok, body-ok, cases-ok, cmd-ok, form-ok, forms-ok, give-ok, plain-ok, redo-ok, set-ok, test-ok, when-ok}
+use Chains.{expr-ok, monad-ok, op-ok, run-ok, term-ok}
+use Terms.{also-ok, arg-ok, call-ok, index-ok, key-ok, nest-ok, pass-ok, rest-ok, tail-ok, tails-ok, unit-ok, valof-ok, whole-ok}
+use Forms.{bare-ok, body-ok, cases-ok, cmd-ok, form-ok, forms-ok, give-ok, plain-ok, redo-ok, set-ok, test-ok, when-ok}
 use Blocks.{block-ok, init-ok, item-ok, lets-ok, list-ok, local-ok, pick-ok, step-ok, till-ok}
 
 pub +also+arg+bare+block+body+call+cases+cmd+expr+form+forms+give+index+init+item+key+lets+list+local+monad+nest+op+pass+pick+plain+redo+rest+run+set+step+tail+tails+term+test+till+unit+valof+when+whole-spec :

@@ -1,7 +1,7 @@
 use Prim.Native.Nat.{ℕ, _-_}
 use native.Mathlib.Omega.{arith}
 use mathlib.Core.Path.{ap, _∙_}
-use Rattle.tree.proofs.Helpers.{room-is, set-size-fits, set-kept, sealed-set, sealed-past, sealed-refused}
+use Rattle.tree.proofs.Helpers.{room-is, set-size-fits, set-kept, sized-set, sized-past, sized-refused}
 use borrow.Author.Needs.{needs}
 use Rattle.tree.proofs.scratch.set_size.Statement.{statement}
 use Rattle.tree.proofs.scratch.set_size.Tie as tie
@@ -9,7 +9,7 @@ use Rattle.tree.proofs.scratch.set_size.Tie as tie
 returns : tie.Need-returns
 returns c = (
   search (set-size-fits, set-kept),
-  sealed-set (c .before .before .before .before .before .before .before .pre .0)
+  sized-set (c .before .before .before .before .before .before .before .pre .0)
       (c .before .before .before .before .before .before .before .pre .1) (c .before .before .before .before .r .given .1) _
       (c .minus2 .ensures ∙ ap (λ (z : ℕ). z - 2) (c .before .minus .ensures)),
 )
@@ -21,4 +21,4 @@ set-size-spec =
     (λ c. omega (arith, room-is (c .before .before .before .before .before .before .before .pre .0) (c .before .before .before .before .r .given .1)))
     (λ c. omega (arith, room-is (c .before .before .before .before .before .before .before .pre .0) (c .before .before .before .before .r .given .1)))
     (λ c. omega (arith, room-is (c .before .before .before .before .before .before .before .pre .0) (c .before .before .before .before .r .given .1)))
-    (search needs) (search needs) returns (λ c. (search set-size-fits, search sealed-past)) (λ c. (search set-size-fits, search sealed-refused)))
+    (search needs) (search needs) returns (λ c. (search set-size-fits, search sized-past)) (λ c. (search set-size-fits, search sized-refused)))
