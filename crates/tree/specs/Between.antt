@@ -7,13 +7,15 @@ use lib.ListN.{length, take, getD}
 use lib.Dec.{eqb}
 use Rattle.text.specs.Written.{bytes}
 use Rattle.language.specs.Kinds as K
-use Rattle.language.specs.Tree.{placeOf, Name, Expression, Expressions, andExpression, count, isCall, Suffixes, endsInCall, Unlabelled, leave, empty, Repeats, noRepeats, Locals, Body, Item, Function, Declaration, globals, manifests, functions, Program}
+use Rattle.language.specs.Tree.{placeOf, Name, Expression, Expressions, andExpression, count, isCall, Suffixes, endsInCall, Unlabelled, leave}
+use Rattle.language.specs.Tree.{empty, Repeats, noRepeats, Locals, Body, Item, Function, Declaration, globals, manifests, functions, Program}
 use Rattle.language.specs.Binding.{RELATION, LOOSEST, isRepeat, beginsCommand}
 use Rattle.language.specs.Expressions.{Readers, opening, numeral, quotation, truth, named, expression}
 use Rattle.language.specs.Commands.{unlabelled, repeatForm}
 use Rattle.language.specs.Grammar.{within, readers, function, andFunction}
 use Rattle.language.specs.Grammar.{item as itemOf}
-use Rattle.tree.specs.Encoding.{closed, item, encode, encodeName, encodeNames, bodyWord, encodeProgram, encodeExpressions, encodeSuffixes, encodeUnlabelled, encodeRepeats, encodeLocals, encodeBody, repeated}
+use Rattle.tree.specs.Encoding.{closed, item, encode, encodeName, encodeNames, bodyWord, encodeProgram, encodeExpressions, encodeSuffixes}
+use Rattle.tree.specs.Encoding.{encodeUnlabelled, encodeRepeats, encodeLocals, encodeBody, repeated}
 use Rattle.language.specs.Reader.{ok, Reader, _>>=_, return, is, unexpected, any, the, aName, many, items, kindAt}
 use Rattle.tree.specs.declared.scratch.State.{State}
 use Rattle.tree.specs.declared.scratch.State.the-variants.{Read}
@@ -131,7 +133,9 @@ pub record Gives (names : List Name) (put : Locals → Locals) (words : List ℕ
 
 -- the words of a function after its name and its parameters
 pub record Bodies (name : Name) (parameters : List Name) (b : Body) (words : List ℕ) : Type 0 where
-  pub same : closed (encodeName name ++ (encodeNames parameters ++ encodeBody b)) (length (encodeNames parameters)) 0 (bodyWord b) ≡ encodeName name ++ (encodeNames parameters ++ words)
+  pub same :
+      closed (encodeName name ++ (encodeNames parameters ++ encodeBody b)) (length (encodeNames parameters)) 0 (bodyWord b)
+      ≡ encodeName name ++ (encodeNames parameters ++ words)
 
 -- $( item { ; item } [;] $)
 unfoldable pub itemList : (sign : ℕ) → Reader (List Item)

@@ -11,7 +11,8 @@ use mathlib.Core.Option.{Option, none, some}
 use lib.ListN.{length}
 use Rattle.language.specs.Kinds as K
 use Rattle.language.specs.Tree as T
-use Rattle.language.specs.Tree.{Name, Simple, Constant, Label, Expression, Expressions, Suffixes, Operations, Command, Commands, Unlabelled, Repeats, Locals, Item, Body, Function, Program, endsInCall, placeOf}
+use Rattle.language.specs.Tree.{Name, Simple, Constant, Label, Expression, Expressions, Suffixes, Operations, Command, Commands, Unlabelled}
+use Rattle.language.specs.Tree.{Repeats, Locals, Item, Body, Function, Program, endsInCall, placeOf}
 
 -- kinds of nodes that are no kind of symbol: from 128 on, so that a new word or sign changes none of them
 abbrev pub MONADIC : ℕ
@@ -177,7 +178,8 @@ bodyWord (T.routine c) = K.BE
 unfoldable pub encodeFunctions : List Function → List ℕ
 encodeFunctions [] = []
 encodeFunctions (f ∷ fs) =
-    item 0 (closed (encodeName (f .name) ++ (encodeNames (f .parameters) ++ encodeBody (f .body))) (length (encodeNames (f .parameters))) 0 (bodyWord (f .body)))
+    item 0 (closed (encodeName (f .name) ++ (encodeNames (f .parameters) ++ encodeBody (f .body))) (length (encodeNames (f .parameters))) 0
+    (bodyWord (f .body)))
     ++ encodeFunctions fs
 
 unfoldable pub encodeProgram : Program → List ℕ

@@ -7,7 +7,8 @@ ghost use mathlib.Core.Bool.{false, cond};
 ghost use lib.Dec.{eqb};
 ghost use Rattle.language.specs.Kinds as K;
 ghost use Rattle.language.specs.Binding as B;
-ghost use Rattle.language.specs.Binding.{bindingOf, isMonadic, isSuffix, isGuard, isLeave, isRepeat, isLabel, isDeclaration, goesOnAssignment, beginsExpression, beginsCommand, reachOf};
+ghost use Rattle.language.specs.Binding.{bindingOf, isMonadic, isSuffix, isGuard, isLeave, isRepeat, isLabel, isDeclaration, goesOnAssignment};
+ghost use Rattle.language.specs.Binding.{beginsExpression, beginsCommand, reachOf};
 ghost use Rattle.tree.specs.Between.{rightOf, furtherMost, letterOf};
 
 pub(crate) const LOOSEST: u32 = 7;

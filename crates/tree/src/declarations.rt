@@ -110,7 +110,10 @@ fn parameters(s: &mut [u32], n: usize, r: State) -> State
 // = expression, or BE command, after the name, which begins at start, and the parameters
 fn function_body(s: &mut [u32], n: usize, start: usize, size: u32, r: State) -> State
     requires { ⌜ Ready 0 (now s) n r ⌝ }
-    ensures { λ a. ⌜ LeavesRoom 1 (now (s .entry)) (now (s .exit)) n r a × ((src : Source) → HoldsSymbols src n (now (s .entry)) → Passes r a × ((name : T.Name) (names : List T.Name) → freeOf (length (now (s .entry))) r ≡ start + (length (encodeName name) + length (encodeNames names)) → size ≡ length (encodeNames names) → Follows (G.body src) (Bodies name names) (now (s .entry)) (now (s .exit)) r a)) ⌝ }
+    ensures { λ a. ⌜ LeavesRoom 1 (now (s .entry)) (now (s .exit)) n r a × ((src : Source) → HoldsSymbols src n (now (s .entry)) → Passes r a
+        × ((name : T.Name) (names : List T.Name) → freeOf (length (now (s .entry))) r ≡ start +
+        (length (encodeName name) + length (encodeNames names)) → size ≡ length (encodeNames names) → Follows (G.body src) (Bodies name names)
+        (now (s .entry)) (now (s .exit)) r a)) ⌝ }
 {
     let kind = kind_here(s, n, r);
     if kind == EQUAL {
@@ -143,7 +146,8 @@ fn function(s: &mut [u32], n: usize, r: State) -> State
 // { AND function }
 fn further_functions(s: &mut [u32], n: usize, r: State) -> State
     requires { ⌜ Ready 0 (now s) n r ⌝ }
-    ensures { λ a. ⌜ Reading 0 (manyUpTo n [] (λ kind. eqb kind K.AND) G.andFunction) (Encodes encodeFunctions) (now (s .entry)) (now (s .exit)) n r a ⌝ }
+    ensures { λ a. ⌜ Reading 0 (manyUpTo n [] (λ kind. eqb kind K.AND) G.andFunction) (Encodes encodeFunctions) (now (s .entry)) (now (s .exit)) n r a
+        ⌝ }
 {
     let mut turns = n;
     let mut a = r;
@@ -171,7 +175,8 @@ fn functions(s: &mut [u32], n: usize, r: State) -> State
 // declaration [;], as an item
 fn declared(s: &mut [u32], n: usize, kind: u32, r: State) -> State
     requires { ⌜ Ready 0 (now s) n r × (0 < kind) ⌝ }
-    ensures { λ a. ⌜ LeavesRoom 3 (now (s .entry)) (now (s .exit)) n r a × ((src : Source) → HoldsSymbols src n (now (s .entry)) → KindHere src r kind → isDeclaration kind ≡ true → Follows (G.declared src) (Prepends encodeProgram) (now (s .entry)) (now (s .exit)) r a) ⌝ }
+    ensures { λ a. ⌜ LeavesRoom 3 (now (s .entry)) (now (s .exit)) n r a × ((src : Source) → HoldsSymbols src n (now (s .entry)) → KindHere src r kind
+        → isDeclaration kind ≡ true → Follows (G.declared src) (Prepends encodeProgram) (now (s .entry)) (now (s .exit)) r a) ⌝ }
 {
     let lo = free_of(s, r);
     let word = expect(s, n, r, kind);
@@ -184,7 +189,9 @@ fn declared(s: &mut [u32], n: usize, kind: u32, r: State) -> State
 // What a declaration's word declares.
 fn declaration(s: &mut [u32], n: usize, kind: u32, r: State) -> State
     requires { ⌜ Ready 2 (now s) n r ⌝ }
-    ensures { λ a. ⌜ LeavesRoom 0 (now (s .entry)) (now (s .exit)) n r a × ((src : Source) → HoldsSymbols src n (now (s .entry)) → isDeclaration kind ≡ true → Follows (declarationAfter kind src) (Declares kind) (now (s .entry)) (now (s .exit)) r a) ⌝ }
+    ensures { λ a. ⌜ LeavesRoom 0 (now (s .entry)) (now (s .exit)) n r a
+        × ((src : Source) → HoldsSymbols src n (now (s .entry)) → isDeclaration kind ≡ true → Follows (declarationAfter kind src) (Declares kind)
+        (now (s .entry)) (now (s .exit)) r a) ⌝ }
 {
     match kind {
         GLOBAL => item_list(s, n, COLON, r),

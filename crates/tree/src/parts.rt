@@ -35,7 +35,8 @@ ghost use Rattle.language.specs.Expressions as E;
 ghost use Rattle.language.specs.Grammar.{within, readers};
 ghost use Rattle.language.specs.Commands as C;
 ghost use Rattle.tree.specs.Encoding.{closed, leaf, encode, encodeName, encodeNames, encodeBy, encodeLabels, encodeUnlabelled, encodeConstant};
-ghost use Rattle.tree.specs.Reads.{HoldsSymbols, Ready, LeavesRoom, TakesRoom, KindHere, Follows, Prepends, Reads, Passes, freeOf, Reading, ReadingAt, Encodes};
+ghost use Rattle.tree.specs.Reads.{HoldsSymbols, Ready, LeavesRoom, TakesRoom, KindHere, Follows, Prepends, Reads, Passes, freeOf, Reading};
+ghost use Rattle.tree.specs.Reads.{ReadingAt, Encodes};
 ghost use Rattle.tree.specs.Between.{atomic, leaving, aFurtherName, Gives};
 
 // A symbol that is a leaf of the tree.
@@ -100,7 +101,9 @@ fn negated(s: &mut [u32], n: usize, r: State, kind: u32, value: u32, place: u32)
 // A name after its minus, which stands at that place.
 fn negated_name(s: &mut [u32], n: usize, r: State, value: u32, place: u32) -> State
     requires { ⌜ Ready 3 (now s) n r ⌝ }
-    ensures { λ a. ⌜ TakesRoom 3 (now (s .entry)) (now (s .exit)) n r a × ((src : Source) → HoldsSymbols src n (now (s .entry)) → Reads (the K.NAME src) (λ at. closed (leaf value at K.NAME) 0 place K.MINUS) (now (s .entry)) (now (s .exit)) r a) ⌝ }
+    ensures { λ a. ⌜ TakesRoom 3 (now (s .entry)) (now (s .exit)) n r a
+        × ((src : Source) → HoldsSymbols src n (now (s .entry)) → Reads (the K.NAME src) (λ at. closed (leaf value at K.NAME) 0 place K.MINUS)
+        (now (s .entry)) (now (s .exit)) r a) ⌝ }
 {
     let lo = free_of(s, r);
     let name = leaf(s, n, r, NAME, value, NAME);
@@ -188,7 +191,9 @@ fn case_label(s: &mut [u32], n: usize, levels: usize, r: State) -> State
 // DEFAULT :
 fn default_label(s: &mut [u32], n: usize, levels: usize, r: State) -> State
     requires { ⌜ Ready 0 (now s) n r ⌝ }
-    ensures { λ a. ⌜ LeavesRoom 4 (now (s .entry)) (now (s .exit)) n r a × ((src : Source) → HoldsSymbols src n (now (s .entry)) → (kind : ℕ) → KindHere src r kind → (kind ≡ K.CASE → ⊥) → Follows (C.label (within levels) src) (Prepends encodeLabels) (now (s .entry)) (now (s .exit)) r a) ⌝ }
+    ensures { λ a. ⌜ LeavesRoom 4 (now (s .entry)) (now (s .exit)) n r a × ((src : Source) → HoldsSymbols src n (now (s .entry)) → (kind : ℕ)
+        → KindHere src r kind → (kind ≡ K.CASE → ⊥) → Follows (C.label (within levels) src) (Prepends encodeLabels) (now (s .entry)) (now (s .exit)) r
+        a) ⌝ }
 {
     let lo = free_of(s, r);
     let place = place_here(s, n, r);
@@ -248,7 +253,9 @@ pub(crate) fn optional_by(s: &mut [u32], n: usize, levels: usize, r: State) -> S
 // VEC constant, after the name, which begins at start.
 pub(crate) fn vector(s: &mut [u32], n: usize, levels: usize, start: usize, r: State) -> State
     requires { ⌜ Ready 0 (now s) n r ⌝ }
-    ensures { λ a. ⌜ LeavesRoom 2 (now (s .entry)) (now (s .exit)) n r a × ((src : Source) → HoldsSymbols src n (now (s .entry)) → Passes r a × ((name : T.Name) → freeOf (length (now (s .entry))) r ≡ start + length (encodeName name) → Follows (C.vector (readers (within levels)) name src) (Gives (name ∷ [])) (now (s .entry)) (now (s .exit)) r a)) ⌝ }
+    ensures { λ a. ⌜ LeavesRoom 2 (now (s .entry)) (now (s .exit)) n r a × ((src : Source) → HoldsSymbols src n (now (s .entry)) → Passes r a
+        × ((name : T.Name) → freeOf (length (now (s .entry))) r ≡ start + length (encodeName name)
+        → Follows (C.vector (readers (within levels)) name src) (Gives (name ∷ [])) (now (s .entry)) (now (s .exit)) r a)) ⌝ }
 {
     let size = minus(free_of(s, r), start);
     let word = expect(s, n, r, VEC);

@@ -80,9 +80,12 @@ ghost use Rattle.language.specs.Binding.{bindingOf, isSuffix, isRepeat, isLabel
 ghost use Rattle.language.specs.Expressions as E;
 ghost use Rattle.language.specs.Grammar.{within, readers};
 ghost use Rattle.language.specs.Commands as C;
-ghost use Rattle.tree.specs.Encoding.{item, encode, encodeNames, encodeExpressions, encodeOperations, encodeCommand, encodeCommands, encodeUnlabelled, encodeRepeats, encodeLocals};
-ghost use Rattle.tree.specs.Reads.{HoldsSymbols, Ready, LeavesRoom, TakesRoom, KindHere, Follows, Prepends, Reads, Passes, freeOf, Reading, ReadingAt, Encodes};
-ghost use Rattle.tree.specs.Between.{PrependsSuffix, PrependsOne, furtherMost, anArgument, aFurther, repeatedOnly, encodeRepeatedOnly, bodyAfter, Ended, Counted, After, Gives};
+ghost use Rattle.tree.specs.Encoding.{item, encode, encodeNames, encodeExpressions, encodeOperations, encodeCommand, encodeCommands};
+ghost use Rattle.tree.specs.Encoding.{encodeUnlabelled, encodeRepeats, encodeLocals};
+ghost use Rattle.tree.specs.Reads.{HoldsSymbols, Ready, LeavesRoom, TakesRoom, KindHere, Follows, Prepends, Reads, Passes, freeOf, Reading};
+ghost use Rattle.tree.specs.Reads.{ReadingAt, Encodes};
+ghost use Rattle.tree.specs.Between.{PrependsSuffix, PrependsOne, furtherMost, anArgument, aFurther, repeatedOnly, encodeRepeatedOnly};
+ghost use Rattle.tree.specs.Between.{bodyAfter, Ended, Counted, After, Gives};
 
 // What follows the first suffix: where it ends, and whether the last suffix is a call.
 struct SuffixesRead {
@@ -129,7 +132,8 @@ pub(crate) fn expr(s: &mut [u32], n: usize, levels: usize, binding: u32, r: Stat
 // operator operand
 fn op(s: &mut [u32], n: usize, levels: usize, right: u32, kind: u32, r: State) -> State
     requires { ⌜ Ready 0 (now s) n r × (right ≤ B.LOOSEST) × (0 < kind) ⌝ }
-    ensures { λ a. ⌜ ReadingAt kind 4 (E.operation (E.expression (within levels) right)) (Prepends encodeOperations) (now (s .entry)) (now (s .exit)) n r a ⌝ }
+    ensures { λ a. ⌜ ReadingAt kind 4 (E.operation (E.expression (within levels) right)) (Prepends encodeOperations) (now (s .entry)) (now (s .exit))
+        n r a ⌝ }
 {
     let lo = free_of(s, r);
     let operator = expect(s, n, r, kind);
@@ -142,7 +146,8 @@ fn op(s: &mut [u32], n: usize, levels: usize, right: u32, kind: u32, r: State) -
 // The operations after the first: there is at most one relation.
 fn run(s: &mut [u32], n: usize, levels: usize, binding: u32, right: u32, r: State) -> State
     requires { ⌜ Ready 0 (now s) n r × (right ≤ B.LOOSEST) × (0 < binding) ⌝ }
-    ensures { λ a. ⌜ Reading 0 (manyUpTo (furtherMost binding n) T.noOperations (λ kind. eqb (bindingOf kind) binding) (E.operation (E.expression (within levels) right))) (Encodes encodeOperations) (now (s .entry)) (now (s .exit)) n r a ⌝ }
+    ensures { λ a. ⌜ Reading 0 (manyUpTo (furtherMost binding n) T.noOperations (λ kind. eqb (bindingOf kind) binding)
+        (E.operation (E.expression (within levels) right))) (Encodes encodeOperations) (now (s .entry)) (now (s .exit)) n r a ⌝ }
 {
     let mut turns = further_most(binding, n);
     let mut a = r;
@@ -219,7 +224,8 @@ fn tail(s: &mut [u32], n: usize, levels: usize, kind: u32, r: State) -> State
 // The suffixes after the first, which is a call or is not.
 fn tails(s: &mut [u32], n: usize, levels: usize, first: bool, r: State) -> SuffixesRead
     requires { ⌜ Ready 0 (now s) n r ⌝ }
-    ensures { λ a. ⌜ Reading 0 (manyUpTo (n - 1) T.noSuffixes isSuffix (E.suffix (within levels))) (Ended first (a .call)) (now (s .entry)) (now (s .exit)) n r (a .end) ⌝ }
+    ensures { λ a. ⌜ Reading 0 (manyUpTo (n - 1) T.noSuffixes isSuffix (E.suffix (within levels))) (Ended first (a .call)) (now (s .entry))
+        (now (s .exit)) n r (a .end) ⌝ }
 {
     let mut turns = minus(n, 1);
     let mut call = first;
@@ -269,7 +275,8 @@ fn pass(s: &mut [u32], n: usize, levels: usize, r: State) -> State
 // An argument, as an item.
 fn arg(s: &mut [u32], n: usize, levels: usize, r: State) -> State
     requires { ⌜ Ready 2 (now s) n r ⌝ }
-    ensures { λ a. ⌜ TakesRoom 1 (now (s .entry)) (now (s .exit)) n r a × ((src : Source) → HoldsSymbols src n (now (s .entry)) → Follows (anArgument levels src) PrependsOne (now (s .entry)) (now (s .exit)) r a) ⌝ }
+    ensures { λ a. ⌜ TakesRoom 1 (now (s .entry)) (now (s .exit)) n r a
+        × ((src : Source) → HoldsSymbols src n (now (s .entry)) → Follows (anArgument levels src) PrependsOne (now (s .entry)) (now (s .exit)) r a) ⌝ }
 {
     let lo = free_of(s, r);
     let begun = begin_item(s, n, r, 0);
@@ -281,7 +288,8 @@ fn arg(s: &mut [u32], n: usize, levels: usize, r: State) -> State
 // {, expression}
 fn also(s: &mut [u32], n: usize, levels: usize, r: State) -> FurtherRead
     requires { ⌜ Ready 0 (now s) n r ⌝ }
-    ensures { λ a. ⌜ Reading 0 (manyUpTo n T.noExpressions isComma (aFurther levels)) (Counted (a .count)) (now (s .entry)) (now (s .exit)) n r (a .end) ⌝ }
+    ensures { λ a. ⌜ Reading 0 (manyUpTo n T.noExpressions isComma (aFurther levels)) (Counted (a .count)) (now (s .entry)) (now (s .exit)) n r
+        (a .end) ⌝ }
 {
     let mut turns = n;
     let mut count: usize = 0;
@@ -382,7 +390,8 @@ pub(crate) fn cmd(s: &mut [u32], n: usize, levels: usize, r: State) -> State
 // Labels and what follows them.
 fn cases(s: &mut [u32], n: usize, levels: usize, kind: u32, r: State) -> State
     requires { ⌜ Ready 0 (now s) n r ⌝ }
-    ensures { λ a. ⌜ LeavesRoom 0 (now (s .entry)) (now (s .exit)) n r a × ((src : Source) → HoldsSymbols src n (now (s .entry)) → KindHere src r kind → isLabel kind ≡ true → Reads (C.command (within levels) src) encodeCommand (now (s .entry)) (now (s .exit)) r a) ⌝ }
+    ensures { λ a. ⌜ LeavesRoom 0 (now (s .entry)) (now (s .exit)) n r a × ((src : Source) → HoldsSymbols src n (now (s .entry)) → KindHere src r kind
+        → isLabel kind ≡ true → Reads (C.command (within levels) src) encodeCommand (now (s .entry)) (now (s .exit)) r a) ⌝ }
 {
     let lo = free_of(s, r);
     let first = label(s, n, levels, kind, r);
@@ -430,7 +439,8 @@ fn redo(s: &mut [u32], n: usize, levels: usize, r: State) -> State
 // The REPEAT forms after the first.
 fn forms(s: &mut [u32], n: usize, levels: usize, r: State) -> State
     requires { ⌜ Ready 0 (now s) n r ⌝ }
-    ensures { λ a. ⌜ Reading 0 (manyUpTo (n - 1) T.noRepeats isRepeat (C.repeatForm (readers (within levels)))) (Encodes encodeRepeats) (now (s .entry)) (now (s .exit)) n r a ⌝ }
+    ensures { λ a. ⌜ Reading 0 (manyUpTo (n - 1) T.noRepeats isRepeat (C.repeatForm (readers (within levels)))) (Encodes encodeRepeats)
+        (now (s .entry)) (now (s .exit)) n r a ⌝ }
 {
     let mut turns = minus(n, 1);
     let mut a = r;
@@ -562,7 +572,9 @@ fn pick(s: &mut [u32], n: usize, levels: usize, r: State) -> State
 // A command, as an item.
 fn item(s: &mut [u32], n: usize, levels: usize, r: State) -> State
     requires { ⌜ Ready 2 (now s) n r ⌝ }
-    ensures { λ a. ⌜ TakesRoom 2 (now (s .entry)) (now (s .exit)) n r a × ((src : Source) → HoldsSymbols src n (now (s .entry)) → Follows (C.listed (readers (within levels)) src) (Prepends encodeCommands) (now (s .entry)) (now (s .exit)) r a) ⌝ }
+    ensures { λ a. ⌜ TakesRoom 2 (now (s .entry)) (now (s .exit)) n r a
+        × ((src : Source) → HoldsSymbols src n (now (s .entry)) → Follows (C.listed (readers (within levels)) src) (Prepends encodeCommands)
+        (now (s .entry)) (now (s .exit)) r a) ⌝ }
 {
     let lo = free_of(s, r);
     let begun = begin_item(s, n, r, 0);
@@ -574,7 +586,8 @@ fn item(s: &mut [u32], n: usize, levels: usize, r: State) -> State
 // { ; command } [;] $)
 fn list(s: &mut [u32], n: usize, levels: usize, r: State) -> State
     requires { ⌜ Ready 0 (now s) n r ⌝ }
-    ensures { λ a. ⌜ Reading 5 (moreUpTo n T.noCommands (C.listed (readers (within levels)))) (Encodes encodeCommands) (now (s .entry)) (now (s .exit)) n r a ⌝ }
+    ensures { λ a. ⌜ Reading 5 (moreUpTo n T.noCommands (C.listed (readers (within levels)))) (Encodes encodeCommands) (now (s .entry))
+        (now (s .exit)) n r a ⌝ }
 {
     let mut turns = n;
     let mut a = r;
@@ -629,7 +642,8 @@ fn block(s: &mut [u32], n: usize, levels: usize, r: State) -> State
 // { LET local [;] }
 fn lets(s: &mut [u32], n: usize, levels: usize, r: State) -> State
     requires { ⌜ Ready 0 (now s) n r ⌝ }
-    ensures { λ a. ⌜ Reading 0 (manyUpTo n T.noLocals (λ kind. eqb kind K.LET) (C.local (readers (within levels)))) (Encodes encodeLocals) (now (s .entry)) (now (s .exit)) n r a ⌝ }
+    ensures { λ a. ⌜ Reading 0 (manyUpTo n T.noLocals (λ kind. eqb kind K.LET) (C.local (readers (within levels)))) (Encodes encodeLocals)
+        (now (s .entry)) (now (s .exit)) n r a ⌝ }
 {
     let mut turns = n;
     let mut a = r;
@@ -666,7 +680,10 @@ fn local(s: &mut [u32], n: usize, levels: usize, r: State) -> State
 // What a local declaration gives its names, which begin at start.
 fn init(s: &mut [u32], n: usize, levels: usize, start: usize, further: usize, r: State) -> State
     requires { ⌜ Ready 5 (now s) n r ⌝ }
-    ensures { λ a. ⌜ TakesRoom 5 (now (s .entry)) (now (s .exit)) n r a × ((src : Source) → HoldsSymbols src n (now (s .entry)) → Passes r a × ((name : T.Name) (names : List T.Name) → further ≡ length names → freeOf (length (now (s .entry))) r ≡ start + length (encodeNames (name ∷ names)) → Follows (C.given (readers (within levels)) name names src) (Gives (name ∷ names)) (now (s .entry)) (now (s .exit)) r a)) ⌝ }
+    ensures { λ a. ⌜ TakesRoom 5 (now (s .entry)) (now (s .exit)) n r a × ((src : Source) → HoldsSymbols src n (now (s .entry)) → Passes r a
+        × ((name : T.Name) (names : List T.Name) → further ≡ length names → freeOf (length (now (s .entry))) r ≡ start + length
+        (encodeNames (name ∷ names)) → Follows (C.given (readers (within levels)) name names src) (Gives (name ∷ names)) (now (s .entry))
+        (now (s .exit)) r a)) ⌝ }
 {
     let kind = kind_here(s, n, r);
     if is_vector(kind, further) {
@@ -696,7 +713,9 @@ fn rest(s: &mut [u32], n: usize, levels: usize, number: usize, r: State) -> Stat
 // {, expression} := expression {, expression}, after the first expression, which begins at lo; as many right as left
 fn set(s: &mut [u32], n: usize, levels: usize, lo: usize, r: State) -> State
     requires { ⌜ Ready 0 (now s) n r ⌝ }
-    ensures { λ a. ⌜ LeavesRoom 0 (now (s .entry)) (now (s .exit)) n r a × ((src : Source) → HoldsSymbols src n (now (s .entry)) → Passes r a × ((e : T.Expression) → freeOf (length (now (s .entry))) r ≡ lo + length (encode e) → Follows (C.assignment (readers (within levels)) e src) (After e) (now (s .entry)) (now (s .exit)) r a)) ⌝ }
+    ensures { λ a. ⌜ LeavesRoom 0 (now (s .entry)) (now (s .exit)) n r a × ((src : Source) → HoldsSymbols src n (now (s .entry)) → Passes r a
+        × ((e : T.Expression) → freeOf (length (now (s .entry))) r ≡ lo + length (encode e) → Follows (C.assignment (readers (within levels)) e src)
+        (After e) (now (s .entry)) (now (s .exit)) r a)) ⌝ }
 {
     let size = minus(free_of(s, r), lo);
     let left = also(s, n, levels, r);

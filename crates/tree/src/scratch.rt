@@ -10,7 +10,8 @@ ghost use mathlib.Core.List.{[], _∷_};
 ghost use lib.ListN.{length};
 ghost use Rattle.language.specs.Reader.{Source, valueAt, placeAt, the, optional};
 ghost use Rattle.tree.specs.Encoding.{item, suffixedKind};
-ghost use Rattle.tree.specs.Reads.{HoldsSymbols, Ready, LeavesRoom, TakesRoom, Here, KindHere, Refuses, Adds, recordFrom, behindFrom, SetsSize, freeOf, Reading, Encodes};
+ghost use Rattle.tree.specs.Reads.{HoldsSymbols, Ready, LeavesRoom, TakesRoom, Here, KindHere, Refuses, Adds, recordFrom, behindFrom};
+ghost use Rattle.tree.specs.Reads.{SetsSize, freeOf, Reading, Encodes};
 ghost use Rattle.tree.specs.Between.{CallHere, PlaceHere};
 
 pub(crate) enum State {
