@@ -142,7 +142,8 @@ module _ {src : Source} {n : ℕ} {s₀ : List ℕ} (l : HoldsSymbols src n s₀
       (λ rs q₃. added size d₄ (record {
         same = chained (encodeUnlabelled u) w (encodeRepeats rs) (encodeRepeats (put rs)) (freeOf size r₃ - lo) value
             0 REPEATED (omega arith) (omega arith) (h .puts rs)
-            ∙ sym (some-forms (encodeUnlabelled u) (encodeRepeats (put rs)) (grown w (encodeRepeats rs) (encodeRepeats (put rs)) (h .puts rs) (h .some)));
+            ∙ sym (some-forms (encodeUnlabelled u) (encodeRepeats (put rs))
+            (grown w (encodeRepeats rs) (encodeRepeats (put rs)) (h .puts rs) (h .some)));
       })))))
 
 -- which command it is, by its first symbol

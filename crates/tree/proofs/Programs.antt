@@ -44,7 +44,8 @@ itself enc tag put w h = record { puts = h; some = omega arith }
 pub item-here :
     (src : Source) (sign size : ℕ) {lo : ℕ} {s s₁ s₂ s₄ s₅ : List ℕ} {r r₁ r₂ r₃ r₄ : State} → lo ≡ freeOf size r → freeOf size r ≤ length s
     → Adds (λ _. 0 ∷ 0 ∷ []) s s₁ r r₁ → Reads (aName src) encodeName s₁ s₂ r₁ r₂ → Reads (the sign src) (λ _. []) s₂ s₂ r₂ r₃
-    → Reads (E.constant (within 64) src) encodeConstant s₂ s₄ r₃ r₄ → SetsSize lo s₄ s₅ r₄ → Follows (G.item sign src) (Prepends encodeItems) s s₅ r r₄
+    → Reads (E.constant (within 64) src) encodeConstant s₂ s₄ r₃ r₄ → SetsSize lo s₄ s₅ r₄
+    → Follows (G.item sign src) (Prepends encodeItems) s s₅ r r₄
 unfolding G.item encodeItems
 item-here src sign size lo-is le a b c d f =
     sized {Says = Inside encodeItems 0} (Prepends encodeItems) 0 size (itself encodeItems 0) le lo-is a

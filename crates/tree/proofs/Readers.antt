@@ -131,7 +131,8 @@ module _ (src : Source) {r : State} (size : ℕ) (x : ℕ) {lo : ℕ} (lo-is : l
       (item-read (T.operation kind) kind size encode (put-first (T.operation kind) kind encode encodeOperations (λ e rest. refl)) lo-is le c a d b)
 
   pub argument-read :
-      freeOf size r ≤ length s → Adds (λ _. 0 ∷ 0 ∷ []) s s₁ r r₁ → Reads (E.expression (within x) LOOSEST src) encode s₁ s₂ r₁ r₂ → SetsSize lo s₂ s₃ r₂
+      freeOf size r ≤ length s → Adds (λ _. 0 ∷ 0 ∷ []) s s₁ r r₁ → Reads (E.expression (within x) LOOSEST src) encode s₁ s₂ r₁ r₂
+      → SetsSize lo s₂ s₃ r₂
       → Follows (anArgument x src) PrependsOne s s₃ r r₂
   unfolding anArgument encodeExpressions T.count
   argument-read le a d b =

@@ -46,7 +46,8 @@ pub record Last (s : List ℕ) (r : State) (words : List ℕ) : Type 0 where
 module _ {A C : Type 0} {read : ℕ → Out A} {next : A → ℕ → Out C} {Says : C → List ℕ → Type 0} {s₀ s₁ s₂ : List ℕ} (n : ℕ) where
   part :
       {First : A → List ℕ → Type 0} {r₀ r₁ r₂ : State} → Follows read First s₀ s₁ r₀ r₁ → Passes r₁ r₂
-      → ((a : A) (w : List ℕ) → First a w → Last s₁ r₁ w → freeOf n r₁ ≡ freeOf n r₀ + length w → Follows (next a) (λ c v. Says c (w ++ v)) s₁ s₂ r₁ r₂)
+      → ((a : A) (w : List ℕ) → First a w → Last s₁ r₁ w → freeOf n r₁ ≡ freeOf n r₀ + length w
+      → Follows (next a) (λ c v. Says c (w ++ v)) s₁ s₂ r₁ r₂)
       → Follows {A = C} (λ m. onOut (read m) next) Says s₀ s₂ r₀ r₂
   unfolding freeOf
   part {r₀ = Refused k p} {r₁} {r₂} d g f = record { by = subst (λ (x : State). PassesBy x r₂) (d .by) (g .by) }
@@ -61,7 +62,8 @@ module _ {A C : Type 0} {read : ℕ → Out A} {next : A → ℕ → Out C} {Say
       record { by = ap (λ (o : Out A). onOut o next) (e .is) ∙ w .by }
   part {r₀ = Read at free} {r₁ = Read m nf} {r₂ = Read q mf} d g f =
       let e = d .by in
-      let w = f (e .tree) (e .words) (e .says) (record { next = m; free = nf; before = take free s₀; reads = refl; stands = e .written }) (e .size) .by in
+      let v : Last s₁ (Read m nf) (e .words) = record { next = m; free = nf; before = take free s₀; reads = refl; stands = e .written } in
+      let w = f (e .tree) (e .words) (e .says) v (e .size) .by in
       record {
         by = record {
           tree = w .tree;

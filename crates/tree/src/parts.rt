@@ -221,7 +221,8 @@ pub(crate) fn label(s: &mut [u32], n: usize, levels: usize, kind: u32, r: State)
 // The labels after the first.
 pub(crate) fn labels(s: &mut [u32], n: usize, levels: usize, r: State) -> State
     requires { ⌜ Ready 0 (now s) n r ⌝ }
-    ensures { λ a. ⌜ Reading 0 (manyUpTo (n - 1) [] isLabel (C.label (within levels))) (Encodes encodeLabels) (now (s .entry)) (now (s .exit)) n r a ⌝ }
+    ensures { λ a. ⌜ Reading 0 (manyUpTo (n - 1) [] isLabel (C.label (within levels))) (Encodes encodeLabels)
+        (now (s .entry)) (now (s .exit)) n r a ⌝ }
 {
     let mut turns = minus(n, 1);
     let mut a = r;

@@ -276,7 +276,8 @@ fn pass(s: &mut [u32], n: usize, levels: usize, r: State) -> State
 fn arg(s: &mut [u32], n: usize, levels: usize, r: State) -> State
     requires { ⌜ Ready 2 (now s) n r ⌝ }
     ensures { λ a. ⌜ TakesRoom 1 (now (s .entry)) (now (s .exit)) n r a
-        × ((src : Source) → HoldsSymbols src n (now (s .entry)) → Follows (anArgument levels src) PrependsOne (now (s .entry)) (now (s .exit)) r a) ⌝ }
+        × ((src : Source) → HoldsSymbols src n (now (s .entry))
+        → Follows (anArgument levels src) PrependsOne (now (s .entry)) (now (s .exit)) r a) ⌝ }
 {
     let lo = free_of(s, r);
     let begun = begin_item(s, n, r, 0);

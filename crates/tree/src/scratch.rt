@@ -119,7 +119,8 @@ pub(crate) fn node(
     kind: u32,
 ) -> State
     requires { ⌜ Ready 4 (now s) n r ⌝ }
-    ensures { λ a. ⌜ TakesRoom 4 (now (s .entry)) (now (s .exit)) n r a × Adds (recordFrom lo value place kind) (now (s .entry)) (now (s .exit)) r a ⌝ }
+    ensures { λ a. ⌜ TakesRoom 4 (now (s .entry)) (now (s .exit)) n r a
+        × Adds (recordFrom lo value place kind) (now (s .entry)) (now (s .exit)) r a ⌝ }
 {
     match r {
         State::Read(at, free) => {

@@ -6,7 +6,8 @@ use Rattle.tree.proofs.Symbols.{lies-still}
 use Rattle.tree.specs.Reads.{freeOf}
 use Rattle.tree.proofs.Programs.{function-here}
 use borrow.Author.Needs.{needs}
-use Rattle.tree.proofs.Rooms.{size-small, takes-more, ready-leaves, ready-takes, leaves-leaves, leaves-after, leaves-takes, ready-part, item-low}
+use Rattle.tree.proofs.Rooms.{size-small, takes-more, ready-leaves, ready-takes, ready-part, item-low}
+use Rattle.tree.proofs.Rooms.{leaves-leaves, leaves-after, leaves-takes}
 use Rattle.tree.proofs.Steps.{pair}
 use Rattle.tree.proofs.declarations.function.Statement.{statement}
 use Rattle.tree.proofs.declarations.function.Tie as tie

@@ -33,7 +33,8 @@ returns c =
       goes-on (after-expect .expect .ensures .1 src l) then goes-on (after-constant .constant .ensures .1 src l) then adds-on
           (after-node .node .ensures .1),
       λ name q. vector-read src _ _ name _ q
-          (after-minus .minus .ensures ∙ ap (λ (z : ℕ). z - start .args .start) (after-free-of .free-of .ensures)) (after-expect .expect .ensures .1 src l)
+          (after-minus .minus .ensures ∙ ap (λ (z : ℕ). z - start .args .start) (after-free-of .free-of .ensures))
+          (after-expect .expect .ensures .1 src l)
           (after-constant .constant .ensures .1 src l) (after-node .node .ensures .1),
     ))
 

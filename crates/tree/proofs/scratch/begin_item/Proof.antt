@@ -14,4 +14,5 @@ begin-item-spec =
     (λ c. omega (arith, room-is (c .before .before .before .pre) (c .before .r .given .1)))
     (λ c. simp length-set (omega (arith, room-is (c .before .before .before .pre) (c .before .r .given .1))))
     (λ c. omega (arith, room-is (c .before .before .before .pre) (c .before .r .given .1)))
-    (search needs) (search needs) (λ c. item-begun (c .before .r .given .1) (c .before .before .before .pre) _) (λ c. (search refused-grows, search adds-refused)))
+    (search needs) (search needs) (λ c. item-begun (c .before .r .given .1) (c .before .before .before .pre) _)
+    (λ c. (search refused-grows, search adds-refused)))

@@ -15,4 +15,6 @@ close-item-spec =
     (λ c. omega (arith, room-is (c .before .before .before .before .before .pre) (c .before .before .r .given .1)))
     (λ c. simp length-set (omega (arith, room-is (c .before .before .before .before .before .pre) (c .before .before .r .given .1))))
     (λ c. omega (arith, room-is (c .before .before .before .before .before .pre) (c .before .before .r .given .1)))
-    (search needs) (search needs) (λ c. item-ended (c .before .before .r .given .1) (c .before .before .before .before .before .pre) _ _ (c .minus .ensures)) (λ c. (search refused-grows, search adds-refused)))
+    (search needs) (search needs)
+    (λ c. item-ended (c .before .before .r .given .1) (c .before .before .before .before .before .pre) _ _ (c .minus .ensures))
+    (λ c. (search refused-grows, search adds-refused)))

@@ -21,5 +21,6 @@ node-spec =
     (λ c. omega (arith, room-is (c .before .before .before .before .before .pre) (c .before .before .r .given .1)))
     (λ c. simp length-set (omega (arith, room-is (c .before .before .before .before .before .pre) (c .before .before .r .given .1))))
     (λ c. omega (arith, room-is (c .before .before .before .before .before .pre) (c .before .before .r .given .1)))
-    (search needs) (search needs) (λ c. record-written (c .before .before .r .given .1) (c .before .before .before .before .before .pre) _ _ _ _ (c .minus .ensures))
+    (search needs) (search needs)
+    (λ c. record-written (c .before .before .r .given .1) (c .before .before .before .before .before .pre) _ _ _ _ (c .minus .ensures))
     (λ c. (search refused-grows, search adds-refused)))

@@ -523,7 +523,8 @@ local-returns t c =
       arith,
       after-minus .minus .ensures,
       after-free-of3 .free-of3 .ensures ∙ ap
-          (λ (z : ℕ). freeOf z (after-further-names .further-names .result)) (after-further-names .further-names .kept .0 ∙ after-a-name .a-name .kept .0 ∙
+          (λ (z : ℕ). freeOf z (after-further-names .further-names .result))
+          (after-further-names .further-names .kept .0 ∙ after-a-name .a-name .kept .0 ∙
           after-begin-item .begin-item .kept .0),
       after-free-of4 .free-of4 .ensures ∙ ap (λ (z : ℕ). freeOf z (after-a-name .a-name .result))
           (after-further-names .further-names .kept .0 ∙ after-a-name .a-name .kept .0 ∙ after-begin-item .begin-item .kept .0),
@@ -560,7 +561,8 @@ init-returns t c =
             vector-is (after-kind-here .kind-here .result) (start .args .further)
                 (sym (after-is-vector .is-vector .ensures) ∙ after-if1 .if1 .taken) .1,
           ))
-          (vector-is (after-kind-here .kind-here .result) (start .args .further) (sym (after-is-vector .is-vector .ensures) ∙ after-if1 .if1 .taken) .0)
+          (vector-is (after-kind-here .kind-here .result) (start .args .further)
+          (sym (after-is-vector .is-vector .ensures) ∙ after-if1 .if1 .taken) .0)
           (after-vector .vector .ensures .1 src l .1 name
           (e ∙ ap (λ (z : ℕ). start .args .start + z)
           (one-name name names (omega (
@@ -601,7 +603,8 @@ init-returns-2 t c =
     in (
       goes-on (after-arg .arg .ensures .1 src l) then goes-on (after-rest .rest .ensures .1 src l₁) then adds-on (after-node .node .ensures .1),
       λ name names q e. given-values src _ (after-kind-here .kind-here .ensures src l) name names
-          (λ z. vector-not (after-kind-here .kind-here .result) (start .args .further) (sym (after-is-vector .is-vector .ensures) ∙ after-if1 .if1 .left)
+          (λ z. vector-not (after-kind-here .kind-here .result) (start .args .further)
+          (sym (after-is-vector .is-vector .ensures) ∙ after-if1 .if1 .left)
           (omega (arith, q, z))) (values-read src _ _ name names _ q e
           (after-minus .minus .ensures ∙ ap (λ (y : ℕ). y - start .args .start) (after-free-of .free-of .ensures)) (after-arg .arg .ensures .1 src l)
           (after-rest .rest .ensures .1 src l₁) (after-node .node .ensures .1)),

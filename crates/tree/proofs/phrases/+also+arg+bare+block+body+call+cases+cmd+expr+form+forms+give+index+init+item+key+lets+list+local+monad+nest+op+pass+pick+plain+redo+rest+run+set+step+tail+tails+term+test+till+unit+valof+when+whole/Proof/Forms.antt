@@ -616,7 +616,8 @@ set-returns t c =
       goes-on (after-also .also .ensures .1 src l) then goes-on (after-expect .expect .ensures .1 src l₁) then goes-on
           (after-arg .arg .ensures .1 src l₁) then goes-on (after-rest .rest .ensures .1 src l₂) then adds-on (after-node .node .ensures .1),
       λ e q.
-          assignment-read src _ _ _ e (l .count) q (after-minus .minus .ensures ∙ ap (λ (y : ℕ). y - start .args .lo) (after-free-of .free-of .ensures))
+          assignment-read src _ _ _ e (l .count) q
+          (after-minus .minus .ensures ∙ ap (λ (y : ℕ). y - start .args .lo) (after-free-of .free-of .ensures))
           (after-minus2 .minus2 .ensures ∙ ap (λ (y : ℕ). y - start .args .lo)
           (after-free-of2 .free-of2 .ensures ∙ ap (λ (z : ℕ). freeOf z (after-also .also .result .end)) (after-also .also .kept .0)))
           (after-also .also .ensures .1 src l) (after-expect .expect .ensures .1 src l₁) (after-arg .arg .ensures .1 src l₁)
