@@ -1,7 +1,7 @@
 -- Laws of room: what one call after another leaves of what the symbols read allow, and what the next call may ask.
 -- A premise's numbers come from the conclusion and from the call that the first premise names, so that `search` finds every argument.
 use Prim.Native.Nat.{ℕ, _+_, _*_, _-_, _≤_, _<_, _^_}
-use mathlib.Core.Path.{_≡_, _∙_}
+use mathlib.Core.Path.{_≡_, ap, _∙_}
 use mathlib.Core.Bool.{true}
 use mathlib.Core.List.{List}
 use native.Mathlib.Omega.{arith}
@@ -153,5 +153,9 @@ module _ {s : List ℕ} {n : ℕ} {r : State} where
   pub size-small : (lo : ℕ) {size free : ℕ} → size ≡ free - lo → free ≡ freeOf (length s) r → Ready 0 s n r → size < 2 ^ 32
   size-small lo q e h = omega (arith, low h, h .small)
 
-pub ruleset rooms =
-    (leaves-less, leaves-leaves, takes-leaves, leaves-after, takes-more, takes-none, leaves-takes, takes-takes, takes-after, leaves-all)
+-- the next free entry, and the size of what stands from lo on, where scratch is as long as it was
+pub freed : (r : State) {free z z′ : ℕ} → free ≡ freeOf z′ r → z′ ≡ z → free ≡ freeOf z r
+freed r e k = e ∙ ap (λ (x : ℕ). freeOf x r) k
+
+pub measured : (r : State) (lo : ℕ) {size free z z′ : ℕ} → size ≡ free - lo → free ≡ freeOf z′ r → z′ ≡ z → size ≡ freeOf z r - lo
+measured r lo q e k = q ∙ ap (λ (y : ℕ). y - lo) (freed r e k)

@@ -5,7 +5,7 @@ use Rattle.tree.proofs.phrases.+also+arg+bare+block+body+call+cases+cmd
 use Rattle.language.specs.Kinds as K
 use Rattle.language.specs.Tree as T
 use Rattle.language.specs.Commands as C
-use Prim.Native.Nat.{ℕ, _+_, _-_}
+use Prim.Native.Nat.{ℕ, _+_}
 use Rattle.language.specs.Grammar.{within, readers}
 use Rattle.language.specs.Reader.{manyUpTo, moreUpTo}
 use Rattle.tree.proofs.Blocks.{for-read, switchon-read, block-read, listed-read, no-command-words, no-commands, semicolon-commands}
@@ -17,7 +17,7 @@ use Rattle.tree.proofs.Lists.{Before}
 use Rattle.tree.proofs.Loops.{SoFar, before-first, before-next, before-last, wordless, so-begins, many-turns, many-ends, many-spent}
 use Rattle.tree.proofs.Loops.{list-spents, list-ends, list-semicolon-ends, list-goes-on}
 use Rattle.tree.proofs.Rooms.{leaves-less, takes-more, takes-none, ready-leaves, ready-takes, leaves-leaves, takes-leaves, leaves-takes}
-use Rattle.tree.proofs.Rooms.{takes-takes, ready-part, item-low, size-small}
+use Rattle.tree.proofs.Rooms.{takes-takes, ready-part, item-low, size-small, freed, measured}
 use Rattle.tree.proofs.Steps.{pair, goes-on, adds-on, _then_}
 use Rattle.tree.proofs.Symbols.{lies-still}
 use Rattle.tree.specs.Encoding.{encodeCommands, encodeLocals}
@@ -149,12 +149,11 @@ step-returns t c =
     (after-cmd .cmd .ensures .1 src l₇) (omega (
       arith,
       after-minus .minus .ensures,
-      after-free-of2 .free-of2 .ensures ∙ ap
-          (λ (z : ℕ). freeOf z (after-optional-by .optional-by .result)) (after-optional-by .optional-by .kept .0 ∙ after-expr2 .expr2 .kept .0 ∙
-          after-expr .expr .kept .0 ∙ after-a-name .a-name .kept .0),
-      after-free-of3 .free-of3 .ensures ∙ ap
-          (λ (z : ℕ). freeOf z (after-expr2 .expr2 .result)) (after-optional-by .optional-by .kept .0 ∙ after-expr2 .expr2 .kept .0 ∙
-          after-expr .expr .kept .0 ∙ after-a-name .a-name .kept .0),
+      freed _ (after-free-of2 .free-of2 .ensures)
+          (after-optional-by .optional-by .kept .0 ∙ after-expr2 .expr2 .kept .0 ∙ after-expr .expr .kept .0 ∙ after-a-name .a-name .kept .0),
+      freed _
+          (after-free-of3 .free-of3 .ensures) (after-optional-by .optional-by .kept .0 ∙ after-expr2 .expr2 .kept .0 ∙ after-expr .expr .kept .0 ∙
+          after-a-name .a-name .kept .0),
     )) (after-node .node .ensures .1)))
 
 pub step-ok : {M : Type 1} (t : ℕ) → cycle.Lts-step.Closed (step-cs t) (at step-rank t) phrases.step.Reads.Post M
@@ -225,8 +224,7 @@ pick-returns t c =
     (λ src l. (let l₂ = lies-still l (after-expr .expr .ensures .0 .kept) in let l₃ = lies-still l₂ (after-item .item .ensures .0 .kept)
     in switchon-read l _ _ (after-free-of .free-of .ensures) (after-expect .expect .ensures .1 src l) (after-expr .expr .ensures .1 src l)
     (after-expect2 .expect2 .ensures .1 src l₂) (after-expect3 .expect3 .ensures .1 src l₂) (after-item .item .ensures .1 src l₂)
-    (after-list .list .ensures .1 src l₃) (after-minus .minus .ensures ∙ ap (λ (y : ℕ). y - after-free-of .free-of .result)
-    (after-free-of2 .free-of2 .ensures ∙ ap (λ (z : ℕ). freeOf z (after-expr .expr .result)) (after-expr .expr .kept .0)))
+    (after-list .list .ensures .1 src l₃) (measured _ _ (after-minus .minus .ensures) (after-free-of2 .free-of2 .ensures) (after-expr .expr .kept .0))
     (after-node .node .ensures .1)))
 
 pub pick-ok : {M : Type 1} (t : ℕ) → cycle.Lts-pick.Closed (pick-cs t) (at pick-rank t) phrases.pick.Reads.Post M
@@ -399,9 +397,7 @@ block-returns t c =
     (leaves-leaves (after-lets .lets .ensures .0) (leaves-less (after-expect .expect .ensures .0) refl))))
     (λ src l. (let l₂ = lies-still l (after-lets .lets .ensures .0 .kept) in block-read l _ _ (after-free-of .free-of .ensures)
     (after-expect .expect .ensures .1 src l) (after-lets .lets .ensures .1 src l) (after-till .till .ensures .1 src l₂)
-    (after-minus .minus .ensures ∙ ap (λ (y : ℕ). y - after-free-of .free-of .result)
-    (after-free-of2 .free-of2 .ensures ∙ ap (λ (z : ℕ). freeOf z (after-lets .lets .result)) (after-lets .lets .kept .0)))
-    (after-node .node .ensures .1)))
+    (measured _ _ (after-minus .minus .ensures) (after-free-of2 .free-of2 .ensures) (after-lets .lets .kept .0)) (after-node .node .ensures .1)))
 
 pub block-ok : {M : Type 1} (t : ℕ) → cycle.Lts-block.Closed (block-cs t) (at block-rank t) phrases.block.Reads.Post M
 block-ok t =
@@ -518,19 +514,17 @@ local-returns t c =
     (after-a-name .a-name .ensures .0 .kept) in let l₃ = lies-still l₂ (after-further-names .further-names .ensures .0 .kept) in let l₄ = lies-still
     l₃ (after-init .init .ensures .0 .kept) in local-read src _ _ (l .count) (after-free-of .free-of .ensures)
     (low-past (start .pre .1) (after-expect .expect .ensures .0))
-    (after-free-of2 .free-of2 .ensures ∙ ap (λ (z : ℕ). freeOf z (after-begin-item .begin-item .result)) (after-begin-item .begin-item .kept .0))
+    (freed _ (after-free-of2 .free-of2 .ensures) (after-begin-item .begin-item .kept .0))
     (omega (
       arith,
       after-minus .minus .ensures,
-      after-free-of3 .free-of3 .ensures ∙ ap
-          (λ (z : ℕ). freeOf z (after-further-names .further-names .result))
-          (after-further-names .further-names .kept .0 ∙ after-a-name .a-name .kept .0 ∙
-          after-begin-item .begin-item .kept .0),
-      after-free-of4 .free-of4 .ensures ∙ ap (λ (z : ℕ). freeOf z (after-a-name .a-name .result))
+      freed _ (after-free-of3 .free-of3 .ensures)
           (after-further-names .further-names .kept .0 ∙ after-a-name .a-name .kept .0 ∙ after-begin-item .begin-item .kept .0),
-    ))
-    (after-expect .expect .ensures .1 src l) (after-begin-item .begin-item .ensures .1) (after-a-name .a-name .ensures .1 src l₁)
-    (after-further-names .further-names .ensures .1 src l₂) (after-expect2 .expect2 .ensures .1 src l₃)
+      freed _
+          (after-free-of4 .free-of4 .ensures) (after-further-names .further-names .kept .0 ∙ after-a-name .a-name .kept .0 ∙
+          after-begin-item .begin-item .kept .0),
+    )) (after-expect .expect .ensures .1 src l) (after-begin-item .begin-item .ensures .1)
+    (after-a-name .a-name .ensures .1 src l₁) (after-further-names .further-names .ensures .1 src l₂) (after-expect2 .expect2 .ensures .1 src l₃)
     (λ name names q e. after-init .init .ensures .1 src l₃ .1 name names q
     (ap (λ (z : ℕ). freeOf z (after-expect2 .expect2 .result)) (after-further-names .further-names .kept .0 ∙ after-a-name .a-name .kept .0 ∙
     after-begin-item .begin-item .kept .0) ∙ e)) (after-init .init .ensures .1 src l₃ .0) (after-optional .optional .ensures .1 src l₄)
@@ -551,27 +545,11 @@ init-returns : (t : ℕ) → cycle.Lts-init.Need-returns (init-cs t) (at init-ra
 init-returns t c =
     let after-vector = c .before .before in let after-if1 = after-vector .before .before in let after-is-vector = after-if1 .before in
     let after-kind-here = after-is-vector .before in let start = after-kind-here .before .before .before in
-    pair (takes-none (after-vector .vector .ensures .0))
-    (λ src l. (
-      after-vector .vector .ensures .1 src l .0,
-      λ name names q e. given-vector src _ (after-kind-here .kind-here .ensures src l) name names
-          (omega (
-            arith,
-            q,
-            vector-is (after-kind-here .kind-here .result) (start .args .further)
-                (sym (after-is-vector .is-vector .ensures) ∙ after-if1 .if1 .taken) .1,
-          ))
-          (vector-is (after-kind-here .kind-here .result) (start .args .further)
-          (sym (after-is-vector .is-vector .ensures) ∙ after-if1 .if1 .taken) .0)
-          (after-vector .vector .ensures .1 src l .1 name
-          (e ∙ ap (λ (z : ℕ). start .args .start + z)
-          (one-name name names (omega (
-            arith,
-            q,
-            vector-is (after-kind-here .kind-here .result) (start .args .further)
-                (sym (after-is-vector .is-vector .ensures) ∙ after-if1 .if1 .taken) .1,
-          ))))),
-    ))
+    let v = vector-is (after-kind-here .kind-here .result) (start .args .further) (sym (after-is-vector .is-vector .ensures) ∙ after-if1 .if1 .taken)
+    in pair (takes-none (after-vector .vector .ensures .0))
+    (λ src l. pair (after-vector .vector .ensures .1 src l .0) (λ name names q e. given-vector src _ (after-kind-here .kind-here .ensures src l) name
+    names (omega (arith, q, v .1)) (v .0) (after-vector .vector .ensures .1 src l .1 name
+    (e ∙ ap (λ (z : ℕ). start .args .start + z) (one-name name names (omega (arith, q, v .1)))))))
 
 init-rest-requires : (t : ℕ) → cycle.Lts-init.Need-rest-requires (init-cs t) (at init-rank t) phrases.init.Reads.Post
 init-rest-requires t c κs =
@@ -599,16 +577,12 @@ init-returns-2 t c =
     let after-free-of = after-minus .before in let after-if1 = after-free-of .before .before in let after-is-vector = after-if1 .before in
     let after-kind-here = after-is-vector .before in let start = after-kind-here .before .before .before in
     pair (takes-takes (after-node .node .ensures .0) refl (leaves-takes (after-rest .rest .ensures .0) (after-arg .arg .ensures .0)))
-    (λ src l. (let l₁ = lies-still l (after-arg .arg .ensures .0 .kept)
-    in (
-      goes-on (after-arg .arg .ensures .1 src l) then goes-on (after-rest .rest .ensures .1 src l₁) then adds-on (after-node .node .ensures .1),
-      λ name names q e. given-values src _ (after-kind-here .kind-here .ensures src l) name names
-          (λ z. vector-not (after-kind-here .kind-here .result) (start .args .further)
-          (sym (after-is-vector .is-vector .ensures) ∙ after-if1 .if1 .left)
-          (omega (arith, q, z))) (values-read src _ _ name names _ q e
-          (after-minus .minus .ensures ∙ ap (λ (y : ℕ). y - start .args .start) (after-free-of .free-of .ensures)) (after-arg .arg .ensures .1 src l)
-          (after-rest .rest .ensures .1 src l₁) (after-node .node .ensures .1)),
-    )))
+    (λ src l. let l₁ = lies-still l (after-arg .arg .ensures .0 .kept) in pair
+    (goes-on (after-arg .arg .ensures .1 src l) then goes-on (after-rest .rest .ensures .1 src l₁) then adds-on (after-node .node .ensures .1))
+    (λ name names q e. given-values src _ (after-kind-here .kind-here .ensures src l) name names
+    (λ z. vector-not (after-kind-here .kind-here .result) (start .args .further) (sym (after-is-vector .is-vector .ensures) ∙ after-if1 .if1 .left)
+    (omega (arith, q, z))) (values-read src _ _ name names _ q e (measured _ _ (after-minus .minus .ensures) (after-free-of .free-of .ensures) refl)
+    (after-arg .arg .ensures .1 src l) (after-rest .rest .ensures .1 src l₁) (after-node .node .ensures .1))))
 
 pub init-ok : {M : Type 1} (t : ℕ) → cycle.Lts-init.Closed (init-cs t) (at init-rank t) phrases.init.Reads.Post M
 init-ok t =

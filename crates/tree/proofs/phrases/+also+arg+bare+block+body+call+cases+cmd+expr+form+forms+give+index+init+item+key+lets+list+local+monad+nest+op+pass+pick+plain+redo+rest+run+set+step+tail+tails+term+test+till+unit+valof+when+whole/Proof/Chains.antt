@@ -4,7 +4,7 @@ use Rattle.tree.proofs.phrases as phrases
 use Rattle.tree.proofs.phrases.+also+arg+bare+block+body+call+cases+cmd+expr+form+forms+give+index+init+item+key+lets+list+local+monad+nest+op+pass+pick+plain+redo+rest+run+set+step+tail+tails+term+test+till+unit+valof+when+whole as cycle
 use Rattle.language.specs.Tree as T
 use Rattle.language.specs.Expressions as E
-use Prim.Native.Nat.{ℕ, _-_}
+use Prim.Native.Nat.{ℕ}
 use Rattle.language.specs.Binding.{bindingOf}
 use Rattle.language.specs.Grammar.{within}
 use Rattle.language.specs.Reader.{manyUpTo}
@@ -15,15 +15,14 @@ use Rattle.tree.proofs.Helpers.{low-past}
 use Rattle.tree.proofs.Lists.{Before}
 use Rattle.tree.proofs.Loops.{SoFar, before-first, before-next, before-last, wordless, so-begins, many-turns, many-ends, many-spent}
 use Rattle.tree.proofs.Readers.{monadic-read, operation-read}
-use Rattle.tree.proofs.Rooms.{leaves-less, ready-leaves, ready-takes, leaves-leaves, takes-leaves, item-low, size-small}
+use Rattle.tree.proofs.Rooms.{leaves-less, ready-leaves, ready-takes, leaves-leaves, takes-leaves, item-low, size-small, measured}
 use Rattle.tree.proofs.Steps.{pair, triple}
 use Rattle.tree.proofs.Symbols.{lies-still}
 use Rattle.tree.specs.Encoding.{encodeOperations}
-use Rattle.tree.specs.Reads.{freeOf}
 use borrow.Author.Needs.{needs}
 use borrow.Author.Tests.{eq-eqb, ne-eqb}
 use lib.Dec.{eqb}
-use mathlib.Core.Path.{refl, sym, ap, _∙_}
+use mathlib.Core.Path.{refl, sym, _∙_}
 use native.Mathlib.Omega.{arith}
 use proofs.scratch.begin_item.Reads as begin-item
 use proofs.binding.binding_of.Reads as binding-of
@@ -130,8 +129,7 @@ expr-returns-5 t c =
     (λ src l. (let l₁ = lies-still l (after-expr2 .expr2 .ensures .0 .kept) in let l₂ = lies-still l₁ (after-op .op .ensures .0 .kept)
     in expression-more l₁ _ _ _ (after-if1 .if1 .left) (after-if2 .if2 .left) (start .pre .1 .1) (after-kind-here2 .kind-here2 .ensures src l₁)
     (after-expr2 .expr2 .ensures .1 src l) (after-right-of .right-of .ensures .0) (sym (after-binding-of .binding-of .ensures) ∙ after-if4 .if4 .left)
-    (after-free-of .free-of .ensures) (after-minus .minus .ensures ∙ ap (λ (y : ℕ). y - after-free-of .free-of .result)
-    (after-free-of2 .free-of2 .ensures ∙ ap (λ (z : ℕ). freeOf z (after-expr2 .expr2 .result)) (after-expr2 .expr2 .kept .0)))
+    (after-free-of .free-of .ensures) (measured _ _ (after-minus .minus .ensures) (after-free-of2 .free-of2 .ensures) (after-expr2 .expr2 .kept .0))
     (after-place-of .place-of .ensures) (after-op .op .ensures .1 src l₁ (after-kind-here2 .kind-here2 .ensures src l₁))
     (after-run .run .ensures .1 src l₂) (after-node .node .ensures .1)))
 

@@ -4,7 +4,7 @@ use Rattle.tree.proofs.phrases as phrases
 use Rattle.tree.proofs.phrases.+also+arg+bare+block+body+call+cases+cmd+expr+form+forms+give+index+init+item+key+lets+list+local+monad+nest+op+pass+pick+plain+redo+rest+run+set+step+tail+tails+term+test+till+unit+valof+when+whole as cycle
 use Rattle.language.specs.Tree as T
 use Rattle.language.specs.Commands as C
-use Prim.Native.Nat.{ℕ, _-_}
+use Prim.Native.Nat.{ℕ}
 use Rattle.language.specs.Binding.{isRepeat}
 use Rattle.language.specs.Grammar.{within, readers}
 use Rattle.language.specs.Reader.{manyUpTo}
@@ -18,6 +18,7 @@ use Rattle.tree.proofs.Helpers.{low-past}
 use Rattle.tree.proofs.Lists.{Before}
 use Rattle.tree.proofs.Loops.{SoFar, before-first, before-next, before-last, wordless, so-begins, many-turns, many-ends, many-spent}
 use Rattle.tree.proofs.Rooms.{leaves-less, ready-leaves, ready-takes, leaves-leaves, takes-leaves, ready-part, item-low, size-small}
+use Rattle.tree.proofs.Rooms.{measured}
 use Rattle.tree.proofs.Steps.{pair, goes-on, adds-on, refuses-on, _then_}
 use Rattle.tree.proofs.Symbols.{lies-still}
 use Rattle.tree.specs.Encoding.{encodeRepeats}
@@ -114,9 +115,8 @@ cases-returns t c =
     pair (takes-leaves (after-node .node .ensures .0)
     (leaves-leaves (after-body .body .ensures .0) (leaves-leaves (after-labels .labels .ensures .0) (after-label .label .ensures .0))))
     (λ src l k q. (let l₁ = lies-still l (after-label .label .ensures .0 .kept) in let l₂ = lies-still l₁ (after-labels .labels .ensures .0 .kept)
-    in labelled-read l _ _ k q (after-free-of .free-of .ensures) (after-minus .minus .ensures ∙ ap (λ (y : ℕ). y - after-free-of .free-of .result)
-    (after-free-of2 .free-of2 .ensures ∙ ap (λ (z : ℕ). freeOf z (after-labels .labels .result))
-    (after-labels .labels .kept .0 ∙ after-label .label .kept .0))) (after-label .label .ensures .1 src l k) (after-labels .labels .ensures .1 src l₁)
+    in labelled-read l _ _ k q (after-free-of .free-of .ensures) (measured _ _ (after-minus .minus .ensures) (after-free-of2 .free-of2 .ensures)
+    (after-labels .labels .kept .0 ∙ after-label .label .kept .0)) (after-label .label .ensures .1 src l k) (after-labels .labels .ensures .1 src l₁)
     (after-body .body .ensures .1 src l₂) (after-node .node .ensures .1)))
 
 pub cases-ok : {M : Type 1} (t : ℕ) → cycle.Lts-cases.Closed (cases-cs t) (at cases-rank t) phrases.cases.Reads.Post M
@@ -218,8 +218,7 @@ redo-returns t c =
     (λ src l. (let l₁ = lies-still l (after-plain .plain .ensures .0 .kept) in let l₂ = lies-still l₁ (after-form .form .ensures .0 .kept)
     in repeated-more l₁ _ _ (after-kind-here .kind-here .ensures src l₁) (after-plain .plain .ensures .1 src l)
     (sym (after-is-repeat .is-repeat .ensures) ∙ after-if1 .if1 .taken) (after-free-of .free-of .ensures)
-    (after-minus .minus .ensures ∙ ap (λ (y : ℕ). y - after-free-of .free-of .result)
-    (after-free-of2 .free-of2 .ensures ∙ ap (λ (z : ℕ). freeOf z (after-plain .plain .result)) (after-plain .plain .kept .0)))
+    (measured _ _ (after-minus .minus .ensures) (after-free-of2 .free-of2 .ensures) (after-plain .plain .kept .0))
     (after-form .form .ensures .1 src l₁ (after-kind-here .kind-here .ensures src l₁)) (after-forms .forms .ensures .1 src l₂)
     (after-node .node .ensures .1)))
 
@@ -607,22 +606,17 @@ set-returns t c =
     let after-arg = after-rest .before .before .before .before in let after-expect = after-arg .before .before in
     let after-minus2 = after-expect .before .before in let after-free-of2 = after-minus2 .before in
     let after-also = after-free-of2 .before .before .before .before in let after-minus = after-also .before .before in
-    let after-free-of = after-minus .before in let start = after-free-of .before .before .before in
+    let after-free-of = after-minus .before in
     pair (takes-leaves (after-node .node .ensures .0)
     (leaves-leaves (after-rest .rest .ensures .0)
     (takes-leaves (after-arg .arg .ensures .0) (leaves-leaves (after-expect .expect .ensures .0) (after-also .also .ensures .0)))))
-    (λ src l. (let l₁ = lies-still l (after-also .also .ensures .0 .kept) in let l₂ = lies-still l₁ (after-arg .arg .ensures .0 .kept)
-    in (
-      goes-on (after-also .also .ensures .1 src l) then goes-on (after-expect .expect .ensures .1 src l₁) then goes-on
-          (after-arg .arg .ensures .1 src l₁) then goes-on (after-rest .rest .ensures .1 src l₂) then adds-on (after-node .node .ensures .1),
-      λ e q.
-          assignment-read src _ _ _ e (l .count) q
-          (after-minus .minus .ensures ∙ ap (λ (y : ℕ). y - start .args .lo) (after-free-of .free-of .ensures))
-          (after-minus2 .minus2 .ensures ∙ ap (λ (y : ℕ). y - start .args .lo)
-          (after-free-of2 .free-of2 .ensures ∙ ap (λ (z : ℕ). freeOf z (after-also .also .result .end)) (after-also .also .kept .0)))
-          (after-also .also .ensures .1 src l) (after-expect .expect .ensures .1 src l₁) (after-arg .arg .ensures .1 src l₁)
-          (after-rest .rest .ensures .1 src l₂) (after-node .node .ensures .1),
-    )))
+    (λ src l. let l₁ = lies-still l (after-also .also .ensures .0 .kept) in let l₂ = lies-still l₁ (after-arg .arg .ensures .0 .kept) in pair
+    (goes-on (after-also .also .ensures .1 src l) then goes-on (after-expect .expect .ensures .1 src l₁) then goes-on
+    (after-arg .arg .ensures .1 src l₁) then goes-on (after-rest .rest .ensures .1 src l₂) then adds-on (after-node .node .ensures .1))
+    (λ e q. assignment-read src _ _ _ e (l .count) q (measured _ _ (after-minus .minus .ensures) (after-free-of .free-of .ensures) refl)
+    (measured _ _ (after-minus2 .minus2 .ensures) (after-free-of2 .free-of2 .ensures) (after-also .also .kept .0))
+    (after-also .also .ensures .1 src l) (after-expect .expect .ensures .1 src l₁) (after-arg .arg .ensures .1 src l₁)
+    (after-rest .rest .ensures .1 src l₂) (after-node .node .ensures .1)))
 
 pub set-ok : {M : Type 1} (t : ℕ) → cycle.Lts-set.Closed (set-cs t) (at set-rank t) phrases.set.Reads.Post M
 set-ok t =

@@ -21,15 +21,15 @@ use Rattle.tree.proofs.Loops.{SoFar, before-first, before-last, wordles
 use Rattle.tree.proofs.Readers.{bracketed-read, valof-read, argument-read, index-read, arguments-read, no-arguments, some-arguments}
 use Rattle.tree.proofs.Readers.{further-reads}
 use Rattle.tree.proofs.Rooms.{leaves-less, ready-leaves, ready-takes, leaves-leaves, takes-leaves, leaves-after, leaves-takes, ready-part}
-use Rattle.tree.proofs.Rooms.{item-low, size-small}
+use Rattle.tree.proofs.Rooms.{item-low, size-small, measured}
 use Rattle.tree.proofs.Steps.{pair, again}
 use Rattle.tree.proofs.Symbols.{lies-still}
 use Rattle.tree.specs.Between.{aFurther}
 use Rattle.tree.specs.Encoding.{encodeExpressions}
-use Rattle.tree.specs.Reads.{freeOf, Encodes}
+use Rattle.tree.specs.Reads.{Encodes}
 use borrow.Author.Needs.{needs}
 use borrow.Author.Tests.{eq-eqb, ne-eqb}
-use mathlib.Core.Path.{_≡_, refl, sym, ap, _∙_}
+use mathlib.Core.Path.{_≡_, refl, sym, _∙_}
 use native.Mathlib.Omega.{arith}
 use proofs.parts.atom.Reads as atom
 use proofs.scratch.begin_item.Reads as begin-item
@@ -109,11 +109,9 @@ whole-returns t c =
     (λ src l. (let l₁ = lies-still l (after-unit .unit .ensures .0 .kept) in let l₂ = lies-still l₁ (after-tail .tail .ensures .0 .kept)
     in suffixed-more l₁ _ _ (after-kind-here .kind-here .ensures src l₁) (after-unit .unit .ensures .1 src l)
     (sym (after-is-suffix .is-suffix .ensures) ∙ after-if1 .if1 .taken) (after-free-of .free-of .ensures)
-    (after-minus .minus .ensures ∙ ap (λ (y : ℕ). y - after-free-of .free-of .result)
-    (after-free-of2 .free-of2 .ensures ∙ ap (λ (z : ℕ). freeOf z (after-unit .unit .result)) (after-unit .unit .kept .0)))
-    (after-place-of .place-of .ensures) (after-suffixed-kind .suffixed-kind .ensures)
-    (after-tail .tail .ensures .1 src l₁ (after-kind-here .kind-here .ensures src l₁)) (after-tails .tails .ensures .1 src l₂)
-    (after-node .node .ensures .1)))
+    (measured _ _ (after-minus .minus .ensures) (after-free-of2 .free-of2 .ensures) (after-unit .unit .kept .0)) (after-place-of .place-of .ensures)
+    (after-suffixed-kind .suffixed-kind .ensures) (after-tail .tail .ensures .1 src l₁ (after-kind-here .kind-here .ensures src l₁))
+    (after-tails .tails .ensures .1 src l₂) (after-node .node .ensures .1)))
 
 whole-returns-2 : (t : ℕ) → cycle.Lts-whole.Need-returns-2 (whole-cs t) (at whole-rank t) phrases.whole.Reads.Post
 whole-returns-2 t c =
