@@ -6,7 +6,7 @@ use Rattle.tree.proofs.Symbols.{lies-still}
 use Rattle.tree.specs.Reads.{freeOf}
 use Rattle.tree.proofs.Programs.{function-here}
 use borrow.Author.Needs.{needs}
-use Rattle.tree.proofs.Rooms.{size-small, takes-more, ready-leaves, ready-takes, ready-part, item-low}
+use Rattle.tree.proofs.Rooms.{freed, size-small, takes-more, ready-leaves, ready-takes, ready-part, item-low}
 use Rattle.tree.proofs.Rooms.{leaves-leaves, leaves-after, leaves-takes}
 use Rattle.tree.proofs.Steps.{pair}
 use Rattle.tree.proofs.declarations.function.Statement.{statement}
@@ -78,7 +78,7 @@ returns c =
     (after-a-name .a-name .ensures .0 .kept) in let l₄ = lies-still l₂ (after-parameters .parameters .ensures .0 .kept) in let e
     = after-parameters .parameters .kept .0 ∙ after-a-name .a-name .kept .0 ∙ after-begin-item .begin-item .kept .0 in function-here src _
     (after-free-of .free-of .ensures) (low (start .pre)) (after-begin-item .begin-item .ensures .1)
-    (after-free-of2 .free-of2 .ensures ∙ ap (λ (z : ℕ). freeOf z (after-begin-item .begin-item .result)) (after-begin-item .begin-item .kept .0))
+    (freed _ (after-free-of2 .free-of2 .ensures) (after-begin-item .begin-item .kept .0))
     (after-a-name .a-name .ensures .1 src l₁) (after-expect .expect .ensures .1 src l₂) (after-parameters .parameters .ensures .1 src l₂)
     (omega (
       arith,

@@ -1,11 +1,9 @@
-use Prim.Native.Nat.{ℕ}
-use mathlib.Core.Path.{refl, ap, _∙_}
-use Rattle.tree.specs.Reads.{freeOf}
+use mathlib.Core.Path.{refl}
 use Rattle.tree.proofs.Symbols.{lies-still}
 use Rattle.tree.proofs.Helpers.{low-past}
 use Rattle.tree.proofs.Cases.{default-read, label-default}
 use borrow.Author.Needs.{needs}
-use Rattle.tree.proofs.Rooms.{ready-leaves, ready-takes, leaves-leaves, takes-leaves, item-low}
+use Rattle.tree.proofs.Rooms.{freed, ready-leaves, ready-takes, leaves-leaves, takes-leaves, item-low}
 use Rattle.tree.proofs.Steps.{pair}
 use Rattle.tree.proofs.parts.default_label.Statement.{statement}
 use Rattle.tree.proofs.parts.default_label.Tie as tie
@@ -36,7 +34,7 @@ returns c =
     (takes-leaves (after-begin-item .begin-item .ensures .0) (after-expect .expect .ensures .0)))))
     (λ src l kind k q. label-default src _ k q (default-read l _ _ (after-free-of .free-of .ensures) (after-place-here .place-here .ensures src l)
     (low-past (start .pre) (after-expect .expect .ensures .0))
-    (after-free-of2 .free-of2 .ensures ∙ ap (λ (z : ℕ). freeOf z (after-begin-item .begin-item .result)) (after-begin-item .begin-item .kept .0))
+    (freed _ (after-free-of2 .free-of2 .ensures) (after-begin-item .begin-item .kept .0))
     (after-expect .expect .ensures .1 src l) (after-begin-item .begin-item .ensures .1)
     (after-expect2 .expect2 .ensures .1 src (lies-still l (after-begin-item .begin-item .ensures .0 .kept))) (after-node .node .ensures .1)
     (after-set-size .set-size .ensures .1)))

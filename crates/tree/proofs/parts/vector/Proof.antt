@@ -1,11 +1,10 @@
 use Rattle.tree.proofs.Steps.{goes-on, adds-on, _then_}
 use native.Mathlib.Omega.{arith}
-use Prim.Native.Nat.{ℕ, _-_}
-use mathlib.Core.Path.{refl, ap, _∙_}
+use mathlib.Core.Path.{refl}
 use Rattle.tree.proofs.Helpers.{low}
 use Rattle.tree.proofs.Lets.{vector-read}
 use borrow.Author.Needs.{needs}
-use Rattle.tree.proofs.Rooms.{ready-leaves, leaves-leaves, takes-leaves}
+use Rattle.tree.proofs.Rooms.{measured, ready-leaves, leaves-leaves, takes-leaves}
 use Rattle.tree.proofs.Steps.{pair}
 use Rattle.tree.proofs.parts.vector.Statement.{statement}
 use Rattle.tree.proofs.parts.vector.Tie as tie
@@ -33,7 +32,7 @@ returns c =
       goes-on (after-expect .expect .ensures .1 src l) then goes-on (after-constant .constant .ensures .1 src l) then adds-on
           (after-node .node .ensures .1),
       λ name q. vector-read src _ _ name _ q
-          (after-minus .minus .ensures ∙ ap (λ (z : ℕ). z - start .args .start) (after-free-of .free-of .ensures))
+          (measured _ _ (after-minus .minus .ensures) (after-free-of .free-of .ensures) refl)
           (after-expect .expect .ensures .1 src l)
           (after-constant .constant .ensures .1 src l) (after-node .node .ensures .1),
     ))
