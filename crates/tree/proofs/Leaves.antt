@@ -5,19 +5,29 @@ use mathlib.Core.Bool.{Bool, true, false}
 use mathlib.Core.List.{List, [], _∷_}
 use native.Mathlib.Omega.{arith}
 use lib.Dec.{eqb}
-use borrow.Author.Tests.{eq-eqb, ne-eqb, eqb-true}
+use borrow.Author.Tests.{ne-eqb, eqb-true}
 use Rattle.language.specs.Kinds as K
 use Rattle.language.specs.Tree as T
 use Rattle.language.specs.Tree.{Simple, Constant}
-use Rattle.language.specs.Reader.{Source, Out, ok, no, onOut, kindAt, valueAt, placeAt, unexpected, any, here as place-here, the, aName}
+use Rattle.language.specs.Reader.{Source, Reader, Out, ok, no, onOut, kindAt, valueAt, placeAt, unexpected, any, here as place-here, the, aName}
 use Rattle.language.specs.Expressions.{numeral, quotation, truth, named, literal, truthLiteral, known as knownName, simple, positive}
-use Rattle.tree.specs.Reads.{HoldsSymbols, Here, KindHere, Reads, Refuses, Adds, recordFrom, freeOf}
+use Rattle.tree.specs.Reads.{HoldsSymbols, Here, KindHere, Reads, Adds, recordFrom, freeOf, Encodes, Reading, ReadingAt}
 use Rattle.tree.specs.Between.{atomic, leaving}
 use Rattle.tree.specs.Encoding.{leaf, encode, encodeName, encodeUnlabelled, encodePositive, encodeConstant}
+use Rattle.tree.proofs.Rooms.{leaves-less}
+use Rattle.tree.proofs.Choices.{Refusing}
+use Rattle.tree.proofs.Classes.{unlike3, unlike5}
+use Rattle.text.proofs.Bytes.{Unlike}
 use Rattle.tree.proofs.Steps.{bind, here, added, adds-on, stopped}
 use Rattle.tree.proofs.Symbols.{placed, mapped, the-is, inside}
 use Rattle.tree.specs.declared.scratch.State.{State}
 use Rattle.tree.specs.declared.scratch.State.the-variants.{Read}
+
+abbrev plain : ℕ → Simple → Constant
+plain p x = record { place = p; minus = false; simple = x }
+
+abbrev pub nameOf : ℕ → ℕ → T.Name
+nameOf p v = record { place = p; width = v }
 
 module _ {src : Source} {n : ℕ} {s : List ℕ} (l : HoldsSymbols src n s) {r : State} where
   -- a symbol and its record
@@ -35,68 +45,99 @@ module _ {src : Source} {n : ℕ} {s : List ℕ} (l : HoldsSymbols src n s) {r :
       itself (ok a m) = refl
       itself (no k q) = refl
 
-  module _ {kind : ℕ} (k : KindHere src r kind) where
-    pub known : {x at free : ℕ} → r ≡ Read at free → kind ≡ x → kindAt src at ≡ x
-    known e q = sym (k .here _ _ e) ∙ q
+-- what `value_here` ensures, whatever the source
+abbrev pub ValuesHere : (s : List ℕ) → (n : ℕ) → State → (v : ℕ) → Type 0
+ValuesHere s n r v = (src : Source) → HoldsSymbols src n s → Here (valueAt src) n r v
 
-    module _ {value : ℕ} (h : Here (valueAt src) n r value) where
-      pub valued : {x at free : ℕ} → 0 < x → r ≡ Read at free → kind ≡ x → value ≡ valueAt src at
-      valued {x} {at} {free} pos e q =
-          let y : kindAt src at ≡ x = known e q in
-          h .here at free e (inside l at (omega arith))
+module _ {s s′ : List ℕ} {n : ℕ} {r r′ : State} {v : ℕ} (values : ValuesHere s n r v) where
+  -- a symbol of that kind, which makes F of its place
+  pub symbol-is :
+      {A : Type 0} {read : Reader A} {words : ℕ → List ℕ} {enc : A → List ℕ} {kind x : ℕ} (F : ℕ → A) → 0 < x
+      → ((src : Source) (at : ℕ) → kindAt src at ≡ x → v ≡ valueAt src at → read src at ≡ ok (F (placeAt src at)) (at + 1))
+      → ((place : ℕ) → enc (F place) ≡ words place) → kind ≡ x → (src : Source) → HoldsSymbols src n s → KindHere src r kind
+      → Reads (the x src) words s s′ r r′ → Reads (read src) enc s s′ r r′
+  symbol-is {x = x} F pos e law q src l k d =
+      here (λ at. onOut (the x src at) (λ place m. ok (F place) m))
+      (λ at free h. let y : kindAt src at ≡ x = sym (k .here at free h) ∙ q in
+      e src at y (values src l .here at free h (inside l at (omega arith)))
+      ∙ sym (ap (λ (o : Out ℕ). onOut o (λ place m. ok (F place) m)) (the-is src x at y)))
+      (mapped F law d)
 
-      pub number-read :
-          {s′ : List ℕ} {r′ : State} → kind ≡ K.NUMBER → Reads (the K.NUMBER src) (λ place. leaf value place K.NUMBER) s s′ r r′
-          → Reads (atomic src) encode s s′ r r′
-      unfolding atomic numeral any encode
-      number-read q d =
-          here _ (λ at free e. rw (eq-eqb _ _ (known e q), the-is src K.NUMBER at (known e q), ← valued (omega arith) e q) refl)
-          (mapped (λ place. T.number place value) (λ _. refl) d)
+  module _ {kind : ℕ} where
+    symbol-leaf :
+        {A : Type 0} {read : Reader A} {enc : A → List ℕ} {x value tag : ℕ} (F : ℕ → A) → 0 < x
+        → ((src : Source) (at : ℕ) → kindAt src at ≡ x → v ≡ valueAt src at → read src at ≡ ok (F (placeAt src at)) (at + 1))
+        → ((place : ℕ) → enc (F place) ≡ leaf value place tag) → kind ≡ x
+        → Reading 1 (the x) (Encodes (λ place. leaf value place tag)) s s′ n r r′ → ReadingAt kind 1 read (Encodes enc) s s′ n r r′
+    symbol-leaf F pos e law q d = (d .0, λ src l k. symbol-is F pos e law q src l k (d .1 src l))
 
-      pub string-read :
-          {s′ : List ℕ} {r′ : State} → kind ≡ K.STRING → Reads (the K.STRING src) (λ place. leaf value place K.STRING) s s′ r r′
-          → Reads (atomic src) encode s s′ r r′
-      unfolding atomic quotation any encode
-      string-read q d =
-          here _ (λ at free e. rw (known e q, the-is src K.STRING at (known e q), ← valued (omega arith) e q) refl)
-          (mapped (λ place. T.string place value) (λ _. refl) d)
+    pub number-read :
+        kind ≡ K.NUMBER → Reading 1 (the K.NUMBER) (Encodes (λ place. leaf v place K.NUMBER)) s s′ n r r′
+        → ReadingAt kind 1 atomic (Encodes encode) s s′ n r r′
+    unfolding atomic numeral any encode
+    number-read q d = symbol-leaf (λ place. T.number place v) (omega arith) (λ src at y z. rw (y, ← z)) (λ _. refl) q d
 
-      pub name-read :
-          {s′ : List ℕ} {r′ : State} → kind ≡ K.NAME → Reads (the K.NAME src) (λ place. leaf value place K.NAME) s s′ r r′
-          → Reads (atomic src) encode s s′ r r′
-      unfolding atomic named aName encode encodeName
-      name-read q d =
-          here _ (λ at free e. rw (known e q, the-is src K.NAME at (known e q), ← valued (omega arith) e q) refl)
-          (mapped (λ place. T.name (record { place = place; width = value })) (λ _. refl) d)
+    pub string-read :
+        kind ≡ K.STRING → Reading 1 (the K.STRING) (Encodes (λ place. leaf v place K.STRING)) s s′ n r r′
+        → ReadingAt kind 1 atomic (Encodes encode) s s′ n r r′
+    unfolding atomic quotation any encode
+    string-read q d = symbol-leaf (λ place. T.string place v) (omega arith) (λ src at y z. rw (y, ← z)) (λ _. refl) q d
+
+    pub name-read :
+        kind ≡ K.NAME → Reading 1 (the K.NAME) (Encodes (λ place. leaf v place K.NAME)) s s′ n r r′
+        → ReadingAt kind 1 atomic (Encodes encode) s s′ n r r′
+    unfolding atomic named aName encode encodeName
+    name-read q d = symbol-leaf (λ place. T.name (nameOf place v)) (omega arith) (λ src at y z. rw (y, ← z)) (λ _. refl) q d
 
     pub true-read :
-        {s′ : List ℕ} {r′ : State} → kind ≡ K.TRUE → Reads (the K.TRUE src) (λ place. leaf 65535 place K.NUMBER) s s′ r r′
-        → Reads (atomic src) encode s s′ r r′
+        kind ≡ K.TRUE → Reading 1 (the K.TRUE) (Encodes (λ place. leaf 65535 place K.NUMBER)) s s′ n r r′
+        → ReadingAt kind 1 atomic (Encodes encode) s s′ n r r′
     unfolding atomic truth any encode
-    true-read q d =
-        here _ (λ at free e. rw (known e q, the-is src K.TRUE at (known e q)) refl) (mapped (λ place. T.number place 65535) (λ _. refl) d)
+    true-read q d = symbol-leaf {x = K.TRUE} (λ place. T.number place 65535) (omega arith) (λ src at y z. rw y) (λ _. refl) q d
 
     pub false-read :
-        {s′ : List ℕ} {r′ : State} → kind ≡ K.FALSE → Reads (the K.FALSE src) (λ place. leaf 0 place K.NUMBER) s s′ r r′
-        → Reads (atomic src) encode s s′ r r′
+        kind ≡ K.FALSE → Reading 1 (the K.FALSE) (Encodes (λ place. leaf 0 place K.NUMBER)) s s′ n r r′
+        → ReadingAt kind 1 atomic (Encodes encode) s s′ n r r′
     unfolding atomic truth any encode
-    false-read q d =
-        here _ (λ at free e. rw (known e q, the-is src K.FALSE at (known e q)) refl) (mapped (λ place. T.number place 0) (λ _. refl) d)
+    false-read q d = symbol-leaf {x = K.FALSE} (λ place. T.number place 0) (omega arith) (λ src at y z. rw y) (λ _. refl) q d
 
-    -- none of them
-    pub other-read :
-        {s′ : List ℕ} {r′ : State} → (kind ≡ K.NUMBER → ⊥) → (kind ≡ K.STRING → ⊥) → (kind ≡ K.TRUE → ⊥) → (kind ≡ K.FALSE → ⊥) → (kind ≡ K.NAME → ⊥)
-        → Refuses 6 r r′ → Reads (atomic src) encode s s′ r r′
-    unfolding atomic unexpected
-    other-read a b c d f g =
-        stopped (λ at free e. rw (
-          ne-eqb _ _ (λ x. a (k .here at free e ∙ x)),
-          ne-eqb _ _ (λ x. b (k .here at free e ∙ x)),
-          ne-eqb _ _
-              (λ x. c (k .here at free e ∙ x)),
-          ne-eqb _ _ (λ x. d (k .here at free e ∙ x)),
-          ne-eqb _ _ (λ x. f (k .here at free e ∙ x)),
-        ) refl) g
+    -- a constant without a minus
+    pub positive-number :
+        kind ≡ K.NUMBER → Reading 1 (the K.NUMBER) (Encodes (λ place. leaf v place K.NUMBER)) s s′ n r r′
+        → ReadingAt kind 1 positive (Encodes encodeConstant) s s′ n r r′
+    unfolding positive place-here simple literal any encodeConstant encodePositive
+    positive-number q d = symbol-leaf (λ place. plain place (T.literal v)) (omega arith) (λ src at y z. rw (y, ← z)) (λ _. refl) q d
+
+    pub positive-true :
+        kind ≡ K.TRUE → Reading 1 (the K.TRUE) (Encodes (λ place. leaf 65535 place K.NUMBER)) s s′ n r r′
+        → ReadingAt kind 1 positive (Encodes encodeConstant) s s′ n r r′
+    unfolding positive place-here simple truthLiteral any encodeConstant encodePositive
+    positive-true q d = symbol-leaf {x = K.TRUE} (λ place. plain place (T.literal 65535)) (omega arith) (λ src at y z. rw y) (λ _. refl) q d
+
+    pub positive-false :
+        kind ≡ K.FALSE → Reading 1 (the K.FALSE) (Encodes (λ place. leaf 0 place K.NUMBER)) s s′ n r r′
+        → ReadingAt kind 1 positive (Encodes encodeConstant) s s′ n r r′
+    unfolding positive place-here simple truthLiteral any encodeConstant encodePositive
+    positive-false q d = symbol-leaf {x = K.FALSE} (λ place. plain place (T.literal 0)) (omega arith) (λ src at y z. rw y) (λ _. refl) q d
+
+-- none of them
+pub other-read :
+    {s : List ℕ} {n : ℕ} {r r′ : State} {kind : ℕ} → Unlike kind (K.NAME ∷ K.FALSE ∷ K.TRUE ∷ K.STRING ∷ K.NUMBER ∷ []) → Refusing 6 s n r r′
+    → ReadingAt kind 1 atomic (Encodes encode) s s n r r′
+unfolding atomic unexpected
+other-read {kind = kind} w g =
+    let u = unlike5 w in (
+      leaves-less (g .0) refl,
+      λ src l k. stopped (λ at free e. let h = k .here at free e in
+          rw (
+            ne-eqb _ _ (λ x. u .0 (h ∙ x)),
+            ne-eqb _ _ (λ x. u .1 (h ∙ x)),
+            ne-eqb _ _ (λ x. u .2 (h ∙ x)),
+            ne-eqb _ _ (λ x. u .3 (h ∙ x)),
+            ne-eqb _ _
+                (λ x. u .4 (h ∙ x)),
+          )) (g .1),
+    )
 
 -- a word that leaves something
 pub leave-read :
@@ -120,12 +161,6 @@ negated-read {first} size {value} {place} {lo} {s} {s′} {r} {r₁} {r₂} d e 
     here (λ at. onOut (first at) (λ x m. ok x m)) (λ at free q. same-out (first at))
     (bind size (λ _. []) d (adds-on a) (λ _ _. added size a (record { same = ap (λ (x : ℕ). x ∷ value ∷ place ∷ K.MINUS ∷ []) z })))
 
-abbrev plain : ℕ → Simple → Constant
-plain p x = record { place = p; minus = false; simple = x }
-
-abbrev pub nameOf : ℕ → ℕ → T.Name
-nameOf p v = record { place = p; width = v }
-
 -- the place that is read is that of the symbol here
 placeBy :
     {C : Type 0} (src : Source) (kind at : ℕ) (F : ℕ → ℕ → ℕ → Out C) (b : Bool) → eqb (kindAt src at) kind ≡ b
@@ -138,31 +173,6 @@ the-place :
     {C : Type 0} (src : Source) (kind at : ℕ) (F : ℕ → ℕ → ℕ → Out C)
     → onOut (the kind src at) (λ p m. F p (placeAt src at) m) ≡ onOut (the kind src at) (λ p m. F p p m)
 the-place src kind at F = placeBy src kind at F (eqb (kindAt src at) kind) refl
-
--- a constant without a minus
-module _ {src : Source} {n : ℕ} {s : List ℕ} (l : HoldsSymbols src n s) {r : State} {kind : ℕ} (k : KindHere src r kind) {s′ : List ℕ}
-    {r′ : State} where
-  pub positive-number :
-      {value : ℕ} → Here (valueAt src) n r value → kind ≡ K.NUMBER → Reads (the K.NUMBER src) (λ place. leaf value place K.NUMBER) s s′ r r′
-      → Reads (positive src) encodeConstant s s′ r r′
-  unfolding positive place-here simple literal any encodeConstant encodePositive
-  positive-number {value} h q d =
-      here _ (λ at free e. rw (known l k e q, the-is src K.NUMBER at (known l k e q), ← valued l k h (omega arith) e q) refl)
-      (mapped (λ place. record { place = place; minus = false; simple = T.literal value }) (λ _. refl) d)
-
-  pub positive-true :
-      kind ≡ K.TRUE → Reads (the K.TRUE src) (λ place. leaf 65535 place K.NUMBER) s s′ r r′ → Reads (positive src) encodeConstant s s′ r r′
-  unfolding positive place-here simple truthLiteral any encodeConstant encodePositive
-  positive-true q d =
-      here _ (λ at free e. rw (known l k e q, the-is src K.TRUE at (known l k e q)) refl)
-      (mapped (λ place. record { place = place; minus = false; simple = T.literal 65535 }) (λ _. refl) d)
-
-  pub positive-false :
-      kind ≡ K.FALSE → Reads (the K.FALSE src) (λ place. leaf 0 place K.NUMBER) s s′ r r′ → Reads (positive src) encodeConstant s s′ r r′
-  unfolding positive place-here simple truthLiteral any encodeConstant encodePositive
-  positive-false q d =
-      here _ (λ at free e. rw (known l k e q, the-is src K.FALSE at (known l k e q)) refl)
-      (mapped (λ place. record { place = place; minus = false; simple = T.literal 0 }) (λ _. refl) d)
 
 nested-name :
     (o : Out T.Name) (p : ℕ) → onOut (onOut o (λ y m. ok (T.known y) m)) (λ x m. ok (plain p x) m) ≡ onOut o (λ y m. ok (plain p (T.known y)) m)
@@ -185,17 +195,21 @@ module _ {src : Source} {n : ℕ} {s : List ℕ} (l : HoldsSymbols src n s) {r :
       → onOut (aName src at) G ≡ onOut (the K.NAME src at) (λ p m. G (record { place = p; width = value }) m)
   name-at G at free e = nameBy G at free e (eqb (kindAt src at) K.NAME) refl
 
-  pub positive-name :
-      {kind : ℕ} {s′ : List ℕ} {r′ : State} → KindHere src r kind → (kind ≡ K.NUMBER → ⊥) → (kind ≡ K.TRUE → ⊥) → (kind ≡ K.FALSE → ⊥)
-      → Reads (the K.NAME src) (λ place. leaf value place K.NAME) s s′ r r′ → Reads (positive src) encodeConstant s s′ r r′
-  unfolding positive place-here simple knownName encodeConstant encodePositive encodeName
-  positive-name k a b c d =
-      here _ (λ at free e. rw (
-        ne-eqb (kindAt src at) K.NUMBER (λ x. a (k .here at free e ∙ x)),
-        ne-eqb (kindAt src at) K.TRUE
-            (λ x. b (k .here at free e ∙ x)),
-        ne-eqb (kindAt src at) K.FALSE (λ x. c (k .here at free e ∙ x)),
-      ) (nested-name (aName src at) (placeAt src at)
-      ∙ name-at (λ y m. ok (plain (placeAt src at) (T.known y)) m) at free e
-      ∙ the-place src K.NAME at (λ p q m. ok (plain q (T.known (nameOf p value))) m)))
-      (mapped (λ place. plain place (T.known (nameOf place value))) (λ _. refl) d)
+pub positive-name :
+    {s s′ : List ℕ} {n : ℕ} {r r′ : State} {kind v : ℕ} → ValuesHere s n r v → Unlike kind (K.FALSE ∷ K.TRUE ∷ K.NUMBER ∷ [])
+    → Reading 1 (the K.NAME) (Encodes (λ place. leaf v place K.NAME)) s s′ n r r′ → ReadingAt kind 1 positive (Encodes encodeConstant) s s′ n r r′
+unfolding positive place-here simple knownName encodeConstant encodePositive encodeName
+positive-name {v = v} values w d =
+    let u = unlike3 w in (
+      d .0,
+      λ src l k. here _ (λ at free e. let h = k .here at free e in
+          rw (
+            ne-eqb (kindAt src at) K.NUMBER (λ x. u .0 (h ∙ x)),
+            ne-eqb (kindAt src at) K.TRUE (λ x. u .1 (h ∙ x)),
+            ne-eqb (kindAt src at) K.FALSE
+                (λ x. u .2 (h ∙ x)),
+          )
+          (nested-name (aName src at) (placeAt src at) ∙ name-at l (values src l) (λ y m. ok (plain (placeAt src at) (T.known y)) m) at free e
+          ∙ the-place src K.NAME at (λ p q m. ok (plain q (T.known (nameOf p v))) m)))
+          (mapped (λ place. plain place (T.known (nameOf place v))) (λ _. refl) (d .1 src l)),
+    )
