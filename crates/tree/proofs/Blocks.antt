@@ -52,8 +52,7 @@ module _ (x : ℕ) (labels : Bool) {s : List ℕ} {n : ℕ} {r : State} {kind : 
         {s′ : List ℕ} {r′ : State} → (x ≡ 0 → ⊥) → Reading 0 (repeatedOnly (x - 1)) (Encodes encodeRepeatedOnly) s s′ n r r′
         → Reading 0 (bodyAfter labels x) (Encodes encodeRepeatedOnly) s s′ n r r′
     unfolding bodyAfter opened opening repeatedOnly
-    body-open z d =
-        picked kinds _ (λ src at h. rw (ap beginsCommand h ∙ sym e ∙ q) (ap (λ (i : Inside). opening i repeatedBy src at) (deeper x z))) d
+    body-open z d = picked kinds _ (λ src at h. rw (ap beginsCommand h ∙ sym e ∙ q) (ap (λ (i : Inside). opening i repeatedBy src at) (deeper x z))) d
 
   module _ (q : b ≡ false) where
     pub body-none : {r′ : State} → labels ≡ false → Refusing 6 s n r r′ → Reading 0 (bodyAfter labels x) (Encodes encodeRepeatedOnly) s s n r r′

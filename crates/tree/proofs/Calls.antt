@@ -49,8 +49,7 @@ recorded (T.suffixed e ss) =
       call
           = called (endsInCall false ss);
     }
-recorded (T.dyadic e os) =
-    record { contents = encode e ++ encodeOperations os; value = length (encode e); kind = DYADIC; words = refl; call = refl }
+recorded (T.dyadic e os) = record { contents = encode e ++ encodeOperations os; value = length (encode e); kind = DYADIC; words = refl; call = refl }
 
 -- what is read last stands below the next free entry
 module _ (a b : List ℕ) (v p k : ℕ) (s : List ℕ) (free : ℕ) (le : free ≤ length s) (e : take free s ≡ a ++ closed b v p k) where
@@ -58,8 +57,7 @@ module _ (a b : List ℕ) (v p k : ℕ) (s : List ℕ) (free : ℕ) (le : free �
   front = e ∙ sym (append-assoc a b (length b ∷ v ∷ p ∷ k ∷ []))
 
   front-size : free ≡ length (a ++ b) + 4
-  front-size =
-      sym (length-take-le free s le) ∙ ap length front ∙ length-append (a ++ b) (length b ∷ v ∷ p ∷ k ∷ [])
+  front-size = sym (length-take-le free s le) ∙ ap length front ∙ length-append (a ++ b) (length b ∷ v ∷ p ∷ k ∷ [])
 
   behind : (i j : ℕ) → i < free → i ≡ length (a ++ b) + j → getD s i 0 ≡ getD (length b ∷ v ∷ p ∷ k ∷ []) j 0
   behind i j h q =
@@ -76,8 +74,7 @@ module _ (a b : List ℕ) (v p k : ℕ) (s : List ℕ) (free : ℕ) (le : free �
 module _ {s : List ℕ} {n : ℕ} {r : State} {at free : ℕ} (h : Ready 0 s n r) (e : r ≡ Read at free) where
   module _ (at′ free′ : ℕ) (before : List ℕ) (x : Expression) (e′ : r ≡ Read at′ free′) (t : take free′ s ≡ before ++ encode x) where
     last-record : take free s ≡ before ++ closed (recorded x .contents) (recorded x .value) (placeOf x) (recorded x .kind)
-    last-record =
-        ap (λ (m : ℕ). take m s) (sym (free-is e 0) ∙ free-is e′ 0) ∙ t ∙ ap (λ (l : List ℕ). before ++ l) (recorded x .words)
+    last-record = ap (λ (m : ℕ). take m s) (sym (free-is e 0) ∙ free-is e′ 0) ∙ t ∙ ap (λ (l : List ℕ). before ++ l) (recorded x .words)
 
     at-end : free ≤ length s
     at-end = omega (arith, room-is h e)
@@ -95,8 +92,7 @@ module _ {s : List ℕ} {n : ℕ} {r : State} {at free : ℕ} (h : Ready 0 s n r
   call-short l = record { here = λ at′ free′ before x e′ t. absurd (omega (arith, size-is at′ free′ before x e′ t)) }
 
   pub call-kind : CallHere s r (eqb (getD s (free - 1) 0) CALLED)
-  call-kind =
-      record { here = λ at′ free′ before x e′ t. ap (λ (k : ℕ). eqb k CALLED) (kind-is at′ free′ before x e′ t) ∙ recorded x .call }
+  call-kind = record { here = λ at′ free′ before x e′ t. ap (λ (k : ℕ). eqb k CALLED) (kind-is at′ free′ before x e′ t) ∙ recorded x .call }
 
   pub place-short : free < 2 → PlaceHere s r 0
   place-short l = record { here = λ at′ free′ before x e′ t. absurd (omega (arith, size-is at′ free′ before x e′ t)) }

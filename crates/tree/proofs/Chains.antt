@@ -154,8 +154,7 @@ suffix-next {b} {c} {d} put put′ w w′ h g =
 
 pub suffix-last :
     {b c : Bool} (put : Suffixes → Suffixes) (ss : Suffixes) (w v : List ℕ) → EndedSoFar b c put w → Ended c c ss v → Ended b c (put ss) (w ++ v)
-suffix-last put ss w v h g =
-    record { same = ap (λ (l : List ℕ). w ++ l) (g .same) ∙ sym (h .puts ss); ends = h .ends ss ∙ g .ends }
+suffix-last put ss w v h g = record { same = ap (λ (l : List ℕ). w ++ l) (g .same) ∙ sym (h .puts ss); ends = h .ends ss ∙ g .ends }
 
 pub no-suffix-ended : {b : Bool} → Ended b b T.noSuffixes []
 unfolding encodeSuffixes T.endsInCall
@@ -181,8 +180,7 @@ expression-next {m} put put′ w w′ h g =
 
 pub expression-last :
     {m : ℕ} (put : Expressions → Expressions) (es : Expressions) (w v : List ℕ) → CountedSoFar m put w → Counted 0 es v → Counted m (put es) (w ++ v)
-expression-last put es w v h g =
-    record { same = ap (λ (l : List ℕ). w ++ l) (g .same) ∙ sym (h .puts es); many = omega (arith, h .many es, g .many) }
+expression-last put es w v h g = record { same = ap (λ (l : List ℕ). w ++ l) (g .same) ∙ sym (h .puts es); many = omega (arith, h .many es, g .many) }
 
 pub no-expression-counted : Counted 0 T.noExpressions []
 unfolding encodeExpressions T.count

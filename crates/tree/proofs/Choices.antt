@@ -43,8 +43,7 @@ module _ {A : Type 0} {Says : A → List ℕ → Type 0} {k : ℕ} {s s′ : Lis
     pub chosen :
         (read′ : Reader A) → ((src : Source) (at : ℕ) → kindAt src at ≡ kind → read src at ≡ read′ src at)
         → ReadingAt kind k read′ Says s s′ n r r′ → Reading k read Says s s′ n r r′
-    chosen read′ e d =
-        (d .0, λ src l. here (read′ src) (λ at free q. e src at (sym (kinds src l .here at free q))) (d .1 src l (kinds src l)))
+    chosen read′ e d = (d .0, λ src l. here (read′ src) (λ at free q. e src at (sym (kinds src l .here at free q))) (d .1 src l (kinds src l)))
 
     pub picked :
         (read′ : Reader A) → ((src : Source) (at : ℕ) → kindAt src at ≡ kind → read src at ≡ read′ src at)
@@ -57,8 +56,7 @@ module _ {A : Type 0} {Says : A → List ℕ → Type 0} {m number : ℕ} {s : L
   pub refused-at :
       {read : Reader A} {kind : ℕ} → KindsHere s n r kind → ((src : Source) (at : ℕ) → kindAt src at ≡ kind → read src at ≡ no number at)
       → Reading m read Says s s n r r′
-  refused-at kinds e =
-      (leaves-less (d .0) few, λ src l. stopped (λ at free q. e src at (sym (kinds src l .here at free q))) (d .1))
+  refused-at kinds e = (leaves-less (d .0) few, λ src l. stopped (λ at free q. e src at (sym (kinds src l .here at free q))) (d .1))
 
   pub refused-here : {read : Reader A} → ((src : Source) (at : ℕ) → read src at ≡ no number at) → Reading m read Says s s n r r′
   refused-here e = (leaves-less (d .0) few, λ src l. stopped (λ at free q. e src at) (d .1))

@@ -30,8 +30,7 @@ use Rattle.tree.specs.declared.scratch.State.{State}
 
 -- two or three parts and a record
 pub two : (a b : List ℕ) (z v p k : ℕ) → z ≡ length a + length b → a ++ (b ++ (z ∷ v ∷ p ∷ k ∷ [])) ≡ closed (a ++ b) v p k
-two a b z v p k e =
-    sym (append-assoc a b (z ∷ v ∷ p ∷ k ∷ [])) ∙ ap (λ (y : ℕ). (a ++ b) ++ (y ∷ v ∷ p ∷ k ∷ [])) (e ∙ sym (length-append a b))
+two a b z v p k e = sym (append-assoc a b (z ∷ v ∷ p ∷ k ∷ [])) ∙ ap (λ (y : ℕ). (a ++ b) ++ (y ∷ v ∷ p ∷ k ∷ [])) (e ∙ sym (length-append a b))
 
 pub three :
     (a b c : List ℕ) (z v p k : ℕ) → z ≡ length a + (length b + length c) → a ++ (b ++ (c ++ (z ∷ v ∷ p ∷ k ∷ []))) ≡ closed (a ++ (b ++ c)) v p k

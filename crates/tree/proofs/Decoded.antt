@@ -45,8 +45,7 @@ decoded-at : (n : ℕ) (s : List ℕ) (d : Symbol) (i : ℕ) → i < n → getD 
 unfolding decoded
 decoded-at zero s d i h = absurd (omega arith)
 decoded-at (suc n) s d zero h = refl
-decoded-at (suc n) s d (suc i) h =
-    decoded-at n (drop 3 s) d i (omega arith) ∙ shifted s (i * 3) (suc i * 3) (omega arith)
+decoded-at (suc n) s d (suc i) h = decoded-at n (drop 3 s) d i (omega arith) ∙ shifted s (i * 3) (suc i * 3) (omega arith)
 
 pub lies : (s : List ℕ) (n size : ℕ) → HoldsSymbols (sourceIn s n size) n s
 unfolding sourceIn
@@ -61,8 +60,7 @@ lies s n size =
 -- past the symbols, the place is the text's size
 pub place-past : (s : List ℕ) (n size at : ℕ) → n ≤ at → size ≡ placeAt (sourceIn s n size) at
 unfolding sourceIn
-place-past s n size at h =
-    sym (ap (λ (x : Symbol). x .place) (List·getD-eq-default (decoded n s) _ (omega (arith, decoded-length n s))))
+place-past s n size at h = sym (ap (λ (x : Symbol). x .place) (List·getD-eq-default (decoded n s) _ (omega (arith, decoded-length n s))))
 
 -- places stay where the symbols do
 module _ (s s′ : List ℕ) (n size at : ℕ) (e : take (n * 3) s′ ≡ take (n * 3) s) where
@@ -94,8 +92,7 @@ module _ (room count : ℕ) where
 
   too-short-not : room ≤ 2 ^ 32 - 1 → count * 8 + 64 ≤ room → false ≡ tooShort room count
   unfolding tooShort
-  too-short-not h q =
-      sym (ap (λ (b : Bool). cond b true (ltb (2 ^ 32 - 1) room)) (le-ltb room (count * 8 + 64) q) ∙ le-ltb (2 ^ 32 - 1) room h)
+  too-short-not h q = sym (ap (λ (b : Bool). cond b true (ltb (2 ^ 32 - 1) room)) (le-ltb room (count * 8 + 64) q) ∙ le-ltb (2 ^ 32 - 1) room h)
 
   restBy : (b : Bool) → ltb ((room - 64) / 8) count ≡ b → room ≤ 2 ^ 32 - 1 → 64 ≤ room → b ≡ tooShort room count
   restBy true e h q = too-short-few (omega (arith, ltb-true ((room - 64) / 8) count e))

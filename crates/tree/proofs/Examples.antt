@@ -14,8 +14,7 @@ use Rattle.language.specs.Source.{Symbols, good, faulty, symbolsOf, Read, read,
 use Rattle.language.proofs.Texts.{symbolsIn, answer, times}
 use Rattle.symbols.specs.Read.{entries, outcome}
 use Rattle.tree.specs.Encoding.{CALLED, SUFFIXED, DYADIC, LABELLED, MONADIC, suffixedKind, encodeName, encodeNames, encodePositive}
-use Rattle.tree.specs.Encoding.{encodeConstant, encodeLabels, labelled, repeated, encode, encodeBody, bodyWord, encodeFunctions}
-use Rattle.tree.specs.Encoding.{encodeProgram}
+use Rattle.tree.specs.Encoding.{encodeConstant, encodeLabels, labelled, repeated, encode, encodeBody, bodyWord, encodeFunctions, encodeProgram}
 use Rattle.tree.specs.Read.{decoded, sourceIn, tooShort, treeRead, treeLeft}
 use Rattle.tree.specs.declared.TreeRead.{TreeRead}
 use Rattle.tree.specs.declared.TreeRead.the-variants as Answers

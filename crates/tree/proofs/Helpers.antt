@@ -216,8 +216,7 @@ module _ {s : List ℕ} {n : ℕ} {r : State} {lo : ℕ} (h : Ready 0 s n r) (l 
       }
 
   pub set-kept : (z : ℕ) → take (n * 3) (set s lo z) ≡ take (n * 3) s
-  set-kept z =
-      take-set s (n * 3) lo z ∙ set-past (take (n * 3) s) lo z (omega (arith, length-take-le (n * 3) s (omega (arith, h .wide))))
+  set-kept z = take-set s (n * 3) lo z ∙ set-past (take (n * 3) s) lo z (omega (arith, length-take-le (n * 3) s (omega (arith, h .wide))))
 
   pub sized-set : {at free : ℕ} → r ≡ Read at free → (z : ℕ) → z ≡ free - lo - 2 → SetsSize lo s (set s lo z) r
   sized-set {at} {free} e z q = record { by = rw e (take-set s free lo z ∙ ap (set (take free s) lo) q) }

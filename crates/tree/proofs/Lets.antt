@@ -17,10 +17,9 @@ use Rattle.language.specs.Commands as C
 use Rattle.language.specs.Grammar.{within, readers}
 use Rattle.tree.specs.Reads.{KindHere, Follows, Prepends, Passes, Reads, Adds, recordFrom, SetsSize, freeOf}
 use Rattle.tree.specs.Between.{PrependsOne, anArgument, aFurther, aFurtherName, Gives}
-use Rattle.tree.proofs.Lists.{Before}
+use Rattle.tree.proofs.Lists.{Before, sized}
 use Rattle.tree.specs.Encoding.{item, closed, encodeName, encodeNames, encodeConstant, encodeExpressions, encodeLocals}
 use Rattle.tree.proofs.Steps.{follow, bind, here, added, adds-on, goes-on, _then_, nothing}
-use Rattle.tree.proofs.Lists.{sized}
 use Rattle.tree.proofs.Symbols.{stays}
 use Rattle.tree.proofs.Readers.{parts}
 use Rattle.tree.specs.declared.scratch.State.{State}

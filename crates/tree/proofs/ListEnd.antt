@@ -52,8 +52,7 @@ module _ {A : Type 0} (none : A) (one : Reader (A → A)) (src : Source) where
   end-here : (t at : ℕ) → 0 < t → kindAt src at ≡ K.END → moreUpTo t none one src at ≡ onOut (the K.END src at) (λ _ m. ok none m)
   unfolding moreUpTo
   end-here zero at h e = absurd (omega arith)
-  end-here (suc t) at h e =
-      so _ _ (eq-eqb (kindAt src at) K.END e) ∙ sym (ap (λ (o : Out ℕ). onOut o (λ _ m. ok none m)) (the-is src K.END at e))
+  end-here (suc t) at h e = so _ _ (eq-eqb (kindAt src at) K.END e) ∙ sym (ap (λ (o : Out ℕ). onOut o (λ _ m. ok none m)) (the-is src K.END at e))
 
   semicolon-here :
       (t at : ℕ) → 0 < t → (kindAt src at ≡ K.END → ⊥) → moreUpTo t none one src at ≡ onOut (the K.SEMICOLON src at) (λ _ m. orEnd (t - 1) m)

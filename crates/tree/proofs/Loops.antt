@@ -64,8 +64,7 @@ module _ {A : Type 0} {Says : (A → A) → List ℕ → Type 0} {read : Reader 
     pub so-closes :
         {Rest Full : A → List ℕ → Type 0} {k : ℕ} {s₁ : List ℕ} {r₁ : State}
         → Ends Says Rest Full → Reading k rest Rest s s₁ n r r₁ → Reading k read Full s₀ s₁ n r₀ r₁
-    so-closes end d =
-        (leaves-last (so .room) (d .0), λ src l. closes-as end (so .partly src l) (d .1 src (lies-still l (so .room .kept))))
+    so-closes end d = (leaves-last (so .room) (d .0), λ src l. closes-as end (so .partly src l) (d .1 src (lies-still l (so .room .kept))))
 
     pub so-ends :
         (none : A) {Rest Full : A → List ℕ → Type 0} → Ends Says Rest Full → Rest none []

@@ -64,8 +64,7 @@ pub item-list-read :
     → Follows (G.item sign src) (Prepends encodeItems) s s₁ r₀ r₁ → Reads (moreUpTo n [] (G.item sign) src) encodeItems s₁ s₂ r₁ r₂
     → Reads (itemList sign src) encodeItems s s₂ r r₂
 unfolding itemList
-item-list-read src sign en a b c =
-    bind 0 (λ _. []) a (goes-on b then goes-on c) (λ _ _. listed-items [] (G.item sign) src en b c)
+item-list-read src sign en a b c = bind 0 (λ _. []) a (goes-on b then goes-on c) (λ _ _. listed-items [] (G.item sign) src en b c)
 
 -- [name {, name}] )
 module _ (src : Source) {s : List ℕ} {r : State} {kind : ℕ} (k : KindHere src r kind) where
@@ -156,8 +155,7 @@ pub and-function-reads :
     {s s₁ : List ℕ} {n : ℕ} {r r₀ r₁ : State} → Expects K.AND s n r r₀ → Reading 5 G.function (Prepends encodeFunctions) s s₁ n r₀ r₁
     → Reading 5 G.andFunction (Prepends encodeFunctions) s s₁ n r r₁
 unfolding G.andFunction
-and-function-reads c a =
-    (leaves-last (c .0) (a .0), λ src l. bind 0 (λ _. []) (c .1 src l) (goes-on (a .1 src l)) (λ _ _. a .1 src l))
+and-function-reads c a = (leaves-last (c .0) (a .0), λ src l. bind 0 (λ _. []) (c .1 src l) (goes-on (a .1 src l)) (λ _ _. a .1 src l))
 
 pub no-function-words : encodeFunctions [] ≡ []
 unfolding encodeFunctions
@@ -189,8 +187,7 @@ other-declaration kind h a b = eqb-true kind K.LET (byLast (eqb kind K.LET) (sym
 
 -- what stands after a declaration's word
 tagged : {x kind : ℕ} → x ≡ kind → (w v : List ℕ) → item x w ++ v ≡ item kind (w ++ []) ++ v
-tagged {x} {kind} e w v =
-    ap (λ (y : ℕ). item y w ++ v) e ∙ ap (λ (u : List ℕ). item kind u ++ v) (sym (append-nil w))
+tagged {x} {kind} e w v = ap (λ (y : ℕ). item y w ++ v) e ∙ ap (λ (u : List ℕ). item kind u ++ v) (sym (append-nil w))
 
 module _ (src : Source) {kind : ℕ} {s s′ : List ℕ} {r r′ : State} where
   pub declaration-globals :

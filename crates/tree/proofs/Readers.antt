@@ -97,8 +97,7 @@ module _ {A B : Type 0} (F : B → A → A) (tag size : ℕ) {body : ℕ → Out
       {first : ℕ → Out ℕ} {r r₀ r₁ r₂ : State} → lo ≡ freeOf size r → freeOf size r₀ ≤ length s → Reads first (λ _. []) s s r r₀
       → Adds (λ _. 0 ∷ tag ∷ []) s s₁ r₀ r₁ → Reads body enc s₁ s₂ r₁ r₂ → SetsSize lo s₂ s₃ r₂
       → Follows (λ m. onOut (first m) (λ _ q. onOut (body q) (λ e w. ok (F e) w))) Says s s₃ r r₂
-  item-read lo-is le c a d b =
-      bind size (λ _. []) c (adds-on a then goes-on d) (λ _ q. item-alone (omega arith) le a d b)
+  item-read lo-is le c a d b = bind size (λ _. []) c (adds-on a then goes-on d) (λ _ q. item-alone (omega arith) le a d b)
 
 -- a suffix, its two entries behind it
 module _ {A B : Type 0} (F : B → A → A) (tag size : ℕ) {first : ℕ → Out ℕ} {body : ℕ → Out B} (enc : B → List ℕ) {lo : ℕ} {s s₁ s₂ : List ℕ}
@@ -135,8 +134,7 @@ module _ (src : Source) {r : State} (size : ℕ) (x : ℕ) {lo : ℕ} (lo-is : l
       → SetsSize lo s₂ s₃ r₂
       → Follows (anArgument x src) PrependsOne s s₃ r r₂
   unfolding anArgument encodeExpressions T.count
-  argument-read le a d b =
-      item-alone T.andExpression 0 size encode (λ e. record { puts = λ rest. refl; one = λ rest. omega arith }) lo-is le a d b
+  argument-read le a d b = item-alone T.andExpression 0 size encode (λ e. record { puts = λ rest. refl; one = λ rest. omega arith }) lo-is le a d b
 
 module _ (src : Source) {r : State} (size : ℕ) (x : ℕ) {lo : ℕ} (lo-is : lo ≡ freeOf size r) {s s₁ s₂ : List ℕ} {r₁ r₂ : State} where
   pub index-read :
@@ -189,8 +187,7 @@ pub further-reads :
     → TakesRoom 1 s s₁ n r₀ r₁ × ((src : Source) → HoldsSymbols src n s → Follows (anArgument x src) PrependsOne s s₁ r₀ r₁)
     → Reading 4 (aFurther x) PrependsOne s s₁ n r r₁
 unfolding aFurther
-further-reads x c a =
-    (takes-leaves (a .0) (c .0), λ src l. bind 0 (λ _. []) (c .1 src l) (goes-on (a .1 src l)) (λ _ q. a .1 src l))
+further-reads x c a = (takes-leaves (a .0) (c .0), λ src l. bind 0 (λ _. []) (c .1 src l) (goes-on (a .1 src l)) (λ _ q. a .1 src l))
 
 -- chains of operators
 pub chain-is :

@@ -49,8 +49,7 @@ pub enough :
     (text : List ℕ) (ss : List Symbol) (room : ℕ) → symbolsOf text ≡ good ss → 8 * length text + 64 ≤ room → room < 2 ^ 32
     → tooShort room (length ss) ≡ false
 unfolding tooShort
-enough text ss room e h l =
-    rw (le-ltb room (length ss * 8 + 64) (omega (arith, few-good text ss e)), le-ltb (2 ^ 32 - 1) room (omega arith)) refl
+enough text ss room e h l = rw (le-ltb room (length ss * 8 + 64) (omega (arith, few-good text ss e)), le-ltb (2 ^ 32 - 1) room (omega arith)) refl
 
 -- what the definition of both stages says, as an answer
 pub asAnswer : (count : ℕ) → Read → TreeRead

@@ -105,9 +105,7 @@ module _ {A : Type 0} {read : ℕ → Out A} {s s′ : List ℕ} where
   here read′ {r = Read at free} {r′ = Refused k p} e d = record { by = e at free refl ∙ d .by }
   here read′ {r = Read at free} {r′ = Read m nf} e d =
       let w = d .by in
-      record {
-        by = record { tree = w .tree; words = w .words; is = e at free refl ∙ w .is; says = w .says; written = w .written; size = w .size };
-      }
+      record { by = record { tree = w .tree; words = w .words; is = e at free refl ∙ w .is; says = w .says; written = w .written; size = w .size } }
 
   -- the same tree, and what its words say seen otherwise
   pub again :

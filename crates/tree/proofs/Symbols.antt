@@ -37,19 +37,16 @@ module _ {src : Source} {n : ℕ} {s : List ℕ} (l : HoldsSymbols src n s) wher
 
   module _ {r : State} {at free : ℕ} (e : r ≡ Read at free) where
     pub kind-in : at < n → KindHere src r (getD s (at * 3) 0)
-    kind-in h =
-        record { here = λ at′ free′ e′. l .kinds at h ∙ ap (kindAt src) (same-at e e′) }
+    kind-in h = record { here = λ at′ free′ e′. l .kinds at h ∙ ap (kindAt src) (same-at e e′) }
 
     pub kind-past : n ≤ at → KindHere src r 0
     kind-past h = record { here = λ at′ free′ e′. sym (past l at′ (omega (arith, same-at e e′))) }
 
     pub value-in : at < n → Here (valueAt src) n r (getD s (at * 3 + 1) 0)
-    value-in h =
-        record { here = λ at′ free′ e′ _. l .values at h ∙ ap (valueAt src) (same-at e e′) }
+    value-in h = record { here = λ at′ free′ e′ _. l .values at h ∙ ap (valueAt src) (same-at e e′) }
 
     pub place-in : at < n → Here (placeAt src) n r (getD s (at * 3 + 2) 0)
-    place-in h =
-        record { here = λ at′ free′ e′ _. l .places at h ∙ ap (placeAt src) (same-at e e′) }
+    place-in h = record { here = λ at′ free′ e′ _. l .places at h ∙ ap (placeAt src) (same-at e e′) }
 
   pub kind-refused : {r : State} {k p x : ℕ} → r ≡ Refused k p → KindHere src r x
   kind-refused e = record { here = λ at free e′. absurd (clash e e′) }
@@ -62,8 +59,7 @@ here-refused e = record { here = λ at free e′ i. absurd (clash e e′) }
 
 -- the symbols stay where they are
 kept-at : (n : ℕ) (s s′ : List ℕ) → take (n * 3) s′ ≡ take (n * 3) s → (i : ℕ) → i < n * 3 → getD s′ i 0 ≡ getD s i 0
-kept-at n s s′ e i h =
-    sym (getD-take (n * 3) s′ i 0 h) ∙ ap (λ (x : List ℕ). getD x i 0) e ∙ getD-take (n * 3) s i 0 h
+kept-at n s s′ e i h = sym (getD-take (n * 3) s′ i 0 h) ∙ ap (λ (x : List ℕ). getD x i 0) e ∙ getD-take (n * 3) s i 0 h
 
 pub lies-still : {src : Source} {n : ℕ} {s s′ : List ℕ} → HoldsSymbols src n s → take (n * 3) s′ ≡ take (n * 3) s → HoldsSymbols src n s′
 lies-still {src} {n} {s} {s′} l e =
@@ -101,8 +97,7 @@ module _ {src : Source} {n : ℕ} {s : List ℕ} (l : HoldsSymbols src n s) {r :
   expect-other h q = record { by = rw e (the-not src kind at (λ x. q (l .kinds at h ∙ x))) }
 
   pub expect-end : n ≤ at → 0 < kind → Reads (the kind src) (λ _. []) s s r (Refused 6 at)
-  expect-end h pos =
-      record { by = rw e (the-not src kind at (λ x. let z : kindAt src at ≡ 0 = past l at (omega arith) in absurd (omega arith))) }
+  expect-end h pos = record { by = rw e (the-not src kind at (λ x. let z : kindAt src at ≡ 0 = past l at (omega arith) in absurd (omega arith))) }
 
 pub expect-refused :
     (src : Source) {s : List ℕ} {r : State} {k p : ℕ} (kind : ℕ) → r ≡ Refused k p → Reads (the kind src) (λ _. []) s s r (Refused k p)
@@ -137,5 +132,4 @@ stays {r = Refused k p} = record { by = refl }
 pub mapped :
     {A C : Type 0} {read : ℕ → Out A} (F : A → C) {enc : A → List ℕ} {enc′ : C → List ℕ} {s s′ : List ℕ} {r r′ : State}
     → ((a : A) → enc′ (F a) ≡ enc a) → Reads read enc s s′ r r′ → Follows (λ m. onOut (read m) (λ a q. ok (F a) q)) (Encodes enc′) s s′ r r′
-mapped F {enc} {enc′} h d =
-    bind 0 enc d stays (λ a q. nothing (record { same = append-nil (enc a) ∙ sym (h a) }))
+mapped F {enc} {enc′} h d = bind 0 enc d stays (λ a q. nothing (record { same = append-nil (enc a) ∙ sym (h a) }))

@@ -12,8 +12,7 @@ use Rattle.language.specs.Tree.{empty, Repeats, noRepeats, Locals, Body, Item, 
 use Rattle.language.specs.Binding.{RELATION, LOOSEST, isRepeat, beginsCommand}
 use Rattle.language.specs.Expressions.{Readers, opening, numeral, quotation, truth, named, expression}
 use Rattle.language.specs.Commands.{unlabelled, repeatForm}
-use Rattle.language.specs.Grammar.{within, readers, function, andFunction}
-use Rattle.language.specs.Grammar.{item as itemOf}
+use Rattle.language.specs.Grammar.{within, readers, function, andFunction, item as itemOf}
 use Rattle.tree.specs.Encoding.{closed, item, encode, encodeName, encodeNames, bodyWord, encodeProgram, encodeExpressions, encodeSuffixes}
 use Rattle.tree.specs.Encoding.{encodeUnlabelled, encodeRepeats, encodeLocals, encodeBody, repeated}
 use Rattle.language.specs.Reader.{ok, Reader, _>>=_, return, is, unexpected, any, the, aName, many, items, kindAt}

@@ -4,5 +4,4 @@ use Rattle.tree.proofs.binding.is_vector.Statement.{statement}
 use Rattle.tree.proofs.binding.is_vector.Tie as tie
 
 pub is-vector-spec : {M : Type 1} → statement M
-is-vector-spec =
-    tie.close (tie.spec (λ c. rw (eq-eqb _ _ (c .if1 .taken)) refl) (λ c. rw (ne-eqb _ _ (c .if1 .left)) refl))
+is-vector-spec = tie.close (tie.spec (λ c. rw (eq-eqb _ _ (c .if1 .taken)) refl) (λ c. rw (ne-eqb _ _ (c .if1 .left)) refl))

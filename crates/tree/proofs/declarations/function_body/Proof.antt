@@ -1,9 +1,8 @@
 use mathlib.Core.Path.{refl}
-use Rattle.tree.proofs.Steps.{goes-on, adds-on, _then_}
+use Rattle.tree.proofs.Steps.{goes-on, adds-on, _then_, pair}
 use Rattle.tree.proofs.Programs.{body-value, body-routine}
 use borrow.Author.Needs.{needs}
 use Rattle.tree.proofs.Rooms.{leaves-less, ready-leaves, leaves-leaves, takes-leaves}
-use Rattle.tree.proofs.Steps.{pair}
 use Rattle.tree.proofs.declarations.function_body.Statement.{statement}
 use Rattle.tree.proofs.declarations.function_body.Tie as tie
 

@@ -8,12 +8,11 @@ use Rattle.language.specs.Kinds as K
 use Rattle.language.specs.Reader.{manyUpTo}
 use Rattle.language.specs.Grammar as G
 use Rattle.tree.specs.Encoding.{encodeFunctions}
-use Rattle.tree.proofs.Programs.{no-function-words}
+use Rattle.tree.proofs.Programs.{no-function-words, and-function-reads}
 use Rattle.tree.proofs.Loops.{SoFar, before-first, before-next, before-last, wordless, so-begins, many-turns, many-ends, many-spent}
 use Rattle.tree.proofs.Rooms.{ready-leaves}
 use Rattle.tree.proofs.Lists.{Before}
 use Rattle.tree.proofs.Choices.{at-any}
-use Rattle.tree.proofs.Programs.{and-function-reads}
 use Rattle.tree.proofs.declarations.further_functions.Statement.{statement}
 use Rattle.tree.proofs.declarations.further_functions.Tie as tie
 

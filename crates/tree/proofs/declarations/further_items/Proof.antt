@@ -14,8 +14,7 @@ use Rattle.tree.proofs.declarations.further_items.Statement.{statement}
 use Rattle.tree.proofs.declarations.further_items.Tie as tie
 
 abbrev Inv-loop : tie.InvT-loop
-Inv-loop s₀ n sign turns₀ a₀ s turns a =
-    SoFar (Before encodeItems) (moreUpTo turns₀ [] (G.item sign)) (moreUpTo turns [] (G.item sign)) s₀ s n a₀ a
+Inv-loop s₀ n sign turns₀ a₀ s turns a = SoFar (Before encodeItems) (moreUpTo turns₀ [] (G.item sign)) (moreUpTo turns [] (G.item sign)) s₀ s n a₀ a
 
 abbrev μ-loop : tie.MeasureT-loop
 μ-loop s₀ n sign turns₀ a₀ s turns a = turns

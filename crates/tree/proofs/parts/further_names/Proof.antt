@@ -6,10 +6,9 @@ use borrow.Author.Tests.{eq-eqb, ne-eqb}
 use Rattle.language.specs.Reader.{manyUpTo, isComma}
 use Rattle.tree.specs.Between.{aFurtherName}
 use Rattle.tree.specs.Encoding.{encodeNames}
-use Rattle.tree.proofs.Names.{no-name-words}
+use Rattle.tree.proofs.Names.{no-name-words, further-name-reads}
 use Rattle.tree.proofs.Loops.{SoFar, before-first, before-next, before-last, wordless, so-begins, many-turns, many-ends, many-spent}
 use Rattle.tree.proofs.Rooms.{ready-leaves}
-use Rattle.tree.proofs.Names.{further-name-reads}
 use Rattle.tree.proofs.Lists.{Before}
 use Rattle.tree.proofs.Choices.{at-any}
 use Rattle.tree.proofs.parts.further_names.Statement.{statement}

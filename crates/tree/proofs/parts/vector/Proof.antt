@@ -1,11 +1,10 @@
-use Rattle.tree.proofs.Steps.{goes-on, adds-on, _then_}
+use Rattle.tree.proofs.Steps.{goes-on, adds-on, _then_, pair}
 use native.Mathlib.Omega.{arith}
 use mathlib.Core.Path.{refl}
 use Rattle.tree.proofs.Helpers.{low}
 use Rattle.tree.proofs.Lets.{vector-read}
 use borrow.Author.Needs.{needs}
 use Rattle.tree.proofs.Rooms.{measured, ready-leaves, leaves-leaves, takes-leaves}
-use Rattle.tree.proofs.Steps.{pair}
 use Rattle.tree.proofs.parts.vector.Statement.{statement}
 use Rattle.tree.proofs.parts.vector.Tie as tie
 

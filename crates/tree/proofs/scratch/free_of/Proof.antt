@@ -5,5 +5,4 @@ use Rattle.tree.proofs.scratch.free_of.Statement.{statement}
 use Rattle.tree.proofs.scratch.free_of.Tie as tie
 
 pub free-of-spec : {M : Type 1} → statement M
-free-of-spec =
-    tie.close (tie.spec (search needs) (search needs) (λ c. sym (search free-is)) (λ c. sym (search free-of-refused)))
+free-of-spec = tie.close (tie.spec (search needs) (search needs) (λ c. sym (search free-is)) (λ c. sym (search free-of-refused)))
