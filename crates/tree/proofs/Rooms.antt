@@ -22,20 +22,20 @@ by-lives P a b c (Read at free) (Refused k p) h = b
 by-lives P a b c (Read at free) (Read m nf) h = c
 
 -- from r to r′ so many entries are gained, and so many lost
-record Moves (gain loss : ℕ) (s s′ : List ℕ) (n : ℕ) (r r′ : State) : Type 0 where
-  placed : nextOf r′ ≤ n
-  above : n * 3 ≤ lowOf n r′
-  moves : reach n r′ + live r′ * gain ≤ reach n r + live r′ * loss
-  lives : live r′ ≤ live r
-  dead : reach n r′ ≤ live r′ * 2 ^ 32
-  kept : take (n * 3) s′ ≡ take (n * 3) s
+pub record Moves (gain loss : ℕ) (s s′ : List ℕ) (n : ℕ) (r r′ : State) : Type 0 where
+  pub placed : nextOf r′ ≤ n
+  pub above : n * 3 ≤ lowOf n r′
+  pub moves : reach n r′ + live r′ * gain ≤ reach n r + live r′ * loss
+  pub lives : live r′ ≤ live r
+  pub dead : reach n r′ ≤ live r′ * 2 ^ 32
+  pub kept : take (n * 3) s′ ≡ take (n * 3) s
 
 module _ {s s′ : List ℕ} {n : ℕ} {r r′ : State} where
-  gains : {k : ℕ} → LeavesRoom k s s′ n r r′ → Moves k 0 s s′ n r r′
-  gains f = record { placed = f .placed; above = f .above; moves = omega (arith, f .leaves); lives = f .lives; dead = f .dead; kept = f .kept }
+  pub left : {k : ℕ} → LeavesRoom k s s′ n r r′ → Moves k 0 s s′ n r r′
+  left f = record { placed = f .placed; above = f .above; moves = omega (arith, f .leaves); lives = f .lives; dead = f .dead; kept = f .kept }
 
-  loses : {k : ℕ} → TakesRoom k s s′ n r r′ → Moves 0 k s s′ n r r′
-  loses f = record { placed = f .placed; above = f .above; moves = omega (arith, f .more); lives = f .lives; dead = f .dead; kept = f .kept }
+  pub taken : {k : ℕ} → TakesRoom k s s′ n r r′ → Moves 0 k s s′ n r r′
+  taken f = record { placed = f .placed; above = f .above; moves = omega (arith, f .more); lives = f .lives; dead = f .dead; kept = f .kept }
 
   leaving : {a b m : ℕ} → Moves a b s s′ n r r′ → m + b ≤ a → LeavesRoom m s s′ n r r′
   leaving {a} {b} {m} f h =
@@ -61,15 +61,21 @@ module _ {s s′ : List ℕ} {n : ℕ} {r r′ : State} where
         kept = f .kept;
       }
 
+  pub room-left : {m a b : ℕ} → Moves a b s s′ n r r′ → leb (m + b) a ≡ true → LeavesRoom m s s′ n r r′
+  room-left {m} {a} {b} f h = leaving f (omega (arith, leb-true (m + b) a h))
+
+  pub room-taken : {m a b : ℕ} → Moves a b s s′ n r r′ → leb b (a + m) ≡ true → TakesRoom m s s′ n r r′
+  room-taken {m} {a} {b} f h = taking f (omega (arith, leb-true b (a + m) h))
+
   -- one call
   pub leaves-less : {m j : ℕ} → LeavesRoom j s s′ n r r′ → leb m j ≡ true → LeavesRoom m s s′ n r r′
-  leaves-less {m} {j} f h = leaving (gains f) (omega (arith, leb-true m j h))
+  leaves-less {m} {j} f h = leaving (left f) (omega (arith, leb-true m j h))
 
   pub takes-more : {m j : ℕ} → TakesRoom j s s′ n r r′ → leb j m ≡ true → TakesRoom m s s′ n r r′
-  takes-more {m} {j} f h = taking (loses f) (omega (arith, leb-true j m h))
+  takes-more {m} {j} f h = taking (taken f) (omega (arith, leb-true j m h))
 
   pub takes-none : {m j : ℕ} → LeavesRoom j s s′ n r r′ → TakesRoom m s s′ n r r′
-  takes-none f = taking (gains f) (omega arith)
+  takes-none f = taking (left f) (omega arith)
 
   -- what the next call may ask
   pub ready-leaves : {m k : ℕ} → LeavesRoom k s s′ n r r′ → length s′ ≡ length s → leb m 64 ≡ true → Ready (m - k) s n r → Ready m s′ n r′
@@ -111,31 +117,40 @@ module _ {s s′ s″ : List ℕ} {n : ℕ} {r r′ r″ : State} where
         kept = g .kept ∙ f .kept;
       }
 
+  -- one call after another, and what they leave or take together
+  infixl 6 _plus_
+  pub _plus_ : {a b k : ℕ} → Moves a b s s′ n r r′ → LeavesRoom k s′ s″ n r′ r″ → Moves (a + k) (b + 0) s s″ n r r″
+  f plus g = f and-then left g
+
+  infixl 6 _less_
+  pub _less_ : {a b k : ℕ} → Moves a b s s′ n r r′ → TakesRoom k s′ s″ n r′ r″ → Moves (a + 0) (b + k) s s″ n r r″
+  f less g = f and-then taken g
+
   -- what either of two calls leaves, both leave
   pub leaves-first : {j k : ℕ} → LeavesRoom j s s′ n r r′ → LeavesRoom k s′ s″ n r′ r″ → LeavesRoom j s s″ n r r″
-  leaves-first f g = leaving (gains f and-then gains g) (omega arith)
+  leaves-first f g = leaving (left f and-then left g) (omega arith)
 
   pub leaves-last : {j k : ℕ} → LeavesRoom j s s′ n r r′ → LeavesRoom k s′ s″ n r′ r″ → LeavesRoom k s s″ n r r″
-  leaves-last f g = leaving (gains f and-then gains g) (omega arith)
+  leaves-last f g = leaving (left f and-then left g) (omega arith)
 
   -- a last call, after what was left or taken before it
   pub leaves-leaves : {m k : ℕ} → LeavesRoom k s′ s″ n r′ r″ → LeavesRoom (m - k) s s′ n r r′ → LeavesRoom m s s″ n r r″
-  leaves-leaves g f = leaving (gains f and-then gains g) (omega arith)
+  leaves-leaves g f = leaving (left f and-then left g) (omega arith)
 
   pub takes-leaves : {m k : ℕ} → TakesRoom k s′ s″ n r′ r″ → LeavesRoom (m + k) s s′ n r r′ → LeavesRoom m s s″ n r r″
-  takes-leaves g f = leaving (gains f and-then loses g) (omega arith)
+  takes-leaves g f = leaving (left f and-then taken g) (omega arith)
 
   pub leaves-after : {m k : ℕ} → LeavesRoom k s′ s″ n r′ r″ → leb m k ≡ true → TakesRoom (k - m) s s′ n r r′ → LeavesRoom m s s″ n r r″
-  leaves-after {m} {k} g h f = leaving (loses f and-then gains g) (omega (arith, leb-true m k h))
+  leaves-after {m} {k} g h f = leaving (taken f and-then left g) (omega (arith, leb-true m k h))
 
   pub leaves-takes : {m k : ℕ} → LeavesRoom k s′ s″ n r′ r″ → TakesRoom (m + k) s s′ n r r′ → TakesRoom m s s″ n r r″
-  leaves-takes g f = taking (loses f and-then gains g) (omega arith)
+  leaves-takes g f = taking (taken f and-then left g) (omega arith)
 
   pub takes-takes : {m k : ℕ} → TakesRoom k s′ s″ n r′ r″ → leb k m ≡ true → TakesRoom (m - k) s s′ n r r′ → TakesRoom m s s″ n r r″
-  takes-takes {m} {k} g h f = taking (loses f and-then loses g) (omega (arith, leb-true k m h))
+  takes-takes {m} {k} g h f = taking (taken f and-then taken g) (omega (arith, leb-true k m h))
 
   pub takes-after : {m k : ℕ} → TakesRoom k s′ s″ n r′ r″ → leb m k ≡ true → LeavesRoom (k - m) s s′ n r r′ → TakesRoom m s s″ n r r″
-  takes-after {m} {k} g h f = taking (gains f and-then loses g) (omega (arith, leb-true m k h))
+  takes-after {m} {k} g h f = taking (left f and-then taken g) (omega (arith, leb-true m k h))
 
 module _ {j : ℕ} {s : List ℕ} {n : ℕ} {r : State} where
   pub ready-part : {m : ℕ} → Ready j s n r → leb m j ≡ true → Ready m s n r

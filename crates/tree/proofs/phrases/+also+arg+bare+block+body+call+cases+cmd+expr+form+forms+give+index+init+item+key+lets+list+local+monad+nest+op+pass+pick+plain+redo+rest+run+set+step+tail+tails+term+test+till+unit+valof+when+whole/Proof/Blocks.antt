@@ -16,8 +16,8 @@ use Rattle.tree.proofs.Lets.{values-read, one-name, vector-is, vector-n
 use Rattle.tree.proofs.Lists.{Before}
 use Rattle.tree.proofs.Loops.{SoFar, before-first, before-next, before-last, wordless, so-begins, many-turns, many-ends, many-spent}
 use Rattle.tree.proofs.Loops.{list-spents, list-ends, list-semicolon-ends, list-goes-on}
-use Rattle.tree.proofs.Rooms.{leaves-less, takes-more, takes-none, ready-leaves, ready-takes, leaves-leaves, takes-leaves, leaves-takes}
-use Rattle.tree.proofs.Rooms.{takes-takes, ready-part, item-low, size-small, freed, measured}
+use Rattle.tree.proofs.Rooms.{left, taken, room-left, room-taken, takes-more, takes-none, ready-leaves, ready-takes, _plus_, _less_}
+use Rattle.tree.proofs.Rooms.{ready-part, item-low, size-small, freed, measured}
 use Rattle.tree.proofs.Steps.{pair, goes-on, adds-on, _then_}
 use Rattle.tree.proofs.Symbols.{lies-still}
 use Rattle.tree.specs.Encoding.{encodeCommands, encodeLocals}
@@ -132,18 +132,13 @@ step-returns t c =
     let after-expr = after-expect3 .before .before .before .before in let after-expect2 = after-expr .before .before in
     let after-a-name = after-expect2 .before .before .before .before in let after-expect = after-a-name .before .before in
     let after-free-of = after-expect .before .before in
-    pair (takes-leaves (after-node .node .ensures .0)
-    (leaves-leaves (after-cmd .cmd .ensures .0)
-    (leaves-leaves (after-expect4 .expect4 .ensures .0)
-    (leaves-leaves (after-optional-by .optional-by .ensures .0)
-    (leaves-leaves (after-expr2 .expr2 .ensures .0)
-    (leaves-leaves (after-expect3 .expect3 .ensures .0)
-    (leaves-leaves (after-expr .expr .ensures .0)
-    (leaves-leaves (after-expect2 .expect2 .ensures .0)
-    (leaves-leaves (after-a-name .a-name .ensures .0) (leaves-less (after-expect .expect .ensures .0) refl))))))))))
-    (λ src l. (let l₂ = lies-still l (after-a-name .a-name .ensures .0 .kept) in let l₄ = lies-still l₂ (after-expr .expr .ensures .0 .kept) in let l₆
-    = lies-still l₄ (after-expr2 .expr2 .ensures .0 .kept) in let l₇ = lies-still l₆ (after-optional-by .optional-by .ensures .0 .kept) in for-read l
-    _ _ (after-free-of .free-of .ensures) (after-expect .expect .ensures .1 src l) (after-a-name .a-name .ensures .1 src l)
+    pair (room-left (left (after-expect .expect .ensures .0) plus (after-a-name .a-name .ensures .0) plus (after-expect2 .expect2 .ensures .0) plus
+    (after-expr .expr .ensures .0) plus (after-expect3 .expect3 .ensures .0) plus (after-expr2 .expr2 .ensures .0) plus
+    (after-optional-by .optional-by .ensures .0) plus (after-expect4 .expect4 .ensures .0) plus (after-cmd .cmd .ensures .0) less
+    (after-node .node .ensures .0)) refl) (λ src l. (let l₂ = lies-still l (after-a-name .a-name .ensures .0 .kept) in
+    let l₄ = lies-still l₂ (after-expr .expr .ensures .0 .kept) in let l₆ = lies-still l₄ (after-expr2 .expr2 .ensures .0 .kept) in
+    let l₇ = lies-still l₆ (after-optional-by .optional-by .ensures .0 .kept) in
+    for-read l _ _ (after-free-of .free-of .ensures) (after-expect .expect .ensures .1 src l) (after-a-name .a-name .ensures .1 src l)
     (after-expect2 .expect2 .ensures .1 src l₂) (after-expr .expr .ensures .1 src l₂) (after-expect3 .expect3 .ensures .1 src l₄)
     (after-expr2 .expr2 .ensures .1 src l₄) (after-optional-by .optional-by .ensures .1 src l₆) (after-expect4 .expect4 .ensures .1 src l₇)
     (after-cmd .cmd .ensures .1 src l₇) (omega (
@@ -215,14 +210,10 @@ pick-returns t c =
     let after-expect2 = after-expect3 .before .before in let after-minus = after-expect2 .before .before in
     let after-free-of2 = after-minus .before in let after-expr = after-free-of2 .before .before .before .before in
     let after-expect = after-expr .before .before in let after-free-of = after-expect .before .before in
-    pair (takes-leaves (after-node .node .ensures .0)
-    (leaves-leaves (after-list .list .ensures .0)
-    (takes-leaves (after-item .item .ensures .0)
-    (leaves-leaves (after-expect3 .expect3 .ensures .0)
-    (leaves-leaves (after-expect2 .expect2 .ensures .0)
-    (leaves-leaves (after-expr .expr .ensures .0) (leaves-less (after-expect .expect .ensures .0) refl)))))))
-    (λ src l. (let l₂ = lies-still l (after-expr .expr .ensures .0 .kept) in let l₃ = lies-still l₂ (after-item .item .ensures .0 .kept)
-    in switchon-read l _ _ (after-free-of .free-of .ensures) (after-expect .expect .ensures .1 src l) (after-expr .expr .ensures .1 src l)
+    pair (room-left (left (after-expect .expect .ensures .0) plus (after-expr .expr .ensures .0) plus (after-expect2 .expect2 .ensures .0) plus
+    (after-expect3 .expect3 .ensures .0) less (after-item .item .ensures .0) plus (after-list .list .ensures .0) less (after-node .node .ensures .0))
+    refl) (λ src l. (let l₂ = lies-still l (after-expr .expr .ensures .0 .kept) in let l₃ = lies-still l₂ (after-item .item .ensures .0 .kept) in
+    switchon-read l _ _ (after-free-of .free-of .ensures) (after-expect .expect .ensures .1 src l) (after-expr .expr .ensures .1 src l)
     (after-expect2 .expect2 .ensures .1 src l₂) (after-expect3 .expect3 .ensures .1 src l₂) (after-item .item .ensures .1 src l₂)
     (after-list .list .ensures .1 src l₃) (measured _ _ (after-minus .minus .ensures) (after-free-of2 .free-of2 .ensures) (after-expr .expr .kept .0))
     (after-node .node .ensures .1)))
@@ -254,8 +245,8 @@ item-returns t c =
     let after-set-size = c .before .before in let after-cmd = after-set-size .before .before .before .before in
     let after-begin-item = after-cmd .before .before .before .before in let after-free-of = after-begin-item .before .before in
     let start = after-free-of .before .before .before in
-    pair (leaves-takes (after-set-size .set-size .ensures .0) (leaves-takes (after-cmd .cmd .ensures .0) (after-begin-item .begin-item .ensures .0)))
-    (λ src l. listed-read src _ _ (after-free-of .free-of .ensures) (low (start .pre .1)) (after-begin-item .begin-item .ensures .1)
+    pair (room-taken (taken (after-begin-item .begin-item .ensures .0) plus (after-cmd .cmd .ensures .0) plus (after-set-size .set-size .ensures .0))
+    refl) (λ src l. listed-read src _ _ (after-free-of .free-of .ensures) (low (start .pre .1)) (after-begin-item .begin-item .ensures .1)
     (after-cmd .cmd .ensures .1 src (lies-still l (after-begin-item .begin-item .ensures .0 .kept))) (after-set-size .set-size .ensures .1))
 
 pub item-ok : {M : Type 1} (t : ℕ) → cycle.Lts-item.Closed (item-cs t) (at item-rank t) phrases.item.Reads.Post M
@@ -392,12 +383,11 @@ block-returns t c =
     let after-minus = after-till .before .before in let after-free-of2 = after-minus .before in
     let after-lets = after-free-of2 .before .before .before .before in let after-expect = after-lets .before .before in
     let after-free-of = after-expect .before .before in
-    pair (takes-leaves (after-node .node .ensures .0)
-    (leaves-leaves (after-till .till .ensures .0)
-    (leaves-leaves (after-lets .lets .ensures .0) (leaves-less (after-expect .expect .ensures .0) refl))))
-    (λ src l. (let l₂ = lies-still l (after-lets .lets .ensures .0 .kept) in block-read l _ _ (after-free-of .free-of .ensures)
-    (after-expect .expect .ensures .1 src l) (after-lets .lets .ensures .1 src l) (after-till .till .ensures .1 src l₂)
-    (measured _ _ (after-minus .minus .ensures) (after-free-of2 .free-of2 .ensures) (after-lets .lets .kept .0)) (after-node .node .ensures .1)))
+    pair (room-left (left (after-expect .expect .ensures .0) plus (after-lets .lets .ensures .0) plus (after-till .till .ensures .0) less
+    (after-node .node .ensures .0)) refl) (λ src l. (let l₂ = lies-still l (after-lets .lets .ensures .0 .kept) in
+    block-read l _ _ (after-free-of .free-of .ensures) (after-expect .expect .ensures .1 src l) (after-lets .lets .ensures .1 src l)
+    (after-till .till .ensures .1 src l₂) (measured _ _ (after-minus .minus .ensures) (after-free-of2 .free-of2 .ensures) (after-lets .lets .kept .0))
+    (after-node .node .ensures .1)))
 
 pub block-ok : {M : Type 1} (t : ℕ) → cycle.Lts-block.Closed (block-cs t) (at block-rank t) phrases.block.Reads.Post M
 block-ok t =
@@ -503,17 +493,13 @@ local-returns t c =
     let after-a-name = after-further-names .before .before .before .before in let after-free-of2 = after-a-name .before .before in
     let after-begin-item = after-free-of2 .before .before .before .before in let after-expect = after-begin-item .before .before in
     let after-free-of = after-expect .before .before in let start = after-free-of .before .before .before in
-    pair (leaves-leaves (after-set-size .set-size .ensures .0)
-    (leaves-leaves (after-optional .optional .ensures .0)
-    (takes-leaves (after-init .init .ensures .0)
-    (leaves-leaves (after-expect2 .expect2 .ensures .0)
-    (leaves-leaves (after-further-names .further-names .ensures .0)
-    (leaves-leaves (after-a-name .a-name .ensures .0)
-    (takes-leaves (after-begin-item .begin-item .ensures .0) (after-expect .expect .ensures .0))))))))
-    (λ src l. (let l₁ = lies-still l (after-begin-item .begin-item .ensures .0 .kept) in let l₂ = lies-still l₁
-    (after-a-name .a-name .ensures .0 .kept) in let l₃ = lies-still l₂ (after-further-names .further-names .ensures .0 .kept) in let l₄ = lies-still
-    l₃ (after-init .init .ensures .0 .kept) in local-read src _ _ (l .count) (after-free-of .free-of .ensures)
-    (low-past (start .pre .1) (after-expect .expect .ensures .0))
+    pair (room-left (left (after-expect .expect .ensures .0) less (after-begin-item .begin-item .ensures .0) plus (after-a-name .a-name .ensures .0)
+    plus (after-further-names .further-names .ensures .0) plus (after-expect2 .expect2 .ensures .0) less (after-init .init .ensures .0) plus
+    (after-optional .optional .ensures .0) plus (after-set-size .set-size .ensures .0)) refl)
+    (λ src l. (let l₁ = lies-still l (after-begin-item .begin-item .ensures .0 .kept) in
+    let l₂ = lies-still l₁ (after-a-name .a-name .ensures .0 .kept) in
+    let l₃ = lies-still l₂ (after-further-names .further-names .ensures .0 .kept) in let l₄ = lies-still l₃ (after-init .init .ensures .0 .kept) in
+    local-read src _ _ (l .count) (after-free-of .free-of .ensures) (low-past (start .pre .1) (after-expect .expect .ensures .0))
     (freed _ (after-free-of2 .free-of2 .ensures) (after-begin-item .begin-item .kept .0))
     (omega (
       arith,
@@ -576,9 +562,9 @@ init-returns-2 t c =
     let after-arg = after-rest .before .before .before .before in let after-minus = after-arg .before .before in
     let after-free-of = after-minus .before in let after-if1 = after-free-of .before .before in let after-is-vector = after-if1 .before in
     let after-kind-here = after-is-vector .before in let start = after-kind-here .before .before .before in
-    pair (takes-takes (after-node .node .ensures .0) refl (leaves-takes (after-rest .rest .ensures .0) (after-arg .arg .ensures .0)))
-    (λ src l. let l₁ = lies-still l (after-arg .arg .ensures .0 .kept) in pair
-    (goes-on (after-arg .arg .ensures .1 src l) then goes-on (after-rest .rest .ensures .1 src l₁) then adds-on (after-node .node .ensures .1))
+    pair (room-taken (taken (after-arg .arg .ensures .0) plus (after-rest .rest .ensures .0) less (after-node .node .ensures .0)) refl)
+    (λ src l. let l₁ = lies-still l (after-arg .arg .ensures .0 .kept) in
+    pair (goes-on (after-arg .arg .ensures .1 src l) then goes-on (after-rest .rest .ensures .1 src l₁) then adds-on (after-node .node .ensures .1))
     (λ name names q e. given-values src _ (after-kind-here .kind-here .ensures src l) name names
     (λ z. vector-not (after-kind-here .kind-here .result) (start .args .further) (sym (after-is-vector .is-vector .ensures) ∙ after-if1 .if1 .left)
     (omega (arith, q, z))) (values-read src _ _ name names _ q e (measured _ _ (after-minus .minus .ensures) (after-free-of .free-of .ensures) refl)

@@ -15,7 +15,7 @@ use Rattle.tree.proofs.Helpers.{low-past}
 use Rattle.tree.proofs.Lists.{Before}
 use Rattle.tree.proofs.Loops.{SoFar, before-first, before-next, before-last, wordless, so-begins, many-turns, many-ends, many-spent}
 use Rattle.tree.proofs.Readers.{monadic-read, operation-read}
-use Rattle.tree.proofs.Rooms.{leaves-less, ready-leaves, ready-takes, leaves-leaves, takes-leaves, item-low, size-small, measured}
+use Rattle.tree.proofs.Rooms.{left, room-left, ready-leaves, ready-takes, _plus_, _less_, item-low, size-small, measured}
 use Rattle.tree.proofs.Steps.{pair, triple}
 use Rattle.tree.proofs.Symbols.{lies-still}
 use Rattle.tree.specs.Encoding.{encodeOperations}
@@ -70,8 +70,8 @@ expr-returns-4 t c =
     let after-binding-of = c .before in let after-kind-here2 = after-binding-of .before in
     let after-expr2 = after-kind-here2 .before .before .before .before in let after-if2 = after-expr2 .before .before .before .before in
     let after-if1 = after-if2 .before in let start = after-if1 .before .before in
-    pair (after-expr2 .expr2 .ensures .0) (λ src l. (let l₁ = lies-still l (after-expr2 .expr2 .ensures .0 .kept) in expression-one l₁ 0 _ _
-    (after-if1 .if1 .left) (after-if2 .if2 .left) (start .pre .1 .1) (after-kind-here2 .kind-here2 .ensures src l₁)
+    pair (after-expr2 .expr2 .ensures .0) (λ src l. (let l₁ = lies-still l (after-expr2 .expr2 .ensures .0 .kept) in
+    expression-one l₁ 0 _ _ (after-if1 .if1 .left) (after-if2 .if2 .left) (start .pre .1 .1) (after-kind-here2 .kind-here2 .ensures src l₁)
     (after-expr2 .expr2 .ensures .1 src l) (λ z. c .if4 .taken (after-binding-of .binding-of .ensures ∙ z))))
 
 expr-place-of-requires : (t : ℕ) → cycle.Lts-expr.Need-place-of-requires (expr-cs t) (at expr-rank t) phrases.expr.Reads.Post
@@ -124,10 +124,10 @@ expr-returns-5 t c =
     let after-if4 = after-free-of2 .before .before in let after-binding-of = after-if4 .before in let after-kind-here2 = after-binding-of .before in
     let after-expr2 = after-kind-here2 .before .before .before .before in let after-free-of = after-expr2 .before .before in
     let after-if2 = after-free-of .before .before in let after-if1 = after-if2 .before in let start = after-if1 .before .before in
-    pair (takes-leaves (after-node .node .ensures .0)
-    (leaves-leaves (after-run .run .ensures .0) (leaves-leaves (after-op .op .ensures .0) (after-expr2 .expr2 .ensures .0))))
-    (λ src l. (let l₁ = lies-still l (after-expr2 .expr2 .ensures .0 .kept) in let l₂ = lies-still l₁ (after-op .op .ensures .0 .kept)
-    in expression-more l₁ _ _ _ (after-if1 .if1 .left) (after-if2 .if2 .left) (start .pre .1 .1) (after-kind-here2 .kind-here2 .ensures src l₁)
+    pair (room-left (left (after-expr2 .expr2 .ensures .0) plus (after-op .op .ensures .0) plus (after-run .run .ensures .0) less
+    (after-node .node .ensures .0)) refl) (λ src l. (let l₁ = lies-still l (after-expr2 .expr2 .ensures .0 .kept) in
+    let l₂ = lies-still l₁ (after-op .op .ensures .0 .kept) in
+    expression-more l₁ _ _ _ (after-if1 .if1 .left) (after-if2 .if2 .left) (start .pre .1 .1) (after-kind-here2 .kind-here2 .ensures src l₁)
     (after-expr2 .expr2 .ensures .1 src l) (after-right-of .right-of .ensures .0) (sym (after-binding-of .binding-of .ensures) ∙ after-if4 .if4 .left)
     (after-free-of .free-of .ensures) (measured _ _ (after-minus .minus .ensures) (after-free-of2 .free-of2 .ensures) (after-expr2 .expr2 .kept .0))
     (after-place-of .place-of .ensures) (after-op .op .ensures .1 src l₁ (after-kind-here2 .kind-here2 .ensures src l₁))
@@ -169,8 +169,8 @@ op-returns t c =
     let after-set-size = c .before .before in let after-expr = after-set-size .before .before .before .before in
     let after-begin-item = after-expr .before .before .before .before in let after-expect = after-begin-item .before .before in
     let after-free-of = after-expect .before .before in let start = after-free-of .before .before .before in
-    pair (leaves-leaves (after-set-size .set-size .ensures .0)
-    (leaves-leaves (after-expr .expr .ensures .0) (takes-leaves (after-begin-item .begin-item .ensures .0) (after-expect .expect .ensures .0))))
+    pair (room-left (left (after-expect .expect .ensures .0) less (after-begin-item .begin-item .ensures .0) plus (after-expr .expr .ensures .0) plus
+    (after-set-size .set-size .ensures .0)) refl)
     (λ src l k. operation-read src _ _ (after-free-of .free-of .ensures) _ (low-past (start .pre .1 .0) (after-expect .expect .ensures .0)) k
     (after-expect .expect .ensures .1 src l) (after-begin-item .begin-item .ensures .1)
     (after-expr .expr .ensures .1 src (lies-still l (after-begin-item .begin-item .ensures .0 .kept))) (after-set-size .set-size .ensures .1))
@@ -279,8 +279,7 @@ monad-returns-2 t c =
     let after-node = c .before .before in let after-expr = after-node .before .before .before .before in let after-reach-of = after-expr .before in
     let after-expect = after-reach-of .before .before in let after-place-here = after-expect .before .before in
     let after-free-of = after-place-here .before .before in let after-if1 = after-free-of .before .before in let start = after-if1 .before .before in
-    pair (takes-leaves (after-node .node .ensures .0)
-    (leaves-leaves (after-expr .expr .ensures .0) (leaves-less (after-expect .expect .ensures .0) refl)))
+    pair (room-left (left (after-expect .expect .ensures .0) plus (after-expr .expr .ensures .0) less (after-node .node .ensures .0)) refl)
     (λ src l k. monadic-read l _ _ (after-free-of .free-of .ensures) (after-place-here .place-here .ensures src l) (after-if1 .if1 .left) k
     (start .pre .1 .1) (after-reach-of .reach-of .ensures .0) (after-expect .expect .ensures .1 src l) (after-expr .expr .ensures .1 src l)
     (after-node .node .ensures .1))

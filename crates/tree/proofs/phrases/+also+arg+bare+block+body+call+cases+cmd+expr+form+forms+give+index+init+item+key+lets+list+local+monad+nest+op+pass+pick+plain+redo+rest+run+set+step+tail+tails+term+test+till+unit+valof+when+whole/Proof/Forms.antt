@@ -17,7 +17,8 @@ use Rattle.tree.proofs.Commands.{unlabelled-guarded, unlabelled-leave, 
 use Rattle.tree.proofs.Helpers.{low-past}
 use Rattle.tree.proofs.Lists.{Before}
 use Rattle.tree.proofs.Loops.{SoFar, before-first, before-next, before-last, wordless, so-begins, many-turns, many-ends, many-spent}
-use Rattle.tree.proofs.Rooms.{leaves-less, ready-leaves, ready-takes, leaves-leaves, takes-leaves, ready-part, item-low, size-small, measured}
+use Rattle.tree.proofs.Rooms.{left, room-left, leaves-less, ready-leaves, ready-takes, _plus_, _less_, ready-part, item-low, size-small}
+use Rattle.tree.proofs.Rooms.{measured}
 use Rattle.tree.proofs.Steps.{pair, goes-on, adds-on, refuses-on, _then_}
 use Rattle.tree.proofs.Symbols.{lies-still}
 use Rattle.tree.specs.Encoding.{encodeRepeats}
@@ -111,10 +112,10 @@ cases-returns t c =
     let after-minus = after-body .before .before in let after-free-of2 = after-minus .before in
     let after-labels = after-free-of2 .before .before .before .before in let after-label = after-labels .before .before .before .before in
     let after-free-of = after-label .before .before in
-    pair (takes-leaves (after-node .node .ensures .0)
-    (leaves-leaves (after-body .body .ensures .0) (leaves-leaves (after-labels .labels .ensures .0) (after-label .label .ensures .0))))
-    (λ src l k q. (let l₁ = lies-still l (after-label .label .ensures .0 .kept) in let l₂ = lies-still l₁ (after-labels .labels .ensures .0 .kept)
-    in labelled-read l _ _ k q (after-free-of .free-of .ensures) (measured _ _ (after-minus .minus .ensures) (after-free-of2 .free-of2 .ensures)
+    pair (room-left (left (after-label .label .ensures .0) plus (after-labels .labels .ensures .0) plus (after-body .body .ensures .0) less
+    (after-node .node .ensures .0)) refl) (λ src l k q. (let l₁ = lies-still l (after-label .label .ensures .0 .kept) in
+    let l₂ = lies-still l₁ (after-labels .labels .ensures .0 .kept) in
+    labelled-read l _ _ k q (after-free-of .free-of .ensures) (measured _ _ (after-minus .minus .ensures) (after-free-of2 .free-of2 .ensures)
     (after-labels .labels .kept .0 ∙ after-label .label .kept .0)) (after-label .label .ensures .1 src l k) (after-labels .labels .ensures .1 src l₁)
     (after-body .body .ensures .1 src l₂) (after-node .node .ensures .1)))
 
@@ -212,10 +213,10 @@ redo-returns t c =
     let after-free-of2 = after-minus .before in let after-if1 = after-free-of2 .before .before in let after-is-repeat = after-if1 .before in
     let after-kind-here = after-is-repeat .before in let after-plain = after-kind-here .before .before .before .before in
     let after-free-of = after-plain .before .before in
-    pair (takes-leaves (after-node .node .ensures .0)
-    (leaves-leaves (after-forms .forms .ensures .0) (leaves-leaves (after-form .form .ensures .0) (after-plain .plain .ensures .0))))
-    (λ src l. (let l₁ = lies-still l (after-plain .plain .ensures .0 .kept) in let l₂ = lies-still l₁ (after-form .form .ensures .0 .kept)
-    in repeated-more l₁ _ _ (after-kind-here .kind-here .ensures src l₁) (after-plain .plain .ensures .1 src l)
+    pair (room-left (left (after-plain .plain .ensures .0) plus (after-form .form .ensures .0) plus (after-forms .forms .ensures .0) less
+    (after-node .node .ensures .0)) refl) (λ src l. (let l₁ = lies-still l (after-plain .plain .ensures .0 .kept) in
+    let l₂ = lies-still l₁ (after-form .form .ensures .0 .kept) in
+    repeated-more l₁ _ _ (after-kind-here .kind-here .ensures src l₁) (after-plain .plain .ensures .1 src l)
     (sym (after-is-repeat .is-repeat .ensures) ∙ after-if1 .if1 .taken) (after-free-of .free-of .ensures)
     (measured _ _ (after-minus .minus .ensures) (after-free-of2 .free-of2 .ensures) (after-plain .plain .kept .0))
     (after-form .form .ensures .1 src l₁ (after-kind-here .kind-here .ensures src l₁)) (after-forms .forms .ensures .1 src l₂)
@@ -225,9 +226,9 @@ redo-returns-2 : (t : ℕ) → cycle.Lts-redo.Need-returns-2 (redo-cs t) (at red
 redo-returns-2 t c =
     let after-is-repeat = c .before in let after-kind-here = after-is-repeat .before in
     let after-plain = after-kind-here .before .before .before .before in
-    pair (leaves-less (after-plain .plain .ensures .0) refl)
-    (λ src l. (let l₁ = lies-still l (after-plain .plain .ensures .0 .kept) in repeated-one l₁ 0 _ (after-kind-here .kind-here .ensures src l₁)
-    (after-plain .plain .ensures .1 src l) (sym (after-is-repeat .is-repeat .ensures) ∙ c .if1 .left)))
+    pair (leaves-less (after-plain .plain .ensures .0) refl) (λ src l. (let l₁ = lies-still l (after-plain .plain .ensures .0 .kept) in
+    repeated-one l₁ 0 _ (after-kind-here .kind-here .ensures src l₁) (after-plain .plain .ensures .1 src l)
+    (sym (after-is-repeat .is-repeat .ensures) ∙ c .if1 .left)))
 
 pub redo-ok : {M : Type 1} (t : ℕ) → cycle.Lts-redo.Closed (redo-cs t) (at redo-rank t) phrases.redo.Reads.Post M
 redo-ok t =
@@ -292,7 +293,7 @@ form-begin-item-requires t c κs =
 form-returns : (t : ℕ) → cycle.Lts-form.Need-returns (form-cs t) (at form-rank t) phrases.form.Reads.Post
 form-returns t c =
     let after-begin-item = c .before .before .before in let after-expect = after-begin-item .before .before in
-    pair (takes-leaves (after-begin-item .begin-item .ensures .0) (after-expect .expect .ensures .0))
+    pair (room-left (left (after-expect .expect .ensures .0) less (after-begin-item .begin-item .ensures .0)) refl)
     (λ src l k. repeat-read src 0 _ k (c .if1 .taken) (after-expect .expect .ensures .1 src l) (after-begin-item .begin-item .ensures .1))
 
 form-expr-requires : (t : ℕ) → cycle.Lts-form.Need-expr-requires (form-cs t) (at form-rank t) phrases.form.Reads.Post
@@ -315,10 +316,8 @@ form-returns-2 t c =
     let after-if1 = after-expr .before .before in let after-begin-item = after-if1 .before .before .before in
     let after-expect = after-begin-item .before .before in let after-free-of = after-expect .before .before in
     let start = after-free-of .before .before .before in
-    pair (leaves-leaves (after-set-size .set-size .ensures .0)
-    (leaves-leaves (after-expr .expr .ensures .0)
-    (takes-leaves (after-begin-item .begin-item .ensures .0) (leaves-less (after-expect .expect .ensures .0) refl))))
-    (λ src l k. repeat-on-read src _ _ k (after-free-of .free-of .ensures) (after-if1 .if1 .left)
+    pair (room-left (left (after-expect .expect .ensures .0) less (after-begin-item .begin-item .ensures .0) plus (after-expr .expr .ensures .0) plus
+    (after-set-size .set-size .ensures .0)) refl) (λ src l k. repeat-on-read src _ _ k (after-free-of .free-of .ensures) (after-if1 .if1 .left)
     (low-past (start .pre .1 .0) (after-expect .expect .ensures .0)) (after-expect .expect .ensures .1 src l)
     (after-begin-item .begin-item .ensures .1) (after-expr .expr .ensures .1 src (lies-still l (after-begin-item .begin-item .ensures .0 .kept)))
     (after-set-size .set-size .ensures .1))
@@ -417,14 +416,10 @@ test-returns t c =
     let after-expect3 = after-cmd2 .before .before in let after-cmd = after-expect3 .before .before .before .before in
     let after-expect2 = after-cmd .before .before in let after-expr = after-expect2 .before .before .before .before in
     let after-expect = after-expr .before .before in let after-free-of = after-expect .before .before in
-    pair (takes-leaves (after-node .node .ensures .0)
-    (leaves-leaves (after-cmd2 .cmd2 .ensures .0)
-    (leaves-leaves (after-expect3 .expect3 .ensures .0)
-    (leaves-leaves (after-cmd .cmd .ensures .0)
-    (leaves-leaves (after-expect2 .expect2 .ensures .0)
-    (leaves-leaves (after-expr .expr .ensures .0) (leaves-less (after-expect .expect .ensures .0) refl)))))))
-    (λ src l. (let l₂ = lies-still l (after-expr .expr .ensures .0 .kept) in let l₄ = lies-still l₂ (after-cmd .cmd .ensures .0 .kept) in test-read l
-    _ _ (after-free-of .free-of .ensures) (after-expect .expect .ensures .1 src l) (after-expr .expr .ensures .1 src l)
+    pair (room-left (left (after-expect .expect .ensures .0) plus (after-expr .expr .ensures .0) plus (after-expect2 .expect2 .ensures .0) plus
+    (after-cmd .cmd .ensures .0) plus (after-expect3 .expect3 .ensures .0) plus (after-cmd2 .cmd2 .ensures .0) less (after-node .node .ensures .0))
+    refl) (λ src l. (let l₂ = lies-still l (after-expr .expr .ensures .0 .kept) in let l₄ = lies-still l₂ (after-cmd .cmd .ensures .0 .kept) in
+    test-read l _ _ (after-free-of .free-of .ensures) (after-expect .expect .ensures .1 src l) (after-expr .expr .ensures .1 src l)
     (after-expect2 .expect2 .ensures .1 src l₂) (after-cmd .cmd .ensures .1 src l₂) (after-expect3 .expect3 .ensures .1 src l₄)
     (after-cmd2 .cmd2 .ensures .1 src l₄) (after-node .node .ensures .1)))
 
@@ -461,13 +456,10 @@ when-returns t c =
     let after-node = c .before .before in let after-cmd = after-node .before .before .before .before in
     let after-expect2 = after-cmd .before .before in let after-expr = after-expect2 .before .before .before .before in
     let after-expect = after-expr .before .before in let after-free-of = after-expect .before .before in
-    pair (takes-leaves (after-node .node .ensures .0)
-    (leaves-leaves (after-cmd .cmd .ensures .0)
-    (leaves-leaves (after-expect2 .expect2 .ensures .0)
-    (leaves-leaves (after-expr .expr .ensures .0) (leaves-less (after-expect .expect .ensures .0) refl)))))
-    (λ src l k. (let l₂ = lies-still l (after-expr .expr .ensures .0 .kept) in guarded-read l _ _ (after-free-of .free-of .ensures) k
-    (after-expect .expect .ensures .1 src l) (after-expr .expr .ensures .1 src l) (after-expect2 .expect2 .ensures .1 src l₂)
-    (after-cmd .cmd .ensures .1 src l₂) (after-node .node .ensures .1)))
+    pair (room-left (left (after-expect .expect .ensures .0) plus (after-expr .expr .ensures .0) plus (after-expect2 .expect2 .ensures .0) plus
+    (after-cmd .cmd .ensures .0) less (after-node .node .ensures .0)) refl) (λ src l k. (let l₂ = lies-still l (after-expr .expr .ensures .0 .kept) in
+    guarded-read l _ _ (after-free-of .free-of .ensures) k (after-expect .expect .ensures .1 src l) (after-expr .expr .ensures .1 src l)
+    (after-expect2 .expect2 .ensures .1 src l₂) (after-cmd .cmd .ensures .1 src l₂) (after-node .node .ensures .1)))
 
 pub when-ok : {M : Type 1} (t : ℕ) → cycle.Lts-when.Closed (when-cs t) (at when-rank t) phrases.when.Reads.Post M
 when-ok t =
@@ -498,8 +490,7 @@ give-returns t c =
     let after-node = c .before .before in let after-expr = after-node .before .before .before .before in
     let after-expect = after-expr .before .before in let after-place-here = after-expect .before .before in
     let after-free-of = after-place-here .before .before in
-    pair (takes-leaves (after-node .node .ensures .0)
-    (leaves-leaves (after-expr .expr .ensures .0) (leaves-less (after-expect .expect .ensures .0) refl)))
+    pair (room-left (left (after-expect .expect .ensures .0) plus (after-expr .expr .ensures .0) less (after-node .node .ensures .0)) refl)
     (λ src l. resultis-read l _ _ (after-free-of .free-of .ensures) (after-place-here .place-here .ensures src l)
     (after-expect .expect .ensures .1 src l) (after-expr .expr .ensures .1 src l) (after-node .node .ensures .1))
 
@@ -523,9 +514,9 @@ bare-returns t c =
     let after-set = c .before .before in let after-if1 = after-set .before .before in let after-goes-on-assignment = after-if1 .before in
     let after-kind-here = after-goes-on-assignment .before in let after-expr = after-kind-here .before .before .before .before in
     let after-free-of = after-expr .before .before in
-    pair (leaves-leaves (after-set .set .ensures .0) (after-expr .expr .ensures .0))
-    (λ src l. (let l₁ = lies-still l (after-expr .expr .ensures .0 .kept) in assignment-first src _ _ (after-kind-here .kind-here .ensures src l₁)
-    (after-expr .expr .ensures .1 src l) (after-free-of .free-of .ensures)
+    pair (room-left (left (after-expr .expr .ensures .0) plus (after-set .set .ensures .0)) refl)
+    (λ src l. (let l₁ = lies-still l (after-expr .expr .ensures .0 .kept) in
+    assignment-first src _ _ (after-kind-here .kind-here .ensures src l₁) (after-expr .expr .ensures .1 src l) (after-free-of .free-of .ensures)
     (sym (after-goes-on-assignment .goes-on-assignment .ensures) ∙ after-if1 .if1 .taken) (after-set .set .ensures .1 src l₁ .0)
     (λ e q. after-set .set .ensures .1 src l₁ .1 e (ap (λ (z : ℕ). freeOf z (after-expr .expr .result)) (after-expr .expr .kept .0) ∙ q))))
 
@@ -533,8 +524,8 @@ bare-returns-2 : (t : ℕ) → cycle.Lts-bare.Need-returns-2 (bare-cs t) (at bar
 bare-returns-2 t c =
     let after-is-call = c .before in let after-if1 = after-is-call .before .before in let after-goes-on-assignment = after-if1 .before in
     let after-kind-here = after-goes-on-assignment .before in let after-expr = after-kind-here .before .before .before .before in
-    pair (after-expr .expr .ensures .0) (λ src l. (let l₁ = lies-still l (after-expr .expr .ensures .0 .kept) in call-alone src 0 _
-    (after-kind-here .kind-here .ensures src l₁) (after-expr .expr .ensures .1 src l) (after-is-call .is-call .ensures)
+    pair (after-expr .expr .ensures .0) (λ src l. (let l₁ = lies-still l (after-expr .expr .ensures .0 .kept) in
+    call-alone src 0 _ (after-kind-here .kind-here .ensures src l₁) (after-expr .expr .ensures .1 src l) (after-is-call .is-call .ensures)
     (sym (after-goes-on-assignment .goes-on-assignment .ensures) ∙ after-if1 .if1 .left) (c .if2 .taken)))
 
 bare-returns-3 : (t : ℕ) → cycle.Lts-bare.Need-returns-3 (bare-cs t) (at bare-rank t) phrases.bare.Reads.Post
@@ -542,9 +533,9 @@ bare-returns-3 t c =
     let after-if2 = c .before .before in let after-is-call = after-if2 .before in let after-if1 = after-is-call .before .before in
     let after-goes-on-assignment = after-if1 .before in let after-kind-here = after-goes-on-assignment .before in
     let after-expr = after-kind-here .before .before .before .before in
-    pair (leaves-leaves (c .refuse .ensures .0) (leaves-less (after-expr .expr .ensures .0) refl))
-    (λ src l. (let l₁ = lies-still l (after-expr .expr .ensures .0 .kept) in no-call src 0 _ (after-kind-here .kind-here .ensures src l₁)
-    (after-expr .expr .ensures .1 src l) (after-is-call .is-call .ensures)
+    pair (room-left (left (after-expr .expr .ensures .0) plus (c .refuse .ensures .0)) refl)
+    (λ src l. (let l₁ = lies-still l (after-expr .expr .ensures .0 .kept) in
+    no-call src 0 _ (after-kind-here .kind-here .ensures src l₁) (after-expr .expr .ensures .1 src l) (after-is-call .is-call .ensures)
     (sym (after-goes-on-assignment .goes-on-assignment .ensures) ∙ after-if1 .if1 .left) (after-if2 .if2 .left) (c .refuse .ensures .1)
     (refuses-on (c .refuse .ensures .1))))
 
@@ -606,11 +597,10 @@ set-returns t c =
     let after-minus2 = after-expect .before .before in let after-free-of2 = after-minus2 .before in
     let after-also = after-free-of2 .before .before .before .before in let after-minus = after-also .before .before in
     let after-free-of = after-minus .before in
-    pair (takes-leaves (after-node .node .ensures .0)
-    (leaves-leaves (after-rest .rest .ensures .0)
-    (takes-leaves (after-arg .arg .ensures .0) (leaves-leaves (after-expect .expect .ensures .0) (after-also .also .ensures .0)))))
-    (λ src l. let l₁ = lies-still l (after-also .also .ensures .0 .kept) in let l₂ = lies-still l₁ (after-arg .arg .ensures .0 .kept) in pair
-    (goes-on (after-also .also .ensures .1 src l) then goes-on (after-expect .expect .ensures .1 src l₁) then goes-on
+    pair (room-left (left (after-also .also .ensures .0) plus (after-expect .expect .ensures .0) less (after-arg .arg .ensures .0) plus
+    (after-rest .rest .ensures .0) less (after-node .node .ensures .0)) refl) (λ src l. let l₁ = lies-still l (after-also .also .ensures .0 .kept) in
+    let l₂ = lies-still l₁ (after-arg .arg .ensures .0 .kept) in
+    pair (goes-on (after-also .also .ensures .1 src l) then goes-on (after-expect .expect .ensures .1 src l₁) then goes-on
     (after-arg .arg .ensures .1 src l₁) then goes-on (after-rest .rest .ensures .1 src l₂) then adds-on (after-node .node .ensures .1))
     (λ e q. assignment-read src _ _ _ e (l .count) q (measured _ _ (after-minus .minus .ensures) (after-free-of .free-of .ensures) refl)
     (measured _ _ (after-minus2 .minus2 .ensures) (after-free-of2 .free-of2 .ensures) (after-also .also .kept .0))

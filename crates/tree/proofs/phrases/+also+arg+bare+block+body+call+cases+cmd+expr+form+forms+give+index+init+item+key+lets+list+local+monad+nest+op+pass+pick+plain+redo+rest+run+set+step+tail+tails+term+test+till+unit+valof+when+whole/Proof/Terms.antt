@@ -20,7 +20,7 @@ use Rattle.tree.proofs.Lists.{Before}
 use Rattle.tree.proofs.Loops.{SoFar, before-first, before-last, wordless, so-begins, so-turns, so-ends, many-turns, many-ends, many-spent}
 use Rattle.tree.proofs.Readers.{bracketed-read, valof-read, argument-read, index-read, arguments-read, no-arguments, some-arguments}
 use Rattle.tree.proofs.Readers.{further-reads}
-use Rattle.tree.proofs.Rooms.{leaves-less, ready-leaves, ready-takes, leaves-leaves, takes-leaves, leaves-after, leaves-takes, ready-part}
+use Rattle.tree.proofs.Rooms.{left, taken, room-left, room-taken, leaves-less, ready-leaves, ready-takes, _plus_, _less_, ready-part}
 use Rattle.tree.proofs.Rooms.{item-low, size-small, measured}
 use Rattle.tree.proofs.Steps.{pair, again}
 use Rattle.tree.proofs.Symbols.{lies-still}
@@ -104,10 +104,10 @@ whole-returns t c =
     let after-place-of = after-tail .before .before in let after-minus = after-place-of .before .before in let after-free-of2 = after-minus .before in
     let after-if1 = after-free-of2 .before .before in let after-is-suffix = after-if1 .before in let after-kind-here = after-is-suffix .before in
     let after-unit = after-kind-here .before .before .before .before in let after-free-of = after-unit .before .before in
-    pair (takes-leaves (after-node .node .ensures .0)
-    (leaves-leaves (after-tails .tails .ensures .0) (leaves-leaves (after-tail .tail .ensures .0) (after-unit .unit .ensures .0))))
-    (λ src l. (let l₁ = lies-still l (after-unit .unit .ensures .0 .kept) in let l₂ = lies-still l₁ (after-tail .tail .ensures .0 .kept)
-    in suffixed-more l₁ _ _ (after-kind-here .kind-here .ensures src l₁) (after-unit .unit .ensures .1 src l)
+    pair (room-left (left (after-unit .unit .ensures .0) plus (after-tail .tail .ensures .0) plus (after-tails .tails .ensures .0) less
+    (after-node .node .ensures .0)) refl) (λ src l. (let l₁ = lies-still l (after-unit .unit .ensures .0 .kept) in
+    let l₂ = lies-still l₁ (after-tail .tail .ensures .0 .kept) in
+    suffixed-more l₁ _ _ (after-kind-here .kind-here .ensures src l₁) (after-unit .unit .ensures .1 src l)
     (sym (after-is-suffix .is-suffix .ensures) ∙ after-if1 .if1 .taken) (after-free-of .free-of .ensures)
     (measured _ _ (after-minus .minus .ensures) (after-free-of2 .free-of2 .ensures) (after-unit .unit .kept .0)) (after-place-of .place-of .ensures)
     (after-suffixed-kind .suffixed-kind .ensures) (after-tail .tail .ensures .1 src l₁ (after-kind-here .kind-here .ensures src l₁))
@@ -117,8 +117,9 @@ whole-returns-2 : (t : ℕ) → cycle.Lts-whole.Need-returns-2 (whole-cs t) (at 
 whole-returns-2 t c =
     let after-is-suffix = c .before in let after-kind-here = after-is-suffix .before in
     let after-unit = after-kind-here .before .before .before .before in
-    pair (after-unit .unit .ensures .0) (λ src l. (let l₁ = lies-still l (after-unit .unit .ensures .0 .kept) in suffixed-one l₁ 0 _
-    (after-kind-here .kind-here .ensures src l₁) (after-unit .unit .ensures .1 src l) (sym (after-is-suffix .is-suffix .ensures) ∙ c .if1 .left)))
+    pair (after-unit .unit .ensures .0) (λ src l. (let l₁ = lies-still l (after-unit .unit .ensures .0 .kept) in
+    suffixed-one l₁ 0 _ (after-kind-here .kind-here .ensures src l₁) (after-unit .unit .ensures .1 src l)
+    (sym (after-is-suffix .is-suffix .ensures) ∙ c .if1 .left)))
 
 pub whole-ok : {M : Type 1} (t : ℕ) → cycle.Lts-whole.Closed (whole-cs t) (at whole-rank t) phrases.whole.Reads.Post M
 whole-ok t =
@@ -163,11 +164,9 @@ nest-returns-2 t c =
     let after-expr = after-expect2 .before .before .before .before in let after-expect = after-expr .before .before in
     let after-place-here = after-expect .before .before in let after-free-of = after-place-here .before .before in
     let after-if1 = after-free-of .before .before in
-    pair (takes-leaves (after-node .node .ensures .0)
-    (leaves-leaves (after-expect2 .expect2 .ensures .0)
-    (leaves-leaves (after-expr .expr .ensures .0) (leaves-less (after-expect .expect .ensures .0) refl))))
-    (λ src l. bracketed-read l _ _ (after-free-of .free-of .ensures) (after-place-here .place-here .ensures src l) (after-if1 .if1 .left)
-    (after-expect .expect .ensures .1 src l) (after-expr .expr .ensures .1 src l)
+    pair (room-left (left (after-expect .expect .ensures .0) plus (after-expr .expr .ensures .0) plus (after-expect2 .expect2 .ensures .0) less
+    (after-node .node .ensures .0)) refl) (λ src l. bracketed-read l _ _ (after-free-of .free-of .ensures)
+    (after-place-here .place-here .ensures src l) (after-if1 .if1 .left) (after-expect .expect .ensures .1 src l) (after-expr .expr .ensures .1 src l)
     (after-expect2 .expect2 .ensures .1 src (lies-still l (after-expr .expr .ensures .0 .kept))) (after-node .node .ensures .1))
 
 pub nest-ok : {M : Type 1} (t : ℕ) → cycle.Lts-nest.Closed (nest-cs t) (at nest-rank t) phrases.nest.Reads.Post M
@@ -200,7 +199,7 @@ valof-returns-2 t c =
     let after-node = c .before .before in let after-cmd = after-node .before .before .before .before in
     let after-expect = after-cmd .before .before in let after-place-here = after-expect .before .before in
     let after-free-of = after-place-here .before .before in let after-if1 = after-free-of .before .before in
-    pair (takes-leaves (after-node .node .ensures .0) (leaves-leaves (after-cmd .cmd .ensures .0) (after-expect .expect .ensures .0)))
+    pair (room-left (left (after-expect .expect .ensures .0) plus (after-cmd .cmd .ensures .0) less (after-node .node .ensures .0)) refl)
     (λ src l. valof-read l _ _ (after-free-of .free-of .ensures) (after-place-here .place-here .ensures src l) (after-if1 .if1 .left)
     (after-expect .expect .ensures .1 src l) (after-cmd .cmd .ensures .1 src l) (after-node .node .ensures .1))
 
@@ -279,9 +278,8 @@ call-returns-2 t c =
     let after-close-item = c .before .before in let after-pass = after-close-item .before .before .before .before in
     let after-expect = after-pass .before .before in let after-free-of = after-expect .before .before in
     let after-if1 = after-free-of .before .before in
-    pair (takes-leaves (after-close-item .close-item .ensures .0)
-    (leaves-leaves (after-pass .pass .ensures .0) (leaves-less (after-expect .expect .ensures .0) refl)))
-    (λ src l. arguments-read src _ _ (after-free-of .free-of .ensures) (after-if1 .if1 .left) (after-expect .expect .ensures .1 src l)
+    pair (room-left (left (after-expect .expect .ensures .0) plus (after-pass .pass .ensures .0) less (after-close-item .close-item .ensures .0))
+    refl) (λ src l. arguments-read src _ _ (after-free-of .free-of .ensures) (after-if1 .if1 .left) (after-expect .expect .ensures .1 src l)
     (after-pass .pass .ensures .1 src l) (after-close-item .close-item .ensures .1))
 
 pub call-ok : {M : Type 1} (t : ℕ) → cycle.Lts-call.Closed (call-cs t) (at call-rank t) phrases.call.Reads.Post M
@@ -309,9 +307,9 @@ pass-returns-2 : (t : ℕ) → cycle.Lts-pass.Need-returns-2 (pass-cs t) (at pas
 pass-returns-2 t c =
     let after-also = c .before .before .before .before in let after-arg = after-also .before .before .before .before in
     let after-if1 = after-arg .before .before in let after-kind-here = after-if1 .before in
-    pair (leaves-after (c .expect2 .ensures .0) refl (leaves-takes (after-also .also .ensures .0) (after-arg .arg .ensures .0)))
-    (λ src l. (let l₁ = lies-still l (after-arg .arg .ensures .0 .kept) in let l₂ = lies-still l₁ (after-also .also .ensures .0 .kept)
-    in some-arguments src _ (after-kind-here .kind-here .ensures src l) 0 (l .count) (after-if1 .if1 .left) (after-arg .arg .ensures .1 src l)
+    pair (room-left (taken (after-arg .arg .ensures .0) plus (after-also .also .ensures .0) plus (c .expect2 .ensures .0)) refl)
+    (λ src l. (let l₁ = lies-still l (after-arg .arg .ensures .0 .kept) in let l₂ = lies-still l₁ (after-also .also .ensures .0 .kept) in
+    some-arguments src _ (after-kind-here .kind-here .ensures src l) 0 (l .count) (after-if1 .if1 .left) (after-arg .arg .ensures .1 src l)
     (again (Encodes encodeExpressions) (λ es w h. record { same = h .same }) (after-also .also .ensures .1 src l₁)) (c .expect2 .ensures .1 src l₂)))
 
 pub pass-ok : {M : Type 1} (t : ℕ) → cycle.Lts-pass.Closed (pass-cs t) (at pass-rank t) phrases.pass.Reads.Post M
@@ -346,10 +344,10 @@ arg-returns t c =
     let after-set-size = c .before .before in let after-expr = after-set-size .before .before .before .before in
     let after-begin-item = after-expr .before .before .before .before in let after-free-of = after-begin-item .before .before in
     let start = after-free-of .before .before .before in
-    pair (leaves-takes (after-set-size .set-size .ensures .0)
-    (leaves-takes (after-expr .expr .ensures .0) (after-begin-item .begin-item .ensures .0)))
-    (λ src l. argument-read src _ _ (after-free-of .free-of .ensures) (low (start .pre .1)) (after-begin-item .begin-item .ensures .1)
-    (after-expr .expr .ensures .1 src (lies-still l (after-begin-item .begin-item .ensures .0 .kept))) (after-set-size .set-size .ensures .1))
+    pair (room-taken (taken (after-begin-item .begin-item .ensures .0) plus (after-expr .expr .ensures .0) plus
+    (after-set-size .set-size .ensures .0)) refl) (λ src l. argument-read src _ _ (after-free-of .free-of .ensures) (low (start .pre .1))
+    (after-begin-item .begin-item .ensures .1) (after-expr .expr .ensures .1 src (lies-still l (after-begin-item .begin-item .ensures .0 .kept)))
+    (after-set-size .set-size .ensures .1))
 
 pub arg-ok : {M : Type 1} (t : ℕ) → cycle.Lts-arg.Closed (arg-cs t) (at arg-rank t) phrases.arg.Reads.Post M
 arg-ok t =
@@ -440,7 +438,7 @@ index-returns : (t : ℕ) → cycle.Lts-index.Need-returns (index-cs t) (at inde
 index-returns t c =
     let after-close-item = c .before .before in let after-key = after-close-item .before .before .before .before in
     let after-expect = after-key .before .before in let after-free-of = after-expect .before .before in
-    pair (takes-leaves (after-close-item .close-item .ensures .0) (leaves-leaves (after-key .key .ensures .0) (after-expect .expect .ensures .0)))
+    pair (room-left (left (after-expect .expect .ensures .0) plus (after-key .key .ensures .0) less (after-close-item .close-item .ensures .0)) refl)
     (λ src l. index-read src _ _ (after-free-of .free-of .ensures) (after-expect .expect .ensures .1 src l) (after-key .key .ensures .1 src l)
     (after-close-item .close-item .ensures .1))
 
