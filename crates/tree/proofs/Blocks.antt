@@ -28,7 +28,7 @@ use Rattle.tree.proofs.ListEnd.{listed-items}
 use Rattle.tree.proofs.Chains.{grown}
 use Rattle.tree.proofs.Commands.{two, three}
 use Rattle.tree.proofs.Choices.{KindsHere, Refusing, Expects, picked, refused-at, shut-at}
-use Rattle.tree.proofs.Rooms.{leaves-all, leaves-less, leaves-last, leaves-after}
+use Rattle.tree.proofs.Rooms.{leaves-all, leaves-less, leaves-last, taken, _plus_, room-left}
 use Rattle.tree.proofs.Classes.{unlike2}
 use Rattle.text.proofs.Bytes.{Unlike}
 use Rattle.tree.proofs.Readers.{deeper, item-alone, put-first, many-none, many-first}
@@ -290,7 +290,7 @@ module _ (x : ℕ) {s : List ℕ} {n : ℕ} {r : State} {kind : ℕ} (kinds : Ki
         ne-eqb (kindAt src at) K.SEMICOLON
             (λ y. q .1 (sym h ∙ y)),
       )) (
-        leaves-after (g .0) refl (d .0),
+        room-left (taken (d .0) plus (g .0)) refl,
         λ src l. listed-items T.noCommands (C.listed (readers (within x))) src (l .count) (d .1 src l)
             (g .1 src (lies-still l (d .0 .kept))),
       )

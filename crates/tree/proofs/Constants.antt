@@ -17,7 +17,7 @@ use Rattle.tree.specs.Encoding.{closed, leaf, encodeName, encodeNegative
 use Rattle.tree.proofs.Steps.{bind, here, added, adds-on, goes-on}
 use Rattle.tree.proofs.Symbols.{placed, mapped}
 use Rattle.tree.proofs.Leaves.{ValuesHere, symbol-is, name-at, nameOf, same-out}
-use Rattle.tree.proofs.Rooms.{leaves-less, leaves-last, takes-leaves}
+use Rattle.tree.proofs.Rooms.{leaves-last, left, _less_, room-left}
 use Rattle.tree.proofs.Classes.{unlike3}
 use Rattle.text.proofs.Bytes.{Unlike}
 use Rattle.tree.proofs.Readers.{deeper}
@@ -101,7 +101,7 @@ module _ (x : ℕ) {s s₂ : List ℕ} {n : ℕ} {r r₁ r₂ : State} {p : ℕ}
   unfolding E.simple E.known encodeConstant encodeNegative encodeName
   negative-name w d =
       let u = unlike3 w in
-      after-minus (takes-leaves (d .0) (leaves-less (a .0) refl)) (λ src l. here _ (λ at free e. let h = kinds src l .here at free e in
+      after-minus (room-left (left (a .0) less (d .0)) refl) (λ src l. here _ (λ at free e. let h = kinds src l .here at free e in
       rw (
         ne-eqb (kindAt src at) K.NUMBER (λ z. u .0 (h ∙ z)),
         ne-eqb (kindAt src at) K.TRUE (λ z. u .1 (h ∙ z)),

@@ -12,7 +12,7 @@ use Rattle.tree.proofs.Lists.{PartlyAs, Before, begins-as, more-as, clo
 use Rattle.tree.proofs.Choices.{KindsHere}
 use Rattle.tree.proofs.ListEnd.{list-end, list-semicolon-end, list-more, semicolon-item, list-spent}
 use Rattle.tree.proofs.Symbols.{lies-still}
-use Rattle.tree.proofs.Rooms.{leaves-all, leaves-first, leaves-last, takes-leaves}
+use Rattle.tree.proofs.Rooms.{leaves-all, leaves-first, leaves-last, left, _less_, room-left}
 use Rattle.tree.specs.declared.scratch.State.{State}
 use Rattle.tree.specs.declared.scratch.State.the-variants.{Read}
 
@@ -122,5 +122,5 @@ module _ {A : Type 0} (none : A) (one : Reader (A → A)) {enc : A → List ℕ}
       → SoFar (Before enc) read (moreUpTo (t - 1) none one) s₀ s₂ n r₀ r₂
   list-goes-on k q d k₁ q₁ room e g h =
       so-turns so (moreUpTo (t - 1) none one) before-next
-      (takes-leaves {m = 0} room (d .0), λ src l. semicolon-item none one src (k src l) q (k₁ src l) q₁ (d .1 src l) (g src l)) e
+      (room-left {m = 0} (left (d .0) less room) refl, λ src l. semicolon-item none one src (k src l) q (k₁ src l) q₁ (d .1 src l) (g src l)) e
       (λ src l. list-more none one src (k src l) q (k₁ src l) q₁ (d .1 src l) t h)

@@ -24,7 +24,7 @@ use Rattle.tree.proofs.Steps.{follow, bind, here, added, adds-on, goes-
 use Rattle.tree.proofs.Lists.{sized, last, turned}
 use Rattle.tree.proofs.Symbols.{inside as among, placed, mapped, the-is, stays}
 use Rattle.tree.proofs.Classes.{positive}
-use Rattle.tree.proofs.Rooms.{takes-leaves}
+use Rattle.tree.proofs.Rooms.{left, _less_, room-left}
 use Rattle.tree.specs.declared.scratch.State.{State}
 use Rattle.tree.specs.declared.scratch.State.the-variants.{Read}
 
@@ -187,7 +187,7 @@ pub further-reads :
     → TakesRoom 1 s s₁ n r₀ r₁ × ((src : Source) → HoldsSymbols src n s → Follows (anArgument x src) PrependsOne s s₁ r₀ r₁)
     → Reading 4 (aFurther x) PrependsOne s s₁ n r r₁
 unfolding aFurther
-further-reads x c a = (takes-leaves (a .0) (c .0), λ src l. bind 0 (λ _. []) (c .1 src l) (goes-on (a .1 src l)) (λ _ q. a .1 src l))
+further-reads x c a = (room-left (left (c .0) less (a .0)) refl, λ src l. bind 0 (λ _. []) (c .1 src l) (goes-on (a .1 src l)) (λ _ q. a .1 src l))
 
 -- chains of operators
 pub chain-is :

@@ -1,5 +1,4 @@
 -- Laws of room: what one call after another leaves of what the symbols read allow, and what the next call may ask.
--- A premise's numbers come from the conclusion and from the call that the first premise names, so that `search` finds every argument.
 use Prim.Native.Nat.{ℕ, _+_, _*_, _-_, _≤_, _<_, _^_}
 use mathlib.Core.Path.{_≡_, ap, _∙_}
 use mathlib.Core.Bool.{true}
@@ -132,25 +131,6 @@ module _ {s s′ s″ : List ℕ} {n : ℕ} {r r′ r″ : State} where
 
   pub leaves-last : {j k : ℕ} → LeavesRoom j s s′ n r r′ → LeavesRoom k s′ s″ n r′ r″ → LeavesRoom k s s″ n r r″
   leaves-last f g = leaving (left f and-then left g) (omega arith)
-
-  -- a last call, after what was left or taken before it
-  pub leaves-leaves : {m k : ℕ} → LeavesRoom k s′ s″ n r′ r″ → LeavesRoom (m - k) s s′ n r r′ → LeavesRoom m s s″ n r r″
-  leaves-leaves g f = leaving (left f and-then left g) (omega arith)
-
-  pub takes-leaves : {m k : ℕ} → TakesRoom k s′ s″ n r′ r″ → LeavesRoom (m + k) s s′ n r r′ → LeavesRoom m s s″ n r r″
-  takes-leaves g f = leaving (left f and-then taken g) (omega arith)
-
-  pub leaves-after : {m k : ℕ} → LeavesRoom k s′ s″ n r′ r″ → leb m k ≡ true → TakesRoom (k - m) s s′ n r r′ → LeavesRoom m s s″ n r r″
-  leaves-after {m} {k} g h f = leaving (taken f and-then left g) (omega (arith, leb-true m k h))
-
-  pub leaves-takes : {m k : ℕ} → LeavesRoom k s′ s″ n r′ r″ → TakesRoom (m + k) s s′ n r r′ → TakesRoom m s s″ n r r″
-  leaves-takes g f = taking (taken f and-then left g) (omega arith)
-
-  pub takes-takes : {m k : ℕ} → TakesRoom k s′ s″ n r′ r″ → leb k m ≡ true → TakesRoom (m - k) s s′ n r r′ → TakesRoom m s s″ n r r″
-  takes-takes {m} {k} g h f = taking (taken f and-then taken g) (omega (arith, leb-true k m h))
-
-  pub takes-after : {m k : ℕ} → TakesRoom k s′ s″ n r′ r″ → leb m k ≡ true → LeavesRoom (k - m) s s′ n r r′ → TakesRoom m s s″ n r r″
-  takes-after {m} {k} g h f = taking (left f and-then taken g) (omega (arith, leb-true m k h))
 
 module _ {j : ℕ} {s : List ℕ} {n : ℕ} {r : State} where
   pub ready-part : {m : ℕ} → Ready j s n r → leb m j ≡ true → Ready m s n r

@@ -6,8 +6,7 @@ use Rattle.tree.proofs.Symbols.{lies-still}
 use Rattle.tree.specs.Reads.{freeOf}
 use Rattle.tree.proofs.Programs.{function-here}
 use borrow.Author.Needs.{needs}
-use Rattle.tree.proofs.Rooms.{freed, size-small, takes-more, ready-leaves, ready-takes, ready-part, item-low}
-use Rattle.tree.proofs.Rooms.{leaves-leaves, leaves-after, leaves-takes}
+use Rattle.tree.proofs.Rooms.{freed, size-small, ready-leaves, ready-takes, ready-part, item-low, taken, room-left, _plus_}
 use Rattle.tree.proofs.Steps.{pair}
 use Rattle.tree.proofs.declarations.function.Statement.{statement}
 use Rattle.tree.proofs.declarations.function.Tie as tie
@@ -31,10 +30,12 @@ cast-function-body c =
     let after-parameters = after-free-of3 .before .before .before .before in
     let after-a-name = after-parameters .before .before .before .before .before .before in
     let start = after-a-name .before .before .before .before .before .before .before .before .before .before .before in
-    let small = size-small _ (after-minus .minus .ensures) (after-free-of3 .free-of3 .ensures)
-    (ready-leaves (after-parameters .parameters .ensures .0) (after-parameters .parameters .kept .0) refl
-    (parameters-requires (after-parameters .before) (start .κs))) in
-    omega arith
+    omega (
+      arith,
+      size-small _ (after-minus .minus .ensures) (after-free-of3 .free-of3 .ensures)
+          (ready-leaves (after-parameters .parameters .ensures .0) (after-parameters .parameters .kept .0) refl
+          (parameters-requires (after-parameters .before) (start .κs))),
+    )
 
 function-body-requires : tie.Need-function-body-requires
 function-body-requires c κs =
@@ -69,17 +70,14 @@ returns c =
     let after-expect = after-parameters .before .before in let after-a-name = after-expect .before .before .before .before in
     let after-free-of2 = after-a-name .before .before in let after-begin-item = after-free-of2 .before .before .before .before in
     let after-free-of = after-begin-item .before .before in let start = after-free-of .before .before .before in
-    pair (leaves-leaves (after-set-size .set-size .ensures .0)
-    (leaves-leaves (after-function-body .function-body .ensures .0)
-    (leaves-leaves (after-parameters .parameters .ensures .0)
-    (leaves-after (after-expect .expect .ensures .0) refl
-    (leaves-takes (after-a-name .a-name .ensures .0) (takes-more (after-begin-item .begin-item .ensures .0) refl))))))
-    (λ src l. (let l₁ = lies-still l (after-begin-item .begin-item .ensures .0 .kept) in let l₂ = lies-still l₁
-    (after-a-name .a-name .ensures .0 .kept) in let l₄ = lies-still l₂ (after-parameters .parameters .ensures .0 .kept) in let e
-    = after-parameters .parameters .kept .0 ∙ after-a-name .a-name .kept .0 ∙ after-begin-item .begin-item .kept .0 in function-here src _
-    (after-free-of .free-of .ensures) (low (start .pre)) (after-begin-item .begin-item .ensures .1)
-    (freed _ (after-free-of2 .free-of2 .ensures) (after-begin-item .begin-item .kept .0))
-    (after-a-name .a-name .ensures .1 src l₁) (after-expect .expect .ensures .1 src l₂) (after-parameters .parameters .ensures .1 src l₂)
+    pair (room-left (taken (after-begin-item .begin-item .ensures .0) plus (after-a-name .a-name .ensures .0) plus (after-expect .expect .ensures .0)
+    plus (after-parameters .parameters .ensures .0) plus (after-function-body .function-body .ensures .0) plus (after-set-size .set-size .ensures .0))
+    refl) (λ src l. (let l₁ = lies-still l (after-begin-item .begin-item .ensures .0 .kept) in
+    let l₂ = lies-still l₁ (after-a-name .a-name .ensures .0 .kept) in let l₄ = lies-still l₂ (after-parameters .parameters .ensures .0 .kept) in
+    let e = after-parameters .parameters .kept .0 ∙ after-a-name .a-name .kept .0 ∙ after-begin-item .begin-item .kept .0 in
+    function-here src _ (after-free-of .free-of .ensures) (low (start .pre)) (after-begin-item .begin-item .ensures .1)
+    (freed _ (after-free-of2 .free-of2 .ensures) (after-begin-item .begin-item .kept .0)) (after-a-name .a-name .ensures .1 src l₁)
+    (after-expect .expect .ensures .1 src l₂) (after-parameters .parameters .ensures .1 src l₂)
     (omega (
       arith,
       after-minus .minus .ensures,

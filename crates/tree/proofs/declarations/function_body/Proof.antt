@@ -2,7 +2,7 @@ use mathlib.Core.Path.{refl}
 use Rattle.tree.proofs.Steps.{goes-on, adds-on, _then_, pair}
 use Rattle.tree.proofs.Programs.{body-value, body-routine}
 use borrow.Author.Needs.{needs}
-use Rattle.tree.proofs.Rooms.{leaves-less, ready-leaves, leaves-leaves, takes-leaves}
+use Rattle.tree.proofs.Rooms.{ready-leaves, left, room-left, _plus_, _less_}
 use Rattle.tree.proofs.declarations.function_body.Statement.{statement}
 use Rattle.tree.proofs.declarations.function_body.Tie as tie
 
@@ -17,10 +17,8 @@ returns : tie.Need-returns
 returns c =
     let after-node = c .before .before in let after-expr = after-node .before .before .before .before in
     let after-expect = after-expr .before .before in let after-if1 = after-expect .before .before in let after-kind-here = after-if1 .before in
-    pair (takes-leaves (after-node .node .ensures .0)
-    (leaves-leaves (after-expr .expr .ensures .0) (leaves-less (after-expect .expect .ensures .0) refl)))
-    (λ src l. (let a = after-expect .expect .ensures .1 src l in let b = after-expr .expr .ensures .1 src l in let d = after-node .node .ensures .1
-    in (
+    pair (room-left (left (after-expect .expect .ensures .0) plus (after-expr .expr .ensures .0) less (after-node .node .ensures .0)) refl)
+    (λ src l. (let a = after-expect .expect .ensures .1 src l in let b = after-expr .expr .ensures .1 src l in let d = after-node .node .ensures .1 in (
       goes-on a then goes-on b then adds-on d,
       λ name names e q. body-value src (after-kind-here .kind-here .ensures src l) _ _ name names e q
           (after-if1 .if1 .taken) a b d,
@@ -30,9 +28,9 @@ returns-2 : tie.Need-returns-2
 returns-2 c =
     let after-node2 = c .before .before in let after-cmd = after-node2 .before .before .before .before in
     let after-expect2 = after-cmd .before .before in let after-if1 = after-expect2 .before .before in let after-kind-here = after-if1 .before in
-    pair (takes-leaves (after-node2 .node2 .ensures .0) (leaves-leaves (after-cmd .cmd .ensures .0) (after-expect2 .expect2 .ensures .0)))
-    (λ src l. (let a = after-expect2 .expect2 .ensures .1 src l in let b = after-cmd .cmd .ensures .1 src l in let d = after-node2 .node2 .ensures .1
-    in (
+    pair (room-left (left (after-expect2 .expect2 .ensures .0) plus (after-cmd .cmd .ensures .0) less (after-node2 .node2 .ensures .0)) refl)
+    (λ src l. (let a = after-expect2 .expect2 .ensures .1 src l in let b = after-cmd .cmd .ensures .1 src l in
+    let d = after-node2 .node2 .ensures .1 in (
       goes-on a then goes-on b then adds-on d,
       λ name names e q. body-routine src (after-kind-here .kind-here .ensures src l) _ _ name names e q
           (after-if1 .if1 .left) a b d,

@@ -1,15 +1,16 @@
 use Rattle.tree.proofs.Symbols.{lies-still}
 use Rattle.tree.proofs.Programs.{functions-read}
 use borrow.Author.Needs.{needs}
-use Rattle.tree.proofs.Rooms.{leaves-leaves}
 use Rattle.tree.proofs.Steps.{pair}
+use Rattle.tree.proofs.Rooms.{left, room-left, _plus_}
+use mathlib.Core.Path.{refl}
 use Rattle.tree.proofs.declarations.functions.Statement.{statement}
 use Rattle.tree.proofs.declarations.functions.Tie as tie
 
 returns : tie.Need-returns
 returns c =
     let after-further-functions = c .before .before in let after-function = after-further-functions .before .before .before .before in
-    pair (leaves-leaves (after-further-functions .further-functions .ensures .0) (after-function .function .ensures .0))
+    pair (room-left (left (after-function .function .ensures .0) plus (after-further-functions .further-functions .ensures .0)) refl)
     (λ src l. functions-read src (l .count) (after-function .function .ensures .1 src l)
     (after-further-functions .further-functions .ensures .1 src (lies-still l (after-function .function .ensures .0 .kept))))
 

@@ -4,7 +4,7 @@ use Rattle.tree.proofs.Helpers.{low}
 use Rattle.tree.proofs.Symbols.{lies-still}
 use Rattle.tree.proofs.Programs.{item-here}
 use borrow.Author.Needs.{needs}
-use Rattle.tree.proofs.Rooms.{ready-leaves, ready-takes, leaves-leaves, leaves-after, leaves-takes, ready-part, item-low}
+use Rattle.tree.proofs.Rooms.{ready-leaves, ready-takes, ready-part, item-low, taken, room-left, _plus_}
 use Rattle.tree.proofs.Steps.{pair}
 use Rattle.tree.proofs.declarations.one_item.Statement.{statement}
 use Rattle.tree.proofs.declarations.one_item.Tie as tie
@@ -36,14 +36,13 @@ returns c =
     let after-expect = after-constant .before .before in let after-a-name = after-expect .before .before .before .before in
     let after-begin-item = after-a-name .before .before .before .before in let after-free-of = after-begin-item .before .before in
     let start = after-free-of .before .before .before in
-    pair (leaves-leaves (after-set-size .set-size .ensures .0)
-    (leaves-leaves (after-constant .constant .ensures .0)
-    (leaves-after (after-expect .expect .ensures .0) refl
-    (leaves-takes (after-a-name .a-name .ensures .0) (after-begin-item .begin-item .ensures .0)))))
-    (λ src l. (let l₁ = lies-still l (after-begin-item .begin-item .ensures .0 .kept) in let l₂ = lies-still l₁
-    (after-a-name .a-name .ensures .0 .kept) in item-here src _ _ (after-free-of .free-of .ensures) (low (start .pre .0))
-    (after-begin-item .begin-item .ensures .1) (after-a-name .a-name .ensures .1 src l₁) (after-expect .expect .ensures .1 src l₂)
-    (after-constant .constant .ensures .1 src l₂) (after-set-size .set-size .ensures .1)))
+    pair (room-left (taken (after-begin-item .begin-item .ensures .0) plus (after-a-name .a-name .ensures .0) plus (after-expect .expect .ensures .0)
+    plus (after-constant .constant .ensures .0) plus (after-set-size .set-size .ensures .0)) refl)
+    (λ src l. (let l₁ = lies-still l (after-begin-item .begin-item .ensures .0 .kept) in
+    let l₂ = lies-still l₁ (after-a-name .a-name .ensures .0 .kept) in
+    item-here src _ _ (after-free-of .free-of .ensures) (low (start .pre .0)) (after-begin-item .begin-item .ensures .1)
+    (after-a-name .a-name .ensures .1 src l₁) (after-expect .expect .ensures .1 src l₂) (after-constant .constant .ensures .1 src l₂)
+    (after-set-size .set-size .ensures .1)))
 
 pub one-item-spec : {M : Type 1} → statement M
 one-item-spec =

@@ -1,9 +1,9 @@
 use Rattle.tree.proofs.Symbols.{lies-still}
 use Rattle.tree.proofs.Programs.{no-parameters, some-parameters}
 use borrow.Author.Needs.{needs}
-use Rattle.tree.proofs.Rooms.{leaves-less, leaves-leaves}
 use Rattle.tree.proofs.Steps.{pair}
 use mathlib.Core.Path.{refl}
+use Rattle.tree.proofs.Rooms.{left, room-left, _plus_}
 use Rattle.tree.proofs.declarations.parameters.Statement.{statement}
 use Rattle.tree.proofs.declarations.parameters.Tie as tie
 
@@ -11,12 +11,11 @@ returns-2 : tie.Need-returns-2
 returns-2 c =
     let after-further-names = c .before .before .before .before in let after-a-name = after-further-names .before .before .before .before in
     let after-if1 = after-a-name .before .before in let after-kind-here = after-if1 .before in
-    pair (leaves-leaves (c .expect2 .ensures .0)
-    (leaves-leaves (after-further-names .further-names .ensures .0) (leaves-less (after-a-name .a-name .ensures .0) refl)))
-    (λ src l. (let l₁ = lies-still l (after-a-name .a-name .ensures .0 .kept) in let l₂ = lies-still l₁
-    (after-further-names .further-names .ensures .0 .kept) in some-parameters src (after-kind-here .kind-here .ensures src l) (l .count)
-    (after-if1 .if1 .left) (after-a-name .a-name .ensures .1 src l) (after-further-names .further-names .ensures .1 src l₁)
-    (c .expect2 .ensures .1 src l₂)))
+    pair (room-left (left (after-a-name .a-name .ensures .0) plus (after-further-names .further-names .ensures .0) plus (c .expect2 .ensures .0))
+    refl) (λ src l. (let l₁ = lies-still l (after-a-name .a-name .ensures .0 .kept) in
+    let l₂ = lies-still l₁ (after-further-names .further-names .ensures .0 .kept) in
+    some-parameters src (after-kind-here .kind-here .ensures src l) (l .count) (after-if1 .if1 .left) (after-a-name .a-name .ensures .1 src l)
+    (after-further-names .further-names .ensures .1 src l₁) (c .expect2 .ensures .1 src l₂)))
 
 pub parameters-spec : {M : Type 1} → statement M
 parameters-spec =

@@ -1,8 +1,9 @@
 use Rattle.tree.proofs.Symbols.{lies-still}
 use Rattle.tree.proofs.Programs.{program-read, program-refused}
 use borrow.Author.Needs.{needs}
-use Rattle.tree.proofs.Rooms.{leaves-leaves}
 use Rattle.tree.proofs.Steps.{pair}
+use Rattle.tree.proofs.Rooms.{left, room-left, _plus_}
+use mathlib.Core.Path.{refl}
 use Rattle.tree.proofs.declarations.program.Statement.{statement}
 use Rattle.tree.proofs.declarations.program.Tie as tie
 
@@ -17,7 +18,7 @@ returns-2 : tie.Need-returns-2
 returns-2 c =
     let after-if1 = c .before .before in let after-kind-here = after-if1 .before in
     let after-declarations = after-kind-here .before .before .before .before in
-    pair (leaves-leaves (c .refuse .ensures .0) (after-declarations .declarations .ensures .0))
+    pair (room-left (left (after-declarations .declarations .ensures .0) plus (c .refuse .ensures .0)) refl)
     (λ src l. program-refused src (l .count) (after-kind-here .kind-here .ensures src
     (lies-still l (after-declarations .declarations .ensures .0 .kept))) (after-declarations .declarations .ensures .1 src l) (after-if1 .if1 .left)
     (c .refuse .ensures .1))

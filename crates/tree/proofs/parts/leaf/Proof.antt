@@ -1,7 +1,8 @@
 use Rattle.tree.proofs.Leaves.{leaf-read}
 use borrow.Author.Needs.{needs}
-use Rattle.tree.proofs.Rooms.{takes-leaves}
 use Rattle.tree.proofs.Steps.{pair}
+use Rattle.tree.proofs.Rooms.{left, room-left, _less_}
+use mathlib.Core.Path.{refl}
 use Rattle.tree.proofs.parts.leaf.Statement.{statement}
 use Rattle.tree.proofs.parts.leaf.Tie as tie
 
@@ -9,7 +10,7 @@ returns : tie.Need-returns
 returns c =
     let after-node = c .before .before in let after-free-of = after-node .before .before in let after-expect = after-free-of .before .before in
     let after-place-here = after-expect .before .before in let start = after-place-here .before .before .before in
-    pair (takes-leaves (after-node .node .ensures .0) (after-expect .expect .ensures .0))
+    pair (room-left (left (after-expect .expect .ensures .0) less (after-node .node .ensures .0)) refl)
     (λ src l. leaf-read l _ (after-place-here .place-here .ensures src l) (start .pre .1) (after-expect .expect .ensures .1 src l)
     (after-free-of .free-of .ensures) (after-node .node .ensures .1))
 

@@ -1,8 +1,8 @@
 use Rattle.tree.proofs.Constants.{negated-name-read}
 use borrow.Author.Needs.{needs}
-use Rattle.tree.proofs.Rooms.{takes-after}
 use Rattle.tree.proofs.Steps.{pair}
 use mathlib.Core.Path.{refl}
+use Rattle.tree.proofs.Rooms.{left, room-taken, _less_}
 use Rattle.tree.proofs.parts.negated_name.Statement.{statement}
 use Rattle.tree.proofs.parts.negated_name.Tie as tie
 
@@ -10,7 +10,7 @@ returns : tie.Need-returns
 returns c =
     let after-node = c .before .before in let after-leaf = after-node .before .before .before .before in
     let after-free-of = after-leaf .before .before in
-    pair (takes-after (after-node .node .ensures .0) refl (after-leaf .leaf .ensures .0))
+    pair (room-taken (left (after-leaf .leaf .ensures .0) less (after-node .node .ensures .0)) refl)
     (λ src l. negated-name-read _ (after-free-of .free-of .ensures) (after-leaf .leaf .ensures .1 src l) (after-node .node .ensures .1))
 
 pub negated-name-spec : {M : Type 1} → statement M

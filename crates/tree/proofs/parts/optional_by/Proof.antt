@@ -1,6 +1,6 @@
 use Rattle.tree.proofs.Names.{by-read, no-by}
 use borrow.Author.Needs.{needs}
-use Rattle.tree.proofs.Rooms.{leaves-less, leaves-leaves, leaves-all}
+use Rattle.tree.proofs.Rooms.{leaves-all, left, room-left, _plus_}
 use Rattle.tree.proofs.Steps.{pair}
 use mathlib.Core.Path.{refl}
 use Rattle.tree.proofs.parts.optional_by.Statement.{statement}
@@ -10,7 +10,7 @@ returns : tie.Need-returns
 returns c =
     let after-constant = c .before .before in let after-expect = after-constant .before .before in let after-if1 = after-expect .before .before in
     let after-kind-here = after-if1 .before in
-    pair (leaves-leaves (after-constant .constant .ensures .0) (leaves-less (after-expect .expect .ensures .0) refl))
+    pair (room-left (left (after-expect .expect .ensures .0) plus (after-constant .constant .ensures .0)) refl)
     (λ src l. by-read src _ (after-kind-here .kind-here .ensures src l) (after-if1 .if1 .taken) (after-expect .expect .ensures .1 src l)
     (after-constant .constant .ensures .1 src l))
 
