@@ -18,7 +18,8 @@ returns c =
     let after-node = c .before .before in let after-expr = after-node .before .before .before .before in
     let after-expect = after-expr .before .before in let after-if1 = after-expect .before .before in let after-kind-here = after-if1 .before in
     pair (room-left (left (after-expect .expect .ensures .0) plus (after-expr .expr .ensures .0) less (after-node .node .ensures .0)) refl)
-    (λ src l. (let a = after-expect .expect .ensures .1 src l in let b = after-expr .expr .ensures .1 src l in let d = after-node .node .ensures .1 in (
+    (λ src l. (let a = after-expect .expect .ensures .1 src l in let b = after-expr .expr .ensures .1 src l in
+    let d = after-node .node .ensures .1 in (
       goes-on a then goes-on b then adds-on d,
       λ name names e q. body-value src (after-kind-here .kind-here .ensures src l) _ _ name names e q
           (after-if1 .if1 .taken) a b d,

@@ -1,11 +1,10 @@
 use Rattle.tree.proofs.Steps.{goes-on, adds-on, _then_, pair}
 use native.Mathlib.Omega.{arith}
-use mathlib.Core.Path.{refl, ap, _∙_}
+use mathlib.Core.Path.{refl}
 use Rattle.tree.proofs.Helpers.{low}
 use Rattle.tree.proofs.Lets.{vector-read}
 use borrow.Author.Needs.{needs}
-use Rattle.tree.proofs.Rooms.{ready-leaves, left, room-left, _plus_, _less_}
-use Prim.Native.Nat.{ℕ, _-_}
+use Rattle.tree.proofs.Rooms.{measured, ready-leaves, left, room-left, _plus_, _less_}
 use Rattle.tree.proofs.parts.vector.Statement.{statement}
 use Rattle.tree.proofs.parts.vector.Tie as tie
 
@@ -26,13 +25,12 @@ returns : tie.Need-returns
 returns c =
     let after-node = c .before .before in let after-constant = after-node .before .before .before .before in
     let after-expect = after-constant .before .before in let after-minus = after-expect .before .before in let after-free-of = after-minus .before in
-    let start = after-free-of .before .before .before in
     pair (room-left (left (after-expect .expect .ensures .0) plus (after-constant .constant .ensures .0) less (after-node .node .ensures .0)) refl)
     (λ src l. (
       goes-on (after-expect .expect .ensures .1 src l) then goes-on (after-constant .constant .ensures .1 src l) then adds-on
           (after-node .node .ensures .1),
       λ name q. vector-read src _ _ name _ q
-          (after-minus .minus .ensures ∙ ap (λ (z : ℕ). z - start .args .start) (after-free-of .free-of .ensures)) (after-expect .expect .ensures .1 src l)
+          (measured _ _ (after-minus .minus .ensures) (after-free-of .free-of .ensures) refl) (after-expect .expect .ensures .1 src l)
           (after-constant .constant .ensures .1 src l) (after-node .node .ensures .1),
     ))
 
