@@ -25,7 +25,7 @@ use Rattle.language.specs.Faults.{unlessSide, inExpression, inSuffixes}
 use Rattle.tree.specs.Encoding as O
 use Rattle.tree.specs.Encoding.{encode, encodeSuffixes}
 use Rattle.compiler.specs.Scope.{code, found, named, nameAt, Looked}
-use Rattle.compiler.proofs.Scoping.{keeps-all, keeps-then, code-not}
+use Rattle.compiler.proofs.Scoping.{keeps-all, keeps-then, code-not, Order, lt, ge, order}
 use Rattle.compiler.specs.declared.steps.State.{State}
 use Rattle.compiler.specs.declared.steps.Here.{Here}
 use Rattle.compiler.specs.declared.steps.Node.{Node}
@@ -39,7 +39,7 @@ use Rattle.compiler.proofs.Done.{emits-did, did-emit, did-put, did-afte
 use Rattle.compiler.proofs.Trees.{IsTwo, Case, aMonadic, find, is-bracket, is-name, value-is, place-is}
 use Rattle.compiler.proofs.Parts.{sub}
 use Rattle.compiler.proofs.Expressions.{bracket-part}
-use Rattle.compiler.proofs.Calls.{IsLast, index-faults, index-means, Last, aCall, anIndex, last, snocCall, snocIndex, is-index, the-last}
+use Rattle.compiler.proofs.Calls.{IsLast, index-faults, index-means, Last, aCall, anIndex, last, snoc, is-index, the-last, no-suffix}
 use Rattle.compiler.proofs.Calls.{index-left, index-right, applied-lies, applied-ends, suffixed-is, suffixed-part, suffixed-middle, with-state}
 use Rattle.compiler.proofs.Guards.{IsClosed, expression-closed, kind-of, shut}
 
@@ -390,11 +390,11 @@ module _ (text : List ℕ) {s t t′ : List ℕ} {end : ℕ} (place : ℕ) {here
 -- ---- the last suffix is an index
 
 index-tag : {s : List ℕ} {m end tag : ℕ} {ss : Suffixes} → Last s m end ss tag → endsInCall false ss ≡ false → tag ≡ 49
-unfolding endsInCall snocCall
+unfolding endsInCall snoc
 index-tag (anIndex u) e = refl
 index-tag (aCall u) e = absurd (no (u .init) (u .part) false (subst (λ (x : Suffixes). endsInCall false x ≡ false) (u .same) e))
   where
-    no : (ss : Suffixes) (es : Expressions) (b : Bool) → endsInCall b (snocCall ss es) ≡ false → ⊥
+    no : (ss : Suffixes) (es : Expressions) (b : Bool) → endsInCall b (snoc (T.call es) ss) ≡ false → ⊥
     no T.noSuffixes es b q = let z : _≡_ {A = ℕ} 0 1 = cc in omega arith
     no (T.call ds ss) es b q = no ss es true q
     no (T.index d ss) es b q = no ss es false q
@@ -405,14 +405,11 @@ index-of true n = absurd (omega arith)
 index-of false n = refl
 
 some-suffix : (ss : Suffixes) → (ss ≡ T.noSuffixes → ⊥) → 0 < length (encodeSuffixes ss)
-unfolding encodeSuffixes
-some-suffix T.noSuffixes n = absurd (n refl)
-some-suffix (T.call es ss) n =
-    let x = O.encodeExpressions es in
-    omega (arith, length-append (x ++ (length x ∷ 51 ∷ [])) (encodeSuffixes ss), length-append x (length x ∷ 51 ∷ []))
-some-suffix (T.index e ss) n =
-    let x = encode e in
-    omega (arith, length-append (x ++ (length x ∷ 49 ∷ [])) (encodeSuffixes ss), length-append x (length x ∷ 49 ∷ []))
+some-suffix ss n = by (order 0 (length (encodeSuffixes ss)))
+  where
+    by : Order 0 (length (encodeSuffixes ss)) → 0 < length (encodeSuffixes ss)
+    by (lt l) = l
+    by (ge l) = absurd (n (no-suffix ss (omega arith)))
 
 module _ {s : List ℕ} {end : ℕ} {here : Here} {st : State} (n : Node) (nd : NodeAt s end n) (q : IndexKind s end) {middle : ℕ}
     (m : middle ≡ n .start + n .value) where
@@ -445,7 +442,7 @@ module _ {s : List ℕ} {end : ℕ} {here : Here} {st : State} (n : Node) (nd : 
       index-tag (last (u .list) (applied-lies Y) (applied-ends Y) (indexed-some y)) (index-of (endsInCall false (u .list)) k)
 
   module _ {inner size start : ℕ} (ei : inner ≡ n .inner - 2) (ez : size ≡ getD s inner 0) (es : start ≡ inner - size) where
-    abbrev pub last-index : (y : ReadyE s end here st) → IsLast encode snocIndex s middle (n .inner) (indexed-is y .list)
+    abbrev pub last-index : (y : ReadyE s end here st) → IsLast encode T.index s middle (n .inner) (indexed-is y .list)
     last-index y = is-index (indexed-tag y) (the-last (indexed-some y) refl refl ei ez es (indexed-part y))
 
     abbrev pub address-left : ReadyE s end here st → ReadySuffixes s middle start (inside here) st
@@ -464,7 +461,7 @@ module _ {s : List ℕ} {end : ℕ} {here : Here} {st : State} (n : Node) (nd : 
             let U = indexed-is y in let Y = indexed-part y in let sc = y .scope in let h = here .height in let p = U .left in let u = last-index y in
             let x = g .by (address-left y) in let w = g₂ .by (address-right y) in let L = leavable here in
             let A = suffixes text sc h (expression text sc (under (u .init) h) p) (u .init) in let B = expression text sc (h + 1) (u .part) in
-            let ef = index-faults text sc L h p (u .init) (u .part) (u .same) in let er = index-means text sc h p (u .init) (u .part) (u .same) in
+            let ef = index-faults text sc h p (u .init) (u .part) (u .same) L in let er = index-means text sc h p (u .init) (u .part) (u .same) in
             let E = suffixes text sc h (expression text sc (under (U .list) h) p) (U .list) in
             subst (λ (e : Expression). Result (inExpression text sc L h e ++ unlessSide place (sideOf (expression text sc h e)))
             (exprSays here (addressOf (sideOf (expression text sc h e)))) (length (encode (y .tree))) (y .base) here s s₂ t t₄ st d) (sym (U .same))
@@ -596,7 +593,7 @@ module _ {s : List ℕ} {end : ℕ} {here : Here} {st : State} (n : Node) (nd : 
               let h = here .height in let k = h + 1 in let p = U .left in let u = last-index n nd q m ei ez es y₀ in let x = g .by (side-left y) in
               let w = g₂ .by (side-right y) in let L = leavable here in let kk : k + 1 ≡ h + 2 = omega arith in
               let A = suffixes text sc k (expression text sc (under (u .init) k) p) (u .init) in let B = expression text sc (k + 1) (u .part) in
-              let ef = index-faults text sc L k p (u .init) (u .part) (u .same) in let er = index-means text sc k p (u .init) (u .part) (u .same) in
+              let ef = index-faults text sc k p (u .init) (u .part) (u .same) L in let er = index-means text sc k p (u .init) (u .part) (u .same) in
               let E = suffixes text sc k (expression text sc (under (U .list) k) p) (U .list) in let Z = G.AIP k ∷ G.SP k ∷ G.LIP h ∷ G.SIP k ∷ [] in
               subst (λ (e : Expression). Result (inExpression text sc L k e ++ unlessSide place (sideOf (expression text sc k e)))
               (targetSays here (targetOf (sideOf (expression text sc k e)))) (length (encode (y .tree))) (y .base) (raised 1 here) s s₂ t t₄ st d)
