@@ -67,10 +67,10 @@ functions-counted text w [] = refl
 functions-counted text w (T.globals is ∷ p) = functions-counted text (afterDeclaration text w (T.globals is)) p
 functions-counted text w (T.manifests is ∷ p) = functions-counted text (afterDeclaration text w (T.manifests is)) p
 functions-counted text w (T.functions fs ∷ p) =
-    let more = afterDeclaration text w (T.functions fs) in
-    let here = groupOf text (w .functions) (w .scope) (functionsAfter text (w .functions) (w .scope) fs) fs in
-    let l : length here ≡ length fs = group-length 0 0 text (w .functions) (w .scope) (functionsAfter text (w .functions) (w .scope) fs) fs in
-    omega (arith, length-append here (functionsFrom text more p), l, functions-counted text more p)
+    let more = afterDeclaration text w (T.functions fs) in let here = groupOf text (w .functions) (w .scope) (functionsAfter text (w .functions)
+    (w .scope) fs) fs in let l : length here ≡ length fs = group-length 0 0 text (w .functions) (w .scope) (functionsAfter text (w .functions)
+    (w .scope) fs) fs in
+    omega (arith, length-append here (functionsFrom text more p), functions-counted text more p)
 
 few-in-group : (fs : List Function) → length fs ≤ length (encodeFunctions fs)
 unfolding encodeFunctions
@@ -174,7 +174,7 @@ module _ {source : List ℕ} (s : List ℕ) {front : List ℕ} {a : SymbolsRead}
   room = length source * 3
 
   part : length (take room s) ≡ room
-  part = length-take-le room s (omega (arith, l .asked))
+  part = length-take-le room s (omega arith)
 
   again : front ≡ padded room (entries ss)
   again = symbols-left (l .short) (omega (arith, part)) r (good ss) e ∙ ap (λ (n : ℕ). padded n (entries ss)) part
@@ -187,17 +187,15 @@ module _ {source : List ℕ} (s : List ℕ) {front : List ℕ} {a : SymbolsRead}
   again-clean : {used : ℕ} → count * 3 ≤ used → Clean used s → Clean used (front ++ drop room s)
   again-clean h c =
       let long : length (entries ss) ≤ room = omega (arith, entries-size ss, few-good source ss e) in
-      clean-front room (ap length again ∙ padded-long (entries ss) room long)
-      (padded-clean (entries ss) room again (omega (arith, entries-size ss, k))) c
+      clean-front room (ap length again ∙ padded-long (entries ss) room long) (padded-clean (entries ss) room again (omega (arith, entries-size ss)))
+      c
 
 pub strings-gave : {source s front t t′ : List ℕ} {a : SymbolsRead} {count names first at x : ℕ} → Lent source (length s)
     → Reads source (take (length source * 3) s) a front → WritesStrings source (front ++ drop (length source * 3) s) count first at x t t′
     → AllStrings source s (front ++ drop (length source * 3) s) count names first at x t t′
 strings-gave {source} {s} {front} {t} {t′} {a} {count} {names} {first} {at} {x} l r w = record {
   clean = record { by = λ ss e k h c. again-clean s l r ss e k h c };
-  by = λ ss e k n.
-      subst (λ (xs : List Symbol). AllEnd source xs → Puts (lines (stringsCode first (stringsAmong source xs))) at x t t′)
-      (again-decoded s l r ss e k) (w .by) (strings-end source ss e);
+  by = λ ss e k n. rw (again-decoded s l r ss e k) at (w .by) (strings-end source ss e);
 }
 
 pub behind-gave : {source s s′ table t t₁ t₂ t₃ : List ℕ} {count names functions at x y z : ℕ}
@@ -205,10 +203,9 @@ pub behind-gave : {source s s′ table t t₁ t₂ t₃ : List ℕ} {count names
     → Behind source s s′ count names functions table at z t t₃
 behind-gave {source} {s} {s′} {table} {t} {t₁} {t₂} {t₃} {count} {names} {functions} {at} {x} {y} {z} w v c = record {
   clean = w .clean;
-  by = λ ss fs e k n long few start.
-      let shifted = subst (λ (m : ℕ). Puts (lines (stringsCode m (stringsAmong source ss))) at x t t₁) (add-one functions) (w .by ss e k n) in
-      puts-as (puts-then (puts-then shifted (v .by fs long few start)) c)
-      (ap (λ (u : List ℕ). u ++ (90 ∷ 10 ∷ [])) (lines-then (stringsCode (suc functions) (stringsAmong source ss)) (startsCode 1 fs)));
+  by = λ ss fs e k n long few start. let shifted = rw (add-one functions) at (w .by ss e k n) in
+      puts-as (puts-then (puts-then shifted (v .by fs long few start)) c) (ap (λ (u : List ℕ). u ++ (90 ∷ 10 ∷ []))
+      (lines-then (stringsCode (suc functions) (stringsAmong source ss)) (startsCode 1 fs)));
 }
 
 -- what is accepted has no faults, and room
@@ -234,7 +231,7 @@ module _ {source s : List ℕ} {count end : ℕ} (y : ReadyTree source s count e
   ns = functionsFrom source begin p
 
   size : length (entries (y .symbols)) ≡ count * 3
-  size = omega (arith, entries-size (y .symbols), y .counts)
+  size = omega (arith, entries-size (y .symbols))
 
   pub lies : Lies s (count * 3) (encodeProgram p)
   lies = record {
@@ -252,14 +249,14 @@ module _ {source s : List ℕ} {count end : ℕ} (y : ReadyTree source s count e
       ∙ (ap (decoded (length (y .symbols))) (y .stand ∙ append-assoc (entries (y .symbols)) (encodeProgram p) _) ∙ decoded-entries (y .symbols) _)
 
   pub end-inside : {k : ℕ} → k ≡ length s → end ≤ k
-  end-inside e = omega (arith, y .room, y .counts, few-good source (y .symbols) (y .reads), y .lent .asked)
+  end-inside e = omega (arith, few-good source (y .symbols) (y .reads))
 
   clean-at-end : Clean end s
   clean-at-end = padded-clean (entries (y .symbols) ++ encodeProgram p) (length s) (y .stand)
-      (omega (arith, length-append (entries (y .symbols)) (encodeProgram p), size, y .ends))
+      (omega (arith, length-append (entries (y .symbols)) (encodeProgram p), size))
 
   pub few-symbols : count ≤ 16384
-  few-symbols = omega (arith, y .counts, few-good source (y .symbols) (y .reads), y .lent .short)
+  few-symbols = omega (arith, few-good source (y .symbols) (y .reads))
 
   symbols-now : y .symbols ≡ symbolsNow source
   unfolding symbolsOf
@@ -273,12 +270,12 @@ module _ {source s : List ℕ} {count end : ℕ} (y : ReadyTree source s count e
   tree-now = ap (λ (z : List Symbol). treeOf (record { symbols = z; size = length source })) (sym symbols-now) ∙ y .parses
 
   few-scanned : length (scan source .symbols) ≤ 16384
-  few-scanned = omega (arith, scan-length source, y .lent .short)
+  few-scanned = omega (arith, scan-length source)
 
   -- as language's `counts`, in a text of any number of strings up to STRINGS
   counted : Counts 1 (sourceNow source) STRINGS (λ at. cost 1 (take at (symbolsNow source)))
   counted =
-      let k = counts 1 (omega arith) source (omega (arith, y .lent .short)) (omega (arith, cost-length (scan source .symbols), few-scanned)) in
+      let k = counts 1 (omega arith) source (omega arith) (omega (arith, cost-length (scan source .symbols), few-scanned)) in
       record {
         up = k .up;
         one = k .one;
@@ -286,7 +283,7 @@ module _ {source s : List ℕ} {count end : ℕ} (y : ReadyTree source s count e
         most = k .most;
         numbers = k .numbers;
         names = k .names;
-        quotes = λ at e. omega (arith, k .quotes at e, few-strings source (symbolsNow source), ap length symbols-now, y .counts, few-symbols);
+        quotes = λ at e. omega (arith, k .quotes at e, few-strings source (symbolsNow source), ap length symbols-now, few-symbols);
       }
 
   fine : FineDs p
@@ -310,10 +307,10 @@ module _ {source s : List ℕ} {count end : ℕ} (y : ReadyTree source s count e
     n = cn ∙ (ap stringCount symbols-are ∙ string-count-is source (y .symbols))
 
     few-in-all : functions ≤ 81920
-    few-in-all = omega (arith, f, functions-counted source begin p, few-functions p, y .ends, y .room, few-symbols)
+    few-in-all = omega (arith, f, functions-counted source begin p, few-functions p, few-symbols)
 
     few-names : names ≤ 16384
-    few-names = omega (arith, n, few-strings source (y .symbols), y .counts, few-symbols)
+    few-names = omega (arith, n, few-strings source (y .symbols), few-symbols)
 
     pub few-labels : functions + 1 + names ≤ 98305
     few-labels = omega (arith, few-in-all, few-names)
@@ -328,11 +325,11 @@ module _ {source s : List ℕ} {count end : ℕ} (y : ReadyTree source s count e
       program = p;
       lies = lies;
       ends = y .ends;
-      long = omega (arith, y .lent .asked, few-good source (y .symbols) (y .reads), y .counts);
-      small = omega (arith, y .room, few-symbols);
-      room = omega (arith, y .ends, y .room);
-      height = omega (arith, y .ends, y .room, few-symbols);
-      label = omega (arith, y .ends, y .room, few-symbols, few-in-all, few-names);
+      long = omega (arith, few-good source (y .symbols) (y .reads));
+      small = omega (arith, few-symbols);
+      room = omega arith;
+      height = omega (arith, few-symbols);
+      label = omega (arith, few-symbols, few-in-all, few-names);
       some = omega arith;
       names = omega (arith, few-in-all);
       shallow = shallow;
@@ -389,9 +386,9 @@ module _ {source s : List ℕ} {count end : ℕ} (y : ReadyTree source s count e
       -- the text is the generator's
       written : faultsFrom source begin p ≡ [] → Text t (textOf source) last t₃
       written e =
-          let x = o .by t [] (text-start t) in let y′ = w .did .clean e .text .by t (36 ∷ 10 ∷ []) x in
-          let z = b .by (y .symbols) (funs ns) (y .reads) (y .counts) n (w .long) (f ∙ sym (length-funs ns)) (w .starting e) in
-          subst (λ (out : List ℕ). Text t out last t₃) the-text (z .by t _ y′)
+          let x = o .by t [] (text-start t) in let y′ = w .did .clean e .text .by t (36 ∷ 10 ∷ []) x in let z = b .by (y .symbols) (funs ns)
+          (y .reads) (y .counts) n (w .long) (f ∙ sym (length-funs ns)) (w .starting e) in
+          rw the-text at (z .by t _ y′)
 
       answers : byKeys source (d′ .state .worst) (d′ .tall) (getD table′ 1 0) last (length t) ≡ answerOf source (decided source (length s) (length t))
       unfolding rulesRefuse faultsOfProgram functionsOf
@@ -416,8 +413,8 @@ module _ {source s : List ℕ} {count end : ℕ} (y : ReadyTree source s count e
               )
 
       clean-behind : Clean end s₂
-      clean-behind = b .clean .by (y .symbols) (y .reads) (y .counts) (omega (arith, y .ends))
-          (record { zeros = λ i h. w .keeps .above i (omega (arith, y .ends)) ∙ clean-at-end .zeros i h })
+      clean-behind = b .clean .by (y .symbols) (y .reads) (y .counts) (omega arith)
+          (record { zeros = λ i h. w .keeps .above i (omega arith) ∙ clean-at-end .zeros i h })
 
       pub translates : {start room : ℕ} {a : Compiled} {z : List ℕ} → start ≡ getD table′ 1 0 → room ≡ length t
           → a ≡ byKeys source (d′ .state .worst) (d′ .tall) start last room → length s₂ ≡ length s → z ≡ take 0 (take end s₂) ++ replicate

@@ -52,8 +52,8 @@ module _ (text : List ℕ) (l m : Leavable) (q : l .routine ≡ m .routine) wher
 module _ (text : List ℕ) (sc : Scope) (here : Here) (ways : Ways) (h : ℕ) {c : ℕ → Code} {k : ℕ} {t t′ : List ℕ} {st r : State} where
   pub with-ways : (e : Expression) → Did (inExpression text sc (leavable here) h e) c k t t′ st r
       → Did (inExpression text sc (leavableBy ways here) h e) c k t t′ st r
-  with-ways e d = subst (λ (f : List Fault). Did f c k t t′ st r) (any-expression text (leavable here) (leavableBy ways here) refl sc h e) d
+  with-ways e d = rw (any-expression text (leavable here) (leavableBy ways here) refl sc h e) at d
 
   pub all-with-ways : (es : Expressions) → Did (inExpressions text sc (leavable here) h es) c k t t′ st r
       → Did (inExpressions text sc (leavableBy ways here) h es) c k t t′ st r
-  all-with-ways es d = subst (λ (f : List Fault). Did f c k t t′ st r) (any-expressions text (leavable here) (leavableBy ways here) refl sc h es) d
+  all-with-ways es d = rw (any-expressions text (leavable here) (leavableBy ways here) refl sc h es) at d

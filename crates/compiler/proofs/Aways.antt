@@ -35,7 +35,7 @@ use Rattle.compiler.proofs.Forms.{Form, form-at}
 module _ {here : Here} {ways : Ways} {word place : ℕ} {t : List ℕ} {st r : State} where
   module _ {t′ : List ℕ} where
     at-word : {k : ℕ} → word ≡ k → GoesAway here ways k place t t′ st r → GoesAway here ways word place t t′ st r
-    at-word q g = subst (λ (k : ℕ). GoesAway here ways k place t t′ st r) (sym q) g
+    at-word q g = rw q g
 
     pub away-break : word ≡ K.BREAK → LeavesTo (ways .after) place t t′ st r → GoesAway here ways word place t t′ st r
     unfolding G.cmdCode ofCmd G.cmdLabels
@@ -99,14 +99,11 @@ pub away-gave : (text : List ℕ) (ways : Ways) {s t t′ : List ℕ} {end : ℕ
     → (n .kind ≡ O.CALLED → ⊥) → GoesAway here ways (n .kind) (n .place) t t′ st r → GaveU text s s end here ways t t′ st r
 unfolding inUnlabelled unlabelled
 away-gave text ways {s} {t} {t′} {end} {here} {st} {r} n nd a b c d e f g h i j l x = record {
-  by = λ y.
-      let u = is-leave (form-at n nd refl y) a b c d e f g h i j l in let sc = y .scope in
-      subst (λ (v : Unlabelled). Result (inUnlabelled text sc (leavableBy ways here) (here .height) v)
-      (cmdSays here ways (unlabelled text sc (here .height) v)) (length (encodeUnlabelled (y .tree))) (y .base) here s s t t′ st r) (sym (u .same))
+  by = λ y. let u = is-leave (form-at n nd refl y) a b c d e f g h i j l in let sc = y .scope in
+      rw (u .same)
       (record {
         keeps = keeps-all;
-        did = did-as _ _ (subst (λ (p : ℕ). GoesAway here ways (n .kind) p t t′ st r) (nd .place ∙ u .place-of) x .did) same-refl
-            (λ k v. refl) (omega arith);
+        did = did-as _ _ (rw (nd .place ∙ u .place-of) at x .did) same-refl (λ k v. refl) (omega arith);
       });
 }
 
@@ -127,7 +124,7 @@ module _ {s : List ℕ} {end : ℕ} {here : Here} {st : State} (n : Node) (nd : 
 
   pub call-deep : (y : ReadyU s end here st) → depth (call-is y .part) ≤ here .left
   unfolding unlabelledDepth
-  call-deep y = omega (arith, y .shallow, ap unlabelledDepth (call-is y .same))
+  call-deep y = omega (arith, ap unlabelledDepth (call-is y .same))
 
   pub call-fine : (y : ReadyU s end here st) → FineE (call-is y .part)
   unfolding FineUnlabelled
@@ -135,8 +132,8 @@ module _ {s : List ℕ} {end : ℕ} {here : Here} {st : State} (n : Node) (nd : 
 
   abbrev pub performed-part : ReadyU s end here st → ReadyE s end here st
   performed-part y = let u = call-is y in
-      sub encode depth FineE y keeps-all end (y .lo) here st (u .part) (u .lies) (u .ends) (omega arith) (omega arith) refl refl
-      (omega (arith, y .height, y .ends, u .ends)) (omega (arith, y .label, y .ends, u .ends)) (y .some) (call-deep y) (call-fine y)
+      sub encode depth FineE y keeps-all end (y .lo) here st (u .part) (u .lies) (u .ends) (omega arith) (omega arith) refl refl (omega arith)
+      (omega arith) (y .some) (call-deep y) (call-fine y)
 
   pub performed-gave : (text : List ℕ) (ways : Ways) {s₁ t t₁ : List ℕ} {r : State} → GaveE text s s₁ end here t t₁ st r
       → GaveU text s s₁ end here ways t t₁ st r
@@ -148,7 +145,6 @@ module _ {s : List ℕ} {end : ℕ} {here : Here} {st : State} (n : Node) (nd : 
         (length (encodeUnlabelled (y .tree))) (y .base) here s s₁ t t₁ st r) (sym (u .same))
         (record {
           keeps = x .keeps;
-          did = did-as _ _ (with-ways text sc here ways h (u .part) (x .did)) same-refl (λ k v. refl)
-              (omega (arith, y .ends, u .ends));
+          did = did-as _ _ (with-ways text sc here ways h (u .part) (x .did)) same-refl (λ k v. refl) (omega arith);
         });
   }

@@ -59,12 +59,12 @@ ready-as enc′ deep′ Fine′ {s} {end} {x} {st} z b q d f =
       long = z .long;
       small = z .small;
       shows = z .shows;
-      room = subst (λ (n : ℕ). x .top * 2 + n ≤ z .base * 2) l (z .room);
-      height = subst (λ (n : ℕ). x .height + 4100 * n ≤ 2 ^ 29) l (z .height);
-      label = subst (λ (n : ℕ). st .label + 2 * n ≤ 2 ^ 29) l (z .label);
+      room = rw l at (z .room);
+      height = rw l at (z .height);
+      label = rw l at (z .label);
       some = z .some;
       strings = z .strings;
-      shallow = subst (λ (n : ℕ). n ≤ x .left) d (z .shallow);
+      shallow = rw d at (z .shallow);
       fine = f;
     }
 
@@ -101,11 +101,7 @@ module _ {s : List ℕ} {end word : ℕ} {x : Here} {st : State} where
     pub gave-routine : (word ≡ K.EQUAL → ⊥) → GaveC text s s′ end x nowhere t t′ st r → GaveBody text s s′ end word x t t′ st r
     unfolding encodeBody G.bodyCode G.bodyLabels ready-routine
     gave-routine e g = record {
-      by = λ y.
-          let z = y .ready in let v = routine-is (z .tree) (λ k. e (y .word-is ∙ k)) in
-          let out : x .routine ≡ true = y .routine-is ∙ ap not (ne-eqb word K.EQUAL e) in
-          subst (Owed y text s′ t t′ r) (sym (v .same))
-          (subst (λ (k : Bool). Result (inCommand text (z .scope) (record { loop = false; switch = false; valof = false; routine = k }) (x .height)
-          (v .part)) (bodySays text x (z .scope) (T.routine (v .part))) (length (encodeCommand (v .part))) (z .base) x s s′ t t′ st r)
-          out (g .by (ready-routine e y)));
+      by = λ y. let z = y .ready in let v = routine-is (z .tree) (λ k. e (y .word-is ∙ k)) in let out : x .routine ≡ true = y .routine-is ∙ ap not
+          (ne-eqb word K.EQUAL e) in
+          subst (Owed y text s′ t t′ r) (sym (v .same)) (rw (← out) (g .by (ready-routine e y)));
     }

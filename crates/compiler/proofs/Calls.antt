@@ -92,8 +92,8 @@ module _ (text t₀ : List ℕ) {s₀ : List ℕ} {from end : ℕ} {here : Here}
   module _ (k : ℕ) {s t : List ℕ} {at size next : ℕ} {st : State} (l : at < end) (es : size ≡ getD s at 0) (en : next ≡ at + 2 + size) where
     abbrev pub args-part : (y : ReadyArgs s₀ from end here st₀) → ArgsPart y s t at k st → ReadyE s next (raised k here) st
     args-part y p = let z = y .ready in
-        ready-one z (y .starts) l es en p (raised k here) st refl refl refl (omega arith)
-        (omega (arith, z .label, p .label, rest-length z (y .starts) l es en p)) (p .some)
+        ready-one z (y .starts) l es en p (raised k here) st refl refl refl (omega arith) (omega (arith, rest-length z (y .starts) l es en p))
+        (p .some)
 
     pub args-next : {s₁ t₁ t₂ : List ℕ} {a r : State} → GaveE text s s₁ next (raised k here) t t₁ st a
         → Emits (G.SP (here .height + k) ∷ []) ((here .height + k + 1) ∷ []) t₁ t₂ a r
@@ -101,15 +101,12 @@ module _ (text t₀ : List ℕ) {s₀ : List ℕ} {from end : ℕ} {here : Here}
     unfolding inExpressions expressions exprsCode ofExprs exprsLabels
     args-next {t₂ = t₂} {r = r} g f y p =
         let z = y .ready in let u = item z (y .starts) l es en p in let x = g .by (args-part y p) in let sc = z .scope in let h = here .height + k in
-        let n = rest-length z (y .starts) l es en p in let E = expression text sc h (u .part) in
-        let e1 : here .height + (k + 1) ≡ h + 1 = omega arith in
-        goes-on z (y .starts) l es en p (x .keeps) (omega arith) (omega (arith, x .did .few, f .label))
-        (omega (arith, p .some, x .did .grows, f .label)) (λ t′ st′ d. did-as _ _ (did-then (did-emit (x .did) f) (subst
-        (λ (m : ℕ). Did (inExpressions text sc (leavable here) m (u .more)) (exprsSays (here .strings) m (expressions text sc m (u .more)))
-        (2 * length (encodeExpressions (u .more))) t₂ t′ r st′) e1 d)) same-refl
-        (λ n c. code-is (append-assoc (exprCode (here .strings) h n E) (G.SP h ∷ [])
-        (exprsCode (here .strings) (h + 1) (n + exprLabels E) (expressions text sc (h + 1) (u .more))))
-        (append-assoc (ofExpr h E) ((h + 1) ∷ []) (ofExprs (h + 1) (expressions text sc (h + 1) (u .more)))) refl) (omega arith))
+        let n = rest-length z (y .starts) l es en p in let E = expression text sc h (u .part) in let e1 : here .height + (k + 1) ≡ h + 1
+        = omega arith in
+        goes-on z (y .starts) l es en p (x .keeps) (omega arith) (omega arith) (omega arith)
+        (λ t′ st′ d. did-as _ _ (did-then (did-emit (x .did) f) (rw e1 at d)) same-refl (λ n c. code-is (append-assoc (exprCode (here .strings) h n E)
+        (G.SP h ∷ []) (exprsCode (here .strings) (h + 1) (n + exprLabels E) (expressions text sc (h + 1) (u .more)))) (append-assoc (ofExpr h E)
+        ((h + 1) ∷ []) (ofExprs (h + 1) (expressions text sc (h + 1) (u .more)))) refl) (omega arith))
 
   pub args-end : (k : ℕ) {s t : List ℕ} {at : ℕ} {st : State} → end ≤ at → ((y : ReadyArgs s₀ from end here st₀) → ArgsPart y s t at k st)
       → GaveArgs text s₀ s from end here t₀ t st₀ st
@@ -304,7 +301,7 @@ module _ {s : List ℕ} {middle end : ℕ} {here : Here} {st : State} where
   pub applied-ends : (y : ReadySuffixes s middle end here st) → end ≡ middle + length (encodeSuffixes (y .ready .tree .suffixes))
   applied-ends y =
       let a = y .ready .tree in
-      omega (arith, y .ready .ends, y .parts, length-append (encode (a .primary)) (encodeSuffixes (a .suffixes)))
+      omega (arith, length-append (encode (a .primary)) (encodeSuffixes (a .suffixes)))
 
   pub applied-lies : (y : ReadySuffixes s middle end here st) → Lies s middle (encodeSuffixes (y .ready .tree .suffixes))
   applied-lies y = let a = y .ready .tree in second (encode (a .primary)) (encodeSuffixes (a .suffixes)) middle (y .ready .lies) (y .parts)
@@ -312,8 +309,8 @@ module _ {s : List ℕ} {middle end : ℕ} {here : Here} {st : State} where
   abbrev pub primary-part : end ≤ middle → ReadySuffixes s middle end here st → ReadyE s middle here st
   primary-part l y = let z = y .ready in let a = z .tree in
       sub encode depth FineE z keeps-all middle (z .lo) here st (a .primary) (first (encode (a .primary)) (encodeSuffixes (a .suffixes)) (z .lies))
-      (y .parts) (omega arith) (omega (arith, applied-ends y)) refl refl (omega (arith, z .height, z .ends, y .parts, applied-ends y))
-      (omega (arith, z .label, z .ends, y .parts, applied-ends y)) (z .some) (omega (arith, z .shallow)) (z .fine .0)
+      (y .parts) (omega arith) (omega (arith, applied-ends y)) refl refl (omega (arith, applied-ends y)) (omega (arith, applied-ends y)) (z .some)
+      (omega arith) (z .fine .0)
 
   pub primary-gave : (text : List ℕ) {s′ t t′ : List ℕ} {r : State} → end ≤ middle → GaveE text s s′ middle here t t′ st r
       → GaveSuffixes text s s′ middle end here t t′ st r
@@ -338,14 +335,12 @@ is-call n (anIndex u) = absurd (n refl)
 pub start-of : {s : List ℕ} {middle end inner size start : ℕ} → inner ≡ end - 2 → size ≡ getD s inner 0 → start ≡ inner - size
     → {A : Type 0} {enc : A → List ℕ} {cons : A → Suffixes → Suffixes} {all : Suffixes} (u : IsLast enc cons s middle end all)
     → start ≡ middle + length (encodeSuffixes (u .init))
-start-of {s} ei ez es {enc = enc} u = let z = ez ∙ ap (λ (n : ℕ). getD s n 0) ei ∙ u .size-of in omega (arith, z, es, ei, u .ends)
+start-of {s} ei ez es {enc = enc} u = let z = ez ∙ ap (λ (n : ℕ). getD s n 0) ei ∙ u .size-of in omega arith
 
 module _ {s : List ℕ} {middle end j tag inner size start : ℕ} {here : Here} {st : State} (l : middle < end) (ej : j ≡ end - 1) (et : tag ≡ getD s j 0)
     (ei : inner ≡ end - 2) (ez : size ≡ getD s inner 0) (es : start ≡ inner - size) where
   pub the-last : (y : ReadySuffixes s middle end here st) → Last s middle end (y .ready .tree .suffixes) tag
-  the-last y =
-      subst (λ (n : ℕ). Last s middle end (y .ready .tree .suffixes) n) (sym (et ∙ ap (λ (k : ℕ). getD s k 0) ej))
-      (last (y .ready .tree .suffixes) (applied-lies y) (applied-ends y) l)
+  the-last y = rw (et ∙ ap (λ (k : ℕ). getD s k 0) ej) (last (y .ready .tree .suffixes) (applied-lies y) (applied-ends y) l)
 
   -- the primary with all but the last one
   module _ {A : Type 0} {enc : A → List ℕ} {cons : A → Suffixes → Suffixes} where
@@ -357,11 +352,9 @@ module _ {s : List ℕ} {middle end j tag inner size start : ℕ} {here : Here} 
     init-part here′ {st′} y k u top strings left height label some deep fine = let z = y .ready in let a = z .tree in record {
       ready = sub encodeApplied deepApplied FineApplied z k start (z .lo) here′ st′ (record { primary = a .primary; suffixes = u .init })
           (both (encode (a .primary)) (encodeSuffixes (u .init)) (first (encode (a .primary)) (encodeSuffixes (a .suffixes)) (z .lies)) (u .lies)
-          (y .parts)) (omega (arith, start-of ei ez es u, y .parts, length-append (encode (a .primary)) (encodeSuffixes (u .init)))) (omega arith)
-          (omega (arith, start-of ei ez es u, u .ends)) top strings
-          (omega (arith, height, z .height, z .ends, y .parts, u .ends, length-append (encode (a .primary)) (encodeSuffixes (u .init))))
-          (omega (arith, label, z .label, z .ends, y .parts, u .ends, length-append (encode (a .primary)) (encodeSuffixes (u .init))))
-          some (omega (arith, left, deep, z .shallow)) (z .fine .0, fine);
+          (y .parts)) (omega (arith, start-of ei ez es u, length-append (encode (a .primary)) (encodeSuffixes (u .init)))) (omega arith)
+          (omega (arith, start-of ei ez es u)) top strings (omega (arith, length-append (encode (a .primary)) (encodeSuffixes (u .init))))
+          (omega (arith, length-append (encode (a .primary)) (encodeSuffixes (u .init)))) some (omega arith) (z .fine .0, fine);
       parts = y .parts;
     }
 
@@ -370,8 +363,8 @@ module _ {s : List ℕ} {middle end j tag inner size start : ℕ} {here : Here} 
     pub index-deep : (y : ReadySuffixes s middle end here st)
         → let u = is-index q (the-last y) in (suffixesDepth (u .init) ≤ here .left) × (depth (u .part) ≤ here .left)
     unfolding suffixesDepth
-    index-deep y = let u = is-index q (the-last y) in
-        let p = deep-snoc (T.index (u .part)) (u .init) {k = here .left} (omega (arith, y .ready .shallow, ap suffixesDepth (u .same))) in
+    index-deep y = let u = is-index q (the-last y) in let p = deep-snoc (T.index (u .part)) (u .init) {k = here .left}
+        (omega (arith, ap suffixesDepth (u .same))) in
         (p .0, omega arith)
 
     pub index-fine : (y : ReadySuffixes s middle end here st) → let u = is-index q (the-last y) in FineSs (u .init) × FineE (u .part)
@@ -390,9 +383,7 @@ module _ {s : List ℕ} {middle end j tag inner size start : ℕ} {here : Here} 
           let n : length (encodeApplied (record { primary = z .tree .primary; suffixes = u .init })) ≡ length (encode (z .tree .primary)) + length
           (encodeSuffixes (u .init)) = length-append (encode (z .tree .primary)) (encodeSuffixes (u .init)) in
           sub encode depth FineE z (x .keeps) inner (middle + length (encodeSuffixes (u .init))) (raised 1 here) a (u .part) (u .lies-part)
-          (omega (arith, ei, u .ends)) (omega (arith, y .parts)) (omega (arith, ei)) refl refl
-          (omega (arith, z .height, z .ends, y .parts, u .ends)) (omega (arith, z .label, z .ends, y .parts, u .ends, x .did .few, n))
-          (omega (arith, z .some, x .did .grows)) (index-deep y .1) (index-fine y .1)
+          (omega arith) (omega arith) (omega arith) refl refl (omega arith) (omega arith) (omega arith) (index-deep y .1) (index-fine y .1)
 
       pub index-gave : {s₂ t₂ : List ℕ} {d : State} → GaveIndexed text s₁ s₂ inner here t₁ t₂ a d → GaveSuffixes text s s₂ middle end here t t₂ st d
       unfolding exprCode ofExpr exprLabels
@@ -406,7 +397,7 @@ module _ {s : List ℕ} {middle end j tag inner size start : ℕ} {here : Here} 
               keeps = keeps-then (x .keeps) (w .keeps);
               did = did-as (codeA text here sc (z .tree)) _ (did-then (x .did) (w .did)) (same-eq (sym ef))
                   (λ n k. code-is (ap (exprCode (here .strings) h n) (sym er)) (ap (ofExpr h) (sym er)) (ap exprLabels (sym er)))
-                  (omega (arith, z .ends, y .parts, u .ends, length-append (encode p) (encodeSuffixes (u .init))));
+                  (omega (arith, length-append (encode p) (encodeSuffixes (u .init))));
             };
       }
 
@@ -415,8 +406,8 @@ module _ {s : List ℕ} {middle end j tag inner size start : ℕ} {here : Here} 
     pub call-deep : (y : ReadySuffixes s middle end here st)
         → let u = is-call q (the-last y) in (suffixesDepth (u .init) ≤ here .left) × (expressionsDepth (u .part) ≤ here .left)
     unfolding suffixesDepth
-    call-deep y = let u = is-call q (the-last y) in
-        let p = deep-snoc (T.call (u .part)) (u .init) {k = here .left} (omega (arith, y .ready .shallow, ap suffixesDepth (u .same))) in
+    call-deep y = let u = is-call q (the-last y) in let p = deep-snoc (T.call (u .part)) (u .init) {k = here .left}
+        (omega (arith, ap suffixesDepth (u .same))) in
         (p .0, omega arith)
 
     pub call-fine : (y : ReadySuffixes s middle end here st) → let u = is-call q (the-last y) in FineSs (u .init) × FineEs (u .part)
@@ -428,49 +419,42 @@ module _ {s : List ℕ} {middle end j tag inner size start : ℕ} {here : Here} 
     call-args y = let z = y .ready in let u = is-call q (the-last y) in record {
       ready =
           sub encodeExpressions expressionsDepth FineEs z keeps-all inner (middle + length (encodeSuffixes (u .init))) (raised 2 here) st (u .part)
-          (u .lies-part) (omega (arith, ei, u .ends)) (omega (arith, y .parts)) (omega (arith, ei)) refl refl
-          (omega (arith, z .height, z .ends, y .parts, u .ends)) (omega (arith, z .label, z .ends, y .parts, u .ends)) (omega (arith, z .some))
-          (call-deep y .1) (call-fine y .1);
+          (u .lies-part) (omega arith) (omega arith) (omega arith) refl refl (omega arith) (omega arith) (omega arith) (call-deep y .1)
+          (call-fine y .1);
       starts = sym (start-of ei ez es u);
     }
 
     pub call-count : {n : ℕ} → Counts s start inner n → (y : ReadySuffixes s middle end here st) → n ≡ T.count (is-call q (the-last y) .part)
     call-count k y =
         let u = is-call q (the-last y) in
-        k .by _ (expression-items (u .part) (subst (λ (m : ℕ). Lies s m (encodeExpressions (u .part))) (sym (start-of ei ez es u)) (u .lies-part))
-        (omega (arith, ei, u .ends, start-of ei ez es u)))
+        k .by _ (expression-items (u .part) (rw (← (start-of ei ez es u)) at (u .lies-part)) (omega (arith, start-of ei ez es u)))
 
     module _ (text : List ℕ) {n : ℕ} {s₁ t t₁ : List ℕ} {b : State} (k : Counts s start inner n)
         (g : GavePassed text s s₁ start inner here t t₁ st b) where
       abbrev pub call-callee : ReadySuffixes s middle end here st → ReadySuffixes s₁ middle start (raised (n + 2) here) b
       call-callee y = let z = y .ready in let u = is-call q (the-last y) in let x = g .by (call-args y) in
-          init-part (raised (n + 2) here) y (x .keeps) u refl refl refl (omega (arith, call-count k y, count-few (u .part)))
-          (omega (arith, x .did .few)) (omega (arith, z .some, x .did .grows)) (call-deep y .0) (call-fine y .0)
+          init-part (raised (n + 2) here) y (x .keeps) u refl refl refl (omega (arith, call-count k y, count-few (u .part))) (omega arith)
+          (omega arith) (call-deep y .0) (call-fine y .0)
 
       pub call-gave : {s₂ t₂ t₃ : List ℕ} {c d : State} → GaveSuffixes text s₁ s₂ middle start (raised (n + 2) here) t₁ t₂ b c
           → Emits (G.K (here .height) ∷ []) [] t₂ t₃ c d → GaveSuffixes text s s₂ middle end here t t₃ st d
       unfolding exprCode ofExpr exprLabels
       call-gave {s₂} {t₂} {t₃} {c} {d} g₂ f₂ = record {
-        by = λ y.
-            let z = y .ready in let sc = z .scope in let h = here .height in let p = z .tree .primary in let u = is-call q (the-last y) in
-            let x = g .by (call-args y) in let w = g₂ .by (call-callee y) in let Es = expressions text sc (h + 2) (u .part) in
-            let K = h + 2 + H.count Es in
-            let eK : K ≡ h + 2 + T.count (u .part) = ap (λ (m : ℕ). h + 2 + m) (count-resolved text sc (h + 2) (u .part)) in
-            let eh : h + (n + 2) ≡ K = omega (arith, eK, call-count k y) in
-            let F = suffixes text sc K (expression text sc (under (u .init) K) p) (u .init) in
-            let fp = inExpression text sc (leavable here) (under (u .init) K) p ++ inSuffixes text sc (leavable here) K (u .init) in
-            let fa = inExpressions text sc (leavable here) (h + 2) (u .part) in
-            let w′ : Did fp (exprSays (here .strings) K F) (2 * length (encodeApplied (record { primary = p; suffixes = u .init }))) t₁ t₂ b c =
-            rw (← eh) (w .did) in
-            let ef = call-faults text sc h p (u .init) (u .part) (u .same) eK (leavable here) in
-            let er = call-means text sc h p (u .init) (u .part) (u .same) eK in
+        by = λ y. let z = y .ready in let sc = z .scope in let h = here .height in let p = z .tree .primary in let u = is-call q (the-last y) in
+            let x = g .by (call-args y) in let w = g₂ .by (call-callee y) in let Es = expressions text sc (h + 2) (u .part) in let K = h + 2 + H.count
+            Es in let eK : K ≡ h + 2 + T.count (u .part) = ap (λ (m : ℕ). h + 2 + m) (count-resolved text sc (h + 2) (u .part)) in
+            let eh : h + (n + 2) ≡ K = omega (arith, call-count k y) in let F = suffixes text sc K (expression text sc (under (u .init) K) p)
+            (u .init) in let fp = inExpression text sc (leavable here) (under (u .init) K) p ++ inSuffixes text sc (leavable here) K (u .init) in
+            let fa = inExpressions text sc (leavable here) (h + 2) (u .part) in let w′ : Did fp (exprSays (here .strings) K F)
+            (2 * length (encodeApplied (record { primary = p; suffixes = u .init }))) t₁ t₂ b c =
+            rw (← eh) (w .did) in let ef = call-faults text sc h p (u .init) (u .part) (u .same) eK (leavable here) in let er = call-means text sc h p
+            (u .init) (u .part) (u .same) eK in
             record {
               keeps = keeps-then (x .keeps) (w .keeps);
               did = did-as (codeA text here sc (z .tree)) _ (did-put (did-then (x .did) w′) f₂) (same-then (same-swap fa fp) (same-eq (sym ef)))
-                  (λ m v. code-is
-                  (append-assoc (exprsCode (here .strings) (h + 2) m Es) (exprCode (here .strings) K (m + exprsLabels Es) F) (G.K h ∷ []) ∙ ap
-                  (exprCode (here .strings) h m) (sym er)) (ap (ofExpr h) (sym er)) (ap exprLabels (sym er)))
-                  (omega (arith, z .ends, y .parts, u .ends, length-append (encode p) (encodeSuffixes (u .init))));
+                  (λ m v. code-is (append-assoc (exprsCode (here .strings) (h + 2) m Es) (exprCode (here .strings) K (m + exprsLabels Es) F)
+                  (G.K h ∷ []) ∙ ap (exprCode (here .strings) h m) (sym er)) (ap (ofExpr h) (sym er)) (ap exprLabels (sym er)))
+                  (omega (arith, length-append (encode p) (encodeSuffixes (u .init))));
             };
       }
 
@@ -513,22 +497,21 @@ module _ {s : List ℕ} {end : ℕ} {here : Here} {st : State} (n : Node) (nd : 
   pub suffixed-deep : (y : ReadyE s end here st)
       → let u = suffixed-is y in (depth (u .left) + 1 ≤ here .left) × (suffixesDepth (u .list) + 1 ≤ here .left)
   unfolding depth
-  suffixed-deep y = let u = suffixed-is y in (omega (arith, y .shallow, ap depth (u .same)), omega (arith, y .shallow, ap depth (u .same)))
+  suffixed-deep y = let u = suffixed-is y in (omega (arith, ap depth (u .same)), omega (arith, ap depth (u .same)))
 
   pub suffixed-fine : (y : ReadyE s end here st) → let u = suffixed-is y in FineE (u .left) × FineSs (u .list)
   unfolding Fine
   suffixed-fine y = let f = subst FineE (suffixed-is y .same) (y .fine) in (f .0, f .1)
 
   pub suffixed-middle : (y : ReadyE s end here st) → middle ≡ y .lo + length (encode (suffixed-is y .left))
-  suffixed-middle y = let u = suffixed-is y in omega (arith, nd .start, nd .value, u .value-of, u .size-of, u .ends)
+  suffixed-middle y = let u = suffixed-is y in omega arith
 
   abbrev pub suffixed-part : ReadyE s end here st → ReadySuffixes s middle (n .inner) (inside here) st
   suffixed-part y = let u = suffixed-is y in let k = length-append (encode (u .left)) (encodeSuffixes (u .list)) in record {
     ready =
         sub encodeApplied deepApplied FineApplied y keeps-all (n .inner) (y .lo) (inside here) st (record { primary = u .left; suffixes = u .list })
-        (both (encode (u .left)) (encodeSuffixes (u .list)) (u .lies) (u .lies-list) refl) (omega (arith, nd .inner, u .ends, k)) (omega arith)
-        (omega (arith, nd .inner)) refl refl (omega (arith, y .height, y .ends, u .ends, k)) (omega (arith, y .label, y .ends, u .ends, k)) (y .some)
-        (omega (arith, suffixed-deep y .0, suffixed-deep y .1)) (suffixed-fine y);
+        (both (encode (u .left)) (encodeSuffixes (u .list)) (u .lies) (u .lies-list) refl) (omega arith) (omega arith) (omega arith) refl refl
+        (omega arith) (omega arith) (y .some) (omega (arith, suffixed-deep y .0, suffixed-deep y .1)) (suffixed-fine y);
     parts = suffixed-middle y;
   }
 
@@ -537,17 +520,16 @@ module _ {s : List ℕ} {end : ℕ} {here : Here} {st : State} (n : Node) (nd : 
   unfolding inExpression expression
   suffixed-gave text {s′} {t} {t′} {r} g = record {
     by = λ y. let u = suffixed-is y in let x = g .by (suffixed-part y) in let k = length-append (encode (u .left)) (encodeSuffixes (u .list)) in
-        subst
-        (λ (e : Expression). Result (faultsE text here (y .scope) e) (codeE text here (y .scope) e) (length (encode (y .tree))) (y .base) here s s′ t
-        t′ st r) (sym (u .same))
-        (record { keeps = x .keeps; did = did-as _ _ (x .did) same-refl (λ m v. refl) (omega (arith, y .ends, u .ends, k)) });
+        subst (λ (e : Expression). Result (faultsE text here (y .scope) e) (codeE text here (y .scope) e) (length (encode (y .tree))) (y .base) here s
+        s′ t t′ st r) (sym (u .same))
+        (record { keeps = x .keeps; did = did-as _ _ (x .did) same-refl (λ m v. refl) (omega arith) });
   }
 
 pub call-few : {s : List ℕ} {middle end j tag inner size start n : ℕ} {here : Here} {st : State} (l : middle < end) (ej : j ≡ end - 1)
     (et : tag ≡ getD s j 0) (ei : inner ≡ end - 2) (ez : size ≡ getD s inner 0) (es : start ≡ inner - size) (q : tag ≡ 49 → ⊥) → Counts s start inner
     n → ReadySuffixes s middle end here st → n < end
 call-few l ej et ei ez es q k y =
-    let u = is-call q (the-last l ej et ei ez es y) in omega (arith, call-count l ej et ei ez es q k y, count-few (u .part), u .ends)
+    let u = is-call q (the-last l ej et ei ez es y) in omega (arith, call-count l ej et ei ez es q k y, count-few (u .part))
 
 -- ---- an index and arguments by themselves
 
@@ -555,8 +537,8 @@ call-few l ej et ei ez es q k y =
 abbrev pub with-state : {A : Type 0} {enc : A → List ℕ} {deep : A → ℕ} {Fine : A → Type 0} {s : List ℕ} {end : ℕ} {here : Here} {st st′ : State}
     → st′ .label ≡ st .label → Ready enc deep Fine s end here st → Ready enc deep Fine s end here st′
 with-state {enc = enc} {deep} {Fine} {end = end} {here} {st′ = st′} e y =
-    sub enc deep Fine y keeps-all end (y .lo) here st′ (y .tree) (y .lies) (y .ends) (omega arith) (omega arith) refl refl (y .height)
-    (omega (arith, y .label)) (omega (arith, y .some)) (y .shallow) (y .fine)
+    sub enc deep Fine y keeps-all end (y .lo) here st′ (y .tree) (y .lies) (y .ends) (omega arith) (omega arith) refl refl (y .height) (omega arith)
+    (omega arith) (y .shallow) (y .fine)
 
 pub indexed-gave : (text : List ℕ) {s s₁ t t₁ t₂ t₃ : List ℕ} {end : ℕ} {here : Here} {st b c d : State}
     → Emits (G.SP (here .height) ∷ []) ((here .height + 1) ∷ []) t t₁ st b → GaveE text s s₁ end (raised 1 here) t₁ t₂ b c

@@ -105,8 +105,7 @@ zeros-behind s front k e h f w =
 
 accepted-text : (source text t′ : List ℕ) (n : ℕ) (d : Refused) → C.Accepted n ≡ answerOf source d → Begins source t′ d → length t′ ≡ length text
     → (n ≤ length t′) × (take n t′ ++ replicate (length t′ - n) 0 ≡ textAfter source (length text) d)
-accepted-text source text t′ n accepted e b l =
-    let z : n ≡ length (textOf source) = cc in (omega (arith, b .1), rw (z, l, b .0))
+accepted-text source text t′ n accepted e b l = let z : n ≡ length (textOf source) = cc in (omega arith, rw (z, l, b .0))
 accepted-text source text t′ n (refused number place) e b l = let z : _≡_ {A = ℕ} 0 1 = cc in absurd (omega arith)
 
 refused-text : (source text t′ : List ℕ) (w : Refusal) (d : Refused) → C.Refused w ≡ answerOf source d → length t′ ≡ length text

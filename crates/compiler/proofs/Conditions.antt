@@ -61,7 +61,7 @@ is-test {lo = lo} (F.aTest {e} {c} {d} h q) =
       lies = first a (b ++ g) h;
       lies-body = first b g r;
       lies-other = second b g (lo + length a + length b) r refl;
-      ends = omega (arith, q, length-append a (b ++ g), length-append b g);
+      ends = omega (arith, length-append a (b ++ g), length-append b g);
     }
 
 test-shape : (e x c y d z : List I.Item) → ((((e ++ x) ++ c) ++ y) ++ d) ++ z ≡ e ++ (x ++ (c ++ (y ++ (d ++ z))))
@@ -83,12 +83,11 @@ module _ {s : List ℕ} {end : ℕ} {here : Here} {st : State} (n o b : Node) (n
   unfolding unlabelledDepth
   test-deep y =
       let e = ap unlabelledDepth (test-is y .same) in
-      (omega (arith, y .shallow, e), omega (arith, y .shallow, e), omega (arith, y .shallow, e))
+      (omega arith, omega arith, omega arith)
 
   pub test-other : (y : ReadyU s end here st) → o .start ≡ y .lo + length (encode (test-is y .test)) + length (encodeCommand (test-is y .body))
   test-other y = let u = test-is y in
-      od .start ∙ sym
-      (closed-start {end = n .inner} (command-closed (u .other) (test-fine y .2)) (u .lies-other) (omega (arith, nd .inner, u .ends)) .0)
+      od .start ∙ sym (closed-start {end = n .inner} (command-closed (u .other) (test-fine y .2)) (u .lies-other) (omega arith) .0)
 
   pub test-start : (y : ReadyU s end here st) → b .start ≡ y .lo + length (encode (test-is y .test))
   test-start y = let u = test-is y in
@@ -96,28 +95,24 @@ module _ {s : List ℕ} {end : ℕ} {here : Here} {st : State} (n o b : Node) (n
 
   abbrev pub test-first : {a : State} → Fresh 2 st a → ReadyU s end here st → ReadyE s (b .start) here a
   test-first {a} e y = let u = test-is y in
-      sub encode depth FineE y keeps-all (b .start) (y .lo) here a (u .test) (u .lies) (test-start y) (omega arith)
-      (omega (arith, test-start y, u .ends)) refl refl (omega (arith, y .height, y .ends, u .ends))
-      (omega (arith, y .label, y .ends, u .ends, e .label)) (omega (arith, e .label)) (test-deep y .0) (test-fine y .0)
+      sub encode depth FineE y keeps-all (b .start) (y .lo) here a (u .test) (u .lies) (test-start y) (omega arith) (omega (arith, test-start y)) refl
+      refl (omega arith) (omega arith) (omega arith) (test-deep y .0) (test-fine y .0)
 
   module _ (text : List ℕ) {s₁ t t₁ t₂ : List ℕ} {a c d : State} (e : Fresh 2 st a) (g : GaveE text s s₁ (b .start) here t t₁ a c)
       (f : Emits (G.FL (st .label) ∷ []) [] t₁ t₂ c d) where
     abbrev pub test-body : ReadyU s end here st → ReadyC s₁ (o .start) here d
     test-body y = let u = test-is y in let x = g .by (test-first e y) in
         sub encodeCommand commandDepth FineC y (x .keeps) (o .start) (y .lo + length (encode (u .test))) here d (u .body) (u .lies-body)
-        (test-other y) (omega arith) (omega (arith, test-other y, u .ends)) refl refl
-        (omega (arith, y .height, y .ends, u .ends)) (omega (arith, y .label, y .ends, u .ends, e .label, x .did .few, f .label))
-        (omega (arith, e .label, x .did .grows, f .label)) (test-deep y .1) (test-fine y .1)
+        (test-other y) (omega arith) (omega (arith, test-other y)) refl refl (omega arith) (omega arith) (omega arith) (test-deep y .1)
+        (test-fine y .1)
 
     module _ (ways : Ways) {s₂ t₃ t₄ t₅ : List ℕ} {i j k : State} (g₂ : GaveC text s₁ s₂ (o .start) here ways t₂ t₃ d i)
         (f₂ : Emits (G.JL (st .label + 1) ∷ []) [] t₃ t₄ i j) (f₃ : Emits (I.label (st .label) ∷ []) [] t₄ t₅ j k) where
       abbrev pub test-rest : ReadyU s end here st → ReadyC s₂ (n .inner) here k
       test-rest y = let u = test-is y in let x = g .by (test-first e y) in let z = g₂ .by (test-body y) in
-          sub encodeCommand commandDepth FineC y (keeps-then (x .keeps) (z .keeps)) (n .inner)
-          (y .lo + length (encode (u .test)) + length (encodeCommand (u .body))) here k (u .other) (u .lies-other) (omega (arith, nd .inner, u .ends))
-          (omega arith) (omega (arith, nd .inner)) refl refl (omega (arith, y .height, y .ends, u .ends))
-          (omega (arith, y .label, y .ends, u .ends, e .label, x .did .few, f .label, z .did .few, f₂ .label, f₃ .label))
-          (omega (arith, e .label, x .did .grows, f .label, z .did .grows, f₂ .label, f₃ .label)) (test-deep y .2) (test-fine y .2)
+          sub encodeCommand commandDepth FineC y (keeps-then (x .keeps) (z .keeps)) (n .inner) (y .lo + length (encode (u .test))
+          + length (encodeCommand (u .body))) here k (u .other) (u .lies-other) (omega arith) (omega arith) (omega arith) refl refl (omega arith)
+          (omega arith) (omega arith) (test-deep y .2) (test-fine y .2)
 
       pub test-gave : {s₃ t₆ t₇ : List ℕ} {l r : State} → GaveC text s₂ s₃ (n .inner) here ways t₅ t₆ k l
           → Emits (I.label (st .label + 1) ∷ []) [] t₆ t₇ l r → GaveU text s s₃ end here ways t t₇ st r
@@ -132,18 +127,12 @@ module _ {s : List ℕ} {end : ℕ} {here : Here} {st : State} (n o b : Node) (n
             (length (encodeUnlabelled (y .tree))) (y .base) here s s₃ t t₇ st r) (sym (u .same))
             (record {
               keeps = keeps-then (keeps-then (x .keeps) (z .keeps)) (v .keeps);
-              did = did-at (cmdSays here ways (R.test E C D)) _
-                  (did-fresh e (did-put
-                  (did-then (did-put (did-then (did-put (with-ways text sc here ways h (u .test) (x .did)) f) (z .did)) (emits-then f₂ f₃))
-                  (v .did)) f₄)) same-refl
-                  (λ p. code-is
-                  (test-shape (G.exprCode S h (L + 2) E) (G.FL L ∷ []) (G.cmdCode S h (L + 2 + G.exprLabels E) w C) (G.JL (L + 1) ∷ I.label L ∷ [])
-                  (G.cmdCode S h (L + 2 + (G.exprLabels E + G.cmdLabels C)) w D) (I.label (L + 1) ∷ [])
-                  ∙ ap (λ (i : ℕ). G.exprCode S h (L + 2) E
-                  ++ (G.FL L
-                  ∷ (G.cmdCode S h (L + 2 + G.exprLabels E) w C ++ (G.JL (L + 1) ∷ I.label L ∷ (G.cmdCode S h i w D ++ (I.label (L + 1) ∷ [])))))) m)
-                  refl (omega arith))
-                  (omega (arith, y .ends, u .ends));
+              did = did-at (cmdSays here ways (R.test E C D)) _ (did-fresh e
+                  (did-put (did-then (did-put (did-then (did-put (with-ways text sc here ways h (u .test) (x .did)) f) (z .did)) (emits-then f₂ f₃))
+                  (v .did)) f₄)) same-refl (λ p. code-is (test-shape (G.exprCode S h (L + 2) E) (G.FL L ∷ []) (G.cmdCode S h (L + 2 + G.exprLabels E)
+                  w C) (G.JL (L + 1) ∷ I.label L ∷ []) (G.cmdCode S h (L + 2 + (G.exprLabels E + G.cmdLabels C)) w D) (I.label (L + 1) ∷ [])
+                  ∙ ap (λ (i : ℕ). G.exprCode S h (L + 2) E ++ (G.FL L ∷ (G.cmdCode S h (L + 2 + G.exprLabels E) w C ++ (G.JL (L + 1) ∷ I.label L
+                  ∷ (G.cmdCode S h i w D ++ (I.label (L + 1) ∷ [])))))) m) refl (omega arith)) (omega arith);
             });
       }
 
@@ -180,28 +169,24 @@ module _ {s : List ℕ} {end : ℕ} {here : Here} {st : State} (n b : Node) (nd 
 
   pub while-deep : (y : ReadyU s end here st) → (depth (while-is y .test) ≤ here .left) × (commandDepth (while-is y .body) ≤ here .left)
   unfolding unlabelledDepth
-  while-deep y = let e = ap unlabelledDepth (while-is y .same) in (omega (arith, y .shallow, e), omega (arith, y .shallow, e))
+  while-deep y = let e = ap unlabelledDepth (while-is y .same) in (omega arith, omega arith)
 
   pub while-middle : (y : ReadyU s end here st) → b .start ≡ y .lo + length (encode (while-is y .test))
   while-middle y = let u = while-is y in
-      bd .start ∙ sym
-      (closed-start {end = n .inner} (command-closed (u .body) (while-fine y .1)) (u .lies-body) (omega (arith, nd .inner, u .ends)) .0)
+      bd .start ∙ sym (closed-start {end = n .inner} (command-closed (u .body) (while-fine y .1)) (u .lies-body) (omega arith) .0)
 
   module _ {t t₁ : List ℕ} {a c : State} (e : Fresh 2 st a) (m : Emits (I.label (st .label) ∷ []) [] t t₁ a c) where
     abbrev pub while-test : ReadyU s end here st → ReadyE s (b .start) here c
     while-test y = let u = while-is y in
         sub encode depth FineE y keeps-all (b .start) (y .lo) here c (u .test) (u .lies) (while-middle y) (omega arith)
-        (omega (arith, while-middle y, u .ends)) refl refl (omega (arith, y .height, y .ends, u .ends))
-        (omega (arith, y .label, y .ends, u .ends, e .label, m .label)) (omega (arith, e .label, m .label)) (while-deep y .0) (while-fine y .0)
+        (omega (arith, while-middle y)) refl refl (omega arith) (omega arith) (omega arith) (while-deep y .0) (while-fine y .0)
 
     module _ (text : List ℕ) {s₁ t₂ t₃ : List ℕ} {d i : State} {j : ℕ} (g : GaveE text s s₁ (b .start) here t₁ t₂ c d)
         (f : Emits (G.to j (st .label + 1) ∷ []) [] t₂ t₃ d i) where
       abbrev pub while-body : ReadyU s end here st → ReadyC s₁ (n .inner) here i
       while-body y = let u = while-is y in let x = g .by (while-test y) in
           sub encodeCommand commandDepth FineC y (x .keeps) (n .inner) (y .lo + length (encode (u .test))) here i (u .body) (u .lies-body)
-          (omega (arith, nd .inner, u .ends)) (omega arith) (omega (arith, nd .inner)) refl refl
-          (omega (arith, y .height, y .ends, u .ends)) (omega (arith, y .label, y .ends, u .ends, e .label, m .label, x .did .few, f .label))
-          (omega (arith, e .label, m .label, x .did .grows, f .label)) (while-deep y .1) (while-fine y .1)
+          (omega arith) (omega arith) (omega arith) refl refl (omega arith) (omega arith) (omega arith) (while-deep y .1) (while-fine y .1)
 
       pub while-gave : (ways : Ways) {s₂ t₄ t₅ t₆ : List ℕ} {k l r : State} → j ≡ cond (eqb (n .kind) K.WHILE) 5 4
           → GaveC text s₁ s₂ (n .inner) here (inLoop (st .label) (st .label + 1) ways) t₃ t₄ i k
@@ -219,17 +204,13 @@ module _ {s : List ℕ} {end : ℕ} {here : Here} {st : State} (n b : Node) (nd 
             record {
               keeps = keeps-then (x .keeps) (z .keeps);
               did = did-at (cmdSays here ways (unlabelled text sc h (y .tree))) _
-                  (did-fresh e
-                  (did-after m (did-put (did-then (did-put (with-ways text sc here ways h (u .test) (x .did)) f) (z .did)) (emits-then f₂ f₃))))
-                  (same-eq (ap (λ (p : Leavable). inExpression text sc lv h (u .test) ++ inCommand text sc p h (u .body)) lo ∙ sym ef))
-                  (λ v. code-is (ap (λ (p : List I.Item). I.label L ∷ p)
-                  (append-assoc (G.exprCode S h (L + 2) E ++ (G.to j (L + 1) ∷ [])) (G.cmdCode S h (L + 2 + G.exprLabels E) w′ C)
-                  (G.JL L ∷ I.label (L + 1) ∷ []) ∙ append-assoc (G.exprCode S h (L + 2) E) (G.to j (L + 1) ∷ [])
-                  (G.cmdCode S h (L + 2 + G.exprLabels E) w′ C ++ (G.JL L ∷ I.label (L + 1) ∷ [])) ∙ ap
-                  (λ (v : ℕ). G.exprCode S h (L + 2) E
-                  ++ (G.to v (L + 1) ∷ (G.cmdCode S h (L + 2 + G.exprLabels E) w′ C ++ (G.JL L ∷ I.label (L + 1) ∷ [])))) jj) ∙ ap
-                  (G.cmdCode S h L (exits ways)) (sym em)) (ap (ofCmd h) (sym em)) (omega (arith, ap G.cmdLabels em)))
-                  (omega (arith, y .ends, u .ends));
+                  (did-fresh e (did-after m (did-put (did-then (did-put (with-ways text sc here ways h (u .test) (x .did)) f) (z .did))
+                  (emits-then f₂ f₃)))) (same-eq (ap (λ (p : Leavable). inExpression text sc lv h (u .test) ++ inCommand text sc p h (u .body)) lo
+                  ∙ sym ef)) (λ v. code-is (ap (λ (p : List I.Item). I.label L ∷ p) (append-assoc (G.exprCode S h (L + 2) E ++ (G.to j (L + 1) ∷ []))
+                  (G.cmdCode S h (L + 2 + G.exprLabels E) w′ C) (G.JL L ∷ I.label (L + 1) ∷ []) ∙ append-assoc (G.exprCode S h (L + 2) E)
+                  (G.to j (L + 1) ∷ []) (G.cmdCode S h (L + 2 + G.exprLabels E) w′ C ++ (G.JL L ∷ I.label (L + 1) ∷ [])) ∙ ap (λ (v : ℕ). G.exprCode S
+                  h (L + 2) E ++ (G.to v (L + 1) ∷ (G.cmdCode S h (L + 2 + G.exprLabels E) w′ C ++ (G.JL L ∷ I.label (L + 1) ∷ [])))) jj)
+                  ∙ ap (G.cmdCode S h L (exits ways)) (sym em)) (ap (ofCmd h) (sym em)) (omega (arith, ap G.cmdLabels em))) (omega arith);
             };
       }
 

@@ -89,8 +89,7 @@ abbrev byKey : List ℕ → ℕ → Compiled
 byKey source k = C.Refused (refusal source (k % 32) (k / 32))
 
 key-refusal : (source : List ℕ) (f : Fault) → Fits f → byKey source (key f) ≡ C.Refused (refusal source (f .number) (f .place))
-key-refusal source f a =
-    let n : key f % 32 ≡ f .number = omega (arith, a .number) in let p : key f / 32 ≡ f .place = omega (arith, a .number) in rw (n, p) refl
+key-refusal source f a = let n : key f % 32 ≡ f .number = omega arith in let p : key f / 32 ≡ f .place = omega arith in rw (n, p) refl
 
 -- faults by their least key, and else what else is answered
 by-least : (source : List ℕ) (k size room : ℕ) (fs : List Fault) → AllFit fs → k ≡ least NONE fs → (other : Compiled) (rest : Refused)
@@ -100,7 +99,7 @@ unfolding least
 by-least source k size room [] a e other rest o = rw e (o refl)
 by-least source k size room (f ∷ fs) (andFit p n h) e other rest o =
     let z : k ≡ key (leastFrom f fs) = e ∙ least-first f fs (andFit p n h) in let x = least-fits f fs (record { place = p; number = n }) h in
-    let below : key (leastFrom f fs) < NONE = omega (arith, x .place, x .number) in
+    let below : key (leastFrom f fs) < NONE = omega arith in
     rw (z, lt-ltb (key (leastFrom f fs)) NONE below) (key-refusal source (leastFrom f fs) x)
 
 -- the end of the text, as far as it is told

@@ -66,7 +66,7 @@ module _ {st r : State} (high : r .high ≡ st .high) (worst : r .worst ≡ st .
   emits-one {i} p = record { text = puts-as p (append-nil (line i)); high = high; worst = worst; label = label }
 
 still : {m n : ℕ} → n ≡ m → (t : List ℕ) → Puts [] m n t t
-still {m} e t = subst (λ (n : ℕ). Puts [] m n t t) (sym e) puts-none
+still {m} e t = rw e puts-none
 
 module _ {h : ℕ} {st r : State} (at : r .at ≡ st .at) (worst : r .worst ≡ st .worst) (label : r .label ≡ st .label) where
   pub reached-up : st .high < h → r .high ≡ h → Reached h st r
@@ -127,10 +127,9 @@ unfolding least
 emits-did {xs} {hs} {t} {t′} {st} {r} code f e = record {
   worst = f .worst;
   fits = noFit;
-  few = omega (arith, f .label);
-  grows = omega (arith, f .label);
-  clean = λ n.
-      subst (λ (c : Code). Wrote c t t′ st r) (sym (e (st .label))) (record { text = f .text; high = f .high; label = omega (arith, f .label) });
+  few = omega arith;
+  grows = omega arith;
+  clean = λ n. rw (e (st .label)) (record { text = f .text; high = f .high; label = omega arith });
 }
 
 -- what is written behind code
@@ -150,8 +149,8 @@ module _ {fs : List Fault} {f : ℕ → Code} {m : ℕ} {t t₁ t₂ : List ℕ}
   did-emit {xs} {hs} e = record {
     worst = e .worst ∙ x .worst;
     fits = x .fits;
-    few = omega (arith, x .few, e .label);
-    grows = omega (arith, x .grows, e .label);
+    few = omega arith;
+    grows = omega arith;
     clean = λ n. let w = x .clean n in record {
       text = puts-as (puts-then (w .text) (e .text)) (lines-then (f (st .label) .items) xs);
       high = e .high ∙ ap (λ (z : ℕ). greatest z hs) (w .high) ∙ greatest-then (st .high) (f (st .label) .heights) hs;
@@ -163,16 +162,14 @@ module _ {fs : List Fault} {f : ℕ → Code} {m : ℕ} {t t₁ t₂ : List ℕ}
   did-then {gs} {g} {k} y = record {
     worst = y .worst ∙ ap (λ (z : ℕ). least z gs) (x .worst) ∙ least-then (st .worst) fs gs;
     fits = fit-then (x .fits) (y .fits);
-    few = omega (arith, x .few, y .few);
-    grows = omega (arith, x .grows, y .grows);
-    clean = λ n.
-        let w = x .clean (nil-left fs gs n) in let v = subst (λ (z : ℕ). Wrote (g z) t₁ t₂ a b) (w .label) (y .clean (nil-right fs gs n)) in
-        let l = f (st .label) .labels in
+    few = omega arith;
+    grows = omega arith;
+    clean = λ n. let w = x .clean (nil-left fs gs n) in let v = rw (w .label) at (y .clean (nil-right fs gs n)) in let l = f (st .label) .labels in
         record {
           text = puts-as (puts-then (w .text) (v .text)) (lines-then (f (st .label) .items) (g (st .label + l) .items));
           high = v .high ∙ ap (λ (z : ℕ). greatest z (g (st .label + l) .heights)) (w .high) ∙ greatest-then (st .high) (f (st .label) .heights)
               (g (st .label + l) .heights);
-          label = omega (arith, v .label, w .label);
+          label = omega arith;
         };
   }
 
@@ -184,8 +181,8 @@ module _ {fs : List Fault} {f : ℕ → Code} {m : ℕ} {t t₁ t₂ : List ℕ}
   did-put {xs} x e = record {
     worst = e .worst ∙ x .worst;
     fits = x .fits;
-    few = omega (arith, x .few, e .label);
-    grows = omega (arith, x .grows, e .label);
+    few = omega arith;
+    grows = omega arith;
     clean = λ n. let w = x .clean n in record {
       text = puts-as (puts-then (w .text) (e .text)) (lines-then (f (st .label) .items) xs);
       high = e .high ∙ w .high;
@@ -198,14 +195,13 @@ module _ {fs : List Fault} {f : ℕ → Code} {m : ℕ} {t t₁ t₂ : List ℕ}
   did-after {xs} {hs} e x = record {
     worst = x .worst ∙ ap (λ (z : ℕ). least z fs) (e .worst);
     fits = x .fits;
-    few = omega (arith, x .few, e .label);
-    grows = omega (arith, x .grows, e .label);
-    clean = λ n.
-        let w = subst (λ (z : ℕ). Wrote (f z) t₁ t₂ a b) (e .label) (x .clean n) in
+    few = omega arith;
+    grows = omega arith;
+    clean = λ n. let w = rw (e .label) at (x .clean n) in
         record {
           text = puts-as (puts-then (e .text) (w .text)) (lines-then xs (f (st .label) .items));
           high = w .high ∙ ap (λ (z : ℕ). greatest z (f (st .label) .heights)) (e .high) ∙ greatest-then (st .high) hs (f (st .label) .heights);
-          label = omega (arith, w .label, e .label);
+          label = omega arith;
         };
   }
 
@@ -227,7 +223,7 @@ pub same-refl : {a : List Fault} → Same a a
 same-refl = record { least = λ x. refl; none = λ e. e; fits = λ f. f }
 
 pub same-eq : {a b : List Fault} → a ≡ b → Same a b
-same-eq {a} {b} e = subst (λ (z : List Fault). Same a z) e same-refl
+same-eq {a} {b} e = rw (← e) same-refl
 
 step-min : (k x : ℕ) → cond (ltb k x) k x ≡ min x k
 step-min k x = by (order k x)
@@ -271,9 +267,9 @@ pub did-as : {fs gs : List Fault} {f : ℕ → Code} (g : ℕ → Code) {m : ℕ
 did-as {fs} {gs} {f} g {m} k {t} {t′} {st} {r} x s e l = record {
   worst = x .worst ∙ s .least (st .worst);
   fits = s .fits (x .fits);
-  few = omega (arith, x .few);
+  few = omega arith;
   grows = x .grows;
-  clean = λ n. subst (λ (c : Code). Wrote c t t′ st r) (e (st .label) n) (x .clean (s .none n));
+  clean = λ n. rw (e (st .label) n) at (x .clean (s .none n));
 }
 
 -- the same at its first label
@@ -282,9 +278,9 @@ pub did-at : {fs gs : List Fault} {f : ℕ → Code} (g : ℕ → Code) {m : ℕ
 did-at {fs} {gs} {f} g {m} k {t} {t′} {st} {r} x s e l = record {
   worst = x .worst ∙ s .least (st .worst);
   fits = s .fits (x .fits);
-  few = omega (arith, x .few);
+  few = omega arith;
   grows = x .grows;
-  clean = λ n. subst (λ (c : Code). Wrote c t t′ st r) (e n) (x .clean (s .none n));
+  clean = λ n. rw (e n) at (x .clean (s .none n));
 }
 
 -- after new labels
@@ -293,14 +289,13 @@ pub did-fresh : {fs : List Fault} {f : ℕ → Code} {k m : ℕ} {t t′ : List 
 did-fresh {fs} {f} {k} {m} {t} {t′} {st} {a} {b} e x = record {
   worst = x .worst ∙ ap (λ (z : ℕ). least z fs) (e .worst);
   fits = x .fits;
-  few = omega (arith, x .few, e .label);
-  grows = omega (arith, x .grows, e .label);
-  clean = λ n.
-      let w = subst (λ (z : ℕ). Wrote (f z) t t′ a b) (e .label) (x .clean n) in
+  few = omega arith;
+  grows = omega arith;
+  clean = λ n. let w = rw (e .label) at (x .clean n) in
       record {
-        text = subst (λ (z : ℕ). Puts (lines (f (st .label + k) .items)) z (b .at) t t′) (e .at) (w .text);
+        text = rw (e .at) at (w .text);
         high = w .high ∙ ap (λ (z : ℕ). greatest z (f (st .label + k) .heights)) (e .high);
-        label = omega (arith, w .label, e .label);
+        label = omega arith;
       };
 }
 
@@ -355,9 +350,7 @@ module _ (place : ℕ) {m : ℕ} {t t′ : List ℕ} {st r : State} where
   value-0 q f et = record { by = by }
     where
       by : (strings h : ℕ) (w : Found) → m ≡ found w → Did (onFound w (fault place 8) []) (exprSays strings h (ofMeaning w)) 0 t t′ st r
-      by strings h unknown e =
-          subst (λ (z : List ℕ). Did (fault place 8) (exprSays strings h (ofMeaning unknown)) 0 t z st r) (sym et)
-          (f .by (exprSays strings h (ofMeaning unknown)) t)
+      by strings h unknown e = rw et (f .by (exprSays strings h (ofMeaning unknown)) t)
       by strings h (known (local k)) e = absurd (omega arith)
       by strings h (known (global k)) e = absurd (omega arith)
       by strings h (known (manifest k)) e = absurd (omega arith)

@@ -86,7 +86,7 @@ marks-none {n = n} z e =
 module _ {i place : ℕ} {seen seen′ : List ℕ} {st r : State} (n : Notes i place seen seen′ st r) where
   note-did : (b : Bool) → i / 8 < length seen → flag seen i ≡ cond b 1 0 → (t : List ℕ) → Did (cond b (fault place 12) []) nothing 0 t t st r
   note-did true l e t = n .again (λ z. let k : _≡_ {A = ℕ} 1 0 = sym e ∙ z in omega arith) .by nothing t
-  note-did false l e t = subst (λ (x : State). Did [] nothing 0 t t st x) (sym (n .fresh l e)) (did-none 0)
+  note-did false l e t = rw (n .fresh l e) (did-none 0)
 
 module _ {v place : ℕ} {seen seen′ : List ℕ} {st r : State} {ls : List CaseLabel} (n : Notes v place seen seen′ st r) (low : v < 65536)
     (m : Marks seen ls) where
@@ -101,22 +101,22 @@ module _ {v place : ℕ} {seen seen′ : List ℕ} {st r : State} {ls : List Cas
       there w b e = ap (λ (x : Bool). cond x 1 0) (sym (case-after-case w v ls ∙ ap (λ (x : Bool). cond x true (hasCase w ls)) e))
 
       go : (w : ℕ) → w < 65536 → (b : Bool) → eqb w v ≡ b → flag seen′ w ≡ cond (hasCase w (ls ++ (R.case v ∷ []))) 1 0
-      go w l true e = ap (λ (k : ℕ). flag seen′ k) (eqb-true w v e) ∙ n .here (omega (arith, m .long)) ∙ there w true e
+      go w l true e = ap (λ (k : ℕ). flag seen′ k) (eqb-true w v e) ∙ n .here (omega arith) ∙ there w true e
       go w l false e = n .other w (eqb-false w v e) ∙ m .cases w l ∙ there w false e
 
   case-did : (t : List ℕ) → Did (cond (hasCase v ls) (fault place 12) []) nothing 0 t t st r
-  case-did = note-did n (hasCase v ls) (omega (arith, m .long)) (m .cases v low)
+  case-did = note-did n (hasCase v ls) (omega arith) (m .cases v low)
 
 module _ {place : ℕ} {seen seen′ : List ℕ} {st r : State} {ls : List CaseLabel} (n : Notes 65536 place seen seen′ st r) (m : Marks seen ls) where
   default-marks : Marks seen′ (ls ++ (R.default ∷ []))
   default-marks = record {
     long = n .long ∙ m .long;
     cases = λ w l. n .other w (λ e. omega arith) ∙ m .cases w l ∙ ap (λ (b : Bool). cond b 1 0) (sym (case-after-default w ls));
-    default = n .here (omega (arith, m .long)) ∙ ap (λ (b : Bool). cond b 1 0) (sym (default-after-default ls));
+    default = n .here (omega arith) ∙ ap (λ (b : Bool). cond b 1 0) (sym (default-after-default ls));
   }
 
   default-did : (t : List ℕ) → Did (cond (hasDefault ls) (fault place 12) []) nothing 0 t t st r
-  default-did = note-did n (hasDefault ls) (omega (arith, m .long)) (m .default)
+  default-did = note-did n (hasDefault ls) (omega arith) (m .default)
 
 pub note-first : {i place x p : ℕ} {seen seen′ : List ℕ} {st : State} → i / 8 < length seen → x ≡ getD seen (i / 8) 0 → p ≡ 2 ^ (i % 8)
     → x / p % 2 ≡ 0 → seen′ ≡ set seen (i / 8) (x + p) → Notes i place seen seen′ st st
@@ -159,9 +159,8 @@ module _ (text : List ℕ) {s : List ℕ} {end : ℕ} (top : ℕ) (st r : State)
       go : After seen seen′
       go sc before (T.case p c) sh (aCase a e i en f) m = absurd (q (nd .kind ∙ a))
       go sc before (T.default p) sh (aDefault a e) m = record {
-        marks = subst (λ (z : List CaseLabel). Marks seen′ z) (sym (labels-then text sc before (T.default p ∷ []))) (default-marks w m);
-        did = λ t. subst (λ (k : ℕ). Did (cond (hasDefault (labelsOf text sc before)) (fault k 12) []) nothing 0 t t st r) (nd .place ∙ e)
-            (default-did w m t);
+        marks = rw (labels-then text sc before (T.default p ∷ [])) (default-marks w m);
+        did = λ t. rw (nd .place ∙ e) at (default-did w m t);
       }
 
   -- a CASE, by what its constant is judged
@@ -177,16 +176,15 @@ module _ (text : List ℕ) {s : List ℕ} {end : ℕ} (top : ℕ) (st r : State)
         go : After seen seen′
         go sc before (T.case p c) sh (aCase {lo = lo} a e i en fine) m =
             let k = f p (labelsOf text sc before) (judge text sc c) (g .by sc lo c sh fine i (nd .inner ∙ en)) e (judged-word text sc c sh fine) m in
-            record { marks = subst (λ (z : List CaseLabel). Marks seen′ z) (sym (labels-then text sc before (T.case p c ∷ []))) (k .0); did = k .1 }
-        go sc before (T.default p) sh (aDefault a e) m = absurd (omega (arith, nd .kind))
+            record { marks = rw (labels-then text sc before (T.case p c ∷ [])) (k .0); did = k .1 }
+        go sc before (T.default p) sh (aDefault a e) m = absurd (omega arith)
 
     pub label-refused : {seen : List ℕ} → (j .number ≡ 0 → ⊥) → Blames j st r → JudgesLabel text s end top seen seen st r
     label-refused {seen} z b = case-by go
       where
         go : By seen seen
         go p ls (good v) (fit w) e low m = absurd (z w)
-        go p ls (refused fs) (unfit a k w) e low m =
-            (subst (λ (x : List CaseLabel). Marks seen x) (sym (append-nil ls)) m, b .by (refused fs) (unfit a k w))
+        go p ls (refused fs) (unfit a k w) e low m = (rw (append-nil ls) m, b .by (refused fs) (unfit a k w))
 
     pub label-case : {seen seen′ : List ℕ} → j .number ≡ 0 → Notes (j .word) (n .place) seen seen′ st r → JudgesLabel text s end top seen seen′ st r
     label-case {seen} {seen′} z w = case-by go
@@ -194,8 +192,7 @@ module _ (text : List ℕ) {s : List ℕ} {end : ℕ} (top : ℕ) (st r : State)
         go : By seen seen′
         go p ls (good v) (fit k) e low m = (
           case-marks w low m,
-          λ t. subst (λ (x : ℕ). Did (cond (hasCase (j .word) ls) (fault x 12) []) nothing 0 t t st r) (nd .place ∙ e)
-              (case-did w low m t),
+          λ t. rw (nd .place ∙ e) at (case-did w low m t),
         )
         go p ls (refused fs) (unfit a k u) e low m = absurd (k (sym a ∙ z))
 
@@ -229,7 +226,7 @@ module _ (text : List ℕ) {s : List ℕ} {from end top : ℕ} (st₀ : State) w
         before = b ++ (x ∷ []);
         marks = k .marks;
         finish = λ seen′ st′ d. h .finish seen′ st′ (record {
-          marks = subst (λ (z : List Label). Marks seen′ (labelsOf text sc z)) (append-assoc b (x ∷ []) xs) (d .marks);
+          marks = rw (append-assoc b (x ∷ []) xs) at (d .marks);
           did = λ t. did-as nothing 0 (did-then (k .did t) (d .did t)) same-refl (λ v z. refl) (omega arith);
         });
       })
@@ -241,7 +238,7 @@ module _ (text : List ℕ) {s : List ℕ} {from end top : ℕ} (st₀ : State) w
   own-end {seen = seen} {st} l p = record {
     by = λ y first m. let k = left-end l (p y first m) in
         k .finish seen st (record {
-          marks = subst (λ (z : List Label). Marks seen (labelsOf text (y .scope) z)) (sym (append-nil (k .before))) (k .marks);
+          marks = rw (append-nil (k .before)) (k .marks);
           did = λ t. did-none
               0;
         });
@@ -266,7 +263,7 @@ module _ (text : List ℕ) {s : List ℕ} {from end top : ℕ} (st₀ : State) w
   list-begin {seen} e y = left-all (Others y seen st₀) (list-of y .row) (record {
     before = [];
     marks = marks-none refl e;
-    finish = λ t st′ d. subst (λ (z : List Fault). Did z nothing 0 t t st₀ st′) (among-is text (y .scope) [] (y .commands)) d;
+    finish = λ t st′ d. rw (among-is text (y .scope) [] (y .commands)) at d;
   })
 
   pub list-next : {at next : ℕ} {sp : Span} {seen seen₁ : List ℕ} {st r : State} → at < end → NextItem s at end next → Spans s next sp

@@ -81,7 +81,7 @@ pub flag-taken : (seen : List ℕ) (i : ℕ) → (flag seen i ≡ 0 → ⊥) →
 flag-taken seen i n = go (getD seen (i / 8) 0 / 2 ^ (i % 8)) n
   where
     go : (y : ℕ) → (y % 2 ≡ 0 → ⊥) → y % 2 ≡ 1
-    go y n = omega (arith, n)
+    go y n = omega arith
 
 -- ---- the last of eight
 

@@ -35,8 +35,12 @@ is-declaration {s} {at} (d ∷ p) h e l =
 pub no-declaration : {at end : ℕ} (p : Program) → end ≡ at + length (encodeProgram p) → end ≤ at → p ≡ []
 no-declaration [] e l = refl
 no-declaration {at} {end} (d ∷ p) e l =
-    absurd
-    (omega (arith, e, ap length (program-step d p), length-append (length (encodeDeclared d) ∷ declaredWord d ∷ encodeDeclared d) (encodeProgram p)))
+    absurd (omega (
+      arith,
+      ap length (program-step d p),
+      length-append (length (encodeDeclared d) ∷ declaredWord d ∷ encodeDeclared d)
+          (encodeProgram p),
+    ))
 
 -- the functions of one declaration
 abbrev ownCount : Declaration → ℕ
@@ -78,9 +82,9 @@ module _ {s : List ℕ} {from end at n size word : ℕ} (l : at < end) (es : siz
       let k : size ≡ length (encodeDeclared (u .part)) = es ∙ u .size-of in
       record {
         rest = u .more;
-        lies = subst (λ (z : ℕ). Lies s (at + 2 + z) (encodeProgram (u .more))) (sym k) (u .lies-more);
-        ends = omega (arith, u .ends, k);
-        sum = omega (arith, c .sum, ap functionCount (u .same), count-step (u .part) (u .more), own (u .part) (ew ∙ u .word-of) (u .lies) k);
+        lies = rw k (u .lies-more);
+        ends = omega arith;
+        sum = omega (arith, ap functionCount (u .same), count-step (u .part) (u .more), own (u .part) (ew ∙ u .word-of) (u .lies) k);
       }
 
   pub counted-group : {m : ℕ} → word ≡ K.LET → CountsGroup s (at + 2) (at + 2 + size) m → Counted s from end (at + 2 + size) (n + m)
@@ -101,11 +105,9 @@ module _ {s : List ℕ} {from end at n size word : ℕ} (l : at < end) (es : siz
 
   -- a group never reaches past the end
   pub counted-past : end < at + 2 + size → Counted s from end (at + 2 + size) n
-  counted-past g p h e =
-      let c = q p h e in let u = is-declaration (c .rest) (c .lies) (c .ends) l in absurd (omega (arith, g, es, u .size-of, u .ends))
+  counted-past g p h e = let c = q p h e in let u = is-declaration (c .rest) (c .lies) (c .ends) l in absurd (omega arith)
 
 pub counted-end : {s : List ℕ} {from end at n : ℕ} → end ≤ at → Counted s from end at n → CountsFunctions s from end n
 counted-end l q = record {
-  by = λ p h e. let c = q p h e in
-      omega (arith, c .sum, ap functionCount (no-declaration (c .rest) (c .ends) l), count-none);
+  by = λ p h e. let c = q p h e in omega (arith, ap functionCount (no-declaration (c .rest) (c .ends) l), count-none);
 }

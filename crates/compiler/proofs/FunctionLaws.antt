@@ -53,7 +53,7 @@ parted {s} {lo} {end} f h e =
       size-of = size-is w v 0 k h e ∙ z;
       value-of = value-is w v 0 k h e;
       kind-of = kind-is w v 0 k h e;
-      ends = omega (arith, ends w v 0 k h e, z);
+      ends = omega (arith, ends w v 0 k h e);
     }
 
 -- inside: above the mark and the parameters
@@ -71,21 +71,21 @@ module _ {s : List ℕ} {end : ℕ} {here : Here} {st : State} (n : Node) (nd : 
   function-parts y = parted (y .tree) (y .lies) (y .ends)
 
   pub function-start : (y : ReadyF s end here st) → n .start ≡ y .lo
-  function-start y = let u = function-parts y in omega (arith, nd .start, u .size-of, u .ends)
+  function-start y = let u = function-parts y in omega arith
 
   pub function-many : (y : ReadyF s end here st) → n .value / 4 ≡ length (y .tree .parameters)
-  function-many y = let u = function-parts y in omega (arith, nd .value, u .value-of, names-long (y .tree .parameters))
+  function-many y = let u = function-parts y in omega (arith, names-long (y .tree .parameters))
 
   pub function-length : (y : ReadyF s end here st)
       → length (encodeFunction (y .tree)) ≡ 8 + 4 * length (y .tree .parameters) + length (encodeBody (y .tree .body))
-  function-length y = omega (arith, y .ends, function-parts y .ends, names-long (y .tree .parameters))
+  function-length y = omega (arith, function-parts y .ends, names-long (y .tree .parameters))
 
   -- room for the mark and the parameters
   pub function-room : (y : ReadyF s end here st)
       → (here .top + 2 ≤ length s) × (here .top + 2 ≤ y .base) × (here .top + 2 + 2 * (n .value / 4) ≤ y .base) × (y .base < 2 ^ 32)
   function-room y =
       let z = function-length y in let k = function-many y in
-      (omega (arith, y .room, z, y .long), omega (arith, y .room, z), omega (arith, y .room, z, k), omega (arith, y .above, y .ends, y .small))
+      (omega arith, omega arith, omega arith, omega arith)
 
   module _ {s₁ : List ℕ} (pu : Pushed s s₁ (here .top) 0 0) where
     abbrev pub function-names : ReadyF s end here st → ReadyNames s₁ (n .start + 4) (n .start + 4 + n .value) (here .top + 2) 2
@@ -96,15 +96,14 @@ module _ {s : List ℕ} {end : ℕ} {here : Here} {st : State} (n : Node) (nd : 
           base = y .base;
           scope = opened (y .scope);
           names = y .tree .parameters;
-          lies = subst (λ (i : ℕ). Lies s₁ (i + 4) (encodeNames (y .tree .parameters))) (sym q)
-              (keeps-lies k (omega (arith, y .above)) (u .lies-names));
-          ends = omega (arith, nd .value, u .value-of);
-          above = omega (arith, y .above, q);
-          long = omega (arith, y .long, k .long);
-          small = omega (arith, y .small, q, nd .value, u .value-of, u .ends);
+          lies = rw q (keeps-lies k (omega arith) (u .lies-names));
+          ends = omega arith;
+          above = omega arith;
+          long = omega arith;
+          small = omega arith;
           shows = pushed-mark pu (r .1) (y .long) (y .shows) refl;
-          room = omega (arith, y .room, z);
-          heights = omega (arith, y .height, z);
+          room = omega arith;
+          heights = omega arith;
           fine = y .fine .parameters;
         }
 
@@ -114,7 +113,7 @@ module _ {s : List ℕ} {end : ℕ} {here : Here} {st : State} (n : Node) (nd : 
       function-keeps y = keeps-then (pushed-keeps pu (function-room y .1) (y .long)) (keeps-lower (omega arith) (de .by (function-names y) .keeps))
 
       pub function-label : ReadyF s end here st → c .label ≡ st .label
-      function-label y = let d = de .by (function-names y) .did t₁ in omega (arith, re .by t₁ .label, d .few, d .grows, em .label)
+      function-label y = let d = de .by (function-names y) .did t₁ in omega (arith, re .by t₁ .label)
 
       abbrev pub function-body : ReadyF s end here st → ReadyBody s₂ (n .inner) (within n here) c (n .kind)
       function-body y =
@@ -123,12 +122,8 @@ module _ {s : List ℕ} {end : ℕ} {here : Here} {st : State} (n : Node) (nd : 
           record {
             ready =
                 moved encodeBody bodyDepth FineB y k (n .inner) (y .lo + 4 + length (encodeNames (y .tree .parameters))) (within n here) c
-                (y .tree .body)
-                (declareAll (opened (y .scope)) 2 (y .tree .parameters)) (u .lies-body) (omega (arith, nd .inner, u .ends)) (omega arith)
-                (omega (arith, nd .inner))
-                (subst (λ (i : ℕ). Shows s₂ (here .top + 2 + 2 * i) (declareAll (opened (y .scope)) 2 (y .tree .parameters))) (sym m) (d .shows))
-                (omega (arith, y .room, z, m)) refl (omega (arith, y .height, z, m)) (omega (arith, y .label, z, l)) (omega (arith, y .some, l))
-                (y .shallow) (y .fine .body);
+                (y .tree .body) (declareAll (opened (y .scope)) 2 (y .tree .parameters)) (u .lies-body) (omega arith) (omega arith) (omega arith)
+                (rw m (d .shows)) (omega arith) refl (omega arith) (omega arith) (omega arith) (y .shallow) (y .fine .body);
             word-is = nd .kind ∙ u .kind-of;
             routine-is = refl;
           }
@@ -137,16 +132,9 @@ module _ {s : List ℕ} {end : ℕ} {here : Here} {st : State} (n : Node) (nd : 
           → Emits (G.X 4 ∷ []) [] t₂ t₃ d r → GaveF text s s₃ label end here t t₃ st r
       unfolding functionFaults resolved heightsOf
       function-gave {s₃} {t₂} {t₃} {d} {r} g pt = record {
-        by = λ y.
-            let f = y .tree in let sc = inside (y .scope) f in let w = de .by (function-names y) in let x = g .by (function-body y) in
-            let body = subst (λ (k : ℕ). Did (bodyFaults text sc (2 + k) (f .body))
-            (λ i. record {
-              items = G.bodyCode (here .strings) (2 + k) i (bodyOf text sc (2 + k) (f .body));
-              heights = ofBody (2 + k) (bodyOf text sc (2 + k) (f .body));
-              labels = G.bodyLabels (bodyOf text sc (2 + k) (f .body));
-            })
-            (2 * length (encodeBody (f .body))) t₁ t₂ c d) (function-many y) (x .did) in let top = subst (λ (k : ℕ). Emits [] ((2 + k) ∷ []) t₁ t₁ b
-            c) (function-many y) (re .by t₁) in let h = 2 + length (f .parameters) in let rb = bodyOf text sc h (f .body) in
+        by = λ y. let f = y .tree in let sc = inside (y .scope) f in let w = de .by (function-names y) in let x = g .by (function-body y) in
+            let body = rw (function-many y) at (x .did) in let top = rw (function-many y) at (re .by t₁) in let h = 2 + length (f .parameters) in
+            let rb = bodyOf text sc h (f .body) in
             record {
               keeps = keeps-then (function-keeps y) (keeps-lower (omega arith) (x .keeps));
               did =

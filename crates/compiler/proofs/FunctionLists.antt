@@ -118,8 +118,7 @@ yields-then {strings} {l} k {fs} {fs′} {gs} {gs′} {m} {m′} {t} {t₁} {t�
 pub yields-as : {strings l : ℕ} {fs fs′ : List Fault} {gs gs′ : List Named} {m : ℕ} (m′ : ℕ) {t t′ : List ℕ} {d d′ : Done} → fs ≡ fs′ → gs ≡ gs′
     → m ≤ m′ → Yields strings l fs gs m t t′ d d′ → Yields strings l fs′ gs′ m′ t t′ d d′
 yields-as {strings} {l} {fs} {fs′} {gs} {gs′} {m} m′ {t} {t′} {d} {d′} a b c x =
-    subst (λ (z : List Fault). Yields strings l z gs′ m′ t t′ d d′) a
-    (subst (λ (z : List Named). Yields strings l fs z m′ t t′ d d′) b
+    rw (← a) (rw (← b)
     (record { did = did-as (functionsSays strings l (funs gs)) m′ (x .did) same-refl (λ n e. refl) c; tall = x .tall; fits = x .fits }))
 
 -- ---- the height is taken away
@@ -131,7 +130,7 @@ pub did-flat : {fs : List Fault} {code : ℕ → Code} {m : ℕ} {t t′ : List 
     → Did fs (λ n. record { items = code n .items; heights = []; labels = code n .labels }) m t t′ st r
 unfolding greatest
 did-flat {fs} {code} {m} {t} {t′} {st} {a} {r} low e x =
-    subst (λ (z : State). Did fs (λ n. record { items = code n .items; heights = []; labels = code n .labels }) m t t′ st z) (sym e) (record {
+    rw e (record {
       worst = x .worst;
       fits = x .fits;
       few = x .few;
@@ -256,14 +255,14 @@ module _ (text t₀ : List ℕ) {s₀ : List ℕ} {from end : ℕ} {here : Here}
     group-one = is-function (p .rest) (p .lies) (p .ends) lt
 
     pub group-size : size ≡ length (encodeFunction (group-one .part))
-    group-size = es ∙ p .keeps .above at (omega (arith, y .above, p .starts)) ∙ group-one .size-of
+    group-size = es ∙ p .keeps .above at (omega arith) ∙ group-one .size-of
 
     pub group-length : length (encodeFunctions (p .rest)) ≡ 2 + length (encodeFunction (group-one .part)) + length (encodeFunctions (group-one .more))
     group-length = omega (arith, p .ends, group-one .ends)
 
     pub group-deep : (functionDepth (group-one .part) ≤ here .left) × (functionsDepth (group-one .more) ≤ here .left)
     unfolding functionsDepth
-    group-deep = (omega (arith, p .shallow, ap functionsDepth (group-one .same)), omega (arith, p .shallow, ap functionsDepth (group-one .same)))
+    group-deep = (omega (arith, ap functionsDepth (group-one .same)), omega (arith, ap functionsDepth (group-one .same)))
 
     pub group-fine : FineF (group-one .part) × FineFs (group-one .more)
     unfolding FineFunctions
@@ -273,11 +272,11 @@ module _ (text t₀ : List ℕ) {s₀ : List ℕ} {from end : ℕ} {here : Here}
     group-many = ap length (group-one .same)
 
     pub group-room : here .top * 2 + length (encodeFunction (group-one .part)) ≤ y .base * 2
-    group-room = omega (arith, p .room, group-length, group-many, functions-long (group-one .more))
+    group-room = omega (arith, group-length, group-many, functions-long (group-one .more))
 
     pub group-used : p .used + 2 + length (encodeFunction (group-one .part)) + length (encodeFunctions (group-one .more))
         ≤ length (encodeFunctions (y .functions))
-    group-used = omega (arith, p .uses, group-length)
+    group-used = omega (arith, group-length)
 
     abbrev pub group-ready : ReadyF s next here (d .state)
     group-ready = record {
@@ -285,15 +284,15 @@ module _ (text t₀ : List ℕ) {s₀ : List ℕ} {from end : ℕ} {here : Here}
       lo = at + 2;
       tree = group-one .part;
       scope = y .scope;
-      lies = keeps-lies (p .keeps) (omega (arith, y .above, p .starts)) (group-one .lies);
+      lies = keeps-lies (p .keeps) (omega arith) (group-one .lies);
       ends = omega (arith, en, group-size);
-      above = omega (arith, y .above, p .starts);
-      long = omega (arith, y .long, p .keeps .long);
+      above = omega arith;
+      long = omega arith;
       small = omega (arith, y .small, en, group-size, group-one .ends);
       shows = keeps-shows (p .keeps) (omega arith) (y .shows);
       room = group-room;
-      height = omega (arith, y .height, group-used);
-      label = omega (arith, y .label, group-used, p .yields .did .few);
+      height = omega (arith, group-used);
+      label = omega (arith, group-used);
       some = p .some;
       strings = y .strings;
       shallow = group-deep .0;
@@ -304,7 +303,7 @@ module _ (text t₀ : List ℕ) {s₀ : List ℕ} {from end : ℕ} {here : Here}
     group-fits = record {
       next = omega (arith, group-size, group-one .ends);
       small = y .small;
-      few = omega (arith, p .next, p .few, p .uses, y .ends, p .ends, lt);
+      few = omega arith;
     }
 
     pub group-next : {s₁ t₁ : List ℕ} {tall place : ℕ} {a r : State} → GaveF text s s₁ l next here t t₁ (d .state) a → place ≡ getD s₁ (at + 4) 0
@@ -313,10 +312,9 @@ module _ (text t₀ : List ℕ) {s₀ : List ℕ} {from end : ℕ} {here : Here}
     unfolding groupFaults groupOf
     group-next {s₁} {t₁} {tall} {place} {a} {r} g ep small et er =
         let u = group-one in let f = u .part in let x = g .by group-ready in let start = startOf (lookup text (p .scope) (f .name)) in
-        let n = namedBy text (y .scope) start f in let q4 : at + 2 + 2 ≡ at + 4 = omega arith in
-        let one = yields-one text (y .scope) start (here .strings) l f (x .did) (p .low) er
-        (ep ∙ x .keeps .above (at + 4) (omega (arith, y .above, p .starts)) ∙ p .keeps .above (at + 4) (omega (arith, y .above, p .starts)) ∙ ap
-        (λ (z : ℕ). getD s₀ z 0) (sym q4) ∙ function-place f (u .lies)) small et in
+        let n = namedBy text (y .scope) start f in let q4 : at + 2 + 2 ≡ at + 4 = omega arith in let one = yields-one text (y .scope) start
+        (here .strings) l f (x .did) (p .low) er (ep ∙ x .keeps .above (at + 4) (omega arith) ∙ p .keeps .above (at + 4) (omega arith)
+        ∙ ap (λ (z : ℕ). getD s₀ z 0) (sym q4) ∙ function-place f (u .lies)) small et in
         record {
           rest = u .more;
           found = p .found ++ functionFaults text (y .scope) f;
@@ -325,24 +323,17 @@ module _ (text t₀ : List ℕ) {s₀ : List ℕ} {from end : ℕ} {here : Here}
           number = p .number + 1;
           used = p .used + (2 + length (encodeFunction f));
           lies = subst (λ (z : ℕ). Lies s₀ z (encodeFunctions (u .more))) (omega (arith, en, group-size)) (u .lies-more);
-          ends = omega (arith, u .ends, en, group-size);
-          starts = omega (arith, p .starts, en);
+          ends = omega (arith, en, group-size);
+          starts = omega arith;
           keeps = keeps-then (p .keeps) (x .keeps);
-          uses = omega (arith, group-used);
-          room = omega (
-            arith,
-            p .room,
-            group-length,
-            group-many,
-            functions-step f (u .more),
-            ap (λ (z : List Function). length (encodeFunctions z)) (u .same),
-          );
-          some = omega (arith, p .some, one .did .grows);
+          uses = omega arith;
+          room = omega (arith, group-length, group-many, functions-step f (u .more), ap (λ (z : List Function). length (encodeFunctions z)) (u .same));
+          some = omega arith;
           low = ap (λ (z : State). z .high) er;
           shallow = group-deep .1;
           fine = group-fine .1;
-          next = omega (arith, p .next, length-append (p .made) (n ∷ []));
-          few = omega (arith, p .few, length-append (p .made) (n ∷ []));
+          next = omega (arith, length-append (p .made) (n ∷ []));
+          few = omega (arith, length-append (p .made) (n ∷ []));
           faults-are = append-assoc (p .found) (functionFaults text (y .scope) f) (groupFaults text (y .scope) (u .more))
               ∙ ap (λ (z : List Function). p .found ++ groupFaults text (y .scope) z) (sym (u .same)) ∙ p .faults-are;
           made-are = append-assoc (p .made) (n ∷ [])
@@ -356,11 +347,10 @@ module _ (text t₀ : List ℕ) {s₀ : List ℕ} {from end : ℕ} {here : Here}
       → GaveFs text s₀ s from end label here t₀ t d₀ d
   unfolding groupFaults groupOf
   group-end {s} {t} {at} {l} {d} lt q = record {
-    by = λ y before k. let p = q y before k in let e = no-function (p .rest) (p .ends) lt in
-        let fe : p .found ≡ groupFaults text (y .scope) (y .functions) = sym (append-nil (p .found)) ∙ ap
-        (λ (z : List Function). p .found ++ groupFaults text (y .scope) z) (sym e) ∙ p .faults-are in
-        let me : p .made ≡ groupOf text k before (y .scope) (y .functions) = sym (append-nil (p .made)) ∙ ap
-        (λ (z : List Function). p .made ++ groupOf text (p .number) (p .scope) (y .scope) z) (sym e) ∙ p .made-are in
-        let r = yields-as (2 * length (encodeFunctions (y .functions))) fe me (omega (arith, p .uses)) (p .yields) in
+    by = λ y before k. let p = q y before k in let e = no-function (p .rest) (p .ends) lt in let fe : p .found ≡ groupFaults text (y .scope)
+        (y .functions) = sym (append-nil (p .found)) ∙ ap (λ (z : List Function). p .found ++ groupFaults text (y .scope) z) (sym e)
+        ∙ p .faults-are in let me : p .made ≡ groupOf text k before (y .scope) (y .functions) = sym (append-nil (p .made))
+        ∙ ap (λ (z : List Function). p .made ++ groupOf text (p .number) (p .scope) (y .scope) z) (sym e) ∙ p .made-are in let r = yields-as
+        (2 * length (encodeFunctions (y .functions))) fe me (omega arith) (p .yields) in
         record { result = record { keeps = p .keeps; did = r .did }; tall = r .tall; fits = r .fits; low = p .low };
   }

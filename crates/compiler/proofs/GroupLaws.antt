@@ -89,8 +89,8 @@ taken-more {table} {ns} {n} {v} k l p = record { long = length-set table n v ∙
       where
         go : (b : Bool) → eqb i n ≡ b → cond b true (among i ns) ≡ true → 0 < getD (set table n v) i 0
         go true q z =
-            let e : i ≡ n = eqb-true i n q in
-            let w : getD (set table n v) i 0 ≡ v = ap (λ (x : ℕ). getD (set table n v) x 0) e ∙ getD-set-same table n v 0 (omega (arith, k .long)) in
+            let e : i ≡ n = eqb-true i n q in let w : getD (set table n v) i 0 ≡ v = ap (λ (x : ℕ). getD (set table n v) x 0) e ∙ getD-set-same table
+            n v 0 (omega arith) in
             omega arith
         go false q z =
             let w : getD (set table n v) i 0 ≡ getD table i 0 = getD-set-other table n i v 0 (eqb-false i n q) in omega (arith, k .used i li z)
@@ -111,7 +111,7 @@ enters-global {s} {table} {table′} {top} {leaf} {m} {k} {n} {v} e en ev et = r
         let z : n ≡ i = omega arith in (
           sh,
           keeps-all,
-          subst (λ (x : List ℕ). Taken x (i ∷ ns)) (sym (et ∙ ap (λ (x : ℕ). set table x v) z)) (taken-more tk (b i refl) (omega arith)),
+          rw (et ∙ ap (λ (x : ℕ). set table x v) z) (taken-more tk (b i refl) (omega arith)),
           omega arith,
           omega arith,
           et ∙ ap (λ (x : ℕ). set table x v) z ∙ ap (set table i) ev,
@@ -126,7 +126,7 @@ enters-name {s} {s′} {table} {top} {leaf} {m} {k} {x} e pu ex el = record { lo
         → Taken table ns → Shows s′ (top + 2) (declared sc name (N.function k)) × Keeps base top s s′ × Taken table ns × (top ≤ top + 2)
         × (top + 2 ≤ top + 2) × (table ≡ table)
     there base sc ns name sh l r nm tk = (
-      subst (λ (z : Name). Shows s′ (top + 2) (declared sc z (N.function k))) nm (pushed-name pu r l (N.function k) sh ex tt),
+      rw nm at (pushed-name pu r l (N.function k) sh ex tt),
       pushed-keeps
           (pu .pushed) r l,
       tk,
@@ -156,7 +156,7 @@ enters-far {s} {table} {top} {leaf} {m} {k} {n} e en l₀ = record { long = (ref
     by (N.known (N.local i)) base sc ns name q sh l r nm tk b = absurd (omega arith)
     by (N.known (N.manifest i)) base sc ns name q sh l r nm tk b = absurd (omega arith)
     by (N.known (N.function i)) base sc ns name q sh l r nm tk b = absurd (omega arith)
-    by (N.known (N.global i)) base sc ns name q sh l r nm tk b = absurd (omega (arith, b i refl, tk .long))
+    by (N.known (N.global i)) base sc ns name q sh l r nm tk b = absurd (omega (arith, b i refl))
 
 -- ---- how many functions a group has
 
@@ -193,10 +193,10 @@ count-next {s} {from} {end} {at} {n} {size} l z q fs h e =
     let p = q fs h e in let u = is-function (p .rest) (p .lies) (p .ends) l in let k : size ≡ length (encodeFunction (u .part)) = z ∙ u .size-of in
     record {
       rest = u .more;
-      lies = subst (λ (m : ℕ). Lies s (at + 2 + m) (encodeFunctions (u .more))) (sym k) (u .lies-more);
-      ends = omega (arith, u .ends, k);
-      sum = omega (arith, p .sum, ap length (u .same));
+      lies = rw k (u .lies-more);
+      ends = omega arith;
+      sum = omega (arith, ap length (u .same));
     }
 
 pub count-end : {s : List ℕ} {from end at n : ℕ} → end ≤ at → Counting s from end at n → CountsGroup s from end n
-count-end l q = record { by = λ fs h e. let p = q fs h e in omega (arith, p .sum, ap length (no-function (p .rest) (p .ends) l)) }
+count-end l q = record { by = λ fs h e. let p = q fs h e in omega (arith, ap length (no-function (p .rest) (p .ends) l)) }

@@ -116,7 +116,7 @@ starting-global {table} {ss} {k} m lm free e z = record { is = is; has = has }
 starting-more : (place : ℕ) (f : N.Found) {table table′ ns : List ℕ} {ss : List Start} {k : ℕ} → Taken table ns
     → ((n : ℕ) → f ≡ N.known (N.global n) → n < 400)
     → nameFault place ns f ≡ [] → table′ ≡ started table k (startOf f) → length ss ≡ k → Starting table ss → Starting table′ (ss ++ (startOf f ∷ []))
-starting-more place f {table} {table′} {ns} {ss} {k} tk b q et e z = subst (λ (x : List ℕ). Starting x (ss ++ (startOf f ∷ []))) (sym et) (go f b q)
+starting-more place f {table} {table′} {ns} {ss} {k} tk b q et e z = rw et (go f b q)
   where
     free : (n : ℕ) → n < 400 → (t : Bool) → among n ns ≡ t → cond t (fault place 9) [] ≡ [] → getD table n 0 ≡ 0
     free n l false a q = tk .free n l a
@@ -128,7 +128,7 @@ starting-more place f {table} {table′} {ns} {ss} {k} tk b q et e z = subst (λ
     go (N.known (N.local i)) b q = starting-nowhere e z
     go (N.known (N.manifest i)) b q = starting-nowhere e z
     go (N.known (N.function i)) b q = starting-nowhere e z
-    go (N.known (N.global n)) b q = starting-global n (omega (arith, b n refl, tk .long)) (free n (b n refl) (among n ns) refl q) e z
+    go (N.known (N.global n)) b q = starting-global n (omega (arith, b n refl)) (free n (b n refl) (among n ns) refl q) e z
 
 -- a function's name adds no global
 pub small-with : (sc : Scope) (name : Name) (k : ℕ) (x : Start) → Small sc → Small (withFunction sc name k x)
@@ -201,7 +201,7 @@ module _ (text : List ℕ) {s₀ table₀ : List ℕ} {from end top before : ℕ
     did = λ t. did-none 0;
     started = refl;
     counted = omega arith;
-    starting = λ q ss e z. subst (λ (x : List Start). Starting table₀ x) (sym (append-nil ss)) z;
+    starting = λ q ss e z. rw (append-nil ss) z;
   }
 
   -- what the code needs at a function
@@ -220,20 +220,19 @@ module _ (text : List ℕ) {s₀ table₀ : List ℕ} {from end top before : ℕ
       (p .ends) l .part .name
   function-name l y p =
       let u = is-function (p .rest) (p .lies) (p .ends) l in
-      keeps-name (p .keeps) (omega (arith, y .above, p .starts)) ∙ name-of (u .part) (u .lies)
+      keeps-name (p .keeps) (omega arith) ∙ name-of (u .part) (u .lies)
 
   pub names-fit : {s table : List ℕ} {at k now : ℕ} {st : State} → at < end
       → (y : ReadyGroup s₀ table₀ from end top before) → GroupPart y s table at k now st → Fits y s table at k now
   names-fit {s} {at = at} l y p =
-      let u = is-function (p .rest) (p .lies) (p .ends) l in let c = ap length (u .same) in
-      let low : y .base ≤ at = omega (arith, y .above, p .starts) in
+      let u = is-function (p .rest) (p .lies) (p .ends) l in let c = ap length (u .same) in let low : y .base ≤ at = omega arith in
       record {
-        next = omega (arith, p .keeps .above at low, u .size-of, u .ends);
-        room = omega (arith, y .room, p .room, c);
-        long = omega (arith, y .long, p .keeps .long);
+        next = omega (arith, p .keeps .above at low);
+        room = omega arith;
+        long = omega arith;
         small = y .small;
         low = low;
-        few = omega (arith, y .few, p .many, c);
+        few = omega arith;
         table-long = p .free .long;
         name = subst FineName (sym (function-name l y p)) (fine-first (u .part) (u .more) (subst FineFs (u .same) (p .fine)) .0 .name);
       }
@@ -258,14 +257,14 @@ module _ (text : List ℕ) {s₀ table₀ : List ℕ} {from end top before : ℕ
         taken = alsoTaken x (p .taken);
         bad = p .bad ++ fs;
         begun = p .begun ++ (x ∷ []);
-        lies = subst (λ (z : ℕ). Lies s₀ z (encodeFunctions (u .more))) (omega (arith, en, sz)) (u .lies-more);
-        ends = omega (arith, u .ends, en, sz);
-        starts = omega (arith, p .starts, en);
+        lies = subst (λ (z : ℕ). Lies s₀ z (encodeFunctions (u .more))) (omega arith) (u .lies-more);
+        ends = omega arith;
+        starts = omega arith;
         shows = e .0;
         keeps = keeps-then (p .keeps) (keeps-lower (p .up) (e .1));
-        up = omega (arith, p .up, e .3);
-        room = omega (arith, p .room, e .4, c);
-        many = omega (arith, p .many, c);
+        up = omega arith;
+        room = omega arith;
+        many = omega arith;
         fine = fine-first (u .part) (u .more) (subst FineFs (u .same) (p .fine)) .1;
         globals = small-with sc name k x (p .globals);
         free = e .2;
@@ -273,16 +272,13 @@ module _ (text : List ℕ) {s₀ table₀ : List ℕ} {from end top before : ℕ
         takens = p .takens ∙ ap (takenAfter text k sc (p .taken)) (u .same);
         faults = p .faults ∙ ap (λ (z : List Function). p .bad ++ groupNameFaults text k sc (p .taken) z) (u .same) ∙ sym
             (append-assoc (p .bad) fs _);
-        did = λ t.
-            did-as nothing 0 (did-then (p .did t)
-            (subst (λ (z : ℕ). Did (nameFault z (p .taken) f) nothing 0 t t st r) place-is (nf .by f (p .taken) m-is (p .free) small t)))
-            same-refl (λ i q. refl) (omega arith);
+        did = λ t. did-as nothing 0 (did-then (p .did t) (rw place-is at (nf .by f (p .taken) m-is (p .free) small t))) same-refl (λ i q. refl)
+            (omega arith);
         started = p .started ∙ ap (λ (z : List Function). p .begun ++ startsIn text k sc z) (u .same) ∙ sym (append-assoc (p .begun) (x ∷ []) _);
-        counted = omega (arith, p .counted, length-append (p .begun) (x ∷ []));
-        starting = λ q ss h z.
-            let long : length (ss ++ p .begun) ≡ k = omega (arith, length-append ss (p .begun), h, p .counted) in
-            subst (λ (v : List Start). Starting table′ v) (append-assoc ss (p .begun) (x ∷ []))
-            (starting-more (name .place) f (p .free) small (nil-right (p .bad) fs q) (e .5) long (p .starting (nil-left (p .bad) fs q) ss h z));
+        counted = omega (arith, length-append (p .begun) (x ∷ []));
+        starting = λ q ss h z. let long : length (ss ++ p .begun) ≡ k = omega (arith, length-append ss (p .begun)) in
+            rw (append-assoc ss (p .begun) (x ∷ [])) at (starting-more (name .place) f (p .free) small (nil-right (p .bad) fs q) (e .5) long
+            (p .starting (nil-left (p .bad) fs q) ss h z));
       }
 
   pub names-end : {s table : List ℕ} {at k now : ℕ} {st : State} → end ≤ at
@@ -297,11 +293,11 @@ module _ (text : List ℕ) {s₀ table₀ : List ℕ} {from end top before : ℕ
         let ss : startsIn text before (y .scope) (y .functions) ≡ p .begun =
         p .started ∙ ap (λ (z : List Function). p .begun ++ startsIn text k (p .scope) z) e ∙ append-nil (p .begun) in
         record {
-          shows = subst (λ (z : Scope). Shows s now z) (sym (p .scopes ∙ ap (functionsAfter text k (p .scope)) e)) (p .shows);
+          shows = rw (p .scopes ∙ ap (functionsAfter text k (p .scope)) e) (p .shows);
           keeps = p .keeps;
-          up = (p .up, omega (arith, p .room));
-          taken = subst (λ (z : List ℕ). Taken table z) (sym (p .takens ∙ ap (takenAfter text k (p .scope) (p .taken)) e)) (p .free);
-          did = λ t. subst (λ (z : List Fault). Did z nothing 0 t t st₀ st) (sym fs) (p .did t);
-          starting = λ none xs h z. subst (λ (v : List Start). Starting table (xs ++ v)) (sym ss) (p .starting (sym fs ∙ none) xs h z);
+          up = (p .up, omega arith);
+          taken = rw (p .takens ∙ ap (takenAfter text k (p .scope) (p .taken)) e) (p .free);
+          did = λ t. rw fs (p .did t);
+          starting = λ none xs h z. rw ss (p .starting (sym fs ∙ none) xs h z);
         };
   }

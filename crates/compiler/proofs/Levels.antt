@@ -140,7 +140,7 @@ module _ {s table : List ℕ} {from end tag left strings : ℕ} {l : Progress} (
     long = y .long;
     small = y .small;
     shows = y .stands .shows;
-    room = omega (arith, y .room, ap length its-encoded, items-long (its .items));
+    room = omega (arith, ap length its-encoded, items-long (its .items));
     fine = items-fine (eqb tag K.GLOBAL) (its .items) (subst (FineDeclaration STRINGS) (its .same) (y .fine));
   }
 
@@ -153,12 +153,12 @@ walked-items {text} {t = t} w true is a i n = record {
     shows = i .shows;
     globals = small-globals text (w .scope) is (a .globals);
     free = a .free;
-    many = omega (arith, n .functions, a .many);
-    some = omega (arith, a .some, i .did t .grows);
+    many = omega arith;
+    some = omega (arith, i .did t .grows);
     low = n .low;
   };
   keeps = i .keeps;
-  up = (omega (arith, i .moved), omega (arith, i .moved, items-long is));
+  up = (omega arith, omega (arith, items-long is));
   yields = yields-faults (2 * length (encodeItems is)) (n .tall) (i .did t);
   starting = λ e ss q h. subst (Starting _) (sym (append-nil ss)) h;
 }
@@ -167,12 +167,12 @@ walked-items {text} {t = t} w false is a i n = record {
     shows = i .shows;
     globals = small-manifests text (w .scope) is (a .globals);
     free = a .free;
-    many = omega (arith, n .functions, a .many);
-    some = omega (arith, a .some, i .did t .grows);
+    many = omega arith;
+    some = omega (arith, i .did t .grows);
     low = n .low;
   };
   keeps = i .keeps;
-  up = (omega (arith, i .moved), omega (arith, i .moved, items-long is));
+  up = (omega arith, omega (arith, items-long is));
   yields = yields-faults (2 * length (encodeItems is)) (n .tall) (i .did t);
   starting = λ e ss q h. subst (Starting _) (sym (append-nil ss)) h;
 }
@@ -181,8 +181,7 @@ pub gave-items : {text s s′ table t : List ℕ} {from end tag left strings : �
     → NamedItems (eqb tag K.GLOBAL) text s s′ from end l r → GaveDeclaration text s s′ table table from end tag left strings t t l r
 gave-items {text} {s} {s′} {table} {t} {tag = tag} {strings = strings} {l} {r} n x = record {
   by = λ y. let u = is-items (y .part) (y .word) n in
-      subst (λ (p : Declaration). WalkedOn text (y .walk) p (y .base) strings s s′ table table t t l r) (sym (u .same))
-      (walked-items (y .walk) (eqb tag K.GLOBAL) (u .items) (y .stands) (x .known .by (ready-items n y)) x);
+      rw (u .same) (walked-items (y .walk) (eqb tag K.GLOBAL) (u .items) (y .stands) (x .known .by (ready-items n y)) x);
 }
 
 -- ---- a group of functions
@@ -205,7 +204,7 @@ module _ {s table : List ℕ} {from end left strings : ℕ} {l : Progress} (y : 
 
   pub group-depth : functionsDepth (grp .functions) ≤ left
   unfolding declarationDepth
-  group-depth = subst (λ (p : Declaration). declarationDepth p ≤ left) (grp .same) (y .shallow)
+  group-depth = rw (grp .same) at (y .shallow)
 
   abbrev pub ready-group : ReadyGroup s table from end (l .top) (l .functions)
   ready-group = record {
@@ -213,16 +212,16 @@ module _ {s table : List ℕ} {from end left strings : ℕ} {l : Progress} (y : 
     scope = y .walk .scope;
     taken = y .walk .taken;
     functions = grp .functions;
-    lies = subst (λ (p : Declaration). Lies s from (encodeDeclared p)) (grp .same) (y .lies);
-    ends = omega (arith, y .ends, group-sized);
+    lies = rw (grp .same) at (y .lies);
+    ends = omega (arith, group-sized);
     above = y .above;
     long = y .long;
     small = y .small;
     shows = y .stands .shows;
-    room = omega (arith, y .room, group-sized, functions-long (grp .functions));
+    room = omega (arith, group-sized, functions-long (grp .functions));
     globals = y .stands .globals;
     free = y .stands .free;
-    few = omega (arith, y .few, group-sized, functions-long (grp .functions));
+    few = omega (arith, group-sized, functions-long (grp .functions));
     fine = subst (FineDeclaration STRINGS) (grp .same) (y .fine);
   }
 
@@ -241,16 +240,16 @@ module _ {s table : List ℕ} {from end left strings : ℕ} {l : Progress} (y : 
           base = y .base;
           scope = functionsAfter text (l .functions) (y .walk .scope) (grp .functions);
           functions = grp .functions;
-          lies = keeps-lies (x .keeps) (y .above) (subst (λ (p : Declaration). Lies s from (encodeDeclared p)) (grp .same) (y .lies));
-          ends = omega (arith, y .ends, group-sized);
+          lies = keeps-lies (x .keeps) (y .above) (rw (grp .same) at (y .lies));
+          ends = omega (arith, group-sized);
           above = y .above;
-          long = omega (arith, y .long, x .keeps .long);
+          long = omega arith;
           small = y .small;
           shows = x .shows;
-          room = omega (arith, y .room, group-sized, x .up .1);
-          height = omega (arith, y .height, group-sized);
-          label = omega (arith, y .label, group-sized, sl, f .few);
-          some = omega (arith, y .stands .some, sl, f .grows);
+          room = omega (arith, group-sized);
+          height = omega (arith, group-sized);
+          label = omega (arith, group-sized, sl);
+          some = omega arith;
           strings = y .names;
           shallow = group-depth;
           fine = subst (FineDeclaration STRINGS) (grp .same) (y .fine);
@@ -277,16 +276,16 @@ walked-group {text} {table₁ = table₁} {t} {l = l} {k} {st} {d} w fs a x e z 
         globals = small-functions text i (w .scope) fs (a .globals);
         free = x .taken;
         many = ap (λ (m : ℕ). i + m) q;
-        some = omega (arith, a .some, x .did t .grows, r .did .grows, ap (λ (m : State). m .label) e);
+        some = omega (arith, x .did t .grows, ap (λ (m : State). m .label) e);
         low = z .low;
       };
       keeps = keeps-then (x .keeps) (keeps-lower (x .up .0) (r .keeps));
-      up = (x .up .0, omega (arith, x .up .1, functions-long fs));
+      up = (x .up .0, omega (arith, functions-long fs));
       yields = yields-as (2 * length (encodeFunctions fs)) refl refl (omega arith)
           (yields-then (i + 1) (omega arith) (yields-faults 0 refl (did-flat (a .low) e (x .did t)))
           (record { did = r .did; tall = z .tall; fits = z .fits }));
-      starting = λ c ss lo h. subst (λ (m : List Start). Starting table₁ (ss ++ m)) (sym (starts-in text i (w .scope) sc fs))
-          (x .starting (nil-left (groupNameFaults text i (w .scope) (w .taken) fs) (groupFaults text sc fs) c) ss lo h);
+      starting = λ c ss lo h. rw (starts-in text i (w .scope) sc fs) (x .starting (nil-left (groupNameFaults text i (w .scope) (w .taken) fs)
+          (groupFaults text sc fs) c) ss lo h);
     }
 
 pub gave-group : {text s s₁ s₂ table table₁ t t′ : List ℕ} {from end left strings n : ℕ} {l : Progress} {k : Known} {st : State} {d : Done}
@@ -295,22 +294,18 @@ pub gave-group : {text s s₁ s₂ table table₁ t t′ : List ℕ} {from end l
     (record { tall = l .done .tall; state = st }) d
     → GaveDeclaration text s s₂ table table₁ from end K.LET left strings t t′ l (record { top = k .top; functions = l .functions + n; done = d })
 gave-group {text} {s} {s₁} {s₂} {table} {table₁} {t} {t′} {from} {end} {left} {strings} {n} {l} {k} {st} {d} c g e h = record {
-  by = λ y.
-      let u = grp y in let w = y .walk in let fs = u .functions in let x = ready-group y in
-      let same : counted w (l .functions) ≡ w = ap (counted w) (y .stands .many) in
-      subst (λ (p : Declaration). WalkedOn text w p (y .base) strings s s₂ table table₁ t t′ l
-      (record { top = k .top; functions = l .functions + n; done = d })) (sym (u .same)) (subst (λ (v : Walk). WalkedOn text v (T.functions fs) (y
-      .base) strings s s₂ table table₁ t t′ l (record { top = k .top; functions = l .functions + n; done = d })) same
-      (walked-group w fs (y .stands) (g .by x) e (h .by (ready-fs y g e) (w .scope) (l .functions)) (c .by fs (x .lies) (x .ends))));
+  by = λ y. let u = grp y in let w = y .walk in let fs = u .functions in let x = ready-group y in let same : counted w (l .functions) ≡ w
+      = ap (counted w) (y .stands .many) in
+      rw (u .same) (rw same at (walked-group w fs (y .stands) (g .by x) e (h .by (ready-fs y g e) (w .scope) (l .functions))
+      (c .by fs (x .lies) (x .ends))));
 }
 
 -- the same declaration by its tag
 pub ready-let : {s table : List ℕ} {from end tag left strings : ℕ} {l : Progress} → tag ≡ K.LET
     → ReadyDeclaration s table from end tag left strings l → ReadyDeclaration s table from end K.LET left strings l
-ready-let {s} {table} {from} {end} {left = left} {strings} {l} e y = subst (λ (z : ℕ). ReadyDeclaration s table from end z left strings l) e y
+ready-let {s} {table} {from} {end} {left = left} {strings} {l} e y = rw e at y
 
 pub gave-let : {text s s′ table table′ t t′ : List ℕ} {from end tag left strings : ℕ} {l r : Progress} → tag ≡ K.LET
     → GaveDeclaration text s s′ table table′ from end K.LET left strings t t′ l r
     → GaveDeclaration text s s′ table table′ from end tag left strings t t′ l r
-gave-let {text} {s} {s′} {table} {table′} {t} {t′} {from} {end} {left = left} {strings} {l} {r} e x =
-    subst (λ (z : ℕ). GaveDeclaration text s s′ table table′ from end z left strings t t′ l r) (sym e) x
+gave-let {text} {s} {s′} {table} {table′} {t} {t′} {from} {end} {left = left} {strings} {l} {r} e x = rw e x

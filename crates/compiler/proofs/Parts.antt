@@ -25,17 +25,17 @@ module _ {A B : Type 0} {encA : A → List ℕ} {deepA : A → ℕ} {FineA : A �
     lo = lo′;
     tree = part;
     scope = sc;
-    lies = keeps-lies k (omega (arith, y .above)) h;
+    lies = keeps-lies k (omega arith) h;
     ends = e;
-    above = omega (arith, y .above);
-    long = omega (arith, y .long, k .long);
-    small = omega (arith, y .small);
+    above = omega arith;
+    long = omega arith;
+    small = omega arith;
     shows = shows;
     room = room;
     height = height;
     label = label;
     some = some;
-    strings = omega (arith, y .strings);
+    strings = omega arith;
     shallow = deep;
     fine = fine;
   }
@@ -47,6 +47,5 @@ module _ {A B : Type 0} {encA : A → List ℕ} {deepA : A → ℕ} {FineA : A �
       → st′ .label + 2 * length (encB part) ≤ 2 ^ 29 → 0 < st′ .label → deepB part ≤ here′ .left → FineB part
       → Ready encB deepB FineB s′ end′ here′ st′
   sub y k end′ lo′ here′ st′ part h e l m top strings height label some deep fine =
-      moved y k end′ lo′ here′ st′ part (y .scope) h e l m
-      (keeps-shows k (omega arith) (subst (λ (n : ℕ). Shows s n (y .scope)) (sym top) (y .shows)))
-      (omega (arith, y .room, y .ends)) strings height label some deep fine
+      moved y k end′ lo′ here′ st′ part (y .scope) h e l m (keeps-shows k (omega arith) (rw top (y .shows))) (omega arith) strings height label some
+      deep fine

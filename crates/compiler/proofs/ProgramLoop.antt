@@ -120,7 +120,7 @@ module _ (text t₀ : List ℕ) {s₀ table₀ : List ℕ} {base end left string
     keeps = keeps-all;
     stands = record { shows = S.nothing refl; globals = none-small; free = none-taken (y .empty); many = refl; some = y .some; low = y .low };
     uses = omega arith;
-    room = omega (arith, y .room);
+    room = omega arith;
     shallow = y .shallow;
     fine = y .fine;
     few = omega arith;
@@ -141,7 +141,7 @@ module _ (text t₀ : List ℕ) {s₀ table₀ : List ℕ} {base end left string
     program-size = es ∙ p .keeps .above at (p .starts) ∙ program-one .size-of
 
     pub program-word : tag ≡ declaredWord (program-one .part)
-    program-word = et ∙ p .keeps .above (at + 1) (omega (arith, p .starts)) ∙ program-one .word-of
+    program-word = et ∙ p .keeps .above (at + 1) (omega arith) ∙ program-one .word-of
 
     pub program-length : length (encodeProgram (p .rest)) ≡ 2 + length (encodeDeclared (program-one .part))
         + length (encodeProgram (program-one .more))
@@ -149,7 +149,7 @@ module _ (text t₀ : List ℕ) {s₀ table₀ : List ℕ} {base end left string
 
     pub program-deep : (declarationDepth (program-one .part) ≤ left) × (programDepth (program-one .more) ≤ left)
     unfolding programDepth
-    program-deep = (omega (arith, p .shallow, ap programDepth (program-one .same)), omega (arith, p .shallow, ap programDepth (program-one .same)))
+    program-deep = (omega (arith, ap programDepth (program-one .same)), omega (arith, ap programDepth (program-one .same)))
 
     pub program-fine : FineDeclaration STRINGS (program-one .part) × FineDs (program-one .more)
     unfolding FineProgram
@@ -161,17 +161,17 @@ module _ (text t₀ : List ℕ) {s₀ table₀ : List ℕ} {base end left string
       walk = p .walk;
       part = program-one .part;
       stands = p .stands;
-      lies = keeps-lies (p .keeps) (omega (arith, p .starts)) (program-one .lies);
+      lies = keeps-lies (p .keeps) (omega arith) (program-one .lies);
       ends = omega (arith, en, program-size);
       word = program-word;
-      above = omega (arith, p .starts);
-      long = omega (arith, y .long, p .keeps .long);
+      above = omega arith;
+      long = omega arith;
       small = omega (arith, y .small, en, program-size, program-one .ends);
-      room = omega (arith, p .room, program-length);
-      height = omega (arith, y .height, p .uses, program-length);
-      label = omega (arith, y .label, p .uses, program-length, p .yields .did .few);
-      few = omega (arith, y .height, p .uses, program-length, p .stands .many, p .many, p .few);
-      names = omega (arith, y .names);
+      room = omega (arith, program-length);
+      height = omega (arith, program-length);
+      label = omega (arith, program-length);
+      few = omega (arith, program-length);
+      names = omega arith;
       shallow = program-deep .0;
       fine = program-fine .0;
     }
@@ -189,22 +189,22 @@ module _ (text t₀ : List ℕ) {s₀ table₀ : List ℕ} {base end left string
           made = p .made ++ gs;
           used = p .used + (2 + length (encodeDeclared (u .part)));
           lies = subst (λ (z : ℕ). Lies s₀ z (encodeProgram (u .more))) (omega (arith, en, program-size)) (u .lies-more);
-          ends = omega (arith, u .ends, en, program-size);
-          starts = omega (arith, p .starts, en);
+          ends = omega (arith, en, program-size);
+          starts = omega arith;
           keeps = keeps-then (p .keeps) (keeps-lower (omega arith) (x .keeps));
           stands = x .stands;
-          uses = omega (arith, p .uses, program-length);
-          room = omega (arith, p .room, program-length, x .up .1);
+          uses = omega arith;
+          room = omega arith;
           shallow = program-deep .1;
           fine = program-fine .1;
-          few = omega (arith, p .few, length-append (p .made) gs, made-few text w (u .part));
-          many = omega (arith, p .many, length-append (p .made) gs, made-many text w (u .part));
+          few = omega (arith, length-append (p .made) gs, made-few text w (u .part));
+          many = omega (arith, length-append (p .made) gs, made-many text w (u .part));
           faults-are = append-assoc (p .found) fs (faultsFrom text w′ (u .more))
               ∙ ap (λ (z : Program). p .found ++ faultsFrom text w z) (sym (u .same)) ∙ p .faults-are;
           made-are = append-assoc (p .made) gs (functionsFrom text w′ (u .more))
               ∙ ap (λ (z : Program). p .made ++ functionsFrom text w z) (sym (u .same)) ∙ p .made-are;
-          yields = yields-as (2 * (p .used + (2 + length (encodeDeclared (u .part))))) refl refl (omega arith)
-              (yields-then (w .functions + 1) (omega (arith, p .many)) (p .yields) (x .yields));
+          yields = yields-as (2 * (p .used + (2 + length (encodeDeclared (u .part))))) refl refl (omega arith) (yields-then (w .functions + 1)
+              (omega arith) (p .yields) (x .yields));
           starting = λ e. subst (Starting table₁) (sym (starts-then (p .made) gs))
               (x .starting (nil-right (p .found) fs e) (startsOf (funs (p .made))) (starts-long (p .made) ∙ sym (p .many))
               (p .starting (nil-left (p .found) fs e)));
@@ -215,17 +215,15 @@ module _ (text t₀ : List ℕ) {s₀ table₀ : List ℕ} {base end left string
       → GaveProgram text s₀ s table₀ table base end left strings t₀ t d₀ (l .done)
   unfolding faultsFrom functionsFrom
   program-end {s} {table} {t} {at} {l} lt q = record {
-    by = λ y. let p = q y in let e = no-declaration (p .rest) (p .ends) lt in
-        let fe : p .found ≡ faultsFrom text begin (y .program) = sym (append-nil (p .found))
-        ∙ ap (λ (z : Program). p .found ++ faultsFrom text (p .walk) z) (sym e) ∙ p .faults-are in
-        let me : p .made ≡ functionsFrom text begin (y .program) = sym (append-nil (p .made))
-        ∙ ap (λ (z : Program). p .made ++ functionsFrom text (p .walk) z) (sym e) ∙ p .made-are in
-        let r = yields-as (2 * length (encodeProgram (y .program))) fe me (omega (arith, p .uses)) (p .yields) in
+    by = λ y. let p = q y in let e = no-declaration (p .rest) (p .ends) lt in let fe : p .found ≡ faultsFrom text begin (y .program)
+        = sym (append-nil (p .found)) ∙ ap (λ (z : Program). p .found ++ faultsFrom text (p .walk) z) (sym e) ∙ p .faults-are in
+        let me : p .made ≡ functionsFrom text begin (y .program) = sym (append-nil (p .made)) ∙ ap (λ (z : Program). p .made ++ functionsFrom text
+        (p .walk) z) (sym e) ∙ p .made-are in let r = yields-as (2 * length (encodeProgram (y .program))) fe me (omega arith) (p .yields) in
         record {
           did = r .did;
           tall = r .tall;
           fits = r .fits;
-          starting = λ c. subst (λ (z : List Named). Starting table (startsOf (funs z))) me (p .starting (fe ∙ c));
+          starting = λ c. rw me at (p .starting (fe ∙ c));
           long = p .stands .free .long;
           keeps = p .keeps;
         };

@@ -31,7 +31,7 @@ small-found text (N.declared s x w) n m h e = go w h (sameName text x n) e (smal
   where
     go : (w : N.Meaning) → Small (N.declared s x w) → (b : Bool) → cond b (N.known w) (lookup text s n) ≡ N.known (N.global m)
         → (Small s → lookup text s n ≡ N.known (N.global m) → m < 400) → m < 400
-    go (N.global k) h true e ih = let z : k ≡ m = cc in omega (arith, h .0)
+    go (N.global k) h true e ih = let z : k ≡ m = cc in omega arith
     go (N.global k) h false e ih = ih (h .1) e
     go (N.local k) h true e ih = let z : _≡_ {A = ℕ} 0 1 = cc in absurd (omega arith)
     go (N.local k) h false e ih = ih h e

@@ -40,7 +40,7 @@ tops-next n i {t} {t₁} {t₂} {st} {a} {b} f g =
     subst (λ (z : List I.Item). Emits z [] t t₂ st b) (sym (tops-snoc n i) ∙ ap (topsCode n) q) (emits-then f g)
 
 pub tops-all : (n i k : ℕ) {t t′ : List ℕ} {st r : State} → k ≤ i → i ≤ k → Emits (topsCode n i) [] t t′ st r → Emits (topsCode n k) [] t t′ st r
-tops-all n i k {t} {t′} {st} {r} l m f = let q : i ≡ k = omega arith in subst (λ (z : ℕ). Emits (topsCode n z) [] t t′ st r) q f
+tops-all n i k {t} {t′} {st} {r} l m f = let q : i ≡ k = omega arith in rw q at f
 
 in-loops : (n k a b : ℕ) (x : Exits) → G.inLoop a b (innermost n k x) ≡ G.inLoop a b x
 in-loops n zero a b x = refl

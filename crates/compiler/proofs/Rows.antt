@@ -56,9 +56,7 @@ not-zero c (refused fs) n (unfit a b w) = unfit a b w
 
 a-zero : {j : Verdict} (c : Constant) (x : Judged) {p : ℕ} → j .number ≡ 0 → j .word ≡ 0 → p ≡ c .place → Says j x
     → Says (record { word = 0; number = 11; place = p }) (within c (λ v. cond (eqb v 0) false true) x)
-a-zero {j} c (good v) {p} e w q (fit z) =
-    rw (eq-eqb (j .word) 0 w)
-    (subst (λ (k : ℕ). Says (record { word = 0; number = 11; place = p }) (refused (fault k 11))) q (unfit refl (λ z. omega arith) refl))
+a-zero {j} c (good v) {p} e w q (fit z) = rw (eq-eqb (j .word) 0 w) (rw (← q) (unfit refl (λ z. omega arith) refl))
 a-zero c (refused fs) e w q (unfit a b z) = absurd (b (sym a ∙ e))
 
 module _ (text : List ℕ) {s : List ℕ} {from end top : ℕ} where
@@ -117,8 +115,7 @@ module _ {A : Type 0} {P : ℕ → A → Type 0} {s : List ℕ} {end : ℕ} wher
     where
       go : (xs : List A) → Row P s end at xs → Q xs → Left P s end next Q′
       go [] (noMore e) h = absurd (omega arith)
-      go (x ∷ xs) (andMore m q r) h = let e = n .is m in
-          record { rest = xs; row = subst (λ (k : ℕ). Row P s end k xs) (sym e) r; holds = step x xs e (subst (λ (k : ℕ). P k x) (sym e) q) h }
+      go (x ∷ xs) (andMore m q r) h = let e = n .is m in record { rest = xs; row = rw e r; holds = step x xs e (rw e q) h }
 
   pub left-end : {at : ℕ} {Q : List A → Type 0} → end ≤ at → Left P s end at Q → Q []
   left-end {at} {Q} l p = go (p .rest) (p .row) (p .holds)
@@ -160,7 +157,7 @@ labels-row {s} {at} {end} (T.default p ∷ ls) f h e = an-item (closed [] 0 p 29
 
 pub twelve : {s : List ℕ} {end : ℕ} {st a : State} {n : Node} → NodeAt s end n → Faulted (n .place) 12 st a → {place : ℕ} → getD s (end - 2) 0 ≡ place
     → (t : List ℕ) → Did (fault place 12) nothing 0 t t st a
-twelve {st = st} {a} nd w e t = subst (λ (k : ℕ). Did (fault k 12) nothing 0 t t st a) (nd .place ∙ e) (w .by nothing t)
+twelve {st = st} {a} nd w e t = rw (nd .place ∙ e) at (w .by nothing t)
 
 module _ (text : List ℕ) {s : List ℕ} {end top : ℕ} {st : State} (n : Node) (nd : NodeAt s end n) {a : State} (w : Faulted (n .place) 12 st a) where
   pub misplaced-default : (n .kind ≡ 28 → ⊥) → MisplacesLabel text s end top st a
@@ -179,7 +176,7 @@ module _ (text : List ℕ) {s : List ℕ} {end top : ℕ} {st : State} (n : Node
       go sc (T.case p c) sh (aCase {lo = lo} k e h en f) t =
           did-as nothing 0 (did-then (twelve nd w e t) (b .by (judge text sc c) (g .by sc lo c sh f h (nd .inner ∙ en)) t))
           (same-eq (sym (append-nil _))) (λ v z. refl) (omega arith)
-      go sc (T.default p) sh (aDefault k e) t = absurd (omega (arith, nd .kind))
+      go sc (T.default p) sh (aDefault k e) t = absurd (omega arith)
 
 misplaced-then : (text : List ℕ) (sc : Scope) (l : Label) (ls : List Label)
     → misplaced text sc (l ∷ []) ++ misplaced text sc ls ≡ misplaced text sc (l ∷ ls)

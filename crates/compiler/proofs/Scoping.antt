@@ -133,7 +133,7 @@ pub left-then : {A : Type 0} (ask : Scope → A) {s : List ℕ} {at at′ : ℕ}
 left-then ask sc l r = record { rest = r .rest; shows = r .shows; same = l .same ∙ r .same }
 
 at-as : {s : List ℕ} {at at′ : ℕ} {sc : Scope} → at ≡ at′ → Shows s at sc → Shows s at′ sc
-at-as {s} {sc = sc} e h = subst (λ (k : ℕ). Shows s k sc) e h
+at-as {s} {sc = sc} e h = rw e at h
 
 pub shows-low : {s : List ℕ} {top : ℕ} {sc : Scope} → Shows s top sc → top ≤ length s
 shows-low (nothing e) = omega arith
@@ -182,10 +182,10 @@ module _ (text s : List ℕ) (leaf at : ℕ) where
       told : (b : ℕ) {n : Name} {t : Bool} → at ≡ b + 2 → getD s b 0 ≡ packed n → FineName n
           → t ≡ sameName text (named (x / 65536) (x % 65536)) (named place width) → t ≡ sameName text n (nameAt s leaf)
       told b {n} {t} e y fine f =
-          let g : at - 2 ≡ b = omega arith in let v : x ≡ packed n = rx ∙ get-as s g ∙ y in
-          let h : x / 65536 ≡ n .place = omega (arith, fine .width) in let l : x % 65536 ≡ n .width = omega (arith, fine .width) in
-          f ∙ ap (λ (k : ℕ). sameName text (named k (x % 65536)) (named place width)) h ∙ ap
-          (λ (k : ℕ). sameName text (named (n .place) k) (named place width)) l ∙ ap (λ (m : Name). sameName text n m) sought
+          let g : at - 2 ≡ b = omega arith in let v : x ≡ packed n = rx ∙ get-as s g ∙ y in let h : x / 65536 ≡ n .place = omega arith in
+          let l : x % 65536 ≡ n .width = omega arith in
+          f ∙ ap (λ (k : ℕ). sameName text (named k (x % 65536)) (named place width)) h ∙ ap (λ (k : ℕ). sameName text (named (n .place) k)
+          (named place width)) l ∙ ap (λ (m : Name). sameName text n m) sought
 
       code-is : (b : ℕ) (w : Meaning) → at ≡ b + 2 → getD s (b + 1) 0 ≡ code w → z ≡ code w
       code-is b w e y = let g : at - 2 + 1 ≡ b + 1 = omega arith in r ∙ get-as s g ∙ y
@@ -251,9 +251,9 @@ looked-word text n (name {sc = sc} {n = m} {w = w} h e v p y c u) = go (sameName
 
 pub keeps-shows : {base top : ℕ} {s s′ : List ℕ} {at : ℕ} {sc : Scope} → Keeps base top s s′ → at ≤ top → Shows s at sc → Shows s′ at sc
 keeps-shows k l (nothing e) = nothing e
-keeps-shows k l (mark {below = b} h e v z) = mark (keeps-shows k (omega arith) h) e (omega (arith, k .long)) (k .below (b + 1) (omega arith) ∙ z)
+keeps-shows k l (mark {below = b} h e v z) = mark (keeps-shows k (omega arith) h) e (omega arith) (k .below (b + 1) (omega arith) ∙ z)
 keeps-shows k l (name {below = b} h e v p f w u) =
-    name (keeps-shows k (omega arith) h) e (omega (arith, k .long)) (k .below b (omega arith) ∙ p) f (k .below (b + 1) (omega arith) ∙ w) u
+    name (keeps-shows k (omega arith) h) e (omega arith) (k .below b (omega arith) ∙ p) f (k .below (b + 1) (omega arith) ∙ w) u
 
 pub keeps-all : {base top : ℕ} {s : List ℕ} → Keeps base top s s
 keeps-all = record { below = λ i l. refl; above = λ i l. refl; long = refl }
@@ -309,7 +309,7 @@ pushed-name {s} {leaf = leaf} h l long w sh e u = pushed-as (h .pushed) l long (
 pub pushed-leaf : {s s′ : List ℕ} {top leaf m width place : ℕ} → Pushed s s′ top (place * 65536 + width) m → width ≡ getD s (leaf + 1) 0
     → place ≡ getD s (leaf + 2) 0 → FineName (nameAt s leaf) → PushedName s s′ top leaf m
 pushed-leaf {s} {top = top} {leaf} {m} {width} {place} h ew ep f =
-    let e : place * 65536 + width ≡ packed (nameAt s leaf) = omega (arith, ew, ep) in
+    let e : place * 65536 + width ≡ packed (nameAt s leaf) = omega arith in
     record { pushed = record { is = h .is ∙ ap (λ (z : ℕ). set (set s top z) (top + 1) m) e }; fine = f }
 
 pub data Order (n m : ℕ) : Type 0 where

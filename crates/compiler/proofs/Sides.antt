@@ -48,12 +48,12 @@ use Rattle.compiler.proofs.Guards.{IsClosed, expression-closed, kind-of
 pub place-of : {s x : List ℕ} {lo end : ℕ} (u : IsClosed x) → Lies s lo x → end ≡ lo + length x → getD s (end - 2) 0 ≡ u .place
 place-of {s} {x} {lo} u h e =
     let w = u .inner in let v = u .value in let p = u .place in let k = u .kind in
-    place-is w v p k (subst (λ (l : List ℕ). Lies s lo l) (u .is) h) (e ∙ ap (λ (l : List ℕ). lo + length l) (u .is))
+    place-is w v p k (rw (u .is) at h) (e ∙ ap (λ (l : List ℕ). lo + length l) (u .is))
 
 pub value-of : {s x : List ℕ} {lo end : ℕ} (u : IsClosed x) → Lies s lo x → end ≡ lo + length x → getD s (end - 3) 0 ≡ u .value
 value-of {s} {x} {lo} u h e =
     let w = u .inner in let v = u .value in let p = u .place in let k = u .kind in
-    value-is w v p k (subst (λ (l : List ℕ). Lies s lo l) (u .is) h) (e ∙ ap (λ (l : List ℕ). lo + length l) (u .is))
+    value-is w v p k (rw (u .is) at h) (e ∙ ap (λ (l : List ℕ). lo + length l) (u .is))
 
 pub place-closed : (e : Expression) → expression-closed e .place ≡ placeOf e
 unfolding expression-closed placeOf shut
@@ -89,7 +89,7 @@ module _ {s : List ℕ} {end : ℕ} {here : Here} {st : State} (n : Node) (nd : 
 
   pub monadic-deep : (y : ReadyE s end here st) → depth (monadic-is y .part) + 1 ≤ here .left
   unfolding depth
-  monadic-deep y = omega (arith, y .shallow, ap depth (monadic-is y .same))
+  monadic-deep y = omega (arith, ap depth (monadic-is y .same))
 
   pub monadic-fine : (y : ReadyE s end here st) → FineE (monadic-is y .part)
   unfolding Fine
@@ -97,9 +97,8 @@ module _ {s : List ℕ} {end : ℕ} {here : Here} {st : State} (n : Node) (nd : 
 
   abbrev pub monadic-part : ReadyE s end here st → ReadyE s (n .inner) (inside here) st
   monadic-part y = let u = monadic-is y in
-      sub encode depth FineE y keeps-all (n .inner) (y .lo) (inside here) st (u .part) (u .lies) (omega (arith, nd .inner, u .ends)) (omega arith)
-      (omega (arith, nd .inner)) refl refl (omega (arith, y .height, y .ends, u .ends)) (omega (arith, y .label, y .ends, u .ends)) (y .some)
-      (omega (arith, monadic-deep y)) (monadic-fine y)
+      sub encode depth FineE y keeps-all (n .inner) (y .lo) (inside here) st (u .part) (u .lies) (omega arith) (omega arith) (omega arith) refl refl
+      (omega arith) (omega arith) (y .some) (omega (arith, monadic-deep y)) (monadic-fine y)
 
   pub monadic-gave : (text : List ℕ) {s′ t t′ : List ℕ} {r : State} → GaveMonadic text s s′ (n .value) (n .inner) (inside here) t t′ st r
       → GaveE text s s′ end here t t′ st r
@@ -110,28 +109,22 @@ module _ {s : List ℕ} {end : ℕ} {here : Here} {st : State} (n : Node) (nd : 
         (sym (u .same))
         (record {
           keeps = x .keeps;
-          did = more _
-              (subst (λ (o : ℕ). Did (inExpression text sc (leavable here) h (u .part) ++ cond (eqb o 50)
-              (unlessSide (placeOf (u .part)) (sideOf (expression text sc h (u .part)))) [])
-              (exprSays here (resolvedMonadic o (expression text sc h (u .part)))) (2 * length (encode (u .part))) t t′ st r)
-              (nd .value ∙ u .value-of) (x .did))
-              (omega (arith, y .ends, u .ends));
+          did = more _ (subst (λ (o : ℕ). Did (inExpression text sc (leavable here) h (u .part) ++ cond (eqb o 50) (unlessSide (placeOf (u .part))
+              (sideOf (expression text sc h (u .part)))) []) (exprSays here (resolvedMonadic o (expression text sc h (u .part)))) (2 * length (encode
+              (u .part))) t t′ st r) (nd .value ∙ u .value-of) (x .did)) (omega arith);
         });
   }
 
 module _ (text : List ℕ) {s s₁ t t₂ : List ℕ} {o end : ℕ} {here : Here} {st r : State} where
   so : {k : ℕ} → o ≡ k → GaveMonadic text s s₁ k end here t t₂ st r → GaveMonadic text s s₁ o end here t t₂ st r
-  so e g = subst (λ (z : ℕ). GaveMonadic text s s₁ z end here t t₂ st r) (sym e) g
+  so e g = rw e g
 
   pub monadic-address : (n : Node) → NodeAt s end n → o ≡ 50 → GaveAddress text s s₁ end (n .place) here t t₂ st r
       → GaveMonadic text s s₁ o end here t t₂ st r
   monadic-address n nd e g = so e (record {
     by = λ y. let x = g .by y in let sc = y .scope in let h = here .height in record {
       keeps = x .keeps;
-      did =
-          subst (λ (p : ℕ). Did (inExpression text sc (leavable here) h (y .tree) ++ unlessSide p (sideOf (expression text sc h (y .tree))))
-          (exprSays here (addressOf (sideOf (expression text sc h (y .tree))))) (2 * length (encode (y .tree))) t t₂ st r)
-          (nd .place ∙ place-of (expression-closed (y .tree)) (y .lies) (y .ends) ∙ place-closed (y .tree)) (x .did);
+      did = rw (nd .place ∙ place-of (expression-closed (y .tree)) (y .lies) (y .ends) ∙ place-closed (y .tree)) at (x .did);
     };
   })
 
@@ -211,8 +204,7 @@ module _ (say : Here → Side → ℕ → Code) (name place : ℕ) {m : ℕ} {t 
 
   pub of-unknown : {a : State} → m ≡ 0 → Faulted name 8 st a → Faulted place 10 a r → t′ ≡ t → Of say name place m t t′ st r
   unfolding found sideOf
-  of-unknown q f g et x N.unknown e = subst (λ (z : List ℕ). Did (fault name 8 ++ fault place 10) (say x noSide) 0 t z st r) (sym et)
-      (did-as (say x noSide) 0 (did-then (f .by (say x noSide) t) (g .by (say x noSide) t)) same-refl
+  of-unknown q f g et x N.unknown e = rw et (did-as (say x noSide) 0 (did-then (f .by (say x noSide) t) (g .by (say x noSide) t)) same-refl
       (λ n v. let z : length (fault name 8 ++ fault place 10) ≡ 0 = ap length v in absurd (omega arith)) (omega arith))
   of-unknown q f g et x (N.known w) e = absurd (code-not w (sym e ∙ q))
 
@@ -221,10 +213,8 @@ module _ (say : Here → Side → ℕ → Code) (name place : ℕ) {m : ℕ} {t 
   of-other q1 q2 q0 f et x N.unknown e = absurd (q0 e)
   of-other q1 q2 q0 f et x (N.known (N.local k)) e = absurd (q1 (omega arith))
   of-other q1 q2 q0 f et x (N.known (N.global k)) e = absurd (q2 (omega arith))
-  of-other q1 q2 q0 f et x (N.known (N.manifest k)) e =
-      subst (λ (z : List ℕ). Did (fault place 10) (say x noSide) 0 t z st r) (sym et) (f .by (say x noSide) t)
-  of-other q1 q2 q0 f et x (N.known (N.function k)) e =
-      subst (λ (z : List ℕ). Did (fault place 10) (say x noSide) 0 t z st r) (sym et) (f .by (say x noSide) t)
+  of-other q1 q2 q0 f et x (N.known (N.manifest k)) e = rw et (f .by (say x noSide) t)
+  of-other q1 q2 q0 f et x (N.known (N.function k)) e = rw et (f .by (say x noSide) t)
 
 abbrev pub sayAddress : Here → Side → ℕ → Code
 sayAddress x z = exprSays x (addressOf z)
@@ -331,7 +321,7 @@ module _ (text : List ℕ) {s s′ t t′ : List ℕ} {end : ℕ} (place : ℕ) 
   address-open q g = record {
     by = λ y. let u = is-bracket (find n nd q y) in let x = g .by (bracket-part n nd q y) in
         subst (Address text s place s′ t t′ st r here (y .scope) (y .base) (length (encode (y .tree)))) (sym (u .same))
-        (record { keeps = x .keeps; did = more _ (x .did) (omega (arith, y .ends, u .ends)) });
+        (record { keeps = x .keeps; did = more _ (x .did) (omega arith) });
   }
 
   pub address-pling : (q : n .kind ≡ 128) → n .value ≡ 49 → GaveE text s s′ (n .inner) (inside here) t t′ st r
@@ -344,8 +334,7 @@ module _ (text : List ℕ) {s s′ t t′ : List ℕ} {end : ℕ} (place : ℕ) 
         (sym (u .same ∙ ap (λ (o : ℕ). T.monadic (u .place) o (u .part)) ou))
         (record {
           keeps = x .keeps;
-          did = did-as _ _ (x .did) (same-eq (sym (append-nil _) ∙ sym (append-nil _))) (λ m v. refl)
-              (omega (arith, y .ends, u .ends));
+          did = did-as _ _ (x .did) (same-eq (sym (append-nil _) ∙ sym (append-nil _))) (λ m v. refl) (omega arith);
         });
   }
 
@@ -370,14 +359,11 @@ module _ (text : List ℕ) {s t t′ : List ℕ} {end : ℕ} (place : ℕ) {here
       → GaveAddress text s s end place here t t′ st r
   unfolding inExpression expression
   address-name {m} q lk f = record {
-    by = λ y. let u = is-name (find n nd q y) in let sc = y .scope in let w = lookup text sc (u .name) in
-        let a : n .inner + 2 ≡ end - 2 = omega (arith, nd .inner, u .ends) in let b : n .inner + 1 ≡ end - 3 = omega (arith, nd .inner, u .ends) in
-        let ex : nameAt s (n .inner) ≡ u .name = ap (λ (k : ℕ). named k (getD s (n .inner + 1) 0)) (ap (λ (k : ℕ). getD s k 0) a ∙ u .place-of) ∙ ap
-        (λ (k : ℕ). named (u .name .place) k) (ap (λ (k : ℕ). getD s k 0) b ∙ u .width-of) in
-        subst (λ (e : Expression). Result
-        (inExpression text sc (leavable here) (here .height) e ++ unlessSide place (sideOf (expression text sc (here .height) e)))
-        (exprSays here (addressOf (sideOf (expression text sc (here .height) e)))) (length (encode (y .tree))) (y .base) here s s t t′ st r)
-        (sym (u .same))
+    by = λ y. let u = is-name (find n nd q y) in let sc = y .scope in let w = lookup text sc (u .name) in let a : n .inner + 2 ≡ end - 2
+        = omega arith in let b : n .inner + 1 ≡ end - 3 = omega arith in let ex : nameAt s (n .inner) ≡ u .name
+        = ap (λ (k : ℕ). named k (getD s (n .inner + 1) 0)) (ap (λ (k : ℕ). getD s k 0) a ∙ u .place-of) ∙ ap (λ (k : ℕ). named (u .name .place) k)
+        (ap (λ (k : ℕ). getD s k 0) b ∙ u .width-of) in
+        rw (u .same)
         (record {
           keeps = keeps-all;
           did = more _
@@ -392,7 +378,7 @@ module _ (text : List ℕ) {s t t′ : List ℕ} {end : ℕ} (place : ℕ) {here
 index-tag : {s : List ℕ} {m end tag : ℕ} {ss : Suffixes} → Last s m end ss tag → endsInCall false ss ≡ false → tag ≡ 49
 unfolding endsInCall snoc
 index-tag (anIndex u) e = refl
-index-tag (aCall u) e = absurd (no (u .init) (u .part) false (subst (λ (x : Suffixes). endsInCall false x ≡ false) (u .same) e))
+index-tag (aCall u) e = absurd (no (u .init) (u .part) false (rw (u .same) at e))
   where
     no : (ss : Suffixes) (es : Expressions) (b : Bool) → endsInCall b (snoc (T.call es) ss) ≡ false → ⊥
     no T.noSuffixes es b q = let z : _≡_ {A = ℕ} 0 1 = cc in omega arith
@@ -468,24 +454,16 @@ module _ {s : List ℕ} {end : ℕ} {here : Here} {st : State} (n : Node) (nd : 
             (record {
               keeps = keeps-then (x .keeps) (w .keeps);
               did = did-as (exprSays here (addressOf (sideOf E))) _ (did-put (did-then (did-emit (x .did) f) (w .did)) f₂)
-                  (same-eq (sym ef ∙ sym (append-nil _) ∙ ap
-                  (λ (e : Expr). (inExpression text sc L (under (U .list) h) p ++ inSuffixes text sc L h (U .list)) ++ unlessSide place
-                  (sideOf e)) (sym er))) (λ k v. code-is
-                  (append-assoc (exprCode (here .strings) h k A ++ (G.SP h ∷ [])) (exprCode (here .strings) (h + 1) (k + exprLabels A) B)
-                  (G.AIP h ∷ []) ∙ append-assoc (exprCode (here .strings) h k A) (G.SP h ∷ [])
-                  (exprCode (here .strings) (h + 1) (k + exprLabels A) B ++ (G.AIP h ∷ [])) ∙ ap
-                  (λ (e : Expr). exprCode (here .strings) h k (addressOf (sideOf e))) (sym er))
-                  (append-assoc (ofExpr h A) ((h + 1) ∷ []) (ofExpr (h + 1) B) ∙ ap (λ (e : Expr). ofExpr h (addressOf (sideOf e))) (sym er))
-                  (ap (λ (e : Expr). exprLabels (addressOf (sideOf e))) (sym er)))
-                  (omega (
+                  (same-eq (sym ef ∙ sym (append-nil _) ∙ ap (λ (e : Expr). (inExpression text sc L (under (U .list) h) p ++ inSuffixes text sc L h
+                  (U .list)) ++ unlessSide place (sideOf e)) (sym er))) (λ k v. code-is (append-assoc (exprCode (here .strings) h k A ++ (G.SP h
+                  ∷ [])) (exprCode (here .strings) (h + 1) (k + exprLabels A) B) (G.AIP h ∷ []) ∙ append-assoc (exprCode (here .strings) h k A) (G.SP
+                  h ∷ []) (exprCode (here .strings) (h + 1) (k + exprLabels A) B ++ (G.AIP h ∷ [])) ∙ ap (λ (e : Expr). exprCode (here .strings) h k
+                  (addressOf (sideOf e))) (sym er)) (append-assoc (ofExpr h A) ((h + 1) ∷ []) (ofExpr (h + 1) B) ∙ ap (λ (e : Expr). ofExpr h
+                  (addressOf (sideOf e))) (sym er)) (ap (λ (e : Expr). exprLabels (addressOf (sideOf e))) (sym er))) (omega (
                     arith,
-                    y .ends,
-                    U .ends,
-                    u .ends,
                     applied-ends Y,
                     indexed-middle y,
-                    length-append (encode p)
-                        (encodeSuffixes (u .init)),
+                    length-append (encode p) (encodeSuffixes (u .init)),
                   ));
             });
       }
@@ -494,11 +472,11 @@ module _ {s : List ℕ} {end : ℕ} {here : Here} {st : State} (n : Node) (nd : 
 
 pub gave-address-at : (text : List ℕ) (place : ℕ) {s s′ t t′ : List ℕ} {end : ℕ} {d d′ : Here} {st r : State} → d′ ≡ d
     → GaveAddress text s s′ end place d′ t t′ st r → GaveAddress text s s′ end place d t t′ st r
-gave-address-at text place {s} {s′} {t} {t′} {end} {st = st} {r} e g = subst (λ (x : Here). GaveAddress text s s′ end place x t t′ st r) e g
+gave-address-at text place {s} {s′} {t} {t′} {end} {st = st} {r} e g = rw e at g
 
 pub gave-monadic-at : (text : List ℕ) (o : ℕ) {s s′ t t′ : List ℕ} {end : ℕ} {d d′ : Here} {st r : State} → d′ ≡ d
     → GaveMonadic text s s′ o end d′ t t′ st r → GaveMonadic text s s′ o end d t t′ st r
-gave-monadic-at text o {s} {s′} {t} {t′} {end} {st = st} {r} e g = subst (λ (x : Here). GaveMonadic text s s′ o end x t t′ st r) e g
+gave-monadic-at text o {s} {s′} {t} {t′} {end} {st = st} {r} e g = rw e at g
 
 -- ---- left sides: a right side is in A, and the parts are found one word above
 
@@ -510,7 +488,7 @@ module _ (text : List ℕ) {s s′ t t′ : List ℕ} {end : ℕ} (place : ℕ) 
         subst (λ (e : Expression). Result (inExpression text sc (leavable here) (h + 1) e ++ unlessSide place (sideOf (expression text sc (h + 1) e)))
         (targetSays here (targetOf (sideOf (expression text sc (h + 1) e)))) (length (encode (y .tree))) (y .base) (raised 1 here) s s′ t t′ st r)
         (sym (u .same))
-        (record { keeps = x .keeps; did = more _ (x .did) (omega (arith, y .ends, u .ends)) });
+        (record { keeps = x .keeps; did = more _ (x .did) (omega arith) });
   }
 
   pub side-refused : (n .kind ≡ 51 → ⊥) → (n .kind ≡ 59 → ⊥) → (n .kind ≡ 129 → ⊥) → (n .kind ≡ 128 → n .value ≡ 49 → ⊥)
@@ -533,13 +511,11 @@ module _ (text : List ℕ) {s t t′ : List ℕ} {end : ℕ} (place : ℕ) (here
       → GaveSide text s s end place here t t′ st r
   unfolding inExpression expression
   side-name {m} q lk f = record {
-    by = λ y. let u = is-name (find n nd q y) in let sc = y .scope in let w = lookup text sc (u .name) in let h = here .height in
-        let a : n .inner + 2 ≡ end - 2 = omega (arith, nd .inner, u .ends) in let b : n .inner + 1 ≡ end - 3 = omega (arith, nd .inner, u .ends) in
-        let ex : nameAt s (n .inner) ≡ u .name = ap (λ (k : ℕ). named k (getD s (n .inner + 1) 0)) (ap (λ (k : ℕ). getD s k 0) a ∙ u .place-of) ∙ ap
-        (λ (k : ℕ). named (u .name .place) k) (ap (λ (k : ℕ). getD s k 0) b ∙ u .width-of) in
-        subst (λ (e : Expression). Result (inExpression text sc (leavable here) (h + 1) e ++ unlessSide place (sideOf (expression text sc (h + 1) e)))
-        (targetSays here (targetOf (sideOf (expression text sc (h + 1) e)))) (length (encode (y .tree))) (y .base) (raised 1 here) s s t t′ st r)
-        (sym (u .same))
+    by = λ y. let u = is-name (find n nd q y) in let sc = y .scope in let w = lookup text sc (u .name) in let h = here .height in let a : n .inner + 2
+        ≡ end - 2 = omega arith in let b : n .inner + 1 ≡ end - 3 = omega arith in let ex : nameAt s (n .inner) ≡ u .name
+        = ap (λ (k : ℕ). named k (getD s (n .inner + 1) 0)) (ap (λ (k : ℕ). getD s k 0) a ∙ u .place-of) ∙ ap (λ (k : ℕ). named (u .name .place) k)
+        (ap (λ (k : ℕ). getD s k 0) b ∙ u .width-of) in
+        rw (u .same)
         (record {
           keeps = keeps-all;
           did = more _
@@ -566,8 +542,7 @@ module _ (text : List ℕ) {s : List ℕ} {end : ℕ} (place : ℕ) {here : Here
         (sym (u .same ∙ ap (λ (o : ℕ). T.monadic (u .place) o (u .part)) ou))
         (record {
           keeps = x .keeps;
-          did = did-as _ _ (did-after f (did-put (x .did) f₂)) (same-eq (sym (append-nil _) ∙ sym (append-nil _))) (λ m v. refl)
-              (omega (arith, y .ends, u .ends));
+          did = did-as _ _ (did-after f (did-put (x .did) f₂)) (same-eq (sym (append-nil _) ∙ sym (append-nil _))) (λ m v. refl) (omega arith);
         });
   }
 
@@ -601,33 +576,22 @@ module _ {s : List ℕ} {end : ℕ} {here : Here} {st : State} (n : Node) (nd : 
               (record {
                 keeps = keeps-then (x .keeps) (w .keeps);
                 did = did-as (targetSays here (targetOf (sideOf E))) _ (did-after f₀ (did-put (did-then (did-emit (x .did) f) (w .did)) f₂))
-                    (same-eq (sym ef ∙ sym (append-nil _) ∙ ap
-                    (λ (e : Expr). (inExpression text sc L (under (U .list) k) p ++ inSuffixes text sc L k (U .list)) ++ unlessSide place
-                    (sideOf e)) (sym er))) (λ v e. code-is (ap (λ (z : List I.Item). G.SP h ∷ z)
-                    (append-assoc (exprCode (here .strings) k v A ++ (G.SP k ∷ [])) (exprCode (here .strings) (k + 1) (v + exprLabels A) B) Z
-                    ∙ append-assoc (exprCode (here .strings) k v A) (G.SP k ∷ []) (exprCode (here .strings) (k + 1) (v + exprLabels A) B ++ Z)
-                    ∙ ap (λ (i : ℕ). exprCode (here .strings) k v A ++ (G.SP k ∷ (exprCode (here .strings) i (v + exprLabels A) B ++ Z))) kk) ∙ ap
-                    (λ (e : Expr). G.targetCode (here .strings) h v (targetOf (sideOf e))) (sym er))
-                    (ap (λ (z : List ℕ). k ∷ z)
-                    (append-assoc (ofExpr k A) ((k + 1) ∷ []) (ofExpr (k + 1) B) ∙ ap (λ (i : ℕ). ofExpr k A ++ (i ∷ ofExpr i B)) kk) ∙ ap
-                    (λ (e : Expr). ofTarget h (targetOf (sideOf e))) (sym er)) (ap (λ (e : Expr). G.targetLabels (targetOf (sideOf e))) (sym er)))
-                    (omega (
-                      arith,
-                      y .ends,
-                      U .ends,
-                      u .ends,
-                      applied-ends Y,
-                      indexed-middle n nd q m y₀,
-                      length-append (encode p)
-                          (encodeSuffixes (u .init)),
-                    ));
+                    (same-eq (sym ef ∙ sym (append-nil _) ∙ ap (λ (e : Expr). (inExpression text sc L (under (U .list) k) p ++ inSuffixes text sc L k
+                    (U .list)) ++ unlessSide place (sideOf e)) (sym er))) (λ v e. code-is (ap (λ (z : List I.Item). G.SP h ∷ z) (append-assoc
+                    (exprCode (here .strings) k v A ++ (G.SP k ∷ [])) (exprCode (here .strings) (k + 1) (v + exprLabels A) B) Z ∙ append-assoc
+                    (exprCode (here .strings) k v A) (G.SP k ∷ []) (exprCode (here .strings) (k + 1) (v + exprLabels A) B ++ Z)
+                    ∙ ap (λ (i : ℕ). exprCode (here .strings) k v A ++ (G.SP k ∷ (exprCode (here .strings) i (v + exprLabels A) B ++ Z))) kk)
+                    ∙ ap (λ (e : Expr). G.targetCode (here .strings) h v (targetOf (sideOf e))) (sym er)) (ap (λ (z : List ℕ). k ∷ z)
+                    (append-assoc (ofExpr k A) ((k + 1) ∷ []) (ofExpr (k + 1) B) ∙ ap (λ (i : ℕ). ofExpr k A ++ (i ∷ ofExpr i B)) kk)
+                    ∙ ap (λ (e : Expr). ofTarget h (targetOf (sideOf e))) (sym er)) (ap (λ (e : Expr). G.targetLabels (targetOf (sideOf e)))
+                    (sym er))) (omega (arith, applied-ends Y, indexed-middle n nd q m y₀, length-append (encode p) (encodeSuffixes (u .init))));
               });
         }
 
 pub gave-side-at : (text : List ℕ) (place : ℕ) {s s′ t t′ : List ℕ} {end : ℕ} {d d′ : Here} {st r : State} → d′ ≡ d
     → GaveSide text s s′ end place d′ t t′ st r → GaveSide text s s′ end place d t t′ st r
-gave-side-at text place {s} {s′} {t} {t′} {end} {st = st} {r} e g = subst (λ (x : Here). GaveSide text s s′ end place x t t′ st r) e g
+gave-side-at text place {s} {s′} {t} {t′} {end} {st = st} {r} e g = rw e at g
 
 pub gave-refused-at : {text s s′ t t′ : List ℕ} {end place : ℕ} {d d′ : Here} {st r : State} → d′ ≡ d → GaveRefused text s s′ end place d′ t t′ st r
     → GaveRefused text s s′ end place d t t′ st r
-gave-refused-at {text} {s} {s′} {t} {t′} {end} {place} {st = st} {r} e g = subst (λ (x : Here). GaveRefused text s s′ end place x t t′ st r) e g
+gave-refused-at {text} {s} {s′} {t} {t′} {end} {place} {st = st} {r} e g = rw e at g

@@ -101,17 +101,16 @@ starts-next {table} {functions} {k} {at} {x} {r} {t} {t₁} {t₂} h w q =
   where
     go : (fs : List Fun) → length table ≡ 400 → functions ≡ length fs → Starting table (startsOf fs) → (y : StartsPart k at x t t₁ fs)
         → (rest : List Fun) → y .rest ≡ rest → StartsPart (k + 1) at r t t₂ fs
-    go fs l e s y [] z = absurd (omega (arith, y .count, ap length (y .all), length-append (y .done) (y .rest), ap length z))
+    go fs l e s y [] z = absurd (omega (arith, ap length (y .all), length-append (y .done) (y .rest), ap length z))
     go fs l e s y (f ∷ b) z =
         let a : fs ≡ y .done ++ (f ∷ b) = y .all ∙ ap (λ (g : List Fun). y .done ++ g) z in let j : k + 1 ≡ suc k = omega arith in
-        let j′ : 1 + length (y .done) ≡ k + 1 = omega (arith, y .count) in
-        let g : getD (startsOf fs) k nowhere ≡ f .start = rw (a, y .count) (starts-at (y .done) f b) in
-        let o : StartsAt table (k + 1) (f .start) = rw j (one-start (f .start) l s g) in
+        let j′ : 1 + length (y .done) ≡ k + 1 = omega arith in let g : getD (startsOf fs) k nowhere ≡ f .start = rw (a, y .count)
+        (starts-at (y .done) f b) in let o : StartsAt table (k + 1) (f .start) = rw j (one-start (f .start) l s g) in
         record {
           done = y .done ++ (f ∷ []);
           rest = b;
           all = a ∙ sym (append-assoc (y .done) (f ∷ []) b);
-          count = omega (arith, y .count, length-append (y .done) (f ∷ []));
+          count = omega (arith, length-append (y .done) (f ∷ []));
           puts = puts-as (puts-then (y .puts) (w .by (f .start) o))
               (ap lines (starts-then 1 (y .done) (f ∷ []) ∙ rw j′) ∙ lines-then (startsCode 1 (y .done)) (startIn (f .start) (k + 1) []));
         }
@@ -124,4 +123,4 @@ starts-end {table} {functions} {k} {at} {x} {t} {t′} h q = record { by = λ fs
         → Puts (lines (startsCode 1 fs)) at x t t′
     go fs e y [] z =
         puts-as (y .puts) (ap (λ (g : List Fun). lines (startsCode 1 g)) (y .all ∙ ap (λ (g : List Fun). y .done ++ g) z ∙ append-nil (y .done)))
-    go fs e y (f ∷ b) z = absurd (omega (arith, y .count, ap length (y .all), length-append (y .done) (y .rest), ap length z))
+    go fs e y (f ∷ b) z = absurd (omega (arith, ap length (y .all), length-append (y .done) (y .rest), ap length z))

@@ -217,13 +217,13 @@ count-one x xs = go (eqb (x .kind) STRING)
 pub counted-next : {count : ℕ} {s : List ℕ} {i n k d : ℕ} → i < count → k ≡ getD s (i * 3) 0 → d ≡ oneIf k → Counted count s i n
     → Counted count s (i + 1) (n + d)
 counted-next {count} {s} {i} {n} {k} {d} h e f q =
-    let z = ap stringCount (symbols-more count s i h) ∙ count-one _ (symbolsFrom count s (i + 1)) in
-    let y : d ≡ oneIf (getD s (i * 3) 0) = f ∙ ap oneIf e in
-    record { sum = omega (arith, q .sum, z, y); few = omega (arith, q .few, oneIf-small k) }
+    let z = ap stringCount (symbols-more count s i h) ∙ count-one _ (symbolsFrom count s (i + 1)) in let y : d ≡ oneIf (getD s (i * 3) 0) = f
+    ∙ ap oneIf e in
+    record { sum = omega arith; few = omega (arith, oneIf-small k) }
 
 pub counted-end : {count : ℕ} {s : List ℕ} {i n : ℕ} → count ≤ i → Counted count s i n → n ≡ stringCount (decoded count s)
 unfolding stringCount
-counted-end {count} {s} {i} {n} h q = omega (arith, q .sum, ap stringCount (symbols-none count s i h))
+counted-end {count} {s} {i} {n} h q = omega (arith, ap stringCount (symbols-none count s i h))
 
 -- the first i are written, up to x, and n is the next label
 pub record StringsPart (source s : List ℕ) (count first i n at x : ℕ) (t t′ : List ℕ) : Type 0 where
@@ -299,7 +299,7 @@ listing-next {source} {s} {count} {first} {i} {n} {at} {x} {r} {k} {p} {d} {t} {
       let l : length (y .done ++ o) ≡ length (y .done) + length o = length-append (y .done) o in
       record {
         done = y .done ++ o;
-        next = omega (arith, y .next, l, of-symbol-count source k p);
+        next = omega (arith, of-symbol-count source k p);
         ends = others-end a;
         all = y .all
             ∙ ap (λ (z : List (List ℕ)). y .done ++ z) (ap (stringsAmong source) m ∙ of-symbol-first source _ (symbolsFrom count s (i + 1)) ∙ rw (ek, ep) refl)

@@ -49,22 +49,18 @@ module _ {s : List ℕ} {end : ℕ} (n : Node) (nd : NodeAt s end n) where
   spans-bare q =
       record {
         small = omega arith;
-        by = λ ls c. subst (λ (x : List Label). Row (LabelAt s) s 0 0 x) (sym (c .bare (λ k. q (nd .kind ∙ k))))
-            (noMore {at = 0} refl);
+        by = λ ls c. rw (c .bare (λ k. q (nd .kind ∙ k))) (noMore {at = 0} refl);
       }
 
   pub spans-none : {to : ℕ} → n .kind ≡ 132 → to ≡ n .start + n .value → n .inner < to → Spans s end (record { from = 0; to = 0 })
-  spans-none q e l =
-      record { small = omega arith; by = λ ls c. absurd (omega (arith, c .inside (sym (nd .kind) ∙ q), nd .start, nd .value, nd .inner)) }
+  spans-none q e l = record { small = omega arith; by = λ ls c. absurd (omega (arith, c .inside (sym (nd .kind) ∙ q))) }
 
   pub spans-is : {to : ℕ} → end < 2 ^ 32 → n .kind ≡ 132 → to ≡ n .start + n .value → to ≤ n .inner
       → Spans s end (record { from = n .start; to = to })
   spans-is {to} m q e l = record {
-    small = omega (arith, nd .inner);
-    by = λ ls c.
-        let b : end - 4 - getD s (end - 4) 0 + getD s (end - 3) 0 ≡ to = omega (arith, nd .start, nd .value) in
-        subst (λ (k : ℕ). Row (LabelAt s) s to k ls) (sym (nd .start))
-        (subst (λ (k : ℕ). Row (LabelAt s) s k (end - 4 - getD s (end - 4) 0) ls) b (c .row (sym (nd .kind) ∙ q)));
+    small = omega arith;
+    by = λ ls c. let b : end - 4 - getD s (end - 4) 0 + getD s (end - 3) 0 ≡ to = omega arith in
+        rw (nd .start) (rw b at (c .row (sym (nd .kind) ∙ q)));
   }
 
 labelled-at : {s : List ℕ} {lo end : ℕ} (ls : List Label) (w : List ℕ) → FineLabels ls
@@ -79,17 +75,16 @@ labelled-at {s} {lo} {end} ls w f h e =
     record {
       bare = λ q. absurd (q (kind-is (x ++ w) v 0 132 h e));
       inside = λ q. omega arith;
-      row = λ q. subst (λ (k : ℕ). Row (LabelAt s) s (end - 4 - getD s (end - 4) 0 + getD s (end - 3) 0) k ls) a
-          (labels-row ls f (first x w (kid (x ++ w) v 0 132 h e)) b);
+      row = λ q. rw a at (labels-row ls f (first x w (kid (x ++ w) v 0 132 h e)) b);
     }
 
 guard-not : {w : ℕ} → isGuard w ≡ true → w ≡ 132 → ⊥
 unfolding isGuard member
-guard-not {w} f e = let z : isGuard 132 ≡ true = subst (λ (k : ℕ). isGuard k ≡ true) e f in let x : _≡_ {A = ℕ} 0 1 = cc in omega arith
+guard-not {w} f e = let z : isGuard 132 ≡ true = rw e at f in let x : _≡_ {A = ℕ} 0 1 = cc in omega arith
 
 leave-not : {w : ℕ} → isLeave w ≡ true → w ≡ 132 → ⊥
 unfolding isLeave member
-leave-not {w} f e = let z : isLeave 132 ≡ true = subst (λ (k : ℕ). isLeave k ≡ true) e f in let x : _≡_ {A = ℕ} 0 1 = cc in omega arith
+leave-not {w} f e = let z : isLeave 132 ≡ true = rw e at f in let x : _≡_ {A = ℕ} 0 1 = cc in omega arith
 
 suffixed-low : (b : Bool) → O.suffixedKind b ≤ 131
 unfolding O.suffixedKind
@@ -113,16 +108,16 @@ plain-not : {s : List ℕ} {lo end : ℕ} (u : Unlabelled) → FinePlain u → L
 unfolding FineUnlabelled encodeUnlabelled
 plain-not T.empty f h e q = f .1 refl
 plain-not (T.assignment ls rs) f h e q =
-    omega (arith, q, kind-is (O.encodeSides ls ++ O.encodeExpressions rs) (length (O.encodeFirst ls)) (length (O.encodeSides ls)) 56 h e)
-plain-not (T.callCommand d) f h e q = omega (arith, q, expression-low d, kind-of (expression-closed d) h e)
-plain-not (T.test d c c′) f h e q = omega (arith, q, kind-is (encode d ++ (encodeCommand c ++ encodeCommand c′)) 0 0 13 h e)
+    omega (arith, kind-is (O.encodeSides ls ++ O.encodeExpressions rs) (length (O.encodeFirst ls)) (length (O.encodeSides ls)) 56 h e)
+plain-not (T.callCommand d) f h e q = omega (arith, expression-low d, kind-of (expression-closed d) h e)
+plain-not (T.test d c c′) f h e q = omega (arith, kind-is (encode d ++ (encodeCommand c ++ encodeCommand c′)) 0 0 13 h e)
 plain-not (T.guarded w d c) f h e q = guard-not (f .0 .2) (sym (kind-is (encode d ++ encodeCommand c) 0 0 w h e) ∙ q)
 plain-not (T.for x d d′ k c) f h e q =
-    omega (arith, q, kind-is (O.encodeName x ++ (encode d ++ (encode d′ ++ (O.encodeBy k ++ encodeCommand c)))) (length (O.encodeBy k)) 0 23 h e)
-plain-not (T.switchon d cs) f h e q = omega (arith, q, kind-is (encode d ++ O.encodeCommands cs) (length (encode d)) 0 26 h e)
-plain-not (T.resultis p d) f h e q = omega (arith, q, kind-is (encode d) 0 p 8 h e)
+    omega (arith, kind-is (O.encodeName x ++ (encode d ++ (encode d′ ++ (O.encodeBy k ++ encodeCommand c)))) (length (O.encodeBy k)) 0 23 h e)
+plain-not (T.switchon d cs) f h e q = omega (arith, kind-is (encode d ++ O.encodeCommands cs) (length (encode d)) 0 26 h e)
+plain-not (T.resultis p d) f h e q = omega (arith, kind-is (encode d) 0 p 8 h e)
 plain-not (T.leave w p) f h e q = leave-not (f .0) (sym (kind-is [] 0 p w h e) ∙ q)
-plain-not (T.block ls cs) f h e q = omega (arith, q, kind-is (O.encodeLocals ls ++ O.encodeCommands cs) (length (O.encodeLocals ls)) 0 57 h e)
+plain-not (T.block ls cs) f h e q = omega (arith, kind-is (O.encodeLocals ls ++ O.encodeCommands cs) (length (O.encodeLocals ls)) 0 57 h e)
 
 no-labels : {s : List ℕ} {end : ℕ} → (getD s (end - 1) 0 ≡ 132 → ⊥) → CommandAt s end []
 no-labels n = record { bare = λ q. refl; inside = λ q. absurd (n q); row = λ q. absurd (n q) }
@@ -132,9 +127,9 @@ command-at : {s : List ℕ} {lo end : ℕ} (c : Command) → FineC c → Lies s 
 unfolding FineCommand encodeCommand labelled O.repeated encodeLabels encodeRepeats
 command-at (T.command [] u T.noRepeats) f h e = no-labels (plain-not u (f .1, λ z. omega (arith, f .3 .labels z)) h e)
 command-at (T.command [] u (T.repeat rs)) f h e =
-    no-labels (λ q. omega (arith, q, kind-is (encodeUnlabelled u ++ encodeRepeats (T.repeat rs)) (length (encodeUnlabelled u)) 0 133 h e))
+    no-labels (λ q. omega (arith, kind-is (encodeUnlabelled u ++ encodeRepeats (T.repeat rs)) (length (encodeUnlabelled u)) 0 133 h e))
 command-at (T.command [] u (T.repeatOn w d rs)) f h e =
-    no-labels (λ q. omega (arith, q, kind-is (encodeUnlabelled u ++ encodeRepeats (T.repeatOn w d rs)) (length (encodeUnlabelled u)) 0 133 h e))
+    no-labels (λ q. omega (arith, kind-is (encodeUnlabelled u ++ encodeRepeats (T.repeatOn w d rs)) (length (encodeUnlabelled u)) 0 133 h e))
 command-at (T.command (T.case p c ∷ ls) u rs) f h e = labelled-at (T.case p c ∷ ls) (O.repeated (encodeUnlabelled u) (encodeRepeats rs)) (f .0) h e
 command-at (T.command (T.default p ∷ ls) u rs) f h e = labelled-at (T.default p ∷ ls) (O.repeated (encodeUnlabelled u) (encodeRepeats rs)) (f .0) h e
 
@@ -197,7 +192,7 @@ module _ {A : Type 0} (K : Holding A) where
     pub count-next : {at next k : ℕ} (n : ℕ) → at < end → NextItem s at end next → ((x : A) → K .At next x → k ≡ caseItems (K .one x)) → (xs : List A)
         → CountPart at n xs → CountPart next (n + k) xs
     count-next {at} {next} {k} n l m f xs p = left-next (λ rest. caseItems (K .every xs) ≡ n + k + caseItems (K .every rest)) l m p
-        (λ x ys e q h. omega (arith, h, f x q, ap caseItems (K .more x ys), cases-then (K .one x) (K .every ys)))
+        (λ x ys e q h. omega (arith, f x q, ap caseItems (K .more x ys), cases-then (K .one x) (K .every ys)))
 
     pub count-end : {at n : ℕ} → end ≤ at → (xs : List A) → CountPart at n xs → n ≡ caseItems (K .every xs)
     unfolding caseItems
@@ -311,7 +306,7 @@ unfolding lines greatest
 emits-none = record { text = puts-none; high = refl; worst = refl; label = refl }
 
 emits-as : {xs ys : List I.Item} {t t′ : List ℕ} {st r : State} → Emits xs [] t t′ st r → xs ≡ ys → Emits ys [] t t′ st r
-emits-as {t = t} {t′} {st} {r} e q = subst (λ (z : List I.Item). Emits z [] t t′ st r) q e
+emits-as {t = t} {t′} {st} {r} e q = rw q at e
 
 pairs-good : (k : ℕ) (j : Judged) (ls : List CaseLabel) → G.pairsOf k (goodCase j []) ++ G.pairsOf k ls ≡ G.pairsOf k (goodCase j ls)
 unfolding G.pairsOf
@@ -357,7 +352,7 @@ module _ (text : List ℕ) {s : List ℕ} {end top : ℕ} (n : Node) (nd : NodeA
           → Emits (G.pairsOf k (labelsOf text sc (x ∷ []))) [] t t₂ st r
       go sc (T.case p c) sh (aCase {lo = lo} a en h z f) (L.goodCase v w so) =
           emits-as (emits-then d e) (sym (ap (λ (x : Judged). G.pairsOf k (goodCase x [])) (says-is (g .by sc lo c sh f h (nd .inner ∙ z)) w)))
-      go sc (T.default p) sh (aDefault a en) so = absurd (omega (arith, nd .kind))
+      go sc (T.default p) sh (aDefault a en) so = absurd (omega arith)
 
 module _ (text : List ℕ) {s : List ℕ} {from end top : ℕ} (k : ℕ) (t₀ : List ℕ) (st₀ : State) where
   abbrev pub PairsPart : (y : Listed (LabelAt s) s from end top) (t : List ℕ) (at : ℕ) (st : State) → Type 0

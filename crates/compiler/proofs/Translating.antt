@@ -67,8 +67,7 @@ module _ {source s s′ t t′ : List ℕ} {w : Refusal} {b : Bool} (e : b ≡ t
 enough-scratch : {source : List ℕ} {n m : ℕ} → Lent source n → n ≤ m → (room : ℕ)
     → decided source m room ≡ unlessFits (length (textOf source)) room (onRead source (parsed source))
 unfolding decided refusalIn refusalOf readSource tooLong scratchTooShort
-enough-scratch {source} {n} {m} l h room =
-    rw (le-ltb 16384 (length source) (l .short), le-ltb m (8 * length source + 64) (omega (arith, l .asked))) refl
+enough-scratch {source} {n} {m} l h room = rw (le-ltb 16384 (length source) (l .short), le-ltb m (8 * length source + 64) (omega arith)) refl
 
 module _ {source : List ℕ} {scratch : ℕ} (l : Lent source scratch) (room : ℕ) where
   by-parsed : decided source scratch room ≡ unlessFits (length (textOf source)) room (onRead source (parsed source))
@@ -107,7 +106,7 @@ module _ {source s s′ : List ℕ} {a : SymbolsRead} (short : length source ≤
 
 module _ {source s s′ : List ℕ} {a : SymbolsRead} (l : Lent source (length s)) (r : Reads source s a s′) where
   room : length source * 3 ≤ length s
-  room = omega (arith, l .asked)
+  room = omega arith
 
   answer-is : a ≡ outcome (length s) (symbolsOf source) .answer
   answer-is = symbols-told (l .short) room r
@@ -159,16 +158,16 @@ module _ {source s : List ℕ} {count : ℕ} (y : ReadySymbols source s count) w
   ss = entries (y .symbols)
 
   few : count ≤ length source
-  few = omega (arith, few-good source (y .symbols) (y .reads), y .counts)
+  few = omega (arith, few-good source (y .symbols) (y .reads))
 
   pub tree-room : most ≤ length s
-  tree-room = omega (arith, few, y .lent .asked)
+  tree-room = omega (arith, few)
 
   pub symbols-room : {n : ℕ} → n ≡ length s → count * 3 ≤ n
   symbols-room e = omega (arith, tree-room)
 
   size : length ss ≡ count * 3
-  size = omega (arith, entries-size (y .symbols), y .counts)
+  size = omega (arith, entries-size (y .symbols))
 
   long : length (padded most ss) ≡ most
   long = padded-long ss most (omega (arith, size))
@@ -185,7 +184,7 @@ module _ {source s : List ℕ} {count : ℕ} (y : ReadySymbols source s count) w
   fits : tooShort (length (take most s)) count ≡ false
   unfolding tooShort
   fits =
-      let small : most ≤ 2 ^ 32 - 1 = omega (arith, few, y .lent .short) in
+      let small : most ≤ 2 ^ 32 - 1 = omega (arith, few) in
       rw (length-take-le most s tree-room, le-ltb most most (omega arith), le-ltb (2 ^ 32 - 1) most small) refl
 
   source-is : sourceIn (take most s) count (length source) ≡ src
@@ -287,12 +286,12 @@ module _ {source s : List ℕ} (v : Serves source s) where
   front-lent = record { short = v .short; asked = omega (arith, front-long) }
 
   pub front-inside : {k : ℕ} → k ≡ length s → asked source ≤ k
-  front-inside e = omega (arith, v .long)
+  front-inside e = omega arith
 
   -- more scratch than is asked for makes no other answer, and is cleared
   pub more-scratch : {s′ front t t′ : List ℕ} {a : Compiled} → Translates source (take (asked source) s) front t t′ a
       → s′ ≡ take (asked source) (front ++ drop (asked source) s) ++ replicate (length (front ++ drop (asked source) s) - asked source) 0
       → Translates source s s′ t t′ a
   more-scratch {s′} {front} {t} x c =
-      let enough = enough-scratch {m = length s} front-lent (omega (arith, front-long, v .long)) (length t) in
+      let enough = enough-scratch {m = length s} front-lent (omega (arith, front-long)) (length t) in
       decided-alike x (by-parsed front-lent (length t) ∙ sym enough) (zeros-behind s front (asked source) front-long (v .long) (x .clears) c)

@@ -74,7 +74,7 @@ pub data Case (s : List ℕ) (lo end : ℕ) : ℕ → Expression → Type 0 wher
 
 module _ {s : List ℕ} {lo end : ℕ} where
   so : {k : ℕ} {e : Expression} → getD s (end - 1) 0 ≡ k → Case s lo end k e → Case s lo end (getD s (end - 1) 0) e
-  so {e = e} q c = subst (λ (n : ℕ). Case s lo end n e) (sym q) c
+  so {e = e} q c = rw q c
 
   suffixedCase : {e : Expression} {ss : Suffixes} (b : Bool) → Lies s lo (encode e ++ encodeSuffixes ss)
       → getD s (end - 4) 0 ≡ length (encode e ++ encodeSuffixes ss) → getD s (end - 3) 0 ≡ length (encode e)
@@ -166,7 +166,7 @@ is-two one enc Is {lo = lo} x xs h z v q = record {
   lies-list = second (one x) (enc xs) (lo + length (one x)) h refl;
   value-of = v;
   size-of = z ∙ length-append (one x) (enc xs);
-  ends = omega (arith, q, length-append (one x) (enc xs));
+  ends = omega (arith, length-append (one x) (enc xs));
 }
 
 pub is-dyadic : {s : List ℕ} {lo end : ℕ} {e : Expression} → Case s lo end 131 e → IsTwo encode encodeOperations T.dyadic s lo end e
