@@ -177,16 +177,12 @@ module _ (text t₀ : List ℕ) {s₀ : List ℕ} {left right end : ℕ} {here :
 
     abbrev pub assign-right : (y : ReadyAssign s₀ left right end here st₀) → AssignPart y s t l at st → ReadyE s next here st
     assign-right y p = let z = y .ready in let u = assign-is y p in let v = u .right in
-        sub encode depth FineE z (p .keeps) next (at + 2) here st (v .part) (v .lies) (omega (arith, assign-size y p)) (omega arith)
-        (omega (arith, assign-size y p)) refl refl (omega arith) (omega (arith, assign-length y p .0)) (p .some) (assign-deep y p .2)
-        (assign-fine y p .1 .0)
+        sub z (p .keeps) (v .lies) refl (omega (arith, assign-size y p, assign-length y p .0, assign-deep y p .2)) (assign-fine y p .1 .0)
 
     module _ {s₁ t₁ : List ℕ} {a : State} (g : GaveE text s s₁ next here t t₁ st a) where
       abbrev pub assign-left : (y : ReadyAssign s₀ left right end here st₀) → AssignPart y s t l at st → ReadyE s₁ l (raised 1 here) a
       assign-left y p = let z = y .ready in let u = assign-is y p in let x = g .by (assign-right y p) in
-          sub encode depth FineE z (keeps-then (p .keeps) (x .keeps)) l (u .start) (raised 1 here) a (u .left) (u .lies) (u .ends) (u .inside)
-          (omega arith) refl refl (omega arith) (omega (arith, assign-length y p .0, assign-length y p .1)) (omega arith) (assign-deep y p .0)
-          (assign-fine y p .0 .0)
+          sub z (keeps-then (p .keeps) (x .keeps)) (u .lies) refl (omega (arith, assign-length y p .0, assign-length y p .1, assign-deep y p .0)) (assign-fine y p .0 .0)
 
       pub assign-next : {s₂ t₂ : List ℕ} {l′ size′ : ℕ} {r : State} (n : Node) → NodeAt s₁ l n → GaveSide text s₁ s₂ l (n .place) here t₁ t₂ a r
           → size′ ≡ getD s₂ l 0 → l′ ≡ l + 2 + size′
@@ -304,9 +300,7 @@ module _ {s : List ℕ} {end : ℕ} {here : Here} {st : State} (n : Node) (nd : 
 
   abbrev pub assigned-part : ReadyU s end here st → ReadyAssign s left right (n .inner) here st
   assigned-part y = let u = assigned-is y in record {
-    ready =
-        sub encodeBoth deepBoth FineBoth y keeps-all (n .inner) (y .lo) here st (record { left = u .left; right = u .right }) (u .lies) (omega arith)
-        (omega arith) (omega arith) refl refl (omega arith) (omega arith) (y .some) (assigned-deep y) (assigned-fine y);
+    ready = sub {part = record { left = u .left; right = u .right }} y keeps-all (u .lies) refl (omega (arith, assigned-deep y)) (assigned-fine y);
     first = omega (arith, assigned-start y);
     second = omega (arith, assigned-start y);
   }

@@ -131,9 +131,7 @@ module _ {s : List ℕ} {end : ℕ} {here : Here} {st : State} (n : Node) (nd : 
   call-fine y = subst FinePlain (call-is y .same) (y .fine) .0 .0
 
   abbrev pub performed-part : ReadyU s end here st → ReadyE s end here st
-  performed-part y = let u = call-is y in
-      sub encode depth FineE y keeps-all end (y .lo) here st (u .part) (u .lies) (u .ends) (omega arith) (omega arith) refl refl (omega arith)
-      (omega arith) (y .some) (call-deep y) (call-fine y)
+  performed-part y = let u = call-is y in sub y keeps-all (u .lies) refl (omega (arith, call-deep y)) (call-fine y)
 
   pub performed-gave : (text : List ℕ) (ways : Ways) {s₁ t t₁ : List ℕ} {r : State} → GaveE text s s₁ end here t t₁ st r
       → GaveU text s s₁ end here ways t t₁ st r

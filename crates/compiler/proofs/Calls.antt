@@ -308,9 +308,7 @@ module _ {s : List ℕ} {middle end : ℕ} {here : Here} {st : State} where
 
   abbrev pub primary-part : end ≤ middle → ReadySuffixes s middle end here st → ReadyE s middle here st
   primary-part l y = let z = y .ready in let a = z .tree in
-      sub encode depth FineE z keeps-all middle (z .lo) here st (a .primary) (first (encode (a .primary)) (encodeSuffixes (a .suffixes)) (z .lies))
-      (y .parts) (omega arith) (omega (arith, applied-ends y)) refl refl (omega (arith, applied-ends y)) (omega (arith, applied-ends y)) (z .some)
-      (omega arith) (z .fine .0)
+      sub z keeps-all (first (encode (a .primary)) (encodeSuffixes (a .suffixes)) (z .lies)) refl (omega (arith, applied-ends y)) (z .fine .0)
 
   pub primary-gave : (text : List ℕ) {s′ t t′ : List ℕ} {r : State} → end ≤ middle → GaveE text s s′ middle here t t′ st r
       → GaveSuffixes text s s′ middle end here t t′ st r
@@ -350,11 +348,7 @@ module _ {s : List ℕ} {middle end j tag inner size start : ℕ} {here : Here} 
         → here′ .height ≤ here .height + 2 + length (enc (u .part)) → st′ .label ≤ st .label + 2 * length (enc (u .part)) → 0 < st′ .label
         → suffixesDepth (u .init) ≤ here .left → FineSs (u .init) → ReadySuffixes s₁ middle start here′ st′
     init-part here′ {st′} y k u top strings left height label some deep fine = let z = y .ready in let a = z .tree in record {
-      ready = sub encodeApplied deepApplied FineApplied z k start (z .lo) here′ st′ (record { primary = a .primary; suffixes = u .init })
-          (both (encode (a .primary)) (encodeSuffixes (u .init)) (first (encode (a .primary)) (encodeSuffixes (a .suffixes)) (z .lies)) (u .lies)
-          (y .parts)) (omega (arith, start-of ei ez es u, length-append (encode (a .primary)) (encodeSuffixes (u .init)))) (omega arith)
-          (omega (arith, start-of ei ez es u)) top strings (omega (arith, length-append (encode (a .primary)) (encodeSuffixes (u .init))))
-          (omega (arith, length-append (encode (a .primary)) (encodeSuffixes (u .init)))) some (omega arith) (z .fine .0, fine);
+      ready = sub {part = record { primary = a .primary; suffixes = u .init }} z k (both (encode (a .primary)) (encodeSuffixes (u .init)) (first (encode (a .primary)) (encodeSuffixes (a .suffixes)) (z .lies)) (u .lies) (y .parts)) top (omega (arith, start-of ei ez es u, length-append (encode (a .primary)) (encodeSuffixes (u .init)))) (z .fine .0, fine);
       parts = y .parts;
     }
 
@@ -382,8 +376,7 @@ module _ {s : List ℕ} {middle end j tag inner size start : ℕ} {here : Here} 
       index-right y = let z = y .ready in let u = is-index q (the-last y) in let x = g .by (index-left y) in
           let n : length (encodeApplied (record { primary = z .tree .primary; suffixes = u .init })) ≡ length (encode (z .tree .primary)) + length
           (encodeSuffixes (u .init)) = length-append (encode (z .tree .primary)) (encodeSuffixes (u .init)) in
-          sub encode depth FineE z (x .keeps) inner (middle + length (encodeSuffixes (u .init))) (raised 1 here) a (u .part) (u .lies-part)
-          (omega arith) (omega arith) (omega arith) refl refl (omega arith) (omega arith) (omega arith) (index-deep y .1) (index-fine y .1)
+          sub z (x .keeps) (u .lies-part) refl (omega (arith, index-deep y .1)) (index-fine y .1)
 
       pub index-gave : {s₂ t₂ : List ℕ} {d : State} → GaveIndexed text s₁ s₂ inner here t₁ t₂ a d → GaveSuffixes text s s₂ middle end here t t₂ st d
       unfolding exprCode ofExpr exprLabels
@@ -417,10 +410,7 @@ module _ {s : List ℕ} {middle end j tag inner size start : ℕ} {here : Here} 
 
     abbrev pub call-args : ReadySuffixes s middle end here st → ReadyArgs s start inner (raised 2 here) st
     call-args y = let z = y .ready in let u = is-call q (the-last y) in record {
-      ready =
-          sub encodeExpressions expressionsDepth FineEs z keeps-all inner (middle + length (encodeSuffixes (u .init))) (raised 2 here) st (u .part)
-          (u .lies-part) (omega arith) (omega arith) (omega arith) refl refl (omega arith) (omega arith) (omega arith) (call-deep y .1)
-          (call-fine y .1);
+      ready = sub z keeps-all (u .lies-part) refl (omega (arith, call-deep y .1)) (call-fine y .1);
       starts = sym (start-of ei ez es u);
     }
 
@@ -509,9 +499,7 @@ module _ {s : List ℕ} {end : ℕ} {here : Here} {st : State} (n : Node) (nd : 
   abbrev pub suffixed-part : ReadyE s end here st → ReadySuffixes s middle (n .inner) (inside here) st
   suffixed-part y = let u = suffixed-is y in let k = length-append (encode (u .left)) (encodeSuffixes (u .list)) in record {
     ready =
-        sub encodeApplied deepApplied FineApplied y keeps-all (n .inner) (y .lo) (inside here) st (record { primary = u .left; suffixes = u .list })
-        (both (encode (u .left)) (encodeSuffixes (u .list)) (u .lies) (u .lies-list) refl) (omega arith) (omega arith) (omega arith) refl refl
-        (omega arith) (omega arith) (y .some) (omega (arith, suffixed-deep y .0, suffixed-deep y .1)) (suffixed-fine y);
+        sub {part = record { primary = u .left; suffixes = u .list }} y keeps-all (both (encode (u .left)) (encodeSuffixes (u .list)) (u .lies) (u .lies-list) refl) refl (omega (arith, suffixed-deep y .0, suffixed-deep y .1)) (suffixed-fine y);
     parts = suffixed-middle y;
   }
 
@@ -536,9 +524,7 @@ call-few l ej et ei ez es q k y =
 -- the same with another state
 abbrev pub with-state : {A : Type 0} {enc : A → List ℕ} {deep : A → ℕ} {Fine : A → Type 0} {s : List ℕ} {end : ℕ} {here : Here} {st st′ : State}
     → st′ .label ≡ st .label → Ready enc deep Fine s end here st → Ready enc deep Fine s end here st′
-with-state {enc = enc} {deep} {Fine} {end = end} {here} {st′ = st′} e y =
-    sub enc deep Fine y keeps-all end (y .lo) here st′ (y .tree) (y .lies) (y .ends) (omega arith) (omega arith) refl refl (y .height) (omega arith)
-    (omega arith) (y .shallow) (y .fine)
+with-state {enc = enc} {deep} {Fine} {end = end} {here} {st′ = st′} e y = sub y keeps-all (y .lies) refl (omega arith) (y .fine)
 
 pub indexed-gave : (text : List ℕ) {s s₁ t t₁ t₂ t₃ : List ℕ} {end : ℕ} {here : Here} {st b c d : State}
     → Emits (G.SP (here .height) ∷ []) ((here .height + 1) ∷ []) t t₁ st b → GaveE text s s₁ end (raised 1 here) t₁ t₂ b c

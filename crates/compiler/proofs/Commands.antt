@@ -52,8 +52,7 @@ module _ {s : List ℕ} {end : ℕ} {here : Here} {st : State} (n : Node) (nd : 
 
   abbrev pub valof-part : {a : State} → Fresh 1 st a → ReadyE s end here st → ReadyC s (n .inner) (inside here) a
   valof-part {a} e y = let u = is-valof (find n nd q y) in
-      sub encodeCommand commandDepth FineC y keeps-all (n .inner) (y .lo) (inside here) a (u .part) (u .lies) (omega arith) (omega arith)
-      (omega arith) refl refl (omega arith) (omega arith) (omega arith) (omega (arith, valof-deep y (u .same))) (valof-fine y (u .same))
+      sub y keeps-all (u .lies) refl (omega (arith, valof-deep y (u .same))) (valof-fine y (u .same))
 
   pub valof-gave : (text : List ℕ) {s₁ t t₁ t₂ : List ℕ} {a b c : State} → Fresh 1 st a
       → GaveC text s s₁ (n .inner) (inside here) (inValof (st .label)) t t₁ a b → Emits (I.label (st .label) ∷ []) [] t₁ t₂ b c
@@ -100,9 +99,7 @@ module _ {s : List ℕ} {end : ℕ} {here : Here} {st : State} (n : Node) (nd : 
   result-fine y = subst FinePlain (result-is y .same) (y .fine) .0
 
   abbrev pub result-part : ReadyU s end here st → ReadyE s (n .inner) here st
-  result-part y = let u = result-is y in
-      sub encode depth FineE y keeps-all (n .inner) (y .lo) here st (u .part) (u .lies) (omega arith) (omega arith) (omega arith) refl refl
-      (omega arith) (omega arith) (y .some) (result-deep y) (result-fine y)
+  result-part y = let u = result-is y in sub y keeps-all (u .lies) refl (omega (arith, result-deep y)) (result-fine y)
 
   pub result-gave : (text : List ℕ) (ways : Ways) {s₁ t t₁ t₂ : List ℕ} {a b : State} → GaveE text s s₁ (n .inner) here t t₁ st a
       → LeavesTo (ways .result) (n .place) t₁ t₂ a b → GaveU text s s₁ end here ways t t₂ st b

@@ -94,25 +94,19 @@ module _ {s : List ℕ} {end : ℕ} {here : Here} {st : State} (n o b : Node) (n
       bd .start ∙ sym (closed-start {end = o .start} (command-closed (u .body) (test-fine y .1)) (u .lies-body) (test-other y) .0)
 
   abbrev pub test-first : {a : State} → Fresh 2 st a → ReadyU s end here st → ReadyE s (b .start) here a
-  test-first {a} e y = let u = test-is y in
-      sub encode depth FineE y keeps-all (b .start) (y .lo) here a (u .test) (u .lies) (test-start y) (omega arith) (omega (arith, test-start y)) refl
-      refl (omega arith) (omega arith) (omega arith) (test-deep y .0) (test-fine y .0)
+  test-first {a} e y = let u = test-is y in sub y keeps-all (u .lies) refl (omega (arith, test-start y, test-deep y .0)) (test-fine y .0)
 
   module _ (text : List ℕ) {s₁ t t₁ t₂ : List ℕ} {a c d : State} (e : Fresh 2 st a) (g : GaveE text s s₁ (b .start) here t t₁ a c)
       (f : Emits (G.FL (st .label) ∷ []) [] t₁ t₂ c d) where
     abbrev pub test-body : ReadyU s end here st → ReadyC s₁ (o .start) here d
     test-body y = let u = test-is y in let x = g .by (test-first e y) in
-        sub encodeCommand commandDepth FineC y (x .keeps) (o .start) (y .lo + length (encode (u .test))) here d (u .body) (u .lies-body)
-        (test-other y) (omega arith) (omega (arith, test-other y)) refl refl (omega arith) (omega arith) (omega arith) (test-deep y .1)
-        (test-fine y .1)
+        sub y (x .keeps) (u .lies-body) refl (omega (arith, test-other y, test-deep y .1)) (test-fine y .1)
 
     module _ (ways : Ways) {s₂ t₃ t₄ t₅ : List ℕ} {i j k : State} (g₂ : GaveC text s₁ s₂ (o .start) here ways t₂ t₃ d i)
         (f₂ : Emits (G.JL (st .label + 1) ∷ []) [] t₃ t₄ i j) (f₃ : Emits (I.label (st .label) ∷ []) [] t₄ t₅ j k) where
       abbrev pub test-rest : ReadyU s end here st → ReadyC s₂ (n .inner) here k
       test-rest y = let u = test-is y in let x = g .by (test-first e y) in let z = g₂ .by (test-body y) in
-          sub encodeCommand commandDepth FineC y (keeps-then (x .keeps) (z .keeps)) (n .inner) (y .lo + length (encode (u .test))
-          + length (encodeCommand (u .body))) here k (u .other) (u .lies-other) (omega arith) (omega arith) (omega arith) refl refl (omega arith)
-          (omega arith) (omega arith) (test-deep y .2) (test-fine y .2)
+          sub y (keeps-then (x .keeps) (z .keeps)) (u .lies-other) refl (omega (arith, test-deep y .2)) (test-fine y .2)
 
       pub test-gave : {s₃ t₆ t₇ : List ℕ} {l r : State} → GaveC text s₂ s₃ (n .inner) here ways t₅ t₆ k l
           → Emits (I.label (st .label + 1) ∷ []) [] t₆ t₇ l r → GaveU text s s₃ end here ways t t₇ st r
@@ -177,16 +171,13 @@ module _ {s : List ℕ} {end : ℕ} {here : Here} {st : State} (n b : Node) (nd 
 
   module _ {t t₁ : List ℕ} {a c : State} (e : Fresh 2 st a) (m : Emits (I.label (st .label) ∷ []) [] t t₁ a c) where
     abbrev pub while-test : ReadyU s end here st → ReadyE s (b .start) here c
-    while-test y = let u = while-is y in
-        sub encode depth FineE y keeps-all (b .start) (y .lo) here c (u .test) (u .lies) (while-middle y) (omega arith)
-        (omega (arith, while-middle y)) refl refl (omega arith) (omega arith) (omega arith) (while-deep y .0) (while-fine y .0)
+    while-test y = let u = while-is y in sub y keeps-all (u .lies) refl (omega (arith, while-middle y, while-deep y .0)) (while-fine y .0)
 
     module _ (text : List ℕ) {s₁ t₂ t₃ : List ℕ} {d i : State} {j : ℕ} (g : GaveE text s s₁ (b .start) here t₁ t₂ c d)
         (f : Emits (G.to j (st .label + 1) ∷ []) [] t₂ t₃ d i) where
       abbrev pub while-body : ReadyU s end here st → ReadyC s₁ (n .inner) here i
       while-body y = let u = while-is y in let x = g .by (while-test y) in
-          sub encodeCommand commandDepth FineC y (x .keeps) (n .inner) (y .lo + length (encode (u .test))) here i (u .body) (u .lies-body)
-          (omega arith) (omega arith) (omega arith) refl refl (omega arith) (omega arith) (omega arith) (while-deep y .1) (while-fine y .1)
+          sub y (x .keeps) (u .lies-body) refl (omega (arith, while-deep y .1)) (while-fine y .1)
 
       pub while-gave : (ways : Ways) {s₂ t₄ t₅ t₆ : List ℕ} {k l r : State} → j ≡ cond (eqb (n .kind) K.WHILE) 5 4
           → GaveC text s₁ s₂ (n .inner) here (inLoop (st .label) (st .label + 1) ways) t₃ t₄ i k

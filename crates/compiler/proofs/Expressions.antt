@@ -99,8 +99,7 @@ module _ {s : List ℕ} {end : ℕ} {here : Here} {st : State} (n : Node) (nd : 
 
   abbrev pub bracket-part : ReadyE s end here st → ReadyE s (n .inner) (inside here) st
   bracket-part y = let u = is-bracket (find n nd q y) in
-      sub encode depth FineE y keeps-all (n .inner) (y .lo) (inside here) st (u .part) (u .lies) (omega arith) (omega arith) (omega arith) refl refl
-      (omega arith) (omega arith) (y .some) (omega (arith, shallower y (u .same))) (bracket-fine y (u .same))
+      sub y keeps-all (u .lies) refl (omega (arith, shallower y (u .same))) (bracket-fine y (u .same))
 
   pub bracket-gave : (text : List ℕ) {s′ t t′ : List ℕ} {r : State} → GaveE text s s′ (n .inner) (inside here) t t′ st r
       → GaveE text s s′ end here t t′ st r
@@ -162,16 +161,12 @@ module _ {s : List ℕ} {end : ℕ} {here : Here} {st : State} (n : Node) (nd : 
 
   abbrev pub dyadic-left : ReadyE s end here st → ReadyE s middle (inside here) st
   dyadic-left y = let u = is-dyadic (find n nd q y) in
-      sub encode depth FineE y keeps-all middle (y .lo) (inside here) st (u .left) (u .lies) (middle-is y) (omega arith) (omega (arith, middle-is y))
-      refl refl (omega arith) (omega arith) (y .some) (omega (arith, deep-left y (u .same) .0)) (dyadic-fine y (u .same) .0)
+      sub y keeps-all (u .lies) refl (omega (arith, middle-is y, deep-left y (u .same) .0)) (dyadic-fine y (u .same) .0)
 
   module _ (text : List ℕ) {s₁ t t₁ : List ℕ} {a : State} (g : GaveE text s s₁ middle (inside here) t t₁ st a) where
     abbrev pub dyadic-rest : ReadyE s end here st → ReadyChain s₁ middle (n .inner) (inside here) a
     dyadic-rest y = let u = is-dyadic (find n nd q y) in let x = g .by (dyadic-left y) in record {
-      ready =
-          sub encodeOperations operationsDepth FineOs y (x .keeps) (n .inner) (y .lo + length (encode (u .left))) (inside here) a (u .list)
-          (u .lies-list) (omega arith) (omega arith) (omega arith) refl refl (omega arith) (omega arith) (omega arith)
-          (omega (arith, deep-left y (u .same) .1)) (dyadic-fine y (u .same) .1);
+      ready = sub y (x .keeps) (u .lies-list) refl (omega (arith, deep-left y (u .same) .1)) (dyadic-fine y (u .same) .1);
       starts = sym (middle-is y);
     }
 
@@ -253,8 +248,7 @@ module _ (text t₀ : List ℕ) {s₀ : List ℕ} {from end : ℕ} {here : Here}
         → ReadyE s next (raised 1 here) a
     chain-part {a} ea y p = let z = y .ready in let u = item z (y .starts) l es en p in let e = one-size z (y .starts) l es en p in
         let n = rest-length z (y .starts) l es en p in
-        sub encode depth FineE z (p .keeps) next (at + 2) (raised 1 here) a (u .part .operand) (u .lies) (omega arith) (omega arith) (omega arith)
-        refl refl (omega arith) (omega arith) (omega arith) (both-deep z (y .starts) l es en p .0) (both-fine z (y .starts) l es en p .0)
+        sub z (p .keeps) (u .lies) refl (omega (arith, both-deep z (y .starts) l es en p .0)) (both-fine z (y .starts) l es en p .0)
 
     pub chain-next : {act : ℕ} {s₁ t₁ t₂ t₃ : List ℕ} {a b r : State} → act ≡ G.dyadicAct o
         → Emits (G.SP (here .height) ∷ []) ((here .height + 1) ∷ []) t t₁ st a → GaveE text s s₁ next (raised 1 here) t₁ t₂ a b → Emits

@@ -159,16 +159,13 @@ module _ {s : List ℕ} {end : ℕ} {here : Here} {st : State} (n b l : Node) {l
   for-room y = let u = for-is y in omega arith
 
   abbrev pub for-first : {a : State} → Fresh 3 st a → ReadyU s end here st → ReadyE s (l .start) here a
-  for-first {a} e y = let u = for-is y in
-      sub encode depth FineE y keeps-all (l .start) (y .lo + 4) here a (u .start) (u .lies-start) (for-limit-start y) (omega arith)
-      (omega (arith, for-limit-start y)) refl refl (omega arith) (omega arith) (omega arith) (for-deep y .0) (for-fine y .0)
+  for-first {a} e y = let u = for-is y in sub y keeps-all (u .lies-start) refl (omega (arith, for-limit-start y, for-deep y .0)) (for-fine y .0)
 
   module _ (text : List ℕ) {s₁ t t₁ t₂ : List ℕ} {a c d : State} (e : Fresh 3 st a) (g : GaveE text s s₁ (l .start) here t t₁ a c)
       (f : Emits (G.SP (here .height) ∷ []) ((here .height + 1) ∷ []) t₁ t₂ c d) where
     abbrev pub for-limit : ReadyU s end here st → ReadyE s₁ le (raised 1 here) d
     for-limit y = let u = for-is y in let x = g .by (for-first e y) in
-        sub encode depth FineE y (x .keeps) le (y .lo + 4 + length (encode (u .start))) (raised 1 here) d (u .limit) (u .lies-limit) (for-limit-end y)
-        (omega arith) (omega (arith, for-limit-end y)) refl refl (omega arith) (omega arith) (omega arith) (for-deep y .1) (for-fine y .1)
+        sub y (x .keeps) (u .lies-limit) refl (omega (arith, for-limit-end y, for-deep y .1)) (for-fine y .1)
 
     module _ {s₂ t₃ t₄ : List ℕ} {i j : State} (g₂ : GaveE text s₁ s₂ le (raised 1 here) t₂ t₃ d i)
         (f₂ : Emits (G.SP (here .height + 1) ∷ []) ((here .height + 1 + 1) ∷ []) t₃ t₄ i j)
@@ -222,10 +219,7 @@ module _ {s : List ℕ} {end : ℕ} {here : Here} {st : State} (n b l : Node) {l
         for-body y =
             let u = for-is y in let k = for-block-keeps y in let lo′ = y .lo + 4 + length (encode (u .start)) + length (encode (u .limit))
             + length (encodeBy (u .by)) in
-            moved encodeCommand commandDepth FineC y k (n .inner) lo′ (placed (here .top + 4) (here .height + 2) here) m (u .body)
-            (declared (opened (y .scope)) (u .name) (N.local (here .height))) (u .lies-body) (omega (arith, nd .inner, u .ends)) (omega arith)
-            (omega (arith, nd .inner)) (for-block-shows y) (omega arith) refl (omega arith) (omega (arith, for-labels y))
-            (omega (arith, for-labels y)) (for-deep y .2) (for-fine y .3)
+            moved y k (declared (opened (y .scope)) (u .name) (N.local (here .height))) (u .lies-body) (for-block-shows y) (omega arith) (omega (arith, nd .inner, u .ends, for-labels y, for-deep y .2)) (for-fine y .3)
 
         pub for-gave : (ways : Ways) {s₅ t₆ t₇ : List ℕ} {o r : State}
             → GaveC text s₄ s₅ (n .inner) (placed (here .top + 4) (here .height + 2) here) (inLoop (st .label + 1) (st .label + 2) ways) t₅ t₆ m o

@@ -121,9 +121,7 @@ module _ {s : List ℕ} {end : ℕ} {here : Here} {st : State} (n : Node) (nd : 
           let m = function-many y in let l = function-label y in
           record {
             ready =
-                moved encodeBody bodyDepth FineB y k (n .inner) (y .lo + 4 + length (encodeNames (y .tree .parameters))) (within n here) c
-                (y .tree .body) (declareAll (opened (y .scope)) 2 (y .tree .parameters)) (u .lies-body) (omega arith) (omega arith) (omega arith)
-                (rw m (d .shows)) (omega arith) refl (omega arith) (omega arith) (omega arith) (y .shallow) (y .fine .body);
+                moved y k (declareAll (opened (y .scope)) 2 (y .tree .parameters)) (u .lies-body) (rw m (d .shows)) (omega arith) (omega arith) (y .fine .body);
             word-is = nd .kind ∙ u .kind-of;
             routine-is = refl;
           }

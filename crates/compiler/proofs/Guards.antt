@@ -152,16 +152,13 @@ module _ {s : List ℕ} {end : ℕ} {here : Here} {st : State} (n b : Node) (nd 
       bd .start ∙ sym (k .0)
 
   abbrev pub guard-test : {a : State} → Fresh 1 st a → ReadyU s end here st → ReadyE s (b .start) here a
-  guard-test {a} e y = let u = guard-is y in
-      sub encode depth FineE y keeps-all (b .start) (y .lo) here a (u .test) (u .lies) (guard-middle y) (omega arith) (omega (arith, guard-middle y))
-      refl refl (omega arith) (omega arith) (omega arith) (guard-deep y .0) (guard-fine y .0)
+  guard-test {a} e y = let u = guard-is y in sub y keeps-all (u .lies) refl (omega (arith, guard-middle y, guard-deep y .0)) (guard-fine y .0)
 
   module _ (text : List ℕ) {s₁ t t₁ t₂ : List ℕ} {a c d : State} {j : ℕ} (e : Fresh 1 st a) (g : GaveE text s s₁ (b .start) here t t₁ a c)
       (f : Emits (G.to j (st .label) ∷ []) [] t₁ t₂ c d) where
     abbrev pub guard-body : ReadyU s end here st → ReadyC s₁ (n .inner) here d
     guard-body y = let u = guard-is y in let x = g .by (guard-test e y) in
-        sub encodeCommand commandDepth FineC y (x .keeps) (n .inner) (y .lo + length (encode (u .test))) here d (u .body) (u .lies-body) (omega arith)
-        (omega arith) (omega arith) refl refl (omega arith) (omega arith) (omega arith) (guard-deep y .1) (guard-fine y .1)
+        sub y (x .keeps) (u .lies-body) refl (omega (arith, guard-deep y .1)) (guard-fine y .1)
 
     pub guard-gave : (ways : Ways) {s₂ t₃ t₄ : List ℕ} {k r : State} → j ≡ cond (eqb (n .kind) 16) 5 4
         → GaveC text s₁ s₂ (n .inner) here ways t₂ t₃ d k → Emits (I.label (st .label) ∷ []) [] t₃ t₄ k r → GaveU text s s₂ end here ways t t₄ st r

@@ -384,9 +384,7 @@ module _ {s : List ℕ} {end : ℕ} {here : Here} {st : State} (n : Node) (nd : 
 
   abbrev pub values-args : ReadyLocal s end here st → ReadyArgs s middle (n .inner) here st
   values-args y = let u = values-is y in record {
-    ready =
-        sub encodeExpressions expressionsDepth FineEs y keeps-all (n .inner) (y .lo + length (encodeNames (u .names))) here st (u .values)
-        (u .lies-values) (omega arith) (omega arith) (omega arith) refl refl (omega arith) (omega arith) (y .some) (values-deep y) (values-fine y .1);
+    ready = sub y keeps-all (u .lies-values) refl (omega (arith, values-deep y)) (values-fine y .1);
     starts = sym (values-start y .1);
   }
 

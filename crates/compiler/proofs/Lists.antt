@@ -117,9 +117,7 @@ module _ {L A : Type 0} {k : Kind L A} {few : L → ℕ} {fs : ℕ → L → Lis
         → here′ .height ≤ h + 1 → st′ .label + 2 * length (k .one (item .part)) ≤ 2 ^ 29 → 0 < st′ .label
         → Ready (k .one) (k .deep-one) (k .Fine-one) s next here′ st′
     ready-one here′ st′ et eg el eh few-labels some =
-        sub (k .one) (k .deep-one) (k .Fine-one) z (p .keeps) next (at + 2) here′ st′ (item .part) (item .lies) (omega (arith, one-size))
-        (omega arith) (omega (arith, one-size, item .ends)) et eg (omega (arith, rest-length)) few-labels some (omega (arith, both-deep .0))
-        (both-fine .0)
+        sub z (p .keeps) (item .lies) et (omega (arith, one-size, item .ends, rest-length, both-deep .0)) (both-fine .0)
 
     -- the loop after the item
     pub goes-on : {s₁ t₁ : List ℕ} {st₁ : State} {h′ i′ : ℕ} → Keeps (z .base) (here .top) s s₁ → h′ ≤ h + 4100

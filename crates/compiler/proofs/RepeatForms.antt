@@ -176,9 +176,7 @@ module _ (text t₀ : List ℕ) (own₀ : ℕ) {s₀ : List ℕ} {from end : ℕ
       ready-test w e q =
           let z = y .ready in let h = rw q at (one .lies) in let m : length (formEncoding (one .part)) ≡ length (encode e)
           = ap (λ (f : AForm). length (formEncoding f)) q in
-          sub encode depth FineE z (p .keeps) next (at + 2) here a e h (omega (arith, forms-size)) (omega arith)
-          (omega (arith, forms-size, one .ends)) refl refl (omega (arith, rest-length z (y .starts) l es en p)) (omega (arith, forms-conditions))
-          (omega arith) (rw q at (both-deep z (y .starts) l es en p .0)) (subst FineForm q (both-fine z (y .starts) l es en p .0))
+          sub z (p .keeps) h refl (omega (arith, forms-size, one .ends, rest-length z (y .starts) l es en p, forms-conditions, rw q at (both-deep z (y .starts) l es en p .0))) (subst FineForm q (both-fine z (y .starts) l es en p .0))
 
       ready-form : ReadyForm s next size here a
       ready-form = record { on = λ n. by n (one .part) refl }
@@ -339,19 +337,14 @@ module _ {s : List ℕ} {end : ℕ} {here : Here} {st : State} (n : Node) (nd : 
     module _ {a b : State} {t t₁ : List ℕ} (e : Fresh (3 * k) st a) (f : Emits (topsCode (st .label) k) [] t t₁ a b) where
       abbrev pub repeated-body : ReadyR s end here st → ReadyU s middle here b
       repeated-body y = let u = repeated-is y in
-          sub encodeUnlabelled unlabelledDepth FinePlain y keeps-all middle (y .lo) here b (y .tree .body) (u .lies) (repeated-middle y) (omega arith)
-          (omega (arith, repeated-middle y)) refl refl (omega arith) (omega (arith, repeated-count y, forms-entries (y .tree .forms))) (omega arith)
-          (omega arith) (y .fine .0)
+          sub y keeps-all (u .lies) refl (omega (arith, repeated-middle y, repeated-count y, forms-entries (y .tree .forms))) (y .fine .0)
 
       module _ (text : List ℕ) (ways : Ways) {own : ℕ} (eo : own ≡ st .label + 3 * k - 3) {s₁ t₂ : List ℕ} {d : State}
           (g : GaveU text s s₁ middle here (inLoop (own + 1) (own + 2) ways) t₁ t₂ b d) where
         abbrev pub repeated-forms : ReadyR s end here st → ReadyForms s₁ middle (n .inner) here d
         repeated-forms y = let u = repeated-is y in let x = g .by (repeated-body y) in record {
           before = st;
-          ready =
-              sub encodeRepeats repeatsDepth FineRs y (x .keeps) (n .inner) (y .lo + length (encodeUnlabelled (y .tree .body))) here st
-              (y .tree .forms) (u .lies-forms) (omega arith) (omega arith) (omega arith) refl refl (omega arith) (omega arith) (y .some) (omega arith)
-              (y .fine .1);
+          ready = sub y (x .keeps) (u .lies-forms) refl (omega arith) (y .fine .1);
           starts = sym (repeated-middle y);
           label = omega (arith, repeated-count y, forms-entries (y .tree .forms));
           some = omega arith;
@@ -389,9 +382,7 @@ module _ {s : List ℕ} {end : ℕ} {here : Here} {st : State} (n : Node) (nd : 
   once-is y = is-once (y .tree .body) (y .tree .forms) (y .lies) (y .ends) (λ e. q (nd .kind ∙ e))
 
   abbrev pub once-part : ReadyR s end here st → ReadyU s end here st
-  once-part y = let u = once-is y in
-      sub encodeUnlabelled unlabelledDepth FinePlain y keeps-all end (y .lo) here st (y .tree .body) (u .lies) (u .ends) (omega arith) (omega arith)
-      refl refl (omega arith) (omega arith) (y .some) (omega arith) (y .fine .0)
+  once-part y = let u = once-is y in sub y keeps-all (u .lies) refl (omega arith) (y .fine .0)
 
   pub once-gave : (text : List ℕ) (ways : Ways) {s₁ t t₁ : List ℕ} {r : State} → GaveU text s s₁ end here ways t t₁ st r
       → GaveR text s s₁ end here ways t t₁ st r

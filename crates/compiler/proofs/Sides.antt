@@ -96,9 +96,7 @@ module _ {s : List ℕ} {end : ℕ} {here : Here} {st : State} (n : Node) (nd : 
   monadic-fine y = subst FineE (monadic-is y .same) (y .fine)
 
   abbrev pub monadic-part : ReadyE s end here st → ReadyE s (n .inner) (inside here) st
-  monadic-part y = let u = monadic-is y in
-      sub encode depth FineE y keeps-all (n .inner) (y .lo) (inside here) st (u .part) (u .lies) (omega arith) (omega arith) (omega arith) refl refl
-      (omega arith) (omega arith) (y .some) (omega (arith, monadic-deep y)) (monadic-fine y)
+  monadic-part y = let u = monadic-is y in sub y keeps-all (u .lies) refl (omega (arith, monadic-deep y)) (monadic-fine y)
 
   pub monadic-gave : (text : List ℕ) {s′ t t′ : List ℕ} {r : State} → GaveMonadic text s s′ (n .value) (n .inner) (inside here) t t′ st r
       → GaveE text s s′ end here t t′ st r

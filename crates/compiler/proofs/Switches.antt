@@ -168,9 +168,7 @@ module _ {s : List ℕ} {end : ℕ} {here : Here} {st : State} (n : Node) (nd : 
       omega arith
 
   abbrev pub switch-value : ReadyU s end here st → ReadyE s middle here st
-  switch-value y = let u = switch-is y in
-      sub encode depth FineE y keeps-all middle (y .lo) here st (u .value) (u .lies) (switch-middle y) (omega arith) (omega (arith, switch-middle y))
-      refl refl (omega arith) (omega arith) (y .some) (switch-deep y .0) (switch-fine y .0)
+  switch-value y = let u = switch-is y in sub y keeps-all (u .lies) refl (omega (arith, switch-middle y, switch-deep y .0)) (switch-fine y .0)
 
   module _ (text : List ℕ) {s₁ t t₁ : List ℕ} {a : State} (g : GaveE text s s₁ middle here t t₁ st a) {k : ℕ}
       (c : Counts s₁ middle (n .inner) k) where
@@ -209,9 +207,7 @@ module _ {s : List ℕ} {end : ℕ} {here : Here} {st : State} (n : Node) (nd : 
       switch-cases y =
           let u = switch-is y in let x = g .by (switch-value y) in let v = list-entries text (y .scope) (here .height) (u .list) in record {
             before = st;
-            ready =
-                sub encodeCommands commandsDepth FineCs y (x .keeps) (n .inner) (y .lo + length (encode (u .value))) here st (u .list) (u .lies-list)
-                (omega arith) (omega arith) (omega arith) refl refl (omega arith) (omega arith) (y .some) (switch-deep y .1) (switch-fine y .1);
+            ready = sub y (x .keeps) (u .lies-list) refl (omega (arith, switch-deep y .1)) (switch-fine y .1);
             starts = sym (switch-middle y);
             label = omega (arith, switch-state y, switch-count y);
             some = omega (arith, switch-state y);
