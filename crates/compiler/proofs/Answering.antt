@@ -180,9 +180,7 @@ module _ {source : List ℕ} (s : List ℕ) {front : List ℕ} {a : SymbolsRead}
   again = symbols-left (l .short) (omega (arith, part)) r (good ss) e ∙ ap (λ (n : ℕ). padded n (entries ss)) part
 
   again-decoded : decoded count (front ++ drop room s) ≡ ss
-  again-decoded =
-      ap (λ (m : ℕ). decoded m (front ++ drop room s)) k
-      ∙ (ap (decoded (length ss)) (ap (λ (z : List ℕ). z ++ drop room s) again ∙ append-assoc (entries ss) _ _) ∙ decoded-entries ss _)
+  again-decoded = rw (k, again, append-assoc, decoded-entries ss _)
 
   again-clean : {used : ℕ} → count * 3 ≤ used → Clean used s → Clean used (front ++ drop room s)
   again-clean h c =
@@ -204,8 +202,7 @@ pub behind-gave : {source s s′ table t t₁ t₂ t₃ : List ℕ} {count names
 behind-gave {source} {s} {s′} {table} {t} {t₁} {t₂} {t₃} {count} {names} {functions} {at} {x} {y} {z} w v c = record {
   clean = w .clean;
   by = λ ss fs e k n long few start. let shifted = rw (add-one functions) at (w .by ss e k n) in
-      puts-as (puts-then (puts-then shifted (v .by fs long few start)) c) (ap (λ (u : List ℕ). u ++ (90 ∷ 10 ∷ []))
-      (lines-then (stringsCode (suc functions) (stringsAmong source ss)) (startsCode 1 fs)));
+      puts-as (puts-then (puts-then shifted (v .by fs long few start)) c) (rw (lines-then (stringsCode (suc functions) (stringsAmong source ss)) (startsCode 1 fs)));
 }
 
 -- what is accepted has no faults, and room
@@ -244,9 +241,7 @@ module _ {source s : List ℕ} {count end : ℕ} (y : ReadyTree source s count e
   }
 
   symbols-are : decoded count s ≡ y .symbols
-  symbols-are =
-      ap (λ (n : ℕ). decoded n s) (y .counts)
-      ∙ (ap (decoded (length (y .symbols))) (y .stand ∙ append-assoc (entries (y .symbols)) (encodeProgram p) _) ∙ decoded-entries (y .symbols) _)
+  symbols-are = rw (y .counts, y .stand, append-assoc, decoded-entries (y .symbols) _)
 
   pub end-inside : {k : ℕ} → k ≡ length s → end ≤ k
   end-inside e = omega (arith, few-good source (y .symbols) (y .reads))
@@ -367,21 +362,15 @@ module _ {source s : List ℕ} {count end : ℕ} (y : ReadyTree source s count e
       items-are : itemsOf (functionsIn source) (stringsIn source) ≡ code ++ behind
       unfolding itemsOf
       items-are =
-          let strings = stringsAmong source (y .symbols) in let l : length (funs ns) ≡ functions = length-funs ns ∙ sym f in
-          let all : ℕ → ℕ → List Item = λ m k. functionsCode (suc m) 1 (suc m + k) (funs ns)
-          ++ (stringsCode (suc m) strings ++ startsCode 1 (funs ns)) in
-          ap (λ (z : List Fun). itemsOf z (stringsIn source)) functions-are
-          ∙ (ap (itemsOf (funs ns)) strings-are
-          ∙ (ap (λ (m : ℕ). all m (length strings)) l
-          ∙ (ap (all functions) (sym n) ∙ ap (λ (m : ℕ). functionsCode m 1 (m + names) (funs ns) ++ behind) (sym (add-one functions)))))
+          let strings = stringsAmong source (y .symbols) in let l : length (funs ns) ≡ functions = length-funs ns ∙ sym f in let all : ℕ → ℕ → List
+          Item = λ m k. functionsCode (suc m) 1 (suc m + k) (funs ns) ++ (stringsCode (suc m) strings ++ startsCode 1 (funs ns)) in
+          rw (functions-are, strings-are, l, n, add-one functions)
 
       the-text : ((36 ∷ 10 ∷ []) ++ lines code) ++ (lines behind ++ (90 ∷ 10 ∷ [])) ≡ textOf source
       unfolding textOf
       the-text =
           append-assoc (36 ∷ 10 ∷ []) (lines code) (lines behind ++ (90 ∷ 10 ∷ []))
-          ∙ (ap (λ (z : List ℕ). (36 ∷ 10 ∷ []) ++ z)
-          (sym (append-assoc (lines code) (lines behind) (90 ∷ 10 ∷ [])) ∙ ap (λ (z : List ℕ). z ++ (90 ∷ 10 ∷ [])) (sym (lines-then code behind)))
-          ∙ (sym (rendered (code ++ behind)) ∙ ap renderAll (sym items-are)))
+          ∙ (simp (append-assoc, lines-then code behind, rendered (code ++ behind), items-are))
 
       -- the text is the generator's
       written : faultsFrom source begin p ≡ [] → Text t (textOf source) last t₃
@@ -421,9 +410,7 @@ module _ {source s : List ℕ} {count end : ℕ} (y : ReadyTree source s count e
           (length (take end s₂) - 0) 0 → Translates source s (z ++ drop end s₂) t t₃ a
       translates {start} {room} e k q same c =
           record {
-            answers = q
-                ∙ (ap (λ (v : ℕ). byKeys source (d′ .state .worst) (d′ .tall) v last room) e
-                ∙ (ap (λ (v : ℕ). byKeys source (d′ .state .worst) (d′ .tall) (getD table′ 1 0) last v) k ∙ answers));
-            clears = clean-all clean-behind (end-inside same) c ∙ ap (λ (v : ℕ). replicate v 0) same;
+            answers = q ∙ (rw (e, k, answers));
+            clears = rw (clean-all clean-behind (end-inside same) c, same);
             begins = begins;
           }

@@ -28,10 +28,8 @@ module _ (text : List ℕ) (l m : Leavable) (q : l .routine ≡ m .routine) wher
     any-expression sc h (T.string p v) = refl
     any-expression sc h (T.name n) = refl
     any-expression sc h (T.bracketed p e) = any-expression sc h e
-    any-expression sc h (T.valof p c) =
-        ap (λ (b : Bool). inCommand text sc (record { loop = false; switch = false; valof = true; routine = b }) h c) q
-    any-expression sc h (T.monadic p o e) =
-        ap (λ (z : List Fault). z ++ cond (eqb o AT) (unlessSide (placeOf e) (sideOf (expression text sc h e))) []) (any-expression sc h e)
+    any-expression sc h (T.valof p c) = rw q
+    any-expression sc h (T.monadic p o e) = rw (any-expression sc h e)
     any-expression sc h (T.suffixed e ss) = two (any-expression sc (under ss h) e) (any-suffixes sc h ss)
     any-expression sc h (T.dyadic e os) = two (any-expression sc h e) (any-operations sc h os)
 

@@ -42,7 +42,7 @@ use Rattle.compiler.proofs.Anywhere.{any-expression}
 -- right, left, then the others, as left ones and then right ones
 same-pairs : (r l L R : List Fault) → Same (r ++ (l ++ (L ++ R))) ((l ++ L) ++ (r ++ R))
 same-pairs r l L R =
-    same-then (same-swap r (l ++ (L ++ R))) (same-then (same-eq (append-assoc l (L ++ R) r ∙ ap (λ (z : List Fault). l ++ z) (append-assoc L R r)))
+    same-then (same-swap r (l ++ (L ++ R))) (same-then (same-eq (simp append-assoc))
     (same-then (same-both (same-refl {a = l}) (same-both (same-refl {a = L}) (same-swap R r))) (same-eq (sym (append-assoc l L (r ++ R))))))
 
 -- ---- where the left sides stand, between two places: the next one ends at l, the others follow it as items
@@ -58,8 +58,7 @@ unfolding encodeExpressions
 left-next T.noExpressions f h b q = noLeft
 left-next {s} {from} {to} {l} {l′} (T.andExpression e es) f h b q =
     let a : l + 0 ≡ l = omega arith in let r = second (length (encode e) ∷ 0 ∷ []) (encode e ++ encodeExpressions es) (l + 2) h refl in
-    let z : getD s l 0 ≡ length (encode e) = ap (λ (k : ℕ). getD s k 0) (sym a) ∙ h .at 0 (omega arith) in let w : l′ ≡ l + 2 + length (encode e) = q
-    ∙ ap (λ (k : ℕ). l + 2 + k) z in
+    let z : getD s l 0 ≡ length (encode e) = ap (λ (k : ℕ). getD s k 0) (sym a) ∙ h .at 0 (omega arith) in let w : l′ ≡ l + 2 + length (encode e) = rw (q, z) in
     aLeft {e = e} {es = es} (l + 2) (omega arith) (first (encode e) (encodeExpressions es) r) w (second (encode e) (encodeExpressions es) l′ r w)
     (omega (arith, length-append (encode e) (encodeExpressions es)))
 
@@ -156,7 +155,7 @@ module _ (text t₀ : List ℕ) {s₀ : List ℕ} {left right end : ℕ} {here :
         × (length (encodeSides (p .lefts)) ≡ length (encode (u .left)) + length (encodeExpressions (u .lefts)))
     assign-length y p =
         let u = assign-is y p in
-        (omega arith, ap (λ (x : Expressions). length (encodeSides x)) (u .same) ∙ sides-long (u .left) (u .lefts))
+        (omega arith, cc (sides-long (u .left) (u .lefts)))
 
     pub assign-deep : (y : ReadyAssign s₀ left right end here st₀) (p : AssignPart y s t l at st) → let u = assign-is y p in
         (depth (u .left) ≤ here .left) × (expressionsDepth (u .lefts) ≤ here .left) × (depth (u .right .part) ≤ here .left)
@@ -199,7 +198,7 @@ module _ (text t₀ : List ℕ) {s₀ : List ℕ} {left right end : ℕ} {here :
           record {
             lefts = u .lefts;
             rights = v .more;
-            at-left = left-next (u .lefts) (omega arith) (u .others) (u .before) (el ∙ ap (λ (i : ℕ). l + 2 + i) z′);
+            at-left = left-next (u .lefts) (omega arith) (u .others) (u .before) (rw (el, z′));
             lies = subst (λ (i : ℕ). Lies s₀ i (encodeExpressions (v .more))) (omega (arith, assign-size y p)) (v .lies-more);
             ends = omega (arith, assign-size y p);
             starts = omega arith;
@@ -256,17 +255,14 @@ any-right : (text : List ℕ) (l m : Leavable) (q : l .routine ≡ m .routine) (
     → inRightSides text sc l h es ≡ inRightSides text sc m h es
 unfolding inRightSides
 any-right text l m q sc h T.noExpressions = refl
-any-right text l m q sc h (T.andExpression e es) =
-    ap (λ (z : List Fault). z ++ inRightSides text sc l h es) (any-expression text l m q sc h e) ∙ ap
-    (λ (z : List Fault). inExpression text sc m h e ++ z) (any-right text l m q sc h es)
+any-right text l m q sc h (T.andExpression e es) = rw (any-expression text l m q sc h e, any-right text l m q sc h es)
 
 any-sides : (text : List ℕ) (l m : Leavable) (q : l .routine ≡ m .routine) (sc : Scope) (h : ℕ) (es : Expressions)
     → inSides text sc l h es ≡ inSides text sc m h es
 unfolding inSides
 any-sides text l m q sc h T.noExpressions = refl
 any-sides text l m q sc h (T.andExpression e es) = let u = unlessSide (placeOf e) (sideOf (expression text sc h e)) in
-    ap (λ (z : List Fault). (z ++ u) ++ inSides text sc l h es) (any-expression text l m q sc h e) ∙ ap
-    (λ (z : List Fault). (inExpression text sc m h e ++ u) ++ z) (any-sides text l m q sc h es)
+    rw (any-expression text l m q sc h e, any-sides text l m q sc h es)
 
 pub record IsAssign (s : List ℕ) (lo end : ℕ) (u : Unlabelled) : Type 0 where
   pub left : Expressions
@@ -317,8 +313,7 @@ module _ {s : List ℕ} {end : ℕ} {here : Here} {st : State} (n : Node) (nd : 
         (y .base) here s s₁ t t₁ st r) (sym (u .same))
         (record {
           keeps = x .keeps;
-          did = did-as _ _ (x .did) (same-eq (ap (λ (z : List Fault). z ++ inRightSides text sc l h (u .right)) (any-sides text l m refl sc (h + 1)
-              (u .left)) ∙ ap (λ (z : List Fault). inSides text sc m (h + 1) (u .left) ++ z) (any-right text l m refl sc h (u .right)))) (λ k e. refl)
-              (omega arith);
+          did = did-as _ _ (x .did) (same-eq (rw (any-sides text l m refl sc (h + 1) (u .left), any-right text l m refl sc h (u .right))))
+              (λ k e. refl) (omega arith);
         });
   }

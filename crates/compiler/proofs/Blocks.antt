@@ -134,23 +134,18 @@ module _ (strings : ℕ) where
   unfolding G.localsCode G.exprsCode H.count G.exprsLabels
   values-code h n R.none ls =
       let a : h ≡ h + 0 = omega arith in let b : n ≡ n + 0 = omega arith in
-      ap (λ (k : ℕ). G.localsCode strings k n ls) a ∙ ap (λ (k : ℕ). G.localsCode strings (h + 0) k ls) b
+      cc
   values-code h n (R.and e es) ls =
-      let a : h + 1 + H.count es ≡ h + suc (H.count es) = omega arith in
-      let b : n + G.exprLabels e + G.exprsLabels es ≡ n + (G.exprLabels e + G.exprsLabels es) = omega arith in
-      ap (λ (z : List I.Item). G.exprCode strings h n e ++ (G.SP h ∷ z)) (values-code (h + 1) (n + G.exprLabels e) es ls
-      ∙ ap (λ (k : ℕ). G.exprsCode strings (h + 1) (n + G.exprLabels e) es ++ G.localsCode strings k (n + G.exprLabels e + G.exprsLabels es) ls) a
-      ∙ ap (λ (k : ℕ). G.exprsCode strings (h + 1) (n + G.exprLabels e) es ++ G.localsCode strings (h + suc (H.count es)) k ls) b)
-      ∙ sym (append-assoc (G.exprCode strings h n e) (G.SP h ∷ G.exprsCode strings (h + 1) (n + G.exprLabels e) es)
-      (G.localsCode strings (h + suc (H.count es)) (n + (G.exprLabels e + G.exprsLabels es)) ls))
+      let a : h + 1 + H.count es ≡ h + suc (H.count es) = omega arith in let b : n + G.exprLabels e + G.exprsLabels es ≡ n
+      + (G.exprLabels e + G.exprsLabels es) = omega arith in
+      simp (values-code (h + 1) (n + G.exprLabels e) es ls, a, b, append-assoc)
 
 values-heights : (h : ℕ) (es : R.Exprs) (ls : R.Locals) → ofLocals h (valuesBefore es ls) ≡ ofExprs h es ++ ofLocals (h + H.count es) ls
 unfolding ofLocals ofExprs H.count
-values-heights h R.none ls = let a : h ≡ h + 0 = omega arith in ap (λ (k : ℕ). ofLocals k ls) a
+values-heights h R.none ls = let a : h ≡ h + 0 = omega arith in cc
 values-heights h (R.and e es) ls =
     let a : h + 1 + H.count es ≡ h + suc (H.count es) = omega arith in
-    ap (λ (z : List ℕ). H.ofExpr h e ++ ((h + 1) ∷ z)) (values-heights (h + 1) es ls ∙ ap (λ (k : ℕ). ofExprs (h + 1) es ++ ofLocals k ls) a)
-    ∙ sym (append-assoc (H.ofExpr h e) ((h + 1) ∷ ofExprs (h + 1) es) (ofLocals (h + suc (H.count es)) ls))
+    simp (values-heights (h + 1) es ls, a, append-assoc)
 
 values-labels : (es : R.Exprs) (ls : R.Locals) → G.localsLabels (valuesBefore es ls) ≡ G.exprsLabels es + G.localsLabels ls
 unfolding G.localsLabels G.exprsLabels
@@ -159,9 +154,8 @@ values-labels (R.and e es) ls = omega (arith, values-labels es ls)
 
 values-after : (h : ℕ) (es : R.Exprs) (ls : R.Locals) → H.heightWith h (valuesBefore es ls) ≡ H.heightWith (h + H.count es) ls
 unfolding H.heightWith H.count
-values-after h R.none ls = let a : h ≡ h + 0 = omega arith in ap (λ (k : ℕ). H.heightWith k ls) a
-values-after h (R.and e es) ls =
-    let a : h + 1 + H.count es ≡ h + suc (H.count es) = omega arith in values-after (h + 1) es ls ∙ ap (λ (k : ℕ). H.heightWith k ls) a
+values-after h R.none ls = let a : h ≡ h + 0 = omega arith in cc
+values-after h (R.and e es) ls = let a : h + 1 + H.count es ≡ h + suc (H.count es) = omega arith in rw (values-after (h + 1) es ls, a)
 
 count-is : (text : List ℕ) (sc : Scope) (h : ℕ) (ns : List Name) (es : Expressions) → length ns ≡ T.count es
     → h + H.count (expressions text sc h es) ≡ h + length ns
@@ -182,13 +176,11 @@ unfolding locals localSays scopeWith heightWith FineLocal G.localsCode ofLocals 
 code-with text sc here n (aVector m c) ls f =
     let h = here .height in let h′ = h + 2 + judgedWord (forVector text sc c) in let ls′ = locals text (declared sc m (N.local h)) h′ ls in
     let a : n + 0 ≡ n = omega arith in
-    code-is (ap (λ (k : ℕ). G.LP (h + 1) ∷ G.SP h ∷ G.localsCode (here .strings) h′ k ls′) a) refl (omega arith)
+    code-is (rw a) refl (omega arith)
 code-with text sc here n (someValues ns es) ls f =
     let h = here .height in let rs = expressions text sc h es in let ls′ = locals text (declareAll sc h ns) (h + length ns) ls in
     let k = count-is text sc h ns es (f .0) in
-    code-is (ap (λ (m : ℕ). G.exprsCode (here .strings) h n rs ++ G.localsCode (here .strings) m (n + G.exprsLabels rs) ls′) (sym k) ∙ sym
-    (values-code (here .strings) h n rs ls′)) (ap (λ (m : ℕ). ofExprs h rs ++ ofLocals m ls′) (sym k) ∙ sym (values-heights h rs ls′))
-    (sym (values-labels rs ls′))
+    code-is (cc (values-code (here .strings) h n rs ls′)) (cc (values-heights h rs ls′)) (sym (values-labels rs ls′))
 
 -- ---- one of the list
 
@@ -304,10 +296,8 @@ module _ (text t₀ : List ℕ) {s₀ : List ℕ} {from end : ℕ} {here : Here}
           some = omega arith;
           shallow = locals-deep y p .1;
           fine = locals-fine y p .1;
-          scopes = p .scopes ∙ ap (scopeAfter text sc h) (u .same) ∙ scope-with text sc h (u .part) (u .more) ∙ ap
-              (λ (n : ℕ). scopeAfter text sc′ n (u .more)) (sym (k .height));
-          heights = p .heights ∙ ap (heightAfter text sc h) (u .same) ∙ height-with text sc h (u .part) (u .more) ∙ ap
-              (λ (n : ℕ). heightAfter text sc′ n (u .more)) (sym (k .height));
+          scopes = cc (scope-with text sc h (u .part) (u .more));
+          heights = cc (height-with text sc h (u .part) (u .more));
           finish = λ t′ st′ d. p .finish t′ st′
               (subst (λ (ls : T.Locals). Did (inLocals text sc (leavable here) h ls) (localsSays here h (locals text sc h ls))
               (2 * length (encodeLocals (p .rest))) t t′ (r .done) st′) (sym (u .same))
@@ -346,13 +336,9 @@ any-locals : (text : List ℕ) (l m : Leavable) (q : l .routine ≡ m .routine) 
     → inLocals text sc l h ls ≡ inLocals text sc m h ls
 unfolding inLocals
 any-locals text l m q sc h T.noLocals = refl
-any-locals text l m q sc h (T.vector n c ls) =
-    ap (λ (z : List Fault). (faultsOf (forVector text sc c) ++ twice text sc h (n ∷ [])) ++ z)
-    (any-locals text l m q (declared sc n (N.local h)) (h + 2 + judgedWord (forVector text sc c)) ls)
+any-locals text l m q sc h (T.vector n c ls) = rw (any-locals text l m q (declared sc n (N.local h)) (h + 2 + judgedWord (forVector text sc c)) ls)
 any-locals text l m q sc h (T.values ns es ls) =
-    ap (λ (z : List Fault). (z ++ twice text sc h ns) ++ inLocals text (declareAll sc h ns) l (h + length ns) ls) (any-expressions text l m q sc h es)
-    ∙ ap (λ (z : List Fault). (inExpressions text sc m h es ++ twice text sc h ns) ++ z)
-    (any-locals text l m q (declareAll sc h ns) (h + length ns) ls)
+    rw (any-expressions text l m q sc h es, any-locals text l m q (declareAll sc h ns) (h + length ns) ls)
 
 -- both ways to count the height agree
 heights-agree : (text : List ℕ) (sc : Scope) (h : ℕ) (ls : T.Locals) → FineLs ls → H.heightWith h (locals text sc h ls) ≡ heightAfter text sc h ls
@@ -361,8 +347,7 @@ heights-agree text sc h T.noLocals f = refl
 heights-agree text sc h (T.vector n c ls) f = heights-agree text (declared sc n (N.local h)) (h + 2 + judgedWord (forVector text sc c)) ls (f .1)
 heights-agree text sc h (T.values ns es ls) f =
     let ls′ = locals text (declareAll sc h ns) (h + length ns) ls in
-    values-after h (expressions text sc h es) ls′ ∙ ap (λ (k : ℕ). H.heightWith k ls′) (count-is text sc h ns es (sym (f .2))) ∙ heights-agree text
-    (declareAll sc h ns) (h + length ns) ls (f .1)
+    rw (values-after h (expressions text sc h es) ls′, count-is text sc h ns es (sym (f .2)), heights-agree text (declareAll sc h ns) (h + length ns) ls (f .1))
 
 module _ {s : List ℕ} {end : ℕ} {here : Here} {st : State} (n : Node) (nd : NodeAt s end n) (q : getD s (end - 1) 0 ≡ 57) {middle : ℕ}
     (m : middle ≡ n .start + n .value) where
@@ -424,11 +409,8 @@ module _ {s : List ℕ} {end : ℕ} {here : Here} {st : State} (n : Node) (nd : 
                         (commands text sc′ k (u .list));
                     labels = G.cmdsLabels (commands text sc′ k (u .list));
                   })
-                  (2 * length (encodeCommands (u .list))) t₁ t₂ (a .done) r) (x .after .height) (z .did))) (same-eq (ap (λ (f : List Fault). f
-                  ++ inCommands text sc′ l h′ (u .list)) (any-locals text (leavable here) l refl sc h ls))) (λ k e. code-is
-                  (ap (λ (v : ℕ). G.localsCode (here .strings) h k LS ++ G.cmdsCode (here .strings) v (k + G.localsLabels LS) (exits ways)
-                  (commands text sc′ h′ (u .list))) (sym eh)) (ap (λ (v : ℕ). ofLocals h LS ++ ofCmds v (commands text sc′ h′ (u .list))) (sym eh))
-                  refl) (omega arith);
+                  (2 * length (encodeCommands (u .list))) t₁ t₂ (a .done) r) (x .after .height) (z .did))) (same-eq (rw (any-locals text
+                  (leavable here) l refl sc h ls))) (λ k e. code-is (rw eh) (rw eh) refl) (omega arith);
             });
       }
 

@@ -245,7 +245,7 @@ module _ (c : Suffixes → Suffixes) where
   pub under-snoc : (ss : Suffixes) (h : ℕ) → under (snoc c ss) h ≡ under ss (under (c T.noSuffixes) h)
   unfolding under snoc
   under-snoc T.noSuffixes h = refl
-  under-snoc (T.call ds ss) h = ap (λ (z : ℕ). z + 2 + T.count ds) (under-snoc ss h)
+  under-snoc (T.call ds ss) h = rw (under-snoc ss h)
   under-snoc (T.index d ss) h = under-snoc ss h
 
   module _ (text : List ℕ) (sc : Scope) (h : ℕ) {k : ℕ} (e : k ≡ under (c T.noSuffixes) h) where
@@ -432,9 +432,9 @@ module _ {s : List ℕ} {middle end j tag inner size start : ℕ} {here : Here} 
       call-gave {s₂} {t₂} {t₃} {c} {d} g₂ f₂ = record {
         by = λ y. let z = y .ready in let sc = z .scope in let h = here .height in let p = z .tree .primary in let u = is-call q (the-last y) in
             let x = g .by (call-args y) in let w = g₂ .by (call-callee y) in let Es = expressions text sc (h + 2) (u .part) in let K = h + 2 + H.count
-            Es in let eK : K ≡ h + 2 + T.count (u .part) = ap (λ (m : ℕ). h + 2 + m) (count-resolved text sc (h + 2) (u .part)) in
-            let eh : h + (n + 2) ≡ K = omega (arith, call-count k y) in let F = suffixes text sc K (expression text sc (under (u .init) K) p)
-            (u .init) in let fp = inExpression text sc (leavable here) (under (u .init) K) p ++ inSuffixes text sc (leavable here) K (u .init) in
+            Es in let eK : K ≡ h + 2 + T.count (u .part) = rw (count-resolved text sc (h + 2) (u .part)) in let eh : h + (n + 2) ≡ K
+            = omega (arith, call-count k y) in let F = suffixes text sc K (expression text sc (under (u .init) K) p) (u .init) in
+            let fp = inExpression text sc (leavable here) (under (u .init) K) p ++ inSuffixes text sc (leavable here) K (u .init) in
             let fa = inExpressions text sc (leavable here) (h + 2) (u .part) in let w′ : Did fp (exprSays (here .strings) K F)
             (2 * length (encodeApplied (record { primary = p; suffixes = u .init }))) t₁ t₂ b c =
             rw (← eh) (w .did) in let ef = call-faults text sc h p (u .init) (u .part) (u .same) eK (leavable here) in let er = call-means text sc h p

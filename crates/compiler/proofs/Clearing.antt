@@ -38,7 +38,7 @@ module _ (s₀ : List ℕ) (from i : ℕ) (h : from ≤ i) {s : List ℕ} (e : s
       let z : i ≡ length s₀ = omega arith in e ∙ rw (drop-of-length-le s₀ l, append-nil, z)
 
 pub cleared-all : (s : List ℕ) {s′ : List ℕ} → s′ ≡ take 0 s ++ replicate (length s - 0) 0 → s′ ≡ replicate (length s) 0
-cleared-all s e = let z : length s - 0 ≡ length s = omega arith in e ∙ ap (λ (n : ℕ). replicate n 0) z
+cleared-all s e = let z : length s - 0 ≡ length s = omega arith in rw (e, z)
 
 pub clear-start : (s : List ℕ) (from : ℕ) → s ≡ cleared s from from
 clear-start s from = let z : from - from ≡ 0 = omega arith in rw (z, append-nil) (sym (take-append-drop from s))
@@ -61,8 +61,7 @@ zero-at (suc n) zero = refl
 zero-at (suc n) (suc i) = zero-at n i
 
 at-behind : (xs ys : List ℕ) (i : ℕ) → length xs ≤ i → getD (xs ++ ys) i 0 ≡ getD ys (i - length xs) 0
-at-behind xs ys i h =
-    let z : i ≡ length xs + (i - length xs) = omega arith in ap (λ (k : ℕ). getD (xs ++ ys) k 0) z ∙ getD-append-add xs ys (i - length xs) 0
+at-behind xs ys i h = let z : i ≡ length xs + (i - length xs) = omega arith in cc (getD-append-add xs ys (i - length xs) 0)
 
 pub padded-clean : {s : List ℕ} {used : ℕ} (w : List ℕ) (room : ℕ) → s ≡ padded room w → length w ≤ used → Clean used s
 padded-clean w room e h = record {

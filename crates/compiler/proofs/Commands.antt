@@ -67,7 +67,7 @@ module _ {s : List ℕ} {end : ℕ} {here : Here} {st : State} (n : Node) (nd : 
         (sym (u .same))
         (record {
           keeps = x .keeps;
-          did = did-at _ _ (did-put (did-fresh e (x .did)) f) (same-eq (ap (λ (z : Leavable). inCommand text sc z h (u .part)) l))
+          did = did-at _ _ (did-put (did-fresh e (x .did)) f) (same-eq (rw l))
               (λ v. code-is (ap (λ (m : ℕ). G.cmdCode (here .strings) h m (G.inValof (st .label)) C ++ (I.label (st .label) ∷ [])) (omega arith)) refl
               (omega arith)) (omega arith);
         });
@@ -114,9 +114,7 @@ module _ {s : List ℕ} {end : ℕ} {here : Here} {st : State} (n : Node) (nd : 
           keeps = x .keeps;
           did = did-as _ _ (did-then (with-ways text sc here ways h (u .part) (x .did)) (f .did))
               (same-then (same-swap (inExpression text sc (leavableBy ways here) h (u .part)) (unless (leavableBy ways here .valof)
-              (fault (n .place) 13))) (same-eq (ap (λ (p : ℕ). unless (leavableBy ways here .valof) (fault p 13) ++ inExpression text sc
-              (leavableBy ways here) h (u .part)) (nd .place ∙ u .place-of)))) (λ m v. code-is refl (append-nil (ofExpr h E)) (omega arith))
-              (omega arith);
+              (fault (n .place) 13))) (same-eq (cc))) (λ m v. code-is refl (append-nil (ofExpr h E)) (omega arith)) (omega arith);
         });
   }
 

@@ -123,10 +123,7 @@ module _ {s : List ℕ} {end : ℕ} {here : Here} {st : State} (n o b : Node) (n
               keeps = keeps-then (keeps-then (x .keeps) (z .keeps)) (v .keeps);
               did = did-at (cmdSays here ways (R.test E C D)) _ (did-fresh e
                   (did-put (did-then (did-put (did-then (did-put (with-ways text sc here ways h (u .test) (x .did)) f) (z .did)) (emits-then f₂ f₃))
-                  (v .did)) f₄)) same-refl (λ p. code-is (test-shape (G.exprCode S h (L + 2) E) (G.FL L ∷ []) (G.cmdCode S h (L + 2 + G.exprLabels E)
-                  w C) (G.JL (L + 1) ∷ I.label L ∷ []) (G.cmdCode S h (L + 2 + (G.exprLabels E + G.cmdLabels C)) w D) (I.label (L + 1) ∷ [])
-                  ∙ ap (λ (i : ℕ). G.exprCode S h (L + 2) E ++ (G.FL L ∷ (G.cmdCode S h (L + 2 + G.exprLabels E) w C ++ (G.JL (L + 1) ∷ I.label L
-                  ∷ (G.cmdCode S h i w D ++ (I.label (L + 1) ∷ [])))))) m) refl (omega arith)) (omega arith);
+                  (v .did)) f₄)) same-refl (λ p. code-is (rw (test-shape (G.exprCode S h (L + 2) E) (G.FL L ∷ []) (G.cmdCode S h (L + 2 + G.exprLabels E) w C) (G.JL (L + 1) ∷ I.label L ∷ []) (G.cmdCode S h (L + 2 + (G.exprLabels E + G.cmdLabels C)) w D) (I.label (L + 1) ∷ []), m)) refl (omega arith)) (omega arith);
             });
       }
 
@@ -184,24 +181,17 @@ module _ {s : List ℕ} {end : ℕ} {here : Here} {st : State} (n b : Node) (nd 
           → Emits (G.JL (st .label) ∷ []) [] t₄ t₅ k l → Emits (I.label (st .label + 1) ∷ []) [] t₅ t₆ l r → GaveU text s s₂ end here ways t t₆ st r
       unfolding G.cmdCode ofCmd G.cmdLabels
       while-gave ways {s₂} {t₄} {t₅} {t₆} {k} {l} {r} ej g₂ f₂ f₃ = record {
-        by = λ y.
-            let u = while-is y in let x = g .by (while-test y) in let z = g₂ .by (while-body y) in let sc = y .scope in let h = here .height in
+        by = λ y. let u = while-is y in let x = g .by (while-test y) in let z = g₂ .by (while-body y) in let sc = y .scope in let h = here .height in
             let L = st .label in let S = here .strings in let E = expression text sc h (u .test) in let C = command text sc h (u .body) in
             let W = getD s (end - 1) 0 in let lv = leavableBy ways here in let w′ = exits (inLoop L (L + 1) ways) in
-            let em = ap (unlabelled text sc h) (u .same) ∙ while-means text sc h w (u .test) (u .body) in
-            let ef = ap (inUnlabelled text sc lv h) (u .same) ∙ while-faults text sc lv h w (u .test) (u .body) in
-            let jj : j ≡ cond (eqb W K.WHILE) 5 4 = ej ∙ ap (λ (v : ℕ). cond (eqb v K.WHILE) 5 4) (nd .kind) in
+            let em = ap (unlabelled text sc h) (u .same) ∙ while-means text sc h w (u .test) (u .body) in let ef = ap (inUnlabelled text sc lv h)
+            (u .same) ∙ while-faults text sc lv h w (u .test) (u .body) in let jj : j ≡ cond (eqb W K.WHILE) 5 4 = rw (ej, nd .kind) in
             let lo = leaves-loop here ways L (L + 1) (omega arith) in
             record {
               keeps = keeps-then (x .keeps) (z .keeps);
               did = did-at (cmdSays here ways (unlabelled text sc h (y .tree))) _
                   (did-fresh e (did-after m (did-put (did-then (did-put (with-ways text sc here ways h (u .test) (x .did)) f) (z .did))
-                  (emits-then f₂ f₃)))) (same-eq (ap (λ (p : Leavable). inExpression text sc lv h (u .test) ++ inCommand text sc p h (u .body)) lo
-                  ∙ sym ef)) (λ v. code-is (ap (λ (p : List I.Item). I.label L ∷ p) (append-assoc (G.exprCode S h (L + 2) E ++ (G.to j (L + 1) ∷ []))
-                  (G.cmdCode S h (L + 2 + G.exprLabels E) w′ C) (G.JL L ∷ I.label (L + 1) ∷ []) ∙ append-assoc (G.exprCode S h (L + 2) E)
-                  (G.to j (L + 1) ∷ []) (G.cmdCode S h (L + 2 + G.exprLabels E) w′ C ++ (G.JL L ∷ I.label (L + 1) ∷ [])) ∙ ap (λ (v : ℕ). G.exprCode S
-                  h (L + 2) E ++ (G.to v (L + 1) ∷ (G.cmdCode S h (L + 2 + G.exprLabels E) w′ C ++ (G.JL L ∷ I.label (L + 1) ∷ [])))) jj)
-                  ∙ ap (G.cmdCode S h L (exits ways)) (sym em)) (ap (ofCmd h) (sym em)) (omega (arith, ap G.cmdLabels em))) (omega arith);
+                  (emits-then f₂ f₃)))) (same-eq (rw (lo, ef))) (λ v. code-is (simp (append-assoc, jj, em)) (ap (ofCmd h) (sym em)) (omega (arith, ap G.cmdLabels em))) (omega arith);
             };
       }
 

@@ -67,7 +67,7 @@ module _ (text : List ℕ) {s₀ : List ℕ} {from end top height : ℕ} (st₀ 
         keeps = keeps-all;
         many = omega arith;
         fine = y .fine;
-        same = ap (λ (h : ℕ). declareAll (y .scope) h (y .names)) b;
+        same = cc;
         finish = λ t st′ d. rw b d;
       }
 
@@ -117,10 +117,10 @@ module _ (text : List ℕ) {s₀ : List ℕ} {from end top height : ℕ} {st₀ 
         keeps = keeps-then (p .keeps) (keeps-lower (omega arith) (pushed-keeps (pu .pushed) rm lg));
         many = c;
         fine = subst FineNames (u .same) (p .fine) .1;
-        same = p .same ∙ ap (declareAll sc (height + k)) (u .same) ∙ ap (λ (z : ℕ). declareAll sc′ z (u .more)) (sym hk);
+        same = cc;
         finish = λ t st′ d. p .finish t st′ (rw (u .same) (did-as nothing 0
-            (did-then (rw (ep ∙ ap (λ (z : Name). z .place) n) at (ag .by (inBlock text sc (u .name))
-            (told .by sc (p .shows) ∙ ap (λ (z : Name). found (inBlock text sc z)) n) t)) (rw hk at d)) same-refl (λ v e. refl) (omega arith)));
+            (did-then (rw (ep ∙ ap (λ (z : Name). z .place) n) at (ag .by (inBlock text sc (u .name)) (rw (told .by sc (p .shows), n)) t))
+            (rw hk at d)) same-refl (λ v e. refl) (omega arith)));
       }
 
   pub names-end : {s : List ℕ} {at : ℕ} (k : ℕ) {st : State} → end ≤ at → ((y : ReadyNames s₀ from end top height) → NamesPart text st₀ y s at k st)

@@ -115,7 +115,7 @@ pub emits-then : {xs ys : List I.Item} {hs ks : List ℕ} {t t₁ t₂ : List �
     → Emits (xs ++ ys) (hs ++ ks) t t₂ st b
 emits-then {xs} {ys} {hs} {ks} {st = st} f g = record {
   text = puts-as (puts-then (f .text) (g .text)) (lines-then xs ys);
-  high = g .high ∙ ap (λ (z : ℕ). greatest z ks) (f .high) ∙ greatest-then (st .high) hs ks;
+  high = rw (g .high, f .high, greatest-then (st .high) hs ks);
   worst = g .worst ∙ f .worst;
   label = g .label ∙ f .label;
 }
@@ -153,22 +153,21 @@ module _ {fs : List Fault} {f : ℕ → Code} {m : ℕ} {t t₁ t₂ : List ℕ}
     grows = omega arith;
     clean = λ n. let w = x .clean n in record {
       text = puts-as (puts-then (w .text) (e .text)) (lines-then (f (st .label) .items) xs);
-      high = e .high ∙ ap (λ (z : ℕ). greatest z hs) (w .high) ∙ greatest-then (st .high) (f (st .label) .heights) hs;
+      high = rw (e .high, w .high, greatest-then (st .high) (f (st .label) .heights) hs);
       label = e .label ∙ w .label;
     };
   }
 
   pub did-then : {gs : List Fault} {g : ℕ → Code} {k : ℕ} → Did gs g k t₁ t₂ a b → Did (fs ++ gs) (and f g) (m + k) t t₂ st b
   did-then {gs} {g} {k} y = record {
-    worst = y .worst ∙ ap (λ (z : ℕ). least z gs) (x .worst) ∙ least-then (st .worst) fs gs;
+    worst = rw (y .worst, x .worst, least-then (st .worst) fs gs);
     fits = fit-then (x .fits) (y .fits);
     few = omega arith;
     grows = omega arith;
     clean = λ n. let w = x .clean (nil-left fs gs n) in let v = rw (w .label) at (y .clean (nil-right fs gs n)) in let l = f (st .label) .labels in
         record {
           text = puts-as (puts-then (w .text) (v .text)) (lines-then (f (st .label) .items) (g (st .label + l) .items));
-          high = v .high ∙ ap (λ (z : ℕ). greatest z (g (st .label + l) .heights)) (w .high) ∙ greatest-then (st .high) (f (st .label) .heights)
-              (g (st .label + l) .heights);
+          high = rw (v .high, w .high, greatest-then (st .high) (f (st .label) .heights) (g (st .label + l) .heights));
           label = omega arith;
         };
   }
@@ -193,14 +192,14 @@ module _ {fs : List Fault} {f : ℕ → Code} {m : ℕ} {t t₁ t₂ : List ℕ}
   pub did-after : {xs : List I.Item} {hs : List ℕ} → Emits xs hs t t₁ st a → Did fs f m t₁ t₂ a b
       → Did fs (λ n. record { items = xs ++ f n .items; heights = hs ++ f n .heights; labels = f n .labels }) m t t₂ st b
   did-after {xs} {hs} e x = record {
-    worst = x .worst ∙ ap (λ (z : ℕ). least z fs) (e .worst);
+    worst = rw (x .worst, e .worst);
     fits = x .fits;
     few = omega arith;
     grows = omega arith;
     clean = λ n. let w = rw (e .label) at (x .clean n) in
         record {
           text = puts-as (puts-then (e .text) (w .text)) (lines-then xs (f (st .label) .items));
-          high = w .high ∙ ap (λ (z : ℕ). greatest z (f (st .label) .heights)) (e .high) ∙ greatest-then (st .high) hs (f (st .label) .heights);
+          high = rw (w .high, e .high, greatest-then (st .high) hs (f (st .label) .heights));
           label = omega arith;
         };
   }
@@ -236,16 +235,14 @@ least-min : (x k : ℕ) (a : List Fault) → least (min x k) a ≡ min (least x 
 unfolding least
 least-min x k [] = refl
 least-min x k (f ∷ a) =
-    let e : cond (ltb (key f) (min x k)) (key f) (min x k) ≡ min (cond (ltb (key f) x) (key f) x) k = step-min (key f) (min x k) ∙ omega arith ∙ ap
-    (λ (z : ℕ). min z k) (sym (step-min (key f) x)) in ap (λ (z : ℕ). least z a) e ∙ least-min (cond (ltb (key f) x) (key f) x) k a
+    let e : cond (ltb (key f) (min x k)) (key f) (min x k) ≡ min (cond (ltb (key f) x) (key f) x) k = step-min (key f) (min x k) ∙ omega arith
+    ∙ ap (λ (z : ℕ). min z k) (sym (step-min (key f) x)) in rw (e, least-min (cond (ltb (key f) x) (key f) x) k a)
 
 least-swap : (x : ℕ) (a b : List Fault) → least x (a ++ b) ≡ least x (b ++ a)
 unfolding least
 least-swap x [] b = ap (least x) (sym (append-nil b))
 least-swap x (f ∷ a) b =
-    ap (λ (z : ℕ). least z (a ++ b)) (step-min (key f) x) ∙ least-swap (min x (key f)) a b ∙ least-min x (key f) (b ++ a)
-    ∙ ap (λ (z : ℕ). min z (key f)) (sym (least-then x b a)) ∙ sym (least-min (least x b) (key f) a) ∙ ap (λ (z : ℕ). least z a)
-    (sym (step-min (key f) (least x b))) ∙ least-then x b (f ∷ a)
+    cc (step-min (key f) x, least-swap (min x (key f)) a b, least-min x (key f) (b ++ a), least-then x b a, least-min (least x b) (key f) a, step-min (key f) (least x b), least-then x b (f ∷ a))
 
 pub same-swap : (a b : List Fault) → Same (a ++ b) (b ++ a)
 same-swap a b =
@@ -257,7 +254,7 @@ same-then p q = record { least = λ x. p .least x ∙ q .least x; none = λ e. p
 
 pub same-both : {a b c d : List Fault} → Same a b → Same c d → Same (a ++ c) (b ++ d)
 same-both {a} {b} {c} {d} p q = record {
-  least = λ x. sym (least-then x a c) ∙ q .least _ ∙ ap (λ (z : ℕ). Rattle.compiler.specs.Walked.least z d) (p .least x) ∙ least-then x b d;
+  least = λ x. cc (least-then x a c, q .least _, p .least x, least-then x b d);
   none = λ e. let u = p .none (nil-left b d e) in let v = q .none (nil-right b d e) in rw (u, v);
   fits = λ f. fit-then (p .fits (fit-left a c f)) (q .fits (fit-right a c f));
 }
@@ -287,14 +284,14 @@ did-at {fs} {gs} {f} g {m} k {t} {t′} {st} {r} x s e l = record {
 pub did-fresh : {fs : List Fault} {f : ℕ → Code} {k m : ℕ} {t t′ : List ℕ} {st a b : State} → Fresh k st a → Did fs f m t t′ a b
     → Did fs (λ n. record { items = f (n + k) .items; heights = f (n + k) .heights; labels = k + f (n + k) .labels }) (k + m) t t′ st b
 did-fresh {fs} {f} {k} {m} {t} {t′} {st} {a} {b} e x = record {
-  worst = x .worst ∙ ap (λ (z : ℕ). least z fs) (e .worst);
+  worst = rw (x .worst, e .worst);
   fits = x .fits;
   few = omega arith;
   grows = omega arith;
   clean = λ n. let w = rw (e .label) at (x .clean n) in
       record {
         text = rw (e .at) at (w .text);
-        high = w .high ∙ ap (λ (z : ℕ). greatest z (f (st .label + k) .heights)) (e .high);
+        high = rw (w .high, e .high);
         label = omega arith;
       };
 }
@@ -376,10 +373,10 @@ node-is {s} {end} n {size} i z st a v b p c k fv fp = record {
   value-fits = fv;
   place-fits = fp;
   inner = i;
-  start = st ∙ ap (λ (x : ℕ). x - size) i ∙ ap (λ (x : ℕ). end - 4 - x) (z ∙ ap (λ (x : ℕ). getD s x 0) i);
-  value = v ∙ ap (λ (x : ℕ). getD s x 0) a;
-  place = p ∙ ap (λ (x : ℕ). getD s x 0) b;
-  kind = k ∙ ap (λ (x : ℕ). getD s x 0) c;
+  start = cc;
+  value = rw (v, a);
+  place = rw (p, b);
+  kind = rw (k, c);
 }
 
 pub inside-is : (here : Here) {l : ℕ} → l ≡ here .left - 1

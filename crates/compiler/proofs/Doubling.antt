@@ -42,12 +42,12 @@ labels-then text sc (T.case p c ∷ ls) ms = ap (goodCase (judge text sc c)) (la
     go : (j : Judged) → goodCase j (labelsOf text sc ls ++ labelsOf text sc ms) ≡ goodCase j (labelsOf text sc ls) ++ labelsOf text sc ms
     go (good v) = refl
     go (refused fs) = refl
-labels-then text sc (T.default p ∷ ls) ms = ap (λ (z : List CaseLabel). R.default ∷ z) (labels-then text sc ls ms)
+labels-then text sc (T.default p ∷ ls) ms = rw (labels-then text sc ls ms)
 
 case-after-case : (v w : ℕ) (ls : List CaseLabel) → hasCase v (ls ++ (R.case w ∷ [])) ≡ cond (eqb v w) true (hasCase v ls)
 unfolding hasCase
 case-after-case v w [] = refl
-case-after-case v w (R.case u ∷ ls) = ap (λ (b : Bool). cond (eqb v u) true b) (case-after-case v w ls) ∙ swap (eqb v u) (eqb v w)
+case-after-case v w (R.case u ∷ ls) = rw (case-after-case v w ls, swap (eqb v u) (eqb v w))
   where
     swap : (a b : Bool) → cond a true (cond b true (hasCase v ls)) ≡ cond b true (cond a true (hasCase v ls))
     swap true true = refl
@@ -58,7 +58,7 @@ case-after-case v w (R.default ∷ ls) = case-after-case v w ls
 case-after-default : (v : ℕ) (ls : List CaseLabel) → hasCase v (ls ++ (R.default ∷ [])) ≡ hasCase v ls
 unfolding hasCase
 case-after-default v [] = refl
-case-after-default v (R.case u ∷ ls) = ap (λ (b : Bool). cond (eqb v u) true b) (case-after-default v ls)
+case-after-default v (R.case u ∷ ls) = rw (case-after-default v ls)
 case-after-default v (R.default ∷ ls) = case-after-default v ls
 
 default-after-case : (w : ℕ) (ls : List CaseLabel) → hasDefault (ls ++ (R.case w ∷ [])) ≡ hasDefault ls
@@ -98,7 +98,7 @@ module _ {v place : ℕ} {seen seen′ : List ℕ} {st r : State} {ls : List Cas
   }
     where
       there : (w : ℕ) (b : Bool) → eqb w v ≡ b → _≡_ {A = ℕ} (cond (cond b true (hasCase w ls)) 1 0) (cond (hasCase w (ls ++ (R.case v ∷ []))) 1 0)
-      there w b e = ap (λ (x : Bool). cond x 1 0) (sym (case-after-case w v ls ∙ ap (λ (x : Bool). cond x true (hasCase w ls)) e))
+      there w b e = rw (case-after-case w v ls, e)
 
       go : (w : ℕ) → w < 65536 → (b : Bool) → eqb w v ≡ b → flag seen′ w ≡ cond (hasCase w (ls ++ (R.case v ∷ []))) 1 0
       go w l true e = ap (λ (k : ℕ). flag seen′ k) (eqb-true w v e) ∙ n .here (omega arith) ∙ there w true e
@@ -122,8 +122,8 @@ pub note-first : {i place x p : ℕ} {seen seen′ : List ℕ} {st : State} → 
     → x / p % 2 ≡ 0 → seen′ ≡ set seen (i / 8) (x + p) → Notes i place seen seen′ st st
 note-first {i} {place} {x} {p} {seen = seen} {seen′} l ex ep z e = record {
   long = ap length e ∙ length-set seen (i / 8) (x + p);
-  here = λ a. ap (λ (y : List ℕ). flag y i) e ∙ flag-here seen i ex ep z l;
-  other = λ k n. ap (λ (y : List ℕ). flag y k) e ∙ flag-other seen i ex ep z l k n;
+  here = λ a. rw (e, flag-here seen i ex ep z l);
+  other = λ k n. rw (e, flag-other seen i ex ep z l k n);
   fresh = λ a b. refl;
   again = λ n. absurd (n (flag-free seen i ex ep z));
 }
@@ -134,7 +134,7 @@ note-again {i} {p = p} {seen = seen} ex ep n f =
     record { long = refl; here = λ a. flag-taken seen i there; other = λ k n. refl; fresh = λ a z. absurd (there z); again = λ n. f }
   where
     there : flag seen i ≡ 0 → ⊥
-    there z = n (ap (λ (y : ℕ). y / p % 2) ex ∙ ap (λ (y : ℕ). getD seen (i / 8) 0 / y % 2) ep ∙ z)
+    there z = n (rw (ex, ep, z))
 
 pub note-none : {i place : ℕ} {seen : List ℕ} {st : State} → length seen ≤ i / 8 → Notes i place seen seen st st
 note-none {i} {seen = seen} l = record {
@@ -247,8 +247,7 @@ module _ (text : List ℕ) {s : List ℕ} {from end top : ℕ} (st₀ : State) w
 among-is : (text : List ℕ) (sc : Scope) (before : List Label) (cs : Commands) → faultsAmong text sc before (marks cs) ≡ labelFaults text sc before cs
 unfolding faultsAmong labelFaults marks
 among-is text sc before T.noCommands = refl
-among-is text sc before (T.andCommand c cs) =
-    ap (λ (z : List Fault). doubled text sc before (labelsBefore c) ++ z) (among-is text sc (before ++ labelsBefore c) cs)
+among-is text sc before (T.andCommand c cs) = rw (among-is text sc (before ++ labelsBefore c) cs)
 
 module _ (text : List ℕ) {s : List ℕ} {from end top : ℕ} (st₀ : State) where
   abbrev Others : (y : ReadyLabels s from end top) (seen : List ℕ) (st : State) (rest : List (List Label)) → Type 0

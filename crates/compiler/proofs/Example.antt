@@ -76,7 +76,7 @@ ready-labels = record {
   base = 0;
   scope = outermost;
   commands = list;
-  lies = record { at = λ i l. let e : 0 + i ≡ i = omega arith in ap (λ (k : ℕ). getD (encodeCommands list) k 0) e };
+  lies = record { at = λ i l. let e : 0 + i ≡ i = omega arith in rw e };
   ends = omega arith;
   above = omega arith;
   small = list-long;

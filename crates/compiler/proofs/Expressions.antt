@@ -49,8 +49,7 @@ module _ (text : List ℕ) {s t t′ : List ℕ} {end : ℕ} {here : Here} {st r
     by = λ y. let u = is-number (find n nd q y) in so text here (y .scope) (u .same)
         (record {
           keeps = keeps-all;
-          did = more _ (emits-did _ f (λ k. code-is (ap (λ (z : ℕ). G.L z ∷ []) (sym (nd .value ∙ u .value-of))) refl refl))
-              (omega arith);
+          did = more _ (emits-did _ f (λ k. code-is (cc) refl refl)) (omega arith);
         });
   }
 
@@ -60,9 +59,7 @@ module _ (text : List ℕ) {s t t′ : List ℕ} {end : ℕ} {here : Here} {st r
     by = λ y. let u = is-string (find n nd q y) in so text here (y .scope) (u .same)
         (record {
           keeps = keeps-all;
-          did = more _ (emits-did _ f
-              (λ k. code-is (ap (λ (z : ℕ). G.LL z ∷ []) (sym (e ∙ ap (λ (z : ℕ). here .strings + z) (nd .value ∙ u .value-of)))) refl refl))
-              (omega arith);
+          did = more _ (emits-did _ f (λ k. code-is (cc) refl refl)) (omega arith);
         });
   }
 
@@ -83,8 +80,7 @@ module _ (text : List ℕ) {s t t′ : List ℕ} {end : ℕ} {here : Here} {st r
       leaf : (z : Name) → getD s (end - 3) 0 ≡ z .width → getD s (end - 2) 0 ≡ z .place → 4 ≤ end → nameAt s (n .inner) ≡ z
       leaf z w p l =
           let a : n .inner + 2 ≡ end - 2 = omega arith in let b : n .inner + 1 ≡ end - 3 = omega arith in
-          ap (λ (k : ℕ). named k (getD s (n .inner + 1) 0)) (ap (λ (k : ℕ). getD s k 0) a ∙ p) ∙ ap (λ (k : ℕ). named (z .place) k)
-          (ap (λ (k : ℕ). getD s k 0) b ∙ w)
+          rw (a, p, b, w)
 
 -- ---- brackets
 
@@ -118,11 +114,9 @@ module _ (text : List ℕ) (sc : Scope) (strings h : ℕ) where
   chain-items e T.noOperations n = sym (append-nil (exprCode strings h n e))
   chain-items e (T.operation o d os) n =
       let D = expression text sc (h + 1) d in let a = exprCode strings h n e in let b = exprCode strings (h + 1) (n + exprLabels e) D in
-      let z = G.SP (h + 1) ∷ G.LIP h ∷ G.LIP (h + 1) ∷ G.X (G.dyadicAct o) ∷ [] in
-      let k : n + (exprLabels e + exprLabels D) ≡ n + exprLabels e + exprLabels D = omega arith in
-      chain-items (R.binary o e D) os n ∙ append-assoc a (G.SP h ∷ (b ++ z)) (chainCode text sc strings h os (n + (exprLabels e + exprLabels D))) ∙ ap
-      (λ (l : List I.Item). a ++ (G.SP h ∷ l)) (append-assoc b z (chainCode text sc strings h os (n + (exprLabels e + exprLabels D)))) ∙ ap
-      (λ (m : ℕ). a ++ (G.SP h ∷ (b ++ (G.SP (h + 1) ∷ G.LIP h ∷ G.LIP (h + 1) ∷ G.X (G.dyadicAct o) ∷ chainCode text sc strings h os m)))) k
+      let z = G.SP (h + 1) ∷ G.LIP h ∷ G.LIP (h + 1) ∷ G.X (G.dyadicAct o) ∷ [] in let k : n + (exprLabels e + exprLabels D) ≡ n + exprLabels e
+      + exprLabels D = omega arith in
+      simp (chain-items (R.binary o e D) os n, append-assoc, k)
 
   pub chain-heights : (e : Expr) (os : Operations) → ofExpr h (operations text sc h e os) ≡ ofExpr h e ++ chainHeights text sc h os
   unfolding operations chainHeights ofExpr
@@ -260,10 +254,7 @@ module _ (text t₀ : List ℕ) {s₀ : List ℕ} {from end : ℕ} {here : Here}
         let h = here .height in let n = rest-length z (y .starts) l es en p in let D = expression text sc (h + 1) (u .part .operand) in
         let op : act ≡ G.dyadicAct (u .part .operator) = ea ∙ ap G.dyadicAct (one-word z (y .starts) l es en p eo) in
         goes-on z (y .starts) l es en p (x .keeps) (omega arith) (omega arith) (omega arith)
-        (λ t′ st′ d. did-as _ _ (did-after e (did-then (did-put (x .did) f) d)) same-refl
-        (λ k c. code-is (ap (λ (l : List I.Item). G.SP h ∷ l) (append-assoc (exprCode (here .strings) (h + 1) k D) (G.SP (h + 1) ∷ G.LIP h ∷ G.LIP
-        (h + 1) ∷ G.X act ∷ []) (chainCode text sc (here .strings) h (u .more) (k + exprLabels D)) ∙ ap (λ (v : ℕ). exprCode (here .strings) (h + 1) k
-        D ++ (G.SP (h + 1) ∷ G.LIP h ∷ G.LIP (h + 1) ∷ G.X v ∷ chainCode text sc (here .strings) h (u .more) (k + exprLabels D))) op)) refl refl)
+        (λ t′ st′ d. did-as _ _ (did-after e (did-then (did-put (x .did) f) d)) same-refl (λ k c. code-is (simp (append-assoc, op)) refl refl)
         (omega arith))
 
   pub chain-end : {s t : List ℕ} {at : ℕ} {st : State} → end ≤ at → ((y : ReadyChain s₀ from end here st₀) → ChainPart y s t at st)
@@ -279,7 +270,7 @@ pub chain-gave-at : {text s s′ t t′ : List ℕ} {from end : ℕ} {d d′ : H
 chain-gave-at {text} {s} {s′} {t} {t′} {from} {end} {st = st} {r} e g = rw e at g
 
 pub left-at : {d d′ : Here} → d′ ≡ d → d′ .left ≡ d .left
-left-at e = ap (λ (x : Here). x .left) e
+left-at e = rw e
 
 pub some-left : {s : List ℕ} {end : ℕ} {here : Here} {st : State} → ReadyE s end here st → 1 ≤ here .left
 unfolding depth

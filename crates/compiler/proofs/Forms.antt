@@ -147,8 +147,7 @@ module _ (s : List ℕ) (lo end : ℕ) where
   called-kind (T.monadic p o d) f h q = let z : _≡_ {A = ℕ} 0 1 = cc in absurd (omega arith)
   called-kind (T.dyadic d os) f h q = let z : _≡_ {A = ℕ} 0 1 = cc in absurd (omega arith)
   called-kind (T.suffixed d ss) f h q =
-      kind-is (encode d ++ O.encodeSuffixes ss) (length (encode d)) (placeOf d) (suffixedKind (endsInCall false ss)) h q ∙ ap
-      (λ (b : Bool). cond b O.CALLED O.SUFFIXED) f
+      rw (kind-is (encode d ++ O.encodeSuffixes ss) (length (encode d)) (placeOf d) (suffixedKind (endsInCall false ss)) h q, f)
 
   pub form-of : (u : Unlabelled) → FinePlain u → Lies s lo (encodeUnlabelled u) → end ≡ lo + length (encodeUnlabelled u) → Form (getD s (end - 1) 0) u
   unfolding FineUnlabelled encodeUnlabelled

@@ -117,7 +117,7 @@ for-shape e a f b t c p =
     ∙ append-assoc (e ++ a) f (b ++ (t ++ (c ++ p))) ∙ append-assoc e a (f ++ (b ++ (t ++ (c ++ p))))
 
 heights-shape : (e a f b c : List ℕ) → (((e ++ a) ++ f) ++ b) ++ c ≡ (e ++ (a ++ f)) ++ (b ++ c)
-heights-shape e a f b c = append-assoc ((e ++ a) ++ f) b c ∙ ap (λ (z : List ℕ). z ++ (b ++ c)) (append-assoc e a f)
+heights-shape e a f b c = simp append-assoc
 
 module _ {s : List ℕ} {end : ℕ} {here : Here} {st : State} (n b l : Node) {le : ℕ} (nd : NodeAt s end n) (bd : NodeAt s (n .inner) b)
     (el : le ≡ b .start - n .value) (ld : NodeAt s le l) (q : getD s (end - 1) 0 ≡ K.FOR) where
@@ -245,14 +245,6 @@ module _ {s : List ℕ} {end : ℕ} {here : Here} {st : State} (n b l : Node) {l
                 keeps = after-block (omega arith) (for-block-keeps y) (w .keeps);
                 did = did-at (cmdSays here ways (R.for E D B C)) _ (did-fresh e
                     (did-put (did-then (did-put (did-judged (did-emit (did-then (did-emit (with-ways text sc here ways h (u .start) (x .did)) f)
-                    (with-ways text sc here ways (h + 1) (u .limit) (z .did))) f₂) bf) f₃) (w .did)) f₄)) (same-eq (ap (λ (i : List Fault). (in₃ ++ i)
-                    ++ inCommand text sc′ (leavableBy (inLoop (L + 1) (L + 2) ways) here) (h + 2) (u .body)) (by-faults text sc (u .by))
-                    ∙ ap (λ (i : Leavable). (in₃ ++ byFaults text sc (u .by)) ++ inCommand text sc′ i (h + 2) (u .body)) ll)) (λ _. code-is (for-shape
-                    EC (G.SP h ∷ []) DC (G.SP (h + 1) ∷ []) (tests L h (v .word)) (G.cmdCode S (h + 2) (L + 3 + (G.exprLabels E + G.exprLabels D)) w′
-                    C) (steps L h (v .word)) ∙ ap (λ (i : ℕ). EC ++ (G.SP h
-                    ∷ (DC ++ (G.SP (h + 1) ∷ (tests L h i ++ (G.cmdCode S (h + 2) (L + 3 + (G.exprLabels E + G.exprLabels D)) w′ C ++ steps L h
-                    i)))))) eb ∙ ap (λ (i : ℕ). EC ++ (G.SP h ∷ (DC ++ (G.SP (h + 1) ∷ (tests L h B ++ (G.cmdCode S (h + 2) i w′ C ++ steps L h
-                    B)))))) ec) (heights-shape (ofExpr h E) ((h + 1) ∷ []) (ofExpr (h + 1) D) ((h + 1 + 1) ∷ []) (ofCmd (h + 2) C)
-                    ∙ ap (λ (i : ℕ). (ofExpr h E ++ ((h + 1) ∷ ofExpr (h + 1) D)) ++ (i ∷ ofCmd (h + 2) C)) eh) (omega arith)) (omega arith);
+                    (with-ways text sc here ways (h + 1) (u .limit) (z .did))) f₂) bf) f₃) (w .did)) f₄)) (same-eq (rw (by-faults text sc (u .by), ll))) (λ _. code-is (rw (for-shape EC (G.SP h ∷ []) DC (G.SP (h + 1) ∷ []) (tests L h (v .word)) (G.cmdCode S (h + 2) (L + 3 + (G.exprLabels E + G.exprLabels D)) w′ C) (steps L h (v .word)), eb, ec)) (rw (heights-shape (ofExpr h E) ((h + 1) ∷ []) (ofExpr (h + 1) D) ((h + 1 + 1) ∷ []) (ofCmd (h + 2) C), eh)) (omega arith)) (omega arith);
               });
         }

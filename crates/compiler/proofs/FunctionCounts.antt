@@ -29,8 +29,7 @@ pub is-declaration : {s : List ℕ} {at end : ℕ} (p : Program)
 unfolding encodeProgram
 is-declaration [] h e l = absurd (omega arith)
 is-declaration {s} {at} (d ∷ p) h e l =
-    first-of encodeProgram encodeDeclared declaredWord (λ d p. d ∷ p) d p (subst (Lies s at) (program-step d p) h)
-    (e ∙ ap (λ (x : List ℕ). at + length x) (program-step d p))
+    first-of encodeProgram encodeDeclared declaredWord (λ d p. d ∷ p) d p (subst (Lies s at) (program-step d p) h) (rw (e, program-step d p))
 
 pub no-declaration : {at end : ℕ} (p : Program) → end ≡ at + length (encodeProgram p) → end ≤ at → p ≡ []
 no-declaration [] e l = refl

@@ -137,9 +137,7 @@ module _ {s : List ℕ} {end : ℕ} {here : Here} {st : State} (n : Node) (nd : 
               keeps = keeps-then (function-keeps y) (keeps-lower (omega arith) (x .keeps));
               did =
                   did-as (functionSays text (here .strings) label (y .scope) f) _
-                  (did-after em (did-then (w .did t₁) (did-after top (did-put body pt)))) same-refl
-                  (λ i e. let q : i + 0 ≡ i = omega arith in
-                  code-is (ap (λ (j : ℕ). I.label label ∷ (G.bodyCode (here .strings) h j rb ++ (G.X 4 ∷ []))) q) refl (omega arith))
-                  (omega (arith, function-length y));
+                  (did-after em (did-then (w .did t₁) (did-after top (did-put body pt)))) same-refl (λ i e. let q : i + 0 ≡ i = omega arith in
+                  code-is (rw q) refl (omega arith)) (omega (arith, function-length y));
             };
       }

@@ -57,7 +57,7 @@ module _ (tall high place : ℕ) where
 pub funs-then : (gs hs : List Named) → funs (gs ++ hs) ≡ funs gs ++ funs hs
 unfolding funs
 funs-then [] hs = refl
-funs-then (g ∷ gs) hs = ap (λ (z : List Fun). g .fun ∷ z) (funs-then gs hs)
+funs-then (g ∷ gs) hs = rw (funs-then gs hs)
 
 pub funs-long : (gs : List Named) → length (funs gs) ≡ length gs
 unfolding funs
@@ -69,7 +69,7 @@ unfolding heightFaults
 heights-then [] hs = refl
 heights-then (g ∷ gs) hs =
     let a = cond (ltb 8192 (largestHeight (g .fun))) (fault (g .name .place) 16) [] in
-    ap (λ (z : List Fault). a ++ z) (heights-then gs hs) ∙ sym (append-assoc a (heightFaults gs) (heightFaults hs))
+    simp (heights-then gs hs, append-assoc)
 
 labels-then : (fs gs : List Fun) → innerLabels (fs ++ gs) ≡ innerLabels fs + innerLabels gs
 unfolding innerLabels
@@ -81,7 +81,7 @@ code-then : (strings l n : ℕ) (fs gs : List Fun) {k m : ℕ} → k ≡ l + len
 unfolding G.functionsCode innerLabels
 code-then strings l n [] gs {k} {m} a b =
     let p : l ≡ k = omega arith in let q : n ≡ m = omega arith in
-    ap (λ (z : ℕ). G.functionsCode strings z n gs) p ∙ ap (λ (z : ℕ). G.functionsCode strings k z gs) q
+    rw (p, q)
 code-then strings l n (f ∷ fs) gs {k} {m} a b =
     let c = G.bodyCode strings (2 + f .parameters) n (f .body) in let n′ = n + G.bodyLabels (f .body) in
     ap (λ (z : List I.Item). I.label l ∷ c ++ (G.X 4 ∷ z)) (code-then strings (suc l) n′ fs gs (omega arith) (omega arith)) ∙ ap
@@ -110,8 +110,7 @@ pub yields-then : {strings l : ℕ} (k : ℕ) {fs fs′ : List Fault} {gs gs′ 
 yields-then {strings} {l} k {fs} {fs′} {gs} {gs′} {m} {m′} {t} {t₁} {t₂} {d} {d₁} {d₂} e x y = record {
   did = did-as (functionsSays strings l (funs (gs ++ gs′))) (m + m′) (did-then (x .did) (y .did)) same-refl (λ n c. says-then strings l n gs gs′ e)
       (omega arith);
-  tall = λ c. y .tall (nil-right fs fs′ c) ∙ ap (λ (z : ℕ). least z (heightFaults gs′)) (x .tall (nil-left fs fs′ c))
-      ∙ least-then (d .tall) (heightFaults gs) (heightFaults gs′) ∙ ap (least (d .tall)) (sym (heights-then gs gs′));
+  tall = λ c. rw (y .tall (nil-right fs fs′ c), x .tall (nil-left fs fs′ c), least-then (d .tall) (heightFaults gs) (heightFaults gs′), heights-then gs gs′);
   fits = subst AllFit (sym (heights-then gs gs′)) (fit-then (x .fits) (y .fits));
 }
 
@@ -152,10 +151,7 @@ yields-one text sc start strings l f {m} {tall} {tall′} {place} {t} {t′} {st
     let g = namedBy text sc start f in let hf : ℕ → List Fault = λ h. cond (ltb 8192 h) (fault (f .name .place) 16) [] in
     record {
       did = did-as (functionsSays strings l (funs (g ∷ []))) m (did-flat low e x) same-refl (λ n c. code-is refl refl (omega arith)) (omega arith);
-      tall = λ c.
-          let q : a .high ≡ largestHeight (g .fun) = x .clean c .high ∙ ap (λ (z : ℕ). greatest z (heightsOf (resolved text sc nowhere f))) low in
-          et ∙ ap (λ (z : ℕ). least tall (cond (ltb 8192 (a .high)) (fault z 16) [])) ep ∙ ap (λ (z : ℕ). least tall (hf z)) q
-          ∙ ap (least tall) (sym (append-nil (hf (largestHeight (g .fun)))));
+      tall = λ c. let q : a .high ≡ largestHeight (g .fun) = rw (x .clean c .high, low) in simp (et, ep, q, append-nil);
       fits = fit-then (by (ltb 8192 (largestHeight (g .fun)))) noFit;
     }
   where
@@ -329,16 +325,13 @@ module _ (text t₀ : List ℕ) {s₀ : List ℕ} {from end : ℕ} {here : Here}
           uses = omega arith;
           room = omega (arith, group-length, group-many, functions-step f (u .more), ap (λ (z : List Function). length (encodeFunctions z)) (u .same));
           some = omega arith;
-          low = ap (λ (z : State). z .high) er;
+          low = rw er;
           shallow = group-deep .1;
           fine = group-fine .1;
           next = omega (arith, length-append (p .made) (n ∷ []));
           few = omega (arith, length-append (p .made) (n ∷ []));
-          faults-are = append-assoc (p .found) (functionFaults text (y .scope) f) (groupFaults text (y .scope) (u .more))
-              ∙ ap (λ (z : List Function). p .found ++ groupFaults text (y .scope) z) (sym (u .same)) ∙ p .faults-are;
-          made-are = append-assoc (p .made) (n ∷ [])
-              (groupOf text (p .number + 1) (withFunction (p .scope) (f .name) (p .number) start) (y .scope) (u .more))
-              ∙ ap (λ (z : List Function). p .made ++ groupOf text (p .number) (p .scope) (y .scope) z) (sym (u .same)) ∙ p .made-are;
+          faults-are = cc (append-assoc (p .found) (functionFaults text (y .scope) f) (groupFaults text (y .scope) (u .more)));
+          made-are = cc (append-assoc (p .made) (n ∷ []) (groupOf text (p .number + 1) (withFunction (p .scope) (f .name) (p .number) start) (y .scope) (u .more)));
           yields = yields-as (2 * (p .used + (2 + length (encodeFunction f)))) refl refl (omega arith) (yields-then l (p .next) (p .yields) one);
         }
 
@@ -348,9 +341,7 @@ module _ (text t₀ : List ℕ) {s₀ : List ℕ} {from end : ℕ} {here : Here}
   unfolding groupFaults groupOf
   group-end {s} {t} {at} {l} {d} lt q = record {
     by = λ y before k. let p = q y before k in let e = no-function (p .rest) (p .ends) lt in let fe : p .found ≡ groupFaults text (y .scope)
-        (y .functions) = sym (append-nil (p .found)) ∙ ap (λ (z : List Function). p .found ++ groupFaults text (y .scope) z) (sym e)
-        ∙ p .faults-are in let me : p .made ≡ groupOf text k before (y .scope) (y .functions) = sym (append-nil (p .made))
-        ∙ ap (λ (z : List Function). p .made ++ groupOf text (p .number) (p .scope) (y .scope) z) (sym e) ∙ p .made-are in let r = yields-as
+        (y .functions) = cc (append-nil (p .found)) in let me : p .made ≡ groupOf text k before (y .scope) (y .functions) = cc (append-nil (p .made)) in let r = yields-as
         (2 * length (encodeFunctions (y .functions))) fe me (omega arith) (p .yields) in
         record { result = record { keeps = p .keeps; did = r .did }; tall = r .tall; fits = r .fits; low = p .low };
   }

@@ -61,7 +61,7 @@ fault-so {table} {m} {place} {st} {r} z n2 fa = record { by = by }
     used : (n : ℕ) (ns : List ℕ) → m / 4 ≡ n → m % 4 ≡ 2 → Taken table ns → n < 400 → (b : Bool) → among n ns ≡ b → (t : List ℕ)
         → Did (cond b (fault place 9) []) nothing 0 t t st r
     used n ns q e k l true a t = fa .by nothing t
-    used n ns q e k l false a t = absurd (n2 e (ap (λ (i : ℕ). getD table i 0) q ∙ k .free n l a))
+    used n ns q e k l false a t = absurd (n2 e (rw (q, k .free n l a)))
 
     by : (f : N.Found) (ns : List ℕ) → m ≡ found f → Taken table ns → ((n : ℕ) → f ≡ N.known (N.global n) → n < 400) → (t : List ℕ)
         → Did (nameFault place ns f) nothing 0 t t st r
@@ -114,7 +114,7 @@ enters-global {s} {table} {table′} {top} {leaf} {m} {k} {n} {v} e en ev et = r
           rw (et ∙ ap (λ (x : ℕ). set table x v) z) (taken-more tk (b i refl) (omega arith)),
           omega arith,
           omega arith,
-          et ∙ ap (λ (x : ℕ). set table x v) z ∙ ap (set table i) ev,
+          rw (et, z, ev),
         )
 
 pub enters-name : {s s′ table : List ℕ} {top leaf m k x : ℕ} → (m % 4 ≡ 2 → ⊥) → PushedName s s′ top leaf x → x ≡ k * 4 + 4 → length s′ ≡ length s

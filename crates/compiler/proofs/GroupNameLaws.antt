@@ -40,7 +40,7 @@ module _ (ss : List Start) {k : ℕ} (x : Start) (e : length ss ≡ k) where
   start-before {l} h = List·getD-append ss (x ∷ []) nowhere l (omega arith)
 
   start-here : getD (ss ++ (x ∷ [])) k nowhere ≡ x
-  start-here = ap (λ (i : ℕ). getD (ss ++ (x ∷ [])) i nowhere) (sym e) ∙ getD-append-seam ss x [] nowhere
+  start-here = cc (getD-append-seam ss x [] nowhere)
 
   start-after : {l : ℕ} → k < l → getD (ss ++ (x ∷ [])) l nowhere ≡ nowhere
   start-after {l} h = List·getD-eq-default (ss ++ (x ∷ [])) nowhere (omega (arith, length-append ss (x ∷ [])))
@@ -92,10 +92,9 @@ starting-global {table} {ss} {k} m lm free e z = record { is = is; has = has }
       where
         go : (b : Bool) → eqb n m ≡ b → getD (ss ++ (inGlobal m ∷ [])) l nowhere ≡ inGlobal n
         go true i =
-            let j : n ≡ m = eqb-true n m i in
-            let w : getD (set table m (k + 1)) n 0 ≡ k + 1 = ap (λ (x : ℕ). getD (set table m (k + 1)) x 0) j ∙ getD-set-same table m (k + 1) 0 lm in
+            let j : n ≡ m = eqb-true n m i in let w : getD (set table m (k + 1)) n 0 ≡ k + 1 = rw (j, getD-set-same table m (k + 1) 0 lm) in
             let lk : l ≡ k = omega arith in
-            ap (λ (x : ℕ). getD (ss ++ (inGlobal m ∷ [])) x nowhere) lk ∙ start-here ss (inGlobal m) e ∙ ap inGlobal (sym j)
+            rw (lk, start-here ss (inGlobal m) e, j)
         go false i =
             let w = z .is n l h (sym (getD-set-other table m n (k + 1) 0 (eqb-false n m i)) ∙ q) in
             start-before ss (inGlobal m) e (start-is ss (inGlobal m) e w) ∙ w
@@ -106,9 +105,9 @@ starting-global {table} {ss} {k} m lm free e z = record { is = is; has = has }
         go : Which l k → getD (set table m (k + 1)) n 0 ≡ suc l
         go (earlier h) =
             let w : getD table n 0 ≡ suc l = z .has n l (sym (start-before ss (inGlobal m) e h) ∙ q) in
-            getD-set-other table m n (k + 1) 0 (λ i. let v : getD table n 0 ≡ 0 = ap (λ (x : ℕ). getD table x 0) i ∙ free in omega arith) ∙ w
+            getD-set-other table m n (k + 1) 0 (λ i. let v : getD table n 0 ≡ 0 = rw (i, free) in omega arith) ∙ w
         go (this h) =
-            let j : m ≡ n = one (sym (start-here ss (inGlobal m) e) ∙ ap (λ (i : ℕ). getD (ss ++ (inGlobal m ∷ [])) i nowhere) (sym h) ∙ q) in
+            let j : m ≡ n = one (cc (start-here ss (inGlobal m) e)) in
             ap (λ (x : ℕ). getD (set table m (k + 1)) x 0) (sym j) ∙ getD-set-same table m (k + 1) 0 lm ∙ omega arith
         go (later h) = absurd (nowhere-not (sym (start-after ss (inGlobal m) e h) ∙ q))
 
@@ -243,14 +242,11 @@ module _ (text : List ℕ) {s₀ table₀ : List ℕ} {from end top before : ℕ
   unfolding functionsAfter takenAfter groupNameFaults startsIn
   names-next {s} {s′} {table} {table′} {at} {k} {now} {size} {next} {m} {place} {now′} {st} {r} l es en lk ep nf ent y p =
       let u = is-function (p .rest) (p .lies) (p .ends) l in let w = names-fit l y p in let c = ap length (u .same) in let sc = p .scope in
-      let name = u .part .name in let f = lookup text sc name in let n : nameAt s (at + 2) ≡ name = function-name l y p in
-      let four : at + 4 ≡ at + 2 + 2 = omega arith in
-      let place-is : place ≡ name .place = ep ∙ ap (λ (z : ℕ). getD s z 0) four ∙ ap (λ (z : Name). z .place) n in
-      let m-is : m ≡ found f = lk .by sc (p .shows) ∙ ap (λ (z : Name). found (lookup text sc z)) n in
-      let small : (i : ℕ) → f ≡ N.known (N.global i) → i < 400 = λ i e. small-found text sc name i (p .globals) e in
-      let e = ent .by f (y .base) sc (p .taken) name m-is (p .shows) (w .long) (w .room) n (p .free) small in
-      let sz : size ≡ length (encodeFunction (u .part)) = es ∙ p .keeps .above at (w .low) ∙ u .size-of in let x = startOf f in
-      let fs = nameFault (name .place) (p .taken) f in
+      let name = u .part .name in let f = lookup text sc name in let n : nameAt s (at + 2) ≡ name = function-name l y p in let four : at + 4 ≡ at + 2
+      + 2 = omega arith in let place-is : place ≡ name .place = cc in let m-is : m ≡ found f = rw (lk .by sc (p .shows), n) in let small : (i : ℕ) → f
+      ≡ N.known (N.global i) → i < 400 = λ i e. small-found text sc name i (p .globals) e in let e = ent .by f (y .base) sc (p .taken) name m-is
+      (p .shows) (w .long) (w .room) n (p .free) small in let sz : size ≡ length (encodeFunction (u .part)) = es ∙ p .keeps .above at (w .low)
+      ∙ u .size-of in let x = startOf f in let fs = nameFault (name .place) (p .taken) f in
       record {
         rest = u .more;
         scope = withFunction sc name k x;
@@ -270,11 +266,10 @@ module _ (text : List ℕ) {s₀ table₀ : List ℕ} {from end top before : ℕ
         free = e .2;
         scopes = p .scopes ∙ ap (functionsAfter text k sc) (u .same);
         takens = p .takens ∙ ap (takenAfter text k sc (p .taken)) (u .same);
-        faults = p .faults ∙ ap (λ (z : List Function). p .bad ++ groupNameFaults text k sc (p .taken) z) (u .same) ∙ sym
-            (append-assoc (p .bad) fs _);
+        faults = simp (p .faults, u .same, append-assoc);
         did = λ t. did-as nothing 0 (did-then (p .did t) (rw place-is at (nf .by f (p .taken) m-is (p .free) small t))) same-refl (λ i q. refl)
             (omega arith);
-        started = p .started ∙ ap (λ (z : List Function). p .begun ++ startsIn text k sc z) (u .same) ∙ sym (append-assoc (p .begun) (x ∷ []) _);
+        started = simp (p .started, u .same, append-assoc);
         counted = omega (arith, length-append (p .begun) (x ∷ []));
         starting = λ q ss h z. let long : length (ss ++ p .begun) ≡ k = omega (arith, length-append ss (p .begun)) in
             rw (append-assoc ss (p .begun) (x ∷ [])) at (starting-more (name .place) f (p .free) small (nil-right (p .bad) fs q) (e .5) long
@@ -286,12 +281,10 @@ module _ (text : List ℕ) {s₀ table₀ : List ℕ} {from end top before : ℕ
       → GroupNames text s₀ s table₀ table from end top before st₀ (record { top = now; state = st })
   unfolding functionsAfter takenAfter groupNameFaults startsIn
   names-end {s} {table} {at} {k} {now} {st} l q = record {
-    by = λ y.
-        let p = q y in let e = no-function (p .rest) (p .ends) l in
-        let fs : groupNameFaults text before (y .scope) (y .taken) (y .functions) ≡ p .bad =
-        p .faults ∙ ap (λ (z : List Function). p .bad ++ groupNameFaults text k (p .scope) (p .taken) z) e ∙ append-nil (p .bad) in
-        let ss : startsIn text before (y .scope) (y .functions) ≡ p .begun =
-        p .started ∙ ap (λ (z : List Function). p .begun ++ startsIn text k (p .scope) z) e ∙ append-nil (p .begun) in
+    by = λ y. let p = q y in let e = no-function (p .rest) (p .ends) l in let fs : groupNameFaults text before (y .scope) (y .taken) (y .functions)
+        ≡ p .bad =
+        simp (p .faults, e, append-nil) in let ss : startsIn text before (y .scope) (y .functions) ≡ p .begun =
+        simp (p .started, e, append-nil) in
         record {
           shows = rw (p .scopes ∙ ap (functionsAfter text k (p .scope)) e) (p .shows);
           keeps = p .keeps;

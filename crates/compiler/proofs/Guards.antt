@@ -47,7 +47,7 @@ pub record IsClosed (x : List ℕ) : Type 0 where
 pub closed-start : {s x : List ℕ} {lo end : ℕ} → IsClosed x → Lies s lo x → end ≡ lo + length x → (lo ≡ end - 4 - getD s (end - 4) 0) × (lo + 4 ≤ end)
 closed-start {s} {x} {lo} {end} u h e =
     let w = u .inner in let v = u .value in let p = u .place in let k = u .kind in let h′ : Lies s lo (closed w v p k) = rw (u .is) at h in
-    let e′ : end ≡ lo + length (closed w v p k) = e ∙ ap (λ (l : List ℕ). lo + length l) (u .is) in
+    let e′ : end ≡ lo + length (closed w v p k) = rw (e, u .is) in
     (omega (arith, ends w v p k h′ e′, size-is w v p k h′ e′), omega (arith, ends w v p k h′ e′))
 
 unfoldable pub shut : (w : List ℕ) (v p k : ℕ) → IsClosed (closed w v p k)
@@ -104,7 +104,7 @@ pub record IsGuarded (s : List ℕ) (lo end w : ℕ) (u : Unlabelled) : Type 0 w
 pub kind-of : {s x : List ℕ} {lo end : ℕ} (u : IsClosed x) → Lies s lo x → end ≡ lo + length x → getD s (end - 1) 0 ≡ u .kind
 kind-of {s} {x} {lo} u h e =
     let w = u .inner in let v = u .value in let p = u .place in let k = u .kind in
-    kind-is w v p k (rw (u .is) at h) (e ∙ ap (λ (l : List ℕ). lo + length l) (u .is))
+    kind-is w v p k (rw (u .is) at h) (rw (e, u .is))
 
 pub guarded-of : {s : List ℕ} {lo end w : ℕ} {e : Expression} {c : Command} → Lies s lo (encode e ++ encodeCommand c)
     → end ≡ lo + length (encode e ++ encodeCommand c) + 4 → IsGuarded s lo end w (T.guarded w e c)
@@ -164,22 +164,17 @@ module _ {s : List ℕ} {end : ℕ} {here : Here} {st : State} (n b : Node) (nd 
         → GaveC text s₁ s₂ (n .inner) here ways t₂ t₃ d k → Emits (I.label (st .label) ∷ []) [] t₃ t₄ k r → GaveU text s s₂ end here ways t t₄ st r
     unfolding G.cmdCode ofCmd G.cmdLabels
     guard-gave ways {s₂} {t₃} {t₄} {k} {r} ej g₂ f₂ = record {
-      by = λ y.
-          let u = guard-is y in let x = g .by (guard-test e y) in let z = g₂ .by (guard-body y) in let sc = y .scope in let h = here .height in
+      by = λ y. let u = guard-is y in let x = g .by (guard-test e y) in let z = g₂ .by (guard-body y) in let sc = y .scope in let h = here .height in
           let E = expression text sc h (u .test) in let C = command text sc h (u .body) in let W = getD s (end - 1) 0 in let L = st .label in
           let em = ap (unlabelled text sc h) (u .same) ∙ when-means text sc h w (u .test) (u .body) in
-          let ef = ap (inUnlabelled text sc (leavableBy ways here) h) (u .same) ∙ when-faults text sc (leavableBy ways here) h w (u .test) (u .body)
-          in let jj : j ≡ cond (eqb W 16) 5 4 = ej ∙ ap (λ (v : ℕ). cond (eqb v 16) 5 4) (nd .kind) in
+          let ef = ap (inUnlabelled text sc (leavableBy ways here) h) (u .same) ∙ when-faults text sc (leavableBy ways here) h w (u .test)
+          (u .body) in let jj : j ≡ cond (eqb W 16) 5 4 = rw (ej, nd .kind) in
           record {
             keeps = keeps-then (x .keeps) (z .keeps);
             did =
                 did-at (cmdSays here ways (unlabelled text sc h (y .tree))) _
                 (did-fresh e (did-put (did-then (did-put (with-ways text sc here ways h (u .test) (x .did)) f) (z .did)) f₂)) (same-eq (sym ef))
-                (λ v. code-is (append-assoc (G.exprCode (here .strings) h (L + 1) E ++ (G.to j L ∷ [])) (G.cmdCode (here .strings) h
-                (L + 1 + G.exprLabels E) (exits ways) C) (I.label L ∷ []) ∙ append-assoc (G.exprCode (here .strings) h (L + 1) E) (G.to j L ∷ [])
-                (G.cmdCode (here .strings) h (L + 1 + G.exprLabels E) (exits ways) C ++ (I.label L ∷ [])) ∙ ap (λ (v : ℕ). G.exprCode (here .strings)
-                h (L + 1) E ++ (G.to v L ∷ (G.cmdCode (here .strings) h (L + 1 + G.exprLabels E) (exits ways) C ++ (I.label L ∷ [])))) jj
-                ∙ ap (G.cmdCode (here .strings) h L (exits ways)) (sym em)) (ap (ofCmd h) (sym em)) (omega (arith, ap G.cmdLabels em))) (omega arith);
+                (λ v. code-is (simp (append-assoc, jj, em)) (ap (ofCmd h) (sym em)) (omega (arith, ap G.cmdLabels em))) (omega arith);
           };
     }
 

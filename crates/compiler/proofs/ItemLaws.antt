@@ -174,8 +174,8 @@ module _ (g : Bool) (text : List ℕ) {s₀ : List ℕ} {from end top : ℕ} (st
       → nameAt s (at + 2) ≡ is-item (p .rest) (p .lies) (p .ends) l .item .name
   item-name {s} {at} k l y p =
       let u = is-item (p .rest) (p .lies) (p .ends) l in let q2 : at + 2 + 2 ≡ at + 4 = omega arith in let q1 : at + 2 + 1 ≡ at + 3 = omega arith in
-      keeps-name (p .keeps) (omega arith) ∙ ap (λ (z : ℕ). named z (getD s₀ (at + 2 + 1) 0)) (ap (λ (z : ℕ). getD s₀ z 0) q2 ∙ u .place)
-      ∙ ap (λ (z : ℕ). named (u .item .name .place) z) (ap (λ (z : ℕ). getD s₀ z 0) q1 ∙ u .width)
+      keeps-name (p .keeps) (omega arith) ∙ ap (λ (z : ℕ). named z (getD s₀ (at + 2 + 1) 0)) (rw (q2, u .place))
+      ∙ ap (λ (z : ℕ). named (u .item .name .place) z) (rw (q1, u .width))
 
   pub items-fit : {s : List ℕ} {at : ℕ} (k : ℕ) {st : State} → at < end → (y : ReadyItems s₀ from end top) → ItemsPart y s at k st → Fits y s at k
   items-fit {s} {at} k l y p =
@@ -222,9 +222,8 @@ module _ (g : Bool) (text : List ℕ) {s₀ : List ℕ} {from end top : ℕ} (st
         fine = fine-more (u .item) (u .more) (subst FineIs (u .same) (p .fine));
         same = p .same ∙ ap (after g text sc) (u .same) ∙ after-step g text sc i (u .more);
         finish = λ t st′ d. p .finish t st′ (rw (ap (faults g text sc) (u .same) ∙ faults-step g text sc i (u .more))
-            (did-as nothing 0 (did-then (bl .by j told-k t) (did-then
-            (rw ep′ at (ag .by (inBlock text sc (i .name)) (told .by sc (p .shows) ∙ ap (λ (z : Name). found (inBlock text sc z)) n) t)) d)) same-refl
-            (λ v e. refl) (omega arith)));
+            (did-as nothing 0 (did-then (bl .by j told-k t) (did-then (rw ep′ at (ag .by (inBlock text sc (i .name)) (rw (told .by sc (p .shows), n))
+            t)) d)) same-refl (λ v e. refl) (omega arith)));
       }
 
   pub items-end : {s : List ℕ} {at : ℕ} (k : ℕ) {st : State} → end ≤ at → ((y : ReadyItems s₀ from end top) → ItemsPart y s at k st)

@@ -66,7 +66,7 @@ module _ {m : ℕ} (minus : Bool) {name place : ℕ} (fits : (name < 2 ^ 32) × 
       by c n (N.known (N.local k)) q em ep en = absurd (omega arith)
       by c n (N.known (N.global k)) q em ep en = absurd (omega arith)
       by c n (N.known (N.manifest v)) q em ep en =
-          let z : m / 4 ≡ v = omega arith in let w : x ≡ signed (c .minus) v = ex ∙ ap (signed minus) z ∙ ap (λ (b : Bool). signed b v) (sym em) in
+          let z : m / 4 ≡ v = omega arith in let w : x ≡ signed (c .minus) v = rw (ex, z, em) in
           rw (← w) (fit refl)
       by c n (N.known (N.function k)) q em ep en = absurd (omega arith)
 
@@ -109,7 +109,7 @@ judged-word text sc c sh f = go (c .simple) (f .small)
 -- ---- the constant that ends there
 
 name-there : (s : List ℕ) (x : ℕ) (n : Name) → getD s (x + 1) 0 ≡ n .width → getD s (x + 2) 0 ≡ n .place → nameAt s x ≡ n
-name-there s x n w p = ap (λ (k : ℕ). named k (getD s (x + 1) 0)) p ∙ ap (λ (k : ℕ). named (n .place) k) w
+name-there s x n w p = rw (p, w)
 
 -- a number is a word, and a name without a minus has the constant's place
 abbrev FineSimple : (place : ℕ) (minus : Bool) → Simple → Type 0
@@ -149,10 +149,9 @@ module _ (text : List ℕ) {s : List ℕ} {end : ℕ} (top : ℕ) (n : Node) (nd
       go sc lo p false (T.known x) sh f h e =
           let a : n .inner + 1 ≡ end - 3 = omega (arith, ends [] (x .width) (x .place) 59 h e) in let b : n .inner + 2 ≡ end - 2
           = omega (arith, ends [] (x .width) (x .place) 59 h e) in let ex : nameAt s (n .inner) ≡ x = name-there s (n .inner) x
-          (ap (λ (k : ℕ). getD s k 0) a ∙ value-is [] (x .width) (x .place) 59 h e) (ap (λ (k : ℕ). getD s k 0) b ∙ place-is [] (x .width) (x .place)
-          59 h e) in let ep : x .place ≡ n .place = sym (nd .place ∙ place-is [] (x .width) (x .place) 59 h e) in
+          (rw (a, value-is [] (x .width) (x .place) 59 h e)) (rw (b, place-is [] (x .width) (x .place) 59 h e)) in let ep : x .place ≡ n .place = sym (nd .place ∙ place-is [] (x .width) (x .place) 59 h e) in
           nm .by (record { place = p; minus = false; simple = T.known x }) x (lookup text sc x)
-          (lk .by sc sh ∙ ap (λ (z : Name). found (lookup text sc z)) ex) refl (f .1 x refl refl ∙ ep) ep
+          (rw (lk .by sc sh, ex)) refl (f .1 x refl refl ∙ ep) ep
       go sc lo p true (T.literal v) sh f h e = absurd (omega (arith, kind-is [] v p 36 h e))
       go sc lo p true (T.known x) sh f h e = absurd (omega (arith, kind-is (0 ∷ x .width ∷ x .place ∷ 59 ∷ []) 0 p 36 h e))
 
@@ -187,8 +186,8 @@ module _ (text : List ℕ) {s : List ℕ} {end : ℕ} (top : ℕ) (n : Node) (nd
           ) in let a : n .start + 1 ≡ lo + 1 = omega arith in let b : n .start + 2 ≡ lo + 2 = omega arith in
           let ep : getD s (n .start + 2) 0 ≡ x .place = ap (λ (k : ℕ). getD s k 0) b ∙ hc .at 2 (omega arith) in let ex : nameAt s (n .start) ≡ x
           = name-there s (n .start) x (ap (λ (k : ℕ). getD s k 0) a ∙ hc .at 1 (omega arith)) ep in
-          nm .by (record { place = p; minus = true; simple = T.known x }) x (lookup text sc x)
-          (lk .by sc sh ∙ ap (λ (z : Name). found (lookup text sc z)) ex) refl (sym (nd .place ∙ place-is c 0 p 36 h e)) (sym (ename ∙ ep))
+          nm .by (record { place = p; minus = true; simple = T.known x }) x (lookup text sc x) (rw (lk .by sc sh, ex)) refl
+          (sym (nd .place ∙ place-is c 0 p 36 h e)) (sym (ename ∙ ep))
 
 -- its place is that of its record
 constant-place : {s : List ℕ} {lo end : ℕ} (p : ℕ) (b : Bool) (x : Simple) → FineSimple p b x
@@ -220,8 +219,7 @@ module _ (most : ℕ) {text s : List ℕ} {end top : ℕ} {j : Verdict} (g : Jud
   most-big {p} {e₂} l q e f = record {
     small = omega arith;
     fits = (f, omega arith);
-    by = λ sc lo c sh fine h en.
-        too-big most c (judge text sc c) l (e ∙ ap (λ (k : ℕ). getD s k 0) q ∙ place-there c fine h en) (g .by sc lo c sh fine h en);
+    by = λ sc lo c sh fine h en. too-big most c (judge text sc c) l (rw (e, q, place-there c fine h en)) (g .by sc lo c sh fine h en);
   }
 
   pub most-fits : j .word ≤ most → JudgesMost most text s end top j
@@ -321,7 +319,7 @@ module _ {s : List ℕ} {end : ℕ} {here : Here} {st : State} (n : Node) (nd : 
         (record {
           after = record {
             shows = rw two at (d .shows);
-            height = eh ∙ ap (λ (k : ℕ). h + 2 + k) w;
+            height = rw (eh, w);
             keeps = d .keeps;
             above = omega arith;
             room = omega (arith, ap (λ (x : Local). length (encodeLocal x)) (u .same));
@@ -329,8 +327,7 @@ module _ {s : List ℕ} {end : ℕ} {here : Here} {st : State} (n : Node) (nd : 
           };
           did =
               did-as (localSays text sc here (aVector (u .name) K)) _ (did-emit (did-then (bl .by (forVector text sc K) sa t) (d .did t)) em)
-              same-refl
-              (λ m v. code-is refl (ap (λ (k : ℕ). (h + 2 + k) ∷ []) w) (omega arith)) (omega arith);
+              same-refl (λ m v. code-is refl (rw w) (omega arith)) (omega arith);
         });
   }
 

@@ -152,10 +152,9 @@ module _ {s : List ℕ} {end : ℕ} {here : Here} {st : State} (n : Node) (nd : 
         record {
           keeps = x .keeps;
           did = did-as (cmdSays here ways (command text sc h (y .tree))) _ (did-then d (x .did))
-              (same-eq (ap (λ (c : Command). misplaced text sc (u .labels) ++ inCase text sc lv h c) (u .same) ∙ sym
-              (append-assoc (misplaced text sc (u .labels)) U R) ∙ ap (inCommand text sc lv h) (sym (u .same))))
-              (λ k v. let a : k + 0 ≡ k = omega arith in code-is
-              (ap (λ (i : ℕ). G.cmdCode (here .strings) h i (exits ways) (command text sc h (y .tree))) a) refl (omega arith)) (omega arith);
+              (same-eq (ap (λ (c : Command). misplaced text sc (u .labels) ++ inCase text sc lv h c) (u .same)
+              ∙ sym (append-assoc (misplaced text sc (u .labels)) U R) ∙ ap (inCommand text sc lv h) (sym (u .same)))) (λ k v. let a : k + 0 ≡ k
+              = omega arith in code-is (rw a) refl (omega arith)) (omega arith);
         };
   }
 
@@ -210,8 +209,7 @@ unfolding FineCommand
 something-left ls u rs f n = (
   (
     f .1,
-    λ e. n (ap (λ (v : Unlabelled). length (O.repeated (encodeUnlabelled v) (encodeRepeats rs))) e ∙ ap
-        (λ (v : Repeats). length (O.repeated (encodeUnlabelled T.empty) (encodeRepeats v))) (empty-alone ls u rs f e) ∙ empty-length),
+    λ e. n (rw (e, empty-alone ls u rs f e, empty-length)),
   ),
   f .2,
 )

@@ -82,9 +82,7 @@ pub starts-in : (text : List ℕ) (k : ℕ) (before sc : Scope) (fs : List Funct
     → startsOf (funs (groupOf text k before sc fs)) ≡ startsIn text k before fs
 unfolding groupOf funs startsOf startsIn resolved
 starts-in text k before sc [] = refl
-starts-in text k before sc (f ∷ fs) =
-    ap (λ (z : List Start). startOf (lookup text before (f .name)) ∷ z)
-    (starts-in text (k + 1) (withFunction before (f .name) k (startOf (lookup text before (f .name)))) sc fs)
+starts-in text k before sc (f ∷ fs) = rw (starts-in text (k + 1) (withFunction before (f .name) k (startOf (lookup text before (f .name)))) sc fs)
 
 -- faults, and nothing written
 yields-faults : {strings l : ℕ} {fs : List Fault} {t : List ℕ} (m : ℕ) {d d′ : Done} → d′ .tall ≡ d .tall
@@ -109,7 +107,7 @@ pub record IsItems (g : Bool) (p : Declaration) : Type 0 where
   pub same : p ≡ itemsOf g items
 
 pub is-items : {tag : ℕ} (p : Declaration) → tag ≡ declaredWord p → (tag ≡ K.LET → ⊥) → IsItems (eqb tag K.GLOBAL) p
-is-items {tag} (T.globals is) e n = record { items = is; same = ap (λ (b : Bool). itemsOf b is) (sym (eq-eqb tag K.GLOBAL e)) }
+is-items {tag} (T.globals is) e n = record { items = is; same = rw (eq-eqb tag K.GLOBAL e) }
 is-items {tag} (T.manifests is) e n = record { items = is; same = ap (λ (b : Bool). itemsOf b is) (sym (ne-eqb tag K.GLOBAL (λ q. omega arith))) }
 is-items (T.functions fs) e n = absurd (n e)
 
@@ -135,7 +133,7 @@ module _ {s table : List ℕ} {from end tag left strings : ℕ} {l : Progress} (
     scope = y .walk .scope;
     items = its .items;
     lies = subst (Lies s from) its-encoded (y .lies);
-    ends = y .ends ∙ ap (λ (z : List ℕ). from + length z) its-encoded;
+    ends = rw (y .ends, its-encoded);
     above = y .above;
     long = y .long;
     small = y .small;
@@ -200,7 +198,7 @@ module _ {s table : List ℕ} {from end left strings : ℕ} {l : Progress} (y : 
   grp = is-group (y .part) (y .word)
 
   pub group-sized : length (encodeDeclared (y .part)) ≡ length (encodeFunctions (grp .functions))
-  group-sized = ap (λ (p : Declaration). length (encodeDeclared p)) (grp .same)
+  group-sized = simp (grp .same)
 
   pub group-depth : functionsDepth (grp .functions) ≤ left
   unfolding declarationDepth
@@ -235,7 +233,7 @@ module _ {s table : List ℕ} {from end left strings : ℕ} {l : Progress} (y : 
 
     abbrev pub ready-fs : {st : State} → st ≡ flat (k .state) → ReadyFs s₁ from end groupHere (record { tall = l .done .tall; state = st })
     ready-fs {st} e =
-        let x = names-known in let f = x .did [] in let sl : st .label ≡ k .state .label = ap (λ (z : State). z .label) e in
+        let x = names-known in let f = x .did [] in let sl : st .label ≡ k .state .label = rw e in
         record {
           base = y .base;
           scope = functionsAfter text (l .functions) (y .walk .scope) (grp .functions);
@@ -253,7 +251,7 @@ module _ {s table : List ℕ} {from end left strings : ℕ} {l : Progress} (y : 
           strings = y .names;
           shallow = group-depth;
           fine = subst (FineDeclaration STRINGS) (grp .same) (y .fine);
-          low = ap (λ (z : State). z .high) e;
+          low = rw e;
         }
 
 -- the walk as the code counts it
@@ -275,7 +273,7 @@ walked-group {text} {table₁ = table₁} {t} {l = l} {k} {st} {d} w fs a x e z 
         shows = keeps-shows (r .keeps) (omega arith) (x .shows);
         globals = small-functions text i (w .scope) fs (a .globals);
         free = x .taken;
-        many = ap (λ (m : ℕ). i + m) q;
+        many = rw q;
         some = omega (arith, x .did t .grows, ap (λ (m : State). m .label) e);
         low = z .low;
       };

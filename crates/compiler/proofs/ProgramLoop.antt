@@ -44,8 +44,7 @@ made-many : (text : List ℕ) (w : Walk) (p : Declaration)
 unfolding afterDeclaration
 made-many text w (T.globals is) = refl
 made-many text w (T.manifests is) = refl
-made-many text w (T.functions fs) = ap (λ (n : ℕ). w .functions + n)
-    (sym (group-long text (w .functions) (w .scope) (functionsAfter text (w .functions) (w .scope) fs) fs))
+made-many text w (T.functions fs) = rw (group-long text (w .functions) (w .scope) (functionsAfter text (w .functions) (w .scope) fs) fs)
 
 -- ---- where functions start
 
@@ -57,19 +56,19 @@ starts-long (g ∷ gs) = ap suc (starts-long gs)
 starts-then : (gs hs : List Named) → startsOf (funs (gs ++ hs)) ≡ startsOf (funs gs) ++ startsOf (funs hs)
 unfolding startsOf funs
 starts-then [] hs = refl
-starts-then (g ∷ gs) hs = ap (λ (z : List Start). g .fun .start ∷ z) (starts-then gs hs)
+starts-then (g ∷ gs) hs = rw (starts-then gs hs)
 
 none-taken : {table : List ℕ} → table ≡ replicate 400 0 → Taken table []
 unfolding among
 none-taken {table} e = record {
   long = ap length e ∙ length-replicate {A = ℕ} 400 0;
-  free = λ n l q. ap (λ (z : List ℕ). getD z n 0) e ∙ getD-replicate {A = ℕ} 400 n 0 0 l;
+  free = λ n l q. rw (e, getD-replicate {A = ℕ} 400 n 0 0 l);
   used = λ n l q. let z : _≡_ {A = Bool} false true = q in let y : _≡_ {A = ℕ} 0 1 = cc in absurd (omega arith);
 }
 
 none-starting : {table : List ℕ} → table ≡ replicate 400 0 → Starting table []
 none-starting {table} e = record {
-  is = λ n l m q. let z : getD table n 0 ≡ 0 = ap (λ (z : List ℕ). getD z n 0) e ∙ getD-replicate {A = ℕ} 400 n 0 0 m in absurd (omega arith);
+  is = λ n l m q. let z : getD table n 0 ≡ 0 = rw (e, getD-replicate {A = ℕ} 400 n 0 0 m) in absurd (omega arith);
   has = λ n l q. let z : _≡_ {A = Start} nowhere (inGlobal n) = q in let y : _≡_ {A = ℕ} 0 1 = cc in absurd (omega arith);
 }
 
@@ -216,9 +215,8 @@ module _ (text t₀ : List ℕ) {s₀ table₀ : List ℕ} {base end left string
   unfolding faultsFrom functionsFrom
   program-end {s} {table} {t} {at} {l} lt q = record {
     by = λ y. let p = q y in let e = no-declaration (p .rest) (p .ends) lt in let fe : p .found ≡ faultsFrom text begin (y .program)
-        = sym (append-nil (p .found)) ∙ ap (λ (z : Program). p .found ++ faultsFrom text (p .walk) z) (sym e) ∙ p .faults-are in
-        let me : p .made ≡ functionsFrom text begin (y .program) = sym (append-nil (p .made)) ∙ ap (λ (z : Program). p .made ++ functionsFrom text
-        (p .walk) z) (sym e) ∙ p .made-are in let r = yields-as (2 * length (encodeProgram (y .program))) fe me (omega arith) (p .yields) in
+        = cc (append-nil (p .found)) in
+        let me : p .made ≡ functionsFrom text begin (y .program) = cc (append-nil (p .made)) in let r = yields-as (2 * length (encodeProgram (y .program))) fe me (omega arith) (p .yields) in
         record {
           did = r .did;
           tall = r .tall;

@@ -20,7 +20,7 @@ lines-end (i ∷ is) = ap (λ (z : List ℕ). render i ++ (10 ∷ z)) (lines-end
 -- `$`, the items, and `Z`, each on a line
 pub rendered : (is : List Item) → renderAll is ≡ (36 ∷ 10 ∷ []) ++ (lines is ++ (90 ∷ 10 ∷ []))
 unfolding renderAll
-rendered is = ap (λ (z : List ℕ). 36 ∷ 10 ∷ z) (lines-end is)
+rendered is = rw (lines-end is)
 
 -- a global that is found has its place in the table
 pub small-found : (text : List ℕ) (sc : Scope) (n : Name) (m : ℕ) → Small sc → lookup text sc n ≡ N.known (N.global m) → m < 400

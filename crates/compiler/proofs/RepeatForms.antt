@@ -139,13 +139,11 @@ form-code : (text : List ℕ) (x : Here) (sc : Scope) (own n : ℕ) (f : AForm) 
 unfolding formsCode formsHeights formsLabels
 form-code text x sc own n alone rs =
     let a : n + 0 ≡ n = omega arith in
-    code-is (ap (λ (k : ℕ). I.label (own + 1) ∷ G.JL own ∷ I.label (own + 2) ∷ formsCode text sc (x .strings) (x .height) (own - 3) rs k) a) refl
-    (omega arith)
+    code-is (rw a) refl (omega arith)
 form-code text x sc own n (onTest w e) rs =
     let E = G.exprCode (x .strings) (x .height) n (expression text sc (x .height) e) in let J = G.jumpWhen (eqb w K.REPEATWHILE) own in
     let F = formsCode text sc (x .strings) (x .height) (own - 3) rs (n + G.exprLabels (expression text sc (x .height) e)) in
-    code-is (ap (λ (z : List I.Item). I.label (own + 1) ∷ z)
-    (append-assoc (E ++ (J ∷ [])) (I.label (own + 2) ∷ []) F ∙ append-assoc E (J ∷ []) (I.label (own + 2) ∷ F))) refl refl
+    code-is (simp append-assoc) refl refl
 
 -- ---- the loop over them
 
@@ -175,14 +173,14 @@ module _ (text t₀ : List ℕ) (own₀ : ℕ) {s₀ : List ℕ} {from end : ℕ
       abbrev ready-test : (w : ℕ) (e : Expression) → one .part ≡ onTest w e → Ready encode depth FineE s next here a
       ready-test w e q =
           let z = y .ready in let h = rw q at (one .lies) in let m : length (formEncoding (one .part)) ≡ length (encode e)
-          = ap (λ (f : AForm). length (formEncoding f)) q in
+          = rw q in
           sub z (p .keeps) h refl (omega (arith, forms-size, one .ends, rest-length z (y .starts) l es en p, forms-conditions, rw q at (both-deep z (y .starts) l es en p .0))) (subst FineForm q (both-fine z (y .starts) l es en p .0))
 
       ready-form : ReadyForm s next size here a
       ready-form = record { on = λ n. by n (one .part) refl }
         where
           by : (size ≡ 0 → ⊥) → (f : AForm) → one .part ≡ f → Ready encode depth FineE s next here a
-          by n alone q = absurd (n (forms-size ∙ ap (λ (f : AForm). length (formEncoding f)) q))
+          by n alone q = absurd (n (rw (forms-size, q)))
           by n (onTest w e) q = ready-test w e q
 
       -- what it did
@@ -195,13 +193,13 @@ module _ (text t₀ : List ℕ) (own₀ : ℕ) {s₀ : List ℕ} {from end : ℕ
               → Keeps (y .ready .base) (here .top) s s₁ × Did (formFaults text (y .ready .scope) here f) (oneSays text here (y .ready .scope) own f)
               (2 * length (formEncoding f)) t₁ t₂ a b
           by alone q =
-              let x = g .plain (forms-size ∙ ap (λ (f : AForm). length (formEncoding f)) q) in (
+              let x = g .plain (rw (forms-size, q)) in (
                 rw (x .0) keeps-all,
                 did-as _ _ (emits-did _ (x .1) (λ n. refl))
                     same-refl (λ n e. refl) (omega arith),
               )
           by (onTest w e) q =
-              let m : length (formEncoding (one .part)) ≡ length (encode e) = ap (λ (f : AForm). length (formEncoding f)) q in
+              let m : length (formEncoding (one .part)) ≡ length (encode e) = rw q in
               let x = g .on (λ n. omega (arith, n, forms-size, m, closed-long (expression-closed e))) .by (ready-test w e q) in (
                 x .keeps,
                 rw (← (one-word (y .ready) (y .starts) l es en p ew ∙ ap formWord q)) (x .did),
@@ -301,9 +299,7 @@ any-repeats : (text : List ℕ) (l m : Leavable) (q : l .routine ≡ m .routine)
 unfolding inRepeats
 any-repeats text l m q sc h T.noRepeats = refl
 any-repeats text l m q sc h (T.repeat rs) = any-repeats text l m q sc h rs
-any-repeats text l m q sc h (T.repeatOn w e rs) =
-    ap (λ (z : List Fault). z ++ inRepeats text sc l h rs) (any-expression text l m q sc h e) ∙ ap
-    (λ (z : List Fault). inExpression text sc m h e ++ z) (any-repeats text l m q sc h rs)
+any-repeats text l m q sc h (T.repeatOn w e rs) = rw (any-expression text l m q sc h e, any-repeats text l m q sc h rs)
 
 -- a command with forms is in a loop
 forms-leave : (rs : Repeats) (l : Leavable) → 1 ≤ forms rs → Y.repeated rs l ≡ Y.inLoop l
@@ -314,7 +310,7 @@ forms-leave (T.repeatOn w e rs) l k = refl
 
 innermost-is : (n k own : ℕ) (ways : Ways) → 1 ≤ k → own ≡ n + 3 * k - 3 → exits (inLoop (own + 1) (own + 2) ways) ≡ innermost n k (exits ways)
 innermost-is n zero own ways l e = absurd (omega arith)
-innermost-is n (suc k) own ways l e = let q : own ≡ n + 3 * k = omega arith in ap (λ (i : ℕ). exits (inLoop (i + 1) (i + 2) ways)) q
+innermost-is n (suc k) own ways l e = let q : own ≡ n + 3 * k = omega arith in rw q
 
 module _ {s : List ℕ} {end : ℕ} {here : Here} {st : State} (n : Node) (nd : NodeAt s end n) (q : n .kind ≡ O.REPEATED) {middle : ℕ}
     (m : middle ≡ n .start + n .value) where
@@ -353,23 +349,19 @@ module _ {s : List ℕ} {end : ℕ} {here : Here} {st : State} (n : Node) (nd : 
         pub repeated-gave : {s₂ t₃ : List ℕ} {r : State} → GaveForms text s₁ s₂ middle (n .inner) own here t₂ t₃ d r
             → GaveR text s s₂ end here ways t t₃ st r
         repeated-gave {s₂} {t₃} {r} g₂ = record {
-          by = λ y.
-              let u = repeated-is y in let x = g .by (repeated-body y) in let z = g₂ .by (repeated-forms y) in let sc = y .scope in
-              let h = here .height in let S = here .strings in let L = st .label in let rs = y .tree .forms in
-              let C = unlabelled text sc h (y .tree .body) in let lv = leavableBy ways here in let N = L + 3 * k in let ek = repeated-count y in
-              let l₁ : leavableBy (inLoop (own + 1) (own + 2) ways) here ≡ Y.repeated rs lv = leaves-loop here ways (own + 1) (own + 2) (omega arith)
-              ∙ sym (forms-leave rs lv (u .some)) in
-              let ei : exits (inLoop (own + 1) (own + 2) ways) ≡ innermost L (forms rs) (exits ways) = innermost-is L (forms rs) own ways (u .some)
-              (eo ∙ ap (λ (i : ℕ). L + 3 * i - 3) ek) in
+          by = λ y. let u = repeated-is y in let x = g .by (repeated-body y) in let z = g₂ .by (repeated-forms y) in let sc = y .scope in
+              let h = here .height in let S = here .strings in let L = st .label in let rs = y .tree .forms in let C = unlabelled text sc h
+              (y .tree .body) in let lv = leavableBy ways here in let N = L + 3 * k in let ek = repeated-count y in let l₁ : leavableBy
+              (inLoop (own + 1) (own + 2) ways) here ≡ Y.repeated rs lv = leaves-loop here ways (own + 1) (own + 2) (omega arith)
+              ∙ sym (forms-leave rs lv (u .some)) in let ei : exits (inLoop (own + 1) (own + 2) ways) ≡ innermost L (forms rs) (exits ways)
+              = innermost-is L (forms rs) own ways (u .some) (rw (eo, ek)) in
               record {
                 keeps = keeps-then (x .keeps) (z .keeps);
                 did = did-at (cmdSays here ways (repeats text sc h C rs)) _ (did-fresh e (did-after f (did-then (x .did) (z .did))))
-                    (same-eq (ap (λ (p : Leavable). inUnlabelled text sc p h (y .tree .body) ++ inRepeats text sc (leavable here) h rs) l₁
-                    ∙ ap (λ (w : List Fault). inUnlabelled text sc (Y.repeated rs lv) h (y .tree .body) ++ w) (any-repeats text (leavable here) lv
-                    refl sc h rs))) (λ v. code-is (ap (λ (i : ℕ). topsCode L i ++ (G.cmdCode S h N (exits (inLoop (own + 1) (own + 2) ways)) C
+                    (same-eq (rw (l₁, any-repeats text (leavable here) lv refl sc h rs))) (λ v. code-is (ap (λ (i : ℕ). topsCode L i ++ (G.cmdCode S h N (exits (inLoop (own + 1) (own + 2) ways)) C
                     ++ formsCode text sc S h own rs (N + G.cmdLabels C))) ek ∙ ap (λ (w : G.Exits). topsCode L (forms rs) ++ (G.cmdCode S h N w C
                     ++ formsCode text sc S h own rs (N + G.cmdLabels C))) ei ∙ sym (repeats-code text sc S h rs C L N own (N + G.cmdLabels C) (exits
-                    ways) (ap (λ (i : ℕ). L + 3 * i) ek) eo refl)) (sym (repeats-heights text sc h rs C)) (omega (
+                    ways) (rw ek) eo refl)) (sym (repeats-heights text sc h rs C)) (omega (
                       arith,
                       repeats-labels text sc h rs
                           C,

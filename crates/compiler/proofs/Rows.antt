@@ -88,8 +88,8 @@ module _ (text : List ℕ) {s : List ℕ} {from end top : ℕ} where
 
     pub by-zero : {p e₂ : ℕ} → j .number ≡ 0 → j .word ≡ 0 → e₂ ≡ end - 2 → p ≡ getD s e₂ 0 → p < 2 ^ 32
         → JudgesBy text s from end top (record { word = 0; number = 11; place = p })
-    by-zero {p} {e₂} n w q e f = judges-by l (f, omega arith) (λ sc c sh fine h en.
-        a-zero c (judge text sc c) n w (e ∙ ap (λ (k : ℕ). getD s k 0) q ∙ place-there c fine h en) (g .by sc from c sh fine h en))
+    by-zero {p} {e₂} n w q e f = judges-by l (f, omega arith) (λ sc c sh fine h en. a-zero c (judge text sc c) n w
+        (rw (e, q, place-there c fine h en)) (g .by sc from c sh fine h en))
 
 -- ---- the loop over items
 
@@ -181,7 +181,7 @@ module _ (text : List ℕ) {s : List ℕ} {end top : ℕ} {st : State} (n : Node
 misplaced-then : (text : List ℕ) (sc : Scope) (l : Label) (ls : List Label)
     → misplaced text sc (l ∷ []) ++ misplaced text sc ls ≡ misplaced text sc (l ∷ ls)
 unfolding misplaced
-misplaced-then text sc (T.case p c) ls = ap (λ (z : List Fault). z ++ misplaced text sc ls) (append-nil (fault p 12 ++ faultsOf (judge text sc c)))
+misplaced-then text sc (T.case p c) ls = cc (append-nil (fault p 12 ++ faultsOf (judge text sc c)))
 misplaced-then text sc (T.default p) ls = refl
 
 module _ (text : List ℕ) {s : List ℕ} {from end top : ℕ} (st₀ : State) where

@@ -32,14 +32,14 @@ sameBytes-length (a ∷ x) (b ∷ y) h = rw (sameBytes-length x y (λ e. h (ap s
 cut : (n : ℕ) (x : List ℕ) → take n x ≡ take (min n (length x)) x
 cut zero x = simp unary-clauses
 cut (suc n) [] = simp unary-clauses
-cut (suc n) (b ∷ x) = simp unary-clauses (ap (λ (l : List ℕ). b ∷ l) (cut n x))
+cut (suc n) (b ∷ x) = simp unary-clauses (rw (cut n x))
 
 module _ (text : List ℕ) (p q n : ℕ) where
   spelt : (p : ℕ) → take n (drop p text) ≡ take (min n (length text - p)) (drop p text)
-  spelt p = cut n (drop p text) ∙ ap (λ (k : ℕ). take (min n k) (drop p text)) (length-drop p text)
+  spelt p = rw (cut n (drop p text), length-drop p text)
 
   width : (p : ℕ) → length (take n (drop p text)) ≡ min n (length text - p)
-  width p = length-take n (drop p text) ∙ ap (λ (k : ℕ). min n k) (length-drop p text)
+  width p = rw (length-take n (drop p text), length-drop p text)
 
   pub not-long : {a b : ℕ} → a ≡ min n (length text - p) → b ≡ min n (length text - q) → (a ≡ b → ⊥)
       → false ≡ sameBytes (take n (drop p text)) (take n (drop q text))
@@ -48,22 +48,19 @@ module _ (text : List ℕ) (p q n : ℕ) where
   pub long : {a b : ℕ} → a ≡ min n (length text - p) → b ≡ min n (length text - q) → a ≡ b
       → sameBytes (take a (drop p text)) (take a (drop q text)) ≡ sameBytes (take n (drop p text)) (take n (drop q text))
   long {a} {b} ea eb h =
-      let x : take a (drop p text) ≡ take n (drop p text) = ap (λ (k : ℕ). take k (drop p text)) ea ∙ sym (spelt p) in
-      let y : take a (drop q text) ≡ take n (drop q text) = ap (λ (k : ℕ). take k (drop q text)) (h ∙ eb) ∙ sym (spelt q) in
-      ap (λ (l : List ℕ). sameBytes l (take a (drop q text))) x ∙ ap (λ (l : List ℕ). sameBytes (take n (drop p text)) l) y
+      let x : take a (drop p text) ≡ take n (drop p text) = rw (ea, spelt p) in let y : take a (drop q text) ≡ take n (drop q text)
+      = rw (h, eb, spelt q) in
+      rw (x, y)
 
 -- names of other widths, and of the same
 pub other-width : (text : List ℕ) (x place width : ℕ) → (x % 65536 ≡ width → ⊥)
     → false ≡ sameName text (named (x / 65536) (x % 65536)) (named place width)
-other-width text x place width h =
-    sym (ap (λ (t : Bool). t && sameBytes (take (x % 65536) (drop (x / 65536) text)) (take width (drop place text))) (ne-eqb (x % 65536) width h))
+other-width text x place width h = sym (rw (ne-eqb (x % 65536) width h))
 
 pub same-width : (text : List ℕ) (x place width : ℕ) {t : Bool} → x % 65536 ≡ width
     → t ≡ sameBytes (take width (drop (x / 65536) text)) (take width (drop place text))
     → t ≡ sameName text (named (x / 65536) (x % 65536)) (named place width)
-same-width text x place width h e =
-    e ∙ ap (λ (k : ℕ). sameBytes (take k (drop (x / 65536) text)) (take width (drop place text))) (sym h)
-    ∙ sym (ap (λ (t : Bool). t && sameBytes (take (x % 65536) (drop (x / 65536) text)) (take width (drop place text))) (eq-eqb (x % 65536) width h))
+same-width text x place width h e = cc (eq-eqb (x % 65536) width h)
 
 -- the bytes up to one, by that one
 last-same : (i : ℕ) (x y : List ℕ) → i < length x → i < length y → getD x i 0 ≡ getD y i 0
@@ -141,7 +138,7 @@ shows-low (mark h e v z) = v
 shows-low (name h e v p f c u) = v
 
 get-as : (s : List ℕ) {i j : ℕ} → i ≡ j → getD s i 0 ≡ getD s j 0
-get-as s e = ap (λ (k : ℕ). getD s k 0) e
+get-as s e = rw e
 
 module _ (text s : List ℕ) (leaf at : ℕ) where
   pub at-outer : {sc : Scope} → Shows s at sc → at < 2 → lookup text sc (nameAt s leaf) ≡ unknown
@@ -184,8 +181,7 @@ module _ (text s : List ℕ) (leaf at : ℕ) where
       told b {n} {t} e y fine f =
           let g : at - 2 ≡ b = omega arith in let v : x ≡ packed n = rx ∙ get-as s g ∙ y in let h : x / 65536 ≡ n .place = omega arith in
           let l : x % 65536 ≡ n .width = omega arith in
-          f ∙ ap (λ (k : ℕ). sameName text (named k (x % 65536)) (named place width)) h ∙ ap (λ (k : ℕ). sameName text (named (n .place) k)
-          (named place width)) l ∙ ap (λ (m : Name). sameName text n m) sought
+          cc
 
       code-is : (b : ℕ) (w : Meaning) → at ≡ b + 2 → getD s (b + 1) 0 ≡ code w → z ≡ code w
       code-is b w e y = let g : at - 2 + 1 ≡ b + 1 = omega arith in r ∙ get-as s g ∙ y
@@ -199,8 +195,7 @@ module _ (text s : List ℕ) (leaf at : ℕ) where
           record {
             rest = sc;
             shows = at-as (omega arith) h;
-            same = ap (λ (t : Bool). cond t (known w) (lookup text sc (nameAt s leaf)))
-                (sym (told b e p y f));
+            same = cc (told b e p y f);
           }
 
       pub at-found : {sc : Scope} → Shows s at sc → true ≡ sameName text (named (x / 65536) (x % 65536)) (named place width)
@@ -208,8 +203,7 @@ module _ (text s : List ℕ) (leaf at : ℕ) where
       unfolding lookup found
       at-found (nothing e) f = absurd (omega arith)
       at-found (mark {below = b} h e v y) f = absurd (not-mark b e y)
-      at-found (name {below = b} {sc} {n} {w} h e v p y c u) f =
-          code-is b w e c ∙ ap (λ (t : Bool). found (cond t (known w) (lookup text sc (nameAt s leaf)))) (told b e p y f)
+      at-found (name {below = b} {sc} {n} {w} h e v p y c u) f = cc (code-is b w e c, told b e p y f)
 
       pub in-other : {sc : Scope} → Shows s at sc → false ≡ sameName text (named (x / 65536) (x % 65536)) (named place width)
           → Left (λ (k : Scope). inBlock text k (nameAt s leaf)) s (at - 2) sc
@@ -220,8 +214,7 @@ module _ (text s : List ℕ) (leaf at : ℕ) where
           record {
             rest = sc;
             shows = at-as (omega arith) h;
-            same = ap (λ (t : Bool). cond t (known w) (inBlock text sc (nameAt s leaf)))
-                (sym (told b e p y f));
+            same = cc (told b e p y f);
           }
 
       pub in-found : {sc : Scope} → Shows s at sc → true ≡ sameName text (named (x / 65536) (x % 65536)) (named place width)
@@ -229,8 +222,7 @@ module _ (text s : List ℕ) (leaf at : ℕ) where
       unfolding inBlock found
       in-found (nothing e) f = absurd (omega arith)
       in-found (mark {below = b} h e v y) f = absurd (not-mark b e y)
-      in-found (name {below = b} {sc} {n} {w} h e v p y c u) f =
-          code-is b w e c ∙ ap (λ (t : Bool). found (cond t (known w) (inBlock text sc (nameAt s leaf)))) (told b e p y f)
+      in-found (name {below = b} {sc} {n} {w} h e v p y c u) f = cc (code-is b w e c, told b e p y f)
 
 -- a manifest that is found is a word
 abbrev pub Held : Found → Type 0
@@ -280,7 +272,7 @@ module _ {s s′ : List ℕ} {top first m base : ℕ} (h : Pushed s s′ top fir
   }
     where
       other : (i : ℕ) → (i ≡ top → ⊥) → (i ≡ top + 1 → ⊥) → getD s′ i 0 ≡ getD s i 0
-      other i a b = ap (λ (z : List ℕ). getD z i 0) (h .is) ∙ getD-set-other (set s top first) (top + 1) i m 0 b ∙ getD-set-other s top i first 0 a
+      other i a b = rw (h .is, getD-set-other (set s top first) (top + 1) i m 0 b, getD-set-other s top i first 0 a)
 
   push-first : getD s′ top 0 ≡ first
   push-first =
@@ -310,7 +302,7 @@ pub pushed-leaf : {s s′ : List ℕ} {top leaf m width place : ℕ} → Pushed 
     → place ≡ getD s (leaf + 2) 0 → FineName (nameAt s leaf) → PushedName s s′ top leaf m
 pushed-leaf {s} {top = top} {leaf} {m} {width} {place} h ew ep f =
     let e : place * 65536 + width ≡ packed (nameAt s leaf) = omega arith in
-    record { pushed = record { is = h .is ∙ ap (λ (z : ℕ). set (set s top z) (top + 1) m) e }; fine = f }
+    record { pushed = record { is = rw (h .is, e) }; fine = f }
 
 pub data Order (n m : ℕ) : Type 0 where
   lt : n < m → Order n m

@@ -48,12 +48,12 @@ use Rattle.compiler.proofs.Guards.{IsClosed, expression-closed, kind-of
 pub place-of : {s x : List ℕ} {lo end : ℕ} (u : IsClosed x) → Lies s lo x → end ≡ lo + length x → getD s (end - 2) 0 ≡ u .place
 place-of {s} {x} {lo} u h e =
     let w = u .inner in let v = u .value in let p = u .place in let k = u .kind in
-    place-is w v p k (rw (u .is) at h) (e ∙ ap (λ (l : List ℕ). lo + length l) (u .is))
+    place-is w v p k (rw (u .is) at h) (rw (e, u .is))
 
 pub value-of : {s x : List ℕ} {lo end : ℕ} (u : IsClosed x) → Lies s lo x → end ≡ lo + length x → getD s (end - 3) 0 ≡ u .value
 value-of {s} {x} {lo} u h e =
     let w = u .inner in let v = u .value in let p = u .place in let k = u .kind in
-    value-is w v p k (rw (u .is) at h) (e ∙ ap (λ (l : List ℕ). lo + length l) (u .is))
+    value-is w v p k (rw (u .is) at h) (rw (e, u .is))
 
 pub place-closed : (e : Expression) → expression-closed e .place ≡ placeOf e
 unfolding expression-closed placeOf shut
@@ -162,11 +162,8 @@ monadic-other text {s} {s₁} {t} {t₁} {o} {end} {here} {st} {r} n1 n2 n3 n4 g
       record {
         keeps = x .keeps;
         did =
-            did-as (exprSays here (resolvedMonadic o E)) _ (x .did)
-            (same-eq (sym (append-nil _) ∙ ap (λ (z : List Fault). inExpression text sc (leavable here) h (y .tree) ++ z) (sym ef)))
-            (λ n v. code-is
-            (sym (append-nil _) ∙ ap (λ (z : List I.Item). exprCode (here .strings) h n E ++ z) (sym ea) ∙ ap (exprCode (here .strings) h n)
-            (sym em)) (ap (ofExpr h) (sym em)) (ap exprLabels (sym em))) (omega arith);
+            did-as (exprSays here (resolvedMonadic o E)) _ (x .did) (same-eq (simp (append-nil, ef))) (λ n v. code-is (simp (append-nil, ea, em))
+            (ap (ofExpr h) (sym em)) (ap exprLabels (sym em))) (omega arith);
       };
 }
 
@@ -184,7 +181,7 @@ module _ (say : Here → Side → ℕ → Code) (name place : ℕ) {m : ℕ} {t 
   of-local i es q f x N.unknown e = absurd (omega arith)
   of-local i es q f x (N.known (N.local k)) e =
       let z : m / 4 ≡ k = omega arith in
-      emits-did _ f (λ n. es x k n ∙ ap (λ (j : ℕ). record { items = i j ∷ []; heights = []; labels = 0 }) (sym z))
+      emits-did _ f (λ n. rw (es x k n, z))
   of-local i es q f x (N.known (N.global k)) e = absurd (omega arith)
   of-local i es q f x (N.known (N.manifest k)) e = absurd (omega arith)
   of-local i es q f x (N.known (N.function k)) e = absurd (omega arith)
@@ -196,7 +193,7 @@ module _ (say : Here → Side → ℕ → Code) (name place : ℕ) {m : ℕ} {t 
   of-global i es q f x (N.known (N.local k)) e = absurd (omega arith)
   of-global i es q f x (N.known (N.global k)) e =
       let z : m / 4 ≡ k = omega arith in
-      emits-did _ f (λ n. es x k n ∙ ap (λ (j : ℕ). record { items = i j ∷ []; heights = []; labels = 0 }) (sym z))
+      emits-did _ f (λ n. rw (es x k n, z))
   of-global i es q f x (N.known (N.manifest k)) e = absurd (omega arith)
   of-global i es q f x (N.known (N.function k)) e = absurd (omega arith)
 
@@ -346,9 +343,7 @@ module _ (text : List ℕ) {s s′ t t′ : List ℕ} {end : ℕ} (place : ℕ) 
         let x = g .by (λ sc e. exprSays here (addressOf (sideOf (expression text sc (here .height) e)))) .by y in
         record {
           keeps = x .keeps;
-          did = did-as _ _ (x .did)
-              (same-eq (ap (λ (w : Side). inExpression text sc (leavable here) (here .height) e ++ unlessSide place w) (sym z))) (λ m v. refl)
-              (omega arith);
+          did = did-as _ _ (x .did) (same-eq (rw z)) (λ m v. refl) (omega arith);
         };
   }
 
@@ -359,15 +354,13 @@ module _ (text : List ℕ) {s t t′ : List ℕ} {end : ℕ} (place : ℕ) {here
   address-name {m} q lk f = record {
     by = λ y. let u = is-name (find n nd q y) in let sc = y .scope in let w = lookup text sc (u .name) in let a : n .inner + 2 ≡ end - 2
         = omega arith in let b : n .inner + 1 ≡ end - 3 = omega arith in let ex : nameAt s (n .inner) ≡ u .name
-        = ap (λ (k : ℕ). named k (getD s (n .inner + 1) 0)) (ap (λ (k : ℕ). getD s k 0) a ∙ u .place-of) ∙ ap (λ (k : ℕ). named (u .name .place) k)
-        (ap (λ (k : ℕ). getD s k 0) b ∙ u .width-of) in
+        = rw (a, u .place-of, b, u .width-of) in
         rw (u .same)
         (record {
           keeps = keeps-all;
-          did = more _
-              (subst (λ (p : ℕ). Did (onFound w (fault p 8) [] ++ unlessSide place (sideOf (ofMeaning w)))
-              (exprSays here (addressOf (sideOf (ofMeaning w)))) 0 t t′ st r) (nd .place ∙ u .place-of)
-              (f .by here w (lk .by sc (y .shows) ∙ ap (λ (z : Name). found (lookup text sc z)) ex))) (omega arith);
+          did = more _ (subst (λ (p : ℕ). Did (onFound w (fault p 8) [] ++ unlessSide place (sideOf (ofMeaning w)))
+              (exprSays here (addressOf (sideOf (ofMeaning w)))) 0 t t′ st r) (nd .place ∙ u .place-of) (f .by here w
+              (rw (lk .by sc (y .shows), ex)))) (omega arith);
         });
   }
 
@@ -452,12 +445,7 @@ module _ {s : List ℕ} {end : ℕ} {here : Here} {st : State} (n : Node) (nd : 
             (record {
               keeps = keeps-then (x .keeps) (w .keeps);
               did = did-as (exprSays here (addressOf (sideOf E))) _ (did-put (did-then (did-emit (x .did) f) (w .did)) f₂)
-                  (same-eq (sym ef ∙ sym (append-nil _) ∙ ap (λ (e : Expr). (inExpression text sc L (under (U .list) h) p ++ inSuffixes text sc L h
-                  (U .list)) ++ unlessSide place (sideOf e)) (sym er))) (λ k v. code-is (append-assoc (exprCode (here .strings) h k A ++ (G.SP h
-                  ∷ [])) (exprCode (here .strings) (h + 1) (k + exprLabels A) B) (G.AIP h ∷ []) ∙ append-assoc (exprCode (here .strings) h k A) (G.SP
-                  h ∷ []) (exprCode (here .strings) (h + 1) (k + exprLabels A) B ++ (G.AIP h ∷ [])) ∙ ap (λ (e : Expr). exprCode (here .strings) h k
-                  (addressOf (sideOf e))) (sym er)) (append-assoc (ofExpr h A) ((h + 1) ∷ []) (ofExpr (h + 1) B) ∙ ap (λ (e : Expr). ofExpr h
-                  (addressOf (sideOf e))) (sym er)) (ap (λ (e : Expr). exprLabels (addressOf (sideOf e))) (sym er))) (omega (
+                  (same-eq (simp (ef, append-nil, er))) (λ k v. code-is (simp (append-assoc, er)) (simp (append-assoc, er)) (rw er)) (omega (
                     arith,
                     applied-ends Y,
                     indexed-middle y,
@@ -499,8 +487,7 @@ module _ (text : List ℕ) {s s′ t t′ : List ℕ} {end : ℕ} (place : ℕ) 
         let x = g .by (λ sc e. targetSays here (targetOf (sideOf (expression text sc (h + 1) e)))) .by y in
         record {
           keeps = x .keeps;
-          did = did-as _ _ (x .did)
-              (same-eq (ap (λ (w : Side). inExpression text sc (leavable here) (h + 1) e ++ unlessSide place w) (sym z))) (λ m v. refl) (omega arith);
+          did = did-as _ _ (x .did) (same-eq (rw z)) (λ m v. refl) (omega arith);
         };
   }
 
@@ -511,15 +498,13 @@ module _ (text : List ℕ) {s t t′ : List ℕ} {end : ℕ} (place : ℕ) (here
   side-name {m} q lk f = record {
     by = λ y. let u = is-name (find n nd q y) in let sc = y .scope in let w = lookup text sc (u .name) in let h = here .height in let a : n .inner + 2
         ≡ end - 2 = omega arith in let b : n .inner + 1 ≡ end - 3 = omega arith in let ex : nameAt s (n .inner) ≡ u .name
-        = ap (λ (k : ℕ). named k (getD s (n .inner + 1) 0)) (ap (λ (k : ℕ). getD s k 0) a ∙ u .place-of) ∙ ap (λ (k : ℕ). named (u .name .place) k)
-        (ap (λ (k : ℕ). getD s k 0) b ∙ u .width-of) in
+        = rw (a, u .place-of, b, u .width-of) in
         rw (u .same)
         (record {
           keeps = keeps-all;
-          did = more _
-              (subst (λ (p : ℕ). Did (onFound w (fault p 8) [] ++ unlessSide place (sideOf (ofMeaning w)))
-              (targetSays here (targetOf (sideOf (ofMeaning w)))) 0 t t′ st r) (nd .place ∙ u .place-of)
-              (f .by here w (lk .by sc (y .shows) ∙ ap (λ (z : Name). found (lookup text sc z)) ex))) (omega arith);
+          did = more _ (subst (λ (p : ℕ). Did (onFound w (fault p 8) [] ++ unlessSide place (sideOf (ofMeaning w)))
+              (targetSays here (targetOf (sideOf (ofMeaning w)))) 0 t t′ st r) (nd .place ∙ u .place-of) (f .by here w
+              (rw (lk .by sc (y .shows), ex)))) (omega arith);
         });
   }
 
@@ -575,14 +560,7 @@ module _ {s : List ℕ} {end : ℕ} {here : Here} {st : State} (n : Node) (nd : 
                 keeps = keeps-then (x .keeps) (w .keeps);
                 did = did-as (targetSays here (targetOf (sideOf E))) _ (did-after f₀ (did-put (did-then (did-emit (x .did) f) (w .did)) f₂))
                     (same-eq (sym ef ∙ sym (append-nil _) ∙ ap (λ (e : Expr). (inExpression text sc L (under (U .list) k) p ++ inSuffixes text sc L k
-                    (U .list)) ++ unlessSide place (sideOf e)) (sym er))) (λ v e. code-is (ap (λ (z : List I.Item). G.SP h ∷ z) (append-assoc
-                    (exprCode (here .strings) k v A ++ (G.SP k ∷ [])) (exprCode (here .strings) (k + 1) (v + exprLabels A) B) Z ∙ append-assoc
-                    (exprCode (here .strings) k v A) (G.SP k ∷ []) (exprCode (here .strings) (k + 1) (v + exprLabels A) B ++ Z)
-                    ∙ ap (λ (i : ℕ). exprCode (here .strings) k v A ++ (G.SP k ∷ (exprCode (here .strings) i (v + exprLabels A) B ++ Z))) kk)
-                    ∙ ap (λ (e : Expr). G.targetCode (here .strings) h v (targetOf (sideOf e))) (sym er)) (ap (λ (z : List ℕ). k ∷ z)
-                    (append-assoc (ofExpr k A) ((k + 1) ∷ []) (ofExpr (k + 1) B) ∙ ap (λ (i : ℕ). ofExpr k A ++ (i ∷ ofExpr i B)) kk)
-                    ∙ ap (λ (e : Expr). ofTarget h (targetOf (sideOf e))) (sym er)) (ap (λ (e : Expr). G.targetLabels (targetOf (sideOf e)))
-                    (sym er))) (omega (arith, applied-ends Y, indexed-middle n nd q m y₀, length-append (encode p) (encodeSuffixes (u .init))));
+                    (U .list)) ++ unlessSide place (sideOf e)) (sym er))) (λ v e. code-is (simp (append-assoc, kk, er)) (simp (append-assoc, kk, er)) (rw er)) (omega (arith, applied-ends Y, indexed-middle n nd q m y₀, length-append (encode p) (encodeSuffixes (u .init))));
               });
         }
 

@@ -27,7 +27,7 @@ passed-next {table} {label} {n} {k} e f p = record { none = λ m h q. go m (orde
   where
     go : (m : ℕ) → Order m n → m < n + 1 → getD table m 0 ≡ label → ⊥
     go m (lt l) h q = p .none m l q
-    go m (ge l) h q = let z : m ≡ n = omega arith in f (e ∙ ap (λ (j : ℕ). getD table j 0) (sym z) ∙ q)
+    go m (ge l) h q = let z : m ≡ n = omega arith in f (cc)
 
 pub passed-found : {table : List ℕ} {label n k : ℕ} → n < 400 → k ≡ getD table n 0 → k ≡ label → FindsGlobal table label n
 passed-found h e f = record { is = λ _. sym e ∙ f; none = λ l. absurd (omega arith) }
@@ -75,7 +75,7 @@ starts-then l (f ∷ a) b =
   where
     go : (s : Start) (is js : List I.Item) → startsCode (suc l) (a ++ b) ≡ is ++ js → startIn s l (startsCode (suc l) (a ++ b)) ≡ startIn s l is ++ js
     go nowhere is js e = e
-    go (inGlobal n) is js e = ap (λ (z : List I.Item). I.global n l ∷ z) e
+    go (inGlobal n) is js e = rw e
 
 starts-at : (a : List Fun) (f : Fun) (b : List Fun) → getD (startsOf (a ++ (f ∷ b))) (length a) nowhere ≡ f .start
 unfolding startsOf
@@ -103,9 +103,9 @@ starts-next {table} {functions} {k} {at} {x} {r} {t} {t₁} {t₂} h w q =
         → (rest : List Fun) → y .rest ≡ rest → StartsPart (k + 1) at r t t₂ fs
     go fs l e s y [] z = absurd (omega (arith, ap length (y .all), length-append (y .done) (y .rest), ap length z))
     go fs l e s y (f ∷ b) z =
-        let a : fs ≡ y .done ++ (f ∷ b) = y .all ∙ ap (λ (g : List Fun). y .done ++ g) z in let j : k + 1 ≡ suc k = omega arith in
-        let j′ : 1 + length (y .done) ≡ k + 1 = omega arith in let g : getD (startsOf fs) k nowhere ≡ f .start = rw (a, y .count)
-        (starts-at (y .done) f b) in let o : StartsAt table (k + 1) (f .start) = rw j (one-start (f .start) l s g) in
+        let a : fs ≡ y .done ++ (f ∷ b) = rw (y .all, z) in let j : k + 1 ≡ suc k = omega arith in let j′ : 1 + length (y .done) ≡ k + 1
+        = omega arith in let g : getD (startsOf fs) k nowhere ≡ f .start = rw (a, y .count) (starts-at (y .done) f b) in let o : StartsAt table
+        (k + 1) (f .start) = rw j (one-start (f .start) l s g) in
         record {
           done = y .done ++ (f ∷ []);
           rest = b;
@@ -121,6 +121,5 @@ starts-end {table} {functions} {k} {at} {x} {t} {t′} h q = record { by = λ fs
   where
     go : (fs : List Fun) → functions ≡ length fs → (y : StartsPart k at x t t′ fs) → (rest : List Fun) → y .rest ≡ rest
         → Puts (lines (startsCode 1 fs)) at x t t′
-    go fs e y [] z =
-        puts-as (y .puts) (ap (λ (g : List Fun). lines (startsCode 1 g)) (y .all ∙ ap (λ (g : List Fun). y .done ++ g) z ∙ append-nil (y .done)))
+    go fs e y [] z = puts-as (y .puts) (simp (y .all, z, append-nil))
     go fs e y (f ∷ b) z = absurd (omega (arith, ap length (y .all), length-append (y .done) (y .rest), ap length z))

@@ -92,8 +92,7 @@ spelling-begin = record { by = λ cs width e. record { done = []; rest = cs; wid
 characters-then : (a b : List ℕ) → charactersText (a ++ b) ≡ charactersText a ++ charactersText b
 unfolding charactersText
 characters-then [] b = refl
-characters-then (c ∷ a) b =
-    ap (λ (l : List ℕ). characterText c ++ l) (characters-then a b) ∙ sym (append-assoc (characterText c) (charactersText a) (charactersText b))
+characters-then (c ∷ a) b = simp (characters-then a b, append-assoc)
 
 pub spelling-next : {source : List ℕ} {from i at x r c w : ℕ} {t t₁ t₂ : List ℕ} → character 34 (drop i source) ≡ is c w
     → Puts (characterText c) x r t₁ t₂
@@ -108,10 +107,9 @@ spelling-next {source} {from} {i} {at} {x} {r} {c} {w} {t} {t₁} {t₂} e p q =
           done = k .done ++ (c ∷ []);
           rest = n .rest;
           width = n .width;
-          all = k .all ∙ ap (λ (l : List ℕ). k .done ++ l) (n .are) ∙ sym (append-assoc (k .done) (c ∷ []) (n .rest));
+          all = simp (k .all, n .are, append-assoc);
           left = n .more;
-          puts = puts-as (puts-then (k .puts) p)
-              (characters-then (k .done) (c ∷ []) ∙ ap (λ (l : List ℕ). charactersText (k .done) ++ l) (append-nil (characterText c)));
+          puts = puts-as (puts-then (k .puts) p) (simp (characters-then (k .done) (c ∷ []), append-nil));
         }
 
 pub spelling-end : {source : List ℕ} {from i at x : ℕ} {t t′ : List ℕ} → character 34 (drop i source) ≡ closing
@@ -121,7 +119,7 @@ spelling-end {source} {from} {i} {at} {x} {t} {t′} e q = record { by = λ cs w
     go : (cs : List ℕ) → CharactersPart source i at x t t′ cs → Puts (charactersText cs) at x t t′
     go cs k =
         let g : k .rest ≡ [] = closed-end 34 255 source i (k .left) e in
-        puts-as (k .puts) (ap charactersText (k .all ∙ ap (λ (l : List ℕ). k .done ++ l) g ∙ append-nil (k .done)))
+        puts-as (k .puts) (ap charactersText (simp (k .all, g, append-nil)))
 
 -- what is closed goes on to its quote, and has no mistake before it
 pub spelling-ended : {source : List ℕ} {from i at x : ℕ} {t t′ : List ℕ} → character 34 (drop i source) ≡ ended
@@ -138,10 +136,8 @@ pub string-put : {source : List ℕ} {place at a b c d r : ℕ} {t t₁ t₂ t�
     → WritesCharacters source (place + 1) b c t₂ t₃ → Puts (34 ∷ []) c d t₃ t₄ → Puts (10 ∷ []) d r t₄ t₅ → WritesString source place at r t t₅
 unfolding line render
 string-put {source} {place} {at} {r = r} {t = t} {t₅ = t₅} p q w u v = record {
-  by = λ e.
-      let z : place + 1 ≡ suc place = omega arith in
-      puts-as (puts-then p (puts-then q (puts-then (w .by (e .characters) (e .width) (rw z (e .closes))) (puts-then u v))))
-      (ap (λ (l : List ℕ). 67 ∷ 34 ∷ l) (append-assoc (charactersText (e .characters)) (34 ∷ []) (10 ∷ [])));
+  by = λ e. let z : place + 1 ≡ suc place = omega arith in
+      puts-as (puts-then p (puts-then q (puts-then (w .by (e .characters) (e .width) (rw z (e .closes))) (puts-then u v)))) (simp append-assoc);
 }
 
 pub symbol-none : {source : List ℕ} {kind place l at : ℕ} {t : List ℕ} → (kind ≡ STRING → ⊥) → WritesSymbol source kind place l at at t t
@@ -154,9 +150,7 @@ pub symbol-put : {source : List ℕ} {kind place l at x r : ℕ} {t t₁ t₂ : 
 unfolding symbolCode lines
 symbol-put {source} {kind} {place} {l} {at} {x} {r} {t} {t₁} {t₂} q p w =
     record {
-      by = λ e. let z = e q in
-          rw (eq-eqb kind STRING q, z .closes)
-          (puts-as (puts-then p (w .by z)) (ap (λ (l′ : List ℕ). line (I.label l) ++ l′) (append-nil (line (I.string (z .characters))))));
+      by = λ e. let z = e q in rw (eq-eqb kind STRING q, z .closes) (puts-as (puts-then p (w .by z)) (simp append-nil));
     }
 
 -- ---- loops over the symbols: those from i on
@@ -304,10 +298,12 @@ listing-next {source} {s} {count} {first} {i} {n} {at} {x} {r} {k} {p} {d} {t} {
         all = y .all
             ∙ ap (λ (z : List (List ℕ)). y .done ++ z) (ap (stringsAmong source) m ∙ of-symbol-first source _ (symbolsFrom count s (i + 1)) ∙ rw (ek, ep) refl)
             ∙ sym (append-assoc (y .done) o (stringsAmong source (symbolsFrom count s (i + 1))));
-        puts = puts-as (puts-then (y .puts) (w .by f))
-            (ap lines (strings-then first (y .done) o) ∙ lines-then (stringsCode first (y .done)) (stringsCode (first + length (y .done)) o)
-            ∙ ap (λ (z : List I.Item). lines (stringsCode first (y .done)) ++ lines z)
-            (ap (λ (j : ℕ). stringsCode j o) (sym (y .next)) ∙ sym (of-symbol-code source k p n)));
+        puts = puts-as (puts-then (y .puts) (w .by f)) (cc (
+          strings-then first (y .done) o,
+          lines-then (stringsCode first (y .done))
+              (stringsCode (first + length (y .done)) o),
+          of-symbol-code source k p n,
+        ));
       };
 }
 
@@ -315,7 +311,5 @@ pub listing-end : {source s : List ℕ} {count first i n at x : ℕ} {t t′ : L
     → WritesStrings source s count first at x t t′
 unfolding stringsAmong
 listing-end {source} {s} {count} {first} {i} {n} {at} {x} {t} {t′} h q = record {
-  by = λ e. let y = q .by e in
-      puts-as (y .puts) (ap (λ (z : List (List ℕ)). lines (stringsCode first z))
-      (y .all ∙ ap (λ (z : List Symbol). y .done ++ stringsAmong source z) (symbols-none count s i h) ∙ append-nil (y .done)));
+  by = λ e. let y = q .by e in puts-as (y .puts) (simp (y .all, symbols-none count s i h, append-nil));
 }

@@ -83,9 +83,8 @@ module _ (text t₀ : List ℕ) (w : Ways) (l₀ : ℕ) {s₀ : List ℕ} {from 
 -- (a, b), (c, d) as (a, c), (b, d)
 same-crossed : (a b c d : List Fault) → Same ((a ++ b) ++ (c ++ d)) ((a ++ c) ++ (b ++ d))
 same-crossed a b c d =
-    same-then (same-eq (append-assoc a b (c ++ d) ∙ ap (λ (z : List Fault). a ++ z) (sym (append-assoc b c d))))
-    (same-then (same-both (same-refl {a = a}) (same-both (same-swap b c) (same-refl {a = d})))
-    (same-eq (ap (λ (z : List Fault). a ++ z) (append-assoc c b d) ∙ sym (append-assoc a c (b ++ d)))))
+    same-then (same-eq (simp append-assoc)) (same-then (same-both (same-refl {a = a}) (same-both (same-swap b c) (same-refl {a = d})))
+    (same-eq (simp append-assoc)))
 
 cases-same : (text : List ℕ) (sc : Scope) (l : Leavable) (h : ℕ) (before : List Label) (cs : Commands)
     → Same (labelFaults text sc before cs ++ casesFaults text sc l h cs) (inCases text sc l h before cs)
@@ -226,18 +225,14 @@ module _ {s : List ℕ} {end : ℕ} {here : Here} {st : State} (n : Node) (nd : 
             let rest : Did (F ++ casesFaults text sc (leavableBy (inSwitch A ways) here) h (u .list)) (switchSays here ways CS)
             (k + 1 + (0 + 2 * entriesIn (u .list))) t₁ t₄ a r =
             did-at (switchSays here ways CS) _ (did-fresh e (did-put (did-then (table-did h j w (switch-labels y)) (z .did)) f)) same-refl
-            (λ p. code-is (append-assoc (tableItems first A CS) (G.casesCode S h first (A + (k + 1) + 0) (exits (inSwitch A ways)) CS)
-            (I.label A ∷ []) ∙ ap (λ (i : ℕ). tableItems i A CS ++ (G.casesCode S h i (A + (k + 1) + 0) (exits (inSwitch A ways)) CS
-            ++ (I.label A ∷ []))) ef ∙ ap (λ (i : ℕ). tableItems (A + 1) A CS ++ (G.casesCode S h (A + 1) i (exits (inSwitch A ways)) CS
-            ++ (I.label A ∷ []))) en) refl (omega arith)) (omega arith) in
+            (λ p. code-is (rw (append-assoc, ef, en)) refl (omega arith)) (omega arith) in
             subst (λ (p : Unlabelled). Result (inUnlabelled text sc lv h p) (cmdSays here ways (unlabelled text sc h p))
             (length (encodeUnlabelled (y .tree))) (y .base) here s s₂ t t₄ st r) (sym (u .same))
             (record {
               keeps = keeps-then (x .keeps) (z .keeps);
               did = did-as (cmdSays here ways (R.switch E CS)) _ (did-then (with-ways text sc here ways h (u .value) (x .did)) rest)
-                  (same-both (same-refl {a = inExpression text sc lv h (u .value)})
-                  (same-then (same-eq (ap (λ (p : Leavable). F ++ casesFaults text sc p h (u .list)) ls)) (cases-same text sc (Y.inSwitch lv) h []
-                  (u .list)))) (λ p c. code-is refl refl (omega arith)) (omega arith);
+                  (same-both (same-refl {a = inExpression text sc lv h (u .value)}) (same-then (same-eq (rw ls)) (cases-same text sc (Y.inSwitch lv) h
+                  [] (u .list)))) (λ p c. code-is refl refl (omega arith)) (omega arith);
             });
       }
 

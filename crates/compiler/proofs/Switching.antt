@@ -205,7 +205,7 @@ unfolding caseItems
 one-case-is {s} {end} {i} {k} ei ek q = record { few = omega arith; by = go }
   where
     z : getD s (end - 1) 0 ≡ 28
-    z = ap (λ (x : ℕ). getD s x 0) (sym ei) ∙ sym ek ∙ q
+    z = cc
 
     go : (l : Label) → LabelAt s end l → 1 ≡ caseItems (l ∷ [])
     go (T.case p c) (aCase a e h en f) = refl
@@ -216,7 +216,7 @@ unfolding caseItems
 one-case-not {s} {end} {i} {k} ei ek q = record { few = omega arith; by = go }
   where
     go : (l : Label) → LabelAt s end l → 0 ≡ caseItems (l ∷ [])
-    go (T.case p c) (aCase a e h en f) = absurd (q (ek ∙ ap (λ (x : ℕ). getD s x 0) ei ∙ a))
+    go (T.case p c) (aCase a e h en f) = absurd (q (rw (ek, ei, a)))
     go (T.default p) (aDefault a e) = refl
 
 -- ---- DEFAULT among labels, and its command
@@ -274,16 +274,14 @@ module _ (s : List ℕ) (end first done : ℕ) where
     unfolding defaultAmong
     default-found e p = record {
       by = λ lss r text sc. left-next (λ rest. k ≡ defaultAmong text sc first done lss) l n (p lss r)
-          (λ ls more z q g. sym
-          (g text sc ∙ ap (λ (x : Bool). cond x k (defaultAmong text sc (k + 1) done more)) (sym (h .by ls (i .by ls q) text sc) ∙ e))) .holds;
+          (λ ls more z q g. sym (cc (g text sc, h .by ls (i .by ls q) text sc))) .holds;
     }
 
     pub default-next : b ≡ false → (lss : List (List Label)) → DefaultPart at k lss → DefaultPart next (k + 1) lss
     unfolding defaultAmong
     default-next e lss p =
         left-next (λ rest. (text : List ℕ) (sc : Scope) → defaultAmong text sc first done lss ≡ defaultAmong text sc (k + 1) done rest) l n p
-        (λ ls more z q g text sc. g text sc ∙ ap (λ (x : Bool). cond x k (defaultAmong text sc (k + 1) done more))
-        (sym (h .by ls (i .by ls q) text sc) ∙ e))
+        (λ ls more z q g text sc. cc (g text sc, h .by ls (i .by ls q) text sc))
 
   pub default-end : {from at : ℕ} (k : ℕ) → end ≤ at → ((lss : List (List Label)) → Row (CommandAt s) s end from lss → DefaultPart at k lss)
       → FindsDefault s from end first done done
@@ -351,7 +349,7 @@ module _ (text : List ℕ) {s : List ℕ} {end top : ℕ} (n : Node) (nd : NodeA
       go : (sc : Scope) (x : Label) → Shows s top sc → LabelAt s end x → Sound text sc (x ∷ [])
           → Emits (G.pairsOf k (labelsOf text sc (x ∷ []))) [] t t₂ st r
       go sc (T.case p c) sh (aCase {lo = lo} a en h z f) (L.goodCase v w so) =
-          emits-as (emits-then d e) (sym (ap (λ (x : Judged). G.pairsOf k (goodCase x [])) (says-is (g .by sc lo c sh f h (nd .inner ∙ z)) w)))
+          emits-as (emits-then d e) (sym (rw (says-is (g .by sc lo c sh f h (nd .inner ∙ z)) w)))
       go sc (T.default p) sh (aDefault a en) so = absurd (omega arith)
 
 module _ (text : List ℕ) {s : List ℕ} {from end top : ℕ} (k : ℕ) (t₀ : List ℕ) (st₀ : State) where
@@ -474,8 +472,7 @@ sound-all text sc before (T.andCommand c cs) e =
 cases-are : (text : List ℕ) (sc : Scope) (ls : List Label) → Sound text sc ls → casesOf (labelsOf text sc ls) ≡ caseItems ls
 unfolding casesOf labelsOf caseItems
 cases-are text sc [] noLabel = refl
-cases-are text sc (T.case p c ∷ ls) (L.goodCase v e s) =
-    ap (λ (x : Judged). casesOf (goodCase x (labelsOf text sc ls))) e ∙ ap suc (cases-are text sc ls s)
+cases-are text sc (T.case p c ∷ ls) (L.goodCase v e s) = rw (e, cases-are text sc ls s)
 cases-are text sc (T.default p ∷ ls) (anyDefault s) = cases-are text sc ls s
 
 pub count-is : (text : List ℕ) (sc : Scope) (h : ℕ) (cs : Commands) → Sound text sc (flat (marks cs))
@@ -492,16 +489,14 @@ unfolding G.defaultOf caseList marks defaultAmong
 default-is text sc h l done T.noCommands = refl
 default-is text sc h l done (T.andCommand c cs) =
     let a : suc l ≡ l + 1 = omega arith in
-    ap (cond (hasDefault (labelsOf text sc (labelsBefore c))) l)
-    (ap (λ (k : ℕ). G.defaultOf k done (caseList text sc h cs)) a ∙ default-is text sc h (l + 1) done cs)
+    ap (cond (hasDefault (labelsOf text sc (labelsBefore c))) l) (rw (a, default-is text sc h (l + 1) done cs))
 
 pub table-is : (text : List ℕ) (sc : Scope) (h l : ℕ) (cs : Commands) → G.tableOf l (caseList text sc h cs) ≡ tableAmong text sc l (marks cs)
 unfolding G.tableOf caseList marks tableAmong
 table-is text sc h l T.noCommands = refl
 table-is text sc h l (T.andCommand c cs) =
     let a : suc l ≡ l + 1 = omega arith in
-    ap (λ (z : List I.Item). G.pairsOf l (labelsOf text sc (labelsBefore c)) ++ z)
-    (ap (λ (k : ℕ). G.tableOf k (caseList text sc h cs)) a ∙ table-is text sc h (l + 1) cs)
+    rw (a, table-is text sc h (l + 1) cs)
 
 pub table-gave : (text : List ℕ) {s : List ℕ} {from end top first done m d : ℕ} {t t₁ t₂ t₃ t₄ : List ℕ} {st a b c r : State}
     → Emits (G.X 23 ∷ []) [] t t₁ st a → CountsAll s from end m → Emits (G.D m ∷ []) [] t₁ t₂ a b → FindsDefault s from end first done d → Emits
@@ -509,14 +504,10 @@ pub table-gave : (text : List ℕ) {s : List ℕ} {from end top first done m d :
 table-gave text {s} {from} {end} {top} {first} {done} {m} {d} {t} {t₄ = t₄} {st} {r = r} x n e f g w = record {
   worst = k .worst;
   label = k .label;
-  by = λ y h none. let sc = y .scope in let cs = y .commands in let u = list-of y in let so = sound-all text sc [] cs none in
-      let en : m ≡ caseCount (caseList text sc h cs) = n .by (marks cs) (u .row) ∙ sym (count-is text sc h cs so) in
-      let ed : d ≡ G.defaultOf first done (caseList text sc h cs) = f .by (marks cs) (u .row) text sc ∙ sym (default-is text sc h first done cs) in
-      emits-as (emits-then x (emits-then e (emits-then g (w .by u so))))
-      (ap (λ (i : ℕ). G.X 23 ∷ G.D i ∷ G.DL d ∷ tableAmong text sc first (marks cs)) en ∙ ap
-      (λ (i : ℕ). G.X 23 ∷ G.D (caseCount (caseList text sc h cs)) ∷ G.DL i ∷ tableAmong text sc first (marks cs)) ed
-      ∙ ap (λ (z : List I.Item). G.X 23 ∷ G.D (caseCount (caseList text sc h cs)) ∷ G.DL (G.defaultOf first done (caseList text sc h cs)) ∷ z)
-      (sym (table-is text sc h first cs)));
+  by = λ y h none. let sc = y .scope in let cs = y .commands in let u = list-of y in let so = sound-all text sc [] cs none in let en : m ≡ caseCount
+      (caseList text sc h cs) = n .by (marks cs) (u .row) ∙ sym (count-is text sc h cs so) in let ed : d ≡ G.defaultOf first done
+      (caseList text sc h cs) = f .by (marks cs) (u .row) text sc ∙ sym (default-is text sc h first done cs) in
+      emits-as (emits-then x (emits-then e (emits-then g (w .by u so)))) (rw (en, ed, table-is text sc h first cs));
 }
   where
     k : Still st r

@@ -51,8 +51,7 @@ decided-alike {source} {s} {s′} {t} {t′} x e z =
 
 pub with-scratch : {source s s₀ s′ t t′ : List ℕ} {a : Compiled} → length s ≡ length s₀ → Translates source s s′ t t′ a
     → Translates source s₀ s′ t t′ a
-with-scratch {source} {s} {s₀} {s′} {t} e x =
-    decided-alike x (ap (λ (n : ℕ). decided source n (length t)) e) (x .clears ∙ ap (λ (n : ℕ). replicate n 0) e)
+with-scratch {source} {s} {s₀} {s′} {t} e x = decided-alike x (rw e) (rw (x .clears, e))
 
 module _ {source s s′ t t′ : List ℕ} {w : Refusal} {b : Bool} (e : b ≡ tooLong source) (z : s′ ≡ take 0 s ++ replicate (length s - 0) 0) where
   pub too-long : b ≡ true → w ≡ refusal source 1 0 → Translates source s s′ t t′ (C.Refused w)
@@ -98,11 +97,10 @@ module _ {source s s′ : List ℕ} {a : SymbolsRead} (short : length source ≤
   both-ways = rw (le-ltb 16384 (length source) short, le-ltb (length s) (length source * 3) room) refl
 
   symbols-told : a ≡ outcome (length s) (symbolsOf source) .answer
-  symbols-told = r .answers ∙ ap (λ (o : Y.Outcome). o .answer) both-ways
+  symbols-told = rw (r .answers, both-ways)
 
   pub symbols-left : (x : Symbols) → symbolsOf source ≡ x → s′ ≡ outcome (length s) x .scratch
-  symbols-left x e =
-      r .leaves ∙ (ap (λ (o : Y.Outcome). o .scratch) both-ways ∙ ap (λ (z : Symbols). outcome (length s) z .scratch) e)
+  symbols-left x e = r .leaves ∙ (rw (both-ways, e))
 
 module _ {source s s′ : List ℕ} {a : SymbolsRead} (l : Lent source (length s)) (r : Reads source s a s′) where
   room : length source * 3 ≤ length s
@@ -212,9 +210,8 @@ module _ {source s : List ℕ} {count : ℕ} (y : ReadySymbols source s count) w
     -- the zeros behind what is lent go on
     whole : (w : List ℕ) → length w ≤ most → front ≡ padded (length (take most s)) w → s′ ≡ padded (length s) w
     whole w h e =
-        let f : front ≡ padded most w = e ∙ ap (λ (n : ℕ). padded n w) (length-take-le most s tree-room) in
-        ap (λ (z : List ℕ). front ++ z) rest-is
-        ∙ (ap (λ (z : List ℕ). z ++ replicate (length s - most) 0) f ∙ sym (padded-on w most h (length s) tree-room))
+        let f : front ≡ padded most w = rw (e, length-take-le most s tree-room) in
+        rw (rest-is, f, padded-on w most h (length s) tree-room)
 
     as-long : (w : List ℕ) → length w ≤ most → s′ ≡ padded (length s) w → length s′ ≡ length s
     as-long w h e = ap length e ∙ padded-long w (length s) (omega (arith, tree-room))
@@ -227,8 +224,7 @@ module _ {source s : List ℕ} {count : ℕ} (y : ReadySymbols source s count) w
         go (ok p next) q w z =
             let k : end ≡ count * 3 + length (encodeProgram p) = cc in let within : end ≤ count * 8 = subst (Within (count * 8)) e (r .room) in
             let all : List ℕ = ss ++ encodeProgram p in let few : length all ≤ most = omega (arith, length-append ss (encodeProgram p), size) in
-            let stand = whole all few (z ∙ ap (λ (x : List ℕ). padded (length (take most s)) (x ++ encodeProgram p)) symbols-first) in
-            let same = as-long all few stand in
+            let stand = whole all few (rw (z, symbols-first)) in let same = as-long all few stand in
             record {
               lent = lent-still (y .lent) same;
               symbols = y .symbols;
@@ -237,7 +233,7 @@ module _ {source s : List ℕ} {count : ℕ} (y : ReadySymbols source s count) w
               reads = y .reads;
               parses = q;
               counts = y .counts;
-              stand = stand ∙ ap (λ (n : ℕ). padded n all) (sym same);
+              stand = cc;
               ends = k;
               room = within;
             }
@@ -253,11 +249,11 @@ module _ {source s : List ℕ} {count : ℕ} (y : ReadySymbols source s count) w
             → Translates source s (z ++ drop (count * 3) s′) t t′ (C.Refused w)
         go (ok p next) k v l = let k : _≡_ {A = ℕ} 0 1 = cc in absurd (omega arith)
         go (no m at) k v l =
-            let i : m ≡ number = cc in let j : placeAt src at ≡ place = cc in let few : length ss ≤ most = omega (arith, size) in
-            let stand = whole ss few (l ∙ ap (padded (length (take most s))) symbols-first) in let same = as-long ss few stand in
-            let clean : Clean (count * 3) s′ = padded-clean ss (length s) stand (omega (arith, size)) in
+            let i : m ≡ number = cc in let j : placeAt src at ≡ place = cc in let few : length ss ≤ most = omega (arith, size) in let stand = whole ss
+            few (l ∙ ap (padded (length (take most s))) symbols-first) in let same = as-long ss few stand in let clean : Clean (count * 3) s′
+            = padded-clean ss (length s) stand (omega (arith, size)) in
             refusing q (tree-refused (y .lent) (length t) (y .symbols) m at (y .reads) k ∙ rw (i, j) refl)
-            (clean-all clean (symbols-room same) c ∙ ap (λ (n : ℕ). replicate n 0) same)
+            (rw (clean-all clean (symbols-room same) c, same))
 
     pub never-unfit : a ≡ RA.TooShort → ⊥
     never-unfit e = go (treeOf src) (sym e ∙ answer-by)

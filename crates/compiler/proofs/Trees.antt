@@ -40,7 +40,7 @@ module _ {s : List ℕ} {lo end : ℕ} (w : List ℕ) (v p k : ℕ) (h : Lies s 
   four = second w (length w ∷ v ∷ p ∷ k ∷ []) (end - 4) h (omega (arith, ends))
 
   field : (i j : ℕ) → j ≡ end - 4 + i → i < 4 → getD s j 0 ≡ getD (length w ∷ v ∷ p ∷ k ∷ []) i 0
-  field i j q l = ap (λ (n : ℕ). getD s n 0) q ∙ four .at i l
+  field i j q l = rw (q, four .at i l)
 
   pub size-is : getD s (end - 4) 0 ≡ length w
   size-is = field 0 (end - 4) (omega arith) (omega arith)

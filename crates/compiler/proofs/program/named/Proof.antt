@@ -11,7 +11,7 @@ returns c =
     record {
       known = items-flat (c .before .before .before .before .before .before .before .pre .1) (c .level .ensures)
           (c .before .before .before .items .ensures);
-      low = ap (λ (z : State). z .high) (c .level .ensures);
+      low = rw (c .level .ensures);
       functions = refl;
       tall = refl;
     }

@@ -6,9 +6,7 @@ use Rattle.compiler.proofs.scope.last_byte.Statement.{statement}
 use Rattle.compiler.proofs.scope.last_byte.Tie as tie
 
 returns : tie.Need-returns
-returns c =
-    c .byte-at .ensures ∙ ap (λ (k : ℕ). getD (c .before .before .before .args .source .now) (c .before .before .before .args .place + k) 0)
-    (c .before .less .ensures)
+returns c = rw (c .byte-at .ensures, c .before .less .ensures)
 
 pub last-byte-spec : {M : Type 1} → statement M
 last-byte-spec = tie.close (tie.spec (search needs) (search needs) (search needs) returns)
