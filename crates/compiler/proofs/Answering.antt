@@ -191,7 +191,7 @@ module _ {source : List ℕ} (s : List ℕ) {front : List ℕ} {a : SymbolsRead}
 pub strings-gave : {source s front t t′ : List ℕ} {a : SymbolsRead} {count names first at x : ℕ} → Lent source (length s)
     → Reads source (take (length source * 3) s) a front → WritesStrings source (front ++ drop (length source * 3) s) count first at x t t′
     → AllStrings source s (front ++ drop (length source * 3) s) count names first at x t t′
-strings-gave {source} {s} {front} {t} {t′} {a} {count} {names} {first} {at} {x} l r w = record {
+strings-gave {source} {s} {front} {t} {t′} {a} {count} {names} {first} {at} l r w = record {
   clean = record { by = λ ss e k h c. again-clean s l r ss e k h c };
   by = λ ss e k n. rw (again-decoded s l r ss e k) at (w .by) (strings-end source ss e);
 }
@@ -199,7 +199,7 @@ strings-gave {source} {s} {front} {t} {t′} {a} {count} {names} {first} {at} {x
 pub behind-gave : {source s s′ table t t₁ t₂ t₃ : List ℕ} {count names functions at x y z : ℕ}
     → AllStrings source s s′ count names (functions + 1) at x t t₁ → WritesStarts table functions x y t₁ t₂ → Puts (90 ∷ 10 ∷ []) y z t₂ t₃
     → Behind source s s′ count names functions table at z t t₃
-behind-gave {source} {s} {s′} {table} {t} {t₁} {t₂} {t₃} {count} {names} {functions} {at} {x} {y} {z} w v c = record {
+behind-gave {source} {s} {s′} {table} {t} {t₁} {t₂} {t₃} {count} {names} {functions} {at} w v c = record {
   clean = w .clean;
   by = λ ss fs e k n long few start. let shifted = rw (add-one functions) at (w .by ss e k n) in
       puts-as (puts-then (puts-then shifted (v .by fs long few start)) c) (rw (lines-then (stringsCode (suc functions) (stringsAmong source ss)) (startsCode 1 fs)));
@@ -408,9 +408,5 @@ module _ {source s : List ℕ} {count end : ℕ} (y : ReadyTree source s count e
       pub translates : {start room : ℕ} {a : Compiled} {z : List ℕ} → start ≡ getD table′ 1 0 → room ≡ length t
           → a ≡ byKeys source (d′ .state .worst) (d′ .tall) start last room → length s₂ ≡ length s → z ≡ take 0 (take end s₂) ++ replicate
           (length (take end s₂) - 0) 0 → Translates source s (z ++ drop end s₂) t t₃ a
-      translates {start} {room} e k q same c =
-          record {
-            answers = q ∙ (rw (e, k, answers));
-            clears = rw (clean-all clean-behind (end-inside same) c, same);
-            begins = begins;
-          }
+      translates e k q same c =
+          record { answers = q ∙ (rw (e, k, answers)); clears = rw (clean-all clean-behind (end-inside same) c, same); begins = begins }

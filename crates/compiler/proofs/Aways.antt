@@ -101,10 +101,7 @@ unfolding inUnlabelled unlabelled
 away-gave text ways {s} {t} {t′} {end} {here} {st} {r} n nd a b c d e f g h i j l x = record {
   by = λ y. let u = is-leave (form-at n nd refl y) a b c d e f g h i j l in let sc = y .scope in
       rw (u .same)
-      (record {
-        keeps = keeps-all;
-        did = did-as _ _ (rw (nd .place ∙ u .place-of) at x .did) same-refl (λ k v. refl) (omega arith);
-      });
+      (record { keeps = keeps-all; did = did-as _ _ (rw (nd .place ∙ u .place-of) at x .did) same-refl (λ k v. refl) (omega arith) });
 }
 
 -- ---- a call
@@ -141,8 +138,5 @@ module _ {s : List ℕ} {end : ℕ} {here : Here} {st : State} (n : Node) (nd : 
         let u = call-is y in let x = g .by (performed-part y) in let sc = y .scope in let h = here .height in
         subst (λ (v : Unlabelled). Result (inUnlabelled text sc (leavableBy ways here) h v) (cmdSays here ways (unlabelled text sc h v))
         (length (encodeUnlabelled (y .tree))) (y .base) here s s₁ t t₁ st r) (sym (u .same))
-        (record {
-          keeps = x .keeps;
-          did = did-as _ _ (with-ways text sc here ways h (u .part) (x .did)) same-refl (λ k v. refl) (omega arith);
-        });
+        (record { keeps = x .keeps; did = did-as _ _ (with-ways text sc here ways h (u .part) (x .did)) same-refl (λ k v. refl) (omega arith) });
   }

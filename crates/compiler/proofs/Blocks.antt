@@ -417,19 +417,19 @@ module _ {s : List ℕ} {end : ℕ} {here : Here} {st : State} (n : Node) (nd : 
 -- ---- another name of the same place
 
 pub locals-ready-at : {s : List ℕ} {from end : ℕ} {d d′ : Here} {st : State} → d′ ≡ d → ReadyLocals s from end d st → ReadyLocals s from end d′ st
-locals-ready-at {s} {from} {end} {st = st} e y = rw e y
+locals-ready-at e y = rw e y
 
 pub list-ready-at : {s : List ℕ} {from end : ℕ} {d d′ : Here} {st : State} → d′ ≡ d → ReadyList s from end d st → ReadyList s from end d′ st
-list-ready-at {s} {from} {end} {st = st} e y = rw e y
+list-ready-at e y = rw e y
 
 pub local-gave-at : {text s s′ t t′ : List ℕ} {end : ℕ} {d d′ : Here} {st : State} {r : Placed} → d′ ≡ d → GaveLocal text s s′ end d′ t t′ st r
     → GaveLocal text s s′ end d t t′ st r
-local-gave-at {text} {s} {s′} {t} {t′} {end} {st = st} {r} e g = rw e at g
+local-gave-at e g = rw e at g
 
 pub locals-gave-at : {text s s′ t t′ : List ℕ} {from end : ℕ} {d d′ : Here} {st : State} {r : Placed} → d′ ≡ d
     → GaveLocals text s s′ from end d′ t t′ st r → GaveLocals text s s′ from end d t t′ st r
-locals-gave-at {text} {s} {s′} {t} {t′} {from} {end} {st = st} {r} e g = rw e at g
+locals-gave-at e g = rw e at g
 
 pub list-gave-at : {text s s′ t t′ : List ℕ} {from end : ℕ} {d d′ : Here} {w : Ways} {st r : State} → d′ ≡ d
     → GaveList text s s′ from end d′ w t t′ st r → GaveList text s s′ from end d w t t′ st r
-list-gave-at {text} {s} {s′} {t} {t′} {from} {end} {w = w} {st} {r} e g = rw e at g
+list-gave-at e g = rw e at g

@@ -99,7 +99,7 @@ module _ (text t₀ : List ℕ) {s₀ : List ℕ} {from end : ℕ} {here : Here}
         → Emits (G.SP (here .height + k) ∷ []) ((here .height + k + 1) ∷ []) t₁ t₂ a r
         → (y : ReadyArgs s₀ from end here st₀) → ArgsPart y s t at k st → ArgsPart y s₁ t₂ next (k + 1) r
     unfolding inExpressions expressions exprsCode ofExprs exprsLabels
-    args-next {t₂ = t₂} {r = r} g f y p =
+    args-next g f y p =
         let z = y .ready in let u = item z (y .starts) l es en p in let x = g .by (args-part y p) in let sc = z .scope in let h = here .height + k in
         let n = rest-length z (y .starts) l es en p in let E = expression text sc h (u .part) in let e1 : here .height + (k + 1) ≡ h + 1
         = omega arith in
@@ -380,7 +380,7 @@ module _ {s : List ℕ} {middle end j tag inner size start : ℕ} {here : Here} 
 
       pub index-gave : {s₂ t₂ : List ℕ} {d : State} → GaveIndexed text s₁ s₂ inner here t₁ t₂ a d → GaveSuffixes text s s₂ middle end here t t₂ st d
       unfolding exprCode ofExpr exprLabels
-      index-gave {s₂} {t₂} {d} g₂ = record {
+      index-gave g₂ = record {
         by = λ y.
             let z = y .ready in let sc = z .scope in let h = here .height in let p = z .tree .primary in let u = is-index q (the-last y) in
             let x = g .by (index-left y) in let w = g₂ .by (index-right y) in
@@ -429,7 +429,7 @@ module _ {s : List ℕ} {middle end j tag inner size start : ℕ} {here : Here} 
       pub call-gave : {s₂ t₂ t₃ : List ℕ} {c d : State} → GaveSuffixes text s₁ s₂ middle start (raised (n + 2) here) t₁ t₂ b c
           → Emits (G.K (here .height) ∷ []) [] t₂ t₃ c d → GaveSuffixes text s s₂ middle end here t t₃ st d
       unfolding exprCode ofExpr exprLabels
-      call-gave {s₂} {t₂} {t₃} {c} {d} g₂ f₂ = record {
+      call-gave {s₂} {t₂} {t₃} {c} g₂ f₂ = record {
         by = λ y. let z = y .ready in let sc = z .scope in let h = here .height in let p = z .tree .primary in let u = is-call q (the-last y) in
             let x = g .by (call-args y) in let w = g₂ .by (call-callee y) in let Es = expressions text sc (h + 2) (u .part) in let K = h + 2 + H.count
             Es in let eK : K ≡ h + 2 + T.count (u .part) = rw (count-resolved text sc (h + 2) (u .part)) in let eh : h + (n + 2) ≡ K
@@ -524,7 +524,7 @@ call-few l ej et ei ez es q k y =
 -- the same with another state
 abbrev pub with-state : {A : Type 0} {enc : A → List ℕ} {deep : A → ℕ} {Fine : A → Type 0} {s : List ℕ} {end : ℕ} {here : Here} {st st′ : State}
     → st′ .label ≡ st .label → Ready enc deep Fine s end here st → Ready enc deep Fine s end here st′
-with-state {enc = enc} {deep} {Fine} {end = end} {here} {st′ = st′} e y = sub y keeps-all (y .lies) refl (omega arith) (y .fine)
+with-state e y = sub y keeps-all (y .lies) refl (omega arith) (y .fine)
 
 pub indexed-gave : (text : List ℕ) {s s₁ t t₁ t₂ t₃ : List ℕ} {end : ℕ} {here : Here} {st b c d : State}
     → Emits (G.SP (here .height) ∷ []) ((here .height + 1) ∷ []) t t₁ st b → GaveE text s s₁ end (raised 1 here) t₁ t₂ b c

@@ -51,8 +51,7 @@ module _ {s : List ℕ} {end : ℕ} {here : Here} {st : State} (n : Node) (nd : 
   valof-fine y h = subst FineE h (y .fine)
 
   abbrev pub valof-part : {a : State} → Fresh 1 st a → ReadyE s end here st → ReadyC s (n .inner) (inside here) a
-  valof-part {a} e y = let u = is-valof (find n nd q y) in
-      sub y keeps-all (u .lies) refl (omega (arith, valof-deep y (u .same))) (valof-fine y (u .same))
+  valof-part e y = let u = is-valof (find n nd q y) in sub y keeps-all (u .lies) refl (omega (arith, valof-deep y (u .same))) (valof-fine y (u .same))
 
   pub valof-gave : (text : List ℕ) {s₁ t t₁ t₂ : List ℕ} {a b c : State} → Fresh 1 st a
       → GaveC text s s₁ (n .inner) (inside here) (inValof (st .label)) t t₁ a b → Emits (I.label (st .label) ∷ []) [] t₁ t₂ b c

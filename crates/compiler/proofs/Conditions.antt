@@ -94,7 +94,7 @@ module _ {s : List ℕ} {end : ℕ} {here : Here} {st : State} (n o b : Node) (n
       bd .start ∙ sym (closed-start {end = o .start} (command-closed (u .body) (test-fine y .1)) (u .lies-body) (test-other y) .0)
 
   abbrev pub test-first : {a : State} → Fresh 2 st a → ReadyU s end here st → ReadyE s (b .start) here a
-  test-first {a} e y = let u = test-is y in sub y keeps-all (u .lies) refl (omega (arith, test-start y, test-deep y .0)) (test-fine y .0)
+  test-first e y = let u = test-is y in sub y keeps-all (u .lies) refl (omega (arith, test-start y, test-deep y .0)) (test-fine y .0)
 
   module _ (text : List ℕ) {s₁ t t₁ t₂ : List ℕ} {a c d : State} (e : Fresh 2 st a) (g : GaveE text s s₁ (b .start) here t t₁ a c)
       (f : Emits (G.FL (st .label) ∷ []) [] t₁ t₂ c d) where

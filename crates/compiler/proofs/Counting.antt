@@ -45,7 +45,7 @@ count-end {s} {from} {end} {at} {n} l q = record { by = λ m i. let p = q m i in
 pub item-first : {s : List ℕ} {at end tag n : ℕ} (w rest : List ℕ) → Lies s at (length w ∷ tag ∷ (w ++ rest))
     → end ≡ at + length (length w ∷ tag ∷ (w ++ rest))
     → (Lies s (at + 2 + length w) rest → end ≡ at + 2 + length w + length rest → Items s end (at + 2 + length w) n) → Items s end at (suc n)
-item-first {s} {at} {end} {tag} {n} w rest h e f =
+item-first {s} {at} {end} {tag} w rest h e f =
     let a : at + 0 ≡ at = omega arith in let z : getD s at 0 ≡ length w = ap (λ (k : ℕ). getD s k 0) (sym a) ∙ h .at 0 (omega arith) in
     let r = second (length w ∷ tag ∷ []) (w ++ rest) (at + 2) h refl in let q = f (second w rest (at + 2 + length w) r refl)
     (omega (arith, length-append w rest)) in

@@ -66,7 +66,7 @@ module _ {st r : State} (high : r .high ≡ st .high) (worst : r .worst ≡ st .
   emits-one {i} p = record { text = puts-as p (append-nil (line i)); high = high; worst = worst; label = label }
 
 still : {m n : ℕ} → n ≡ m → (t : List ℕ) → Puts [] m n t t
-still {m} e t = rw e puts-none
+still e t = rw e puts-none
 
 module _ {h : ℕ} {st r : State} (at : r .at ≡ st .at) (worst : r .worst ≡ st .worst) (label : r .label ≡ st .label) where
   pub reached-up : st .high < h → r .high ≡ h → Reached h st r
@@ -124,7 +124,7 @@ emits-then {xs} {ys} {hs} {ks} {st = st} f g = record {
 pub emits-did : {xs : List I.Item} {hs : List ℕ} {t t′ : List ℕ} {st r : State} (code : ℕ → Code) → Emits xs hs t t′ st r
     → ((n : ℕ) → code n ≡ record { items = xs; heights = hs; labels = 0 }) → Did [] code 0 t t′ st r
 unfolding least
-emits-did {xs} {hs} {t} {t′} {st} {r} code f e = record {
+emits-did {xs} {hs} {t} {t′} {st} code f e = record {
   worst = f .worst;
   fits = noFit;
   few = omega arith;
@@ -159,7 +159,7 @@ module _ {fs : List Fault} {f : ℕ → Code} {m : ℕ} {t t₁ t₂ : List ℕ}
   }
 
   pub did-then : {gs : List Fault} {g : ℕ → Code} {k : ℕ} → Did gs g k t₁ t₂ a b → Did (fs ++ gs) (and f g) (m + k) t t₂ st b
-  did-then {gs} {g} {k} y = record {
+  did-then {gs} {g} y = record {
     worst = rw (y .worst, x .worst, least-then (st .worst) fs gs);
     fits = fit-then (x .fits) (y .fits);
     few = omega arith;
@@ -222,7 +222,7 @@ pub same-refl : {a : List Fault} → Same a a
 same-refl = record { least = λ x. refl; none = λ e. e; fits = λ f. f }
 
 pub same-eq : {a b : List Fault} → a ≡ b → Same a b
-same-eq {a} {b} e = rw (← e) same-refl
+same-eq e = rw (← e) same-refl
 
 step-min : (k x : ℕ) → cond (ltb k x) k x ≡ min x k
 step-min k x = by (order k x)
@@ -261,7 +261,7 @@ same-both {a} {b} {c} {d} p q = record {
 
 pub did-as : {fs gs : List Fault} {f : ℕ → Code} (g : ℕ → Code) {m : ℕ} (k : ℕ) {t t′ : List ℕ} {st r : State} → Did fs f m t t′ st r → Same fs gs
     → ((n : ℕ) → gs ≡ [] → f n ≡ g n) → m ≤ k → Did gs g k t t′ st r
-did-as {fs} {gs} {f} g {m} k {t} {t′} {st} {r} x s e l = record {
+did-as g {m} k {t} {t′} {st} {r} x s e l = record {
   worst = x .worst ∙ s .least (st .worst);
   fits = s .fits (x .fits);
   few = omega arith;
@@ -272,7 +272,7 @@ did-as {fs} {gs} {f} g {m} k {t} {t′} {st} {r} x s e l = record {
 -- the same at its first label
 pub did-at : {fs gs : List Fault} {f : ℕ → Code} (g : ℕ → Code) {m : ℕ} (k : ℕ) {t t′ : List ℕ} {st r : State} → Did fs f m t t′ st r → Same fs gs
     → (gs ≡ [] → f (st .label) ≡ g (st .label)) → m ≤ k → Did gs g k t t′ st r
-did-at {fs} {gs} {f} g {m} k {t} {t′} {st} {r} x s e l = record {
+did-at g {m} k {t} {t′} {st} {r} x s e l = record {
   worst = x .worst ∙ s .least (st .worst);
   fits = s .fits (x .fits);
   few = omega arith;
@@ -283,21 +283,17 @@ did-at {fs} {gs} {f} g {m} k {t} {t′} {st} {r} x s e l = record {
 -- after new labels
 pub did-fresh : {fs : List Fault} {f : ℕ → Code} {k m : ℕ} {t t′ : List ℕ} {st a b : State} → Fresh k st a → Did fs f m t t′ a b
     → Did fs (λ n. record { items = f (n + k) .items; heights = f (n + k) .heights; labels = k + f (n + k) .labels }) (k + m) t t′ st b
-did-fresh {fs} {f} {k} {m} {t} {t′} {st} {a} {b} e x = record {
+did-fresh e x = record {
   worst = rw (x .worst, e .worst);
   fits = x .fits;
   few = omega arith;
   grows = omega arith;
   clean = λ n. let w = rw (e .label) at (x .clean n) in
-      record {
-        text = rw (e .at) at (w .text);
-        high = rw (w .high, e .high);
-        label = omega arith;
-      };
+      record { text = rw (e .at) at (w .text); high = rw (w .high, e .high); label = omega arith };
 }
 
 pub leaves-wrong : {to place : ℕ} {t : List ℕ} {st r : State} → to ≡ 0 → Faulted place 13 st r → LeavesTo to place t t st r
-leaves-wrong {to} {place} {t} {st} {r} e f = record { did = rw (eq-eqb to 0 e) (f .by _ t) }
+leaves-wrong {to} {place} {t} e f = record { did = rw (eq-eqb to 0 e) (f .by _ t) }
 
 pub leaves-jump : {to place : ℕ} {t t′ : List ℕ} {st r : State} → (to ≡ 0 → ⊥) → Emits (G.JL to ∷ []) [] t t′ st r → LeavesTo to place t t′ st r
 leaves-jump {to} e f = record { did = rw (ne-eqb to 0 e) (emits-did _ f (λ n. refl)) }
@@ -369,7 +365,7 @@ module _ (place : ℕ) {m : ℕ} {t t′ : List ℕ} {st r : State} where
 pub node-is : {s : List ℕ} {end : ℕ} (n : Node) {size e₃ e₂ e₁ : ℕ} → n .inner ≡ end - 4 → size ≡ getD s (n .inner) 0 → n .start ≡ n .inner - size
     → e₃ ≡ end - 3 → n .value ≡ getD s e₃ 0 → e₂ ≡ end - 2 → n .place ≡ getD s e₂ 0 → e₁ ≡ end - 1 → n .kind ≡ getD s e₁ 0 → n .value < 2 ^ 32
     → n .place < 2 ^ 32 → NodeAt s end n
-node-is {s} {end} n {size} i z st a v b p c k fv fp = record {
+node-is n {size} i z st a v b p c k fv fp = record {
   value-fits = fv;
   place-fits = fp;
   inner = i;

@@ -120,7 +120,7 @@ module _ {place : ℕ} {seen seen′ : List ℕ} {st r : State} {ls : List CaseL
 
 pub note-first : {i place x p : ℕ} {seen seen′ : List ℕ} {st : State} → i / 8 < length seen → x ≡ getD seen (i / 8) 0 → p ≡ 2 ^ (i % 8)
     → x / p % 2 ≡ 0 → seen′ ≡ set seen (i / 8) (x + p) → Notes i place seen seen′ st st
-note-first {i} {place} {x} {p} {seen = seen} {seen′} l ex ep z e = record {
+note-first {i} {place} {x} {p} {seen = seen} l ex ep z e = record {
   long = ap length e ∙ length-set seen (i / 8) (x + p);
   here = λ a. rw (e, flag-here seen i ex ep z l);
   other = λ k n. rw (e, flag-other seen i ex ep z l k n);
@@ -130,7 +130,7 @@ note-first {i} {place} {x} {p} {seen = seen} {seen′} l ex ep z e = record {
 
 pub note-again : {i place x p : ℕ} {seen : List ℕ} {st r : State} → x ≡ getD seen (i / 8) 0 → p ≡ 2 ^ (i % 8) → (x / p % 2 ≡ 0 → ⊥)
     → Faulted place 12 st r → Notes i place seen seen st r
-note-again {i} {p = p} {seen = seen} ex ep n f =
+note-again {i} {seen = seen} ex ep n f =
     record { long = refl; here = λ a. flag-taken seen i there; other = λ k n. refl; fresh = λ a z. absurd (there z); again = λ n. f }
   where
     there : flag seen i ≡ 0 → ⊥
@@ -190,10 +190,7 @@ module _ (text : List ℕ) {s : List ℕ} {end : ℕ} (top : ℕ) (st r : State)
     label-case {seen} {seen′} z w = case-by go
       where
         go : By seen seen′
-        go p ls (good v) (fit k) e low m = (
-          case-marks w low m,
-          λ t. rw (nd .place ∙ e) at (case-did w low m t),
-        )
+        go p ls (good v) (fit k) e low m = (case-marks w low m, λ t. rw (nd .place ∙ e) at (case-did w low m t))
         go p ls (refused fs) (unfit a k u) e low m = absurd (k (sym a ∙ z))
 
 -- ---- all labels of a command, and of all commands
@@ -237,11 +234,7 @@ module _ (text : List ℕ) {s : List ℕ} {from end top : ℕ} (st₀ : State) w
   unfolding doubled
   own-end {seen = seen} {st} l p = record {
     by = λ y first m. let k = left-end l (p y first m) in
-        k .finish seen st (record {
-          marks = rw (append-nil (k .before)) (k .marks);
-          did = λ t. did-none
-              0;
-        });
+        k .finish seen st (record { marks = rw (append-nil (k .before)) (k .marks); did = λ t. did-none 0 });
   }
 
 among-is : (text : List ℕ) (sc : Scope) (before : List Label) (cs : Commands) → faultsAmong text sc before (marks cs) ≡ labelFaults text sc before cs

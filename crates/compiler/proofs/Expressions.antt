@@ -47,25 +47,19 @@ module _ (text : List ℕ) {s t t′ : List ℕ} {end : ℕ} {here : Here} {st r
   unfolding inExpression expression exprCode ofExpr exprLabels
   number-gave q f = record {
     by = λ y. let u = is-number (find n nd q y) in so text here (y .scope) (u .same)
-        (record {
-          keeps = keeps-all;
-          did = more _ (emits-did _ f (λ k. code-is (cc) refl refl)) (omega arith);
-        });
+        (record { keeps = keeps-all; did = more _ (emits-did _ f (λ k. code-is (cc) refl refl)) (omega arith) });
   }
 
   pub string-gave : {l : ℕ} → n .kind ≡ 61 → l ≡ here .strings + n .value → Emits (G.LL l ∷ []) [] t t′ st r → GaveE text s s end here t t′ st r
   unfolding inExpression expression exprCode ofExpr exprLabels
-  string-gave {l} q e f = record {
+  string-gave q e f = record {
     by = λ y. let u = is-string (find n nd q y) in so text here (y .scope) (u .same)
-        (record {
-          keeps = keeps-all;
-          did = more _ (emits-did _ f (λ k. code-is (cc) refl refl)) (omega arith);
-        });
+        (record { keeps = keeps-all; did = more _ (emits-did _ f (λ k. code-is (cc) refl refl)) (omega arith) });
   }
 
   pub name-gave : {m : ℕ} → n .kind ≡ 59 → Looked text s (here .top) (n .inner) m → Means m (n .place) t t′ st r → GaveE text s s end here t t′ st r
   unfolding inExpression expression
-  name-gave {m} q lk f = record {
+  name-gave q lk f = record {
     by = λ y. let u = is-name (find n nd q y) in so text here (y .scope) (u .same)
         (record {
           keeps = keeps-all;
@@ -133,7 +127,7 @@ module _ (text : List ℕ) (sc : Scope) (strings h : ℕ) where
 -- another name of the same place
 pub ready-at : {A : Type 0} {enc : A → List ℕ} {deep : A → ℕ} {Fine : A → Type 0} {s : List ℕ} {end : ℕ} {d d′ : Here} {st : State} → d′ ≡ d
     → Ready enc deep Fine s end d st → Ready enc deep Fine s end d′ st
-ready-at {enc = enc} {deep} {Fine} {s} {end} {st = st} e y = rw e y
+ready-at e y = rw e y
 
 pub gave-at : (text : List ℕ) {s s′ t t′ : List ℕ} {end : ℕ} {d d′ : Here} {st r : State} → d′ ≡ d → GaveE text s s′ end d′ t t′ st r
     → GaveE text s s′ end d t t′ st r
@@ -240,8 +234,8 @@ module _ (text t₀ : List ℕ) {s₀ : List ℕ} {from end : ℕ} {here : Here}
       (en : next ≡ at + 2 + size) where
     abbrev pub chain-part : {a : State} → a .label ≡ st .label → (y : ReadyChain s₀ from end here st₀) → ChainPart y s t at st
         → ReadyE s next (raised 1 here) a
-    chain-part {a} ea y p = let z = y .ready in let u = item z (y .starts) l es en p in let e = one-size z (y .starts) l es en p in
-        let n = rest-length z (y .starts) l es en p in
+    chain-part ea y p = let z = y .ready in let u = item z (y .starts) l es en p in let e = one-size z (y .starts) l es en p in let n = rest-length z
+        (y .starts) l es en p in
         sub z (p .keeps) (u .lies) refl (omega (arith, both-deep z (y .starts) l es en p .0)) (both-fine z (y .starts) l es en p .0)
 
     pub chain-next : {act : ℕ} {s₁ t₁ t₂ t₃ : List ℕ} {a b r : State} → act ≡ G.dyadicAct o
@@ -263,11 +257,11 @@ module _ (text t₀ : List ℕ) {s₀ : List ℕ} {from end : ℕ} {here : Here}
   chain-end l q = record { by = λ y. record { keeps = q y .keeps; did = ended (q y) l (λ m. did-none m) } }
 
 pub chain-ready-at : {s : List ℕ} {from end : ℕ} {d d′ : Here} {st : State} → d′ ≡ d → ReadyChain s from end d st → ReadyChain s from end d′ st
-chain-ready-at {s} {from} {end} {st = st} e y = rw e y
+chain-ready-at e y = rw e y
 
 pub chain-gave-at : {text s s′ t t′ : List ℕ} {from end : ℕ} {d d′ : Here} {st r : State} → d′ ≡ d → GaveChain text s s′ from end d′ t t′ st r
     → GaveChain text s s′ from end d t t′ st r
-chain-gave-at {text} {s} {s′} {t} {t′} {from} {end} {st = st} {r} e g = rw e at g
+chain-gave-at e g = rw e at g
 
 pub left-at : {d d′ : Here} → d′ ≡ d → d′ .left ≡ d .left
 left-at e = rw e

@@ -120,7 +120,7 @@ module _ (s : List ℕ) (lo end : ℕ) where
   form-small (aFinish h) = omega arith
 
   so : {k : ℕ} {u : Unlabelled} → getD s (end - 1) 0 ≡ k → Form k u → Form (getD s (end - 1) 0) u
-  so {u = u} q c = rw q c
+  so q c = rw q c
 
   guard-form : {w : ℕ} {e : Expression} {c : Command} → GuardWord w → Lies s lo (encode e ++ encodeCommand c)
       → end ≡ lo + length (encode e ++ encodeCommand c) + 4 → Form w (T.guarded w e c)

@@ -44,7 +44,7 @@ use Rattle.compiler.proofs.Forms as F
 use Rattle.compiler.proofs.Forms.{Form, form-at}
 
 pub act-is : {a b : ℕ} {t t′ : List ℕ} {st r : State} → a ≡ b → Emits (G.X a ∷ []) [] t t′ st r → Emits (G.X b ∷ []) [] t t′ st r
-act-is {t = t} {t′} {st} {r} e f = rw e at f
+act-is e f = rw e at f
 
 -- ---- its parts
 
@@ -159,7 +159,7 @@ module _ {s : List ℕ} {end : ℕ} {here : Here} {st : State} (n b l : Node) {l
   for-room y = let u = for-is y in omega arith
 
   abbrev pub for-first : {a : State} → Fresh 3 st a → ReadyU s end here st → ReadyE s (l .start) here a
-  for-first {a} e y = let u = for-is y in sub y keeps-all (u .lies-start) refl (omega (arith, for-limit-start y, for-deep y .0)) (for-fine y .0)
+  for-first e y = let u = for-is y in sub y keeps-all (u .lies-start) refl (omega (arith, for-limit-start y, for-deep y .0)) (for-fine y .0)
 
   module _ (text : List ℕ) {s₁ t t₁ t₂ : List ℕ} {a c d : State} (e : Fresh 3 st a) (g : GaveE text s s₁ (l .start) here t t₁ a c)
       (f : Emits (G.SP (here .height) ∷ []) ((here .height + 1) ∷ []) t₁ t₂ c d) where

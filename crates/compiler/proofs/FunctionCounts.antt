@@ -33,7 +33,7 @@ is-declaration {s} {at} (d ∷ p) h e l =
 
 pub no-declaration : {at end : ℕ} (p : Program) → end ≡ at + length (encodeProgram p) → end ≤ at → p ≡ []
 no-declaration [] e l = refl
-no-declaration {at} {end} (d ∷ p) e l =
+no-declaration (d ∷ p) e l =
     absurd (omega (
       arith,
       ap length (program-step d p),
@@ -64,8 +64,7 @@ pub record Part (s : List ℕ) (at end n : ℕ) (p : Program) : Type 0 where
   pub sum : n + functionCount rest ≡ functionCount p
 
 abbrev pub Counted : (s : List ℕ) (from end at n : ℕ) → Type 0
-Counted s from end at n =
-    (p : Program) → Lies s from (encodeProgram p) → end ≡ from + length (encodeProgram p) → Part s at end n p
+Counted s from end at n = (p : Program) → Lies s from (encodeProgram p) → end ≡ from + length (encodeProgram p) → Part s at end n p
 
 pub counted-begin : {s : List ℕ} {from end : ℕ} → Counted s from end from 0
 counted-begin p h e = record { rest = p; lies = h; ends = e; sum = omega arith }
@@ -107,6 +106,4 @@ module _ {s : List ℕ} {from end at n size word : ℕ} (l : at < end) (es : siz
   counted-past g p h e = let c = q p h e in let u = is-declaration (c .rest) (c .lies) (c .ends) l in absurd (omega arith)
 
 pub counted-end : {s : List ℕ} {from end at n : ℕ} → end ≤ at → Counted s from end at n → CountsFunctions s from end n
-counted-end l q = record {
-  by = λ p h e. let c = q p h e in omega (arith, ap functionCount (no-declaration (c .rest) (c .ends) l), count-none);
-}
+counted-end l q = record { by = λ p h e. let c = q p h e in omega (arith, ap functionCount (no-declaration (c .rest) (c .ends) l), count-none) }

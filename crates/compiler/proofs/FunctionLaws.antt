@@ -42,11 +42,14 @@ pub record Parted (s : List ℕ) (lo end : ℕ) (f : Function) : Type 0 where
 
 pub parted : {s : List ℕ} {lo end : ℕ} (f : Function) → Lies s lo (encodeFunction f) → end ≡ lo + length (encodeFunction f) → Parted s lo end f
 unfolding encodeName
-parted {s} {lo} {end} f h e =
+parted {s} {lo} f h e =
     let name : List ℕ = encodeName (f .name) in let names = encodeNames (f .parameters) in let body = encodeBody (f .body) in
-    let w = name ++ (names ++ body) in let v = length names in let k = bodyWord (f .body) in
-    let inner = kid w v 0 k h e in let rest = second name (names ++ body) (lo + 4) inner refl in
-    let z : length w ≡ 4 + length names + length body = omega (arith, length-append name (names ++ body), length-append names body) in
+    let w = name ++ (names ++ body) in let v = length names in let k = bodyWord (f .body) in let inner = kid w v 0 k h e in let rest = second name
+    (names ++ body) (lo + 4) inner refl in let z : length w ≡ 4 + length names + length body = omega (
+      arith,
+      length-append name (names ++ body),
+      length-append names body,
+    ) in
     record {
       lies-names = first names body rest;
       lies-body = second names body (lo + 4 + length names) rest refl;
@@ -129,7 +132,7 @@ module _ {s : List ℕ} {end : ℕ} {here : Here} {st : State} (n : Node) (nd : 
       pub function-gave : {s₃ t₂ t₃ : List ℕ} {d r : State} → GaveBody text s₂ s₃ (n .inner) (n .kind) (within n here) t₁ t₂ c d
           → Emits (G.X 4 ∷ []) [] t₂ t₃ d r → GaveF text s s₃ label end here t t₃ st r
       unfolding functionFaults resolved heightsOf
-      function-gave {s₃} {t₂} {t₃} {d} {r} g pt = record {
+      function-gave g pt = record {
         by = λ y. let f = y .tree in let sc = inside (y .scope) f in let w = de .by (function-names y) in let x = g .by (function-body y) in
             let body = rw (function-many y) at (x .did) in let top = rw (function-many y) at (re .by t₁) in let h = 2 + length (f .parameters) in
             let rb = bodyOf text sc h (f .body) in

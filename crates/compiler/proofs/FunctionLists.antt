@@ -116,7 +116,7 @@ yields-then {strings} {l} k {fs} {fs′} {gs} {gs′} {m} {m′} {t} {t₁} {t�
 
 pub yields-as : {strings l : ℕ} {fs fs′ : List Fault} {gs gs′ : List Named} {m : ℕ} (m′ : ℕ) {t t′ : List ℕ} {d d′ : Done} → fs ≡ fs′ → gs ≡ gs′
     → m ≤ m′ → Yields strings l fs gs m t t′ d d′ → Yields strings l fs′ gs′ m′ t t′ d d′
-yields-as {strings} {l} {fs} {fs′} {gs} {gs′} {m} m′ {t} {t′} {d} {d′} a b c x =
+yields-as {strings} {l} {fs} {fs′} {gs} m′ {t} {t′} {d} {d′} a b c x =
     rw (← a) (rw (← b)
     (record { did = did-as (functionsSays strings l (funs gs)) m′ (x .did) same-refl (λ n e. refl) c; tall = x .tall; fits = x .fits }))
 
@@ -128,7 +128,7 @@ flat st = record { at = st .at; label = st .label; worst = st .worst; high = 0 }
 pub did-flat : {fs : List Fault} {code : ℕ → Code} {m : ℕ} {t t′ : List ℕ} {st a r : State} → st .high ≡ 0 → r ≡ flat a → Did fs code m t t′ st a
     → Did fs (λ n. record { items = code n .items; heights = []; labels = code n .labels }) m t t′ st r
 unfolding greatest
-did-flat {fs} {code} {m} {t} {t′} {st} {a} {r} low e x =
+did-flat low e x =
     rw e (record {
       worst = x .worst;
       fits = x .fits;
@@ -296,17 +296,13 @@ module _ (text t₀ : List ℕ) {s₀ : List ℕ} {from end : ℕ} {here : Here}
     }
 
     pub group-fits : FunctionFits at size end l label
-    group-fits = record {
-      next = omega (arith, group-size, group-one .ends);
-      small = y .small;
-      few = omega arith;
-    }
+    group-fits = record { next = omega (arith, group-size, group-one .ends); small = y .small; few = omega arith }
 
     pub group-next : {s₁ t₁ : List ℕ} {tall place : ℕ} {a r : State} → GaveF text s s₁ l next here t t₁ (d .state) a → place ≡ getD s₁ (at + 4) 0
         → place < 2 ^ 32 → tall ≡ least (d .tall) (cond (ltb 8192 (a .high)) (fault place 16) []) → r ≡ flat a → GroupPart y before k s₁ t₁ next
         (l + 1) (record { tall = tall; state = r })
     unfolding groupFaults groupOf
-    group-next {s₁} {t₁} {tall} {place} {a} {r} g ep small et er =
+    group-next g ep small et er =
         let u = group-one in let f = u .part in let x = g .by group-ready in let start = startOf (lookup text (p .scope) (f .name)) in
         let n = namedBy text (y .scope) start f in let q4 : at + 2 + 2 ≡ at + 4 = omega arith in let one = yields-one text (y .scope) start
         (here .strings) l f (x .did) (p .low) er (ep ∙ x .keeps .above (at + 4) (omega arith) ∙ p .keeps .above (at + 4) (omega arith)
@@ -339,7 +335,7 @@ module _ (text t₀ : List ℕ) {s₀ : List ℕ} {from end : ℕ} {here : Here}
       → ((y : ReadyFs s₀ from end here d₀) (before : Scope) (k : ℕ) → GroupPart y before k s t at l d)
       → GaveFs text s₀ s from end label here t₀ t d₀ d
   unfolding groupFaults groupOf
-  group-end {s} {t} {at} {l} {d} lt q = record {
+  group-end lt q = record {
     by = λ y before k. let p = q y before k in let e = no-function (p .rest) (p .ends) lt in let fe : p .found ≡ groupFaults text (y .scope)
         (y .functions) = cc (append-nil (p .found)) in let me : p .made ≡ groupOf text k before (y .scope) (y .functions) = cc (append-nil (p .made)) in let r = yields-as
         (2 * length (encodeFunctions (y .functions))) fe me (omega arith) (p .yields) in

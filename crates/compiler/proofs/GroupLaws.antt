@@ -120,7 +120,7 @@ enters-global {s} {table} {table′} {top} {leaf} {m} {k} {n} {v} e en ev et = r
 pub enters-name : {s s′ table : List ℕ} {top leaf m k x : ℕ} → (m % 4 ≡ 2 → ⊥) → PushedName s s′ top leaf x → x ≡ k * 4 + 4 → length s′ ≡ length s
     → Enters s s′ table table top leaf m k (top + 2)
 unfolding found code
-enters-name {s} {s′} {table} {top} {leaf} {m} {k} {x} e pu ex el = record { long = (el, refl); by = by }
+enters-name {s} {s′} {table} {top} {leaf} {m} {k} e pu ex el = record { long = (el, refl); by = by }
   where
     there : (base : ℕ) (sc : Scope) (ns : List ℕ) (name : Name) → Shows s top sc → base ≤ length s → top + 2 ≤ base → nameAt s leaf ≡ name
         → Taken table ns → Shows s′ (top + 2) (declared sc name (N.function k)) × Keeps base top s s′ × Taken table ns × (top ≤ top + 2)
@@ -147,7 +147,7 @@ enters-name {s} {s′} {table} {top} {leaf} {m} {k} {x} e pu ex el = record { lo
 
 pub enters-far : {s table : List ℕ} {top leaf m k n : ℕ} → m % 4 ≡ 2 → n ≡ m / 4 → length table ≤ n → Enters s s table table top leaf m k top
 unfolding found code
-enters-far {s} {table} {top} {leaf} {m} {k} {n} e en l₀ = record { long = (refl, refl); by = by }
+enters-far {s} {table} {top} {leaf} {m} {k} e en l₀ = record { long = (refl, refl); by = by }
   where
     by : (f : N.Found) (base : ℕ) (sc : Scope) (ns : List ℕ) (name : Name) → m ≡ found f → Shows s top sc → base ≤ length s → top + 2 ≤ base
         → nameAt s leaf ≡ name → Taken table ns → ((i : ℕ) → f ≡ N.known (N.global i) → i < 400) → Shows s top (withFunction sc name k (startOf f))
@@ -191,12 +191,7 @@ pub count-next : {s : List ℕ} {from end at n size : ℕ} → at < end → size
     → Counting s from end (at + 2 + size) (n + 1)
 count-next {s} {from} {end} {at} {n} {size} l z q fs h e =
     let p = q fs h e in let u = is-function (p .rest) (p .lies) (p .ends) l in let k : size ≡ length (encodeFunction (u .part)) = z ∙ u .size-of in
-    record {
-      rest = u .more;
-      lies = rw k (u .lies-more);
-      ends = omega arith;
-      sum = omega (arith, ap length (u .same));
-    }
+    record { rest = u .more; lies = rw k (u .lies-more); ends = omega arith; sum = omega (arith, ap length (u .same)) }
 
 pub count-end : {s : List ℕ} {from end at n : ℕ} → end ≤ at → Counting s from end at n → CountsGroup s from end n
 count-end l q = record { by = λ fs h e. let p = q fs h e in omega (arith, ap length (no-function (p .rest) (p .ends) l)) }

@@ -43,7 +43,7 @@ module _ (ss : List Start) {k : ℕ} (x : Start) (e : length ss ≡ k) where
   start-here = cc (getD-append-seam ss x [] nowhere)
 
   start-after : {l : ℕ} → k < l → getD (ss ++ (x ∷ [])) l nowhere ≡ nowhere
-  start-after {l} h = List·getD-eq-default (ss ++ (x ∷ [])) nowhere (omega (arith, length-append ss (x ∷ [])))
+  start-after h = List·getD-eq-default (ss ++ (x ∷ [])) nowhere (omega (arith, length-append ss (x ∷ [])))
 
   start-is : {n l : ℕ} → getD ss l nowhere ≡ inGlobal n → l < k
   start-is {n} {l} q = go (order l k)
@@ -223,7 +223,7 @@ module _ (text : List ℕ) {s₀ table₀ : List ℕ} {from end top before : ℕ
 
   pub names-fit : {s table : List ℕ} {at k now : ℕ} {st : State} → at < end
       → (y : ReadyGroup s₀ table₀ from end top before) → GroupPart y s table at k now st → Fits y s table at k now
-  names-fit {s} {at = at} l y p =
+  names-fit {at = at} l y p =
       let u = is-function (p .rest) (p .lies) (p .ends) l in let c = ap length (u .same) in let low : y .base ≤ at = omega arith in
       record {
         next = omega (arith, p .keeps .above at low);
@@ -240,7 +240,7 @@ module _ (text : List ℕ) {s₀ table₀ : List ℕ} {from end top before : ℕ
       → next ≡ at + 2 + size → Looked text s now (at + 2) m → place ≡ getD s (at + 4) 0 → NameFaults table m place st r → Enters s s′ table table′ now
       (at + 2) m k now′ → (y : ReadyGroup s₀ table₀ from end top before) → GroupPart y s table at k now st → GroupPart y s′ table′ next (k + 1) now′ r
   unfolding functionsAfter takenAfter groupNameFaults startsIn
-  names-next {s} {s′} {table} {table′} {at} {k} {now} {size} {next} {m} {place} {now′} {st} {r} l es en lk ep nf ent y p =
+  names-next {s} {s′} {table} {table′} {at} {k} {now} {size} {next} {m} {place} l es en lk ep nf ent y p =
       let u = is-function (p .rest) (p .lies) (p .ends) l in let w = names-fit l y p in let c = ap length (u .same) in let sc = p .scope in
       let name = u .part .name in let f = lookup text sc name in let n : nameAt s (at + 2) ≡ name = function-name l y p in let four : at + 4 ≡ at + 2
       + 2 = omega arith in let place-is : place ≡ name .place = cc in let m-is : m ≡ found f = rw (lk .by sc (p .shows), n) in let small : (i : ℕ) → f
@@ -280,7 +280,7 @@ module _ (text : List ℕ) {s₀ table₀ : List ℕ} {from end top before : ℕ
       → ((y : ReadyGroup s₀ table₀ from end top before) → GroupPart y s table at k now st)
       → GroupNames text s₀ s table₀ table from end top before st₀ (record { top = now; state = st })
   unfolding functionsAfter takenAfter groupNameFaults startsIn
-  names-end {s} {table} {at} {k} {now} {st} l q = record {
+  names-end {s} {table} {at} {k} l q = record {
     by = λ y. let p = q y in let e = no-function (p .rest) (p .ends) l in let fs : groupNameFaults text before (y .scope) (y .taken) (y .functions)
         ≡ p .bad =
         simp (p .faults, e, append-nil) in let ss : startsIn text before (y .scope) (y .functions) ≡ p .begun =

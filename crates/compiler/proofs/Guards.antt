@@ -102,7 +102,7 @@ pub record IsGuarded (s : List ℕ) (lo end w : ℕ) (u : Unlabelled) : Type 0 w
   pub ends : end ≡ lo + length (encode test) + length (encodeCommand body) + 4
 
 pub kind-of : {s x : List ℕ} {lo end : ℕ} (u : IsClosed x) → Lies s lo x → end ≡ lo + length x → getD s (end - 1) 0 ≡ u .kind
-kind-of {s} {x} {lo} u h e =
+kind-of u h e =
     let w = u .inner in let v = u .value in let p = u .place in let k = u .kind in
     kind-is w v p k (rw (u .is) at h) (rw (e, u .is))
 
@@ -152,7 +152,7 @@ module _ {s : List ℕ} {end : ℕ} {here : Here} {st : State} (n b : Node) (nd 
       bd .start ∙ sym (k .0)
 
   abbrev pub guard-test : {a : State} → Fresh 1 st a → ReadyU s end here st → ReadyE s (b .start) here a
-  guard-test {a} e y = let u = guard-is y in sub y keeps-all (u .lies) refl (omega (arith, guard-middle y, guard-deep y .0)) (guard-fine y .0)
+  guard-test e y = let u = guard-is y in sub y keeps-all (u .lies) refl (omega (arith, guard-middle y, guard-deep y .0)) (guard-fine y .0)
 
   module _ (text : List ℕ) {s₁ t t₁ t₂ : List ℕ} {a c d : State} {j : ℕ} (e : Fresh 1 st a) (g : GaveE text s s₁ (b .start) here t t₁ a c)
       (f : Emits (G.to j (st .label) ∷ []) [] t₁ t₂ c d) where

@@ -228,7 +228,7 @@ module _ (g : Bool) (text : List ℕ) {s₀ : List ℕ} {from end top : ℕ} (st
 
   pub items-end : {s : List ℕ} {at : ℕ} (k : ℕ) {st : State} → end ≤ at → ((y : ReadyItems s₀ from end top) → ItemsPart y s at k st)
       → Items g text s₀ s from end top st₀ (record { top = top + 2 * k; state = st })
-  items-end {s} {at} k {st} l q = record {
+  items-end k {st} l q = record {
     by = λ y. let p = q y in let e = no-item (p .rest) (p .ends) l in let c : k ≡ length (y .items) = omega (arith, ap length e) in record {
       moved = omega arith;
       shows = rw (p .same ∙ ap (after g text (p .scope)) e ∙ after-none g text (p .scope)) (p .shows);

@@ -216,7 +216,7 @@ not-too-big most c (refused fs) l (unfit a b w) = unfit a b w
 module _ (most : ℕ) {text s : List ℕ} {end top : ℕ} {j : Verdict} (g : Judges text s end top j) where
   pub most-big : {p e₂ : ℕ} → most < j .word → e₂ ≡ end - 2 → p ≡ getD s e₂ 0 → p < 2 ^ 32
       → JudgesMost most text s end top (record { word = 0; number = 11; place = p })
-  most-big {p} {e₂} l q e f = record {
+  most-big l q e f = record {
     small = omega arith;
     fits = (f, omega arith);
     by = λ sc lo c sh fine h en. too-big most c (judge text sc c) l (rw (e, q, place-there c fine h en)) (g .by sc lo c sh fine h en);
@@ -291,7 +291,7 @@ module _ {s : List ℕ} {end : ℕ} {here : Here} {st : State} (n : Node) (nd : 
   vector-fine y = subst FineLocal (vector-is y .same) (y .fine)
 
   abbrev pub vector-names : {e : ℕ} → e ≡ n .start + 4 → ReadyLocal s end here st → ReadyNames s (n .start) e (here .top) (here .height)
-  vector-names {e} ee y = let u = vector-is y in record {
+  vector-names ee y = let u = vector-is y in record {
     base = y .base;
     scope = y .scope;
     names = u .name ∷ [];
@@ -407,7 +407,7 @@ module _ {s : List ℕ} {end : ℕ} {here : Here} {st : State} (n : Node) (nd : 
         → top ≡ here .top + n .value / 2 → height ≡ here .height + n .value / 4
         → GaveLocal text s s₂ end here t t′ st (record { top = top; height = height; done = b })
     unfolding scopeWith heightWith faultsL localSays
-    values-gave {s₂} {top} {height} {b} de et eh = record {
+    values-gave {s₂} {top} {height} de et eh = record {
       by = λ y. let u = values-is y in let sc = y .scope in let h = here .height in let ns = u .names in let x = g .by (values-args y) in
           let d = de .by (values-names y) in let v : n .value ≡ 4 * length ns = nd .value ∙ u .value-of ∙ names-long ns in let two : here .top + 2
           * length ns ≡ top = omega arith in

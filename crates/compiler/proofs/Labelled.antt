@@ -177,7 +177,7 @@ emptiness (T.leave w p) = isFull (λ e. let z : _≡_ {A = ℕ} 0 1 = cc in omeg
 emptiness (T.block ls cs) = isFull (λ e. let z : _≡_ {A = ℕ} 0 1 = cc in omega arith)
 
 pub closed-long : {x : List ℕ} → IsClosed x → 4 ≤ length x
-closed-long {x} u = omega (arith, ap length (u .is), length-append (u .inner) (length (u .inner) ∷ u .value ∷ u .place ∷ u .kind ∷ []))
+closed-long u = omega (arith, ap length (u .is), length-append (u .inner) (length (u .inner) ∷ u .value ∷ u .place ∷ u .kind ∷ []))
 
 repeated-long : (w x : List ℕ) → length w ≤ length (O.repeated w x)
 unfolding O.repeated
@@ -206,13 +206,7 @@ empty-length = refl
 pub something-left : (ls : List Label) (u : Unlabelled) (rs : Repeats) → FineC (T.command ls u rs)
     → (length (O.repeated (encodeUnlabelled u) (encodeRepeats rs)) ≡ 0 → ⊥) → FineRepeated (record { body = u; forms = rs })
 unfolding FineCommand
-something-left ls u rs f n = (
-  (
-    f .1,
-    λ e. n (rw (e, empty-alone ls u rs f e, empty-length)),
-  ),
-  f .2,
-)
+something-left ls u rs f n = ((f .1, λ e. n (rw (e, empty-alone ls u rs f e, empty-length))), f .2)
 
 pub command-deep : (ls : List Label) (u : Unlabelled) (rs : Repeats) {c : Command} {k : ℕ} → c ≡ T.command ls u rs → commandDepth c ≤ k
     → deepRepeated (record { body = u; forms = rs }) + 1 ≤ k

@@ -177,7 +177,7 @@ walked-items {text} {t = t} w false is a i n = record {
 
 pub gave-items : {text s s′ table t : List ℕ} {from end tag left strings : ℕ} {l r : Progress} → (tag ≡ K.LET → ⊥)
     → NamedItems (eqb tag K.GLOBAL) text s s′ from end l r → GaveDeclaration text s s′ table table from end tag left strings t t l r
-gave-items {text} {s} {s′} {table} {t} {tag = tag} {strings = strings} {l} {r} n x = record {
+gave-items {text} {s} {s′} {table} {t} {tag = tag} n x = record {
   by = λ y. let u = is-items (y .part) (y .word) n in
       rw (u .same) (walked-items (y .walk) (eqb tag K.GLOBAL) (u .items) (y .stands) (x .known .by (ready-items n y)) x);
 }
@@ -266,7 +266,7 @@ walked-group : {text s s₁ s₂ table table₁ t t′ : List ℕ} {base left st
     → n ≡ length fs → WalkedOn text (counted w (l .functions)) (T.functions fs) base strings s s₂ table table₁ t t′ l
     (record { top = k .top; functions = l .functions + n; done = d })
 unfolding afterDeclaration declaredBy
-walked-group {text} {table₁ = table₁} {t} {l = l} {k} {st} {d} w fs a x e z q =
+walked-group {text} {table₁ = table₁} {t} {l = l} w fs a x e z q =
     let i = l .functions in let sc = functionsAfter text i (w .scope) fs in let gs = groupOf text i (w .scope) sc fs in let r = z .result in
     record {
       stands = record {
@@ -291,7 +291,7 @@ pub gave-group : {text s s₁ s₂ table table₁ t t′ : List ℕ} {from end l
     → GaveFs text s₁ s₂ from end (l .functions + 1) (record { top = k .top; height = 0; left = left; strings = strings; routine = false }) t t′
     (record { tall = l .done .tall; state = st }) d
     → GaveDeclaration text s s₂ table table₁ from end K.LET left strings t t′ l (record { top = k .top; functions = l .functions + n; done = d })
-gave-group {text} {s} {s₁} {s₂} {table} {table₁} {t} {t′} {from} {end} {left} {strings} {n} {l} {k} {st} {d} c g e h = record {
+gave-group {text} {s} {s₁} {s₂} {table} {table₁} {t} {t′} {from} {end} {left} {strings} {n} {l} c g e h = record {
   by = λ y. let u = grp y in let w = y .walk in let fs = u .functions in let x = ready-group y in let same : counted w (l .functions) ≡ w
       = ap (counted w) (y .stands .many) in
       rw (u .same) (rw same at (walked-group w fs (y .stands) (g .by x) e (h .by (ready-fs y g e) (w .scope) (l .functions))
@@ -301,9 +301,9 @@ gave-group {text} {s} {s₁} {s₂} {table} {table₁} {t} {t′} {from} {end} {
 -- the same declaration by its tag
 pub ready-let : {s table : List ℕ} {from end tag left strings : ℕ} {l : Progress} → tag ≡ K.LET
     → ReadyDeclaration s table from end tag left strings l → ReadyDeclaration s table from end K.LET left strings l
-ready-let {s} {table} {from} {end} {left = left} {strings} {l} e y = rw e at y
+ready-let e y = rw e at y
 
 pub gave-let : {text s s′ table table′ t t′ : List ℕ} {from end tag left strings : ℕ} {l r : Progress} → tag ≡ K.LET
     → GaveDeclaration text s s′ table table′ from end K.LET left strings t t′ l r
     → GaveDeclaration text s s′ table table′ from end tag left strings t t′ l r
-gave-let {text} {s} {s′} {table} {table′} {t} {t′} {from} {end} {left = left} {strings} {l} {r} e x = rw e x
+gave-let e x = rw e x

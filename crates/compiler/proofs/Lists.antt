@@ -78,7 +78,7 @@ module _ {L A : Type 0} {k : Kind L A} {few : L → ℕ} {fs : ℕ → L → Lis
     {s₀ : List ℕ} {from end : ℕ} {here : Here} {before : State} (z : Ready (k .all) (k .deep) (k .Fine) s₀ end here before) (zs : z .lo ≡ from) where
   pub begins : {t₀ : List ℕ} {st₀ : State} {i₀ i : ℕ} {h : ℕ} → h ≡ here .height → i ≡ i₀ → 0 < st₀ .label
       → Part k few fs code (z .tree) from end (z .base) (here .top) (here .left) (here .height) h i₀ i s₀ s₀ t₀ t₀ st₀ st₀ from
-  begins {t₀} {st₀} {i₀} {i} eh e some = record {
+  begins eh e some = record {
     rest = z .tree;
     lies = rw zs at (z .lies);
     ends = omega arith;
@@ -125,7 +125,7 @@ module _ {L A : Type 0} {k : Kind L A} {few : L → ℕ} {fs : ℕ → L → Lis
         → ((t′ : List ℕ) (st′ : State) → Did (fs i′ (item .more)) (code i′ (item .more)) (2 * few (item .more)) t₁ t′ st₁ st′
         → Did (fs i (k .with (item .part) (item .more))) (code i (k .with (item .part) (item .more))) (2 * few (p .rest)) t t′ st st′)
         → Part k few fs code (z .tree) from end (z .base) (here .top) (here .left) (here .height) h′ i₀ i′ s₀ s₁ t₀ t₁ st₀ st₁ next
-    goes-on {s₁} {t₁} {st₁} {h′} {i′} kept up labels some step = record {
+    goes-on kept up labels some step = record {
       rest = item .more;
       lies = subst (λ (n : ℕ). Lies s₀ n (k .all (item .more))) (omega (arith, one-size)) (item .lies-more);
       ends = omega (arith, item .ends, one-size);
@@ -143,4 +143,4 @@ module _ {L A : Type 0} {k : Kind L A} {few : L → ℕ} {fs : ℕ → L → Lis
 pub ended : {L A : Type 0} {k : Kind L A} {few : L → ℕ} {fs : ℕ → L → List Fault} {code : ℕ → L → ℕ → Code} {all : L}
     {from end base top left h₀ h i₀ i at : ℕ} {s₀ s t₀ t : List ℕ} {st₀ st : State} → Part k few fs code all from end base top left h₀ h i₀ i s₀ s t₀
     t st₀ st at → end ≤ at → ((m : ℕ) → Did (fs i (k .none)) (code i (k .none)) m t t st st) → Did (fs i₀ all) (code i₀ all) (2 * few all) t₀ t st₀ st
-ended {k = k} {few} {fs} {code} {i = i} {t = t} {st = st} p l d = p .finish t st (rw (k .empty (p .rest) (omega arith)) (d _))
+ended {k = k} {few} {fs} {t = t} {st = st} p l d = p .finish t st (rw (k .empty (p .rest) (omega arith)) (d _))

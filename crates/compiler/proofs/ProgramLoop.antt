@@ -60,7 +60,7 @@ starts-then (g ∷ gs) hs = rw (starts-then gs hs)
 
 none-taken : {table : List ℕ} → table ≡ replicate 400 0 → Taken table []
 unfolding among
-none-taken {table} e = record {
+none-taken e = record {
   long = ap length e ∙ length-replicate {A = ℕ} 400 0;
   free = λ n l q. rw (e, getD-replicate {A = ℕ} 400 n 0 0 l);
   used = λ n l q. let z : _≡_ {A = Bool} false true = q in let y : _≡_ {A = ℕ} 0 1 = cc in absurd (omega arith);
@@ -178,7 +178,7 @@ module _ (text t₀ : List ℕ) {s₀ table₀ : List ℕ} {base end left string
     pub program-next : {s₁ table₁ t₁ : List ℕ} {r : Progress} → GaveDeclaration text s s₁ table table₁ (at + 2) next tag left strings t t₁ l r
         → ProgramPart y s₁ table₁ t₁ next r
     unfolding faultsFrom functionsFrom
-    program-next {s₁} {table₁} {t₁} {r} g =
+    program-next {s₁} {table₁} g =
         let u = program-one in let x = g .by program-ready in let w = p .walk in let w′ = afterDeclaration text w (u .part) in
         let fs = declarationFaults text w (u .part) in let gs = declarationFunctions text w (u .part) in
         record {
@@ -213,7 +213,7 @@ module _ (text t₀ : List ℕ) {s₀ table₀ : List ℕ} {base end left string
       → ((y : ReadyProgram s₀ table₀ base end left strings d₀) → ProgramPart y s table t at l)
       → GaveProgram text s₀ s table₀ table base end left strings t₀ t d₀ (l .done)
   unfolding faultsFrom functionsFrom
-  program-end {s} {table} {t} {at} {l} lt q = record {
+  program-end {s} {table} {t} {at} lt q = record {
     by = λ y. let p = q y in let e = no-declaration (p .rest) (p .ends) lt in let fe : p .found ≡ faultsFrom text begin (y .program)
         = cc (append-nil (p .found)) in
         let me : p .made ≡ functionsFrom text begin (y .program) = cc (append-nil (p .made)) in let r = yields-as (2 * length (encodeProgram (y .program))) fe me (omega arith) (p .yields) in

@@ -214,7 +214,7 @@ module _ (text t₀ : List ℕ) (own₀ : ℕ) {s₀ : List ℕ} {from end : ℕ
     pub forms-next : {s₁ t₁ t₂ t₃ : List ℕ} {own′ : ℕ} {a b r : State} → Emits (I.label (own + 1) ∷ []) [] t t₁ st a
         → GaveForm text s s₁ next size word own here t₁ t₂ a b → Emits (I.label (own + 2) ∷ []) [] t₂ t₃ b r
         → own′ ≡ own - 3 → (y : ReadyForms s₀ from end here st₀) → FormsPart y s t at own st → FormsPart y s₁ t₃ next own′ r
-    forms-next {t₃ = t₃} {r = r} m₁ g m₂ eo y p =
+    forms-next m₁ g m₂ eo y p =
         let z = y .ready in let u = one l es ew en y p in let x = form-did l es ew en y p (m₁ .label) g in let sc = z .scope in
         let n = forms-conditions l es ew en y p in
         goes-on z (y .starts) l es en p (x .0) (omega arith) (omega arith) (omega arith)
@@ -237,9 +237,7 @@ pub form-tested : (text : List ℕ) {s s₁ t t₁ t₂ : List ℕ} {end size wo
     → Emits (G.to j own ∷ []) [] t₁ t₂ a r → GaveForm text s s₁ end size word own here t t₂ st r
 form-tested text {t₁ = t₁} {t₂} {own = own} {a = a} {r} n g ej f = record {
   plain = λ q. absurd (n q);
-  on = λ q. record {
-    by = λ y. let x = g .by y in record { keeps = x .keeps; did = did-put (x .did) (rw ej at f) };
-  };
+  on = λ q. record { by = λ y. let x = g .by y in record { keeps = x .keeps; did = did-put (x .did) (rw ej at f) } };
 }
 
 -- ---- a command with REPEAT forms
@@ -348,7 +346,7 @@ module _ {s : List ℕ} {end : ℕ} {here : Here} {st : State} (n : Node) (nd : 
 
         pub repeated-gave : {s₂ t₃ : List ℕ} {r : State} → GaveForms text s₁ s₂ middle (n .inner) own here t₂ t₃ d r
             → GaveR text s s₂ end here ways t t₃ st r
-        repeated-gave {s₂} {t₃} {r} g₂ = record {
+        repeated-gave g₂ = record {
           by = λ y. let u = repeated-is y in let x = g .by (repeated-body y) in let z = g₂ .by (repeated-forms y) in let sc = y .scope in
               let h = here .height in let S = here .strings in let L = st .label in let rs = y .tree .forms in let C = unlabelled text sc h
               (y .tree .body) in let lv = leavableBy ways here in let N = L + 3 * k in let ek = repeated-count y in let l₁ : leavableBy

@@ -88,8 +88,8 @@ module _ (text : List ℕ) {s : List ℕ} {from end top : ℕ} where
 
     pub by-zero : {p e₂ : ℕ} → j .number ≡ 0 → j .word ≡ 0 → e₂ ≡ end - 2 → p ≡ getD s e₂ 0 → p < 2 ^ 32
         → JudgesBy text s from end top (record { word = 0; number = 11; place = p })
-    by-zero {p} {e₂} n w q e f = judges-by l (f, omega arith) (λ sc c sh fine h en. a-zero c (judge text sc c) n w
-        (rw (e, q, place-there c fine h en)) (g .by sc from c sh fine h en))
+    by-zero n w q e f = judges-by l (f, omega arith) (λ sc c sh fine h en. a-zero c (judge text sc c) n w (rw (e, q, place-there c fine h en))
+        (g .by sc from c sh fine h en))
 
 -- ---- the loop over items
 
@@ -138,7 +138,7 @@ an-item {s} {at} {end} {tag} w rest h e f =
 
 case-at : {s : List ℕ} {lo end : ℕ} (p : ℕ) (c : Constant) → FineConstant c → Lies s lo (closed (encodeConstant c) 0 p 28)
     → end ≡ lo + length (closed (encodeConstant c) 0 p 28) → LabelAt s end (T.case p c)
-case-at {s} {lo} {end} p c f h e = let w = encodeConstant c in
+case-at p c f h e = let w = encodeConstant c in
     aCase (kind-is w 0 p 28 h e) (place-is w 0 p 28 h e) (kid w 0 p 28 h e) (omega (arith, ends w 0 p 28 h e)) f
 
 default-at : {s : List ℕ} {lo end : ℕ} (p : ℕ) → Lies s lo (closed [] 0 p 29) → end ≡ lo + length (closed [] 0 p 29) → LabelAt s end (T.default p)
@@ -148,16 +148,16 @@ pub labels-row : {s : List ℕ} {at end : ℕ} (ls : List Label) → FineLabels 
     → Row (LabelAt s) s end at ls
 unfolding encodeLabels FineLabels
 labels-row {at = at} [] f h e = noMore {at = at} (omega arith)
-labels-row {s} {at} {end} (T.case p c ∷ ls) f h e = an-item (closed (encodeConstant c) 0 p 28) (encodeLabels ls) h e
-    (λ z lies more en. andMore {at = at} (omega arith) (case-at p c (f .0) lies z) (labels-row ls (f .1) more en))
-labels-row {s} {at} {end} (T.default p ∷ ls) f h e = an-item (closed [] 0 p 29) (encodeLabels ls) h e
-    (λ z lies more en. andMore {at = at} (omega arith) (default-at p lies z) (labels-row ls f more en))
+labels-row {s} {at} (T.case p c ∷ ls) f h e = an-item (closed (encodeConstant c) 0 p 28) (encodeLabels ls) h e (λ z lies more en. andMore {at = at}
+    (omega arith) (case-at p c (f .0) lies z) (labels-row ls (f .1) more en))
+labels-row {s} {at} (T.default p ∷ ls) f h e = an-item (closed [] 0 p 29) (encodeLabels ls) h e (λ z lies more en. andMore {at = at} (omega arith)
+    (default-at p lies z) (labels-row ls f more en))
 
 -- ---- a label before no command of a list
 
 pub twelve : {s : List ℕ} {end : ℕ} {st a : State} {n : Node} → NodeAt s end n → Faulted (n .place) 12 st a → {place : ℕ} → getD s (end - 2) 0 ≡ place
     → (t : List ℕ) → Did (fault place 12) nothing 0 t t st a
-twelve {st = st} {a} nd w e t = rw (nd .place ∙ e) at (w .by nothing t)
+twelve nd w e t = rw (nd .place ∙ e) at (w .by nothing t)
 
 module _ (text : List ℕ) {s : List ℕ} {end top : ℕ} {st : State} (n : Node) (nd : NodeAt s end n) {a : State} (w : Faulted (n .place) 12 st a) where
   pub misplaced-default : (n .kind ≡ 28 → ⊥) → MisplacesLabel text s end top st a

@@ -47,8 +47,7 @@ module _ (text : List ℕ) (p q n : ℕ) where
 
   pub long : {a b : ℕ} → a ≡ min n (length text - p) → b ≡ min n (length text - q) → a ≡ b
       → sameBytes (take a (drop p text)) (take a (drop q text)) ≡ sameBytes (take n (drop p text)) (take n (drop q text))
-  long {a} {b} ea eb h =
-      let x : take a (drop p text) ≡ take n (drop p text) = rw (ea, spelt p) in let y : take a (drop q text) ≡ take n (drop q text)
+  long {a} ea eb h = let x : take a (drop p text) ≡ take n (drop p text) = rw (ea, spelt p) in let y : take a (drop q text) ≡ take n (drop q text)
       = rw (h, eb, spelt q) in
       rw (x, y)
 
@@ -130,7 +129,7 @@ pub left-then : {A : Type 0} (ask : Scope → A) {s : List ℕ} {at at′ : ℕ}
 left-then ask sc l r = record { rest = r .rest; shows = r .shows; same = l .same ∙ r .same }
 
 at-as : {s : List ℕ} {at at′ : ℕ} {sc : Scope} → at ≡ at′ → Shows s at sc → Shows s at′ sc
-at-as {s} {sc = sc} e h = rw e at h
+at-as e h = rw e at h
 
 pub shows-low : {s : List ℕ} {top : ℕ} {sc : Scope} → Shows s top sc → top ≤ length s
 shows-low (nothing e) = omega arith
@@ -191,12 +190,7 @@ module _ (text s : List ℕ) (leaf at : ℕ) where
       unfolding lookup
       at-other (nothing e) f = absurd (omega arith)
       at-other (mark {below = b} h e v y) f = absurd (not-mark b e y)
-      at-other (name {below = b} {sc} {n} {w} h e v p y c u) f =
-          record {
-            rest = sc;
-            shows = at-as (omega arith) h;
-            same = cc (told b e p y f);
-          }
+      at-other (name {below = b} {sc} {n} {w} h e v p y c u) f = record { rest = sc; shows = at-as (omega arith) h; same = cc (told b e p y f) }
 
       pub at-found : {sc : Scope} → Shows s at sc → true ≡ sameName text (named (x / 65536) (x % 65536)) (named place width)
           → z ≡ found (lookup text sc (nameAt s leaf))
@@ -210,12 +204,7 @@ module _ (text s : List ℕ) (leaf at : ℕ) where
       unfolding inBlock
       in-other (nothing e) f = absurd (omega arith)
       in-other (mark {below = b} h e v y) f = absurd (not-mark b e y)
-      in-other (name {below = b} {sc} {n} {w} h e v p y c u) f =
-          record {
-            rest = sc;
-            shows = at-as (omega arith) h;
-            same = cc (told b e p y f);
-          }
+      in-other (name {below = b} {sc} {n} {w} h e v p y c u) f = record { rest = sc; shows = at-as (omega arith) h; same = cc (told b e p y f) }
 
       pub in-found : {sc : Scope} → Shows s at sc → true ≡ sameName text (named (x / 65536) (x % 65536)) (named place width)
           → z ≡ found (inBlock text sc (nameAt s leaf))

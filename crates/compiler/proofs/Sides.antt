@@ -46,12 +46,12 @@ use Rattle.compiler.proofs.Guards.{IsClosed, expression-closed, kind-of
 -- ---- places and values of records
 
 pub place-of : {s x : List ℕ} {lo end : ℕ} (u : IsClosed x) → Lies s lo x → end ≡ lo + length x → getD s (end - 2) 0 ≡ u .place
-place-of {s} {x} {lo} u h e =
+place-of u h e =
     let w = u .inner in let v = u .value in let p = u .place in let k = u .kind in
     place-is w v p k (rw (u .is) at h) (rw (e, u .is))
 
 pub value-of : {s x : List ℕ} {lo end : ℕ} (u : IsClosed x) → Lies s lo x → end ≡ lo + length x → getD s (end - 3) 0 ≡ u .value
-value-of {s} {x} {lo} u h e =
+value-of u h e =
     let w = u .inner in let v = u .value in let p = u .place in let k = u .kind in
     value-is w v p k (rw (u .is) at h) (rw (e, u .is))
 
@@ -327,10 +327,7 @@ module _ (text : List ℕ) {s s′ t t′ : List ℕ} {end : ℕ} (place : ℕ) 
         let ou : u .operator ≡ 49 = sym (u .value-of) ∙ sym (nd .value) ∙ ev in
         subst (Address text s place s′ t t′ st r here sc (y .base) (length (encode (y .tree))))
         (sym (u .same ∙ ap (λ (o : ℕ). T.monadic (u .place) o (u .part)) ou))
-        (record {
-          keeps = x .keeps;
-          did = did-as _ _ (x .did) (same-eq (sym (append-nil _) ∙ sym (append-nil _))) (λ m v. refl) (omega arith);
-        });
+        (record { keeps = x .keeps; did = did-as _ _ (x .did) (same-eq (sym (append-nil _) ∙ sym (append-nil _))) (λ m v. refl) (omega arith) });
   }
 
   pub address-refused : (n .kind ≡ 51 → ⊥) → (n .kind ≡ 59 → ⊥) → (n .kind ≡ 129 → ⊥) → (n .kind ≡ 128 → n .value ≡ 49 → ⊥)
@@ -341,17 +338,14 @@ module _ (text : List ℕ) {s s′ t t′ : List ℕ} {end : ℕ} (place : ℕ) 
         let k = nd .kind ∙ kind-of c (y .lies) (y .ends) in let v = nd .value ∙ value-of c (y .lies) (y .ends) in
         let z = no-side text sc (here .height) e (y .fine) (λ i. n1 (k ∙ i)) (λ i. n2 (k ∙ i)) (λ i. n3 (k ∙ i)) (λ i j. n4 (k ∙ i) (v ∙ j)) in
         let x = g .by (λ sc e. exprSays here (addressOf (sideOf (expression text sc (here .height) e)))) .by y in
-        record {
-          keeps = x .keeps;
-          did = did-as _ _ (x .did) (same-eq (rw z)) (λ m v. refl) (omega arith);
-        };
+        record { keeps = x .keeps; did = did-as _ _ (x .did) (same-eq (rw z)) (λ m v. refl) (omega arith) };
   }
 
 module _ (text : List ℕ) {s t t′ : List ℕ} {end : ℕ} (place : ℕ) {here : Here} {st r : State} (n : Node) (nd : NodeAt s end n) where
   pub address-name : {m : ℕ} → n .kind ≡ 59 → Looked text s (here .top) (n .inner) m → AddressOf m (n .place) place t t′ st r
       → GaveAddress text s s end place here t t′ st r
   unfolding inExpression expression
-  address-name {m} q lk f = record {
+  address-name q lk f = record {
     by = λ y. let u = is-name (find n nd q y) in let sc = y .scope in let w = lookup text sc (u .name) in let a : n .inner + 2 ≡ end - 2
         = omega arith in let b : n .inner + 1 ≡ end - 3 = omega arith in let ex : nameAt s (n .inner) ≡ u .name
         = rw (a, u .place-of, b, u .width-of) in
@@ -485,17 +479,14 @@ module _ (text : List ℕ) {s s′ t t′ : List ℕ} {end : ℕ} (place : ℕ) 
         let k = nd .kind ∙ kind-of c (y .lies) (y .ends) in let v = nd .value ∙ value-of c (y .lies) (y .ends) in
         let z = no-side text sc (h + 1) e (y .fine) (λ i. n1 (k ∙ i)) (λ i. n2 (k ∙ i)) (λ i. n3 (k ∙ i)) (λ i j. n4 (k ∙ i) (v ∙ j)) in
         let x = g .by (λ sc e. targetSays here (targetOf (sideOf (expression text sc (h + 1) e)))) .by y in
-        record {
-          keeps = x .keeps;
-          did = did-as _ _ (x .did) (same-eq (rw z)) (λ m v. refl) (omega arith);
-        };
+        record { keeps = x .keeps; did = did-as _ _ (x .did) (same-eq (rw z)) (λ m v. refl) (omega arith) };
   }
 
 module _ (text : List ℕ) {s t t′ : List ℕ} {end : ℕ} (place : ℕ) (here : Here) {st r : State} (n : Node) (nd : NodeAt s end n) where
   pub side-name : {m : ℕ} → n .kind ≡ 59 → Looked text s (here .top) (n .inner) m → StoreTo m (n .place) place t t′ st r
       → GaveSide text s s end place here t t′ st r
   unfolding inExpression expression
-  side-name {m} q lk f = record {
+  side-name q lk f = record {
     by = λ y. let u = is-name (find n nd q y) in let sc = y .scope in let w = lookup text sc (u .name) in let h = here .height in let a : n .inner + 2
         ≡ end - 2 = omega arith in let b : n .inner + 1 ≡ end - 3 = omega arith in let ex : nameAt s (n .inner) ≡ u .name
         = rw (a, u .place-of, b, u .width-of) in
@@ -570,4 +561,4 @@ gave-side-at text place {s} {s′} {t} {t′} {end} {st = st} {r} e g = rw e at 
 
 pub gave-refused-at : {text s s′ t t′ : List ℕ} {end place : ℕ} {d d′ : Here} {st r : State} → d′ ≡ d → GaveRefused text s s′ end place d′ t t′ st r
     → GaveRefused text s s′ end place d t t′ st r
-gave-refused-at {text} {s} {s′} {t} {t′} {end} {place} {st = st} {r} e g = rw e at g
+gave-refused-at e g = rw e at g

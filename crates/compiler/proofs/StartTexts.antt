@@ -23,7 +23,7 @@ pub passed-begin : {table : List ℕ} {label : ℕ} → Passed table label 0
 passed-begin = record { none = λ m h e. omega arith }
 
 pub passed-next : {table : List ℕ} {label n k : ℕ} → k ≡ getD table n 0 → (k ≡ label → ⊥) → Passed table label n → Passed table label (n + 1)
-passed-next {table} {label} {n} {k} e f p = record { none = λ m h q. go m (order m n) h q }
+passed-next {table} {label} {n} e f p = record { none = λ m h q. go m (order m n) h q }
   where
     go : (m : ℕ) → Order m n → m < n + 1 → getD table m 0 ≡ label → ⊥
     go m (lt l) h q = p .none m l q
@@ -84,7 +84,7 @@ starts-at (x ∷ a) f b = starts-at a f b
 
 one-start : {table : List ℕ} {k : ℕ} {ss : List Start} (s : Start) → length table ≡ 400 → Starting table ss → getD ss k nowhere ≡ s
     → StartsAt table (suc k) s
-one-start {table} {k} {ss} s l q e = record {
+one-start {table} {k} s l q e = record {
   is = λ n h g. sym e ∙ q .is n k h g;
   has = λ n g. let z : getD table n 0 ≡ suc k = q .has n k (e ∙ g) in (go n (order n 400) z, z);
 }

@@ -135,23 +135,21 @@ spelling-mistake {source} {i = i} e q = record { by = λ cs width z. absurd (clo
 pub string-put : {source : List ℕ} {place at a b c d r : ℕ} {t t₁ t₂ t₃ t₄ t₅ : List ℕ} → Puts (67 ∷ []) at a t t₁ → Puts (34 ∷ []) a b t₁ t₂
     → WritesCharacters source (place + 1) b c t₂ t₃ → Puts (34 ∷ []) c d t₃ t₄ → Puts (10 ∷ []) d r t₄ t₅ → WritesString source place at r t t₅
 unfolding line render
-string-put {source} {place} {at} {r = r} {t = t} {t₅ = t₅} p q w u v = record {
+string-put {source} {place} p q w u v = record {
   by = λ e. let z : place + 1 ≡ suc place = omega arith in
       puts-as (puts-then p (puts-then q (puts-then (w .by (e .characters) (e .width) (rw z (e .closes))) (puts-then u v)))) (simp append-assoc);
 }
 
 pub symbol-none : {source : List ℕ} {kind place l at : ℕ} {t : List ℕ} → (kind ≡ STRING → ⊥) → WritesSymbol source kind place l at at t t
 unfolding symbolCode lines
-symbol-none {source} {kind} {place} {l} {at} {t} n = record { by = λ e. rw (ne-eqb kind STRING n) puts-none }
+symbol-none {source} {kind} n = record { by = λ e. rw (ne-eqb kind STRING n) puts-none }
 
 pub symbol-put : {source : List ℕ} {kind place l at x r : ℕ} {t t₁ t₂ : List ℕ} → kind ≡ STRING → Puts (line (I.label l)) at x t t₁
     → WritesString source place x r t₁ t₂
     → WritesSymbol source kind place l at r t t₂
 unfolding symbolCode lines
-symbol-put {source} {kind} {place} {l} {at} {x} {r} {t} {t₁} {t₂} q p w =
-    record {
-      by = λ e. let z = e q in rw (eq-eqb kind STRING q, z .closes) (puts-as (puts-then p (w .by z)) (simp append-nil));
-    }
+symbol-put {source} {kind} q p w =
+    record { by = λ e. let z = e q in rw (eq-eqb kind STRING q, z .closes) (puts-as (puts-then p (w .by z)) (simp append-nil)) }
 
 -- ---- loops over the symbols: those from i on
 
@@ -217,7 +215,7 @@ counted-next {count} {s} {i} {n} {k} {d} h e f q =
 
 pub counted-end : {count : ℕ} {s : List ℕ} {i n : ℕ} → count ≤ i → Counted count s i n → n ≡ stringCount (decoded count s)
 unfolding stringCount
-counted-end {count} {s} {i} {n} h q = omega (arith, ap stringCount (symbols-none count s i h))
+counted-end {count} {s} {i} h q = omega (arith, ap stringCount (symbols-none count s i h))
 
 -- the first i are written, up to x, and n is the next label
 pub record StringsPart (source s : List ℕ) (count first i n at x : ℕ) (t t′ : List ℕ) : Type 0 where
@@ -232,14 +230,8 @@ pub record Listing (source s : List ℕ) (count first i n at x : ℕ) (t t′ : 
 
 pub listing-begin : {source s : List ℕ} {count first at : ℕ} {t : List ℕ} → Listing source s count first 0 first at at t t
 unfolding stringsCode lines
-listing-begin {source} {s} {count} {first} {at} {t} = record {
-  by = λ e. record {
-    done = [];
-    next = omega arith;
-    ends = rw (symbols-all count s) e;
-    all = rw (symbols-all count s) refl;
-    puts = puts-none;
-  };
+listing-begin {source} {s} {count} = record {
+  by = λ e. record { done = []; next = omega arith; ends = rw (symbols-all count s) e; all = rw (symbols-all count s) refl; puts = puts-none };
 }
 
 strings-then : (l : ℕ) (a b : List (List ℕ)) → stringsCode l (a ++ b) ≡ stringsCode l a ++ stringsCode (l + length a) b
@@ -283,7 +275,7 @@ of-symbol-first source x xs = go (eqb (x .kind) STRING)
 pub listing-next : {source s : List ℕ} {count first i n at x r k p d : ℕ} {t t₁ t₂ : List ℕ} → i < count → k ≡ getD s (i * 3) 0
     → p ≡ getD s (i * 3 + 2) 0 → d ≡ oneIf k
     → WritesSymbol source k p n x r t₁ t₂ → Listing source s count first i n at x t t₁ → Listing source s count first (i + 1) (n + d) at r t t₂
-listing-next {source} {s} {count} {first} {i} {n} {at} {x} {r} {k} {p} {d} {t} {t₁} {t₂} h ek ep ed w q = record {
+listing-next {source} {s} {count} {first} {i} {n} {at} {x} {r} {k} {p} h ek ep ed w q = record {
   by = λ e.
       let y = q .by e in
       let m = symbols-more count s i h in
@@ -310,6 +302,6 @@ listing-next {source} {s} {count} {first} {i} {n} {at} {x} {r} {k} {p} {d} {t} {
 pub listing-end : {source s : List ℕ} {count first i n at x : ℕ} {t t′ : List ℕ} → count ≤ i → Listing source s count first i n at x t t′
     → WritesStrings source s count first at x t t′
 unfolding stringsAmong
-listing-end {source} {s} {count} {first} {i} {n} {at} {x} {t} {t′} h q = record {
+listing-end {source} {s} {count} {first} {i} h q = record {
   by = λ e. let y = q .by e in puts-as (y .puts) (simp (y .all, symbols-none count s i h, append-nil));
 }

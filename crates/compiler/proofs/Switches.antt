@@ -67,7 +67,7 @@ module _ (text t₀ : List ℕ) (w : Ways) (l₀ : ℕ) {s₀ : List ℕ} {from 
       pub cases-next : {s₁ t₂ : List ℕ} {r : State} → GaveCase text s s₁ next here w t₁ t₂ a r → (y : ReadyCases s₀ from end here st₀)
           → CasesPart y s t at k st → CasesPart y s₁ t₂ next (k + 1) r
       unfolding casesFaults caseList G.casesCode ofCases G.casesLabels
-      cases-next {t₂ = t₂} {r} g y p =
+      cases-next g y p =
           let z = y .ready in let u = item z (y .starts) l es en p in let x = g .by (case-part y p) in let sc = z .scope in let h = here .height in
           let n = case-entries y p in let a : l₀ + (k + 1) ≡ suc (l₀ + k) = omega arith in
           goes-on z (y .starts) l es en p (x .keeps) (omega arith) (omega arith) (omega arith)
@@ -239,4 +239,4 @@ module _ {s : List ℕ} {end : ℕ} {here : Here} {st : State} (n : Node) (nd : 
 -- another name of the same ways
 pub gave-cases-at : {text s s′ t t′ : List ℕ} {from end l : ℕ} {here : Here} {w w′ : Ways} {st r : State} → w′ ≡ w
     → GaveCases text s s′ from end l here w′ t t′ st r → GaveCases text s s′ from end l here w t t′ st r
-gave-cases-at {text} {s} {s′} {t} {t′} {from} {end} {l} {here} {st = st} {r} e g = rw e at g
+gave-cases-at e g = rw e at g

@@ -46,11 +46,7 @@ use Rattle.compiler.proofs.Rows.{Left, left-all, left-next, left-end, a
 
 module _ {s : List ℕ} {end : ℕ} (n : Node) (nd : NodeAt s end n) where
   pub spans-bare : (n .kind ≡ 132 → ⊥) → Spans s end (record { from = 0; to = 0 })
-  spans-bare q =
-      record {
-        small = omega arith;
-        by = λ ls c. rw (c .bare (λ k. q (nd .kind ∙ k))) (noMore {at = 0} refl);
-      }
+  spans-bare q = record { small = omega arith; by = λ ls c. rw (c .bare (λ k. q (nd .kind ∙ k))) (noMore {at = 0} refl) }
 
   pub spans-none : {to : ℕ} → n .kind ≡ 132 → to ≡ n .start + n .value → n .inner < to → Spans s end (record { from = 0; to = 0 })
   spans-none q e l = record { small = omega arith; by = λ ls c. absurd (omega (arith, c .inside (sym (nd .kind) ∙ q))) }
@@ -80,11 +76,11 @@ labelled-at {s} {lo} {end} ls w f h e =
 
 guard-not : {w : ℕ} → isGuard w ≡ true → w ≡ 132 → ⊥
 unfolding isGuard member
-guard-not {w} f e = let z : isGuard 132 ≡ true = rw e at f in let x : _≡_ {A = ℕ} 0 1 = cc in omega arith
+guard-not f e = let z : isGuard 132 ≡ true = rw e at f in let x : _≡_ {A = ℕ} 0 1 = cc in omega arith
 
 leave-not : {w : ℕ} → isLeave w ≡ true → w ≡ 132 → ⊥
 unfolding isLeave member
-leave-not {w} f e = let z : isLeave 132 ≡ true = rw e at f in let x : _≡_ {A = ℕ} 0 1 = cc in omega arith
+leave-not f e = let z : isLeave 132 ≡ true = rw e at f in let x : _≡_ {A = ℕ} 0 1 = cc in omega arith
 
 suffixed-low : (b : Bool) → O.suffixedKind b ≤ 131
 unfolding O.suffixedKind
@@ -202,7 +198,7 @@ module _ {A : Type 0} (K : Holding A) where
 
 pub one-case-is : {s : List ℕ} {end i k : ℕ} → i ≡ end - 1 → k ≡ getD s i 0 → k ≡ 28 → CountsLabel s end 1
 unfolding caseItems
-one-case-is {s} {end} {i} {k} ei ek q = record { few = omega arith; by = go }
+one-case-is {s} {end} ei ek q = record { few = omega arith; by = go }
   where
     z : getD s (end - 1) 0 ≡ 28
     z = cc
@@ -213,7 +209,7 @@ one-case-is {s} {end} {i} {k} ei ek q = record { few = omega arith; by = go }
 
 pub one-case-not : {s : List ℕ} {end i k : ℕ} → i ≡ end - 1 → k ≡ getD s i 0 → (k ≡ 28 → ⊥) → CountsLabel s end 0
 unfolding caseItems
-one-case-not {s} {end} {i} {k} ei ek q = record { few = omega arith; by = go }
+one-case-not {s} {end} ei ek q = record { few = omega arith; by = go }
   where
     go : (l : Label) → LabelAt s end l → 0 ≡ caseItems (l ∷ [])
     go (T.case p c) (aCase a e h en f) = absurd (q (rw (ek, ei, a)))
@@ -304,7 +300,7 @@ unfolding lines greatest
 emits-none = record { text = puts-none; high = refl; worst = refl; label = refl }
 
 emits-as : {xs ys : List I.Item} {t t′ : List ℕ} {st r : State} → Emits xs [] t t′ st r → xs ≡ ys → Emits ys [] t t′ st r
-emits-as {t = t} {t′} {st} {r} e q = rw q at e
+emits-as e q = rw q at e
 
 pairs-good : (k : ℕ) (j : Judged) (ls : List CaseLabel) → G.pairsOf k (goodCase j []) ++ G.pairsOf k ls ≡ G.pairsOf k (goodCase j ls)
 unfolding G.pairsOf
@@ -328,8 +324,8 @@ sound-right (T.case p c ∷ ls) ms (L.goodCase v e s) = sound-right ls ms s
 sound-right (T.default p ∷ ls) ms (anyDefault s) = sound-right ls ms s
 
 says-is : {j : Verdict} {x : Judged} {v : ℕ} → Says j x → x ≡ good v → x ≡ good (j .word)
-says-is {x = good w} (fit q) e = refl
-says-is {x = refused fs} (unfit a b w) e = let z : _≡_ {A = ℕ} 0 1 = cc in absurd (omega arith)
+says-is (fit q) e = refl
+says-is (unfit a b w) e = let z : _≡_ {A = ℕ} 0 1 = cc in absurd (omega arith)
 
 module _ (text : List ℕ) {s : List ℕ} {end top : ℕ} (n : Node) (nd : NodeAt s end n) where
   pub pair-not : {k : ℕ} {t : List ℕ} {st : State} → (n .kind ≡ 28 → ⊥) → WritesPair text s end top k t t st st
@@ -344,7 +340,7 @@ module _ (text : List ℕ) {s : List ℕ} {end top : ℕ} (n : Node) (nd : NodeA
   pub pair-is : {k : ℕ} {t t₁ t₂ : List ℕ} {st a r : State} {j : Verdict} → n .kind ≡ 28 → Judges text s (n .inner) top j
       → Emits (G.D (j .word) ∷ []) [] t t₁ st a → Emits (G.DL k ∷ []) [] t₁ t₂ a r → WritesPair text s end top k t t₂ st r
   unfolding labelsOf G.pairsOf
-  pair-is {k} {t} {t₁} {t₂} {st} {a} {r} {j} q g d e = record { still = still-then (emits-still d) (emits-still e); by = go }
+  pair-is {k} {t} {t₁} {t₂} {st} {a} {r} q g d e = record { still = still-then (emits-still d) (emits-still e); by = go }
     where
       go : (sc : Scope) (x : Label) → Shows s top sc → LabelAt s end x → Sound text sc (x ∷ [])
           → Emits (G.pairsOf k (labelsOf text sc (x ∷ []))) [] t t₂ st r
@@ -414,7 +410,7 @@ module _ (text : List ℕ) {s : List ℕ} {from end top : ℕ} (first : ℕ) (t�
       → ((y : Listed (CommandAt s) s from end top) → Sound text (y .scope) (flat (y .all)) → TablePart y t at k st)
       → WritesAll text s from end top first t₀ t st₀ st
   unfolding tableAmong
-  table-end {at} k {t} {st} l f p = record { still = f; by = λ y so. left-end l (p y so) .1 t st emits-none }
+  table-end k {t} {st} l f p = record { still = f; by = λ y so. left-end l (p y so) .1 t st emits-none }
 
 -- ---- what the code's own definitions say of such labels
 

@@ -51,7 +51,7 @@ decided-alike {source} {s} {s′} {t} {t′} x e z =
 
 pub with-scratch : {source s s₀ s′ t t′ : List ℕ} {a : Compiled} → length s ≡ length s₀ → Translates source s s′ t t′ a
     → Translates source s₀ s′ t t′ a
-with-scratch {source} {s} {s₀} {s′} {t} e x = decided-alike x (rw e) (rw (x .clears, e))
+with-scratch e x = decided-alike x (rw e) (rw (x .clears, e))
 
 module _ {source s s′ t t′ : List ℕ} {w : Refusal} {b : Bool} (e : b ≡ tooLong source) (z : s′ ≡ take 0 s ++ replicate (length s - 0) 0) where
   pub too-long : b ≡ true → w ≡ refusal source 1 0 → Translates source s s′ t t′ (C.Refused w)
@@ -121,7 +121,7 @@ module _ {source s s′ : List ℕ} {a : SymbolsRead} (l : Lent source (length s
 
   pub symbols-answer : {number place : ℕ} {t t′ : List ℕ} {w : Refusal} → a ≡ YA.Refused number place → w ≡ refusal source number place
       → Translates source s s′ t t′ (C.Refused w)
-  symbols-answer {number} {place} {t} {t′} e q =
+  symbols-answer {number} {place} {t} e q =
       let k : symbolsOf source ≡ faulty number place = go (symbolsOf source) (sym e ∙ answer-is) in
       refusing q (symbols-refused l (length t) number place k) (symbols-left (l .short) room r (faulty number place) k)
     where

@@ -74,7 +74,7 @@ pub data Case (s : List ℕ) (lo end : ℕ) : ℕ → Expression → Type 0 wher
 
 module _ {s : List ℕ} {lo end : ℕ} where
   so : {k : ℕ} {e : Expression} → getD s (end - 1) 0 ≡ k → Case s lo end k e → Case s lo end (getD s (end - 1) 0) e
-  so {e = e} q c = rw q c
+  so q c = rw q c
 
   suffixedCase : {e : Expression} {ss : Suffixes} (b : Bool) → Lies s lo (encode e ++ encodeSuffixes ss)
       → getD s (end - 4) 0 ≡ length (encode e ++ encodeSuffixes ss) → getD s (end - 3) 0 ≡ length (encode e)
