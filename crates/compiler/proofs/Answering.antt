@@ -1,6 +1,6 @@
 -- From the walk of the tree to the answer: what the walk asks holds of every tree that is read, and what it leaves is the generator's text.
 use Prim.Native.Nat.{ℕ, zero, suc, _+_, _*_, _-_, _≤_}
-use mathlib.Core.Path.{_≡_, refl, sym, ap, subst, _∙_}
+use mathlib.Core.Path.{_≡_, refl, sym, ap, _∙_}
 use mathlib.Core.Bool.{Bool, true, false, not, cond}
 use mathlib.Core.List.{List, [], _∷_, _++_, append-assoc}
 use native.Mathlib.Omega.{arith}
@@ -12,7 +12,6 @@ use borrow.Author.Tests.{ne-eqb, eqb-true, ltb-false}
 use Rattle.text.specs.Quoted.{charactersOf, quoted}
 use Rattle.language.specs.Kinds.{STRING}
 use Rattle.items.specs.Item.{Item}
-use Rattle.items.specs.Render.{renderAll}
 use Rattle.language.specs.Symbols as Y
 use Rattle.language.specs.Symbols.{Symbol, scan}
 use Rattle.language.specs.Brackets.{firstFault, brackets}
@@ -23,7 +22,7 @@ use Rattle.language.specs.Grammar.{treeOf}
 use Rattle.language.specs.Tree as T
 use Rattle.language.specs.Tree.{Program, Function}
 use Rattle.language.specs.Constants.{Fault}
-use Rattle.language.specs.Resolved.{Fun, Start, nowhere, inGlobal}
+use Rattle.language.specs.Resolved.{Start, nowhere, inGlobal}
 use Rattle.language.specs.Program.{Refused, accepted, refused, leastOr, rulesRefuse, Walk, begin, Named, afterDeclaration, functionsFrom, functionsOf}
 use Rattle.language.specs.Program.{faultsFrom, faultsOfProgram, heightFaults, hasStart, startsInOne, functionsAfter, groupOf}
 use Rattle.language.specs.Whole.{functionsIn, stringsIn, stringsAmong, funs, unlessFits}
@@ -50,7 +49,7 @@ use Rattle.compiler.specs.declared.program.Done.{Done}
 use Rattle.compiler.specs.Walks.{Lies}
 use Rattle.compiler.specs.Groups.{FineDs, Starting, encodeFunction, functionCount, CountsFunctions}
 use Rattle.compiler.specs.Programs.{startsOf, ReadyProgram, Walked, GaveProgram}
-use Rattle.compiler.specs.Strings.{stringCount, AllEnd, WritesStrings, WritesStarts}
+use Rattle.compiler.specs.Strings.{stringCount, WritesStrings, WritesStarts}
 use Rattle.compiler.specs.Compiles.{decided, answerOf, Begins, Translates, Clean, Lent, ReadyTree, AllStrings, Behind, NONE, byKeys}
 use Rattle.tree.proofs.Stages.{few-good, decoded-entries, entries-size}
 use Rattle.compiler.proofs.Rendered.{rendered}

@@ -1,16 +1,13 @@
 -- What an expression may leave is of no account but for RETURN: its faults are the same anywhere.
 use Prim.Native.Nat.{ℕ, _+_}
-use mathlib.Core.Path.{_≡_, refl, ap, subst}
-use mathlib.Core.Bool.{Bool, true, false, cond}
-use mathlib.Core.List.{List, [], _++_}
-use lib.Dec.{eqb}
-use Rattle.language.specs.Kinds.{AT}
+use mathlib.Core.Path.{_≡_, refl}
+use mathlib.Core.List.{List, _++_}
 use Rattle.language.specs.Tree as T
-use Rattle.language.specs.Tree.{Expression, Expressions, Suffixes, Operations, placeOf}
+use Rattle.language.specs.Tree.{Expression, Expressions, Suffixes, Operations}
 use Rattle.language.specs.Names.{Scope}
 use Rattle.language.specs.Constants.{Fault}
-use Rattle.language.specs.Resolve.{under, sideOf, expression}
-use Rattle.language.specs.Faults.{Leavable, unlessSide, inExpression, inSuffixes, inOperations, inExpressions, inCommand}
+use Rattle.language.specs.Resolve.{under}
+use Rattle.language.specs.Faults.{Leavable, inExpression, inSuffixes, inOperations, inExpressions}
 use Rattle.compiler.specs.declared.steps.State.{State}
 use Rattle.compiler.specs.declared.steps.Here.{Here}
 use Rattle.compiler.specs.declared.steps.Ways.{Ways}

@@ -1,22 +1,21 @@
 -- Lists of commands, locals and blocks.
 use Prim.Native.Nat.{ℕ, suc, _+_, _*_, _-_, _≤_, _<_}
 use mathlib.Core.Path.{_≡_, refl, sym, ap, subst, _∙_}
-use mathlib.Core.List.{List, [], _∷_, _++_, append-assoc}
+use mathlib.Core.List.{List, _++_, append-assoc}
 use native.Mathlib.Omega.{arith}
 use lib.ListN.{length, getD}
-use Rattle.items.specs.Item as I
 use Rattle.language.specs.Tree as T
 use Rattle.language.specs.Tree.{Name, Expressions, Command, Commands, Unlabelled}
 use Rattle.language.proofs.Depth.{commandDepth, commandsDepth, unlabelledDepth, localsDepth}
 use Rattle.language.specs.Names as N
 use Rattle.language.specs.Names.{Scope, opened, declared}
-use Rattle.language.specs.Constants.{Fault, forVector, judgedWord, faultsOf}
+use Rattle.language.specs.Constants.{forVector, judgedWord}
 use Rattle.language.specs.Resolved as R
 use Rattle.language.specs.Resolve.{expressions, commands, unlabelled, locals, valuesBefore, declareAll, scopeAfter, heightAfter}
 use Rattle.language.specs.Heights as H
 use Rattle.language.specs.Heights.{ofExprs, ofLocals, ofCmd, ofCmds}
 use Rattle.code.specs.Generate as G
-use Rattle.language.specs.Faults.{Leavable, inExpressions, inCommands, inLocals, inUnlabelled, twice}
+use Rattle.language.specs.Faults.{Leavable, inCommands, inLocals, inUnlabelled}
 use Rattle.tree.specs.Encoding.{encodeCommand, encodeCommands, encodeUnlabelled, encodeLocals}
 use Rattle.compiler.specs.Scope.{Shows, Keeps, Pushed}
 use Rattle.compiler.proofs.Scoping.{keeps-all, keeps-then, keeps-lower, pushed-keeps, pushed-mark}

@@ -1,5 +1,5 @@
 -- A function's body: a value, from which nothing is left, or a routine, which only RETURN leaves.
-use Prim.Native.Nat.{ℕ, _+_, _*_, _≤_, _^_}
+use Prim.Native.Nat.{ℕ}
 use mathlib.Core.Path.{_≡_, refl, sym, ap, subst, _∙_}
 use mathlib.Core.Bool.{Bool, true, false, not}
 use mathlib.Core.List.{List}
@@ -8,7 +8,7 @@ use lib.ListN.{length}
 use borrow.Author.Tests.{eq-eqb, ne-eqb}
 use Rattle.language.specs.Kinds as K
 use Rattle.language.specs.Tree as T
-use Rattle.language.specs.Faults.{inExpression, inCommand}
+use Rattle.language.specs.Faults.{inExpression}
 use Rattle.language.proofs.Depth.{depth, commandDepth, bodyDepth}
 use Rattle.language.specs.Program.{bodyFaults}
 use Rattle.code.specs.Generate as G

@@ -9,7 +9,6 @@ use Rattle.language.specs.Tree as T
 use Rattle.language.specs.Tree.{Expression, Expressions, Suffixes}
 use Rattle.language.proofs.Depth.{depth, expressionsDepth, suffixesDepth}
 use Rattle.language.specs.Names.{Scope}
-use Rattle.language.specs.Constants.{Fault}
 use Rattle.language.specs.Resolved as R
 use Rattle.language.specs.Resolved.{Expr}
 use Rattle.language.specs.Resolve.{expression, expressions, suffixes, under}
@@ -27,8 +26,8 @@ use Rattle.compiler.specs.declared.steps.Node.{Node}
 use Rattle.compiler.specs.Fine.{FineE, FineEs, FineSs}
 use Rattle.language.specs.Fine.{Fine, FineList, FineSuffixes}
 use Rattle.compiler.specs.Walked.{inside, raised, leavable, NodeAt, Did, Emits, Reached, exprSays, exprsSays}
-use Rattle.compiler.specs.Walks.{Lies, Ready, Result, ReadyE, GaveE, faultsE, codeE, ReadyArgs, GaveArgs, Counts, encodeApplied, deepApplied}
-use Rattle.compiler.specs.Walks.{FineApplied, faultsA, codeA, ReadySuffixes, GaveSuffixes, GaveIndexed, GavePassed}
+use Rattle.compiler.specs.Walks.{Lies, Ready, Result, ReadyE, GaveE, faultsE, codeE, ReadyArgs, GaveArgs, Counts, encodeApplied}
+use Rattle.compiler.specs.Walks.{codeA, ReadySuffixes, GaveSuffixes, GaveIndexed, GavePassed}
 use Rattle.compiler.proofs.Done.{did-emit, did-put, did-after, did-none, did-then, did-as, same-refl, same-eq, same-swap, same-then, code-is}
 use Rattle.compiler.proofs.Trees.{first, second, find, IsTwo, is-two, Case, aNumber, aString, aName, aBracket, aValof, aMonadic, aSuffixed}
 use Rattle.compiler.proofs.Trees.{aCalled, aDyadic}

@@ -1,13 +1,13 @@
 -- What each form of command needs of its parts, and gives.
 use Prim.Native.Nat.{ℕ, _+_, _*_, _-_, _≤_, _<_}
-use mathlib.Core.Path.{_≡_, refl, sym, ap, subst, _∙_}
+use mathlib.Core.Path.{_≡_, refl, sym, ap, subst}
 use mathlib.Core.List.{List, [], _∷_, _++_, append-nil}
 use native.Mathlib.Omega.{arith}
 use lib.ListN.{length, getD}
 use borrow.Author.Tests.{ne-eqb}
 use Rattle.items.specs.Item as I
 use Rattle.language.specs.Tree as T
-use Rattle.language.specs.Tree.{Name, Expression, Command, Unlabelled}
+use Rattle.language.specs.Tree.{Expression, Command, Unlabelled}
 use Rattle.language.proofs.Depth.{depth, commandDepth, unlabelledDepth}
 use Rattle.language.specs.Names as N
 use Rattle.language.specs.Names.{Scope, opened, declared}
@@ -16,8 +16,8 @@ use Rattle.language.specs.Resolve.{expression, command, unlabelled}
 use Rattle.language.specs.Heights.{ofExpr, ofCmd}
 use Rattle.code.specs.Generate as G
 use Rattle.language.specs.Faults as Y
-use Rattle.language.specs.Faults.{Leavable, unless, inExpression, inCommand, inUnlabelled}
-use Rattle.tree.specs.Encoding.{encode, encodeCommand, encodeUnlabelled}
+use Rattle.language.specs.Faults.{unless, inExpression, inUnlabelled}
+use Rattle.tree.specs.Encoding.{encode, encodeUnlabelled}
 use Rattle.compiler.specs.Scope.{Keeps, Shows, Pushed, PushedName, code, nameAt}
 use Rattle.compiler.proofs.Scoping.{keeps-all, keeps-then, keeps-lower, keeps-name, pushed-keeps, pushed-mark, pushed-name}
 use Rattle.compiler.specs.declared.steps.State.{State}

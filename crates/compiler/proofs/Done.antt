@@ -1,6 +1,6 @@
 -- Laws of what is done: faults, items, heights and labels, one after another.
 use Prim.Native.Nat.{ℕ, suc, _+_, _*_, _-_, _≤_, _<_, _/_, _%_, _^_, min}
-use mathlib.Core.Path.{_≡_, refl, sym, ap, subst, _∙_}
+use mathlib.Core.Path.{_≡_, refl, sym, ap, _∙_}
 use mathlib.Core.Bool.{true, false, cond}
 use mathlib.Core.List.{List, [], _∷_, _++_, append-nil}
 use native.Mathlib.Omega.{arith}
@@ -21,7 +21,7 @@ use Rattle.compiler.proofs.Scoping.{Order, lt, ge, order}
 use Rattle.compiler.specs.declared.steps.State.{State}
 use Rattle.compiler.specs.declared.steps.Here.{Here}
 use Rattle.compiler.specs.declared.steps.Node.{Node}
-use Rattle.compiler.specs.Walked.{inside, NodeAt, key, least, AllFit, noFit, andFit, Code, Wrote, Did, Emits, Reached, Faulted, Means, Fresh}
+use Rattle.compiler.specs.Walked.{inside, NodeAt, key, least, AllFit, noFit, andFit, Code, Did, Emits, Reached, Faulted, Means, Fresh}
 use Rattle.compiler.specs.Walked.{LeavesTo, exprSays}
 
 -- ---- folds

@@ -1,6 +1,6 @@
 -- The labels of a list after INTO judged one after another, with those before each marked: what is refused in them.
 use Prim.Native.Nat.{ℕ, _+_, _-_, _/_, _%_, _≤_, _<_, _^_}
-use mathlib.Core.Path.{_≡_, refl, sym, ap, subst, _∙_}
+use mathlib.Core.Path.{_≡_, refl, sym, ap, _∙_}
 use mathlib.Core.Bool.{Bool, true, false, cond}
 use mathlib.Core.List.{List, [], _∷_, _++_, append-nil, append-assoc}
 use native.Mathlib.Omega.{arith}
@@ -10,7 +10,7 @@ use borrow.Author.Tests.{eqb-true, eqb-false}
 use Rattle.language.specs.Tree as T
 use Rattle.language.specs.Tree.{Label, Commands}
 use Rattle.language.specs.Names.{Scope}
-use Rattle.language.specs.Constants.{Fault, fault, Judged, good, refused, judge, judgedWord}
+use Rattle.language.specs.Constants.{fault, Judged, good, refused, judge, judgedWord}
 use Rattle.language.specs.Resolved as R
 use Rattle.language.specs.Resolved.{CaseLabel, hasCase, hasDefault}
 use Rattle.language.specs.Resolve.{labelsBefore, labelsOf, goodCase}

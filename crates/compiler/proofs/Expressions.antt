@@ -4,7 +4,6 @@ use mathlib.Core.Path.{_≡_, refl, sym, ap, subst, _∙_}
 use mathlib.Core.List.{List, [], _∷_, _++_, append-nil, append-assoc}
 use native.Mathlib.Omega.{arith}
 use lib.ListN.{length, getD}
-use Rattle.items.specs.Item as I
 use Rattle.language.specs.Tree as T
 use Rattle.language.specs.Tree.{Name, Expression, Operations}
 use Rattle.language.proofs.Depth.{depth, operationsDepth}
@@ -18,7 +17,7 @@ use Rattle.code.specs.Generate as G
 use Rattle.code.specs.Generate.{exprCode, exprLabels}
 use Rattle.language.specs.Faults.{inExpression, inOperations}
 use Rattle.tree.specs.Encoding.{encode, encodeOperations}
-use Rattle.compiler.specs.Scope.{named, nameAt, found, Looked}
+use Rattle.compiler.specs.Scope.{nameAt, found, Looked}
 use Rattle.compiler.proofs.Scoping.{keeps-all, keeps-then}
 use Rattle.compiler.specs.declared.steps.State.{State}
 use Rattle.compiler.specs.declared.steps.Here.{Here}

@@ -18,7 +18,7 @@ use Rattle.language.specs.Resolve.{expression, command, unlabelled, byOf}
 use Rattle.language.specs.Heights.{ofExpr, ofCmd}
 use Rattle.language.specs.Fine.{FineName, FineBy, FineUnlabelled}
 use Rattle.code.specs.Generate as G
-use Rattle.language.specs.Faults.{Leavable, byFaults, inExpression, inCommand, inUnlabelled}
+use Rattle.language.specs.Faults.{byFaults, inExpression, inUnlabelled}
 use Rattle.tree.specs.Encoding.{encode, encodeName, encodeBy, encodeCommand, encodeUnlabelled}
 use Rattle.compiler.specs.Scope.{Shows, Keeps, Pushed, PushedName, named, nameAt}
 use Rattle.compiler.proofs.Scoping.{keeps-all, keeps-then, keeps-shows, keeps-name, pushed-keeps}

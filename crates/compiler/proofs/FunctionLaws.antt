@@ -1,6 +1,6 @@
 -- A function: where its parameters and its body stand, and what its walk does, step after step.
 use Prim.Native.Nat.{ℕ, _+_, _*_, _-_, _/_, _≤_, _<_, _^_}
-use mathlib.Core.Path.{_≡_, refl, sym, ap, subst, _∙_}
+use mathlib.Core.Path.{_≡_, refl, _∙_}
 use mathlib.Core.Bool.{not}
 use mathlib.Core.List.{List, [], _∷_, _++_}
 use native.Mathlib.Omega.{arith}
@@ -11,19 +11,18 @@ use Rattle.language.specs.Kinds as K
 use Rattle.language.specs.Tree.{Function}
 use Rattle.language.specs.Names.{opened}
 use Rattle.language.specs.Resolve.{declareAll}
-use Rattle.language.specs.Heights.{heightsOf, ofBody}
-use Rattle.language.specs.Program.{inside, bodyOf, bodyFaults, functionFaults, resolved}
+use Rattle.language.specs.Heights.{heightsOf}
+use Rattle.language.specs.Program.{inside, bodyOf, functionFaults, resolved}
 use Rattle.code.specs.Generate as G
-use Rattle.language.proofs.Depth.{bodyDepth}
 use Rattle.tree.specs.Encoding.{encodeName, encodeNames, encodeBody, bodyWord}
-use Rattle.compiler.specs.Scope.{Shows, Keeps, Pushed}
+use Rattle.compiler.specs.Scope.{Keeps, Pushed}
 use Rattle.compiler.specs.declared.steps.State.{State}
 use Rattle.compiler.specs.declared.steps.Here.{Here}
 use Rattle.compiler.specs.declared.steps.Node.{Node}
-use Rattle.compiler.specs.Walked.{NodeAt, Did, Emits, Reached}
+use Rattle.compiler.specs.Walked.{NodeAt, Emits, Reached}
 use Rattle.compiler.specs.Walks.{Lies}
 use Rattle.compiler.specs.Commands.{ReadyNames, Declares}
-use Rattle.compiler.specs.Groups.{encodeFunction, FineB, ReadyBody, GaveBody, functionSays, ReadyF, GaveF}
+use Rattle.compiler.specs.Groups.{encodeFunction, ReadyBody, GaveBody, functionSays, ReadyF, GaveF}
 use Rattle.compiler.proofs.Scoping.{keeps-then, keeps-lower, pushed-keeps, pushed-mark}
 use Rattle.compiler.proofs.Done.{did-then, did-put, did-after, did-as, same-refl, code-is}
 use Rattle.compiler.proofs.Trees.{first, second, keeps-lies, ends, kid, size-is, value-is, kind-is}

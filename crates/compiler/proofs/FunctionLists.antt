@@ -11,7 +11,7 @@ use Rattle.items.specs.Item as I
 use Rattle.language.specs.Tree.{Function}
 use Rattle.language.specs.Names.{Scope, lookup}
 use Rattle.language.specs.Constants.{Fault, fault}
-use Rattle.language.specs.Resolved.{Fun, Start, nowhere}
+use Rattle.language.specs.Resolved.{Fun, Start}
 use Rattle.language.specs.Heights.{heightsOf, greatest, largestHeight}
 use Rattle.language.specs.Program.{Named, startOf, withFunction, resolved, functionFaults, groupFaults, groupOf, heightFaults}
 use Rattle.language.specs.Whole.{funs}

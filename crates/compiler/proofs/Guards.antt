@@ -25,7 +25,7 @@ use Rattle.compiler.specs.declared.steps.Ways.{Ways}
 use Rattle.compiler.specs.declared.steps.Node.{Node}
 use Rattle.compiler.specs.Fine.{FineE, FineC, FinePlain}
 use Rattle.language.specs.Fine.{FineCommand, FineUnlabelled}
-use Rattle.compiler.specs.Walked.{leavableBy, exits, NodeAt, Emits, Fresh}
+use Rattle.compiler.specs.Walked.{leavableBy, NodeAt, Emits, Fresh}
 use Rattle.compiler.specs.Walks.{Lies, ReadyE, GaveE}
 use Rattle.compiler.specs.Commands.{cmdSays, ReadyC, GaveC, ReadyU, GaveU, WhenWord, anIf, anUnless, WhenKind}
 use Rattle.compiler.proofs.Done.{did-put, did-then, did-at, did-fresh, same-eq, code-is}

@@ -6,13 +6,13 @@ use mathlib.Core.List.{List, [], _∷_, _++_, append-assoc}
 use native.Mathlib.Omega.{arith}
 use lib.ListN.{length, getD, length-append}
 use Rattle.language.specs.Tree as T
-use Rattle.language.specs.Tree.{Name, Item}
+use Rattle.language.specs.Tree.{Item}
 use Rattle.language.specs.Names.{Scope, declared, inBlock, onFound}
 use Rattle.language.specs.Constants as K
-use Rattle.language.specs.Constants.{Fault, fault, Judged, judgedWord, faultsOf}
+use Rattle.language.specs.Constants.{fault, Judged, judgedWord, faultsOf}
 use Rattle.tree.specs.Encoding.{encodeName, encodeConstant, encodeItems}
 use Rattle.compiler.specs.Scope as S
-use Rattle.compiler.specs.Scope.{Shows, Keeps, PushedName, Worded, code, found, named, nameAt}
+use Rattle.compiler.specs.Scope.{Shows, Keeps, PushedName, Worded, code, named, nameAt}
 use Rattle.compiler.proofs.Scoping.{keeps-all, keeps-then, keeps-lower, keeps-name, pushed-keeps, pushed-name}
 use Rattle.compiler.specs.declared.steps.State.{State}
 use Rattle.compiler.specs.Walked.{Did}

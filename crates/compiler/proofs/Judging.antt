@@ -12,12 +12,12 @@ use Rattle.language.specs.Tree as T
 use Rattle.language.specs.Tree.{Name, Simple, Constant, Expressions}
 use Rattle.language.proofs.Depth.{expressionsDepth}
 use Rattle.language.specs.Names as N
-use Rattle.language.specs.Names.{Scope, lookup, declared}
+use Rattle.language.specs.Names.{Scope, lookup}
 use Rattle.language.specs.Constants.{fault, Judged, good, refused, judge, forVector, judgedWord, faultsOf, signed, ofFound, ofSimple, within}
 use Rattle.language.specs.Resolve.{declareAll}
 use Rattle.code.specs.Generate as G
 use Rattle.tree.specs.Encoding.{encodeName, encodeNames, encodeConstant, encodePositive, encodeNegative, encodeExpressions}
-use Rattle.compiler.specs.Scope.{Shows, Looked, code, found, named, nameAt}
+use Rattle.compiler.specs.Scope.{Shows, Looked, code, found, nameAt}
 use Rattle.compiler.proofs.Scoping.{keeps-all, keeps-then, keeps-shows, code-not, Held, looked-word}
 use Rattle.compiler.specs.declared.steps.State.{State}
 use Rattle.compiler.specs.declared.steps.Here.{Here}
@@ -29,7 +29,7 @@ use Rattle.compiler.specs.Walked.{NodeAt, Did, Emits, Faulted}
 use Rattle.compiler.specs.Walks.{Lies, ReadyArgs, GaveArgs}
 use Rattle.compiler.specs.Commands.{nothing, ReadyNames, Declares}
 use Rattle.compiler.specs.Locals.{Says, fit, unfit, NamedConstant, Judges, JudgesMost, Blames, Local, aVector, someValues, encodeLocal}
-use Rattle.compiler.specs.Locals.{localDepth, FineLocal, scopeWith, heightWith, faultsL, localSays, ReadyLocal, LocalDone, GaveLocal}
+use Rattle.compiler.specs.Locals.{localDepth, FineLocal, scopeWith, heightWith, faultsL, localSays, ReadyLocal, GaveLocal}
 use Rattle.compiler.proofs.Done.{did-none, did-then, did-emit, did-as, same-refl, code-is}
 use Rattle.compiler.proofs.Trees.{first, second, keeps-lies, kid, ends, value-is, place-is, size-is, kind-is}
 use Rattle.compiler.proofs.Parts.{sub}

@@ -20,9 +20,9 @@ use Rattle.compiler.specs.declared.steps.Here.{Here}
 use Rattle.compiler.specs.declared.steps.Ways.{Ways}
 use Rattle.compiler.specs.declared.steps.Node.{Node}
 use Rattle.compiler.specs.Fine.{FineC, FinePlain}
-use Rattle.compiler.specs.Walked.{inside, leavableBy, exits, NodeAt}
+use Rattle.compiler.specs.Walked.{inside, leavableBy, NodeAt}
 use Rattle.compiler.specs.Walks.{Lies, Result}
-use Rattle.compiler.specs.Commands.{cmdSays, ReadyC, GaveC, GaveCase, encodeRepeated, deepRepeated, FineRepeated, ReadyR, GaveR}
+use Rattle.compiler.specs.Commands.{cmdSays, ReadyC, GaveC, GaveCase, deepRepeated, FineRepeated, ReadyR, GaveR}
 use Rattle.compiler.specs.Switching.{ReadyMisplaced, Misplaces}
 use Rattle.compiler.proofs.Done.{did-none, did-then, did-as, same-refl, same-eq, code-is}
 use Rattle.compiler.proofs.Trees.{first, second, kid, ends, value-is, size-is, kind-is}

@@ -2,7 +2,7 @@
 use Prim.Native.Nat.{ℕ, suc, _+_, _*_, _≤_, _<_}
 use mathlib.Core.Path.{_≡_, refl, sym, ap, subst, _∙_}
 use mathlib.Core.Bool.{Bool, true, false, cond}
-use mathlib.Core.List.{List, [], _∷_, _++_, append-nil}
+use mathlib.Core.List.{List, [], _∷_, append-nil}
 use native.Mathlib.Omega.{arith}
 use lib.ListN.{length, length-append}
 use lib.Dec.{eqb, leb}
@@ -13,7 +13,6 @@ use Rattle.language.specs.Tree.{Item, Function, Declaration}
 use Rattle.language.specs.Names.{Scope, lookup}
 use Rattle.language.specs.Constants as J
 use Rattle.language.specs.Constants.{Fault, fault, Judged, judge, within, judgedWord}
-use Rattle.language.specs.Resolved.{Start}
 use Rattle.language.specs.Program.{Walk, startOf, withFunction, resolved, globalsAfter, manifestsAfter, functionsAfter, declaredBy, groupNameFaults}
 use Rattle.language.specs.Program.{groupFaults, groupOf, heightFaults, afterDeclaration}
 use Rattle.language.specs.Whole.{funs}

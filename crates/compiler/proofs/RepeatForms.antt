@@ -10,7 +10,7 @@ use Rattle.items.specs.Item as I
 use Rattle.language.specs.Kinds as K
 use Rattle.language.specs.Tree as T
 use Rattle.language.specs.Tree.{Expression, Unlabelled, Repeats}
-use Rattle.language.proofs.Depth.{depth, unlabelledDepth, repeatsDepth}
+use Rattle.language.proofs.Depth.{depth, repeatsDepth}
 use Rattle.language.specs.Names.{Scope}
 use Rattle.language.specs.Constants.{Fault}
 use Rattle.language.specs.Resolve.{expression, repeats, unlabelled}

@@ -1,6 +1,6 @@
 -- Items of a list by their ends: the loop over them; labels, one by one and before each command of a list; BY's constant.
 use Prim.Native.Nat.{ℕ, _+_, _-_, _≤_, _<_, _^_}
-use mathlib.Core.Path.{_≡_, refl, sym, ap, subst, _∙_}
+use mathlib.Core.Path.{_≡_, refl, sym, ap, _∙_}
 use mathlib.Core.Bool.{Bool, true, false, cond}
 use mathlib.Core.List.{List, [], _∷_, _++_, append-nil}
 use mathlib.Core.Option.{Option, none, some}
@@ -11,7 +11,7 @@ use borrow.Author.Tests.{eq-eqb, ne-eqb}
 use Rattle.language.specs.Tree as T
 use Rattle.language.specs.Tree.{Simple, Constant, Label}
 use Rattle.language.specs.Names.{Scope}
-use Rattle.language.specs.Constants.{Fault, fault, Judged, good, refused, judge, within, faultsOf}
+use Rattle.language.specs.Constants.{fault, Judged, good, refused, judge, within, faultsOf}
 use Rattle.language.specs.Faults.{misplaced}
 use Rattle.language.specs.Fine.{FineConstant, FineBy, FineLabels}
 use Rattle.tree.specs.Encoding.{closed, encodeName, encodeConstant, encodePositive, encodeNegative, encodeBy, encodeLabels}

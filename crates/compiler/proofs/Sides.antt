@@ -9,7 +9,7 @@ use lib.Dec.{eqb}
 use borrow.Author.Tests.{ne-eqb}
 use Rattle.items.specs.Item as I
 use Rattle.language.specs.Tree as T
-use Rattle.language.specs.Tree.{Name, Expression, Expressions, Suffixes, Operations, placeOf, endsInCall}
+use Rattle.language.specs.Tree.{Expression, Expressions, Suffixes, Operations, placeOf, endsInCall}
 use Rattle.language.proofs.Depth.{depth}
 use Rattle.language.specs.Names as N
 use Rattle.language.specs.Names.{Scope, lookup, onFound}
@@ -24,7 +24,7 @@ use Rattle.code.specs.Generate.{exprCode, exprLabels, monadicAct}
 use Rattle.language.specs.Faults.{unlessSide, inExpression, inSuffixes}
 use Rattle.tree.specs.Encoding as O
 use Rattle.tree.specs.Encoding.{encode, encodeSuffixes}
-use Rattle.compiler.specs.Scope.{code, found, named, nameAt, Looked}
+use Rattle.compiler.specs.Scope.{code, found, nameAt, Looked}
 use Rattle.compiler.proofs.Scoping.{keeps-all, keeps-then, code-not, Order, lt, ge, order}
 use Rattle.compiler.specs.declared.steps.State.{State}
 use Rattle.compiler.specs.declared.steps.Here.{Here}

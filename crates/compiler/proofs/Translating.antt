@@ -16,7 +16,6 @@ use Rattle.language.specs.Grammar.{treeOf}
 use Rattle.language.specs.Tree.{Program}
 use Rattle.language.specs.Program.{Refused, refused, rulesRefuse}
 use Rattle.language.specs.Whole.{refusalOf, refusalIn, onRead, unlessFits}
-use Rattle.symbols.specs.Read as Y
 use Rattle.symbols.specs.Read.{Reads, symbolsRead, outcome, entries}
 use Rattle.symbols.specs.declared.SymbolsRead.{SymbolsRead}
 use Rattle.symbols.specs.declared.SymbolsRead.the-variants as YA

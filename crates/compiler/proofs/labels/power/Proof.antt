@@ -1,6 +1,4 @@
-use Prim.Native.Nat.{ℕ, _^_}
 use native.Mathlib.Omega.{arith}
-use mathlib.Core.Path.{sym, ap}
 use Rattle.compiler.proofs.Flags.{last-of-eight}
 use Rattle.compiler.proofs.labels.power.Statement.{statement}
 use Rattle.compiler.proofs.labels.power.Tie as tie

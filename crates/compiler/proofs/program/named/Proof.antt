@@ -1,7 +1,6 @@
 -- `named` meets its contract: `items` has done it all but taken the height away.
-use mathlib.Core.Path.{refl, ap}
+use mathlib.Core.Path.{refl}
 use borrow.Author.Needs.{needs}
-use Rattle.compiler.specs.declared.steps.State.{State}
 use Rattle.compiler.proofs.Levels.{items-flat}
 use Rattle.compiler.proofs.program.named.Statement.{statement}
 use Rattle.compiler.proofs.program.named.Tie as tie

@@ -1,6 +1,3 @@
-use Prim.Native.Nat.{ℕ, _+_}
-use mathlib.Core.Path.{ap, _∙_}
-use lib.ListN.{getD}
 use borrow.Author.Needs.{needs}
 use Rattle.compiler.proofs.scope.last_byte.Statement.{statement}
 use Rattle.compiler.proofs.scope.last_byte.Tie as tie
