@@ -1,14 +1,8 @@
 -- From the walk of the tree to the answer: what the walk asks holds of every tree that is read, and what it leaves is the generator's text.
-use Prim.Native.Nat.{ℕ, zero, suc, _+_, _*_, _-_, _≤_}
-use mathlib.Core.Path.{_≡_, refl, sym, ap, _∙_}
-use mathlib.Core.Bool.{Bool, true, false, not, cond}
-use mathlib.Core.List.{List, [], _∷_, _++_, append-assoc}
-use native.Mathlib.Omega.{arith}
+use Rattle.compiler.proofs.Basics.{ℕ, zero, suc, _+_, _*_, _-_, _≤_, _≡_, refl, sym, ap, _∙_, Bool, true, false, not, cond, List, [], _∷_}
+use Rattle.compiler.proofs.Basics.{_++_, append-assoc, arith, length, getD, replicate, take, drop, length-append, List·getD-append}
+use Rattle.compiler.proofs.Basics.{getD-append-add, length-take-le, eqb, ltb, ne-eqb, eqb-true, ltb-false}
 use native.Mathlib.Numerals.{add-one}
-use lib.ListN.{length, getD, replicate, take, drop, length-append, List·getD-append}
-use lib.Seq.{getD-append-add, length-take-le}
-use lib.Dec.{eqb, ltb}
-use borrow.Author.Tests.{ne-eqb, eqb-true, ltb-false}
 use Rattle.text.specs.Quoted.{charactersOf, quoted}
 use Rattle.language.specs.Kinds.{STRING}
 use Rattle.items.specs.Item.{Item}
@@ -36,7 +30,7 @@ use Rattle.language.proofs.Tokens.{programTokens}
 use Rattle.language.proofs.ReadTokens.{program as readProgram}
 use Rattle.language.proofs.SymbolFacts.{scan-length, cost, cost-length, symbolsNow, sourceNow, counts}
 use Rattle.language.specs.Fine.{FineProgram}
-use Rattle.compiler.specs.Fine.{STRINGS}
+use Rattle.compiler.proofs.Vocabulary.{STRINGS, Lies}
 use Rattle.symbols.specs.Read.{entries, Reads}
 use Rattle.symbols.specs.declared.SymbolsRead.{SymbolsRead}
 use Rattle.tree.specs.Encoding.{encodeItems, encodeFunctions, encodeProgram}
@@ -46,7 +40,6 @@ use Rattle.writing.specs.Text.{Text, Puts, over, lines}
 use Rattle.writing.proofs.Laws.{over-length, lines-then, puts-none, puts-then, puts-as, upto-in}
 use Rattle.compiler.specs.declared.Compiled.{Compiled}
 use Rattle.compiler.specs.declared.program.Done.{Done}
-use Rattle.compiler.specs.Walks.{Lies}
 use Rattle.compiler.specs.Groups.{FineDs, Starting, encodeFunction, functionCount, CountsFunctions}
 use Rattle.compiler.specs.Programs.{startsOf, ReadyProgram, Walked, GaveProgram}
 use Rattle.compiler.specs.Strings.{stringCount, WritesStrings, WritesStarts}

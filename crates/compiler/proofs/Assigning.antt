@@ -1,9 +1,6 @@
 -- The loop over the sides of an assignment: a left side and a right side at a time.
-use Prim.Native.Nat.{ℕ, _+_, _*_, _-_, _≤_, _<_}
-use mathlib.Core.Path.{_≡_, refl, sym, ap, subst, _∙_}
-use mathlib.Core.List.{List, [], _∷_, _++_, append-assoc}
-use native.Mathlib.Omega.{arith}
-use lib.ListN.{length, getD, length-append}
+use Rattle.compiler.proofs.Basics.{ℕ, _+_, _*_, _-_, _≤_, _<_, _≡_, refl, sym, ap, subst, _∙_, List, [], _∷_, _++_, append-assoc, arith}
+use Rattle.compiler.proofs.Basics.{length, getD, length-append}
 use Rattle.language.specs.Tree as T
 use Rattle.language.specs.Tree.{Expression, Expressions, Unlabelled, placeOf}
 use Rattle.language.proofs.Depth.{depth, expressionsDepth, unlabelledDepth}
@@ -15,16 +12,10 @@ use Rattle.language.specs.Heights.{ofExpr, ofTarget, ofPairs, ofCmd}
 use Rattle.code.specs.Generate as G
 use Rattle.language.specs.Faults.{Leavable, inExpression, inUnlabelled, inSides, inRightSides, unlessSide}
 use Rattle.tree.specs.Encoding.{encode, encodeSides, encodeFirst, encodeExpressions, encodeUnlabelled}
-use Rattle.compiler.specs.Scope.{Keeps}
+use Rattle.compiler.proofs.Vocabulary.{Keeps, State, Here, Node, Ways, FineE, FineEs, FinePlain, raised, leavable, leavableBy, NodeAt, Did}
+use Rattle.compiler.proofs.Vocabulary.{Lies, Result, ReadyE, GaveE}
 use Rattle.compiler.proofs.Scoping.{keeps-all, keeps-then}
-use Rattle.compiler.specs.declared.steps.State.{State}
-use Rattle.compiler.specs.declared.steps.Here.{Here}
-use Rattle.compiler.specs.declared.steps.Node.{Node}
-use Rattle.compiler.specs.declared.steps.Ways.{Ways}
-use Rattle.compiler.specs.Fine.{FineE, FineEs, FinePlain}
 use Rattle.language.specs.Fine.{FineList, FineUnlabelled}
-use Rattle.compiler.specs.Walked.{raised, leavable, leavableBy, NodeAt, Did}
-use Rattle.compiler.specs.Walks.{Lies, Result, ReadyE, GaveE}
 use Rattle.compiler.specs.Commands.{cmdSays, targetSays, pairsSays, GaveSide, ReadyU, GaveU}
 use Rattle.compiler.specs.Assigns.{encodeBoth, deepBoth, FineBoth, ReadyAssign, GaveAssign}
 use Rattle.compiler.proofs.Done.{Same, same-refl, same-eq, same-swap, same-then, same-both, did-none, did-then, did-as, code-is}

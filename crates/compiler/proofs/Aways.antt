@@ -1,11 +1,6 @@
 -- BREAK, LOOP, ENDCASE, RETURN and FINISH: a jump or an act, or 13 where there is nothing to leave. And a call as a command.
-use Prim.Native.Nat.{ℕ, _+_, _-_, _≤_}
-use mathlib.Core.Path.{_≡_, refl, sym, ap, subst, _∙_}
-use mathlib.Core.Bool.{true, false}
-use mathlib.Core.List.{List, [], _∷_}
-use native.Mathlib.Omega.{arith}
-use lib.ListN.{length, getD}
-use borrow.Author.Tests.{eq-eqb, ne-eqb}
+use Rattle.compiler.proofs.Basics.{ℕ, _+_, _-_, _≤_, _≡_, refl, sym, ap, subst, _∙_, true, false, List, [], _∷_, arith, length, getD, eq-eqb}
+use Rattle.compiler.proofs.Basics.{ne-eqb}
 use Rattle.language.specs.Kinds as K
 use Rattle.language.specs.Tree as T
 use Rattle.language.specs.Tree.{Expression, Unlabelled}
@@ -17,13 +12,8 @@ use Rattle.language.specs.Heights.{ofCmd}
 use Rattle.tree.specs.Encoding as O
 use Rattle.tree.specs.Encoding.{encode, encodeUnlabelled}
 use Rattle.code.specs.Generate as G
-use Rattle.compiler.specs.declared.steps.State.{State}
-use Rattle.compiler.specs.declared.steps.Here.{Here}
-use Rattle.compiler.specs.declared.steps.Ways.{Ways}
-use Rattle.compiler.specs.declared.steps.Node.{Node}
-use Rattle.compiler.specs.Fine.{FineE, FinePlain}
-use Rattle.compiler.specs.Walked.{leavableBy, NodeAt, Emits, Faulted, LeavesTo}
-use Rattle.compiler.specs.Walks.{Lies, Result, ReadyE, GaveE}
+use Rattle.compiler.proofs.Vocabulary.{State, Here, Ways, Node, FineE, FinePlain, leavableBy, NodeAt, Emits, Faulted, LeavesTo, Lies, Result}
+use Rattle.compiler.proofs.Vocabulary.{ReadyE, GaveE}
 use Rattle.compiler.specs.Commands.{cmdSays, ReadyU, GaveU, GoesAway}
 use Rattle.compiler.proofs.Scoping.{keeps-all}
 use Rattle.compiler.proofs.Done.{emits-did, did-as, same-refl}

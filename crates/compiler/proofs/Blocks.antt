@@ -1,9 +1,6 @@
 -- Lists of commands, locals and blocks.
-use Prim.Native.Nat.{ℕ, suc, _+_, _*_, _-_, _≤_, _<_}
-use mathlib.Core.Path.{_≡_, refl, sym, ap, subst, _∙_}
-use mathlib.Core.List.{List, _++_, append-assoc}
-use native.Mathlib.Omega.{arith}
-use lib.ListN.{length, getD}
+use Rattle.compiler.proofs.Basics.{ℕ, suc, _+_, _*_, _-_, _≤_, _<_, _≡_, refl, sym, ap, subst, _∙_, List, _++_, append-assoc, arith, length}
+use Rattle.compiler.proofs.Basics.{getD}
 use Rattle.language.specs.Tree as T
 use Rattle.language.specs.Tree.{Name, Expressions, Command, Commands, Unlabelled}
 use Rattle.language.proofs.Depth.{commandDepth, commandsDepth, unlabelledDepth, localsDepth}
@@ -17,17 +14,11 @@ use Rattle.language.specs.Heights.{ofExprs, ofLocals, ofCmd, ofCmds}
 use Rattle.code.specs.Generate as G
 use Rattle.language.specs.Faults.{Leavable, inCommands, inLocals, inUnlabelled}
 use Rattle.tree.specs.Encoding.{encodeCommand, encodeCommands, encodeUnlabelled, encodeLocals}
-use Rattle.compiler.specs.Scope.{Shows, Keeps, Pushed}
+use Rattle.compiler.proofs.Vocabulary.{Shows, Keeps, Pushed, State, Here, Ways, Node, FineC, FineCs, FineLs, FinePlain, marked, placed}
+use Rattle.compiler.proofs.Vocabulary.{leavable, leavableBy, exits, NodeAt, Code, Did, Lies, Result}
 use Rattle.compiler.proofs.Scoping.{keeps-all, keeps-then, keeps-lower, pushed-keeps, pushed-mark}
-use Rattle.compiler.specs.declared.steps.State.{State}
-use Rattle.compiler.specs.declared.steps.Here.{Here}
-use Rattle.compiler.specs.declared.steps.Ways.{Ways}
-use Rattle.compiler.specs.declared.steps.Node.{Node}
 use Rattle.compiler.specs.declared.steps.Placed.{Placed}
-use Rattle.compiler.specs.Fine.{FineC, FineCs, FineLs, FinePlain}
 use Rattle.language.specs.Fine.{FineCommands, FineLocals, FineUnlabelled}
-use Rattle.compiler.specs.Walked.{marked, placed, leavable, leavableBy, exits, NodeAt, Code, Did}
-use Rattle.compiler.specs.Walks.{Lies, Result}
 use Rattle.compiler.specs.Commands.{cmdSays, cmdsSays, ReadyC, GaveC, ReadyU, GaveU, ReadyList, GaveList}
 use Rattle.compiler.specs.Locals.{Local, aVector, someValues, withLocal, encodeLocal, localDepth, FineLocal, scopeWith, heightWith, faultsL}
 use Rattle.compiler.specs.Locals.{localSays, ReadyLocal, GaveLocal, localsSays, ReadyLocals, GaveLocals}

@@ -1,11 +1,5 @@
 -- A function's body: a value, from which nothing is left, or a routine, which only RETURN leaves.
-use Prim.Native.Nat.{ℕ}
-use mathlib.Core.Path.{_≡_, refl, sym, ap, subst, _∙_}
-use mathlib.Core.Bool.{Bool, true, false, not}
-use mathlib.Core.List.{List}
-use native.Mathlib.Omega.{arith}
-use lib.ListN.{length}
-use borrow.Author.Tests.{eq-eqb, ne-eqb}
+use Rattle.compiler.proofs.Basics.{ℕ, _≡_, refl, sym, ap, subst, _∙_, Bool, true, false, not, List, arith, length, eq-eqb, ne-eqb}
 use Rattle.language.specs.Kinds as K
 use Rattle.language.specs.Tree as T
 use Rattle.language.specs.Faults.{inExpression}
@@ -13,13 +7,9 @@ use Rattle.language.proofs.Depth.{depth, commandDepth, bodyDepth}
 use Rattle.language.specs.Program.{bodyFaults}
 use Rattle.code.specs.Generate as G
 use Rattle.tree.specs.Encoding.{encode, encodeCommand, encodeBody, bodyWord}
-use Rattle.compiler.specs.Fine.{FineE, FineC}
-use Rattle.compiler.specs.Walks.{Lies, Ready, Result, ReadyE, GaveE}
+use Rattle.compiler.proofs.Vocabulary.{FineE, FineC, Lies, Ready, Result, ReadyE, GaveE, State, Here, Ways}
 use Rattle.compiler.specs.Commands.{ReadyC, GaveC}
 use Rattle.compiler.specs.Groups.{FineB, bodySays, ReadyBody, GaveBody}
-use Rattle.compiler.specs.declared.steps.State.{State}
-use Rattle.compiler.specs.declared.steps.Here.{Here}
-use Rattle.compiler.specs.declared.steps.Ways.{Ways}
 
 abbrev pub nowhere : Ways
 nowhere = record { after = 0; next = 0; done = 0; result = 0 }

@@ -1,10 +1,6 @@
 -- Arguments, and what follows a primary.
-use Prim.Native.Nat.{ℕ, suc, _+_, _*_, _-_, _≤_, _<_}
-use mathlib.Core.Path.{_≡_, refl, sym, ap, subst, _∙_}
-use mathlib.Core.List.{List, [], _∷_, _++_, append-nil, append-assoc}
-use native.Mathlib.Omega.{arith}
-use lib.ListN.{length, getD, length-append, List·getD-append}
-use lib.Seq.{getD-append-add}
+use Rattle.compiler.proofs.Basics.{ℕ, suc, _+_, _*_, _-_, _≤_, _<_, _≡_, refl, sym, ap, subst, _∙_, List, [], _∷_, _++_, append-nil}
+use Rattle.compiler.proofs.Basics.{append-assoc, arith, length, getD, length-append, List·getD-append, getD-append-add}
 use Rattle.language.specs.Tree as T
 use Rattle.language.specs.Tree.{Expression, Expressions, Suffixes}
 use Rattle.language.proofs.Depth.{depth, expressionsDepth, suffixesDepth}
@@ -18,16 +14,11 @@ use Rattle.code.specs.Generate as G
 use Rattle.code.specs.Generate.{exprCode, exprsCode, exprLabels, exprsLabels}
 use Rattle.language.specs.Faults.{Leavable, inExpression, inExpressions, inSuffixes}
 use Rattle.tree.specs.Encoding.{behind, encode, encodeExpressions, encodeSuffixes}
-use Rattle.compiler.specs.Scope.{Keeps}
+use Rattle.compiler.proofs.Vocabulary.{Keeps, State, Here, Node, FineE, FineEs, FineSs, inside, raised, leavable, NodeAt, Did, Emits, Reached}
+use Rattle.compiler.proofs.Vocabulary.{exprSays, exprsSays, Lies, Ready, Result, ReadyE, GaveE, faultsE, codeE, ReadyArgs, GaveArgs, Counts}
+use Rattle.compiler.proofs.Vocabulary.{encodeApplied, codeA, ReadySuffixes, GaveSuffixes, GaveIndexed, GavePassed}
 use Rattle.compiler.proofs.Scoping.{keeps-all, keeps-then, Order, lt, ge, order}
-use Rattle.compiler.specs.declared.steps.State.{State}
-use Rattle.compiler.specs.declared.steps.Here.{Here}
-use Rattle.compiler.specs.declared.steps.Node.{Node}
-use Rattle.compiler.specs.Fine.{FineE, FineEs, FineSs}
 use Rattle.language.specs.Fine.{Fine, FineList, FineSuffixes}
-use Rattle.compiler.specs.Walked.{inside, raised, leavable, NodeAt, Did, Emits, Reached, exprSays, exprsSays}
-use Rattle.compiler.specs.Walks.{Lies, Ready, Result, ReadyE, GaveE, faultsE, codeE, ReadyArgs, GaveArgs, Counts, encodeApplied}
-use Rattle.compiler.specs.Walks.{codeA, ReadySuffixes, GaveSuffixes, GaveIndexed, GavePassed}
 use Rattle.compiler.proofs.Done.{did-emit, did-put, did-after, did-none, did-then, did-as, same-refl, same-eq, same-swap, same-then, code-is}
 use Rattle.compiler.proofs.Trees.{first, second, find, IsTwo, is-two, Case, aNumber, aString, aName, aBracket, aValof, aMonadic, aSuffixed}
 use Rattle.compiler.proofs.Trees.{aCalled, aDyadic}

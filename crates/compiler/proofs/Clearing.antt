@@ -1,12 +1,9 @@
 -- Zeros from a place on, where scratch holds nothing but zeros, and `compile`'s contract once they are written.
-use Prim.Native.Nat.{ℕ, zero, suc, _+_, _-_, _<_, _≤_}
-use mathlib.Core.Path.{_≡_, refl, sym, ap, _∙_}
-use mathlib.Core.List.{List, [], _∷_, _++_, append-assoc, append-nil}
-use native.Mathlib.Omega.{arith}
+use Rattle.compiler.proofs.Basics.{ℕ, zero, suc, _+_, _-_, _<_, _≤_, _≡_, refl, sym, ap, _∙_, List, [], _∷_, _++_, append-assoc, append-nil}
+use Rattle.compiler.proofs.Basics.{arith, length, getD, set, take, drop, replicate, length-append, length-drop, length-replicate}
+use Rattle.compiler.proofs.Basics.{drop-of-length-le, replicate-append-replicate, take-append-drop, List·getD-append, length-take-le, set-at}
+use Rattle.compiler.proofs.Basics.{drop-cons, ext-getD, getD-append-add, getD-drop, take-at}
 use native.Mathlib.Numerals.{add-one}
-use lib.ListN.{length, getD, set, take, drop, replicate, length-append, length-drop, length-replicate, drop-of-length-le, replicate-append-replicate}
-use lib.ListN.{take-append-drop, List·getD-append}
-use lib.Seq.{length-take-le, set-at, drop-cons, ext-getD, getD-append-add, getD-drop, take-at}
 use Rattle.text.specs.declared.Refusal.{Refusal}
 use Rattle.language.specs.Program.{Refused, accepted, refused}
 use Rattle.language.specs.Whole.{refusalOf, refusalIn, unlessFits}

@@ -1,10 +1,6 @@
 -- What each form of command needs of its parts, and gives.
-use Prim.Native.Nat.{ℕ, _+_, _*_, _-_, _≤_, _<_}
-use mathlib.Core.Path.{_≡_, refl, sym, ap, subst}
-use mathlib.Core.List.{List, [], _∷_, _++_, append-nil}
-use native.Mathlib.Omega.{arith}
-use lib.ListN.{length, getD}
-use borrow.Author.Tests.{ne-eqb}
+use Rattle.compiler.proofs.Basics.{ℕ, _+_, _*_, _-_, _≤_, _<_, _≡_, refl, sym, ap, subst, List, [], _∷_, _++_, append-nil, arith, length, getD}
+use Rattle.compiler.proofs.Basics.{ne-eqb}
 use Rattle.items.specs.Item as I
 use Rattle.language.specs.Tree as T
 use Rattle.language.specs.Tree.{Expression, Command, Unlabelled}
@@ -18,16 +14,11 @@ use Rattle.code.specs.Generate as G
 use Rattle.language.specs.Faults as Y
 use Rattle.language.specs.Faults.{unless, inExpression, inUnlabelled}
 use Rattle.tree.specs.Encoding.{encode, encodeUnlabelled}
-use Rattle.compiler.specs.Scope.{Keeps, Shows, Pushed, PushedName, code, nameAt}
+use Rattle.compiler.proofs.Vocabulary.{Keeps, Shows, Pushed, PushedName, code, nameAt, State, Here, Ways, Node, FineE, FineC, FinePlain}
+use Rattle.compiler.proofs.Vocabulary.{inside, inValof, leavable, leavableBy, NodeAt, Emits, Fresh, LeavesTo, Lies, Result, ReadyE, GaveE}
+use Rattle.compiler.proofs.Vocabulary.{faultsE, codeE}
 use Rattle.compiler.proofs.Scoping.{keeps-all, keeps-then, keeps-lower, keeps-name, pushed-keeps, pushed-mark, pushed-name}
-use Rattle.compiler.specs.declared.steps.State.{State}
-use Rattle.compiler.specs.declared.steps.Here.{Here}
-use Rattle.compiler.specs.declared.steps.Ways.{Ways}
-use Rattle.compiler.specs.declared.steps.Node.{Node}
-use Rattle.compiler.specs.Fine.{FineE, FineC, FinePlain}
 use Rattle.language.specs.Fine.{Fine, FineUnlabelled}
-use Rattle.compiler.specs.Walked.{inside, inValof, leavable, leavableBy, NodeAt, Emits, Fresh, LeavesTo}
-use Rattle.compiler.specs.Walks.{Lies, Result, ReadyE, GaveE, faultsE, codeE}
 use Rattle.compiler.specs.Commands.{cmdSays, ReadyC, GaveC, ReadyU, GaveU}
 use Rattle.compiler.proofs.Done.{did-put, did-then, did-as, did-at, did-fresh, same-eq, same-swap, same-then, code-is}
 use Rattle.compiler.proofs.Trees.{find, is-valof, ends}

@@ -1,12 +1,6 @@
 -- TEST, WHILE and UNTIL.
-use Prim.Native.Nat.{ℕ, _+_, _-_, _≤_, _<_}
-use mathlib.Core.Path.{_≡_, refl, sym, ap, subst, _∙_}
-use mathlib.Core.Bool.{cond}
-use mathlib.Core.List.{List, [], _∷_, _++_, append-assoc}
-use native.Mathlib.Omega.{arith}
-use lib.ListN.{length, getD, length-append}
-use lib.Dec.{eqb}
-use borrow.Author.Tests.{ne-eqb}
+use Rattle.compiler.proofs.Basics.{ℕ, _+_, _-_, _≤_, _<_, _≡_, refl, sym, ap, subst, _∙_, cond, List, [], _∷_, _++_, append-assoc, arith}
+use Rattle.compiler.proofs.Basics.{length, getD, length-append, eqb, ne-eqb}
 use Rattle.items.specs.Item as I
 use Rattle.language.specs.Kinds as K
 use Rattle.language.specs.Tree as T
@@ -21,14 +15,9 @@ use Rattle.language.specs.Faults as Y
 use Rattle.language.specs.Faults.{Leavable, inExpression, inCommand, inUnlabelled}
 use Rattle.tree.specs.Encoding.{encode, encodeCommand, encodeUnlabelled}
 use Rattle.compiler.proofs.Scoping.{keeps-all, keeps-then}
-use Rattle.compiler.specs.declared.steps.State.{State}
-use Rattle.compiler.specs.declared.steps.Here.{Here}
-use Rattle.compiler.specs.declared.steps.Ways.{Ways}
-use Rattle.compiler.specs.declared.steps.Node.{Node}
-use Rattle.compiler.specs.Fine.{FineE, FineC, FinePlain}
+use Rattle.compiler.proofs.Vocabulary.{State, Here, Ways, Node, FineE, FineC, FinePlain, inLoop, leavableBy, exits, NodeAt, Emits, Fresh, Lies}
+use Rattle.compiler.proofs.Vocabulary.{Result, ReadyE, GaveE}
 use Rattle.language.specs.Fine.{FineUnlabelled}
-use Rattle.compiler.specs.Walked.{inLoop, leavableBy, exits, NodeAt, Emits, Fresh}
-use Rattle.compiler.specs.Walks.{Lies, Result, ReadyE, GaveE}
 use Rattle.compiler.specs.Commands.{cmdSays, ReadyC, GaveC, ReadyU, GaveU, WhileWord, aWhile, anUntil, WhileKind}
 use Rattle.compiler.proofs.Done.{emits-then, did-put, did-after, did-then, did-at, did-fresh, same-refl, same-eq, code-is}
 use Rattle.compiler.proofs.Trees.{first, second}

@@ -1,9 +1,5 @@
 -- How many items a list in scratch has: the loop over them, and lists of expressions, REPEAT forms and commands.
-use Prim.Native.Nat.{ℕ, suc, _+_, _≤_, _<_}
-use mathlib.Core.Path.{_≡_, refl, sym, ap, _∙_}
-use mathlib.Core.List.{List, [], _∷_, _++_}
-use native.Mathlib.Omega.{arith}
-use lib.ListN.{length, getD, length-append}
+use Rattle.compiler.proofs.Basics.{ℕ, suc, _+_, _≤_, _<_, _≡_, refl, sym, ap, _∙_, List, [], _∷_, _++_, arith, length, getD, length-append}
 use Rattle.language.specs.Tree as T
 use Rattle.language.specs.Tree.{Expressions, Repeats, Commands}
 use Rattle.language.specs.Names.{Scope}

@@ -1,13 +1,7 @@
 -- The least key of faults is that of the least fault, if places and numbers fit; and the answer by the least keys is that of the rules.
-use Prim.Native.Nat.{ℕ, _+_, _*_, _/_, _%_, _<_, _≤_, _^_}
-use mathlib.Core.Path.{_≡_, refl, sym, ap, _∙_}
+use Rattle.compiler.proofs.Basics.{ℕ, _+_, _*_, _/_, _%_, _<_, _≤_, _^_, _≡_, refl, sym, ap, _∙_, Bool, true, false, not, cond, List, [], _∷_}
+use Rattle.compiler.proofs.Basics.{arith, eqb, ltb, length, lt-ltb, le-ltb, eq-eqb, ne-eqb}
 use mathlib.Core.Logic.{_≢_}
-use mathlib.Core.Bool.{Bool, true, false, not, cond}
-use mathlib.Core.List.{List, [], _∷_}
-use native.Mathlib.Omega.{arith}
-use lib.Dec.{eqb, ltb}
-use lib.ListN.{length}
-use borrow.Author.Tests.{lt-ltb, le-ltb, eq-eqb, ne-eqb}
 use Rattle.language.specs.Constants.{Fault}
 use Rattle.compiler.proofs.Scoping.{Order, lt, ge, order}
 use Rattle.compiler.specs.Walked.{key, least, AllFit, andFit}

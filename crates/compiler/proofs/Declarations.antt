@@ -1,9 +1,5 @@
 -- Names declared one after another.
-use Prim.Native.Nat.{ℕ, _+_, _*_, _≤_, _<_, _^_}
-use mathlib.Core.Path.{_≡_, refl, sym, ap, subst, _∙_}
-use mathlib.Core.List.{List, [], _∷_}
-use native.Mathlib.Omega.{arith}
-use lib.ListN.{length, getD}
+use Rattle.compiler.proofs.Basics.{ℕ, _+_, _*_, _≤_, _<_, _^_, _≡_, refl, sym, ap, subst, _∙_, List, [], _∷_, arith, length, getD}
 use Rattle.language.specs.Tree.{Name}
 use Rattle.language.specs.Names as N
 use Rattle.language.specs.Names.{Scope, declared, inBlock, onFound}
@@ -12,11 +8,8 @@ use Rattle.language.specs.Resolve.{declareAll}
 use Rattle.language.specs.Faults.{twice}
 use Rattle.tree.specs.Encoding.{encodeName, encodeNames}
 use Rattle.language.specs.Fine.{FineName, FineNames}
-use Rattle.compiler.specs.Scope.{Shows, Keeps, PushedName, Told, code, found, named, nameAt}
+use Rattle.compiler.proofs.Vocabulary.{Shows, Keeps, PushedName, Told, code, found, named, nameAt, State, Did, Faulted, Lies}
 use Rattle.compiler.proofs.Scoping.{keeps-all, keeps-then, keeps-lower, keeps-name, code-not, pushed-keeps, pushed-name}
-use Rattle.compiler.specs.declared.steps.State.{State}
-use Rattle.compiler.specs.Walked.{Did, Faulted}
-use Rattle.compiler.specs.Walks.{Lies}
 use Rattle.compiler.specs.Commands.{nothing, ReadyNames, Declares, Again}
 use Rattle.compiler.proofs.Done.{did-none, did-then, did-as, same-refl}
 use Rattle.compiler.proofs.Trees.{second}

@@ -1,12 +1,6 @@
 -- Laws of what is done: faults, items, heights and labels, one after another.
-use Prim.Native.Nat.{ℕ, suc, _+_, _*_, _-_, _≤_, _<_, _/_, _%_, _^_, min}
-use mathlib.Core.Path.{_≡_, refl, sym, ap, _∙_}
-use mathlib.Core.Bool.{true, false, cond}
-use mathlib.Core.List.{List, [], _∷_, _++_, append-nil}
-use native.Mathlib.Omega.{arith}
-use lib.ListN.{length, getD}
-use lib.Dec.{ltb}
-use borrow.Author.Tests.{lt-ltb, le-ltb, eq-eqb, ne-eqb}
+use Rattle.compiler.proofs.Basics.{ℕ, suc, _+_, _*_, _-_, _≤_, _<_, _/_, _%_, _^_, min, _≡_, refl, sym, ap, _∙_, true, false, cond, List, []}
+use Rattle.compiler.proofs.Basics.{_∷_, _++_, append-nil, arith, length, getD, ltb, lt-ltb, le-ltb, eq-eqb, ne-eqb}
 use Rattle.items.specs.Item as I
 use Rattle.language.specs.Names.{local, global, manifest, function, Found, unknown, known, onFound}
 use Rattle.language.specs.Constants.{Fault, fault}
@@ -16,13 +10,9 @@ use Rattle.code.specs.Generate as G
 use Rattle.code.specs.Generate.{exprCode, exprLabels}
 use Rattle.writing.specs.Text.{Puts, line, lines}
 use Rattle.writing.proofs.Laws.{puts-none, puts-then, puts-as, lines-then}
-use Rattle.compiler.specs.Scope.{code, found}
+use Rattle.compiler.proofs.Vocabulary.{code, found, State, Here, Node, inside, NodeAt, key, least, AllFit, noFit, andFit, Code, Did, Emits}
+use Rattle.compiler.proofs.Vocabulary.{Reached, Faulted, Means, Fresh, LeavesTo, exprSays}
 use Rattle.compiler.proofs.Scoping.{Order, lt, ge, order}
-use Rattle.compiler.specs.declared.steps.State.{State}
-use Rattle.compiler.specs.declared.steps.Here.{Here}
-use Rattle.compiler.specs.declared.steps.Node.{Node}
-use Rattle.compiler.specs.Walked.{inside, NodeAt, key, least, AllFit, noFit, andFit, Code, Did, Emits, Reached, Faulted, Means, Fresh}
-use Rattle.compiler.specs.Walked.{LeavesTo, exprSays}
 
 -- ---- folds
 

@@ -1,12 +1,7 @@
 -- The labels of a list after INTO judged one after another, with those before each marked: what is refused in them.
-use Prim.Native.Nat.{ℕ, _+_, _-_, _/_, _%_, _≤_, _<_, _^_}
-use mathlib.Core.Path.{_≡_, refl, sym, ap, _∙_}
-use mathlib.Core.Bool.{Bool, true, false, cond}
-use mathlib.Core.List.{List, [], _∷_, _++_, append-nil, append-assoc}
-use native.Mathlib.Omega.{arith}
-use lib.ListN.{length, getD, set, replicate, length-set, length-replicate}
-use lib.Dec.{eqb}
-use borrow.Author.Tests.{eqb-true, eqb-false}
+use Rattle.compiler.proofs.Basics.{ℕ, _+_, _-_, _/_, _%_, _≤_, _<_, _^_, _≡_, refl, sym, ap, _∙_, Bool, true, false, cond, List, [], _∷_, _++_}
+use Rattle.compiler.proofs.Basics.{append-nil, append-assoc, arith, length, getD, set, replicate, length-set, length-replicate, eqb, eqb-true}
+use Rattle.compiler.proofs.Basics.{eqb-false}
 use Rattle.language.specs.Tree as T
 use Rattle.language.specs.Tree.{Label, Commands}
 use Rattle.language.specs.Names.{Scope}
@@ -15,12 +10,9 @@ use Rattle.language.specs.Resolved as R
 use Rattle.language.specs.Resolved.{CaseLabel, hasCase, hasDefault}
 use Rattle.language.specs.Resolve.{labelsBefore, labelsOf, goodCase}
 use Rattle.language.specs.Faults.{doubledCase, doubledLabel, doubled}
-use Rattle.compiler.specs.Scope.{Shows}
-use Rattle.compiler.specs.declared.steps.State.{State}
-use Rattle.compiler.specs.declared.steps.Node.{Node}
+use Rattle.compiler.proofs.Vocabulary.{Shows, State, Node, NodeAt, Did, Faulted}
 use Rattle.compiler.specs.declared.steps.Verdict.{Verdict}
 use Rattle.compiler.specs.declared.labels.Span.{Span}
-use Rattle.compiler.specs.Walked.{NodeAt, Did, Faulted}
 use Rattle.compiler.specs.Commands.{nothing}
 use Rattle.compiler.specs.Locals.{Says, fit, unfit, Judges, Blames}
 use Rattle.compiler.specs.Switching.{labelFaults, ReadyLabels, JudgesLabels}

@@ -1,9 +1,6 @@
 -- What each form of expression needs of its parts, and gives.
-use Prim.Native.Nat.{ℕ, _+_, _-_, _≤_, _<_}
-use mathlib.Core.Path.{_≡_, refl, sym, ap, subst, _∙_}
-use mathlib.Core.List.{List, [], _∷_, _++_, append-nil, append-assoc}
-use native.Mathlib.Omega.{arith}
-use lib.ListN.{length, getD}
+use Rattle.compiler.proofs.Basics.{ℕ, _+_, _-_, _≤_, _<_, _≡_, refl, sym, ap, subst, _∙_, List, [], _∷_, _++_, append-nil, append-assoc, arith}
+use Rattle.compiler.proofs.Basics.{length, getD}
 use Rattle.language.specs.Tree as T
 use Rattle.language.specs.Tree.{Name, Expression, Operations}
 use Rattle.language.proofs.Depth.{depth, operationsDepth}
@@ -17,15 +14,11 @@ use Rattle.code.specs.Generate as G
 use Rattle.code.specs.Generate.{exprCode, exprLabels}
 use Rattle.language.specs.Faults.{inExpression, inOperations}
 use Rattle.tree.specs.Encoding.{encode, encodeOperations}
-use Rattle.compiler.specs.Scope.{nameAt, found, Looked}
+use Rattle.compiler.proofs.Vocabulary.{nameAt, found, Looked, State, Here, Node, inside, raised, leavable, NodeAt, Code, Did, Emits, Means}
+use Rattle.compiler.proofs.Vocabulary.{exprSays, FineE, FineOs, Lies, Ready, Result, ReadyE, GaveE, faultsE, codeE, chainCode, chainHeights}
+use Rattle.compiler.proofs.Vocabulary.{chainLabels, chainSays, ReadyChain, GaveChain}
 use Rattle.compiler.proofs.Scoping.{keeps-all, keeps-then}
-use Rattle.compiler.specs.declared.steps.State.{State}
-use Rattle.compiler.specs.declared.steps.Here.{Here}
-use Rattle.compiler.specs.declared.steps.Node.{Node}
-use Rattle.compiler.specs.Walked.{inside, raised, leavable, NodeAt, Code, Did, Emits, Means, exprSays}
-use Rattle.compiler.specs.Fine.{FineE, FineOs}
 use Rattle.language.specs.Fine.{Fine, FineOperations}
-use Rattle.compiler.specs.Walks.{Lies, Ready, Result, ReadyE, GaveE, faultsE, codeE, chainCode, chainHeights, chainLabels, chainSays, ReadyChain, GaveChain}
 use Rattle.compiler.proofs.Done.{emits-did, did-put, did-after, did-none, did-then, did-as, same-refl, code-is}
 use Rattle.compiler.proofs.Trees.{find, is-number, is-string, is-name, is-bracket, is-dyadic}
 use Rattle.compiler.proofs.Parts.{sub}

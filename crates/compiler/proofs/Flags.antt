@@ -1,16 +1,10 @@
 -- Flags, eight in an entry: what one more changes.
-use Prim.Native.Nat.{ℕ, zero, suc, _+_, _/_, _%_, _≤_, _<_, _^_, zero-le}
-use mathlib.Core.Path.{_≡_, refl, sym, ap, _∙_}
-use mathlib.Core.List.{List}
-use native.Mathlib.Omega.{arith}
+use Rattle.compiler.proofs.Basics.{ℕ, zero, suc, _+_, _/_, _%_, _≤_, _<_, _^_, zero-le, _≡_, refl, sym, ap, _∙_, List, arith, length, getD}
+use Rattle.compiler.proofs.Basics.{set, replicate, getD-replicate, List·getD-eq-default, getD-set-same, getD-set-other, eqb, Bool, true, false}
+use Rattle.compiler.proofs.Basics.{eqb-true, eqb-false}
 use native.Mathlib.Nat.{pow-suc, zero-div}
 use native.Mathlib.Numerals.{one-add}
 use lib.Pow.{shr-shr}
-use lib.ListN.{length, getD, set, replicate, getD-replicate, List·getD-eq-default}
-use lib.Seq.{getD-set-same, getD-set-other}
-use lib.Dec.{eqb}
-use mathlib.Core.Bool.{Bool, true, false}
-use borrow.Author.Tests.{eqb-true, eqb-false}
 use Rattle.compiler.specs.Labels.{flag}
 
 -- ---- in a number

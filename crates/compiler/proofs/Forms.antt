@@ -1,13 +1,7 @@
 -- A command by the kind of its record: what it is and where its parts stand.
-use Prim.Native.Nat.{ℕ, _+_, _-_, _≤_}
-use mathlib.Core.Path.{_≡_, refl, sym, subst, _∙_}
-use mathlib.Core.Bool.{Bool, true, false, cond}
+use Rattle.compiler.proofs.Basics.{ℕ, _+_, _-_, _≤_, _≡_, refl, sym, subst, _∙_, Bool, true, false, cond, List, [], _∷_, _++_, arith, length}
+use Rattle.compiler.proofs.Basics.{getD, eqb, eqb-true}
 use mathlib.Core.Option.{Option}
-use mathlib.Core.List.{List, [], _∷_, _++_}
-use native.Mathlib.Omega.{arith}
-use lib.ListN.{length, getD}
-use lib.Dec.{eqb}
-use borrow.Author.Tests.{eqb-true}
 use Rattle.language.specs.Kinds as K
 use Rattle.language.specs.Kinds.{member}
 use Rattle.language.specs.Tree as T
@@ -17,12 +11,7 @@ use Rattle.language.specs.Fine.{FineUnlabelled}
 use Rattle.tree.specs.Encoding as O
 use Rattle.tree.specs.Encoding.{encode, encodeName, encodeBy, encodeCommand, encodeCommands, encodeExpressions, encodeSides, encodeFirst}
 use Rattle.tree.specs.Encoding.{encodeLocals, encodeUnlabelled, suffixedKind}
-use Rattle.compiler.specs.declared.steps.State.{State}
-use Rattle.compiler.specs.declared.steps.Here.{Here}
-use Rattle.compiler.specs.declared.steps.Node.{Node}
-use Rattle.compiler.specs.Fine.{FinePlain}
-use Rattle.compiler.specs.Walked.{NodeAt}
-use Rattle.compiler.specs.Walks.{Lies}
+use Rattle.compiler.proofs.Vocabulary.{State, Here, Node, FinePlain, NodeAt, Lies}
 use Rattle.compiler.specs.Commands.{ReadyU}
 use Rattle.compiler.proofs.Trees.{kid, ends, value-is, place-is, size-is, kind-is}
 

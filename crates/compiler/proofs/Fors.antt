@@ -1,10 +1,7 @@
 -- FOR: its test, its parts, and its block.
-use Prim.Native.Nat.{ℕ, _+_, _*_, _-_, _≤_}
-use mathlib.Core.Path.{_≡_, refl, sym, ap, subst, _∙_}
+use Rattle.compiler.proofs.Basics.{ℕ, _+_, _*_, _-_, _≤_, _≡_, refl, sym, ap, subst, _∙_, List, [], _∷_, _++_, append-nil, append-assoc, arith}
+use Rattle.compiler.proofs.Basics.{length, getD, length-append}
 use mathlib.Core.Option.{Option, none, some}
-use mathlib.Core.List.{List, [], _∷_, _++_, append-nil, append-assoc}
-use native.Mathlib.Omega.{arith}
-use lib.ListN.{length, getD, length-append}
 use Rattle.items.specs.Item as I
 use Rattle.language.specs.Kinds as K
 use Rattle.language.specs.Tree as T
@@ -20,16 +17,10 @@ use Rattle.language.specs.Fine.{FineName, FineBy, FineUnlabelled}
 use Rattle.code.specs.Generate as G
 use Rattle.language.specs.Faults.{byFaults, inExpression, inUnlabelled}
 use Rattle.tree.specs.Encoding.{encode, encodeName, encodeBy, encodeCommand, encodeUnlabelled}
-use Rattle.compiler.specs.Scope.{Shows, Keeps, Pushed, PushedName, named, nameAt}
+use Rattle.compiler.proofs.Vocabulary.{Shows, Keeps, Pushed, PushedName, named, nameAt, State, Here, Ways, Node, FineE, FineC, FinePlain}
+use Rattle.compiler.proofs.Vocabulary.{raised, placed, inLoop, leavableBy, exits, NodeAt, Code, Did, Emits, Fresh, Lies, Result, ReadyE, GaveE}
 use Rattle.compiler.proofs.Scoping.{keeps-all, keeps-then, keeps-shows, keeps-name, pushed-keeps}
-use Rattle.compiler.specs.declared.steps.State.{State}
-use Rattle.compiler.specs.declared.steps.Here.{Here}
-use Rattle.compiler.specs.declared.steps.Ways.{Ways}
-use Rattle.compiler.specs.declared.steps.Node.{Node}
 use Rattle.compiler.specs.declared.steps.Verdict.{Verdict}
-use Rattle.compiler.specs.Fine.{FineE, FineC, FinePlain}
-use Rattle.compiler.specs.Walked.{raised, placed, inLoop, leavableBy, exits, NodeAt, Code, Did, Emits, Fresh}
-use Rattle.compiler.specs.Walks.{Lies, Result, ReadyE, GaveE}
 use Rattle.compiler.specs.Commands.{nothing, cmdSays, ReadyC, GaveC, ReadyU, GaveU}
 use Rattle.compiler.specs.Locals.{Says, fit, unfit, Blames}
 use Rattle.compiler.specs.Switching.{byJudged, JudgesBy}

@@ -1,11 +1,6 @@
 -- A function: where its parameters and its body stand, and what its walk does, step after step.
-use Prim.Native.Nat.{ℕ, _+_, _*_, _-_, _/_, _≤_, _<_, _^_}
-use mathlib.Core.Path.{_≡_, refl, _∙_}
-use mathlib.Core.Bool.{not}
-use mathlib.Core.List.{List, [], _∷_, _++_}
-use native.Mathlib.Omega.{arith}
-use lib.ListN.{length, getD, length-append}
-use lib.Dec.{eqb}
+use Rattle.compiler.proofs.Basics.{ℕ, _+_, _*_, _-_, _/_, _≤_, _<_, _^_, _≡_, refl, _∙_, not, List, [], _∷_, _++_, arith, length, getD}
+use Rattle.compiler.proofs.Basics.{length-append, eqb}
 use Rattle.items.specs.Item as I
 use Rattle.language.specs.Kinds as K
 use Rattle.language.specs.Tree.{Function}
@@ -15,12 +10,7 @@ use Rattle.language.specs.Heights.{heightsOf}
 use Rattle.language.specs.Program.{inside, bodyOf, functionFaults, resolved}
 use Rattle.code.specs.Generate as G
 use Rattle.tree.specs.Encoding.{encodeName, encodeNames, encodeBody, bodyWord}
-use Rattle.compiler.specs.Scope.{Keeps, Pushed}
-use Rattle.compiler.specs.declared.steps.State.{State}
-use Rattle.compiler.specs.declared.steps.Here.{Here}
-use Rattle.compiler.specs.declared.steps.Node.{Node}
-use Rattle.compiler.specs.Walked.{NodeAt, Emits, Reached}
-use Rattle.compiler.specs.Walks.{Lies}
+use Rattle.compiler.proofs.Vocabulary.{Keeps, Pushed, State, Here, Node, NodeAt, Emits, Reached, Lies}
 use Rattle.compiler.specs.Commands.{ReadyNames, Declares}
 use Rattle.compiler.specs.Groups.{encodeFunction, ReadyBody, GaveBody, functionSays, ReadyF, GaveF}
 use Rattle.compiler.proofs.Scoping.{keeps-then, keeps-lower, pushed-keeps, pushed-mark}

@@ -1,12 +1,6 @@
 -- The functions of a group, one after another: what each adds to the faults, the code and the heights, and the loop.
-use Prim.Native.Nat.{ℕ, suc, _+_, _*_, _≤_, _<_, _^_}
-use mathlib.Core.Path.{_≡_, refl, sym, ap, subst, _∙_}
-use mathlib.Core.Bool.{Bool, true, false, cond}
-use mathlib.Core.List.{List, [], _∷_, _++_, append-nil, append-assoc}
-use native.Mathlib.Omega.{arith}
-use lib.ListN.{length, getD, length-append}
-use lib.Dec.{ltb}
-use borrow.Author.Tests.{lt-ltb, le-ltb}
+use Rattle.compiler.proofs.Basics.{ℕ, suc, _+_, _*_, _≤_, _<_, _^_, _≡_, refl, sym, ap, subst, _∙_, Bool, true, false, cond, List, [], _∷_}
+use Rattle.compiler.proofs.Basics.{_++_, append-nil, append-assoc, arith, length, getD, length-append, ltb, lt-ltb, le-ltb}
 use Rattle.items.specs.Item as I
 use Rattle.language.specs.Tree.{Function}
 use Rattle.language.specs.Names.{Scope, lookup}
@@ -19,14 +13,10 @@ use Rattle.language.specs.Fine.{FineFunctions}
 use Rattle.language.proofs.Depth.{functionsDepth}
 use Rattle.code.specs.Generate as G
 use Rattle.tree.specs.Encoding.{encodeName, encodeNames, encodeBody, bodyWord, encodeFunctions}
-use Rattle.compiler.specs.Scope.{Keeps}
-use Rattle.compiler.specs.Walked.{Did, Code, least, AllFit, noFit, andFit}
-use Rattle.compiler.specs.Walks.{Lies}
+use Rattle.compiler.proofs.Vocabulary.{Keeps, Did, Code, least, AllFit, noFit, andFit, Lies, State, Here}
 use Rattle.compiler.specs.Groups.{encodeFunction, functionDepth, FineF, FineFs, functionSays, functionsSays, innerLabels, ReadyF, GaveF}
 use Rattle.compiler.specs.Groups.{ReadyFs, GaveFs}
 use Rattle.compiler.specs.Programs.{Yields}
-use Rattle.compiler.specs.declared.steps.State.{State}
-use Rattle.compiler.specs.declared.steps.Here.{Here}
 use Rattle.compiler.specs.declared.program.Done.{Done}
 use Rattle.compiler.proofs.Scoping.{keeps-all, keeps-then, keeps-shows}
 use Rattle.compiler.proofs.Done.{least-then, fit-then, nil-left, nil-right, did-none, did-then, did-as, same-refl, code-is}

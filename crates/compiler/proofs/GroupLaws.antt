@@ -1,24 +1,14 @@
 -- The names of functions, and the table of globals.
-use Prim.Native.Nat.{ℕ, _+_, _*_, _/_, _%_, _≤_, _<_}
-use mathlib.Core.Path.{_≡_, refl, sym, ap, _∙_}
-use mathlib.Core.Bool.{Bool, true, false, cond}
-use mathlib.Core.List.{List, [], _∷_}
-use native.Mathlib.Omega.{arith}
-use lib.ListN.{length, getD, set, length-set}
-use lib.Seq.{getD-set-same, getD-set-other}
-use lib.Dec.{eqb}
-use borrow.Author.Tests.{eqb-true, eqb-false}
+use Rattle.compiler.proofs.Basics.{ℕ, _+_, _*_, _/_, _%_, _≤_, _<_, _≡_, refl, sym, ap, _∙_, Bool, true, false, cond, List, [], _∷_, arith}
+use Rattle.compiler.proofs.Basics.{length, getD, set, length-set, getD-set-same, getD-set-other, eqb, eqb-true, eqb-false}
 use Rattle.language.specs.Tree.{Name, Function}
 use Rattle.language.specs.Names as N
 use Rattle.language.specs.Names.{Scope, declared}
 use Rattle.language.specs.Constants.{fault}
 use Rattle.language.specs.Program.{among, startOf, withFunction, nameFault, alsoTaken}
 use Rattle.tree.specs.Encoding.{encodeFunctions}
-use Rattle.compiler.specs.Scope.{Shows, Keeps, PushedName, code, found, nameAt}
+use Rattle.compiler.proofs.Vocabulary.{Shows, Keeps, PushedName, code, found, nameAt, State, Did, Faulted, Lies}
 use Rattle.compiler.proofs.Scoping.{keeps-all, code-not, pushed-keeps, pushed-name}
-use Rattle.compiler.specs.declared.steps.State.{State}
-use Rattle.compiler.specs.Walked.{Did, Faulted}
-use Rattle.compiler.specs.Walks.{Lies}
 use Rattle.compiler.specs.Commands.{nothing}
 use Rattle.compiler.proofs.Done.{did-none}
 use Rattle.compiler.proofs.Lists.{First, first-of}

@@ -1,13 +1,7 @@
 -- The names of a group: the loop over its functions, and where they start.
-use Prim.Native.Nat.{ℕ, suc, _+_, _*_, _≤_, _<_, _^_}
-use mathlib.Core.Path.{_≡_, refl, sym, ap, subst, _∙_}
-use mathlib.Core.Bool.{Bool, true, false, cond}
-use mathlib.Core.List.{List, [], _∷_, _++_, append-nil, append-assoc}
-use native.Mathlib.Omega.{arith}
-use lib.ListN.{length, getD, set, length-append, List·getD-append, List·getD-eq-default}
-use lib.Seq.{getD-set-same, getD-set-other, getD-append-seam}
-use lib.Dec.{eqb}
-use borrow.Author.Tests.{eqb-true, eqb-false}
+use Rattle.compiler.proofs.Basics.{ℕ, suc, _+_, _*_, _≤_, _<_, _^_, _≡_, refl, sym, ap, subst, _∙_, Bool, true, false, cond, List, [], _∷_}
+use Rattle.compiler.proofs.Basics.{_++_, append-nil, append-assoc, arith, length, getD, set, length-append, List·getD-append}
+use Rattle.compiler.proofs.Basics.{List·getD-eq-default, getD-set-same, getD-set-other, getD-append-seam, eqb, eqb-true, eqb-false}
 use Rattle.language.specs.Tree.{Name, Function}
 use Rattle.language.specs.Names as N
 use Rattle.language.specs.Names.{Scope, lookup}
@@ -16,10 +10,7 @@ use Rattle.language.specs.Resolved.{Start, nowhere, inGlobal}
 use Rattle.language.specs.Program.{among, startOf, withFunction, nameFault, alsoTaken, functionsAfter, takenAfter, groupNameFaults}
 use Rattle.tree.specs.Encoding.{encodeName, encodeNames, encodeBody, encodeFunctions}
 use Rattle.language.specs.Fine.{FineName, FineFunctions}
-use Rattle.compiler.specs.Scope.{Shows, Keeps, Looked, found, named, nameAt}
-use Rattle.compiler.specs.declared.steps.State.{State}
-use Rattle.compiler.specs.Walked.{Did}
-use Rattle.compiler.specs.Walks.{Lies}
+use Rattle.compiler.proofs.Vocabulary.{Shows, Keeps, Looked, found, named, nameAt, State, Did, Lies}
 use Rattle.compiler.specs.Commands.{nothing}
 use Rattle.compiler.specs.Groups.{Small, Taken, Starting, startsIn, started, NameFaults, Enters, encodeFunction, FineF, FineFs, ReadyGroup}
 use Rattle.compiler.specs.Groups.{GroupNames}

@@ -1,11 +1,6 @@
 -- IF and UNLESS.
-use Prim.Native.Nat.{ℕ, _+_, _-_, _≤_}
-use mathlib.Core.Path.{_≡_, refl, sym, ap, subst, _∙_}
-use mathlib.Core.Bool.{false, cond}
-use mathlib.Core.List.{List, [], _∷_, _++_, append-assoc}
-use native.Mathlib.Omega.{arith}
-use lib.ListN.{length, getD, length-append}
-use lib.Dec.{eqb}
+use Rattle.compiler.proofs.Basics.{ℕ, _+_, _-_, _≤_, _≡_, refl, sym, ap, subst, _∙_, false, cond, List, [], _∷_, _++_, append-assoc, arith}
+use Rattle.compiler.proofs.Basics.{length, getD, length-append, eqb}
 use Rattle.items.specs.Item as I
 use Rattle.language.specs.Tree as T
 use Rattle.language.specs.Tree.{Expression, Command, Unlabelled, endsInCall, placeOf}
@@ -19,14 +14,8 @@ use Rattle.language.specs.Faults.{Leavable, inExpression, inCommand, inUnlabell
 use Rattle.tree.specs.Encoding as O
 use Rattle.tree.specs.Encoding.{closed, encode, encodeCommand, encodeUnlabelled}
 use Rattle.compiler.proofs.Scoping.{keeps-all, keeps-then}
-use Rattle.compiler.specs.declared.steps.State.{State}
-use Rattle.compiler.specs.declared.steps.Here.{Here}
-use Rattle.compiler.specs.declared.steps.Ways.{Ways}
-use Rattle.compiler.specs.declared.steps.Node.{Node}
-use Rattle.compiler.specs.Fine.{FineE, FineC, FinePlain}
+use Rattle.compiler.proofs.Vocabulary.{State, Here, Ways, Node, FineE, FineC, FinePlain, leavableBy, NodeAt, Emits, Fresh, Lies, ReadyE, GaveE}
 use Rattle.language.specs.Fine.{FineCommand, FineUnlabelled}
-use Rattle.compiler.specs.Walked.{leavableBy, NodeAt, Emits, Fresh}
-use Rattle.compiler.specs.Walks.{Lies, ReadyE, GaveE}
 use Rattle.compiler.specs.Commands.{cmdSays, ReadyC, GaveC, ReadyU, GaveU, WhenWord, anIf, anUnless, WhenKind}
 use Rattle.compiler.proofs.Done.{did-put, did-then, did-at, did-fresh, same-eq, code-is}
 use Rattle.compiler.proofs.Trees.{first, second, ends, size-is, kind-is}

@@ -1,12 +1,6 @@
 -- Constants, and one declaration of locals.
-use Prim.Native.Nat.{ℕ, _+_, _*_, _-_, _≤_, _<_, _/_, _%_, _^_}
-use mathlib.Core.Path.{_≡_, refl, sym, ap, subst, _∙_}
-use mathlib.Core.Bool.{Bool, true, false, cond}
-use mathlib.Core.List.{List, [], _∷_, _++_, append-nil}
-use native.Mathlib.Omega.{arith}
-use lib.ListN.{length, getD, length-append}
-use lib.Dec.{leb}
-use borrow.Author.Tests.{le-leb, lt-leb}
+use Rattle.compiler.proofs.Basics.{ℕ, _+_, _*_, _-_, _≤_, _<_, _/_, _%_, _^_, _≡_, refl, sym, ap, subst, _∙_, Bool, true, false, cond, List}
+use Rattle.compiler.proofs.Basics.{[], _∷_, _++_, append-nil, arith, length, getD, length-append, leb, le-leb, lt-leb}
 use Rattle.words.specs.Words.{word}
 use Rattle.language.specs.Tree as T
 use Rattle.language.specs.Tree.{Name, Simple, Constant, Expressions}
@@ -17,16 +11,11 @@ use Rattle.language.specs.Constants.{fault, Judged, good, refused, judge, forVe
 use Rattle.language.specs.Resolve.{declareAll}
 use Rattle.code.specs.Generate as G
 use Rattle.tree.specs.Encoding.{encodeName, encodeNames, encodeConstant, encodePositive, encodeNegative, encodeExpressions}
-use Rattle.compiler.specs.Scope.{Shows, Looked, code, found, nameAt}
+use Rattle.compiler.proofs.Vocabulary.{Shows, Looked, code, found, nameAt, State, Here, Node, FineEs, NodeAt, Did, Emits, Faulted, Lies}
+use Rattle.compiler.proofs.Vocabulary.{ReadyArgs, GaveArgs}
 use Rattle.compiler.proofs.Scoping.{keeps-all, keeps-then, keeps-shows, code-not, Held, looked-word}
-use Rattle.compiler.specs.declared.steps.State.{State}
-use Rattle.compiler.specs.declared.steps.Here.{Here}
-use Rattle.compiler.specs.declared.steps.Node.{Node}
 use Rattle.compiler.specs.declared.steps.Verdict.{Verdict}
-use Rattle.compiler.specs.Fine.{FineEs}
 use Rattle.language.specs.Fine.{FineName, FineNames, FineConstant}
-use Rattle.compiler.specs.Walked.{NodeAt, Did, Emits, Faulted}
-use Rattle.compiler.specs.Walks.{Lies, ReadyArgs, GaveArgs}
 use Rattle.compiler.specs.Commands.{nothing, ReadyNames, Declares}
 use Rattle.compiler.specs.Locals.{Says, fit, unfit, NamedConstant, Judges, JudgesMost, Blames, Local, aVector, someValues, encodeLocal}
 use Rattle.compiler.specs.Locals.{localDepth, FineLocal, scopeWith, heightWith, faultsL, localSays, ReadyLocal, GaveLocal}

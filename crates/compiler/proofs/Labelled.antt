@@ -1,9 +1,6 @@
 -- A command with its labels, and without them.
-use Prim.Native.Nat.{ℕ, _+_, _-_, _≤_}
-use mathlib.Core.Path.{_≡_, refl, sym, ap, subst, _∙_}
-use mathlib.Core.List.{List, [], _∷_, _++_, append-assoc}
-use native.Mathlib.Omega.{arith}
-use lib.ListN.{length, getD, length-append}
+use Rattle.compiler.proofs.Basics.{ℕ, _+_, _-_, _≤_, _≡_, refl, sym, ap, subst, _∙_, List, [], _∷_, _++_, append-assoc, arith, length, getD}
+use Rattle.compiler.proofs.Basics.{length-append}
 use Rattle.language.specs.Tree as T
 use Rattle.language.specs.Tree.{Label, Command, Unlabelled, Repeats}
 use Rattle.language.proofs.Depth.{commandDepth}
@@ -15,13 +12,7 @@ use Rattle.language.specs.Faults.{inCommand, inCase, inUnlabelled, inRepeats, m
 use Rattle.tree.specs.Encoding as O
 use Rattle.tree.specs.Encoding.{closed, encodeCommand, encodeUnlabelled, encodeRepeats, encodeLabels, labelled}
 use Rattle.compiler.proofs.Scoping.{keeps-all}
-use Rattle.compiler.specs.declared.steps.State.{State}
-use Rattle.compiler.specs.declared.steps.Here.{Here}
-use Rattle.compiler.specs.declared.steps.Ways.{Ways}
-use Rattle.compiler.specs.declared.steps.Node.{Node}
-use Rattle.compiler.specs.Fine.{FineC, FinePlain}
-use Rattle.compiler.specs.Walked.{inside, leavableBy, NodeAt}
-use Rattle.compiler.specs.Walks.{Lies, Result}
+use Rattle.compiler.proofs.Vocabulary.{State, Here, Ways, Node, FineC, FinePlain, inside, leavableBy, NodeAt, Lies, Result}
 use Rattle.compiler.specs.Commands.{cmdSays, ReadyC, GaveC, GaveCase, deepRepeated, FineRepeated, ReadyR, GaveR}
 use Rattle.compiler.specs.Switching.{ReadyMisplaced, Misplaces}
 use Rattle.compiler.proofs.Done.{did-none, did-then, did-as, same-refl, same-eq, code-is}

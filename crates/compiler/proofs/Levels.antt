@@ -1,12 +1,6 @@
 -- One declaration of the outermost level: the items of GLOBAL and MANIFEST, or a group of functions, and where the walk then stands.
-use Prim.Native.Nat.{ℕ, suc, _+_, _*_, _≤_, _<_}
-use mathlib.Core.Path.{_≡_, refl, sym, ap, subst, _∙_}
-use mathlib.Core.Bool.{Bool, true, false, cond}
-use mathlib.Core.List.{List, [], _∷_, append-nil}
-use native.Mathlib.Omega.{arith}
-use lib.ListN.{length, length-append}
-use lib.Dec.{eqb, leb}
-use borrow.Author.Tests.{eq-eqb, ne-eqb, leb-true}
+use Rattle.compiler.proofs.Basics.{ℕ, suc, _+_, _*_, _≤_, _<_, _≡_, refl, sym, ap, subst, _∙_, Bool, true, false, cond, List, [], _∷_}
+use Rattle.compiler.proofs.Basics.{append-nil, arith, length, length-append, eqb, leb, eq-eqb, ne-eqb, leb-true}
 use Rattle.language.specs.Kinds as K
 use Rattle.language.specs.Tree as T
 use Rattle.language.specs.Tree.{Item, Function, Declaration}
@@ -20,17 +14,13 @@ use Rattle.language.specs.Fine.{FineDeclaration}
 use Rattle.language.proofs.Depth.{declarationDepth, functionsDepth}
 use Rattle.code.specs.Generate as G
 use Rattle.tree.specs.Encoding.{encodeName, encodeConstant, encodeItems, encodeFunctions}
-use Rattle.compiler.specs.Fine.{STRINGS}
-use Rattle.compiler.specs.Walked.{Did, least, noFit}
-use Rattle.compiler.specs.Walks.{Lies}
+use Rattle.compiler.proofs.Vocabulary.{STRINGS, Did, least, noFit, Lies, State, Here}
 use Rattle.compiler.specs.Commands.{nothing}
 use Rattle.compiler.specs.Items.{after, faults, FineIs, ReadyItems, ItemsKnown, Items}
 use Rattle.compiler.specs.Groups.{Small, Starting, startsIn, innerLabels, ReadyGroup, GroupKnown, GroupNames, ReadyFs, GaveFs, GroupWalked}
 use Rattle.compiler.specs.Groups.{CountsGroup}
 use Rattle.compiler.specs.Programs.{startsOf, encodeDeclared, declaredWord, Stands, Yields, NamedItems, ReadyDeclaration, WalkedOn}
 use Rattle.compiler.specs.Programs.{GaveDeclaration}
-use Rattle.compiler.specs.declared.steps.State.{State}
-use Rattle.compiler.specs.declared.steps.Here.{Here}
 use Rattle.compiler.specs.declared.outer.Known.{Known}
 use Rattle.compiler.specs.declared.program.Done.{Done}
 use Rattle.compiler.specs.declared.program.Progress.{Progress}

@@ -1,3 +1,5 @@
+pub mod Basics
+pub mod Vocabulary
 pub mod Scoping
 pub mod Done
 pub mod Trees

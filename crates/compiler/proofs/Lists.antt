@@ -1,15 +1,8 @@
 -- Lists in scratch: each item has its size and a word in front. What an item is, and a loop over the items.
-use Prim.Native.Nat.{ℕ, _+_, _*_, _≤_, _<_, _^_}
-use mathlib.Core.Path.{_≡_, refl, sym, ap, subst, _∙_}
-use mathlib.Core.List.{List, [], _∷_, _++_}
-use native.Mathlib.Omega.{arith}
-use lib.ListN.{length, getD, length-append}
+use Rattle.compiler.proofs.Basics.{ℕ, _+_, _*_, _≤_, _<_, _^_, _≡_, refl, sym, ap, subst, _∙_, List, [], _∷_, _++_, arith, length, getD}
+use Rattle.compiler.proofs.Basics.{length-append}
 use Rattle.language.specs.Constants.{Fault}
-use Rattle.compiler.specs.Scope.{Keeps}
-use Rattle.compiler.specs.declared.steps.State.{State}
-use Rattle.compiler.specs.declared.steps.Here.{Here}
-use Rattle.compiler.specs.Walked.{Did, Code}
-use Rattle.compiler.specs.Walks.{Lies, Ready}
+use Rattle.compiler.proofs.Vocabulary.{Keeps, State, Here, Did, Code, Lies, Ready}
 use Rattle.compiler.proofs.Scoping.{keeps-all, keeps-then}
 use Rattle.compiler.proofs.Trees.{first, second}
 use Rattle.compiler.proofs.Parts.{sub}

@@ -1,15 +1,8 @@
 -- From a tree that is ready to its parts.
-use Prim.Native.Nat.{ℕ, _+_, _*_, _≤_, _<_, _^_}
-use mathlib.Core.Path.{_≡_}
-use mathlib.Core.List.{List}
-use native.Mathlib.Omega.{arith}
-use lib.ListN.{length}
+use Rattle.compiler.proofs.Basics.{ℕ, _+_, _*_, _≤_, _<_, _^_, _≡_, List, arith, length}
 use Rattle.language.specs.Names.{Scope}
-use Rattle.compiler.specs.Scope.{Shows, Keeps}
+use Rattle.compiler.proofs.Vocabulary.{Shows, Keeps, State, Here, Lies, Ready}
 use Rattle.compiler.proofs.Scoping.{keeps-shows}
-use Rattle.compiler.specs.declared.steps.State.{State}
-use Rattle.compiler.specs.declared.steps.Here.{Here}
-use Rattle.compiler.specs.Walks.{Lies, Ready}
 use Rattle.compiler.proofs.Trees.{keeps-lies}
 
 -- a part lies inside, and there are heights, labels and levels for it

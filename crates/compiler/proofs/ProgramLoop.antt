@@ -1,10 +1,6 @@
 -- The whole program: its declarations one after another, with the walk, the faults and the functions so far.
-use Prim.Native.Nat.{ℕ, suc, _+_, _*_, _≤_, _<_}
-use mathlib.Core.Path.{_≡_, refl, sym, ap, subst, _∙_}
-use mathlib.Core.Bool.{Bool, true, false}
-use mathlib.Core.List.{List, [], _∷_, _++_, append-nil, append-assoc}
-use native.Mathlib.Omega.{arith}
-use lib.ListN.{length, getD, replicate, length-append, length-replicate, getD-replicate}
+use Rattle.compiler.proofs.Basics.{ℕ, suc, _+_, _*_, _≤_, _<_, _≡_, refl, sym, ap, subst, _∙_, Bool, true, false, List, [], _∷_, _++_}
+use Rattle.compiler.proofs.Basics.{append-nil, append-assoc, arith, length, getD, replicate, length-append, length-replicate, getD-replicate}
 use Rattle.language.specs.Tree as T
 use Rattle.language.specs.Tree.{Declaration, Program}
 use Rattle.language.specs.Constants.{Fault}
@@ -16,9 +12,7 @@ use Rattle.language.specs.Fine.{FineDeclaration, FineProgram}
 use Rattle.language.proofs.Depth.{declarationDepth, programDepth}
 use Rattle.tree.specs.Encoding.{encodeProgram}
 use Rattle.compiler.specs.Scope as S
-use Rattle.compiler.specs.Scope.{Keeps}
-use Rattle.compiler.specs.Fine.{STRINGS}
-use Rattle.compiler.specs.Walks.{Lies}
+use Rattle.compiler.proofs.Vocabulary.{Keeps, STRINGS, Lies}
 use Rattle.compiler.specs.Groups.{Small, Taken, Starting, FineDs}
 use Rattle.compiler.specs.Programs.{startsOf, encodeDeclared, declaredWord, Stands, Yields, ReadyDeclaration, GaveDeclaration, ReadyProgram}
 use Rattle.compiler.specs.Programs.{GaveProgram}

@@ -1,9 +1,5 @@
 -- The text as lines; globals in scope.
-use Prim.Native.Nat.{ℕ, _<_}
-use mathlib.Core.Path.{_≡_, refl, ap, _∙_}
-use mathlib.Core.Bool.{Bool, true, false, cond}
-use mathlib.Core.List.{List, [], _∷_, _++_, append-assoc}
-use native.Mathlib.Omega.{arith}
+use Rattle.compiler.proofs.Basics.{ℕ, _<_, _≡_, refl, ap, _∙_, Bool, true, false, cond, List, [], _∷_, _++_, append-assoc, arith}
 use Rattle.items.specs.Item.{Item}
 use Rattle.items.specs.Render.{render, renderLines, renderAll}
 use Rattle.writing.specs.Text.{line, lines}

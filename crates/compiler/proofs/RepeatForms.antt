@@ -1,11 +1,6 @@
 -- REPEAT forms: one of a list, the loop over them, and a command with them.
-use Prim.Native.Nat.{ℕ, zero, suc, _+_, _*_, _-_, _≤_, _<_, _^_}
-use mathlib.Core.Path.{_≡_, refl, sym, ap, subst, _∙_}
-use mathlib.Core.Bool.{cond}
-use mathlib.Core.List.{List, [], _∷_, _++_, append-nil, append-assoc}
-use native.Mathlib.Omega.{arith}
-use lib.ListN.{length, getD, length-append}
-use lib.Dec.{eqb}
+use Rattle.compiler.proofs.Basics.{ℕ, zero, suc, _+_, _*_, _-_, _≤_, _<_, _^_, _≡_, refl, sym, ap, subst, _∙_, cond, List, [], _∷_, _++_}
+use Rattle.compiler.proofs.Basics.{append-nil, append-assoc, arith, length, getD, length-append, eqb}
 use Rattle.items.specs.Item as I
 use Rattle.language.specs.Kinds as K
 use Rattle.language.specs.Tree as T
@@ -20,15 +15,9 @@ use Rattle.language.specs.Faults as Y
 use Rattle.language.specs.Faults.{Leavable, inExpression, inUnlabelled, inRepeats}
 use Rattle.tree.specs.Encoding as O
 use Rattle.tree.specs.Encoding.{encode, encodeUnlabelled, encodeRepeats}
-use Rattle.compiler.specs.Scope.{Keeps}
+use Rattle.compiler.proofs.Vocabulary.{Keeps, State, Here, Ways, Node, FineE, FinePlain, FineRs, inLoop, leavable, leavableBy, exits, NodeAt}
+use Rattle.compiler.proofs.Vocabulary.{Code, Did, Emits, Fresh, Lies, Ready, Result, GaveE, Counts}
 use Rattle.compiler.proofs.Scoping.{keeps-all, keeps-then}
-use Rattle.compiler.specs.declared.steps.State.{State}
-use Rattle.compiler.specs.declared.steps.Here.{Here}
-use Rattle.compiler.specs.declared.steps.Ways.{Ways}
-use Rattle.compiler.specs.declared.steps.Node.{Node}
-use Rattle.compiler.specs.Fine.{FineE, FinePlain, FineRs}
-use Rattle.compiler.specs.Walked.{inLoop, leavable, leavableBy, exits, NodeAt, Code, Did, Emits, Fresh}
-use Rattle.compiler.specs.Walks.{Lies, Ready, Result, GaveE, Counts}
 use Rattle.compiler.specs.Repeats.{forms, conditions, topsCode, formsCode, formsHeights, formsLabels, formsSays, innermost}
 use Rattle.compiler.specs.Commands.{cmdSays, ReadyU, GaveU, encodeRepeated, ReadyR, GaveR, ReadyForms, GaveForms, formSays, ReadyForm, GaveForm}
 use Rattle.compiler.proofs.Done.{emits-did, did-none, did-put, did-after, did-then, did-as, did-at, did-fresh, same-refl, same-eq, code-is}

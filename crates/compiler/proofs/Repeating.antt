@@ -1,9 +1,6 @@
 -- The code of a command with REPEAT forms, and the loop over them.
-use Prim.Native.Nat.{ℕ, zero, suc, _+_, _*_, _-_, _≤_}
-use mathlib.Core.Path.{_≡_, refl, sym, ap, subst, _∙_}
-use mathlib.Core.List.{List, [], _∷_, _++_, append-nil, append-assoc}
-use native.Mathlib.Omega.{arith}
-use lib.Dec.{eqb}
+use Rattle.compiler.proofs.Basics.{ℕ, zero, suc, _+_, _*_, _-_, _≤_, _≡_, refl, sym, ap, subst, _∙_, List, [], _∷_, _++_, append-nil}
+use Rattle.compiler.proofs.Basics.{append-assoc, arith, eqb}
 use Rattle.items.specs.Item as I
 use Rattle.language.specs.Tree as T
 use Rattle.language.specs.Tree.{Repeats}
@@ -16,8 +13,7 @@ use Rattle.code.specs.Generate as G
 use Rattle.code.specs.Generate.{Exits, cmdCode, cmdLabels, exprCode, exprLabels}
 use Rattle.writing.specs.Text.{lines}
 use Rattle.writing.proofs.Laws.{puts-none}
-use Rattle.compiler.specs.declared.steps.State.{State}
-use Rattle.compiler.specs.Walked.{Emits}
+use Rattle.compiler.proofs.Vocabulary.{State, Emits}
 use Rattle.compiler.proofs.Done.{emits-then}
 use Rattle.compiler.specs.Repeats.{forms, topsCode, formsCode, formsHeights, formsLabels, innermost}
 

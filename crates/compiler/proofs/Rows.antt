@@ -1,13 +1,7 @@
 -- Items of a list by their ends: the loop over them; labels, one by one and before each command of a list; BY's constant.
-use Prim.Native.Nat.{ℕ, _+_, _-_, _≤_, _<_, _^_}
-use mathlib.Core.Path.{_≡_, refl, sym, ap, _∙_}
-use mathlib.Core.Bool.{Bool, true, false, cond}
-use mathlib.Core.List.{List, [], _∷_, _++_, append-nil}
+use Rattle.compiler.proofs.Basics.{ℕ, _+_, _-_, _≤_, _<_, _^_, _≡_, refl, sym, ap, _∙_, Bool, true, false, cond, List, [], _∷_, _++_}
+use Rattle.compiler.proofs.Basics.{append-nil, arith, length, getD, length-append, eqb, eq-eqb, ne-eqb}
 use mathlib.Core.Option.{Option, none, some}
-use native.Mathlib.Omega.{arith}
-use lib.ListN.{length, getD, length-append}
-use lib.Dec.{eqb}
-use borrow.Author.Tests.{eq-eqb, ne-eqb}
 use Rattle.language.specs.Tree as T
 use Rattle.language.specs.Tree.{Simple, Constant, Label}
 use Rattle.language.specs.Names.{Scope}
@@ -15,12 +9,8 @@ use Rattle.language.specs.Constants.{fault, Judged, good, refused, judge, withi
 use Rattle.language.specs.Faults.{misplaced}
 use Rattle.language.specs.Fine.{FineConstant, FineBy, FineLabels}
 use Rattle.tree.specs.Encoding.{closed, encodeName, encodeConstant, encodePositive, encodeNegative, encodeBy, encodeLabels}
-use Rattle.compiler.specs.Scope.{Shows}
-use Rattle.compiler.specs.declared.steps.State.{State}
-use Rattle.compiler.specs.declared.steps.Node.{Node}
+use Rattle.compiler.proofs.Vocabulary.{Shows, State, Node, NodeAt, Did, Faulted, Lies}
 use Rattle.compiler.specs.declared.steps.Verdict.{Verdict}
-use Rattle.compiler.specs.Walked.{NodeAt, Did, Faulted}
-use Rattle.compiler.specs.Walks.{Lies}
 use Rattle.compiler.specs.Commands.{nothing}
 use Rattle.compiler.specs.Locals.{Says, fit, unfit, Judges, Blames}
 use Rattle.compiler.specs.Switching.{JudgesBy, byJudged, ReadyMisplaced, Misplaces}

@@ -1,14 +1,8 @@
 -- Laws of spelling, of the stack of names, and of what is pushed on it.
-use mathlib.Core.Path.{_≡_, refl, sym, ap, _∙_}
-use mathlib.Core.List.{List, [], _∷_}
-use mathlib.Core.Bool.{Bool, true, false, cond}
-use Prim.Native.Nat.{ℕ, zero, suc, _+_, _*_, _-_, _/_, _%_, _≤_, _<_, min}
-use native.Mathlib.Omega.{arith}
+use Rattle.compiler.proofs.Basics.{_≡_, refl, sym, ap, _∙_, List, [], _∷_, Bool, true, false, cond, ℕ, zero, suc, _+_, _*_, _-_, _/_, _%_, _≤_}
+use Rattle.compiler.proofs.Basics.{_<_, min, arith, length, set, getD, take, drop, length-set, length-take, length-drop, getD-drop}
+use Rattle.compiler.proofs.Basics.{getD-set-same, getD-set-other, eqb, eq-eqb, ne-eqb}
 use native.Mathlib.Numerals.{unary-clauses}
-use lib.ListN.{length, set, getD, take, drop, length-set, length-take, length-drop}
-use lib.Seq.{getD-drop, getD-set-same, getD-set-other}
-use lib.Dec.{eqb}
-use borrow.Author.Tests.{eq-eqb, ne-eqb}
 use Rattle.language.specs.Tree.{Name}
 use Rattle.language.specs.Names.{Meaning, local, global, manifest, function, Found, unknown, known, Scope, opened, declared, lookup, inBlock}
 use Rattle.language.specs.Names.{sameBytes, sameName}

@@ -1,12 +1,6 @@
 -- Monadic operators, what @ may take, and left sides.
-use Prim.Native.Nat.{ℕ, _+_, _*_, _-_, _≤_, _<_, _/_, _%_}
-use mathlib.Core.Path.{_≡_, refl, sym, ap, subst, _∙_}
-use mathlib.Core.Bool.{Bool, true, false, cond}
-use mathlib.Core.List.{List, [], _∷_, _++_, append-nil, append-assoc}
-use native.Mathlib.Omega.{arith}
-use lib.ListN.{length, getD, length-append}
-use lib.Dec.{eqb}
-use borrow.Author.Tests.{ne-eqb}
+use Rattle.compiler.proofs.Basics.{ℕ, _+_, _*_, _-_, _≤_, _<_, _/_, _%_, _≡_, refl, sym, ap, subst, _∙_, Bool, true, false, cond, List, []}
+use Rattle.compiler.proofs.Basics.{_∷_, _++_, append-nil, append-assoc, arith, length, getD, length-append, eqb, ne-eqb}
 use Rattle.items.specs.Item as I
 use Rattle.language.specs.Tree as T
 use Rattle.language.specs.Tree.{Expression, Expressions, Suffixes, Operations, placeOf, endsInCall}
@@ -24,15 +18,10 @@ use Rattle.code.specs.Generate.{exprCode, exprLabels, monadicAct}
 use Rattle.language.specs.Faults.{unlessSide, inExpression, inSuffixes}
 use Rattle.tree.specs.Encoding as O
 use Rattle.tree.specs.Encoding.{encode, encodeSuffixes}
-use Rattle.compiler.specs.Scope.{code, found, nameAt, Looked}
+use Rattle.compiler.proofs.Vocabulary.{code, found, nameAt, Looked, State, Here, Node, FineE, inside, raised, leavable, NodeAt, Code, Did}
+use Rattle.compiler.proofs.Vocabulary.{Emits, Faulted, Lies, Result, ReadyE, GaveE, ReadySuffixes, GaveSuffixes, faultsE, codeE}
 use Rattle.compiler.proofs.Scoping.{keeps-all, keeps-then, code-not, Order, lt, ge, order}
-use Rattle.compiler.specs.declared.steps.State.{State}
-use Rattle.compiler.specs.declared.steps.Here.{Here}
-use Rattle.compiler.specs.declared.steps.Node.{Node}
-use Rattle.compiler.specs.Fine.{FineE}
 use Rattle.language.specs.Fine.{Fine}
-use Rattle.compiler.specs.Walked.{inside, raised, leavable, NodeAt, Code, Did, Emits, Faulted}
-use Rattle.compiler.specs.Walks.{Lies, Result, ReadyE, GaveE, ReadySuffixes, GaveSuffixes, faultsE, codeE}
 use Rattle.compiler.specs.Commands.{exprSays, targetSays, GaveMonadic, GaveAddress, GaveAddressIndex, GaveSide, GaveSideIndex, IndexKind}
 use Rattle.compiler.specs.Commands.{GaveRefused, AddressOf, StoreTo}
 use Rattle.compiler.proofs.Done.{emits-did, did-emit, did-put, did-after, did-then, did-as, same-refl, same-eq, code-is, nil-right}

@@ -1,9 +1,6 @@
 -- The text of the globals in which functions start: one function by its label, and all in turn.
-use Prim.Native.Nat.{ℕ, suc, _+_, _≤_, _<_}
-use mathlib.Core.Path.{_≡_, refl, sym, ap, _∙_}
-use mathlib.Core.List.{List, [], _∷_, _++_, append-assoc, append-nil}
-use native.Mathlib.Omega.{arith}
-use lib.ListN.{length, getD, length-append, List·getD-eq-default}
+use Rattle.compiler.proofs.Basics.{ℕ, suc, _+_, _≤_, _<_, _≡_, refl, sym, ap, _∙_, List, [], _∷_, _++_, append-assoc, append-nil, arith}
+use Rattle.compiler.proofs.Basics.{length, getD, length-append, List·getD-eq-default}
 use Rattle.items.specs.Item as I
 use Rattle.language.specs.Resolved.{Start, nowhere, inGlobal, Fun}
 use Rattle.code.specs.Generate.{startIn, startsCode}

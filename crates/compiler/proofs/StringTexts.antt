@@ -1,13 +1,7 @@
 -- The text of the strings: a character by its escape, a string's line, the lines of one symbol, and loops over all symbols.
-use Prim.Native.Nat.{ℕ, suc, _+_, _*_, _-_, _/_, _%_, _≤_, _<_}
-use mathlib.Core.Path.{_≡_, refl, sym, ap, _∙_}
-use mathlib.Core.Bool.{Bool, true, false, cond}
-use mathlib.Core.List.{List, [], _∷_, _++_, append-assoc, append-nil}
-use native.Mathlib.Omega.{arith}
-use lib.ListN.{length, getD, drop, length-append}
-use lib.Seq.{getD-drop, drop-drop}
-use lib.Dec.{eqb}
-use borrow.Author.Tests.{eq-eqb, ne-eqb, le-leb, lt-leb}
+use Rattle.compiler.proofs.Basics.{ℕ, suc, _+_, _*_, _-_, _/_, _%_, _≤_, _<_, _≡_, refl, sym, ap, _∙_, Bool, true, false, cond, List, [], _∷_}
+use Rattle.compiler.proofs.Basics.{_++_, append-assoc, append-nil, arith, length, getD, drop, length-append, getD-drop, drop-drop, eqb, eq-eqb}
+use Rattle.compiler.proofs.Basics.{ne-eqb, le-leb, lt-leb}
 use Rattle.text.specs.Quoted.{closed, charactersOf, quoted, character, is, closing, ended, mistake}
 use Rattle.text.proofs.Bytes.{Unlike}
 use Rattle.text.proofs.Constants.{Continues, closed-next, closed-end, closed-goes-on, closed-right}

@@ -1,14 +1,7 @@
 -- How many strings there are, and that every string among a source's symbols ends: a scanned string is closed, numbering keeps kinds
 -- and places, and an inserted semicolon is no string.
-use Prim.Native.Nat.{ℕ, zero, suc, _+_, _-_, _≤_}
-use mathlib.Core.Path.{_≡_, refl, ap, _∙_}
-use mathlib.Core.Bool.{Bool, true, false, not, cond, _&&_}
-use mathlib.Core.List.{List, [], _∷_}
-use native.Mathlib.Omega.{arith}
-use lib.Dec.{eqb, leb}
-use lib.ListN.{length, drop}
-use lib.Seq.{drop-drop}
-use borrow.Author.Tests.{eqb-false, not-true}
+use Rattle.compiler.proofs.Basics.{ℕ, zero, suc, _+_, _-_, _≤_, _≡_, refl, ap, _∙_, Bool, true, false, not, cond, _&&_, List, [], _∷_, arith}
+use Rattle.compiler.proofs.Basics.{eqb, leb, length, drop, drop-drop, eqb-false, not-true}
 use Rattle.text.specs.Quoted.{Quoted, closed, unclosed, faulty, charactersOf, quoted}
 use Rattle.text.proofs.Booleans.{both-true}
 use Rattle.language.specs.Bytes.{LETTER, DIGIT, HASH, QUOTE, DOUBLE, SIGN, SEPARATOR, NEWLINE, classOf}

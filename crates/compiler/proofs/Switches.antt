@@ -1,10 +1,6 @@
 -- SWITCHON: the loop over the list after INTO, and the whole.
-use Prim.Native.Nat.{ℕ, suc, _+_, _*_, _-_, _≤_, _<_, _^_}
-use mathlib.Core.Path.{_≡_, refl, sym, ap, subst, _∙_}
-use mathlib.Core.List.{List, [], _∷_, _++_, append-assoc}
-use native.Mathlib.Omega.{arith}
-use lib.ListN.{length, getD, length-append}
-use borrow.Author.Tests.{ne-eqb}
+use Rattle.compiler.proofs.Basics.{ℕ, suc, _+_, _*_, _-_, _≤_, _<_, _^_, _≡_, refl, sym, ap, subst, _∙_, List, [], _∷_, _++_, append-assoc}
+use Rattle.compiler.proofs.Basics.{arith, length, getD, length-append, ne-eqb}
 use Rattle.items.specs.Item as I
 use Rattle.language.specs.Kinds as K
 use Rattle.language.specs.Tree as T
@@ -21,13 +17,8 @@ use Rattle.language.specs.Faults as Y
 use Rattle.language.specs.Faults.{Leavable, doubled, inExpression, inCase, inCases, inUnlabelled}
 use Rattle.tree.specs.Encoding.{encode, encodeCommand, encodeCommands, encodeUnlabelled}
 use Rattle.compiler.proofs.Scoping.{keeps-all, keeps-then, keeps-shows}
-use Rattle.compiler.specs.declared.steps.State.{State}
-use Rattle.compiler.specs.declared.steps.Here.{Here}
-use Rattle.compiler.specs.declared.steps.Ways.{Ways}
-use Rattle.compiler.specs.declared.steps.Node.{Node}
-use Rattle.compiler.specs.Fine.{FineE, FineCs, FinePlain}
-use Rattle.compiler.specs.Walked.{inSwitch, leavableBy, exits, NodeAt, Code, Did, Emits, Fresh}
-use Rattle.compiler.specs.Walks.{Lies, Result, ReadyE, GaveE, Counts}
+use Rattle.compiler.proofs.Vocabulary.{State, Here, Ways, Node, FineE, FineCs, FinePlain, inSwitch, leavableBy, exits, NodeAt, Code, Did}
+use Rattle.compiler.proofs.Vocabulary.{Emits, Fresh, Lies, Result, ReadyE, GaveE, Counts}
 use Rattle.compiler.specs.Commands.{cmdSays, ReadyC, GaveCase, ReadyU, GaveU, casesFaults, casesSays, entriesIn, ReadyCases, GaveCases}
 use Rattle.compiler.specs.Switching.{labelFaults, ReadyLabels, JudgesLabels, tableItems, WritesTable}
 use Rattle.compiler.proofs.Done.{did-none, did-put, did-after, did-then, did-as, did-at, did-fresh, Same, same-refl, same-eq, same-swap}

@@ -1,10 +1,6 @@
 -- The labels of a list after INTO: where they stand, which there are, and the words after X23.
-use Prim.Native.Nat.{ℕ, suc, _+_, _-_, _≤_, _<_, _^_}
-use mathlib.Core.Path.{_≡_, refl, sym, ap, _∙_}
-use mathlib.Core.Bool.{Bool, true, false, cond}
-use mathlib.Core.List.{List, [], _∷_, _++_}
-use native.Mathlib.Omega.{arith}
-use lib.ListN.{length, getD, length-append}
+use Rattle.compiler.proofs.Basics.{ℕ, suc, _+_, _-_, _≤_, _<_, _^_, _≡_, refl, sym, ap, _∙_, Bool, true, false, cond, List, [], _∷_, _++_}
+use Rattle.compiler.proofs.Basics.{arith, length, getD, length-append}
 use Rattle.items.specs.Item as I
 use Rattle.language.specs.Kinds.{member}
 use Rattle.language.specs.Binding.{isGuard, isLeave}
@@ -23,14 +19,9 @@ use Rattle.writing.specs.Text.{lines}
 use Rattle.writing.proofs.Laws.{puts-none}
 use Rattle.tree.specs.Encoding as O
 use Rattle.tree.specs.Encoding.{closed, encode, encodeLabels, encodeCommand, encodeCommands, encodeUnlabelled, encodeRepeats, labelled}
-use Rattle.compiler.specs.Scope.{Shows}
-use Rattle.compiler.specs.declared.steps.State.{State}
-use Rattle.compiler.specs.declared.steps.Node.{Node}
+use Rattle.compiler.proofs.Vocabulary.{Shows, State, Node, FineC, FineCs, FinePlain, NodeAt, Emits, Lies}
 use Rattle.compiler.specs.declared.steps.Verdict.{Verdict}
 use Rattle.compiler.specs.declared.labels.Span.{Span}
-use Rattle.compiler.specs.Fine.{FineC, FineCs, FinePlain}
-use Rattle.compiler.specs.Walked.{NodeAt, Emits}
-use Rattle.compiler.specs.Walks.{Lies}
 use Rattle.compiler.specs.Locals.{Says, fit, unfit, Judges}
 use Rattle.compiler.specs.Switching.{labelFaults, ReadyLabels, WritesTable}
 use Rattle.compiler.specs.Labels as L

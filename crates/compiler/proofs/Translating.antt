@@ -1,12 +1,6 @@
 -- From the readers' answers to the refusals of the source, and to what the walk of the tree asks.
-use Prim.Native.Nat.{ℕ, _+_, _*_, _-_, _≤_, _^_}
-use mathlib.Core.Path.{_≡_, refl, sym, ap, subst, _∙_}
-use mathlib.Core.Bool.{Bool, true, false}
-use mathlib.Core.List.{List, _++_}
-use native.Mathlib.Omega.{arith}
-use lib.ListN.{length, replicate, take, drop, length-append}
-use lib.Seq.{take-at, drop-at, length-take-le}
-use borrow.Author.Tests.{le-ltb, ltb-false}
+use Rattle.compiler.proofs.Basics.{ℕ, _+_, _*_, _-_, _≤_, _^_, _≡_, refl, sym, ap, subst, _∙_, Bool, true, false, List, _++_, arith, length}
+use Rattle.compiler.proofs.Basics.{replicate, take, drop, length-append, take-at, drop-at, length-take-le, le-ltb, ltb-false}
 use Rattle.text.specs.declared.Refusal.{Refusal}
 use Rattle.text.specs.Line.{refusal}
 use Rattle.language.specs.Symbols.{Symbol}

@@ -1,20 +1,10 @@
 -- What stands in scratch: a node by its kind, and its parts.
-use Prim.Native.Nat.{ℕ, _+_, _-_, _≤_, _<_}
-use mathlib.Core.Path.{_≡_, refl, sym, ap, subst, _∙_}
-use mathlib.Core.Bool.{Bool, true, false}
-use mathlib.Core.List.{List, [], _∷_, _++_}
-use native.Mathlib.Omega.{arith}
-use lib.ListN.{length, getD, length-append, List·getD-append}
-use lib.Seq.{getD-append-add}
+use Rattle.compiler.proofs.Basics.{ℕ, _+_, _-_, _≤_, _<_, _≡_, refl, sym, ap, subst, _∙_, Bool, true, false, List, [], _∷_, _++_, arith}
+use Rattle.compiler.proofs.Basics.{length, getD, length-append, List·getD-append, getD-append-add}
 use Rattle.language.specs.Tree as T
 use Rattle.language.specs.Tree.{Name, Expression, Suffixes, Operations, Command, placeOf, endsInCall}
 use Rattle.tree.specs.Encoding.{closed, encode, encodeName, encodeSuffixes, encodeOperations, encodeCommand, suffixedKind}
-use Rattle.compiler.specs.Scope.{Keeps}
-use Rattle.compiler.specs.declared.steps.State.{State}
-use Rattle.compiler.specs.declared.steps.Here.{Here}
-use Rattle.compiler.specs.declared.steps.Node.{Node}
-use Rattle.compiler.specs.Walked.{NodeAt}
-use Rattle.compiler.specs.Walks.{Lies, ReadyE}
+use Rattle.compiler.proofs.Vocabulary.{Keeps, State, Here, Node, NodeAt, Lies, ReadyE}
 
 pub first : {s : List ℕ} {lo : ℕ} (x y : List ℕ) → Lies s lo (x ++ y) → Lies s lo x
 first x y h = record { at = λ i l. h .at i (omega (arith, length-append x y)) ∙ List·getD-append x y 0 i l }

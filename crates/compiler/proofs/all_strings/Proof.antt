@@ -1,8 +1,5 @@
-use mathlib.Core.Path.{sym}
-use native.Mathlib.Omega.{arith}
-use lib.Seq.{length-take-le}
+use Rattle.compiler.proofs.Basics.{sym, arith, length-take-le, needs}
 use Rattle.compiler.proofs.Answering.{no-strings, strings-gave}
-use borrow.Author.Needs.{needs}
 use Rattle.compiler.proofs.all_strings.Statement.{statement}
 use Rattle.compiler.proofs.all_strings.Tie as tie
 

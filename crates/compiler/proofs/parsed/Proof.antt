@@ -1,8 +1,5 @@
-use mathlib.Core.Path.{sym}
-use native.Mathlib.Omega.{arith}
-use lib.Seq.{length-take-le}
+use Rattle.compiler.proofs.Basics.{sym, arith, length-take-le, needs}
 use Rattle.compiler.proofs.Translating.{tree-room, symbols-room, ready-tree, with-scratch, tree-answer, never-unfit}
-use borrow.Author.Needs.{needs}
 use Rattle.compiler.proofs.parsed.Statement.{statement}
 use Rattle.compiler.proofs.parsed.Tie as tie
 

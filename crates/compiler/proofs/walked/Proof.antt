@@ -1,8 +1,5 @@
-use mathlib.Core.Path.{sym, _∙_}
-use native.Mathlib.Omega.{arith}
-use lib.Seq.{length-take-le}
+use Rattle.compiler.proofs.Basics.{sym, _∙_, arith, length-take-le, needs}
 use Rattle.compiler.proofs.Answering.{end-inside, few-symbols, few-labels, ready-behind, ready-program, translates}
-use borrow.Author.Needs.{needs}
 use Rattle.compiler.proofs.walked.Statement.{statement}
 use Rattle.compiler.proofs.walked.Tie as tie
 

@@ -1,8 +1,4 @@
-use Prim.Native.Nat.{_-_}
-use native.Mathlib.Omega.{arith}
-use borrow.Author.Needs.{needs}
-use mathlib.Core.Path.{_≡_, _∙_}
-use lib.ListN.{length}
+use Rattle.compiler.proofs.Basics.{_-_, arith, needs, _≡_, _∙_, length}
 use Rattle.compiler.specs.Switching.{ReadyLabels}
 use Rattle.compiler.proofs.Doubling.{marks-long, ListPart, list-begin, list-next, list-end}
 use Rattle.compiler.proofs.labels.doubled.Statement.{statement}

@@ -1,9 +1,4 @@
-use Prim.Native.Nat.{_-_}
-use native.Mathlib.Omega.{arith}
-use borrow.Author.Needs.{needs}
-use mathlib.Core.Path.{_≡_, refl, _∙_}
-use mathlib.Core.List.{List}
-use lib.ListN.{length}
+use Rattle.compiler.proofs.Basics.{_-_, arith, needs, _≡_, refl, _∙_, List, length}
 use Rattle.language.specs.Tree.{Label}
 use Rattle.language.specs.Resolve.{labelsOf}
 use Rattle.compiler.specs.Labels.{LabelAt, Listed, Marks}

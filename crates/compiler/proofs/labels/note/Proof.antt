@@ -1,9 +1,6 @@
-use Prim.Native.Nat.{_/_}
-use native.Mathlib.Omega.{arith}
-use mathlib.Core.Path.{refl}
+use Rattle.compiler.proofs.Basics.{_/_, arith, refl, needs}
 use Rattle.compiler.proofs.Flags.{flag-fits}
 use Rattle.compiler.proofs.Doubling.{note-first, note-again, note-none}
-use borrow.Author.Needs.{needs}
 use Rattle.compiler.proofs.labels.note.Statement.{statement}
 use Rattle.compiler.proofs.labels.note.Tie as tie
 

@@ -1,7 +1,5 @@
-use mathlib.Core.Path.{_∙_}
-use native.Mathlib.Omega.{arith}
+use Rattle.compiler.proofs.Basics.{_∙_, arith, needs}
 use Rattle.compiler.proofs.FunctionLaws.{function-room, function-names, function-body, function-gave}
-use borrow.Author.Needs.{needs}
 use Rattle.compiler.proofs.outer.function.Statement.{statement}
 use Rattle.compiler.proofs.outer.function.Tie as tie
 

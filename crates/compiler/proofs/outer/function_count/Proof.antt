@@ -1,6 +1,4 @@
-use Prim.Native.Nat.{_-_, _≤_}
-use native.Mathlib.Omega.{arith}
-use borrow.Author.Needs.{needs}
+use Rattle.compiler.proofs.Basics.{_-_, _≤_, arith, needs}
 use Rattle.compiler.proofs.FunctionCounts.{Counted, counted-begin, counted-group, counted-past, counted-other, counted-end}
 use Rattle.compiler.proofs.outer.function_count.Statement.{statement}
 use Rattle.compiler.proofs.outer.function_count.Tie as tie

@@ -1,8 +1,4 @@
-use Prim.Native.Nat.{_-_}
-use mathlib.Core.Path.{_≡_, refl, _∙_}
-use native.Mathlib.Omega.{arith}
-use borrow.Author.Needs.{needs}
-use lib.ListN.{length}
+use Rattle.compiler.proofs.Basics.{_-_, _≡_, refl, _∙_, arith, needs, length}
 use Rattle.compiler.specs.Groups.{ReadyGroup}
 use Rattle.compiler.proofs.GroupNameLaws.{GroupPart, names-begin, names-fit, names-next, names-end}
 use Rattle.compiler.proofs.outer.group_names.Statement.{statement}

@@ -1,8 +1,4 @@
-use Prim.Native.Nat.{_-_}
-use native.Mathlib.Omega.{arith}
-use borrow.Author.Needs.{needs}
-use mathlib.Core.Path.{_≡_, refl, _∙_}
-use lib.ListN.{length}
+use Rattle.compiler.proofs.Basics.{_-_, arith, needs, _≡_, refl, _∙_, length}
 use Rattle.compiler.specs.Items.{ReadyItems}
 use Rattle.compiler.proofs.ItemLaws.{ItemsPart, items-begin, items-fit, items-next, items-end, items-out, code-small}
 use Rattle.compiler.proofs.outer.items.Statement.{statement}

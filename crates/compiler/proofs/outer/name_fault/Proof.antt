@@ -1,6 +1,5 @@
 use Rattle.compiler.proofs.GroupLaws.{fault-unknown, fault-free, fault-so}
-use mathlib.Core.Path.{_∙_}
-use borrow.Author.Needs.{needs}
+use Rattle.compiler.proofs.Basics.{_∙_, needs}
 use Rattle.compiler.proofs.outer.name_fault.Statement.{statement}
 use Rattle.compiler.proofs.outer.name_fault.Tie as tie
 

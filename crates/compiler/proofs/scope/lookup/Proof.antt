@@ -1,7 +1,4 @@
-use Prim.Native.Nat.{_≤_}
-use mathlib.Core.Path.{sym, ap, _∙_}
-use native.Mathlib.Omega.{arith}
-use borrow.Author.Needs.{needs}
+use Rattle.compiler.proofs.Basics.{_≤_, sym, ap, _∙_, arith, needs}
 use Rattle.language.specs.Names.{Scope, lookup}
 use Rattle.compiler.specs.Scope.{Shows, nameAt, found}
 use Rattle.compiler.proofs.Scoping.{shows-low, Left, left-all, left-then, at-outer, at-open, at-other, at-found}

@@ -1,6 +1,4 @@
-use lib.ListN.{length-set}
-use native.Mathlib.Omega.{arith}
-use borrow.Author.Needs.{needs}
+use Rattle.compiler.proofs.Basics.{length-set, arith, needs}
 use Rattle.compiler.proofs.scope.push.Statement.{statement}
 use Rattle.compiler.proofs.scope.push.Tie as tie
 

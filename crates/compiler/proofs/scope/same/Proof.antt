@@ -1,10 +1,6 @@
-use Prim.Native.Nat.{_≤_}
-use native.Mathlib.Omega.{arith}
-use mathlib.Core.Path.{_≡_, refl, sym, _∙_}
-use lib.ListN.{take, drop}
+use Rattle.compiler.proofs.Basics.{_≤_, arith, _≡_, refl, sym, _∙_, take, drop, needs}
 use Rattle.language.specs.Names.{sameBytes}
 use Rattle.compiler.proofs.Scoping.{one-fewer, differs, all-passed}
-use borrow.Author.Needs.{needs}
 use Rattle.compiler.proofs.scope.same.Statement.{statement}
 use Rattle.compiler.proofs.scope.same.Tie as tie
 

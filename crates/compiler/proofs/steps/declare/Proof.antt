@@ -1,8 +1,4 @@
-use Prim.Native.Nat.{_-_}
-use native.Mathlib.Omega.{arith}
-use borrow.Author.Needs.{needs}
-use mathlib.Core.Path.{_≡_, refl, _∙_}
-use lib.ListN.{length}
+use Rattle.compiler.proofs.Basics.{_-_, arith, needs, _≡_, refl, _∙_, length}
 use Rattle.compiler.specs.Commands.{ReadyNames}
 use Rattle.compiler.proofs.Declarations.{NamesPart, names-begin, names-next, names-end, names-fit}
 use Rattle.compiler.proofs.steps.declare.Statement.{statement}

@@ -1,8 +1,6 @@
-use mathlib.Core.Path.{_∙_}
-use native.Mathlib.Omega.{arith}
+use Rattle.compiler.proofs.Basics.{_∙_, arith, needs}
 use Rattle.compiler.proofs.Done.{emits-then}
 use Rattle.compiler.proofs.Fors.{act-is}
-use borrow.Author.Needs.{needs}
 use Rattle.compiler.proofs.steps.for_test.Statement.{statement}
 use Rattle.compiler.proofs.steps.for_test.Tie as tie
 

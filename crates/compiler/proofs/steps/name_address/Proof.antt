@@ -1,7 +1,6 @@
-use mathlib.Core.Path.{refl}
+use Rattle.compiler.proofs.Basics.{refl, needs}
 use Rattle.code.specs.Generate as G
 use Rattle.compiler.proofs.Sides.{of-local, of-global, of-unknown, of-other, sayAddress, local-address, global-address}
-use borrow.Author.Needs.{needs}
 use Rattle.compiler.proofs.steps.name_address.Statement.{statement}
 use Rattle.compiler.proofs.steps.name_address.Tie as tie
 

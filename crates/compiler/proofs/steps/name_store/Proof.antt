@@ -1,7 +1,6 @@
-use mathlib.Core.Path.{refl}
+use Rattle.compiler.proofs.Basics.{refl, needs}
 use Rattle.code.specs.Generate as G
 use Rattle.compiler.proofs.Sides.{of-local, of-global, of-unknown, of-other, sayTarget, local-target, global-target}
-use borrow.Author.Needs.{needs}
 use Rattle.compiler.proofs.steps.name_store.Statement.{statement}
 use Rattle.compiler.proofs.steps.name_store.Tie as tie
 

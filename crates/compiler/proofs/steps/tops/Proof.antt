@@ -1,9 +1,4 @@
-use Prim.Native.Nat.{_-_, _≤_}
-use mathlib.Core.Path.{_≡_, refl}
-use mathlib.Core.List.{[]}
-use native.Mathlib.Omega.{arith}
-use borrow.Author.Needs.{needs}
-use lib.ListN.{length}
+use Rattle.compiler.proofs.Basics.{_-_, _≤_, _≡_, refl, [], arith, needs, length}
 use Rattle.compiler.specs.Walked.{Emits}
 use Rattle.compiler.specs.Repeats.{topsCode}
 use Rattle.compiler.proofs.Repeating.{tops-none, tops-next, tops-all}

@@ -1,7 +1,5 @@
-use mathlib.Core.Path.{refl}
-use native.Mathlib.Omega.{arith}
+use Rattle.compiler.proofs.Basics.{refl, arith, needs}
 use Rattle.compiler.proofs.Judging.{vector-names, vector-gave}
-use borrow.Author.Needs.{needs}
 use Rattle.compiler.proofs.steps.vector.Statement.{statement}
 use Rattle.compiler.proofs.steps.vector.Tie as tie
 

@@ -1,8 +1,4 @@
-use Prim.Native.Nat.{_-_}
-use mathlib.Core.Path.{_≡_, refl}
-use native.Mathlib.Omega.{arith}
-use borrow.Author.Needs.{needs}
-use lib.ListN.{length}
+use Rattle.compiler.proofs.Basics.{_-_, _≡_, refl, arith, needs, length}
 use Rattle.text.proofs.Answers.{when-is, when-closing, when-ended, when-mistake}
 use Rattle.text.proofs.Quotes.{is-inside}
 use Rattle.compiler.proofs.StringTexts.{Spelling, spelling-begin, spelling-next, spelling-end, spelling-ended, spelling-mistake}

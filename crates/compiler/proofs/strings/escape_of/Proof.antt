@@ -1,5 +1,4 @@
-use mathlib.Core.Path.{refl}
-use native.Mathlib.Omega.{arith}
+use Rattle.compiler.proofs.Basics.{refl, arith}
 use Rattle.items.specs.Render.{characterText}
 use Rattle.compiler.proofs.StringTexts.{escapes, no-escape}
 use Rattle.compiler.proofs.strings.escape_of.Statement.{statement}

@@ -1,6 +1,4 @@
-use Prim.Native.Nat.{_-_}
-use native.Mathlib.Omega.{arith}
-use borrow.Author.Needs.{needs}
+use Rattle.compiler.proofs.Basics.{_-_, arith, needs}
 use Rattle.compiler.proofs.StartTexts.{Passed, passed-begin, passed-next, passed-found, passed-end}
 use Rattle.compiler.proofs.strings.global_of.Statement.{statement}
 use Rattle.compiler.proofs.strings.global_of.Tie as tie

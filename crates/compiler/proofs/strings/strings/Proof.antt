@@ -1,8 +1,4 @@
-use Prim.Native.Nat.{_+_, _-_, _≤_}
-use mathlib.Core.Path.{_≡_, refl}
-use native.Mathlib.Omega.{arith}
-use lib.ListN.{length}
-use borrow.Author.Needs.{needs}
+use Rattle.compiler.proofs.Basics.{_+_, _-_, _≤_, _≡_, refl, arith, length, needs}
 use Rattle.compiler.proofs.StringTexts.{oneIf-small, Listing, listing-begin, listing-next, listing-end}
 use Rattle.compiler.proofs.strings.strings.Statement.{statement}
 use Rattle.compiler.proofs.strings.strings.Tie as tie

@@ -2,16 +2,12 @@
 use Rattle.compiler.proofs as proofs
 use Rattle.compiler.proofs.walk.+address+applied+args+assign+bare+block+cases+chain+command+expr+for_to+form+forms+indexed+list+local+locals+located+monadic+passed+plain+refuse+repeated+side+stored+switch+test+when+while_do as cycle
 use Rattle.compiler.specs.Commands.{ReadyList}
-use Prim.Native.Nat.{_-_, ℕ}
+use Rattle.compiler.proofs.Basics.{_-_, ℕ, _∙_, _≡_, refl, length, arith, needs}
 use Rattle.compiler.proofs.Blocks.{ListPart, list-begin, list-part, list-next, list-end, LocalsPart, locals-begin, locals-part, locals-next}
 use Rattle.compiler.proofs.Blocks.{locals-end, locals-ready-at, list-ready-at, local-gave-at, locals-gave-at, list-gave-at, block-room}
 use Rattle.compiler.proofs.Blocks.{block-locals, block-list, block-gave}
 use Rattle.compiler.proofs.Judging.{values-args, values-names, values-gave}
 use Rattle.compiler.specs.Locals.{ReadyLocals}
-use mathlib.Core.Path.{_∙_, _≡_, refl}
-use lib.ListN.{length}
-use native.Mathlib.Omega.{arith}
-use borrow.Author.Needs.{needs}
 use Rattle.compiler.proofs.Expressions.{ready-at, left-at}
 use borrow.Fn.PlainCycle.{is}
 use proofs.walk.args.Reads as args

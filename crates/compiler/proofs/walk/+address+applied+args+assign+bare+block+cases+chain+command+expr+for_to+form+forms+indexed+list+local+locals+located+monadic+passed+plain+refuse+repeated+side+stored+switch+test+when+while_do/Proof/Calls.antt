@@ -1,16 +1,11 @@
 -- A primary with what follows it: indices and calls, and their arguments.
 use Rattle.compiler.proofs as proofs
 use Rattle.compiler.proofs.walk.+address+applied+args+assign+bare+block+cases+chain+command+expr+for_to+form+forms+indexed+list+local+locals+located+monadic+passed+plain+refuse+repeated+side+stored+switch+test+when+while_do as cycle
-use Prim.Native.Nat.{_-_, ℕ}
-use Rattle.compiler.specs.Walked.{raised}
-use mathlib.Core.Path.{_∙_, _≡_, refl}
+use Rattle.compiler.proofs.Basics.{_-_, ℕ, _∙_, _≡_, refl, length, arith, needs}
+use Rattle.compiler.proofs.Vocabulary.{raised, ReadyArgs}
 use Rattle.compiler.proofs.Calls.{indexed-gave, passed-gave, with-state, args-with, ArgsPart, args-begin, args-part, args-next, args-end}
 use Rattle.compiler.proofs.Calls.{primary-part, primary-gave, index-left, index-right, index-gave, call-args, call-callee, call-gave, call-few}
 use Rattle.compiler.proofs.Calls.{args-ready-at, suffixes-ready-at, args-gave-at, suffixes-gave-at}
-use lib.ListN.{length}
-use Rattle.compiler.specs.Walks.{ReadyArgs}
-use native.Mathlib.Omega.{arith}
-use borrow.Author.Needs.{needs}
 use Rattle.compiler.proofs.Expressions.{ready-at, gave-at, left-at}
 use proofs.walk.applied.Reads as applied
 use cycle.Lts-applied as applied-lts

@@ -5,12 +5,8 @@ use Rattle.compiler.proofs.Switches.{CasesPart, cases-begin, case-part,
 use Rattle.compiler.proofs.Switches.{switch-gave, gave-cases-at}
 use Rattle.compiler.specs.Commands.{ReadyCases}
 use Rattle.compiler.proofs.Conditions.{test-first, test-body, test-rest, test-gave}
-use Prim.Native.Nat.{_≤_, _-_, ℕ}
-use mathlib.Core.Path.{_∙_, _≡_, refl}
+use Rattle.compiler.proofs.Basics.{_≤_, _-_, ℕ, _∙_, _≡_, refl, length, arith, needs}
 use Rattle.compiler.proofs.Guards.{guard-test, guard-body, guard-gave}
-use lib.ListN.{length}
-use native.Mathlib.Omega.{arith}
-use borrow.Author.Needs.{needs}
 use borrow.Fn.PlainCycle.{is}
 use proofs.walk.args.Reads as args
 use proofs.walk.bare.Reads as bare

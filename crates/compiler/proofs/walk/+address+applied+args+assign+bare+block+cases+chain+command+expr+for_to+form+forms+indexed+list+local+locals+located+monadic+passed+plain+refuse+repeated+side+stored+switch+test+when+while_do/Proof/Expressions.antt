@@ -1,17 +1,12 @@
 -- An expression, operators of one binding level, a monadic operator.
 use Rattle.compiler.proofs as proofs
 use Rattle.compiler.proofs.walk.+address+applied+args+assign+bare+block+cases+chain+command+expr+for_to+form+forms+indexed+list+local+locals+located+monadic+passed+plain+refuse+repeated+side+stored+switch+test+when+while_do as cycle
-use Prim.Native.Nat.{_-_, ℕ}
+use Rattle.compiler.proofs.Basics.{_-_, ℕ, _∙_, _≡_, refl, length, arith, needs}
 use Rattle.compiler.proofs.Sides.{monadic-part, monadic-gave, monadic-address, monadic-pling, monadic-minus, monadic-not, monadic-other}
 use Rattle.compiler.proofs.Sides.{gave-monadic-at}
-use Rattle.compiler.specs.Walked.{raised}
-use mathlib.Core.Path.{_∙_, _≡_, refl}
+use Rattle.compiler.proofs.Vocabulary.{raised, ReadyChain}
 use Rattle.compiler.proofs.Calls.{suffixes-ready-at, suffixes-gave-at, suffixed-part, suffixed-gave}
 use Rattle.compiler.proofs.Commands.{valof-part, valof-gave, gave-c-at}
-use lib.ListN.{length}
-use Rattle.compiler.specs.Walks.{ReadyChain}
-use native.Mathlib.Omega.{arith}
-use borrow.Author.Needs.{needs}
 use Rattle.compiler.proofs.Expressions.{ChainPart, chain-begin, chain-part, chain-next, chain-end, number-gave, string-gave, name-gave}
 use Rattle.compiler.proofs.Expressions.{bracket-part, bracket-gave, dyadic-left, dyadic-rest, dyadic-gave, ready-at, gave-at, chain-ready-at}
 use Rattle.compiler.proofs.Expressions.{chain-gave-at, left-at, some-left}

@@ -6,13 +6,9 @@ use Rattle.compiler.proofs.Fors.{for-room, for-first, for-limit, for-ke
 use Rattle.compiler.proofs.Conditions.{while-test, while-body, while-gave}
 use Rattle.compiler.proofs.RepeatForms.{FormsPart, forms-begin, forms-part, forms-next, forms-end, form-alone, form-tested, repeated-few}
 use Rattle.compiler.proofs.RepeatForms.{repeated-body, repeated-forms, repeated-gave, once-part, once-gave}
-use Prim.Native.Nat.{_≤_, _-_, ℕ}
+use Rattle.compiler.proofs.Basics.{_≤_, _-_, ℕ, _∙_, _≡_, refl, length, arith, needs}
 use Rattle.compiler.specs.Walked.{raised}
-use mathlib.Core.Path.{_∙_, _≡_, refl}
 use Rattle.compiler.proofs.Commands.{gave-c-at, gave-u-at}
-use lib.ListN.{length}
-use native.Mathlib.Omega.{arith}
-use borrow.Author.Needs.{needs}
 use Rattle.compiler.proofs.Expressions.{ready-at, gave-at, left-at}
 use borrow.Fn.PlainCycle.{is}
 use proofs.walk.args.Reads as args

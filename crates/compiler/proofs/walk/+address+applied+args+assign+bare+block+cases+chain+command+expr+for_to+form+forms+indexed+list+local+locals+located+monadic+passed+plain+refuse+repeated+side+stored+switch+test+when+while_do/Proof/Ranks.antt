@@ -1,6 +1,5 @@
 -- The measures of the walk's cycle: the levels left, and below that a rank, so that a call that opens no level goes to a smaller one.
-use Prim.Native.Nat.{ℕ, _+_, _*_, _<_}
-use mathlib.Core.List.{List}
+use Rattle.compiler.proofs.Basics.{ℕ, _+_, _*_, _<_, List}
 use borrow.Fn.Kind.{PK}
 use borrow.Fn.Kinds.{In}
 use borrow.Fn.PlainCycle.{Measures, is, falls, and}

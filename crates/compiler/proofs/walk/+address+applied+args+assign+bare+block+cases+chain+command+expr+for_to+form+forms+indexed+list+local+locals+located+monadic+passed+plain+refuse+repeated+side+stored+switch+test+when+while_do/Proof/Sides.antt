@@ -1,19 +1,14 @@
 -- What @ and := take: an address, a left side, an assignment.
 use Rattle.compiler.proofs as proofs
 use Rattle.compiler.proofs.walk.+address+applied+args+assign+bare+block+cases+chain+command+expr+for_to+form+forms+indexed+list+local+locals+located+monadic+passed+plain+refuse+repeated+side+stored+switch+test+when+while_do as cycle
-use Prim.Native.Nat.{_-_, ℕ}
+use Rattle.compiler.proofs.Basics.{_-_, ℕ, ap, _∙_, _≡_, refl, length, arith, needs}
 use Rattle.compiler.proofs.Assigning.{AssignPart, assign-begin, assign-is, assign-right, assign-left, assign-next, assign-end}
 use Rattle.compiler.proofs.Sides.{side-open, side-refused, side-name, side-part, side-pling, side-left, side-right, side-index-gave}
 use Rattle.compiler.proofs.Sides.{gave-side-at, gave-refused-at, monadic-part, refuse-gave, address-open, address-pling, address-refused}
 use Rattle.compiler.proofs.Sides.{address-name, address-left, address-right, address-index-gave, gave-address-at}
 use Rattle.compiler.specs.Assigns.{ReadyAssign}
-use Rattle.compiler.specs.declared.steps.Here.{Here}
-use Rattle.compiler.specs.Walked.{raised}
-use mathlib.Core.Path.{ap, _∙_, _≡_, refl}
+use Rattle.compiler.proofs.Vocabulary.{Here, raised}
 use Rattle.compiler.proofs.Calls.{suffixes-ready-at, suffixes-gave-at}
-use lib.ListN.{length}
-use native.Mathlib.Omega.{arith}
-use borrow.Author.Needs.{needs}
 use Rattle.compiler.proofs.Expressions.{bracket-part, ready-at, gave-at, left-at, some-left}
 use proofs.walk.address.Reads as address
 use cycle.Lts-address as address-lts
