@@ -27,23 +27,12 @@ use proofs.steps.marked.Reads as marked
 use proofs.steps.node_at.Reads as node-at
 use proofs.steps.set_at.Reads as set-at
 use proofs.steps.vector.Reads as vector
-use cycle.Proof.Ranks.{at, below, both, args-rank, block-rank, command-rank, list-rank, local-rank, locals-rank}
+use cycle.Proof.Ranks.{at, below, both, six, args-rank, block-rank, command-rank, list-rank, local-rank, locals-rank}
 
 abbrev block-cs : ℕ → block-lts.Claims
-block-cs t = (
-  node-at.Asked,
-  node-at.Learnt,
-  push.Asked,
-  push.Learnt,
-  marked.Asked,
-  marked.Learnt,
-  below locals-rank t,
-  locals.Post,
-  set-at.Asked,
-  set-at.Learnt,
-  below list-rank t,
-  list.Post,
-)
+block-cs t =
+    six (node-at.Asked, node-at.Learnt) (push.Asked, push.Learnt) (marked.Asked, marked.Learnt) (below locals-rank t, locals.Post)
+    (set-at.Asked, set-at.Learnt) (below list-rank t, list.Post)
 
 block-push-requires : (t : ℕ) → block-lts.Need-push-requires (block-cs t) (at block-rank t) block.Post
 block-push-requires t c κs =

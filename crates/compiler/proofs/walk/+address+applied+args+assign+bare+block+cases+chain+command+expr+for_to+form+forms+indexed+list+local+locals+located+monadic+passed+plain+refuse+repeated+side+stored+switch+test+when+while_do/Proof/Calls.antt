@@ -24,29 +24,13 @@ use proofs.steps.less.Reads as less
 use proofs.steps.put.Reads as put
 use proofs.steps.raised.Reads as raised-reads
 use proofs.steps.reached.Reads as reached
-use cycle.Proof.Ranks.{at, below, both, applied-rank, args-rank, expr-rank, indexed-rank, passed-rank}
+use cycle.Proof.Ranks.{at, below, both, nine, applied-rank, args-rank, expr-rank, indexed-rank, passed-rank}
 
 abbrev applied-cs : ℕ → applied-lts.Claims
-applied-cs t = (
-  below expr-rank t,
-  expr.Post,
-  less.Asked,
-  less.Learnt,
-  entry.Asked,
-  entry.Learnt,
-  below applied-rank t,
-  applied.Post,
-  below indexed-rank t,
-  indexed.Post,
-  count.Asked,
-  count.Learnt,
-  below passed-rank t,
-  passed.Post,
-  raised-reads.Asked,
-  raised-reads.Learnt,
-  put.Asked,
-  put.Learnt,
-)
+applied-cs t =
+    nine (below expr-rank t, expr.Post) (less.Asked, less.Learnt) (entry.Asked, entry.Learnt) (below applied-rank t, applied.Post)
+    (below indexed-rank t, indexed.Post) (count.Asked, count.Learnt) (below passed-rank t, passed.Post) (raised-reads.Asked, raised-reads.Learnt)
+    (put.Asked, put.Learnt)
 
 applied-applied-requires : (t : ℕ) → applied-lts.Need-applied-requires (applied-cs t) (at applied-rank t) applied.Post
 applied-applied-requires t c κs =

@@ -30,25 +30,12 @@ use proofs.steps.jump_unless.Reads as jump-unless
 use proofs.steps.mark.Reads as mark
 use proofs.steps.node_at.Reads as node-at
 use proofs.steps.put_to.Reads as put-to
-use cycle.Proof.Ranks.{at, below, both, bare-rank, cases-rank, command-rank, expr-rank, switch-rank, test-rank, when-rank}
+use cycle.Proof.Ranks.{at, below, both, six, seven, nine, bare-rank, cases-rank, command-rank, expr-rank, switch-rank, test-rank, when-rank}
 
 abbrev when-cs : ℕ → when-lts.Claims
-when-cs t = (
-  node-at.Asked,
-  node-at.Learnt,
-  fresh.Asked,
-  fresh.Learnt,
-  below expr-rank t,
-  expr.Post,
-  jump-unless.Asked,
-  jump-unless.Learnt,
-  put-to.Asked,
-  put-to.Learnt,
-  below command-rank t,
-  command.Post,
-  mark.Asked,
-  mark.Learnt,
-)
+when-cs t =
+    seven (node-at.Asked, node-at.Learnt) (fresh.Asked, fresh.Learnt) (below expr-rank t, expr.Post) (jump-unless.Asked, jump-unless.Learnt)
+    (put-to.Asked, put-to.Learnt) (below command-rank t, command.Post) (mark.Asked, mark.Learnt)
 
 when-command-requires : (t : ℕ) → when-lts.Need-command-requires (when-cs t) (at when-rank t) when.Post
 when-command-requires t c κs =
@@ -77,20 +64,9 @@ when-ok t =
     (λ c. search needs) (λ c. search needs) (when-returns t)
 
 abbrev test-cs : ℕ → test-lts.Claims
-test-cs t = (
-  node-at.Asked,
-  node-at.Learnt,
-  fresh.Asked,
-  fresh.Learnt,
-  below expr-rank t,
-  expr.Post,
-  put-to.Asked,
-  put-to.Learnt,
-  below command-rank t,
-  command.Post,
-  mark.Asked,
-  mark.Learnt,
-)
+test-cs t =
+    six (node-at.Asked, node-at.Learnt) (fresh.Asked, fresh.Learnt) (below expr-rank t, expr.Post) (put-to.Asked, put-to.Learnt)
+    (below command-rank t, command.Post) (mark.Asked, mark.Learnt)
 
 test-expr-requires : (t : ℕ) → test-lts.Need-expr-requires (test-cs t) (at test-rank t) test.Post
 test-expr-requires t c κs =
@@ -174,26 +150,10 @@ test-ok t =
     (test-command-requires-2 t) (test-add-mark t) (λ c κs. search needs) (test-same-length t) (test-same-length-2 t) (test-returns t)
 
 abbrev switch-cs : ℕ → switch-lts.Claims
-switch-cs t = (
-  node-at.Asked,
-  node-at.Learnt,
-  below expr-rank t,
-  expr.Post,
-  count.Asked,
-  count.Learnt,
-  fresh.Asked,
-  fresh.Learnt,
-  doubled.Asked,
-  doubled.Learnt,
-  table.Asked,
-  table.Learnt,
-  in-switch.Asked,
-  in-switch.Learnt,
-  below cases-rank t,
-  cases.Post,
-  mark.Asked,
-  mark.Learnt,
-)
+switch-cs t =
+    nine (node-at.Asked, node-at.Learnt) (below expr-rank t, expr.Post) (count.Asked, count.Learnt) (fresh.Asked, fresh.Learnt)
+    (doubled.Asked, doubled.Learnt) (table.Asked, table.Learnt) (in-switch.Asked, in-switch.Learnt) (below cases-rank t, cases.Post)
+    (mark.Asked, mark.Learnt)
 
 switch-add-fresh : (t : ℕ) → switch-lts.Need-add-fresh (switch-cs t) (at switch-rank t) switch.Post
 switch-add-fresh t c =

@@ -33,7 +33,7 @@ use proofs.steps.put.Reads as put
 use proofs.steps.put_to.Reads as put-to
 use proofs.steps.raised.Reads as raised-reads
 use proofs.steps.value.Reads as value
-use cycle.Proof.Ranks.{at, below, both, address-rank, applied-rank, chain-rank, command-rank, expr-rank, monadic-rank}
+use cycle.Proof.Ranks.{at, below, both, six, address-rank, applied-rank, chain-rank, command-rank, expr-rank, monadic-rank}
 
 abbrev expr-cs : ℕ → expr-lts.Claims
 expr-cs t = (
@@ -127,20 +127,9 @@ expr-ok t =
     (λ c. search needs) (λ c. search needs) (λ c. search (monadic-gave, gave-monadic-at)) (λ c. search needs) (λ c. search needs) (expr-returns-8 t)
 
 abbrev chain-cs : ℕ → chain-lts.Claims
-chain-cs t = (
-  entry.Asked,
-  entry.Learnt,
-  keep.Asked,
-  keep.Learnt,
-  raised-reads.Asked,
-  raised-reads.Learnt,
-  below expr-rank t,
-  expr.Post,
-  act-of.Asked,
-  act-of.Learnt,
-  operate.Asked,
-  operate.Learnt,
-)
+chain-cs t =
+    six (entry.Asked, entry.Learnt) (keep.Asked, keep.Learnt) (raised-reads.Asked, raised-reads.Learnt) (below expr-rank t, expr.Post)
+    (act-of.Asked, act-of.Learnt) (operate.Asked, operate.Learnt)
 
 abbrev chain-Inv-loop : chain-lts.InvT-loop
 chain-Inv-loop source s₀ from end text₀ here at₀ r₀ s text at r =

@@ -45,27 +45,12 @@ use proofs.steps.put_to.Reads as put-to
 use proofs.steps.raised.Reads as raised-reads
 use proofs.steps.set_at.Reads as set-at
 use proofs.steps.tops.Reads as tops
-use cycle.Proof.Ranks.{at, below, both, command-rank, expr-rank, for-to-rank, form-rank, forms-rank, plain-rank, repeated-rank, while-do-rank}
+use cycle.Proof.Ranks.{at, below, both, eight, command-rank, expr-rank, for-to-rank, form-rank, forms-rank, plain-rank, repeated-rank, while-do-rank}
 
 abbrev while-do-cs : ℕ → while-do-lts.Claims
-while-do-cs t = (
-  node-at.Asked,
-  node-at.Learnt,
-  fresh.Asked,
-  fresh.Learnt,
-  mark.Asked,
-  mark.Learnt,
-  below expr-rank t,
-  expr.Post,
-  jump-unless.Asked,
-  jump-unless.Learnt,
-  put-to.Asked,
-  put-to.Learnt,
-  in-loop.Asked,
-  in-loop.Learnt,
-  below command-rank t,
-  command.Post,
-)
+while-do-cs t =
+    eight (node-at.Asked, node-at.Learnt) (fresh.Asked, fresh.Learnt) (mark.Asked, mark.Learnt) (below expr-rank t, expr.Post)
+    (jump-unless.Asked, jump-unless.Learnt) (put-to.Asked, put-to.Learnt) (in-loop.Asked, in-loop.Learnt) (below command-rank t, command.Post)
 
 while-do-expr-requires : (t : ℕ) → while-do-lts.Need-expr-requires (while-do-cs t) (at while-do-rank t) while-do.Post
 while-do-expr-requires t c κs =
@@ -522,24 +507,9 @@ forms-ok t =
     (λ c. forms-end _ _ (c .before .before .before .before .before .args .innermost) (c .loop-test .left) (c .before .loop .inv .3))
 
 abbrev repeated-cs : ℕ → repeated-lts.Claims
-repeated-cs t = (
-  node-at.Asked,
-  node-at.Learnt,
-  count.Asked,
-  count.Learnt,
-  less.Asked,
-  less.Learnt,
-  fresh.Asked,
-  fresh.Learnt,
-  tops.Asked,
-  tops.Learnt,
-  in-loop.Asked,
-  in-loop.Learnt,
-  below plain-rank t,
-  plain.Post,
-  below forms-rank t,
-  forms.Post,
-)
+repeated-cs t =
+    eight (node-at.Asked, node-at.Learnt) (count.Asked, count.Learnt) (less.Asked, less.Learnt) (fresh.Asked, fresh.Learnt) (tops.Asked, tops.Learnt)
+    (in-loop.Asked, in-loop.Learnt) (below plain-rank t, plain.Post) (below forms-rank t, forms.Post)
 
 repeated-mul-less : (t : ℕ) → repeated-lts.Need-mul-less (repeated-cs t) (at repeated-rank t) repeated.Post
 repeated-mul-less t c =

@@ -38,27 +38,12 @@ use proofs.steps.raised.Reads as raised-reads
 use proofs.steps.store_indexed.Reads as store-indexed
 use proofs.steps.store_through.Reads as store-through
 use proofs.steps.wrong.Reads as wrong
-use cycle.Proof.Ranks.{at, below, both, address-rank, applied-rank, assign-rank, expr-rank, located-rank, refuse-rank, side-rank, stored-rank}
+use cycle.Proof.Ranks.{at, below, both, eight, nine, address-rank, applied-rank, assign-rank, expr-rank, located-rank, refuse-rank, side-rank, stored-rank}
 
 abbrev address-cs : ℕ → address-lts.Claims
-address-cs t = (
-  node-at.Asked,
-  node-at.Learnt,
-  inside.Asked,
-  inside.Learnt,
-  below address-rank t,
-  address.Post,
-  lookup.Asked,
-  lookup.Learnt,
-  name-address.Asked,
-  name-address.Learnt,
-  below located-rank t,
-  located.Post,
-  below expr-rank t,
-  expr.Post,
-  below refuse-rank t,
-  refuse.Post,
-)
+address-cs t =
+    eight (node-at.Asked, node-at.Learnt) (inside.Asked, inside.Learnt) (below address-rank t, address.Post) (lookup.Asked, lookup.Learnt)
+    (name-address.Asked, name-address.Learnt) (below located-rank t, located.Post) (below expr-rank t, expr.Post) (below refuse-rank t, refuse.Post)
 
 address-expr-requires : (t : ℕ) → address-lts.Need-expr-requires (address-cs t) (at address-rank t) address.Post
 address-expr-requires t c κs =
@@ -97,26 +82,10 @@ address-ok t =
     (address-returns-6 t)
 
 abbrev located-cs : ℕ → located-lts.Claims
-located-cs t = (
-  node-at.Asked,
-  node-at.Learnt,
-  less.Asked,
-  less.Learnt,
-  entry.Asked,
-  entry.Learnt,
-  inside.Asked,
-  inside.Learnt,
-  below applied-rank t,
-  applied.Post,
-  keep.Asked,
-  keep.Learnt,
-  raised-reads.Asked,
-  raised-reads.Learnt,
-  below expr-rank t,
-  expr.Post,
-  put.Asked,
-  put.Learnt,
-)
+located-cs t =
+    nine (node-at.Asked, node-at.Learnt) (less.Asked, less.Learnt) (entry.Asked, entry.Learnt) (inside.Asked, inside.Learnt)
+    (below applied-rank t, applied.Post) (keep.Asked, keep.Learnt) (raised-reads.Asked, raised-reads.Learnt) (below expr-rank t, expr.Post)
+    (put.Asked, put.Learnt)
 
 located-applied-requires : (t : ℕ) → located-lts.Need-applied-requires (located-cs t) (at located-rank t) located.Post
 located-applied-requires t c κs =
@@ -295,26 +264,10 @@ side-ok t =
     (side-returns-4 t) (λ c. search needs) (λ c. search needs) (side-returns-5 t) (λ c. search needs) (λ c. search needs) (side-returns-6 t)
 
 abbrev stored-cs : ℕ → stored-lts.Claims
-stored-cs t = (
-  node-at.Asked,
-  node-at.Learnt,
-  less.Asked,
-  less.Learnt,
-  entry.Asked,
-  entry.Learnt,
-  inside.Asked,
-  inside.Learnt,
-  raised-reads.Asked,
-  raised-reads.Learnt,
-  keep.Asked,
-  keep.Learnt,
-  below applied-rank t,
-  applied.Post,
-  below expr-rank t,
-  expr.Post,
-  store-indexed.Asked,
-  store-indexed.Learnt,
-)
+stored-cs t =
+    nine (node-at.Asked, node-at.Learnt) (less.Asked, less.Learnt) (entry.Asked, entry.Learnt) (inside.Asked, inside.Learnt)
+    (raised-reads.Asked, raised-reads.Learnt) (keep.Asked, keep.Learnt) (below applied-rank t, applied.Post) (below expr-rank t, expr.Post)
+    (store-indexed.Asked, store-indexed.Learnt)
 
 stored-raised-requires : (t : ℕ) → stored-lts.Need-raised-requires (stored-cs t) (at stored-rank t) stored.Post
 stored-raised-requires t c κs =
