@@ -81,8 +81,8 @@ unfolding stringsAmong
 few-strings text [] = omega arith
 few-strings text (s ∷ ss) = go (eqb (s .kind) STRING) (few-strings text ss)
   where
-    go : (b : Bool) → length (stringsAmong text ss) ≤ length ss
-        → length (cond b (charactersOf (quoted 34 255 0 (drop (suc (s .place)) text)) ∷ stringsAmong text ss) (stringsAmong text ss)) ≤ suc (length ss)
+    go : (b : Bool) → length (stringsAmong text ss) ≤ length ss → length (cond b (charactersOf (quoted 34 255 0 (drop (suc (s .place)) text))
+        ∷ stringsAmong text ss) (stringsAmong text ss)) ≤ suc (length ss)
     go true h = omega arith
     go false h = omega arith
 
@@ -194,7 +194,8 @@ pub behind-gave : {source s s′ table t t₁ t₂ t₃ : List ℕ} {count names
 behind-gave {source} {s} {s′} {table} {t} {t₁} {t₂} {t₃} {count} {names} {functions} {at} w v c = record {
   clean = w .clean;
   by = λ ss fs e k n long few start. let shifted = rw (add-one functions) at (w .by ss e k n) in
-      puts-as (puts-then (puts-then shifted (v .by fs long few start)) c) (rw (lines-then (stringsCode (suc functions) (stringsAmong source ss)) (startsCode 1 fs)));
+      puts-as (puts-then (puts-then shifted (v .by fs long few start)) c) (rw (lines-then (stringsCode (suc functions) (stringsAmong source ss))
+      (startsCode 1 fs)));
 }
 
 -- what is accepted has no faults, and room

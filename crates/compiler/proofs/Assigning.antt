@@ -49,7 +49,8 @@ unfolding encodeExpressions
 left-next T.noExpressions f h b q = noLeft
 left-next {s} {from} {to} {l} {l′} (T.andExpression e es) f h b q =
     let a : l + 0 ≡ l = omega arith in let r = second (length (encode e) ∷ 0 ∷ []) (encode e ++ encodeExpressions es) (l + 2) h refl in
-    let z : getD s l 0 ≡ length (encode e) = ap (λ (k : ℕ). getD s k 0) (sym a) ∙ h .at 0 (omega arith) in let w : l′ ≡ l + 2 + length (encode e) = rw (q, z) in
+    let z : getD s l 0 ≡ length (encode e) = ap (λ (k : ℕ). getD s k 0) (sym a) ∙ h .at 0 (omega arith) in let w : l′ ≡ l + 2
+    + length (encode e) = rw (q, z) in
     aLeft {e = e} {es = es} (l + 2) (omega arith) (first (encode e) (encodeExpressions es) r) w (second (encode e) (encodeExpressions es) l′ r w)
     (omega (arith, length-append (encode e) (encodeExpressions es)))
 
@@ -172,7 +173,8 @@ module _ (text t₀ : List ℕ) {s₀ : List ℕ} {left right end : ℕ} {here :
     module _ {s₁ t₁ : List ℕ} {a : State} (g : GaveE text s s₁ next here t t₁ st a) where
       abbrev pub assign-left : (y : ReadyAssign s₀ left right end here st₀) → AssignPart y s t l at st → ReadyE s₁ l (raised 1 here) a
       assign-left y p = let z = y .ready in let u = assign-is y p in let x = g .by (assign-right y p) in
-          sub z (keeps-then (p .keeps) (x .keeps)) (u .lies) refl (omega (arith, assign-length y p .0, assign-length y p .1, assign-deep y p .0)) (assign-fine y p .0 .0)
+          sub z (keeps-then (p .keeps) (x .keeps)) (u .lies) refl (omega (arith, assign-length y p .0, assign-length y p .1, assign-deep y p .0))
+          (assign-fine y p .0 .0)
 
       pub assign-next : {s₂ t₂ : List ℕ} {l′ size′ : ℕ} {r : State} (n : Node) → NodeAt s₁ l n → GaveSide text s₁ s₂ l (n .place) here t₁ t₂ a r
           → size′ ≡ getD s₂ l 0 → l′ ≡ l + 2 + size′

@@ -264,7 +264,8 @@ module _ (text t₀ : List ℕ) {s₀ : List ℕ} {from end : ℕ} {here : Here}
     abbrev pub locals-part : (y : ReadyLocals s₀ from end here st₀) → LocalsPart y s t at r
         → ReadyLocal s next (placed (r .top) (r .height) here) (r .done)
     locals-part y p = let z = y .ready in let u = one y p in
-        moved z (p .keeps) (p .scope) (u .lies) (p .shows) (omega (arith, locals-length y p)) (omega (arith, locals-size y p, locals-length y p, locals-deep y p .0)) (locals-fine y p .0)
+        moved z (p .keeps) (p .scope) (u .lies) (p .shows) (omega (arith, locals-length y p))
+        (omega (arith, locals-size y p, locals-length y p, locals-deep y p .0)) (locals-fine y p .0)
 
     pub locals-next : {s₁ t₁ : List ℕ} {r′ : Placed} → GaveLocal text s s₁ next (placed (r .top) (r .height) here) t t₁ (r .done) r′
         → (y : ReadyLocals s₀ from end here st₀) → LocalsPart y s t at r → LocalsPart y s₁ t₁ next r′
@@ -337,7 +338,12 @@ heights-agree text sc h T.noLocals f = refl
 heights-agree text sc h (T.vector n c ls) f = heights-agree text (declared sc n (N.local h)) (h + 2 + judgedWord (forVector text sc c)) ls (f .1)
 heights-agree text sc h (T.values ns es ls) f =
     let ls′ = locals text (declareAll sc h ns) (h + length ns) ls in
-    rw (values-after h (expressions text sc h es) ls′, count-is text sc h ns es (sym (f .2)), heights-agree text (declareAll sc h ns) (h + length ns) ls (f .1))
+    rw (
+      values-after h (expressions text sc h es) ls′,
+      count-is text sc h ns es (sym (f .2)),
+      heights-agree text (declareAll sc h ns) (h + length ns)
+          ls (f .1),
+    )
 
 module _ {s : List ℕ} {end : ℕ} {here : Here} {st : State} (n : Node) (nd : NodeAt s end n) (q : getD s (end - 1) 0 ≡ 57) {middle : ℕ}
     (m : middle ≡ n .start + n .value) where
@@ -364,7 +370,8 @@ module _ {s : List ℕ} {end : ℕ} {here : Here} {st : State} (n : Node) (nd : 
   module _ {s₁ : List ℕ} (pu : Pushed s s₁ (here .top) 0 0) where
     abbrev pub block-locals : ReadyU s end here st → ReadyLocals s₁ (n .start) middle (marked here) st
     block-locals y = let u = block-is y in let k = pushed-keeps pu (block-room y .0) (y .long) in record {
-      ready = moved y k (opened (y .scope)) (u .lies) (pushed-mark pu (block-room y .0) (y .long) (y .shows) refl) (omega arith) (omega (arith, block-start y .1, block-deep y .0)) (block-fine y .0);
+      ready = moved y k (opened (y .scope)) (u .lies) (pushed-mark pu (block-room y .0) (y .long) (y .shows) refl) (omega arith)
+          (omega (arith, block-start y .1, block-deep y .0)) (block-fine y .0);
       starts = sym (block-start y .0);
     }
 
@@ -374,7 +381,8 @@ module _ {s : List ℕ} {end : ℕ} {here : Here} {st : State} (n : Node) (nd : 
 
       abbrev pub block-list : ReadyU s end here st → ReadyList s₂ middle (n .inner) (placed (a .top) (a .height) here) (a .done)
       block-list y = let u = block-is y in let x = g .by (block-locals y) in let k = block-keeps y in record {
-        ready = moved y k (scopeAfter text (opened (y .scope)) (here .height) (u .left)) (u .lies-list) (x .after .shows) (omega arith) (omega (arith, block-deep y .1)) (block-fine y .1);
+        ready = moved y k (scopeAfter text (opened (y .scope)) (here .height) (u .left)) (u .lies-list) (x .after .shows) (omega arith)
+            (omega (arith, block-deep y .1)) (block-fine y .1);
         starts = sym (block-start y .1);
       }
 

@@ -338,7 +338,12 @@ module _ {s : List ℕ} {middle end j tag inner size start : ℕ} {here : Here} 
         → here′ .height ≤ here .height + 2 + length (enc (u .part)) → st′ .label ≤ st .label + 2 * length (enc (u .part)) → 0 < st′ .label
         → suffixesDepth (u .init) ≤ here .left → FineSs (u .init) → ReadySuffixes s₁ middle start here′ st′
     init-part here′ {st′} y k u top strings left height label some deep fine = let z = y .ready in let a = z .tree in record {
-      ready = sub {part = record { primary = a .primary; suffixes = u .init }} z k (both (encode (a .primary)) (encodeSuffixes (u .init)) (first (encode (a .primary)) (encodeSuffixes (a .suffixes)) (z .lies)) (u .lies) (y .parts)) top (omega (arith, start-of ei ez es u, length-append (encode (a .primary)) (encodeSuffixes (u .init)))) (z .fine .0, fine);
+      ready = sub {part = record { primary = a .primary; suffixes = u .init }} z k (both (encode (a .primary)) (encodeSuffixes (u .init))
+          (first (encode (a .primary)) (encodeSuffixes (a .suffixes)) (z .lies)) (u .lies) (y .parts)) top (omega (
+            arith,
+            start-of ei ez es u,
+            length-append (encode (a .primary)) (encodeSuffixes (u .init)),
+          )) (z .fine .0, fine);
       parts = y .parts;
     }
 
@@ -489,7 +494,8 @@ module _ {s : List ℕ} {end : ℕ} {here : Here} {st : State} (n : Node) (nd : 
   abbrev pub suffixed-part : ReadyE s end here st → ReadySuffixes s middle (n .inner) (inside here) st
   suffixed-part y = let u = suffixed-is y in let k = length-append (encode (u .left)) (encodeSuffixes (u .list)) in record {
     ready =
-        sub {part = record { primary = u .left; suffixes = u .list }} y keeps-all (both (encode (u .left)) (encodeSuffixes (u .list)) (u .lies) (u .lies-list) refl) refl (omega (arith, suffixed-deep y .0, suffixed-deep y .1)) (suffixed-fine y);
+        sub {part = record { primary = u .left; suffixes = u .list }} y keeps-all (both (encode (u .left)) (encodeSuffixes (u .list)) (u .lies)
+        (u .lies-list) refl) refl (omega (arith, suffixed-deep y .0, suffixed-deep y .1)) (suffixed-fine y);
     parts = suffixed-middle y;
   }
 

@@ -112,7 +112,12 @@ module _ {s : List ℕ} {end : ℕ} {here : Here} {st : State} (n o b : Node) (n
               keeps = keeps-then (keeps-then (x .keeps) (z .keeps)) (v .keeps);
               did = did-at (cmdSays here ways (R.test E C D)) _ (did-fresh e
                   (did-put (did-then (did-put (did-then (did-put (with-ways text sc here ways h (u .test) (x .did)) f) (z .did)) (emits-then f₂ f₃))
-                  (v .did)) f₄)) same-refl (λ p. code-is (rw (test-shape (G.exprCode S h (L + 2) E) (G.FL L ∷ []) (G.cmdCode S h (L + 2 + G.exprLabels E) w C) (G.JL (L + 1) ∷ I.label L ∷ []) (G.cmdCode S h (L + 2 + (G.exprLabels E + G.cmdLabels C)) w D) (I.label (L + 1) ∷ []), m)) refl (omega arith)) (omega arith);
+                  (v .did)) f₄)) same-refl (λ p. code-is (rw (
+                    test-shape (G.exprCode S h (L + 2) E) (G.FL L ∷ [])
+                        (G.cmdCode S h (L + 2 + G.exprLabels E) w C) (G.JL (L + 1) ∷ I.label L ∷ [])
+                        (G.cmdCode S h (L + 2 + (G.exprLabels E + G.cmdLabels C)) w D) (I.label (L + 1) ∷ []),
+                    m,
+                  )) refl (omega arith)) (omega arith);
             });
       }
 
@@ -180,7 +185,8 @@ module _ {s : List ℕ} {end : ℕ} {here : Here} {st : State} (n b : Node) (nd 
               keeps = keeps-then (x .keeps) (z .keeps);
               did = did-at (cmdSays here ways (unlabelled text sc h (y .tree))) _
                   (did-fresh e (did-after m (did-put (did-then (did-put (with-ways text sc here ways h (u .test) (x .did)) f) (z .did))
-                  (emits-then f₂ f₃)))) (same-eq (rw (lo, ef))) (λ v. code-is (simp (append-assoc, jj, em)) (ap (ofCmd h) (sym em)) (omega (arith, ap G.cmdLabels em))) (omega arith);
+                  (emits-then f₂ f₃)))) (same-eq (rw (lo, ef))) (λ v. code-is (simp (append-assoc, jj, em)) (ap (ofCmd h) (sym em))
+                  (omega (arith, ap G.cmdLabels em))) (omega arith);
             };
       }
 

@@ -45,7 +45,12 @@ pub least-from : (f : Fault) (fs : List Fault) → f .number < 32 → AllFit fs 
 unfolding least leastFrom
 least-from f [] a h = refl
 least-from f (g ∷ gs) a (andFit p n h) =
-    rw (keys (g .place) (g .number) (f .place) (f .number) n a, cond-key (before g f) f g, least-from (cond (before g f) g f) gs (cond-small (before g f) f g a n) h)
+    rw (
+      keys (g .place) (g .number) (f .place) (f .number) n a,
+      cond-key (before g f) f g,
+      least-from (cond (before g f) g f) gs
+          (cond-small (before g f) f g a n) h,
+    )
 
 -- from a number above all keys
 pub least-first : (f : Fault) (fs : List Fault) → AllFit (f ∷ fs) → least (2 ^ 37) (f ∷ fs) ≡ key (leastFrom f fs)

@@ -132,7 +132,8 @@ module _ (text : List ℕ) {s₀ : List ℕ} {from end top height : ℕ} {st₀ 
       → (top + 2 * k + 2 ≤ length s) × (height + k < 2 ^ 29) × (at < 2 ^ 32) × (top + 2 * k + 2 ≤ y .base) × FineName (nameAt s at)
   unfolding FineNames
   names-fit k l y p =
-      let u = is-names (p .rest) (p .lies) (p .ends) l in let c : k + 1 + length (u .more) ≡ length (y .names) = omega (arith, ap length (u .same)) in (
+      let u = is-names (p .rest) (p .lies) (p .ends) l in
+      let c : k + 1 + length (u .more) ≡ length (y .names) = omega (arith, ap length (u .same)) in (
         omega arith,
         omega arith,
         omega arith,

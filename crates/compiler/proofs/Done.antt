@@ -232,7 +232,16 @@ least-swap : (x : ℕ) (a b : List Fault) → least x (a ++ b) ≡ least x (b ++
 unfolding least
 least-swap x [] b = ap (least x) (sym (append-nil b))
 least-swap x (f ∷ a) b =
-    cc (step-min (key f) x, least-swap (min x (key f)) a b, least-min x (key f) (b ++ a), least-then x b a, least-min (least x b) (key f) a, step-min (key f) (least x b), least-then x b (f ∷ a))
+    cc (
+      step-min (key f) x,
+      least-swap (min x (key f)) a b,
+      least-min x (key f) (b ++ a),
+      least-then x b a,
+      least-min (least x b) (key f) a,
+      step-min
+          (key f) (least x b),
+      least-then x b (f ∷ a),
+    )
 
 pub same-swap : (a b : List Fault) → Same (a ++ b) (b ++ a)
 same-swap a b =

@@ -22,7 +22,8 @@ use Rattle.language.specs.Fine.{Fine, FineOperations}
 use Rattle.compiler.proofs.Done.{emits-did, did-put, did-after, did-none, did-then, did-as, same-refl, code-is}
 use Rattle.compiler.proofs.Trees.{find, is-number, is-string, is-name, is-bracket, is-dyadic}
 use Rattle.compiler.proofs.Parts.{sub}
-use Rattle.compiler.proofs.Lists.{First, first-of, Kind, Part, begins, item, one-size, one-word, rest-length, both-deep, both-fine, goes-on, ended}
+use Rattle.compiler.proofs.Lists.{First, first-of, Kind, Part, begins, item, one-size, one-word, rest-length, both-deep, both-fine, goes-on}
+use Rattle.compiler.proofs.Lists.{ended}
 
 -- with more labels allowed
 more : {fs : List Fault} {f : ℕ → Code} {m : ℕ} (k : ℕ) {t t′ : List ℕ} {st r : State} → Did fs f m t t′ st r → m ≤ k → Did fs f k t t′ st r

@@ -210,7 +210,8 @@ module _ {s : List ℕ} {end : ℕ} {here : Here} {st : State} (n b l : Node) {l
         for-body y =
             let u = for-is y in let k = for-block-keeps y in let lo′ = y .lo + 4 + length (encode (u .start)) + length (encode (u .limit))
             + length (encodeBy (u .by)) in
-            moved y k (declared (opened (y .scope)) (u .name) (N.local (here .height))) (u .lies-body) (for-block-shows y) (omega arith) (omega (arith, nd .inner, u .ends, for-labels y, for-deep y .2)) (for-fine y .3)
+            moved y k (declared (opened (y .scope)) (u .name) (N.local (here .height))) (u .lies-body) (for-block-shows y) (omega arith)
+            (omega (arith, nd .inner, u .ends, for-labels y, for-deep y .2)) (for-fine y .3)
 
         pub for-gave : (ways : Ways) {s₅ t₆ t₇ : List ℕ} {o r : State}
             → GaveC text s₄ s₅ (n .inner) (placed (here .top + 4) (here .height + 2) here) (inLoop (st .label + 1) (st .label + 2) ways) t₅ t₆ m o
@@ -236,6 +237,18 @@ module _ {s : List ℕ} {end : ℕ} {here : Here} {st : State} (n b l : Node) {l
                 keeps = after-block (omega arith) (for-block-keeps y) (w .keeps);
                 did = did-at (cmdSays here ways (R.for E D B C)) _ (did-fresh e
                     (did-put (did-then (did-put (did-judged (did-emit (did-then (did-emit (with-ways text sc here ways h (u .start) (x .did)) f)
-                    (with-ways text sc here ways (h + 1) (u .limit) (z .did))) f₂) bf) f₃) (w .did)) f₄)) (same-eq (rw (by-faults text sc (u .by), ll))) (λ _. code-is (rw (for-shape EC (G.SP h ∷ []) DC (G.SP (h + 1) ∷ []) (tests L h (v .word)) (G.cmdCode S (h + 2) (L + 3 + (G.exprLabels E + G.exprLabels D)) w′ C) (steps L h (v .word)), eb, ec)) (rw (heights-shape (ofExpr h E) ((h + 1) ∷ []) (ofExpr (h + 1) D) ((h + 1 + 1) ∷ []) (ofCmd (h + 2) C), eh)) (omega arith)) (omega arith);
+                    (with-ways text sc here ways (h + 1) (u .limit) (z .did))) f₂) bf) f₃) (w .did)) f₄)) (same-eq (rw (
+                      by-faults text sc (u .by),
+                      ll,
+                    ))) (λ _. code-is (rw (
+                      for-shape EC (G.SP h ∷ []) DC (G.SP (h + 1) ∷ []) (tests L h (v .word))
+                          (G.cmdCode S (h + 2) (L + 3 + (G.exprLabels E + G.exprLabels D)) w′ C) (steps L h (v .word)),
+                      eb,
+                      ec,
+                    )) (rw (
+                      heights-shape
+                          (ofExpr h E) ((h + 1) ∷ []) (ofExpr (h + 1) D) ((h + 1 + 1) ∷ []) (ofCmd (h + 2) C),
+                      eh,
+                    )) (omega arith)) (omega arith);
               });
         }

@@ -113,7 +113,8 @@ module _ {s : List ℕ} {end : ℕ} {here : Here} {st : State} (n : Node) (nd : 
           let m = function-many y in let l = function-label y in
           record {
             ready =
-                moved y k (declareAll (opened (y .scope)) 2 (y .tree .parameters)) (u .lies-body) (rw m (d .shows)) (omega arith) (omega arith) (y .fine .body);
+                moved y k (declareAll (opened (y .scope)) 2 (y .tree .parameters)) (u .lies-body) (rw m (d .shows)) (omega arith) (omega arith)
+                (y .fine .body);
             word-is = nd .kind ∙ u .kind-of;
             routine-is = refl;
           }

@@ -100,7 +100,13 @@ pub yields-then : {strings l : ℕ} (k : ℕ) {fs fs′ : List Fault} {gs gs′ 
 yields-then {strings} {l} k {fs} {fs′} {gs} {gs′} {m} {m′} {t} {t₁} {t₂} {d} {d₁} {d₂} e x y = record {
   did = did-as (functionsSays strings l (funs (gs ++ gs′))) (m + m′) (did-then (x .did) (y .did)) same-refl (λ n c. says-then strings l n gs gs′ e)
       (omega arith);
-  tall = λ c. rw (y .tall (nil-right fs fs′ c), x .tall (nil-left fs fs′ c), least-then (d .tall) (heightFaults gs) (heightFaults gs′), heights-then gs gs′);
+  tall = λ c. rw (
+    y .tall (nil-right fs fs′ c),
+    x .tall (nil-left fs fs′ c),
+    least-then (d .tall) (heightFaults gs) (heightFaults gs′),
+    heights-then
+        gs gs′,
+  );
   fits = subst AllFit (sym (heights-then gs gs′)) (fit-then (x .fits) (y .fits));
 }
 
@@ -309,7 +315,14 @@ module _ (text t₀ : List ℕ) {s₀ : List ℕ} {from end : ℕ} {here : Here}
           starts = omega arith;
           keeps = keeps-then (p .keeps) (x .keeps);
           uses = omega arith;
-          room = omega (arith, group-length, group-many, functions-step f (u .more), ap (λ (z : List Function). length (encodeFunctions z)) (u .same));
+          room = omega (
+            arith,
+            group-length,
+            group-many,
+            functions-step f (u .more),
+            ap (λ (z : List Function). length (encodeFunctions z))
+                (u .same),
+          );
           some = omega arith;
           low = rw er;
           shallow = group-deep .1;
@@ -317,7 +330,8 @@ module _ (text t₀ : List ℕ) {s₀ : List ℕ} {from end : ℕ} {here : Here}
           next = omega (arith, length-append (p .made) (n ∷ []));
           few = omega (arith, length-append (p .made) (n ∷ []));
           faults-are = cc (append-assoc (p .found) (functionFaults text (y .scope) f) (groupFaults text (y .scope) (u .more)));
-          made-are = cc (append-assoc (p .made) (n ∷ []) (groupOf text (p .number + 1) (withFunction (p .scope) (f .name) (p .number) start) (y .scope) (u .more)));
+          made-are = cc (append-assoc (p .made) (n ∷ []) (groupOf text (p .number + 1) (withFunction (p .scope) (f .name) (p .number) start)
+              (y .scope) (u .more)));
           yields = yields-as (2 * (p .used + (2 + length (encodeFunction f)))) refl refl (omega arith) (yields-then l (p .next) (p .yields) one);
         }
 
@@ -327,7 +341,8 @@ module _ (text t₀ : List ℕ) {s₀ : List ℕ} {from end : ℕ} {here : Here}
   unfolding groupFaults groupOf
   group-end lt q = record {
     by = λ y before k. let p = q y before k in let e = no-function (p .rest) (p .ends) lt in let fe : p .found ≡ groupFaults text (y .scope)
-        (y .functions) = cc (append-nil (p .found)) in let me : p .made ≡ groupOf text k before (y .scope) (y .functions) = cc (append-nil (p .made)) in let r = yields-as
+        (y .functions) = cc (append-nil (p .found)) in let me : p .made ≡ groupOf text k before (y .scope) (y .functions) = cc (append-nil
+        (p .made)) in let r = yields-as
         (2 * length (encodeFunctions (y .functions))) fe me (omega arith) (p .yields) in
         record { result = record { keeps = p .keeps; did = r .did }; tall = r .tall; fits = r .fits; low = p .low };
   }

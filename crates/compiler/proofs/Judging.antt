@@ -138,9 +138,10 @@ module _ (text : List ℕ) {s : List ℕ} {end : ℕ} (top : ℕ) (n : Node) (nd
       go sc lo p false (T.known x) sh f h e =
           let a : n .inner + 1 ≡ end - 3 = omega (arith, ends [] (x .width) (x .place) 59 h e) in let b : n .inner + 2 ≡ end - 2
           = omega (arith, ends [] (x .width) (x .place) 59 h e) in let ex : nameAt s (n .inner) ≡ x = name-there s (n .inner) x
-          (rw (a, value-is [] (x .width) (x .place) 59 h e)) (rw (b, place-is [] (x .width) (x .place) 59 h e)) in let ep : x .place ≡ n .place = sym (nd .place ∙ place-is [] (x .width) (x .place) 59 h e) in
-          nm .by (record { place = p; minus = false; simple = T.known x }) x (lookup text sc x)
-          (rw (lk .by sc sh, ex)) refl (f .1 x refl refl ∙ ep) ep
+          (rw (a, value-is [] (x .width) (x .place) 59 h e)) (rw (b, place-is [] (x .width) (x .place) 59 h e)) in let ep : x .place
+          ≡ n .place = sym (nd .place ∙ place-is [] (x .width) (x .place) 59 h e) in
+          nm .by (record { place = p; minus = false; simple = T.known x }) x (lookup text sc x) (rw (lk .by sc sh, ex)) refl (f .1 x refl refl ∙ ep)
+          ep
       go sc lo p true (T.literal v) sh f h e = absurd (omega (arith, kind-is [] v p 36 h e))
       go sc lo p true (T.known x) sh f h e = absurd (omega (arith, kind-is (0 ∷ x .width ∷ x .place ∷ 59 ∷ []) 0 p 36 h e))
 

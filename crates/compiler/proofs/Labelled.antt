@@ -230,7 +230,9 @@ module _ {s : List ℕ} {end : ℕ} {here : Here} {st : State} (n : Node) (nd : 
   module _ (some : middle ≡ n .inner → ⊥) where
     abbrev pub labelled-rest : ReadyC s end here st → ReadyR s (n .inner) (inside here) st
     labelled-rest y = let u = labelled-is n nd q m y in let f = labelled-fine n nd q m y in
-        sub {part = record { body = u .body; forms = u .forms }} y keeps-all (u .lies-rest) refl (omega (arith, command-deep (u .labels) (u .body) (u .forms) (u .same) (y .shallow))) (something-left (u .labels) (u .body) (u .forms) f (λ z. some (omega (arith, rest-length y))))
+        sub {part = record { body = u .body; forms = u .forms }} y keeps-all (u .lies-rest) refl
+        (omega (arith, command-deep (u .labels) (u .body) (u .forms) (u .same) (y .shallow))) (something-left (u .labels) (u .body) (u .forms) f
+        (λ z. some (omega (arith, rest-length y))))
 
     pub bare-labelled : (text : List ℕ) (ways : Ways) {s₁ t t₁ : List ℕ} {r : State} → GaveR text s s₁ (n .inner) (inside here) ways t t₁ st r
         → GaveCase text s s₁ end here ways t t₁ st r
@@ -254,7 +256,8 @@ module _ {s : List ℕ} {end : ℕ} {here : Here} {st : State} (n : Node) (nd : 
 
   abbrev pub bare-part : ReadyC s end here st → ReadyR s end (inside here) st
   bare-part y = let u = bare-is y in
-      sub {part = record { body = u .body; forms = u .forms }} y keeps-all (u .lies) refl (omega (arith, command-deep [] (u .body) (u .forms) (u .same) (y .shallow))) (bare-fine y)
+      sub {part = record { body = u .body; forms = u .forms }} y keeps-all (u .lies) refl
+      (omega (arith, command-deep [] (u .body) (u .forms) (u .same) (y .shallow))) (bare-fine y)
 
   pub bare-gave : (text : List ℕ) (ways : Ways) {s₁ t t₁ : List ℕ} {r : State} → GaveR text s s₁ end (inside here) ways t t₁ st r
       → GaveCase text s s₁ end here ways t t₁ st r

@@ -210,7 +210,8 @@ module _ (text t₀ : List ℕ) {s₀ table₀ : List ℕ} {base end left string
   program-end {s} {table} {t} {at} lt q = record {
     by = λ y. let p = q y in let e = no-declaration (p .rest) (p .ends) lt in let fe : p .found ≡ faultsFrom text begin (y .program)
         = cc (append-nil (p .found)) in
-        let me : p .made ≡ functionsFrom text begin (y .program) = cc (append-nil (p .made)) in let r = yields-as (2 * length (encodeProgram (y .program))) fe me (omega arith) (p .yields) in
+        let me : p .made ≡ functionsFrom text begin (y .program) = cc (append-nil (p .made)) in let r = yields-as
+        (2 * length (encodeProgram (y .program))) fe me (omega arith) (p .yields) in
         record {
           did = r .did;
           tall = r .tall;

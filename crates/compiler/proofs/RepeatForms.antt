@@ -163,7 +163,15 @@ module _ (text t₀ : List ℕ) (own₀ : ℕ) {s₀ : List ℕ} {from end : ℕ
       ready-test w e q =
           let z = y .ready in let h = rw q at (one .lies) in let m : length (formEncoding (one .part)) ≡ length (encode e)
           = rw q in
-          sub z (p .keeps) h refl (omega (arith, forms-size, one .ends, rest-length z (y .starts) l es en p, forms-conditions, rw q at (both-deep z (y .starts) l es en p .0))) (subst FineForm q (both-fine z (y .starts) l es en p .0))
+          sub z (p .keeps) h refl (omega (
+            arith,
+            forms-size,
+            one .ends,
+            rest-length z (y .starts) l es en p,
+            forms-conditions,
+            rw q
+                at (both-deep z (y .starts) l es en p .0),
+          )) (subst FineForm q (both-fine z (y .starts) l es en p .0))
 
       ready-form : ReadyForm s next size here a
       ready-form = record { on = λ n. by n (one .part) refl }
@@ -345,10 +353,11 @@ module _ {s : List ℕ} {end : ℕ} {here : Here} {st : State} (n : Node) (nd : 
               record {
                 keeps = keeps-then (x .keeps) (z .keeps);
                 did = did-at (cmdSays here ways (repeats text sc h C rs)) _ (did-fresh e (did-after f (did-then (x .did) (z .did))))
-                    (same-eq (rw (l₁, any-repeats text (leavable here) lv refl sc h rs))) (λ v. code-is (ap (λ (i : ℕ). topsCode L i ++ (G.cmdCode S h N (exits (inLoop (own + 1) (own + 2) ways)) C
-                    ++ formsCode text sc S h own rs (N + G.cmdLabels C))) ek ∙ ap (λ (w : G.Exits). topsCode L (forms rs) ++ (G.cmdCode S h N w C
-                    ++ formsCode text sc S h own rs (N + G.cmdLabels C))) ei ∙ sym (repeats-code text sc S h rs C L N own (N + G.cmdLabels C) (exits
-                    ways) (rw ek) eo refl)) (sym (repeats-heights text sc h rs C)) (omega (
+                    (same-eq (rw (l₁, any-repeats text (leavable here) lv refl sc h rs)))
+                    (λ v. code-is (ap (λ (i : ℕ). topsCode L i ++ (G.cmdCode S h N (exits (inLoop (own + 1) (own + 2) ways)) C ++ formsCode text sc S
+                    h own rs (N + G.cmdLabels C))) ek ∙ ap (λ (w : G.Exits). topsCode L (forms rs) ++ (G.cmdCode S h N w C ++ formsCode text sc S h
+                    own rs (N + G.cmdLabels C))) ei ∙ sym (repeats-code text sc S h rs C L N own (N + G.cmdLabels C) (exits ways) (rw ek) eo refl))
+                    (sym (repeats-heights text sc h rs C)) (omega (
                       arith,
                       repeats-labels text sc h rs
                           C,

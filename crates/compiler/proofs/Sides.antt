@@ -540,7 +540,8 @@ module _ {s : List ℕ} {end : ℕ} {here : Here} {st : State} (n : Node) (nd : 
                 keeps = keeps-then (x .keeps) (w .keeps);
                 did = did-as (targetSays here (targetOf (sideOf E))) _ (did-after f₀ (did-put (did-then (did-emit (x .did) f) (w .did)) f₂))
                     (same-eq (sym ef ∙ sym (append-nil _) ∙ ap (λ (e : Expr). (inExpression text sc L (under (U .list) k) p ++ inSuffixes text sc L k
-                    (U .list)) ++ unlessSide place (sideOf e)) (sym er))) (λ v e. code-is (simp (append-assoc, kk, er)) (simp (append-assoc, kk, er)) (rw er)) (omega (arith, applied-ends Y, indexed-middle n nd q m y₀, length-append (encode p) (encodeSuffixes (u .init))));
+                    (U .list)) ++ unlessSide place (sideOf e)) (sym er))) (λ v e. code-is (simp (append-assoc, kk, er)) (simp (append-assoc, kk, er))
+                    (rw er)) (omega (arith, applied-ends Y, indexed-middle n nd q m y₀, length-append (encode p) (encodeSuffixes (u .init))));
               });
         }
 

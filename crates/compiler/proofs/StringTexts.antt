@@ -14,7 +14,8 @@ use Rattle.code.specs.Generate.{stringsCode}
 use Rattle.tree.specs.Read.{decoded}
 use Rattle.writing.specs.Text.{Puts, line, lines}
 use Rattle.writing.proofs.Laws.{puts-then, puts-as, puts-none, lines-then}
-use Rattle.compiler.specs.Strings.{stringCount, oneIf, Ends, AllEnd, Escapes, WritesCharacters, WritesString, symbolCode, WritesSymbol, WritesStrings}
+use Rattle.compiler.specs.Strings.{stringCount, oneIf, Ends, AllEnd, Escapes, WritesCharacters, WritesString, symbolCode, WritesSymbol}
+use Rattle.compiler.specs.Strings.{WritesStrings}
 use Rattle.compiler.proofs.StringsEnd.{first-ends, others-end}
 
 pub two-bytes : {a b at x r : ℕ} {t t₁ t₂ : List ℕ} → Puts (a ∷ []) at x t t₁ → Puts (b ∷ []) x r t₁ t₂ → Puts (a ∷ b ∷ []) at r t t₂
@@ -281,9 +282,8 @@ listing-next {source} {s} {count} {first} {i} {n} {at} {x} {r} {k} {p} h ek ep e
         done = y .done ++ o;
         next = omega (arith, of-symbol-count source k p);
         ends = others-end a;
-        all = y .all
-            ∙ ap (λ (z : List (List ℕ)). y .done ++ z) (ap (stringsAmong source) m ∙ of-symbol-first source _ (symbolsFrom count s (i + 1)) ∙ rw (ek, ep) refl)
-            ∙ sym (append-assoc (y .done) o (stringsAmong source (symbolsFrom count s (i + 1))));
+        all = y .all ∙ ap (λ (z : List (List ℕ)). y .done ++ z) (ap (stringsAmong source) m ∙ of-symbol-first source _ (symbolsFrom count s (i + 1))
+            ∙ rw (ek, ep) refl) ∙ sym (append-assoc (y .done) o (stringsAmong source (symbolsFrom count s (i + 1))));
         puts = puts-as (puts-then (y .puts) (w .by f)) (cc (
           strings-then first (y .done) o,
           lines-then (stringsCode first (y .done))

@@ -6,7 +6,8 @@ use Rattle.text.specs.Quoted.{Quoted, closed, unclosed, faulty, charactersOf, q
 use Rattle.text.proofs.Booleans.{both-true}
 use Rattle.language.specs.Bytes.{LETTER, DIGIT, HASH, QUOTE, DOUBLE, SIGN, SEPARATOR, NEWLINE, classOf}
 use Rattle.language.specs.Kinds.{Spelled, NUMBER, STRING, reserved, signs}
-use Rattle.language.specs.Symbols.{Symbol, Element, symbol, gap, wrong, same, begins, kindIn, kindOf, word, digits, valueOf, decimal, octal, asCharacter, character, asString, string, signIn, comment, sign, signOrComment, byClass}
+use Rattle.language.specs.Symbols.{Symbol, Element, symbol, gap, wrong, same, begins, kindIn, kindOf, word, digits, valueOf, decimal, octal}
+use Rattle.language.specs.Symbols.{asCharacter, character, asString, string, signIn, comment, sign, signOrComment, byClass}
 use Rattle.language.specs.Symbols.{Fault, none, fault, Scan, onElement, scanFrom, scan}
 use Rattle.language.specs.Strings.{withValue, numbered}
 use Rattle.language.specs.Semicolons.{inserted, gains, semicolonsAfter, semicolons}

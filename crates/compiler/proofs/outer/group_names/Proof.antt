@@ -19,7 +19,8 @@ fit c = let start = c .before .before .before .before .before in
     names-fit (start .args .source .now) (start .args .st) (c .loop-test .taken) (start .pre) (c .before .loop .inv .2 (start .pre))
 
 enter-requires : tie.Need-enter-requires Inv-loop μ-loop
-enter-requires c κs = let w = fit (c .before .before .before .before .before .before .before .before .before .before) in (omega arith, omega arith, w .few, w .name)
+enter-requires c κs = let w = fit (c .before .before .before .before .before .before .before .before .before .before) in
+    (omega arith, omega arith, w .few, w .name)
 
 loop-again : tie.Need-loop-again Inv-loop μ-loop
 loop-again c =
@@ -43,9 +44,10 @@ returns c =
 
 pub group-names-spec : {M : Type 1} → statement M
 group-names-spec =
-    tie.close (tie.spec Inv-loop μ-loop (λ c. (refl, refl, λ y. search names-begin)) (λ c. omega arith)
-    (search needs) (λ c. omega arith) (λ c. omega arith) (λ c κs. omega (arith, fit (c .before .before .before))) (λ c. omega arith) (search needs)
-    (λ c κs. search (needs, names-fit)) (λ c. omega arith) enter-requires
-    (λ c. omega (arith, fit (c .before .before .before .before .before .before .before .before .before .before .before .before .before .before .before)))
-    (λ c. omega arith) loop-again
-    (λ c. c .before .loop .inv .0) (λ c. c .before .loop .inv .1) returns)
+    tie.close (tie.spec Inv-loop μ-loop (λ c. (refl, refl, λ y. search names-begin)) (λ c. omega arith) (search needs) (λ c. omega arith)
+    (λ c. omega arith) (λ c κs. omega (arith, fit (c .before .before .before))) (λ c. omega arith) (search needs) (λ c κs. search (needs, names-fit))
+    (λ c. omega arith) enter-requires (λ c. omega (
+      arith,
+      fit (c .before .before .before .before .before .before .before .before .before .before
+          .before .before .before .before .before),
+    )) (λ c. omega arith) loop-again (λ c. c .before .loop .inv .0) (λ c. c .before .loop .inv .1) returns)

@@ -47,11 +47,27 @@ out c = let start = c .before .before .before in
 
 pub items-spec : {M : Type 1} → statement M
 items-spec =
-    tie.close (tie.spec Inv-loop μ-loop (λ c. (refl, λ y. search items-begin)) (λ c. omega arith)
-    (search needs) (λ c. omega arith) (λ c. omega (arith, fit (c .before .before .before))) (λ c. omega (arith, fit (c .before .before .before))) (λ c κs. omega (arith, fit (c .before .before .before)))
-    (λ c. omega (arith, fit (c .before .before .before .before .before))) (λ c. omega (arith, fit (c .before .before .before .before .before))) (λ c. omega arith) (λ c κs. omega (arith, fit (c .before .before .before .before .before))) (λ c. omega arith)
-    (search needs) (search needs) (λ c _. c .before .entry2 .ensures .1) (λ c. omega (arith, fit (c .before .before .before .before .before .before .before .before .before .before .before)))
-    (λ c. omega (arith, fit (c .before .before .before .before .before .before .before .before .before .before .before)))
-    (λ c. omega (arith, fit (c .before .before .before .before .before .before .before .before .before .before .before))) (search needs) push-name-requires
-    (λ c. omega (arith, fit (c .before .before .before .before .before .before .before .before .before .before .before .before .before .before .before)))
-    (λ c. omega arith) loop-again (λ c. omega (arith, out (c .before))) (λ c. omega (arith, out (c .before))) (search needs) (λ c. search items-end))
+    tie.close (tie.spec Inv-loop μ-loop (λ c. (refl, λ y. search items-begin)) (λ c. omega arith) (search needs) (λ c. omega arith)
+    (λ c. omega (arith, fit (c .before .before .before))) (λ c. omega (arith, fit (c .before .before .before)))
+    (λ c κs. omega (arith, fit (c .before .before .before))) (λ c. omega (arith, fit (c .before .before .before .before .before)))
+    (λ c. omega (arith, fit (c .before .before .before .before .before))) (λ c. omega arith)
+    (λ c κs. omega (arith, fit (c .before .before .before .before .before))) (λ c. omega arith) (search needs) (search needs)
+    (λ c _. c .before .entry2 .ensures .1) (λ c. omega (
+      arith,
+      fit
+          (c .before .before .before .before .before .before .before .before .before .before .before),
+    )) (λ c. omega (
+      arith,
+      fit
+          (c .before .before .before .before .before .before .before .before .before .before .before),
+    )) (λ c. omega (
+      arith,
+      fit
+          (c .before .before .before .before .before .before .before .before .before .before .before),
+    )) (search needs) push-name-requires
+    (λ c. omega (
+      arith,
+      fit (c .before .before .before .before .before .before .before .before .before .before .before .before .before .before
+          .before),
+    )) (λ c. omega arith) loop-again (λ c. omega (arith, out (c .before))) (λ c. omega (arith, out (c .before))) (search needs)
+    (λ c. search items-end))

@@ -41,8 +41,10 @@ pub declare-spec : {M : Type 1} → statement M
 declare-spec =
     tie.close (tie.spec Inv-loop μ-loop (λ c. (refl, λ y. search names-begin)) (λ c. omega (arith, fit (c .before)))
     (λ c. omega (arith, fit (c .before))) (λ c κs. search (needs, names-fit)) (λ c. omega arith) (search needs) (λ c _. c .entry .ensures .1)
-    (λ c. omega (arith, fit (c .before .before .before .before .before .before))) (λ c. omega (arith, fit (c .before .before .before .before .before .before)))
-    (λ c. omega (arith, fit (c .before .before .before .before .before .before))) (λ c. omega (arith, fit (c .before .before .before .before .before .before)))
+    (λ c. omega (arith, fit (c .before .before .before .before .before .before)))
+    (λ c. omega (arith, fit (c .before .before .before .before .before .before)))
+    (λ c. omega (arith, fit (c .before .before .before .before .before .before)))
+    (λ c. omega (arith, fit (c .before .before .before .before .before .before)))
     (λ c. omega (arith, fit (c .before .before .before .before .before .before))) push-name-requires
     (λ c. omega (arith, fit (c .before .before .before .before .before .before .before .before .before))) (λ c. omega arith) (λ c. omega arith)
     loop-again (search needs) returns)

@@ -28,7 +28,8 @@ loop-less c =
     omega (arith, is-inside 34 source i one)
 
 returns-3 : tie.Need-returns-3 Inv-loop μ-loop
-returns-3 c = spelling-mistake (when-mistake _ (c .before .before .character-at .ensures) (c .enum-told3 .given .1)) (c .before .before .before .loop .inv .1)
+returns-3 c = spelling-mistake (when-mistake _ (c .before .before .character-at .ensures) (c .enum-told3 .given .1))
+    (c .before .before .before .loop .inv .1)
 
 pub characters-spec : {M : Type 1} → statement M
 characters-spec =

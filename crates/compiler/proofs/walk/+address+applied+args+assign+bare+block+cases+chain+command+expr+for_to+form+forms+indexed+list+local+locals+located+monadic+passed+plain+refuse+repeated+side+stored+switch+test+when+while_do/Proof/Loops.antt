@@ -6,7 +6,7 @@ use Rattle.compiler.proofs.Fors.{for-room, for-first, for-limit, for-ke
 use Rattle.compiler.proofs.Conditions.{while-test, while-body, while-gave}
 use Rattle.compiler.proofs.RepeatForms.{FormsPart, forms-begin, forms-part, forms-next, forms-end, form-alone, form-tested, repeated-few}
 use Rattle.compiler.proofs.RepeatForms.{repeated-body, repeated-forms, repeated-gave, once-part, once-gave}
-use Rattle.compiler.proofs.Basics.{_≤_, _-_, ℕ, _∙_, _≡_, refl, length, arith, needs}
+use Rattle.compiler.proofs.Basics.{_+_, _≤_, _-_, ℕ, _∙_, _≡_, refl, length, arith, needs}
 use Rattle.compiler.specs.Walked.{raised}
 use Rattle.compiler.proofs.Commands.{gave-c-at, gave-u-at}
 use Rattle.compiler.proofs.Expressions.{ready-at, gave-at, left-at}
@@ -213,156 +213,51 @@ for-to-for-test-requires t c κs =
     .before .before .before .before .before in
     (omega (arith, start .pre .1 .0 .height), omega (arith, start .pre .1 .0 .label))
 
+abbrev for-to-start : (t : ℕ) → for-to-lts.After-for-test (for-to-cs t) (at for-to-rank t) for-to.Post → for-to-lts.Start (for-to-cs t)
+    (at for-to-rank t) for-to.Post
+for-to-start t c = c .before .before .before .before .before .before .before .before .before .before .before .before .before .before .before .before
+    .before .before .before .before .before .before .before .before .before .before .before .before .before .before .before .before .before .before
+    .before .before .before .before .before .before
+
+for-to-room : (t : ℕ) (c : for-to-lts.After-for-test (for-to-cs t) (at for-to-rank t) for-to.Post)
+    → for-to-start t c .args .here .top + 4 ≤ for-to-start t c .pre .1 .0 .base
+for-to-room t c =
+    let after-node-at3 = c .before .before .before .before .before .before .before .before .before .before .before .before .before .before .before
+    .before .before .before .before .before .before .before .before .before .before .before .before .before .before .before in
+    let after-less = after-node-at3 .before .before in let after-node-at2 = after-less .before in
+    let after-node-at = after-node-at2 .before .before in let start = for-to-start t c in
+    for-room _ _ _ (after-node-at .node-at .ensures) (after-node-at2 .node-at2 .ensures) (after-less .less .ensures)
+    (after-node-at3 .node-at3 .ensures) (start .pre .1 .1 .is) (start .pre .1 .0)
+
 for-to-push-requires : (t : ℕ) → for-to-lts.Need-push-requires (for-to-cs t) (at for-to-rank t) for-to.Post
 for-to-push-requires t c κs =
-    let after-for-test = c .before .before .before in let after-blame = after-for-test .before .before in
+    let h = c .before .before .before in let y = for-to-start t h .pre .1 .0 in
+    let k = h .before .before .before .before .before .before .before .before .before .before .before .before .before .before .expr2 .kept in
+    let l = h .before .before .before .before .before .before .before .before .before .before .before .before .before .before .before .before .before
+    .before .before .before .before .before .before .before .before .before .expr .kept in
+    (omega (arith, for-to-room t h), omega arith, omega arith)
+
+for-to-push-name-requires : (t : ℕ) → for-to-lts.Need-push-name-requires (for-to-cs t) (at for-to-rank t) for-to.Post
+for-to-push-name-requires t c κs =
+    let h = c .before .before .before .before .before .before .before .before .before in let y = for-to-start t h .pre .1 .0 in
+    let k = h .before .before .before .before .before .before .before .before .before .before .before .before .before .before .expr2 .kept in
+    let l = h .before .before .before .before .before .before .before .before .before .before .before .before .before .before .before .before .before
+    .before .before .before .before .before .before .before .before .before .expr .kept in
+    let n = h .before .before .before .before .before .before .before .before .before .before .before .before .before .before .before .before .before
+    .before .before .before .before .before .before .before .before .before .before .before .before .before .before .before .before .before
+    .before .node-at .ensures in let f = let after-push = c .before .before .before .before .before in
+    let after-for-test = after-push .before .before .before .before in let after-blame = after-for-test .before .before in
     let after-by-constant = after-blame .before in let after-keep2 = after-by-constant .before .before .before .before in
     let after-expr2 = after-keep2 .before .before .before .before .before .before .before in let after-raised = after-expr2 .before in
     let after-keep = after-raised .before .before .before .before .before in
     let after-expr = after-keep .before .before .before .before .before .before in let after-fresh = after-expr .before .before .before in
     let after-node-at3 = after-fresh .before in let after-less = after-node-at3 .before .before in let after-node-at2 = after-less .before in
-    let after-node-at = after-node-at2 .before .before in let start = after-node-at .before .before .before .before .before in (
-      omega (
-        arith,
-        for-room _ _ _ (after-node-at .node-at .ensures) (after-node-at2 .node-at2 .ensures) (after-less .less .ensures)
-            (after-node-at3 .node-at3 .ensures) (start .pre .1 .1 .is) (start .pre .1 .0),
-        for-keeps _ _ _ (after-node-at .node-at .ensures)
-            (after-node-at2 .node-at2 .ensures) (after-less .less .ensures) (after-node-at3 .node-at3 .ensures) (start .pre .1 .1 .is)
-            (start .args .source .now) (after-fresh .fresh .ensures) (after-expr .expr .ensures) (after-keep .keep .ensures)
-            (gave-at (start .args .source .now) (after-raised .raised .ensures) (after-expr2 .expr2 .ensures)) (after-keep2 .keep2 .ensures)
-            (after-by-constant .by-constant .ensures) (after-blame .blame .ensures) (after-for-test .for-test .ensures) (start .pre .1 .0) .long,
-        start .pre .1 .0 .long,
-      ),
-      omega arith,
-      omega arith,
-    )
-
-for-to-add-push-name : (t : ℕ) → for-to-lts.Need-add-push-name (for-to-cs t) (at for-to-rank t) for-to.Post
-for-to-add-push-name t c =
-    let after-node-at3 = c .before .before .before .before .before .before .before .before .before .before .before .before .before .before .before
-    .before .before .before .before .before .before .before .before .before .before .before .before .before .before .before .before .before .before
-    .before .before .before .before .before in let after-less = after-node-at3 .before .before in let after-node-at2 = after-less .before in
-    let after-node-at = after-node-at2 .before .before in let start = after-node-at .before .before .before .before .before in
-    omega (
-      arith,
-      for-room _ _ _ (after-node-at .node-at .ensures) (after-node-at2 .node-at2 .ensures) (after-less .less .ensures)
-          (after-node-at3 .node-at3 .ensures) (start .pre .1 .1 .is) (start .pre .1 .0),
-      start .pre .1 .0 .above,
-      start .pre .1 .0 .ends,
-      start .pre .1 .0 .small,
-    )
-
-for-to-mul-push-name : (t : ℕ) → for-to-lts.Need-mul-push-name (for-to-cs t) (at for-to-rank t) for-to.Post
-for-to-mul-push-name t c =
-    let start = c .before .before .before .before .before .before .before .before .before .before .before .before .before .before .before .before
-    .before .before .before .before .before .before .before .before .before .before .before .before .before .before .before .before .before .before
-    .before .before .before .before .before .before .before .before .before .before .before .before .before .before .before in
-    omega (arith, start .pre .1 .0 .height)
-
-for-to-add-push-name-2 : (t : ℕ) → for-to-lts.Need-add-push-name-2 (for-to-cs t) (at for-to-rank t) for-to.Post
-for-to-add-push-name-2 t c =
-    let start = c .before .before .before .before .before .before .before .before .before .before .before .before .before .before .before .before
-    .before .before .before .before .before .before .before .before .before .before .before .before .before .before .before .before .before .before
-    .before .before .before .before .before .before .before .before .before .before .before .before .before .before .before in
-    omega (arith, start .pre .1 .0 .height)
-
-for-to-push-name-requires : (t : ℕ) → for-to-lts.Need-push-name-requires (for-to-cs t) (at for-to-rank t) for-to.Post
-for-to-push-name-requires t c κs = (
-  omega (
-    arith,
-    (let after-node-at3 = c .before .before .before .before .before .before .before .before .before .before .before .before .before .before
-        .before .before .before .before .before .before .before .before .before .before .before .before .before .before .before .before .before
-        .before .before .before .before .before .before .before .before in let after-less = after-node-at3 .before .before in let after-node-at2 =
-        after-less .before in let after-node-at = after-node-at2 .before .before in let start =
-        after-node-at .before .before .before .before .before in for-room _ _ _ (after-node-at .node-at .ensures)
-        (after-node-at2 .node-at2 .ensures) (after-less .less .ensures) (after-node-at3 .node-at3 .ensures) (start .pre .1 .1 .is)
-        (start .pre .1 .0)),
-    (let after-for-test = c .before .before .before .before .before .before .before .before .before in let after-blame =
-        after-for-test .before .before in let after-by-constant = after-blame .before in let after-keep2 =
-        after-by-constant .before .before .before .before in let after-expr2 = after-keep2 .before .before .before .before .before .before .before
-        in let after-raised = after-expr2 .before in let after-keep = after-raised .before .before .before .before .before in let after-expr =
-        after-keep .before .before .before .before .before .before in let after-fresh = after-expr .before .before .before in let after-node-at3 =
-        after-fresh .before in let after-less = after-node-at3 .before .before in let after-node-at2 = after-less .before in let after-node-at =
-        after-node-at2 .before .before in let start = after-node-at .before .before .before .before .before in for-keeps _ _ _
-        (after-node-at .node-at .ensures) (after-node-at2 .node-at2 .ensures) (after-less .less .ensures) (after-node-at3 .node-at3 .ensures)
-        (start .pre .1 .1 .is) (start .args .source .now) (after-fresh .fresh .ensures) (after-expr .expr .ensures) (after-keep .keep .ensures)
-        (gave-at (start .args .source .now) (after-raised .raised .ensures) (after-expr2 .expr2 .ensures)) (after-keep2 .keep2 .ensures)
-        (after-by-constant .by-constant .ensures) (after-blame .blame .ensures) (after-for-test .for-test .ensures) (start .pre .1 .0) .long),
-    c
-        .before .before .before .before .before .before .before .before .before .before .before .before .before .before .before .before .before
-        .before .before .before .before .before .before .before .before .before .before .before .before .before .before .before .before .before
-        .before .before .before .before .before .before .before .before .before .before .before .before .before .before .before .pre .1 .0 .long,
-  ),
-  omega (
-    arith,
-    c .before .before .before .before .before .before .before .before .before .before .before .before .before .before .before .before
-        .before .before .before .before .before .before .before .before .before .before .before .before .before .before .before .before .before
-        .before .before .before .before .before .before .before .before .before .before .before .node-at .ensures .start,
-    c .before .before .before
-        .before .before .before .before .before .before .before .before .before .before .before .before .before .before .before .before .before
-        .before .before .before .before .before .before .before .before .before .before .before .before .before .before .before .before .before
-        .before .before .before .before .before .before .before .before .before .before .before .before .pre .1 .0 .small,
-  ),
-  omega (
-    arith,
-    c .before .before .before .before .before .before .before .before .before .before .before .before .before .before .before .before
-        .before .before .before .before .before .before .before .before .before .before .before .before .before .before .before .before .before
-        .before .before .before .before .before .before .before .before .before .before .before .before .before .before .before .before .pre .1 .0
-        .height,
-  ),
-  (let after-push = c .before .before .before .before .before in let after-for-test = after-push .before .before .before .before in let
-      after-blame = after-for-test .before .before in let after-by-constant = after-blame .before in let after-keep2 =
-      after-by-constant .before .before .before .before in let after-expr2 = after-keep2 .before .before .before .before .before .before .before in
-      let after-raised = after-expr2 .before in let after-keep = after-raised .before .before .before .before .before in let after-expr =
-      after-keep .before .before .before .before .before .before in let after-fresh = after-expr .before .before .before in let after-node-at3 =
-      after-fresh .before in let after-less = after-node-at3 .before .before in let after-node-at2 = after-less .before in let after-node-at =
-      after-node-at2 .before .before in let start = after-node-at .before .before .before .before .before in for-name-fine _ _ _
-      (after-node-at .node-at .ensures) (after-node-at2 .node-at2 .ensures) (after-less .less .ensures) (after-node-at3 .node-at3 .ensures)
-      (start .pre .1 .1 .is) _ (after-fresh .fresh .ensures) (after-expr .expr .ensures) (after-keep .keep .ensures)
-      (gave-at _ (after-raised .raised .ensures) (after-expr2 .expr2 .ensures)) (after-keep2 .keep2 .ensures)
-      (after-by-constant .by-constant .ensures) (after-blame .blame .ensures) (after-for-test .for-test .ensures) (after-push .push .ensures)
-      (start .pre .1 .0)),
-)
-
-for-to-add-set-at : (t : ℕ) → for-to-lts.Need-add-set-at (for-to-cs t) (at for-to-rank t) for-to.Post
-for-to-add-set-at t c =
-    let after-node-at3 = c .before .before .before .before .before .before .before .before .before .before .before .before .before .before .before
-    .before .before .before .before .before .before .before .before .before .before .before .before .before .before .before .before .before .before
-    .before .before .before .before .before .before .before .before .before .before in let after-less = after-node-at3 .before .before in
-    let after-node-at2 = after-less .before in let after-node-at = after-node-at2 .before .before in
-    let start = after-node-at .before .before .before .before .before in
-    omega (
-      arith,
-      for-room _ _ _ (after-node-at .node-at .ensures) (after-node-at2 .node-at2 .ensures) (after-less .less .ensures)
-          (after-node-at3 .node-at3 .ensures) (start .pre .1 .1 .is) (start .pre .1 .0),
-      start .pre .1 .0 .above,
-      start .pre .1 .0 .ends,
-      start .pre .1 .0 .small,
-    )
-
-for-to-add-set-at-2 : (t : ℕ) → for-to-lts.Need-add-set-at-2 (for-to-cs t) (at for-to-rank t) for-to.Post
-for-to-add-set-at-2 t c =
-    let start = c .before .before .before .before .before .before .before .before .before .before .before .before .before .before .before .before
-    .before .before .before .before .before .before .before .before .before .before .before .before .before .before .before .before .before .before
-    .before .before .before .before .before .before .before .before .before .before .before .before .before .before .before .before .before .before
-    .before .before in
-    omega (arith, start .pre .1 .0 .height)
-
-for-to-add-in-loop : (t : ℕ) → for-to-lts.Need-add-in-loop (for-to-cs t) (at for-to-rank t) for-to.Post
-for-to-add-in-loop t c =
-    let start = c .before .before .before .before .before .before .before .before .before .before .before .before .before .before .before .before
-    .before .before .before .before .before .before .before .before .before .before .before .before .before .before .before .before .before .before
-    .before .before .before .before .before .before .before .before .before .before .before .before .before .before .before .before .before .before
-    .before .before .before .before .before .before in
-    omega (arith, start .pre .1 .0 .label)
-
-for-to-add-in-loop-2 : (t : ℕ) → for-to-lts.Need-add-in-loop-2 (for-to-cs t) (at for-to-rank t) for-to.Post
-for-to-add-in-loop-2 t c =
-    let start = c .before .before .before .before .before .before .before .before .before .before .before .before .before .before .before .before
-    .before .before .before .before .before .before .before .before .before .before .before .before .before .before .before .before .before .before
-    .before .before .before .before .before .before .before .before .before .before .before .before .before .before .before .before .before .before
-    .before .before .before .before .before .before .before in
-    omega (arith, start .pre .1 .0 .label)
+    let after-node-at = after-node-at2 .before .before in let start = after-node-at .before .before .before .before .before in for-name-fine _ _ _
+    (after-node-at .node-at .ensures) (after-node-at2 .node-at2 .ensures) (after-less .less .ensures) (after-node-at3 .node-at3 .ensures)
+    (start .pre .1 .1 .is) _ (after-fresh .fresh .ensures) (after-expr .expr .ensures) (after-keep .keep .ensures)
+    (gave-at _ (after-raised .raised .ensures) (after-expr2 .expr2 .ensures)) (after-keep2 .keep2 .ensures) (after-by-constant .by-constant .ensures)
+    (after-blame .blame .ensures) (after-for-test .for-test .ensures) (after-push .push .ensures) (start .pre .1 .0) in
+    (omega (arith, for-to-room t h), omega arith, omega arith, f)
 
 for-to-command-requires : (t : ℕ) → for-to-lts.Need-command-requires (for-to-cs t) (at for-to-rank t) for-to.Post
 for-to-command-requires t c κs =
@@ -381,14 +276,6 @@ for-to-command-requires t c κs =
     (after-keep .keep .ensures) (gave-at _ (after-raised .raised .ensures) (after-expr2 .expr2 .ensures)) (after-keep2 .keep2 .ensures)
     (after-by-constant .by-constant .ensures) (after-blame .blame .ensures) (after-for-test .for-test .ensures) (after-push .push .ensures)
     (after-push-name .push-name .ensures) refl (start .pre .1 .0)))
-
-for-to-for-step-requires : (t : ℕ) → for-to-lts.Need-for-step-requires (for-to-cs t) (at for-to-rank t) for-to.Post
-for-to-for-step-requires t c κs =
-    let start = c .before .before .before .before .before .before .before .before .before .before .before .before .before .before .before .before
-    .before .before .before .before .before .before .before .before .before .before .before .before .before .before .before .before .before .before
-    .before .before .before .before .before .before .before .before .before .before .before .before .before .before .before .before .before .before
-    .before .before .before .before .before .before .before .before .before .before .before .before .before .before in
-    (omega (arith, start .pre .1 .0 .height), omega (arith, start .pre .1 .0 .label))
 
 for-to-same-length : (t : ℕ) → for-to-lts.Need-same-length (for-to-cs t) (at for-to-rank t) for-to.Post
 for-to-same-length t c =
@@ -438,9 +325,22 @@ for-to-ok t =
     for-to-lts.spec (for-to-cs t) (at for-to-rank t) for-to.Post (λ c κs. search needs) (λ c κs. search needs) (λ c κs. search needs)
     (λ c κs. search needs) (λ c κs. omega arith) (for-to-expr-requires t) (for-to-keep-requires t) (for-to-raised-requires t)
     (for-to-expr-requires-2 t) (for-to-add-keep t) (for-to-keep-requires-2 t) (for-to-by-constant-requires t) (λ c _. c .by-constant .ensures .fits)
-    (for-to-for-test-requires t) (for-to-push-requires t) (for-to-add-push-name t) (for-to-mul-push-name t) (for-to-add-push-name-2 t)
-    (for-to-push-name-requires t) (for-to-add-set-at t) (for-to-add-set-at-2 t) (λ c κs. search needs) (for-to-add-in-loop t) (for-to-add-in-loop-2 t)
-    (λ c κs. search needs) (for-to-command-requires t) (for-to-for-step-requires t) (for-to-same-length t) (for-to-same-length-2 t) (for-to-returns t)
+    (for-to-for-test-requires t) (for-to-push-requires t) (λ c. let h = c .before .before .before .before .before .before .before .before in
+    let y = for-to-start t h .pre .1 .0 in omega (arith, for-to-room t h))
+    (λ c. let y = for-to-start t (c .before .before .before .before .before .before .before .before .before) .pre .1 .0 in omega arith)
+    (λ c. let y = for-to-start t (c .before .before .before .before .before .before .before .before .before) .pre .1 .0 in omega arith)
+    (for-to-push-name-requires t) (λ c. let h = c .before .before .before .before .before .before .before .before .before .before .before .before
+    .before in let y = for-to-start t h .pre .1 .0 in omega (arith, for-to-room t h))
+    (λ c. let y = for-to-start t (c .before .before .before .before .before .before .before .before .before .before .before .before .before
+    .before) .pre .1 .0 in omega arith) (λ c κs. search needs)
+    (λ c. let y = for-to-start t (c .before .before .before .before .before .before .before .before .before .before .before .before .before .before
+    .before .before .before .before) .pre .1 .0 in omega arith)
+    (λ c. let y = for-to-start t (c .before .before .before .before .before .before .before .before .before .before .before .before .before .before
+    .before .before .before .before .before) .pre .1 .0 in omega arith)
+    (λ c κs. search needs) (for-to-command-requires t) (λ c κs. let y = for-to-start t
+    (c .before .before .before .before .before .before .before .before .before .before .before .before .before .before .before .before .before .before
+    .before .before .before .before .before .before .before .before) .pre .1 .0 in (omega arith, omega arith))
+    (for-to-same-length t) (for-to-same-length-2 t) (for-to-returns t)
 
 abbrev form-cs : ℕ → form-lts.Claims
 form-cs t = (put-to.Asked, put-to.Learnt, below expr-rank t, expr.Post, jump-when.Asked, jump-when.Learnt)

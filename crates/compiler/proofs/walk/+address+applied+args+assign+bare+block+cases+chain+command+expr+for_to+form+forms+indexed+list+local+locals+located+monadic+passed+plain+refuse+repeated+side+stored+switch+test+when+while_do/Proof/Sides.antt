@@ -38,7 +38,8 @@ use proofs.steps.raised.Reads as raised-reads
 use proofs.steps.store_indexed.Reads as store-indexed
 use proofs.steps.store_through.Reads as store-through
 use proofs.steps.wrong.Reads as wrong
-use cycle.Proof.Ranks.{at, below, both, eight, nine, address-rank, applied-rank, assign-rank, expr-rank, located-rank, refuse-rank, side-rank, stored-rank}
+use cycle.Proof.Ranks.{at, below, both, eight, nine, address-rank, applied-rank, assign-rank, expr-rank, located-rank, refuse-rank, side-rank}
+use cycle.Proof.Ranks.{stored-rank}
 
 abbrev address-cs : ℕ → address-lts.Claims
 address-cs t =
