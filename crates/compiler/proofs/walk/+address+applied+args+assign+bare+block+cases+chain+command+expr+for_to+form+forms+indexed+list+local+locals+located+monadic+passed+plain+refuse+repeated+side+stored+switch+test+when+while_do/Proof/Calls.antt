@@ -1,7 +1,7 @@
 -- A primary with what follows it: indices and calls, and their arguments.
 use Rattle.compiler.proofs as proofs
 use Rattle.compiler.proofs.walk.+address+applied+args+assign+bare+block+cases+chain+command+expr+for_to+form+forms+indexed+list+local+locals+located+monadic+passed+plain+refuse+repeated+side+stored+switch+test+when+while_do as cycle
-use Rattle.compiler.proofs.Basics.{_-_, ℕ, _∙_, _≡_, refl, length, arith, needs}
+use Rattle.compiler.proofs.Basics.{_<_, _-_, ℕ, _∙_, _≡_, refl, length, arith, needs}
 use Rattle.compiler.proofs.Vocabulary.{raised, ReadyArgs}
 use Rattle.compiler.proofs.Calls.{indexed-gave, passed-gave, with-state, args-with, ArgsPart, args-begin, args-part, args-next, args-end}
 use Rattle.compiler.proofs.Calls.{primary-part, primary-gave, index-left, index-right, index-gave, call-args, call-callee, call-gave, call-few}
@@ -71,32 +71,14 @@ applied-passed-requires t c κs =
     (call-args (after-if1 .if1 .left) (after-less3 .less3 .ensures) (after-entry2 .entry2 .ensures .0) (after-less .less .ensures)
     (after-entry .entry .ensures .0) (after-less2 .less2 .ensures) (after-if2 .if2 .left) (start .pre .1))
 
-applied-add-raised : (t : ℕ) → applied-lts.Need-add-raised (applied-cs t) (at applied-rank t) applied.Post
-applied-add-raised t c =
-    let after-count = c .before .before .before .before .before .before .before .before .before in let after-if2 = after-count .before .before in
-    let after-entry2 = after-if2 .before in let after-less3 = after-entry2 .before in let after-less2 = after-less3 .before .before in
-    let after-entry = after-less2 .before in let after-less = after-entry .before .before in let after-if1 = after-less .before in
-    let start = after-if1 .before .before .before .before in
-    omega (
-      arith,
-      call-few (after-if1 .if1 .left) (after-less3 .less3 .ensures) (after-entry2 .entry2 .ensures .0) (after-less .less .ensures)
-          (after-entry .entry .ensures .0) (after-less2 .less2 .ensures) (after-if2 .if2 .left) (after-count .count .ensures) (start .pre .1),
-      start .pre .1 .ready .small,
-    )
-
-applied-raised-requires : (t : ℕ) → applied-lts.Need-raised-requires (applied-cs t) (at applied-rank t) applied.Post
-applied-raised-requires t c κs =
-    let after-count = c .before .before .before .before .before .before .before .before .before in let after-if2 = after-count .before .before in
-    let after-entry2 = after-if2 .before in let after-less3 = after-entry2 .before in let after-less2 = after-less3 .before .before in
-    let after-entry = after-less2 .before in let after-less = after-entry .before .before in let after-if1 = after-less .before in
-    let start = after-if1 .before .before .before .before in
-    omega (
-      arith,
-      call-few (after-if1 .if1 .left) (after-less3 .less3 .ensures) (after-entry2 .entry2 .ensures .0) (after-less .less .ensures)
-          (after-entry .entry .ensures .0) (after-less2 .less2 .ensures) (after-if2 .if2 .left) (after-count .count .ensures) (start .pre .1),
-      start .pre .1 .ready .small,
-      start .pre .1 .ready .height,
-    )
+applied-few : (t : ℕ) (c : applied-lts.After-count (applied-cs t) (at applied-rank t) applied.Post) → c .count .result
+    < c .before .before .before .before .before .before .before .before .before .before .before .before .before .before .args .end
+applied-few t c =
+    let after-if2 = c .before .before in let after-entry2 = after-if2 .before in let after-less3 = after-entry2 .before in
+    let after-less2 = after-less3 .before .before in let after-entry = after-less2 .before in let after-less = after-entry .before .before in
+    let after-if1 = after-less .before in let start = after-if1 .before .before .before .before in
+    call-few (after-if1 .if1 .left) (after-less3 .less3 .ensures) (after-entry2 .entry2 .ensures .0) (after-less .less .ensures)
+    (after-entry .entry .ensures .0) (after-less2 .less2 .ensures) (after-if2 .if2 .left) (c .count .ensures) (start .pre .1)
 
 applied-applied-requires-2 : (t : ℕ) → applied-lts.Need-applied-requires-2 (applied-cs t) (at applied-rank t) applied.Post
 applied-applied-requires-2 t c κs =
@@ -127,8 +109,12 @@ applied-ok t =
     applied-lts.spec (applied-cs t) (at applied-rank t) applied.Post (λ c κs. search (needs, primary-part)) (λ c. search needs) (λ c. search needs)
     (λ c. search primary-gave) (λ c κs. search needs) (λ c κs. search needs) (λ c κs. search needs) (λ c κs. search needs) (λ c κs. search needs)
     (applied-applied-requires t) (applied-indexed-requires t) (λ c. search needs) (λ c. search needs) (applied-returns-2 t) (λ c κs. omega arith)
-    (applied-passed-requires t) (applied-add-raised t) (applied-raised-requires t) (applied-applied-requires-2 t) (λ c κs. search needs)
-    (λ c. search needs) (λ c. search needs) (applied-returns-3 t)
+    (applied-passed-requires t) (λ c. let h = c .before .before .before .before .before .before .before .before .before in
+    let y = h .before .before .before .before .before .before .before .before .before .before .before .before .before .before .pre .1 .ready in
+    omega (arith, applied-few t h)) (λ c κs. let h = c .before .before .before .before .before .before .before .before .before in
+    let y = h .before .before .before .before .before .before .before .before .before .before .before .before .before .before .pre .1 .ready in
+    omega (arith, applied-few t h)) (applied-applied-requires-2 t) (λ c κs. search needs) (λ c. search needs) (λ c. search needs) (applied-returns-3
+    t)
 
 abbrev args-cs : ℕ → args-lts.Claims
 args-cs t = (entry.Asked, entry.Learnt, raised-reads.Asked, raised-reads.Learnt, below expr-rank t, expr.Post, keep.Asked, keep.Learnt)

@@ -5,7 +5,7 @@ use Rattle.compiler.proofs.Switches.{CasesPart, cases-begin, case-part,
 use Rattle.compiler.proofs.Switches.{switch-gave, gave-cases-at}
 use Rattle.compiler.specs.Commands.{ReadyCases}
 use Rattle.compiler.proofs.Conditions.{test-first, test-body, test-rest, test-gave}
-use Rattle.compiler.proofs.Basics.{_≤_, _-_, ℕ, _∙_, _≡_, refl, length, arith, needs}
+use Rattle.compiler.proofs.Basics.{_+_, _^_, _≤_, _-_, ℕ, _∙_, _≡_, refl, length, arith, needs}
 use Rattle.compiler.proofs.Guards.{guard-test, guard-body, guard-gave}
 use borrow.Fn.PlainCycle.{is}
 use proofs.walk.args.Reads as args
@@ -155,25 +155,15 @@ switch-cs t =
     (doubled.Asked, doubled.Learnt) (table.Asked, table.Learnt) (in-switch.Asked, in-switch.Learnt) (below cases-rank t, cases.Post)
     (mark.Asked, mark.Learnt)
 
-switch-add-fresh : (t : ℕ) → switch-lts.Need-add-fresh (switch-cs t) (at switch-rank t) switch.Post
-switch-add-fresh t c =
+switch-fit : (t : ℕ) (c : switch-lts.After-count (switch-cs t) (at switch-rank t) switch.Post)
+    → let after-expr = c .before .before .before .before .before .before in
+    (after-expr .expr .result .label + c .count .result + 1 ≤ 2 ^ 29) ×
+    (after-expr .before .before .before .before .before .before .before .before .before .args .st .label ≤ after-expr .expr .result .label)
+switch-fit t c =
     let after-expr = c .before .before .before .before .before .before in let after-node-at = after-expr .before .before .before .before in
     let start = after-node-at .before .before .before .before .before in
-    omega (
-      arith,
-      switch-few _ (after-node-at .node-at .ensures) (start .pre .1 .1 .is) refl (start .args .source .now) (after-expr .expr .ensures)
-          (c .count .ensures) (start .pre .1 .0),
-    )
-
-switch-fresh-requires : (t : ℕ) → switch-lts.Need-fresh-requires (switch-cs t) (at switch-rank t) switch.Post
-switch-fresh-requires t c κs =
-    let after-expr = c .before .before .before .before .before .before in let after-node-at = after-expr .before .before .before .before in
-    let start = after-node-at .before .before .before .before .before in
-    omega (
-      arith,
-      switch-few _ (after-node-at .node-at .ensures) (start .pre .1 .1 .is) refl (start .args .source .now) (after-expr .expr .ensures)
-          (c .count .ensures) (start .pre .1 .0),
-    )
+    switch-few _ (after-node-at .node-at .ensures) (start .pre .1 .1 .is) refl (start .args .source .now) (after-expr .expr .ensures)
+    (c .count .ensures) (start .pre .1 .0)
 
 switch-doubled-requires : (t : ℕ) → switch-lts.Need-doubled-requires (switch-cs t) (at switch-rank t) switch.Post
 switch-doubled-requires t c κs =
@@ -181,45 +171,12 @@ switch-doubled-requires t c κs =
     let start = after-node-at .before .before .before .before .before in
     omega (arith, after-node-at .node-at .ensures .inner, start .pre .1 .0 .small)
 
-switch-add-table : (t : ℕ) → switch-lts.Need-add-table (switch-cs t) (at switch-rank t) switch.Post
-switch-add-table t c =
-    let after-count = c .before .before .before .before .before .before in
-    let after-expr = after-count .before .before .before .before .before .before in let after-node-at = after-expr .before .before .before .before in
-    let start = after-node-at .before .before .before .before .before in
-    omega (
-      arith,
-      switch-few _ (after-node-at .node-at .ensures) (start .pre .1 .1 .is) refl (start .args .source .now) (after-expr .expr .ensures)
-          (after-count .count .ensures) (start .pre .1 .0),
-    )
-
 switch-table-requires : (t : ℕ) → switch-lts.Need-table-requires (switch-cs t) (at switch-rank t) switch.Post
 switch-table-requires t c κs =
     let after-count = c .before .before .before .before .before .before in
-    let after-expr = after-count .before .before .before .before .before .before in let after-node-at = after-expr .before .before .before .before in
-    let start = after-node-at .before .before .before .before .before in (
-      omega (arith, after-node-at .node-at .ensures .inner, start .pre .1 .0 .small),
-      omega (
-        arith,
-        switch-few _ (after-node-at .node-at .ensures) (start .pre .1 .1 .is) refl (start .args .source .now) (after-expr .expr .ensures)
-            (after-count .count .ensures) (start .pre .1 .0),
-      ),
-      omega (
-        arith,
-        switch-few _ (after-node-at .node-at .ensures) (start .pre .1 .1 .is) refl (start .args .source .now) (after-expr .expr .ensures)
-            (after-count .count .ensures) (start .pre .1 .0),
-      ),
-    )
-
-switch-add-cases : (t : ℕ) → switch-lts.Need-add-cases (switch-cs t) (at switch-rank t) switch.Post
-switch-add-cases t c =
-    let after-count = c .before .before .before .before .before .before .before .before .before .before .before .before .before in
-    let after-expr = after-count .before .before .before .before .before .before in let after-node-at = after-expr .before .before .before .before in
-    let start = after-node-at .before .before .before .before .before in
-    omega (
-      arith,
-      switch-few _ (after-node-at .node-at .ensures) (start .pre .1 .1 .is) refl (start .args .source .now) (after-expr .expr .ensures)
-          (after-count .count .ensures) (start .pre .1 .0),
-    )
+    let after-node-at = after-count .before .before .before .before .before .before .before .before .before .before in
+    let start = after-node-at .before .before .before .before .before in let f = switch-fit t after-count in
+    (omega (arith, after-node-at .node-at .ensures .inner, start .pre .1 .0 .small), omega arith, omega arith)
 
 switch-cases-requires : (t : ℕ) → switch-lts.Need-cases-requires (switch-cs t) (at switch-rank t) switch.Post
 switch-cases-requires t c κs =
@@ -227,14 +184,9 @@ switch-cases-requires t c κs =
     let after-fresh = after-doubled .before .before in let after-count = after-fresh .before in
     let after-expr = after-count .before .before .before .before .before .before in let after-node-at = after-expr .before .before .before .before in
     let start = after-node-at .before .before .before .before .before in
-    both (omega (arith, start .pre .0))
-    (both (switch-cases _ (after-node-at .node-at .ensures) (start .pre .1 .1 .is) refl _ (after-expr .expr .ensures) (after-count .count .ensures)
-    (after-fresh .fresh .ensures) (after-doubled .doubled .ensures) refl (after-table .table .ensures) (start .pre .1 .0))
-    (omega (
-      arith,
-      switch-few _ (after-node-at .node-at .ensures) (start .pre .1 .1 .is) refl (start .args .source .now) (after-expr .expr .ensures)
-          (after-count .count .ensures) (start .pre .1 .0),
-    )))
+    both (omega (arith, start .pre .0)) (both (switch-cases _ (after-node-at .node-at .ensures) (start .pre .1 .1 .is) refl _
+    (after-expr .expr .ensures) (after-count .count .ensures) (after-fresh .fresh .ensures) (after-doubled .doubled .ensures) refl
+    (after-table .table .ensures) (start .pre .1 .0)) (omega (arith, switch-fit t after-count)))
 
 switch-same-length : (t : ℕ) → switch-lts.Need-same-length (switch-cs t) (at switch-rank t) switch.Post
 switch-same-length t c =
@@ -264,9 +216,10 @@ switch-returns t c =
 pub switch-ok : {M : Type 1} (t : ℕ) → switch-lts.Closed (switch-cs t) (at switch-rank t) switch.Post M
 switch-ok t =
     switch-lts.spec (switch-cs t) (at switch-rank t) switch.Post (λ c κs. search needs) (λ c. omega arith) (λ c κs. search (needs, switch-value))
-    (λ c κs. omega arith) (switch-add-fresh t) (switch-fresh-requires t) (switch-doubled-requires t) (switch-add-table t) (switch-table-requires t)
-    (λ c κs. search needs) (switch-add-cases t) (switch-cases-requires t) (λ c κs. search needs) (switch-same-length t) (switch-same-length-2 t)
-    (switch-returns t)
+    (λ c κs. omega arith) (λ c. omega (arith, switch-fit t c)) (λ c κs. omega (arith, switch-fit t c)) (switch-doubled-requires t)
+    (λ c. omega (arith, switch-fit t (c .before .before .before .before .before .before))) (switch-table-requires t) (λ c κs. search needs)
+    (λ c. omega (arith, switch-fit t (c .before .before .before .before .before .before .before .before .before .before .before .before .before)))
+    (switch-cases-requires t) (λ c κs. search needs) (switch-same-length t) (switch-same-length-2 t) (switch-returns t)
 
 abbrev cases-cs : ℕ → cases-lts.Claims
 cases-cs t = (entry.Asked, entry.Learnt, mark.Asked, mark.Learnt, below bare-rank t, bare.Post)

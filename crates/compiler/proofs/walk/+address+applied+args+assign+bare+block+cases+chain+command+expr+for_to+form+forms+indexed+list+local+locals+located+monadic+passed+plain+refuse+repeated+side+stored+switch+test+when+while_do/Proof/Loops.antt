@@ -6,7 +6,7 @@ use Rattle.compiler.proofs.Fors.{for-room, for-first, for-limit, for-ke
 use Rattle.compiler.proofs.Conditions.{while-test, while-body, while-gave}
 use Rattle.compiler.proofs.RepeatForms.{FormsPart, forms-begin, forms-part, forms-next, forms-end, form-alone, form-tested, repeated-few}
 use Rattle.compiler.proofs.RepeatForms.{repeated-body, repeated-forms, repeated-gave, once-part, once-gave}
-use Rattle.compiler.proofs.Basics.{_+_, _≤_, _-_, ℕ, _∙_, _≡_, refl, length, arith, needs}
+use Rattle.compiler.proofs.Basics.{_*_, _^_, _+_, _≤_, _-_, ℕ, _∙_, _≡_, refl, length, arith, needs}
 use Rattle.compiler.specs.Walked.{raised}
 use Rattle.compiler.proofs.Commands.{gave-c-at, gave-u-at}
 use Rattle.compiler.proofs.Expressions.{ready-at, gave-at, left-at}
@@ -411,65 +411,11 @@ repeated-cs t =
     eight (node-at.Asked, node-at.Learnt) (count.Asked, count.Learnt) (less.Asked, less.Learnt) (fresh.Asked, fresh.Learnt) (tops.Asked, tops.Learnt)
     (in-loop.Asked, in-loop.Learnt) (below plain-rank t, plain.Post) (below forms-rank t, forms.Post)
 
-repeated-mul-less : (t : ℕ) → repeated-lts.Need-mul-less (repeated-cs t) (at repeated-rank t) repeated.Post
-repeated-mul-less t c =
-    omega (
-      arith,
-      repeated-few _ (c .before .before .before .before .before .node-at .ensures) (c .before .before .before .if1 .taken) refl
-          (c .count .ensures) (c .before .before .before .before .before .before .before .before .before .before .pre .1),
-    )
-
-repeated-add-less : (t : ℕ) → repeated-lts.Need-add-less (repeated-cs t) (at repeated-rank t) repeated.Post
-repeated-add-less t c =
-    omega (
-      arith,
-      repeated-few _ (c .before .before .before .before .before .before .node-at .ensures) (c .before .before .before .before .if1 .taken) refl
-          (c .before .count .ensures) (c .before .before .before .before .before .before .before .before .before .before .before .pre .1),
-    )
-
-repeated-mul-fresh : (t : ℕ) → repeated-lts.Need-mul-fresh (repeated-cs t) (at repeated-rank t) repeated.Post
-repeated-mul-fresh t c =
-    omega (
-      arith,
-      repeated-few _ (c .before .before .before .before .before .before .before .node-at .ensures)
-          (c .before .before .before .before .before .if1 .taken) refl (c .before .before .count .ensures)
-          (c .before .before .before .before .before .before .before .before .before .before .before .before .pre .1),
-    )
-
-repeated-fresh-requires : (t : ℕ) → repeated-lts.Need-fresh-requires (repeated-cs t) (at repeated-rank t) repeated.Post
-repeated-fresh-requires t c κs =
-    omega (
-      arith,
-      repeated-few _ (c .before .before .before .before .before .before .before .node-at .ensures)
-          (c .before .before .before .before .before .if1 .taken) refl (c .before .before .count .ensures)
-          (c .before .before .before .before .before .before .before .before .before .before .before .before .pre .1),
-    )
-
-repeated-tops-requires : (t : ℕ) → repeated-lts.Need-tops-requires (repeated-cs t) (at repeated-rank t) repeated.Post
-repeated-tops-requires t c κs =
-    let after-count = c .before .before .before .before in let after-if1 = after-count .before .before .before in
-    let after-node-at = after-if1 .before .before in let start = after-node-at .before .before .before .before .before in
-    omega (arith, repeated-few _ (after-node-at .node-at .ensures) (after-if1 .if1 .taken) refl (after-count .count .ensures) (start .pre .1))
-
-repeated-add-in-loop : (t : ℕ) → repeated-lts.Need-add-in-loop (repeated-cs t) (at repeated-rank t) repeated.Post
-repeated-add-in-loop t c =
-    omega (
-      arith,
-      (let after-count = c .before .before .before .before .before .before .before .before .before in let after-if1 =
-          after-count .before .before .before in let after-node-at = after-if1 .before .before in let start =
-          after-node-at .before .before .before .before .before in repeated-few _ (after-node-at .node-at .ensures) (after-if1 .if1 .taken) refl
-          (after-count .count .ensures) (start .pre .1)),
-    )
-
-repeated-add-in-loop-2 : (t : ℕ) → repeated-lts.Need-add-in-loop-2 (repeated-cs t) (at repeated-rank t) repeated.Post
-repeated-add-in-loop-2 t c =
-    omega (
-      arith,
-      (let after-count = c .before .before .before .before .before .before .before .before .before in let after-if1 =
-          after-count .before .before .before in let after-node-at = after-if1 .before .before in let start =
-          after-node-at .before .before .before .before .before in repeated-few _ (after-node-at .node-at .ensures) (after-if1 .if1 .taken) refl
-          (after-count .count .ensures) (start .pre .1)),
-    )
+repeated-fit : (t : ℕ) (c : repeated-lts.After-count (repeated-cs t) (at repeated-rank t) repeated.Post) → (1 ≤ c .count .result) ×
+    (c .before .before .before .before .before .before .before .before .before .before .args .st .label + 3 * c .count .result + 3 ≤ 2 ^ 29)
+repeated-fit t c =
+    repeated-few _ (c .before .before .before .before .before .node-at .ensures) (c .before .before .before .if1 .taken) refl (c .count .ensures)
+    (c .before .before .before .before .before .before .before .before .before .before .pre .1)
 
 repeated-plain-requires : (t : ℕ) → repeated-lts.Need-plain-requires (repeated-cs t) (at repeated-rank t) repeated.Post
 repeated-plain-requires t c κs =
@@ -486,15 +432,10 @@ repeated-forms-requires t c κs =
     let after-tops = after-in-loop .before .before .before .before .before in let after-fresh = after-tops .before .before in
     let after-less = after-fresh .before in let after-count = after-less .before .before in let after-if1 = after-count .before .before .before in
     let after-node-at = after-if1 .before .before in let start = after-node-at .before .before .before .before .before in
-    both (omega (arith, start .pre .0)) (both
-    (repeated-forms _ (after-node-at .node-at .ensures) (after-if1 .if1 .taken) refl (after-count .count .ensures) (after-fresh .fresh .ensures)
-    (after-tops .tops .ensures) (start .args .source .now) (start .args .ways) (after-less .less .ensures)
-    (gave-u-at (start .args .source .now) refl (after-in-loop .in-loop .ensures) (after-plain .plain .ensures)) (start .pre .1))
-    (omega (
-      arith,
-      repeated-few _ (after-node-at .node-at .ensures) (after-if1 .if1 .taken) refl (after-count .count .ensures) (start .pre .1),
-      after-less .less .ensures,
-    )))
+    both (omega (arith, start .pre .0)) (both (repeated-forms _ (after-node-at .node-at .ensures) (after-if1 .if1 .taken) refl
+    (after-count .count .ensures) (after-fresh .fresh .ensures) (after-tops .tops .ensures) (start .args .source .now) (start .args .ways)
+    (after-less .less .ensures) (gave-u-at (start .args .source .now) refl (after-in-loop .in-loop .ensures) (after-plain .plain .ensures))
+    (start .pre .1)) (omega (arith, repeated-fit t after-count, after-less .less .ensures)))
 
 repeated-returns : (t : ℕ) → repeated-lts.Need-returns (repeated-cs t) (at repeated-rank t) repeated.Post
 repeated-returns t c =
@@ -509,7 +450,10 @@ repeated-returns t c =
 pub repeated-ok : {M : Type 1} (t : ℕ) → repeated-lts.Closed (repeated-cs t) (at repeated-rank t) repeated.Post M
 repeated-ok t =
     repeated-lts.spec (repeated-cs t) (at repeated-rank t) repeated.Post (λ c κs. search needs) (λ c. omega arith) (λ c κs. omega arith)
-    (repeated-mul-less t) (repeated-add-less t) (λ c κs. search needs) (repeated-mul-fresh t) (repeated-fresh-requires t) (repeated-tops-requires t)
-    (repeated-add-in-loop t) (repeated-add-in-loop-2 t) (λ c κs. search needs) (repeated-plain-requires t) (repeated-forms-requires t)
-    (λ c. search needs) (λ c. search needs) (repeated-returns t) (λ c κs. search (needs, once-part)) (λ c. search needs) (λ c. search needs)
-    (λ c. search once-gave)
+    (λ c. omega (arith, repeated-fit t c)) (λ c. omega (arith, repeated-fit t (c .before))) (λ c κs. search needs)
+    (λ c. omega (arith, repeated-fit t (c .before .before))) (λ c κs. omega (arith, repeated-fit t (c .before .before)))
+    (λ c κs. omega (arith, repeated-fit t (c .before .before .before .before)))
+    (λ c. omega (arith, repeated-fit t (c .before .before .before .before .before .before .before .before .before)))
+    (λ c. omega (arith, repeated-fit t (c .before .before .before .before .before .before .before .before .before))) (λ c κs. search needs)
+    (repeated-plain-requires t) (repeated-forms-requires t) (λ c. search needs) (λ c. search needs) (repeated-returns t)
+    (λ c κs. search (needs, once-part)) (λ c. search needs) (λ c. search needs) (λ c. search once-gave)
