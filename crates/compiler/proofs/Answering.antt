@@ -14,13 +14,11 @@ use Rattle.language.specs.Source.{good, symbolsOf, parsed, readSymbols}
 use Rattle.language.specs.Reader.{ok}
 use Rattle.language.specs.Grammar.{treeOf}
 use Rattle.language.specs.Tree as T
-use Rattle.language.specs.Tree.{Program, Function}
-use Rattle.language.specs.Constants.{Fault}
-use Rattle.language.specs.Resolved.{Start, nowhere, inGlobal}
+use Rattle.compiler.proofs.Language.{Program, Function, Fault, Start, nowhere, inGlobal, programDepth, FineProgram, encodeItems}
+use Rattle.compiler.proofs.Language.{encodeFunctions, encodeProgram}
 use Rattle.language.specs.Program.{Refused, accepted, refused, leastOr, rulesRefuse, Walk, begin, Named, afterDeclaration, functionsFrom, functionsOf}
 use Rattle.language.specs.Program.{faultsFrom, faultsOfProgram, heightFaults, hasStart, startsInOne, functionsAfter, groupOf}
 use Rattle.language.specs.Whole.{functionsIn, stringsIn, stringsAmong, funs, unlessFits}
-use Rattle.language.proofs.Depth.{programDepth}
 use Rattle.language.proofs.CommandDepths.{LowProgram, low-program}
 use Rattle.language.proofs.Forming.{length-funs, group-length}
 use Rattle.language.proofs.Gives as Gives
@@ -29,11 +27,9 @@ use Rattle.language.proofs.Takes.{Counts}
 use Rattle.language.proofs.Tokens.{programTokens}
 use Rattle.language.proofs.ReadTokens.{program as readProgram}
 use Rattle.language.proofs.SymbolFacts.{scan-length, cost, cost-length, symbolsNow, sourceNow, counts}
-use Rattle.language.specs.Fine.{FineProgram}
 use Rattle.compiler.proofs.Vocabulary.{STRINGS, Lies}
 use Rattle.symbols.specs.Read.{entries, Reads}
 use Rattle.symbols.specs.declared.SymbolsRead.{SymbolsRead}
-use Rattle.tree.specs.Encoding.{encodeItems, encodeFunctions, encodeProgram}
 use Rattle.tree.specs.Read.{padded, decoded}
 use Rattle.code.specs.Generate.{functionsCode, stringsCode, startsCode, itemsOf, textOf}
 use Rattle.writing.specs.Text.{Text, Puts, over, lines}

@@ -1,11 +1,8 @@
 -- What an expression may leave is of no account but for RETURN: its faults are the same anywhere.
 use Rattle.compiler.proofs.Basics.{ℕ, _+_, _≡_, refl, List, _++_}
 use Rattle.language.specs.Tree as T
-use Rattle.language.specs.Tree.{Expression, Expressions, Suffixes, Operations}
-use Rattle.language.specs.Names.{Scope}
-use Rattle.language.specs.Constants.{Fault}
-use Rattle.language.specs.Resolve.{under}
-use Rattle.language.specs.Faults.{Leavable, inExpression, inSuffixes, inOperations, inExpressions}
+use Rattle.compiler.proofs.Language.{Expression, Expressions, Suffixes, Operations, Scope, Fault, under, Leavable, inExpression, inSuffixes}
+use Rattle.compiler.proofs.Language.{inOperations, inExpressions}
 use Rattle.compiler.proofs.Vocabulary.{State, Here, Ways, leavable, leavableBy, Did, Code}
 
 two : {a b c d : List Fault} → a ≡ b → c ≡ d → a ++ c ≡ b ++ d

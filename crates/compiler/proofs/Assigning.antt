@@ -2,20 +2,15 @@
 use Rattle.compiler.proofs.Basics.{ℕ, _+_, _*_, _-_, _≤_, _<_, _≡_, refl, sym, ap, subst, _∙_, List, [], _∷_, _++_, append-assoc, arith}
 use Rattle.compiler.proofs.Basics.{length, getD, length-append}
 use Rattle.language.specs.Tree as T
-use Rattle.language.specs.Tree.{Expression, Expressions, Unlabelled, placeOf}
-use Rattle.language.proofs.Depth.{depth, expressionsDepth, unlabelledDepth}
-use Rattle.language.specs.Names.{Scope}
-use Rattle.language.specs.Constants.{Fault}
+use Rattle.compiler.proofs.Language.{Expression, Expressions, Unlabelled, placeOf, depth, expressionsDepth, unlabelledDepth, Scope, Fault}
+use Rattle.compiler.proofs.Language.{expression, unlabelled, sides, pairUp, sideOf, targetOf, ofExpr, ofTarget, ofPairs, ofCmd, Leavable}
+use Rattle.compiler.proofs.Language.{inExpression, inUnlabelled, inSides, inRightSides, unlessSide, encode, encodeSides, encodeFirst}
+use Rattle.compiler.proofs.Language.{encodeExpressions, encodeUnlabelled, FineList, FineUnlabelled}
 use Rattle.language.specs.Resolved as R
-use Rattle.language.specs.Resolve.{expression, unlabelled, sides, pairUp, sideOf, targetOf}
-use Rattle.language.specs.Heights.{ofExpr, ofTarget, ofPairs, ofCmd}
 use Rattle.code.specs.Generate as G
-use Rattle.language.specs.Faults.{Leavable, inExpression, inUnlabelled, inSides, inRightSides, unlessSide}
-use Rattle.tree.specs.Encoding.{encode, encodeSides, encodeFirst, encodeExpressions, encodeUnlabelled}
 use Rattle.compiler.proofs.Vocabulary.{Keeps, State, Here, Node, Ways, FineE, FineEs, FinePlain, raised, leavable, leavableBy, NodeAt, Did}
 use Rattle.compiler.proofs.Vocabulary.{Lies, Result, ReadyE, GaveE}
 use Rattle.compiler.proofs.Scoping.{keeps-all, keeps-then}
-use Rattle.language.specs.Fine.{FineList, FineUnlabelled}
 use Rattle.compiler.specs.Commands.{cmdSays, targetSays, pairsSays, GaveSide, ReadyU, GaveU}
 use Rattle.compiler.specs.Assigns.{encodeBoth, deepBoth, FineBoth, ReadyAssign, GaveAssign}
 use Rattle.compiler.proofs.Done.{Same, same-refl, same-eq, same-swap, same-then, same-both, did-none, did-then, did-as, code-is}

@@ -3,14 +3,9 @@ use Rattle.compiler.proofs.Basics.{ℕ, _+_, _-_, _≤_, _≡_, refl, s
 use Rattle.compiler.proofs.Basics.{ne-eqb}
 use Rattle.language.specs.Kinds as K
 use Rattle.language.specs.Tree as T
-use Rattle.language.specs.Tree.{Expression, Unlabelled}
-use Rattle.language.proofs.Depth.{depth, unlabelledDepth}
-use Rattle.language.specs.Resolve.{unlabelled}
-use Rattle.language.specs.Fine.{FineUnlabelled}
-use Rattle.language.specs.Faults.{inUnlabelled}
-use Rattle.language.specs.Heights.{ofCmd}
+use Rattle.compiler.proofs.Language.{Expression, Unlabelled, depth, unlabelledDepth, unlabelled, FineUnlabelled, inUnlabelled, ofCmd, encode}
+use Rattle.compiler.proofs.Language.{encodeUnlabelled}
 use Rattle.tree.specs.Encoding as O
-use Rattle.tree.specs.Encoding.{encode, encodeUnlabelled}
 use Rattle.code.specs.Generate as G
 use Rattle.compiler.proofs.Vocabulary.{State, Here, Ways, Node, FineE, FinePlain, leavableBy, NodeAt, Emits, Faulted, LeavesTo, Lies, Result}
 use Rattle.compiler.proofs.Vocabulary.{ReadyE, GaveE}

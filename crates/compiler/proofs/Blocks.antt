@@ -2,23 +2,19 @@
 use Rattle.compiler.proofs.Basics.{ℕ, suc, _+_, _*_, _-_, _≤_, _<_, _≡_, refl, sym, ap, subst, _∙_, List, _++_, append-assoc, arith, length}
 use Rattle.compiler.proofs.Basics.{getD}
 use Rattle.language.specs.Tree as T
-use Rattle.language.specs.Tree.{Name, Expressions, Command, Commands, Unlabelled}
-use Rattle.language.proofs.Depth.{commandDepth, commandsDepth, unlabelledDepth, localsDepth}
+use Rattle.compiler.proofs.Language.{Name, Expressions, Command, Commands, Unlabelled, commandDepth, commandsDepth, unlabelledDepth}
+use Rattle.compiler.proofs.Language.{localsDepth, Scope, opened, declared, forVector, judgedWord, expressions, commands, unlabelled, locals}
+use Rattle.compiler.proofs.Language.{valuesBefore, declareAll, scopeAfter, heightAfter, ofExprs, ofLocals, ofCmd, ofCmds, Leavable, inCommands}
+use Rattle.compiler.proofs.Language.{inLocals, inUnlabelled, encodeCommand, encodeCommands, encodeUnlabelled, encodeLocals, FineCommands}
+use Rattle.compiler.proofs.Language.{FineLocals, FineUnlabelled}
 use Rattle.language.specs.Names as N
-use Rattle.language.specs.Names.{Scope, opened, declared}
-use Rattle.language.specs.Constants.{forVector, judgedWord}
 use Rattle.language.specs.Resolved as R
-use Rattle.language.specs.Resolve.{expressions, commands, unlabelled, locals, valuesBefore, declareAll, scopeAfter, heightAfter}
 use Rattle.language.specs.Heights as H
-use Rattle.language.specs.Heights.{ofExprs, ofLocals, ofCmd, ofCmds}
 use Rattle.code.specs.Generate as G
-use Rattle.language.specs.Faults.{Leavable, inCommands, inLocals, inUnlabelled}
-use Rattle.tree.specs.Encoding.{encodeCommand, encodeCommands, encodeUnlabelled, encodeLocals}
 use Rattle.compiler.proofs.Vocabulary.{Shows, Keeps, Pushed, State, Here, Ways, Node, FineC, FineCs, FineLs, FinePlain, marked, placed}
 use Rattle.compiler.proofs.Vocabulary.{leavable, leavableBy, exits, NodeAt, Code, Did, Lies, Result}
 use Rattle.compiler.proofs.Scoping.{keeps-all, keeps-then, keeps-lower, pushed-keeps, pushed-mark}
 use Rattle.compiler.specs.declared.steps.Placed.{Placed}
-use Rattle.language.specs.Fine.{FineCommands, FineLocals, FineUnlabelled}
 use Rattle.compiler.specs.Commands.{cmdSays, cmdsSays, ReadyC, GaveC, ReadyU, GaveU, ReadyList, GaveList}
 use Rattle.compiler.specs.Locals.{Local, aVector, someValues, withLocal, encodeLocal, localDepth, FineLocal, scopeWith, heightWith, faultsL}
 use Rattle.compiler.specs.Locals.{localSays, ReadyLocal, GaveLocal, localsSays, ReadyLocals, GaveLocals}

@@ -2,11 +2,9 @@
 use Rattle.compiler.proofs.Basics.{ℕ, _≡_, refl, sym, ap, subst, _∙_, Bool, true, false, not, List, arith, length, eq-eqb, ne-eqb}
 use Rattle.language.specs.Kinds as K
 use Rattle.language.specs.Tree as T
-use Rattle.language.specs.Faults.{inExpression}
-use Rattle.language.proofs.Depth.{depth, commandDepth, bodyDepth}
+use Rattle.compiler.proofs.Language.{inExpression, depth, commandDepth, bodyDepth, encode, encodeCommand, encodeBody, bodyWord}
 use Rattle.language.specs.Program.{bodyFaults}
 use Rattle.code.specs.Generate as G
-use Rattle.tree.specs.Encoding.{encode, encodeCommand, encodeBody, bodyWord}
 use Rattle.compiler.proofs.Vocabulary.{FineE, FineC, Lies, Ready, Result, ReadyE, GaveE, State, Here, Ways}
 use Rattle.compiler.specs.Commands.{ReadyC, GaveC}
 use Rattle.compiler.specs.Groups.{FineB, bodySays, ReadyBody, GaveBody}

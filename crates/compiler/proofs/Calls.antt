@@ -2,23 +2,17 @@
 use Rattle.compiler.proofs.Basics.{ℕ, suc, _+_, _*_, _-_, _≤_, _<_, _≡_, refl, sym, ap, subst, _∙_, List, [], _∷_, _++_, append-nil}
 use Rattle.compiler.proofs.Basics.{append-assoc, arith, length, getD, length-append, List·getD-append, getD-append-add}
 use Rattle.language.specs.Tree as T
-use Rattle.language.specs.Tree.{Expression, Expressions, Suffixes}
-use Rattle.language.proofs.Depth.{depth, expressionsDepth, suffixesDepth}
-use Rattle.language.specs.Names.{Scope}
+use Rattle.compiler.proofs.Language.{Expression, Expressions, Suffixes, depth, expressionsDepth, suffixesDepth, Scope, Expr, expression}
+use Rattle.compiler.proofs.Language.{expressions, suffixes, under, ofExpr, ofExprs, Leavable, inExpression, inExpressions, inSuffixes, behind}
+use Rattle.compiler.proofs.Language.{encode, encodeExpressions, encodeSuffixes, Fine, FineList, FineSuffixes}
 use Rattle.language.specs.Resolved as R
-use Rattle.language.specs.Resolved.{Expr}
-use Rattle.language.specs.Resolve.{expression, expressions, suffixes, under}
 use Rattle.language.specs.Heights as H
-use Rattle.language.specs.Heights.{ofExpr, ofExprs}
 use Rattle.code.specs.Generate as G
 use Rattle.code.specs.Generate.{exprCode, exprsCode, exprLabels, exprsLabels}
-use Rattle.language.specs.Faults.{Leavable, inExpression, inExpressions, inSuffixes}
-use Rattle.tree.specs.Encoding.{behind, encode, encodeExpressions, encodeSuffixes}
 use Rattle.compiler.proofs.Vocabulary.{Keeps, State, Here, Node, FineE, FineEs, FineSs, inside, raised, leavable, NodeAt, Did, Emits, Reached}
 use Rattle.compiler.proofs.Vocabulary.{exprSays, exprsSays, Lies, Ready, Result, ReadyE, GaveE, faultsE, codeE, ReadyArgs, GaveArgs, Counts}
 use Rattle.compiler.proofs.Vocabulary.{encodeApplied, codeA, ReadySuffixes, GaveSuffixes, GaveIndexed, GavePassed}
 use Rattle.compiler.proofs.Scoping.{keeps-all, keeps-then, Order, lt, ge, order}
-use Rattle.language.specs.Fine.{Fine, FineList, FineSuffixes}
 use Rattle.compiler.proofs.Done.{did-emit, did-put, did-after, did-none, did-then, did-as, same-refl, same-eq, same-swap, same-then, code-is}
 use Rattle.compiler.proofs.Trees.{first, second, find, IsTwo, is-two, Case, aNumber, aString, aName, aBracket, aValof, aMonadic, aSuffixed}
 use Rattle.compiler.proofs.Trees.{aCalled, aDyadic}

@@ -3,22 +3,16 @@ use Rattle.compiler.proofs.Basics.{ℕ, _+_, _*_, _-_, _≤_, _<_, _≡
 use Rattle.compiler.proofs.Basics.{ne-eqb}
 use Rattle.items.specs.Item as I
 use Rattle.language.specs.Tree as T
-use Rattle.language.specs.Tree.{Expression, Command, Unlabelled}
-use Rattle.language.proofs.Depth.{depth, commandDepth, unlabelledDepth}
+use Rattle.compiler.proofs.Language.{Expression, Command, Unlabelled, depth, commandDepth, unlabelledDepth, Scope, opened, declared, fault}
+use Rattle.compiler.proofs.Language.{expression, command, unlabelled, ofExpr, ofCmd, unless, inExpression, inUnlabelled, encode}
+use Rattle.compiler.proofs.Language.{encodeUnlabelled, Fine, FineUnlabelled}
 use Rattle.language.specs.Names as N
-use Rattle.language.specs.Names.{Scope, opened, declared}
-use Rattle.language.specs.Constants.{fault}
-use Rattle.language.specs.Resolve.{expression, command, unlabelled}
-use Rattle.language.specs.Heights.{ofExpr, ofCmd}
 use Rattle.code.specs.Generate as G
 use Rattle.language.specs.Faults as Y
-use Rattle.language.specs.Faults.{unless, inExpression, inUnlabelled}
-use Rattle.tree.specs.Encoding.{encode, encodeUnlabelled}
 use Rattle.compiler.proofs.Vocabulary.{Keeps, Shows, Pushed, PushedName, code, nameAt, State, Here, Ways, Node, FineE, FineC, FinePlain}
 use Rattle.compiler.proofs.Vocabulary.{inside, inValof, leavable, leavableBy, NodeAt, Emits, Fresh, LeavesTo, Lies, Result, ReadyE, GaveE}
 use Rattle.compiler.proofs.Vocabulary.{faultsE, codeE}
 use Rattle.compiler.proofs.Scoping.{keeps-all, keeps-then, keeps-lower, keeps-name, pushed-keeps, pushed-mark, pushed-name}
-use Rattle.language.specs.Fine.{Fine, FineUnlabelled}
 use Rattle.compiler.specs.Commands.{cmdSays, ReadyC, GaveC, ReadyU, GaveU}
 use Rattle.compiler.proofs.Done.{did-put, did-then, did-as, did-at, did-fresh, same-eq, same-swap, same-then, code-is}
 use Rattle.compiler.proofs.Trees.{find, is-valof, ends}

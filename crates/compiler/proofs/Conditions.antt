@@ -4,20 +4,15 @@ use Rattle.compiler.proofs.Basics.{length, getD, length-append, eqb, ne
 use Rattle.items.specs.Item as I
 use Rattle.language.specs.Kinds as K
 use Rattle.language.specs.Tree as T
-use Rattle.language.specs.Tree.{Expression, Command, Unlabelled}
-use Rattle.language.proofs.Depth.{depth, commandDepth, unlabelledDepth}
-use Rattle.language.specs.Names.{Scope}
+use Rattle.compiler.proofs.Language.{Expression, Command, Unlabelled, depth, commandDepth, unlabelledDepth, Scope, expression, command}
+use Rattle.compiler.proofs.Language.{unlabelled, ofCmd, Leavable, inExpression, inCommand, inUnlabelled, encode, encodeCommand}
+use Rattle.compiler.proofs.Language.{encodeUnlabelled, FineUnlabelled}
 use Rattle.language.specs.Resolved as R
-use Rattle.language.specs.Resolve.{expression, command, unlabelled}
-use Rattle.language.specs.Heights.{ofCmd}
 use Rattle.code.specs.Generate as G
 use Rattle.language.specs.Faults as Y
-use Rattle.language.specs.Faults.{Leavable, inExpression, inCommand, inUnlabelled}
-use Rattle.tree.specs.Encoding.{encode, encodeCommand, encodeUnlabelled}
 use Rattle.compiler.proofs.Scoping.{keeps-all, keeps-then}
 use Rattle.compiler.proofs.Vocabulary.{State, Here, Ways, Node, FineE, FineC, FinePlain, inLoop, leavableBy, exits, NodeAt, Emits, Fresh, Lies}
 use Rattle.compiler.proofs.Vocabulary.{Result, ReadyE, GaveE}
-use Rattle.language.specs.Fine.{FineUnlabelled}
 use Rattle.compiler.specs.Commands.{cmdSays, ReadyC, GaveC, ReadyU, GaveU, WhileWord, aWhile, anUntil, WhileKind}
 use Rattle.compiler.proofs.Done.{emits-then, did-put, did-after, did-then, did-at, did-fresh, same-refl, same-eq, code-is}
 use Rattle.compiler.proofs.Trees.{first, second}

@@ -1,11 +1,9 @@
 -- How many items a list in scratch has: the loop over them, and lists of expressions, REPEAT forms and commands.
 use Rattle.compiler.proofs.Basics.{ℕ, suc, _+_, _≤_, _<_, _≡_, refl, sym, ap, _∙_, List, [], _∷_, _++_, arith, length, getD, length-append}
 use Rattle.language.specs.Tree as T
-use Rattle.language.specs.Tree.{Expressions, Repeats, Commands}
-use Rattle.language.specs.Names.{Scope}
-use Rattle.language.specs.Resolve.{caseList}
+use Rattle.compiler.proofs.Language.{Expressions, Repeats, Commands, Scope, caseList, encode, encodeExpressions, encodeRepeats, encodeCommand}
+use Rattle.compiler.proofs.Language.{encodeCommands}
 use Rattle.code.specs.Generate.{commandsIn}
-use Rattle.tree.specs.Encoding.{encode, encodeExpressions, encodeRepeats, encodeCommand, encodeCommands}
 use Rattle.compiler.specs.Repeats.{forms}
 use Rattle.compiler.specs.Walks.{Lies, Items, noItem, anItem, Counts}
 use Rattle.compiler.proofs.Trees.{second}

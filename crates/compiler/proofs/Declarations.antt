@@ -1,13 +1,8 @@
 -- Names declared one after another.
 use Rattle.compiler.proofs.Basics.{ℕ, _+_, _*_, _≤_, _<_, _^_, _≡_, refl, sym, ap, subst, _∙_, List, [], _∷_, arith, length, getD}
-use Rattle.language.specs.Tree.{Name}
+use Rattle.compiler.proofs.Language.{Name, Scope, declared, inBlock, onFound, fault, declareAll, twice, encodeName, encodeNames, FineName}
+use Rattle.compiler.proofs.Language.{FineNames}
 use Rattle.language.specs.Names as N
-use Rattle.language.specs.Names.{Scope, declared, inBlock, onFound}
-use Rattle.language.specs.Constants.{fault}
-use Rattle.language.specs.Resolve.{declareAll}
-use Rattle.language.specs.Faults.{twice}
-use Rattle.tree.specs.Encoding.{encodeName, encodeNames}
-use Rattle.language.specs.Fine.{FineName, FineNames}
 use Rattle.compiler.proofs.Vocabulary.{Shows, Keeps, PushedName, Told, code, found, named, nameAt, State, Did, Faulted, Lies}
 use Rattle.compiler.proofs.Scoping.{keeps-all, keeps-then, keeps-lower, keeps-name, code-not, pushed-keeps, pushed-name}
 use Rattle.compiler.specs.Commands.{nothing, ReadyNames, Declares, Again}

@@ -2,10 +2,8 @@
 use Rattle.compiler.proofs.Basics.{ℕ, suc, _+_, _*_, _-_, _≤_, _<_, _/_, _%_, _^_, min, _≡_, refl, sym, ap, _∙_, true, false, cond, List, []}
 use Rattle.compiler.proofs.Basics.{_∷_, _++_, append-nil, arith, length, getD, ltb, lt-ltb, le-ltb, eq-eqb, ne-eqb}
 use Rattle.items.specs.Item as I
-use Rattle.language.specs.Names.{local, global, manifest, function, Found, unknown, known, onFound}
-use Rattle.language.specs.Constants.{Fault, fault}
-use Rattle.language.specs.Heights.{ofExpr, greatest}
-use Rattle.language.specs.Resolve.{ofMeaning}
+use Rattle.compiler.proofs.Language.{local, global, manifest, function, Found, unknown, known, onFound, Fault, fault, ofExpr, greatest}
+use Rattle.compiler.proofs.Language.{ofMeaning}
 use Rattle.code.specs.Generate as G
 use Rattle.code.specs.Generate.{exprCode, exprLabels}
 use Rattle.writing.specs.Text.{Puts, line, lines}

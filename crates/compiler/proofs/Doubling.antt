@@ -3,13 +3,9 @@ use Rattle.compiler.proofs.Basics.{ℕ, _+_, _-_, _/_, _%_, _≤_, _<_,
 use Rattle.compiler.proofs.Basics.{append-nil, append-assoc, arith, length, getD, set, replicate, length-set, length-replicate, eqb, eqb-true}
 use Rattle.compiler.proofs.Basics.{eqb-false}
 use Rattle.language.specs.Tree as T
-use Rattle.language.specs.Tree.{Label, Commands}
-use Rattle.language.specs.Names.{Scope}
-use Rattle.language.specs.Constants.{fault, Judged, good, refused, judge, judgedWord}
+use Rattle.compiler.proofs.Language.{Label, Commands, Scope, fault, Judged, good, refused, judge, judgedWord, CaseLabel, hasCase, hasDefault}
+use Rattle.compiler.proofs.Language.{labelsBefore, labelsOf, goodCase, doubledCase, doubledLabel, doubled}
 use Rattle.language.specs.Resolved as R
-use Rattle.language.specs.Resolved.{CaseLabel, hasCase, hasDefault}
-use Rattle.language.specs.Resolve.{labelsBefore, labelsOf, goodCase}
-use Rattle.language.specs.Faults.{doubledCase, doubledLabel, doubled}
 use Rattle.compiler.proofs.Vocabulary.{Shows, State, Node, NodeAt, Did, Faulted}
 use Rattle.compiler.specs.declared.steps.Verdict.{Verdict}
 use Rattle.compiler.specs.declared.labels.Span.{Span}

@@ -2,16 +2,11 @@
 -- command, of which nothing is refused.
 use Rattle.compiler.proofs.Basics.{ℕ, zero, suc, _+_, _<_, _^_, _≡_, refl, false, List, [], _∷_, arith, length, getD}
 use Rattle.language.specs.Tree as T
-use Rattle.language.proofs.Depth.{depth}
-use Rattle.language.specs.Names.{outermost}
-use Rattle.language.specs.Constants.{judge}
-use Rattle.language.specs.Resolved.{hasCase}
-use Rattle.language.specs.Resolve.{labelsOf}
-use Rattle.language.specs.Faults.{doubled}
-use Rattle.tree.specs.Encoding.{encode, encodeCommands, encodeCommand, encodeLabels, encodeConstant, encodePositive, encodeUnlabelled, encodeRepeats}
-use Rattle.tree.specs.Encoding.{labelled, repeated}
+use Rattle.compiler.proofs.Language.{depth, outermost, judge, hasCase, labelsOf, doubled, encode, encodeCommands, encodeCommand, encodeLabels}
+use Rattle.compiler.proofs.Language.{encodeConstant, encodePositive, encodeUnlabelled, encodeRepeats, labelled, Fine, FineCommands}
+use Rattle.compiler.proofs.Language.{FineCommand, FineLabels, FineUnlabelled, FineRepeats}
+use Rattle.tree.specs.Encoding.{repeated}
 use Rattle.compiler.proofs.Vocabulary.{nothing, State, Here, ReadyE}
-use Rattle.language.specs.Fine.{Fine, FineCommands, FineCommand, FineLabels, FineUnlabelled, FineRepeats}
 use Rattle.compiler.specs.Switching.{labelFaults, ReadyLabels}
 
 abbrev scratch : List ℕ

@@ -2,23 +2,16 @@
 use Rattle.compiler.proofs.Basics.{ℕ, _+_, _-_, _≤_, _<_, _≡_, refl, sym, ap, subst, _∙_, List, [], _∷_, _++_, append-nil, append-assoc, arith}
 use Rattle.compiler.proofs.Basics.{length, getD}
 use Rattle.language.specs.Tree as T
-use Rattle.language.specs.Tree.{Name, Expression, Operations}
-use Rattle.language.proofs.Depth.{depth, operationsDepth}
-use Rattle.language.specs.Names.{Scope, lookup, onFound}
-use Rattle.language.specs.Constants.{Fault, fault}
+use Rattle.compiler.proofs.Language.{Name, Expression, Operations, depth, operationsDepth, Scope, lookup, onFound, Fault, fault, Expr}
+use Rattle.compiler.proofs.Language.{expression, operations, ofMeaning, ofExpr, inExpression, inOperations, encode, encodeOperations, Fine}
+use Rattle.compiler.proofs.Language.{FineOperations}
 use Rattle.language.specs.Resolved as R
-use Rattle.language.specs.Resolved.{Expr}
-use Rattle.language.specs.Resolve.{expression, operations, ofMeaning}
-use Rattle.language.specs.Heights.{ofExpr}
 use Rattle.code.specs.Generate as G
 use Rattle.code.specs.Generate.{exprCode, exprLabels}
-use Rattle.language.specs.Faults.{inExpression, inOperations}
-use Rattle.tree.specs.Encoding.{encode, encodeOperations}
 use Rattle.compiler.proofs.Vocabulary.{nameAt, found, Looked, State, Here, Node, inside, raised, leavable, NodeAt, Code, Did, Emits, Means}
 use Rattle.compiler.proofs.Vocabulary.{exprSays, FineE, FineOs, Lies, Ready, Result, ReadyE, GaveE, faultsE, codeE, chainCode, chainHeights}
 use Rattle.compiler.proofs.Vocabulary.{chainLabels, chainSays, ReadyChain, GaveChain}
 use Rattle.compiler.proofs.Scoping.{keeps-all, keeps-then}
-use Rattle.language.specs.Fine.{Fine, FineOperations}
 use Rattle.compiler.proofs.Done.{emits-did, did-put, did-after, did-none, did-then, did-as, same-refl, code-is}
 use Rattle.compiler.proofs.Trees.{find, is-number, is-string, is-name, is-bracket, is-dyadic}
 use Rattle.compiler.proofs.Parts.{sub}

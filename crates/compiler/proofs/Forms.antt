@@ -5,12 +5,11 @@ use mathlib.Core.Option.{Option}
 use Rattle.language.specs.Kinds as K
 use Rattle.language.specs.Kinds.{member}
 use Rattle.language.specs.Tree as T
-use Rattle.language.specs.Tree.{Name, Constant, Expression, Expressions, Command, Commands, Unlabelled, Locals, isCall, endsInCall, placeOf}
+use Rattle.compiler.proofs.Language.{Name, Constant, Expression, Expressions, Command, Commands, Unlabelled, Locals, isCall, endsInCall}
+use Rattle.compiler.proofs.Language.{placeOf, FineUnlabelled, encode, encodeName, encodeBy, encodeCommand, encodeCommands, encodeExpressions}
+use Rattle.compiler.proofs.Language.{encodeSides, encodeFirst, encodeLocals, encodeUnlabelled, suffixedKind}
 use Rattle.language.specs.Binding.{isGuard, isLeave}
-use Rattle.language.specs.Fine.{FineUnlabelled}
 use Rattle.tree.specs.Encoding as O
-use Rattle.tree.specs.Encoding.{encode, encodeName, encodeBy, encodeCommand, encodeCommands, encodeExpressions, encodeSides, encodeFirst}
-use Rattle.tree.specs.Encoding.{encodeLocals, encodeUnlabelled, suffixedKind}
 use Rattle.compiler.proofs.Vocabulary.{State, Here, Node, FinePlain, NodeAt, Lies}
 use Rattle.compiler.specs.Commands.{ReadyU}
 use Rattle.compiler.proofs.Trees.{kid, ends, value-is, place-is, size-is, kind-is}

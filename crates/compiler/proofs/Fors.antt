@@ -5,18 +5,13 @@ use mathlib.Core.Option.{Option, none, some}
 use Rattle.items.specs.Item as I
 use Rattle.language.specs.Kinds as K
 use Rattle.language.specs.Tree as T
-use Rattle.language.specs.Tree.{Name, Constant, Expression, Command, Unlabelled}
-use Rattle.language.proofs.Depth.{depth, commandDepth, unlabelledDepth}
+use Rattle.compiler.proofs.Language.{Name, Constant, Expression, Command, Unlabelled, depth, commandDepth, unlabelledDepth, Scope, opened}
+use Rattle.compiler.proofs.Language.{declared, Fault, Judged, judgedWord, faultsOf, expression, command, unlabelled, byOf, ofExpr, ofCmd}
+use Rattle.compiler.proofs.Language.{FineName, FineBy, FineUnlabelled, byFaults, inExpression, inUnlabelled, encode, encodeName, encodeBy}
+use Rattle.compiler.proofs.Language.{encodeCommand, encodeUnlabelled}
 use Rattle.language.specs.Names as N
-use Rattle.language.specs.Names.{Scope, opened, declared}
-use Rattle.language.specs.Constants.{Fault, Judged, judgedWord, faultsOf}
 use Rattle.language.specs.Resolved as R
-use Rattle.language.specs.Resolve.{expression, command, unlabelled, byOf}
-use Rattle.language.specs.Heights.{ofExpr, ofCmd}
-use Rattle.language.specs.Fine.{FineName, FineBy, FineUnlabelled}
 use Rattle.code.specs.Generate as G
-use Rattle.language.specs.Faults.{byFaults, inExpression, inUnlabelled}
-use Rattle.tree.specs.Encoding.{encode, encodeName, encodeBy, encodeCommand, encodeUnlabelled}
 use Rattle.compiler.proofs.Vocabulary.{Shows, Keeps, Pushed, PushedName, named, nameAt, State, Here, Ways, Node, FineE, FineC, FinePlain}
 use Rattle.compiler.proofs.Vocabulary.{raised, placed, inLoop, leavableBy, exits, NodeAt, Code, Did, Emits, Fresh, Lies, Result, ReadyE, GaveE}
 use Rattle.compiler.proofs.Scoping.{keeps-all, keeps-then, keeps-shows, keeps-name, pushed-keeps}

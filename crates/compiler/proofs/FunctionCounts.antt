@@ -2,8 +2,7 @@
 use Rattle.compiler.proofs.Basics.{ℕ, _+_, _≤_, _<_, _≡_, refl, ap, subst, _∙_, List, [], _∷_, _++_, arith, length, getD, length-append}
 use Rattle.language.specs.Kinds as K
 use Rattle.language.specs.Tree as T
-use Rattle.language.specs.Tree.{Declaration, Program}
-use Rattle.tree.specs.Encoding.{encodeProgram}
+use Rattle.compiler.proofs.Language.{Declaration, Program, encodeProgram}
 use Rattle.compiler.specs.Walks.{Lies}
 use Rattle.compiler.specs.Groups.{functionCount, CountsFunctions, CountsGroup}
 use Rattle.compiler.specs.Programs.{encodeDeclared, declaredWord}

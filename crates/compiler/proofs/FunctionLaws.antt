@@ -3,13 +3,9 @@ use Rattle.compiler.proofs.Basics.{ℕ, _+_, _*_, _-_, _/_, _≤_, _<_,
 use Rattle.compiler.proofs.Basics.{length-append, eqb}
 use Rattle.items.specs.Item as I
 use Rattle.language.specs.Kinds as K
-use Rattle.language.specs.Tree.{Function}
-use Rattle.language.specs.Names.{opened}
-use Rattle.language.specs.Resolve.{declareAll}
-use Rattle.language.specs.Heights.{heightsOf}
+use Rattle.compiler.proofs.Language.{Function, opened, declareAll, heightsOf, encodeName, encodeNames, encodeBody, bodyWord}
 use Rattle.language.specs.Program.{inside, bodyOf, functionFaults, resolved}
 use Rattle.code.specs.Generate as G
-use Rattle.tree.specs.Encoding.{encodeName, encodeNames, encodeBody, bodyWord}
 use Rattle.compiler.proofs.Vocabulary.{Keeps, Pushed, State, Here, Node, NodeAt, Emits, Reached, Lies}
 use Rattle.compiler.specs.Commands.{ReadyNames, Declares}
 use Rattle.compiler.specs.Groups.{encodeFunction, ReadyBody, GaveBody, functionSays, ReadyF, GaveF}

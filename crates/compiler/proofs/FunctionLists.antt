@@ -2,17 +2,11 @@
 use Rattle.compiler.proofs.Basics.{ℕ, suc, _+_, _*_, _≤_, _<_, _^_, _≡_, refl, sym, ap, subst, _∙_, Bool, true, false, cond, List, [], _∷_}
 use Rattle.compiler.proofs.Basics.{_++_, append-nil, append-assoc, arith, length, getD, length-append, ltb, lt-ltb, le-ltb}
 use Rattle.items.specs.Item as I
-use Rattle.language.specs.Tree.{Function}
-use Rattle.language.specs.Names.{Scope, lookup}
-use Rattle.language.specs.Constants.{Fault, fault}
-use Rattle.language.specs.Resolved.{Fun, Start}
-use Rattle.language.specs.Heights.{heightsOf, greatest, largestHeight}
+use Rattle.compiler.proofs.Language.{Function, Scope, lookup, Fault, fault, Fun, Start, heightsOf, greatest, largestHeight, FineFunctions}
+use Rattle.compiler.proofs.Language.{functionsDepth, encodeName, encodeNames, encodeBody, bodyWord, encodeFunctions}
 use Rattle.language.specs.Program.{Named, startOf, withFunction, resolved, functionFaults, groupFaults, groupOf, heightFaults}
 use Rattle.language.specs.Whole.{funs}
-use Rattle.language.specs.Fine.{FineFunctions}
-use Rattle.language.proofs.Depth.{functionsDepth}
 use Rattle.code.specs.Generate as G
-use Rattle.tree.specs.Encoding.{encodeName, encodeNames, encodeBody, bodyWord, encodeFunctions}
 use Rattle.compiler.proofs.Vocabulary.{Keeps, Did, Code, least, AllFit, noFit, andFit, Lies, State, Here}
 use Rattle.compiler.specs.Groups.{encodeFunction, functionDepth, FineF, FineFs, functionSays, functionsSays, innerLabels, ReadyF, GaveF}
 use Rattle.compiler.specs.Groups.{ReadyFs, GaveFs}

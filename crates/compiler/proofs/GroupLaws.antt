@@ -1,12 +1,9 @@
 -- The names of functions, and the table of globals.
 use Rattle.compiler.proofs.Basics.{ℕ, _+_, _*_, _/_, _%_, _≤_, _<_, _≡_, refl, sym, ap, _∙_, Bool, true, false, cond, List, [], _∷_, arith}
 use Rattle.compiler.proofs.Basics.{length, getD, set, length-set, getD-set-same, getD-set-other, eqb, eqb-true, eqb-false}
-use Rattle.language.specs.Tree.{Name, Function}
+use Rattle.compiler.proofs.Language.{Name, Function, Scope, declared, fault, encodeFunctions}
 use Rattle.language.specs.Names as N
-use Rattle.language.specs.Names.{Scope, declared}
-use Rattle.language.specs.Constants.{fault}
 use Rattle.language.specs.Program.{among, startOf, withFunction, nameFault, alsoTaken}
-use Rattle.tree.specs.Encoding.{encodeFunctions}
 use Rattle.compiler.proofs.Vocabulary.{Shows, Keeps, PushedName, code, found, nameAt, State, Did, Faulted, Lies}
 use Rattle.compiler.proofs.Scoping.{keeps-all, code-not, pushed-keeps, pushed-name}
 use Rattle.compiler.specs.Commands.{nothing}

@@ -2,14 +2,10 @@
 use Rattle.compiler.proofs.Basics.{ℕ, suc, _+_, _*_, _≤_, _<_, _^_, _≡_, refl, sym, ap, subst, _∙_, Bool, true, false, cond, List, [], _∷_}
 use Rattle.compiler.proofs.Basics.{_++_, append-nil, append-assoc, arith, length, getD, set, length-append, List·getD-append}
 use Rattle.compiler.proofs.Basics.{List·getD-eq-default, getD-set-same, getD-set-other, getD-append-seam, eqb, eqb-true, eqb-false}
-use Rattle.language.specs.Tree.{Name, Function}
+use Rattle.compiler.proofs.Language.{Name, Function, Scope, lookup, Fault, fault, Start, nowhere, inGlobal, encodeName, encodeNames}
+use Rattle.compiler.proofs.Language.{encodeBody, encodeFunctions, FineName, FineFunctions}
 use Rattle.language.specs.Names as N
-use Rattle.language.specs.Names.{Scope, lookup}
-use Rattle.language.specs.Constants.{Fault, fault}
-use Rattle.language.specs.Resolved.{Start, nowhere, inGlobal}
 use Rattle.language.specs.Program.{among, startOf, withFunction, nameFault, alsoTaken, functionsAfter, takenAfter, groupNameFaults}
-use Rattle.tree.specs.Encoding.{encodeName, encodeNames, encodeBody, encodeFunctions}
-use Rattle.language.specs.Fine.{FineName, FineFunctions}
 use Rattle.compiler.proofs.Vocabulary.{Shows, Keeps, Looked, found, named, nameAt, State, Did, Lies}
 use Rattle.compiler.specs.Commands.{nothing}
 use Rattle.compiler.specs.Groups.{Small, Taken, Starting, startsIn, started, NameFaults, Enters, encodeFunction, FineF, FineFs, ReadyGroup}

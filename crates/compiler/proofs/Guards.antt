@@ -3,19 +3,14 @@ use Rattle.compiler.proofs.Basics.{ℕ, _+_, _-_, _≤_, _≡_, refl, s
 use Rattle.compiler.proofs.Basics.{length, getD, length-append, eqb}
 use Rattle.items.specs.Item as I
 use Rattle.language.specs.Tree as T
-use Rattle.language.specs.Tree.{Expression, Command, Unlabelled, endsInCall, placeOf}
-use Rattle.language.proofs.Depth.{depth, commandDepth, unlabelledDepth}
-use Rattle.language.specs.Names.{Scope}
+use Rattle.compiler.proofs.Language.{Expression, Command, Unlabelled, endsInCall, placeOf, depth, commandDepth, unlabelledDepth, Scope}
+use Rattle.compiler.proofs.Language.{expression, command, unlabelled, ofCmd, Leavable, inExpression, inCommand, inUnlabelled, closed, encode}
+use Rattle.compiler.proofs.Language.{encodeCommand, encodeUnlabelled, FineCommand, FineUnlabelled}
 use Rattle.language.specs.Resolved as R
-use Rattle.language.specs.Resolve.{expression, command, unlabelled}
-use Rattle.language.specs.Heights.{ofCmd}
 use Rattle.code.specs.Generate as G
-use Rattle.language.specs.Faults.{Leavable, inExpression, inCommand, inUnlabelled}
 use Rattle.tree.specs.Encoding as O
-use Rattle.tree.specs.Encoding.{closed, encode, encodeCommand, encodeUnlabelled}
 use Rattle.compiler.proofs.Scoping.{keeps-all, keeps-then}
 use Rattle.compiler.proofs.Vocabulary.{State, Here, Ways, Node, FineE, FineC, FinePlain, leavableBy, NodeAt, Emits, Fresh, Lies, ReadyE, GaveE}
-use Rattle.language.specs.Fine.{FineCommand, FineUnlabelled}
 use Rattle.compiler.specs.Commands.{cmdSays, ReadyC, GaveC, ReadyU, GaveU, WhenWord, anIf, anUnless, WhenKind}
 use Rattle.compiler.proofs.Done.{did-put, did-then, did-at, did-fresh, same-eq, code-is}
 use Rattle.compiler.proofs.Trees.{first, second, ends, size-is, kind-is}

@@ -2,11 +2,9 @@
 use Rattle.compiler.proofs.Basics.{ℕ, _+_, _*_, _≤_, _<_, _^_, _≡_, refl, sym, ap, subst, _∙_, Bool, true, false, List, [], _∷_, _++_}
 use Rattle.compiler.proofs.Basics.{append-assoc, arith, length, getD, length-append}
 use Rattle.language.specs.Tree as T
-use Rattle.language.specs.Tree.{Item}
-use Rattle.language.specs.Names.{Scope, declared, inBlock, onFound}
+use Rattle.compiler.proofs.Language.{Item, Scope, declared, inBlock, onFound, fault, Judged, judgedWord, faultsOf, encodeName, encodeConstant}
+use Rattle.compiler.proofs.Language.{encodeItems, FineName, FineConstant, FineItem, FineItems}
 use Rattle.language.specs.Constants as K
-use Rattle.language.specs.Constants.{fault, Judged, judgedWord, faultsOf}
-use Rattle.tree.specs.Encoding.{encodeName, encodeConstant, encodeItems}
 use Rattle.compiler.specs.Scope as S
 use Rattle.compiler.proofs.Vocabulary.{Shows, Keeps, PushedName, Worded, code, named, nameAt, State, Did, Lies, STRINGS}
 use Rattle.compiler.proofs.Scoping.{keeps-all, keeps-then, keeps-lower, keeps-name, pushed-keeps, pushed-name}
@@ -14,7 +12,6 @@ use Rattle.compiler.specs.Commands.{nothing, Again}
 use Rattle.compiler.proofs.Done.{did-none, did-then, did-as, same-refl}
 use Rattle.compiler.proofs.Trees.{first, second, keeps-lies}
 use Rattle.compiler.proofs.Judging.{judged-word}
-use Rattle.language.specs.Fine.{FineName, FineConstant, FineItem, FineItems}
 use Rattle.compiler.specs.Locals.{Says, fit, unfit, Judges, JudgesMost, Blames}
 use Rattle.compiler.specs.declared.steps.Verdict.{Verdict}
 use Rattle.language.specs.Program.{globalsAfter, manifestsAfter, globalFaults, manifestFaults}

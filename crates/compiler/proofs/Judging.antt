@@ -3,19 +3,15 @@ use Rattle.compiler.proofs.Basics.{ℕ, _+_, _*_, _-_, _≤_, _<_, _/_,
 use Rattle.compiler.proofs.Basics.{[], _∷_, _++_, append-nil, arith, length, getD, length-append, leb, le-leb, lt-leb}
 use Rattle.words.specs.Words.{word}
 use Rattle.language.specs.Tree as T
-use Rattle.language.specs.Tree.{Name, Simple, Constant, Expressions}
-use Rattle.language.proofs.Depth.{expressionsDepth}
+use Rattle.compiler.proofs.Language.{Name, Simple, Constant, Expressions, expressionsDepth, Scope, lookup, fault, Judged, good, refused, judge}
+use Rattle.compiler.proofs.Language.{forVector, judgedWord, faultsOf, signed, ofFound, ofSimple, within, declareAll, encodeName, encodeNames}
+use Rattle.compiler.proofs.Language.{encodeConstant, encodePositive, encodeNegative, encodeExpressions, FineName, FineNames, FineConstant}
 use Rattle.language.specs.Names as N
-use Rattle.language.specs.Names.{Scope, lookup}
-use Rattle.language.specs.Constants.{fault, Judged, good, refused, judge, forVector, judgedWord, faultsOf, signed, ofFound, ofSimple, within}
-use Rattle.language.specs.Resolve.{declareAll}
 use Rattle.code.specs.Generate as G
-use Rattle.tree.specs.Encoding.{encodeName, encodeNames, encodeConstant, encodePositive, encodeNegative, encodeExpressions}
 use Rattle.compiler.proofs.Vocabulary.{Shows, Looked, code, found, nameAt, State, Here, Node, FineEs, NodeAt, Did, Emits, Faulted, Lies}
 use Rattle.compiler.proofs.Vocabulary.{ReadyArgs, GaveArgs}
 use Rattle.compiler.proofs.Scoping.{keeps-all, keeps-then, keeps-shows, code-not, Held, looked-word}
 use Rattle.compiler.specs.declared.steps.Verdict.{Verdict}
-use Rattle.language.specs.Fine.{FineName, FineNames, FineConstant}
 use Rattle.compiler.specs.Commands.{nothing, ReadyNames, Declares}
 use Rattle.compiler.specs.Locals.{Says, fit, unfit, NamedConstant, Judges, JudgesMost, Blames, Local, aVector, someValues, encodeLocal}
 use Rattle.compiler.specs.Locals.{localDepth, FineLocal, scopeWith, heightWith, faultsL, localSays, ReadyLocal, GaveLocal}

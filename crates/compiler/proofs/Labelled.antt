@@ -2,15 +2,12 @@
 use Rattle.compiler.proofs.Basics.{ℕ, _+_, _-_, _≤_, _≡_, refl, sym, ap, subst, _∙_, List, [], _∷_, _++_, append-assoc, arith, length, getD}
 use Rattle.compiler.proofs.Basics.{length-append}
 use Rattle.language.specs.Tree as T
-use Rattle.language.specs.Tree.{Label, Command, Unlabelled, Repeats}
-use Rattle.language.proofs.Depth.{commandDepth}
-use Rattle.language.specs.Resolve.{command, repeats, unlabelled}
-use Rattle.language.specs.Heights.{ofCmd}
-use Rattle.language.specs.Fine.{FineLabels, FineCommand}
+use Rattle.compiler.proofs.Language.{Label, Command, Unlabelled, Repeats, commandDepth, command, repeats, unlabelled, ofCmd, FineLabels}
+use Rattle.compiler.proofs.Language.{FineCommand, inCommand, inCase, inUnlabelled, inRepeats, misplaced, closed, encodeCommand}
+use Rattle.compiler.proofs.Language.{encodeUnlabelled, encodeRepeats, encodeLabels, labelled}
 use Rattle.code.specs.Generate as G
-use Rattle.language.specs.Faults.{inCommand, inCase, inUnlabelled, inRepeats, misplaced, repeated}
+use Rattle.language.specs.Faults.{repeated}
 use Rattle.tree.specs.Encoding as O
-use Rattle.tree.specs.Encoding.{closed, encodeCommand, encodeUnlabelled, encodeRepeats, encodeLabels, labelled}
 use Rattle.compiler.proofs.Scoping.{keeps-all}
 use Rattle.compiler.proofs.Vocabulary.{State, Here, Ways, Node, FineC, FinePlain, inside, leavableBy, NodeAt, Lies, Result}
 use Rattle.compiler.specs.Commands.{cmdSays, ReadyC, GaveC, GaveCase, deepRepeated, FineRepeated, ReadyR, GaveR}

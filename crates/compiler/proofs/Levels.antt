@@ -3,17 +3,14 @@ use Rattle.compiler.proofs.Basics.{ℕ, suc, _+_, _*_, _≤_, _<_, _≡
 use Rattle.compiler.proofs.Basics.{append-nil, arith, length, length-append, eqb, leb, eq-eqb, ne-eqb, leb-true}
 use Rattle.language.specs.Kinds as K
 use Rattle.language.specs.Tree as T
-use Rattle.language.specs.Tree.{Item, Function, Declaration}
-use Rattle.language.specs.Names.{Scope, lookup}
+use Rattle.compiler.proofs.Language.{Item, Function, Declaration, Scope, lookup, Fault, fault, Judged, judge, within, judgedWord}
+use Rattle.compiler.proofs.Language.{FineDeclaration, declarationDepth, functionsDepth, encodeName, encodeConstant, encodeItems}
+use Rattle.compiler.proofs.Language.{encodeFunctions}
 use Rattle.language.specs.Constants as J
-use Rattle.language.specs.Constants.{Fault, fault, Judged, judge, within, judgedWord}
 use Rattle.language.specs.Program.{Walk, startOf, withFunction, resolved, globalsAfter, manifestsAfter, functionsAfter, declaredBy, groupNameFaults}
 use Rattle.language.specs.Program.{groupFaults, groupOf, heightFaults, afterDeclaration}
 use Rattle.language.specs.Whole.{funs}
-use Rattle.language.specs.Fine.{FineDeclaration}
-use Rattle.language.proofs.Depth.{declarationDepth, functionsDepth}
 use Rattle.code.specs.Generate as G
-use Rattle.tree.specs.Encoding.{encodeName, encodeConstant, encodeItems, encodeFunctions}
 use Rattle.compiler.proofs.Vocabulary.{STRINGS, Did, least, noFit, Lies, State, Here}
 use Rattle.compiler.specs.Commands.{nothing}
 use Rattle.compiler.specs.Items.{after, faults, FineIs, ReadyItems, ItemsKnown, Items}

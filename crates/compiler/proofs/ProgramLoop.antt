@@ -2,15 +2,11 @@
 use Rattle.compiler.proofs.Basics.{ℕ, suc, _+_, _*_, _≤_, _<_, _≡_, refl, sym, ap, subst, _∙_, Bool, true, false, List, [], _∷_, _++_}
 use Rattle.compiler.proofs.Basics.{append-nil, append-assoc, arith, length, getD, replicate, length-append, length-replicate, getD-replicate}
 use Rattle.language.specs.Tree as T
-use Rattle.language.specs.Tree.{Declaration, Program}
-use Rattle.language.specs.Constants.{Fault}
-use Rattle.language.specs.Resolved.{Start, nowhere, inGlobal}
+use Rattle.compiler.proofs.Language.{Declaration, Program, Fault, Start, nowhere, inGlobal, FineDeclaration, FineProgram, declarationDepth}
+use Rattle.compiler.proofs.Language.{programDepth, encodeProgram}
 use Rattle.language.specs.Program.{Walk, Named, begin, among, functionsAfter, afterDeclaration, declarationFaults, declarationFunctions, faultsFrom}
 use Rattle.language.specs.Program.{functionsFrom}
 use Rattle.language.specs.Whole.{funs}
-use Rattle.language.specs.Fine.{FineDeclaration, FineProgram}
-use Rattle.language.proofs.Depth.{declarationDepth, programDepth}
-use Rattle.tree.specs.Encoding.{encodeProgram}
 use Rattle.compiler.specs.Scope as S
 use Rattle.compiler.proofs.Vocabulary.{Keeps, STRINGS, Lies}
 use Rattle.compiler.specs.Groups.{Small, Taken, Starting, FineDs}

@@ -3,9 +3,8 @@ use Rattle.compiler.proofs.Basics.{ℕ, _<_, _≡_, refl, ap, _∙_, Bo
 use Rattle.items.specs.Item.{Item}
 use Rattle.items.specs.Render.{render, renderLines, renderAll}
 use Rattle.writing.specs.Text.{line, lines}
-use Rattle.language.specs.Tree.{Name}
+use Rattle.compiler.proofs.Language.{Name, Scope, lookup, sameName}
 use Rattle.language.specs.Names as N
-use Rattle.language.specs.Names.{Scope, lookup, sameName}
 use Rattle.compiler.specs.Groups.{Small}
 
 lines-end : (is : List Item) → renderLines is ≡ lines is ++ (90 ∷ 10 ∷ [])

@@ -4,17 +4,11 @@ use Rattle.compiler.proofs.Basics.{append-nil, append-assoc, arith, len
 use Rattle.items.specs.Item as I
 use Rattle.language.specs.Kinds as K
 use Rattle.language.specs.Tree as T
-use Rattle.language.specs.Tree.{Expression, Unlabelled, Repeats}
-use Rattle.language.proofs.Depth.{depth, repeatsDepth}
-use Rattle.language.specs.Names.{Scope}
-use Rattle.language.specs.Constants.{Fault}
-use Rattle.language.specs.Resolve.{expression, repeats, unlabelled}
-use Rattle.language.specs.Fine.{FineRepeats}
+use Rattle.compiler.proofs.Language.{Expression, Unlabelled, Repeats, depth, repeatsDepth, Scope, Fault, expression, repeats, unlabelled}
+use Rattle.compiler.proofs.Language.{FineRepeats, Leavable, inExpression, inUnlabelled, inRepeats, encode, encodeUnlabelled, encodeRepeats}
 use Rattle.code.specs.Generate as G
 use Rattle.language.specs.Faults as Y
-use Rattle.language.specs.Faults.{Leavable, inExpression, inUnlabelled, inRepeats}
 use Rattle.tree.specs.Encoding as O
-use Rattle.tree.specs.Encoding.{encode, encodeUnlabelled, encodeRepeats}
 use Rattle.compiler.proofs.Vocabulary.{Keeps, State, Here, Ways, Node, FineE, FinePlain, FineRs, inLoop, leavable, leavableBy, exits, NodeAt}
 use Rattle.compiler.proofs.Vocabulary.{Code, Did, Emits, Fresh, Lies, Ready, Result, GaveE, Counts}
 use Rattle.compiler.proofs.Scoping.{keeps-all, keeps-then}

@@ -3,12 +3,8 @@ use Rattle.compiler.proofs.Basics.{ℕ, zero, suc, _+_, _*_, _-_, _≤_
 use Rattle.compiler.proofs.Basics.{append-assoc, arith, eqb}
 use Rattle.items.specs.Item as I
 use Rattle.language.specs.Tree as T
-use Rattle.language.specs.Tree.{Repeats}
-use Rattle.language.specs.Names.{Scope}
+use Rattle.compiler.proofs.Language.{Repeats, Scope, Cmd, expression, repeats, ofExpr, ofCmd, greatest}
 use Rattle.language.specs.Resolved as R
-use Rattle.language.specs.Resolved.{Cmd}
-use Rattle.language.specs.Resolve.{expression, repeats}
-use Rattle.language.specs.Heights.{ofExpr, ofCmd, greatest}
 use Rattle.code.specs.Generate as G
 use Rattle.code.specs.Generate.{Exits, cmdCode, cmdLabels, exprCode, exprLabels}
 use Rattle.writing.specs.Text.{lines}

@@ -3,12 +3,9 @@ use Rattle.compiler.proofs.Basics.{ℕ, _+_, _-_, _≤_, _<_, _^_, _≡
 use Rattle.compiler.proofs.Basics.{append-nil, arith, length, getD, length-append, eqb, eq-eqb, ne-eqb}
 use mathlib.Core.Option.{Option, none, some}
 use Rattle.language.specs.Tree as T
-use Rattle.language.specs.Tree.{Simple, Constant, Label}
-use Rattle.language.specs.Names.{Scope}
-use Rattle.language.specs.Constants.{fault, Judged, good, refused, judge, within, faultsOf}
-use Rattle.language.specs.Faults.{misplaced}
-use Rattle.language.specs.Fine.{FineConstant, FineBy, FineLabels}
-use Rattle.tree.specs.Encoding.{closed, encodeName, encodeConstant, encodePositive, encodeNegative, encodeBy, encodeLabels}
+use Rattle.compiler.proofs.Language.{Simple, Constant, Label, Scope, fault, Judged, good, refused, judge, within, faultsOf, misplaced}
+use Rattle.compiler.proofs.Language.{FineConstant, FineBy, FineLabels, closed, encodeName, encodeConstant, encodePositive, encodeNegative}
+use Rattle.compiler.proofs.Language.{encodeBy, encodeLabels}
 use Rattle.compiler.proofs.Vocabulary.{Shows, State, Node, NodeAt, Did, Faulted, Lies}
 use Rattle.compiler.specs.declared.steps.Verdict.{Verdict}
 use Rattle.compiler.specs.Commands.{nothing}

@@ -3,10 +3,8 @@ use Rattle.compiler.proofs.Basics.{_≡_, refl, sym, ap, _∙_, List, [
 use Rattle.compiler.proofs.Basics.{_<_, min, arith, length, set, getD, take, drop, length-set, length-take, length-drop, getD-drop}
 use Rattle.compiler.proofs.Basics.{getD-set-same, getD-set-other, eqb, eq-eqb, ne-eqb}
 use native.Mathlib.Numerals.{unary-clauses}
-use Rattle.language.specs.Tree.{Name}
-use Rattle.language.specs.Names.{Meaning, local, global, manifest, function, Found, unknown, known, Scope, opened, declared, lookup, inBlock}
-use Rattle.language.specs.Names.{sameBytes, sameName}
-use Rattle.language.specs.Fine.{FineName}
+use Rattle.compiler.proofs.Language.{Name, Meaning, local, global, manifest, function, Found, unknown, known, Scope, opened, declared, lookup}
+use Rattle.compiler.proofs.Language.{inBlock, sameBytes, sameName, FineName}
 use Rattle.compiler.specs.Scope.{named, nameAt, packed, code, found, Worded, Shows, nothing, mark, name, Pushed, PushedName, Keeps}
 
 -- ---- spelling

@@ -3,25 +3,18 @@ use Rattle.compiler.proofs.Basics.{ℕ, _+_, _*_, _-_, _≤_, _<_, _/_,
 use Rattle.compiler.proofs.Basics.{_∷_, _++_, append-nil, append-assoc, arith, length, getD, length-append, eqb, ne-eqb}
 use Rattle.items.specs.Item as I
 use Rattle.language.specs.Tree as T
-use Rattle.language.specs.Tree.{Expression, Expressions, Suffixes, Operations, placeOf, endsInCall}
-use Rattle.language.proofs.Depth.{depth}
+use Rattle.compiler.proofs.Language.{Expression, Expressions, Suffixes, Operations, placeOf, endsInCall, depth, Scope, lookup, onFound, Fault}
+use Rattle.compiler.proofs.Language.{fault, Expr, expression, expressions, suffixes, operations, ofMeaning, Side, side, noSide, sideOf}
+use Rattle.compiler.proofs.Language.{targetOf, addressOf, resolvedMonadic, under, ofExpr, ofTarget, unlessSide, inExpression, inSuffixes}
+use Rattle.compiler.proofs.Language.{encode, encodeSuffixes, Fine}
 use Rattle.language.specs.Names as N
-use Rattle.language.specs.Names.{Scope, lookup, onFound}
-use Rattle.language.specs.Constants.{Fault, fault}
 use Rattle.language.specs.Resolved as R
-use Rattle.language.specs.Resolved.{Expr}
-use Rattle.language.specs.Resolve.{expression, expressions, suffixes, operations, ofMeaning, Side, side, noSide, sideOf, targetOf, addressOf}
-use Rattle.language.specs.Resolve.{resolvedMonadic, under}
-use Rattle.language.specs.Heights.{ofExpr, ofTarget}
 use Rattle.code.specs.Generate as G
 use Rattle.code.specs.Generate.{exprCode, exprLabels, monadicAct}
-use Rattle.language.specs.Faults.{unlessSide, inExpression, inSuffixes}
 use Rattle.tree.specs.Encoding as O
-use Rattle.tree.specs.Encoding.{encode, encodeSuffixes}
 use Rattle.compiler.proofs.Vocabulary.{code, found, nameAt, Looked, State, Here, Node, FineE, inside, raised, leavable, NodeAt, Code, Did}
 use Rattle.compiler.proofs.Vocabulary.{Emits, Faulted, Lies, Result, ReadyE, GaveE, ReadySuffixes, GaveSuffixes, faultsE, codeE}
 use Rattle.compiler.proofs.Scoping.{keeps-all, keeps-then, code-not, Order, lt, ge, order}
-use Rattle.language.specs.Fine.{Fine}
 use Rattle.compiler.specs.Commands.{exprSays, targetSays, GaveMonadic, GaveAddress, GaveAddressIndex, GaveSide, GaveSideIndex, IndexKind}
 use Rattle.compiler.specs.Commands.{GaveRefused, AddressOf, StoreTo}
 use Rattle.compiler.proofs.Done.{emits-did, did-emit, did-put, did-after, did-then, did-as, same-refl, same-eq, code-is, nil-right}

@@ -4,18 +4,12 @@ use Rattle.compiler.proofs.Basics.{arith, length, getD, length-append, 
 use Rattle.items.specs.Item as I
 use Rattle.language.specs.Kinds as K
 use Rattle.language.specs.Tree as T
-use Rattle.language.specs.Tree.{Label, Expression, Commands, Unlabelled}
-use Rattle.language.proofs.Depth.{depth, commandsDepth, unlabelledDepth}
-use Rattle.language.specs.Names.{Scope}
-use Rattle.language.specs.Constants.{Fault}
+use Rattle.compiler.proofs.Language.{Label, Expression, Commands, Unlabelled, depth, commandsDepth, unlabelledDepth, Scope, Fault, expression}
+use Rattle.compiler.proofs.Language.{unlabelled, labelsBefore, caseList, ofCmd, ofCases, FineUnlabelled, Leavable, doubled, inExpression}
+use Rattle.compiler.proofs.Language.{inCase, inCases, inUnlabelled, encode, encodeCommand, encodeCommands, encodeUnlabelled}
 use Rattle.language.specs.Resolved as R
-use Rattle.language.specs.Resolve.{expression, unlabelled, labelsBefore, caseList}
-use Rattle.language.specs.Heights.{ofCmd, ofCases}
-use Rattle.language.specs.Fine.{FineUnlabelled}
 use Rattle.code.specs.Generate as G
 use Rattle.language.specs.Faults as Y
-use Rattle.language.specs.Faults.{Leavable, doubled, inExpression, inCase, inCases, inUnlabelled}
-use Rattle.tree.specs.Encoding.{encode, encodeCommand, encodeCommands, encodeUnlabelled}
 use Rattle.compiler.proofs.Scoping.{keeps-all, keeps-then, keeps-shows}
 use Rattle.compiler.proofs.Vocabulary.{State, Here, Ways, Node, FineE, FineCs, FinePlain, inSwitch, leavableBy, exits, NodeAt, Code, Did}
 use Rattle.compiler.proofs.Vocabulary.{Emits, Fresh, Lies, Result, ReadyE, GaveE, Counts}

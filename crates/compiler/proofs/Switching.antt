@@ -5,20 +5,16 @@ use Rattle.items.specs.Item as I
 use Rattle.language.specs.Kinds.{member}
 use Rattle.language.specs.Binding.{isGuard, isLeave}
 use Rattle.language.specs.Tree as T
-use Rattle.language.specs.Tree.{Name, Simple, Constant, Label, Expression, Command, Commands, Unlabelled, endsInCall}
+use Rattle.compiler.proofs.Language.{Name, Simple, Constant, Label, Expression, Command, Commands, Unlabelled, endsInCall, Scope, lookup}
+use Rattle.compiler.proofs.Language.{fault, Judged, good, refused, judge, signed, ofFound, ofSimple, faultsOf, CaseLabel, hasDefault, casesOf}
+use Rattle.compiler.proofs.Language.{caseCount, labelsBefore, labelsOf, goodCase, caseList, greatest, doubledCase, doubledLabel, doubled}
+use Rattle.compiler.proofs.Language.{FineLabels, FineCommand, FineCommands, FineUnlabelled, closed, encode, encodeLabels, encodeCommand}
+use Rattle.compiler.proofs.Language.{encodeCommands, encodeUnlabelled, encodeRepeats, labelled}
 use Rattle.language.specs.Names as N
-use Rattle.language.specs.Names.{Scope, lookup}
-use Rattle.language.specs.Constants.{fault, Judged, good, refused, judge, signed, ofFound, ofSimple, faultsOf}
-use Rattle.language.specs.Resolved.{CaseLabel, hasDefault, casesOf, caseCount}
-use Rattle.language.specs.Resolve.{labelsBefore, labelsOf, goodCase, caseList}
-use Rattle.language.specs.Heights.{greatest}
-use Rattle.language.specs.Faults.{doubledCase, doubledLabel, doubled}
-use Rattle.language.specs.Fine.{FineLabels, FineCommand, FineCommands, FineUnlabelled}
 use Rattle.code.specs.Generate as G
 use Rattle.writing.specs.Text.{lines}
 use Rattle.writing.proofs.Laws.{puts-none}
 use Rattle.tree.specs.Encoding as O
-use Rattle.tree.specs.Encoding.{closed, encode, encodeLabels, encodeCommand, encodeCommands, encodeUnlabelled, encodeRepeats, labelled}
 use Rattle.compiler.proofs.Vocabulary.{Shows, State, Node, FineC, FineCs, FinePlain, NodeAt, Emits, Lies}
 use Rattle.compiler.specs.declared.steps.Verdict.{Verdict}
 use Rattle.compiler.specs.declared.labels.Span.{Span}

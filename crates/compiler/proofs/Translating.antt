@@ -7,13 +7,12 @@ use Rattle.language.specs.Symbols.{Symbol}
 use Rattle.language.specs.Source.{Symbols, good, faulty, symbolsOf, parsed, readSymbols, readSource, tooLong, scratchTooShort}
 use Rattle.language.specs.Reader.{Source, Out, ok, no, placeAt}
 use Rattle.language.specs.Grammar.{treeOf}
-use Rattle.language.specs.Tree.{Program}
+use Rattle.compiler.proofs.Language.{Program, encodeProgram}
 use Rattle.language.specs.Program.{Refused, refused, rulesRefuse}
 use Rattle.language.specs.Whole.{refusalOf, refusalIn, onRead, unlessFits}
 use Rattle.symbols.specs.Read.{Reads, symbolsRead, outcome, entries}
 use Rattle.symbols.specs.declared.SymbolsRead.{SymbolsRead}
 use Rattle.symbols.specs.declared.SymbolsRead.the-variants as YA
-use Rattle.tree.specs.Encoding.{encodeProgram}
 use Rattle.tree.specs.Read as R
 use Rattle.tree.specs.Read.{ReadsTree, treeRead, treeLeft, leftBy, padded, decoded, sourceIn, tooShort, Within}
 use Rattle.tree.specs.declared.TreeRead.{TreeRead}

@@ -1,6 +1,5 @@
 use Rattle.compiler.proofs.Basics.{_-_, arith, needs, _≡_, refl, _∙_, List, length}
-use Rattle.language.specs.Tree.{Label}
-use Rattle.language.specs.Resolve.{labelsOf}
+use Rattle.compiler.proofs.Language.{Label, labelsOf}
 use Rattle.compiler.specs.Labels.{LabelAt, Listed, Marks}
 use Rattle.compiler.proofs.Doubling.{OwnPart, own-begin, own-next, own-end}
 use Rattle.compiler.proofs.labels.doubled_in.Statement.{statement}
