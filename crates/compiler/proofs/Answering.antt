@@ -327,8 +327,7 @@ module _ {source s : List ℕ} {count end : ℕ} (y : ReadyTree source s count e
     module _ {s₁ s₂ table table′ t t₁ t₂ t₃ : List ℕ} {at last : ℕ} {d′ : Done}
         (o : Puts (36 ∷ 10 ∷ []) 0 at t t₁) (g : GaveProgram source s s₁ table table′ (count * 3) end 520 (functions + 1) t₁ t₂
         (record { tall = NONE; state = record { at = at; label = functions + 1 + names; worst = NONE; high = 0 } }) d′)
-        (none : table ≡ replicate 400 0)
-        (b : Behind source s₁ s₂ count names functions table′ (d′ .state .at) last t₂ t₃) where
+        (none : table ≡ replicate 400 0) (b : Behind source s₁ s₂ count names functions table′ (d′ .state .at) last t₂ t₃) where
       w : Walked source p (count * 3) (functions + 1) s s₁ table table′ t₁ t₂
           (record { tall = NONE; state = record { at = at; label = functions + 1 + names; worst = NONE; high = 0 } }) d′
       unfolding ready-program
@@ -386,8 +385,7 @@ module _ {source s : List ℕ} {count end : ℕ} (y : ReadyTree source s count e
               (sym (rules-decide (y .lent) (length t) (y .symbols) p (y .next) (y .reads) (y .parses)) ∙ e) in
               let x = written (no-faults (faultsFrom source begin p) _ (k .0)) in (
                 ap (take (length (textOf source))) (x .is) ∙ over-front (textOf source) t (k .1),
-                omega
-                    (arith, k .1, ap length (x .is), over-length (textOf source) t),
+                omega (arith, k .1, ap length (x .is), over-length (textOf source) t),
               )
 
       clean-behind : Clean end s₂

@@ -151,8 +151,7 @@ module _ (text t₀ : List ℕ) {s₀ : List ℕ} {left right end : ℕ} {here :
     assign-deep y p = let u = assign-is y p in (
       omega (arith, ap expressionsDepth (u .same)),
       omega (arith, ap expressionsDepth (u .same)),
-      omega
-          (arith, p .shallow .1, ap expressionsDepth (u .right .same)),
+      omega (arith, p .shallow .1, ap expressionsDepth (u .right .same)),
       omega (arith, ap expressionsDepth (u .right .same)),
     )
 

@@ -85,8 +85,7 @@ pub away-gave : (text : List ℕ) (ways : Ways) {s t t′ : List ℕ} {end : ℕ
 unfolding inUnlabelled unlabelled
 away-gave text ways {s} {t} {t′} {end} {here} {st} {r} n nd a b c d e f g h i j l x = record {
   by = λ y. let u = is-leave (form-at n nd refl y) a b c d e f g h i j l in let sc = y .scope in
-      rw (u .same)
-      (record { keeps = keeps-all; did = did-as _ _ (rw (nd .place ∙ u .place-of) at x .did) same-refl (λ k v. refl) (omega arith) });
+      rw (u .same) (record { keeps = keeps-all; did = did-as _ _ (rw (nd .place ∙ u .place-of) at x .did) same-refl (λ k v. refl) (omega arith) });
 }
 
 -- ---- a call

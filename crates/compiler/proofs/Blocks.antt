@@ -153,8 +153,7 @@ code-with : (text : List ℕ) (sc : Scope) (here : Here) (n : ℕ) (x : Local) (
     _≡_ {A = Code}
     (record {
       items = c .items ++ G.localsCode (here .strings) h′ (n + c .labels) (locals text sc′ h′ ls);
-      heights = c .heights ++ ofLocals h′
-          (locals text sc′ h′ ls);
+      heights = c .heights ++ ofLocals h′ (locals text sc′ h′ ls);
       labels = c .labels + G.localsLabels (locals text sc′ h′ ls);
     })
     (localsSays here (here .height) (locals text sc (here .height) (withLocal x ls)) n)
@@ -288,8 +287,7 @@ module _ (text t₀ : List ℕ) {s₀ : List ℕ} {from end : ℕ} {here : Here}
           finish = λ t′ st′ d. p .finish t′ st′
               (subst (λ (ls : T.Locals). Did (inLocals text sc (leavable here) h ls) (localsSays here h (locals text sc h ls))
               (2 * length (encodeLocals (p .rest))) t t′ (r .done) st′) (sym (u .same))
-              (did-as (localsSays here h (locals text sc h (withLocal (u .part) (u .more)))) _
-              (did-then (x .did)
+              (did-as (localsSays here h (locals text sc h (withLocal (u .part) (u .more)))) _ (did-then (x .did)
               (subst (λ (n : ℕ). Did (inLocals text sc′ (leavable here) n (u .more)) (localsSays here n (locals text sc′ n (u .more)))
               (2 * length (encodeLocals (u .more))) t₁ t′ (r′ .done) st′) (k .height) d))
               (same-eq (sym (faults-with text sc now (u .part) (u .more)))) (λ m e. code-with text sc now m (u .part) (u .more) (locals-fine y p .0))
@@ -337,8 +335,7 @@ heights-agree text sc h (T.values ns es ls) f =
     rw (
       values-after h (expressions text sc h es) ls′,
       count-is text sc h ns es (sym (f .2)),
-      heights-agree text (declareAll sc h ns) (h + length ns)
-          ls (f .1),
+      heights-agree text (declareAll sc h ns) (h + length ns) ls (f .1),
     )
 
 module _ {s : List ℕ} {end : ℕ} {here : Here} {st : State} (n : Node) (nd : NodeAt s end n) (q : getD s (end - 1) 0 ≡ 57) {middle : ℕ}
@@ -399,8 +396,7 @@ module _ {s : List ℕ} {end : ℕ} {here : Here} {st : State} (n : Node) (nd : 
                   (did-then (x .did) (subst (λ (k : ℕ). Did (inCommands text sc′ l k (u .list))
                   (λ m. record {
                     items = G.cmdsCode (here .strings) k m (exits ways) (commands text sc′ k (u .list));
-                    heights = ofCmds k
-                        (commands text sc′ k (u .list));
+                    heights = ofCmds k (commands text sc′ k (u .list));
                     labels = G.cmdsLabels (commands text sc′ k (u .list));
                   })
                   (2 * length (encodeCommands (u .list))) t₁ t₂ (a .done) r) (x .after .height) (z .did))) (same-eq (rw (any-locals text

@@ -468,8 +468,7 @@ is-suffixed n1 n2 n3 n4 n5 n6 n7 (aCalled {e} {ss} h z v q) = is-two encode enco
 
 module _ {s : List ℕ} {end : ℕ} {here : Here} {st : State} (n : Node) (nd : NodeAt s end n)
     (n1 : n .kind ≡ 60 → ⊥) (n2 : n .kind ≡ 61 → ⊥) (n3 : n .kind ≡ 59 → ⊥) (n4 : n .kind ≡ 51 → ⊥) (n5 : n .kind ≡ 131 → ⊥) (n6 : n .kind ≡ 7 → ⊥)
-    (n7 : n .kind ≡ 128 → ⊥)
-    {middle : ℕ} (m : middle ≡ n .start + n .value) where
+    (n7 : n .kind ≡ 128 → ⊥) {middle : ℕ} (m : middle ≡ n .start + n .value) where
   pub suffixed-is : (y : ReadyE s end here st) → IsTwo encode encodeSuffixes T.suffixed s (y .lo) end (y .tree)
   suffixed-is y = is-suffixed n1 n2 n3 n4 n5 n6 n7 (find n nd refl y)
 
@@ -499,8 +498,7 @@ module _ {s : List ℕ} {end : ℕ} {here : Here} {st : State} (n : Node) (nd : 
   suffixed-gave text {s′} {t} {t′} {r} g = record {
     by = λ y. let u = suffixed-is y in let x = g .by (suffixed-part y) in let k = length-append (encode (u .left)) (encodeSuffixes (u .list)) in
         subst (λ (e : Expression). Result (faultsE text here (y .scope) e) (codeE text here (y .scope) e) (length (encode (y .tree))) (y .base) here s
-        s′ t t′ st r) (sym (u .same))
-        (record { keeps = x .keeps; did = did-as _ _ (x .did) same-refl (λ m v. refl) (omega arith) });
+        s′ t t′ st r) (sym (u .same)) (record { keeps = x .keeps; did = did-as _ _ (x .did) same-refl (λ m v. refl) (omega arith) });
   }
 
 pub call-few : {s : List ℕ} {middle end j tag inner size start n : ℕ} {here : Here} {st : State} (l : middle < end) (ej : j ≡ end - 1)

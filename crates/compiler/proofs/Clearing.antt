@@ -31,8 +31,7 @@ module _ (s₀ : List ℕ) (from i : ℕ) (h : from ≤ i) {s : List ℕ} (e : s
       rw (e, d, set-at (take from s₀ ++ replicate {A = ℕ} (i - from) 0) (getD s₀ i 0) (drop (i + 1) s₀) 0 i l, r) (simp append-assoc)
 
   pub clear-all : i ≤ length s₀ → length s₀ ≤ i → s ≡ take from s₀ ++ replicate (length s₀ - from) 0
-  clear-all k l =
-      let z : i ≡ length s₀ = omega arith in e ∙ rw (drop-of-length-le s₀ l, append-nil, z)
+  clear-all k l = let z : i ≡ length s₀ = omega arith in e ∙ rw (drop-of-length-le s₀ l, append-nil, z)
 
 pub cleared-all : (s : List ℕ) {s′ : List ℕ} → s′ ≡ take 0 s ++ replicate (length s - 0) 0 → s′ ≡ replicate (length s) 0
 cleared-all s e = let z : length s - 0 ≡ length s = omega arith in rw (e, z)

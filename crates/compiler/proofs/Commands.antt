@@ -114,8 +114,7 @@ gave-u-at text {s} {s′} {t} {t′} {end} {d} {w′ = w′} {st} {r} e q g = rw
 -- ---- a name in a block of its own, as FOR's: a mark and a name are pushed, and what the body does keeps what stood below
 
 module _ (h : ℕ) {s s₁ s₂ : List ℕ} {base top leaf m : ℕ} {sc : Scope} (sh : Shows s top sc) (long : base ≤ length s) (room : top + 4 ≤ base)
-    (inside-tree : base ≤ leaf)
-    (p : Pushed s s₁ top 0 0) (q : PushedName s₁ s₂ (top + 2) leaf m) (e : m ≡ h * 4 + 1) where
+    (inside-tree : base ≤ leaf) (p : Pushed s s₁ top 0 0) (q : PushedName s₁ s₂ (top + 2) leaf m) (e : m ≡ h * 4 + 1) where
   pub named-block-keeps : Keeps base top s s₂
   named-block-keeps =
       keeps-then (pushed-keeps p (omega arith) long)

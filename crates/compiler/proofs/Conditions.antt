@@ -108,8 +108,7 @@ module _ {s : List ℕ} {end : ℕ} {here : Here} {st : State} (n o b : Node) (n
               did = did-at (cmdSays here ways (R.test E C D)) _ (did-fresh e
                   (did-put (did-then (did-put (did-then (did-put (with-ways text sc here ways h (u .test) (x .did)) f) (z .did)) (emits-then f₂ f₃))
                   (v .did)) f₄)) same-refl (λ p. code-is (rw (
-                    test-shape (G.exprCode S h (L + 2) E) (G.FL L ∷ [])
-                        (G.cmdCode S h (L + 2 + G.exprLabels E) w C) (G.JL (L + 1) ∷ I.label L ∷ [])
+                    test-shape (G.exprCode S h (L + 2) E) (G.FL L ∷ []) (G.cmdCode S h (L + 2 + G.exprLabels E) w C) (G.JL (L + 1) ∷ I.label L ∷ [])
                         (G.cmdCode S h (L + 2 + (G.exprLabels E + G.cmdLabels C)) w D) (I.label (L + 1) ∷ []),
                     m,
                   )) refl (omega arith)) (omega arith);

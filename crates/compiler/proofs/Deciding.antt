@@ -48,8 +48,7 @@ least-from f (g ∷ gs) a (andFit p n h) =
     rw (
       keys (g .place) (g .number) (f .place) (f .number) n a,
       cond-key (before g f) f g,
-      least-from (cond (before g f) g f) gs
-          (cond-small (before g f) f g a n) h,
+      least-from (cond (before g f) g f) gs (cond-small (before g f) f g a n) h,
     )
 
 -- from a number above all keys

@@ -77,8 +77,7 @@ module _ {place number : ℕ} {st r : State} (fits : (place < 2 ^ 32) × (number
           worst = e ∙ rw (lt-ltb (place * 32 + number) (st .worst) l);
           fits = andFit (fits .0) (fits .1) noFit;
           few = omega arith;
-          grows = omega
-              arith;
+          grows = omega arith;
           clean = λ n. absurd (fault-not n);
         };
       }
@@ -91,8 +90,7 @@ module _ {place number : ℕ} {st r : State} (fits : (place < 2 ^ 32) × (number
           worst = e ∙ rw (le-ltb (place * 32 + number) (st .worst) l);
           fits = andFit (fits .0) (fits .1) noFit;
           few = omega arith;
-          grows = omega
-              arith;
+          grows = omega arith;
           clean = λ n. absurd (fault-not n);
         };
       }
@@ -236,8 +234,7 @@ least-swap x (f ∷ a) b =
       least-min x (key f) (b ++ a),
       least-then x b a,
       least-min (least x b) (key f) a,
-      step-min
-          (key f) (least x b),
+      step-min (key f) (least x b),
       least-then x b (f ∷ a),
     )
 

@@ -181,8 +181,7 @@ module _ {s : List ℕ} {end : ℕ} {here : Here} {st : State} (n b l : Node) {l
           let x = g .by (for-first e y) in let z = g₂ .by (for-limit y) in let w = bl .by
           (byJudged text (y .scope) (for-is y .by)) (for-says y) t₄ in (
             omega arith,
-            omega
-                (arith, e .label, x .did .grows, f .label, z .did .grows, f₂ .label, w .grows, f₃ .label),
+            omega (arith, e .label, x .did .grows, f .label, z .did .grows, f₂ .label, w .grows, f₃ .label),
           )
 
       module _ {s₃ s₄ : List ℕ} {x₄ : ℕ} (p : Pushed s₂ s₃ (here .top) 0 0) (p₂ : PushedName s₃ s₄ (here .top + 2) (n .start) x₄)
@@ -241,8 +240,7 @@ module _ {s : List ℕ} {end : ℕ} {here : Here} {st : State} (n b l : Node) {l
                       eb,
                       ec,
                     )) (rw (
-                      heights-shape
-                          (ofExpr h E) ((h + 1) ∷ []) (ofExpr (h + 1) D) ((h + 1 + 1) ∷ []) (ofCmd (h + 2) C),
+                      heights-shape (ofExpr h E) ((h + 1) ∷ []) (ofExpr (h + 1) D) ((h + 1 + 1) ∷ []) (ofCmd (h + 2) C),
                       eh,
                     )) (omega arith)) (omega arith);
               });

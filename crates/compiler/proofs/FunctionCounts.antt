@@ -32,8 +32,7 @@ no-declaration (d ∷ p) e l =
     absurd (omega (
       arith,
       ap length (program-step d p),
-      length-append (length (encodeDeclared d) ∷ declaredWord d ∷ encodeDeclared d)
-          (encodeProgram p),
+      length-append (length (encodeDeclared d) ∷ declaredWord d ∷ encodeDeclared d) (encodeProgram p),
     ))
 
 -- the functions of one declaration

@@ -98,8 +98,7 @@ yields-then {strings} {l} k {fs} {fs′} {gs} {gs′} {m} {m′} {t} {t₁} {t�
     y .tall (nil-right fs fs′ c),
     x .tall (nil-left fs fs′ c),
     least-then (d .tall) (heightFaults gs) (heightFaults gs′),
-    heights-then
-        gs gs′,
+    heights-then gs gs′,
   );
   fits = subst AllFit (sym (heights-then gs gs′)) (fit-then (x .fits) (y .fits));
 }
@@ -314,8 +313,7 @@ module _ (text t₀ : List ℕ) {s₀ : List ℕ} {from end : ℕ} {here : Here}
             group-length,
             group-many,
             functions-step f (u .more),
-            ap (λ (z : List Function). length (encodeFunctions z))
-                (u .same),
+            ap (λ (z : List Function). length (encodeFunctions z)) (u .same),
           );
           some = omega arith;
           low = rw er;
@@ -336,7 +334,6 @@ module _ (text t₀ : List ℕ) {s₀ : List ℕ} {from end : ℕ} {here : Here}
   group-end lt q = record {
     by = λ y before k. let p = q y before k in let e = no-function (p .rest) (p .ends) lt in let fe : p .found ≡ groupFaults text (y .scope)
         (y .functions) = cc (append-nil (p .found)) in let me : p .made ≡ groupOf text k before (y .scope) (y .functions) = cc (append-nil
-        (p .made)) in let r = yields-as
-        (2 * length (encodeFunctions (y .functions))) fe me (omega arith) (p .yields) in
+        (p .made)) in let r = yields-as (2 * length (encodeFunctions (y .functions))) fe me (omega arith) (p .yields) in
         record { result = record { keeps = p .keeps; did = r .did }; tall = r .tall; fits = r .fits; low = p .low };
   }

@@ -114,8 +114,7 @@ enters-name {s} {s′} {table} {top} {leaf} {m} {k} e pu ex el = record { long =
         × (top + 2 ≤ top + 2) × (table ≡ table)
     there base sc ns name sh l r nm tk = (
       rw nm at (pushed-name pu r l (N.function k) sh ex tt),
-      pushed-keeps
-          (pu .pushed) r l,
+      pushed-keeps (pu .pushed) r l,
       tk,
       omega arith,
       omega arith,

@@ -166,8 +166,7 @@ module _ (text : List ℕ) {s : List ℕ} {end : ℕ} (top : ℕ) (n : Node) (nd
       go sc lo p true (T.known x) sh f h e =
           let c : List ℕ = 0 ∷ x .width ∷ x .place ∷ 59 ∷ [] in let hc = kid c 0 p 36 h e in let es : n .start ≡ lo = omega (
             arith,
-            size-is c 0 p 36 h
-                e,
+            size-is c 0 p 36 h e,
             ends c 0 p 36 h e,
           ) in let a : n .start + 1 ≡ lo + 1 = omega arith in let b : n .start + 2 ≡ lo + 2 = omega arith in
           let ep : getD s (n .start + 2) 0 ≡ x .place = ap (λ (k : ℕ). getD s k 0) b ∙ hc .at 2 (omega arith) in let ex : nameAt s (n .start) ≡ x

@@ -220,8 +220,7 @@ module _ {s : List ℕ} {end : ℕ} {here : Here} {st : State} (n : Node) (nd : 
     by = λ y. let u = labelled-is n nd q m y in let sc = y .scope in let h = here .height in let f = labelled-fine n nd q m y in let z = nothing-left
         (u .labels) (u .body) (u .forms) f (omega (arith, rest-length y)) in let w = u .same ∙ ap (λ (v : Unlabelled). T.command (u .labels) v
         (u .forms)) z ∙ ap (T.command (u .labels) T.empty) (empty-alone (u .labels) (u .body) (u .forms) f z) in
-        rw w
-        (record { keeps = keeps-all; did = did-none _ });
+        rw w (record { keeps = keeps-all; did = did-none _ });
   }
 
   module _ (some : middle ≡ n .inner → ⊥) where

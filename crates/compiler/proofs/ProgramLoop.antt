@@ -121,8 +121,7 @@ module _ (text t₀ : List ℕ) {s₀ table₀ : List ℕ} {base end left string
   }
 
   module _ {s table t : List ℕ} {at size next tag : ℕ} {l : Progress} (lt : at < end) (es : size ≡ getD s at 0) (en : next ≡ at + 2 + size)
-      (et : tag ≡ getD s (at + 1) 0)
-      (y : ReadyProgram s₀ table₀ base end left strings d₀) (p : ProgramPart y s table t at l) where
+      (et : tag ≡ getD s (at + 1) 0) (y : ReadyProgram s₀ table₀ base end left strings d₀) (p : ProgramPart y s table t at l) where
     abbrev pub program-one : IsDeclaration s₀ at end (p .rest)
     program-one = is-declaration (p .rest) (p .lies) (p .ends) lt
 

@@ -140,8 +140,7 @@ module _ (text t₀ : List ℕ) (own₀ : ℕ) {s₀ : List ℕ} {from end : ℕ
   forms-begin y = begins (y .ready) (y .starts) refl refl (y .some)
 
   module _ {s t : List ℕ} {at size word next own : ℕ} {st : State} (l : at < end) (es : size ≡ getD s at 0) (ew : word ≡ getD s (at + 1) 0)
-      (en : next ≡ at + 2 + size)
-      (y : ReadyForms s₀ from end here st₀) (p : FormsPart y s t at own st) where
+      (en : next ≡ at + 2 + size) (y : ReadyForms s₀ from end here st₀) (p : FormsPart y s t at own st) where
     abbrev pub one : First encodeRepeats formEncoding formWord withForm s₀ at end (p .rest)
     one = item (y .ready) (y .starts) l es en p
 
@@ -154,8 +153,7 @@ module _ (text t₀ : List ℕ) (own₀ : ℕ) {s₀ : List ℕ} {from end : ℕ
     module _ {a : State} (el : a .label ≡ st .label) where
       -- what stands there, as its test's expression
       abbrev ready-test : (w : ℕ) (e : Expression) → one .part ≡ onTest w e → Ready encode depth FineE s next here a
-      ready-test w e q =
-          let z = y .ready in let h = rw q at (one .lies) in let m : length (formEncoding (one .part)) ≡ length (encode e)
+      ready-test w e q = let z = y .ready in let h = rw q at (one .lies) in let m : length (formEncoding (one .part)) ≡ length (encode e)
           = rw q in
           sub z (p .keeps) h refl (omega (
             arith,
@@ -163,8 +161,7 @@ module _ (text t₀ : List ℕ) (own₀ : ℕ) {s₀ : List ℕ} {from end : ℕ
             one .ends,
             rest-length z (y .starts) l es en p,
             forms-conditions,
-            rw q
-                at (both-deep z (y .starts) l es en p .0),
+            rw q at (both-deep z (y .starts) l es en p .0),
           )) (subst FineForm q (both-fine z (y .starts) l es en p .0))
 
       ready-form : ReadyForm s next size here a
@@ -186,8 +183,7 @@ module _ (text t₀ : List ℕ) (own₀ : ℕ) {s₀ : List ℕ} {from end : ℕ
           by alone q =
               let x = g .plain (rw (forms-size, q)) in (
                 rw (x .0) keeps-all,
-                did-as _ _ (emits-did _ (x .1) (λ n. refl))
-                    same-refl (λ n e. refl) (omega arith),
+                did-as _ _ (emits-did _ (x .1) (λ n. refl)) same-refl (λ n e. refl) (omega arith),
               )
           by (onTest w e) q =
               let m : length (formEncoding (one .part)) ≡ length (encode e) = rw q in
@@ -351,11 +347,7 @@ module _ {s : List ℕ} {end : ℕ} {here : Here} {st : State} (n : Node) (nd : 
                     (λ v. code-is (ap (λ (i : ℕ). topsCode L i ++ (G.cmdCode S h N (exits (inLoop (own + 1) (own + 2) ways)) C ++ formsCode text sc S
                     h own rs (N + G.cmdLabels C))) ek ∙ ap (λ (w : G.Exits). topsCode L (forms rs) ++ (G.cmdCode S h N w C ++ formsCode text sc S h
                     own rs (N + G.cmdLabels C))) ei ∙ sym (repeats-code text sc S h rs C L N own (N + G.cmdLabels C) (exits ways) (rw ek) eo refl))
-                    (sym (repeats-heights text sc h rs C)) (omega (
-                      arith,
-                      repeats-labels text sc h rs
-                          C,
-                    ))) (omega (arith, forms-entries rs));
+                    (sym (repeats-heights text sc h rs C)) (omega (arith, repeats-labels text sc h rs C))) (omega (arith, forms-entries rs));
               };
         }
 
@@ -374,6 +366,5 @@ module _ {s : List ℕ} {end : ℕ} {here : Here} {st : State} (n : Node) (nd : 
         let U = y .tree .body in
         subst (λ (rs : Repeats). Result (inUnlabelled text sc (Y.repeated rs lv) h U ++ inRepeats text sc lv h rs)
         (cmdSays here ways (repeats text sc h (unlabelled text sc h U) rs)) (length (encodeRepeated (y .tree))) (y .base) here s s₁ t t₁ st r)
-        (sym (u .same))
-        (record { keeps = x .keeps; did = did-as _ _ (x .did) (same-eq (sym (append-nil _))) (λ k v. refl) (omega arith) });
+        (sym (u .same)) (record { keeps = x .keeps; did = did-as _ _ (x .did) (same-eq (sym (append-nil _))) (λ k v. refl) (omega arith) });
   }

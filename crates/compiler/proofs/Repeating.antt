@@ -56,8 +56,7 @@ module _ (text : List ℕ) (sc : Scope) (strings h : ℕ) where
         repeats-code rs (R.repeat c) n M (M - 3) m x refl refl (sym r),
         in-loops n k (M + 1) (M + 2) x,
         append-assoc C tail F,
-        append-assoc
-            (topsCode n k) (I.label M ∷ []) (C ++ (I.label (M + 1) ∷ G.JL M ∷ I.label (M + 2) ∷ F)),
+        append-assoc (topsCode n k) (I.label M ∷ []) (C ++ (I.label (M + 1) ∷ G.JL M ∷ I.label (M + 2) ∷ F)),
         tops-snoc n k,
       )
   repeats-code (T.repeatOn w e rs) c n N own m x en eo em =
@@ -68,11 +67,9 @@ module _ (text : List ℕ) (sc : Scope) (strings h : ℕ) where
       cc (
         repeats-code rs (R.repeatWhile b c E) n M (M - 3) (m + exprLabels E) x refl refl (sym r),
         in-loops n k (M + 1) (M + 2) x,
-        append-assoc C
-            (I.label (M + 1) ∷ (X ++ end)) F,
+        append-assoc C (I.label (M + 1) ∷ (X ++ end)) F,
         append-assoc X end F,
-        append-assoc (topsCode n k) (I.label M ∷ [])
-            (C ++ (I.label (M + 1) ∷ (X ++ (G.jumpWhen b M ∷ I.label (M + 2) ∷ F)))),
+        append-assoc (topsCode n k) (I.label M ∷ []) (C ++ (I.label (M + 1) ∷ (X ++ (G.jumpWhen b M ∷ I.label (M + 2) ∷ F)))),
         tops-snoc n k,
       )
 

@@ -190,8 +190,7 @@ module _ (text : List ℕ) {s : List ℕ} {from end top : ℕ} (st₀ : State) w
       left-next
       (λ rest. (t : List ℕ) (st′ : State) → Did (misplaced text (y .scope) rest) nothing 0 t t r st′ → Did (misplaced text (y .scope) (y .labels))
       nothing 0 t t st₀ st′) l n p (λ x xs e q h t st′ d. h t st′
-      (did-as nothing 0 (did-then (m .by (y .scope) x (y .shows) q t) d) (same-eq (misplaced-then text (y .scope) x xs)) (λ v z. refl)
-      (omega arith)))
+      (did-as nothing 0 (did-then (m .by (y .scope) x (y .shows) q t) d) (same-eq (misplaced-then text (y .scope) x xs)) (λ v z. refl) (omega arith)))
 
   pub misplaced-end : {at : ℕ} {st : State} → end ≤ at → ((y : ReadyMisplaced s from end top) → MisplacedPart y at st)
       → Misplaces text s from end top st₀ st

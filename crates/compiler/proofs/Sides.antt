@@ -383,8 +383,7 @@ module _ {s : List ℕ} {end : ℕ} {here : Here} {st : State} (n : Node) (nd : 
 
   pub indexed-some : (y : ReadyE s end here st) → middle < n .inner
   unfolding Fine
-  indexed-some y = let u = indexed-is y in
-      omega (arith, applied-ends (indexed-part y), some-suffix (u .list) (subst FineE (u .same) (y .fine) .2))
+  indexed-some y = let u = indexed-is y in omega (arith, applied-ends (indexed-part y), some-suffix (u .list) (subst FineE (u .same) (y .fine) .2))
 
   pub indexed-tag : (y : ReadyE s end here st) → getD s (n .inner - 1) 0 ≡ 49
   unfolding expression-closed shut
@@ -449,8 +448,7 @@ module _ (text : List ℕ) {s s′ t t′ : List ℕ} {end : ℕ} (place : ℕ) 
     by = λ y. let u = is-bracket (find n nd q y) in let x = g .by (bracket-part n nd q y) in let sc = y .scope in let h = here .height in
         subst (λ (e : Expression). Result (inExpression text sc (leavable here) (h + 1) e ++ unlessSide place (sideOf (expression text sc (h + 1) e)))
         (targetSays here (targetOf (sideOf (expression text sc (h + 1) e)))) (length (encode (y .tree))) (y .base) (raised 1 here) s s′ t t′ st r)
-        (sym (u .same))
-        (record { keeps = x .keeps; did = more _ (x .did) (omega arith) });
+        (sym (u .same)) (record { keeps = x .keeps; did = more _ (x .did) (omega arith) });
   }
 
   pub side-refused : (n .kind ≡ 51 → ⊥) → (n .kind ≡ 59 → ⊥) → (n .kind ≡ 129 → ⊥) → (n .kind ≡ 128 → n .value ≡ 49 → ⊥)

@@ -286,8 +286,7 @@ listing-next {source} {s} {count} {first} {i} {n} {at} {x} {r} {k} {p} h ek ep e
             ∙ rw (ek, ep) refl) ∙ sym (append-assoc (y .done) o (stringsAmong source (symbolsFrom count s (i + 1))));
         puts = puts-as (puts-then (y .puts) (w .by f)) (cc (
           strings-then first (y .done) o,
-          lines-then (stringsCode first (y .done))
-              (stringsCode (first + length (y .done)) o),
+          lines-then (stringsCode first (y .done)) (stringsCode (first + length (y .done)) o),
           of-symbol-code source k p n,
         ));
       };

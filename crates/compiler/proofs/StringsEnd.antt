@@ -131,13 +131,9 @@ module _ (bs : List ℕ) where
   ending-element : (class : ℕ) → EndingElement bs (byClass class bs)
   unfolding byClass
   ending-element class =
-      either (eqb class LETTER) (λ _. ending-word)
-      (either (eqb class DIGIT) (λ _. ending-decimal bs)
-      (either (eqb class HASH) (λ _. ending-octal (drop 1 bs))
-      (either (eqb class QUOTE) (λ _. ending-character (drop 1 bs))
-      (either (eqb class DOUBLE) (λ _. ending-string)
-      (either (eqb class SIGN) (λ _. ending-sign)
-      (either (eqb class SEPARATOR) (λ _. a-gap)
+      either (eqb class LETTER) (λ _. ending-word) (either (eqb class DIGIT) (λ _. ending-decimal bs)
+      (either (eqb class HASH) (λ _. ending-octal (drop 1 bs)) (either (eqb class QUOTE) (λ _. ending-character (drop 1 bs))
+      (either (eqb class DOUBLE) (λ _. ending-string) (either (eqb class SIGN) (λ _. ending-sign) (either (eqb class SEPARATOR) (λ _. a-gap)
       (either (eqb class NEWLINE) (λ _. a-gap) a-fault)))))))
 
 -- ---- the symbols of a text

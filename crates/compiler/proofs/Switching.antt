@@ -356,8 +356,7 @@ module _ (text : List ℕ) {s : List ℕ} {from end top : ℕ} (k : ℕ) (t₀ :
       [] t₀ t′ st₀ st′)) l n p
       (λ x xs e q h. (
         sound-right (x ∷ []) xs (h .0),
-        λ t′ st′ d. h .1 t′ st′
-            (emits-as (emits-then (w .by sc x (y .shows) q (sound-left (x ∷ []) xs (h .0))) d) (pairs-then text sc k x xs)),
+        λ t′ st′ d. h .1 t′ st′ (emits-as (emits-then (w .by sc x (y .shows) q (sound-left (x ∷ []) xs (h .0))) d) (pairs-then text sc k x xs)),
       ))
 
   pub pairs-end : {at : ℕ} {t : List ℕ} {st : State} → end ≤ at → Still st₀ st
@@ -389,8 +388,7 @@ module _ (text : List ℕ) {s : List ℕ} {from end top : ℕ} (first : ℕ) (t�
       st₀ st′)) l n p
       (λ ls lss e q h. (
         sound-right ls (flat lss) (h .0),
-        λ t′ st′ d. h .1 t′ st′
-            (emits-then (w .by (own-labels i y ls q) (sound-left ls (flat lss) (h .0))) d),
+        λ t′ st′ d. h .1 t′ st′ (emits-then (w .by (own-labels i y ls q) (sound-left ls (flat lss) (h .0))) d),
       ))
 
   pub table-end : {at : ℕ} (k : ℕ) {t : List ℕ} {st : State} → end ≤ at → Still st₀ st

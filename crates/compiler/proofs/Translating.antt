@@ -180,8 +180,7 @@ module _ {source s : List ℕ} {count : ℕ} (y : ReadySymbols source s count) w
   source-is : sourceIn (take most s) count (length source) ≡ src
   unfolding sourceIn
   source-is =
-      ap (λ (z : List Symbol). record { symbols = z; size = length source })
-      (ap (λ (n : ℕ). decoded n (take most s)) (y .counts)
+      ap (λ (z : List Symbol). record { symbols = z; size = length source }) (ap (λ (n : ℕ). decoded n (take most s)) (y .counts)
       ∙ (ap (decoded (length (y .symbols))) lent-is ∙ decoded-entries (y .symbols) (replicate (most - length ss) 0)))
 
   symbols-first : take (count * 3) (take most s) ≡ ss

@@ -6,12 +6,7 @@ use Rattle.compiler.proofs.parsed.Tie as tie
 pub parsed-spec : {M : Type 1} → statement M
 parsed-spec =
     tie.close (tie.spec (λ c. omega (arith, tree-room (c .before .before .before .pre)))
-    (λ c. omega (arith, tree-room (c .before .before .before .pre))) (λ c. search tree-room)
-    (λ c. sym (search (length-take-le, tree-room)))
-    (search needs) (search needs) (λ c κs. search ready-tree)
-    (search needs) (λ c. omega (arith, tree-room)) (λ c. search symbols-room)
-    (λ c. sym (search (length-take-le, symbols-room)))
-    (search needs) (search needs) (search needs) (search needs) (search needs) (search needs)
-    (λ c. search with-scratch)
-    (search needs) (λ c. search tree-answer)
-    (search needs) (λ c. search never-unfit))
+    (λ c. omega (arith, tree-room (c .before .before .before .pre))) (λ c. search tree-room) (λ c. sym (search (length-take-le, tree-room)))
+    (search needs) (search needs) (λ c κs. search ready-tree) (search needs) (λ c. omega (arith, tree-room)) (λ c. search symbols-room)
+    (λ c. sym (search (length-take-le, symbols-room))) (search needs) (search needs) (search needs) (search needs) (search needs) (search needs)
+    (λ c. search with-scratch) (search needs) (λ c. search tree-answer) (search needs) (λ c. search never-unfit))

@@ -60,8 +60,7 @@ returns c =
 
 pub walked-spec : {M : Type 1} → statement M
 walked-spec =
-    tie.close
-    (tie.spec (search needs) function-count-requires string-count-requires (search needs) (search needs) add-decide
+    tie.close (tie.spec (search needs) function-count-requires string-count-requires (search needs) (search needs) add-decide
     add-decide-2 (search needs) add-program (λ c κs. search ready-program) (search needs) behind-requires
     slice-relend-prefix-clear-scratch slice-aggregate-clear-scratch (search needs) (search needs) (search needs)
     (search needs) (search needs) (search needs) returns)

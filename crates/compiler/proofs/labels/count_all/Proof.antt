@@ -31,5 +31,4 @@ returns c =
 pub count-all-spec : {M : Type 1} → statement M
 count-all-spec =
     tie.close (tie.spec Inv-loop μ-loop (λ c. (omega arith, λ lss r. search count-begin))
-    (search needs) (λ c κs. omega arith) (λ c _. c .labels-of .ensures .small) (λ c. omega arith) (λ c. omega arith)
-    loop-again returns)
+    (search needs) (λ c κs. omega arith) (λ c _. c .labels-of .ensures .small) (λ c. omega arith) (λ c. omega arith) loop-again returns)

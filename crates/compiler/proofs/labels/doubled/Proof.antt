@@ -18,8 +18,7 @@ loop-again c =
       c .before .doubled-in .kept .1 .1 .1 .1 .1 .0 ∙ after-loop .loop .inv .0,
       λ y. list-next (start .args .source .now) (start .args .st)
           (after-loop-test .loop-test .taken) (after-next-item .next-item .ensures) (after-labels-of .labels-of .ensures)
-          (c .before .doubled-in .ensures)
-          y (after-loop .loop .inv .1 y),
+          (c .before .doubled-in .ensures) y (after-loop .loop .inv .1 y),
     )
 
 returns : tie.Need-returns Inv-loop μ-loop
@@ -30,5 +29,4 @@ returns c =
 pub doubled-spec : {M : Type 1} → statement M
 doubled-spec =
     tie.close (tie.spec Inv-loop μ-loop (search needs) (λ c. (search marks-long, λ y. search list-begin))
-    (search needs) (λ c κs. omega arith) (search needs) (λ c _. c .before .labels-of .ensures .small)
-    (λ c. omega arith) loop-again returns)
+    (search needs) (λ c κs. omega arith) (search needs) (λ c _. c .before .labels-of .ensures .small) (λ c. omega arith) loop-again returns)

@@ -24,7 +24,5 @@ returns-2 c = note-again refl (c .before .before .power .ensures .0) (c .before 
 
 pub note-spec : {M : Type 1} → statement M
 note-spec =
-    tie.close
-    (tie.spec (search needs) cast-x (search needs) (search needs) add-seen cast-seen (search needs) (search needs)
-    (λ c. search note-first)
+    tie.close (tie.spec (search needs) cast-x (search needs) (search needs) add-seen cast-seen (search needs) (search needs) (λ c. search note-first)
     (search needs) returns-2 (λ c. search note-none))

@@ -31,6 +31,4 @@ returns-8 c =
     (cc, omega arith, omega arith)
 
 pub power-spec : {M : Type 1} → statement M
-power-spec =
-    tie.close
-    (tie.spec returns returns-2 returns-3 returns-4 returns-5 returns-6 returns-7 returns-8)
+power-spec = tie.close (tie.spec returns returns-2 returns-3 returns-4 returns-5 returns-6 returns-7 returns-8)

@@ -14,5 +14,4 @@ function-count-spec =
     tie.close (tie.spec Inv-loop μ-loop (λ c. (omega arith, counted-begin)) (λ c. omega arith)
     (search needs) (λ c. omega arith) (λ c. omega arith) (search needs) (λ c. omega arith) (λ c κs. omega arith)
     (λ c. omega arith) (λ c. omega arith) (λ c. (omega arith, search counted-group)) (λ c. omega arith)
-    (λ c. (omega arith, search counted-past)) (λ c. omega arith) (λ c. (omega arith, search counted-other))
-    (λ c. search counted-end))
+    (λ c. (omega arith, search counted-past)) (λ c. omega arith) (λ c. (omega arith, search counted-other)) (λ c. search counted-end))

@@ -30,11 +30,9 @@ loop-again c =
     let start = after-loop .before .before .before .before in (
       after-enter .enter .kept .0 ∙ after-loop .loop .inv .0,
       after-enter .enter .kept .1 .0 ∙ after-loop .loop .inv .1,
-      λ y. names-next
-          (start .args .source .now) (start .args .st) (after-loop-test .loop-test .taken) (after-entry .entry .ensures .0) refl
+      λ y. names-next (start .args .source .now) (start .args .st) (after-loop-test .loop-test .taken) (after-entry .entry .ensures .0) refl
           (after-lookup .lookup .ensures .0) (after-entry2 .entry2 .ensures .0) (after-name-fault .name-fault .ensures)
-          (after-enter .enter .ensures) y
-          (after-loop .loop .inv .2 y),
+          (after-enter .enter .ensures) y (after-loop .loop .inv .2 y),
     )
 
 returns : tie.Need-returns Inv-loop μ-loop
@@ -48,6 +46,5 @@ group-names-spec =
     (λ c. omega arith) (λ c κs. omega (arith, fit (c .before .before .before))) (λ c. omega arith) (search needs) (λ c κs. search (needs, names-fit))
     (λ c. omega arith) enter-requires (λ c. omega (
       arith,
-      fit (c .before .before .before .before .before .before .before .before .before .before
-          .before .before .before .before .before),
+      fit (c .before .before .before .before .before .before .before .before .before .before .before .before .before .before .before),
     )) (λ c. omega arith) loop-again (λ c. c .before .loop .inv .0) (λ c. c .before .loop .inv .1) returns)

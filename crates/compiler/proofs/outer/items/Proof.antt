@@ -54,20 +54,13 @@ items-spec =
     (λ c κs. omega (arith, fit (c .before .before .before .before .before))) (λ c. omega arith) (search needs) (search needs)
     (λ c _. c .before .entry2 .ensures .1) (λ c. omega (
       arith,
-      fit
-          (c .before .before .before .before .before .before .before .before .before .before .before),
-    )) (λ c. omega (
+      fit (c .before .before .before .before .before .before .before .before .before .before .before),
+    )) (λ c. omega (arith, fit (c .before .before .before .before .before .before .before .before .before .before .before))) (λ c. omega (
       arith,
-      fit
-          (c .before .before .before .before .before .before .before .before .before .before .before),
-    )) (λ c. omega (
-      arith,
-      fit
-          (c .before .before .before .before .before .before .before .before .before .before .before),
+      fit (c .before .before .before .before .before .before .before .before .before .before .before),
     )) (search needs) push-name-requires
     (λ c. omega (
       arith,
-      fit (c .before .before .before .before .before .before .before .before .before .before .before .before .before .before
-          .before),
+      fit (c .before .before .before .before .before .before .before .before .before .before .before .before .before .before .before),
     )) (λ c. omega arith) loop-again (λ c. omega (arith, out (c .before))) (λ c. omega (arith, out (c .before))) (search needs)
     (λ c. search items-end))

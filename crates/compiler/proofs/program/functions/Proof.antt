@@ -27,5 +27,4 @@ returns c =
 pub functions-spec : {M : Type 1} → statement M
 functions-spec =
     tie.close (tie.spec (search needs) (λ c κs. search ready-group)
-    (search needs) (search needs) (λ c κs. (search ready-fs, omega arith)) add-t26 (search needs)
-    (search needs) (search needs) returns)
+    (search needs) (search needs) (λ c κs. (search ready-fs, omega arith)) add-t26 (search needs) (search needs) (search needs) returns)

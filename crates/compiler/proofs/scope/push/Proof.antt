@@ -4,6 +4,5 @@ use Rattle.compiler.proofs.scope.push.Tie as tie
 
 pub push-spec : {M : Type 1} → statement M
 push-spec =
-    tie.close (tie.spec (search needs) (search needs) (search needs) (search needs) (search needs) (search needs)
-    (λ c. simp length-set (omega arith))
+    tie.close (tie.spec (search needs) (search needs) (search needs) (search needs) (search needs) (search needs) (λ c. simp length-set (omega arith))
     (search needs) (search needs))

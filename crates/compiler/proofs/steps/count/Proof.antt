@@ -12,5 +12,4 @@ abbrev μ-loop : tie.MeasureT-loop
 pub count-spec : {M : Type 1} → statement M
 count-spec =
     tie.close (tie.spec Inv-loop μ-loop (λ c. (omega arith, count-begin)) (λ c. omega arith)
-    (search needs) (λ c. omega arith) (λ c. omega arith) (λ c. omega arith) (λ c. (omega arith, search count-next))
-    (λ c. search count-end))
+    (search needs) (λ c. omega arith) (λ c. omega arith) (λ c. omega arith) (λ c. (omega arith, search count-next)) (λ c. search count-end))

@@ -29,6 +29,5 @@ returns c =
 
 pub for-step-spec : {M : Type 1} → statement M
 for-step-spec =
-    tie.close
-    (tie.spec (search needs) (search needs) (search needs) (search needs) (search needs) (search needs) add-mark-2
+    tie.close (tie.spec (search needs) (search needs) (search needs) (search needs) (search needs) (search needs) add-mark-2
     (search needs) same-length returns)

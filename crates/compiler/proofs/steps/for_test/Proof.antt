@@ -28,6 +28,5 @@ returns c =
 
 pub for-test-spec : {M : Type 1} → statement M
 for-test-spec =
-    tie.close
-    (tie.spec (search needs) (search needs) (search needs) (search needs) (search needs) (search needs) add-put-to
+    tie.close (tie.spec (search needs) (search needs) (search needs) (search needs) (search needs) (search needs) add-put-to
     (search needs) same-length returns)

@@ -36,6 +36,5 @@ returns-4 c =
 
 pub name-address-spec : {M : Type 1} → statement M
 name-address-spec =
-    tie.close
-    (tie.spec (search needs) (search needs) (search needs) (search needs) returns (search needs) (search needs)
+    tie.close (tie.spec (search needs) (search needs) (search needs) (search needs) returns (search needs) (search needs)
     returns-2 (search needs) returns-3 returns-4)

@@ -14,5 +14,4 @@ abbrev μ-loop : tie.MeasureT-loop
 pub tops-spec : {M : Type 1} → statement M
 tops-spec =
     tie.close (tie.spec Inv-loop μ-loop (λ c. (refl, omega arith, tops-none _)) (λ c. omega arith) (λ c. omega arith)
-    (search needs) (λ c. omega arith) (λ c. omega arith) (λ c. search (needs, tops-next))
-    (λ c. c .before .loop .inv .0) (λ c. search tops-all))
+    (search needs) (λ c. omega arith) (λ c. omega arith) (λ c. search (needs, tops-next)) (λ c. c .before .loop .inv .0) (λ c. search tops-all))

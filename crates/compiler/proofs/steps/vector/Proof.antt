@@ -5,8 +5,7 @@ use Rattle.compiler.proofs.steps.vector.Tie as tie
 
 vector-code-requires : tie.Need-vector-code-requires
 vector-code-requires c κs = (
-  omega
-      (arith, c .before .before .before .before .before .before .before .before .before .before .before .before .before .before .pre .0 .height),
+  omega (arith, c .before .before .before .before .before .before .before .before .before .before .before .before .before .before .pre .0 .height),
   omega arith,
 )
 
@@ -52,5 +51,4 @@ returns c =
 pub vector-spec : {M : Type 1} → statement M
 vector-spec =
     tie.close (tie.spec (search needs) (search needs) (λ c _. c .judge-most .ensures .fits)
-    (search needs) (λ c κs. search vector-names) vector-code-requires add-t18 add-t21 add-t22 (search needs)
-    (search needs) returns)
+    (search needs) (λ c κs. search vector-names) vector-code-requires add-t18 add-t21 add-t22 (search needs) (search needs) returns)

@@ -33,9 +33,6 @@ returns-3 c = spelling-mistake (when-mistake _ (c .before .before .character-at 
 
 pub characters-spec : {M : Type 1} → statement M
 characters-spec =
-    tie.close (tie.spec Inv-loop μ-loop (λ _. (refl, spelling-begin))
-    (search needs) (search needs) (search needs) add-i loop-less
-    (λ c. (search needs, search (spelling-next, when-is)))
-    (search needs) (search needs) (λ c. search (spelling-end, when-closing))
-    (search needs) (search needs) (λ c. search (spelling-ended, when-ended))
-    (search needs) (search needs) returns-3)
+    tie.close (tie.spec Inv-loop μ-loop (λ _. (refl, spelling-begin)) (search needs) (search needs) (search needs) add-i loop-less
+    (λ c. (search needs, search (spelling-next, when-is))) (search needs) (search needs) (λ c. search (spelling-end, when-closing))
+    (search needs) (search needs) (λ c. search (spelling-ended, when-ended)) (search needs) (search needs) returns-3)

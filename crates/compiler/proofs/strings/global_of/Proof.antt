@@ -12,5 +12,4 @@ abbrev μ-loop : tie.MeasureT-loop
 pub global-of-spec : {M : Type 1} → statement M
 global-of-spec =
     tie.close (tie.spec Inv-loop μ-loop (λ c. passed-begin)
-    (search needs) (λ c. search passed-found) (λ c. omega arith) (λ c. omega arith) (λ c. search passed-next)
-    (λ c. search passed-end))
+    (search needs) (λ c. search passed-found) (λ c. omega arith) (λ c. omega arith) (λ c. search passed-next) (λ c. search passed-end))

@@ -12,5 +12,4 @@ abbrev μ-loop : tie.MeasureT-loop
 pub starts-spec : {M : Type 1} → statement M
 starts-spec =
     tie.close (tie.spec Inv-loop μ-loop (λ c. (refl, starts-begin))
-    (search needs) (search needs) (search needs) (search needs) (λ c. (search needs, search starts-next))
-    (search needs) (λ c. search starts-end))
+    (search needs) (search needs) (search needs) (search needs) (λ c. (search needs, search starts-next)) (search needs) (λ c. search starts-end))

@@ -21,8 +21,7 @@ loop-again c =
     let loop = c .before .before .before .before .before .before .before .before .loop in (
       search needs,
       omega (arith, oneIf-small (entry .result)),
-      listing-next
-          (c .before .before .before .before .before .before .before .loop-test .taken) (entry .ensures .0)
+      listing-next (c .before .before .before .before .before .before .before .loop-test .taken) (entry .ensures .0)
           (c .before .before .before .before .before .entry2 .ensures .0) (c .one-if .ensures) (c .before .before .before .string-symbol .ensures)
           (loop .inv .2),
     )

@@ -163,8 +163,7 @@ locals-loop-again t c =
     let after-entry = after-set-at .before in let after-loop-test = after-entry .before .before in let after-loop = after-loop-test .before in (
       after-local .local .kept .1 .0 ∙ after-loop .loop .inv .0,
       after-local .local .kept .1 .1 .1 .0 ∙ after-loop .loop .inv .1,
-      λ y. locals-next _ _
-          (after-loop-test .loop-test .taken) (after-entry .entry .ensures .0) refl
+      λ y. locals-next _ _ (after-loop-test .loop-test .taken) (after-entry .entry .ensures .0) refl
           (local-gave-at (after-set-at .set-at .ensures) (after-local .local .ensures)) y (after-loop .loop .inv .2 y),
     )
 

@@ -166,8 +166,7 @@ args-loop-again t c =
     let after-entry = after-raised .before .before .before in let after-loop-test = after-entry .before .before in
     let after-loop = after-loop-test .before in (
       after-expr .expr .kept .1 .0 ∙ after-loop .loop .inv .0,
-      c .before .before .keep .kept .0 ∙ after-expr .expr .kept .1 .1 .1 .0
-          ∙ after-loop .loop .inv .1,
+      c .before .before .keep .kept .0 ∙ after-expr .expr .kept .1 .1 .1 .0 ∙ after-loop .loop .inv .1,
       λ y. args-next _ _ (after-loop .loop .k) (after-loop-test .loop-test .taken) (after-entry .entry .ensures .0) refl
           (gave-at _ (after-raised .raised .ensures) (after-expr .expr .ensures)) (c .before .before .keep .ensures) y (after-loop .loop .inv .2 y),
     )

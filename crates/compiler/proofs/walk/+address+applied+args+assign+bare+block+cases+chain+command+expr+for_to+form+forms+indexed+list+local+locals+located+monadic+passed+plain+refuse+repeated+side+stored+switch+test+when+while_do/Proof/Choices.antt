@@ -253,8 +253,7 @@ cases-loop-again t c =
     let after-entry = after-mark .before .before in let after-loop-test = after-entry .before .before in let after-loop = after-loop-test .before in
     let start = after-loop .before .before .before .before in (
       after-bare .bare .kept .1 .0 ∙ after-loop .loop .inv .0,
-      after-bare .bare .kept .1 .1 .1 .0 ∙ after-mark .mark .kept .0
-          ∙ after-loop .loop .inv .1,
+      after-bare .bare .kept .1 .1 .1 .0 ∙ after-mark .mark .kept .0 ∙ after-loop .loop .inv .1,
       omega (arith, after-loop .loop .inv .2),
       λ y. cases-next _ _ _ (start .args .first) (after-loop .loop .k)
           (after-loop-test .loop-test .taken) (after-entry .entry .ensures .0) refl (after-mark .mark .ensures) (after-bare .bare .ensures) y

@@ -166,8 +166,7 @@ chain-loop-again t c =
     let after-entry2 = after-keep .before .before in let after-entry = after-entry2 .before .before in
     let after-loop-test = after-entry .before .before in let after-loop = after-loop-test .before in (
       after-expr .expr .kept .1 .0 ∙ after-loop .loop .inv .0,
-      c .before .before .operate .kept .0 ∙ after-expr .expr .kept .1 .1 .1 .0
-          ∙ after-keep .keep .kept .0 ∙ after-loop .loop .inv .1,
+      c .before .before .operate .kept .0 ∙ after-expr .expr .kept .1 .1 .1 .0 ∙ after-keep .keep .kept .0 ∙ after-loop .loop .inv .1,
       λ y. chain-next _ _ (after-loop-test .loop-test .taken) (after-entry .entry .ensures .0)
           (after-entry2 .entry2 .ensures .0) refl (after-act-of .act-of .ensures) (after-keep .keep .ensures)
           (gave-at _ (after-raised .raised .ensures) (after-expr .expr .ensures)) (c .before .before .operate .ensures) y

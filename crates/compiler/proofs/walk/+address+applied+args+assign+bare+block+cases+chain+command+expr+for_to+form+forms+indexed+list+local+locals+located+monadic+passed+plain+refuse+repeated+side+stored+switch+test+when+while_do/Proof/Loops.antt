@@ -390,8 +390,7 @@ forms-loop-again t c =
     let after-entry = after-entry2 .before .before in let after-loop-test = after-entry .before .before in let after-loop = after-loop-test .before in
     let start = after-loop .before .before .before .before in (
       after-form .form .kept .1 .0 ∙ after-loop .loop .inv .0,
-      after-mark2 .mark2 .kept .0 ∙ after-form .form .kept .1 .1 .1 .0
-          ∙ after-mark .mark .kept .0 ∙ after-loop .loop .inv .1,
+      after-mark2 .mark2 .kept .0 ∙ after-form .form .kept .1 .1 .1 .0 ∙ after-mark .mark .kept .0 ∙ after-loop .loop .inv .1,
       omega (arith, after-loop .loop .inv .2),
       λ y. forms-next _ _ (start .args .innermost)
           (after-loop-test .loop-test .taken) (after-entry .entry .ensures .0) (after-entry2 .entry2 .ensures .0) refl (after-mark .mark .ensures)

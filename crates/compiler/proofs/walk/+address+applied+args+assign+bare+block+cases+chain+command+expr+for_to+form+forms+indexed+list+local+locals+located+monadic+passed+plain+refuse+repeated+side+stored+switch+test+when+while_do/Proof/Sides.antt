@@ -93,8 +93,7 @@ located-applied-requires t c κs =
     let after-inside = c .before .before .before in let after-less2 = after-inside .before in let after-entry = after-less2 .before in
     let after-less = after-entry .before .before in let after-node-at = after-less .before in
     let start = after-node-at .before .before .before .before .before in
-    both (omega (arith, start .pre .0, left-at, some-left, start .pre .1 .0 .small))
-    (suffixes-ready-at (after-inside .inside .ensures)
+    both (omega (arith, start .pre .0, left-at, some-left, start .pre .1 .0 .small)) (suffixes-ready-at (after-inside .inside .ensures)
     (address-left _ (after-node-at .node-at .ensures) (start .pre .1 .1) refl (after-less .less .ensures) (after-entry .entry .ensures .0)
     (after-less2 .less2 .ensures) (start .pre .1 .0)))
 
@@ -199,8 +198,7 @@ side-raised-requires t c κs =
     omega (
       arith,
       c .before .before .before .before .before .before .before .before .before .before .before .before .before .before .before .pre .1 .0 .height,
-      ap
-          (λ (x : Here). x .height) (c .inside2 .ensures),
+      ap (λ (x : Here). x .height) (c .inside2 .ensures),
     )
 
 side-expr-requires : (t : ℕ) → side-lts.Need-expr-requires (side-cs t) (at side-rank t) side.Post
@@ -275,8 +273,7 @@ stored-raised-requires t c κs =
     omega (
       arith,
       c .before .before .before .before .before .before .before .before .before .before .pre .1 .0 .height,
-      ap (λ (x : Here). x .height)
-          (c .inside .ensures),
+      ap (λ (x : Here). x .height) (c .inside .ensures),
     )
 
 stored-add-applied : (t : ℕ) → stored-lts.Need-add-applied (stored-cs t) (at stored-rank t) stored.Post
@@ -327,8 +324,7 @@ stored-raised-requires-2 t c κs =
       arith,
       start .pre .1 .0 .height,
       ap (λ (x : Here). x .height) (after-raised .raised .ensures),
-      ap (λ (x : Here). x .height)
-          (after-inside .inside .ensures),
+      ap (λ (x : Here). x .height) (after-inside .inside .ensures),
     )
 
 stored-expr-requires : (t : ℕ) → stored-lts.Need-expr-requires (stored-cs t) (at stored-rank t) stored.Post
@@ -435,8 +431,7 @@ assign-add-l t c =
       assign-is (start .args .source .now) (start .args .text .now) (after-loop-test .loop-test .taken) (after-entry .entry .ensures .0) refl
           (start .pre .1) (after-loop .loop .inv .2 (start .pre .1)) .before,
       start .pre .1 .ready .small,
-      after-loop .loop .inv .2
-          (start .pre .1) .starts,
+      after-loop .loop .inv .2 (start .pre .1) .starts,
       after-loop-test .loop-test .taken,
     )
 
@@ -451,8 +446,7 @@ assign-add-l-2 t c =
       assign-is (start .args .source .now) (start .args .text .now) (after-loop-test .loop-test .taken) (after-entry .entry .ensures .0) refl
           (start .pre .1) (after-loop .loop .inv .2 (start .pre .1)) .before,
       start .pre .1 .ready .small,
-      after-loop .loop .inv .2
-          (start .pre .1) .starts,
+      after-loop .loop .inv .2 (start .pre .1) .starts,
       after-loop-test .loop-test .taken,
     )
 
@@ -468,8 +462,7 @@ assign-loop-again t c =
     let after-expr = after-node-at .before .before .before .before .before .before in let after-entry = after-expr .before .before .before in
     let after-loop-test = after-entry .before .before in let after-loop = after-loop-test .before in (
       after-side .side .kept .1 .0 ∙ after-expr .expr .kept .1 .0 ∙ after-loop .loop .inv .0,
-      after-side .side .kept .1 .1 .1 .0
-          ∙ after-expr .expr .kept .1 .1 .1 .0 ∙ after-loop .loop .inv .1,
+      after-side .side .kept .1 .1 .1 .0 ∙ after-expr .expr .kept .1 .1 .1 .0 ∙ after-loop .loop .inv .1,
       λ y. assign-next _ _ (after-loop-test .loop-test .taken)
           (after-entry .entry .ensures .0) refl (after-expr .expr .ensures) _ (after-node-at .node-at .ensures) (after-side .side .ensures)
           (c .entry2 .ensures .0) refl y (after-loop .loop .inv .2 y),
