@@ -314,15 +314,25 @@ pub is-call : {s : List ℕ} {m end k : ℕ} {all : Suffixes} → (k ≡ 49 → 
 is-call n (aCall u) = u
 is-call n (anIndex u) = absurd (n refl)
 
-pub start-of : {s : List ℕ} {middle end inner size start : ℕ} → inner ≡ end - 2 → size ≡ getD s inner 0 → start ≡ inner - size
+-- what was read of it: its tag, where its size stands, and where it starts
+pub record LastRead (s : List ℕ) (middle end tag inner start : ℕ) : Type 0 where
+  pub some : middle < end
+  pub tag-is : tag ≡ getD s (end - 1) 0
+  pub inner-is : inner ≡ end - 2
+  pub start-is : start ≡ inner - getD s inner 0
+
+pub last-read : {s : List ℕ} {middle end j tag inner size start : ℕ} → middle < end → j ≡ end - 1 → tag ≡ getD s j 0 → inner ≡ end - 2
+    → size ≡ getD s inner 0 → start ≡ inner - size → LastRead s middle end tag inner start
+last-read {s} l ej et ei ez es = record { some = l; tag-is = et ∙ ap (λ (k : ℕ). getD s k 0) ej; inner-is = ei; start-is = omega arith }
+
+pub start-of : {s : List ℕ} {middle end tag inner start : ℕ} → LastRead s middle end tag inner start
     → {A : Type 0} {enc : A → List ℕ} {cons : A → Suffixes → Suffixes} {all : Suffixes} (u : IsLast enc cons s middle end all)
     → start ≡ middle + length (encodeSuffixes (u .init))
-start-of {s} ei ez es {enc = enc} u = let z = ez ∙ ap (λ (n : ℕ). getD s n 0) ei ∙ u .size-of in omega arith
+start-of {s} r u = let z = ap (λ (n : ℕ). getD s n 0) (r .inner-is) ∙ u .size-of in omega arith
 
-module _ {s : List ℕ} {middle end j tag inner size start : ℕ} {here : Here} {st : State} (l : middle < end) (ej : j ≡ end - 1) (et : tag ≡ getD s j 0)
-    (ei : inner ≡ end - 2) (ez : size ≡ getD s inner 0) (es : start ≡ inner - size) where
+module _ {s : List ℕ} {middle end tag inner start : ℕ} {here : Here} {st : State} (r : LastRead s middle end tag inner start) where
   pub the-last : (y : ReadySuffixes s middle end here st) → Last s middle end (y .ready .tree .suffixes) tag
-  the-last y = rw (et ∙ ap (λ (k : ℕ). getD s k 0) ej) (last (y .ready .tree .suffixes) (applied-lies y) (applied-ends y) l)
+  the-last y = rw (r .tag-is) (last (y .ready .tree .suffixes) (applied-lies y) (applied-ends y) (r .some))
 
   -- the primary with all but the last one
   module _ {A : Type 0} {enc : A → List ℕ} {cons : A → Suffixes → Suffixes} where
@@ -335,7 +345,7 @@ module _ {s : List ℕ} {middle end j tag inner size start : ℕ} {here : Here} 
       ready = sub {part = record { primary = a .primary; suffixes = u .init }} z k (both (encode (a .primary)) (encodeSuffixes (u .init))
           (first (encode (a .primary)) (encodeSuffixes (a .suffixes)) (z .lies)) (u .lies) (y .parts)) top (omega (
             arith,
-            start-of ei ez es u,
+            start-of r u,
             length-append (encode (a .primary)) (encodeSuffixes (u .init)),
           )) (z .fine .0, fine);
       parts = y .parts;
@@ -400,13 +410,13 @@ module _ {s : List ℕ} {middle end j tag inner size start : ℕ} {here : Here} 
     abbrev pub call-args : ReadySuffixes s middle end here st → ReadyArgs s start inner (raised 2 here) st
     call-args y = let z = y .ready in let u = is-call q (the-last y) in record {
       ready = sub z keeps-all (u .lies-part) refl (omega (arith, call-deep y .1)) (call-fine y .1);
-      starts = sym (start-of ei ez es u);
+      starts = sym (start-of r u);
     }
 
     pub call-count : {n : ℕ} → Counts s start inner n → (y : ReadySuffixes s middle end here st) → n ≡ T.count (is-call q (the-last y) .part)
     call-count k y =
         let u = is-call q (the-last y) in
-        k .by _ (expression-items (u .part) (rw (← (start-of ei ez es u)) at (u .lies-part)) (omega (arith, start-of ei ez es u)))
+        k .by _ (expression-items (u .part) (rw (← (start-of r u)) at (u .lies-part)) (omega (arith, start-of r u)))
 
     module _ (text : List ℕ) {n : ℕ} {s₁ t t₁ : List ℕ} {b : State} (k : Counts s start inner n)
         (g : GavePassed text s s₁ start inner here t t₁ st b) where
@@ -501,11 +511,9 @@ module _ {s : List ℕ} {end : ℕ} {here : Here} {st : State} (n : Node) (nd : 
         s′ t t′ st r) (sym (u .same)) (record { keeps = x .keeps; did = did-as _ _ (x .did) same-refl (λ m v. refl) (omega arith) });
   }
 
-pub call-few : {s : List ℕ} {middle end j tag inner size start n : ℕ} {here : Here} {st : State} (l : middle < end) (ej : j ≡ end - 1)
-    (et : tag ≡ getD s j 0) (ei : inner ≡ end - 2) (ez : size ≡ getD s inner 0) (es : start ≡ inner - size) (q : tag ≡ 49 → ⊥) → Counts s start inner
-    n → ReadySuffixes s middle end here st → n < end
-call-few l ej et ei ez es q k y =
-    let u = is-call q (the-last l ej et ei ez es y) in omega (arith, call-count l ej et ei ez es q k y, count-few (u .part))
+pub call-few : {s : List ℕ} {middle end tag inner start n : ℕ} {here : Here} {st : State} (r : LastRead s middle end tag inner start)
+    (q : tag ≡ 49 → ⊥) → Counts s start inner n → ReadySuffixes s middle end here st → n < end
+call-few r q k y = let u = is-call q (the-last r y) in omega (arith, call-count r q k y, count-few (u .part))
 
 -- ---- an index and arguments by themselves
 

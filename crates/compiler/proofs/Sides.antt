@@ -22,7 +22,7 @@ use Rattle.compiler.proofs.Trees.{IsTwo, Case, aMonadic, find, is-brack
 use Rattle.compiler.proofs.Parts.{sub}
 use Rattle.compiler.proofs.Expressions.{bracket-part}
 use Rattle.compiler.proofs.Calls.{IsLast, index-faults, index-means, Last, aCall, anIndex, last, snoc, is-index, the-last, no-suffix}
-use Rattle.compiler.proofs.Calls.{index-left, index-right, applied-lies, applied-ends, suffixed-is, suffixed-part, suffixed-middle, with-state}
+use Rattle.compiler.proofs.Calls.{last-read, index-left, index-right, applied-lies, applied-ends, suffixed-is, suffixed-part, suffixed-middle, with-state}
 use Rattle.compiler.proofs.Guards.{IsClosed, expression-closed, kind-of, shut}
 
 -- ---- places and values of records
@@ -395,15 +395,15 @@ module _ {s : List ℕ} {end : ℕ} {here : Here} {st : State} (n : Node) (nd : 
 
   module _ {inner size start : ℕ} (ei : inner ≡ n .inner - 2) (ez : size ≡ getD s inner 0) (es : start ≡ inner - size) where
     abbrev pub last-index : (y : ReadyE s end here st) → IsLast encode T.index s middle (n .inner) (indexed-is y .list)
-    last-index y = is-index (indexed-tag y) (the-last (indexed-some y) refl refl ei ez es (indexed-part y))
+    last-index y = is-index (indexed-tag y) (the-last (last-read (indexed-some y) refl refl ei ez es) (indexed-part y))
 
     abbrev pub address-left : ReadyE s end here st → ReadySuffixes s middle start (inside here) st
-    address-left y = index-left (indexed-some y) refl refl ei ez es (indexed-tag y) (indexed-part y)
+    address-left y = index-left (last-read (indexed-some y) refl refl ei ez es) (indexed-tag y) (indexed-part y)
 
     module _ (text : List ℕ) {s₁ t t₁ t₂ : List ℕ} {a b : State} (g : GaveSuffixes text s s₁ middle start (inside here) t t₁ st a)
         (f : Emits (G.SP (here .height) ∷ []) ((here .height + 1) ∷ []) t₁ t₂ a b) where
       abbrev pub address-right : ReadyE s end here st → ReadyE s₁ inner (raised 1 (inside here)) b
-      address-right y = with-state (f .label) (index-right (indexed-some y) refl refl ei ez es (indexed-tag y) text g (indexed-part y))
+      address-right y = with-state (f .label) (index-right (last-read (indexed-some y) refl refl ei ez es) (indexed-tag y) text g (indexed-part y))
 
       pub address-index-gave : {s₂ t₃ t₄ : List ℕ} {c d : State} → GaveE text s₁ s₂ inner (raised 1 (inside here)) t₂ t₃ b c
           → Emits (G.AIP (here .height) ∷ []) [] t₃ t₄ c d → GaveAddressIndex text s s₂ end here t t₄ st d

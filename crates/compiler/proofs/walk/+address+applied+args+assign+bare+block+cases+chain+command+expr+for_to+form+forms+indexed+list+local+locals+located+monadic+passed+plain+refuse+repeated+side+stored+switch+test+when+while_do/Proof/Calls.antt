@@ -4,7 +4,7 @@ use Rattle.compiler.proofs.walk.+address+applied+args+assign+bare+block
 use Rattle.compiler.proofs.Basics.{_<_, _-_, ℕ, _∙_, _≡_, refl, length, arith, needs}
 use Rattle.compiler.proofs.Vocabulary.{raised, ReadyArgs}
 use Rattle.compiler.proofs.Calls.{indexed-gave, passed-gave, with-state, args-with, ArgsPart, args-begin, args-part, args-next, args-end}
-use Rattle.compiler.proofs.Calls.{primary-part, primary-gave, index-left, index-right, index-gave, call-args, call-callee, call-gave, call-few}
+use Rattle.compiler.proofs.Calls.{LastRead, last-read, primary-part, primary-gave, index-left, index-right, index-gave, call-args, call-callee, call-gave, call-few}
 use Rattle.compiler.proofs.Calls.{args-ready-at, suffixes-ready-at, args-gave-at, suffixes-gave-at}
 use Rattle.compiler.proofs.Expressions.{ready-at, gave-at, left-at}
 use proofs.walk.applied.Reads as applied
@@ -32,89 +32,72 @@ applied-cs t =
     (below indexed-rank t, indexed.Post) (count.Asked, count.Learnt) (below passed-rank t, passed.Post) (raised-reads.Asked, raised-reads.Learnt)
     (put.Asked, put.Learnt)
 
+abbrev applied-start : (t : ℕ) → applied-lts.After-entry2 (applied-cs t) (at applied-rank t) applied.Post → applied-lts.Start (applied-cs t)
+    (at applied-rank t) applied.Post
+applied-start t c = c .before .before .before .before .before .before .before .before .before .before .before
+
+applied-read : (t : ℕ) (c : applied-lts.After-entry2 (applied-cs t) (at applied-rank t) applied.Post) → let args = applied-start t c .args in
+    LastRead (args .s .now) (args .middle) (args .end) (c .entry2 .result) (c .before .before .before .before .before .before .less .result)
+    (c .before .before .before .less2 .result)
+applied-read t c =
+    let after-less2 = c .before .before .before in let after-less = after-less2 .before .before .before in
+    last-read (after-less .before .if1 .left) (c .before .less3 .ensures) (c .entry2 .ensures .0) (after-less .less .ensures)
+    (after-less2 .before .entry .ensures .0) (after-less2 .less2 .ensures)
+
 applied-applied-requires : (t : ℕ) → applied-lts.Need-applied-requires (applied-cs t) (at applied-rank t) applied.Post
 applied-applied-requires t c κs =
-    let after-entry2 = c .before .before .before in let after-less3 = after-entry2 .before in let after-less2 = after-less3 .before .before in
-    let after-entry = after-less2 .before in let after-less = after-entry .before .before in let after-if1 = after-less .before in
-    let start = after-if1 .before .before .before .before in
-    both (omega (arith, start .pre .0, after-if1 .if1 .left))
-    (index-left (after-if1 .if1 .left) (after-less3 .less3 .ensures) (after-entry2 .entry2 .ensures .0) (after-less .less .ensures)
-    (after-entry .entry .ensures .0) (after-less2 .less2 .ensures) (c .before .before .if2 .taken) (start .pre .1))
+    let r = c .before .before .before in let start = applied-start t r in
+    both (omega (arith, start .pre .0, applied-read t r)) (index-left (applied-read t r) (c .before .before .if2 .taken) (start .pre .1))
 
 applied-indexed-requires : (t : ℕ) → applied-lts.Need-indexed-requires (applied-cs t) (at applied-rank t) applied.Post
 applied-indexed-requires t c κs =
     let after-applied = c .before .before .before .before .before .before in let after-if2 = after-applied .before .before .before in
-    let after-entry2 = after-if2 .before in let after-less3 = after-entry2 .before in let after-less2 = after-less3 .before .before in
-    let after-entry = after-less2 .before in let after-less = after-entry .before .before in let after-if1 = after-less .before in
-    let start = after-if1 .before .before .before .before in
+    let start = applied-start t (after-if2 .before) in
     both (omega (arith, start .pre .0))
-    (index-right (after-if1 .if1 .left) (after-less3 .less3 .ensures) (after-entry2 .entry2 .ensures .0) (after-less .less .ensures)
-    (after-entry .entry .ensures .0) (after-less2 .less2 .ensures) (after-if2 .if2 .taken) _ (after-applied .applied .ensures) (start .pre .1))
+    (index-right (applied-read t (after-if2 .before)) (after-if2 .if2 .taken) _ (after-applied .applied .ensures) (start .pre .1))
 
 applied-returns-2 : (t : ℕ) → applied-lts.Need-returns-2 (applied-cs t) (at applied-rank t) applied.Post
 applied-returns-2 t c =
-    let after-indexed = c .before .before .before .before in
-    let after-applied = after-indexed .before .before .before .before .before .before .before in
-    let after-if2 = after-applied .before .before .before in let after-entry2 = after-if2 .before in let after-less3 = after-entry2 .before in
-    let after-less2 = after-less3 .before .before in let after-entry = after-less2 .before in let after-less = after-entry .before .before in
-    let after-if1 = after-less .before in
-    index-gave (after-if1 .if1 .left) (after-less3 .less3 .ensures) (after-entry2 .entry2 .ensures .0) (after-less .less .ensures)
-    (after-entry .entry .ensures .0) (after-less2 .less2 .ensures) (after-if2 .if2 .taken) _ (after-applied .applied .ensures)
-    (after-indexed .indexed .ensures)
+    let after-indexed = c .before .before .before .before in let after-applied = after-indexed .before .before .before .before .before .before
+    .before in let after-if2 = after-applied .before .before .before in
+    index-gave (applied-read t (after-if2 .before)) (after-if2 .if2 .taken) _ (after-applied .applied .ensures) (after-indexed .indexed .ensures)
 
 applied-passed-requires : (t : ℕ) → applied-lts.Need-passed-requires (applied-cs t) (at applied-rank t) applied.Post
 applied-passed-requires t c κs =
-    let after-if2 = c .before .before .before .before in let after-entry2 = after-if2 .before in let after-less3 = after-entry2 .before in
-    let after-less2 = after-less3 .before .before in let after-entry = after-less2 .before in let after-less = after-entry .before .before in
-    let after-if1 = after-less .before in let start = after-if1 .before .before .before .before in
-    both (omega (arith, start .pre .0))
-    (call-args (after-if1 .if1 .left) (after-less3 .less3 .ensures) (after-entry2 .entry2 .ensures .0) (after-less .less .ensures)
-    (after-entry .entry .ensures .0) (after-less2 .less2 .ensures) (after-if2 .if2 .left) (start .pre .1))
+    let after-if2 = c .before .before .before .before in let start = applied-start t (after-if2 .before) in
+    both (omega (arith, start .pre .0)) (call-args (applied-read t (after-if2 .before)) (after-if2 .if2 .left) (start .pre .1))
 
-applied-few : (t : ℕ) (c : applied-lts.After-count (applied-cs t) (at applied-rank t) applied.Post) → c .count .result
-    < c .before .before .before .before .before .before .before .before .before .before .before .before .before .before .args .end
+applied-few : (t : ℕ) (c : applied-lts.After-count (applied-cs t) (at applied-rank t) applied.Post) → c .count .result < applied-start t
+    (c .before .before .before) .args .end
 applied-few t c =
-    let after-if2 = c .before .before in let after-entry2 = after-if2 .before in let after-less3 = after-entry2 .before in
-    let after-less2 = after-less3 .before .before in let after-entry = after-less2 .before in let after-less = after-entry .before .before in
-    let after-if1 = after-less .before in let start = after-if1 .before .before .before .before in
-    call-few (after-if1 .if1 .left) (after-less3 .less3 .ensures) (after-entry2 .entry2 .ensures .0) (after-less .less .ensures)
-    (after-entry .entry .ensures .0) (after-less2 .less2 .ensures) (after-if2 .if2 .left) (c .count .ensures) (start .pre .1)
+    let r = c .before .before .before in
+    call-few (applied-read t r) (c .before .before .if2 .left) (c .count .ensures) (applied-start t r .pre .1)
 
 applied-applied-requires-2 : (t : ℕ) → applied-lts.Need-applied-requires-2 (applied-cs t) (at applied-rank t) applied.Post
 applied-applied-requires-2 t c κs =
     let after-passed = c .before .before .before .before .before .before .before in let after-count = after-passed .before .before .before in
-    let after-if2 = after-count .before .before in let after-entry2 = after-if2 .before in let after-less3 = after-entry2 .before in
-    let after-less2 = after-less3 .before .before in let after-entry = after-less2 .before in let after-less = after-entry .before .before in
-    let after-if1 = after-less .before in let start = after-if1 .before .before .before .before in
-    both (omega (arith, start .pre .0, left-at, after-less .less .ensures, after-less2 .less2 .ensures, after-if1 .if1 .left))
-    (suffixes-ready-at (c .raised .ensures)
-    (call-callee (after-if1 .if1 .left) (after-less3 .less3 .ensures) (after-entry2 .entry2 .ensures .0) (after-less .less .ensures)
-    (after-entry .entry .ensures .0) (after-less2 .less2 .ensures) (after-if2 .if2 .left) _ (after-count .count .ensures)
-    (after-passed .passed .ensures) (start .pre .1)))
+    let after-if2 = after-count .before .before in let r = after-if2 .before in let start = applied-start t r in
+    both (omega (arith, start .pre .0, left-at, applied-read t r)) (suffixes-ready-at (c .raised .ensures)
+    (call-callee (applied-read t r) (after-if2 .if2 .left) _ (after-count .count .ensures) (after-passed .passed .ensures) (start .pre .1)))
 
 applied-returns-3 : (t : ℕ) → applied-lts.Need-returns-3 (applied-cs t) (at applied-rank t) applied.Post
 applied-returns-3 t c =
     let after-applied2 = c .before .before .before .before .before .before .before .before in let after-raised = after-applied2 .before in
     let after-passed = after-raised .before .before .before .before .before .before .before in
-    let after-count = after-passed .before .before .before in let after-if2 = after-count .before .before in let after-entry2 = after-if2 .before in
-    let after-less3 = after-entry2 .before in let after-less2 = after-less3 .before .before in let after-entry = after-less2 .before in
-    let after-less = after-entry .before .before in let after-if1 = after-less .before in
-    call-gave (after-if1 .if1 .left) (after-less3 .less3 .ensures) (after-entry2 .entry2 .ensures .0) (after-less .less .ensures)
-    (after-entry .entry .ensures .0) (after-less2 .less2 .ensures) (after-if2 .if2 .left) _ (after-count .count .ensures)
-    (after-passed .passed .ensures) (suffixes-gave-at (after-raised .raised .ensures) (after-applied2 .applied2 .ensures))
-    (c .before .before .put .ensures)
+    let after-count = after-passed .before .before .before in let after-if2 = after-count .before .before in
+    call-gave (applied-read t (after-if2 .before)) (after-if2 .if2 .left) _ (after-count .count .ensures) (after-passed .passed .ensures)
+    (suffixes-gave-at (after-raised .raised .ensures) (after-applied2 .applied2 .ensures)) (c .before .before .put .ensures)
 
 pub applied-ok : {M : Type 1} (t : ℕ) → applied-lts.Closed (applied-cs t) (at applied-rank t) applied.Post M
 applied-ok t =
     applied-lts.spec (applied-cs t) (at applied-rank t) applied.Post (λ c κs. search (needs, primary-part)) (λ c. search needs) (λ c. search needs)
     (λ c. search primary-gave) (λ c κs. search needs) (λ c κs. search needs) (λ c κs. search needs) (λ c κs. search needs) (λ c κs. search needs)
     (applied-applied-requires t) (applied-indexed-requires t) (λ c. search needs) (λ c. search needs) (applied-returns-2 t) (λ c κs. omega arith)
-    (applied-passed-requires t) (λ c. let h = c .before .before .before .before .before .before .before .before .before in
-    let y = h .before .before .before .before .before .before .before .before .before .before .before .before .before .before .pre .1 .ready in
-    omega (arith, applied-few t h)) (λ c κs. let h = c .before .before .before .before .before .before .before .before .before in
-    let y = h .before .before .before .before .before .before .before .before .before .before .before .before .before .before .pre .1 .ready in
-    omega (arith, applied-few t h)) (applied-applied-requires-2 t) (λ c κs. search needs) (λ c. search needs) (λ c. search needs) (applied-returns-3
-    t)
+    (applied-passed-requires t) (λ c. let h = c .before .before .before .before .before .before .before .before .before in let y = applied-start t
+    (h .before .before .before) .pre .1 .ready in omega (arith, applied-few t h))
+    (λ c κs. let h = c .before .before .before .before .before .before .before .before .before in let y = applied-start t
+    (h .before .before .before) .pre .1 .ready in omega (arith, applied-few t h)) (applied-applied-requires-2 t) (λ c κs. search needs)
+    (λ c. search needs) (λ c. search needs) (applied-returns-3 t)
 
 abbrev args-cs : ℕ → args-lts.Claims
 args-cs t = (entry.Asked, entry.Learnt, raised-reads.Asked, raised-reads.Learnt, below expr-rank t, expr.Post, keep.Asked, keep.Learnt)
