@@ -200,14 +200,13 @@ module _ (text : List ℕ) {s : List ℕ} {from end top : ℕ} (st₀ : State) w
 
   pub own-begin : {seen : List ℕ} (y : Listed (LabelAt s) s from end top) (first : List Label) → Marks seen (labelsOf text (y .scope) first)
       → OwnPart y first seen from st₀
-  own-begin {seen} y first m = left-all (Rest y first seen st₀) (y .row) (record { before = first; marks = m; finish = λ seen′ st′ d. d })
+  own-begin {seen} y first m = left-all (y .row) (record { before = first; marks = m; finish = λ seen′ st′ d. d })
 
   pub own-next : {at next : ℕ} {seen seen₁ : List ℕ} {st r : State} → at < end → NextItem s at end next → JudgesLabel text s next top seen seen₁ st r
       → (y : Listed (LabelAt s) s from end top) (first : List Label) → OwnPart y first seen at st → OwnPart y first seen₁ next r
   unfolding doubled
   own-next {seen₁ = seen₁} {st} {r} l n j y first p = let sc = y .scope in
-      left-next (Rest y first seen₁ r) l n p
-      (λ x xs e q h. let b = h .before in let k = j .by sc b x (y .shows) q (h .marks) in record {
+      left-next l n p (λ x xs e q h. let b = h .before in let k = j .by sc b x (y .shows) q (h .marks) in record {
         before = b ++ (x ∷ []);
         marks = k .marks;
         finish = λ seen′ st′ d. h .finish seen′ st′ (record {
@@ -240,7 +239,7 @@ module _ (text : List ℕ) {s : List ℕ} {from end top : ℕ} (st₀ : State) w
 
   pub list-begin : {seen : List ℕ} → seen ≡ replicate 8193 0 → (y : ReadyLabels s from end top) → ListPart y seen from st₀
   unfolding labelsOf
-  list-begin {seen} e y = left-all (Others y seen st₀) (list-of y .row) (record {
+  list-begin {seen} e y = left-all (list-of y .row) (record {
     before = [];
     marks = marks-none refl e;
     finish = λ t st′ d. rw (among-is text (y .scope) [] (y .commands)) at d;
@@ -251,8 +250,7 @@ module _ (text : List ℕ) {s : List ℕ} {from end top : ℕ} (st₀ : State) w
       → (y : ReadyLabels s from end top) → ListPart y seen at st → ListPart y seen₁ next r
   unfolding faultsAmong
   list-next {seen₁ = seen₁} {r = r} l n i j y p =
-      left-next (Others y seen₁ r) l n p
-      (λ ls lss e q h. let k = j .by (own-labels i (list-of y) ls q) (h .before) (h .marks) in record {
+      left-next l n p (λ ls lss e q h. let k = j .by (own-labels i (list-of y) ls q) (h .before) (h .marks) in record {
         before = h .before ++ ls;
         marks = k .marks;
         finish = λ t st′ d. h .finish t st′ (did-as nothing 0 (did-then (k .did t) d) same-refl (λ v z. refl) (omega arith));

@@ -93,12 +93,12 @@ pub next-is : {s : List ℕ} {at end n : ℕ} → n ≡ at + 2 + getD s at 0 →
 next-is e m = record { further = omega arith; within = omega arith; is = λ h. e }
 
 module _ {A : Type 0} {P : ℕ → A → Type 0} {s : List ℕ} {end : ℕ} where
-  pub left-all : {from : ℕ} (Q : List A → Type 0) {xs : List A} → Row P s end from xs → Q xs → Left P s end from Q
-  left-all Q {xs} r h = record { rest = xs; row = r; holds = h }
+  pub left-all : {from : ℕ} {Q : List A → Type 0} {xs : List A} → Row P s end from xs → Q xs → Left P s end from Q
+  left-all {xs = xs} r h = record { rest = xs; row = r; holds = h }
 
-  pub left-next : {at next : ℕ} {Q : List A → Type 0} (Q′ : List A → Type 0) → at < end → NextItem s at end next → Left P s end at Q
+  pub left-next : {at next : ℕ} {Q Q′ : List A → Type 0} → at < end → NextItem s at end next → Left P s end at Q
       → ((x : A) (xs : List A) → next ≡ at + 2 + getD s at 0 → P next x → Q (x ∷ xs) → Q′ xs) → Left P s end next Q′
-  left-next {at} {next} {Q} Q′ l n p step = go (p .rest) (p .row) (p .holds)
+  left-next {at} {next} {Q} {Q′} l n p step = go (p .rest) (p .row) (p .holds)
     where
       go : (xs : List A) → Row P s end at xs → Q xs → Left P s end next Q′
       go [] (noMore e) h = absurd (omega arith)
@@ -179,18 +179,13 @@ module _ (text : List ℕ) {s : List ℕ} {from end top : ℕ} (st₀ : State) w
       nothing 0 t t st₀ st′)
 
   pub misplaced-begin : (y : ReadyMisplaced s from end top) → MisplacedPart y from st₀
-  misplaced-begin y =
-      left-all
-      (λ rest. (t : List ℕ) (st′ : State) → Did (misplaced text (y .scope) rest) nothing 0 t t st₀ st′ → Did (misplaced text (y .scope) (y .labels))
-      nothing 0 t t st₀ st′) (labels-row (y .labels) (y .fine) (y .lies) (y .ends)) (λ t st′ d. d)
+  misplaced-begin y = left-all (labels-row (y .labels) (y .fine) (y .lies) (y .ends)) (λ t st′ d. d)
 
   pub misplaced-next : {at next : ℕ} {st r : State} → at < end → NextItem s at end next → MisplacesLabel text s next top st r
       → (y : ReadyMisplaced s from end top) → MisplacedPart y at st → MisplacedPart y next r
   misplaced-next {at} {next} {st} {r} l n m y p =
-      left-next
-      (λ rest. (t : List ℕ) (st′ : State) → Did (misplaced text (y .scope) rest) nothing 0 t t r st′ → Did (misplaced text (y .scope) (y .labels))
-      nothing 0 t t st₀ st′) l n p (λ x xs e q h t st′ d. h t st′
-      (did-as nothing 0 (did-then (m .by (y .scope) x (y .shows) q t) d) (same-eq (misplaced-then text (y .scope) x xs)) (λ v z. refl) (omega arith)))
+      left-next l n p (λ x xs e q h t st′ d. h t st′ (did-as nothing 0 (did-then (m .by (y .scope) x (y .shows) q t) d)
+      (same-eq (misplaced-then text (y .scope) x xs)) (λ v z. refl) (omega arith)))
 
   pub misplaced-end : {at : ℕ} {st : State} → end ≤ at → ((y : ReadyMisplaced s from end top) → MisplacedPart y at st)
       → Misplaces text s from end top st₀ st

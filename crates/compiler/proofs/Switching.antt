@@ -170,12 +170,17 @@ module _ {A : Type 0} (K : Holding A) where
     CountPart at n xs = Left (K .At) s end at (λ rest. caseItems (K .every xs) ≡ n + caseItems (K .every rest))
 
     pub count-begin : {from : ℕ} (xs : List A) → Row (K .At) s end from xs → CountPart from 0 xs
-    count-begin xs r = left-all (λ rest. caseItems (K .every xs) ≡ 0 + caseItems (K .every rest)) r (omega arith)
+    count-begin xs r = left-all r (omega arith)
 
     pub count-next : {at next k : ℕ} (n : ℕ) → at < end → NextItem s at end next → ((x : A) → K .At next x → k ≡ caseItems (K .one x)) → (xs : List A)
         → CountPart at n xs → CountPart next (n + k) xs
-    count-next {at} {next} {k} n l m f xs p = left-next (λ rest. caseItems (K .every xs) ≡ n + k + caseItems (K .every rest)) l m p
-        (λ x ys e q h. omega (arith, f x q, ap caseItems (K .more x ys), cases-then (K .one x) (K .every ys)))
+    count-next {at} {next} {k} n l m f xs p = left-next l m p (λ x ys e q h. omega (
+      arith,
+      f x q,
+      ap caseItems (K .more x ys),
+      cases-then (K .one x)
+          (K .every ys),
+    ))
 
     pub count-end : {at n : ℕ} → end ≤ at → (xs : List A) → CountPart at n xs → n ≡ caseItems (K .every xs)
     unfolding caseItems
@@ -225,16 +230,14 @@ module _ (s : List ℕ) (end : ℕ) where
       Left (LabelAt s) s end at (λ rest. (text : List ℕ) (sc : Scope) → hasDefault (labelsOf text sc ls) ≡ hasDefault (labelsOf text sc rest))
 
   pub among-begin : {from : ℕ} (ls : List Label) → Row (LabelAt s) s end from ls → AmongPart from ls
-  among-begin ls r =
-      left-all (λ rest. (text : List ℕ) (sc : Scope) → hasDefault (labelsOf text sc ls) ≡ hasDefault (labelsOf text sc rest)) r (λ text sc. refl)
+  among-begin ls r = left-all r (λ text sc. refl)
 
   module _ {at next k : ℕ} (l : at < end) (n : NextItem s at end next) (f : CountsLabel s next k) where
     pub among-next : (k ≡ 0 → ⊥) → (ls : List Label) → AmongPart at ls → AmongPart next ls
-    among-next z ls p = left-next (λ rest. (text : List ℕ) (sc : Scope) → hasDefault (labelsOf text sc ls) ≡ hasDefault (labelsOf text sc rest)) l n p
-        (λ x xs e q h text sc. h text sc ∙ default-not text sc x xs (λ w. z (f .by x q ∙ w)))
+    among-next z ls p = left-next l n p (λ x xs e q h text sc. h text sc ∙ default-not text sc x xs (λ w. z (f .by x q ∙ w)))
 
     pub among-found : k ≡ 0 → (ls : List Label) → AmongPart at ls → (text : List ℕ) (sc : Scope) → true ≡ hasDefault (labelsOf text sc ls)
-    among-found z ls p text sc = left-next (λ rest. true ≡ hasDefault (labelsOf text sc ls)) l n p
+    among-found z ls p text sc = left-next {Q′ = λ rest. true ≡ hasDefault (labelsOf text sc ls)} l n p
         (λ x xs e q h. sym (h text sc ∙ default-there text sc x xs (sym (f .by x q) ∙ z))) .holds
 
   pub among-end : {at : ℕ} → end ≤ at → (ls : List Label) → AmongPart at ls → (text : List ℕ) (sc : Scope) → false ≡ hasDefault (labelsOf text sc ls)
@@ -247,8 +250,7 @@ module _ (s : List ℕ) (end first done : ℕ) where
       Left (CommandAt s) s end at (λ rest. (text : List ℕ) (sc : Scope) → defaultAmong text sc first done lss ≡ defaultAmong text sc k done rest)
 
   pub default-begin : {from : ℕ} (lss : List (List Label)) → Row (CommandAt s) s end from lss → DefaultPart from first lss
-  default-begin lss r =
-      left-all (λ rest. (text : List ℕ) (sc : Scope) → defaultAmong text sc first done lss ≡ defaultAmong text sc first done rest) r (λ text sc. refl)
+  default-begin lss r = left-all r (λ text sc. refl)
 
   module _ {at next : ℕ} (k : ℕ) {sp : Span} {b : Bool} (l : at < end) (n : NextItem s at end next) (i : Spans s next sp)
       (h : HasDefault s (sp .from) (sp .to) b) where
@@ -256,15 +258,13 @@ module _ (s : List ℕ) (end first done : ℕ) where
         → FindsDefault s from end first done k
     unfolding defaultAmong
     default-found e p = record {
-      by = λ lss r text sc. left-next (λ rest. k ≡ defaultAmong text sc first done lss) l n (p lss r)
+      by = λ lss r text sc. left-next {Q′ = λ rest. k ≡ defaultAmong text sc first done lss} l n (p lss r)
           (λ ls more z q g. sym (cc (g text sc, h .by ls (i .by ls q) text sc))) .holds;
     }
 
     pub default-next : b ≡ false → (lss : List (List Label)) → DefaultPart at k lss → DefaultPart next (k + 1) lss
     unfolding defaultAmong
-    default-next e lss p =
-        left-next (λ rest. (text : List ℕ) (sc : Scope) → defaultAmong text sc first done lss ≡ defaultAmong text sc (k + 1) done rest) l n p
-        (λ ls more z q g text sc. cc (g text sc, h .by ls (i .by ls q) text sc))
+    default-next e lss p = left-next l n p (λ ls more z q g text sc. cc (g text sc, h .by ls (i .by ls q) text sc))
 
   pub default-end : {from at : ℕ} (k : ℕ) → end ≤ at → ((lss : List (List Label)) → Row (CommandAt s) s end from lss → DefaultPart at k lss)
       → FindsDefault s from end first done done
@@ -343,18 +343,12 @@ module _ (text : List ℕ) {s : List ℕ} {from end top : ℕ} (k : ℕ) (t₀ :
       (G.pairsOf k (labelsOf text (y .scope) (y .all))) [] t₀ t′ st₀ st′))
 
   pub pairs-begin : (y : Listed (LabelAt s) s from end top) → Sound text (y .scope) (y .all) → PairsPart y t₀ from st₀
-  pairs-begin y so =
-      left-all (λ rest. Sound text (y .scope) rest
-      × ((t′ : List ℕ) (st′ : State) → Emits (G.pairsOf k (labelsOf text (y .scope) rest)) [] t₀ t′ st₀ st′ → Emits
-      (G.pairsOf k (labelsOf text (y .scope) (y .all))) [] t₀ t′ st₀ st′)) (y .row) (so, λ t′ st′ e. e)
+  pairs-begin y so = left-all (y .row) (so, λ t′ st′ e. e)
 
   pub pairs-next : {at next : ℕ} {t t₁ : List ℕ} {st r : State} → at < end → NextItem s at end next → WritesPair text s next top k t t₁ st r
       → (y : Listed (LabelAt s) s from end top) → PairsPart y t at st → PairsPart y t₁ next r
   pairs-next {at} {next} {t} {t₁} {st} {r} l n w y p = let sc = y .scope in
-      left-next (λ rest. Sound text sc rest
-      × ((t′ : List ℕ) (st′ : State) → Emits (G.pairsOf k (labelsOf text sc rest)) [] t₁ t′ r st′ → Emits (G.pairsOf k (labelsOf text sc (y .all)))
-      [] t₀ t′ st₀ st′)) l n p
-      (λ x xs e q h. (
+      left-next l n p (λ x xs e q h. (
         sound-right (x ∷ []) xs (h .0),
         λ t′ st′ d. h .1 t′ st′ (emits-as (emits-then (w .by sc x (y .shows) q (sound-left (x ∷ []) xs (h .0))) d) (pairs-then text sc k x xs)),
       ))
@@ -373,20 +367,14 @@ module _ (text : List ℕ) {s : List ℕ} {from end top : ℕ} (first : ℕ) (t�
       [] t₀ t′ st₀ st′))
 
   pub table-begin : (y : Listed (CommandAt s) s from end top) → Sound text (y .scope) (flat (y .all)) → TablePart y t₀ from first st₀
-  table-begin y so =
-      left-all (λ rest. Sound text (y .scope) (flat rest)
-      × ((t′ : List ℕ) (st′ : State) → Emits (tableAmong text (y .scope) first rest) [] t₀ t′ st₀ st′ → Emits
-      (tableAmong text (y .scope) first (y .all)) [] t₀ t′ st₀ st′)) (y .row) (so, λ t′ st′ e. e)
+  table-begin y so = left-all (y .row) (so, λ t′ st′ e. e)
 
   pub table-next : {at next k : ℕ} {sp : Span} {t t₁ : List ℕ} {st r : State} → at < end → NextItem s at end next → Spans s next sp
       → WritesPairs text s (sp .from) (sp .to) top k t t₁ st r → (y : Listed (CommandAt s) s from end top) → TablePart y t at k st
       → TablePart y t₁ next (k + 1) r
   unfolding flat tableAmong
   table-next {at} {next} {k} {sp} {t} {t₁} {st} {r} l n i w y p = let sc = y .scope in
-      left-next (λ rest. Sound text sc (flat rest)
-      × ((t′ : List ℕ) (st′ : State) → Emits (tableAmong text sc (k + 1) rest) [] t₁ t′ r st′ → Emits (tableAmong text sc first (y .all)) [] t₀ t′
-      st₀ st′)) l n p
-      (λ ls lss e q h. (
+      left-next l n p (λ ls lss e q h. (
         sound-right ls (flat lss) (h .0),
         λ t′ st′ d. h .1 t′ st′ (emits-then (w .by (own-labels i y ls q) (sound-left ls (flat lss) (h .0))) d),
       ))
