@@ -69,31 +69,19 @@ fault-not : {place number : ℕ} → fault place number ≡ [] → ⊥
 fault-not {place} {number} e = let z : length (fault place number) ≡ 0 = ap length e in omega arith
 
 module _ {place number : ℕ} {st r : State} (fits : (place < 2 ^ 32) × (number < 32)) (label : r .label ≡ st .label) where
+  faulted : r .worst ≡ least (st .worst) (fault place number) → Faulted place number st r
+  faulted e = record {
+    by = λ code t. record
+        { worst = e; fits = andFit (fits .0) (fits .1) noFit; few = omega arith; grows = omega arith; clean = λ n. absurd (fault-not n) };
+  }
+
   pub faulted-new : place * 32 + number < st .worst → r .worst ≡ place * 32 + number → Faulted place number st r
   unfolding least
-  faulted-new l e =
-      record {
-        by = λ code t. record {
-          worst = e ∙ rw (lt-ltb (place * 32 + number) (st .worst) l);
-          fits = andFit (fits .0) (fits .1) noFit;
-          few = omega arith;
-          grows = omega arith;
-          clean = λ n. absurd (fault-not n);
-        };
-      }
+  faulted-new l e = faulted (e ∙ rw (lt-ltb (place * 32 + number) (st .worst) l))
 
   pub faulted-old : st .worst ≤ place * 32 + number → r .worst ≡ st .worst → Faulted place number st r
   unfolding least
-  faulted-old l e =
-      record {
-        by = λ code t. record {
-          worst = e ∙ rw (le-ltb (place * 32 + number) (st .worst) l);
-          fits = andFit (fits .0) (fits .1) noFit;
-          few = omega arith;
-          grows = omega arith;
-          clean = λ n. absurd (fault-not n);
-        };
-      }
+  faulted-old l e = faulted (e ∙ rw (le-ltb (place * 32 + number) (st .worst) l))
 
 -- ---- one after another
 
