@@ -40,7 +40,3 @@ module _ (text : List ℕ) (sc : Scope) (here : Here) (ways : Ways) (h : ℕ) {c
   pub with-ways : (e : Expression) → Did (inExpression text sc (leavable here) h e) c k t t′ st r
       → Did (inExpression text sc (leavableBy ways here) h e) c k t t′ st r
   with-ways e d = rw (any-expression text (leavable here) (leavableBy ways here) refl sc h e) at d
-
-  pub all-with-ways : (es : Expressions) → Did (inExpressions text sc (leavable here) h es) c k t t′ st r
-      → Did (inExpressions text sc (leavableBy ways here) h es) c k t t′ st r
-  all-with-ways es d = rw (any-expressions text (leavable here) (leavableBy ways here) refl sc h es) at d

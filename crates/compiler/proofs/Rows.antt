@@ -86,12 +86,6 @@ pub record Left {A : Type 0} (P : ℕ → A → Type 0) (s : List ℕ) (end at :
   pub row : Row P s end at rest
   pub holds : Q rest
 
-pub next-cut : {s : List ℕ} {at end n r : ℕ} → at < end → n ≡ at + 2 + getD s at 0 → end ≤ n → r ≡ end → NextItem s at end r
-next-cut l e m q = record { further = omega arith; within = omega arith; is = λ h. omega arith }
-
-pub next-is : {s : List ℕ} {at end n : ℕ} → n ≡ at + 2 + getD s at 0 → n < end → NextItem s at end n
-next-is e m = record { further = omega arith; within = omega arith; is = λ h. e }
-
 module _ {A : Type 0} {P : ℕ → A → Type 0} {s : List ℕ} {end : ℕ} where
   pub left-all : {from : ℕ} {Q : List A → Type 0} {xs : List A} → Row P s end from xs → Q xs → Left P s end from Q
   left-all {xs = xs} r h = record { rest = xs; row = r; holds = h }

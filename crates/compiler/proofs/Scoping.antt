@@ -164,9 +164,6 @@ module _ (text s : List ℕ) (leaf at : ℕ) where
       not-mark : (b : ℕ) → at ≡ b + 2 → getD s (b + 1) 0 ≡ 0 → ⊥
       not-mark b e y = let g : at - 2 + 1 ≡ b + 1 = omega arith in q (r ∙ get-as s g ∙ y)
 
-      sought : named place width ≡ nameAt s leaf
-      sought = ap (λ (k : ℕ). named k width) rp ∙ ap (λ (k : ℕ). named (getD s (leaf + 2) 0) k) rw
-
       told : (b : ℕ) {n : Name} {t : Bool} → at ≡ b + 2 → getD s b 0 ≡ packed n → FineName n
           → t ≡ sameName text (named (x / 65536) (x % 65536)) (named place width) → t ≡ sameName text n (nameAt s leaf)
       told b {n} {t} e y fine f =

@@ -1,6 +1,6 @@
 -- How many strings there are, and that every string among a source's symbols ends: a scanned string is closed, numbering keeps kinds
 -- and places, and an inserted semicolon is no string.
-use Rattle.compiler.proofs.Basics.{ℕ, zero, suc, _+_, _-_, _≤_, _≡_, refl, ap, _∙_, Bool, true, false, not, cond, _&&_, List, [], _∷_, arith}
+use Rattle.compiler.proofs.Basics.{ℕ, zero, suc, _+_, _-_, _≡_, refl, ap, _∙_, Bool, true, false, not, cond, _&&_, List, [], _∷_, arith}
 use Rattle.compiler.proofs.Basics.{eqb, leb, length, drop, drop-drop, eqb-false, not-true}
 use Rattle.text.specs.Quoted.{Quoted, closed, unclosed, faulty, charactersOf, quoted}
 use Rattle.text.proofs.Booleans.{both-true}
@@ -29,15 +29,6 @@ string-count-is source (x ∷ xs) = go (eqb (x .kind) STRING) (string-count-is s
         length (cond b (charactersOf (quoted 34 255 0 (drop (suc (x .place)) source)) ∷ stringsAmong source xs) (stringsAmong source xs))
     go true e = ap suc e
     go false e = e
-
-pub string-count-most : (ss : List Symbol) → stringCount ss ≤ length ss
-unfolding stringCount
-string-count-most [] = omega arith
-string-count-most (x ∷ xs) = go (eqb (x .kind) STRING) (string-count-most xs)
-  where
-    go : (b : Bool) → stringCount xs ≤ length xs → cond b (suc (stringCount xs)) (stringCount xs) ≤ suc (length xs)
-    go true e = omega arith
-    go false e = omega arith
 
 -- ---- elements: one that is a string has its characters and the quote behind its first byte
 

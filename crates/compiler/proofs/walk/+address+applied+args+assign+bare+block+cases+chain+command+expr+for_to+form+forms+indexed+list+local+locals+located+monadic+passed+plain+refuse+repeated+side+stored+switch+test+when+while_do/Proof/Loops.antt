@@ -2,7 +2,7 @@
 use Rattle.compiler.proofs as proofs
 use Rattle.compiler.proofs.walk.+address+applied+args+assign+bare+block+cases+chain+command+expr+for_to+form+forms+indexed+list+local+locals+located+monadic+passed+plain+refuse+repeated+side+stored+switch+test+when+while_do as cycle
 use Rattle.compiler.specs.Commands.{ReadyForms}
-use Rattle.compiler.proofs.Fors.{for-room, for-first, for-limit, for-keeps, for-name-fine, for-body, for-gave}
+use Rattle.compiler.proofs.Fors.{for-room, for-first, for-limit, for-name-fine, for-body, for-gave}
 use Rattle.compiler.proofs.Conditions.{while-test, while-body, while-gave}
 use Rattle.compiler.proofs.RepeatForms.{FormsPart, forms-begin, forms-part, forms-next, forms-end, form-alone, form-tested, repeated-few}
 use Rattle.compiler.proofs.RepeatForms.{repeated-body, repeated-forms, repeated-gave, once-part, once-gave}
