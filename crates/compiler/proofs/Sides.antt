@@ -22,7 +22,8 @@ use Rattle.compiler.proofs.Trees.{IsTwo, Case, aMonadic, find, is-brack
 use Rattle.compiler.proofs.Parts.{sub}
 use Rattle.compiler.proofs.Expressions.{bracket-part}
 use Rattle.compiler.proofs.Calls.{IsLast, index-faults, index-means, Last, aCall, anIndex, last, snoc, is-index, the-last, no-suffix}
-use Rattle.compiler.proofs.Calls.{last-read, index-left, index-right, applied-lies, applied-ends, suffixed-is, suffixed-part, suffixed-middle, with-state}
+use Rattle.compiler.proofs.Calls.{last-read, index-left, index-right, applied-lies, applied-ends, suffixed-is, suffixed-part, suffixed-middle}
+use Rattle.compiler.proofs.Calls.{with-state}
 use Rattle.compiler.proofs.Guards.{IsClosed, expression-closed, kind-of, shut}
 
 -- ---- places and values of records

@@ -4,7 +4,8 @@ use Rattle.compiler.proofs.walk.+address+applied+args+assign+bare+block
 use Rattle.compiler.proofs.Basics.{_<_, _-_, ℕ, _∙_, _≡_, refl, length, arith, needs}
 use Rattle.compiler.proofs.Vocabulary.{raised, ReadyArgs}
 use Rattle.compiler.proofs.Calls.{indexed-gave, passed-gave, with-state, args-with, ArgsPart, args-begin, args-part, args-next, args-end}
-use Rattle.compiler.proofs.Calls.{LastRead, last-read, primary-part, primary-gave, index-left, index-right, index-gave, call-args, call-callee, call-gave, call-few}
+use Rattle.compiler.proofs.Calls.{LastRead, last-read, primary-part, primary-gave, index-left, index-right, index-gave, call-args, call-callee}
+use Rattle.compiler.proofs.Calls.{call-gave, call-few}
 use Rattle.compiler.proofs.Calls.{args-ready-at, suffixes-ready-at, args-gave-at, suffixes-gave-at}
 use Rattle.compiler.proofs.Expressions.{ready-at, gave-at, left-at}
 use proofs.walk.applied.Reads as applied
