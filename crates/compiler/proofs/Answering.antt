@@ -1,18 +1,11 @@
 -- From the walk of the tree to the answer: what the walk asks holds of every tree that is read, and what it leaves is the generator's text.
-use Prim.Native.Nat.{ℕ, zero, suc, _+_, _*_, _-_, _≤_}
-use mathlib.Core.Path.{_≡_, refl, sym, ap, subst, _∙_}
-use mathlib.Core.Bool.{Bool, true, false, not, cond}
-use mathlib.Core.List.{List, [], _∷_, _++_, append-assoc}
-use native.Mathlib.Omega.{arith}
+use Rattle.compiler.proofs.Basics.{ℕ, zero, suc, _+_, _*_, _-_, _≤_, _≡_, refl, sym, ap, _∙_, Bool, true, false, not, cond, List, [], _∷_}
+use Rattle.compiler.proofs.Basics.{_++_, append-assoc, arith, length, getD, replicate, take, drop, length-append, List·getD-append}
+use Rattle.compiler.proofs.Basics.{getD-append-add, length-take-le, eqb, ltb, ne-eqb, eqb-true, ltb-false}
 use native.Mathlib.Numerals.{add-one}
-use lib.ListN.{length, getD, replicate, take, drop, length-append, List·getD-append}
-use lib.Seq.{getD-append-add, length-take-le}
-use lib.Dec.{eqb, ltb}
-use borrow.Author.Tests.{ne-eqb, eqb-true, ltb-false}
 use Rattle.text.specs.Quoted.{charactersOf, quoted}
 use Rattle.language.specs.Kinds.{STRING}
 use Rattle.items.specs.Item.{Item}
-use Rattle.items.specs.Render.{renderAll}
 use Rattle.language.specs.Symbols as Y
 use Rattle.language.specs.Symbols.{Symbol, scan}
 use Rattle.language.specs.Brackets.{firstFault, brackets}
@@ -21,13 +14,11 @@ use Rattle.language.specs.Source.{good, symbolsOf, parsed, readSymbols}
 use Rattle.language.specs.Reader.{ok}
 use Rattle.language.specs.Grammar.{treeOf}
 use Rattle.language.specs.Tree as T
-use Rattle.language.specs.Tree.{Program, Function}
-use Rattle.language.specs.Constants.{Fault}
-use Rattle.language.specs.Resolved.{Fun, Start, nowhere, inGlobal}
+use Rattle.compiler.proofs.Language.{Program, Function, Fault, Start, nowhere, inGlobal, programDepth, FineProgram, encodeItems}
+use Rattle.compiler.proofs.Language.{encodeFunctions, encodeProgram}
 use Rattle.language.specs.Program.{Refused, accepted, refused, leastOr, rulesRefuse, Walk, begin, Named, afterDeclaration, functionsFrom, functionsOf}
 use Rattle.language.specs.Program.{faultsFrom, faultsOfProgram, heightFaults, hasStart, startsInOne, functionsAfter, groupOf}
 use Rattle.language.specs.Whole.{functionsIn, stringsIn, stringsAmong, funs, unlessFits}
-use Rattle.language.proofs.Depth.{programDepth}
 use Rattle.language.proofs.CommandDepths.{LowProgram, low-program}
 use Rattle.language.proofs.Forming.{length-funs, group-length}
 use Rattle.language.proofs.Gives as Gives
@@ -36,21 +27,18 @@ use Rattle.language.proofs.Takes.{Counts}
 use Rattle.language.proofs.Tokens.{programTokens}
 use Rattle.language.proofs.ReadTokens.{program as readProgram}
 use Rattle.language.proofs.SymbolFacts.{scan-length, cost, cost-length, symbolsNow, sourceNow, counts}
-use Rattle.language.specs.Fine.{FineProgram}
-use Rattle.compiler.specs.Fine.{STRINGS}
+use Rattle.compiler.proofs.Vocabulary.{STRINGS, Lies}
 use Rattle.symbols.specs.Read.{entries, Reads}
 use Rattle.symbols.specs.declared.SymbolsRead.{SymbolsRead}
-use Rattle.tree.specs.Encoding.{encodeItems, encodeFunctions, encodeProgram}
 use Rattle.tree.specs.Read.{padded, decoded}
 use Rattle.code.specs.Generate.{functionsCode, stringsCode, startsCode, itemsOf, textOf}
 use Rattle.writing.specs.Text.{Text, Puts, over, lines}
 use Rattle.writing.proofs.Laws.{over-length, lines-then, puts-none, puts-then, puts-as, upto-in}
 use Rattle.compiler.specs.declared.Compiled.{Compiled}
 use Rattle.compiler.specs.declared.program.Done.{Done}
-use Rattle.compiler.specs.Walks.{Lies}
 use Rattle.compiler.specs.Groups.{FineDs, Starting, encodeFunction, functionCount, CountsFunctions}
 use Rattle.compiler.specs.Programs.{startsOf, ReadyProgram, Walked, GaveProgram}
-use Rattle.compiler.specs.Strings.{stringCount, AllEnd, WritesStrings, WritesStarts}
+use Rattle.compiler.specs.Strings.{stringCount, WritesStrings, WritesStarts}
 use Rattle.compiler.specs.Compiles.{decided, answerOf, Begins, Translates, Clean, Lent, ReadyTree, AllStrings, Behind, NONE, byKeys}
 use Rattle.tree.proofs.Stages.{few-good, decoded-entries, entries-size}
 use Rattle.compiler.proofs.Rendered.{rendered}
@@ -67,10 +55,10 @@ functions-counted text w [] = refl
 functions-counted text w (T.globals is ∷ p) = functions-counted text (afterDeclaration text w (T.globals is)) p
 functions-counted text w (T.manifests is ∷ p) = functions-counted text (afterDeclaration text w (T.manifests is)) p
 functions-counted text w (T.functions fs ∷ p) =
-    let more = afterDeclaration text w (T.functions fs) in
-    let here = groupOf text (w .functions) (w .scope) (functionsAfter text (w .functions) (w .scope) fs) fs in
-    let l : length here ≡ length fs = group-length 0 0 text (w .functions) (w .scope) (functionsAfter text (w .functions) (w .scope) fs) fs in
-    omega (arith, length-append here (functionsFrom text more p), l, functions-counted text more p)
+    let more = afterDeclaration text w (T.functions fs) in let here = groupOf text (w .functions) (w .scope) (functionsAfter text (w .functions)
+    (w .scope) fs) fs in let l : length here ≡ length fs = group-length 0 0 text (w .functions) (w .scope) (functionsAfter text (w .functions)
+    (w .scope) fs) fs in
+    omega (arith, length-append here (functionsFrom text more p), functions-counted text more p)
 
 few-in-group : (fs : List Function) → length fs ≤ length (encodeFunctions fs)
 unfolding encodeFunctions
@@ -89,8 +77,8 @@ unfolding stringsAmong
 few-strings text [] = omega arith
 few-strings text (s ∷ ss) = go (eqb (s .kind) STRING) (few-strings text ss)
   where
-    go : (b : Bool) → length (stringsAmong text ss) ≤ length ss
-        → length (cond b (charactersOf (quoted 34 255 0 (drop (suc (s .place)) text)) ∷ stringsAmong text ss) (stringsAmong text ss)) ≤ suc (length ss)
+    go : (b : Bool) → length (stringsAmong text ss) ≤ length ss → length (cond b (charactersOf (quoted 34 255 0 (drop (suc (s .place)) text))
+        ∷ stringsAmong text ss) (stringsAmong text ss)) ≤ suc (length ss)
     go true h = omega arith
     go false h = omega arith
 
@@ -174,41 +162,36 @@ module _ {source : List ℕ} (s : List ℕ) {front : List ℕ} {a : SymbolsRead}
   room = length source * 3
 
   part : length (take room s) ≡ room
-  part = length-take-le room s (omega (arith, l .asked))
+  part = length-take-le room s (omega arith)
 
   again : front ≡ padded room (entries ss)
   again = symbols-left (l .short) (omega (arith, part)) r (good ss) e ∙ ap (λ (n : ℕ). padded n (entries ss)) part
 
   again-decoded : decoded count (front ++ drop room s) ≡ ss
-  again-decoded =
-      ap (λ (m : ℕ). decoded m (front ++ drop room s)) k
-      ∙ (ap (decoded (length ss)) (ap (λ (z : List ℕ). z ++ drop room s) again ∙ append-assoc (entries ss) _ _) ∙ decoded-entries ss _)
+  again-decoded = rw (k, again, append-assoc, decoded-entries ss _)
 
   again-clean : {used : ℕ} → count * 3 ≤ used → Clean used s → Clean used (front ++ drop room s)
   again-clean h c =
       let long : length (entries ss) ≤ room = omega (arith, entries-size ss, few-good source ss e) in
-      clean-front room (ap length again ∙ padded-long (entries ss) room long)
-      (padded-clean (entries ss) room again (omega (arith, entries-size ss, k))) c
+      clean-front room (ap length again ∙ padded-long (entries ss) room long) (padded-clean (entries ss) room again (omega (arith, entries-size ss)))
+      c
 
 pub strings-gave : {source s front t t′ : List ℕ} {a : SymbolsRead} {count names first at x : ℕ} → Lent source (length s)
     → Reads source (take (length source * 3) s) a front → WritesStrings source (front ++ drop (length source * 3) s) count first at x t t′
     → AllStrings source s (front ++ drop (length source * 3) s) count names first at x t t′
-strings-gave {source} {s} {front} {t} {t′} {a} {count} {names} {first} {at} {x} l r w = record {
+strings-gave {source} {s} {front} {t} {t′} {a} {count} {names} {first} {at} l r w = record {
   clean = record { by = λ ss e k h c. again-clean s l r ss e k h c };
-  by = λ ss e k n.
-      subst (λ (xs : List Symbol). AllEnd source xs → Puts (lines (stringsCode first (stringsAmong source xs))) at x t t′)
-      (again-decoded s l r ss e k) (w .by) (strings-end source ss e);
+  by = λ ss e k n. rw (again-decoded s l r ss e k) at (w .by) (strings-end source ss e);
 }
 
 pub behind-gave : {source s s′ table t t₁ t₂ t₃ : List ℕ} {count names functions at x y z : ℕ}
     → AllStrings source s s′ count names (functions + 1) at x t t₁ → WritesStarts table functions x y t₁ t₂ → Puts (90 ∷ 10 ∷ []) y z t₂ t₃
     → Behind source s s′ count names functions table at z t t₃
-behind-gave {source} {s} {s′} {table} {t} {t₁} {t₂} {t₃} {count} {names} {functions} {at} {x} {y} {z} w v c = record {
+behind-gave {source} {s} {s′} {table} {t} {t₁} {t₂} {t₃} {count} {names} {functions} {at} w v c = record {
   clean = w .clean;
-  by = λ ss fs e k n long few start.
-      let shifted = subst (λ (m : ℕ). Puts (lines (stringsCode m (stringsAmong source ss))) at x t t₁) (add-one functions) (w .by ss e k n) in
-      puts-as (puts-then (puts-then shifted (v .by fs long few start)) c)
-      (ap (λ (u : List ℕ). u ++ (90 ∷ 10 ∷ [])) (lines-then (stringsCode (suc functions) (stringsAmong source ss)) (startsCode 1 fs)));
+  by = λ ss fs e k n long few start. let shifted = rw (add-one functions) at (w .by ss e k n) in
+      puts-as (puts-then (puts-then shifted (v .by fs long few start)) c) (rw (lines-then (stringsCode (suc functions) (stringsAmong source ss))
+      (startsCode 1 fs)));
 }
 
 -- what is accepted has no faults, and room
@@ -234,7 +217,7 @@ module _ {source s : List ℕ} {count end : ℕ} (y : ReadyTree source s count e
   ns = functionsFrom source begin p
 
   size : length (entries (y .symbols)) ≡ count * 3
-  size = omega (arith, entries-size (y .symbols), y .counts)
+  size = omega (arith, entries-size (y .symbols))
 
   pub lies : Lies s (count * 3) (encodeProgram p)
   lies = record {
@@ -247,19 +230,17 @@ module _ {source s : List ℕ} {count end : ℕ} (y : ReadyTree source s count e
   }
 
   symbols-are : decoded count s ≡ y .symbols
-  symbols-are =
-      ap (λ (n : ℕ). decoded n s) (y .counts)
-      ∙ (ap (decoded (length (y .symbols))) (y .stand ∙ append-assoc (entries (y .symbols)) (encodeProgram p) _) ∙ decoded-entries (y .symbols) _)
+  symbols-are = rw (y .counts, y .stand, append-assoc, decoded-entries (y .symbols) _)
 
   pub end-inside : {k : ℕ} → k ≡ length s → end ≤ k
-  end-inside e = omega (arith, y .room, y .counts, few-good source (y .symbols) (y .reads), y .lent .asked)
+  end-inside e = omega (arith, few-good source (y .symbols) (y .reads))
 
   clean-at-end : Clean end s
   clean-at-end = padded-clean (entries (y .symbols) ++ encodeProgram p) (length s) (y .stand)
-      (omega (arith, length-append (entries (y .symbols)) (encodeProgram p), size, y .ends))
+      (omega (arith, length-append (entries (y .symbols)) (encodeProgram p), size))
 
   pub few-symbols : count ≤ 16384
-  few-symbols = omega (arith, y .counts, few-good source (y .symbols) (y .reads), y .lent .short)
+  few-symbols = omega (arith, few-good source (y .symbols) (y .reads))
 
   symbols-now : y .symbols ≡ symbolsNow source
   unfolding symbolsOf
@@ -273,12 +254,12 @@ module _ {source s : List ℕ} {count end : ℕ} (y : ReadyTree source s count e
   tree-now = ap (λ (z : List Symbol). treeOf (record { symbols = z; size = length source })) (sym symbols-now) ∙ y .parses
 
   few-scanned : length (scan source .symbols) ≤ 16384
-  few-scanned = omega (arith, scan-length source, y .lent .short)
+  few-scanned = omega (arith, scan-length source)
 
   -- as language's `counts`, in a text of any number of strings up to STRINGS
   counted : Counts 1 (sourceNow source) STRINGS (λ at. cost 1 (take at (symbolsNow source)))
   counted =
-      let k = counts 1 (omega arith) source (omega (arith, y .lent .short)) (omega (arith, cost-length (scan source .symbols), few-scanned)) in
+      let k = counts 1 (omega arith) source (omega arith) (omega (arith, cost-length (scan source .symbols), few-scanned)) in
       record {
         up = k .up;
         one = k .one;
@@ -286,7 +267,7 @@ module _ {source s : List ℕ} {count end : ℕ} (y : ReadyTree source s count e
         most = k .most;
         numbers = k .numbers;
         names = k .names;
-        quotes = λ at e. omega (arith, k .quotes at e, few-strings source (symbolsNow source), ap length symbols-now, y .counts, few-symbols);
+        quotes = λ at e. omega (arith, k .quotes at e, few-strings source (symbolsNow source), ap length symbols-now, few-symbols);
       }
 
   fine : FineDs p
@@ -310,10 +291,10 @@ module _ {source s : List ℕ} {count end : ℕ} (y : ReadyTree source s count e
     n = cn ∙ (ap stringCount symbols-are ∙ string-count-is source (y .symbols))
 
     few-in-all : functions ≤ 81920
-    few-in-all = omega (arith, f, functions-counted source begin p, few-functions p, y .ends, y .room, few-symbols)
+    few-in-all = omega (arith, f, functions-counted source begin p, few-functions p, few-symbols)
 
     few-names : names ≤ 16384
-    few-names = omega (arith, n, few-strings source (y .symbols), y .counts, few-symbols)
+    few-names = omega (arith, n, few-strings source (y .symbols), few-symbols)
 
     pub few-labels : functions + 1 + names ≤ 98305
     few-labels = omega (arith, few-in-all, few-names)
@@ -328,11 +309,11 @@ module _ {source s : List ℕ} {count end : ℕ} (y : ReadyTree source s count e
       program = p;
       lies = lies;
       ends = y .ends;
-      long = omega (arith, y .lent .asked, few-good source (y .symbols) (y .reads), y .counts);
-      small = omega (arith, y .room, few-symbols);
-      room = omega (arith, y .ends, y .room);
-      height = omega (arith, y .ends, y .room, few-symbols);
-      label = omega (arith, y .ends, y .room, few-symbols, few-in-all, few-names);
+      long = omega (arith, few-good source (y .symbols) (y .reads));
+      small = omega (arith, few-symbols);
+      room = omega arith;
+      height = omega (arith, few-symbols);
+      label = omega (arith, few-symbols, few-in-all, few-names);
       some = omega arith;
       names = omega (arith, few-in-all);
       shallow = shallow;
@@ -346,8 +327,7 @@ module _ {source s : List ℕ} {count end : ℕ} (y : ReadyTree source s count e
     module _ {s₁ s₂ table table′ t t₁ t₂ t₃ : List ℕ} {at last : ℕ} {d′ : Done}
         (o : Puts (36 ∷ 10 ∷ []) 0 at t t₁) (g : GaveProgram source s s₁ table table′ (count * 3) end 520 (functions + 1) t₁ t₂
         (record { tall = NONE; state = record { at = at; label = functions + 1 + names; worst = NONE; high = 0 } }) d′)
-        (none : table ≡ replicate 400 0)
-        (b : Behind source s₁ s₂ count names functions table′ (d′ .state .at) last t₂ t₃) where
+        (none : table ≡ replicate 400 0) (b : Behind source s₁ s₂ count names functions table′ (d′ .state .at) last t₂ t₃) where
       w : Walked source p (count * 3) (functions + 1) s s₁ table table′ t₁ t₂
           (record { tall = NONE; state = record { at = at; label = functions + 1 + names; worst = NONE; high = 0 } }) d′
       unfolding ready-program
@@ -370,28 +350,22 @@ module _ {source s : List ℕ} {count end : ℕ} (y : ReadyTree source s count e
       items-are : itemsOf (functionsIn source) (stringsIn source) ≡ code ++ behind
       unfolding itemsOf
       items-are =
-          let strings = stringsAmong source (y .symbols) in let l : length (funs ns) ≡ functions = length-funs ns ∙ sym f in
-          let all : ℕ → ℕ → List Item = λ m k. functionsCode (suc m) 1 (suc m + k) (funs ns)
-          ++ (stringsCode (suc m) strings ++ startsCode 1 (funs ns)) in
-          ap (λ (z : List Fun). itemsOf z (stringsIn source)) functions-are
-          ∙ (ap (itemsOf (funs ns)) strings-are
-          ∙ (ap (λ (m : ℕ). all m (length strings)) l
-          ∙ (ap (all functions) (sym n) ∙ ap (λ (m : ℕ). functionsCode m 1 (m + names) (funs ns) ++ behind) (sym (add-one functions)))))
+          let strings = stringsAmong source (y .symbols) in let l : length (funs ns) ≡ functions = length-funs ns ∙ sym f in let all : ℕ → ℕ → List
+          Item = λ m k. functionsCode (suc m) 1 (suc m + k) (funs ns) ++ (stringsCode (suc m) strings ++ startsCode 1 (funs ns)) in
+          rw (functions-are, strings-are, l, n, add-one functions)
 
       the-text : ((36 ∷ 10 ∷ []) ++ lines code) ++ (lines behind ++ (90 ∷ 10 ∷ [])) ≡ textOf source
       unfolding textOf
       the-text =
           append-assoc (36 ∷ 10 ∷ []) (lines code) (lines behind ++ (90 ∷ 10 ∷ []))
-          ∙ (ap (λ (z : List ℕ). (36 ∷ 10 ∷ []) ++ z)
-          (sym (append-assoc (lines code) (lines behind) (90 ∷ 10 ∷ [])) ∙ ap (λ (z : List ℕ). z ++ (90 ∷ 10 ∷ [])) (sym (lines-then code behind)))
-          ∙ (sym (rendered (code ++ behind)) ∙ ap renderAll (sym items-are)))
+          ∙ (simp (append-assoc, lines-then code behind, rendered (code ++ behind), items-are))
 
       -- the text is the generator's
       written : faultsFrom source begin p ≡ [] → Text t (textOf source) last t₃
       written e =
-          let x = o .by t [] (text-start t) in let y′ = w .did .clean e .text .by t (36 ∷ 10 ∷ []) x in
-          let z = b .by (y .symbols) (funs ns) (y .reads) (y .counts) n (w .long) (f ∙ sym (length-funs ns)) (w .starting e) in
-          subst (λ (out : List ℕ). Text t out last t₃) the-text (z .by t _ y′)
+          let x = o .by t [] (text-start t) in let y′ = w .did .clean e .text .by t (36 ∷ 10 ∷ []) x in let z = b .by (y .symbols) (funs ns)
+          (y .reads) (y .counts) n (w .long) (f ∙ sym (length-funs ns)) (w .starting e) in
+          rw the-text at (z .by t _ y′)
 
       answers : byKeys source (d′ .state .worst) (d′ .tall) (getD table′ 1 0) last (length t) ≡ answerOf source (decided source (length s) (length t))
       unfolding rulesRefuse faultsOfProgram functionsOf
@@ -411,22 +385,15 @@ module _ {source s : List ℕ} {count end : ℕ} (y : ReadyTree source s count e
               (sym (rules-decide (y .lent) (length t) (y .symbols) p (y .next) (y .reads) (y .parses)) ∙ e) in
               let x = written (no-faults (faultsFrom source begin p) _ (k .0)) in (
                 ap (take (length (textOf source))) (x .is) ∙ over-front (textOf source) t (k .1),
-                omega
-                    (arith, k .1, ap length (x .is), over-length (textOf source) t),
+                omega (arith, k .1, ap length (x .is), over-length (textOf source) t),
               )
 
       clean-behind : Clean end s₂
-      clean-behind = b .clean .by (y .symbols) (y .reads) (y .counts) (omega (arith, y .ends))
-          (record { zeros = λ i h. w .keeps .above i (omega (arith, y .ends)) ∙ clean-at-end .zeros i h })
+      clean-behind = b .clean .by (y .symbols) (y .reads) (y .counts) (omega arith)
+          (record { zeros = λ i h. w .keeps .above i (omega arith) ∙ clean-at-end .zeros i h })
 
       pub translates : {start room : ℕ} {a : Compiled} {z : List ℕ} → start ≡ getD table′ 1 0 → room ≡ length t
           → a ≡ byKeys source (d′ .state .worst) (d′ .tall) start last room → length s₂ ≡ length s → z ≡ take 0 (take end s₂) ++ replicate
           (length (take end s₂) - 0) 0 → Translates source s (z ++ drop end s₂) t t₃ a
-      translates {start} {room} e k q same c =
-          record {
-            answers = q
-                ∙ (ap (λ (v : ℕ). byKeys source (d′ .state .worst) (d′ .tall) v last room) e
-                ∙ (ap (λ (v : ℕ). byKeys source (d′ .state .worst) (d′ .tall) (getD table′ 1 0) last v) k ∙ answers));
-            clears = clean-all clean-behind (end-inside same) c ∙ ap (λ (v : ℕ). replicate v 0) same;
-            begins = begins;
-          }
+      translates e k q same c =
+          record { answers = q ∙ (rw (e, k, answers)); clears = rw (clean-all clean-behind (end-inside same) c, same); begins = begins }

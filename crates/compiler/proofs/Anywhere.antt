@@ -1,20 +1,9 @@
 -- What an expression may leave is of no account but for RETURN: its faults are the same anywhere.
-use Prim.Native.Nat.{ℕ, _+_}
-use mathlib.Core.Path.{_≡_, refl, ap, subst}
-use mathlib.Core.Bool.{Bool, true, false, cond}
-use mathlib.Core.List.{List, [], _++_}
-use lib.Dec.{eqb}
-use Rattle.language.specs.Kinds.{AT}
+use Rattle.compiler.proofs.Basics.{ℕ, _+_, _≡_, refl, List, _++_}
 use Rattle.language.specs.Tree as T
-use Rattle.language.specs.Tree.{Expression, Expressions, Suffixes, Operations, placeOf}
-use Rattle.language.specs.Names.{Scope}
-use Rattle.language.specs.Constants.{Fault}
-use Rattle.language.specs.Resolve.{under, sideOf, expression}
-use Rattle.language.specs.Faults.{Leavable, unlessSide, inExpression, inSuffixes, inOperations, inExpressions, inCommand}
-use Rattle.compiler.specs.declared.steps.State.{State}
-use Rattle.compiler.specs.declared.steps.Here.{Here}
-use Rattle.compiler.specs.declared.steps.Ways.{Ways}
-use Rattle.compiler.specs.Walked.{leavable, leavableBy, Did, Code}
+use Rattle.compiler.proofs.Language.{Expression, Expressions, Suffixes, Operations, Scope, Fault, under, Leavable, inExpression, inSuffixes}
+use Rattle.compiler.proofs.Language.{inOperations, inExpressions}
+use Rattle.compiler.proofs.Vocabulary.{State, Here, Ways, leavable, leavableBy, Did, Code}
 
 two : {a b c d : List Fault} → a ≡ b → c ≡ d → a ++ c ≡ b ++ d
 two p q = cc
@@ -28,10 +17,8 @@ module _ (text : List ℕ) (l m : Leavable) (q : l .routine ≡ m .routine) wher
     any-expression sc h (T.string p v) = refl
     any-expression sc h (T.name n) = refl
     any-expression sc h (T.bracketed p e) = any-expression sc h e
-    any-expression sc h (T.valof p c) =
-        ap (λ (b : Bool). inCommand text sc (record { loop = false; switch = false; valof = true; routine = b }) h c) q
-    any-expression sc h (T.monadic p o e) =
-        ap (λ (z : List Fault). z ++ cond (eqb o AT) (unlessSide (placeOf e) (sideOf (expression text sc h e))) []) (any-expression sc h e)
+    any-expression sc h (T.valof p c) = rw q
+    any-expression sc h (T.monadic p o e) = rw (any-expression sc h e)
     any-expression sc h (T.suffixed e ss) = two (any-expression sc (under ss h) e) (any-suffixes sc h ss)
     any-expression sc h (T.dyadic e os) = two (any-expression sc h e) (any-operations sc h os)
 
@@ -52,8 +39,4 @@ module _ (text : List ℕ) (l m : Leavable) (q : l .routine ≡ m .routine) wher
 module _ (text : List ℕ) (sc : Scope) (here : Here) (ways : Ways) (h : ℕ) {c : ℕ → Code} {k : ℕ} {t t′ : List ℕ} {st r : State} where
   pub with-ways : (e : Expression) → Did (inExpression text sc (leavable here) h e) c k t t′ st r
       → Did (inExpression text sc (leavableBy ways here) h e) c k t t′ st r
-  with-ways e d = subst (λ (f : List Fault). Did f c k t t′ st r) (any-expression text (leavable here) (leavableBy ways here) refl sc h e) d
-
-  pub all-with-ways : (es : Expressions) → Did (inExpressions text sc (leavable here) h es) c k t t′ st r
-      → Did (inExpressions text sc (leavableBy ways here) h es) c k t t′ st r
-  all-with-ways es d = subst (λ (f : List Fault). Did f c k t t′ st r) (any-expressions text (leavable here) (leavableBy ways here) refl sc h es) d
+  with-ways e d = rw (any-expression text (leavable here) (leavableBy ways here) refl sc h e) at d

@@ -1,30 +1,16 @@
 -- The loop over the sides of an assignment: a left side and a right side at a time.
-use Prim.Native.Nat.{ℕ, _+_, _*_, _-_, _≤_, _<_}
-use mathlib.Core.Path.{_≡_, refl, sym, ap, subst, _∙_}
-use mathlib.Core.List.{List, [], _∷_, _++_, append-assoc}
-use native.Mathlib.Omega.{arith}
-use lib.ListN.{length, getD, length-append}
+use Rattle.compiler.proofs.Basics.{ℕ, _+_, _*_, _-_, _≤_, _<_, _≡_, refl, sym, ap, subst, _∙_, List, [], _∷_, _++_, append-assoc, arith}
+use Rattle.compiler.proofs.Basics.{length, getD, length-append}
 use Rattle.language.specs.Tree as T
-use Rattle.language.specs.Tree.{Expression, Expressions, Unlabelled, placeOf}
-use Rattle.language.proofs.Depth.{depth, expressionsDepth, unlabelledDepth}
-use Rattle.language.specs.Names.{Scope}
-use Rattle.language.specs.Constants.{Fault}
+use Rattle.compiler.proofs.Language.{Expression, Expressions, Unlabelled, placeOf, depth, expressionsDepth, unlabelledDepth, Scope, Fault}
+use Rattle.compiler.proofs.Language.{expression, unlabelled, sides, pairUp, sideOf, targetOf, ofExpr, ofTarget, ofPairs, ofCmd, Leavable}
+use Rattle.compiler.proofs.Language.{inExpression, inUnlabelled, inSides, inRightSides, unlessSide, encode, encodeSides, encodeFirst}
+use Rattle.compiler.proofs.Language.{encodeExpressions, encodeUnlabelled, FineList, FineUnlabelled}
 use Rattle.language.specs.Resolved as R
-use Rattle.language.specs.Resolve.{expression, unlabelled, sides, pairUp, sideOf, targetOf}
-use Rattle.language.specs.Heights.{ofExpr, ofTarget, ofPairs, ofCmd}
 use Rattle.code.specs.Generate as G
-use Rattle.language.specs.Faults.{Leavable, inExpression, inUnlabelled, inSides, inRightSides, unlessSide}
-use Rattle.tree.specs.Encoding.{encode, encodeSides, encodeFirst, encodeExpressions, encodeUnlabelled}
-use Rattle.compiler.specs.Scope.{Keeps}
+use Rattle.compiler.proofs.Vocabulary.{Keeps, State, Here, Node, Ways, FineE, FineEs, FinePlain, raised, leavable, leavableBy, NodeAt, Did}
+use Rattle.compiler.proofs.Vocabulary.{Lies, Result, ReadyE, GaveE}
 use Rattle.compiler.proofs.Scoping.{keeps-all, keeps-then}
-use Rattle.compiler.specs.declared.steps.State.{State}
-use Rattle.compiler.specs.declared.steps.Here.{Here}
-use Rattle.compiler.specs.declared.steps.Node.{Node}
-use Rattle.compiler.specs.declared.steps.Ways.{Ways}
-use Rattle.compiler.specs.Fine.{FineE, FineEs, FinePlain}
-use Rattle.language.specs.Fine.{FineList, FineUnlabelled}
-use Rattle.compiler.specs.Walked.{raised, leavable, leavableBy, NodeAt, Did}
-use Rattle.compiler.specs.Walks.{Lies, Result, ReadyE, GaveE}
 use Rattle.compiler.specs.Commands.{cmdSays, targetSays, pairsSays, GaveSide, ReadyU, GaveU}
 use Rattle.compiler.specs.Assigns.{encodeBoth, deepBoth, FineBoth, ReadyAssign, GaveAssign}
 use Rattle.compiler.proofs.Done.{Same, same-refl, same-eq, same-swap, same-then, same-both, did-none, did-then, did-as, code-is}
@@ -42,7 +28,7 @@ use Rattle.compiler.proofs.Anywhere.{any-expression}
 -- right, left, then the others, as left ones and then right ones
 same-pairs : (r l L R : List Fault) → Same (r ++ (l ++ (L ++ R))) ((l ++ L) ++ (r ++ R))
 same-pairs r l L R =
-    same-then (same-swap r (l ++ (L ++ R))) (same-then (same-eq (append-assoc l (L ++ R) r ∙ ap (λ (z : List Fault). l ++ z) (append-assoc L R r)))
+    same-then (same-swap r (l ++ (L ++ R))) (same-then (same-eq (simp append-assoc))
     (same-then (same-both (same-refl {a = l}) (same-both (same-refl {a = L}) (same-swap R r))) (same-eq (sym (append-assoc l L (r ++ R))))))
 
 -- ---- where the left sides stand, between two places: the next one ends at l, the others follow it as items
@@ -58,10 +44,10 @@ unfolding encodeExpressions
 left-next T.noExpressions f h b q = noLeft
 left-next {s} {from} {to} {l} {l′} (T.andExpression e es) f h b q =
     let a : l + 0 ≡ l = omega arith in let r = second (length (encode e) ∷ 0 ∷ []) (encode e ++ encodeExpressions es) (l + 2) h refl in
-    let z : getD s l 0 ≡ length (encode e) = ap (λ (k : ℕ). getD s k 0) (sym a) ∙ h .at 0 (omega arith) in
-    let w : l′ ≡ l + 2 + length (encode e) = q ∙ ap (λ (k : ℕ). l + 2 + k) z in
+    let z : getD s l 0 ≡ length (encode e) = ap (λ (k : ℕ). getD s k 0) (sym a) ∙ h .at 0 (omega arith) in let w : l′ ≡ l + 2
+    + length (encode e) = rw (q, z) in
     aLeft {e = e} {es = es} (l + 2) (omega arith) (first (encode e) (encodeExpressions es) r) w (second (encode e) (encodeExpressions es) l′ r w)
-    (omega (arith, w, length-append (encode e) (encodeExpressions es)))
+    (omega (arith, length-append (encode e) (encodeExpressions es)))
 
 -- a pair
 pub record IsPair (s : List ℕ) (from to l at end : ℕ) (ls rs : Expressions) : Type 0 where
@@ -80,7 +66,7 @@ pub record IsPair (s : List ℕ) (from to l at end : ℕ) (ls rs : Expressions) 
 pub is-pair : {s : List ℕ} {from to l at end : ℕ} (ls rs : Expressions) → LeftAt s from to l ls → T.count ls ≡ T.count rs
     → Lies s at (encodeExpressions rs) → end ≡ at + length (encodeExpressions rs) → at < end → IsPair s from to l at end ls rs
 unfolding T.count
-is-pair T.noExpressions rs w c h e k = let u = is-arg rs h e k in absurd (omega (arith, c, ap T.count (u .same)))
+is-pair T.noExpressions rs w c h e k = let u = is-arg rs h e k in absurd (omega (arith, ap T.count (u .same)))
 is-pair (T.andExpression x ls) rs (aLeft lo a b d f g) c h e k = let u = is-arg rs h e k in record {
   left = x;
   lefts = ls;
@@ -92,7 +78,7 @@ is-pair (T.andExpression x ls) rs (aLeft lo a b d f g) c h e k = let u = is-arg 
   others = f;
   before = g;
   right = u;
-  counts = omega (arith, c, ap T.count (u .same));
+  counts = omega (arith, ap T.count (u .same));
 }
 
 sides-short : (es : Expressions) → length (encodeSides es) ≤ length (encodeExpressions es)
@@ -149,25 +135,24 @@ module _ (text t₀ : List ℕ) {s₀ : List ℕ} {left right end : ℕ} {here :
 
     pub assign-size : (y : ReadyAssign s₀ left right end here st₀) (p : AssignPart y s t l at st)
         → size ≡ length (encode (assign-is y p .right .part))
-    assign-size y p = es ∙ p .keeps .above at (omega (arith, y .ready .above, y .second, p .starts)) ∙ assign-is y p .right .size-of
+    assign-size y p = es ∙ p .keeps .above at (omega arith) ∙ assign-is y p .right .size-of
 
     pub assign-length : (y : ReadyAssign s₀ left right end here st₀) (p : AssignPart y s t l at st) → let u = assign-is y p in
         (length (encodeExpressions (p .rights)) ≡ 2 + length (encode (u .right .part)) + length (encodeExpressions (u .right .more)))
         × (length (encodeSides (p .lefts)) ≡ length (encode (u .left)) + length (encodeExpressions (u .lefts)))
     assign-length y p =
         let u = assign-is y p in
-        (omega (arith, p .ends, u .right .ends), ap (λ (x : Expressions). length (encodeSides x)) (u .same) ∙ sides-long (u .left) (u .lefts))
+        (omega arith, cc (sides-long (u .left) (u .lefts)))
 
     pub assign-deep : (y : ReadyAssign s₀ left right end here st₀) (p : AssignPart y s t l at st) → let u = assign-is y p in
         (depth (u .left) ≤ here .left) × (expressionsDepth (u .lefts) ≤ here .left) × (depth (u .right .part) ≤ here .left)
         × (expressionsDepth (u .right .more) ≤ here .left)
     unfolding expressionsDepth
     assign-deep y p = let u = assign-is y p in (
-      omega (arith, p .shallow .0, ap expressionsDepth (u .same)),
-      omega (arith, p .shallow .0, ap expressionsDepth (u .same)),
-      omega
-          (arith, p .shallow .1, ap expressionsDepth (u .right .same)),
+      omega (arith, ap expressionsDepth (u .same)),
+      omega (arith, ap expressionsDepth (u .same)),
       omega (arith, p .shallow .1, ap expressionsDepth (u .right .same)),
+      omega (arith, ap expressionsDepth (u .right .same)),
     )
 
     pub assign-fine : (y : ReadyAssign s₀ left right end here st₀) (p : AssignPart y s t l at st)
@@ -177,19 +162,13 @@ module _ (text t₀ : List ℕ) {s₀ : List ℕ} {left right end : ℕ} {here :
 
     abbrev pub assign-right : (y : ReadyAssign s₀ left right end here st₀) → AssignPart y s t l at st → ReadyE s next here st
     assign-right y p = let z = y .ready in let u = assign-is y p in let v = u .right in
-        sub encode depth FineE z (p .keeps) next (at + 2) here st (v .part) (v .lies) (omega (arith, en, assign-size y p))
-        (omega (arith, y .second, p .starts)) (omega (arith, en, assign-size y p, v .ends)) refl refl
-        (omega (arith, z .height, z .ends, y .second, p .starts, v .ends)) (omega (arith, z .label, p .label, assign-length y p .0)) (p .some)
-        (assign-deep y p .2) (assign-fine y p .1 .0)
+        sub z (p .keeps) (v .lies) refl (omega (arith, assign-size y p, assign-length y p .0, assign-deep y p .2)) (assign-fine y p .1 .0)
 
     module _ {s₁ t₁ : List ℕ} {a : State} (g : GaveE text s s₁ next here t t₁ st a) where
       abbrev pub assign-left : (y : ReadyAssign s₀ left right end here st₀) → AssignPart y s t l at st → ReadyE s₁ l (raised 1 here) a
       assign-left y p = let z = y .ready in let u = assign-is y p in let x = g .by (assign-right y p) in
-          sub encode depth FineE z (keeps-then (p .keeps) (x .keeps)) l (u .start) (raised 1 here) a (u .left) (u .lies) (u .ends) (u .inside)
-          (omega (arith, u .before, p .starts, k)) refl refl
-          (omega (arith, z .height, z .ends, y .second, u .inside, u .ends, u .before, p .starts, u .right .ends))
-          (omega (arith, z .label, p .label, assign-length y p .0, assign-length y p .1, x .did .few)) (omega (arith, p .some, x .did .grows))
-          (assign-deep y p .0) (assign-fine y p .0 .0)
+          sub z (keeps-then (p .keeps) (x .keeps)) (u .lies) refl (omega (arith, assign-length y p .0, assign-length y p .1, assign-deep y p .0))
+          (assign-fine y p .0 .0)
 
       pub assign-next : {s₂ t₂ : List ℕ} {l′ size′ : ℕ} {r : State} (n : Node) → NodeAt s₁ l n → GaveSide text s₁ s₂ l (n .place) here t₁ t₂ a r
           → size′ ≡ getD s₂ l 0 → l′ ≡ l + 2 + size′
@@ -199,22 +178,21 @@ module _ (text t₀ : List ℕ) {s₀ : List ℕ} {left right end : ℕ} {here :
           let z = y .ready in let u = assign-is y p in let v = u .right in let x = g .by (assign-right y p) in let w = g₂ .by (assign-left y p) in
           let sc = z .scope in let h = here .height in let ks = keeps-then (p .keeps) (keeps-then (x .keeps) (w .keeps)) in let L = leavable here in
           let E = expression text sc h (v .part) in let D = expression text sc (h + 1) (u .left) in let T′ = targetOf (sideOf D) in
-          let PS = pairUp (sides text sc (h + 1) (u .lefts)) (sides text sc h (v .more)) in
-          let pl : n .place ≡ placeOf (u .left) = nd .place ∙ place-of (expression-closed (u .left)) (assign-left y p .lies) (assign-left y p .ends)
-          ∙ place-closed (u .left) in let fl = inExpression text sc L (h + 1) (u .left) ++ unlessSide (placeOf (u .left)) (sideOf D) in
-          let fr = inExpression text sc L h (v .part) in
-          let z′ : size′ ≡ getD s₀ l 0 = es′ ∙ ks .above l (omega (arith, z .above, u .inside, u .ends)) in
+          let PS = pairUp (sides text sc (h + 1) (u .lefts)) (sides text sc h (v .more)) in let pl : n .place ≡ placeOf (u .left) = nd .place
+          ∙ place-of (expression-closed (u .left)) (assign-left y p .lies) (assign-left y p .ends) ∙ place-closed (u .left) in let fl = inExpression
+          text sc L (h + 1) (u .left) ++ unlessSide (placeOf (u .left)) (sideOf D) in let fr = inExpression text sc L h (v .part) in
+          let z′ : size′ ≡ getD s₀ l 0 = es′ ∙ ks .above l (omega arith) in
           record {
             lefts = u .lefts;
             rights = v .more;
-            at-left = left-next (u .lefts) (omega (arith, u .inside, u .ends)) (u .others) (u .before) (el ∙ ap (λ (i : ℕ). l + 2 + i) z′);
-            lies = subst (λ (i : ℕ). Lies s₀ i (encodeExpressions (v .more))) (omega (arith, en, assign-size y p)) (v .lies-more);
-            ends = omega (arith, v .ends, en, assign-size y p);
-            starts = omega (arith, p .starts, en);
+            at-left = left-next (u .lefts) (omega arith) (u .others) (u .before) (rw (el, z′));
+            lies = subst (λ (i : ℕ). Lies s₀ i (encodeExpressions (v .more))) (omega (arith, assign-size y p)) (v .lies-more);
+            ends = omega (arith, assign-size y p);
+            starts = omega arith;
             counts = u .counts;
             keeps = ks;
-            label = omega (arith, p .label, assign-length y p .0, assign-length y p .1, x .did .few, w .did .few, sides-short (u .lefts));
-            some = omega (arith, p .some, x .did .grows, w .did .grows);
+            label = omega (arith, assign-length y p .0, assign-length y p .1, sides-short (u .lefts));
+            some = omega arith;
             shallow = (assign-deep y p .1, assign-deep y p .3);
             fine = (assign-fine y p .0 .1, assign-fine y p .1 .1);
             finish = λ t′ st′ d. p .finish t′ st′
@@ -237,32 +215,24 @@ module _ (text t₀ : List ℕ) {s₀ : List ℕ} {left right end : ℕ} {here :
     rights = b .right;
     at-left = left-begin (b .left) (first (encodeSides (b .left)) (encodeExpressions (b .right)) (z .lies)) (y .first) (y .second);
     lies = second (encodeSides (b .left)) (encodeExpressions (b .right)) right (z .lies) (y .second);
-    ends = omega (arith, z .ends, y .second, n);
+    ends = omega arith;
     starts = omega arith;
     counts = z .fine .0;
     keeps = keeps-all;
-    label = omega (arith, n);
+    label = omega arith;
     some = z .some;
-    shallow = (omega (arith, z .shallow), omega (arith, z .shallow));
+    shallow = (omega arith, omega arith);
     fine = (z .fine .1, z .fine .2);
-    finish = λ t′ st′ d. did-as _ _ d same-refl (λ m e. refl) (omega (arith, n));
+    finish = λ t′ st′ d. did-as _ _ d same-refl (λ m e. refl) (omega arith);
   }
 
   pub assign-end : {s t : List ℕ} {l at : ℕ} {st : State} → end ≤ at → ((y : ReadyAssign s₀ left right end here st₀) → AssignPart y s t l at st)
       → GaveAssign text s₀ s left right end here t₀ t st₀ st
   unfolding inSides inRightSides sides G.pairsCode ofPairs G.pairsLabels T.count
   assign-end {s} {t} {l} {at} {st} k q = record {
-    by = λ y. let p = q y in let e = no-arg (p .rights) (omega (arith, p .ends)) in let f = no-count (p .lefts) (p .counts ∙ ap T.count e) in record {
+    by = λ y. let p = q y in let e = no-arg (p .rights) (omega arith) in let f = no-count (p .lefts) (p .counts ∙ ap T.count e) in record {
       keeps = p .keeps;
-      did = p .finish t st
-          (subst (λ (ls : Expressions). Did
-          (inSides text (y .ready .scope) (leavable here) (here .height + 1) ls ++ inRightSides text (y .ready .scope) (leavable here)
-          (here .height) (p .rights))
-          (pairsSays here (pairUp (sides text (y .ready .scope) (here .height + 1) ls) (sides text (y .ready .scope) (here .height) (p .rights))))
-          (2 * (length (encodeSides (p .lefts)) + length (encodeExpressions (p .rights)))) t t st st) (sym f)
-          (subst (λ (rs : Expressions). Did (inRightSides text (y .ready .scope) (leavable here) (here .height) rs)
-          (λ n. record { items = []; heights = []; labels = 0 }) (2 * (length (encodeSides (p .lefts)) + length (encodeExpressions (p .rights))))
-          t t st st) (sym e) (did-none _)));
+      did = p .finish t st (rw f (rw e (did-none _)));
     };
   }
 
@@ -272,17 +242,14 @@ any-right : (text : List ℕ) (l m : Leavable) (q : l .routine ≡ m .routine) (
     → inRightSides text sc l h es ≡ inRightSides text sc m h es
 unfolding inRightSides
 any-right text l m q sc h T.noExpressions = refl
-any-right text l m q sc h (T.andExpression e es) =
-    ap (λ (z : List Fault). z ++ inRightSides text sc l h es) (any-expression text l m q sc h e) ∙ ap
-    (λ (z : List Fault). inExpression text sc m h e ++ z) (any-right text l m q sc h es)
+any-right text l m q sc h (T.andExpression e es) = rw (any-expression text l m q sc h e, any-right text l m q sc h es)
 
 any-sides : (text : List ℕ) (l m : Leavable) (q : l .routine ≡ m .routine) (sc : Scope) (h : ℕ) (es : Expressions)
     → inSides text sc l h es ≡ inSides text sc m h es
 unfolding inSides
 any-sides text l m q sc h T.noExpressions = refl
 any-sides text l m q sc h (T.andExpression e es) = let u = unlessSide (placeOf e) (sideOf (expression text sc h e)) in
-    ap (λ (z : List Fault). (z ++ u) ++ inSides text sc l h es) (any-expression text l m q sc h e) ∙ ap
-    (λ (z : List Fault). (inExpression text sc m h e ++ u) ++ z) (any-sides text l m q sc h es)
+    rw (any-expression text l m q sc h e, any-sides text l m q sc h es)
 
 pub record IsAssign (s : List ℕ) (lo end : ℕ) (u : Unlabelled) : Type 0 where
   pub left : Expressions
@@ -309,19 +276,16 @@ module _ {s : List ℕ} {end : ℕ} {here : Here} {st : State} (n : Node) (nd : 
 
   pub assigned-deep : (y : ReadyU s end here st) → deepBoth (record { left = assigned-is y .left; right = assigned-is y .right }) ≤ here .left
   unfolding unlabelledDepth
-  assigned-deep y = omega (arith, y .shallow, ap unlabelledDepth (assigned-is y .same))
+  assigned-deep y = omega (arith, ap unlabelledDepth (assigned-is y .same))
 
   pub assigned-start : (y : ReadyU s end here st) → n .start ≡ y .lo
-  assigned-start y = let u = assigned-is y in omega (arith, nd .start, u .size-of, u .ends)
+  assigned-start y = let u = assigned-is y in omega arith
 
   abbrev pub assigned-part : ReadyU s end here st → ReadyAssign s left right (n .inner) here st
   assigned-part y = let u = assigned-is y in record {
-    ready =
-        sub encodeBoth deepBoth FineBoth y keeps-all (n .inner) (y .lo) here st (record { left = u .left; right = u .right }) (u .lies)
-        (omega (arith, nd .inner, u .ends)) (omega arith) (omega (arith, nd .inner)) refl refl
-        (omega (arith, y .height, y .ends, u .ends)) (omega (arith, y .label, y .ends, u .ends)) (y .some) (assigned-deep y) (assigned-fine y);
-    first = omega (arith, el, assigned-start y, nd .value, u .value-of);
-    second = omega (arith, er, assigned-start y, nd .place, u .place-of);
+    ready = sub {part = record { left = u .left; right = u .right }} y keeps-all (u .lies) refl (omega (arith, assigned-deep y)) (assigned-fine y);
+    first = omega (arith, assigned-start y);
+    second = omega (arith, assigned-start y);
   }
 
   pub assigned-gave : (text : List ℕ) (ways : Ways) {s₁ t t₁ : List ℕ} {r : State} → GaveAssign text s s₁ left right (n .inner) here t t₁ st r
@@ -336,9 +300,7 @@ module _ {s : List ℕ} {end : ℕ} {here : Here} {st : State} (n : Node) (nd : 
         (y .base) here s s₁ t t₁ st r) (sym (u .same))
         (record {
           keeps = x .keeps;
-          did = did-as _ _ (x .did)
-              (same-eq (ap (λ (z : List Fault). z ++ inRightSides text sc l h (u .right)) (any-sides text l m refl sc (h + 1) (u .left)) ∙ ap
-              (λ (z : List Fault). inSides text sc m (h + 1) (u .left) ++ z) (any-right text l m refl sc h (u .right))))
-              (λ k e. refl) (omega (arith, y .ends, u .ends));
+          did = did-as _ _ (x .did) (same-eq (rw (any-sides text l m refl sc (h + 1) (u .left), any-right text l m refl sc h (u .right))))
+              (λ k e. refl) (omega arith);
         });
   }

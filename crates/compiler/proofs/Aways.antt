@@ -1,29 +1,14 @@
 -- BREAK, LOOP, ENDCASE, RETURN and FINISH: a jump or an act, or 13 where there is nothing to leave. And a call as a command.
-use Prim.Native.Nat.{ℕ, _+_, _-_, _≤_}
-use mathlib.Core.Path.{_≡_, refl, sym, ap, subst, _∙_}
-use mathlib.Core.Bool.{true, false}
-use mathlib.Core.List.{List, [], _∷_}
-use native.Mathlib.Omega.{arith}
-use lib.ListN.{length, getD}
-use borrow.Author.Tests.{eq-eqb, ne-eqb}
+use Rattle.compiler.proofs.Basics.{ℕ, _+_, _-_, _≤_, _≡_, refl, sym, ap, subst, _∙_, true, false, List, [], _∷_, arith, length, getD, eq-eqb}
+use Rattle.compiler.proofs.Basics.{ne-eqb}
 use Rattle.language.specs.Kinds as K
 use Rattle.language.specs.Tree as T
-use Rattle.language.specs.Tree.{Expression, Unlabelled}
-use Rattle.language.proofs.Depth.{depth, unlabelledDepth}
-use Rattle.language.specs.Resolve.{unlabelled}
-use Rattle.language.specs.Fine.{FineUnlabelled}
-use Rattle.language.specs.Faults.{inUnlabelled}
-use Rattle.language.specs.Heights.{ofCmd}
+use Rattle.compiler.proofs.Language.{Expression, Unlabelled, depth, unlabelledDepth, unlabelled, FineUnlabelled, inUnlabelled, ofCmd, encode}
+use Rattle.compiler.proofs.Language.{encodeUnlabelled}
 use Rattle.tree.specs.Encoding as O
-use Rattle.tree.specs.Encoding.{encode, encodeUnlabelled}
 use Rattle.code.specs.Generate as G
-use Rattle.compiler.specs.declared.steps.State.{State}
-use Rattle.compiler.specs.declared.steps.Here.{Here}
-use Rattle.compiler.specs.declared.steps.Ways.{Ways}
-use Rattle.compiler.specs.declared.steps.Node.{Node}
-use Rattle.compiler.specs.Fine.{FineE, FinePlain}
-use Rattle.compiler.specs.Walked.{leavableBy, NodeAt, Emits, Faulted, LeavesTo}
-use Rattle.compiler.specs.Walks.{Lies, Result, ReadyE, GaveE}
+use Rattle.compiler.proofs.Vocabulary.{State, Here, Ways, Node, FineE, FinePlain, leavableBy, NodeAt, Emits, Faulted, LeavesTo, Lies, Result}
+use Rattle.compiler.proofs.Vocabulary.{ReadyE, GaveE}
 use Rattle.compiler.specs.Commands.{cmdSays, ReadyU, GaveU, GoesAway}
 use Rattle.compiler.proofs.Scoping.{keeps-all}
 use Rattle.compiler.proofs.Done.{emits-did, did-as, same-refl}
@@ -35,7 +20,7 @@ use Rattle.compiler.proofs.Forms.{Form, form-at}
 module _ {here : Here} {ways : Ways} {word place : ℕ} {t : List ℕ} {st r : State} where
   module _ {t′ : List ℕ} where
     at-word : {k : ℕ} → word ≡ k → GoesAway here ways k place t t′ st r → GoesAway here ways word place t t′ st r
-    at-word q g = subst (λ (k : ℕ). GoesAway here ways k place t t′ st r) (sym q) g
+    at-word q g = rw q g
 
     pub away-break : word ≡ K.BREAK → LeavesTo (ways .after) place t t′ st r → GoesAway here ways word place t t′ st r
     unfolding G.cmdCode ofCmd G.cmdLabels
@@ -99,15 +84,8 @@ pub away-gave : (text : List ℕ) (ways : Ways) {s t t′ : List ℕ} {end : ℕ
     → (n .kind ≡ O.CALLED → ⊥) → GoesAway here ways (n .kind) (n .place) t t′ st r → GaveU text s s end here ways t t′ st r
 unfolding inUnlabelled unlabelled
 away-gave text ways {s} {t} {t′} {end} {here} {st} {r} n nd a b c d e f g h i j l x = record {
-  by = λ y.
-      let u = is-leave (form-at n nd refl y) a b c d e f g h i j l in let sc = y .scope in
-      subst (λ (v : Unlabelled). Result (inUnlabelled text sc (leavableBy ways here) (here .height) v)
-      (cmdSays here ways (unlabelled text sc (here .height) v)) (length (encodeUnlabelled (y .tree))) (y .base) here s s t t′ st r) (sym (u .same))
-      (record {
-        keeps = keeps-all;
-        did = did-as _ _ (subst (λ (p : ℕ). GoesAway here ways (n .kind) p t t′ st r) (nd .place ∙ u .place-of) x .did) same-refl
-            (λ k v. refl) (omega arith);
-      });
+  by = λ y. let u = is-leave (form-at n nd refl y) a b c d e f g h i j l in let sc = y .scope in
+      rw (u .same) (record { keeps = keeps-all; did = did-as _ _ (rw (nd .place ∙ u .place-of) at x .did) same-refl (λ k v. refl) (omega arith) });
 }
 
 -- ---- a call
@@ -127,16 +105,14 @@ module _ {s : List ℕ} {end : ℕ} {here : Here} {st : State} (n : Node) (nd : 
 
   pub call-deep : (y : ReadyU s end here st) → depth (call-is y .part) ≤ here .left
   unfolding unlabelledDepth
-  call-deep y = omega (arith, y .shallow, ap unlabelledDepth (call-is y .same))
+  call-deep y = omega (arith, ap unlabelledDepth (call-is y .same))
 
   pub call-fine : (y : ReadyU s end here st) → FineE (call-is y .part)
   unfolding FineUnlabelled
   call-fine y = subst FinePlain (call-is y .same) (y .fine) .0 .0
 
   abbrev pub performed-part : ReadyU s end here st → ReadyE s end here st
-  performed-part y = let u = call-is y in
-      sub encode depth FineE y keeps-all end (y .lo) here st (u .part) (u .lies) (u .ends) (omega arith) (omega arith) refl refl
-      (omega (arith, y .height, y .ends, u .ends)) (omega (arith, y .label, y .ends, u .ends)) (y .some) (call-deep y) (call-fine y)
+  performed-part y = let u = call-is y in sub y keeps-all (u .lies) refl (omega (arith, call-deep y)) (call-fine y)
 
   pub performed-gave : (text : List ℕ) (ways : Ways) {s₁ t t₁ : List ℕ} {r : State} → GaveE text s s₁ end here t t₁ st r
       → GaveU text s s₁ end here ways t t₁ st r
@@ -146,9 +122,5 @@ module _ {s : List ℕ} {end : ℕ} {here : Here} {st : State} (n : Node) (nd : 
         let u = call-is y in let x = g .by (performed-part y) in let sc = y .scope in let h = here .height in
         subst (λ (v : Unlabelled). Result (inUnlabelled text sc (leavableBy ways here) h v) (cmdSays here ways (unlabelled text sc h v))
         (length (encodeUnlabelled (y .tree))) (y .base) here s s₁ t t₁ st r) (sym (u .same))
-        (record {
-          keeps = x .keeps;
-          did = did-as _ _ (with-ways text sc here ways h (u .part) (x .did)) same-refl (λ k v. refl)
-              (omega (arith, y .ends, u .ends));
-        });
+        (record { keeps = x .keeps; did = did-as _ _ (with-ways text sc here ways h (u .part) (x .did)) same-refl (λ k v. refl) (omega arith) });
   }

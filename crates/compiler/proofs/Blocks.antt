@@ -1,34 +1,20 @@
 -- Lists of commands, locals and blocks.
-use Prim.Native.Nat.{ℕ, suc, _+_, _*_, _-_, _≤_, _<_}
-use mathlib.Core.Path.{_≡_, refl, sym, ap, subst, _∙_}
-use mathlib.Core.List.{List, [], _∷_, _++_, append-assoc}
-use native.Mathlib.Omega.{arith}
-use lib.ListN.{length, getD}
-use Rattle.items.specs.Item as I
+use Rattle.compiler.proofs.Basics.{ℕ, suc, _+_, _*_, _-_, _≤_, _<_, _≡_, refl, sym, ap, subst, _∙_, List, _++_, append-assoc, arith, length}
+use Rattle.compiler.proofs.Basics.{getD}
 use Rattle.language.specs.Tree as T
-use Rattle.language.specs.Tree.{Name, Expressions, Command, Commands, Unlabelled}
-use Rattle.language.proofs.Depth.{commandDepth, commandsDepth, unlabelledDepth, localsDepth}
+use Rattle.compiler.proofs.Language.{Name, Expressions, Command, Commands, Unlabelled, commandDepth, commandsDepth, unlabelledDepth}
+use Rattle.compiler.proofs.Language.{localsDepth, Scope, opened, declared, forVector, judgedWord, expressions, commands, unlabelled, locals}
+use Rattle.compiler.proofs.Language.{valuesBefore, declareAll, scopeAfter, heightAfter, ofExprs, ofLocals, ofCmd, ofCmds, Leavable, inCommands}
+use Rattle.compiler.proofs.Language.{inLocals, inUnlabelled, encodeCommand, encodeCommands, encodeUnlabelled, encodeLocals, FineCommands}
+use Rattle.compiler.proofs.Language.{FineLocals, FineUnlabelled}
 use Rattle.language.specs.Names as N
-use Rattle.language.specs.Names.{Scope, opened, declared}
-use Rattle.language.specs.Constants.{Fault, forVector, judgedWord, faultsOf}
 use Rattle.language.specs.Resolved as R
-use Rattle.language.specs.Resolve.{expressions, commands, unlabelled, locals, valuesBefore, declareAll, scopeAfter, heightAfter}
 use Rattle.language.specs.Heights as H
-use Rattle.language.specs.Heights.{ofExprs, ofLocals, ofCmd, ofCmds}
 use Rattle.code.specs.Generate as G
-use Rattle.language.specs.Faults.{Leavable, inExpressions, inCommands, inLocals, inUnlabelled, twice}
-use Rattle.tree.specs.Encoding.{encodeCommand, encodeCommands, encodeUnlabelled, encodeLocals}
-use Rattle.compiler.specs.Scope.{Shows, Keeps, Pushed}
+use Rattle.compiler.proofs.Vocabulary.{Shows, Keeps, Pushed, State, Here, Ways, Node, FineC, FineCs, FineLs, FinePlain, marked, placed}
+use Rattle.compiler.proofs.Vocabulary.{leavable, leavableBy, exits, NodeAt, Code, Did, Lies, Result}
 use Rattle.compiler.proofs.Scoping.{keeps-all, keeps-then, keeps-lower, pushed-keeps, pushed-mark}
-use Rattle.compiler.specs.declared.steps.State.{State}
-use Rattle.compiler.specs.declared.steps.Here.{Here}
-use Rattle.compiler.specs.declared.steps.Ways.{Ways}
-use Rattle.compiler.specs.declared.steps.Node.{Node}
 use Rattle.compiler.specs.declared.steps.Placed.{Placed}
-use Rattle.compiler.specs.Fine.{FineC, FineCs, FineLs, FinePlain}
-use Rattle.language.specs.Fine.{FineCommands, FineLocals, FineUnlabelled}
-use Rattle.compiler.specs.Walked.{marked, placed, leavable, leavableBy, exits, NodeAt, Code, Did}
-use Rattle.compiler.specs.Walks.{Lies, Result}
 use Rattle.compiler.specs.Commands.{cmdSays, cmdsSays, ReadyC, GaveC, ReadyU, GaveU, ReadyList, GaveList}
 use Rattle.compiler.specs.Locals.{Local, aVector, someValues, withLocal, encodeLocal, localDepth, FineLocal, scopeWith, heightWith, faultsL}
 use Rattle.compiler.specs.Locals.{localSays, ReadyLocal, GaveLocal, localsSays, ReadyLocals, GaveLocals}
@@ -92,15 +78,14 @@ module _ (text t₀ : List ℕ) (w : Ways) {s₀ : List ℕ} {from end : ℕ} {h
   module _ {s t : List ℕ} {at size next : ℕ} {st : State} (l : at < end) (es : size ≡ getD s at 0) (en : next ≡ at + 2 + size) where
     abbrev pub list-part : (y : ReadyList s₀ from end here st₀) → ListPart y s t at st → ReadyC s next here st
     list-part y p = let z = y .ready in
-        ready-one z (y .starts) l es en p here st refl refl refl (omega arith)
-        (omega (arith, z .label, p .label, rest-length z (y .starts) l es en p)) (p .some)
+        ready-one z (y .starts) l es en p here st refl refl refl (omega arith) (omega (arith, rest-length z (y .starts) l es en p)) (p .some)
 
     pub list-next : {s₁ t₁ : List ℕ} {r : State} → GaveC text s s₁ next here w t t₁ st r → (y : ReadyList s₀ from end here st₀) → ListPart y s t at st
         → ListPart y s₁ t₁ next r
     unfolding inCommands commands G.cmdsCode ofCmds G.cmdsLabels
     list-next g y p = let z = y .ready in let x = g .by (list-part y p) in let n = rest-length z (y .starts) l es en p in
-        goes-on z (y .starts) l es en p (x .keeps) (omega arith) (omega (arith, x .did .few)) (omega (arith, p .some, x .did .grows))
-        (λ t′ st′ d. did-as _ _ (did-then (x .did) d) same-refl (λ k c. refl) (omega arith))
+        goes-on z (y .starts) l es en p (x .keeps) (omega arith) (omega arith) (omega arith) (λ t′ st′ d. did-as _ _ (did-then (x .did) d) same-refl
+        (λ k c. refl) (omega arith))
 
   pub list-end : {s t : List ℕ} {at : ℕ} {st : State} → end ≤ at → ((y : ReadyList s₀ from end here st₀) → ListPart y s t at st)
       → GaveList text s₀ s from end here w t₀ t st₀ st
@@ -135,23 +120,18 @@ module _ (strings : ℕ) where
   unfolding G.localsCode G.exprsCode H.count G.exprsLabels
   values-code h n R.none ls =
       let a : h ≡ h + 0 = omega arith in let b : n ≡ n + 0 = omega arith in
-      ap (λ (k : ℕ). G.localsCode strings k n ls) a ∙ ap (λ (k : ℕ). G.localsCode strings (h + 0) k ls) b
+      cc
   values-code h n (R.and e es) ls =
-      let a : h + 1 + H.count es ≡ h + suc (H.count es) = omega arith in
-      let b : n + G.exprLabels e + G.exprsLabels es ≡ n + (G.exprLabels e + G.exprsLabels es) = omega arith in
-      ap (λ (z : List I.Item). G.exprCode strings h n e ++ (G.SP h ∷ z)) (values-code (h + 1) (n + G.exprLabels e) es ls
-      ∙ ap (λ (k : ℕ). G.exprsCode strings (h + 1) (n + G.exprLabels e) es ++ G.localsCode strings k (n + G.exprLabels e + G.exprsLabels es) ls) a
-      ∙ ap (λ (k : ℕ). G.exprsCode strings (h + 1) (n + G.exprLabels e) es ++ G.localsCode strings (h + suc (H.count es)) k ls) b)
-      ∙ sym (append-assoc (G.exprCode strings h n e) (G.SP h ∷ G.exprsCode strings (h + 1) (n + G.exprLabels e) es)
-      (G.localsCode strings (h + suc (H.count es)) (n + (G.exprLabels e + G.exprsLabels es)) ls))
+      let a : h + 1 + H.count es ≡ h + suc (H.count es) = omega arith in let b : n + G.exprLabels e + G.exprsLabels es ≡ n
+      + (G.exprLabels e + G.exprsLabels es) = omega arith in
+      simp (values-code (h + 1) (n + G.exprLabels e) es ls, a, b, append-assoc)
 
 values-heights : (h : ℕ) (es : R.Exprs) (ls : R.Locals) → ofLocals h (valuesBefore es ls) ≡ ofExprs h es ++ ofLocals (h + H.count es) ls
 unfolding ofLocals ofExprs H.count
-values-heights h R.none ls = let a : h ≡ h + 0 = omega arith in ap (λ (k : ℕ). ofLocals k ls) a
+values-heights h R.none ls = let a : h ≡ h + 0 = omega arith in cc
 values-heights h (R.and e es) ls =
     let a : h + 1 + H.count es ≡ h + suc (H.count es) = omega arith in
-    ap (λ (z : List ℕ). H.ofExpr h e ++ ((h + 1) ∷ z)) (values-heights (h + 1) es ls ∙ ap (λ (k : ℕ). ofExprs (h + 1) es ++ ofLocals k ls) a)
-    ∙ sym (append-assoc (H.ofExpr h e) ((h + 1) ∷ ofExprs (h + 1) es) (ofLocals (h + suc (H.count es)) ls))
+    simp (values-heights (h + 1) es ls, a, append-assoc)
 
 values-labels : (es : R.Exprs) (ls : R.Locals) → G.localsLabels (valuesBefore es ls) ≡ G.exprsLabels es + G.localsLabels ls
 unfolding G.localsLabels G.exprsLabels
@@ -160,13 +140,12 @@ values-labels (R.and e es) ls = omega (arith, values-labels es ls)
 
 values-after : (h : ℕ) (es : R.Exprs) (ls : R.Locals) → H.heightWith h (valuesBefore es ls) ≡ H.heightWith (h + H.count es) ls
 unfolding H.heightWith H.count
-values-after h R.none ls = let a : h ≡ h + 0 = omega arith in ap (λ (k : ℕ). H.heightWith k ls) a
-values-after h (R.and e es) ls =
-    let a : h + 1 + H.count es ≡ h + suc (H.count es) = omega arith in values-after (h + 1) es ls ∙ ap (λ (k : ℕ). H.heightWith k ls) a
+values-after h R.none ls = let a : h ≡ h + 0 = omega arith in cc
+values-after h (R.and e es) ls = let a : h + 1 + H.count es ≡ h + suc (H.count es) = omega arith in rw (values-after (h + 1) es ls, a)
 
 count-is : (text : List ℕ) (sc : Scope) (h : ℕ) (ns : List Name) (es : Expressions) → length ns ≡ T.count es
     → h + H.count (expressions text sc h es) ≡ h + length ns
-count-is text sc h ns es e = omega (arith, e, count-resolved text sc h es)
+count-is text sc h ns es e = omega (arith, count-resolved text sc h es)
 
 -- the code of one and then of the others
 code-with : (text : List ℕ) (sc : Scope) (here : Here) (n : ℕ) (x : Local) (ls : T.Locals) → FineLocal x
@@ -174,8 +153,7 @@ code-with : (text : List ℕ) (sc : Scope) (here : Here) (n : ℕ) (x : Local) (
     _≡_ {A = Code}
     (record {
       items = c .items ++ G.localsCode (here .strings) h′ (n + c .labels) (locals text sc′ h′ ls);
-      heights = c .heights ++ ofLocals h′
-          (locals text sc′ h′ ls);
+      heights = c .heights ++ ofLocals h′ (locals text sc′ h′ ls);
       labels = c .labels + G.localsLabels (locals text sc′ h′ ls);
     })
     (localsSays here (here .height) (locals text sc (here .height) (withLocal x ls)) n)
@@ -183,13 +161,11 @@ unfolding locals localSays scopeWith heightWith FineLocal G.localsCode ofLocals 
 code-with text sc here n (aVector m c) ls f =
     let h = here .height in let h′ = h + 2 + judgedWord (forVector text sc c) in let ls′ = locals text (declared sc m (N.local h)) h′ ls in
     let a : n + 0 ≡ n = omega arith in
-    code-is (ap (λ (k : ℕ). G.LP (h + 1) ∷ G.SP h ∷ G.localsCode (here .strings) h′ k ls′) a) refl (omega arith)
+    code-is (rw a) refl (omega arith)
 code-with text sc here n (someValues ns es) ls f =
     let h = here .height in let rs = expressions text sc h es in let ls′ = locals text (declareAll sc h ns) (h + length ns) ls in
     let k = count-is text sc h ns es (f .0) in
-    code-is (ap (λ (m : ℕ). G.exprsCode (here .strings) h n rs ++ G.localsCode (here .strings) m (n + G.exprsLabels rs) ls′) (sym k) ∙ sym
-    (values-code (here .strings) h n rs ls′)) (ap (λ (m : ℕ). ofExprs h rs ++ ofLocals m ls′) (sym k) ∙ sym (values-heights h rs ls′))
-    (sym (values-labels rs ls′))
+    code-is (cc (values-code (here .strings) h n rs ls′)) (cc (values-heights h rs ls′)) (sym (values-labels rs ls′))
 
 -- ---- one of the list
 
@@ -246,8 +222,8 @@ module _ (text t₀ : List ℕ) {s₀ : List ℕ} {from end : ℕ} {here : Here}
   locals-begin y = let z = y .ready in record {
     rest = z .tree;
     scope = z .scope;
-    lies = subst (λ (n : ℕ). Lies s₀ n (encodeLocals (z .tree))) (y .starts) (z .lies);
-    ends = omega (arith, z .ends, y .starts);
+    lies = rw (y .starts) at (z .lies);
+    ends = omega arith;
     starts = omega arith;
     shows = z .shows;
     keeps = keeps-all;
@@ -269,13 +245,13 @@ module _ (text t₀ : List ℕ) {s₀ : List ℕ} {from end : ℕ} {here : Here}
       one = is-local (p .rest) (p .lies) (p .ends) l
 
       pub locals-size : size ≡ length (encodeLocal (one .part))
-      locals-size = es ∙ p .keeps .above at (omega (arith, y .ready .above, y .starts, p .starts)) ∙ one .size-of
+      locals-size = es ∙ p .keeps .above at (omega arith) ∙ one .size-of
 
       pub locals-length : length (encodeLocals (p .rest)) ≡ 2 + length (encodeLocal (one .part)) + length (encodeLocals (one .more))
       locals-length = omega (arith, p .ends, one .ends)
 
       pub locals-deep : (localDepth (one .part) ≤ here .left) × (localsDepth (one .more) ≤ here .left)
-      locals-deep = local-deep (one .part) (one .more) (subst (λ (ls : T.Locals). localsDepth ls ≤ here .left) (one .same) (p .shallow))
+      locals-deep = local-deep (one .part) (one .more) (rw (one .same) at (p .shallow))
 
       pub locals-fine : FineLocal (one .part) × FineLs (one .more)
       locals-fine = local-fine (one .part) (one .more) (subst FineLs (one .same) (p .fine))
@@ -283,10 +259,8 @@ module _ (text t₀ : List ℕ) {s₀ : List ℕ} {from end : ℕ} {here : Here}
     abbrev pub locals-part : (y : ReadyLocals s₀ from end here st₀) → LocalsPart y s t at r
         → ReadyLocal s next (placed (r .top) (r .height) here) (r .done)
     locals-part y p = let z = y .ready in let u = one y p in
-        moved encodeLocal localDepth FineLocal z (p .keeps) next (at + 2) (placed (r .top) (r .height) here) (r .done) (u .part) (p .scope) (u .lies)
-        (omega (arith, en, locals-size y p)) (omega (arith, y .starts, p .starts)) (omega (arith, en, locals-size y p, u .ends)) (p .shows)
-        (omega (arith, z .room, p .room, locals-length y p)) refl (omega (arith, z .height, p .tall, locals-length y p))
-        (omega (arith, z .label, p .label, locals-length y p)) (p .some) (locals-deep y p .0) (locals-fine y p .0)
+        moved z (p .keeps) (p .scope) (u .lies) (p .shows) (omega (arith, locals-length y p))
+        (omega (arith, locals-size y p, locals-length y p, locals-deep y p .0)) (locals-fine y p .0)
 
     pub locals-next : {s₁ t₁ : List ℕ} {r′ : Placed} → GaveLocal text s s₁ next (placed (r .top) (r .height) here) t t₁ (r .done) r′
         → (y : ReadyLocals s₀ from end here st₀) → LocalsPart y s t at r → LocalsPart y s₁ t₁ next r′
@@ -296,27 +270,24 @@ module _ (text t₀ : List ℕ) {s₀ : List ℕ} {from end : ℕ} {here : Here}
         record {
           rest = u .more;
           scope = sc′;
-          lies = subst (λ (n : ℕ). Lies s₀ n (encodeLocals (u .more))) (omega (arith, en, locals-size y p)) (u .lies-more);
-          ends = omega (arith, u .ends, en, locals-size y p);
-          starts = omega (arith, p .starts, en);
+          lies = subst (λ (n : ℕ). Lies s₀ n (encodeLocals (u .more))) (omega (arith, locals-size y p)) (u .lies-more);
+          ends = omega (arith, locals-size y p);
+          starts = omega arith;
           shows = k .shows;
           keeps = keeps-then (p .keeps) (keeps-lower (p .above) (k .keeps));
-          above = omega (arith, p .above, k .above);
-          room = omega (arith, p .room, k .room, locals-length y p);
-          tall = omega (arith, p .tall, k .tall, locals-length y p);
-          label = omega (arith, p .label, locals-length y p, x .did .few);
-          some = omega (arith, p .some, x .did .grows);
+          above = omega arith;
+          room = omega (arith, locals-length y p);
+          tall = omega (arith, locals-length y p);
+          label = omega (arith, locals-length y p);
+          some = omega arith;
           shallow = locals-deep y p .1;
           fine = locals-fine y p .1;
-          scopes = p .scopes ∙ ap (scopeAfter text sc h) (u .same) ∙ scope-with text sc h (u .part) (u .more) ∙ ap
-              (λ (n : ℕ). scopeAfter text sc′ n (u .more)) (sym (k .height));
-          heights = p .heights ∙ ap (heightAfter text sc h) (u .same) ∙ height-with text sc h (u .part) (u .more) ∙ ap
-              (λ (n : ℕ). heightAfter text sc′ n (u .more)) (sym (k .height));
+          scopes = cc (scope-with text sc h (u .part) (u .more));
+          heights = cc (height-with text sc h (u .part) (u .more));
           finish = λ t′ st′ d. p .finish t′ st′
               (subst (λ (ls : T.Locals). Did (inLocals text sc (leavable here) h ls) (localsSays here h (locals text sc h ls))
               (2 * length (encodeLocals (p .rest))) t t′ (r .done) st′) (sym (u .same))
-              (did-as (localsSays here h (locals text sc h (withLocal (u .part) (u .more)))) _
-              (did-then (x .did)
+              (did-as (localsSays here h (locals text sc h (withLocal (u .part) (u .more)))) _ (did-then (x .did)
               (subst (λ (n : ℕ). Did (inLocals text sc′ (leavable here) n (u .more)) (localsSays here n (locals text sc′ n (u .more)))
               (2 * length (encodeLocals (u .more))) t₁ t′ (r′ .done) st′) (k .height) d))
               (same-eq (sym (faults-with text sc now (u .part) (u .more)))) (λ m e. code-with text sc now m (u .part) (u .more) (locals-fine y p .0))
@@ -329,16 +300,14 @@ module _ (text t₀ : List ℕ) {s₀ : List ℕ} {from end : ℕ} {here : Here}
   locals-end {s} {t} {at} {r} l q = record {
     by = λ y. let p = q y in let e = no-local (p .rest) (p .ends) l in let z = y .ready in record {
       after = record {
-        shows = subst (λ (sc : Scope). Shows s (r .top) sc) (sym (p .scopes ∙ ap (scopeAfter text (p .scope) (r .height)) e)) (p .shows);
+        shows = rw (p .scopes ∙ ap (scopeAfter text (p .scope) (r .height)) e) (p .shows);
         height = sym (p .heights ∙ ap (heightAfter text (p .scope) (r .height)) e);
         keeps = p .keeps;
         above = p .above;
-        room = omega (arith, p .room);
-        tall = omega (arith, p .tall);
+        room = omega arith;
+        tall = omega arith;
       };
-      did = p .finish t (r .done) (subst (λ (ls : T.Locals). Did (inLocals text (p .scope) (leavable here) (r .height) ls)
-          (localsSays here (r .height) (locals text (p .scope) (r .height) ls)) (2 * length (encodeLocals ls)) t t (r .done) (r .done)) (sym e)
-          (did-none _));
+      did = p .finish t (r .done) (rw e (did-none _));
     };
   }
 
@@ -352,13 +321,9 @@ any-locals : (text : List ℕ) (l m : Leavable) (q : l .routine ≡ m .routine) 
     → inLocals text sc l h ls ≡ inLocals text sc m h ls
 unfolding inLocals
 any-locals text l m q sc h T.noLocals = refl
-any-locals text l m q sc h (T.vector n c ls) =
-    ap (λ (z : List Fault). (faultsOf (forVector text sc c) ++ twice text sc h (n ∷ [])) ++ z)
-    (any-locals text l m q (declared sc n (N.local h)) (h + 2 + judgedWord (forVector text sc c)) ls)
+any-locals text l m q sc h (T.vector n c ls) = rw (any-locals text l m q (declared sc n (N.local h)) (h + 2 + judgedWord (forVector text sc c)) ls)
 any-locals text l m q sc h (T.values ns es ls) =
-    ap (λ (z : List Fault). (z ++ twice text sc h ns) ++ inLocals text (declareAll sc h ns) l (h + length ns) ls) (any-expressions text l m q sc h es)
-    ∙ ap (λ (z : List Fault). (inExpressions text sc m h es ++ twice text sc h ns) ++ z)
-    (any-locals text l m q (declareAll sc h ns) (h + length ns) ls)
+    rw (any-expressions text l m q sc h es, any-locals text l m q (declareAll sc h ns) (h + length ns) ls)
 
 -- both ways to count the height agree
 heights-agree : (text : List ℕ) (sc : Scope) (h : ℕ) (ls : T.Locals) → FineLs ls → H.heightWith h (locals text sc h ls) ≡ heightAfter text sc h ls
@@ -367,8 +332,11 @@ heights-agree text sc h T.noLocals f = refl
 heights-agree text sc h (T.vector n c ls) f = heights-agree text (declared sc n (N.local h)) (h + 2 + judgedWord (forVector text sc c)) ls (f .1)
 heights-agree text sc h (T.values ns es ls) f =
     let ls′ = locals text (declareAll sc h ns) (h + length ns) ls in
-    values-after h (expressions text sc h es) ls′ ∙ ap (λ (k : ℕ). H.heightWith k ls′) (count-is text sc h ns es (sym (f .2))) ∙ heights-agree text
-    (declareAll sc h ns) (h + length ns) ls (f .1)
+    rw (
+      values-after h (expressions text sc h es) ls′,
+      count-is text sc h ns es (sym (f .2)),
+      heights-agree text (declareAll sc h ns) (h + length ns) ls (f .1),
+    )
 
 module _ {s : List ℕ} {end : ℕ} {here : Here} {st : State} (n : Node) (nd : NodeAt s end n) (q : getD s (end - 1) 0 ≡ 57) {middle : ℕ}
     (m : middle ≡ n .start + n .value) where
@@ -382,23 +350,21 @@ module _ {s : List ℕ} {end : ℕ} {here : Here} {st : State} (n : Node) (nd : 
   pub block-deep : (y : ReadyU s end here st)
       → (localsDepth (block-is y .left) ≤ here .left) × (commandsDepth (block-is y .list) ≤ here .left)
   unfolding unlabelledDepth
-  block-deep y = (omega (arith, y .shallow, ap unlabelledDepth (block-is y .same)), omega (arith, y .shallow, ap unlabelledDepth (block-is y .same)))
+  block-deep y = (omega (arith, ap unlabelledDepth (block-is y .same)), omega (arith, ap unlabelledDepth (block-is y .same)))
 
   pub block-start : (y : ReadyU s end here st) → (n .start ≡ y .lo) × (middle ≡ y .lo + length (encodeLocals (block-is y .left)))
   block-start y =
       let u = block-is y in
-      (omega (arith, nd .start, u .size-of, u .ends), omega (arith, m, nd .start, nd .value, u .value-of, u .size-of, u .ends))
+      (omega arith, omega arith)
 
   pub block-room : (y : ReadyU s end here st) → (here .top + 2 ≤ y .base) × (here .top + 2 ≤ length s)
-  block-room y = let u = block-is y in (omega (arith, y .room, y .ends, u .ends), omega (arith, y .room, y .ends, u .ends, y .long))
+  block-room y = let u = block-is y in (omega arith, omega arith)
 
   module _ {s₁ : List ℕ} (pu : Pushed s s₁ (here .top) 0 0) where
     abbrev pub block-locals : ReadyU s end here st → ReadyLocals s₁ (n .start) middle (marked here) st
     block-locals y = let u = block-is y in let k = pushed-keeps pu (block-room y .0) (y .long) in record {
-      ready = moved encodeLocals localsDepth FineLs y k middle (y .lo) (marked here) st (u .left) (opened (y .scope)) (u .lies) (block-start y .1)
-          (omega arith) (omega (arith, block-start y .1, u .ends)) (pushed-mark pu (block-room y .0) (y .long) (y .shows) refl)
-          (omega (arith, y .room, y .ends, u .ends)) refl (omega (arith, y .height, y .ends, u .ends)) (omega (arith, y .label, y .ends, u .ends))
-          (y .some) (block-deep y .0) (block-fine y .0);
+      ready = moved y k (opened (y .scope)) (u .lies) (pushed-mark pu (block-room y .0) (y .long) (y .shows) refl) (omega arith)
+          (omega (arith, block-start y .1, block-deep y .0)) (block-fine y .0);
       starts = sym (block-start y .0);
     }
 
@@ -408,11 +374,8 @@ module _ {s : List ℕ} {end : ℕ} {here : Here} {st : State} (n : Node) (nd : 
 
       abbrev pub block-list : ReadyU s end here st → ReadyList s₂ middle (n .inner) (placed (a .top) (a .height) here) (a .done)
       block-list y = let u = block-is y in let x = g .by (block-locals y) in let k = block-keeps y in record {
-        ready = moved encodeCommands commandsDepth FineCs y k (n .inner) (y .lo + length (encodeLocals (u .left))) (placed (a .top) (a .height) here)
-            (a .done) (u .list) (scopeAfter text (opened (y .scope)) (here .height) (u .left)) (u .lies-list) (omega (arith, nd .inner, u .ends))
-            (omega arith) (omega (arith, nd .inner)) (x .after .shows) (omega (arith, y .room, y .ends, u .ends, x .after .room)) refl
-            (omega (arith, y .height, y .ends, u .ends, x .after .tall)) (omega (arith, y .label, y .ends, u .ends, x .did .few))
-            (omega (arith, y .some, x .did .grows)) (block-deep y .1) (block-fine y .1);
+        ready = moved y k (scopeAfter text (opened (y .scope)) (here .height) (u .left)) (u .lies-list) (x .after .shows) (omega arith)
+            (omega (arith, block-deep y .1)) (block-fine y .1);
         starts = sym (block-start y .1);
       }
 
@@ -428,40 +391,35 @@ module _ {s : List ℕ} {end : ℕ} {here : Here} {st : State} (n : Node) (nd : 
             subst (λ (v : Unlabelled). Result (inUnlabelled text (y .scope) l h v) (cmdSays here ways (unlabelled text (y .scope) h v))
             (length (encodeUnlabelled (y .tree))) (y .base) here s s₃ t t₂ st r) (sym (u .same))
             (record {
-              keeps = keeps-then (block-keeps y) (keeps-lower (omega (arith, x .after .above)) (z .keeps));
+              keeps = keeps-then (block-keeps y) (keeps-lower (omega arith) (z .keeps));
               did = did-as (cmdSays here ways (R.block LS (commands text sc′ h′ (u .list)))) _
                   (did-then (x .did) (subst (λ (k : ℕ). Did (inCommands text sc′ l k (u .list))
                   (λ m. record {
                     items = G.cmdsCode (here .strings) k m (exits ways) (commands text sc′ k (u .list));
-                    heights = ofCmds k
-                        (commands text sc′ k (u .list));
+                    heights = ofCmds k (commands text sc′ k (u .list));
                     labels = G.cmdsLabels (commands text sc′ k (u .list));
                   })
-                  (2 * length (encodeCommands (u .list))) t₁ t₂ (a .done) r) (x .after .height) (z .did))) (same-eq (ap (λ (f : List Fault). f
-                  ++ inCommands text sc′ l h′ (u .list)) (any-locals text (leavable here) l refl sc h ls))) (λ k e. code-is (ap (λ (v : ℕ).
-                  G.localsCode (here .strings) h k LS ++ G.cmdsCode (here .strings) v (k + G.localsLabels LS) (exits ways)
-                  (commands text sc′ h′ (u .list))) (sym eh)) (ap (λ (v : ℕ). ofLocals h LS ++ ofCmds v (commands text sc′ h′ (u .list))) (sym
-                  eh)) refl)
-                  (omega (arith, y .ends, u .ends));
+                  (2 * length (encodeCommands (u .list))) t₁ t₂ (a .done) r) (x .after .height) (z .did))) (same-eq (rw (any-locals text
+                  (leavable here) l refl sc h ls))) (λ k e. code-is (rw eh) (rw eh) refl) (omega arith);
             });
       }
 
 -- ---- another name of the same place
 
 pub locals-ready-at : {s : List ℕ} {from end : ℕ} {d d′ : Here} {st : State} → d′ ≡ d → ReadyLocals s from end d st → ReadyLocals s from end d′ st
-locals-ready-at {s} {from} {end} {st = st} e y = subst (λ (x : Here). ReadyLocals s from end x st) (sym e) y
+locals-ready-at e y = rw e y
 
 pub list-ready-at : {s : List ℕ} {from end : ℕ} {d d′ : Here} {st : State} → d′ ≡ d → ReadyList s from end d st → ReadyList s from end d′ st
-list-ready-at {s} {from} {end} {st = st} e y = subst (λ (x : Here). ReadyList s from end x st) (sym e) y
+list-ready-at e y = rw e y
 
 pub local-gave-at : {text s s′ t t′ : List ℕ} {end : ℕ} {d d′ : Here} {st : State} {r : Placed} → d′ ≡ d → GaveLocal text s s′ end d′ t t′ st r
     → GaveLocal text s s′ end d t t′ st r
-local-gave-at {text} {s} {s′} {t} {t′} {end} {st = st} {r} e g = subst (λ (x : Here). GaveLocal text s s′ end x t t′ st r) e g
+local-gave-at e g = rw e at g
 
 pub locals-gave-at : {text s s′ t t′ : List ℕ} {from end : ℕ} {d d′ : Here} {st : State} {r : Placed} → d′ ≡ d
     → GaveLocals text s s′ from end d′ t t′ st r → GaveLocals text s s′ from end d t t′ st r
-locals-gave-at {text} {s} {s′} {t} {t′} {from} {end} {st = st} {r} e g = subst (λ (x : Here). GaveLocals text s s′ from end x t t′ st r) e g
+locals-gave-at e g = rw e at g
 
 pub list-gave-at : {text s s′ t t′ : List ℕ} {from end : ℕ} {d d′ : Here} {w : Ways} {st r : State} → d′ ≡ d
     → GaveList text s s′ from end d′ w t t′ st r → GaveList text s s′ from end d w t t′ st r
-list-gave-at {text} {s} {s′} {t} {t′} {from} {end} {w = w} {st} {r} e g = subst (λ (x : Here). GaveList text s s′ from end x w t t′ st r) e g
+list-gave-at e g = rw e at g

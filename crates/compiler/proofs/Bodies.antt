@@ -1,25 +1,13 @@
 -- A function's body: a value, from which nothing is left, or a routine, which only RETURN leaves.
-use Prim.Native.Nat.{ℕ, _+_, _*_, _≤_, _^_}
-use mathlib.Core.Path.{_≡_, refl, sym, ap, subst, _∙_}
-use mathlib.Core.Bool.{Bool, true, false, not}
-use mathlib.Core.List.{List}
-use native.Mathlib.Omega.{arith}
-use lib.ListN.{length}
-use borrow.Author.Tests.{eq-eqb, ne-eqb}
+use Rattle.compiler.proofs.Basics.{ℕ, _≡_, refl, sym, ap, subst, _∙_, Bool, true, false, not, List, arith, length, eq-eqb, ne-eqb}
 use Rattle.language.specs.Kinds as K
 use Rattle.language.specs.Tree as T
-use Rattle.language.specs.Faults.{inExpression, inCommand}
-use Rattle.language.proofs.Depth.{depth, commandDepth, bodyDepth}
+use Rattle.compiler.proofs.Language.{inExpression, depth, commandDepth, bodyDepth, encode, encodeCommand, encodeBody, bodyWord}
 use Rattle.language.specs.Program.{bodyFaults}
 use Rattle.code.specs.Generate as G
-use Rattle.tree.specs.Encoding.{encode, encodeCommand, encodeBody, bodyWord}
-use Rattle.compiler.specs.Fine.{FineE, FineC}
-use Rattle.compiler.specs.Walks.{Lies, Ready, Result, ReadyE, GaveE}
+use Rattle.compiler.proofs.Vocabulary.{FineE, FineC, Lies, Ready, Result, ReadyE, GaveE, State, Here, Ways}
 use Rattle.compiler.specs.Commands.{ReadyC, GaveC}
 use Rattle.compiler.specs.Groups.{FineB, bodySays, ReadyBody, GaveBody}
-use Rattle.compiler.specs.declared.steps.State.{State}
-use Rattle.compiler.specs.declared.steps.Here.{Here}
-use Rattle.compiler.specs.declared.steps.Ways.{Ways}
 
 abbrev pub nowhere : Ways
 nowhere = record { after = 0; next = 0; done = 0; result = 0 }
@@ -54,17 +42,17 @@ ready-as enc′ deep′ Fine′ {s} {end} {x} {st} z b q d f =
       tree = b;
       scope = z .scope;
       lies = subst (Lies s (z .lo)) q (z .lies);
-      ends = z .ends ∙ ap (λ (n : ℕ). z .lo + n) l;
+      ends = rw (z .ends, l);
       above = z .above;
       long = z .long;
       small = z .small;
       shows = z .shows;
-      room = subst (λ (n : ℕ). x .top * 2 + n ≤ z .base * 2) l (z .room);
-      height = subst (λ (n : ℕ). x .height + 4100 * n ≤ 2 ^ 29) l (z .height);
-      label = subst (λ (n : ℕ). st .label + 2 * n ≤ 2 ^ 29) l (z .label);
+      room = rw l at (z .room);
+      height = rw l at (z .height);
+      label = rw l at (z .label);
       some = z .some;
       strings = z .strings;
-      shallow = subst (λ (n : ℕ). n ≤ x .left) d (z .shallow);
+      shallow = rw d at (z .shallow);
       fine = f;
     }
 
@@ -101,11 +89,7 @@ module _ {s : List ℕ} {end word : ℕ} {x : Here} {st : State} where
     pub gave-routine : (word ≡ K.EQUAL → ⊥) → GaveC text s s′ end x nowhere t t′ st r → GaveBody text s s′ end word x t t′ st r
     unfolding encodeBody G.bodyCode G.bodyLabels ready-routine
     gave-routine e g = record {
-      by = λ y.
-          let z = y .ready in let v = routine-is (z .tree) (λ k. e (y .word-is ∙ k)) in
-          let out : x .routine ≡ true = y .routine-is ∙ ap not (ne-eqb word K.EQUAL e) in
-          subst (Owed y text s′ t t′ r) (sym (v .same))
-          (subst (λ (k : Bool). Result (inCommand text (z .scope) (record { loop = false; switch = false; valof = false; routine = k }) (x .height)
-          (v .part)) (bodySays text x (z .scope) (T.routine (v .part))) (length (encodeCommand (v .part))) (z .base) x s s′ t t′ st r)
-          out (g .by (ready-routine e y)));
+      by = λ y. let z = y .ready in let v = routine-is (z .tree) (λ k. e (y .word-is ∙ k)) in let out : x .routine ≡ true = y .routine-is ∙ ap not
+          (ne-eqb word K.EQUAL e) in
+          subst (Owed y text s′ t t′ r) (sym (v .same)) (rw (← out) (g .by (ready-routine e y)));
     }

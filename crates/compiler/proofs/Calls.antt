@@ -1,34 +1,18 @@
 -- Arguments, and what follows a primary.
-use Prim.Native.Nat.{ℕ, suc, _+_, _*_, _-_, _≤_, _<_}
-use mathlib.Core.Path.{_≡_, refl, sym, ap, subst, _∙_}
-use mathlib.Core.List.{List, [], _∷_, _++_, append-nil, append-assoc}
-use native.Mathlib.Omega.{arith}
-use lib.ListN.{length, getD, length-append, List·getD-append}
-use lib.Seq.{getD-append-add}
+use Rattle.compiler.proofs.Basics.{ℕ, suc, _+_, _*_, _-_, _≤_, _<_, _≡_, refl, sym, ap, subst, _∙_, List, [], _∷_, _++_, append-nil}
+use Rattle.compiler.proofs.Basics.{append-assoc, arith, length, getD, length-append, List·getD-append, getD-append-add}
 use Rattle.language.specs.Tree as T
-use Rattle.language.specs.Tree.{Expression, Expressions, Suffixes}
-use Rattle.language.proofs.Depth.{depth, expressionsDepth, suffixesDepth}
-use Rattle.language.specs.Names.{Scope}
-use Rattle.language.specs.Constants.{Fault}
+use Rattle.compiler.proofs.Language.{Expression, Expressions, Suffixes, depth, expressionsDepth, suffixesDepth, Scope, Expr, expression}
+use Rattle.compiler.proofs.Language.{expressions, suffixes, under, ofExpr, ofExprs, Leavable, inExpression, inExpressions, inSuffixes, behind}
+use Rattle.compiler.proofs.Language.{encode, encodeExpressions, encodeSuffixes, Fine, FineList, FineSuffixes}
 use Rattle.language.specs.Resolved as R
-use Rattle.language.specs.Resolved.{Expr}
-use Rattle.language.specs.Resolve.{expression, expressions, suffixes, under}
 use Rattle.language.specs.Heights as H
-use Rattle.language.specs.Heights.{ofExpr, ofExprs}
 use Rattle.code.specs.Generate as G
 use Rattle.code.specs.Generate.{exprCode, exprsCode, exprLabels, exprsLabels}
-use Rattle.language.specs.Faults.{Leavable, inExpression, inExpressions, inSuffixes}
-use Rattle.tree.specs.Encoding.{encode, encodeExpressions, encodeSuffixes}
-use Rattle.compiler.specs.Scope.{Keeps}
+use Rattle.compiler.proofs.Vocabulary.{Keeps, State, Here, Node, FineE, FineEs, FineSs, inside, raised, leavable, NodeAt, Did, Emits, Reached}
+use Rattle.compiler.proofs.Vocabulary.{exprSays, exprsSays, Lies, Ready, Result, ReadyE, GaveE, faultsE, codeE, ReadyArgs, GaveArgs, Counts}
+use Rattle.compiler.proofs.Vocabulary.{encodeApplied, codeA, ReadySuffixes, GaveSuffixes, GaveIndexed, GavePassed}
 use Rattle.compiler.proofs.Scoping.{keeps-all, keeps-then, Order, lt, ge, order}
-use Rattle.compiler.specs.declared.steps.State.{State}
-use Rattle.compiler.specs.declared.steps.Here.{Here}
-use Rattle.compiler.specs.declared.steps.Node.{Node}
-use Rattle.compiler.specs.Fine.{FineE, FineEs, FineSs}
-use Rattle.language.specs.Fine.{Fine, FineList, FineSuffixes}
-use Rattle.compiler.specs.Walked.{inside, raised, leavable, NodeAt, Did, Emits, Reached, exprSays, exprsSays}
-use Rattle.compiler.specs.Walks.{Lies, Ready, Result, ReadyE, GaveE, faultsE, codeE, ReadyArgs, GaveArgs, Counts, encodeApplied, deepApplied}
-use Rattle.compiler.specs.Walks.{FineApplied, faultsA, codeA, ReadySuffixes, GaveSuffixes, GaveIndexed, GavePassed}
 use Rattle.compiler.proofs.Done.{did-emit, did-put, did-after, did-none, did-then, did-as, same-refl, same-eq, same-swap, same-then, code-is}
 use Rattle.compiler.proofs.Trees.{first, second, find, IsTwo, is-two, Case, aNumber, aString, aName, aBracket, aValof, aMonadic, aSuffixed}
 use Rattle.compiler.proofs.Trees.{aCalled, aDyadic}
@@ -92,24 +76,21 @@ module _ (text t₀ : List ℕ) {s₀ : List ℕ} {from end : ℕ} {here : Here}
   module _ (k : ℕ) {s t : List ℕ} {at size next : ℕ} {st : State} (l : at < end) (es : size ≡ getD s at 0) (en : next ≡ at + 2 + size) where
     abbrev pub args-part : (y : ReadyArgs s₀ from end here st₀) → ArgsPart y s t at k st → ReadyE s next (raised k here) st
     args-part y p = let z = y .ready in
-        ready-one z (y .starts) l es en p (raised k here) st refl refl refl (omega arith)
-        (omega (arith, z .label, p .label, rest-length z (y .starts) l es en p)) (p .some)
+        ready-one z (y .starts) l es en p (raised k here) st refl refl refl (omega arith) (omega (arith, rest-length z (y .starts) l es en p))
+        (p .some)
 
     pub args-next : {s₁ t₁ t₂ : List ℕ} {a r : State} → GaveE text s s₁ next (raised k here) t t₁ st a
         → Emits (G.SP (here .height + k) ∷ []) ((here .height + k + 1) ∷ []) t₁ t₂ a r
         → (y : ReadyArgs s₀ from end here st₀) → ArgsPart y s t at k st → ArgsPart y s₁ t₂ next (k + 1) r
     unfolding inExpressions expressions exprsCode ofExprs exprsLabels
-    args-next {t₂ = t₂} {r = r} g f y p =
+    args-next g f y p =
         let z = y .ready in let u = item z (y .starts) l es en p in let x = g .by (args-part y p) in let sc = z .scope in let h = here .height + k in
-        let n = rest-length z (y .starts) l es en p in let E = expression text sc h (u .part) in
-        let e1 : here .height + (k + 1) ≡ h + 1 = omega arith in
-        goes-on z (y .starts) l es en p (x .keeps) (omega arith) (omega (arith, x .did .few, f .label))
-        (omega (arith, p .some, x .did .grows, f .label)) (λ t′ st′ d. did-as _ _ (did-then (did-emit (x .did) f) (subst
-        (λ (m : ℕ). Did (inExpressions text sc (leavable here) m (u .more)) (exprsSays (here .strings) m (expressions text sc m (u .more)))
-        (2 * length (encodeExpressions (u .more))) t₂ t′ r st′) e1 d)) same-refl
-        (λ n c. code-is (append-assoc (exprCode (here .strings) h n E) (G.SP h ∷ [])
-        (exprsCode (here .strings) (h + 1) (n + exprLabels E) (expressions text sc (h + 1) (u .more))))
-        (append-assoc (ofExpr h E) ((h + 1) ∷ []) (ofExprs (h + 1) (expressions text sc (h + 1) (u .more)))) refl) (omega arith))
+        let n = rest-length z (y .starts) l es en p in let E = expression text sc h (u .part) in let e1 : here .height + (k + 1) ≡ h + 1
+        = omega arith in
+        goes-on z (y .starts) l es en p (x .keeps) (omega arith) (omega arith) (omega arith)
+        (λ t′ st′ d. did-as _ _ (did-then (did-emit (x .did) f) (rw e1 at d)) same-refl (λ n c. code-is (append-assoc (exprCode (here .strings) h n E)
+        (G.SP h ∷ []) (exprsCode (here .strings) (h + 1) (n + exprLabels E) (expressions text sc (h + 1) (u .more)))) (append-assoc (ofExpr h E)
+        ((h + 1) ∷ []) (ofExprs (h + 1) (expressions text sc (h + 1) (u .more)))) refl) (omega arith))
 
   pub args-end : (k : ℕ) {s t : List ℕ} {at : ℕ} {st : State} → end ≤ at → ((y : ReadyArgs s₀ from end here st₀) → ArgsPart y s t at k st)
       → GaveArgs text s₀ s from end here t₀ t st₀ st
@@ -117,6 +98,9 @@ module _ (text t₀ : List ℕ) {s₀ : List ℕ} {from end : ℕ} {here : Here}
   args-end k l q = record { by = λ y. record { keeps = q y .keeps; did = ended (q y) l (λ m. did-none m) } }
 
 -- ---- the last of what follows a primary
+
+pub behind-length : (tag : ℕ) (x y : List ℕ) → length (behind tag x ++ y) ≡ length x + 2 + length y
+behind-length tag x y = omega (arith, length-append (behind tag x) y, length-append x (length x ∷ tag ∷ []))
 
 pub both : {s : List ℕ} {lo m : ℕ} (x y : List ℕ) → Lies s lo x → Lies s m y → m ≡ lo + length x → Lies s lo (x ++ y)
 both {s} {lo} {m} x y f g e = record { at = λ i l. by i l (order i (length x)) }
@@ -128,20 +112,16 @@ both {s} {lo} {m} x y f g e = record { at = λ i l. by i l (order i (length x)) 
         ap (λ (k : ℕ). getD s k 0) p ∙ g .at j (omega (arith, length-append x y)) ∙ sym (getD-append-add x y j 0) ∙ ap (λ (k : ℕ). getD (x ++ y) k 0)
         (sym q)
 
-unfoldable pub snocCall : Suffixes → Expressions → Suffixes
-snocCall T.noSuffixes es = T.call es T.noSuffixes
-snocCall (T.call ds ss) es = T.call ds (snocCall ss es)
-snocCall (T.index d ss) es = T.index d (snocCall ss es)
+-- one more at the end: a call or an index, by what it puts before others
+unfoldable pub snoc : (Suffixes → Suffixes) → Suffixes → Suffixes
+snoc c T.noSuffixes = c T.noSuffixes
+snoc c (T.call ds ss) = T.call ds (snoc c ss)
+snoc c (T.index d ss) = T.index d (snoc c ss)
 
-unfoldable pub snocIndex : Suffixes → Expression → Suffixes
-snocIndex T.noSuffixes e = T.index e T.noSuffixes
-snocIndex (T.call ds ss) e = T.call ds (snocIndex ss e)
-snocIndex (T.index d ss) e = T.index d (snocIndex ss e)
-
-pub record IsLast {A : Type 0} (enc : A → List ℕ) (snoc : Suffixes → A → Suffixes) (s : List ℕ) (m end : ℕ) (all : Suffixes) : Type 0 where
+pub record IsLast {A : Type 0} (enc : A → List ℕ) (cons : A → Suffixes → Suffixes) (s : List ℕ) (m end : ℕ) (all : Suffixes) : Type 0 where
   pub init : Suffixes
   pub part : A
-  pub same : all ≡ snoc init part
+  pub same : all ≡ snoc (cons part) init
   pub lies : Lies s m (encodeSuffixes init)
   pub lies-part : Lies s (m + length (encodeSuffixes init)) (enc part)
   pub size-of : getD s (end - 2) 0 ≡ length (enc part)
@@ -149,177 +129,79 @@ pub record IsLast {A : Type 0} (enc : A → List ℕ) (snoc : Suffixes → A →
 
 -- by its tag
 pub data Last (s : List ℕ) (m end : ℕ) (all : Suffixes) : ℕ → Type 0 where
-  aCall : IsLast encodeExpressions snocCall s m end all → Last s m end all 51
-  anIndex : IsLast encode snocIndex s m end all → Last s m end all 49
+  aCall : IsLast encodeExpressions T.call s m end all → Last s m end all 51
+  anIndex : IsLast encode T.index s m end all → Last s m end all 49
 
--- another one before all
-module _ {s : List ℕ} {m m′ end : ℕ} (w : List ℕ) (cons : Suffixes → Suffixes) (p : (x : Suffixes) → encodeSuffixes (cons x) ≡ w ++ encodeSuffixes x)
-    (h : Lies s m w) (e : m′ ≡ m + length w) where
-  before : {A : Type 0} {enc : A → List ℕ} {snoc : Suffixes → A → Suffixes} {all : Suffixes}
-      → ((x : Suffixes) (a : A) → cons (snoc x a) ≡ snoc (cons x) a) → IsLast enc snoc s m′ end all → IsLast enc snoc s m end (cons all)
-  before {enc = enc} q u =
-      let k : length (encodeSuffixes (cons (u .init))) ≡ length w + length (encodeSuffixes (u .init)) = ap length (p (u .init)) ∙ length-append w
-      (encodeSuffixes (u .init)) in let z : m′ + length (encodeSuffixes (u .init)) ≡ m + length (encodeSuffixes (cons (u .init))) = omega arith in
-      record {
-        init = cons (u .init);
-        part = u .part;
-        same = ap cons (u .same) ∙ q (u .init) (u .part);
-        lies = subst (λ (l : List ℕ). Lies s m l) (sym (p (u .init))) (both w (encodeSuffixes (u .init)) h (u .lies) e);
-        lies-part = subst (λ (n : ℕ). Lies s n (enc (u .part))) z (u .lies-part);
-        size-of = u .size-of;
-        ends = omega (arith, u .ends, k);
-      }
+pub no-suffix : (ss : Suffixes) → length (encodeSuffixes ss) ≡ 0 → ss ≡ T.noSuffixes
+unfolding encodeSuffixes
+no-suffix T.noSuffixes e = refl
+no-suffix (T.call es ss) e = absurd (omega (arith, behind-length 51 (encodeExpressions es) (encodeSuffixes ss)))
+no-suffix (T.index d ss) e = absurd (omega (arith, behind-length 49 (encode d) (encodeSuffixes ss)))
 
-  pub before-last : {all : Suffixes} {tag : ℕ} → ((x : Suffixes) (a : Expressions) → cons (snocCall x a) ≡ snocCall (cons x) a)
-      → ((x : Suffixes) (a : Expression) → cons (snocIndex x a) ≡ snocIndex (cons x) a) → Last s m′ end all tag → Last s m end (cons all) tag
-  before-last a b (aCall u) = aCall (before a u)
-  before-last a b (anIndex u) = anIndex (before b u)
+-- one before others: it is the last where there are none
+module _ {A : Type 0} (enc : A → List ℕ) (cons : A → Suffixes → Suffixes) (tag : ℕ) {s : List ℕ} {m end : ℕ} (a : A) (ss : Suffixes)
+    (h : Lies s m (behind tag (enc a) ++ encodeSuffixes ss)) (e : end ≡ m + length (behind tag (enc a) ++ encodeSuffixes ss)) where
+  alone : length (encodeSuffixes ss) ≡ 0 → (IsLast enc cons s m end (cons a ss) → Last s m end (cons a ss) tag)
+      → Last s m end (cons a ss) (getD s (end - 1) 0)
+  unfolding encodeSuffixes snoc
+  alone z is =
+      let x = enc a in let v = length x ∷ tag ∷ [] in let f = first (x ++ v) (encodeSuffixes ss) h in
+      let two = second x v (m + length x) f refl in let k = behind-length tag x (encodeSuffixes ss) in let e0 : m ≡ m + 0 = omega arith in
+      let e1 : end - 1 ≡ m + length x + 1 = omega arith in let e2 : end - 2 ≡ m + length x + 0 = omega arith in
+      rw (ap (λ (k : ℕ). getD s k 0) e1 ∙ two .at 1 (omega arith)) (is (record {
+        init = T.noSuffixes;
+        part = a;
+        same = ap (cons a) (no-suffix ss z);
+        lies = record { at = λ i l. absurd (omega arith) };
+        lies-part = rw e0 at (first x v f);
+        size-of = ap (λ (k : ℕ). getD s k 0) e2 ∙ two .at 0 (omega arith);
+        ends = omega arith;
+      }))
 
--- one alone
-module _ (tag : ℕ) {s : List ℕ} {m end : ℕ} (x : List ℕ) (h : Lies s m ((x ++ (length x ∷ tag ∷ [])) ++ []))
-    (e : end ≡ m + length ((x ++ (length x ∷ tag ∷ [])) ++ [])) where
-  alone-ends : end ≡ m + length x + 2
-  alone-ends = omega (arith, length-append (x ++ (length x ∷ tag ∷ [])) [], length-append x (length x ∷ tag ∷ []))
+  module _ (p : (x : Suffixes) → encodeSuffixes (cons a x) ≡ behind tag (enc a) ++ encodeSuffixes x)
+      (q : (c : Suffixes → Suffixes) (x : Suffixes) → cons a (snoc c x) ≡ snoc c (cons a x)) where
+    before : {B : Type 0} {encB : B → List ℕ} {is : B → Suffixes → Suffixes} → IsLast encB is s (m + length (behind tag (enc a))) end ss
+        → IsLast encB is s m end (cons a ss)
+    before {is = is} u =
+        let w = behind tag (enc a) in let x = encodeSuffixes (u .init) in let k = ap length (p (u .init)) ∙ length-append w x in
+        let z : m + length w + length x ≡ m + length (encodeSuffixes (cons a (u .init))) = omega arith in
+        record {
+          init = cons a (u .init);
+          part = u .part;
+          same = ap (cons a) (u .same) ∙ q (is (u .part)) (u .init);
+          lies = rw (p (u .init)) (both w x (first w (encodeSuffixes ss) h) (u .lies) refl);
+          lies-part = rw z at (u .lies-part);
+          size-of = u .size-of;
+          ends = omega arith;
+        }
 
-  alone-lies : Lies s m (x ++ (length x ∷ tag ∷ []))
-  alone-lies = first (x ++ (length x ∷ tag ∷ [])) [] h
+    before-last : {k : ℕ} → Last s (m + length (behind tag (enc a))) end ss k → Last s m end (cons a ss) k
+    before-last (aCall u) = aCall (before u)
+    before-last (anIndex u) = anIndex (before u)
 
-  alone-two : Lies s (m + length x) (length x ∷ tag ∷ [])
-  alone-two = second x (length x ∷ tag ∷ []) (m + length x) alone-lies refl
+    step : (IsLast enc cons s m end (cons a ss) → Last s m end (cons a ss) tag)
+        → ((k : ℕ) → Lies s k (encodeSuffixes ss) → end ≡ k + length (encodeSuffixes ss) → k < end → Last s k end ss (getD s (end - 1) 0))
+        → Last s m end (cons a ss) (getD s (end - 1) 0)
+    step is rest = by (order (m + length w) end)
+      where
+        w : List ℕ
+        w = behind tag (enc a)
 
-  pub alone-tag : getD s (end - 1) 0 ≡ tag
-  alone-tag = let q : end - 1 ≡ m + length x + 1 = omega (arith, alone-ends) in ap (λ (k : ℕ). getD s k 0) q ∙ alone-two .at 1 (omega arith)
+        k : length (w ++ encodeSuffixes ss) ≡ length w + length (encodeSuffixes ss)
+        k = length-append w (encodeSuffixes ss)
 
-  pub alone-size : getD s (end - 2) 0 ≡ length x
-  alone-size = let q : end - 2 ≡ m + length x + 0 = omega (arith, alone-ends) in ap (λ (k : ℕ). getD s k 0) q ∙ alone-two .at 0 (omega arith)
-
-  pub alone-part : Lies s (m + 0) x
-  alone-part = let q : m ≡ m + 0 = omega arith in subst (λ (n : ℕ). Lies s n x) q (first x (length x ∷ tag ∷ []) alone-lies)
-
-nothing-lies : {s : List ℕ} {m : ℕ} → Lies s m []
-nothing-lies = record { at = λ i l. absurd (omega arith) }
+        by : Order (m + length w) end → Last s m end (cons a ss) (getD s (end - 1) 0)
+        by (lt l) = before-last (rest (m + length w) (second w (encodeSuffixes ss) (m + length w) h refl) (omega (arith, k)) l)
+        by (ge l) = alone (omega (arith, k)) is
 
 pub last : {s : List ℕ} {m end : ℕ} (ss : Suffixes) → Lies s m (encodeSuffixes ss) → end ≡ m + length (encodeSuffixes ss) → m < end
     → Last s m end ss (getD s (end - 1) 0)
-unfolding encodeSuffixes snocCall snocIndex
+unfolding encodeSuffixes snoc
 last T.noSuffixes h e l = absurd (omega arith)
-last {s} {m} {end} (T.call es T.noSuffixes) h e l =
-    let x = encodeExpressions es in
-    subst (λ (k : ℕ). Last s m end (T.call es T.noSuffixes) k) (sym (alone-tag 51 x h e))
-    (aCall (record {
-      init = T.noSuffixes;
-      part = es;
-      same = refl;
-      lies = nothing-lies;
-      lies-part = alone-part 51 x h e;
-      size-of = alone-size 51 x h e;
-      ends =
-          omega (arith, alone-ends 51 x h e);
-    }))
-last {s} {m} {end} (T.index d T.noSuffixes) h e l =
-    let x = encode d in
-    subst (λ (k : ℕ). Last s m end (T.index d T.noSuffixes) k) (sym (alone-tag 49 x h e))
-    (anIndex (record {
-      init = T.noSuffixes;
-      part = d;
-      same = refl;
-      lies = nothing-lies;
-      lies-part = alone-part 49 x h e;
-      size-of = alone-size 49 x h e;
-      ends =
-          omega (arith, alone-ends 49 x h e);
-    }))
-last {s} {m} {end} (T.call es (T.call fs ss)) h e l =
-    let w = encodeExpressions es ++ (length (encodeExpressions es) ∷ 51 ∷ []) in let r = encodeSuffixes (T.call fs ss) in
-    before-last w (T.call es) (λ x. refl) (first w r h) refl (λ x a. refl) (λ x a. refl)
-    (last (T.call fs ss) (second w r (m + length w) h refl) (omega (arith, length-append w r))
-    (omega (
-      arith,
-      e,
-      length-append w r,
-      length-append (encodeExpressions fs ++ (length (encodeExpressions fs) ∷ 51 ∷ [])) (encodeSuffixes ss),
-      length-append (encodeExpressions fs) (length (encodeExpressions fs) ∷ 51 ∷ []),
-    )))
-last {s} {m} {end} (T.call es (T.index d ss)) h e l =
-    let w = encodeExpressions es ++ (length (encodeExpressions es) ∷ 51 ∷ []) in let r = encodeSuffixes (T.index d ss) in
-    before-last w (T.call es) (λ x. refl) (first w r h) refl (λ x a. refl) (λ x a. refl)
-    (last (T.index d ss) (second w r (m + length w) h refl) (omega (arith, length-append w r))
-    (omega (
-      arith,
-      e,
-      length-append w r,
-      length-append (encode d ++ (length (encode d) ∷ 49 ∷ [])) (encodeSuffixes ss),
-      length-append (encode d)
-          (length (encode d) ∷ 49 ∷ []),
-    )))
-last {s} {m} {end} (T.index c (T.call fs ss)) h e l =
-    let w = encode c ++ (length (encode c) ∷ 49 ∷ []) in let r = encodeSuffixes (T.call fs ss) in
-    before-last w (T.index c) (λ x. refl) (first w r h) refl (λ x a. refl) (λ x a. refl)
-    (last (T.call fs ss) (second w r (m + length w) h refl) (omega (arith, length-append w r))
-    (omega (
-      arith,
-      e,
-      length-append w r,
-      length-append (encodeExpressions fs ++ (length (encodeExpressions fs) ∷ 51 ∷ [])) (encodeSuffixes ss),
-      length-append (encodeExpressions fs) (length (encodeExpressions fs) ∷ 51 ∷ []),
-    )))
-last {s} {m} {end} (T.index c (T.index d ss)) h e l =
-    let w = encode c ++ (length (encode c) ∷ 49 ∷ []) in let r = encodeSuffixes (T.index d ss) in
-    before-last w (T.index c) (λ x. refl) (first w r h) refl (λ x a. refl) (λ x a. refl)
-    (last (T.index d ss) (second w r (m + length w) h refl) (omega (arith, length-append w r))
-    (omega (
-      arith,
-      e,
-      length-append w r,
-      length-append (encode d ++ (length (encode d) ∷ 49 ∷ [])) (encodeSuffixes ss),
-      length-append (encode d)
-          (length (encode d) ∷ 49 ∷ []),
-    )))
+last (T.call es ss) h e l = step encodeExpressions T.call 51 es ss h e (λ x. refl) (λ c x. refl) aCall (λ k p q r. last ss p q r)
+last (T.index d ss) h e l = step encode T.index 49 d ss h e (λ x. refl) (λ c x. refl) anIndex (λ k p q r. last ss p q r)
 
 -- ---- what the definitions say of the last one
-
-module _ (text : List ℕ) (sc : Scope) where
-  pub under-call : (ss : Suffixes) (es : Expressions) (h : ℕ) {k : ℕ} → k ≡ h + 2 + T.count es → under (snocCall ss es) h ≡ under ss k
-  unfolding under snocCall
-  under-call T.noSuffixes es h e = sym e
-  under-call (T.call ds ss) es h e = ap (λ (z : ℕ). z + 2 + T.count ds) (under-call ss es h e)
-  under-call (T.index d ss) es h e = under-call ss es h e
-
-  pub under-index : (ss : Suffixes) (d : Expression) (h : ℕ) → under (snocIndex ss d) h ≡ under ss h
-  unfolding under snocIndex
-  under-index T.noSuffixes d h = refl
-  under-index (T.call ds ss) d h = ap (λ (z : ℕ). z + 2 + T.count ds) (under-index ss d h)
-  under-index (T.index c ss) d h = under-index ss d h
-
-  pub suffixes-call : (ss : Suffixes) (es : Expressions) (h : ℕ) {k : ℕ} (e : Expr) → k ≡ h + 2 + T.count es
-      → suffixes text sc h e (snocCall ss es) ≡ R.call (suffixes text sc k e ss) (expressions text sc (h + 2) es)
-  unfolding suffixes snocCall under
-  suffixes-call T.noSuffixes es h {k} e q = ap (λ (z : ℕ). R.call e (expressions text sc (z + 2) es)) refl
-  suffixes-call (T.call ds ss) es h {k} e q =
-      suffixes-call ss es h (R.call e (expressions text sc (under (snocCall ss es) h + 2) ds)) q ∙ ap
-      (λ (z : ℕ). R.call (suffixes text sc k (R.call e (expressions text sc (z + 2) ds)) ss) (expressions text sc (h + 2) es)) (under-call ss es h q)
-  suffixes-call (T.index d ss) es h {k} e q =
-      suffixes-call ss es h (R.index e (expression text sc (under (snocCall ss es) h + 1) d)) q ∙ ap
-      (λ (z : ℕ). R.call (suffixes text sc k (R.index e (expression text sc (z + 1) d)) ss) (expressions text sc (h + 2) es)) (under-call ss es h q)
-
-  pub suffixes-index : (ss : Suffixes) (d : Expression) (h : ℕ) (e : Expr)
-      → suffixes text sc h e (snocIndex ss d) ≡ R.index (suffixes text sc h e ss) (expression text sc (h + 1) d)
-  unfolding suffixes snocIndex under
-  suffixes-index T.noSuffixes d h e = refl
-  suffixes-index (T.call ds ss) d h e =
-      suffixes-index ss d h (R.call e (expressions text sc (under (snocIndex ss d) h + 2) ds)) ∙ ap
-      (λ (z : ℕ). R.index (suffixes text sc h (R.call e (expressions text sc (z + 2) ds)) ss) (expression text sc (h + 1) d)) (under-index ss d h)
-  suffixes-index (T.index c ss) d h e =
-      suffixes-index ss d h (R.index e (expression text sc (under (snocIndex ss d) h + 1) c)) ∙ ap
-      (λ (z : ℕ). R.index (suffixes text sc h (R.index e (expression text sc (z + 1) c)) ss) (expression text sc (h + 1) d)) (under-index ss d h)
-
-  pub index-means : (h : ℕ) (p : Expression) {ss : Suffixes} (i : Suffixes) (d : Expression) → ss ≡ snocIndex i d
-      → suffixes text sc h (expression text sc (under ss h) p) ss
-      ≡ R.index (suffixes text sc h (expression text sc (under i h) p) i) (expression text sc (h + 1) d)
-  index-means h p i d q =
-      ap (λ (ss : Suffixes). suffixes text sc h (expression text sc (under ss h) p) ss) q
-      ∙ ap (λ (k : ℕ). suffixes text sc h (expression text sc k p) (snocIndex i d)) (under-index i d h)
-      ∙ suffixes-index i d h (expression text sc (under i h) p)
 
 pub count-resolved : (text : List ℕ) (sc : Scope) (h : ℕ) (es : Expressions) → H.count (expressions text sc h es) ≡ T.count es
 unfolding expressions H.count T.count
@@ -331,42 +213,71 @@ unfolding T.count encodeExpressions
 count-few T.noExpressions = omega arith
 count-few (T.andExpression e es) = omega (arith, count-few es, length-append (encode e) (encodeExpressions es))
 
-module _ (text : List ℕ) (sc : Scope) (l : Leavable) where
-  pub faults-call : (ss : Suffixes) (es : Expressions) (h : ℕ) {k : ℕ} → k ≡ h + 2 + T.count es
-      → inSuffixes text sc l h (snocCall ss es) ≡ inSuffixes text sc l k ss ++ inExpressions text sc l (h + 2) es
-  unfolding inSuffixes snocCall under
-  faults-call T.noSuffixes es h e = append-nil (inExpressions text sc l (h + 2) es)
-  faults-call (T.call ds ss) es h {k} e =
-      ap (λ (z : ℕ). inExpressions text sc l (z + 2) ds ++ inSuffixes text sc l h (snocCall ss es)) (under-call text sc ss es h e)
-      ∙ ap (λ (z : List Fault). inExpressions text sc l (under ss k + 2) ds ++ z) (faults-call ss es h e)
-      ∙ sym (append-assoc (inExpressions text sc l (under ss k + 2) ds) (inSuffixes text sc l k ss) (inExpressions text sc l (h + 2) es))
-  faults-call (T.index d ss) es h {k} e =
-      ap (λ (z : ℕ). inExpression text sc l (z + 1) d ++ inSuffixes text sc l h (snocCall ss es)) (under-call text sc ss es h e)
-      ∙ ap (λ (z : List Fault). inExpression text sc l (under ss k + 1) d ++ z) (faults-call ss es h e)
-      ∙ sym (append-assoc (inExpression text sc l (under ss k + 1) d) (inSuffixes text sc l k ss) (inExpressions text sc l (h + 2) es))
+module _ (c : Suffixes → Suffixes) where
+  pub deep-snoc : (ss : Suffixes) {k : ℕ} → suffixesDepth (snoc c ss) ≤ k → (suffixesDepth ss ≤ k) × (suffixesDepth (c T.noSuffixes) ≤ k)
+  unfolding suffixesDepth snoc
+  deep-snoc T.noSuffixes h = (omega arith, h)
+  deep-snoc (T.call ds ss) {k} h = let p = deep-snoc ss {k = k} (omega arith) in (omega arith, p .1)
+  deep-snoc (T.index d ss) {k} h = let p = deep-snoc ss {k = k} (omega arith) in (omega arith, p .1)
 
-  pub faults-index : (ss : Suffixes) (e : Expression) (h : ℕ)
-      → inSuffixes text sc l h (snocIndex ss e) ≡ inSuffixes text sc l h ss ++ inExpression text sc l (h + 1) e
-  unfolding inSuffixes snocIndex under
-  faults-index T.noSuffixes e h = append-nil (inExpression text sc l (h + 1) e)
-  faults-index (T.call ds ss) e h =
-      ap (λ (z : ℕ). inExpressions text sc l (z + 2) ds ++ inSuffixes text sc l h (snocIndex ss e)) (under-index text sc ss e h)
-      ∙ ap (λ (z : List Fault). inExpressions text sc l (under ss h + 2) ds ++ z) (faults-index ss e h)
-      ∙ sym (append-assoc (inExpressions text sc l (under ss h + 2) ds) (inSuffixes text sc l h ss) (inExpression text sc l (h + 1) e))
-  faults-index (T.index d ss) e h =
-      ap (λ (z : ℕ). inExpression text sc l (z + 1) d ++ inSuffixes text sc l h (snocIndex ss e)) (under-index text sc ss e h)
-      ∙ ap (λ (z : List Fault). inExpression text sc l (under ss h + 1) d ++ z) (faults-index ss e h)
-      ∙ sym (append-assoc (inExpression text sc l (under ss h + 1) d) (inSuffixes text sc l h ss) (inExpression text sc l (h + 1) e))
+  pub fine-snoc : (ss : Suffixes) → FineSs (snoc c ss) → FineSs ss × FineSs (c T.noSuffixes)
+  unfolding FineSuffixes snoc
+  fine-snoc T.noSuffixes f = (tt, f)
+  fine-snoc (T.call ds ss) f = let p = fine-snoc ss (f .1) in ((f .0, p .0), p .1)
+  fine-snoc (T.index d ss) f = let p = fine-snoc ss (f .1) in ((f .0, p .0), p .1)
 
-  -- a primary with suffixes of which the last is an index
-  pub index-faults : (h : ℕ) (p : Expression) {ss : Suffixes} (i : Suffixes) (e : Expression) → ss ≡ snocIndex i e
-      → inExpression text sc l (under ss h) p ++ inSuffixes text sc l h ss
-      ≡ (inExpression text sc l (under i h) p ++ inSuffixes text sc l h i) ++ inExpression text sc l (h + 1) e
-  index-faults h p i e q =
-      ap (λ (ss : Suffixes). inExpression text sc l (under ss h) p ++ inSuffixes text sc l h ss) q
-      ∙ ap (λ (k : ℕ). inExpression text sc l k p ++ inSuffixes text sc l h (snocIndex i e)) (under-index text sc i e h)
-      ∙ ap (λ (fs : List Fault). inExpression text sc l (under i h) p ++ fs) (faults-index i e h)
-      ∙ sym (append-assoc (inExpression text sc l (under i h) p) (inSuffixes text sc l h i) (inExpression text sc l (h + 1) e))
+  pub under-snoc : (ss : Suffixes) (h : ℕ) → under (snoc c ss) h ≡ under ss (under (c T.noSuffixes) h)
+  unfolding under snoc
+  under-snoc T.noSuffixes h = refl
+  under-snoc (T.call ds ss) h = rw (under-snoc ss h)
+  under-snoc (T.index d ss) h = under-snoc ss h
+
+  module _ (text : List ℕ) (sc : Scope) (h : ℕ) {k : ℕ} (e : k ≡ under (c T.noSuffixes) h) where
+    suffixes-snoc : (ss : Suffixes) (x : Expr) → suffixes text sc h x (snoc c ss) ≡ suffixes text sc h (suffixes text sc k x ss) (c T.noSuffixes)
+    unfolding suffixes snoc under
+    suffixes-snoc T.noSuffixes x = refl
+    suffixes-snoc (T.call ds ss) x = rw (under-snoc ss h, ← e) (suffixes-snoc ss (R.call x (expressions text sc (under ss k + 2) ds)))
+    suffixes-snoc (T.index d ss) x = rw (under-snoc ss h, ← e) (suffixes-snoc ss (R.index x (expression text sc (under ss k + 1) d)))
+
+    faults-snoc : (l : Leavable) (ss : Suffixes)
+        → inSuffixes text sc l h (snoc c ss) ≡ inSuffixes text sc l k ss ++ inSuffixes text sc l h (c T.noSuffixes)
+    unfolding inSuffixes snoc under
+    faults-snoc l T.noSuffixes = refl
+    faults-snoc l (T.call ds ss) = rw (under-snoc ss h, ← e, faults-snoc l ss, append-assoc)
+    faults-snoc l (T.index d ss) = rw (under-snoc ss h, ← e, faults-snoc l ss, append-assoc)
+
+    -- a primary with suffixes of which that is the last
+    module _ (p : Expression) {ss : Suffixes} (i : Suffixes) (q : ss ≡ snoc c i) where
+      pub snoc-means : suffixes text sc h (expression text sc (under ss h) p) ss
+          ≡ suffixes text sc h (suffixes text sc k (expression text sc (under i k) p) i) (c T.noSuffixes)
+      snoc-means = rw (q, under-snoc i h, ← e) (suffixes-snoc i (expression text sc (under i k) p))
+
+      pub snoc-faults : (l : Leavable) → inExpression text sc l (under ss h) p ++ inSuffixes text sc l h ss
+          ≡ (inExpression text sc l (under i k) p ++ inSuffixes text sc l k i) ++ inSuffixes text sc l h (c T.noSuffixes)
+      snoc-faults l = rw (q, under-snoc i h, ← e, faults-snoc l i, append-assoc)
+
+module _ (text : List ℕ) (sc : Scope) (h : ℕ) (p : Expression) {ss : Suffixes} (i : Suffixes) where
+  module _ (d : Expression) (q : ss ≡ snoc (T.index d) i) where
+    pub index-means : suffixes text sc h (expression text sc (under ss h) p) ss
+        ≡ R.index (suffixes text sc h (expression text sc (under i h) p) i) (expression text sc (h + 1) d)
+    unfolding under suffixes
+    index-means = snoc-means (T.index d) text sc h refl p i q
+
+    pub index-faults : (l : Leavable) → inExpression text sc l (under ss h) p ++ inSuffixes text sc l h ss
+        ≡ (inExpression text sc l (under i h) p ++ inSuffixes text sc l h i) ++ inExpression text sc l (h + 1) d
+    unfolding under inSuffixes
+    index-faults l = rw (← (append-nil (inExpression text sc l (h + 1) d))) (snoc-faults (T.index d) text sc h refl p i q l)
+
+  module _ (es : Expressions) (q : ss ≡ snoc (T.call es) i) {k : ℕ} (e : k ≡ h + 2 + T.count es) where
+    pub call-means : suffixes text sc h (expression text sc (under ss h) p) ss
+        ≡ R.call (suffixes text sc k (expression text sc (under i k) p) i) (expressions text sc (h + 2) es)
+    unfolding under suffixes
+    call-means = snoc-means (T.call es) text sc h e p i q
+
+    pub call-faults : (l : Leavable) → inExpression text sc l (under ss h) p ++ inSuffixes text sc l h ss
+        ≡ (inExpression text sc l (under i k) p ++ inSuffixes text sc l k i) ++ inExpressions text sc l (h + 2) es
+    unfolding under inSuffixes
+    call-faults l = rw (← (append-nil (inExpressions text sc l (h + 2) es))) (snoc-faults (T.call es) text sc h e p i q l)
 
 -- ---- what follows a primary: nothing, a call or an index last
 
@@ -374,112 +285,69 @@ module _ {s : List ℕ} {middle end : ℕ} {here : Here} {st : State} where
   pub applied-ends : (y : ReadySuffixes s middle end here st) → end ≡ middle + length (encodeSuffixes (y .ready .tree .suffixes))
   applied-ends y =
       let a = y .ready .tree in
-      omega (arith, y .ready .ends, y .parts, length-append (encode (a .primary)) (encodeSuffixes (a .suffixes)))
+      omega (arith, length-append (encode (a .primary)) (encodeSuffixes (a .suffixes)))
 
   pub applied-lies : (y : ReadySuffixes s middle end here st) → Lies s middle (encodeSuffixes (y .ready .tree .suffixes))
   applied-lies y = let a = y .ready .tree in second (encode (a .primary)) (encodeSuffixes (a .suffixes)) middle (y .ready .lies) (y .parts)
 
   abbrev pub primary-part : end ≤ middle → ReadySuffixes s middle end here st → ReadyE s middle here st
   primary-part l y = let z = y .ready in let a = z .tree in
-      sub encode depth FineE z keeps-all middle (z .lo) here st (a .primary) (first (encode (a .primary)) (encodeSuffixes (a .suffixes)) (z .lies))
-      (y .parts) (omega arith) (omega (arith, applied-ends y)) refl refl (omega (arith, z .height, z .ends, y .parts, applied-ends y))
-      (omega (arith, z .label, z .ends, y .parts, applied-ends y)) (z .some) (omega (arith, z .shallow)) (z .fine .0)
+      sub z keeps-all (first (encode (a .primary)) (encodeSuffixes (a .suffixes)) (z .lies)) refl (omega (arith, applied-ends y)) (z .fine .0)
 
   pub primary-gave : (text : List ℕ) {s′ t t′ : List ℕ} {r : State} → end ≤ middle → GaveE text s s′ middle here t t′ st r
       → GaveSuffixes text s s′ middle end here t t′ st r
   unfolding inSuffixes suffixes under encodeSuffixes
-  primary-gave text {s′} {t} {t′} {r} l g = record {
-    by = λ y. let x = g .by (primary-part l y) in let z = y .ready in let a = z .tree in
-        record { keeps = x .keeps; did = none (a .suffixes) y (applied-ends y) (x .did) };
+  primary-gave text l g = record {
+    by = λ y. let x = g .by (primary-part l y) in let a = y .ready .tree in let e = no-suffix (a .suffixes) (omega (arith, applied-ends y)) in
+        record {
+          keeps = x .keeps;
+          did = rw e (did-as _ _ (x .did) (same-eq (sym (append-nil _))) (λ n c. refl) (omega (arith, length-append (encode (a .primary)) [])));
+        };
   }
-    where
-      none : (ss : Suffixes) (y : ReadySuffixes s middle end here st) → end ≡ middle + length (encodeSuffixes ss)
-          → Did (inExpression text (y .ready .scope) (leavable here) (here .height) (y .ready .tree .primary))
-          (exprSays (here .strings) (here .height) (expression text (y .ready .scope) (here .height) (y .ready .tree .primary)))
-          (2 * length (encode (y .ready .tree .primary))) t t′ st r
-          → Did (faultsA text here (y .ready .scope) (record { primary = y .ready .tree .primary; suffixes = ss }))
-          (codeA text here (y .ready .scope) (record { primary = y .ready .tree .primary; suffixes = ss }))
-          (2 * length (encodeApplied (y .ready .tree))) t t′ st r
-      none T.noSuffixes y e d =
-          did-as _ _ d (same-eq (sym (append-nil _))) (λ n c. refl)
-          (omega (arith, length-append (encode (y .ready .tree .primary)) (encodeSuffixes (y .ready .tree .suffixes))))
-      none (T.call es ss) y e d =
-          absurd (omega (
-            arith,
-            length-append (encodeExpressions es ++ (length (encodeExpressions es) ∷ 51 ∷ [])) (encodeSuffixes ss),
-            length-append
-                (encodeExpressions es) (length (encodeExpressions es) ∷ 51 ∷ []),
-          ))
-      none (T.index c ss) y e d =
-          absurd (omega (
-            arith,
-            length-append (encode c ++ (length (encode c) ∷ 49 ∷ [])) (encodeSuffixes ss),
-            length-append (encode c)
-                (length (encode c) ∷ 49 ∷ []),
-          ))
-
-deep-call : (ss : Suffixes) (es : Expressions) {k : ℕ} → suffixesDepth (snocCall ss es) ≤ k → (suffixesDepth ss ≤ k) × (expressionsDepth es ≤ k)
-unfolding suffixesDepth snocCall
-deep-call T.noSuffixes es h = (omega arith, omega arith)
-deep-call (T.call ds ss) es {k} h = let p = deep-call ss es {k = k} (omega arith) in (omega (arith, p .0), p .1)
-deep-call (T.index d ss) es {k} h = let p = deep-call ss es {k = k} (omega arith) in (omega (arith, p .0), p .1)
-
-deep-index : (ss : Suffixes) (e : Expression) {k : ℕ} → suffixesDepth (snocIndex ss e) ≤ k → (suffixesDepth ss ≤ k) × (depth e ≤ k)
-unfolding suffixesDepth snocIndex
-deep-index T.noSuffixes e h = (omega arith, omega arith)
-deep-index (T.call ds ss) e {k} h = let p = deep-index ss e {k = k} (omega arith) in (omega (arith, p .0), p .1)
-deep-index (T.index d ss) e {k} h = let p = deep-index ss e {k = k} (omega arith) in (omega (arith, p .0), p .1)
-
-fine-call : (ss : Suffixes) (es : Expressions) → FineSs (snocCall ss es) → FineSs ss × FineEs es
-unfolding FineSuffixes snocCall
-fine-call T.noSuffixes es f = (tt, f .0)
-fine-call (T.call ds ss) es f = let p = fine-call ss es (f .1) in ((f .0, p .0), p .1)
-fine-call (T.index d ss) es f = let p = fine-call ss es (f .1) in ((f .0, p .0), p .1)
-
-fine-index : (ss : Suffixes) (e : Expression) → FineSs (snocIndex ss e) → FineSs ss × FineE e
-unfolding FineSuffixes snocIndex
-fine-index T.noSuffixes e f = (tt, f .0)
-fine-index (T.call ds ss) e f = let p = fine-index ss e (f .1) in ((f .0, p .0), p .1)
-fine-index (T.index d ss) e f = let p = fine-index ss e (f .1) in ((f .0, p .0), p .1)
 
 -- the last one, by the tag that was read
-pub is-index : {s : List ℕ} {m end k : ℕ} {all : Suffixes} → k ≡ 49 → Last s m end all k → IsLast encode snocIndex s m end all
-is-index {s} {m} {end} {all = all} e c = by (subst (λ (n : ℕ). Last s m end all n) e c)
-  where
-    by : Last s m end all 49 → IsLast encode snocIndex s m end all
-    by (anIndex u) = u
+pub is-index : {s : List ℕ} {m end k : ℕ} {all : Suffixes} → k ≡ 49 → Last s m end all k → IsLast encode T.index s m end all
+is-index e (anIndex u) = u
+is-index e (aCall u) = absurd (omega arith)
 
-pub is-call : {s : List ℕ} {m end k : ℕ} {all : Suffixes} → (k ≡ 49 → ⊥) → Last s m end all k → IsLast encodeExpressions snocCall s m end all
+pub is-call : {s : List ℕ} {m end k : ℕ} {all : Suffixes} → (k ≡ 49 → ⊥) → Last s m end all k → IsLast encodeExpressions T.call s m end all
 is-call n (aCall u) = u
 is-call n (anIndex u) = absurd (n refl)
 
-pub start-of : {s : List ℕ} {middle end inner size start : ℕ} → inner ≡ end - 2 → size ≡ getD s inner 0 → start ≡ inner - size
-    → {A : Type 0} {enc : A → List ℕ} {snoc : Suffixes → A → Suffixes} {all : Suffixes} (u : IsLast enc snoc s middle end all)
-    → start ≡ middle + length (encodeSuffixes (u .init))
-start-of {s} ei ez es {enc = enc} u = let z = ez ∙ ap (λ (n : ℕ). getD s n 0) ei ∙ u .size-of in omega (arith, z, es, ei, u .ends)
+-- what was read of it: its tag, where its size stands, and where it starts
+pub record LastRead (s : List ℕ) (middle end tag inner start : ℕ) : Type 0 where
+  pub some : middle < end
+  pub tag-is : tag ≡ getD s (end - 1) 0
+  pub inner-is : inner ≡ end - 2
+  pub start-is : start ≡ inner - getD s inner 0
 
-module _ {s : List ℕ} {middle end j tag inner size start : ℕ} {here : Here} {st : State} (l : middle < end) (ej : j ≡ end - 1) (et : tag ≡ getD s j 0)
-    (ei : inner ≡ end - 2) (ez : size ≡ getD s inner 0) (es : start ≡ inner - size) where
+pub last-read : {s : List ℕ} {middle end j tag inner size start : ℕ} → middle < end → j ≡ end - 1 → tag ≡ getD s j 0 → inner ≡ end - 2
+    → size ≡ getD s inner 0 → start ≡ inner - size → LastRead s middle end tag inner start
+last-read {s} l ej et ei ez es = record { some = l; tag-is = et ∙ ap (λ (k : ℕ). getD s k 0) ej; inner-is = ei; start-is = omega arith }
+
+pub start-of : {s : List ℕ} {middle end tag inner start : ℕ} → LastRead s middle end tag inner start
+    → {A : Type 0} {enc : A → List ℕ} {cons : A → Suffixes → Suffixes} {all : Suffixes} (u : IsLast enc cons s middle end all)
+    → start ≡ middle + length (encodeSuffixes (u .init))
+start-of {s} r u = let z = ap (λ (n : ℕ). getD s n 0) (r .inner-is) ∙ u .size-of in omega arith
+
+module _ {s : List ℕ} {middle end tag inner start : ℕ} {here : Here} {st : State} (r : LastRead s middle end tag inner start) where
   pub the-last : (y : ReadySuffixes s middle end here st) → Last s middle end (y .ready .tree .suffixes) tag
-  the-last y =
-      subst (λ (n : ℕ). Last s middle end (y .ready .tree .suffixes) n) (sym (et ∙ ap (λ (k : ℕ). getD s k 0) ej))
-      (last (y .ready .tree .suffixes) (applied-lies y) (applied-ends y) l)
+  the-last y = rw (r .tag-is) (last (y .ready .tree .suffixes) (applied-lies y) (applied-ends y) (r .some))
 
   -- the primary with all but the last one
-  module _ {A : Type 0} {enc : A → List ℕ} {snoc : Suffixes → A → Suffixes} where
+  module _ {A : Type 0} {enc : A → List ℕ} {cons : A → Suffixes → Suffixes} where
     abbrev pub init-part : {s₁ : List ℕ} (here′ : Here) {st′ : State} (y : ReadySuffixes s middle end here st)
-        → Keeps (y .ready .base) (here .top) s s₁ → (u : IsLast enc snoc s middle end (y .ready .tree .suffixes)) → here′ .top ≡ here .top
+        → Keeps (y .ready .base) (here .top) s s₁ → (u : IsLast enc cons s middle end (y .ready .tree .suffixes)) → here′ .top ≡ here .top
         → here′ .strings ≡ here .strings → here′ .left ≡ here .left
         → here′ .height ≤ here .height + 2 + length (enc (u .part)) → st′ .label ≤ st .label + 2 * length (enc (u .part)) → 0 < st′ .label
         → suffixesDepth (u .init) ≤ here .left → FineSs (u .init) → ReadySuffixes s₁ middle start here′ st′
     init-part here′ {st′} y k u top strings left height label some deep fine = let z = y .ready in let a = z .tree in record {
-      ready = sub encodeApplied deepApplied FineApplied z k start (z .lo) here′ st′ (record { primary = a .primary; suffixes = u .init })
-          (both (encode (a .primary)) (encodeSuffixes (u .init)) (first (encode (a .primary)) (encodeSuffixes (a .suffixes)) (z .lies)) (u .lies)
-          (y .parts)) (omega (arith, start-of ei ez es u, y .parts, length-append (encode (a .primary)) (encodeSuffixes (u .init)))) (omega arith)
-          (omega (arith, start-of ei ez es u, u .ends)) top strings
-          (omega (arith, height, z .height, z .ends, y .parts, u .ends, length-append (encode (a .primary)) (encodeSuffixes (u .init))))
-          (omega (arith, label, z .label, z .ends, y .parts, u .ends, length-append (encode (a .primary)) (encodeSuffixes (u .init))))
-          some (omega (arith, left, deep, z .shallow)) (z .fine .0, fine);
+      ready = sub {part = record { primary = a .primary; suffixes = u .init }} z k (both (encode (a .primary)) (encodeSuffixes (u .init))
+          (first (encode (a .primary)) (encodeSuffixes (a .suffixes)) (z .lies)) (u .lies) (y .parts)) top (omega (
+            arith,
+            start-of r u,
+            length-append (encode (a .primary)) (encodeSuffixes (u .init)),
+          )) (z .fine .0, fine);
       parts = y .parts;
     }
 
@@ -487,10 +355,15 @@ module _ {s : List ℕ} {middle end j tag inner size start : ℕ} {here : Here} 
   module _ (q : tag ≡ 49) where
     pub index-deep : (y : ReadySuffixes s middle end here st)
         → let u = is-index q (the-last y) in (suffixesDepth (u .init) ≤ here .left) × (depth (u .part) ≤ here .left)
-    index-deep y = let u = is-index q (the-last y) in deep-index (u .init) (u .part) (omega (arith, y .ready .shallow, ap suffixesDepth (u .same)))
+    unfolding suffixesDepth
+    index-deep y = let u = is-index q (the-last y) in let p = deep-snoc (T.index (u .part)) (u .init) {k = here .left}
+        (omega (arith, ap suffixesDepth (u .same))) in
+        (p .0, omega arith)
 
     pub index-fine : (y : ReadySuffixes s middle end here st) → let u = is-index q (the-last y) in FineSs (u .init) × FineE (u .part)
-    index-fine y = let u = is-index q (the-last y) in fine-index (u .init) (u .part) (subst FineSs (u .same) (y .ready .fine .1))
+    unfolding FineSuffixes
+    index-fine y = let u = is-index q (the-last y) in
+        let p = fine-snoc (T.index (u .part)) (u .init) (subst FineSs (u .same) (y .ready .fine .1)) in (p .0, p .1 .0)
 
     abbrev pub index-left : ReadySuffixes s middle end here st → ReadySuffixes s middle start here st
     index-left y =
@@ -502,24 +375,21 @@ module _ {s : List ℕ} {middle end j tag inner size start : ℕ} {here : Here} 
       index-right y = let z = y .ready in let u = is-index q (the-last y) in let x = g .by (index-left y) in
           let n : length (encodeApplied (record { primary = z .tree .primary; suffixes = u .init })) ≡ length (encode (z .tree .primary)) + length
           (encodeSuffixes (u .init)) = length-append (encode (z .tree .primary)) (encodeSuffixes (u .init)) in
-          sub encode depth FineE z (x .keeps) inner (middle + length (encodeSuffixes (u .init))) (raised 1 here) a (u .part) (u .lies-part)
-          (omega (arith, ei, u .ends)) (omega (arith, y .parts)) (omega (arith, ei)) refl refl
-          (omega (arith, z .height, z .ends, y .parts, u .ends)) (omega (arith, z .label, z .ends, y .parts, u .ends, x .did .few, n))
-          (omega (arith, z .some, x .did .grows)) (index-deep y .1) (index-fine y .1)
+          sub z (x .keeps) (u .lies-part) refl (omega (arith, index-deep y .1)) (index-fine y .1)
 
       pub index-gave : {s₂ t₂ : List ℕ} {d : State} → GaveIndexed text s₁ s₂ inner here t₁ t₂ a d → GaveSuffixes text s s₂ middle end here t t₂ st d
       unfolding exprCode ofExpr exprLabels
-      index-gave {s₂} {t₂} {d} g₂ = record {
+      index-gave g₂ = record {
         by = λ y.
             let z = y .ready in let sc = z .scope in let h = here .height in let p = z .tree .primary in let u = is-index q (the-last y) in
             let x = g .by (index-left y) in let w = g₂ .by (index-right y) in
-            let ef = index-faults text sc (leavable here) h p (u .init) (u .part) (u .same) in
+            let ef = index-faults text sc h p (u .init) (u .part) (u .same) (leavable here) in
             let er = index-means text sc h p (u .init) (u .part) (u .same) in
             record {
               keeps = keeps-then (x .keeps) (w .keeps);
               did = did-as (codeA text here sc (z .tree)) _ (did-then (x .did) (w .did)) (same-eq (sym ef))
                   (λ n k. code-is (ap (exprCode (here .strings) h n) (sym er)) (ap (ofExpr h) (sym er)) (ap exprLabels (sym er)))
-                  (omega (arith, z .ends, y .parts, u .ends, length-append (encode p) (encodeSuffixes (u .init))));
+                  (omega (arith, length-append (encode p) (encodeSuffixes (u .init))));
             };
       }
 
@@ -527,68 +397,53 @@ module _ {s : List ℕ} {middle end j tag inner size start : ℕ} {here : Here} 
   module _ (q : tag ≡ 49 → ⊥) where
     pub call-deep : (y : ReadySuffixes s middle end here st)
         → let u = is-call q (the-last y) in (suffixesDepth (u .init) ≤ here .left) × (expressionsDepth (u .part) ≤ here .left)
-    call-deep y = let u = is-call q (the-last y) in deep-call (u .init) (u .part) (omega (arith, y .ready .shallow, ap suffixesDepth (u .same)))
+    unfolding suffixesDepth
+    call-deep y = let u = is-call q (the-last y) in let p = deep-snoc (T.call (u .part)) (u .init) {k = here .left}
+        (omega (arith, ap suffixesDepth (u .same))) in
+        (p .0, omega arith)
 
     pub call-fine : (y : ReadySuffixes s middle end here st) → let u = is-call q (the-last y) in FineSs (u .init) × FineEs (u .part)
-    call-fine y = let u = is-call q (the-last y) in fine-call (u .init) (u .part) (subst FineSs (u .same) (y .ready .fine .1))
+    unfolding FineSuffixes
+    call-fine y = let u = is-call q (the-last y) in
+        let p = fine-snoc (T.call (u .part)) (u .init) (subst FineSs (u .same) (y .ready .fine .1)) in (p .0, p .1 .0)
 
     abbrev pub call-args : ReadySuffixes s middle end here st → ReadyArgs s start inner (raised 2 here) st
     call-args y = let z = y .ready in let u = is-call q (the-last y) in record {
-      ready =
-          sub encodeExpressions expressionsDepth FineEs z keeps-all inner (middle + length (encodeSuffixes (u .init))) (raised 2 here) st (u .part)
-          (u .lies-part) (omega (arith, ei, u .ends)) (omega (arith, y .parts)) (omega (arith, ei)) refl refl
-          (omega (arith, z .height, z .ends, y .parts, u .ends)) (omega (arith, z .label, z .ends, y .parts, u .ends)) (omega (arith, z .some))
-          (call-deep y .1) (call-fine y .1);
-      starts = sym (start-of ei ez es u);
+      ready = sub z keeps-all (u .lies-part) refl (omega (arith, call-deep y .1)) (call-fine y .1);
+      starts = sym (start-of r u);
     }
 
     pub call-count : {n : ℕ} → Counts s start inner n → (y : ReadySuffixes s middle end here st) → n ≡ T.count (is-call q (the-last y) .part)
     call-count k y =
         let u = is-call q (the-last y) in
-        k .by _ (expression-items (u .part) (subst (λ (m : ℕ). Lies s m (encodeExpressions (u .part))) (sym (start-of ei ez es u)) (u .lies-part))
-        (omega (arith, ei, u .ends, start-of ei ez es u)))
+        k .by _ (expression-items (u .part) (rw (← (start-of r u)) at (u .lies-part)) (omega (arith, start-of r u)))
 
     module _ (text : List ℕ) {n : ℕ} {s₁ t t₁ : List ℕ} {b : State} (k : Counts s start inner n)
         (g : GavePassed text s s₁ start inner here t t₁ st b) where
       abbrev pub call-callee : ReadySuffixes s middle end here st → ReadySuffixes s₁ middle start (raised (n + 2) here) b
       call-callee y = let z = y .ready in let u = is-call q (the-last y) in let x = g .by (call-args y) in
-          init-part (raised (n + 2) here) y (x .keeps) u refl refl refl (omega (arith, call-count k y, count-few (u .part)))
-          (omega (arith, x .did .few)) (omega (arith, z .some, x .did .grows)) (call-deep y .0) (call-fine y .0)
+          init-part (raised (n + 2) here) y (x .keeps) u refl refl refl (omega (arith, call-count k y, count-few (u .part))) (omega arith)
+          (omega arith) (call-deep y .0) (call-fine y .0)
 
       pub call-gave : {s₂ t₂ t₃ : List ℕ} {c d : State} → GaveSuffixes text s₁ s₂ middle start (raised (n + 2) here) t₁ t₂ b c
           → Emits (G.K (here .height) ∷ []) [] t₂ t₃ c d → GaveSuffixes text s s₂ middle end here t t₃ st d
       unfolding exprCode ofExpr exprLabels
-      call-gave {s₂} {t₂} {t₃} {c} {d} g₂ f₂ = record {
-        by = λ y.
-            let z = y .ready in let sc = z .scope in let h = here .height in let p = z .tree .primary in let u = is-call q (the-last y) in
-            let x = g .by (call-args y) in let w = g₂ .by (call-callee y) in let Es = expressions text sc (h + 2) (u .part) in
-            let K = h + 2 + H.count Es in
-            let eK : K ≡ h + 2 + T.count (u .part) = ap (λ (m : ℕ). h + 2 + m) (count-resolved text sc (h + 2) (u .part)) in
-            let eh : h + (n + 2) ≡ K = omega (arith, eK, call-count k y) in
-            let F = suffixes text sc K (expression text sc (under (u .init) K) p) (u .init) in
+      call-gave {s₂} {t₂} {t₃} {c} g₂ f₂ = record {
+        by = λ y. let z = y .ready in let sc = z .scope in let h = here .height in let p = z .tree .primary in let u = is-call q (the-last y) in
+            let x = g .by (call-args y) in let w = g₂ .by (call-callee y) in let Es = expressions text sc (h + 2) (u .part) in let K = h + 2 + H.count
+            Es in let eK : K ≡ h + 2 + T.count (u .part) = rw (count-resolved text sc (h + 2) (u .part)) in let eh : h + (n + 2) ≡ K
+            = omega (arith, call-count k y) in let F = suffixes text sc K (expression text sc (under (u .init) K) p) (u .init) in
             let fp = inExpression text sc (leavable here) (under (u .init) K) p ++ inSuffixes text sc (leavable here) K (u .init) in
-            let fa = inExpressions text sc (leavable here) (h + 2) (u .part) in
-            let w′ : Did fp (exprSays (here .strings) K F) (2 * length (encodeApplied (record { primary = p; suffixes = u .init }))) t₁ t₂ b c = subst
-            (λ (m : ℕ). Did (inExpression text sc (leavable here) (under (u .init) m) p ++ inSuffixes text sc (leavable here) m (u .init))
-            (exprSays (here .strings) m (suffixes text sc m (expression text sc (under (u .init) m) p) (u .init)))
-            (2 * length (encodeApplied (record { primary = p; suffixes = u .init }))) t₁ t₂ b c) eh (w .did) in
-            let ef : faultsA text here sc (z .tree) ≡ fp ++ fa = ap (λ (ss : Suffixes). faultsA text here sc (record { primary = p; suffixes = ss }))
-            (u .same) ∙ ap
-            (λ (m : ℕ). inExpression text sc (leavable here) m p ++ inSuffixes text sc (leavable here) h (snocCall (u .init) (u .part)))
-            (under-call text sc (u .init) (u .part) h eK) ∙ ap (λ (fs : List Fault). inExpression text sc (leavable here) (under (u .init) K) p ++ fs)
-            (faults-call text sc (leavable here) (u .init) (u .part) h eK) ∙ sym
-            (append-assoc (inExpression text sc (leavable here) (under (u .init) K) p) (inSuffixes text sc (leavable here) K (u .init)) fa) in
-            let er : suffixes text sc h (expression text sc (under (z .tree .suffixes) h) p) (z .tree .suffixes) ≡ R.call F Es = ap
-            (λ (ss : Suffixes). suffixes text sc h (expression text sc (under ss h) p) ss) (u .same) ∙ ap
-            (λ (m : ℕ). suffixes text sc h (expression text sc m p) (snocCall (u .init) (u .part))) (under-call text sc (u .init) (u .part) h eK)
-            ∙ suffixes-call text sc (u .init) (u .part) h (expression text sc (under (u .init) K) p) eK in
+            let fa = inExpressions text sc (leavable here) (h + 2) (u .part) in let w′ : Did fp (exprSays (here .strings) K F)
+            (2 * length (encodeApplied (record { primary = p; suffixes = u .init }))) t₁ t₂ b c =
+            rw (← eh) (w .did) in let ef = call-faults text sc h p (u .init) (u .part) (u .same) eK (leavable here) in let er = call-means text sc h p
+            (u .init) (u .part) (u .same) eK in
             record {
               keeps = keeps-then (x .keeps) (w .keeps);
               did = did-as (codeA text here sc (z .tree)) _ (did-put (did-then (x .did) w′) f₂) (same-then (same-swap fa fp) (same-eq (sym ef)))
-                  (λ m v. code-is
-                  (append-assoc (exprsCode (here .strings) (h + 2) m Es) (exprCode (here .strings) K (m + exprsLabels Es) F) (G.K h ∷ []) ∙ ap
-                  (exprCode (here .strings) h m) (sym er)) (ap (ofExpr h) (sym er)) (ap exprLabels (sym er)))
-                  (omega (arith, z .ends, y .parts, u .ends, length-append (encode p) (encodeSuffixes (u .init))));
+                  (λ m v. code-is (append-assoc (exprsCode (here .strings) (h + 2) m Es) (exprCode (here .strings) K (m + exprsLabels Es) F)
+                  (G.K h ∷ []) ∙ ap (exprCode (here .strings) h m) (sym er)) (ap (ofExpr h) (sym er)) (ap exprLabels (sym er)))
+                  (omega (arith, length-append (encode p) (encodeSuffixes (u .init))));
             };
       }
 
@@ -596,18 +451,18 @@ module _ {s : List ℕ} {middle end j tag inner size start : ℕ} {here : Here} 
 
 module _ {s : List ℕ} {middle end : ℕ} {d d′ : Here} {st : State} where
   pub args-ready-at : d′ ≡ d → ReadyArgs s middle end d st → ReadyArgs s middle end d′ st
-  args-ready-at e y = subst (λ (x : Here). ReadyArgs s middle end x st) (sym e) y
+  args-ready-at e y = rw e y
 
   pub suffixes-ready-at : d′ ≡ d → ReadySuffixes s middle end d st → ReadySuffixes s middle end d′ st
-  suffixes-ready-at e y = subst (λ (x : Here). ReadySuffixes s middle end x st) (sym e) y
+  suffixes-ready-at e y = rw e y
 
   pub args-gave-at : {text s′ t t′ : List ℕ} {r : State} → d′ ≡ d → GaveArgs text s s′ middle end d′ t t′ st r
       → GaveArgs text s s′ middle end d t t′ st r
-  args-gave-at {text} {s′} {t} {t′} {r} e g = subst (λ (x : Here). GaveArgs text s s′ middle end x t t′ st r) e g
+  args-gave-at e g = rw e at g
 
   pub suffixes-gave-at : {text s′ t t′ : List ℕ} {r : State} → d′ ≡ d → GaveSuffixes text s s′ middle end d′ t t′ st r
       → GaveSuffixes text s s′ middle end d t t′ st r
-  suffixes-gave-at {text} {s′} {t} {t′} {r} e g = subst (λ (x : Here). GaveSuffixes text s s′ middle end x t t′ st r) e g
+  suffixes-gave-at e g = rw e at g
 
 pub is-suffixed : {s : List ℕ} {lo end k : ℕ} {e : Expression} → (k ≡ 60 → ⊥) → (k ≡ 61 → ⊥) → (k ≡ 59 → ⊥) → (k ≡ 51 → ⊥) → (k ≡ 131 → ⊥)
     → (k ≡ 7 → ⊥) → (k ≡ 128 → ⊥) → Case s lo end k e → IsTwo encode encodeSuffixes T.suffixed s lo end e
@@ -623,30 +478,27 @@ is-suffixed n1 n2 n3 n4 n5 n6 n7 (aCalled {e} {ss} h z v q) = is-two encode enco
 
 module _ {s : List ℕ} {end : ℕ} {here : Here} {st : State} (n : Node) (nd : NodeAt s end n)
     (n1 : n .kind ≡ 60 → ⊥) (n2 : n .kind ≡ 61 → ⊥) (n3 : n .kind ≡ 59 → ⊥) (n4 : n .kind ≡ 51 → ⊥) (n5 : n .kind ≡ 131 → ⊥) (n6 : n .kind ≡ 7 → ⊥)
-    (n7 : n .kind ≡ 128 → ⊥)
-    {middle : ℕ} (m : middle ≡ n .start + n .value) where
+    (n7 : n .kind ≡ 128 → ⊥) {middle : ℕ} (m : middle ≡ n .start + n .value) where
   pub suffixed-is : (y : ReadyE s end here st) → IsTwo encode encodeSuffixes T.suffixed s (y .lo) end (y .tree)
   suffixed-is y = is-suffixed n1 n2 n3 n4 n5 n6 n7 (find n nd refl y)
 
   pub suffixed-deep : (y : ReadyE s end here st)
       → let u = suffixed-is y in (depth (u .left) + 1 ≤ here .left) × (suffixesDepth (u .list) + 1 ≤ here .left)
   unfolding depth
-  suffixed-deep y = let u = suffixed-is y in (omega (arith, y .shallow, ap depth (u .same)), omega (arith, y .shallow, ap depth (u .same)))
+  suffixed-deep y = let u = suffixed-is y in (omega (arith, ap depth (u .same)), omega (arith, ap depth (u .same)))
 
   pub suffixed-fine : (y : ReadyE s end here st) → let u = suffixed-is y in FineE (u .left) × FineSs (u .list)
   unfolding Fine
   suffixed-fine y = let f = subst FineE (suffixed-is y .same) (y .fine) in (f .0, f .1)
 
   pub suffixed-middle : (y : ReadyE s end here st) → middle ≡ y .lo + length (encode (suffixed-is y .left))
-  suffixed-middle y = let u = suffixed-is y in omega (arith, nd .start, nd .value, u .value-of, u .size-of, u .ends)
+  suffixed-middle y = let u = suffixed-is y in omega arith
 
   abbrev pub suffixed-part : ReadyE s end here st → ReadySuffixes s middle (n .inner) (inside here) st
   suffixed-part y = let u = suffixed-is y in let k = length-append (encode (u .left)) (encodeSuffixes (u .list)) in record {
     ready =
-        sub encodeApplied deepApplied FineApplied y keeps-all (n .inner) (y .lo) (inside here) st (record { primary = u .left; suffixes = u .list })
-        (both (encode (u .left)) (encodeSuffixes (u .list)) (u .lies) (u .lies-list) refl) (omega (arith, nd .inner, u .ends, k)) (omega arith)
-        (omega (arith, nd .inner)) refl refl (omega (arith, y .height, y .ends, u .ends, k)) (omega (arith, y .label, y .ends, u .ends, k)) (y .some)
-        (omega (arith, suffixed-deep y .0, suffixed-deep y .1)) (suffixed-fine y);
+        sub {part = record { primary = u .left; suffixes = u .list }} y keeps-all (both (encode (u .left)) (encodeSuffixes (u .list)) (u .lies)
+        (u .lies-list) refl) refl (omega (arith, suffixed-deep y .0, suffixed-deep y .1)) (suffixed-fine y);
     parts = suffixed-middle y;
   }
 
@@ -655,26 +507,20 @@ module _ {s : List ℕ} {end : ℕ} {here : Here} {st : State} (n : Node) (nd : 
   unfolding inExpression expression
   suffixed-gave text {s′} {t} {t′} {r} g = record {
     by = λ y. let u = suffixed-is y in let x = g .by (suffixed-part y) in let k = length-append (encode (u .left)) (encodeSuffixes (u .list)) in
-        subst
-        (λ (e : Expression). Result (faultsE text here (y .scope) e) (codeE text here (y .scope) e) (length (encode (y .tree))) (y .base) here s s′ t
-        t′ st r) (sym (u .same))
-        (record { keeps = x .keeps; did = did-as _ _ (x .did) same-refl (λ m v. refl) (omega (arith, y .ends, u .ends, k)) });
+        subst (λ (e : Expression). Result (faultsE text here (y .scope) e) (codeE text here (y .scope) e) (length (encode (y .tree))) (y .base) here s
+        s′ t t′ st r) (sym (u .same)) (record { keeps = x .keeps; did = did-as _ _ (x .did) same-refl (λ m v. refl) (omega arith) });
   }
 
-pub call-few : {s : List ℕ} {middle end j tag inner size start n : ℕ} {here : Here} {st : State} (l : middle < end) (ej : j ≡ end - 1)
-    (et : tag ≡ getD s j 0) (ei : inner ≡ end - 2) (ez : size ≡ getD s inner 0) (es : start ≡ inner - size) (q : tag ≡ 49 → ⊥) → Counts s start inner
-    n → ReadySuffixes s middle end here st → n < end
-call-few l ej et ei ez es q k y =
-    let u = is-call q (the-last l ej et ei ez es y) in omega (arith, call-count l ej et ei ez es q k y, count-few (u .part), u .ends)
+pub call-few : {s : List ℕ} {middle end tag inner start n : ℕ} {here : Here} {st : State} (r : LastRead s middle end tag inner start)
+    (q : tag ≡ 49 → ⊥) → Counts s start inner n → ReadySuffixes s middle end here st → n < end
+call-few r q k y = let u = is-call q (the-last r y) in omega (arith, call-count r q k y, count-few (u .part))
 
 -- ---- an index and arguments by themselves
 
 -- the same with another state
 abbrev pub with-state : {A : Type 0} {enc : A → List ℕ} {deep : A → ℕ} {Fine : A → Type 0} {s : List ℕ} {end : ℕ} {here : Here} {st st′ : State}
     → st′ .label ≡ st .label → Ready enc deep Fine s end here st → Ready enc deep Fine s end here st′
-with-state {enc = enc} {deep} {Fine} {end = end} {here} {st′ = st′} e y =
-    sub enc deep Fine y keeps-all end (y .lo) here st′ (y .tree) (y .lies) (y .ends) (omega arith) (omega arith) refl refl (y .height)
-    (omega (arith, y .label)) (omega (arith, y .some)) (y .shallow) (y .fine)
+with-state e y = sub y keeps-all (y .lies) refl (omega arith) (y .fine)
 
 pub indexed-gave : (text : List ℕ) {s s₁ t t₁ t₂ t₃ : List ℕ} {end : ℕ} {here : Here} {st b c d : State}
     → Emits (G.SP (here .height) ∷ []) ((here .height + 1) ∷ []) t t₁ st b → GaveE text s s₁ end (raised 1 here) t₁ t₂ b c

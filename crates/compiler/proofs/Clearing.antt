@@ -1,12 +1,9 @@
 -- Zeros from a place on, where scratch holds nothing but zeros, and `compile`'s contract once they are written.
-use Prim.Native.Nat.{ℕ, zero, suc, _+_, _-_, _<_, _≤_}
-use mathlib.Core.Path.{_≡_, refl, sym, ap, _∙_}
-use mathlib.Core.List.{List, [], _∷_, _++_, append-assoc, append-nil}
-use native.Mathlib.Omega.{arith}
+use Rattle.compiler.proofs.Basics.{ℕ, zero, suc, _+_, _-_, _<_, _≤_, _≡_, refl, sym, ap, _∙_, List, [], _∷_, _++_, append-assoc, append-nil}
+use Rattle.compiler.proofs.Basics.{arith, length, getD, set, take, drop, replicate, length-append, length-drop, length-replicate}
+use Rattle.compiler.proofs.Basics.{drop-of-length-le, replicate-append-replicate, take-append-drop, List·getD-append, length-take-le, set-at}
+use Rattle.compiler.proofs.Basics.{drop-cons, ext-getD, getD-append-add, getD-drop, take-at}
 use native.Mathlib.Numerals.{add-one}
-use lib.ListN.{length, getD, set, take, drop, replicate, length-append, length-drop, length-replicate, drop-of-length-le, replicate-append-replicate}
-use lib.ListN.{take-append-drop, List·getD-append}
-use lib.Seq.{length-take-le, set-at, drop-cons, ext-getD, getD-append-add, getD-drop, take-at}
 use Rattle.text.specs.declared.Refusal.{Refusal}
 use Rattle.language.specs.Program.{Refused, accepted, refused}
 use Rattle.language.specs.Whole.{refusalOf, refusalIn, unlessFits}
@@ -34,11 +31,10 @@ module _ (s₀ : List ℕ) (from i : ℕ) (h : from ≤ i) {s : List ℕ} (e : s
       rw (e, d, set-at (take from s₀ ++ replicate {A = ℕ} (i - from) 0) (getD s₀ i 0) (drop (i + 1) s₀) 0 i l, r) (simp append-assoc)
 
   pub clear-all : i ≤ length s₀ → length s₀ ≤ i → s ≡ take from s₀ ++ replicate (length s₀ - from) 0
-  clear-all k l =
-      let z : i ≡ length s₀ = omega arith in e ∙ rw (drop-of-length-le s₀ l, append-nil, z)
+  clear-all k l = let z : i ≡ length s₀ = omega arith in e ∙ rw (drop-of-length-le s₀ l, append-nil, z)
 
 pub cleared-all : (s : List ℕ) {s′ : List ℕ} → s′ ≡ take 0 s ++ replicate (length s - 0) 0 → s′ ≡ replicate (length s) 0
-cleared-all s e = let z : length s - 0 ≡ length s = omega arith in e ∙ ap (λ (n : ℕ). replicate n 0) z
+cleared-all s e = let z : length s - 0 ≡ length s = omega arith in rw (e, z)
 
 pub clear-start : (s : List ℕ) (from : ℕ) → s ≡ cleared s from from
 clear-start s from = let z : from - from ≡ 0 = omega arith in rw (z, append-nil) (sym (take-append-drop from s))
@@ -61,8 +57,7 @@ zero-at (suc n) zero = refl
 zero-at (suc n) (suc i) = zero-at n i
 
 at-behind : (xs ys : List ℕ) (i : ℕ) → length xs ≤ i → getD (xs ++ ys) i 0 ≡ getD ys (i - length xs) 0
-at-behind xs ys i h =
-    let z : i ≡ length xs + (i - length xs) = omega arith in ap (λ (k : ℕ). getD (xs ++ ys) k 0) z ∙ getD-append-add xs ys (i - length xs) 0
+at-behind xs ys i h = let z : i ≡ length xs + (i - length xs) = omega arith in cc (getD-append-add xs ys (i - length xs) 0)
 
 pub padded-clean : {s : List ℕ} {used : ℕ} (w : List ℕ) (room : ℕ) → s ≡ padded room w → length w ≤ used → Clean used s
 padded-clean w room e h = record {
@@ -105,8 +100,7 @@ zeros-behind s front k e h f w =
 
 accepted-text : (source text t′ : List ℕ) (n : ℕ) (d : Refused) → C.Accepted n ≡ answerOf source d → Begins source t′ d → length t′ ≡ length text
     → (n ≤ length t′) × (take n t′ ++ replicate (length t′ - n) 0 ≡ textAfter source (length text) d)
-accepted-text source text t′ n accepted e b l =
-    let z : n ≡ length (textOf source) = cc in (omega (arith, b .1), rw (z, l, b .0))
+accepted-text source text t′ n accepted e b l = let z : n ≡ length (textOf source) = cc in (omega arith, rw (z, l, b .0))
 accepted-text source text t′ n (refused number place) e b l = let z : _≡_ {A = ℕ} 0 1 = cc in absurd (omega arith)
 
 refused-text : (source text t′ : List ℕ) (w : Refusal) (d : Refused) → C.Refused w ≡ answerOf source d → length t′ ≡ length text

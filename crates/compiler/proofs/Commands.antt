@@ -1,33 +1,18 @@
 -- What each form of command needs of its parts, and gives.
-use Prim.Native.Nat.{ℕ, _+_, _*_, _-_, _≤_, _<_}
-use mathlib.Core.Path.{_≡_, refl, sym, ap, subst, _∙_}
-use mathlib.Core.List.{List, [], _∷_, _++_, append-nil}
-use native.Mathlib.Omega.{arith}
-use lib.ListN.{length, getD}
-use borrow.Author.Tests.{ne-eqb}
+use Rattle.compiler.proofs.Basics.{ℕ, _+_, _*_, _-_, _≤_, _<_, _≡_, refl, sym, ap, subst, List, [], _∷_, _++_, append-nil, arith, length, getD}
+use Rattle.compiler.proofs.Basics.{ne-eqb}
 use Rattle.items.specs.Item as I
 use Rattle.language.specs.Tree as T
-use Rattle.language.specs.Tree.{Name, Expression, Command, Unlabelled}
-use Rattle.language.proofs.Depth.{depth, commandDepth, unlabelledDepth}
+use Rattle.compiler.proofs.Language.{Expression, Command, Unlabelled, depth, commandDepth, unlabelledDepth, Scope, opened, declared, fault}
+use Rattle.compiler.proofs.Language.{expression, command, unlabelled, ofExpr, ofCmd, unless, inExpression, inUnlabelled, encode}
+use Rattle.compiler.proofs.Language.{encodeUnlabelled, Fine, FineUnlabelled}
 use Rattle.language.specs.Names as N
-use Rattle.language.specs.Names.{Scope, opened, declared}
-use Rattle.language.specs.Constants.{fault}
-use Rattle.language.specs.Resolve.{expression, command, unlabelled}
-use Rattle.language.specs.Heights.{ofExpr, ofCmd}
 use Rattle.code.specs.Generate as G
 use Rattle.language.specs.Faults as Y
-use Rattle.language.specs.Faults.{Leavable, unless, inExpression, inCommand, inUnlabelled}
-use Rattle.tree.specs.Encoding.{encode, encodeCommand, encodeUnlabelled}
-use Rattle.compiler.specs.Scope.{Keeps, Shows, Pushed, PushedName, code, nameAt}
+use Rattle.compiler.proofs.Vocabulary.{Keeps, Shows, Pushed, PushedName, code, nameAt, State, Here, Ways, Node, FineE, FineC, FinePlain}
+use Rattle.compiler.proofs.Vocabulary.{inside, inValof, leavable, leavableBy, NodeAt, Emits, Fresh, LeavesTo, Lies, Result, ReadyE, GaveE}
+use Rattle.compiler.proofs.Vocabulary.{faultsE, codeE}
 use Rattle.compiler.proofs.Scoping.{keeps-all, keeps-then, keeps-lower, keeps-name, pushed-keeps, pushed-mark, pushed-name}
-use Rattle.compiler.specs.declared.steps.State.{State}
-use Rattle.compiler.specs.declared.steps.Here.{Here}
-use Rattle.compiler.specs.declared.steps.Ways.{Ways}
-use Rattle.compiler.specs.declared.steps.Node.{Node}
-use Rattle.compiler.specs.Fine.{FineE, FineC, FinePlain}
-use Rattle.language.specs.Fine.{Fine, FineUnlabelled}
-use Rattle.compiler.specs.Walked.{inside, inValof, leavable, leavableBy, NodeAt, Emits, Fresh, LeavesTo}
-use Rattle.compiler.specs.Walks.{Lies, Result, ReadyE, GaveE, faultsE, codeE}
 use Rattle.compiler.specs.Commands.{cmdSays, ReadyC, GaveC, ReadyU, GaveU}
 use Rattle.compiler.proofs.Done.{did-put, did-then, did-as, did-at, did-fresh, same-eq, same-swap, same-then, code-is}
 use Rattle.compiler.proofs.Trees.{find, is-valof, ends}
@@ -44,17 +29,14 @@ leaves-valof here {n} h = rw (ne-eqb n 0 (λ e. omega arith))
 module _ {s : List ℕ} {end : ℕ} {here : Here} {st : State} (n : Node) (nd : NodeAt s end n) (q : n .kind ≡ 7) where
   pub valof-deep : (y : ReadyE s end here st) {p : ℕ} {c : Command} → y .tree ≡ T.valof p c → commandDepth c + 1 ≤ here .left
   unfolding depth
-  valof-deep y h = omega (arith, y .shallow, ap depth h)
+  valof-deep y h = omega (arith, ap depth h)
 
   pub valof-fine : (y : ReadyE s end here st) {p : ℕ} {c : Command} → y .tree ≡ T.valof p c → FineC c
   unfolding Fine
   valof-fine y h = subst FineE h (y .fine)
 
   abbrev pub valof-part : {a : State} → Fresh 1 st a → ReadyE s end here st → ReadyC s (n .inner) (inside here) a
-  valof-part {a} e y = let u = is-valof (find n nd q y) in
-      sub encodeCommand commandDepth FineC y keeps-all (n .inner) (y .lo) (inside here) a (u .part) (u .lies) (omega (arith, nd .inner, u .ends))
-      (omega arith) (omega (arith, nd .inner)) refl refl (omega (arith, y .height, y .ends, u .ends))
-      (omega (arith, y .label, y .ends, u .ends, e .label)) (omega (arith, e .label)) (omega (arith, valof-deep y (u .same))) (valof-fine y (u .same))
+  valof-part e y = let u = is-valof (find n nd q y) in sub y keeps-all (u .lies) refl (omega (arith, valof-deep y (u .same))) (valof-fine y (u .same))
 
   pub valof-gave : (text : List ℕ) {s₁ t t₁ t₂ : List ℕ} {a b c : State} → Fresh 1 st a
       → GaveC text s s₁ (n .inner) (inside here) (inValof (st .label)) t t₁ a b → Emits (I.label (st .label) ∷ []) [] t₁ t₂ b c
@@ -69,10 +51,9 @@ module _ {s : List ℕ} {end : ℕ} {here : Here} {st : State} (n : Node) (nd : 
         (sym (u .same))
         (record {
           keeps = x .keeps;
-          did = did-at _ _ (did-put (did-fresh e (x .did)) f) (same-eq (ap (λ (z : Leavable). inCommand text sc z h (u .part)) l))
-              (λ v. code-is (ap (λ (m : ℕ). G.cmdCode (here .strings) h m (G.inValof (st .label)) C ++ (I.label (st .label) ∷ [])) (omega arith))
-              refl (omega arith))
-              (omega (arith, y .ends, u .ends));
+          did = did-at _ _ (did-put (did-fresh e (x .did)) f) (same-eq (rw l))
+              (λ v. code-is (ap (λ (m : ℕ). G.cmdCode (here .strings) h m (G.inValof (st .label)) C ++ (I.label (st .label) ∷ [])) (omega arith)) refl
+              (omega arith)) (omega arith);
         });
   }
 
@@ -95,17 +76,14 @@ module _ {s : List ℕ} {end : ℕ} {here : Here} {st : State} (n : Node) (nd : 
 
   pub result-deep : (y : ReadyU s end here st) → depth (result-is y .part) ≤ here .left
   unfolding unlabelledDepth
-  result-deep y = omega (arith, y .shallow, ap unlabelledDepth (result-is y .same))
+  result-deep y = omega (arith, ap unlabelledDepth (result-is y .same))
 
   pub result-fine : (y : ReadyU s end here st) → FineE (result-is y .part)
   unfolding FineUnlabelled
   result-fine y = subst FinePlain (result-is y .same) (y .fine) .0
 
   abbrev pub result-part : ReadyU s end here st → ReadyE s (n .inner) here st
-  result-part y = let u = result-is y in
-      sub encode depth FineE y keeps-all (n .inner) (y .lo) here st (u .part) (u .lies) (omega (arith, nd .inner, u .ends)) (omega arith)
-      (omega (arith, nd .inner)) refl refl
-      (omega (arith, y .height, y .ends, u .ends)) (omega (arith, y .label, y .ends, u .ends)) (y .some) (result-deep y) (result-fine y)
+  result-part y = let u = result-is y in sub y keeps-all (u .lies) refl (omega (arith, result-deep y)) (result-fine y)
 
   pub result-gave : (text : List ℕ) (ways : Ways) {s₁ t t₁ t₂ : List ℕ} {a b : State} → GaveE text s s₁ (n .inner) here t t₁ st a
       → LeavesTo (ways .result) (n .place) t₁ t₂ a b → GaveU text s s₁ end here ways t t₂ st b
@@ -119,31 +97,24 @@ module _ {s : List ℕ} {end : ℕ} {here : Here} {st : State} (n : Node) (nd : 
         (record {
           keeps = x .keeps;
           did = did-as _ _ (did-then (with-ways text sc here ways h (u .part) (x .did)) (f .did))
-              (same-then
-              (same-swap (inExpression text sc (leavableBy ways here) h (u .part)) (unless (leavableBy ways here .valof) (fault (n .place) 13)))
-              (same-eq
-              (ap (λ (p : ℕ). unless (leavableBy ways here .valof) (fault p 13) ++ inExpression text sc (leavableBy ways here) h (u .part))
-              (nd .place ∙ u .place-of))))
-              (λ m v. code-is refl (append-nil (ofExpr h E)) (omega arith)) (omega (arith, y .ends, u .ends));
+              (same-then (same-swap (inExpression text sc (leavableBy ways here) h (u .part)) (unless (leavableBy ways here .valof)
+              (fault (n .place) 13))) (same-eq (cc))) (λ m v. code-is refl (append-nil (ofExpr h E)) (omega arith)) (omega arith);
         });
   }
 
 -- another name of the same place
 pub gave-c-at : (text : List ℕ) {s s′ t t′ : List ℕ} {end : ℕ} {d d′ : Here} {w w′ : Ways} {st r : State} → d′ ≡ d → w′ ≡ w
     → GaveC text s s′ end d′ w′ t t′ st r → GaveC text s s′ end d w t t′ st r
-gave-c-at text {s} {s′} {t} {t′} {end} {d} {w′ = w′} {st} {r} e q g =
-    subst (λ (x : Ways). GaveC text s s′ end d x t t′ st r) q (subst (λ (x : Here). GaveC text s s′ end x w′ t t′ st r) e g)
+gave-c-at text {s} {s′} {t} {t′} {end} {d} {w′ = w′} {st} {r} e q g = rw q at (rw e at g)
 
 pub gave-u-at : (text : List ℕ) {s s′ t t′ : List ℕ} {end : ℕ} {d d′ : Here} {w w′ : Ways} {st r : State} → d′ ≡ d → w′ ≡ w
     → GaveU text s s′ end d′ w′ t t′ st r → GaveU text s s′ end d w t t′ st r
-gave-u-at text {s} {s′} {t} {t′} {end} {d} {w′ = w′} {st} {r} e q g =
-    subst (λ (x : Ways). GaveU text s s′ end d x t t′ st r) q (subst (λ (x : Here). GaveU text s s′ end x w′ t t′ st r) e g)
+gave-u-at text {s} {s′} {t} {t′} {end} {d} {w′ = w′} {st} {r} e q g = rw q at (rw e at g)
 
 -- ---- a name in a block of its own, as FOR's: a mark and a name are pushed, and what the body does keeps what stood below
 
 module _ (h : ℕ) {s s₁ s₂ : List ℕ} {base top leaf m : ℕ} {sc : Scope} (sh : Shows s top sc) (long : base ≤ length s) (room : top + 4 ≤ base)
-    (inside-tree : base ≤ leaf)
-    (p : Pushed s s₁ top 0 0) (q : PushedName s₁ s₂ (top + 2) leaf m) (e : m ≡ h * 4 + 1) where
+    (inside-tree : base ≤ leaf) (p : Pushed s s₁ top 0 0) (q : PushedName s₁ s₂ (top + 2) leaf m) (e : m ≡ h * 4 + 1) where
   pub named-block-keeps : Keeps base top s s₂
   named-block-keeps =
       keeps-then (pushed-keeps p (omega arith) long)
@@ -152,11 +123,10 @@ module _ (h : ℕ) {s s₁ s₂ : List ℕ} {base top leaf m : ℕ} {sc : Scope}
   pub named-block-shows : Shows s₂ (top + 4) (declared (opened sc) (nameAt s leaf) (N.local h))
   unfolding code
   named-block-shows =
-      let k = pushed-keeps p (omega arith) long in let l : base ≤ length s₁ = omega (arith, k .long) in let a : top + 2 + 2 ≡ top + 4 = omega arith in
-      let x = pushed-name q (omega arith) l (N.local h) (pushed-mark p (omega arith) long sh refl) e tt in
-      let n : nameAt s₁ leaf ≡ nameAt s leaf = keeps-name k inside-tree in
-      subst (λ (z : ℕ). Shows s₂ z (declared (opened sc) (nameAt s leaf) (N.local h))) a
-      (subst (λ (z : Name). Shows s₂ (top + 2 + 2) (declared (opened sc) z (N.local h))) n x)
+      let k = pushed-keeps p (omega arith) long in let l : base ≤ length s₁ = omega arith in let a : top + 2 + 2 ≡ top + 4 = omega arith in
+      let x = pushed-name q (omega arith) l (N.local h) (pushed-mark p (omega arith) long sh refl) e tt in let n : nameAt s₁ leaf ≡ nameAt s leaf
+      = keeps-name k inside-tree in
+      rw a at (rw n at x)
 
 -- after a part with more names in scope, the names below are as they were
 pub after-block : {base top high : ℕ} {s s₁ s₂ : List ℕ} → top ≤ high → Keeps base top s s₁ → Keeps base high s₁ s₂ → Keeps base top s s₂

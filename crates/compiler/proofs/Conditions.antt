@@ -1,34 +1,18 @@
 -- TEST, WHILE and UNTIL.
-use Prim.Native.Nat.{ℕ, _+_, _-_, _≤_, _<_}
-use mathlib.Core.Path.{_≡_, refl, sym, ap, subst, _∙_}
-use mathlib.Core.Bool.{cond}
-use mathlib.Core.List.{List, [], _∷_, _++_, append-assoc}
-use native.Mathlib.Omega.{arith}
-use lib.ListN.{length, getD, length-append}
-use lib.Dec.{eqb}
-use borrow.Author.Tests.{ne-eqb}
+use Rattle.compiler.proofs.Basics.{ℕ, _+_, _-_, _≤_, _<_, _≡_, refl, sym, ap, subst, _∙_, cond, List, [], _∷_, _++_, append-assoc, arith}
+use Rattle.compiler.proofs.Basics.{length, getD, length-append, eqb, ne-eqb}
 use Rattle.items.specs.Item as I
 use Rattle.language.specs.Kinds as K
 use Rattle.language.specs.Tree as T
-use Rattle.language.specs.Tree.{Expression, Command, Unlabelled}
-use Rattle.language.proofs.Depth.{depth, commandDepth, unlabelledDepth}
-use Rattle.language.specs.Names.{Scope}
+use Rattle.compiler.proofs.Language.{Expression, Command, Unlabelled, depth, commandDepth, unlabelledDepth, Scope, expression, command}
+use Rattle.compiler.proofs.Language.{unlabelled, ofCmd, Leavable, inExpression, inCommand, inUnlabelled, encode, encodeCommand}
+use Rattle.compiler.proofs.Language.{encodeUnlabelled, FineUnlabelled}
 use Rattle.language.specs.Resolved as R
-use Rattle.language.specs.Resolve.{expression, command, unlabelled}
-use Rattle.language.specs.Heights.{ofCmd}
 use Rattle.code.specs.Generate as G
 use Rattle.language.specs.Faults as Y
-use Rattle.language.specs.Faults.{Leavable, inExpression, inCommand, inUnlabelled}
-use Rattle.tree.specs.Encoding.{encode, encodeCommand, encodeUnlabelled}
 use Rattle.compiler.proofs.Scoping.{keeps-all, keeps-then}
-use Rattle.compiler.specs.declared.steps.State.{State}
-use Rattle.compiler.specs.declared.steps.Here.{Here}
-use Rattle.compiler.specs.declared.steps.Ways.{Ways}
-use Rattle.compiler.specs.declared.steps.Node.{Node}
-use Rattle.compiler.specs.Fine.{FineE, FineC, FinePlain}
-use Rattle.language.specs.Fine.{FineUnlabelled}
-use Rattle.compiler.specs.Walked.{inLoop, leavableBy, exits, NodeAt, Emits, Fresh}
-use Rattle.compiler.specs.Walks.{Lies, Result, ReadyE, GaveE}
+use Rattle.compiler.proofs.Vocabulary.{State, Here, Ways, Node, FineE, FineC, FinePlain, inLoop, leavableBy, exits, NodeAt, Emits, Fresh, Lies}
+use Rattle.compiler.proofs.Vocabulary.{Result, ReadyE, GaveE}
 use Rattle.compiler.specs.Commands.{cmdSays, ReadyC, GaveC, ReadyU, GaveU, WhileWord, aWhile, anUntil, WhileKind}
 use Rattle.compiler.proofs.Done.{emits-then, did-put, did-after, did-then, did-at, did-fresh, same-refl, same-eq, code-is}
 use Rattle.compiler.proofs.Trees.{first, second}
@@ -61,7 +45,7 @@ is-test {lo = lo} (F.aTest {e} {c} {d} h q) =
       lies = first a (b ++ g) h;
       lies-body = first b g r;
       lies-other = second b g (lo + length a + length b) r refl;
-      ends = omega (arith, q, length-append a (b ++ g), length-append b g);
+      ends = omega (arith, length-append a (b ++ g), length-append b g);
     }
 
 test-shape : (e x c y d z : List I.Item) → ((((e ++ x) ++ c) ++ y) ++ d) ++ z ≡ e ++ (x ++ (c ++ (y ++ (d ++ z))))
@@ -83,41 +67,30 @@ module _ {s : List ℕ} {end : ℕ} {here : Here} {st : State} (n o b : Node) (n
   unfolding unlabelledDepth
   test-deep y =
       let e = ap unlabelledDepth (test-is y .same) in
-      (omega (arith, y .shallow, e), omega (arith, y .shallow, e), omega (arith, y .shallow, e))
+      (omega arith, omega arith, omega arith)
 
   pub test-other : (y : ReadyU s end here st) → o .start ≡ y .lo + length (encode (test-is y .test)) + length (encodeCommand (test-is y .body))
   test-other y = let u = test-is y in
-      od .start ∙ sym
-      (closed-start {end = n .inner} (command-closed (u .other) (test-fine y .2)) (u .lies-other) (omega (arith, nd .inner, u .ends)) .0)
+      od .start ∙ sym (closed-start {end = n .inner} (command-closed (u .other) (test-fine y .2)) (u .lies-other) (omega arith) .0)
 
   pub test-start : (y : ReadyU s end here st) → b .start ≡ y .lo + length (encode (test-is y .test))
   test-start y = let u = test-is y in
       bd .start ∙ sym (closed-start {end = o .start} (command-closed (u .body) (test-fine y .1)) (u .lies-body) (test-other y) .0)
 
   abbrev pub test-first : {a : State} → Fresh 2 st a → ReadyU s end here st → ReadyE s (b .start) here a
-  test-first {a} e y = let u = test-is y in
-      sub encode depth FineE y keeps-all (b .start) (y .lo) here a (u .test) (u .lies) (test-start y) (omega arith)
-      (omega (arith, test-start y, u .ends)) refl refl (omega (arith, y .height, y .ends, u .ends))
-      (omega (arith, y .label, y .ends, u .ends, e .label)) (omega (arith, e .label)) (test-deep y .0) (test-fine y .0)
+  test-first e y = let u = test-is y in sub y keeps-all (u .lies) refl (omega (arith, test-start y, test-deep y .0)) (test-fine y .0)
 
   module _ (text : List ℕ) {s₁ t t₁ t₂ : List ℕ} {a c d : State} (e : Fresh 2 st a) (g : GaveE text s s₁ (b .start) here t t₁ a c)
       (f : Emits (G.FL (st .label) ∷ []) [] t₁ t₂ c d) where
     abbrev pub test-body : ReadyU s end here st → ReadyC s₁ (o .start) here d
     test-body y = let u = test-is y in let x = g .by (test-first e y) in
-        sub encodeCommand commandDepth FineC y (x .keeps) (o .start) (y .lo + length (encode (u .test))) here d (u .body) (u .lies-body)
-        (test-other y) (omega arith) (omega (arith, test-other y, u .ends)) refl refl
-        (omega (arith, y .height, y .ends, u .ends)) (omega (arith, y .label, y .ends, u .ends, e .label, x .did .few, f .label))
-        (omega (arith, e .label, x .did .grows, f .label)) (test-deep y .1) (test-fine y .1)
+        sub y (x .keeps) (u .lies-body) refl (omega (arith, test-other y, test-deep y .1)) (test-fine y .1)
 
     module _ (ways : Ways) {s₂ t₃ t₄ t₅ : List ℕ} {i j k : State} (g₂ : GaveC text s₁ s₂ (o .start) here ways t₂ t₃ d i)
         (f₂ : Emits (G.JL (st .label + 1) ∷ []) [] t₃ t₄ i j) (f₃ : Emits (I.label (st .label) ∷ []) [] t₄ t₅ j k) where
       abbrev pub test-rest : ReadyU s end here st → ReadyC s₂ (n .inner) here k
       test-rest y = let u = test-is y in let x = g .by (test-first e y) in let z = g₂ .by (test-body y) in
-          sub encodeCommand commandDepth FineC y (keeps-then (x .keeps) (z .keeps)) (n .inner)
-          (y .lo + length (encode (u .test)) + length (encodeCommand (u .body))) here k (u .other) (u .lies-other) (omega (arith, nd .inner, u .ends))
-          (omega arith) (omega (arith, nd .inner)) refl refl (omega (arith, y .height, y .ends, u .ends))
-          (omega (arith, y .label, y .ends, u .ends, e .label, x .did .few, f .label, z .did .few, f₂ .label, f₃ .label))
-          (omega (arith, e .label, x .did .grows, f .label, z .did .grows, f₂ .label, f₃ .label)) (test-deep y .2) (test-fine y .2)
+          sub y (keeps-then (x .keeps) (z .keeps)) (u .lies-other) refl (omega (arith, test-deep y .2)) (test-fine y .2)
 
       pub test-gave : {s₃ t₆ t₇ : List ℕ} {l r : State} → GaveC text s₂ s₃ (n .inner) here ways t₅ t₆ k l
           → Emits (I.label (st .label + 1) ∷ []) [] t₆ t₇ l r → GaveU text s s₃ end here ways t t₇ st r
@@ -132,18 +105,13 @@ module _ {s : List ℕ} {end : ℕ} {here : Here} {st : State} (n o b : Node) (n
             (length (encodeUnlabelled (y .tree))) (y .base) here s s₃ t t₇ st r) (sym (u .same))
             (record {
               keeps = keeps-then (keeps-then (x .keeps) (z .keeps)) (v .keeps);
-              did = did-at (cmdSays here ways (R.test E C D)) _
-                  (did-fresh e (did-put
-                  (did-then (did-put (did-then (did-put (with-ways text sc here ways h (u .test) (x .did)) f) (z .did)) (emits-then f₂ f₃))
-                  (v .did)) f₄)) same-refl
-                  (λ p. code-is
-                  (test-shape (G.exprCode S h (L + 2) E) (G.FL L ∷ []) (G.cmdCode S h (L + 2 + G.exprLabels E) w C) (G.JL (L + 1) ∷ I.label L ∷ [])
-                  (G.cmdCode S h (L + 2 + (G.exprLabels E + G.cmdLabels C)) w D) (I.label (L + 1) ∷ [])
-                  ∙ ap (λ (i : ℕ). G.exprCode S h (L + 2) E
-                  ++ (G.FL L
-                  ∷ (G.cmdCode S h (L + 2 + G.exprLabels E) w C ++ (G.JL (L + 1) ∷ I.label L ∷ (G.cmdCode S h i w D ++ (I.label (L + 1) ∷ [])))))) m)
-                  refl (omega arith))
-                  (omega (arith, y .ends, u .ends));
+              did = did-at (cmdSays here ways (R.test E C D)) _ (did-fresh e
+                  (did-put (did-then (did-put (did-then (did-put (with-ways text sc here ways h (u .test) (x .did)) f) (z .did)) (emits-then f₂ f₃))
+                  (v .did)) f₄)) same-refl (λ p. code-is (rw (
+                    test-shape (G.exprCode S h (L + 2) E) (G.FL L ∷ []) (G.cmdCode S h (L + 2 + G.exprLabels E) w C) (G.JL (L + 1) ∷ I.label L ∷ [])
+                        (G.cmdCode S h (L + 2 + (G.exprLabels E + G.cmdLabels C)) w D) (I.label (L + 1) ∷ []),
+                    m,
+                  )) refl (omega arith)) (omega arith);
             });
       }
 
@@ -180,56 +148,39 @@ module _ {s : List ℕ} {end : ℕ} {here : Here} {st : State} (n b : Node) (nd 
 
   pub while-deep : (y : ReadyU s end here st) → (depth (while-is y .test) ≤ here .left) × (commandDepth (while-is y .body) ≤ here .left)
   unfolding unlabelledDepth
-  while-deep y = let e = ap unlabelledDepth (while-is y .same) in (omega (arith, y .shallow, e), omega (arith, y .shallow, e))
+  while-deep y = let e = ap unlabelledDepth (while-is y .same) in (omega arith, omega arith)
 
   pub while-middle : (y : ReadyU s end here st) → b .start ≡ y .lo + length (encode (while-is y .test))
   while-middle y = let u = while-is y in
-      bd .start ∙ sym
-      (closed-start {end = n .inner} (command-closed (u .body) (while-fine y .1)) (u .lies-body) (omega (arith, nd .inner, u .ends)) .0)
+      bd .start ∙ sym (closed-start {end = n .inner} (command-closed (u .body) (while-fine y .1)) (u .lies-body) (omega arith) .0)
 
   module _ {t t₁ : List ℕ} {a c : State} (e : Fresh 2 st a) (m : Emits (I.label (st .label) ∷ []) [] t t₁ a c) where
     abbrev pub while-test : ReadyU s end here st → ReadyE s (b .start) here c
-    while-test y = let u = while-is y in
-        sub encode depth FineE y keeps-all (b .start) (y .lo) here c (u .test) (u .lies) (while-middle y) (omega arith)
-        (omega (arith, while-middle y, u .ends)) refl refl (omega (arith, y .height, y .ends, u .ends))
-        (omega (arith, y .label, y .ends, u .ends, e .label, m .label)) (omega (arith, e .label, m .label)) (while-deep y .0) (while-fine y .0)
+    while-test y = let u = while-is y in sub y keeps-all (u .lies) refl (omega (arith, while-middle y, while-deep y .0)) (while-fine y .0)
 
     module _ (text : List ℕ) {s₁ t₂ t₃ : List ℕ} {d i : State} {j : ℕ} (g : GaveE text s s₁ (b .start) here t₁ t₂ c d)
         (f : Emits (G.to j (st .label + 1) ∷ []) [] t₂ t₃ d i) where
       abbrev pub while-body : ReadyU s end here st → ReadyC s₁ (n .inner) here i
       while-body y = let u = while-is y in let x = g .by (while-test y) in
-          sub encodeCommand commandDepth FineC y (x .keeps) (n .inner) (y .lo + length (encode (u .test))) here i (u .body) (u .lies-body)
-          (omega (arith, nd .inner, u .ends)) (omega arith) (omega (arith, nd .inner)) refl refl
-          (omega (arith, y .height, y .ends, u .ends)) (omega (arith, y .label, y .ends, u .ends, e .label, m .label, x .did .few, f .label))
-          (omega (arith, e .label, m .label, x .did .grows, f .label)) (while-deep y .1) (while-fine y .1)
+          sub y (x .keeps) (u .lies-body) refl (omega (arith, while-deep y .1)) (while-fine y .1)
 
       pub while-gave : (ways : Ways) {s₂ t₄ t₅ t₆ : List ℕ} {k l r : State} → j ≡ cond (eqb (n .kind) K.WHILE) 5 4
           → GaveC text s₁ s₂ (n .inner) here (inLoop (st .label) (st .label + 1) ways) t₃ t₄ i k
           → Emits (G.JL (st .label) ∷ []) [] t₄ t₅ k l → Emits (I.label (st .label + 1) ∷ []) [] t₅ t₆ l r → GaveU text s s₂ end here ways t t₆ st r
       unfolding G.cmdCode ofCmd G.cmdLabels
       while-gave ways {s₂} {t₄} {t₅} {t₆} {k} {l} {r} ej g₂ f₂ f₃ = record {
-        by = λ y.
-            let u = while-is y in let x = g .by (while-test y) in let z = g₂ .by (while-body y) in let sc = y .scope in let h = here .height in
+        by = λ y. let u = while-is y in let x = g .by (while-test y) in let z = g₂ .by (while-body y) in let sc = y .scope in let h = here .height in
             let L = st .label in let S = here .strings in let E = expression text sc h (u .test) in let C = command text sc h (u .body) in
             let W = getD s (end - 1) 0 in let lv = leavableBy ways here in let w′ = exits (inLoop L (L + 1) ways) in
-            let em = ap (unlabelled text sc h) (u .same) ∙ while-means text sc h w (u .test) (u .body) in
-            let ef = ap (inUnlabelled text sc lv h) (u .same) ∙ while-faults text sc lv h w (u .test) (u .body) in
-            let jj : j ≡ cond (eqb W K.WHILE) 5 4 = ej ∙ ap (λ (v : ℕ). cond (eqb v K.WHILE) 5 4) (nd .kind) in
+            let em = ap (unlabelled text sc h) (u .same) ∙ while-means text sc h w (u .test) (u .body) in let ef = ap (inUnlabelled text sc lv h)
+            (u .same) ∙ while-faults text sc lv h w (u .test) (u .body) in let jj : j ≡ cond (eqb W K.WHILE) 5 4 = rw (ej, nd .kind) in
             let lo = leaves-loop here ways L (L + 1) (omega arith) in
             record {
               keeps = keeps-then (x .keeps) (z .keeps);
               did = did-at (cmdSays here ways (unlabelled text sc h (y .tree))) _
-                  (did-fresh e
-                  (did-after m (did-put (did-then (did-put (with-ways text sc here ways h (u .test) (x .did)) f) (z .did)) (emits-then f₂ f₃))))
-                  (same-eq (ap (λ (p : Leavable). inExpression text sc lv h (u .test) ++ inCommand text sc p h (u .body)) lo ∙ sym ef))
-                  (λ v. code-is (ap (λ (p : List I.Item). I.label L ∷ p)
-                  (append-assoc (G.exprCode S h (L + 2) E ++ (G.to j (L + 1) ∷ [])) (G.cmdCode S h (L + 2 + G.exprLabels E) w′ C)
-                  (G.JL L ∷ I.label (L + 1) ∷ []) ∙ append-assoc (G.exprCode S h (L + 2) E) (G.to j (L + 1) ∷ [])
-                  (G.cmdCode S h (L + 2 + G.exprLabels E) w′ C ++ (G.JL L ∷ I.label (L + 1) ∷ [])) ∙ ap
-                  (λ (v : ℕ). G.exprCode S h (L + 2) E
-                  ++ (G.to v (L + 1) ∷ (G.cmdCode S h (L + 2 + G.exprLabels E) w′ C ++ (G.JL L ∷ I.label (L + 1) ∷ [])))) jj) ∙ ap
-                  (G.cmdCode S h L (exits ways)) (sym em)) (ap (ofCmd h) (sym em)) (omega (arith, ap G.cmdLabels em)))
-                  (omega (arith, y .ends, u .ends));
+                  (did-fresh e (did-after m (did-put (did-then (did-put (with-ways text sc here ways h (u .test) (x .did)) f) (z .did))
+                  (emits-then f₂ f₃)))) (same-eq (rw (lo, ef))) (λ v. code-is (simp (append-assoc, jj, em)) (ap (ofCmd h) (sym em))
+                  (omega (arith, ap G.cmdLabels em))) (omega arith);
             };
       }
 

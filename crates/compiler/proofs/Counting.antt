@@ -1,15 +1,9 @@
 -- How many items a list in scratch has: the loop over them, and lists of expressions, REPEAT forms and commands.
-use Prim.Native.Nat.{ℕ, suc, _+_, _≤_, _<_}
-use mathlib.Core.Path.{_≡_, refl, sym, ap, subst, _∙_}
-use mathlib.Core.List.{List, [], _∷_, _++_}
-use native.Mathlib.Omega.{arith}
-use lib.ListN.{length, getD, length-append}
+use Rattle.compiler.proofs.Basics.{ℕ, suc, _+_, _≤_, _<_, _≡_, refl, sym, ap, _∙_, List, [], _∷_, _++_, arith, length, getD, length-append}
 use Rattle.language.specs.Tree as T
-use Rattle.language.specs.Tree.{Expressions, Repeats, Commands}
-use Rattle.language.specs.Names.{Scope}
-use Rattle.language.specs.Resolve.{caseList}
+use Rattle.compiler.proofs.Language.{Expressions, Repeats, Commands, Scope, caseList, encode, encodeExpressions, encodeRepeats, encodeCommand}
+use Rattle.compiler.proofs.Language.{encodeCommands}
 use Rattle.code.specs.Generate.{commandsIn}
-use Rattle.tree.specs.Encoding.{encode, encodeExpressions, encodeRepeats, encodeCommand, encodeCommands}
 use Rattle.compiler.specs.Repeats.{forms}
 use Rattle.compiler.specs.Walks.{Lies, Items, noItem, anItem, Counts}
 use Rattle.compiler.proofs.Trees.{second}
@@ -32,7 +26,7 @@ count-next {s} {from} {end} {at} {n} {size} l z q m i = let p = q m i in go (p .
   where
     go : {k : ℕ} → Items s end at k → m ≡ n + k → CountPart s end (at + 2 + size) (n + 1) m
     go (noItem h) e = absurd (omega arith)
-    go (anItem {n = j} h r) e = record { rest = j; items = subst (λ (x : ℕ). Items s end (at + 2 + x) j) (sym z) r; sum = omega arith }
+    go (anItem {n = j} h r) e = record { rest = j; items = rw z r; sum = omega arith }
 
 pub count-end : {s : List ℕ} {from end at n : ℕ} → end ≤ at → Counting s from end at n → Counts s from end n
 count-end {s} {from} {end} {at} {n} l q = record { by = λ m i. let p = q m i in go (p .items) (p .sum) }
@@ -45,11 +39,11 @@ count-end {s} {from} {end} {at} {n} l q = record { by = λ m i. let p = q m i in
 pub item-first : {s : List ℕ} {at end tag n : ℕ} (w rest : List ℕ) → Lies s at (length w ∷ tag ∷ (w ++ rest))
     → end ≡ at + length (length w ∷ tag ∷ (w ++ rest))
     → (Lies s (at + 2 + length w) rest → end ≡ at + 2 + length w + length rest → Items s end (at + 2 + length w) n) → Items s end at (suc n)
-item-first {s} {at} {end} {tag} {n} w rest h e f =
+item-first {s} {at} {end} {tag} w rest h e f =
     let a : at + 0 ≡ at = omega arith in let z : getD s at 0 ≡ length w = ap (λ (k : ℕ). getD s k 0) (sym a) ∙ h .at 0 (omega arith) in
-    let r = second (length w ∷ tag ∷ []) (w ++ rest) (at + 2) h refl in
-    let q = f (second w rest (at + 2 + length w) r refl) (omega (arith, length-append w rest)) in
-    anItem {from = at} (omega (arith, length-append w rest)) (subst (λ (x : ℕ). Items s end (at + 2 + x) n) (sym z) q)
+    let r = second (length w ∷ tag ∷ []) (w ++ rest) (at + 2) h refl in let q = f (second w rest (at + 2 + length w) r refl)
+    (omega (arith, length-append w rest)) in
+    anItem {from = at} (omega (arith, length-append w rest)) (rw (← z) at q)
 
 pub expression-items : {s : List ℕ} {at end : ℕ} (es : Expressions) → Lies s at (encodeExpressions es) → end ≡ at + length (encodeExpressions es)
     → Items s end at (T.count es)

@@ -1,13 +1,7 @@
 -- The least key of faults is that of the least fault, if places and numbers fit; and the answer by the least keys is that of the rules.
-use Prim.Native.Nat.{ℕ, _+_, _*_, _/_, _%_, _<_, _≤_, _^_}
-use mathlib.Core.Path.{_≡_, refl, sym, ap, _∙_}
+use Rattle.compiler.proofs.Basics.{ℕ, _+_, _*_, _/_, _%_, _<_, _≤_, _^_, _≡_, refl, sym, ap, _∙_, Bool, true, false, not, cond, List, [], _∷_}
+use Rattle.compiler.proofs.Basics.{arith, eqb, ltb, length, lt-ltb, le-ltb, eq-eqb, ne-eqb}
 use mathlib.Core.Logic.{_≢_}
-use mathlib.Core.Bool.{Bool, true, false, not, cond}
-use mathlib.Core.List.{List, [], _∷_}
-use native.Mathlib.Omega.{arith}
-use lib.Dec.{eqb, ltb}
-use lib.ListN.{length}
-use borrow.Author.Tests.{lt-ltb, le-ltb, eq-eqb, ne-eqb}
 use Rattle.language.specs.Constants.{Fault}
 use Rattle.compiler.proofs.Scoping.{Order, lt, ge, order}
 use Rattle.compiler.specs.Walked.{key, least, AllFit, andFit}
@@ -51,9 +45,11 @@ pub least-from : (f : Fault) (fs : List Fault) → f .number < 32 → AllFit fs 
 unfolding least leastFrom
 least-from f [] a h = refl
 least-from f (g ∷ gs) a (andFit p n h) =
-    ap (λ (z : ℕ). least z gs)
-    (ap (λ (b : Bool). cond b (key g) (key f)) (keys (g .place) (g .number) (f .place) (f .number) n a) ∙ cond-key (before g f) f g)
-    ∙ least-from (cond (before g f) g f) gs (cond-small (before g f) f g a n) h
+    rw (
+      keys (g .place) (g .number) (f .place) (f .number) n a,
+      cond-key (before g f) f g,
+      least-from (cond (before g f) g f) gs (cond-small (before g f) f g a n) h,
+    )
 
 -- from a number above all keys
 pub least-first : (f : Fault) (fs : List Fault) → AllFit (f ∷ fs) → least (2 ^ 37) (f ∷ fs) ≡ key (leastFrom f fs)
@@ -89,8 +85,7 @@ abbrev byKey : List ℕ → ℕ → Compiled
 byKey source k = C.Refused (refusal source (k % 32) (k / 32))
 
 key-refusal : (source : List ℕ) (f : Fault) → Fits f → byKey source (key f) ≡ C.Refused (refusal source (f .number) (f .place))
-key-refusal source f a =
-    let n : key f % 32 ≡ f .number = omega (arith, a .number) in let p : key f / 32 ≡ f .place = omega (arith, a .number) in rw (n, p) refl
+key-refusal source f a = let n : key f % 32 ≡ f .number = omega arith in let p : key f / 32 ≡ f .place = omega arith in rw (n, p) refl
 
 -- faults by their least key, and else what else is answered
 by-least : (source : List ℕ) (k size room : ℕ) (fs : List Fault) → AllFit fs → k ≡ least NONE fs → (other : Compiled) (rest : Refused)
@@ -100,7 +95,7 @@ unfolding least
 by-least source k size room [] a e other rest o = rw e (o refl)
 by-least source k size room (f ∷ fs) (andFit p n h) e other rest o =
     let z : k ≡ key (leastFrom f fs) = e ∙ least-first f fs (andFit p n h) in let x = least-fits f fs (record { place = p; number = n }) h in
-    let below : key (leastFrom f fs) < NONE = omega (arith, x .place, x .number) in
+    let below : key (leastFrom f fs) < NONE = omega arith in
     rw (z, lt-ltb (key (leastFrom f fs)) NONE below) (key-refusal source (leastFrom f fs) x)
 
 -- the end of the text, as far as it is told

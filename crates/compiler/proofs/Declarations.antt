@@ -1,22 +1,10 @@
 -- Names declared one after another.
-use Prim.Native.Nat.{ℕ, _+_, _*_, _≤_, _<_, _^_}
-use mathlib.Core.Path.{_≡_, refl, sym, ap, subst, _∙_}
-use mathlib.Core.List.{List, [], _∷_}
-use native.Mathlib.Omega.{arith}
-use lib.ListN.{length, getD}
-use Rattle.language.specs.Tree.{Name}
+use Rattle.compiler.proofs.Basics.{ℕ, _+_, _*_, _≤_, _<_, _^_, _≡_, refl, sym, ap, subst, _∙_, List, [], _∷_, arith, length, getD}
+use Rattle.compiler.proofs.Language.{Name, Scope, declared, inBlock, onFound, fault, declareAll, twice, encodeName, encodeNames, FineName}
+use Rattle.compiler.proofs.Language.{FineNames}
 use Rattle.language.specs.Names as N
-use Rattle.language.specs.Names.{Scope, declared, inBlock, onFound}
-use Rattle.language.specs.Constants.{fault}
-use Rattle.language.specs.Resolve.{declareAll}
-use Rattle.language.specs.Faults.{twice}
-use Rattle.tree.specs.Encoding.{encodeName, encodeNames}
-use Rattle.language.specs.Fine.{FineName, FineNames}
-use Rattle.compiler.specs.Scope.{Shows, Keeps, PushedName, Told, code, found, named, nameAt}
+use Rattle.compiler.proofs.Vocabulary.{Shows, Keeps, PushedName, Told, code, found, named, nameAt, State, Did, Faulted, Lies}
 use Rattle.compiler.proofs.Scoping.{keeps-all, keeps-then, keeps-lower, keeps-name, code-not, pushed-keeps, pushed-name}
-use Rattle.compiler.specs.declared.steps.State.{State}
-use Rattle.compiler.specs.Walked.{Did, Faulted}
-use Rattle.compiler.specs.Walks.{Lies}
 use Rattle.compiler.specs.Commands.{nothing, ReadyNames, Declares, Again}
 use Rattle.compiler.proofs.Done.{did-none, did-then, did-as, same-refl}
 use Rattle.compiler.proofs.Trees.{second}
@@ -63,12 +51,12 @@ module _ (text : List ℕ) {s₀ : List ℕ} {from end top height : ℕ} (st₀ 
         lies = y .lies;
         ends = y .ends;
         starts = omega arith;
-        shows = subst (λ (n : ℕ). Shows s₀ n (y .scope)) a (y .shows);
+        shows = rw a at (y .shows);
         keeps = keeps-all;
         many = omega arith;
         fine = y .fine;
-        same = ap (λ (h : ℕ). declareAll (y .scope) h (y .names)) b;
-        finish = λ t st′ d. subst (λ (h : ℕ). Did (twice text (y .scope) h (y .names)) nothing 0 t t st₀ st′) (sym b) d;
+        same = cc;
+        finish = λ t st′ d. rw b d;
       }
 
 pub record IsNames (s : List ℕ) (at end : ℕ) (ns : List Name) : Type 0 where
@@ -102,44 +90,36 @@ module _ (text : List ℕ) {s₀ : List ℕ} {from end top height : ℕ} {st₀ 
       → Again m place st r → PushedName s s₁ (top + 2 * k) at x → x ≡ (height + k) * 4 + 1
       → (y : ReadyNames s₀ from end top height) → NamesPart text st₀ y s at k st → NamesPart text st₀ y s₁ (at + 4) (k + 1) r
   unfolding declareAll twice code FineNames
-  names-next {s} {s₁} {at} {m} {place} {x} k {st} {r} l told ep ag pu ex y p =
-      let u = is-names (p .rest) (p .lies) (p .ends) l in
-      let n : nameAt s at ≡ u .name = keeps-name (p .keeps) (omega (arith, y .above, p .starts)) ∙ u .is in
-      let c : k + 1 + length (u .more) ≡ length (y .names) = omega (arith, p .many, ap length (u .same)) in
-      let rm : top + 2 * k + 2 ≤ y .base = omega (arith, y .room, c) in let lg : y .base ≤ length s = omega (arith, y .long, p .keeps .long) in
-      let w = N.local (height + k) in let hk : height + (k + 1) ≡ height + k + 1 = omega arith in
+  names-next {s} {s₁} {at} k {st} {r} l told ep ag pu ex y p =
+      let u = is-names (p .rest) (p .lies) (p .ends) l in let n : nameAt s at ≡ u .name = keeps-name (p .keeps) (omega arith) ∙ u .is in
+      let c : k + 1 + length (u .more) ≡ length (y .names) = omega (arith, ap length (u .same)) in let rm : top + 2 * k + 2 ≤ y .base = omega arith in
+      let lg : y .base ≤ length s = omega arith in let w = N.local (height + k) in let hk : height + (k + 1) ≡ height + k + 1 = omega arith in
       let tk : top + 2 * k + 2 ≡ top + 2 * (k + 1) = omega arith in let sc = p .scope in let sc′ = declared sc (u .name) w in
       record {
         rest = u .more;
         scope = sc′;
         lies = u .lies-more;
         ends = u .ends;
-        starts = omega (arith, p .starts);
-        shows = subst (λ (z : ℕ). Shows s₁ z sc′) tk
-            (subst (λ (z : Name). Shows s₁ (top + 2 * k + 2) (declared sc z w)) n (pushed-name pu rm lg w (p .shows) ex tt));
+        starts = omega arith;
+        shows = rw tk at (rw n at (pushed-name pu rm lg w (p .shows) ex tt));
         keeps = keeps-then (p .keeps) (keeps-lower (omega arith) (pushed-keeps (pu .pushed) rm lg));
         many = c;
         fine = subst FineNames (u .same) (p .fine) .1;
-        same = p .same ∙ ap (declareAll sc (height + k)) (u .same) ∙ ap (λ (z : ℕ). declareAll sc′ z (u .more)) (sym hk);
-        finish = λ t st′ d. p .finish t st′
-            (subst (λ (ns : List Name). Did (twice text sc (height + k) ns) nothing 0 t t st st′) (sym (u .same))
-            (did-as nothing 0 (did-then
-            (subst (λ (z : ℕ). Did (onFound (inBlock text sc (u .name)) [] (fault z 9)) nothing 0 t t st r) (ep ∙ ap (λ (z : Name). z .place) n)
-            (ag .by (inBlock text sc (u .name)) (told .by sc (p .shows) ∙ ap (λ (z : Name). found (inBlock text sc z)) n) t))
-            (subst (λ (z : ℕ). Did (twice text sc′ z (u .more)) nothing 0 t t r st′) hk d)) same-refl (λ v e. refl) (omega arith)));
+        same = cc;
+        finish = λ t st′ d. p .finish t st′ (rw (u .same) (did-as nothing 0
+            (did-then (rw (ep ∙ ap (λ (z : Name). z .place) n) at (ag .by (inBlock text sc (u .name)) (rw (told .by sc (p .shows), n)) t))
+            (rw hk at d)) same-refl (λ v e. refl) (omega arith)));
       }
 
   pub names-end : {s : List ℕ} {at : ℕ} (k : ℕ) {st : State} → end ≤ at → ((y : ReadyNames s₀ from end top height) → NamesPart text st₀ y s at k st)
       → Declares text s₀ s from end top height st₀ st
   unfolding declareAll twice encodeNames
   names-end {s} {at} k {st} l q = record {
-    by = λ y. let p = q y in let e = no-names (p .rest) (p .ends) l in
-        let c : top + 2 * k ≡ top + 2 * length (y .names) = omega (arith, p .many, ap length e) in record {
-          shows = subst (λ (z : ℕ). Shows s z (declareAll (y .scope) height (y .names))) c
-              (subst (λ (z : Scope). Shows s (top + 2 * k) z) (sym (p .same ∙ ap (declareAll (p .scope) (height + k)) e)) (p .shows));
+    by = λ y. let p = q y in let e = no-names (p .rest) (p .ends) l in let c : top + 2 * k ≡ top + 2 * length (y .names)
+        = omega (arith, ap length e) in record {
+          shows = rw c at (rw (← (p .same ∙ ap (declareAll (p .scope) (height + k)) e)) at (p .shows));
           keeps = p .keeps;
-          did = λ t. p .finish t st
-              (subst (λ (ns : List Name). Did (twice text (p .scope) (height + k) ns) nothing 0 t t st st) (sym e) (did-none 0));
+          did = λ t. p .finish t st (rw e (did-none 0));
         };
   }
 
@@ -148,11 +128,10 @@ module _ (text : List ℕ) {s₀ : List ℕ} {from end top height : ℕ} {st₀ 
   unfolding FineNames
   names-fit k l y p =
       let u = is-names (p .rest) (p .lies) (p .ends) l in
-      let c : k + 1 + length (u .more) ≡ length (y .names) = omega (arith, p .many, ap length (u .same)) in (
-        omega (arith, y .room, c, y .long, p .keeps .long),
-        omega (arith, y .heights, c),
-        omega (arith, y .small),
-        omega (arith, y .room, c),
-        subst
-            FineName (sym (keeps-name (p .keeps) (omega (arith, y .above, p .starts)) ∙ u .is)) (subst FineNames (u .same) (p .fine) .0),
+      let c : k + 1 + length (u .more) ≡ length (y .names) = omega (arith, ap length (u .same)) in (
+        omega arith,
+        omega arith,
+        omega arith,
+        omega arith,
+        subst FineName (sym (keeps-name (p .keeps) (omega arith) ∙ u .is)) (subst FineNames (u .same) (p .fine) .0),
       )

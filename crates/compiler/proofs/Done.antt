@@ -1,28 +1,16 @@
 -- Laws of what is done: faults, items, heights and labels, one after another.
-use Prim.Native.Nat.{ℕ, suc, _+_, _*_, _-_, _≤_, _<_, _/_, _%_, _^_, min}
-use mathlib.Core.Path.{_≡_, refl, sym, ap, subst, _∙_}
-use mathlib.Core.Bool.{true, false, cond}
-use mathlib.Core.List.{List, [], _∷_, _++_, append-nil}
-use native.Mathlib.Omega.{arith}
-use lib.ListN.{length, getD}
-use lib.Dec.{ltb}
-use borrow.Author.Tests.{lt-ltb, le-ltb, eq-eqb, ne-eqb}
+use Rattle.compiler.proofs.Basics.{ℕ, suc, _+_, _*_, _-_, _≤_, _<_, _/_, _%_, _^_, min, _≡_, refl, sym, ap, _∙_, true, false, cond, List, []}
+use Rattle.compiler.proofs.Basics.{_∷_, _++_, append-nil, arith, length, getD, ltb, lt-ltb, le-ltb, eq-eqb, ne-eqb}
 use Rattle.items.specs.Item as I
-use Rattle.language.specs.Names.{local, global, manifest, function, Found, unknown, known, onFound}
-use Rattle.language.specs.Constants.{Fault, fault}
-use Rattle.language.specs.Heights.{ofExpr, greatest}
-use Rattle.language.specs.Resolve.{ofMeaning}
+use Rattle.compiler.proofs.Language.{local, global, manifest, function, Found, unknown, known, onFound, Fault, fault, ofExpr, greatest}
+use Rattle.compiler.proofs.Language.{ofMeaning}
 use Rattle.code.specs.Generate as G
 use Rattle.code.specs.Generate.{exprCode, exprLabels}
 use Rattle.writing.specs.Text.{Puts, line, lines}
 use Rattle.writing.proofs.Laws.{puts-none, puts-then, puts-as, lines-then}
-use Rattle.compiler.specs.Scope.{code, found}
+use Rattle.compiler.proofs.Vocabulary.{code, found, State, Here, Node, inside, NodeAt, key, least, AllFit, noFit, andFit, Code, Did, Emits}
+use Rattle.compiler.proofs.Vocabulary.{Reached, Faulted, Means, Fresh, LeavesTo, exprSays}
 use Rattle.compiler.proofs.Scoping.{Order, lt, ge, order}
-use Rattle.compiler.specs.declared.steps.State.{State}
-use Rattle.compiler.specs.declared.steps.Here.{Here}
-use Rattle.compiler.specs.declared.steps.Node.{Node}
-use Rattle.compiler.specs.Walked.{inside, NodeAt, key, least, AllFit, noFit, andFit, Code, Wrote, Did, Emits, Reached, Faulted, Means, Fresh}
-use Rattle.compiler.specs.Walked.{LeavesTo, exprSays}
 
 -- ---- folds
 
@@ -66,7 +54,7 @@ module _ {st r : State} (high : r .high ≡ st .high) (worst : r .worst ≡ st .
   emits-one {i} p = record { text = puts-as p (append-nil (line i)); high = high; worst = worst; label = label }
 
 still : {m n : ℕ} → n ≡ m → (t : List ℕ) → Puts [] m n t t
-still {m} e t = subst (λ (n : ℕ). Puts [] m n t t) (sym e) puts-none
+still e t = rw e puts-none
 
 module _ {h : ℕ} {st r : State} (at : r .at ≡ st .at) (worst : r .worst ≡ st .worst) (label : r .label ≡ st .label) where
   pub reached-up : st .high < h → r .high ≡ h → Reached h st r
@@ -81,33 +69,19 @@ fault-not : {place number : ℕ} → fault place number ≡ [] → ⊥
 fault-not {place} {number} e = let z : length (fault place number) ≡ 0 = ap length e in omega arith
 
 module _ {place number : ℕ} {st r : State} (fits : (place < 2 ^ 32) × (number < 32)) (label : r .label ≡ st .label) where
+  faulted : r .worst ≡ least (st .worst) (fault place number) → Faulted place number st r
+  faulted e = record {
+    by = λ code t. record
+        { worst = e; fits = andFit (fits .0) (fits .1) noFit; few = omega arith; grows = omega arith; clean = λ n. absurd (fault-not n) };
+  }
+
   pub faulted-new : place * 32 + number < st .worst → r .worst ≡ place * 32 + number → Faulted place number st r
   unfolding least
-  faulted-new l e =
-      record {
-        by = λ code t. record {
-          worst = e ∙ rw (lt-ltb (place * 32 + number) (st .worst) l);
-          fits = andFit (fits .0) (fits .1) noFit;
-          few = omega arith;
-          grows = omega
-              arith;
-          clean = λ n. absurd (fault-not n);
-        };
-      }
+  faulted-new l e = faulted (e ∙ rw (lt-ltb (place * 32 + number) (st .worst) l))
 
   pub faulted-old : st .worst ≤ place * 32 + number → r .worst ≡ st .worst → Faulted place number st r
   unfolding least
-  faulted-old l e =
-      record {
-        by = λ code t. record {
-          worst = e ∙ rw (le-ltb (place * 32 + number) (st .worst) l);
-          fits = andFit (fits .0) (fits .1) noFit;
-          few = omega arith;
-          grows = omega
-              arith;
-          clean = λ n. absurd (fault-not n);
-        };
-      }
+  faulted-old l e = faulted (e ∙ rw (le-ltb (place * 32 + number) (st .worst) l))
 
 -- ---- one after another
 
@@ -115,7 +89,7 @@ pub emits-then : {xs ys : List I.Item} {hs ks : List ℕ} {t t₁ t₂ : List �
     → Emits (xs ++ ys) (hs ++ ks) t t₂ st b
 emits-then {xs} {ys} {hs} {ks} {st = st} f g = record {
   text = puts-as (puts-then (f .text) (g .text)) (lines-then xs ys);
-  high = g .high ∙ ap (λ (z : ℕ). greatest z ks) (f .high) ∙ greatest-then (st .high) hs ks;
+  high = rw (g .high, f .high, greatest-then (st .high) hs ks);
   worst = g .worst ∙ f .worst;
   label = g .label ∙ f .label;
 }
@@ -124,13 +98,12 @@ emits-then {xs} {ys} {hs} {ks} {st = st} f g = record {
 pub emits-did : {xs : List I.Item} {hs : List ℕ} {t t′ : List ℕ} {st r : State} (code : ℕ → Code) → Emits xs hs t t′ st r
     → ((n : ℕ) → code n ≡ record { items = xs; heights = hs; labels = 0 }) → Did [] code 0 t t′ st r
 unfolding least
-emits-did {xs} {hs} {t} {t′} {st} {r} code f e = record {
+emits-did {xs} {hs} {t} {t′} {st} code f e = record {
   worst = f .worst;
   fits = noFit;
-  few = omega (arith, f .label);
-  grows = omega (arith, f .label);
-  clean = λ n.
-      subst (λ (c : Code). Wrote c t t′ st r) (sym (e (st .label))) (record { text = f .text; high = f .high; label = omega (arith, f .label) });
+  few = omega arith;
+  grows = omega arith;
+  clean = λ n. rw (e (st .label)) (record { text = f .text; high = f .high; label = omega arith });
 }
 
 -- what is written behind code
@@ -150,29 +123,26 @@ module _ {fs : List Fault} {f : ℕ → Code} {m : ℕ} {t t₁ t₂ : List ℕ}
   did-emit {xs} {hs} e = record {
     worst = e .worst ∙ x .worst;
     fits = x .fits;
-    few = omega (arith, x .few, e .label);
-    grows = omega (arith, x .grows, e .label);
+    few = omega arith;
+    grows = omega arith;
     clean = λ n. let w = x .clean n in record {
       text = puts-as (puts-then (w .text) (e .text)) (lines-then (f (st .label) .items) xs);
-      high = e .high ∙ ap (λ (z : ℕ). greatest z hs) (w .high) ∙ greatest-then (st .high) (f (st .label) .heights) hs;
+      high = rw (e .high, w .high, greatest-then (st .high) (f (st .label) .heights) hs);
       label = e .label ∙ w .label;
     };
   }
 
   pub did-then : {gs : List Fault} {g : ℕ → Code} {k : ℕ} → Did gs g k t₁ t₂ a b → Did (fs ++ gs) (and f g) (m + k) t t₂ st b
-  did-then {gs} {g} {k} y = record {
-    worst = y .worst ∙ ap (λ (z : ℕ). least z gs) (x .worst) ∙ least-then (st .worst) fs gs;
+  did-then {gs} {g} y = record {
+    worst = rw (y .worst, x .worst, least-then (st .worst) fs gs);
     fits = fit-then (x .fits) (y .fits);
-    few = omega (arith, x .few, y .few);
-    grows = omega (arith, x .grows, y .grows);
-    clean = λ n.
-        let w = x .clean (nil-left fs gs n) in let v = subst (λ (z : ℕ). Wrote (g z) t₁ t₂ a b) (w .label) (y .clean (nil-right fs gs n)) in
-        let l = f (st .label) .labels in
+    few = omega arith;
+    grows = omega arith;
+    clean = λ n. let w = x .clean (nil-left fs gs n) in let v = rw (w .label) at (y .clean (nil-right fs gs n)) in let l = f (st .label) .labels in
         record {
           text = puts-as (puts-then (w .text) (v .text)) (lines-then (f (st .label) .items) (g (st .label + l) .items));
-          high = v .high ∙ ap (λ (z : ℕ). greatest z (g (st .label + l) .heights)) (w .high) ∙ greatest-then (st .high) (f (st .label) .heights)
-              (g (st .label + l) .heights);
-          label = omega (arith, v .label, w .label);
+          high = rw (v .high, w .high, greatest-then (st .high) (f (st .label) .heights) (g (st .label + l) .heights));
+          label = omega arith;
         };
   }
 
@@ -184,8 +154,8 @@ module _ {fs : List Fault} {f : ℕ → Code} {m : ℕ} {t t₁ t₂ : List ℕ}
   did-put {xs} x e = record {
     worst = e .worst ∙ x .worst;
     fits = x .fits;
-    few = omega (arith, x .few, e .label);
-    grows = omega (arith, x .grows, e .label);
+    few = omega arith;
+    grows = omega arith;
     clean = λ n. let w = x .clean n in record {
       text = puts-as (puts-then (w .text) (e .text)) (lines-then (f (st .label) .items) xs);
       high = e .high ∙ w .high;
@@ -196,16 +166,15 @@ module _ {fs : List Fault} {f : ℕ → Code} {m : ℕ} {t t₁ t₂ : List ℕ}
   pub did-after : {xs : List I.Item} {hs : List ℕ} → Emits xs hs t t₁ st a → Did fs f m t₁ t₂ a b
       → Did fs (λ n. record { items = xs ++ f n .items; heights = hs ++ f n .heights; labels = f n .labels }) m t t₂ st b
   did-after {xs} {hs} e x = record {
-    worst = x .worst ∙ ap (λ (z : ℕ). least z fs) (e .worst);
+    worst = rw (x .worst, e .worst);
     fits = x .fits;
-    few = omega (arith, x .few, e .label);
-    grows = omega (arith, x .grows, e .label);
-    clean = λ n.
-        let w = subst (λ (z : ℕ). Wrote (f z) t₁ t₂ a b) (e .label) (x .clean n) in
+    few = omega arith;
+    grows = omega arith;
+    clean = λ n. let w = rw (e .label) at (x .clean n) in
         record {
           text = puts-as (puts-then (e .text) (w .text)) (lines-then xs (f (st .label) .items));
-          high = w .high ∙ ap (λ (z : ℕ). greatest z (f (st .label) .heights)) (e .high) ∙ greatest-then (st .high) hs (f (st .label) .heights);
-          label = omega (arith, w .label, e .label);
+          high = rw (w .high, e .high, greatest-then (st .high) hs (f (st .label) .heights));
+          label = omega arith;
         };
   }
 
@@ -227,7 +196,7 @@ pub same-refl : {a : List Fault} → Same a a
 same-refl = record { least = λ x. refl; none = λ e. e; fits = λ f. f }
 
 pub same-eq : {a b : List Fault} → a ≡ b → Same a b
-same-eq {a} {b} e = subst (λ (z : List Fault). Same a z) e same-refl
+same-eq e = rw (← e) same-refl
 
 step-min : (k x : ℕ) → cond (ltb k x) k x ≡ min x k
 step-min k x = by (order k x)
@@ -240,16 +209,22 @@ least-min : (x k : ℕ) (a : List Fault) → least (min x k) a ≡ min (least x 
 unfolding least
 least-min x k [] = refl
 least-min x k (f ∷ a) =
-    let e : cond (ltb (key f) (min x k)) (key f) (min x k) ≡ min (cond (ltb (key f) x) (key f) x) k = step-min (key f) (min x k) ∙ omega arith ∙ ap
-    (λ (z : ℕ). min z k) (sym (step-min (key f) x)) in ap (λ (z : ℕ). least z a) e ∙ least-min (cond (ltb (key f) x) (key f) x) k a
+    let e : cond (ltb (key f) (min x k)) (key f) (min x k) ≡ min (cond (ltb (key f) x) (key f) x) k = step-min (key f) (min x k) ∙ omega arith
+    ∙ ap (λ (z : ℕ). min z k) (sym (step-min (key f) x)) in rw (e, least-min (cond (ltb (key f) x) (key f) x) k a)
 
 least-swap : (x : ℕ) (a b : List Fault) → least x (a ++ b) ≡ least x (b ++ a)
 unfolding least
 least-swap x [] b = ap (least x) (sym (append-nil b))
 least-swap x (f ∷ a) b =
-    ap (λ (z : ℕ). least z (a ++ b)) (step-min (key f) x) ∙ least-swap (min x (key f)) a b ∙ least-min x (key f) (b ++ a)
-    ∙ ap (λ (z : ℕ). min z (key f)) (sym (least-then x b a)) ∙ sym (least-min (least x b) (key f) a) ∙ ap (λ (z : ℕ). least z a)
-    (sym (step-min (key f) (least x b))) ∙ least-then x b (f ∷ a)
+    cc (
+      step-min (key f) x,
+      least-swap (min x (key f)) a b,
+      least-min x (key f) (b ++ a),
+      least-then x b a,
+      least-min (least x b) (key f) a,
+      step-min (key f) (least x b),
+      least-then x b (f ∷ a),
+    )
 
 pub same-swap : (a b : List Fault) → Same (a ++ b) (b ++ a)
 same-swap a b =
@@ -261,51 +236,46 @@ same-then p q = record { least = λ x. p .least x ∙ q .least x; none = λ e. p
 
 pub same-both : {a b c d : List Fault} → Same a b → Same c d → Same (a ++ c) (b ++ d)
 same-both {a} {b} {c} {d} p q = record {
-  least = λ x. sym (least-then x a c) ∙ q .least _ ∙ ap (λ (z : ℕ). Rattle.compiler.specs.Walked.least z d) (p .least x) ∙ least-then x b d;
+  least = λ x. cc (least-then x a c, q .least _, p .least x, least-then x b d);
   none = λ e. let u = p .none (nil-left b d e) in let v = q .none (nil-right b d e) in rw (u, v);
   fits = λ f. fit-then (p .fits (fit-left a c f)) (q .fits (fit-right a c f));
 }
 
 pub did-as : {fs gs : List Fault} {f : ℕ → Code} (g : ℕ → Code) {m : ℕ} (k : ℕ) {t t′ : List ℕ} {st r : State} → Did fs f m t t′ st r → Same fs gs
     → ((n : ℕ) → gs ≡ [] → f n ≡ g n) → m ≤ k → Did gs g k t t′ st r
-did-as {fs} {gs} {f} g {m} k {t} {t′} {st} {r} x s e l = record {
+did-as g {m} k {t} {t′} {st} {r} x s e l = record {
   worst = x .worst ∙ s .least (st .worst);
   fits = s .fits (x .fits);
-  few = omega (arith, x .few);
+  few = omega arith;
   grows = x .grows;
-  clean = λ n. subst (λ (c : Code). Wrote c t t′ st r) (e (st .label) n) (x .clean (s .none n));
+  clean = λ n. rw (e (st .label) n) at (x .clean (s .none n));
 }
 
 -- the same at its first label
 pub did-at : {fs gs : List Fault} {f : ℕ → Code} (g : ℕ → Code) {m : ℕ} (k : ℕ) {t t′ : List ℕ} {st r : State} → Did fs f m t t′ st r → Same fs gs
     → (gs ≡ [] → f (st .label) ≡ g (st .label)) → m ≤ k → Did gs g k t t′ st r
-did-at {fs} {gs} {f} g {m} k {t} {t′} {st} {r} x s e l = record {
+did-at g {m} k {t} {t′} {st} {r} x s e l = record {
   worst = x .worst ∙ s .least (st .worst);
   fits = s .fits (x .fits);
-  few = omega (arith, x .few);
+  few = omega arith;
   grows = x .grows;
-  clean = λ n. subst (λ (c : Code). Wrote c t t′ st r) (e n) (x .clean (s .none n));
+  clean = λ n. rw (e n) at (x .clean (s .none n));
 }
 
 -- after new labels
 pub did-fresh : {fs : List Fault} {f : ℕ → Code} {k m : ℕ} {t t′ : List ℕ} {st a b : State} → Fresh k st a → Did fs f m t t′ a b
     → Did fs (λ n. record { items = f (n + k) .items; heights = f (n + k) .heights; labels = k + f (n + k) .labels }) (k + m) t t′ st b
-did-fresh {fs} {f} {k} {m} {t} {t′} {st} {a} {b} e x = record {
-  worst = x .worst ∙ ap (λ (z : ℕ). least z fs) (e .worst);
+did-fresh e x = record {
+  worst = rw (x .worst, e .worst);
   fits = x .fits;
-  few = omega (arith, x .few, e .label);
-  grows = omega (arith, x .grows, e .label);
-  clean = λ n.
-      let w = subst (λ (z : ℕ). Wrote (f z) t t′ a b) (e .label) (x .clean n) in
-      record {
-        text = subst (λ (z : ℕ). Puts (lines (f (st .label + k) .items)) z (b .at) t t′) (e .at) (w .text);
-        high = w .high ∙ ap (λ (z : ℕ). greatest z (f (st .label + k) .heights)) (e .high);
-        label = omega (arith, w .label, e .label);
-      };
+  few = omega arith;
+  grows = omega arith;
+  clean = λ n. let w = rw (e .label) at (x .clean n) in
+      record { text = rw (e .at) at (w .text); high = rw (w .high, e .high); label = omega arith };
 }
 
 pub leaves-wrong : {to place : ℕ} {t : List ℕ} {st r : State} → to ≡ 0 → Faulted place 13 st r → LeavesTo to place t t st r
-leaves-wrong {to} {place} {t} {st} {r} e f = record { did = rw (eq-eqb to 0 e) (f .by _ t) }
+leaves-wrong {to} {place} {t} e f = record { did = rw (eq-eqb to 0 e) (f .by _ t) }
 
 pub leaves-jump : {to place : ℕ} {t t′ : List ℕ} {st r : State} → (to ≡ 0 → ⊥) → Emits (G.JL to ∷ []) [] t t′ st r → LeavesTo to place t t′ st r
 leaves-jump {to} e f = record { did = rw (ne-eqb to 0 e) (emits-did _ f (λ n. refl)) }
@@ -355,9 +325,7 @@ module _ (place : ℕ) {m : ℕ} {t t′ : List ℕ} {st r : State} where
   value-0 q f et = record { by = by }
     where
       by : (strings h : ℕ) (w : Found) → m ≡ found w → Did (onFound w (fault place 8) []) (exprSays strings h (ofMeaning w)) 0 t t′ st r
-      by strings h unknown e =
-          subst (λ (z : List ℕ). Did (fault place 8) (exprSays strings h (ofMeaning unknown)) 0 t z st r) (sym et)
-          (f .by (exprSays strings h (ofMeaning unknown)) t)
+      by strings h unknown e = rw et (f .by (exprSays strings h (ofMeaning unknown)) t)
       by strings h (known (local k)) e = absurd (omega arith)
       by strings h (known (global k)) e = absurd (omega arith)
       by strings h (known (manifest k)) e = absurd (omega arith)
@@ -379,14 +347,14 @@ module _ (place : ℕ) {m : ℕ} {t t′ : List ℕ} {st r : State} where
 pub node-is : {s : List ℕ} {end : ℕ} (n : Node) {size e₃ e₂ e₁ : ℕ} → n .inner ≡ end - 4 → size ≡ getD s (n .inner) 0 → n .start ≡ n .inner - size
     → e₃ ≡ end - 3 → n .value ≡ getD s e₃ 0 → e₂ ≡ end - 2 → n .place ≡ getD s e₂ 0 → e₁ ≡ end - 1 → n .kind ≡ getD s e₁ 0 → n .value < 2 ^ 32
     → n .place < 2 ^ 32 → NodeAt s end n
-node-is {s} {end} n {size} i z st a v b p c k fv fp = record {
+node-is n {size} i z st a v b p c k fv fp = record {
   value-fits = fv;
   place-fits = fp;
   inner = i;
-  start = st ∙ ap (λ (x : ℕ). x - size) i ∙ ap (λ (x : ℕ). end - 4 - x) (z ∙ ap (λ (x : ℕ). getD s x 0) i);
-  value = v ∙ ap (λ (x : ℕ). getD s x 0) a;
-  place = p ∙ ap (λ (x : ℕ). getD s x 0) b;
-  kind = k ∙ ap (λ (x : ℕ). getD s x 0) c;
+  start = cc;
+  value = rw (v, a);
+  place = rw (p, b);
+  kind = rw (k, c);
 }
 
 pub inside-is : (here : Here) {l : ℕ} → l ≡ here .left - 1

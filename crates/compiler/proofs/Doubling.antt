@@ -1,26 +1,14 @@
 -- The labels of a list after INTO judged one after another, with those before each marked: what is refused in them.
-use Prim.Native.Nat.{ℕ, _+_, _-_, _/_, _%_, _≤_, _<_, _^_}
-use mathlib.Core.Path.{_≡_, refl, sym, ap, subst, _∙_}
-use mathlib.Core.Bool.{Bool, true, false, cond}
-use mathlib.Core.List.{List, [], _∷_, _++_, append-nil, append-assoc}
-use native.Mathlib.Omega.{arith}
-use lib.ListN.{length, getD, set, replicate, length-set, length-replicate}
-use lib.Dec.{eqb}
-use borrow.Author.Tests.{eqb-true, eqb-false}
+use Rattle.compiler.proofs.Basics.{ℕ, _+_, _-_, _/_, _%_, _≤_, _<_, _^_, _≡_, refl, sym, ap, _∙_, Bool, true, false, cond, List, [], _∷_, _++_}
+use Rattle.compiler.proofs.Basics.{append-nil, append-assoc, arith, length, getD, set, replicate, length-set, length-replicate, eqb, eqb-true}
+use Rattle.compiler.proofs.Basics.{eqb-false}
 use Rattle.language.specs.Tree as T
-use Rattle.language.specs.Tree.{Label, Commands}
-use Rattle.language.specs.Names.{Scope}
-use Rattle.language.specs.Constants.{Fault, fault, Judged, good, refused, judge, judgedWord}
+use Rattle.compiler.proofs.Language.{Label, Commands, Scope, fault, Judged, good, refused, judge, judgedWord, CaseLabel, hasCase, hasDefault}
+use Rattle.compiler.proofs.Language.{labelsBefore, labelsOf, goodCase, doubledCase, doubledLabel, doubled}
 use Rattle.language.specs.Resolved as R
-use Rattle.language.specs.Resolved.{CaseLabel, hasCase, hasDefault}
-use Rattle.language.specs.Resolve.{labelsBefore, labelsOf, goodCase}
-use Rattle.language.specs.Faults.{doubledCase, doubledLabel, doubled}
-use Rattle.compiler.specs.Scope.{Shows}
-use Rattle.compiler.specs.declared.steps.State.{State}
-use Rattle.compiler.specs.declared.steps.Node.{Node}
+use Rattle.compiler.proofs.Vocabulary.{Shows, State, Node, NodeAt, Did, Faulted}
 use Rattle.compiler.specs.declared.steps.Verdict.{Verdict}
 use Rattle.compiler.specs.declared.labels.Span.{Span}
-use Rattle.compiler.specs.Walked.{NodeAt, Did, Faulted}
 use Rattle.compiler.specs.Commands.{nothing}
 use Rattle.compiler.specs.Locals.{Says, fit, unfit, Judges, Blames}
 use Rattle.compiler.specs.Switching.{labelFaults, ReadyLabels, JudgesLabels}
@@ -42,12 +30,12 @@ labels-then text sc (T.case p c ∷ ls) ms = ap (goodCase (judge text sc c)) (la
     go : (j : Judged) → goodCase j (labelsOf text sc ls ++ labelsOf text sc ms) ≡ goodCase j (labelsOf text sc ls) ++ labelsOf text sc ms
     go (good v) = refl
     go (refused fs) = refl
-labels-then text sc (T.default p ∷ ls) ms = ap (λ (z : List CaseLabel). R.default ∷ z) (labels-then text sc ls ms)
+labels-then text sc (T.default p ∷ ls) ms = rw (labels-then text sc ls ms)
 
 case-after-case : (v w : ℕ) (ls : List CaseLabel) → hasCase v (ls ++ (R.case w ∷ [])) ≡ cond (eqb v w) true (hasCase v ls)
 unfolding hasCase
 case-after-case v w [] = refl
-case-after-case v w (R.case u ∷ ls) = ap (λ (b : Bool). cond (eqb v u) true b) (case-after-case v w ls) ∙ swap (eqb v u) (eqb v w)
+case-after-case v w (R.case u ∷ ls) = rw (case-after-case v w ls, swap (eqb v u) (eqb v w))
   where
     swap : (a b : Bool) → cond a true (cond b true (hasCase v ls)) ≡ cond b true (cond a true (hasCase v ls))
     swap true true = refl
@@ -58,7 +46,7 @@ case-after-case v w (R.default ∷ ls) = case-after-case v w ls
 case-after-default : (v : ℕ) (ls : List CaseLabel) → hasCase v (ls ++ (R.default ∷ [])) ≡ hasCase v ls
 unfolding hasCase
 case-after-default v [] = refl
-case-after-default v (R.case u ∷ ls) = ap (λ (b : Bool). cond (eqb v u) true b) (case-after-default v ls)
+case-after-default v (R.case u ∷ ls) = rw (case-after-default v ls)
 case-after-default v (R.default ∷ ls) = case-after-default v ls
 
 default-after-case : (w : ℕ) (ls : List CaseLabel) → hasDefault (ls ++ (R.case w ∷ [])) ≡ hasDefault ls
@@ -86,7 +74,7 @@ marks-none {n = n} z e =
 module _ {i place : ℕ} {seen seen′ : List ℕ} {st r : State} (n : Notes i place seen seen′ st r) where
   note-did : (b : Bool) → i / 8 < length seen → flag seen i ≡ cond b 1 0 → (t : List ℕ) → Did (cond b (fault place 12) []) nothing 0 t t st r
   note-did true l e t = n .again (λ z. let k : _≡_ {A = ℕ} 1 0 = sym e ∙ z in omega arith) .by nothing t
-  note-did false l e t = subst (λ (x : State). Did [] nothing 0 t t st x) (sym (n .fresh l e)) (did-none 0)
+  note-did false l e t = rw (n .fresh l e) (did-none 0)
 
 module _ {v place : ℕ} {seen seen′ : List ℕ} {st r : State} {ls : List CaseLabel} (n : Notes v place seen seen′ st r) (low : v < 65536)
     (m : Marks seen ls) where
@@ -98,43 +86,43 @@ module _ {v place : ℕ} {seen seen′ : List ℕ} {st r : State} {ls : List Cas
   }
     where
       there : (w : ℕ) (b : Bool) → eqb w v ≡ b → _≡_ {A = ℕ} (cond (cond b true (hasCase w ls)) 1 0) (cond (hasCase w (ls ++ (R.case v ∷ []))) 1 0)
-      there w b e = ap (λ (x : Bool). cond x 1 0) (sym (case-after-case w v ls ∙ ap (λ (x : Bool). cond x true (hasCase w ls)) e))
+      there w b e = rw (case-after-case w v ls, e)
 
       go : (w : ℕ) → w < 65536 → (b : Bool) → eqb w v ≡ b → flag seen′ w ≡ cond (hasCase w (ls ++ (R.case v ∷ []))) 1 0
-      go w l true e = ap (λ (k : ℕ). flag seen′ k) (eqb-true w v e) ∙ n .here (omega (arith, m .long)) ∙ there w true e
+      go w l true e = ap (λ (k : ℕ). flag seen′ k) (eqb-true w v e) ∙ n .here (omega arith) ∙ there w true e
       go w l false e = n .other w (eqb-false w v e) ∙ m .cases w l ∙ there w false e
 
   case-did : (t : List ℕ) → Did (cond (hasCase v ls) (fault place 12) []) nothing 0 t t st r
-  case-did = note-did n (hasCase v ls) (omega (arith, m .long)) (m .cases v low)
+  case-did = note-did n (hasCase v ls) (omega arith) (m .cases v low)
 
 module _ {place : ℕ} {seen seen′ : List ℕ} {st r : State} {ls : List CaseLabel} (n : Notes 65536 place seen seen′ st r) (m : Marks seen ls) where
   default-marks : Marks seen′ (ls ++ (R.default ∷ []))
   default-marks = record {
     long = n .long ∙ m .long;
     cases = λ w l. n .other w (λ e. omega arith) ∙ m .cases w l ∙ ap (λ (b : Bool). cond b 1 0) (sym (case-after-default w ls));
-    default = n .here (omega (arith, m .long)) ∙ ap (λ (b : Bool). cond b 1 0) (sym (default-after-default ls));
+    default = n .here (omega arith) ∙ ap (λ (b : Bool). cond b 1 0) (sym (default-after-default ls));
   }
 
   default-did : (t : List ℕ) → Did (cond (hasDefault ls) (fault place 12) []) nothing 0 t t st r
-  default-did = note-did n (hasDefault ls) (omega (arith, m .long)) (m .default)
+  default-did = note-did n (hasDefault ls) (omega arith) (m .default)
 
 pub note-first : {i place x p : ℕ} {seen seen′ : List ℕ} {st : State} → i / 8 < length seen → x ≡ getD seen (i / 8) 0 → p ≡ 2 ^ (i % 8)
     → x / p % 2 ≡ 0 → seen′ ≡ set seen (i / 8) (x + p) → Notes i place seen seen′ st st
-note-first {i} {place} {x} {p} {seen = seen} {seen′} l ex ep z e = record {
+note-first {i} {place} {x} {p} {seen = seen} l ex ep z e = record {
   long = ap length e ∙ length-set seen (i / 8) (x + p);
-  here = λ a. ap (λ (y : List ℕ). flag y i) e ∙ flag-here seen i ex ep z l;
-  other = λ k n. ap (λ (y : List ℕ). flag y k) e ∙ flag-other seen i ex ep z l k n;
+  here = λ a. rw (e, flag-here seen i ex ep z l);
+  other = λ k n. rw (e, flag-other seen i ex ep z l k n);
   fresh = λ a b. refl;
   again = λ n. absurd (n (flag-free seen i ex ep z));
 }
 
 pub note-again : {i place x p : ℕ} {seen : List ℕ} {st r : State} → x ≡ getD seen (i / 8) 0 → p ≡ 2 ^ (i % 8) → (x / p % 2 ≡ 0 → ⊥)
     → Faulted place 12 st r → Notes i place seen seen st r
-note-again {i} {p = p} {seen = seen} ex ep n f =
+note-again {i} {seen = seen} ex ep n f =
     record { long = refl; here = λ a. flag-taken seen i there; other = λ k n. refl; fresh = λ a z. absurd (there z); again = λ n. f }
   where
     there : flag seen i ≡ 0 → ⊥
-    there z = n (ap (λ (y : ℕ). y / p % 2) ex ∙ ap (λ (y : ℕ). getD seen (i / 8) 0 / y % 2) ep ∙ z)
+    there z = n (rw (ex, ep, z))
 
 pub note-none : {i place : ℕ} {seen : List ℕ} {st : State} → length seen ≤ i / 8 → Notes i place seen seen st st
 note-none {i} {seen = seen} l = record {
@@ -159,9 +147,8 @@ module _ (text : List ℕ) {s : List ℕ} {end : ℕ} (top : ℕ) (st r : State)
       go : After seen seen′
       go sc before (T.case p c) sh (aCase a e i en f) m = absurd (q (nd .kind ∙ a))
       go sc before (T.default p) sh (aDefault a e) m = record {
-        marks = subst (λ (z : List CaseLabel). Marks seen′ z) (sym (labels-then text sc before (T.default p ∷ []))) (default-marks w m);
-        did = λ t. subst (λ (k : ℕ). Did (cond (hasDefault (labelsOf text sc before)) (fault k 12) []) nothing 0 t t st r) (nd .place ∙ e)
-            (default-did w m t);
+        marks = rw (labels-then text sc before (T.default p ∷ [])) (default-marks w m);
+        did = λ t. rw (nd .place ∙ e) at (default-did w m t);
       }
 
   -- a CASE, by what its constant is judged
@@ -177,26 +164,21 @@ module _ (text : List ℕ) {s : List ℕ} {end : ℕ} (top : ℕ) (st r : State)
         go : After seen seen′
         go sc before (T.case p c) sh (aCase {lo = lo} a e i en fine) m =
             let k = f p (labelsOf text sc before) (judge text sc c) (g .by sc lo c sh fine i (nd .inner ∙ en)) e (judged-word text sc c sh fine) m in
-            record { marks = subst (λ (z : List CaseLabel). Marks seen′ z) (sym (labels-then text sc before (T.case p c ∷ []))) (k .0); did = k .1 }
-        go sc before (T.default p) sh (aDefault a e) m = absurd (omega (arith, nd .kind))
+            record { marks = rw (labels-then text sc before (T.case p c ∷ [])) (k .0); did = k .1 }
+        go sc before (T.default p) sh (aDefault a e) m = absurd (omega arith)
 
     pub label-refused : {seen : List ℕ} → (j .number ≡ 0 → ⊥) → Blames j st r → JudgesLabel text s end top seen seen st r
     label-refused {seen} z b = case-by go
       where
         go : By seen seen
         go p ls (good v) (fit w) e low m = absurd (z w)
-        go p ls (refused fs) (unfit a k w) e low m =
-            (subst (λ (x : List CaseLabel). Marks seen x) (sym (append-nil ls)) m, b .by (refused fs) (unfit a k w))
+        go p ls (refused fs) (unfit a k w) e low m = (rw (append-nil ls) m, b .by (refused fs) (unfit a k w))
 
     pub label-case : {seen seen′ : List ℕ} → j .number ≡ 0 → Notes (j .word) (n .place) seen seen′ st r → JudgesLabel text s end top seen seen′ st r
     label-case {seen} {seen′} z w = case-by go
       where
         go : By seen seen′
-        go p ls (good v) (fit k) e low m = (
-          case-marks w low m,
-          λ t. subst (λ (x : ℕ). Did (cond (hasCase (j .word) ls) (fault x 12) []) nothing 0 t t st r) (nd .place ∙ e)
-              (case-did w low m t),
-        )
+        go p ls (good v) (fit k) e low m = (case-marks w low m, λ t. rw (nd .place ∙ e) at (case-did w low m t))
         go p ls (refused fs) (unfit a k u) e low m = absurd (k (sym a ∙ z))
 
 -- ---- all labels of a command, and of all commands
@@ -218,18 +200,17 @@ module _ (text : List ℕ) {s : List ℕ} {from end top : ℕ} (st₀ : State) w
 
   pub own-begin : {seen : List ℕ} (y : Listed (LabelAt s) s from end top) (first : List Label) → Marks seen (labelsOf text (y .scope) first)
       → OwnPart y first seen from st₀
-  own-begin {seen} y first m = left-all (Rest y first seen st₀) (y .row) (record { before = first; marks = m; finish = λ seen′ st′ d. d })
+  own-begin {seen} y first m = left-all (y .row) (record { before = first; marks = m; finish = λ seen′ st′ d. d })
 
   pub own-next : {at next : ℕ} {seen seen₁ : List ℕ} {st r : State} → at < end → NextItem s at end next → JudgesLabel text s next top seen seen₁ st r
       → (y : Listed (LabelAt s) s from end top) (first : List Label) → OwnPart y first seen at st → OwnPart y first seen₁ next r
   unfolding doubled
   own-next {seen₁ = seen₁} {st} {r} l n j y first p = let sc = y .scope in
-      left-next (Rest y first seen₁ r) l n p
-      (λ x xs e q h. let b = h .before in let k = j .by sc b x (y .shows) q (h .marks) in record {
+      left-next l n p (λ x xs e q h. let b = h .before in let k = j .by sc b x (y .shows) q (h .marks) in record {
         before = b ++ (x ∷ []);
         marks = k .marks;
         finish = λ seen′ st′ d. h .finish seen′ st′ (record {
-          marks = subst (λ (z : List Label). Marks seen′ (labelsOf text sc z)) (append-assoc b (x ∷ []) xs) (d .marks);
+          marks = rw (append-assoc b (x ∷ []) xs) at (d .marks);
           did = λ t. did-as nothing 0 (did-then (k .did t) (d .did t)) same-refl (λ v z. refl) (omega arith);
         });
       })
@@ -240,18 +221,13 @@ module _ (text : List ℕ) {s : List ℕ} {from end top : ℕ} (st₀ : State) w
   unfolding doubled
   own-end {seen = seen} {st} l p = record {
     by = λ y first m. let k = left-end l (p y first m) in
-        k .finish seen st (record {
-          marks = subst (λ (z : List Label). Marks seen (labelsOf text (y .scope) z)) (sym (append-nil (k .before))) (k .marks);
-          did = λ t. did-none
-              0;
-        });
+        k .finish seen st (record { marks = rw (append-nil (k .before)) (k .marks); did = λ t. did-none 0 });
   }
 
 among-is : (text : List ℕ) (sc : Scope) (before : List Label) (cs : Commands) → faultsAmong text sc before (marks cs) ≡ labelFaults text sc before cs
 unfolding faultsAmong labelFaults marks
 among-is text sc before T.noCommands = refl
-among-is text sc before (T.andCommand c cs) =
-    ap (λ (z : List Fault). doubled text sc before (labelsBefore c) ++ z) (among-is text sc (before ++ labelsBefore c) cs)
+among-is text sc before (T.andCommand c cs) = rw (among-is text sc (before ++ labelsBefore c) cs)
 
 module _ (text : List ℕ) {s : List ℕ} {from end top : ℕ} (st₀ : State) where
   abbrev Others : (y : ReadyLabels s from end top) (seen : List ℕ) (st : State) (rest : List (List Label)) → Type 0
@@ -263,10 +239,10 @@ module _ (text : List ℕ) {s : List ℕ} {from end top : ℕ} (st₀ : State) w
 
   pub list-begin : {seen : List ℕ} → seen ≡ replicate 8193 0 → (y : ReadyLabels s from end top) → ListPart y seen from st₀
   unfolding labelsOf
-  list-begin {seen} e y = left-all (Others y seen st₀) (list-of y .row) (record {
+  list-begin {seen} e y = left-all (list-of y .row) (record {
     before = [];
     marks = marks-none refl e;
-    finish = λ t st′ d. subst (λ (z : List Fault). Did z nothing 0 t t st₀ st′) (among-is text (y .scope) [] (y .commands)) d;
+    finish = λ t st′ d. rw (among-is text (y .scope) [] (y .commands)) at d;
   })
 
   pub list-next : {at next : ℕ} {sp : Span} {seen seen₁ : List ℕ} {st r : State} → at < end → NextItem s at end next → Spans s next sp
@@ -274,8 +250,7 @@ module _ (text : List ℕ) {s : List ℕ} {from end top : ℕ} (st₀ : State) w
       → (y : ReadyLabels s from end top) → ListPart y seen at st → ListPart y seen₁ next r
   unfolding faultsAmong
   list-next {seen₁ = seen₁} {r = r} l n i j y p =
-      left-next (Others y seen₁ r) l n p
-      (λ ls lss e q h. let k = j .by (own-labels i (list-of y) ls q) (h .before) (h .marks) in record {
+      left-next l n p (λ ls lss e q h. let k = j .by (own-labels i (list-of y) ls q) (h .before) (h .marks) in record {
         before = h .before ++ ls;
         marks = k .marks;
         finish = λ t st′ d. h .finish t st′ (did-as nothing 0 (did-then (k .did t) d) same-refl (λ v z. refl) (omega arith));

@@ -1,25 +1,12 @@
 -- What `expr` asks can be had: the number 5 alone, with no names in scope. And what `table` and `doubled` ask: CASE 5 before an empty
 -- command, of which nothing is refused.
-use Prim.Native.Nat.{ℕ, zero, suc, _+_, _<_, _^_}
-use mathlib.Core.Path.{_≡_, refl, ap}
-use mathlib.Core.Bool.{false}
-use mathlib.Core.List.{List, [], _∷_}
-use native.Mathlib.Omega.{arith}
-use lib.ListN.{length, getD}
+use Rattle.compiler.proofs.Basics.{ℕ, zero, suc, _+_, _<_, _^_, _≡_, refl, false, List, [], _∷_, arith, length, getD}
 use Rattle.language.specs.Tree as T
-use Rattle.language.proofs.Depth.{depth}
-use Rattle.language.specs.Names.{outermost}
-use Rattle.language.specs.Constants.{judge}
-use Rattle.language.specs.Resolved.{hasCase}
-use Rattle.language.specs.Resolve.{labelsOf}
-use Rattle.language.specs.Faults.{doubled}
-use Rattle.tree.specs.Encoding.{encode, encodeCommands, encodeCommand, encodeLabels, encodeConstant, encodePositive, encodeUnlabelled, encodeRepeats}
-use Rattle.tree.specs.Encoding.{labelled, repeated}
-use Rattle.compiler.specs.Scope.{nothing}
-use Rattle.compiler.specs.declared.steps.State.{State}
-use Rattle.compiler.specs.declared.steps.Here.{Here}
-use Rattle.language.specs.Fine.{Fine, FineCommands, FineCommand, FineLabels, FineUnlabelled, FineRepeats}
-use Rattle.compiler.specs.Walks.{ReadyE}
+use Rattle.compiler.proofs.Language.{depth, outermost, judge, hasCase, labelsOf, doubled, encode, encodeCommands, encodeCommand, encodeLabels}
+use Rattle.compiler.proofs.Language.{encodeConstant, encodePositive, encodeUnlabelled, encodeRepeats, labelled, Fine, FineCommands}
+use Rattle.compiler.proofs.Language.{FineCommand, FineLabels, FineUnlabelled, FineRepeats}
+use Rattle.tree.specs.Encoding.{repeated}
+use Rattle.compiler.proofs.Vocabulary.{nothing, State, Here, ReadyE}
 use Rattle.compiler.specs.Switching.{labelFaults, ReadyLabels}
 
 abbrev scratch : List ℕ
@@ -76,7 +63,7 @@ ready-labels = record {
   base = 0;
   scope = outermost;
   commands = list;
-  lies = record { at = λ i l. let e : 0 + i ≡ i = omega arith in ap (λ (k : ℕ). getD (encodeCommands list) k 0) e };
+  lies = record { at = λ i l. let e : 0 + i ≡ i = omega arith in rw e };
   ends = omega arith;
   above = omega arith;
   small = list-long;

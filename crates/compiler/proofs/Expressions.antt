@@ -1,36 +1,22 @@
 -- What each form of expression needs of its parts, and gives.
-use Prim.Native.Nat.{ℕ, _+_, _-_, _≤_, _<_}
-use mathlib.Core.Path.{_≡_, refl, sym, ap, subst, _∙_}
-use mathlib.Core.List.{List, [], _∷_, _++_, append-nil, append-assoc}
-use native.Mathlib.Omega.{arith}
-use lib.ListN.{length, getD}
-use Rattle.items.specs.Item as I
+use Rattle.compiler.proofs.Basics.{ℕ, _+_, _-_, _≤_, _<_, _≡_, refl, sym, ap, subst, _∙_, List, [], _∷_, _++_, append-nil, append-assoc, arith}
+use Rattle.compiler.proofs.Basics.{length, getD}
 use Rattle.language.specs.Tree as T
-use Rattle.language.specs.Tree.{Name, Expression, Operations}
-use Rattle.language.proofs.Depth.{depth, operationsDepth}
-use Rattle.language.specs.Names.{Scope, lookup, onFound}
-use Rattle.language.specs.Constants.{Fault, fault}
+use Rattle.compiler.proofs.Language.{Name, Expression, Operations, depth, operationsDepth, Scope, lookup, onFound, Fault, fault, Expr}
+use Rattle.compiler.proofs.Language.{expression, operations, ofMeaning, ofExpr, inExpression, inOperations, encode, encodeOperations, Fine}
+use Rattle.compiler.proofs.Language.{FineOperations}
 use Rattle.language.specs.Resolved as R
-use Rattle.language.specs.Resolved.{Expr}
-use Rattle.language.specs.Resolve.{expression, operations, ofMeaning}
-use Rattle.language.specs.Heights.{ofExpr}
 use Rattle.code.specs.Generate as G
 use Rattle.code.specs.Generate.{exprCode, exprLabels}
-use Rattle.language.specs.Faults.{inExpression, inOperations}
-use Rattle.tree.specs.Encoding.{encode, encodeOperations}
-use Rattle.compiler.specs.Scope.{named, nameAt, found, Looked}
+use Rattle.compiler.proofs.Vocabulary.{nameAt, found, Looked, State, Here, Node, inside, raised, leavable, NodeAt, Code, Did, Emits, Means}
+use Rattle.compiler.proofs.Vocabulary.{exprSays, FineE, FineOs, Lies, Ready, Result, ReadyE, GaveE, faultsE, codeE, chainCode, chainHeights}
+use Rattle.compiler.proofs.Vocabulary.{chainLabels, chainSays, ReadyChain, GaveChain}
 use Rattle.compiler.proofs.Scoping.{keeps-all, keeps-then}
-use Rattle.compiler.specs.declared.steps.State.{State}
-use Rattle.compiler.specs.declared.steps.Here.{Here}
-use Rattle.compiler.specs.declared.steps.Node.{Node}
-use Rattle.compiler.specs.Walked.{inside, raised, leavable, NodeAt, Code, Did, Emits, Means, exprSays}
-use Rattle.compiler.specs.Fine.{FineE, FineOs}
-use Rattle.language.specs.Fine.{Fine, FineOperations}
-use Rattle.compiler.specs.Walks.{Lies, Ready, Result, ReadyE, GaveE, faultsE, codeE, chainCode, chainHeights, chainLabels, chainSays, ReadyChain, GaveChain}
 use Rattle.compiler.proofs.Done.{emits-did, did-put, did-after, did-none, did-then, did-as, same-refl, code-is}
 use Rattle.compiler.proofs.Trees.{find, is-number, is-string, is-name, is-bracket, is-dyadic}
 use Rattle.compiler.proofs.Parts.{sub}
-use Rattle.compiler.proofs.Lists.{First, first-of, Kind, Part, begins, item, one-size, one-word, rest-length, both-deep, both-fine, goes-on, ended}
+use Rattle.compiler.proofs.Lists.{First, first-of, Kind, Part, begins, item, one-size, one-word, rest-length, both-deep, both-fine, goes-on}
+use Rattle.compiler.proofs.Lists.{ended}
 
 -- with more labels allowed
 more : {fs : List Fault} {f : ℕ → Code} {m : ℕ} (k : ℕ) {t t′ : List ℕ} {st r : State} → Did fs f m t t′ st r → m ≤ k → Did fs f k t t′ st r
@@ -40,58 +26,48 @@ more {f = f} k d l = did-as f k d same-refl (λ n e. refl) l
 module _ (text : List ℕ) {s s′ t t′ : List ℕ} {st r : State} (here : Here) where
   so : (sc : Scope) {e d : Expression} {n base : ℕ} → e ≡ d → Result (faultsE text here sc d) (codeE text here sc d) n base here s s′ t t′ st r
       → Result (faultsE text here sc e) (codeE text here sc e) n base here s s′ t t′ st r
-  so sc {n = n} {base} q x = subst (λ (e : Expression). Result (faultsE text here sc e) (codeE text here sc e) n base here s s′ t t′ st r) (sym q) x
+  so sc {n = n} {base} q x = rw q x
 
 module _ (text : List ℕ) {s t t′ : List ℕ} {end : ℕ} {here : Here} {st r : State} (n : Node) (nd : NodeAt s end n) where
   pub number-gave : n .kind ≡ 60 → Emits (G.L (n .value) ∷ []) [] t t′ st r → GaveE text s s end here t t′ st r
   unfolding inExpression expression exprCode ofExpr exprLabels
   number-gave q f = record {
     by = λ y. let u = is-number (find n nd q y) in so text here (y .scope) (u .same)
-        (record {
-          keeps = keeps-all;
-          did = more _ (emits-did _ f (λ k. code-is (ap (λ (z : ℕ). G.L z ∷ []) (sym (nd .value ∙ u .value-of))) refl refl))
-              (omega arith);
-        });
+        (record { keeps = keeps-all; did = more _ (emits-did _ f (λ k. code-is (cc) refl refl)) (omega arith) });
   }
 
   pub string-gave : {l : ℕ} → n .kind ≡ 61 → l ≡ here .strings + n .value → Emits (G.LL l ∷ []) [] t t′ st r → GaveE text s s end here t t′ st r
   unfolding inExpression expression exprCode ofExpr exprLabels
-  string-gave {l} q e f = record {
+  string-gave q e f = record {
     by = λ y. let u = is-string (find n nd q y) in so text here (y .scope) (u .same)
-        (record {
-          keeps = keeps-all;
-          did = more _ (emits-did _ f
-              (λ k. code-is (ap (λ (z : ℕ). G.LL z ∷ []) (sym (e ∙ ap (λ (z : ℕ). here .strings + z) (nd .value ∙ u .value-of)))) refl refl))
-              (omega arith);
-        });
+        (record { keeps = keeps-all; did = more _ (emits-did _ f (λ k. code-is (cc) refl refl)) (omega arith) });
   }
 
   pub name-gave : {m : ℕ} → n .kind ≡ 59 → Looked text s (here .top) (n .inner) m → Means m (n .place) t t′ st r → GaveE text s s end here t t′ st r
   unfolding inExpression expression
-  name-gave {m} q lk f = record {
+  name-gave q lk f = record {
     by = λ y. let u = is-name (find n nd q y) in so text here (y .scope) (u .same)
         (record {
           keeps = keeps-all;
           did =
-              more _ (subst (λ (p : ℕ). Did (onFound (lookup text (y .scope) (u .name)) (fault p 8) [])
-              (exprSays (here .strings) (here .height) (ofMeaning (lookup text (y .scope) (u .name)))) 0 t t′ st r) (nd .place ∙ u .place-of)
-              (f .by (here .strings) (here .height) (lookup text (y .scope) (u .name)) (lk .by (y .scope) (y .shows) ∙ ap (λ (z : Name). found (lookup
-              text (y .scope) z)) (leaf (u .name) (u .width-of) (u .place-of) (omega (arith, u .ends)))))) (omega arith);
+              more _ (subst (λ (p : ℕ). Did (onFound (lookup text (y .scope) (u .name)) (fault p 8) []) (exprSays (here .strings) (here .height)
+              (ofMeaning (lookup text (y .scope) (u .name)))) 0 t t′ st r) (nd .place ∙ u .place-of) (f .by (here .strings) (here .height) (lookup
+              text (y .scope) (u .name)) (lk .by (y .scope) (y .shows) ∙ ap (λ (z : Name). found (lookup text (y .scope) z))
+              (leaf (u .name) (u .width-of) (u .place-of) (omega arith))))) (omega arith);
         });
   }
     where
       leaf : (z : Name) → getD s (end - 3) 0 ≡ z .width → getD s (end - 2) 0 ≡ z .place → 4 ≤ end → nameAt s (n .inner) ≡ z
       leaf z w p l =
-          let a : n .inner + 2 ≡ end - 2 = omega (arith, nd .inner) in let b : n .inner + 1 ≡ end - 3 = omega (arith, nd .inner) in
-          ap (λ (k : ℕ). named k (getD s (n .inner + 1) 0)) (ap (λ (k : ℕ). getD s k 0) a ∙ p) ∙ ap (λ (k : ℕ). named (z .place) k)
-          (ap (λ (k : ℕ). getD s k 0) b ∙ w)
+          let a : n .inner + 2 ≡ end - 2 = omega arith in let b : n .inner + 1 ≡ end - 3 = omega arith in
+          rw (a, p, b, w)
 
 -- ---- brackets
 
 module _ {s : List ℕ} {end : ℕ} {here : Here} {st : State} (n : Node) (nd : NodeAt s end n) (q : n .kind ≡ 51) where
   pub shallower : (y : ReadyE s end here st) {p : ℕ} {e : Expression} → y .tree ≡ T.bracketed p e → depth e + 1 ≤ here .left
   unfolding depth
-  shallower y {p} {e} h = omega (arith, y .shallow, ap depth h)
+  shallower y {p} {e} h = omega (arith, ap depth h)
 
   pub bracket-fine : (y : ReadyE s end here st) {p : ℕ} {e : Expression} → y .tree ≡ T.bracketed p e → FineE e
   unfolding Fine
@@ -99,16 +75,14 @@ module _ {s : List ℕ} {end : ℕ} {here : Here} {st : State} (n : Node) (nd : 
 
   abbrev pub bracket-part : ReadyE s end here st → ReadyE s (n .inner) (inside here) st
   bracket-part y = let u = is-bracket (find n nd q y) in
-      sub encode depth FineE y keeps-all (n .inner) (y .lo) (inside here) st (u .part) (u .lies) (omega (arith, nd .inner, u .ends)) (omega arith)
-      (omega (arith, nd .inner)) refl refl (omega (arith, y .height, y .ends, u .ends)) (omega (arith, y .label, y .ends, u .ends)) (y .some)
-      (omega (arith, shallower y (u .same))) (bracket-fine y (u .same))
+      sub y keeps-all (u .lies) refl (omega (arith, shallower y (u .same))) (bracket-fine y (u .same))
 
   pub bracket-gave : (text : List ℕ) {s′ t t′ : List ℕ} {r : State} → GaveE text s s′ (n .inner) (inside here) t t′ st r
       → GaveE text s s′ end here t t′ st r
   unfolding inExpression expression
   bracket-gave text g = record {
     by = λ y. let u = is-bracket (find n nd q y) in let x = g .by (bracket-part y) in so text here (y .scope) (u .same)
-        (record { keeps = x .keeps; did = more _ (x .did) (omega (arith, y .ends, u .ends)) });
+        (record { keeps = x .keeps; did = more _ (x .did) (omega arith) });
   }
 
 -- ---- operators of one binding level
@@ -120,11 +94,9 @@ module _ (text : List ℕ) (sc : Scope) (strings h : ℕ) where
   chain-items e T.noOperations n = sym (append-nil (exprCode strings h n e))
   chain-items e (T.operation o d os) n =
       let D = expression text sc (h + 1) d in let a = exprCode strings h n e in let b = exprCode strings (h + 1) (n + exprLabels e) D in
-      let z = G.SP (h + 1) ∷ G.LIP h ∷ G.LIP (h + 1) ∷ G.X (G.dyadicAct o) ∷ [] in
-      let k : n + (exprLabels e + exprLabels D) ≡ n + exprLabels e + exprLabels D = omega arith in
-      chain-items (R.binary o e D) os n ∙ append-assoc a (G.SP h ∷ (b ++ z)) (chainCode text sc strings h os (n + (exprLabels e + exprLabels D))) ∙ ap
-      (λ (l : List I.Item). a ++ (G.SP h ∷ l)) (append-assoc b z (chainCode text sc strings h os (n + (exprLabels e + exprLabels D)))) ∙ ap
-      (λ (m : ℕ). a ++ (G.SP h ∷ (b ++ (G.SP (h + 1) ∷ G.LIP h ∷ G.LIP (h + 1) ∷ G.X (G.dyadicAct o) ∷ chainCode text sc strings h os m)))) k
+      let z = G.SP (h + 1) ∷ G.LIP h ∷ G.LIP (h + 1) ∷ G.X (G.dyadicAct o) ∷ [] in let k : n + (exprLabels e + exprLabels D) ≡ n + exprLabels e
+      + exprLabels D = omega arith in
+      simp (chain-items (R.binary o e D) os n, append-assoc, k)
 
   pub chain-heights : (e : Expr) (os : Operations) → ofExpr h (operations text sc h e os) ≡ ofExpr h e ++ chainHeights text sc h os
   unfolding operations chainHeights ofExpr
@@ -141,40 +113,34 @@ module _ (text : List ℕ) (sc : Scope) (strings h : ℕ) where
 -- another name of the same place
 pub ready-at : {A : Type 0} {enc : A → List ℕ} {deep : A → ℕ} {Fine : A → Type 0} {s : List ℕ} {end : ℕ} {d d′ : Here} {st : State} → d′ ≡ d
     → Ready enc deep Fine s end d st → Ready enc deep Fine s end d′ st
-ready-at {enc = enc} {deep} {Fine} {s} {end} {st = st} e y = subst (λ (x : Here). Ready enc deep Fine s end x st) (sym e) y
+ready-at e y = rw e y
 
 pub gave-at : (text : List ℕ) {s s′ t t′ : List ℕ} {end : ℕ} {d d′ : Here} {st r : State} → d′ ≡ d → GaveE text s s′ end d′ t t′ st r
     → GaveE text s s′ end d t t′ st r
-gave-at text {s} {s′} {t} {t′} {end} {st = st} {r} e g = subst (λ (x : Here). GaveE text s s′ end x t t′ st r) e g
+gave-at text {s} {s′} {t} {t′} {end} {st = st} {r} e g = rw e at g
 
 module _ {s : List ℕ} {end : ℕ} {here : Here} {st : State} (n : Node) (nd : NodeAt s end n) (q : n .kind ≡ 131) {middle : ℕ}
     (m : middle ≡ n .start + n .value) where
   pub deep-left : (y : ReadyE s end here st) {e : Expression} {os : Operations} → y .tree ≡ T.dyadic e os
       → (depth e + 1 ≤ here .left) × (operationsDepth os + 1 ≤ here .left)
   unfolding depth
-  deep-left y {e} {os} h = (omega (arith, y .shallow, ap depth h), omega (arith, y .shallow, ap depth h))
+  deep-left y {e} {os} h = (omega (arith, ap depth h), omega (arith, ap depth h))
 
   pub dyadic-fine : (y : ReadyE s end here st) {e : Expression} {os : Operations} → y .tree ≡ T.dyadic e os → FineE e × FineOs os
   unfolding Fine
   dyadic-fine y h = let f = subst FineE h (y .fine) in (f .0, f .1)
 
   pub middle-is : (y : ReadyE s end here st) → middle ≡ y .lo + length (encode (is-dyadic (find n nd q y) .left))
-  middle-is y = let u = is-dyadic (find n nd q y) in omega (arith, nd .start, nd .value, u .value-of, u .size-of, u .ends)
+  middle-is y = let u = is-dyadic (find n nd q y) in omega arith
 
   abbrev pub dyadic-left : ReadyE s end here st → ReadyE s middle (inside here) st
   dyadic-left y = let u = is-dyadic (find n nd q y) in
-      sub encode depth FineE y keeps-all middle (y .lo) (inside here) st (u .left) (u .lies) (middle-is y) (omega arith)
-      (omega (arith, middle-is y, u .ends)) refl refl (omega (arith, y .height, y .ends, u .ends)) (omega (arith, y .label, y .ends, u .ends))
-      (y .some) (omega (arith, deep-left y (u .same) .0)) (dyadic-fine y (u .same) .0)
+      sub y keeps-all (u .lies) refl (omega (arith, middle-is y, deep-left y (u .same) .0)) (dyadic-fine y (u .same) .0)
 
   module _ (text : List ℕ) {s₁ t t₁ : List ℕ} {a : State} (g : GaveE text s s₁ middle (inside here) t t₁ st a) where
     abbrev pub dyadic-rest : ReadyE s end here st → ReadyChain s₁ middle (n .inner) (inside here) a
     dyadic-rest y = let u = is-dyadic (find n nd q y) in let x = g .by (dyadic-left y) in record {
-      ready =
-          sub encodeOperations operationsDepth FineOs y (x .keeps) (n .inner) (y .lo + length (encode (u .left))) (inside here) a (u .list)
-          (u .lies-list) (omega (arith, nd .inner, u .ends)) (omega arith) (omega (arith, nd .inner)) refl refl
-          (omega (arith, y .height, y .ends, u .ends)) (omega (arith, y .label, y .ends, u .ends, x .did .few))
-          (omega (arith, y .some, x .did .grows)) (omega (arith, deep-left y (u .same) .1)) (dyadic-fine y (u .same) .1);
+      ready = sub y (x .keeps) (u .lies-list) refl (omega (arith, deep-left y (u .same) .1)) (dyadic-fine y (u .same) .1);
       starts = sym (middle-is y);
     }
 
@@ -189,8 +155,7 @@ module _ {s : List ℕ} {end : ℕ} {here : Here} {st : State} (n : Node) (nd : 
             keeps = keeps-then (x .keeps) (z .keeps);
             did = did-as (exprSays (here .strings) h (operations text sc h e (u .list))) _ (did-then (x .did) (z .did)) same-refl
                 (λ k c. code-is (sym (chain-items text sc (here .strings) h e (u .list) k))
-                (sym (chain-heights text sc (here .strings) h e (u .list))) (sym (chain-labels text sc (here .strings) h e (u .list))))
-                (omega (arith, y .ends, u .ends));
+                (sym (chain-heights text sc (here .strings) h e (u .list))) (sym (chain-labels text sc (here .strings) h e (u .list)))) (omega arith);
           });
     }
 
@@ -255,11 +220,9 @@ module _ (text t₀ : List ℕ) {s₀ : List ℕ} {from end : ℕ} {here : Here}
       (en : next ≡ at + 2 + size) where
     abbrev pub chain-part : {a : State} → a .label ≡ st .label → (y : ReadyChain s₀ from end here st₀) → ChainPart y s t at st
         → ReadyE s next (raised 1 here) a
-    chain-part {a} ea y p = let z = y .ready in let u = item z (y .starts) l es en p in let e = one-size z (y .starts) l es en p in
-        let n = rest-length z (y .starts) l es en p in
-        sub encode depth FineE z (p .keeps) next (at + 2) (raised 1 here) a (u .part .operand) (u .lies) (omega (arith, e))
-        (omega (arith, y .starts, p .starts)) (omega (arith, e, u .ends)) refl refl (omega (arith, z .height, p .height, n))
-        (omega (arith, z .label, p .label, n)) (omega (arith, p .some)) (both-deep z (y .starts) l es en p .0) (both-fine z (y .starts) l es en p .0)
+    chain-part ea y p = let z = y .ready in let u = item z (y .starts) l es en p in let e = one-size z (y .starts) l es en p in let n = rest-length z
+        (y .starts) l es en p in
+        sub z (p .keeps) (u .lies) refl (omega (arith, both-deep z (y .starts) l es en p .0)) (both-fine z (y .starts) l es en p .0)
 
     pub chain-next : {act : ℕ} {s₁ t₁ t₂ t₃ : List ℕ} {a b r : State} → act ≡ G.dyadicAct o
         → Emits (G.SP (here .height) ∷ []) ((here .height + 1) ∷ []) t t₁ st a → GaveE text s s₁ next (raised 1 here) t₁ t₂ a b → Emits
@@ -270,13 +233,8 @@ module _ (text t₀ : List ℕ) {s₀ : List ℕ} {from end : ℕ} {here : Here}
         let z = y .ready in let u = item z (y .starts) l es en p in let x = g .by (chain-part (e .label) y p) in let sc = z .scope in
         let h = here .height in let n = rest-length z (y .starts) l es en p in let D = expression text sc (h + 1) (u .part .operand) in
         let op : act ≡ G.dyadicAct (u .part .operator) = ea ∙ ap G.dyadicAct (one-word z (y .starts) l es en p eo) in
-        goes-on z (y .starts) l es en p (x .keeps) (omega arith) (omega (arith, x .did .few, e .label, f .label))
-        (omega (arith, p .some, x .did .grows, e .label, f .label)) (λ t′ st′ d. did-as _ _ (did-after e (did-then (did-put (x .did) f) d)) same-refl
-        (λ k c. code-is (ap (λ (l : List I.Item). G.SP h ∷ l)
-        (append-assoc (exprCode (here .strings) (h + 1) k D) (G.SP (h + 1) ∷ G.LIP h ∷ G.LIP (h + 1) ∷ G.X act ∷ [])
-        (chainCode text sc (here .strings) h (u .more) (k + exprLabels D)) ∙ ap
-        (λ (v : ℕ). exprCode (here .strings) (h + 1) k D
-        ++ (G.SP (h + 1) ∷ G.LIP h ∷ G.LIP (h + 1) ∷ G.X v ∷ chainCode text sc (here .strings) h (u .more) (k + exprLabels D))) op)) refl refl)
+        goes-on z (y .starts) l es en p (x .keeps) (omega arith) (omega arith) (omega arith)
+        (λ t′ st′ d. did-as _ _ (did-after e (did-then (did-put (x .did) f) d)) same-refl (λ k c. code-is (simp (append-assoc, op)) refl refl)
         (omega arith))
 
   pub chain-end : {s t : List ℕ} {at : ℕ} {st : State} → end ≤ at → ((y : ReadyChain s₀ from end here st₀) → ChainPart y s t at st)
@@ -285,18 +243,18 @@ module _ (text t₀ : List ℕ) {s₀ : List ℕ} {from end : ℕ} {here : Here}
   chain-end l q = record { by = λ y. record { keeps = q y .keeps; did = ended (q y) l (λ m. did-none m) } }
 
 pub chain-ready-at : {s : List ℕ} {from end : ℕ} {d d′ : Here} {st : State} → d′ ≡ d → ReadyChain s from end d st → ReadyChain s from end d′ st
-chain-ready-at {s} {from} {end} {st = st} e y = subst (λ (x : Here). ReadyChain s from end x st) (sym e) y
+chain-ready-at e y = rw e y
 
 pub chain-gave-at : {text s s′ t t′ : List ℕ} {from end : ℕ} {d d′ : Here} {st r : State} → d′ ≡ d → GaveChain text s s′ from end d′ t t′ st r
     → GaveChain text s s′ from end d t t′ st r
-chain-gave-at {text} {s} {s′} {t} {t′} {from} {end} {st = st} {r} e g = subst (λ (x : Here). GaveChain text s s′ from end x t t′ st r) e g
+chain-gave-at e g = rw e at g
 
 pub left-at : {d d′ : Here} → d′ ≡ d → d′ .left ≡ d .left
-left-at e = ap (λ (x : Here). x .left) e
+left-at e = rw e
 
 pub some-left : {s : List ℕ} {end : ℕ} {here : Here} {st : State} → ReadyE s end here st → 1 ≤ here .left
 unfolding depth
-some-left y = omega (arith, y .shallow, one (y .tree))
+some-left y = omega (arith, one (y .tree))
   where
     one : (e : Expression) → 1 ≤ depth e
     one (T.number p v) = omega arith

@@ -1,16 +1,10 @@
 -- Flags, eight in an entry: what one more changes.
-use Prim.Native.Nat.{ℕ, zero, suc, _+_, _/_, _%_, _≤_, _<_, _^_, zero-le}
-use mathlib.Core.Path.{_≡_, refl, sym, ap, _∙_}
-use mathlib.Core.List.{List}
-use native.Mathlib.Omega.{arith}
+use Rattle.compiler.proofs.Basics.{ℕ, zero, suc, _+_, _/_, _%_, _≤_, _<_, _^_, zero-le, _≡_, refl, sym, ap, _∙_, List, arith, length, getD}
+use Rattle.compiler.proofs.Basics.{set, replicate, getD-replicate, List·getD-eq-default, getD-set-same, getD-set-other, eqb, Bool, true, false}
+use Rattle.compiler.proofs.Basics.{eqb-true, eqb-false}
 use native.Mathlib.Nat.{pow-suc, zero-div}
 use native.Mathlib.Numerals.{one-add}
 use lib.Pow.{shr-shr}
-use lib.ListN.{length, getD, set, replicate, getD-replicate, List·getD-eq-default}
-use lib.Seq.{getD-set-same, getD-set-other}
-use lib.Dec.{eqb}
-use mathlib.Core.Bool.{Bool, true, false}
-use borrow.Author.Tests.{eqb-true, eqb-false}
 use Rattle.compiler.specs.Labels.{flag}
 
 -- ---- in a number
@@ -19,18 +13,18 @@ abbrev bit : ℕ → ℕ → ℕ
 bit x k = x / 2 ^ k % 2
 
 bit-half : (x k : ℕ) → bit x (suc k) ≡ bit (x / 2) k
-bit-half x k = ap (λ (z : ℕ). z % 2) (ap (λ (j : ℕ). x / 2 ^ j) (sym (one-add k)) ∙ sym (shr-shr x 1 k))
+bit-half x k = cc (one-add k, shr-shr x 1 k)
 
 half-more : (x k : ℕ) → (x + 2 ^ suc k) / 2 ≡ x / 2 + 2 ^ k
 half-more x k = omega (arith, pow-suc 2 k)
 
 more-here : (x k : ℕ) → bit x k ≡ 0 → bit (x + 2 ^ k) k ≡ 1
 more-here x zero e = omega arith
-more-here x (suc k) e = bit-half (x + 2 ^ suc k) k ∙ ap (λ (z : ℕ). bit z k) (half-more x k) ∙ more-here (x / 2) k (sym (bit-half x k) ∙ e)
+more-here x (suc k) e = rw (bit-half (x + 2 ^ suc k) k, half-more x k, more-here (x / 2) k (sym (bit-half x k) ∙ e))
 
 more-other : (x a b : ℕ) → (b ≡ a → ⊥) → bit x a ≡ 0 → bit (x + 2 ^ a) b ≡ bit x b
 more-other x zero zero n e = absurd (n refl)
-more-other x zero (suc b) n e = let z : (x + 1) / 2 ≡ x / 2 = omega arith in bit-half (x + 1) b ∙ ap (λ (y : ℕ). bit y b) z ∙ sym (bit-half x b)
+more-other x zero (suc b) n e = let z : (x + 1) / 2 ≡ x / 2 = omega arith in rw (bit-half (x + 1) b, z, bit-half x b)
 more-other x (suc a) zero n e = omega (arith, pow-suc 2 a)
 more-other x (suc a) (suc b) n e =
     bit-half (x + 2 ^ suc a) b ∙ ap (λ (z : ℕ). bit z b) (half-more x a) ∙ more-other (x / 2) a b (λ q. n (ap suc q)) (sym (bit-half x a) ∙ e) ∙ sym
@@ -48,24 +42,21 @@ nothing : (m : ℕ) → 0 / m % 2 ≡ 0
 nothing m = simp zero-div
 
 pub flag-beyond : (seen : List ℕ) (i : ℕ) → length seen ≤ i / 8 → flag seen i ≡ 0
-flag-beyond seen i l = ap (λ (x : ℕ). x / 2 ^ (i % 8) % 2) (List·getD-eq-default seen 0 l) ∙ nothing (2 ^ (i % 8))
+flag-beyond seen i l = rw (List·getD-eq-default seen 0 l, nothing (2 ^ (i % 8)))
 
 pub flag-none : {seen : List ℕ} {n : ℕ} (i : ℕ) → seen ≡ replicate n 0 → i / 8 < n → flag seen i ≡ 0
-flag-none {n = n} i e l =
-    ap (λ (x : List ℕ). flag x i) e ∙ ap (λ (x : ℕ). x / 2 ^ (i % 8) % 2) (getD-replicate {A = ℕ} n (i / 8) 0 0 l) ∙ nothing (2 ^ (i % 8))
+flag-none {n = n} i e l = rw (e, getD-replicate {A = ℕ} n (i / 8) 0 0 l, nothing (2 ^ (i % 8)))
 
 -- an entry with one flag more
 module _ (seen : List ℕ) (i : ℕ) {x p : ℕ} (ex : x ≡ getD seen (i / 8) 0) (ep : p ≡ 2 ^ (i % 8)) (e : x / p % 2 ≡ 0) where
   pub flag-free : flag seen i ≡ 0
-  flag-free = ap (λ (y : ℕ). bit y (i % 8)) (sym ex) ∙ ap (λ (y : ℕ). x / y % 2) (sym ep) ∙ e
+  flag-free = cc
 
   pub flag-fits : x < 256 → x + p < 256
-  flag-fits l = let z : x + 2 ^ (i % 8) < 2 ^ 8 = more-small 8 x (i % 8) (omega arith) l (ap (λ (k : ℕ). x / k % 2) (sym ep) ∙ e) in omega arith
+  flag-fits l = let z : x + 2 ^ (i % 8) < 2 ^ 8 = more-small 8 x (i % 8) (omega arith) l (cc) in omega arith
 
   pub flag-here : i / 8 < length seen → flag (set seen (i / 8) (x + p)) i ≡ 1
-  flag-here l =
-      ap (λ (y : ℕ). bit y (i % 8)) (getD-set-same seen (i / 8) (x + p) 0 l ∙ ap (λ (k : ℕ). x + k) ep) ∙ more-here x (i % 8)
-      (ap (λ (k : ℕ). x / k % 2) (sym ep) ∙ e)
+  flag-here l = ap (λ (y : ℕ). bit y (i % 8)) (rw (getD-set-same seen (i / 8) (x + p) 0 l, ep)) ∙ more-here x (i % 8) (cc)
 
   pub flag-other : i / 8 < length seen → (k : ℕ) → (k ≡ i → ⊥) → flag (set seen (i / 8) (x + p)) k ≡ flag seen k
   flag-other l k n = go (eqb (k / 8) (i / 8)) refl
@@ -73,15 +64,15 @@ module _ (seen : List ℕ) (i : ℕ) {x p : ℕ} (ex : x ≡ getD seen (i / 8) 0
       go : (b : Bool) → eqb (k / 8) (i / 8) ≡ b → flag (set seen (i / 8) (x + p)) k ≡ flag seen k
       go true q = let j : k / 8 ≡ i / 8 = eqb-true (k / 8) (i / 8) q in
           ap (λ (y : ℕ). bit (getD (set seen (i / 8) (x + p)) y 0) (k % 8)) j ∙ ap (λ (y : ℕ). bit y (k % 8))
-          (getD-set-same seen (i / 8) (x + p) 0 l ∙ ap (λ (y : ℕ). x + y) ep) ∙ more-other x (i % 8) (k % 8) (λ z. n (omega arith))
-          (ap (λ (y : ℕ). x / y % 2) (sym ep) ∙ e) ∙ ap (λ (y : ℕ). bit y (k % 8)) (ex ∙ ap (λ (y : ℕ). getD seen y 0) (sym j))
-      go false q = ap (λ (y : ℕ). bit y (k % 8)) (getD-set-other seen (i / 8) (k / 8) (x + p) 0 (eqb-false (k / 8) (i / 8) q))
+          (rw (getD-set-same seen (i / 8) (x + p) 0 l, ep)) ∙ more-other x (i % 8) (k % 8) (λ z. n (omega arith)) (cc) ∙ ap (λ (y : ℕ). bit y (k % 8))
+          (rw (ex, j))
+      go false q = rw (getD-set-other seen (i / 8) (k / 8) (x + p) 0 (eqb-false (k / 8) (i / 8) q))
 
 pub flag-taken : (seen : List ℕ) (i : ℕ) → (flag seen i ≡ 0 → ⊥) → flag seen i ≡ 1
 flag-taken seen i n = go (getD seen (i / 8) 0 / 2 ^ (i % 8)) n
   where
     go : (y : ℕ) → (y % 2 ≡ 0 → ⊥) → y % 2 ≡ 1
-    go y n = omega (arith, n)
+    go y n = omega arith
 
 -- ---- the last of eight
 

@@ -1,28 +1,16 @@
 -- A command by the kind of its record: what it is and where its parts stand.
-use Prim.Native.Nat.{ℕ, _+_, _-_, _≤_}
-use mathlib.Core.Path.{_≡_, refl, sym, ap, subst, _∙_}
-use mathlib.Core.Bool.{Bool, true, false, cond}
+use Rattle.compiler.proofs.Basics.{ℕ, _+_, _-_, _≤_, _≡_, refl, sym, subst, _∙_, Bool, true, false, cond, List, [], _∷_, _++_, arith, length}
+use Rattle.compiler.proofs.Basics.{getD, eqb, eqb-true}
 use mathlib.Core.Option.{Option}
-use mathlib.Core.List.{List, [], _∷_, _++_}
-use native.Mathlib.Omega.{arith}
-use lib.ListN.{length, getD}
-use lib.Dec.{eqb}
-use borrow.Author.Tests.{eqb-true}
 use Rattle.language.specs.Kinds as K
 use Rattle.language.specs.Kinds.{member}
 use Rattle.language.specs.Tree as T
-use Rattle.language.specs.Tree.{Name, Constant, Expression, Expressions, Command, Commands, Unlabelled, Locals, isCall, endsInCall, placeOf}
+use Rattle.compiler.proofs.Language.{Name, Constant, Expression, Expressions, Command, Commands, Unlabelled, Locals, isCall, endsInCall}
+use Rattle.compiler.proofs.Language.{placeOf, FineUnlabelled, encode, encodeName, encodeBy, encodeCommand, encodeCommands, encodeExpressions}
+use Rattle.compiler.proofs.Language.{encodeSides, encodeFirst, encodeLocals, encodeUnlabelled, suffixedKind}
 use Rattle.language.specs.Binding.{isGuard, isLeave}
-use Rattle.language.specs.Fine.{FineUnlabelled}
 use Rattle.tree.specs.Encoding as O
-use Rattle.tree.specs.Encoding.{encode, encodeName, encodeBy, encodeCommand, encodeCommands, encodeExpressions, encodeSides, encodeFirst}
-use Rattle.tree.specs.Encoding.{encodeLocals, encodeUnlabelled, suffixedKind}
-use Rattle.compiler.specs.declared.steps.State.{State}
-use Rattle.compiler.specs.declared.steps.Here.{Here}
-use Rattle.compiler.specs.declared.steps.Node.{Node}
-use Rattle.compiler.specs.Fine.{FinePlain}
-use Rattle.compiler.specs.Walked.{NodeAt}
-use Rattle.compiler.specs.Walks.{Lies}
+use Rattle.compiler.proofs.Vocabulary.{State, Here, Node, FinePlain, NodeAt, Lies}
 use Rattle.compiler.specs.Commands.{ReadyU}
 use Rattle.compiler.proofs.Trees.{kid, ends, value-is, place-is, size-is, kind-is}
 
@@ -120,7 +108,7 @@ module _ (s : List ℕ) (lo end : ℕ) where
   form-small (aFinish h) = omega arith
 
   so : {k : ℕ} {u : Unlabelled} → getD s (end - 1) 0 ≡ k → Form k u → Form (getD s (end - 1) 0) u
-  so {u = u} q c = subst (λ (n : ℕ). Form n u) (sym q) c
+  so q c = rw q c
 
   guard-form : {w : ℕ} {e : Expression} {c : Command} → GuardWord w → Lies s lo (encode e ++ encodeCommand c)
       → end ≡ lo + length (encode e ++ encodeCommand c) + 4 → Form w (T.guarded w e c)
@@ -147,8 +135,7 @@ module _ (s : List ℕ) (lo end : ℕ) where
   called-kind (T.monadic p o d) f h q = let z : _≡_ {A = ℕ} 0 1 = cc in absurd (omega arith)
   called-kind (T.dyadic d os) f h q = let z : _≡_ {A = ℕ} 0 1 = cc in absurd (omega arith)
   called-kind (T.suffixed d ss) f h q =
-      kind-is (encode d ++ O.encodeSuffixes ss) (length (encode d)) (placeOf d) (suffixedKind (endsInCall false ss)) h q ∙ ap
-      (λ (b : Bool). cond b O.CALLED O.SUFFIXED) f
+      rw (kind-is (encode d ++ O.encodeSuffixes ss) (length (encode d)) (placeOf d) (suffixedKind (endsInCall false ss)) h q, f)
 
   pub form-of : (u : Unlabelled) → FinePlain u → Lies s lo (encodeUnlabelled u) → end ≡ lo + length (encodeUnlabelled u) → Form (getD s (end - 1) 0) u
   unfolding FineUnlabelled encodeUnlabelled

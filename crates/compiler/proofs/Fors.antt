@@ -1,35 +1,21 @@
 -- FOR: its test, its parts, and its block.
-use Prim.Native.Nat.{ℕ, _+_, _*_, _-_, _≤_}
-use mathlib.Core.Path.{_≡_, refl, sym, ap, subst, _∙_}
+use Rattle.compiler.proofs.Basics.{ℕ, _+_, _*_, _-_, _≤_, _≡_, refl, sym, ap, subst, _∙_, List, [], _∷_, _++_, append-nil, append-assoc, arith}
+use Rattle.compiler.proofs.Basics.{length, getD, length-append}
 use mathlib.Core.Option.{Option, none, some}
-use mathlib.Core.List.{List, [], _∷_, _++_, append-nil, append-assoc}
-use native.Mathlib.Omega.{arith}
-use lib.ListN.{length, getD, length-append}
 use Rattle.items.specs.Item as I
 use Rattle.language.specs.Kinds as K
 use Rattle.language.specs.Tree as T
-use Rattle.language.specs.Tree.{Name, Constant, Expression, Command, Unlabelled}
-use Rattle.language.proofs.Depth.{depth, commandDepth, unlabelledDepth}
+use Rattle.compiler.proofs.Language.{Name, Constant, Expression, Command, Unlabelled, depth, commandDepth, unlabelledDepth, Scope, opened}
+use Rattle.compiler.proofs.Language.{declared, Fault, Judged, judgedWord, faultsOf, expression, command, unlabelled, byOf, ofExpr, ofCmd}
+use Rattle.compiler.proofs.Language.{FineName, FineBy, FineUnlabelled, byFaults, inExpression, inUnlabelled, encode, encodeName, encodeBy}
+use Rattle.compiler.proofs.Language.{encodeCommand, encodeUnlabelled}
 use Rattle.language.specs.Names as N
-use Rattle.language.specs.Names.{Scope, opened, declared}
-use Rattle.language.specs.Constants.{Fault, Judged, judgedWord, faultsOf}
 use Rattle.language.specs.Resolved as R
-use Rattle.language.specs.Resolve.{expression, command, unlabelled, byOf}
-use Rattle.language.specs.Heights.{ofExpr, ofCmd}
-use Rattle.language.specs.Fine.{FineName, FineBy, FineUnlabelled}
 use Rattle.code.specs.Generate as G
-use Rattle.language.specs.Faults.{Leavable, byFaults, inExpression, inCommand, inUnlabelled}
-use Rattle.tree.specs.Encoding.{encode, encodeName, encodeBy, encodeCommand, encodeUnlabelled}
-use Rattle.compiler.specs.Scope.{Shows, Keeps, Pushed, PushedName, named, nameAt}
+use Rattle.compiler.proofs.Vocabulary.{Shows, Keeps, Pushed, PushedName, named, nameAt, State, Here, Ways, Node, FineE, FineC, FinePlain}
+use Rattle.compiler.proofs.Vocabulary.{raised, placed, inLoop, leavableBy, exits, NodeAt, Code, Did, Emits, Fresh, Lies, Result, ReadyE, GaveE}
 use Rattle.compiler.proofs.Scoping.{keeps-all, keeps-then, keeps-shows, keeps-name, pushed-keeps}
-use Rattle.compiler.specs.declared.steps.State.{State}
-use Rattle.compiler.specs.declared.steps.Here.{Here}
-use Rattle.compiler.specs.declared.steps.Ways.{Ways}
-use Rattle.compiler.specs.declared.steps.Node.{Node}
 use Rattle.compiler.specs.declared.steps.Verdict.{Verdict}
-use Rattle.compiler.specs.Fine.{FineE, FineC, FinePlain}
-use Rattle.compiler.specs.Walked.{raised, placed, inLoop, leavableBy, exits, NodeAt, Code, Did, Emits, Fresh}
-use Rattle.compiler.specs.Walks.{Lies, Result, ReadyE, GaveE}
 use Rattle.compiler.specs.Commands.{nothing, cmdSays, ReadyC, GaveC, ReadyU, GaveU}
 use Rattle.compiler.specs.Locals.{Says, fit, unfit, Blames}
 use Rattle.compiler.specs.Switching.{byJudged, JudgesBy}
@@ -44,7 +30,7 @@ use Rattle.compiler.proofs.Forms as F
 use Rattle.compiler.proofs.Forms.{Form, form-at}
 
 pub act-is : {a b : ℕ} {t t′ : List ℕ} {st r : State} → a ≡ b → Emits (G.X a ∷ []) [] t t′ st r → Emits (G.X b ∷ []) [] t t′ st r
-act-is {t = t} {t′} {st} {r} e f = subst (λ (k : ℕ). Emits (G.X k ∷ []) [] t t′ st r) e f
+act-is e f = rw e at f
 
 -- ---- its parts
 
@@ -82,7 +68,7 @@ is-for {s} {lo} (F.aFor {n} {e} {d} {k} {c} h v q) =
       lies-by = first g i r₃;
       lies-body = second g i (lo + 4 + length a + length b + length g) r₃ refl;
       value-of = v;
-      ends = omega (arith, q, length-append a (b ++ (g ++ i)), length-append b (g ++ i), length-append g i);
+      ends = omega (arith, length-append a (b ++ (g ++ i)), length-append b (g ++ i), length-append g i);
     }
 
 -- ---- the constant
@@ -117,7 +103,7 @@ for-shape e a f b t c p =
     ∙ append-assoc (e ++ a) f (b ++ (t ++ (c ++ p))) ∙ append-assoc e a (f ++ (b ++ (t ++ (c ++ p))))
 
 heights-shape : (e a f b c : List ℕ) → (((e ++ a) ++ f) ++ b) ++ c ≡ (e ++ (a ++ f)) ++ (b ++ c)
-heights-shape e a f b c = append-assoc ((e ++ a) ++ f) b c ∙ ap (λ (z : List ℕ). z ++ (b ++ c)) (append-assoc e a f)
+heights-shape e a f b c = simp append-assoc
 
 module _ {s : List ℕ} {end : ℕ} {here : Here} {st : State} (n b l : Node) {le : ℕ} (nd : NodeAt s end n) (bd : NodeAt s (n .inner) b)
     (el : le ≡ b .start - n .value) (ld : NodeAt s le l) (q : getD s (end - 1) 0 ≡ K.FOR) where
@@ -134,7 +120,7 @@ module _ {s : List ℕ} {end : ℕ} {here : Here} {st : State} (n b l : Node) {l
   unfolding unlabelledDepth
   for-deep y =
       let e = ap unlabelledDepth (for-is y .same) in
-      (omega (arith, y .shallow, e), omega (arith, y .shallow, e), omega (arith, y .shallow, e))
+      (omega arith, omega arith, omega arith)
 
   -- where its name's leaf, its body, its limit and its first value stand
   pub for-start : (y : ReadyU s end here st) → n .start ≡ y .lo
@@ -156,22 +142,16 @@ module _ {s : List ℕ} {end : ℕ} {here : Here} {st : State} (n b l : Node) {l
 
   -- room for its mark and its name
   pub for-room : (y : ReadyU s end here st) → here .top + 4 ≤ y .base
-  for-room y = let u = for-is y in omega (arith, y .room, y .ends, u .ends)
+  for-room y = let u = for-is y in omega arith
 
   abbrev pub for-first : {a : State} → Fresh 3 st a → ReadyU s end here st → ReadyE s (l .start) here a
-  for-first {a} e y = let u = for-is y in
-      sub encode depth FineE y keeps-all (l .start) (y .lo + 4) here a (u .start) (u .lies-start) (for-limit-start y) (omega arith)
-      (omega (arith, for-limit-start y, u .ends)) refl refl (omega (arith, y .height, y .ends, u .ends))
-      (omega (arith, y .label, y .ends, u .ends, e .label)) (omega (arith, e .label)) (for-deep y .0) (for-fine y .0)
+  for-first e y = let u = for-is y in sub y keeps-all (u .lies-start) refl (omega (arith, for-limit-start y, for-deep y .0)) (for-fine y .0)
 
   module _ (text : List ℕ) {s₁ t t₁ t₂ : List ℕ} {a c d : State} (e : Fresh 3 st a) (g : GaveE text s s₁ (l .start) here t t₁ a c)
       (f : Emits (G.SP (here .height) ∷ []) ((here .height + 1) ∷ []) t₁ t₂ c d) where
     abbrev pub for-limit : ReadyU s end here st → ReadyE s₁ le (raised 1 here) d
     for-limit y = let u = for-is y in let x = g .by (for-first e y) in
-        sub encode depth FineE y (x .keeps) le (y .lo + 4 + length (encode (u .start))) (raised 1 here) d (u .limit) (u .lies-limit) (for-limit-end y)
-        (omega arith) (omega (arith, for-limit-end y, u .ends)) refl refl
-        (omega (arith, y .height, y .ends, u .ends)) (omega (arith, y .label, y .ends, u .ends, e .label, x .did .few, f .label))
-        (omega (arith, e .label, x .did .grows, f .label)) (for-deep y .1) (for-fine y .1)
+        sub y (x .keeps) (u .lies-limit) refl (omega (arith, for-limit-end y, for-deep y .1)) (for-fine y .1)
 
     module _ {s₂ t₃ t₄ : List ℕ} {i j : State} (g₂ : GaveE text s₁ s₂ le (raised 1 here) t₂ t₃ d i)
         (f₂ : Emits (G.SP (here .height + 1) ∷ []) ((here .height + 1 + 1) ∷ []) t₃ t₄ i j)
@@ -182,56 +162,50 @@ module _ {s : List ℕ} {end : ℕ} {here : Here} {st : State} (n b l : Node) {l
       for-keeps y = keeps-then (g .by (for-first e y) .keeps) (g₂ .by (for-limit y) .keeps)
 
       for-name : (y : ReadyU s end here st) → nameAt s₂ (n .start) ≡ for-is y .name
-      for-name y = keeps-name (for-keeps y) (omega (arith, for-start y, y .above)) ∙ ap (nameAt s) (for-start y) ∙ for-is y .name-is
+      for-name y = keeps-name (for-keeps y) (omega (arith, for-start y)) ∙ ap (nameAt s) (for-start y) ∙ for-is y .name-is
 
       pub for-name-fine : {s₃ : List ℕ} → Pushed s₂ s₃ (here .top) 0 0 → (y : ReadyU s end here st) → FineName (nameAt s₃ (n .start))
       for-name-fine p y =
-          let k = pushed-keeps {base = y .base} p (omega (arith, for-room y)) (omega (arith, y .long, for-keeps y .long)) in
-          subst FineName (sym (keeps-name k (omega (arith, for-start y, y .above)) ∙ for-name y)) (for-fine y .4)
+          let k = pushed-keeps {base = y .base} p (omega (arith, for-room y)) (omega (arith, for-keeps y .long)) in
+          subst FineName (sym (keeps-name k (omega (arith, for-start y)) ∙ for-name y)) (for-fine y .4)
 
       pub for-says : (y : ReadyU s end here st) → Says v (byJudged text (y .scope) (for-is y .by))
       for-says y = let u = for-is y in
           jb .by (y .scope) (u .by) (keeps-shows (for-keeps y) (omega arith) (y .shows)) (for-fine y .2)
-          (keeps-lies (for-keeps y) (omega (arith, y .above, for-limit-end y))
-          (subst (λ (z : ℕ). Lies s z (encodeBy (u .by))) (sym (for-limit-end y)) (u .lies-by))) (omega (arith, for-body-start y, for-limit-end y))
+          (keeps-lies (for-keeps y) (omega (arith, for-limit-end y)) (rw (← (for-limit-end y)) at (u .lies-by)))
+          (omega (arith, for-body-start y, for-limit-end y))
 
       pub for-labels : (y : ReadyU s end here st)
           → (m .label ≤ st .label + 3 + 2 * length (encode (for-is y .start)) + 2 * length (encode (for-is y .limit))) × (st .label ≤ m .label)
       for-labels y =
           let x = g .by (for-first e y) in let z = g₂ .by (for-limit y) in let w = bl .by
           (byJudged text (y .scope) (for-is y .by)) (for-says y) t₄ in (
-            omega (arith, e .label, x .did .few, f .label, z .did .few, f₂ .label, w .few, f₃ .label),
-            omega
-                (arith, e .label, x .did .grows, f .label, z .did .grows, f₂ .label, w .grows, f₃ .label),
+            omega arith,
+            omega (arith, e .label, x .did .grows, f .label, z .did .grows, f₂ .label, w .grows, f₃ .label),
           )
 
       module _ {s₃ s₄ : List ℕ} {x₄ : ℕ} (p : Pushed s₂ s₃ (here .top) 0 0) (p₂ : PushedName s₃ s₄ (here .top + 2) (n .start) x₄)
           (ex : x₄ ≡ here .height * 4 + 1) where
         pub for-long : (y : ReadyU s end here st) → y .base ≤ length s₂
-        for-long y = omega (arith, y .long, for-keeps y .long)
+        for-long y = omega (arith, for-keeps y .long)
 
         pub for-block-keeps : (y : ReadyU s end here st) → Keeps (y .base) (here .top) s s₄
-        for-block-keeps y = keeps-then (for-keeps y)
-            (named-block-keeps (here .height) (keeps-shows (for-keeps y) (omega arith) (y .shows)) (for-long y) (for-room y)
-            (omega (arith, for-start y, y .above)) p p₂ ex)
+        for-block-keeps y = keeps-then (for-keeps y) (named-block-keeps (here .height) (keeps-shows (for-keeps y) (omega arith) (y .shows))
+            (for-long y) (for-room y) (omega (arith, for-start y)) p p₂ ex)
 
         pub for-block-shows : (y : ReadyU s end here st)
             → Shows s₄ (here .top + 4) (declared (opened (y .scope)) (for-is y .name) (N.local (here .height)))
         for-block-shows y =
-            let u = for-is y in let k = for-keeps y in
-            let w = named-block-shows (here .height) (keeps-shows k (omega arith) (y .shows)) (for-long y) (for-room y)
-            (omega (arith, for-start y, y .above)) p p₂ ex in
-            subst (λ (i : Name). Shows s₄ (here .top + 4) (declared (opened (y .scope)) i (N.local (here .height)))) (for-name y) w
+            let u = for-is y in let k = for-keeps y in let w = named-block-shows (here .height) (keeps-shows k (omega arith) (y .shows)) (for-long y)
+            (for-room y) (omega (arith, for-start y)) p p₂ ex in
+            rw (for-name y) at w
 
         abbrev pub for-body : ReadyU s end here st → ReadyC s₄ (n .inner) (placed (here .top + 4) (here .height + 2) here) m
         for-body y =
-            let u = for-is y in let k = for-block-keeps y in
-            let lo′ = y .lo + 4 + length (encode (u .start)) + length (encode (u .limit)) + length (encodeBy (u .by)) in
-            moved encodeCommand commandDepth FineC y k (n .inner) lo′ (placed (here .top + 4) (here .height + 2) here) m (u .body)
-            (declared (opened (y .scope)) (u .name) (N.local (here .height))) (u .lies-body) (omega (arith, nd .inner, u .ends)) (omega arith)
-            (omega (arith, nd .inner)) (for-block-shows y) (omega (arith, y .room, y .ends, u .ends)) refl
-            (omega (arith, y .height, y .ends, u .ends))
-            (omega (arith, y .label, y .ends, u .ends, for-labels y)) (omega (arith, y .some, for-labels y)) (for-deep y .2) (for-fine y .3)
+            let u = for-is y in let k = for-block-keeps y in let lo′ = y .lo + 4 + length (encode (u .start)) + length (encode (u .limit))
+            + length (encodeBy (u .by)) in
+            moved y k (declared (opened (y .scope)) (u .name) (N.local (here .height))) (u .lies-body) (for-block-shows y) (omega arith)
+            (omega (arith, nd .inner, u .ends, for-labels y, for-deep y .2)) (for-fine y .3)
 
         pub for-gave : (ways : Ways) {s₅ t₆ t₇ : List ℕ} {o r : State}
             → GaveC text s₄ s₅ (n .inner) (placed (here .top + 4) (here .height + 2) here) (inLoop (st .label + 1) (st .label + 2) ways) t₅ t₆ m o
@@ -255,24 +229,19 @@ module _ {s : List ℕ} {end : ℕ} {here : Here} {st : State} (n b l : Node) {l
               (length (encodeUnlabelled (y .tree))) (y .base) here s s₅ t t₇ st r) (sym (u .same))
               (record {
                 keeps = after-block (omega arith) (for-block-keeps y) (w .keeps);
-                did = did-at (cmdSays here ways (R.for E D B C)) _
-                    (did-fresh e
+                did = did-at (cmdSays here ways (R.for E D B C)) _ (did-fresh e
                     (did-put (did-then (did-put (did-judged (did-emit (did-then (did-emit (with-ways text sc here ways h (u .start) (x .did)) f)
-                    (with-ways text sc here ways (h + 1) (u .limit) (z .did))) f₂) bf) f₃) (w .did)) f₄))
-                    (same-eq
-                    (ap (λ (i : List Fault). (in₃ ++ i) ++ inCommand text sc′ (leavableBy (inLoop (L + 1) (L + 2) ways) here) (h + 2) (u .body))
-                    (by-faults text sc (u .by)) ∙ ap
-                    (λ (i : Leavable). (in₃ ++ byFaults text sc (u .by)) ++ inCommand text sc′ i (h + 2) (u .body)) ll))
-                    (λ _. code-is (for-shape EC (G.SP h ∷ []) DC (G.SP (h + 1) ∷ []) (tests L h (v .word))
-                    (G.cmdCode S (h + 2) (L + 3 + (G.exprLabels E + G.exprLabels D)) w′ C) (steps L h (v .word)) ∙ ap
-                    (λ (i : ℕ). EC
-                    ++ (G.SP h
-                    ∷ (DC
-                    ++
-                    (G.SP (h + 1) ∷ (tests L h i ++ (G.cmdCode S (h + 2) (L + 3 + (G.exprLabels E + G.exprLabels D)) w′ C ++ steps L h i)))))) eb
-                    ∙ ap (λ (i : ℕ). EC ++ (G.SP h ∷ (DC ++ (G.SP (h + 1) ∷ (tests L h B ++ (G.cmdCode S (h + 2) i w′ C ++ steps L h B)))))) ec)
-                    (heights-shape (ofExpr h E) ((h + 1) ∷ []) (ofExpr (h + 1) D) ((h + 1 + 1) ∷ []) (ofCmd (h + 2) C) ∙ ap
-                    (λ (i : ℕ). (ofExpr h E ++ ((h + 1) ∷ ofExpr (h + 1) D)) ++ (i ∷ ofCmd (h + 2) C)) eh) (omega arith))
-                    (omega (arith, y .ends, u .ends));
+                    (with-ways text sc here ways (h + 1) (u .limit) (z .did))) f₂) bf) f₃) (w .did)) f₄)) (same-eq (rw (
+                      by-faults text sc (u .by),
+                      ll,
+                    ))) (λ _. code-is (rw (
+                      for-shape EC (G.SP h ∷ []) DC (G.SP (h + 1) ∷ []) (tests L h (v .word))
+                          (G.cmdCode S (h + 2) (L + 3 + (G.exprLabels E + G.exprLabels D)) w′ C) (steps L h (v .word)),
+                      eb,
+                      ec,
+                    )) (rw (
+                      heights-shape (ofExpr h E) ((h + 1) ∷ []) (ofExpr (h + 1) D) ((h + 1 + 1) ∷ []) (ofCmd (h + 2) C),
+                      eh,
+                    )) (omega arith)) (omega arith);
               });
         }

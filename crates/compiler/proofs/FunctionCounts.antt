@@ -1,13 +1,8 @@
 -- How many functions a program has: the loop over its declarations.
-use Prim.Native.Nat.{ℕ, _+_, _≤_, _<_}
-use mathlib.Core.Path.{_≡_, refl, sym, ap, subst, _∙_}
-use mathlib.Core.List.{List, [], _∷_, _++_}
-use native.Mathlib.Omega.{arith}
-use lib.ListN.{length, getD, length-append}
+use Rattle.compiler.proofs.Basics.{ℕ, _+_, _≤_, _<_, _≡_, refl, ap, subst, _∙_, List, [], _∷_, _++_, arith, length, getD, length-append}
 use Rattle.language.specs.Kinds as K
 use Rattle.language.specs.Tree as T
-use Rattle.language.specs.Tree.{Declaration, Program}
-use Rattle.tree.specs.Encoding.{encodeProgram}
+use Rattle.compiler.proofs.Language.{Declaration, Program, encodeProgram}
 use Rattle.compiler.specs.Walks.{Lies}
 use Rattle.compiler.specs.Groups.{functionCount, CountsFunctions, CountsGroup}
 use Rattle.compiler.specs.Programs.{encodeDeclared, declaredWord}
@@ -29,14 +24,16 @@ pub is-declaration : {s : List ℕ} {at end : ℕ} (p : Program)
 unfolding encodeProgram
 is-declaration [] h e l = absurd (omega arith)
 is-declaration {s} {at} (d ∷ p) h e l =
-    first-of encodeProgram encodeDeclared declaredWord (λ d p. d ∷ p) d p (subst (Lies s at) (program-step d p) h)
-    (e ∙ ap (λ (x : List ℕ). at + length x) (program-step d p))
+    first-of encodeProgram encodeDeclared declaredWord (λ d p. d ∷ p) d p (subst (Lies s at) (program-step d p) h) (rw (e, program-step d p))
 
 pub no-declaration : {at end : ℕ} (p : Program) → end ≡ at + length (encodeProgram p) → end ≤ at → p ≡ []
 no-declaration [] e l = refl
-no-declaration {at} {end} (d ∷ p) e l =
-    absurd
-    (omega (arith, e, ap length (program-step d p), length-append (length (encodeDeclared d) ∷ declaredWord d ∷ encodeDeclared d) (encodeProgram p)))
+no-declaration (d ∷ p) e l =
+    absurd (omega (
+      arith,
+      ap length (program-step d p),
+      length-append (length (encodeDeclared d) ∷ declaredWord d ∷ encodeDeclared d) (encodeProgram p),
+    ))
 
 -- the functions of one declaration
 abbrev ownCount : Declaration → ℕ
@@ -61,8 +58,7 @@ pub record Part (s : List ℕ) (at end n : ℕ) (p : Program) : Type 0 where
   pub sum : n + functionCount rest ≡ functionCount p
 
 abbrev pub Counted : (s : List ℕ) (from end at n : ℕ) → Type 0
-Counted s from end at n =
-    (p : Program) → Lies s from (encodeProgram p) → end ≡ from + length (encodeProgram p) → Part s at end n p
+Counted s from end at n = (p : Program) → Lies s from (encodeProgram p) → end ≡ from + length (encodeProgram p) → Part s at end n p
 
 pub counted-begin : {s : List ℕ} {from end : ℕ} → Counted s from end from 0
 counted-begin p h e = record { rest = p; lies = h; ends = e; sum = omega arith }
@@ -78,9 +74,9 @@ module _ {s : List ℕ} {from end at n size word : ℕ} (l : at < end) (es : siz
       let k : size ≡ length (encodeDeclared (u .part)) = es ∙ u .size-of in
       record {
         rest = u .more;
-        lies = subst (λ (z : ℕ). Lies s (at + 2 + z) (encodeProgram (u .more))) (sym k) (u .lies-more);
-        ends = omega (arith, u .ends, k);
-        sum = omega (arith, c .sum, ap functionCount (u .same), count-step (u .part) (u .more), own (u .part) (ew ∙ u .word-of) (u .lies) k);
+        lies = rw k (u .lies-more);
+        ends = omega arith;
+        sum = omega (arith, ap functionCount (u .same), count-step (u .part) (u .more), own (u .part) (ew ∙ u .word-of) (u .lies) k);
       }
 
   pub counted-group : {m : ℕ} → word ≡ K.LET → CountsGroup s (at + 2) (at + 2 + size) m → Counted s from end (at + 2 + size) (n + m)
@@ -101,11 +97,7 @@ module _ {s : List ℕ} {from end at n size word : ℕ} (l : at < end) (es : siz
 
   -- a group never reaches past the end
   pub counted-past : end < at + 2 + size → Counted s from end (at + 2 + size) n
-  counted-past g p h e =
-      let c = q p h e in let u = is-declaration (c .rest) (c .lies) (c .ends) l in absurd (omega (arith, g, es, u .size-of, u .ends))
+  counted-past g p h e = let c = q p h e in let u = is-declaration (c .rest) (c .lies) (c .ends) l in absurd (omega arith)
 
 pub counted-end : {s : List ℕ} {from end at n : ℕ} → end ≤ at → Counted s from end at n → CountsFunctions s from end n
-counted-end l q = record {
-  by = λ p h e. let c = q p h e in
-      omega (arith, c .sum, ap functionCount (no-declaration (c .rest) (c .ends) l), count-none);
-}
+counted-end l q = record { by = λ p h e. let c = q p h e in omega (arith, ap functionCount (no-declaration (c .rest) (c .ends) l), count-none) }

@@ -1,29 +1,14 @@
 -- A function: where its parameters and its body stand, and what its walk does, step after step.
-use Prim.Native.Nat.{ℕ, _+_, _*_, _-_, _/_, _≤_, _<_, _^_}
-use mathlib.Core.Path.{_≡_, refl, sym, ap, subst, _∙_}
-use mathlib.Core.Bool.{not}
-use mathlib.Core.List.{List, [], _∷_, _++_}
-use native.Mathlib.Omega.{arith}
-use lib.ListN.{length, getD, length-append}
-use lib.Dec.{eqb}
+use Rattle.compiler.proofs.Basics.{ℕ, _+_, _*_, _-_, _/_, _≤_, _<_, _^_, _≡_, refl, _∙_, not, List, [], _∷_, _++_, arith, length, getD}
+use Rattle.compiler.proofs.Basics.{length-append, eqb}
 use Rattle.items.specs.Item as I
 use Rattle.language.specs.Kinds as K
-use Rattle.language.specs.Tree.{Function}
-use Rattle.language.specs.Names.{opened}
-use Rattle.language.specs.Resolve.{declareAll}
-use Rattle.language.specs.Heights.{heightsOf, ofBody}
-use Rattle.language.specs.Program.{inside, bodyOf, bodyFaults, functionFaults, resolved}
+use Rattle.compiler.proofs.Language.{Function, opened, declareAll, heightsOf, encodeName, encodeNames, encodeBody, bodyWord}
+use Rattle.language.specs.Program.{inside, bodyOf, functionFaults, resolved}
 use Rattle.code.specs.Generate as G
-use Rattle.language.proofs.Depth.{bodyDepth}
-use Rattle.tree.specs.Encoding.{encodeName, encodeNames, encodeBody, bodyWord}
-use Rattle.compiler.specs.Scope.{Shows, Keeps, Pushed}
-use Rattle.compiler.specs.declared.steps.State.{State}
-use Rattle.compiler.specs.declared.steps.Here.{Here}
-use Rattle.compiler.specs.declared.steps.Node.{Node}
-use Rattle.compiler.specs.Walked.{NodeAt, Did, Emits, Reached}
-use Rattle.compiler.specs.Walks.{Lies}
+use Rattle.compiler.proofs.Vocabulary.{Keeps, Pushed, State, Here, Node, NodeAt, Emits, Reached, Lies}
 use Rattle.compiler.specs.Commands.{ReadyNames, Declares}
-use Rattle.compiler.specs.Groups.{encodeFunction, FineB, ReadyBody, GaveBody, functionSays, ReadyF, GaveF}
+use Rattle.compiler.specs.Groups.{encodeFunction, ReadyBody, GaveBody, functionSays, ReadyF, GaveF}
 use Rattle.compiler.proofs.Scoping.{keeps-then, keeps-lower, pushed-keeps, pushed-mark}
 use Rattle.compiler.proofs.Done.{did-then, did-put, did-after, did-as, same-refl, code-is}
 use Rattle.compiler.proofs.Trees.{first, second, keeps-lies, ends, kid, size-is, value-is, kind-is}
@@ -42,18 +27,21 @@ pub record Parted (s : List ℕ) (lo end : ℕ) (f : Function) : Type 0 where
 
 pub parted : {s : List ℕ} {lo end : ℕ} (f : Function) → Lies s lo (encodeFunction f) → end ≡ lo + length (encodeFunction f) → Parted s lo end f
 unfolding encodeName
-parted {s} {lo} {end} f h e =
+parted {s} {lo} f h e =
     let name : List ℕ = encodeName (f .name) in let names = encodeNames (f .parameters) in let body = encodeBody (f .body) in
-    let w = name ++ (names ++ body) in let v = length names in let k = bodyWord (f .body) in
-    let inner = kid w v 0 k h e in let rest = second name (names ++ body) (lo + 4) inner refl in
-    let z : length w ≡ 4 + length names + length body = omega (arith, length-append name (names ++ body), length-append names body) in
+    let w = name ++ (names ++ body) in let v = length names in let k = bodyWord (f .body) in let inner = kid w v 0 k h e in let rest = second name
+    (names ++ body) (lo + 4) inner refl in let z : length w ≡ 4 + length names + length body = omega (
+      arith,
+      length-append name (names ++ body),
+      length-append names body,
+    ) in
     record {
       lies-names = first names body rest;
       lies-body = second names body (lo + 4 + length names) rest refl;
       size-of = size-is w v 0 k h e ∙ z;
       value-of = value-is w v 0 k h e;
       kind-of = kind-is w v 0 k h e;
-      ends = omega (arith, ends w v 0 k h e, z);
+      ends = omega (arith, ends w v 0 k h e);
     }
 
 -- inside: above the mark and the parameters
@@ -71,21 +59,21 @@ module _ {s : List ℕ} {end : ℕ} {here : Here} {st : State} (n : Node) (nd : 
   function-parts y = parted (y .tree) (y .lies) (y .ends)
 
   pub function-start : (y : ReadyF s end here st) → n .start ≡ y .lo
-  function-start y = let u = function-parts y in omega (arith, nd .start, u .size-of, u .ends)
+  function-start y = let u = function-parts y in omega arith
 
   pub function-many : (y : ReadyF s end here st) → n .value / 4 ≡ length (y .tree .parameters)
-  function-many y = let u = function-parts y in omega (arith, nd .value, u .value-of, names-long (y .tree .parameters))
+  function-many y = let u = function-parts y in omega (arith, names-long (y .tree .parameters))
 
   pub function-length : (y : ReadyF s end here st)
       → length (encodeFunction (y .tree)) ≡ 8 + 4 * length (y .tree .parameters) + length (encodeBody (y .tree .body))
-  function-length y = omega (arith, y .ends, function-parts y .ends, names-long (y .tree .parameters))
+  function-length y = omega (arith, function-parts y .ends, names-long (y .tree .parameters))
 
   -- room for the mark and the parameters
   pub function-room : (y : ReadyF s end here st)
       → (here .top + 2 ≤ length s) × (here .top + 2 ≤ y .base) × (here .top + 2 + 2 * (n .value / 4) ≤ y .base) × (y .base < 2 ^ 32)
   function-room y =
       let z = function-length y in let k = function-many y in
-      (omega (arith, y .room, z, y .long), omega (arith, y .room, z), omega (arith, y .room, z, k), omega (arith, y .above, y .ends, y .small))
+      (omega arith, omega arith, omega arith, omega arith)
 
   module _ {s₁ : List ℕ} (pu : Pushed s s₁ (here .top) 0 0) where
     abbrev pub function-names : ReadyF s end here st → ReadyNames s₁ (n .start + 4) (n .start + 4 + n .value) (here .top + 2) 2
@@ -96,15 +84,14 @@ module _ {s : List ℕ} {end : ℕ} {here : Here} {st : State} (n : Node) (nd : 
           base = y .base;
           scope = opened (y .scope);
           names = y .tree .parameters;
-          lies = subst (λ (i : ℕ). Lies s₁ (i + 4) (encodeNames (y .tree .parameters))) (sym q)
-              (keeps-lies k (omega (arith, y .above)) (u .lies-names));
-          ends = omega (arith, nd .value, u .value-of);
-          above = omega (arith, y .above, q);
-          long = omega (arith, y .long, k .long);
-          small = omega (arith, y .small, q, nd .value, u .value-of, u .ends);
+          lies = rw q (keeps-lies k (omega arith) (u .lies-names));
+          ends = omega arith;
+          above = omega arith;
+          long = omega arith;
+          small = omega arith;
           shows = pushed-mark pu (r .1) (y .long) (y .shows) refl;
-          room = omega (arith, y .room, z);
-          heights = omega (arith, y .height, z);
+          room = omega arith;
+          heights = omega arith;
           fine = y .fine .parameters;
         }
 
@@ -114,7 +101,7 @@ module _ {s : List ℕ} {end : ℕ} {here : Here} {st : State} (n : Node) (nd : 
       function-keeps y = keeps-then (pushed-keeps pu (function-room y .1) (y .long)) (keeps-lower (omega arith) (de .by (function-names y) .keeps))
 
       pub function-label : ReadyF s end here st → c .label ≡ st .label
-      function-label y = let d = de .by (function-names y) .did t₁ in omega (arith, re .by t₁ .label, d .few, d .grows, em .label)
+      function-label y = let d = de .by (function-names y) .did t₁ in omega (arith, re .by t₁ .label)
 
       abbrev pub function-body : ReadyF s end here st → ReadyBody s₂ (n .inner) (within n here) c (n .kind)
       function-body y =
@@ -122,13 +109,8 @@ module _ {s : List ℕ} {end : ℕ} {here : Here} {st : State} (n : Node) (nd : 
           let m = function-many y in let l = function-label y in
           record {
             ready =
-                moved encodeBody bodyDepth FineB y k (n .inner) (y .lo + 4 + length (encodeNames (y .tree .parameters))) (within n here) c
-                (y .tree .body)
-                (declareAll (opened (y .scope)) 2 (y .tree .parameters)) (u .lies-body) (omega (arith, nd .inner, u .ends)) (omega arith)
-                (omega (arith, nd .inner))
-                (subst (λ (i : ℕ). Shows s₂ (here .top + 2 + 2 * i) (declareAll (opened (y .scope)) 2 (y .tree .parameters))) (sym m) (d .shows))
-                (omega (arith, y .room, z, m)) refl (omega (arith, y .height, z, m)) (omega (arith, y .label, z, l)) (omega (arith, y .some, l))
-                (y .shallow) (y .fine .body);
+                moved y k (declareAll (opened (y .scope)) 2 (y .tree .parameters)) (u .lies-body) (rw m (d .shows)) (omega arith) (omega arith)
+                (y .fine .body);
             word-is = nd .kind ∙ u .kind-of;
             routine-is = refl;
           }
@@ -136,24 +118,15 @@ module _ {s : List ℕ} {end : ℕ} {here : Here} {st : State} (n : Node) (nd : 
       pub function-gave : {s₃ t₂ t₃ : List ℕ} {d r : State} → GaveBody text s₂ s₃ (n .inner) (n .kind) (within n here) t₁ t₂ c d
           → Emits (G.X 4 ∷ []) [] t₂ t₃ d r → GaveF text s s₃ label end here t t₃ st r
       unfolding functionFaults resolved heightsOf
-      function-gave {s₃} {t₂} {t₃} {d} {r} g pt = record {
-        by = λ y.
-            let f = y .tree in let sc = inside (y .scope) f in let w = de .by (function-names y) in let x = g .by (function-body y) in
-            let body = subst (λ (k : ℕ). Did (bodyFaults text sc (2 + k) (f .body))
-            (λ i. record {
-              items = G.bodyCode (here .strings) (2 + k) i (bodyOf text sc (2 + k) (f .body));
-              heights = ofBody (2 + k) (bodyOf text sc (2 + k) (f .body));
-              labels = G.bodyLabels (bodyOf text sc (2 + k) (f .body));
-            })
-            (2 * length (encodeBody (f .body))) t₁ t₂ c d) (function-many y) (x .did) in let top = subst (λ (k : ℕ). Emits [] ((2 + k) ∷ []) t₁ t₁ b
-            c) (function-many y) (re .by t₁) in let h = 2 + length (f .parameters) in let rb = bodyOf text sc h (f .body) in
+      function-gave g pt = record {
+        by = λ y. let f = y .tree in let sc = inside (y .scope) f in let w = de .by (function-names y) in let x = g .by (function-body y) in
+            let body = rw (function-many y) at (x .did) in let top = rw (function-many y) at (re .by t₁) in let h = 2 + length (f .parameters) in
+            let rb = bodyOf text sc h (f .body) in
             record {
               keeps = keeps-then (function-keeps y) (keeps-lower (omega arith) (x .keeps));
               did =
                   did-as (functionSays text (here .strings) label (y .scope) f) _
-                  (did-after em (did-then (w .did t₁) (did-after top (did-put body pt)))) same-refl
-                  (λ i e. let q : i + 0 ≡ i = omega arith in
-                  code-is (ap (λ (j : ℕ). I.label label ∷ (G.bodyCode (here .strings) h j rb ++ (G.X 4 ∷ []))) q) refl (omega arith))
-                  (omega (arith, function-length y));
+                  (did-after em (did-then (w .did t₁) (did-after top (did-put body pt)))) same-refl (λ i e. let q : i + 0 ≡ i = omega arith in
+                  code-is (rw q) refl (omega arith)) (omega (arith, function-length y));
             };
       }

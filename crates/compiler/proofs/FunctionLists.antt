@@ -1,32 +1,16 @@
 -- The functions of a group, one after another: what each adds to the faults, the code and the heights, and the loop.
-use Prim.Native.Nat.{ℕ, suc, _+_, _*_, _≤_, _<_, _^_}
-use mathlib.Core.Path.{_≡_, refl, sym, ap, subst, _∙_}
-use mathlib.Core.Bool.{Bool, true, false, cond}
-use mathlib.Core.List.{List, [], _∷_, _++_, append-nil, append-assoc}
-use native.Mathlib.Omega.{arith}
-use lib.ListN.{length, getD, length-append}
-use lib.Dec.{ltb}
-use borrow.Author.Tests.{lt-ltb, le-ltb}
+use Rattle.compiler.proofs.Basics.{ℕ, suc, _+_, _*_, _≤_, _<_, _^_, _≡_, refl, sym, ap, subst, _∙_, Bool, true, false, cond, List, [], _∷_}
+use Rattle.compiler.proofs.Basics.{_++_, append-nil, append-assoc, arith, length, getD, length-append, ltb, lt-ltb, le-ltb}
 use Rattle.items.specs.Item as I
-use Rattle.language.specs.Tree.{Function}
-use Rattle.language.specs.Names.{Scope, lookup}
-use Rattle.language.specs.Constants.{Fault, fault}
-use Rattle.language.specs.Resolved.{Fun, Start, nowhere}
-use Rattle.language.specs.Heights.{heightsOf, greatest, largestHeight}
+use Rattle.compiler.proofs.Language.{Function, Scope, lookup, Fault, fault, Fun, Start, heightsOf, greatest, largestHeight, FineFunctions}
+use Rattle.compiler.proofs.Language.{functionsDepth, encodeName, encodeNames, encodeBody, bodyWord, encodeFunctions}
 use Rattle.language.specs.Program.{Named, startOf, withFunction, resolved, functionFaults, groupFaults, groupOf, heightFaults}
 use Rattle.language.specs.Whole.{funs}
-use Rattle.language.specs.Fine.{FineFunctions}
-use Rattle.language.proofs.Depth.{functionsDepth}
 use Rattle.code.specs.Generate as G
-use Rattle.tree.specs.Encoding.{encodeName, encodeNames, encodeBody, bodyWord, encodeFunctions}
-use Rattle.compiler.specs.Scope.{Keeps}
-use Rattle.compiler.specs.Walked.{Did, Code, least, AllFit, noFit, andFit}
-use Rattle.compiler.specs.Walks.{Lies}
+use Rattle.compiler.proofs.Vocabulary.{Keeps, Did, Code, least, AllFit, noFit, andFit, Lies, State, Here}
 use Rattle.compiler.specs.Groups.{encodeFunction, functionDepth, FineF, FineFs, functionSays, functionsSays, innerLabels, ReadyF, GaveF}
 use Rattle.compiler.specs.Groups.{ReadyFs, GaveFs}
 use Rattle.compiler.specs.Programs.{Yields}
-use Rattle.compiler.specs.declared.steps.State.{State}
-use Rattle.compiler.specs.declared.steps.Here.{Here}
 use Rattle.compiler.specs.declared.program.Done.{Done}
 use Rattle.compiler.proofs.Scoping.{keeps-all, keeps-then, keeps-shows}
 use Rattle.compiler.proofs.Done.{least-then, fit-then, nil-left, nil-right, did-none, did-then, did-as, same-refl, code-is}
@@ -57,7 +41,7 @@ module _ (tall high place : ℕ) where
 pub funs-then : (gs hs : List Named) → funs (gs ++ hs) ≡ funs gs ++ funs hs
 unfolding funs
 funs-then [] hs = refl
-funs-then (g ∷ gs) hs = ap (λ (z : List Fun). g .fun ∷ z) (funs-then gs hs)
+funs-then (g ∷ gs) hs = rw (funs-then gs hs)
 
 pub funs-long : (gs : List Named) → length (funs gs) ≡ length gs
 unfolding funs
@@ -69,7 +53,7 @@ unfolding heightFaults
 heights-then [] hs = refl
 heights-then (g ∷ gs) hs =
     let a = cond (ltb 8192 (largestHeight (g .fun))) (fault (g .name .place) 16) [] in
-    ap (λ (z : List Fault). a ++ z) (heights-then gs hs) ∙ sym (append-assoc a (heightFaults gs) (heightFaults hs))
+    simp (heights-then gs hs, append-assoc)
 
 labels-then : (fs gs : List Fun) → innerLabels (fs ++ gs) ≡ innerLabels fs + innerLabels gs
 unfolding innerLabels
@@ -81,7 +65,7 @@ code-then : (strings l n : ℕ) (fs gs : List Fun) {k m : ℕ} → k ≡ l + len
 unfolding G.functionsCode innerLabels
 code-then strings l n [] gs {k} {m} a b =
     let p : l ≡ k = omega arith in let q : n ≡ m = omega arith in
-    ap (λ (z : ℕ). G.functionsCode strings z n gs) p ∙ ap (λ (z : ℕ). G.functionsCode strings k z gs) q
+    rw (p, q)
 code-then strings l n (f ∷ fs) gs {k} {m} a b =
     let c = G.bodyCode strings (2 + f .parameters) n (f .body) in let n′ = n + G.bodyLabels (f .body) in
     ap (λ (z : List I.Item). I.label l ∷ c ++ (G.X 4 ∷ z)) (code-then strings (suc l) n′ fs gs (omega arith) (omega arith)) ∙ ap
@@ -110,16 +94,19 @@ pub yields-then : {strings l : ℕ} (k : ℕ) {fs fs′ : List Fault} {gs gs′ 
 yields-then {strings} {l} k {fs} {fs′} {gs} {gs′} {m} {m′} {t} {t₁} {t₂} {d} {d₁} {d₂} e x y = record {
   did = did-as (functionsSays strings l (funs (gs ++ gs′))) (m + m′) (did-then (x .did) (y .did)) same-refl (λ n c. says-then strings l n gs gs′ e)
       (omega arith);
-  tall = λ c. y .tall (nil-right fs fs′ c) ∙ ap (λ (z : ℕ). least z (heightFaults gs′)) (x .tall (nil-left fs fs′ c))
-      ∙ least-then (d .tall) (heightFaults gs) (heightFaults gs′) ∙ ap (least (d .tall)) (sym (heights-then gs gs′));
+  tall = λ c. rw (
+    y .tall (nil-right fs fs′ c),
+    x .tall (nil-left fs fs′ c),
+    least-then (d .tall) (heightFaults gs) (heightFaults gs′),
+    heights-then gs gs′,
+  );
   fits = subst AllFit (sym (heights-then gs gs′)) (fit-then (x .fits) (y .fits));
 }
 
 pub yields-as : {strings l : ℕ} {fs fs′ : List Fault} {gs gs′ : List Named} {m : ℕ} (m′ : ℕ) {t t′ : List ℕ} {d d′ : Done} → fs ≡ fs′ → gs ≡ gs′
     → m ≤ m′ → Yields strings l fs gs m t t′ d d′ → Yields strings l fs′ gs′ m′ t t′ d d′
-yields-as {strings} {l} {fs} {fs′} {gs} {gs′} {m} m′ {t} {t′} {d} {d′} a b c x =
-    subst (λ (z : List Fault). Yields strings l z gs′ m′ t t′ d d′) a
-    (subst (λ (z : List Named). Yields strings l fs z m′ t t′ d d′) b
+yields-as {strings} {l} {fs} {fs′} {gs} m′ {t} {t′} {d} {d′} a b c x =
+    rw (← a) (rw (← b)
     (record { did = did-as (functionsSays strings l (funs gs)) m′ (x .did) same-refl (λ n e. refl) c; tall = x .tall; fits = x .fits }))
 
 -- ---- the height is taken away
@@ -130,8 +117,8 @@ flat st = record { at = st .at; label = st .label; worst = st .worst; high = 0 }
 pub did-flat : {fs : List Fault} {code : ℕ → Code} {m : ℕ} {t t′ : List ℕ} {st a r : State} → st .high ≡ 0 → r ≡ flat a → Did fs code m t t′ st a
     → Did fs (λ n. record { items = code n .items; heights = []; labels = code n .labels }) m t t′ st r
 unfolding greatest
-did-flat {fs} {code} {m} {t} {t′} {st} {a} {r} low e x =
-    subst (λ (z : State). Did fs (λ n. record { items = code n .items; heights = []; labels = code n .labels }) m t t′ st z) (sym e) (record {
+did-flat low e x =
+    rw e (record {
       worst = x .worst;
       fits = x .fits;
       few = x .few;
@@ -153,10 +140,7 @@ yields-one text sc start strings l f {m} {tall} {tall′} {place} {t} {t′} {st
     let g = namedBy text sc start f in let hf : ℕ → List Fault = λ h. cond (ltb 8192 h) (fault (f .name .place) 16) [] in
     record {
       did = did-as (functionsSays strings l (funs (g ∷ []))) m (did-flat low e x) same-refl (λ n c. code-is refl refl (omega arith)) (omega arith);
-      tall = λ c.
-          let q : a .high ≡ largestHeight (g .fun) = x .clean c .high ∙ ap (λ (z : ℕ). greatest z (heightsOf (resolved text sc nowhere f))) low in
-          et ∙ ap (λ (z : ℕ). least tall (cond (ltb 8192 (a .high)) (fault z 16) [])) ep ∙ ap (λ (z : ℕ). least tall (hf z)) q
-          ∙ ap (least tall) (sym (append-nil (hf (largestHeight (g .fun)))));
+      tall = λ c. let q : a .high ≡ largestHeight (g .fun) = rw (x .clean c .high, low) in simp (et, ep, q, append-nil);
       fits = fit-then (by (ltb 8192 (largestHeight (g .fun)))) noFit;
     }
   where
@@ -256,14 +240,14 @@ module _ (text t₀ : List ℕ) {s₀ : List ℕ} {from end : ℕ} {here : Here}
     group-one = is-function (p .rest) (p .lies) (p .ends) lt
 
     pub group-size : size ≡ length (encodeFunction (group-one .part))
-    group-size = es ∙ p .keeps .above at (omega (arith, y .above, p .starts)) ∙ group-one .size-of
+    group-size = es ∙ p .keeps .above at (omega arith) ∙ group-one .size-of
 
     pub group-length : length (encodeFunctions (p .rest)) ≡ 2 + length (encodeFunction (group-one .part)) + length (encodeFunctions (group-one .more))
     group-length = omega (arith, p .ends, group-one .ends)
 
     pub group-deep : (functionDepth (group-one .part) ≤ here .left) × (functionsDepth (group-one .more) ≤ here .left)
     unfolding functionsDepth
-    group-deep = (omega (arith, p .shallow, ap functionsDepth (group-one .same)), omega (arith, p .shallow, ap functionsDepth (group-one .same)))
+    group-deep = (omega (arith, ap functionsDepth (group-one .same)), omega (arith, ap functionsDepth (group-one .same)))
 
     pub group-fine : FineF (group-one .part) × FineFs (group-one .more)
     unfolding FineFunctions
@@ -273,11 +257,11 @@ module _ (text t₀ : List ℕ) {s₀ : List ℕ} {from end : ℕ} {here : Here}
     group-many = ap length (group-one .same)
 
     pub group-room : here .top * 2 + length (encodeFunction (group-one .part)) ≤ y .base * 2
-    group-room = omega (arith, p .room, group-length, group-many, functions-long (group-one .more))
+    group-room = omega (arith, group-length, group-many, functions-long (group-one .more))
 
     pub group-used : p .used + 2 + length (encodeFunction (group-one .part)) + length (encodeFunctions (group-one .more))
         ≤ length (encodeFunctions (y .functions))
-    group-used = omega (arith, p .uses, group-length)
+    group-used = omega (arith, group-length)
 
     abbrev pub group-ready : ReadyF s next here (d .state)
     group-ready = record {
@@ -285,15 +269,15 @@ module _ (text t₀ : List ℕ) {s₀ : List ℕ} {from end : ℕ} {here : Here}
       lo = at + 2;
       tree = group-one .part;
       scope = y .scope;
-      lies = keeps-lies (p .keeps) (omega (arith, y .above, p .starts)) (group-one .lies);
+      lies = keeps-lies (p .keeps) (omega arith) (group-one .lies);
       ends = omega (arith, en, group-size);
-      above = omega (arith, y .above, p .starts);
-      long = omega (arith, y .long, p .keeps .long);
+      above = omega arith;
+      long = omega arith;
       small = omega (arith, y .small, en, group-size, group-one .ends);
       shows = keeps-shows (p .keeps) (omega arith) (y .shows);
       room = group-room;
-      height = omega (arith, y .height, group-used);
-      label = omega (arith, y .label, group-used, p .yields .did .few);
+      height = omega (arith, group-used);
+      label = omega (arith, group-used);
       some = p .some;
       strings = y .strings;
       shallow = group-deep .0;
@@ -301,22 +285,17 @@ module _ (text t₀ : List ℕ) {s₀ : List ℕ} {from end : ℕ} {here : Here}
     }
 
     pub group-fits : FunctionFits at size end l label
-    group-fits = record {
-      next = omega (arith, group-size, group-one .ends);
-      small = y .small;
-      few = omega (arith, p .next, p .few, p .uses, y .ends, p .ends, lt);
-    }
+    group-fits = record { next = omega (arith, group-size, group-one .ends); small = y .small; few = omega arith }
 
     pub group-next : {s₁ t₁ : List ℕ} {tall place : ℕ} {a r : State} → GaveF text s s₁ l next here t t₁ (d .state) a → place ≡ getD s₁ (at + 4) 0
         → place < 2 ^ 32 → tall ≡ least (d .tall) (cond (ltb 8192 (a .high)) (fault place 16) []) → r ≡ flat a → GroupPart y before k s₁ t₁ next
         (l + 1) (record { tall = tall; state = r })
     unfolding groupFaults groupOf
-    group-next {s₁} {t₁} {tall} {place} {a} {r} g ep small et er =
+    group-next g ep small et er =
         let u = group-one in let f = u .part in let x = g .by group-ready in let start = startOf (lookup text (p .scope) (f .name)) in
-        let n = namedBy text (y .scope) start f in let q4 : at + 2 + 2 ≡ at + 4 = omega arith in
-        let one = yields-one text (y .scope) start (here .strings) l f (x .did) (p .low) er
-        (ep ∙ x .keeps .above (at + 4) (omega (arith, y .above, p .starts)) ∙ p .keeps .above (at + 4) (omega (arith, y .above, p .starts)) ∙ ap
-        (λ (z : ℕ). getD s₀ z 0) (sym q4) ∙ function-place f (u .lies)) small et in
+        let n = namedBy text (y .scope) start f in let q4 : at + 2 + 2 ≡ at + 4 = omega arith in let one = yields-one text (y .scope) start
+        (here .strings) l f (x .did) (p .low) er (ep ∙ x .keeps .above (at + 4) (omega arith) ∙ p .keeps .above (at + 4) (omega arith)
+        ∙ ap (λ (z : ℕ). getD s₀ z 0) (sym q4) ∙ function-place f (u .lies)) small et in
         record {
           rest = u .more;
           found = p .found ++ functionFaults text (y .scope) f;
@@ -325,29 +304,26 @@ module _ (text t₀ : List ℕ) {s₀ : List ℕ} {from end : ℕ} {here : Here}
           number = p .number + 1;
           used = p .used + (2 + length (encodeFunction f));
           lies = subst (λ (z : ℕ). Lies s₀ z (encodeFunctions (u .more))) (omega (arith, en, group-size)) (u .lies-more);
-          ends = omega (arith, u .ends, en, group-size);
-          starts = omega (arith, p .starts, en);
+          ends = omega (arith, en, group-size);
+          starts = omega arith;
           keeps = keeps-then (p .keeps) (x .keeps);
-          uses = omega (arith, group-used);
+          uses = omega arith;
           room = omega (
             arith,
-            p .room,
             group-length,
             group-many,
             functions-step f (u .more),
             ap (λ (z : List Function). length (encodeFunctions z)) (u .same),
           );
-          some = omega (arith, p .some, one .did .grows);
-          low = ap (λ (z : State). z .high) er;
+          some = omega arith;
+          low = rw er;
           shallow = group-deep .1;
           fine = group-fine .1;
-          next = omega (arith, p .next, length-append (p .made) (n ∷ []));
-          few = omega (arith, p .few, length-append (p .made) (n ∷ []));
-          faults-are = append-assoc (p .found) (functionFaults text (y .scope) f) (groupFaults text (y .scope) (u .more))
-              ∙ ap (λ (z : List Function). p .found ++ groupFaults text (y .scope) z) (sym (u .same)) ∙ p .faults-are;
-          made-are = append-assoc (p .made) (n ∷ [])
-              (groupOf text (p .number + 1) (withFunction (p .scope) (f .name) (p .number) start) (y .scope) (u .more))
-              ∙ ap (λ (z : List Function). p .made ++ groupOf text (p .number) (p .scope) (y .scope) z) (sym (u .same)) ∙ p .made-are;
+          next = omega (arith, length-append (p .made) (n ∷ []));
+          few = omega (arith, length-append (p .made) (n ∷ []));
+          faults-are = cc (append-assoc (p .found) (functionFaults text (y .scope) f) (groupFaults text (y .scope) (u .more)));
+          made-are = cc (append-assoc (p .made) (n ∷ []) (groupOf text (p .number + 1) (withFunction (p .scope) (f .name) (p .number) start)
+              (y .scope) (u .more)));
           yields = yields-as (2 * (p .used + (2 + length (encodeFunction f)))) refl refl (omega arith) (yields-then l (p .next) (p .yields) one);
         }
 
@@ -355,12 +331,9 @@ module _ (text t₀ : List ℕ) {s₀ : List ℕ} {from end : ℕ} {here : Here}
       → ((y : ReadyFs s₀ from end here d₀) (before : Scope) (k : ℕ) → GroupPart y before k s t at l d)
       → GaveFs text s₀ s from end label here t₀ t d₀ d
   unfolding groupFaults groupOf
-  group-end {s} {t} {at} {l} {d} lt q = record {
-    by = λ y before k. let p = q y before k in let e = no-function (p .rest) (p .ends) lt in
-        let fe : p .found ≡ groupFaults text (y .scope) (y .functions) = sym (append-nil (p .found)) ∙ ap
-        (λ (z : List Function). p .found ++ groupFaults text (y .scope) z) (sym e) ∙ p .faults-are in
-        let me : p .made ≡ groupOf text k before (y .scope) (y .functions) = sym (append-nil (p .made)) ∙ ap
-        (λ (z : List Function). p .made ++ groupOf text (p .number) (p .scope) (y .scope) z) (sym e) ∙ p .made-are in
-        let r = yields-as (2 * length (encodeFunctions (y .functions))) fe me (omega (arith, p .uses)) (p .yields) in
+  group-end lt q = record {
+    by = λ y before k. let p = q y before k in let e = no-function (p .rest) (p .ends) lt in let fe : p .found ≡ groupFaults text (y .scope)
+        (y .functions) = cc (append-nil (p .found)) in let me : p .made ≡ groupOf text k before (y .scope) (y .functions) = cc (append-nil
+        (p .made)) in let r = yields-as (2 * length (encodeFunctions (y .functions))) fe me (omega arith) (p .yields) in
         record { result = record { keeps = p .keeps; did = r .did }; tall = r .tall; fits = r .fits; low = p .low };
   }

@@ -1,24 +1,11 @@
 -- The names of functions, and the table of globals.
-use Prim.Native.Nat.{ℕ, _+_, _*_, _/_, _%_, _≤_, _<_}
-use mathlib.Core.Path.{_≡_, refl, sym, ap, subst, _∙_}
-use mathlib.Core.Bool.{Bool, true, false, cond}
-use mathlib.Core.List.{List, [], _∷_}
-use native.Mathlib.Omega.{arith}
-use lib.ListN.{length, getD, set, length-set}
-use lib.Seq.{getD-set-same, getD-set-other}
-use lib.Dec.{eqb}
-use borrow.Author.Tests.{eqb-true, eqb-false}
-use Rattle.language.specs.Tree.{Name, Function}
+use Rattle.compiler.proofs.Basics.{ℕ, _+_, _*_, _/_, _%_, _≤_, _<_, _≡_, refl, sym, ap, _∙_, Bool, true, false, cond, List, [], _∷_, arith}
+use Rattle.compiler.proofs.Basics.{length, getD, set, length-set, getD-set-same, getD-set-other, eqb, eqb-true, eqb-false}
+use Rattle.compiler.proofs.Language.{Name, Function, Scope, declared, fault, encodeFunctions}
 use Rattle.language.specs.Names as N
-use Rattle.language.specs.Names.{Scope, declared}
-use Rattle.language.specs.Constants.{fault}
 use Rattle.language.specs.Program.{among, startOf, withFunction, nameFault, alsoTaken}
-use Rattle.tree.specs.Encoding.{encodeFunctions}
-use Rattle.compiler.specs.Scope.{Shows, Keeps, PushedName, code, found, nameAt}
+use Rattle.compiler.proofs.Vocabulary.{Shows, Keeps, PushedName, code, found, nameAt, State, Did, Faulted, Lies}
 use Rattle.compiler.proofs.Scoping.{keeps-all, code-not, pushed-keeps, pushed-name}
-use Rattle.compiler.specs.declared.steps.State.{State}
-use Rattle.compiler.specs.Walked.{Did, Faulted}
-use Rattle.compiler.specs.Walks.{Lies}
 use Rattle.compiler.specs.Commands.{nothing}
 use Rattle.compiler.proofs.Done.{did-none}
 use Rattle.compiler.proofs.Lists.{First, first-of}
@@ -61,7 +48,7 @@ fault-so {table} {m} {place} {st} {r} z n2 fa = record { by = by }
     used : (n : ℕ) (ns : List ℕ) → m / 4 ≡ n → m % 4 ≡ 2 → Taken table ns → n < 400 → (b : Bool) → among n ns ≡ b → (t : List ℕ)
         → Did (cond b (fault place 9) []) nothing 0 t t st r
     used n ns q e k l true a t = fa .by nothing t
-    used n ns q e k l false a t = absurd (n2 e (ap (λ (i : ℕ). getD table i 0) q ∙ k .free n l a))
+    used n ns q e k l false a t = absurd (n2 e (rw (q, k .free n l a)))
 
     by : (f : N.Found) (ns : List ℕ) → m ≡ found f → Taken table ns → ((n : ℕ) → f ≡ N.known (N.global n) → n < 400) → (t : List ℕ)
         → Did (nameFault place ns f) nothing 0 t t st r
@@ -89,8 +76,8 @@ taken-more {table} {ns} {n} {v} k l p = record { long = length-set table n v ∙
       where
         go : (b : Bool) → eqb i n ≡ b → cond b true (among i ns) ≡ true → 0 < getD (set table n v) i 0
         go true q z =
-            let e : i ≡ n = eqb-true i n q in
-            let w : getD (set table n v) i 0 ≡ v = ap (λ (x : ℕ). getD (set table n v) x 0) e ∙ getD-set-same table n v 0 (omega (arith, k .long)) in
+            let e : i ≡ n = eqb-true i n q in let w : getD (set table n v) i 0 ≡ v = ap (λ (x : ℕ). getD (set table n v) x 0) e ∙ getD-set-same table
+            n v 0 (omega arith) in
             omega arith
         go false q z =
             let w : getD (set table n v) i 0 ≡ getD table i 0 = getD-set-other table n i v 0 (eqb-false i n q) in omega (arith, k .used i li z)
@@ -111,24 +98,23 @@ enters-global {s} {table} {table′} {top} {leaf} {m} {k} {n} {v} e en ev et = r
         let z : n ≡ i = omega arith in (
           sh,
           keeps-all,
-          subst (λ (x : List ℕ). Taken x (i ∷ ns)) (sym (et ∙ ap (λ (x : ℕ). set table x v) z)) (taken-more tk (b i refl) (omega arith)),
+          rw (et ∙ ap (λ (x : ℕ). set table x v) z) (taken-more tk (b i refl) (omega arith)),
           omega arith,
           omega arith,
-          et ∙ ap (λ (x : ℕ). set table x v) z ∙ ap (set table i) ev,
+          rw (et, z, ev),
         )
 
 pub enters-name : {s s′ table : List ℕ} {top leaf m k x : ℕ} → (m % 4 ≡ 2 → ⊥) → PushedName s s′ top leaf x → x ≡ k * 4 + 4 → length s′ ≡ length s
     → Enters s s′ table table top leaf m k (top + 2)
 unfolding found code
-enters-name {s} {s′} {table} {top} {leaf} {m} {k} {x} e pu ex el = record { long = (el, refl); by = by }
+enters-name {s} {s′} {table} {top} {leaf} {m} {k} e pu ex el = record { long = (el, refl); by = by }
   where
     there : (base : ℕ) (sc : Scope) (ns : List ℕ) (name : Name) → Shows s top sc → base ≤ length s → top + 2 ≤ base → nameAt s leaf ≡ name
         → Taken table ns → Shows s′ (top + 2) (declared sc name (N.function k)) × Keeps base top s s′ × Taken table ns × (top ≤ top + 2)
         × (top + 2 ≤ top + 2) × (table ≡ table)
     there base sc ns name sh l r nm tk = (
-      subst (λ (z : Name). Shows s′ (top + 2) (declared sc z (N.function k))) nm (pushed-name pu r l (N.function k) sh ex tt),
-      pushed-keeps
-          (pu .pushed) r l,
+      rw nm at (pushed-name pu r l (N.function k) sh ex tt),
+      pushed-keeps (pu .pushed) r l,
       tk,
       omega arith,
       omega arith,
@@ -147,7 +133,7 @@ enters-name {s} {s′} {table} {top} {leaf} {m} {k} {x} e pu ex el = record { lo
 
 pub enters-far : {s table : List ℕ} {top leaf m k n : ℕ} → m % 4 ≡ 2 → n ≡ m / 4 → length table ≤ n → Enters s s table table top leaf m k top
 unfolding found code
-enters-far {s} {table} {top} {leaf} {m} {k} {n} e en l₀ = record { long = (refl, refl); by = by }
+enters-far {s} {table} {top} {leaf} {m} {k} e en l₀ = record { long = (refl, refl); by = by }
   where
     by : (f : N.Found) (base : ℕ) (sc : Scope) (ns : List ℕ) (name : Name) → m ≡ found f → Shows s top sc → base ≤ length s → top + 2 ≤ base
         → nameAt s leaf ≡ name → Taken table ns → ((i : ℕ) → f ≡ N.known (N.global i) → i < 400) → Shows s top (withFunction sc name k (startOf f))
@@ -156,7 +142,7 @@ enters-far {s} {table} {top} {leaf} {m} {k} {n} e en l₀ = record { long = (ref
     by (N.known (N.local i)) base sc ns name q sh l r nm tk b = absurd (omega arith)
     by (N.known (N.manifest i)) base sc ns name q sh l r nm tk b = absurd (omega arith)
     by (N.known (N.function i)) base sc ns name q sh l r nm tk b = absurd (omega arith)
-    by (N.known (N.global i)) base sc ns name q sh l r nm tk b = absurd (omega (arith, b i refl, tk .long))
+    by (N.known (N.global i)) base sc ns name q sh l r nm tk b = absurd (omega (arith, b i refl))
 
 -- ---- how many functions a group has
 
@@ -191,12 +177,7 @@ pub count-next : {s : List ℕ} {from end at n size : ℕ} → at < end → size
     → Counting s from end (at + 2 + size) (n + 1)
 count-next {s} {from} {end} {at} {n} {size} l z q fs h e =
     let p = q fs h e in let u = is-function (p .rest) (p .lies) (p .ends) l in let k : size ≡ length (encodeFunction (u .part)) = z ∙ u .size-of in
-    record {
-      rest = u .more;
-      lies = subst (λ (m : ℕ). Lies s (at + 2 + m) (encodeFunctions (u .more))) (sym k) (u .lies-more);
-      ends = omega (arith, u .ends, k);
-      sum = omega (arith, p .sum, ap length (u .same));
-    }
+    record { rest = u .more; lies = rw k (u .lies-more); ends = omega arith; sum = omega (arith, ap length (u .same)) }
 
 pub count-end : {s : List ℕ} {from end at n : ℕ} → end ≤ at → Counting s from end at n → CountsGroup s from end n
-count-end l q = record { by = λ fs h e. let p = q fs h e in omega (arith, p .sum, ap length (no-function (p .rest) (p .ends) l)) }
+count-end l q = record { by = λ fs h e. let p = q fs h e in omega (arith, ap length (no-function (p .rest) (p .ends) l)) }

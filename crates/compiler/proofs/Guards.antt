@@ -1,32 +1,16 @@
 -- IF and UNLESS.
-use Prim.Native.Nat.{ℕ, _+_, _-_, _≤_}
-use mathlib.Core.Path.{_≡_, refl, sym, ap, subst, _∙_}
-use mathlib.Core.Bool.{false, cond}
-use mathlib.Core.List.{List, [], _∷_, _++_, append-assoc}
-use native.Mathlib.Omega.{arith}
-use lib.ListN.{length, getD, length-append}
-use lib.Dec.{eqb}
+use Rattle.compiler.proofs.Basics.{ℕ, _+_, _-_, _≤_, _≡_, refl, sym, ap, subst, _∙_, false, cond, List, [], _∷_, _++_, append-assoc, arith}
+use Rattle.compiler.proofs.Basics.{length, getD, length-append, eqb}
 use Rattle.items.specs.Item as I
 use Rattle.language.specs.Tree as T
-use Rattle.language.specs.Tree.{Expression, Command, Unlabelled, endsInCall, placeOf}
-use Rattle.language.proofs.Depth.{depth, commandDepth, unlabelledDepth}
-use Rattle.language.specs.Names.{Scope}
+use Rattle.compiler.proofs.Language.{Expression, Command, Unlabelled, endsInCall, placeOf, depth, commandDepth, unlabelledDepth, Scope}
+use Rattle.compiler.proofs.Language.{expression, command, unlabelled, ofCmd, Leavable, inExpression, inCommand, inUnlabelled, closed, encode}
+use Rattle.compiler.proofs.Language.{encodeCommand, encodeUnlabelled, FineCommand, FineUnlabelled}
 use Rattle.language.specs.Resolved as R
-use Rattle.language.specs.Resolve.{expression, command, unlabelled}
-use Rattle.language.specs.Heights.{ofCmd}
 use Rattle.code.specs.Generate as G
-use Rattle.language.specs.Faults.{Leavable, inExpression, inCommand, inUnlabelled}
 use Rattle.tree.specs.Encoding as O
-use Rattle.tree.specs.Encoding.{closed, encode, encodeCommand, encodeUnlabelled}
 use Rattle.compiler.proofs.Scoping.{keeps-all, keeps-then}
-use Rattle.compiler.specs.declared.steps.State.{State}
-use Rattle.compiler.specs.declared.steps.Here.{Here}
-use Rattle.compiler.specs.declared.steps.Ways.{Ways}
-use Rattle.compiler.specs.declared.steps.Node.{Node}
-use Rattle.compiler.specs.Fine.{FineE, FineC, FinePlain}
-use Rattle.language.specs.Fine.{FineCommand, FineUnlabelled}
-use Rattle.compiler.specs.Walked.{leavableBy, exits, NodeAt, Emits, Fresh}
-use Rattle.compiler.specs.Walks.{Lies, ReadyE, GaveE}
+use Rattle.compiler.proofs.Vocabulary.{State, Here, Ways, Node, FineE, FineC, FinePlain, leavableBy, NodeAt, Emits, Fresh, Lies, ReadyE, GaveE}
 use Rattle.compiler.specs.Commands.{cmdSays, ReadyC, GaveC, ReadyU, GaveU, WhenWord, anIf, anUnless, WhenKind}
 use Rattle.compiler.proofs.Done.{did-put, did-then, did-at, did-fresh, same-eq, code-is}
 use Rattle.compiler.proofs.Trees.{first, second, ends, size-is, kind-is}
@@ -46,9 +30,8 @@ pub record IsClosed (x : List ℕ) : Type 0 where
 
 pub closed-start : {s x : List ℕ} {lo end : ℕ} → IsClosed x → Lies s lo x → end ≡ lo + length x → (lo ≡ end - 4 - getD s (end - 4) 0) × (lo + 4 ≤ end)
 closed-start {s} {x} {lo} {end} u h e =
-    let w = u .inner in let v = u .value in let p = u .place in let k = u .kind in
-    let h′ : Lies s lo (closed w v p k) = subst (λ (l : List ℕ). Lies s lo l) (u .is) h in
-    let e′ : end ≡ lo + length (closed w v p k) = e ∙ ap (λ (l : List ℕ). lo + length l) (u .is) in
+    let w = u .inner in let v = u .value in let p = u .place in let k = u .kind in let h′ : Lies s lo (closed w v p k) = rw (u .is) at h in
+    let e′ : end ≡ lo + length (closed w v p k) = rw (e, u .is) in
     (omega (arith, ends w v p k h′ e′, size-is w v p k h′ e′), omega (arith, ends w v p k h′ e′))
 
 unfoldable pub shut : (w : List ℕ) (v p k : ℕ) → IsClosed (closed w v p k)
@@ -103,9 +86,9 @@ pub record IsGuarded (s : List ℕ) (lo end w : ℕ) (u : Unlabelled) : Type 0 w
   pub ends : end ≡ lo + length (encode test) + length (encodeCommand body) + 4
 
 pub kind-of : {s x : List ℕ} {lo end : ℕ} (u : IsClosed x) → Lies s lo x → end ≡ lo + length x → getD s (end - 1) 0 ≡ u .kind
-kind-of {s} {x} {lo} u h e =
+kind-of u h e =
     let w = u .inner in let v = u .value in let p = u .place in let k = u .kind in
-    kind-is w v p k (subst (λ (l : List ℕ). Lies s lo l) (u .is) h) (e ∙ ap (λ (l : List ℕ). lo + length l) (u .is))
+    kind-is w v p k (rw (u .is) at h) (rw (e, u .is))
 
 pub guarded-of : {s : List ℕ} {lo end w : ℕ} {e : Expression} {c : Command} → Lies s lo (encode e ++ encodeCommand c)
     → end ≡ lo + length (encode e ++ encodeCommand c) + 4 → IsGuarded s lo end w (T.guarded w e c)
@@ -115,7 +98,7 @@ guarded-of {lo = lo} {e = e} {c} h q = record {
   same = refl;
   lies = first (encode e) (encodeCommand c) h;
   lies-body = second (encode e) (encodeCommand c) (lo + length (encode e)) h refl;
-  ends = omega (arith, q, length-append (encode e) (encodeCommand c));
+  ends = omega (arith, length-append (encode e) (encodeCommand c));
 }
 
 is-guarded : {s : List ℕ} {lo end w : ℕ} {u : Unlabelled} → WhenWord w → Form s lo end w u → IsGuarded s lo end w u
@@ -145,51 +128,37 @@ module _ {s : List ℕ} {end : ℕ} {here : Here} {st : State} (n b : Node) (nd 
 
   pub guard-deep : (y : ReadyU s end here st) → (depth (guard-is y .test) ≤ here .left) × (commandDepth (guard-is y .body) ≤ here .left)
   unfolding unlabelledDepth
-  guard-deep y = (omega (arith, y .shallow, ap unlabelledDepth (guard-is y .same)), omega (arith, y .shallow, ap unlabelledDepth (guard-is y .same)))
+  guard-deep y = (omega (arith, ap unlabelledDepth (guard-is y .same)), omega (arith, ap unlabelledDepth (guard-is y .same)))
 
   pub guard-middle : (y : ReadyU s end here st) → b .start ≡ y .lo + length (encode (guard-is y .test))
-  guard-middle y = let u = guard-is y in
-      let k = closed-start {end = n .inner} (command-closed (u .body) (guard-fine y .1)) (u .lies-body) (omega (arith, nd .inner, u .ends)) in
+  guard-middle y = let u = guard-is y in let k = closed-start {end = n .inner} (command-closed (u .body) (guard-fine y .1)) (u .lies-body)
+      (omega arith) in
       bd .start ∙ sym (k .0)
 
   abbrev pub guard-test : {a : State} → Fresh 1 st a → ReadyU s end here st → ReadyE s (b .start) here a
-  guard-test {a} e y = let u = guard-is y in
-      sub encode depth FineE y keeps-all (b .start) (y .lo) here a (u .test) (u .lies) (guard-middle y) (omega arith)
-      (omega (arith, guard-middle y, u .ends)) refl refl (omega (arith, y .height, y .ends, u .ends))
-      (omega (arith, y .label, y .ends, u .ends, e .label)) (omega (arith, e .label)) (guard-deep y .0) (guard-fine y .0)
+  guard-test e y = let u = guard-is y in sub y keeps-all (u .lies) refl (omega (arith, guard-middle y, guard-deep y .0)) (guard-fine y .0)
 
   module _ (text : List ℕ) {s₁ t t₁ t₂ : List ℕ} {a c d : State} {j : ℕ} (e : Fresh 1 st a) (g : GaveE text s s₁ (b .start) here t t₁ a c)
       (f : Emits (G.to j (st .label) ∷ []) [] t₁ t₂ c d) where
     abbrev pub guard-body : ReadyU s end here st → ReadyC s₁ (n .inner) here d
     guard-body y = let u = guard-is y in let x = g .by (guard-test e y) in
-        sub encodeCommand commandDepth FineC y (x .keeps) (n .inner) (y .lo + length (encode (u .test))) here d (u .body) (u .lies-body)
-        (omega (arith, nd .inner, u .ends)) (omega arith) (omega (arith, nd .inner)) refl refl
-        (omega (arith, y .height, y .ends, u .ends)) (omega (arith, y .label, y .ends, u .ends, e .label, x .did .few, f .label))
-        (omega (arith, e .label, x .did .grows, f .label)) (guard-deep y .1) (guard-fine y .1)
+        sub y (x .keeps) (u .lies-body) refl (omega (arith, guard-deep y .1)) (guard-fine y .1)
 
     pub guard-gave : (ways : Ways) {s₂ t₃ t₄ : List ℕ} {k r : State} → j ≡ cond (eqb (n .kind) 16) 5 4
         → GaveC text s₁ s₂ (n .inner) here ways t₂ t₃ d k → Emits (I.label (st .label) ∷ []) [] t₃ t₄ k r → GaveU text s s₂ end here ways t t₄ st r
     unfolding G.cmdCode ofCmd G.cmdLabels
     guard-gave ways {s₂} {t₃} {t₄} {k} {r} ej g₂ f₂ = record {
-      by = λ y.
-          let u = guard-is y in let x = g .by (guard-test e y) in let z = g₂ .by (guard-body y) in let sc = y .scope in let h = here .height in
+      by = λ y. let u = guard-is y in let x = g .by (guard-test e y) in let z = g₂ .by (guard-body y) in let sc = y .scope in let h = here .height in
           let E = expression text sc h (u .test) in let C = command text sc h (u .body) in let W = getD s (end - 1) 0 in let L = st .label in
           let em = ap (unlabelled text sc h) (u .same) ∙ when-means text sc h w (u .test) (u .body) in
-          let ef = ap (inUnlabelled text sc (leavableBy ways here) h) (u .same) ∙ when-faults text sc (leavableBy ways here) h w (u .test) (u .body)
-          in let jj : j ≡ cond (eqb W 16) 5 4 = ej ∙ ap (λ (v : ℕ). cond (eqb v 16) 5 4) (nd .kind) in
+          let ef = ap (inUnlabelled text sc (leavableBy ways here) h) (u .same) ∙ when-faults text sc (leavableBy ways here) h w (u .test)
+          (u .body) in let jj : j ≡ cond (eqb W 16) 5 4 = rw (ej, nd .kind) in
           record {
             keeps = keeps-then (x .keeps) (z .keeps);
             did =
                 did-at (cmdSays here ways (unlabelled text sc h (y .tree))) _
                 (did-fresh e (did-put (did-then (did-put (with-ways text sc here ways h (u .test) (x .did)) f) (z .did)) f₂)) (same-eq (sym ef))
-                (λ v. code-is (append-assoc (G.exprCode (here .strings) h (L + 1) E ++ (G.to j L ∷ []))
-                (G.cmdCode (here .strings) h (L + 1 + G.exprLabels E) (exits ways) C) (I.label L ∷ []) ∙ append-assoc
-                (G.exprCode (here .strings) h (L + 1) E) (G.to j L ∷ [])
-                (G.cmdCode (here .strings) h (L + 1 + G.exprLabels E) (exits ways) C ++ (I.label L ∷ [])) ∙ ap
-                (λ (v : ℕ). G.exprCode (here .strings) h (L + 1) E
-                ++ (G.to v L ∷ (G.cmdCode (here .strings) h (L + 1 + G.exprLabels E) (exits ways) C ++ (I.label L ∷ [])))) jj ∙ ap
-                (G.cmdCode (here .strings) h L (exits ways)) (sym em)) (ap (ofCmd h) (sym em)) (omega (arith, ap G.cmdLabels em)))
-                (omega (arith, y .ends, u .ends));
+                (λ v. code-is (simp (append-assoc, jj, em)) (ap (ofCmd h) (sym em)) (omega (arith, ap G.cmdLabels em))) (omega arith);
           };
     }
 

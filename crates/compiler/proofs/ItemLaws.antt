@@ -1,28 +1,17 @@
 -- The items of GLOBAL and MANIFEST.
-use Prim.Native.Nat.{ℕ, _+_, _*_, _≤_, _<_, _^_}
-use mathlib.Core.Path.{_≡_, refl, sym, ap, subst, _∙_}
-use mathlib.Core.Bool.{Bool, true, false}
-use mathlib.Core.List.{List, [], _∷_, _++_, append-assoc}
-use native.Mathlib.Omega.{arith}
-use lib.ListN.{length, getD, length-append}
+use Rattle.compiler.proofs.Basics.{ℕ, _+_, _*_, _≤_, _<_, _^_, _≡_, refl, sym, ap, subst, _∙_, Bool, true, false, List, [], _∷_, _++_}
+use Rattle.compiler.proofs.Basics.{append-assoc, arith, length, getD, length-append}
 use Rattle.language.specs.Tree as T
-use Rattle.language.specs.Tree.{Name, Item}
-use Rattle.language.specs.Names.{Scope, declared, inBlock, onFound}
+use Rattle.compiler.proofs.Language.{Item, Scope, declared, inBlock, onFound, fault, Judged, judgedWord, faultsOf, encodeName, encodeConstant}
+use Rattle.compiler.proofs.Language.{encodeItems, FineName, FineConstant, FineItem, FineItems}
 use Rattle.language.specs.Constants as K
-use Rattle.language.specs.Constants.{Fault, fault, Judged, judgedWord, faultsOf}
-use Rattle.tree.specs.Encoding.{encodeName, encodeConstant, encodeItems}
 use Rattle.compiler.specs.Scope as S
-use Rattle.compiler.specs.Scope.{Shows, Keeps, PushedName, Worded, code, found, named, nameAt}
+use Rattle.compiler.proofs.Vocabulary.{Shows, Keeps, PushedName, Worded, code, named, nameAt, State, Did, Lies, STRINGS}
 use Rattle.compiler.proofs.Scoping.{keeps-all, keeps-then, keeps-lower, keeps-name, pushed-keeps, pushed-name}
-use Rattle.compiler.specs.declared.steps.State.{State}
-use Rattle.compiler.specs.Walked.{Did}
-use Rattle.compiler.specs.Walks.{Lies}
 use Rattle.compiler.specs.Commands.{nothing, Again}
 use Rattle.compiler.proofs.Done.{did-none, did-then, did-as, same-refl}
 use Rattle.compiler.proofs.Trees.{first, second, keeps-lies}
 use Rattle.compiler.proofs.Judging.{judged-word}
-use Rattle.language.specs.Fine.{FineName, FineConstant, FineItem, FineItems}
-use Rattle.compiler.specs.Fine.{STRINGS}
 use Rattle.compiler.specs.Locals.{Says, fit, unfit, Judges, JudgesMost, Blames}
 use Rattle.compiler.specs.declared.steps.Verdict.{Verdict}
 use Rattle.language.specs.Program.{globalsAfter, manifestsAfter, globalFaults, manifestFaults}
@@ -31,7 +20,7 @@ use Rattle.compiler.specs.Items.{judged, meaning, after, faults, FineIs,
 pub item-global : {text s : List ℕ} {end top : ℕ} {g : Bool} {r : Verdict} → g ≡ true → JudgesMost 399 text s end top r
     → JudgesItem g text s end top r
 unfolding judged
-item-global e j = rw e (record { by = j .by; fits = j .fits; low = omega (arith, j .small) })
+item-global e j = rw e (record { by = j .by; fits = j .fits; low = omega arith })
 
 pub item-manifest : {text s : List ℕ} {end top : ℕ} {g : Bool} {r : Verdict} → g ≡ false → Judges text s end top r → JudgesItem g text s end top r
 unfolding judged
@@ -74,7 +63,7 @@ is-item {s} {at} (i ∷ is) h e l =
       size-of = ap (λ (z : ℕ). getD s z 0) (omega arith) ∙ front .at 0 (omega arith) ∙ omega arith;
       lies-k = second six pk (at + 6) front refl;
       lies-more = second x (encodeItems is) (at + 6 + length pk) h (omega arith);
-      ends = omega (arith, e, length-append x (encodeItems is));
+      ends = omega (arith, length-append x (encodeItems is));
     }
 
 no-item : {at end : ℕ} (is : List Item) → end ≡ at + length (encodeItems is) → end ≤ at → is ≡ []
@@ -153,7 +142,7 @@ module _ (g : Bool) (text : List ℕ) {s₀ : List ℕ} {from end top : ℕ} (st
         lies = y .lies;
         ends = y .ends;
         starts = omega arith;
-        shows = subst (λ (n : ℕ). Shows s₀ n (y .scope)) a (y .shows);
+        shows = rw a at (y .shows);
         keeps = keeps-all;
         many = omega arith;
         fine = y .fine;
@@ -174,19 +163,18 @@ module _ (g : Bool) (text : List ℕ) {s₀ : List ℕ} {from end top : ℕ} (st
       → nameAt s (at + 2) ≡ is-item (p .rest) (p .lies) (p .ends) l .item .name
   item-name {s} {at} k l y p =
       let u = is-item (p .rest) (p .lies) (p .ends) l in let q2 : at + 2 + 2 ≡ at + 4 = omega arith in let q1 : at + 2 + 1 ≡ at + 3 = omega arith in
-      keeps-name (p .keeps) (omega (arith, y .above, p .starts)) ∙ ap (λ (z : ℕ). named z (getD s₀ (at + 2 + 1) 0))
-      (ap (λ (z : ℕ). getD s₀ z 0) q2 ∙ u .place) ∙ ap (λ (z : ℕ). named (u .item .name .place) z) (ap (λ (z : ℕ). getD s₀ z 0) q1 ∙ u .width)
+      keeps-name (p .keeps) (omega arith) ∙ ap (λ (z : ℕ). named z (getD s₀ (at + 2 + 1) 0)) (rw (q2, u .place))
+      ∙ ap (λ (z : ℕ). named (u .item .name .place) z) (rw (q1, u .width))
 
   pub items-fit : {s : List ℕ} {at : ℕ} (k : ℕ) {st : State} → at < end → (y : ReadyItems s₀ from end top) → ItemsPart y s at k st → Fits y s at k
   items-fit {s} {at} k l y p =
-      let u = is-item (p .rest) (p .lies) (p .ends) l in
-      let c : k + 1 + length (u .more) ≡ length (y .items) = omega (arith, p .many, ap length (u .same)) in
+      let u = is-item (p .rest) (p .lies) (p .ends) l in let c : k + 1 + length (u .more) ≡ length (y .items) = omega (arith, ap length (u .same)) in
       record {
-        next = omega (arith, p .keeps .above at (omega (arith, y .above, p .starts)), u .size-of, u .ends);
-        room = omega (arith, y .room, c);
-        long = omega (arith, y .long, p .keeps .long);
+        next = omega (arith, p .keeps .above at (omega (arith, y .above, p .starts)));
+        room = omega arith;
+        long = omega arith;
         small = y .small;
-        low = omega (arith, y .above, p .starts);
+        low = omega arith;
         name = subst FineName (sym (item-name k l y p)) (fine-first (u .item) (u .more) (subst FineIs (u .same) (p .fine)) .name);
       }
 
@@ -197,8 +185,7 @@ module _ (g : Bool) (text : List ℕ) {s₀ : List ℕ} {from end top : ℕ} (st
   item-says {s} {at} k l es en ju y p =
       let u = is-item (p .rest) (p .lies) (p .ends) l in
       ju .by (p .scope) (at + 6) (u .item .constant) (p .shows) (fine-first (u .item) (u .more) (subst FineIs (u .same) (p .fine)) .constant)
-      (keeps-lies (p .keeps) (omega (arith, y .above, p .starts)) (u .lies-k))
-      (omega (arith, es, en, p .keeps .above at (omega (arith, y .above, p .starts)), u .size-of))
+      (keeps-lies (p .keeps) (omega arith) (u .lies-k)) (omega (arith, p .keeps .above at (omega (arith, y .above, p .starts))))
 
   pub items-next : {s s₁ : List ℕ} {at size next m place x : ℕ} {c : Verdict} (k : ℕ) {st a r : State} → at < end → size ≡ getD s at 0
       → next ≡ at + 2 + size → JudgesItem g text s next (top + 2 * k) c → S.Told text s (top + 2 * k) (at + 2) m → place ≡ getD s (at + 4) 0 → Blames
@@ -206,49 +193,41 @@ module _ (g : Bool) (text : List ℕ) {s₀ : List ℕ} {from end top : ℕ} (st
       → ItemsPart y s at k st → ItemsPart y s₁ next (k + 1) r
   items-next {s} {s₁} {at} {size} {next} {m} {place} {x} {c} k {st} {a} {r} l es en ju told ep bl ag pu ex y p =
       let u = is-item (p .rest) (p .lies) (p .ends) l in let f = items-fit k l y p in let told-k = item-says k l es en ju y p in let i = u .item in
-      let sc = p .scope in let sc′ = scopeWith g text sc i in let j = judged g text sc (i .constant) in
-      let b4 : y .base ≤ at = omega (arith, y .above, p .starts) in let n : nameAt s (at + 2) ≡ i .name = item-name k l y p in
-      let ep′ : place ≡ i .name .place = ep ∙ p .keeps .above (at + 4) (omega arith) ∙ u .place in
-      let w : meaning g (c .word) ≡ meaning g (judgedWord j) = ap (meaning g) (word-is j told-k) in
-      let sz : size ≡ 4 + length (encodeConstant (i .constant)) = es ∙ p .keeps .above at b4 ∙ u .size-of in
-      let nx : at + 6 + length (encodeConstant (i .constant)) ≡ next = omega arith in let tk : top + 2 * k + 2 ≡ top + 2 * (k + 1) = omega arith in
+      let sc = p .scope in let sc′ = scopeWith g text sc i in let j = judged g text sc (i .constant) in let b4 : y .base ≤ at = omega arith in
+      let n : nameAt s (at + 2) ≡ i .name = item-name k l y p in let ep′ : place ≡ i .name .place = ep ∙ p .keeps .above (at + 4) (omega arith)
+      ∙ u .place in let w : meaning g (c .word) ≡ meaning g (judgedWord j) = ap (meaning g) (word-is j told-k) in let sz : size ≡ 4
+      + length (encodeConstant (i .constant)) = es ∙ p .keeps .above at b4 ∙ u .size-of in let nx : at + 6 + length (encodeConstant (i .constant))
+      ≡ next = omega arith in let tk : top + 2 * k + 2 ≡ top + 2 * (k + 1) = omega arith in
       record {
         rest = u .more;
         scope = sc′;
-        lies = subst (λ (z : ℕ). Lies s₀ z (encodeItems (u .more))) nx (u .lies-more);
-        ends = omega (arith, u .ends, nx);
-        starts = omega (arith, p .starts);
-        shows = subst (λ (z : ℕ). Shows s₁ z sc′) tk (subst (λ (z : Name). Shows s₁ (top + 2 * k + 2) (declared sc z (meaning g (judgedWord j)))) n
-            (pushed-name pu (f .room) (f .long) (meaning g (judgedWord j)) (p .shows) (ex ∙ ap code w)
+        lies = rw nx at (u .lies-more);
+        ends = omega arith;
+        starts = omega arith;
+        shows = rw tk at (rw n at (pushed-name pu (f .room) (f .long) (meaning g (judgedWord j)) (p .shows) (ex ∙ ap code w)
             (meaning-word g text sc (i .constant) (p .shows) (fine-first (u .item) (u .more) (subst FineIs (u .same) (p .fine)) .constant))));
         keeps = keeps-then (p .keeps) (keeps-lower (omega arith) (pushed-keeps (pu .pushed) (f .room) (f .long)));
-        many = omega (arith, p .many, ap length (u .same));
+        many = omega (arith, ap length (u .same));
         fine = fine-more (u .item) (u .more) (subst FineIs (u .same) (p .fine));
         same = p .same ∙ ap (after g text sc) (u .same) ∙ after-step g text sc i (u .more);
-        finish = λ t st′ d. p .finish t st′
-            (subst (λ (fs : List Fault). Did fs nothing 0 t t st st′) (sym (ap (faults g text sc) (u .same) ∙ faults-step g text sc i (u .more)))
-            (did-as nothing 0 (did-then (bl .by j told-k t) (did-then (subst (λ (z : ℕ). Did (onFound (inBlock text sc (i .name)) [] (fault z 9))
-            nothing 0 t t a r) ep′ (ag .by (inBlock text sc (i .name)) (told .by sc (p .shows) ∙ ap (λ (z : Name). found (inBlock text sc z)) n) t))
-            d)) same-refl (λ v e. refl) (omega arith)));
+        finish = λ t st′ d. p .finish t st′ (rw (ap (faults g text sc) (u .same) ∙ faults-step g text sc i (u .more))
+            (did-as nothing 0 (did-then (bl .by j told-k t) (did-then (rw ep′ at (ag .by (inBlock text sc (i .name)) (rw (told .by sc (p .shows), n))
+            t)) d)) same-refl (λ v e. refl) (omega arith)));
       }
 
   pub items-end : {s : List ℕ} {at : ℕ} (k : ℕ) {st : State} → end ≤ at → ((y : ReadyItems s₀ from end top) → ItemsPart y s at k st)
       → Items g text s₀ s from end top st₀ (record { top = top + 2 * k; state = st })
-  items-end {s} {at} k {st} l q = record {
-    by = λ y. let p = q y in let e = no-item (p .rest) (p .ends) l in
-        let c : k ≡ length (y .items) = omega (arith, p .many, ap length e) in record {
-          moved = omega arith;
-          shows = subst (λ (z : Scope). Shows s (top + 2 * k) z) (sym (p .same ∙ ap (after g text (p .scope)) e ∙ after-none g text (p .scope)))
-              (p .shows);
-          keeps = p .keeps;
-          did = λ t. p .finish t st
-              (subst (λ (fs : List Fault). Did fs nothing 0 t t st st) (sym (ap (faults g text (p .scope)) e ∙ faults-none g text (p .scope)))
-              (did-none 0));
-        };
+  items-end k {st} l q = record {
+    by = λ y. let p = q y in let e = no-item (p .rest) (p .ends) l in let c : k ≡ length (y .items) = omega (arith, ap length e) in record {
+      moved = omega arith;
+      shows = rw (p .same ∙ ap (after g text (p .scope)) e ∙ after-none g text (p .scope)) (p .shows);
+      keeps = p .keeps;
+      did = λ t. p .finish t st (rw (ap (faults g text (p .scope)) e ∙ faults-none g text (p .scope)) (did-none 0));
+    };
   }
 
   pub items-out : {s : List ℕ} {at : ℕ} (k : ℕ) {st : State} (y : ReadyItems s₀ from end top) → ItemsPart y s at k st → top + 2 * k ≤ length s₀
-  items-out k y p = omega (arith, y .room, p .many, y .long)
+  items-out k y p = omega arith
 
 pub code-small : (g : Bool) (v : ℕ) → v < 2 ^ 30 → code (meaning g v) < 2 ^ 32
 unfolding meaning code

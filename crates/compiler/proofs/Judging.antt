@@ -1,35 +1,20 @@
 -- Constants, and one declaration of locals.
-use Prim.Native.Nat.{ℕ, _+_, _*_, _-_, _≤_, _<_, _/_, _%_, _^_}
-use mathlib.Core.Path.{_≡_, refl, sym, ap, subst, _∙_}
-use mathlib.Core.Bool.{Bool, true, false, cond}
-use mathlib.Core.List.{List, [], _∷_, _++_, append-nil}
-use native.Mathlib.Omega.{arith}
-use lib.ListN.{length, getD, length-append}
-use lib.Dec.{leb}
-use borrow.Author.Tests.{le-leb, lt-leb}
+use Rattle.compiler.proofs.Basics.{ℕ, _+_, _*_, _-_, _≤_, _<_, _/_, _%_, _^_, _≡_, refl, sym, ap, subst, _∙_, Bool, true, false, cond, List}
+use Rattle.compiler.proofs.Basics.{[], _∷_, _++_, append-nil, arith, length, getD, length-append, leb, le-leb, lt-leb}
 use Rattle.words.specs.Words.{word}
 use Rattle.language.specs.Tree as T
-use Rattle.language.specs.Tree.{Name, Simple, Constant, Expressions}
-use Rattle.language.proofs.Depth.{expressionsDepth}
+use Rattle.compiler.proofs.Language.{Name, Simple, Constant, Expressions, expressionsDepth, Scope, lookup, fault, Judged, good, refused, judge}
+use Rattle.compiler.proofs.Language.{forVector, judgedWord, faultsOf, signed, ofFound, ofSimple, within, declareAll, encodeName, encodeNames}
+use Rattle.compiler.proofs.Language.{encodeConstant, encodePositive, encodeNegative, encodeExpressions, FineName, FineNames, FineConstant}
 use Rattle.language.specs.Names as N
-use Rattle.language.specs.Names.{Scope, lookup, declared}
-use Rattle.language.specs.Constants.{fault, Judged, good, refused, judge, forVector, judgedWord, faultsOf, signed, ofFound, ofSimple, within}
-use Rattle.language.specs.Resolve.{declareAll}
 use Rattle.code.specs.Generate as G
-use Rattle.tree.specs.Encoding.{encodeName, encodeNames, encodeConstant, encodePositive, encodeNegative, encodeExpressions}
-use Rattle.compiler.specs.Scope.{Shows, Looked, code, found, named, nameAt}
+use Rattle.compiler.proofs.Vocabulary.{Shows, Looked, code, found, nameAt, State, Here, Node, FineEs, NodeAt, Did, Emits, Faulted, Lies}
+use Rattle.compiler.proofs.Vocabulary.{ReadyArgs, GaveArgs}
 use Rattle.compiler.proofs.Scoping.{keeps-all, keeps-then, keeps-shows, code-not, Held, looked-word}
-use Rattle.compiler.specs.declared.steps.State.{State}
-use Rattle.compiler.specs.declared.steps.Here.{Here}
-use Rattle.compiler.specs.declared.steps.Node.{Node}
 use Rattle.compiler.specs.declared.steps.Verdict.{Verdict}
-use Rattle.compiler.specs.Fine.{FineEs}
-use Rattle.language.specs.Fine.{FineName, FineNames, FineConstant}
-use Rattle.compiler.specs.Walked.{NodeAt, Did, Emits, Faulted}
-use Rattle.compiler.specs.Walks.{Lies, ReadyArgs, GaveArgs}
 use Rattle.compiler.specs.Commands.{nothing, ReadyNames, Declares}
 use Rattle.compiler.specs.Locals.{Says, fit, unfit, NamedConstant, Judges, JudgesMost, Blames, Local, aVector, someValues, encodeLocal}
-use Rattle.compiler.specs.Locals.{localDepth, FineLocal, scopeWith, heightWith, faultsL, localSays, ReadyLocal, LocalDone, GaveLocal}
+use Rattle.compiler.specs.Locals.{localDepth, FineLocal, scopeWith, heightWith, faultsL, localSays, ReadyLocal, GaveLocal}
 use Rattle.compiler.proofs.Done.{did-none, did-then, did-emit, did-as, same-refl, code-is}
 use Rattle.compiler.proofs.Trees.{first, second, keeps-lies, kid, ends, value-is, place-is, size-is, kind-is}
 use Rattle.compiler.proofs.Parts.{sub}
@@ -53,14 +38,12 @@ module _ {m : ℕ} (minus : Bool) {name place : ℕ} (fits : (name < 2 ^ 32) × 
 
       by : (c : Constant) (n : Name) (f : N.Found) → m ≡ found f → c .minus ≡ minus → c .place ≡ place → n .place ≡ name
           → Says (record { word = 0; number = 8; place = name }) (ofFound c n f)
-      by c n N.unknown q em ep en =
-          subst (λ (k : ℕ). Says (record { word = 0; number = 8; place = name }) (refused (fault k 8))) (sym en) (unfit refl (λ z. omega arith) refl)
+      by c n N.unknown q em ep en = rw en (unfit refl (λ z. omega arith) refl)
       by c n (N.known w) q em ep en = absurd (code-not w (sym q ∙ e))
 
   pub named-manifest : {x : ℕ} → m % 4 ≡ 3 → x ≡ signed minus (m / 4) → NamedConstant m minus name place (record { word = x; number = 0; place = 0 })
   unfolding found code
-  named-manifest {x} e ex =
-      record { by = by; fits = (omega arith, omega arith); low = omega (arith, signed-low minus (m / 4) (omega (arith, fits .2))) }
+  named-manifest {x} e ex = record { by = by; fits = (omega arith, omega arith); low = omega (arith, signed-low minus (m / 4) (omega arith)) }
     where
       by : (c : Constant) (n : Name) (f : N.Found) → m ≡ found f → c .minus ≡ minus → c .place ≡ place → n .place ≡ name
           → Says (record { word = x; number = 0; place = 0 }) (ofFound c n f)
@@ -68,8 +51,8 @@ module _ {m : ℕ} (minus : Bool) {name place : ℕ} (fits : (name < 2 ^ 32) × 
       by c n (N.known (N.local k)) q em ep en = absurd (omega arith)
       by c n (N.known (N.global k)) q em ep en = absurd (omega arith)
       by c n (N.known (N.manifest v)) q em ep en =
-          let z : m / 4 ≡ v = omega arith in let w : x ≡ signed (c .minus) v = ex ∙ ap (signed minus) z ∙ ap (λ (b : Bool). signed b v) (sym em) in
-          subst (λ (k : ℕ). Says (record { word = x; number = 0; place = 0 }) (good k)) w (fit refl)
+          let z : m / 4 ≡ v = omega arith in let w : x ≡ signed (c .minus) v = rw (ex, z, em) in
+          rw (← w) (fit refl)
       by c n (N.known (N.function k)) q em ep en = absurd (omega arith)
 
   pub named-other : (m ≡ 0 → ⊥) → (m % 4 ≡ 3 → ⊥) → NamedConstant m minus name place (record { word = 0; number = 11; place = place })
@@ -77,9 +60,7 @@ module _ {m : ℕ} (minus : Bool) {name place : ℕ} (fits : (name < 2 ^ 32) × 
   named-other n0 n3 = record { by = by; fits = (fits .1, omega arith); low = omega arith }
     where
       eleven : (c : Constant) → c .place ≡ place → Says (record { word = 0; number = 11; place = place }) (refused (fault (c .place) 11))
-      eleven c ep =
-          subst (λ (k : ℕ). Says (record { word = 0; number = 11; place = place }) (refused (fault k 11))) (sym ep)
-          (unfit refl (λ z. omega arith) refl)
+      eleven c ep = rw ep (unfit refl (λ z. omega arith) refl)
 
       by : (c : Constant) (n : Name) (f : N.Found) → m ≡ found f → c .minus ≡ minus → c .place ≡ place → n .place ≡ name
           → Says (record { word = 0; number = 11; place = place }) (ofFound c n f)
@@ -113,7 +94,7 @@ judged-word text sc c sh f = go (c .simple) (f .small)
 -- ---- the constant that ends there
 
 name-there : (s : List ℕ) (x : ℕ) (n : Name) → getD s (x + 1) 0 ≡ n .width → getD s (x + 2) 0 ≡ n .place → nameAt s x ≡ n
-name-there s x n w p = ap (λ (k : ℕ). named k (getD s (x + 1) 0)) p ∙ ap (λ (k : ℕ). named (n .place) k) w
+name-there s x n w p = rw (p, w)
 
 -- a number is a word, and a name without a minus has the constant's place
 abbrev FineSimple : (place : ℕ) (minus : Bool) → Simple → Type 0
@@ -139,9 +120,9 @@ module _ (text : List ℕ) {s : List ℕ} {end : ℕ} (top : ℕ) (n : Node) (nd
       go sc lo p false (T.literal v) sh f h e =
           subst (λ (k : ℕ). Says (record { word = n .value % 65536; number = 0; place = 0 }) (good k))
           (let z : n .value ≡ v = nd .value ∙ value-is [] v p 60 h e in omega (arith, f .0 v refl)) (fit refl)
-      go sc lo p false (T.known x) sh f h e = absurd (omega (arith, q, nd .kind, kind-is [] (x .width) (x .place) 59 h e))
-      go sc lo p true (T.literal v) sh f h e = absurd (omega (arith, q, nd .kind, kind-is [] v p 36 h e))
-      go sc lo p true (T.known x) sh f h e = absurd (omega (arith, q, nd .kind, kind-is (0 ∷ x .width ∷ x .place ∷ 59 ∷ []) 0 p 36 h e))
+      go sc lo p false (T.known x) sh f h e = absurd (omega (arith, kind-is [] (x .width) (x .place) 59 h e))
+      go sc lo p true (T.literal v) sh f h e = absurd (omega (arith, kind-is [] v p 36 h e))
+      go sc lo p true (T.known x) sh f h e = absurd (omega (arith, kind-is (0 ∷ x .width ∷ x .place ∷ 59 ∷ []) 0 p 36 h e))
 
   pub judge-name : {m : ℕ} {r : Verdict} → n .kind ≡ 59 → Looked text s top (n .inner) m → NamedConstant m false (n .place) (n .place) r
       → Judges text s end top r
@@ -149,17 +130,16 @@ module _ (text : List ℕ) {s : List ℕ} {end : ℕ} (top : ℕ) (n : Node) (nd
   judge-name {m} {r} q lk nm = judges (nm .fits) (nm .low) go
     where
       go : Go r
-      go sc lo p false (T.literal v) sh f h e = absurd (omega (arith, q, nd .kind, kind-is [] v p 60 h e))
+      go sc lo p false (T.literal v) sh f h e = absurd (omega (arith, kind-is [] v p 60 h e))
       go sc lo p false (T.known x) sh f h e =
-          let a : n .inner + 1 ≡ end - 3 = omega (arith, nd .inner, ends [] (x .width) (x .place) 59 h e) in
-          let b : n .inner + 2 ≡ end - 2 = omega (arith, nd .inner, ends [] (x .width) (x .place) 59 h e) in
-          let ex : nameAt s (n .inner) ≡ x = name-there s (n .inner) x (ap (λ (k : ℕ). getD s k 0) a ∙ value-is [] (x .width) (x .place) 59 h e)
-          (ap (λ (k : ℕ). getD s k 0) b ∙ place-is [] (x .width) (x .place) 59 h e) in
-          let ep : x .place ≡ n .place = sym (nd .place ∙ place-is [] (x .width) (x .place) 59 h e) in
-          nm .by (record { place = p; minus = false; simple = T.known x }) x (lookup text sc x)
-          (lk .by sc sh ∙ ap (λ (z : Name). found (lookup text sc z)) ex) refl (f .1 x refl refl ∙ ep) ep
-      go sc lo p true (T.literal v) sh f h e = absurd (omega (arith, q, nd .kind, kind-is [] v p 36 h e))
-      go sc lo p true (T.known x) sh f h e = absurd (omega (arith, q, nd .kind, kind-is (0 ∷ x .width ∷ x .place ∷ 59 ∷ []) 0 p 36 h e))
+          let a : n .inner + 1 ≡ end - 3 = omega (arith, ends [] (x .width) (x .place) 59 h e) in let b : n .inner + 2 ≡ end - 2
+          = omega (arith, ends [] (x .width) (x .place) 59 h e) in let ex : nameAt s (n .inner) ≡ x = name-there s (n .inner) x
+          (rw (a, value-is [] (x .width) (x .place) 59 h e)) (rw (b, place-is [] (x .width) (x .place) 59 h e)) in let ep : x .place
+          ≡ n .place = sym (nd .place ∙ place-is [] (x .width) (x .place) 59 h e) in
+          nm .by (record { place = p; minus = false; simple = T.known x }) x (lookup text sc x) (rw (lk .by sc sh, ex)) refl (f .1 x refl refl ∙ ep)
+          ep
+      go sc lo p true (T.literal v) sh f h e = absurd (omega (arith, kind-is [] v p 36 h e))
+      go sc lo p true (T.known x) sh f h e = absurd (omega (arith, kind-is (0 ∷ x .width ∷ x .place ∷ 59 ∷ []) 0 p 36 h e))
 
   pub judge-negative : {w : ℕ} → (n .kind ≡ 60 → ⊥) → (n .kind ≡ 59 → ⊥) → n .start ≡ n .inner → w ≡ signed true (n .value)
       → Judges text s end top (record { word = w; number = 0; place = 0 })
@@ -169,12 +149,10 @@ module _ (text : List ℕ) {s : List ℕ} {end : ℕ} (top : ℕ) (n : Node) (nd
       go : Go (record { word = w; number = 0; place = 0 })
       go sc lo p false (T.literal v) sh f h e = absurd (n1 (nd .kind ∙ kind-is [] v p 60 h e))
       go sc lo p false (T.known x) sh f h e = absurd (n2 (nd .kind ∙ kind-is [] (x .width) (x .place) 59 h e))
-      go sc lo p true (T.literal v) sh f h e =
-          subst (λ (k : ℕ). Says (record { word = w; number = 0; place = 0 }) (good k)) (ew ∙ ap (signed true) (nd .value ∙ value-is [] v p 36 h e))
-          (fit refl)
+      go sc lo p true (T.literal v) sh f h e = rw (← (ew ∙ ap (signed true) (nd .value ∙ value-is [] v p 36 h e))) (fit refl)
       go sc lo p true (T.known x) sh f h e =
           let c : List ℕ = 0 ∷ x .width ∷ x .place ∷ 59 ∷ [] in
-          absurd (omega (arith, q, nd .start, nd .inner, size-is c 0 p 36 h e, ends c 0 p 36 h e))
+          absurd (omega (arith, size-is c 0 p 36 h e, ends c 0 p 36 h e))
 
   pub judge-negated : {m name : ℕ} {r : Verdict} → (n .kind ≡ 60 → ⊥) → (n .kind ≡ 59 → ⊥) → (n .start ≡ n .inner → ⊥)
       → Looked text s top (n .start) m → name ≡ getD s (n .start + 2) 0 → NamedConstant m true name (n .place) r → Judges text s end top r
@@ -184,15 +162,17 @@ module _ (text : List ℕ) {s : List ℕ} {end : ℕ} (top : ℕ) (n : Node) (nd
       go : Go r
       go sc lo p false (T.literal v) sh f h e = absurd (n1 (nd .kind ∙ kind-is [] v p 60 h e))
       go sc lo p false (T.known x) sh f h e = absurd (n2 (nd .kind ∙ kind-is [] (x .width) (x .place) 59 h e))
-      go sc lo p true (T.literal v) sh f h e = absurd (q (omega (arith, nd .start, nd .inner, size-is [] v p 36 h e)))
+      go sc lo p true (T.literal v) sh f h e = absurd (q (omega (arith, size-is [] v p 36 h e)))
       go sc lo p true (T.known x) sh f h e =
-          let c : List ℕ = 0 ∷ x .width ∷ x .place ∷ 59 ∷ [] in let hc = kid c 0 p 36 h e in
-          let es : n .start ≡ lo = omega (arith, nd .start, size-is c 0 p 36 h e, ends c 0 p 36 h e) in
-          let a : n .start + 1 ≡ lo + 1 = omega arith in let b : n .start + 2 ≡ lo + 2 = omega arith in
-          let ep : getD s (n .start + 2) 0 ≡ x .place = ap (λ (k : ℕ). getD s k 0) b ∙ hc .at 2 (omega arith) in
-          let ex : nameAt s (n .start) ≡ x = name-there s (n .start) x (ap (λ (k : ℕ). getD s k 0) a ∙ hc .at 1 (omega arith)) ep in
-          nm .by (record { place = p; minus = true; simple = T.known x }) x (lookup text sc x)
-          (lk .by sc sh ∙ ap (λ (z : Name). found (lookup text sc z)) ex) refl (sym (nd .place ∙ place-is c 0 p 36 h e)) (sym (ename ∙ ep))
+          let c : List ℕ = 0 ∷ x .width ∷ x .place ∷ 59 ∷ [] in let hc = kid c 0 p 36 h e in let es : n .start ≡ lo = omega (
+            arith,
+            size-is c 0 p 36 h e,
+            ends c 0 p 36 h e,
+          ) in let a : n .start + 1 ≡ lo + 1 = omega arith in let b : n .start + 2 ≡ lo + 2 = omega arith in
+          let ep : getD s (n .start + 2) 0 ≡ x .place = ap (λ (k : ℕ). getD s k 0) b ∙ hc .at 2 (omega arith) in let ex : nameAt s (n .start) ≡ x
+          = name-there s (n .start) x (ap (λ (k : ℕ). getD s k 0) a ∙ hc .at 1 (omega arith)) ep in
+          nm .by (record { place = p; minus = true; simple = T.known x }) x (lookup text sc x) (rw (lk .by sc sh, ex)) refl
+          (sym (nd .place ∙ place-is c 0 p 36 h e)) (sym (ename ∙ ep))
 
 -- its place is that of its record
 constant-place : {s : List ℕ} {lo end : ℕ} (p : ℕ) (b : Bool) (x : Simple) → FineSimple p b x
@@ -211,9 +191,7 @@ place-there c f h e = constant-place (c .place) (c .minus) (c .simple) (f .small
 
 too-big : {j : Verdict} (most : ℕ) (c : Constant) (x : Judged) {p : ℕ} → most < j .word → p ≡ c .place → Says j x
     → Says (record { word = 0; number = 11; place = p }) (within c (λ v. leb v most) x)
-too-big {j} most c (good v) {p} l e (fit q) =
-    rw (lt-leb (j .word) most l)
-    (subst (λ (k : ℕ). Says (record { word = 0; number = 11; place = p }) (refused (fault k 11))) e (unfit refl (λ z. omega arith) refl))
+too-big {j} most c (good v) {p} l e (fit q) = rw (lt-leb (j .word) most l) (rw (← e) (unfit refl (λ z. omega arith) refl))
 too-big most c (refused fs) l e (unfit a b w) = absurd (omega arith)
 
 not-too-big : {j : Verdict} (most : ℕ) (c : Constant) (x : Judged) → j .word ≤ most → Says j x → Says j (within c (λ v. leb v most) x)
@@ -223,11 +201,10 @@ not-too-big most c (refused fs) l (unfit a b w) = unfit a b w
 module _ (most : ℕ) {text s : List ℕ} {end top : ℕ} {j : Verdict} (g : Judges text s end top j) where
   pub most-big : {p e₂ : ℕ} → most < j .word → e₂ ≡ end - 2 → p ≡ getD s e₂ 0 → p < 2 ^ 32
       → JudgesMost most text s end top (record { word = 0; number = 11; place = p })
-  most-big {p} {e₂} l q e f = record {
+  most-big l q e f = record {
     small = omega arith;
     fits = (f, omega arith);
-    by = λ sc lo c sh fine h en.
-        too-big most c (judge text sc c) l (e ∙ ap (λ (k : ℕ). getD s k 0) q ∙ place-there c fine h en) (g .by sc lo c sh fine h en);
+    by = λ sc lo c sh fine h en. too-big most c (judge text sc c) l (rw (e, q, place-there c fine h en)) (g .by sc lo c sh fine h en);
   }
 
   pub most-fits : j .word ≤ most → JudgesMost most text s end top j
@@ -245,7 +222,7 @@ blame-some {j} {st} {r} n f = record { by = by }
   where
     by : (x : Judged) → Says j x → (t : List ℕ) → Did (faultsOf x) nothing 0 t t st r
     by (good v) (fit q) t = absurd (n q)
-    by (refused fs) (unfit a b w) t = subst (λ (k : ℕ). Did (fault (j .place) k) nothing 0 t t st r) a (f .by nothing t)
+    by (refused fs) (unfit a b w) t = rw a at (f .by nothing t)
 
 says-word : {j : Verdict} (x : Judged) → Says j x → j .word ≡ judgedWord x
 says-word (good v) (fit q) = refl
@@ -276,7 +253,7 @@ is-vector {lo = lo} (aVector n c) h e q =
       size-of = omega (arith, size-is x 4 0 6 h e, length-append a (encodeConstant c));
       ends = omega (arith, ends x 4 0 6 h e, length-append a (encodeConstant c));
     }
-is-vector (someValues ns es) h e q = absurd (omega (arith, q, kind-is (encodeNames ns ++ encodeExpressions es) (length (encodeNames ns)) 0 3 h e))
+is-vector (someValues ns es) h e q = absurd (omega (arith, kind-is (encodeNames ns ++ encodeExpressions es) (length (encodeNames ns)) 0 3 h e))
 
 pub names-long : (ns : List Name) → length (encodeNames ns) ≡ 4 * length ns
 unfolding encodeNames encodeName
@@ -292,25 +269,25 @@ module _ {s : List ℕ} {end : ℕ} {here : Here} {st : State} (n : Node) (nd : 
   vector-is y = is-vector (y .tree) (y .lies) (y .ends) q
 
   pub vector-start : (y : ReadyLocal s end here st) → n .start ≡ y .lo
-  vector-start y = let u = vector-is y in omega (arith, nd .start, u .size-of, u .ends)
+  vector-start y = let u = vector-is y in omega arith
 
   pub vector-fine : (y : ReadyLocal s end here st) → FineConstant (vector-is y .constant) × FineName (vector-is y .name)
   unfolding FineLocal
   vector-fine y = subst FineLocal (vector-is y .same) (y .fine)
 
   abbrev pub vector-names : {e : ℕ} → e ≡ n .start + 4 → ReadyLocal s end here st → ReadyNames s (n .start) e (here .top) (here .height)
-  vector-names {e} ee y = let u = vector-is y in record {
+  vector-names ee y = let u = vector-is y in record {
     base = y .base;
     scope = y .scope;
     names = u .name ∷ [];
     lies = subst (λ (k : ℕ). Lies s k (encodeNames (u .name ∷ []))) (sym (vector-start y)) (u .lies);
-    ends = omega (arith, ee, names-long (u .name ∷ []));
-    above = omega (arith, y .above, vector-start y);
+    ends = omega (arith, names-long (u .name ∷ []));
+    above = omega (arith, vector-start y);
     long = y .long;
-    small = omega (arith, y .small, ee, vector-start y, u .ends);
+    small = omega (arith, vector-start y);
     shows = y .shows;
-    room = omega (arith, y .room, y .ends, u .ends);
-    heights = omega (arith, y .height, y .ends, u .ends);
+    room = omega arith;
+    heights = omega arith;
     fine = one-fine (vector-fine y .1);
   }
 
@@ -320,25 +297,22 @@ module _ {s : List ℕ} {end : ℕ} {here : Here} {st : State} (n : Node) (nd : 
       → GaveLocal text s s₁ end here t t′ st (record { top = here .top + 2; height = hh; done = c })
   unfolding scopeWith heightWith faultsL localSays declareAll
   vector-gave text {s₁} {t} {t′} {e} {hh} {j} {a} {b} {c} ee jv bl de em eh = record {
-    by = λ y.
-        let u = vector-is y in let sc = y .scope in let h = here .height in let K = u .constant in
-        let sa = jv .by sc (y .lo + 4) K (y .shows) (vector-fine y .0) (u .lies-constant) (omega (arith, nd .inner, u .ends)) in
-        let d = de .by (vector-names ee y) in let w = says-word (forVector text sc K) sa in
+    by = λ y. let u = vector-is y in let sc = y .scope in let h = here .height in let K = u .constant in let sa = jv .by sc (y .lo + 4) K (y .shows)
+        (vector-fine y .0) (u .lies-constant) (omega arith) in let d = de .by (vector-names ee y) in let w = says-word (forVector text sc K) sa in
         let two : here .top + 2 * length (u .name ∷ []) ≡ here .top + 2 = omega arith in
-        subst (λ (x : Local). LocalDone text sc x (y .base) here s s₁ t t′ st (record { top = here .top + 2; height = hh; done = c })) (sym (u .same))
+        rw (u .same)
         (record {
           after = record {
-            shows = subst (λ (k : ℕ). Shows s₁ k (declared sc (u .name) (N.local h))) two (d .shows);
-            height = eh ∙ ap (λ (k : ℕ). h + 2 + k) w;
+            shows = rw two at (d .shows);
+            height = rw (eh, w);
             keeps = d .keeps;
             above = omega arith;
-            room = omega (arith, y .ends, u .ends, ap (λ (x : Local). length (encodeLocal x)) (u .same));
-            tall = omega (arith, y .ends, u .ends, jv .small, eh, ap (λ (x : Local). length (encodeLocal x)) (u .same));
+            room = omega (arith, ap (λ (x : Local). length (encodeLocal x)) (u .same));
+            tall = omega (arith, ap (λ (x : Local). length (encodeLocal x)) (u .same));
           };
           did =
               did-as (localSays text sc here (aVector (u .name) K)) _ (did-emit (did-then (bl .by (forVector text sc K) sa t) (d .did t)) em)
-              same-refl
-              (λ m v. code-is refl (ap (λ (k : ℕ). (h + 2 + k) ∷ []) w) (omega arith)) (omega arith);
+              same-refl (λ m v. code-is refl (rw w) (omega arith)) (omega arith);
         });
   }
 
@@ -379,7 +353,7 @@ module _ {s : List ℕ} {end : ℕ} {here : Here} {st : State} (n : Node) (nd : 
   pub values-start : (y : ReadyLocal s end here st) → (n .start ≡ y .lo) × (middle ≡ y .lo + length (encodeNames (values-is y .names)))
   values-start y =
       let u = values-is y in
-      (omega (arith, nd .start, u .size-of, u .ends), omega (arith, m, nd .start, nd .value, u .value-of, u .size-of, u .ends))
+      (omega arith, omega arith)
 
   pub values-fine : (y : ReadyLocal s end here st)
       → (length (values-is y .names) ≡ T.count (values-is y .values)) × FineEs (values-is y .values) × FineNames (values-is y .names)
@@ -388,14 +362,11 @@ module _ {s : List ℕ} {end : ℕ} {here : Here} {st : State} (n : Node) (nd : 
 
   pub values-deep : (y : ReadyLocal s end here st) → expressionsDepth (values-is y .values) ≤ here .left
   unfolding localDepth
-  values-deep y = omega (arith, y .shallow, ap localDepth (values-is y .same))
+  values-deep y = omega (arith, ap localDepth (values-is y .same))
 
   abbrev pub values-args : ReadyLocal s end here st → ReadyArgs s middle (n .inner) here st
   values-args y = let u = values-is y in record {
-    ready =
-        sub encodeExpressions expressionsDepth FineEs y keeps-all (n .inner) (y .lo + length (encodeNames (u .names))) here st (u .values)
-        (u .lies-values) (omega (arith, nd .inner, u .ends)) (omega arith) (omega (arith, nd .inner)) refl refl
-        (omega (arith, y .height, y .ends, u .ends)) (omega (arith, y .label, y .ends, u .ends)) (y .some) (values-deep y) (values-fine y .1);
+    ready = sub y keeps-all (u .lies-values) refl (omega (arith, values-deep y)) (values-fine y .1);
     starts = sym (values-start y .1);
   }
 
@@ -405,15 +376,15 @@ module _ {s : List ℕ} {end : ℕ} {here : Here} {st : State} (n : Node) (nd : 
       base = y .base;
       scope = y .scope;
       names = u .names;
-      lies = keeps-lies k (omega (arith, y .above, values-start y .0))
-          (subst (λ (x : ℕ). Lies s x (encodeNames (u .names))) (sym (values-start y .0)) (u .lies));
+      lies = keeps-lies k (omega (arith, values-start y .0)) (subst (λ (x : ℕ). Lies s x (encodeNames (u .names))) (sym (values-start y .0))
+          (u .lies));
       ends = omega (arith, values-start y .0, values-start y .1);
-      above = omega (arith, y .above, values-start y .0);
-      long = omega (arith, y .long, k .long);
-      small = omega (arith, y .small, values-start y .1, u .ends);
+      above = omega (arith, values-start y .0);
+      long = omega arith;
+      small = omega (arith, values-start y .1);
       shows = keeps-shows k (omega arith) (y .shows);
-      room = omega (arith, y .room, y .ends, u .ends, names-long (u .names));
-      heights = omega (arith, y .height, y .ends, u .ends, names-long (u .names));
+      room = omega (arith, names-long (u .names));
+      heights = omega (arith, names-long (u .names));
       fine = values-fine y .2;
     }
 
@@ -421,23 +392,21 @@ module _ {s : List ℕ} {end : ℕ} {here : Here} {st : State} (n : Node) (nd : 
         → top ≡ here .top + n .value / 2 → height ≡ here .height + n .value / 4
         → GaveLocal text s s₂ end here t t′ st (record { top = top; height = height; done = b })
     unfolding scopeWith heightWith faultsL localSays
-    values-gave {s₂} {top} {height} {b} de et eh = record {
-      by = λ y.
-          let u = values-is y in let sc = y .scope in let h = here .height in let ns = u .names in let x = g .by (values-args y) in
-          let d = de .by (values-names y) in let v : n .value ≡ 4 * length ns = nd .value ∙ u .value-of ∙ names-long ns in
-          let two : here .top + 2 * length ns ≡ top = omega (arith, et, v) in
-          subst (λ (z : Local). LocalDone text sc z (y .base) here s s₂ t t′ st (record { top = top; height = height; done = b })) (sym (u .same))
+    values-gave {s₂} {top} {height} de et eh = record {
+      by = λ y. let u = values-is y in let sc = y .scope in let h = here .height in let ns = u .names in let x = g .by (values-args y) in
+          let d = de .by (values-names y) in let v : n .value ≡ 4 * length ns = nd .value ∙ u .value-of ∙ names-long ns in let two : here .top + 2
+          * length ns ≡ top = omega arith in
+          rw (u .same)
           (record {
             after = record {
-              shows = subst (λ (k : ℕ). Shows s₂ k (declareAll sc h ns)) two (d .shows);
-              height = omega (arith, eh, v);
+              shows = rw two at (d .shows);
+              height = omega arith;
               keeps = keeps-then (x .keeps) (d .keeps);
-              above = omega (arith, two);
-              room = omega (arith, two, y .ends, u .ends, names-long ns, ap (λ (z : Local). length (encodeLocal z)) (u .same));
-              tall = omega (arith, eh, v, y .ends, u .ends, names-long ns, ap (λ (z : Local). length (encodeLocal z)) (u .same));
+              above = omega arith;
+              room = omega (arith, names-long ns, ap (λ (z : Local). length (encodeLocal z)) (u .same));
+              tall = omega (arith, names-long ns, ap (λ (z : Local). length (encodeLocal z)) (u .same));
             };
             did = did-as (localSays text sc here (someValues ns (u .values))) _ (did-then (x .did) (d .did t′)) same-refl
-                (λ k e. code-is (append-nil _) (append-nil _) (omega arith))
-                (omega (arith, y .ends, u .ends, ap (λ (z : Local). length (encodeLocal z)) (u .same)));
+                (λ k e. code-is (append-nil _) (append-nil _) (omega arith)) (omega (arith, ap (λ (z : Local). length (encodeLocal z)) (u .same)));
           });
     }

@@ -1,28 +1,16 @@
 -- A command with its labels, and without them.
-use Prim.Native.Nat.{ℕ, _+_, _-_, _≤_}
-use mathlib.Core.Path.{_≡_, refl, sym, ap, subst, _∙_}
-use mathlib.Core.List.{List, [], _∷_, _++_, append-assoc}
-use native.Mathlib.Omega.{arith}
-use lib.ListN.{length, getD, length-append}
+use Rattle.compiler.proofs.Basics.{ℕ, _+_, _-_, _≤_, _≡_, refl, sym, ap, subst, _∙_, List, [], _∷_, _++_, append-assoc, arith, length, getD}
+use Rattle.compiler.proofs.Basics.{length-append}
 use Rattle.language.specs.Tree as T
-use Rattle.language.specs.Tree.{Label, Command, Unlabelled, Repeats}
-use Rattle.language.proofs.Depth.{commandDepth}
-use Rattle.language.specs.Resolve.{command, repeats, unlabelled}
-use Rattle.language.specs.Heights.{ofCmd}
-use Rattle.language.specs.Fine.{FineLabels, FineCommand}
+use Rattle.compiler.proofs.Language.{Label, Command, Unlabelled, Repeats, commandDepth, command, repeats, unlabelled, ofCmd, FineLabels}
+use Rattle.compiler.proofs.Language.{FineCommand, inCommand, inCase, inUnlabelled, inRepeats, misplaced, closed, encodeCommand}
+use Rattle.compiler.proofs.Language.{encodeUnlabelled, encodeRepeats, encodeLabels, labelled}
 use Rattle.code.specs.Generate as G
-use Rattle.language.specs.Faults.{inCommand, inCase, inUnlabelled, inRepeats, misplaced, repeated}
+use Rattle.language.specs.Faults.{repeated}
 use Rattle.tree.specs.Encoding as O
-use Rattle.tree.specs.Encoding.{closed, encodeCommand, encodeUnlabelled, encodeRepeats, encodeLabels, labelled}
 use Rattle.compiler.proofs.Scoping.{keeps-all}
-use Rattle.compiler.specs.declared.steps.State.{State}
-use Rattle.compiler.specs.declared.steps.Here.{Here}
-use Rattle.compiler.specs.declared.steps.Ways.{Ways}
-use Rattle.compiler.specs.declared.steps.Node.{Node}
-use Rattle.compiler.specs.Fine.{FineC, FinePlain}
-use Rattle.compiler.specs.Walked.{inside, leavableBy, exits, NodeAt}
-use Rattle.compiler.specs.Walks.{Lies, Result}
-use Rattle.compiler.specs.Commands.{cmdSays, ReadyC, GaveC, GaveCase, encodeRepeated, deepRepeated, FineRepeated, ReadyR, GaveR}
+use Rattle.compiler.proofs.Vocabulary.{State, Here, Ways, Node, FineC, FinePlain, inside, leavableBy, NodeAt, Lies, Result}
+use Rattle.compiler.specs.Commands.{cmdSays, ReadyC, GaveC, GaveCase, deepRepeated, FineRepeated, ReadyR, GaveR}
 use Rattle.compiler.specs.Switching.{ReadyMisplaced, Misplaces}
 use Rattle.compiler.proofs.Done.{did-none, did-then, did-as, same-refl, same-eq, code-is}
 use Rattle.compiler.proofs.Trees.{first, second, kid, ends, value-is, size-is, kind-is}
@@ -114,10 +102,10 @@ module _ {s : List ℕ} {end : ℕ} {here : Here} {st : State} (n : Node) (nd : 
   labelled-is y = is-labelled (y .tree) (y .fine) (y .lies) (y .ends) (sym (nd .kind) ∙ q)
 
   pub labelled-start : (y : ReadyC s end here st) → n .start ≡ y .lo
-  labelled-start y = let u = labelled-is y in omega (arith, nd .start, u .size-of, u .ends)
+  labelled-start y = let u = labelled-is y in omega arith
 
   pub labelled-middle : (y : ReadyC s end here st) → middle ≡ y .lo + length (encodeLabels (labelled-is y .labels))
-  labelled-middle y = let u = labelled-is y in omega (arith, labelled-start y, nd .value, u .value-of, m)
+  labelled-middle y = let u = labelled-is y in omega (arith, labelled-start y)
 
   pub labelled-fine : (y : ReadyC s end here st) → let u = labelled-is y in FineC (T.command (u .labels) (u .body) (u .forms))
   labelled-fine y = subst FineC (labelled-is y .same) (y .fine)
@@ -133,30 +121,28 @@ module _ {s : List ℕ} {end : ℕ} {here : Here} {st : State} (n : Node) (nd : 
     labels = u .labels;
     lies = subst (λ (k : ℕ). Lies s k (encodeLabels (u .labels))) (sym (labelled-start y)) (u .lies);
     ends = omega (arith, labelled-middle y, labelled-start y);
-    above = omega (arith, labelled-start y, y .above);
-    small = omega (arith, labelled-middle y, u .ends, y .small);
+    above = omega (arith, labelled-start y);
+    small = omega (arith, labelled-middle y);
     shows = y .shows;
     fine = labels-fine y;
   }
 
   pub labelled-bare : (text : List ℕ) {a : State} → Misplaces text s (n .start) middle (here .top) st a → ReadyC s end here st → ReadyC s end here a
-  labelled-bare text j y = let d = j .by (labelled-labels y) [] in with-state (omega (arith, d .few, d .grows)) y
+  labelled-bare text j y = let d = j .by (labelled-labels y) [] in with-state (omega arith) y
 
   pub labelled-gave : (text : List ℕ) (ways : Ways) {s₁ t t₁ : List ℕ} {a r : State} → Misplaces text s (n .start) middle (here .top) st a
       → GaveCase text s s₁ end here ways t t₁ a r → GaveC text s s₁ end here ways t t₁ st r
   unfolding inCommand inCase
   labelled-gave text ways {s₁} {t} {t₁} {a} {r} j g = record {
-    by = λ y.
-        let u = labelled-is y in let sc = y .scope in let h = here .height in let d = j .by (labelled-labels y) t in
-        let x = g .by (with-state (omega (arith, d .few, d .grows)) y) in let lv = leavableBy ways here in
-        let U = inUnlabelled text sc (repeated (u .forms) lv) h (u .body) in let R = inRepeats text sc lv h (u .forms) in
+    by = λ y. let u = labelled-is y in let sc = y .scope in let h = here .height in let d = j .by (labelled-labels y) t in
+        let x = g .by (with-state (omega arith) y) in let lv = leavableBy ways here in let U = inUnlabelled text sc (repeated (u .forms) lv) h
+        (u .body) in let R = inRepeats text sc lv h (u .forms) in
         record {
           keeps = x .keeps;
           did = did-as (cmdSays here ways (command text sc h (y .tree))) _ (did-then d (x .did))
-              (same-eq (ap (λ (c : Command). misplaced text sc (u .labels) ++ inCase text sc lv h c) (u .same) ∙ sym
-              (append-assoc (misplaced text sc (u .labels)) U R) ∙ ap (inCommand text sc lv h) (sym (u .same))))
-              (λ k v. let a : k + 0 ≡ k = omega arith in code-is
-              (ap (λ (i : ℕ). G.cmdCode (here .strings) h i (exits ways) (command text sc h (y .tree))) a) refl (omega arith)) (omega arith);
+              (same-eq (ap (λ (c : Command). misplaced text sc (u .labels) ++ inCase text sc lv h c) (u .same)
+              ∙ sym (append-assoc (misplaced text sc (u .labels)) U R) ∙ ap (inCommand text sc lv h) (sym (u .same)))) (λ k v. let a : k + 0 ≡ k
+              = omega arith in code-is (rw a) refl (omega arith)) (omega arith);
         };
   }
 
@@ -179,7 +165,7 @@ emptiness (T.leave w p) = isFull (λ e. let z : _≡_ {A = ℕ} 0 1 = cc in omeg
 emptiness (T.block ls cs) = isFull (λ e. let z : _≡_ {A = ℕ} 0 1 = cc in omega arith)
 
 pub closed-long : {x : List ℕ} → IsClosed x → 4 ≤ length x
-closed-long {x} u = omega (arith, ap length (u .is), length-append (u .inner) (length (u .inner) ∷ u .value ∷ u .place ∷ u .kind ∷ []))
+closed-long u = omega (arith, ap length (u .is), length-append (u .inner) (length (u .inner) ∷ u .value ∷ u .place ∷ u .kind ∷ []))
 
 repeated-long : (w x : List ℕ) → length w ≤ length (O.repeated w x)
 unfolding O.repeated
@@ -194,7 +180,7 @@ nothing-left ls u rs f z = by (emptiness u)
   where
     by : Emptiness u → u ≡ T.empty
     by (isEmpty e) = e
-    by (isFull n) = absurd (omega (arith, z, repeated-long (encodeUnlabelled u) (encodeRepeats rs), closed-long (unlabelled-closed u (f .1, n))))
+    by (isFull n) = absurd (omega (arith, repeated-long (encodeUnlabelled u) (encodeRepeats rs), closed-long (unlabelled-closed u (f .1, n))))
 
 -- an empty command has no REPEAT forms
 empty-alone : (ls : List Label) (u : Unlabelled) (rs : Repeats) → FineC (T.command ls u rs) → u ≡ T.empty → rs ≡ T.noRepeats
@@ -208,64 +194,50 @@ empty-length = refl
 pub something-left : (ls : List Label) (u : Unlabelled) (rs : Repeats) → FineC (T.command ls u rs)
     → (length (O.repeated (encodeUnlabelled u) (encodeRepeats rs)) ≡ 0 → ⊥) → FineRepeated (record { body = u; forms = rs })
 unfolding FineCommand
-something-left ls u rs f n = (
-  (
-    f .1,
-    λ e. n (ap (λ (v : Unlabelled). length (O.repeated (encodeUnlabelled v) (encodeRepeats rs))) e ∙ ap
-        (λ (v : Repeats). length (O.repeated (encodeUnlabelled T.empty) (encodeRepeats v))) (empty-alone ls u rs f e) ∙ empty-length),
-  ),
-  f .2,
-)
+something-left ls u rs f n = ((f .1, λ e. n (rw (e, empty-alone ls u rs f e, empty-length))), f .2)
 
 pub command-deep : (ls : List Label) (u : Unlabelled) (rs : Repeats) {c : Command} {k : ℕ} → c ≡ T.command ls u rs → commandDepth c ≤ k
     → deepRepeated (record { body = u; forms = rs }) + 1 ≤ k
 unfolding commandDepth
-command-deep ls u rs e l = omega (arith, l, ap commandDepth e)
+command-deep ls u rs e l = omega (arith, ap commandDepth e)
 
 some-depth : (c : Command) → 1 ≤ commandDepth c
 unfolding commandDepth
 some-depth (T.command ls u rs) = omega arith
 
 pub command-some : {s : List ℕ} {end : ℕ} {here : Here} {st : State} → ReadyC s end here st → 1 ≤ here .left
-command-some y = omega (arith, y .shallow, some-depth (y .tree))
+command-some y = omega (arith, some-depth (y .tree))
 
 module _ {s : List ℕ} {end : ℕ} {here : Here} {st : State} (n : Node) (nd : NodeAt s end n) (q : n .kind ≡ O.LABELLED) {middle : ℕ}
     (m : middle ≡ n .start + n .value) where
   pub rest-length : (y : ReadyC s end here st)
       → let u = labelled-is n nd q m y in n .inner ≡ middle + length (O.repeated (encodeUnlabelled (u .body)) (encodeRepeats (u .forms)))
-  rest-length y = let u = labelled-is n nd q m y in omega (arith, nd .inner, u .ends, labelled-middle n nd q m y)
+  rest-length y = let u = labelled-is n nd q m y in omega (arith, labelled-middle n nd q m y)
 
   pub bare-empty : middle ≡ n .inner → (text : List ℕ) (ways : Ways) {t : List ℕ} → GaveCase text s s end here ways t t st st
   unfolding inCase inUnlabelled inRepeats command unlabelled repeats G.cmdCode ofCmd G.cmdLabels
   bare-empty e text ways {t} = record {
-    by = λ y.
-        let u = labelled-is n nd q m y in let sc = y .scope in let h = here .height in let f = labelled-fine n nd q m y in
-        let z = nothing-left (u .labels) (u .body) (u .forms) f (omega (arith, rest-length y, e)) in
-        let w = u .same ∙ ap (λ (v : Unlabelled). T.command (u .labels) v (u .forms)) z ∙ ap (T.command (u .labels) T.empty)
-        (empty-alone (u .labels) (u .body) (u .forms) f z) in
-        subst (λ (c : Command). Result (inCase text sc (leavableBy ways here) h c) (cmdSays here ways (command text sc h c))
-        (length (encodeCommand (y .tree))) (y .base) here s s t t st st) (sym w)
-        (record { keeps = keeps-all; did = did-none _ });
+    by = λ y. let u = labelled-is n nd q m y in let sc = y .scope in let h = here .height in let f = labelled-fine n nd q m y in let z = nothing-left
+        (u .labels) (u .body) (u .forms) f (omega (arith, rest-length y)) in let w = u .same ∙ ap (λ (v : Unlabelled). T.command (u .labels) v
+        (u .forms)) z ∙ ap (T.command (u .labels) T.empty) (empty-alone (u .labels) (u .body) (u .forms) f z) in
+        rw w (record { keeps = keeps-all; did = did-none _ });
   }
 
   module _ (some : middle ≡ n .inner → ⊥) where
     abbrev pub labelled-rest : ReadyC s end here st → ReadyR s (n .inner) (inside here) st
     labelled-rest y = let u = labelled-is n nd q m y in let f = labelled-fine n nd q m y in
-        sub encodeRepeated deepRepeated FineRepeated y keeps-all (n .inner) (y .lo + length (encodeLabels (u .labels))) (inside here) st
-        (record { body = u .body; forms = u .forms }) (u .lies-rest) (omega (arith, nd .inner, u .ends)) (omega arith) (omega (arith, nd .inner)) refl
-        refl (omega (arith, y .height, y .ends, u .ends)) (omega (arith, y .label, y .ends, u .ends)) (y .some)
-        (omega (arith, command-deep (u .labels) (u .body) (u .forms) (u .same) (y .shallow)))
-        (something-left (u .labels) (u .body) (u .forms) f (λ z. some (omega (arith, z, rest-length y))))
+        sub {part = record { body = u .body; forms = u .forms }} y keeps-all (u .lies-rest) refl
+        (omega (arith, command-deep (u .labels) (u .body) (u .forms) (u .same) (y .shallow))) (something-left (u .labels) (u .body) (u .forms) f
+        (λ z. some (omega (arith, rest-length y))))
 
     pub bare-labelled : (text : List ℕ) (ways : Ways) {s₁ t t₁ : List ℕ} {r : State} → GaveR text s s₁ (n .inner) (inside here) ways t t₁ st r
         → GaveCase text s s₁ end here ways t t₁ st r
     unfolding inCase command
     bare-labelled text ways {s₁} {t} {t₁} {r} g = record {
-      by = λ y.
-          let u = labelled-is n nd q m y in let x = g .by (labelled-rest y) in let sc = y .scope in let h = here .height in
+      by = λ y. let u = labelled-is n nd q m y in let x = g .by (labelled-rest y) in let sc = y .scope in let h = here .height in
           subst (λ (c : Command). Result (inCase text sc (leavableBy ways here) h c) (cmdSays here ways (command text sc h c))
           (length (encodeCommand (y .tree))) (y .base) here s s₁ t t₁ st r) (sym (u .same))
-          (record { keeps = x .keeps; did = did-as _ _ (x .did) same-refl (λ k v. refl) (omega (arith, y .ends, u .ends)) });
+          (record { keeps = x .keeps; did = did-as _ _ (x .did) same-refl (λ k v. refl) (omega arith) });
     }
 
 -- ---- a command without labels
@@ -280,19 +252,17 @@ module _ {s : List ℕ} {end : ℕ} {here : Here} {st : State} (n : Node) (nd : 
 
   abbrev pub bare-part : ReadyC s end here st → ReadyR s end (inside here) st
   bare-part y = let u = bare-is y in
-      sub encodeRepeated deepRepeated FineRepeated y keeps-all end (y .lo) (inside here) st (record { body = u .body; forms = u .forms }) (u .lies)
-      (u .ends) (omega arith) (omega arith) refl refl (omega (arith, y .height, y .ends, u .ends)) (omega (arith, y .label, y .ends, u .ends))
-      (y .some) (omega (arith, command-deep [] (u .body) (u .forms) (u .same) (y .shallow))) (bare-fine y)
+      sub {part = record { body = u .body; forms = u .forms }} y keeps-all (u .lies) refl
+      (omega (arith, command-deep [] (u .body) (u .forms) (u .same) (y .shallow))) (bare-fine y)
 
   pub bare-gave : (text : List ℕ) (ways : Ways) {s₁ t t₁ : List ℕ} {r : State} → GaveR text s s₁ end (inside here) ways t t₁ st r
       → GaveCase text s s₁ end here ways t t₁ st r
   unfolding inCase command
   bare-gave text ways {s₁} {t} {t₁} {r} g = record {
-    by = λ y.
-        let u = bare-is y in let x = g .by (bare-part y) in let sc = y .scope in let h = here .height in
+    by = λ y. let u = bare-is y in let x = g .by (bare-part y) in let sc = y .scope in let h = here .height in
         subst (λ (c : Command). Result (inCase text sc (leavableBy ways here) h c) (cmdSays here ways (command text sc h c))
         (length (encodeCommand (y .tree))) (y .base) here s s₁ t t₁ st r) (sym (u .same))
-        (record { keeps = x .keeps; did = did-as _ _ (x .did) same-refl (λ k v. refl) (omega (arith, y .ends, u .ends)) });
+        (record { keeps = x .keeps; did = did-as _ _ (x .did) same-refl (λ k v. refl) (omega arith) });
   }
 
   -- no labels are misplaced
@@ -311,5 +281,4 @@ module _ {s : List ℕ} {end : ℕ} {here : Here} {st : State} (n : Node) (nd : 
 
 pub gave-r-at : (text : List ℕ) {s s′ t t′ : List ℕ} {end : ℕ} {d d′ : Here} {w w′ : Ways} {st r : State} → d′ ≡ d → w′ ≡ w
     → GaveR text s s′ end d′ w′ t t′ st r → GaveR text s s′ end d w t t′ st r
-gave-r-at text {s} {s′} {t} {t′} {end} {d} {w′ = w′} {st} {r} e q g =
-    subst (λ (x : Ways). GaveR text s s′ end d x t t′ st r) q (subst (λ (x : Here). GaveR text s s′ end x w′ t t′ st r) e g)
+gave-r-at text {s} {s′} {t} {t′} {end} {d} {w′ = w′} {st} {r} e q g = rw q at (rw e at g)

@@ -1,37 +1,23 @@
 -- One declaration of the outermost level: the items of GLOBAL and MANIFEST, or a group of functions, and where the walk then stands.
-use Prim.Native.Nat.{ℕ, suc, _+_, _*_, _≤_, _<_}
-use mathlib.Core.Path.{_≡_, refl, sym, ap, subst, _∙_}
-use mathlib.Core.Bool.{Bool, true, false, cond}
-use mathlib.Core.List.{List, [], _∷_, _++_, append-nil}
-use native.Mathlib.Omega.{arith}
-use lib.ListN.{length, length-append}
-use lib.Dec.{eqb, leb}
-use borrow.Author.Tests.{eq-eqb, ne-eqb, leb-true}
+use Rattle.compiler.proofs.Basics.{ℕ, suc, _+_, _*_, _≤_, _<_, _≡_, refl, sym, ap, subst, _∙_, Bool, true, false, cond, List, [], _∷_}
+use Rattle.compiler.proofs.Basics.{append-nil, arith, length, length-append, eqb, leb, eq-eqb, ne-eqb, leb-true}
 use Rattle.language.specs.Kinds as K
 use Rattle.language.specs.Tree as T
-use Rattle.language.specs.Tree.{Item, Function, Declaration}
-use Rattle.language.specs.Names.{Scope, lookup}
+use Rattle.compiler.proofs.Language.{Item, Function, Declaration, Scope, lookup, Fault, fault, Judged, judge, within, judgedWord}
+use Rattle.compiler.proofs.Language.{FineDeclaration, declarationDepth, functionsDepth, encodeName, encodeConstant, encodeItems}
+use Rattle.compiler.proofs.Language.{encodeFunctions}
 use Rattle.language.specs.Constants as J
-use Rattle.language.specs.Constants.{Fault, fault, Judged, judge, within, judgedWord}
-use Rattle.language.specs.Resolved.{Start}
 use Rattle.language.specs.Program.{Walk, startOf, withFunction, resolved, globalsAfter, manifestsAfter, functionsAfter, declaredBy, groupNameFaults}
 use Rattle.language.specs.Program.{groupFaults, groupOf, heightFaults, afterDeclaration}
 use Rattle.language.specs.Whole.{funs}
-use Rattle.language.specs.Fine.{FineDeclaration}
-use Rattle.language.proofs.Depth.{declarationDepth, functionsDepth}
 use Rattle.code.specs.Generate as G
-use Rattle.tree.specs.Encoding.{encodeName, encodeConstant, encodeItems, encodeFunctions}
-use Rattle.compiler.specs.Fine.{STRINGS}
-use Rattle.compiler.specs.Walked.{Did, least, noFit}
-use Rattle.compiler.specs.Walks.{Lies}
+use Rattle.compiler.proofs.Vocabulary.{STRINGS, Did, least, noFit, Lies, State, Here}
 use Rattle.compiler.specs.Commands.{nothing}
 use Rattle.compiler.specs.Items.{after, faults, FineIs, ReadyItems, ItemsKnown, Items}
 use Rattle.compiler.specs.Groups.{Small, Starting, startsIn, innerLabels, ReadyGroup, GroupKnown, GroupNames, ReadyFs, GaveFs, GroupWalked}
 use Rattle.compiler.specs.Groups.{CountsGroup}
 use Rattle.compiler.specs.Programs.{startsOf, encodeDeclared, declaredWord, Stands, Yields, NamedItems, ReadyDeclaration, WalkedOn}
 use Rattle.compiler.specs.Programs.{GaveDeclaration}
-use Rattle.compiler.specs.declared.steps.State.{State}
-use Rattle.compiler.specs.declared.steps.Here.{Here}
 use Rattle.compiler.specs.declared.outer.Known.{Known}
 use Rattle.compiler.specs.declared.program.Done.{Done}
 use Rattle.compiler.specs.declared.program.Progress.{Progress}
@@ -82,9 +68,7 @@ pub starts-in : (text : List ℕ) (k : ℕ) (before sc : Scope) (fs : List Funct
     → startsOf (funs (groupOf text k before sc fs)) ≡ startsIn text k before fs
 unfolding groupOf funs startsOf startsIn resolved
 starts-in text k before sc [] = refl
-starts-in text k before sc (f ∷ fs) =
-    ap (λ (z : List Start). startOf (lookup text before (f .name)) ∷ z)
-    (starts-in text (k + 1) (withFunction before (f .name) k (startOf (lookup text before (f .name)))) sc fs)
+starts-in text k before sc (f ∷ fs) = rw (starts-in text (k + 1) (withFunction before (f .name) k (startOf (lookup text before (f .name)))) sc fs)
 
 -- faults, and nothing written
 yields-faults : {strings l : ℕ} {fs : List Fault} {t : List ℕ} (m : ℕ) {d d′ : Done} → d′ .tall ≡ d .tall
@@ -109,7 +93,7 @@ pub record IsItems (g : Bool) (p : Declaration) : Type 0 where
   pub same : p ≡ itemsOf g items
 
 pub is-items : {tag : ℕ} (p : Declaration) → tag ≡ declaredWord p → (tag ≡ K.LET → ⊥) → IsItems (eqb tag K.GLOBAL) p
-is-items {tag} (T.globals is) e n = record { items = is; same = ap (λ (b : Bool). itemsOf b is) (sym (eq-eqb tag K.GLOBAL e)) }
+is-items {tag} (T.globals is) e n = record { items = is; same = rw (eq-eqb tag K.GLOBAL e) }
 is-items {tag} (T.manifests is) e n = record { items = is; same = ap (λ (b : Bool). itemsOf b is) (sym (ne-eqb tag K.GLOBAL (λ q. omega arith))) }
 is-items (T.functions fs) e n = absurd (n e)
 
@@ -135,12 +119,12 @@ module _ {s table : List ℕ} {from end tag left strings : ℕ} {l : Progress} (
     scope = y .walk .scope;
     items = its .items;
     lies = subst (Lies s from) its-encoded (y .lies);
-    ends = y .ends ∙ ap (λ (z : List ℕ). from + length z) its-encoded;
+    ends = rw (y .ends, its-encoded);
     above = y .above;
     long = y .long;
     small = y .small;
     shows = y .stands .shows;
-    room = omega (arith, y .room, ap length its-encoded, items-long (its .items));
+    room = omega (arith, ap length its-encoded, items-long (its .items));
     fine = items-fine (eqb tag K.GLOBAL) (its .items) (subst (FineDeclaration STRINGS) (its .same) (y .fine));
   }
 
@@ -153,12 +137,12 @@ walked-items {text} {t = t} w true is a i n = record {
     shows = i .shows;
     globals = small-globals text (w .scope) is (a .globals);
     free = a .free;
-    many = omega (arith, n .functions, a .many);
-    some = omega (arith, a .some, i .did t .grows);
+    many = omega arith;
+    some = omega (arith, i .did t .grows);
     low = n .low;
   };
   keeps = i .keeps;
-  up = (omega (arith, i .moved), omega (arith, i .moved, items-long is));
+  up = (omega arith, omega (arith, items-long is));
   yields = yields-faults (2 * length (encodeItems is)) (n .tall) (i .did t);
   starting = λ e ss q h. subst (Starting _) (sym (append-nil ss)) h;
 }
@@ -167,22 +151,21 @@ walked-items {text} {t = t} w false is a i n = record {
     shows = i .shows;
     globals = small-manifests text (w .scope) is (a .globals);
     free = a .free;
-    many = omega (arith, n .functions, a .many);
-    some = omega (arith, a .some, i .did t .grows);
+    many = omega arith;
+    some = omega (arith, i .did t .grows);
     low = n .low;
   };
   keeps = i .keeps;
-  up = (omega (arith, i .moved), omega (arith, i .moved, items-long is));
+  up = (omega arith, omega (arith, items-long is));
   yields = yields-faults (2 * length (encodeItems is)) (n .tall) (i .did t);
   starting = λ e ss q h. subst (Starting _) (sym (append-nil ss)) h;
 }
 
 pub gave-items : {text s s′ table t : List ℕ} {from end tag left strings : ℕ} {l r : Progress} → (tag ≡ K.LET → ⊥)
     → NamedItems (eqb tag K.GLOBAL) text s s′ from end l r → GaveDeclaration text s s′ table table from end tag left strings t t l r
-gave-items {text} {s} {s′} {table} {t} {tag = tag} {strings = strings} {l} {r} n x = record {
+gave-items {text} {s} {s′} {table} {t} {tag = tag} n x = record {
   by = λ y. let u = is-items (y .part) (y .word) n in
-      subst (λ (p : Declaration). WalkedOn text (y .walk) p (y .base) strings s s′ table table t t l r) (sym (u .same))
-      (walked-items (y .walk) (eqb tag K.GLOBAL) (u .items) (y .stands) (x .known .by (ready-items n y)) x);
+      rw (u .same) (walked-items (y .walk) (eqb tag K.GLOBAL) (u .items) (y .stands) (x .known .by (ready-items n y)) x);
 }
 
 -- ---- a group of functions
@@ -201,11 +184,11 @@ module _ {s table : List ℕ} {from end left strings : ℕ} {l : Progress} (y : 
   grp = is-group (y .part) (y .word)
 
   pub group-sized : length (encodeDeclared (y .part)) ≡ length (encodeFunctions (grp .functions))
-  group-sized = ap (λ (p : Declaration). length (encodeDeclared p)) (grp .same)
+  group-sized = simp (grp .same)
 
   pub group-depth : functionsDepth (grp .functions) ≤ left
   unfolding declarationDepth
-  group-depth = subst (λ (p : Declaration). declarationDepth p ≤ left) (grp .same) (y .shallow)
+  group-depth = rw (grp .same) at (y .shallow)
 
   abbrev pub ready-group : ReadyGroup s table from end (l .top) (l .functions)
   ready-group = record {
@@ -213,16 +196,16 @@ module _ {s table : List ℕ} {from end left strings : ℕ} {l : Progress} (y : 
     scope = y .walk .scope;
     taken = y .walk .taken;
     functions = grp .functions;
-    lies = subst (λ (p : Declaration). Lies s from (encodeDeclared p)) (grp .same) (y .lies);
-    ends = omega (arith, y .ends, group-sized);
+    lies = rw (grp .same) at (y .lies);
+    ends = omega (arith, group-sized);
     above = y .above;
     long = y .long;
     small = y .small;
     shows = y .stands .shows;
-    room = omega (arith, y .room, group-sized, functions-long (grp .functions));
+    room = omega (arith, group-sized, functions-long (grp .functions));
     globals = y .stands .globals;
     free = y .stands .free;
-    few = omega (arith, y .few, group-sized, functions-long (grp .functions));
+    few = omega (arith, group-sized, functions-long (grp .functions));
     fine = subst (FineDeclaration STRINGS) (grp .same) (y .fine);
   }
 
@@ -236,25 +219,25 @@ module _ {s table : List ℕ} {from end left strings : ℕ} {l : Progress} (y : 
 
     abbrev pub ready-fs : {st : State} → st ≡ flat (k .state) → ReadyFs s₁ from end groupHere (record { tall = l .done .tall; state = st })
     ready-fs {st} e =
-        let x = names-known in let f = x .did [] in let sl : st .label ≡ k .state .label = ap (λ (z : State). z .label) e in
+        let x = names-known in let f = x .did [] in let sl : st .label ≡ k .state .label = rw e in
         record {
           base = y .base;
           scope = functionsAfter text (l .functions) (y .walk .scope) (grp .functions);
           functions = grp .functions;
-          lies = keeps-lies (x .keeps) (y .above) (subst (λ (p : Declaration). Lies s from (encodeDeclared p)) (grp .same) (y .lies));
-          ends = omega (arith, y .ends, group-sized);
+          lies = keeps-lies (x .keeps) (y .above) (rw (grp .same) at (y .lies));
+          ends = omega (arith, group-sized);
           above = y .above;
-          long = omega (arith, y .long, x .keeps .long);
+          long = omega arith;
           small = y .small;
           shows = x .shows;
-          room = omega (arith, y .room, group-sized, x .up .1);
-          height = omega (arith, y .height, group-sized);
-          label = omega (arith, y .label, group-sized, sl, f .few);
-          some = omega (arith, y .stands .some, sl, f .grows);
+          room = omega (arith, group-sized);
+          height = omega (arith, group-sized);
+          label = omega (arith, group-sized, sl);
+          some = omega arith;
           strings = y .names;
           shallow = group-depth;
           fine = subst (FineDeclaration STRINGS) (grp .same) (y .fine);
-          low = ap (λ (z : State). z .high) e;
+          low = rw e;
         }
 
 -- the walk as the code counts it
@@ -269,24 +252,24 @@ walked-group : {text s s₁ s₂ table table₁ t t′ : List ℕ} {base left st
     → n ≡ length fs → WalkedOn text (counted w (l .functions)) (T.functions fs) base strings s s₂ table table₁ t t′ l
     (record { top = k .top; functions = l .functions + n; done = d })
 unfolding afterDeclaration declaredBy
-walked-group {text} {table₁ = table₁} {t} {l = l} {k} {st} {d} w fs a x e z q =
+walked-group {text} {table₁ = table₁} {t} {l = l} w fs a x e z q =
     let i = l .functions in let sc = functionsAfter text i (w .scope) fs in let gs = groupOf text i (w .scope) sc fs in let r = z .result in
     record {
       stands = record {
         shows = keeps-shows (r .keeps) (omega arith) (x .shows);
         globals = small-functions text i (w .scope) fs (a .globals);
         free = x .taken;
-        many = ap (λ (m : ℕ). i + m) q;
-        some = omega (arith, a .some, x .did t .grows, r .did .grows, ap (λ (m : State). m .label) e);
+        many = rw q;
+        some = omega (arith, x .did t .grows, ap (λ (m : State). m .label) e);
         low = z .low;
       };
       keeps = keeps-then (x .keeps) (keeps-lower (x .up .0) (r .keeps));
-      up = (x .up .0, omega (arith, x .up .1, functions-long fs));
+      up = (x .up .0, omega (arith, functions-long fs));
       yields = yields-as (2 * length (encodeFunctions fs)) refl refl (omega arith)
           (yields-then (i + 1) (omega arith) (yields-faults 0 refl (did-flat (a .low) e (x .did t)))
           (record { did = r .did; tall = z .tall; fits = z .fits }));
-      starting = λ c ss lo h. subst (λ (m : List Start). Starting table₁ (ss ++ m)) (sym (starts-in text i (w .scope) sc fs))
-          (x .starting (nil-left (groupNameFaults text i (w .scope) (w .taken) fs) (groupFaults text sc fs) c) ss lo h);
+      starting = λ c ss lo h. rw (starts-in text i (w .scope) sc fs) (x .starting (nil-left (groupNameFaults text i (w .scope) (w .taken) fs)
+          (groupFaults text sc fs) c) ss lo h);
     }
 
 pub gave-group : {text s s₁ s₂ table table₁ t t′ : List ℕ} {from end left strings n : ℕ} {l : Progress} {k : Known} {st : State} {d : Done}
@@ -294,23 +277,19 @@ pub gave-group : {text s s₁ s₂ table table₁ t t′ : List ℕ} {from end l
     → GaveFs text s₁ s₂ from end (l .functions + 1) (record { top = k .top; height = 0; left = left; strings = strings; routine = false }) t t′
     (record { tall = l .done .tall; state = st }) d
     → GaveDeclaration text s s₂ table table₁ from end K.LET left strings t t′ l (record { top = k .top; functions = l .functions + n; done = d })
-gave-group {text} {s} {s₁} {s₂} {table} {table₁} {t} {t′} {from} {end} {left} {strings} {n} {l} {k} {st} {d} c g e h = record {
-  by = λ y.
-      let u = grp y in let w = y .walk in let fs = u .functions in let x = ready-group y in
-      let same : counted w (l .functions) ≡ w = ap (counted w) (y .stands .many) in
-      subst (λ (p : Declaration). WalkedOn text w p (y .base) strings s s₂ table table₁ t t′ l
-      (record { top = k .top; functions = l .functions + n; done = d })) (sym (u .same)) (subst (λ (v : Walk). WalkedOn text v (T.functions fs) (y
-      .base) strings s s₂ table table₁ t t′ l (record { top = k .top; functions = l .functions + n; done = d })) same
-      (walked-group w fs (y .stands) (g .by x) e (h .by (ready-fs y g e) (w .scope) (l .functions)) (c .by fs (x .lies) (x .ends))));
+gave-group {text} {s} {s₁} {s₂} {table} {table₁} {t} {t′} {from} {end} {left} {strings} {n} {l} c g e h = record {
+  by = λ y. let u = grp y in let w = y .walk in let fs = u .functions in let x = ready-group y in let same : counted w (l .functions) ≡ w
+      = ap (counted w) (y .stands .many) in
+      rw (u .same) (rw same at (walked-group w fs (y .stands) (g .by x) e (h .by (ready-fs y g e) (w .scope) (l .functions))
+      (c .by fs (x .lies) (x .ends))));
 }
 
 -- the same declaration by its tag
 pub ready-let : {s table : List ℕ} {from end tag left strings : ℕ} {l : Progress} → tag ≡ K.LET
     → ReadyDeclaration s table from end tag left strings l → ReadyDeclaration s table from end K.LET left strings l
-ready-let {s} {table} {from} {end} {left = left} {strings} {l} e y = subst (λ (z : ℕ). ReadyDeclaration s table from end z left strings l) e y
+ready-let e y = rw e at y
 
 pub gave-let : {text s s′ table table′ t t′ : List ℕ} {from end tag left strings : ℕ} {l r : Progress} → tag ≡ K.LET
     → GaveDeclaration text s s′ table table′ from end K.LET left strings t t′ l r
     → GaveDeclaration text s s′ table table′ from end tag left strings t t′ l r
-gave-let {text} {s} {s′} {table} {table′} {t} {t′} {from} {end} {left = left} {strings} {l} {r} e x =
-    subst (λ (z : ℕ). GaveDeclaration text s s′ table table′ from end z left strings t t′ l r) (sym e) x
+gave-let e x = rw e x

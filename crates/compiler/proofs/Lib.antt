@@ -1,3 +1,6 @@
+pub mod Basics
+pub mod Vocabulary
+pub mod Language
 pub mod Scoping
 pub mod Done
 pub mod Trees

@@ -1,15 +1,8 @@
 -- Lists in scratch: each item has its size and a word in front. What an item is, and a loop over the items.
-use Prim.Native.Nat.{ℕ, _+_, _*_, _≤_, _<_, _^_}
-use mathlib.Core.Path.{_≡_, refl, sym, ap, subst, _∙_}
-use mathlib.Core.List.{List, [], _∷_, _++_}
-use native.Mathlib.Omega.{arith}
-use lib.ListN.{length, getD, length-append}
+use Rattle.compiler.proofs.Basics.{ℕ, _+_, _*_, _≤_, _<_, _^_, _≡_, refl, sym, ap, subst, _∙_, List, [], _∷_, _++_, arith, length, getD}
+use Rattle.compiler.proofs.Basics.{length-append}
 use Rattle.language.specs.Constants.{Fault}
-use Rattle.compiler.specs.Scope.{Keeps}
-use Rattle.compiler.specs.declared.steps.State.{State}
-use Rattle.compiler.specs.declared.steps.Here.{Here}
-use Rattle.compiler.specs.Walked.{Did, Code}
-use Rattle.compiler.specs.Walks.{Lies, Ready}
+use Rattle.compiler.proofs.Vocabulary.{Keeps, State, Here, Did, Code, Lies, Ready}
 use Rattle.compiler.proofs.Scoping.{keeps-all, keeps-then}
 use Rattle.compiler.proofs.Trees.{first, second}
 use Rattle.compiler.proofs.Parts.{sub}
@@ -78,10 +71,10 @@ module _ {L A : Type 0} {k : Kind L A} {few : L → ℕ} {fs : ℕ → L → Lis
     {s₀ : List ℕ} {from end : ℕ} {here : Here} {before : State} (z : Ready (k .all) (k .deep) (k .Fine) s₀ end here before) (zs : z .lo ≡ from) where
   pub begins : {t₀ : List ℕ} {st₀ : State} {i₀ i : ℕ} {h : ℕ} → h ≡ here .height → i ≡ i₀ → 0 < st₀ .label
       → Part k few fs code (z .tree) from end (z .base) (here .top) (here .left) (here .height) h i₀ i s₀ s₀ t₀ t₀ st₀ st₀ from
-  begins {t₀} {st₀} {i₀} {i} eh e some = record {
+  begins eh e some = record {
     rest = z .tree;
-    lies = subst (λ (n : ℕ). Lies s₀ n (k .all (z .tree))) zs (z .lies);
-    ends = omega (arith, z .ends, zs);
+    lies = rw zs at (z .lies);
+    ends = omega arith;
     starts = omega arith;
     keeps = keeps-all;
     label = omega arith;
@@ -89,7 +82,7 @@ module _ {L A : Type 0} {k : Kind L A} {few : L → ℕ} {fs : ℕ → L → Lis
     shallow = z .shallow;
     fine = z .fine;
     height = omega arith;
-    finish = λ t′ st′ d. subst (λ (n : ℕ). Did (fs n (z .tree)) (code n (z .tree)) (2 * few (z .tree)) t₀ t′ st₀ st′) e d;
+    finish = λ t′ st′ d. rw e at d;
   }
 
   module _ {h i₀ i : ℕ} {s t₀ t : List ℕ} {st₀ st : State} {at size next : ℕ} (l : at < end) (es : size ≡ getD s at 0) (en : next ≡ at + 2 + size)
@@ -98,16 +91,16 @@ module _ {L A : Type 0} {k : Kind L A} {few : L → ℕ} {fs : ℕ → L → Lis
     item = k .takes (p .rest) (p .lies) (p .ends) l
 
     pub one-size : size ≡ length (k .one (item .part))
-    one-size = es ∙ p .keeps .above at (omega (arith, z .above, p .starts)) ∙ item .size-of
+    one-size = es ∙ p .keeps .above at (omega arith) ∙ item .size-of
 
     pub one-word : {word : ℕ} → word ≡ getD s (at + 1) 0 → word ≡ k .word (item .part)
-    one-word e = e ∙ p .keeps .above (at + 1) (omega (arith, z .above, p .starts)) ∙ item .word-of
+    one-word e = e ∙ p .keeps .above (at + 1) (omega arith) ∙ item .word-of
 
     pub rest-length : length (k .all (p .rest)) ≡ 2 + length (k .one (item .part)) + length (k .all (item .more))
     rest-length = omega (arith, p .ends, item .ends)
 
     pub both-deep : (k .deep-one (item .part) ≤ here .left) × (k .deep (item .more) ≤ here .left)
-    both-deep = k .deeper (item .part) (item .more) (here .left) (subst (λ (x : L). k .deep x ≤ here .left) (item .same) (p .shallow))
+    both-deep = k .deeper (item .part) (item .more) (here .left) (rw (item .same) at (p .shallow))
 
     pub both-fine : k .Fine-one (item .part) × k .Fine (item .more)
     both-fine = k .finer (item .part) (item .more) (subst (k .Fine) (item .same) (p .fine))
@@ -117,9 +110,7 @@ module _ {L A : Type 0} {k : Kind L A} {few : L → ℕ} {fs : ℕ → L → Lis
         → here′ .height ≤ h + 1 → st′ .label + 2 * length (k .one (item .part)) ≤ 2 ^ 29 → 0 < st′ .label
         → Ready (k .one) (k .deep-one) (k .Fine-one) s next here′ st′
     ready-one here′ st′ et eg el eh few-labels some =
-        sub (k .one) (k .deep-one) (k .Fine-one) z (p .keeps) next (at + 2) here′ st′ (item .part) (item .lies) (omega (arith, one-size))
-        (omega (arith, p .starts)) (omega (arith, one-size, item .ends)) et eg (omega (arith, z .height, p .height, rest-length)) few-labels some
-        (omega (arith, both-deep .0)) (both-fine .0)
+        sub z (p .keeps) (item .lies) et (omega (arith, one-size, item .ends, rest-length, both-deep .0)) (both-fine .0)
 
     -- the loop after the item
     pub goes-on : {s₁ t₁ : List ℕ} {st₁ : State} {h′ i′ : ℕ} → Keeps (z .base) (here .top) s s₁ → h′ ≤ h + 4100
@@ -127,24 +118,22 @@ module _ {L A : Type 0} {k : Kind L A} {few : L → ℕ} {fs : ℕ → L → Lis
         → ((t′ : List ℕ) (st′ : State) → Did (fs i′ (item .more)) (code i′ (item .more)) (2 * few (item .more)) t₁ t′ st₁ st′
         → Did (fs i (k .with (item .part) (item .more))) (code i (k .with (item .part) (item .more))) (2 * few (p .rest)) t t′ st st′)
         → Part k few fs code (z .tree) from end (z .base) (here .top) (here .left) (here .height) h′ i₀ i′ s₀ s₁ t₀ t₁ st₀ st₁ next
-    goes-on {s₁} {t₁} {st₁} {h′} {i′} kept up labels some step = record {
+    goes-on kept up labels some step = record {
       rest = item .more;
       lies = subst (λ (n : ℕ). Lies s₀ n (k .all (item .more))) (omega (arith, one-size)) (item .lies-more);
       ends = omega (arith, item .ends, one-size);
-      starts = omega (arith, p .starts);
+      starts = omega arith;
       keeps = keeps-then (p .keeps) kept;
-      label = omega (arith, p .label);
+      label = omega arith;
       some = some;
       shallow = both-deep .1;
       fine = both-fine .1;
-      height = omega (arith, p .height, rest-length);
-      finish = λ t′ st′ d. p .finish t′ st′
-          (subst (λ (x : L). Did (fs i x) (code i x) (2 * few (p .rest)) t t′ st st′) (sym (item .same)) (step t′ st′ d));
+      height = omega (arith, rest-length);
+      finish = λ t′ st′ d. p .finish t′ st′ (rw (← (item .same)) at (step t′ st′ d));
     }
 
 -- the loop at its end
 pub ended : {L A : Type 0} {k : Kind L A} {few : L → ℕ} {fs : ℕ → L → List Fault} {code : ℕ → L → ℕ → Code} {all : L}
     {from end base top left h₀ h i₀ i at : ℕ} {s₀ s t₀ t : List ℕ} {st₀ st : State} → Part k few fs code all from end base top left h₀ h i₀ i s₀ s t₀
     t st₀ st at → end ≤ at → ((m : ℕ) → Did (fs i (k .none)) (code i (k .none)) m t t st st) → Did (fs i₀ all) (code i₀ all) (2 * few all) t₀ t st₀ st
-ended {k = k} {few} {fs} {code} {i = i} {t = t} {st = st} p l d =
-    p .finish t st (subst (λ x. Did (fs i x) (code i x) (2 * few (p .rest)) t t st st) (sym (k .empty (p .rest) (omega (arith, p .ends)))) (d _))
+ended {k = k} {few} {fs} {t = t} {st = st} p l d = p .finish t st (rw (k .empty (p .rest) (omega arith)) (d _))

@@ -1,52 +1,49 @@
 -- From a tree that is ready to its parts.
-use Prim.Native.Nat.{ℕ, _+_, _*_, _≤_, _<_, _^_}
-use mathlib.Core.Path.{_≡_, sym, subst}
-use mathlib.Core.List.{List}
-use native.Mathlib.Omega.{arith}
-use lib.ListN.{length}
+use Rattle.compiler.proofs.Basics.{ℕ, _+_, _*_, _≤_, _<_, _^_, _≡_, List, arith, length}
 use Rattle.language.specs.Names.{Scope}
-use Rattle.compiler.specs.Scope.{Shows, Keeps}
+use Rattle.compiler.proofs.Vocabulary.{Shows, Keeps, State, Here, Lies, Ready}
 use Rattle.compiler.proofs.Scoping.{keeps-shows}
-use Rattle.compiler.specs.declared.steps.State.{State}
-use Rattle.compiler.specs.declared.steps.Here.{Here}
-use Rattle.compiler.specs.Walks.{Lies, Ready}
 use Rattle.compiler.proofs.Trees.{keeps-lies}
 
-module _ {A B : Type 0} {encA : A → List ℕ} {deepA : A → ℕ} {FineA : A → Type 0} (encB : B → List ℕ) (deepB : B → ℕ) (FineB : B → Type 0)
-    {s s′ : List ℕ} {end : ℕ} {here : Here} {st : State} where
-  -- a part somewhere inside, in another scope
-  abbrev pub moved : (y : Ready encA deepA FineA s end here st) → Keeps (y .base) (here .top) s s′
-      → (end′ lo′ : ℕ) (here′ : Here) (st′ : State) (part : B) (sc : Scope) → Lies s lo′ (encB part) → end′ ≡ lo′ + length (encB part) → y .lo ≤ lo′
-      → end′ ≤ end → Shows s′ (here′ .top) sc → here′ .top * 2 + length (encB part) ≤ y .base * 2 → here′ .strings ≡ here .strings
-      → here′ .height + 4100 * length (encB part) ≤ 2 ^ 29 → st′ .label + 2 * length (encB part) ≤ 2 ^ 29 → 0 < st′ .label → deepB part ≤ here′ .left
-      → FineB part → Ready encB deepB FineB s′ end′ here′ st′
-  moved y k end′ lo′ here′ st′ part sc h e l m shows room strings height label some deep fine = record {
+-- a part lies inside, and there are heights, labels and levels for it
+pub record Fits {B : Type 0} (enc : B → List ℕ) (deep : B → ℕ) (lo end : ℕ) (here : Here) (lo′ end′ : ℕ) (here′ : Here) (st′ : State) (part : B)
+    : Type 0 where
+  pub ends : end′ ≡ lo′ + length (enc part)
+  pub low : lo ≤ lo′
+  pub high : end′ ≤ end
+  pub strings : here′ .strings ≡ here .strings
+  pub height : here′ .height + 4100 * length (enc part) ≤ 2 ^ 29
+  pub label : st′ .label + 2 * length (enc part) ≤ 2 ^ 29
+  pub some : 0 < st′ .label
+  pub shallow : deep part ≤ here′ .left
+
+module _ {A B : Type 0} {encA : A → List ℕ} {deepA : A → ℕ} {FineA : A → Type 0} {encB : B → List ℕ} {deepB : B → ℕ} {FineB : B → Type 0}
+    {s s′ : List ℕ} {end : ℕ} {here : Here} {st : State} {end′ lo′ : ℕ} {here′ : Here} {st′ : State} {part : B}
+    (y : Ready encA deepA FineA s end here st) (k : Keeps (y .base) (here .top) s s′) where
+  -- in another scope
+  abbrev pub moved : (sc : Scope) → Lies s lo′ (encB part) → Shows s′ (here′ .top) sc → here′ .top * 2 + length (encB part) ≤ y .base * 2
+      → Fits encB deepB (y .lo) end here lo′ end′ here′ st′ part → FineB part → Ready encB deepB FineB s′ end′ here′ st′
+  moved sc h shows room f fine = record {
     base = y .base;
     lo = lo′;
     tree = part;
     scope = sc;
-    lies = keeps-lies k (omega (arith, y .above)) h;
-    ends = e;
-    above = omega (arith, y .above);
-    long = omega (arith, y .long, k .long);
-    small = omega (arith, y .small);
+    lies = keeps-lies k (omega arith) h;
+    ends = f .ends;
+    above = omega arith;
+    long = omega arith;
+    small = omega arith;
     shows = shows;
     room = room;
-    height = height;
-    label = label;
-    some = some;
-    strings = omega (arith, y .strings);
-    shallow = deep;
+    height = f .height;
+    label = f .label;
+    some = f .some;
+    strings = omega arith;
+    shallow = f .shallow;
     fine = fine;
   }
 
-  -- a part in the same scope, somewhere inside, at another height
-  abbrev pub sub : (y : Ready encA deepA FineA s end here st) → Keeps (y .base) (here .top) s s′
-      → (end′ lo′ : ℕ) (here′ : Here) (st′ : State) (part : B) → Lies s lo′ (encB part) → end′ ≡ lo′ + length (encB part) → y .lo ≤ lo′ → end′ ≤ end
-      → here′ .top ≡ here .top → here′ .strings ≡ here .strings → here′ .height + 4100 * length (encB part) ≤ 2 ^ 29
-      → st′ .label + 2 * length (encB part) ≤ 2 ^ 29 → 0 < st′ .label → deepB part ≤ here′ .left → FineB part
+  -- in the same scope
+  abbrev pub sub : Lies s lo′ (encB part) → here′ .top ≡ here .top → Fits encB deepB (y .lo) end here lo′ end′ here′ st′ part → FineB part
       → Ready encB deepB FineB s′ end′ here′ st′
-  sub y k end′ lo′ here′ st′ part h e l m top strings height label some deep fine =
-      moved y k end′ lo′ here′ st′ part (y .scope) h e l m
-      (keeps-shows k (omega arith) (subst (λ (n : ℕ). Shows s n (y .scope)) (sym top) (y .shows)))
-      (omega (arith, y .room, y .ends)) strings height label some deep fine
+  sub h top f fine = moved (y .scope) h (keeps-shows k (omega arith) (rw top (y .shows))) (omega arith) f fine

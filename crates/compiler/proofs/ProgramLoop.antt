@@ -1,24 +1,14 @@
 -- The whole program: its declarations one after another, with the walk, the faults and the functions so far.
-use Prim.Native.Nat.{ℕ, suc, _+_, _*_, _≤_, _<_}
-use mathlib.Core.Path.{_≡_, refl, sym, ap, subst, _∙_}
-use mathlib.Core.Bool.{Bool, true, false}
-use mathlib.Core.List.{List, [], _∷_, _++_, append-nil, append-assoc}
-use native.Mathlib.Omega.{arith}
-use lib.ListN.{length, getD, replicate, length-append, length-replicate, getD-replicate}
+use Rattle.compiler.proofs.Basics.{ℕ, suc, _+_, _*_, _≤_, _<_, _≡_, refl, sym, ap, subst, _∙_, Bool, true, false, List, [], _∷_, _++_}
+use Rattle.compiler.proofs.Basics.{append-nil, append-assoc, arith, length, getD, replicate, length-append, length-replicate, getD-replicate}
 use Rattle.language.specs.Tree as T
-use Rattle.language.specs.Tree.{Declaration, Program}
-use Rattle.language.specs.Constants.{Fault}
-use Rattle.language.specs.Resolved.{Start, nowhere, inGlobal}
+use Rattle.compiler.proofs.Language.{Declaration, Program, Fault, Start, nowhere, inGlobal, FineDeclaration, FineProgram, declarationDepth}
+use Rattle.compiler.proofs.Language.{programDepth, encodeProgram}
 use Rattle.language.specs.Program.{Walk, Named, begin, among, functionsAfter, afterDeclaration, declarationFaults, declarationFunctions, faultsFrom}
 use Rattle.language.specs.Program.{functionsFrom}
 use Rattle.language.specs.Whole.{funs}
-use Rattle.language.specs.Fine.{FineDeclaration, FineProgram}
-use Rattle.language.proofs.Depth.{declarationDepth, programDepth}
-use Rattle.tree.specs.Encoding.{encodeProgram}
 use Rattle.compiler.specs.Scope as S
-use Rattle.compiler.specs.Scope.{Keeps}
-use Rattle.compiler.specs.Fine.{STRINGS}
-use Rattle.compiler.specs.Walks.{Lies}
+use Rattle.compiler.proofs.Vocabulary.{Keeps, STRINGS, Lies}
 use Rattle.compiler.specs.Groups.{Small, Taken, Starting, FineDs}
 use Rattle.compiler.specs.Programs.{startsOf, encodeDeclared, declaredWord, Stands, Yields, ReadyDeclaration, GaveDeclaration, ReadyProgram}
 use Rattle.compiler.specs.Programs.{GaveProgram}
@@ -44,8 +34,7 @@ made-many : (text : List ℕ) (w : Walk) (p : Declaration)
 unfolding afterDeclaration
 made-many text w (T.globals is) = refl
 made-many text w (T.manifests is) = refl
-made-many text w (T.functions fs) = ap (λ (n : ℕ). w .functions + n)
-    (sym (group-long text (w .functions) (w .scope) (functionsAfter text (w .functions) (w .scope) fs) fs))
+made-many text w (T.functions fs) = rw (group-long text (w .functions) (w .scope) (functionsAfter text (w .functions) (w .scope) fs) fs)
 
 -- ---- where functions start
 
@@ -57,19 +46,19 @@ starts-long (g ∷ gs) = ap suc (starts-long gs)
 starts-then : (gs hs : List Named) → startsOf (funs (gs ++ hs)) ≡ startsOf (funs gs) ++ startsOf (funs hs)
 unfolding startsOf funs
 starts-then [] hs = refl
-starts-then (g ∷ gs) hs = ap (λ (z : List Start). g .fun .start ∷ z) (starts-then gs hs)
+starts-then (g ∷ gs) hs = rw (starts-then gs hs)
 
 none-taken : {table : List ℕ} → table ≡ replicate 400 0 → Taken table []
 unfolding among
-none-taken {table} e = record {
+none-taken e = record {
   long = ap length e ∙ length-replicate {A = ℕ} 400 0;
-  free = λ n l q. ap (λ (z : List ℕ). getD z n 0) e ∙ getD-replicate {A = ℕ} 400 n 0 0 l;
+  free = λ n l q. rw (e, getD-replicate {A = ℕ} 400 n 0 0 l);
   used = λ n l q. let z : _≡_ {A = Bool} false true = q in let y : _≡_ {A = ℕ} 0 1 = cc in absurd (omega arith);
 }
 
 none-starting : {table : List ℕ} → table ≡ replicate 400 0 → Starting table []
 none-starting {table} e = record {
-  is = λ n l m q. let z : getD table n 0 ≡ 0 = ap (λ (z : List ℕ). getD z n 0) e ∙ getD-replicate {A = ℕ} 400 n 0 0 m in absurd (omega arith);
+  is = λ n l m q. let z : getD table n 0 ≡ 0 = rw (e, getD-replicate {A = ℕ} 400 n 0 0 m) in absurd (omega arith);
   has = λ n l q. let z : _≡_ {A = Start} nowhere (inGlobal n) = q in let y : _≡_ {A = ℕ} 0 1 = cc in absurd (omega arith);
 }
 
@@ -120,7 +109,7 @@ module _ (text t₀ : List ℕ) {s₀ table₀ : List ℕ} {base end left string
     keeps = keeps-all;
     stands = record { shows = S.nothing refl; globals = none-small; free = none-taken (y .empty); many = refl; some = y .some; low = y .low };
     uses = omega arith;
-    room = omega (arith, y .room);
+    room = omega arith;
     shallow = y .shallow;
     fine = y .fine;
     few = omega arith;
@@ -132,8 +121,7 @@ module _ (text t₀ : List ℕ) {s₀ table₀ : List ℕ} {base end left string
   }
 
   module _ {s table t : List ℕ} {at size next tag : ℕ} {l : Progress} (lt : at < end) (es : size ≡ getD s at 0) (en : next ≡ at + 2 + size)
-      (et : tag ≡ getD s (at + 1) 0)
-      (y : ReadyProgram s₀ table₀ base end left strings d₀) (p : ProgramPart y s table t at l) where
+      (et : tag ≡ getD s (at + 1) 0) (y : ReadyProgram s₀ table₀ base end left strings d₀) (p : ProgramPart y s table t at l) where
     abbrev pub program-one : IsDeclaration s₀ at end (p .rest)
     program-one = is-declaration (p .rest) (p .lies) (p .ends) lt
 
@@ -141,7 +129,7 @@ module _ (text t₀ : List ℕ) {s₀ table₀ : List ℕ} {base end left string
     program-size = es ∙ p .keeps .above at (p .starts) ∙ program-one .size-of
 
     pub program-word : tag ≡ declaredWord (program-one .part)
-    program-word = et ∙ p .keeps .above (at + 1) (omega (arith, p .starts)) ∙ program-one .word-of
+    program-word = et ∙ p .keeps .above (at + 1) (omega arith) ∙ program-one .word-of
 
     pub program-length : length (encodeProgram (p .rest)) ≡ 2 + length (encodeDeclared (program-one .part))
         + length (encodeProgram (program-one .more))
@@ -149,7 +137,7 @@ module _ (text t₀ : List ℕ) {s₀ table₀ : List ℕ} {base end left string
 
     pub program-deep : (declarationDepth (program-one .part) ≤ left) × (programDepth (program-one .more) ≤ left)
     unfolding programDepth
-    program-deep = (omega (arith, p .shallow, ap programDepth (program-one .same)), omega (arith, p .shallow, ap programDepth (program-one .same)))
+    program-deep = (omega (arith, ap programDepth (program-one .same)), omega (arith, ap programDepth (program-one .same)))
 
     pub program-fine : FineDeclaration STRINGS (program-one .part) × FineDs (program-one .more)
     unfolding FineProgram
@@ -161,17 +149,17 @@ module _ (text t₀ : List ℕ) {s₀ table₀ : List ℕ} {base end left string
       walk = p .walk;
       part = program-one .part;
       stands = p .stands;
-      lies = keeps-lies (p .keeps) (omega (arith, p .starts)) (program-one .lies);
+      lies = keeps-lies (p .keeps) (omega arith) (program-one .lies);
       ends = omega (arith, en, program-size);
       word = program-word;
-      above = omega (arith, p .starts);
-      long = omega (arith, y .long, p .keeps .long);
+      above = omega arith;
+      long = omega arith;
       small = omega (arith, y .small, en, program-size, program-one .ends);
-      room = omega (arith, p .room, program-length);
-      height = omega (arith, y .height, p .uses, program-length);
-      label = omega (arith, y .label, p .uses, program-length, p .yields .did .few);
-      few = omega (arith, y .height, p .uses, program-length, p .stands .many, p .many, p .few);
-      names = omega (arith, y .names);
+      room = omega (arith, program-length);
+      height = omega (arith, program-length);
+      label = omega (arith, program-length);
+      few = omega (arith, program-length);
+      names = omega arith;
       shallow = program-deep .0;
       fine = program-fine .0;
     }
@@ -179,7 +167,7 @@ module _ (text t₀ : List ℕ) {s₀ table₀ : List ℕ} {base end left string
     pub program-next : {s₁ table₁ t₁ : List ℕ} {r : Progress} → GaveDeclaration text s s₁ table table₁ (at + 2) next tag left strings t t₁ l r
         → ProgramPart y s₁ table₁ t₁ next r
     unfolding faultsFrom functionsFrom
-    program-next {s₁} {table₁} {t₁} {r} g =
+    program-next {s₁} {table₁} g =
         let u = program-one in let x = g .by program-ready in let w = p .walk in let w′ = afterDeclaration text w (u .part) in
         let fs = declarationFaults text w (u .part) in let gs = declarationFunctions text w (u .part) in
         record {
@@ -189,22 +177,22 @@ module _ (text t₀ : List ℕ) {s₀ table₀ : List ℕ} {base end left string
           made = p .made ++ gs;
           used = p .used + (2 + length (encodeDeclared (u .part)));
           lies = subst (λ (z : ℕ). Lies s₀ z (encodeProgram (u .more))) (omega (arith, en, program-size)) (u .lies-more);
-          ends = omega (arith, u .ends, en, program-size);
-          starts = omega (arith, p .starts, en);
+          ends = omega (arith, en, program-size);
+          starts = omega arith;
           keeps = keeps-then (p .keeps) (keeps-lower (omega arith) (x .keeps));
           stands = x .stands;
-          uses = omega (arith, p .uses, program-length);
-          room = omega (arith, p .room, program-length, x .up .1);
+          uses = omega arith;
+          room = omega arith;
           shallow = program-deep .1;
           fine = program-fine .1;
-          few = omega (arith, p .few, length-append (p .made) gs, made-few text w (u .part));
-          many = omega (arith, p .many, length-append (p .made) gs, made-many text w (u .part));
+          few = omega (arith, length-append (p .made) gs, made-few text w (u .part));
+          many = omega (arith, length-append (p .made) gs, made-many text w (u .part));
           faults-are = append-assoc (p .found) fs (faultsFrom text w′ (u .more))
               ∙ ap (λ (z : Program). p .found ++ faultsFrom text w z) (sym (u .same)) ∙ p .faults-are;
           made-are = append-assoc (p .made) gs (functionsFrom text w′ (u .more))
               ∙ ap (λ (z : Program). p .made ++ functionsFrom text w z) (sym (u .same)) ∙ p .made-are;
-          yields = yields-as (2 * (p .used + (2 + length (encodeDeclared (u .part))))) refl refl (omega arith)
-              (yields-then (w .functions + 1) (omega (arith, p .many)) (p .yields) (x .yields));
+          yields = yields-as (2 * (p .used + (2 + length (encodeDeclared (u .part))))) refl refl (omega arith) (yields-then (w .functions + 1)
+              (omega arith) (p .yields) (x .yields));
           starting = λ e. subst (Starting table₁) (sym (starts-then (p .made) gs))
               (x .starting (nil-right (p .found) fs e) (startsOf (funs (p .made))) (starts-long (p .made) ∙ sym (p .many))
               (p .starting (nil-left (p .found) fs e)));
@@ -214,18 +202,16 @@ module _ (text t₀ : List ℕ) {s₀ table₀ : List ℕ} {base end left string
       → ((y : ReadyProgram s₀ table₀ base end left strings d₀) → ProgramPart y s table t at l)
       → GaveProgram text s₀ s table₀ table base end left strings t₀ t d₀ (l .done)
   unfolding faultsFrom functionsFrom
-  program-end {s} {table} {t} {at} {l} lt q = record {
-    by = λ y. let p = q y in let e = no-declaration (p .rest) (p .ends) lt in
-        let fe : p .found ≡ faultsFrom text begin (y .program) = sym (append-nil (p .found))
-        ∙ ap (λ (z : Program). p .found ++ faultsFrom text (p .walk) z) (sym e) ∙ p .faults-are in
-        let me : p .made ≡ functionsFrom text begin (y .program) = sym (append-nil (p .made))
-        ∙ ap (λ (z : Program). p .made ++ functionsFrom text (p .walk) z) (sym e) ∙ p .made-are in
-        let r = yields-as (2 * length (encodeProgram (y .program))) fe me (omega (arith, p .uses)) (p .yields) in
+  program-end {s} {table} {t} {at} lt q = record {
+    by = λ y. let p = q y in let e = no-declaration (p .rest) (p .ends) lt in let fe : p .found ≡ faultsFrom text begin (y .program)
+        = cc (append-nil (p .found)) in
+        let me : p .made ≡ functionsFrom text begin (y .program) = cc (append-nil (p .made)) in let r = yields-as
+        (2 * length (encodeProgram (y .program))) fe me (omega arith) (p .yields) in
         record {
           did = r .did;
           tall = r .tall;
           fits = r .fits;
-          starting = λ c. subst (λ (z : List Named). Starting table (startsOf (funs z))) me (p .starting (fe ∙ c));
+          starting = λ c. rw me at (p .starting (fe ∙ c));
           long = p .stands .free .long;
           keeps = p .keeps;
         };

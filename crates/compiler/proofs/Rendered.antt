@@ -1,15 +1,10 @@
 -- The text as lines; globals in scope.
-use Prim.Native.Nat.{ℕ, _<_}
-use mathlib.Core.Path.{_≡_, refl, ap, _∙_}
-use mathlib.Core.Bool.{Bool, true, false, cond}
-use mathlib.Core.List.{List, [], _∷_, _++_, append-assoc}
-use native.Mathlib.Omega.{arith}
+use Rattle.compiler.proofs.Basics.{ℕ, _<_, _≡_, refl, ap, _∙_, Bool, true, false, cond, List, [], _∷_, _++_, append-assoc, arith}
 use Rattle.items.specs.Item.{Item}
 use Rattle.items.specs.Render.{render, renderLines, renderAll}
 use Rattle.writing.specs.Text.{line, lines}
-use Rattle.language.specs.Tree.{Name}
+use Rattle.compiler.proofs.Language.{Name, Scope, lookup, sameName}
 use Rattle.language.specs.Names as N
-use Rattle.language.specs.Names.{Scope, lookup, sameName}
 use Rattle.compiler.specs.Groups.{Small}
 
 lines-end : (is : List Item) → renderLines is ≡ lines is ++ (90 ∷ 10 ∷ [])
@@ -20,7 +15,7 @@ lines-end (i ∷ is) = ap (λ (z : List ℕ). render i ++ (10 ∷ z)) (lines-end
 -- `$`, the items, and `Z`, each on a line
 pub rendered : (is : List Item) → renderAll is ≡ (36 ∷ 10 ∷ []) ++ (lines is ++ (90 ∷ 10 ∷ []))
 unfolding renderAll
-rendered is = ap (λ (z : List ℕ). 36 ∷ 10 ∷ z) (lines-end is)
+rendered is = rw (lines-end is)
 
 -- a global that is found has its place in the table
 pub small-found : (text : List ℕ) (sc : Scope) (n : Name) (m : ℕ) → Small sc → lookup text sc n ≡ N.known (N.global m) → m < 400
@@ -31,7 +26,7 @@ small-found text (N.declared s x w) n m h e = go w h (sameName text x n) e (smal
   where
     go : (w : N.Meaning) → Small (N.declared s x w) → (b : Bool) → cond b (N.known w) (lookup text s n) ≡ N.known (N.global m)
         → (Small s → lookup text s n ≡ N.known (N.global m) → m < 400) → m < 400
-    go (N.global k) h true e ih = let z : k ≡ m = cc in omega (arith, h .0)
+    go (N.global k) h true e ih = let z : k ≡ m = cc in omega arith
     go (N.global k) h false e ih = ih (h .1) e
     go (N.local k) h true e ih = let z : _≡_ {A = ℕ} 0 1 = cc in absurd (omega arith)
     go (N.local k) h false e ih = ih h e

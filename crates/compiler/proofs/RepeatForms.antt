@@ -1,34 +1,17 @@
 -- REPEAT forms: one of a list, the loop over them, and a command with them.
-use Prim.Native.Nat.{ℕ, zero, suc, _+_, _*_, _-_, _≤_, _<_, _^_}
-use mathlib.Core.Path.{_≡_, refl, sym, ap, subst, _∙_}
-use mathlib.Core.Bool.{cond}
-use mathlib.Core.List.{List, [], _∷_, _++_, append-nil, append-assoc}
-use native.Mathlib.Omega.{arith}
-use lib.ListN.{length, getD, length-append}
-use lib.Dec.{eqb}
+use Rattle.compiler.proofs.Basics.{ℕ, zero, suc, _+_, _*_, _-_, _≤_, _<_, _^_, _≡_, refl, sym, ap, subst, _∙_, cond, List, [], _∷_, _++_}
+use Rattle.compiler.proofs.Basics.{append-nil, append-assoc, arith, length, getD, length-append, eqb}
 use Rattle.items.specs.Item as I
 use Rattle.language.specs.Kinds as K
 use Rattle.language.specs.Tree as T
-use Rattle.language.specs.Tree.{Expression, Unlabelled, Repeats}
-use Rattle.language.proofs.Depth.{depth, unlabelledDepth, repeatsDepth}
-use Rattle.language.specs.Names.{Scope}
-use Rattle.language.specs.Constants.{Fault}
-use Rattle.language.specs.Resolve.{expression, repeats, unlabelled}
-use Rattle.language.specs.Fine.{FineRepeats}
+use Rattle.compiler.proofs.Language.{Expression, Unlabelled, Repeats, depth, repeatsDepth, Scope, Fault, expression, repeats, unlabelled}
+use Rattle.compiler.proofs.Language.{FineRepeats, Leavable, inExpression, inUnlabelled, inRepeats, encode, encodeUnlabelled, encodeRepeats}
 use Rattle.code.specs.Generate as G
 use Rattle.language.specs.Faults as Y
-use Rattle.language.specs.Faults.{Leavable, inExpression, inUnlabelled, inRepeats}
 use Rattle.tree.specs.Encoding as O
-use Rattle.tree.specs.Encoding.{encode, encodeUnlabelled, encodeRepeats}
-use Rattle.compiler.specs.Scope.{Keeps}
+use Rattle.compiler.proofs.Vocabulary.{Keeps, State, Here, Ways, Node, FineE, FinePlain, FineRs, inLoop, leavable, leavableBy, exits, NodeAt}
+use Rattle.compiler.proofs.Vocabulary.{Code, Did, Emits, Fresh, Lies, Ready, Result, GaveE, Counts}
 use Rattle.compiler.proofs.Scoping.{keeps-all, keeps-then}
-use Rattle.compiler.specs.declared.steps.State.{State}
-use Rattle.compiler.specs.declared.steps.Here.{Here}
-use Rattle.compiler.specs.declared.steps.Ways.{Ways}
-use Rattle.compiler.specs.declared.steps.Node.{Node}
-use Rattle.compiler.specs.Fine.{FineE, FinePlain, FineRs}
-use Rattle.compiler.specs.Walked.{inLoop, leavable, leavableBy, exits, NodeAt, Code, Did, Emits, Fresh}
-use Rattle.compiler.specs.Walks.{Lies, Ready, Result, GaveE, Counts}
 use Rattle.compiler.specs.Repeats.{forms, conditions, topsCode, formsCode, formsHeights, formsLabels, formsSays, innermost}
 use Rattle.compiler.specs.Commands.{cmdSays, ReadyU, GaveU, encodeRepeated, ReadyR, GaveR, ReadyForms, GaveForms, formSays, ReadyForm, GaveForm}
 use Rattle.compiler.proofs.Done.{emits-did, did-none, did-put, did-after, did-then, did-as, did-at, did-fresh, same-refl, same-eq, code-is}
@@ -139,13 +122,11 @@ form-code : (text : List ℕ) (x : Here) (sc : Scope) (own n : ℕ) (f : AForm) 
 unfolding formsCode formsHeights formsLabels
 form-code text x sc own n alone rs =
     let a : n + 0 ≡ n = omega arith in
-    code-is (ap (λ (k : ℕ). I.label (own + 1) ∷ G.JL own ∷ I.label (own + 2) ∷ formsCode text sc (x .strings) (x .height) (own - 3) rs k) a) refl
-    (omega arith)
+    code-is (rw a) refl (omega arith)
 form-code text x sc own n (onTest w e) rs =
     let E = G.exprCode (x .strings) (x .height) n (expression text sc (x .height) e) in let J = G.jumpWhen (eqb w K.REPEATWHILE) own in
     let F = formsCode text sc (x .strings) (x .height) (own - 3) rs (n + G.exprLabels (expression text sc (x .height) e)) in
-    code-is (ap (λ (z : List I.Item). I.label (own + 1) ∷ z)
-    (append-assoc (E ++ (J ∷ [])) (I.label (own + 2) ∷ []) F ∙ append-assoc E (J ∷ []) (I.label (own + 2) ∷ F))) refl refl
+    code-is (simp append-assoc) refl refl
 
 -- ---- the loop over them
 
@@ -159,8 +140,7 @@ module _ (text t₀ : List ℕ) (own₀ : ℕ) {s₀ : List ℕ} {from end : ℕ
   forms-begin y = begins (y .ready) (y .starts) refl refl (y .some)
 
   module _ {s t : List ℕ} {at size word next own : ℕ} {st : State} (l : at < end) (es : size ≡ getD s at 0) (ew : word ≡ getD s (at + 1) 0)
-      (en : next ≡ at + 2 + size)
-      (y : ReadyForms s₀ from end here st₀) (p : FormsPart y s t at own st) where
+      (en : next ≡ at + 2 + size) (y : ReadyForms s₀ from end here st₀) (p : FormsPart y s t at own st) where
     abbrev pub one : First encodeRepeats formEncoding formWord withForm s₀ at end (p .rest)
     one = item (y .ready) (y .starts) l es en p
 
@@ -173,20 +153,22 @@ module _ (text t₀ : List ℕ) (own₀ : ℕ) {s₀ : List ℕ} {from end : ℕ
     module _ {a : State} (el : a .label ≡ st .label) where
       -- what stands there, as its test's expression
       abbrev ready-test : (w : ℕ) (e : Expression) → one .part ≡ onTest w e → Ready encode depth FineE s next here a
-      ready-test w e q =
-          let z = y .ready in let h = subst (λ (f : AForm). Lies s₀ (at + 2) (formEncoding f)) q (one .lies) in
-          let m : length (formEncoding (one .part)) ≡ length (encode e) = ap (λ (f : AForm). length (formEncoding f)) q in
-          sub encode depth FineE z (p .keeps) next (at + 2) here a e h (omega (arith, forms-size)) (omega (arith, y .starts, p .starts))
-          (omega (arith, forms-size, one .ends)) refl refl (omega (arith, z .height, p .height, rest-length z (y .starts) l es en p))
-          (omega (arith, y .label, p .label, forms-conditions)) (omega (arith, p .some))
-          (subst (λ (f : AForm). formDepth f ≤ here .left) q (both-deep z (y .starts) l es en p .0))
-          (subst FineForm q (both-fine z (y .starts) l es en p .0))
+      ready-test w e q = let z = y .ready in let h = rw q at (one .lies) in let m : length (formEncoding (one .part)) ≡ length (encode e)
+          = rw q in
+          sub z (p .keeps) h refl (omega (
+            arith,
+            forms-size,
+            one .ends,
+            rest-length z (y .starts) l es en p,
+            forms-conditions,
+            rw q at (both-deep z (y .starts) l es en p .0),
+          )) (subst FineForm q (both-fine z (y .starts) l es en p .0))
 
       ready-form : ReadyForm s next size here a
       ready-form = record { on = λ n. by n (one .part) refl }
         where
           by : (size ≡ 0 → ⊥) → (f : AForm) → one .part ≡ f → Ready encode depth FineE s next here a
-          by n alone q = absurd (n (forms-size ∙ ap (λ (f : AForm). length (formEncoding f)) q))
+          by n alone q = absurd (n (rw (forms-size, q)))
           by n (onTest w e) q = ready-test w e q
 
       -- what it did
@@ -199,19 +181,15 @@ module _ (text t₀ : List ℕ) (own₀ : ℕ) {s₀ : List ℕ} {from end : ℕ
               → Keeps (y .ready .base) (here .top) s s₁ × Did (formFaults text (y .ready .scope) here f) (oneSays text here (y .ready .scope) own f)
               (2 * length (formEncoding f)) t₁ t₂ a b
           by alone q =
-              let x = g .plain (forms-size ∙ ap (λ (f : AForm). length (formEncoding f)) q) in (
-                subst (λ (z : List ℕ). Keeps (y .ready .base) (here .top) s z) (sym (x .0)) keeps-all,
-                did-as _ _ (emits-did _ (x .1) (λ n. refl))
-                    same-refl (λ n e. refl) (omega arith),
+              let x = g .plain (rw (forms-size, q)) in (
+                rw (x .0) keeps-all,
+                did-as _ _ (emits-did _ (x .1) (λ n. refl)) same-refl (λ n e. refl) (omega arith),
               )
           by (onTest w e) q =
-              let m : length (formEncoding (one .part)) ≡ length (encode e) = ap (λ (f : AForm). length (formEncoding f)) q in
+              let m : length (formEncoding (one .part)) ≡ length (encode e) = rw q in
               let x = g .on (λ n. omega (arith, n, forms-size, m, closed-long (expression-closed e))) .by (ready-test w e q) in (
                 x .keeps,
-                subst
-                    (λ (v : ℕ). Did (inExpression text (y .ready .scope) (leavable here) (here .height) e)
-                    (formSays text here (y .ready .scope) v own e)
-                    (2 * length (encode e)) t₁ t₂ a b) (one-word (y .ready) (y .starts) l es en p ew ∙ ap formWord q) (x .did),
+                rw (← (one-word (y .ready) (y .starts) l es en p ew ∙ ap formWord q)) (x .did),
               )
 
   module _ {s t : List ℕ} {at size word next own : ℕ} {st : State} (l : at < end) (es : size ≡ getD s at 0) (ew : word ≡ getD s (at + 1) 0)
@@ -223,14 +201,12 @@ module _ (text t₀ : List ℕ) (own₀ : ℕ) {s₀ : List ℕ} {from end : ℕ
     pub forms-next : {s₁ t₁ t₂ t₃ : List ℕ} {own′ : ℕ} {a b r : State} → Emits (I.label (own + 1) ∷ []) [] t t₁ st a
         → GaveForm text s s₁ next size word own here t₁ t₂ a b → Emits (I.label (own + 2) ∷ []) [] t₂ t₃ b r
         → own′ ≡ own - 3 → (y : ReadyForms s₀ from end here st₀) → FormsPart y s t at own st → FormsPart y s₁ t₃ next own′ r
-    forms-next {t₃ = t₃} {r = r} m₁ g m₂ eo y p =
+    forms-next m₁ g m₂ eo y p =
         let z = y .ready in let u = one l es ew en y p in let x = form-did l es ew en y p (m₁ .label) g in let sc = z .scope in
         let n = forms-conditions l es ew en y p in
-        goes-on z (y .starts) l es en p (x .0) (omega arith) (omega (arith, x .1 .few, m₁ .label, m₂ .label))
-        (omega (arith, p .some, x .1 .grows, m₁ .label, m₂ .label)) (λ t′ st′ d. did-as _ _ (did-then (did-put (did-after m₁ (x .1)) m₂)
-        (subst (λ (o : ℕ). Did (inRepeats text sc (leavable here) (here .height) (u .more)) (formsSays text here sc o (u .more))
-        (2 * conditions (u .more)) t₃ t′ r st′) eo d)) (same-eq (sym (form-faults text sc here (u .part) (u .more))))
-        (λ k c. form-code text here sc own k (u .part) (u .more)) (omega arith))
+        goes-on z (y .starts) l es en p (x .0) (omega arith) (omega arith) (omega arith)
+        (λ t′ st′ d. did-as _ _ (did-then (did-put (did-after m₁ (x .1)) m₂) (rw eo at d))
+        (same-eq (sym (form-faults text sc here (u .part) (u .more)))) (λ k c. form-code text here sc own k (u .part) (u .more)) (omega arith))
 
   pub forms-end : {s t : List ℕ} {at own : ℕ} {st : State} → end ≤ at → ((y : ReadyForms s₀ from end here st₀) → FormsPart y s t at own st)
       → GaveForms text s₀ s from end own₀ here t₀ t st₀ st
@@ -248,10 +224,7 @@ pub form-tested : (text : List ℕ) {s s₁ t t₁ t₂ : List ℕ} {end size wo
     → Emits (G.to j own ∷ []) [] t₁ t₂ a r → GaveForm text s s₁ end size word own here t t₂ st r
 form-tested text {t₁ = t₁} {t₂} {own = own} {a = a} {r} n g ej f = record {
   plain = λ q. absurd (n q);
-  on = λ q. record {
-    by = λ y. let x = g .by y in record
-        { keeps = x .keeps; did = did-put (x .did) (subst (λ (k : ℕ). Emits (G.to k own ∷ []) [] t₁ t₂ a r) ej f) };
-  };
+  on = λ q. record { by = λ y. let x = g .by y in record { keeps = x .keeps; did = did-put (x .did) (rw ej at f) } };
 }
 
 -- ---- a command with REPEAT forms
@@ -281,7 +254,7 @@ repeated-of {lo = lo} u rs k h e =
 is-repeated : {s : List ℕ} {lo end : ℕ} (u : Unlabelled) (rs : Repeats) → FinePlain u → Lies s lo (O.repeated (encodeUnlabelled u) (encodeRepeats rs))
     → end ≡ lo + length (O.repeated (encodeUnlabelled u) (encodeRepeats rs)) → getD s (end - 1) 0 ≡ O.REPEATED → IsRepeated s lo end u rs
 unfolding O.repeated encodeRepeats forms
-is-repeated {s} {lo} {end} u T.noRepeats f h e q = absurd (omega (arith, q, form-small s lo end (form-of s lo end u f h e)))
+is-repeated {s} {lo} {end} u T.noRepeats f h e q = absurd (omega (arith, form-small s lo end (form-of s lo end u f h e)))
 is-repeated u (T.repeat rs) f h e q = repeated-of u (T.repeat rs) (omega arith) h e
 is-repeated u (T.repeatOn w d rs) f h e q = repeated-of u (T.repeatOn w d rs) (omega arith) h e
 
@@ -311,9 +284,7 @@ any-repeats : (text : List ℕ) (l m : Leavable) (q : l .routine ≡ m .routine)
 unfolding inRepeats
 any-repeats text l m q sc h T.noRepeats = refl
 any-repeats text l m q sc h (T.repeat rs) = any-repeats text l m q sc h rs
-any-repeats text l m q sc h (T.repeatOn w e rs) =
-    ap (λ (z : List Fault). z ++ inRepeats text sc l h rs) (any-expression text l m q sc h e) ∙ ap
-    (λ (z : List Fault). inExpression text sc m h e ++ z) (any-repeats text l m q sc h rs)
+any-repeats text l m q sc h (T.repeatOn w e rs) = rw (any-expression text l m q sc h e, any-repeats text l m q sc h rs)
 
 -- a command with forms is in a loop
 forms-leave : (rs : Repeats) (l : Leavable) → 1 ≤ forms rs → Y.repeated rs l ≡ Y.inLoop l
@@ -324,7 +295,7 @@ forms-leave (T.repeatOn w e rs) l k = refl
 
 innermost-is : (n k own : ℕ) (ways : Ways) → 1 ≤ k → own ≡ n + 3 * k - 3 → exits (inLoop (own + 1) (own + 2) ways) ≡ innermost n k (exits ways)
 innermost-is n zero own ways l e = absurd (omega arith)
-innermost-is n (suc k) own ways l e = let q : own ≡ n + 3 * k = omega arith in ap (λ (i : ℕ). exits (inLoop (i + 1) (i + 2) ways)) q
+innermost-is n (suc k) own ways l e = let q : own ≡ n + 3 * k = omega arith in rw q
 
 module _ {s : List ℕ} {end : ℕ} {here : Here} {st : State} (n : Node) (nd : NodeAt s end n) (q : n .kind ≡ O.REPEATED) {middle : ℕ}
     (m : middle ≡ n .start + n .value) where
@@ -332,65 +303,51 @@ module _ {s : List ℕ} {end : ℕ} {here : Here} {st : State} (n : Node) (nd : 
   repeated-is y = is-repeated (y .tree .body) (y .tree .forms) (y .fine .0) (y .lies) (y .ends) (sym (nd .kind) ∙ q)
 
   pub repeated-middle : (y : ReadyR s end here st) → middle ≡ y .lo + length (encodeUnlabelled (y .tree .body))
-  repeated-middle y = let u = repeated-is y in omega (arith, m, nd .start, nd .value, u .value-of, u .size-of, u .ends)
+  repeated-middle y = let u = repeated-is y in omega arith
 
   module _ {k : ℕ} (c : Counts s middle (n .inner) k) where
     pub repeated-count : (y : ReadyR s end here st) → k ≡ forms (y .tree .forms)
     repeated-count y = let u = repeated-is y in
-        c .by (forms (y .tree .forms))
-        (repeat-items (y .tree .forms) (subst (λ (i : ℕ). Lies s i (encodeRepeats (y .tree .forms))) (sym (repeated-middle y)) (u .lies-forms))
-        (omega (arith, nd .inner, u .ends, repeated-middle y)))
+        c .by (forms (y .tree .forms)) (repeat-items (y .tree .forms) (rw (repeated-middle y) (u .lies-forms)) (omega (arith, repeated-middle y)))
 
     pub repeated-few : (y : ReadyR s end here st) → (1 ≤ k) × (st .label + 3 * k + 3 ≤ 2 ^ 29)
     repeated-few y =
         let u = repeated-is y in
-        (omega (arith, repeated-count y, u .some), omega (arith, repeated-count y, forms-entries (y .tree .forms), y .label, y .ends, u .ends))
+        (omega (arith, repeated-count y), omega (arith, repeated-count y, forms-entries (y .tree .forms)))
 
     module _ {a b : State} {t t₁ : List ℕ} (e : Fresh (3 * k) st a) (f : Emits (topsCode (st .label) k) [] t t₁ a b) where
       abbrev pub repeated-body : ReadyR s end here st → ReadyU s middle here b
       repeated-body y = let u = repeated-is y in
-          sub encodeUnlabelled unlabelledDepth FinePlain y keeps-all middle (y .lo) here b (y .tree .body) (u .lies) (repeated-middle y) (omega arith)
-          (omega (arith, repeated-middle y, u .ends)) refl refl (omega (arith, y .height, y .ends, u .ends))
-          (omega (arith, y .label, y .ends, u .ends, e .label, f .label, repeated-count y, forms-entries (y .tree .forms)))
-          (omega (arith, y .some, e .label, f .label)) (omega (arith, y .shallow)) (y .fine .0)
+          sub y keeps-all (u .lies) refl (omega (arith, repeated-middle y, repeated-count y, forms-entries (y .tree .forms))) (y .fine .0)
 
       module _ (text : List ℕ) (ways : Ways) {own : ℕ} (eo : own ≡ st .label + 3 * k - 3) {s₁ t₂ : List ℕ} {d : State}
           (g : GaveU text s s₁ middle here (inLoop (own + 1) (own + 2) ways) t₁ t₂ b d) where
         abbrev pub repeated-forms : ReadyR s end here st → ReadyForms s₁ middle (n .inner) here d
         repeated-forms y = let u = repeated-is y in let x = g .by (repeated-body y) in record {
           before = st;
-          ready =
-              sub encodeRepeats repeatsDepth FineRs y (x .keeps) (n .inner) (y .lo + length (encodeUnlabelled (y .tree .body))) here st
-              (y .tree .forms) (u .lies-forms) (omega (arith, nd .inner, u .ends)) (omega arith) (omega (arith, nd .inner)) refl refl
-              (omega (arith, y .height, y .ends, u .ends)) (omega (arith, y .label, y .ends, u .ends)) (y .some) (omega (arith, y .shallow))
-              (y .fine .1);
+          ready = sub y (x .keeps) (u .lies-forms) refl (omega arith) (y .fine .1);
           starts = sym (repeated-middle y);
-          label = omega (arith, y .label, y .ends, u .ends, e .label, f .label, repeated-count y, forms-entries (y .tree .forms), x .did .few);
-          some = omega (arith, y .some, e .label, f .label, x .did .grows);
+          label = omega (arith, repeated-count y, forms-entries (y .tree .forms));
+          some = omega arith;
         }
 
         pub repeated-gave : {s₂ t₃ : List ℕ} {r : State} → GaveForms text s₁ s₂ middle (n .inner) own here t₂ t₃ d r
             → GaveR text s s₂ end here ways t t₃ st r
-        repeated-gave {s₂} {t₃} {r} g₂ = record {
-          by = λ y.
-              let u = repeated-is y in let x = g .by (repeated-body y) in let z = g₂ .by (repeated-forms y) in let sc = y .scope in
-              let h = here .height in let S = here .strings in let L = st .label in let rs = y .tree .forms in
-              let C = unlabelled text sc h (y .tree .body) in let lv = leavableBy ways here in let N = L + 3 * k in let ek = repeated-count y in
-              let l₁ : leavableBy (inLoop (own + 1) (own + 2) ways) here ≡ Y.repeated rs lv = leaves-loop here ways (own + 1) (own + 2) (omega arith)
-              ∙ sym (forms-leave rs lv (u .some)) in
-              let ei : exits (inLoop (own + 1) (own + 2) ways) ≡ innermost L (forms rs) (exits ways) = innermost-is L (forms rs) own ways (u .some)
-              (eo ∙ ap (λ (i : ℕ). L + 3 * i - 3) ek) in
+        repeated-gave g₂ = record {
+          by = λ y. let u = repeated-is y in let x = g .by (repeated-body y) in let z = g₂ .by (repeated-forms y) in let sc = y .scope in
+              let h = here .height in let S = here .strings in let L = st .label in let rs = y .tree .forms in let C = unlabelled text sc h
+              (y .tree .body) in let lv = leavableBy ways here in let N = L + 3 * k in let ek = repeated-count y in let l₁ : leavableBy
+              (inLoop (own + 1) (own + 2) ways) here ≡ Y.repeated rs lv = leaves-loop here ways (own + 1) (own + 2) (omega arith)
+              ∙ sym (forms-leave rs lv (u .some)) in let ei : exits (inLoop (own + 1) (own + 2) ways) ≡ innermost L (forms rs) (exits ways)
+              = innermost-is L (forms rs) own ways (u .some) (rw (eo, ek)) in
               record {
                 keeps = keeps-then (x .keeps) (z .keeps);
                 did = did-at (cmdSays here ways (repeats text sc h C rs)) _ (did-fresh e (did-after f (did-then (x .did) (z .did))))
-                    (same-eq (ap (λ (p : Leavable). inUnlabelled text sc p h (y .tree .body) ++ inRepeats text sc (leavable here) h rs) l₁ ∙ ap
-                    (λ (w : List Fault). inUnlabelled text sc (Y.repeated rs lv) h (y .tree .body) ++ w)
-                    (any-repeats text (leavable here) lv refl sc h rs))) (λ v. code-is (ap (λ (i : ℕ). topsCode L i
-                    ++ (G.cmdCode S h N (exits (inLoop (own + 1) (own + 2) ways)) C ++ formsCode text sc S h own rs (N + G.cmdLabels C))) ek ∙ ap
-                    (λ (w : G.Exits). topsCode L (forms rs) ++ (G.cmdCode S h N w C ++ formsCode text sc S h own rs (N + G.cmdLabels C))) ei ∙ sym
-                    (repeats-code text sc S h rs C L N own (N + G.cmdLabels C) (exits ways) (ap (λ (i : ℕ). L + 3 * i) ek) eo refl))
-                    (sym (repeats-heights text sc h rs C)) (omega (arith, repeats-labels text sc h rs C, ek)))
-                    (omega (arith, y .ends, u .ends, ek, forms-entries rs));
+                    (same-eq (rw (l₁, any-repeats text (leavable here) lv refl sc h rs)))
+                    (λ v. code-is (ap (λ (i : ℕ). topsCode L i ++ (G.cmdCode S h N (exits (inLoop (own + 1) (own + 2) ways)) C ++ formsCode text sc S
+                    h own rs (N + G.cmdLabels C))) ek ∙ ap (λ (w : G.Exits). topsCode L (forms rs) ++ (G.cmdCode S h N w C ++ formsCode text sc S h
+                    own rs (N + G.cmdLabels C))) ei ∙ sym (repeats-code text sc S h rs C L N own (N + G.cmdLabels C) (exits ways) (rw ek) eo refl))
+                    (sym (repeats-heights text sc h rs C)) (omega (arith, repeats-labels text sc h rs C))) (omega (arith, forms-entries rs));
               };
         }
 
@@ -399,20 +356,15 @@ module _ {s : List ℕ} {end : ℕ} {here : Here} {st : State} (n : Node) (nd : 
   once-is y = is-once (y .tree .body) (y .tree .forms) (y .lies) (y .ends) (λ e. q (nd .kind ∙ e))
 
   abbrev pub once-part : ReadyR s end here st → ReadyU s end here st
-  once-part y = let u = once-is y in
-      sub encodeUnlabelled unlabelledDepth FinePlain y keeps-all end (y .lo) here st (y .tree .body) (u .lies) (u .ends) (omega arith) (omega arith)
-      refl refl
-      (omega (arith, y .height, y .ends, u .ends)) (omega (arith, y .label, y .ends, u .ends)) (y .some) (omega (arith, y .shallow)) (y .fine .0)
+  once-part y = let u = once-is y in sub y keeps-all (u .lies) refl (omega arith) (y .fine .0)
 
   pub once-gave : (text : List ℕ) (ways : Ways) {s₁ t t₁ : List ℕ} {r : State} → GaveU text s s₁ end here ways t t₁ st r
       → GaveR text s s₁ end here ways t t₁ st r
   unfolding inRepeats repeats
   once-gave text ways {s₁} {t} {t₁} {r} g = record {
-    by = λ y.
-        let u = once-is y in let x = g .by (once-part y) in let sc = y .scope in let h = here .height in let lv = leavableBy ways here in
+    by = λ y. let u = once-is y in let x = g .by (once-part y) in let sc = y .scope in let h = here .height in let lv = leavableBy ways here in
         let U = y .tree .body in
         subst (λ (rs : Repeats). Result (inUnlabelled text sc (Y.repeated rs lv) h U ++ inRepeats text sc lv h rs)
         (cmdSays here ways (repeats text sc h (unlabelled text sc h U) rs)) (length (encodeRepeated (y .tree))) (y .base) here s s₁ t t₁ st r)
-        (sym (u .same))
-        (record { keeps = x .keeps; did = did-as _ _ (x .did) (same-eq (sym (append-nil _))) (λ k v. refl) (omega (arith, y .ends, u .ends)) });
+        (sym (u .same)) (record { keeps = x .keeps; did = did-as _ _ (x .did) (same-eq (sym (append-nil _))) (λ k v. refl) (omega arith) });
   }

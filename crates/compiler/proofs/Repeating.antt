@@ -1,32 +1,24 @@
 -- The code of a command with REPEAT forms, and the loop over them.
-use Prim.Native.Nat.{ℕ, zero, suc, _+_, _*_, _-_, _≤_}
-use mathlib.Core.Path.{_≡_, refl, sym, ap, subst, _∙_}
-use mathlib.Core.List.{List, [], _∷_, _++_, append-nil, append-assoc}
-use native.Mathlib.Omega.{arith}
-use lib.Dec.{eqb}
+use Rattle.compiler.proofs.Basics.{ℕ, zero, suc, _+_, _*_, _-_, _≤_, _≡_, refl, sym, ap, subst, _∙_, List, [], _∷_, _++_, append-nil}
+use Rattle.compiler.proofs.Basics.{append-assoc, arith, eqb}
 use Rattle.items.specs.Item as I
 use Rattle.language.specs.Tree as T
-use Rattle.language.specs.Tree.{Repeats}
-use Rattle.language.specs.Names.{Scope}
+use Rattle.compiler.proofs.Language.{Repeats, Scope, Cmd, expression, repeats, ofExpr, ofCmd, greatest}
 use Rattle.language.specs.Resolved as R
-use Rattle.language.specs.Resolved.{Cmd}
-use Rattle.language.specs.Resolve.{expression, repeats}
-use Rattle.language.specs.Heights.{ofExpr, ofCmd, greatest}
 use Rattle.code.specs.Generate as G
 use Rattle.code.specs.Generate.{Exits, cmdCode, cmdLabels, exprCode, exprLabels}
 use Rattle.writing.specs.Text.{lines}
 use Rattle.writing.proofs.Laws.{puts-none}
-use Rattle.compiler.specs.declared.steps.State.{State}
-use Rattle.compiler.specs.Walked.{Emits}
+use Rattle.compiler.proofs.Vocabulary.{State, Emits}
 use Rattle.compiler.proofs.Done.{emits-then}
 use Rattle.compiler.specs.Repeats.{forms, topsCode, formsCode, formsHeights, formsLabels, innermost}
 
 tops-snoc : (n k : ℕ) → topsCode n (suc k) ≡ topsCode n k ++ (I.label (n + 3 * k) ∷ [])
 unfolding topsCode
-tops-snoc n zero = let a : n ≡ n + 3 * 0 = omega arith in ap (λ (z : ℕ). I.label z ∷ []) a
+tops-snoc n zero = let a : n ≡ n + 3 * 0 = omega arith in cc
 tops-snoc n (suc k) =
     let a : n + 3 + 3 * k ≡ n + 3 * suc k = omega arith in
-    ap (λ (z : List I.Item). I.label n ∷ z) (tops-snoc (n + 3) k ∙ ap (λ (z : ℕ). topsCode (n + 3) k ++ (I.label z ∷ [])) a)
+    rw (tops-snoc (n + 3) k, a)
 
 -- the loop that writes them
 pub tops-none : (n : ℕ) {t : List ℕ} {st : State} → Emits (topsCode n 0) [] t t st st
@@ -40,7 +32,7 @@ tops-next n i {t} {t₁} {t₂} {st} {a} {b} f g =
     subst (λ (z : List I.Item). Emits z [] t t₂ st b) (sym (tops-snoc n i) ∙ ap (topsCode n) q) (emits-then f g)
 
 pub tops-all : (n i k : ℕ) {t t′ : List ℕ} {st r : State} → k ≤ i → i ≤ k → Emits (topsCode n i) [] t t′ st r → Emits (topsCode n k) [] t t′ st r
-tops-all n i k {t} {t′} {st} {r} l m f = let q : i ≡ k = omega arith in subst (λ (z : ℕ). Emits (topsCode n z) [] t t′ st r) q f
+tops-all n i k {t} {t′} {st} {r} l m f = let q : i ≡ k = omega arith in rw q at f
 
 in-loops : (n k a b : ℕ) (x : Exits) → G.inLoop a b (innermost n k x) ≡ G.inLoop a b x
 in-loops n zero a b x = refl
@@ -55,34 +47,31 @@ module _ (text : List ℕ) (sc : Scope) (strings h : ℕ) where
   unfolding repeats forms formsCode topsCode cmdCode cmdLabels
   repeats-code T.noRepeats c n N own m x e eo em =
       let a : n ≡ N = omega arith in
-      ap (λ (z : ℕ). cmdCode strings h z x c) a ∙ sym (append-nil (cmdCode strings h N x c))
+      simp (a, append-nil)
   repeats-code (T.repeat rs) c n N own m x e eo em =
-      let k = forms rs in let M = n + 3 * k in let q : M + 3 ≡ N = omega arith in let p : own ≡ M = omega arith in
-      let r : M + (3 + cmdLabels c) ≡ m = omega arith in let C = cmdCode strings h N (G.inLoop (M + 1) (M + 2) x) c in
-      let tail = I.label (M + 1) ∷ G.JL M ∷ I.label (M + 2) ∷ [] in let F = formsCode text sc strings h (M - 3) rs m in
-      repeats-code rs (R.repeat c) n M (M - 3) m x refl refl (sym r) ∙ ap (λ (z : List I.Item). topsCode n k ++ ((I.label M ∷ (z ++ tail)) ++ F))
-      (ap (λ (y : Exits). cmdCode strings h (M + 3) y c) (in-loops n k (M + 1) (M + 2) x) ∙ ap
-      (λ (v : ℕ). cmdCode strings h v (G.inLoop (M + 1) (M + 2) x) c) q) ∙ ap (λ (z : List I.Item). topsCode n k ++ (I.label M ∷ z))
-      (append-assoc C tail F) ∙ sym (append-assoc (topsCode n k) (I.label M ∷ []) (C ++ (I.label (M + 1) ∷ G.JL M ∷ I.label (M + 2) ∷ F))) ∙ ap
-      (λ (z : List I.Item). z ++ (C ++ (I.label (M + 1) ∷ G.JL M ∷ I.label (M + 2) ∷ F))) (sym (tops-snoc n k)) ∙ ap
-      (λ (v : ℕ). topsCode n (suc k) ++ (C ++ (I.label (v + 1) ∷ G.JL v ∷ I.label (v + 2) ∷ formsCode text sc strings h (v - 3) rs m))) (sym p)
+      let k = forms rs in let M = n + 3 * k in let q : M + 3 ≡ N = omega arith in let p : own ≡ M = omega arith in let r : M + (3 + cmdLabels c)
+      ≡ m = omega arith in let C = cmdCode strings h N (G.inLoop (M + 1) (M + 2) x) c in let tail = I.label (M + 1) ∷ G.JL M ∷ I.label (M + 2) ∷ [] in
+      let F = formsCode text sc strings h (M - 3) rs m in
+      cc (
+        repeats-code rs (R.repeat c) n M (M - 3) m x refl refl (sym r),
+        in-loops n k (M + 1) (M + 2) x,
+        append-assoc C tail F,
+        append-assoc (topsCode n k) (I.label M ∷ []) (C ++ (I.label (M + 1) ∷ G.JL M ∷ I.label (M + 2) ∷ F)),
+        tops-snoc n k,
+      )
   repeats-code (T.repeatOn w e rs) c n N own m x en eo em =
       let k = forms rs in let M = n + 3 * k in let q : M + 3 ≡ N = omega arith in let p : own ≡ M = omega arith in let E = expression text sc h e in
-      let b = eqb w 21 in let r : M + (3 + cmdLabels c + exprLabels E) ≡ m + exprLabels E = omega arith in
-      let r′ : M + 3 + cmdLabels c ≡ m = omega arith in let C = cmdCode strings h N (G.inLoop (M + 1) (M + 2) x) c in
-      let X = exprCode strings h m E in let end = G.jumpWhen b M ∷ I.label (M + 2) ∷ [] in
-      let F = formsCode text sc strings h (M - 3) rs (m + exprLabels E) in
-      repeats-code rs (R.repeatWhile b c E) n M (M - 3) (m + exprLabels E) x refl refl (sym r) ∙ ap
-      (λ (z : List I.Item). topsCode n k ++ ((I.label M ∷ (z ++ (I.label (M + 1) ∷ (exprCode strings h (M + 3 + cmdLabels c) E ++ end)))) ++ F))
-      (ap (λ (y : Exits). cmdCode strings h (M + 3) y c) (in-loops n k (M + 1) (M + 2) x) ∙ ap
-      (λ (v : ℕ). cmdCode strings h v (G.inLoop (M + 1) (M + 2) x) c) q) ∙ ap
-      (λ (v : ℕ). topsCode n k ++ ((I.label M ∷ (C ++ (I.label (M + 1) ∷ (exprCode strings h v E ++ end)))) ++ F)) r′ ∙ ap
-      (λ (z : List I.Item). topsCode n k ++ (I.label M ∷ z))
-      (append-assoc C (I.label (M + 1) ∷ (X ++ end)) F ∙ ap (λ (z : List I.Item). C ++ (I.label (M + 1) ∷ z)) (append-assoc X end F)) ∙ sym
-      (append-assoc (topsCode n k) (I.label M ∷ []) (C ++ (I.label (M + 1) ∷ (X ++ (G.jumpWhen b M ∷ I.label (M + 2) ∷ F))))) ∙ ap
-      (λ (z : List I.Item). z ++ (C ++ (I.label (M + 1) ∷ (X ++ (G.jumpWhen b M ∷ I.label (M + 2) ∷ F))))) (sym (tops-snoc n k)) ∙ ap
-      (λ (v : ℕ). topsCode n (suc k)
-      ++ (C ++ (I.label (v + 1) ∷ (X ++ (G.jumpWhen b v ∷ I.label (v + 2) ∷ formsCode text sc strings h (v - 3) rs (m + exprLabels E)))))) (sym p)
+      let b = eqb w 21 in let r : M + (3 + cmdLabels c + exprLabels E) ≡ m + exprLabels E = omega arith in let r′ : M + 3 + cmdLabels c
+      ≡ m = omega arith in let C = cmdCode strings h N (G.inLoop (M + 1) (M + 2) x) c in let X = exprCode strings h m E in let end = G.jumpWhen b M
+      ∷ I.label (M + 2) ∷ [] in let F = formsCode text sc strings h (M - 3) rs (m + exprLabels E) in
+      cc (
+        repeats-code rs (R.repeatWhile b c E) n M (M - 3) (m + exprLabels E) x refl refl (sym r),
+        in-loops n k (M + 1) (M + 2) x,
+        append-assoc C (I.label (M + 1) ∷ (X ++ end)) F,
+        append-assoc X end F,
+        append-assoc (topsCode n k) (I.label M ∷ []) (C ++ (I.label (M + 1) ∷ (X ++ (G.jumpWhen b M ∷ I.label (M + 2) ∷ F)))),
+        tops-snoc n k,
+      )
 
 pub repeats-heights : (text : List ℕ) (sc : Scope) (h : ℕ) (rs : Repeats) (c : Cmd)
     → ofCmd h (repeats text sc h c rs) ≡ ofCmd h c ++ formsHeights text sc h rs

@@ -1,26 +1,13 @@
 -- Items of a list by their ends: the loop over them; labels, one by one and before each command of a list; BY's constant.
-use Prim.Native.Nat.{ℕ, _+_, _-_, _≤_, _<_, _^_}
-use mathlib.Core.Path.{_≡_, refl, sym, ap, subst, _∙_}
-use mathlib.Core.Bool.{Bool, true, false, cond}
-use mathlib.Core.List.{List, [], _∷_, _++_, append-nil}
+use Rattle.compiler.proofs.Basics.{ℕ, _+_, _-_, _≤_, _<_, _^_, _≡_, refl, sym, ap, _∙_, Bool, true, false, cond, List, [], _∷_, _++_}
+use Rattle.compiler.proofs.Basics.{append-nil, arith, length, getD, length-append, eqb, eq-eqb, ne-eqb}
 use mathlib.Core.Option.{Option, none, some}
-use native.Mathlib.Omega.{arith}
-use lib.ListN.{length, getD, length-append}
-use lib.Dec.{eqb}
-use borrow.Author.Tests.{eq-eqb, ne-eqb}
 use Rattle.language.specs.Tree as T
-use Rattle.language.specs.Tree.{Simple, Constant, Label}
-use Rattle.language.specs.Names.{Scope}
-use Rattle.language.specs.Constants.{Fault, fault, Judged, good, refused, judge, within, faultsOf}
-use Rattle.language.specs.Faults.{misplaced}
-use Rattle.language.specs.Fine.{FineConstant, FineBy, FineLabels}
-use Rattle.tree.specs.Encoding.{closed, encodeName, encodeConstant, encodePositive, encodeNegative, encodeBy, encodeLabels}
-use Rattle.compiler.specs.Scope.{Shows}
-use Rattle.compiler.specs.declared.steps.State.{State}
-use Rattle.compiler.specs.declared.steps.Node.{Node}
+use Rattle.compiler.proofs.Language.{Simple, Constant, Label, Scope, fault, Judged, good, refused, judge, within, faultsOf, misplaced}
+use Rattle.compiler.proofs.Language.{FineConstant, FineBy, FineLabels, closed, encodeName, encodeConstant, encodePositive, encodeNegative}
+use Rattle.compiler.proofs.Language.{encodeBy, encodeLabels}
+use Rattle.compiler.proofs.Vocabulary.{Shows, State, Node, NodeAt, Did, Faulted, Lies}
 use Rattle.compiler.specs.declared.steps.Verdict.{Verdict}
-use Rattle.compiler.specs.Walked.{NodeAt, Did, Faulted}
-use Rattle.compiler.specs.Walks.{Lies}
 use Rattle.compiler.specs.Commands.{nothing}
 use Rattle.compiler.specs.Locals.{Says, fit, unfit, Judges, Blames}
 use Rattle.compiler.specs.Switching.{JudgesBy, byJudged, ReadyMisplaced, Misplaces}
@@ -56,9 +43,7 @@ not-zero c (refused fs) n (unfit a b w) = unfit a b w
 
 a-zero : {j : Verdict} (c : Constant) (x : Judged) {p : ℕ} → j .number ≡ 0 → j .word ≡ 0 → p ≡ c .place → Says j x
     → Says (record { word = 0; number = 11; place = p }) (within c (λ v. cond (eqb v 0) false true) x)
-a-zero {j} c (good v) {p} e w q (fit z) =
-    rw (eq-eqb (j .word) 0 w)
-    (subst (λ (k : ℕ). Says (record { word = 0; number = 11; place = p }) (refused (fault k 11))) q (unfit refl (λ z. omega arith) refl))
+a-zero {j} c (good v) {p} e w q (fit z) = rw (eq-eqb (j .word) 0 w) (rw (← q) (unfit refl (λ z. omega arith) refl))
 a-zero c (refused fs) e w q (unfit a b z) = absurd (b (sym a ∙ e))
 
 module _ (text : List ℕ) {s : List ℕ} {from end top : ℕ} where
@@ -90,8 +75,8 @@ module _ (text : List ℕ) {s : List ℕ} {from end top : ℕ} where
 
     pub by-zero : {p e₂ : ℕ} → j .number ≡ 0 → j .word ≡ 0 → e₂ ≡ end - 2 → p ≡ getD s e₂ 0 → p < 2 ^ 32
         → JudgesBy text s from end top (record { word = 0; number = 11; place = p })
-    by-zero {p} {e₂} n w q e f = judges-by l (f, omega arith) (λ sc c sh fine h en.
-        a-zero c (judge text sc c) n w (e ∙ ap (λ (k : ℕ). getD s k 0) q ∙ place-there c fine h en) (g .by sc from c sh fine h en))
+    by-zero n w q e f = judges-by l (f, omega arith) (λ sc c sh fine h en. a-zero c (judge text sc c) n w (rw (e, q, place-there c fine h en))
+        (g .by sc from c sh fine h en))
 
 -- ---- the loop over items
 
@@ -101,24 +86,17 @@ pub record Left {A : Type 0} (P : ℕ → A → Type 0) (s : List ℕ) (end at :
   pub row : Row P s end at rest
   pub holds : Q rest
 
-pub next-cut : {s : List ℕ} {at end n r : ℕ} → at < end → n ≡ at + 2 + getD s at 0 → end ≤ n → r ≡ end → NextItem s at end r
-next-cut l e m q = record { further = omega arith; within = omega arith; is = λ h. omega arith }
-
-pub next-is : {s : List ℕ} {at end n : ℕ} → n ≡ at + 2 + getD s at 0 → n < end → NextItem s at end n
-next-is e m = record { further = omega arith; within = omega arith; is = λ h. e }
-
 module _ {A : Type 0} {P : ℕ → A → Type 0} {s : List ℕ} {end : ℕ} where
-  pub left-all : {from : ℕ} (Q : List A → Type 0) {xs : List A} → Row P s end from xs → Q xs → Left P s end from Q
-  left-all Q {xs} r h = record { rest = xs; row = r; holds = h }
+  pub left-all : {from : ℕ} {Q : List A → Type 0} {xs : List A} → Row P s end from xs → Q xs → Left P s end from Q
+  left-all {xs = xs} r h = record { rest = xs; row = r; holds = h }
 
-  pub left-next : {at next : ℕ} {Q : List A → Type 0} (Q′ : List A → Type 0) → at < end → NextItem s at end next → Left P s end at Q
+  pub left-next : {at next : ℕ} {Q Q′ : List A → Type 0} → at < end → NextItem s at end next → Left P s end at Q
       → ((x : A) (xs : List A) → next ≡ at + 2 + getD s at 0 → P next x → Q (x ∷ xs) → Q′ xs) → Left P s end next Q′
-  left-next {at} {next} {Q} Q′ l n p step = go (p .rest) (p .row) (p .holds)
+  left-next {at} {next} {Q} {Q′} l n p step = go (p .rest) (p .row) (p .holds)
     where
       go : (xs : List A) → Row P s end at xs → Q xs → Left P s end next Q′
       go [] (noMore e) h = absurd (omega arith)
-      go (x ∷ xs) (andMore m q r) h = let e = n .is m in
-          record { rest = xs; row = subst (λ (k : ℕ). Row P s end k xs) (sym e) r; holds = step x xs e (subst (λ (k : ℕ). P k x) (sym e) q) h }
+      go (x ∷ xs) (andMore m q r) h = let e = n .is m in record { rest = xs; row = rw e r; holds = step x xs e (rw e q) h }
 
   pub left-end : {at : ℕ} {Q : List A → Type 0} → end ≤ at → Left P s end at Q → Q []
   left-end {at} {Q} l p = go (p .rest) (p .row) (p .holds)
@@ -141,7 +119,7 @@ an-item {s} {at} {end} {tag} w rest h e f =
 
 case-at : {s : List ℕ} {lo end : ℕ} (p : ℕ) (c : Constant) → FineConstant c → Lies s lo (closed (encodeConstant c) 0 p 28)
     → end ≡ lo + length (closed (encodeConstant c) 0 p 28) → LabelAt s end (T.case p c)
-case-at {s} {lo} {end} p c f h e = let w = encodeConstant c in
+case-at p c f h e = let w = encodeConstant c in
     aCase (kind-is w 0 p 28 h e) (place-is w 0 p 28 h e) (kid w 0 p 28 h e) (omega (arith, ends w 0 p 28 h e)) f
 
 default-at : {s : List ℕ} {lo end : ℕ} (p : ℕ) → Lies s lo (closed [] 0 p 29) → end ≡ lo + length (closed [] 0 p 29) → LabelAt s end (T.default p)
@@ -151,16 +129,16 @@ pub labels-row : {s : List ℕ} {at end : ℕ} (ls : List Label) → FineLabels 
     → Row (LabelAt s) s end at ls
 unfolding encodeLabels FineLabels
 labels-row {at = at} [] f h e = noMore {at = at} (omega arith)
-labels-row {s} {at} {end} (T.case p c ∷ ls) f h e = an-item (closed (encodeConstant c) 0 p 28) (encodeLabels ls) h e
-    (λ z lies more en. andMore {at = at} (omega arith) (case-at p c (f .0) lies z) (labels-row ls (f .1) more en))
-labels-row {s} {at} {end} (T.default p ∷ ls) f h e = an-item (closed [] 0 p 29) (encodeLabels ls) h e
-    (λ z lies more en. andMore {at = at} (omega arith) (default-at p lies z) (labels-row ls f more en))
+labels-row {s} {at} (T.case p c ∷ ls) f h e = an-item (closed (encodeConstant c) 0 p 28) (encodeLabels ls) h e (λ z lies more en. andMore {at = at}
+    (omega arith) (case-at p c (f .0) lies z) (labels-row ls (f .1) more en))
+labels-row {s} {at} (T.default p ∷ ls) f h e = an-item (closed [] 0 p 29) (encodeLabels ls) h e (λ z lies more en. andMore {at = at} (omega arith)
+    (default-at p lies z) (labels-row ls f more en))
 
 -- ---- a label before no command of a list
 
 pub twelve : {s : List ℕ} {end : ℕ} {st a : State} {n : Node} → NodeAt s end n → Faulted (n .place) 12 st a → {place : ℕ} → getD s (end - 2) 0 ≡ place
     → (t : List ℕ) → Did (fault place 12) nothing 0 t t st a
-twelve {st = st} {a} nd w e t = subst (λ (k : ℕ). Did (fault k 12) nothing 0 t t st a) (nd .place ∙ e) (w .by nothing t)
+twelve nd w e t = rw (nd .place ∙ e) at (w .by nothing t)
 
 module _ (text : List ℕ) {s : List ℕ} {end top : ℕ} {st : State} (n : Node) (nd : NodeAt s end n) {a : State} (w : Faulted (n .place) 12 st a) where
   pub misplaced-default : (n .kind ≡ 28 → ⊥) → MisplacesLabel text s end top st a
@@ -179,12 +157,12 @@ module _ (text : List ℕ) {s : List ℕ} {end top : ℕ} {st : State} (n : Node
       go sc (T.case p c) sh (aCase {lo = lo} k e h en f) t =
           did-as nothing 0 (did-then (twelve nd w e t) (b .by (judge text sc c) (g .by sc lo c sh f h (nd .inner ∙ en)) t))
           (same-eq (sym (append-nil _))) (λ v z. refl) (omega arith)
-      go sc (T.default p) sh (aDefault k e) t = absurd (omega (arith, nd .kind))
+      go sc (T.default p) sh (aDefault k e) t = absurd (omega arith)
 
 misplaced-then : (text : List ℕ) (sc : Scope) (l : Label) (ls : List Label)
     → misplaced text sc (l ∷ []) ++ misplaced text sc ls ≡ misplaced text sc (l ∷ ls)
 unfolding misplaced
-misplaced-then text sc (T.case p c) ls = ap (λ (z : List Fault). z ++ misplaced text sc ls) (append-nil (fault p 12 ++ faultsOf (judge text sc c)))
+misplaced-then text sc (T.case p c) ls = cc (append-nil (fault p 12 ++ faultsOf (judge text sc c)))
 misplaced-then text sc (T.default p) ls = refl
 
 module _ (text : List ℕ) {s : List ℕ} {from end top : ℕ} (st₀ : State) where
@@ -195,19 +173,13 @@ module _ (text : List ℕ) {s : List ℕ} {from end top : ℕ} (st₀ : State) w
       nothing 0 t t st₀ st′)
 
   pub misplaced-begin : (y : ReadyMisplaced s from end top) → MisplacedPart y from st₀
-  misplaced-begin y =
-      left-all
-      (λ rest. (t : List ℕ) (st′ : State) → Did (misplaced text (y .scope) rest) nothing 0 t t st₀ st′ → Did (misplaced text (y .scope) (y .labels))
-      nothing 0 t t st₀ st′) (labels-row (y .labels) (y .fine) (y .lies) (y .ends)) (λ t st′ d. d)
+  misplaced-begin y = left-all (labels-row (y .labels) (y .fine) (y .lies) (y .ends)) (λ t st′ d. d)
 
   pub misplaced-next : {at next : ℕ} {st r : State} → at < end → NextItem s at end next → MisplacesLabel text s next top st r
       → (y : ReadyMisplaced s from end top) → MisplacedPart y at st → MisplacedPart y next r
   misplaced-next {at} {next} {st} {r} l n m y p =
-      left-next
-      (λ rest. (t : List ℕ) (st′ : State) → Did (misplaced text (y .scope) rest) nothing 0 t t r st′ → Did (misplaced text (y .scope) (y .labels))
-      nothing 0 t t st₀ st′) l n p (λ x xs e q h t st′ d. h t st′
-      (did-as nothing 0 (did-then (m .by (y .scope) x (y .shows) q t) d) (same-eq (misplaced-then text (y .scope) x xs)) (λ v z. refl)
-      (omega arith)))
+      left-next l n p (λ x xs e q h t st′ d. h t st′ (did-as nothing 0 (did-then (m .by (y .scope) x (y .shows) q t) d)
+      (same-eq (misplaced-then text (y .scope) x xs)) (λ v z. refl) (omega arith)))
 
   pub misplaced-end : {at : ℕ} {st : State} → end ≤ at → ((y : ReadyMisplaced s from end top) → MisplacedPart y at st)
       → Misplaces text s from end top st₀ st

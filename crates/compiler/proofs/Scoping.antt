@@ -1,18 +1,10 @@
 -- Laws of spelling, of the stack of names, and of what is pushed on it.
-use mathlib.Core.Path.{_≡_, refl, sym, ap, subst, _∙_}
-use mathlib.Core.List.{List, [], _∷_}
-use mathlib.Core.Bool.{Bool, true, false, cond, _&&_}
-use Prim.Native.Nat.{ℕ, zero, suc, _+_, _*_, _-_, _/_, _%_, _≤_, _<_, min}
-use native.Mathlib.Omega.{arith}
+use Rattle.compiler.proofs.Basics.{_≡_, refl, sym, ap, _∙_, List, [], _∷_, Bool, true, false, cond, ℕ, zero, suc, _+_, _*_, _-_, _/_, _%_, _≤_}
+use Rattle.compiler.proofs.Basics.{_<_, min, arith, length, set, getD, take, drop, length-set, length-take, length-drop, getD-drop}
+use Rattle.compiler.proofs.Basics.{getD-set-same, getD-set-other, eqb, eq-eqb, ne-eqb}
 use native.Mathlib.Numerals.{unary-clauses}
-use lib.ListN.{length, set, getD, take, drop, length-set, length-take, length-drop}
-use lib.Seq.{getD-drop, getD-set-same, getD-set-other}
-use lib.Dec.{eqb}
-use borrow.Author.Tests.{eq-eqb, ne-eqb}
-use Rattle.language.specs.Tree.{Name}
-use Rattle.language.specs.Names.{Meaning, local, global, manifest, function, Found, unknown, known, Scope, opened, declared, lookup, inBlock}
-use Rattle.language.specs.Names.{sameBytes, sameName}
-use Rattle.language.specs.Fine.{FineName}
+use Rattle.compiler.proofs.Language.{Name, Meaning, local, global, manifest, function, Found, unknown, known, Scope, opened, declared, lookup}
+use Rattle.compiler.proofs.Language.{inBlock, sameBytes, sameName, FineName}
 use Rattle.compiler.specs.Scope.{named, nameAt, packed, code, found, Worded, Shows, nothing, mark, name, Pushed, PushedName, Keeps}
 
 -- ---- spelling
@@ -32,14 +24,14 @@ sameBytes-length (a ∷ x) (b ∷ y) h = rw (sameBytes-length x y (λ e. h (ap s
 cut : (n : ℕ) (x : List ℕ) → take n x ≡ take (min n (length x)) x
 cut zero x = simp unary-clauses
 cut (suc n) [] = simp unary-clauses
-cut (suc n) (b ∷ x) = simp unary-clauses (ap (λ (l : List ℕ). b ∷ l) (cut n x))
+cut (suc n) (b ∷ x) = simp unary-clauses (rw (cut n x))
 
 module _ (text : List ℕ) (p q n : ℕ) where
   spelt : (p : ℕ) → take n (drop p text) ≡ take (min n (length text - p)) (drop p text)
-  spelt p = cut n (drop p text) ∙ ap (λ (k : ℕ). take (min n k) (drop p text)) (length-drop p text)
+  spelt p = rw (cut n (drop p text), length-drop p text)
 
   width : (p : ℕ) → length (take n (drop p text)) ≡ min n (length text - p)
-  width p = length-take n (drop p text) ∙ ap (λ (k : ℕ). min n k) (length-drop p text)
+  width p = rw (length-take n (drop p text), length-drop p text)
 
   pub not-long : {a b : ℕ} → a ≡ min n (length text - p) → b ≡ min n (length text - q) → (a ≡ b → ⊥)
       → false ≡ sameBytes (take n (drop p text)) (take n (drop q text))
@@ -47,23 +39,19 @@ module _ (text : List ℕ) (p q n : ℕ) where
 
   pub long : {a b : ℕ} → a ≡ min n (length text - p) → b ≡ min n (length text - q) → a ≡ b
       → sameBytes (take a (drop p text)) (take a (drop q text)) ≡ sameBytes (take n (drop p text)) (take n (drop q text))
-  long {a} {b} ea eb h =
-      let x : take a (drop p text) ≡ take n (drop p text) = ap (λ (k : ℕ). take k (drop p text)) ea ∙ sym (spelt p) in
-      let y : take a (drop q text) ≡ take n (drop q text) = ap (λ (k : ℕ). take k (drop q text)) (h ∙ eb) ∙ sym (spelt q) in
-      ap (λ (l : List ℕ). sameBytes l (take a (drop q text))) x ∙ ap (λ (l : List ℕ). sameBytes (take n (drop p text)) l) y
+  long {a} ea eb h = let x : take a (drop p text) ≡ take n (drop p text) = rw (ea, spelt p) in let y : take a (drop q text) ≡ take n (drop q text)
+      = rw (h, eb, spelt q) in
+      rw (x, y)
 
 -- names of other widths, and of the same
 pub other-width : (text : List ℕ) (x place width : ℕ) → (x % 65536 ≡ width → ⊥)
     → false ≡ sameName text (named (x / 65536) (x % 65536)) (named place width)
-other-width text x place width h =
-    sym (ap (λ (t : Bool). t && sameBytes (take (x % 65536) (drop (x / 65536) text)) (take width (drop place text))) (ne-eqb (x % 65536) width h))
+other-width text x place width h = sym (rw (ne-eqb (x % 65536) width h))
 
 pub same-width : (text : List ℕ) (x place width : ℕ) {t : Bool} → x % 65536 ≡ width
     → t ≡ sameBytes (take width (drop (x / 65536) text)) (take width (drop place text))
     → t ≡ sameName text (named (x / 65536) (x % 65536)) (named place width)
-same-width text x place width h e =
-    e ∙ ap (λ (k : ℕ). sameBytes (take k (drop (x / 65536) text)) (take width (drop place text))) (sym h)
-    ∙ sym (ap (λ (t : Bool). t && sameBytes (take (x % 65536) (drop (x / 65536) text)) (take width (drop place text))) (eq-eqb (x % 65536) width h))
+same-width text x place width h e = cc (eq-eqb (x % 65536) width h)
 
 -- the bytes up to one, by that one
 last-same : (i : ℕ) (x y : List ℕ) → i < length x → i < length y → getD x i 0 ≡ getD y i 0
@@ -133,7 +121,7 @@ pub left-then : {A : Type 0} (ask : Scope → A) {s : List ℕ} {at at′ : ℕ}
 left-then ask sc l r = record { rest = r .rest; shows = r .shows; same = l .same ∙ r .same }
 
 at-as : {s : List ℕ} {at at′ : ℕ} {sc : Scope} → at ≡ at′ → Shows s at sc → Shows s at′ sc
-at-as {s} {sc = sc} e h = subst (λ (k : ℕ). Shows s k sc) e h
+at-as e h = rw e at h
 
 pub shows-low : {s : List ℕ} {top : ℕ} {sc : Scope} → Shows s top sc → top ≤ length s
 shows-low (nothing e) = omega arith
@@ -141,7 +129,7 @@ shows-low (mark h e v z) = v
 shows-low (name h e v p f c u) = v
 
 get-as : (s : List ℕ) {i j : ℕ} → i ≡ j → getD s i 0 ≡ getD s j 0
-get-as s e = ap (λ (k : ℕ). getD s k 0) e
+get-as s e = rw e
 
 module _ (text s : List ℕ) (leaf at : ℕ) where
   pub at-outer : {sc : Scope} → Shows s at sc → at < 2 → lookup text sc (nameAt s leaf) ≡ unknown
@@ -176,16 +164,12 @@ module _ (text s : List ℕ) (leaf at : ℕ) where
       not-mark : (b : ℕ) → at ≡ b + 2 → getD s (b + 1) 0 ≡ 0 → ⊥
       not-mark b e y = let g : at - 2 + 1 ≡ b + 1 = omega arith in q (r ∙ get-as s g ∙ y)
 
-      sought : named place width ≡ nameAt s leaf
-      sought = ap (λ (k : ℕ). named k width) rp ∙ ap (λ (k : ℕ). named (getD s (leaf + 2) 0) k) rw
-
       told : (b : ℕ) {n : Name} {t : Bool} → at ≡ b + 2 → getD s b 0 ≡ packed n → FineName n
           → t ≡ sameName text (named (x / 65536) (x % 65536)) (named place width) → t ≡ sameName text n (nameAt s leaf)
       told b {n} {t} e y fine f =
-          let g : at - 2 ≡ b = omega arith in let v : x ≡ packed n = rx ∙ get-as s g ∙ y in
-          let h : x / 65536 ≡ n .place = omega (arith, fine .width) in let l : x % 65536 ≡ n .width = omega (arith, fine .width) in
-          f ∙ ap (λ (k : ℕ). sameName text (named k (x % 65536)) (named place width)) h ∙ ap
-          (λ (k : ℕ). sameName text (named (n .place) k) (named place width)) l ∙ ap (λ (m : Name). sameName text n m) sought
+          let g : at - 2 ≡ b = omega arith in let v : x ≡ packed n = rx ∙ get-as s g ∙ y in let h : x / 65536 ≡ n .place = omega arith in
+          let l : x % 65536 ≡ n .width = omega arith in
+          cc
 
       code-is : (b : ℕ) (w : Meaning) → at ≡ b + 2 → getD s (b + 1) 0 ≡ code w → z ≡ code w
       code-is b w e y = let g : at - 2 + 1 ≡ b + 1 = omega arith in r ∙ get-as s g ∙ y
@@ -195,42 +179,28 @@ module _ (text s : List ℕ) (leaf at : ℕ) where
       unfolding lookup
       at-other (nothing e) f = absurd (omega arith)
       at-other (mark {below = b} h e v y) f = absurd (not-mark b e y)
-      at-other (name {below = b} {sc} {n} {w} h e v p y c u) f =
-          record {
-            rest = sc;
-            shows = at-as (omega arith) h;
-            same = ap (λ (t : Bool). cond t (known w) (lookup text sc (nameAt s leaf)))
-                (sym (told b e p y f));
-          }
+      at-other (name {below = b} {sc} {n} {w} h e v p y c u) f = record { rest = sc; shows = at-as (omega arith) h; same = cc (told b e p y f) }
 
       pub at-found : {sc : Scope} → Shows s at sc → true ≡ sameName text (named (x / 65536) (x % 65536)) (named place width)
           → z ≡ found (lookup text sc (nameAt s leaf))
       unfolding lookup found
       at-found (nothing e) f = absurd (omega arith)
       at-found (mark {below = b} h e v y) f = absurd (not-mark b e y)
-      at-found (name {below = b} {sc} {n} {w} h e v p y c u) f =
-          code-is b w e c ∙ ap (λ (t : Bool). found (cond t (known w) (lookup text sc (nameAt s leaf)))) (told b e p y f)
+      at-found (name {below = b} {sc} {n} {w} h e v p y c u) f = cc (code-is b w e c, told b e p y f)
 
       pub in-other : {sc : Scope} → Shows s at sc → false ≡ sameName text (named (x / 65536) (x % 65536)) (named place width)
           → Left (λ (k : Scope). inBlock text k (nameAt s leaf)) s (at - 2) sc
       unfolding inBlock
       in-other (nothing e) f = absurd (omega arith)
       in-other (mark {below = b} h e v y) f = absurd (not-mark b e y)
-      in-other (name {below = b} {sc} {n} {w} h e v p y c u) f =
-          record {
-            rest = sc;
-            shows = at-as (omega arith) h;
-            same = ap (λ (t : Bool). cond t (known w) (inBlock text sc (nameAt s leaf)))
-                (sym (told b e p y f));
-          }
+      in-other (name {below = b} {sc} {n} {w} h e v p y c u) f = record { rest = sc; shows = at-as (omega arith) h; same = cc (told b e p y f) }
 
       pub in-found : {sc : Scope} → Shows s at sc → true ≡ sameName text (named (x / 65536) (x % 65536)) (named place width)
           → z ≡ found (inBlock text sc (nameAt s leaf))
       unfolding inBlock found
       in-found (nothing e) f = absurd (omega arith)
       in-found (mark {below = b} h e v y) f = absurd (not-mark b e y)
-      in-found (name {below = b} {sc} {n} {w} h e v p y c u) f =
-          code-is b w e c ∙ ap (λ (t : Bool). found (cond t (known w) (inBlock text sc (nameAt s leaf)))) (told b e p y f)
+      in-found (name {below = b} {sc} {n} {w} h e v p y c u) f = cc (code-is b w e c, told b e p y f)
 
 -- a manifest that is found is a word
 abbrev pub Held : Found → Type 0
@@ -251,9 +221,9 @@ looked-word text n (name {sc = sc} {n = m} {w = w} h e v p y c u) = go (sameName
 
 pub keeps-shows : {base top : ℕ} {s s′ : List ℕ} {at : ℕ} {sc : Scope} → Keeps base top s s′ → at ≤ top → Shows s at sc → Shows s′ at sc
 keeps-shows k l (nothing e) = nothing e
-keeps-shows k l (mark {below = b} h e v z) = mark (keeps-shows k (omega arith) h) e (omega (arith, k .long)) (k .below (b + 1) (omega arith) ∙ z)
+keeps-shows k l (mark {below = b} h e v z) = mark (keeps-shows k (omega arith) h) e (omega arith) (k .below (b + 1) (omega arith) ∙ z)
 keeps-shows k l (name {below = b} h e v p f w u) =
-    name (keeps-shows k (omega arith) h) e (omega (arith, k .long)) (k .below b (omega arith) ∙ p) f (k .below (b + 1) (omega arith) ∙ w) u
+    name (keeps-shows k (omega arith) h) e (omega arith) (k .below b (omega arith) ∙ p) f (k .below (b + 1) (omega arith) ∙ w) u
 
 pub keeps-all : {base top : ℕ} {s : List ℕ} → Keeps base top s s
 keeps-all = record { below = λ i l. refl; above = λ i l. refl; long = refl }
@@ -280,7 +250,7 @@ module _ {s s′ : List ℕ} {top first m base : ℕ} (h : Pushed s s′ top fir
   }
     where
       other : (i : ℕ) → (i ≡ top → ⊥) → (i ≡ top + 1 → ⊥) → getD s′ i 0 ≡ getD s i 0
-      other i a b = ap (λ (z : List ℕ). getD z i 0) (h .is) ∙ getD-set-other (set s top first) (top + 1) i m 0 b ∙ getD-set-other s top i first 0 a
+      other i a b = rw (h .is, getD-set-other (set s top first) (top + 1) i m 0 b, getD-set-other s top i first 0 a)
 
   push-first : getD s′ top 0 ≡ first
   push-first =
@@ -309,8 +279,8 @@ pushed-name {s} {leaf = leaf} h l long w sh e u = pushed-as (h .pushed) l long (
 pub pushed-leaf : {s s′ : List ℕ} {top leaf m width place : ℕ} → Pushed s s′ top (place * 65536 + width) m → width ≡ getD s (leaf + 1) 0
     → place ≡ getD s (leaf + 2) 0 → FineName (nameAt s leaf) → PushedName s s′ top leaf m
 pushed-leaf {s} {top = top} {leaf} {m} {width} {place} h ew ep f =
-    let e : place * 65536 + width ≡ packed (nameAt s leaf) = omega (arith, ew, ep) in
-    record { pushed = record { is = h .is ∙ ap (λ (z : ℕ). set (set s top z) (top + 1) m) e }; fine = f }
+    let e : place * 65536 + width ≡ packed (nameAt s leaf) = omega arith in
+    record { pushed = record { is = rw (h .is, e) }; fine = f }
 
 pub data Order (n m : ℕ) : Type 0 where
   lt : n < m → Order n m

@@ -1,59 +1,42 @@
 -- Monadic operators, what @ may take, and left sides.
-use Prim.Native.Nat.{ℕ, _+_, _*_, _-_, _≤_, _<_, _/_, _%_}
-use mathlib.Core.Path.{_≡_, refl, sym, ap, subst, _∙_}
-use mathlib.Core.Bool.{Bool, true, false, cond}
-use mathlib.Core.List.{List, [], _∷_, _++_, append-nil, append-assoc}
-use native.Mathlib.Omega.{arith}
-use lib.ListN.{length, getD, length-append}
-use lib.Dec.{eqb}
-use borrow.Author.Tests.{ne-eqb}
+use Rattle.compiler.proofs.Basics.{ℕ, _+_, _*_, _-_, _≤_, _<_, _/_, _%_, _≡_, refl, sym, ap, subst, _∙_, Bool, true, false, cond, List, []}
+use Rattle.compiler.proofs.Basics.{_∷_, _++_, append-nil, append-assoc, arith, length, getD, length-append, eqb, ne-eqb}
 use Rattle.items.specs.Item as I
 use Rattle.language.specs.Tree as T
-use Rattle.language.specs.Tree.{Name, Expression, Expressions, Suffixes, Operations, placeOf, endsInCall}
-use Rattle.language.proofs.Depth.{depth}
+use Rattle.compiler.proofs.Language.{Expression, Expressions, Suffixes, Operations, placeOf, endsInCall, depth, Scope, lookup, onFound, Fault}
+use Rattle.compiler.proofs.Language.{fault, Expr, expression, expressions, suffixes, operations, ofMeaning, Side, side, noSide, sideOf}
+use Rattle.compiler.proofs.Language.{targetOf, addressOf, resolvedMonadic, under, ofExpr, ofTarget, unlessSide, inExpression, inSuffixes}
+use Rattle.compiler.proofs.Language.{encode, encodeSuffixes, Fine}
 use Rattle.language.specs.Names as N
-use Rattle.language.specs.Names.{Scope, lookup, onFound}
-use Rattle.language.specs.Constants.{Fault, fault}
 use Rattle.language.specs.Resolved as R
-use Rattle.language.specs.Resolved.{Expr}
-use Rattle.language.specs.Resolve.{expression, expressions, suffixes, operations, ofMeaning, Side, side, noSide, sideOf, targetOf, addressOf}
-use Rattle.language.specs.Resolve.{resolvedMonadic, under}
-use Rattle.language.specs.Heights.{ofExpr, ofTarget}
 use Rattle.code.specs.Generate as G
 use Rattle.code.specs.Generate.{exprCode, exprLabels, monadicAct}
-use Rattle.language.specs.Faults.{unlessSide, inExpression, inSuffixes}
 use Rattle.tree.specs.Encoding as O
-use Rattle.tree.specs.Encoding.{encode, encodeSuffixes}
-use Rattle.compiler.specs.Scope.{code, found, named, nameAt, Looked}
-use Rattle.compiler.proofs.Scoping.{keeps-all, keeps-then, code-not}
-use Rattle.compiler.specs.declared.steps.State.{State}
-use Rattle.compiler.specs.declared.steps.Here.{Here}
-use Rattle.compiler.specs.declared.steps.Node.{Node}
-use Rattle.compiler.specs.Fine.{FineE}
-use Rattle.language.specs.Fine.{Fine}
-use Rattle.compiler.specs.Walked.{inside, raised, leavable, NodeAt, Code, Did, Emits, Faulted}
-use Rattle.compiler.specs.Walks.{Lies, Result, ReadyE, GaveE, ReadySuffixes, GaveSuffixes, faultsE, codeE}
+use Rattle.compiler.proofs.Vocabulary.{code, found, nameAt, Looked, State, Here, Node, FineE, inside, raised, leavable, NodeAt, Code, Did}
+use Rattle.compiler.proofs.Vocabulary.{Emits, Faulted, Lies, Result, ReadyE, GaveE, ReadySuffixes, GaveSuffixes, faultsE, codeE}
+use Rattle.compiler.proofs.Scoping.{keeps-all, keeps-then, code-not, Order, lt, ge, order}
 use Rattle.compiler.specs.Commands.{exprSays, targetSays, GaveMonadic, GaveAddress, GaveAddressIndex, GaveSide, GaveSideIndex, IndexKind}
 use Rattle.compiler.specs.Commands.{GaveRefused, AddressOf, StoreTo}
 use Rattle.compiler.proofs.Done.{emits-did, did-emit, did-put, did-after, did-then, did-as, same-refl, same-eq, code-is, nil-right}
 use Rattle.compiler.proofs.Trees.{IsTwo, Case, aMonadic, find, is-bracket, is-name, value-is, place-is}
 use Rattle.compiler.proofs.Parts.{sub}
 use Rattle.compiler.proofs.Expressions.{bracket-part}
-use Rattle.compiler.proofs.Calls.{IsLast, index-faults, index-means, Last, aCall, anIndex, last, snocCall, snocIndex, is-index, the-last}
-use Rattle.compiler.proofs.Calls.{index-left, index-right, applied-lies, applied-ends, suffixed-is, suffixed-part, suffixed-middle, with-state}
+use Rattle.compiler.proofs.Calls.{IsLast, index-faults, index-means, Last, aCall, anIndex, last, snoc, is-index, the-last, no-suffix}
+use Rattle.compiler.proofs.Calls.{last-read, index-left, index-right, applied-lies, applied-ends, suffixed-is, suffixed-part, suffixed-middle}
+use Rattle.compiler.proofs.Calls.{with-state}
 use Rattle.compiler.proofs.Guards.{IsClosed, expression-closed, kind-of, shut}
 
 -- ---- places and values of records
 
 pub place-of : {s x : List ℕ} {lo end : ℕ} (u : IsClosed x) → Lies s lo x → end ≡ lo + length x → getD s (end - 2) 0 ≡ u .place
-place-of {s} {x} {lo} u h e =
+place-of u h e =
     let w = u .inner in let v = u .value in let p = u .place in let k = u .kind in
-    place-is w v p k (subst (λ (l : List ℕ). Lies s lo l) (u .is) h) (e ∙ ap (λ (l : List ℕ). lo + length l) (u .is))
+    place-is w v p k (rw (u .is) at h) (rw (e, u .is))
 
 pub value-of : {s x : List ℕ} {lo end : ℕ} (u : IsClosed x) → Lies s lo x → end ≡ lo + length x → getD s (end - 3) 0 ≡ u .value
-value-of {s} {x} {lo} u h e =
+value-of u h e =
     let w = u .inner in let v = u .value in let p = u .place in let k = u .kind in
-    value-is w v p k (subst (λ (l : List ℕ). Lies s lo l) (u .is) h) (e ∙ ap (λ (l : List ℕ). lo + length l) (u .is))
+    value-is w v p k (rw (u .is) at h) (rw (e, u .is))
 
 pub place-closed : (e : Expression) → expression-closed e .place ≡ placeOf e
 unfolding expression-closed placeOf shut
@@ -89,17 +72,14 @@ module _ {s : List ℕ} {end : ℕ} {here : Here} {st : State} (n : Node) (nd : 
 
   pub monadic-deep : (y : ReadyE s end here st) → depth (monadic-is y .part) + 1 ≤ here .left
   unfolding depth
-  monadic-deep y = omega (arith, y .shallow, ap depth (monadic-is y .same))
+  monadic-deep y = omega (arith, ap depth (monadic-is y .same))
 
   pub monadic-fine : (y : ReadyE s end here st) → FineE (monadic-is y .part)
   unfolding Fine
   monadic-fine y = subst FineE (monadic-is y .same) (y .fine)
 
   abbrev pub monadic-part : ReadyE s end here st → ReadyE s (n .inner) (inside here) st
-  monadic-part y = let u = monadic-is y in
-      sub encode depth FineE y keeps-all (n .inner) (y .lo) (inside here) st (u .part) (u .lies) (omega (arith, nd .inner, u .ends)) (omega arith)
-      (omega (arith, nd .inner)) refl refl (omega (arith, y .height, y .ends, u .ends)) (omega (arith, y .label, y .ends, u .ends)) (y .some)
-      (omega (arith, monadic-deep y)) (monadic-fine y)
+  monadic-part y = let u = monadic-is y in sub y keeps-all (u .lies) refl (omega (arith, monadic-deep y)) (monadic-fine y)
 
   pub monadic-gave : (text : List ℕ) {s′ t t′ : List ℕ} {r : State} → GaveMonadic text s s′ (n .value) (n .inner) (inside here) t t′ st r
       → GaveE text s s′ end here t t′ st r
@@ -110,28 +90,22 @@ module _ {s : List ℕ} {end : ℕ} {here : Here} {st : State} (n : Node) (nd : 
         (sym (u .same))
         (record {
           keeps = x .keeps;
-          did = more _
-              (subst (λ (o : ℕ). Did (inExpression text sc (leavable here) h (u .part) ++ cond (eqb o 50)
-              (unlessSide (placeOf (u .part)) (sideOf (expression text sc h (u .part)))) [])
-              (exprSays here (resolvedMonadic o (expression text sc h (u .part)))) (2 * length (encode (u .part))) t t′ st r)
-              (nd .value ∙ u .value-of) (x .did))
-              (omega (arith, y .ends, u .ends));
+          did = more _ (subst (λ (o : ℕ). Did (inExpression text sc (leavable here) h (u .part) ++ cond (eqb o 50) (unlessSide (placeOf (u .part))
+              (sideOf (expression text sc h (u .part)))) []) (exprSays here (resolvedMonadic o (expression text sc h (u .part)))) (2 * length (encode
+              (u .part))) t t′ st r) (nd .value ∙ u .value-of) (x .did)) (omega arith);
         });
   }
 
 module _ (text : List ℕ) {s s₁ t t₂ : List ℕ} {o end : ℕ} {here : Here} {st r : State} where
   so : {k : ℕ} → o ≡ k → GaveMonadic text s s₁ k end here t t₂ st r → GaveMonadic text s s₁ o end here t t₂ st r
-  so e g = subst (λ (z : ℕ). GaveMonadic text s s₁ z end here t t₂ st r) (sym e) g
+  so e g = rw e g
 
   pub monadic-address : (n : Node) → NodeAt s end n → o ≡ 50 → GaveAddress text s s₁ end (n .place) here t t₂ st r
       → GaveMonadic text s s₁ o end here t t₂ st r
   monadic-address n nd e g = so e (record {
     by = λ y. let x = g .by y in let sc = y .scope in let h = here .height in record {
       keeps = x .keeps;
-      did =
-          subst (λ (p : ℕ). Did (inExpression text sc (leavable here) h (y .tree) ++ unlessSide p (sideOf (expression text sc h (y .tree))))
-          (exprSays here (addressOf (sideOf (expression text sc h (y .tree))))) (2 * length (encode (y .tree))) t t₂ st r)
-          (nd .place ∙ place-of (expression-closed (y .tree)) (y .lies) (y .ends) ∙ place-closed (y .tree)) (x .did);
+      did = rw (nd .place ∙ place-of (expression-closed (y .tree)) (y .lies) (y .ends) ∙ place-closed (y .tree)) at (x .did);
     };
   })
 
@@ -171,11 +145,8 @@ monadic-other text {s} {s₁} {t} {t₁} {o} {end} {here} {st} {r} n1 n2 n3 n4 g
       record {
         keeps = x .keeps;
         did =
-            did-as (exprSays here (resolvedMonadic o E)) _ (x .did)
-            (same-eq (sym (append-nil _) ∙ ap (λ (z : List Fault). inExpression text sc (leavable here) h (y .tree) ++ z) (sym ef)))
-            (λ n v. code-is
-            (sym (append-nil _) ∙ ap (λ (z : List I.Item). exprCode (here .strings) h n E ++ z) (sym ea) ∙ ap (exprCode (here .strings) h n)
-            (sym em)) (ap (ofExpr h) (sym em)) (ap exprLabels (sym em))) (omega arith);
+            did-as (exprSays here (resolvedMonadic o E)) _ (x .did) (same-eq (simp (append-nil, ef))) (λ n v. code-is (simp (append-nil, ea, em))
+            (ap (ofExpr h) (sym em)) (ap exprLabels (sym em))) (omega arith);
       };
 }
 
@@ -193,7 +164,7 @@ module _ (say : Here → Side → ℕ → Code) (name place : ℕ) {m : ℕ} {t 
   of-local i es q f x N.unknown e = absurd (omega arith)
   of-local i es q f x (N.known (N.local k)) e =
       let z : m / 4 ≡ k = omega arith in
-      emits-did _ f (λ n. es x k n ∙ ap (λ (j : ℕ). record { items = i j ∷ []; heights = []; labels = 0 }) (sym z))
+      emits-did _ f (λ n. rw (es x k n, z))
   of-local i es q f x (N.known (N.global k)) e = absurd (omega arith)
   of-local i es q f x (N.known (N.manifest k)) e = absurd (omega arith)
   of-local i es q f x (N.known (N.function k)) e = absurd (omega arith)
@@ -205,14 +176,13 @@ module _ (say : Here → Side → ℕ → Code) (name place : ℕ) {m : ℕ} {t 
   of-global i es q f x (N.known (N.local k)) e = absurd (omega arith)
   of-global i es q f x (N.known (N.global k)) e =
       let z : m / 4 ≡ k = omega arith in
-      emits-did _ f (λ n. es x k n ∙ ap (λ (j : ℕ). record { items = i j ∷ []; heights = []; labels = 0 }) (sym z))
+      emits-did _ f (λ n. rw (es x k n, z))
   of-global i es q f x (N.known (N.manifest k)) e = absurd (omega arith)
   of-global i es q f x (N.known (N.function k)) e = absurd (omega arith)
 
   pub of-unknown : {a : State} → m ≡ 0 → Faulted name 8 st a → Faulted place 10 a r → t′ ≡ t → Of say name place m t t′ st r
   unfolding found sideOf
-  of-unknown q f g et x N.unknown e = subst (λ (z : List ℕ). Did (fault name 8 ++ fault place 10) (say x noSide) 0 t z st r) (sym et)
-      (did-as (say x noSide) 0 (did-then (f .by (say x noSide) t) (g .by (say x noSide) t)) same-refl
+  of-unknown q f g et x N.unknown e = rw et (did-as (say x noSide) 0 (did-then (f .by (say x noSide) t) (g .by (say x noSide) t)) same-refl
       (λ n v. let z : length (fault name 8 ++ fault place 10) ≡ 0 = ap length v in absurd (omega arith)) (omega arith))
   of-unknown q f g et x (N.known w) e = absurd (code-not w (sym e ∙ q))
 
@@ -221,10 +191,8 @@ module _ (say : Here → Side → ℕ → Code) (name place : ℕ) {m : ℕ} {t 
   of-other q1 q2 q0 f et x N.unknown e = absurd (q0 e)
   of-other q1 q2 q0 f et x (N.known (N.local k)) e = absurd (q1 (omega arith))
   of-other q1 q2 q0 f et x (N.known (N.global k)) e = absurd (q2 (omega arith))
-  of-other q1 q2 q0 f et x (N.known (N.manifest k)) e =
-      subst (λ (z : List ℕ). Did (fault place 10) (say x noSide) 0 t z st r) (sym et) (f .by (say x noSide) t)
-  of-other q1 q2 q0 f et x (N.known (N.function k)) e =
-      subst (λ (z : List ℕ). Did (fault place 10) (say x noSide) 0 t z st r) (sym et) (f .by (say x noSide) t)
+  of-other q1 q2 q0 f et x (N.known (N.manifest k)) e = rw et (f .by (say x noSide) t)
+  of-other q1 q2 q0 f et x (N.known (N.function k)) e = rw et (f .by (say x noSide) t)
 
 abbrev pub sayAddress : Here → Side → ℕ → Code
 sayAddress x z = exprSays x (addressOf z)
@@ -331,7 +299,7 @@ module _ (text : List ℕ) {s s′ t t′ : List ℕ} {end : ℕ} (place : ℕ) 
   address-open q g = record {
     by = λ y. let u = is-bracket (find n nd q y) in let x = g .by (bracket-part n nd q y) in
         subst (Address text s place s′ t t′ st r here (y .scope) (y .base) (length (encode (y .tree)))) (sym (u .same))
-        (record { keeps = x .keeps; did = more _ (x .did) (omega (arith, y .ends, u .ends)) });
+        (record { keeps = x .keeps; did = more _ (x .did) (omega arith) });
   }
 
   pub address-pling : (q : n .kind ≡ 128) → n .value ≡ 49 → GaveE text s s′ (n .inner) (inside here) t t′ st r
@@ -342,11 +310,7 @@ module _ (text : List ℕ) {s s′ t t′ : List ℕ} {end : ℕ} (place : ℕ) 
         let ou : u .operator ≡ 49 = sym (u .value-of) ∙ sym (nd .value) ∙ ev in
         subst (Address text s place s′ t t′ st r here sc (y .base) (length (encode (y .tree))))
         (sym (u .same ∙ ap (λ (o : ℕ). T.monadic (u .place) o (u .part)) ou))
-        (record {
-          keeps = x .keeps;
-          did = did-as _ _ (x .did) (same-eq (sym (append-nil _) ∙ sym (append-nil _))) (λ m v. refl)
-              (omega (arith, y .ends, u .ends));
-        });
+        (record { keeps = x .keeps; did = did-as _ _ (x .did) (same-eq (sym (append-nil _) ∙ sym (append-nil _))) (λ m v. refl) (omega arith) });
   }
 
   pub address-refused : (n .kind ≡ 51 → ⊥) → (n .kind ≡ 59 → ⊥) → (n .kind ≡ 129 → ⊥) → (n .kind ≡ 128 → n .value ≡ 49 → ⊥)
@@ -357,44 +321,34 @@ module _ (text : List ℕ) {s s′ t t′ : List ℕ} {end : ℕ} (place : ℕ) 
         let k = nd .kind ∙ kind-of c (y .lies) (y .ends) in let v = nd .value ∙ value-of c (y .lies) (y .ends) in
         let z = no-side text sc (here .height) e (y .fine) (λ i. n1 (k ∙ i)) (λ i. n2 (k ∙ i)) (λ i. n3 (k ∙ i)) (λ i j. n4 (k ∙ i) (v ∙ j)) in
         let x = g .by (λ sc e. exprSays here (addressOf (sideOf (expression text sc (here .height) e)))) .by y in
-        record {
-          keeps = x .keeps;
-          did = did-as _ _ (x .did)
-              (same-eq (ap (λ (w : Side). inExpression text sc (leavable here) (here .height) e ++ unlessSide place w) (sym z))) (λ m v. refl)
-              (omega arith);
-        };
+        record { keeps = x .keeps; did = did-as _ _ (x .did) (same-eq (rw z)) (λ m v. refl) (omega arith) };
   }
 
 module _ (text : List ℕ) {s t t′ : List ℕ} {end : ℕ} (place : ℕ) {here : Here} {st r : State} (n : Node) (nd : NodeAt s end n) where
   pub address-name : {m : ℕ} → n .kind ≡ 59 → Looked text s (here .top) (n .inner) m → AddressOf m (n .place) place t t′ st r
       → GaveAddress text s s end place here t t′ st r
   unfolding inExpression expression
-  address-name {m} q lk f = record {
-    by = λ y. let u = is-name (find n nd q y) in let sc = y .scope in let w = lookup text sc (u .name) in
-        let a : n .inner + 2 ≡ end - 2 = omega (arith, nd .inner, u .ends) in let b : n .inner + 1 ≡ end - 3 = omega (arith, nd .inner, u .ends) in
-        let ex : nameAt s (n .inner) ≡ u .name = ap (λ (k : ℕ). named k (getD s (n .inner + 1) 0)) (ap (λ (k : ℕ). getD s k 0) a ∙ u .place-of) ∙ ap
-        (λ (k : ℕ). named (u .name .place) k) (ap (λ (k : ℕ). getD s k 0) b ∙ u .width-of) in
-        subst (λ (e : Expression). Result
-        (inExpression text sc (leavable here) (here .height) e ++ unlessSide place (sideOf (expression text sc (here .height) e)))
-        (exprSays here (addressOf (sideOf (expression text sc (here .height) e)))) (length (encode (y .tree))) (y .base) here s s t t′ st r)
-        (sym (u .same))
+  address-name q lk f = record {
+    by = λ y. let u = is-name (find n nd q y) in let sc = y .scope in let w = lookup text sc (u .name) in let a : n .inner + 2 ≡ end - 2
+        = omega arith in let b : n .inner + 1 ≡ end - 3 = omega arith in let ex : nameAt s (n .inner) ≡ u .name
+        = rw (a, u .place-of, b, u .width-of) in
+        rw (u .same)
         (record {
           keeps = keeps-all;
-          did = more _
-              (subst (λ (p : ℕ). Did (onFound w (fault p 8) [] ++ unlessSide place (sideOf (ofMeaning w)))
-              (exprSays here (addressOf (sideOf (ofMeaning w)))) 0 t t′ st r) (nd .place ∙ u .place-of)
-              (f .by here w (lk .by sc (y .shows) ∙ ap (λ (z : Name). found (lookup text sc z)) ex))) (omega arith);
+          did = more _ (subst (λ (p : ℕ). Did (onFound w (fault p 8) [] ++ unlessSide place (sideOf (ofMeaning w)))
+              (exprSays here (addressOf (sideOf (ofMeaning w)))) 0 t t′ st r) (nd .place ∙ u .place-of) (f .by here w
+              (rw (lk .by sc (y .shows), ex)))) (omega arith);
         });
   }
 
 -- ---- the last suffix is an index
 
 index-tag : {s : List ℕ} {m end tag : ℕ} {ss : Suffixes} → Last s m end ss tag → endsInCall false ss ≡ false → tag ≡ 49
-unfolding endsInCall snocCall
+unfolding endsInCall snoc
 index-tag (anIndex u) e = refl
-index-tag (aCall u) e = absurd (no (u .init) (u .part) false (subst (λ (x : Suffixes). endsInCall false x ≡ false) (u .same) e))
+index-tag (aCall u) e = absurd (no (u .init) (u .part) false (rw (u .same) at e))
   where
-    no : (ss : Suffixes) (es : Expressions) (b : Bool) → endsInCall b (snocCall ss es) ≡ false → ⊥
+    no : (ss : Suffixes) (es : Expressions) (b : Bool) → endsInCall b (snoc (T.call es) ss) ≡ false → ⊥
     no T.noSuffixes es b q = let z : _≡_ {A = ℕ} 0 1 = cc in omega arith
     no (T.call ds ss) es b q = no ss es true q
     no (T.index d ss) es b q = no ss es false q
@@ -405,14 +359,11 @@ index-of true n = absurd (omega arith)
 index-of false n = refl
 
 some-suffix : (ss : Suffixes) → (ss ≡ T.noSuffixes → ⊥) → 0 < length (encodeSuffixes ss)
-unfolding encodeSuffixes
-some-suffix T.noSuffixes n = absurd (n refl)
-some-suffix (T.call es ss) n =
-    let x = O.encodeExpressions es in
-    omega (arith, length-append (x ++ (length x ∷ 51 ∷ [])) (encodeSuffixes ss), length-append x (length x ∷ 51 ∷ []))
-some-suffix (T.index e ss) n =
-    let x = encode e in
-    omega (arith, length-append (x ++ (length x ∷ 49 ∷ [])) (encodeSuffixes ss), length-append x (length x ∷ 49 ∷ []))
+some-suffix ss n = by (order 0 (length (encodeSuffixes ss)))
+  where
+    by : Order 0 (length (encodeSuffixes ss)) → 0 < length (encodeSuffixes ss)
+    by (lt l) = l
+    by (ge l) = absurd (n (no-suffix ss (omega arith)))
 
 module _ {s : List ℕ} {end : ℕ} {here : Here} {st : State} (n : Node) (nd : NodeAt s end n) (q : IndexKind s end) {middle : ℕ}
     (m : middle ≡ n .start + n .value) where
@@ -433,8 +384,7 @@ module _ {s : List ℕ} {end : ℕ} {here : Here} {st : State} (n : Node) (nd : 
 
   pub indexed-some : (y : ReadyE s end here st) → middle < n .inner
   unfolding Fine
-  indexed-some y = let u = indexed-is y in
-      omega (arith, applied-ends (indexed-part y), some-suffix (u .list) (subst FineE (u .same) (y .fine) .2))
+  indexed-some y = let u = indexed-is y in omega (arith, applied-ends (indexed-part y), some-suffix (u .list) (subst FineE (u .same) (y .fine) .2))
 
   pub indexed-tag : (y : ReadyE s end here st) → getD s (n .inner - 1) 0 ≡ 49
   unfolding expression-closed shut
@@ -445,16 +395,16 @@ module _ {s : List ℕ} {end : ℕ} {here : Here} {st : State} (n : Node) (nd : 
       index-tag (last (u .list) (applied-lies Y) (applied-ends Y) (indexed-some y)) (index-of (endsInCall false (u .list)) k)
 
   module _ {inner size start : ℕ} (ei : inner ≡ n .inner - 2) (ez : size ≡ getD s inner 0) (es : start ≡ inner - size) where
-    abbrev pub last-index : (y : ReadyE s end here st) → IsLast encode snocIndex s middle (n .inner) (indexed-is y .list)
-    last-index y = is-index (indexed-tag y) (the-last (indexed-some y) refl refl ei ez es (indexed-part y))
+    abbrev pub last-index : (y : ReadyE s end here st) → IsLast encode T.index s middle (n .inner) (indexed-is y .list)
+    last-index y = is-index (indexed-tag y) (the-last (last-read (indexed-some y) refl refl ei ez es) (indexed-part y))
 
     abbrev pub address-left : ReadyE s end here st → ReadySuffixes s middle start (inside here) st
-    address-left y = index-left (indexed-some y) refl refl ei ez es (indexed-tag y) (indexed-part y)
+    address-left y = index-left (last-read (indexed-some y) refl refl ei ez es) (indexed-tag y) (indexed-part y)
 
     module _ (text : List ℕ) {s₁ t t₁ t₂ : List ℕ} {a b : State} (g : GaveSuffixes text s s₁ middle start (inside here) t t₁ st a)
         (f : Emits (G.SP (here .height) ∷ []) ((here .height + 1) ∷ []) t₁ t₂ a b) where
       abbrev pub address-right : ReadyE s end here st → ReadyE s₁ inner (raised 1 (inside here)) b
-      address-right y = with-state (f .label) (index-right (indexed-some y) refl refl ei ez es (indexed-tag y) text g (indexed-part y))
+      address-right y = with-state (f .label) (index-right (last-read (indexed-some y) refl refl ei ez es) (indexed-tag y) text g (indexed-part y))
 
       pub address-index-gave : {s₂ t₃ t₄ : List ℕ} {c d : State} → GaveE text s₁ s₂ inner (raised 1 (inside here)) t₂ t₃ b c
           → Emits (G.AIP (here .height) ∷ []) [] t₃ t₄ c d → GaveAddressIndex text s s₂ end here t t₄ st d
@@ -464,31 +414,18 @@ module _ {s : List ℕ} {end : ℕ} {here : Here} {st : State} (n : Node) (nd : 
             let U = indexed-is y in let Y = indexed-part y in let sc = y .scope in let h = here .height in let p = U .left in let u = last-index y in
             let x = g .by (address-left y) in let w = g₂ .by (address-right y) in let L = leavable here in
             let A = suffixes text sc h (expression text sc (under (u .init) h) p) (u .init) in let B = expression text sc (h + 1) (u .part) in
-            let ef = index-faults text sc L h p (u .init) (u .part) (u .same) in let er = index-means text sc h p (u .init) (u .part) (u .same) in
+            let ef = index-faults text sc h p (u .init) (u .part) (u .same) L in let er = index-means text sc h p (u .init) (u .part) (u .same) in
             let E = suffixes text sc h (expression text sc (under (U .list) h) p) (U .list) in
             subst (λ (e : Expression). Result (inExpression text sc L h e ++ unlessSide place (sideOf (expression text sc h e)))
             (exprSays here (addressOf (sideOf (expression text sc h e)))) (length (encode (y .tree))) (y .base) here s s₂ t t₄ st d) (sym (U .same))
             (record {
               keeps = keeps-then (x .keeps) (w .keeps);
               did = did-as (exprSays here (addressOf (sideOf E))) _ (did-put (did-then (did-emit (x .did) f) (w .did)) f₂)
-                  (same-eq (sym ef ∙ sym (append-nil _) ∙ ap
-                  (λ (e : Expr). (inExpression text sc L (under (U .list) h) p ++ inSuffixes text sc L h (U .list)) ++ unlessSide place
-                  (sideOf e)) (sym er))) (λ k v. code-is
-                  (append-assoc (exprCode (here .strings) h k A ++ (G.SP h ∷ [])) (exprCode (here .strings) (h + 1) (k + exprLabels A) B)
-                  (G.AIP h ∷ []) ∙ append-assoc (exprCode (here .strings) h k A) (G.SP h ∷ [])
-                  (exprCode (here .strings) (h + 1) (k + exprLabels A) B ++ (G.AIP h ∷ [])) ∙ ap
-                  (λ (e : Expr). exprCode (here .strings) h k (addressOf (sideOf e))) (sym er))
-                  (append-assoc (ofExpr h A) ((h + 1) ∷ []) (ofExpr (h + 1) B) ∙ ap (λ (e : Expr). ofExpr h (addressOf (sideOf e))) (sym er))
-                  (ap (λ (e : Expr). exprLabels (addressOf (sideOf e))) (sym er)))
-                  (omega (
+                  (same-eq (simp (ef, append-nil, er))) (λ k v. code-is (simp (append-assoc, er)) (simp (append-assoc, er)) (rw er)) (omega (
                     arith,
-                    y .ends,
-                    U .ends,
-                    u .ends,
                     applied-ends Y,
                     indexed-middle y,
-                    length-append (encode p)
-                        (encodeSuffixes (u .init)),
+                    length-append (encode p) (encodeSuffixes (u .init)),
                   ));
             });
       }
@@ -497,11 +434,11 @@ module _ {s : List ℕ} {end : ℕ} {here : Here} {st : State} (n : Node) (nd : 
 
 pub gave-address-at : (text : List ℕ) (place : ℕ) {s s′ t t′ : List ℕ} {end : ℕ} {d d′ : Here} {st r : State} → d′ ≡ d
     → GaveAddress text s s′ end place d′ t t′ st r → GaveAddress text s s′ end place d t t′ st r
-gave-address-at text place {s} {s′} {t} {t′} {end} {st = st} {r} e g = subst (λ (x : Here). GaveAddress text s s′ end place x t t′ st r) e g
+gave-address-at text place {s} {s′} {t} {t′} {end} {st = st} {r} e g = rw e at g
 
 pub gave-monadic-at : (text : List ℕ) (o : ℕ) {s s′ t t′ : List ℕ} {end : ℕ} {d d′ : Here} {st r : State} → d′ ≡ d
     → GaveMonadic text s s′ o end d′ t t′ st r → GaveMonadic text s s′ o end d t t′ st r
-gave-monadic-at text o {s} {s′} {t} {t′} {end} {st = st} {r} e g = subst (λ (x : Here). GaveMonadic text s s′ o end x t t′ st r) e g
+gave-monadic-at text o {s} {s′} {t} {t′} {end} {st = st} {r} e g = rw e at g
 
 -- ---- left sides: a right side is in A, and the parts are found one word above
 
@@ -512,8 +449,7 @@ module _ (text : List ℕ) {s s′ t t′ : List ℕ} {end : ℕ} (place : ℕ) 
     by = λ y. let u = is-bracket (find n nd q y) in let x = g .by (bracket-part n nd q y) in let sc = y .scope in let h = here .height in
         subst (λ (e : Expression). Result (inExpression text sc (leavable here) (h + 1) e ++ unlessSide place (sideOf (expression text sc (h + 1) e)))
         (targetSays here (targetOf (sideOf (expression text sc (h + 1) e)))) (length (encode (y .tree))) (y .base) (raised 1 here) s s′ t t′ st r)
-        (sym (u .same))
-        (record { keeps = x .keeps; did = more _ (x .did) (omega (arith, y .ends, u .ends)) });
+        (sym (u .same)) (record { keeps = x .keeps; did = more _ (x .did) (omega arith) });
   }
 
   pub side-refused : (n .kind ≡ 51 → ⊥) → (n .kind ≡ 59 → ⊥) → (n .kind ≡ 129 → ⊥) → (n .kind ≡ 128 → n .value ≡ 49 → ⊥)
@@ -524,31 +460,23 @@ module _ (text : List ℕ) {s s′ t t′ : List ℕ} {end : ℕ} (place : ℕ) 
         let k = nd .kind ∙ kind-of c (y .lies) (y .ends) in let v = nd .value ∙ value-of c (y .lies) (y .ends) in
         let z = no-side text sc (h + 1) e (y .fine) (λ i. n1 (k ∙ i)) (λ i. n2 (k ∙ i)) (λ i. n3 (k ∙ i)) (λ i j. n4 (k ∙ i) (v ∙ j)) in
         let x = g .by (λ sc e. targetSays here (targetOf (sideOf (expression text sc (h + 1) e)))) .by y in
-        record {
-          keeps = x .keeps;
-          did = did-as _ _ (x .did)
-              (same-eq (ap (λ (w : Side). inExpression text sc (leavable here) (h + 1) e ++ unlessSide place w) (sym z))) (λ m v. refl) (omega arith);
-        };
+        record { keeps = x .keeps; did = did-as _ _ (x .did) (same-eq (rw z)) (λ m v. refl) (omega arith) };
   }
 
 module _ (text : List ℕ) {s t t′ : List ℕ} {end : ℕ} (place : ℕ) (here : Here) {st r : State} (n : Node) (nd : NodeAt s end n) where
   pub side-name : {m : ℕ} → n .kind ≡ 59 → Looked text s (here .top) (n .inner) m → StoreTo m (n .place) place t t′ st r
       → GaveSide text s s end place here t t′ st r
   unfolding inExpression expression
-  side-name {m} q lk f = record {
-    by = λ y. let u = is-name (find n nd q y) in let sc = y .scope in let w = lookup text sc (u .name) in let h = here .height in
-        let a : n .inner + 2 ≡ end - 2 = omega (arith, nd .inner, u .ends) in let b : n .inner + 1 ≡ end - 3 = omega (arith, nd .inner, u .ends) in
-        let ex : nameAt s (n .inner) ≡ u .name = ap (λ (k : ℕ). named k (getD s (n .inner + 1) 0)) (ap (λ (k : ℕ). getD s k 0) a ∙ u .place-of) ∙ ap
-        (λ (k : ℕ). named (u .name .place) k) (ap (λ (k : ℕ). getD s k 0) b ∙ u .width-of) in
-        subst (λ (e : Expression). Result (inExpression text sc (leavable here) (h + 1) e ++ unlessSide place (sideOf (expression text sc (h + 1) e)))
-        (targetSays here (targetOf (sideOf (expression text sc (h + 1) e)))) (length (encode (y .tree))) (y .base) (raised 1 here) s s t t′ st r)
-        (sym (u .same))
+  side-name q lk f = record {
+    by = λ y. let u = is-name (find n nd q y) in let sc = y .scope in let w = lookup text sc (u .name) in let h = here .height in let a : n .inner + 2
+        ≡ end - 2 = omega arith in let b : n .inner + 1 ≡ end - 3 = omega arith in let ex : nameAt s (n .inner) ≡ u .name
+        = rw (a, u .place-of, b, u .width-of) in
+        rw (u .same)
         (record {
           keeps = keeps-all;
-          did = more _
-              (subst (λ (p : ℕ). Did (onFound w (fault p 8) [] ++ unlessSide place (sideOf (ofMeaning w)))
-              (targetSays here (targetOf (sideOf (ofMeaning w)))) 0 t t′ st r) (nd .place ∙ u .place-of)
-              (f .by here w (lk .by sc (y .shows) ∙ ap (λ (z : Name). found (lookup text sc z)) ex))) (omega arith);
+          did = more _ (subst (λ (p : ℕ). Did (onFound w (fault p 8) [] ++ unlessSide place (sideOf (ofMeaning w)))
+              (targetSays here (targetOf (sideOf (ofMeaning w)))) 0 t t′ st r) (nd .place ∙ u .place-of) (f .by here w
+              (rw (lk .by sc (y .shows), ex)))) (omega arith);
         });
   }
 
@@ -569,8 +497,7 @@ module _ (text : List ℕ) {s : List ℕ} {end : ℕ} (place : ℕ) {here : Here
         (sym (u .same ∙ ap (λ (o : ℕ). T.monadic (u .place) o (u .part)) ou))
         (record {
           keeps = x .keeps;
-          did = did-as _ _ (did-after f (did-put (x .did) f₂)) (same-eq (sym (append-nil _) ∙ sym (append-nil _))) (λ m v. refl)
-              (omega (arith, y .ends, u .ends));
+          did = did-as _ _ (did-after f (did-put (x .did) f₂)) (same-eq (sym (append-nil _) ∙ sym (append-nil _))) (λ m v. refl) (omega arith);
         });
   }
 
@@ -596,7 +523,7 @@ module _ {s : List ℕ} {end : ℕ} {here : Here} {st : State} (n : Node) (nd : 
               let h = here .height in let k = h + 1 in let p = U .left in let u = last-index n nd q m ei ez es y₀ in let x = g .by (side-left y) in
               let w = g₂ .by (side-right y) in let L = leavable here in let kk : k + 1 ≡ h + 2 = omega arith in
               let A = suffixes text sc k (expression text sc (under (u .init) k) p) (u .init) in let B = expression text sc (k + 1) (u .part) in
-              let ef = index-faults text sc L k p (u .init) (u .part) (u .same) in let er = index-means text sc k p (u .init) (u .part) (u .same) in
+              let ef = index-faults text sc k p (u .init) (u .part) (u .same) L in let er = index-means text sc k p (u .init) (u .part) (u .same) in
               let E = suffixes text sc k (expression text sc (under (U .list) k) p) (U .list) in let Z = G.AIP k ∷ G.SP k ∷ G.LIP h ∷ G.SIP k ∷ [] in
               subst (λ (e : Expression). Result (inExpression text sc L k e ++ unlessSide place (sideOf (expression text sc k e)))
               (targetSays here (targetOf (sideOf (expression text sc k e)))) (length (encode (y .tree))) (y .base) (raised 1 here) s s₂ t t₄ st d)
@@ -604,33 +531,16 @@ module _ {s : List ℕ} {end : ℕ} {here : Here} {st : State} (n : Node) (nd : 
               (record {
                 keeps = keeps-then (x .keeps) (w .keeps);
                 did = did-as (targetSays here (targetOf (sideOf E))) _ (did-after f₀ (did-put (did-then (did-emit (x .did) f) (w .did)) f₂))
-                    (same-eq (sym ef ∙ sym (append-nil _) ∙ ap
-                    (λ (e : Expr). (inExpression text sc L (under (U .list) k) p ++ inSuffixes text sc L k (U .list)) ++ unlessSide place
-                    (sideOf e)) (sym er))) (λ v e. code-is (ap (λ (z : List I.Item). G.SP h ∷ z)
-                    (append-assoc (exprCode (here .strings) k v A ++ (G.SP k ∷ [])) (exprCode (here .strings) (k + 1) (v + exprLabels A) B) Z
-                    ∙ append-assoc (exprCode (here .strings) k v A) (G.SP k ∷ []) (exprCode (here .strings) (k + 1) (v + exprLabels A) B ++ Z)
-                    ∙ ap (λ (i : ℕ). exprCode (here .strings) k v A ++ (G.SP k ∷ (exprCode (here .strings) i (v + exprLabels A) B ++ Z))) kk) ∙ ap
-                    (λ (e : Expr). G.targetCode (here .strings) h v (targetOf (sideOf e))) (sym er))
-                    (ap (λ (z : List ℕ). k ∷ z)
-                    (append-assoc (ofExpr k A) ((k + 1) ∷ []) (ofExpr (k + 1) B) ∙ ap (λ (i : ℕ). ofExpr k A ++ (i ∷ ofExpr i B)) kk) ∙ ap
-                    (λ (e : Expr). ofTarget h (targetOf (sideOf e))) (sym er)) (ap (λ (e : Expr). G.targetLabels (targetOf (sideOf e))) (sym er)))
-                    (omega (
-                      arith,
-                      y .ends,
-                      U .ends,
-                      u .ends,
-                      applied-ends Y,
-                      indexed-middle n nd q m y₀,
-                      length-append (encode p)
-                          (encodeSuffixes (u .init)),
-                    ));
+                    (same-eq (sym ef ∙ sym (append-nil _) ∙ ap (λ (e : Expr). (inExpression text sc L (under (U .list) k) p ++ inSuffixes text sc L k
+                    (U .list)) ++ unlessSide place (sideOf e)) (sym er))) (λ v e. code-is (simp (append-assoc, kk, er)) (simp (append-assoc, kk, er))
+                    (rw er)) (omega (arith, applied-ends Y, indexed-middle n nd q m y₀, length-append (encode p) (encodeSuffixes (u .init))));
               });
         }
 
 pub gave-side-at : (text : List ℕ) (place : ℕ) {s s′ t t′ : List ℕ} {end : ℕ} {d d′ : Here} {st r : State} → d′ ≡ d
     → GaveSide text s s′ end place d′ t t′ st r → GaveSide text s s′ end place d t t′ st r
-gave-side-at text place {s} {s′} {t} {t′} {end} {st = st} {r} e g = subst (λ (x : Here). GaveSide text s s′ end place x t t′ st r) e g
+gave-side-at text place {s} {s′} {t} {t′} {end} {st = st} {r} e g = rw e at g
 
 pub gave-refused-at : {text s s′ t t′ : List ℕ} {end place : ℕ} {d d′ : Here} {st r : State} → d′ ≡ d → GaveRefused text s s′ end place d′ t t′ st r
     → GaveRefused text s s′ end place d t t′ st r
-gave-refused-at {text} {s} {s′} {t} {t′} {end} {place} {st = st} {r} e g = subst (λ (x : Here). GaveRefused text s s′ end place x t t′ st r) e g
+gave-refused-at e g = rw e at g

@@ -1,9 +1,6 @@
 -- The text of the globals in which functions start: one function by its label, and all in turn.
-use Prim.Native.Nat.{ℕ, suc, _+_, _≤_, _<_}
-use mathlib.Core.Path.{_≡_, refl, sym, ap, _∙_}
-use mathlib.Core.List.{List, [], _∷_, _++_, append-assoc, append-nil}
-use native.Mathlib.Omega.{arith}
-use lib.ListN.{length, getD, length-append, List·getD-eq-default}
+use Rattle.compiler.proofs.Basics.{ℕ, suc, _+_, _≤_, _<_, _≡_, refl, sym, ap, _∙_, List, [], _∷_, _++_, append-assoc, append-nil, arith}
+use Rattle.compiler.proofs.Basics.{length, getD, length-append, List·getD-eq-default}
 use Rattle.items.specs.Item as I
 use Rattle.language.specs.Resolved.{Start, nowhere, inGlobal, Fun}
 use Rattle.code.specs.Generate.{startIn, startsCode}
@@ -23,11 +20,11 @@ pub passed-begin : {table : List ℕ} {label : ℕ} → Passed table label 0
 passed-begin = record { none = λ m h e. omega arith }
 
 pub passed-next : {table : List ℕ} {label n k : ℕ} → k ≡ getD table n 0 → (k ≡ label → ⊥) → Passed table label n → Passed table label (n + 1)
-passed-next {table} {label} {n} {k} e f p = record { none = λ m h q. go m (order m n) h q }
+passed-next {table} {label} {n} e f p = record { none = λ m h q. go m (order m n) h q }
   where
     go : (m : ℕ) → Order m n → m < n + 1 → getD table m 0 ≡ label → ⊥
     go m (lt l) h q = p .none m l q
-    go m (ge l) h q = let z : m ≡ n = omega arith in f (e ∙ ap (λ (j : ℕ). getD table j 0) (sym z) ∙ q)
+    go m (ge l) h q = let z : m ≡ n = omega arith in f (cc)
 
 pub passed-found : {table : List ℕ} {label n k : ℕ} → n < 400 → k ≡ getD table n 0 → k ≡ label → FindsGlobal table label n
 passed-found h e f = record { is = λ _. sym e ∙ f; none = λ l. absurd (omega arith) }
@@ -75,7 +72,7 @@ starts-then l (f ∷ a) b =
   where
     go : (s : Start) (is js : List I.Item) → startsCode (suc l) (a ++ b) ≡ is ++ js → startIn s l (startsCode (suc l) (a ++ b)) ≡ startIn s l is ++ js
     go nowhere is js e = e
-    go (inGlobal n) is js e = ap (λ (z : List I.Item). I.global n l ∷ z) e
+    go (inGlobal n) is js e = rw e
 
 starts-at : (a : List Fun) (f : Fun) (b : List Fun) → getD (startsOf (a ++ (f ∷ b))) (length a) nowhere ≡ f .start
 unfolding startsOf
@@ -84,7 +81,7 @@ starts-at (x ∷ a) f b = starts-at a f b
 
 one-start : {table : List ℕ} {k : ℕ} {ss : List Start} (s : Start) → length table ≡ 400 → Starting table ss → getD ss k nowhere ≡ s
     → StartsAt table (suc k) s
-one-start {table} {k} {ss} s l q e = record {
+one-start {table} {k} s l q e = record {
   is = λ n h g. sym e ∙ q .is n k h g;
   has = λ n g. let z : getD table n 0 ≡ suc k = q .has n k (e ∙ g) in (go n (order n 400) z, z);
 }
@@ -101,17 +98,16 @@ starts-next {table} {functions} {k} {at} {x} {r} {t} {t₁} {t₂} h w q =
   where
     go : (fs : List Fun) → length table ≡ 400 → functions ≡ length fs → Starting table (startsOf fs) → (y : StartsPart k at x t t₁ fs)
         → (rest : List Fun) → y .rest ≡ rest → StartsPart (k + 1) at r t t₂ fs
-    go fs l e s y [] z = absurd (omega (arith, y .count, ap length (y .all), length-append (y .done) (y .rest), ap length z))
+    go fs l e s y [] z = absurd (omega (arith, ap length (y .all), length-append (y .done) (y .rest), ap length z))
     go fs l e s y (f ∷ b) z =
-        let a : fs ≡ y .done ++ (f ∷ b) = y .all ∙ ap (λ (g : List Fun). y .done ++ g) z in let j : k + 1 ≡ suc k = omega arith in
-        let j′ : 1 + length (y .done) ≡ k + 1 = omega (arith, y .count) in
-        let g : getD (startsOf fs) k nowhere ≡ f .start = rw (a, y .count) (starts-at (y .done) f b) in
-        let o : StartsAt table (k + 1) (f .start) = rw j (one-start (f .start) l s g) in
+        let a : fs ≡ y .done ++ (f ∷ b) = rw (y .all, z) in let j : k + 1 ≡ suc k = omega arith in let j′ : 1 + length (y .done) ≡ k + 1
+        = omega arith in let g : getD (startsOf fs) k nowhere ≡ f .start = rw (a, y .count) (starts-at (y .done) f b) in let o : StartsAt table
+        (k + 1) (f .start) = rw j (one-start (f .start) l s g) in
         record {
           done = y .done ++ (f ∷ []);
           rest = b;
           all = a ∙ sym (append-assoc (y .done) (f ∷ []) b);
-          count = omega (arith, y .count, length-append (y .done) (f ∷ []));
+          count = omega (arith, length-append (y .done) (f ∷ []));
           puts = puts-as (puts-then (y .puts) (w .by (f .start) o))
               (ap lines (starts-then 1 (y .done) (f ∷ []) ∙ rw j′) ∙ lines-then (startsCode 1 (y .done)) (startIn (f .start) (k + 1) []));
         }
@@ -122,6 +118,5 @@ starts-end {table} {functions} {k} {at} {x} {t} {t′} h q = record { by = λ fs
   where
     go : (fs : List Fun) → functions ≡ length fs → (y : StartsPart k at x t t′ fs) → (rest : List Fun) → y .rest ≡ rest
         → Puts (lines (startsCode 1 fs)) at x t t′
-    go fs e y [] z =
-        puts-as (y .puts) (ap (λ (g : List Fun). lines (startsCode 1 g)) (y .all ∙ ap (λ (g : List Fun). y .done ++ g) z ∙ append-nil (y .done)))
-    go fs e y (f ∷ b) z = absurd (omega (arith, y .count, ap length (y .all), length-append (y .done) (y .rest), ap length z))
+    go fs e y [] z = puts-as (y .puts) (simp (y .all, z, append-nil))
+    go fs e y (f ∷ b) z = absurd (omega (arith, ap length (y .all), length-append (y .done) (y .rest), ap length z))

@@ -1,13 +1,7 @@
 -- The text of the strings: a character by its escape, a string's line, the lines of one symbol, and loops over all symbols.
-use Prim.Native.Nat.{ℕ, suc, _+_, _*_, _-_, _/_, _%_, _≤_, _<_}
-use mathlib.Core.Path.{_≡_, refl, sym, ap, _∙_}
-use mathlib.Core.Bool.{Bool, true, false, cond}
-use mathlib.Core.List.{List, [], _∷_, _++_, append-assoc, append-nil}
-use native.Mathlib.Omega.{arith}
-use lib.ListN.{length, getD, drop, length-append}
-use lib.Seq.{getD-drop, drop-drop}
-use lib.Dec.{eqb}
-use borrow.Author.Tests.{eq-eqb, ne-eqb, le-leb, lt-leb}
+use Rattle.compiler.proofs.Basics.{ℕ, suc, _+_, _*_, _-_, _/_, _%_, _≤_, _<_, _≡_, refl, sym, ap, _∙_, Bool, true, false, cond, List, [], _∷_}
+use Rattle.compiler.proofs.Basics.{_++_, append-assoc, append-nil, arith, length, getD, drop, length-append, getD-drop, drop-drop, eqb, eq-eqb}
+use Rattle.compiler.proofs.Basics.{ne-eqb, le-leb, lt-leb}
 use Rattle.text.specs.Quoted.{closed, charactersOf, quoted, character, is, closing, ended, mistake}
 use Rattle.text.proofs.Bytes.{Unlike}
 use Rattle.text.proofs.Constants.{Continues, closed-next, closed-end, closed-goes-on, closed-right}
@@ -20,7 +14,8 @@ use Rattle.code.specs.Generate.{stringsCode}
 use Rattle.tree.specs.Read.{decoded}
 use Rattle.writing.specs.Text.{Puts, line, lines}
 use Rattle.writing.proofs.Laws.{puts-then, puts-as, puts-none, lines-then}
-use Rattle.compiler.specs.Strings.{stringCount, oneIf, Ends, AllEnd, Escapes, WritesCharacters, WritesString, symbolCode, WritesSymbol, WritesStrings}
+use Rattle.compiler.specs.Strings.{stringCount, oneIf, Ends, AllEnd, Escapes, WritesCharacters, WritesString, symbolCode, WritesSymbol}
+use Rattle.compiler.specs.Strings.{WritesStrings}
 use Rattle.compiler.proofs.StringsEnd.{first-ends, others-end}
 
 pub two-bytes : {a b at x r : ℕ} {t t₁ t₂ : List ℕ} → Puts (a ∷ []) at x t t₁ → Puts (b ∷ []) x r t₁ t₂ → Puts (a ∷ b ∷ []) at r t t₂
@@ -92,8 +87,7 @@ spelling-begin = record { by = λ cs width e. record { done = []; rest = cs; wid
 characters-then : (a b : List ℕ) → charactersText (a ++ b) ≡ charactersText a ++ charactersText b
 unfolding charactersText
 characters-then [] b = refl
-characters-then (c ∷ a) b =
-    ap (λ (l : List ℕ). characterText c ++ l) (characters-then a b) ∙ sym (append-assoc (characterText c) (charactersText a) (charactersText b))
+characters-then (c ∷ a) b = simp (characters-then a b, append-assoc)
 
 pub spelling-next : {source : List ℕ} {from i at x r c w : ℕ} {t t₁ t₂ : List ℕ} → character 34 (drop i source) ≡ is c w
     → Puts (characterText c) x r t₁ t₂
@@ -108,10 +102,9 @@ spelling-next {source} {from} {i} {at} {x} {r} {c} {w} {t} {t₁} {t₂} e p q =
           done = k .done ++ (c ∷ []);
           rest = n .rest;
           width = n .width;
-          all = k .all ∙ ap (λ (l : List ℕ). k .done ++ l) (n .are) ∙ sym (append-assoc (k .done) (c ∷ []) (n .rest));
+          all = simp (k .all, n .are, append-assoc);
           left = n .more;
-          puts = puts-as (puts-then (k .puts) p)
-              (characters-then (k .done) (c ∷ []) ∙ ap (λ (l : List ℕ). charactersText (k .done) ++ l) (append-nil (characterText c)));
+          puts = puts-as (puts-then (k .puts) p) (simp (characters-then (k .done) (c ∷ []), append-nil));
         }
 
 pub spelling-end : {source : List ℕ} {from i at x : ℕ} {t t′ : List ℕ} → character 34 (drop i source) ≡ closing
@@ -121,7 +114,7 @@ spelling-end {source} {from} {i} {at} {x} {t} {t′} e q = record { by = λ cs w
     go : (cs : List ℕ) → CharactersPart source i at x t t′ cs → Puts (charactersText cs) at x t t′
     go cs k =
         let g : k .rest ≡ [] = closed-end 34 255 source i (k .left) e in
-        puts-as (k .puts) (ap charactersText (k .all ∙ ap (λ (l : List ℕ). k .done ++ l) g ∙ append-nil (k .done)))
+        puts-as (k .puts) (ap charactersText (simp (k .all, g, append-nil)))
 
 -- what is closed goes on to its quote, and has no mistake before it
 pub spelling-ended : {source : List ℕ} {from i at x : ℕ} {t t′ : List ℕ} → character 34 (drop i source) ≡ ended
@@ -137,27 +130,21 @@ spelling-mistake {source} {i = i} e q = record { by = λ cs width z. absurd (clo
 pub string-put : {source : List ℕ} {place at a b c d r : ℕ} {t t₁ t₂ t₃ t₄ t₅ : List ℕ} → Puts (67 ∷ []) at a t t₁ → Puts (34 ∷ []) a b t₁ t₂
     → WritesCharacters source (place + 1) b c t₂ t₃ → Puts (34 ∷ []) c d t₃ t₄ → Puts (10 ∷ []) d r t₄ t₅ → WritesString source place at r t t₅
 unfolding line render
-string-put {source} {place} {at} {r = r} {t = t} {t₅ = t₅} p q w u v = record {
-  by = λ e.
-      let z : place + 1 ≡ suc place = omega arith in
-      puts-as (puts-then p (puts-then q (puts-then (w .by (e .characters) (e .width) (rw z (e .closes))) (puts-then u v))))
-      (ap (λ (l : List ℕ). 67 ∷ 34 ∷ l) (append-assoc (charactersText (e .characters)) (34 ∷ []) (10 ∷ [])));
+string-put {source} {place} p q w u v = record {
+  by = λ e. let z : place + 1 ≡ suc place = omega arith in
+      puts-as (puts-then p (puts-then q (puts-then (w .by (e .characters) (e .width) (rw z (e .closes))) (puts-then u v)))) (simp append-assoc);
 }
 
 pub symbol-none : {source : List ℕ} {kind place l at : ℕ} {t : List ℕ} → (kind ≡ STRING → ⊥) → WritesSymbol source kind place l at at t t
 unfolding symbolCode lines
-symbol-none {source} {kind} {place} {l} {at} {t} n = record { by = λ e. rw (ne-eqb kind STRING n) puts-none }
+symbol-none {source} {kind} n = record { by = λ e. rw (ne-eqb kind STRING n) puts-none }
 
 pub symbol-put : {source : List ℕ} {kind place l at x r : ℕ} {t t₁ t₂ : List ℕ} → kind ≡ STRING → Puts (line (I.label l)) at x t t₁
     → WritesString source place x r t₁ t₂
     → WritesSymbol source kind place l at r t t₂
 unfolding symbolCode lines
-symbol-put {source} {kind} {place} {l} {at} {x} {r} {t} {t₁} {t₂} q p w =
-    record {
-      by = λ e. let z = e q in
-          rw (eq-eqb kind STRING q, z .closes)
-          (puts-as (puts-then p (w .by z)) (ap (λ (l′ : List ℕ). line (I.label l) ++ l′) (append-nil (line (I.string (z .characters))))));
-    }
+symbol-put {source} {kind} q p w =
+    record { by = λ e. let z = e q in rw (eq-eqb kind STRING q, z .closes) (puts-as (puts-then p (w .by z)) (simp append-nil)) }
 
 -- ---- loops over the symbols: those from i on
 
@@ -217,13 +204,13 @@ count-one x xs = go (eqb (x .kind) STRING)
 pub counted-next : {count : ℕ} {s : List ℕ} {i n k d : ℕ} → i < count → k ≡ getD s (i * 3) 0 → d ≡ oneIf k → Counted count s i n
     → Counted count s (i + 1) (n + d)
 counted-next {count} {s} {i} {n} {k} {d} h e f q =
-    let z = ap stringCount (symbols-more count s i h) ∙ count-one _ (symbolsFrom count s (i + 1)) in
-    let y : d ≡ oneIf (getD s (i * 3) 0) = f ∙ ap oneIf e in
-    record { sum = omega (arith, q .sum, z, y); few = omega (arith, q .few, oneIf-small k) }
+    let z = ap stringCount (symbols-more count s i h) ∙ count-one _ (symbolsFrom count s (i + 1)) in let y : d ≡ oneIf (getD s (i * 3) 0) = f
+    ∙ ap oneIf e in
+    record { sum = omega arith; few = omega (arith, oneIf-small k) }
 
 pub counted-end : {count : ℕ} {s : List ℕ} {i n : ℕ} → count ≤ i → Counted count s i n → n ≡ stringCount (decoded count s)
 unfolding stringCount
-counted-end {count} {s} {i} {n} h q = omega (arith, q .sum, ap stringCount (symbols-none count s i h))
+counted-end {count} {s} {i} h q = omega (arith, ap stringCount (symbols-none count s i h))
 
 -- the first i are written, up to x, and n is the next label
 pub record StringsPart (source s : List ℕ) (count first i n at x : ℕ) (t t′ : List ℕ) : Type 0 where
@@ -238,14 +225,8 @@ pub record Listing (source s : List ℕ) (count first i n at x : ℕ) (t t′ : 
 
 pub listing-begin : {source s : List ℕ} {count first at : ℕ} {t : List ℕ} → Listing source s count first 0 first at at t t
 unfolding stringsCode lines
-listing-begin {source} {s} {count} {first} {at} {t} = record {
-  by = λ e. record {
-    done = [];
-    next = omega arith;
-    ends = rw (symbols-all count s) e;
-    all = rw (symbols-all count s) refl;
-    puts = puts-none;
-  };
+listing-begin {source} {s} {count} = record {
+  by = λ e. record { done = []; next = omega arith; ends = rw (symbols-all count s) e; all = rw (symbols-all count s) refl; puts = puts-none };
 }
 
 strings-then : (l : ℕ) (a b : List (List ℕ)) → stringsCode l (a ++ b) ≡ stringsCode l a ++ stringsCode (l + length a) b
@@ -289,7 +270,7 @@ of-symbol-first source x xs = go (eqb (x .kind) STRING)
 pub listing-next : {source s : List ℕ} {count first i n at x r k p d : ℕ} {t t₁ t₂ : List ℕ} → i < count → k ≡ getD s (i * 3) 0
     → p ≡ getD s (i * 3 + 2) 0 → d ≡ oneIf k
     → WritesSymbol source k p n x r t₁ t₂ → Listing source s count first i n at x t t₁ → Listing source s count first (i + 1) (n + d) at r t t₂
-listing-next {source} {s} {count} {first} {i} {n} {at} {x} {r} {k} {p} {d} {t} {t₁} {t₂} h ek ep ed w q = record {
+listing-next {source} {s} {count} {first} {i} {n} {at} {x} {r} {k} {p} h ek ep ed w q = record {
   by = λ e.
       let y = q .by e in
       let m = symbols-more count s i h in
@@ -299,23 +280,21 @@ listing-next {source} {s} {count} {first} {i} {n} {at} {x} {r} {k} {p} {d} {t} {
       let l : length (y .done ++ o) ≡ length (y .done) + length o = length-append (y .done) o in
       record {
         done = y .done ++ o;
-        next = omega (arith, y .next, l, of-symbol-count source k p);
+        next = omega (arith, of-symbol-count source k p);
         ends = others-end a;
-        all = y .all
-            ∙ ap (λ (z : List (List ℕ)). y .done ++ z) (ap (stringsAmong source) m ∙ of-symbol-first source _ (symbolsFrom count s (i + 1)) ∙ rw (ek, ep) refl)
-            ∙ sym (append-assoc (y .done) o (stringsAmong source (symbolsFrom count s (i + 1))));
-        puts = puts-as (puts-then (y .puts) (w .by f))
-            (ap lines (strings-then first (y .done) o) ∙ lines-then (stringsCode first (y .done)) (stringsCode (first + length (y .done)) o)
-            ∙ ap (λ (z : List I.Item). lines (stringsCode first (y .done)) ++ lines z)
-            (ap (λ (j : ℕ). stringsCode j o) (sym (y .next)) ∙ sym (of-symbol-code source k p n)));
+        all = y .all ∙ ap (λ (z : List (List ℕ)). y .done ++ z) (ap (stringsAmong source) m ∙ of-symbol-first source _ (symbolsFrom count s (i + 1))
+            ∙ rw (ek, ep) refl) ∙ sym (append-assoc (y .done) o (stringsAmong source (symbolsFrom count s (i + 1))));
+        puts = puts-as (puts-then (y .puts) (w .by f)) (cc (
+          strings-then first (y .done) o,
+          lines-then (stringsCode first (y .done)) (stringsCode (first + length (y .done)) o),
+          of-symbol-code source k p n,
+        ));
       };
 }
 
 pub listing-end : {source s : List ℕ} {count first i n at x : ℕ} {t t′ : List ℕ} → count ≤ i → Listing source s count first i n at x t t′
     → WritesStrings source s count first at x t t′
 unfolding stringsAmong
-listing-end {source} {s} {count} {first} {i} {n} {at} {x} {t} {t′} h q = record {
-  by = λ e. let y = q .by e in
-      puts-as (y .puts) (ap (λ (z : List (List ℕ)). lines (stringsCode first z))
-      (y .all ∙ ap (λ (z : List Symbol). y .done ++ stringsAmong source z) (symbols-none count s i h) ∙ append-nil (y .done)));
+listing-end {source} {s} {count} {first} {i} h q = record {
+  by = λ e. let y = q .by e in puts-as (y .puts) (simp (y .all, symbols-none count s i h, append-nil));
 }

@@ -1,19 +1,13 @@
 -- How many strings there are, and that every string among a source's symbols ends: a scanned string is closed, numbering keeps kinds
 -- and places, and an inserted semicolon is no string.
-use Prim.Native.Nat.{ℕ, zero, suc, _+_, _-_, _≤_}
-use mathlib.Core.Path.{_≡_, refl, ap, _∙_}
-use mathlib.Core.Bool.{Bool, true, false, not, cond, _&&_}
-use mathlib.Core.List.{List, [], _∷_}
-use native.Mathlib.Omega.{arith}
-use lib.Dec.{eqb, leb}
-use lib.ListN.{length, drop}
-use lib.Seq.{drop-drop}
-use borrow.Author.Tests.{eqb-false, not-true}
+use Rattle.compiler.proofs.Basics.{ℕ, zero, suc, _+_, _-_, _≡_, refl, ap, _∙_, Bool, true, false, not, cond, _&&_, List, [], _∷_, arith}
+use Rattle.compiler.proofs.Basics.{eqb, leb, length, drop, drop-drop, eqb-false, not-true}
 use Rattle.text.specs.Quoted.{Quoted, closed, unclosed, faulty, charactersOf, quoted}
 use Rattle.text.proofs.Booleans.{both-true}
 use Rattle.language.specs.Bytes.{LETTER, DIGIT, HASH, QUOTE, DOUBLE, SIGN, SEPARATOR, NEWLINE, classOf}
 use Rattle.language.specs.Kinds.{Spelled, NUMBER, STRING, reserved, signs}
-use Rattle.language.specs.Symbols.{Symbol, Element, symbol, gap, wrong, same, begins, kindIn, kindOf, word, digits, valueOf, decimal, octal, asCharacter, character, asString, string, signIn, comment, sign, signOrComment, byClass}
+use Rattle.language.specs.Symbols.{Symbol, Element, symbol, gap, wrong, same, begins, kindIn, kindOf, word, digits, valueOf, decimal, octal}
+use Rattle.language.specs.Symbols.{asCharacter, character, asString, string, signIn, comment, sign, signOrComment, byClass}
 use Rattle.language.specs.Symbols.{Fault, none, fault, Scan, onElement, scanFrom, scan}
 use Rattle.language.specs.Strings.{withValue, numbered}
 use Rattle.language.specs.Semicolons.{inserted, gains, semicolonsAfter, semicolons}
@@ -35,15 +29,6 @@ string-count-is source (x ∷ xs) = go (eqb (x .kind) STRING) (string-count-is s
         length (cond b (charactersOf (quoted 34 255 0 (drop (suc (x .place)) source)) ∷ stringsAmong source xs) (stringsAmong source xs))
     go true e = ap suc e
     go false e = e
-
-pub string-count-most : (ss : List Symbol) → stringCount ss ≤ length ss
-unfolding stringCount
-string-count-most [] = omega arith
-string-count-most (x ∷ xs) = go (eqb (x .kind) STRING) (string-count-most xs)
-  where
-    go : (b : Bool) → stringCount xs ≤ length xs → cond b (suc (stringCount xs)) (stringCount xs) ≤ suc (length xs)
-    go true e = omega arith
-    go false e = omega arith
 
 -- ---- elements: one that is a string has its characters and the quote behind its first byte
 
@@ -137,13 +122,9 @@ module _ (bs : List ℕ) where
   ending-element : (class : ℕ) → EndingElement bs (byClass class bs)
   unfolding byClass
   ending-element class =
-      either (eqb class LETTER) (λ _. ending-word)
-      (either (eqb class DIGIT) (λ _. ending-decimal bs)
-      (either (eqb class HASH) (λ _. ending-octal (drop 1 bs))
-      (either (eqb class QUOTE) (λ _. ending-character (drop 1 bs))
-      (either (eqb class DOUBLE) (λ _. ending-string)
-      (either (eqb class SIGN) (λ _. ending-sign)
-      (either (eqb class SEPARATOR) (λ _. a-gap)
+      either (eqb class LETTER) (λ _. ending-word) (either (eqb class DIGIT) (λ _. ending-decimal bs)
+      (either (eqb class HASH) (λ _. ending-octal (drop 1 bs)) (either (eqb class QUOTE) (λ _. ending-character (drop 1 bs))
+      (either (eqb class DOUBLE) (λ _. ending-string) (either (eqb class SIGN) (λ _. ending-sign) (either (eqb class SEPARATOR) (λ _. a-gap)
       (either (eqb class NEWLINE) (λ _. a-gap) a-fault)))))))
 
 -- ---- the symbols of a text

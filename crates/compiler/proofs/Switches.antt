@@ -1,33 +1,18 @@
 -- SWITCHON: the loop over the list after INTO, and the whole.
-use Prim.Native.Nat.{ℕ, suc, _+_, _*_, _-_, _≤_, _<_, _^_}
-use mathlib.Core.Path.{_≡_, refl, sym, ap, subst, _∙_}
-use mathlib.Core.List.{List, [], _∷_, _++_, append-assoc}
-use native.Mathlib.Omega.{arith}
-use lib.ListN.{length, getD, length-append}
-use borrow.Author.Tests.{ne-eqb}
+use Rattle.compiler.proofs.Basics.{ℕ, suc, _+_, _*_, _-_, _≤_, _<_, _^_, _≡_, refl, sym, ap, subst, _∙_, List, [], _∷_, _++_, append-assoc}
+use Rattle.compiler.proofs.Basics.{arith, length, getD, length-append, ne-eqb}
 use Rattle.items.specs.Item as I
 use Rattle.language.specs.Kinds as K
 use Rattle.language.specs.Tree as T
-use Rattle.language.specs.Tree.{Label, Expression, Commands, Unlabelled}
-use Rattle.language.proofs.Depth.{depth, commandsDepth, unlabelledDepth}
-use Rattle.language.specs.Names.{Scope}
-use Rattle.language.specs.Constants.{Fault}
+use Rattle.compiler.proofs.Language.{Label, Expression, Commands, Unlabelled, depth, commandsDepth, unlabelledDepth, Scope, Fault, expression}
+use Rattle.compiler.proofs.Language.{unlabelled, labelsBefore, caseList, ofCmd, ofCases, FineUnlabelled, Leavable, doubled, inExpression}
+use Rattle.compiler.proofs.Language.{inCase, inCases, inUnlabelled, encode, encodeCommand, encodeCommands, encodeUnlabelled}
 use Rattle.language.specs.Resolved as R
-use Rattle.language.specs.Resolve.{expression, unlabelled, labelsBefore, caseList}
-use Rattle.language.specs.Heights.{ofCmd, ofCases}
-use Rattle.language.specs.Fine.{FineUnlabelled}
 use Rattle.code.specs.Generate as G
 use Rattle.language.specs.Faults as Y
-use Rattle.language.specs.Faults.{Leavable, doubled, inExpression, inCase, inCases, inUnlabelled}
-use Rattle.tree.specs.Encoding.{encode, encodeCommand, encodeCommands, encodeUnlabelled}
 use Rattle.compiler.proofs.Scoping.{keeps-all, keeps-then, keeps-shows}
-use Rattle.compiler.specs.declared.steps.State.{State}
-use Rattle.compiler.specs.declared.steps.Here.{Here}
-use Rattle.compiler.specs.declared.steps.Ways.{Ways}
-use Rattle.compiler.specs.declared.steps.Node.{Node}
-use Rattle.compiler.specs.Fine.{FineE, FineCs, FinePlain}
-use Rattle.compiler.specs.Walked.{inSwitch, leavableBy, exits, NodeAt, Code, Did, Emits, Fresh}
-use Rattle.compiler.specs.Walks.{Lies, Result, ReadyE, GaveE, Counts}
+use Rattle.compiler.proofs.Vocabulary.{State, Here, Ways, Node, FineE, FineCs, FinePlain, inSwitch, leavableBy, exits, NodeAt, Code, Did}
+use Rattle.compiler.proofs.Vocabulary.{Emits, Fresh, Lies, Result, ReadyE, GaveE, Counts}
 use Rattle.compiler.specs.Commands.{cmdSays, ReadyC, GaveCase, ReadyU, GaveU, casesFaults, casesSays, entriesIn, ReadyCases, GaveCases}
 use Rattle.compiler.specs.Switching.{labelFaults, ReadyLabels, JudgesLabels, tableItems, WritesTable}
 use Rattle.compiler.proofs.Done.{did-none, did-put, did-after, did-then, did-as, did-at, did-fresh, Same, same-refl, same-eq, same-swap}
@@ -62,20 +47,16 @@ module _ (text t₀ : List ℕ) (w : Ways) (l₀ : ℕ) {s₀ : List ℕ} {from 
 
     module _ {t₁ : List ℕ} {a : State} (m : Emits (I.label (l₀ + k) ∷ []) [] t t₁ st a) where
       abbrev pub case-part : (y : ReadyCases s₀ from end here st₀) → CasesPart y s t at k st → ReadyC s next here a
-      case-part y p =
-          ready-one (y .ready) (y .starts) l es en p here a refl refl refl (omega arith)
-          (omega (arith, y .label, p .label, case-entries y p, m .label)) (omega (arith, p .some, m .label))
+      case-part y p = ready-one (y .ready) (y .starts) l es en p here a refl refl refl (omega arith) (omega (arith, case-entries y p)) (omega arith)
 
       pub cases-next : {s₁ t₂ : List ℕ} {r : State} → GaveCase text s s₁ next here w t₁ t₂ a r → (y : ReadyCases s₀ from end here st₀)
           → CasesPart y s t at k st → CasesPart y s₁ t₂ next (k + 1) r
       unfolding casesFaults caseList G.casesCode ofCases G.casesLabels
-      cases-next {t₂ = t₂} {r} g y p =
+      cases-next g y p =
           let z = y .ready in let u = item z (y .starts) l es en p in let x = g .by (case-part y p) in let sc = z .scope in let h = here .height in
           let n = case-entries y p in let a : l₀ + (k + 1) ≡ suc (l₀ + k) = omega arith in
-          goes-on z (y .starts) l es en p (x .keeps) (omega arith) (omega (arith, x .did .few, m .label))
-          (omega (arith, p .some, x .did .grows, m .label)) (λ t′ st′ d. did-as _ _ (did-then (did-after m (x .did))
-          (subst (λ (i : ℕ). Did (casesFaults text sc (leavableBy w here) h (u .more)) (casesSays here w i (caseList text sc h (u .more)))
-          (2 * entriesIn (u .more)) t₂ t′ r st′) a d)) same-refl (λ i c. refl) (omega arith))
+          goes-on z (y .starts) l es en p (x .keeps) (omega arith) (omega arith) (omega arith)
+          (λ t′ st′ d. did-as _ _ (did-then (did-after m (x .did)) (rw a at d)) same-refl (λ i c. refl) (omega arith))
 
   pub cases-end : (k : ℕ) {s t : List ℕ} {at : ℕ} {st : State} → end ≤ at → ((y : ReadyCases s₀ from end here st₀) → CasesPart y s t at k st)
       → GaveCases text s₀ s from end l₀ here w t₀ t st₀ st
@@ -87,9 +68,8 @@ module _ (text t₀ : List ℕ) (w : Ways) (l₀ : ℕ) {s₀ : List ℕ} {from 
 -- (a, b), (c, d) as (a, c), (b, d)
 same-crossed : (a b c d : List Fault) → Same ((a ++ b) ++ (c ++ d)) ((a ++ c) ++ (b ++ d))
 same-crossed a b c d =
-    same-then (same-eq (append-assoc a b (c ++ d) ∙ ap (λ (z : List Fault). a ++ z) (sym (append-assoc b c d))))
-    (same-then (same-both (same-refl {a = a}) (same-both (same-swap b c) (same-refl {a = d})))
-    (same-eq (ap (λ (z : List Fault). a ++ z) (append-assoc c b d) ∙ sym (append-assoc a c (b ++ d)))))
+    same-then (same-eq (simp append-assoc)) (same-then (same-both (same-refl {a = a}) (same-both (same-swap b c) (same-refl {a = d})))
+    (same-eq (simp append-assoc)))
 
 cases-same : (text : List ℕ) (sc : Scope) (l : Leavable) (h : ℕ) (before : List Label) (cs : Commands)
     → Same (labelFaults text sc before cs ++ casesFaults text sc l h cs) (inCases text sc l h before cs)
@@ -119,7 +99,7 @@ is-switch {lo = lo} (F.aSwitch {e} {cs} h v q) = record {
   lies = first (encode e) (encodeCommands cs) h;
   lies-list = second (encode e) (encodeCommands cs) (lo + length (encode e)) h refl;
   value-of = v;
-  ends = omega (arith, q, length-append (encode e) (encodeCommands cs));
+  ends = omega (arith, length-append (encode e) (encodeCommands cs));
 }
 
 -- two entries stand in front of each command
@@ -139,8 +119,8 @@ table-did : {text s t t₁ : List ℕ} {from end top first done : ℕ} {b c d : 
 table-did {t = t} h j w y = let x = j .by y t in record {
   worst = w .worst ∙ x .worst;
   fits = x .fits;
-  few = omega (arith, x .few, w .label);
-  grows = omega (arith, x .grows, w .label);
+  few = omega arith;
+  grows = omega arith;
   clean = λ e. did-put x (w .by y h e) .clean e;
 }
 
@@ -164,35 +144,30 @@ module _ {s : List ℕ} {end : ℕ} {here : Here} {st : State} (n : Node) (nd : 
 
   pub switch-deep : (y : ReadyU s end here st) → (depth (switch-is y .value) ≤ here .left) × (commandsDepth (switch-is y .list) ≤ here .left)
   unfolding unlabelledDepth
-  switch-deep y = let e = ap unlabelledDepth (switch-is y .same) in (omega (arith, y .shallow, e), omega (arith, y .shallow, e))
+  switch-deep y = let e = ap unlabelledDepth (switch-is y .same) in (omega arith, omega arith)
 
   pub switch-middle : (y : ReadyU s end here st) → middle ≡ y .lo + length (encode (switch-is y .value))
-  switch-middle y = let u = switch-is y in
-      let k = nd .start ∙ sym (closed-start {end = end} (unlabelled-closed (y .tree) (y .fine)) (y .lies) (y .ends) .0) in
-      omega (arith, m, k, nd .value, u .value-of)
+  switch-middle y = let u = switch-is y in let k = nd .start ∙ sym (closed-start {end = end} (unlabelled-closed (y .tree) (y .fine)) (y .lies)
+      (y .ends) .0) in
+      omega arith
 
   abbrev pub switch-value : ReadyU s end here st → ReadyE s middle here st
-  switch-value y = let u = switch-is y in
-      sub encode depth FineE y keeps-all middle (y .lo) here st (u .value) (u .lies) (switch-middle y) (omega arith)
-      (omega (arith, switch-middle y, u .ends)) refl refl
-      (omega (arith, y .height, y .ends, u .ends)) (omega (arith, y .label, y .ends, u .ends)) (y .some) (switch-deep y .0) (switch-fine y .0)
+  switch-value y = let u = switch-is y in sub y keeps-all (u .lies) refl (omega (arith, switch-middle y, switch-deep y .0)) (switch-fine y .0)
 
   module _ (text : List ℕ) {s₁ t t₁ : List ℕ} {a : State} (g : GaveE text s s₁ middle here t t₁ st a) {k : ℕ}
       (c : Counts s₁ middle (n .inner) k) where
     pub switch-lies : (y : ReadyU s end here st) → Lies s₁ middle (encodeCommands (switch-is y .list))
-    switch-lies y = let u = switch-is y in
-        subst (λ (i : ℕ). Lies s₁ i (encodeCommands (u .list))) (sym (switch-middle y))
-        (keeps-lies (g .by (switch-value y) .keeps) (omega (arith, y .above)) (u .lies-list))
+    switch-lies y = let u = switch-is y in rw (← (switch-middle y)) at (keeps-lies (g .by (switch-value y) .keeps) (omega arith) (u .lies-list))
 
     pub switch-ends : (y : ReadyU s end here st) → n .inner ≡ middle + length (encodeCommands (switch-is y .list))
-    switch-ends y = let u = switch-is y in omega (arith, nd .inner, u .ends, switch-middle y)
+    switch-ends y = let u = switch-is y in omega (arith, switch-middle y)
 
     pub switch-count : (y : ReadyU s end here st) → k ≡ G.commandsIn (caseList text (y .scope) (here .height) (switch-is y .list))
     switch-count y = let u = switch-is y in c .by _ (command-items text (y .scope) (here .height) (u .list) (switch-lies y) (switch-ends y))
 
     pub switch-few : (y : ReadyU s end here st) → (a .label + k + 1 ≤ 2 ^ 29) × (st .label ≤ a .label)
     switch-few y = let u = switch-is y in let x = g .by (switch-value y) .did in
-        (omega (arith, switch-count y, list-entries text (y .scope) (here .height) (u .list), y .label, y .ends, u .ends, x .few), x .grows)
+        (omega (arith, switch-count y, list-entries text (y .scope) (here .height) (u .list)), x .grows)
 
     abbrev pub switch-labels : ReadyU s end here st → ReadyLabels s₁ middle (n .inner) (here .top)
     switch-labels y = let u = switch-is y in record {
@@ -201,8 +176,8 @@ module _ {s : List ℕ} {end : ℕ} {here : Here} {st : State} (n : Node) (nd : 
       commands = u .list;
       lies = switch-lies y;
       ends = switch-ends y;
-      above = omega (arith, y .above, switch-middle y);
-      small = omega (arith, y .small, nd .inner);
+      above = omega (arith, switch-middle y);
+      small = omega arith;
       shows = keeps-shows (g .by (switch-value y) .keeps) (omega arith) (y .shows);
       fine = switch-fine y .1;
     }
@@ -210,19 +185,15 @@ module _ {s : List ℕ} {end : ℕ} {here : Here} {st : State} (n : Node) (nd : 
     module _ {b i d : State} {t₂ : List ℕ} (e : Fresh (k + 1) a b) (j : JudgesLabels text s₁ middle (n .inner) (here .top) b i) {first : ℕ}
         (ef : first ≡ a .label + 1) (w : WritesTable text s₁ middle (n .inner) (here .top) first (a .label) t₁ t₂ i d) where
       pub switch-state : (y : ReadyU s end here st) → d .label ≡ a .label + (k + 1)
-      switch-state y = let x = j .by (switch-labels y) t₁ in omega (arith, e .label, x .few, x .grows, w .label)
+      switch-state y = let x = j .by (switch-labels y) t₁ in omega arith
 
       abbrev pub switch-cases : ReadyU s end here st → ReadyCases s₁ middle (n .inner) here d
       switch-cases y =
           let u = switch-is y in let x = g .by (switch-value y) in let v = list-entries text (y .scope) (here .height) (u .list) in record {
             before = st;
-            ready =
-                sub encodeCommands commandsDepth FineCs y (x .keeps) (n .inner) (y .lo + length (encode (u .value))) here st (u .list) (u .lies-list)
-                (omega (arith, nd .inner, u .ends)) (omega arith) (omega (arith, nd .inner)) refl refl
-                (omega (arith, y .height, y .ends, u .ends)) (omega (arith, y .label, y .ends, u .ends)) (y .some)
-                (switch-deep y .1) (switch-fine y .1);
+            ready = sub y (x .keeps) (u .lies-list) refl (omega (arith, switch-deep y .1)) (switch-fine y .1);
             starts = sym (switch-middle y);
-            label = omega (arith, switch-state y, x .did .few, switch-count y, v, y .label, y .ends, u .ends);
+            label = omega (arith, switch-state y, switch-count y);
             some = omega (arith, switch-state y);
           }
 
@@ -231,34 +202,26 @@ module _ {s : List ℕ} {end : ℕ} {here : Here} {st : State} (n : Node) (nd : 
           → GaveU text s s₂ end here ways t t₄ st r
       unfolding inUnlabelled unlabelled G.cmdCode ofCmd G.cmdLabels
       switch-gave ways {s₂} {t₃} {t₄} {o} {r} g₂ f = record {
-        by = λ y.
-            let u = switch-is y in let x = g .by (switch-value y) in let z = g₂ .by (switch-cases y) in let sc = y .scope in let h = here .height in
-            let S = here .strings in let lv = leavableBy ways here in let A = a .label in let E = expression text sc h (u .value) in
-            let CS = caseList text sc h (u .list) in let v = list-entries text sc h (u .list) in let ek = switch-count y in
-            let ls : leavableBy (inSwitch A ways) here ≡ Y.inSwitch lv = leaves-switch here ways A (omega (arith, x .did .grows, y .some)) in
-            let en : A + (k + 1) + 0 ≡ A + 1 + G.commandsIn CS = omega (arith, ek) in let F = labelFaults text sc [] (u .list) in
+        by = λ y. let u = switch-is y in let x = g .by (switch-value y) in let z = g₂ .by (switch-cases y) in let sc = y .scope in
+            let h = here .height in let S = here .strings in let lv = leavableBy ways here in let A = a .label in let E = expression text sc h
+            (u .value) in let CS = caseList text sc h (u .list) in let v = list-entries text sc h (u .list) in let ek = switch-count y in
+            let ls : leavableBy (inSwitch A ways) here ≡ Y.inSwitch lv = leaves-switch here ways A (omega arith) in let en : A + (k + 1) + 0 ≡ A + 1
+            + G.commandsIn CS = omega arith in let F = labelFaults text sc [] (u .list) in
             let rest : Did (F ++ casesFaults text sc (leavableBy (inSwitch A ways) here) h (u .list)) (switchSays here ways CS)
             (k + 1 + (0 + 2 * entriesIn (u .list))) t₁ t₄ a r =
             did-at (switchSays here ways CS) _ (did-fresh e (did-put (did-then (table-did h j w (switch-labels y)) (z .did)) f)) same-refl
-            (λ p. code-is
-            (append-assoc (tableItems first A CS) (G.casesCode S h first (A + (k + 1) + 0) (exits (inSwitch A ways)) CS) (I.label A ∷ []) ∙ ap
-            (λ (i : ℕ). tableItems i A CS ++ (G.casesCode S h i (A + (k + 1) + 0) (exits (inSwitch A ways)) CS ++ (I.label A ∷ []))) ef ∙ ap
-            (λ (i : ℕ). tableItems (A + 1) A CS ++ (G.casesCode S h (A + 1) i (exits (inSwitch A ways)) CS ++ (I.label A ∷ []))) en) refl
-            (omega (arith, ek))) (omega arith) in
+            (λ p. code-is (rw (append-assoc, ef, en)) refl (omega arith)) (omega arith) in
             subst (λ (p : Unlabelled). Result (inUnlabelled text sc lv h p) (cmdSays here ways (unlabelled text sc h p))
             (length (encodeUnlabelled (y .tree))) (y .base) here s s₂ t t₄ st r) (sym (u .same))
             (record {
               keeps = keeps-then (x .keeps) (z .keeps);
               did = did-as (cmdSays here ways (R.switch E CS)) _ (did-then (with-ways text sc here ways h (u .value) (x .did)) rest)
-                  (same-both (same-refl {a = inExpression text sc lv h (u .value)})
-                  (same-then (same-eq (ap (λ (p : Leavable). F ++ casesFaults text sc p h (u .list)) ls))
-                  (cases-same text sc (Y.inSwitch lv) h [] (u .list)))) (λ p c. code-is refl refl (omega arith))
-                  (omega (arith, y .ends, u .ends, ek, v));
+                  (same-both (same-refl {a = inExpression text sc lv h (u .value)}) (same-then (same-eq (rw ls)) (cases-same text sc (Y.inSwitch lv) h
+                  [] (u .list)))) (λ p c. code-is refl refl (omega arith)) (omega arith);
             });
       }
 
 -- another name of the same ways
 pub gave-cases-at : {text s s′ t t′ : List ℕ} {from end l : ℕ} {here : Here} {w w′ : Ways} {st r : State} → w′ ≡ w
     → GaveCases text s s′ from end l here w′ t t′ st r → GaveCases text s s′ from end l here w t t′ st r
-gave-cases-at {text} {s} {s′} {t} {t′} {from} {end} {l} {here} {st = st} {r} e g =
-    subst (λ (x : Ways). GaveCases text s s′ from end l here x t t′ st r) e g
+gave-cases-at e g = rw e at g

@@ -1,36 +1,23 @@
 -- The labels of a list after INTO: where they stand, which there are, and the words after X23.
-use Prim.Native.Nat.{ℕ, suc, _+_, _-_, _≤_, _<_, _^_}
-use mathlib.Core.Path.{_≡_, refl, sym, ap, subst, _∙_}
-use mathlib.Core.Bool.{Bool, true, false, cond}
-use mathlib.Core.List.{List, [], _∷_, _++_}
-use native.Mathlib.Omega.{arith}
-use lib.ListN.{length, getD, length-append}
+use Rattle.compiler.proofs.Basics.{ℕ, suc, _+_, _-_, _≤_, _<_, _^_, _≡_, refl, sym, ap, _∙_, Bool, true, false, cond, List, [], _∷_, _++_}
+use Rattle.compiler.proofs.Basics.{arith, length, getD, length-append}
 use Rattle.items.specs.Item as I
 use Rattle.language.specs.Kinds.{member}
 use Rattle.language.specs.Binding.{isGuard, isLeave}
 use Rattle.language.specs.Tree as T
-use Rattle.language.specs.Tree.{Name, Simple, Constant, Label, Expression, Command, Commands, Unlabelled, endsInCall}
+use Rattle.compiler.proofs.Language.{Name, Simple, Constant, Label, Expression, Command, Commands, Unlabelled, endsInCall, Scope, lookup}
+use Rattle.compiler.proofs.Language.{fault, Judged, good, refused, judge, signed, ofFound, ofSimple, faultsOf, CaseLabel, hasDefault, casesOf}
+use Rattle.compiler.proofs.Language.{caseCount, labelsBefore, labelsOf, goodCase, caseList, greatest, doubledCase, doubledLabel, doubled}
+use Rattle.compiler.proofs.Language.{FineLabels, FineCommand, FineCommands, FineUnlabelled, closed, encode, encodeLabels, encodeCommand}
+use Rattle.compiler.proofs.Language.{encodeCommands, encodeUnlabelled, encodeRepeats, labelled}
 use Rattle.language.specs.Names as N
-use Rattle.language.specs.Names.{Scope, lookup}
-use Rattle.language.specs.Constants.{fault, Judged, good, refused, judge, signed, ofFound, ofSimple, faultsOf}
-use Rattle.language.specs.Resolved.{CaseLabel, hasDefault, casesOf, caseCount}
-use Rattle.language.specs.Resolve.{labelsBefore, labelsOf, goodCase, caseList}
-use Rattle.language.specs.Heights.{greatest}
-use Rattle.language.specs.Faults.{doubledCase, doubledLabel, doubled}
-use Rattle.language.specs.Fine.{FineLabels, FineCommand, FineCommands, FineUnlabelled}
 use Rattle.code.specs.Generate as G
 use Rattle.writing.specs.Text.{lines}
 use Rattle.writing.proofs.Laws.{puts-none}
 use Rattle.tree.specs.Encoding as O
-use Rattle.tree.specs.Encoding.{closed, encode, encodeLabels, encodeCommand, encodeCommands, encodeUnlabelled, encodeRepeats, labelled}
-use Rattle.compiler.specs.Scope.{Shows}
-use Rattle.compiler.specs.declared.steps.State.{State}
-use Rattle.compiler.specs.declared.steps.Node.{Node}
+use Rattle.compiler.proofs.Vocabulary.{Shows, State, Node, FineC, FineCs, FinePlain, NodeAt, Emits, Lies}
 use Rattle.compiler.specs.declared.steps.Verdict.{Verdict}
 use Rattle.compiler.specs.declared.labels.Span.{Span}
-use Rattle.compiler.specs.Fine.{FineC, FineCs, FinePlain}
-use Rattle.compiler.specs.Walked.{NodeAt, Emits}
-use Rattle.compiler.specs.Walks.{Lies}
 use Rattle.compiler.specs.Locals.{Says, fit, unfit, Judges}
 use Rattle.compiler.specs.Switching.{labelFaults, ReadyLabels, WritesTable}
 use Rattle.compiler.specs.Labels as L
@@ -46,25 +33,17 @@ use Rattle.compiler.proofs.Rows.{Left, left-all, left-next, left-end, a
 
 module _ {s : List ℕ} {end : ℕ} (n : Node) (nd : NodeAt s end n) where
   pub spans-bare : (n .kind ≡ 132 → ⊥) → Spans s end (record { from = 0; to = 0 })
-  spans-bare q =
-      record {
-        small = omega arith;
-        by = λ ls c. subst (λ (x : List Label). Row (LabelAt s) s 0 0 x) (sym (c .bare (λ k. q (nd .kind ∙ k))))
-            (noMore {at = 0} refl);
-      }
+  spans-bare q = record { small = omega arith; by = λ ls c. rw (c .bare (λ k. q (nd .kind ∙ k))) (noMore {at = 0} refl) }
 
   pub spans-none : {to : ℕ} → n .kind ≡ 132 → to ≡ n .start + n .value → n .inner < to → Spans s end (record { from = 0; to = 0 })
-  spans-none q e l =
-      record { small = omega arith; by = λ ls c. absurd (omega (arith, c .inside (sym (nd .kind) ∙ q), nd .start, nd .value, nd .inner)) }
+  spans-none q e l = record { small = omega arith; by = λ ls c. absurd (omega (arith, c .inside (sym (nd .kind) ∙ q))) }
 
   pub spans-is : {to : ℕ} → end < 2 ^ 32 → n .kind ≡ 132 → to ≡ n .start + n .value → to ≤ n .inner
       → Spans s end (record { from = n .start; to = to })
   spans-is {to} m q e l = record {
-    small = omega (arith, nd .inner);
-    by = λ ls c.
-        let b : end - 4 - getD s (end - 4) 0 + getD s (end - 3) 0 ≡ to = omega (arith, nd .start, nd .value) in
-        subst (λ (k : ℕ). Row (LabelAt s) s to k ls) (sym (nd .start))
-        (subst (λ (k : ℕ). Row (LabelAt s) s k (end - 4 - getD s (end - 4) 0) ls) b (c .row (sym (nd .kind) ∙ q)));
+    small = omega arith;
+    by = λ ls c. let b : end - 4 - getD s (end - 4) 0 + getD s (end - 3) 0 ≡ to = omega arith in
+        rw (nd .start) (rw b at (c .row (sym (nd .kind) ∙ q)));
   }
 
 labelled-at : {s : List ℕ} {lo end : ℕ} (ls : List Label) (w : List ℕ) → FineLabels ls
@@ -79,17 +58,16 @@ labelled-at {s} {lo} {end} ls w f h e =
     record {
       bare = λ q. absurd (q (kind-is (x ++ w) v 0 132 h e));
       inside = λ q. omega arith;
-      row = λ q. subst (λ (k : ℕ). Row (LabelAt s) s (end - 4 - getD s (end - 4) 0 + getD s (end - 3) 0) k ls) a
-          (labels-row ls f (first x w (kid (x ++ w) v 0 132 h e)) b);
+      row = λ q. rw a at (labels-row ls f (first x w (kid (x ++ w) v 0 132 h e)) b);
     }
 
 guard-not : {w : ℕ} → isGuard w ≡ true → w ≡ 132 → ⊥
 unfolding isGuard member
-guard-not {w} f e = let z : isGuard 132 ≡ true = subst (λ (k : ℕ). isGuard k ≡ true) e f in let x : _≡_ {A = ℕ} 0 1 = cc in omega arith
+guard-not f e = let z : isGuard 132 ≡ true = rw e at f in let x : _≡_ {A = ℕ} 0 1 = cc in omega arith
 
 leave-not : {w : ℕ} → isLeave w ≡ true → w ≡ 132 → ⊥
 unfolding isLeave member
-leave-not {w} f e = let z : isLeave 132 ≡ true = subst (λ (k : ℕ). isLeave k ≡ true) e f in let x : _≡_ {A = ℕ} 0 1 = cc in omega arith
+leave-not f e = let z : isLeave 132 ≡ true = rw e at f in let x : _≡_ {A = ℕ} 0 1 = cc in omega arith
 
 suffixed-low : (b : Bool) → O.suffixedKind b ≤ 131
 unfolding O.suffixedKind
@@ -113,16 +91,16 @@ plain-not : {s : List ℕ} {lo end : ℕ} (u : Unlabelled) → FinePlain u → L
 unfolding FineUnlabelled encodeUnlabelled
 plain-not T.empty f h e q = f .1 refl
 plain-not (T.assignment ls rs) f h e q =
-    omega (arith, q, kind-is (O.encodeSides ls ++ O.encodeExpressions rs) (length (O.encodeFirst ls)) (length (O.encodeSides ls)) 56 h e)
-plain-not (T.callCommand d) f h e q = omega (arith, q, expression-low d, kind-of (expression-closed d) h e)
-plain-not (T.test d c c′) f h e q = omega (arith, q, kind-is (encode d ++ (encodeCommand c ++ encodeCommand c′)) 0 0 13 h e)
+    omega (arith, kind-is (O.encodeSides ls ++ O.encodeExpressions rs) (length (O.encodeFirst ls)) (length (O.encodeSides ls)) 56 h e)
+plain-not (T.callCommand d) f h e q = omega (arith, expression-low d, kind-of (expression-closed d) h e)
+plain-not (T.test d c c′) f h e q = omega (arith, kind-is (encode d ++ (encodeCommand c ++ encodeCommand c′)) 0 0 13 h e)
 plain-not (T.guarded w d c) f h e q = guard-not (f .0 .2) (sym (kind-is (encode d ++ encodeCommand c) 0 0 w h e) ∙ q)
 plain-not (T.for x d d′ k c) f h e q =
-    omega (arith, q, kind-is (O.encodeName x ++ (encode d ++ (encode d′ ++ (O.encodeBy k ++ encodeCommand c)))) (length (O.encodeBy k)) 0 23 h e)
-plain-not (T.switchon d cs) f h e q = omega (arith, q, kind-is (encode d ++ O.encodeCommands cs) (length (encode d)) 0 26 h e)
-plain-not (T.resultis p d) f h e q = omega (arith, q, kind-is (encode d) 0 p 8 h e)
+    omega (arith, kind-is (O.encodeName x ++ (encode d ++ (encode d′ ++ (O.encodeBy k ++ encodeCommand c)))) (length (O.encodeBy k)) 0 23 h e)
+plain-not (T.switchon d cs) f h e q = omega (arith, kind-is (encode d ++ O.encodeCommands cs) (length (encode d)) 0 26 h e)
+plain-not (T.resultis p d) f h e q = omega (arith, kind-is (encode d) 0 p 8 h e)
 plain-not (T.leave w p) f h e q = leave-not (f .0) (sym (kind-is [] 0 p w h e) ∙ q)
-plain-not (T.block ls cs) f h e q = omega (arith, q, kind-is (O.encodeLocals ls ++ O.encodeCommands cs) (length (O.encodeLocals ls)) 0 57 h e)
+plain-not (T.block ls cs) f h e q = omega (arith, kind-is (O.encodeLocals ls ++ O.encodeCommands cs) (length (O.encodeLocals ls)) 0 57 h e)
 
 no-labels : {s : List ℕ} {end : ℕ} → (getD s (end - 1) 0 ≡ 132 → ⊥) → CommandAt s end []
 no-labels n = record { bare = λ q. refl; inside = λ q. absurd (n q); row = λ q. absurd (n q) }
@@ -132,9 +110,9 @@ command-at : {s : List ℕ} {lo end : ℕ} (c : Command) → FineC c → Lies s 
 unfolding FineCommand encodeCommand labelled O.repeated encodeLabels encodeRepeats
 command-at (T.command [] u T.noRepeats) f h e = no-labels (plain-not u (f .1, λ z. omega (arith, f .3 .labels z)) h e)
 command-at (T.command [] u (T.repeat rs)) f h e =
-    no-labels (λ q. omega (arith, q, kind-is (encodeUnlabelled u ++ encodeRepeats (T.repeat rs)) (length (encodeUnlabelled u)) 0 133 h e))
+    no-labels (λ q. omega (arith, kind-is (encodeUnlabelled u ++ encodeRepeats (T.repeat rs)) (length (encodeUnlabelled u)) 0 133 h e))
 command-at (T.command [] u (T.repeatOn w d rs)) f h e =
-    no-labels (λ q. omega (arith, q, kind-is (encodeUnlabelled u ++ encodeRepeats (T.repeatOn w d rs)) (length (encodeUnlabelled u)) 0 133 h e))
+    no-labels (λ q. omega (arith, kind-is (encodeUnlabelled u ++ encodeRepeats (T.repeatOn w d rs)) (length (encodeUnlabelled u)) 0 133 h e))
 command-at (T.command (T.case p c ∷ ls) u rs) f h e = labelled-at (T.case p c ∷ ls) (O.repeated (encodeUnlabelled u) (encodeRepeats rs)) (f .0) h e
 command-at (T.command (T.default p ∷ ls) u rs) f h e = labelled-at (T.default p ∷ ls) (O.repeated (encodeUnlabelled u) (encodeRepeats rs)) (f .0) h e
 
@@ -192,12 +170,17 @@ module _ {A : Type 0} (K : Holding A) where
     CountPart at n xs = Left (K .At) s end at (λ rest. caseItems (K .every xs) ≡ n + caseItems (K .every rest))
 
     pub count-begin : {from : ℕ} (xs : List A) → Row (K .At) s end from xs → CountPart from 0 xs
-    count-begin xs r = left-all (λ rest. caseItems (K .every xs) ≡ 0 + caseItems (K .every rest)) r (omega arith)
+    count-begin xs r = left-all r (omega arith)
 
     pub count-next : {at next k : ℕ} (n : ℕ) → at < end → NextItem s at end next → ((x : A) → K .At next x → k ≡ caseItems (K .one x)) → (xs : List A)
         → CountPart at n xs → CountPart next (n + k) xs
-    count-next {at} {next} {k} n l m f xs p = left-next (λ rest. caseItems (K .every xs) ≡ n + k + caseItems (K .every rest)) l m p
-        (λ x ys e q h. omega (arith, h, f x q, ap caseItems (K .more x ys), cases-then (K .one x) (K .every ys)))
+    count-next {at} {next} {k} n l m f xs p = left-next l m p (λ x ys e q h. omega (
+      arith,
+      f x q,
+      ap caseItems (K .more x ys),
+      cases-then (K .one x)
+          (K .every ys),
+    ))
 
     pub count-end : {at n : ℕ} → end ≤ at → (xs : List A) → CountPart at n xs → n ≡ caseItems (K .every xs)
     unfolding caseItems
@@ -207,10 +190,10 @@ module _ {A : Type 0} (K : Holding A) where
 
 pub one-case-is : {s : List ℕ} {end i k : ℕ} → i ≡ end - 1 → k ≡ getD s i 0 → k ≡ 28 → CountsLabel s end 1
 unfolding caseItems
-one-case-is {s} {end} {i} {k} ei ek q = record { few = omega arith; by = go }
+one-case-is {s} {end} ei ek q = record { few = omega arith; by = go }
   where
     z : getD s (end - 1) 0 ≡ 28
-    z = ap (λ (x : ℕ). getD s x 0) (sym ei) ∙ sym ek ∙ q
+    z = cc
 
     go : (l : Label) → LabelAt s end l → 1 ≡ caseItems (l ∷ [])
     go (T.case p c) (aCase a e h en f) = refl
@@ -218,10 +201,10 @@ one-case-is {s} {end} {i} {k} ei ek q = record { few = omega arith; by = go }
 
 pub one-case-not : {s : List ℕ} {end i k : ℕ} → i ≡ end - 1 → k ≡ getD s i 0 → (k ≡ 28 → ⊥) → CountsLabel s end 0
 unfolding caseItems
-one-case-not {s} {end} {i} {k} ei ek q = record { few = omega arith; by = go }
+one-case-not {s} {end} ei ek q = record { few = omega arith; by = go }
   where
     go : (l : Label) → LabelAt s end l → 0 ≡ caseItems (l ∷ [])
-    go (T.case p c) (aCase a e h en f) = absurd (q (ek ∙ ap (λ (x : ℕ). getD s x 0) ei ∙ a))
+    go (T.case p c) (aCase a e h en f) = absurd (q (rw (ek, ei, a)))
     go (T.default p) (aDefault a e) = refl
 
 -- ---- DEFAULT among labels, and its command
@@ -247,16 +230,14 @@ module _ (s : List ℕ) (end : ℕ) where
       Left (LabelAt s) s end at (λ rest. (text : List ℕ) (sc : Scope) → hasDefault (labelsOf text sc ls) ≡ hasDefault (labelsOf text sc rest))
 
   pub among-begin : {from : ℕ} (ls : List Label) → Row (LabelAt s) s end from ls → AmongPart from ls
-  among-begin ls r =
-      left-all (λ rest. (text : List ℕ) (sc : Scope) → hasDefault (labelsOf text sc ls) ≡ hasDefault (labelsOf text sc rest)) r (λ text sc. refl)
+  among-begin ls r = left-all r (λ text sc. refl)
 
   module _ {at next k : ℕ} (l : at < end) (n : NextItem s at end next) (f : CountsLabel s next k) where
     pub among-next : (k ≡ 0 → ⊥) → (ls : List Label) → AmongPart at ls → AmongPart next ls
-    among-next z ls p = left-next (λ rest. (text : List ℕ) (sc : Scope) → hasDefault (labelsOf text sc ls) ≡ hasDefault (labelsOf text sc rest)) l n p
-        (λ x xs e q h text sc. h text sc ∙ default-not text sc x xs (λ w. z (f .by x q ∙ w)))
+    among-next z ls p = left-next l n p (λ x xs e q h text sc. h text sc ∙ default-not text sc x xs (λ w. z (f .by x q ∙ w)))
 
     pub among-found : k ≡ 0 → (ls : List Label) → AmongPart at ls → (text : List ℕ) (sc : Scope) → true ≡ hasDefault (labelsOf text sc ls)
-    among-found z ls p text sc = left-next (λ rest. true ≡ hasDefault (labelsOf text sc ls)) l n p
+    among-found z ls p text sc = left-next {Q′ = λ rest. true ≡ hasDefault (labelsOf text sc ls)} l n p
         (λ x xs e q h. sym (h text sc ∙ default-there text sc x xs (sym (f .by x q) ∙ z))) .holds
 
   pub among-end : {at : ℕ} → end ≤ at → (ls : List Label) → AmongPart at ls → (text : List ℕ) (sc : Scope) → false ≡ hasDefault (labelsOf text sc ls)
@@ -269,8 +250,7 @@ module _ (s : List ℕ) (end first done : ℕ) where
       Left (CommandAt s) s end at (λ rest. (text : List ℕ) (sc : Scope) → defaultAmong text sc first done lss ≡ defaultAmong text sc k done rest)
 
   pub default-begin : {from : ℕ} (lss : List (List Label)) → Row (CommandAt s) s end from lss → DefaultPart from first lss
-  default-begin lss r =
-      left-all (λ rest. (text : List ℕ) (sc : Scope) → defaultAmong text sc first done lss ≡ defaultAmong text sc first done rest) r (λ text sc. refl)
+  default-begin lss r = left-all r (λ text sc. refl)
 
   module _ {at next : ℕ} (k : ℕ) {sp : Span} {b : Bool} (l : at < end) (n : NextItem s at end next) (i : Spans s next sp)
       (h : HasDefault s (sp .from) (sp .to) b) where
@@ -278,17 +258,13 @@ module _ (s : List ℕ) (end first done : ℕ) where
         → FindsDefault s from end first done k
     unfolding defaultAmong
     default-found e p = record {
-      by = λ lss r text sc. left-next (λ rest. k ≡ defaultAmong text sc first done lss) l n (p lss r)
-          (λ ls more z q g. sym
-          (g text sc ∙ ap (λ (x : Bool). cond x k (defaultAmong text sc (k + 1) done more)) (sym (h .by ls (i .by ls q) text sc) ∙ e))) .holds;
+      by = λ lss r text sc. left-next {Q′ = λ rest. k ≡ defaultAmong text sc first done lss} l n (p lss r)
+          (λ ls more z q g. sym (cc (g text sc, h .by ls (i .by ls q) text sc))) .holds;
     }
 
     pub default-next : b ≡ false → (lss : List (List Label)) → DefaultPart at k lss → DefaultPart next (k + 1) lss
     unfolding defaultAmong
-    default-next e lss p =
-        left-next (λ rest. (text : List ℕ) (sc : Scope) → defaultAmong text sc first done lss ≡ defaultAmong text sc (k + 1) done rest) l n p
-        (λ ls more z q g text sc. g text sc ∙ ap (λ (x : Bool). cond x k (defaultAmong text sc (k + 1) done more))
-        (sym (h .by ls (i .by ls q) text sc) ∙ e))
+    default-next e lss p = left-next l n p (λ ls more z q g text sc. cc (g text sc, h .by ls (i .by ls q) text sc))
 
   pub default-end : {from at : ℕ} (k : ℕ) → end ≤ at → ((lss : List (List Label)) → Row (CommandAt s) s end from lss → DefaultPart at k lss)
       → FindsDefault s from end first done done
@@ -311,7 +287,7 @@ unfolding lines greatest
 emits-none = record { text = puts-none; high = refl; worst = refl; label = refl }
 
 emits-as : {xs ys : List I.Item} {t t′ : List ℕ} {st r : State} → Emits xs [] t t′ st r → xs ≡ ys → Emits ys [] t t′ st r
-emits-as {t = t} {t′} {st} {r} e q = subst (λ (z : List I.Item). Emits z [] t t′ st r) q e
+emits-as e q = rw q at e
 
 pairs-good : (k : ℕ) (j : Judged) (ls : List CaseLabel) → G.pairsOf k (goodCase j []) ++ G.pairsOf k ls ≡ G.pairsOf k (goodCase j ls)
 unfolding G.pairsOf
@@ -335,8 +311,8 @@ sound-right (T.case p c ∷ ls) ms (L.goodCase v e s) = sound-right ls ms s
 sound-right (T.default p ∷ ls) ms (anyDefault s) = sound-right ls ms s
 
 says-is : {j : Verdict} {x : Judged} {v : ℕ} → Says j x → x ≡ good v → x ≡ good (j .word)
-says-is {x = good w} (fit q) e = refl
-says-is {x = refused fs} (unfit a b w) e = let z : _≡_ {A = ℕ} 0 1 = cc in absurd (omega arith)
+says-is (fit q) e = refl
+says-is (unfit a b w) e = let z : _≡_ {A = ℕ} 0 1 = cc in absurd (omega arith)
 
 module _ (text : List ℕ) {s : List ℕ} {end top : ℕ} (n : Node) (nd : NodeAt s end n) where
   pub pair-not : {k : ℕ} {t : List ℕ} {st : State} → (n .kind ≡ 28 → ⊥) → WritesPair text s end top k t t st st
@@ -351,13 +327,13 @@ module _ (text : List ℕ) {s : List ℕ} {end top : ℕ} (n : Node) (nd : NodeA
   pub pair-is : {k : ℕ} {t t₁ t₂ : List ℕ} {st a r : State} {j : Verdict} → n .kind ≡ 28 → Judges text s (n .inner) top j
       → Emits (G.D (j .word) ∷ []) [] t t₁ st a → Emits (G.DL k ∷ []) [] t₁ t₂ a r → WritesPair text s end top k t t₂ st r
   unfolding labelsOf G.pairsOf
-  pair-is {k} {t} {t₁} {t₂} {st} {a} {r} {j} q g d e = record { still = still-then (emits-still d) (emits-still e); by = go }
+  pair-is {k} {t} {t₁} {t₂} {st} {a} {r} q g d e = record { still = still-then (emits-still d) (emits-still e); by = go }
     where
       go : (sc : Scope) (x : Label) → Shows s top sc → LabelAt s end x → Sound text sc (x ∷ [])
           → Emits (G.pairsOf k (labelsOf text sc (x ∷ []))) [] t t₂ st r
       go sc (T.case p c) sh (aCase {lo = lo} a en h z f) (L.goodCase v w so) =
-          emits-as (emits-then d e) (sym (ap (λ (x : Judged). G.pairsOf k (goodCase x [])) (says-is (g .by sc lo c sh f h (nd .inner ∙ z)) w)))
-      go sc (T.default p) sh (aDefault a en) so = absurd (omega (arith, nd .kind))
+          emits-as (emits-then d e) (sym (rw (says-is (g .by sc lo c sh f h (nd .inner ∙ z)) w)))
+      go sc (T.default p) sh (aDefault a en) so = absurd (omega arith)
 
 module _ (text : List ℕ) {s : List ℕ} {from end top : ℕ} (k : ℕ) (t₀ : List ℕ) (st₀ : State) where
   abbrev pub PairsPart : (y : Listed (LabelAt s) s from end top) (t : List ℕ) (at : ℕ) (st : State) → Type 0
@@ -367,21 +343,14 @@ module _ (text : List ℕ) {s : List ℕ} {from end top : ℕ} (k : ℕ) (t₀ :
       (G.pairsOf k (labelsOf text (y .scope) (y .all))) [] t₀ t′ st₀ st′))
 
   pub pairs-begin : (y : Listed (LabelAt s) s from end top) → Sound text (y .scope) (y .all) → PairsPart y t₀ from st₀
-  pairs-begin y so =
-      left-all (λ rest. Sound text (y .scope) rest
-      × ((t′ : List ℕ) (st′ : State) → Emits (G.pairsOf k (labelsOf text (y .scope) rest)) [] t₀ t′ st₀ st′ → Emits
-      (G.pairsOf k (labelsOf text (y .scope) (y .all))) [] t₀ t′ st₀ st′)) (y .row) (so, λ t′ st′ e. e)
+  pairs-begin y so = left-all (y .row) (so, λ t′ st′ e. e)
 
   pub pairs-next : {at next : ℕ} {t t₁ : List ℕ} {st r : State} → at < end → NextItem s at end next → WritesPair text s next top k t t₁ st r
       → (y : Listed (LabelAt s) s from end top) → PairsPart y t at st → PairsPart y t₁ next r
   pairs-next {at} {next} {t} {t₁} {st} {r} l n w y p = let sc = y .scope in
-      left-next (λ rest. Sound text sc rest
-      × ((t′ : List ℕ) (st′ : State) → Emits (G.pairsOf k (labelsOf text sc rest)) [] t₁ t′ r st′ → Emits (G.pairsOf k (labelsOf text sc (y .all)))
-      [] t₀ t′ st₀ st′)) l n p
-      (λ x xs e q h. (
+      left-next l n p (λ x xs e q h. (
         sound-right (x ∷ []) xs (h .0),
-        λ t′ st′ d. h .1 t′ st′
-            (emits-as (emits-then (w .by sc x (y .shows) q (sound-left (x ∷ []) xs (h .0))) d) (pairs-then text sc k x xs)),
+        λ t′ st′ d. h .1 t′ st′ (emits-as (emits-then (w .by sc x (y .shows) q (sound-left (x ∷ []) xs (h .0))) d) (pairs-then text sc k x xs)),
       ))
 
   pub pairs-end : {at : ℕ} {t : List ℕ} {st : State} → end ≤ at → Still st₀ st
@@ -398,30 +367,23 @@ module _ (text : List ℕ) {s : List ℕ} {from end top : ℕ} (first : ℕ) (t�
       [] t₀ t′ st₀ st′))
 
   pub table-begin : (y : Listed (CommandAt s) s from end top) → Sound text (y .scope) (flat (y .all)) → TablePart y t₀ from first st₀
-  table-begin y so =
-      left-all (λ rest. Sound text (y .scope) (flat rest)
-      × ((t′ : List ℕ) (st′ : State) → Emits (tableAmong text (y .scope) first rest) [] t₀ t′ st₀ st′ → Emits
-      (tableAmong text (y .scope) first (y .all)) [] t₀ t′ st₀ st′)) (y .row) (so, λ t′ st′ e. e)
+  table-begin y so = left-all (y .row) (so, λ t′ st′ e. e)
 
   pub table-next : {at next k : ℕ} {sp : Span} {t t₁ : List ℕ} {st r : State} → at < end → NextItem s at end next → Spans s next sp
       → WritesPairs text s (sp .from) (sp .to) top k t t₁ st r → (y : Listed (CommandAt s) s from end top) → TablePart y t at k st
       → TablePart y t₁ next (k + 1) r
   unfolding flat tableAmong
   table-next {at} {next} {k} {sp} {t} {t₁} {st} {r} l n i w y p = let sc = y .scope in
-      left-next (λ rest. Sound text sc (flat rest)
-      × ((t′ : List ℕ) (st′ : State) → Emits (tableAmong text sc (k + 1) rest) [] t₁ t′ r st′ → Emits (tableAmong text sc first (y .all)) [] t₀ t′
-      st₀ st′)) l n p
-      (λ ls lss e q h. (
+      left-next l n p (λ ls lss e q h. (
         sound-right ls (flat lss) (h .0),
-        λ t′ st′ d. h .1 t′ st′
-            (emits-then (w .by (own-labels i y ls q) (sound-left ls (flat lss) (h .0))) d),
+        λ t′ st′ d. h .1 t′ st′ (emits-then (w .by (own-labels i y ls q) (sound-left ls (flat lss) (h .0))) d),
       ))
 
   pub table-end : {at : ℕ} (k : ℕ) {t : List ℕ} {st : State} → end ≤ at → Still st₀ st
       → ((y : Listed (CommandAt s) s from end top) → Sound text (y .scope) (flat (y .all)) → TablePart y t at k st)
       → WritesAll text s from end top first t₀ t st₀ st
   unfolding tableAmong
-  table-end {at} k {t} {st} l f p = record { still = f; by = λ y so. left-end l (p y so) .1 t st emits-none }
+  table-end k {t} {st} l f p = record { still = f; by = λ y so. left-end l (p y so) .1 t st emits-none }
 
 -- ---- what the code's own definitions say of such labels
 
@@ -479,8 +441,7 @@ sound-all text sc before (T.andCommand c cs) e =
 cases-are : (text : List ℕ) (sc : Scope) (ls : List Label) → Sound text sc ls → casesOf (labelsOf text sc ls) ≡ caseItems ls
 unfolding casesOf labelsOf caseItems
 cases-are text sc [] noLabel = refl
-cases-are text sc (T.case p c ∷ ls) (L.goodCase v e s) =
-    ap (λ (x : Judged). casesOf (goodCase x (labelsOf text sc ls))) e ∙ ap suc (cases-are text sc ls s)
+cases-are text sc (T.case p c ∷ ls) (L.goodCase v e s) = rw (e, cases-are text sc ls s)
 cases-are text sc (T.default p ∷ ls) (anyDefault s) = cases-are text sc ls s
 
 pub count-is : (text : List ℕ) (sc : Scope) (h : ℕ) (cs : Commands) → Sound text sc (flat (marks cs))
@@ -497,16 +458,14 @@ unfolding G.defaultOf caseList marks defaultAmong
 default-is text sc h l done T.noCommands = refl
 default-is text sc h l done (T.andCommand c cs) =
     let a : suc l ≡ l + 1 = omega arith in
-    ap (cond (hasDefault (labelsOf text sc (labelsBefore c))) l)
-    (ap (λ (k : ℕ). G.defaultOf k done (caseList text sc h cs)) a ∙ default-is text sc h (l + 1) done cs)
+    ap (cond (hasDefault (labelsOf text sc (labelsBefore c))) l) (rw (a, default-is text sc h (l + 1) done cs))
 
 pub table-is : (text : List ℕ) (sc : Scope) (h l : ℕ) (cs : Commands) → G.tableOf l (caseList text sc h cs) ≡ tableAmong text sc l (marks cs)
 unfolding G.tableOf caseList marks tableAmong
 table-is text sc h l T.noCommands = refl
 table-is text sc h l (T.andCommand c cs) =
     let a : suc l ≡ l + 1 = omega arith in
-    ap (λ (z : List I.Item). G.pairsOf l (labelsOf text sc (labelsBefore c)) ++ z)
-    (ap (λ (k : ℕ). G.tableOf k (caseList text sc h cs)) a ∙ table-is text sc h (l + 1) cs)
+    rw (a, table-is text sc h (l + 1) cs)
 
 pub table-gave : (text : List ℕ) {s : List ℕ} {from end top first done m d : ℕ} {t t₁ t₂ t₃ t₄ : List ℕ} {st a b c r : State}
     → Emits (G.X 23 ∷ []) [] t t₁ st a → CountsAll s from end m → Emits (G.D m ∷ []) [] t₁ t₂ a b → FindsDefault s from end first done d → Emits
@@ -514,14 +473,10 @@ pub table-gave : (text : List ℕ) {s : List ℕ} {from end top first done m d :
 table-gave text {s} {from} {end} {top} {first} {done} {m} {d} {t} {t₄ = t₄} {st} {r = r} x n e f g w = record {
   worst = k .worst;
   label = k .label;
-  by = λ y h none. let sc = y .scope in let cs = y .commands in let u = list-of y in let so = sound-all text sc [] cs none in
-      let en : m ≡ caseCount (caseList text sc h cs) = n .by (marks cs) (u .row) ∙ sym (count-is text sc h cs so) in
-      let ed : d ≡ G.defaultOf first done (caseList text sc h cs) = f .by (marks cs) (u .row) text sc ∙ sym (default-is text sc h first done cs) in
-      emits-as (emits-then x (emits-then e (emits-then g (w .by u so))))
-      (ap (λ (i : ℕ). G.X 23 ∷ G.D i ∷ G.DL d ∷ tableAmong text sc first (marks cs)) en ∙ ap
-      (λ (i : ℕ). G.X 23 ∷ G.D (caseCount (caseList text sc h cs)) ∷ G.DL i ∷ tableAmong text sc first (marks cs)) ed
-      ∙ ap (λ (z : List I.Item). G.X 23 ∷ G.D (caseCount (caseList text sc h cs)) ∷ G.DL (G.defaultOf first done (caseList text sc h cs)) ∷ z)
-      (sym (table-is text sc h first cs)));
+  by = λ y h none. let sc = y .scope in let cs = y .commands in let u = list-of y in let so = sound-all text sc [] cs none in let en : m ≡ caseCount
+      (caseList text sc h cs) = n .by (marks cs) (u .row) ∙ sym (count-is text sc h cs so) in let ed : d ≡ G.defaultOf first done
+      (caseList text sc h cs) = f .by (marks cs) (u .row) text sc ∙ sym (default-is text sc h first done cs) in
+      emits-as (emits-then x (emits-then e (emits-then g (w .by u so)))) (rw (en, ed, table-is text sc h first cs));
 }
   where
     k : Still st r

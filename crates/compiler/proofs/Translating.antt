@@ -1,26 +1,18 @@
 -- From the readers' answers to the refusals of the source, and to what the walk of the tree asks.
-use Prim.Native.Nat.{ℕ, _+_, _*_, _-_, _≤_, _^_}
-use mathlib.Core.Path.{_≡_, refl, sym, ap, subst, _∙_}
-use mathlib.Core.Bool.{Bool, true, false}
-use mathlib.Core.List.{List, _++_}
-use native.Mathlib.Omega.{arith}
-use lib.ListN.{length, replicate, take, drop, length-append}
-use lib.Seq.{take-at, drop-at, length-take-le}
-use borrow.Author.Tests.{le-ltb, ltb-false}
+use Rattle.compiler.proofs.Basics.{ℕ, _+_, _*_, _-_, _≤_, _^_, _≡_, refl, sym, ap, subst, _∙_, Bool, true, false, List, _++_, arith, length}
+use Rattle.compiler.proofs.Basics.{replicate, take, drop, length-append, take-at, drop-at, length-take-le, le-ltb, ltb-false}
 use Rattle.text.specs.declared.Refusal.{Refusal}
 use Rattle.text.specs.Line.{refusal}
 use Rattle.language.specs.Symbols.{Symbol}
 use Rattle.language.specs.Source.{Symbols, good, faulty, symbolsOf, parsed, readSymbols, readSource, tooLong, scratchTooShort}
 use Rattle.language.specs.Reader.{Source, Out, ok, no, placeAt}
 use Rattle.language.specs.Grammar.{treeOf}
-use Rattle.language.specs.Tree.{Program}
+use Rattle.compiler.proofs.Language.{Program, encodeProgram}
 use Rattle.language.specs.Program.{Refused, refused, rulesRefuse}
 use Rattle.language.specs.Whole.{refusalOf, refusalIn, onRead, unlessFits}
-use Rattle.symbols.specs.Read as Y
 use Rattle.symbols.specs.Read.{Reads, symbolsRead, outcome, entries}
 use Rattle.symbols.specs.declared.SymbolsRead.{SymbolsRead}
 use Rattle.symbols.specs.declared.SymbolsRead.the-variants as YA
-use Rattle.tree.specs.Encoding.{encodeProgram}
 use Rattle.tree.specs.Read as R
 use Rattle.tree.specs.Read.{ReadsTree, treeRead, treeLeft, leftBy, padded, decoded, sourceIn, tooShort, Within}
 use Rattle.tree.specs.declared.TreeRead.{TreeRead}
@@ -51,8 +43,7 @@ decided-alike {source} {s} {s′} {t} {t′} x e z =
 
 pub with-scratch : {source s s₀ s′ t t′ : List ℕ} {a : Compiled} → length s ≡ length s₀ → Translates source s s′ t t′ a
     → Translates source s₀ s′ t t′ a
-with-scratch {source} {s} {s₀} {s′} {t} e x =
-    decided-alike x (ap (λ (n : ℕ). decided source n (length t)) e) (x .clears ∙ ap (λ (n : ℕ). replicate n 0) e)
+with-scratch e x = decided-alike x (rw e) (rw (x .clears, e))
 
 module _ {source s s′ t t′ : List ℕ} {w : Refusal} {b : Bool} (e : b ≡ tooLong source) (z : s′ ≡ take 0 s ++ replicate (length s - 0) 0) where
   pub too-long : b ≡ true → w ≡ refusal source 1 0 → Translates source s s′ t t′ (C.Refused w)
@@ -67,8 +58,7 @@ module _ {source s s′ t t′ : List ℕ} {w : Refusal} {b : Bool} (e : b ≡ t
 enough-scratch : {source : List ℕ} {n m : ℕ} → Lent source n → n ≤ m → (room : ℕ)
     → decided source m room ≡ unlessFits (length (textOf source)) room (onRead source (parsed source))
 unfolding decided refusalIn refusalOf readSource tooLong scratchTooShort
-enough-scratch {source} {n} {m} l h room =
-    rw (le-ltb 16384 (length source) (l .short), le-ltb m (8 * length source + 64) (omega (arith, l .asked))) refl
+enough-scratch {source} {n} {m} l h room = rw (le-ltb 16384 (length source) (l .short), le-ltb m (8 * length source + 64) (omega arith)) refl
 
 module _ {source : List ℕ} {scratch : ℕ} (l : Lent source scratch) (room : ℕ) where
   by-parsed : decided source scratch room ≡ unlessFits (length (textOf source)) room (onRead source (parsed source))
@@ -99,15 +89,14 @@ module _ {source s s′ : List ℕ} {a : SymbolsRead} (short : length source ≤
   both-ways = rw (le-ltb 16384 (length source) short, le-ltb (length s) (length source * 3) room) refl
 
   symbols-told : a ≡ outcome (length s) (symbolsOf source) .answer
-  symbols-told = r .answers ∙ ap (λ (o : Y.Outcome). o .answer) both-ways
+  symbols-told = rw (r .answers, both-ways)
 
   pub symbols-left : (x : Symbols) → symbolsOf source ≡ x → s′ ≡ outcome (length s) x .scratch
-  symbols-left x e =
-      r .leaves ∙ (ap (λ (o : Y.Outcome). o .scratch) both-ways ∙ ap (λ (z : Symbols). outcome (length s) z .scratch) e)
+  symbols-left x e = r .leaves ∙ (rw (both-ways, e))
 
 module _ {source s s′ : List ℕ} {a : SymbolsRead} (l : Lent source (length s)) (r : Reads source s a s′) where
   room : length source * 3 ≤ length s
-  room = omega (arith, l .asked)
+  room = omega arith
 
   answer-is : a ≡ outcome (length s) (symbolsOf source) .answer
   answer-is = symbols-told (l .short) room r
@@ -124,7 +113,7 @@ module _ {source s s′ : List ℕ} {a : SymbolsRead} (l : Lent source (length s
 
   pub symbols-answer : {number place : ℕ} {t t′ : List ℕ} {w : Refusal} → a ≡ YA.Refused number place → w ≡ refusal source number place
       → Translates source s s′ t t′ (C.Refused w)
-  symbols-answer {number} {place} {t} {t′} e q =
+  symbols-answer {number} {place} {t} e q =
       let k : symbolsOf source ≡ faulty number place = go (symbolsOf source) (sym e ∙ answer-is) in
       refusing q (symbols-refused l (length t) number place k) (symbols-left (l .short) room r (faulty number place) k)
     where
@@ -159,16 +148,16 @@ module _ {source s : List ℕ} {count : ℕ} (y : ReadySymbols source s count) w
   ss = entries (y .symbols)
 
   few : count ≤ length source
-  few = omega (arith, few-good source (y .symbols) (y .reads), y .counts)
+  few = omega (arith, few-good source (y .symbols) (y .reads))
 
   pub tree-room : most ≤ length s
-  tree-room = omega (arith, few, y .lent .asked)
+  tree-room = omega (arith, few)
 
   pub symbols-room : {n : ℕ} → n ≡ length s → count * 3 ≤ n
   symbols-room e = omega (arith, tree-room)
 
   size : length ss ≡ count * 3
-  size = omega (arith, entries-size (y .symbols), y .counts)
+  size = omega (arith, entries-size (y .symbols))
 
   long : length (padded most ss) ≡ most
   long = padded-long ss most (omega (arith, size))
@@ -185,14 +174,13 @@ module _ {source s : List ℕ} {count : ℕ} (y : ReadySymbols source s count) w
   fits : tooShort (length (take most s)) count ≡ false
   unfolding tooShort
   fits =
-      let small : most ≤ 2 ^ 32 - 1 = omega (arith, few, y .lent .short) in
+      let small : most ≤ 2 ^ 32 - 1 = omega (arith, few) in
       rw (length-take-le most s tree-room, le-ltb most most (omega arith), le-ltb (2 ^ 32 - 1) most small) refl
 
   source-is : sourceIn (take most s) count (length source) ≡ src
   unfolding sourceIn
   source-is =
-      ap (λ (z : List Symbol). record { symbols = z; size = length source })
-      (ap (λ (n : ℕ). decoded n (take most s)) (y .counts)
+      ap (λ (z : List Symbol). record { symbols = z; size = length source }) (ap (λ (n : ℕ). decoded n (take most s)) (y .counts)
       ∙ (ap (decoded (length (y .symbols))) lent-is ∙ decoded-entries (y .symbols) (replicate (most - length ss) 0)))
 
   symbols-first : take (count * 3) (take most s) ≡ ss
@@ -213,9 +201,8 @@ module _ {source s : List ℕ} {count : ℕ} (y : ReadySymbols source s count) w
     -- the zeros behind what is lent go on
     whole : (w : List ℕ) → length w ≤ most → front ≡ padded (length (take most s)) w → s′ ≡ padded (length s) w
     whole w h e =
-        let f : front ≡ padded most w = e ∙ ap (λ (n : ℕ). padded n w) (length-take-le most s tree-room) in
-        ap (λ (z : List ℕ). front ++ z) rest-is
-        ∙ (ap (λ (z : List ℕ). z ++ replicate (length s - most) 0) f ∙ sym (padded-on w most h (length s) tree-room))
+        let f : front ≡ padded most w = rw (e, length-take-le most s tree-room) in
+        rw (rest-is, f, padded-on w most h (length s) tree-room)
 
     as-long : (w : List ℕ) → length w ≤ most → s′ ≡ padded (length s) w → length s′ ≡ length s
     as-long w h e = ap length e ∙ padded-long w (length s) (omega (arith, tree-room))
@@ -228,8 +215,7 @@ module _ {source s : List ℕ} {count : ℕ} (y : ReadySymbols source s count) w
         go (ok p next) q w z =
             let k : end ≡ count * 3 + length (encodeProgram p) = cc in let within : end ≤ count * 8 = subst (Within (count * 8)) e (r .room) in
             let all : List ℕ = ss ++ encodeProgram p in let few : length all ≤ most = omega (arith, length-append ss (encodeProgram p), size) in
-            let stand = whole all few (z ∙ ap (λ (x : List ℕ). padded (length (take most s)) (x ++ encodeProgram p)) symbols-first) in
-            let same = as-long all few stand in
+            let stand = whole all few (rw (z, symbols-first)) in let same = as-long all few stand in
             record {
               lent = lent-still (y .lent) same;
               symbols = y .symbols;
@@ -238,7 +224,7 @@ module _ {source s : List ℕ} {count : ℕ} (y : ReadySymbols source s count) w
               reads = y .reads;
               parses = q;
               counts = y .counts;
-              stand = stand ∙ ap (λ (n : ℕ). padded n all) (sym same);
+              stand = cc;
               ends = k;
               room = within;
             }
@@ -254,11 +240,11 @@ module _ {source s : List ℕ} {count : ℕ} (y : ReadySymbols source s count) w
             → Translates source s (z ++ drop (count * 3) s′) t t′ (C.Refused w)
         go (ok p next) k v l = let k : _≡_ {A = ℕ} 0 1 = cc in absurd (omega arith)
         go (no m at) k v l =
-            let i : m ≡ number = cc in let j : placeAt src at ≡ place = cc in let few : length ss ≤ most = omega (arith, size) in
-            let stand = whole ss few (l ∙ ap (padded (length (take most s))) symbols-first) in let same = as-long ss few stand in
-            let clean : Clean (count * 3) s′ = padded-clean ss (length s) stand (omega (arith, size)) in
+            let i : m ≡ number = cc in let j : placeAt src at ≡ place = cc in let few : length ss ≤ most = omega (arith, size) in let stand = whole ss
+            few (l ∙ ap (padded (length (take most s))) symbols-first) in let same = as-long ss few stand in let clean : Clean (count * 3) s′
+            = padded-clean ss (length s) stand (omega (arith, size)) in
             refusing q (tree-refused (y .lent) (length t) (y .symbols) m at (y .reads) k ∙ rw (i, j) refl)
-            (clean-all clean (symbols-room same) c ∙ ap (λ (n : ℕ). replicate n 0) same)
+            (rw (clean-all clean (symbols-room same) c, same))
 
     pub never-unfit : a ≡ RA.TooShort → ⊥
     never-unfit e = go (treeOf src) (sym e ∙ answer-by)
@@ -287,12 +273,12 @@ module _ {source s : List ℕ} (v : Serves source s) where
   front-lent = record { short = v .short; asked = omega (arith, front-long) }
 
   pub front-inside : {k : ℕ} → k ≡ length s → asked source ≤ k
-  front-inside e = omega (arith, v .long)
+  front-inside e = omega arith
 
   -- more scratch than is asked for makes no other answer, and is cleared
   pub more-scratch : {s′ front t t′ : List ℕ} {a : Compiled} → Translates source (take (asked source) s) front t t′ a
       → s′ ≡ take (asked source) (front ++ drop (asked source) s) ++ replicate (length (front ++ drop (asked source) s) - asked source) 0
       → Translates source s s′ t t′ a
   more-scratch {s′} {front} {t} x c =
-      let enough = enough-scratch {m = length s} front-lent (omega (arith, front-long, v .long)) (length t) in
+      let enough = enough-scratch {m = length s} front-lent (omega (arith, front-long)) (length t) in
       decided-alike x (by-parsed front-lent (length t) ∙ sym enough) (zeros-behind s front (asked source) front-long (v .long) (x .clears) c)

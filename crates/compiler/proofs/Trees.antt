@@ -1,20 +1,10 @@
 -- What stands in scratch: a node by its kind, and its parts.
-use Prim.Native.Nat.{ℕ, _+_, _-_, _≤_, _<_}
-use mathlib.Core.Path.{_≡_, refl, sym, ap, subst, _∙_}
-use mathlib.Core.Bool.{Bool, true, false}
-use mathlib.Core.List.{List, [], _∷_, _++_}
-use native.Mathlib.Omega.{arith}
-use lib.ListN.{length, getD, length-append, List·getD-append}
-use lib.Seq.{getD-append-add}
+use Rattle.compiler.proofs.Basics.{ℕ, _+_, _-_, _≤_, _<_, _≡_, refl, sym, ap, subst, _∙_, Bool, true, false, List, [], _∷_, _++_, arith}
+use Rattle.compiler.proofs.Basics.{length, getD, length-append, List·getD-append, getD-append-add}
 use Rattle.language.specs.Tree as T
 use Rattle.language.specs.Tree.{Name, Expression, Suffixes, Operations, Command, placeOf, endsInCall}
 use Rattle.tree.specs.Encoding.{closed, encode, encodeName, encodeSuffixes, encodeOperations, encodeCommand, suffixedKind}
-use Rattle.compiler.specs.Scope.{Keeps}
-use Rattle.compiler.specs.declared.steps.State.{State}
-use Rattle.compiler.specs.declared.steps.Here.{Here}
-use Rattle.compiler.specs.declared.steps.Node.{Node}
-use Rattle.compiler.specs.Walked.{NodeAt}
-use Rattle.compiler.specs.Walks.{Lies, ReadyE}
+use Rattle.compiler.proofs.Vocabulary.{Keeps, State, Here, Node, NodeAt, Lies, ReadyE}
 
 pub first : {s : List ℕ} {lo : ℕ} (x y : List ℕ) → Lies s lo (x ++ y) → Lies s lo x
 first x y h = record { at = λ i l. h .at i (omega (arith, length-append x y)) ∙ List·getD-append x y 0 i l }
@@ -40,7 +30,7 @@ module _ {s : List ℕ} {lo end : ℕ} (w : List ℕ) (v p k : ℕ) (h : Lies s 
   four = second w (length w ∷ v ∷ p ∷ k ∷ []) (end - 4) h (omega (arith, ends))
 
   field : (i j : ℕ) → j ≡ end - 4 + i → i < 4 → getD s j 0 ≡ getD (length w ∷ v ∷ p ∷ k ∷ []) i 0
-  field i j q l = ap (λ (n : ℕ). getD s n 0) q ∙ four .at i l
+  field i j q l = rw (q, four .at i l)
 
   pub size-is : getD s (end - 4) 0 ≡ length w
   size-is = field 0 (end - 4) (omega arith) (omega arith)
@@ -74,7 +64,7 @@ pub data Case (s : List ℕ) (lo end : ℕ) : ℕ → Expression → Type 0 wher
 
 module _ {s : List ℕ} {lo end : ℕ} where
   so : {k : ℕ} {e : Expression} → getD s (end - 1) 0 ≡ k → Case s lo end k e → Case s lo end (getD s (end - 1) 0) e
-  so {e = e} q c = subst (λ (n : ℕ). Case s lo end n e) (sym q) c
+  so q c = rw q c
 
   suffixedCase : {e : Expression} {ss : Suffixes} (b : Bool) → Lies s lo (encode e ++ encodeSuffixes ss)
       → getD s (end - 4) 0 ≡ length (encode e ++ encodeSuffixes ss) → getD s (end - 3) 0 ≡ length (encode e)
@@ -166,7 +156,7 @@ is-two one enc Is {lo = lo} x xs h z v q = record {
   lies-list = second (one x) (enc xs) (lo + length (one x)) h refl;
   value-of = v;
   size-of = z ∙ length-append (one x) (enc xs);
-  ends = omega (arith, q, length-append (one x) (enc xs));
+  ends = omega (arith, length-append (one x) (enc xs));
 }
 
 pub is-dyadic : {s : List ℕ} {lo end : ℕ} {e : Expression} → Case s lo end 131 e → IsTwo encode encodeOperations T.dyadic s lo end e

@@ -1,14 +1,11 @@
 -- An assignment: two lists, walked at once.
-use Prim.Native.Nat.{ℕ, max, _+_, _*_, _-_, _≤_, _<_, _^_}
+use Prim.Native.Nat.{ℕ, max, _+_}
 use mathlib.Core.Path.{_≡_}
-use mathlib.Core.List.{List, [], _∷_, _++_}
-use lib.ListN.{length, getD}
+use mathlib.Core.List.{List, _++_}
+use lib.ListN.{length}
 use Rattle.language.specs.Tree as T
-use Rattle.language.specs.Tree.{Expressions, placeOf}
+use Rattle.language.specs.Tree.{Expressions}
 use Rattle.language.proofs.Depth.{expressionsDepth}
-use Rattle.language.specs.Names.{Scope}
-use Rattle.language.specs.Constants.{Fault}
-use Rattle.language.specs.Resolved.{Pairs}
 use Rattle.language.specs.Resolve.{sides, pairUp}
 use Rattle.language.specs.Faults.{inSides, inRightSides}
 use Rattle.tree.specs.Encoding.{encodeSides, encodeFirst, encodeExpressions}
@@ -16,7 +13,7 @@ use Rattle.compiler.specs.declared.steps.State.{State}
 use Rattle.compiler.specs.declared.steps.Here.{Here}
 use Rattle.compiler.specs.Fine.{FineEs}
 use Rattle.compiler.specs.Walked.{leavable}
-use Rattle.compiler.specs.Walks.{Lies, Ready, Result}
+use Rattle.compiler.specs.Walks.{Ready, Result}
 use Rattle.compiler.specs.Commands.{pairsSays}
 
 pub record Both : Type 0 where

@@ -1,34 +1,32 @@
 -- What the functions of the walk for commands, sides and declarations ask and ensure.
-use Prim.Native.Nat.{ℕ, suc, max, _+_, _*_, _-_, _≤_, _<_, _^_}
+use Prim.Native.Nat.{ℕ, max, _+_, _*_, _-_, _≤_, _<_, _^_}
 use mathlib.Core.Path.{_≡_}
-use mathlib.Core.Bool.{Bool, true, false, cond}
+use mathlib.Core.Bool.{cond}
 use mathlib.Core.List.{List, [], _∷_, _++_}
 use lib.ListN.{length, getD}
 use lib.Dec.{eqb}
-use Rattle.items.specs.Item as I
 use Rattle.language.specs.Kinds.{AT, WHILE, UNTIL, REPEATWHILE}
 use Rattle.language.specs.Tree as T
-use Rattle.language.specs.Tree.{Name, Constant, Label, Expression, Expressions, Command, Commands, Unlabelled, Repeats, Function, Program, placeOf}
-use Rattle.language.proofs.Depth.{depth, expressionsDepth, commandDepth, commandsDepth, unlabelledDepth, repeatsDepth, localsDepth, bodyDepth}
+use Rattle.language.specs.Tree.{Name, Expression, Commands, Unlabelled, Repeats, placeOf}
+use Rattle.language.proofs.Depth.{depth, commandDepth, commandsDepth, unlabelledDepth, repeatsDepth}
 use Rattle.language.specs.Names as N
-use Rattle.language.specs.Names.{Scope, opened, declared}
-use Rattle.language.specs.Constants.{Fault, fault, Judged, judge, judgedWord, faultsOf}
-use Rattle.language.specs.Resolved as R
-use Rattle.language.specs.Resolved.{Expr, Target, Pairs, Cmd, Cmds, Cases, Locals, Body}
-use Rattle.language.specs.Resolve.{leaving, expression, command, unlabelled, repeats, commands, caseList, locals, sides, pairUp, sideOf, targetOf, addressOf, ofMeaning, resolvedMonadic, declareAll, scopeAfter, heightAfter}
-use Rattle.language.specs.Heights.{ofExpr, ofTarget, ofPairs, ofCmd, ofCmds, ofCases, ofLocals}
+use Rattle.language.specs.Names.{Scope}
+use Rattle.language.specs.Constants.{Fault, fault}
+use Rattle.language.specs.Resolved.{Expr, Target, Pairs, Cmd, Cmds, Cases}
+use Rattle.language.specs.Resolve.{leaving, expression, command, unlabelled, repeats, commands, caseList, sideOf, targetOf, addressOf, ofMeaning, resolvedMonadic, declareAll}
+use Rattle.language.specs.Heights.{ofExpr, ofTarget, ofPairs, ofCmd, ofCmds, ofCases}
 use Rattle.code.specs.Generate as G
-use Rattle.language.specs.Faults.{Leavable, unless, leaves, inExpression, inSides, inRightSides, inCommand, inCase, inUnlabelled, inRepeats, inCommands, inCases, inLocals, misplaced, twice, repeated, unlessSide, doubled}
+use Rattle.language.specs.Faults.{Leavable, unless, leaves, inExpression, inCommand, inCase, inUnlabelled, inRepeats, inCommands, twice, repeated, unlessSide}
 use Rattle.tree.specs.Encoding as O
-use Rattle.tree.specs.Encoding.{encode, encodeExpressions, encodeSides, encodeCommand, encodeCommands, encodeUnlabelled, encodeRepeats, encodeLocals, encodeLabels, encodeNames, encodeConstant, encodeBody}
-use Rattle.compiler.specs.Scope.{Shows, Keeps, code, found, nameAt}
+use Rattle.tree.specs.Encoding.{encode, encodeCommand, encodeCommands, encodeUnlabelled, encodeRepeats, encodeNames}
+use Rattle.compiler.specs.Scope.{Shows, Keeps, found}
 use Rattle.compiler.specs.declared.steps.State.{State}
 use Rattle.compiler.specs.declared.steps.Here.{Here}
 use Rattle.compiler.specs.declared.steps.Ways.{Ways}
 use Rattle.compiler.specs.Walked.{raised, leavable, leavableBy, exits, Did, Emits, Code}
 use Rattle.compiler.specs.Repeats.{conditions, formsSays}
 use Rattle.language.specs.Fine.{FineNames}
-use Rattle.compiler.specs.Fine.{FineE, FineEs, FineC, FineCs, FinePlain, FineRs, FineLs}
+use Rattle.compiler.specs.Fine.{FineE, FineC, FineCs, FinePlain, FineRs}
 use Rattle.compiler.specs.Walks.{Lies, Ready, Result, Gave}
 
 -- ---- what is written

@@ -1,19 +1,17 @@
 -- Functions: the names of a group, the globals in which they start, and each function's code.
-use Prim.Native.Nat.{ℕ, zero, suc, max, _+_, _*_, _≤_, _<_, _^_}
+use Prim.Native.Nat.{ℕ, suc, _+_, _*_, _≤_, _<_, _^_}
 use mathlib.Core.Path.{_≡_}
-use mathlib.Core.Bool.{Bool, true, false, not, cond}
+use mathlib.Core.Bool.{true, false, not}
 use mathlib.Core.List.{List, [], _∷_, _++_}
 use lib.ListN.{length, getD, set}
 use lib.Dec.{eqb}
 use Rattle.items.specs.Item as I
 use Rattle.language.specs.Kinds as K
 use Rattle.language.specs.Tree as T
-use Rattle.language.specs.Tree.{Name, Item, Function, Declaration, Program}
+use Rattle.language.specs.Tree.{Name, Function, Program}
 use Rattle.language.proofs.Depth.{bodyDepth, functionsDepth}
 use Rattle.language.specs.Names as N
 use Rattle.language.specs.Names.{Scope, lookup}
-use Rattle.language.specs.Constants.{Fault, fault}
-use Rattle.language.specs.Resolved as R
 use Rattle.language.specs.Resolved.{Start, nowhere, inGlobal, Fun}
 use Rattle.language.specs.Heights.{heightsOf, ofBody}
 use Rattle.code.specs.Generate as G
@@ -21,15 +19,14 @@ use Rattle.language.specs.Program.{among}
 use Rattle.tree.specs.Encoding.{closed, encodeName, encodeNames, encodeBody, bodyWord, encodeFunctions, encodeProgram}
 use Rattle.compiler.specs.Scope.{Shows, Keeps, found, nameAt}
 use Rattle.language.specs.Fine.{FineBody, FineFunction, FineFunctions, FineProgram}
-use Rattle.compiler.specs.Fine.{STRINGS, FineE, FineC}
+use Rattle.compiler.specs.Fine.{STRINGS}
 use Rattle.compiler.specs.Walks.{Lies, Ready, Gave, Result}
 use Rattle.compiler.specs.Walked.{Did, Code, least, AllFit}
 use Rattle.compiler.specs.Commands.{nothing}
 use Rattle.compiler.specs.declared.steps.State.{State}
 use Rattle.compiler.specs.declared.steps.Here.{Here}
 use Rattle.language.specs.Whole.{funs}
-use Rattle.language.specs.Program as P
-use Rattle.language.specs.Program.{Named, bodyOf, bodyFaults, startOf, withFunction, functionsAfter, takenAfter, groupNameFaults, groupFaults, functionFaults, resolved, groupOf, heightFaults, nameFault, Walk, afterDeclaration, faultsFrom, functionsFrom, alsoTaken}
+use Rattle.language.specs.Program.{Named, bodyOf, bodyFaults, startOf, withFunction, functionsAfter, takenAfter, groupNameFaults, groupFaults, functionFaults, resolved, groupOf, heightFaults, nameFault, alsoTaken}
 use Rattle.compiler.specs.declared.outer.Known.{Known}
 use Rattle.compiler.specs.declared.program.Done.{Done}
 

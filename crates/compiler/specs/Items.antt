@@ -1,14 +1,14 @@
 -- GLOBAL and MANIFEST: items known one after another. One loop serves both: `g` says whether they are globals.
 use Prim.Native.Nat.{ℕ, _+_, _*_, _≤_, _<_, _^_}
 use mathlib.Core.Path.{_≡_}
-use mathlib.Core.Bool.{Bool, true, false, cond}
-use mathlib.Core.List.{List, [], _∷_, _++_}
+use mathlib.Core.Bool.{Bool, cond}
+use mathlib.Core.List.{List}
 use lib.ListN.{length}
 use Rattle.language.specs.Tree as T
-use Rattle.language.specs.Tree.{Name, Item}
+use Rattle.language.specs.Tree.{Item}
 use Rattle.language.specs.Names as N
-use Rattle.language.specs.Names.{Scope, declared, inBlock, onFound}
-use Rattle.language.specs.Constants.{Fault, fault, Judged, judge, forGlobal, judgedWord, faultsOf}
+use Rattle.language.specs.Names.{Scope}
+use Rattle.language.specs.Constants.{Fault, Judged, judge, forGlobal}
 use Rattle.tree.specs.Encoding.{encodeConstant, encodeItems}
 use Rattle.compiler.specs.Scope.{Shows, Keeps}
 use Rattle.compiler.specs.Walks.{Lies}

@@ -1,17 +1,16 @@
 -- Constants and declarations of locals.
-use Prim.Native.Nat.{ℕ, max, _+_, _*_, _-_, _≤_, _<_, _^_}
+use Prim.Native.Nat.{ℕ, _+_, _*_, _-_, _≤_, _<_, _^_}
 use mathlib.Core.Path.{_≡_}
-use mathlib.Core.Bool.{Bool, true, false, cond}
+use mathlib.Core.Bool.{Bool}
 use mathlib.Core.List.{List, [], _∷_, _++_}
 use lib.ListN.{length, getD}
-use lib.Dec.{eqb, leb}
-use Rattle.items.specs.Item as I
+use lib.Dec.{leb}
 use Rattle.language.specs.Tree as T
 use Rattle.language.specs.Tree.{Name, Constant, Expressions}
 use Rattle.language.proofs.Depth.{expressionsDepth, localsDepth}
 use Rattle.language.specs.Names as N
 use Rattle.language.specs.Names.{Scope, declared}
-use Rattle.language.specs.Constants.{Fault, fault, Judged, good, refused, judge, within, forVector, judgedWord, faultsOf, signed, ofFound}
+use Rattle.language.specs.Constants.{Fault, fault, Judged, good, refused, judge, within, forVector, judgedWord, faultsOf, ofFound}
 use Rattle.language.specs.Resolved as R
 use Rattle.language.specs.Resolve.{expressions, locals, declareAll, scopeAfter, heightAfter}
 use Rattle.language.specs.Heights.{ofExprs, ofLocals}

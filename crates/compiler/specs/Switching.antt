@@ -1,5 +1,5 @@
 -- Labels and constants of commands: what is refused in them, and the words after a SWITCHON's X23.
-use Prim.Native.Nat.{ℕ, _+_, _*_, _≤_, _<_, _^_}
+use Prim.Native.Nat.{ℕ, _+_, _≤_, _<_, _^_}
 use mathlib.Core.Path.{_≡_}
 use mathlib.Core.List.{List, [], _∷_, _++_}
 use mathlib.Core.Option.{Option, none, some}
@@ -9,7 +9,6 @@ use Rattle.language.specs.Tree as T
 use Rattle.language.specs.Tree.{Constant, Label, Commands}
 use Rattle.language.specs.Names.{Scope}
 use Rattle.language.specs.Constants.{Fault, Judged, good, forBy}
-use Rattle.language.specs.Resolved as R
 use Rattle.language.specs.Resolved.{Cases, caseCount}
 use Rattle.language.specs.Resolve.{labelsBefore, caseList}
 use Rattle.language.specs.Faults.{doubled, misplaced}

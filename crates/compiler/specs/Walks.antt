@@ -1,5 +1,5 @@
 -- What the functions of the walk ask and ensure.
-use Prim.Native.Nat.{ℕ, suc, max, _+_, _*_, _-_, _≤_, _<_, _^_}
+use Prim.Native.Nat.{ℕ, suc, max, _+_, _*_, _≤_, _<_, _^_}
 use mathlib.Core.Path.{_≡_}
 use mathlib.Core.List.{List, [], _∷_, _++_}
 use lib.ListN.{length, getD}
@@ -8,8 +8,7 @@ use Rattle.language.specs.Tree.{Expression, Expressions, Suffixes, Operations}
 use Rattle.language.proofs.Depth.{depth, expressionsDepth, suffixesDepth, operationsDepth}
 use Rattle.language.specs.Names.{Scope}
 use Rattle.language.specs.Constants.{Fault}
-use Rattle.language.specs.Resolved.{Expr}
-use Rattle.language.specs.Resolve.{expression, expressions, suffixes, operations, under}
+use Rattle.language.specs.Resolve.{expression, expressions, suffixes, under}
 use Rattle.items.specs.Item as I
 use Rattle.language.specs.Heights.{ofExpr, ofExprs}
 use Rattle.code.specs.Generate.{exprCode, exprsCode, exprLabels, exprsLabels, SP, LIP, AIP, X, dyadicAct}

@@ -1,13 +1,9 @@
-use mathlib.Core.Path.{sym}
-use native.Mathlib.Omega.{arith}
-use lib.Seq.{length-take-le}
+use Rattle.compiler.proofs.Basics.{sym, arith, length-take-le, needs}
 use Rattle.compiler.proofs.Answering.{no-strings, strings-gave}
-use borrow.Author.Needs.{needs}
 use Rattle.compiler.proofs.all_strings.Statement.{statement}
 use Rattle.compiler.proofs.all_strings.Tie as tie
 
 pub all-strings-spec : {M : Type 1} → statement M
 all-strings-spec =
-    tie.close (tie.spec (λ c. search no-strings)
-    (search needs) (λ c. omega arith) (λ c. sym (length-take-le _ _ (omega arith)))
+    tie.close (tie.spec (λ c. search no-strings) (search needs) (λ c. omega arith) (λ c. sym (length-take-le _ _ (omega arith)))
     (search needs) (search needs) (search needs) (search needs) (λ c. search strings-gave))

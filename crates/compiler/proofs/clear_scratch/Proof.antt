@@ -1,8 +1,4 @@
-use Prim.Native.Nat.{_-_, _≤_}
-use mathlib.Core.Path.{_≡_}
-use native.Mathlib.Omega.{arith}
-use lib.ListN.{length}
-use borrow.Author.Needs.{needs}
+use Rattle.compiler.proofs.Basics.{_-_, _≤_, _≡_, arith, length, needs}
 use Rattle.compiler.proofs.Clearing.{cleared, clear-start, clear-more, clear-all}
 use Rattle.compiler.proofs.clear_scratch.Statement.{statement}
 use Rattle.compiler.proofs.clear_scratch.Tie as tie

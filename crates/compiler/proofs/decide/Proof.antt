@@ -1,7 +1,6 @@
-use mathlib.Core.Path.{ap, _∙_}
+use Rattle.compiler.proofs.Basics.{ap, _∙_, needs}
 use Rattle.compiler.specs.declared.Compiled.the-variants as C
 use Rattle.compiler.proofs.Deciding.{by-worst, by-tall, by-none, by-past, by-end}
-use borrow.Author.Needs.{needs}
 use Rattle.compiler.proofs.decide.Statement.{statement}
 use Rattle.compiler.proofs.decide.Tie as tie
 

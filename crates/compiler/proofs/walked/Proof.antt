@@ -1,8 +1,5 @@
-use mathlib.Core.Path.{sym, _∙_}
-use native.Mathlib.Omega.{arith}
-use lib.Seq.{length-take-le}
+use Rattle.compiler.proofs.Basics.{_+_, _≤_, sym, _∙_, arith, length-take-le, needs}
 use Rattle.compiler.proofs.Answering.{end-inside, few-symbols, few-labels, ready-behind, ready-program, translates}
-use borrow.Author.Needs.{needs}
 use Rattle.compiler.proofs.walked.Statement.{statement}
 use Rattle.compiler.proofs.walked.Tie as tie
 
@@ -12,23 +9,9 @@ function-count-requires c κs = omega (arith, few-symbols (c .before .before .be
 string-count-requires : tie.Need-string-count-requires
 string-count-requires c κs = omega (arith, few-symbols (c .before .before .before .before .before .before .pre))
 
-add-decide : tie.Need-add-decide
-add-decide c =
-    let s = c .before .before .before .before .before in
-    let f = s .before .before in
-    omega (arith, few-labels (f .before .before .before .before .before .pre) (f .function-count .ensures) (s .string-count .ensures))
-
-add-decide-2 : tie.Need-add-decide-2
-add-decide-2 c =
-    let s = c .before .before .before .before .before in
-    let f = s .before .before in
-    omega (arith, few-labels (f .before .before .before .before .before .pre) (f .function-count .ensures) (s .string-count .ensures))
-
-add-program : tie.Need-add-program
-add-program c =
-    let s = c .before .before .before .before .before .before .before in
-    let f = s .before .before in
-    omega (arith, few-labels (f .before .before .before .before .before .pre) (f .function-count .ensures) (s .string-count .ensures))
+labels : (c : tie.After-string-count) → c .before .before .function-count .result + 1 + c .string-count .result ≤ 98305
+labels c = let f = c .before .before in
+    few-labels (f .before .before .before .before .before .pre) (f .function-count .ensures) (c .string-count .ensures)
 
 behind-requires : tie.Need-behind-requires
 behind-requires c κs =
@@ -63,8 +46,8 @@ returns c =
 
 pub walked-spec : {M : Type 1} → statement M
 walked-spec =
-    tie.close
-    (tie.spec (search needs) function-count-requires string-count-requires (search needs) (search needs) add-decide
-    add-decide-2 (search needs) add-program (λ c κs. search ready-program) (search needs) behind-requires
-    slice-relend-prefix-clear-scratch slice-aggregate-clear-scratch (search needs) (search needs) (search needs)
+    tie.close (tie.spec (search needs) function-count-requires string-count-requires (search needs) (search needs)
+    (λ c. omega (arith, labels (c .before .before .before .before .before))) (λ c. omega (arith, labels (c .before .before .before .before .before)))
+    (search needs) (λ c. omega (arith, labels (c .before .before .before .before .before .before .before))) (λ c κs. search ready-program)
+    (search needs) behind-requires slice-relend-prefix-clear-scratch slice-aggregate-clear-scratch (search needs) (search needs) (search needs)
     (search needs) (search needs) (search needs) returns)

@@ -1,8 +1,4 @@
-use Prim.Native.Nat.{_-_, _+_, _≤_}
-use native.Mathlib.Omega.{arith}
-use borrow.Author.Needs.{needs}
-use mathlib.Core.Path.{_≡_, _∙_}
-use lib.ListN.{length}
+use Rattle.compiler.proofs.Basics.{_-_, _+_, _≤_, arith, needs, _≡_, _∙_, length}
 use Rattle.compiler.specs.Labels.{CommandAt, Listed, Sound, Still, flat}
 use Rattle.compiler.proofs.Switching.{still-here, still-then, TablePart, table-begin, table-next, table-end}
 use Rattle.compiler.proofs.labels.all_pairs.Statement.{statement}

@@ -10,6 +10,4 @@ returns-2 c =
 
 pub by-constant-spec : {M : Type 1} → statement M
 by-constant-spec =
-    tie.close (tie.spec (λ c. search by-none)
-    (search needs) returns-2 (λ c. search by-judged)
-    (search needs) (search needs) (λ c. search by-zero))
+    tie.close (tie.spec (λ c. search by-none) (search needs) returns-2 (λ c. search by-judged) (search needs) (search needs) (λ c. search by-zero))

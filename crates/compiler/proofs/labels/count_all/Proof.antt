@@ -1,7 +1,4 @@
-use Prim.Native.Nat.{_-_, _*_, _≤_, _^_}
-use native.Mathlib.Omega.{arith}
-use borrow.Author.Needs.{needs}
-use mathlib.Core.List.{List}
+use Rattle.compiler.proofs.Basics.{_-_, _*_, _≤_, _^_, arith, needs, List}
 use Rattle.language.specs.Tree.{Label}
 use Rattle.compiler.specs.Labels.{CommandAt, Row}
 use Rattle.compiler.proofs.Switching.{commands, CountPart, count-begin, count-next, count-end}
@@ -34,5 +31,4 @@ returns c =
 pub count-all-spec : {M : Type 1} → statement M
 count-all-spec =
     tie.close (tie.spec Inv-loop μ-loop (λ c. (omega arith, λ lss r. search count-begin))
-    (search needs) (λ c κs. omega arith) (λ c _. c .labels-of .ensures .small) (λ c. omega arith) (λ c. omega arith)
-    loop-again returns)
+    (search needs) (λ c κs. omega arith) (λ c _. c .labels-of .ensures .small) (λ c. omega arith) (λ c. omega arith) loop-again returns)

@@ -1,7 +1,4 @@
-use Prim.Native.Nat.{_-_, _+_, _≤_}
-use native.Mathlib.Omega.{arith}
-use borrow.Author.Needs.{needs}
-use mathlib.Core.List.{List}
+use Rattle.compiler.proofs.Basics.{_-_, _+_, _≤_, arith, needs, List}
 use Rattle.language.specs.Tree.{Label}
 use Rattle.compiler.specs.Labels.{CommandAt, Row}
 use Rattle.compiler.proofs.Switching.{DefaultPart, default-begin, default-found, default-next, default-end}

@@ -1,8 +1,4 @@
-use Prim.Native.Nat.{_-_}
-use native.Mathlib.Omega.{arith}
-use borrow.Author.Needs.{needs}
-use mathlib.Core.Path.{_≡_, _∙_}
-use lib.ListN.{length}
+use Rattle.compiler.proofs.Basics.{_-_, arith, needs, _≡_, _∙_, length}
 use Rattle.compiler.specs.Switching.{ReadyLabels}
 use Rattle.compiler.proofs.Doubling.{marks-long, ListPart, list-begin, list-next, list-end}
 use Rattle.compiler.proofs.labels.doubled.Statement.{statement}
@@ -22,8 +18,7 @@ loop-again c =
       c .before .doubled-in .kept .1 .1 .1 .1 .1 .0 ∙ after-loop .loop .inv .0,
       λ y. list-next (start .args .source .now) (start .args .st)
           (after-loop-test .loop-test .taken) (after-next-item .next-item .ensures) (after-labels-of .labels-of .ensures)
-          (c .before .doubled-in .ensures)
-          y (after-loop .loop .inv .1 y),
+          (c .before .doubled-in .ensures) y (after-loop .loop .inv .1 y),
     )
 
 returns : tie.Need-returns Inv-loop μ-loop
@@ -34,5 +29,4 @@ returns c =
 pub doubled-spec : {M : Type 1} → statement M
 doubled-spec =
     tie.close (tie.spec Inv-loop μ-loop (search needs) (λ c. (search marks-long, λ y. search list-begin))
-    (search needs) (λ c κs. omega arith) (search needs) (λ c _. c .before .labels-of .ensures .small)
-    (λ c. omega arith) loop-again returns)
+    (search needs) (λ c κs. omega arith) (search needs) (λ c _. c .before .labels-of .ensures .small) (λ c. omega arith) loop-again returns)

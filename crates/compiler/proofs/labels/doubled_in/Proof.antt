@@ -1,11 +1,5 @@
-use Prim.Native.Nat.{_-_}
-use native.Mathlib.Omega.{arith}
-use borrow.Author.Needs.{needs}
-use mathlib.Core.Path.{_≡_, refl, _∙_}
-use mathlib.Core.List.{List}
-use lib.ListN.{length}
-use Rattle.language.specs.Tree.{Label}
-use Rattle.language.specs.Resolve.{labelsOf}
+use Rattle.compiler.proofs.Basics.{_-_, arith, needs, _≡_, refl, _∙_, List, length}
+use Rattle.compiler.proofs.Language.{Label, labelsOf}
 use Rattle.compiler.specs.Labels.{LabelAt, Listed, Marks}
 use Rattle.compiler.proofs.Doubling.{OwnPart, own-begin, own-next, own-end}
 use Rattle.compiler.proofs.labels.doubled_in.Statement.{statement}
@@ -25,10 +19,8 @@ loop-again c =
     let after-next-item = c .before .before .before .before in let after-loop-test = after-next-item .before in
     let after-loop = after-loop-test .before in let start = after-loop .before .before .before .before in (
       c .before .before .doubled-label .kept .1 .1 .1 .1 .0 ∙ after-loop .loop .inv .0,
-      λ y first m. own-next (start .args .source .now)
-          (start .args .st) (after-loop-test .loop-test .taken) (after-next-item .next-item .ensures)
-          (c .before .before .doubled-label .ensures) y first
-          (after-loop .loop .inv .1 y first m),
+      λ y first m. own-next (start .args .source .now) (start .args .st) (after-loop-test .loop-test .taken) (after-next-item .next-item .ensures)
+          (c .before .before .doubled-label .ensures) y first (after-loop .loop .inv .1 y first m),
     )
 
 pub doubled-in-spec : {M : Type 1} → statement M

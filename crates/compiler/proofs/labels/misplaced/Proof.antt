@@ -1,6 +1,4 @@
-use Prim.Native.Nat.{_-_}
-use native.Mathlib.Omega.{arith}
-use borrow.Author.Needs.{needs}
+use Rattle.compiler.proofs.Basics.{_-_, arith, needs}
 use Rattle.compiler.specs.Switching.{ReadyMisplaced}
 use Rattle.compiler.proofs.Rows.{MisplacedPart, misplaced-begin, misplaced-next, misplaced-end}
 use Rattle.compiler.proofs.labels.misplaced.Statement.{statement}

@@ -5,5 +5,4 @@ use Rattle.compiler.proofs.labels.misplaced_label.Tie as tie
 
 pub misplaced-label-spec : {M : Type 1} → statement M
 misplaced-label-spec =
-    tie.close (tie.spec (search needs) (search needs) (λ c. search misplaced-default)
-    (search needs) (search needs) (λ c. search misplaced-case))
+    tie.close (tie.spec (search needs) (search needs) (λ c. search misplaced-default) (search needs) (search needs) (λ c. search misplaced-case))

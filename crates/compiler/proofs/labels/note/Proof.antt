@@ -1,9 +1,6 @@
-use Prim.Native.Nat.{_/_}
-use native.Mathlib.Omega.{arith}
-use mathlib.Core.Path.{refl}
+use Rattle.compiler.proofs.Basics.{_/_, arith, refl, needs}
 use Rattle.compiler.proofs.Flags.{flag-fits}
 use Rattle.compiler.proofs.Doubling.{note-first, note-again, note-none}
-use borrow.Author.Needs.{needs}
 use Rattle.compiler.proofs.labels.note.Statement.{statement}
 use Rattle.compiler.proofs.labels.note.Tie as tie
 
@@ -27,7 +24,5 @@ returns-2 c = note-again refl (c .before .before .power .ensures .0) (c .before 
 
 pub note-spec : {M : Type 1} → statement M
 note-spec =
-    tie.close
-    (tie.spec (search needs) cast-x (search needs) (search needs) add-seen cast-seen (search needs) (search needs)
-    (λ c. search note-first)
+    tie.close (tie.spec (search needs) cast-x (search needs) (search needs) add-seen cast-seen (search needs) (search needs) (λ c. search note-first)
     (search needs) returns-2 (λ c. search note-none))

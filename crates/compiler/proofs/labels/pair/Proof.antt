@@ -5,5 +5,4 @@ use Rattle.compiler.proofs.labels.pair.Tie as tie
 
 pub pair-spec : {M : Type 1} → statement M
 pair-spec =
-    tie.close (tie.spec (search needs) (λ c. search pair-not)
-    (search needs) (search needs) (search needs) (search needs) (λ c. search pair-is))
+    tie.close (tie.spec (search needs) (λ c. search pair-not) (search needs) (search needs) (search needs) (search needs) (λ c. search pair-is))

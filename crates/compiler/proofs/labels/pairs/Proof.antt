@@ -1,8 +1,4 @@
-use Prim.Native.Nat.{_-_}
-use native.Mathlib.Omega.{arith}
-use borrow.Author.Needs.{needs}
-use mathlib.Core.Path.{_≡_, refl, _∙_}
-use lib.ListN.{length}
+use Rattle.compiler.proofs.Basics.{_-_, arith, needs, _≡_, refl, _∙_, length}
 use Rattle.compiler.specs.Labels.{LabelAt, Listed, Sound, Still}
 use Rattle.compiler.proofs.Switching.{still-here, still-then, PairsPart, pairs-begin, pairs-next, pairs-end}
 use Rattle.compiler.proofs.labels.pairs.Statement.{statement}

@@ -1,39 +1,22 @@
-use Prim.Native.Nat.{ℕ, _^_}
 use native.Mathlib.Omega.{arith}
-use mathlib.Core.Path.{sym, ap}
 use Rattle.compiler.proofs.Flags.{last-of-eight}
 use Rattle.compiler.proofs.labels.power.Statement.{statement}
 use Rattle.compiler.proofs.labels.power.Tie as tie
 
-returns : tie.Need-returns
-returns c = (ap (λ (x : ℕ). 2 ^ x) (sym (c .match .keys1)), omega arith, omega arith)
-
-returns-2 : tie.Need-returns-2
-returns-2 c = (ap (λ (x : ℕ). 2 ^ x) (sym (c .match .keys2)), omega arith, omega arith)
-
-returns-3 : tie.Need-returns-3
-returns-3 c = (ap (λ (x : ℕ). 2 ^ x) (sym (c .match .keys3)), omega arith, omega arith)
-
-returns-4 : tie.Need-returns-4
-returns-4 c = (ap (λ (x : ℕ). 2 ^ x) (sym (c .match .keys4)), omega arith, omega arith)
-
-returns-5 : tie.Need-returns-5
-returns-5 c = (ap (λ (x : ℕ). 2 ^ x) (sym (c .match .keys5)), omega arith, omega arith)
-
-returns-6 : tie.Need-returns-6
-returns-6 c = (ap (λ (x : ℕ). 2 ^ x) (sym (c .match .keys6)), omega arith, omega arith)
-
-returns-7 : tie.Need-returns-7
-returns-7 c = (ap (λ (x : ℕ). 2 ^ x) (sym (c .match .keys7)), omega arith, omega arith)
-
 returns-8 : tie.Need-returns-8
 returns-8 c =
-    let n = c .match .rest in
-    let z = last-of-eight (c .before .pre) (n .0 .0 .0 .0 .0 .0 .1) (n .0 .0 .0 .0 .0 .1) (n .0 .0 .0 .0 .1) (n .0 .0 .0 .1) (n .0 .0 .1) (n .0 .1)
-    (n .1) in
-    (ap (λ (x : ℕ). 2 ^ x) z, omega arith, omega arith)
+    let n = c .match .rest in let z = last-of-eight (c .before .pre) (n .0 .0 .0 .0 .0 .0 .1) (n .0 .0 .0 .0 .0 .1) (n .0 .0 .0 .0 .1) (n .0 .0 .0 .1)
+    (n .0 .0 .1) (n .0 .1) (n .1) in
+    (cc, omega arith, omega arith)
 
 pub power-spec : {M : Type 1} → statement M
 power-spec =
-    tie.close
-    (tie.spec returns returns-2 returns-3 returns-4 returns-5 returns-6 returns-7 returns-8)
+    tie.close (tie.spec
+    (λ c. (rw (c .match .keys1), omega arith, omega arith))
+    (λ c. (rw (c .match .keys2), omega arith, omega arith))
+    (λ c. (rw (c .match .keys3), omega arith, omega arith))
+    (λ c. (rw (c .match .keys4), omega arith, omega arith))
+    (λ c. (rw (c .match .keys5), omega arith, omega arith))
+    (λ c. (rw (c .match .keys6), omega arith, omega arith))
+    (λ c. (rw (c .match .keys7), omega arith, omega arith))
+    returns-8)

@@ -18,6 +18,4 @@ returns c =
     (after-default-of .default-of .ensures) (after-put-address .put-address .ensures) (c .before .before .all-pairs .ensures)
 
 pub table-spec : {M : Type 1} → statement M
-table-spec =
-    tie.close (tie.spec (search needs) (search needs) (search needs) (search needs) (search needs) all-pairs-requires
-    (search needs) returns)
+table-spec = tie.close (tie.spec (search needs) (search needs) (search needs) (search needs) (search needs) all-pairs-requires (search needs) returns)

@@ -5,6 +5,5 @@ use Rattle.compiler.proofs.outer.body.Tie as tie
 
 pub body-spec : {M : Type 1} → statement M
 body-spec =
-    tie.close (tie.spec (λ c κs. search ready-value)
-    (search needs) (search needs) (λ c. search gave-value) (λ c κs. search ready-routine)
+    tie.close (tie.spec (λ c κs. search ready-value) (search needs) (search needs) (λ c. search gave-value) (λ c κs. search ready-routine)
     (search needs) (search needs) (λ c. search gave-routine))

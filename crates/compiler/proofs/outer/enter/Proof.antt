@@ -1,6 +1,5 @@
-use mathlib.Core.Path.{refl}
+use Rattle.compiler.proofs.Basics.{refl, needs}
 use Rattle.compiler.proofs.GroupLaws.{enters-global, enters-far, enters-name}
-use borrow.Author.Needs.{needs}
 use Rattle.compiler.proofs.outer.enter.Statement.{statement}
 use Rattle.compiler.proofs.outer.enter.Tie as tie
 

@@ -1,61 +1,12 @@
-use mathlib.Core.Path.{_∙_}
-use native.Mathlib.Omega.{arith}
+use Rattle.compiler.proofs.Basics.{_+_, _*_, _/_, _^_, _≤_, _<_, _∙_, arith, needs, length}
 use Rattle.compiler.proofs.FunctionLaws.{function-room, function-names, function-body, function-gave}
-use borrow.Author.Needs.{needs}
 use Rattle.compiler.proofs.outer.function.Statement.{statement}
 use Rattle.compiler.proofs.outer.function.Tie as tie
 
-push-requires : tie.Need-push-requires
-push-requires c κs = (
-  function-room _ (c .before .before .before .before .before .before .before .before .node-at .ensures)
-      (c .before .before .before .before .before .before .before .before .before .before .before .before .before .pre) .0,
-  omega arith,
-  omega arith,
-)
-
-add-declare : tie.Need-add-declare
-add-declare c =
-    omega (
-      arith,
-      (let after-node-at = c .before .before .before .before .before .before .before .before .before .before .before .before .before in let start =
-          after-node-at .before .before .before .before .before in function-room _ (after-node-at .node-at .ensures) (start .pre)),
-    )
-
-add-x : tie.Need-add-x
-add-x c =
-    omega (
-      arith,
-      (let after-node-at = c .before .before .before .before .before .before .before .before .before .before .before .before .before .before .before
-          .before .before .before in let start = after-node-at .before .before .before .before .before in function-room _
-          (after-node-at .node-at .ensures) (start .pre)),
-    )
-
-mul-x : tie.Need-mul-x
-mul-x c =
-    omega (
-      arith,
-      (let after-node-at = c .before .before .before .before .before .before .before .before .before .before .before .before .before .before .before
-          .before .before .before in let start = after-node-at .before .before .before .before .before in function-room _
-          (after-node-at .node-at .ensures) (start .pre)),
-    )
-
-add-x-2 : tie.Need-add-x-2
-add-x-2 c =
-    omega (
-      arith,
-      (let after-node-at = c .before .before .before .before .before .before .before .before .before .before .before .before .before .before .before
-          .before .before .before in let start = after-node-at .before .before .before .before .before in function-room _
-          (after-node-at .node-at .ensures) (start .pre)),
-    )
-
-add-x-3 : tie.Need-add-x-3
-add-x-3 c =
-    omega (
-      arith,
-      (let after-node-at = c .before .before .before .before .before .before .before .before .before .before .before .before .before .before .before
-          .before .before .before in let start = after-node-at .before .before .before .before .before in function-room _
-          (after-node-at .node-at .ensures) (start .pre)),
-    )
+room : (c : tie.After-node-at) → let start = c .before .before .before .before .before in let top = start .args .here .top in
+    (top + 2 ≤ length (start .args .s .now)) × (top + 2 ≤ start .pre .base) × (top + 2 + 2 * (c .node-at .result .value / 4) ≤ start .pre .base)
+    × (start .pre .base < 2 ^ 32)
+room c = function-room _ (c .node-at .ensures) (c .before .before .before .before .before .pre)
 
 body-requires : tie.Need-body-requires
 body-requires c κs =
@@ -89,7 +40,28 @@ returns c =
 
 pub function-spec : {M : Type 1} → statement M
 function-spec =
-    tie.close (tie.spec (search needs) (search needs) (search needs) (search needs) push-requires add-declare
-    (λ c κs. search function-names)
-    (search needs) (search needs) add-x mul-x add-x-2 add-x-3 body-requires (search needs) same-length same-length-2
-    returns)
+    tie.close (tie.spec (search needs) (search needs) (search needs) (search needs)
+    (λ c κs. (room (c .before .before .before .before .before .before .before .before) .0, omega arith, omega arith))
+    (λ c. omega (arith, room (c .before .before .before .before .before .before .before .before .before .before .before .before .before)))
+    (λ c κs. search function-names) (search needs) (search needs)
+    (λ c. omega (
+      arith,
+      room (c .before .before .before .before .before .before .before .before .before .before .before .before .before .before
+          .before .before .before .before),
+    ))
+    (λ c. omega (
+      arith,
+      room (c .before .before .before .before .before .before .before .before .before .before .before .before .before .before
+          .before .before .before .before),
+    ))
+    (λ c. omega (
+      arith,
+      room (c .before .before .before .before .before .before .before .before .before .before .before .before .before .before
+          .before .before .before .before),
+    ))
+    (λ c. omega (
+      arith,
+      room (c .before .before .before .before .before .before .before .before .before .before .before .before .before .before
+          .before .before .before .before),
+    ))
+    body-requires (search needs) same-length same-length-2 returns)

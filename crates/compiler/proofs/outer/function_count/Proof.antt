@@ -1,6 +1,4 @@
-use Prim.Native.Nat.{_-_, _≤_}
-use native.Mathlib.Omega.{arith}
-use borrow.Author.Needs.{needs}
+use Rattle.compiler.proofs.Basics.{_-_, _≤_, arith, needs}
 use Rattle.compiler.proofs.FunctionCounts.{Counted, counted-begin, counted-group, counted-past, counted-other, counted-end}
 use Rattle.compiler.proofs.outer.function_count.Statement.{statement}
 use Rattle.compiler.proofs.outer.function_count.Tie as tie
@@ -16,5 +14,4 @@ function-count-spec =
     tie.close (tie.spec Inv-loop μ-loop (λ c. (omega arith, counted-begin)) (λ c. omega arith)
     (search needs) (λ c. omega arith) (λ c. omega arith) (search needs) (λ c. omega arith) (λ c κs. omega arith)
     (λ c. omega arith) (λ c. omega arith) (λ c. (omega arith, search counted-group)) (λ c. omega arith)
-    (λ c. (omega arith, search counted-past)) (λ c. omega arith) (λ c. (omega arith, search counted-other))
-    (λ c. search counted-end))
+    (λ c. (omega arith, search counted-past)) (λ c. omega arith) (λ c. (omega arith, search counted-other)) (λ c. search counted-end))

@@ -1,6 +1,4 @@
-use Prim.Native.Nat.{_+_, _-_, _≤_}
-use native.Mathlib.Omega.{arith}
-use borrow.Author.Needs.{needs}
+use Rattle.compiler.proofs.Basics.{_+_, _-_, _≤_, arith, needs}
 use Rattle.compiler.proofs.GroupLaws.{Counting, count-begin, count-next, count-end}
 use Rattle.compiler.proofs.outer.group_count.Statement.{statement}
 use Rattle.compiler.proofs.outer.group_count.Tie as tie

@@ -1,10 +1,6 @@
-use Prim.Native.Nat.{_-_}
-use mathlib.Core.Path.{_≡_, refl, _∙_}
-use native.Mathlib.Omega.{arith}
-use borrow.Author.Needs.{needs}
-use lib.ListN.{length}
+use Rattle.compiler.proofs.Basics.{_-_, _≡_, refl, _∙_, arith, needs, length}
 use Rattle.compiler.specs.Groups.{ReadyGroup}
-use Rattle.compiler.proofs.GroupNameLaws.{GroupPart, names-begin, names-fit, names-next, names-end}
+use Rattle.compiler.proofs.GroupNameLaws.{GroupPart, names-begin, names-fit, names-next, names-end, Fits}
 use Rattle.compiler.proofs.outer.group_names.Statement.{statement}
 use Rattle.compiler.proofs.outer.group_names.Tie as tie
 
@@ -16,31 +12,15 @@ Inv-loop source s₀ table₀ from end top before at₀ k₀ now-top₀ r₀ s t
 abbrev μ-loop : tie.MeasureT-loop
 μ-loop source s₀ table₀ from end top before at₀ k₀ now-top₀ r₀ s table at k now-top r = end - at
 
-lookup-requires : tie.Need-lookup-requires Inv-loop μ-loop
-lookup-requires c κs =
-    omega (
-      arith,
-      (let after-loop-test = c .before .before .before in let after-loop = after-loop-test .before in let start =
-          after-loop .before .before .before .before in names-fit (start .args .source .now) (start .args .st) (after-loop-test .loop-test .taken)
-          (start .pre) (after-loop .loop .inv .2 (start .pre))),
-    )
+-- what a function's name needs
+fit : (c : tie.In-loop Inv-loop μ-loop) → let start = c .before .before .before .before .before in let l = c .before .loop in
+    Fits (start .args .source .now) (start .args .st) (start .pre) (l .s) (l .table) (l .at) (l .k) (l .now-top)
+fit c = let start = c .before .before .before .before .before in
+    names-fit (start .args .source .now) (start .args .st) (c .loop-test .taken) (start .pre) (c .before .loop .inv .2 (start .pre))
 
 enter-requires : tie.Need-enter-requires Inv-loop μ-loop
-enter-requires c κs =
-    (let after-loop-test = c .before .before .before .before .before .before .before .before .before .before in let after-loop =
-    after-loop-test .before in let start = after-loop .before .before .before .before in let w = names-fit (start .args .source .now)
-    (start .args .st) (after-loop-test .loop-test .taken) (start .pre) (after-loop .loop .inv .2 (start .pre)) in
-    (omega arith, omega arith, w .few, w .name))
-
-add-k : tie.Need-add-k Inv-loop μ-loop
-add-k c =
-    omega (
-      arith,
-      (let after-loop-test =
-          c .before .before .before .before .before .before .before .before .before .before .before .before .before .before .before in let after-loop =
-          after-loop-test .before in let start = after-loop .before .before .before .before in names-fit (start .args .source .now) (start .args .st)
-          (after-loop-test .loop-test .taken) (start .pre) (after-loop .loop .inv .2 (start .pre))),
-    )
+enter-requires c κs = let w = fit (c .before .before .before .before .before .before .before .before .before .before) in
+    (omega arith, omega arith, w .few, w .name)
 
 loop-again : tie.Need-loop-again Inv-loop μ-loop
 loop-again c =
@@ -50,11 +30,9 @@ loop-again c =
     let start = after-loop .before .before .before .before in (
       after-enter .enter .kept .0 ∙ after-loop .loop .inv .0,
       after-enter .enter .kept .1 .0 ∙ after-loop .loop .inv .1,
-      λ y. names-next
-          (start .args .source .now) (start .args .st) (after-loop-test .loop-test .taken) (after-entry .entry .ensures .0) refl
+      λ y. names-next (start .args .source .now) (start .args .st) (after-loop-test .loop-test .taken) (after-entry .entry .ensures .0) refl
           (after-lookup .lookup .ensures .0) (after-entry2 .entry2 .ensures .0) (after-name-fault .name-fault .ensures)
-          (after-enter .enter .ensures) y
-          (after-loop .loop .inv .2 y),
+          (after-enter .enter .ensures) y (after-loop .loop .inv .2 y),
     )
 
 returns : tie.Need-returns Inv-loop μ-loop
@@ -64,7 +42,9 @@ returns c =
 
 pub group-names-spec : {M : Type 1} → statement M
 group-names-spec =
-    tie.close (tie.spec Inv-loop μ-loop (λ c. (refl, refl, λ y. search names-begin)) (λ c. omega arith)
-    (search needs) (λ c. omega arith) (λ c. omega arith) lookup-requires (λ c. omega arith) (search needs)
-    (λ c κs. search (needs, names-fit)) (λ c. omega arith) enter-requires add-k (λ c. omega arith) loop-again
-    (λ c. c .before .loop .inv .0) (λ c. c .before .loop .inv .1) returns)
+    tie.close (tie.spec Inv-loop μ-loop (λ c. (refl, refl, λ y. search names-begin)) (λ c. omega arith) (search needs) (λ c. omega arith)
+    (λ c. omega arith) (λ c κs. omega (arith, fit (c .before .before .before))) (λ c. omega arith) (search needs) (λ c κs. search (needs, names-fit))
+    (λ c. omega arith) enter-requires (λ c. omega (
+      arith,
+      fit (c .before .before .before .before .before .before .before .before .before .before .before .before .before .before .before),
+    )) (λ c. omega arith) loop-again (λ c. c .before .loop .inv .0) (λ c. c .before .loop .inv .1) returns)

@@ -1,10 +1,6 @@
-use Prim.Native.Nat.{_-_}
-use native.Mathlib.Omega.{arith}
-use borrow.Author.Needs.{needs}
-use mathlib.Core.Path.{_≡_, refl, _∙_}
-use lib.ListN.{length}
+use Rattle.compiler.proofs.Basics.{_+_, _*_, _-_, _≤_, arith, needs, _≡_, refl, _∙_, length}
 use Rattle.compiler.specs.Items.{ReadyItems}
-use Rattle.compiler.proofs.ItemLaws.{ItemsPart, items-begin, items-fit, items-next, items-end, items-out, code-small}
+use Rattle.compiler.proofs.ItemLaws.{ItemsPart, items-begin, items-fit, items-next, items-end, items-out, code-small, Fits}
 use Rattle.compiler.proofs.outer.items.Statement.{statement}
 use Rattle.compiler.proofs.outer.items.Tie as tie
 
@@ -15,112 +11,20 @@ Inv-loop source s₀ from end top global at₀ k₀ r₀ s at k r =
 abbrev μ-loop : tie.MeasureT-loop
 μ-loop source s₀ from end top global at₀ k₀ r₀ s at k r = end - at
 
-mul-item-constant : tie.Need-mul-item-constant Inv-loop μ-loop
-mul-item-constant c =
-    omega (
-      arith,
-      (let after-loop-test = c .before .before .before in let after-loop = after-loop-test .before in let start = after-loop .before .before .before
-          in items-fit (start .args .global) (start .args .source .now) (start .args .st) (after-loop .loop .k) (after-loop-test .loop-test .taken)
-          (start .pre) (after-loop .loop .inv .1 (start .pre))),
-    )
-
-add-item-constant : tie.Need-add-item-constant Inv-loop μ-loop
-add-item-constant c =
-    omega (
-      arith,
-      (let after-loop-test = c .before .before .before in let after-loop = after-loop-test .before in let start = after-loop .before .before .before
-          in items-fit (start .args .global) (start .args .source .now) (start .args .st) (after-loop .loop .k) (after-loop-test .loop-test .taken)
-          (start .pre) (after-loop .loop .inv .1 (start .pre))),
-    )
-
-item-constant-requires : tie.Need-item-constant-requires Inv-loop μ-loop
-item-constant-requires c κs =
-    omega (
-      arith,
-      (let after-loop-test = c .before .before .before in let after-loop = after-loop-test .before in let start = after-loop .before .before .before
-          in items-fit (start .args .global) (start .args .source .now) (start .args .st) (after-loop .loop .k) (after-loop-test .loop-test .taken)
-          (start .pre) (after-loop .loop .inv .1 (start .pre))),
-    )
-
-mul-in-block : tie.Need-mul-in-block Inv-loop μ-loop
-mul-in-block c =
-    omega (
-      arith,
-      (let after-loop-test = c .before .before .before .before .before in let after-loop = after-loop-test .before in let start =
-          after-loop .before .before .before in items-fit (start .args .global) (start .args .source .now) (start .args .st) (after-loop .loop .k)
-          (after-loop-test .loop-test .taken) (start .pre) (after-loop .loop .inv .1 (start .pre))),
-    )
-
-add-in-block : tie.Need-add-in-block Inv-loop μ-loop
-add-in-block c =
-    omega (
-      arith,
-      (let after-loop-test = c .before .before .before .before .before in let after-loop = after-loop-test .before in let start =
-          after-loop .before .before .before in items-fit (start .args .global) (start .args .source .now) (start .args .st) (after-loop .loop .k)
-          (after-loop-test .loop-test .taken) (start .pre) (after-loop .loop .inv .1 (start .pre))),
-    )
-
-in-block-requires : tie.Need-in-block-requires Inv-loop μ-loop
-in-block-requires c κs =
-    omega (
-      arith,
-      (let after-loop-test = c .before .before .before .before .before in let after-loop = after-loop-test .before in let start =
-          after-loop .before .before .before in items-fit (start .args .global) (start .args .source .now) (start .args .st) (after-loop .loop .k)
-          (after-loop-test .loop-test .taken) (start .pre) (after-loop .loop .inv .1 (start .pre))),
-    )
-
-mul-push-name : tie.Need-mul-push-name Inv-loop μ-loop
-mul-push-name c =
-    omega (
-      arith,
-      (let after-loop-test = c .before .before .before .before .before .before .before .before .before .before .before in let after-loop =
-          after-loop-test .before in let start = after-loop .before .before .before in items-fit (start .args .global) (start .args .source .now)
-          (start .args .st) (after-loop .loop .k) (after-loop-test .loop-test .taken) (start .pre) (after-loop .loop .inv .1 (start .pre))),
-    )
-
-add-push-name : tie.Need-add-push-name Inv-loop μ-loop
-add-push-name c =
-    omega (
-      arith,
-      (let after-loop-test = c .before .before .before .before .before .before .before .before .before .before .before in let after-loop =
-          after-loop-test .before in let start = after-loop .before .before .before in items-fit (start .args .global) (start .args .source .now)
-          (start .args .st) (after-loop .loop .k) (after-loop-test .loop-test .taken) (start .pre) (after-loop .loop .inv .1 (start .pre))),
-    )
-
-add-push-name-2 : tie.Need-add-push-name-2 Inv-loop μ-loop
-add-push-name-2 c =
-    omega (
-      arith,
-      (let after-loop-test = c .before .before .before .before .before .before .before .before .before .before .before in let after-loop =
-          after-loop-test .before in let start = after-loop .before .before .before in items-fit (start .args .global) (start .args .source .now)
-          (start .args .st) (after-loop .loop .k) (after-loop-test .loop-test .taken) (start .pre) (after-loop .loop .inv .1 (start .pre))),
-    )
+-- what an item needs
+fit : (c : tie.In-loop Inv-loop μ-loop) → let start = c .before .before .before .before in let l = c .before .loop in
+    Fits (start .args .global) (start .args .source .now) (start .args .st) (start .pre) (l .s) (l .at) (l .k)
+fit c = let start = c .before .before .before .before in
+    items-fit (start .args .global) (start .args .source .now) (start .args .st) (c .before .loop .k) (c .loop-test .taken) (start .pre)
+    (c .before .loop .inv .1 (start .pre))
 
 push-name-requires : tie.Need-push-name-requires Inv-loop μ-loop
 push-name-requires c κs =
-    (let after-item-constant = c .before .before .before .before .before .before .before .before in let after-loop-test =
-    after-item-constant .before .before .before .before in let after-loop = after-loop-test .before in let start =
-    after-loop .before .before .before in let w = items-fit (start .args .global) (start .args .source .now) (start .args .st) (after-loop .loop .k)
-    (after-loop-test .loop-test .taken) (start .pre) (after-loop .loop .inv .1 (start .pre)) in (
-      omega arith,
-      omega arith,
-      omega (
-        arith,
-        code-small (start .args .global) (after-item-constant .item-constant .result .word)
-            (after-item-constant .item-constant .ensures .low),
-      ),
-      w .name,
-    ))
-
-add-k : tie.Need-add-k Inv-loop μ-loop
-add-k c =
-    omega (
-      arith,
-      (let after-loop-test =
-          c .before .before .before .before .before .before .before .before .before .before .before .before .before .before .before in let after-loop =
-          after-loop-test .before in let start = after-loop .before .before .before in items-fit (start .args .global) (start .args .source .now)
-          (start .args .st) (after-loop .loop .k) (after-loop-test .loop-test .taken) (start .pre) (after-loop .loop .inv .1 (start .pre))),
-    )
+    let after-item-constant = c .before .before .before .before .before .before .before .before in
+    let after-loop-test = after-item-constant .before .before .before .before in let w = fit after-loop-test in
+    let v = code-small (after-loop-test .before .before .before .before .args .global) (after-item-constant .item-constant .result .word)
+    (after-item-constant .item-constant .ensures .low) in
+    (omega arith, omega arith, omega arith, w .name)
 
 loop-again : tie.Need-loop-again Inv-loop μ-loop
 loop-again c =
@@ -137,26 +41,26 @@ loop-again c =
           (after-loop .loop .inv .1 y),
     )
 
-mul-t32 : tie.Need-mul-t32 Inv-loop μ-loop
-mul-t32 c =
-    omega (
-      arith,
-      (let start = c .before .before .before .before in items-out (start .args .global) (start .args .source .now) (start .args .st)
-          (c .before .loop .k) (start .pre) (c .before .loop .inv .1 (start .pre))),
-    )
-
-add-t33 : tie.Need-add-t33 Inv-loop μ-loop
-add-t33 c =
-    omega (
-      arith,
-      (let start = c .before .before .before .before in items-out (start .args .global) (start .args .source .now) (start .args .st)
-          (c .before .loop .k) (start .pre) (c .before .loop .inv .1 (start .pre))),
-    )
+out : (c : tie.At-loop Inv-loop μ-loop) → let start = c .before .before .before in start .args .top + 2 * c .loop .k ≤ length (start .args .s .now)
+out c = let start = c .before .before .before in
+    items-out (start .args .global) (start .args .source .now) (start .args .st) (c .loop .k) (start .pre) (c .loop .inv .1 (start .pre))
 
 pub items-spec : {M : Type 1} → statement M
 items-spec =
-    tie.close (tie.spec Inv-loop μ-loop (λ c. (refl, λ y. search items-begin)) (λ c. omega arith)
-    (search needs) (λ c. omega arith) mul-item-constant add-item-constant item-constant-requires mul-in-block
-    add-in-block (λ c. omega arith) in-block-requires (λ c. omega arith) (search needs) (search needs)
-    (λ c _. c .before .entry2 .ensures .1) mul-push-name add-push-name add-push-name-2 (search needs)
-    push-name-requires add-k (λ c. omega arith) loop-again mul-t32 add-t33 (search needs) (λ c. search items-end))
+    tie.close (tie.spec Inv-loop μ-loop (λ c. (refl, λ y. search items-begin)) (λ c. omega arith) (search needs) (λ c. omega arith)
+    (λ c. omega (arith, fit (c .before .before .before))) (λ c. omega (arith, fit (c .before .before .before)))
+    (λ c κs. omega (arith, fit (c .before .before .before))) (λ c. omega (arith, fit (c .before .before .before .before .before)))
+    (λ c. omega (arith, fit (c .before .before .before .before .before))) (λ c. omega arith)
+    (λ c κs. omega (arith, fit (c .before .before .before .before .before))) (λ c. omega arith) (search needs) (search needs)
+    (λ c _. c .before .entry2 .ensures .1) (λ c. omega (
+      arith,
+      fit (c .before .before .before .before .before .before .before .before .before .before .before),
+    )) (λ c. omega (arith, fit (c .before .before .before .before .before .before .before .before .before .before .before))) (λ c. omega (
+      arith,
+      fit (c .before .before .before .before .before .before .before .before .before .before .before),
+    )) (search needs) push-name-requires
+    (λ c. omega (
+      arith,
+      fit (c .before .before .before .before .before .before .before .before .before .before .before .before .before .before .before),
+    )) (λ c. omega arith) loop-again (λ c. omega (arith, out (c .before))) (λ c. omega (arith, out (c .before))) (search needs)
+    (λ c. search items-end))

@@ -5,5 +5,4 @@ use Rattle.compiler.proofs.outer.meaning.Tie as tie
 
 pub meaning-spec : {M : Type 1} → statement M
 meaning-spec =
-    tie.close (tie.spec (search needs) (search needs) (λ c. search meaning-global)
-    (search needs) (search needs) (λ c. search meaning-manifest))
+    tie.close (tie.spec (search needs) (search needs) (λ c. search meaning-global) (search needs) (search needs) (λ c. search meaning-manifest))

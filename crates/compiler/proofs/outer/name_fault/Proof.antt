@@ -1,6 +1,5 @@
 use Rattle.compiler.proofs.GroupLaws.{fault-unknown, fault-free, fault-so}
-use mathlib.Core.Path.{_∙_}
-use borrow.Author.Needs.{needs}
+use Rattle.compiler.proofs.Basics.{_∙_, needs}
 use Rattle.compiler.proofs.outer.name_fault.Statement.{statement}
 use Rattle.compiler.proofs.outer.name_fault.Tie as tie
 
@@ -14,6 +13,4 @@ returns-4 c = fault-so (c .before .before .if1 .left) (λ a b. c .before .if2 .l
 
 pub name-fault-spec : {M : Type 1} → statement M
 name-fault-spec =
-    tie.close (tie.spec (λ c. search fault-unknown)
-    (search needs) (λ c. search fault-free)
-    (search needs) returns-3 (search needs) returns-4)
+    tie.close (tie.spec (λ c. search fault-unknown) (search needs) (λ c. search fault-free) (search needs) returns-3 (search needs) returns-4)

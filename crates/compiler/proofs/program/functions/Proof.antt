@@ -1,6 +1,5 @@
 -- `functions` meets its contract: names, then functions, by the laws of `Levels`.
-use native.Mathlib.Omega.{arith}
-use borrow.Author.Needs.{needs}
+use Rattle.compiler.proofs.Basics.{arith, needs}
 use Rattle.compiler.proofs.Levels.{ready-group, ready-fs, gave-group}
 use Rattle.compiler.proofs.program.functions.Statement.{statement}
 use Rattle.compiler.proofs.program.functions.Tie as tie
@@ -28,5 +27,4 @@ returns c =
 pub functions-spec : {M : Type 1} → statement M
 functions-spec =
     tie.close (tie.spec (search needs) (λ c κs. search ready-group)
-    (search needs) (search needs) (λ c κs. (search ready-fs, omega arith)) add-t26 (search needs)
-    (search needs) (search needs) returns)
+    (search needs) (search needs) (λ c κs. (search ready-fs, omega arith)) add-t26 (search needs) (search needs) (search needs) returns)

@@ -1,9 +1,5 @@
 -- `group` meets its contract: the loop's invariant is `GroupPart`, for every scope and number of functions before the group.
-use Prim.Native.Nat.{ℕ, _-_}
-use mathlib.Core.Path.{_≡_, refl, _∙_}
-use native.Mathlib.Omega.{arith}
-use borrow.Author.Needs.{needs}
-use lib.ListN.{length}
+use Rattle.compiler.proofs.Basics.{ℕ, _-_, _≡_, refl, _∙_, arith, needs, length}
 use Rattle.language.specs.Names.{Scope, outermost}
 use Rattle.compiler.specs.Groups.{ReadyFs}
 use Rattle.compiler.proofs.FunctionLists.{GroupPart, group-begin, group-ready, group-fits, group-next, group-end}
@@ -43,8 +39,7 @@ loop-again c =
     let after-loop = after-loop-test .before in (
       after-function .function .kept .1 .0 ∙ after-loop .loop .inv .0,
       after-function .function .kept .1 .1 .1 .0 ∙ after-loop .loop .inv .1,
-      λ y
-          before k. group-next _ _ _ _ (after-loop-test .loop-test .taken) (after-entry .entry .ensures .0) refl y
+      λ y before k. group-next _ _ _ _ (after-loop-test .loop-test .taken) (after-entry .entry .ensures .0) refl y
           (after-loop .loop .inv .2 y before k)
           (after-function .function .ensures) (c .before .before .entry2 .ensures .0) (c .before .before .entry2 .ensures .1)
           (c .before .too-tall .ensures) (c .level .ensures),
@@ -56,6 +51,5 @@ returns c = group-end _ _ _ _ (c .loop-test .left) (c .before .loop .inv .2)
 pub group-spec : {M : Type 1} → statement M
 group-spec =
     tie.close (tie.spec Inv-loop μ-loop (λ c. (refl, refl, λ y before k. search group-begin)) (λ c. omega arith)
-    (search needs) (λ c. omega arith) function-requires (λ c. omega arith) (search needs)
-    (λ c _. c .entry2 .ensures .1)
+    (search needs) (λ c. omega arith) function-requires (λ c. omega arith) (search needs) (λ c _. c .entry2 .ensures .1)
     (search needs) add-l (λ c. omega arith) loop-again (search needs) (search needs) returns)

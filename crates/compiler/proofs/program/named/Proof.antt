@@ -1,7 +1,5 @@
 -- `named` meets its contract: `items` has done it all but taken the height away.
-use mathlib.Core.Path.{refl, ap}
-use borrow.Author.Needs.{needs}
-use Rattle.compiler.specs.declared.steps.State.{State}
+use Rattle.compiler.proofs.Basics.{refl, needs}
 use Rattle.compiler.proofs.Levels.{items-flat}
 use Rattle.compiler.proofs.program.named.Statement.{statement}
 use Rattle.compiler.proofs.program.named.Tie as tie
@@ -11,7 +9,7 @@ returns c =
     record {
       known = items-flat (c .before .before .before .before .before .before .before .pre .1) (c .level .ensures)
           (c .before .before .before .items .ensures);
-      low = ap (λ (z : State). z .high) (c .level .ensures);
+      low = rw (c .level .ensures);
       functions = refl;
       tall = refl;
     }

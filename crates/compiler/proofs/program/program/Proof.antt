@@ -1,9 +1,5 @@
 -- `program` meets its contract: the loop's invariant is `ProgramPart`.
-use Prim.Native.Nat.{_-_}
-use mathlib.Core.Path.{_≡_, refl, _∙_}
-use native.Mathlib.Omega.{arith}
-use borrow.Author.Needs.{needs}
-use lib.ListN.{length}
+use Rattle.compiler.proofs.Basics.{_-_, _≡_, refl, _∙_, arith, needs, length}
 use Rattle.compiler.specs.Programs.{ReadyProgram}
 use Rattle.compiler.proofs.ProgramLoop.{ProgramPart, program-begin, program-ready, program-next, program-end}
 use Rattle.compiler.proofs.program.program.Statement.{statement}

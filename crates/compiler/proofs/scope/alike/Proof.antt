@@ -1,7 +1,4 @@
-use Prim.Native.Nat.{_+_, _-_}
-use mathlib.Core.Path.{sym, _∙_}
-use native.Mathlib.Omega.{arith}
-use borrow.Author.Needs.{needs}
+use Rattle.compiler.proofs.Basics.{_+_, _-_, sym, _∙_, arith, needs}
 use Rattle.compiler.proofs.Scoping.{differs}
 use Rattle.compiler.proofs.scope.alike.Statement.{statement}
 use Rattle.compiler.proofs.scope.alike.Tie as tie
@@ -21,7 +18,5 @@ returns-3 c =
 
 pub alike-spec : {M : Type 1} → statement M
 alike-spec =
-    tie.close
-    (tie.spec (λ c. search needs) (λ c κs. search needs) (λ c. search needs) (λ c. search needs) (λ c κs. search needs)
-    (λ c. search needs) (λ c. search needs) (λ c. search needs) (λ c. search needs) cast-if4 returns-3
-    (λ c κs. search needs) (λ c. search needs))
+    tie.close (tie.spec (λ c. search needs) (λ c κs. search needs) (λ c. search needs) (λ c. search needs) (λ c κs. search needs)
+    (λ c. search needs) (λ c. search needs) (λ c. search needs) (λ c. search needs) cast-if4 returns-3 (λ c κs. search needs) (λ c. search needs))

@@ -1,7 +1,4 @@
-use mathlib.Core.Path.{sym}
-use native.Mathlib.Omega.{arith}
-use lib.ListN.{List·getD-eq-default}
-use borrow.Author.Needs.{needs}
+use Rattle.compiler.proofs.Basics.{sym, arith, List·getD-eq-default, needs}
 use Rattle.compiler.proofs.scope.byte_at.Statement.{statement}
 use Rattle.compiler.proofs.scope.byte_at.Tie as tie
 

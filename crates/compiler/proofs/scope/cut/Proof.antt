@@ -1,7 +1,5 @@
-use native.Mathlib.Omega.{arith}
-use mathlib.Core.Path.{_∙_}
+use Rattle.compiler.proofs.Basics.{arith, _∙_, needs}
 use Rattle.compiler.proofs.Scoping.{not-long, long}
-use borrow.Author.Needs.{needs}
 use Rattle.compiler.proofs.scope.cut.Statement.{statement}
 use Rattle.compiler.proofs.scope.cut.Tie as tie
 

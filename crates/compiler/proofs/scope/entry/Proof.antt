@@ -1,7 +1,4 @@
-use native.Mathlib.Omega.{arith}
-use mathlib.Core.Path.{refl, sym}
-use lib.ListN.{List·getD-eq-default}
-use borrow.Author.Needs.{needs}
+use Rattle.compiler.proofs.Basics.{arith, refl, sym, List·getD-eq-default, needs}
 use Rattle.compiler.proofs.scope.entry.Statement.{statement}
 use Rattle.compiler.proofs.scope.entry.Tie as tie
 

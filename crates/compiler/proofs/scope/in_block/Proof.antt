@@ -1,7 +1,4 @@
-use Prim.Native.Nat.{_≤_}
-use mathlib.Core.Path.{sym, ap, _∙_}
-use native.Mathlib.Omega.{arith}
-use borrow.Author.Needs.{needs}
+use Rattle.compiler.proofs.Basics.{_≤_, sym, ap, _∙_, arith, needs}
 use Rattle.language.specs.Names.{Scope, inBlock}
 use Rattle.compiler.specs.Scope.{Shows, nameAt, found}
 use Rattle.compiler.proofs.Scoping.{shows-low, Left, left-all, left-then, in-outer, in-open, in-other, in-found}
@@ -63,5 +60,4 @@ pub in-block-spec : {M : Type 1} → statement M
 in-block-spec =
     tie.close (tie.spec Inv-loop μ-loop returns (search needs) (search needs) (search needs) (search needs)
     (λ c _. (c .entry2 .ensures .1, c .before .entry .ensures .1)) (λ c. (omega arith, λ sc h. left-all _ sc h))
-    (λ c. omega arith) (λ c κs. omega arith) returns-2 (λ c κs. omega arith) (λ c κs. search needs) returns-3
-    (λ c. omega arith) loop-again returns-4)
+    (λ c. omega arith) (λ c κs. omega arith) returns-2 (λ c κs. omega arith) (λ c κs. search needs) returns-3 (λ c. omega arith) loop-again returns-4)

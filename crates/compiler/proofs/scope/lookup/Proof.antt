@@ -1,7 +1,4 @@
-use Prim.Native.Nat.{_≤_}
-use mathlib.Core.Path.{sym, ap, _∙_}
-use native.Mathlib.Omega.{arith}
-use borrow.Author.Needs.{needs}
+use Rattle.compiler.proofs.Basics.{_≤_, sym, ap, _∙_, arith, needs}
 use Rattle.language.specs.Names.{Scope, lookup}
 use Rattle.compiler.specs.Scope.{Shows, nameAt, found}
 use Rattle.compiler.proofs.Scoping.{shows-low, Left, left-all, left-then, at-outer, at-open, at-other, at-found}
@@ -65,8 +62,7 @@ returns-3 c =
         by = λ sc h. let l = after-loop .loop .inv .2 sc h in at-found (start .args .source .now) (start .args .s .now) (start .args .leaf)
             (after-loop .loop .at) (after-if2 .if2 .left) (c .stacked3 .ensures .0)
             (λ e. after-if3 .if3 .left (after-stacked .stacked .ensures .0 ∙ sym (c .stacked3 .ensures .0) ∙ e))
-            (after-stacked2 .stacked2 .ensures .0)
-            (after-entry .entry .ensures .0) (after-entry2 .entry2 .ensures .0) (l .shows)
+            (after-stacked2 .stacked2 .ensures .0) (after-entry .entry .ensures .0) (after-entry2 .entry2 .ensures .0) (l .shows)
             (sym (c .before .if4 .taken) ∙ c .before .before .spelt .ensures) ∙ ap found (sym (l .same));
       },
       c .stacked3 .ensures .1,
@@ -74,8 +70,7 @@ returns-3 c =
 
 pub lookup-spec : {M : Type 1} → statement M
 lookup-spec =
-    tie.close
-    (tie.spec Inv-loop μ-loop Inv-search μ-search returns (search needs) (search needs) (search needs) (search needs)
+    tie.close (tie.spec Inv-loop μ-loop Inv-search μ-search returns (search needs) (search needs) (search needs) (search needs)
     (λ c _. (c .entry2 .ensures .1, c .before .entry .ensures .1)) (λ c. (omega arith, λ sc h. left-all _ sc h))
     (λ c. (omega arith, c .search .inv .0, c .search .inv .1)) returns-2 (λ c. omega arith) (λ c κs. omega arith)
     (λ c. omega arith) search-again (λ c κs. omega arith) (λ c κs. search needs) (λ c. omega arith) loop-again

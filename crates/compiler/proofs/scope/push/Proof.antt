@@ -1,11 +1,8 @@
-use lib.ListN.{length-set}
-use native.Mathlib.Omega.{arith}
-use borrow.Author.Needs.{needs}
+use Rattle.compiler.proofs.Basics.{length-set, arith, needs}
 use Rattle.compiler.proofs.scope.push.Statement.{statement}
 use Rattle.compiler.proofs.scope.push.Tie as tie
 
 pub push-spec : {M : Type 1} → statement M
 push-spec =
-    tie.close (tie.spec (search needs) (search needs) (search needs) (search needs) (search needs) (search needs)
-    (λ c. simp length-set (omega arith))
+    tie.close (tie.spec (search needs) (search needs) (search needs) (search needs) (search needs) (search needs) (λ c. simp length-set (omega arith))
     (search needs) (search needs))

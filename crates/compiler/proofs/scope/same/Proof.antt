@@ -1,10 +1,6 @@
-use Prim.Native.Nat.{_≤_}
-use native.Mathlib.Omega.{arith}
-use mathlib.Core.Path.{_≡_, refl, sym, _∙_}
-use lib.ListN.{take, drop}
+use Rattle.compiler.proofs.Basics.{_≤_, arith, _≡_, refl, sym, _∙_, take, drop, needs}
 use Rattle.language.specs.Names.{sameBytes}
 use Rattle.compiler.proofs.Scoping.{one-fewer, differs, all-passed}
-use borrow.Author.Needs.{needs}
 use Rattle.compiler.proofs.scope.same.Statement.{statement}
 use Rattle.compiler.proofs.scope.same.Tie as tie
 
@@ -32,6 +28,5 @@ returns-2 c = all-passed _ _ (c .before .loop .i) (omega arith) ∙ sym (c .befo
 
 pub same-spec : {M : Type 1} → statement M
 same-spec =
-    tie.close
-    (tie.spec Inv-loop μ-loop (λ c. (omega arith, refl)) (λ c. omega arith) (λ c. omega arith) (λ c. omega arith)
+    tie.close (tie.spec Inv-loop μ-loop (λ c. (omega arith, refl)) (λ c. omega arith) (λ c. omega arith) (λ c. omega arith)
     (λ c. omega arith) (λ c. omega arith) returns (λ c. omega arith) loop-again returns-2)

@@ -1,6 +1,4 @@
-use native.Mathlib.Omega.{arith}
-use mathlib.Core.Path.{refl}
-use borrow.Author.Needs.{needs}
+use Rattle.compiler.proofs.Basics.{arith, refl, needs}
 use Rattle.compiler.proofs.scope.stacked.Statement.{statement}
 use Rattle.compiler.proofs.scope.stacked.Tie as tie
 

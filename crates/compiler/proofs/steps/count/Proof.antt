@@ -1,6 +1,4 @@
-use Prim.Native.Nat.{_≤_, _-_}
-use native.Mathlib.Omega.{arith}
-use borrow.Author.Needs.{needs}
+use Rattle.compiler.proofs.Basics.{_≤_, _-_, arith, needs}
 use Rattle.compiler.proofs.Counting.{Counting, count-begin, count-next, count-end}
 use Rattle.compiler.proofs.steps.count.Statement.{statement}
 use Rattle.compiler.proofs.steps.count.Tie as tie
@@ -14,5 +12,4 @@ abbrev μ-loop : tie.MeasureT-loop
 pub count-spec : {M : Type 1} → statement M
 count-spec =
     tie.close (tie.spec Inv-loop μ-loop (λ c. (omega arith, count-begin)) (λ c. omega arith)
-    (search needs) (λ c. omega arith) (λ c. omega arith) (λ c. omega arith) (λ c. (omega arith, search count-next))
-    (λ c. search count-end))
+    (search needs) (λ c. omega arith) (λ c. omega arith) (λ c. omega arith) (λ c. (omega arith, search count-next)) (λ c. search count-end))

@@ -1,8 +1,6 @@
-use Prim.Native.Nat.{_-_}
-use native.Mathlib.Omega.{arith}
-use borrow.Author.Needs.{needs}
-use mathlib.Core.Path.{_≡_, refl, _∙_}
-use lib.ListN.{length}
+use Rattle.compiler.proofs.Basics.{_+_, _*_, _-_, _≤_, _<_, _^_, arith, needs, _≡_, refl, _∙_, length}
+use Rattle.compiler.proofs.Vocabulary.{nameAt}
+use Rattle.language.specs.Fine.{FineName}
 use Rattle.compiler.specs.Commands.{ReadyNames}
 use Rattle.compiler.proofs.Declarations.{NamesPart, names-begin, names-next, names-end, names-fit}
 use Rattle.compiler.proofs.steps.declare.Statement.{statement}
@@ -15,81 +13,15 @@ Inv-loop source s₀ from end top height at₀ k₀ r₀ s at k r =
 abbrev μ-loop : tie.MeasureT-loop
 μ-loop source s₀ from end top height at₀ k₀ r₀ s at k r = end - at
 
-mul-in-block : tie.Need-mul-in-block Inv-loop μ-loop
-mul-in-block c =
-    omega (
-      arith,
-      (let start = c .before .before .before .before .before in names-fit (start .args .source .now) (c .before .before .loop .k)
-          (c .before .loop-test .taken) (start .pre) (c .before .before .loop .inv .1 (start .pre))),
-    )
-
-add-in-block : tie.Need-add-in-block Inv-loop μ-loop
-add-in-block c =
-    omega (
-      arith,
-      (let start = c .before .before .before .before .before in names-fit (start .args .source .now) (c .before .before .loop .k)
-          (c .before .loop-test .taken) (start .pre) (c .before .before .loop .inv .1 (start .pre))),
-    )
-
-mul-push-name : tie.Need-mul-push-name Inv-loop μ-loop
-mul-push-name c =
-    omega (
-      arith,
-      (let after-loop-test = c .before .before .before .before .before .before in let after-loop = after-loop-test .before in let start =
-          after-loop .before .before .before in names-fit (start .args .source .now) (after-loop .loop .k) (after-loop-test .loop-test .taken)
-          (start .pre) (after-loop .loop .inv .1 (start .pre))),
-    )
-
-add-push-name : tie.Need-add-push-name Inv-loop μ-loop
-add-push-name c =
-    omega (
-      arith,
-      (let after-loop-test = c .before .before .before .before .before .before in let after-loop = after-loop-test .before in let start =
-          after-loop .before .before .before in names-fit (start .args .source .now) (after-loop .loop .k) (after-loop-test .loop-test .taken)
-          (start .pre) (after-loop .loop .inv .1 (start .pre))),
-    )
-
-add-push-name-2 : tie.Need-add-push-name-2 Inv-loop μ-loop
-add-push-name-2 c =
-    omega (
-      arith,
-      (let after-loop-test = c .before .before .before .before .before .before in let after-loop = after-loop-test .before in let start =
-          after-loop .before .before .before in names-fit (start .args .source .now) (after-loop .loop .k) (after-loop-test .loop-test .taken)
-          (start .pre) (after-loop .loop .inv .1 (start .pre))),
-    )
-
-mul-push-name-2 : tie.Need-mul-push-name-2 Inv-loop μ-loop
-mul-push-name-2 c =
-    omega (
-      arith,
-      (let after-loop-test = c .before .before .before .before .before .before in let after-loop = after-loop-test .before in let start =
-          after-loop .before .before .before in names-fit (start .args .source .now) (after-loop .loop .k) (after-loop-test .loop-test .taken)
-          (start .pre) (after-loop .loop .inv .1 (start .pre))),
-    )
-
-add-push-name-3 : tie.Need-add-push-name-3 Inv-loop μ-loop
-add-push-name-3 c =
-    omega (
-      arith,
-      (let after-loop-test = c .before .before .before .before .before .before in let after-loop = after-loop-test .before in let start =
-          after-loop .before .before .before in names-fit (start .args .source .now) (after-loop .loop .k) (after-loop-test .loop-test .taken)
-          (start .pre) (after-loop .loop .inv .1 (start .pre))),
-    )
+-- what a name needs
+fit : (c : tie.In-loop Inv-loop μ-loop) → let start = c .before .before .before .before in let l = c .before .loop in
+    (start .args .top + 2 * l .k + 2 ≤ length (l .s)) × (start .args .height + l .k < 2 ^ 29) × (l .at < 2 ^ 32)
+    × (start .args .top + 2 * l .k + 2 ≤ start .pre .base) × FineName (nameAt (l .s) (l .at))
+fit c = let start = c .before .before .before .before in
+    names-fit (start .args .source .now) (c .before .loop .k) (c .loop-test .taken) (start .pre) (c .before .loop .inv .1 (start .pre))
 
 push-name-requires : tie.Need-push-name-requires Inv-loop μ-loop
-push-name-requires c κs =
-    (let after-loop-test = c .before .before .before .before .before .before in let after-loop = after-loop-test .before in let start =
-    after-loop .before .before .before in let w = names-fit (start .args .source .now) (after-loop .loop .k) (after-loop-test .loop-test .taken)
-    (start .pre) (after-loop .loop .inv .1 (start .pre)) in (omega arith, omega arith, omega arith, w .4))
-
-add-k : tie.Need-add-k Inv-loop μ-loop
-add-k c =
-    omega (
-      arith,
-      (let after-loop-test = c .before .before .before .before .before .before .before .before .before in let after-loop = after-loop-test .before in
-          let start = after-loop .before .before .before in names-fit (start .args .source .now) (after-loop .loop .k)
-          (after-loop-test .loop-test .taken) (start .pre) (after-loop .loop .inv .1 (start .pre))),
-    )
+push-name-requires c κs = let w = fit (c .before .before .before .before .before .before) in (omega arith, omega arith, omega arith, w .4)
 
 loop-again : tie.Need-loop-again Inv-loop μ-loop
 loop-again c =
@@ -107,7 +39,12 @@ returns c = names-end (c .before .before .before .before .args .source .now) (c 
 
 pub declare-spec : {M : Type 1} → statement M
 declare-spec =
-    tie.close (tie.spec Inv-loop μ-loop (λ c. (refl, λ y. search names-begin)) mul-in-block add-in-block
-    (λ c κs. search (needs, names-fit)) (λ c. omega arith)
-    (search needs) (λ c _. c .entry .ensures .1) mul-push-name add-push-name add-push-name-2 mul-push-name-2
-    add-push-name-3 push-name-requires add-k (λ c. omega arith) (λ c. omega arith) loop-again (search needs) returns)
+    tie.close (tie.spec Inv-loop μ-loop (λ c. (refl, λ y. search names-begin)) (λ c. omega (arith, fit (c .before)))
+    (λ c. omega (arith, fit (c .before))) (λ c κs. search (needs, names-fit)) (λ c. omega arith) (search needs) (λ c _. c .entry .ensures .1)
+    (λ c. omega (arith, fit (c .before .before .before .before .before .before)))
+    (λ c. omega (arith, fit (c .before .before .before .before .before .before)))
+    (λ c. omega (arith, fit (c .before .before .before .before .before .before)))
+    (λ c. omega (arith, fit (c .before .before .before .before .before .before)))
+    (λ c. omega (arith, fit (c .before .before .before .before .before .before))) push-name-requires
+    (λ c. omega (arith, fit (c .before .before .before .before .before .before .before .before .before))) (λ c. omega arith) (λ c. omega arith)
+    loop-again (search needs) returns)

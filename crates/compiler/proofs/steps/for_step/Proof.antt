@@ -1,7 +1,5 @@
-use mathlib.Core.Path.{_∙_}
-use native.Mathlib.Omega.{arith}
+use Rattle.compiler.proofs.Basics.{_∙_, arith, needs}
 use Rattle.compiler.proofs.Done.{emits-then}
-use borrow.Author.Needs.{needs}
 use Rattle.compiler.proofs.steps.for_step.Statement.{statement}
 use Rattle.compiler.proofs.steps.for_step.Tie as tie
 
@@ -31,6 +29,5 @@ returns c =
 
 pub for-step-spec : {M : Type 1} → statement M
 for-step-spec =
-    tie.close
-    (tie.spec (search needs) (search needs) (search needs) (search needs) (search needs) (search needs) add-mark-2
+    tie.close (tie.spec (search needs) (search needs) (search needs) (search needs) (search needs) (search needs) add-mark-2
     (search needs) same-length returns)

@@ -1,8 +1,6 @@
-use mathlib.Core.Path.{_∙_}
-use native.Mathlib.Omega.{arith}
+use Rattle.compiler.proofs.Basics.{_∙_, arith, needs}
 use Rattle.compiler.proofs.Done.{emits-then}
 use Rattle.compiler.proofs.Fors.{act-is}
-use borrow.Author.Needs.{needs}
 use Rattle.compiler.proofs.steps.for_test.Statement.{statement}
 use Rattle.compiler.proofs.steps.for_test.Tie as tie
 
@@ -30,6 +28,5 @@ returns c =
 
 pub for-test-spec : {M : Type 1} → statement M
 for-test-spec =
-    tie.close
-    (tie.spec (search needs) (search needs) (search needs) (search needs) (search needs) (search needs) add-put-to
+    tie.close (tie.spec (search needs) (search needs) (search needs) (search needs) (search needs) (search needs) add-put-to
     (search needs) same-length returns)

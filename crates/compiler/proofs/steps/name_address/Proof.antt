@@ -1,16 +1,8 @@
-use mathlib.Core.Path.{refl}
+use Rattle.compiler.proofs.Basics.{needs}
 use Rattle.code.specs.Generate as G
 use Rattle.compiler.proofs.Sides.{of-local, of-global, of-unknown, of-other, sayAddress, local-address, global-address}
-use borrow.Author.Needs.{needs}
 use Rattle.compiler.proofs.steps.name_address.Statement.{statement}
 use Rattle.compiler.proofs.steps.name_address.Tie as tie
-
-returns : tie.Need-returns
-returns c =
-    record {
-      by = of-unknown sayAddress (c .before .before .before .before .before .args .name) (c .before .before .before .before .before .args .place)
-          (c .before .before .if1 .taken) (c .before .wrong .ensures) (c .wrong2 .ensures) refl;
-    }
 
 returns-2 : tie.Need-returns-2
 returns-2 c =
@@ -28,15 +20,9 @@ returns-3 c =
           (c .before .before .put2 .ensures);
     }
 
-returns-4 : tie.Need-returns-4
-returns-4 c =
-    record {
-      by = of-other sayAddress (c .before .before .before .before .args .name) (c .before .before .before .before .args .place)
-          (c .before .before .match .rest .0 .1) (c .before .before .match .rest .1) (c .before .if1 .left) (c .wrong3 .ensures) refl;
-    }
-
 pub name-address-spec : {M : Type 1} → statement M
 name-address-spec =
-    tie.close
-    (tie.spec (search needs) (search needs) (search needs) (search needs) returns (search needs) (search needs)
-    returns-2 (search needs) returns-3 returns-4)
+    tie.close (tie.spec (search needs) (search needs) (search needs) (search needs)
+    (λ c. record { by = search (of-unknown sayAddress) }) (search needs) (search needs)
+    returns-2 (search needs) returns-3
+    (λ c. record { by = search (of-other sayAddress) }))

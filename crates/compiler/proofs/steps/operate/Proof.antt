@@ -10,7 +10,4 @@ returns c =
     (emits-then (c .before .before .before .before .before .before .put3 .ensures) (c .before .before .put4 .ensures)))
 
 pub operate-spec : {M : Type 1} → statement M
-operate-spec =
-    tie.close
-    (tie.spec (search needs) (search needs) (search needs) (search needs) (search needs) (search needs) (search needs)
-    returns)
+operate-spec = tie.close (tie.spec (search needs) (search needs) (search needs) (search needs) (search needs) (search needs) (search needs) returns)

@@ -9,6 +9,4 @@ returns c =
     (emits-then (c .before .before .before .before .before .before .put2 .ensures) (c .before .before .put3 .ensures))
 
 pub store-through-spec : {M : Type 1} → statement M
-store-through-spec =
-    tie.close
-    (tie.spec (search needs) (search needs) (search needs) (search needs) (search needs) (search needs) returns)
+store-through-spec = tie.close (tie.spec (search needs) (search needs) (search needs) (search needs) (search needs) (search needs) returns)

@@ -1,9 +1,4 @@
-use Prim.Native.Nat.{_-_, _≤_}
-use mathlib.Core.Path.{_≡_, refl}
-use mathlib.Core.List.{[]}
-use native.Mathlib.Omega.{arith}
-use borrow.Author.Needs.{needs}
-use lib.ListN.{length}
+use Rattle.compiler.proofs.Basics.{_-_, _≤_, _≡_, refl, [], arith, needs, length}
 use Rattle.compiler.specs.Walked.{Emits}
 use Rattle.compiler.specs.Repeats.{topsCode}
 use Rattle.compiler.proofs.Repeating.{tops-none, tops-next, tops-all}
@@ -19,5 +14,4 @@ abbrev μ-loop : tie.MeasureT-loop
 pub tops-spec : {M : Type 1} → statement M
 tops-spec =
     tie.close (tie.spec Inv-loop μ-loop (λ c. (refl, omega arith, tops-none _)) (λ c. omega arith) (λ c. omega arith)
-    (search needs) (λ c. omega arith) (λ c. omega arith) (λ c. search (needs, tops-next))
-    (λ c. c .before .loop .inv .0) (λ c. search tops-all))
+    (search needs) (λ c. omega arith) (λ c. omega arith) (λ c. search (needs, tops-next)) (λ c. c .before .loop .inv .0) (λ c. search tops-all))

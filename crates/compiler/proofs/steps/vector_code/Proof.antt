@@ -10,6 +10,4 @@ returns c =
 
 pub vector-code-spec : {M : Type 1} → statement M
 vector-code-spec =
-    tie.close
-    (tie.spec (search needs) (search needs) (search needs) (search needs) (search needs) (search needs) (search needs)
-    returns)
+    tie.close (tie.spec (search needs) (search needs) (search needs) (search needs) (search needs) (search needs) (search needs) returns)

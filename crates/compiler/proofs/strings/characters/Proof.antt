@@ -1,8 +1,4 @@
-use Prim.Native.Nat.{_-_}
-use mathlib.Core.Path.{_≡_, refl}
-use native.Mathlib.Omega.{arith}
-use borrow.Author.Needs.{needs}
-use lib.ListN.{length}
+use Rattle.compiler.proofs.Basics.{_-_, _≡_, refl, arith, needs, length}
 use Rattle.text.proofs.Answers.{when-is, when-closing, when-ended, when-mistake}
 use Rattle.text.proofs.Quotes.{is-inside}
 use Rattle.compiler.proofs.StringTexts.{Spelling, spelling-begin, spelling-next, spelling-end, spelling-ended, spelling-mistake}
@@ -32,13 +28,11 @@ loop-less c =
     omega (arith, is-inside 34 source i one)
 
 returns-3 : tie.Need-returns-3 Inv-loop μ-loop
-returns-3 c = spelling-mistake (when-mistake _ (c .before .before .character-at .ensures) (c .enum-told3 .given .1)) (c .before .before .before .loop .inv .1)
+returns-3 c = spelling-mistake (when-mistake _ (c .before .before .character-at .ensures) (c .enum-told3 .given .1))
+    (c .before .before .before .loop .inv .1)
 
 pub characters-spec : {M : Type 1} → statement M
 characters-spec =
-    tie.close (tie.spec Inv-loop μ-loop (λ _. (refl, spelling-begin))
-    (search needs) (search needs) (search needs) add-i loop-less
-    (λ c. (search needs, search (spelling-next, when-is)))
-    (search needs) (search needs) (λ c. search (spelling-end, when-closing))
-    (search needs) (search needs) (λ c. search (spelling-ended, when-ended))
-    (search needs) (search needs) returns-3)
+    tie.close (tie.spec Inv-loop μ-loop (λ _. (refl, spelling-begin)) (search needs) (search needs) (search needs) add-i loop-less
+    (λ c. (search needs, search (spelling-next, when-is))) (search needs) (search needs) (λ c. search (spelling-end, when-closing))
+    (search needs) (search needs) (λ c. search (spelling-ended, when-ended)) (search needs) (search needs) returns-3)

@@ -1,6 +1,4 @@
-use Prim.Native.Nat.{_-_}
-use native.Mathlib.Omega.{arith}
-use borrow.Author.Needs.{needs}
+use Rattle.compiler.proofs.Basics.{_-_, arith, needs}
 use Rattle.compiler.proofs.StartTexts.{Passed, passed-begin, passed-next, passed-found, passed-end}
 use Rattle.compiler.proofs.strings.global_of.Statement.{statement}
 use Rattle.compiler.proofs.strings.global_of.Tie as tie
@@ -14,5 +12,4 @@ abbrev μ-loop : tie.MeasureT-loop
 pub global-of-spec : {M : Type 1} → statement M
 global-of-spec =
     tie.close (tie.spec Inv-loop μ-loop (λ c. passed-begin)
-    (search needs) (λ c. search passed-found) (λ c. omega arith) (λ c. omega arith) (λ c. search passed-next)
-    (λ c. search passed-end))
+    (search needs) (λ c. search passed-found) (λ c. omega arith) (λ c. omega arith) (λ c. search passed-next) (λ c. search passed-end))

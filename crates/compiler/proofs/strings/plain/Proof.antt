@@ -5,6 +5,5 @@ use Rattle.compiler.proofs.strings.plain.Tie as tie
 
 pub plain-spec : {M : Type 1} → statement M
 plain-spec =
-    tie.close
-    (tie.spec (search needs) (search needs) (λ c. search plain-low) (search needs) (search needs) (λ c. search plain-high) (search needs)
+    tie.close (tie.spec (search needs) (search needs) (λ c. search plain-low) (search needs) (search needs) (λ c. search plain-high) (search needs)
     (search needs) (λ c. search plain-itself))

@@ -1,7 +1,4 @@
-use Prim.Native.Nat.{_-_}
-use mathlib.Core.Path.{_≡_, refl}
-use lib.ListN.{length}
-use borrow.Author.Needs.{needs}
+use Rattle.compiler.proofs.Basics.{_-_, _≡_, refl, length, needs}
 use Rattle.compiler.proofs.StartTexts.{StartsSoFar, starts-begin, starts-next, starts-end}
 use Rattle.compiler.proofs.strings.starts.Statement.{statement}
 use Rattle.compiler.proofs.strings.starts.Tie as tie
@@ -15,5 +12,4 @@ abbrev μ-loop : tie.MeasureT-loop
 pub starts-spec : {M : Type 1} → statement M
 starts-spec =
     tie.close (tie.spec Inv-loop μ-loop (λ c. (refl, starts-begin))
-    (search needs) (search needs) (search needs) (search needs) (λ c. (search needs, search starts-next))
-    (search needs) (λ c. search starts-end))
+    (search needs) (search needs) (search needs) (search needs) (λ c. (search needs, search starts-next)) (search needs) (λ c. search starts-end))

@@ -1,6 +1,4 @@
-use Prim.Native.Nat.{_-_}
-use native.Mathlib.Omega.{arith}
-use borrow.Author.Needs.{needs}
+use Rattle.compiler.proofs.Basics.{_-_, arith, needs}
 use Rattle.compiler.proofs.StringTexts.{oneIf-small, Counted, counted-begin, counted-next, counted-end}
 use Rattle.compiler.proofs.strings.string_count.Statement.{statement}
 use Rattle.compiler.proofs.strings.string_count.Tie as tie

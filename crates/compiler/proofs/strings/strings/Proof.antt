@@ -1,8 +1,4 @@
-use Prim.Native.Nat.{_+_, _-_, _≤_}
-use mathlib.Core.Path.{_≡_, refl}
-use native.Mathlib.Omega.{arith}
-use lib.ListN.{length}
-use borrow.Author.Needs.{needs}
+use Rattle.compiler.proofs.Basics.{_+_, _-_, _≤_, _≡_, refl, arith, length, needs}
 use Rattle.compiler.proofs.StringTexts.{oneIf-small, Listing, listing-begin, listing-next, listing-end}
 use Rattle.compiler.proofs.strings.strings.Statement.{statement}
 use Rattle.compiler.proofs.strings.strings.Tie as tie
@@ -25,8 +21,7 @@ loop-again c =
     let loop = c .before .before .before .before .before .before .before .before .loop in (
       search needs,
       omega (arith, oneIf-small (entry .result)),
-      listing-next
-          (c .before .before .before .before .before .before .before .loop-test .taken) (entry .ensures .0)
+      listing-next (c .before .before .before .before .before .before .before .loop-test .taken) (entry .ensures .0)
           (c .before .before .before .before .before .entry2 .ensures .0) (c .one-if .ensures) (c .before .before .before .string-symbol .ensures)
           (loop .inv .2),
     )

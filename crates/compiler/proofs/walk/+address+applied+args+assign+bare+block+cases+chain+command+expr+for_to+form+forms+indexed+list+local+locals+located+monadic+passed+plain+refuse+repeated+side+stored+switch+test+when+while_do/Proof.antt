@@ -21,16 +21,13 @@ use Choices.{when-ok, test-ok, switch-ok, cases-ok}
 use Blocks.{block-ok, list-ok, local-ok, locals-ok}
 use Commands.{command-ok, bare-ok, plain-ok}
 
-pub +address+applied+args+assign+bare+block+cases+chain+command+expr+for-to+form+forms+indexed+list+local+locals+located+monadic+passed+plain+refuse+repeated+side+stored+switch+test+when+while-do-spec :
-    {M : Type 1} → statement M
+pub
+    +address+applied+args+assign+bare+block+cases+chain+command+expr+for-to+form+forms+indexed+list+local+locals+located+monadic+passed+plain+refuse+repeated+side+stored+switch+test+when+while-do-spec : {M : Type 1} → statement M
 +address+applied+args+assign+bare+block+cases+chain+command+expr+for-to+form+forms+indexed+list+local+locals+located+monadic+passed+plain+refuse+repeated+side+stored+switch+test+when+while-do-spec =
-    close
-    (address-rank .measure) (applied-rank .measure) (args-rank .measure) (assign-rank .measure) (bare-rank .measure)
-    (block-rank .measure) (cases-rank .measure) (chain-rank .measure) (command-rank .measure) (expr-rank .measure)
-    (for-to-rank .measure) (form-rank .measure) (forms-rank .measure) (indexed-rank .measure) (list-rank .measure)
-    (local-rank .measure) (locals-rank .measure) (located-rank .measure) (monadic-rank .measure) (passed-rank .measure)
-    (plain-rank .measure) (refuse-rank .measure) (repeated-rank .measure) (side-rank .measure) (stored-rank .measure)
-    (switch-rank .measure) (test-rank .measure) (when-rank .measure) (while-do-rank .measure)
-    address-ok applied-ok args-ok assign-ok bare-ok block-ok cases-ok chain-ok command-ok expr-ok for-to-ok form-ok
-    forms-ok indexed-ok list-ok local-ok locals-ok located-ok monadic-ok passed-ok plain-ok refuse-ok repeated-ok
-    side-ok stored-ok switch-ok test-ok when-ok while-do-ok
+    close (address-rank .measure) (applied-rank .measure) (args-rank .measure) (assign-rank .measure) (bare-rank .measure) (block-rank .measure)
+    (cases-rank .measure) (chain-rank .measure) (command-rank .measure) (expr-rank .measure) (for-to-rank .measure) (form-rank .measure)
+    (forms-rank .measure) (indexed-rank .measure) (list-rank .measure) (local-rank .measure) (locals-rank .measure) (located-rank .measure)
+    (monadic-rank .measure) (passed-rank .measure) (plain-rank .measure) (refuse-rank .measure) (repeated-rank .measure) (side-rank .measure)
+    (stored-rank .measure) (switch-rank .measure) (test-rank .measure) (when-rank .measure) (while-do-rank .measure) address-ok applied-ok args-ok
+    assign-ok bare-ok block-ok cases-ok chain-ok command-ok expr-ok for-to-ok form-ok forms-ok indexed-ok list-ok local-ok locals-ok located-ok
+    monadic-ok passed-ok plain-ok refuse-ok repeated-ok side-ok stored-ok switch-ok test-ok when-ok while-do-ok

@@ -2,16 +2,12 @@
 use Rattle.compiler.proofs as proofs
 use Rattle.compiler.proofs.walk.+address+applied+args+assign+bare+block+cases+chain+command+expr+for_to+form+forms+indexed+list+local+locals+located+monadic+passed+plain+refuse+repeated+side+stored+switch+test+when+while_do as cycle
 use Rattle.compiler.specs.Commands.{ReadyList}
-use Prim.Native.Nat.{_-_, ℕ}
+use Rattle.compiler.proofs.Basics.{_-_, ℕ, _∙_, _≡_, refl, length, arith, needs}
 use Rattle.compiler.proofs.Blocks.{ListPart, list-begin, list-part, list-next, list-end, LocalsPart, locals-begin, locals-part, locals-next}
 use Rattle.compiler.proofs.Blocks.{locals-end, locals-ready-at, list-ready-at, local-gave-at, locals-gave-at, list-gave-at, block-room}
 use Rattle.compiler.proofs.Blocks.{block-locals, block-list, block-gave}
 use Rattle.compiler.proofs.Judging.{values-args, values-names, values-gave}
 use Rattle.compiler.specs.Locals.{ReadyLocals}
-use mathlib.Core.Path.{_∙_, _≡_, refl}
-use lib.ListN.{length}
-use native.Mathlib.Omega.{arith}
-use borrow.Author.Needs.{needs}
 use Rattle.compiler.proofs.Expressions.{ready-at, left-at}
 use borrow.Fn.PlainCycle.{is}
 use proofs.walk.args.Reads as args
@@ -31,23 +27,12 @@ use proofs.steps.marked.Reads as marked
 use proofs.steps.node_at.Reads as node-at
 use proofs.steps.set_at.Reads as set-at
 use proofs.steps.vector.Reads as vector
-use cycle.Proof.Ranks.{at, below, both, args-rank, block-rank, command-rank, list-rank, local-rank, locals-rank}
+use cycle.Proof.Ranks.{at, below, both, six, args-rank, block-rank, command-rank, list-rank, local-rank, locals-rank}
 
 abbrev block-cs : ℕ → block-lts.Claims
-block-cs t = (
-  node-at.Asked,
-  node-at.Learnt,
-  push.Asked,
-  push.Learnt,
-  marked.Asked,
-  marked.Learnt,
-  below locals-rank t,
-  locals.Post,
-  set-at.Asked,
-  set-at.Learnt,
-  below list-rank t,
-  list.Post,
-)
+block-cs t =
+    six (node-at.Asked, node-at.Learnt) (push.Asked, push.Learnt) (marked.Asked, marked.Learnt) (below locals-rank t, locals.Post)
+    (set-at.Asked, set-at.Learnt) (below list-rank t, list.Post)
 
 block-push-requires : (t : ℕ) → block-lts.Need-push-requires (block-cs t) (at block-rank t) block.Post
 block-push-requires t c κs =
@@ -178,8 +163,7 @@ locals-loop-again t c =
     let after-entry = after-set-at .before in let after-loop-test = after-entry .before .before in let after-loop = after-loop-test .before in (
       after-local .local .kept .1 .0 ∙ after-loop .loop .inv .0,
       after-local .local .kept .1 .1 .1 .0 ∙ after-loop .loop .inv .1,
-      λ y. locals-next _ _
-          (after-loop-test .loop-test .taken) (after-entry .entry .ensures .0) refl
+      λ y. locals-next _ _ (after-loop-test .loop-test .taken) (after-entry .entry .ensures .0) refl
           (local-gave-at (after-set-at .set-at .ensures) (after-local .local .ensures)) y (after-loop .loop .inv .2 y),
     )
 

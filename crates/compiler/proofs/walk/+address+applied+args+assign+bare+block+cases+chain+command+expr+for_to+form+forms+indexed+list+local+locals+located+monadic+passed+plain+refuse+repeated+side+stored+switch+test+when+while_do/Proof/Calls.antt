@@ -1,16 +1,12 @@
 -- A primary with what follows it: indices and calls, and their arguments.
 use Rattle.compiler.proofs as proofs
 use Rattle.compiler.proofs.walk.+address+applied+args+assign+bare+block+cases+chain+command+expr+for_to+form+forms+indexed+list+local+locals+located+monadic+passed+plain+refuse+repeated+side+stored+switch+test+when+while_do as cycle
-use Prim.Native.Nat.{_-_, ℕ}
-use Rattle.compiler.specs.Walked.{raised}
-use mathlib.Core.Path.{_∙_, _≡_, refl}
+use Rattle.compiler.proofs.Basics.{_<_, _-_, ℕ, _∙_, _≡_, refl, length, arith, needs}
+use Rattle.compiler.proofs.Vocabulary.{raised, ReadyArgs}
 use Rattle.compiler.proofs.Calls.{indexed-gave, passed-gave, with-state, args-with, ArgsPart, args-begin, args-part, args-next, args-end}
-use Rattle.compiler.proofs.Calls.{primary-part, primary-gave, index-left, index-right, index-gave, call-args, call-callee, call-gave, call-few}
+use Rattle.compiler.proofs.Calls.{LastRead, last-read, primary-part, primary-gave, index-left, index-right, index-gave, call-args, call-callee}
+use Rattle.compiler.proofs.Calls.{call-gave, call-few}
 use Rattle.compiler.proofs.Calls.{args-ready-at, suffixes-ready-at, args-gave-at, suffixes-gave-at}
-use lib.ListN.{length}
-use Rattle.compiler.specs.Walks.{ReadyArgs}
-use native.Mathlib.Omega.{arith}
-use borrow.Author.Needs.{needs}
 use Rattle.compiler.proofs.Expressions.{ready-at, gave-at, left-at}
 use proofs.walk.applied.Reads as applied
 use cycle.Lts-applied as applied-lts
@@ -29,126 +25,79 @@ use proofs.steps.less.Reads as less
 use proofs.steps.put.Reads as put
 use proofs.steps.raised.Reads as raised-reads
 use proofs.steps.reached.Reads as reached
-use cycle.Proof.Ranks.{at, below, both, applied-rank, args-rank, expr-rank, indexed-rank, passed-rank}
+use cycle.Proof.Ranks.{at, below, both, nine, applied-rank, args-rank, expr-rank, indexed-rank, passed-rank}
 
 abbrev applied-cs : ℕ → applied-lts.Claims
-applied-cs t = (
-  below expr-rank t,
-  expr.Post,
-  less.Asked,
-  less.Learnt,
-  entry.Asked,
-  entry.Learnt,
-  below applied-rank t,
-  applied.Post,
-  below indexed-rank t,
-  indexed.Post,
-  count.Asked,
-  count.Learnt,
-  below passed-rank t,
-  passed.Post,
-  raised-reads.Asked,
-  raised-reads.Learnt,
-  put.Asked,
-  put.Learnt,
-)
+applied-cs t =
+    nine (below expr-rank t, expr.Post) (less.Asked, less.Learnt) (entry.Asked, entry.Learnt) (below applied-rank t, applied.Post)
+    (below indexed-rank t, indexed.Post) (count.Asked, count.Learnt) (below passed-rank t, passed.Post) (raised-reads.Asked, raised-reads.Learnt)
+    (put.Asked, put.Learnt)
+
+abbrev applied-start : (t : ℕ) → applied-lts.After-entry2 (applied-cs t) (at applied-rank t) applied.Post → applied-lts.Start (applied-cs t)
+    (at applied-rank t) applied.Post
+applied-start t c = c .before .before .before .before .before .before .before .before .before .before .before
+
+applied-read : (t : ℕ) (c : applied-lts.After-entry2 (applied-cs t) (at applied-rank t) applied.Post) → let args = applied-start t c .args in
+    LastRead (args .s .now) (args .middle) (args .end) (c .entry2 .result) (c .before .before .before .before .before .before .less .result)
+    (c .before .before .before .less2 .result)
+applied-read t c =
+    let after-less2 = c .before .before .before in let after-less = after-less2 .before .before .before in
+    last-read (after-less .before .if1 .left) (c .before .less3 .ensures) (c .entry2 .ensures .0) (after-less .less .ensures)
+    (after-less2 .before .entry .ensures .0) (after-less2 .less2 .ensures)
 
 applied-applied-requires : (t : ℕ) → applied-lts.Need-applied-requires (applied-cs t) (at applied-rank t) applied.Post
 applied-applied-requires t c κs =
-    let after-entry2 = c .before .before .before in let after-less3 = after-entry2 .before in let after-less2 = after-less3 .before .before in
-    let after-entry = after-less2 .before in let after-less = after-entry .before .before in let after-if1 = after-less .before in
-    let start = after-if1 .before .before .before .before in
-    both (omega (arith, start .pre .0, after-if1 .if1 .left))
-    (index-left (after-if1 .if1 .left) (after-less3 .less3 .ensures) (after-entry2 .entry2 .ensures .0) (after-less .less .ensures)
-    (after-entry .entry .ensures .0) (after-less2 .less2 .ensures) (c .before .before .if2 .taken) (start .pre .1))
+    let r = c .before .before .before in let start = applied-start t r in
+    both (omega (arith, start .pre .0, applied-read t r)) (index-left (applied-read t r) (c .before .before .if2 .taken) (start .pre .1))
 
 applied-indexed-requires : (t : ℕ) → applied-lts.Need-indexed-requires (applied-cs t) (at applied-rank t) applied.Post
 applied-indexed-requires t c κs =
     let after-applied = c .before .before .before .before .before .before in let after-if2 = after-applied .before .before .before in
-    let after-entry2 = after-if2 .before in let after-less3 = after-entry2 .before in let after-less2 = after-less3 .before .before in
-    let after-entry = after-less2 .before in let after-less = after-entry .before .before in let after-if1 = after-less .before in
-    let start = after-if1 .before .before .before .before in
+    let start = applied-start t (after-if2 .before) in
     both (omega (arith, start .pre .0))
-    (index-right (after-if1 .if1 .left) (after-less3 .less3 .ensures) (after-entry2 .entry2 .ensures .0) (after-less .less .ensures)
-    (after-entry .entry .ensures .0) (after-less2 .less2 .ensures) (after-if2 .if2 .taken) _ (after-applied .applied .ensures) (start .pre .1))
+    (index-right (applied-read t (after-if2 .before)) (after-if2 .if2 .taken) _ (after-applied .applied .ensures) (start .pre .1))
 
 applied-returns-2 : (t : ℕ) → applied-lts.Need-returns-2 (applied-cs t) (at applied-rank t) applied.Post
 applied-returns-2 t c =
-    let after-indexed = c .before .before .before .before in
-    let after-applied = after-indexed .before .before .before .before .before .before .before in
-    let after-if2 = after-applied .before .before .before in let after-entry2 = after-if2 .before in let after-less3 = after-entry2 .before in
-    let after-less2 = after-less3 .before .before in let after-entry = after-less2 .before in let after-less = after-entry .before .before in
-    let after-if1 = after-less .before in
-    index-gave (after-if1 .if1 .left) (after-less3 .less3 .ensures) (after-entry2 .entry2 .ensures .0) (after-less .less .ensures)
-    (after-entry .entry .ensures .0) (after-less2 .less2 .ensures) (after-if2 .if2 .taken) _ (after-applied .applied .ensures)
-    (after-indexed .indexed .ensures)
+    let after-indexed = c .before .before .before .before in let after-applied = after-indexed .before .before .before .before .before .before
+    .before in let after-if2 = after-applied .before .before .before in
+    index-gave (applied-read t (after-if2 .before)) (after-if2 .if2 .taken) _ (after-applied .applied .ensures) (after-indexed .indexed .ensures)
 
 applied-passed-requires : (t : ℕ) → applied-lts.Need-passed-requires (applied-cs t) (at applied-rank t) applied.Post
 applied-passed-requires t c κs =
-    let after-if2 = c .before .before .before .before in let after-entry2 = after-if2 .before in let after-less3 = after-entry2 .before in
-    let after-less2 = after-less3 .before .before in let after-entry = after-less2 .before in let after-less = after-entry .before .before in
-    let after-if1 = after-less .before in let start = after-if1 .before .before .before .before in
-    both (omega (arith, start .pre .0))
-    (call-args (after-if1 .if1 .left) (after-less3 .less3 .ensures) (after-entry2 .entry2 .ensures .0) (after-less .less .ensures)
-    (after-entry .entry .ensures .0) (after-less2 .less2 .ensures) (after-if2 .if2 .left) (start .pre .1))
+    let after-if2 = c .before .before .before .before in let start = applied-start t (after-if2 .before) in
+    both (omega (arith, start .pre .0)) (call-args (applied-read t (after-if2 .before)) (after-if2 .if2 .left) (start .pre .1))
 
-applied-add-raised : (t : ℕ) → applied-lts.Need-add-raised (applied-cs t) (at applied-rank t) applied.Post
-applied-add-raised t c =
-    let after-count = c .before .before .before .before .before .before .before .before .before in let after-if2 = after-count .before .before in
-    let after-entry2 = after-if2 .before in let after-less3 = after-entry2 .before in let after-less2 = after-less3 .before .before in
-    let after-entry = after-less2 .before in let after-less = after-entry .before .before in let after-if1 = after-less .before in
-    let start = after-if1 .before .before .before .before in
-    omega (
-      arith,
-      call-few (after-if1 .if1 .left) (after-less3 .less3 .ensures) (after-entry2 .entry2 .ensures .0) (after-less .less .ensures)
-          (after-entry .entry .ensures .0) (after-less2 .less2 .ensures) (after-if2 .if2 .left) (after-count .count .ensures) (start .pre .1),
-      start .pre .1 .ready .small,
-    )
-
-applied-raised-requires : (t : ℕ) → applied-lts.Need-raised-requires (applied-cs t) (at applied-rank t) applied.Post
-applied-raised-requires t c κs =
-    let after-count = c .before .before .before .before .before .before .before .before .before in let after-if2 = after-count .before .before in
-    let after-entry2 = after-if2 .before in let after-less3 = after-entry2 .before in let after-less2 = after-less3 .before .before in
-    let after-entry = after-less2 .before in let after-less = after-entry .before .before in let after-if1 = after-less .before in
-    let start = after-if1 .before .before .before .before in
-    omega (
-      arith,
-      call-few (after-if1 .if1 .left) (after-less3 .less3 .ensures) (after-entry2 .entry2 .ensures .0) (after-less .less .ensures)
-          (after-entry .entry .ensures .0) (after-less2 .less2 .ensures) (after-if2 .if2 .left) (after-count .count .ensures) (start .pre .1),
-      start .pre .1 .ready .small,
-      start .pre .1 .ready .height,
-    )
+applied-few : (t : ℕ) (c : applied-lts.After-count (applied-cs t) (at applied-rank t) applied.Post) → c .count .result < applied-start t
+    (c .before .before .before) .args .end
+applied-few t c =
+    let r = c .before .before .before in
+    call-few (applied-read t r) (c .before .before .if2 .left) (c .count .ensures) (applied-start t r .pre .1)
 
 applied-applied-requires-2 : (t : ℕ) → applied-lts.Need-applied-requires-2 (applied-cs t) (at applied-rank t) applied.Post
 applied-applied-requires-2 t c κs =
     let after-passed = c .before .before .before .before .before .before .before in let after-count = after-passed .before .before .before in
-    let after-if2 = after-count .before .before in let after-entry2 = after-if2 .before in let after-less3 = after-entry2 .before in
-    let after-less2 = after-less3 .before .before in let after-entry = after-less2 .before in let after-less = after-entry .before .before in
-    let after-if1 = after-less .before in let start = after-if1 .before .before .before .before in
-    both (omega (arith, start .pre .0, left-at, after-less .less .ensures, after-less2 .less2 .ensures, after-if1 .if1 .left))
-    (suffixes-ready-at (c .raised .ensures)
-    (call-callee (after-if1 .if1 .left) (after-less3 .less3 .ensures) (after-entry2 .entry2 .ensures .0) (after-less .less .ensures)
-    (after-entry .entry .ensures .0) (after-less2 .less2 .ensures) (after-if2 .if2 .left) _ (after-count .count .ensures)
-    (after-passed .passed .ensures) (start .pre .1)))
+    let after-if2 = after-count .before .before in let r = after-if2 .before in let start = applied-start t r in
+    both (omega (arith, start .pre .0, left-at, applied-read t r)) (suffixes-ready-at (c .raised .ensures)
+    (call-callee (applied-read t r) (after-if2 .if2 .left) _ (after-count .count .ensures) (after-passed .passed .ensures) (start .pre .1)))
 
 applied-returns-3 : (t : ℕ) → applied-lts.Need-returns-3 (applied-cs t) (at applied-rank t) applied.Post
 applied-returns-3 t c =
     let after-applied2 = c .before .before .before .before .before .before .before .before in let after-raised = after-applied2 .before in
     let after-passed = after-raised .before .before .before .before .before .before .before in
-    let after-count = after-passed .before .before .before in let after-if2 = after-count .before .before in let after-entry2 = after-if2 .before in
-    let after-less3 = after-entry2 .before in let after-less2 = after-less3 .before .before in let after-entry = after-less2 .before in
-    let after-less = after-entry .before .before in let after-if1 = after-less .before in
-    call-gave (after-if1 .if1 .left) (after-less3 .less3 .ensures) (after-entry2 .entry2 .ensures .0) (after-less .less .ensures)
-    (after-entry .entry .ensures .0) (after-less2 .less2 .ensures) (after-if2 .if2 .left) _ (after-count .count .ensures)
-    (after-passed .passed .ensures) (suffixes-gave-at (after-raised .raised .ensures) (after-applied2 .applied2 .ensures))
-    (c .before .before .put .ensures)
+    let after-count = after-passed .before .before .before in let after-if2 = after-count .before .before in
+    call-gave (applied-read t (after-if2 .before)) (after-if2 .if2 .left) _ (after-count .count .ensures) (after-passed .passed .ensures)
+    (suffixes-gave-at (after-raised .raised .ensures) (after-applied2 .applied2 .ensures)) (c .before .before .put .ensures)
 
 pub applied-ok : {M : Type 1} (t : ℕ) → applied-lts.Closed (applied-cs t) (at applied-rank t) applied.Post M
 applied-ok t =
     applied-lts.spec (applied-cs t) (at applied-rank t) applied.Post (λ c κs. search (needs, primary-part)) (λ c. search needs) (λ c. search needs)
     (λ c. search primary-gave) (λ c κs. search needs) (λ c κs. search needs) (λ c κs. search needs) (λ c κs. search needs) (λ c κs. search needs)
     (applied-applied-requires t) (applied-indexed-requires t) (λ c. search needs) (λ c. search needs) (applied-returns-2 t) (λ c κs. omega arith)
-    (applied-passed-requires t) (applied-add-raised t) (applied-raised-requires t) (applied-applied-requires-2 t) (λ c κs. search needs)
+    (applied-passed-requires t) (λ c. let h = c .before .before .before .before .before .before .before .before .before in let y = applied-start t
+    (h .before .before .before) .pre .1 .ready in omega (arith, applied-few t h))
+    (λ c κs. let h = c .before .before .before .before .before .before .before .before .before in let y = applied-start t
+    (h .before .before .before) .pre .1 .ready in omega (arith, applied-few t h)) (applied-applied-requires-2 t) (λ c κs. search needs)
     (λ c. search needs) (λ c. search needs) (applied-returns-3 t)
 
 abbrev args-cs : ℕ → args-lts.Claims
@@ -201,8 +150,7 @@ args-loop-again t c =
     let after-entry = after-raised .before .before .before in let after-loop-test = after-entry .before .before in
     let after-loop = after-loop-test .before in (
       after-expr .expr .kept .1 .0 ∙ after-loop .loop .inv .0,
-      c .before .before .keep .kept .0 ∙ after-expr .expr .kept .1 .1 .1 .0
-          ∙ after-loop .loop .inv .1,
+      c .before .before .keep .kept .0 ∙ after-expr .expr .kept .1 .1 .1 .0 ∙ after-loop .loop .inv .1,
       λ y. args-next _ _ (after-loop .loop .k) (after-loop-test .loop-test .taken) (after-entry .entry .ensures .0) refl
           (gave-at _ (after-raised .raised .ensures) (after-expr .expr .ensures)) (c .before .before .keep .ensures) y (after-loop .loop .inv .2 y),
     )

@@ -5,12 +5,8 @@ use Rattle.compiler.proofs.Switches.{CasesPart, cases-begin, case-part,
 use Rattle.compiler.proofs.Switches.{switch-gave, gave-cases-at}
 use Rattle.compiler.specs.Commands.{ReadyCases}
 use Rattle.compiler.proofs.Conditions.{test-first, test-body, test-rest, test-gave}
-use Prim.Native.Nat.{_≤_, _-_, ℕ}
-use mathlib.Core.Path.{_∙_, _≡_, refl}
+use Rattle.compiler.proofs.Basics.{_+_, _^_, _≤_, _-_, ℕ, _∙_, _≡_, refl, length, arith, needs}
 use Rattle.compiler.proofs.Guards.{guard-test, guard-body, guard-gave}
-use lib.ListN.{length}
-use native.Mathlib.Omega.{arith}
-use borrow.Author.Needs.{needs}
 use borrow.Fn.PlainCycle.{is}
 use proofs.walk.args.Reads as args
 use proofs.walk.bare.Reads as bare
@@ -34,25 +30,12 @@ use proofs.steps.jump_unless.Reads as jump-unless
 use proofs.steps.mark.Reads as mark
 use proofs.steps.node_at.Reads as node-at
 use proofs.steps.put_to.Reads as put-to
-use cycle.Proof.Ranks.{at, below, both, bare-rank, cases-rank, command-rank, expr-rank, switch-rank, test-rank, when-rank}
+use cycle.Proof.Ranks.{at, below, both, six, seven, nine, bare-rank, cases-rank, command-rank, expr-rank, switch-rank, test-rank, when-rank}
 
 abbrev when-cs : ℕ → when-lts.Claims
-when-cs t = (
-  node-at.Asked,
-  node-at.Learnt,
-  fresh.Asked,
-  fresh.Learnt,
-  below expr-rank t,
-  expr.Post,
-  jump-unless.Asked,
-  jump-unless.Learnt,
-  put-to.Asked,
-  put-to.Learnt,
-  below command-rank t,
-  command.Post,
-  mark.Asked,
-  mark.Learnt,
-)
+when-cs t =
+    seven (node-at.Asked, node-at.Learnt) (fresh.Asked, fresh.Learnt) (below expr-rank t, expr.Post) (jump-unless.Asked, jump-unless.Learnt)
+    (put-to.Asked, put-to.Learnt) (below command-rank t, command.Post) (mark.Asked, mark.Learnt)
 
 when-command-requires : (t : ℕ) → when-lts.Need-command-requires (when-cs t) (at when-rank t) when.Post
 when-command-requires t c κs =
@@ -81,20 +64,9 @@ when-ok t =
     (λ c. search needs) (λ c. search needs) (when-returns t)
 
 abbrev test-cs : ℕ → test-lts.Claims
-test-cs t = (
-  node-at.Asked,
-  node-at.Learnt,
-  fresh.Asked,
-  fresh.Learnt,
-  below expr-rank t,
-  expr.Post,
-  put-to.Asked,
-  put-to.Learnt,
-  below command-rank t,
-  command.Post,
-  mark.Asked,
-  mark.Learnt,
-)
+test-cs t =
+    six (node-at.Asked, node-at.Learnt) (fresh.Asked, fresh.Learnt) (below expr-rank t, expr.Post) (put-to.Asked, put-to.Learnt)
+    (below command-rank t, command.Post) (mark.Asked, mark.Learnt)
 
 test-expr-requires : (t : ℕ) → test-lts.Need-expr-requires (test-cs t) (at test-rank t) test.Post
 test-expr-requires t c κs =
@@ -178,46 +150,20 @@ test-ok t =
     (test-command-requires-2 t) (test-add-mark t) (λ c κs. search needs) (test-same-length t) (test-same-length-2 t) (test-returns t)
 
 abbrev switch-cs : ℕ → switch-lts.Claims
-switch-cs t = (
-  node-at.Asked,
-  node-at.Learnt,
-  below expr-rank t,
-  expr.Post,
-  count.Asked,
-  count.Learnt,
-  fresh.Asked,
-  fresh.Learnt,
-  doubled.Asked,
-  doubled.Learnt,
-  table.Asked,
-  table.Learnt,
-  in-switch.Asked,
-  in-switch.Learnt,
-  below cases-rank t,
-  cases.Post,
-  mark.Asked,
-  mark.Learnt,
-)
+switch-cs t =
+    nine (node-at.Asked, node-at.Learnt) (below expr-rank t, expr.Post) (count.Asked, count.Learnt) (fresh.Asked, fresh.Learnt)
+    (doubled.Asked, doubled.Learnt) (table.Asked, table.Learnt) (in-switch.Asked, in-switch.Learnt) (below cases-rank t, cases.Post)
+    (mark.Asked, mark.Learnt)
 
-switch-add-fresh : (t : ℕ) → switch-lts.Need-add-fresh (switch-cs t) (at switch-rank t) switch.Post
-switch-add-fresh t c =
+switch-fit : (t : ℕ) (c : switch-lts.After-count (switch-cs t) (at switch-rank t) switch.Post)
+    → let after-expr = c .before .before .before .before .before .before in
+    (after-expr .expr .result .label + c .count .result + 1 ≤ 2 ^ 29) ×
+    (after-expr .before .before .before .before .before .before .before .before .before .args .st .label ≤ after-expr .expr .result .label)
+switch-fit t c =
     let after-expr = c .before .before .before .before .before .before in let after-node-at = after-expr .before .before .before .before in
     let start = after-node-at .before .before .before .before .before in
-    omega (
-      arith,
-      switch-few _ (after-node-at .node-at .ensures) (start .pre .1 .1 .is) refl (start .args .source .now) (after-expr .expr .ensures)
-          (c .count .ensures) (start .pre .1 .0),
-    )
-
-switch-fresh-requires : (t : ℕ) → switch-lts.Need-fresh-requires (switch-cs t) (at switch-rank t) switch.Post
-switch-fresh-requires t c κs =
-    let after-expr = c .before .before .before .before .before .before in let after-node-at = after-expr .before .before .before .before in
-    let start = after-node-at .before .before .before .before .before in
-    omega (
-      arith,
-      switch-few _ (after-node-at .node-at .ensures) (start .pre .1 .1 .is) refl (start .args .source .now) (after-expr .expr .ensures)
-          (c .count .ensures) (start .pre .1 .0),
-    )
+    switch-few _ (after-node-at .node-at .ensures) (start .pre .1 .1 .is) refl (start .args .source .now) (after-expr .expr .ensures)
+    (c .count .ensures) (start .pre .1 .0)
 
 switch-doubled-requires : (t : ℕ) → switch-lts.Need-doubled-requires (switch-cs t) (at switch-rank t) switch.Post
 switch-doubled-requires t c κs =
@@ -225,45 +171,12 @@ switch-doubled-requires t c κs =
     let start = after-node-at .before .before .before .before .before in
     omega (arith, after-node-at .node-at .ensures .inner, start .pre .1 .0 .small)
 
-switch-add-table : (t : ℕ) → switch-lts.Need-add-table (switch-cs t) (at switch-rank t) switch.Post
-switch-add-table t c =
-    let after-count = c .before .before .before .before .before .before in
-    let after-expr = after-count .before .before .before .before .before .before in let after-node-at = after-expr .before .before .before .before in
-    let start = after-node-at .before .before .before .before .before in
-    omega (
-      arith,
-      switch-few _ (after-node-at .node-at .ensures) (start .pre .1 .1 .is) refl (start .args .source .now) (after-expr .expr .ensures)
-          (after-count .count .ensures) (start .pre .1 .0),
-    )
-
 switch-table-requires : (t : ℕ) → switch-lts.Need-table-requires (switch-cs t) (at switch-rank t) switch.Post
 switch-table-requires t c κs =
     let after-count = c .before .before .before .before .before .before in
-    let after-expr = after-count .before .before .before .before .before .before in let after-node-at = after-expr .before .before .before .before in
-    let start = after-node-at .before .before .before .before .before in (
-      omega (arith, after-node-at .node-at .ensures .inner, start .pre .1 .0 .small),
-      omega (
-        arith,
-        switch-few _ (after-node-at .node-at .ensures) (start .pre .1 .1 .is) refl (start .args .source .now) (after-expr .expr .ensures)
-            (after-count .count .ensures) (start .pre .1 .0),
-      ),
-      omega (
-        arith,
-        switch-few _ (after-node-at .node-at .ensures) (start .pre .1 .1 .is) refl (start .args .source .now) (after-expr .expr .ensures)
-            (after-count .count .ensures) (start .pre .1 .0),
-      ),
-    )
-
-switch-add-cases : (t : ℕ) → switch-lts.Need-add-cases (switch-cs t) (at switch-rank t) switch.Post
-switch-add-cases t c =
-    let after-count = c .before .before .before .before .before .before .before .before .before .before .before .before .before in
-    let after-expr = after-count .before .before .before .before .before .before in let after-node-at = after-expr .before .before .before .before in
-    let start = after-node-at .before .before .before .before .before in
-    omega (
-      arith,
-      switch-few _ (after-node-at .node-at .ensures) (start .pre .1 .1 .is) refl (start .args .source .now) (after-expr .expr .ensures)
-          (after-count .count .ensures) (start .pre .1 .0),
-    )
+    let after-node-at = after-count .before .before .before .before .before .before .before .before .before .before in
+    let start = after-node-at .before .before .before .before .before in let f = switch-fit t after-count in
+    (omega (arith, after-node-at .node-at .ensures .inner, start .pre .1 .0 .small), omega arith, omega arith)
 
 switch-cases-requires : (t : ℕ) → switch-lts.Need-cases-requires (switch-cs t) (at switch-rank t) switch.Post
 switch-cases-requires t c κs =
@@ -271,14 +184,9 @@ switch-cases-requires t c κs =
     let after-fresh = after-doubled .before .before in let after-count = after-fresh .before in
     let after-expr = after-count .before .before .before .before .before .before in let after-node-at = after-expr .before .before .before .before in
     let start = after-node-at .before .before .before .before .before in
-    both (omega (arith, start .pre .0))
-    (both (switch-cases _ (after-node-at .node-at .ensures) (start .pre .1 .1 .is) refl _ (after-expr .expr .ensures) (after-count .count .ensures)
-    (after-fresh .fresh .ensures) (after-doubled .doubled .ensures) refl (after-table .table .ensures) (start .pre .1 .0))
-    (omega (
-      arith,
-      switch-few _ (after-node-at .node-at .ensures) (start .pre .1 .1 .is) refl (start .args .source .now) (after-expr .expr .ensures)
-          (after-count .count .ensures) (start .pre .1 .0),
-    )))
+    both (omega (arith, start .pre .0)) (both (switch-cases _ (after-node-at .node-at .ensures) (start .pre .1 .1 .is) refl _
+    (after-expr .expr .ensures) (after-count .count .ensures) (after-fresh .fresh .ensures) (after-doubled .doubled .ensures) refl
+    (after-table .table .ensures) (start .pre .1 .0)) (omega (arith, switch-fit t after-count)))
 
 switch-same-length : (t : ℕ) → switch-lts.Need-same-length (switch-cs t) (at switch-rank t) switch.Post
 switch-same-length t c =
@@ -308,9 +216,10 @@ switch-returns t c =
 pub switch-ok : {M : Type 1} (t : ℕ) → switch-lts.Closed (switch-cs t) (at switch-rank t) switch.Post M
 switch-ok t =
     switch-lts.spec (switch-cs t) (at switch-rank t) switch.Post (λ c κs. search needs) (λ c. omega arith) (λ c κs. search (needs, switch-value))
-    (λ c κs. omega arith) (switch-add-fresh t) (switch-fresh-requires t) (switch-doubled-requires t) (switch-add-table t) (switch-table-requires t)
-    (λ c κs. search needs) (switch-add-cases t) (switch-cases-requires t) (λ c κs. search needs) (switch-same-length t) (switch-same-length-2 t)
-    (switch-returns t)
+    (λ c κs. omega arith) (λ c. omega (arith, switch-fit t c)) (λ c κs. omega (arith, switch-fit t c)) (switch-doubled-requires t)
+    (λ c. omega (arith, switch-fit t (c .before .before .before .before .before .before))) (switch-table-requires t) (λ c κs. search needs)
+    (λ c. omega (arith, switch-fit t (c .before .before .before .before .before .before .before .before .before .before .before .before .before)))
+    (switch-cases-requires t) (λ c κs. search needs) (switch-same-length t) (switch-same-length-2 t) (switch-returns t)
 
 abbrev cases-cs : ℕ → cases-lts.Claims
 cases-cs t = (entry.Asked, entry.Learnt, mark.Asked, mark.Learnt, below bare-rank t, bare.Post)
@@ -344,8 +253,7 @@ cases-loop-again t c =
     let after-entry = after-mark .before .before in let after-loop-test = after-entry .before .before in let after-loop = after-loop-test .before in
     let start = after-loop .before .before .before .before in (
       after-bare .bare .kept .1 .0 ∙ after-loop .loop .inv .0,
-      after-bare .bare .kept .1 .1 .1 .0 ∙ after-mark .mark .kept .0
-          ∙ after-loop .loop .inv .1,
+      after-bare .bare .kept .1 .1 .1 .0 ∙ after-mark .mark .kept .0 ∙ after-loop .loop .inv .1,
       omega (arith, after-loop .loop .inv .2),
       λ y. cases-next _ _ _ (start .args .first) (after-loop .loop .k)
           (after-loop-test .loop-test .taken) (after-entry .entry .ensures .0) refl (after-mark .mark .ensures) (after-bare .bare .ensures) y

@@ -5,13 +5,10 @@ use Rattle.compiler.proofs.Labelled.{labelled-labels, labelled-bare, la
 use Rattle.compiler.proofs.Labelled.{bare-part, bare-gave, command-some, gave-r-at}
 use Rattle.compiler.proofs.Conditions.{while-while, while-until}
 use Rattle.compiler.proofs.Aways.{performed-part, performed-gave, away-gave}
-use Prim.Native.Nat.{ℕ}
+use Rattle.compiler.proofs.Basics.{ℕ, refl, arith, needs}
 use Rattle.compiler.proofs.Assigning.{assigned-part, assigned-gave}
-use mathlib.Core.Path.{refl}
 use Rattle.compiler.proofs.Guards.{when-if, when-unless}
 use Rattle.compiler.proofs.Commands.{result-part, result-gave}
-use native.Mathlib.Omega.{arith}
-use borrow.Author.Needs.{needs}
 use Rattle.compiler.proofs.Expressions.{ready-at, left-at}
 use borrow.Fn.PlainCycle.{is}
 use proofs.walk.assign.Reads as assign

@@ -1,17 +1,12 @@
 -- An expression, operators of one binding level, a monadic operator.
 use Rattle.compiler.proofs as proofs
 use Rattle.compiler.proofs.walk.+address+applied+args+assign+bare+block+cases+chain+command+expr+for_to+form+forms+indexed+list+local+locals+located+monadic+passed+plain+refuse+repeated+side+stored+switch+test+when+while_do as cycle
-use Prim.Native.Nat.{_-_, ℕ}
+use Rattle.compiler.proofs.Basics.{_-_, ℕ, _∙_, _≡_, refl, length, arith, needs}
 use Rattle.compiler.proofs.Sides.{monadic-part, monadic-gave, monadic-address, monadic-pling, monadic-minus, monadic-not, monadic-other}
 use Rattle.compiler.proofs.Sides.{gave-monadic-at}
-use Rattle.compiler.specs.Walked.{raised}
-use mathlib.Core.Path.{_∙_, _≡_, refl}
+use Rattle.compiler.proofs.Vocabulary.{raised, ReadyChain}
 use Rattle.compiler.proofs.Calls.{suffixes-ready-at, suffixes-gave-at, suffixed-part, suffixed-gave}
 use Rattle.compiler.proofs.Commands.{valof-part, valof-gave, gave-c-at}
-use lib.ListN.{length}
-use Rattle.compiler.specs.Walks.{ReadyChain}
-use native.Mathlib.Omega.{arith}
-use borrow.Author.Needs.{needs}
 use Rattle.compiler.proofs.Expressions.{ChainPart, chain-begin, chain-part, chain-next, chain-end, number-gave, string-gave, name-gave}
 use Rattle.compiler.proofs.Expressions.{bracket-part, bracket-gave, dyadic-left, dyadic-rest, dyadic-gave, ready-at, gave-at, chain-ready-at}
 use Rattle.compiler.proofs.Expressions.{chain-gave-at, left-at, some-left}
@@ -38,7 +33,7 @@ use proofs.steps.put.Reads as put
 use proofs.steps.put_to.Reads as put-to
 use proofs.steps.raised.Reads as raised-reads
 use proofs.steps.value.Reads as value
-use cycle.Proof.Ranks.{at, below, both, address-rank, applied-rank, chain-rank, command-rank, expr-rank, monadic-rank}
+use cycle.Proof.Ranks.{at, below, both, six, address-rank, applied-rank, chain-rank, command-rank, expr-rank, monadic-rank}
 
 abbrev expr-cs : ℕ → expr-lts.Claims
 expr-cs t = (
@@ -132,20 +127,9 @@ expr-ok t =
     (λ c. search needs) (λ c. search needs) (λ c. search (monadic-gave, gave-monadic-at)) (λ c. search needs) (λ c. search needs) (expr-returns-8 t)
 
 abbrev chain-cs : ℕ → chain-lts.Claims
-chain-cs t = (
-  entry.Asked,
-  entry.Learnt,
-  keep.Asked,
-  keep.Learnt,
-  raised-reads.Asked,
-  raised-reads.Learnt,
-  below expr-rank t,
-  expr.Post,
-  act-of.Asked,
-  act-of.Learnt,
-  operate.Asked,
-  operate.Learnt,
-)
+chain-cs t =
+    six (entry.Asked, entry.Learnt) (keep.Asked, keep.Learnt) (raised-reads.Asked, raised-reads.Learnt) (below expr-rank t, expr.Post)
+    (act-of.Asked, act-of.Learnt) (operate.Asked, operate.Learnt)
 
 abbrev chain-Inv-loop : chain-lts.InvT-loop
 chain-Inv-loop source s₀ from end text₀ here at₀ r₀ s text at r =
@@ -182,8 +166,7 @@ chain-loop-again t c =
     let after-entry2 = after-keep .before .before in let after-entry = after-entry2 .before .before in
     let after-loop-test = after-entry .before .before in let after-loop = after-loop-test .before in (
       after-expr .expr .kept .1 .0 ∙ after-loop .loop .inv .0,
-      c .before .before .operate .kept .0 ∙ after-expr .expr .kept .1 .1 .1 .0
-          ∙ after-keep .keep .kept .0 ∙ after-loop .loop .inv .1,
+      c .before .before .operate .kept .0 ∙ after-expr .expr .kept .1 .1 .1 .0 ∙ after-keep .keep .kept .0 ∙ after-loop .loop .inv .1,
       λ y. chain-next _ _ (after-loop-test .loop-test .taken) (after-entry .entry .ensures .0)
           (after-entry2 .entry2 .ensures .0) refl (after-act-of .act-of .ensures) (after-keep .keep .ensures)
           (gave-at _ (after-raised .raised .ensures) (after-expr .expr .ensures)) (c .before .before .operate .ensures) y

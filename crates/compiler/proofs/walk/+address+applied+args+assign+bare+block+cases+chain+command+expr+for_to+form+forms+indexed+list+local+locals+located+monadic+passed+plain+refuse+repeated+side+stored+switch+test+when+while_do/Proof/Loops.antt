@@ -2,17 +2,13 @@
 use Rattle.compiler.proofs as proofs
 use Rattle.compiler.proofs.walk.+address+applied+args+assign+bare+block+cases+chain+command+expr+for_to+form+forms+indexed+list+local+locals+located+monadic+passed+plain+refuse+repeated+side+stored+switch+test+when+while_do as cycle
 use Rattle.compiler.specs.Commands.{ReadyForms}
-use Rattle.compiler.proofs.Fors.{for-room, for-first, for-limit, for-keeps, for-name-fine, for-body, for-gave}
+use Rattle.compiler.proofs.Fors.{for-room, for-first, for-limit, for-name-fine, for-body, for-gave}
 use Rattle.compiler.proofs.Conditions.{while-test, while-body, while-gave}
 use Rattle.compiler.proofs.RepeatForms.{FormsPart, forms-begin, forms-part, forms-next, forms-end, form-alone, form-tested, repeated-few}
 use Rattle.compiler.proofs.RepeatForms.{repeated-body, repeated-forms, repeated-gave, once-part, once-gave}
-use Prim.Native.Nat.{_≤_, _-_, ℕ}
+use Rattle.compiler.proofs.Basics.{_*_, _^_, _+_, _≤_, _-_, ℕ, _∙_, _≡_, refl, length, arith, needs}
 use Rattle.compiler.specs.Walked.{raised}
-use mathlib.Core.Path.{_∙_, _≡_, refl}
 use Rattle.compiler.proofs.Commands.{gave-c-at, gave-u-at}
-use lib.ListN.{length}
-use native.Mathlib.Omega.{arith}
-use borrow.Author.Needs.{needs}
 use Rattle.compiler.proofs.Expressions.{ready-at, gave-at, left-at}
 use borrow.Fn.PlainCycle.{is}
 use proofs.walk.args.Reads as args
@@ -49,27 +45,12 @@ use proofs.steps.put_to.Reads as put-to
 use proofs.steps.raised.Reads as raised-reads
 use proofs.steps.set_at.Reads as set-at
 use proofs.steps.tops.Reads as tops
-use cycle.Proof.Ranks.{at, below, both, command-rank, expr-rank, for-to-rank, form-rank, forms-rank, plain-rank, repeated-rank, while-do-rank}
+use cycle.Proof.Ranks.{at, below, both, eight, command-rank, expr-rank, for-to-rank, form-rank, forms-rank, plain-rank, repeated-rank, while-do-rank}
 
 abbrev while-do-cs : ℕ → while-do-lts.Claims
-while-do-cs t = (
-  node-at.Asked,
-  node-at.Learnt,
-  fresh.Asked,
-  fresh.Learnt,
-  mark.Asked,
-  mark.Learnt,
-  below expr-rank t,
-  expr.Post,
-  jump-unless.Asked,
-  jump-unless.Learnt,
-  put-to.Asked,
-  put-to.Learnt,
-  in-loop.Asked,
-  in-loop.Learnt,
-  below command-rank t,
-  command.Post,
-)
+while-do-cs t =
+    eight (node-at.Asked, node-at.Learnt) (fresh.Asked, fresh.Learnt) (mark.Asked, mark.Learnt) (below expr-rank t, expr.Post)
+    (jump-unless.Asked, jump-unless.Learnt) (put-to.Asked, put-to.Learnt) (in-loop.Asked, in-loop.Learnt) (below command-rank t, command.Post)
 
 while-do-expr-requires : (t : ℕ) → while-do-lts.Need-expr-requires (while-do-cs t) (at while-do-rank t) while-do.Post
 while-do-expr-requires t c κs =
@@ -232,156 +213,51 @@ for-to-for-test-requires t c κs =
     .before .before .before .before .before in
     (omega (arith, start .pre .1 .0 .height), omega (arith, start .pre .1 .0 .label))
 
+abbrev for-to-start : (t : ℕ) → for-to-lts.After-for-test (for-to-cs t) (at for-to-rank t) for-to.Post → for-to-lts.Start (for-to-cs t)
+    (at for-to-rank t) for-to.Post
+for-to-start t c = c .before .before .before .before .before .before .before .before .before .before .before .before .before .before .before .before
+    .before .before .before .before .before .before .before .before .before .before .before .before .before .before .before .before .before .before
+    .before .before .before .before .before .before
+
+for-to-room : (t : ℕ) (c : for-to-lts.After-for-test (for-to-cs t) (at for-to-rank t) for-to.Post)
+    → for-to-start t c .args .here .top + 4 ≤ for-to-start t c .pre .1 .0 .base
+for-to-room t c =
+    let after-node-at3 = c .before .before .before .before .before .before .before .before .before .before .before .before .before .before .before
+    .before .before .before .before .before .before .before .before .before .before .before .before .before .before .before in
+    let after-less = after-node-at3 .before .before in let after-node-at2 = after-less .before in
+    let after-node-at = after-node-at2 .before .before in let start = for-to-start t c in
+    for-room _ _ _ (after-node-at .node-at .ensures) (after-node-at2 .node-at2 .ensures) (after-less .less .ensures)
+    (after-node-at3 .node-at3 .ensures) (start .pre .1 .1 .is) (start .pre .1 .0)
+
 for-to-push-requires : (t : ℕ) → for-to-lts.Need-push-requires (for-to-cs t) (at for-to-rank t) for-to.Post
 for-to-push-requires t c κs =
-    let after-for-test = c .before .before .before in let after-blame = after-for-test .before .before in
+    let h = c .before .before .before in let y = for-to-start t h .pre .1 .0 in
+    let k = h .before .before .before .before .before .before .before .before .before .before .before .before .before .before .expr2 .kept in
+    let l = h .before .before .before .before .before .before .before .before .before .before .before .before .before .before .before .before .before
+    .before .before .before .before .before .before .before .before .before .expr .kept in
+    (omega (arith, for-to-room t h), omega arith, omega arith)
+
+for-to-push-name-requires : (t : ℕ) → for-to-lts.Need-push-name-requires (for-to-cs t) (at for-to-rank t) for-to.Post
+for-to-push-name-requires t c κs =
+    let h = c .before .before .before .before .before .before .before .before .before in let y = for-to-start t h .pre .1 .0 in
+    let k = h .before .before .before .before .before .before .before .before .before .before .before .before .before .before .expr2 .kept in
+    let l = h .before .before .before .before .before .before .before .before .before .before .before .before .before .before .before .before .before
+    .before .before .before .before .before .before .before .before .before .expr .kept in
+    let n = h .before .before .before .before .before .before .before .before .before .before .before .before .before .before .before .before .before
+    .before .before .before .before .before .before .before .before .before .before .before .before .before .before .before .before .before
+    .before .node-at .ensures in let f = let after-push = c .before .before .before .before .before in
+    let after-for-test = after-push .before .before .before .before in let after-blame = after-for-test .before .before in
     let after-by-constant = after-blame .before in let after-keep2 = after-by-constant .before .before .before .before in
     let after-expr2 = after-keep2 .before .before .before .before .before .before .before in let after-raised = after-expr2 .before in
     let after-keep = after-raised .before .before .before .before .before in
     let after-expr = after-keep .before .before .before .before .before .before in let after-fresh = after-expr .before .before .before in
     let after-node-at3 = after-fresh .before in let after-less = after-node-at3 .before .before in let after-node-at2 = after-less .before in
-    let after-node-at = after-node-at2 .before .before in let start = after-node-at .before .before .before .before .before in (
-      omega (
-        arith,
-        for-room _ _ _ (after-node-at .node-at .ensures) (after-node-at2 .node-at2 .ensures) (after-less .less .ensures)
-            (after-node-at3 .node-at3 .ensures) (start .pre .1 .1 .is) (start .pre .1 .0),
-        for-keeps _ _ _ (after-node-at .node-at .ensures)
-            (after-node-at2 .node-at2 .ensures) (after-less .less .ensures) (after-node-at3 .node-at3 .ensures) (start .pre .1 .1 .is)
-            (start .args .source .now) (after-fresh .fresh .ensures) (after-expr .expr .ensures) (after-keep .keep .ensures)
-            (gave-at (start .args .source .now) (after-raised .raised .ensures) (after-expr2 .expr2 .ensures)) (after-keep2 .keep2 .ensures)
-            (after-by-constant .by-constant .ensures) (after-blame .blame .ensures) (after-for-test .for-test .ensures) (start .pre .1 .0) .long,
-        start .pre .1 .0 .long,
-      ),
-      omega arith,
-      omega arith,
-    )
-
-for-to-add-push-name : (t : ℕ) → for-to-lts.Need-add-push-name (for-to-cs t) (at for-to-rank t) for-to.Post
-for-to-add-push-name t c =
-    let after-node-at3 = c .before .before .before .before .before .before .before .before .before .before .before .before .before .before .before
-    .before .before .before .before .before .before .before .before .before .before .before .before .before .before .before .before .before .before
-    .before .before .before .before .before in let after-less = after-node-at3 .before .before in let after-node-at2 = after-less .before in
-    let after-node-at = after-node-at2 .before .before in let start = after-node-at .before .before .before .before .before in
-    omega (
-      arith,
-      for-room _ _ _ (after-node-at .node-at .ensures) (after-node-at2 .node-at2 .ensures) (after-less .less .ensures)
-          (after-node-at3 .node-at3 .ensures) (start .pre .1 .1 .is) (start .pre .1 .0),
-      start .pre .1 .0 .above,
-      start .pre .1 .0 .ends,
-      start .pre .1 .0 .small,
-    )
-
-for-to-mul-push-name : (t : ℕ) → for-to-lts.Need-mul-push-name (for-to-cs t) (at for-to-rank t) for-to.Post
-for-to-mul-push-name t c =
-    let start = c .before .before .before .before .before .before .before .before .before .before .before .before .before .before .before .before
-    .before .before .before .before .before .before .before .before .before .before .before .before .before .before .before .before .before .before
-    .before .before .before .before .before .before .before .before .before .before .before .before .before .before .before in
-    omega (arith, start .pre .1 .0 .height)
-
-for-to-add-push-name-2 : (t : ℕ) → for-to-lts.Need-add-push-name-2 (for-to-cs t) (at for-to-rank t) for-to.Post
-for-to-add-push-name-2 t c =
-    let start = c .before .before .before .before .before .before .before .before .before .before .before .before .before .before .before .before
-    .before .before .before .before .before .before .before .before .before .before .before .before .before .before .before .before .before .before
-    .before .before .before .before .before .before .before .before .before .before .before .before .before .before .before in
-    omega (arith, start .pre .1 .0 .height)
-
-for-to-push-name-requires : (t : ℕ) → for-to-lts.Need-push-name-requires (for-to-cs t) (at for-to-rank t) for-to.Post
-for-to-push-name-requires t c κs = (
-  omega (
-    arith,
-    (let after-node-at3 = c .before .before .before .before .before .before .before .before .before .before .before .before .before .before
-        .before .before .before .before .before .before .before .before .before .before .before .before .before .before .before .before .before
-        .before .before .before .before .before .before .before .before in let after-less = after-node-at3 .before .before in let after-node-at2 =
-        after-less .before in let after-node-at = after-node-at2 .before .before in let start =
-        after-node-at .before .before .before .before .before in for-room _ _ _ (after-node-at .node-at .ensures)
-        (after-node-at2 .node-at2 .ensures) (after-less .less .ensures) (after-node-at3 .node-at3 .ensures) (start .pre .1 .1 .is)
-        (start .pre .1 .0)),
-    (let after-for-test = c .before .before .before .before .before .before .before .before .before in let after-blame =
-        after-for-test .before .before in let after-by-constant = after-blame .before in let after-keep2 =
-        after-by-constant .before .before .before .before in let after-expr2 = after-keep2 .before .before .before .before .before .before .before
-        in let after-raised = after-expr2 .before in let after-keep = after-raised .before .before .before .before .before in let after-expr =
-        after-keep .before .before .before .before .before .before in let after-fresh = after-expr .before .before .before in let after-node-at3 =
-        after-fresh .before in let after-less = after-node-at3 .before .before in let after-node-at2 = after-less .before in let after-node-at =
-        after-node-at2 .before .before in let start = after-node-at .before .before .before .before .before in for-keeps _ _ _
-        (after-node-at .node-at .ensures) (after-node-at2 .node-at2 .ensures) (after-less .less .ensures) (after-node-at3 .node-at3 .ensures)
-        (start .pre .1 .1 .is) (start .args .source .now) (after-fresh .fresh .ensures) (after-expr .expr .ensures) (after-keep .keep .ensures)
-        (gave-at (start .args .source .now) (after-raised .raised .ensures) (after-expr2 .expr2 .ensures)) (after-keep2 .keep2 .ensures)
-        (after-by-constant .by-constant .ensures) (after-blame .blame .ensures) (after-for-test .for-test .ensures) (start .pre .1 .0) .long),
-    c
-        .before .before .before .before .before .before .before .before .before .before .before .before .before .before .before .before .before
-        .before .before .before .before .before .before .before .before .before .before .before .before .before .before .before .before .before
-        .before .before .before .before .before .before .before .before .before .before .before .before .before .before .before .pre .1 .0 .long,
-  ),
-  omega (
-    arith,
-    c .before .before .before .before .before .before .before .before .before .before .before .before .before .before .before .before
-        .before .before .before .before .before .before .before .before .before .before .before .before .before .before .before .before .before
-        .before .before .before .before .before .before .before .before .before .before .before .node-at .ensures .start,
-    c .before .before .before
-        .before .before .before .before .before .before .before .before .before .before .before .before .before .before .before .before .before
-        .before .before .before .before .before .before .before .before .before .before .before .before .before .before .before .before .before
-        .before .before .before .before .before .before .before .before .before .before .before .before .pre .1 .0 .small,
-  ),
-  omega (
-    arith,
-    c .before .before .before .before .before .before .before .before .before .before .before .before .before .before .before .before
-        .before .before .before .before .before .before .before .before .before .before .before .before .before .before .before .before .before
-        .before .before .before .before .before .before .before .before .before .before .before .before .before .before .before .before .pre .1 .0
-        .height,
-  ),
-  (let after-push = c .before .before .before .before .before in let after-for-test = after-push .before .before .before .before in let
-      after-blame = after-for-test .before .before in let after-by-constant = after-blame .before in let after-keep2 =
-      after-by-constant .before .before .before .before in let after-expr2 = after-keep2 .before .before .before .before .before .before .before in
-      let after-raised = after-expr2 .before in let after-keep = after-raised .before .before .before .before .before in let after-expr =
-      after-keep .before .before .before .before .before .before in let after-fresh = after-expr .before .before .before in let after-node-at3 =
-      after-fresh .before in let after-less = after-node-at3 .before .before in let after-node-at2 = after-less .before in let after-node-at =
-      after-node-at2 .before .before in let start = after-node-at .before .before .before .before .before in for-name-fine _ _ _
-      (after-node-at .node-at .ensures) (after-node-at2 .node-at2 .ensures) (after-less .less .ensures) (after-node-at3 .node-at3 .ensures)
-      (start .pre .1 .1 .is) _ (after-fresh .fresh .ensures) (after-expr .expr .ensures) (after-keep .keep .ensures)
-      (gave-at _ (after-raised .raised .ensures) (after-expr2 .expr2 .ensures)) (after-keep2 .keep2 .ensures)
-      (after-by-constant .by-constant .ensures) (after-blame .blame .ensures) (after-for-test .for-test .ensures) (after-push .push .ensures)
-      (start .pre .1 .0)),
-)
-
-for-to-add-set-at : (t : ℕ) → for-to-lts.Need-add-set-at (for-to-cs t) (at for-to-rank t) for-to.Post
-for-to-add-set-at t c =
-    let after-node-at3 = c .before .before .before .before .before .before .before .before .before .before .before .before .before .before .before
-    .before .before .before .before .before .before .before .before .before .before .before .before .before .before .before .before .before .before
-    .before .before .before .before .before .before .before .before .before .before in let after-less = after-node-at3 .before .before in
-    let after-node-at2 = after-less .before in let after-node-at = after-node-at2 .before .before in
-    let start = after-node-at .before .before .before .before .before in
-    omega (
-      arith,
-      for-room _ _ _ (after-node-at .node-at .ensures) (after-node-at2 .node-at2 .ensures) (after-less .less .ensures)
-          (after-node-at3 .node-at3 .ensures) (start .pre .1 .1 .is) (start .pre .1 .0),
-      start .pre .1 .0 .above,
-      start .pre .1 .0 .ends,
-      start .pre .1 .0 .small,
-    )
-
-for-to-add-set-at-2 : (t : ℕ) → for-to-lts.Need-add-set-at-2 (for-to-cs t) (at for-to-rank t) for-to.Post
-for-to-add-set-at-2 t c =
-    let start = c .before .before .before .before .before .before .before .before .before .before .before .before .before .before .before .before
-    .before .before .before .before .before .before .before .before .before .before .before .before .before .before .before .before .before .before
-    .before .before .before .before .before .before .before .before .before .before .before .before .before .before .before .before .before .before
-    .before .before in
-    omega (arith, start .pre .1 .0 .height)
-
-for-to-add-in-loop : (t : ℕ) → for-to-lts.Need-add-in-loop (for-to-cs t) (at for-to-rank t) for-to.Post
-for-to-add-in-loop t c =
-    let start = c .before .before .before .before .before .before .before .before .before .before .before .before .before .before .before .before
-    .before .before .before .before .before .before .before .before .before .before .before .before .before .before .before .before .before .before
-    .before .before .before .before .before .before .before .before .before .before .before .before .before .before .before .before .before .before
-    .before .before .before .before .before .before in
-    omega (arith, start .pre .1 .0 .label)
-
-for-to-add-in-loop-2 : (t : ℕ) → for-to-lts.Need-add-in-loop-2 (for-to-cs t) (at for-to-rank t) for-to.Post
-for-to-add-in-loop-2 t c =
-    let start = c .before .before .before .before .before .before .before .before .before .before .before .before .before .before .before .before
-    .before .before .before .before .before .before .before .before .before .before .before .before .before .before .before .before .before .before
-    .before .before .before .before .before .before .before .before .before .before .before .before .before .before .before .before .before .before
-    .before .before .before .before .before .before .before in
-    omega (arith, start .pre .1 .0 .label)
+    let after-node-at = after-node-at2 .before .before in let start = after-node-at .before .before .before .before .before in for-name-fine _ _ _
+    (after-node-at .node-at .ensures) (after-node-at2 .node-at2 .ensures) (after-less .less .ensures) (after-node-at3 .node-at3 .ensures)
+    (start .pre .1 .1 .is) _ (after-fresh .fresh .ensures) (after-expr .expr .ensures) (after-keep .keep .ensures)
+    (gave-at _ (after-raised .raised .ensures) (after-expr2 .expr2 .ensures)) (after-keep2 .keep2 .ensures) (after-by-constant .by-constant .ensures)
+    (after-blame .blame .ensures) (after-for-test .for-test .ensures) (after-push .push .ensures) (start .pre .1 .0) in
+    (omega (arith, for-to-room t h), omega arith, omega arith, f)
 
 for-to-command-requires : (t : ℕ) → for-to-lts.Need-command-requires (for-to-cs t) (at for-to-rank t) for-to.Post
 for-to-command-requires t c κs =
@@ -400,14 +276,6 @@ for-to-command-requires t c κs =
     (after-keep .keep .ensures) (gave-at _ (after-raised .raised .ensures) (after-expr2 .expr2 .ensures)) (after-keep2 .keep2 .ensures)
     (after-by-constant .by-constant .ensures) (after-blame .blame .ensures) (after-for-test .for-test .ensures) (after-push .push .ensures)
     (after-push-name .push-name .ensures) refl (start .pre .1 .0)))
-
-for-to-for-step-requires : (t : ℕ) → for-to-lts.Need-for-step-requires (for-to-cs t) (at for-to-rank t) for-to.Post
-for-to-for-step-requires t c κs =
-    let start = c .before .before .before .before .before .before .before .before .before .before .before .before .before .before .before .before
-    .before .before .before .before .before .before .before .before .before .before .before .before .before .before .before .before .before .before
-    .before .before .before .before .before .before .before .before .before .before .before .before .before .before .before .before .before .before
-    .before .before .before .before .before .before .before .before .before .before .before .before .before .before in
-    (omega (arith, start .pre .1 .0 .height), omega (arith, start .pre .1 .0 .label))
 
 for-to-same-length : (t : ℕ) → for-to-lts.Need-same-length (for-to-cs t) (at for-to-rank t) for-to.Post
 for-to-same-length t c =
@@ -457,9 +325,22 @@ for-to-ok t =
     for-to-lts.spec (for-to-cs t) (at for-to-rank t) for-to.Post (λ c κs. search needs) (λ c κs. search needs) (λ c κs. search needs)
     (λ c κs. search needs) (λ c κs. omega arith) (for-to-expr-requires t) (for-to-keep-requires t) (for-to-raised-requires t)
     (for-to-expr-requires-2 t) (for-to-add-keep t) (for-to-keep-requires-2 t) (for-to-by-constant-requires t) (λ c _. c .by-constant .ensures .fits)
-    (for-to-for-test-requires t) (for-to-push-requires t) (for-to-add-push-name t) (for-to-mul-push-name t) (for-to-add-push-name-2 t)
-    (for-to-push-name-requires t) (for-to-add-set-at t) (for-to-add-set-at-2 t) (λ c κs. search needs) (for-to-add-in-loop t) (for-to-add-in-loop-2 t)
-    (λ c κs. search needs) (for-to-command-requires t) (for-to-for-step-requires t) (for-to-same-length t) (for-to-same-length-2 t) (for-to-returns t)
+    (for-to-for-test-requires t) (for-to-push-requires t) (λ c. let h = c .before .before .before .before .before .before .before .before in
+    let y = for-to-start t h .pre .1 .0 in omega (arith, for-to-room t h))
+    (λ c. let y = for-to-start t (c .before .before .before .before .before .before .before .before .before) .pre .1 .0 in omega arith)
+    (λ c. let y = for-to-start t (c .before .before .before .before .before .before .before .before .before) .pre .1 .0 in omega arith)
+    (for-to-push-name-requires t) (λ c. let h = c .before .before .before .before .before .before .before .before .before .before .before .before
+    .before in let y = for-to-start t h .pre .1 .0 in omega (arith, for-to-room t h))
+    (λ c. let y = for-to-start t (c .before .before .before .before .before .before .before .before .before .before .before .before .before
+    .before) .pre .1 .0 in omega arith) (λ c κs. search needs)
+    (λ c. let y = for-to-start t (c .before .before .before .before .before .before .before .before .before .before .before .before .before .before
+    .before .before .before .before) .pre .1 .0 in omega arith)
+    (λ c. let y = for-to-start t (c .before .before .before .before .before .before .before .before .before .before .before .before .before .before
+    .before .before .before .before .before) .pre .1 .0 in omega arith)
+    (λ c κs. search needs) (for-to-command-requires t) (λ c κs. let y = for-to-start t
+    (c .before .before .before .before .before .before .before .before .before .before .before .before .before .before .before .before .before .before
+    .before .before .before .before .before .before .before .before) .pre .1 .0 in (omega arith, omega arith))
+    (for-to-same-length t) (for-to-same-length-2 t) (for-to-returns t)
 
 abbrev form-cs : ℕ → form-lts.Claims
 form-cs t = (put-to.Asked, put-to.Learnt, below expr-rank t, expr.Post, jump-when.Asked, jump-when.Learnt)
@@ -509,8 +390,7 @@ forms-loop-again t c =
     let after-entry = after-entry2 .before .before in let after-loop-test = after-entry .before .before in let after-loop = after-loop-test .before in
     let start = after-loop .before .before .before .before in (
       after-form .form .kept .1 .0 ∙ after-loop .loop .inv .0,
-      after-mark2 .mark2 .kept .0 ∙ after-form .form .kept .1 .1 .1 .0
-          ∙ after-mark .mark .kept .0 ∙ after-loop .loop .inv .1,
+      after-mark2 .mark2 .kept .0 ∙ after-form .form .kept .1 .1 .1 .0 ∙ after-mark .mark .kept .0 ∙ after-loop .loop .inv .1,
       omega (arith, after-loop .loop .inv .2),
       λ y. forms-next _ _ (start .args .innermost)
           (after-loop-test .loop-test .taken) (after-entry .entry .ensures .0) (after-entry2 .entry2 .ensures .0) refl (after-mark .mark .ensures)
@@ -526,84 +406,15 @@ forms-ok t =
     (λ c. forms-end _ _ (c .before .before .before .before .before .args .innermost) (c .loop-test .left) (c .before .loop .inv .3))
 
 abbrev repeated-cs : ℕ → repeated-lts.Claims
-repeated-cs t = (
-  node-at.Asked,
-  node-at.Learnt,
-  count.Asked,
-  count.Learnt,
-  less.Asked,
-  less.Learnt,
-  fresh.Asked,
-  fresh.Learnt,
-  tops.Asked,
-  tops.Learnt,
-  in-loop.Asked,
-  in-loop.Learnt,
-  below plain-rank t,
-  plain.Post,
-  below forms-rank t,
-  forms.Post,
-)
+repeated-cs t =
+    eight (node-at.Asked, node-at.Learnt) (count.Asked, count.Learnt) (less.Asked, less.Learnt) (fresh.Asked, fresh.Learnt) (tops.Asked, tops.Learnt)
+    (in-loop.Asked, in-loop.Learnt) (below plain-rank t, plain.Post) (below forms-rank t, forms.Post)
 
-repeated-mul-less : (t : ℕ) → repeated-lts.Need-mul-less (repeated-cs t) (at repeated-rank t) repeated.Post
-repeated-mul-less t c =
-    omega (
-      arith,
-      repeated-few _ (c .before .before .before .before .before .node-at .ensures) (c .before .before .before .if1 .taken) refl
-          (c .count .ensures) (c .before .before .before .before .before .before .before .before .before .before .pre .1),
-    )
-
-repeated-add-less : (t : ℕ) → repeated-lts.Need-add-less (repeated-cs t) (at repeated-rank t) repeated.Post
-repeated-add-less t c =
-    omega (
-      arith,
-      repeated-few _ (c .before .before .before .before .before .before .node-at .ensures) (c .before .before .before .before .if1 .taken) refl
-          (c .before .count .ensures) (c .before .before .before .before .before .before .before .before .before .before .before .pre .1),
-    )
-
-repeated-mul-fresh : (t : ℕ) → repeated-lts.Need-mul-fresh (repeated-cs t) (at repeated-rank t) repeated.Post
-repeated-mul-fresh t c =
-    omega (
-      arith,
-      repeated-few _ (c .before .before .before .before .before .before .before .node-at .ensures)
-          (c .before .before .before .before .before .if1 .taken) refl (c .before .before .count .ensures)
-          (c .before .before .before .before .before .before .before .before .before .before .before .before .pre .1),
-    )
-
-repeated-fresh-requires : (t : ℕ) → repeated-lts.Need-fresh-requires (repeated-cs t) (at repeated-rank t) repeated.Post
-repeated-fresh-requires t c κs =
-    omega (
-      arith,
-      repeated-few _ (c .before .before .before .before .before .before .before .node-at .ensures)
-          (c .before .before .before .before .before .if1 .taken) refl (c .before .before .count .ensures)
-          (c .before .before .before .before .before .before .before .before .before .before .before .before .pre .1),
-    )
-
-repeated-tops-requires : (t : ℕ) → repeated-lts.Need-tops-requires (repeated-cs t) (at repeated-rank t) repeated.Post
-repeated-tops-requires t c κs =
-    let after-count = c .before .before .before .before in let after-if1 = after-count .before .before .before in
-    let after-node-at = after-if1 .before .before in let start = after-node-at .before .before .before .before .before in
-    omega (arith, repeated-few _ (after-node-at .node-at .ensures) (after-if1 .if1 .taken) refl (after-count .count .ensures) (start .pre .1))
-
-repeated-add-in-loop : (t : ℕ) → repeated-lts.Need-add-in-loop (repeated-cs t) (at repeated-rank t) repeated.Post
-repeated-add-in-loop t c =
-    omega (
-      arith,
-      (let after-count = c .before .before .before .before .before .before .before .before .before in let after-if1 =
-          after-count .before .before .before in let after-node-at = after-if1 .before .before in let start =
-          after-node-at .before .before .before .before .before in repeated-few _ (after-node-at .node-at .ensures) (after-if1 .if1 .taken) refl
-          (after-count .count .ensures) (start .pre .1)),
-    )
-
-repeated-add-in-loop-2 : (t : ℕ) → repeated-lts.Need-add-in-loop-2 (repeated-cs t) (at repeated-rank t) repeated.Post
-repeated-add-in-loop-2 t c =
-    omega (
-      arith,
-      (let after-count = c .before .before .before .before .before .before .before .before .before in let after-if1 =
-          after-count .before .before .before in let after-node-at = after-if1 .before .before in let start =
-          after-node-at .before .before .before .before .before in repeated-few _ (after-node-at .node-at .ensures) (after-if1 .if1 .taken) refl
-          (after-count .count .ensures) (start .pre .1)),
-    )
+repeated-fit : (t : ℕ) (c : repeated-lts.After-count (repeated-cs t) (at repeated-rank t) repeated.Post) → (1 ≤ c .count .result) ×
+    (c .before .before .before .before .before .before .before .before .before .before .args .st .label + 3 * c .count .result + 3 ≤ 2 ^ 29)
+repeated-fit t c =
+    repeated-few _ (c .before .before .before .before .before .node-at .ensures) (c .before .before .before .if1 .taken) refl (c .count .ensures)
+    (c .before .before .before .before .before .before .before .before .before .before .pre .1)
 
 repeated-plain-requires : (t : ℕ) → repeated-lts.Need-plain-requires (repeated-cs t) (at repeated-rank t) repeated.Post
 repeated-plain-requires t c κs =
@@ -620,15 +431,10 @@ repeated-forms-requires t c κs =
     let after-tops = after-in-loop .before .before .before .before .before in let after-fresh = after-tops .before .before in
     let after-less = after-fresh .before in let after-count = after-less .before .before in let after-if1 = after-count .before .before .before in
     let after-node-at = after-if1 .before .before in let start = after-node-at .before .before .before .before .before in
-    both (omega (arith, start .pre .0)) (both
-    (repeated-forms _ (after-node-at .node-at .ensures) (after-if1 .if1 .taken) refl (after-count .count .ensures) (after-fresh .fresh .ensures)
-    (after-tops .tops .ensures) (start .args .source .now) (start .args .ways) (after-less .less .ensures)
-    (gave-u-at (start .args .source .now) refl (after-in-loop .in-loop .ensures) (after-plain .plain .ensures)) (start .pre .1))
-    (omega (
-      arith,
-      repeated-few _ (after-node-at .node-at .ensures) (after-if1 .if1 .taken) refl (after-count .count .ensures) (start .pre .1),
-      after-less .less .ensures,
-    )))
+    both (omega (arith, start .pre .0)) (both (repeated-forms _ (after-node-at .node-at .ensures) (after-if1 .if1 .taken) refl
+    (after-count .count .ensures) (after-fresh .fresh .ensures) (after-tops .tops .ensures) (start .args .source .now) (start .args .ways)
+    (after-less .less .ensures) (gave-u-at (start .args .source .now) refl (after-in-loop .in-loop .ensures) (after-plain .plain .ensures))
+    (start .pre .1)) (omega (arith, repeated-fit t after-count, after-less .less .ensures)))
 
 repeated-returns : (t : ℕ) → repeated-lts.Need-returns (repeated-cs t) (at repeated-rank t) repeated.Post
 repeated-returns t c =
@@ -643,7 +449,10 @@ repeated-returns t c =
 pub repeated-ok : {M : Type 1} (t : ℕ) → repeated-lts.Closed (repeated-cs t) (at repeated-rank t) repeated.Post M
 repeated-ok t =
     repeated-lts.spec (repeated-cs t) (at repeated-rank t) repeated.Post (λ c κs. search needs) (λ c. omega arith) (λ c κs. omega arith)
-    (repeated-mul-less t) (repeated-add-less t) (λ c κs. search needs) (repeated-mul-fresh t) (repeated-fresh-requires t) (repeated-tops-requires t)
-    (repeated-add-in-loop t) (repeated-add-in-loop-2 t) (λ c κs. search needs) (repeated-plain-requires t) (repeated-forms-requires t)
-    (λ c. search needs) (λ c. search needs) (repeated-returns t) (λ c κs. search (needs, once-part)) (λ c. search needs) (λ c. search needs)
-    (λ c. search once-gave)
+    (λ c. omega (arith, repeated-fit t c)) (λ c. omega (arith, repeated-fit t (c .before))) (λ c κs. search needs)
+    (λ c. omega (arith, repeated-fit t (c .before .before))) (λ c κs. omega (arith, repeated-fit t (c .before .before)))
+    (λ c κs. omega (arith, repeated-fit t (c .before .before .before .before)))
+    (λ c. omega (arith, repeated-fit t (c .before .before .before .before .before .before .before .before .before)))
+    (λ c. omega (arith, repeated-fit t (c .before .before .before .before .before .before .before .before .before))) (λ c κs. search needs)
+    (repeated-plain-requires t) (repeated-forms-requires t) (λ c. search needs) (λ c. search needs) (repeated-returns t)
+    (λ c κs. search (needs, once-part)) (λ c. search needs) (λ c. search needs) (λ c. search once-gave)

@@ -1,6 +1,5 @@
 -- The measures of the walk's cycle: the levels left, and below that a rank, so that a call that opens no level goes to a smaller one.
-use Prim.Native.Nat.{ℕ, _+_, _*_, _<_}
-use mathlib.Core.List.{List}
+use Rattle.compiler.proofs.Basics.{ℕ, _+_, _*_, _<_, List}
 use borrow.Fn.Kind.{PK}
 use borrow.Fn.Kinds.{In}
 use borrow.Fn.PlainCycle.{Measures, is, falls, and}
@@ -23,6 +22,23 @@ module _ (m : Member) (t : ℕ) where
 -- that the measure falls, and what a call asks besides
 abbrev pub both : {A B : Type 0} → A → B → A × B
 both a b = (a, b)
+
+-- what is asked and learnt of so many functions that are called
+abbrev pub six : {A B C D E F G H I J K L : Type 1} → A × B → C × D → E × F → G × H → I × J → K × L
+    → A × B × C × D × E × F × G × H × I × J × K × L
+six a b c d e f = (a .0, a .1, b .0, b .1, c .0, c .1, d .0, d .1, e .0, e .1, f .0, f .1)
+
+abbrev pub seven : {A B C D E F G H I J K L M N : Type 1} → A × B → C × D → E × F → G × H → I × J → K × L → M × N
+    → A × B × C × D × E × F × G × H × I × J × K × L × M × N
+seven a b c d e f g = (a .0, a .1, b .0, b .1, c .0, c .1, d .0, d .1, e .0, e .1, f .0, f .1, g .0, g .1)
+
+abbrev pub eight : {A B C D E F G H I J K L M N O P : Type 1} → A × B → C × D → E × F → G × H → I × J → K × L → M × N → O × P
+    → A × B × C × D × E × F × G × H × I × J × K × L × M × N × O × P
+eight a b c d e f g h = (a .0, a .1, b .0, b .1, c .0, c .1, d .0, d .1, e .0, e .1, f .0, f .1, g .0, g .1, h .0, h .1)
+
+abbrev pub nine : {A B C D E F G H I J K L M N O P Q R : Type 1} → A × B → C × D → E × F → G × H → I × J → K × L → M × N → O × P → Q × R
+    → A × B × C × D × E × F × G × H × I × J × K × L × M × N × O × P × Q × R
+nine a b c d e f g h i = (a .0, a .1, b .0, b .1, c .0, c .1, d .0, d .1, e .0, e .1, f .0, f .1, g .0, g .1, h .0, h .1, i .0, i .1)
 
 abbrev pub address-rank : Member
 address-rank = record { ps = walk.address.Kinds.ps; measure = λ κs a. a .1 .1 .1 .1 .0 .left * 4294967300 + 5; pre = walk.address.Reads.Pre }

@@ -1,19 +1,14 @@
 -- What @ and := take: an address, a left side, an assignment.
 use Rattle.compiler.proofs as proofs
 use Rattle.compiler.proofs.walk.+address+applied+args+assign+bare+block+cases+chain+command+expr+for_to+form+forms+indexed+list+local+locals+located+monadic+passed+plain+refuse+repeated+side+stored+switch+test+when+while_do as cycle
-use Prim.Native.Nat.{_-_, ℕ}
+use Rattle.compiler.proofs.Basics.{_-_, ℕ, ap, _∙_, _≡_, refl, length, arith, needs}
 use Rattle.compiler.proofs.Assigning.{AssignPart, assign-begin, assign-is, assign-right, assign-left, assign-next, assign-end}
 use Rattle.compiler.proofs.Sides.{side-open, side-refused, side-name, side-part, side-pling, side-left, side-right, side-index-gave}
 use Rattle.compiler.proofs.Sides.{gave-side-at, gave-refused-at, monadic-part, refuse-gave, address-open, address-pling, address-refused}
 use Rattle.compiler.proofs.Sides.{address-name, address-left, address-right, address-index-gave, gave-address-at}
 use Rattle.compiler.specs.Assigns.{ReadyAssign}
-use Rattle.compiler.specs.declared.steps.Here.{Here}
-use Rattle.compiler.specs.Walked.{raised}
-use mathlib.Core.Path.{ap, _∙_, _≡_, refl}
+use Rattle.compiler.proofs.Vocabulary.{Here, raised}
 use Rattle.compiler.proofs.Calls.{suffixes-ready-at, suffixes-gave-at}
-use lib.ListN.{length}
-use native.Mathlib.Omega.{arith}
-use borrow.Author.Needs.{needs}
 use Rattle.compiler.proofs.Expressions.{bracket-part, ready-at, gave-at, left-at, some-left}
 use proofs.walk.address.Reads as address
 use cycle.Lts-address as address-lts
@@ -43,27 +38,13 @@ use proofs.steps.raised.Reads as raised-reads
 use proofs.steps.store_indexed.Reads as store-indexed
 use proofs.steps.store_through.Reads as store-through
 use proofs.steps.wrong.Reads as wrong
-use cycle.Proof.Ranks.{at, below, both, address-rank, applied-rank, assign-rank, expr-rank, located-rank, refuse-rank, side-rank, stored-rank}
+use cycle.Proof.Ranks.{at, below, both, eight, nine, address-rank, applied-rank, assign-rank, expr-rank, located-rank, refuse-rank, side-rank}
+use cycle.Proof.Ranks.{stored-rank}
 
 abbrev address-cs : ℕ → address-lts.Claims
-address-cs t = (
-  node-at.Asked,
-  node-at.Learnt,
-  inside.Asked,
-  inside.Learnt,
-  below address-rank t,
-  address.Post,
-  lookup.Asked,
-  lookup.Learnt,
-  name-address.Asked,
-  name-address.Learnt,
-  below located-rank t,
-  located.Post,
-  below expr-rank t,
-  expr.Post,
-  below refuse-rank t,
-  refuse.Post,
-)
+address-cs t =
+    eight (node-at.Asked, node-at.Learnt) (inside.Asked, inside.Learnt) (below address-rank t, address.Post) (lookup.Asked, lookup.Learnt)
+    (name-address.Asked, name-address.Learnt) (below located-rank t, located.Post) (below expr-rank t, expr.Post) (below refuse-rank t, refuse.Post)
 
 address-expr-requires : (t : ℕ) → address-lts.Need-expr-requires (address-cs t) (at address-rank t) address.Post
 address-expr-requires t c κs =
@@ -102,34 +83,17 @@ address-ok t =
     (address-returns-6 t)
 
 abbrev located-cs : ℕ → located-lts.Claims
-located-cs t = (
-  node-at.Asked,
-  node-at.Learnt,
-  less.Asked,
-  less.Learnt,
-  entry.Asked,
-  entry.Learnt,
-  inside.Asked,
-  inside.Learnt,
-  below applied-rank t,
-  applied.Post,
-  keep.Asked,
-  keep.Learnt,
-  raised-reads.Asked,
-  raised-reads.Learnt,
-  below expr-rank t,
-  expr.Post,
-  put.Asked,
-  put.Learnt,
-)
+located-cs t =
+    nine (node-at.Asked, node-at.Learnt) (less.Asked, less.Learnt) (entry.Asked, entry.Learnt) (inside.Asked, inside.Learnt)
+    (below applied-rank t, applied.Post) (keep.Asked, keep.Learnt) (raised-reads.Asked, raised-reads.Learnt) (below expr-rank t, expr.Post)
+    (put.Asked, put.Learnt)
 
 located-applied-requires : (t : ℕ) → located-lts.Need-applied-requires (located-cs t) (at located-rank t) located.Post
 located-applied-requires t c κs =
     let after-inside = c .before .before .before in let after-less2 = after-inside .before in let after-entry = after-less2 .before in
     let after-less = after-entry .before .before in let after-node-at = after-less .before in
     let start = after-node-at .before .before .before .before .before in
-    both (omega (arith, start .pre .0, left-at, some-left, start .pre .1 .0 .small))
-    (suffixes-ready-at (after-inside .inside .ensures)
+    both (omega (arith, start .pre .0, left-at, some-left, start .pre .1 .0 .small)) (suffixes-ready-at (after-inside .inside .ensures)
     (address-left _ (after-node-at .node-at .ensures) (start .pre .1 .1) refl (after-less .less .ensures) (after-entry .entry .ensures .0)
     (after-less2 .less2 .ensures) (start .pre .1 .0)))
 
@@ -234,8 +198,7 @@ side-raised-requires t c κs =
     omega (
       arith,
       c .before .before .before .before .before .before .before .before .before .before .before .before .before .before .before .pre .1 .0 .height,
-      ap
-          (λ (x : Here). x .height) (c .inside2 .ensures),
+      ap (λ (x : Here). x .height) (c .inside2 .ensures),
     )
 
 side-expr-requires : (t : ℕ) → side-lts.Need-expr-requires (side-cs t) (at side-rank t) side.Post
@@ -300,34 +263,17 @@ side-ok t =
     (side-returns-4 t) (λ c. search needs) (λ c. search needs) (side-returns-5 t) (λ c. search needs) (λ c. search needs) (side-returns-6 t)
 
 abbrev stored-cs : ℕ → stored-lts.Claims
-stored-cs t = (
-  node-at.Asked,
-  node-at.Learnt,
-  less.Asked,
-  less.Learnt,
-  entry.Asked,
-  entry.Learnt,
-  inside.Asked,
-  inside.Learnt,
-  raised-reads.Asked,
-  raised-reads.Learnt,
-  keep.Asked,
-  keep.Learnt,
-  below applied-rank t,
-  applied.Post,
-  below expr-rank t,
-  expr.Post,
-  store-indexed.Asked,
-  store-indexed.Learnt,
-)
+stored-cs t =
+    nine (node-at.Asked, node-at.Learnt) (less.Asked, less.Learnt) (entry.Asked, entry.Learnt) (inside.Asked, inside.Learnt)
+    (raised-reads.Asked, raised-reads.Learnt) (keep.Asked, keep.Learnt) (below applied-rank t, applied.Post) (below expr-rank t, expr.Post)
+    (store-indexed.Asked, store-indexed.Learnt)
 
 stored-raised-requires : (t : ℕ) → stored-lts.Need-raised-requires (stored-cs t) (at stored-rank t) stored.Post
 stored-raised-requires t c κs =
     omega (
       arith,
       c .before .before .before .before .before .before .before .before .before .before .pre .1 .0 .height,
-      ap (λ (x : Here). x .height)
-          (c .inside .ensures),
+      ap (λ (x : Here). x .height) (c .inside .ensures),
     )
 
 stored-add-applied : (t : ℕ) → stored-lts.Need-add-applied (stored-cs t) (at stored-rank t) stored.Post
@@ -378,8 +324,7 @@ stored-raised-requires-2 t c κs =
       arith,
       start .pre .1 .0 .height,
       ap (λ (x : Here). x .height) (after-raised .raised .ensures),
-      ap (λ (x : Here). x .height)
-          (after-inside .inside .ensures),
+      ap (λ (x : Here). x .height) (after-inside .inside .ensures),
     )
 
 stored-expr-requires : (t : ℕ) → stored-lts.Need-expr-requires (stored-cs t) (at stored-rank t) stored.Post
@@ -486,8 +431,7 @@ assign-add-l t c =
       assign-is (start .args .source .now) (start .args .text .now) (after-loop-test .loop-test .taken) (after-entry .entry .ensures .0) refl
           (start .pre .1) (after-loop .loop .inv .2 (start .pre .1)) .before,
       start .pre .1 .ready .small,
-      after-loop .loop .inv .2
-          (start .pre .1) .starts,
+      after-loop .loop .inv .2 (start .pre .1) .starts,
       after-loop-test .loop-test .taken,
     )
 
@@ -502,8 +446,7 @@ assign-add-l-2 t c =
       assign-is (start .args .source .now) (start .args .text .now) (after-loop-test .loop-test .taken) (after-entry .entry .ensures .0) refl
           (start .pre .1) (after-loop .loop .inv .2 (start .pre .1)) .before,
       start .pre .1 .ready .small,
-      after-loop .loop .inv .2
-          (start .pre .1) .starts,
+      after-loop .loop .inv .2 (start .pre .1) .starts,
       after-loop-test .loop-test .taken,
     )
 
@@ -519,8 +462,7 @@ assign-loop-again t c =
     let after-expr = after-node-at .before .before .before .before .before .before in let after-entry = after-expr .before .before .before in
     let after-loop-test = after-entry .before .before in let after-loop = after-loop-test .before in (
       after-side .side .kept .1 .0 ∙ after-expr .expr .kept .1 .0 ∙ after-loop .loop .inv .0,
-      after-side .side .kept .1 .1 .1 .0
-          ∙ after-expr .expr .kept .1 .1 .1 .0 ∙ after-loop .loop .inv .1,
+      after-side .side .kept .1 .1 .1 .0 ∙ after-expr .expr .kept .1 .1 .1 .0 ∙ after-loop .loop .inv .1,
       λ y. assign-next _ _ (after-loop-test .loop-test .taken)
           (after-entry .entry .ensures .0) refl (after-expr .expr .ensures) _ (after-node-at .node-at .ensures) (after-side .side .ensures)
           (c .entry2 .ensures .0) refl y (after-loop .loop .inv .2 y),
