@@ -1,5 +1,5 @@
 -- The simulation of calls: RDCH, WRCH, and functions of the text, which return from their end or from a RETURN.
-use Prim.Native.Nat.{ℕ, suc, _+_, _-_, _%_, _≤_, _<_}
+use Prim.Native.Nat.{ℕ, suc, _+_, _%_, _≤_, _<_}
 use mathlib.Core.Path.{_≡_, refl, sym, ap, _∙_}
 use mathlib.Core.Bool.{Bool, true, false}
 use mathlib.Core.List.{List, [], _∷_, _++_}
@@ -12,18 +12,18 @@ use borrow.Author.Tests.{eqb-true}
 use Rattle.items.specs.Item as I
 use Rattle.machine.specs.Acts as MA
 use Rattle.language.specs.Resolved as R
-use Rattle.language.specs.Resolved.{Expr, Exprs, Body, Fun}
+use Rattle.language.specs.Resolved.{Expr, Exprs, Body}
 use Rattle.language.specs.Heights.{count}
 use Rattle.language.specs.State.{Value, absent, State, Result, ok, forget}
-use Rattle.language.specs.Run.{Flow, normal, broke, looped, ended, gave, Sem, evaluated, arguments, called, received, sent, enterAt, runBody, ofFunction, ofRoutine, parameters, positionOf, noFun, nth, Placement}
+use Rattle.language.specs.Run.{Flow, normal, broke, looped, ended, gave, Sem, evaluated, arguments, called, received, sent, enterAt, runBody, ofFunction, ofRoutine, parameters, positionOf, noFun, nth}
 use Rattle.code.specs.Generate.{exprCode, exprsCode, exprsLabels, cmdCode, bodyCode, nowhereElse, X}
-use Rattle.code.proofs.Results.{Post, p-unfinished, p-undefined, p-finished, p-returned, p-ok, post-cond, post-bind, post-demand, has-none, has-word, has-same}
+use Rattle.code.proofs.Results.{Post, p-unfinished, p-undefined, p-finished, p-returned, p-ok, post-cond, post-demand, has-none, has-word, has-same}
 use Rattle.code.proofs.Machine.{Mach, Goes, goes-on}
 use Rattle.code.proofs.Standing.{Env, At, Code, cut, cut-number, at-end}
 use Rattle.code.proofs.Instructions.{do-LI, do-X27, do-X28, sum-P}
 use Rattle.code.proofs.Related.{Rel, Sim, Ends, Runs, seq-sim, more-ends, then, weaken, reaching, reaching-in, raise, sink, sink-rel, like-rel, quiet}
 use Rattle.language.proofs.Formed.{FormedE, FormedF}
-use Rattle.code.proofs.Goals.{F, S, Fits, Valued, Where, w-normal, w-broke, w-looped, w-ended, w-gave, Sims}
+use Rattle.code.proofs.Goals.{F, S, Fits, Valued, Where, w-normal, Sims}
 use Rattle.code.proofs.Expressions.{GoalE, part}
 use Rattle.code.proofs.Arguments.{Loaded, loaded-same, Holding, post-demandAll, sim-arguments}
 use Rattle.code.proofs.Frames.{Called, calls, with-parameters, parameters-below, Back, back-forget, returns}

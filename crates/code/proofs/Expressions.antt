@@ -25,7 +25,6 @@ use Rattle.code.proofs.Results.{p-undefined, post-read, post-demand, ha
 use Rattle.code.proofs.Machine.{Mach}
 use Rattle.code.proofs.Standing.{Env, At, Code, cut, cut-number, cut-address, cut-label, at-end}
 use Rattle.code.proofs.Related.{Rel, Runs, then, weaken, paid, over, reaching, raise, sink, like-rel, live-below, gone-holds}
-use Rattle.code.proofs.Steps
 use Rattle.code.proofs.Steps.{step-L, step-LP, step-LG, step-LIP, step-LIG, step-SP, step-AIP, step-X1, step-X2, step-X3, step-dyadic}
 use Rattle.language.proofs.Formed.{FormedE}
 use Rattle.code.proofs.Goals.{F, S, Fits, Valued, Where, w-normal, w-gave, Sims}

@@ -1,20 +1,17 @@
 -- Demand 3 for the compiler's text, where its items can be read back and its functions are formed.
-use Prim.Native.Nat.{ℕ, suc, _+_, _≤_, _<_}
+use Prim.Native.Nat.{ℕ, suc, _+_, _≤_}
 use mathlib.Core.Path.{_≡_, refl}
 use mathlib.Core.List.{List}
 use native.Mathlib.Omega.{arith}
-use lib.ListN.{length, getD}
-use Rattle.items.proofs.Rendered.{AllSound}
+use lib.ListN.{length}
 use Rattle.assembler.specs.Assemble.{assembled}
 use Rattle.assembler.specs.declared.Assembled.the-variants.{Accepted}
 use Rattle.assembler.specs.declared.Label.{Label}
 use Rattle.language.specs.State.{State}
-use Rattle.language.specs.Run.{noFun}
 use Rattle.language.specs.Whole.{functionsIn, stringsIn, SourceRunEnds}
 use Rattle.machine.specs.Run.{run}
 use Rattle.code.specs.Faithful.{placementOf, Follows, Faithful}
-use Rattle.code.specs.Generate.{itemsOf, textOf}
-use Rattle.language.proofs.Formed.{FormedF}
+use Rattle.code.specs.Generate.{textOf}
 use Rattle.code.proofs.Program.{Built, built, addresses-length}
 use Rattle.code.proofs.Start.{Γ, finishes}
 use Rattle.code.proofs.Good.{Good}

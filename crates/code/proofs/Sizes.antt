@@ -1,18 +1,16 @@
 -- The compiler's text makes at most eight program words a source symbol and sixteen more, its strings' own words apart.
-use Prim.Native.Nat.{ℕ, suc, _+_, _*_, _-_, _≤_}
+use Prim.Native.Nat.{ℕ, suc, _+_, _*_, _≤_}
 use mathlib.Core.Path.{_≡_, refl}
 use mathlib.Core.Bool.{false}
 use mathlib.Core.List.{List, [], _∷_, _++_}
 use native.Mathlib.Omega.{arith}
 use lib.ListN.{length}
 use Rattle.items.specs.Item as I
-use Rattle.items.specs.Item.{Item, Placed}
+use Rattle.items.specs.Item.{Item}
 use Rattle.items.specs.Scan as Z
 use Rattle.items.specs.Render.{render}
 use Rattle.items.proofs.Rendered.{places, rendered}
 use Rattle.assembler.specs.Words.{size}
-use Rattle.assembler.specs.Assemble.{assembled}
-use Rattle.assembler.specs.declared.Assembled.the-variants.{Accepted}
 use Rattle.text.proofs.Packed.{length-pairs}
 use Rattle.language.specs.Tree as T
 use Rattle.language.specs.Tree.{Function, Declaration, Program}
@@ -25,8 +23,7 @@ use Rattle.language.specs.Whole.{refusalOf, funs, functionsIn, stringsIn}
 use Rattle.code.specs.Placed.{wordCount, stringWords}
 use Rattle.code.specs.Generate.{bodyLabels, bodyCode, functionsCode, stringsCode, startsCode, startIn, itemsOf, textOf}
 use Rattle.language.proofs.Tokens.{bodyTokens, functionsTokens, declarationTokens, programTokens}
-use Rattle.code.proofs.Placing.{past, lays-end}
-use Rattle.code.proofs.Program.{Built, built}
+use Rattle.code.proofs.Placing.{past}
 use Rattle.code.proofs.WordCounts.{size-most, weigh, weigh-both, weighs, exprWords, cmdWords, w-e, w-c}
 use Rattle.code.proofs.WordBounds.{many-e, many-c}
 use Rattle.language.proofs.Accepted.{Facts, facts}

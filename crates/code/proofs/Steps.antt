@@ -16,7 +16,6 @@ use Rattle.language.specs.State.{holds, State, Result, put}
 use Rattle.code.proofs.Results.{Live}
 use Rattle.code.proofs.Machine.{Mach}
 use Rattle.code.proofs.Standing.{Env, At}
-use Rattle.code.proofs.Instructions
 use Rattle.code.proofs.Instructions.{do-L, do-LI, do-S, do-SI, do-A, do-AI, do-J, do-T, do-F, do-X1, do-X2, do-X3, do-dyadic, sum-none, sum-P, sum-G}
 use Rattle.code.proofs.Related.{Rel, Sim, Runs, after, quiet, temp, cell, live-below, gone-holds, gone-live}
 

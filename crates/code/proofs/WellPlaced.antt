@@ -1,9 +1,9 @@
 -- The placement rules of the compiler's text: every function and string labelled, entries that differ, strings in place and apart.
-use Prim.Native.Nat.{ℕ, zero, suc, _+_, _-_, _*_, _/_, _≤_, _<_}
+use Prim.Native.Nat.{ℕ, zero, suc, _+_, _-_, _≤_, _<_}
 use mathlib.Core.Path.{_≡_, refl, sym, _∙_}
 use mathlib.Core.Bool.{Bool, true, false, cond}
 use mathlib.Core.Logic.{inl}
-use mathlib.Core.List.{List, [], _∷_, _++_, append-assoc, map}
+use mathlib.Core.List.{List, [], _∷_, _++_, append-assoc}
 use native.Mathlib.Omega.{arith}
 use native.Mathlib.Decide.{decLt}
 use lib.Dec.{eqb}
@@ -19,7 +19,6 @@ use Rattle.assembler.specs.declared.Label.{Label}
 use Rattle.assembler.specs.Layout.{vacant, defined, addressOf, noted}
 use Rattle.assembler.specs.Assemble.{assembled}
 use Rattle.assembler.specs.declared.Assembled.the-variants.{Accepted}
-use Rattle.assembler.proofs.Acceptance.{Proper}
 use Rattle.language.specs.Resolved.{Fun}
 use Rattle.language.specs.Whole.{functionsIn, stringsIn}
 use Rattle.code.specs.Faithful.{addressesFrom, placementOf}

@@ -1,7 +1,7 @@
 -- Texts accepted with document 01's strings and characters keep their meaning: its reading of constants, in which any fault was 4 at the opening
 -- quote, and that whatever it read is read the same now.
 use Prim.Native.Nat.{ℕ, zero, suc, _-_, _≤_}
-use mathlib.Core.Path.{_≡_, refl, sym, ap, _∙_}
+use mathlib.Core.Path.{_≡_, refl, ap}
 use mathlib.Core.Bool.{Bool, true, false, cond}
 use mathlib.Core.List.{List, [], _∷_}
 use native.Mathlib.Omega.{arith}
@@ -12,11 +12,11 @@ use Rattle.text.specs.Quoted as Q
 use Rattle.text.specs.Quoted.{Quoted, closed, wider, after, onCharacter, quoted}
 use Rattle.language.specs.Bytes.{QUOTE, DOUBLE, classOf}
 use Rattle.language.specs.Kinds.{NUMBER, STRING}
-use Rattle.language.specs.Symbols.{Symbol, Element, symbol, gap, wrong, character, string, byClass, Fault, none, fault, Scan, ends, goesOn, onElement, scanFrom, scan}
+use Rattle.language.specs.Symbols.{Symbol, Element, symbol, gap, wrong, character, string, byClass, Fault, none, fault, Scan, ends, onElement, scanFrom, scan}
 use Rattle.language.specs.Brackets.{Matching, matched, unmatched, firstFault, brackets}
 use Rattle.language.specs.Strings.{numbered}
 use Rattle.language.specs.Semicolons.{semicolons}
-use Rattle.language.specs.Source.{Symbols, good, faulty, onFault, symbolsOf}
+use Rattle.language.specs.Source.{Symbols, good, onFault, symbolsOf}
 
 -- ---- document 01's reading
 
