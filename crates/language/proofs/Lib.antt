@@ -10,14 +10,15 @@ pub mod ExampleExpressions
 pub mod ExampleGrammar
 pub mod ExampleTrees
 pub mod ExampleTexts
+pub mod Levels
 pub mod Gives
 pub mod Depth
 pub mod Depths
 pub mod CommandDepths
 pub mod Local
-pub mod Locality
 pub mod Extra
 pub mod ExtraGrammar
+pub mod Locality
 pub mod Loops
 pub mod ExampleLoops
 pub mod Bindings
