@@ -19,6 +19,7 @@ use Rattle.language.specs.Resolve.{declareAll, ofMeaning, sideOf, target
 use Rattle.language.specs.Resolved as R
 use Rattle.language.specs.Resolved.{Expr, Exprs, Target, Pairs, Cmd, Cmds, Cases, Locals, Body}
 use Rattle.language.specs.Faults.{unlessSide, misplaced, byFaults, twice, doubled, Leavable, inLoop, inSwitch, inValof, repeated, unless, leaves, inExpression, inSuffixes, inOperations, inExpressions, inRightSides, inSides, inCommand, inCase, inRepeats, inUnlabelled, inLocals, inCommands, inCases}
+use Rattle.language.proofs.Cases.{by-monadic, by-side}
 use Rattle.language.specs.Fine.{Fine, FineList, FineSuffixes, FineOperations, FineCommand, FineCommands, FineUnlabelled, FineRepeats, FineLocals}
 
 -- ---- no refusal at all is none on either side
@@ -34,6 +35,8 @@ none-right (x ∷ xs) ys h = let z : _≡_ {A = ℕ} 0 1 = cc in absurd (omega a
 unless-true : (b : Bool) (place : ℕ) → unless b (fault place 13) ≡ [] → b ≡ true
 unless-true true place h = refl
 unless-true false place h = let z : _≡_ {A = ℕ} 0 1 = cc in absurd (omega arith)
+
+ruleset nones = (none-left, none-right)
 
 -- whether a loop, a SWITCHON and a VALOF are there to be left
 unfoldable mutual
@@ -117,49 +120,18 @@ leave-name (N.known (N.manifest v)) = tt
 leave-name (N.known (N.function k)) = tt
 
 leave-address : (e : Expr) → LeavesE e → LeavesE (addressOf (sideOf e))
-unfolding LeavesE sideOf
-leave-address (R.local k) p = tt
-leave-address (R.global n) p = tt
-leave-address (R.contents e) p = p
-leave-address (R.index a b) p = p
-leave-address (R.constant v) p = tt
-leave-address (R.function k) p = tt
-leave-address (R.string k) p = tt
-leave-address (R.addressOfLocal k) p = tt
-leave-address (R.addressOfGlobal n) p = tt
-leave-address (R.addressOfContents e) p = tt
-leave-address (R.addressOfIndex a b) p = tt
-leave-address (R.unary o e) p = tt
-leave-address (R.binary o a b) p = tt
-leave-address (R.call e es) p = tt
-leave-address (R.valof c) p = tt
+unfolding LeavesE
+leave-address e p =
+    by-side (λ e x. LeavesE e → LeavesE (addressOf x)) (λ _ _. tt) (λ _ _. tt) (λ _ p. p) (λ _ _ p. p) (λ _ _. tt) e p
 
 leave-target : (e : Expr) → LeavesE e → LeavesT (targetOf (sideOf e))
-unfolding LeavesE sideOf
-leave-target (R.local k) p = tt
-leave-target (R.global n) p = tt
-leave-target (R.contents e) p = p
-leave-target (R.index a b) p = p
-leave-target (R.constant v) p = tt
-leave-target (R.function k) p = tt
-leave-target (R.string k) p = tt
-leave-target (R.addressOfLocal k) p = tt
-leave-target (R.addressOfGlobal n) p = tt
-leave-target (R.addressOfContents e) p = tt
-leave-target (R.addressOfIndex a b) p = tt
-leave-target (R.unary o e) p = tt
-leave-target (R.binary o a b) p = tt
-leave-target (R.call e es) p = tt
-leave-target (R.valof c) p = tt
+unfolding LeavesE
+leave-target e p =
+    by-side (λ e x. LeavesE e → LeavesT (targetOf x)) (λ _ _. tt) (λ _ _. tt) (λ _ p. p) (λ _ _ p. p) (λ _ _. tt) e p
 
 leave-monadic : (o : ℕ) (e : Expr) → LeavesE e → LeavesE (E.resolvedMonadic o e)
 unfolding LeavesE
-leave-monadic o e p = go (eqb o PLING) (eqb o AT)
-  where
-    go : (a b : Bool) → LeavesE (cond a (R.contents e) (cond b (addressOf (sideOf e)) (R.unary o e)))
-    go true b = p
-    go false true = leave-address e p
-    go false false = p
+leave-monadic o e p = by-monadic LeavesE o e p (leave-address e p) p
 
 leave-leaving : (l : Leavable) (w : ℕ) → leaves l w ≡ true → Leave l (leaving w)
 unfolding LeavesE
@@ -222,103 +194,96 @@ module _ (strings : ℕ) (text : List ℕ) where
     leave-e s l h (T.name x) n f s′ h′ = leave-name (lookup text s′ x)
     leave-e s l h (T.bracketed place e) n f s′ h′ = leave-e s l h e n f s′ h′
     leave-e s l h (T.valof place c) n f s′ h′ = leave-c s (inValof l) h c n f s′ h′
-    leave-e s l h (T.monadic place o e) n f s′ h′ = leave-monadic o (E.expression text s′ h′ e) (leave-e s l h e (none-left _ _ n) f s′ h′)
+    leave-e s l h (T.monadic place o e) n f s′ h′ = leave-monadic o (E.expression text s′ h′ e) (leave-e s l h e (search nones) f s′ h′)
     leave-e s l h (T.suffixed e ss) n f s′ h′ =
-        leave-x s l h ss (none-right (inExpression text s l (under ss h) e) _ n) (f .1) s′ h′ (E.expression text s′ (under ss h′) e) (leave-e s l (under ss h) e (none-left _ _ n) (f .0) s′ (under ss h′))
+        leave-x s l h ss (search nones) (f .1) s′ h′ (E.expression text s′ (under ss h′) e) (leave-e s l (under ss h) e (search nones) (f .0) s′ (under ss h′))
     leave-e s l h (T.dyadic e os) n f s′ h′ =
-        leave-o s l h os (none-right (inExpression text s l h e) _ n) (f .1) s′ h′ (E.expression text s′ h′ e) (leave-e s l h e (none-left _ _ n) (f .0) s′ h′)
+        leave-o s l h os (search nones) (f .1) s′ h′ (E.expression text s′ h′ e) (leave-e s l h e (search nones) (f .0) s′ h′)
 
     leave-a : (s : Scope) (l : Leavable) (h : ℕ) (es : Expressions) → inExpressions text s l h es ≡ [] → FineList strings es → (s′ : Scope) (h′ : ℕ) → LeavesA (E.expressions text s′ h′ es)
     leave-a s l h T.noExpressions n f s′ h′ = tt
-    leave-a s l h (T.andExpression e es) n f s′ h′ = (leave-e s l h e (none-left _ _ n) (f .0) s′ h′, leave-a s l (h + 1) es (none-right (inExpression text s l h e) _ n) (f .1) s′ (h′ + 1))
+    leave-a s l h (T.andExpression e es) n f s′ h′ = (leave-e s l h e (search nones) (f .0) s′ h′, leave-a s l (h + 1) es (search nones) (f .1) s′ (h′ + 1))
 
     leave-right : (s : Scope) (l : Leavable) (h : ℕ) (es : Expressions) → inRightSides text s l h es ≡ [] → FineList strings es → (s′ : Scope) (h′ : ℕ) → LeavesA (E.sides text s′ h′ es)
     leave-right s l h T.noExpressions n f s′ h′ = tt
-    leave-right s l h (T.andExpression e es) n f s′ h′ = (leave-e s l h e (none-left _ _ n) (f .0) s′ h′, leave-right s l h es (none-right (inExpression text s l h e) _ n) (f .1) s′ h′)
+    leave-right s l h (T.andExpression e es) n f s′ h′ = (leave-e s l h e (search nones) (f .0) s′ h′, leave-right s l h es (search nones) (f .1) s′ h′)
 
     leave-sides : (s : Scope) (l : Leavable) (h : ℕ) (es : Expressions) → inSides text s l h es ≡ [] → FineList strings es → (s′ : Scope) (h′ : ℕ) → LeavesA (E.sides text s′ h′ es)
     leave-sides s l h T.noExpressions n f s′ h′ = tt
     leave-sides s l h (T.andExpression e es) n f s′ h′ =
-        let one : List Fault = inExpression text s l h e ++ unlessSide (placeOf e) (sideOf (E.expression text s h e)) in
-        (leave-e s l h e (none-left (inExpression text s l h e) _ (none-left one (inSides text s l h es) n)) (f .0) s′ h′, leave-sides s l h es (none-right one (inSides text s l h es) n) (f .1) s′ h′)
+        (leave-e s l h e (search nones) (f .0) s′ h′, leave-sides s l h es (search nones) (f .1) s′ h′)
 
     leave-x : (s : Scope) (l : Leavable) (h : ℕ) (ss : Suffixes) → inSuffixes text s l h ss ≡ [] → FineSuffixes strings ss → (s′ : Scope) (h′ : ℕ) (x : Expr) → LeavesE x → LeavesE (E.suffixes text s′ h′ x ss)
     leave-x s l h T.noSuffixes n f s′ h′ x p = p
     leave-x s l h (T.call es ss) n f s′ h′ x p =
-        leave-x s l h ss (none-right (inExpressions text s l (under ss h + 2) es) _ n) (f .1) s′ h′ (R.call x (E.expressions text s′ (under ss h′ + 2) es)) (leave-a s l (under ss h + 2) es (none-left _ _ n) (f .0) s′ (under ss h′ + 2), p)
+        leave-x s l h ss (search nones) (f .1) s′ h′ (R.call x (E.expressions text s′ (under ss h′ + 2) es)) (leave-a s l (under ss h + 2) es (search nones) (f .0) s′ (under ss h′ + 2), p)
     leave-x s l h (T.index e ss) n f s′ h′ x p =
-        leave-x s l h ss (none-right (inExpression text s l (under ss h + 1) e) _ n) (f .1) s′ h′ (R.index x (E.expression text s′ (under ss h′ + 1) e)) (p, leave-e s l (under ss h + 1) e (none-left _ _ n) (f .0) s′ (under ss h′ + 1))
+        leave-x s l h ss (search nones) (f .1) s′ h′ (R.index x (E.expression text s′ (under ss h′ + 1) e)) (p, leave-e s l (under ss h + 1) e (search nones) (f .0) s′ (under ss h′ + 1))
 
     leave-o : (s : Scope) (l : Leavable) (h : ℕ) (os : Operations) → inOperations text s l h os ≡ [] → FineOperations strings os → (s′ : Scope) (h′ : ℕ) (x : Expr) → LeavesE x → LeavesE (E.operations text s′ h′ x os)
     leave-o s l h T.noOperations n f s′ h′ x p = p
     leave-o s l h (T.operation o e os) n f s′ h′ x p =
-        leave-o s l h os (none-right (inExpression text s l (h + 1) e) _ n) (f .1) s′ h′ (R.binary o x (E.expression text s′ (h′ + 1) e)) (p, leave-e s l (h + 1) e (none-left _ _ n) (f .0) s′ (h′ + 1))
+        leave-o s l h os (search nones) (f .1) s′ h′ (R.binary o x (E.expression text s′ (h′ + 1) e)) (p, leave-e s l (h + 1) e (search nones) (f .0) s′ (h′ + 1))
 
     pub leave-c : (s : Scope) (l : Leavable) (h : ℕ) (c : Command) → inCommand text s l h c ≡ [] → FineCommand strings c → (s′ : Scope) (h′ : ℕ) → Leave l (E.command text s′ h′ c)
     leave-c s l h (T.command ls u rs) n f s′ h′ =
-        let m = none-left (misplaced text s ls ++ inUnlabelled text s (repeated rs l) h u) (inRepeats text s l h rs) n in
-        leave-r s l h rs (none-right (misplaced text s ls ++ inUnlabelled text s (repeated rs l) h u) (inRepeats text s l h rs) n) (f .2) s′ h′ (E.unlabelled text s′ h′ u)
-        (leave-u s (repeated rs l) h u (none-right (misplaced text s ls) (inUnlabelled text s (repeated rs l) h u) m) (f .1) s′ h′)
+        leave-r s l h rs (search nones) (f .2) s′ h′ (E.unlabelled text s′ h′ u)
+        (leave-u s (repeated rs l) h u (search nones) (f .1) s′ h′)
 
     leave-case : (s : Scope) (l : Leavable) (h : ℕ) (c : Command) → inCase text s l h c ≡ [] → FineCommand strings c → (s′ : Scope) (h′ : ℕ) → Leave l (E.command text s′ h′ c)
     leave-case s l h (T.command ls u rs) n f s′ h′ =
-        leave-r s l h rs (none-right (inUnlabelled text s (repeated rs l) h u) _ n) (f .2) s′ h′ (E.unlabelled text s′ h′ u) (leave-u s (repeated rs l) h u (none-left _ (inRepeats text s l h rs) n) (f .1) s′ h′)
+        leave-r s l h rs (search nones) (f .2) s′ h′ (E.unlabelled text s′ h′ u) (leave-u s (repeated rs l) h u (search nones) (f .1) s′ h′)
 
     leave-r : (s : Scope) (l : Leavable) (h : ℕ) (rs : Repeats) → inRepeats text s l h rs ≡ [] → FineRepeats strings rs → (s′ : Scope) (h′ : ℕ) (x : Cmd) → Leave (repeated rs l) x → Leave l (E.repeats text s′ h′ x rs)
     leave-r s l h T.noRepeats n f s′ h′ x p = p
     leave-r s l h (T.repeat rs) n f s′ h′ x p = leave-r s l h rs n f s′ h′ (R.repeat x) (again rs l x p)
     leave-r s l h (T.repeatOn w e rs) n f s′ h′ x p =
-        leave-r s l h rs (none-right (inExpression text s l h e) _ n) (f .1) s′ h′ (R.repeatWhile (eqb w REPEATWHILE) x (E.expression text s′ h′ e)) (again rs l x p, leave-e s l h e (none-left _ _ n) (f .0) s′ h′)
+        leave-r s l h rs (search nones) (f .1) s′ h′ (R.repeatWhile (eqb w REPEATWHILE) x (E.expression text s′ h′ e)) (again rs l x p, leave-e s l h e (search nones) (f .0) s′ h′)
 
     leave-u : (s : Scope) (l : Leavable) (h : ℕ) (u : Unlabelled) → inUnlabelled text s l h u ≡ [] → FineUnlabelled strings u → (s′ : Scope) (h′ : ℕ) → Leave l (E.unlabelled text s′ h′ u)
     leave-u s l h T.empty n f s′ h′ = tt
     leave-u s l h (T.assignment left right) n f s′ h′ =
-        leave-pairs (E.sides text s′ (h′ + 1) left) (E.sides text s′ h′ right) (leave-sides s l (h + 1) left (none-left _ _ n) (f .0) s′ (h′ + 1)) (leave-right s l h right (none-right (inSides text s l (h + 1) left) _ n) (f .1) s′ h′)
+        leave-pairs (E.sides text s′ (h′ + 1) left) (E.sides text s′ h′ right) (leave-sides s l (h + 1) left (search nones) (f .0) s′ (h′ + 1)) (leave-right s l h right (search nones) (f .1) s′ h′)
     leave-u s l h (T.callCommand e) n f s′ h′ = leave-e s l h e n (f .0) s′ h′
-    leave-u s l h (T.test e c d) n f s′ h′ =
-        let m = none-left (inExpression text s l h e ++ inCommand text s l h c) (inCommand text s l h d) n in (
-          leave-e s l h e (none-left _ (inCommand text s l h c) m) (f .0) s′ h′,
-          leave-c s l h c (none-right (inExpression text s l h e) _ m) (f .1) s′ h′,
-          leave-c s l h d (none-right (inExpression text s l h e ++ inCommand text s l h c) _ n) (f .2) s′ h′,
+    leave-u s l h (T.test e c d) n f s′ h′ = (
+          leave-e s l h e (search nones) (f .0) s′ h′,
+          leave-c s l h c (search nones) (f .1) s′ h′,
+          leave-c s l h d (search nones) (f .2) s′ h′,
         )
     leave-u s l h (T.guarded w e c) n f s′ h′ =
-        leave-guard l w (E.expression text s′ h′ e) (E.command text s′ h′ c) (f .2) (leave-e s l h e (none-left _ _ n) (f .0) s′ h′) (none-right (inExpression text s l h e) _ n)
+        leave-guard l w (E.expression text s′ h′ e) (E.command text s′ h′ c) (f .2) (leave-e s l h e (search nones) (f .0) s′ h′) (search nones)
         (λ q. leave-c s l h c q (f .1) s′ h′) (λ q. leave-c s (inLoop l) h c q (f .1) s′ h′)
     leave-u s l h (T.for x e d k c) n f s′ h′ =
-        let three : List Fault = inExpression text s l h e ++ inExpression text s l (h + 1) d ++ byFaults text s k in
-        let m = none-left three (inCommand text (declared (opened s) x (N.local h)) (inLoop l) (h + 2) c) n in
-        let j = none-left (inExpression text s l h e ++ inExpression text s l (h + 1) d) _ m in (
-          leave-e s l h e (none-left _ (inExpression text s l (h + 1) d) j) (f .0) s′ h′,
-          leave-e s l (h + 1) d (none-right (inExpression text s l h e) _ j) (f .1) s′ (h′ + 1),
-          leave-c (declared (opened s) x (N.local h)) (inLoop l) (h + 2) c (none-right three (inCommand text (declared (opened s) x (N.local h)) (inLoop l) (h + 2) c) n) (f .3) (declared (opened s′) x (N.local h′)) (h′ + 2),
+        (
+          leave-e s l h e (search nones) (f .0) s′ h′,
+          leave-e s l (h + 1) d (search nones) (f .1) s′ (h′ + 1),
+          leave-c (declared (opened s) x (N.local h)) (inLoop l) (h + 2) c (search nones) (f .3) (declared (opened s′) x (N.local h′)) (h′ + 2),
         )
-    leave-u s l h (T.switchon e cs) n f s′ h′ = (leave-e s l h e (none-left _ _ n) (f .0) s′ h′, leave-s s (inSwitch l) h _ cs (none-right (inExpression text s l h e) _ n) (f .1) s′ h′)
+    leave-u s l h (T.switchon e cs) n f s′ h′ = (leave-e s l h e (search nones) (f .0) s′ h′, leave-s s (inSwitch l) h [] cs (search nones) (f .1) s′ h′)
     leave-u s l h (T.resultis place e) n f s′ h′ =
-        (leave-e s l h e (none-right (unless (l .valof) (fault place 13)) _ n) f s′ h′, unless-true (l .valof) place (none-left (unless (l .valof) (fault place 13)) _ n))
+        (leave-e s l h e (search nones) f s′ h′, unless-true (l .valof) place (search nones))
     leave-u s l h (T.leave w place) n f s′ h′ = leave-leaving l w (unless-true (leaves l w) place n)
     leave-u s l h (T.block ls cs) n f s′ h′ = (
-      leave-l (opened s) l h ls (none-left _ _ n) (f .0) (opened s′) h′,
-      leave-b (scopeAfter text (opened s) h ls) l (E.heightAfter text (opened s) h ls) cs (none-right (inLocals text (opened s) l h ls) _ n) (f .1) (scopeAfter text (opened s′) h′ ls) (E.heightAfter text (opened s′) h′ ls),
+      leave-l (opened s) l h ls (search nones) (f .0) (opened s′) h′,
+      leave-b (scopeAfter text (opened s) h ls) l (E.heightAfter text (opened s) h ls) cs (search nones) (f .1) (scopeAfter text (opened s′) h′ ls) (E.heightAfter text (opened s′) h′ ls),
     )
 
     leave-l : (s : Scope) (l : Leavable) (h : ℕ) (ls : T.Locals) → inLocals text s l h ls ≡ [] → FineLocals strings ls → (s′ : Scope) (h′ : ℕ) → LeavesL (E.locals text s′ h′ ls)
     leave-l s l h T.noLocals n f s′ h′ = tt
     leave-l s l h (T.vector x k ls) n f s′ h′ =
         leave-l (declared s x (N.local h)) l (h + 2 + judgedWord (forVector text s k)) ls
-        (none-right (faultsOf (forVector text s k) ++ twice text s h (x ∷ [])) (inLocals text (declared s x (N.local h)) l (h + 2 + judgedWord (forVector text s k)) ls) n) (f .1)
+        (search nones) (f .1)
         (declared s′ x (N.local h′)) (h′ + 2 + judgedWord (forVector text s′ k))
     leave-l s l h (T.values ns es ls) n f s′ h′ =
         leave-values (E.expressions text s′ h′ es) (E.locals text (declareAll s′ h′ ns) (h′ + length ns) ls)
-        (leave-a s l h es (none-left (inExpressions text s l h es) _ (none-left (inExpressions text s l h es ++ twice text s h ns) (inLocals text (declareAll s h ns) l (h + length ns) ls) n)) (f .0) s′ h′)
-        (leave-l (declareAll s h ns) l (h + length ns) ls (none-right (inExpressions text s l h es ++ twice text s h ns) (inLocals text (declareAll s h ns) l (h + length ns) ls) n) (f .1) (declareAll s′ h′ ns) (h′ + length ns))
+        (leave-a s l h es (search nones) (f .0) s′ h′)
+        (leave-l (declareAll s h ns) l (h + length ns) ls (search nones) (f .1) (declareAll s′ h′ ns) (h′ + length ns))
 
     leave-b : (s : Scope) (l : Leavable) (h : ℕ) (cs : Commands) → inCommands text s l h cs ≡ [] → FineCommands strings cs → (s′ : Scope) (h′ : ℕ) → LeavesB (l .loop) (l .switch) (l .valof) (E.commands text s′ h′ cs)
     leave-b s l h T.noCommands n f s′ h′ = tt
-    leave-b s l h (T.andCommand c cs) n f s′ h′ = (leave-c s l h c (none-left _ _ n) (f .0) s′ h′, leave-b s l h cs (none-right (inCommand text s l h c) _ n) (f .1) s′ h′)
+    leave-b s l h (T.andCommand c cs) n f s′ h′ = (leave-c s l h c (search nones) (f .0) s′ h′, leave-b s l h cs (search nones) (f .1) s′ h′)
 
     leave-s : (s : Scope) (l : Leavable) (h : ℕ) (d : List Label) (cs : Commands) → inCases text s l h d cs ≡ [] → FineCommands strings cs → (s′ : Scope) (h′ : ℕ) → LeavesS (l .loop) (l .switch) (l .valof) (E.caseList text s′ h′ cs)
     leave-s s l h d T.noCommands n f s′ h′ = tt
     leave-s s l h d (T.andCommand c cs) n f s′ h′ =
-        let two : List Fault = doubled text s d (labelsBefore c) ++ inCase text s l h c in
-        let m = none-left two (inCases text s l h (d ++ labelsBefore c) cs) n in
-        (leave-case s l h c (none-right (doubled text s d (labelsBefore c)) (inCase text s l h c) m) (f .0) s′ h′, leave-s s l h (d ++ labelsBefore c) cs (none-right two (inCases text s l h (d ++ labelsBefore c) cs) n) (f .1) s′ h′)
+        (leave-case s l h c (search nones) (f .0) s′ h′, leave-s s l h (d ++ labelsBefore c) cs (search nones) (f .1) s′ h′)

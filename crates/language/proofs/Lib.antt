@@ -31,6 +31,7 @@ pub mod ReadTokens
 pub mod SymbolFacts
 pub mod Widths
 pub mod Formed
+pub mod Cases
 pub mod Resolving
 pub mod Leaving
 pub mod Forming

@@ -22,6 +22,7 @@ use Rattle.language.specs.Resolved.{Expr, Exprs, Cmd, Locals}
 use Rattle.language.specs.Heights as H
 use Rattle.language.specs.Resolved.{casesOf, caseCount}
 use Rattle.language.specs.Fine.{labelCount, FineConstant, FineBy, FineLabels, Fine, FineList, FineSuffixes, FineOperations, FineCommand, FineCommands, FineUnlabelled, FineRepeats, FineLocals}
+use Rattle.language.proofs.Cases.{by-cond, by-monadic, by-leaving, by-guard, by-side}
 use Rattle.language.proofs.Formed.{FormedCases, FormedE, FormedA, FormedT, FormedP, FormedC, FormedB, FormedS, FormedL}
 
 -- ---- scopes
@@ -57,11 +58,7 @@ pub lookup-known : (f h : ℕ) (text : List ℕ) (s : Scope) (n : Name) → Scop
 unfolding Scoped lookup
 lookup-known f h text outermost n p = tt
 lookup-known f h text (opened s) n p = lookup-known f h text s n p
-lookup-known f h text (declared s m w) n p = go (sameName text m n) (lookup-known f h text s n (p .1))
-  where
-    go : (b : Bool) → KnownFound f h (lookup text s n) → KnownFound f h (cond b (N.known w) (lookup text s n))
-    go true q = p .0
-    go false q = q
+lookup-known f h text (declared s m w) n p = by-cond (KnownFound f h) (sameName text m n) (p .0) (lookup-known f h text s n (p .1))
 
 pub declared-all : (f : ℕ) (s : Scope) (h : ℕ) (ns : List Name) → Scoped f h s → Scoped f (h + length ns) (declareAll s h ns)
 unfolding declareAll Scoped
@@ -100,11 +97,7 @@ word-below (good v) l = l
 word-below (refused fs) l = omega arith
 
 pub within-word : (c : Constant) (test : ℕ → Bool) (j : Judged) → WordJudged j → judgedWord (within c test j) < 65536
-within-word c test (good v) l = go (test v)
-  where
-    go : (b : Bool) → judgedWord (cond b (good v) (refused (fault (c .place) 11))) < 65536
-    go true = l
-    go false = omega arith
+within-word c test (good v) l = by-cond (λ j. judgedWord j < 65536) (test v) l (omega arith)
 within-word c test (refused fs) l = omega arith
 
 pub within-most : (c : Constant) (most : ℕ) (j : Judged) → judgedWord (within c (λ v. leb v most) j) ≤ most
@@ -136,60 +129,24 @@ module _ (functions strings : ℕ) (text : List ℕ) where
   formed-name h (N.known (N.function k)) p = p
 
   formed-address : (h : ℕ) (e : Expr) → GE h e → GE h (addressOf (sideOf e))
-  unfolding FormedE sideOf
-  formed-address h (R.local k) p = p
-  formed-address h (R.global n) p = p
-  formed-address h (R.contents e) p = p
-  formed-address h (R.index a b) p = p
-  formed-address h (R.constant v) p = omega arith
-  formed-address h (R.function k) p = omega arith
-  formed-address h (R.string k) p = omega arith
-  formed-address h (R.addressOfLocal k) p = omega arith
-  formed-address h (R.addressOfGlobal n) p = omega arith
-  formed-address h (R.addressOfContents e) p = omega arith
-  formed-address h (R.addressOfIndex a b) p = omega arith
-  formed-address h (R.unary o e) p = omega arith
-  formed-address h (R.binary o a b) p = omega arith
-  formed-address h (R.call e es) p = omega arith
-  formed-address h (R.valof c) p = omega arith
+  unfolding FormedE
+  formed-address h e p =
+      by-side (λ e x. GE h e → GE h (addressOf x)) (λ _ p. p) (λ _ p. p) (λ _ p. p) (λ _ _ p. p) (λ _ _. omega arith) e p
 
   formed-target : (h : ℕ) (e : Expr) → GE (h + 1) e → FormedT functions strings h (targetOf (sideOf e))
-  unfolding FormedE sideOf
-  formed-target h (R.local k) p = p
-  formed-target h (R.global n) p = p
-  formed-target h (R.contents e) p = p
-  formed-target h (R.index a b) p = let z : h + 1 + 1 ≡ h + 2 = omega arith in (p .0, rw z at (p .1))
-  formed-target h (R.constant v) p = omega arith
-  formed-target h (R.function k) p = omega arith
-  formed-target h (R.string k) p = omega arith
-  formed-target h (R.addressOfLocal k) p = omega arith
-  formed-target h (R.addressOfGlobal n) p = omega arith
-  formed-target h (R.addressOfContents e) p = omega arith
-  formed-target h (R.addressOfIndex a b) p = omega arith
-  formed-target h (R.unary o e) p = omega arith
-  formed-target h (R.binary o a b) p = omega arith
-  formed-target h (R.call e es) p = omega arith
-  formed-target h (R.valof c) p = omega arith
+  unfolding FormedE
+  formed-target h e p =
+      let z : h + 1 + 1 ≡ h + 2 = omega arith in
+      by-side (λ e x. GE (h + 1) e → FormedT functions strings h (targetOf x)) (λ _ p. p) (λ _ p. p) (λ _ p. p) (λ _ _ p. (p .0, rw z at (p .1)))
+      (λ _ _. omega arith) e p
 
   formed-monadic : (h o : ℕ) (e : Expr) → GE h e → GE h (E.resolvedMonadic o e)
   unfolding FormedE
-  formed-monadic h o e p = go (eqb o PLING) (eqb o AT)
-    where
-      go : (a b : Bool) → GE h (cond a (R.contents e) (cond b (addressOf (sideOf e)) (R.unary o e)))
-      go true b = p
-      go false true = formed-address h e p
-      go false false = p
+  formed-monadic h o e p = by-monadic (GE h) o e p (formed-address h e p) p
 
   formed-leaving : (h w : ℕ) → FormedC functions strings h (leaving w)
   unfolding FormedE
-  formed-leaving h w = go (eqb w BREAK) (eqb w LOOP) (eqb w ENDCASE) (eqb w RETURN)
-    where
-      go : (a b c d : Bool) → FormedC functions strings h (cond a R.break (cond b R.loop (cond c R.endcase (cond d R.return R.finish))))
-      go true b c d = tt
-      go false true c d = tt
-      go false false true d = tt
-      go false false false true = tt
-      go false false false false = tt
+  formed-leaving h w = by-leaving (FormedC functions strings h) w tt tt tt tt tt
 
   -- left sides with right sides
   unfoldable Sides : ℕ → Exprs → Type 0
@@ -284,13 +241,6 @@ module _ (functions strings : ℕ) (text : List ℕ) where
   unfolding FineCommand
   before-fine (T.command ls u rs) f = f .0
 
-  formed-guard : (h : ℕ) (e : Expr) (c : Cmd) (sense a b : Bool) → FormedE functions strings h e → FormedC functions strings h c
-      → FormedC functions strings h (cond a (R.while true e c) (cond b (R.while false e c) (R.when sense e c)))
-  unfolding FormedE
-  formed-guard h e c sense true b p q = (p, q)
-  formed-guard h e c sense false true p q = (p, q)
-  formed-guard h e c sense false false p q = (p, q)
-
   mutual
     unfolding E.expression Fine FormedE Sides under
 
@@ -346,7 +296,10 @@ module _ (functions strings : ℕ) (text : List ℕ) where
         formed-pairs h (E.sides text s (h + 1) left) (E.sides text s h right) (form-sides s (h + 1) left (scoped-up functions s (omega arith) sc) (f .0)) (form-sides s h right sc (f .1))
     form-u s h (T.callCommand e) sc f = form-e s h e sc (f .0)
     form-u s h (T.test e c d) sc f = (form-e s h e sc (f .0), form-c s h c sc (f .1), form-c s h d sc (f .2))
-    form-u s h (T.guarded w e c) sc f = formed-guard h (E.expression text s h e) (E.command text s h c) (eqb w IF) (eqb w WHILE) (eqb w UNTIL) (form-e s h e sc (f .0)) (form-c s h c sc (f .1))
+    form-u s h (T.guarded w e c) sc f =
+        let p : FormedE functions strings h (E.expression text s h e) × FormedC functions strings h (E.command text s h c)
+        = (form-e s h e sc (f .0), form-c s h c sc (f .1)) in
+        by-guard (FormedC functions strings h) _ _ (eqb w IF) (eqb w WHILE) (eqb w UNTIL) p p p
     form-u s h (T.for n e d k c) sc f = (
       form-e s h e sc (f .0),
       form-e s (h + 1) d (scoped-up functions s (omega arith) sc) (f .1),
