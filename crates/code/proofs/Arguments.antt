@@ -19,6 +19,7 @@ use Rattle.code.proofs.Related.{Rel, Runs, then, weaken, paid, reaching
 use Rattle.code.proofs.Steps.{step-SP}
 use Rattle.language.proofs.Formed.{FormedA}
 use Rattle.code.proofs.Goals.{F, S, Fits, Sims}
+use Rattle.language.proofs.Cases.{clash}
 
 -- values in the words from a on, below z
 pub data Loaded (m : List ℕ) (z : ℕ) : List Value → ℕ → Type 0 where
@@ -35,7 +36,7 @@ pub record Holding (m : List ℕ) (ws : List ℕ) (a : ℕ) : Type 0 where
 
 pub holding-none : (m : List ℕ) (a : ℕ) → Holding m [] a
 unfolding nth
-holding-none m a = record { at = λ i x e. let k : _≡_ {A = ℕ} 0 1 = cc in absurd (omega arith) }
+holding-none m a = record { at = λ i x e. clash (cc) }
 
 holding-more : {m ws : List ℕ} {a b : ℕ} (w : ℕ) → getD m a 0 ≡ w → suc a ≡ b → Holding m ws b → Holding m (w ∷ ws) a
 unfolding nth

@@ -28,6 +28,7 @@ use Rattle.code.proofs.Related.{Rel, Runs, then, weaken, paid, over, re
 use Rattle.code.proofs.Steps.{step-L, step-LP, step-LG, step-LIP, step-LIG, step-SP, step-AIP, step-X1, step-X2, step-X3, step-dyadic}
 use Rattle.language.proofs.Formed.{FormedE}
 use Rattle.code.proofs.Goals.{F, S, Fits, Valued, Where, w-normal, w-gave, Sims}
+use Rattle.language.proofs.Cases.{clash}
 
 -- ---- the operators: the machine's act does what the source's operator says, by the same function of words
 
@@ -41,11 +42,11 @@ acts-unless : {k : ℕ} (f : ℕ → ℕ → ℕ) (v w : ℕ) → M.actOf k ≡ 
 acts-unless f v w e = record { is = λ y q. (M.unlessZero f, e, go y (eqb w 0) (f v w) q) }
   where
     go : (y : ℕ) (b : Bool) (z : ℕ) → cond b none (some z) ≡ some y → cond b (O.stop 33) (O.ok z) ≡ O.ok y
-    go y true z r = let k : _≡_ {A = ℕ} 0 1 = cc in absurd (omega arith)
+    go y true z r = cc
     go y false z r = cc
 
 acts-none : {k : ℕ} (v w : ℕ) → ActsAs k none v w
-acts-none v w = record { is = λ y q. let k : _≡_ {A = ℕ} 0 1 = cc in absurd (omega arith) }
+acts-none v w = record { is = λ y q. clash (cc) }
 
 acts-cond : {k k′ : ℕ} {x x′ : Option ℕ} {v w : ℕ} (b : Bool) → ActsAs k x v w → ActsAs k′ x′ v w → ActsAs (cond b k k′) (cond b x x′) v w
 acts-cond true f g = f

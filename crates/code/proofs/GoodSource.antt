@@ -36,6 +36,7 @@ use Rattle.language.proofs.Accepted.{Facts, facts, formed}
 use Rattle.code.proofs.Good.{Good}
 use Rattle.code.proofs.Faithful.{faithful}
 use Rattle.code.proofs.WellPlaced.{well-placed}
+use Rattle.language.proofs.Cases.{clash}
 
 -- ---- heights
 
@@ -57,7 +58,7 @@ unfolding heightFaults
 first-low n ns h = go (ltb 8192 (largestHeight (n .fun))) refl h
   where
     go : (b : Bool) → ltb 8192 (largestHeight (n .fun)) ≡ b → cond b (fault (n .name .place) 16) [] ++ heightFaults ns ≡ [] → (largestHeight (n .fun) ≤ 8192) × (heightFaults ns ≡ [])
-    go true e q = let z : _≡_ {A = ℕ} 0 1 = cc in absurd (omega arith)
+    go true e q = clash (cc)
     go false e q = (ltb-false 8192 (largestHeight (n .fun)) e, q)
 
 -- ---- labels

@@ -41,10 +41,10 @@ limit-acts by i m = go (leb 32768 by)
 
 jump-on : (z : Bool) (k b : ℕ) → z ≡ true → cond (eqb (W.truth z) 0) k b ≡ b
 jump-on true k b e = refl
-jump-on false k b e = let y : _≡_ {A = ℕ} 0 1 = cc in absurd (omega arith)
+jump-on false k b e = cc
 
 jump-out : (z : Bool) (k b : ℕ) → z ≡ false → cond (eqb (W.truth z) 0) k b ≡ k
-jump-out true k b e = let y : _≡_ {A = ℕ} 0 1 = cc in absurd (omega arith)
+jump-out true k b e = cc
 jump-out false k b e = refl
 
 module _ (Γ : Env) where

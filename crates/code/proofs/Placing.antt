@@ -21,6 +21,7 @@ use Rattle.assembler.proofs.Operands.{number-below, label-range}
 use Rattle.assembler.proofs.Faults.{no-fault-ranged, no-fault-placed, label-placed}
 use Rattle.code.proofs.Standing.{Env, At, Is, is-number, is-address, is-label, is-word, is-place, is-string, is-global, is-minus, is-negative, Code, end, next}
 use Rattle.code.proofs.Fetching.{short-bits, long-bits, fetch-short, fetch-long}
+use Rattle.language.proofs.Cases.{clash}
 
 -- ---- an item's words are as many as its size
 
@@ -80,7 +81,7 @@ module _ (memory room : ℕ) where
           → onFault (fault memory room at ls (p .item)) (p .place) (lay memory room (at + size (p .item)) (noted at ls (p .item)) ps) ≡ laid labels end
           → (fault memory room at ls (p .item) ≡ 0) × Lays (at + size (p .item)) (noted at ls (p .item)) ps labels end
       go zero e h = (e, record { is = rw e at h })
-      go (suc k) e h = let y : refused (suc k) (p .place) ≡ laid labels end = rw e at h in let z : _≡_ {A = ℕ} 0 1 = cc in absurd (omega arith)
+      go (suc k) e h = let y : refused (suc k) (p .place) ≡ laid labels end = rw e at h in clash (cc)
 
   -- the labels found so far stay in front
   pub record Extends (ls labels : List Label) : Type 0 where
@@ -107,7 +108,7 @@ module _ (memory room : ℕ) where
     where
       go : (b : Bool) → cond b true (defined ls n) ≡ false → (defined ls n ≡ false → addressOf (ls ++ (record { number = n; address = at } ∷ more)) n ≡ at)
           → cond b (l .address) (addressOf (ls ++ (record { number = n; address = at } ∷ more)) n) ≡ at
-      go true e f = let z : _≡_ {A = ℕ} 0 1 = cc in absurd (omega arith)
+      go true e f = cc
       go false e f = f e
 
   pub lays-end : (at p : ℕ) (ls : List Label) (xs : List Item) {labels : List Label} {end : ℕ} → Lays at ls (places p xs) labels end → past at xs ≡ end

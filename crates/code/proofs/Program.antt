@@ -33,6 +33,7 @@ use Rattle.code.proofs.Plain.{Plain, plain-functions}
 use Rattle.code.proofs.Steps.{Sized}
 use Rattle.language.proofs.Formed.{FormedF}
 use Rattle.code.proofs.Goals.{Entered, Fits}
+use Rattle.language.proofs.Cases.{clash}
 
 -- ---- labels and the table
 
@@ -75,7 +76,7 @@ record Found (v : ℕ) (es : List ℕ) (i k : ℕ) : Type 0 where
 
 position-found : (v : ℕ) (es : List ℕ) (i k : ℕ) → positionOf v es i ≡ some k → Found v es i k
 unfolding positionOf
-position-found v [] i k h = let z : _≡_ {A = ℕ} 0 1 = cc in absurd (omega arith)
+position-found v [] i k h = clash (cc)
 position-found v (a ∷ es) i k h = go (eqb v a) refl h (λ e. position-found v es (suc i) k e)
   where
     go : (b : Bool) → eqb v a ≡ b → cond b (some i) (positionOf v es (suc i)) ≡ some k → (positionOf v es (suc i) ≡ some k → Found v es (suc i) k) → Found v (a ∷ es) i k
@@ -278,8 +279,8 @@ module _ (fs : List Fun) (ss : List (List ℕ)) (memory room first : ℕ) (mem :
       go : (p : Bool) → ltb x 16 ≡ p → (q r : Bool) → ltb x codeEnd ≡ r → cond p true (cond q r false) ≡ true → x < first
       go true e q r f h = let l : x < 16 = ltb-true x 16 e in omega (arith, b .past-start)
       go false e true true f h = let l : x < codeEnd = ltb-true x codeEnd f in omega (arith, codeEnd-first)
-      go false e true false f h = let z : _≡_ {A = ℕ} 0 1 = cc in absurd (omega arith)
-      go false e false r f h = let z : _≡_ {A = ℕ} 0 1 = cc in absurd (omega arith)
+      go false e true false f h = clash (cc)
+      go false e false r f h = clash (cc)
 
   near : (n : ℕ) → addressOf (b .labels) n < 65536
   near n = omega (arith, address-near memory (b .labels) n (b .proper), b .most)

@@ -18,13 +18,14 @@ use Rattle.code.proofs.Results.{Post, p-unfinished, p-ok, p-returned, p
 use Rattle.code.proofs.Machine.{Mach, Goes, goes-not, goes-on}
 use Rattle.code.proofs.Standing.{Env, Agree, At}
 use Rattle.code.proofs.Instructions.{withMem}
+use Rattle.language.proofs.Cases.{clash}
 
 pub gone-holds : {c : Cell} {v : ℕ} → c ≡ gone → c ≡ holds v → ⊥
-gone-holds e f = let z : _≡_ {A = ℕ} 0 1 = cc in omega arith
+gone-holds e f = clash (cc)
 
 pub gone-live : {c : Cell} → Live c → c ≡ gone → ⊥
-gone-live live-unset e = let z : _≡_ {A = ℕ} 0 1 = cc in omega arith
-gone-live live-holds e = let z : _≡_ {A = ℕ} 0 1 = cc in omega arith
+gone-live live-unset e = clash (cc)
+gone-live live-holds e = clash (cc)
 
 -- ---- cells forgotten
 
@@ -45,7 +46,7 @@ pub forget-holds : (base : ℕ) (s : State) (a w : ℕ) → forget base s .cells
 forget-holds base s a w g = go (leb base a) g
   where
     go : (b : Bool) → cond b gone (s .cells a) ≡ holds w → s .cells a ≡ holds w
-    go true e = let k : _≡_ {A = ℕ} 0 1 = cc in absurd (omega arith)
+    go true e = cc
     go false e = e
 
 -- the same state but for its greatest use

@@ -19,6 +19,7 @@ use Rattle.language.specs.Resolved.{hasDefault}
 use Rattle.code.specs.Generate.{Exits, inLoop, inSwitch, inValof, nowhereElse, monadicAct, dyadicAct, limitAct, commandsIn, exprLabels, exprsLabels, targetLabels, pairsLabels, cmdLabels, cmdsLabels, casesLabels, localsLabels, defaultOf, pairsOf, tableOf, exprCode, exprsCode, targetCode, pairsCode, cmdCode, cmdsCode, casesCode, localsCode}
 use Rattle.language.proofs.Leaving.{LeavesE, LeavesA, LeavesT, LeavesP, LeavesC, LeavesB, LeavesS, LeavesL}
 use Rattle.language.proofs.Formed.{FormedCases, FormedE, FormedA, FormedT, FormedP, FormedC, FormedB, FormedS, FormedL}
+use Rattle.language.proofs.Cases.{clash}
 
 -- ---- items whose labels lie from 1 up to some number, and whose other numbers are in range
 
@@ -176,7 +177,7 @@ near-switch : {T : ℕ} {a b v : Bool} {x : Exits} {m : ℕ} → 1 ≤ m → m <
 near-switch o m q = record { break = q .break; loop = q .loop; endcase = λ _. is-within o m; result = q .result }
 
 never : {P : Type 0} → false ≡ true → P
-never e = let z : _≡_ {A = ℕ} 0 1 = cc in absurd (omega arith)
+never e = clash (cc)
 
 near-valof : {T m : ℕ} → 1 ≤ m → m < T → Near T false false true (inValof m)
 near-valof o m = record { break = λ e. never e; loop = λ e. never e; endcase = λ e. never e; result = λ _. is-within o m }

@@ -35,6 +35,7 @@ use Rattle.language.proofs.Limits.{Both, b-finished, b-ok, both-called, both-se
 use Rattle.code.proofs.Placing.{past}
 use Rattle.code.proofs.Program as G
 use Rattle.code.proofs.Program.{Built}
+use Rattle.language.proofs.Cases.{clash}
 
 -- ---- the strings' cells
 
@@ -74,7 +75,7 @@ string-cells : (Γ : Env) (table : List Label) → ((n : ℕ) → 1 ≤ n → ad
     → Stringed (Γ .image) a b x (stringCell ss (addressesFrom table l (length ss)) x)
 unfolding stringsCode stringCell addressesFrom
 string-cells Γ table same x l [] h (end e) =
-    record { before = λ k. refl; past-end = λ k. refl; value = λ w k. let z : _≡_ {A = ℕ} 0 1 = cc in absurd (omega arith) }
+    record { before = λ k. refl; past-end = λ k. refl; value = λ w k. clash (cc) }
 string-cells Γ table same x l (cs ∷ ss) {a} {b} h (next (is-label t e) (next (is-string f g) k)) =
     let r = string-cells Γ table same x (suc l) ss (omega arith) k in
     let z : addressOf table l ≡ a = same l h ∙ t in
@@ -117,7 +118,7 @@ module _ (fs : List Fun) (ss : List (List ℕ)) (memory room first : ℕ) (mem :
 
       val : (a w : ℕ) → (p : Bool) → leb 16 a ≡ p → (q : Bool) → ltb a 416 ≡ q
           → cond p (cond q (holds (getD (globalsWith fs (Γ .place .entries) noGlobals) (a - 16) 0)) (stringCell ss (Γ .place .strings) a)) gone ≡ holds w → getD mem a 0 ≡ w
-      val a w false ep q eq g = let z : _≡_ {A = ℕ} 0 1 = cc in absurd (omega arith)
+      val a w false ep q eq g = cc
       val a w true ep false eq g = cells-of a .value w g
       val a w true ep true eq g =
           let u : 16 ≤ a = leb-true 16 a ep in
@@ -130,8 +131,8 @@ module _ (fs : List Fun) (ss : List (List ℕ)) (memory room first : ℕ) (mem :
           → cond p true (cond q r false) ≡ true → s₀ .cells a ≡ gone
       lost a true ep q eq r er g = let u : a < 16 = ltb-true a 16 ep in rw (lt-leb 16 a u) refl
       lost a false ep true eq true er g = out a (leb-true 416 a eq) (cells-of a .before (ltb-true a _ er))
-      lost a false ep true eq false er g = let z : _≡_ {A = ℕ} 0 1 = cc in absurd (omega arith)
-      lost a false ep false eq r er g = let z : _≡_ {A = ℕ} 0 1 = cc in absurd (omega arith)
+      lost a false ep true eq false er g = cc
+      lost a false ep false eq r er g = cc
 
   -- a frame past the limit
   no-room : {A : Type 0} {Q : A → State → Type 0} {L E : State → Type 0} (limit base k : ℕ) (s : State) (more : State → Result A) → limit < base

@@ -17,6 +17,7 @@ use Rattle.language.specs.Semicolons.{seconds, semicolon}
 use Rattle.language.specs.Reader.{Source, Out, ok, no, Reader, onOut, _>>=_, return, symbolAt, kindAt, is, unexpected, any, here, the, optional, aName, manyUpTo, many, moreUpTo, items, isComma, furtherItems, oneUpToClose, upToClose}
 use Rattle.language.proofs.Local as L
 use Rattle.language.proofs.Local.{Local, Ahead, took, refused, self, ended, none-here}
+use Rattle.language.proofs.Cases.{clash}
 
 abbrev pub without : ℕ → List ℕ → List ℕ
 without x [] = []
@@ -140,12 +141,12 @@ noneOf b (k ∷ ks) = cond (b k) false (noneOf b ks)
 
 pub none-of : (b : ℕ → Bool) (ks : List ℕ) (k : ℕ) → noneOf b ks ≡ true → member k ks ≡ true → b k ≡ false
 unfolding member
-none-of b [] k h m = let z : _≡_ {A = ℕ} 0 1 = cc in absurd (omega arith)
+none-of b [] k h m = cc
 none-of b (j ∷ ks) k h m = go (eqb k j) refl (b j) refl h m (none-of b ks k)
   where
     go : (q : Bool) → eqb k j ≡ q → (c : Bool) → b j ≡ c → cond c false (noneOf b ks) ≡ true → cond q true (member k ks) ≡ true
         → (noneOf b ks ≡ true → member k ks ≡ true → b k ≡ false) → b k ≡ false
-    go q e true g h m f = let z : _≡_ {A = ℕ} 0 1 = cc in absurd (omega arith)
+    go q e true g h m f = cc
     go true e false g h m f = ap b (eqb-true k j e) ∙ g
     go false e false g h m f = f h m
 
@@ -171,7 +172,7 @@ tested {s = s} {t = t} true b h w at x p f =
     near-cases p (λ q. f (ap b (same-kind w q)) (λ _. q))
     (λ e m _. let no-t : b (kindAt t x) ≡ false = ap b e ∙ none-of b (K.SEMICOLON ∷ others) K.SEMICOLON h refl in
     let no-s : b (kindAt s at) ≡ false = none-of b (K.SEMICOLON ∷ others) (kindAt s at) h (one-more (kindAt s at) K.SEMICOLON others m) in
-    f (no-t ∙ sym no-s) (λ y. let z : _≡_ {A = ℕ} 0 1 = cc in absurd (omega arith)))
+    f (no-t ∙ sym no-s) (λ y. clash (cc)))
 
 -- ---- readers put together
 

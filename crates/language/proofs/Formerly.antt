@@ -17,6 +17,7 @@ use Rattle.language.specs.Brackets.{Matching, matched, unmatched, firstF
 use Rattle.language.specs.Strings.{numbered}
 use Rattle.language.specs.Semicolons.{semicolons}
 use Rattle.language.specs.Source.{Symbols, good, onFault, symbolsOf}
+use Rattle.language.proofs.Cases.{clash}
 
 -- ---- document 01's reading
 
@@ -229,16 +230,16 @@ scan-kept zero place (c ∷ r) e =
         → onElement place now (λ k. scanFrom k (suc place) r) ≡ onElement place before (λ k. formerScan k (suc place) r)
     by (symbol k v w) now h f more = rw (h, more (w - 1) f)
     by (gap w) now h f more = rw (h, more (w - 1) f)
-    by (wrong n k) now h f more = absurd (let z : _≡_ {A = ℕ} 0 1 = cc in omega arith)
+    by (wrong n k) now h f more = absurd (clash (cc))
 
 first-none : (size : ℕ) (m : Matching) (f : Fault) → firstFault size m f ≡ none → f ≡ none
-first-none size (unmatched place) f e = absurd (let z : _≡_ {A = ℕ} 0 1 = cc in omega arith)
-first-none size (matched wanted) (fault number place) e = absurd (let z : _≡_ {A = ℕ} 0 1 = cc in omega arith)
+first-none size (unmatched place) f e = absurd (clash (cc))
+first-none size (matched wanted) (fault number place) e = absurd (clash (cc))
 first-none size (matched wanted) none e = refl
 
 good-none : (f : Fault) (xs : List Symbol) {ss : List Symbol} → onFault f xs ≡ good ss → f ≡ none
 good-none none xs e = refl
-good-none (fault number place) xs e = absurd (let z : _≡_ {A = ℕ} 0 1 = cc in omega arith)
+good-none (fault number place) xs e = absurd (clash (cc))
 
 -- a text whose symbols were good has just those symbols
 pub symbols-kept : (text : List ℕ) {ss : List Symbol} → formerSymbols text ≡ good ss → symbolsOf text ≡ good ss

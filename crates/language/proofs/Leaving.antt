@@ -7,34 +7,34 @@ use native.Mathlib.Omega.{arith}
 use lib.Dec.{eqb}
 use lib.ListN.{length}
 use borrow.Author.Tests.{eqb-true}
-use Rattle.language.specs.Kinds.{member, IF, UNLESS, WHILE, UNTIL, REPEATWHILE, BREAK, LOOP, ENDCASE, RETURN, PLING, AT}
+use Rattle.language.specs.Kinds.{member, IF, UNLESS, WHILE, UNTIL, REPEATWHILE, BREAK, LOOP, ENDCASE, RETURN}
 use Rattle.language.specs.Binding.{isGuard}
 use Rattle.language.specs.Tree as T
-use Rattle.language.specs.Tree.{placeOf, Label, Expression, Expressions, Suffixes, Operations, Command, Commands, Unlabelled, Repeats}
+use Rattle.language.specs.Tree.{Label, Expression, Expressions, Suffixes, Operations, Command, Commands, Unlabelled, Repeats}
 use Rattle.language.specs.Names as N
 use Rattle.language.specs.Names.{Found, Scope, opened, declared, lookup}
-use Rattle.language.specs.Constants.{Fault, fault, faultsOf, forVector, judgedWord}
+use Rattle.language.specs.Constants.{Fault, fault, forVector, judgedWord}
 use Rattle.language.specs.Resolve as E
 use Rattle.language.specs.Resolve.{declareAll, ofMeaning, sideOf, targetOf, addressOf, under, pairUp, valuesBefore, scopeAfter, labelsBefore, leaving}
 use Rattle.language.specs.Resolved as R
 use Rattle.language.specs.Resolved.{Expr, Exprs, Target, Pairs, Cmd, Cmds, Cases, Locals, Body}
-use Rattle.language.specs.Faults.{unlessSide, misplaced, byFaults, twice, doubled, Leavable, inLoop, inSwitch, inValof, repeated, unless, leaves, inExpression, inSuffixes, inOperations, inExpressions, inRightSides, inSides, inCommand, inCase, inRepeats, inUnlabelled, inLocals, inCommands, inCases}
-use Rattle.language.proofs.Cases.{by-monadic, by-side}
+use Rattle.language.specs.Faults.{Leavable, inLoop, inSwitch, inValof, repeated, unless, leaves, inExpression, inSuffixes, inOperations, inExpressions, inRightSides, inSides, inCommand, inCase, inRepeats, inUnlabelled, inLocals, inCommands, inCases}
+use Rattle.language.proofs.Cases.{clash, by-monadic, by-side}
 use Rattle.language.specs.Fine.{Fine, FineList, FineSuffixes, FineOperations, FineCommand, FineCommands, FineUnlabelled, FineRepeats, FineLocals}
 
 -- ---- no refusal at all is none on either side
 
 pub none-left : (xs ys : List Fault) → xs ++ ys ≡ [] → xs ≡ []
 none-left [] ys h = refl
-none-left (x ∷ xs) ys h = let z : _≡_ {A = ℕ} 0 1 = cc in absurd (omega arith)
+none-left (x ∷ xs) ys h = cc
 
 pub none-right : (xs ys : List Fault) → xs ++ ys ≡ [] → ys ≡ []
 none-right [] ys h = h
-none-right (x ∷ xs) ys h = let z : _≡_ {A = ℕ} 0 1 = cc in absurd (omega arith)
+none-right (x ∷ xs) ys h = cc
 
 unless-true : (b : Bool) (place : ℕ) → unless b (fault place 13) ≡ [] → b ≡ true
 unless-true true place h = refl
-unless-true false place h = let z : _≡_ {A = ℕ} 0 1 = cc in absurd (omega arith)
+unless-true false place h = cc
 
 ruleset nones = (none-left, none-right)
 
@@ -182,7 +182,7 @@ leave-guard l w e c {x} {y} g p n f k = go (eqb w IF) refl (eqb w UNLESS) refl (
     go false ea true eb false ec false ed g n = (p, f n)
     go false ea false eb true ec d ed g n = (p, k n)
     go false ea false eb false ec true ed g n = (p, k n)
-    go false ea false eb false ec false ed g n = let z : _≡_ {A = ℕ} 0 1 = cc in absurd (omega arith)
+    go false ea false eb false ec false ed g n = clash (cc)
 
 module _ (strings : ℕ) (text : List ℕ) where
   mutual
@@ -246,19 +246,18 @@ module _ (strings : ℕ) (text : List ℕ) where
         leave-pairs (E.sides text s′ (h′ + 1) left) (E.sides text s′ h′ right) (leave-sides s l (h + 1) left (search nones) (f .0) s′ (h′ + 1)) (leave-right s l h right (search nones) (f .1) s′ h′)
     leave-u s l h (T.callCommand e) n f s′ h′ = leave-e s l h e n (f .0) s′ h′
     leave-u s l h (T.test e c d) n f s′ h′ = (
-          leave-e s l h e (search nones) (f .0) s′ h′,
-          leave-c s l h c (search nones) (f .1) s′ h′,
-          leave-c s l h d (search nones) (f .2) s′ h′,
-        )
+      leave-e s l h e (search nones) (f .0) s′ h′,
+      leave-c s l h c (search nones) (f .1) s′ h′,
+      leave-c s l h d (search nones) (f .2) s′ h′,
+    )
     leave-u s l h (T.guarded w e c) n f s′ h′ =
         leave-guard l w (E.expression text s′ h′ e) (E.command text s′ h′ c) (f .2) (leave-e s l h e (search nones) (f .0) s′ h′) (search nones)
         (λ q. leave-c s l h c q (f .1) s′ h′) (λ q. leave-c s (inLoop l) h c q (f .1) s′ h′)
-    leave-u s l h (T.for x e d k c) n f s′ h′ =
-        (
-          leave-e s l h e (search nones) (f .0) s′ h′,
-          leave-e s l (h + 1) d (search nones) (f .1) s′ (h′ + 1),
-          leave-c (declared (opened s) x (N.local h)) (inLoop l) (h + 2) c (search nones) (f .3) (declared (opened s′) x (N.local h′)) (h′ + 2),
-        )
+    leave-u s l h (T.for x e d k c) n f s′ h′ = (
+      leave-e s l h e (search nones) (f .0) s′ h′,
+      leave-e s l (h + 1) d (search nones) (f .1) s′ (h′ + 1),
+      leave-c (declared (opened s) x (N.local h)) (inLoop l) (h + 2) c (search nones) (f .3) (declared (opened s′) x (N.local h′)) (h′ + 2),
+    )
     leave-u s l h (T.switchon e cs) n f s′ h′ = (leave-e s l h e (search nones) (f .0) s′ h′, leave-s s (inSwitch l) h [] cs (search nones) (f .1) s′ h′)
     leave-u s l h (T.resultis place e) n f s′ h′ =
         (leave-e s l h e (search nones) f s′ h′, unless-true (l .valof) place (search nones))

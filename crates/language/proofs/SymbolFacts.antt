@@ -21,6 +21,7 @@ use Rattle.language.specs.Binding.{isRepeat}
 use Rattle.language.specs.Reader.{Source, symbolAt}
 use Rattle.language.specs.Fine.{FineName}
 use Rattle.language.proofs.Takes.{Counts}
+use Rattle.language.proofs.Cases.{clash}
 
 -- ---- the elements: a number is a word, a name no wider than the bytes there
 
@@ -319,7 +320,7 @@ unfolding isRepeat member
 again-weight loops kind h = go (eqb kind SEMICOLON) refl
   where
     go : (b : Bool) → eqb kind SEMICOLON ≡ b → loops ≤ cond b 0 (cond (isRepeat kind) loops 1)
-    go true e = let q : kind ≡ SEMICOLON = eqb-true _ _ e in let z : false ≡ true = rw q at h in let y : _≡_ {A = ℕ} 0 1 = cc in absurd (omega arith)
+    go true e = let q : kind ≡ SEMICOLON = eqb-true _ _ e in let z : false ≡ true = rw q at h in clash (cc)
     go false e = rw h (omega arith)
 
 cost-one : (loops : ℕ) → 1 ≤ loops → (xs : List Symbol) (d : Symbol) (n : ℕ) → d .kind ≡ NOTHING → 1 ≤ getD xs n d .kind → (getD xs n d .kind ≡ SEMICOLON → ⊥) → suc (cost loops (take n xs)) ≤ cost loops (take (suc n) xs)
@@ -330,7 +331,7 @@ cost-one loops l (x ∷ xs) d (suc n) e h f = omega (arith, cost-one loops l xs 
 
 cost-again : (loops : ℕ) (xs : List Symbol) (d : Symbol) (n : ℕ) → isRepeat (d .kind) ≡ false → isRepeat (getD xs n d .kind) ≡ true → cost loops (take n xs) + loops ≤ cost loops (take (suc n) xs)
 unfolding cost
-cost-again loops [] d n e h = let z : false ≡ true = sym e ∙ h in let y : _≡_ {A = ℕ} 0 1 = cc in absurd (omega arith)
+cost-again loops [] d n e h = let z : false ≡ true = sym e ∙ h in clash (cc)
 cost-again loops (x ∷ xs) d zero e h = omega (arith, again-weight loops (x .kind) h)
 cost-again loops (x ∷ xs) d (suc n) e h = omega (arith, cost-again loops xs d n e h)
 

@@ -17,6 +17,7 @@ use Rattle.language.specs.Binding.{isRepeat}
 use Rattle.language.specs.Symbols.{Symbol, Element, symbol, gap, wrong, same, begins, inWord, wordWidth, kindIn, kindOf, word, digits, valueOf, decimal, octal, asCharacter, character, asString, string, signIn, comment, sign, signOrComment, byClass, Scan, onElement, scanFrom, scan}
 use Rattle.language.specs.Whole.{stringsAmong}
 use Rattle.language.proofs.SymbolFacts.{cost, countStrings}
+use Rattle.language.proofs.Cases.{clash}
 
 -- the bytes that a kind takes at least, and the characters if it is a string's
 abbrev needs : (kind : ℕ) (characters : List ℕ) → ℕ
@@ -54,7 +55,7 @@ record Long (kind : ℕ) (bs : List ℕ) : Type 0 where
 
 long-in : (ws : List Spelled) (bs : List ℕ) → longAll ws ≡ true → Long (kindIn ws bs) bs
 unfolding kindIn longAll isRepeat member
-long-in [] bs h = record { long = λ e. let y : _≡_ {A = ℕ} 0 1 = cc in absurd (omega arith); other = λ e. omega arith }
+long-in [] bs h = record { long = λ e. clash (cc); other = λ e. omega arith }
 long-in (w ∷ ws) bs h =
     let p = both-true (longOne w) (longAll ws) h in
     go (same (w .spelling) bs) refl (both-true (cond (isRepeat (w .kind)) (leb 3 (length (w .spelling))) true) (not (eqb (w .kind) STRING)) (p .0)) (long-in ws bs (p .1))
@@ -207,7 +208,7 @@ module _ (text : List ℕ) where
     where
       go : (a b : Bool) → isRepeat (x .kind) ≡ b → (c : Bool) → eqb (x .kind) STRING ≡ c → cost 3 xs + countStrings xs ≤ covers xs
           → (cond a 0 (cond b 3 1) + cost 3 xs) + cond c (suc (countStrings xs)) (countStrings xs) ≤ cond b 3 (cond c (length (charactersAt (x .place)) + 2) 1) + covers xs
-      go a true e true f l = let q : x .kind ≡ STRING = eqb-true _ _ f in let z : false ≡ true = rw q at e in let y : _≡_ {A = ℕ} 0 1 = cc in absurd (omega arith)
+      go a true e true f l = let q : x .kind ≡ STRING = eqb-true _ _ f in let z : false ≡ true = rw q at e in clash (cc)
       go true true e false f l = omega arith
       go true false e true f l = omega arith
       go true false e false f l = omega arith
@@ -226,7 +227,7 @@ module _ (text : List ℕ) where
     where
       go : (b : Bool) → isRepeat (x .kind) ≡ b → (c : Bool) → eqb (x .kind) STRING ≡ c → stringBytes (stringsAmong text xs) ≤ covers xs
           → stringBytes (cond c (charactersAt (x .place) ∷ stringsAmong text xs) (stringsAmong text xs)) ≤ cond b 3 (cond c (length (charactersAt (x .place)) + 2) 1) + covers xs
-      go true e true f l = let q : x .kind ≡ STRING = eqb-true _ _ f in let z : false ≡ true = rw q at e in let y : _≡_ {A = ℕ} 0 1 = cc in absurd (omega arith)
+      go true e true f l = let q : x .kind ≡ STRING = eqb-true _ _ f in let z : false ≡ true = rw q at e in clash (cc)
       go true e false f l = omega arith
       go false e true f l = omega arith
       go false e false f l = omega arith
