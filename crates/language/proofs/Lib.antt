@@ -28,6 +28,7 @@ pub mod ExampleRuns
 pub mod Tokens
 pub mod Takes
 pub mod ReadTokens
+pub mod Elements
 pub mod SymbolFacts
 pub mod Widths
 pub mod Formed
