@@ -17,6 +17,7 @@ use Rattle.language.specs.Resolved as R
 use Rattle.language.specs.Resolved.{Expr, Exprs, Cmd, Locals}
 use Rattle.code.specs.Generate.{commandsIn, exprLabels, exprsLabels, targetLabels, pairsLabels, cmdLabels, cmdsLabels, casesLabels, localsLabels}
 use Rattle.language.specs.Fine.{Fine, FineList, FineSuffixes, FineOperations, FineCommand, FineCommands, FineUnlabelled, FineRepeats, FineLocals}
+use Rattle.language.proofs.Cases.{by-monadic, by-leaving, by-guard, by-side}
 use Rattle.language.proofs.Tokens.{not-bare, started, started-tokens, labelsTokens, tokens, listTokens, suffixesTokens, operationsTokens, commandTokens, commandsTokens, unlabelledTokens, repeatsTokens, localsTokens}
 
 name-labels : (x : Found) → exprLabels (ofMeaning x) ≤ 0
@@ -28,60 +29,24 @@ name-labels (N.known (N.manifest v)) = omega arith
 name-labels (N.known (N.function k)) = omega arith
 
 address-labels : (e : Expr) → exprLabels (addressOf (sideOf e)) ≤ exprLabels e
-unfolding exprLabels sideOf
-address-labels (R.local k) = omega arith
-address-labels (R.global n) = omega arith
-address-labels (R.contents e) = omega arith
-address-labels (R.index a b) = omega arith
-address-labels (R.constant v) = omega arith
-address-labels (R.function k) = omega arith
-address-labels (R.string k) = omega arith
-address-labels (R.addressOfLocal k) = omega arith
-address-labels (R.addressOfGlobal n) = omega arith
-address-labels (R.addressOfContents e) = omega arith
-address-labels (R.addressOfIndex a b) = omega arith
-address-labels (R.unary o e) = omega arith
-address-labels (R.binary o a b) = omega arith
-address-labels (R.call e es) = omega arith
-address-labels (R.valof c) = omega arith
+unfolding exprLabels
+address-labels =
+    by-side (λ e x. exprLabels (addressOf x) ≤ exprLabels e) (λ _. omega arith) (λ _. omega arith) (λ _. omega arith) (λ _ _. omega arith)
+    (λ _. omega arith)
 
 target-labels : (e : Expr) → targetLabels (targetOf (sideOf e)) ≤ exprLabels e
-unfolding exprLabels sideOf
-target-labels (R.local k) = omega arith
-target-labels (R.global n) = omega arith
-target-labels (R.contents e) = omega arith
-target-labels (R.index a b) = omega arith
-target-labels (R.constant v) = omega arith
-target-labels (R.function k) = omega arith
-target-labels (R.string k) = omega arith
-target-labels (R.addressOfLocal k) = omega arith
-target-labels (R.addressOfGlobal n) = omega arith
-target-labels (R.addressOfContents e) = omega arith
-target-labels (R.addressOfIndex a b) = omega arith
-target-labels (R.unary o e) = omega arith
-target-labels (R.binary o a b) = omega arith
-target-labels (R.call e es) = omega arith
-target-labels (R.valof c) = omega arith
+unfolding exprLabels
+target-labels =
+    by-side (λ e x. targetLabels (targetOf x) ≤ exprLabels e) (λ _. omega arith) (λ _. omega arith) (λ _. omega arith) (λ _ _. omega arith)
+    (λ _. omega arith)
 
 monadic-labels : (o : ℕ) (e : Expr) → exprLabels (E.resolvedMonadic o e) ≤ exprLabels e
 unfolding exprLabels
-monadic-labels o e = go (eqb o PLING) (eqb o AT)
-  where
-    go : (a b : Bool) → exprLabels (cond a (R.contents e) (cond b (addressOf (sideOf e)) (R.unary o e))) ≤ exprLabels e
-    go true b = omega arith
-    go false true = address-labels e
-    go false false = omega arith
+monadic-labels o e = by-monadic (λ x. exprLabels x ≤ exprLabels e) o e (omega arith) (address-labels e) (omega arith)
 
 leaving-labels : (w : ℕ) → cmdLabels (leaving w) ≤ 0
 unfolding exprLabels
-leaving-labels w = go (eqb w BREAK) (eqb w LOOP) (eqb w ENDCASE) (eqb w RETURN)
-  where
-    go : (a b c d : Bool) → cmdLabels (cond a R.break (cond b R.loop (cond c R.endcase (cond d R.return R.finish)))) ≤ 0
-    go true b c d = omega arith
-    go false true c d = omega arith
-    go false false true d = omega arith
-    go false false false true = omega arith
-    go false false false false = omega arith
+leaving-labels w = by-leaving (λ c. cmdLabels c ≤ 0) w (omega arith) (omega arith) (omega arith) (omega arith) (omega arith)
 
 pairs-labels : (l r : Exprs) → pairsLabels (pairUp l r) ≤ exprsLabels l + exprsLabels r
 unfolding exprLabels
@@ -96,9 +61,7 @@ values-labels (R.and e es) ls = omega (arith, values-labels es ls)
 
 guard-labels : (e : Expr) (c : Cmd) (sense a b : Bool) → cmdLabels (cond a (R.while true e c) (cond b (R.while false e c) (R.when sense e c))) ≤ 2 + exprLabels e + cmdLabels c
 unfolding exprLabels
-guard-labels e c sense true b = omega arith
-guard-labels e c sense false true = omega arith
-guard-labels e c sense false false = omega arith
+guard-labels e c sense a b = by-guard (λ x. cmdLabels x ≤ 2 + exprLabels e + cmdLabels c) e c sense a b (omega arith) (omega arith) (omega arith)
 
 module _ (strings : ℕ) (text : List ℕ) where
   mutual

@@ -12,58 +12,38 @@ use Rattle.language.specs.Names as N
 use Rattle.language.specs.Names.{Found, Scope, opened, declared, lookup}
 use Rattle.language.specs.Constants.{forVector, judgedWord}
 use Rattle.language.specs.Resolve as E
-use Rattle.language.specs.Resolve.{declareAll, ofMeaning, sideOf, targetOf, addressOf, under, scopeAfter, pairUp, valuesBefore, labelsBefore, leaving}
+use Rattle.language.specs.Resolve.{Side, side, noSide, declareAll, ofMeaning, sideOf, targetOf, addressOf, under, scopeAfter, pairUp, valuesBefore, labelsBefore, leaving}
 use Rattle.language.specs.Resolved as R
 use Rattle.language.specs.Resolved.{Expr, Exprs, Cmd, Locals}
 use Rattle.language.specs.Resolved.{caseCount}
+use Rattle.language.proofs.Cases.{by-monadic, by-leaving, by-guard, by-side}
 use Rattle.language.proofs.Tokens.{labelsTokens, tokens, listTokens, suffixesTokens, operationsTokens, commandTokens, commandsTokens, unlabelledTokens, repeatsTokens, localsTokens}
 use Rattle.language.proofs.Resolving.{cases-before}
 use Rattle.code.proofs.WordCounts.{exprWords, exprsWords, targetWords, pairsWords, cmdWords, cmdsWords, casesWords, localsWords}
 
 -- what a left side needs more
+abbrev extraOf : Side → ℕ
+extraOf (side (R.toLocal k)) = 2
+extraOf (side (R.toGlobal n)) = 2
+extraOf (side (R.toContents e)) = 6
+extraOf (side (R.toIndex a b)) = 6
+extraOf noSide = 2
+
 abbrev extra : Expr → ℕ
-extra (R.constant v) = 2
-extra (R.local k) = 2
-extra (R.global n) = 2
-extra (R.function k) = 2
-extra (R.string k) = 2
-extra (R.addressOfLocal k) = 2
-extra (R.addressOfGlobal n) = 2
-extra (R.addressOfContents e) = 2
-extra (R.addressOfIndex a b) = 2
-extra (R.contents e) = 6
-extra (R.index a b) = 6
-extra (R.unary o e) = 2
-extra (R.binary o a b) = 2
-extra (R.call e es) = 2
-extra (R.valof c) = 2
+extra e = extraOf (sideOf e)
 
-record Sided (e : Expr) : Type 0 where
-  two : 2 ≤ extra e
-  six : extra e ≤ 6
-  target : targetWords (targetOf (sideOf e)) ≤ exprWords e + extra e
-  address : exprWords (addressOf (sideOf e)) + extra (addressOf (sideOf e)) ≤ exprWords e + 4
+record Sided (e : Expr) (x : Side) : Type 0 where
+  two : 2 ≤ extraOf x
+  six : extraOf x ≤ 6
+  target : targetWords (targetOf x) ≤ exprWords e + extraOf x
+  address : exprWords (addressOf x) + extra (addressOf x) ≤ exprWords e + 4
 
-sided : (e : Expr) → Sided e
+sided : (e : Expr) → Sided e (sideOf e)
 unfolding exprWords sideOf
-sided (R.local k) = record { two = omega arith; six = omega arith; target = omega arith; address = omega arith }
-sided (R.global n) = record { two = omega arith; six = omega arith; target = omega arith; address = omega arith }
-sided (R.contents e) = record { two = omega arith; six = omega arith; target = omega arith; address = omega arith }
-sided (R.index a b) = record { two = omega arith; six = omega arith; target = omega arith; address = omega arith }
-sided (R.constant v) = record { two = omega arith; six = omega arith; target = omega arith; address = omega arith }
-sided (R.function k) = record { two = omega arith; six = omega arith; target = omega arith; address = omega arith }
-sided (R.string k) = record { two = omega arith; six = omega arith; target = omega arith; address = omega arith }
-sided (R.addressOfLocal k) = record { two = omega arith; six = omega arith; target = omega arith; address = omega arith }
-sided (R.addressOfGlobal n) = record { two = omega arith; six = omega arith; target = omega arith; address = omega arith }
-sided (R.addressOfContents e) = record { two = omega arith; six = omega arith; target = omega arith; address = omega arith }
-sided (R.addressOfIndex a b) = record { two = omega arith; six = omega arith; target = omega arith; address = omega arith }
-sided (R.unary o e) = record { two = omega arith; six = omega arith; target = omega arith; address = omega arith }
-sided (R.binary o a b) = record { two = omega arith; six = omega arith; target = omega arith; address = omega arith }
-sided (R.call e es) = record { two = omega arith; six = omega arith; target = omega arith; address = omega arith }
-sided (R.valof c) = record { two = omega arith; six = omega arith; target = omega arith; address = omega arith }
+sided = by-side Sided (λ _. omega arith) (λ _. omega arith) (λ _. omega arith) (λ _ _. omega arith) (λ _. omega arith)
 
 name-words : (x : Found) → exprWords (ofMeaning x) + extra (ofMeaning x) ≤ 8
-unfolding exprWords
+unfolding exprWords sideOf
 name-words N.unknown = omega arith
 name-words (N.known (N.local k)) = omega arith
 name-words (N.known (N.global n)) = omega arith
@@ -71,24 +51,12 @@ name-words (N.known (N.manifest v)) = omega arith
 name-words (N.known (N.function k)) = omega arith
 
 monadic-words : (o : ℕ) (e : Expr) → exprWords (E.resolvedMonadic o e) + extra (E.resolvedMonadic o e) ≤ exprWords e + 8
-unfolding exprWords
-monadic-words o e = go (eqb o PLING) (eqb o AT)
-  where
-    go : (a b : Bool) → exprWords (cond a (R.contents e) (cond b (addressOf (sideOf e)) (R.unary o e))) + extra (cond a (R.contents e) (cond b (addressOf (sideOf e)) (R.unary o e))) ≤ exprWords e + 8
-    go true b = omega arith
-    go false true = omega (arith, sided e .address)
-    go false false = omega arith
+unfolding exprWords sideOf
+monadic-words o e = by-monadic (λ x. exprWords x + extra x ≤ exprWords e + 8) o e (omega arith) (omega (arith, sided e .address)) (omega arith)
 
 leaving-words : (w : ℕ) → cmdWords (leaving w) ≤ 2
 unfolding exprWords
-leaving-words w = go (eqb w BREAK) (eqb w LOOP) (eqb w ENDCASE) (eqb w RETURN)
-  where
-    go : (a b c d : Bool) → cmdWords (cond a R.break (cond b R.loop (cond c R.endcase (cond d R.return R.finish)))) ≤ 2
-    go true b c d = omega arith
-    go false true c d = omega arith
-    go false false true d = omega arith
-    go false false false true = omega arith
-    go false false false false = omega arith
+leaving-words w = by-leaving (λ c. cmdWords c ≤ 2) w (omega arith) (omega arith) (omega arith) (omega arith) (omega arith)
 
 unfoldable sideWords : Exprs → ℕ
 sideWords R.none = 0
@@ -107,9 +75,7 @@ values-words (R.and e es) ls = omega (arith, values-words es ls)
 
 guard-words : (e : Expr) (c : Cmd) (sense a b : Bool) → cmdWords (cond a (R.while true e c) (cond b (R.while false e c) (R.when sense e c))) ≤ 4 + exprWords e + cmdWords c
 unfolding exprWords
-guard-words e c sense true b = omega arith
-guard-words e c sense false true = omega arith
-guard-words e c sense false false = omega arith
+guard-words e c sense a b = by-guard (λ x. cmdWords x ≤ 4 + exprWords e + cmdWords c) e c sense a b (omega arith) (omega arith) (omega arith)
 
 label-tokens : (ls : List Label) → length ls ≤ labelsTokens ls
 unfolding labelsTokens
@@ -119,7 +85,7 @@ label-tokens (T.default place ∷ ls) = omega (arith, label-tokens ls)
 
 module _ (text : List ℕ) where
   mutual
-    unfolding E.expression exprWords tokens caseCount sideWords
+    unfolding E.expression exprWords sideOf tokens caseCount sideWords
 
     pub many-e : (s : Scope) (h : ℕ) (e : Expression) → exprWords (E.expression text s h e) + extra (E.expression text s h e) ≤ 8 * tokens 1 e
     many-e s h (T.number place v) = omega arith
