@@ -1,6 +1,6 @@
 -- The simulation of calls: RDCH, WRCH, and functions of the text, which return from their end or from a RETURN.
 use Prim.Native.Nat.{ℕ, suc, _+_, _%_, _≤_, _<_}
-use mathlib.Core.Path.{_≡_, refl, sym, ap, _∙_}
+use mathlib.Core.Path.{_≡_, refl, ap, _∙_}
 use mathlib.Core.Bool.{Bool, true, false}
 use mathlib.Core.List.{List, [], _∷_, _++_}
 use mathlib.Core.Option.{Option, none, some}
@@ -18,10 +18,10 @@ use Rattle.language.specs.State.{Value, absent, State, Result, ok, forget}
 use Rattle.language.specs.Run.{Flow, normal, broke, looped, ended, gave, Sem, evaluated, arguments, called, received, sent, enterAt, runBody, ofFunction, ofRoutine, parameters, positionOf, noFun, nth}
 use Rattle.code.specs.Generate.{exprCode, exprsCode, exprsLabels, cmdCode, bodyCode, nowhereElse, X}
 use Rattle.code.proofs.Results.{Post, p-unfinished, p-undefined, p-finished, p-returned, p-ok, post-cond, post-demand, has-none, has-word, has-same}
-use Rattle.code.proofs.Machine.{Mach, Goes, goes-on}
+use Rattle.code.proofs.Machine.{Mach}
 use Rattle.code.proofs.Standing.{Env, At, Code, cut, cut-number, at-end}
 use Rattle.code.proofs.Instructions.{do-LI, do-X27, do-X28, sum-P}
-use Rattle.code.proofs.Related.{Rel, Sim, Ends, Runs, seq-sim, more-ends, then, weaken, reaching, reaching-in, raise, sink, sink-rel, like-rel, quiet}
+use Rattle.code.proofs.Related.{Rel, Ends, Runs, seq-sim, ends-from, more-ends, then, weaken, reaching, reaching-in, raise, sink, sink-rel, like-rel, spoken, quiet}
 use Rattle.language.proofs.Formed.{FormedE, FormedF}
 use Rattle.code.proofs.Goals.{F, S, Fits, Valued, Where, w-normal, Sims}
 use Rattle.code.proofs.Expressions.{GoalE, part}
@@ -51,30 +51,6 @@ post-function base (p-returned l) f h = p-undefined
 post-function base (p-ok q) f h = f _ _ q
 
 module _ (Γ : Env) where
-  -- an instruction that leaves memory, P and G alone, where input or output go on
-  spoken : {p h : ℕ} {s s′ : State} {v v′ : Mach} → Rel Γ p h s v → Goes (Γ .input) 1 v v′
-      → v′ .mem ≡ v .mem → v′ .regs .p ≡ v .regs .p → v′ .regs .g ≡ v .regs .g → v′ .regs .taken ≡ s′ .taken → v′ .bytes ≡ s′ .output
-      → ((a : ℕ) → s′ .cells a ≡ s .cells a) → s′ .steps ≡ s .steps → Sim Γ 1 p h h s v s′ v′
-  spoken {p} {h} {s} {s′} {v} {v′} r e em ep eg et eb ec es = record {
-    n = _;
-    goes = e;
-    rel = record {
-      agree = rw em (r .agree);
-      frame-at = ep ∙ r .frame-at;
-      globals-at = eg ∙ r .globals-at;
-      room = r .room;
-      base = r .base;
-      vals = λ a w g. rw em (r .vals a w (sym (ec a) ∙ g));
-      above = λ a l. ec a ∙ r .above a l;
-      code-gone = λ a l. ec a ∙ r .code-gone a l;
-      bytes = eb;
-      taken = et;
-    };
-    keep = λ a l g. ec a ∙ g;
-    frame = λ a l g. rw em refl;
-    time = omega (arith, es);
-  }
-
   module _ (fits : Fits Γ) (q : Sem) (ih : Sims Γ q) where
     -- the same cells, above which the caller's are gone
     back-same : {p h : ℕ} {s s′ : State} {v : Mach} → Rel Γ p h s v → ((a : ℕ) → s′ .cells a ≡ s .cells a) → Back Γ (fits .sized) (p + h) s′ s′
@@ -89,18 +65,7 @@ module _ (Γ : Env) where
 
     -- a finish inside the callee
     ends-in : {t p h b c : ℕ} {s : State} {v : Mach} {s₁ s′ : State} {v₁ : Mach} → Called Γ (fits .sized) p h b c s v v₁ → s₁ .steps ≡ s .steps → Ends Γ t s₁ v₁ s′ → Ends Γ (1 + t) s v s′
-    ends-in cl e x = record {
-      v′ = x .v′;
-      n = _;
-      goes = goes-on (Γ .input) (cl .goes) (x .goes);
-      past = x .past;
-      finish = x .finish;
-      agree = x .agree;
-      vals = x .vals;
-      bytes = x .bytes;
-      taken = x .taken;
-      time = omega (arith, x .time, e);
-    }
+    ends-in cl e x = ends-from Γ (cl .goes) (λ n m k. omega (arith, e)) x
 
     module _ {p h a b c : ℕ} {s : State} {v : Mach} (r : Rel Γ p h s v) (pc : v .regs .c ≡ a) (i : At Γ a 6 false I.none h b) (acc : v .regs .a ≡ c) where
       sim-rdch : c ≡ 3 → p + h + 2 ≤ Γ .limit → Runs Γ (Valued Γ b) 4 p h h s v (received (Γ .input) s)
@@ -118,7 +83,7 @@ module _ (Γ : Env) where
               let tk : v₁ .regs .taken ≡ s .taken = cl .rel .taken in
               let z : ltb (v₁ .regs .taken) (length (Γ .input)) ≡ true = rw tk t in
               rw t (returns Γ (fits .sized) r cl (le-refl 2) (λ a l g. g) refl
-              (spoken {s′ = record { cells = s .cells; taken = suc (s .taken); output = s .output; steps = s .steps; used = s .used }}
+              (spoken Γ {s′ = record { cells = s .cells; taken = suc (s .taken); output = s .output; steps = s .steps; used = s .used }}
               (cl .rel) (rw z at g) refl refl refl (rw tk (omega arith)) (cl .rel .bytes) (λ a. refl) refl) refl i₂ (back-same r (λ a. refl)) λ v₃ x₃ c₃ a₃.
               weaken Γ (p-ok (record { v′ = v₃; sim = x₃; is = record { at = c₃; has = has-word (a₃ ∙ rw tk refl) } })) (omega arith))
           go v₁ cl b₁ i₁ b₂ i₂ false t =
@@ -126,7 +91,7 @@ module _ (Γ : Env) where
               let tk : v₁ .regs .taken ≡ s .taken = cl .rel .taken in
               let z : ltb (v₁ .regs .taken) (length (Γ .input)) ≡ false = rw tk t in
               rw t (returns Γ (fits .sized) r cl (le-refl 2) (λ a l g. g) refl
-              (spoken {s′ = s} (cl .rel) (rw z at g) refl refl refl tk (cl .rel .bytes) (λ a. refl) refl) refl i₂ (back-same r (λ a. refl)) λ v₃ x₃ c₃ a₃.
+              (spoken Γ {s′ = s} (cl .rel) (rw z at g) refl refl refl tk (cl .rel .bytes) (λ a. refl) refl) refl i₂ (back-same r (λ a. refl)) λ v₃ x₃ c₃ a₃.
               weaken Γ (p-ok (record { v′ = v₃; sim = x₃; is = record { at = c₃; has = has-word a₃ } })) (omega arith))
 
       sim-wrch : (ws : List ℕ) → Holding (v .mem) ws (p + h + 2) → c ≡ 5 → p + h + 3 ≤ Γ .limit → (x : Option ℕ) → nth ws 0 ≡ x
@@ -142,7 +107,7 @@ module _ (Γ : Env) where
           let x₁ = quiet Γ (cl .rel) (do-LI Γ v₁ (cl .rel .agree) (cl .at ∙ e) i₁ (sum-P Γ v₁ (cl .rel .agree) (cl .at ∙ e) 2 (p + h + 2) (ap (_+ 2) (cl .rel .frame-at)) n) m) refl refl refl refl refl in
           let at0 : p + h + 2 + 0 ≡ p + h + 2 = omega arith in
           let arg : getD (v₁ .mem) (p + h + 2) 0 ≡ w = cl .others (p + h + 2) (λ q. omega arith) (λ q. omega arith) ∙ (rw at0 at (hold .at 0 w z)) in
-          let x₂ = spoken {s′ = record { cells = s .cells; taken = s .taken; output = s .output ++ ((w % 256) ∷ []); steps = s .steps; used = s .used }}
+          let x₂ = spoken Γ {s′ = record { cells = s .cells; taken = s .taken; output = s .output ++ ((w % 256) ∷ []); steps = s .steps; used = s .used }}
           (x₁ .rel) (do-X28 Γ _ (x₁ .rel .agree) refl i₂) refl refl refl (cl .rel .taken) (rw (cl .rel .bytes, arg) refl) (λ a. refl) refl in
           returns Γ (fits .sized) r cl (le-refl 2) (λ a l g. g) refl (seq-sim Γ (le-refl 2) x₁ x₂) refl i₃ (back-same r (λ a. refl)) λ v₃ x₃ c₃ a₃.
           weaken Γ (p-ok (record { v′ = v₃; sim = x₃; is = record { at = c₃; has = has-none } })) (omega arith)

@@ -2,7 +2,7 @@
 -- A run starts at a height h, below which words that are gone are kept, and ends at a height h′, above which all words are gone.
 use Prim.Native.Nat.{ℕ, _+_, _*_, _≤_, _<_}
 use mathlib.Core.Path.{_≡_, refl, sym, _∙_}
-use mathlib.Core.Bool.{Bool, true, false, cond}
+use mathlib.Core.Bool.{true, false}
 use mathlib.Core.List.{List}
 use native.Mathlib.Omega.{arith}
 use native.Mathlib.Decide.{ℕ-discrete, decLt}
@@ -18,7 +18,7 @@ use Rattle.code.proofs.Results.{Post, p-unfinished, p-ok, p-returned, p
 use Rattle.code.proofs.Machine.{Mach, Goes, goes-not, goes-on}
 use Rattle.code.proofs.Standing.{Env, Agree, At}
 use Rattle.code.proofs.Instructions.{withMem}
-use Rattle.language.proofs.Cases.{clash}
+use Rattle.language.proofs.Cases.{clash, by-cond}
 
 pub gone-holds : {c : Cell} {v : ℕ} → c ≡ gone → c ≡ holds v → ⊥
 gone-holds e f = clash (cc)
@@ -36,18 +36,10 @@ pub forget-below : (base : ℕ) (s : State) (a : ℕ) → a < base → forget ba
 forget-below base s a l = rw (lt-leb base a l) refl
 
 pub forget-gone : (base : ℕ) (s : State) (a : ℕ) → s .cells a ≡ gone → forget base s .cells a ≡ gone
-forget-gone base s a g = go (leb base a)
-  where
-    go : (b : Bool) → cond b gone (s .cells a) ≡ gone
-    go true = refl
-    go false = g
+forget-gone base s a g = by-cond (λ c. c ≡ gone) (leb base a) refl g
 
 pub forget-holds : (base : ℕ) (s : State) (a w : ℕ) → forget base s .cells a ≡ holds w → s .cells a ≡ holds w
-forget-holds base s a w g = go (leb base a) g
-  where
-    go : (b : Bool) → cond b gone (s .cells a) ≡ holds w → s .cells a ≡ holds w
-    go true e = cc
-    go false e = e
+forget-holds base s a w g = by-cond (λ c. c ≡ holds w → s .cells a ≡ holds w) (leb base a) (λ e. cc) (λ e. e) g
 
 -- the same state but for its greatest use
 pub record Like (s u : State) : Type 0 where
@@ -125,23 +117,30 @@ module _ (Γ : Env) where
       → Sim t p h₁ h₂ s v s₁ v₁ → Leaves t′ p h s₁ v₁ s₂ → Leaves (t + t′) p h s v s₂
   seq-leaves l x y = record { h′ = y .h′; v′ = y .v′; sim = seq-sim l x (y .sim); past = y .past; return = y .return }
 
-  seq-ends : {t t′ p h h′ : ℕ} {s s₁ s₂ : State} {v v₁ : Mach} → Sim t p h h′ s v s₁ v₁ → Ends t′ s₁ v₁ s₂ → Ends (t + t′) s v s₂
-  seq-ends x y = record {
-    v′ = y .v′;
+  -- the same end, of a run that starts earlier and within other bounds
+  pub ends-from : {t t′ k : ℕ} {s u s′ : State} {v₀ v : Mach} → Goes (Γ .input) k v₀ v
+      → ((n m : ℕ) → n + 16 * u .steps ≤ t + 16 * m → k + n + 16 * s .steps ≤ t′ + 16 * m) → Ends t u v s′ → Ends t′ s v₀ s′
+  ends-from g f e = record {
+    v′ = e .v′;
     n = _;
-    goes = goes-on (Γ .input) (x .goes) (y .goes);
-    past = y .past;
-    finish = y .finish;
-    agree = y .agree;
-    vals = y .vals;
-    bytes = y .bytes;
-    taken = y .taken;
-    time = omega (arith, x .time, y .time);
+    goes = goes-on (Γ .input) g (e .goes);
+    past = e .past;
+    finish = e .finish;
+    agree = e .agree;
+    vals = e .vals;
+    bytes = e .bytes;
+    taken = e .taken;
+    time = f _ _ (e .time);
   }
+
+  pub more-ends : {t t′ : ℕ} {s s′ : State} {v : Mach} → Ends t s v s′ → t ≤ t′ → Ends t′ s v s′
+  more-ends {v = v} e l = ends-from (goes-not (Γ .input) v) (λ n m k. omega arith) e
 
   pub after : {A : Type 0} {Q : A → Mach → Type 0} {t t′ p h h₁ h₂ h₃ : ℕ} {s s₁ : State} {v v₁ : Mach} {x : Result A} → h ≤ h₁
       → Sim t p h₁ h₂ s v s₁ v₁ → Runs Q t′ p h h₃ s₁ v₁ x → Runs Q (t + t′) p h h₃ s v x
-  after l y z = post-map z (λ a s e. record { v′ = e .v′; sim = seq-sim l y (e .sim); is = e .is }) (λ s e. seq-leaves l y e) (λ s e. seq-ends y e)
+  after l y z =
+      post-map z (λ a s e. record { v′ = e .v′; sim = seq-sim l y (e .sim); is = e .is }) (λ s e. seq-leaves l y e)
+      (λ s e. ends-from (y .goes) (λ n m k. omega (arith, y .time)) e)
 
   -- ---- fewer instructions, and a lower start
 
@@ -158,42 +157,18 @@ module _ (Γ : Env) where
     time = q .1 _ _ (x .time);
   }
 
+  loose-leaves : {t t′ p h h₁ : ℕ} {s u s′ : State} {v : Mach} → Looser t t′ p h h₁ s u → Leaves t p h₁ u v s′ → Leaves t′ p h s v s′
+  loose-leaves q e = record { h′ = e .h′; v′ = e .v′; sim = loose-sim q (e .sim); past = e .past; return = e .return }
+
   loose : {A : Type 0} {Q : A → Mach → Type 0} {t t′ p h h₁ h₂ : ℕ} {s u : State} {v : Mach} {x : Result A} → Looser t t′ p h h₁ s u
       → Runs Q t p h₁ h₂ u v x → Runs Q t′ p h h₂ s v x
-  loose q z =
-      post-map z
-      (λ a s e. record { v′ = e .v′; sim = loose-sim q (e .sim); is = e .is })
-      (λ s e. record { h′ = e .h′; v′ = e .v′; sim = loose-sim q (e .sim); past = e .past; return = e .return })
-      (λ s e. record {
-        v′ = e .v′;
-        n = _;
-        goes = e .goes;
-        past = e .past;
-        finish = e .finish;
-        agree = e .agree;
-        vals = e .vals;
-        bytes = e .bytes;
-        taken = e .taken;
-        time = q .1 _ _ (e .time);
-      })
+  loose {v = v} q z =
+      post-map z (λ a s e. record { v′ = e .v′; sim = loose-sim q (e .sim); is = e .is }) (λ s e. loose-leaves q e)
+      (λ s e. ends-from (goes-not (Γ .input) v) (λ n m k. omega (arith, q .1 n m k)) e)
 
   pub weaken : {A : Type 0} {Q : A → Mach → Type 0} {t t′ p h h₂ : ℕ} {s : State} {v : Mach} {x : Result A}
       → Runs Q t p h h₂ s v x → t ≤ t′ → Runs Q t′ p h h₂ s v x
   weaken z l = loose (omega arith, (λ n m k. omega arith), (λ a. refl)) z
-
-  pub more-ends : {t t′ : ℕ} {s s′ : State} {v : Mach} → Ends t s v s′ → t ≤ t′ → Ends t′ s v s′
-  more-ends e l = record {
-    v′ = e .v′;
-    n = _;
-    goes = e .goes;
-    past = e .past;
-    finish = e .finish;
-    agree = e .agree;
-    vals = e .vals;
-    bytes = e .bytes;
-    taken = e .taken;
-    time = omega (arith, e .time);
-  }
 
   -- one step of the source more allows 16 instructions more
   pub paid : {A : Type 0} {Q : A → Mach → Type 0} {t p h h₂ : ℕ} {s : State} {v : Mach} {x : Result A}
@@ -215,19 +190,7 @@ module _ (Γ : Env) where
       → Runs Q′ (t + t′) p h h₃ s v (bind x f)
   then l z g =
       post-bind z (λ a s₁ e. after l (e .sim) (g a s₁ (e .v′) (e .sim) (e .is)))
-      (λ s₁ e. record { h′ = e .h′; v′ = e .v′; sim = loose-sim (l, (λ n m k. omega arith), (λ a. refl)) (e .sim); past = e .past; return = e .return })
-      (λ s₁ e. record {
-        v′ = e .v′;
-        n = _;
-        goes = e .goes;
-        past = e .past;
-        finish = e .finish;
-        agree = e .agree;
-        vals = e .vals;
-        bytes = e .bytes;
-        taken = e .taken;
-        time = omega (arith, e .time);
-      })
+      (λ s₁ e. loose-leaves (l, (λ n m k. omega arith), (λ a. refl)) e) (λ s₁ e. more-ends e (omega arith))
 
   -- the same where nothing more is run
   pub ending : {A : Type 0} {Q Q′ : A → Mach → Type 0} {t t′ p h h₁ h₂ h₃ : ℕ} {s : State} {v : Mach} {x : Result A} → h ≤ h₁
@@ -236,8 +199,7 @@ module _ (Γ : Env) where
   ending l p-unfinished g = p-unfinished
   ending l p-undefined g = p-undefined
   ending l (p-finished e) g = p-finished (more-ends e (omega arith))
-  ending l (p-returned e) g =
-      p-returned (record { h′ = e .h′; v′ = e .v′; sim = loose-sim (l, (λ n m k. omega arith), (λ a. refl)) (e .sim); past = e .past; return = e .return })
+  ending l (p-returned e) g = p-returned (loose-leaves (l, (λ n m k. omega arith), (λ a. refl)) e)
   ending l (p-ok e) g = after l (e .sim) (g _ _ (e .v′) (e .sim) (e .is))
 
   pub stay : {p h : ℕ} {s : State} {v : Mach} → Rel p h s v → Sim 0 p h h s v s v
@@ -249,64 +211,40 @@ module _ (Γ : Env) where
 
   -- ---- heights
 
-  pub like-rel : {p h : ℕ} {s u : State} {v : Mach} → Like s u → Rel p h s v → Rel p h u v
-  like-rel q r = record {
+  -- other cells, beside the same machine
+  with-cells : {p h h′ : ℕ} {s s′ : State} {v : Mach} → Rel p h s v → p + h′ ≤ Γ .limit → ((a w : ℕ) → s′ .cells a ≡ holds w → getD (v .mem) a 0 ≡ w)
+      → ((a : ℕ) → p + h′ ≤ a → s′ .cells a ≡ gone) → ((a : ℕ) → Γ .isCode a ≡ true → s′ .cells a ≡ gone)
+      → s′ .output ≡ s .output → s′ .taken ≡ s .taken → Rel p h′ s′ v
+  with-cells r room vals above code eo et = record {
     agree = r .agree;
     frame-at = r .frame-at;
     globals-at = r .globals-at;
-    room = r .room;
+    room = room;
     base = r .base;
-    vals = λ a w g. r .vals a w (sym (q .cells a) ∙ g);
-    above = λ a l. q .cells a ∙ r .above a l;
-    code-gone = λ a l. q .cells a ∙ r .code-gone a l;
-    bytes = r .bytes ∙ sym (q .output);
-    taken = r .taken ∙ sym (q .taken);
+    vals = vals;
+    above = above;
+    code-gone = code;
+    bytes = r .bytes ∙ sym eo;
+    taken = r .taken ∙ sym et;
   }
 
+  pub like-rel : {p h : ℕ} {s u : State} {v : Mach} → Like s u → Rel p h s v → Rel p h u v
+  like-rel q r =
+      with-cells r (r .room) (λ a w g. r .vals a w (sym (q .cells a) ∙ g)) (λ a l. q .cells a ∙ r .above a l) (λ a l. q .cells a ∙ r .code-gone a l)
+      (q .output) (q .taken)
+
   pub ticked : {p h : ℕ} {s : State} {v : Mach} → Rel p h s v → Rel p h (step s) v
-  ticked r = record {
-    agree = r .agree;
-    frame-at = r .frame-at;
-    globals-at = r .globals-at;
-    room = r .room;
-    base = r .base;
-    vals = r .vals;
-    above = r .above;
-    code-gone = r .code-gone;
-    bytes = r .bytes;
-    taken = r .taken;
-  }
+  ticked r = with-cells r (r .room) (r .vals) (r .above) (r .code-gone) refl refl
 
   -- a greater height
   pub raise : {p h h′ : ℕ} {s : State} {v : Mach} → Rel p h s v → h ≤ h′ → p + h′ ≤ Γ .limit → Rel p h′ s v
-  raise r l k = record {
-    agree = r .agree;
-    frame-at = r .frame-at;
-    globals-at = r .globals-at;
-    room = k;
-    base = r .base;
-    vals = r .vals;
-    above = λ a j. r .above a (omega arith);
-    code-gone = r .code-gone;
-    bytes = r .bytes;
-    taken = r .taken;
-  }
+  raise r l k = with-cells r k (r .vals) (λ a j. r .above a (omega arith)) (r .code-gone) refl refl
 
   -- and back, after a run at the greater one
   pub sink-rel : {p h h′ : ℕ} {s s′ : State} {v v′ : Mach} → Rel p h s v → h ≤ h′ → Rel p h′ s′ v′
       → ((a : ℕ) → a < p + h′ → s .cells a ≡ gone → s′ .cells a ≡ gone) → Rel p h s′ v′
-  sink-rel {p} {h} {h′} {s} {s′} r l x keep = record {
-    agree = x .agree;
-    frame-at = x .frame-at;
-    globals-at = x .globals-at;
-    room = omega (arith, x .room);
-    base = x .base;
-    vals = x .vals;
-    above = λ a k. pick a k (decLt a (p + h′));
-    code-gone = x .code-gone;
-    bytes = x .bytes;
-    taken = x .taken;
-  }
+  sink-rel {p} {h} {h′} {s} {s′} r l x keep =
+      with-cells x (omega (arith, x .room)) (x .vals) (λ a k. pick a k (decLt a (p + h′))) (x .code-gone) refl refl
     where
       pick : (a : ℕ) → p + h ≤ a → Dec (a < p + h′) → s′ .cells a ≡ gone
       pick a k (yes m) = keep a m (r .above a k)
@@ -347,18 +285,7 @@ module _ (Γ : Env) where
   open-scope {p} {h} {h′} {s} {u} {v} r l k same vals above eo et es = record {
     n = 0;
     goes = goes-not (Γ .input) v;
-    rel = record {
-      agree = r .agree;
-      frame-at = r .frame-at;
-      globals-at = r .globals-at;
-      room = l;
-      base = r .base;
-      vals = λ a w g. pick a w g (decLt a (p + h));
-      above = above;
-      code-gone = λ a c. same a (omega (arith, r .base a c)) ∙ r .code-gone a c;
-      bytes = r .bytes ∙ sym eo;
-      taken = r .taken ∙ sym et;
-    };
+    rel = with-cells r l (λ a w g. pick a w g (decLt a (p + h))) above (λ a c. same a (omega (arith, r .base a c)) ∙ r .code-gone a c) eo et;
     keep = λ a j g. same a j ∙ g;
     frame = λ a j g. refl;
     time = omega arith;
@@ -378,18 +305,8 @@ module _ (Γ : Env) where
       shut s₁ v₁ x = record {
         n = _;
         goes = x .goes;
-        rel = record {
-          agree = x .rel .agree;
-          frame-at = x .rel .frame-at;
-          globals-at = x .rel .globals-at;
-          room = omega (arith, x .rel .room);
-          base = x .rel .base;
-          vals = λ a w g. x .rel .vals a w (forget-holds (p + h) s₁ a w g);
-          above = λ a k. forget-above (p + h) s₁ a k;
-          code-gone = λ a k. forget-gone (p + h) s₁ a (x .rel .code-gone a k);
-          bytes = x .rel .bytes;
-          taken = x .rel .taken;
-        };
+        rel = with-cells (x .rel) (omega (arith, x .rel .room)) (λ a w g. x .rel .vals a w (forget-holds (p + h) s₁ a w g)) (forget-above (p + h) s₁)
+            (λ a k. forget-gone (p + h) s₁ a (x .rel .code-gone a k)) refl refl;
         keep = λ a k g. forget-gone (p + h) s₁ a (x .keep a k g);
         frame = x .frame;
         time = x .time;
@@ -405,10 +322,11 @@ module _ (Γ : Env) where
 
   -- ---- instructions
 
-  -- one that leaves memory, P, G and output alone
-  pub quiet : {p h : ℕ} {s : State} {v v′ : Mach} → Rel p h s v → Goes (Γ .input) 1 v v′
-      → v′ .mem ≡ v .mem → v′ .regs .p ≡ v .regs .p → v′ .regs .g ≡ v .regs .g → v′ .regs .taken ≡ v .regs .taken → v′ .bytes ≡ v .bytes → Sim 1 p h h s v s v′
-  quiet {p} {h} {s} {v} {v′} r e em ep eg et eb = record {
+  -- one that leaves memory, P and G alone, where input or output go on
+  pub spoken : {p h : ℕ} {s s′ : State} {v v′ : Mach} → Rel p h s v → Goes (Γ .input) 1 v v′
+      → v′ .mem ≡ v .mem → v′ .regs .p ≡ v .regs .p → v′ .regs .g ≡ v .regs .g → v′ .regs .taken ≡ s′ .taken → v′ .bytes ≡ s′ .output
+      → ((a : ℕ) → s′ .cells a ≡ s .cells a) → s′ .steps ≡ s .steps → Sim 1 p h h s v s′ v′
+  spoken r e em ep eg et eb ec es = record {
     n = _;
     goes = e;
     rel = record {
@@ -417,16 +335,21 @@ module _ (Γ : Env) where
       globals-at = eg ∙ r .globals-at;
       room = r .room;
       base = r .base;
-      vals = λ a w g. rw em (r .vals a w g);
-      above = r .above;
-      code-gone = r .code-gone;
-      bytes = eb ∙ r .bytes;
-      taken = et ∙ r .taken;
+      vals = λ a w g. rw em (r .vals a w (sym (ec a) ∙ g));
+      above = λ a l. ec a ∙ r .above a l;
+      code-gone = λ a l. ec a ∙ r .code-gone a l;
+      bytes = eb;
+      taken = et;
     };
-    keep = λ a l g. g;
+    keep = λ a l g. ec a ∙ g;
     frame = λ a l g. rw em refl;
-    time = omega arith;
+    time = omega (arith, es);
   }
+
+  -- and where they do not
+  pub quiet : {p h : ℕ} {s : State} {v v′ : Mach} → Rel p h s v → Goes (Γ .input) 1 v v′
+      → v′ .mem ≡ v .mem → v′ .regs .p ≡ v .regs .p → v′ .regs .g ≡ v .regs .g → v′ .regs .taken ≡ v .regs .taken → v′ .bytes ≡ v .bytes → Sim 1 p h h s v s v′
+  quiet r e em ep eg et eb = spoken r e em ep eg (et ∙ r .taken) (eb ∙ r .bytes) (λ a. refl) refl
 
   pub agree-set : {m : List ℕ} {a : ℕ} (w : ℕ) → Agree Γ m → ((x : ℕ) → Γ .isCode x ≡ true → x < a) → Agree Γ (set m a w)
   agree-set {m} {a} w g k = record {

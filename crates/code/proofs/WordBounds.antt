@@ -5,7 +5,7 @@ use mathlib.Core.List.{List, [], _∷_}
 use native.Mathlib.Omega.{arith}
 use lib.Dec.{eqb}
 use lib.ListN.{length}
-use Rattle.language.specs.Kinds.{IF, WHILE, UNTIL, REPEATWHILE, BREAK, LOOP, ENDCASE, RETURN, PLING, AT}
+use Rattle.language.specs.Kinds.{IF, WHILE, UNTIL, REPEATWHILE}
 use Rattle.language.specs.Tree as T
 use Rattle.language.specs.Tree.{Label, Expression, Expressions, Suffixes, Operations, Command, Commands, Unlabelled, Repeats}
 use Rattle.language.specs.Names as N
