@@ -24,7 +24,8 @@ pub mod Simulation
 -- the assembled image has the code; the start; budgets and rooms
 pub mod Fetching
 pub mod Placing
-pub mod Plain
+pub mod WordCounts
+pub mod Measures
 pub mod Program
 pub mod Start
 pub mod Good
@@ -36,9 +37,7 @@ pub mod Sounding
 pub mod LabelBounds
 pub mod StringFacts
 pub mod GoodSource
-pub mod Marks
 pub mod Refusals
-pub mod WordCounts
 pub mod WordBounds
 pub mod Sizes
 pub mod Lengths

@@ -28,8 +28,7 @@ use Rattle.code.specs.Faithful.{addressesFrom}
 use Rattle.code.specs.Generate.{X, bodyCode, bodyLabels, functionsCode, stringsCode, startsCode, startIn, itemsOf}
 use Rattle.code.proofs.Standing.{Env, At, Code, end, next, is-number, cut, cut-number, cut-label, code-append}
 use Rattle.code.proofs.Placing.{Spot, Lays, laid-code, past, past-more, past-both, lays-end, Coded, AllCoded, at-short}
-use Rattle.code.proofs.Plain as P
-use Rattle.code.proofs.Plain.{Plain, plain-functions}
+use Rattle.code.proofs.Measures.{sum, no-others}
 use Rattle.code.proofs.Steps.{Sized}
 use Rattle.language.proofs.Formed.{FormedF}
 use Rattle.code.proofs.Goals.{Entered, Fits}
@@ -99,12 +98,14 @@ unfolding globalsItems
 globals-both labels gs [] ys = refl
 globals-both labels gs (x ∷ xs) ys = globals-both labels (globalsAfter labels gs x) xs ys
 
-globals-plain : (labels : List Label) (gs : List ℕ) {xs : List Item} → Plain xs → globalsItems labels gs xs ≡ gs
-unfolding globalsItems globalsAfter
-globals-plain labels gs P.none = refl
-globals-plain labels gs (P.l q) = globals-plain labels gs q
-globals-plain labels gs (P.i q) = globals-plain labels gs q
-globals-plain labels gs (P.d q) = globals-plain labels gs q
+globals-plain : (labels : List Label) (gs : List ℕ) (xs : List Item) → sum 0 (λ _. 1) 1 (λ _. 0) xs ≤ 0 → globalsItems labels gs xs ≡ gs
+unfolding globalsItems globalsAfter sum
+globals-plain labels gs [] h = refl
+globals-plain labels gs (label n ∷ xs) h = globals-plain labels gs xs (omega arith)
+globals-plain labels gs (instruction f i b x ∷ xs) h = globals-plain labels gs xs (omega arith)
+globals-plain labels gs (constant x ∷ xs) h = globals-plain labels gs xs (omega arith)
+globals-plain labels gs (string cs ∷ xs) h = absurd (omega arith)
+globals-plain labels gs (global n m ∷ xs) h = absurd (omega arith)
 
 globals-strings : (labels : List Label) (gs : List ℕ) (l : ℕ) (ss : List (List ℕ)) → globalsItems labels gs (stringsCode l ss) ≡ gs
 unfolding globalsItems globalsAfter stringsCode
@@ -237,7 +238,7 @@ module _ (fs : List Fun) (ss : List (List ℕ)) (memory room first : ℕ) (mem :
   globals-are =
       globals-items (b .labels) noGlobals 2 (fcode ++ rest)
       ∙ globals-both (b .labels) noGlobals fcode rest
-      ∙ ap (λ (gs : List ℕ). globalsItems (b .labels) gs rest) (globals-plain (b .labels) noGlobals (plain-functions (suc (length fs)) 1 (suc (length fs) + length ss) fs))
+      ∙ ap (λ (gs : List ℕ). globalsItems (b .labels) gs rest) (globals-plain (b .labels) noGlobals fcode (no-others (suc (length fs)) 1 (suc (length fs) + length ss) fs))
       ∙ globals-both (b .labels) noGlobals (stringsCode (suc (length fs)) ss) (startsCode 1 fs)
       ∙ ap (λ (gs : List ℕ). globalsItems (b .labels) gs (startsCode 1 fs)) (globals-strings (b .labels) noGlobals (suc (length fs)) ss)
       ∙ globals-starts (b .labels) table same-address noGlobals 1 fs (omega arith)

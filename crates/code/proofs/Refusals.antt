@@ -23,7 +23,7 @@ use Rattle.language.specs.Whole.{refusalOf, funs, functionsIn, stringsIn}
 use Rattle.code.specs.Placed.{labelCount}
 use Rattle.code.specs.Generate.{bodyLabels, itemsOf, textOf}
 use Rattle.code.proofs.Sounding.{Within, RightOperand, Sounds, s-none, s-more, right-range, all-sound}
-use Rattle.code.proofs.Marks.{marks, funLabels, items-marks}
+use Rattle.code.proofs.Measures.{sum, marks, funLabels, items-marks}
 use Rattle.language.proofs.Accepted.{Facts, facts}
 use Rattle.code.proofs.GoodSource.{ns, total, few-in-all, total-low, innerLabels, items-sound}
 
@@ -35,8 +35,8 @@ count-up a b l = l
 abbrev pub number-of : ℕ → ℕ
 number-of n = n
 
-count-places : (p : ℕ) (is : List Item) → labelCount (places p is) ≡ marks number-of count-up is
-unfolding labelCount places marks
+count-places : (p : ℕ) (is : List Item) → labelCount (places p is) ≡ marks number-of is
+unfolding labelCount places sum
 count-places p [] = refl
 count-places p (label n ∷ is) = omega (arith, count-places (p + length (render (label n)) + 1) is)
 count-places p (instruction f i b x ∷ is) = omega (arith, count-places (p + length (render (instruction f i b x)) + 1) is)
@@ -82,8 +82,8 @@ unfolding times
 times-both k [] ys = omega arith
 times-both k (x ∷ xs) ys = omega (arith, times-both k xs ys)
 
-times-marks : (k : ℕ) (is : List Item) → times k (labelsOf is) ≡ marks (passed k) (passed-up k) is
-unfolding labelsOf times marks
+times-marks : (k : ℕ) (is : List Item) → times k (labelsOf is) ≡ marks (passed k) is
+unfolding labelsOf times sum
 times-marks k [] = refl
 times-marks k (label n ∷ is) = omega (arith, times-marks k is, passed-point k n)
 times-marks k (instruction f i b x ∷ is) = omega (arith, times-marks k is)
@@ -191,11 +191,11 @@ module _ (source : List ℕ) (x : Facts source) where
   unfolding items
   items-right = items-sound source x
 
-  counted : marks number-of count-up items + 1 ≡ total source x
+  counted : marks number-of items + 1 ≡ total source x
   unfolding items
   counted = items-marks number-of count-up (funs (ns source x)) (stringsIn source) (total source x) all-labels
 
-  pub items-count : marks number-of count-up (itemsOf (functionsIn source) (stringsIn source)) + 1 ≡ total source x
+  pub items-count : marks number-of (itemsOf (functionsIn source) (stringsIn source)) + 1 ≡ total source x
   items-count = rw same-items counted
 
   labels-most : labelCount (scan (renderAll items) .items) ≤ length source

@@ -1,7 +1,6 @@
 -- The compiler's text makes at most eight program words a source symbol and sixteen more, its strings' own words apart.
-use Prim.Native.Nat.{ℕ, suc, _+_, _*_, _≤_}
+use Prim.Native.Nat.{ℕ, _+_, _*_, _≤_}
 use mathlib.Core.Path.{_≡_, refl}
-use mathlib.Core.Bool.{false}
 use mathlib.Core.List.{List, [], _∷_, _++_}
 use native.Mathlib.Omega.{arith}
 use lib.ListN.{length}
@@ -15,39 +14,30 @@ use Rattle.text.proofs.Packed.{length-pairs}
 use Rattle.language.specs.Tree as T
 use Rattle.language.specs.Tree.{Function, Declaration, Program}
 use Rattle.language.specs.Names.{Scope, lookup}
-use Rattle.language.specs.Resolved as R
-use Rattle.language.specs.Resolved.{Body, Fun, Start, nowhere, inGlobal}
+use Rattle.language.specs.Resolved.{Body}
 use Rattle.language.specs.Symbols.{scan}
 use Rattle.language.specs.Program.{bodyOf, inside, resolved, startOf, withFunction, functionsAfter, Walk, afterDeclaration, begin, Named, groupOf, declarationFunctions, functionsFrom, functionsOf, accepted}
 use Rattle.language.specs.Whole.{refusalOf, funs, functionsIn, stringsIn}
 use Rattle.code.specs.Placed.{wordCount, stringWords}
-use Rattle.code.specs.Generate.{bodyLabels, bodyCode, functionsCode, stringsCode, startsCode, startIn, itemsOf, textOf}
+use Rattle.code.specs.Generate.{itemsOf, textOf}
 use Rattle.language.proofs.Tokens.{bodyTokens, functionsTokens, declarationTokens, programTokens}
 use Rattle.code.proofs.Placing.{past}
-use Rattle.code.proofs.WordCounts.{size-most, weigh, weigh-both, weighs, exprWords, cmdWords, w-e, w-c}
+use Rattle.code.proofs.Measures.{sum, textSum, funWords, sum-items, weigh, size-most}
+use Rattle.code.proofs.WordCounts.{bodyWords}
 use Rattle.code.proofs.WordBounds.{many-e, many-c}
 use Rattle.language.proofs.Accepted.{Facts, facts}
 use Rattle.code.proofs.GoodSource.{good}
 
 past-weigh : (at : ℕ) (xs : List Item) → past at xs ≤ at + weigh xs
-unfolding past weigh
+unfolding past sum
 past-weigh at [] = omega arith
 past-weigh at (x ∷ xs) = omega (arith, past-weigh (at + size x) xs, size-most x)
 
 -- the program words of items
 sizes-weigh : (p : ℕ) (xs : List Item) → wordCount (places p xs) ≤ weigh xs
-unfolding wordCount places weigh
+unfolding wordCount places sum
 sizes-weigh p [] = omega arith
 sizes-weigh p (x ∷ xs) = omega (arith, sizes-weigh (p + length (render x) + 1) xs, size-most x)
-
-abbrev bodyWords : Body → ℕ
-bodyWords (R.expression e) = exprWords e
-bodyWords (R.routine c) = cmdWords c
-
-body-weighs : (strings h n : ℕ) (b : Body) → weigh (bodyCode strings h n b) ≤ bodyWords b
-unfolding bodyCode
-body-weighs strings h n (R.expression e) = weighs (w-e strings h n e)
-body-weighs strings h n (R.routine c) = weighs (w-c strings h n _ c)
 
 unfoldable allWords : List Named → ℕ
 allWords [] = 0
@@ -58,31 +48,15 @@ unfolding allWords
 all-both [] ys = omega arith
 all-both (x ∷ xs) ys = omega (arith, all-both xs ys)
 
-functions-weigh : (strings l n : ℕ) (ns : List Named) → weigh (functionsCode strings l n (funs ns)) ≤ allWords ns
-unfolding functionsCode funs allWords weigh
-functions-weigh strings l n [] = omega arith
-functions-weigh strings l n (x ∷ ns) =
-    let rest : List Item = functionsCode strings (suc l) (n + bodyLabels (x .fun .body)) (funs ns) in
-    omega (
-      arith,
-      weigh-both (bodyCode strings (2 + x .fun .parameters) n (x .fun .body)) (I.instruction 7 false I.none (I.number false 4) ∷ rest),
-      body-weighs strings (2 + x .fun .parameters) n (x .fun .body),
-      functions-weigh strings (suc l) (n + bodyLabels (x .fun .body)) ns,
-    )
+fun-words : (ns : List Named) → funWords (funs ns) ≡ allWords ns
+unfolding funWords funs allWords
+fun-words [] = refl
+fun-words (n ∷ ns) = omega (arith, fun-words ns)
 
-strings-weigh : (l : ℕ) (ss : List (List ℕ)) → weigh (stringsCode l ss) ≡ stringWords ss
-unfolding stringsCode weigh size stringWords
-strings-weigh l [] = refl
-strings-weigh l (cs ∷ ss) = omega (arith, strings-weigh (suc l) ss, length-pairs (length cs) cs)
-
-starts-weigh : (l : ℕ) (fs : List Fun) → weigh (startsCode l fs) ≤ 0
-unfolding startsCode weigh size
-starts-weigh l [] = omega arith
-starts-weigh l (f ∷ fs) = go (f .start) (starts-weigh (suc l) fs)
-  where
-    go : (s : Start) → weigh (startsCode (suc l) fs) ≤ 0 → weigh (startIn s l (startsCode (suc l) fs)) ≤ 0
-    go nowhere k = k
-    go (inGlobal n) k = omega arith
+string-words : (ss : List (List ℕ)) → textSum (λ cs. size (I.string cs)) ss ≡ stringWords ss
+unfolding textSum size stringWords
+string-words [] = refl
+string-words (cs ∷ ss) = omega (arith, string-words ss, length-pairs (length cs) cs)
 
 module _ (text : List ℕ) where
   body-many : (s : Scope) (h : ℕ) (b : T.Body) → bodyWords (bodyOf text s h b) ≤ 8 * bodyTokens 1 b
@@ -108,12 +82,8 @@ module _ (text : List ℕ) where
       omega (arith, declaration-many w d, program-many (afterDeclaration text w d) ds, all-both (declarationFunctions text w d) (functionsFrom text (afterDeclaration text w d) ds))
 
 items-weigh : (ns : List Named) (ss : List (List ℕ)) → weigh (itemsOf (funs ns) ss) ≤ allWords ns + stringWords ss
-unfolding itemsOf
 items-weigh ns ss =
-    let f : List Item = functionsCode (suc (length (funs ns))) 1 (suc (length (funs ns)) + length ss) (funs ns) in
-    let t : List Item = stringsCode (suc (length (funs ns))) ss in
-    let g : List Item = startsCode 1 (funs ns) in
-    omega (arith, weigh-both f (t ++ g), weigh-both t g, functions-weigh (suc (length (funs ns))) 1 (suc (length (funs ns)) + length ss) ns, strings-weigh (suc (length (funs ns))) ss, starts-weigh 1 (funs ns))
+    omega (arith, sum-items 1 (λ cs. size (I.string cs)) 0 (λ _. 0) (λ _ _ _. omega arith) (funs ns) ss _ refl, fun-words ns, string-words ss)
 
 pub items-words : (source : List ℕ) (x : Facts source) → weigh (itemsOf (functionsIn source) (stringsIn source)) ≤ 8 * length (scan source .symbols) + stringWords (stringsIn source)
 unfolding functionsOf
