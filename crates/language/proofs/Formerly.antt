@@ -230,16 +230,16 @@ scan-kept zero place (c ∷ r) e =
         → onElement place now (λ k. scanFrom k (suc place) r) ≡ onElement place before (λ k. formerScan k (suc place) r)
     by (symbol k v w) now h f more = rw (h, more (w - 1) f)
     by (gap w) now h f more = rw (h, more (w - 1) f)
-    by (wrong n k) now h f more = absurd (clash (cc))
+    by (wrong n k) now h f more = cc
 
 first-none : (size : ℕ) (m : Matching) (f : Fault) → firstFault size m f ≡ none → f ≡ none
-first-none size (unmatched place) f e = absurd (clash (cc))
-first-none size (matched wanted) (fault number place) e = absurd (clash (cc))
+first-none size (unmatched place) f e = cc
+first-none size (matched wanted) (fault number place) e = cc
 first-none size (matched wanted) none e = refl
 
 good-none : (f : Fault) (xs : List Symbol) {ss : List Symbol} → onFault f xs ≡ good ss → f ≡ none
 good-none none xs e = refl
-good-none (fault number place) xs e = absurd (clash (cc))
+good-none (fault number place) xs e = cc
 
 -- a text whose symbols were good has just those symbols
 pub symbols-kept : (text : List ℕ) {ss : List Symbol} → formerSymbols text ≡ good ss → symbolsOf text ≡ good ss
