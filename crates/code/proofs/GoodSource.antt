@@ -5,34 +5,31 @@ use mathlib.Core.Bool.{Bool, true, false, cond}
 use mathlib.Core.List.{List, [], _∷_, _++_}
 use native.Mathlib.Omega.{arith}
 use lib.Dec.{ltb}
-use lib.ListN.{length, length-append}
+use lib.ListN.{length}
 use borrow.Author.Tests.{ltb-true, ltb-false}
 use Rattle.items.specs.Item as I
 use Rattle.language.specs.Tree as T
-use Rattle.language.specs.Tree.{Function, Declaration, Program}
-use Rattle.language.specs.Names.{Scope, lookup}
 use Rattle.language.specs.Resolved as R
 use Rattle.language.specs.Resolved.{Body, Fun, Start, nowhere, inGlobal}
 use Rattle.language.specs.Constants.{fault}
 use Rattle.language.specs.Heights.{ofBody, heightsOf, greatest, largestHeight}
-use Rattle.language.specs.Program.{bodyOf, inside, resolved, startOf, withFunction, functionsAfter, Walk, afterDeclaration, begin, Named, groupOf, declarationFunctions, functionsFrom, functionsOf, heightFaults, accepted}
+use Rattle.language.specs.Program.{begin, Named, functionsOf, heightFaults, accepted}
 use Rattle.language.specs.Whole.{refusalOf, funs, stringsIn}
 use Rattle.assembler.specs.Assemble.{assembled}
 use Rattle.assembler.specs.declared.Assembled.the-variants.{Accepted}
 use Rattle.code.specs.Faithful.{placementOf, Faithful}
 use Rattle.code.specs.Placed.{WellPlaced}
 use Rattle.code.specs.Generate.{bodyLabels, bodyCode, functionsCode, stringsCode, startsCode, startIn, itemsOf, textOf, nowhereElse}
-use Rattle.language.specs.Fine.{FineBody, FineFunctions, FineDeclaration, FineProgram}
-use Rattle.language.proofs.Tokens.{bodyTokens, functionsTokens, declarationTokens, programTokens}
+use Rattle.language.proofs.Tokens.{programTokens}
 use Rattle.language.proofs.SymbolFacts.{strings-now}
 use Rattle.language.proofs.Formed.{FormedF}
 use Rattle.language.proofs.Leaving.{LeavesF}
-use Rattle.language.proofs.Forming.{AllFormed, FormedStart, length-funs, program-formed, group-length as group-length-of}
-use Rattle.code.proofs.LabelBounds.{count-e, count-c}
+use Rattle.language.proofs.Forming.{AllFormed, FormedStart, length-funs, program-formed}
 use Rattle.code.proofs.Sounding.{Span, span, Sounds, s-none, s-more, all-sound, sounds-both, Low, near-none, sound-e, sound-c}
 use Rattle.language.proofs.Widths.{covered}
 use Rattle.code.proofs.StringFacts.{strings-now-sound}
 use Rattle.language.proofs.Accepted.{Facts, facts, formed}
+use Rattle.code.proofs.Bounds.{innerLabels, few-program}
 use Rattle.code.proofs.Good.{Good}
 use Rattle.code.proofs.Faithful.{faithful}
 use Rattle.code.proofs.WellPlaced.{well-placed}
@@ -60,52 +57,6 @@ first-low n ns h = go (ltb 8192 (largestHeight (n .fun))) refl h
     go : (b : Bool) → ltb 8192 (largestHeight (n .fun)) ≡ b → cond b (fault (n .name .place) 16) [] ++ heightFaults ns ≡ [] → (largestHeight (n .fun) ≤ 8192) × (heightFaults ns ≡ [])
     go true e q = clash (cc)
     go false e q = (ltb-false 8192 (largestHeight (n .fun)) e, q)
-
--- ---- labels
-
-unfoldable pub innerLabels : List Named → ℕ
-innerLabels [] = 0
-innerLabels (n ∷ ns) = bodyLabels (n .fun .body) + innerLabels ns
-
-inner-both : (xs ys : List Named) → innerLabels (xs ++ ys) ≡ innerLabels xs + innerLabels ys
-unfolding innerLabels
-inner-both [] ys = omega arith
-inner-both (x ∷ xs) ys = omega (arith, inner-both xs ys)
-
-module _ (strings : ℕ) (text : List ℕ) where
-  body-labels : (s : Scope) (h : ℕ) (b : T.Body) → FineBody strings b → bodyLabels (bodyOf text s h b) + 1 ≤ bodyTokens 3 b
-  unfolding bodyLabels
-  body-labels s h (T.value e) f = count-e strings text s h e f
-  body-labels s h (T.routine c) f = count-c strings text s h c f
-
-  -- a function takes four symbols more than its parameters and body: so there are four labels to spare
-  group-labels : (k : ℕ) (before s : Scope) (fs : List Function) → FineFunctions strings fs → innerLabels (groupOf text k before s fs) + 4 * length fs ≤ functionsTokens 3 fs
-  unfolding groupOf resolved innerLabels functionsTokens FineFunctions
-  group-labels k before s [] f = omega arith
-  group-labels k before s (x ∷ fs) f =
-      omega (arith, body-labels (inside s x) (2 + length (x .parameters)) (x .body) (f .0 .body), group-labels (k + 1) (withFunction before (x .name) k (startOf (lookup text before (x .name)))) s fs (f .1))
-
-  declaration-labels : (w : Walk) (d : Declaration) → FineDeclaration strings d → innerLabels (declarationFunctions text w d) + 4 * length (declarationFunctions text w d) ≤ declarationTokens 3 d
-  unfolding innerLabels
-  declaration-labels w (T.globals is) f = omega arith
-  declaration-labels w (T.manifests is) f = omega arith
-  declaration-labels w (T.functions fs) f =
-      omega (arith, group-labels (w .functions) (w .scope) (functionsAfter text (w .functions) (w .scope) fs) fs f, group-length (w .functions) (w .scope) (functionsAfter text (w .functions) (w .scope) fs) fs)
-    where
-      group-length : (k : ℕ) (before s : Scope) (fs : List Function) → length (groupOf text k before s fs) ≡ length fs
-      group-length k before s fs = group-length-of 0 strings text k before s fs
-
-  program-labels : (w : Walk) (p : Program) → FineProgram strings p → innerLabels (functionsFrom text w p) + 4 * length (functionsFrom text w p) ≤ programTokens 3 p
-  unfolding functionsFrom FineProgram programTokens innerLabels
-  program-labels w [] f = omega arith
-  program-labels w (d ∷ ds) f =
-      omega (
-        arith,
-        declaration-labels w d (f .0),
-        program-labels (afterDeclaration text w d) ds (f .1),
-        inner-both (declarationFunctions text w d) (functionsFrom text (afterDeclaration text w d) ds),
-        length-append (declarationFunctions text w d) (functionsFrom text (afterDeclaration text w d) ds),
-      )
 
 -- ---- items
 
@@ -150,7 +101,7 @@ module _ (source : List ℕ) (x : Facts source) where
 
   pub labels-few : innerLabels ns + 4 * length ns ≤ programTokens 3 (x .tree)
   unfolding ns functionsOf
-  labels-few = program-labels S source begin (x .tree) (x .fine)
+  labels-few = few-program S source begin (x .tree) (x .fine) .0
 
   -- a label a byte
   pub few-in-all : total ≤ suc (length source)

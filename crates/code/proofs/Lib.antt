@@ -34,10 +34,9 @@ pub mod Owed
 pub mod Faithful
 -- every accepted source is good: its items can be written and read back, its labels differ, its sizes
 pub mod Sounding
-pub mod LabelBounds
+pub mod Bounds
 pub mod StringFacts
 pub mod GoodSource
 pub mod Refusals
-pub mod WordBounds
 pub mod Sizes
 pub mod Lengths

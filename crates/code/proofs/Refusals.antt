@@ -25,7 +25,8 @@ use Rattle.code.specs.Generate.{bodyLabels, itemsOf, textOf}
 use Rattle.code.proofs.Sounding.{Within, RightOperand, Sounds, s-none, s-more, right-range, all-sound}
 use Rattle.code.proofs.Measures.{sum, marks, funLabels, items-marks}
 use Rattle.language.proofs.Accepted.{Facts, facts}
-use Rattle.code.proofs.GoodSource.{ns, total, few-in-all, total-low, innerLabels, items-sound}
+use Rattle.code.proofs.GoodSource.{ns, total, few-in-all, total-low, items-sound}
+use Rattle.code.proofs.Bounds.{innerLabels}
 
 -- ---- how many labels
 

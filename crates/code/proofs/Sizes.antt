@@ -1,7 +1,7 @@
 -- The compiler's text makes at most eight program words a source symbol and sixteen more, its strings' own words apart.
 use Prim.Native.Nat.{ℕ, _+_, _*_, _≤_}
 use mathlib.Core.Path.{_≡_, refl}
-use mathlib.Core.List.{List, [], _∷_, _++_}
+use mathlib.Core.List.{List, [], _∷_}
 use native.Mathlib.Omega.{arith}
 use lib.ListN.{length}
 use Rattle.items.specs.Item as I
@@ -11,20 +11,14 @@ use Rattle.items.specs.Render.{render}
 use Rattle.items.proofs.Rendered.{places, rendered}
 use Rattle.assembler.specs.Words.{size}
 use Rattle.text.proofs.Packed.{length-pairs}
-use Rattle.language.specs.Tree as T
-use Rattle.language.specs.Tree.{Function, Declaration, Program}
-use Rattle.language.specs.Names.{Scope, lookup}
-use Rattle.language.specs.Resolved.{Body}
 use Rattle.language.specs.Symbols.{scan}
-use Rattle.language.specs.Program.{bodyOf, inside, resolved, startOf, withFunction, functionsAfter, Walk, afterDeclaration, begin, Named, groupOf, declarationFunctions, functionsFrom, functionsOf, accepted}
+use Rattle.language.specs.Program.{begin, Named, functionsOf, accepted}
 use Rattle.language.specs.Whole.{refusalOf, funs, functionsIn, stringsIn}
 use Rattle.code.specs.Placed.{wordCount, stringWords}
 use Rattle.code.specs.Generate.{itemsOf, textOf}
-use Rattle.language.proofs.Tokens.{bodyTokens, functionsTokens, declarationTokens, programTokens}
 use Rattle.code.proofs.Placing.{past}
 use Rattle.code.proofs.Measures.{sum, textSum, funWords, sum-items, weigh, size-most}
-use Rattle.code.proofs.WordCounts.{bodyWords}
-use Rattle.code.proofs.WordBounds.{many-e, many-c}
+use Rattle.code.proofs.Bounds.{allWords, few-program}
 use Rattle.language.proofs.Accepted.{Facts, facts}
 use Rattle.code.proofs.GoodSource.{good}
 
@@ -39,15 +33,6 @@ unfolding wordCount places sum
 sizes-weigh p [] = omega arith
 sizes-weigh p (x ∷ xs) = omega (arith, sizes-weigh (p + length (render x) + 1) xs, size-most x)
 
-unfoldable allWords : List Named → ℕ
-allWords [] = 0
-allWords (n ∷ ns) = bodyWords (n .fun .body) + 2 + allWords ns
-
-all-both : (xs ys : List Named) → allWords (xs ++ ys) ≡ allWords xs + allWords ys
-unfolding allWords
-all-both [] ys = omega arith
-all-both (x ∷ xs) ys = omega (arith, all-both xs ys)
-
 fun-words : (ns : List Named) → funWords (funs ns) ≡ allWords ns
 unfolding funWords funs allWords
 fun-words [] = refl
@@ -58,29 +43,6 @@ unfolding textSum size stringWords
 string-words [] = refl
 string-words (cs ∷ ss) = omega (arith, string-words ss, length-pairs (length cs) cs)
 
-module _ (text : List ℕ) where
-  body-many : (s : Scope) (h : ℕ) (b : T.Body) → bodyWords (bodyOf text s h b) ≤ 8 * bodyTokens 1 b
-  body-many s h (T.value e) = omega (arith, many-e text s h e)
-  body-many s h (T.routine c) = omega (arith, many-c text s h c)
-
-  group-many : (k : ℕ) (before s : Scope) (fs : List Function) → allWords (groupOf text k before s fs) ≤ 8 * functionsTokens 1 fs
-  unfolding groupOf resolved allWords functionsTokens
-  group-many k before s [] = omega arith
-  group-many k before s (x ∷ fs) =
-      omega (arith, body-many (inside s x) (2 + length (x .parameters)) (x .body), group-many (k + 1) (withFunction before (x .name) k (startOf (lookup text before (x .name)))) s fs)
-
-  declaration-many : (w : Walk) (d : Declaration) → allWords (declarationFunctions text w d) ≤ 8 * declarationTokens 1 d
-  unfolding allWords
-  declaration-many w (T.globals is) = omega arith
-  declaration-many w (T.manifests is) = omega arith
-  declaration-many w (T.functions fs) = group-many (w .functions) (w .scope) (functionsAfter text (w .functions) (w .scope) fs) fs
-
-  program-many : (w : Walk) (p : Program) → allWords (functionsFrom text w p) ≤ 8 * programTokens 1 p
-  unfolding functionsFrom programTokens allWords
-  program-many w [] = omega arith
-  program-many w (d ∷ ds) =
-      omega (arith, declaration-many w d, program-many (afterDeclaration text w d) ds, all-both (declarationFunctions text w d) (functionsFrom text (afterDeclaration text w d) ds))
-
 items-weigh : (ns : List Named) (ss : List (List ℕ)) → weigh (itemsOf (funs ns) ss) ≤ allWords ns + stringWords ss
 items-weigh ns ss =
     omega (arith, sum-items 1 (λ cs. size (I.string cs)) 0 (λ _. 0) (λ _ _ _. omega arith) (funs ns) ss _ refl, fun-words ns, string-words ss)
@@ -89,7 +51,7 @@ pub items-words : (source : List ℕ) (x : Facts source) → weigh (itemsOf (fun
 unfolding functionsOf
 items-words source x =
     let w : weigh (itemsOf (functionsIn source) (stringsIn source)) ≤ allWords (functionsOf source (x .tree)) + stringWords (stringsIn source) = rw (x .functions) (items-weigh (functionsOf source (x .tree)) (stringsIn source)) in
-    omega (arith, w, program-many source begin (x .tree), x .tokens)
+    omega (arith, w, few-program (length (stringsIn source)) source begin (x .tree) (x .fine) .1, x .tokens)
 
 -- the words of the text's items, whether or not it is assembled
 pub few-words : (source : List ℕ) (scratch : ℕ) → refusalOf source scratch ≡ accepted → wordCount (Z.scan (textOf source) .items) ≤ 8 * length (scan source .symbols) + 16 + stringWords (stringsIn source)
