@@ -28,6 +28,8 @@ use Rattle.language.proofs.Tokens.{programTokens}
 use Rattle.language.proofs.Resolving.{cases-before}
 use Rattle.code.specs.Generate.{commandsIn, exprLabels, exprsLabels, targetLabels, pairsLabels, cmdLabels, cmdsLabels, casesLabels, localsLabels}
 use Rattle.code.specs.Generate.{bodyLabels}
+use Rattle.language.specs.Whole.{funs}
+use Rattle.code.proofs.Measures.{funLabels, funWords}
 use Rattle.code.proofs.WordCounts.{exprWords, exprsWords, targetWords, pairsWords, cmdWords, cmdsWords, casesWords, localsWords, bodyWords}
 
 -- what a left side needs more words
@@ -178,20 +180,18 @@ module _ (strings : ℕ) (text : List ℕ) where
 
 -- ---- of whole programs
 
-unfoldable pub innerLabels : List Named → ℕ
-innerLabels [] = 0
-innerLabels (n ∷ ns) = bodyLabels (n .fun .body) + innerLabels ns
+abbrev pub innerLabels : List Named → ℕ
+innerLabels ns = funLabels (funs ns)
 
-unfoldable pub allWords : List Named → ℕ
-allWords [] = 0
-allWords (n ∷ ns) = bodyWords (n .fun .body) + 2 + allWords ns
+abbrev pub allWords : List Named → ℕ
+allWords ns = funWords (funs ns)
 
 -- a function takes four symbols more than its parameters and body: so there are four labels to spare
 abbrev Few : (tokens tokens′ : ℕ) → List Named → Type 0
 Few t t′ ns = (innerLabels ns + 4 * length ns ≤ t) × (allWords ns ≤ 8 * t′)
 
 few-both : (xs ys : List Named) → (innerLabels (xs ++ ys) ≡ innerLabels xs + innerLabels ys) × (allWords (xs ++ ys) ≡ allWords xs + allWords ys)
-unfolding innerLabels allWords
+unfolding funs funLabels funWords
 few-both [] ys = omega arith
 few-both (x ∷ xs) ys = omega (arith, few-both xs ys)
 
@@ -204,7 +204,7 @@ module _ (strings : ℕ) (text : List ℕ) where
 
   few-group : (k : ℕ) (before s : Scope) (fs : List Function) → FineFunctions strings fs
       → Few (functionsTokens 3 fs) (functionsTokens 1 fs) (groupOf text k before s fs)
-  unfolding groupOf resolved innerLabels allWords functionsTokens FineFunctions
+  unfolding groupOf resolved funs funLabels funWords functionsTokens FineFunctions
   few-group k before s [] f = omega arith
   few-group k before s (x ∷ fs) f =
       omega (arith, few-body (inside s x) (2 + length (x .parameters)) (x .body) (f .0 .body),
@@ -212,13 +212,13 @@ module _ (strings : ℕ) (text : List ℕ) where
 
   few-declaration : (w : Walk) (d : Declaration) → FineDeclaration strings d
       → Few (declarationTokens 3 d) (declarationTokens 1 d) (declarationFunctions text w d)
-  unfolding innerLabels allWords
+  unfolding funs funLabels funWords
   few-declaration w (T.globals is) f = omega arith
   few-declaration w (T.manifests is) f = omega arith
   few-declaration w (T.functions fs) f = few-group (w .functions) (w .scope) (functionsAfter text (w .functions) (w .scope) fs) fs f
 
   pub few-program : (w : Walk) (p : Program) → FineProgram strings p → Few (programTokens 3 p) (programTokens 1 p) (functionsFrom text w p)
-  unfolding functionsFrom FineProgram programTokens innerLabels allWords
+  unfolding functionsFrom FineProgram programTokens funs funLabels funWords
   few-program w [] f = omega arith
   few-program w (d ∷ ds) f =
       let xs : List Named = declarationFunctions text w d in

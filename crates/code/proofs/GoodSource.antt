@@ -30,6 +30,7 @@ use Rattle.language.proofs.Widths.{covered}
 use Rattle.code.proofs.StringFacts.{strings-now-sound}
 use Rattle.language.proofs.Accepted.{Facts, facts, formed}
 use Rattle.code.proofs.Bounds.{innerLabels, few-program}
+use Rattle.code.proofs.Measures.{funLabels}
 use Rattle.code.proofs.Good.{Good}
 use Rattle.code.proofs.Faithful.{faithful}
 use Rattle.code.proofs.WellPlaced.{well-placed}
@@ -67,7 +68,7 @@ module _ (T functions strings : ℕ) (few : suc functions + strings ≤ T) where
   body-sound h n (R.routine c) l m f w y = sound-c T functions strings few h n nowhereElse c l m near-none f w y
 
   functions-sound : (l n : ℕ) (ns : List Named) → Span T l (length ns) → Span T n (innerLabels ns) → AllFormed functions strings ns → heightFaults ns ≡ [] → Sounds T (functionsCode (suc functions) l n (funs ns))
-  unfolding functionsCode funs innerLabels AllFormed
+  unfolding functionsCode funs funLabels AllFormed
   functions-sound l n [] a b f h = s-none
   functions-sound l n (x ∷ ns) a b f h =
       let p = first-low x ns h in

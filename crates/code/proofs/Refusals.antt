@@ -151,11 +151,6 @@ module _ (T : ℕ) (low : T ≤ 32768) where
     known-all (s-more {x = I.string cs} p q) = (refl, known-all q)
     known-all (s-more {x = I.global n m} p q) = (one-known m (p .start), known-all q)
 
-fun-labels : (ns : List Named) → funLabels (funs ns) ≡ innerLabels ns
-unfolding funs funLabels innerLabels
-fun-labels [] = refl
-fun-labels (n ∷ ns) = ap (λ (k : ℕ). bodyLabels (n .fun .body) + k) (fun-labels ns)
-
 -- ---- the text of a source that is accepted
 
 module _ (source : List ℕ) (x : Facts source) where
@@ -163,7 +158,7 @@ module _ (source : List ℕ) (x : Facts source) where
   items = itemsOf (funs (ns source x)) (stringsIn source)
 
   all-labels : suc (length (funs (ns source x))) + length (stringsIn source) + funLabels (funs (ns source x)) ≡ total source x
-  all-labels = omega (arith, fun-labels (ns source x))
+  all-labels = refl
 
   often : (k : ℕ) → times k (labelsOf items) + passed k 1 ≡ passed k (total source x)
   unfolding items

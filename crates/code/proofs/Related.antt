@@ -32,9 +32,6 @@ gone-live live-holds e = clash (cc)
 pub forget-above : (base : ℕ) (s : State) (a : ℕ) → base ≤ a → forget base s .cells a ≡ gone
 forget-above base s a l = rw (le-leb base a l) refl
 
-pub forget-below : (base : ℕ) (s : State) (a : ℕ) → a < base → forget base s .cells a ≡ s .cells a
-forget-below base s a l = rw (lt-leb base a l) refl
-
 pub forget-gone : (base : ℕ) (s : State) (a : ℕ) → s .cells a ≡ gone → forget base s .cells a ≡ gone
 forget-gone base s a g = by-cond (λ c. c ≡ gone) (leb base a) refl g
 

@@ -22,21 +22,11 @@ use Rattle.code.proofs.Bounds.{allWords, few-program}
 use Rattle.language.proofs.Accepted.{Facts, facts}
 use Rattle.code.proofs.GoodSource.{good}
 
-past-weigh : (at : ℕ) (xs : List Item) → past at xs ≤ at + weigh xs
-unfolding past sum
-past-weigh at [] = omega arith
-past-weigh at (x ∷ xs) = omega (arith, past-weigh (at + size x) xs, size-most x)
-
 -- the program words of items
 sizes-weigh : (p : ℕ) (xs : List Item) → wordCount (places p xs) ≤ weigh xs
 unfolding wordCount places sum
 sizes-weigh p [] = omega arith
 sizes-weigh p (x ∷ xs) = omega (arith, sizes-weigh (p + length (render x) + 1) xs, size-most x)
-
-fun-words : (ns : List Named) → funWords (funs ns) ≡ allWords ns
-unfolding funWords funs allWords
-fun-words [] = refl
-fun-words (n ∷ ns) = omega (arith, fun-words ns)
 
 string-words : (ss : List (List ℕ)) → textSum (λ cs. size (I.string cs)) ss ≡ stringWords ss
 unfolding textSum size stringWords
@@ -45,7 +35,7 @@ string-words (cs ∷ ss) = omega (arith, string-words ss, length-pairs (length c
 
 items-weigh : (ns : List Named) (ss : List (List ℕ)) → weigh (itemsOf (funs ns) ss) ≤ allWords ns + stringWords ss
 items-weigh ns ss =
-    omega (arith, sum-items 1 (λ cs. size (I.string cs)) 0 (λ _. 0) (λ _ _ _. omega arith) (funs ns) ss _ refl, fun-words ns, string-words ss)
+    omega (arith, sum-items 1 (λ cs. size (I.string cs)) 0 (λ _. 0) (λ _ _ _. omega arith) (funs ns) ss _ refl, string-words ss)
 
 pub items-words : (source : List ℕ) (x : Facts source) → weigh (itemsOf (functionsIn source) (stringsIn source)) ≤ 8 * length (scan source .symbols) + stringWords (stringsIn source)
 unfolding functionsOf
