@@ -21,7 +21,7 @@ use Rattle.language.specs.Operators.{applyMonadic, applyDyadic}
 use Rattle.language.specs.State.{Value, word, State, Result, ok, bind}
 use Rattle.language.specs.Run.{Flow, normal, broke, looped, ended, gave, Sem, evaluated, two, orUndefined, valueOf}
 use Rattle.code.specs.Generate.{exprCode, exprLabels, cmdCode, dyadicAct, monadicAct, inValof}
-use Rattle.code.proofs.Results.{p-undefined, post-read, post-demand, has-none, has-word, has-same}
+use Rattle.code.proofs.Results.{p-undefined, post-read, post-demand, Has, has-none, has-word, has-same}
 use Rattle.code.proofs.Machine.{Mach}
 use Rattle.code.proofs.Standing.{Env, At, Code, cut, cut-number, cut-address, cut-label, at-end}
 use Rattle.code.proofs.Related.{Rel, Runs, then, weaken, paid, over, reaching, raise, sink, like-rel, live-below, gone-holds}
@@ -79,6 +79,11 @@ module _ (Γ : Env) where
   GoalE q e = (p h n a b : ℕ) (s : State) (v : Mach) → Code Γ a (exprCode (suc (F Γ)) h n e) b → FormedE (F Γ) (S Γ) h e
       → v .regs .c ≡ a → Rel Γ p h s v → Runs Γ (Valued Γ b) 6 p h h s v (E q e p h s)
 
+  -- at the end of the code, with the value in A
+  done : {p h a b : ℕ} {s : State} {v : Mach} {x : Value} → Rel Γ p h s v → v .regs .c ≡ a → Code Γ a [] b → Has x (v .regs .a)
+      → Runs Γ (Valued Γ b) 0 p h h s v (ok x s)
+  done {h = h} r c k has = over Γ (le-refl h) r (record { at = c ∙ at-end Γ k; has = has })
+
   module _ (fits : Fits Γ) (q : Sem) (ih : Sims Γ q) where
     -- a part, paid by its own step
     pub part : (e : Expr) (n : ℕ) {p h a b : ℕ} {s : State} {v : Mach} → Code Γ a (exprCode (suc (F Γ)) h n e) b → FormedE (F Γ) (S Γ) h e
@@ -89,7 +94,7 @@ module _ (Γ : Env) where
     unfolding evaluated exprCode
     sim-constant x p h n a b s v k f pc r =
         cut-number Γ k λ b₁ i₁ k₁.
-        weaken Γ (step-L Γ (fits .sized) (le-refl h) r pc i₁ λ w r₁ c₁ e₁. over Γ (le-refl h) r₁ (record { at = c₁ ∙ at-end Γ k₁; has = has-word e₁ })) (omega arith)
+        weaken Γ (step-L Γ (fits .sized) (le-refl h) r pc i₁ λ w r₁ c₁ e₁. done r₁ c₁ k₁ (has-word e₁)) (omega arith)
 
     pub sim-local : (x : ℕ) → GoalE q (R.local x)
     unfolding evaluated exprCode
@@ -98,7 +103,7 @@ module _ (Γ : Env) where
         post-read (s .cells (p + x)) s λ y g.
         let l : p + x < p + h = live-below Γ r (p + x) (λ z. gone-holds z g) in
         weaken Γ (step-LIP Γ (fits .sized) (le-refl h) r pc i₁ (omega (arith, r .room)) λ w r₁ c₁ e₁ _ _.
-        over Γ (le-refl h) r₁ (record { at = c₁ ∙ at-end Γ k₁; has = has-word (e₁ ∙ r .vals (p + x) y g) })) (omega arith)
+        done r₁ c₁ k₁ (has-word (e₁ ∙ r .vals (p + x) y g))) (omega arith)
 
     pub sim-global : (x : ℕ) → GoalE q (R.global x)
     unfolding evaluated exprCode
@@ -107,21 +112,21 @@ module _ (Γ : Env) where
         post-read (s .cells (16 + x)) s λ y g.
         let l : 16 + x < p + h = live-below Γ r (16 + x) (λ z. gone-holds z g) in
         weaken Γ (step-LIG Γ (fits .sized) (le-refl h) r pc i₁ (omega (arith, r .room)) λ w r₁ c₁ e₁.
-        over Γ (le-refl h) r₁ (record { at = c₁ ∙ at-end Γ k₁; has = has-word (e₁ ∙ r .vals (16 + x) y g) })) (omega arith)
+        done r₁ c₁ k₁ (has-word (e₁ ∙ r .vals (16 + x) y g))) (omega arith)
 
     pub sim-function : (x : ℕ) → GoalE q (R.function x)
     unfolding evaluated exprCode FormedE
     sim-function x p h n a b s v k f pc r =
         cut-address Γ k λ b₁ _ i₁ k₁.
         weaken Γ (step-L Γ (fits .sized) (le-refl h) r pc i₁ λ w r₁ c₁ e₁.
-        over Γ (le-refl h) r₁ (record { at = c₁ ∙ at-end Γ k₁; has = has-word (e₁ ∙ fits .functions x f) })) (omega arith)
+        done r₁ c₁ k₁ (has-word (e₁ ∙ fits .functions x f))) (omega arith)
 
     pub sim-string : (x : ℕ) → GoalE q (R.string x)
     unfolding evaluated exprCode FormedE
     sim-string x p h n a b s v k f pc r =
         cut-address Γ k λ b₁ _ i₁ k₁.
         weaken Γ (step-L Γ (fits .sized) (le-refl h) r pc i₁ λ w r₁ c₁ e₁.
-        over Γ (le-refl h) r₁ (record { at = c₁ ∙ at-end Γ k₁; has = has-word (e₁ ∙ fits .strings x f) })) (omega arith)
+        done r₁ c₁ k₁ (has-word (e₁ ∙ fits .strings x f))) (omega arith)
 
     pub sim-addressOfLocal : (x : ℕ) → GoalE q (R.addressOfLocal x)
     unfolding evaluated exprCode FormedE
@@ -129,7 +134,7 @@ module _ (Γ : Env) where
         cut-number Γ k λ b₁ i₁ k₁.
         let l : x < h = f in
         weaken Γ (step-LP Γ (fits .sized) (le-refl h) r pc i₁ (omega (arith, r .room, fits .sized .slack, fits .sized .most)) λ w r₁ c₁ e₁.
-        over Γ (le-refl h) r₁ (record { at = c₁ ∙ at-end Γ k₁; has = has-word e₁ })) (omega arith)
+        done r₁ c₁ k₁ (has-word e₁)) (omega arith)
 
     pub sim-addressOfGlobal : (x : ℕ) → GoalE q (R.addressOfGlobal x)
     unfolding evaluated exprCode FormedE
@@ -137,7 +142,7 @@ module _ (Γ : Env) where
         cut-number Γ k λ b₁ i₁ k₁.
         let l : x < 400 = f in
         weaken Γ (step-LG Γ (fits .sized) (le-refl h) r pc i₁ (omega arith) λ w r₁ c₁ e₁.
-        over Γ (le-refl h) r₁ (record { at = c₁ ∙ at-end Γ k₁; has = has-word e₁ })) (omega arith)
+        done r₁ c₁ k₁ (has-word e₁)) (omega arith)
 
     pub sim-addressOfContents : (e : Expr) → GoalE q (R.addressOfContents e)
     unfolding evaluated exprCode FormedE
@@ -153,7 +158,7 @@ module _ (Γ : Env) where
         weaken Γ (then Γ (le-refl h) (part e n k₁ f pc r) λ x s₁ v₁ x₁ y₁.
         post-demand (y₁ .has) λ w a₁. post-read (s₁ .cells w) s₁ λ y g.
         step-X1 Γ (fits .sized) (le-refl h) (x₁ .rel) (y₁ .at) i₂ a₁ g λ v₂ r₂ c₂ a₂.
-        over Γ (le-refl h) r₂ (record { at = c₂ ∙ at-end Γ k₃; has = has-word a₂ })) (omega arith)
+        done r₂ c₂ k₃ (has-word a₂)) (omega arith)
 
     -- two operands: the left one waits in the word of the height, the right one is in A
     pub sim-two : (d e : Expr) (n : ℕ) {Q : Value → Mach → Type 0} {t p h c₀ c₁ c₂ c₃ : ℕ} {s : State} {v : Mach} (more : ℕ → ℕ → State → Result Value)
@@ -182,7 +187,7 @@ module _ (Γ : Env) where
         cut-number Γ k₅ λ b₆ i₆ k₆.
         weaken Γ (sim-two d e n _ k₁ i₂ k₄ f pc r λ x y u w r₁ c₁ m₁ a₁ l.
         step-AIP Γ (fits .sized) (le-refl h) r₁ c₁ i₆ (omega arith) λ v₂ r₂ c₂ a₂ _.
-        over Γ (le-refl h) r₂ (record { at = c₂ ∙ at-end Γ k₆; has = has-word (omega (arith, a₂, a₁, m₁)) })) (omega arith)
+        done r₂ c₂ k₆ (has-word (omega (arith, a₂, a₁, m₁)))) (omega arith)
 
     pub sim-index : (d e : Expr) → GoalE q (R.index d e)
     unfolding evaluated exprCode FormedE
@@ -197,7 +202,7 @@ module _ (Γ : Env) where
         step-AIP Γ (fits .sized) (le-refl h) r₁ c₁ i₆ (omega arith) λ v₂ r₂ c₂ a₂ _.
         let sum : v₂ .regs .a ≡ add x y = omega (arith, a₂, a₁, m₁) in
         step-X1 Γ (fits .sized) (le-refl h) r₂ c₂ i₇ sum g λ v₃ r₃ c₃ a₃.
-        over Γ (le-refl h) r₃ (record { at = c₃ ∙ at-end Γ k₇; has = has-word a₃ })) (omega arith)
+        done r₃ c₃ k₇ (has-word a₃)) (omega arith)
 
     pub sim-binary : (o : ℕ) (d e : Expr) → GoalE q (R.binary o d e)
     unfolding evaluated exprCode FormedE
@@ -237,13 +242,13 @@ module _ (Γ : Env) where
             → Code Γ b₁ (monadicAct o) b → Runs Γ (Valued Γ b) 1 p h h u v₁ (ok (word (applyMonadic o w)) u)
         finish w u v₁ true m t t′ r₁ c₁ a₁ k₂ =
             cut-number Γ (rw m at k₂) λ b₃ i₃ k₃.
-            rw m (step-X2 Γ (fits .sized) (le-refl h) r₁ c₁ i₃ λ v₂ r₂ c₂ a₂. over Γ (le-refl h) r₂ (record { at = c₂ ∙ at-end Γ k₃; has = has-word (a₂ ∙ ap neg a₁) }))
+            rw m (step-X2 Γ (fits .sized) (le-refl h) r₁ c₁ i₃ λ v₂ r₂ c₂ a₂. done r₂ c₂ k₃ (has-word (a₂ ∙ ap neg a₁)))
         finish w u v₁ false m true t′ r₁ c₁ a₁ k₂ =
             cut-number Γ (rw (m, t′) at k₂) λ b₃ i₃ k₃.
-            rw (m, t′) (step-X3 Γ (fits .sized) (le-refl h) r₁ c₁ i₃ λ v₂ r₂ c₂ a₂. over Γ (le-refl h) r₂ (record { at = c₂ ∙ at-end Γ k₃; has = has-word (a₂ ∙ ap complement a₁) }))
+            rw (m, t′) (step-X3 Γ (fits .sized) (le-refl h) r₁ c₁ i₃ λ v₂ r₂ c₂ a₂. done r₂ c₂ k₃ (has-word (a₂ ∙ ap complement a₁)))
         finish w u v₁ false m false t′ r₁ c₁ a₁ k₂ =
             let k₃ : Code Γ _ [] b = rw (m, t′) at k₂ in
-            rw (m, t′) (weaken Γ (over Γ (le-refl h) r₁ (record { at = c₁ ∙ at-end Γ k₃; has = has-word a₁ })) (omega arith))
+            rw (m, t′) (weaken Γ (done r₁ c₁ k₃ (has-word a₁)) (omega arith))
 
     -- what VALOF makes of its command's end
     valof-end : {p h b n a : ℕ} {s : State} {v : Mach} (w : Flow) → Rel Γ p h s v → Where Γ a (inValof n) w v → Γ .lab n ≡ a → a ≡ b
