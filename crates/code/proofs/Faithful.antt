@@ -41,8 +41,8 @@ module _ (source : List ℕ) (good : Good source) (memory room first : ℕ) (acc
       record {
         globals = λ n l. ended-globals fs ss _ memory input (runs .fuel) s (runs .over) n l (omega (arith, stands .past-start));
         constants = λ k i l m.
-            let above = W.string-above fs ss memory room first image table stands k l in
-            let below = W.string-below fs ss memory room first image table stands k l in
+            let above = W.string-above stands k l in
+            let below = W.string-below stands k l in
             ended-strings fs ss _ memory input (runs .fuel) s (runs .over) k i l (addresses-length table (suc (length fs)) (length ss)) m (omega arith) (omega arith);
       }
 
@@ -51,9 +51,9 @@ module _ (source : List ℕ) (good : Good source) (memory room first : ℕ) (acc
       (run first (assembled (textOf source) memory room .memory) input output budget)
   unfolding image table
   owed output budget =
-      follows (Γ (functionsIn source) (stringsIn source) memory room first image table input stands) (stringsIn source)
+      follows (Γ input stands) (stringsIn source)
       (omega (arith, stands .fills, stands .least)) (omega (arith, stands .fills, stands .most)) _ s refl
-      (finishes (functionsIn source) (stringsIn source) memory room first image table input stands (good .formed) (runs .fuel) s (runs .over) below) holding output budget
+      (finishes input stands (good .formed) (runs .fuel) s (runs .over) below) holding output budget
 
 pub faithful : (source : List ℕ) → Good source → Faithful source (textOf source)
 faithful source good = record { follows = λ memory room first accepted input s runs below output budget. owed source good memory room first accepted input s runs below output budget }

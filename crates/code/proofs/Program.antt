@@ -193,7 +193,9 @@ built fs ss memory room first sound h =
       fills = a .fills;
     }
 
-module _ (fs : List Fun) (ss : List (List ℕ)) (memory room first : ℕ) (mem : List ℕ) (table : List Label) (input : List ℕ) (b : Built fs ss memory room first mem table) where
+module _
+    {fs : List Fun} {ss : List (List ℕ)} {memory room first : ℕ} {mem : List ℕ} {table : List Label} (input : List ℕ)
+    (b : Built fs ss memory room first mem table) where
   abbrev pub fcode : List Item
   fcode = functionsCode (suc (length fs)) 1 (suc (length fs) + length ss) fs
 

@@ -81,9 +81,11 @@ string-cells Γ table same x l (cs ∷ ss) {a} {b} h (next (is-label t e) (next 
     let z : addressOf table l ≡ a = same l h ∙ t in
     rw (z, e) (one-string (packed cs) (stringCell ss (addressesFrom table (suc l) (length ss)) x) f g (code-up Γ (suc l) ss k) r)
 
-module _ (fs : List Fun) (ss : List (List ℕ)) (memory room first : ℕ) (mem : List ℕ) (table : List Label) (input : List ℕ) (b : Built fs ss memory room first mem table) where
+module _
+    {fs : List Fun} {ss : List (List ℕ)} {memory room first : ℕ} {mem : List ℕ} {table : List Label} (input : List ℕ)
+    (b : Built fs ss memory room first mem table) where
   abbrev pub Γ : Env
-  Γ = G.env fs ss memory room first mem table input b
+  Γ = G.env input b
 
   abbrev pub s₀ : State
   s₀ = atStart fs ss (Γ .place)
@@ -92,11 +94,11 @@ module _ (fs : List Fun) (ss : List (List ℕ)) (memory room first : ℕ) (mem :
   v₀ = record { regs = startRegisters first; mem = mem; bytes = [] }
 
   abbrev stringsEnd : ℕ
-  stringsEnd = past (G.codeEnd fs ss memory room first mem table input b) (stringsCode (suc (length fs)) ss)
+  stringsEnd = past (G.codeEnd input b) (stringsCode (suc (length fs)) ss)
 
-  cells-of : (x : ℕ) → Stringed mem (G.codeEnd fs ss memory room first mem table input b) stringsEnd x (stringCell ss (Γ .place .strings) x)
+  cells-of : (x : ℕ) → Stringed mem (G.codeEnd input b) stringsEnd x (stringCell ss (Γ .place .strings) x)
   cells-of x =
-      string-cells Γ table (G.same-address fs ss memory room first mem table input b) x (suc (length fs)) ss (omega arith) (G.standing fs ss memory room first mem table input b .strings)
+      string-cells Γ table (G.same-address input b) x (suc (length fs)) ss (omega arith) (G.standing input b .strings)
 
   pub starts : first + 2 ≤ memory - 8 → Rel Γ first 2 s₀ v₀
   unfolding cellsAtStart
@@ -105,10 +107,10 @@ module _ (fs : List Fun) (ss : List (List ℕ)) (memory room first : ℕ) (mem :
     frame-at = refl;
     globals-at = refl;
     room = l;
-    base = G.code-below fs ss memory room first mem table input b;
+    base = G.code-below input b;
     vals = λ a w g. val a w (leb 16 a) refl (ltb a 416) refl g;
-    above = λ a k. out a (omega arith) (cells-of a .past-end (omega (arith, G.strings-first fs ss memory room first mem table input b)));
-    code-gone = λ a c. lost a (ltb a 16) refl (leb 416 a) refl (ltb a (G.codeEnd fs ss memory room first mem table input b)) refl c;
+    above = λ a k. out a (omega arith) (cells-of a .past-end (omega (arith, G.strings-first input b)));
+    code-gone = λ a c. lost a (ltb a 16) refl (leb 416 a) refl (ltb a (G.codeEnd input b)) refl c;
     bytes = refl;
     taken = refl;
   }
@@ -125,9 +127,9 @@ module _ (fs : List Fun) (ss : List (List ℕ)) (memory room first : ℕ) (mem :
           let t : a < 416 = ltb-true a 416 eq in
           let z : 16 + (a - 16) ≡ a = omega arith in
           let k : getD (globalsWith fs (Γ .place .entries) noGlobals) (a - 16) 0 ≡ w = cc in
-          (rw z at (G.global-word fs ss memory room first mem table input b (a - 16) (omega arith))) ∙ k
+          (rw z at (G.global-word input b (a - 16) (omega arith))) ∙ k
 
-      lost : (a : ℕ) → (p : Bool) → ltb a 16 ≡ p → (q : Bool) → leb 416 a ≡ q → (r : Bool) → ltb a (G.codeEnd fs ss memory room first mem table input b) ≡ r
+      lost : (a : ℕ) → (p : Bool) → ltb a 16 ≡ p → (q : Bool) → leb 416 a ≡ q → (r : Bool) → ltb a (G.codeEnd input b) ≡ r
           → cond p true (cond q r false) ≡ true → s₀ .cells a ≡ gone
       lost a true ep q eq r er g = let u : a < 16 = ltb-true a 16 ep in rw (lt-leb 16 a u) refl
       lost a false ep true eq true er g = out a (leb-true 416 a eq) (cells-of a .before (ltb-true a _ er))
@@ -153,7 +155,7 @@ module _ (fs : List Fun) (ss : List (List ℕ)) (memory room first : ℕ) (mem :
 
   module _ (formed : (k : ℕ) → k < length fs → FormedF (length fs) (length ss) (2 + getD fs k noFun .parameters) (getD fs k noFun .body)) where
     abbrev fits : Fits Γ
-    fits = G.fits fs ss memory room first mem table input b formed
+    fits = G.fits input b formed
 
     -- the call of START, from word 0 on
     runs : (fuel : ℕ) → Runs Γ (Valued Γ 2) 5 first 2 2 s₀ v₀ (runWith fuel fs ss (Γ .place) (memory - 8) input)
@@ -165,9 +167,9 @@ module _ (fs : List Fun) (ss : List (List ℕ)) (memory room first : ℕ) (mem :
             (called fs (Γ .place) (memory - 8) input (sem fs (Γ .place) (memory - 8) input fuel) (getD (globalsWith fs (Γ .place .entries) noGlobals) 1 0) (first + 2) [] s₀)
         go (yes l) = not-called (memory - 8) (first + 2) _ _ s₀ l
         go (no l) =
-            step-LIG Γ (fits .sized) (le-refl 2) (starts (omega arith)) refl (G.start-0 fs ss memory room first mem table input b) (omega (arith, b .least)) λ w r c a.
+            step-LIG Γ (fits .sized) (le-refl 2) (starts (omega arith)) refl (G.start-0 input b) (omega (arith, b .least)) λ w r c a.
             sim-called Γ fits (sem fs (Γ .place) (memory - 8) input fuel) (sims Γ fits fuel) (getD (globalsWith fs (Γ .place .entries) noGlobals) 1 0) [] r c
-            (G.start-1 fs ss memory room first mem table input b) (a ∙ G.global-word fs ss memory room first mem table input b 1 (omega arith)) (holding-none (w .mem) (first + 2 + 2))
+            (G.start-1 input b) (a ∙ G.global-word input b 1 (omega arith)) (holding-none (w .mem) (first + 2 + 2))
 
     -- a source run that ends below the last eight words is followed to a finish
     pub finishes : (fuel : ℕ) (s : State) → Over (runWith fuel fs ss (Γ .place) memory input) s → s .used + 8 ≤ memory → Ends Γ 5 s₀ v₀ s
@@ -182,7 +184,7 @@ module _ (fs : List Fun) (ss : List (List ℕ)) (memory room first : ℕ) (mem :
           n = e .sim .n;
           goes = e .sim .goes;
           past = 3;
-          finish = rw (e .is .at) (G.start-2 fs ss memory room first mem table input b);
+          finish = rw (e .is .at) (G.start-2 input b);
           agree = e .sim .rel .agree;
           vals = e .sim .rel .vals;
           bytes = e .sim .rel .bytes;

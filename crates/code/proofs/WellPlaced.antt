@@ -174,9 +174,10 @@ table-defined (l ∷ ls) k n h = rw (table-defined ls k n h) refl
 
 -- ---- the rules
 
-module _ (fs : List Fun) (ss : List (List ℕ)) (memory room first : ℕ) (mem : List ℕ) (table : List Label) (b : Built fs ss memory room first mem table) where
+module _
+    {fs : List Fun} {ss : List (List ℕ)} {memory room first : ℕ} {mem : List ℕ} {table : List Label} (b : Built fs ss memory room first mem table) where
   abbrev Γ : Env
-  Γ = G.env fs ss memory room first mem table [] b
+  Γ = G.env [] b
 
   pub labelled : (n : ℕ) → 1 ≤ n → n ≤ length fs + length ss → defined table n ≡ true
   unfolding itemsOf
@@ -198,10 +199,10 @@ module _ (fs : List Fun) (ss : List (List ℕ)) (memory room first : ℕ) (mem :
   up = functions-up memory room (suc (length fs)) 1 (suc (length fs) + length ss) fs _ 416 2 [] (b .lays)
 
   entry : (k : ℕ) → k < length fs → getD (addressesFrom table 1 (length fs)) k 0 ≡ addressOf (b .labels) (1 + k)
-  entry k l = G.addresses-at table 1 (length fs) k l ∙ G.same-address fs ss memory room first mem table [] b (1 + k) (omega arith)
+  entry k l = G.addresses-at table 1 (length fs) k l ∙ G.same-address [] b (1 + k) (omega arith)
 
   string-entry : (k : ℕ) → k < length ss → getD (addressesFrom table (suc (length fs)) (length ss)) k 0 ≡ addressOf (b .labels) (suc (length fs) + k)
-  string-entry k l = G.addresses-at table (suc (length fs)) (length ss) k l ∙ G.same-address fs ss memory room first mem table [] b (suc (length fs) + k) (omega arith)
+  string-entry k l = G.addresses-at table (suc (length fs)) (length ss) k l ∙ G.same-address [] b (suc (length fs) + k) (omega arith)
 
   pub entries-differ : (i j : ℕ) → i < length fs → j < length fs → getD (addressesFrom table 1 (length fs)) i 0 ≡ getD (addressesFrom table 1 (length fs)) j 0 → i ≡ j
   entries-differ i j h k e =
@@ -217,15 +218,15 @@ module _ (fs : List Fun) (ss : List (List ℕ)) (memory room first : ℕ) (mem :
   entry-high i h = rw (entry i h) (up .low i h)
 
   string-here : (i : ℕ) → i < length ss
-      → StringAt mem (G.codeEnd fs ss memory room first mem table [] b) (past (G.codeEnd fs ss memory room first mem table [] b) (stringsCode (suc (length fs)) ss))
+      → StringAt mem (G.codeEnd [] b) (past (G.codeEnd [] b) (stringsCode (suc (length fs)) ss))
       (getD (addressesFrom table (suc (length fs)) (length ss)) i 0) (packed (getD ss i []))
-  string-here i h = rw (string-entry i h) (string-at Γ (suc (length fs)) ss (G.standing fs ss memory room first mem table [] b .strings) i h)
+  string-here i h = rw (string-entry i h) (string-at Γ (suc (length fs)) ss (G.standing [] b .strings) i h)
 
   pub string-above : (i : ℕ) → i < length ss → 416 ≤ getD (addressesFrom table (suc (length fs)) (length ss)) i 0
-  string-above i h = omega (arith, string-here i h .low, past-more 416 (G.fcode fs ss memory room first mem table [] b))
+  string-above i h = omega (arith, string-here i h .low, past-more 416 (G.fcode [] b))
 
   pub string-below : (i : ℕ) → i < length ss → getD (addressesFrom table (suc (length fs)) (length ss)) i 0 + length (packed (getD ss i [])) ≤ first
-  string-below i h = omega (arith, string-here i h .high, G.strings-first fs ss memory room first mem table [] b)
+  string-below i h = omega (arith, string-here i h .high, G.strings-first [] b)
 
   pub string-in-place : (i : ℕ) → i < length ss
       → take (length (packed (getD ss i []))) (drop (getD (addressesFrom table (suc (length fs)) (length ss)) i 0) mem) ≡ packed (getD ss i [])
@@ -241,7 +242,7 @@ module _ (fs : List Fun) (ss : List (List ℕ)) (memory room first : ℕ) (mem :
   pub string-apart : (i j : ℕ) → i < j → j < length ss
       → getD (addressesFrom table (suc (length fs)) (length ss)) i 0 + length (packed (getD ss i [])) ≤ getD (addressesFrom table (suc (length fs)) (length ss)) j 0
   string-apart i j l h =
-      rw (string-entry i (omega arith), string-entry j h) (strings-apart Γ (suc (length fs)) ss (G.standing fs ss memory room first mem table [] b .strings) i j l h)
+      rw (string-entry i (omega arith), string-entry j h) (strings-apart Γ (suc (length fs)) ss (G.standing [] b .strings) i j l h)
 
 module _ (source : List ℕ) (good : Good source) (memory room first : ℕ) (accepted : assembled (textOf source) memory room .answer ≡ Accepted first) where
   stands : Built (functionsIn source) (stringsIn source) memory room first (assembled (textOf source) memory room .memory) (assembled (textOf source) memory room .table)
@@ -257,12 +258,12 @@ module _ (source : List ℕ) (good : Good source) (memory room first : ℕ) (acc
   -- the placement, wherever the text is assembled
   pub well-placed : WellPlaced source (placementOf source (assembled (textOf source) memory room .table) first) (assembled (textOf source) memory room .table) (assembled (textOf source) memory room .memory)
   well-placed = record {
-    labelled = labelled (functionsIn source) (stringsIn source) memory room first _ _ stands;
-    entries-differ = λ i j h k e. entries-differ (functionsIn source) (stringsIn source) memory room first _ _ stands i j (omega (arith, entries-count)) (omega (arith, entries-count)) e;
-    not-read = λ i h e. let l = entry-high (functionsIn source) (stringsIn source) memory room first _ _ stands i (omega (arith, entries-count)) in omega arith;
-    not-write = λ i h e. let l = entry-high (functionsIn source) (stringsIn source) memory room first _ _ stands i (omega (arith, entries-count)) in omega arith;
-    above = λ i h. string-above (functionsIn source) (stringsIn source) memory room first _ _ stands i (omega (arith, strings-count));
-    below = λ i h. string-below (functionsIn source) (stringsIn source) memory room first _ _ stands i (omega (arith, strings-count));
-    in-place = λ i h. string-in-place (functionsIn source) (stringsIn source) memory room first _ _ stands i (omega (arith, strings-count));
-    apart = λ i j l h. inl (string-apart (functionsIn source) (stringsIn source) memory room first _ _ stands i j l (omega (arith, strings-count)));
+    labelled = labelled stands;
+    entries-differ = λ i j h k e. entries-differ stands i j (omega (arith, entries-count)) (omega (arith, entries-count)) e;
+    not-read = λ i h e. let l = entry-high stands i (omega (arith, entries-count)) in omega arith;
+    not-write = λ i h e. let l = entry-high stands i (omega (arith, entries-count)) in omega arith;
+    above = λ i h. string-above stands i (omega (arith, strings-count));
+    below = λ i h. string-below stands i (omega (arith, strings-count));
+    in-place = λ i h. string-in-place stands i (omega (arith, strings-count));
+    apart = λ i j l h. inl (string-apart stands i j l (omega (arith, strings-count)));
   }
