@@ -15,7 +15,8 @@ use Rattle.code.specs.Generate.{exprCode, exprLabels, localsCode, locals
 use Rattle.code.proofs.Results.{post-demand}
 use Rattle.code.proofs.Machine.{Mach}
 use Rattle.code.proofs.Standing.{Env, Code, cut, cut-number, at-end}
-use Rattle.code.proofs.Related.{gone-holds, Like, Rel, Sim, Runs, after, then, weaken, paid, lower, reaching-on, open-scope, close-scope, put-same, put-other, ticked}
+use Rattle.code.proofs.Related.{gone-holds, Like, Rel, Sim, Runs, after, then, weaken, paid, lower, reaching-on, open-scope, close-scope}
+use Rattle.code.proofs.Related.{put-same, put-other, ticked}
 use Rattle.code.proofs.Steps.{step-LP, step-SP}
 use Rattle.language.proofs.Formed.{FormedC, FormedL}
 use Rattle.code.proofs.Goals.{F, S, Fits, Sims}

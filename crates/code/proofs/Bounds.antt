@@ -8,7 +8,8 @@ use lib.Dec.{eqb}
 use lib.ListN.{length, length-append}
 use Rattle.language.specs.Kinds.{IF, WHILE, UNTIL, REPEATWHILE}
 use Rattle.language.specs.Tree as T
-use Rattle.language.specs.Tree.{Label, Expression, Expressions, Suffixes, Operations, Command, Commands, Unlabelled, Repeats, Function, Declaration, Program}
+use Rattle.language.specs.Tree.{Label, Expression, Expressions, Suffixes, Operations, Command, Commands, Unlabelled, Repeats, Function, Declaration}
+use Rattle.language.specs.Tree.{Program}
 use Rattle.language.specs.Names as N
 use Rattle.language.specs.Names.{Found, Scope, opened, declared, lookup}
 use Rattle.language.specs.Constants.{forVector, judgedWord}
@@ -22,12 +23,12 @@ use Rattle.language.specs.Program.{declarationFunctions, functionsFrom}
 use Rattle.language.specs.Fine.{Fine, FineList, FineSuffixes, FineOperations, FineCommand, FineCommands, FineUnlabelled, FineRepeats, FineLocals}
 use Rattle.language.specs.Fine.{FineBody, FineFunctions, FineDeclaration, FineProgram}
 use Rattle.language.proofs.Cases.{by-monadic, by-leaving, by-guard, by-side}
-use Rattle.language.proofs.Tokens.{not-bare, started, started-tokens, labelsTokens, tokens, listTokens, suffixesTokens, operationsTokens, commandTokens}
-use Rattle.language.proofs.Tokens.{commandsTokens, unlabelledTokens, repeatsTokens, localsTokens, bodyTokens, functionsTokens, declarationTokens}
-use Rattle.language.proofs.Tokens.{programTokens}
+use Rattle.language.proofs.Tokens.{not-bare, started, started-tokens, labelsTokens, tokens, listTokens, suffixesTokens, operationsTokens}
+use Rattle.language.proofs.Tokens.{commandTokens, commandsTokens, unlabelledTokens, repeatsTokens, localsTokens, bodyTokens, functionsTokens}
+use Rattle.language.proofs.Tokens.{declarationTokens, programTokens}
 use Rattle.language.proofs.Resolving.{cases-before}
-use Rattle.code.specs.Generate.{commandsIn, exprLabels, exprsLabels, targetLabels, pairsLabels, cmdLabels, cmdsLabels, casesLabels, localsLabels}
-use Rattle.code.specs.Generate.{bodyLabels}
+use Rattle.code.specs.Generate.{commandsIn, exprLabels, exprsLabels, targetLabels, pairsLabels, cmdLabels, cmdsLabels, casesLabels}
+use Rattle.code.specs.Generate.{localsLabels, bodyLabels}
 use Rattle.language.specs.Whole.{funs}
 use Rattle.code.proofs.Measures.{funLabels, funWords}
 use Rattle.code.proofs.WordCounts.{exprWords, exprsWords, targetWords, pairsWords, cmdWords, cmdsWords, casesWords, localsWords, bodyWords}
@@ -207,8 +208,11 @@ module _ (strings : ℕ) (text : List ℕ) where
   unfolding groupOf resolved funs funLabels funWords functionsTokens FineFunctions
   few-group k before s [] f = omega arith
   few-group k before s (x ∷ fs) f =
-      omega (arith, few-body (inside s x) (2 + length (x .parameters)) (x .body) (f .0 .body),
-      few-group (k + 1) (withFunction before (x .name) k (startOf (lookup text before (x .name)))) s fs (f .1))
+      omega (
+        arith,
+        few-body (inside s x) (2 + length (x .parameters)) (x .body) (f .0 .body),
+        few-group (k + 1) (withFunction before (x .name) k (startOf (lookup text before (x .name)))) s fs (f .1),
+      )
 
   few-declaration : (w : Walk) (d : Declaration) → FineDeclaration strings d
       → Few (declarationTokens 3 d) (declarationTokens 1 d) (declarationFunctions text w d)

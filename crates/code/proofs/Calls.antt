@@ -15,13 +15,16 @@ use Rattle.language.specs.Resolved as R
 use Rattle.language.specs.Resolved.{Expr, Exprs, Body}
 use Rattle.language.specs.Heights.{count}
 use Rattle.language.specs.State.{Value, absent, State, Result, ok, forget}
-use Rattle.language.specs.Run.{Flow, normal, broke, looped, ended, gave, Sem, evaluated, arguments, called, received, sent, enterAt, runBody, ofFunction, ofRoutine, parameters, positionOf, noFun, nth}
+use Rattle.language.specs.Run.{Flow, normal, broke, looped, ended, gave, Sem, evaluated, arguments, called, received, sent, enterAt, runBody}
+use Rattle.language.specs.Run.{ofFunction, ofRoutine, parameters, positionOf, noFun, nth}
 use Rattle.code.specs.Generate.{exprCode, exprsCode, exprsLabels, cmdCode, bodyCode, nowhereElse, X}
-use Rattle.code.proofs.Results.{Post, p-unfinished, p-undefined, p-finished, p-returned, p-ok, post-cond, post-demand, has-none, has-word, has-same}
+use Rattle.code.proofs.Results.{Post, p-unfinished, p-undefined, p-finished, p-returned, p-ok, post-cond, post-demand, has-none, has-word}
+use Rattle.code.proofs.Results.{has-same}
 use Rattle.code.proofs.Machine.{Mach}
 use Rattle.code.proofs.Standing.{Env, At, Code, cut, cut-number, at-end}
 use Rattle.code.proofs.Instructions.{do-LI, do-X27, do-X28, sum-P}
-use Rattle.code.proofs.Related.{Rel, Ends, Runs, seq-sim, ends-from, more-ends, then, weaken, reaching, reaching-in, raise, sink, sink-rel, like-rel, spoken, quiet}
+use Rattle.code.proofs.Related.{Rel, Ends, Runs, seq-sim, ends-from, more-ends, then, weaken, reaching, reaching-in, raise, sink, sink-rel}
+use Rattle.code.proofs.Related.{like-rel, spoken, quiet}
 use Rattle.language.proofs.Formed.{FormedE, FormedF}
 use Rattle.code.proofs.Goals.{F, S, Fits, Valued, Where, w-normal, Sims}
 use Rattle.code.proofs.Expressions.{GoalE, part}

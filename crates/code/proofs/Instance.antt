@@ -13,22 +13,23 @@ use Rattle.machine.specs.Acts as A
 use Rattle.machine.specs.Step as S
 use Rattle.machine.specs.Run.{run, steps, resume}
 use Rattle.items.proofs.Rendered.{AllSound}
-use Rattle.items.specs.Render.{numeral, numeralOf, operandText, baseText, indirectText, letter, plainText, characterText, charactersText, render, renderLines, renderAll}
+use Rattle.items.specs.Render.{numeral, numeralOf, operandText, baseText, indirectText, letter, plainText, characterText, charactersText, render}
+use Rattle.items.specs.Render.{renderLines, renderAll}
 use Rattle.language.specs.Heights.{count, heightWith}
 use Rattle.language.specs.Resolved as R
-use Rattle.language.specs.Resolved.{Fun, inGlobal}
+use Rattle.language.specs.Resolved.{Fun, inGlobal, hasDefault, casesOf, caseCount}
 use Rattle.language.specs.Run.{Placement, noFun}
-use Rattle.language.specs.Resolved.{hasDefault}
 use Rattle.language.specs.Whole.{refusalOf, functionsIn, stringsIn, atStart, runWith, Over, byReturn, SourceRunEnds}
 use Rattle.language.specs.Program.{accepted}
 use Rattle.language.proofs.Whole.{ranBytes, judgedBytes}
-use Rattle.code.specs.Generate.{commandsIn, exprLabels, bodyLabels, monadicAct, dyadicAct, defaultOf, pairsOf, tableOf, exprCode, exprsCode, cmdCode, bodyCode, functionsCode, stringsCode, startsCode, itemsOf, textOf}
-use Rattle.language.specs.Resolved.{casesOf, caseCount}
+use Rattle.code.specs.Generate.{commandsIn, exprLabels, bodyLabels, monadicAct, dyadicAct, defaultOf, pairsOf, tableOf, exprCode, exprsCode}
+use Rattle.code.specs.Generate.{cmdCode, bodyCode, functionsCode, stringsCode, startsCode, itemsOf, textOf}
 use Rattle.language.proofs.Formed.{FormedE, FormedA, FormedC, FormedF}
 use Rattle.text.specs.Line.{refusal, lineOf, newlines}
 use Rattle.text.specs.Quoted.{quoted, character, byDigits, byNumber, escape}
 use Rattle.items.specs.Reader.{head, byte, optional, digits, digitCount, decimal}
-use Rattle.items.specs.Read.{ended, quotedCharacter, quotedString, negative, quotation, labelled, positive, operand, base, labelItem, instructionItem, constantItem, stringItem, globalItem, functionOf, item}
+use Rattle.items.specs.Read.{ended, quotedCharacter, quotedString, negative, quotation, labelled, positive, operand, base, labelItem, instructionItem}
+use Rattle.items.specs.Read.{constantItem, stringItem, globalItem, functionOf, item}
 use Rattle.items.specs.Scan.{gaps, mark, trailing, body, scan}
 use Rattle.assembler.specs.Words.{operandInRange, inRange, short, size, operandWord, words}
 use Rattle.text.specs.Packed.{pairs}
@@ -56,7 +57,8 @@ unfolding source stringsIn ranBytes
 strings-are = refl
 
 text-is : renderAll (itemsOf (start ∷ []) []) ≡ bytes "$\n1:\nL65\nSP4\nLIG14\nK2\nX4\nG1L1\nZ\n"
-unfolding start exprCode exprsCode cmdCode bodyCode functionsCode stringsCode startsCode itemsOf numeral numeralOf operandText baseText indirectText letter plainText characterText charactersText render renderLines renderAll
+unfolding start exprCode exprsCode cmdCode bodyCode functionsCode stringsCode startsCode itemsOf numeral numeralOf operandText baseText indirectText
+    letter plainText characterText charactersText render renderLines renderAll
 text-is = refl
 
 sounds : AllSound (itemsOf (start ∷ []) [])
@@ -96,11 +98,17 @@ unfolding textOf
 written = rw (functions-are, strings-are) text-is
 
 pub answers : assembled (bytes "$\n1:\nL65\nSP4\nLIG14\nK2\nX4\nG1L1\nZ\n") 512 4 .answer ≡ Accepted 421
-unfolding lineOf newlines refusal quoted character byNumber byDigits escape head byte optional digits digitCount decimal ended quotedCharacter quotedString negative quotation labelled positive operand base labelItem instructionItem constantItem stringItem globalItem functionOf item gaps mark trailing body scan operandInRange inRange short size pairs operandWord words defined addressOf noted misplaced fault lay uses known unknowns noGlobals globalsAfter globals program image refuse accept assembled
+unfolding lineOf newlines refusal quoted character byNumber byDigits escape head byte optional digits digitCount decimal ended quotedCharacter
+    quotedString negative quotation labelled positive operand base labelItem instructionItem constantItem stringItem globalItem functionOf item gaps
+    mark trailing body scan operandInRange inRange short size pairs operandWord words defined addressOf noted misplaced fault lay uses known unknowns
+    noGlobals globalsAfter globals program image refuse accept assembled
 answers = refl
 
 tables : assembled (bytes "$\n1:\nL65\nSP4\nLIG14\nK2\nX4\nG1L1\nZ\n") 512 4 .table ≡ record { number = 1; address = 416 } ∷ vacant ∷ vacant ∷ vacant ∷ []
-unfolding lineOf newlines refusal quoted character byNumber byDigits escape head byte optional digits digitCount decimal ended quotedCharacter quotedString negative quotation labelled positive operand base labelItem instructionItem constantItem stringItem globalItem functionOf item gaps mark trailing body scan operandInRange inRange short size pairs operandWord words defined addressOf noted misplaced fault lay uses known unknowns noGlobals globalsAfter globals program image refuse accept assembled
+unfolding lineOf newlines refusal quoted character byNumber byDigits escape head byte optional digits digitCount decimal ended quotedCharacter
+    quotedString negative quotation labelled positive operand base labelItem instructionItem constantItem stringItem globalItem functionOf item gaps
+    mark trailing body scan operandInRange inRange short size pairs operandWord words defined addressOf noted misplaced fault lay uses known unknowns
+    noGlobals globalsAfter globals program image refuse accept assembled
 tables = refl
 
 place : Placement
@@ -142,7 +150,11 @@ record MachineRuns : Type 0 where
   writes : run 421 (assembled (bytes "$\n1:\nL65\nSP4\nLIG14\nK2\nX4\nG1L1\nZ\n") 512 4 .memory) [] (7 ∷ []) 100 .state .out ≡ 65 ∷ []
 
 machine-runs : MachineRuns
-unfolding value wordOf M.read M.write fetch A.indirected A.returned A.combined A.search A.switched A.received A.sent S.keep S.stored S.called S.jumped S.perform S.execute S.step steps resume lineOf newlines refusal quoted character byNumber byDigits escape head byte optional digits digitCount decimal ended quotedCharacter quotedString negative quotation labelled positive operand base labelItem instructionItem constantItem stringItem globalItem functionOf item gaps mark trailing body scan operandInRange inRange short size pairs operandWord words defined addressOf noted misplaced fault lay uses known unknowns noGlobals globalsAfter globals program image refuse accept assembled
+unfolding value wordOf M.read M.write fetch A.indirected A.returned A.combined A.search A.switched A.received A.sent S.keep S.stored S.called S.jumped
+    S.perform S.execute S.step steps resume lineOf newlines refusal quoted character byNumber byDigits escape head byte optional digits digitCount
+    decimal ended quotedCharacter quotedString negative quotation labelled positive operand base labelItem instructionItem constantItem stringItem
+    globalItem functionOf item gaps mark trailing body scan operandInRange inRange short size pairs operandWord words defined addressOf noted
+    misplaced fault lay uses known unknowns noGlobals globalsAfter globals program image refuse accept assembled
 machine-runs = record { stops = refl; counts = refl; writes = refl }
 
 -- every budget and every room, by the theorem
@@ -160,7 +172,10 @@ abbrev pub full : Refusal
 full = record { number = 25; line = 2; place = 2 }
 
 pub refuses : assembled (bytes "$\n1:\nL65\nSP4\nLIG14\nK2\nX4\nG1L1\nZ\n") 512 0 .answer ≡ Refused full
-unfolding lineOf newlines refusal quoted character byNumber byDigits escape head byte optional digits digitCount decimal ended quotedCharacter quotedString negative quotation labelled positive operand base labelItem instructionItem constantItem stringItem globalItem functionOf item gaps mark trailing body scan operandInRange inRange short size pairs operandWord words defined addressOf noted misplaced fault lay uses known unknowns noGlobals globalsAfter globals program image refuse accept assembled
+unfolding lineOf newlines refusal quoted character byNumber byDigits escape head byte optional digits digitCount decimal ended quotedCharacter
+    quotedString negative quotation labelled positive operand base labelItem instructionItem constantItem stringItem globalItem functionOf item gaps
+    mark trailing body scan operandInRange inRange short size pairs operandWord words defined addressOf noted misplaced fault lay uses known unknowns
+    noGlobals globalsAfter globals program image refuse accept assembled
 refuses = refl
 
 -- ---- a source with each kind of label: it is accepted, and this is its text
@@ -173,5 +188,7 @@ unfolding several refusalOf judgedBytes
 several-accepted = refl
 
 several-text : textOf several ≡ bytes "$\n1:\nLIP2\nX23\nD2\nDL7\nD1\nDL6\nD2\nDL6\n6:\nL66\nJL4\n7:\nJL5\n5:\nL67\nJL4\n4:\nX4\n2:\nLL3\nSP2\n8:\nL1\nSP7\nLL1\nK5\nSP5\nLIG14\nK3\nLIP2\nSP3\nL0\nSP4\nLIP3\nLIP4\nX10\nFL11\nJL9\nJL12\n11:\nJL10\n12:\n9:\nJL8\n10:\nL1\nSP3\nL2\nSP4\n13:\nLIP3\nLIP4\nX15\nFL15\n16:\nL65\nSP7\nLIG14\nK5\n17:\nLIP3\nSP5\nL5\nSP6\nLIP5\nLIP6\nX14\nTL16\n18:\n14:\nLIP3\nA1\nSP3\nJL13\n15:\nX4\n3:\nC\"AB\"\nG1L2\nZ\n"
-unfolding several textOf functionsIn stringsIn ranBytes exprLabels bodyLabels count heightWith hasDefault commandsIn monadicAct dyadicAct casesOf caseCount defaultOf pairsOf tableOf exprCode exprsCode cmdCode bodyCode functionsCode stringsCode startsCode itemsOf numeral numeralOf operandText baseText indirectText letter plainText characterText charactersText render renderLines renderAll
+unfolding several textOf functionsIn stringsIn ranBytes exprLabels bodyLabels count heightWith hasDefault commandsIn monadicAct dyadicAct casesOf
+    caseCount defaultOf pairsOf tableOf exprCode exprsCode cmdCode bodyCode functionsCode stringsCode startsCode itemsOf numeral numeralOf operandText
+    baseText indirectText letter plainText characterText charactersText render renderLines renderAll
 several-text = refl

@@ -10,7 +10,8 @@ use lib.ListN.{length, length-append}
 use borrow.Author.Tests.{lt-ltb}
 use Rattle.items.specs.Item as I
 use Rattle.items.specs.Item.{Operand, number, address, Base, Item, label, instruction, constant}
-use Rattle.items.specs.Render.{numeral, numeralOf, operandText, baseText, indirectText, plainText, characterText, charactersText, render, renderLines, renderAll}
+use Rattle.items.specs.Render.{numeral, numeralOf, operandText, baseText, indirectText, plainText, characterText, charactersText, render, renderLines}
+use Rattle.items.specs.Render.{renderAll}
 use Rattle.items.proofs.Sound.{Sound, SoundOperand}
 use Rattle.items.proofs.Rendered.{AllSound}
 use Rattle.language.specs.Resolved.{Fun}

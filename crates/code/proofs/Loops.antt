@@ -15,15 +15,18 @@ use Rattle.machine.specs.Acts as M
 use Rattle.language.specs.Resolved as R
 use Rattle.language.specs.Resolved.{Expr, Cmd}
 use Rattle.language.specs.State.{gone, holds, State, Result, ok, bind, readCell}
-use Rattle.language.specs.Run.{Flow, normal, broke, looped, ended, gave, Loop, whiling, repeating, repeatingWhile, counting, Sem, executed, turned, around, isTrue, same}
+use Rattle.language.specs.Run.{Flow, normal, broke, looped, ended, gave, Loop, whiling, repeating, repeatingWhile, counting, Sem, executed, turned}
+use Rattle.language.specs.Run.{around, isTrue, same}
 use Rattle.code.specs.Generate.{Exits, inLoop, exprCode, exprLabels, cmdCode, cmdLabels, limitAct}
 use Rattle.code.proofs.Results.{post-cond, post-demand, post-reading, post-write}
 use Rattle.code.proofs.Machine.{Mach}
 use Rattle.code.proofs.Standing.{Env, cut, cut-number, cut-address, cut-label, at-end}
-use Rattle.code.proofs.Related.{Rel, Sim, Runs, after, then, weaken, paid, lower, over, reaching, reaching-on, close-scope, raise, like-rel, put-other, ticked}
+use Rattle.code.proofs.Related.{Rel, Sim, Runs, after, then, weaken, paid, lower, over, reaching, reaching-on, close-scope, raise, like-rel}
+use Rattle.code.proofs.Related.{put-other, ticked}
 use Rattle.code.proofs.Steps.{step-LIP, step-SP, step-A, step-J, step-F, step-when, step-unless, step-dyadic, cell-P}
 use Rattle.language.proofs.Formed.{FormedC}
-use Rattle.code.proofs.Goals.{F, Fits, Where, w-normal, w-broke, w-looped, w-ended, w-gave, Turning, at-while, at-repeat, at-repeatWhile, at-for, inner, lastTest, Sims}
+use Rattle.code.proofs.Goals.{F, Fits, Where, w-normal, w-broke, w-looped, w-ended, w-gave, Turning, at-while, at-repeat, at-repeatWhile}
+use Rattle.code.proofs.Goals.{at-for, inner, lastTest, Sims}
 use Rattle.code.proofs.Expressions.{part}
 use Rattle.code.proofs.Commands.{GoalC, as-wanted, not-wanted}
 use Rattle.code.proofs.Blocks.{new-word}

@@ -12,8 +12,8 @@ use Rattle.items.specs.Item.{Item, label, instruction, constant}
 use Rattle.assembler.specs.Words.{size, short}
 use Rattle.language.specs.Kinds.{MINUS, NOT}
 use Rattle.language.specs.Resolved as R
-use Rattle.language.specs.Resolved.{CaseLabel, Expr, Exprs, Target, Pairs, Cmd, Cmds, Cases, Locals, Body, Fun, Start, nowhere, inGlobal}
-use Rattle.language.specs.Resolved.{casesOf, caseCount}
+use Rattle.language.specs.Resolved.{CaseLabel, Expr, Exprs, Target, Pairs, Cmd, Cmds, Cases, Locals, Body, Fun, Start, nowhere, inGlobal, casesOf}
+use Rattle.language.specs.Resolved.{caseCount}
 use Rattle.language.specs.Heights.{count, heightWith}
 use Rattle.language.proofs.Cases.{by-cond}
 use Rattle.code.specs.Generate.{Exits, inLoop, inSwitch, inValof, monadicAct, commandsIn, exprLabels, exprsLabels, targetLabels, pairsLabels}

@@ -19,7 +19,8 @@ use Rattle.assembler.specs.Layout.{defined, addressOf, noted, laid, refused, on
 use Rattle.assembler.specs.Assemble.{program}
 use Rattle.assembler.proofs.Operands.{number-below, label-range}
 use Rattle.assembler.proofs.Faults.{no-fault-ranged, no-fault-placed, label-placed}
-use Rattle.code.proofs.Standing.{Env, At, Is, is-number, is-address, is-label, is-word, is-place, is-string, is-global, is-minus, is-negative, Code, end, next}
+use Rattle.code.proofs.Standing.{Env, At, Is, is-number, is-address, is-label, is-word, is-place, is-string, is-global, is-minus, is-negative}
+use Rattle.code.proofs.Standing.{Code, end, next}
 use Rattle.code.proofs.Fetching.{short-bits, long-bits, fetch-short, fetch-long}
 use Rattle.language.proofs.Cases.{clash}
 

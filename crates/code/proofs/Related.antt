@@ -14,7 +14,8 @@ use Rattle.items.specs.Item as I
 use Rattle.machine.specs.State as M
 use Rattle.language.specs.State.{Cell, gone, holds, State, Result, ok, bind, step, put, forget}
 use Rattle.language.specs.Run.{reach}
-use Rattle.code.proofs.Results.{Post, p-unfinished, p-ok, p-returned, p-finished, p-undefined, post-map, post-bind, post-cond, Live, live-unset, live-holds}
+use Rattle.code.proofs.Results.{Post, p-unfinished, p-ok, p-returned, p-finished, p-undefined, post-map, post-bind, post-cond, Live}
+use Rattle.code.proofs.Results.{live-unset, live-holds}
 use Rattle.code.proofs.Machine.{Mach, Goes, goes-not, goes-on}
 use Rattle.code.proofs.Standing.{Env, Agree, At}
 use Rattle.code.proofs.Instructions.{withMem}

@@ -13,10 +13,11 @@ use Rattle.items.proofs.Rendered.{AllSound}
 use Rattle.assembler.specs.Words.{operandInRange, inRange}
 use Rattle.language.specs.Kinds.{MINUS, NOT, STAR, SLASH, REM, PLUS, EQUAL, UNEQUAL, LESS, ATMOST, MORE, ATLEAST, LEFT, RIGHT, AMPERSAND, BAR}
 use Rattle.language.specs.Resolved as R
-use Rattle.language.specs.Resolved.{CaseLabel, Expr, Exprs, Target, Pairs, Cmd, Cmds, Cases, Locals}
+use Rattle.language.specs.Resolved.{CaseLabel, Expr, Exprs, Target, Pairs, Cmd, Cmds, Cases, Locals, hasDefault}
 use Rattle.language.specs.Heights.{count, heightWith, ofExpr, ofExprs, ofTarget, ofPairs, ofCmd, ofCmds, ofCases, ofLocals}
-use Rattle.language.specs.Resolved.{hasDefault}
-use Rattle.code.specs.Generate.{Exits, inLoop, inSwitch, inValof, nowhereElse, monadicAct, dyadicAct, limitAct, commandsIn, exprLabels, exprsLabels, targetLabels, pairsLabels, cmdLabels, cmdsLabels, casesLabels, localsLabels, defaultOf, pairsOf, tableOf, exprCode, exprsCode, targetCode, pairsCode, cmdCode, cmdsCode, casesCode, localsCode}
+use Rattle.code.specs.Generate.{Exits, inLoop, inSwitch, inValof, nowhereElse, monadicAct, dyadicAct, limitAct, commandsIn, exprLabels}
+use Rattle.code.specs.Generate.{exprsLabels, targetLabels, pairsLabels, cmdLabels, cmdsLabels, casesLabels, localsLabels, defaultOf, pairsOf}
+use Rattle.code.specs.Generate.{tableOf, exprCode, exprsCode, targetCode, pairsCode, cmdCode, cmdsCode, casesCode, localsCode}
 use Rattle.language.proofs.Leaving.{LeavesE, LeavesA, LeavesT, LeavesP, LeavesC, LeavesB, LeavesS, LeavesL}
 use Rattle.language.proofs.Formed.{FormedCases, FormedE, FormedA, FormedT, FormedP, FormedC, FormedB, FormedS, FormedL}
 use Rattle.language.proofs.Cases.{clash}

@@ -17,7 +17,8 @@ use Rattle.language.specs.State.{holds, State, Result, put}
 use Rattle.code.proofs.Results.{Live}
 use Rattle.code.proofs.Machine.{Mach, Goes}
 use Rattle.code.proofs.Standing.{Env, At, sumOf}
-use Rattle.code.proofs.Instructions.{withRegs, do-L, do-LI, do-S, do-SI, do-A, do-AI, do-J, do-T, do-F, do-X1, do-X2, do-X3, do-dyadic, sum-none, sum-P, sum-G}
+use Rattle.code.proofs.Instructions.{withRegs, do-L, do-LI, do-S, do-SI, do-A, do-AI, do-J, do-T, do-F, do-X1, do-X2, do-X3, do-dyadic}
+use Rattle.code.proofs.Instructions.{sum-none, sum-P, sum-G}
 use Rattle.code.proofs.Related.{Rel, Runs, after, quiet, temp, cell, live-below, gone-holds, gone-live}
 
 -- the memory has eight words above every frame

@@ -13,13 +13,10 @@ use Rattle.words.specs.Words.{add}
 use Rattle.machine.specs.Outcome as O
 use Rattle.machine.specs.Acts.{search}
 use Rattle.language.specs.Resolved as R
-use Rattle.language.specs.Resolved.{Expr, CaseLabel, Cases}
+use Rattle.language.specs.Resolved.{Expr, CaseLabel, Cases, hasDefault, hasCase, casesOf, caseCount}
 use Rattle.language.specs.State.{State, ok}
 use Rattle.language.specs.Run.{Flow, normal, broke, looped, ended, gave, Sem, executed, cases, from, orNone, orElse, selected, afterSwitch}
-use Rattle.language.specs.Resolved.{hasDefault}
-use Rattle.language.specs.Resolved.{hasCase}
 use Rattle.code.specs.Generate.{Exits, inSwitch, exprCode, exprLabels, cmdCode, cmdLabels, casesCode, pairsOf, tableOf, defaultOf, commandsIn}
-use Rattle.language.specs.Resolved.{casesOf, caseCount}
 use Rattle.code.proofs.Results.{post-demand}
 use Rattle.code.proofs.Machine.{Mach}
 use Rattle.code.proofs.Standing.{Env, Agree, Word, Code, end, cut, cut-number, cut-label, cut-word, cut-place, at-end}

@@ -9,7 +9,8 @@ use lib.Dec.{eqb}
 use Rattle.language.specs.Kinds.{NOT}
 use Rattle.language.specs.Binding.{NEGATION}
 use Rattle.language.specs.Reader.{Source, is}
-use Rattle.language.specs.Expressions.{Inside, operand, products, sums, relations, shifts, negations, conjunctions, disjunctions, chain, monadic, expression}
+use Rattle.language.specs.Expressions.{Inside, operand, products, sums, relations, shifts, negations, conjunctions, disjunctions, chain}
+use Rattle.language.specs.Expressions.{monadic, expression}
 
 -- the binding of the right operands
 abbrev pub rightOf : (binding : ℕ) → ℕ

@@ -13,8 +13,8 @@ use Rattle.language.specs.Expressions.{Readers, Inside}
 use Rattle.language.specs.Commands as C
 use Rattle.language.specs.Grammar as G
 use Rattle.language.specs.Grammar.{within, treeOf}
-use Rattle.language.proofs.Depth.{depth, expressionsDepth, commandDepth, commandsDepth, unlabelledDepth, repeatsDepth, localsDepth}
-use Rattle.language.proofs.Depth.{bodyDepth, functionsDepth, declarationDepth, programDepth}
+use Rattle.language.proofs.Depth.{depth, expressionsDepth, commandDepth, commandsDepth, unlabelledDepth, repeatsDepth, localsDepth, bodyDepth}
+use Rattle.language.proofs.Depth.{functionsDepth, declarationDepth, programDepth}
 use Rattle.language.proofs.Levels.{InsideOf, within-of}
 use Rattle.language.proofs.Gives.{Of, given, refused, answer, refusal, give, bind, on, related, both, opened, many-of, items-of, further-of}
 use Rattle.language.proofs.Depths.{Deep, Low, LowPut, LowReaders, expression}

@@ -14,7 +14,8 @@ use Rattle.language.specs.Heights as H
 use Rattle.language.specs.Program.{globalsAfter, functionsAfter, declaredBy, resolved, afterDeclaration, groupOf, functionsFrom, functionsOf}
 use Rattle.language.specs.State.{holds, Value, State, Result, unfinished, undefined, finished, returned, ok, bind}
 use Rattle.language.specs.Run.{Placement, positionOf, called, evaluated, assigned, assignedAll, sequence, declared, executed, sem}
-use Rattle.language.specs.Whole.{funs, functionsIn, stringsAmong, stringsIn, globalsWith, stringCell, cellsAtStart, atStart, runWith, byReturn, SourceRunEnds}
+use Rattle.language.specs.Whole.{funs, functionsIn, stringsAmong, stringsIn, globalsWith, stringCell, cellsAtStart, atStart, runWith, byReturn}
+use Rattle.language.specs.Whole.{SourceRunEnds}
 use Rattle.language.proofs.Texts.{answer}
 use Rattle.language.proofs.Runs.{Held}
 use Rattle.language.proofs.Fuel.{more-fuel, one-end}
@@ -54,7 +55,9 @@ record Computed : Type 0 where
   used : end .used ≡ 20006
 
 computed : Computed
-unfolding end answer sameBytes lookup judge declareAll sideOf scopeAfter R.expression H.heightWith globalsAfter functionsAfter declaredBy resolved afterDeclaration groupOf functionsFrom functionsOf funs functionsIn stringsAmong stringsIn globalsWith stringCell cellsAtStart runWith bind positionOf called evaluated assigned assignedAll sequence declared executed sem noGlobals pairs
+unfolding end answer sameBytes lookup judge declareAll sideOf scopeAfter R.expression H.heightWith globalsAfter functionsAfter declaredBy resolved
+    afterDeclaration groupOf functionsFrom functionsOf funs functionsIn stringsAmong stringsIn globalsWith stringCell cellsAtStart runWith bind
+    positionOf called evaluated assigned assignedAll sequence declared executed sem noGlobals pairs
 computed = record { ends = record { fuel = 20; over = byReturn }; over = λ e. subst IsOver e tt; strings = refl; stored = refl; used = refl }
 
 -- with any more fuel the run is the same

@@ -5,7 +5,8 @@ use mathlib.Core.Bool.{true, false}
 use mathlib.Core.List.{[], _∷_}
 use Rattle.language.specs.Kinds as K
 use Rattle.language.specs.Tree as T
-use Rattle.language.specs.Tree.{Name, Command, Expression, Constant, noExpressions, andExpression, noSuffixes, noOperations, operation, command, noRepeats, noCommands, andCommand, noLocals}
+use Rattle.language.specs.Tree.{Name, Command, Expression, Constant, noExpressions, andExpression, noSuffixes, noOperations, operation, command}
+use Rattle.language.specs.Tree.{noRepeats, noCommands, andCommand, noLocals}
 use Rattle.language.specs.Source.{Read, read}
 use Rattle.language.proofs.Texts.{programIn}
 

@@ -14,7 +14,8 @@ use Rattle.language.specs.Kinds as K
 use Rattle.language.specs.Kinds.{member}
 use Rattle.language.specs.Symbols.{Symbol}
 use Rattle.language.specs.Semicolons.{seconds, semicolon}
-use Rattle.language.specs.Reader.{Source, Out, ok, no, Reader, onOut, _>>=_, return, symbolAt, kindAt, is, unexpected, any, here, the, optional, aName, manyUpTo, many, moreUpTo, items, isComma, furtherItems, oneUpToClose, upToClose}
+use Rattle.language.specs.Reader.{Source, Out, ok, no, Reader, onOut, _>>=_, return, symbolAt, kindAt, is, unexpected, any, here, the, optional}
+use Rattle.language.specs.Reader.{aName, manyUpTo, many, moreUpTo, items, isComma, furtherItems, oneUpToClose, upToClose}
 use Rattle.language.proofs.Local as L
 use Rattle.language.proofs.Local.{Local, Ahead, took, refused, self, ended, none-here}
 use Rattle.language.proofs.Cases.{clash}

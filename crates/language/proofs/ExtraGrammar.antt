@@ -8,8 +8,8 @@ use lib.ListN.{length}
 use lib.Dec.{eqb}
 use Rattle.language.specs.Kinds as K
 use Rattle.language.specs.Kinds.{member}
-use Rattle.language.specs.Binding.{bindingOf, RELATION, LOOSEST, isMonadic, reachOf, isSuffix, isLabel, isGuard, isLeave}
-use Rattle.language.specs.Binding.{isRepeat, goesOnAssignment, isDeclaration, beginsCommand}
+use Rattle.language.specs.Binding.{bindingOf, RELATION, LOOSEST, isMonadic, reachOf, isSuffix, isLabel, isGuard, isLeave, isRepeat}
+use Rattle.language.specs.Binding.{goesOnAssignment, isDeclaration, beginsCommand}
 use Rattle.language.specs.Tree as T
 use Rattle.language.specs.Tree.{Name, Label, Expression, isCall, count}
 use Rattle.language.specs.Symbols.{Symbol}
@@ -20,10 +20,10 @@ use Rattle.language.specs.Commands as C
 use Rattle.language.specs.Grammar as G
 use Rattle.language.proofs.Local as L
 use Rattle.language.proofs.Levels.{InsideOf, none-left, some-left, within-of, by-binding}
-use Rattle.language.proofs.Extra.{others, flush, near, noneOf, none-of, blind, barred, refuses, Keeps, KeepsAt, keeps-return}
-use Rattle.language.proofs.Extra.{keeps-unexpected, keeps-near, keeps-flush, at-any, keeps-cond, at-cond, keeps-choice, after, at-after}
-use Rattle.language.proofs.Extra.{keeps-any, at-symbol, at-made, keeps-here, keeps-the, keeps-name, keeps-optional, keeps-fixed, keeps-many}
-use Rattle.language.proofs.Extra.{keeps-items, keeps-further, keeps-up-to-close}
+use Rattle.language.proofs.Extra.{others, flush, near, noneOf, none-of, blind, barred, refuses, Keeps, KeepsAt, keeps-return, keeps-unexpected}
+use Rattle.language.proofs.Extra.{keeps-near, keeps-flush, at-any, keeps-cond, at-cond, keeps-choice, after, at-after, keeps-any, at-symbol}
+use Rattle.language.proofs.Extra.{at-made, keeps-here, keeps-the, keeps-name, keeps-optional, keeps-fixed, keeps-many, keeps-items}
+use Rattle.language.proofs.Extra.{keeps-further, keeps-up-to-close}
 
 -- most readers start flush and end near
 abbrev Reads : {A : Type 0} → Reader A → Type 0

@@ -12,7 +12,8 @@ use Rattle.text.specs.Quoted as Q
 use Rattle.text.specs.Quoted.{Quoted, closed, wider, after, onCharacter, quoted}
 use Rattle.language.specs.Bytes.{QUOTE, DOUBLE, classOf}
 use Rattle.language.specs.Kinds.{NUMBER, STRING}
-use Rattle.language.specs.Symbols.{Symbol, Element, symbol, gap, wrong, character, string, byClass, Fault, none, fault, Scan, ends, onElement, scanFrom, scan}
+use Rattle.language.specs.Symbols.{Symbol, Element, symbol, gap, wrong, character, string, byClass, Fault, none, fault, Scan, ends, onElement}
+use Rattle.language.specs.Symbols.{scanFrom, scan}
 use Rattle.language.specs.Brackets.{Matching, matched, unmatched, firstFault, brackets}
 use Rattle.language.specs.Strings.{numbered}
 use Rattle.language.specs.Semicolons.{semicolons}

@@ -13,13 +13,16 @@ use Rattle.language.specs.Constants.{Fault, judge}
 use Rattle.language.specs.Resolved.{Body, Start, nowhere, inGlobal}
 use Rattle.language.specs.Faults.{twice}
 use Rattle.language.specs.Program as P
-use Rattle.language.specs.Program.{globalsAfter, manifestsAfter, startOf, withFunction, functionsAfter, declaredBy, inside, bodyOf, resolved, bodyFaults, functionFaults, Walk, afterDeclaration, groupNameFaults, groupFaults, declarationFaults, Named, groupOf, declarationFunctions, faultsFrom, functionsFrom, begin, functionsOf, faultsOfProgram}
+use Rattle.language.specs.Program.{globalsAfter, manifestsAfter, startOf, withFunction, functionsAfter, declaredBy, inside, bodyOf, resolved}
+use Rattle.language.specs.Program.{bodyFaults, functionFaults, Walk, afterDeclaration, groupNameFaults, groupFaults, declarationFaults, Named}
+use Rattle.language.specs.Program.{groupOf, declarationFunctions, faultsFrom, functionsFrom, begin, functionsOf, faultsOfProgram}
 use Rattle.language.specs.Run.{noFun}
 use Rattle.language.specs.Whole.{funs}
 use Rattle.language.specs.Fine.{FineBody, FineFunctions, FineItems, FineDeclaration, FineProgram}
 use Rattle.language.proofs.Formed.{FormedF}
 use Rattle.language.proofs.Leaving.{none-left, none-right, LeavesF, leave-e, leave-c}
-use Rattle.language.proofs.Resolving.{KnownFound, lookup-known, Scoped, scoped-up, declared-all, judge-word, word-below, within-most, form-e, form-c}
+use Rattle.language.proofs.Resolving.{KnownFound, lookup-known, Scoped, scoped-up, declared-all, judge-word, word-below, within-most, form-e}
+use Rattle.language.proofs.Resolving.{form-c}
 
 -- a function starts in a global, if in any
 abbrev pub FormedStart : Start → Type 0

@@ -5,8 +5,8 @@ use mathlib.Core.Bool.{Bool, true, false, cond}
 use lib.ListN.{length}
 use borrow.Author.Tests.{eqb-true}
 use Rattle.language.specs.Kinds.{COMMA, SEMICOLON, CLOSE, END}
-use Rattle.language.specs.Reader.{Source, Out, ok, no, Reader, onOut, kindAt, is, unexpected, the, manyUpTo, many, moreUpTo, items}
-use Rattle.language.specs.Reader.{isComma, furtherItems, oneUpToClose, upToClose}
+use Rattle.language.specs.Reader.{Source, Out, ok, no, Reader, onOut, kindAt, is, unexpected, the, manyUpTo, many, moreUpTo, items, isComma}
+use Rattle.language.specs.Reader.{furtherItems, oneUpToClose, upToClose}
 use Rattle.language.specs.Expressions.{Readers, Inside, opening}
 use Rattle.language.proofs.Levels.{InsideOf, none-left, some-left}
 

@@ -15,12 +15,16 @@ use Rattle.language.specs.Names as N
 use Rattle.language.specs.Names.{Found, Scope, opened, declared, lookup}
 use Rattle.language.specs.Constants.{Fault, fault, forVector, judgedWord}
 use Rattle.language.specs.Resolve as E
-use Rattle.language.specs.Resolve.{declareAll, ofMeaning, sideOf, targetOf, addressOf, under, pairUp, valuesBefore, scopeAfter, labelsBefore, leaving}
+use Rattle.language.specs.Resolve.{declareAll, ofMeaning, sideOf, targetOf, addressOf, under, pairUp, valuesBefore, scopeAfter, labelsBefore}
+use Rattle.language.specs.Resolve.{leaving}
 use Rattle.language.specs.Resolved as R
 use Rattle.language.specs.Resolved.{Expr, Exprs, Target, Pairs, Cmd, Cmds, Cases, Locals, Body}
-use Rattle.language.specs.Faults.{Leavable, inLoop, inSwitch, inValof, repeated, unless, leaves, inExpression, inSuffixes, inOperations, inExpressions, inRightSides, inSides, inCommand, inCase, inRepeats, inUnlabelled, inLocals, inCommands, inCases}
+use Rattle.language.specs.Faults.{Leavable, inLoop, inSwitch, inValof, repeated, unless, leaves, inExpression, inSuffixes, inOperations}
+use Rattle.language.specs.Faults.{inExpressions, inRightSides, inSides, inCommand, inCase, inRepeats, inUnlabelled, inLocals, inCommands}
+use Rattle.language.specs.Faults.{inCases}
 use Rattle.language.proofs.Cases.{clash, by-monadic, by-side}
-use Rattle.language.specs.Fine.{Fine, FineList, FineSuffixes, FineOperations, FineCommand, FineCommands, FineUnlabelled, FineRepeats, FineLocals}
+use Rattle.language.specs.Fine.{Fine, FineList, FineSuffixes, FineOperations, FineCommand, FineCommands, FineUnlabelled, FineRepeats}
+use Rattle.language.specs.Fine.{FineLocals}
 
 -- ---- no refusal at all is none on either side
 

@@ -8,7 +8,8 @@ use lib.ListN.{length, List·getD-eq-default}
 use lib.Dec.{eqb}
 use Rattle.language.specs.Kinds as K
 use Rattle.language.specs.Symbols.{Symbol}
-use Rattle.language.specs.Reader.{Source, Out, ok, no, Reader, onOut, _>>=_, return, symbolAt, kindAt, is, unexpected, any, here, the, manyUpTo, many, moreUpTo, items}
+use Rattle.language.specs.Reader.{Source, Out, ok, no, Reader, onOut, _>>=_, return, symbolAt, kindAt, is, unexpected, any, here, the, manyUpTo}
+use Rattle.language.specs.Reader.{many, moreUpTo, items}
 
 -- two sources have the same symbols at all positions up to one, the end included
 pub record Agree (s t : Source) (p : ℕ) : Type 0 where

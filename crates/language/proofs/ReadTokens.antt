@@ -13,8 +13,8 @@ use Rattle.language.specs.Kinds.{member}
 use Rattle.language.specs.Binding.{bindingOf, LOOSEST, isMonadic, reachOf, isSuffix, isLabel, isGuard, isLeave, isRepeat, isDeclaration}
 use Rattle.language.specs.Binding.{goesOnAssignment, beginsCommand}
 use Rattle.language.specs.Tree as T
-use Rattle.language.specs.Tree.{Name, Simple, Label, Expression, Expressions, Suffixes, Operations, Commands, Unlabelled, Program}
-use Rattle.language.specs.Tree.{withSuffixes, withOperations, isCall, count}
+use Rattle.language.specs.Tree.{Name, Simple, Label, Expression, Expressions, Suffixes, Operations, Commands, Unlabelled, Program, withSuffixes}
+use Rattle.language.specs.Tree.{withOperations, isCall, count}
 use Rattle.language.specs.Reader.{Source, Out, Reader, kindAt, placeAt, symbolAt, is, unexpected, any, here, items}
 use Rattle.language.specs.Expressions as E
 use Rattle.language.specs.Expressions.{Readers, Inside}
@@ -31,7 +31,8 @@ use Rattle.language.proofs.Levels.{InsideOf, within-of, by-binding}
 use Rattle.language.proofs.Gives as Gives
 use Rattle.language.proofs.Gives.{Answer, answer, refusal, bind, either, opened}
 use Rattle.language.proofs.Takes.{Counts, Solid, Of, given, refused, NameHere, Written, got, take, putting, the-one, the-semicolon}
-use Rattle.language.proofs.Takes.{optional-semicolon, a-name, any-one, again-one, again-the, many-up-to, many-of, items-of, further-of, close-of}
+use Rattle.language.proofs.Takes.{optional-semicolon, a-name, any-one, again-one, again-the, many-up-to, many-of, items-of, further-of}
+use Rattle.language.proofs.Takes.{close-of}
 use Rattle.language.proofs.Cases.{clash}
 
 -- ---- kinds that are symbols, and no semicolons
@@ -337,7 +338,8 @@ module _ {loops : ℕ} (s : Source) (strings : ℕ) (c : ℕ → ℕ) (k : Count
             (λ _. the-items at))
 
     assignment-or-call : (at : ℕ) → OU at (C.assignmentOrCall r s at)
-    unfolding C.assignmentOrCall C.afterExpression C.assignment C.furtherSide C.callCommand FineUnlabelled unlabelledTokens FineList listTokens count unexpected
+    unfolding C.assignmentOrCall C.afterExpression C.assignment C.furtherSide C.callCommand FineUnlabelled unlabelledTokens FineList listTokens count
+        unexpected
     assignment-or-call at =
         take (j .expressions LOOSEST at) λ e n₁ f l₁.
         either (goesOnAssignment (kindAt s n₁))

@@ -11,17 +11,19 @@ use lib.ListN.{length}
 use borrow.Author.Tests.{leb-true}
 use Rattle.language.specs.Kinds.{IF, WHILE, UNTIL, REPEATWHILE}
 use Rattle.language.specs.Tree as T
-use Rattle.language.specs.Tree.{Name, Simple, Constant, Label, Expression, Expressions, Suffixes, Operations, Command, Commands, Unlabelled, Repeats}
+use Rattle.language.specs.Tree.{Name, Simple, Constant, Label, Expression, Expressions, Suffixes, Operations, Command, Commands, Unlabelled}
+use Rattle.language.specs.Tree.{Repeats}
 use Rattle.language.specs.Names as N
 use Rattle.language.specs.Names.{Meaning, Found, Scope, opened, declared, outermost, lookup, sameName}
 use Rattle.language.specs.Constants.{Judged, good, refused, fault, signed, ofFound, ofSimple, judge, within, forVector, judgedWord}
 use Rattle.language.specs.Resolve as E
-use Rattle.language.specs.Resolve.{declareAll, ofMeaning, sideOf, targetOf, addressOf, under, scopeAfter, pairUp, valuesBefore, goodCase, labelsBefore, labelsOf, byOf, leaving}
+use Rattle.language.specs.Resolve.{declareAll, ofMeaning, sideOf, targetOf, addressOf, under, scopeAfter, pairUp, valuesBefore, goodCase}
+use Rattle.language.specs.Resolve.{labelsBefore, labelsOf, byOf, leaving}
 use Rattle.language.specs.Resolved as R
-use Rattle.language.specs.Resolved.{Expr, Exprs, Cmd, Locals}
+use Rattle.language.specs.Resolved.{Expr, Exprs, Cmd, Locals, casesOf, caseCount}
 use Rattle.language.specs.Heights as H
-use Rattle.language.specs.Resolved.{casesOf, caseCount}
-use Rattle.language.specs.Fine.{labelCount, FineConstant, FineBy, FineLabels, Fine, FineList, FineSuffixes, FineOperations, FineCommand, FineCommands, FineUnlabelled, FineRepeats, FineLocals}
+use Rattle.language.specs.Fine.{labelCount, FineConstant, FineBy, FineLabels, Fine, FineList, FineSuffixes, FineOperations, FineCommand}
+use Rattle.language.specs.Fine.{FineCommands, FineUnlabelled, FineRepeats, FineLocals}
 use Rattle.language.proofs.Cases.{by-cond, by-monadic, by-leaving, by-guard, by-side}
 use Rattle.language.proofs.Formed.{FormedCases, FormedE, FormedA, FormedT, FormedP, FormedC, FormedB, FormedS, FormedL}
 

@@ -15,8 +15,12 @@ use Rattle.language.specs.Resolved as R
 use Rattle.language.specs.Resolved.{Expr, Exprs, Target, Pairs, Cmd, Cmds, Cases, Locals, Body, Fun}
 use Rattle.language.specs.Heights.{count, heightWith}
 use Rattle.language.specs.Operators.{applyDyadic}
-use Rattle.language.specs.State.{Cell, gone, unset, holds, Value, absent, word, State, Result, unfinished, undefined, finished, returned, ok, bind, step, readCell, writeCell, demand, forget, put}
-use Rattle.language.specs.Run.{Placement, Sem, Flow, normal, broke, looped, ended, gave, Loop, whiling, repeating, repeatingWhile, counting, onwards, around, valueOf, selected, isTrue, same, goesOn, noFun, positionOf, nth, demandAll, reach, received, sent, atEnd, ofRoutine, runBody, ofFunction, enterAt, called, arguments, two, orUndefined, evaluated, assigned, assignedAll, sequence, cases, declared, tested, leaving, executed, turned, sem, parameters, vectorWords}
+use Rattle.language.specs.State.{Cell, gone, unset, holds, Value, absent, word, State, Result, unfinished, undefined, finished, returned, ok}
+use Rattle.language.specs.State.{bind, step, readCell, writeCell, demand, forget, put}
+use Rattle.language.specs.Run.{Placement, Sem, Flow, normal, broke, looped, ended, gave, Loop, whiling, repeating, repeatingWhile, counting}
+use Rattle.language.specs.Run.{onwards, around, valueOf, selected, isTrue, same, goesOn, noFun, positionOf, nth, demandAll, reach, received}
+use Rattle.language.specs.Run.{sent, atEnd, ofRoutine, runBody, ofFunction, enterAt, called, arguments, two, orUndefined, evaluated, assigned}
+use Rattle.language.specs.Run.{assignedAll, sequence, cases, declared, tested, leaving, executed, turned, sem, parameters, vectorWords}
 
 -- ---- what a relation has to bear
 

@@ -8,8 +8,8 @@ use Rattle.language.specs.Kinds.{SEMICOLON, CLOSE, NAME, NUMBER, STRING}
 use Rattle.language.specs.Binding.{isRepeat}
 use Rattle.language.specs.Tree.{Name}
 use Rattle.language.specs.Fine.{FineName}
-use Rattle.language.specs.Reader.{Source, Out, ok, no, Reader, onOut, symbolAt, kindAt, valueAt, placeAt, is, unexpected, any, the, optional, aName}
-use Rattle.language.specs.Reader.{manyUpTo, many, items, furtherItems, upToClose}
+use Rattle.language.specs.Reader.{Source, Out, ok, no, Reader, onOut, symbolAt, kindAt, valueAt, placeAt, is, unexpected, any, the, optional}
+use Rattle.language.specs.Reader.{aName, manyUpTo, many, items, furtherItems, upToClose}
 use Rattle.language.proofs.Gives as Gives
 use Rattle.language.proofs.Gives.{Answer, refusal, give, either, Put}
 

@@ -8,7 +8,8 @@ use mathlib.Core.Option.{Option, none, some}
 use lib.ListN.{length}
 use Rattle.language.specs.Tree as T
 use Rattle.language.specs.Fine.{EmptyAfterLabels}
-use Rattle.language.specs.Tree.{Constant, Label, Expression, Expressions, Suffixes, Operations, Command, Commands, Unlabelled, Repeats, Locals, Body, Function, Declaration, Program}
+use Rattle.language.specs.Tree.{Constant, Label, Expression, Expressions, Suffixes, Operations, Command, Commands, Unlabelled, Repeats, Locals}
+use Rattle.language.specs.Tree.{Body, Function, Declaration, Program}
 use Rattle.language.proofs.Cases.{clash}
 
 unfoldable pub labelsTokens : List Label → ℕ
