@@ -8,13 +8,13 @@ use lib.Dec.{eqb}
 use borrow.Author.Tests.{not-true, not-false}
 use Rattle.language.specs.Resolved as R
 use Rattle.language.specs.Resolved.{Expr, Pairs, Cmd, Cmds}
-use Rattle.language.specs.State.{State, Result, ok}
+use Rattle.language.specs.State.{State, Result, ok, step}
 use Rattle.language.specs.Run.{Flow, normal, broke, looped, ended, gave, Sem, executed, sequence, onwards, isTrue, same}
 use Rattle.code.specs.Generate.{Exits, exprCode, exprLabels, cmdCode, cmdLabels, cmdsCode}
 use Rattle.code.proofs.Results.{p-returned, p-finished, post-cond, post-demand, has-same}
 use Rattle.code.proofs.Machine.{Mach, goes-not}
 use Rattle.code.proofs.Standing.{Env, Code, cut, cut-number, cut-address, cut-label, at-end}
-use Rattle.code.proofs.Related.{Rel, Runs, then, ending, weaken, paid, over, ticked}
+use Rattle.code.proofs.Related.{Rel, Sim, Runs, at-finish, then, ending, weaken, paid, over, ticked}
 use Rattle.code.proofs.Steps.{step-J, step-F, step-unless}
 use Rattle.language.proofs.Formed.{FormedC, FormedB}
 use Rattle.code.proofs.Goals.{F, S, Fits, Where, w-normal, w-broke, w-looped, w-ended, w-gave, Sims}
@@ -144,30 +144,16 @@ module _ (Γ : Env) where
     unfolding executed cmdCode FormedC
     sim-return p h n a b x s v k f pc r =
         cut-number Γ k λ b₁ i₁ k₁.
-        p-returned (record {
-          h′ = h;
-          v′ = v;
-          sim = record { n = 0; goes = goes-not (Γ .input) v; rel = ticked Γ r; keep = λ y l g. g; frame = λ y l g. refl; time = omega arith };
-          past = b₁;
-          return = rw pc i₁;
-        })
+        p-returned (record { h′ = h; v′ = v; sim = new-step (ticked Γ r); past = b₁; return = rw pc i₁ })
+      where
+        new-step : Rel Γ p h (step s) v → Sim Γ 0 p h h s v (step s) v
+        new-step r = record { n = 0; goes = goes-not (Γ .input) v; rel = r; keep = λ y l g. g; frame = λ y l g. refl; time = omega arith }
 
     pub sim-finish : GoalC q R.finish
     unfolding executed cmdCode
     sim-finish p h n a b x s v k f pc r =
         cut-number Γ k λ b₁ i₁ k₁.
-        p-finished (record {
-          v′ = v;
-          n = 0;
-          goes = goes-not (Γ .input) v;
-          past = b₁;
-          finish = rw pc i₁;
-          agree = r .agree;
-          vals = r .vals;
-          bytes = r .bytes;
-          taken = r .taken;
-          time = omega arith;
-        })
+        p-finished (at-finish Γ {past = b₁} (goes-not (Γ .input) v) (ticked Γ r) (rw pc i₁) (omega arith))
 
     pub sim-sequence : (cs : Cmds) (n : ℕ) {p h a b : ℕ} {x : Exits} {s : State} {v : Mach} → Code Γ a (cmdsCode (suc (F Γ)) h n x cs) b → FormedB (F Γ) (S Γ) h cs
         → v .regs .c ≡ a → Rel Γ p h s v → Runs Γ (Where Γ b x) 0 p h h s v (sequence q cs p h s)

@@ -90,11 +90,14 @@ module _ (Γ : Env) where
         → v .regs .c ≡ a → Rel Γ p h s v → Runs Γ (Valued Γ b) 0 p h h s v (q .evaluate e p h s)
     part e n k f pc r = paid Γ (ih .evaluate e n k f pc r) (omega arith)
 
+    -- a number, or a label's place
+    loads : {p h a b₁ b k x : ℕ} {s : State} {v : Mach} → At Γ a 0 false I.none k b₁ → Code Γ b₁ [] b → k ≡ x → v .regs .c ≡ a → Rel Γ p h s v
+        → Runs Γ (Valued Γ b) 6 p h h s v (ok (word x) s)
+    loads {h = h} i k e pc r = weaken Γ (step-L Γ (fits .sized) (le-refl h) r pc i λ w r₁ c₁ e₁. done r₁ c₁ k (has-word (e₁ ∙ e))) (omega arith)
+
     pub sim-constant : (x : ℕ) → GoalE q (R.constant x)
     unfolding evaluated exprCode
-    sim-constant x p h n a b s v k f pc r =
-        cut-number Γ k λ b₁ i₁ k₁.
-        weaken Γ (step-L Γ (fits .sized) (le-refl h) r pc i₁ λ w r₁ c₁ e₁. done r₁ c₁ k₁ (has-word e₁)) (omega arith)
+    sim-constant x p h n a b s v k f pc r = cut-number Γ k λ b₁ i₁ k₁. loads i₁ k₁ refl pc r
 
     pub sim-local : (x : ℕ) → GoalE q (R.local x)
     unfolding evaluated exprCode
@@ -116,17 +119,11 @@ module _ (Γ : Env) where
 
     pub sim-function : (x : ℕ) → GoalE q (R.function x)
     unfolding evaluated exprCode FormedE
-    sim-function x p h n a b s v k f pc r =
-        cut-address Γ k λ b₁ _ i₁ k₁.
-        weaken Γ (step-L Γ (fits .sized) (le-refl h) r pc i₁ λ w r₁ c₁ e₁.
-        done r₁ c₁ k₁ (has-word (e₁ ∙ fits .functions x f))) (omega arith)
+    sim-function x p h n a b s v k f pc r = cut-address Γ k λ b₁ _ i₁ k₁. loads i₁ k₁ (fits .functions x f) pc r
 
     pub sim-string : (x : ℕ) → GoalE q (R.string x)
     unfolding evaluated exprCode FormedE
-    sim-string x p h n a b s v k f pc r =
-        cut-address Γ k λ b₁ _ i₁ k₁.
-        weaken Γ (step-L Γ (fits .sized) (le-refl h) r pc i₁ λ w r₁ c₁ e₁.
-        done r₁ c₁ k₁ (has-word (e₁ ∙ fits .strings x f))) (omega arith)
+    sim-string x p h n a b s v k f pc r = cut-address Γ k λ b₁ _ i₁ k₁. loads i₁ k₁ (fits .strings x f) pc r
 
     pub sim-addressOfLocal : (x : ℕ) → GoalE q (R.addressOfLocal x)
     unfolding evaluated exprCode FormedE

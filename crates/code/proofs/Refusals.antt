@@ -1,6 +1,6 @@
 -- The compiler's text has a label a source byte at most, and is refused only by 24 or 25: its labels differ and those used are there.
 use Prim.Native.Nat.{ℕ, suc, _+_, _-_, _≤_}
-use mathlib.Core.Path.{_≡_, refl, ap}
+use mathlib.Core.Path.{_≡_, refl}
 use mathlib.Core.Bool.{Bool, true, false, cond}
 use mathlib.Core.Logic.{_⊎_}
 use mathlib.Core.List.{List, [], _∷_, _++_}
@@ -18,15 +18,14 @@ use Rattle.assembler.specs.Layout.{usedBy, uses}
 use Rattle.assembler.specs.Assemble.{assembled}
 use Rattle.assembler.specs.declared.Assembled.the-variants.{Refused}
 use Rattle.assembler.proofs.Rendering.{seen, labelsOf, Clean, AllKnown, rendered-only}
-use Rattle.language.specs.Program.{Named, accepted}
+use Rattle.language.specs.Program.{accepted}
 use Rattle.language.specs.Whole.{refusalOf, funs, functionsIn, stringsIn}
 use Rattle.code.specs.Placed.{labelCount}
-use Rattle.code.specs.Generate.{bodyLabels, itemsOf, textOf}
+use Rattle.code.specs.Generate.{itemsOf, textOf}
 use Rattle.code.proofs.Sounding.{Within, RightOperand, Sounds, s-none, s-more, right-range, all-sound}
 use Rattle.code.proofs.Measures.{sum, marks, funLabels, items-marks}
 use Rattle.language.proofs.Accepted.{Facts, facts}
 use Rattle.code.proofs.GoodSource.{ns, total, few-in-all, total-low, items-sound}
-use Rattle.code.proofs.Bounds.{innerLabels}
 
 -- ---- how many labels
 

@@ -9,7 +9,7 @@ use native.Mathlib.Decide.{ℕ-discrete, decLt}
 use lib.Dec.{leb}
 use lib.ListN.{length, getD, set, length-set}
 use lib.Seq.{getD-set-same, getD-set-other}
-use borrow.Author.Tests.{le-leb, lt-leb, leb-true, ne-eqb, eq-eqb}
+use borrow.Author.Tests.{le-leb, leb-true, ne-eqb, eq-eqb}
 use Rattle.items.specs.Item as I
 use Rattle.machine.specs.State as M
 use Rattle.language.specs.State.{Cell, gone, holds, State, Result, ok, bind, step, put, forget}
@@ -129,6 +129,22 @@ module _ (Γ : Env) where
     bytes = e .bytes;
     taken = e .taken;
     time = f _ _ (e .time);
+  }
+
+  -- a run to a finish
+  pub at-finish : {t p h n past : ℕ} {s s′ : State} {v v′ : Mach} → Goes (Γ .input) n v v′ → Rel p h s′ v′ → At Γ (v′ .regs .c) 7 false I.none 22 past
+      → n + 16 * s .steps ≤ t + 16 * s′ .steps → Ends t s v s′
+  at-finish {n = n} {past = past} {v′ = v′} g r i l = record {
+    v′ = v′;
+    n = n;
+    goes = g;
+    past = past;
+    finish = i;
+    agree = r .agree;
+    vals = r .vals;
+    bytes = r .bytes;
+    taken = r .taken;
+    time = l;
   }
 
   pub more-ends : {t t′ : ℕ} {s s′ : State} {v : Mach} → Ends t s v s′ → t ≤ t′ → Ends t′ s v s′

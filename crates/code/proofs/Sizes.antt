@@ -16,8 +16,7 @@ use Rattle.language.specs.Program.{begin, Named, functionsOf, accepted}
 use Rattle.language.specs.Whole.{refusalOf, funs, functionsIn, stringsIn}
 use Rattle.code.specs.Placed.{wordCount, stringWords}
 use Rattle.code.specs.Generate.{itemsOf, textOf}
-use Rattle.code.proofs.Placing.{past}
-use Rattle.code.proofs.Measures.{sum, textSum, funWords, sum-items, weigh, size-most}
+use Rattle.code.proofs.Measures.{sum, textSum, sum-items, weigh, size-most}
 use Rattle.code.proofs.Bounds.{allWords, few-program}
 use Rattle.language.proofs.Accepted.{Facts, facts}
 use Rattle.code.proofs.GoodSource.{good}

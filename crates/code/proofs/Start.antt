@@ -24,7 +24,7 @@ use Rattle.code.specs.Generate.{stringsCode}
 use Rattle.code.proofs.Results.{Post, p-undefined, p-finished, p-ok, post-cond}
 use Rattle.code.proofs.Machine.{Mach}
 use Rattle.code.proofs.Standing.{Env, Code, is-label, is-string, end, next}
-use Rattle.code.proofs.Related.{Rel, Ends, Reached, Runs}
+use Rattle.code.proofs.Related.{Rel, Ends, Reached, Runs, at-finish}
 use Rattle.code.proofs.Steps.{step-LIG}
 use Rattle.language.proofs.Formed.{FormedF}
 use Rattle.code.proofs.Goals.{Fits, Valued}
@@ -179,18 +179,7 @@ module _
         (runs fuel)
       where
         over : {v : Value} → Reached Γ (Valued Γ 2) 5 first 2 2 s₀ v₀ v s → Ends Γ 5 s₀ v₀ s
-        over e = record {
-          v′ = e .v′;
-          n = e .sim .n;
-          goes = e .sim .goes;
-          past = 3;
-          finish = rw (e .is .at) (G.start-2 input b);
-          agree = e .sim .rel .agree;
-          vals = e .sim .rel .vals;
-          bytes = e .sim .rel .bytes;
-          taken = e .sim .rel .taken;
-          time = e .sim .time;
-        }
+        over e = at-finish Γ {past = 3} (e .sim .goes) (e .sim .rel) (rw (e .is .at) (G.start-2 input b)) (e .sim .time)
 
         reached : {v : Value} {y : Result Value} → y ≡ ok v s → Runs Γ (Valued Γ 2) 5 first 2 2 s₀ v₀ y → Ends Γ 5 s₀ v₀ s
         reached {v} e r = take (rw e at r)
