@@ -77,7 +77,8 @@ unfolding exprLabels exprWords
 leaving-few w = by-leaving (OfCommand 0 2) w (omega arith) (omega arith) (omega arith) (omega arith) (omega arith)
 
 guard-few : (e : Expr) (c : Cmd) (sense a b : Bool)
-    → OfCommand (2 + exprLabels e + cmdLabels c) (4 + exprWords e + cmdWords c) (cond a (R.while true e c) (cond b (R.while false e c) (R.when sense e c)))
+    → OfCommand (2 + exprLabels e + cmdLabels c) (4 + exprWords e + cmdWords c)
+    (cond a (R.while true e c) (cond b (R.while false e c) (R.when sense e c)))
 unfolding exprLabels exprWords
 guard-few e c sense a b =
     by-guard (OfCommand (2 + exprLabels e + cmdLabels c) (4 + exprWords e + cmdWords c)) e c sense a b (omega arith) (omega arith) (omega arith)
@@ -122,20 +123,26 @@ module _ (strings : ℕ) (text : List ℕ) where
     count-e s h (T.suffixed e ss) f = omega (arith, count-x s h ss (E.expression text s (under ss h) e) (f .1), count-e s (under ss h) e (f .0))
     count-e s h (T.dyadic e os) f = omega (arith, count-o s h os (E.expression text s h e) (f .1), count-e s h e (f .0))
 
-    count-x : (s : Scope) (h : ℕ) (ss : Suffixes) (x : Expr) → FineSuffixes strings ss → Of (exprLabels x + suffixesTokens 3 ss) (exprWords x + extra x + 8 * suffixesTokens 1 ss) (E.suffixes text s h x ss)
+    count-x : (s : Scope) (h : ℕ) (ss : Suffixes) (x : Expr) → FineSuffixes strings ss
+        → Of (exprLabels x + suffixesTokens 3 ss) (exprWords x + extra x + 8 * suffixesTokens 1 ss) (E.suffixes text s h x ss)
     count-x s h T.noSuffixes x f = omega arith
-    count-x s h (T.call es ss) x f = omega (arith, count-x s h ss (R.call x (E.expressions text s (under ss h + 2) es)) (f .1), count-a s (under ss h + 2) es (f .0), sided x .two)
+    count-x s h (T.call es ss) x f =
+        omega (arith, count-x s h ss (R.call x (E.expressions text s (under ss h + 2) es)) (f .1), count-a s (under ss h + 2) es (f .0), sided x .two)
     count-x s h (T.index d ss) x f = omega (arith, count-x s h ss (R.index x (E.expression text s (under ss h + 1) d)) (f .1), count-e s (under ss h + 1) d (f .0), two s (under ss h + 1) d, sided x .two)
 
-    count-o : (s : Scope) (h : ℕ) (os : Operations) (x : Expr) → FineOperations strings os → Of (exprLabels x + operationsTokens 3 os) (exprWords x + extra x + 8 * operationsTokens 1 os) (E.operations text s h x os)
+    count-o : (s : Scope) (h : ℕ) (os : Operations) (x : Expr) → FineOperations strings os
+        → Of (exprLabels x + operationsTokens 3 os) (exprWords x + extra x + 8 * operationsTokens 1 os) (E.operations text s h x os)
     count-o s h T.noOperations x f = omega arith
-    count-o s h (T.operation o d os) x f = omega (arith, count-o s h os (R.binary o x (E.expression text s (h + 1) d)) (f .1), count-e s (h + 1) d (f .0), two s (h + 1) d, sided x .two)
+    count-o s h (T.operation o d os) x f =
+        omega (arith, count-o s h os (R.binary o x (E.expression text s (h + 1) d)) (f .1), count-e s (h + 1) d (f .0), two s (h + 1) d, sided x .two)
 
-    count-a : (s : Scope) (h : ℕ) (es : Expressions) → FineList strings es → (exprsLabels (E.expressions text s h es) ≤ listTokens 3 es) × (exprsWords (E.expressions text s h es) ≤ 8 * listTokens 1 es)
+    count-a : (s : Scope) (h : ℕ) (es : Expressions) → FineList strings es
+        → (exprsLabels (E.expressions text s h es) ≤ listTokens 3 es) × (exprsWords (E.expressions text s h es) ≤ 8 * listTokens 1 es)
     count-a s h T.noExpressions f = omega arith
     count-a s h (T.andExpression e es) f = omega (arith, count-e s h e (f .0), two s h e, count-a s (h + 1) es (f .1))
 
-    count-sides : (s : Scope) (h : ℕ) (es : Expressions) → FineList strings es → (exprsLabels (E.sides text s h es) ≤ listTokens 3 es) × (sideWords (E.sides text s h es) ≤ 8 * listTokens 1 es)
+    count-sides : (s : Scope) (h : ℕ) (es : Expressions) → FineList strings es
+        → (exprsLabels (E.sides text s h es) ≤ listTokens 3 es) × (sideWords (E.sides text s h es) ≤ 8 * listTokens 1 es)
     count-sides s h T.noExpressions f = omega arith
     count-sides s h (T.andExpression e es) f = omega (arith, count-e s h e (f .0), count-sides s h es (f .1))
 
@@ -145,32 +152,40 @@ module _ (strings : ℕ) (text : List ℕ) where
         let z : 1 ≤ labelsTokens ls + started u = not-bare (f .3) in
         omega (arith, count-r s h rs (E.unlabelled text s h u) (f .2), count-u s h u (labelsTokens ls) (omega (arith, started-tokens 3 u)) (f .1))
 
-    count-r : (s : Scope) (h : ℕ) (rs : Repeats) (x : Cmd) → FineRepeats strings rs → OfCommand (cmdLabels x + repeatsTokens 3 rs) (cmdWords x + 8 * repeatsTokens 1 rs) (E.repeats text s h x rs)
+    count-r : (s : Scope) (h : ℕ) (rs : Repeats) (x : Cmd) → FineRepeats strings rs
+        → OfCommand (cmdLabels x + repeatsTokens 3 rs) (cmdWords x + 8 * repeatsTokens 1 rs) (E.repeats text s h x rs)
     count-r s h T.noRepeats x f = omega arith
     count-r s h (T.repeat rs) x f = omega (arith, count-r s h rs (R.repeat x) f)
-    count-r s h (T.repeatOn w e rs) x f = omega (arith, count-r s h rs (R.repeatWhile (eqb w REPEATWHILE) x (E.expression text s h e)) (f .1), count-e s h e (f .0), two s h e)
+    count-r s h (T.repeatOn w e rs) x f =
+        omega (arith, count-r s h rs (R.repeatWhile (eqb w REPEATWHILE) x (E.expression text s h e)) (f .1), count-e s h e (f .0), two s h e)
 
-    count-u : (s : Scope) (h : ℕ) (u : Unlabelled) (before : ℕ) → 1 ≤ before + unlabelledTokens 3 u → FineUnlabelled strings u → (cmdLabels (E.unlabelled text s h u) + 1 ≤ before + unlabelledTokens 3 u) × (cmdWords (E.unlabelled text s h u) ≤ 8 * unlabelledTokens 1 u)
+    count-u : (s : Scope) (h : ℕ) (u : Unlabelled) (before : ℕ) → 1 ≤ before + unlabelledTokens 3 u → FineUnlabelled strings u
+        → (cmdLabels (E.unlabelled text s h u) + 1 ≤ before + unlabelledTokens 3 u) × (cmdWords (E.unlabelled text s h u) ≤ 8 * unlabelledTokens 1 u)
     count-u s h T.empty b z f = omega arith
     count-u s h (T.assignment left right) b z f =
-        omega (arith, pairs-few (E.sides text s (h + 1) left) (E.sides text s h right), count-sides s (h + 1) left (f .0), count-sides s h right (f .1))
+        omega
+        (arith, pairs-few (E.sides text s (h + 1) left) (E.sides text s h right), count-sides s (h + 1) left (f .0), count-sides s h right (f .1))
     count-u s h (T.callCommand e) b z f = omega (arith, count-e s h e (f .0))
     count-u s h (T.test e c d) b z f = omega (arith, count-e s h e (f .0), count-c s h c (f .1), count-c s h d (f .2))
     count-u s h (T.guarded w e c) b z f =
         omega (arith, guard-few (E.expression text s h e) (E.command text s h c) (eqb w IF) (eqb w WHILE) (eqb w UNTIL), count-e s h e (f .0), count-c s h c (f .1))
-    count-u s h (T.for n e d k c) b z f = omega (arith, count-e s h e (f .0), count-e s (h + 1) d (f .1), count-c (declared (opened s) n (N.local h)) (h + 2) c (f .3))
+    count-u s h (T.for n e d k c) b z f =
+        omega (arith, count-e s h e (f .0), count-e s (h + 1) d (f .1), count-c (declared (opened s) n (N.local h)) (h + 2) c (f .3))
     count-u s h (T.switchon e cs) b z f = omega (arith, count-e s h e (f .0), count-s s h cs (f .1))
     count-u s h (T.resultis place e) b z f = omega (arith, count-e s h e f)
     count-u s h (T.leave w place) b z f = omega (arith, leaving-few w)
-    count-u s h (T.block ls cs) b z f = omega (arith, count-l (opened s) h ls (f .0), count-b (scopeAfter text (opened s) h ls) (E.heightAfter text (opened s) h ls) cs (f .1))
+    count-u s h (T.block ls cs) b z f =
+        omega (arith, count-l (opened s) h ls (f .0), count-b (scopeAfter text (opened s) h ls) (E.heightAfter text (opened s) h ls) cs (f .1))
 
-    count-l : (s : Scope) (h : ℕ) (ls : T.Locals) → FineLocals strings ls → (localsLabels (E.locals text s h ls) ≤ localsTokens 3 ls) × (localsWords (E.locals text s h ls) ≤ 8 * localsTokens 1 ls)
+    count-l : (s : Scope) (h : ℕ) (ls : T.Locals) → FineLocals strings ls
+        → (localsLabels (E.locals text s h ls) ≤ localsTokens 3 ls) × (localsWords (E.locals text s h ls) ≤ 8 * localsTokens 1 ls)
     count-l s h T.noLocals f = omega arith
     count-l s h (T.vector n k ls) f = omega (arith, count-l (declared s n (N.local h)) (h + 2 + judgedWord (forVector text s k)) ls (f .1))
     count-l s h (T.values ns es ls) f =
         omega (arith, values-few (E.expressions text s h es) (E.locals text (declareAll s h ns) (h + length ns) ls), count-a s h es (f .0), count-l (declareAll s h ns) (h + length ns) ls (f .1))
 
-    count-b : (s : Scope) (h : ℕ) (cs : Commands) → FineCommands strings cs → (cmdsLabels (E.commands text s h cs) ≤ commandsTokens 3 cs) × (cmdsWords (E.commands text s h cs) ≤ 8 * commandsTokens 1 cs)
+    count-b : (s : Scope) (h : ℕ) (cs : Commands) → FineCommands strings cs
+        → (cmdsLabels (E.commands text s h cs) ≤ commandsTokens 3 cs) × (cmdsWords (E.commands text s h cs) ≤ 8 * commandsTokens 1 cs)
     count-b s h T.noCommands f = omega arith
     count-b s h (T.andCommand c cs) f = omega (arith, count-c s h c (f .0), count-b s h cs (f .1))
 

@@ -138,8 +138,7 @@ module _ (Γ : Env) where
     sim-addressOfGlobal x p h n a b s v k f pc r =
         cut-number Γ k λ b₁ i₁ k₁.
         let l : x < 400 = f in
-        weaken Γ (step-LG Γ (fits .sized) (le-refl h) r pc i₁ (omega arith) λ w r₁ c₁ e₁.
-        done r₁ c₁ k₁ (has-word e₁)) (omega arith)
+        weaken Γ (step-LG Γ (fits .sized) (le-refl h) r pc i₁ (omega arith) λ w r₁ c₁ e₁. done r₁ c₁ k₁ (has-word e₁)) (omega arith)
 
     pub sim-addressOfContents : (e : Expr) → GoalE q (R.addressOfContents e)
     unfolding evaluated exprCode FormedE
@@ -154,8 +153,7 @@ module _ (Γ : Env) where
         cut-number Γ k₂ λ b₂ i₂ k₃.
         weaken Γ (then Γ (le-refl h) (part e n k₁ f pc r) λ x s₁ v₁ x₁ y₁.
         post-demand (y₁ .has) λ w a₁. post-read (s₁ .cells w) s₁ λ y g.
-        step-X1 Γ (fits .sized) (le-refl h) (x₁ .rel) (y₁ .at) i₂ a₁ g λ v₂ r₂ c₂ a₂.
-        done r₂ c₂ k₃ (has-word a₂)) (omega arith)
+        step-X1 Γ (fits .sized) (le-refl h) (x₁ .rel) (y₁ .at) i₂ a₁ g λ v₂ r₂ c₂ a₂. done r₂ c₂ k₃ (has-word a₂)) (omega arith)
 
     -- two operands: the left one waits in the word of the height, the right one is in A
     pub sim-two : (d e : Expr) (n : ℕ) {Q : Value → Mach → Type 0} {t p h c₀ c₁ c₂ c₃ : ℕ} {s : State} {v : Mach} (more : ℕ → ℕ → State → Result Value)
@@ -172,8 +170,7 @@ module _ (Γ : Env) where
         let up : h ≤ h + 1 = omega arith in
         then Γ up (part e (n + exprLabels d) k₃ (f .1) c₂ (raise Γ r₂ up l)) λ y s₃ v₃ x₃ y₃.
         let kept : getD (v₃ .mem) (p + h) 0 ≡ v₁ .regs .a = x₃ .frame (p + h) (omega arith) (r₁ .above (p + h) (omega arith)) ∙ g₂ in
-        post-demand (has-same (y₁ .has) kept) λ m em. post-demand (y₃ .has) λ w ew.
-        g m w s₃ v₃ (sink Γ r₂ up x₃) (y₃ .at) em ew l) (omega arith)
+        post-demand (has-same (y₁ .has) kept) λ m em. post-demand (y₃ .has) λ w ew. g m w s₃ v₃ (sink Γ r₂ up x₃) (y₃ .at) em ew l) (omega arith)
 
     pub sim-addressOfIndex : (d e : Expr) → GoalE q (R.addressOfIndex d e)
     unfolding evaluated exprCode FormedE
@@ -198,8 +195,7 @@ module _ (Γ : Env) where
         post-read (u .cells (add x y)) u λ z g.
         step-AIP Γ (fits .sized) (le-refl h) r₁ c₁ i₆ (omega arith) λ v₂ r₂ c₂ a₂ _.
         let sum : v₂ .regs .a ≡ add x y = omega (arith, a₂, a₁, m₁) in
-        step-X1 Γ (fits .sized) (le-refl h) r₂ c₂ i₇ sum g λ v₃ r₃ c₃ a₃.
-        done r₃ c₃ k₇ (has-word a₃)) (omega arith)
+        step-X1 Γ (fits .sized) (le-refl h) r₂ c₂ i₇ sum g λ v₃ r₃ c₃ a₃. done r₃ c₃ k₇ (has-word a₃)) (omega arith)
 
     pub sim-binary : (o : ℕ) (d e : Expr) → GoalE q (R.binary o d e)
     unfolding evaluated exprCode FormedE
@@ -214,8 +210,10 @@ module _ (Γ : Env) where
         weaken Γ (sim-two d e n _ k₁ i₂ k₄ f pc r λ x y u w r₁ c₁ m₁ a₁ l.
         finish x y u w (applyDyadic o x y) refl r₁ c₁ m₁ a₁ l i₆ i₇ i₈ i₉ (at-end Γ k₉)) (omega arith)
       where
-        finish : (x y : ℕ) (u : State) (w : Mach) (z : Option ℕ) → applyDyadic o x y ≡ z → Rel Γ p h u w → {b₃ b₆ b₇ b₈ b₉ : ℕ} → w .regs .c ≡ b₃ → getD (w .mem) (p + h) 0 ≡ x → w .regs .a ≡ y
-            → p + (h + 1) ≤ Γ .limit → At Γ b₃ 1 false P (h + 1) b₆ → At Γ b₆ 0 true P h b₇ → At Γ b₇ 0 true P (h + 1) b₈ → At Γ b₈ 7 false I.none (dyadicAct o) b₉ → b₉ ≡ b
+        finish : (x y : ℕ) (u : State) (w : Mach) (z : Option ℕ) → applyDyadic o x y ≡ z → Rel Γ p h u w → {b₃ b₆ b₇ b₈ b₉ : ℕ} → w .regs .c ≡ b₃
+            → getD (w .mem) (p + h) 0 ≡ x → w .regs .a ≡ y
+            → p + (h + 1) ≤ Γ .limit → At Γ b₃ 1 false P (h + 1) b₆ → At Γ b₆ 0 true P h b₇ → At Γ b₇ 0 true P (h + 1) b₈
+            → At Γ b₈ 7 false I.none (dyadicAct o) b₉ → b₉ ≡ b
             → Runs Γ (Valued Γ b) 4 p h h u w (orUndefined z u)
         finish x y u w none t r₁ c₁ m₁ a₁ l i₆ i₇ i₈ i₉ z = p-undefined
         finish x y u w (some s′) t r₁ c₁ m₁ a₁ l i₆ i₇ i₈ i₉ z =
@@ -235,7 +233,8 @@ module _ (Γ : Env) where
         weaken Γ (then Γ (le-refl h) (part e n k₁ f pc r) λ x s₁ v₁ x₁ y₁.
         post-demand (y₁ .has) λ w a₁. finish w s₁ v₁ (eqb o MINUS) refl (eqb o NOT) refl (x₁ .rel) (y₁ .at) a₁ k₂) (omega arith)
       where
-        finish : (w : ℕ) (u : State) (v₁ : Mach) (m : Bool) → eqb o MINUS ≡ m → (t : Bool) → eqb o NOT ≡ t → Rel Γ p h u v₁ → {b₁ : ℕ} → v₁ .regs .c ≡ b₁ → v₁ .regs .a ≡ w
+        finish : (w : ℕ) (u : State) (v₁ : Mach) (m : Bool) → eqb o MINUS ≡ m → (t : Bool) → eqb o NOT ≡ t → Rel Γ p h u v₁ → {b₁ : ℕ}
+            → v₁ .regs .c ≡ b₁ → v₁ .regs .a ≡ w
             → Code Γ b₁ (monadicAct o) b → Runs Γ (Valued Γ b) 1 p h h u v₁ (ok (word (applyMonadic o w)) u)
         finish w u v₁ true m t t′ r₁ c₁ a₁ k₂ =
             cut-number Γ (rw m at k₂) λ b₃ i₃ k₃.
@@ -261,5 +260,4 @@ module _ (Γ : Env) where
     sim-valof c p h n a b s v k f pc r =
         cut Γ (cmdCode (suc (F Γ)) h (n + 1) (inValof n) c) _ k λ b₁ k₁ k₂.
         cut-label Γ k₂ λ e₂ k₃.
-        weaken Γ (then Γ (le-refl h) (ih .run c (n + 1) k₁ f pc r) λ w s₁ v₁ x₁ y₁.
-        valof-end w (x₁ .rel) y₁ e₂ (at-end Γ k₃)) (omega arith)
+        weaken Γ (then Γ (le-refl h) (ih .run c (n + 1) k₁ f pc r) λ w s₁ v₁ x₁ y₁. valof-end w (x₁ .rel) y₁ e₂ (at-end Γ k₃)) (omega arith)

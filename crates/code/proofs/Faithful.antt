@@ -43,7 +43,8 @@ module _ (source : List ℕ) (good : Good source) (memory room first : ℕ) (acc
         constants = λ k i l m.
             let above = W.string-above stands k l in
             let below = W.string-below stands k l in
-            ended-strings fs ss _ memory input (runs .fuel) s (runs .over) k i l (addresses-length table (suc (length fs)) (length ss)) m (omega arith) (omega arith);
+            ended-strings fs ss _ memory input (runs .fuel) s (runs .over) k i l (addresses-length table (suc (length fs)) (length ss)) m
+            (omega arith) (omega arith);
       }
 
   owed : (output : List ℕ) (budget : ℕ)

@@ -62,7 +62,8 @@ module _ (Γ : Env) where
 
   -- where a loop stands before a turn
   pub data Turning (x : Exits) (p h a b : ℕ) (s : State) (v : Mach) : Loop → Type 0 where
-    at-while : (n : ℕ) {sense : Bool} {e : Expr} {c : Cmd} → Code Γ a (cmdCode (suc F) h n x (R.while sense e c)) b → FormedC F S h (R.while sense e c)
+    at-while : (n : ℕ) {sense : Bool} {e : Expr} {c : Cmd} → Code Γ a (cmdCode (suc F) h n x (R.while sense e c)) b
+        → FormedC F S h (R.while sense e c)
         → Turning x p h a b s v (whiling sense e c)
     at-repeat : (n : ℕ) {c : Cmd} → Code Γ a (cmdCode (suc F) h n x (R.repeat c)) b → FormedC F S h (R.repeat c) → Turning x p h a b s v (repeating c)
     at-repeatWhile : (n : ℕ) {sense : Bool} {e : Expr} {c : Cmd} → Code Γ a (cmdCode (suc F) h n x (R.repeatWhile sense c e)) b

@@ -55,19 +55,22 @@ first-low : (n : Named) (ns : List Named) → heightFaults (n ∷ ns) ≡ [] →
 unfolding heightFaults
 first-low n ns h = go (ltb 8192 (largestHeight (n .fun))) refl h
   where
-    go : (b : Bool) → ltb 8192 (largestHeight (n .fun)) ≡ b → cond b (fault (n .name .place) 16) [] ++ heightFaults ns ≡ [] → (largestHeight (n .fun) ≤ 8192) × (heightFaults ns ≡ [])
+    go : (b : Bool) → ltb 8192 (largestHeight (n .fun)) ≡ b → cond b (fault (n .name .place) 16) [] ++ heightFaults ns ≡ []
+        → (largestHeight (n .fun) ≤ 8192) × (heightFaults ns ≡ [])
     go true e q = clash (cc)
     go false e q = (ltb-false 8192 (largestHeight (n .fun)) e, q)
 
 -- ---- items
 
 module _ (T functions strings : ℕ) (few : suc functions + strings ≤ T) where
-  body-sound : (h n : ℕ) (b : Body) → h ≤ 8192 → Span T n (bodyLabels b) → FormedF functions strings h b → Low (ofBody h b) → LeavesF b → Sounds T (bodyCode (suc functions) h n b)
+  body-sound : (h n : ℕ) (b : Body) → h ≤ 8192 → Span T n (bodyLabels b) → FormedF functions strings h b → Low (ofBody h b) → LeavesF b
+      → Sounds T (bodyCode (suc functions) h n b)
   unfolding bodyCode bodyLabels
   body-sound h n (R.expression e) l m f w y = sound-e T functions strings few h n e l m f w y
   body-sound h n (R.routine c) l m f w y = sound-c T functions strings few h n nowhereElse c l m near-none f w y
 
-  functions-sound : (l n : ℕ) (ns : List Named) → Span T l (length ns) → Span T n (innerLabels ns) → AllFormed functions strings ns → heightFaults ns ≡ [] → Sounds T (functionsCode (suc functions) l n (funs ns))
+  functions-sound : (l n : ℕ) (ns : List Named) → Span T l (length ns) → Span T n (innerLabels ns) → AllFormed functions strings ns
+      → heightFaults ns ≡ [] → Sounds T (functionsCode (suc functions) l n (funs ns))
   unfolding functionsCode funs funLabels AllFormed
   functions-sound l n [] a b f h = s-none
   functions-sound l n (x ∷ ns) a b f h =
@@ -76,7 +79,8 @@ module _ (T functions strings : ℕ) (few : suc functions + strings ≤ T) where
       s-more {x = I.label l} (record { first = a .one; last = omega (arith, a .room) })
       (sounds-both (body-sound (2 + x .fun .parameters) n (x .fun .body) (q .0) (span (b .one) (omega (arith, b .room))) (f .0) (q .1) (f .3))
       (s-more {x = I.instruction 7 false I.none (I.number false 4)} (record { eight = omega arith; right = omega arith })
-      (functions-sound (suc l) (n + bodyLabels (x .fun .body)) ns (span (omega arith) (omega (arith, a .room))) (span (omega (arith, b .one)) (omega (arith, b .room))) (f .1) (p .1))))
+      (functions-sound (suc l) (n + bodyLabels (x .fun .body)) ns (span (omega arith) (omega (arith, a .room)))
+      (span (omega (arith, b .one)) (omega (arith, b .room))) (f .1) (p .1))))
 
   starts-sound : (l : ℕ) (ns : List Named) → Span T l (length ns) → AllFormed functions strings ns → Sounds T (startsCode l (funs ns))
   unfolding startsCode funs AllFormed
@@ -123,8 +127,10 @@ module _ (source : List ℕ) (x : Facts source) where
   unfolding itemsOf
   items-sound =
       let e : length (funs ns) ≡ length ns = length-funs ns in
-      sounds-both (functions-sound total (length (funs ns)) S (omega arith) 1 (suc (length (funs ns)) + S) ns (span (omega arith) (omega arith)) (span (omega arith) (omega arith)) all-formed no-heights)
-      (sounds-both (strings-sounds (span (omega arith) (omega arith))) (starts-sound total (length (funs ns)) S (omega arith) 1 ns (span (omega arith) (omega arith)) all-formed))
+      sounds-both (functions-sound total (length (funs ns)) S (omega arith) 1 (suc (length (funs ns)) + S) ns (span (omega arith) (omega arith))
+      (span (omega arith) (omega arith)) all-formed no-heights)
+      (sounds-both (strings-sounds (span (omega arith) (omega arith)))
+      (starts-sound total (length (funs ns)) S (omega arith) 1 ns (span (omega arith) (omega arith)) all-formed))
     where
       strings-sounds : Span total (suc (length (funs ns))) S → Sounds total (stringsCode (suc (length (funs ns))) (stringsIn source))
       strings-sounds k = rw (x .strings) (strings-now-sound source (suc (length (funs ns))) (rw (x .strings) at k))
@@ -138,6 +144,8 @@ pub compiled-faithful : (source : List ℕ) (scratch : ℕ) → refusalOf source
 compiled-faithful source scratch h = faithful source (good source (facts source scratch h))
 
 -- and the placement rules, wherever its text is assembled
-pub compiled-placed : (source : List ℕ) (scratch : ℕ) → refusalOf source scratch ≡ accepted → (memory room first : ℕ) → (h : assembled (textOf source) memory room .answer ≡ Accepted first)
-    → WellPlaced source (placementOf source (assembled (textOf source) memory room .table) first) (assembled (textOf source) memory room .table) (assembled (textOf source) memory room .memory)
+pub compiled-placed : (source : List ℕ) (scratch : ℕ) → refusalOf source scratch ≡ accepted → (memory room first : ℕ)
+    → (h : assembled (textOf source) memory room .answer ≡ Accepted first)
+    → WellPlaced source (placementOf source (assembled (textOf source) memory room .table) first) (assembled (textOf source) memory room .table)
+    (assembled (textOf source) memory room .memory)
 compiled-placed source scratch a memory room first h = well-placed source (good source (facts source scratch a)) memory room first h

@@ -86,10 +86,7 @@ formed zero l = ((omega arith, tt), omega arith)
 formed (suc k) l = absurd (omega arith)
 
 good : Good source
-good = record {
-  sound = rw (functions-are, strings-are) sounds;
-  formed = rw (functions-are, strings-are) formed;
-}
+good = record { sound = rw (functions-are, strings-are) sounds; formed = rw (functions-are, strings-are) formed }
 
 -- ---- its image, its source run and the machine's run
 
@@ -158,7 +155,8 @@ unfolding value wordOf M.read M.write fetch A.indirected A.returned A.combined A
 machine-runs = record { stops = refl; counts = refl; writes = refl }
 
 -- every budget and every room, by the theorem
-owed : (output : List ℕ) (budget : ℕ) → Follows (stringsIn source) (placementOf source (assembled (textOf source) 512 4 .table) 421) final (length output) budget
+owed : (output : List ℕ) (budget : ℕ)
+    → Follows (stringsIn source) (placementOf source (assembled (textOf source) 512 4 .table) 421) final (length output) budget
     (run 421 (assembled (textOf source) 512 4 .memory) [] output budget)
 owed output budget = faithful source good .follows 512 4 421 (rw written answers) [] final runs low output budget
 

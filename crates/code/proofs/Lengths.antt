@@ -48,7 +48,8 @@ more-digits m c f (suc k) n h = go (ltb n 10)
 five-digits : (n : ℕ) → n ≤ 65536 → length (numeralOf n) ≤ 5
 unfolding numeralOf
 five-digits n h =
-    more-digits 10000 4 (λ k m j. more-digits 1000 3 (λ k m j. more-digits 100 2 (λ k m j. more-digits 10 1 one-digit k m (omega arith)) k m (omega arith)) k m (omega arith)) (suc n) n (omega arith)
+    more-digits 10000 4 (λ k m j. more-digits 1000 3 (λ k m j.
+    more-digits 100 2 (λ k m j. more-digits 10 1 one-digit k m (omega arith)) k m (omega arith)) k m (omega arith)) (suc n) n (omega arith)
 
 operand-short : (x : Operand) → SoundOperand x → length (operandText x) ≤ 6
 unfolding operandText

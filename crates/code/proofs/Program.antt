@@ -78,7 +78,8 @@ unfolding positionOf
 position-found v [] i k h = clash (cc)
 position-found v (a ∷ es) i k h = go (eqb v a) refl h (λ e. position-found v es (suc i) k e)
   where
-    go : (b : Bool) → eqb v a ≡ b → cond b (some i) (positionOf v es (suc i)) ≡ some k → (positionOf v es (suc i) ≡ some k → Found v es (suc i) k) → Found v (a ∷ es) i k
+    go : (b : Bool) → eqb v a ≡ b → cond b (some i) (positionOf v es (suc i)) ≡ some k → (positionOf v es (suc i) ≡ some k → Found v es (suc i) k)
+        → Found v (a ∷ es) i k
     go true e q f = let z : i ≡ k = cc in record { at = 0; is = omega arith; within = omega arith; entry = sym (eqb-true v a e) }
     go false e q f = let x = f q in record { at = suc (x .at); is = omega (arith, x .is); within = omega (arith, x .within); entry = x .entry }
 
@@ -93,7 +94,8 @@ unfolding globals places globalsItems
 globals-items labels gs p [] = refl
 globals-items labels gs p (x ∷ xs) = globals-items labels (globalsAfter labels gs x) (p + length (render x) + 1) xs
 
-globals-both : (labels : List Label) (gs : List ℕ) (xs ys : List Item) → globalsItems labels gs (xs ++ ys) ≡ globalsItems labels (globalsItems labels gs xs) ys
+globals-both : (labels : List Label) (gs : List ℕ) (xs ys : List Item)
+    → globalsItems labels gs (xs ++ ys) ≡ globalsItems labels (globalsItems labels gs xs) ys
 unfolding globalsItems
 globals-both labels gs [] ys = refl
 globals-both labels gs (x ∷ xs) ys = globals-both labels (globalsAfter labels gs x) xs ys
@@ -112,14 +114,16 @@ unfolding globalsItems globalsAfter stringsCode
 globals-strings labels gs l [] = refl
 globals-strings labels gs l (cs ∷ ss) = globals-strings labels gs (suc l) ss
 
-globals-starts : (labels : List Label) (table : List Label) → ((n : ℕ) → 1 ≤ n → addressOf table n ≡ addressOf labels n) → (gs : List ℕ) (l : ℕ) (fs : List Fun) → 1 ≤ l
+globals-starts : (labels : List Label) (table : List Label) → ((n : ℕ) → 1 ≤ n → addressOf table n ≡ addressOf labels n)
+    → (gs : List ℕ) (l : ℕ) (fs : List Fun) → 1 ≤ l
     → globalsItems labels gs (startsCode l fs) ≡ globalsWith fs (addressesFrom table l (length fs)) gs
 unfolding globalsItems globalsAfter startsCode globalsWith addressesFrom
 globals-starts labels table same gs l [] h = refl
 globals-starts labels table same gs l (f ∷ fs) h = go (f .start) (λ gs. globals-starts labels table same gs (suc l) fs (omega arith))
   where
     go : (s : Start) → ((gs : List ℕ) → globalsItems labels gs (startsCode (suc l) fs) ≡ globalsWith fs (addressesFrom table (suc l) (length fs)) gs)
-        → globalsItems labels gs (startIn s l (startsCode (suc l) fs)) ≡ globalsWith fs (addressesFrom table (suc l) (length fs)) (withEntry s (addressOf table l) gs)
+        → globalsItems labels gs (startIn s l (startsCode (suc l) fs)) ≡ globalsWith fs (addressesFrom table (suc l) (length fs))
+        (withEntry s (addressOf table l) gs)
     go nowhere f = f gs
     go (inGlobal n) f = rw (same l h) (f (set gs n (addressOf labels l)))
 
@@ -143,7 +147,8 @@ module _ (Γ : Env) where
     pub end : ℕ
     pub code : Code Γ a (bodyCode strings (2 + f .parameters) labels (f .body) ++ (X 4 ∷ [])) end
 
-  pub function-at : (strings : ℕ) (fs : List Fun) (l n k : ℕ) {a b : ℕ} → Code Γ a (functionsCode strings l n fs) b → k < length fs → FunctionAt strings (Γ .lab (l + k)) (getD fs k noFun)
+  pub function-at : (strings : ℕ) (fs : List Fun) (l n k : ℕ) {a b : ℕ} → Code Γ a (functionsCode strings l n fs) b → k < length fs
+      → FunctionAt strings (Γ .lab (l + k)) (getD fs k noFun)
   unfolding functionsCode
   function-at strings [] l n k c h = absurd (omega arith)
   function-at strings (f ∷ fs) l n zero c h =
@@ -173,8 +178,10 @@ pub record Built (fs : List Fun) (ss : List (List ℕ)) (memory room first : ℕ
   pub within : first ≤ memory
   pub fills : length mem ≡ memory
 
-pub built : (fs : List Fun) (ss : List (List ℕ)) (memory room first : ℕ) → AllSound (itemsOf fs ss) → assembled (renderAll (itemsOf fs ss)) memory room .answer ≡ Accepted first
-    → Built fs ss memory room first (assembled (renderAll (itemsOf fs ss)) memory room .memory) (assembled (renderAll (itemsOf fs ss)) memory room .table)
+pub built : (fs : List Fun) (ss : List (List ℕ)) (memory room first : ℕ) → AllSound (itemsOf fs ss)
+    → assembled (renderAll (itemsOf fs ss)) memory room .answer ≡ Accepted first
+    → Built fs ss memory room first (assembled (renderAll (itemsOf fs ss)) memory room .memory)
+    (assembled (renderAll (itemsOf fs ss)) memory room .table)
 unfolding accept
 built fs ss memory room first sound h =
     let a : Acceptance (renderAll (itemsOf fs ss)) memory room first = acceptance (renderAll (itemsOf fs ss)) memory room h in
@@ -240,7 +247,8 @@ module _
   globals-are =
       globals-items (b .labels) noGlobals 2 (fcode ++ rest)
       ∙ globals-both (b .labels) noGlobals fcode rest
-      ∙ ap (λ (gs : List ℕ). globalsItems (b .labels) gs rest) (globals-plain (b .labels) noGlobals fcode (no-others (suc (length fs)) 1 (suc (length fs) + length ss) fs))
+      ∙ ap (λ (gs : List ℕ). globalsItems (b .labels) gs rest)
+      (globals-plain (b .labels) noGlobals fcode (no-others (suc (length fs)) 1 (suc (length fs) + length ss) fs))
       ∙ globals-both (b .labels) noGlobals (stringsCode (suc (length fs)) ss) (startsCode 1 fs)
       ∙ ap (λ (gs : List ℕ). globalsItems (b .labels) gs (startsCode 1 fs)) (globals-strings (b .labels) noGlobals (suc (length fs)) ss)
       ∙ globals-starts (b .labels) table same-address noGlobals 1 fs (omega arith)
@@ -324,12 +332,14 @@ module _
   standing =
       laid-code memory room env (b .labels) (λ n. refl) near len fcode rest 2 416 [] (b .lays) spot (all-coded 416 fcode (omega arith) (omega arith))
       λ p ls k h s.
-      laid-code memory room env (b .labels) (λ n. refl) near len (stringsCode (suc (length fs)) ss) (startsCode 1 fs) p codeEnd ls h s (strings-coded codeEnd (suc (length fs)) ss)
+      laid-code memory room env (b .labels) (λ n. refl) near len (stringsCode (suc (length fs)) ss) (startsCode 1 fs) p codeEnd ls h s
+      (strings-coded codeEnd (suc (length fs)) ss)
       λ p′ ls′ k′ h′ s′. record { functions = k; strings = k′ }
 
   -- the words 0 to 7
   low-word : (n : ℕ) → n < 16 → getD mem n 0 ≡ getD start n 0
-  low-word n l = rw image-split (List·getD-append start (globalsNow ++ (program (b .labels) (places 2 (itemsOf fs ss)) ++ replicate (memory - first) 0)) 0 n l)
+  low-word n l =
+      rw image-split (List·getD-append start (globalsNow ++ (program (b .labels) (places 2 (itemsOf fs ss)) ++ replicate (memory - first) 0)) 0 n l)
 
   low-at : (f x : ℕ) (i : Bool) (base : I.Base) (at : ℕ) → at < 16 → x < 512
       → getD start at 0 ≡ f * 8192 + indirectBit i + baseBit base + x → At env at f i base x (suc at)
@@ -363,12 +373,14 @@ module _
         sym (addresses-at table (suc (length fs)) (length ss) k l ∙ same-address (suc (length fs) + k) (omega arith));
     rdch = (
       5,
-      next (is-number (low-at 7 27 false I.none 3 (omega arith) (omega arith) refl)) (next (is-number (low-at 7 4 false I.none 4 (omega arith) (omega arith) refl)) (end refl)),
+      next (is-number (low-at 7 27 false I.none 3 (omega arith) (omega arith) refl))
+          (next (is-number (low-at 7 4 false I.none 4 (omega arith) (omega arith) refl)) (end refl)),
     );
     wrch = (
       8,
       next (is-number (low-at 0 2 true I.P 5 (omega arith) (omega arith) refl))
-          (next (is-number (low-at 7 28 false I.none 6 (omega arith) (omega arith) refl)) (next (is-number (low-at 7 4 false I.none 7 (omega arith) (omega arith) refl)) (end refl))),
+          (next (is-number (low-at 7 28 false I.none 6 (omega arith) (omega arith) refl))
+          (next (is-number (low-at 7 4 false I.none 7 (omega arith) (omega arith) refl)) (end refl))),
     );
   }
     where
@@ -377,11 +389,8 @@ module _
           let x = position-found v entries 0 k h in
           let l : k < length fs = omega (arith, x .is, x .within, addresses-length table 1 (length fs)) in
           let z : x .at ≡ k = omega (arith, x .is) in
-          let e : addressOf (b .labels) (1 + k) ≡ v = sym (same-address (1 + k) (omega arith)) ∙ sym (addresses-at table 1 (length fs) k l) ∙ (rw z at (x .entry)) in
-          let f : FunctionAt env (suc (length fs)) (addressOf (b .labels) (1 + k)) (getD fs k noFun) = function-at env (suc (length fs)) fs 1 (suc (length fs) + length ss) k (standing .functions) l in
-          record {
-            labels = f .labels;
-            end = f .end;
-            code = rw e at (f .code);
-            formed = rw strings-count (formed k l);
-          }
+          let e : addressOf (b .labels) (1 + k) ≡ v
+          = sym (same-address (1 + k) (omega arith)) ∙ sym (addresses-at table 1 (length fs) k l) ∙ (rw z at (x .entry)) in
+          let f : FunctionAt env (suc (length fs)) (addressOf (b .labels) (1 + k)) (getD fs k noFun)
+          = function-at env (suc (length fs)) fs 1 (suc (length fs) + length ss) k (standing .functions) l in
+          record { labels = f .labels; end = f .end; code = rw e at (f .code); formed = rw strings-count (formed k l) }

@@ -123,10 +123,14 @@ module _ (T : ℕ) (low : T ≤ 32768) where
     where
       same : (n : ℕ) → point n n ≡ 1
       same n = rw (eq-eqb n n refl)
-  clean-all before (instruction f i b x ∷ is) (s-more p q) h = (right-range T low (instruction f i b x) p, tt, clean-all (before ++ []) is q (λ k. omega (arith, h k, times-both k before [])))
-  clean-all before (constant x ∷ is) (s-more p q) h = (right-range T low (constant x) p, tt, clean-all (before ++ []) is q (λ k. omega (arith, h k, times-both k before [])))
-  clean-all before (I.string cs ∷ is) (s-more p q) h = (right-range T low (I.string cs) p, tt, clean-all (before ++ []) is q (λ k. omega (arith, h k, times-both k before [])))
-  clean-all before (I.global n m ∷ is) (s-more p q) h = (right-range T low (I.global n m) p, tt, clean-all (before ++ []) is q (λ k. omega (arith, h k, times-both k before [])))
+  clean-all before (instruction f i b x ∷ is) (s-more p q) h =
+      (right-range T low (instruction f i b x) p, tt, clean-all (before ++ []) is q (λ k. omega (arith, h k, times-both k before [])))
+  clean-all before (constant x ∷ is) (s-more p q) h =
+      (right-range T low (constant x) p, tt, clean-all (before ++ []) is q (λ k. omega (arith, h k, times-both k before [])))
+  clean-all before (I.string cs ∷ is) (s-more p q) h =
+      (right-range T low (I.string cs) p, tt, clean-all (before ++ []) is q (λ k. omega (arith, h k, times-both k before [])))
+  clean-all before (I.global n m ∷ is) (s-more p q) h =
+      (right-range T low (I.global n m) p, tt, clean-all (before ++ []) is q (λ k. omega (arith, h k, times-both k before [])))
 
   module _ (labels : List ℕ) (there : (k : ℕ) → Within T k → seen labels k ≡ true) where
     one-known : (k : ℕ) → Within T k → cond (eqb k 0) true (seen labels k) ≡ true
@@ -161,7 +165,9 @@ module _ (source : List ℕ) (x : Facts source) where
 
   often : (k : ℕ) → times k (labelsOf items) + passed k 1 ≡ passed k (total source x)
   unfolding items
-  often k = rw (times-marks k (itemsOf (funs (ns source x)) (stringsIn source))) (items-marks (passed k) (passed-up k) (funs (ns source x)) (stringsIn source) (total source x) all-labels)
+  often k =
+      rw (times-marks k (itemsOf (funs (ns source x)) (stringsIn source)))
+      (items-marks (passed k) (passed-up k) (funs (ns source x)) (stringsIn source) (total source x) all-labels)
 
   at-most-once : (k : ℕ) → times k (labelsOf items) ≤ 1
   at-most-once k = omega (arith, often k, one (ltb k (total source x)))
@@ -173,7 +179,8 @@ module _ (source : List ℕ) (x : Facts source) where
   once : (k : ℕ) → Within (total source x) k → seen (labelsOf items) k ≡ true
   once k w = seen-some k (labelsOf items) (go (ltb k 1) refl (ltb k (total source x)) refl (often k))
     where
-      go : (s : Bool) → ltb k 1 ≡ s → (t : Bool) → ltb k (total source x) ≡ t → times k (labelsOf items) + cond s 1 0 ≡ cond t 1 0 → 1 ≤ times k (labelsOf items)
+      go : (s : Bool) → ltb k 1 ≡ s → (t : Bool) → ltb k (total source x) ≡ t → times k (labelsOf items) + cond s 1 0 ≡ cond t 1 0
+          → 1 ≤ times k (labelsOf items)
       go true e t f h = absurd (omega (arith, ltb-true k 1 e, w .first))
       go false e true f h = omega arith
       go false e false f h = absurd (omega (arith, ltb-false k (total source x) f, w .last))
@@ -213,7 +220,9 @@ pub few-labels : (source : List ℕ) (scratch : ℕ) → refusalOf source scratc
 unfolding textOf
 few-labels source scratch a = rw (same-items source (facts source scratch a)) (labels-most source (facts source scratch a))
 
-pub refused-only : (source : List ℕ) (scratch : ℕ) → refusalOf source scratch ≡ accepted → (memory room : ℕ) (r : Refusal) → assembled (textOf source) memory room .answer ≡ Refused r
+pub refused-only : (source : List ℕ) (scratch : ℕ) → refusalOf source scratch ≡ accepted → (memory room : ℕ) (r : Refusal)
+    → assembled (textOf source) memory room .answer ≡ Refused r
     → (r .number ≡ 24) ⊎ (r .number ≡ 25)
 unfolding textOf
-refused-only source scratch a memory room r h = items-only source (facts source scratch a) memory room r (rw (same-items source (facts source scratch a)) at h)
+refused-only source scratch a memory room r h =
+    items-only source (facts source scratch a) memory room r (rw (same-items source (facts source scratch a)) at h)

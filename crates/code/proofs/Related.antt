@@ -159,7 +159,8 @@ module _ (Γ : Env) where
   -- ---- fewer instructions, and a lower start
 
   abbrev Looser : (t t′ p h h₁ : ℕ) (s u : State) → Type 0
-  Looser t t′ p h h₁ s u = (h ≤ h₁) × ((n m : ℕ) → n + 16 * u .steps ≤ t + 16 * m → n + 16 * s .steps ≤ t′ + 16 * m) × ((a : ℕ) → u .cells a ≡ s .cells a)
+  Looser t t′ p h h₁ s u =
+      (h ≤ h₁) × ((n m : ℕ) → n + 16 * u .steps ≤ t + 16 * m → n + 16 * s .steps ≤ t′ + 16 * m) × ((a : ℕ) → u .cells a ≡ s .cells a)
 
   loose-sim : {t t′ p h h₁ h₂ : ℕ} {s u s′ : State} {v v′ : Mach} → Looser t t′ p h h₁ s u → Sim t p h₁ h₂ u v s′ v′ → Sim t′ p h h₂ s v s′ v′
   loose-sim {h = h} {h₁ = h₁} q x = record {
@@ -220,7 +221,8 @@ module _ (Γ : Env) where
   stay {v = v} r = record { n = 0; goes = goes-not (Γ .input) v; rel = r; keep = λ a l g. g; frame = λ a l g. refl; time = omega arith }
 
   -- over, here
-  pub over : {A : Type 0} {Q : A → Mach → Type 0} {p h₀ h : ℕ} {s : State} {v : Mach} {a : A} → h₀ ≤ h → Rel p h s v → Q a v → Runs Q 0 p h₀ h s v (ok a s)
+  pub over : {A : Type 0} {Q : A → Mach → Type 0} {p h₀ h : ℕ} {s : State} {v : Mach} {a : A} → h₀ ≤ h → Rel p h s v → Q a v
+      → Runs Q 0 p h₀ h s v (ok a s)
   over {v = v} l r q = p-ok (record { v′ = v; sim = loose-sim (l, (λ n m k. k), (λ a. refl)) (stay r); is = q })
 
   -- ---- heights
@@ -273,7 +275,8 @@ module _ (Γ : Env) where
       → Runs Q t p h h₂ s v (reach (Γ .limit) base k s more)
   reaching-in base k more f =
       post-cond (leb (base + k) (Γ .limit))
-      (λ e. let q : Like _ _ = record { cells = λ a. refl; taken = refl; output = refl; steps = refl } in like-runs q (f _ q (leb-true (base + k) (Γ .limit) e)))
+      (λ e. let q : Like _ _ = record { cells = λ a. refl; taken = refl; output = refl; steps = refl } in like-runs q
+      (f _ q (leb-true (base + k) (Γ .limit) e)))
       (λ e. p-undefined)
 
   pub reaching : {A : Type 0} {Q : A → Mach → Type 0} {t p h h₂ : ℕ} {s : State} {v : Mach} (k : ℕ) (more : State → Result A)
@@ -362,7 +365,8 @@ module _ (Γ : Env) where
 
   -- and where they do not
   pub quiet : {p h : ℕ} {s : State} {v v′ : Mach} → Rel p h s v → Goes (Γ .input) 1 v v′
-      → v′ .mem ≡ v .mem → v′ .regs .p ≡ v .regs .p → v′ .regs .g ≡ v .regs .g → v′ .regs .taken ≡ v .regs .taken → v′ .bytes ≡ v .bytes → Sim 1 p h h s v s v′
+      → v′ .mem ≡ v .mem → v′ .regs .p ≡ v .regs .p → v′ .regs .g ≡ v .regs .g → v′ .regs .taken ≡ v .regs .taken → v′ .bytes ≡ v .bytes
+      → Sim 1 p h h s v s v′
   quiet r e em ep eg et eb = spoken r e em ep eg (et ∙ r .taken) (eb ∙ r .bytes) (λ a. refl) refl
 
   pub agree-set : {m : List ℕ} {a : ℕ} (w : ℕ) → Agree Γ m → ((x : ℕ) → Γ .isCode x ≡ true → x < a) → Agree Γ (set m a w)
@@ -404,7 +408,8 @@ module _ (Γ : Env) where
   put-other s a c x n = rw (ne-eqb x a n) refl
 
   -- a store to a live word
-  pub cell : {p h a b w : ℕ} {s : State} {v : Mach} → Rel p h s v → a < length (Γ .image) → (s .cells a ≡ gone → ⊥) → v .regs .a ≡ w → Goes (Γ .input) 1 v (storing b a v)
+  pub cell : {p h a b w : ℕ} {s : State} {v : Mach} → Rel p h s v → a < length (Γ .image) → (s .cells a ≡ gone → ⊥) → v .regs .a ≡ w
+      → Goes (Γ .input) 1 v (storing b a v)
       → Sim 1 p h h s v (put a (holds w) s) (storing b a v)
   cell {p} {h} {a} {b} {w} {s} {v} r la n ew e = record {
     n = _;

@@ -33,18 +33,21 @@ string-words [] = refl
 string-words (cs ∷ ss) = omega (arith, string-words ss, length-pairs (length cs) cs)
 
 items-weigh : (ns : List Named) (ss : List (List ℕ)) → weigh (itemsOf (funs ns) ss) ≤ allWords ns + stringWords ss
-items-weigh ns ss =
-    omega (arith, sum-items 1 (λ cs. size (I.string cs)) 0 (λ _. 0) (λ _ _ _. omega arith) (funs ns) ss _ refl, string-words ss)
+items-weigh ns ss = omega (arith, sum-items 1 (λ cs. size (I.string cs)) 0 (λ _. 0) (λ _ _ _. omega arith) (funs ns) ss _ refl, string-words ss)
 
-pub items-words : (source : List ℕ) (x : Facts source) → weigh (itemsOf (functionsIn source) (stringsIn source)) ≤ 8 * length (scan source .symbols) + stringWords (stringsIn source)
+pub items-words : (source : List ℕ) (x : Facts source)
+    → weigh (itemsOf (functionsIn source) (stringsIn source)) ≤ 8 * length (scan source .symbols) + stringWords (stringsIn source)
 unfolding functionsOf
 items-words source x =
-    let w : weigh (itemsOf (functionsIn source) (stringsIn source)) ≤ allWords (functionsOf source (x .tree)) + stringWords (stringsIn source) = rw (x .functions) (items-weigh (functionsOf source (x .tree)) (stringsIn source)) in
+    let w : weigh (itemsOf (functionsIn source) (stringsIn source)) ≤ allWords (functionsOf source (x .tree)) + stringWords (stringsIn source)
+    = rw (x .functions) (items-weigh (functionsOf source (x .tree)) (stringsIn source)) in
     omega (arith, w, few-program (length (stringsIn source)) source begin (x .tree) (x .fine) .1, x .tokens)
 
 -- the words of the text's items, whether or not it is assembled
-pub few-words : (source : List ℕ) (scratch : ℕ) → refusalOf source scratch ≡ accepted → wordCount (Z.scan (textOf source) .items) ≤ 8 * length (scan source .symbols) + 16 + stringWords (stringsIn source)
+pub few-words : (source : List ℕ) (scratch : ℕ) → refusalOf source scratch ≡ accepted
+    → wordCount (Z.scan (textOf source) .items) ≤ 8 * length (scan source .symbols) + 16 + stringWords (stringsIn source)
 unfolding textOf
 few-words source scratch a =
     let x : Facts source = facts source scratch a in
-    rw (rendered (itemsOf (functionsIn source) (stringsIn source)) (good source x .sound)) (omega (arith, sizes-weigh 2 (itemsOf (functionsIn source) (stringsIn source)), items-words source x))
+    rw (rendered (itemsOf (functionsIn source) (stringsIn source)) (good source x .sound))
+    (omega (arith, sizes-weigh 2 (itemsOf (functionsIn source) (stringsIn source)), items-words source x))

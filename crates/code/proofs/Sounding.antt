@@ -85,7 +85,8 @@ module _ (T : ℕ) (low : T ≤ 32768) where
   right-range (instruction f i b x) p = operand-range x (p .right)
   right-range (constant x) p = operand-range x p
   right-range (string cs) p = refl
-  right-range (global n m) p = rw (le-leb n 399 (omega (arith, p .global)), le-leb 1 m (p .start .first), le-leb m 32767 (omega (arith, p .start .last)))
+  right-range (global n m) p =
+      rw (le-leb n 399 (omega (arith, p .global)), le-leb 1 m (p .start .first), le-leb m 32767 (omega (arith, p .start .last)))
 
   pub all-sound : {xs : List Item} → Sounds T xs → AllSound xs
   all-sound s-none = tt
@@ -147,7 +148,14 @@ ruleset lows = (low-left, low-right, low-head, low-tail)
 
 act-small : (o : ℕ) → dyadicAct o ≤ 19
 unfolding dyadicAct
-act-small o = pick 5 _ (eqb o STAR) (omega arith) (pick 6 _ (eqb o SLASH) (omega arith) (pick 7 _ (eqb o REM) (omega arith) (pick 8 _ (eqb o PLUS) (omega arith) (pick 9 _ (eqb o MINUS) (omega arith) (pick 10 _ (eqb o EQUAL) (omega arith) (pick 11 _ (eqb o UNEQUAL) (omega arith) (pick 12 _ (eqb o LESS) (omega arith) (pick 15 _ (eqb o ATMOST) (omega arith) (pick 14 _ (eqb o MORE) (omega arith) (pick 13 _ (eqb o ATLEAST) (omega arith) (pick 16 _ (eqb o LEFT) (omega arith) (pick 17 _ (eqb o RIGHT) (omega arith) (pick 18 _ (eqb o AMPERSAND) (omega arith) (pick 19 _ (eqb o BAR) (omega arith) (omega arith)))))))))))))))
+act-small o =
+    pick 5 _ (eqb o STAR) (omega arith) (pick 6 _ (eqb o SLASH) (omega arith)
+    (pick 7 _ (eqb o REM) (omega arith) (pick 8 _ (eqb o PLUS) (omega arith)
+    (pick 9 _ (eqb o MINUS) (omega arith) (pick 10 _ (eqb o EQUAL) (omega arith)
+    (pick 11 _ (eqb o UNEQUAL) (omega arith) (pick 12 _ (eqb o LESS) (omega arith)
+    (pick 15 _ (eqb o ATMOST) (omega arith) (pick 14 _ (eqb o MORE) (omega arith)
+    (pick 13 _ (eqb o ATLEAST) (omega arith) (pick 16 _ (eqb o LEFT) (omega arith)
+    (pick 17 _ (eqb o RIGHT) (omega arith) (pick 18 _ (eqb o AMPERSAND) (omega arith) (pick 19 _ (eqb o BAR) (omega arith) (omega arith)))))))))))))))
   where
     pick : (x y : ℕ) (b : Bool) → x ≤ 19 → y ≤ 19 → cond b x y ≤ 19
     pick x y true p q = p
@@ -168,7 +176,8 @@ sound-monadic : {T : ℕ} (o : ℕ) → Sounds T (monadicAct o)
 unfolding monadicAct
 sound-monadic {T} o = go (eqb o MINUS) (eqb o NOT)
   where
-    go : (b c : Bool) → Sounds T (cond b (instruction 7 false I.none (number false 2) ∷ []) (cond c (instruction 7 false I.none (number false 3) ∷ []) []))
+    go : (b c : Bool)
+        → Sounds T (cond b (instruction 7 false I.none (number false 2) ∷ []) (cond c (instruction 7 false I.none (number false 3) ∷ []) []))
     go true c = num (omega arith) s-none
     go false true = num (omega arith) s-none
     go false false = s-none
@@ -220,7 +229,8 @@ module _ (T functions strings : ℕ) (few : suc functions + strings ≤ T) where
   mutual
     unfolding exprCode exprLabels FormedE LeavesE ofExpr Low commandsIn count heightWith
 
-    pub sound-e : (h n : ℕ) (e : Expr) → h ≤ 8192 → Span T n (exprLabels e) → FormedE functions strings h e → Low (ofExpr h e) → LeavesE e → Sounds T (exprCode (suc functions) h n e)
+    pub sound-e : (h n : ℕ) (e : Expr) → h ≤ 8192 → Span T n (exprLabels e) → FormedE functions strings h e → Low (ofExpr h e) → LeavesE e
+        → Sounds T (exprCode (suc functions) h n e)
     sound-e h n (R.constant v) l m f w y = let z : v < 65536 = f in num (omega arith) s-none
     sound-e h n (R.local k) l m f w y = let z : k < h = f in num (omega arith) s-none
     sound-e h n (R.global k) l m f w y = let z : k < 400 = f in num (omega arith) s-none
@@ -235,7 +245,8 @@ module _ (T functions strings : ℕ) (few : suc functions + strings ≤ T) where
     sound-e h n (R.contents e) l m f w y = sounds-both (sound-e h n e l m f w y) (num (omega arith) s-none)
     sound-e h n (R.index a b) l m f w y =
         sounds-both (sound-e h n a l (omega arith) (f .0) (search lows) (y .0)) (num (omega arith)
-        (sounds-both (sound-e (h + 1) (n + exprLabels a) b (search lows) (omega arith) (f .1) (search lows) (y .1)) (num (omega arith) (num (omega arith) s-none))))
+        (sounds-both (sound-e (h + 1) (n + exprLabels a) b (search lows) (omega arith) (f .1) (search lows) (y .1))
+        (num (omega arith) (num (omega arith) s-none))))
     sound-e h n (R.unary o e) l m f w y = sounds-both (sound-e h n e l m f w y) (sound-monadic o)
     sound-e h n (R.binary o a b) l m f w y =
         sounds-both (sound-e h n a l (omega arith) (f .0) (search lows) (y .0)) (num (omega arith)
@@ -243,20 +254,25 @@ module _ (T functions strings : ℕ) (few : suc functions + strings ≤ T) where
         (num (omega arith) (num (omega arith) (num (omega arith) (num (omega (arith, act-small o)) s-none))))))
     sound-e h n (R.call e es) l m f w y =
         sounds-both (sound-a (h + 2) n es (search lows) (omega arith) (f .0) (search lows) (y .0))
-        (sounds-both (sound-e (h + 2 + count es) (n + exprsLabels es) e (high (h + 2) es (search lows) (search lows)) (omega arith) (f .1) (search lows) (y .1)) (num (omega arith) s-none))
-    sound-e h n (R.valof c) l m f w y = sounds-both (sound-c h (n + 1) _ c l (omega arith) (near-valof (omega arith)) f w y) (lab (omega arith) s-none)
+        (sounds-both (sound-e (h + 2 + count es) (n + exprsLabels es) e (high (h + 2) es (search lows) (search lows)) (omega arith) (f .1)
+        (search lows) (y .1)) (num (omega arith) s-none))
+    sound-e h n (R.valof c) l m f w y =
+        sounds-both (sound-c h (n + 1) _ c l (omega arith) (near-valof (omega arith)) f w y) (lab (omega arith) s-none)
 
     -- the height after arguments
     high : (h : ℕ) (es : Exprs) → h ≤ 8192 → Low (ofExprs h es) → h + count es ≤ 8192
     high h R.none l w = omega arith
     high h (R.and e es) l w = omega (arith, high (h + 1) es (search lows) (search lows))
 
-    sound-a : (h n : ℕ) (es : Exprs) → h ≤ 8192 → Span T n (exprsLabels es) → FormedA functions strings h es → Low (ofExprs h es) → LeavesA es → Sounds T (exprsCode (suc functions) h n es)
+    sound-a : (h n : ℕ) (es : Exprs) → h ≤ 8192 → Span T n (exprsLabels es) → FormedA functions strings h es → Low (ofExprs h es) → LeavesA es
+        → Sounds T (exprsCode (suc functions) h n es)
     sound-a h n R.none l m f w y = s-none
     sound-a h n (R.and e es) l m f w y =
-        sounds-both (sound-e h n e l (omega arith) (f .0) (search lows) (y .0)) (num (omega arith) (sound-a (h + 1) (n + exprLabels e) es (search lows) (omega arith) (f .1) (search lows) (y .1)))
+        sounds-both (sound-e h n e l (omega arith) (f .0) (search lows) (y .0))
+        (num (omega arith) (sound-a (h + 1) (n + exprLabels e) es (search lows) (omega arith) (f .1) (search lows) (y .1)))
 
-    sound-t : (h n : ℕ) (t : Target) → h ≤ 8192 → Span T n (targetLabels t) → FormedT functions strings h t → Low (ofTarget h t) → LeavesT t → Sounds T (targetCode (suc functions) h n t)
+    sound-t : (h n : ℕ) (t : Target) → h ≤ 8192 → Span T n (targetLabels t) → FormedT functions strings h t → Low (ofTarget h t) → LeavesT t
+        → Sounds T (targetCode (suc functions) h n t)
     sound-t h n (R.toLocal k) l m f w y = let z : k < h + 1 = f in num (omega arith) s-none
     sound-t h n (R.toGlobal k) l m f w y = let z : k < 400 = f in num (omega arith) s-none
     sound-t h n (R.toContents e) l m f w y =
@@ -266,43 +282,56 @@ module _ (T functions strings : ℕ) (few : suc functions + strings ≤ T) where
         (sounds-both (sound-e (h + 2) (n + exprLabels a) b (search lows) (omega arith) (f .1) (search lows) (y .1))
         (num (omega arith) (num (omega arith) (num (omega arith) (num (omega arith) s-none)))))))
 
-    sound-p : (h n : ℕ) (ps : Pairs) → h ≤ 8192 → Span T n (pairsLabels ps) → FormedP functions strings h ps → Low (ofPairs h ps) → LeavesP ps → Sounds T (pairsCode (suc functions) h n ps)
+    sound-p : (h n : ℕ) (ps : Pairs) → h ≤ 8192 → Span T n (pairsLabels ps) → FormedP functions strings h ps → Low (ofPairs h ps) → LeavesP ps
+        → Sounds T (pairsCode (suc functions) h n ps)
     sound-p h n R.noPairs l m f w y = s-none
     sound-p h n (R.pair t e ps) l m f w y =
         sounds-both (sound-e h n e l (omega arith) (f .0) (search lows) (y .0))
         (sounds-both (sound-t h (n + exprLabels e) t l (omega arith) (f .1) (search lows) (y .1))
         (sound-p h (n + exprLabels e + targetLabels t) ps l (omega arith) (f .2) (search lows) (y .2)))
 
-    pub sound-c : {a b v : Bool} (h n : ℕ) (x : Exits) (c : Cmd) → h ≤ 8192 → Span T n (cmdLabels c) → Near T a b v x → FormedC functions strings h c → Low (ofCmd h c) → LeavesC a b v c → Sounds T (cmdCode (suc functions) h n x c)
+    pub sound-c : {a b v : Bool} (h n : ℕ) (x : Exits) (c : Cmd) → h ≤ 8192 → Span T n (cmdLabels c) → Near T a b v x → FormedC functions strings h c
+        → Low (ofCmd h c) → LeavesC a b v c → Sounds T (cmdCode (suc functions) h n x c)
     sound-c h n x R.empty l m q f w y = s-none
     sound-c h n x (R.assign ps) l m q f w y = sound-p h n ps l m f w y
     sound-c h n x (R.perform e) l m q f w y = sound-e h n e l m f w y
     sound-c h n x (R.test e c d) l m q f w y =
         sounds-both (sound-e h (n + 2) e l (omega arith) (f .0) (search lows) (y .0)) (adr (omega arith)
         (sounds-both (sound-c h (n + 2 + exprLabels e) x c l (omega arith) q (f .1) (search lows) (y .1)) (adr (omega arith) (lab (omega arith)
-        (sounds-both (sound-c h (n + 2 + exprLabels e + cmdLabels c) x d l (omega arith) q (f .2) (search lows) (y .2)) (lab (omega arith) s-none))))))
+        (sounds-both (sound-c h (n + 2 + exprLabels e + cmdLabels c) x d l (omega arith) q (f .2) (search lows) (y .2))
+        (lab (omega arith) s-none))))))
     sound-c h n x (R.when sense e c) l m q f w y =
-        sounds-both (sound-e h (n + 1) e l (omega arith) (f .0) (search lows) (y .0)) (adr (omega (arith, sense-small sense 5 4 (omega arith) (omega arith)))
+        sounds-both (sound-e h (n + 1) e l (omega arith) (f .0) (search lows) (y .0))
+        (adr (omega (arith, sense-small sense 5 4 (omega arith) (omega arith)))
         (sounds-both (sound-c h (n + 1 + exprLabels e) x c l (omega arith) q (f .1) (search lows) (y .1)) (lab (omega arith) s-none)))
     sound-c h n x (R.while sense e c) l m q f w y =
-        lab (omega arith) (sounds-both (sound-e h (n + 2) e l (omega arith) (f .0) (search lows) (y .0)) (adr (omega (arith, sense-small sense 5 4 (omega arith) (omega arith)))
-        (sounds-both (sound-c h (n + 2 + exprLabels e) _ c l (omega arith) (near-loop (omega arith) q) (f .1) (search lows) (y .1)) (adr (omega arith) (lab (omega arith) s-none)))))
+        lab (omega arith) (sounds-both (sound-e h (n + 2) e l (omega arith) (f .0) (search lows) (y .0))
+        (adr (omega (arith, sense-small sense 5 4 (omega arith) (omega arith)))
+        (sounds-both (sound-c h (n + 2 + exprLabels e) _ c l (omega arith) (near-loop (omega arith) q) (f .1) (search lows) (y .1))
+        (adr (omega arith) (lab (omega arith) s-none)))))
     sound-c h n x (R.repeat c) l m q f w y =
-        lab (omega arith) (sounds-both (sound-c h (n + 3) _ c l (omega arith) (near-loop (omega arith) q) f w y) (lab (omega arith) (adr (omega arith) (lab (omega arith) s-none))))
+        lab (omega arith) (sounds-both (sound-c h (n + 3) _ c l (omega arith) (near-loop (omega arith) q) f w y)
+        (lab (omega arith) (adr (omega arith) (lab (omega arith) s-none))))
     sound-c h n x (R.repeatWhile sense c e) l m q f w y =
-        lab (omega arith) (sounds-both (sound-c h (n + 3) _ c l (omega arith) (near-loop (omega arith) q) (f .0) (search lows) (y .0)) (lab (omega arith)
-        (sounds-both (sound-e h (n + 3 + cmdLabels c) e l (omega arith) (f .1) (search lows) (y .1)) (adr (omega (arith, sense-small sense 4 5 (omega arith) (omega arith))) (lab (omega arith) s-none)))))
+        lab (omega arith) (sounds-both (sound-c h (n + 3) _ c l (omega arith) (near-loop (omega arith) q) (f .0) (search lows) (y .0))
+        (lab (omega arith)
+        (sounds-both (sound-e h (n + 3 + cmdLabels c) e l (omega arith) (f .1) (search lows) (y .1))
+        (adr (omega (arith, sense-small sense 4 5 (omega arith) (omega arith))) (lab (omega arith) s-none)))))
     sound-c h n x (R.for first limit by c) l m q f w y =
         let z : by < 65536 = f .3 in
         sounds-both (sound-e h (n + 3) first l (omega arith) (f .0) (search lows) (y .0)) (num (omega arith)
-        (sounds-both (sound-e (h + 1) (n + 3 + exprLabels first) limit (search lows) (omega arith) (f .1) (search lows) (y .1)) (num (omega arith) (lab (omega arith) (num (omega arith) (num (omega arith)
+        (sounds-both (sound-e (h + 1) (n + 3 + exprLabels first) limit (search lows) (omega arith) (f .1) (search lows) (y .1))
+        (num (omega arith) (lab (omega arith) (num (omega arith) (num (omega arith)
         (num (omega (arith, limit-small by)) (adr (omega arith)
-        (sounds-both (sound-c (h + 2) (n + 3 + exprLabels first + exprLabels limit) _ c (search lows) (omega arith) (near-loop (omega arith) q) (f .2) (search lows) (y .2))
+        (sounds-both (sound-c (h + 2) (n + 3 + exprLabels first + exprLabels limit) _ c (search lows) (omega arith) (near-loop (omega arith) q) (f .2)
+        (search lows) (y .2))
         (lab (omega arith) (num (omega arith) (num (omega arith) (num (omega arith) (adr (omega arith) (lab (omega arith) s-none)))))))))))))))
     sound-c h n x (R.switch e cs) l m q f w y =
-        sounds-both (sound-e h n e l (omega arith) (f .0) (search lows) (y .0)) (num (omega arith) (dat (omega (arith, f .2)) (plc (default-near _ _ cs (omega arith) (omega arith))
+        sounds-both (sound-e h n e l (omega arith) (f .0) (search lows) (y .0))
+        (num (omega arith) (dat (omega (arith, f .2)) (plc (default-near _ _ cs (omega arith) (omega arith))
         (sounds-both (sound-table _ h cs (omega arith) (f .1))
-        (sounds-both (sound-s h _ _ _ cs l (omega arith) (omega arith) (near-switch (omega arith) q) (f .1) (search lows) (y .1)) (lab (omega arith) s-none))))))
+        (sounds-both (sound-s h _ _ _ cs l (omega arith) (omega arith) (near-switch (omega arith) q) (f .1) (search lows) (y .1))
+        (lab (omega arith) s-none))))))
     sound-c h n x (R.resultis e) l m q f w y = sounds-both (sound-e h n e l m f w (y .0)) (adr (omega (arith, q .result (y .1))) s-none)
     sound-c h n x R.break l m q f w y = adr (omega (arith, q .break y)) s-none
     sound-c h n x R.loop l m q f w y = adr (omega (arith, q .loop y)) s-none
@@ -318,19 +347,24 @@ module _ (T functions strings : ℕ) (few : suc functions + strings ≤ T) where
     after-low h (R.vector k ls) l w = after-low (h + 2 + k) ls (w .0) (w .1)
     after-low h (R.value e ls) l w = after-low (h + 1) ls (search lows) (search lows)
 
-    sound-b : {a b v : Bool} (h n : ℕ) (x : Exits) (cs : Cmds) → h ≤ 8192 → Span T n (cmdsLabels cs) → Near T a b v x → FormedB functions strings h cs → Low (ofCmds h cs) → LeavesB a b v cs → Sounds T (cmdsCode (suc functions) h n x cs)
+    sound-b : {a b v : Bool} (h n : ℕ) (x : Exits) (cs : Cmds) → h ≤ 8192 → Span T n (cmdsLabels cs) → Near T a b v x → FormedB functions strings h cs
+        → Low (ofCmds h cs) → LeavesB a b v cs → Sounds T (cmdsCode (suc functions) h n x cs)
     sound-b h n x R.noCmds l m q f w y = s-none
     sound-b h n x (R.andCmd c cs) l m q f w y =
-        sounds-both (sound-c h n x c l (omega arith) q (f .0) (search lows) (y .0)) (sound-b h (n + cmdLabels c) x cs l (omega arith) q (f .1) (search lows) (y .1))
+        sounds-both (sound-c h n x c l (omega arith) q (f .0) (search lows) (y .0))
+        (sound-b h (n + cmdLabels c) x cs l (omega arith) q (f .1) (search lows) (y .1))
 
-    sound-s : {a b v : Bool} (h t n : ℕ) (x : Exits) (cs : Cases) → h ≤ 8192 → Span T t (commandsIn cs) → Span T n (casesLabels cs) → Near T a b v x → FormedS functions strings h cs → Low (ofCases h cs) → LeavesS a b v cs → Sounds T (casesCode (suc functions) h t n x cs)
+    sound-s : {a b v : Bool} (h t n : ℕ) (x : Exits) (cs : Cases) → h ≤ 8192 → Span T t (commandsIn cs) → Span T n (casesLabels cs) → Near T a b v x
+        → FormedS functions strings h cs → Low (ofCases h cs) → LeavesS a b v cs → Sounds T (casesCode (suc functions) h t n x cs)
     sound-s h t n x R.noCases l k m q f w y = s-none
     sound-s h t n x (R.cases ls c cs) l k m q f w y =
         lab (omega arith) (sounds-both (sound-c h n x c l (omega arith) q (f .0) (search lows) (y .0))
         (sound-s h (suc t) (n + cmdLabels c) x cs l (omega arith) (omega arith) q (f .1) (search lows) (y .1)))
 
-    sound-l : (h n : ℕ) (ls : Locals) → h ≤ 8192 → Span T n (localsLabels ls) → FormedL functions strings h ls → Low (ofLocals h ls) → LeavesL ls → Sounds T (localsCode (suc functions) h n ls)
+    sound-l : (h n : ℕ) (ls : Locals) → h ≤ 8192 → Span T n (localsLabels ls) → FormedL functions strings h ls → Low (ofLocals h ls) → LeavesL ls
+        → Sounds T (localsCode (suc functions) h n ls)
     sound-l h n R.noLocals l m f w y = s-none
     sound-l h n (R.vector k ls) l m f w y = num (omega arith) (num (omega arith) (sound-l (h + 2 + k) n ls (w .0) m (f .0) (w .1) y))
     sound-l h n (R.value e ls) l m f w y =
-        sounds-both (sound-e h n e l (omega arith) (f .0) (search lows) (y .0)) (num (omega arith) (sound-l (h + 1) (n + exprLabels e) ls (search lows) (omega arith) (f .1) (search lows) (y .1)))
+        sounds-both (sound-e h n e l (omega arith) (f .0) (search lows) (y .0))
+        (num (omega arith) (sound-l (h + 1) (n + exprLabels e) ls (search lows) (omega arith) (f .1) (search lows) (y .1)))

@@ -50,7 +50,8 @@ unfolding stringsCode
 code-up Γ l [] (end e) = omega arith
 code-up Γ l (cs ∷ ss) (next (is-label t e) (next (is-string f g) k)) = let h = code-up Γ (suc l) ss k in omega arith
 
-one-string : {mem : List ℕ} {a c b x : ℕ} (ws : List ℕ) (d : Cell) → ((j : ℕ) → j < length ws → getD mem (a + j) 0 ≡ getD ws j 0) → a + length ws ≡ c → c ≤ b → Stringed mem c b x d
+one-string : {mem : List ℕ} {a c b x : ℕ} (ws : List ℕ) (d : Cell) → ((j : ℕ) → j < length ws → getD mem (a + j) 0 ≡ getD ws j 0) → a + length ws ≡ c
+    → c ≤ b → Stringed mem c b x d
     → Stringed mem a b x (cond (leb a x) (cond (ltb x (a + length ws)) (holds (getD ws (x - a) 0)) d) d)
 one-string {mem} {a} {c} {b} {x} ws d f e l s = go (leb a x) refl (ltb x (a + length ws)) refl
   where
@@ -71,11 +72,11 @@ one-string {mem} {a} {c} {b} {x} ws d f e l s = go (leb a x) refl (ltb x (a + le
           value = λ w h. let k : getD ws (x - a) 0 ≡ w = cc in (rw z at (f (x - a) (omega arith))) ∙ k;
         }
 
-string-cells : (Γ : Env) (table : List Label) → ((n : ℕ) → 1 ≤ n → addressOf table n ≡ Γ .lab n) → (x l : ℕ) (ss : List (List ℕ)) {a b : ℕ} → 1 ≤ l → Code Γ a (stringsCode l ss) b
+string-cells : (Γ : Env) (table : List Label) → ((n : ℕ) → 1 ≤ n → addressOf table n ≡ Γ .lab n) → (x l : ℕ) (ss : List (List ℕ)) {a b : ℕ} → 1 ≤ l
+    → Code Γ a (stringsCode l ss) b
     → Stringed (Γ .image) a b x (stringCell ss (addressesFrom table l (length ss)) x)
 unfolding stringsCode stringCell addressesFrom
-string-cells Γ table same x l [] h (end e) =
-    record { before = λ k. refl; past-end = λ k. refl; value = λ w k. clash (cc) }
+string-cells Γ table same x l [] h (end e) = record { before = λ k. refl; past-end = λ k. refl; value = λ w k. clash (cc) }
 string-cells Γ table same x l (cs ∷ ss) {a} {b} h (next (is-label t e) (next (is-string f g) k)) =
     let r = string-cells Γ table same x (suc l) ss (omega arith) k in
     let z : addressOf table l ≡ a = same l h ∙ t in
@@ -97,8 +98,7 @@ module _
   stringsEnd = past (G.codeEnd input b) (stringsCode (suc (length fs)) ss)
 
   cells-of : (x : ℕ) → Stringed mem (G.codeEnd input b) stringsEnd x (stringCell ss (Γ .place .strings) x)
-  cells-of x =
-      string-cells Γ table (G.same-address input b) x (suc (length fs)) ss (omega arith) (G.standing input b .strings)
+  cells-of x = string-cells Γ table (G.same-address input b) x (suc (length fs)) ss (omega arith) (G.standing input b .strings)
 
   pub starts : first + 2 ≤ memory - 8 → Rel Γ first 2 s₀ v₀
   unfolding cellsAtStart
@@ -119,7 +119,8 @@ module _
       out a k g = rw (le-leb 16 a (omega arith), le-ltb a 416 k) g
 
       val : (a w : ℕ) → (p : Bool) → leb 16 a ≡ p → (q : Bool) → ltb a 416 ≡ q
-          → cond p (cond q (holds (getD (globalsWith fs (Γ .place .entries) noGlobals) (a - 16) 0)) (stringCell ss (Γ .place .strings) a)) gone ≡ holds w → getD mem a 0 ≡ w
+          → cond p (cond q (holds (getD (globalsWith fs (Γ .place .entries) noGlobals) (a - 16) 0))
+          (stringCell ss (Γ .place .strings) a)) gone ≡ holds w → getD mem a 0 ≡ w
       val a w false ep q eq g = cc
       val a w true ep false eq g = cells-of a .value w g
       val a w true ep true eq g =
@@ -139,9 +140,11 @@ module _
   -- a frame past the limit
   no-room : {A : Type 0} {Q : A → State → Type 0} {L E : State → Type 0} (limit base k : ℕ) (s : State) (more : State → Result A) → limit < base
       → Post Q L E (reach limit base k s more)
-  no-room limit base k s more l = post-cond (leb (base + k) limit) (λ e. let h : base + k ≤ limit = leb-true _ _ e in absurd (omega arith)) (λ e. p-undefined)
+  no-room limit base k s more l =
+      post-cond (leb (base + k) limit) (λ e. let h : base + k ≤ limit = leb-true _ _ e in absurd (omega arith)) (λ e. p-undefined)
 
-  not-called : {Q : Value → State → Type 0} {L E : State → Type 0} (limit base v : ℕ) (q : Sem) (s : State) → limit < base → Post Q L E (called fs (Γ .place) limit input q v base [] s)
+  not-called : {Q : Value → State → Type 0} {L E : State → Type 0} (limit base v : ℕ) (q : Sem) (s : State) → limit < base
+      → Post Q L E (called fs (Γ .place) limit input q v base [] s)
   unfolding called
   not-called {Q} {L} {E} limit base v q s l =
       post-cond (eqb v 3) (λ e. no-room limit base 2 s (received input) l)
@@ -164,18 +167,22 @@ module _
       where
         go : Dec (memory - 8 < first + 2)
             → Runs Γ (Valued Γ 2) 5 first 2 2 s₀ v₀
-            (called fs (Γ .place) (memory - 8) input (sem fs (Γ .place) (memory - 8) input fuel) (getD (globalsWith fs (Γ .place .entries) noGlobals) 1 0) (first + 2) [] s₀)
+            (called fs (Γ .place) (memory - 8) input (sem fs (Γ .place) (memory - 8) input fuel)
+            (getD (globalsWith fs (Γ .place .entries) noGlobals) 1 0) (first + 2) [] s₀)
         go (yes l) = not-called (memory - 8) (first + 2) _ _ s₀ l
         go (no l) =
             step-LIG Γ (fits .sized) (le-refl 2) (starts (omega arith)) refl (G.start-0 input b) (omega (arith, b .least)) λ w r c a.
-            sim-called Γ fits (sem fs (Γ .place) (memory - 8) input fuel) (sims Γ fits fuel) (getD (globalsWith fs (Γ .place .entries) noGlobals) 1 0) [] r c
+            sim-called Γ fits (sem fs (Γ .place) (memory - 8) input fuel) (sims Γ fits fuel)
+            (getD (globalsWith fs (Γ .place .entries) noGlobals) 1 0) [] r c
             (G.start-1 input b) (a ∙ G.global-word input b 1 (omega arith)) (holding-none (w .mem) (first + 2 + 2))
 
     -- a source run that ends below the last eight words is followed to a finish
     pub finishes : (fuel : ℕ) (s : State) → Over (runWith fuel fs ss (Γ .place) memory input) s → s .used + 8 ≤ memory → Ends Γ 5 s₀ v₀ s
     unfolding runWith
     finishes fuel s o h =
-        go o (both-called (memory - 8) fs (Γ .place) memory (omega arith) input _ _ (both-sem (memory - 8) fs (Γ .place) memory (omega arith) input fuel) (getD (globalsWith fs (Γ .place .entries) noGlobals) 1 0) (first + 2) [] s₀)
+        go o (both-called (memory - 8) fs (Γ .place) memory (omega arith) input _ _
+        (both-sem (memory - 8) fs (Γ .place) memory (omega arith) input fuel) (getD (globalsWith fs (Γ .place .entries) noGlobals) 1 0)
+        (first + 2) [] s₀)
         (runs fuel)
       where
         over : {v : Value} → Reached Γ (Valued Γ 2) 5 first 2 2 s₀ v₀ v s → Ends Γ 5 s₀ v₀ s

@@ -41,10 +41,12 @@ module _ (Γ : Env) (sized : Sized Γ) {A : Type 0} {Q : A → Mach → Type 0} 
   only e ep eg et f = let z = quiet Γ r e refl ep eg et refl in after Γ le z (f (z .rel))
 
   -- L n; LP n; LG n
-  pub step-L : {k b : ℕ} → At Γ a 0 false I.none k b → ((w : Mach) → Rel Γ p h s w → w .regs .c ≡ b → w .regs .a ≡ k → Runs Γ Q t p h₀ h₃ s w x) → Runs Γ Q (1 + t) p h₀ h₃ s v x
+  pub step-L : {k b : ℕ} → At Γ a 0 false I.none k b → ((w : Mach) → Rel Γ p h s w → w .regs .c ≡ b → w .regs .a ≡ k → Runs Γ Q t p h₀ h₃ s w x)
+      → Runs Γ Q (1 + t) p h₀ h₃ s v x
   step-L i f = only (do-L Γ v (r .agree) pc i (sum-none Γ v (r .agree) pc (i .small))) refl refl refl (λ q. f _ q refl refl)
 
-  pub step-LP : {k b : ℕ} → At Γ a 0 false P k b → p + k < 65536 → ((w : Mach) → Rel Γ p h s w → w .regs .c ≡ b → w .regs .a ≡ p + k → Runs Γ Q t p h₀ h₃ s w x) → Runs Γ Q (1 + t) p h₀ h₃ s v x
+  pub step-LP : {k b : ℕ} → At Γ a 0 false P k b → p + k < 65536
+      → ((w : Mach) → Rel Γ p h s w → w .regs .c ≡ b → w .regs .a ≡ p + k → Runs Γ Q t p h₀ h₃ s w x) → Runs Γ Q (1 + t) p h₀ h₃ s v x
   step-LP {k} i l f = only (do-L Γ v (r .agree) pc i (over-P Γ r pc k l)) refl refl refl (λ q. f _ q refl refl)
 
   pub step-LG : {k b : ℕ} → At Γ a 0 false G k b → 16 + k < 65536
@@ -53,13 +55,15 @@ module _ (Γ : Env) (sized : Sized Γ) {A : Type 0} {Q : A → Mach → Type 0} 
 
   -- LIP n; LIG n
   pub step-LIP : {k b : ℕ} → At Γ a 0 true P k b → p + k < Γ .limit + 8
-      → ((w : Mach) → Rel Γ p h s w → w .regs .c ≡ b → w .regs .a ≡ getD (v .mem) (p + k) 0 → w .regs .b ≡ v .regs .a → w .mem ≡ v .mem → Runs Γ Q t p h₀ h₃ s w x)
+      → ((w : Mach) → Rel Γ p h s w → w .regs .c ≡ b → w .regs .a ≡ getD (v .mem)
+      (p + k) 0 → w .regs .b ≡ v .regs .a → w .mem ≡ v .mem → Runs Γ Q t p h₀ h₃ s w x)
       → Runs Γ Q (1 + t) p h₀ h₃ s v x
   step-LIP {k} i l f =
       only (do-LI Γ v (r .agree) pc i (over-P Γ r pc k (omega (arith, sized))) (omega (arith, sized))) refl refl refl (λ q. f _ q refl refl refl refl)
 
   pub step-LIG : {k b : ℕ} → At Γ a 0 true G k b → 16 + k < Γ .limit + 8
-      → ((w : Mach) → Rel Γ p h s w → w .regs .c ≡ b → w .regs .a ≡ getD (v .mem) (16 + k) 0 → Runs Γ Q t p h₀ h₃ s w x) → Runs Γ Q (1 + t) p h₀ h₃ s v x
+      → ((w : Mach) → Rel Γ p h s w → w .regs .c ≡ b → w .regs .a ≡ getD (v .mem) (16 + k) 0 → Runs Γ Q t p h₀ h₃ s w x)
+      → Runs Γ Q (1 + t) p h₀ h₃ s v x
   step-LIG {k} i l f =
       only (do-LI Γ v (r .agree) pc i (over-G Γ r pc k (omega (arith, sized))) (omega (arith, sized))) refl refl refl (λ q. f _ q refl refl)
 
@@ -75,35 +79,42 @@ module _ (Γ : Env) (sized : Sized Γ) {A : Type 0} {Q : A → Mach → Type 0} 
 
   -- A n; AIP n
   pub step-A : {k b : ℕ} → At Γ a 2 false I.none k b
-      → ((w : Mach) → Rel Γ p h s w → w .regs .c ≡ b → w .regs .a ≡ add (v .regs .a) k → w .mem ≡ v .mem → Runs Γ Q t p h₀ h₃ s w x) → Runs Γ Q (1 + t) p h₀ h₃ s v x
+      → ((w : Mach) → Rel Γ p h s w → w .regs .c ≡ b → w .regs .a ≡ add (v .regs .a) k → w .mem ≡ v .mem → Runs Γ Q t p h₀ h₃ s w x)
+      → Runs Γ Q (1 + t) p h₀ h₃ s v x
   step-A i f = only (do-A Γ v (r .agree) pc i (sum-none Γ v (r .agree) pc (i .small))) refl refl refl (λ q. f _ q refl refl refl)
 
   pub step-AIP : {k b : ℕ} → At Γ a 2 true P k b → p + k < Γ .limit + 8
-      → ((w : Mach) → Rel Γ p h s w → w .regs .c ≡ b → w .regs .a ≡ add (v .regs .a) (getD (v .mem) (p + k) 0) → w .mem ≡ v .mem → Runs Γ Q t p h₀ h₃ s w x) → Runs Γ Q (1 + t) p h₀ h₃ s v x
+      → ((w : Mach) → Rel Γ p h s w → w .regs .c ≡ b → w .regs .a ≡ add (v .regs .a)
+      (getD (v .mem) (p + k) 0) → w .mem ≡ v .mem → Runs Γ Q t p h₀ h₃ s w x) → Runs Γ Q (1 + t) p h₀ h₃ s v x
   step-AIP {k} i l f =
       only (do-AI Γ v (r .agree) pc i (over-P Γ r pc k (omega (arith, sized))) (omega (arith, sized))) refl refl refl (λ q. f _ q refl refl refl)
 
   -- J; T and F
   pub step-J : {k b : ℕ} → At Γ a 3 false I.none k b
-      → ((w : Mach) → Rel Γ p h s w → w .regs .c ≡ k → w .regs .a ≡ v .regs .a → w .mem ≡ v .mem → Runs Γ Q t p h₀ h₃ s w x) → Runs Γ Q (1 + t) p h₀ h₃ s v x
+      → ((w : Mach) → Rel Γ p h s w → w .regs .c ≡ k → w .regs .a ≡ v .regs .a → w .mem ≡ v .mem → Runs Γ Q t p h₀ h₃ s w x)
+      → Runs Γ Q (1 + t) p h₀ h₃ s v x
   step-J i f = only (do-J Γ v (r .agree) pc i) refl refl refl (λ q. f _ q refl refl refl)
 
   pub step-T : {k b : ℕ} → At Γ a 4 false I.none k b
-      → ((w : Mach) → Rel Γ p h s w → w .regs .c ≡ cond (eqb (v .regs .a) 0) b k → w .mem ≡ v .mem → Runs Γ Q t p h₀ h₃ s w x) → Runs Γ Q (1 + t) p h₀ h₃ s v x
+      → ((w : Mach) → Rel Γ p h s w → w .regs .c ≡ cond (eqb (v .regs .a) 0) b k → w .mem ≡ v .mem → Runs Γ Q t p h₀ h₃ s w x)
+      → Runs Γ Q (1 + t) p h₀ h₃ s v x
   step-T i f = only (do-T Γ v (r .agree) pc i) refl refl refl (λ q. f _ q refl refl)
 
   pub step-F : {k b : ℕ} → At Γ a 5 false I.none k b
-      → ((w : Mach) → Rel Γ p h s w → w .regs .c ≡ cond (eqb (v .regs .a) 0) k b → w .mem ≡ v .mem → Runs Γ Q t p h₀ h₃ s w x) → Runs Γ Q (1 + t) p h₀ h₃ s v x
+      → ((w : Mach) → Rel Γ p h s w → w .regs .c ≡ cond (eqb (v .regs .a) 0) k b → w .mem ≡ v .mem → Runs Γ Q t p h₀ h₃ s w x)
+      → Runs Γ Q (1 + t) p h₀ h₃ s v x
   step-F i f = only (do-F Γ v (r .agree) pc i) refl refl refl (λ q. f _ q refl refl)
 
   -- a jump by what is wanted: where the value is so, and where not
   pub step-when : {k b : ℕ} (sense : Bool) → At Γ a (cond sense 4 5) false I.none k b
-      → ((w : Mach) → Rel Γ p h s w → w .regs .c ≡ cond (eqb (v .regs .a) 0) (cond sense b k) (cond sense k b) → w .mem ≡ v .mem → Runs Γ Q t p h₀ h₃ s w x) → Runs Γ Q (1 + t) p h₀ h₃ s v x
+      → ((w : Mach) → Rel Γ p h s w → w .regs .c ≡ cond (eqb (v .regs .a) 0) (cond sense b k)
+      (cond sense k b) → w .mem ≡ v .mem → Runs Γ Q t p h₀ h₃ s w x) → Runs Γ Q (1 + t) p h₀ h₃ s v x
   step-when true i f = step-T i f
   step-when false i f = step-F i f
 
   pub step-unless : {k b : ℕ} (sense : Bool) → At Γ a (cond sense 5 4) false I.none k b
-      → ((w : Mach) → Rel Γ p h s w → w .regs .c ≡ cond (eqb (v .regs .a) 0) (cond sense k b) (cond sense b k) → w .mem ≡ v .mem → Runs Γ Q t p h₀ h₃ s w x) → Runs Γ Q (1 + t) p h₀ h₃ s v x
+      → ((w : Mach) → Rel Γ p h s w → w .regs .c ≡ cond (eqb (v .regs .a) 0) (cond sense k b)
+      (cond sense b k) → w .mem ≡ v .mem → Runs Γ Q t p h₀ h₃ s w x) → Runs Γ Q (1 + t) p h₀ h₃ s v x
   step-unless true i f = step-F i f
   step-unless false i f = step-T i f
 
@@ -114,11 +125,13 @@ module _ (Γ : Env) (sized : Sized Γ) {A : Type 0} {Q : A → Mach → Type 0} 
       let l : y < p + h = live-below Γ r y (λ z. gone-holds z g) in
       only (do-X1 Γ v (r .agree) pc i (omega (arith, r .room, sized))) refl refl refl (λ q. f _ q refl (rw e (r .vals y w g)))
 
-  pub step-X2 : {b : ℕ} → At Γ a 7 false I.none 2 b → ((w : Mach) → Rel Γ p h s w → w .regs .c ≡ b → w .regs .a ≡ neg (v .regs .a) → Runs Γ Q t p h₀ h₃ s w x) → Runs Γ Q (1 + t) p h₀ h₃ s v x
+  pub step-X2 : {b : ℕ} → At Γ a 7 false I.none 2 b
+      → ((w : Mach) → Rel Γ p h s w → w .regs .c ≡ b → w .regs .a ≡ neg (v .regs .a) → Runs Γ Q t p h₀ h₃ s w x) → Runs Γ Q (1 + t) p h₀ h₃ s v x
   step-X2 i f = only (do-X2 Γ v (r .agree) pc i) refl refl refl (λ q. f _ q refl refl)
 
   pub step-X3 : {b : ℕ} → At Γ a 7 false I.none 3 b
-      → ((w : Mach) → Rel Γ p h s w → w .regs .c ≡ b → w .regs .a ≡ complement (v .regs .a) → Runs Γ Q t p h₀ h₃ s w x) → Runs Γ Q (1 + t) p h₀ h₃ s v x
+      → ((w : Mach) → Rel Γ p h s w → w .regs .c ≡ b → w .regs .a ≡ complement (v .regs .a) → Runs Γ Q t p h₀ h₃ s w x)
+      → Runs Γ Q (1 + t) p h₀ h₃ s v x
   step-X3 i f = only (do-X3 Γ v (r .agree) pc i) refl refl refl (λ q. f _ q refl refl)
 
   pub step-dyadic : {k b y : ℕ} (g : ℕ → ℕ → Out ℕ) → At Γ a 7 false I.none k b → actOf k ≡ dyadic g → g (v .regs .b) (v .regs .a) ≡ O.ok y
@@ -128,7 +141,8 @@ module _ (Γ : Env) (sized : Sized Γ) {A : Type 0} {Q : A → Mach → Type 0} 
   -- a store to a live cell: SP n, SG n, SIP n
   pub cell-P : {k b w : ℕ} → At Γ a 1 false P k b → v .regs .a ≡ w → Live (s .cells (p + k))
       → ((u : Mach) → Rel Γ p h (put (p + k) (holds w) s) u → u .regs .c ≡ b
-      → ((y : ℕ) → (y ≡ p + k → ⊥) → getD (u .mem) y 0 ≡ getD (v .mem) y 0) → Runs Γ Q t p h₀ h₃ (put (p + k) (holds w) s) u x) → Runs Γ Q (1 + t) p h₀ h₃ s v x
+      → ((y : ℕ) → (y ≡ p + k → ⊥) → getD (u .mem) y 0 ≡ getD (v .mem) y 0) → Runs Γ Q t p h₀ h₃ (put (p + k) (holds w) s) u x)
+      → Runs Γ Q (1 + t) p h₀ h₃ s v x
   cell-P {k} i e g f =
       let l : p + k < p + h = live-below Γ r (p + k) (gone-live g) in
       let m : p + k < length (Γ .image) = omega (arith, r .room, sized) in
@@ -136,7 +150,8 @@ module _ (Γ : Env) (sized : Sized Γ) {A : Type 0} {Q : A → Mach → Type 0} 
       after Γ le z (f _ (z .rel) refl (λ y ne. getD-set-other (v .mem) (p + k) y (v .regs .a) 0 ne))
 
   pub cell-G : {k b w : ℕ} → At Γ a 1 false G k b → v .regs .a ≡ w → Live (s .cells (16 + k))
-      → ((u : Mach) → Rel Γ p h (put (16 + k) (holds w) s) u → u .regs .c ≡ b → Runs Γ Q t p h₀ h₃ (put (16 + k) (holds w) s) u x) → Runs Γ Q (1 + t) p h₀ h₃ s v x
+      → ((u : Mach) → Rel Γ p h (put (16 + k) (holds w) s) u → u .regs .c ≡ b → Runs Γ Q t p h₀ h₃ (put (16 + k) (holds w) s) u x)
+      → Runs Γ Q (1 + t) p h₀ h₃ s v x
   cell-G {k} i e g f =
       let l : 16 + k < p + h = live-below Γ r (16 + k) (gone-live g) in
       let m : 16 + k < length (Γ .image) = omega (arith, r .room, sized) in

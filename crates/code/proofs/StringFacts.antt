@@ -27,18 +27,23 @@ module _ (text : List ℕ) where
       go (faulty number n) e = tt
 
   -- the strings' items
-  strings-sound : {T : ℕ} (l : ℕ) (xs : List Symbol) → AllWords text xs → Span T l (length (stringsAmong text xs)) → Sounds T (stringsCode l (stringsAmong text xs))
+  strings-sound : {T : ℕ} (l : ℕ) (xs : List Symbol) → AllWords text xs → Span T l (length (stringsAmong text xs))
+      → Sounds T (stringsCode l (stringsAmong text xs))
   unfolding AllWords stringsAmong stringsCode
   strings-sound l [] h m = s-none
   strings-sound {T} l (x ∷ xs) h m = go (eqb (x .kind) STRING) refl m (λ k. strings-sound (suc l) xs (h .1) k) (λ k. strings-sound l xs (h .1) k)
     where
-      go : (b : Bool) → eqb (x .kind) STRING ≡ b → Span T l (length (cond b (charactersAt text (x .place) ∷ stringsAmong text xs) (stringsAmong text xs)))
-          → (Span T (suc l) (length (stringsAmong text xs)) → Sounds T (stringsCode (suc l) (stringsAmong text xs))) → (Span T l (length (stringsAmong text xs)) → Sounds T (stringsCode l (stringsAmong text xs)))
+      go : (b : Bool) → eqb (x .kind) STRING ≡ b
+          → Span T l (length (cond b (charactersAt text (x .place) ∷ stringsAmong text xs) (stringsAmong text xs)))
+          → (Span T (suc l) (length (stringsAmong text xs)) → Sounds T (stringsCode (suc l) (stringsAmong text xs)))
+          → (Span T l (length (stringsAmong text xs)) → Sounds T (stringsCode l (stringsAmong text xs)))
           → Sounds T (stringsCode l (cond b (charactersAt text (x .place) ∷ stringsAmong text xs) (stringsAmong text xs)))
       go true e k f g =
           s-more {x = I.label l} (record { first = k .one; last = omega (arith, k .room) })
-          (s-more {x = I.string (charactersAt text (x .place))} (record { short = h .0 .short (eqb-true _ _ e); each = writable-at (x .place) }) (f (span (omega arith) (omega (arith, k .room)))))
+          (s-more {x = I.string (charactersAt text (x .place))} (record { short = h .0 .short (eqb-true _ _ e); each = writable-at (x .place) })
+          (f (span (omega arith) (omega (arith, k .room)))))
       go false e k f g = g k
 
-  pub strings-now-sound : {T : ℕ} (l : ℕ) → Span T l (length (stringsAmong text (symbolsNow text))) → Sounds T (stringsCode l (stringsAmong text (symbolsNow text)))
+  pub strings-now-sound : {T : ℕ} (l : ℕ) → Span T l (length (stringsAmong text (symbolsNow text)))
+      → Sounds T (stringsCode l (stringsAmong text (symbolsNow text)))
   strings-now-sound l m = strings-sound l (symbolsNow text) (words-now text) m

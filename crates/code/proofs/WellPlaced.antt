@@ -50,7 +50,8 @@ in-functions strings l n [] k h = absurd (omega arith)
 in-functions strings l n (f ∷ fs) zero h = let z : l + 0 ≡ l = omega arith in rw z here
 in-functions strings l n (f ∷ fs) (suc k) h =
     let z : l + suc k ≡ suc l + k = omega arith in
-    rw z (there (in-right (bodyCode strings (2 + f .parameters) n (f .body)) (there (in-functions strings (suc l) (n + bodyLabels (f .body)) fs k (omega arith)))))
+    rw z (there (in-right (bodyCode strings (2 + f .parameters) n (f .body))
+    (there (in-functions strings (suc l) (n + bodyLabels (f .body)) fs k (omega arith)))))
 
 in-strings : (l : ℕ) (ss : List (List ℕ)) (k : ℕ) → k < length ss → In (l + k) (stringsCode l ss)
 unfolding stringsCode
@@ -68,15 +69,19 @@ defined-in (l ∷ ls) more n at = go (eqb (l .number) n) (defined-in ls more n a
     go false e = e
 
 module _ (memory room : ℕ) where
-  laid-defined : {n : ℕ} {xs : List Item} → In n xs → (at p : ℕ) (ls : List Label) {labels : List Label} {end : ℕ} → Lays memory room at ls (places p xs) labels end → defined labels n ≡ true
+  laid-defined : {n : ℕ} {xs : List Item} → In n xs → (at p : ℕ) (ls : List Label) {labels : List Label} {end : ℕ}
+      → Lays memory room at ls (places p xs) labels end → defined labels n ≡ true
   unfolding places noted
   laid-defined {n} (here {xs = xs}) at p ls h =
-      let x = lay-extends memory room (at + size (label n)) (ls ++ (record { number = n; address = at } ∷ [])) (places (p + length (render (label n)) + 1) xs) (lay-step memory room h .1) in
+      let x
+      = lay-extends memory room (at + size (label n)) (ls ++ (record { number = n; address = at } ∷ []))
+      (places (p + length (render (label n)) + 1) xs) (lay-step memory room h .1) in
       rw (x .is, append-assoc ls (record { number = n; address = at } ∷ []) (x .more)) (defined-in ls (x .more) n at)
   laid-defined (there {x = x} i) at p ls h = laid-defined i (at + size x) (p + length (render x) + 1) (noted at ls x) (lay-step memory room h .1)
 
   -- past some items
-  skip : {T : Type 0} (xs ys : List Item) (at p : ℕ) (ls : List Label) {labels : List Label} {end : ℕ} → Lays memory room at ls (places p (xs ++ ys)) labels end
+  skip : {T : Type 0} (xs ys : List Item) (at p : ℕ) (ls : List Label) {labels : List Label} {end : ℕ}
+      → Lays memory room at ls (places p (xs ++ ys)) labels end
       → ((p′ : ℕ) (ls′ : List Label) → Lays memory room (past at xs) ls′ (places p′ ys) labels end → T) → T
   unfolding places past
   skip [] ys at p ls h f = f p ls h
@@ -98,18 +103,18 @@ module _ (memory room : ℕ) where
       let t : Lays memory room (at + 0) (noted at ls (label l)) (places (p + length (render (label l)) + 1) (body ++ (X 4 ∷ rest))) labels end
       = rw (append-assoc body (X 4 ∷ functionsCode strings (suc l) (n + bodyLabels (f .body)) fs) ys) at (lay-step memory room h .1) in
       skip body (X 4 ∷ rest) (at + 0) (p + length (render (label l)) + 1) (noted at ls (label l)) t λ p′ ls′ h′.
-      let u : Up labels (suc l) (past (at + 0) body + 1) (length fs) = functions-up strings (suc l) (n + bodyLabels (f .body)) fs ys (past (at + 0) body + 1) _ _ (lay-step memory room h′ .1) in
+      let u : Up labels (suc l) (past (at + 0) body + 1) (length fs)
+      = functions-up strings (suc l) (n + bodyLabels (f .body)) fs ys (past (at + 0) body + 1) _ _ (lay-step memory room h′ .1) in
       let m : at + 0 ≤ past (at + 0) body = past-more (at + 0) body in
-      record {
-        low = λ k j. low′ a u m k j;
-        strict = λ i j v w. strict′ a u m i j v w;
-      }
+      record { low = λ k j. low′ a u m k j; strict = λ i j v w. strict′ a u m i j v w }
     where
-      low′ : {b : ℕ} → addressOf labels l ≡ at → Up labels (suc l) (b + 1) (length fs) → at + 0 ≤ b → (k : ℕ) → k < suc (length fs) → at ≤ addressOf labels (l + k)
+      low′ : {b : ℕ} → addressOf labels l ≡ at → Up labels (suc l) (b + 1) (length fs) → at + 0 ≤ b → (k : ℕ) → k < suc (length fs)
+          → at ≤ addressOf labels (l + k)
       low′ a u m zero j = let z : l + 0 ≡ l = omega arith in rw z (omega arith)
       low′ a u m (suc k) j = let z : l + suc k ≡ suc l + k = omega arith in rw z (omega (arith, u .low k (omega arith)))
 
-      strict′ : {b : ℕ} → addressOf labels l ≡ at → Up labels (suc l) (b + 1) (length fs) → at + 0 ≤ b → (i j : ℕ) → i < j → j < suc (length fs) → addressOf labels (l + i) < addressOf labels (l + j)
+      strict′ : {b : ℕ} → addressOf labels l ≡ at → Up labels (suc l) (b + 1) (length fs) → at + 0 ≤ b → (i j : ℕ) → i < j → j < suc (length fs)
+          → addressOf labels (l + i) < addressOf labels (l + j)
       strict′ a u m i zero v w = absurd (omega arith)
       strict′ a u m zero (suc j) v w =
           let y : l + 0 ≡ l = omega arith in
@@ -133,7 +138,8 @@ module _ (Γ : Env) where
   strings-up l [] (end e) = omega arith
   strings-up l (cs ∷ ss) (next (is-label t e) (next (is-string f g) k)) = let h = strings-up (suc l) ss k in omega arith
 
-  string-at : (l : ℕ) (ss : List (List ℕ)) {a b : ℕ} → Code Γ a (stringsCode l ss) b → (k : ℕ) → k < length ss → StringAt (Γ .image) a b (Γ .lab (l + k)) (packed (getD ss k []))
+  string-at : (l : ℕ) (ss : List (List ℕ)) {a b : ℕ} → Code Γ a (stringsCode l ss) b → (k : ℕ) → k < length ss
+      → StringAt (Γ .image) a b (Γ .lab (l + k)) (packed (getD ss k []))
   unfolding stringsCode
   string-at l [] c k h = absurd (omega arith)
   string-at l (cs ∷ ss) {a} {b} (next (is-label t e) (next (is-string f g) c)) zero h =
@@ -192,7 +198,8 @@ module _
           at-label (in-left _ (rw z at (in-functions (suc (length fs)) 1 (suc (length fs) + length ss) fs (n - 1) (omega arith))))
       go (yes k) =
           let z : suc (length fs) + (n - suc (length fs)) ≡ n = omega arith in
-          at-label (in-right (functionsCode (suc (length fs)) 1 (suc (length fs) + length ss) fs) (in-left _ (rw z at (in-strings (suc (length fs)) ss (n - suc (length fs)) (omega arith)))))
+          at-label (in-right (functionsCode (suc (length fs)) 1 (suc (length fs) + length ss) fs)
+          (in-left _ (rw z at (in-strings (suc (length fs)) ss (n - suc (length fs)) (omega arith)))))
 
   up : Up memory room (b .labels) 1 416 (length fs)
   unfolding itemsOf
@@ -204,7 +211,8 @@ module _
   string-entry : (k : ℕ) → k < length ss → getD (addressesFrom table (suc (length fs)) (length ss)) k 0 ≡ addressOf (b .labels) (suc (length fs) + k)
   string-entry k l = G.addresses-at table (suc (length fs)) (length ss) k l ∙ G.same-address [] b (suc (length fs) + k) (omega arith)
 
-  pub entries-differ : (i j : ℕ) → i < length fs → j < length fs → getD (addressesFrom table 1 (length fs)) i 0 ≡ getD (addressesFrom table 1 (length fs)) j 0 → i ≡ j
+  pub entries-differ : (i j : ℕ) → i < length fs → j < length fs
+      → getD (addressesFrom table 1 (length fs)) i 0 ≡ getD (addressesFrom table 1 (length fs)) j 0 → i ≡ j
   entries-differ i j h k e =
       let q : addressOf (b .labels) (1 + i) ≡ addressOf (b .labels) (1 + j) = sym (entry i h) ∙ e ∙ entry j k in
       go q (decLt i j) (decLt j i)
@@ -240,11 +248,12 @@ module _
       (λ j l. getD-take n (drop a mem) j 0 (omega arith) ∙ getD-drop a mem j 0 ∙ s .words j (omega arith))
 
   pub string-apart : (i j : ℕ) → i < j → j < length ss
-      → getD (addressesFrom table (suc (length fs)) (length ss)) i 0 + length (packed (getD ss i [])) ≤ getD (addressesFrom table (suc (length fs)) (length ss)) j 0
-  string-apart i j l h =
-      rw (string-entry i (omega arith), string-entry j h) (strings-apart Γ (suc (length fs)) ss (G.standing [] b .strings) i j l h)
+      → getD (addressesFrom table (suc (length fs)) (length ss)) i 0 + length (packed (getD ss i [])) ≤ getD
+      (addressesFrom table (suc (length fs)) (length ss)) j 0
+  string-apart i j l h = rw (string-entry i (omega arith), string-entry j h) (strings-apart Γ (suc (length fs)) ss (G.standing [] b .strings) i j l h)
 
-module _ (source : List ℕ) (good : Good source) (memory room first : ℕ) (accepted : assembled (textOf source) memory room .answer ≡ Accepted first) where
+module _ (source : List ℕ) (good : Good source) (memory room first : ℕ)
+    (accepted : assembled (textOf source) memory room .answer ≡ Accepted first) where
   stands : Built (functionsIn source) (stringsIn source) memory room first (assembled (textOf source) memory room .memory) (assembled (textOf source) memory room .table)
   unfolding textOf
   stands = built (functionsIn source) (stringsIn source) memory room first (good .sound) accepted

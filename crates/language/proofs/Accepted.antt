@@ -39,7 +39,8 @@ parsed-read : (text : List ℕ) (p : Program) → parsed text ≡ S.read p → I
 unfolding parsed symbolsOf readSymbols
 parsed-read text p h = go (firstFault (length text) (brackets [] (scan text .symbols)) (scan text .ending)) refl h
   where
-    onto : (o : Out Program) → treeOf (sourceNow text) ≡ o → symbolsOf text ≡ S.good (symbolsNow text) → S.onTree (sourceNow text) o ≡ S.read p → IsRead text p
+    onto : (o : Out Program) → treeOf (sourceNow text) ≡ o → symbolsOf text ≡ S.good (symbolsNow text) → S.onTree (sourceNow text) o ≡ S.read p
+        → IsRead text p
     onto (ok q n) e k m = let z : q ≡ p = cc in record { symbols = k; next = n; tree = e ∙ ap (λ (x : Program). ok x n) z }
     onto (no number at) e k m = clash (cc)
 
@@ -53,8 +54,11 @@ module _ (text : List ℕ) (p : Program) (r : IsRead text p) where
   unfolding stringsIn
   strings-are = rw (r .symbols) refl
 
-  read-fine : (loops : ℕ) → 1 ≤ loops → length text ≤ 65535 → cost loops (scan text .symbols) ≤ 65535 → FineProgram (length (stringsIn text)) p × (programTokens loops p ≤ cost loops (scan text .symbols))
-  read-fine loops some short few = go (rw (r .tree) at (program (sourceNow text) (length (stringsAmong text (symbolsNow text))) (λ at. cost loops (take at (symbolsNow text))) (counts loops some text short few)))
+  read-fine : (loops : ℕ) → 1 ≤ loops → length text ≤ 65535 → cost loops (scan text .symbols) ≤ 65535
+      → FineProgram (length (stringsIn text)) p × (programTokens loops p ≤ cost loops (scan text .symbols))
+  read-fine loops some short few =
+      go (rw (r .tree) at (program (sourceNow text) (length (stringsAmong text (symbolsNow text))) (λ at. cost loops (take at (symbolsNow text)))
+      (counts loops some text short few)))
     where
       go : Of (sourceNow text) (length (stringsAmong text (symbolsNow text))) (λ at. cost loops (take at (symbolsNow text))) (counts loops some text short few) (FineProgram (length (stringsAmong text (symbolsNow text)))) (programTokens loops) 0 (ok p (r .next))
           → FineProgram (length (stringsIn text)) p × (programTokens loops p ≤ cost loops (scan text .symbols))
@@ -114,7 +118,8 @@ facts source scratch h = go (ltb 16384 (length source)) refl (ltb scratch (8 * l
 
 -- its functions are formed
 pub formed : (source : List ℕ) → Facts source → (k : ℕ) → k < length (functionsIn source)
-    → FormedF (length (functionsIn source)) (length (stringsIn source)) (2 + getD (functionsIn source) k noFun .parameters) (getD (functionsIn source) k noFun .body)
+    → FormedF (length (functionsIn source)) (length (stringsIn source)) (2 + getD (functionsIn source) k noFun .parameters)
+    (getD (functionsIn source) k noFun .body)
 formed source x =
     rw (x .functions) (formed-at (length (funs (functionsOf source (x .tree)))) (length (stringsIn source)) (functionsOf source (x .tree))
     (program-formed (length (stringsIn source)) source (x .tree) (x .fine) (x .no-faults)))

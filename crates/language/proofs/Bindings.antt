@@ -26,7 +26,8 @@ module _ (inner : Inside) where
   unfolding expression negations
   negation s at = refl
 
-  pub step : (b : ℕ) → b ≤ 6 → (suc b ≡ NEGATION → ⊥) → expression inner (suc b) ≡ chain (suc b) (expression inner b) (expression inner (rightOf (suc b)))
+  pub step : (b : ℕ) → b ≤ 6 → (suc b ≡ NEGATION → ⊥)
+      → expression inner (suc b) ≡ chain (suc b) (expression inner b) (expression inner (rightOf (suc b)))
   unfolding expression products sums relations shifts conjunctions disjunctions
   step zero h n = refl
   step (suc zero) h n = refl

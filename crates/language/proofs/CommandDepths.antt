@@ -28,8 +28,7 @@ module _ (s : Source) where
     unfolding C.test depth
     test at =
         on (the K.TEST s at) λ _ n₁. bind (b .expressions LOOSEST n₁) λ e n₂ p.
-        on (the K.DO s n₂) λ _ n₃. bind (b .commands n₃) λ c n₄ q.
-        on (the K.OR s n₄) λ _ n₅. bind (b .commands n₅) λ c′ n₆ q′. give (omega arith)
+        on (the K.DO s n₂) λ _ n₃. bind (b .commands n₃) λ c n₄ q. on (the K.OR s n₄) λ _ n₅. bind (b .commands n₅) λ c′ n₆ q′. give (omega arith)
 
     guarded : (at : ℕ) → Low unlabelledDepth d (C.guarded r s at)
     unfolding C.guarded depth
@@ -42,8 +41,7 @@ module _ (s : Source) where
         on (the K.FOR s at) λ _ n₁. on (aName s n₁) λ n n₂.
         on (the K.EQUAL s n₂) λ _ n₃. bind (b .expressions LOOSEST n₃) λ e n₄ p.
         on (the K.TO s n₄) λ _ n₅. bind (b .expressions LOOSEST n₅) λ e′ n₆ p′.
-        on (C.optionalBy r s n₆) λ k n₇.
-        on (the K.DO s n₇) λ _ n₈. bind (b .commands n₈) λ c _ q. give (omega arith)
+        on (C.optionalBy r s n₆) λ k n₇. on (the K.DO s n₇) λ _ n₈. bind (b .commands n₈) λ c _ q. give (omega arith)
 
     the-items : (at : ℕ) → Low commandsDepth d (items T.noCommands (C.listed r) s at)
     unfolding C.listed depth
@@ -60,8 +58,7 @@ module _ (s : Source) where
     further : (n at : ℕ) → Low expressionsDepth d (C.further r n s at)
     unfolding C.further depth
     further zero at = give (omega arith)
-    further (suc n) at =
-        on (the K.COMMA s at) λ _ n₁. bind (b .expressions LOOSEST n₁) λ e n₂ p. bind (further n n₂) λ es _ q. give (omega arith)
+    further (suc n) at = on (the K.COMMA s at) λ _ n₁. bind (b .expressions LOOSEST n₁) λ e n₂ p. bind (further n n₂) λ es _ q. give (omega arith)
 
     values : (n : Name) (ns : List Name) (at : ℕ) → LowPut localsDepth d (C.values r n ns s at)
     unfolding C.values depth
@@ -134,8 +131,7 @@ module _ (s : Source) where
 
   low-within : (n : ℕ) → InsideOf (LowReaders s (8 * n)) (within n)
   low-within =
-      within-of (λ n. LowReaders s (8 * n)) λ n inner l.
-      record {
+      within-of (λ n. LowReaders s (8 * n)) λ n inner l. record {
         expressions = λ b at. related (expression s l b at) (λ _ _ p. omega arith);
         commands = λ at. related (command l at) (λ _ _ p. omega arith);
       }
@@ -151,7 +147,8 @@ module _ (s : Source) where
   function : (at : ℕ) → LowPut functionsDepth 520 (G.function s at)
   unfolding G.function functionsDepth
   function at =
-      on (aName s at) λ n n₁. on (the K.OPEN s n₁) λ _ n₂. on (upToClose [] G.parameter s n₂) λ ps n₃. bind (body n₃) λ x _ p. give λ fs _ q. omega arith
+      on (aName s at) λ n n₁. on (the K.OPEN s n₁) λ _ n₂. on (upToClose [] G.parameter s n₂) λ ps n₃. bind (body n₃) λ x _ p. give λ fs _ q.
+      omega arith
 
   declaration : (at : ℕ) → Low declarationDepth 520 (G.declaration s at)
   unfolding G.declaration G.globals G.manifests G.functions G.andFunction declarationDepth functionsDepth
@@ -161,7 +158,8 @@ module _ (s : Source) where
       (both (is K.MANIFEST s at)
       (on (the K.MANIFEST s at) λ _ n₁. on (the K.BEGIN s n₁) λ _ n₂. on (items [] (G.item K.EQUAL) s n₂) λ xs _. give (omega arith))
       (on (the K.LET s at) λ _ n₁. bind (function n₁) λ put n₂ p.
-      bind (many-of s (Deep functionsDepth 520) [] (λ _. omega arith) G.andFunction (λ kind. eqb kind K.AND) (λ n _. on (the K.AND s n) λ _ m. function m) n₂)
+      bind (many-of s (Deep functionsDepth 520) [] (λ _. omega arith) G.andFunction (λ kind. eqb kind K.AND)
+      (λ n _. on (the K.AND s n) λ _ m. function m) n₂)
       λ fs n₃ q. give (p fs n₃ q)))
 
   declared : (at : ℕ) → LowPut programDepth 520 (G.declared s at)

@@ -46,8 +46,7 @@ module _ (s : Source) where
   chain b n left right f g at =
       bind (f at) λ e n₁ p.
       bind (many-up-to s (Deep operationsDepth n) T.noOperations (λ _. omega arith) (E.operation right) _
-      (λ m _. on (any s m) λ x n₂. bind (g n₂) λ e′ n₃ p′. give λ os _ q. omega arith) (E.mostOf b s) n₁) λ os n₄ q.
-      give (with-operations n e os p q)
+      (λ m _. on (any s m) λ x n₂. bind (g n₂) λ e′ n₃ p′. give λ os _ q. omega arith) (E.mostOf b s) n₁) λ os n₄ q. give (with-operations n e os p q)
 
   module _ {d : ℕ} {inner : Inside} (l : InsideOf (LowReaders d) inner) where
     primary : (at : ℕ) → Low depth (suc d) (E.primary inner s at)
@@ -58,7 +57,8 @@ module _ (s : Source) where
         (both (is K.TRUE s at) (on (any s at) λ _ _. give (omega arith))
         (both (is K.FALSE s at) (on (any s at) λ _ _. give (omega arith))
         (both (is K.NAME s at) (on (aName s at) λ _ _. give (omega arith))
-        (both (is K.OPEN s at) (opened _ l λ r b. on (the K.OPEN s at) λ _ n₁. bind (b .expressions LOOSEST n₁) λ e n₂ p. on (the K.CLOSE s n₂) λ _ _. give (omega arith))
+        (both (is K.OPEN s at) (opened _ l λ r b. on (the K.OPEN s at) λ _ n₁.
+        bind (b .expressions LOOSEST n₁) λ e n₂ p. on (the K.CLOSE s n₂) λ _ _. give (omega arith))
         (both (is K.VALOF s at) (opened _ l λ r b. on (the K.VALOF s at) λ _ n₁. bind (b .commands n₁) λ c _ p. give (omega arith)) refusal))))))
 
     monadic : (at : ℕ) → Low depth (suc d) (E.monadic inner s at)
@@ -78,7 +78,8 @@ module _ (s : Source) where
     unfolding E.operand E.suffixed depth
     operand at =
         both (isMonadic (kindAt s at)) (related (monadic at) (λ _ _ p. omega arith))
-        (bind (primary at) λ e n₁ p. bind (many-of s (Deep suffixesDepth (suc d)) T.noSuffixes (λ _. omega arith) (E.suffix inner) isSuffix (λ n _. suffix n) n₁)
+        (bind (primary at) λ e n₁ p. bind (many-of s (Deep suffixesDepth (suc d)) T.noSuffixes (λ _. omega arith) (E.suffix inner) isSuffix
+        (λ n _. suffix n) n₁)
         λ ss _ q. give (with-suffixes d e ss p q))
 
     pub expression : (binding at : ℕ) → Low depth (8 + d) (E.expression inner binding s at)

@@ -71,7 +71,8 @@ spelling-in (w ∷ ws) bs h =
         let o = both-true (cond (isRepeat (w .kind)) (leb 3 (length (w .spelling))) true) (not (eqb (w .kind) STRING)) (q .0) in
         record {
           long = λ r.
-              let m : length (w .spelling) ≡ length bs = eqb-true _ _ (both-true (eqb (length (w .spelling)) (length bs)) (begins (w .spelling) bs) e .0) in
+              let m : length (w .spelling) ≡ length bs
+              = eqb-true _ _ (both-true (eqb (length (w .spelling)) (length bs)) (begins (w .spelling) bs) e .0) in
               omega (arith, leb-true 3 (length (w .spelling)) (rw r at (o .0)));
           string = eqb-false (w .kind) STRING (not-true (eqb (w .kind) STRING) (o .1));
           number = eqb-false (w .kind) NUMBER (not-true (eqb (w .kind) NUMBER) (q .1));
@@ -98,7 +99,8 @@ module _ (bs : List ℕ) where
     where
       go : (kind : ℕ) → Spelling kind (take (wordWidth bs) bs) → KnownElement bs (symbol kind (wordWidth bs) (wordWidth bs))
       go kind k =
-          is-symbol (record { number = λ e. absurd (k .number e); name = λ _. word-within bs; wide = by (isRepeat kind) refl; short = λ e. absurd (k .string e) })
+          is-symbol (record
+          { number = λ e. absurd (k .number e); name = λ _. word-within bs; wide = by (isRepeat kind) refl; short = λ e. absurd (k .string e) })
         where
           by : (b : Bool) → isRepeat kind ≡ b → needs kind (inside bs) ≤ suc (min (wordWidth bs - 1) (length bs - 1))
           by true e = rw e (omega (arith, k .long e, length-take (wordWidth bs) bs, word-within bs))

@@ -21,7 +21,8 @@ unfoldable written-table : Table (String × String) (List ℕ)
 written-table =
     -- Both of two CASE labels before one command reach it: on the input 48,5 the comma becomes a space
     ("$( LET C = RDCH() WHILE C >= 0 DO $( SWITCHON C INTO $( CASE ',': CASE '.': WRCH('*S'); ENDCASE; DEFAULT: WRCH(C) $); C := RDCH() $) $)", "48,5") gives bytes "48 5" ∷
-    ("$( SWITCHON RDCH() INTO $( CASE ',': CASE '.': WRCH('X') $); SWITCHON RDCH() INTO $( CASE ',': CASE '.': WRCH('Y') $) $)", ",.") gives bytes "XY" ∷
+    ("$( SWITCHON RDCH() INTO $( CASE ',': CASE '.': WRCH('X') $); SWITCHON RDCH() INTO $( CASE ',': CASE '.': WRCH('Y') $) $)", ",.") gives bytes
+    "XY" ∷
     -- CASE labels fall through; with no match DEFAULT
     ("$( SWITCHON 2 INTO $( CASE 1: WRCH('A'); CASE 2: WRCH('B'); DEFAULT: WRCH('C'); CASE 3: WRCH('D') $); SWITCHON 7 INTO $( CASE 1: WRCH('E'); DEFAULT: WRCH('F') $); SWITCHON 7 INTO $( CASE 1: WRCH('G') $) $)", "") gives bytes "BCDF" ∷
     -- a function that calls itself

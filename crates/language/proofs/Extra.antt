@@ -319,15 +319,13 @@ keeps-the {k} {i = true} kind h =
 
 pub keeps-name : {k : Bool} → Keeps k flush flush aName
 unfolding aName any
-keeps-name =
-    keeps-cond (λ k. eqb k K.NAME) refl (at-made _ (λ x. record { place = x .place; width = x .value }) refl) keeps-unexpected
+keeps-name = keeps-cond (λ k. eqb k K.NAME) refl (at-made _ (λ x. record { place = x .place; width = x .value }) refl) keeps-unexpected
 
 -- an optional semicolon is the one place where an extra one may stand
 module _ {A : Type 0} (a : A) where
   optional-flush : Keeps false flush flush (optional K.SEMICOLON >>= λ _. return a)
   unfolding optional any
-  optional-flush =
-      after (keeps-cond (λ k. eqb k K.SEMICOLON) refl (at-made _ (λ _. true) refl) (keeps-return false)) (λ _. keeps-return a)
+  optional-flush = after (keeps-cond (λ k. eqb k K.SEMICOLON) refl (at-made _ (λ _. true) refl) (keeps-return false)) (λ _. keeps-return a)
 
   taken : {s t : Source} (at x : ℕ) (b b′ : Bool) → b ≡ false → b′ ≡ true → Stands s t flush at (x + 1)
       → Kept s t flush (onOut (cond b (ok true (at + 1)) (ok false at)) (λ _ n. ok a n))
@@ -348,7 +346,8 @@ module _ {A : Type 0} (a : A) where
 -- ---- lists
 
 -- { item }, from and to positions of one kind
-module _ {A : Type 0} {i : Bool} (none : A) (begins : ℕ → Bool) (item : Reader (A → A)) (h : blind i begins ≡ true) (l : KeepsAt true begins i item) where
+module _ {A : Type 0} {i : Bool} (none : A) (begins : ℕ → Bool) (item : Reader (A → A)) (h : blind i begins ≡ true)
+    (l : KeepsAt true begins i item) where
   -- with as many turns in both
   pub keeps-fixed : (n : ℕ) → Keeps false i i (manyUpTo n none begins item)
   unfolding manyUpTo

@@ -85,8 +85,7 @@ unfolding E.chain E.operations E.mostOf E.operation many member
 chain b c {left} {right} f g = after f (λ e. after (by (eqb b RELATION)) (λ os. end-near))
   where
     operation : KeepsAt true (binds b) near (E.operation right)
-    operation =
-        at-after (at-symbol (binds b) (none-of (binds b) (K.SEMICOLON ∷ others) K.LOOP (c .0) refl)) λ x. after g λ e. end-near
+    operation = at-after (at-symbol (binds b) (none-of (binds b) (K.SEMICOLON ∷ others) K.LOOP (c .0) refl)) λ x. after g λ e. end-near
 
     -- one relation, or all of a chain
     by : (x : Bool) → Keeps false near near (λ s at. manyUpTo (cond x 1 (length (s .symbols))) T.noOperations (binds b) (E.operation right) s at)
@@ -148,8 +147,7 @@ module _ {r : Readers} (b : KeptReaders r) where
   unfolding C.test
   test =
       past K.TEST refl λ _. after (b .expressions LOOSEST) λ e.
-      past K.DO refl λ _. after (b .commands) λ c.
-      past K.OR refl λ _. after (b .commands) λ d. end-near
+      past K.DO refl λ _. after (b .commands) λ c. past K.OR refl λ _. after (b .commands) λ d. end-near
 
   guarded : KeepsAt false isGuard near (C.guarded r)
   unfolding C.guarded isGuard member
@@ -170,9 +168,7 @@ module _ {r : Readers} (b : KeptReaders r) where
 
   switchon : Reads (C.switchon r)
   unfolding C.switchon
-  switchon =
-      past K.SWITCHON refl λ _. after (b .expressions LOOSEST) λ e.
-      past K.INTO refl λ _. past K.BEGIN refl λ _. after the-items λ cs. end-near
+  switchon = past K.SWITCHON refl λ _. after (b .expressions LOOSEST) λ e. past K.INTO refl λ _. past K.BEGIN refl λ _. after the-items λ cs. end-near
 
   further : (n : ℕ) → Keeps false near near (C.further r n)
   unfolding C.further
@@ -181,7 +177,8 @@ module _ {r : Readers} (b : KeptReaders r) where
 
   given-to : (n : Name) (ns : List Name) → Reads (C.given r n ns)
   unfolding C.given C.vector C.values
-  given-to n [] = if-it-is K.VEC (past K.VEC refl λ _. after (b .constants) λ c. end-near) (after (b .expressions LOOSEST) λ e. after (further 0) λ es. end-near)
+  given-to n [] =
+      if-it-is K.VEC (past K.VEC refl λ _. after (b .constants) λ c. end-near) (after (b .expressions LOOSEST) λ e. after (further 0) λ es. end-near)
   given-to n (m ∷ ns) = after (b .expressions LOOSEST) λ e. after (further (length (m ∷ ns))) λ es. end-near
 
   -- an extra semicolon behind it is the optional one

@@ -42,10 +42,7 @@ formerEscape (c ∷ r) =
 
 unfoldable pub formerCharacter : ℕ → List ℕ → Character
 formerCharacter quote [] = bad
-formerCharacter quote (c ∷ r) =
-    cond (eqb c quote) closing
-    (cond (eqb c 42) (formerEscape r)
-    (cond (leb 32 c) (cond (leb c 126) (is c 1) bad) bad))
+formerCharacter quote (c ∷ r) = cond (eqb c quote) closing (cond (eqb c 42) (formerEscape r) (cond (leb 32 c) (cond (leb c 126) (is c 1) bad) bad))
 
 pub data Former : Type 0 where
   read : (characters : List ℕ) (width : ℕ) → Former
@@ -212,7 +209,8 @@ module _ (class : ℕ) (bs : List ℕ) where
   element-kept = by (eqb class QUOTE) (eqb class DOUBLE) refl refl
     where
       by : (s t : Bool) → eqb class QUOTE ≡ s → eqb class DOUBLE ≡ t
-          → KeptElement (cond s (asCharacter (formerly 39 0 (drop 1 bs))) (cond t (asString (formerly 34 0 (drop 1 bs))) (byClass class bs))) (byClass class bs)
+          → KeptElement (cond s (asCharacter (formerly 39 0 (drop 1 bs))) (cond t (asString (formerly 34 0 (drop 1 bs))) (byClass class bs)))
+          (byClass class bs)
       by true t e f = quotes-kept (eqb-true class QUOTE e)
       by false true e f = doubles-kept (eqb-true class DOUBLE f)
       by false false e f = same-element (byClass class bs)
@@ -248,7 +246,8 @@ unfolding formerSymbols symbolsOf scan
 symbols-kept text e =
     let m = brackets [] (formerScan 0 0 text .symbols) in
     let f = formerScan 0 0 text .ending in
-    let n : f ≡ none = first-none (length text) m f (good-none (firstFault (length text) m f) (semicolons text (numbered 0 (formerScan 0 0 text .symbols))) e) in
+    let n : f ≡ none
+    = first-none (length text) m f (good-none (firstFault (length text) m f) (semicolons text (numbered 0 (formerScan 0 0 text .symbols))) e) in
     rw (scan-kept 0 0 text n) e
 
 -- and a string that was read has just those characters

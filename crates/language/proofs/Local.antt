@@ -111,7 +111,8 @@ module _ {A : Type 0} where
   -- a choice by the symbol here
   pub local-cond : {k : ℕ} (r r′ : Reader A) → Local k r → Local k r′ → (b : ℕ → Bool) → Local k (λ s at. cond (b (kindAt s at)) (r s at) (r′ s at))
   local-cond r r′ l l′ b =
-      record { local = λ {s} {t} g at. rel-cond (b (kindAt s at)) (b (kindAt t at)) (λ h. ap b (kinds-agree g at h)) (l .local g at) (l′ .local g at) }
+      record
+      { local = λ {s} {t} g at. rel-cond (b (kindAt s at)) (b (kindAt t at)) (λ h. ap b (kinds-agree g at h)) (l .local g at) (l′ .local g at) }
 
 pub local-bind : {A B : Type 0} {j : ℕ} (r : Reader A) (f : A → Reader B) → Local j r → ((a : A) → Local 0 (f a)) → Local j (r >>= f)
 local-bind r f l m = record { local = λ g at. rel-bind (λ a n h. m a .local g n) (l .local g at) }
@@ -121,7 +122,8 @@ unfolding any
 local-any =
     record {
       local = λ g at.
-          record { ahead = took {next = at + 1} (omega arith); same = λ e. ap (λ (x : Symbol). ok x (at + 1)) (g .agree at (omega (arith, ends-ok e))) };
+          record
+          { ahead = took {next = at + 1} (omega arith); same = λ e. ap (λ (x : Symbol). ok x (at + 1)) (g .agree at (omega (arith, ends-ok e))) };
     }
 
 pub local-here : Local 0 here
@@ -180,10 +182,7 @@ module _ {A : Type 0} (none : A) (begins : ℕ → Bool) (item : Reader (A → A
         → Rel 0 p at (manyUpTo n none begins item s at) (manyUpTo m none begins item t at)
     unfolding manyUpTo
     each zero m {s} {t} g at h k =
-        record {
-          ahead = took {next = at} (omega arith);
-          same = λ e. none-there m t at (kinds-agree g at (ends-ok e) ∙ ended s at (omega arith));
-        }
+        record { ahead = took {next = at} (omega arith); same = λ e. none-there m t at (kinds-agree g at (ends-ok e) ∙ ended s at (omega arith)) }
     each (suc n) zero {s} {t} {p} g at h k =
         let a = fixed (suc n) .local (self s p) at .ahead in
         record { ahead = a; same = λ e. sym (none-there (suc n) s at (sym (kinds-agree g at (reach a e)) ∙ ended t at (omega arith))) }
@@ -196,7 +195,8 @@ module _ {A : Type 0} (none : A) (begins : ℕ → Bool) (item : Reader (A → A
 -- { ; item } [;] $)
 module _ {A : Type 0} (none : A) (item : Reader (A → A)) (l : Local 0 item) where
   at-end : {s t : Source} {p : ℕ} → Agree s t p → (at : ℕ) {o o′ : Out A} → Rel 0 p at o o′
-      → Rel {A = A} 0 p at (elim (is K.END s at) [ true ↦ ok none (at + 1) | false ↦ o ]) (elim (is K.END t at) [ true ↦ ok none (at + 1) | false ↦ o′ ])
+      → Rel {A = A} 0 p at (elim (is K.END s at) [ true ↦ ok none (at + 1) | false ↦ o ])
+      (elim (is K.END t at) [ true ↦ ok none (at + 1) | false ↦ o′ ])
   at-end {s} {t} g at f =
       rel-elim (is K.END s at) (is K.END t at) (λ h. ap (λ (k : ℕ). eqb k K.END) (kinds-agree g at h)) (rel-ok none (at + 1) (omega arith)) f
 
@@ -205,7 +205,8 @@ module _ {A : Type 0} (none : A) (item : Reader (A → A)) (l : Local 0 item) wh
       → Rel 0 p at (moreUpTo (suc n) none item s at) (moreUpTo (suc m) none item t at)
   unfolding moreUpTo
   turn-more n m g at f =
-      at-end g at (weaker (rel-bind (λ _ next h. at-end g next (put-before (l .local g next) (λ x q. f x (omega arith)))) (local-the K.SEMICOLON .local g at)))
+      at-end g at (weaker (rel-bind (λ _ next h. at-end g next (put-before (l .local g next) (λ x q. f x (omega arith))))
+      (local-the K.SEMICOLON .local g at)))
 
   pub fixed-more : (n : ℕ) → Local 0 (moreUpTo n none item)
   unfolding moreUpTo
@@ -221,10 +222,7 @@ module _ {A : Type 0} (none : A) (item : Reader (A → A)) (l : Local 0 item) wh
       → Rel 0 p at (moreUpTo n none item s at) (moreUpTo m none item t at)
   unfolding moreUpTo unexpected
   each-more zero m {s} {t} g at h k =
-      record {
-        ahead = refused {q = at} (omega arith);
-        same = λ e. none-more m t at (kinds-agree g at (ends-no e) ∙ ended s at (omega arith));
-      }
+      record { ahead = refused {q = at} (omega arith); same = λ e. none-more m t at (kinds-agree g at (ends-no e) ∙ ended s at (omega arith)) }
   each-more (suc n) zero {s} {t} {p} g at h k =
       let a = fixed-more (suc n) .local (self s p) at .ahead in
       record { ahead = a; same = λ e. sym (none-more (suc n) s at (sym (kinds-agree g at (reach a e)) ∙ ended t at (omega arith))) }

@@ -43,8 +43,7 @@ module _ (list text : List ℕ) where
 
 -- the first list as it was in document 01
 abbrev pub formerly : List ℕ
-formerly =
-    K.BREAK ∷ K.RETURN ∷ K.FINISH ∷ K.ENDCASE ∷ K.REPEAT ∷ K.CLOSE ∷ K.END ∷ K.NAME ∷ K.STRING ∷ K.NUMBER ∷ K.TRUE ∷ K.FALSE ∷ []
+formerly = K.BREAK ∷ K.RETURN ∷ K.FINISH ∷ K.ENDCASE ∷ K.REPEAT ∷ K.CLOSE ∷ K.END ∷ K.NAME ∷ K.STRING ∷ K.NUMBER ∷ K.TRUE ∷ K.FALSE ∷ []
 
 -- the definition's own list gives the definition
 after-own : (text : List ℕ) (before : Symbol) (ss : List Symbol) → afterBy firsts text before ss ≡ semicolonsAfter text before ss

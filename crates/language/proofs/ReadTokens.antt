@@ -70,7 +70,8 @@ unfolding bindingOf solidAll
 binding-solid kind h =
     step 1 (member kind (K.STAR ∷ K.SLASH ∷ K.REM ∷ [])) (λ e. member-solid (K.STAR ∷ K.SLASH ∷ K.REM ∷ []) kind refl e)
     (step 2 (member kind (K.PLUS ∷ K.MINUS ∷ [])) (λ e. member-solid (K.PLUS ∷ K.MINUS ∷ []) kind refl e)
-    (step 3 (member kind (K.EQUAL ∷ K.UNEQUAL ∷ K.LESS ∷ K.ATMOST ∷ K.MORE ∷ K.ATLEAST ∷ [])) (λ e. member-solid (K.EQUAL ∷ K.UNEQUAL ∷ K.LESS ∷ K.ATMOST ∷ K.MORE ∷ K.ATLEAST ∷ []) kind refl e)
+    (step 3 (member kind (K.EQUAL ∷ K.UNEQUAL ∷ K.LESS ∷ K.ATMOST ∷ K.MORE ∷ K.ATLEAST ∷ [])) (λ e.
+    member-solid (K.EQUAL ∷ K.UNEQUAL ∷ K.LESS ∷ K.ATMOST ∷ K.MORE ∷ K.ATLEAST ∷ []) kind refl e)
     (step 4 (member kind (K.LEFT ∷ K.RIGHT ∷ [])) (λ e. member-solid (K.LEFT ∷ K.RIGHT ∷ []) kind refl e)
     (step 6 (eqb kind K.AMPERSAND) (λ e. same K.AMPERSAND e (omega arith))
     (step 7 (eqb kind K.BAR) (λ e. same K.BAR e (omega arith))
@@ -131,8 +132,7 @@ module _ {loops : ℕ} (s : Source) (strings : ℕ) (c : ℕ → ℕ) (k : Count
       operation n e =
           let z : bindingOf (kindAt s n) ≡ b = eqb-true _ _ e in
           take (any-one k n (binding-solid (kindAt s n) (omega arith))) λ x n₁ _ l₁.
-          take (g n₁) λ d n₂ q l₂.
-          putting (λ os f. (q, f)) (λ os. omega arith)
+          take (g n₁) λ d n₂ q l₂. putting (λ os f. (q, f)) (λ os. omega arith)
 
   module _ {inner : Inside} (i : InsideOf Inner inner) where
     primary : (at : ℕ) → OE at (E.primary inner s at)
@@ -150,15 +150,13 @@ module _ {loops : ℕ} (s : Source) (strings : ℕ) (c : ℕ → ℕ) (k : Count
         take (j .expressions LOOSEST n₁) λ e n₂ q l₂.
         take (the-one k K.CLOSE n₂ (omega arith)) λ _ n₃ _ l₃. got q (omega arith))
         (λ _. either (is K.VALOF s at) (λ _. opened _ i λ r j.
-        take (the-one k K.VALOF at (omega arith)) λ place n₁ _ l₁.
-        take (j .commands n₁) λ e n₂ q l₂. got q (omega arith)) (λ _. refusal)))))))
+        take (the-one k K.VALOF at (omega arith)) λ place n₁ _ l₁. take (j .commands n₁) λ e n₂ q l₂. got q (omega arith)) (λ _. refusal)))))))
 
     monadic : (at : ℕ) → isMonadic (kindAt s at) ≡ true → OE at (E.monadic inner s at)
     unfolding E.monadic Fine tokens
     monadic at e =
         opened _ i λ r j.
-        take (any-one k at (monadic-solid (kindAt s at) e)) λ x n₁ _ l₁.
-        take (j .expressions (reachOf (x .kind)) n₁) λ e n₂ q l₂. got q (omega arith)
+        take (any-one k at (monadic-solid (kindAt s at) e)) λ x n₁ _ l₁. take (j .expressions (reachOf (x .kind)) n₁) λ e n₂ q l₂. got q (omega arith)
 
     suffix : (at : ℕ) → Put (FineSuffixes strings) (suffixesTokens loops) at (E.suffix inner s at)
     unfolding E.suffix E.arguments E.index E.subscript FineSuffixes suffixesTokens FineList listTokens
@@ -169,8 +167,7 @@ module _ {loops : ℕ} (s : Source) (strings : ℕ) (c : ℕ → ℕ) (k : Count
         (λ n. take (j .expressions LOOSEST n) λ e n₁ q l₁. putting (λ es f. (q, f)) (λ es. omega arith)) n₁) λ es n₂ q l₂.
         putting (λ ss f. (q, f)) (λ ss. omega arith))
         (λ _. take (the-one k K.PLING at (omega arith)) λ place n₁ _ l₁.
-        take (either (isMonadic (kindAt s n₁)) (λ e. monadic n₁ e) (λ _. primary n₁)) λ e n₂ q l₂.
-        putting (λ ss f. (q, f)) (λ ss. omega arith))
+        take (either (isMonadic (kindAt s n₁)) (λ e. monadic n₁ e) (λ _. primary n₁)) λ e n₂ q l₂. putting (λ ss f. (q, f)) (λ ss. omega arith))
 
     operand : (at : ℕ) → OE at (E.operand inner s at)
     unfolding E.operand E.suffixed FineSuffixes suffixesTokens
@@ -197,19 +194,19 @@ module _ {loops : ℕ} (s : Source) (strings : ℕ) (c : ℕ → ℕ) (k : Count
     here : (n : Name) → x ≡ T.known n → placeAt s at ≡ n .place
 
   fine-literal : (at v : ℕ) → v < 65536 → FineSimple at (T.literal v)
-  fine-literal at v l =
-      record { small = λ w e. let z : v ≡ w = cc in omega arith; here = λ n e. clash (cc) }
+  fine-literal at v l = record { small = λ w e. let z : v ≡ w = cc in omega arith; here = λ n e. clash (cc) }
 
   fine-known : (at : ℕ) (n : Name) → NameHere s at n → FineSimple at (T.known n)
-  fine-known at n q =
-      record { small = λ v e. clash (cc); here = λ m e. let z : n ≡ m = cc in cc (q .stands-here) }
+  fine-known at n q = record { small = λ v e. clash (cc); here = λ m e. let z : n ≡ m = cc in cc (q .stands-here) }
 
   simple : (at : ℕ) → O (FineSimple at) (λ _. 1) at (E.simple s at)
   unfolding E.simple E.literal E.truthLiteral E.known
   simple at =
       either (is K.NUMBER s at)
-      (λ e. take (this-one K.NUMBER at e (omega arith)) λ x _ q l. got (fine-literal at (x .value) (rw q (k .numbers at (eqb-true _ _ e)))) (omega arith))
-      (λ _. either (is K.TRUE s at) (λ e. take (this-one K.TRUE at e (omega arith)) λ x _ q l. got (fine-literal at 65535 (omega arith)) (omega arith))
+      (λ e. take (this-one K.NUMBER at e (omega arith)) λ x _ q l.
+      got (fine-literal at (x .value) (rw q (k .numbers at (eqb-true _ _ e)))) (omega arith))
+      (λ _. either (is K.TRUE s at) (λ e. take (this-one K.TRUE at e (omega arith)) λ x _ q l.
+      got (fine-literal at 65535 (omega arith)) (omega arith))
       (λ _. either (is K.FALSE s at) (λ e. take (this-one K.FALSE at e (omega arith)) λ x _ q l. got (fine-literal at 0 (omega arith)) (omega arith))
       (λ _. take (a-name k at) λ n _ q l. got (fine-known at n q) (omega arith))))
 
@@ -239,15 +236,13 @@ module _ {loops : ℕ} (s : Source) (strings : ℕ) (c : ℕ → ℕ) (k : Count
     test at =
         take (the-one k K.TEST at (omega arith)) λ _ n₁ _ l₁. take (j .expressions LOOSEST n₁) λ e n₂ p l₂.
         take (the-one k K.DO n₂ (omega arith)) λ _ n₃ _ l₃. take (j .commands n₃) λ x n₄ q l₄.
-        take (the-one k K.OR n₄ (omega arith)) λ _ n₅ _ l₅. take (j .commands n₅) λ y n₆ t l₆.
-        got ((p, q, t), refl) (omega arith)
+        take (the-one k K.OR n₄ (omega arith)) λ _ n₅ _ l₅. take (j .commands n₅) λ y n₆ t l₆. got ((p, q, t), refl) (omega arith)
 
     guarded : (at : ℕ) → isGuard (kindAt s at) ≡ true → OU at (C.guarded r s at)
     unfolding C.guarded FineUnlabelled unlabelledTokens
     guarded at h =
         take (any-one k at (guard-solid (kindAt s at) h)) λ x n₁ e l₁. take (j .expressions LOOSEST n₁) λ _ n₂ p l₂.
-        take (the-one k K.DO n₂ (omega arith)) λ _ n₃ _ l₃. take (j .commands n₃) λ y n₄ q l₄.
-        got ((p, q, rw e h), refl) (omega arith)
+        take (the-one k K.DO n₂ (omega arith)) λ _ n₃ _ l₃. take (j .commands n₃) λ y n₄ q l₄. got ((p, q, rw e h), refl) (omega arith)
 
     optional-by : (at : ℕ) → O FineBy byTokens at (C.optionalBy r s at)
     unfolding C.optionalBy C.by
@@ -263,8 +258,7 @@ module _ {loops : ℕ} (s : Source) (strings : ℕ) (c : ℕ → ℕ) (k : Count
         take (the-one k K.EQUAL n₂ (omega arith)) λ _ n₃ _ l₃. take (j .expressions LOOSEST n₃) λ e n₄ p l₄.
         take (the-one k K.TO n₄ (omega arith)) λ _ n₅ _ l₅. take (j .expressions LOOSEST n₅) λ d n₆ q l₆.
         take (optional-by n₆) λ b n₇ t l₇.
-        take (the-one k K.DO n₇ (omega arith)) λ _ n₈ _ l₈. take (j .commands n₈) λ y n₉ u l₉.
-        got ((p, q, t, u, o .fine), refl) (omega arith)
+        take (the-one k K.DO n₇ (omega arith)) λ _ n₈ _ l₈. take (j .commands n₈) λ y n₉ u l₉. got ((p, q, t, u, o .fine), refl) (omega arith)
 
     the-items : (at : ℕ) → O (FineCommands strings) (commandsTokens loops) at (items T.noCommands (C.listed r) s at)
     unfolding C.listed FineCommands commandsTokens
@@ -277,8 +271,7 @@ module _ {loops : ℕ} (s : Source) (strings : ℕ) (c : ℕ → ℕ) (k : Count
     switchon at =
         take (the-one k K.SWITCHON at (omega arith)) λ _ n₁ _ l₁. take (j .expressions LOOSEST n₁) λ e n₂ p l₂.
         take (the-one k K.INTO n₂ (omega arith)) λ _ n₃ _ l₃. take (the-one k K.BEGIN n₃ (omega arith)) λ _ n₄ _ l₄.
-        take (the-items n₄) λ cs n₅ q l₅.
-        got ((p, q, omega (arith, label-tokens cs, k .most n₅)), refl) (omega arith)
+        take (the-items n₄) λ cs n₅ q l₅. got ((p, q, omega (arith, label-tokens cs, k .most n₅)), refl) (omega arith)
 
     -- so many expressions
     record Further (n : ℕ) (es : Expressions) : Type 0 where
@@ -290,8 +283,7 @@ module _ {loops : ℕ} (s : Source) (strings : ℕ) (c : ℕ → ℕ) (k : Count
     further zero at = got (record { fine = tt; many-of-them = refl }) (omega arith)
     further (suc n) at =
         take (the-one k K.COMMA at (omega arith)) λ _ n₁ _ l₁. take (j .expressions LOOSEST n₁) λ e n₂ p l₂.
-        take (further n n₂) λ es n₃ q l₃.
-        got (record { fine = (p, q .fine); many-of-them = ap suc (q .many-of-them) }) (omega arith)
+        take (further n n₂) λ es n₃ q l₃. got (record { fine = (p, q .fine); many-of-them = ap suc (q .many-of-them) }) (omega arith)
 
     -- the symbols of a LET before its values
     values : (x : Name) (xs : List Name) (at at₀ : ℕ) → FineName x → FineNames xs → c at₀ + (3 + length xs) ≤ c at
@@ -306,7 +298,8 @@ module _ {loops : ℕ} (s : Source) (strings : ℕ) (c : ℕ → ℕ) (k : Count
     unfolding C.given C.vector FineLocals localsTokens
     given-to x [] at at₀ f₁ fs l =
         either (is K.VEC s at)
-        (λ _. take (the-one k K.VEC at (omega arith)) λ _ n₁ _ l₁. take (j .constants n₁) λ y n₂ p l₂. putting (λ ls f. (p, f, f₁)) (λ ls. omega arith))
+        (λ _. take (the-one k K.VEC at (omega arith)) λ _ n₁ _ l₁.
+        take (j .constants n₁) λ y n₂ p l₂. putting (λ ls f. (p, f, f₁)) (λ ls. omega arith))
         (λ _. values x [] at at₀ f₁ fs l)
     given-to x (y ∷ xs) at at₀ f₁ fs l = values x (y ∷ xs) at at₀ f₁ fs l
 
@@ -318,17 +311,16 @@ module _ {loops : ℕ} (s : Source) (strings : ℕ) (c : ℕ → ℕ) (k : Count
         (λ n. take (a-name k n) λ x n₁ q l₁. putting (λ xs f. (q .fine, f)) (λ xs. omega arith)) n₂) λ xs n₃ q l₃.
         take (the-one k K.EQUAL n₃ (omega arith)) λ _ n₄ _ l₄.
         bind (given-to x xs n₄ at (p .fine) q (omega arith)) λ put n₅ keep.
-        take (optional-semicolon k n₅) λ _ n₆ _ l₆.
-        answer λ a m i. keep a m (record { has = i .has; taken = omega (arith, i .taken) })
+        take (optional-semicolon k n₅) λ _ n₆ _ l₆. answer λ a m i. keep a m (record { has = i .has; taken = omega (arith, i .taken) })
 
     block : (at : ℕ) → OU at (C.block r s at)
     unfolding C.block C.commandsToEnd C.semicolonEnd FineUnlabelled unlabelledTokens FineLocals localsTokens FineCommands commandsTokens
     block at =
         take (the-one k K.BEGIN at (omega arith)) λ _ n₁ _ l₁.
-        take (many-of k (FineLocals strings) (localsTokens loops) T.noLocals tt (omega arith) (C.local r) (λ kind. eqb kind K.LET) (λ n _. local n) n₁)
+        take (many-of k (FineLocals strings) (localsTokens loops) T.noLocals tt (omega arith) (C.local r) (λ kind. eqb kind K.LET)
+        (λ n _. local n) n₁)
         λ ls n₂ p l₂.
-        take (commands-to-end n₂) λ cs n₃ q l₃.
-        got ((p, q), refl) (omega arith)
+        take (commands-to-end n₂) λ cs n₃ q l₃. got ((p, q), refl) (omega arith)
       where
         commands-to-end : (at : ℕ) → O (FineCommands strings) (commandsTokens loops) at (C.commandsToEnd r s at)
         commands-to-end at =
@@ -374,7 +366,8 @@ module _ {loops : ℕ} (s : Source) (strings : ℕ) (c : ℕ → ℕ) (k : Count
     unfolding C.repeated FineCommand commandTokens FineRepeats repeatsTokens
     repeated ls at at₀ f h =
         take (unlabelled at) λ u n₁ p l₁.
-        take (many-of k (FineRepeats strings) (repeatsTokens loops) T.noRepeats tt (omega arith) (C.repeatForm r) isRepeat repeat-form n₁) λ rs n₂ q l₂.
+        take (many-of k (FineRepeats strings) (repeatsTokens loops) T.noRepeats tt (omega arith)
+        (C.repeatForm r) isRepeat repeat-form n₁) λ rs n₂ q l₂.
         got (f, p .0, q, record { labels = λ e. absurd (begun-not-empty u (p .1) e); alone = λ e. absurd (begun-not-empty u (p .1) e) }) (omega arith)
 
   empty-command : (ls : List Label) (at at₀ : ℕ) → FineLabels ls → c at₀ + labelsTokens ls ≤ c at
@@ -401,7 +394,8 @@ module _ {loops : ℕ} (s : Source) (strings : ℕ) (c : ℕ → ℕ) (k : Count
     unfolding C.command C.afterLabels FineLabels labelsTokens
     command at =
         take (many-of k FineLabels labelsTokens [] tt (omega arith) (C.label inner) isLabel (λ n _. label n) at) λ ls n₁ p l₁.
-        either (beginsCommand (kindAt s n₁)) (λ _. opened (λ r. C.repeated r ls) i (λ r j. repeated j ls n₁ at p l₁)) (λ _. empty-command ls n₁ at p l₁)
+        either (beginsCommand (kindAt s n₁)) (λ _. opened (λ r. C.repeated r ls) i (λ r j. repeated j ls n₁ at p l₁))
+        (λ _. empty-command ls n₁ at p l₁)
 
   inner-within : (n : ℕ) → InsideOf Inner (within n)
   inner-within = within-of (λ _. Inner) (λ _ _ i. record { expressions = expression i; commands = command i; constants = constant i })
@@ -421,8 +415,7 @@ module _ {loops : ℕ} (s : Source) (strings : ℕ) (c : ℕ → ℕ) (k : Count
       take (a-name k at) λ x n₁ m l₁. take (the-one k K.OPEN n₁ (omega arith)) λ _ n₂ _ l₂.
       take (close-of k FineNames length [] tt (omega arith) G.parameter
       (λ n. take (a-name k n) λ x n₁ q l₁. putting (λ xs f. (q .fine, f)) (λ xs. omega arith)) n₂) λ xs n₃ q l₃.
-      take (body n₃) λ b n₄ p l₄.
-      putting (λ fs f. (record { name = m .fine; parameters = q; body = p }, f)) (λ fs. omega arith)
+      take (body n₃) λ b n₄ p l₄. putting (λ fs f. (record { name = m .fine; parameters = q; body = p }, f)) (λ fs. omega arith)
 
   item : (sign at : ℕ) → Solid sign → Put (FineItems strings) (λ _. 0) at (G.item sign s at)
   unfolding G.item FineItems
@@ -450,8 +443,7 @@ module _ {loops : ℕ} (s : Source) (strings : ℕ) (c : ℕ → ℕ) (k : Count
 
   declared : (at : ℕ) → Put (FineProgram strings) (programTokens loops) at (G.declared s at)
   unfolding G.declared FineProgram programTokens
-  declared at =
-      take (declaration at) λ d n₁ p l₁. take (optional-semicolon k n₁) λ _ n₂ _ l₂. putting (λ ds f. (p, f)) (λ ds. omega arith)
+  declared at = take (declaration at) λ d n₁ p l₁. take (optional-semicolon k n₁) λ _ n₂ _ l₂. putting (λ ds f. (p, f)) (λ ds. omega arith)
 
   whole : O (FineProgram strings) (programTokens loops) 0 (treeOf s)
   unfolding treeOf G.program G.whole unexpected FineProgram programTokens

@@ -132,8 +132,7 @@ module _ (functions strings : ℕ) (text : List ℕ) where
 
   formed-address : (h : ℕ) (e : Expr) → GE h e → GE h (addressOf (sideOf e))
   unfolding FormedE
-  formed-address h e p =
-      by-side (λ e x. GE h e → GE h (addressOf x)) (λ _ p. p) (λ _ p. p) (λ _ p. p) (λ _ _ p. p) (λ _ _. omega arith) e p
+  formed-address h e p = by-side (λ e x. GE h e → GE h (addressOf x)) (λ _ p. p) (λ _ p. p) (λ _ p. p) (λ _ _ p. p) (λ _ _. omega arith) e p
 
   formed-target : (h : ℕ) (e : Expr) → GE (h + 1) e → FormedT functions strings h (targetOf (sideOf e))
   unfolding FormedE
@@ -161,10 +160,13 @@ module _ (functions strings : ℕ) (text : List ℕ) where
   formed-pairs h (R.and e es) R.none p q = tt
   formed-pairs h (R.and e es) (R.and d ds) p q = (q .0, formed-target h e (p .0), formed-pairs h es ds (p .1) (q .1))
 
-  formed-values : (h : ℕ) (es : Exprs) (ls : Locals) → FormedA functions strings h es → FormedL functions strings (h + H.count es) ls → FormedL functions strings h (valuesBefore es ls)
+  formed-values : (h : ℕ) (es : Exprs) (ls : Locals) → FormedA functions strings h es → FormedL functions strings (h + H.count es) ls
+      → FormedL functions strings h (valuesBefore es ls)
   unfolding FormedE H.count
   formed-values h R.none ls p q = let z : h + 0 ≡ h = omega arith in rw z at q
-  formed-values h (R.and e es) ls p q = let z : h + suc (H.count es) ≡ h + 1 + H.count es = omega arith in (p .0, formed-values (h + 1) es ls (p .1) (rw z at q))
+  formed-values h (R.and e es) ls p q =
+      let z : h + suc (H.count es) ≡ h + 1 + H.count es = omega arith in
+      (p .0, formed-values (h + 1) es ls (p .1) (rw z at q))
 
   formed-labels : (s : Scope) (h : ℕ) → Scoped functions h s → (ls : List Label) → FineLabels ls → FormedCases (labelsOf text s ls)
   unfolding FineLabels FormedCases labelsOf
@@ -254,10 +256,12 @@ module _ (functions strings : ℕ) (text : List ℕ) where
     form-e s h (T.valof place c) sc f = form-c s h c sc f
     form-e s h (T.monadic place o e) sc f = formed-monadic h o (E.expression text s h e) (form-e s h e sc f)
     form-e s h (T.suffixed e ss) sc f =
-        form-suffixes s h ss (E.expression text s (under ss h) e) sc (f .1) (form-e s (under ss h) e (scoped-up functions s (under-more ss h) sc) (f .0))
+        form-suffixes s h ss (E.expression text s (under ss h) e) sc (f .1)
+        (form-e s (under ss h) e (scoped-up functions s (under-more ss h) sc) (f .0))
     form-e s h (T.dyadic e os) sc f = form-operations s h os (E.expression text s h e) sc (f .1) (form-e s h e sc (f .0))
 
-    form-suffixes : (s : Scope) (h : ℕ) (ss : Suffixes) (x : Expr) → Scoped functions h s → FineSuffixes strings ss → FormedE functions strings (under ss h) x
+    form-suffixes : (s : Scope) (h : ℕ) (ss : Suffixes) (x : Expr) → Scoped functions h s → FineSuffixes strings ss
+        → FormedE functions strings (under ss h) x
         → FormedE functions strings h (E.suffixes text s h x ss)
     form-suffixes s h T.noSuffixes x sc f p = p
     form-suffixes s h (T.call es ss) x sc f p =
@@ -267,16 +271,18 @@ module _ (functions strings : ℕ) (text : List ℕ) where
         form-suffixes s h ss (R.index x (E.expression text s (under ss h + 1) d)) sc (f .1)
         (p, form-e s (under ss h + 1) d (scoped-up functions s (omega (arith, under-more ss h)) sc) (f .0))
 
-    form-operations : (s : Scope) (h : ℕ) (os : Operations) (x : Expr) → Scoped functions h s → FineOperations strings os → FormedE functions strings h x
+    form-operations : (s : Scope) (h : ℕ) (os : Operations) (x : Expr) → Scoped functions h s → FineOperations strings os
+        → FormedE functions strings h x
         → FormedE functions strings h (E.operations text s h x os)
     form-operations s h T.noOperations x sc f p = p
     form-operations s h (T.operation o d os) x sc f p =
-        form-operations s h os (R.binary o x (E.expression text s (h + 1) d)) sc (f .1) (p, form-e s (h + 1) d (scoped-up functions s (omega arith) sc) (f .0))
+        form-operations s h os (R.binary o x (E.expression text s (h + 1) d)) sc (f .1)
+        (p, form-e s (h + 1) d (scoped-up functions s (omega arith) sc) (f .0))
 
-    form-a : (s : Scope) (h : ℕ) (es : Expressions) → Scoped functions h s → FineList strings es → FormedA functions strings h (E.expressions text s h es)
+    form-a : (s : Scope) (h : ℕ) (es : Expressions) → Scoped functions h s → FineList strings es
+        → FormedA functions strings h (E.expressions text s h es)
     form-a s h T.noExpressions sc f = tt
-    form-a s h (T.andExpression e es) sc f =
-        (form-e s h e sc (f .0), form-a s (h + 1) es (scoped-up functions s (omega arith) sc) (f .1))
+    form-a s h (T.andExpression e es) sc f = (form-e s h e sc (f .0), form-a s (h + 1) es (scoped-up functions s (omega arith) sc) (f .1))
 
     form-sides : (s : Scope) (h : ℕ) (es : Expressions) → Scoped functions h s → FineList strings es → Sides h (E.sides text s h es)
     form-sides s h T.noExpressions sc f = tt
@@ -292,10 +298,12 @@ module _ (functions strings : ℕ) (text : List ℕ) where
     form-repeats s h (T.repeatOn w e rs) x sc f p =
         form-repeats s h rs (R.repeatWhile (eqb w REPEATWHILE) x (E.expression text s h e)) sc (f .1) (p, form-e s h e sc (f .0))
 
-    form-u : (s : Scope) (h : ℕ) (u : Unlabelled) → Scoped functions h s → FineUnlabelled strings u → FormedC functions strings h (E.unlabelled text s h u)
+    form-u : (s : Scope) (h : ℕ) (u : Unlabelled) → Scoped functions h s → FineUnlabelled strings u
+        → FormedC functions strings h (E.unlabelled text s h u)
     form-u s h T.empty sc f = tt
     form-u s h (T.assignment left right) sc f =
-        formed-pairs h (E.sides text s (h + 1) left) (E.sides text s h right) (form-sides s (h + 1) left (scoped-up functions s (omega arith) sc) (f .0)) (form-sides s h right sc (f .1))
+        formed-pairs h (E.sides text s (h + 1) left) (E.sides text s h right)
+        (form-sides s (h + 1) left (scoped-up functions s (omega arith) sc) (f .0)) (form-sides s h right sc (f .1))
     form-u s h (T.callCommand e) sc f = form-e s h e sc (f .0)
     form-u s h (T.test e c d) sc f = (form-e s h e sc (f .0), form-c s h c sc (f .1), form-c s h d sc (f .2))
     form-u s h (T.guarded w e c) sc f =
@@ -313,7 +321,8 @@ module _ (functions strings : ℕ) (text : List ℕ) where
     form-u s h (T.leave w place) sc f = formed-leaving h w
     form-u s h (T.block ls cs) sc f = (
       form-l (opened s) h ls (open-scoped s h sc) (f .0),
-      rw (height-same (opened s) h ls (f .0)) (form-b (scopeAfter text (opened s) h ls) (E.heightAfter text (opened s) h ls) cs (scope-after (opened s) h (open-scoped s h sc) ls) (f .1)),
+      rw (height-same (opened s) h ls (f .0)) (form-b (scopeAfter text (opened s) h ls) (E.heightAfter text (opened s) h ls) cs
+          (scope-after (opened s) h (open-scoped s h sc) ls) (f .1)),
     )
 
     form-l : (s : Scope) (h : ℕ) (ls : T.Locals) → Scoped functions h s → FineLocals strings ls → FormedL functions strings h (E.locals text s h ls)
@@ -325,10 +334,13 @@ module _ (functions strings : ℕ) (text : List ℕ) where
         formed-values h (E.expressions text s h es) (E.locals text (declareAll s h ns) (h + length ns) ls) (form-a s h es sc (f .0))
         (rw z (form-l (declareAll s h ns) (h + length ns) ls (declared-all functions s h ns sc) (f .1)))
 
-    form-b : (s : Scope) (h : ℕ) (cs : Commands) → Scoped functions h s → FineCommands strings cs → FormedB functions strings h (E.commands text s h cs)
+    form-b : (s : Scope) (h : ℕ) (cs : Commands) → Scoped functions h s → FineCommands strings cs
+        → FormedB functions strings h (E.commands text s h cs)
     form-b s h T.noCommands sc f = tt
     form-b s h (T.andCommand c cs) sc f = (form-c s h c sc (f .0), form-b s h cs sc (f .1))
 
-    form-s : (s : Scope) (h : ℕ) (cs : Commands) → Scoped functions h s → FineCommands strings cs → FormedS functions strings h (E.caseList text s h cs)
+    form-s : (s : Scope) (h : ℕ) (cs : Commands) → Scoped functions h s → FineCommands strings cs
+        → FormedS functions strings h (E.caseList text s h cs)
     form-s s h T.noCommands sc f = tt
-    form-s s h (T.andCommand c cs) sc f = (form-c s h c sc (f .0), form-s s h cs sc (f .1), formed-labels s h sc (labelsBefore c) (before-fine c (f .0)))
+    form-s s h (T.andCommand c cs) sc f =
+        (form-c s h c sc (f .0), form-s s h cs sc (f .1), formed-labels s h sc (labelsBefore c) (before-fine c (f .0)))

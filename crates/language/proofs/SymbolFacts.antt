@@ -51,7 +51,8 @@ module _ (text : List ℕ) where
   on-element place bs (gap width) more q l k h = h (width - 1)
   on-element place bs (wrong number offset) more q l k h = tt
 
-  scanned-words : (over place : ℕ) (bs : List ℕ) → bs ≡ drop place text → place + length bs ≤ length text → AllWords text (scanFrom over place bs .symbols)
+  scanned-words : (over place : ℕ) (bs : List ℕ) → bs ≡ drop place text → place + length bs ≤ length text
+      → AllWords text (scanFrom over place bs .symbols)
   unfolding scanFrom AllWords
   scanned-words over place [] q l = tt
   scanned-words (suc n) place (b ∷ bs) q l = scanned-words n (suc place) bs (next-drop text place q) (omega arith)
@@ -59,7 +60,8 @@ module _ (text : List ℕ) where
       on-element place (b ∷ bs) _ _ q l (known-element (b ∷ bs) _) (λ n. scanned-words n (suc place) bs (next-drop text place q) (omega arith))
 
 -- at most one symbol a byte
-on-element-length : (place : ℕ) (e : Element) (more : ℕ → Scan) (n : ℕ) → ((k : ℕ) → length (more k .symbols) ≤ n) → length (onElement place e more .symbols) ≤ suc n
+on-element-length : (place : ℕ) (e : Element) (more : ℕ → Scan) (n : ℕ) → ((k : ℕ) → length (more k .symbols) ≤ n)
+    → length (onElement place e more .symbols) ≤ suc n
 on-element-length place (symbol kind value width) more n g = omega (arith, g (width - 1))
 on-element-length place (gap width) more n g = omega (arith, g (width - 1))
 on-element-length place (wrong number offset) more n g = omega arith
@@ -68,7 +70,8 @@ scanned-length : (over place : ℕ) (bs : List ℕ) → length (scanFrom over pl
 unfolding scanFrom
 scanned-length over place [] = omega arith
 scanned-length (suc n) place (b ∷ bs) = omega (arith, scanned-length n (suc place) bs)
-scanned-length zero place (b ∷ bs) = on-element-length place (byClass (classOf b) (b ∷ bs)) (λ k. scanFrom k (suc place) bs) (length bs) (λ n. scanned-length n (suc place) bs)
+scanned-length zero place (b ∷ bs) =
+    on-element-length place (byClass (classOf b) (b ∷ bs)) (λ k. scanFrom k (suc place) bs) (length bs) (λ n. scanned-length n (suc place) bs)
 
 pub scan-length : (text : List ℕ) → length (scan text .symbols) ≤ length text
 unfolding scan
@@ -143,8 +146,10 @@ unfolding numbered stringsAmong
 numbered-same text n [] = refl
 numbered-same text n (x ∷ xs) = go (eqb (x .kind) STRING) refl (numbered-same text (suc n) xs) (numbered-same text n xs)
   where
-    go : (b : Bool) → eqb (x .kind) STRING ≡ b → stringsAmong text (numbered (suc n) xs) ≡ stringsAmong text xs → stringsAmong text (numbered n xs) ≡ stringsAmong text xs
-        → stringsAmong text (cond b (withValue n x ∷ numbered (suc n) xs) (x ∷ numbered n xs)) ≡ cond b (charactersOf (quoted 34 255 0 (drop (suc (x .place)) text)) ∷ stringsAmong text xs) (stringsAmong text xs)
+    go : (b : Bool) → eqb (x .kind) STRING ≡ b → stringsAmong text (numbered (suc n) xs) ≡ stringsAmong text xs
+        → stringsAmong text (numbered n xs) ≡ stringsAmong text xs
+        → stringsAmong text (cond b (withValue n x ∷ numbered (suc n) xs) (x ∷ numbered n xs)) ≡ cond b
+        (charactersOf (quoted 34 255 0 (drop (suc (x .place)) text)) ∷ stringsAmong text xs) (stringsAmong text xs)
     go true e f g = rw (e, f)
     go false e f g = rw (e, g)
 
@@ -156,7 +161,8 @@ record Kept (text : List ℕ) (m : ℕ) (xs ys : List Symbol) : Type 0 where
   fewer : (loops : ℕ) → cost loops ys ≡ cost loops xs
   same : stringsAmong text ys ≡ stringsAmong text xs
 
-one-more : (text : List ℕ) (m : ℕ) (x : Symbol) (xs ys : List Symbol) → (x .kind ≡ STRING → x .value < m) → Kept text m xs ys → Kept text m (x ∷ xs) (x ∷ ys)
+one-more : (text : List ℕ) (m : ℕ) (x : Symbol) (xs ys : List Symbol) → (x .kind ≡ STRING → x .value < m) → Kept text m xs ys
+    → Kept text m (x ∷ xs) (x ∷ ys)
 unfolding AllWords Below countStrings cost stringsAmong
 one-more text m x xs ys g k = record {
   words = λ f. (f .0, k .words (f .1));
@@ -184,7 +190,8 @@ kept-after m text before [] g = none
     none : Kept text m [] []
     none = record { words = λ f. f; below = tt; count = refl; fewer = λ loops. refl; same = refl }
 kept-after m text before (x ∷ xs) g =
-    with-semicolon text m x (x ∷ xs) (x ∷ semicolonsAfter text x xs) (one-more text m x xs (semicolonsAfter text x xs) (g .0) (kept-after m text x xs (g .1))) (gains text before x)
+    with-semicolon text m x (x ∷ xs) (x ∷ semicolonsAfter text x xs)
+    (one-more text m x xs (semicolonsAfter text x xs) (g .0) (kept-after m text x xs (g .1))) (gains text before x)
 
 kept-all : (m : ℕ) (text : List ℕ) (xs : List Symbol) → Below m xs → Kept text m xs (semicolons text xs)
 unfolding semicolons AllWords Below countStrings cost
@@ -197,7 +204,8 @@ strings-count text [] = refl
 strings-count text (x ∷ xs) = go (eqb (x .kind) STRING) (strings-count text xs)
   where
     go : (b : Bool) → length (stringsAmong text xs) ≡ countStrings xs
-        → length (cond b (charactersOf (quoted 34 255 0 (drop (suc (x .place)) text)) ∷ stringsAmong text xs) (stringsAmong text xs)) ≡ cond b (suc (countStrings xs)) (countStrings xs)
+        → length (cond b (charactersOf (quoted 34 255 0 (drop (suc (x .place)) text)) ∷ stringsAmong text xs) (stringsAmong text xs)) ≡ cond b
+        (suc (countStrings xs)) (countStrings xs)
     go true e = ap suc e
     go false e = e
 
@@ -240,13 +248,15 @@ again-weight loops kind h = go (eqb kind SEMICOLON) refl
     go true e = let q : kind ≡ SEMICOLON = eqb-true _ _ e in let z : false ≡ true = rw q at h in clash (cc)
     go false e = rw h (omega arith)
 
-cost-one : (loops : ℕ) → 1 ≤ loops → (xs : List Symbol) (d : Symbol) (n : ℕ) → d .kind ≡ NOTHING → 1 ≤ getD xs n d .kind → (getD xs n d .kind ≡ SEMICOLON → ⊥) → suc (cost loops (take n xs)) ≤ cost loops (take (suc n) xs)
+cost-one : (loops : ℕ) → 1 ≤ loops → (xs : List Symbol) (d : Symbol) (n : ℕ) → d .kind ≡ NOTHING → 1 ≤ getD xs n d .kind
+    → (getD xs n d .kind ≡ SEMICOLON → ⊥) → suc (cost loops (take n xs)) ≤ cost loops (take (suc n) xs)
 unfolding cost
 cost-one loops l [] d n e h f = absurd (omega arith)
 cost-one loops l (x ∷ xs) d zero e h f = omega (arith, one-weight loops (x .kind) l f)
 cost-one loops l (x ∷ xs) d (suc n) e h f = omega (arith, cost-one loops l xs d n e h f)
 
-cost-again : (loops : ℕ) (xs : List Symbol) (d : Symbol) (n : ℕ) → isRepeat (d .kind) ≡ false → isRepeat (getD xs n d .kind) ≡ true → cost loops (take n xs) + loops ≤ cost loops (take (suc n) xs)
+cost-again : (loops : ℕ) (xs : List Symbol) (d : Symbol) (n : ℕ) → isRepeat (d .kind) ≡ false → isRepeat (getD xs n d .kind) ≡ true
+    → cost loops (take n xs) + loops ≤ cost loops (take (suc n) xs)
 unfolding cost
 cost-again loops [] d n e h = let z : false ≡ true = sym e ∙ h in clash (cc)
 cost-again loops (x ∷ xs) d zero e h = omega (arith, again-weight loops (x .kind) h)
@@ -281,7 +291,8 @@ sourceNow text = record { symbols = symbolsNow text; size = length text }
 kept-now : (text : List ℕ) → Kept text (countStrings (scan text .symbols)) (numbered 0 (scan text .symbols)) (symbolsNow text)
 unfolding scan
 kept-now text =
-    kept-all (countStrings (scan text .symbols)) text (numbered 0 (scan text .symbols)) (numbered-below 0 (countStrings (scan text .symbols)) (scan text .symbols) (omega arith))
+    kept-all (countStrings (scan text .symbols)) text (numbered 0 (scan text .symbols))
+    (numbered-below 0 (countStrings (scan text .symbols)) (scan text .symbols) (omega arith))
 
 pub words-now : (text : List ℕ) → AllWords text (symbolsNow text)
 unfolding scan
@@ -298,7 +309,8 @@ cost-now loops text n = omega (arith, cost-most loops (symbolsNow text) n, kept-
 pub same-now : (text : List ℕ) → stringsAmong text (symbolsNow text) ≡ stringsAmong text (scan text .symbols)
 same-now text = kept-now text .same ∙ numbered-same text 0 (scan text .symbols)
 
-pub counts : (loops : ℕ) → 1 ≤ loops → (text : List ℕ) → length text ≤ 65535 → cost loops (scan text .symbols) ≤ 65535 → Counts loops (sourceNow text) (length (stringsAmong text (symbolsNow text))) (λ at. cost loops (take at (symbolsNow text)))
+pub counts : (loops : ℕ) → 1 ≤ loops → (text : List ℕ) → length text ≤ 65535 → cost loops (scan text .symbols) ≤ 65535
+    → Counts loops (sourceNow text) (length (stringsAmong text (symbolsNow text))) (λ at. cost loops (take at (symbolsNow text)))
 unfolding isRepeat member
 counts loops some text short few = record {
   up = λ at. let z : at + 1 ≡ suc at = omega arith in rw z (cost-up loops (symbolsNow text) at);

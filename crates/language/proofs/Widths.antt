@@ -56,7 +56,8 @@ module _ (text : List ℕ) where
   count-covers (x ∷ xs) = go (eqb (x .kind) SEMICOLON) (isRepeat (x .kind)) refl (eqb (x .kind) STRING) refl (count-covers xs)
     where
       go : (a b : Bool) → isRepeat (x .kind) ≡ b → (c : Bool) → eqb (x .kind) STRING ≡ c → cost 3 xs + countStrings xs ≤ covers xs
-          → (cond a 0 (cond b 3 1) + cost 3 xs) + cond c (suc (countStrings xs)) (countStrings xs) ≤ cond b 3 (cond c (length (charactersAt text (x .place)) + 2) 1) + covers xs
+          → (cond a 0 (cond b 3 1) + cost 3 xs) + cond c (suc (countStrings xs)) (countStrings xs) ≤ cond b 3
+          (cond c (length (charactersAt text (x .place)) + 2) 1) + covers xs
       go a true e true f l = let q : x .kind ≡ STRING = eqb-true _ _ f in let z : false ≡ true = rw q at e in clash (cc)
       go true true e false f l = omega arith
       go true false e true f l = omega arith
@@ -75,7 +76,8 @@ module _ (text : List ℕ) where
   bytes-covers (x ∷ xs) = go (isRepeat (x .kind)) refl (eqb (x .kind) STRING) refl (bytes-covers xs)
     where
       go : (b : Bool) → isRepeat (x .kind) ≡ b → (c : Bool) → eqb (x .kind) STRING ≡ c → stringBytes (stringsAmong text xs) ≤ covers xs
-          → stringBytes (cond c (charactersAt text (x .place) ∷ stringsAmong text xs) (stringsAmong text xs)) ≤ cond b 3 (cond c (length (charactersAt text (x .place)) + 2) 1) + covers xs
+          → stringBytes (cond c (charactersAt text (x .place) ∷ stringsAmong text xs) (stringsAmong text xs)) ≤ cond b 3
+          (cond c (length (charactersAt text (x .place)) + 2) 1) + covers xs
       go true e true f l = let q : x .kind ≡ STRING = eqb-true _ _ f in let z : false ≡ true = rw q at e in clash (cc)
       go true e false f l = omega arith
       go false e true f l = omega arith
