@@ -55,9 +55,10 @@ post-demandAll more (l-more k q e r) acc f =
     post-demand q λ w g. post-demandAll more r (acc ++ (w ∷ [])) λ ws h. rw append-assoc (f (w ∷ ws) (holding-more w g e h))
 
 module _ (Γ : Env) (fits : Fits Γ) (q : Sem) (ih : Sims Γ q) where
-  pub sim-arguments : (es : Exprs) (n : ℕ) {Q : Value → Mach → Type 0} {t p h₀ h h₃ a b z : ℕ} {s : State} {v : Mach} (more : List Value → State → Result Value)
-      → h₀ ≤ h → t ≤ 9 → p + (h + count es) ≡ z → Code Γ a (exprsCode (suc (F Γ)) h n es) b → FormedA (F Γ) (S Γ) h es → v .regs .c ≡ a
-      → Rel Γ p h s v
+  pub sim-arguments : (es : Exprs) (n : ℕ) {Q : Value → Mach → Type 0} {t p h₀ h h₃ a b z : ℕ} {s : State} {v : Mach}
+      (more : List Value → State → Result Value) → h₀ ≤ h → t ≤ 9 → p + (h + count es) ≡ z
+      → Code Γ a (exprsCode (suc (F Γ)) h n es) b → FormedA (F Γ) (S Γ) h es
+      → v .regs .c ≡ a → Rel Γ p h s v
       → ((xs : List Value) (u : State) (w : Mach) → Rel Γ p h u w → w .regs .c ≡ b → Loaded (w .mem) z xs (p + h) → z ≤ Γ .limit
       → ((y : ℕ) → y < p + h → s .cells y ≡ gone → getD (w .mem) y 0 ≡ getD (v .mem) y 0)
       → ((y : ℕ) → y < p + h → s .cells y ≡ gone → u .cells y ≡ gone)

@@ -57,6 +57,10 @@ sided = by-side Sided (λ _. omega arith) (λ _. omega arith) (λ _. omega arith
 abbrev Of : (labels words : ℕ) → Expr → Type 0
 Of n m e = (exprLabels e ≤ n) × (exprWords e + extra e ≤ m)
 
+-- of what was written with so many
+abbrev Written : (labels words : ℕ) → Expr → Type 0
+Written n m e = (exprLabels e + 1 ≤ n) × (exprWords e + extra e ≤ m)
+
 abbrev OfCommand : (labels words : ℕ) → Cmd → Type 0
 OfCommand n m c = (cmdLabels c ≤ n) × (cmdWords c ≤ m)
 
@@ -113,7 +117,7 @@ module _ (strings : ℕ) (text : List ℕ) where
   mutual
     unfolding E.expression exprLabels exprWords sideOf sideWords tokens commandsIn caseCount Fine
 
-    pub count-e : (s : Scope) (h : ℕ) (e : Expression) → Fine strings e → (exprLabels (E.expression text s h e) + 1 ≤ tokens 3 e) × (exprWords (E.expression text s h e) + extra (E.expression text s h e) ≤ 8 * tokens 1 e)
+    pub count-e : (s : Scope) (h : ℕ) (e : Expression) → Fine strings e → Written (tokens 3 e) (8 * tokens 1 e) (E.expression text s h e)
     count-e s h (T.number place v) f = omega arith
     count-e s h (T.string place k) f = omega arith
     count-e s h (T.name n) f = omega (arith, name-few (lookup text s n))
@@ -128,7 +132,9 @@ module _ (strings : ℕ) (text : List ℕ) where
     count-x s h T.noSuffixes x f = omega arith
     count-x s h (T.call es ss) x f =
         omega (arith, count-x s h ss (R.call x (E.expressions text s (under ss h + 2) es)) (f .1), count-a s (under ss h + 2) es (f .0), sided x .two)
-    count-x s h (T.index d ss) x f = omega (arith, count-x s h ss (R.index x (E.expression text s (under ss h + 1) d)) (f .1), count-e s (under ss h + 1) d (f .0), two s (under ss h + 1) d, sided x .two)
+    count-x s h (T.index d ss) x f =
+        let g : ℕ = under ss h + 1 in
+        omega (arith, count-x s h ss (R.index x (E.expression text s g d)) (f .1), count-e s g d (f .0), two s g d, sided x .two)
 
     count-o : (s : Scope) (h : ℕ) (os : Operations) (x : Expr) → FineOperations strings os
         → Of (exprLabels x + operationsTokens 3 os) (exprWords x + extra x + 8 * operationsTokens 1 os) (E.operations text s h x os)
@@ -147,7 +153,9 @@ module _ (strings : ℕ) (text : List ℕ) where
     count-sides s h (T.andExpression e es) f = omega (arith, count-e s h e (f .0), count-sides s h es (f .1))
 
     -- a command's own label in a list after INTO too, and words its labels apart
-    pub count-c : (s : Scope) (h : ℕ) (c : Command) → FineCommand strings c → (cmdLabels (E.command text s h c) + 1 ≤ commandTokens 3 c) × (cmdWords (E.command text s h c) + 8 * labelsTokens (labelsBefore c) ≤ 8 * commandTokens 1 c)
+    pub count-c : (s : Scope) (h : ℕ) (c : Command) → FineCommand strings c
+        → (cmdLabels (E.command text s h c) + 1 ≤ commandTokens 3 c)
+        × (cmdWords (E.command text s h c) + 8 * labelsTokens (labelsBefore c) ≤ 8 * commandTokens 1 c)
     count-c s h (T.command ls u rs) f =
         let z : 1 ≤ labelsTokens ls + started u = not-bare (f .3) in
         omega (arith, count-r s h rs (E.unlabelled text s h u) (f .2), count-u s h u (labelsTokens ls) (omega (arith, started-tokens 3 u)) (f .1))
@@ -168,7 +176,8 @@ module _ (strings : ℕ) (text : List ℕ) where
     count-u s h (T.callCommand e) b z f = omega (arith, count-e s h e (f .0))
     count-u s h (T.test e c d) b z f = omega (arith, count-e s h e (f .0), count-c s h c (f .1), count-c s h d (f .2))
     count-u s h (T.guarded w e c) b z f =
-        omega (arith, guard-few (E.expression text s h e) (E.command text s h c) (eqb w IF) (eqb w WHILE) (eqb w UNTIL), count-e s h e (f .0), count-c s h c (f .1))
+        let g = guard-few (E.expression text s h e) (E.command text s h c) (eqb w IF) (eqb w WHILE) (eqb w UNTIL) in
+        omega (arith, g, count-e s h e (f .0), count-c s h c (f .1))
     count-u s h (T.for n e d k c) b z f =
         omega (arith, count-e s h e (f .0), count-e s (h + 1) d (f .1), count-c (declared (opened s) n (N.local h)) (h + 2) c (f .3))
     count-u s h (T.switchon e cs) b z f = omega (arith, count-e s h e (f .0), count-s s h cs (f .1))
@@ -182,14 +191,17 @@ module _ (strings : ℕ) (text : List ℕ) where
     count-l s h T.noLocals f = omega arith
     count-l s h (T.vector n k ls) f = omega (arith, count-l (declared s n (N.local h)) (h + 2 + judgedWord (forVector text s k)) ls (f .1))
     count-l s h (T.values ns es ls) f =
-        omega (arith, values-few (E.expressions text s h es) (E.locals text (declareAll s h ns) (h + length ns) ls), count-a s h es (f .0), count-l (declareAll s h ns) (h + length ns) ls (f .1))
+        let g = values-few (E.expressions text s h es) (E.locals text (declareAll s h ns) (h + length ns) ls) in
+        omega (arith, g, count-a s h es (f .0), count-l (declareAll s h ns) (h + length ns) ls (f .1))
 
     count-b : (s : Scope) (h : ℕ) (cs : Commands) → FineCommands strings cs
         → (cmdsLabels (E.commands text s h cs) ≤ commandsTokens 3 cs) × (cmdsWords (E.commands text s h cs) ≤ 8 * commandsTokens 1 cs)
     count-b s h T.noCommands f = omega arith
     count-b s h (T.andCommand c cs) f = omega (arith, count-c s h c (f .0), count-b s h cs (f .1))
 
-    count-s : (s : Scope) (h : ℕ) (cs : Commands) → FineCommands strings cs → (commandsIn (E.caseList text s h cs) + casesLabels (E.caseList text s h cs) ≤ commandsTokens 3 cs) × (4 * caseCount (E.caseList text s h cs) + casesWords (E.caseList text s h cs) ≤ 8 * commandsTokens 1 cs)
+    count-s : (s : Scope) (h : ℕ) (cs : Commands) → FineCommands strings cs
+        → (commandsIn (E.caseList text s h cs) + casesLabels (E.caseList text s h cs) ≤ commandsTokens 3 cs)
+        × (4 * caseCount (E.caseList text s h cs) + casesWords (E.caseList text s h cs) ≤ 8 * commandsTokens 1 cs)
     count-s s h T.noCommands f = omega arith
     count-s s h (T.andCommand c cs) f =
         omega (arith, count-c s h c (f .0), count-s s h cs (f .1), cases-before 0 0 text s (labelsBefore c), label-tokens (labelsBefore c))

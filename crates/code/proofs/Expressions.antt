@@ -156,8 +156,9 @@ module _ (Γ : Env) where
         step-X1 Γ (fits .sized) (le-refl h) (x₁ .rel) (y₁ .at) i₂ a₁ g λ v₂ r₂ c₂ a₂. done r₂ c₂ k₃ (has-word a₂)) (omega arith)
 
     -- two operands: the left one waits in the word of the height, the right one is in A
-    pub sim-two : (d e : Expr) (n : ℕ) {Q : Value → Mach → Type 0} {t p h c₀ c₁ c₂ c₃ : ℕ} {s : State} {v : Mach} (more : ℕ → ℕ → State → Result Value)
-        → Code Γ c₀ (exprCode (suc (F Γ)) h n d) c₁ → At Γ c₁ 1 false P h c₂ → Code Γ c₂ (exprCode (suc (F Γ)) (h + 1) (n + exprLabels d) e) c₃
+    pub sim-two : (d e : Expr) (n : ℕ) {Q : Value → Mach → Type 0} {t p h c₀ c₁ c₂ c₃ : ℕ} {s : State} {v : Mach}
+        (more : ℕ → ℕ → State → Result Value) → Code Γ c₀ (exprCode (suc (F Γ)) h n d) c₁ → At Γ c₁ 1 false P h c₂
+        → Code Γ c₂ (exprCode (suc (F Γ)) (h + 1) (n + exprLabels d) e) c₃
         → FormedE (F Γ) (S Γ) h d × FormedE (F Γ) (S Γ) (h + 1) e → v .regs .c ≡ c₀ → Rel Γ p h s v
         → ((x y : ℕ) (u : State) (w : Mach) → Rel Γ p h u w → w .regs .c ≡ c₃ → getD (w .mem) (p + h) 0 ≡ x → w .regs .a ≡ y → p + (h + 1) ≤ Γ .limit
         → Runs Γ Q t p h h u w (more x y u))

@@ -21,7 +21,9 @@ use Rattle.language.proofs.Held.{ended-globals, ended-strings}
 use Rattle.language.specs.Resolved.{Fun}
 
 module _ (source : List ℕ) (good : Good source) (memory room first : ℕ) (accepted : assembled (textOf source) memory room .answer ≡ Accepted first)
-    (input : List ℕ) (s : State) (runs : SourceRunEnds source (placementOf source (assembled (textOf source) memory room .table) first) memory input s) (below : s .used + 8 ≤ memory) where
+    (input : List ℕ) (s : State)
+    (runs : SourceRunEnds source (placementOf source (assembled (textOf source) memory room .table) first) memory input s)
+    (below : s .used + 8 ≤ memory) where
   image : List ℕ
   image = assembled (textOf source) memory room .memory
 
@@ -57,4 +59,4 @@ module _ (source : List ℕ) (good : Good source) (memory room first : ℕ) (acc
       (finishes input stands (good .formed) (runs .fuel) s (runs .over) below) holding output budget
 
 pub faithful : (source : List ℕ) → Good source → Faithful source (textOf source)
-faithful source good = record { follows = λ memory room first accepted input s runs below output budget. owed source good memory room first accepted input s runs below output budget }
+faithful source good = record { follows = owed source good }

@@ -1,7 +1,7 @@
 -- A closed instance of the theorem, against vacuity: a small source, its text, its image and its runs, computed.
 use Prim.Native.Nat.{ℕ, zero, suc, _+_, _≤_, _<_}
 use mathlib.Core.Path.{_≡_, refl}
-use mathlib.Core.List.{List, [], _∷_}
+use mathlib.Core.List.{List, [], _∷_, _++_}
 use native.Mathlib.Omega.{arith}
 use lib.ListN.{length, getD}
 use Rattle.text.specs.Written.{bytes}
@@ -101,7 +101,8 @@ unfolding lineOf newlines refusal quoted character byNumber byDigits escape head
     noGlobals globalsAfter globals program image refuse accept assembled
 answers = refl
 
-tables : assembled (bytes "$\n1:\nL65\nSP4\nLIG14\nK2\nX4\nG1L1\nZ\n") 512 4 .table ≡ record { number = 1; address = 416 } ∷ vacant ∷ vacant ∷ vacant ∷ []
+tables : assembled (bytes "$\n1:\nL65\nSP4\nLIG14\nK2\nX4\nG1L1\nZ\n") 512 4 .table
+    ≡ record { number = 1; address = 416 } ∷ vacant ∷ vacant ∷ vacant ∷ []
 unfolding lineOf newlines refusal quoted character byNumber byDigits escape head byte optional digits digitCount decimal ended quotedCharacter
     quotedString negative quotation labelled positive operand base labelItem instructionItem constantItem stringItem globalItem functionOf item gaps
     mark trailing body scan operandInRange inRange short size pairs operandWord words defined addressOf noted misplaced fault lay uses known unknowns
@@ -179,13 +180,19 @@ refuses = refl
 -- ---- a source with each kind of label: it is accepted, and this is its text
 
 pub several : List ℕ
-several = bytes "GLOBAL $( START:1; WRCH:14 $)\nLET F(X) = VALOF $( SWITCHON X INTO $( CASE 1: CASE 2: RESULTIS 66; DEFAULT: ENDCASE $); RESULTIS 67 $)\nAND START() BE $( LET S = \"AB\"; $( WRCH(F(1)); TEST S=0 THEN LOOP OR BREAK $) REPEAT; FOR I = 1 TO 2 DO WRCH(65) REPEATWHILE I>5 $)"
+several =
+    bytes "GLOBAL $( START:1; WRCH:14 $)\nLET F(X) = VALOF $( SWITCHON X INTO $( CASE 1: CASE 2: RESULTIS 66; DEFAULT: ENDCASE $); RESULTIS 67 $)\n"
+    ++ bytes "AND START() BE $( LET S = \"AB\"; $( WRCH(F(1)); TEST S=0 THEN LOOP OR BREAK $) REPEAT; FOR I = 1 TO 2 DO WRCH(65) REPEATWHILE I>5 $)"
 
 pub several-accepted : refusalOf several 4000 ≡ accepted
 unfolding several refusalOf judgedBytes
 several-accepted = refl
 
-several-text : textOf several ≡ bytes "$\n1:\nLIP2\nX23\nD2\nDL7\nD1\nDL6\nD2\nDL6\n6:\nL66\nJL4\n7:\nJL5\n5:\nL67\nJL4\n4:\nX4\n2:\nLL3\nSP2\n8:\nL1\nSP7\nLL1\nK5\nSP5\nLIG14\nK3\nLIP2\nSP3\nL0\nSP4\nLIP3\nLIP4\nX10\nFL11\nJL9\nJL12\n11:\nJL10\n12:\n9:\nJL8\n10:\nL1\nSP3\nL2\nSP4\n13:\nLIP3\nLIP4\nX15\nFL15\n16:\nL65\nSP7\nLIG14\nK5\n17:\nLIP3\nSP5\nL5\nSP6\nLIP5\nLIP6\nX14\nTL16\n18:\n14:\nLIP3\nA1\nSP3\nJL13\n15:\nX4\n3:\nC\"AB\"\nG1L2\nZ\n"
+several-text : textOf several
+    ≡ bytes "$\n1:\nLIP2\nX23\nD2\nDL7\nD1\nDL6\nD2\nDL6\n6:\nL66\nJL4\n7:\nJL5\n5:\nL67\nJL4\n4:\nX4\n2:\n"
+    ++ (bytes "LL3\nSP2\n8:\nL1\nSP7\nLL1\nK5\nSP5\nLIG14\nK3\nLIP2\nSP3\nL0\nSP4\nLIP3\nLIP4\nX10\nFL11\nJL9\nJL12\n11:\nJL10\n12:\n9:\nJL8\n10:\n"
+    ++ bytes "L1\nSP3\nL2\nSP4\n13:\nLIP3\nLIP4\nX15\nFL15\n16:\nL65\nSP7\nLIG14\nK5\n17:\nLIP3\nSP5\nL5\nSP6\nLIP5\nLIP6\nX14\n"
+    ++ bytes "TL16\n18:\n14:\nLIP3\nA1\nSP3\nJL13\n15:\nX4\n3:\nC\"AB\"\nG1L2\nZ\n")
 unfolding several textOf functionsIn stringsIn ranBytes exprLabels bodyLabels count heightWith hasDefault commandsIn monadicAct dyadicAct casesOf
     caseCount defaultOf pairsOf tableOf exprCode exprsCode cmdCode bodyCode functionsCode stringsCode startsCode itemsOf numeral numeralOf operandText
     baseText indirectText letter plainText characterText charactersText render renderLines renderAll

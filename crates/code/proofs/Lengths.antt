@@ -107,7 +107,8 @@ line-short : (x : Item) → Sound x → length (render x) + 1 ≤ 5 * most x + 7
 unfolding render
 line-short (label n) h = omega (arith, length-append (numeralOf n) (58 ∷ []), five-digits n h)
 line-short (instruction f t b x) h =
-    omega (arith, length-append (indirectText t) (baseText b ++ operandText x), length-append (baseText b) (operandText x), indirect-short t, base-short b, operand-short x (h .sound))
+    let l = length-append (indirectText t) (baseText b ++ operandText x) in
+    omega (arith, l, length-append (baseText b) (operandText x), indirect-short t, base-short b, operand-short x (h .sound))
 line-short (constant x) h = omega (arith, operand-short x h)
 line-short (I.string cs) h = omega (arith, length-append (charactersText cs) (34 ∷ []), characters-short cs)
 line-short (I.global n m) h = omega (arith, length-append (numeralOf n) (76 ∷ numeralOf m), five-digits n (h .first), five-digits m (h .second))

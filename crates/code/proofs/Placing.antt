@@ -55,7 +55,7 @@ module _ {labels : List Label} {image : List ℕ} {at : ℕ} {p : Placed} {ps : 
   spot-next = record {
     front = s .front ++ words (addressOf labels) (p .item);
     rest = s .rest;
-    is = s .is ∙ rw (append-assoc (words (addressOf labels) (p .item)) (program labels ps) (s .rest), append-assoc (s .front) (words (addressOf labels) (p .item)) (program labels ps ++ s .rest)) refl;
+    is = s .is ∙ simp append-assoc;
     size = omega (arith, length-append (s .front) (words (addressOf labels) (p .item)), length-words (addressOf labels) (p .item), s .size);
   }
 

@@ -186,7 +186,7 @@ unfolding accept
 built fs ss memory room first sound h =
     let a : Acceptance (renderAll (itemsOf fs ss)) memory room first = acceptance (renderAll (itemsOf fs ss)) memory room h in
     let r : scan (renderAll (itemsOf fs ss)) ≡ record { items = places 2 (itemsOf fs ss); ending = whole } = rendered (itemsOf fs ss) sound in
-    let e : assembled (renderAll (itemsOf fs ss)) memory room ≡ accept (renderAll (itemsOf fs ss)) memory room (a .labels) first (places 2 (itemsOf fs ss)) = rw r at (a .accepts) in
+    let e = rw r at (a .accepts) in
     record {
       labels = a .labels;
       lays = record { is = rw r at (a .lays) };
@@ -237,7 +237,8 @@ module _
   unfolding itemsOf
   strings-first =
       let e : past 416 (fcode ++ rest) ≡ first = lays-end memory room 416 2 [] (fcode ++ rest) (b .lays) in
-      omega (arith, e, past-both 416 fcode rest, past-both codeEnd (stringsCode (suc (length fs)) ss) (startsCode 1 fs), past-more (past codeEnd (stringsCode (suc (length fs)) ss)) (startsCode 1 fs))
+      let ws : List Item = stringsCode (suc (length fs)) ss in
+      omega (arith, e, past-both 416 fcode rest, past-both codeEnd ws (startsCode 1 fs), past-more (past codeEnd ws) (startsCode 1 fs))
 
   pub same-address : (n : ℕ) → 1 ≤ n → addressOf table n ≡ addressOf (b .labels) n
   same-address n h = rw (b .table-is) (table-address (b .labels) (room - length (b .labels)) n h)

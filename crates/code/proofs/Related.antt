@@ -200,8 +200,9 @@ module _ (Γ : Env) where
 
   -- ---- results of parts
 
-  pub then : {A B : Type 0} {Q : A → Mach → Type 0} {Q′ : B → Mach → Type 0} {t t′ p h h₁ h₂ h₃ : ℕ} {s : State} {v : Mach} {x : Result A} {f : A → State → Result B} → h ≤ h₁
-      → Runs Q t p h₁ h₂ s v x → ((a : A) (s₁ : State) (v₁ : Mach) → Sim t p h₁ h₂ s v s₁ v₁ → Q a v₁ → Runs Q′ t′ p h h₃ s₁ v₁ (f a s₁))
+  pub then : {A B : Type 0} {Q : A → Mach → Type 0} {Q′ : B → Mach → Type 0} {t t′ p h h₁ h₂ h₃ : ℕ} {s : State} {v : Mach} {x : Result A}
+      {f : A → State → Result B} → h ≤ h₁ → Runs Q t p h₁ h₂ s v x
+      → ((a : A) (s₁ : State) (v₁ : Mach) → Sim t p h₁ h₂ s v s₁ v₁ → Q a v₁ → Runs Q′ t′ p h h₃ s₁ v₁ (f a s₁))
       → Runs Q′ (t + t′) p h h₃ s v (bind x f)
   then l z g =
       post-bind z (λ a s₁ e. after l (e .sim) (g a s₁ (e .v′) (e .sim) (e .is)))

@@ -48,7 +48,9 @@ module _ (Γ : Env) (sized : Sized Γ) (m : List ℕ) (agree : Agree Γ m) (w d 
   unfolding search O.read
   pair-hit {i} {v} {c} n x y e =
       let k : add i 1 ≡ suc i = omega (arith, x .below, sized .most) in
-      rw (lt-ltb i (length m) (omega (arith, x .below, agree .size)), x .is m agree, eq-eqb v w e, k, lt-ltb (suc i) (length m) (omega (arith, y .below, agree .size)), y .is m agree) refl
+      let l = lt-ltb i (length m) (omega (arith, x .below, agree .size)) in
+      let l′ = lt-ltb (suc i) (length m) (omega (arith, y .below, agree .size)) in
+      rw (l, x .is m agree, eq-eqb v w e, k, l′, y .is m agree) refl
 
   pair-miss : {i v c : ℕ} (n : ℕ) → Word Γ i v → Word Γ (suc i) c → (v ≡ w → ⊥) → search m w d (suc n) i ≡ search m w d n (suc (suc i))
   unfolding search O.read

@@ -181,7 +181,8 @@ table-defined (l ∷ ls) k n h = rw (table-defined ls k n h) refl
 -- ---- the rules
 
 module _
-    {fs : List Fun} {ss : List (List ℕ)} {memory room first : ℕ} {mem : List ℕ} {table : List Label} (b : Built fs ss memory room first mem table) where
+    {fs : List Fun} {ss : List (List ℕ)} {memory room first : ℕ} {mem : List ℕ} {table : List Label}
+    (b : Built fs ss memory room first mem table) where
   abbrev Γ : Env
   Γ = G.env [] b
 
@@ -254,18 +255,21 @@ module _
 
 module _ (source : List ℕ) (good : Good source) (memory room first : ℕ)
     (accepted : assembled (textOf source) memory room .answer ≡ Accepted first) where
-  stands : Built (functionsIn source) (stringsIn source) memory room first (assembled (textOf source) memory room .memory) (assembled (textOf source) memory room .table)
+  abbrev table : List Label
+  table = assembled (textOf source) memory room .table
+
+  stands : Built (functionsIn source) (stringsIn source) memory room first (assembled (textOf source) memory room .memory) table
   unfolding textOf
   stands = built (functionsIn source) (stringsIn source) memory room first (good .sound) accepted
 
-  entries-count : length (addressesFrom (assembled (textOf source) memory room .table) 1 (length (functionsIn source))) ≡ length (functionsIn source)
-  entries-count = G.addresses-length (assembled (textOf source) memory room .table) 1 (length (functionsIn source))
+  entries-count : length (addressesFrom table 1 (length (functionsIn source))) ≡ length (functionsIn source)
+  entries-count = G.addresses-length table 1 (length (functionsIn source))
 
-  strings-count : length (addressesFrom (assembled (textOf source) memory room .table) (suc (length (functionsIn source))) (length (stringsIn source))) ≡ length (stringsIn source)
-  strings-count = G.addresses-length (assembled (textOf source) memory room .table) (suc (length (functionsIn source))) (length (stringsIn source))
+  strings-count : length (addressesFrom table (suc (length (functionsIn source))) (length (stringsIn source))) ≡ length (stringsIn source)
+  strings-count = G.addresses-length table (suc (length (functionsIn source))) (length (stringsIn source))
 
   -- the placement, wherever the text is assembled
-  pub well-placed : WellPlaced source (placementOf source (assembled (textOf source) memory room .table) first) (assembled (textOf source) memory room .table) (assembled (textOf source) memory room .memory)
+  pub well-placed : WellPlaced source (placementOf source table first) table (assembled (textOf source) memory room .memory)
   well-placed = record {
     labelled = labelled stands;
     entries-differ = λ i j h k e. entries-differ stands i j (omega (arith, entries-count)) (omega (arith, entries-count)) e;

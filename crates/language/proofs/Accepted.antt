@@ -60,7 +60,8 @@ module _ (text : List ℕ) (p : Program) (r : IsRead text p) where
       go (rw (r .tree) at (program (sourceNow text) (length (stringsAmong text (symbolsNow text))) (λ at. cost loops (take at (symbolsNow text)))
       (counts loops some text short few)))
     where
-      go : Of (sourceNow text) (length (stringsAmong text (symbolsNow text))) (λ at. cost loops (take at (symbolsNow text))) (counts loops some text short few) (FineProgram (length (stringsAmong text (symbolsNow text)))) (programTokens loops) 0 (ok p (r .next))
+      go : Of (sourceNow text) (length (stringsAmong text (symbolsNow text))) (λ at. cost loops (take at (symbolsNow text)))
+          (counts loops some text short few) (FineProgram (length (stringsAmong text (symbolsNow text)))) (programTokens loops) 0 (ok p (r .next))
           → FineProgram (length (stringsIn text)) p × (programTokens loops p ≤ cost loops (scan text .symbols))
       go (given f l) = (rw strings-are f, omega (arith, cost-now loops text (r .next)))
 

@@ -31,7 +31,8 @@ by-guard P e c sense a b p q r = by-cond P a p (by-cond P b q r)
 -- four forms can be left sides
 module _
     (P : Expr → Side → Type 0) (l : (k : ℕ) → P (R.local k) (side (R.toLocal k))) (g : (n : ℕ) → P (R.global n) (side (R.toGlobal n)))
-    (c : (e : Expr) → P (R.contents e) (side (R.toContents e))) (i : (a b : Expr) → P (R.index a b) (side (R.toIndex a b))) (n : (e : Expr) → P e noSide) where
+    (c : (e : Expr) → P (R.contents e) (side (R.toContents e))) (i : (a b : Expr) → P (R.index a b) (side (R.toIndex a b)))
+    (n : (e : Expr) → P e noSide) where
   pub by-side : (e : Expr) → P e (sideOf e)
   unfolding sideOf
   by-side (R.local k) = l k
