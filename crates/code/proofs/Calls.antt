@@ -70,8 +70,7 @@ module _ (Γ : Env) where
       unfolding MA.received
       sim-rdch e l =
           calls Γ (fits .sized) r pc i acc l λ v₁ cl.
-          cut-number Γ (fits .rdch .1) λ b₁ i₁ k₁.
-          cut-number Γ k₁ λ b₂ i₂ k₂. go v₁ cl b₁ i₁ b₂ i₂ (ltb (s .taken) (length (Γ .input))) refl
+          cut-number Γ (fits .rdch .1) λ b₁ i₁ k₁. cut-number Γ k₁ λ b₂ i₂ k₂. go v₁ cl b₁ i₁ b₂ i₂ (ltb (s .taken) (length (Γ .input))) refl
         where
           go : (v₁ : Mach) → Called Γ (fits .sized) p h b c s v v₁ → (b₁ : ℕ) → At Γ 3 7 false I.none 27 b₁ → (b₂ : ℕ) → At Γ b₁ 7 false I.none 4 b₂
               → (z : Bool) → ltb (s .taken) (length (Γ .input)) ≡ z → Runs Γ (Valued Γ b) 4 p h h s v (received (Γ .input) s)

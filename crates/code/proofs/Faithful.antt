@@ -54,8 +54,7 @@ module _ (source : List ℕ) (good : Good source) (memory room first : ℕ) (acc
       (run first (assembled (textOf source) memory room .memory) input output budget)
   unfolding image table
   owed output budget =
-      follows (Γ input stands) (stringsIn source)
-      (omega (arith, stands .fills, stands .least)) (omega (arith, stands .fills, stands .most)) _ s refl
+      follows (Γ input stands) (stringsIn source) (omega (arith, stands .fills, stands .least)) (omega (arith, stands .fills, stands .most)) _ s refl
       (finishes input stands (good .formed) (runs .fuel) s (runs .over) below) holding output budget
 
 pub faithful : (source : List ℕ) → Good source → Faithful source (textOf source)

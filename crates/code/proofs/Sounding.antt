@@ -314,8 +314,7 @@ module _ (T functions strings : ℕ) (few : suc functions + strings ≤ T) where
         (lab (omega arith) (adr (omega arith) (lab (omega arith) s-none))))
     sound-c h n x (R.repeatWhile sense c e) l m q f w y =
         lab (omega arith) (sounds-both (sound-c h (n + 3) _ c l (omega arith) (near-loop (omega arith) q) (f .0) (search lows) (y .0))
-        (lab (omega arith)
-        (sounds-both (sound-e h (n + 3 + cmdLabels c) e l (omega arith) (f .1) (search lows) (y .1))
+        (lab (omega arith) (sounds-both (sound-e h (n + 3 + cmdLabels c) e l (omega arith) (f .1) (search lows) (y .1))
         (adr (omega (arith, sense-small sense 4 5 (omega arith) (omega arith))) (lab (omega arith) s-none)))))
     sound-c h n x (R.for first limit by c) l m q f w y =
         let z : by < 65536 = f .3 in

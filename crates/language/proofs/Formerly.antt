@@ -79,8 +79,7 @@ asString refused = wrong 4 0
 -- all other symbols are read as now
 unfoldable pub formerByClass : (class : ℕ) → List ℕ → Element
 formerByClass class bs =
-    cond (eqb class QUOTE) (asCharacter (formerly 39 0 (drop 1 bs)))
-    (cond (eqb class DOUBLE) (asString (formerly 34 0 (drop 1 bs)))
+    cond (eqb class QUOTE) (asCharacter (formerly 39 0 (drop 1 bs))) (cond (eqb class DOUBLE) (asString (formerly 34 0 (drop 1 bs)))
     (byClass class bs))
 
 unfoldable pub formerScan : (over place : ℕ) → List ℕ → Scan

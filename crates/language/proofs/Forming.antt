@@ -80,8 +80,8 @@ module _ (functions strings : ℕ) (text : List ℕ) where
   body-formed s h (T.routine c) sc f = form-c functions strings text s h c sc f
 
   body-leaves : (s : Scope) (h : ℕ) (b : T.Body) → FineBody strings b → bodyFaults text s h b ≡ [] → LeavesF (bodyOf text s h b)
-  body-leaves s h (T.value e) f n = leave-e strings text s (record { loop = false; switch = false; valof = false; routine = false }) h e n f s h
-  body-leaves s h (T.routine c) f n = leave-c strings text s (record { loop = false; switch = false; valof = false; routine = true }) h c n f s h
+  body-leaves s h (T.value e) f n = leave-e strings text s (record { loop = false; switch = false; valof = false; routine = false }) h e n f
+  body-leaves s h (T.routine c) f n = leave-c strings text s (record { loop = false; switch = false; valof = false; routine = true }) h c n f
 
   start-formed : (x : N.Found) → KnownFound functions 0 x → FormedStart (startOf x)
   start-formed N.unknown p = tt

@@ -191,123 +191,108 @@ module _ (strings : ℕ) (text : List ℕ) where
   mutual
     unfolding LeavesE inExpression E.expression Fine
 
-    pub leave-e : (s : Scope) (l : Leavable) (h : ℕ) (e : Expression) → inExpression text s l h e ≡ [] → Fine strings e → (s′ : Scope) (h′ : ℕ)
-        → LeavesE (E.expression text s′ h′ e)
-    leave-e s l h (T.number place v) n f s′ h′ = tt
-    leave-e s l h (T.string place k) n f s′ h′ = tt
-    leave-e s l h (T.name x) n f s′ h′ = leave-name (lookup text s′ x)
-    leave-e s l h (T.bracketed place e) n f s′ h′ = leave-e s l h e n f s′ h′
-    leave-e s l h (T.valof place c) n f s′ h′ = leave-c s (inValof l) h c n f s′ h′
-    leave-e s l h (T.monadic place o e) n f s′ h′ = leave-monadic o (E.expression text s′ h′ e) (leave-e s l h e (search nones) f s′ h′)
-    leave-e s l h (T.suffixed e ss) n f s′ h′ =
-        leave-x s l h ss (search nones) (f .1) s′ h′ (E.expression text s′ (under ss h′) e)
-        (leave-e s l (under ss h) e (search nones) (f .0) s′ (under ss h′))
-    leave-e s l h (T.dyadic e os) n f s′ h′ =
-        leave-o s l h os (search nones) (f .1) s′ h′ (E.expression text s′ h′ e) (leave-e s l h e (search nones) (f .0) s′ h′)
+    pub leave-e : (s : Scope) (l : Leavable) (h : ℕ) (e : Expression) → inExpression text s l h e ≡ [] → Fine strings e
+        → LeavesE (E.expression text s h e)
+    leave-e s l h (T.number place v) n f = tt
+    leave-e s l h (T.string place k) n f = tt
+    leave-e s l h (T.name x) n f = leave-name (lookup text s x)
+    leave-e s l h (T.bracketed place e) n f = leave-e s l h e n f
+    leave-e s l h (T.valof place c) n f = leave-c s (inValof l) h c n f
+    leave-e s l h (T.monadic place o e) n f = leave-monadic o (E.expression text s h e) (leave-e s l h e (search nones) f)
+    leave-e s l h (T.suffixed e ss) n f =
+        leave-x s l h ss (search nones) (f .1) (E.expression text s (under ss h) e) (leave-e s l (under ss h) e (search nones) (f .0))
+    leave-e s l h (T.dyadic e os) n f = leave-o s l h os (search nones) (f .1) (E.expression text s h e) (leave-e s l h e (search nones) (f .0))
 
-    leave-a : (s : Scope) (l : Leavable) (h : ℕ) (es : Expressions) → inExpressions text s l h es ≡ [] → FineList strings es → (s′ : Scope) (h′ : ℕ)
-        → LeavesA (E.expressions text s′ h′ es)
-    leave-a s l h T.noExpressions n f s′ h′ = tt
-    leave-a s l h (T.andExpression e es) n f s′ h′ =
-        (leave-e s l h e (search nones) (f .0) s′ h′, leave-a s l (h + 1) es (search nones) (f .1) s′ (h′ + 1))
+    leave-a : (s : Scope) (l : Leavable) (h : ℕ) (es : Expressions) → inExpressions text s l h es ≡ [] → FineList strings es
+        → LeavesA (E.expressions text s h es)
+    leave-a s l h T.noExpressions n f = tt
+    leave-a s l h (T.andExpression e es) n f = (leave-e s l h e (search nones) (f .0), leave-a s l (h + 1) es (search nones) (f .1))
 
     leave-right : (s : Scope) (l : Leavable) (h : ℕ) (es : Expressions) → inRightSides text s l h es ≡ [] → FineList strings es
-        → (s′ : Scope) (h′ : ℕ) → LeavesA (E.sides text s′ h′ es)
-    leave-right s l h T.noExpressions n f s′ h′ = tt
-    leave-right s l h (T.andExpression e es) n f s′ h′ =
-        (leave-e s l h e (search nones) (f .0) s′ h′, leave-right s l h es (search nones) (f .1) s′ h′)
+        → LeavesA (E.sides text s h es)
+    leave-right s l h T.noExpressions n f = tt
+    leave-right s l h (T.andExpression e es) n f = (leave-e s l h e (search nones) (f .0), leave-right s l h es (search nones) (f .1))
 
-    leave-sides : (s : Scope) (l : Leavable) (h : ℕ) (es : Expressions) → inSides text s l h es ≡ [] → FineList strings es → (s′ : Scope) (h′ : ℕ)
-        → LeavesA (E.sides text s′ h′ es)
-    leave-sides s l h T.noExpressions n f s′ h′ = tt
-    leave-sides s l h (T.andExpression e es) n f s′ h′ =
-        (leave-e s l h e (search nones) (f .0) s′ h′, leave-sides s l h es (search nones) (f .1) s′ h′)
+    leave-sides : (s : Scope) (l : Leavable) (h : ℕ) (es : Expressions) → inSides text s l h es ≡ [] → FineList strings es
+        → LeavesA (E.sides text s h es)
+    leave-sides s l h T.noExpressions n f = tt
+    leave-sides s l h (T.andExpression e es) n f = (leave-e s l h e (search nones) (f .0), leave-sides s l h es (search nones) (f .1))
 
     leave-x : (s : Scope) (l : Leavable) (h : ℕ) (ss : Suffixes) → inSuffixes text s l h ss ≡ [] → FineSuffixes strings ss
-        → (s′ : Scope) (h′ : ℕ) (x : Expr) → LeavesE x → LeavesE (E.suffixes text s′ h′ x ss)
-    leave-x s l h T.noSuffixes n f s′ h′ x p = p
-    leave-x s l h (T.call es ss) n f s′ h′ x p =
-        leave-x s l h ss (search nones) (f .1) s′ h′ (R.call x (E.expressions text s′ (under ss h′ + 2) es))
-        (leave-a s l (under ss h + 2) es (search nones) (f .0) s′ (under ss h′ + 2), p)
-    leave-x s l h (T.index e ss) n f s′ h′ x p =
-        leave-x s l h ss (search nones) (f .1) s′ h′ (R.index x (E.expression text s′ (under ss h′ + 1) e))
-        (p, leave-e s l (under ss h + 1) e (search nones) (f .0) s′ (under ss h′ + 1))
+        → (x : Expr) → LeavesE x → LeavesE (E.suffixes text s h x ss)
+    leave-x s l h T.noSuffixes n f x p = p
+    leave-x s l h (T.call es ss) n f x p =
+        leave-x s l h ss (search nones) (f .1) (R.call x (E.expressions text s (under ss h + 2) es))
+        (leave-a s l (under ss h + 2) es (search nones) (f .0), p)
+    leave-x s l h (T.index e ss) n f x p =
+        leave-x s l h ss (search nones) (f .1) (R.index x (E.expression text s (under ss h + 1) e))
+        (p, leave-e s l (under ss h + 1) e (search nones) (f .0))
 
     leave-o : (s : Scope) (l : Leavable) (h : ℕ) (os : Operations) → inOperations text s l h os ≡ [] → FineOperations strings os
-        → (s′ : Scope) (h′ : ℕ) (x : Expr) → LeavesE x → LeavesE (E.operations text s′ h′ x os)
-    leave-o s l h T.noOperations n f s′ h′ x p = p
-    leave-o s l h (T.operation o e os) n f s′ h′ x p =
-        leave-o s l h os (search nones) (f .1) s′ h′ (R.binary o x (E.expression text s′ (h′ + 1) e))
-        (p, leave-e s l (h + 1) e (search nones) (f .0) s′ (h′ + 1))
+        → (x : Expr) → LeavesE x → LeavesE (E.operations text s h x os)
+    leave-o s l h T.noOperations n f x p = p
+    leave-o s l h (T.operation o e os) n f x p =
+        leave-o s l h os (search nones) (f .1) (R.binary o x (E.expression text s (h + 1) e)) (p, leave-e s l (h + 1) e (search nones) (f .0))
 
-    pub leave-c : (s : Scope) (l : Leavable) (h : ℕ) (c : Command) → inCommand text s l h c ≡ [] → FineCommand strings c → (s′ : Scope) (h′ : ℕ)
-        → Leave l (E.command text s′ h′ c)
-    leave-c s l h (T.command ls u rs) n f s′ h′ =
-        leave-r s l h rs (search nones) (f .2) s′ h′ (E.unlabelled text s′ h′ u)
-        (leave-u s (repeated rs l) h u (search nones) (f .1) s′ h′)
+    pub leave-c : (s : Scope) (l : Leavable) (h : ℕ) (c : Command) → inCommand text s l h c ≡ [] → FineCommand strings c
+        → Leave l (E.command text s h c)
+    leave-c s l h (T.command ls u rs) n f =
+        leave-r s l h rs (search nones) (f .2) (E.unlabelled text s h u) (leave-u s (repeated rs l) h u (search nones) (f .1))
 
-    leave-case : (s : Scope) (l : Leavable) (h : ℕ) (c : Command) → inCase text s l h c ≡ [] → FineCommand strings c → (s′ : Scope) (h′ : ℕ)
-        → Leave l (E.command text s′ h′ c)
-    leave-case s l h (T.command ls u rs) n f s′ h′ =
-        leave-r s l h rs (search nones) (f .2) s′ h′ (E.unlabelled text s′ h′ u) (leave-u s (repeated rs l) h u (search nones) (f .1) s′ h′)
+    leave-case : (s : Scope) (l : Leavable) (h : ℕ) (c : Command) → inCase text s l h c ≡ [] → FineCommand strings c → Leave l (E.command text s h c)
+    leave-case s l h (T.command ls u rs) n f =
+        leave-r s l h rs (search nones) (f .2) (E.unlabelled text s h u) (leave-u s (repeated rs l) h u (search nones) (f .1))
 
     leave-r : (s : Scope) (l : Leavable) (h : ℕ) (rs : Repeats) → inRepeats text s l h rs ≡ [] → FineRepeats strings rs
-        → (s′ : Scope) (h′ : ℕ) (x : Cmd) → Leave (repeated rs l) x → Leave l (E.repeats text s′ h′ x rs)
-    leave-r s l h T.noRepeats n f s′ h′ x p = p
-    leave-r s l h (T.repeat rs) n f s′ h′ x p = leave-r s l h rs n f s′ h′ (R.repeat x) (again rs l x p)
-    leave-r s l h (T.repeatOn w e rs) n f s′ h′ x p =
-        leave-r s l h rs (search nones) (f .1) s′ h′ (R.repeatWhile (eqb w REPEATWHILE) x (E.expression text s′ h′ e))
-        (again rs l x p, leave-e s l h e (search nones) (f .0) s′ h′)
+        → (x : Cmd) → Leave (repeated rs l) x → Leave l (E.repeats text s h x rs)
+    leave-r s l h T.noRepeats n f x p = p
+    leave-r s l h (T.repeat rs) n f x p = leave-r s l h rs n f (R.repeat x) (again rs l x p)
+    leave-r s l h (T.repeatOn w e rs) n f x p =
+        leave-r s l h rs (search nones) (f .1) (R.repeatWhile (eqb w REPEATWHILE) x (E.expression text s h e))
+        (again rs l x p, leave-e s l h e (search nones) (f .0))
 
-    leave-u : (s : Scope) (l : Leavable) (h : ℕ) (u : Unlabelled) → inUnlabelled text s l h u ≡ [] → FineUnlabelled strings u → (s′ : Scope) (h′ : ℕ)
-        → Leave l (E.unlabelled text s′ h′ u)
-    leave-u s l h T.empty n f s′ h′ = tt
-    leave-u s l h (T.assignment left right) n f s′ h′ =
-        leave-pairs (E.sides text s′ (h′ + 1) left) (E.sides text s′ h′ right) (leave-sides s l (h + 1) left (search nones) (f .0) s′ (h′ + 1))
-        (leave-right s l h right (search nones) (f .1) s′ h′)
-    leave-u s l h (T.callCommand e) n f s′ h′ = leave-e s l h e n (f .0) s′ h′
-    leave-u s l h (T.test e c d) n f s′ h′ = (
-      leave-e s l h e (search nones) (f .0) s′ h′,
-      leave-c s l h c (search nones) (f .1) s′ h′,
-      leave-c s l h d (search nones) (f .2) s′ h′,
+    leave-u : (s : Scope) (l : Leavable) (h : ℕ) (u : Unlabelled) → inUnlabelled text s l h u ≡ [] → FineUnlabelled strings u
+        → Leave l (E.unlabelled text s h u)
+    leave-u s l h T.empty n f = tt
+    leave-u s l h (T.assignment left right) n f =
+        leave-pairs (E.sides text s (h + 1) left) (E.sides text s h right) (leave-sides s l (h + 1) left (search nones) (f .0))
+        (leave-right s l h right (search nones) (f .1))
+    leave-u s l h (T.callCommand e) n f = leave-e s l h e n (f .0)
+    leave-u s l h (T.test e c d) n f = (
+      leave-e s l h e (search nones) (f .0),
+      leave-c s l h c (search nones) (f .1),
+      leave-c s l h d (search nones) (f .2),
     )
-    leave-u s l h (T.guarded w e c) n f s′ h′ =
-        leave-guard l w (E.expression text s′ h′ e) (E.command text s′ h′ c) (f .2) (leave-e s l h e (search nones) (f .0) s′ h′) (search nones)
-        (λ q. leave-c s l h c q (f .1) s′ h′) (λ q. leave-c s (inLoop l) h c q (f .1) s′ h′)
-    leave-u s l h (T.for x e d k c) n f s′ h′ = (
-      leave-e s l h e (search nones) (f .0) s′ h′,
-      leave-e s l (h + 1) d (search nones) (f .1) s′ (h′ + 1),
-      leave-c (declared (opened s) x (N.local h)) (inLoop l) (h + 2) c (search nones) (f .3) (declared (opened s′) x (N.local h′)) (h′ + 2),
+    leave-u s l h (T.guarded w e c) n f =
+        leave-guard l w (E.expression text s h e) (E.command text s h c) (f .2) (leave-e s l h e (search nones) (f .0)) (search nones)
+        (λ q. leave-c s l h c q (f .1)) (λ q. leave-c s (inLoop l) h c q (f .1))
+    leave-u s l h (T.for x e d k c) n f = (
+      leave-e s l h e (search nones) (f .0),
+      leave-e s l (h + 1) d (search nones) (f .1),
+      leave-c (declared (opened s) x (N.local h)) (inLoop l) (h + 2) c (search nones) (f .3),
     )
-    leave-u s l h (T.switchon e cs) n f s′ h′ =
-        (leave-e s l h e (search nones) (f .0) s′ h′, leave-s s (inSwitch l) h [] cs (search nones) (f .1) s′ h′)
-    leave-u s l h (T.resultis place e) n f s′ h′ = (leave-e s l h e (search nones) f s′ h′, unless-true (l .valof) place (search nones))
-    leave-u s l h (T.leave w place) n f s′ h′ = leave-leaving l w (unless-true (leaves l w) place n)
-    leave-u s l h (T.block ls cs) n f s′ h′ = (
-      leave-l (opened s) l h ls (search nones) (f .0) (opened s′) h′,
-      leave-b (scopeAfter text (opened s) h ls) l (E.heightAfter text (opened s) h ls) cs (search nones) (f .1) (scopeAfter text (opened s′) h′ ls)
-          (E.heightAfter text (opened s′) h′ ls),
+    leave-u s l h (T.switchon e cs) n f = (leave-e s l h e (search nones) (f .0), leave-s s (inSwitch l) h [] cs (search nones) (f .1))
+    leave-u s l h (T.resultis place e) n f = (leave-e s l h e (search nones) f, unless-true (l .valof) place (search nones))
+    leave-u s l h (T.leave w place) n f = leave-leaving l w (unless-true (leaves l w) place n)
+    leave-u s l h (T.block ls cs) n f = (
+      leave-l (opened s) l h ls (search nones) (f .0),
+      leave-b (scopeAfter text (opened s) h ls) l (E.heightAfter text (opened s) h ls) cs (search nones) (f .1),
     )
 
-    leave-l : (s : Scope) (l : Leavable) (h : ℕ) (ls : T.Locals) → inLocals text s l h ls ≡ [] → FineLocals strings ls → (s′ : Scope) (h′ : ℕ)
-        → LeavesL (E.locals text s′ h′ ls)
-    leave-l s l h T.noLocals n f s′ h′ = tt
-    leave-l s l h (T.vector x k ls) n f s′ h′ =
-        leave-l (declared s x (N.local h)) l (h + 2 + judgedWord (forVector text s k)) ls
-        (search nones) (f .1)
-        (declared s′ x (N.local h′)) (h′ + 2 + judgedWord (forVector text s′ k))
-    leave-l s l h (T.values ns es ls) n f s′ h′ =
-        leave-values (E.expressions text s′ h′ es) (E.locals text (declareAll s′ h′ ns) (h′ + length ns) ls)
-        (leave-a s l h es (search nones) (f .0) s′ h′)
-        (leave-l (declareAll s h ns) l (h + length ns) ls (search nones) (f .1) (declareAll s′ h′ ns) (h′ + length ns))
+    leave-l : (s : Scope) (l : Leavable) (h : ℕ) (ls : T.Locals) → inLocals text s l h ls ≡ [] → FineLocals strings ls
+        → LeavesL (E.locals text s h ls)
+    leave-l s l h T.noLocals n f = tt
+    leave-l s l h (T.vector x k ls) n f = leave-l (declared s x (N.local h)) l (h + 2 + judgedWord (forVector text s k)) ls (search nones) (f .1)
+    leave-l s l h (T.values ns es ls) n f =
+        leave-values (E.expressions text s h es) (E.locals text (declareAll s h ns) (h + length ns) ls) (leave-a s l h es (search nones) (f .0))
+        (leave-l (declareAll s h ns) l (h + length ns) ls (search nones) (f .1))
 
-    leave-b : (s : Scope) (l : Leavable) (h : ℕ) (cs : Commands) → inCommands text s l h cs ≡ [] → FineCommands strings cs → (s′ : Scope) (h′ : ℕ)
-        → LeavesB (l .loop) (l .switch) (l .valof) (E.commands text s′ h′ cs)
-    leave-b s l h T.noCommands n f s′ h′ = tt
-    leave-b s l h (T.andCommand c cs) n f s′ h′ = (leave-c s l h c (search nones) (f .0) s′ h′, leave-b s l h cs (search nones) (f .1) s′ h′)
+    leave-b : (s : Scope) (l : Leavable) (h : ℕ) (cs : Commands) → inCommands text s l h cs ≡ [] → FineCommands strings cs
+        → LeavesB (l .loop) (l .switch) (l .valof) (E.commands text s h cs)
+    leave-b s l h T.noCommands n f = tt
+    leave-b s l h (T.andCommand c cs) n f = (leave-c s l h c (search nones) (f .0), leave-b s l h cs (search nones) (f .1))
 
     leave-s : (s : Scope) (l : Leavable) (h : ℕ) (d : List Label) (cs : Commands) → inCases text s l h d cs ≡ [] → FineCommands strings cs
-        → (s′ : Scope) (h′ : ℕ) → LeavesS (l .loop) (l .switch) (l .valof) (E.caseList text s′ h′ cs)
-    leave-s s l h d T.noCommands n f s′ h′ = tt
-    leave-s s l h d (T.andCommand c cs) n f s′ h′ =
-        (leave-case s l h c (search nones) (f .0) s′ h′, leave-s s l h (d ++ labelsBefore c) cs (search nones) (f .1) s′ h′)
+        → LeavesS (l .loop) (l .switch) (l .valof) (E.caseList text s h cs)
+    leave-s s l h d T.noCommands n f = tt
+    leave-s s l h d (T.andCommand c cs) n f = (leave-case s l h c (search nones) (f .0), leave-s s l h (d ++ labelsBefore c) cs (search nones) (f .1))

@@ -319,8 +319,7 @@ module _ {loops : ℕ} (s : Source) (strings : ℕ) (c : ℕ → ℕ) (k : Count
         take (the-one k K.BEGIN at (omega arith)) λ _ n₁ _ l₁.
         take (many-of k (FineLocals strings) (localsTokens loops) T.noLocals tt (omega arith) (C.local r) (λ kind. eqb kind K.LET)
         (λ n _. local n) n₁)
-        λ ls n₂ p l₂.
-        take (commands-to-end n₂) λ cs n₃ q l₃. got ((p, q), refl) (omega arith)
+        λ ls n₂ p l₂. take (commands-to-end n₂) λ cs n₃ q l₃. got ((p, q), refl) (omega arith)
       where
         commands-to-end : (at : ℕ) → O (FineCommands strings) (commandsTokens loops) at (C.commandsToEnd r s at)
         commands-to-end at =
