@@ -34,7 +34,7 @@ use Rattle.items.specs.Scan.{gaps, mark, trailing, body, scan}
 use Rattle.assembler.specs.Words.{operandInRange, inRange, short, size, operandWord, words}
 use Rattle.text.specs.Packed.{pairs}
 use Rattle.assembler.specs.Layout.{vacant, defined, addressOf, noted, misplaced, fault, lay, uses, known, unknowns}
-use Rattle.assembler.specs.Assemble.{globalsAfter, globals, program, image, refuse, accept, assembled}
+use Rattle.assembler.specs.Assemble.{globalsAfter, globals, program, image, refuse, accept, Assembly, assembled}
 use Rattle.words.specs.Globals.{noGlobals}
 use Rattle.assembler.specs.declared.Assembled.the-variants.{Accepted, Refused}
 use Rattle.language.specs.State.{Value, State, Result, unfinished, undefined, finished, returned, ok}
@@ -63,26 +63,11 @@ text-is = refl
 
 sounds : AllSound (itemsOf (start ∷ []) [])
 unfolding start exprCode exprsCode cmdCode bodyCode functionsCode stringsCode startsCode itemsOf
-sounds = (
-  omega arith,
-  (
-    record { eight = omega arith; sound = omega arith },
-    (
-      record { eight = omega arith; sound = omega arith },
-      (
-        record { eight = omega arith; sound = omega arith },
-        (
-          record { eight = omega arith; sound = omega arith },
-          (record { eight = omega arith; sound = omega arith }, (record { first = omega arith; second = omega arith }, tt)),
-        ),
-      ),
-    ),
-  ),
-)
+sounds = omega arith
 
 formed : (k : ℕ) → k < 1 → FormedF 1 0 (2 + getD (start ∷ []) k noFun .parameters) (getD (start ∷ []) k noFun .body)
 unfolding start FormedC FormedE FormedA
-formed zero l = ((omega arith, tt), omega arith)
+formed zero l = omega arith
 formed (suc k) l = absurd (omega arith)
 
 good : Good source
@@ -94,19 +79,21 @@ pub written : textOf source ≡ bytes "$\n1:\nL65\nSP4\nLIG14\nK2\nX4\nG1L1\nZ\n
 unfolding textOf
 written = rw (functions-are, strings-are) text-is
 
-pub answers : assembled (bytes "$\n1:\nL65\nSP4\nLIG14\nK2\nX4\nG1L1\nZ\n") 512 4 .answer ≡ Accepted 421
+-- its text, assembled with so much room for labels
+unfoldable made : (room : ℕ) → Assembly
 unfolding lineOf newlines refusal quoted character byNumber byDigits escape head byte optional digits digitCount decimal ended quotedCharacter
     quotedString negative quotation labelled positive operand base labelItem instructionItem constantItem stringItem globalItem functionOf item gaps
     mark trailing body scan operandInRange inRange short size pairs operandWord words defined addressOf noted misplaced fault lay uses known unknowns
     noGlobals globalsAfter globals program image refuse accept assembled
+made room = assembled (bytes "$\n1:\nL65\nSP4\nLIG14\nK2\nX4\nG1L1\nZ\n") 512 room
+
+pub answers : assembled (bytes "$\n1:\nL65\nSP4\nLIG14\nK2\nX4\nG1L1\nZ\n") 512 4 .answer ≡ Accepted 421
+unfolding made
 answers = refl
 
 tables : assembled (bytes "$\n1:\nL65\nSP4\nLIG14\nK2\nX4\nG1L1\nZ\n") 512 4 .table
     ≡ record { number = 1; address = 416 } ∷ vacant ∷ vacant ∷ vacant ∷ []
-unfolding lineOf newlines refusal quoted character byNumber byDigits escape head byte optional digits digitCount decimal ended quotedCharacter
-    quotedString negative quotation labelled positive operand base labelItem instructionItem constantItem stringItem globalItem functionOf item gaps
-    mark trailing body scan operandInRange inRange short size pairs operandWord words defined addressOf noted misplaced fault lay uses known unknowns
-    noGlobals globalsAfter globals program image refuse accept assembled
+unfolding made
 tables = refl
 
 place : Placement
@@ -143,16 +130,13 @@ says = refl
 
 -- the machine's run of the image, with one byte of room and 100 instructions at most: it writes A, as the source run does
 record MachineRuns : Type 0 where
-  stops : run 421 (assembled (bytes "$\n1:\nL65\nSP4\nLIG14\nK2\nX4\nG1L1\nZ\n") 512 4 .memory) [] (7 ∷ []) 100 .stop ≡ 30
-  counts : run 421 (assembled (bytes "$\n1:\nL65\nSP4\nLIG14\nK2\nX4\nG1L1\nZ\n") 512 4 .memory) [] (7 ∷ []) 100 .count ≡ 11
-  writes : run 421 (assembled (bytes "$\n1:\nL65\nSP4\nLIG14\nK2\nX4\nG1L1\nZ\n") 512 4 .memory) [] (7 ∷ []) 100 .state .out ≡ 65 ∷ []
+  stops : run 421 (made 4 .memory) [] (7 ∷ []) 100 .stop ≡ 30
+  counts : run 421 (made 4 .memory) [] (7 ∷ []) 100 .count ≡ 11
+  writes : run 421 (made 4 .memory) [] (7 ∷ []) 100 .state .out ≡ 65 ∷ []
 
 machine-runs : MachineRuns
-unfolding value wordOf M.read M.write fetch A.indirected A.returned A.combined A.search A.switched A.received A.sent S.keep S.stored S.called S.jumped
-    S.perform S.execute S.step steps resume lineOf newlines refusal quoted character byNumber byDigits escape head byte optional digits digitCount
-    decimal ended quotedCharacter quotedString negative quotation labelled positive operand base labelItem instructionItem constantItem stringItem
-    globalItem functionOf item gaps mark trailing body scan operandInRange inRange short size pairs operandWord words defined addressOf noted
-    misplaced fault lay uses known unknowns noGlobals globalsAfter globals program image refuse accept assembled
+unfolding made value wordOf M.read M.write fetch A.indirected A.returned A.combined A.search A.switched A.received A.sent S.keep S.stored S.called
+    S.jumped S.perform S.execute S.step steps resume
 machine-runs = record { stops = refl; counts = refl; writes = refl }
 
 -- every budget and every room, by the theorem
@@ -171,10 +155,7 @@ abbrev pub full : Refusal
 full = record { number = 25; line = 2; place = 2 }
 
 pub refuses : assembled (bytes "$\n1:\nL65\nSP4\nLIG14\nK2\nX4\nG1L1\nZ\n") 512 0 .answer ≡ Refused full
-unfolding lineOf newlines refusal quoted character byNumber byDigits escape head byte optional digits digitCount decimal ended quotedCharacter
-    quotedString negative quotation labelled positive operand base labelItem instructionItem constantItem stringItem globalItem functionOf item gaps
-    mark trailing body scan operandInRange inRange short size pairs operandWord words defined addressOf noted misplaced fault lay uses known unknowns
-    noGlobals globalsAfter globals program image refuse accept assembled
+unfolding made
 refuses = refl
 
 -- ---- a source with each kind of label: it is accepted, and this is its text
