@@ -18,7 +18,6 @@ use Rattle.language.specs.Brackets.{Matching, matched, unmatched, firstF
 use Rattle.language.specs.Strings.{numbered}
 use Rattle.language.specs.Semicolons.{semicolons}
 use Rattle.language.specs.Source.{Symbols, good, onFault, symbolsOf}
-use Rattle.language.proofs.Cases.{clash}
 
 -- ---- document 01's reading
 

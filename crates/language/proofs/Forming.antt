@@ -9,9 +9,8 @@ use Rattle.language.specs.Tree as T
 use Rattle.language.specs.Tree.{Item, Function, Declaration, Program}
 use Rattle.language.specs.Names as N
 use Rattle.language.specs.Names.{Scope, opened, lookup}
-use Rattle.language.specs.Constants.{Fault, judge}
+use Rattle.language.specs.Constants.{judge}
 use Rattle.language.specs.Resolved.{Body, Start, nowhere, inGlobal}
-use Rattle.language.specs.Faults.{twice}
 use Rattle.language.specs.Program as P
 use Rattle.language.specs.Program.{globalsAfter, manifestsAfter, startOf, withFunction, functionsAfter, declaredBy, inside, bodyOf, resolved}
 use Rattle.language.specs.Program.{bodyFaults, functionFaults, Walk, afterDeclaration, groupNameFaults, groupFaults, declarationFaults, Named}
@@ -20,9 +19,8 @@ use Rattle.language.specs.Run.{noFun}
 use Rattle.language.specs.Whole.{funs}
 use Rattle.language.specs.Fine.{FineBody, FineFunctions, FineItems, FineDeclaration, FineProgram}
 use Rattle.language.proofs.Formed.{FormedF}
-use Rattle.language.proofs.Leaving.{none-left, none-right, LeavesF, leave-e, leave-c}
-use Rattle.language.proofs.Resolving.{KnownFound, lookup-known, Scoped, scoped-up, declared-all, judge-word, word-below, within-most, form-e}
-use Rattle.language.proofs.Resolving.{form-c}
+use Rattle.language.proofs.Leaving.{none-left, none-right, nones, LeavesF, good-e, good-c}
+use Rattle.language.proofs.Resolving.{KnownFound, lookup-known, Scoped, scoped-up, declared-all, judge-word, word-below, within-most}
 
 -- a function starts in a global, if in any
 abbrev pub FormedStart : Start → Type 0
@@ -75,13 +73,12 @@ module _ (functions strings : ℕ) (text : List ℕ) where
   functions-scoped k s (f ∷ fs) l sc =
       functions-scoped (k + 1) _ fs (omega arith) (function-scoped s (f .name) k (startOf (lookup text s (f .name))) (omega arith) sc)
 
-  body-formed : (s : Scope) (h : ℕ) (b : T.Body) → Scoped functions h s → FineBody strings b → FormedF functions strings h (bodyOf text s h b)
-  body-formed s h (T.value e) sc f = form-e functions strings text s h e sc f
-  body-formed s h (T.routine c) sc f = form-c functions strings text s h c sc f
-
-  body-leaves : (s : Scope) (h : ℕ) (b : T.Body) → FineBody strings b → bodyFaults text s h b ≡ [] → LeavesF (bodyOf text s h b)
-  body-leaves s h (T.value e) f n = leave-e strings text s (record { loop = false; switch = false; valof = false; routine = false }) h e n f
-  body-leaves s h (T.routine c) f n = leave-c strings text s (record { loop = false; switch = false; valof = false; routine = true }) h c n f
+  body-good : (s : Scope) (h : ℕ) (b : T.Body) → Scoped functions h s → FineBody strings b → bodyFaults text s h b ≡ []
+      → FormedF functions strings h (bodyOf text s h b) × LeavesF (bodyOf text s h b)
+  body-good s h (T.value e) sc f n =
+      good-e functions strings text s (record { loop = false; switch = false; valof = false; routine = false }) h e sc f n
+  body-good s h (T.routine c) sc f n =
+      good-c functions strings text s (record { loop = false; switch = false; valof = false; routine = true }) h c sc f n
 
   start-formed : (x : N.Found) → KnownFound functions 0 x → FormedStart (startOf x)
   start-formed N.unknown p = tt
@@ -99,15 +96,11 @@ module _ (functions strings : ℕ) (text : List ℕ) where
   unfolding groupOf groupFaults functionFaults resolved FineFunctions AllFormed
   group-formed k before s [] l sb sc f n = tt
   group-formed k before s (x ∷ fs) l sb sc f n =
-      let one : List Fault = twice text (opened s) 2 (x .parameters) ++ bodyFaults text (inside s x) (2 + length (x .parameters)) (x .body) in (
-        body-formed (inside s x) (2 + length (x .parameters)) (x .body) (declared-all functions (opened s) 2 (x .parameters) (open-two s sc))
-            (f .0 .body),
-        group-formed (k + 1) _ s fs (omega arith) (function-scoped before (x .name) k (startOf (lookup text before (x .name))) (omega arith) sb) sc
-            (f .1) (none-right one (groupFaults text s fs) n),
-        start-formed (lookup text before (x .name)) (lookup-known functions 0 text before (x .name) sb),
-        body-leaves (inside s x) (2 + length (x .parameters)) (x .body) (f .0 .body)
-            (none-right (twice text (opened s) 2 (x .parameters)) _ (none-left one (groupFaults text s fs) n)),
-      )
+      let h : ℕ = 2 + length (x .parameters) in
+      let p = body-good (inside s x) h (x .body) (declared-all functions (opened s) 2 (x .parameters) (open-two s sc)) (f .0 .body) (search nones) in
+      let sb′ = function-scoped before (x .name) k (startOf (lookup text before (x .name))) (omega arith) sb in
+      let st = start-formed (lookup text before (x .name)) (lookup-known functions 0 text before (x .name) sb) in
+      (p .0, group-formed (k + 1) _ s fs (omega arith) sb′ sc (f .1) (search nones), st, p .1)
 
   pub group-length : (k : ℕ) (before s : Scope) (fs : List Function) → length (groupOf text k before s fs) ≡ length fs
   unfolding groupOf

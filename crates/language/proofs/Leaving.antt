@@ -1,4 +1,5 @@
--- A text without refusal 13 has BREAK and LOOP in loops, ENDCASE in a SWITCHON and RESULTIS in a VALOF only, after it is resolved too.
+-- A tree without refusals, after it is resolved: it is formed, and, for refusal 13, has BREAK and LOOP in loops, ENDCASE in a SWITCHON and
+-- RESULTIS in a VALOF only.
 use Prim.Native.Nat.{ℕ, _+_}
 use mathlib.Core.Path.{_≡_, refl, sym, _∙_}
 use mathlib.Core.Bool.{Bool, true, false, cond}
@@ -22,6 +23,11 @@ use Rattle.language.specs.Resolved.{Expr, Exprs, Target, Pairs, Cmd, Cmd
 use Rattle.language.specs.Faults.{Leavable, inLoop, inSwitch, inValof, repeated, unless, leaves, inExpression, inSuffixes, inOperations}
 use Rattle.language.specs.Faults.{inExpressions, inRightSides, inSides, inCommand, inCase, inRepeats, inUnlabelled, inLocals, inCommands}
 use Rattle.language.specs.Faults.{inCases}
+use Rattle.language.specs.Heights as H
+use Rattle.language.proofs.Formed.{FormedE, FormedA, FormedC, FormedB, FormedS, FormedL}
+use Rattle.language.proofs.Resolving.{Scoped, scoped-up, lookup-known, declared-all, under-more, formed-name, formed-monadic, formed-leaving}
+use Rattle.language.proofs.Resolving.{Sides, formed-pairs, formed-values, formed-labels, formed-by, vector-size, count-same, height-same}
+use Rattle.language.proofs.Resolving.{scope-after, few-cases, open-scoped, for-scope, vector-scope, before-fine}
 use Rattle.language.proofs.Cases.{clash, by-monadic, by-side}
 use Rattle.language.specs.Fine.{Fine, FineList, FineSuffixes, FineOperations, FineCommand, FineCommands, FineUnlabelled, FineRepeats}
 use Rattle.language.specs.Fine.{FineLocals}
@@ -40,7 +46,7 @@ unless-true : (b : Bool) (place : ℕ) → unless b (fault place 13) ≡ [] → 
 unless-true true place h = refl
 unless-true false place h = cc
 
-ruleset nones = (none-left, none-right)
+pub ruleset nones = (none-left, none-right)
 
 -- whether a loop, a SWITCHON and a VALOF are there to be left
 unfoldable mutual
@@ -163,136 +169,185 @@ again T.noRepeats l x p = p
 again (T.repeat rs) l x p = p
 again (T.repeatOn w e rs) l x p = p
 
+-- formed, and leaves only what is there
+abbrev Both : (functions strings : ℕ) → Leavable → ℕ → Cmd → Type 0
+Both functions strings l h c = FormedC functions strings h c × Leave l c
+
 -- IF and UNLESS are no loops, WHILE and UNTIL are
-leave-guard : (l : Leavable) (w : ℕ) (e : Expr) (c : Cmd) {x y : List Fault} → isGuard w ≡ true → LeavesE e
-    → cond (eqb w IF) x (cond (eqb w UNLESS) x y) ≡ []
-    → (x ≡ [] → Leave l c) → (y ≡ [] → Leave (inLoop l) c)
-    → Leave l (cond (eqb w WHILE) (R.while true e c) (cond (eqb w UNTIL) (R.while false e c) (R.when (eqb w IF) e c)))
-unfolding LeavesE isGuard member
-leave-guard l w e c {x} {y} g p n f k = go (eqb w IF) refl (eqb w UNLESS) refl (eqb w WHILE) refl (eqb w UNTIL) refl g n
+good-guard : (functions strings : ℕ) (l : Leavable) (h w : ℕ) (e : Expr) (c : Cmd) {x y : List Fault} → isGuard w ≡ true
+    → FormedE functions strings h e × LeavesE e → cond (eqb w IF) x (cond (eqb w UNLESS) x y) ≡ []
+    → (x ≡ [] → FormedC functions strings h c × Leave l c) → (y ≡ [] → FormedC functions strings h c × Leave (inLoop l) c)
+    → Both functions strings l h (cond (eqb w WHILE) (R.while true e c) (cond (eqb w UNTIL) (R.while false e c) (R.when (eqb w IF) e c)))
+unfolding FormedE LeavesE isGuard member
+good-guard functions strings l h w e c {x} {y} g p n f k = go (eqb w IF) refl (eqb w UNLESS) refl (eqb w WHILE) refl (eqb w UNTIL) refl g n
   where
     no : {P : Type 0} → (i j : ℕ) → w ≡ i → w ≡ j → (i ≡ j → ⊥) → P
     no i j a b h = absurd (h (sym a ∙ b))
 
     go : (a : Bool) → eqb w IF ≡ a → (b : Bool) → eqb w UNLESS ≡ b → (c₁ : Bool) → eqb w WHILE ≡ c₁ → (d : Bool) → eqb w UNTIL ≡ d
         → cond a true (cond b true (cond c₁ true (cond d true false))) ≡ true → cond a x (cond b x y) ≡ []
-        → Leave l (cond c₁ (R.while true e c) (cond d (R.while false e c) (R.when a e c)))
+        → Both functions strings l h (cond c₁ (R.while true e c) (cond d (R.while false e c) (R.when a e c)))
     go true ea b eb true ec d ed g n = no IF WHILE (eqb-true _ _ ea) (eqb-true _ _ ec) (λ z. omega arith)
     go true ea b eb false ec true ed g n = no IF UNTIL (eqb-true _ _ ea) (eqb-true _ _ ed) (λ z. omega arith)
-    go true ea b eb false ec false ed g n = (p, f n)
+    go true ea b eb false ec false ed g n = ((p .0, f n .0), (p .1, f n .1))
     go false ea true eb true ec d ed g n = no UNLESS WHILE (eqb-true _ _ eb) (eqb-true _ _ ec) (λ z. omega arith)
     go false ea true eb false ec true ed g n = no UNLESS UNTIL (eqb-true _ _ eb) (eqb-true _ _ ed) (λ z. omega arith)
-    go false ea true eb false ec false ed g n = (p, f n)
-    go false ea false eb true ec d ed g n = (p, k n)
-    go false ea false eb false ec true ed g n = (p, k n)
+    go false ea true eb false ec false ed g n = ((p .0, f n .0), (p .1, f n .1))
+    go false ea false eb true ec d ed g n = ((p .0, k n .0), (p .1, k n .1))
+    go false ea false eb false ec true ed g n = ((p .0, k n .0), (p .1, k n .1))
     go false ea false eb false ec false ed g n = clash (cc)
 
-module _ (strings : ℕ) (text : List ℕ) where
+-- ---- a tree without refusals: it is formed, and leaves only what is there
+
+module _ (functions strings : ℕ) (text : List ℕ) where
+  abbrev GoodE : ℕ → Expr → Type 0
+  GoodE h e = FormedE functions strings h e × LeavesE e
+
+  abbrev GoodC : Leavable → ℕ → Cmd → Type 0
+  GoodC = Both functions strings
+
   mutual
-    unfolding LeavesE inExpression E.expression Fine
+    unfolding E.expression Fine FormedE LeavesE inExpression Sides under
 
-    pub leave-e : (s : Scope) (l : Leavable) (h : ℕ) (e : Expression) → inExpression text s l h e ≡ [] → Fine strings e
-        → LeavesE (E.expression text s h e)
-    leave-e s l h (T.number place v) n f = tt
-    leave-e s l h (T.string place k) n f = tt
-    leave-e s l h (T.name x) n f = leave-name (lookup text s x)
-    leave-e s l h (T.bracketed place e) n f = leave-e s l h e n f
-    leave-e s l h (T.valof place c) n f = leave-c s (inValof l) h c n f
-    leave-e s l h (T.monadic place o e) n f = leave-monadic o (E.expression text s h e) (leave-e s l h e (search nones) f)
-    leave-e s l h (T.suffixed e ss) n f =
-        leave-x s l h ss (search nones) (f .1) (E.expression text s (under ss h) e) (leave-e s l (under ss h) e (search nones) (f .0))
-    leave-e s l h (T.dyadic e os) n f = leave-o s l h os (search nones) (f .1) (E.expression text s h e) (leave-e s l h e (search nones) (f .0))
+    pub good-e : (s : Scope) (l : Leavable) (h : ℕ) (e : Expression) → Scoped functions h s → Fine strings e → inExpression text s l h e ≡ []
+        → GoodE h (E.expression text s h e)
+    good-e s l h (T.number place v) sc f n = (f, tt)
+    good-e s l h (T.string place k) sc f n = (f, tt)
+    good-e s l h (T.name x) sc f n =
+        (formed-name functions strings text h (lookup text s x) (lookup-known functions h text s x sc), leave-name (lookup text s x))
+    good-e s l h (T.bracketed place e) sc f n = good-e s l h e sc f n
+    good-e s l h (T.valof place c) sc f n = good-c s (inValof l) h c sc f n
+    good-e s l h (T.monadic place o e) sc f n =
+        let p = good-e s l h e sc f (search nones) in (formed-monadic functions strings text h o _ (p .0), leave-monadic o _ (p .1))
+    good-e s l h (T.suffixed e ss) sc f n =
+        good-x s l h ss sc (f .1) (search nones) _ (good-e s l (under ss h) e (scoped-up functions s (under-more ss h) sc) (f .0) (search nones))
+    good-e s l h (T.dyadic e os) sc f n = good-o s l h os sc (f .1) (search nones) _ (good-e s l h e sc (f .0) (search nones))
 
-    leave-a : (s : Scope) (l : Leavable) (h : ℕ) (es : Expressions) → inExpressions text s l h es ≡ [] → FineList strings es
-        → LeavesA (E.expressions text s h es)
-    leave-a s l h T.noExpressions n f = tt
-    leave-a s l h (T.andExpression e es) n f = (leave-e s l h e (search nones) (f .0), leave-a s l (h + 1) es (search nones) (f .1))
+    good-x : (s : Scope) (l : Leavable) (h : ℕ) (ss : Suffixes) → Scoped functions h s → FineSuffixes strings ss → inSuffixes text s l h ss ≡ []
+        → (x : Expr) → GoodE (under ss h) x → GoodE h (E.suffixes text s h x ss)
+    good-x s l h T.noSuffixes sc f n x p = p
+    good-x s l h (T.call es ss) sc f n x p =
+        let g : ℕ = under ss h + 2 in
+        let a = good-a s l g es (scoped-up functions s (omega (arith, under-more ss h)) sc) (f .0) (search nones) in
+        good-x s l h ss sc (f .1) (search nones) (R.call x (E.expressions text s g es))
+        ((a .0, rw (count-same functions strings text s g es) (p .0)), (a .1, p .1))
+    good-x s l h (T.index e ss) sc f n x p =
+        let g : ℕ = under ss h + 1 in
+        let d = good-e s l g e (scoped-up functions s (omega (arith, under-more ss h)) sc) (f .0) (search nones) in
+        good-x s l h ss sc (f .1) (search nones) (R.index x (E.expression text s g e)) ((p .0, d .0), (p .1, d .1))
 
-    leave-right : (s : Scope) (l : Leavable) (h : ℕ) (es : Expressions) → inRightSides text s l h es ≡ [] → FineList strings es
-        → LeavesA (E.sides text s h es)
-    leave-right s l h T.noExpressions n f = tt
-    leave-right s l h (T.andExpression e es) n f = (leave-e s l h e (search nones) (f .0), leave-right s l h es (search nones) (f .1))
+    good-o : (s : Scope) (l : Leavable) (h : ℕ) (os : Operations) → Scoped functions h s → FineOperations strings os → inOperations text s l h os ≡ []
+        → (x : Expr) → GoodE h x → GoodE h (E.operations text s h x os)
+    good-o s l h T.noOperations sc f n x p = p
+    good-o s l h (T.operation o e os) sc f n x p =
+        let d = good-e s l (h + 1) e (scoped-up functions s (omega arith) sc) (f .0) (search nones) in
+        good-o s l h os sc (f .1) (search nones) (R.binary o x (E.expression text s (h + 1) e)) ((p .0, d .0), (p .1, d .1))
 
-    leave-sides : (s : Scope) (l : Leavable) (h : ℕ) (es : Expressions) → inSides text s l h es ≡ [] → FineList strings es
-        → LeavesA (E.sides text s h es)
-    leave-sides s l h T.noExpressions n f = tt
-    leave-sides s l h (T.andExpression e es) n f = (leave-e s l h e (search nones) (f .0), leave-sides s l h es (search nones) (f .1))
+    good-a : (s : Scope) (l : Leavable) (h : ℕ) (es : Expressions) → Scoped functions h s → FineList strings es → inExpressions text s l h es ≡ []
+        → FormedA functions strings h (E.expressions text s h es) × LeavesA (E.expressions text s h es)
+    good-a s l h T.noExpressions sc f n = (tt, tt)
+    good-a s l h (T.andExpression e es) sc f n =
+        let p = good-e s l h e sc (f .0) (search nones) in
+        let q = good-a s l (h + 1) es (scoped-up functions s (omega arith) sc) (f .1) (search nones) in
+        ((p .0, q .0), (p .1, q .1))
 
-    leave-x : (s : Scope) (l : Leavable) (h : ℕ) (ss : Suffixes) → inSuffixes text s l h ss ≡ [] → FineSuffixes strings ss
-        → (x : Expr) → LeavesE x → LeavesE (E.suffixes text s h x ss)
-    leave-x s l h T.noSuffixes n f x p = p
-    leave-x s l h (T.call es ss) n f x p =
-        leave-x s l h ss (search nones) (f .1) (R.call x (E.expressions text s (under ss h + 2) es))
-        (leave-a s l (under ss h + 2) es (search nones) (f .0), p)
-    leave-x s l h (T.index e ss) n f x p =
-        leave-x s l h ss (search nones) (f .1) (R.index x (E.expression text s (under ss h + 1) e))
-        (p, leave-e s l (under ss h + 1) e (search nones) (f .0))
+    good-right : (s : Scope) (l : Leavable) (h : ℕ) (es : Expressions) → Scoped functions h s → FineList strings es → inRightSides text s l h es ≡ []
+        → Sides functions strings text h (E.sides text s h es) × LeavesA (E.sides text s h es)
+    good-right s l h T.noExpressions sc f n = (tt, tt)
+    good-right s l h (T.andExpression e es) sc f n =
+        let p = good-e s l h e sc (f .0) (search nones) in
+        let q = good-right s l h es sc (f .1) (search nones) in ((p .0, q .0), (p .1, q .1))
 
-    leave-o : (s : Scope) (l : Leavable) (h : ℕ) (os : Operations) → inOperations text s l h os ≡ [] → FineOperations strings os
-        → (x : Expr) → LeavesE x → LeavesE (E.operations text s h x os)
-    leave-o s l h T.noOperations n f x p = p
-    leave-o s l h (T.operation o e os) n f x p =
-        leave-o s l h os (search nones) (f .1) (R.binary o x (E.expression text s (h + 1) e)) (p, leave-e s l (h + 1) e (search nones) (f .0))
+    good-sides : (s : Scope) (l : Leavable) (h : ℕ) (es : Expressions) → Scoped functions h s → FineList strings es → inSides text s l h es ≡ []
+        → Sides functions strings text h (E.sides text s h es) × LeavesA (E.sides text s h es)
+    good-sides s l h T.noExpressions sc f n = (tt, tt)
+    good-sides s l h (T.andExpression e es) sc f n =
+        let p = good-e s l h e sc (f .0) (search nones) in
+        let q = good-sides s l h es sc (f .1) (search nones) in ((p .0, q .0), (p .1, q .1))
 
-    pub leave-c : (s : Scope) (l : Leavable) (h : ℕ) (c : Command) → inCommand text s l h c ≡ [] → FineCommand strings c
-        → Leave l (E.command text s h c)
-    leave-c s l h (T.command ls u rs) n f =
-        leave-r s l h rs (search nones) (f .2) (E.unlabelled text s h u) (leave-u s (repeated rs l) h u (search nones) (f .1))
+    pub good-c : (s : Scope) (l : Leavable) (h : ℕ) (c : Command) → Scoped functions h s → FineCommand strings c → inCommand text s l h c ≡ []
+        → GoodC l h (E.command text s h c)
+    good-c s l h (T.command ls u rs) sc f n = good-r s l h rs sc (f .2) (search nones) _ (good-u s (repeated rs l) h u sc (f .1) (search nones))
 
-    leave-case : (s : Scope) (l : Leavable) (h : ℕ) (c : Command) → inCase text s l h c ≡ [] → FineCommand strings c → Leave l (E.command text s h c)
-    leave-case s l h (T.command ls u rs) n f =
-        leave-r s l h rs (search nones) (f .2) (E.unlabelled text s h u) (leave-u s (repeated rs l) h u (search nones) (f .1))
+    good-case : (s : Scope) (l : Leavable) (h : ℕ) (c : Command) → Scoped functions h s → FineCommand strings c → inCase text s l h c ≡ []
+        → GoodC l h (E.command text s h c)
+    good-case s l h (T.command ls u rs) sc f n = good-r s l h rs sc (f .2) (search nones) _ (good-u s (repeated rs l) h u sc (f .1) (search nones))
 
-    leave-r : (s : Scope) (l : Leavable) (h : ℕ) (rs : Repeats) → inRepeats text s l h rs ≡ [] → FineRepeats strings rs
-        → (x : Cmd) → Leave (repeated rs l) x → Leave l (E.repeats text s h x rs)
-    leave-r s l h T.noRepeats n f x p = p
-    leave-r s l h (T.repeat rs) n f x p = leave-r s l h rs n f (R.repeat x) (again rs l x p)
-    leave-r s l h (T.repeatOn w e rs) n f x p =
-        leave-r s l h rs (search nones) (f .1) (R.repeatWhile (eqb w REPEATWHILE) x (E.expression text s h e))
-        (again rs l x p, leave-e s l h e (search nones) (f .0))
+    good-r : (s : Scope) (l : Leavable) (h : ℕ) (rs : Repeats) → Scoped functions h s → FineRepeats strings rs → inRepeats text s l h rs ≡ []
+        → (x : Cmd) → GoodC (repeated rs l) h x → GoodC l h (E.repeats text s h x rs)
+    good-r s l h T.noRepeats sc f n x p = p
+    good-r s l h (T.repeat rs) sc f n x p = good-r s l h rs sc f n (R.repeat x) (p .0, again rs l x (p .1))
+    good-r s l h (T.repeatOn w e rs) sc f n x p =
+        let q = good-e s l h e sc (f .0) (search nones) in
+        good-r s l h rs sc (f .1) (search nones) (R.repeatWhile (eqb w REPEATWHILE) x (E.expression text s h e))
+        ((p .0, q .0), (again rs l x (p .1), q .1))
 
-    leave-u : (s : Scope) (l : Leavable) (h : ℕ) (u : Unlabelled) → inUnlabelled text s l h u ≡ [] → FineUnlabelled strings u
-        → Leave l (E.unlabelled text s h u)
-    leave-u s l h T.empty n f = tt
-    leave-u s l h (T.assignment left right) n f =
-        leave-pairs (E.sides text s (h + 1) left) (E.sides text s h right) (leave-sides s l (h + 1) left (search nones) (f .0))
-        (leave-right s l h right (search nones) (f .1))
-    leave-u s l h (T.callCommand e) n f = leave-e s l h e n (f .0)
-    leave-u s l h (T.test e c d) n f = (
-      leave-e s l h e (search nones) (f .0),
-      leave-c s l h c (search nones) (f .1),
-      leave-c s l h d (search nones) (f .2),
-    )
-    leave-u s l h (T.guarded w e c) n f =
-        leave-guard l w (E.expression text s h e) (E.command text s h c) (f .2) (leave-e s l h e (search nones) (f .0)) (search nones)
-        (λ q. leave-c s l h c q (f .1)) (λ q. leave-c s (inLoop l) h c q (f .1))
-    leave-u s l h (T.for x e d k c) n f = (
-      leave-e s l h e (search nones) (f .0),
-      leave-e s l (h + 1) d (search nones) (f .1),
-      leave-c (declared (opened s) x (N.local h)) (inLoop l) (h + 2) c (search nones) (f .3),
-    )
-    leave-u s l h (T.switchon e cs) n f = (leave-e s l h e (search nones) (f .0), leave-s s (inSwitch l) h [] cs (search nones) (f .1))
-    leave-u s l h (T.resultis place e) n f = (leave-e s l h e (search nones) f, unless-true (l .valof) place (search nones))
-    leave-u s l h (T.leave w place) n f = leave-leaving l w (unless-true (leaves l w) place n)
-    leave-u s l h (T.block ls cs) n f = (
-      leave-l (opened s) l h ls (search nones) (f .0),
-      leave-b (scopeAfter text (opened s) h ls) l (E.heightAfter text (opened s) h ls) cs (search nones) (f .1),
-    )
+    good-u : (s : Scope) (l : Leavable) (h : ℕ) (u : Unlabelled) → Scoped functions h s → FineUnlabelled strings u → inUnlabelled text s l h u ≡ []
+        → GoodC l h (E.unlabelled text s h u)
+    good-u s l h T.empty sc f n = (tt, tt)
+    good-u s l h (T.assignment left right) sc f n =
+        let p = good-sides s l (h + 1) left (scoped-up functions s (omega arith) sc) (f .0) (search nones) in
+        let q = good-right s l h right sc (f .1) (search nones) in
+        let xs : Exprs = E.sides text s (h + 1) left in
+        let ys : Exprs = E.sides text s h right in
+        (formed-pairs functions strings text h xs ys (p .0) (q .0), leave-pairs xs ys (p .1) (q .1))
+    good-u s l h (T.callCommand e) sc f n = good-e s l h e sc (f .0) n
+    good-u s l h (T.test e c d) sc f n =
+        let p = good-e s l h e sc (f .0) (search nones) in
+        let q = good-c s l h c sc (f .1) (search nones) in
+        let r = good-c s l h d sc (f .2) (search nones) in ((p .0, q .0, r .0), (p .1, q .1, r .1))
+    good-u s l h (T.guarded w e c) sc f n =
+        let p = good-e s l h e sc (f .0) (search nones) in
+        good-guard functions strings l h w (E.expression text s h e) (E.command text s h c) (f .2) p (search nones)
+        (λ q. good-c s l h c sc (f .1) q) (λ q. good-c s (inLoop l) h c sc (f .1) q)
+    good-u s l h (T.for x e d k c) sc f n =
+        let p = good-e s l h e sc (f .0) (search nones) in
+        let q = good-e s l (h + 1) d (scoped-up functions s (omega arith) sc) (f .1) (search nones) in
+        let s′ : Scope = declared (opened s) x (N.local h) in
+        let r = good-c s′ (inLoop l) (h + 2) c (for-scope functions strings text s h x sc) (f .3) (search nones) in
+        ((p .0, q .0, r .0, formed-by functions strings text s h sc k (f .2)), (p .1, q .1, r .1))
+    good-u s l h (T.switchon e cs) sc f n =
+        let p = good-e s l h e sc (f .0) (search nones) in
+        let q = good-s s (inSwitch l) h [] cs sc (f .1) (search nones) in
+        ((p .0, q .0, few-cases functions strings text s h cs (f .2)), (p .1, q .1))
+    good-u s l h (T.resultis place e) sc f n =
+        let p = good-e s l h e sc f (search nones) in (p .0, (p .1, unless-true (l .valof) place (search nones)))
+    good-u s l h (T.leave w place) sc f n = (formed-leaving functions strings text h w, leave-leaving l w (unless-true (leaves l w) place n))
+    good-u s l h (T.block ls cs) sc f n =
+        let o = open-scoped functions strings text s h sc in
+        let p = good-l (opened s) l h ls o (f .0) (search nones) in
+        let q
+        = good-b (scopeAfter text (opened s) h ls) l (E.heightAfter text (opened s) h ls) cs (scope-after functions strings text (opened s) h o ls)
+        (f .1) (search nones) in
+        ((p .0, rw (height-same functions strings text (opened s) h ls (f .0)) (q .0)), (p .1, q .1))
 
-    leave-l : (s : Scope) (l : Leavable) (h : ℕ) (ls : T.Locals) → inLocals text s l h ls ≡ [] → FineLocals strings ls
-        → LeavesL (E.locals text s h ls)
-    leave-l s l h T.noLocals n f = tt
-    leave-l s l h (T.vector x k ls) n f = leave-l (declared s x (N.local h)) l (h + 2 + judgedWord (forVector text s k)) ls (search nones) (f .1)
-    leave-l s l h (T.values ns es ls) n f =
-        leave-values (E.expressions text s h es) (E.locals text (declareAll s h ns) (h + length ns) ls) (leave-a s l h es (search nones) (f .0))
-        (leave-l (declareAll s h ns) l (h + length ns) ls (search nones) (f .1))
+    good-l : (s : Scope) (l : Leavable) (h : ℕ) (ls : T.Locals) → Scoped functions h s → FineLocals strings ls → inLocals text s l h ls ≡ []
+        → FormedL functions strings h (E.locals text s h ls) × LeavesL (E.locals text s h ls)
+    good-l s l h T.noLocals sc f n = (tt, tt)
+    good-l s l h (T.vector x k ls) sc f n =
+        let m : ℕ = h + 2 + judgedWord (forVector text s k) in
+        let p = good-l (declared s x (N.local h)) l m ls (vector-scope functions strings text s h x _ sc) (f .1) (search nones) in
+        ((p .0, vector-size functions strings text s k), p .1)
+    good-l s l h (T.values ns es ls) sc f n =
+        let z : H.count (E.expressions text s h es) ≡ length ns = count-same functions strings text s h es ∙ f .2 in
+        let p = good-a s l h es sc (f .0) (search nones) in
+        let q = good-l (declareAll s h ns) l (h + length ns) ls (declared-all functions s h ns sc) (f .1) (search nones) in
+        let ls′ : Locals = E.locals text (declareAll s h ns) (h + length ns) ls in
+        let xs : Exprs = E.expressions text s h es in
+        (formed-values functions strings text h xs ls′ (p .0) (rw z (q .0)), leave-values xs ls′ (p .1) (q .1))
 
-    leave-b : (s : Scope) (l : Leavable) (h : ℕ) (cs : Commands) → inCommands text s l h cs ≡ [] → FineCommands strings cs
-        → LeavesB (l .loop) (l .switch) (l .valof) (E.commands text s h cs)
-    leave-b s l h T.noCommands n f = tt
-    leave-b s l h (T.andCommand c cs) n f = (leave-c s l h c (search nones) (f .0), leave-b s l h cs (search nones) (f .1))
+    good-b : (s : Scope) (l : Leavable) (h : ℕ) (cs : Commands) → Scoped functions h s → FineCommands strings cs → inCommands text s l h cs ≡ []
+        → FormedB functions strings h (E.commands text s h cs) × LeavesB (l .loop) (l .switch) (l .valof) (E.commands text s h cs)
+    good-b s l h T.noCommands sc f n = (tt, tt)
+    good-b s l h (T.andCommand c cs) sc f n =
+        let p = good-c s l h c sc (f .0) (search nones) in
+        let q = good-b s l h cs sc (f .1) (search nones) in ((p .0, q .0), (p .1, q .1))
 
-    leave-s : (s : Scope) (l : Leavable) (h : ℕ) (d : List Label) (cs : Commands) → inCases text s l h d cs ≡ [] → FineCommands strings cs
-        → LeavesS (l .loop) (l .switch) (l .valof) (E.caseList text s h cs)
-    leave-s s l h d T.noCommands n f = tt
-    leave-s s l h d (T.andCommand c cs) n f = (leave-case s l h c (search nones) (f .0), leave-s s l h (d ++ labelsBefore c) cs (search nones) (f .1))
+    good-s : (s : Scope) (l : Leavable) (h : ℕ) (d : List Label) (cs : Commands) → Scoped functions h s → FineCommands strings cs
+        → inCases text s l h d cs ≡ []
+        → FormedS functions strings h (E.caseList text s h cs) × LeavesS (l .loop) (l .switch) (l .valof) (E.caseList text s h cs)
+    good-s s l h d T.noCommands sc f n = (tt, tt)
+    good-s s l h d (T.andCommand c cs) sc f n =
+        let p = good-case s l h c sc (f .0) (search nones) in
+        let q = good-s s l h (d ++ labelsBefore c) cs sc (f .1) (search nones) in
+        ((p .0, q .0, formed-labels functions strings text s h sc (labelsBefore c) (before-fine functions strings text c (f .0))), (p .1, q .1))

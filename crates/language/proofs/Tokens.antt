@@ -49,9 +49,6 @@ not-begun (T.resultis place x) e = cc
 not-begun (T.leave w place) e = cc
 not-begun (T.block ls cs) e = cc
 
-pub begun-started : (u : Unlabelled) → begun u ≡ true → 1 ≤ started u
-begun-started u e = rw e (omega arith)
-
 pub begun-not-empty : (u : Unlabelled) → begun u ≡ true → u ≡ T.empty → ⊥
 begun-not-empty u e z = let b : begun T.empty ≡ true = rw z at e in clash (cc)
 
