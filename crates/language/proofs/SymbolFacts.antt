@@ -90,39 +90,6 @@ unfoldable pub Below : (n : ℕ) → List Symbol → Type 0
 Below n [] = Unit {0}
 Below n (x ∷ xs) = (x .kind ≡ STRING → x .value < n) × Below n xs
 
-numbered-words : (text : List ℕ) (n : ℕ) (xs : List Symbol) → AllWords text xs → AllWords text (numbered n xs)
-unfolding numbered AllWords
-numbered-words text n [] h = tt
-numbered-words text n (x ∷ xs) h = go (eqb (x .kind) STRING) refl (numbered-words text (suc n) xs (h .1)) (numbered-words text n xs (h .1))
-  where
-    go : (b : Bool) → eqb (x .kind) STRING ≡ b → AllWords text (numbered (suc n) xs) → AllWords text (numbered n xs)
-        → AllWords text (cond b (withValue n x ∷ numbered (suc n) xs) (x ∷ numbered n xs))
-    go true e f g =
-        let z : x .kind ≡ STRING = eqb-true _ _ e in
-        (record { number = λ q. absurd (omega arith); name = λ q. absurd (omega arith); short = h .0 .short }, f)
-    go false e f g = (h .0, g)
-
-numbered-below : (n m : ℕ) (xs : List Symbol) → n + countStrings xs ≤ m → Below m (numbered n xs)
-unfolding numbered Below countStrings
-numbered-below n m [] h = tt
-numbered-below n m (x ∷ xs) h = go (eqb (x .kind) STRING) refl h (λ l. numbered-below (suc n) m xs l) (λ l. numbered-below n m xs l)
-  where
-    go : (b : Bool) → eqb (x .kind) STRING ≡ b → n + cond b (suc (countStrings xs)) (countStrings xs) ≤ m
-        → (suc n + countStrings xs ≤ m → Below m (numbered (suc n) xs)) → (n + countStrings xs ≤ m → Below m (numbered n xs))
-        → Below m (cond b (withValue n x ∷ numbered (suc n) xs) (x ∷ numbered n xs))
-    go true e l f g = ((λ q. omega arith), f (omega arith))
-    go false e l f g = ((λ q. absurd (eqb-false _ _ e q)), g l)
-
-numbered-count : (n : ℕ) (xs : List Symbol) → countStrings (numbered n xs) ≡ countStrings xs
-unfolding numbered countStrings
-numbered-count n [] = refl
-numbered-count n (x ∷ xs) = go (eqb (x .kind) STRING) refl (numbered-count (suc n) xs) (numbered-count n xs)
-  where
-    go : (b : Bool) → eqb (x .kind) STRING ≡ b → countStrings (numbered (suc n) xs) ≡ countStrings xs → countStrings (numbered n xs) ≡ countStrings xs
-        → countStrings (cond b (withValue n x ∷ numbered (suc n) xs) (x ∷ numbered n xs)) ≡ cond b (suc (countStrings xs)) (countStrings xs)
-    go true e f g = rw e (ap suc f)
-    go false e f g = rw e g
-
 -- symbols counted, semicolons apart, a REPEAT form as so many
 abbrev pub weight : (loops kind : ℕ) → ℕ
 weight loops kind = cond (eqb kind SEMICOLON) 0 (cond (isRepeat kind) loops 1)
@@ -131,29 +98,7 @@ unfoldable pub cost : (loops : ℕ) → List Symbol → ℕ
 cost loops [] = 0
 cost loops (x ∷ xs) = weight loops (x .kind) + cost loops xs
 
-numbered-cost : (loops n : ℕ) (xs : List Symbol) → cost loops (numbered n xs) ≡ cost loops xs
-unfolding numbered cost
-numbered-cost loops n [] = refl
-numbered-cost loops n (x ∷ xs) = go (eqb (x .kind) STRING) (numbered-cost loops (suc n) xs) (numbered-cost loops n xs)
-  where
-    go : (b : Bool) → cost loops (numbered (suc n) xs) ≡ cost loops xs → cost loops (numbered n xs) ≡ cost loops xs
-        → cost loops (cond b (withValue n x ∷ numbered (suc n) xs) (x ∷ numbered n xs)) ≡ weight loops (x .kind) + cost loops xs
-    go true f g = ap (λ (k : ℕ). weight loops (x .kind) + k) f
-    go false f g = ap (λ (k : ℕ). weight loops (x .kind) + k) g
-
-numbered-same : (text : List ℕ) (n : ℕ) (xs : List Symbol) → stringsAmong text (numbered n xs) ≡ stringsAmong text xs
-unfolding numbered stringsAmong
-numbered-same text n [] = refl
-numbered-same text n (x ∷ xs) = go (eqb (x .kind) STRING) refl (numbered-same text (suc n) xs) (numbered-same text n xs)
-  where
-    go : (b : Bool) → eqb (x .kind) STRING ≡ b → stringsAmong text (numbered (suc n) xs) ≡ stringsAmong text xs
-        → stringsAmong text (numbered n xs) ≡ stringsAmong text xs
-        → stringsAmong text (cond b (withValue n x ∷ numbered (suc n) xs) (x ∷ numbered n xs)) ≡ cond b
-        (charactersOf (quoted 34 255 0 (drop (suc (x .place)) text)) ∷ stringsAmong text xs) (stringsAmong text xs)
-    go true e f g = rw (e, f)
-    go false e f g = rw (e, g)
-
--- what inserted semicolons keep
+-- what numbers for the strings, and inserted semicolons, keep
 record Kept (text : List ℕ) (m : ℕ) (xs ys : List Symbol) : Type 0 where
   words : AllWords text xs → AllWords text ys
   below : Below m ys
@@ -172,6 +117,45 @@ one-more text m x xs ys g k = record {
   same = rw (k .same) refl;
 }
 
+kept-none : (text : List ℕ) (m : ℕ) → Kept text m [] []
+unfolding AllWords Below countStrings cost stringsAmong
+kept-none text m = record { words = λ f. f; below = tt; count = refl; fewer = λ loops. refl; same = refl }
+
+kept-both : {text : List ℕ} {m : ℕ} {xs ys zs : List Symbol} → Kept text m xs ys → Kept text m ys zs → Kept text m xs zs
+kept-both k l = record {
+  words = λ f. l .words (k .words f);
+  below = l .below;
+  count = l .count ∙ k .count;
+  fewer = λ loops. l .fewer loops ∙ k .fewer loops;
+  same = l .same ∙ k .same;
+}
+
+-- a string with its number
+with-number : (text : List ℕ) (n m : ℕ) (x : Symbol) (xs ys : List Symbol) → eqb (x .kind) STRING ≡ true → n < m → Kept text m xs ys
+    → Kept text m (x ∷ xs) (withValue n x ∷ ys)
+unfolding AllWords Below countStrings cost stringsAmong
+with-number text n m x xs ys e l k =
+    let z : x .kind ≡ STRING = eqb-true _ _ e in
+    record {
+      words = λ f. (record { number = λ q. absurd (omega arith); name = λ q. absurd (omega arith); short = f .0 .short }, k .words (f .1));
+      below = ((λ q. l), k .below);
+      count = rw (k .count) refl;
+      fewer = λ loops. rw (k .fewer loops) refl;
+      same = rw (k .same) refl;
+    }
+
+numbered-kept : (text : List ℕ) (n m : ℕ) (xs : List Symbol) → n + countStrings xs ≤ m → Kept text m xs (numbered n xs)
+unfolding numbered countStrings
+numbered-kept text n m [] h = kept-none text m
+numbered-kept text n m (x ∷ xs) h =
+    go (eqb (x .kind) STRING) refl h (λ l. numbered-kept text (suc n) m xs l) (λ l. numbered-kept text n m xs l)
+  where
+    go : (b : Bool) → eqb (x .kind) STRING ≡ b → n + cond b (suc (countStrings xs)) (countStrings xs) ≤ m
+        → (suc n + countStrings xs ≤ m → Kept text m xs (numbered (suc n) xs)) → (n + countStrings xs ≤ m → Kept text m xs (numbered n xs))
+        → Kept text m (x ∷ xs) (cond b (withValue n x ∷ numbered (suc n) xs) (x ∷ numbered n xs))
+    go true e l f g = with-number text n m x xs _ e (omega arith) (f (omega arith))
+    go false e l f g = one-more text m x xs _ (λ q. absurd (eqb-false _ _ e q)) (g l)
+
 with-semicolon : (text : List ℕ) (m : ℕ) (x : Symbol) (xs ys : List Symbol) → Kept text m xs ys → (b : Bool) → Kept text m xs (inserted b x ys)
 unfolding AllWords Below countStrings cost stringsAmong
 with-semicolon text m x xs ys k false = k
@@ -185,17 +169,14 @@ with-semicolon text m x xs ys k true = record {
 
 kept-after : (m : ℕ) (text : List ℕ) (before : Symbol) (xs : List Symbol) → Below m xs → Kept text m xs (semicolonsAfter text before xs)
 unfolding semicolonsAfter AllWords Below countStrings cost
-kept-after m text before [] g = none
-  where
-    none : Kept text m [] []
-    none = record { words = λ f. f; below = tt; count = refl; fewer = λ loops. refl; same = refl }
+kept-after m text before [] g = kept-none text m
 kept-after m text before (x ∷ xs) g =
     with-semicolon text m x (x ∷ xs) (x ∷ semicolonsAfter text x xs)
     (one-more text m x xs (semicolonsAfter text x xs) (g .0) (kept-after m text x xs (g .1))) (gains text before x)
 
 kept-all : (m : ℕ) (text : List ℕ) (xs : List Symbol) → Below m xs → Kept text m xs (semicolons text xs)
 unfolding semicolons AllWords Below countStrings cost
-kept-all m text [] g = record { words = λ f. f; below = tt; count = refl; fewer = λ loops. refl; same = refl }
+kept-all m text [] g = kept-none text m
 kept-all m text (x ∷ xs) g = one-more text m x xs (semicolonsAfter text x xs) (g .0) (kept-after m text x xs (g .1))
 
 strings-count : (text : List ℕ) (xs : List Symbol) → length (stringsAmong text xs) ≡ countStrings xs
@@ -288,26 +269,25 @@ symbolsNow text = semicolons text (numbered 0 (scan text .symbols))
 abbrev pub sourceNow : List ℕ → Source
 sourceNow text = record { symbols = symbolsNow text; size = length text }
 
-kept-now : (text : List ℕ) → Kept text (countStrings (scan text .symbols)) (numbered 0 (scan text .symbols)) (symbolsNow text)
-unfolding scan
+kept-now : (text : List ℕ) → Kept text (countStrings (scan text .symbols)) (scan text .symbols) (symbolsNow text)
 kept-now text =
-    kept-all (countStrings (scan text .symbols)) text (numbered 0 (scan text .symbols))
-    (numbered-below 0 (countStrings (scan text .symbols)) (scan text .symbols) (omega arith))
+    let k = numbered-kept text 0 (countStrings (scan text .symbols)) (scan text .symbols) (omega arith) in
+    kept-both k (kept-all _ text _ (k .below))
 
 pub words-now : (text : List ℕ) → AllWords text (symbolsNow text)
 unfolding scan
-words-now text = kept-now text .words (numbered-words text 0 (scan text .symbols) (scanned-words text 0 0 text refl (omega arith)))
+words-now text = kept-now text .words (scanned-words text 0 0 text refl (omega arith))
 
 pub strings-now : (text : List ℕ) → length (stringsAmong text (symbolsNow text)) ≡ countStrings (scan text .symbols)
-strings-now text = strings-count text (symbolsNow text) ∙ kept-now text .count ∙ numbered-count 0 (scan text .symbols)
+strings-now text = strings-count text (symbolsNow text) ∙ kept-now text .count
 
 -- no more is counted than was scanned
 pub cost-now : (loops : ℕ) (text : List ℕ) (n : ℕ) → cost loops (take n (symbolsNow text)) ≤ cost loops (scan text .symbols)
-cost-now loops text n = omega (arith, cost-most loops (symbolsNow text) n, kept-now text .fewer loops, numbered-cost loops 0 (scan text .symbols))
+cost-now loops text n = omega (arith, cost-most loops (symbolsNow text) n, kept-now text .fewer loops)
 
 -- the strings are those scanned
 pub same-now : (text : List ℕ) → stringsAmong text (symbolsNow text) ≡ stringsAmong text (scan text .symbols)
-same-now text = kept-now text .same ∙ numbered-same text 0 (scan text .symbols)
+same-now text = kept-now text .same
 
 pub counts : (loops : ℕ) → 1 ≤ loops → (text : List ℕ) → length text ≤ 65535 → cost loops (scan text .symbols) ≤ 65535
     → Counts loops (sourceNow text) (length (stringsAmong text (symbolsNow text))) (λ at. cost loops (take at (symbolsNow text)))
