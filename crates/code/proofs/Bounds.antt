@@ -23,7 +23,7 @@ use Rattle.language.specs.Program.{declarationFunctions, functionsFrom}
 use Rattle.language.specs.Fine.{Fine, FineList, FineSuffixes, FineOperations, FineCommand, FineCommands, FineUnlabelled, FineRepeats, FineLocals}
 use Rattle.language.specs.Fine.{FineBody, FineFunctions, FineDeclaration, FineProgram}
 use Rattle.language.proofs.Cases.{by-monadic, by-leaving, by-guard, by-side}
-use Rattle.language.proofs.Tokens.{not-bare, started, started-tokens, labelsTokens, tokens, listTokens, suffixesTokens, operationsTokens}
+use Rattle.language.proofs.Tokens.{not-bare, labels-tokens, started, started-tokens, labelsTokens, tokens, listTokens, suffixesTokens, operationsTokens}
 use Rattle.language.proofs.Tokens.{commandTokens, commandsTokens, unlabelledTokens, repeatsTokens, localsTokens, bodyTokens, functionsTokens}
 use Rattle.language.proofs.Tokens.{declarationTokens, programTokens}
 use Rattle.language.proofs.Resolving.{cases-before}
@@ -103,12 +103,6 @@ values-few : (es : Exprs) (ls : Locals)
 unfolding exprLabels exprWords
 values-few R.none ls = omega arith
 values-few (R.and e es) ls = omega (arith, values-few es ls)
-
-label-tokens : (ls : List Label) → length ls ≤ labelsTokens ls
-unfolding labelsTokens
-label-tokens [] = omega arith
-label-tokens (T.case place x ∷ ls) = omega (arith, label-tokens ls)
-label-tokens (T.default place ∷ ls) = omega (arith, label-tokens ls)
 
 module _ (strings : ℕ) (text : List ℕ) where
   two : (s : Scope) (h : ℕ) (e : Expression) → 2 ≤ extra (E.expression text s h e)
@@ -204,7 +198,7 @@ module _ (strings : ℕ) (text : List ℕ) where
         × (4 * caseCount (E.caseList text s h cs) + casesWords (E.caseList text s h cs) ≤ 8 * commandsTokens 1 cs)
     count-s s h T.noCommands f = omega arith
     count-s s h (T.andCommand c cs) f =
-        omega (arith, count-c s h c (f .0), count-s s h cs (f .1), cases-before 0 0 text s (labelsBefore c), label-tokens (labelsBefore c))
+        omega (arith, count-c s h c (f .0), count-s s h cs (f .1), cases-before 0 0 text s (labelsBefore c), labels-tokens (labelsBefore c))
 
 -- ---- of whole programs
 

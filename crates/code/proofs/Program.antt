@@ -26,7 +26,7 @@ use Rattle.language.specs.Run.{positionOf, noFun}
 use Rattle.language.specs.Whole.{withEntry, globalsWith}
 use Rattle.code.specs.Faithful.{addressesFrom}
 use Rattle.code.specs.Generate.{X, bodyCode, bodyLabels, functionsCode, stringsCode, startsCode, startIn, itemsOf}
-use Rattle.code.proofs.Standing.{Env, At, Code, end, next, is-number, cut, cut-number, cut-label, code-append}
+use Rattle.code.proofs.Standing.{Env, At, Code, end, next, is-number, is-label, is-string, cut, cut-number, cut-label, code-append}
 use Rattle.code.proofs.Placing.{Spot, Lays, laid-code, past, past-more, past-both, lays-end, Coded, AllCoded, at-short}
 use Rattle.code.proofs.Measures.{sum, no-others}
 use Rattle.code.proofs.Steps.{Sized}
@@ -163,6 +163,12 @@ module _ (Γ : Env) where
       cut-number Γ c₂ λ b₃ i₃ c₃.
       let z : l + suc k ≡ suc l + k = omega arith in
       rw z (function-at strings fs (suc l) (n + bodyLabels (f .body)) k c₃ (omega arith))
+
+  -- strings are laid upwards
+  pub strings-up : (l : ℕ) (ss : List (List ℕ)) {a b : ℕ} → Code Γ a (stringsCode l ss) b → a ≤ b
+  unfolding stringsCode
+  strings-up l [] (end e) = omega arith
+  strings-up l (cs ∷ ss) (next (is-label t e) (next (is-string f g) k)) = let h = strings-up (suc l) ss k in omega arith
 
 -- ---- what an accepted text gives
 

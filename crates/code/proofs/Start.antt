@@ -45,11 +45,6 @@ record Stringed (mem : List ℕ) (a b x : ℕ) (c : Cell) : Type 0 where
   past-end : b ≤ x → c ≡ gone
   value : (w : ℕ) → c ≡ holds w → getD mem x 0 ≡ w
 
-code-up : (Γ : Env) (l : ℕ) (ss : List (List ℕ)) {a b : ℕ} → Code Γ a (stringsCode l ss) b → a ≤ b
-unfolding stringsCode
-code-up Γ l [] (end e) = omega arith
-code-up Γ l (cs ∷ ss) (next (is-label t e) (next (is-string f g) k)) = let h = code-up Γ (suc l) ss k in omega arith
-
 one-string : {mem : List ℕ} {a c b x : ℕ} (ws : List ℕ) (d : Cell) → ((j : ℕ) → j < length ws → getD mem (a + j) 0 ≡ getD ws j 0) → a + length ws ≡ c
     → c ≤ b → Stringed mem c b x d
     → Stringed mem a b x (cond (leb a x) (cond (ltb x (a + length ws)) (holds (getD ws (x - a) 0)) d) d)
@@ -80,7 +75,7 @@ string-cells Γ table same x l [] h (end e) = record { before = λ k. refl; past
 string-cells Γ table same x l (cs ∷ ss) {a} {b} h (next (is-label t e) (next (is-string f g) k)) =
     let r = string-cells Γ table same x (suc l) ss (omega arith) k in
     let z : addressOf table l ≡ a = same l h ∙ t in
-    rw (z, e) (one-string (packed cs) (stringCell ss (addressesFrom table (suc l) (length ss)) x) f g (code-up Γ (suc l) ss k) r)
+    rw (z, e) (one-string (packed cs) (stringCell ss (addressesFrom table (suc l) (length ss)) x) f g (G.strings-up Γ (suc l) ss k) r)
 
 module _
     {fs : List Fun} {ss : List (List ℕ)} {memory room first : ℕ} {mem : List ℕ} {table : List Label} (input : List ℕ)

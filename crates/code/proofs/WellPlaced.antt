@@ -133,18 +133,13 @@ record StringAt (mem : List ℕ) (a b at : ℕ) (ws : List ℕ) : Type 0 where
   words : (j : ℕ) → j < length ws → getD mem (at + j) 0 ≡ getD ws j 0
 
 module _ (Γ : Env) where
-  strings-up : (l : ℕ) (ss : List (List ℕ)) {a b : ℕ} → Code Γ a (stringsCode l ss) b → a ≤ b
-  unfolding stringsCode
-  strings-up l [] (end e) = omega arith
-  strings-up l (cs ∷ ss) (next (is-label t e) (next (is-string f g) k)) = let h = strings-up (suc l) ss k in omega arith
-
   string-at : (l : ℕ) (ss : List (List ℕ)) {a b : ℕ} → Code Γ a (stringsCode l ss) b → (k : ℕ) → k < length ss
       → StringAt (Γ .image) a b (Γ .lab (l + k)) (packed (getD ss k []))
   unfolding stringsCode
   string-at l [] c k h = absurd (omega arith)
   string-at l (cs ∷ ss) {a} {b} (next (is-label t e) (next (is-string f g) c)) zero h =
       let z : l + 0 ≡ l = omega arith in
-      let u = strings-up (suc l) ss c in
+      let u = G.strings-up Γ (suc l) ss c in
       rw (z, t, e) (record { low = omega arith; high = omega arith; words = f })
   string-at l (cs ∷ ss) {a} {b} (next (is-label t e) (next (is-string f g) c)) (suc k) h =
       let z : l + suc k ≡ suc l + k = omega arith in
