@@ -56,9 +56,10 @@ module _ (a : ℕ) (g : List ℕ → ℕ) (k : ℕ) (u : ℕ → ℕ) where
   sum-both (x ∷ xs) ys = omega (arith, sum-both xs ys)
 
   module _ (up : (x y : ℕ) → x ≤ y → u x ≤ u y) where
-    -- all the labels from n up to m, and words w
-    abbrev Has : (n m w : ℕ) → List Item → Type 0
-    Has n m w xs = (u m ≤ sum xs + u n) × (sum xs + u n ≤ a * w + u m)
+    -- a sum z of all the labels from n up to m, and words w
+    record Has (n m w z : ℕ) : Type 0 where
+      least : u m ≤ z + u n
+      most : z + u n ≤ a * w + u m
 
     still : (n m : ℕ) → n ≡ m → u n ≡ u m
     still n m e = ap u e
@@ -86,7 +87,7 @@ module _ (a : ℕ) (g : List ℕ → ℕ) (k : ℕ) (u : ℕ → ℕ) where
       mutual
         unfolding exprCode exprLabels exprWords commandsIn sum
 
-        m-e : (h n : ℕ) (e : Expr) (m : ℕ) → n + exprLabels e ≡ m → Has n m (exprWords e) (exprCode strings h n e)
+        m-e : (h n : ℕ) (e : Expr) (m : ℕ) → n + exprLabels e ≡ m → Has n m (exprWords e) (sum (exprCode strings h n e))
         m-e h n (R.constant v) m z = omega (arith, still n m (omega arith))
         m-e h n (R.local j) m z = omega (arith, still n m (omega arith))
         m-e h n (R.global j) m z = omega (arith, still n m (omega arith))
@@ -104,23 +105,23 @@ module _ (a : ℕ) (g : List ℕ → ℕ) (k : ℕ) (u : ℕ → ℕ) where
             simp sum-both (omega (arith, m-a (h + 2) n es _ refl, m-e (h + 2 + count es) (n + exprsLabels es) e m (omega arith)))
         m-e h n (R.valof c) m z = simp sum-both (omega (arith, m-c h (n + 1) (inValof n) c m (omega arith), own n (n + 1) (omega arith)))
 
-        m-a : (h n : ℕ) (es : Exprs) (m : ℕ) → n + exprsLabels es ≡ m → Has n m (exprsWords es) (exprsCode strings h n es)
+        m-a : (h n : ℕ) (es : Exprs) (m : ℕ) → n + exprsLabels es ≡ m → Has n m (exprsWords es) (sum (exprsCode strings h n es))
         m-a h n R.none m z = omega (arith, still n m (omega arith))
         m-a h n (R.and e es) m z = simp sum-both (omega (arith, m-e h n e _ refl, m-a (h + 1) (n + exprLabels e) es m (omega arith)))
 
-        m-t : (h n : ℕ) (t : Target) (m : ℕ) → n + targetLabels t ≡ m → Has n m (targetWords t) (targetCode strings h n t)
+        m-t : (h n : ℕ) (t : Target) (m : ℕ) → n + targetLabels t ≡ m → Has n m (targetWords t) (sum (targetCode strings h n t))
         m-t h n (R.toLocal j) m z = omega (arith, still n m (omega arith))
         m-t h n (R.toGlobal j) m z = omega (arith, still n m (omega arith))
         m-t h n (R.toContents e) m z = simp sum-both (omega (arith, m-e (h + 1) n e m z))
         m-t h n (R.toIndex x y) m z = simp sum-both (omega (arith, m-e (h + 1) n x _ refl, m-e (h + 2) (n + exprLabels x) y m (omega arith)))
 
-        m-p : (h n : ℕ) (ps : Pairs) (m : ℕ) → n + pairsLabels ps ≡ m → Has n m (pairsWords ps) (pairsCode strings h n ps)
+        m-p : (h n : ℕ) (ps : Pairs) (m : ℕ) → n + pairsLabels ps ≡ m → Has n m (pairsWords ps) (sum (pairsCode strings h n ps))
         m-p h n R.noPairs m z = omega (arith, still n m (omega arith))
         m-p h n (R.pair t e ps) m z =
             simp sum-both
             (omega (arith, m-e h n e _ refl, m-t h (n + exprLabels e) t _ refl, m-p h (n + exprLabels e + targetLabels t) ps m (omega arith)))
 
-        m-c : (h n : ℕ) (x : Exits) (c : Cmd) (m : ℕ) → n + cmdLabels c ≡ m → Has n m (cmdWords c) (cmdCode strings h n x c)
+        m-c : (h n : ℕ) (x : Exits) (c : Cmd) (m : ℕ) → n + cmdLabels c ≡ m → Has n m (cmdWords c) (sum (cmdCode strings h n x c))
         m-c h n x R.empty m z = omega (arith, still n m (omega arith))
         m-c h n x (R.assign ps) m z = m-p h n ps m z
         m-c h n x (R.perform e) m z = m-e h n e m z
@@ -188,7 +189,7 @@ module _ (a : ℕ) (g : List ℕ → ℕ) (k : ℕ) (u : ℕ → ℕ) where
         m-c h n x (R.block ls cs) m z =
             simp sum-both (omega (arith, m-l h n ls _ refl, m-b (heightWith h ls) (n + localsLabels ls) x cs m (omega arith)))
 
-        m-b : (h n : ℕ) (x : Exits) (cs : Cmds) (m : ℕ) → n + cmdsLabels cs ≡ m → Has n m (cmdsWords cs) (cmdsCode strings h n x cs)
+        m-b : (h n : ℕ) (x : Exits) (cs : Cmds) (m : ℕ) → n + cmdsLabels cs ≡ m → Has n m (cmdsWords cs) (sum (cmdsCode strings h n x cs))
         m-b h n x R.noCmds m z = omega (arith, still n m (omega arith))
         m-b h n x (R.andCmd c cs) m z = simp sum-both (omega (arith, m-c h n x c _ refl, m-b h (n + cmdLabels c) x cs m (omega arith)))
 
@@ -201,12 +202,12 @@ module _ (a : ℕ) (g : List ℕ → ℕ) (k : ℕ) (u : ℕ → ℕ) where
             simp sum-both
             (omega (arith, own t (suc t) refl, m-c h n x c _ refl, m-s h (suc t) (n + cmdLabels c) x cs l m (omega arith) (omega arith)))
 
-        m-l : (h n : ℕ) (ls : Locals) (m : ℕ) → n + localsLabels ls ≡ m → Has n m (localsWords ls) (localsCode strings h n ls)
+        m-l : (h n : ℕ) (ls : Locals) (m : ℕ) → n + localsLabels ls ≡ m → Has n m (localsWords ls) (sum (localsCode strings h n ls))
         m-l h n R.noLocals m z = omega (arith, still n m (omega arith))
         m-l h n (R.vector j ls) m z = omega (arith, m-l (h + 2 + j) n ls m z)
         m-l h n (R.value e ls) m z = simp sum-both (omega (arith, m-e h n e _ refl, m-l (h + 1) (n + exprLabels e) ls m (omega arith)))
 
-      m-body : (h n : ℕ) (b : Body) (m : ℕ) → n + bodyLabels b ≡ m → Has n m (bodyWords b) (bodyCode strings h n b)
+      m-body : (h n : ℕ) (b : Body) (m : ℕ) → n + bodyLabels b ≡ m → Has n m (bodyWords b) (sum (bodyCode strings h n b))
       unfolding bodyCode bodyLabels
       m-body h n (R.expression e) m z = m-e h n e m z
       m-body h n (R.routine c) m z = m-c h n _ c m z
