@@ -23,9 +23,9 @@ use Rattle.language.specs.Program.{declarationFunctions, functionsFrom}
 use Rattle.language.specs.Fine.{Fine, FineList, FineSuffixes, FineOperations, FineCommand, FineCommands, FineUnlabelled, FineRepeats, FineLocals}
 use Rattle.language.specs.Fine.{FineBody, FineFunctions, FineDeclaration, FineProgram}
 use Rattle.language.proofs.Cases.{by-monadic, by-leaving, by-guard, by-side}
-use Rattle.language.proofs.Tokens.{not-bare, labels-tokens, started, started-tokens, labelsTokens, tokens, listTokens, suffixesTokens, operationsTokens}
-use Rattle.language.proofs.Tokens.{commandTokens, commandsTokens, unlabelledTokens, repeatsTokens, localsTokens, bodyTokens, functionsTokens}
-use Rattle.language.proofs.Tokens.{declarationTokens, programTokens}
+use Rattle.language.proofs.Tokens.{not-bare, labels-tokens, started, started-tokens, labelsTokens, tokens, listTokens, suffixesTokens}
+use Rattle.language.proofs.Tokens.{operationsTokens, commandTokens, commandsTokens, unlabelledTokens, repeatsTokens, localsTokens, bodyTokens}
+use Rattle.language.proofs.Tokens.{functionsTokens, declarationTokens, programTokens}
 use Rattle.language.proofs.Resolving.{cases-before}
 use Rattle.code.specs.Generate.{commandsIn, exprLabels, exprsLabels, targetLabels, pairsLabels, cmdLabels, cmdsLabels, casesLabels}
 use Rattle.code.specs.Generate.{localsLabels, bodyLabels}
