@@ -102,9 +102,8 @@ module _ (Γ : Env) where
           cut-number Γ k₂ λ b₃ i₃ k₃.
           let m : p + h + 2 < length (Γ .image) = omega (arith, fits .sized .slack) in
           let n : p + h + 2 < 65536 = omega (arith, fits .sized .most) in
-          let x₁
-          = quiet Γ (cl .rel) (do-LI Γ v₁ (cl .rel .agree) (cl .at ∙ e) i₁
-          (sum-P Γ v₁ (cl .rel .agree) (cl .at ∙ e) 2 (p + h + 2) (ap (_+ 2) (cl .rel .frame-at)) n) m) refl refl refl refl refl in
+          let sum = sum-P Γ v₁ (cl .rel .agree) (cl .at ∙ e) 2 (p + h + 2) (ap (_+ 2) (cl .rel .frame-at)) n in
+          let x₁ = quiet Γ (cl .rel) (do-LI Γ v₁ (cl .rel .agree) (cl .at ∙ e) i₁ sum m) refl refl refl refl refl in
           let at0 : p + h + 2 + 0 ≡ p + h + 2 = omega arith in
           let arg : getD (v₁ .mem) (p + h + 2) 0 ≡ w = cl .others (p + h + 2) (λ q. omega arith) (λ q. omega arith) ∙ (rw at0 at (hold .at 0 w z)) in
           let x₂ = spoken Γ

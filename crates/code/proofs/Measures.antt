@@ -195,8 +195,8 @@ module _ (a : ℕ) (g : List ℕ → ℕ) (k : ℕ) (u : ℕ → ℕ) where
 
         -- the commands' own labels, and those in them
         m-s : (h t n : ℕ) (x : Exits) (cs : Cases) (l m : ℕ) → t + commandsIn cs ≡ l → n + casesLabels cs ≡ m
-            → (u l + u m ≤ sum (casesCode strings h t n x cs) + u t + u n) × (sum
-            (casesCode strings h t n x cs) + u t + u n ≤ a * casesWords cs + u l + u m)
+            → (u l + u m ≤ sum (casesCode strings h t n x cs) + u t + u n)
+            × (sum (casesCode strings h t n x cs) + u t + u n ≤ a * casesWords cs + u l + u m)
         m-s h t n x R.noCases l m y z = omega (arith, still t l (omega arith), still n m (omega arith))
         m-s h t n x (R.cases ls c cs) l m y z =
             simp sum-both
@@ -213,8 +213,8 @@ module _ (a : ℕ) (g : List ℕ → ℕ) (k : ℕ) (u : ℕ → ℕ) where
       m-body h n (R.routine c) m z = m-c h n _ c m z
 
       pub sum-functions : (t n : ℕ) (fs : List Fun) (l m : ℕ) → t + length fs ≡ l → n + funLabels fs ≡ m
-          → (u l + u m ≤ sum (functionsCode strings t n fs) + u t + u n) × (sum
-          (functionsCode strings t n fs) + u t + u n ≤ a * funWords fs + u l + u m)
+          → (u l + u m ≤ sum (functionsCode strings t n fs) + u t + u n)
+          × (sum (functionsCode strings t n fs) + u t + u n ≤ a * funWords fs + u l + u m)
       unfolding functionsCode funLabels funWords sum
       sum-functions t n [] l m y z = omega (arith, still t l (omega arith), still n m (omega arith))
       sum-functions t n (f ∷ fs) l m y z =

@@ -73,9 +73,8 @@ module _ (memory room : ℕ) where
       → Lays memory room at ls (places p xs) labels end → defined labels n ≡ true
   unfolding places noted
   laid-defined {n} (here {xs = xs}) at p ls h =
-      let x
-      = lay-extends memory room (at + size (label n)) (ls ++ (record { number = n; address = at } ∷ []))
-      (places (p + length (render (label n)) + 1) xs) (lay-step memory room h .1) in
+      let ls′ : List Label = ls ++ (record { number = n; address = at } ∷ []) in
+      let x = lay-extends memory room (at + size (label n)) ls′ (places (p + length (render (label n)) + 1) xs) (lay-step memory room h .1) in
       rw (x .is, append-assoc ls (record { number = n; address = at } ∷ []) (x .more)) (defined-in ls (x .more) n at)
   laid-defined (there {x = x} i) at p ls h = laid-defined i (at + size x) (p + length (render x) + 1) (noted at ls x) (lay-step memory room h .1)
 

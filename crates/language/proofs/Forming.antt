@@ -136,9 +136,7 @@ module _ (functions strings : ℕ) (text : List ℕ) where
   unfolding functionsFrom faultsFrom FineProgram AllFormed afterDeclaration
   all-formed w [] l f sc n = tt
   all-formed w (d ∷ ds) l f sc n =
-      let e : length (declarationFunctions text w d ++ functionsFrom text (afterDeclaration text w d) ds) ≡ length
-      (declarationFunctions text w d) + length (functionsFrom text (afterDeclaration text w d) ds)
-      = length-append (declarationFunctions text w d) (functionsFrom text (afterDeclaration text w d) ds) in
+      let e = length-append (declarationFunctions text w d) (functionsFrom text (afterDeclaration text w d) ds) in
       let g = declaration-length w d in
       let m : w .functions + P.functionCount d ≤ functions = omega arith in
       all-both functions strings (declarationFunctions text w d) (functionsFrom text (afterDeclaration text w d) ds)

@@ -316,9 +316,8 @@ module _ (functions strings : ℕ) (text : List ℕ) where
     good-u s l h (T.block ls cs) sc f n =
         let o = open-scoped functions strings text s h sc in
         let p = good-l (opened s) l h ls o (f .0) (search nones) in
-        let q
-        = good-b (scopeAfter text (opened s) h ls) l (E.heightAfter text (opened s) h ls) cs (scope-after functions strings text (opened s) h o ls)
-        (f .1) (search nones) in
+        let sc′ = scope-after functions strings text (opened s) h o ls in
+        let q = good-b (scopeAfter text (opened s) h ls) l (E.heightAfter text (opened s) h ls) cs sc′ (f .1) (search nones) in
         ((p .0, rw (height-same functions strings text (opened s) h ls (f .0)) (q .0)), (p .1, q .1))
 
     good-l : (s : Scope) (l : Leavable) (h : ℕ) (ls : T.Locals) → Scoped functions h s → FineLocals strings ls → inLocals text s l h ls ≡ []

@@ -185,8 +185,8 @@ strings-count text [] = refl
 strings-count text (x ∷ xs) = go (eqb (x .kind) STRING) (strings-count text xs)
   where
     go : (b : Bool) → length (stringsAmong text xs) ≡ countStrings xs
-        → length (cond b (charactersOf (quoted 34 255 0 (drop (suc (x .place)) text)) ∷ stringsAmong text xs) (stringsAmong text xs)) ≡ cond b
-        (suc (countStrings xs)) (countStrings xs)
+        → length (cond b (charactersOf (quoted 34 255 0 (drop (suc (x .place)) text)) ∷ stringsAmong text xs) (stringsAmong text xs))
+        ≡ cond b (suc (countStrings xs)) (countStrings xs)
     go true e = ap suc e
     go false e = e
 
