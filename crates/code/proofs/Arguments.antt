@@ -1,7 +1,6 @@
 -- Arguments: each waits in the word of its height until the call uses them all.
 use Prim.Native.Nat.{ℕ, zero, suc, _+_, _≤_, _<_}
 use mathlib.Core.Path.{_≡_, refl, _∙_}
-use mathlib.Core.Bool.{Bool}
 use mathlib.Core.List.{List, [], _∷_, _++_, append-assoc}
 use mathlib.Core.Option.{none, some}
 use native.Mathlib.Omega.{arith}
@@ -20,13 +19,15 @@ use Rattle.code.proofs.Related.{Rel, Runs, then, weaken, paid, reaching
 use Rattle.code.proofs.Steps.{step-SP}
 use Rattle.language.proofs.Formed.{FormedA}
 use Rattle.code.proofs.Goals.{F, S, Fits, Sims}
+use Rattle.language.proofs.Cases.{clash}
 
 -- values in the words from a on, below z
 pub data Loaded (m : List ℕ) (z : ℕ) : List Value → ℕ → Type 0 where
   l-none : {a : ℕ} → Loaded m z [] a
   l-more : {a b : ℕ} {x : Value} {xs : List Value} → a < z → Has x (getD m a 0) → suc a ≡ b → Loaded m z xs b → Loaded m z (x ∷ xs) a
 
-pub loaded-same : {m m′ : List ℕ} {z a : ℕ} {xs : List Value} → Loaded m z xs a → (c : ℕ) → c ≤ a → ((y : ℕ) → c ≤ y → y < z → getD m′ y 0 ≡ getD m y 0) → Loaded m′ z xs a
+pub loaded-same : {m m′ : List ℕ} {z a : ℕ} {xs : List Value} → Loaded m z xs a → (c : ℕ) → c ≤ a
+    → ((y : ℕ) → c ≤ y → y < z → getD m′ y 0 ≡ getD m y 0) → Loaded m′ z xs a
 loaded-same l-none c l f = l-none
 loaded-same (l-more k q e r) c l f = l-more k (has-same q (f _ l k)) e (loaded-same r c (omega arith) f)
 
@@ -36,7 +37,7 @@ pub record Holding (m : List ℕ) (ws : List ℕ) (a : ℕ) : Type 0 where
 
 pub holding-none : (m : List ℕ) (a : ℕ) → Holding m [] a
 unfolding nth
-holding-none m a = record { at = λ i x e. let k : _≡_ {A = ℕ} 0 1 = cc in absurd (omega arith) }
+holding-none m a = record { at = λ i x e. clash (cc) }
 
 holding-more : {m ws : List ℕ} {a b : ℕ} (w : ℕ) → getD m a 0 ≡ w → suc a ≡ b → Holding m ws b → Holding m (w ∷ ws) a
 unfolding nth
@@ -46,17 +47,21 @@ holding-more {m} {ws} {a} {b} w g e h = record { at = go }
     go zero x q = let z : a + 0 ≡ a = omega arith in rw z (g ∙ (cc))
     go (suc i) x q = let z : a + suc i ≡ b + i = omega arith in rw z (h .at i x q)
 
-pub post-demandAll : {A : Type 0} {Q : A → State → Type 0} {L E : State → Type 0} {m : List ℕ} {z a : ℕ} {xs : List Value} (more : List ℕ → Result A) → Loaded m z xs a → (acc : List ℕ)
+pub post-demandAll : {A : Type 0} {Q : A → State → Type 0} {L E : State → Type 0} {m : List ℕ} {z a : ℕ} {xs : List Value} (more : List ℕ → Result A)
+    → Loaded m z xs a → (acc : List ℕ)
     → ((ws : List ℕ) → Holding m ws a → Post Q L E (more (acc ++ ws))) → Post Q L E (demandAll xs acc more)
 post-demandAll {m = m} {a = a} more l-none acc f = rw mathlib.Core.List.append-nil at (f [] (holding-none m a))
 post-demandAll more (l-more k q e r) acc f =
     post-demand q λ w g. post-demandAll more r (acc ++ (w ∷ [])) λ ws h. rw append-assoc (f (w ∷ ws) (holding-more w g e h))
 
 module _ (Γ : Env) (fits : Fits Γ) (q : Sem) (ih : Sims Γ q) where
-  pub sim-arguments : (es : Exprs) (n : ℕ) {Q : Value → Mach → Type 0} {t p h₀ h h₃ a b z : ℕ} {s : State} {v : Mach} (more : List Value → State → Result Value)
-      → h₀ ≤ h → t ≤ 9 → p + (h + count es) ≡ z → Code Γ a (exprsCode (suc (F Γ)) h n es) b → FormedA (F Γ) (S Γ) h es → v .regs .c ≡ a → Rel Γ p h s v
+  pub sim-arguments : (es : Exprs) (n : ℕ) {Q : Value → Mach → Type 0} {t p h₀ h h₃ a b z : ℕ} {s : State} {v : Mach}
+      (more : List Value → State → Result Value) → h₀ ≤ h → t ≤ 9 → p + (h + count es) ≡ z
+      → Code Γ a (exprsCode (suc (F Γ)) h n es) b → FormedA (F Γ) (S Γ) h es
+      → v .regs .c ≡ a → Rel Γ p h s v
       → ((xs : List Value) (u : State) (w : Mach) → Rel Γ p h u w → w .regs .c ≡ b → Loaded (w .mem) z xs (p + h) → z ≤ Γ .limit
-      → ((y : ℕ) → y < p + h → s .cells y ≡ gone → getD (w .mem) y 0 ≡ getD (v .mem) y 0) → ((y : ℕ) → y < p + h → s .cells y ≡ gone → u .cells y ≡ gone)
+      → ((y : ℕ) → y < p + h → s .cells y ≡ gone → getD (w .mem) y 0 ≡ getD (v .mem) y 0)
+      → ((y : ℕ) → y < p + h → s .cells y ≡ gone → u .cells y ≡ gone)
       → Runs Γ Q t p h₀ h₃ u w (more xs u))
       → Runs Γ Q t p h₀ h₃ s v (arguments (Γ .limit) q es p h s more)
   unfolding arguments exprsCode FormedA count

@@ -1,7 +1,6 @@
 -- The simulation of assignments: from a right side in A, which may wait in the word of the height, to each kind of left side.
 use Prim.Native.Nat.{ℕ, suc, _+_, _≤_}
 use mathlib.Core.Path.{_≡_, ap, _∙_}
-use mathlib.Core.Bool.{Bool}
 use mathlib.Core.List.{List}
 use native.Mathlib.Omega.{arith}
 use native.Mathlib.Nat.{le-refl}
@@ -22,7 +21,8 @@ use Rattle.code.proofs.Goals.{F, S, Fits, Where, w-normal, Sims}
 use Rattle.code.proofs.Expressions.{part}
 
 module _ (Γ : Env) (fits : Fits Γ) (q : Sem) (ih : Sims Γ q) where
-  module _ {Q : Flow → Mach → Type 0} {t p h a b : ℕ} {s : State} {v : Mach} {y : Value} (n : ℕ) (pc : v .regs .c ≡ a) (has : Has y (v .regs .a)) (r : Rel Γ p h s v)
+  module _ {Q : Flow → Mach → Type 0} {t p h a b : ℕ} {s : State} {v : Mach} {y : Value} (n : ℕ) (pc : v .regs .c ≡ a) (has : Has y (v .regs .a))
+      (r : Rel Γ p h s v)
       (more : State → Result Flow) (g : (u : State) (w : Mach) → Rel Γ p h u w → w .regs .c ≡ b → Runs Γ Q t p h h u w (more u)) where
     pub sim-target : (z : Target) → Code Γ a (targetCode (suc (F Γ)) h n z) b → FormedT (F Γ) (S Γ) h z
         → Runs Γ Q (6 + t) p h h s v (assigned (Γ .limit) q z y p h s more)
@@ -72,19 +72,21 @@ module _ (Γ : Env) (fits : Fits Γ) (q : Sem) (ih : Sims Γ q) where
         let kept : getD (v₄ .mem) (p + h) 0 ≡ v .regs .a =
         x₄ .frame (p + h) (omega arith) (like′ .cells (p + h) ∙ gone₂)
         ∙ o₃ (p + h) (λ e. omega arith) ∙ x₂ .frame (p + h) (omega arith) (r₁ .above (p + h) (omega arith)) ∙ g₁ in
-        let kept′ : getD (v₄ .mem) (p + (h + 1)) 0 ≡ v₂ .regs .a = x₄ .frame (p + (h + 1)) (omega arith) (r₃ .above (p + (h + 1)) (omega arith)) ∙ g₃ in
+        let kept′ : getD (v₄ .mem) (p + (h + 1)) 0 ≡ v₂ .regs .a
+        = x₄ .frame (p + (h + 1)) (omega arith) (r₃ .above (p + (h + 1)) (omega arith)) ∙ g₃ in
         let r₄ : Rel Γ p (h + 1) s₄ v₄ = sink Γ r₃ top x₄ in
         let r₅ : Rel Γ p h s₄ v₄ = sink-rel Γ r₁ up r₄ (λ a j m. x₄ .keep a (omega arith) (like′ .cells a ∙ x₂ .keep a j m)) in
-        post-demand (has-same has kept) λ w ew. post-demand (has-same (y₂ .has) kept′) λ m em. post-demand (y₄ .has) λ k ek. post-write (s₄ .cells (add m k)) λ live.
+        post-demand (has-same has kept) λ w ew. post-demand (has-same (y₂ .has) kept′) λ m em. post-demand (y₄ .has) λ k ek.
+        post-write (s₄ .cells (add m k)) λ live.
         step-AIP Γ (fits .sized) (le-refl h) r₅ (y₄ .at) i₇ (omega arith) λ v₆ r₆ c₆ a₆ m₆.
         let sum : v₆ .regs .a ≡ add m k = omega (arith, a₆, em, ek) in
         step-SP Γ (fits .sized) (le-refl h) r₆ c₆ i₈ up (omega arith) λ v₇ r₇ c₇ _ g₇ o₇.
         step-LIP Γ (fits .sized) (le-refl h) r₇ c₇ i₉ (omega arith) λ v₈ r₈ c₈ a₈ _ m₈.
         let val : v₈ .regs .a ≡ w = a₈ ∙ o₇ (p + h) (λ e. omega arith) ∙ ap (λ (l : List ℕ). getD l (p + h) 0) m₆ ∙ ew in
-        cell-IP Γ (fits .sized) (le-refl h) r₈ c₈ j₁ val (omega arith) (rw m₈ (g₇ ∙ sum)) live λ v₉ r₉ c₉.
-        g _ v₉ r₉ (c₉ ∙ at-end Γ l₁)) (omega arith)
+        cell-IP Γ (fits .sized) (le-refl h) r₈ c₈ j₁ val (omega arith) (rw m₈ (g₇ ∙ sum)) live λ v₉ r₉ c₉. g _ v₉ r₉ (c₉ ∙ at-end Γ l₁)) (omega arith)
 
-  pub sim-pairs : (ps : Pairs) (n : ℕ) {p h a b : ℕ} {x : Exits} {s : State} {v : Mach} → Code Γ a (pairsCode (suc (F Γ)) h n ps) b → FormedP (F Γ) (S Γ) h ps
+  pub sim-pairs : (ps : Pairs) (n : ℕ) {p h a b : ℕ} {x : Exits} {s : State} {v : Mach} → Code Γ a (pairsCode (suc (F Γ)) h n ps) b
+      → FormedP (F Γ) (S Γ) h ps
       → v .regs .c ≡ a → Rel Γ p h s v → Runs Γ (Where Γ b x) 0 p h h s v (assignedAll (Γ .limit) q ps p h s)
   unfolding assignedAll pairsCode FormedP
   sim-pairs R.noPairs n {h = h} k f pc r = over Γ (le-refl h) r (w-normal (pc ∙ at-end Γ k))

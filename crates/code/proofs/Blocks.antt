@@ -1,7 +1,6 @@
 -- The simulation of blocks: names given their words, then the commands; on leaving, the words are live no longer.
 use Prim.Native.Nat.{ℕ, suc, _+_, _≤_, _<_}
 use mathlib.Core.Path.{_≡_, refl, sym, _∙_}
-use mathlib.Core.Bool.{Bool}
 use native.Mathlib.Omega.{arith}
 use native.Mathlib.Nat.{le-refl}
 use native.Mathlib.Decide.{ℕ-discrete, decLt}
@@ -16,7 +15,8 @@ use Rattle.code.specs.Generate.{exprCode, exprLabels, localsCode, locals
 use Rattle.code.proofs.Results.{post-demand}
 use Rattle.code.proofs.Machine.{Mach}
 use Rattle.code.proofs.Standing.{Env, Code, cut, cut-number, at-end}
-use Rattle.code.proofs.Related.{gone-holds, Like, Rel, Sim, Runs, after, then, weaken, paid, lower, reaching-on, open-scope, close-scope, put-same, put-other, ticked}
+use Rattle.code.proofs.Related.{gone-holds, Like, Rel, Sim, Runs, after, then, weaken, paid, lower, reaching-on, open-scope, close-scope}
+use Rattle.code.proofs.Related.{put-same, put-other, ticked}
 use Rattle.code.proofs.Steps.{step-LP, step-SP}
 use Rattle.language.proofs.Formed.{FormedC, FormedL}
 use Rattle.code.proofs.Goals.{F, S, Fits, Sims}
@@ -40,7 +40,8 @@ module _ (a n : ℕ) (s : State) (b : ℕ) where
 
 module _ (Γ : Env) {p h : ℕ} {s : State} {v : Mach} (r : Rel Γ p h s v) where
   -- a name's word with its first value
-  pub new-word : (w : ℕ) → getD (v .mem) (p + h) 0 ≡ w → p + (h + 1) ≤ Γ .limit → (u : State) → Like (put (p + h) (holds w) (step s)) u → Sim Γ 0 p h (h + 1) s v u v
+  pub new-word : (w : ℕ) → getD (v .mem) (p + h) 0 ≡ w → p + (h + 1) ≤ Γ .limit → (u : State) → Like (put (p + h) (holds w) (step s)) u
+      → Sim Γ 0 p h (h + 1) s v u v
   new-word w e l u like =
       open-scope Γ r l (omega arith)
       (λ a k. like .cells a ∙ put-other Γ s (p + h) (holds w) a (λ q. omega arith))
@@ -61,19 +62,23 @@ module _ (Γ : Env) {p h : ℕ} {s : State} {v : Mach} (r : Rel Γ p h s v) wher
       open-scope Γ r l (omega arith)
       (λ a k. like .cells a ∙ put-other Γ vs (p + h) (holds (p + h + 1)) a (λ q. omega arith) ∙ vector-below (p + h + 1) n s a (omega arith))
       (λ a y k g. val a y k (sym (like .cells a) ∙ g) (ℕ-discrete a (p + h)) (decLt (p + h + 1 + n) a))
-      (λ a k. like .cells a ∙ put-other Γ vs (p + h) (holds (p + h + 1)) a (λ q. omega arith) ∙ vector-above (p + h + 1) n s a (omega arith) ∙ r .above a (omega arith))
+      (λ a k. like .cells a ∙ put-other Γ vs (p + h) (holds (p + h + 1)) a (λ q. omega arith) ∙ vector-above (p + h + 1) n s a (omega arith)
+      ∙ r .above a (omega arith))
       (like .output) (like .taken) (omega (arith, like .steps))
     where
       vs : State
       vs = vectorWords (p + h + 1) n s
 
-      val : (a y : ℕ) → p + h ≤ a → put (p + h) (holds (p + h + 1)) vs .cells a ≡ holds y → Dec (a ≡ p + h) → Dec (p + h + 1 + n < a) → getD (v .mem) a 0 ≡ y
+      val : (a y : ℕ) → p + h ≤ a → put (p + h) (holds (p + h + 1)) vs .cells a ≡ holds y → Dec (a ≡ p + h) → Dec (p + h + 1 + n < a)
+          → getD (v .mem) a 0 ≡ y
       val a y k g (yes q) d =
           let z : holds (p + h + 1) ≡ holds y = sym (put-same Γ vs (p + h) (holds (p + h + 1))) ∙ (rw q at g) in
           rw q (e ∙ (cc))
-      val a y k g (no q) (yes d) = absurd (gone-holds (vector-above (p + h + 1) n s a d ∙ r .above a k) (sym (put-other Γ vs (p + h) (holds (p + h + 1)) a q) ∙ g))
+      val a y k g (no q) (yes d) =
+          absurd (gone-holds (vector-above (p + h + 1) n s a d ∙ r .above a k) (sym (put-other Γ vs (p + h) (holds (p + h + 1)) a q) ∙ g))
       val a y k g (no q) (no d) =
-          let z : unset ≡ holds y = sym (vector-at (p + h + 1) n s a (omega arith) (omega arith)) ∙ sym (put-other Γ vs (p + h) (holds (p + h + 1)) a q) ∙ g in
+          let z : unset ≡ holds y
+          = sym (vector-at (p + h + 1) n s a (omega arith) (omega arith)) ∙ sym (put-other Γ vs (p + h) (holds (p + h + 1)) a q) ∙ g in
           let j : _≡_ {A = ℕ} 0 1 = cc in
           absurd (omega arith)
 

@@ -1,6 +1,6 @@
 -- The simulation of calls: RDCH, WRCH, and functions of the text, which return from their end or from a RETURN.
-use Prim.Native.Nat.{ℕ, suc, _+_, _-_, _%_, _≤_, _<_}
-use mathlib.Core.Path.{_≡_, refl, sym, ap, _∙_}
+use Prim.Native.Nat.{ℕ, suc, _+_, _%_, _≤_, _<_}
+use mathlib.Core.Path.{_≡_, refl, ap, _∙_}
 use mathlib.Core.Bool.{Bool, true, false}
 use mathlib.Core.List.{List, [], _∷_, _++_}
 use mathlib.Core.Option.{Option, none, some}
@@ -12,18 +12,21 @@ use borrow.Author.Tests.{eqb-true}
 use Rattle.items.specs.Item as I
 use Rattle.machine.specs.Acts as MA
 use Rattle.language.specs.Resolved as R
-use Rattle.language.specs.Resolved.{Expr, Exprs, Body, Fun}
+use Rattle.language.specs.Resolved.{Expr, Exprs, Body}
 use Rattle.language.specs.Heights.{count}
 use Rattle.language.specs.State.{Value, absent, State, Result, ok, forget}
-use Rattle.language.specs.Run.{Flow, normal, broke, looped, ended, gave, Sem, evaluated, arguments, called, received, sent, enterAt, runBody, ofFunction, ofRoutine, parameters, positionOf, noFun, nth, Placement}
+use Rattle.language.specs.Run.{Flow, normal, broke, looped, ended, gave, Sem, evaluated, arguments, called, received, sent, enterAt, runBody}
+use Rattle.language.specs.Run.{ofFunction, ofRoutine, parameters, positionOf, noFun, nth}
 use Rattle.code.specs.Generate.{exprCode, exprsCode, exprsLabels, cmdCode, bodyCode, nowhereElse, X}
-use Rattle.code.proofs.Results.{Post, p-unfinished, p-undefined, p-finished, p-returned, p-ok, post-cond, post-bind, post-demand, has-none, has-word, has-same}
-use Rattle.code.proofs.Machine.{Mach, Goes, goes-on}
+use Rattle.code.proofs.Results.{Post, p-unfinished, p-undefined, p-finished, p-returned, p-ok, post-cond, post-demand, has-none, has-word}
+use Rattle.code.proofs.Results.{has-same}
+use Rattle.code.proofs.Machine.{Mach}
 use Rattle.code.proofs.Standing.{Env, At, Code, cut, cut-number, at-end}
 use Rattle.code.proofs.Instructions.{do-LI, do-X27, do-X28, sum-P}
-use Rattle.code.proofs.Related.{Rel, Sim, Ends, Runs, seq-sim, more-ends, then, weaken, reaching, reaching-in, raise, sink, sink-rel, like-rel, quiet}
+use Rattle.code.proofs.Related.{Rel, Ends, Runs, seq-sim, ends-from, more-ends, then, weaken, reaching, reaching-in, raise, sink, sink-rel}
+use Rattle.code.proofs.Related.{like-rel, spoken, quiet}
 use Rattle.language.proofs.Formed.{FormedE, FormedF}
-use Rattle.code.proofs.Goals.{F, S, Fits, Valued, Where, w-normal, w-broke, w-looped, w-ended, w-gave, Sims}
+use Rattle.code.proofs.Goals.{F, S, Fits, Valued, Where, w-normal, Sims}
 use Rattle.code.proofs.Expressions.{GoalE, part}
 use Rattle.code.proofs.Arguments.{Loaded, loaded-same, Holding, post-demandAll, sim-arguments}
 use Rattle.code.proofs.Frames.{Called, calls, with-parameters, parameters-below, Back, back-forget, returns}
@@ -51,65 +54,23 @@ post-function base (p-returned l) f h = p-undefined
 post-function base (p-ok q) f h = f _ _ q
 
 module _ (Γ : Env) where
-  -- an instruction that leaves memory, P and G alone, where input or output go on
-  spoken : {p h : ℕ} {s s′ : State} {v v′ : Mach} → Rel Γ p h s v → Goes (Γ .input) 1 v v′
-      → v′ .mem ≡ v .mem → v′ .regs .p ≡ v .regs .p → v′ .regs .g ≡ v .regs .g → v′ .regs .taken ≡ s′ .taken → v′ .bytes ≡ s′ .output
-      → ((a : ℕ) → s′ .cells a ≡ s .cells a) → s′ .steps ≡ s .steps → Sim Γ 1 p h h s v s′ v′
-  spoken {p} {h} {s} {s′} {v} {v′} r e em ep eg et eb ec es = record {
-    n = _;
-    goes = e;
-    rel = record {
-      agree = rw em (r .agree);
-      frame-at = ep ∙ r .frame-at;
-      globals-at = eg ∙ r .globals-at;
-      room = r .room;
-      base = r .base;
-      vals = λ a w g. rw em (r .vals a w (sym (ec a) ∙ g));
-      above = λ a l. ec a ∙ r .above a l;
-      code-gone = λ a l. ec a ∙ r .code-gone a l;
-      bytes = eb;
-      taken = et;
-    };
-    keep = λ a l g. ec a ∙ g;
-    frame = λ a l g. rw em refl;
-    time = omega (arith, es);
-  }
-
   module _ (fits : Fits Γ) (q : Sem) (ih : Sims Γ q) where
     -- the same cells, above which the caller's are gone
     back-same : {p h : ℕ} {s s′ : State} {v : Mach} → Rel Γ p h s v → ((a : ℕ) → s′ .cells a ≡ s .cells a) → Back Γ (fits .sized) (p + h) s′ s′
-    back-same r e = record {
-      holding = λ a w g. g;
-      losing = λ a g. g;
-      past = λ a l. e a ∙ r .above a l;
-      output = refl;
-      taken = refl;
-      steps = refl;
-    }
+    back-same r e = record { holding = λ a w g. g; losing = λ a g. g; past = λ a l. e a ∙ r .above a l; output = refl; taken = refl; steps = refl }
 
     -- a finish inside the callee
-    ends-in : {t p h b c : ℕ} {s : State} {v : Mach} {s₁ s′ : State} {v₁ : Mach} → Called Γ (fits .sized) p h b c s v v₁ → s₁ .steps ≡ s .steps → Ends Γ t s₁ v₁ s′ → Ends Γ (1 + t) s v s′
-    ends-in cl e x = record {
-      v′ = x .v′;
-      n = _;
-      goes = goes-on (Γ .input) (cl .goes) (x .goes);
-      past = x .past;
-      finish = x .finish;
-      agree = x .agree;
-      vals = x .vals;
-      bytes = x .bytes;
-      taken = x .taken;
-      time = omega (arith, x .time, e);
-    }
+    ends-in : {t p h b c : ℕ} {s : State} {v : Mach} {s₁ s′ : State} {v₁ : Mach} → Called Γ (fits .sized) p h b c s v v₁ → s₁ .steps ≡ s .steps
+        → Ends Γ t s₁ v₁ s′ → Ends Γ (1 + t) s v s′
+    ends-in cl e x = ends-from Γ (cl .goes) (λ n m k. omega (arith, e)) x
 
-    module _ {p h a b c : ℕ} {s : State} {v : Mach} (r : Rel Γ p h s v) (pc : v .regs .c ≡ a) (i : At Γ a 6 false I.none h b) (acc : v .regs .a ≡ c) where
+    module _ {p h a b c : ℕ} {s : State} {v : Mach} (r : Rel Γ p h s v) (pc : v .regs .c ≡ a) (i : At Γ a 6 false I.none h b)
+        (acc : v .regs .a ≡ c) where
       sim-rdch : c ≡ 3 → p + h + 2 ≤ Γ .limit → Runs Γ (Valued Γ b) 4 p h h s v (received (Γ .input) s)
       unfolding MA.received
       sim-rdch e l =
           calls Γ (fits .sized) r pc i acc l λ v₁ cl.
-          cut-number Γ (fits .rdch .1) λ b₁ i₁ k₁.
-          cut-number Γ k₁ λ b₂ i₂ k₂.
-          go v₁ cl b₁ i₁ b₂ i₂ (ltb (s .taken) (length (Γ .input))) refl
+          cut-number Γ (fits .rdch .1) λ b₁ i₁ k₁. cut-number Γ k₁ λ b₂ i₂ k₂. go v₁ cl b₁ i₁ b₂ i₂ (ltb (s .taken) (length (Γ .input))) refl
         where
           go : (v₁ : Mach) → Called Γ (fits .sized) p h b c s v v₁ → (b₁ : ℕ) → At Γ 3 7 false I.none 27 b₁ → (b₂ : ℕ) → At Γ b₁ 7 false I.none 4 b₂
               → (z : Bool) → ltb (s .taken) (length (Γ .input)) ≡ z → Runs Γ (Valued Γ b) 4 p h h s v (received (Γ .input) s)
@@ -118,15 +79,17 @@ module _ (Γ : Env) where
               let tk : v₁ .regs .taken ≡ s .taken = cl .rel .taken in
               let z : ltb (v₁ .regs .taken) (length (Γ .input)) ≡ true = rw tk t in
               rw t (returns Γ (fits .sized) r cl (le-refl 2) (λ a l g. g) refl
-              (spoken {s′ = record { cells = s .cells; taken = suc (s .taken); output = s .output; steps = s .steps; used = s .used }}
-              (cl .rel) (rw z at g) refl refl refl (rw tk (omega arith)) (cl .rel .bytes) (λ a. refl) refl) refl i₂ (back-same r (λ a. refl)) λ v₃ x₃ c₃ a₃.
+              (spoken Γ {s′ = record { cells = s .cells; taken = suc (s .taken); output = s .output; steps = s .steps; used = s .used }}
+              (cl .rel) (rw z at g) refl refl refl (rw tk (omega arith)) (cl .rel .bytes) (λ a. refl) refl) refl i₂
+              (back-same r (λ a. refl)) λ v₃ x₃ c₃ a₃.
               weaken Γ (p-ok (record { v′ = v₃; sim = x₃; is = record { at = c₃; has = has-word (a₃ ∙ rw tk refl) } })) (omega arith))
           go v₁ cl b₁ i₁ b₂ i₂ false t =
               let g = do-X27 Γ v₁ (cl .rel .agree) (cl .at ∙ e) i₁ in
               let tk : v₁ .regs .taken ≡ s .taken = cl .rel .taken in
               let z : ltb (v₁ .regs .taken) (length (Γ .input)) ≡ false = rw tk t in
               rw t (returns Γ (fits .sized) r cl (le-refl 2) (λ a l g. g) refl
-              (spoken {s′ = s} (cl .rel) (rw z at g) refl refl refl tk (cl .rel .bytes) (λ a. refl) refl) refl i₂ (back-same r (λ a. refl)) λ v₃ x₃ c₃ a₃.
+              (spoken Γ {s′ = s} (cl .rel) (rw z at g) refl refl refl tk (cl .rel .bytes) (λ a. refl) refl) refl i₂
+              (back-same r (λ a. refl)) λ v₃ x₃ c₃ a₃.
               weaken Γ (p-ok (record { v′ = v₃; sim = x₃; is = record { at = c₃; has = has-word a₃ } })) (omega arith))
 
       sim-wrch : (ws : List ℕ) → Holding (v .mem) ws (p + h + 2) → c ≡ 5 → p + h + 3 ≤ Γ .limit → (x : Option ℕ) → nth ws 0 ≡ x
@@ -139,15 +102,18 @@ module _ (Γ : Env) where
           cut-number Γ k₂ λ b₃ i₃ k₃.
           let m : p + h + 2 < length (Γ .image) = omega (arith, fits .sized .slack) in
           let n : p + h + 2 < 65536 = omega (arith, fits .sized .most) in
-          let x₁ = quiet Γ (cl .rel) (do-LI Γ v₁ (cl .rel .agree) (cl .at ∙ e) i₁ (sum-P Γ v₁ (cl .rel .agree) (cl .at ∙ e) 2 (p + h + 2) (ap (_+ 2) (cl .rel .frame-at)) n) m) refl refl refl refl refl in
+          let sum = sum-P Γ v₁ (cl .rel .agree) (cl .at ∙ e) 2 (p + h + 2) (ap (_+ 2) (cl .rel .frame-at)) n in
+          let x₁ = quiet Γ (cl .rel) (do-LI Γ v₁ (cl .rel .agree) (cl .at ∙ e) i₁ sum m) refl refl refl refl refl in
           let at0 : p + h + 2 + 0 ≡ p + h + 2 = omega arith in
           let arg : getD (v₁ .mem) (p + h + 2) 0 ≡ w = cl .others (p + h + 2) (λ q. omega arith) (λ q. omega arith) ∙ (rw at0 at (hold .at 0 w z)) in
-          let x₂ = spoken {s′ = record { cells = s .cells; taken = s .taken; output = s .output ++ ((w % 256) ∷ []); steps = s .steps; used = s .used }}
+          let x₂ = spoken Γ
+          {s′ = record { cells = s .cells; taken = s .taken; output = s .output ++ ((w % 256) ∷ []); steps = s .steps; used = s .used }}
           (x₁ .rel) (do-X28 Γ _ (x₁ .rel .agree) refl i₂) refl refl refl (cl .rel .taken) (rw (cl .rel .bytes, arg) refl) (λ a. refl) refl in
           returns Γ (fits .sized) r cl (le-refl 2) (λ a l g. g) refl (seq-sim Γ (le-refl 2) x₁ x₂) refl i₃ (back-same r (λ a. refl)) λ v₃ x₃ c₃ a₃.
           weaken Γ (p-ok (record { v′ = v₃; sim = x₃; is = record { at = c₃; has = has-none } })) (omega arith)
 
-      sim-body : (body : Body) (n m end : ℕ) (ws : List ℕ) {v₁ : Mach} → Called Γ (fits .sized) p h b c s v v₁ → Code Γ c (bodyCode (suc (F Γ)) (2 + n) m body ++ (X 4 ∷ [])) end
+      sim-body : (body : Body) (n m end : ℕ) (ws : List ℕ) {v₁ : Mach} → Called Γ (fits .sized) p h b c s v v₁
+          → Code Γ c (bodyCode (suc (F Γ)) (2 + n) m body ++ (X 4 ∷ [])) end
           → FormedF (F Γ) (S Γ) (2 + n) body → Rel Γ (p + h) (2 + n) (parameters (p + h) n ws s) v₁
           → Runs Γ (Valued Γ b) 4 p h h s v (runBody q body (p + h) (2 + n) (parameters (p + h) n ws s))
       unfolding bodyCode
@@ -155,7 +121,8 @@ module _ (Γ : Env) where
           cut Γ (exprCode (suc (F Γ)) (2 + n) m e) _ k λ b₁ k₁ k₂.
           cut-number Γ k₂ λ b₂ i₂ k₃.
           post-function (p + h) (part Γ fits q ih e m k₁ fm (cl .at) r₁)
-          (λ x s₂ e₂. returns Γ (fits .sized) r cl (omega arith) (λ a l g. parameters-below (p + h) n ws s a l ∙ g) refl (e₂ .sim) (e₂ .is .at) i₂ (back-forget Γ (fits .sized) (p + h) s₂) λ v₃ x₃ c₃ a₃.
+          (λ x s₂ e₂. returns Γ (fits .sized) r cl (omega arith) (λ a l g. parameters-below (p + h) n ws s a l ∙ g) refl (e₂ .sim) (e₂ .is .at) i₂
+          (back-forget Γ (fits .sized) (p + h) s₂) λ v₃ x₃ c₃ a₃.
           weaken Γ (p-ok (record { v′ = v₃; sim = x₃; is = record { at = c₃; has = has-same (e₂ .is .has) a₃ } })) (omega arith))
           (λ s₂ e₂. more-ends Γ (ends-in cl refl e₂) (omega arith))
       sim-body (R.routine d) n m end ws {v₁} cl k fm r₁ =
@@ -163,9 +130,11 @@ module _ (Γ : Env) where
           cut-number Γ k₂ λ b₂ i₂ k₃.
           post-routine (p + h) (ih .run d m k₁ fm (cl .at) r₁)
           (λ s₂ e₂. at-end-of (e₂ .is) λ c₂.
-          returns Γ (fits .sized) r cl (omega arith) (λ a l g. parameters-below (p + h) n ws s a l ∙ g) refl (e₂ .sim) c₂ i₂ (back-forget Γ (fits .sized) (p + h) s₂) λ v₃ x₃ c₃ a₃.
+          returns Γ (fits .sized) r cl (omega arith) (λ a l g. parameters-below (p + h) n ws s a l ∙ g) refl (e₂ .sim) c₂ i₂
+          (back-forget Γ (fits .sized) (p + h) s₂) λ v₃ x₃ c₃ a₃.
           weaken Γ (p-ok (record { v′ = v₃; sim = x₃; is = record { at = c₃; has = has-none } })) (omega arith))
-          (λ s₂ e₂. returns Γ (fits .sized) r cl (omega arith) (λ a l g. parameters-below (p + h) n ws s a l ∙ g) refl (e₂ .sim) refl (e₂ .return) (back-forget Γ (fits .sized) (p + h) s₂) λ v₃ x₃ c₃ a₃.
+          (λ s₂ e₂. returns Γ (fits .sized) r cl (omega arith) (λ a l g. parameters-below (p + h) n ws s a l ∙ g) refl (e₂ .sim) refl (e₂ .return)
+          (back-forget Γ (fits .sized) (p + h) s₂) λ v₃ x₃ c₃ a₃.
           weaken Γ (p-ok (record { v′ = v₃; sim = x₃; is = record { at = c₃; has = has-none } })) (omega arith))
           (λ s₂ e₂. more-ends Γ (ends-in cl refl e₂) (omega arith))
         where
@@ -173,7 +142,8 @@ module _ (Γ : Env) where
           at-end-of (w-normal e) t = t e
 
     -- the callee's number is in A, its arguments in the words of its parameters
-    pub sim-called : {p h a b : ℕ} (c : ℕ) (ws : List ℕ) {s : State} {v : Mach} → Rel Γ p h s v → v .regs .c ≡ a → At Γ a 6 false I.none h b → v .regs .a ≡ c
+    pub sim-called : {p h a b : ℕ} (c : ℕ) (ws : List ℕ) {s : State} {v : Mach} → Rel Γ p h s v → v .regs .c ≡ a → At Γ a 6 false I.none h b
+        → v .regs .a ≡ c
         → Holding (v .mem) ws (p + h + 2) → Runs Γ (Valued Γ b) 4 p h h s v (called (Γ .functions) (Γ .place) (Γ .limit) (Γ .input) q c (p + h) ws s)
     unfolding called
     sim-called {p} {h} {a} {b} c ws {s} {v} r pc i acc hold =
@@ -193,7 +163,8 @@ module _ (Γ : Env) where
             reaching-in Γ (p + h) (2 + n) (λ t. runBody q (getD (Γ .functions) k noFun .body) (p + h) (2 + n) (parameters (p + h) n ws t)) λ u like l.
             calls Γ (fits .sized) (like-rel Γ like r) pc i acc (omega arith) λ v₁ cl.
             sim-body (like-rel Γ like r) pc i acc (getD (Γ .functions) k noFun .body) n (e .labels) (e .end) ws cl (e .code) (e .formed)
-            (with-parameters Γ (fits .sized) (p + h) n (cl .rel) l (record { at = λ j x g. cl .others (p + h + 2 + j) (λ q. omega arith) (λ q. omega arith) ∙ hold .at j x g }))
+            (with-parameters Γ (fits .sized) (p + h) n (cl .rel) l
+            (record { at = λ j x g. cl .others (p + h + 2 + j) (λ q. omega arith) (λ q. omega arith) ∙ hold .at j x g }))
 
     pub sim-call : (e : Expr) (es : Exprs) → GoalE Γ q (R.call e es)
     unfolding evaluated exprCode FormedE
@@ -210,7 +181,8 @@ module _ (Γ : Env) where
         then Γ (omega arith) (part Γ fits q ih e (n + exprsLabels es) k₃ (f .1) c₁ (raise Γ r₁ top (omega arith))) λ x s₃ v₃ x₃ y₃.
         let r₃ : Rel Γ p (h + 2) s₃ v₃ = sink Γ r₁ top x₃ in
         let r₄ : Rel Γ p h s₃ v₃ = sink-rel Γ r₀ up r₃ (λ a j g. x₃ .keep a (omega arith) (kp a j g)) in
-        let ld₃ : Loaded (v₃ .mem) (p + (h + 2 + count es)) xs (p + (h + 2)) = loaded-same ld (p + (h + 2)) (omega arith) (λ y j m. x₃ .frame y (omega arith) (r₁ .above y j)) in
+        let ld₃ : Loaded (v₃ .mem) (p + (h + 2 + count es)) xs (p + (h + 2))
+        = loaded-same ld (p + (h + 2)) (omega arith) (λ y j m. x₃ .frame y (omega arith) (r₁ .above y j)) in
         post-demandAll _ ld₃ [] λ ws hold.
         post-demand (y₃ .has) λ c ec.
         let z : p + (h + 2) ≡ p + h + 2 = omega arith in

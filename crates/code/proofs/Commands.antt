@@ -8,13 +8,13 @@ use lib.Dec.{eqb}
 use borrow.Author.Tests.{not-true, not-false}
 use Rattle.language.specs.Resolved as R
 use Rattle.language.specs.Resolved.{Expr, Pairs, Cmd, Cmds}
-use Rattle.language.specs.State.{State, Result, ok}
+use Rattle.language.specs.State.{State, Result, ok, step}
 use Rattle.language.specs.Run.{Flow, normal, broke, looped, ended, gave, Sem, executed, sequence, onwards, isTrue, same}
 use Rattle.code.specs.Generate.{Exits, exprCode, exprLabels, cmdCode, cmdLabels, cmdsCode}
 use Rattle.code.proofs.Results.{p-returned, p-finished, post-cond, post-demand, has-same}
 use Rattle.code.proofs.Machine.{Mach, goes-not}
 use Rattle.code.proofs.Standing.{Env, Code, cut, cut-number, cut-address, cut-label, at-end}
-use Rattle.code.proofs.Related.{Rel, Runs, then, ending, weaken, paid, over, ticked}
+use Rattle.code.proofs.Related.{Rel, Sim, Runs, at-finish, then, ending, weaken, paid, over, ticked}
 use Rattle.code.proofs.Steps.{step-J, step-F, step-unless}
 use Rattle.language.proofs.Formed.{FormedC, FormedB}
 use Rattle.code.proofs.Goals.{F, S, Fits, Where, w-normal, w-broke, w-looped, w-ended, w-gave, Sims}
@@ -23,15 +23,15 @@ use Rattle.code.proofs.Assignments.{sim-pairs}
 
 -- a jump where the value is not as wanted
 pub as-wanted : (sense z : Bool) (k b : ℕ) → same sense (not z) ≡ true → cond z (cond sense k b) (cond sense b k) ≡ b
-as-wanted true true k b e = let y : _≡_ {A = ℕ} 0 1 = cc in absurd (omega arith)
+as-wanted true true k b e = cc
 as-wanted true false k b e = refl
 as-wanted false true k b e = refl
-as-wanted false false k b e = let y : _≡_ {A = ℕ} 0 1 = cc in absurd (omega arith)
+as-wanted false false k b e = cc
 
 pub not-wanted : (sense z : Bool) (k b : ℕ) → same sense (not z) ≡ false → cond z (cond sense k b) (cond sense b k) ≡ k
 not-wanted true true k b e = refl
-not-wanted true false k b e = let y : _≡_ {A = ℕ} 0 1 = cc in absurd (omega arith)
-not-wanted false true k b e = let y : _≡_ {A = ℕ} 0 1 = cc in absurd (omega arith)
+not-wanted true false k b e = cc
+not-wanted false true k b e = cc
 not-wanted false false k b e = refl
 
 module _ (Γ : Env) where
@@ -44,7 +44,8 @@ module _ (Γ : Env) where
 
   -- what a sequence makes of a command's end
   pub goes-on : {p h b b′ : ℕ} {x : Exits} {s : State} {v : Mach} (f : Flow) (more : State → Result Flow)
-      → Rel Γ p h s v → Where Γ b x f v → (v .regs .c ≡ b → Runs Γ (Where Γ b′ x) 0 p h h s v (more s)) → Runs Γ (Where Γ b′ x) 0 p h h s v (onwards f s more)
+      → Rel Γ p h s v → Where Γ b x f v → (v .regs .c ≡ b → Runs Γ (Where Γ b′ x) 0 p h h s v (more s))
+      → Runs Γ (Where Γ b′ x) 0 p h h s v (onwards f s more)
   goes-on {h = h} normal more r (w-normal e) g = g e
   goes-on {h = h} broke more r (w-broke o e) g = over Γ (le-refl h) r (w-broke o e)
   goes-on {h = h} looped more r (w-looped o e) g = over Γ (le-refl h) r (w-looped o e)
@@ -53,7 +54,8 @@ module _ (Γ : Env) where
 
   -- the same where only a jump to the end follows
   pub to-end : {p h b b′ t : ℕ} {x : Exits} {s : State} {v : Mach} (f : Flow)
-      → Rel Γ p h s v → Where Γ b x f v → (v .regs .c ≡ b → Runs Γ (Where Γ b′ x) t p h h s v (ok normal s)) → Runs Γ (Where Γ b′ x) t p h h s v (ok f s)
+      → Rel Γ p h s v → Where Γ b x f v → (v .regs .c ≡ b → Runs Γ (Where Γ b′ x) t p h h s v (ok normal s))
+      → Runs Γ (Where Γ b′ x) t p h h s v (ok f s)
   to-end normal r (w-normal e) g = g e
   to-end {h = h} broke r (w-broke o e) g = weaken Γ (over Γ (le-refl h) r (w-broke o e)) (omega arith)
   to-end {h = h} looped r (w-looped o e) g = weaken Γ (over Γ (le-refl h) r (w-looped o e)) (omega arith)
@@ -143,33 +145,18 @@ module _ (Γ : Env) where
     pub sim-return : GoalC q R.return
     unfolding executed cmdCode FormedC
     sim-return p h n a b x s v k f pc r =
-        cut-number Γ k λ b₁ i₁ k₁.
-        p-returned (record {
-          h′ = h;
-          v′ = v;
-          sim = record { n = 0; goes = goes-not (Γ .input) v; rel = ticked Γ r; keep = λ y l g. g; frame = λ y l g. refl; time = omega arith };
-          past = b₁;
-          return = rw pc i₁;
-        })
+        cut-number Γ k λ b₁ i₁ k₁. p-returned (record { h′ = h; v′ = v; sim = new-step (ticked Γ r); past = b₁; return = rw pc i₁ })
+      where
+        new-step : Rel Γ p h (step s) v → Sim Γ 0 p h h s v (step s) v
+        new-step r = record { n = 0; goes = goes-not (Γ .input) v; rel = r; keep = λ y l g. g; frame = λ y l g. refl; time = omega arith }
 
     pub sim-finish : GoalC q R.finish
     unfolding executed cmdCode
     sim-finish p h n a b x s v k f pc r =
-        cut-number Γ k λ b₁ i₁ k₁.
-        p-finished (record {
-          v′ = v;
-          n = 0;
-          goes = goes-not (Γ .input) v;
-          past = b₁;
-          finish = rw pc i₁;
-          agree = r .agree;
-          vals = r .vals;
-          bytes = r .bytes;
-          taken = r .taken;
-          time = omega arith;
-        })
+        cut-number Γ k λ b₁ i₁ k₁. p-finished (at-finish Γ {past = b₁} (goes-not (Γ .input) v) (ticked Γ r) (rw pc i₁) (omega arith))
 
-    pub sim-sequence : (cs : Cmds) (n : ℕ) {p h a b : ℕ} {x : Exits} {s : State} {v : Mach} → Code Γ a (cmdsCode (suc (F Γ)) h n x cs) b → FormedB (F Γ) (S Γ) h cs
+    pub sim-sequence : (cs : Cmds) (n : ℕ) {p h a b : ℕ} {x : Exits} {s : State} {v : Mach} → Code Γ a (cmdsCode (suc (F Γ)) h n x cs) b
+        → FormedB (F Γ) (S Γ) h cs
         → v .regs .c ≡ a → Rel Γ p h s v → Runs Γ (Where Γ b x) 0 p h h s v (sequence q cs p h s)
     unfolding sequence cmdsCode FormedB
     sim-sequence R.noCmds n {h = h} k f pc r = over Γ (le-refl h) r (w-normal (pc ∙ at-end Γ k))

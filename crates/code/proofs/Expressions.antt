@@ -21,14 +21,14 @@ use Rattle.language.specs.Operators.{applyMonadic, applyDyadic}
 use Rattle.language.specs.State.{Value, word, State, Result, ok, bind}
 use Rattle.language.specs.Run.{Flow, normal, broke, looped, ended, gave, Sem, evaluated, two, orUndefined, valueOf}
 use Rattle.code.specs.Generate.{exprCode, exprLabels, cmdCode, dyadicAct, monadicAct, inValof}
-use Rattle.code.proofs.Results.{p-undefined, post-read, post-demand, has-none, has-word, has-same}
+use Rattle.code.proofs.Results.{p-undefined, post-read, post-demand, Has, has-none, has-word, has-same}
 use Rattle.code.proofs.Machine.{Mach}
 use Rattle.code.proofs.Standing.{Env, At, Code, cut, cut-number, cut-address, cut-label, at-end}
 use Rattle.code.proofs.Related.{Rel, Runs, then, weaken, paid, over, reaching, raise, sink, like-rel, live-below, gone-holds}
-use Rattle.code.proofs.Steps
 use Rattle.code.proofs.Steps.{step-L, step-LP, step-LG, step-LIP, step-LIG, step-SP, step-AIP, step-X1, step-X2, step-X3, step-dyadic}
 use Rattle.language.proofs.Formed.{FormedE}
 use Rattle.code.proofs.Goals.{F, S, Fits, Valued, Where, w-normal, w-gave, Sims}
+use Rattle.language.proofs.Cases.{clash}
 
 -- ---- the operators: the machine's act does what the source's operator says, by the same function of words
 
@@ -42,11 +42,11 @@ acts-unless : {k : ℕ} (f : ℕ → ℕ → ℕ) (v w : ℕ) → M.actOf k ≡ 
 acts-unless f v w e = record { is = λ y q. (M.unlessZero f, e, go y (eqb w 0) (f v w) q) }
   where
     go : (y : ℕ) (b : Bool) (z : ℕ) → cond b none (some z) ≡ some y → cond b (O.stop 33) (O.ok z) ≡ O.ok y
-    go y true z r = let k : _≡_ {A = ℕ} 0 1 = cc in absurd (omega arith)
+    go y true z r = cc
     go y false z r = cc
 
 acts-none : {k : ℕ} (v w : ℕ) → ActsAs k none v w
-acts-none v w = record { is = λ y q. let k : _≡_ {A = ℕ} 0 1 = cc in absurd (omega arith) }
+acts-none v w = record { is = λ y q. clash (cc) }
 
 acts-cond : {k k′ : ℕ} {x x′ : Option ℕ} {v w : ℕ} (b : Bool) → ActsAs k x v w → ActsAs k′ x′ v w → ActsAs (cond b k k′) (cond b x x′) v w
 acts-cond true f g = f
@@ -79,17 +79,25 @@ module _ (Γ : Env) where
   GoalE q e = (p h n a b : ℕ) (s : State) (v : Mach) → Code Γ a (exprCode (suc (F Γ)) h n e) b → FormedE (F Γ) (S Γ) h e
       → v .regs .c ≡ a → Rel Γ p h s v → Runs Γ (Valued Γ b) 6 p h h s v (E q e p h s)
 
+  -- at the end of the code, with the value in A
+  done : {p h a b : ℕ} {s : State} {v : Mach} {x : Value} → Rel Γ p h s v → v .regs .c ≡ a → Code Γ a [] b → Has x (v .regs .a)
+      → Runs Γ (Valued Γ b) 0 p h h s v (ok x s)
+  done {h = h} r c k has = over Γ (le-refl h) r (record { at = c ∙ at-end Γ k; has = has })
+
   module _ (fits : Fits Γ) (q : Sem) (ih : Sims Γ q) where
     -- a part, paid by its own step
     pub part : (e : Expr) (n : ℕ) {p h a b : ℕ} {s : State} {v : Mach} → Code Γ a (exprCode (suc (F Γ)) h n e) b → FormedE (F Γ) (S Γ) h e
         → v .regs .c ≡ a → Rel Γ p h s v → Runs Γ (Valued Γ b) 0 p h h s v (q .evaluate e p h s)
     part e n k f pc r = paid Γ (ih .evaluate e n k f pc r) (omega arith)
 
+    -- a number, or a label's place
+    loads : {p h a b₁ b k x : ℕ} {s : State} {v : Mach} → At Γ a 0 false I.none k b₁ → Code Γ b₁ [] b → k ≡ x → v .regs .c ≡ a → Rel Γ p h s v
+        → Runs Γ (Valued Γ b) 6 p h h s v (ok (word x) s)
+    loads {h = h} i k e pc r = weaken Γ (step-L Γ (fits .sized) (le-refl h) r pc i λ w r₁ c₁ e₁. done r₁ c₁ k (has-word (e₁ ∙ e))) (omega arith)
+
     pub sim-constant : (x : ℕ) → GoalE q (R.constant x)
     unfolding evaluated exprCode
-    sim-constant x p h n a b s v k f pc r =
-        cut-number Γ k λ b₁ i₁ k₁.
-        weaken Γ (step-L Γ (fits .sized) (le-refl h) r pc i₁ λ w r₁ c₁ e₁. over Γ (le-refl h) r₁ (record { at = c₁ ∙ at-end Γ k₁; has = has-word e₁ })) (omega arith)
+    sim-constant x p h n a b s v k f pc r = cut-number Γ k λ b₁ i₁ k₁. loads i₁ k₁ refl pc r
 
     pub sim-local : (x : ℕ) → GoalE q (R.local x)
     unfolding evaluated exprCode
@@ -98,7 +106,7 @@ module _ (Γ : Env) where
         post-read (s .cells (p + x)) s λ y g.
         let l : p + x < p + h = live-below Γ r (p + x) (λ z. gone-holds z g) in
         weaken Γ (step-LIP Γ (fits .sized) (le-refl h) r pc i₁ (omega (arith, r .room)) λ w r₁ c₁ e₁ _ _.
-        over Γ (le-refl h) r₁ (record { at = c₁ ∙ at-end Γ k₁; has = has-word (e₁ ∙ r .vals (p + x) y g) })) (omega arith)
+        done r₁ c₁ k₁ (has-word (e₁ ∙ r .vals (p + x) y g))) (omega arith)
 
     pub sim-global : (x : ℕ) → GoalE q (R.global x)
     unfolding evaluated exprCode
@@ -107,21 +115,15 @@ module _ (Γ : Env) where
         post-read (s .cells (16 + x)) s λ y g.
         let l : 16 + x < p + h = live-below Γ r (16 + x) (λ z. gone-holds z g) in
         weaken Γ (step-LIG Γ (fits .sized) (le-refl h) r pc i₁ (omega (arith, r .room)) λ w r₁ c₁ e₁.
-        over Γ (le-refl h) r₁ (record { at = c₁ ∙ at-end Γ k₁; has = has-word (e₁ ∙ r .vals (16 + x) y g) })) (omega arith)
+        done r₁ c₁ k₁ (has-word (e₁ ∙ r .vals (16 + x) y g))) (omega arith)
 
     pub sim-function : (x : ℕ) → GoalE q (R.function x)
     unfolding evaluated exprCode FormedE
-    sim-function x p h n a b s v k f pc r =
-        cut-address Γ k λ b₁ _ i₁ k₁.
-        weaken Γ (step-L Γ (fits .sized) (le-refl h) r pc i₁ λ w r₁ c₁ e₁.
-        over Γ (le-refl h) r₁ (record { at = c₁ ∙ at-end Γ k₁; has = has-word (e₁ ∙ fits .functions x f) })) (omega arith)
+    sim-function x p h n a b s v k f pc r = cut-address Γ k λ b₁ _ i₁ k₁. loads i₁ k₁ (fits .functions x f) pc r
 
     pub sim-string : (x : ℕ) → GoalE q (R.string x)
     unfolding evaluated exprCode FormedE
-    sim-string x p h n a b s v k f pc r =
-        cut-address Γ k λ b₁ _ i₁ k₁.
-        weaken Γ (step-L Γ (fits .sized) (le-refl h) r pc i₁ λ w r₁ c₁ e₁.
-        over Γ (le-refl h) r₁ (record { at = c₁ ∙ at-end Γ k₁; has = has-word (e₁ ∙ fits .strings x f) })) (omega arith)
+    sim-string x p h n a b s v k f pc r = cut-address Γ k λ b₁ _ i₁ k₁. loads i₁ k₁ (fits .strings x f) pc r
 
     pub sim-addressOfLocal : (x : ℕ) → GoalE q (R.addressOfLocal x)
     unfolding evaluated exprCode FormedE
@@ -129,15 +131,14 @@ module _ (Γ : Env) where
         cut-number Γ k λ b₁ i₁ k₁.
         let l : x < h = f in
         weaken Γ (step-LP Γ (fits .sized) (le-refl h) r pc i₁ (omega (arith, r .room, fits .sized .slack, fits .sized .most)) λ w r₁ c₁ e₁.
-        over Γ (le-refl h) r₁ (record { at = c₁ ∙ at-end Γ k₁; has = has-word e₁ })) (omega arith)
+        done r₁ c₁ k₁ (has-word e₁)) (omega arith)
 
     pub sim-addressOfGlobal : (x : ℕ) → GoalE q (R.addressOfGlobal x)
     unfolding evaluated exprCode FormedE
     sim-addressOfGlobal x p h n a b s v k f pc r =
         cut-number Γ k λ b₁ i₁ k₁.
         let l : x < 400 = f in
-        weaken Γ (step-LG Γ (fits .sized) (le-refl h) r pc i₁ (omega arith) λ w r₁ c₁ e₁.
-        over Γ (le-refl h) r₁ (record { at = c₁ ∙ at-end Γ k₁; has = has-word e₁ })) (omega arith)
+        weaken Γ (step-LG Γ (fits .sized) (le-refl h) r pc i₁ (omega arith) λ w r₁ c₁ e₁. done r₁ c₁ k₁ (has-word e₁)) (omega arith)
 
     pub sim-addressOfContents : (e : Expr) → GoalE q (R.addressOfContents e)
     unfolding evaluated exprCode FormedE
@@ -152,12 +153,12 @@ module _ (Γ : Env) where
         cut-number Γ k₂ λ b₂ i₂ k₃.
         weaken Γ (then Γ (le-refl h) (part e n k₁ f pc r) λ x s₁ v₁ x₁ y₁.
         post-demand (y₁ .has) λ w a₁. post-read (s₁ .cells w) s₁ λ y g.
-        step-X1 Γ (fits .sized) (le-refl h) (x₁ .rel) (y₁ .at) i₂ a₁ g λ v₂ r₂ c₂ a₂.
-        over Γ (le-refl h) r₂ (record { at = c₂ ∙ at-end Γ k₃; has = has-word a₂ })) (omega arith)
+        step-X1 Γ (fits .sized) (le-refl h) (x₁ .rel) (y₁ .at) i₂ a₁ g λ v₂ r₂ c₂ a₂. done r₂ c₂ k₃ (has-word a₂)) (omega arith)
 
     -- two operands: the left one waits in the word of the height, the right one is in A
-    pub sim-two : (d e : Expr) (n : ℕ) {Q : Value → Mach → Type 0} {t p h c₀ c₁ c₂ c₃ : ℕ} {s : State} {v : Mach} (more : ℕ → ℕ → State → Result Value)
-        → Code Γ c₀ (exprCode (suc (F Γ)) h n d) c₁ → At Γ c₁ 1 false P h c₂ → Code Γ c₂ (exprCode (suc (F Γ)) (h + 1) (n + exprLabels d) e) c₃
+    pub sim-two : (d e : Expr) (n : ℕ) {Q : Value → Mach → Type 0} {t p h c₀ c₁ c₂ c₃ : ℕ} {s : State} {v : Mach}
+        (more : ℕ → ℕ → State → Result Value) → Code Γ c₀ (exprCode (suc (F Γ)) h n d) c₁ → At Γ c₁ 1 false P h c₂
+        → Code Γ c₂ (exprCode (suc (F Γ)) (h + 1) (n + exprLabels d) e) c₃
         → FormedE (F Γ) (S Γ) h d × FormedE (F Γ) (S Γ) (h + 1) e → v .regs .c ≡ c₀ → Rel Γ p h s v
         → ((x y : ℕ) (u : State) (w : Mach) → Rel Γ p h u w → w .regs .c ≡ c₃ → getD (w .mem) (p + h) 0 ≡ x → w .regs .a ≡ y → p + (h + 1) ≤ Γ .limit
         → Runs Γ Q t p h h u w (more x y u))
@@ -170,8 +171,7 @@ module _ (Γ : Env) where
         let up : h ≤ h + 1 = omega arith in
         then Γ up (part e (n + exprLabels d) k₃ (f .1) c₂ (raise Γ r₂ up l)) λ y s₃ v₃ x₃ y₃.
         let kept : getD (v₃ .mem) (p + h) 0 ≡ v₁ .regs .a = x₃ .frame (p + h) (omega arith) (r₁ .above (p + h) (omega arith)) ∙ g₂ in
-        post-demand (has-same (y₁ .has) kept) λ m em. post-demand (y₃ .has) λ w ew.
-        g m w s₃ v₃ (sink Γ r₂ up x₃) (y₃ .at) em ew l) (omega arith)
+        post-demand (has-same (y₁ .has) kept) λ m em. post-demand (y₃ .has) λ w ew. g m w s₃ v₃ (sink Γ r₂ up x₃) (y₃ .at) em ew l) (omega arith)
 
     pub sim-addressOfIndex : (d e : Expr) → GoalE q (R.addressOfIndex d e)
     unfolding evaluated exprCode FormedE
@@ -182,7 +182,7 @@ module _ (Γ : Env) where
         cut-number Γ k₅ λ b₆ i₆ k₆.
         weaken Γ (sim-two d e n _ k₁ i₂ k₄ f pc r λ x y u w r₁ c₁ m₁ a₁ l.
         step-AIP Γ (fits .sized) (le-refl h) r₁ c₁ i₆ (omega arith) λ v₂ r₂ c₂ a₂ _.
-        over Γ (le-refl h) r₂ (record { at = c₂ ∙ at-end Γ k₆; has = has-word (omega (arith, a₂, a₁, m₁)) })) (omega arith)
+        done r₂ c₂ k₆ (has-word (omega (arith, a₂, a₁, m₁)))) (omega arith)
 
     pub sim-index : (d e : Expr) → GoalE q (R.index d e)
     unfolding evaluated exprCode FormedE
@@ -196,8 +196,7 @@ module _ (Γ : Env) where
         post-read (u .cells (add x y)) u λ z g.
         step-AIP Γ (fits .sized) (le-refl h) r₁ c₁ i₆ (omega arith) λ v₂ r₂ c₂ a₂ _.
         let sum : v₂ .regs .a ≡ add x y = omega (arith, a₂, a₁, m₁) in
-        step-X1 Γ (fits .sized) (le-refl h) r₂ c₂ i₇ sum g λ v₃ r₃ c₃ a₃.
-        over Γ (le-refl h) r₃ (record { at = c₃ ∙ at-end Γ k₇; has = has-word a₃ })) (omega arith)
+        step-X1 Γ (fits .sized) (le-refl h) r₂ c₂ i₇ sum g λ v₃ r₃ c₃ a₃. done r₃ c₃ k₇ (has-word a₃)) (omega arith)
 
     pub sim-binary : (o : ℕ) (d e : Expr) → GoalE q (R.binary o d e)
     unfolding evaluated exprCode FormedE
@@ -212,8 +211,10 @@ module _ (Γ : Env) where
         weaken Γ (sim-two d e n _ k₁ i₂ k₄ f pc r λ x y u w r₁ c₁ m₁ a₁ l.
         finish x y u w (applyDyadic o x y) refl r₁ c₁ m₁ a₁ l i₆ i₇ i₈ i₉ (at-end Γ k₉)) (omega arith)
       where
-        finish : (x y : ℕ) (u : State) (w : Mach) (z : Option ℕ) → applyDyadic o x y ≡ z → Rel Γ p h u w → {b₃ b₆ b₇ b₈ b₉ : ℕ} → w .regs .c ≡ b₃ → getD (w .mem) (p + h) 0 ≡ x → w .regs .a ≡ y
-            → p + (h + 1) ≤ Γ .limit → At Γ b₃ 1 false P (h + 1) b₆ → At Γ b₆ 0 true P h b₇ → At Γ b₇ 0 true P (h + 1) b₈ → At Γ b₈ 7 false I.none (dyadicAct o) b₉ → b₉ ≡ b
+        finish : (x y : ℕ) (u : State) (w : Mach) (z : Option ℕ) → applyDyadic o x y ≡ z → Rel Γ p h u w → {b₃ b₆ b₇ b₈ b₉ : ℕ} → w .regs .c ≡ b₃
+            → getD (w .mem) (p + h) 0 ≡ x → w .regs .a ≡ y
+            → p + (h + 1) ≤ Γ .limit → At Γ b₃ 1 false P (h + 1) b₆ → At Γ b₆ 0 true P h b₇ → At Γ b₇ 0 true P (h + 1) b₈
+            → At Γ b₈ 7 false I.none (dyadicAct o) b₉ → b₉ ≡ b
             → Runs Γ (Valued Γ b) 4 p h h u w (orUndefined z u)
         finish x y u w none t r₁ c₁ m₁ a₁ l i₆ i₇ i₈ i₉ z = p-undefined
         finish x y u w (some s′) t r₁ c₁ m₁ a₁ l i₆ i₇ i₈ i₉ z =
@@ -233,17 +234,18 @@ module _ (Γ : Env) where
         weaken Γ (then Γ (le-refl h) (part e n k₁ f pc r) λ x s₁ v₁ x₁ y₁.
         post-demand (y₁ .has) λ w a₁. finish w s₁ v₁ (eqb o MINUS) refl (eqb o NOT) refl (x₁ .rel) (y₁ .at) a₁ k₂) (omega arith)
       where
-        finish : (w : ℕ) (u : State) (v₁ : Mach) (m : Bool) → eqb o MINUS ≡ m → (t : Bool) → eqb o NOT ≡ t → Rel Γ p h u v₁ → {b₁ : ℕ} → v₁ .regs .c ≡ b₁ → v₁ .regs .a ≡ w
+        finish : (w : ℕ) (u : State) (v₁ : Mach) (m : Bool) → eqb o MINUS ≡ m → (t : Bool) → eqb o NOT ≡ t → Rel Γ p h u v₁ → {b₁ : ℕ}
+            → v₁ .regs .c ≡ b₁ → v₁ .regs .a ≡ w
             → Code Γ b₁ (monadicAct o) b → Runs Γ (Valued Γ b) 1 p h h u v₁ (ok (word (applyMonadic o w)) u)
         finish w u v₁ true m t t′ r₁ c₁ a₁ k₂ =
             cut-number Γ (rw m at k₂) λ b₃ i₃ k₃.
-            rw m (step-X2 Γ (fits .sized) (le-refl h) r₁ c₁ i₃ λ v₂ r₂ c₂ a₂. over Γ (le-refl h) r₂ (record { at = c₂ ∙ at-end Γ k₃; has = has-word (a₂ ∙ ap neg a₁) }))
+            rw m (step-X2 Γ (fits .sized) (le-refl h) r₁ c₁ i₃ λ v₂ r₂ c₂ a₂. done r₂ c₂ k₃ (has-word (a₂ ∙ ap neg a₁)))
         finish w u v₁ false m true t′ r₁ c₁ a₁ k₂ =
             cut-number Γ (rw (m, t′) at k₂) λ b₃ i₃ k₃.
-            rw (m, t′) (step-X3 Γ (fits .sized) (le-refl h) r₁ c₁ i₃ λ v₂ r₂ c₂ a₂. over Γ (le-refl h) r₂ (record { at = c₂ ∙ at-end Γ k₃; has = has-word (a₂ ∙ ap complement a₁) }))
+            rw (m, t′) (step-X3 Γ (fits .sized) (le-refl h) r₁ c₁ i₃ λ v₂ r₂ c₂ a₂. done r₂ c₂ k₃ (has-word (a₂ ∙ ap complement a₁)))
         finish w u v₁ false m false t′ r₁ c₁ a₁ k₂ =
             let k₃ : Code Γ _ [] b = rw (m, t′) at k₂ in
-            rw (m, t′) (weaken Γ (over Γ (le-refl h) r₁ (record { at = c₁ ∙ at-end Γ k₃; has = has-word a₁ })) (omega arith))
+            rw (m, t′) (weaken Γ (done r₁ c₁ k₃ (has-word a₁)) (omega arith))
 
     -- what VALOF makes of its command's end
     valof-end : {p h b n a : ℕ} {s : State} {v : Mach} (w : Flow) → Rel Γ p h s v → Where Γ a (inValof n) w v → Γ .lab n ≡ a → a ≡ b
@@ -259,5 +261,4 @@ module _ (Γ : Env) where
     sim-valof c p h n a b s v k f pc r =
         cut Γ (cmdCode (suc (F Γ)) h (n + 1) (inValof n) c) _ k λ b₁ k₁ k₂.
         cut-label Γ k₂ λ e₂ k₃.
-        weaken Γ (then Γ (le-refl h) (ih .run c (n + 1) k₁ f pc r) λ w s₁ v₁ x₁ y₁.
-        valof-end w (x₁ .rel) y₁ e₂ (at-end Γ k₃)) (omega arith)
+        weaken Γ (then Γ (le-refl h) (ih .run c (n + 1) k₁ f pc r) λ w s₁ v₁ x₁ y₁. valof-end w (x₁ .rel) y₁ e₂ (at-end Γ k₃)) (omega arith)

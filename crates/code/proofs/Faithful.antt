@@ -1,20 +1,17 @@
 -- Demand 3 for the compiler's text, where its items can be read back and its functions are formed.
-use Prim.Native.Nat.{ℕ, suc, _+_, _≤_, _<_}
+use Prim.Native.Nat.{ℕ, suc, _+_, _≤_}
 use mathlib.Core.Path.{_≡_, refl}
 use mathlib.Core.List.{List}
 use native.Mathlib.Omega.{arith}
-use lib.ListN.{length, getD}
-use Rattle.items.proofs.Rendered.{AllSound}
+use lib.ListN.{length}
 use Rattle.assembler.specs.Assemble.{assembled}
 use Rattle.assembler.specs.declared.Assembled.the-variants.{Accepted}
 use Rattle.assembler.specs.declared.Label.{Label}
 use Rattle.language.specs.State.{State}
-use Rattle.language.specs.Run.{noFun}
 use Rattle.language.specs.Whole.{functionsIn, stringsIn, SourceRunEnds}
 use Rattle.machine.specs.Run.{run}
 use Rattle.code.specs.Faithful.{placementOf, Follows, Faithful}
-use Rattle.code.specs.Generate.{itemsOf, textOf}
-use Rattle.language.proofs.Formed.{FormedF}
+use Rattle.code.specs.Generate.{textOf}
 use Rattle.code.proofs.Program.{Built, built, addresses-length}
 use Rattle.code.proofs.Start.{Γ, finishes}
 use Rattle.code.proofs.Good.{Good}
@@ -24,7 +21,9 @@ use Rattle.language.proofs.Held.{ended-globals, ended-strings}
 use Rattle.language.specs.Resolved.{Fun}
 
 module _ (source : List ℕ) (good : Good source) (memory room first : ℕ) (accepted : assembled (textOf source) memory room .answer ≡ Accepted first)
-    (input : List ℕ) (s : State) (runs : SourceRunEnds source (placementOf source (assembled (textOf source) memory room .table) first) memory input s) (below : s .used + 8 ≤ memory) where
+    (input : List ℕ) (s : State)
+    (runs : SourceRunEnds source (placementOf source (assembled (textOf source) memory room .table) first) memory input s)
+    (below : s .used + 8 ≤ memory) where
   image : List ℕ
   image = assembled (textOf source) memory room .memory
 
@@ -44,9 +43,10 @@ module _ (source : List ℕ) (good : Good source) (memory room first : ℕ) (acc
       record {
         globals = λ n l. ended-globals fs ss _ memory input (runs .fuel) s (runs .over) n l (omega (arith, stands .past-start));
         constants = λ k i l m.
-            let above = W.string-above fs ss memory room first image table stands k l in
-            let below = W.string-below fs ss memory room first image table stands k l in
-            ended-strings fs ss _ memory input (runs .fuel) s (runs .over) k i l (addresses-length table (suc (length fs)) (length ss)) m (omega arith) (omega arith);
+            let above = W.string-above stands k l in
+            let below = W.string-below stands k l in
+            ended-strings fs ss _ memory input (runs .fuel) s (runs .over) k i l (addresses-length table (suc (length fs)) (length ss)) m
+            (omega arith) (omega arith);
       }
 
   owed : (output : List ℕ) (budget : ℕ)
@@ -54,9 +54,8 @@ module _ (source : List ℕ) (good : Good source) (memory room first : ℕ) (acc
       (run first (assembled (textOf source) memory room .memory) input output budget)
   unfolding image table
   owed output budget =
-      follows (Γ (functionsIn source) (stringsIn source) memory room first image table input stands) (stringsIn source)
-      (omega (arith, stands .fills, stands .least)) (omega (arith, stands .fills, stands .most)) _ s refl
-      (finishes (functionsIn source) (stringsIn source) memory room first image table input stands (good .formed) (runs .fuel) s (runs .over) below) holding output budget
+      follows (Γ input stands) (stringsIn source) (omega (arith, stands .fills, stands .least)) (omega (arith, stands .fills, stands .most)) _ s refl
+      (finishes input stands (good .formed) (runs .fuel) s (runs .over) below) holding output budget
 
 pub faithful : (source : List ℕ) → Good source → Faithful source (textOf source)
-faithful source good = record { follows = λ memory room first accepted input s runs below output budget. owed source good memory room first accepted input s runs below output budget }
+faithful source good = record { follows = owed source good }

@@ -21,8 +21,7 @@ use Rattle.language.proofs.Formed.{FormedE, FormedC, FormedF}
 -- a FOR's code from its test on, with labels n, n + 1 and n + 2, and its body's from n′
 abbrev pub forCode : (strings h n n′ : ℕ) → Exits → (by : ℕ) → Cmd → List Item
 forCode strings h n n′ x by c =
-    label n ∷ LIP h ∷ LIP (h + 1) ∷ X (limitAct by) ∷ FL (n + 2)
-    ∷ cmdCode strings (h + 2) n′ (inLoop (n + 1) (n + 2) x) c
+    label n ∷ LIP h ∷ LIP (h + 1) ∷ X (limitAct by) ∷ FL (n + 2) ∷ cmdCode strings (h + 2) n′ (inLoop (n + 1) (n + 2) x) c
     ++ (label (n + 1) ∷ LIP h ∷ A by ∷ SP h ∷ JL n ∷ label (n + 2) ∷ [])
 
 module _ (Γ : Env) where
@@ -62,7 +61,8 @@ module _ (Γ : Env) where
 
   -- where a loop stands before a turn
   pub data Turning (x : Exits) (p h a b : ℕ) (s : State) (v : Mach) : Loop → Type 0 where
-    at-while : (n : ℕ) {sense : Bool} {e : Expr} {c : Cmd} → Code Γ a (cmdCode (suc F) h n x (R.while sense e c)) b → FormedC F S h (R.while sense e c)
+    at-while : (n : ℕ) {sense : Bool} {e : Expr} {c : Cmd} → Code Γ a (cmdCode (suc F) h n x (R.while sense e c)) b
+        → FormedC F S h (R.while sense e c)
         → Turning x p h a b s v (whiling sense e c)
     at-repeat : (n : ℕ) {c : Cmd} → Code Γ a (cmdCode (suc F) h n x (R.repeat c)) b → FormedC F S h (R.repeat c) → Turning x p h a b s v (repeating c)
     at-repeatWhile : (n : ℕ) {sense : Bool} {e : Expr} {c : Cmd} → Code Γ a (cmdCode (suc F) h n x (R.repeatWhile sense c e)) b

@@ -12,4 +12,5 @@ use Rattle.code.specs.Generate.{itemsOf}
 pub record Good (source : List ℕ) : Type 0 where
   pub sound : AllSound (itemsOf (functionsIn source) (stringsIn source))
   pub formed : (k : ℕ) → k < length (functionsIn source)
-      → FormedF (length (functionsIn source)) (length (stringsIn source)) (2 + getD (functionsIn source) k noFun .parameters) (getD (functionsIn source) k noFun .body)
+      → FormedF (length (functionsIn source)) (length (stringsIn source)) (2 + getD (functionsIn source) k noFun .parameters)
+      (getD (functionsIn source) k noFun .body)

@@ -5,37 +5,36 @@ use mathlib.Core.Bool.{Bool, true, false, cond}
 use mathlib.Core.List.{List, [], _∷_, _++_}
 use native.Mathlib.Omega.{arith}
 use lib.Dec.{ltb}
-use lib.ListN.{length, length-append}
+use lib.ListN.{length}
 use borrow.Author.Tests.{ltb-true, ltb-false}
 use Rattle.items.specs.Item as I
 use Rattle.language.specs.Tree as T
-use Rattle.language.specs.Tree.{Function, Declaration, Program}
-use Rattle.language.specs.Names.{Scope, lookup}
 use Rattle.language.specs.Resolved as R
 use Rattle.language.specs.Resolved.{Body, Fun, Start, nowhere, inGlobal}
 use Rattle.language.specs.Constants.{fault}
 use Rattle.language.specs.Heights.{ofBody, heightsOf, greatest, largestHeight}
-use Rattle.language.specs.Program.{bodyOf, inside, resolved, startOf, withFunction, functionsAfter, Walk, afterDeclaration, begin, Named, groupOf, declarationFunctions, functionsFrom, functionsOf, heightFaults, accepted}
+use Rattle.language.specs.Program.{begin, Named, functionsOf, heightFaults, accepted}
 use Rattle.language.specs.Whole.{refusalOf, funs, stringsIn}
 use Rattle.assembler.specs.Assemble.{assembled}
 use Rattle.assembler.specs.declared.Assembled.the-variants.{Accepted}
 use Rattle.code.specs.Faithful.{placementOf, Faithful}
 use Rattle.code.specs.Placed.{WellPlaced}
 use Rattle.code.specs.Generate.{bodyLabels, bodyCode, functionsCode, stringsCode, startsCode, startIn, itemsOf, textOf, nowhereElse}
-use Rattle.language.specs.Fine.{FineBody, FineFunctions, FineDeclaration, FineProgram}
-use Rattle.language.proofs.Tokens.{bodyTokens, functionsTokens, declarationTokens, programTokens}
+use Rattle.language.proofs.Tokens.{programTokens}
 use Rattle.language.proofs.SymbolFacts.{strings-now}
 use Rattle.language.proofs.Formed.{FormedF}
 use Rattle.language.proofs.Leaving.{LeavesF}
-use Rattle.language.proofs.Forming.{AllFormed, FormedStart, length-funs, program-formed, group-length as group-length-of}
-use Rattle.code.proofs.LabelBounds.{count-e, count-c}
+use Rattle.language.proofs.Forming.{AllFormed, FormedStart, length-funs, program-formed}
 use Rattle.code.proofs.Sounding.{Span, span, Sounds, s-none, s-more, all-sound, sounds-both, Low, near-none, sound-e, sound-c}
 use Rattle.language.proofs.Widths.{covered}
 use Rattle.code.proofs.StringFacts.{strings-now-sound}
 use Rattle.language.proofs.Accepted.{Facts, facts, formed}
+use Rattle.code.proofs.Bounds.{innerLabels, few-program}
+use Rattle.code.proofs.Measures.{funLabels}
 use Rattle.code.proofs.Good.{Good}
 use Rattle.code.proofs.Faithful.{faithful}
 use Rattle.code.proofs.WellPlaced.{well-placed}
+use Rattle.language.proofs.Cases.{clash}
 
 -- ---- heights
 
@@ -56,66 +55,23 @@ first-low : (n : Named) (ns : List Named) → heightFaults (n ∷ ns) ≡ [] →
 unfolding heightFaults
 first-low n ns h = go (ltb 8192 (largestHeight (n .fun))) refl h
   where
-    go : (b : Bool) → ltb 8192 (largestHeight (n .fun)) ≡ b → cond b (fault (n .name .place) 16) [] ++ heightFaults ns ≡ [] → (largestHeight (n .fun) ≤ 8192) × (heightFaults ns ≡ [])
-    go true e q = let z : _≡_ {A = ℕ} 0 1 = cc in absurd (omega arith)
+    go : (b : Bool) → ltb 8192 (largestHeight (n .fun)) ≡ b → cond b (fault (n .name .place) 16) [] ++ heightFaults ns ≡ []
+        → (largestHeight (n .fun) ≤ 8192) × (heightFaults ns ≡ [])
+    go true e q = clash (cc)
     go false e q = (ltb-false 8192 (largestHeight (n .fun)) e, q)
-
--- ---- labels
-
-unfoldable pub innerLabels : List Named → ℕ
-innerLabels [] = 0
-innerLabels (n ∷ ns) = bodyLabels (n .fun .body) + innerLabels ns
-
-inner-both : (xs ys : List Named) → innerLabels (xs ++ ys) ≡ innerLabels xs + innerLabels ys
-unfolding innerLabels
-inner-both [] ys = omega arith
-inner-both (x ∷ xs) ys = omega (arith, inner-both xs ys)
-
-module _ (strings : ℕ) (text : List ℕ) where
-  body-labels : (s : Scope) (h : ℕ) (b : T.Body) → FineBody strings b → bodyLabels (bodyOf text s h b) + 1 ≤ bodyTokens 3 b
-  unfolding bodyLabels
-  body-labels s h (T.value e) f = count-e strings text s h e f
-  body-labels s h (T.routine c) f = count-c strings text s h c f
-
-  -- a function takes four symbols more than its parameters and body: so there are four labels to spare
-  group-labels : (k : ℕ) (before s : Scope) (fs : List Function) → FineFunctions strings fs → innerLabels (groupOf text k before s fs) + 4 * length fs ≤ functionsTokens 3 fs
-  unfolding groupOf resolved innerLabels functionsTokens FineFunctions
-  group-labels k before s [] f = omega arith
-  group-labels k before s (x ∷ fs) f =
-      omega (arith, body-labels (inside s x) (2 + length (x .parameters)) (x .body) (f .0 .body), group-labels (k + 1) (withFunction before (x .name) k (startOf (lookup text before (x .name)))) s fs (f .1))
-
-  declaration-labels : (w : Walk) (d : Declaration) → FineDeclaration strings d → innerLabels (declarationFunctions text w d) + 4 * length (declarationFunctions text w d) ≤ declarationTokens 3 d
-  unfolding innerLabels
-  declaration-labels w (T.globals is) f = omega arith
-  declaration-labels w (T.manifests is) f = omega arith
-  declaration-labels w (T.functions fs) f =
-      omega (arith, group-labels (w .functions) (w .scope) (functionsAfter text (w .functions) (w .scope) fs) fs f, group-length (w .functions) (w .scope) (functionsAfter text (w .functions) (w .scope) fs) fs)
-    where
-      group-length : (k : ℕ) (before s : Scope) (fs : List Function) → length (groupOf text k before s fs) ≡ length fs
-      group-length k before s fs = group-length-of 0 strings text k before s fs
-
-  program-labels : (w : Walk) (p : Program) → FineProgram strings p → innerLabels (functionsFrom text w p) + 4 * length (functionsFrom text w p) ≤ programTokens 3 p
-  unfolding functionsFrom FineProgram programTokens innerLabels
-  program-labels w [] f = omega arith
-  program-labels w (d ∷ ds) f =
-      omega (
-        arith,
-        declaration-labels w d (f .0),
-        program-labels (afterDeclaration text w d) ds (f .1),
-        inner-both (declarationFunctions text w d) (functionsFrom text (afterDeclaration text w d) ds),
-        length-append (declarationFunctions text w d) (functionsFrom text (afterDeclaration text w d) ds),
-      )
 
 -- ---- items
 
 module _ (T functions strings : ℕ) (few : suc functions + strings ≤ T) where
-  body-sound : (h n : ℕ) (b : Body) → h ≤ 8192 → Span T n (bodyLabels b) → FormedF functions strings h b → Low (ofBody h b) → LeavesF b → Sounds T (bodyCode (suc functions) h n b)
+  body-sound : (h n : ℕ) (b : Body) → h ≤ 8192 → Span T n (bodyLabels b) → FormedF functions strings h b → Low (ofBody h b) → LeavesF b
+      → Sounds T (bodyCode (suc functions) h n b)
   unfolding bodyCode bodyLabels
   body-sound h n (R.expression e) l m f w y = sound-e T functions strings few h n e l m f w y
   body-sound h n (R.routine c) l m f w y = sound-c T functions strings few h n nowhereElse c l m near-none f w y
 
-  functions-sound : (l n : ℕ) (ns : List Named) → Span T l (length ns) → Span T n (innerLabels ns) → AllFormed functions strings ns → heightFaults ns ≡ [] → Sounds T (functionsCode (suc functions) l n (funs ns))
-  unfolding functionsCode funs innerLabels AllFormed
+  functions-sound : (l n : ℕ) (ns : List Named) → Span T l (length ns) → Span T n (innerLabels ns) → AllFormed functions strings ns
+      → heightFaults ns ≡ [] → Sounds T (functionsCode (suc functions) l n (funs ns))
+  unfolding functionsCode funs funLabels AllFormed
   functions-sound l n [] a b f h = s-none
   functions-sound l n (x ∷ ns) a b f h =
       let p = first-low x ns h in
@@ -123,7 +79,8 @@ module _ (T functions strings : ℕ) (few : suc functions + strings ≤ T) where
       s-more {x = I.label l} (record { first = a .one; last = omega (arith, a .room) })
       (sounds-both (body-sound (2 + x .fun .parameters) n (x .fun .body) (q .0) (span (b .one) (omega (arith, b .room))) (f .0) (q .1) (f .3))
       (s-more {x = I.instruction 7 false I.none (I.number false 4)} (record { eight = omega arith; right = omega arith })
-      (functions-sound (suc l) (n + bodyLabels (x .fun .body)) ns (span (omega arith) (omega (arith, a .room))) (span (omega (arith, b .one)) (omega (arith, b .room))) (f .1) (p .1))))
+      (functions-sound (suc l) (n + bodyLabels (x .fun .body)) ns (span (omega arith) (omega (arith, a .room)))
+      (span (omega (arith, b .one)) (omega (arith, b .room))) (f .1) (p .1))))
 
   starts-sound : (l : ℕ) (ns : List Named) → Span T l (length ns) → AllFormed functions strings ns → Sounds T (startsCode l (funs ns))
   unfolding startsCode funs AllFormed
@@ -149,7 +106,7 @@ module _ (source : List ℕ) (x : Facts source) where
 
   pub labels-few : innerLabels ns + 4 * length ns ≤ programTokens 3 (x .tree)
   unfolding ns functionsOf
-  labels-few = program-labels S source begin (x .tree) (x .fine)
+  labels-few = few-program S source begin (x .tree) (x .fine) .0
 
   -- a label a byte
   pub few-in-all : total ≤ suc (length source)
@@ -170,8 +127,10 @@ module _ (source : List ℕ) (x : Facts source) where
   unfolding itemsOf
   items-sound =
       let e : length (funs ns) ≡ length ns = length-funs ns in
-      sounds-both (functions-sound total (length (funs ns)) S (omega arith) 1 (suc (length (funs ns)) + S) ns (span (omega arith) (omega arith)) (span (omega arith) (omega arith)) all-formed no-heights)
-      (sounds-both (strings-sounds (span (omega arith) (omega arith))) (starts-sound total (length (funs ns)) S (omega arith) 1 ns (span (omega arith) (omega arith)) all-formed))
+      sounds-both (functions-sound total (length (funs ns)) S (omega arith) 1 (suc (length (funs ns)) + S) ns (span (omega arith) (omega arith))
+      (span (omega arith) (omega arith)) all-formed no-heights)
+      (sounds-both (strings-sounds (span (omega arith) (omega arith)))
+      (starts-sound total (length (funs ns)) S (omega arith) 1 ns (span (omega arith) (omega arith)) all-formed))
     where
       strings-sounds : Span total (suc (length (funs ns))) S → Sounds total (stringsCode (suc (length (funs ns))) (stringsIn source))
       strings-sounds k = rw (x .strings) (strings-now-sound source (suc (length (funs ns))) (rw (x .strings) at k))
@@ -185,6 +144,8 @@ pub compiled-faithful : (source : List ℕ) (scratch : ℕ) → refusalOf source
 compiled-faithful source scratch h = faithful source (good source (facts source scratch h))
 
 -- and the placement rules, wherever its text is assembled
-pub compiled-placed : (source : List ℕ) (scratch : ℕ) → refusalOf source scratch ≡ accepted → (memory room first : ℕ) → (h : assembled (textOf source) memory room .answer ≡ Accepted first)
-    → WellPlaced source (placementOf source (assembled (textOf source) memory room .table) first) (assembled (textOf source) memory room .table) (assembled (textOf source) memory room .memory)
+pub compiled-placed : (source : List ℕ) (scratch : ℕ) → refusalOf source scratch ≡ accepted → (memory room first : ℕ)
+    → (h : assembled (textOf source) memory room .answer ≡ Accepted first)
+    → WellPlaced source (placementOf source (assembled (textOf source) memory room .table) first) (assembled (textOf source) memory room .table)
+    (assembled (textOf source) memory room .memory)
 compiled-placed source scratch a memory room first h = well-placed source (good source (facts source scratch a)) memory room first h

@@ -10,25 +10,24 @@ use lib.ListN.{length, length-append}
 use borrow.Author.Tests.{lt-ltb}
 use Rattle.items.specs.Item as I
 use Rattle.items.specs.Item.{Operand, number, address, Base, Item, label, instruction, constant}
-use Rattle.items.specs.Render.{numeral, numeralOf, operandText, baseText, indirectText, plainText, characterText, charactersText, render, renderLines, renderAll}
+use Rattle.items.specs.Render.{numeral, numeralOf, operandText, baseText, indirectText, plainText, characterText, charactersText, render, renderLines}
+use Rattle.items.specs.Render.{renderAll}
 use Rattle.items.proofs.Sound.{Sound, SoundOperand}
 use Rattle.items.proofs.Rendered.{AllSound}
-use Rattle.language.specs.Resolved.{Fun, Start, nowhere, inGlobal}
+use Rattle.language.specs.Resolved.{Fun}
 use Rattle.language.specs.Program.{accepted}
 use Rattle.language.specs.Whole.{refusalOf, functionsIn, stringsIn}
 use Rattle.code.specs.Placed.{stringWords}
-use Rattle.code.specs.Generate.{functionsCode, stringsCode, startsCode, startIn, itemsOf, textOf}
+use Rattle.code.specs.Generate.{itemsOf, textOf}
 use Rattle.text.proofs.Packed.{length-pairs}
-use Rattle.code.proofs.Plain.{Plain, none, l, i, d, plain-functions}
 use Rattle.language.proofs.SymbolFacts.{same-now, scan-length}
 use Rattle.language.proofs.Widths.{stringBytes, string-bytes, covered}
-use Rattle.code.proofs.Marks.{marks}
-use Rattle.code.proofs.WordCounts.{most, weigh}
+use Rattle.code.proofs.Measures.{one, sum, textSum, sum-items, marks, most, weigh}
 use Rattle.code.proofs.Sizes.{items-words}
 use Rattle.language.proofs.Accepted.{Facts, facts}
 use Rattle.code.proofs.GoodSource.{ns, few-in-all, labels-few, good}
 use Rattle.language.proofs.Forming.{length-funs}
-use Rattle.code.proofs.Refusals.{number-of, count-up, items-count}
+use Rattle.code.proofs.Refusals.{number-of, items-count}
 
 -- ---- numbers are at most five digits
 
@@ -49,7 +48,8 @@ more-digits m c f (suc k) n h = go (ltb n 10)
 five-digits : (n : ℕ) → n ≤ 65536 → length (numeralOf n) ≤ 5
 unfolding numeralOf
 five-digits n h =
-    more-digits 10000 4 (λ k m j. more-digits 1000 3 (λ k m j. more-digits 100 2 (λ k m j. more-digits 10 1 one-digit k m (omega arith)) k m (omega arith)) k m (omega arith)) (suc n) n (omega arith)
+    more-digits 10000 4 (λ k m j. more-digits 1000 3 (λ k m j.
+    more-digits 100 2 (λ k m j. more-digits 10 1 one-digit k m (omega arith)) k m (omega arith)) k m (omega arith)) (suc n) n (omega arith)
 
 operand-short : (x : Operand) → SoundOperand x → length (operandText x) ≤ 6
 unfolding operandText
@@ -94,88 +94,41 @@ characters-short (c ∷ cs) = omega (arith, length-append (characterText c) (cha
 -- ---- lines
 
 -- what strings and starts take beside
+abbrev aside : List ℕ → ℕ
+aside cs = 4 * length cs + 4
+
 abbrev beside : Item → ℕ
-beside (label n) = 0
-beside (instruction f t b x) = 0
-beside (constant x) = 0
-beside (I.string cs) = 4 * length cs + 4
-beside (I.global n m) = 13
+beside x = one 0 aside 13 (λ _. 0) x
 
-abbrev isOne : Item → ℕ
-isOne (label n) = 1
-isOne (instruction f t b x) = 0
-isOne (constant x) = 0
-isOne (I.string cs) = 0
-isOne (I.global n m) = 0
+abbrev besides : List Item → ℕ
+besides xs = sum 0 aside 13 (λ _. 0) xs
 
-line-short : (x : Item) → Sound x → length (render x) + 1 ≤ 5 * most x + 7 * isOne x + beside x
+line-short : (x : Item) → Sound x → length (render x) + 1 ≤ 5 * most x + 7 * one 0 (λ _. 0) 0 number-of x + beside x
 unfolding render
 line-short (label n) h = omega (arith, length-append (numeralOf n) (58 ∷ []), five-digits n h)
 line-short (instruction f t b x) h =
-    omega (arith, length-append (indirectText t) (baseText b ++ operandText x), length-append (baseText b) (operandText x), indirect-short t, base-short b, operand-short x (h .sound))
+    let l = length-append (indirectText t) (baseText b ++ operandText x) in
+    omega (arith, l, length-append (baseText b) (operandText x), indirect-short t, base-short b, operand-short x (h .sound))
 line-short (constant x) h = omega (arith, operand-short x h)
 line-short (I.string cs) h = omega (arith, length-append (charactersText cs) (34 ∷ []), characters-short cs)
 line-short (I.global n m) h = omega (arith, length-append (numeralOf n) (76 ∷ numeralOf m), five-digits n (h .first), five-digits m (h .second))
 
-unfoldable besides : List Item → ℕ
-besides [] = 0
-besides (x ∷ xs) = beside x + besides xs
-
-unfoldable ones : List Item → ℕ
-ones [] = 0
-ones (x ∷ xs) = isOne x + ones xs
-
-lines-short : (xs : List Item) → AllSound xs → length (renderLines xs) ≤ 5 * weigh xs + 7 * ones xs + besides xs + 2
-unfolding renderLines weigh ones besides
+lines-short : (xs : List Item) → AllSound xs → length (renderLines xs) ≤ 5 * weigh xs + 7 * marks number-of xs + besides xs + 2
+unfolding renderLines sum
 lines-short [] h = omega arith
 lines-short (x ∷ xs) h = omega (arith, length-append (render x) (10 ∷ renderLines xs), line-short x (h .0), lines-short xs (h .1))
 
-text-short : (xs : List Item) → AllSound xs → length (renderAll xs) ≤ 5 * weigh xs + 7 * ones xs + besides xs + 4
+text-short : (xs : List Item) → AllSound xs → length (renderAll xs) ≤ 5 * weigh xs + 7 * marks number-of xs + besides xs + 4
 unfolding renderAll
 text-short xs h = omega (arith, lines-short xs h)
 
-ones-marks : (xs : List Item) → ones xs ≡ marks number-of count-up xs
-unfolding ones marks
-ones-marks [] = refl
-ones-marks (label n ∷ xs) = omega (arith, ones-marks xs)
-ones-marks (instruction f t b x ∷ xs) = omega (arith, ones-marks xs)
-ones-marks (constant x ∷ xs) = omega (arith, ones-marks xs)
-ones-marks (I.string cs ∷ xs) = omega (arith, ones-marks xs)
-ones-marks (I.global n m ∷ xs) = omega (arith, ones-marks xs)
-
-besides-both : (xs ys : List Item) → besides (xs ++ ys) ≡ besides xs + besides ys
-unfolding besides
-besides-both [] ys = omega arith
-besides-both (x ∷ xs) ys = omega (arith, besides-both xs ys)
-
-besides-plain : {xs : List Item} → Plain xs → besides xs ≤ 0
-unfolding besides
-besides-plain none = omega arith
-besides-plain (l p) = omega (arith, besides-plain p)
-besides-plain (i p) = omega (arith, besides-plain p)
-besides-plain (d p) = omega (arith, besides-plain p)
-
-besides-strings : (t : ℕ) (ss : List (List ℕ)) → besides (stringsCode t ss) ≤ 4 * stringBytes ss
-unfolding besides stringsCode stringBytes
-besides-strings t [] = omega arith
-besides-strings t (cs ∷ ss) = omega (arith, besides-strings (suc t) ss)
-
-besides-starts : (t : ℕ) (fs : List Fun) → besides (startsCode t fs) ≤ 13 * length fs
-unfolding besides startsCode
-besides-starts t [] = omega arith
-besides-starts t (f ∷ fs) = go (f .start) (besides-starts (suc t) fs)
-  where
-    go : (s : Start) → besides (startsCode (suc t) fs) ≤ 13 * length fs → besides (startIn s t (startsCode (suc t) fs)) ≤ 13 * suc (length fs)
-    go nowhere k = omega arith
-    go (inGlobal n) k = omega arith
+beside-bytes : (ss : List (List ℕ)) → textSum aside ss ≤ 4 * stringBytes ss
+unfolding textSum stringBytes
+beside-bytes [] = omega arith
+beside-bytes (cs ∷ ss) = omega (arith, beside-bytes ss)
 
 besides-items : (fs : List Fun) (ss : List (List ℕ)) → besides (itemsOf fs ss) ≤ 4 * stringBytes ss + 13 * length fs
-unfolding itemsOf
-besides-items fs ss =
-    let f : List Item = functionsCode (suc (length fs)) 1 (suc (length fs) + length ss) fs in
-    let t : List Item = stringsCode (suc (length fs)) ss in
-    let g : List Item = startsCode 1 fs in
-    omega (arith, besides-both f (t ++ g), besides-both t g, besides-plain (plain-functions (suc (length fs)) 1 (suc (length fs) + length ss) fs), besides-strings (suc (length fs)) ss, besides-starts 1 fs)
+besides-items fs ss = omega (arith, sum-items 0 aside 13 (λ _. 0) (λ _ _ _. omega arith) fs ss _ refl, beside-bytes ss)
 
 -- a string's words are no more than its bytes
 words-bytes : (ss : List (List ℕ)) → stringWords ss ≤ stringBytes ss
@@ -193,7 +146,6 @@ short source scratch a =
     omega (
       arith,
       text-short is (good source x .sound),
-      ones-marks is,
       items-count source x,
       items-words source x,
       scan-length source,

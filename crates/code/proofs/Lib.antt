@@ -24,7 +24,8 @@ pub mod Simulation
 -- the assembled image has the code; the start; budgets and rooms
 pub mod Fetching
 pub mod Placing
-pub mod Plain
+pub mod WordCounts
+pub mod Measures
 pub mod Program
 pub mod Start
 pub mod Good
@@ -33,12 +34,9 @@ pub mod Owed
 pub mod Faithful
 -- every accepted source is good: its items can be written and read back, its labels differ, its sizes
 pub mod Sounding
-pub mod LabelBounds
+pub mod Bounds
 pub mod StringFacts
 pub mod GoodSource
-pub mod Marks
 pub mod Refusals
-pub mod WordCounts
-pub mod WordBounds
 pub mod Sizes
 pub mod Lengths

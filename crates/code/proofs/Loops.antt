@@ -15,15 +15,18 @@ use Rattle.machine.specs.Acts as M
 use Rattle.language.specs.Resolved as R
 use Rattle.language.specs.Resolved.{Expr, Cmd}
 use Rattle.language.specs.State.{gone, holds, State, Result, ok, bind, readCell}
-use Rattle.language.specs.Run.{Flow, normal, broke, looped, ended, gave, Loop, whiling, repeating, repeatingWhile, counting, Sem, executed, turned, around, isTrue, same}
+use Rattle.language.specs.Run.{Flow, normal, broke, looped, ended, gave, Loop, whiling, repeating, repeatingWhile, counting, Sem, executed, turned}
+use Rattle.language.specs.Run.{around, isTrue, same}
 use Rattle.code.specs.Generate.{Exits, inLoop, exprCode, exprLabels, cmdCode, cmdLabels, limitAct}
 use Rattle.code.proofs.Results.{post-cond, post-demand, post-reading, post-write}
 use Rattle.code.proofs.Machine.{Mach}
 use Rattle.code.proofs.Standing.{Env, cut, cut-number, cut-address, cut-label, at-end}
-use Rattle.code.proofs.Related.{Rel, Sim, Runs, after, then, weaken, paid, lower, over, reaching, reaching-on, close-scope, raise, like-rel, put-other, ticked}
+use Rattle.code.proofs.Related.{Rel, Sim, Runs, after, then, weaken, paid, lower, over, reaching, reaching-on, close-scope, raise, like-rel}
+use Rattle.code.proofs.Related.{put-other, ticked}
 use Rattle.code.proofs.Steps.{step-LIP, step-SP, step-A, step-J, step-F, step-when, step-unless, step-dyadic, cell-P}
 use Rattle.language.proofs.Formed.{FormedC}
-use Rattle.code.proofs.Goals.{F, Fits, Where, w-normal, w-broke, w-looped, w-ended, w-gave, Turning, at-while, at-repeat, at-repeatWhile, at-for, inner, lastTest, Sims}
+use Rattle.code.proofs.Goals.{F, Fits, Where, w-normal, w-broke, w-looped, w-ended, w-gave, Turning, at-while, at-repeat, at-repeatWhile}
+use Rattle.code.proofs.Goals.{at-for, inner, lastTest, Sims}
 use Rattle.code.proofs.Expressions.{part}
 use Rattle.code.proofs.Commands.{GoalC, as-wanted, not-wanted}
 use Rattle.code.proofs.Blocks.{new-word}
@@ -35,16 +38,17 @@ onward by i limit = cond (leb 32768 by) (not (below i limit)) (not (below limit 
 limit-acts : (by i m : ℕ) → (g : ℕ → ℕ → Out ℕ) × (M.actOf (limitAct by) ≡ M.dyadic g) × (g i m ≡ O.ok (W.truth (onward by i m)))
 limit-acts by i m = go (leb 32768 by)
   where
-    go : (b : Bool) → (g : ℕ → ℕ → Out ℕ) × (M.actOf (cond b 13 15) ≡ M.dyadic g) × (g i m ≡ O.ok (W.truth (cond b (not (below i m)) (not (below m i)))))
+    go : (b : Bool)
+        → (g : ℕ → ℕ → Out ℕ) × (M.actOf (cond b 13 15) ≡ M.dyadic g) × (g i m ≡ O.ok (W.truth (cond b (not (below i m)) (not (below m i)))))
     go true = (M.always ge, refl, refl)
     go false = (M.always le, refl, refl)
 
 jump-on : (z : Bool) (k b : ℕ) → z ≡ true → cond (eqb (W.truth z) 0) k b ≡ b
 jump-on true k b e = refl
-jump-on false k b e = let y : _≡_ {A = ℕ} 0 1 = cc in absurd (omega arith)
+jump-on false k b e = cc
 
 jump-out : (z : Bool) (k b : ℕ) → z ≡ false → cond (eqb (W.truth z) 0) k b ≡ k
-jump-out true k b e = let y : _≡_ {A = ℕ} 0 1 = cc in absurd (omega arith)
+jump-out true k b e = cc
 jump-out false k b e = refl
 
 module _ (Γ : Env) where
@@ -79,7 +83,8 @@ module _ (Γ : Env) where
         (λ t. let c₃ : v₂ .regs .c ≡ b₂ = (rw ew at c₂) ∙ as-wanted sense (eqb w 0) _ b₂ t in
         paid Γ (then Γ (le-refl h) (ih .run c (n + 2 + exprLabels e) k₄ (f .1) c₃ (ticked Γ r₂)) λ g s₃ v₃ x₃ y₃.
         comes-round g _ (x₃ .rel) y₃ (e₇ ∙ at-end Γ k₇)
-        (λ c₄. weaken Γ {t′ = 1} (step-J Γ (fits .sized) (le-refl h) (x₃ .rel) c₄ i₆ λ v₅ r₅ c₅ _ _. ih .turn (whiling sense e c) (at-while n k f) (c₅ ∙ e₀) r₅) (omega arith))
+        (λ c₄. weaken Γ {t′ = 1} (step-J Γ (fits .sized) (le-refl h) (x₃ .rel) c₄ i₆ λ v₅ r₅ c₅ _ _.
+        ih .turn (whiling sense e c) (at-while n k f) (c₅ ∙ e₀) r₅) (omega arith))
         (λ c₄. weaken Γ {t′ = 1} (ih .turn (whiling sense e c) (at-while n k f) (c₄ ∙ e₀) (x₃ .rel)) (omega arith))) (omega arith))
         (λ t. let c₃ : v₂ .regs .c ≡ Γ .lab (n + 1) = (rw ew at c₂) ∙ not-wanted sense (eqb w 0) _ b₂ t in
         over Γ (le-refl h) r₂ (w-normal (c₃ ∙ e₇ ∙ at-end Γ k₇)))) (omega arith)
@@ -135,7 +140,8 @@ module _ (Γ : Env) where
         cut-label Γ l₂ λ f₃ l₃.
         post-reading _ (s .cells (p + h)) s λ i gi.
         let lim = r .room in
-        let act : (g : ℕ → ℕ → Out ℕ) × (M.actOf (limitAct by) ≡ M.dyadic g) × (g i limit ≡ O.ok (W.truth (onward by i limit))) = limit-acts by i limit in
+        let act : (g : ℕ → ℕ → Out ℕ) × (M.actOf (limitAct by) ≡ M.dyadic g) × (g i limit ≡ O.ok (W.truth (onward by i limit)))
+        = limit-acts by i limit in
         step-LIP Γ (fits .sized) (le-refl (h + 2)) r pc i₁ (omega arith) λ v₁ r₁ c₁ a₁ _ m₁.
         step-LIP Γ (fits .sized) (le-refl (h + 2)) r₁ c₁ i₂ (omega arith) λ v₂ r₂ c₂ a₂ d₂ m₂.
         let left : v₂ .regs .b ≡ i = d₂ ∙ a₁ ∙ r .vals (p + h) i gi in
@@ -148,7 +154,8 @@ module _ (Γ : Env) where
         (λ t. let c₅ : v₄ .regs .c ≡ b₄ = (rw a₃ at c₄) ∙ jump-on (onward by i limit) _ b₄ t in
         paid Γ (then Γ (le-refl (h + 2)) (ih .run c n′ k₅ f c₅ (ticked Γ r₄)) λ g s₆ v₆ x₆ y₆.
         let lost₆ : s₆ .cells (p + (h + 1)) ≡ gone = x₆ .keep (p + (h + 1)) (omega arith) lost in
-        let kept₆ : getD (v₆ .mem) (p + (h + 1)) 0 ≡ limit = x₆ .frame (p + (h + 1)) (omega arith) lost ∙ ap (λ (m : List ℕ). getD m (p + (h + 1)) 0) mem₄ ∙ kept in
+        let kept₆ : getD (v₆ .mem) (p + (h + 1)) 0 ≡ limit
+        = x₆ .frame (p + (h + 1)) (omega arith) lost ∙ ap (λ (m : List ℕ). getD m (p + (h + 1)) 0) mem₄ ∙ kept in
         let round : v₆ .regs .c ≡ b₅ → Runs Γ (Where Γ b x) 8 p (h + 2) (h + 2) s₆ v₆ (bind (readCell (s₆ .cells (p + h)) s₆) _)
         = λ c₆. post-reading _ (s₆ .cells (p + h)) s₆ λ j gj. post-write (s₆ .cells (p + h)) λ live.
         step-LIP Γ (fits .sized) (le-refl (h + 2)) (x₆ .rel) c₆ i₈ (omega arith) λ v₇ r₇ c₇ a₇ _ m₇.
@@ -158,7 +165,8 @@ module _ (Γ : Env) where
         step-J Γ (fits .sized) (le-refl (h + 2)) r₉ c₉ j₂ λ u₁ q₁ d₁ _ n₁.
         ih .turn (counting limit by c)
         (at-for n n′ k f (put-other Γ s₆ (p + h) (holds (add j by)) (p + (h + 1)) (λ z. omega arith) ∙ lost₆)
-        (ap (λ (m : List ℕ). getD m (p + (h + 1)) 0) n₁ ∙ o₉ (p + (h + 1)) (λ z. omega arith) ∙ ap (λ (m : List ℕ). getD m (p + (h + 1)) 0) (m₈ ∙ m₇) ∙ kept₆))
+        (ap (λ (m : List ℕ). getD m (p + (h + 1)) 0) n₁ ∙ o₉ (p + (h + 1)) (λ z. omega arith) ∙ ap (λ (m : List ℕ). getD m (p + (h + 1)) 0)
+        (m₈ ∙ m₇) ∙ kept₆))
         (d₁ ∙ e₀) q₁ in
         comes-round g _ (x₆ .rel) y₆ (f₃ ∙ at-end Γ l₃) round (λ c₆. round (c₆ ∙ e₇))) (omega arith))
         (λ t. let c₅ : v₄ .regs .c ≡ Γ .lab (n + 2) = (rw a₃ at c₄) ∙ jump-out (onward by i limit) _ b₄ t in
@@ -194,4 +202,5 @@ module _ (Γ : Env) where
         reaching Γ (h + 2) (λ y. bind (q .turn (counting m by c) p h y) _) λ u′ like′ l′.
         step-SP Γ (fits .sized) up (like-rel Γ like′ (x₃ .rel)) (y₃ .at) i₆ (le-refl (h + 1)) (omega arith) λ v₄ r₄ c₄ _ g₄ _.
         close-scope Γ (omega arith) (lower Γ (omega arith) (ih .turn (counting m by c)
-        (at-for n (n + 3 + exprLabels first + exprLabels limit) k₆ (f .2) (r₄ .above (p + (h + 1)) (omega arith)) (g₄ ∙ em)) c₄ (raise Γ r₄ (omega arith) l′))))) (omega arith)
+        (at-for n (n + 3 + exprLabels first + exprLabels limit) k₆ (f .2) (r₄ .above (p + (h + 1)) (omega arith)) (g₄ ∙ em)) c₄
+        (raise Γ r₄ (omega arith) l′))))) (omega arith)

@@ -83,7 +83,8 @@ same-cell w (held {v}) f = ap holds (sym (f v refl))
 same-word : {s : State} {o : Outcome} (a : ℕ) → Held (s .cells a) → ((w : ℕ) → s .cells a ≡ holds w → getD (o .state .mem) a 0 ≡ w) → SameWord s o a
 same-word {s} {o} a h f = record { same = same-cell (getD (o .state .mem) a 0) h f }
 
-module _ (Γ : Env) (strings : List (List ℕ)) (least : 512 ≤ length (Γ .image)) (most : length (Γ .image) ≤ 32768) (s₀ s : State) (none : s₀ .steps ≡ 0)
+module _ (Γ : Env) (strings : List (List ℕ)) (least : 512 ≤ length (Γ .image)) (most : length (Γ .image) ≤ 32768) (s₀ s : State)
+    (none : s₀ .steps ≡ 0)
     (e : Ends Γ 5 s₀ (record { regs = startRegisters (Γ .place .first); mem = Γ .image; bytes = [] }) s) (holding : Holds strings (Γ .place) s) where
   abbrev begin : List ℕ → M.State
   begin o = at (startRegisters (Γ .place .first)) (Γ .image) o
@@ -140,7 +141,8 @@ module _ (Γ : Env) (strings : List (List ℕ)) (least : 512 ≤ length (Γ .ima
         bytes = ap (λ (n : ℕ). take n (x .last .out)) (x .written) ∙ x .bytes;
         taken = x .taken;
         globals = λ n l. same-word (16 + n) (holding .globals n l) (x .words (16 + n));
-        constants = λ k i l j. same-word (getD (Γ .place .strings) k 0 + i) (holding .constants k i l j) (x .words (getD (Γ .place .strings) k 0 + i));
+        constants =
+            λ k i l j. same-word (getD (Γ .place .strings) k 0 + i) (holding .constants k i l j) (x .words (getD (Γ .place .strings) k 0 + i));
       };
     })
 
@@ -152,10 +154,7 @@ module _ (Γ : Env) (strings : List (List ℕ)) (least : 512 ≤ length (Γ .ima
         go (yes h) =
             let g : Grows (steps (Γ .input) b (begin o) .state) (x .last)
             = rw (done-run (e .n + 1) (omega arith)) at (budget-beginning (Γ .input) {n = b} {n′ = e .n + 1} (begin o) (omega arith)) in
-            record {
-              within = omega (arith, g .place, x .written);
-              each = λ i l. sym (g .kept i l) ∙ prefix-last .each i (omega (arith, g .place));
-            }
+            record { within = omega (arith, g .place, x .written); each = λ i l. sym (g .kept i l) ∙ prefix-last .each i (omega (arith, g .place)) }
 
     pauses : (b : ℕ) → b < e .n + 1 → Pauses s (steps (Γ .input) b (begin o))
     pauses b h = record {
@@ -174,11 +173,14 @@ module _ (Γ : Env) (strings : List (List ℕ)) (least : 512 ≤ length (Γ .ima
   follows o b = record {
     enough = λ l h. rw (run-is o b) (finishes o l b (omega (arith, in-time)));
     any-budget = λ l. rw (run-is o b) (pick l (decLt b (e .n + 1)));
-    any-room = rw (run-is o b) (begins s (steps (Γ .input) b (begin o)) (less-room s (room-beginning (Γ .input) b (startRegisters (Γ .place .first)) (Γ .image) o more roomier) (prefix more longer b))
+    any-room =
+        rw (run-is o b) (begins s (steps (Γ .input) b (begin o))
+        (less-room s (room-beginning (Γ .input) b (startRegisters (Γ .place .first)) (Γ .image) o more roomier) (prefix more longer b))
         (inside (Γ .input) b (begin o) (omega arith)));
   }
     where
-      pick : length (s .output) ≤ length o → Dec (b < e .n + 1) → Finishes strings (Γ .place) s (steps (Γ .input) b (begin o)) ⊎ Pauses s (steps (Γ .input) b (begin o))
+      pick : length (s .output) ≤ length o → Dec (b < e .n + 1)
+          → Finishes strings (Γ .place) s (steps (Γ .input) b (begin o)) ⊎ Pauses s (steps (Γ .input) b (begin o))
       pick l (yes h) = inr (pauses o l b h)
       pick l (no h) = inl (finishes o l b (omega arith))
 

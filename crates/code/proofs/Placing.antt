@@ -1,5 +1,5 @@
 -- The assembler's image has the code of its items at their addresses.
-use Prim.Native.Nat.{ℕ, zero, suc, _+_, _-_, _*_, _/_, _≤_, _<_}
+use Prim.Native.Nat.{ℕ, zero, suc, _+_, _*_, _≤_, _<_}
 use mathlib.Core.Path.{_≡_, refl, sym, ap, _∙_}
 use mathlib.Core.Bool.{Bool, true, false, cond}
 use mathlib.Core.List.{List, [], _∷_, _++_, append-assoc}
@@ -19,8 +19,10 @@ use Rattle.assembler.specs.Layout.{defined, addressOf, noted, laid, refused, on
 use Rattle.assembler.specs.Assemble.{program}
 use Rattle.assembler.proofs.Operands.{number-below, label-range}
 use Rattle.assembler.proofs.Faults.{no-fault-ranged, no-fault-placed, label-placed}
-use Rattle.code.proofs.Standing.{Env, At, Is, is-number, is-address, is-label, is-word, is-place, is-string, is-global, is-minus, is-negative, Code, end, next}
+use Rattle.code.proofs.Standing.{Env, At, Is, is-number, is-address, is-label, is-word, is-place, is-string, is-global, is-minus, is-negative}
+use Rattle.code.proofs.Standing.{Code, end, next}
 use Rattle.code.proofs.Fetching.{short-bits, long-bits, fetch-short, fetch-long}
+use Rattle.language.proofs.Cases.{clash}
 
 -- ---- an item's words are as many as its size
 
@@ -53,14 +55,15 @@ module _ {labels : List Label} {image : List ℕ} {at : ℕ} {p : Placed} {ps : 
   spot-next = record {
     front = s .front ++ words (addressOf labels) (p .item);
     rest = s .rest;
-    is = s .is ∙ rw (append-assoc (words (addressOf labels) (p .item)) (program labels ps) (s .rest), append-assoc (s .front) (words (addressOf labels) (p .item)) (program labels ps ++ s .rest)) refl;
+    is = s .is ∙ simp append-assoc;
     size = omega (arith, length-append (s .front) (words (addressOf labels) (p .item)), length-words (addressOf labels) (p .item), s .size);
   }
 
   pub spot-word : (j : ℕ) → j < length (words (addressOf labels) (p .item)) → getD image (at + j) 0 ≡ getD (words (addressOf labels) (p .item)) j 0
   unfolding program
   spot-word j l =
-      let e : image ≡ s .front ++ (words (addressOf labels) (p .item) ++ (program labels ps ++ s .rest)) = s .is ∙ rw (append-assoc (words (addressOf labels) (p .item)) (program labels ps) (s .rest)) refl in
+      let e : image ≡ s .front ++ (words (addressOf labels) (p .item) ++ (program labels ps ++ s .rest))
+      = s .is ∙ rw (append-assoc (words (addressOf labels) (p .item)) (program labels ps) (s .rest)) refl in
       rw (e, ← s .size) (getD-append-add (s .front) (words (addressOf labels) (p .item) ++ (program labels ps ++ s .rest)) j 0
       ∙ List·getD-append (words (addressOf labels) (p .item)) (program labels ps ++ s .rest) 0 j l)
 
@@ -77,10 +80,11 @@ module _ (memory room : ℕ) where
   lay-step {at} {ls} {labels} {p} {ps} {end} h = go (fault memory room at ls (p .item)) refl (h .is)
     where
       go : (n : ℕ) → fault memory room at ls (p .item) ≡ n
-          → onFault (fault memory room at ls (p .item)) (p .place) (lay memory room (at + size (p .item)) (noted at ls (p .item)) ps) ≡ laid labels end
+          → onFault (fault memory room at ls (p .item)) (p .place)
+          (lay memory room (at + size (p .item)) (noted at ls (p .item)) ps) ≡ laid labels end
           → (fault memory room at ls (p .item) ≡ 0) × Lays (at + size (p .item)) (noted at ls (p .item)) ps labels end
       go zero e h = (e, record { is = rw e at h })
-      go (suc k) e h = let y : refused (suc k) (p .place) ≡ laid labels end = rw e at h in let z : _≡_ {A = ℕ} 0 1 = cc in absurd (omega arith)
+      go (suc k) e h = let y : refused (suc k) (p .place) ≡ laid labels end = rw e at h in clash (cc)
 
   -- the labels found so far stay in front
   pub record Extends (ls labels : List Label) : Type 0 where
@@ -89,7 +93,9 @@ module _ (memory room : ℕ) where
 
   noted-extends : (at : ℕ) (ls : List Label) (i : Item) {labels : List Label} → Extends (noted at ls i) labels → Extends ls labels
   unfolding noted
-  noted-extends at ls (label n) x = record { more = record { number = n; address = at } ∷ x .more; is = x .is ∙ append-assoc ls (record { number = n; address = at } ∷ []) (x .more) }
+  noted-extends at ls (label n) x =
+      record
+      { more = record { number = n; address = at } ∷ x .more; is = x .is ∙ append-assoc ls (record { number = n; address = at } ∷ []) (x .more) }
   noted-extends at ls (instruction f i b o) x = x
   noted-extends at ls (constant o) x = x
   noted-extends at ls (string cs) x = x
@@ -97,7 +103,9 @@ module _ (memory room : ℕ) where
 
   pub lay-extends : (at : ℕ) (ls : List Label) (ps : List Placed) {labels : List Label} {end : ℕ} → Lays at ls ps labels end → Extends ls labels
   unfolding lay
-  lay-extends at ls [] {labels} {end} h = let y : laid ls at ≡ laid labels end = h .is in let z : labels ≡ ls = cc in record { more = []; is = z ∙ sym (mathlib.Core.List.append-nil ls) }
+  lay-extends at ls [] {labels} {end} h =
+      let y : laid ls at ≡ laid labels end = h .is in
+      let z : labels ≡ ls = cc in record { more = []; is = z ∙ sym (mathlib.Core.List.append-nil ls) }
   lay-extends at ls (p ∷ ps) h = noted-extends at ls (p .item) (lay-extends (at + size (p .item)) (noted at ls (p .item)) ps (lay-step h .1))
 
   found-at : (ls more : List Label) (n at : ℕ) → defined ls n ≡ false → addressOf (ls ++ (record { number = n; address = at } ∷ more)) n ≡ at
@@ -105,29 +113,34 @@ module _ (memory room : ℕ) where
   found-at [] more n at h = rw (eq-eqb n n refl) refl
   found-at (l ∷ ls) more n at h = go (eqb (l .number) n) h (λ k. found-at ls more n at k)
     where
-      go : (b : Bool) → cond b true (defined ls n) ≡ false → (defined ls n ≡ false → addressOf (ls ++ (record { number = n; address = at } ∷ more)) n ≡ at)
+      go : (b : Bool) → cond b true (defined ls n) ≡ false
+          → (defined ls n ≡ false → addressOf (ls ++ (record { number = n; address = at } ∷ more)) n ≡ at)
           → cond b (l .address) (addressOf (ls ++ (record { number = n; address = at } ∷ more)) n) ≡ at
-      go true e f = let z : _≡_ {A = ℕ} 0 1 = cc in absurd (omega arith)
+      go true e f = cc
       go false e f = f e
 
-  pub lays-end : (at p : ℕ) (ls : List Label) (xs : List Item) {labels : List Label} {end : ℕ} → Lays at ls (places p xs) labels end → past at xs ≡ end
+  pub lays-end : (at p : ℕ) (ls : List Label) (xs : List Item) {labels : List Label} {end : ℕ} → Lays at ls (places p xs) labels end
+      → past at xs ≡ end
   unfolding past places lay
   lays-end at p ls [] {labels} {end} h = let y : laid ls at ≡ laid labels end = h .is in cc
   lays-end at p ls (x ∷ xs) h = lays-end (at + size x) (p + length (render x) + 1) (noted at ls x) xs (lay-step h .1)
 
   -- a label's address is where it stands
-  pub label-found : {at n : ℕ} {ls labels : List Label} {p : ℕ} {ps : List Placed} {end : ℕ} → Lays at ls (record { place = p; item = label n } ∷ ps) labels end
+  pub label-found : {at n : ℕ} {ls labels : List Label} {p : ℕ} {ps : List Placed} {end : ℕ}
+      → Lays at ls (record { place = p; item = label n } ∷ ps) labels end
       → addressOf labels n ≡ at
   unfolding misplaced noted
   label-found {at} {n} {ls} {labels} {p} {ps} h =
       let s = lay-step h in
-      let x : Extends (ls ++ (record { number = n; address = at } ∷ [])) labels = lay-extends (at + size (label n)) (ls ++ (record { number = n; address = at } ∷ [])) ps (s .1) in
+      let x : Extends (ls ++ (record { number = n; address = at } ∷ [])) labels
+      = lay-extends (at + size (label n)) (ls ++ (record { number = n; address = at } ∷ [])) ps (s .1) in
       rw (x .is, append-assoc ls (record { number = n; address = at } ∷ []) (x .more))
       (found-at ls (x .more) n at (label-placed memory room at ls n (no-fault-placed memory room at ls (label n) (s .0)) .0))
 
   -- ---- the code
 
-  module _ (Γ : Env) (labels : List Label) (lab-is : (n : ℕ) → Γ .lab n ≡ addressOf labels n) (near : (n : ℕ) → addressOf labels n < 65536) (most : length (Γ .image) ≤ 32768) where
+  module _ (Γ : Env) (labels : List Label) (lab-is : (n : ℕ) → Γ .lab n ≡ addressOf labels n) (near : (n : ℕ) → addressOf labels n < 65536)
+      (most : length (Γ .image) ≤ 32768) where
     -- words that are code
     abbrev pub Coded : ℕ → Item → Type 0
     Coded at (label n) = Unit {0}
@@ -140,8 +153,10 @@ module _ (memory room : ℕ) where
     is-to i e = rw e at i
 
     -- an instruction of two words
-    at-long : (f x : ℕ) (i : Bool) (base : Base) {at : ℕ} → x < 65536 → (Γ .isCode (at + 0) ≡ true) × (at + 0 < length (Γ .image)) → (Γ .isCode (at + 1) ≡ true) × (at + 1 < length (Γ .image))
-        → getD (Γ .image) (at + 0) 0 ≡ f * 8192 + indirectBit i + baseBit base + 512 → getD (Γ .image) (at + 1) 0 ≡ x → At Γ at f i base x (suc (suc at))
+    at-long : (f x : ℕ) (i : Bool) (base : Base) {at : ℕ} → x < 65536 → (Γ .isCode (at + 0) ≡ true) × (at + 0 < length (Γ .image))
+        → (Γ .isCode (at + 1) ≡ true) × (at + 1 < length (Γ .image))
+        → getD (Γ .image) (at + 0) 0 ≡ f * 8192 + indirectBit i + baseBit base + 512 → getD (Γ .image) (at + 1) 0 ≡ x
+        → At Γ at f i base x (suc (suc at))
     at-long f x i base {at} l c₀ c₁ w₀ w₁ = record {
       small = l;
       is = λ r m agree pc.
@@ -149,7 +164,8 @@ module _ (memory room : ℕ) where
           let o : at + 1 ≡ suc at = omega arith in
           let g : getD m at 0 ≡ f * 8192 + indirectBit i + baseBit base + 512 = rw z at (agree .same (at + 0) (c₀ .0) ∙ w₀) in
           let k : getD m (suc at) 0 ≡ x = rw o at (agree .same (at + 1) (c₁ .0) ∙ w₁) in
-          fetch-long r m pc (omega (arith, agree .size, c₀ .1)) g base x (long-bits f i base) (omega (arith, c₁ .1)) (omega (arith, agree .size, c₁ .1)) k;
+          fetch-long r m pc (omega (arith, agree .size, c₀ .1)) g base x (long-bits f i base) (omega (arith, c₁ .1))
+          (omega (arith, agree .size, c₁ .1)) k;
     }
 
     pub at-short : (f x : ℕ) (i : Bool) (base : Base) {at : ℕ} → x < 512 → (Γ .isCode (at + 0) ≡ true) × (at + 0 < length (Γ .image))
@@ -172,8 +188,10 @@ module _ (memory room : ℕ) where
         k< = number-below false (no-fault-ranged memory room at ls (instruction f i base (number false k)) (lay-step h .0))
 
         go : (b : Bool) → ltb k 512 ≡ b → ((j : ℕ) → j < cond (ltb k 512) 1 2 → (Γ .isCode (at + j) ≡ true) × (at + j < length (Γ .image)))
-            → ((j : ℕ) → j < length (cond (ltb k 512) ((f * 8192 + indirectBit i + baseBit base + k) ∷ []) ((f * 8192 + indirectBit i + baseBit base + 512) ∷ k ∷ []))
-            → getD (Γ .image) (at + j) 0 ≡ getD (cond (ltb k 512) ((f * 8192 + indirectBit i + baseBit base + k) ∷ []) ((f * 8192 + indirectBit i + baseBit base + 512) ∷ k ∷ [])) j 0)
+            → ((j : ℕ) → j < length (cond (ltb k 512) ((f * 8192 + indirectBit i + baseBit base + k) ∷ [])
+            ((f * 8192 + indirectBit i + baseBit base + 512) ∷ k ∷ []))
+            → getD (Γ .image) (at + j) 0 ≡ getD (cond (ltb k 512) ((f * 8192 + indirectBit i + baseBit base + k) ∷ [])
+            ((f * 8192 + indirectBit i + baseBit base + 512) ∷ k ∷ [])) j 0)
             → Is Γ at (instruction f i base (number false k)) (at + cond (ltb k 512) 1 2)
         go true e c w =
             let c′ : (j : ℕ) → j < 1 → (Γ .isCode (at + j) ≡ true) × (at + j < length (Γ .image)) = rw e at c in
@@ -182,12 +200,14 @@ module _ (memory room : ℕ) where
         go false e c w =
             let c′ : (j : ℕ) → j < 2 → (Γ .isCode (at + j) ≡ true) × (at + j < length (Γ .image)) = rw e at c in
             let w′ : (j : ℕ) → j < 2 → getD (Γ .image) (at + j) 0 ≡ getD ((f * 8192 + indirectBit i + baseBit base + 512) ∷ k ∷ []) j 0 = rw e at w in
-            rw e (is-to (is-number (at-long f k i base k< (c′ 0 (omega arith)) (c′ 1 (omega arith)) (w′ 0 (omega arith)) (w′ 1 (omega arith)))) (omega arith))
+            rw e (is-to (is-number (at-long f k i base k< (c′ 0 (omega arith)) (c′ 1 (omega arith)) (w′ 0 (omega arith)) (w′ 1 (omega arith))))
+            (omega arith))
     item-is {at} {ls = ls} (instruction f i base (number true k)) h s c = is-minus
     item-is {at} {ls = ls} (instruction f i base (address l)) h s c =
         let r : (1 ≤ l) × (l ≤ 32767) = label-range l (no-fault-ranged memory room at ls (instruction f i base (address l)) (lay-step h .0)) in
         let lt : Γ .lab l < 65536 = rw (lab-is l) (near l) in
-        is-to (is-address (r .0) (at-long f (Γ .lab l) i base lt (c 0 (omega arith)) (c 1 (omega arith)) (spot-word s 0 (omega arith)) (spot-word s 1 (omega arith) ∙ sym (lab-is l)))) (omega arith)
+        is-to (is-address (r .0) (at-long f (Γ .lab l) i base lt (c 0 (omega arith)) (c 1 (omega arith)) (spot-word s 0 (omega arith))
+        (spot-word s 1 (omega arith) ∙ sym (lab-is l)))) (omega arith)
     item-is {at} {ls = ls} (constant (number false k)) h s c =
         let z : at + 0 ≡ at = omega arith in
         let w : getD (Γ .image) at 0 ≡ k = rw z at (spot-word s 0 (omega arith)) in
@@ -208,7 +228,8 @@ module _ (memory room : ℕ) where
 
     pub laid-code : {T : Type 0} (xs ys : List Item) (p at : ℕ) (ls : List Label) {end : ℕ} → Lays at ls (places p (xs ++ ys)) labels end
         → Spot labels (Γ .image) at (places p (xs ++ ys)) → AllCoded at xs
-        → ((p′ : ℕ) (ls′ : List Label) → Code Γ at xs (past at xs) → Lays (past at xs) ls′ (places p′ ys) labels end → Spot labels (Γ .image) (past at xs) (places p′ ys) → T) → T
+        → ((p′ : ℕ) (ls′ : List Label) → Code Γ at xs (past at xs) → Lays (past at xs) ls′ (places p′ ys) labels end → Spot labels (Γ .image)
+        (past at xs) (places p′ ys) → T) → T
     unfolding places past
     laid-code [] ys p at ls h s c f = f p ls (end refl) h s
     laid-code (x ∷ xs) ys p at ls h s c f =

@@ -1,8 +1,8 @@
 -- A whole program in an accepted image: its labels' addresses, its functions' code, its strings' words, its globals.
-use Prim.Native.Nat.{ℕ, zero, suc, _+_, _-_, _*_, _/_, _%_, _≤_, _<_}
+use Prim.Native.Nat.{ℕ, zero, suc, _+_, _-_, _*_, _≤_, _<_}
 use mathlib.Core.Path.{_≡_, refl, sym, ap, _∙_}
 use mathlib.Core.Bool.{Bool, true, false, cond}
-use mathlib.Core.List.{List, [], _∷_, _++_, append-assoc, map}
+use mathlib.Core.List.{List, [], _∷_, _++_, append-assoc}
 use mathlib.Core.Option.{none, some}
 use native.Mathlib.Omega.{arith}
 use lib.Dec.{eqb, leb, ltb}
@@ -26,13 +26,13 @@ use Rattle.language.specs.Run.{positionOf, noFun}
 use Rattle.language.specs.Whole.{withEntry, globalsWith}
 use Rattle.code.specs.Faithful.{addressesFrom}
 use Rattle.code.specs.Generate.{X, bodyCode, bodyLabels, functionsCode, stringsCode, startsCode, startIn, itemsOf}
-use Rattle.code.proofs.Standing.{Env, At, Code, end, next, is-number, cut, cut-number, cut-label, code-append}
+use Rattle.code.proofs.Standing.{Env, At, Code, end, next, is-number, is-label, is-string, cut, cut-number, cut-label, code-append}
 use Rattle.code.proofs.Placing.{Spot, Lays, laid-code, past, past-more, past-both, lays-end, Coded, AllCoded, at-short}
-use Rattle.code.proofs.Plain as P
-use Rattle.code.proofs.Plain.{Plain, plain-functions}
+use Rattle.code.proofs.Measures.{sum, no-others}
 use Rattle.code.proofs.Steps.{Sized}
 use Rattle.language.proofs.Formed.{FormedF}
 use Rattle.code.proofs.Goals.{Entered, Fits}
+use Rattle.language.proofs.Cases.{clash}
 
 -- ---- labels and the table
 
@@ -75,10 +75,11 @@ record Found (v : ℕ) (es : List ℕ) (i k : ℕ) : Type 0 where
 
 position-found : (v : ℕ) (es : List ℕ) (i k : ℕ) → positionOf v es i ≡ some k → Found v es i k
 unfolding positionOf
-position-found v [] i k h = let z : _≡_ {A = ℕ} 0 1 = cc in absurd (omega arith)
+position-found v [] i k h = clash (cc)
 position-found v (a ∷ es) i k h = go (eqb v a) refl h (λ e. position-found v es (suc i) k e)
   where
-    go : (b : Bool) → eqb v a ≡ b → cond b (some i) (positionOf v es (suc i)) ≡ some k → (positionOf v es (suc i) ≡ some k → Found v es (suc i) k) → Found v (a ∷ es) i k
+    go : (b : Bool) → eqb v a ≡ b → cond b (some i) (positionOf v es (suc i)) ≡ some k → (positionOf v es (suc i) ≡ some k → Found v es (suc i) k)
+        → Found v (a ∷ es) i k
     go true e q f = let z : i ≡ k = cc in record { at = 0; is = omega arith; within = omega arith; entry = sym (eqb-true v a e) }
     go false e q f = let x = f q in record { at = suc (x .at); is = omega (arith, x .is); within = omega (arith, x .within); entry = x .entry }
 
@@ -93,31 +94,36 @@ unfolding globals places globalsItems
 globals-items labels gs p [] = refl
 globals-items labels gs p (x ∷ xs) = globals-items labels (globalsAfter labels gs x) (p + length (render x) + 1) xs
 
-globals-both : (labels : List Label) (gs : List ℕ) (xs ys : List Item) → globalsItems labels gs (xs ++ ys) ≡ globalsItems labels (globalsItems labels gs xs) ys
+globals-both : (labels : List Label) (gs : List ℕ) (xs ys : List Item)
+    → globalsItems labels gs (xs ++ ys) ≡ globalsItems labels (globalsItems labels gs xs) ys
 unfolding globalsItems
 globals-both labels gs [] ys = refl
 globals-both labels gs (x ∷ xs) ys = globals-both labels (globalsAfter labels gs x) xs ys
 
-globals-plain : (labels : List Label) (gs : List ℕ) {xs : List Item} → Plain xs → globalsItems labels gs xs ≡ gs
-unfolding globalsItems globalsAfter
-globals-plain labels gs P.none = refl
-globals-plain labels gs (P.l q) = globals-plain labels gs q
-globals-plain labels gs (P.i q) = globals-plain labels gs q
-globals-plain labels gs (P.d q) = globals-plain labels gs q
+globals-plain : (labels : List Label) (gs : List ℕ) (xs : List Item) → sum 0 (λ _. 1) 1 (λ _. 0) xs ≤ 0 → globalsItems labels gs xs ≡ gs
+unfolding globalsItems globalsAfter sum
+globals-plain labels gs [] h = refl
+globals-plain labels gs (label n ∷ xs) h = globals-plain labels gs xs (omega arith)
+globals-plain labels gs (instruction f i b x ∷ xs) h = globals-plain labels gs xs (omega arith)
+globals-plain labels gs (constant x ∷ xs) h = globals-plain labels gs xs (omega arith)
+globals-plain labels gs (string cs ∷ xs) h = absurd (omega arith)
+globals-plain labels gs (global n m ∷ xs) h = absurd (omega arith)
 
 globals-strings : (labels : List Label) (gs : List ℕ) (l : ℕ) (ss : List (List ℕ)) → globalsItems labels gs (stringsCode l ss) ≡ gs
 unfolding globalsItems globalsAfter stringsCode
 globals-strings labels gs l [] = refl
 globals-strings labels gs l (cs ∷ ss) = globals-strings labels gs (suc l) ss
 
-globals-starts : (labels : List Label) (table : List Label) → ((n : ℕ) → 1 ≤ n → addressOf table n ≡ addressOf labels n) → (gs : List ℕ) (l : ℕ) (fs : List Fun) → 1 ≤ l
+globals-starts : (labels : List Label) (table : List Label) → ((n : ℕ) → 1 ≤ n → addressOf table n ≡ addressOf labels n)
+    → (gs : List ℕ) (l : ℕ) (fs : List Fun) → 1 ≤ l
     → globalsItems labels gs (startsCode l fs) ≡ globalsWith fs (addressesFrom table l (length fs)) gs
 unfolding globalsItems globalsAfter startsCode globalsWith addressesFrom
 globals-starts labels table same gs l [] h = refl
 globals-starts labels table same gs l (f ∷ fs) h = go (f .start) (λ gs. globals-starts labels table same gs (suc l) fs (omega arith))
   where
     go : (s : Start) → ((gs : List ℕ) → globalsItems labels gs (startsCode (suc l) fs) ≡ globalsWith fs (addressesFrom table (suc l) (length fs)) gs)
-        → globalsItems labels gs (startIn s l (startsCode (suc l) fs)) ≡ globalsWith fs (addressesFrom table (suc l) (length fs)) (withEntry s (addressOf table l) gs)
+        → globalsItems labels gs (startIn s l (startsCode (suc l) fs)) ≡ globalsWith fs (addressesFrom table (suc l) (length fs))
+        (withEntry s (addressOf table l) gs)
     go nowhere f = f gs
     go (inGlobal n) f = rw (same l h) (f (set gs n (addressOf labels l)))
 
@@ -141,7 +147,8 @@ module _ (Γ : Env) where
     pub end : ℕ
     pub code : Code Γ a (bodyCode strings (2 + f .parameters) labels (f .body) ++ (X 4 ∷ [])) end
 
-  pub function-at : (strings : ℕ) (fs : List Fun) (l n k : ℕ) {a b : ℕ} → Code Γ a (functionsCode strings l n fs) b → k < length fs → FunctionAt strings (Γ .lab (l + k)) (getD fs k noFun)
+  pub function-at : (strings : ℕ) (fs : List Fun) (l n k : ℕ) {a b : ℕ} → Code Γ a (functionsCode strings l n fs) b → k < length fs
+      → FunctionAt strings (Γ .lab (l + k)) (getD fs k noFun)
   unfolding functionsCode
   function-at strings [] l n k c h = absurd (omega arith)
   function-at strings (f ∷ fs) l n zero c h =
@@ -157,6 +164,12 @@ module _ (Γ : Env) where
       let z : l + suc k ≡ suc l + k = omega arith in
       rw z (function-at strings fs (suc l) (n + bodyLabels (f .body)) k c₃ (omega arith))
 
+  -- strings are laid upwards
+  pub strings-up : (l : ℕ) (ss : List (List ℕ)) {a b : ℕ} → Code Γ a (stringsCode l ss) b → a ≤ b
+  unfolding stringsCode
+  strings-up l [] (end e) = omega arith
+  strings-up l (cs ∷ ss) (next (is-label t e) (next (is-string f g) k)) = let h = strings-up (suc l) ss k in omega arith
+
 -- ---- what an accepted text gives
 
 pub record Built (fs : List Fun) (ss : List (List ℕ)) (memory room first : ℕ) (mem : List ℕ) (table : List Label) : Type 0 where
@@ -171,13 +184,15 @@ pub record Built (fs : List Fun) (ss : List (List ℕ)) (memory room first : ℕ
   pub within : first ≤ memory
   pub fills : length mem ≡ memory
 
-pub built : (fs : List Fun) (ss : List (List ℕ)) (memory room first : ℕ) → AllSound (itemsOf fs ss) → assembled (renderAll (itemsOf fs ss)) memory room .answer ≡ Accepted first
-    → Built fs ss memory room first (assembled (renderAll (itemsOf fs ss)) memory room .memory) (assembled (renderAll (itemsOf fs ss)) memory room .table)
+pub built : (fs : List Fun) (ss : List (List ℕ)) (memory room first : ℕ) → AllSound (itemsOf fs ss)
+    → assembled (renderAll (itemsOf fs ss)) memory room .answer ≡ Accepted first
+    → Built fs ss memory room first (assembled (renderAll (itemsOf fs ss)) memory room .memory)
+    (assembled (renderAll (itemsOf fs ss)) memory room .table)
 unfolding accept
 built fs ss memory room first sound h =
     let a : Acceptance (renderAll (itemsOf fs ss)) memory room first = acceptance (renderAll (itemsOf fs ss)) memory room h in
     let r : scan (renderAll (itemsOf fs ss)) ≡ record { items = places 2 (itemsOf fs ss); ending = whole } = rendered (itemsOf fs ss) sound in
-    let e : assembled (renderAll (itemsOf fs ss)) memory room ≡ accept (renderAll (itemsOf fs ss)) memory room (a .labels) first (places 2 (itemsOf fs ss)) = rw r at (a .accepts) in
+    let e = rw r at (a .accepts) in
     record {
       labels = a .labels;
       lays = record { is = rw r at (a .lays) };
@@ -191,7 +206,9 @@ built fs ss memory room first sound h =
       fills = a .fills;
     }
 
-module _ (fs : List Fun) (ss : List (List ℕ)) (memory room first : ℕ) (mem : List ℕ) (table : List Label) (input : List ℕ) (b : Built fs ss memory room first mem table) where
+module _
+    {fs : List Fun} {ss : List (List ℕ)} {memory room first : ℕ} {mem : List ℕ} {table : List Label} (input : List ℕ)
+    (b : Built fs ss memory room first mem table) where
   abbrev pub fcode : List Item
   fcode = functionsCode (suc (length fs)) 1 (suc (length fs) + length ss) fs
 
@@ -226,7 +243,8 @@ module _ (fs : List Fun) (ss : List (List ℕ)) (memory room first : ℕ) (mem :
   unfolding itemsOf
   strings-first =
       let e : past 416 (fcode ++ rest) ≡ first = lays-end memory room 416 2 [] (fcode ++ rest) (b .lays) in
-      omega (arith, e, past-both 416 fcode rest, past-both codeEnd (stringsCode (suc (length fs)) ss) (startsCode 1 fs), past-more (past codeEnd (stringsCode (suc (length fs)) ss)) (startsCode 1 fs))
+      let ws : List Item = stringsCode (suc (length fs)) ss in
+      omega (arith, e, past-both 416 fcode rest, past-both codeEnd ws (startsCode 1 fs), past-more (past codeEnd ws) (startsCode 1 fs))
 
   pub same-address : (n : ℕ) → 1 ≤ n → addressOf table n ≡ addressOf (b .labels) n
   same-address n h = rw (b .table-is) (table-address (b .labels) (room - length (b .labels)) n h)
@@ -236,7 +254,8 @@ module _ (fs : List Fun) (ss : List (List ℕ)) (memory room first : ℕ) (mem :
   globals-are =
       globals-items (b .labels) noGlobals 2 (fcode ++ rest)
       ∙ globals-both (b .labels) noGlobals fcode rest
-      ∙ ap (λ (gs : List ℕ). globalsItems (b .labels) gs rest) (globals-plain (b .labels) noGlobals (plain-functions (suc (length fs)) 1 (suc (length fs) + length ss) fs))
+      ∙ ap (λ (gs : List ℕ). globalsItems (b .labels) gs rest)
+      (globals-plain (b .labels) noGlobals fcode (no-others (suc (length fs)) 1 (suc (length fs) + length ss) fs))
       ∙ globals-both (b .labels) noGlobals (stringsCode (suc (length fs)) ss) (startsCode 1 fs)
       ∙ ap (λ (gs : List ℕ). globalsItems (b .labels) gs (startsCode 1 fs)) (globals-strings (b .labels) noGlobals (suc (length fs)) ss)
       ∙ globals-starts (b .labels) table same-address noGlobals 1 fs (omega arith)
@@ -278,8 +297,8 @@ module _ (fs : List Fun) (ss : List (List ℕ)) (memory room first : ℕ) (mem :
       go : (p : Bool) → ltb x 16 ≡ p → (q r : Bool) → ltb x codeEnd ≡ r → cond p true (cond q r false) ≡ true → x < first
       go true e q r f h = let l : x < 16 = ltb-true x 16 e in omega (arith, b .past-start)
       go false e true true f h = let l : x < codeEnd = ltb-true x codeEnd f in omega (arith, codeEnd-first)
-      go false e true false f h = let z : _≡_ {A = ℕ} 0 1 = cc in absurd (omega arith)
-      go false e false r f h = let z : _≡_ {A = ℕ} 0 1 = cc in absurd (omega arith)
+      go false e true false f h = clash (cc)
+      go false e false r f h = clash (cc)
 
   near : (n : ℕ) → addressOf (b .labels) n < 65536
   near n = omega (arith, address-near memory (b .labels) n (b .proper), b .most)
@@ -320,12 +339,14 @@ module _ (fs : List Fun) (ss : List (List ℕ)) (memory room first : ℕ) (mem :
   standing =
       laid-code memory room env (b .labels) (λ n. refl) near len fcode rest 2 416 [] (b .lays) spot (all-coded 416 fcode (omega arith) (omega arith))
       λ p ls k h s.
-      laid-code memory room env (b .labels) (λ n. refl) near len (stringsCode (suc (length fs)) ss) (startsCode 1 fs) p codeEnd ls h s (strings-coded codeEnd (suc (length fs)) ss)
+      laid-code memory room env (b .labels) (λ n. refl) near len (stringsCode (suc (length fs)) ss) (startsCode 1 fs) p codeEnd ls h s
+      (strings-coded codeEnd (suc (length fs)) ss)
       λ p′ ls′ k′ h′ s′. record { functions = k; strings = k′ }
 
   -- the words 0 to 7
   low-word : (n : ℕ) → n < 16 → getD mem n 0 ≡ getD start n 0
-  low-word n l = rw image-split (List·getD-append start (globalsNow ++ (program (b .labels) (places 2 (itemsOf fs ss)) ++ replicate (memory - first) 0)) 0 n l)
+  low-word n l =
+      rw image-split (List·getD-append start (globalsNow ++ (program (b .labels) (places 2 (itemsOf fs ss)) ++ replicate (memory - first) 0)) 0 n l)
 
   low-at : (f x : ℕ) (i : Bool) (base : I.Base) (at : ℕ) → at < 16 → x < 512
       → getD start at 0 ≡ f * 8192 + indirectBit i + baseBit base + x → At env at f i base x (suc at)
@@ -359,12 +380,14 @@ module _ (fs : List Fun) (ss : List (List ℕ)) (memory room first : ℕ) (mem :
         sym (addresses-at table (suc (length fs)) (length ss) k l ∙ same-address (suc (length fs) + k) (omega arith));
     rdch = (
       5,
-      next (is-number (low-at 7 27 false I.none 3 (omega arith) (omega arith) refl)) (next (is-number (low-at 7 4 false I.none 4 (omega arith) (omega arith) refl)) (end refl)),
+      next (is-number (low-at 7 27 false I.none 3 (omega arith) (omega arith) refl))
+          (next (is-number (low-at 7 4 false I.none 4 (omega arith) (omega arith) refl)) (end refl)),
     );
     wrch = (
       8,
       next (is-number (low-at 0 2 true I.P 5 (omega arith) (omega arith) refl))
-          (next (is-number (low-at 7 28 false I.none 6 (omega arith) (omega arith) refl)) (next (is-number (low-at 7 4 false I.none 7 (omega arith) (omega arith) refl)) (end refl))),
+          (next (is-number (low-at 7 28 false I.none 6 (omega arith) (omega arith) refl))
+          (next (is-number (low-at 7 4 false I.none 7 (omega arith) (omega arith) refl)) (end refl))),
     );
   }
     where
@@ -373,11 +396,8 @@ module _ (fs : List Fun) (ss : List (List ℕ)) (memory room first : ℕ) (mem :
           let x = position-found v entries 0 k h in
           let l : k < length fs = omega (arith, x .is, x .within, addresses-length table 1 (length fs)) in
           let z : x .at ≡ k = omega (arith, x .is) in
-          let e : addressOf (b .labels) (1 + k) ≡ v = sym (same-address (1 + k) (omega arith)) ∙ sym (addresses-at table 1 (length fs) k l) ∙ (rw z at (x .entry)) in
-          let f : FunctionAt env (suc (length fs)) (addressOf (b .labels) (1 + k)) (getD fs k noFun) = function-at env (suc (length fs)) fs 1 (suc (length fs) + length ss) k (standing .functions) l in
-          record {
-            labels = f .labels;
-            end = f .end;
-            code = rw e at (f .code);
-            formed = rw strings-count (formed k l);
-          }
+          let e : addressOf (b .labels) (1 + k) ≡ v
+          = sym (same-address (1 + k) (omega arith)) ∙ sym (addresses-at table 1 (length fs) k l) ∙ (rw z at (x .entry)) in
+          let f : FunctionAt env (suc (length fs)) (addressOf (b .labels) (1 + k)) (getD fs k noFun)
+          = function-at env (suc (length fs)) fs 1 (suc (length fs) + length ss) k (standing .functions) l in
+          record { labels = f .labels; end = f .end; code = rw e at (f .code); formed = rw strings-count (formed k l) }

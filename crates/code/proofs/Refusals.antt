@@ -1,6 +1,6 @@
 -- The compiler's text has a label a source byte at most, and is refused only by 24 or 25: its labels differ and those used are there.
 use Prim.Native.Nat.{ℕ, suc, _+_, _-_, _≤_}
-use mathlib.Core.Path.{_≡_, refl, ap}
+use mathlib.Core.Path.{_≡_, refl}
 use mathlib.Core.Bool.{Bool, true, false, cond}
 use mathlib.Core.Logic.{_⊎_}
 use mathlib.Core.List.{List, [], _∷_, _++_}
@@ -18,14 +18,14 @@ use Rattle.assembler.specs.Layout.{usedBy, uses}
 use Rattle.assembler.specs.Assemble.{assembled}
 use Rattle.assembler.specs.declared.Assembled.the-variants.{Refused}
 use Rattle.assembler.proofs.Rendering.{seen, labelsOf, Clean, AllKnown, rendered-only}
-use Rattle.language.specs.Program.{Named, accepted}
+use Rattle.language.specs.Program.{accepted}
 use Rattle.language.specs.Whole.{refusalOf, funs, functionsIn, stringsIn}
 use Rattle.code.specs.Placed.{labelCount}
-use Rattle.code.specs.Generate.{bodyLabels, itemsOf, textOf}
+use Rattle.code.specs.Generate.{itemsOf, textOf}
 use Rattle.code.proofs.Sounding.{Within, RightOperand, Sounds, s-none, s-more, right-range, all-sound}
-use Rattle.code.proofs.Marks.{marks, funLabels, items-marks}
+use Rattle.code.proofs.Measures.{sum, marks, funLabels, items-marks}
 use Rattle.language.proofs.Accepted.{Facts, facts}
-use Rattle.code.proofs.GoodSource.{ns, total, few-in-all, total-low, innerLabels, items-sound}
+use Rattle.code.proofs.GoodSource.{ns, total, few-in-all, total-low, items-sound}
 
 -- ---- how many labels
 
@@ -35,8 +35,8 @@ count-up a b l = l
 abbrev pub number-of : ℕ → ℕ
 number-of n = n
 
-count-places : (p : ℕ) (is : List Item) → labelCount (places p is) ≡ marks number-of count-up is
-unfolding labelCount places marks
+count-places : (p : ℕ) (is : List Item) → labelCount (places p is) ≡ marks number-of is
+unfolding labelCount places sum
 count-places p [] = refl
 count-places p (label n ∷ is) = omega (arith, count-places (p + length (render (label n)) + 1) is)
 count-places p (instruction f i b x ∷ is) = omega (arith, count-places (p + length (render (instruction f i b x)) + 1) is)
@@ -82,8 +82,8 @@ unfolding times
 times-both k [] ys = omega arith
 times-both k (x ∷ xs) ys = omega (arith, times-both k xs ys)
 
-times-marks : (k : ℕ) (is : List Item) → times k (labelsOf is) ≡ marks (passed k) (passed-up k) is
-unfolding labelsOf times marks
+times-marks : (k : ℕ) (is : List Item) → times k (labelsOf is) ≡ marks (passed k) is
+unfolding labelsOf times sum
 times-marks k [] = refl
 times-marks k (label n ∷ is) = omega (arith, times-marks k is, passed-point k n)
 times-marks k (instruction f i b x ∷ is) = omega (arith, times-marks k is)
@@ -123,10 +123,14 @@ module _ (T : ℕ) (low : T ≤ 32768) where
     where
       same : (n : ℕ) → point n n ≡ 1
       same n = rw (eq-eqb n n refl)
-  clean-all before (instruction f i b x ∷ is) (s-more p q) h = (right-range T low (instruction f i b x) p, tt, clean-all (before ++ []) is q (λ k. omega (arith, h k, times-both k before [])))
-  clean-all before (constant x ∷ is) (s-more p q) h = (right-range T low (constant x) p, tt, clean-all (before ++ []) is q (λ k. omega (arith, h k, times-both k before [])))
-  clean-all before (I.string cs ∷ is) (s-more p q) h = (right-range T low (I.string cs) p, tt, clean-all (before ++ []) is q (λ k. omega (arith, h k, times-both k before [])))
-  clean-all before (I.global n m ∷ is) (s-more p q) h = (right-range T low (I.global n m) p, tt, clean-all (before ++ []) is q (λ k. omega (arith, h k, times-both k before [])))
+  clean-all before (instruction f i b x ∷ is) (s-more p q) h =
+      (right-range T low (instruction f i b x) p, tt, clean-all (before ++ []) is q (λ k. omega (arith, h k, times-both k before [])))
+  clean-all before (constant x ∷ is) (s-more p q) h =
+      (right-range T low (constant x) p, tt, clean-all (before ++ []) is q (λ k. omega (arith, h k, times-both k before [])))
+  clean-all before (I.string cs ∷ is) (s-more p q) h =
+      (right-range T low (I.string cs) p, tt, clean-all (before ++ []) is q (λ k. omega (arith, h k, times-both k before [])))
+  clean-all before (I.global n m ∷ is) (s-more p q) h =
+      (right-range T low (I.global n m) p, tt, clean-all (before ++ []) is q (λ k. omega (arith, h k, times-both k before [])))
 
   module _ (labels : List ℕ) (there : (k : ℕ) → Within T k → seen labels k ≡ true) where
     one-known : (k : ℕ) → Within T k → cond (eqb k 0) true (seen labels k) ≡ true
@@ -150,11 +154,6 @@ module _ (T : ℕ) (low : T ≤ 32768) where
     known-all (s-more {x = I.string cs} p q) = (refl, known-all q)
     known-all (s-more {x = I.global n m} p q) = (one-known m (p .start), known-all q)
 
-fun-labels : (ns : List Named) → funLabels (funs ns) ≡ innerLabels ns
-unfolding funs funLabels innerLabels
-fun-labels [] = refl
-fun-labels (n ∷ ns) = ap (λ (k : ℕ). bodyLabels (n .fun .body) + k) (fun-labels ns)
-
 -- ---- the text of a source that is accepted
 
 module _ (source : List ℕ) (x : Facts source) where
@@ -162,11 +161,13 @@ module _ (source : List ℕ) (x : Facts source) where
   items = itemsOf (funs (ns source x)) (stringsIn source)
 
   all-labels : suc (length (funs (ns source x))) + length (stringsIn source) + funLabels (funs (ns source x)) ≡ total source x
-  all-labels = omega (arith, fun-labels (ns source x))
+  all-labels = refl
 
   often : (k : ℕ) → times k (labelsOf items) + passed k 1 ≡ passed k (total source x)
   unfolding items
-  often k = rw (times-marks k (itemsOf (funs (ns source x)) (stringsIn source))) (items-marks (passed k) (passed-up k) (funs (ns source x)) (stringsIn source) (total source x) all-labels)
+  often k =
+      rw (times-marks k (itemsOf (funs (ns source x)) (stringsIn source)))
+      (items-marks (passed k) (passed-up k) (funs (ns source x)) (stringsIn source) (total source x) all-labels)
 
   at-most-once : (k : ℕ) → times k (labelsOf items) ≤ 1
   at-most-once k = omega (arith, often k, one (ltb k (total source x)))
@@ -178,7 +179,8 @@ module _ (source : List ℕ) (x : Facts source) where
   once : (k : ℕ) → Within (total source x) k → seen (labelsOf items) k ≡ true
   once k w = seen-some k (labelsOf items) (go (ltb k 1) refl (ltb k (total source x)) refl (often k))
     where
-      go : (s : Bool) → ltb k 1 ≡ s → (t : Bool) → ltb k (total source x) ≡ t → times k (labelsOf items) + cond s 1 0 ≡ cond t 1 0 → 1 ≤ times k (labelsOf items)
+      go : (s : Bool) → ltb k 1 ≡ s → (t : Bool) → ltb k (total source x) ≡ t → times k (labelsOf items) + cond s 1 0 ≡ cond t 1 0
+          → 1 ≤ times k (labelsOf items)
       go true e t f h = absurd (omega (arith, ltb-true k 1 e, w .first))
       go false e true f h = omega arith
       go false e false f h = absurd (omega (arith, ltb-false k (total source x) f, w .last))
@@ -191,11 +193,11 @@ module _ (source : List ℕ) (x : Facts source) where
   unfolding items
   items-right = items-sound source x
 
-  counted : marks number-of count-up items + 1 ≡ total source x
+  counted : marks number-of items + 1 ≡ total source x
   unfolding items
   counted = items-marks number-of count-up (funs (ns source x)) (stringsIn source) (total source x) all-labels
 
-  pub items-count : marks number-of count-up (itemsOf (functionsIn source) (stringsIn source)) + 1 ≡ total source x
+  pub items-count : marks number-of (itemsOf (functionsIn source) (stringsIn source)) + 1 ≡ total source x
   items-count = rw same-items counted
 
   labels-most : labelCount (scan (renderAll items) .items) ≤ length source
@@ -218,7 +220,9 @@ pub few-labels : (source : List ℕ) (scratch : ℕ) → refusalOf source scratc
 unfolding textOf
 few-labels source scratch a = rw (same-items source (facts source scratch a)) (labels-most source (facts source scratch a))
 
-pub refused-only : (source : List ℕ) (scratch : ℕ) → refusalOf source scratch ≡ accepted → (memory room : ℕ) (r : Refusal) → assembled (textOf source) memory room .answer ≡ Refused r
+pub refused-only : (source : List ℕ) (scratch : ℕ) → refusalOf source scratch ≡ accepted → (memory room : ℕ) (r : Refusal)
+    → assembled (textOf source) memory room .answer ≡ Refused r
     → (r .number ≡ 24) ⊎ (r .number ≡ 25)
 unfolding textOf
-refused-only source scratch a memory room r h = items-only source (facts source scratch a) memory room r (rw (same-items source (facts source scratch a)) at h)
+refused-only source scratch a memory room r h =
+    items-only source (facts source scratch a) memory room r (rw (same-items source (facts source scratch a)) at h)

@@ -2,51 +2,42 @@
 -- A run starts at a height h, below which words that are gone are kept, and ends at a height h′, above which all words are gone.
 use Prim.Native.Nat.{ℕ, _+_, _*_, _≤_, _<_}
 use mathlib.Core.Path.{_≡_, refl, sym, _∙_}
-use mathlib.Core.Bool.{Bool, true, false, cond}
+use mathlib.Core.Bool.{true, false}
 use mathlib.Core.List.{List}
 use native.Mathlib.Omega.{arith}
 use native.Mathlib.Decide.{ℕ-discrete, decLt}
 use lib.Dec.{leb}
 use lib.ListN.{length, getD, set, length-set}
 use lib.Seq.{getD-set-same, getD-set-other}
-use borrow.Author.Tests.{le-leb, lt-leb, leb-true, ne-eqb, eq-eqb}
+use borrow.Author.Tests.{le-leb, leb-true, ne-eqb, eq-eqb}
 use Rattle.items.specs.Item as I
 use Rattle.machine.specs.State as M
 use Rattle.language.specs.State.{Cell, gone, holds, State, Result, ok, bind, step, put, forget}
 use Rattle.language.specs.Run.{reach}
-use Rattle.code.proofs.Results.{Post, p-unfinished, p-ok, p-returned, p-finished, p-undefined, post-map, post-bind, post-cond, Live, live-unset, live-holds}
+use Rattle.code.proofs.Results.{Post, p-unfinished, p-ok, p-returned, p-finished, p-undefined, post-map, post-bind, post-cond, Live}
+use Rattle.code.proofs.Results.{live-unset, live-holds}
 use Rattle.code.proofs.Machine.{Mach, Goes, goes-not, goes-on}
 use Rattle.code.proofs.Standing.{Env, Agree, At}
 use Rattle.code.proofs.Instructions.{withMem}
+use Rattle.language.proofs.Cases.{clash, by-cond}
 
 pub gone-holds : {c : Cell} {v : ℕ} → c ≡ gone → c ≡ holds v → ⊥
-gone-holds e f = let z : _≡_ {A = ℕ} 0 1 = cc in omega arith
+gone-holds e f = clash (cc)
 
 pub gone-live : {c : Cell} → Live c → c ≡ gone → ⊥
-gone-live live-unset e = let z : _≡_ {A = ℕ} 0 1 = cc in omega arith
-gone-live live-holds e = let z : _≡_ {A = ℕ} 0 1 = cc in omega arith
+gone-live live-unset e = clash (cc)
+gone-live live-holds e = clash (cc)
 
 -- ---- cells forgotten
 
 pub forget-above : (base : ℕ) (s : State) (a : ℕ) → base ≤ a → forget base s .cells a ≡ gone
 forget-above base s a l = rw (le-leb base a l) refl
 
-pub forget-below : (base : ℕ) (s : State) (a : ℕ) → a < base → forget base s .cells a ≡ s .cells a
-forget-below base s a l = rw (lt-leb base a l) refl
-
 pub forget-gone : (base : ℕ) (s : State) (a : ℕ) → s .cells a ≡ gone → forget base s .cells a ≡ gone
-forget-gone base s a g = go (leb base a)
-  where
-    go : (b : Bool) → cond b gone (s .cells a) ≡ gone
-    go true = refl
-    go false = g
+forget-gone base s a g = by-cond (λ c. c ≡ gone) (leb base a) refl g
 
 pub forget-holds : (base : ℕ) (s : State) (a w : ℕ) → forget base s .cells a ≡ holds w → s .cells a ≡ holds w
-forget-holds base s a w g = go (leb base a) g
-  where
-    go : (b : Bool) → cond b gone (s .cells a) ≡ holds w → s .cells a ≡ holds w
-    go true e = let k : _≡_ {A = ℕ} 0 1 = cc in absurd (omega arith)
-    go false e = e
+forget-holds base s a w g = by-cond (λ c. c ≡ holds w → s .cells a ≡ holds w) (leb base a) (λ e. cc) (λ e. e) g
 
 -- the same state but for its greatest use
 pub record Like (s u : State) : Type 0 where
@@ -124,28 +115,52 @@ module _ (Γ : Env) where
       → Sim t p h₁ h₂ s v s₁ v₁ → Leaves t′ p h s₁ v₁ s₂ → Leaves (t + t′) p h s v s₂
   seq-leaves l x y = record { h′ = y .h′; v′ = y .v′; sim = seq-sim l x (y .sim); past = y .past; return = y .return }
 
-  seq-ends : {t t′ p h h′ : ℕ} {s s₁ s₂ : State} {v v₁ : Mach} → Sim t p h h′ s v s₁ v₁ → Ends t′ s₁ v₁ s₂ → Ends (t + t′) s v s₂
-  seq-ends x y = record {
-    v′ = y .v′;
+  -- the same end, of a run that starts earlier and within other bounds
+  pub ends-from : {t t′ k : ℕ} {s u s′ : State} {v₀ v : Mach} → Goes (Γ .input) k v₀ v
+      → ((n m : ℕ) → n + 16 * u .steps ≤ t + 16 * m → k + n + 16 * s .steps ≤ t′ + 16 * m) → Ends t u v s′ → Ends t′ s v₀ s′
+  ends-from g f e = record {
+    v′ = e .v′;
     n = _;
-    goes = goes-on (Γ .input) (x .goes) (y .goes);
-    past = y .past;
-    finish = y .finish;
-    agree = y .agree;
-    vals = y .vals;
-    bytes = y .bytes;
-    taken = y .taken;
-    time = omega (arith, x .time, y .time);
+    goes = goes-on (Γ .input) g (e .goes);
+    past = e .past;
+    finish = e .finish;
+    agree = e .agree;
+    vals = e .vals;
+    bytes = e .bytes;
+    taken = e .taken;
+    time = f _ _ (e .time);
   }
+
+  -- a run to a finish
+  pub at-finish : {t p h n past : ℕ} {s s′ : State} {v v′ : Mach} → Goes (Γ .input) n v v′ → Rel p h s′ v′ → At Γ (v′ .regs .c) 7 false I.none 22 past
+      → n + 16 * s .steps ≤ t + 16 * s′ .steps → Ends t s v s′
+  at-finish {n = n} {past = past} {v′ = v′} g r i l = record {
+    v′ = v′;
+    n = n;
+    goes = g;
+    past = past;
+    finish = i;
+    agree = r .agree;
+    vals = r .vals;
+    bytes = r .bytes;
+    taken = r .taken;
+    time = l;
+  }
+
+  pub more-ends : {t t′ : ℕ} {s s′ : State} {v : Mach} → Ends t s v s′ → t ≤ t′ → Ends t′ s v s′
+  more-ends {v = v} e l = ends-from (goes-not (Γ .input) v) (λ n m k. omega arith) e
 
   pub after : {A : Type 0} {Q : A → Mach → Type 0} {t t′ p h h₁ h₂ h₃ : ℕ} {s s₁ : State} {v v₁ : Mach} {x : Result A} → h ≤ h₁
       → Sim t p h₁ h₂ s v s₁ v₁ → Runs Q t′ p h h₃ s₁ v₁ x → Runs Q (t + t′) p h h₃ s v x
-  after l y z = post-map z (λ a s e. record { v′ = e .v′; sim = seq-sim l y (e .sim); is = e .is }) (λ s e. seq-leaves l y e) (λ s e. seq-ends y e)
+  after l y z =
+      post-map z (λ a s e. record { v′ = e .v′; sim = seq-sim l y (e .sim); is = e .is }) (λ s e. seq-leaves l y e)
+      (λ s e. ends-from (y .goes) (λ n m k. omega (arith, y .time)) e)
 
   -- ---- fewer instructions, and a lower start
 
   abbrev Looser : (t t′ p h h₁ : ℕ) (s u : State) → Type 0
-  Looser t t′ p h h₁ s u = (h ≤ h₁) × ((n m : ℕ) → n + 16 * u .steps ≤ t + 16 * m → n + 16 * s .steps ≤ t′ + 16 * m) × ((a : ℕ) → u .cells a ≡ s .cells a)
+  Looser t t′ p h h₁ s u =
+      (h ≤ h₁) × ((n m : ℕ) → n + 16 * u .steps ≤ t + 16 * m → n + 16 * s .steps ≤ t′ + 16 * m) × ((a : ℕ) → u .cells a ≡ s .cells a)
 
   loose-sim : {t t′ p h h₁ h₂ : ℕ} {s u s′ : State} {v v′ : Mach} → Looser t t′ p h h₁ s u → Sim t p h₁ h₂ u v s′ v′ → Sim t′ p h h₂ s v s′ v′
   loose-sim {h = h} {h₁ = h₁} q x = record {
@@ -157,42 +172,18 @@ module _ (Γ : Env) where
     time = q .1 _ _ (x .time);
   }
 
+  loose-leaves : {t t′ p h h₁ : ℕ} {s u s′ : State} {v : Mach} → Looser t t′ p h h₁ s u → Leaves t p h₁ u v s′ → Leaves t′ p h s v s′
+  loose-leaves q e = record { h′ = e .h′; v′ = e .v′; sim = loose-sim q (e .sim); past = e .past; return = e .return }
+
   loose : {A : Type 0} {Q : A → Mach → Type 0} {t t′ p h h₁ h₂ : ℕ} {s u : State} {v : Mach} {x : Result A} → Looser t t′ p h h₁ s u
       → Runs Q t p h₁ h₂ u v x → Runs Q t′ p h h₂ s v x
-  loose q z =
-      post-map z
-      (λ a s e. record { v′ = e .v′; sim = loose-sim q (e .sim); is = e .is })
-      (λ s e. record { h′ = e .h′; v′ = e .v′; sim = loose-sim q (e .sim); past = e .past; return = e .return })
-      (λ s e. record {
-        v′ = e .v′;
-        n = _;
-        goes = e .goes;
-        past = e .past;
-        finish = e .finish;
-        agree = e .agree;
-        vals = e .vals;
-        bytes = e .bytes;
-        taken = e .taken;
-        time = q .1 _ _ (e .time);
-      })
+  loose {v = v} q z =
+      post-map z (λ a s e. record { v′ = e .v′; sim = loose-sim q (e .sim); is = e .is }) (λ s e. loose-leaves q e)
+      (λ s e. ends-from (goes-not (Γ .input) v) (λ n m k. omega (arith, q .1 n m k)) e)
 
   pub weaken : {A : Type 0} {Q : A → Mach → Type 0} {t t′ p h h₂ : ℕ} {s : State} {v : Mach} {x : Result A}
       → Runs Q t p h h₂ s v x → t ≤ t′ → Runs Q t′ p h h₂ s v x
   weaken z l = loose (omega arith, (λ n m k. omega arith), (λ a. refl)) z
-
-  pub more-ends : {t t′ : ℕ} {s s′ : State} {v : Mach} → Ends t s v s′ → t ≤ t′ → Ends t′ s v s′
-  more-ends e l = record {
-    v′ = e .v′;
-    n = _;
-    goes = e .goes;
-    past = e .past;
-    finish = e .finish;
-    agree = e .agree;
-    vals = e .vals;
-    bytes = e .bytes;
-    taken = e .taken;
-    time = omega (arith, e .time);
-  }
 
   -- one step of the source more allows 16 instructions more
   pub paid : {A : Type 0} {Q : A → Mach → Type 0} {t p h h₂ : ℕ} {s : State} {v : Mach} {x : Result A}
@@ -209,24 +200,13 @@ module _ (Γ : Env) where
 
   -- ---- results of parts
 
-  pub then : {A B : Type 0} {Q : A → Mach → Type 0} {Q′ : B → Mach → Type 0} {t t′ p h h₁ h₂ h₃ : ℕ} {s : State} {v : Mach} {x : Result A} {f : A → State → Result B} → h ≤ h₁
-      → Runs Q t p h₁ h₂ s v x → ((a : A) (s₁ : State) (v₁ : Mach) → Sim t p h₁ h₂ s v s₁ v₁ → Q a v₁ → Runs Q′ t′ p h h₃ s₁ v₁ (f a s₁))
+  pub then : {A B : Type 0} {Q : A → Mach → Type 0} {Q′ : B → Mach → Type 0} {t t′ p h h₁ h₂ h₃ : ℕ} {s : State} {v : Mach} {x : Result A}
+      {f : A → State → Result B} → h ≤ h₁ → Runs Q t p h₁ h₂ s v x
+      → ((a : A) (s₁ : State) (v₁ : Mach) → Sim t p h₁ h₂ s v s₁ v₁ → Q a v₁ → Runs Q′ t′ p h h₃ s₁ v₁ (f a s₁))
       → Runs Q′ (t + t′) p h h₃ s v (bind x f)
   then l z g =
       post-bind z (λ a s₁ e. after l (e .sim) (g a s₁ (e .v′) (e .sim) (e .is)))
-      (λ s₁ e. record { h′ = e .h′; v′ = e .v′; sim = loose-sim (l, (λ n m k. omega arith), (λ a. refl)) (e .sim); past = e .past; return = e .return })
-      (λ s₁ e. record {
-        v′ = e .v′;
-        n = _;
-        goes = e .goes;
-        past = e .past;
-        finish = e .finish;
-        agree = e .agree;
-        vals = e .vals;
-        bytes = e .bytes;
-        taken = e .taken;
-        time = omega (arith, e .time);
-      })
+      (λ s₁ e. loose-leaves (l, (λ n m k. omega arith), (λ a. refl)) e) (λ s₁ e. more-ends e (omega arith))
 
   -- the same where nothing more is run
   pub ending : {A : Type 0} {Q Q′ : A → Mach → Type 0} {t t′ p h h₁ h₂ h₃ : ℕ} {s : State} {v : Mach} {x : Result A} → h ≤ h₁
@@ -235,77 +215,53 @@ module _ (Γ : Env) where
   ending l p-unfinished g = p-unfinished
   ending l p-undefined g = p-undefined
   ending l (p-finished e) g = p-finished (more-ends e (omega arith))
-  ending l (p-returned e) g =
-      p-returned (record { h′ = e .h′; v′ = e .v′; sim = loose-sim (l, (λ n m k. omega arith), (λ a. refl)) (e .sim); past = e .past; return = e .return })
+  ending l (p-returned e) g = p-returned (loose-leaves (l, (λ n m k. omega arith), (λ a. refl)) e)
   ending l (p-ok e) g = after l (e .sim) (g _ _ (e .v′) (e .sim) (e .is))
 
   pub stay : {p h : ℕ} {s : State} {v : Mach} → Rel p h s v → Sim 0 p h h s v s v
   stay {v = v} r = record { n = 0; goes = goes-not (Γ .input) v; rel = r; keep = λ a l g. g; frame = λ a l g. refl; time = omega arith }
 
   -- over, here
-  pub over : {A : Type 0} {Q : A → Mach → Type 0} {p h₀ h : ℕ} {s : State} {v : Mach} {a : A} → h₀ ≤ h → Rel p h s v → Q a v → Runs Q 0 p h₀ h s v (ok a s)
+  pub over : {A : Type 0} {Q : A → Mach → Type 0} {p h₀ h : ℕ} {s : State} {v : Mach} {a : A} → h₀ ≤ h → Rel p h s v → Q a v
+      → Runs Q 0 p h₀ h s v (ok a s)
   over {v = v} l r q = p-ok (record { v′ = v; sim = loose-sim (l, (λ n m k. k), (λ a. refl)) (stay r); is = q })
 
   -- ---- heights
 
-  pub like-rel : {p h : ℕ} {s u : State} {v : Mach} → Like s u → Rel p h s v → Rel p h u v
-  like-rel q r = record {
+  -- other cells, beside the same machine
+  with-cells : {p h h′ : ℕ} {s s′ : State} {v : Mach} → Rel p h s v → p + h′ ≤ Γ .limit → ((a w : ℕ) → s′ .cells a ≡ holds w → getD (v .mem) a 0 ≡ w)
+      → ((a : ℕ) → p + h′ ≤ a → s′ .cells a ≡ gone) → ((a : ℕ) → Γ .isCode a ≡ true → s′ .cells a ≡ gone)
+      → s′ .output ≡ s .output → s′ .taken ≡ s .taken → Rel p h′ s′ v
+  with-cells r room vals above code eo et = record {
     agree = r .agree;
     frame-at = r .frame-at;
     globals-at = r .globals-at;
-    room = r .room;
+    room = room;
     base = r .base;
-    vals = λ a w g. r .vals a w (sym (q .cells a) ∙ g);
-    above = λ a l. q .cells a ∙ r .above a l;
-    code-gone = λ a l. q .cells a ∙ r .code-gone a l;
-    bytes = r .bytes ∙ sym (q .output);
-    taken = r .taken ∙ sym (q .taken);
+    vals = vals;
+    above = above;
+    code-gone = code;
+    bytes = r .bytes ∙ sym eo;
+    taken = r .taken ∙ sym et;
   }
 
+  pub like-rel : {p h : ℕ} {s u : State} {v : Mach} → Like s u → Rel p h s v → Rel p h u v
+  like-rel q r =
+      with-cells r (r .room) (λ a w g. r .vals a w (sym (q .cells a) ∙ g)) (λ a l. q .cells a ∙ r .above a l) (λ a l. q .cells a ∙ r .code-gone a l)
+      (q .output) (q .taken)
+
   pub ticked : {p h : ℕ} {s : State} {v : Mach} → Rel p h s v → Rel p h (step s) v
-  ticked r = record {
-    agree = r .agree;
-    frame-at = r .frame-at;
-    globals-at = r .globals-at;
-    room = r .room;
-    base = r .base;
-    vals = r .vals;
-    above = r .above;
-    code-gone = r .code-gone;
-    bytes = r .bytes;
-    taken = r .taken;
-  }
+  ticked r = with-cells r (r .room) (r .vals) (r .above) (r .code-gone) refl refl
 
   -- a greater height
   pub raise : {p h h′ : ℕ} {s : State} {v : Mach} → Rel p h s v → h ≤ h′ → p + h′ ≤ Γ .limit → Rel p h′ s v
-  raise r l k = record {
-    agree = r .agree;
-    frame-at = r .frame-at;
-    globals-at = r .globals-at;
-    room = k;
-    base = r .base;
-    vals = r .vals;
-    above = λ a j. r .above a (omega arith);
-    code-gone = r .code-gone;
-    bytes = r .bytes;
-    taken = r .taken;
-  }
+  raise r l k = with-cells r k (r .vals) (λ a j. r .above a (omega arith)) (r .code-gone) refl refl
 
   -- and back, after a run at the greater one
   pub sink-rel : {p h h′ : ℕ} {s s′ : State} {v v′ : Mach} → Rel p h s v → h ≤ h′ → Rel p h′ s′ v′
       → ((a : ℕ) → a < p + h′ → s .cells a ≡ gone → s′ .cells a ≡ gone) → Rel p h s′ v′
-  sink-rel {p} {h} {h′} {s} {s′} r l x keep = record {
-    agree = x .agree;
-    frame-at = x .frame-at;
-    globals-at = x .globals-at;
-    room = omega (arith, x .room);
-    base = x .base;
-    vals = x .vals;
-    above = λ a k. pick a k (decLt a (p + h′));
-    code-gone = x .code-gone;
-    bytes = x .bytes;
-    taken = x .taken;
-  }
+  sink-rel {p} {h} {h′} {s} {s′} r l x keep =
+      with-cells x (omega (arith, x .room)) (x .vals) (λ a k. pick a k (decLt a (p + h′))) (x .code-gone) refl refl
     where
       pick : (a : ℕ) → p + h ≤ a → Dec (a < p + h′) → s′ .cells a ≡ gone
       pick a k (yes m) = keep a m (r .above a k)
@@ -320,7 +276,8 @@ module _ (Γ : Env) where
       → Runs Q t p h h₂ s v (reach (Γ .limit) base k s more)
   reaching-in base k more f =
       post-cond (leb (base + k) (Γ .limit))
-      (λ e. let q : Like _ _ = record { cells = λ a. refl; taken = refl; output = refl; steps = refl } in like-runs q (f _ q (leb-true (base + k) (Γ .limit) e)))
+      (λ e. let q : Like _ _ = record { cells = λ a. refl; taken = refl; output = refl; steps = refl } in like-runs q
+      (f _ q (leb-true (base + k) (Γ .limit) e)))
       (λ e. p-undefined)
 
   pub reaching : {A : Type 0} {Q : A → Mach → Type 0} {t p h h₂ : ℕ} {s : State} {v : Mach} (k : ℕ) (more : State → Result A)
@@ -346,18 +303,7 @@ module _ (Γ : Env) where
   open-scope {p} {h} {h′} {s} {u} {v} r l k same vals above eo et es = record {
     n = 0;
     goes = goes-not (Γ .input) v;
-    rel = record {
-      agree = r .agree;
-      frame-at = r .frame-at;
-      globals-at = r .globals-at;
-      room = l;
-      base = r .base;
-      vals = λ a w g. pick a w g (decLt a (p + h));
-      above = above;
-      code-gone = λ a c. same a (omega (arith, r .base a c)) ∙ r .code-gone a c;
-      bytes = r .bytes ∙ sym eo;
-      taken = r .taken ∙ sym et;
-    };
+    rel = with-cells r l (λ a w g. pick a w g (decLt a (p + h))) above (λ a c. same a (omega (arith, r .base a c)) ∙ r .code-gone a c) eo et;
     keep = λ a j g. same a j ∙ g;
     frame = λ a j g. refl;
     time = omega arith;
@@ -377,18 +323,8 @@ module _ (Γ : Env) where
       shut s₁ v₁ x = record {
         n = _;
         goes = x .goes;
-        rel = record {
-          agree = x .rel .agree;
-          frame-at = x .rel .frame-at;
-          globals-at = x .rel .globals-at;
-          room = omega (arith, x .rel .room);
-          base = x .rel .base;
-          vals = λ a w g. x .rel .vals a w (forget-holds (p + h) s₁ a w g);
-          above = λ a k. forget-above (p + h) s₁ a k;
-          code-gone = λ a k. forget-gone (p + h) s₁ a (x .rel .code-gone a k);
-          bytes = x .rel .bytes;
-          taken = x .rel .taken;
-        };
+        rel = with-cells (x .rel) (omega (arith, x .rel .room)) (λ a w g. x .rel .vals a w (forget-holds (p + h) s₁ a w g)) (forget-above (p + h) s₁)
+            (λ a k. forget-gone (p + h) s₁ a (x .rel .code-gone a k)) refl refl;
         keep = λ a k g. forget-gone (p + h) s₁ a (x .keep a k g);
         frame = x .frame;
         time = x .time;
@@ -404,10 +340,11 @@ module _ (Γ : Env) where
 
   -- ---- instructions
 
-  -- one that leaves memory, P, G and output alone
-  pub quiet : {p h : ℕ} {s : State} {v v′ : Mach} → Rel p h s v → Goes (Γ .input) 1 v v′
-      → v′ .mem ≡ v .mem → v′ .regs .p ≡ v .regs .p → v′ .regs .g ≡ v .regs .g → v′ .regs .taken ≡ v .regs .taken → v′ .bytes ≡ v .bytes → Sim 1 p h h s v s v′
-  quiet {p} {h} {s} {v} {v′} r e em ep eg et eb = record {
+  -- one that leaves memory, P and G alone, where input or output go on
+  pub spoken : {p h : ℕ} {s s′ : State} {v v′ : Mach} → Rel p h s v → Goes (Γ .input) 1 v v′
+      → v′ .mem ≡ v .mem → v′ .regs .p ≡ v .regs .p → v′ .regs .g ≡ v .regs .g → v′ .regs .taken ≡ s′ .taken → v′ .bytes ≡ s′ .output
+      → ((a : ℕ) → s′ .cells a ≡ s .cells a) → s′ .steps ≡ s .steps → Sim 1 p h h s v s′ v′
+  spoken r e em ep eg et eb ec es = record {
     n = _;
     goes = e;
     rel = record {
@@ -416,16 +353,22 @@ module _ (Γ : Env) where
       globals-at = eg ∙ r .globals-at;
       room = r .room;
       base = r .base;
-      vals = λ a w g. rw em (r .vals a w g);
-      above = r .above;
-      code-gone = r .code-gone;
-      bytes = eb ∙ r .bytes;
-      taken = et ∙ r .taken;
+      vals = λ a w g. rw em (r .vals a w (sym (ec a) ∙ g));
+      above = λ a l. ec a ∙ r .above a l;
+      code-gone = λ a l. ec a ∙ r .code-gone a l;
+      bytes = eb;
+      taken = et;
     };
-    keep = λ a l g. g;
+    keep = λ a l g. ec a ∙ g;
     frame = λ a l g. rw em refl;
-    time = omega arith;
+    time = omega (arith, es);
   }
+
+  -- and where they do not
+  pub quiet : {p h : ℕ} {s : State} {v v′ : Mach} → Rel p h s v → Goes (Γ .input) 1 v v′
+      → v′ .mem ≡ v .mem → v′ .regs .p ≡ v .regs .p → v′ .regs .g ≡ v .regs .g → v′ .regs .taken ≡ v .regs .taken → v′ .bytes ≡ v .bytes
+      → Sim 1 p h h s v s v′
+  quiet r e em ep eg et eb = spoken r e em ep eg (et ∙ r .taken) (eb ∙ r .bytes) (λ a. refl) refl
 
   pub agree-set : {m : List ℕ} {a : ℕ} (w : ℕ) → Agree Γ m → ((x : ℕ) → Γ .isCode x ≡ true → x < a) → Agree Γ (set m a w)
   agree-set {m} {a} w g k = record {
@@ -466,7 +409,8 @@ module _ (Γ : Env) where
   put-other s a c x n = rw (ne-eqb x a n) refl
 
   -- a store to a live word
-  pub cell : {p h a b w : ℕ} {s : State} {v : Mach} → Rel p h s v → a < length (Γ .image) → (s .cells a ≡ gone → ⊥) → v .regs .a ≡ w → Goes (Γ .input) 1 v (storing b a v)
+  pub cell : {p h a b w : ℕ} {s : State} {v : Mach} → Rel p h s v → a < length (Γ .image) → (s .cells a ≡ gone → ⊥) → v .regs .a ≡ w
+      → Goes (Γ .input) 1 v (storing b a v)
       → Sim 1 p h h s v (put a (holds w) s) (storing b a v)
   cell {p} {h} {a} {b} {w} {s} {v} r la n ew e = record {
     n = _;

@@ -62,11 +62,7 @@ module _ (Γ : Env) (fits : Fits Γ) (q : Sem) (ih : Sims Γ q) where
 
 pub sims : (Γ : Env) → Fits Γ → (fuel : ℕ) → Sims Γ (sem (Γ .functions) (Γ .place) (Γ .limit) (Γ .input) fuel)
 unfolding sem
-sims Γ fits zero = record {
-  evaluate = λ e n k f pc r. p-unfinished;
-  run = λ c n k f pc r. p-unfinished;
-  turn = λ l t pc r. p-unfinished;
-}
+sims Γ fits zero = record { evaluate = λ e n k f pc r. p-unfinished; run = λ c n k f pc r. p-unfinished; turn = λ l t pc r. p-unfinished }
 sims Γ fits (suc n) = record {
   evaluate = λ e m k f pc r. expressions Γ fits _ (sims Γ fits n) e _ _ m _ _ _ _ k f pc (ticked Γ r);
   run = λ c m k f pc r. commands Γ fits _ (sims Γ fits n) c _ _ m _ _ _ _ _ k f pc r;

@@ -1,132 +1,53 @@
 -- The compiler's text makes at most eight program words a source symbol and sixteen more, its strings' own words apart.
-use Prim.Native.Nat.{ℕ, suc, _+_, _*_, _-_, _≤_}
+use Prim.Native.Nat.{ℕ, _+_, _*_, _≤_}
 use mathlib.Core.Path.{_≡_, refl}
-use mathlib.Core.Bool.{false}
-use mathlib.Core.List.{List, [], _∷_, _++_}
+use mathlib.Core.List.{List, [], _∷_}
 use native.Mathlib.Omega.{arith}
 use lib.ListN.{length}
 use Rattle.items.specs.Item as I
-use Rattle.items.specs.Item.{Item, Placed}
+use Rattle.items.specs.Item.{Item}
 use Rattle.items.specs.Scan as Z
 use Rattle.items.specs.Render.{render}
 use Rattle.items.proofs.Rendered.{places, rendered}
 use Rattle.assembler.specs.Words.{size}
-use Rattle.assembler.specs.Assemble.{assembled}
-use Rattle.assembler.specs.declared.Assembled.the-variants.{Accepted}
 use Rattle.text.proofs.Packed.{length-pairs}
-use Rattle.language.specs.Tree as T
-use Rattle.language.specs.Tree.{Function, Declaration, Program}
-use Rattle.language.specs.Names.{Scope, lookup}
-use Rattle.language.specs.Resolved as R
-use Rattle.language.specs.Resolved.{Body, Fun, Start, nowhere, inGlobal}
 use Rattle.language.specs.Symbols.{scan}
-use Rattle.language.specs.Program.{bodyOf, inside, resolved, startOf, withFunction, functionsAfter, Walk, afterDeclaration, begin, Named, groupOf, declarationFunctions, functionsFrom, functionsOf, accepted}
+use Rattle.language.specs.Program.{begin, Named, functionsOf, accepted}
 use Rattle.language.specs.Whole.{refusalOf, funs, functionsIn, stringsIn}
 use Rattle.code.specs.Placed.{wordCount, stringWords}
-use Rattle.code.specs.Generate.{bodyLabels, bodyCode, functionsCode, stringsCode, startsCode, startIn, itemsOf, textOf}
-use Rattle.language.proofs.Tokens.{bodyTokens, functionsTokens, declarationTokens, programTokens}
-use Rattle.code.proofs.Placing.{past, lays-end}
-use Rattle.code.proofs.Program.{Built, built}
-use Rattle.code.proofs.WordCounts.{size-most, weigh, weigh-both, weighs, exprWords, cmdWords, w-e, w-c}
-use Rattle.code.proofs.WordBounds.{many-e, many-c}
+use Rattle.code.specs.Generate.{itemsOf, textOf}
+use Rattle.code.proofs.Measures.{sum, textSum, sum-items, weigh, size-most}
+use Rattle.code.proofs.Bounds.{allWords, few-program}
 use Rattle.language.proofs.Accepted.{Facts, facts}
 use Rattle.code.proofs.GoodSource.{good}
 
-past-weigh : (at : ℕ) (xs : List Item) → past at xs ≤ at + weigh xs
-unfolding past weigh
-past-weigh at [] = omega arith
-past-weigh at (x ∷ xs) = omega (arith, past-weigh (at + size x) xs, size-most x)
-
 -- the program words of items
 sizes-weigh : (p : ℕ) (xs : List Item) → wordCount (places p xs) ≤ weigh xs
-unfolding wordCount places weigh
+unfolding wordCount places sum
 sizes-weigh p [] = omega arith
 sizes-weigh p (x ∷ xs) = omega (arith, sizes-weigh (p + length (render x) + 1) xs, size-most x)
 
-abbrev bodyWords : Body → ℕ
-bodyWords (R.expression e) = exprWords e
-bodyWords (R.routine c) = cmdWords c
-
-body-weighs : (strings h n : ℕ) (b : Body) → weigh (bodyCode strings h n b) ≤ bodyWords b
-unfolding bodyCode
-body-weighs strings h n (R.expression e) = weighs (w-e strings h n e)
-body-weighs strings h n (R.routine c) = weighs (w-c strings h n _ c)
-
-unfoldable allWords : List Named → ℕ
-allWords [] = 0
-allWords (n ∷ ns) = bodyWords (n .fun .body) + 2 + allWords ns
-
-all-both : (xs ys : List Named) → allWords (xs ++ ys) ≡ allWords xs + allWords ys
-unfolding allWords
-all-both [] ys = omega arith
-all-both (x ∷ xs) ys = omega (arith, all-both xs ys)
-
-functions-weigh : (strings l n : ℕ) (ns : List Named) → weigh (functionsCode strings l n (funs ns)) ≤ allWords ns
-unfolding functionsCode funs allWords weigh
-functions-weigh strings l n [] = omega arith
-functions-weigh strings l n (x ∷ ns) =
-    let rest : List Item = functionsCode strings (suc l) (n + bodyLabels (x .fun .body)) (funs ns) in
-    omega (
-      arith,
-      weigh-both (bodyCode strings (2 + x .fun .parameters) n (x .fun .body)) (I.instruction 7 false I.none (I.number false 4) ∷ rest),
-      body-weighs strings (2 + x .fun .parameters) n (x .fun .body),
-      functions-weigh strings (suc l) (n + bodyLabels (x .fun .body)) ns,
-    )
-
-strings-weigh : (l : ℕ) (ss : List (List ℕ)) → weigh (stringsCode l ss) ≡ stringWords ss
-unfolding stringsCode weigh size stringWords
-strings-weigh l [] = refl
-strings-weigh l (cs ∷ ss) = omega (arith, strings-weigh (suc l) ss, length-pairs (length cs) cs)
-
-starts-weigh : (l : ℕ) (fs : List Fun) → weigh (startsCode l fs) ≤ 0
-unfolding startsCode weigh size
-starts-weigh l [] = omega arith
-starts-weigh l (f ∷ fs) = go (f .start) (starts-weigh (suc l) fs)
-  where
-    go : (s : Start) → weigh (startsCode (suc l) fs) ≤ 0 → weigh (startIn s l (startsCode (suc l) fs)) ≤ 0
-    go nowhere k = k
-    go (inGlobal n) k = omega arith
-
-module _ (text : List ℕ) where
-  body-many : (s : Scope) (h : ℕ) (b : T.Body) → bodyWords (bodyOf text s h b) ≤ 8 * bodyTokens 1 b
-  body-many s h (T.value e) = omega (arith, many-e text s h e)
-  body-many s h (T.routine c) = omega (arith, many-c text s h c)
-
-  group-many : (k : ℕ) (before s : Scope) (fs : List Function) → allWords (groupOf text k before s fs) ≤ 8 * functionsTokens 1 fs
-  unfolding groupOf resolved allWords functionsTokens
-  group-many k before s [] = omega arith
-  group-many k before s (x ∷ fs) =
-      omega (arith, body-many (inside s x) (2 + length (x .parameters)) (x .body), group-many (k + 1) (withFunction before (x .name) k (startOf (lookup text before (x .name)))) s fs)
-
-  declaration-many : (w : Walk) (d : Declaration) → allWords (declarationFunctions text w d) ≤ 8 * declarationTokens 1 d
-  unfolding allWords
-  declaration-many w (T.globals is) = omega arith
-  declaration-many w (T.manifests is) = omega arith
-  declaration-many w (T.functions fs) = group-many (w .functions) (w .scope) (functionsAfter text (w .functions) (w .scope) fs) fs
-
-  program-many : (w : Walk) (p : Program) → allWords (functionsFrom text w p) ≤ 8 * programTokens 1 p
-  unfolding functionsFrom programTokens allWords
-  program-many w [] = omega arith
-  program-many w (d ∷ ds) =
-      omega (arith, declaration-many w d, program-many (afterDeclaration text w d) ds, all-both (declarationFunctions text w d) (functionsFrom text (afterDeclaration text w d) ds))
+string-words : (ss : List (List ℕ)) → textSum (λ cs. size (I.string cs)) ss ≡ stringWords ss
+unfolding textSum size stringWords
+string-words [] = refl
+string-words (cs ∷ ss) = omega (arith, string-words ss, length-pairs (length cs) cs)
 
 items-weigh : (ns : List Named) (ss : List (List ℕ)) → weigh (itemsOf (funs ns) ss) ≤ allWords ns + stringWords ss
-unfolding itemsOf
-items-weigh ns ss =
-    let f : List Item = functionsCode (suc (length (funs ns))) 1 (suc (length (funs ns)) + length ss) (funs ns) in
-    let t : List Item = stringsCode (suc (length (funs ns))) ss in
-    let g : List Item = startsCode 1 (funs ns) in
-    omega (arith, weigh-both f (t ++ g), weigh-both t g, functions-weigh (suc (length (funs ns))) 1 (suc (length (funs ns)) + length ss) ns, strings-weigh (suc (length (funs ns))) ss, starts-weigh 1 (funs ns))
+items-weigh ns ss = omega (arith, sum-items 1 (λ cs. size (I.string cs)) 0 (λ _. 0) (λ _ _ _. omega arith) (funs ns) ss _ refl, string-words ss)
 
-pub items-words : (source : List ℕ) (x : Facts source) → weigh (itemsOf (functionsIn source) (stringsIn source)) ≤ 8 * length (scan source .symbols) + stringWords (stringsIn source)
+pub items-words : (source : List ℕ) (x : Facts source)
+    → weigh (itemsOf (functionsIn source) (stringsIn source)) ≤ 8 * length (scan source .symbols) + stringWords (stringsIn source)
 unfolding functionsOf
 items-words source x =
-    let w : weigh (itemsOf (functionsIn source) (stringsIn source)) ≤ allWords (functionsOf source (x .tree)) + stringWords (stringsIn source) = rw (x .functions) (items-weigh (functionsOf source (x .tree)) (stringsIn source)) in
-    omega (arith, w, program-many source begin (x .tree), x .tokens)
+    let w : weigh (itemsOf (functionsIn source) (stringsIn source)) ≤ allWords (functionsOf source (x .tree)) + stringWords (stringsIn source)
+    = rw (x .functions) (items-weigh (functionsOf source (x .tree)) (stringsIn source)) in
+    omega (arith, w, few-program (length (stringsIn source)) source begin (x .tree) (x .fine) .1, x .tokens)
 
 -- the words of the text's items, whether or not it is assembled
-pub few-words : (source : List ℕ) (scratch : ℕ) → refusalOf source scratch ≡ accepted → wordCount (Z.scan (textOf source) .items) ≤ 8 * length (scan source .symbols) + 16 + stringWords (stringsIn source)
+pub few-words : (source : List ℕ) (scratch : ℕ) → refusalOf source scratch ≡ accepted
+    → wordCount (Z.scan (textOf source) .items) ≤ 8 * length (scan source .symbols) + 16 + stringWords (stringsIn source)
 unfolding textOf
 few-words source scratch a =
     let x : Facts source = facts source scratch a in
-    rw (rendered (itemsOf (functionsIn source) (stringsIn source)) (good source x .sound)) (omega (arith, sizes-weigh 2 (itemsOf (functionsIn source) (stringsIn source)), items-words source x))
+    rw (rendered (itemsOf (functionsIn source) (stringsIn source)) (good source x .sound))
+    (omega (arith, sizes-weigh 2 (itemsOf (functionsIn source) (stringsIn source)), items-words source x))

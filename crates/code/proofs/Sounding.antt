@@ -13,12 +13,14 @@ use Rattle.items.proofs.Rendered.{AllSound}
 use Rattle.assembler.specs.Words.{operandInRange, inRange}
 use Rattle.language.specs.Kinds.{MINUS, NOT, STAR, SLASH, REM, PLUS, EQUAL, UNEQUAL, LESS, ATMOST, MORE, ATLEAST, LEFT, RIGHT, AMPERSAND, BAR}
 use Rattle.language.specs.Resolved as R
-use Rattle.language.specs.Resolved.{CaseLabel, Expr, Exprs, Target, Pairs, Cmd, Cmds, Cases, Locals}
+use Rattle.language.specs.Resolved.{CaseLabel, Expr, Exprs, Target, Pairs, Cmd, Cmds, Cases, Locals, hasDefault}
 use Rattle.language.specs.Heights.{count, heightWith, ofExpr, ofExprs, ofTarget, ofPairs, ofCmd, ofCmds, ofCases, ofLocals}
-use Rattle.language.specs.Resolved.{hasDefault}
-use Rattle.code.specs.Generate.{Exits, inLoop, inSwitch, inValof, nowhereElse, monadicAct, dyadicAct, limitAct, commandsIn, exprLabels, exprsLabels, targetLabels, pairsLabels, cmdLabels, cmdsLabels, casesLabels, localsLabels, defaultOf, pairsOf, tableOf, exprCode, exprsCode, targetCode, pairsCode, cmdCode, cmdsCode, casesCode, localsCode}
+use Rattle.code.specs.Generate.{Exits, inLoop, inSwitch, inValof, nowhereElse, monadicAct, dyadicAct, limitAct, commandsIn, exprLabels}
+use Rattle.code.specs.Generate.{exprsLabels, targetLabels, pairsLabels, cmdLabels, cmdsLabels, casesLabels, localsLabels, defaultOf, pairsOf}
+use Rattle.code.specs.Generate.{tableOf, exprCode, exprsCode, targetCode, pairsCode, cmdCode, cmdsCode, casesCode, localsCode}
 use Rattle.language.proofs.Leaving.{LeavesE, LeavesA, LeavesT, LeavesP, LeavesC, LeavesB, LeavesS, LeavesL}
 use Rattle.language.proofs.Formed.{FormedCases, FormedE, FormedA, FormedT, FormedP, FormedC, FormedB, FormedS, FormedL}
+use Rattle.language.proofs.Cases.{clash}
 
 -- ---- items whose labels lie from 1 up to some number, and whose other numbers are in range
 
@@ -83,20 +85,21 @@ module _ (T : ℕ) (low : T ≤ 32768) where
   right-range (instruction f i b x) p = operand-range x (p .right)
   right-range (constant x) p = operand-range x p
   right-range (string cs) p = refl
-  right-range (global n m) p = rw (le-leb n 399 (omega (arith, p .global)), le-leb 1 m (p .start .first), le-leb m 32767 (omega (arith, p .start .last)))
+  right-range (global n m) p =
+      rw (le-leb n 399 (omega (arith, p .global)), le-leb 1 m (p .start .first), le-leb m 32767 (omega (arith, p .start .last)))
 
   pub all-sound : {xs : List Item} → Sounds T xs → AllSound xs
   all-sound s-none = tt
   all-sound (s-more {x = x} p q) = (right-sound x p, all-sound q)
 
-num : {T f k : ℕ} {i : Bool} {b : Base} {xs : List Item} → f < 8 → k ≤ 65535 → Sounds T xs → Sounds T (instruction f i b (number false k) ∷ xs)
-num {T} {f} {k} {i} {b} l m q = s-more {x = instruction f i b (number false k)} (record { eight = l; right = m }) q
+num : {T f k : ℕ} {i : Bool} {b : Base} {xs : List Item} → (f < 8) × (k ≤ 65535) → Sounds T xs → Sounds T (instruction f i b (number false k) ∷ xs)
+num {T} {f} {k} {i} {b} l q = s-more {x = instruction f i b (number false k)} (record { eight = l .0; right = l .1 }) q
 
-adr : {T f k : ℕ} {i : Bool} {b : Base} {xs : List Item} → f < 8 → 1 ≤ k → k < T → Sounds T xs → Sounds T (instruction f i b (address k) ∷ xs)
-adr {T} {f} {k} {i} {b} l o m q = s-more {x = instruction f i b (address k)} (record { eight = l; right = record { first = o; last = m } }) q
+adr : {T f k : ℕ} {i : Bool} {b : Base} {xs : List Item} → (f < 8) × Within T k → Sounds T xs → Sounds T (instruction f i b (address k) ∷ xs)
+adr {T} {f} {k} {i} {b} l q = s-more {x = instruction f i b (address k)} (record { eight = l .0; right = l .1 }) q
 
-lab : {T n : ℕ} {xs : List Item} → 1 ≤ n → n < T → Sounds T xs → Sounds T (label n ∷ xs)
-lab {T} {n} o l q = s-more {x = label n} (record { first = o; last = l }) q
+lab : {T n : ℕ} {xs : List Item} → Within T n → Sounds T xs → Sounds T (label n ∷ xs)
+lab {T} {n} l q = s-more {x = label n} l q
 
 dat : {T n : ℕ} {xs : List Item} → n ≤ 65535 → Sounds T xs → Sounds T (constant (number false n) ∷ xs)
 dat {T} {n} l q = s-more {x = constant (number false n)} l q
@@ -131,11 +134,28 @@ unfolding Low
 low-right [] ys p = p
 low-right (x ∷ xs) ys p = low-right xs ys (p .1)
 
+low-head : (x : ℕ) (xs : List ℕ) → Low (x ∷ xs) → x ≤ 8192
+unfolding Low
+low-head x xs p = p .0
+
+low-tail : (x : ℕ) (xs : List ℕ) → Low (x ∷ xs) → Low xs
+unfolding Low
+low-tail x xs p = p .1
+
+ruleset lows = (low-left, low-right, low-head, low-tail)
+
 -- ---- small numbers of acts
 
 act-small : (o : ℕ) → dyadicAct o ≤ 19
 unfolding dyadicAct
-act-small o = pick 5 _ (eqb o STAR) (omega arith) (pick 6 _ (eqb o SLASH) (omega arith) (pick 7 _ (eqb o REM) (omega arith) (pick 8 _ (eqb o PLUS) (omega arith) (pick 9 _ (eqb o MINUS) (omega arith) (pick 10 _ (eqb o EQUAL) (omega arith) (pick 11 _ (eqb o UNEQUAL) (omega arith) (pick 12 _ (eqb o LESS) (omega arith) (pick 15 _ (eqb o ATMOST) (omega arith) (pick 14 _ (eqb o MORE) (omega arith) (pick 13 _ (eqb o ATLEAST) (omega arith) (pick 16 _ (eqb o LEFT) (omega arith) (pick 17 _ (eqb o RIGHT) (omega arith) (pick 18 _ (eqb o AMPERSAND) (omega arith) (pick 19 _ (eqb o BAR) (omega arith) (omega arith)))))))))))))))
+act-small o =
+    pick 5 _ (eqb o STAR) (omega arith) (pick 6 _ (eqb o SLASH) (omega arith)
+    (pick 7 _ (eqb o REM) (omega arith) (pick 8 _ (eqb o PLUS) (omega arith)
+    (pick 9 _ (eqb o MINUS) (omega arith) (pick 10 _ (eqb o EQUAL) (omega arith)
+    (pick 11 _ (eqb o UNEQUAL) (omega arith) (pick 12 _ (eqb o LESS) (omega arith)
+    (pick 15 _ (eqb o ATMOST) (omega arith) (pick 14 _ (eqb o MORE) (omega arith)
+    (pick 13 _ (eqb o ATLEAST) (omega arith) (pick 16 _ (eqb o LEFT) (omega arith)
+    (pick 17 _ (eqb o RIGHT) (omega arith) (pick 18 _ (eqb o AMPERSAND) (omega arith) (pick 19 _ (eqb o BAR) (omega arith) (omega arith)))))))))))))))
   where
     pick : (x y : ℕ) (b : Bool) → x ≤ 19 → y ≤ 19 → cond b x y ≤ 19
     pick x y true p q = p
@@ -156,9 +176,10 @@ sound-monadic : {T : ℕ} (o : ℕ) → Sounds T (monadicAct o)
 unfolding monadicAct
 sound-monadic {T} o = go (eqb o MINUS) (eqb o NOT)
   where
-    go : (b c : Bool) → Sounds T (cond b (instruction 7 false I.none (number false 2) ∷ []) (cond c (instruction 7 false I.none (number false 3) ∷ []) []))
-    go true c = num (omega arith) (omega arith) s-none
-    go false true = num (omega arith) (omega arith) s-none
+    go : (b c : Bool)
+        → Sounds T (cond b (instruction 7 false I.none (number false 2) ∷ []) (cond c (instruction 7 false I.none (number false 3) ∷ []) []))
+    go true c = num (omega arith) s-none
+    go false true = num (omega arith) s-none
     go false false = s-none
 
 -- ---- labels that are left to
@@ -169,17 +190,17 @@ pub record Near (T : ℕ) (a b v : Bool) (x : Exits) : Type 0 where
   pub endcase : b ≡ true → Within T (x .endcase)
   pub result : v ≡ true → Within T (x .result)
 
-near-loop : {T : ℕ} {a b v : Bool} {x : Exits} {n m : ℕ} → 1 ≤ n → n < T → 1 ≤ m → m < T → Near T a b v x → Near T true b v (inLoop n m x)
-near-loop o l p m q = record { break = λ _. is-within p m; loop = λ _. is-within o l; endcase = q .endcase; result = q .result }
+near-loop : {T : ℕ} {a b v : Bool} {x : Exits} {n m : ℕ} → Within T n × Within T m → Near T a b v x → Near T true b v (inLoop n m x)
+near-loop l q = record { break = λ _. l .1; loop = λ _. l .0; endcase = q .endcase; result = q .result }
 
-near-switch : {T : ℕ} {a b v : Bool} {x : Exits} {m : ℕ} → 1 ≤ m → m < T → Near T a b v x → Near T a true v (inSwitch m x)
-near-switch o m q = record { break = q .break; loop = q .loop; endcase = λ _. is-within o m; result = q .result }
+near-switch : {T : ℕ} {a b v : Bool} {x : Exits} {m : ℕ} → Within T m → Near T a b v x → Near T a true v (inSwitch m x)
+near-switch l q = record { break = q .break; loop = q .loop; endcase = λ _. l; result = q .result }
 
 never : {P : Type 0} → false ≡ true → P
-never e = let z : _≡_ {A = ℕ} 0 1 = cc in absurd (omega arith)
+never e = clash (cc)
 
-near-valof : {T m : ℕ} → 1 ≤ m → m < T → Near T false false true (inValof m)
-near-valof o m = record { break = λ e. never e; loop = λ e. never e; endcase = λ e. never e; result = λ _. is-within o m }
+near-valof : {T m : ℕ} → Within T m → Near T false false true (inValof m)
+near-valof l = record { break = λ e. never e; loop = λ e. never e; endcase = λ e. never e; result = λ _. l }
 
 pub near-none : {T : ℕ} → Near T false false false nowhereElse
 near-none = record { break = λ e. never e; loop = λ e. never e; endcase = λ e. never e; result = λ e. never e }
@@ -193,145 +214,156 @@ sound-pairs-of l m (R.default ∷ ls) f = sound-pairs-of l m ls f
 default-near : {T : ℕ} (l e : ℕ) (cs : Cases) → Span T l (commandsIn cs) → Within T e → Within T (defaultOf l e cs)
 unfolding defaultOf commandsIn
 default-near l e R.noCases p q = q
-default-near {T} l e (R.cases ls c cs) p q = go (hasDefault ls) (default-near (suc l) e cs (span (omega arith) (omega (arith, p .room))) q)
+default-near {T} l e (R.cases ls c cs) p q = go (hasDefault ls) (default-near (suc l) e cs (omega arith) q)
   where
     go : (b : Bool) → Within T (defaultOf (suc l) e cs) → Within T (cond b l (defaultOf (suc l) e cs))
-    go true k = is-within (p .one) (omega (arith, p .room))
+    go true k = omega arith
     go false k = k
 
 module _ (T functions strings : ℕ) (few : suc functions + strings ≤ T) where
   sound-table : (l h : ℕ) (cs : Cases) → Span T l (commandsIn cs) → FormedS functions strings h cs → Sounds T (tableOf l cs)
   unfolding tableOf commandsIn FormedE
   sound-table l h R.noCases p f = s-none
-  sound-table l h (R.cases ls c cs) p f = sounds-both (sound-pairs-of l (is-within (p .one) (omega (arith, p .room))) ls (f .2)) (sound-table (suc l) h cs (span (omega arith) (omega (arith, p .room))) (f .1))
+  sound-table l h (R.cases ls c cs) p f = sounds-both (sound-pairs-of l (omega arith) ls (f .2)) (sound-table (suc l) h cs (omega arith) (f .1))
 
   mutual
     unfolding exprCode exprLabels FormedE LeavesE ofExpr Low commandsIn count heightWith
 
-    pub sound-e : (h n : ℕ) (e : Expr) → h ≤ 8192 → Span T n (exprLabels e) → FormedE functions strings h e → Low (ofExpr h e) → LeavesE e → Sounds T (exprCode (suc functions) h n e)
-    sound-e h n (R.constant v) l m f w y = let z : v < 65536 = f in num (omega arith) (omega arith) s-none
-    sound-e h n (R.local k) l m f w y = let z : k < h = f in num (omega arith) (omega arith) s-none
-    sound-e h n (R.global k) l m f w y = let z : k < 400 = f in num (omega arith) (omega arith) s-none
-    sound-e h n (R.function k) l m f w y = let z : k < functions = f in adr (omega arith) (omega arith) (omega arith) s-none
-    sound-e h n (R.string k) l m f w y = let z : k < strings = f in adr (omega arith) (omega arith) (omega arith) s-none
-    sound-e h n (R.addressOfLocal k) l m f w y = let z : k < h = f in num (omega arith) (omega arith) s-none
-    sound-e h n (R.addressOfGlobal k) l m f w y = let z : k < 400 = f in num (omega arith) (omega arith) s-none
+    pub sound-e : (h n : ℕ) (e : Expr) → h ≤ 8192 → Span T n (exprLabels e) → FormedE functions strings h e → Low (ofExpr h e) → LeavesE e
+        → Sounds T (exprCode (suc functions) h n e)
+    sound-e h n (R.constant v) l m f w y = let z : v < 65536 = f in num (omega arith) s-none
+    sound-e h n (R.local k) l m f w y = let z : k < h = f in num (omega arith) s-none
+    sound-e h n (R.global k) l m f w y = let z : k < 400 = f in num (omega arith) s-none
+    sound-e h n (R.function k) l m f w y = let z : k < functions = f in adr (omega arith) s-none
+    sound-e h n (R.string k) l m f w y = let z : k < strings = f in adr (omega arith) s-none
+    sound-e h n (R.addressOfLocal k) l m f w y = let z : k < h = f in num (omega arith) s-none
+    sound-e h n (R.addressOfGlobal k) l m f w y = let z : k < 400 = f in num (omega arith) s-none
     sound-e h n (R.addressOfContents e) l m f w y = sound-e h n e l m f w y
     sound-e h n (R.addressOfIndex a b) l m f w y =
-        let v = low-right (ofExpr h a) _ w in
-        sounds-both (sound-e h n a l (span (omega arith) (omega arith)) (f .0) (low-left (ofExpr h a) _ w) (y .0)) (num (omega arith) (omega arith)
-        (sounds-both (sound-e (h + 1) (n + exprLabels a) b (v .0) (span (omega arith) (omega arith)) (f .1) (v .1) (y .1)) (num (omega arith) (omega arith) s-none)))
-    sound-e h n (R.contents e) l m f w y = sounds-both (sound-e h n e l m f w y) (num (omega arith) (omega arith) s-none)
+        sounds-both (sound-e h n a l (omega arith) (f .0) (search lows) (y .0)) (num (omega arith)
+        (sounds-both (sound-e (h + 1) (n + exprLabels a) b (search lows) (omega arith) (f .1) (search lows) (y .1)) (num (omega arith) s-none)))
+    sound-e h n (R.contents e) l m f w y = sounds-both (sound-e h n e l m f w y) (num (omega arith) s-none)
     sound-e h n (R.index a b) l m f w y =
-        let v = low-right (ofExpr h a) _ w in
-        sounds-both (sound-e h n a l (span (omega arith) (omega arith)) (f .0) (low-left (ofExpr h a) _ w) (y .0)) (num (omega arith) (omega arith)
-        (sounds-both (sound-e (h + 1) (n + exprLabels a) b (v .0) (span (omega arith) (omega arith)) (f .1) (v .1) (y .1)) (num (omega arith) (omega arith) (num (omega arith) (omega arith) s-none))))
+        sounds-both (sound-e h n a l (omega arith) (f .0) (search lows) (y .0)) (num (omega arith)
+        (sounds-both (sound-e (h + 1) (n + exprLabels a) b (search lows) (omega arith) (f .1) (search lows) (y .1))
+        (num (omega arith) (num (omega arith) s-none))))
     sound-e h n (R.unary o e) l m f w y = sounds-both (sound-e h n e l m f w y) (sound-monadic o)
     sound-e h n (R.binary o a b) l m f w y =
-        let v = low-right (ofExpr h a) _ w in
-        sounds-both (sound-e h n a l (span (omega arith) (omega arith)) (f .0) (low-left (ofExpr h a) _ w) (y .0)) (num (omega arith) (omega arith)
-        (sounds-both (sound-e (h + 1) (n + exprLabels a) b (v .0) (span (omega arith) (omega arith)) (f .1) (v .1) (y .1))
-        (num (omega arith) (omega arith) (num (omega arith) (omega arith) (num (omega arith) (omega arith) (num (omega arith) (omega (arith, act-small o)) s-none))))))
+        sounds-both (sound-e h n a l (omega arith) (f .0) (search lows) (y .0)) (num (omega arith)
+        (sounds-both (sound-e (h + 1) (n + exprLabels a) b (search lows) (omega arith) (f .1) (search lows) (y .1))
+        (num (omega arith) (num (omega arith) (num (omega arith) (num (omega (arith, act-small o)) s-none))))))
     sound-e h n (R.call e es) l m f w y =
-        let v = low-left ((h + 2) ∷ ofExprs (h + 2) es) (ofExpr (h + 2 + count es) e) w in
-        sounds-both (sound-a (h + 2) n es (v .0) (span (omega arith) (omega arith)) (f .0) (v .1) (y .0))
-        (sounds-both (sound-e (h + 2 + count es) (n + exprsLabels es) e (high (h + 2) es (v .0) (v .1)) (span (omega arith) (omega arith)) (f .1) (low-right ((h + 2) ∷ ofExprs (h + 2) es) (ofExpr (h + 2 + count es) e) w) (y .1)) (num (omega arith) (omega arith) s-none))
-    sound-e h n (R.valof c) l m f w y = sounds-both (sound-c h (n + 1) _ c l (span (omega arith) (omega arith)) (near-valof (omega arith) (omega arith)) f w y) (lab (omega arith) (omega arith) s-none)
+        sounds-both (sound-a (h + 2) n es (search lows) (omega arith) (f .0) (search lows) (y .0))
+        (sounds-both (sound-e (h + 2 + count es) (n + exprsLabels es) e (high (h + 2) es (search lows) (search lows)) (omega arith) (f .1)
+        (search lows) (y .1)) (num (omega arith) s-none))
+    sound-e h n (R.valof c) l m f w y =
+        sounds-both (sound-c h (n + 1) _ c l (omega arith) (near-valof (omega arith)) f w y) (lab (omega arith) s-none)
 
     -- the height after arguments
     high : (h : ℕ) (es : Exprs) → h ≤ 8192 → Low (ofExprs h es) → h + count es ≤ 8192
     high h R.none l w = omega arith
-    high h (R.and e es) l w = let v = low-right (ofExpr h e) _ w in omega (arith, high (h + 1) es (v .0) (v .1))
+    high h (R.and e es) l w = omega (arith, high (h + 1) es (search lows) (search lows))
 
-    sound-a : (h n : ℕ) (es : Exprs) → h ≤ 8192 → Span T n (exprsLabels es) → FormedA functions strings h es → Low (ofExprs h es) → LeavesA es → Sounds T (exprsCode (suc functions) h n es)
+    sound-a : (h n : ℕ) (es : Exprs) → h ≤ 8192 → Span T n (exprsLabels es) → FormedA functions strings h es → Low (ofExprs h es) → LeavesA es
+        → Sounds T (exprsCode (suc functions) h n es)
     sound-a h n R.none l m f w y = s-none
     sound-a h n (R.and e es) l m f w y =
-        let v = low-right (ofExpr h e) _ w in
-        sounds-both (sound-e h n e l (span (omega arith) (omega arith)) (f .0) (low-left (ofExpr h e) _ w) (y .0)) (num (omega arith) (omega arith) (sound-a (h + 1) (n + exprLabels e) es (v .0) (span (omega arith) (omega arith)) (f .1) (v .1) (y .1)))
+        sounds-both (sound-e h n e l (omega arith) (f .0) (search lows) (y .0))
+        (num (omega arith) (sound-a (h + 1) (n + exprLabels e) es (search lows) (omega arith) (f .1) (search lows) (y .1)))
 
-    sound-t : (h n : ℕ) (t : Target) → h ≤ 8192 → Span T n (targetLabels t) → FormedT functions strings h t → Low (ofTarget h t) → LeavesT t → Sounds T (targetCode (suc functions) h n t)
-    sound-t h n (R.toLocal k) l m f w y = let z : k < h + 1 = f in num (omega arith) (omega arith) s-none
-    sound-t h n (R.toGlobal k) l m f w y = let z : k < 400 = f in num (omega arith) (omega arith) s-none
+    sound-t : (h n : ℕ) (t : Target) → h ≤ 8192 → Span T n (targetLabels t) → FormedT functions strings h t → Low (ofTarget h t) → LeavesT t
+        → Sounds T (targetCode (suc functions) h n t)
+    sound-t h n (R.toLocal k) l m f w y = let z : k < h + 1 = f in num (omega arith) s-none
+    sound-t h n (R.toGlobal k) l m f w y = let z : k < 400 = f in num (omega arith) s-none
     sound-t h n (R.toContents e) l m f w y =
-        num (omega arith) (omega arith) (sounds-both (sound-e (h + 1) n e (w .0) m f (w .1) y) (num (omega arith) (omega arith) (num (omega arith) (omega arith) (num (omega arith) (omega arith) s-none))))
+        num (omega arith) (sounds-both (sound-e (h + 1) n e (w .0) m f (w .1) y) (num (omega arith) (num (omega arith) (num (omega arith) s-none))))
     sound-t h n (R.toIndex a b) l m f w y =
-        let u = low-left ((h + 1) ∷ ofExpr (h + 1) a) ((h + 2) ∷ ofExpr (h + 2) b) w in
-        let v = low-right ((h + 1) ∷ ofExpr (h + 1) a) ((h + 2) ∷ ofExpr (h + 2) b) w in
-        num (omega arith) (omega arith) (sounds-both (sound-e (h + 1) n a (u .0) (span (omega arith) (omega arith)) (f .0) (u .1) (y .0)) (num (omega arith) (omega arith)
-        (sounds-both (sound-e (h + 2) (n + exprLabels a) b (v .0) (span (omega arith) (omega arith)) (f .1) (v .1) (y .1))
-        (num (omega arith) (omega arith) (num (omega arith) (omega arith) (num (omega arith) (omega arith) (num (omega arith) (omega arith) s-none)))))))
+        num (omega arith) (sounds-both (sound-e (h + 1) n a (search lows) (omega arith) (f .0) (search lows) (y .0)) (num (omega arith)
+        (sounds-both (sound-e (h + 2) (n + exprLabels a) b (search lows) (omega arith) (f .1) (search lows) (y .1))
+        (num (omega arith) (num (omega arith) (num (omega arith) (num (omega arith) s-none)))))))
 
-    sound-p : (h n : ℕ) (ps : Pairs) → h ≤ 8192 → Span T n (pairsLabels ps) → FormedP functions strings h ps → Low (ofPairs h ps) → LeavesP ps → Sounds T (pairsCode (suc functions) h n ps)
+    sound-p : (h n : ℕ) (ps : Pairs) → h ≤ 8192 → Span T n (pairsLabels ps) → FormedP functions strings h ps → Low (ofPairs h ps) → LeavesP ps
+        → Sounds T (pairsCode (suc functions) h n ps)
     sound-p h n R.noPairs l m f w y = s-none
     sound-p h n (R.pair t e ps) l m f w y =
-        let u = low-left (ofExpr h e ++ ofTarget h t) (ofPairs h ps) w in
-        sounds-both (sound-e h n e l (span (omega arith) (omega arith)) (f .0) (low-left (ofExpr h e) (ofTarget h t) u) (y .0))
-        (sounds-both (sound-t h (n + exprLabels e) t l (span (omega arith) (omega arith)) (f .1) (low-right (ofExpr h e) (ofTarget h t) u) (y .1))
-        (sound-p h (n + exprLabels e + targetLabels t) ps l (span (omega arith) (omega arith)) (f .2) (low-right (ofExpr h e ++ ofTarget h t) (ofPairs h ps) w) (y .2)))
+        sounds-both (sound-e h n e l (omega arith) (f .0) (search lows) (y .0))
+        (sounds-both (sound-t h (n + exprLabels e) t l (omega arith) (f .1) (search lows) (y .1))
+        (sound-p h (n + exprLabels e + targetLabels t) ps l (omega arith) (f .2) (search lows) (y .2)))
 
-    pub sound-c : {a b v : Bool} (h n : ℕ) (x : Exits) (c : Cmd) → h ≤ 8192 → Span T n (cmdLabels c) → Near T a b v x → FormedC functions strings h c → Low (ofCmd h c) → LeavesC a b v c → Sounds T (cmdCode (suc functions) h n x c)
+    pub sound-c : {a b v : Bool} (h n : ℕ) (x : Exits) (c : Cmd) → h ≤ 8192 → Span T n (cmdLabels c) → Near T a b v x → FormedC functions strings h c
+        → Low (ofCmd h c) → LeavesC a b v c → Sounds T (cmdCode (suc functions) h n x c)
     sound-c h n x R.empty l m q f w y = s-none
     sound-c h n x (R.assign ps) l m q f w y = sound-p h n ps l m f w y
     sound-c h n x (R.perform e) l m q f w y = sound-e h n e l m f w y
     sound-c h n x (R.test e c d) l m q f w y =
-        let u = low-left (ofExpr h e ++ ofCmd h c) (ofCmd h d) w in
-        sounds-both (sound-e h (n + 2) e l (span (omega arith) (omega arith)) (f .0) (low-left (ofExpr h e) (ofCmd h c) u) (y .0)) (adr (omega arith) (omega arith) (omega arith)
-        (sounds-both (sound-c h (n + 2 + exprLabels e) x c l (span (omega arith) (omega arith)) q (f .1) (low-right (ofExpr h e) (ofCmd h c) u) (y .1)) (adr (omega arith) (omega arith) (omega arith) (lab (omega arith) (omega arith)
-        (sounds-both (sound-c h (n + 2 + exprLabels e + cmdLabels c) x d l (span (omega arith) (omega arith)) q (f .2) (low-right (ofExpr h e ++ ofCmd h c) (ofCmd h d) w) (y .2)) (lab (omega arith) (omega arith) s-none))))))
+        sounds-both (sound-e h (n + 2) e l (omega arith) (f .0) (search lows) (y .0)) (adr (omega arith)
+        (sounds-both (sound-c h (n + 2 + exprLabels e) x c l (omega arith) q (f .1) (search lows) (y .1)) (adr (omega arith) (lab (omega arith)
+        (sounds-both (sound-c h (n + 2 + exprLabels e + cmdLabels c) x d l (omega arith) q (f .2) (search lows) (y .2))
+        (lab (omega arith) s-none))))))
     sound-c h n x (R.when sense e c) l m q f w y =
-        sounds-both (sound-e h (n + 1) e l (span (omega arith) (omega arith)) (f .0) (low-left (ofExpr h e) (ofCmd h c) w) (y .0)) (adr (sense-small sense 5 4 (omega arith) (omega arith)) (omega arith) (omega arith)
-        (sounds-both (sound-c h (n + 1 + exprLabels e) x c l (span (omega arith) (omega arith)) q (f .1) (low-right (ofExpr h e) (ofCmd h c) w) (y .1)) (lab (omega arith) (omega arith) s-none)))
+        sounds-both (sound-e h (n + 1) e l (omega arith) (f .0) (search lows) (y .0))
+        (adr (omega (arith, sense-small sense 5 4 (omega arith) (omega arith)))
+        (sounds-both (sound-c h (n + 1 + exprLabels e) x c l (omega arith) q (f .1) (search lows) (y .1)) (lab (omega arith) s-none)))
     sound-c h n x (R.while sense e c) l m q f w y =
-        lab (omega arith) (omega arith) (sounds-both (sound-e h (n + 2) e l (span (omega arith) (omega arith)) (f .0) (low-left (ofExpr h e) (ofCmd h c) w) (y .0)) (adr (sense-small sense 5 4 (omega arith) (omega arith)) (omega arith) (omega arith)
-        (sounds-both (sound-c h (n + 2 + exprLabels e) _ c l (span (omega arith) (omega arith)) (near-loop (omega arith) (omega arith) (omega arith) (omega arith) q) (f .1) (low-right (ofExpr h e) (ofCmd h c) w) (y .1)) (adr (omega arith) (omega arith) (omega arith) (lab (omega arith) (omega arith) s-none)))))
+        lab (omega arith) (sounds-both (sound-e h (n + 2) e l (omega arith) (f .0) (search lows) (y .0))
+        (adr (omega (arith, sense-small sense 5 4 (omega arith) (omega arith)))
+        (sounds-both (sound-c h (n + 2 + exprLabels e) _ c l (omega arith) (near-loop (omega arith) q) (f .1) (search lows) (y .1))
+        (adr (omega arith) (lab (omega arith) s-none)))))
     sound-c h n x (R.repeat c) l m q f w y =
-        lab (omega arith) (omega arith) (sounds-both (sound-c h (n + 3) _ c l (span (omega arith) (omega arith)) (near-loop (omega arith) (omega arith) (omega arith) (omega arith) q) f w y) (lab (omega arith) (omega arith) (adr (omega arith) (omega arith) (omega arith) (lab (omega arith) (omega arith) s-none))))
+        lab (omega arith) (sounds-both (sound-c h (n + 3) _ c l (omega arith) (near-loop (omega arith) q) f w y)
+        (lab (omega arith) (adr (omega arith) (lab (omega arith) s-none))))
     sound-c h n x (R.repeatWhile sense c e) l m q f w y =
-        lab (omega arith) (omega arith) (sounds-both (sound-c h (n + 3) _ c l (span (omega arith) (omega arith)) (near-loop (omega arith) (omega arith) (omega arith) (omega arith) q) (f .0) (low-left (ofCmd h c) (ofExpr h e) w) (y .0)) (lab (omega arith) (omega arith)
-        (sounds-both (sound-e h (n + 3 + cmdLabels c) e l (span (omega arith) (omega arith)) (f .1) (low-right (ofCmd h c) (ofExpr h e) w) (y .1)) (adr (sense-small sense 4 5 (omega arith) (omega arith)) (omega arith) (omega arith) (lab (omega arith) (omega arith) s-none)))))
+        lab (omega arith) (sounds-both (sound-c h (n + 3) _ c l (omega arith) (near-loop (omega arith) q) (f .0) (search lows) (y .0))
+        (lab (omega arith) (sounds-both (sound-e h (n + 3 + cmdLabels c) e l (omega arith) (f .1) (search lows) (y .1))
+        (adr (omega (arith, sense-small sense 4 5 (omega arith) (omega arith))) (lab (omega arith) s-none)))))
     sound-c h n x (R.for first limit by c) l m q f w y =
-        let u = low-left (ofExpr h first ++ ((h + 1) ∷ ofExpr (h + 1) limit)) ((h + 2) ∷ ofCmd (h + 2) c) w in
-        let v = low-right (ofExpr h first ++ ((h + 1) ∷ ofExpr (h + 1) limit)) ((h + 2) ∷ ofCmd (h + 2) c) w in
-        let t = low-right (ofExpr h first) ((h + 1) ∷ ofExpr (h + 1) limit) u in
         let z : by < 65536 = f .3 in
-        sounds-both (sound-e h (n + 3) first l (span (omega arith) (omega arith)) (f .0) (low-left (ofExpr h first) ((h + 1) ∷ ofExpr (h + 1) limit) u) (y .0)) (num (omega arith) (omega arith)
-        (sounds-both (sound-e (h + 1) (n + 3 + exprLabels first) limit (t .0) (span (omega arith) (omega arith)) (f .1) (t .1) (y .1)) (num (omega arith) (omega arith) (lab (omega arith) (omega arith) (num (omega arith) (omega arith) (num (omega arith) (omega arith)
-        (num (omega arith) (omega (arith, limit-small by)) (adr (omega arith) (omega arith) (omega arith)
-        (sounds-both (sound-c (h + 2) (n + 3 + exprLabels first + exprLabels limit) _ c (v .0) (span (omega arith) (omega arith)) (near-loop (omega arith) (omega arith) (omega arith) (omega arith) q) (f .2) (v .1) (y .2))
-        (lab (omega arith) (omega arith) (num (omega arith) (omega arith) (num (omega arith) (omega arith) (num (omega arith) (omega arith) (adr (omega arith) (omega arith) (omega arith) (lab (omega arith) (omega arith) s-none)))))))))))))))
+        sounds-both (sound-e h (n + 3) first l (omega arith) (f .0) (search lows) (y .0)) (num (omega arith)
+        (sounds-both (sound-e (h + 1) (n + 3 + exprLabels first) limit (search lows) (omega arith) (f .1) (search lows) (y .1))
+        (num (omega arith) (lab (omega arith) (num (omega arith) (num (omega arith)
+        (num (omega (arith, limit-small by)) (adr (omega arith)
+        (sounds-both (sound-c (h + 2) (n + 3 + exprLabels first + exprLabels limit) _ c (search lows) (omega arith) (near-loop (omega arith) q) (f .2)
+        (search lows) (y .2))
+        (lab (omega arith) (num (omega arith) (num (omega arith) (num (omega arith) (adr (omega arith) (lab (omega arith) s-none)))))))))))))))
     sound-c h n x (R.switch e cs) l m q f w y =
-        sounds-both (sound-e h n e l (span (omega arith) (omega arith)) (f .0) (low-left (ofExpr h e) (ofCases h cs) w) (y .0)) (num (omega arith) (omega arith) (dat (omega (arith, f .2)) (plc (default-near _ _ cs (span (omega arith) (omega arith)) (is-within (omega arith) (omega arith)))
-        (sounds-both (sound-table _ h cs (span (omega arith) (omega arith)) (f .1))
-        (sounds-both (sound-s h _ _ _ cs l (span (omega arith) (omega arith)) (span (omega arith) (omega arith)) (near-switch (omega arith) (omega arith) q) (f .1) (low-right (ofExpr h e) (ofCases h cs) w) (y .1)) (lab (omega arith) (omega arith) s-none))))))
-    sound-c h n x (R.resultis e) l m q f w y = sounds-both (sound-e h n e l m f w (y .0)) (adr (omega arith) (q .result (y .1) .first) (q .result (y .1) .last) s-none)
-    sound-c h n x R.break l m q f w y = adr (omega arith) (q .break y .first) (q .break y .last) s-none
-    sound-c h n x R.loop l m q f w y = adr (omega arith) (q .loop y .first) (q .loop y .last) s-none
-    sound-c h n x R.endcase l m q f w y = adr (omega arith) (q .endcase y .first) (q .endcase y .last) s-none
-    sound-c h n x R.return l m q f w y = num (omega arith) (omega arith) s-none
-    sound-c h n x R.finish l m q f w y = num (omega arith) (omega arith) s-none
+        sounds-both (sound-e h n e l (omega arith) (f .0) (search lows) (y .0))
+        (num (omega arith) (dat (omega (arith, f .2)) (plc (default-near _ _ cs (omega arith) (omega arith))
+        (sounds-both (sound-table _ h cs (omega arith) (f .1))
+        (sounds-both (sound-s h _ _ _ cs l (omega arith) (omega arith) (near-switch (omega arith) q) (f .1) (search lows) (y .1))
+        (lab (omega arith) s-none))))))
+    sound-c h n x (R.resultis e) l m q f w y = sounds-both (sound-e h n e l m f w (y .0)) (adr (omega (arith, q .result (y .1))) s-none)
+    sound-c h n x R.break l m q f w y = adr (omega (arith, q .break y)) s-none
+    sound-c h n x R.loop l m q f w y = adr (omega (arith, q .loop y)) s-none
+    sound-c h n x R.endcase l m q f w y = adr (omega (arith, q .endcase y)) s-none
+    sound-c h n x R.return l m q f w y = num (omega arith) s-none
+    sound-c h n x R.finish l m q f w y = num (omega arith) s-none
     sound-c h n x (R.block ls cs) l m q f w y =
-        sounds-both (sound-l h n ls l (span (omega arith) (omega arith)) (f .0) (low-left (ofLocals h ls) (ofCmds (heightWith h ls) cs) w) (y .0))
-        (sound-b (heightWith h ls) (n + localsLabels ls) x cs (after-low h ls l (low-left (ofLocals h ls) (ofCmds (heightWith h ls) cs) w)) (span (omega arith) (omega arith)) q (f .1) (low-right (ofLocals h ls) (ofCmds (heightWith h ls) cs) w) (y .1))
+        sounds-both (sound-l h n ls l (omega arith) (f .0) (search lows) (y .0))
+        (sound-b (heightWith h ls) (n + localsLabels ls) x cs (after-low h ls l (search lows)) (omega arith) q (f .1) (search lows) (y .1))
 
     after-low : (h : ℕ) (ls : Locals) → h ≤ 8192 → Low (ofLocals h ls) → heightWith h ls ≤ 8192
     after-low h R.noLocals l w = l
     after-low h (R.vector k ls) l w = after-low (h + 2 + k) ls (w .0) (w .1)
-    after-low h (R.value e ls) l w = let v = low-right (ofExpr h e) _ w in after-low (h + 1) ls (v .0) (v .1)
+    after-low h (R.value e ls) l w = after-low (h + 1) ls (search lows) (search lows)
 
-    sound-b : {a b v : Bool} (h n : ℕ) (x : Exits) (cs : Cmds) → h ≤ 8192 → Span T n (cmdsLabels cs) → Near T a b v x → FormedB functions strings h cs → Low (ofCmds h cs) → LeavesB a b v cs → Sounds T (cmdsCode (suc functions) h n x cs)
+    sound-b : {a b v : Bool} (h n : ℕ) (x : Exits) (cs : Cmds) → h ≤ 8192 → Span T n (cmdsLabels cs) → Near T a b v x → FormedB functions strings h cs
+        → Low (ofCmds h cs) → LeavesB a b v cs → Sounds T (cmdsCode (suc functions) h n x cs)
     sound-b h n x R.noCmds l m q f w y = s-none
     sound-b h n x (R.andCmd c cs) l m q f w y =
-        sounds-both (sound-c h n x c l (span (omega arith) (omega arith)) q (f .0) (low-left (ofCmd h c) (ofCmds h cs) w) (y .0)) (sound-b h (n + cmdLabels c) x cs l (span (omega arith) (omega arith)) q (f .1) (low-right (ofCmd h c) (ofCmds h cs) w) (y .1))
+        sounds-both (sound-c h n x c l (omega arith) q (f .0) (search lows) (y .0))
+        (sound-b h (n + cmdLabels c) x cs l (omega arith) q (f .1) (search lows) (y .1))
 
-    sound-s : {a b v : Bool} (h t n : ℕ) (x : Exits) (cs : Cases) → h ≤ 8192 → Span T t (commandsIn cs) → Span T n (casesLabels cs) → Near T a b v x → FormedS functions strings h cs → Low (ofCases h cs) → LeavesS a b v cs → Sounds T (casesCode (suc functions) h t n x cs)
+    sound-s : {a b v : Bool} (h t n : ℕ) (x : Exits) (cs : Cases) → h ≤ 8192 → Span T t (commandsIn cs) → Span T n (casesLabels cs) → Near T a b v x
+        → FormedS functions strings h cs → Low (ofCases h cs) → LeavesS a b v cs → Sounds T (casesCode (suc functions) h t n x cs)
     sound-s h t n x R.noCases l k m q f w y = s-none
     sound-s h t n x (R.cases ls c cs) l k m q f w y =
-        lab (omega arith) (omega arith) (sounds-both (sound-c h n x c l (span (omega arith) (omega arith)) q (f .0) (low-left (ofCmd h c) (ofCases h cs) w) (y .0))
-        (sound-s h (suc t) (n + cmdLabels c) x cs l (span (omega arith) (omega arith)) (span (omega arith) (omega arith)) q (f .1) (low-right (ofCmd h c) (ofCases h cs) w) (y .1)))
+        lab (omega arith) (sounds-both (sound-c h n x c l (omega arith) q (f .0) (search lows) (y .0))
+        (sound-s h (suc t) (n + cmdLabels c) x cs l (omega arith) (omega arith) q (f .1) (search lows) (y .1)))
 
-    sound-l : (h n : ℕ) (ls : Locals) → h ≤ 8192 → Span T n (localsLabels ls) → FormedL functions strings h ls → Low (ofLocals h ls) → LeavesL ls → Sounds T (localsCode (suc functions) h n ls)
+    sound-l : (h n : ℕ) (ls : Locals) → h ≤ 8192 → Span T n (localsLabels ls) → FormedL functions strings h ls → Low (ofLocals h ls) → LeavesL ls
+        → Sounds T (localsCode (suc functions) h n ls)
     sound-l h n R.noLocals l m f w y = s-none
-    sound-l h n (R.vector k ls) l m f w y = num (omega arith) (omega arith) (num (omega arith) (omega arith) (sound-l (h + 2 + k) n ls (w .0) m (f .0) (w .1) y))
+    sound-l h n (R.vector k ls) l m f w y = num (omega arith) (num (omega arith) (sound-l (h + 2 + k) n ls (w .0) m (f .0) (w .1) y))
     sound-l h n (R.value e ls) l m f w y =
-        let v = low-right (ofExpr h e) _ w in
-        sounds-both (sound-e h n e l (span (omega arith) (omega arith)) (f .0) (low-left (ofExpr h e) _ w) (y .0)) (num (omega arith) (omega arith) (sound-l (h + 1) (n + exprLabels e) ls (v .0) (span (omega arith) (omega arith)) (f .1) (v .1) (y .1)))
+        sounds-both (sound-e h n e l (omega arith) (f .0) (search lows) (y .0))
+        (num (omega arith) (sound-l (h + 1) (n + exprLabels e) ls (search lows) (omega arith) (f .1) (search lows) (y .1)))

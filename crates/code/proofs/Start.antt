@@ -24,7 +24,7 @@ use Rattle.code.specs.Generate.{stringsCode}
 use Rattle.code.proofs.Results.{Post, p-undefined, p-finished, p-ok, post-cond}
 use Rattle.code.proofs.Machine.{Mach}
 use Rattle.code.proofs.Standing.{Env, Code, is-label, is-string, end, next}
-use Rattle.code.proofs.Related.{Rel, Ends, Reached, Runs}
+use Rattle.code.proofs.Related.{Rel, Ends, Reached, Runs, at-finish}
 use Rattle.code.proofs.Steps.{step-LIG}
 use Rattle.language.proofs.Formed.{FormedF}
 use Rattle.code.proofs.Goals.{Fits, Valued}
@@ -35,6 +35,7 @@ use Rattle.language.proofs.Limits.{Both, b-finished, b-ok, both-called, both-se
 use Rattle.code.proofs.Placing.{past}
 use Rattle.code.proofs.Program as G
 use Rattle.code.proofs.Program.{Built}
+use Rattle.language.proofs.Cases.{clash}
 
 -- ---- the strings' cells
 
@@ -44,12 +45,8 @@ record Stringed (mem : List ℕ) (a b x : ℕ) (c : Cell) : Type 0 where
   past-end : b ≤ x → c ≡ gone
   value : (w : ℕ) → c ≡ holds w → getD mem x 0 ≡ w
 
-code-up : (Γ : Env) (l : ℕ) (ss : List (List ℕ)) {a b : ℕ} → Code Γ a (stringsCode l ss) b → a ≤ b
-unfolding stringsCode
-code-up Γ l [] (end e) = omega arith
-code-up Γ l (cs ∷ ss) (next (is-label t e) (next (is-string f g) k)) = let h = code-up Γ (suc l) ss k in omega arith
-
-one-string : {mem : List ℕ} {a c b x : ℕ} (ws : List ℕ) (d : Cell) → ((j : ℕ) → j < length ws → getD mem (a + j) 0 ≡ getD ws j 0) → a + length ws ≡ c → c ≤ b → Stringed mem c b x d
+one-string : {mem : List ℕ} {a c b x : ℕ} (ws : List ℕ) (d : Cell) → ((j : ℕ) → j < length ws → getD mem (a + j) 0 ≡ getD ws j 0) → a + length ws ≡ c
+    → c ≤ b → Stringed mem c b x d
     → Stringed mem a b x (cond (leb a x) (cond (ltb x (a + length ws)) (holds (getD ws (x - a) 0)) d) d)
 one-string {mem} {a} {c} {b} {x} ws d f e l s = go (leb a x) refl (ltb x (a + length ws)) refl
   where
@@ -70,19 +67,21 @@ one-string {mem} {a} {c} {b} {x} ws d f e l s = go (leb a x) refl (ltb x (a + le
           value = λ w h. let k : getD ws (x - a) 0 ≡ w = cc in (rw z at (f (x - a) (omega arith))) ∙ k;
         }
 
-string-cells : (Γ : Env) (table : List Label) → ((n : ℕ) → 1 ≤ n → addressOf table n ≡ Γ .lab n) → (x l : ℕ) (ss : List (List ℕ)) {a b : ℕ} → 1 ≤ l → Code Γ a (stringsCode l ss) b
+string-cells : (Γ : Env) (table : List Label) → ((n : ℕ) → 1 ≤ n → addressOf table n ≡ Γ .lab n) → (x l : ℕ) (ss : List (List ℕ)) {a b : ℕ} → 1 ≤ l
+    → Code Γ a (stringsCode l ss) b
     → Stringed (Γ .image) a b x (stringCell ss (addressesFrom table l (length ss)) x)
 unfolding stringsCode stringCell addressesFrom
-string-cells Γ table same x l [] h (end e) =
-    record { before = λ k. refl; past-end = λ k. refl; value = λ w k. let z : _≡_ {A = ℕ} 0 1 = cc in absurd (omega arith) }
+string-cells Γ table same x l [] h (end e) = record { before = λ k. refl; past-end = λ k. refl; value = λ w k. clash (cc) }
 string-cells Γ table same x l (cs ∷ ss) {a} {b} h (next (is-label t e) (next (is-string f g) k)) =
     let r = string-cells Γ table same x (suc l) ss (omega arith) k in
     let z : addressOf table l ≡ a = same l h ∙ t in
-    rw (z, e) (one-string (packed cs) (stringCell ss (addressesFrom table (suc l) (length ss)) x) f g (code-up Γ (suc l) ss k) r)
+    rw (z, e) (one-string (packed cs) (stringCell ss (addressesFrom table (suc l) (length ss)) x) f g (G.strings-up Γ (suc l) ss k) r)
 
-module _ (fs : List Fun) (ss : List (List ℕ)) (memory room first : ℕ) (mem : List ℕ) (table : List Label) (input : List ℕ) (b : Built fs ss memory room first mem table) where
+module _
+    {fs : List Fun} {ss : List (List ℕ)} {memory room first : ℕ} {mem : List ℕ} {table : List Label} (input : List ℕ)
+    (b : Built fs ss memory room first mem table) where
   abbrev pub Γ : Env
-  Γ = G.env fs ss memory room first mem table input b
+  Γ = G.env input b
 
   abbrev pub s₀ : State
   s₀ = atStart fs ss (Γ .place)
@@ -91,11 +90,10 @@ module _ (fs : List Fun) (ss : List (List ℕ)) (memory room first : ℕ) (mem :
   v₀ = record { regs = startRegisters first; mem = mem; bytes = [] }
 
   abbrev stringsEnd : ℕ
-  stringsEnd = past (G.codeEnd fs ss memory room first mem table input b) (stringsCode (suc (length fs)) ss)
+  stringsEnd = past (G.codeEnd input b) (stringsCode (suc (length fs)) ss)
 
-  cells-of : (x : ℕ) → Stringed mem (G.codeEnd fs ss memory room first mem table input b) stringsEnd x (stringCell ss (Γ .place .strings) x)
-  cells-of x =
-      string-cells Γ table (G.same-address fs ss memory room first mem table input b) x (suc (length fs)) ss (omega arith) (G.standing fs ss memory room first mem table input b .strings)
+  cells-of : (x : ℕ) → Stringed mem (G.codeEnd input b) stringsEnd x (stringCell ss (Γ .place .strings) x)
+  cells-of x = string-cells Γ table (G.same-address input b) x (suc (length fs)) ss (omega arith) (G.standing input b .strings)
 
   pub starts : first + 2 ≤ memory - 8 → Rel Γ first 2 s₀ v₀
   unfolding cellsAtStart
@@ -104,10 +102,10 @@ module _ (fs : List Fun) (ss : List (List ℕ)) (memory room first : ℕ) (mem :
     frame-at = refl;
     globals-at = refl;
     room = l;
-    base = G.code-below fs ss memory room first mem table input b;
+    base = G.code-below input b;
     vals = λ a w g. val a w (leb 16 a) refl (ltb a 416) refl g;
-    above = λ a k. out a (omega arith) (cells-of a .past-end (omega (arith, G.strings-first fs ss memory room first mem table input b)));
-    code-gone = λ a c. lost a (ltb a 16) refl (leb 416 a) refl (ltb a (G.codeEnd fs ss memory room first mem table input b)) refl c;
+    above = λ a k. out a (omega arith) (cells-of a .past-end (omega (arith, G.strings-first input b)));
+    code-gone = λ a c. lost a (ltb a 16) refl (leb 416 a) refl (ltb a (G.codeEnd input b)) refl c;
     bytes = refl;
     taken = refl;
   }
@@ -116,29 +114,32 @@ module _ (fs : List Fun) (ss : List (List ℕ)) (memory room first : ℕ) (mem :
       out a k g = rw (le-leb 16 a (omega arith), le-ltb a 416 k) g
 
       val : (a w : ℕ) → (p : Bool) → leb 16 a ≡ p → (q : Bool) → ltb a 416 ≡ q
-          → cond p (cond q (holds (getD (globalsWith fs (Γ .place .entries) noGlobals) (a - 16) 0)) (stringCell ss (Γ .place .strings) a)) gone ≡ holds w → getD mem a 0 ≡ w
-      val a w false ep q eq g = let z : _≡_ {A = ℕ} 0 1 = cc in absurd (omega arith)
+          → cond p (cond q (holds (getD (globalsWith fs (Γ .place .entries) noGlobals) (a - 16) 0))
+          (stringCell ss (Γ .place .strings) a)) gone ≡ holds w → getD mem a 0 ≡ w
+      val a w false ep q eq g = cc
       val a w true ep false eq g = cells-of a .value w g
       val a w true ep true eq g =
           let u : 16 ≤ a = leb-true 16 a ep in
           let t : a < 416 = ltb-true a 416 eq in
           let z : 16 + (a - 16) ≡ a = omega arith in
           let k : getD (globalsWith fs (Γ .place .entries) noGlobals) (a - 16) 0 ≡ w = cc in
-          (rw z at (G.global-word fs ss memory room first mem table input b (a - 16) (omega arith))) ∙ k
+          (rw z at (G.global-word input b (a - 16) (omega arith))) ∙ k
 
-      lost : (a : ℕ) → (p : Bool) → ltb a 16 ≡ p → (q : Bool) → leb 416 a ≡ q → (r : Bool) → ltb a (G.codeEnd fs ss memory room first mem table input b) ≡ r
+      lost : (a : ℕ) → (p : Bool) → ltb a 16 ≡ p → (q : Bool) → leb 416 a ≡ q → (r : Bool) → ltb a (G.codeEnd input b) ≡ r
           → cond p true (cond q r false) ≡ true → s₀ .cells a ≡ gone
       lost a true ep q eq r er g = let u : a < 16 = ltb-true a 16 ep in rw (lt-leb 16 a u) refl
       lost a false ep true eq true er g = out a (leb-true 416 a eq) (cells-of a .before (ltb-true a _ er))
-      lost a false ep true eq false er g = let z : _≡_ {A = ℕ} 0 1 = cc in absurd (omega arith)
-      lost a false ep false eq r er g = let z : _≡_ {A = ℕ} 0 1 = cc in absurd (omega arith)
+      lost a false ep true eq false er g = cc
+      lost a false ep false eq r er g = cc
 
   -- a frame past the limit
   no-room : {A : Type 0} {Q : A → State → Type 0} {L E : State → Type 0} (limit base k : ℕ) (s : State) (more : State → Result A) → limit < base
       → Post Q L E (reach limit base k s more)
-  no-room limit base k s more l = post-cond (leb (base + k) limit) (λ e. let h : base + k ≤ limit = leb-true _ _ e in absurd (omega arith)) (λ e. p-undefined)
+  no-room limit base k s more l =
+      post-cond (leb (base + k) limit) (λ e. let h : base + k ≤ limit = leb-true _ _ e in absurd (omega arith)) (λ e. p-undefined)
 
-  not-called : {Q : Value → State → Type 0} {L E : State → Type 0} (limit base v : ℕ) (q : Sem) (s : State) → limit < base → Post Q L E (called fs (Γ .place) limit input q v base [] s)
+  not-called : {Q : Value → State → Type 0} {L E : State → Type 0} (limit base v : ℕ) (q : Sem) (s : State) → limit < base
+      → Post Q L E (called fs (Γ .place) limit input q v base [] s)
   unfolding called
   not-called {Q} {L} {E} limit base v q s l =
       post-cond (eqb v 3) (λ e. no-room limit base 2 s (received input) l)
@@ -152,7 +153,7 @@ module _ (fs : List Fun) (ss : List (List ℕ)) (memory room first : ℕ) (mem :
 
   module _ (formed : (k : ℕ) → k < length fs → FormedF (length fs) (length ss) (2 + getD fs k noFun .parameters) (getD fs k noFun .body)) where
     abbrev fits : Fits Γ
-    fits = G.fits fs ss memory room first mem table input b formed
+    fits = G.fits input b formed
 
     -- the call of START, from word 0 on
     runs : (fuel : ℕ) → Runs Γ (Valued Γ 2) 5 first 2 2 s₀ v₀ (runWith fuel fs ss (Γ .place) (memory - 8) input)
@@ -161,33 +162,26 @@ module _ (fs : List Fun) (ss : List (List ℕ)) (memory room first : ℕ) (mem :
       where
         go : Dec (memory - 8 < first + 2)
             → Runs Γ (Valued Γ 2) 5 first 2 2 s₀ v₀
-            (called fs (Γ .place) (memory - 8) input (sem fs (Γ .place) (memory - 8) input fuel) (getD (globalsWith fs (Γ .place .entries) noGlobals) 1 0) (first + 2) [] s₀)
+            (called fs (Γ .place) (memory - 8) input (sem fs (Γ .place) (memory - 8) input fuel)
+            (getD (globalsWith fs (Γ .place .entries) noGlobals) 1 0) (first + 2) [] s₀)
         go (yes l) = not-called (memory - 8) (first + 2) _ _ s₀ l
         go (no l) =
-            step-LIG Γ (fits .sized) (le-refl 2) (starts (omega arith)) refl (G.start-0 fs ss memory room first mem table input b) (omega (arith, b .least)) λ w r c a.
-            sim-called Γ fits (sem fs (Γ .place) (memory - 8) input fuel) (sims Γ fits fuel) (getD (globalsWith fs (Γ .place .entries) noGlobals) 1 0) [] r c
-            (G.start-1 fs ss memory room first mem table input b) (a ∙ G.global-word fs ss memory room first mem table input b 1 (omega arith)) (holding-none (w .mem) (first + 2 + 2))
+            step-LIG Γ (fits .sized) (le-refl 2) (starts (omega arith)) refl (G.start-0 input b) (omega (arith, b .least)) λ w r c a.
+            sim-called Γ fits (sem fs (Γ .place) (memory - 8) input fuel) (sims Γ fits fuel)
+            (getD (globalsWith fs (Γ .place .entries) noGlobals) 1 0) [] r c
+            (G.start-1 input b) (a ∙ G.global-word input b 1 (omega arith)) (holding-none (w .mem) (first + 2 + 2))
 
     -- a source run that ends below the last eight words is followed to a finish
     pub finishes : (fuel : ℕ) (s : State) → Over (runWith fuel fs ss (Γ .place) memory input) s → s .used + 8 ≤ memory → Ends Γ 5 s₀ v₀ s
     unfolding runWith
     finishes fuel s o h =
-        go o (both-called (memory - 8) fs (Γ .place) memory (omega arith) input _ _ (both-sem (memory - 8) fs (Γ .place) memory (omega arith) input fuel) (getD (globalsWith fs (Γ .place .entries) noGlobals) 1 0) (first + 2) [] s₀)
+        go o (both-called (memory - 8) fs (Γ .place) memory (omega arith) input _ _
+        (both-sem (memory - 8) fs (Γ .place) memory (omega arith) input fuel) (getD (globalsWith fs (Γ .place .entries) noGlobals) 1 0)
+        (first + 2) [] s₀)
         (runs fuel)
       where
         over : {v : Value} → Reached Γ (Valued Γ 2) 5 first 2 2 s₀ v₀ v s → Ends Γ 5 s₀ v₀ s
-        over e = record {
-          v′ = e .v′;
-          n = e .sim .n;
-          goes = e .sim .goes;
-          past = 3;
-          finish = rw (e .is .at) (G.start-2 fs ss memory room first mem table input b);
-          agree = e .sim .rel .agree;
-          vals = e .sim .rel .vals;
-          bytes = e .sim .rel .bytes;
-          taken = e .sim .rel .taken;
-          time = e .sim .time;
-        }
+        over e = at-finish Γ {past = 3} (e .sim .goes) (e .sim .rel) (rw (e .is .at) (G.start-2 input b)) (e .sim .time)
 
         reached : {v : Value} {y : Result Value} → y ≡ ok v s → Runs Γ (Valued Γ 2) 5 first 2 2 s₀ v₀ y → Ends Γ 5 s₀ v₀ s
         reached {v} e r = take (rw e at r)

@@ -13,13 +13,10 @@ use Rattle.words.specs.Words.{add}
 use Rattle.machine.specs.Outcome as O
 use Rattle.machine.specs.Acts.{search}
 use Rattle.language.specs.Resolved as R
-use Rattle.language.specs.Resolved.{Expr, CaseLabel, Cases}
+use Rattle.language.specs.Resolved.{Expr, CaseLabel, Cases, hasDefault, hasCase, casesOf, caseCount}
 use Rattle.language.specs.State.{State, ok}
 use Rattle.language.specs.Run.{Flow, normal, broke, looped, ended, gave, Sem, executed, cases, from, orNone, orElse, selected, afterSwitch}
-use Rattle.language.specs.Resolved.{hasDefault}
-use Rattle.language.specs.Resolved.{hasCase}
 use Rattle.code.specs.Generate.{Exits, inSwitch, exprCode, exprLabels, cmdCode, cmdLabels, casesCode, pairsOf, tableOf, defaultOf, commandsIn}
-use Rattle.language.specs.Resolved.{casesOf, caseCount}
 use Rattle.code.proofs.Results.{post-demand}
 use Rattle.code.proofs.Machine.{Mach}
 use Rattle.code.proofs.Standing.{Env, Agree, Word, Code, end, cut, cut-number, cut-label, cut-word, cut-place, at-end}
@@ -51,7 +48,9 @@ module _ (Γ : Env) (sized : Sized Γ) (m : List ℕ) (agree : Agree Γ m) (w d 
   unfolding search O.read
   pair-hit {i} {v} {c} n x y e =
       let k : add i 1 ≡ suc i = omega (arith, x .below, sized .most) in
-      rw (lt-ltb i (length m) (omega (arith, x .below, agree .size)), x .is m agree, eq-eqb v w e, k, lt-ltb (suc i) (length m) (omega (arith, y .below, agree .size)), y .is m agree) refl
+      let l = lt-ltb i (length m) (omega (arith, x .below, agree .size)) in
+      let l′ = lt-ltb (suc i) (length m) (omega (arith, y .below, agree .size)) in
+      rw (l, x .is m agree, eq-eqb v w e, k, l′, y .is m agree) refl
 
   pair-miss : {i v c : ℕ} (n : ℕ) → Word Γ i v → Word Γ (suc i) c → (v ≡ w → ⊥) → search m w d (suc n) i ≡ search m w d n (suc (suc i))
   unfolding search O.read
@@ -70,7 +69,8 @@ module _ (Γ : Env) (sized : Sized Γ) (m : List ℕ) (agree : Agree Γ m) (w d 
       let z : suc (casesOf ls) + n ≡ suc (casesOf ls + n) = omega arith in
       rw z (go x y (search-labels l ls n k₂) (eqb v w) refl)
     where
-      go : Word Γ i v → Word Γ (suc i) (Γ .lab l) → search m w d (casesOf ls + n) (suc (suc i)) ≡ cond (hasCase w ls) (O.ok (Γ .lab l)) (search m w d n j) → (b : Bool) → eqb v w ≡ b
+      go : Word Γ i v → Word Γ (suc i) (Γ .lab l)
+          → search m w d (casesOf ls + n) (suc (suc i)) ≡ cond (hasCase w ls) (O.ok (Γ .lab l)) (search m w d n j) → (b : Bool) → eqb v w ≡ b
           → search m w d (suc (casesOf ls + n)) i ≡ cond (cond (eqb w v) true (hasCase w ls)) (O.ok (Γ .lab l)) (search m w d n j)
       go x y k₂ true e = let q : v ≡ w = eqb-true v w e in rw (pair-hit (casesOf ls + n) x y q, eq-eqb w v (sym q)) refl
       go x y k₂ false e =
@@ -82,8 +82,7 @@ module _ (Γ : Env) (sized : Sized Γ) (m : List ℕ) (agree : Agree Γ m) (w d 
   unfolding caseCount tableOf labelAt search
   search-table l other R.noCases e k = ap (λ (x : ℕ). O.ok x) e
   search-table l other (R.cases ls c cs) {i} {j} e k =
-      cut Γ (pairsOf l ls) _ k λ b₁ k₁ k₂.
-      search-labels l ls (caseCount cs) k₁ ∙ go (hasCase w ls) (search-table (suc l) other cs e k₂)
+      cut Γ (pairsOf l ls) _ k λ b₁ k₁ k₂. search-labels l ls (caseCount cs) k₁ ∙ go (hasCase w ls) (search-table (suc l) other cs e k₂)
     where
       go : {x : O.Out ℕ} (b : Bool) → x ≡ O.ok (Γ .lab (labelAt (hasCase w) (suc l) other cs))
           → cond b (O.ok (Γ .lab l)) x ≡ O.ok (Γ .lab (cond b l (labelAt (hasCase w) (suc l) other cs)))
@@ -98,7 +97,8 @@ module _ (Γ : Env) where
     code : Code Γ (Γ .lab l) (casesCode (suc (F Γ)) h first labels x cs) b
     formed : FormedS (F Γ) (S Γ) h cs
 
-  chosen : {h b : ℕ} {x : Exits} (test : List CaseLabel → Bool) (l n other : ℕ) (cs : Cases) {a : ℕ} {cs′ : Cases} → Code Γ a (casesCode (suc (F Γ)) h l n x cs) b
+  chosen : {h b : ℕ} {x : Exits} (test : List CaseLabel → Bool) (l n other : ℕ) (cs : Cases) {a : ℕ} {cs′ : Cases}
+      → Code Γ a (casesCode (suc (F Γ)) h l n x cs) b
       → FormedS (F Γ) (S Γ) h cs → Chosen h b x cs′ other → Chosen h b x (orElse (from test cs) cs′) (labelAt test l other cs)
   unfolding from labelAt casesCode FormedS
   chosen test l n other R.noCases k f o = o
@@ -113,7 +113,8 @@ module _ (Γ : Env) where
       go false y z = z
 
   module _ (fits : Fits Γ) (q : Sem) (ih : Sims Γ q) where
-    sim-cases : (cs : Cases) (l n : ℕ) {p h a b : ℕ} {x : Exits} {s : State} {v : Mach} → Code Γ a (casesCode (suc (F Γ)) h l n x cs) b → FormedS (F Γ) (S Γ) h cs
+    sim-cases : (cs : Cases) (l n : ℕ) {p h a b : ℕ} {x : Exits} {s : State} {v : Mach} → Code Γ a (casesCode (suc (F Γ)) h l n x cs) b
+        → FormedS (F Γ) (S Γ) h cs
         → v .regs .c ≡ a → Rel Γ p h s v → Runs Γ (Where Γ b x) 0 p h h s v (cases q cs p h s)
     unfolding cases casesCode FormedS
     sim-cases R.noCases l n {h = h} k f pc r = over Γ (le-refl h) r (w-normal (pc ∙ at-end Γ k))
@@ -124,7 +125,8 @@ module _ (Γ : Env) where
         goes-on Γ g _ (x₁ .rel) y₁ λ c₁. sim-cases cs (suc l) (n + cmdLabels c) k₂ (f .1) c₁ (x₁ .rel)
 
     -- ENDCASE, and falling off the list's end
-    switch-end : {p h b b′ en : ℕ} {x : Exits} {s : State} {v : Mach} (f : Flow) → Rel Γ p h s v → Where Γ b (inSwitch en x) f v → Γ .lab en ≡ b → b ≡ b′
+    switch-end : {p h b b′ en : ℕ} {x : Exits} {s : State} {v : Mach} (f : Flow) → Rel Γ p h s v → Where Γ b (inSwitch en x) f v → Γ .lab en ≡ b
+        → b ≡ b′
         → Runs Γ (Where Γ b′ x) 0 p h h s v (ok (afterSwitch f) s)
     switch-end {h = h} normal r (w-normal e) l z = over Γ (le-refl h) r (w-normal (e ∙ z))
     switch-end {h = h} broke r (w-broke o e) l z = over Γ (le-refl h) r (w-broke o e)
@@ -140,14 +142,18 @@ module _ (Γ : Env) where
         cut-word Γ k₃ λ w₃ k₄.
         cut-place Γ k₄ λ w₄ k₅.
         cut Γ (tableOf (n + exprLabels e + 1) cs) _ k₅ λ b₆ k₆ k₇.
-        cut Γ (casesCode (suc (F Γ)) h (n + exprLabels e + 1) (n + exprLabels e + 1 + commandsIn cs) (inSwitch (n + exprLabels e) x) cs) _ k₇ λ b₈ k₈ k₉.
+        cut Γ (casesCode (suc (F Γ)) h (n + exprLabels e + 1) (n + exprLabels e + 1 + commandsIn cs)
+        (inSwitch (n + exprLabels e) x) cs) _ k₇ λ b₈ k₈ k₉.
         cut-label Γ k₉ λ e₉ l₉.
         paid Γ (then Γ (le-refl h) (part Γ fits q ih e n k₁ (f .0) pc (ticked Γ r)) λ y s₁ v₁ x₁ y₁.
         post-demand (y₁ .has) λ w ew.
-        let none-left : Chosen h b₈ (inSwitch (n + exprLabels e) x) R.noCases (n + exprLabels e) = record { first = 0; labels = 0; code = end e₉; formed = tt } in
-        let default : Chosen h b₈ (inSwitch (n + exprLabels e) x) (orElse (from hasDefault cs) R.noCases) (labelAt hasDefault (n + exprLabels e + 1) (n + exprLabels e) cs)
+        let none-left : Chosen h b₈ (inSwitch (n + exprLabels e) x) R.noCases (n + exprLabels e)
+        = record { first = 0; labels = 0; code = end e₉; formed = tt } in
+        let default : Chosen h b₈ (inSwitch (n + exprLabels e) x) (orElse (from hasDefault cs) R.noCases)
+        (labelAt hasDefault (n + exprLabels e + 1) (n + exprLabels e) cs)
         = chosen hasDefault (n + exprLabels e + 1) (n + exprLabels e + 1 + commandsIn cs) (n + exprLabels e) cs k₈ (f .1) none-left in
-        let default′ : Chosen h b₈ (inSwitch (n + exprLabels e) x) (orNone (from hasDefault cs)) (defaultOf (n + exprLabels e + 1) (n + exprLabels e) cs)
+        let default′ : Chosen h b₈ (inSwitch (n + exprLabels e) x) (orNone (from hasDefault cs))
+        (defaultOf (n + exprLabels e + 1) (n + exprLabels e) cs)
         = rw (or-none (from hasDefault cs), default-label (n + exprLabels e + 1) (n + exprLabels e) cs) default in
         let run : Chosen h b₈ (inSwitch (n + exprLabels e) x) (orElse (from (hasCase w) cs) (orNone (from hasDefault cs)))
         (labelAt (hasCase w) (n + exprLabels e + 1) (defaultOf (n + exprLabels e + 1) (n + exprLabels e) cs) cs)
@@ -157,7 +163,9 @@ module _ (Γ : Env) where
         ≡ O.ok (Γ .lab (labelAt (hasCase w) (n + exprLabels e + 1) (defaultOf (n + exprLabels e + 1) (n + exprLabels e) cs) cs))
         = rw ew (search-table Γ (fits .sized) m (x₁ .rel .agree) w _ (n + exprLabels e + 1) _ cs refl k₆) in
         let z : Sim Γ 1 p h h s₁ v₁ s₁ _
-        = quiet Γ (x₁ .rel) (do-X23 Γ v₁ (x₁ .rel .agree) (y₁ .at) i₂ (omega (arith, w₄ .below, fits .sized .most)) (w₄ .below) (w₃ .is m (x₁ .rel .agree)) (w₄ .is m (x₁ .rel .agree)) found)
+        =
+        quiet Γ (x₁ .rel) (do-X23 Γ v₁ (x₁ .rel .agree) (y₁ .at) i₂ (omega (arith, w₄ .below, fits .sized .most)) (w₄ .below)
+        (w₃ .is m (x₁ .rel .agree)) (w₄ .is m (x₁ .rel .agree)) found)
         refl refl refl refl refl in
         after Γ (le-refl h) z (then Γ (le-refl h) (sim-cases _ (run .first) (run .labels) (run .code) (run .formed) refl (z .rel)) λ g s₃ v₃ x₃ y₃.
         switch-end g (x₃ .rel) y₃ e₉ (at-end Γ l₉))) (omega arith)

@@ -1,5 +1,5 @@
 -- What is owed for every source that is accepted: its text is faithful to it and follows the rules on the compiler's text.
-use Prim.Native.Nat.{ℕ, _+_, _*_, _-_, _≤_}
+use Prim.Native.Nat.{ℕ, _+_, _*_, _≤_}
 use mathlib.Core.Path.{_≡_}
 use mathlib.Core.Logic.{_⊎_}
 use mathlib.Core.List.{List, []}
@@ -37,7 +37,8 @@ module _ (source : List ℕ) (scratch : ℕ) (accepts : refusalOf source scratch
 
 -- ---- on the closed instance
 
-owed : (output : List ℕ) (budget : ℕ) → Follows (stringsIn source) (placementOf source (assembled (textOf source) 512 4 .table) 421) final (length output) budget
+owed : (output : List ℕ) (budget : ℕ)
+    → Follows (stringsIn source) (placementOf source (assembled (textOf source) 512 4 .table) 421) final (length output) budget
     (run 421 (assembled (textOf source) 512 4 .memory) [] output budget)
 owed output budget = faithful source 1000 accepts .follows 512 4 421 (rw written answers) [] final runs low output budget
 

@@ -1,9 +1,9 @@
 -- The placement rules of the compiler's text: every function and string labelled, entries that differ, strings in place and apart.
-use Prim.Native.Nat.{ℕ, zero, suc, _+_, _-_, _*_, _/_, _≤_, _<_}
+use Prim.Native.Nat.{ℕ, zero, suc, _+_, _-_, _≤_, _<_}
 use mathlib.Core.Path.{_≡_, refl, sym, _∙_}
 use mathlib.Core.Bool.{Bool, true, false, cond}
 use mathlib.Core.Logic.{inl}
-use mathlib.Core.List.{List, [], _∷_, _++_, append-assoc, map}
+use mathlib.Core.List.{List, [], _∷_, _++_, append-assoc}
 use native.Mathlib.Omega.{arith}
 use native.Mathlib.Decide.{decLt}
 use lib.Dec.{eqb}
@@ -19,7 +19,6 @@ use Rattle.assembler.specs.declared.Label.{Label}
 use Rattle.assembler.specs.Layout.{vacant, defined, addressOf, noted}
 use Rattle.assembler.specs.Assemble.{assembled}
 use Rattle.assembler.specs.declared.Assembled.the-variants.{Accepted}
-use Rattle.assembler.proofs.Acceptance.{Proper}
 use Rattle.language.specs.Resolved.{Fun}
 use Rattle.language.specs.Whole.{functionsIn, stringsIn}
 use Rattle.code.specs.Faithful.{addressesFrom, placementOf}
@@ -51,7 +50,8 @@ in-functions strings l n [] k h = absurd (omega arith)
 in-functions strings l n (f ∷ fs) zero h = let z : l + 0 ≡ l = omega arith in rw z here
 in-functions strings l n (f ∷ fs) (suc k) h =
     let z : l + suc k ≡ suc l + k = omega arith in
-    rw z (there (in-right (bodyCode strings (2 + f .parameters) n (f .body)) (there (in-functions strings (suc l) (n + bodyLabels (f .body)) fs k (omega arith)))))
+    rw z (there (in-right (bodyCode strings (2 + f .parameters) n (f .body))
+    (there (in-functions strings (suc l) (n + bodyLabels (f .body)) fs k (omega arith)))))
 
 in-strings : (l : ℕ) (ss : List (List ℕ)) (k : ℕ) → k < length ss → In (l + k) (stringsCode l ss)
 unfolding stringsCode
@@ -69,15 +69,18 @@ defined-in (l ∷ ls) more n at = go (eqb (l .number) n) (defined-in ls more n a
     go false e = e
 
 module _ (memory room : ℕ) where
-  laid-defined : {n : ℕ} {xs : List Item} → In n xs → (at p : ℕ) (ls : List Label) {labels : List Label} {end : ℕ} → Lays memory room at ls (places p xs) labels end → defined labels n ≡ true
+  laid-defined : {n : ℕ} {xs : List Item} → In n xs → (at p : ℕ) (ls : List Label) {labels : List Label} {end : ℕ}
+      → Lays memory room at ls (places p xs) labels end → defined labels n ≡ true
   unfolding places noted
   laid-defined {n} (here {xs = xs}) at p ls h =
-      let x = lay-extends memory room (at + size (label n)) (ls ++ (record { number = n; address = at } ∷ [])) (places (p + length (render (label n)) + 1) xs) (lay-step memory room h .1) in
+      let ls′ : List Label = ls ++ (record { number = n; address = at } ∷ []) in
+      let x = lay-extends memory room (at + size (label n)) ls′ (places (p + length (render (label n)) + 1) xs) (lay-step memory room h .1) in
       rw (x .is, append-assoc ls (record { number = n; address = at } ∷ []) (x .more)) (defined-in ls (x .more) n at)
   laid-defined (there {x = x} i) at p ls h = laid-defined i (at + size x) (p + length (render x) + 1) (noted at ls x) (lay-step memory room h .1)
 
   -- past some items
-  skip : {T : Type 0} (xs ys : List Item) (at p : ℕ) (ls : List Label) {labels : List Label} {end : ℕ} → Lays memory room at ls (places p (xs ++ ys)) labels end
+  skip : {T : Type 0} (xs ys : List Item) (at p : ℕ) (ls : List Label) {labels : List Label} {end : ℕ}
+      → Lays memory room at ls (places p (xs ++ ys)) labels end
       → ((p′ : ℕ) (ls′ : List Label) → Lays memory room (past at xs) ls′ (places p′ ys) labels end → T) → T
   unfolding places past
   skip [] ys at p ls h f = f p ls h
@@ -99,18 +102,18 @@ module _ (memory room : ℕ) where
       let t : Lays memory room (at + 0) (noted at ls (label l)) (places (p + length (render (label l)) + 1) (body ++ (X 4 ∷ rest))) labels end
       = rw (append-assoc body (X 4 ∷ functionsCode strings (suc l) (n + bodyLabels (f .body)) fs) ys) at (lay-step memory room h .1) in
       skip body (X 4 ∷ rest) (at + 0) (p + length (render (label l)) + 1) (noted at ls (label l)) t λ p′ ls′ h′.
-      let u : Up labels (suc l) (past (at + 0) body + 1) (length fs) = functions-up strings (suc l) (n + bodyLabels (f .body)) fs ys (past (at + 0) body + 1) _ _ (lay-step memory room h′ .1) in
+      let u : Up labels (suc l) (past (at + 0) body + 1) (length fs)
+      = functions-up strings (suc l) (n + bodyLabels (f .body)) fs ys (past (at + 0) body + 1) _ _ (lay-step memory room h′ .1) in
       let m : at + 0 ≤ past (at + 0) body = past-more (at + 0) body in
-      record {
-        low = λ k j. low′ a u m k j;
-        strict = λ i j v w. strict′ a u m i j v w;
-      }
+      record { low = λ k j. low′ a u m k j; strict = λ i j v w. strict′ a u m i j v w }
     where
-      low′ : {b : ℕ} → addressOf labels l ≡ at → Up labels (suc l) (b + 1) (length fs) → at + 0 ≤ b → (k : ℕ) → k < suc (length fs) → at ≤ addressOf labels (l + k)
+      low′ : {b : ℕ} → addressOf labels l ≡ at → Up labels (suc l) (b + 1) (length fs) → at + 0 ≤ b → (k : ℕ) → k < suc (length fs)
+          → at ≤ addressOf labels (l + k)
       low′ a u m zero j = let z : l + 0 ≡ l = omega arith in rw z (omega arith)
       low′ a u m (suc k) j = let z : l + suc k ≡ suc l + k = omega arith in rw z (omega (arith, u .low k (omega arith)))
 
-      strict′ : {b : ℕ} → addressOf labels l ≡ at → Up labels (suc l) (b + 1) (length fs) → at + 0 ≤ b → (i j : ℕ) → i < j → j < suc (length fs) → addressOf labels (l + i) < addressOf labels (l + j)
+      strict′ : {b : ℕ} → addressOf labels l ≡ at → Up labels (suc l) (b + 1) (length fs) → at + 0 ≤ b → (i j : ℕ) → i < j → j < suc (length fs)
+          → addressOf labels (l + i) < addressOf labels (l + j)
       strict′ a u m i zero v w = absurd (omega arith)
       strict′ a u m zero (suc j) v w =
           let y : l + 0 ≡ l = omega arith in
@@ -129,17 +132,13 @@ record StringAt (mem : List ℕ) (a b at : ℕ) (ws : List ℕ) : Type 0 where
   words : (j : ℕ) → j < length ws → getD mem (at + j) 0 ≡ getD ws j 0
 
 module _ (Γ : Env) where
-  strings-up : (l : ℕ) (ss : List (List ℕ)) {a b : ℕ} → Code Γ a (stringsCode l ss) b → a ≤ b
-  unfolding stringsCode
-  strings-up l [] (end e) = omega arith
-  strings-up l (cs ∷ ss) (next (is-label t e) (next (is-string f g) k)) = let h = strings-up (suc l) ss k in omega arith
-
-  string-at : (l : ℕ) (ss : List (List ℕ)) {a b : ℕ} → Code Γ a (stringsCode l ss) b → (k : ℕ) → k < length ss → StringAt (Γ .image) a b (Γ .lab (l + k)) (packed (getD ss k []))
+  string-at : (l : ℕ) (ss : List (List ℕ)) {a b : ℕ} → Code Γ a (stringsCode l ss) b → (k : ℕ) → k < length ss
+      → StringAt (Γ .image) a b (Γ .lab (l + k)) (packed (getD ss k []))
   unfolding stringsCode
   string-at l [] c k h = absurd (omega arith)
   string-at l (cs ∷ ss) {a} {b} (next (is-label t e) (next (is-string f g) c)) zero h =
       let z : l + 0 ≡ l = omega arith in
-      let u = strings-up (suc l) ss c in
+      let u = G.strings-up Γ (suc l) ss c in
       rw (z, t, e) (record { low = omega arith; high = omega arith; words = f })
   string-at l (cs ∷ ss) {a} {b} (next (is-label t e) (next (is-string f g) c)) (suc k) h =
       let z : l + suc k ≡ suc l + k = omega arith in
@@ -175,9 +174,11 @@ table-defined (l ∷ ls) k n h = rw (table-defined ls k n h) refl
 
 -- ---- the rules
 
-module _ (fs : List Fun) (ss : List (List ℕ)) (memory room first : ℕ) (mem : List ℕ) (table : List Label) (b : Built fs ss memory room first mem table) where
+module _
+    {fs : List Fun} {ss : List (List ℕ)} {memory room first : ℕ} {mem : List ℕ} {table : List Label}
+    (b : Built fs ss memory room first mem table) where
   abbrev Γ : Env
-  Γ = G.env fs ss memory room first mem table [] b
+  Γ = G.env [] b
 
   pub labelled : (n : ℕ) → 1 ≤ n → n ≤ length fs + length ss → defined table n ≡ true
   unfolding itemsOf
@@ -192,19 +193,21 @@ module _ (fs : List Fun) (ss : List (List ℕ)) (memory room first : ℕ) (mem :
           at-label (in-left _ (rw z at (in-functions (suc (length fs)) 1 (suc (length fs) + length ss) fs (n - 1) (omega arith))))
       go (yes k) =
           let z : suc (length fs) + (n - suc (length fs)) ≡ n = omega arith in
-          at-label (in-right (functionsCode (suc (length fs)) 1 (suc (length fs) + length ss) fs) (in-left _ (rw z at (in-strings (suc (length fs)) ss (n - suc (length fs)) (omega arith)))))
+          at-label (in-right (functionsCode (suc (length fs)) 1 (suc (length fs) + length ss) fs)
+          (in-left _ (rw z at (in-strings (suc (length fs)) ss (n - suc (length fs)) (omega arith)))))
 
   up : Up memory room (b .labels) 1 416 (length fs)
   unfolding itemsOf
   up = functions-up memory room (suc (length fs)) 1 (suc (length fs) + length ss) fs _ 416 2 [] (b .lays)
 
   entry : (k : ℕ) → k < length fs → getD (addressesFrom table 1 (length fs)) k 0 ≡ addressOf (b .labels) (1 + k)
-  entry k l = G.addresses-at table 1 (length fs) k l ∙ G.same-address fs ss memory room first mem table [] b (1 + k) (omega arith)
+  entry k l = G.addresses-at table 1 (length fs) k l ∙ G.same-address [] b (1 + k) (omega arith)
 
   string-entry : (k : ℕ) → k < length ss → getD (addressesFrom table (suc (length fs)) (length ss)) k 0 ≡ addressOf (b .labels) (suc (length fs) + k)
-  string-entry k l = G.addresses-at table (suc (length fs)) (length ss) k l ∙ G.same-address fs ss memory room first mem table [] b (suc (length fs) + k) (omega arith)
+  string-entry k l = G.addresses-at table (suc (length fs)) (length ss) k l ∙ G.same-address [] b (suc (length fs) + k) (omega arith)
 
-  pub entries-differ : (i j : ℕ) → i < length fs → j < length fs → getD (addressesFrom table 1 (length fs)) i 0 ≡ getD (addressesFrom table 1 (length fs)) j 0 → i ≡ j
+  pub entries-differ : (i j : ℕ) → i < length fs → j < length fs
+      → getD (addressesFrom table 1 (length fs)) i 0 ≡ getD (addressesFrom table 1 (length fs)) j 0 → i ≡ j
   entries-differ i j h k e =
       let q : addressOf (b .labels) (1 + i) ≡ addressOf (b .labels) (1 + j) = sym (entry i h) ∙ e ∙ entry j k in
       go q (decLt i j) (decLt j i)
@@ -218,15 +221,15 @@ module _ (fs : List Fun) (ss : List (List ℕ)) (memory room first : ℕ) (mem :
   entry-high i h = rw (entry i h) (up .low i h)
 
   string-here : (i : ℕ) → i < length ss
-      → StringAt mem (G.codeEnd fs ss memory room first mem table [] b) (past (G.codeEnd fs ss memory room first mem table [] b) (stringsCode (suc (length fs)) ss))
+      → StringAt mem (G.codeEnd [] b) (past (G.codeEnd [] b) (stringsCode (suc (length fs)) ss))
       (getD (addressesFrom table (suc (length fs)) (length ss)) i 0) (packed (getD ss i []))
-  string-here i h = rw (string-entry i h) (string-at Γ (suc (length fs)) ss (G.standing fs ss memory room first mem table [] b .strings) i h)
+  string-here i h = rw (string-entry i h) (string-at Γ (suc (length fs)) ss (G.standing [] b .strings) i h)
 
   pub string-above : (i : ℕ) → i < length ss → 416 ≤ getD (addressesFrom table (suc (length fs)) (length ss)) i 0
-  string-above i h = omega (arith, string-here i h .low, past-more 416 (G.fcode fs ss memory room first mem table [] b))
+  string-above i h = omega (arith, string-here i h .low, past-more 416 (G.fcode [] b))
 
   pub string-below : (i : ℕ) → i < length ss → getD (addressesFrom table (suc (length fs)) (length ss)) i 0 + length (packed (getD ss i [])) ≤ first
-  string-below i h = omega (arith, string-here i h .high, G.strings-first fs ss memory room first mem table [] b)
+  string-below i h = omega (arith, string-here i h .high, G.strings-first [] b)
 
   pub string-in-place : (i : ℕ) → i < length ss
       → take (length (packed (getD ss i []))) (drop (getD (addressesFrom table (suc (length fs)) (length ss)) i 0) mem) ≡ packed (getD ss i [])
@@ -240,30 +243,34 @@ module _ (fs : List Fun) (ss : List (List ℕ)) (memory room first : ℕ) (mem :
       (λ j l. getD-take n (drop a mem) j 0 (omega arith) ∙ getD-drop a mem j 0 ∙ s .words j (omega arith))
 
   pub string-apart : (i j : ℕ) → i < j → j < length ss
-      → getD (addressesFrom table (suc (length fs)) (length ss)) i 0 + length (packed (getD ss i [])) ≤ getD (addressesFrom table (suc (length fs)) (length ss)) j 0
-  string-apart i j l h =
-      rw (string-entry i (omega arith), string-entry j h) (strings-apart Γ (suc (length fs)) ss (G.standing fs ss memory room first mem table [] b .strings) i j l h)
+      → getD (addressesFrom table (suc (length fs)) (length ss)) i 0 + length (packed (getD ss i [])) ≤ getD
+      (addressesFrom table (suc (length fs)) (length ss)) j 0
+  string-apart i j l h = rw (string-entry i (omega arith), string-entry j h) (strings-apart Γ (suc (length fs)) ss (G.standing [] b .strings) i j l h)
 
-module _ (source : List ℕ) (good : Good source) (memory room first : ℕ) (accepted : assembled (textOf source) memory room .answer ≡ Accepted first) where
-  stands : Built (functionsIn source) (stringsIn source) memory room first (assembled (textOf source) memory room .memory) (assembled (textOf source) memory room .table)
+module _ (source : List ℕ) (good : Good source) (memory room first : ℕ)
+    (accepted : assembled (textOf source) memory room .answer ≡ Accepted first) where
+  abbrev table : List Label
+  table = assembled (textOf source) memory room .table
+
+  stands : Built (functionsIn source) (stringsIn source) memory room first (assembled (textOf source) memory room .memory) table
   unfolding textOf
   stands = built (functionsIn source) (stringsIn source) memory room first (good .sound) accepted
 
-  entries-count : length (addressesFrom (assembled (textOf source) memory room .table) 1 (length (functionsIn source))) ≡ length (functionsIn source)
-  entries-count = G.addresses-length (assembled (textOf source) memory room .table) 1 (length (functionsIn source))
+  entries-count : length (addressesFrom table 1 (length (functionsIn source))) ≡ length (functionsIn source)
+  entries-count = G.addresses-length table 1 (length (functionsIn source))
 
-  strings-count : length (addressesFrom (assembled (textOf source) memory room .table) (suc (length (functionsIn source))) (length (stringsIn source))) ≡ length (stringsIn source)
-  strings-count = G.addresses-length (assembled (textOf source) memory room .table) (suc (length (functionsIn source))) (length (stringsIn source))
+  strings-count : length (addressesFrom table (suc (length (functionsIn source))) (length (stringsIn source))) ≡ length (stringsIn source)
+  strings-count = G.addresses-length table (suc (length (functionsIn source))) (length (stringsIn source))
 
   -- the placement, wherever the text is assembled
-  pub well-placed : WellPlaced source (placementOf source (assembled (textOf source) memory room .table) first) (assembled (textOf source) memory room .table) (assembled (textOf source) memory room .memory)
+  pub well-placed : WellPlaced source (placementOf source table first) table (assembled (textOf source) memory room .memory)
   well-placed = record {
-    labelled = labelled (functionsIn source) (stringsIn source) memory room first _ _ stands;
-    entries-differ = λ i j h k e. entries-differ (functionsIn source) (stringsIn source) memory room first _ _ stands i j (omega (arith, entries-count)) (omega (arith, entries-count)) e;
-    not-read = λ i h e. let l = entry-high (functionsIn source) (stringsIn source) memory room first _ _ stands i (omega (arith, entries-count)) in omega arith;
-    not-write = λ i h e. let l = entry-high (functionsIn source) (stringsIn source) memory room first _ _ stands i (omega (arith, entries-count)) in omega arith;
-    above = λ i h. string-above (functionsIn source) (stringsIn source) memory room first _ _ stands i (omega (arith, strings-count));
-    below = λ i h. string-below (functionsIn source) (stringsIn source) memory room first _ _ stands i (omega (arith, strings-count));
-    in-place = λ i h. string-in-place (functionsIn source) (stringsIn source) memory room first _ _ stands i (omega (arith, strings-count));
-    apart = λ i j l h. inl (string-apart (functionsIn source) (stringsIn source) memory room first _ _ stands i j l (omega (arith, strings-count)));
+    labelled = labelled stands;
+    entries-differ = λ i j h k e. entries-differ stands i j (omega (arith, entries-count)) (omega (arith, entries-count)) e;
+    not-read = λ i h e. let l = entry-high stands i (omega (arith, entries-count)) in omega arith;
+    not-write = λ i h e. let l = entry-high stands i (omega (arith, entries-count)) in omega arith;
+    above = λ i h. string-above stands i (omega (arith, strings-count));
+    below = λ i h. string-below stands i (omega (arith, strings-count));
+    in-place = λ i h. string-in-place stands i (omega (arith, strings-count));
+    apart = λ i j l h. inl (string-apart stands i j l (omega (arith, strings-count)));
   }

@@ -14,7 +14,7 @@ use lib.ListN.{length, getD, take}
 use Rattle.text.specs.Packed.{packed}
 use Rattle.machine.specs.Run.{Outcome, run}
 use Rattle.assembler.specs.Layout.{addressOf}
-use Rattle.assembler.specs.Assemble.{Assembly, assembled}
+use Rattle.assembler.specs.Assemble.{assembled}
 use Rattle.assembler.specs.declared.Label.{Label}
 use Rattle.assembler.specs.declared.Assembled.the-variants.{Accepted}
 use Rattle.language.specs.State.{holds, State}

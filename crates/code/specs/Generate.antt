@@ -2,12 +2,12 @@
 -- An expression's code leaves its value in A. Frame words from the height up hold what waits. Labels: the functions' 1, 2 and on, then
 -- the strings', then inner ones, numbered in the order in which one walk through the text meets what needs them: a form's own labels
 -- first (a SWITCHON's after its value), then those of its parts in the order of their code.
-use Prim.Native.Nat.{ℕ, zero, suc, _+_}
+use Prim.Native.Nat.{ℕ, suc, _+_}
 use mathlib.Core.Bool.{Bool, true, false, cond}
 use mathlib.Core.List.{List, [], _∷_, _++_}
 use lib.ListN.{length}
 use lib.Dec.{eqb, leb}
-use Rattle.items.specs.Item.{Operand, number, address, Base, none, P, G, Item, label, instruction, constant, string, global}
+use Rattle.items.specs.Item.{number, address, none, P, G, Item, label, instruction, constant, string, global}
 use Rattle.items.specs.Render.{renderAll}
 use Rattle.language.specs.Kinds.{PLUS, MINUS, STAR, SLASH, REM, EQUAL, UNEQUAL, LESS, ATMOST, MORE, ATLEAST, LEFT, RIGHT, AMPERSAND, BAR, NOT}
 use Rattle.language.specs.Resolved as R

@@ -11,7 +11,7 @@ use Rattle.items.specs.Scan.{scan}
 use Rattle.text.specs.Packed.{packed}
 use Rattle.assembler.specs.Words.{size}
 use Rattle.assembler.specs.Layout.{defined}
-use Rattle.assembler.specs.Assemble.{Assembly, assembled}
+use Rattle.assembler.specs.Assemble.{assembled}
 use Rattle.assembler.specs.declared.Label.{Label}
 use Rattle.assembler.specs.declared.Assembled.the-variants.{Accepted, Refused}
 use Rattle.language.specs.Symbols as Y

@@ -27,6 +27,7 @@ use Rattle.language.proofs.SymbolFacts.{scan-length, cost, cost-length,
 use Rattle.language.proofs.Widths.{covered}
 use Rattle.language.proofs.Formed.{FormedF}
 use Rattle.language.proofs.Forming.{formed-at, program-formed}
+use Rattle.language.proofs.Cases.{clash}
 
 -- a text that is read, its symbols and its tree
 pub record IsRead (text : List ℕ) (p : Program) : Type 0 where
@@ -38,24 +39,29 @@ parsed-read : (text : List ℕ) (p : Program) → parsed text ≡ S.read p → I
 unfolding parsed symbolsOf readSymbols
 parsed-read text p h = go (firstFault (length text) (brackets [] (scan text .symbols)) (scan text .ending)) refl h
   where
-    onto : (o : Out Program) → treeOf (sourceNow text) ≡ o → symbolsOf text ≡ S.good (symbolsNow text) → S.onTree (sourceNow text) o ≡ S.read p → IsRead text p
+    onto : (o : Out Program) → treeOf (sourceNow text) ≡ o → symbolsOf text ≡ S.good (symbolsNow text) → S.onTree (sourceNow text) o ≡ S.read p
+        → IsRead text p
     onto (ok q n) e k m = let z : q ≡ p = cc in record { symbols = k; next = n; tree = e ∙ ap (λ (x : Program). ok x n) z }
-    onto (no number at) e k m = let z : _≡_ {A = ℕ} 0 1 = cc in absurd (omega arith)
+    onto (no number at) e k m = clash (cc)
 
     go : (f : Y.Fault) → firstFault (length text) (brackets [] (scan text .symbols)) (scan text .ending) ≡ f
         → S.onSymbols (length text) (S.onFault f (symbolsNow text)) ≡ S.read p → IsRead text p
     go Y.none e m = onto (treeOf (sourceNow text)) refl (rw e refl) m
-    go (Y.fault number place) e m = let z : _≡_ {A = ℕ} 0 1 = cc in absurd (omega arith)
+    go (Y.fault number place) e m = clash (cc)
 
 module _ (text : List ℕ) (p : Program) (r : IsRead text p) where
   pub strings-are : stringsIn text ≡ stringsAmong text (symbolsNow text)
   unfolding stringsIn
   strings-are = rw (r .symbols) refl
 
-  read-fine : (loops : ℕ) → 1 ≤ loops → length text ≤ 65535 → cost loops (scan text .symbols) ≤ 65535 → FineProgram (length (stringsIn text)) p × (programTokens loops p ≤ cost loops (scan text .symbols))
-  read-fine loops some short few = go (rw (r .tree) at (program (sourceNow text) (length (stringsAmong text (symbolsNow text))) (λ at. cost loops (take at (symbolsNow text))) (counts loops some text short few)))
+  read-fine : (loops : ℕ) → 1 ≤ loops → length text ≤ 65535 → cost loops (scan text .symbols) ≤ 65535
+      → FineProgram (length (stringsIn text)) p × (programTokens loops p ≤ cost loops (scan text .symbols))
+  read-fine loops some short few =
+      go (rw (r .tree) at (program (sourceNow text) (length (stringsAmong text (symbolsNow text))) (λ at. cost loops (take at (symbolsNow text)))
+      (counts loops some text short few)))
     where
-      go : Of (sourceNow text) (length (stringsAmong text (symbolsNow text))) (λ at. cost loops (take at (symbolsNow text))) (counts loops some text short few) (FineProgram (length (stringsAmong text (symbolsNow text)))) (programTokens loops) 0 (ok p (r .next))
+      go : Of (sourceNow text) (length (stringsAmong text (symbolsNow text))) (λ at. cost loops (take at (symbolsNow text)))
+          (counts loops some text short few) (FineProgram (length (stringsAmong text (symbolsNow text)))) (programTokens loops) 0 (ok p (r .next))
           → FineProgram (length (stringsIn text)) p × (programTokens loops p ≤ cost loops (scan text .symbols))
       go (given f l) = (rw strings-are f, omega (arith, cost-now loops text (r .next)))
 
@@ -74,7 +80,7 @@ pub record Facts (source : List ℕ) : Type 0 where
 
 or-else : (fs : List Fault) (x : Refused) → leastOr fs x ≡ accepted → (fs ≡ []) × (x ≡ accepted)
 or-else [] x h = (refl, h)
-or-else (f ∷ fs) x h = let z : _≡_ {A = ℕ} 0 1 = cc in absurd (omega arith)
+or-else (f ∷ fs) x h = clash (cc)
 
 functions-of : (source : List ℕ) (p : Program) → parsed source ≡ S.read p → functionsIn source ≡ funs (functionsOf source p)
 unfolding functionsIn
@@ -85,7 +91,7 @@ unfolding refusalOf readSource tooLong scratchTooShort rulesRefuse
 facts source scratch h = go (ltb 16384 (length source)) refl (ltb scratch (8 * length source + 64)) (parsed source) refl h
   where
     onto : (x : S.Read) → parsed source ≡ x → length source ≤ 16384 → onRead source x ≡ accepted → Facts source
-    onto (S.refused number place) e l m = let z : _≡_ {A = ℕ} 0 1 = cc in absurd (omega arith)
+    onto (S.refused number place) e l m = clash (cc)
     onto (S.read p) e l m =
         let r : IsRead source p = parsed-read source p e in
         let f = read-fine source p r 1 (omega arith) (omega arith) (omega (arith, cost-length (scan source .symbols), scan-length source)) in
@@ -107,13 +113,14 @@ facts source scratch h = go (ltb 16384 (length source)) refl (ltb scratch (8 * l
 
     go : (a : Bool) → ltb 16384 (length source) ≡ a → (b : Bool) → (x : S.Read) → parsed source ≡ x
         → onRead source (cond a (S.refused 1 0) (cond b (S.refused 15 0) x)) ≡ accepted → Facts source
-    go true ea b x ex m = let z : _≡_ {A = ℕ} 0 1 = cc in absurd (omega arith)
-    go false ea true x ex m = let z : _≡_ {A = ℕ} 0 1 = cc in absurd (omega arith)
+    go true ea b x ex m = clash (cc)
+    go false ea true x ex m = clash (cc)
     go false ea false x ex m = onto x ex (ltb-false 16384 (length source) ea) m
 
 -- its functions are formed
 pub formed : (source : List ℕ) → Facts source → (k : ℕ) → k < length (functionsIn source)
-    → FormedF (length (functionsIn source)) (length (stringsIn source)) (2 + getD (functionsIn source) k noFun .parameters) (getD (functionsIn source) k noFun .body)
+    → FormedF (length (functionsIn source)) (length (stringsIn source)) (2 + getD (functionsIn source) k noFun .parameters)
+    (getD (functionsIn source) k noFun .body)
 formed source x =
     rw (x .functions) (formed-at (length (funs (functionsOf source (x .tree)))) (length (stringsIn source)) (functionsOf source (x .tree))
     (program-formed (length (stringsIn source)) source (x .tree) (x .fine) (x .no-faults)))

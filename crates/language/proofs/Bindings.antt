@@ -9,7 +9,8 @@ use lib.Dec.{eqb}
 use Rattle.language.specs.Kinds.{NOT}
 use Rattle.language.specs.Binding.{NEGATION}
 use Rattle.language.specs.Reader.{Source, is}
-use Rattle.language.specs.Expressions.{Inside, operand, products, sums, relations, shifts, negations, conjunctions, disjunctions, chain, monadic, expression}
+use Rattle.language.specs.Expressions.{Inside, operand, products, sums, relations, shifts, negations, conjunctions, disjunctions, chain}
+use Rattle.language.specs.Expressions.{monadic, expression}
 
 -- the binding of the right operands
 abbrev pub rightOf : (binding : ℕ) → ℕ
@@ -25,7 +26,8 @@ module _ (inner : Inside) where
   unfolding expression negations
   negation s at = refl
 
-  pub step : (b : ℕ) → b ≤ 6 → (suc b ≡ NEGATION → ⊥) → expression inner (suc b) ≡ chain (suc b) (expression inner b) (expression inner (rightOf (suc b)))
+  pub step : (b : ℕ) → b ≤ 6 → (suc b ≡ NEGATION → ⊥)
+      → expression inner (suc b) ≡ chain (suc b) (expression inner b) (expression inner (rightOf (suc b)))
   unfolding expression products sums relations shifts conjunctions disjunctions
   step zero h n = refl
   step (suc zero) h n = refl

@@ -17,20 +17,20 @@ both-left false b e = e
 
 pub both-right : (a b : Bool) → (a && b) ≡ true → b ≡ true
 both-right true b e = e
-both-right false b e = let z : _≡_ {A = ℕ} 0 1 = cc in absurd (omega arith)
+both-right false b e = cc
 
 -- ---- the kind is that of the first candidate that is the same, or a name's
 
 -- what is the same is alike
 same-alike : (ss bs : List ℕ) → alike ss bs ≡ false → same ss bs ≡ false
 unfolding begins
-same-alike [] [] e = let z : _≡_ {A = ℕ} 0 1 = cc in absurd (omega arith)
+same-alike [] [] e = cc
 same-alike [] (b ∷ bs) e = rw (eqb·zero-suc (length bs))
 same-alike (s ∷ ss) [] e = rw (eqb·suc-zero (length ss))
 same-alike (s ∷ ss) (b ∷ bs) e = go (eqb s b) (eqb (length (s ∷ ss)) (length (b ∷ bs))) (begins ss bs) e
   where
     go : (first long rest : Bool) → (first && long) ≡ false → (long && (first && rest)) ≡ false
-    go true true rest e = let z : _≡_ {A = ℕ} 0 1 = cc in absurd (omega arith)
+    go true true rest e = cc
     go true false rest e = refl
     go false true rest e = refl
     go false false rest e = refl

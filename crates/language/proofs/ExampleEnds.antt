@@ -14,7 +14,8 @@ use Rattle.language.specs.Heights as H
 use Rattle.language.specs.Program.{globalsAfter, functionsAfter, declaredBy, resolved, afterDeclaration, groupOf, functionsFrom, functionsOf}
 use Rattle.language.specs.State.{holds, Value, State, Result, unfinished, undefined, finished, returned, ok, bind}
 use Rattle.language.specs.Run.{Placement, positionOf, called, evaluated, assigned, assignedAll, sequence, declared, executed, sem}
-use Rattle.language.specs.Whole.{funs, functionsIn, stringsAmong, stringsIn, globalsWith, stringCell, cellsAtStart, atStart, runWith, byReturn, SourceRunEnds}
+use Rattle.language.specs.Whole.{funs, functionsIn, stringsAmong, stringsIn, globalsWith, stringCell, cellsAtStart, atStart, runWith, byReturn}
+use Rattle.language.specs.Whole.{SourceRunEnds}
 use Rattle.language.proofs.Texts.{answer}
 use Rattle.language.proofs.Runs.{Held}
 use Rattle.language.proofs.Fuel.{more-fuel, one-end}
@@ -54,11 +55,14 @@ record Computed : Type 0 where
   used : end .used ≡ 20006
 
 computed : Computed
-unfolding end answer sameBytes lookup judge declareAll sideOf scopeAfter R.expression H.heightWith globalsAfter functionsAfter declaredBy resolved afterDeclaration groupOf functionsFrom functionsOf funs functionsIn stringsAmong stringsIn globalsWith stringCell cellsAtStart runWith bind positionOf called evaluated assigned assignedAll sequence declared executed sem noGlobals pairs
+unfolding end answer sameBytes lookup judge declareAll sideOf scopeAfter R.expression H.heightWith globalsAfter functionsAfter declaredBy resolved
+    afterDeclaration groupOf functionsFrom functionsOf funs functionsIn stringsAmong stringsIn globalsWith stringCell cellsAtStart runWith bind
+    positionOf called evaluated assigned assignedAll sequence declared executed sem noGlobals pairs
 computed = record { ends = record { fuel = 20; over = byReturn }; over = λ e. subst IsOver e tt; strings = refl; stored = refl; used = refl }
 
 -- with any more fuel the run is the same
-any-more : (k : ℕ) → runWith (20 + k) (functionsIn text) (stringsIn text) place 32768 [] ≡ runWith 20 (functionsIn text) (stringsIn text) place 32768 []
+any-more : (k : ℕ)
+    → runWith (20 + k) (functionsIn text) (stringsIn text) place 32768 [] ≡ runWith 20 (functionsIn text) (stringsIn text) place 32768 []
 any-more k = more-fuel 20 k (functionsIn text) (stringsIn text) place 32768 [] (computed .over)
 
 -- wherever this source's run ends, the second word of its string holds 7
@@ -70,13 +74,18 @@ within : SourceRunEnds text place 20006 [] end
 within =
     record {
       fuel = computed .ends .fuel;
-      over = over-within 20006 (functionsIn text) place 32768 (omega arith) [] (computed .ends .fuel) (stringsIn text) (computed .ends .over) (omega (arith, computed .used));
+      over =
+          over-within 20006 (functionsIn text) place 32768 (omega arith) [] (computed .ends .fuel) (stringsIn text) (computed .ends .over)
+          (omega (arith, computed .used));
     }
 
 -- all globals hold values, and both words of the string
 globals-held : (n : ℕ) → n < 400 → Held (end .cells (16 + n))
-globals-held n l = ended-globals (functionsIn text) (stringsIn text) place 32768 [] (computed .ends .fuel) end (computed .ends .over) n l (omega arith)
+globals-held n l =
+    ended-globals (functionsIn text) (stringsIn text) place 32768 [] (computed .ends .fuel) end (computed .ends .over) n l (omega arith)
 
 string-held : (i : ℕ) → i < 2 → Held (end .cells (2000 + i))
 unfolding pairs
-string-held i l = ended-strings (functionsIn text) (stringsIn text) place 32768 [] (computed .ends .fuel) end (computed .ends .over) 0 i (rw (computed .strings) (omega arith)) (rw (computed .strings) refl) (rw (computed .strings) (omega arith)) (omega arith) (omega arith)
+string-held i l =
+    ended-strings (functionsIn text) (stringsIn text) place 32768 [] (computed .ends .fuel) end (computed .ends .over) 0 i
+    (rw (computed .strings) (omega arith)) (rw (computed .strings) refl) (rw (computed .strings) (omega arith)) (omega arith) (omega arith)

@@ -1,6 +1,6 @@
 -- Worked examples: what the grammar takes and refuses.
 use Prim.Native.Nat.{ℕ}
-use Prim.Native.String.{String}
+use Prim.Native.String.{String, _++_ as joined}
 use mathlib.Core.Path.{refl}
 use mathlib.Core.List.{List, [], _∷_, _++_}
 use Rattle.text.specs.Written.{bytes}
@@ -54,7 +54,9 @@ verdict-table =
     "LET F() BE $( LET V = VEC --1 $)" gives (6, 27) ∷
     "LET F() BE $( LET V = VEC (1) $)" gives (6, 26) ∷
     -- every command
-    "LET F() BE $( TEST A DO F() OR G(); IF A DO F(); UNLESS A THEN F(); WHILE A DO F(); UNTIL A DO F(); FOR I = 1 TO 9 BY -1 DO F(); F() REPEAT; F() REPEATWHILE A; F() REPEATUNTIL A; SWITCHON A INTO $( DEFAULT: ENDCASE $); A, !B := 1, 2; RESULTIS 1; BREAK; LOOP; RETURN; FINISH $)" gives (0, 0) ∷
+    joined (joined "LET F() BE $( TEST A DO F() OR G(); IF A DO F(); UNLESS A THEN F(); WHILE A DO F(); UNTIL A DO F(); FOR I = 1 TO 9 BY -1 DO F(); "
+    "F() REPEAT; F() REPEATWHILE A; F() REPEATUNTIL A; SWITCHON A INTO $( DEFAULT: ENDCASE $); A, !B := 1, 2; RESULTIS 1; BREAK; LOOP; ")
+    "RETURN; FINISH $)" gives (0, 0) ∷
     -- a symbol wanted at the end has the text's length
     "LET F() BE TEST A DO F()" gives (6, 24) ∷
     -- an empty command takes no REPEAT, but the IF around it does

@@ -37,7 +37,8 @@ loop-refused = refl
 loop-read :
     programIn loop ≡
     routine (plain (T.guarded K.WHILE (name 17)
-    (plain (T.block noLocals (andCommand (plain (T.guarded K.IF (name 28) (plain (T.leave K.LOOP 33)))) (andCommand (plain (called 38)) noCommands))))))
+    (plain (T.block noLocals (andCommand (plain (T.guarded K.IF (name 28) (plain (T.leave K.LOOP 33))))
+    (andCommand (plain (called 38)) noCommands))))))
 unfolding programIn
 loop-read = refl
 

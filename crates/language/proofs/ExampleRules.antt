@@ -82,7 +82,8 @@ judged-table =
     -- and come before 16
     "GLOBAL $( START:1; RDCH:13; WRCH:14; A:20 $) LET START() BE $( LET V = VEC 4095; LET W = VEC 4095; V!0 := FOO $)" gives (8, 106) ∷
     -- with M = -1, CASE -M is good and is 1
-    "GLOBAL $( START:1; RDCH:13; WRCH:14; A:20 $) MANIFEST $( M = -1 $) LET START() BE SWITCHON A INTO $( CASE -M: A := 1; CASE 1: A := 2 $)" gives (12, 118) ∷
+    "GLOBAL $( START:1; RDCH:13; WRCH:14; A:20 $) MANIFEST $( M = -1 $) LET START() BE SWITCHON A INTO $( CASE -M: A := 1; CASE 1: A := 2 $)" gives
+    (12, 118) ∷
     -- RETURN may stand in a VALOF of a routine
     "GLOBAL $( START:1; RDCH:13; WRCH:14; A:20 $) LET START() BE A := VALOF $( RETURN $)" gives (0, 0) ∷
     -- BREAK may leave a switch that lies between

@@ -1,6 +1,6 @@
 -- Worked examples of source runs: their steps, input taken and output, and every kind of undefined act.
 use Prim.Native.Nat.{ℕ}
-use Prim.Native.String.{String}
+use Prim.Native.String.{String, _++_ as joined}
 use mathlib.Core.Path.{_≡_, refl}
 use mathlib.Core.List.{List, [], _∷_, _++_}
 use Rattle.text.specs.Written.{bytes}
@@ -20,10 +20,20 @@ started (command, input) = ranBytes 100 (bytes "GLOBAL $( START:1; RDCH:13; WRCH
 unfoldable written-table : Table (String × String) (List ℕ)
 written-table =
     -- Both of two CASE labels before one command reach it: on the input 48,5 the comma becomes a space
-    ("$( LET C = RDCH() WHILE C >= 0 DO $( SWITCHON C INTO $( CASE ',': CASE '.': WRCH('*S'); ENDCASE; DEFAULT: WRCH(C) $); C := RDCH() $) $)", "48,5") gives bytes "48 5" ∷
-    ("$( SWITCHON RDCH() INTO $( CASE ',': CASE '.': WRCH('X') $); SWITCHON RDCH() INTO $( CASE ',': CASE '.': WRCH('Y') $) $)", ",.") gives bytes "XY" ∷
+    (
+      joined "$( LET C = RDCH() WHILE C >= 0 DO $( "
+          "SWITCHON C INTO $( CASE ',': CASE '.': WRCH('*S'); ENDCASE; DEFAULT: WRCH(C) $); C := RDCH() $) $)",
+      "48,5",
+    )
+    gives bytes "48 5" ∷
+    ("$( SWITCHON RDCH() INTO $( CASE ',': CASE '.': WRCH('X') $); SWITCHON RDCH() INTO $( CASE ',': CASE '.': WRCH('Y') $) $)", ",.")
+    gives bytes "XY" ∷
     -- CASE labels fall through; with no match DEFAULT
-    ("$( SWITCHON 2 INTO $( CASE 1: WRCH('A'); CASE 2: WRCH('B'); DEFAULT: WRCH('C'); CASE 3: WRCH('D') $); SWITCHON 7 INTO $( CASE 1: WRCH('E'); DEFAULT: WRCH('F') $); SWITCHON 7 INTO $( CASE 1: WRCH('G') $) $)", "") gives bytes "BCDF" ∷
+    (
+      joined "$( SWITCHON 2 INTO $( CASE 1: WRCH('A'); CASE 2: WRCH('B'); DEFAULT: WRCH('C'); CASE 3: WRCH('D') $); SWITCHON 7 INTO $( "
+          "CASE 1: WRCH('E'); DEFAULT: WRCH('F') $); SWITCHON 7 INTO $( CASE 1: WRCH('G') $) $)",
+      "",
+    ) gives bytes "BCDF" ∷
     -- a function that calls itself
     ("WRCH(48 + FACT(3)) AND FACT(N) = VALOF TEST N = 0 DO RESULTIS 1 OR RESULTIS N * FACT(N - 1)", "") gives bytes "6" ∷
     -- FOR with a negative BY tests >=

@@ -5,7 +5,8 @@ use mathlib.Core.Bool.{true, false}
 use mathlib.Core.List.{[], _∷_}
 use Rattle.language.specs.Kinds as K
 use Rattle.language.specs.Tree as T
-use Rattle.language.specs.Tree.{Name, Command, Expression, Constant, noExpressions, andExpression, noSuffixes, noOperations, operation, command, noRepeats, noCommands, andCommand, noLocals}
+use Rattle.language.specs.Tree.{Name, Command, Expression, Constant, noExpressions, andExpression, noSuffixes, noOperations, operation, command}
+use Rattle.language.specs.Tree.{noRepeats, noCommands, andCommand, noLocals}
 use Rattle.language.specs.Source.{Read, read}
 use Rattle.language.proofs.Texts.{programIn}
 
@@ -40,21 +41,24 @@ dangling = refl
 -- and here the block
 block :
     programIn "LET F() BE $( IF A DO B() $) REPEATWHILE C" ≡
-    routine (command [] (T.block noLocals (andCommand (plain (T.guarded K.IF (name 17) (plain (called 22)))) noCommands)) (T.repeatOn K.REPEATWHILE (name 41) noRepeats))
+    routine (command [] (T.block noLocals (andCommand (plain (T.guarded K.IF (name 17) (plain (called 22)))) noCommands))
+    (T.repeatOn K.REPEATWHILE (name 41) noRepeats))
 unfolding programIn
 block = refl
 
 -- two labels before one command: both reach it
 labels :
     programIn "LET F() BE SWITCHON A INTO $( CASE 1: CASE 2: B(); DEFAULT: $)" ≡
-    routine (plain (T.switchon (name 20) (andCommand (command (T.case 30 (constant 35 1) ∷ T.case 38 (constant 43 2) ∷ []) (called 46) noRepeats) (andCommand (command (T.default 51 ∷ []) T.empty noRepeats) noCommands))))
+    routine (plain (T.switchon (name 20) (andCommand (command (T.case 30 (constant 35 1) ∷ T.case 38 (constant 43 2) ∷ []) (called 46) noRepeats)
+    (andCommand (command (T.default 51 ∷ []) T.empty noRepeats) noCommands))))
 unfolding programIn
 labels = refl
 
 -- a chain of one binding is a list; brackets are kept, with their place
 chain :
     programIn "LET F() BE A := B+C-(D)" ≡
-    routine (plain (T.assignment (andExpression (name 11) noExpressions) (andExpression (T.dyadic (name 16) (operation K.PLUS (name 18) (operation K.MINUS (T.bracketed 20 (name 21)) noOperations))) noExpressions)))
+    routine (plain (T.assignment (andExpression (name 11) noExpressions)
+    (andExpression (T.dyadic (name 16) (operation K.PLUS (name 18) (operation K.MINUS (T.bracketed 20 (name 21)) noOperations))) noExpressions)))
 unfolding programIn
 chain = refl
 
@@ -62,7 +66,8 @@ chain = refl
 declarations :
     programIn "GLOBAL $( A:1; B:-M $) MANIFEST $( M=TRUE $) LET G(X) = X" ≡
     read (
-    T.globals (record { name = at 10; constant = constant 12 1 } ∷ record { name = at 15; constant = record { place = 17; minus = true; simple = T.known (at 18) } } ∷ []) ∷
+    T.globals (record { name = at 10; constant = constant 12 1 } ∷ record
+    { name = at 15; constant = record { place = 17; minus = true; simple = T.known (at 18) } } ∷ []) ∷
     T.manifests (record { name = at 35; constant = constant 37 65535 } ∷ []) ∷
     T.functions (record { name = at 49; parameters = at 51 ∷ []; body = T.value (name 56) } ∷ []) ∷
     [])
@@ -72,6 +77,7 @@ declarations = refl
 -- local declarations
 locals :
     programIn "LET F() BE $( LET A, B = 1, 2; LET C = VEC 9 $)" ≡
-    routine (plain (T.block (T.values (at 18 ∷ at 21 ∷ []) (andExpression (T.number 25 1) (andExpression (T.number 28 2) noExpressions)) (T.vector (at 35) (constant 43 9) noLocals)) noCommands))
+    routine (plain (T.block (T.values (at 18 ∷ at 21 ∷ []) (andExpression (T.number 25 1) (andExpression (T.number 28 2) noExpressions))
+    (T.vector (at 35) (constant 43 9) noLocals)) noCommands))
 unfolding programIn
 locals = refl

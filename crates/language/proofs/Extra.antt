@@ -1,6 +1,6 @@
 -- Two sources, the second with extra semicolons, each between a LOOP and a symbol of the second list of inserted semicolons, but for a
--- bracket. What a reader gives of the first it gives of the second. Here are the rules for the ways to put readers together;
--- ExtraGrammar has the grammar, Loops the texts.
+-- bracket. What a reader gives of the first it gives of the second. Here are the rules for the ways to put readers together, with
+-- those of Local, so that the grammar is gone through once for both; ExtraGrammar has the grammar, Loops the texts.
 use Prim.Native.Nat.{ℕ, zero, suc, _+_, _≤_}
 use mathlib.Core.Path.{_≡_, refl, sym, ap, _∙_}
 use mathlib.Core.Bool.{Bool, true, false, cond}
@@ -14,8 +14,11 @@ use Rattle.language.specs.Kinds as K
 use Rattle.language.specs.Kinds.{member}
 use Rattle.language.specs.Symbols.{Symbol}
 use Rattle.language.specs.Semicolons.{seconds, semicolon}
-use Rattle.language.specs.Reader.{Source, Out, ok, no, Reader, onOut, _>>=_, return, symbolAt, kindAt, is, unexpected, any, here, the, optional, aName, manyUpTo, many, moreUpTo, items, isComma, furtherItems, oneUpToClose, upToClose}
-use Rattle.language.proofs.Local.{Local, Ahead, took, refused, self, ended, none-here, local-comma}
+use Rattle.language.specs.Reader.{Source, Out, ok, no, Reader, onOut, _>>=_, return, symbolAt, kindAt, is, unexpected, any, here, the, optional}
+use Rattle.language.specs.Reader.{aName, manyUpTo, many, moreUpTo, items, isComma, furtherItems, oneUpToClose, upToClose}
+use Rattle.language.proofs.Local as L
+use Rattle.language.proofs.Local.{Local, Ahead, took, refused, self, ended, none-here}
+use Rattle.language.proofs.Cases.{clash}
 
 abbrev pub without : ℕ → List ℕ → List ℕ
 without x [] = []
@@ -51,12 +54,19 @@ pub data Kept {A : Type 0} (s t : Source) (o : Bool) : Out A → Out A → Type 
   gave : {a : A} {n y : ℕ} → Stands s t o n y → Kept s t o (ok a n) (ok a y)
   refuses : {number q : ℕ} {any : Out A} → Kept s t o (no number q) any
 
+-- whether a reader is known to take a symbol
+abbrev pub least : Bool → ℕ
+least true = 1
+least false = 0
+
 -- a reader that starts so, and ends so
-pub record Keeps {A : Type 0} (i o : Bool) (r : Reader A) : Type 0 where
+pub record Keeps {A : Type 0} (k i o : Bool) (r : Reader A) : Type 0 where
+  pub local : Local (least k) r
   pub keeps : {s t : Source} → Wider s t → (at x : ℕ) → Stands s t i at x → Kept s t o (r s at) (r t x)
 
 -- the same of a reader that starts flush at a symbol of some kinds only
-pub record KeepsAt {A : Type 0} (b : ℕ → Bool) (o : Bool) (r : Reader A) : Type 0 where
+pub record KeepsAt {A : Type 0} (k : Bool) (b : ℕ → Bool) (o : Bool) (r : Reader A) : Type 0 where
+  pub local : Local (least k) r
   pub keeps-at : {s t : Source} → Wider s t → (at x : ℕ) → b (kindAt s at) ≡ true → Stands s t flush at x → Kept s t o (r s at) (r t x)
 
 -- ---- positions
@@ -132,12 +142,12 @@ noneOf b (k ∷ ks) = cond (b k) false (noneOf b ks)
 
 pub none-of : (b : ℕ → Bool) (ks : List ℕ) (k : ℕ) → noneOf b ks ≡ true → member k ks ≡ true → b k ≡ false
 unfolding member
-none-of b [] k h m = let z : _≡_ {A = ℕ} 0 1 = cc in absurd (omega arith)
+none-of b [] k h m = cc
 none-of b (j ∷ ks) k h m = go (eqb k j) refl (b j) refl h m (none-of b ks k)
   where
     go : (q : Bool) → eqb k j ≡ q → (c : Bool) → b j ≡ c → cond c false (noneOf b ks) ≡ true → cond q true (member k ks) ≡ true
         → (noneOf b ks ≡ true → member k ks ≡ true → b k ≡ false) → b k ≡ false
-    go q e true g h m f = let z : _≡_ {A = ℕ} 0 1 = cc in absurd (omega arith)
+    go q e true g h m f = cc
     go true e false g h m f = ap b (eqb-true k j e) ∙ g
     go false e false g h m f = f h m
 
@@ -163,7 +173,7 @@ tested {s = s} {t = t} true b h w at x p f =
     near-cases p (λ q. f (ap b (same-kind w q)) (λ _. q))
     (λ e m _. let no-t : b (kindAt t x) ≡ false = ap b e ∙ none-of b (K.SEMICOLON ∷ others) K.SEMICOLON h refl in
     let no-s : b (kindAt s at) ≡ false = none-of b (K.SEMICOLON ∷ others) (kindAt s at) h (one-more (kindAt s at) K.SEMICOLON others m) in
-    f (no-t ∙ sym no-s) (λ y. let z : _≡_ {A = ℕ} 0 1 = cc in absurd (omega arith)))
+    f (no-t ∙ sym no-s) (λ y. clash (cc)))
 
 -- ---- readers put together
 
@@ -195,52 +205,67 @@ module _ {A : Type 0} {s t : Source} {o : Bool} where
   kept-ahead (took j) (gave {a = b} {n = n} {y = m} p) h = h b n m j p
   kept-ahead (refused j) refuses h = refuses
 
-module _ {A : Type 0} where
-  pub keeps-return : {i : Bool} (a : A) → Keeps i i (return a)
-  keeps-return a = record { keeps = λ w at x p. gave p }
+-- one symbol taken is as many as are asked for
+taken-one : {A : Type 0} {r : Reader A} (k : Bool) → Local 1 r → Local (least k) r
+taken-one true l = l
+taken-one false l = L.local-weaker l
 
-  pub keeps-unexpected : {i o : Bool} → Keeps i o (unexpected {A = A})
+pub keeps-return : {A : Type 0} {i : Bool} (a : A) → Keeps false i i (return a)
+keeps-return a = record { local = L.local-return a; keeps = λ w at x p. gave p }
+
+module _ {A : Type 0} {k : Bool} where
+  pub keeps-unexpected : {i o : Bool} → Keeps k i o (unexpected {A = A})
   unfolding unexpected
-  keeps-unexpected = record { keeps = λ w at x p. refuses }
+  keeps-unexpected = record { local = L.local-unexpected; keeps = λ w at x p. refuses }
 
-  pub keeps-near : {i o : Bool} {r : Reader A} → Keeps i o r → Keeps i near r
-  keeps-near l = record { keeps = λ w at x p. kept-near (l .keeps w at x p) }
+  pub keeps-near : {i o : Bool} {r : Reader A} → Keeps k i o r → Keeps k i near r
+  keeps-near l = record { local = l .local; keeps = λ w at x p. kept-near (l .keeps w at x p) }
 
   -- from near, all the more from flush
-  pub keeps-flush : {i o : Bool} {r : Reader A} → Keeps i o r → Keeps flush o r
-  keeps-flush l = record { keeps = λ w at x p. l .keeps w at x (any-start p) }
+  pub keeps-flush : {i o : Bool} {r : Reader A} → Keeps k i o r → Keeps k flush o r
+  keeps-flush l = record { local = l .local; keeps = λ w at x p. l .keeps w at x (any-start p) }
 
-  pub at-any : {b : ℕ → Bool} {o : Bool} {r : Reader A} → Keeps flush o r → KeepsAt b o r
-  at-any l = record { keeps-at = λ w at x h p. l .keeps w at x p }
+  pub at-any : {b : ℕ → Bool} {o : Bool} {r : Reader A} → Keeps k flush o r → KeepsAt k b o r
+  at-any l = record { local = l .local; keeps-at = λ w at x h p. l .keeps w at x p }
 
   -- a choice by the symbol here
-  pub keeps-cond : {i o : Bool} {r r′ : Reader A} (b : ℕ → Bool) → blind i b ≡ true → KeepsAt b o r → Keeps i o r′
-      → Keeps i o (λ s at. cond (b (kindAt s at)) (r s at) (r′ s at))
+  pub keeps-cond : {i o : Bool} {r r′ : Reader A} (b : ℕ → Bool) → blind i b ≡ true → KeepsAt k b o r → Keeps k i o r′
+      → Keeps k i o (λ s at. cond (b (kindAt s at)) (r s at) (r′ s at))
   keeps-cond {i} b h l l′ =
       record {
+        local = L.local-cond _ _ (l .local) (l′ .local) b;
         keeps = λ {s} {t} w at x p.
             tested i b h w at x p (λ e q. kept-cond (b (kindAt s at)) (b (kindAt t x)) e (λ y. l .keeps-at w at x y (q y)) (λ _. l′ .keeps w at x p));
       }
 
-  pub at-cond : {o : Bool} {b : ℕ → Bool} {r r′ : Reader A} (b′ : ℕ → Bool) → KeepsAt b o r → KeepsAt b o r′
-      → KeepsAt b o (λ s at. cond (b′ (kindAt s at)) (r s at) (r′ s at))
+  pub at-cond : {o : Bool} {b : ℕ → Bool} {r r′ : Reader A} (b′ : ℕ → Bool) → KeepsAt k b o r → KeepsAt k b o r′
+      → KeepsAt k b o (λ s at. cond (b′ (kindAt s at)) (r s at) (r′ s at))
   at-cond b′ l l′ =
       record {
+        local = L.local-cond _ _ (l .local) (l′ .local) b′;
         keeps-at = λ {s} {t} w at x h p.
             kept-cond (b′ (kindAt s at)) (b′ (kindAt t x)) (ap b′ (same-kind w p)) (λ _. l .keeps-at w at x h p) (λ _. l′ .keeps-at w at x h p);
       }
 
   -- a choice that does not depend on the symbols
-  pub keeps-choice : {i o : Bool} {r r′ : Reader A} (b : Bool) → Keeps i o r → Keeps i o r′ → Keeps i o (λ s at. cond b (r s at) (r′ s at))
+  pub keeps-choice : {i o : Bool} {r r′ : Reader A} (b : Bool) → Keeps k i o r → Keeps k i o r′ → Keeps k i o (λ s at. cond b (r s at) (r′ s at))
   keeps-choice true l l′ = l
   keeps-choice false l l′ = l′
 
-module _ {A B : Type 0} {m o : Bool} {r : Reader A} {f : A → Reader B} where
-  pub after : {i : Bool} → Keeps i m r → ((a : A) → Keeps m o (f a)) → Keeps i o (r >>= f)
-  after l k = record { keeps = λ w at x p. kept-bind (l .keeps w at x p) (λ a n y q. k a .keeps w n y q) }
+module _ {A B : Type 0} {k m o : Bool} {r : Reader A} {f : A → Reader B} where
+  pub after : {i : Bool} → Keeps k i m r → ((a : A) → Keeps false m o (f a)) → Keeps k i o (r >>= f)
+  after l g =
+      record {
+        local = L.local-bind r f (l .local) (λ a. g a .local);
+        keeps = λ w at x p. kept-bind (l .keeps w at x p) (λ a n y q. g a .keeps w n y q);
+      }
 
-  pub at-after : {b : ℕ → Bool} → KeepsAt b m r → ((a : A) → Keeps m o (f a)) → KeepsAt b o (r >>= f)
-  at-after l k = record { keeps-at = λ w at x h p. kept-bind (l .keeps-at w at x h p) (λ a n y q. k a .keeps w n y q) }
+  pub at-after : {b : ℕ → Bool} → KeepsAt k b m r → ((a : A) → Keeps false m o (f a)) → KeepsAt k b o (r >>= f)
+  at-after l g =
+      record {
+        local = L.local-bind r f (l .local) (λ a. g a .local);
+        keeps-at = λ w at x h p. kept-bind (l .keeps-at w at x h p) (λ a n y q. g a .keeps w n y q);
+      }
 
 -- ---- symbols
 
@@ -251,64 +276,67 @@ not-loop b k h e = go (eqb k K.LOOP) refl
     go true z = let y : true ≡ false = sym e ∙ ap b (eqb-true k K.LOOP z) ∙ h in y
     go false z = refl
 
-pub keeps-any : Keeps flush near any
+pub keeps-any : {k : Bool} → Keeps k flush near any
 unfolding any
-keeps-any = record { keeps = λ w at x p. gave-same (same-symbol w p) (nearer (on p)) }
+keeps-any {k} = record { local = taken-one k L.local-any; keeps = λ w at x p. gave-same (same-symbol w p) (nearer (on p)) }
 
 -- past a symbol that is no LOOP stands no extra semicolon
-pub at-symbol : (b : ℕ → Bool) → b K.LOOP ≡ false → KeepsAt b flush any
+pub at-symbol : {k : Bool} (b : ℕ → Bool) → b K.LOOP ≡ false → KeepsAt k b flush any
 unfolding any
-at-symbol b h =
-    record { keeps-at = λ {s} {t} w at x e p. gave-same (same-symbol w p) (rw (not-loop b (kindAt s at) h e) at (on p)) }
+at-symbol {k} b h =
+    record {
+      local = taken-one k L.local-any;
+      keeps-at = λ {s} {t} w at x e p. gave-same (same-symbol w p) (rw (not-loop b (kindAt s at) h e) at (on p));
+    }
 
 -- and what is made of it
-pub at-made : {A : Type 0} (b : ℕ → Bool) (f : Symbol → A) → b K.LOOP ≡ false → KeepsAt b flush (any >>= λ x. return (f x))
+pub at-made : {A : Type 0} {k : Bool} (b : ℕ → Bool) (f : Symbol → A) → b K.LOOP ≡ false → KeepsAt k b flush (any >>= λ x. return (f x))
 at-made b f h = at-after (at-symbol b h) (λ x. keeps-return (f x))
 
-pub keeps-here : Keeps flush flush here
+pub keeps-here : Keeps false flush flush here
 unfolding here
-keeps-here = record { keeps = λ w at x p. gave-same (ap (λ (y : Symbol). y .place) (same-symbol w p)) p }
+keeps-here = record { local = L.local-here; keeps = λ w at x p. gave-same (ap (λ (y : Symbol). y .place) (same-symbol w p)) p }
 
 -- a symbol of a kind, not LOOP; from near, of no kind that stands after an extra semicolon, so that the first source is refused there
 abbrev pub barred : Bool → List ℕ
 barred false = K.LOOP ∷ []
 barred true = others
 
-the-flush : (kind : ℕ) → eqb K.LOOP kind ≡ false → Keeps flush flush (the kind)
+the-flush : {k : Bool} (kind : ℕ) → eqb K.LOOP kind ≡ false → Keeps k flush flush (the kind)
 unfolding the any
 the-flush kind l = keeps-cond (λ k. eqb k kind) refl (at-made _ (λ x. x .place) l) keeps-unexpected
 
-pub keeps-the : {i : Bool} (kind : ℕ) → noneOf (λ k. eqb k kind) (barred i) ≡ true → Keeps i flush (the kind)
+pub keeps-the : {k i : Bool} (kind : ℕ) → noneOf (λ k. eqb k kind) (barred i) ≡ true → Keeps k i flush (the kind)
 unfolding the unexpected member
 keeps-the {i = false} kind h = the-flush kind (none-of (λ k. eqb k kind) (barred flush) K.LOOP h refl)
-keeps-the {i = true} kind h =
+keeps-the {k} {i = true} kind h =
     record {
+      local = taken-one k (L.local-the kind);
       keeps = λ {s} {t} w at x p.
-          near-cases p (the-flush kind (none-of (λ k. eqb k kind) others K.LOOP h refl) .keeps w at x)
+          near-cases p (the-flush {k = false} kind (none-of (λ k. eqb k kind) others K.LOOP h refl) .keeps w at x)
           (λ e m q. rw (none-of (λ k. eqb k kind) others (kindAt s at) h m) refuses);
     }
 
-pub keeps-name : Keeps flush flush aName
+pub keeps-name : {k : Bool} → Keeps k flush flush aName
 unfolding aName any
-keeps-name =
-    keeps-cond (λ k. eqb k K.NAME) refl (at-made _ (λ x. record { place = x .place; width = x .value }) refl) keeps-unexpected
+keeps-name = keeps-cond (λ k. eqb k K.NAME) refl (at-made _ (λ x. record { place = x .place; width = x .value }) refl) keeps-unexpected
 
 -- an optional semicolon is the one place where an extra one may stand
 module _ {A : Type 0} (a : A) where
-  optional-flush : Keeps flush flush (optional K.SEMICOLON >>= λ _. return a)
+  optional-flush : Keeps false flush flush (optional K.SEMICOLON >>= λ _. return a)
   unfolding optional any
-  optional-flush =
-      after (keeps-cond (λ k. eqb k K.SEMICOLON) refl (at-made _ (λ _. true) refl) (keeps-return false)) (λ _. keeps-return a)
+  optional-flush = after (keeps-cond (λ k. eqb k K.SEMICOLON) refl (at-made _ (λ _. true) refl) (keeps-return false)) (λ _. keeps-return a)
 
   taken : {s t : Source} (at x : ℕ) (b b′ : Bool) → b ≡ false → b′ ≡ true → Stands s t flush at (x + 1)
       → Kept s t flush (onOut (cond b (ok true (at + 1)) (ok false at)) (λ _ n. ok a n))
       (onOut (cond b′ (ok true (x + 1)) (ok false x)) (λ _ n. ok a n))
   taken at x b b′ h h′ p = rw (h, h′) (gave p)
 
-  pub keeps-optional : Keeps near flush (optional K.SEMICOLON >>= λ _. return a)
+  pub keeps-optional : Keeps false near flush (optional K.SEMICOLON >>= λ _. return a)
   unfolding optional
   keeps-optional =
       record {
+        local = optional-flush .local;
         keeps = λ {s} {t} w at x p.
             near-cases p (optional-flush .keeps w at x)
             (λ e m q. taken at x (is K.SEMICOLON s at) (is K.SEMICOLON t x) (none-of (λ k. eqb k K.SEMICOLON) others (kindAt s at) refl m)
@@ -318,20 +346,22 @@ module _ {A : Type 0} (a : A) where
 -- ---- lists
 
 -- { item }, from and to positions of one kind
-module _ {A : Type 0} {i : Bool} (none : A) (begins : ℕ → Bool) (item : Reader (A → A)) (h : blind i begins ≡ true) (l : KeepsAt begins i item) where
+module _ {A : Type 0} {i : Bool} (none : A) (begins : ℕ → Bool) (item : Reader (A → A)) (h : blind i begins ≡ true)
+    (l : KeepsAt true begins i item) where
   -- with as many turns in both
-  pub keeps-fixed : (n : ℕ) → Keeps i i (manyUpTo n none begins item)
+  pub keeps-fixed : (n : ℕ) → Keeps false i i (manyUpTo n none begins item)
   unfolding manyUpTo
   keeps-fixed zero = keeps-return none
   keeps-fixed (suc n) =
       record {
+        local = L.fixed none begins item (l .local) (suc n);
         keeps = λ {s} {t} w at x p.
             tested i begins h w at x p (λ e q. kept-elim (begins (kindAt s at)) (begins (kindAt t x)) e
             (λ y. kept-bind (l .keeps-at w at x y (q y)) (λ put n₁ x₁ p₁. kept-bind (keeps-fixed n .keeps w n₁ x₁ p₁) (λ rest n₂ x₂ p₂. gave p₂)))
             (λ _. gave p));
       }
 
-  module _ (stop : begins K.NOTHING ≡ false) (takes : Local 1 item) where
+  module _ (stop : begins K.NOTHING ≡ false) where
     -- with turns enough in the first source, and as many or more in the second
     each : (n m : ℕ) → n ≤ m → {s t : Source} → Wider s t → (at x : ℕ) → length (s .symbols) ≤ n + at → Stands s t i at x
         → Kept s t i (manyUpTo n none begins item s at) (manyUpTo m none begins item t x)
@@ -342,16 +372,20 @@ module _ {A : Type 0} {i : Bool} (none : A) (begins : ℕ → Bool) (item : Read
     each (suc n) zero k w at x z p = absurd (omega arith)
     each (suc n) (suc m) k {s} {t} w at x z p =
         tested i begins h w at x p (λ e q. kept-elim (begins (kindAt s at)) (begins (kindAt t x)) e
-        (λ y. kept-ahead (takes .local (self s at) at .ahead) (l .keeps-at w at x y (q y))
+        (λ y. kept-ahead (l .local .local (self s at) at .ahead) (l .keeps-at w at x y (q y))
         (λ put n₁ x₁ a p₁. kept-bind (each n m (omega arith) w n₁ x₁ (omega arith) p₁) (λ rest n₂ x₂ p₂. gave p₂)))
         (λ _. gave p))
 
-    pub keeps-many : Keeps i i (many none begins item)
+    pub keeps-many : Keeps false i i (many none begins item)
     unfolding many
-    keeps-many = record { keeps = λ {s} {t} w at x p. each (length (s .symbols)) (length (t .symbols)) (w .longer) w at x (omega arith) p }
+    keeps-many =
+        record {
+          local = L.local-many none begins item (l .local) stop;
+          keeps = λ {s} {t} w at x p. each (length (s .symbols)) (length (t .symbols)) (w .longer) w at x (omega arith) p;
+        }
 
 -- { ; item } [;] $)
-module _ {A : Type 0} (none : A) (item : Reader (A → A)) (l : Keeps flush near item) where
+module _ {A : Type 0} (none : A) (item : Reader (A → A)) (l : Keeps false flush near item) where
   keeps-more : (n m : ℕ) → n ≤ m → {s t : Source} → Wider s t → (at x : ℕ) → Stands s t near at x
       → Kept s t flush (moreUpTo n none item s at) (moreUpTo m none item t x)
   unfolding moreUpTo unexpected
@@ -359,7 +393,7 @@ module _ {A : Type 0} (none : A) (item : Reader (A → A)) (l : Keeps flush near
   keeps-more (suc n) zero k w at x p = absurd (omega arith)
   keeps-more (suc n) (suc m) k {s} {t} w at x p =
       at-end near refl at x p
-      (kept-bind (keeps-the K.SEMICOLON refl .keeps w at x p) (λ _ n₁ x₁ p₁. at-end flush refl n₁ x₁ p₁
+      (kept-bind (keeps-the {k = false} K.SEMICOLON refl .keeps w at x p) (λ _ n₁ x₁ p₁. at-end flush refl n₁ x₁ p₁
       (kept-bind (l .keeps w n₁ x₁ p₁) (λ put n₂ x₂ p₂. kept-bind (keeps-more n m (omega arith) w n₂ x₂ p₂) (λ rest n₃ x₃ p₃. gave p₃)))))
     where
       at-end : (i : Bool) → blind i (λ k. eqb k K.END) ≡ true → (at x : ℕ) → Stands s t i at x → {o o′ : Out A} → Kept s t flush o o′
@@ -370,30 +404,24 @@ module _ {A : Type 0} (none : A) (item : Reader (A → A)) (l : Keeps flush near
           (λ y. gave (rw (not-loop (λ k. eqb k K.END) (kindAt s at) refl y) at (on (q y)))) (λ _. f))
 
   -- item { ; item } [;] $)
-  pub keeps-items : Keeps flush flush (items none item)
+  pub keeps-items : Keeps false flush flush (items none item)
   unfolding items
   keeps-items =
       record {
+        local = L.local-items none item (l .local);
         keeps = λ {s} {t} w at x p.
             kept-bind (l .keeps w at x p) (λ put n₁ x₁ p₁.
             kept-bind (keeps-more (length (s .symbols)) (length (t .symbols)) (w .longer) w n₁ x₁ p₁) (λ rest n₂ x₂ p₂. gave p₂));
       }
 
   -- { , item }
-  module _ (takes : Local 0 item) where
-    comma : Keeps flush near (do _ ← the K.COMMA; item)
-    comma = after (keeps-the K.COMMA refl) (λ _. l)
+  pub keeps-further : Keeps false near near (furtherItems none item)
+  unfolding furtherItems
+  keeps-further = keeps-many none isComma _ refl (at-any (after (keeps-the K.COMMA refl) (λ _. l))) refl
 
-    pub keeps-further : Keeps near near (furtherItems none item)
-    unfolding furtherItems
-    keeps-further = keeps-many none isComma _ refl (at-any comma) refl (local-comma none item takes)
-
-    keeps-one : Keeps flush flush (oneUpToClose none item)
-    unfolding oneUpToClose
-    keeps-one =
-        after l (λ put. after keeps-further (λ rest. after (keeps-the K.CLOSE refl) (λ _. keeps-return _)))
-
-    -- [item { , item }] )
-    pub keeps-up-to-close : Keeps flush flush (upToClose none item)
-    unfolding upToClose any
-    keeps-up-to-close = keeps-cond (λ k. eqb k K.CLOSE) refl (at-made _ (λ _. none) refl) keeps-one
+  -- [item { , item }] )
+  pub keeps-up-to-close : Keeps false flush flush (upToClose none item)
+  unfolding upToClose oneUpToClose any
+  keeps-up-to-close =
+      keeps-cond (λ k. eqb k K.CLOSE) refl (at-made _ (λ _. none) refl)
+      (after l (λ put. after keeps-further (λ rest. after (keeps-the K.CLOSE refl) (λ _. keeps-return _))))

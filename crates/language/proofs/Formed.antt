@@ -3,9 +3,8 @@
 use Prim.Native.Nat.{ℕ, _+_, _≤_, _<_}
 use mathlib.Core.List.{List, [], _∷_}
 use Rattle.language.specs.Resolved as R
-use Rattle.language.specs.Resolved.{CaseLabel, Expr, Exprs, Target, Pairs, Cmd, Cmds, Cases, Locals, Body}
+use Rattle.language.specs.Resolved.{CaseLabel, Expr, Exprs, Target, Pairs, Cmd, Cmds, Cases, Locals, Body, caseCount}
 use Rattle.language.specs.Heights.{count, heightWith}
-use Rattle.language.specs.Resolved.{caseCount}
 
 unfoldable pub FormedCases : List CaseLabel → Type 0
 FormedCases [] = Unit {0}

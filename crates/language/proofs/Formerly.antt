@@ -1,7 +1,7 @@
 -- Texts accepted with document 01's strings and characters keep their meaning: its reading of constants, in which any fault was 4 at the opening
 -- quote, and that whatever it read is read the same now.
 use Prim.Native.Nat.{ℕ, zero, suc, _-_, _≤_}
-use mathlib.Core.Path.{_≡_, refl, sym, ap, _∙_}
+use mathlib.Core.Path.{_≡_, refl, ap}
 use mathlib.Core.Bool.{Bool, true, false, cond}
 use mathlib.Core.List.{List, [], _∷_}
 use native.Mathlib.Omega.{arith}
@@ -12,11 +12,12 @@ use Rattle.text.specs.Quoted as Q
 use Rattle.text.specs.Quoted.{Quoted, closed, wider, after, onCharacter, quoted}
 use Rattle.language.specs.Bytes.{QUOTE, DOUBLE, classOf}
 use Rattle.language.specs.Kinds.{NUMBER, STRING}
-use Rattle.language.specs.Symbols.{Symbol, Element, symbol, gap, wrong, character, string, byClass, Fault, none, fault, Scan, ends, goesOn, onElement, scanFrom, scan}
+use Rattle.language.specs.Symbols.{Symbol, Element, symbol, gap, wrong, character, string, byClass, Fault, none, fault, Scan, ends, onElement}
+use Rattle.language.specs.Symbols.{scanFrom, scan}
 use Rattle.language.specs.Brackets.{Matching, matched, unmatched, firstFault, brackets}
 use Rattle.language.specs.Strings.{numbered}
 use Rattle.language.specs.Semicolons.{semicolons}
-use Rattle.language.specs.Source.{Symbols, good, faulty, onFault, symbolsOf}
+use Rattle.language.specs.Source.{Symbols, good, onFault, symbolsOf}
 
 -- ---- document 01's reading
 
@@ -40,10 +41,7 @@ formerEscape (c ∷ r) =
 
 unfoldable pub formerCharacter : ℕ → List ℕ → Character
 formerCharacter quote [] = bad
-formerCharacter quote (c ∷ r) =
-    cond (eqb c quote) closing
-    (cond (eqb c 42) (formerEscape r)
-    (cond (leb 32 c) (cond (leb c 126) (is c 1) bad) bad))
+formerCharacter quote (c ∷ r) = cond (eqb c quote) closing (cond (eqb c 42) (formerEscape r) (cond (leb 32 c) (cond (leb c 126) (is c 1) bad) bad))
 
 pub data Former : Type 0 where
   read : (characters : List ℕ) (width : ℕ) → Former
@@ -80,8 +78,7 @@ asString refused = wrong 4 0
 -- all other symbols are read as now
 unfoldable pub formerByClass : (class : ℕ) → List ℕ → Element
 formerByClass class bs =
-    cond (eqb class QUOTE) (asCharacter (formerly 39 0 (drop 1 bs)))
-    (cond (eqb class DOUBLE) (asString (formerly 34 0 (drop 1 bs)))
+    cond (eqb class QUOTE) (asCharacter (formerly 39 0 (drop 1 bs))) (cond (eqb class DOUBLE) (asString (formerly 34 0 (drop 1 bs)))
     (byClass class bs))
 
 unfoldable pub formerScan : (over place : ℕ) → List ℕ → Scan
@@ -210,7 +207,8 @@ module _ (class : ℕ) (bs : List ℕ) where
   element-kept = by (eqb class QUOTE) (eqb class DOUBLE) refl refl
     where
       by : (s t : Bool) → eqb class QUOTE ≡ s → eqb class DOUBLE ≡ t
-          → KeptElement (cond s (asCharacter (formerly 39 0 (drop 1 bs))) (cond t (asString (formerly 34 0 (drop 1 bs))) (byClass class bs))) (byClass class bs)
+          → KeptElement (cond s (asCharacter (formerly 39 0 (drop 1 bs))) (cond t (asString (formerly 34 0 (drop 1 bs))) (byClass class bs)))
+          (byClass class bs)
       by true t e f = quotes-kept (eqb-true class QUOTE e)
       by false true e f = doubles-kept (eqb-true class DOUBLE f)
       by false false e f = same-element (byClass class bs)
@@ -229,16 +227,16 @@ scan-kept zero place (c ∷ r) e =
         → onElement place now (λ k. scanFrom k (suc place) r) ≡ onElement place before (λ k. formerScan k (suc place) r)
     by (symbol k v w) now h f more = rw (h, more (w - 1) f)
     by (gap w) now h f more = rw (h, more (w - 1) f)
-    by (wrong n k) now h f more = absurd (let z : _≡_ {A = ℕ} 0 1 = cc in omega arith)
+    by (wrong n k) now h f more = cc
 
 first-none : (size : ℕ) (m : Matching) (f : Fault) → firstFault size m f ≡ none → f ≡ none
-first-none size (unmatched place) f e = absurd (let z : _≡_ {A = ℕ} 0 1 = cc in omega arith)
-first-none size (matched wanted) (fault number place) e = absurd (let z : _≡_ {A = ℕ} 0 1 = cc in omega arith)
+first-none size (unmatched place) f e = cc
+first-none size (matched wanted) (fault number place) e = cc
 first-none size (matched wanted) none e = refl
 
 good-none : (f : Fault) (xs : List Symbol) {ss : List Symbol} → onFault f xs ≡ good ss → f ≡ none
 good-none none xs e = refl
-good-none (fault number place) xs e = absurd (let z : _≡_ {A = ℕ} 0 1 = cc in omega arith)
+good-none (fault number place) xs e = cc
 
 -- a text whose symbols were good has just those symbols
 pub symbols-kept : (text : List ℕ) {ss : List Symbol} → formerSymbols text ≡ good ss → symbolsOf text ≡ good ss
@@ -246,7 +244,8 @@ unfolding formerSymbols symbolsOf scan
 symbols-kept text e =
     let m = brackets [] (formerScan 0 0 text .symbols) in
     let f = formerScan 0 0 text .ending in
-    let n : f ≡ none = first-none (length text) m f (good-none (firstFault (length text) m f) (semicolons text (numbered 0 (formerScan 0 0 text .symbols))) e) in
+    let n : f ≡ none
+    = first-none (length text) m f (good-none (firstFault (length text) m f) (semicolons text (numbered 0 (formerScan 0 0 text .symbols))) e) in
     rw (scan-kept 0 0 text n) e
 
 -- and a string that was read has just those characters

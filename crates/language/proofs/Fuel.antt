@@ -52,8 +52,10 @@ module _ (functions : List Fun) (place : Placement) (memory : ℕ) (input : List
   same-sem (suc n) (suc m) l = in-sem 0 memory memory Matching (matching memory) functions place input n m (same-sem n m (omega arith))
 
   pub same-called : (n m : ℕ) → n ≤ m → (v base : ℕ) (vs : List ℕ) (s : State)
-      → Same (called functions place memory input (sem functions place memory input n) v base vs s) (called functions place memory input (sem functions place memory input m) v base vs s)
-  same-called n m l v base vs s = in-called 0 memory memory Matching (matching memory) _ _ (same-sem n m l) functions place input v base vs s (omega arith)
+      → Same (called functions place memory input (sem functions place memory input n) v base vs s)
+      (called functions place memory input (sem functions place memory input m) v base vs s)
+  same-called n m l v base vs s =
+      in-called 0 memory memory Matching (matching memory) _ _ (same-sem n m l) functions place input v base vs s (omega arith)
 
   module _ (strings : List (List ℕ)) where
     same-run : (n m : ℕ) → n ≤ m → Same (runWith n functions strings place memory input) (runWith m functions strings place memory input)
@@ -74,10 +76,12 @@ is-same later h = absurd (h refl)
 is-same same h = refl
 
 pub more-fuel : (n k : ℕ) (functions : List Fun) (strings : List (List ℕ)) (place : Placement) (memory : ℕ) (input : List ℕ)
-    → (runWith n functions strings place memory input ≡ unfinished → ⊥) → runWith (n + k) functions strings place memory input ≡ runWith n functions strings place memory input
+    → (runWith n functions strings place memory input ≡ unfinished → ⊥)
+    → runWith (n + k) functions strings place memory input ≡ runWith n functions strings place memory input
 more-fuel n k functions strings place memory input h = is-same (same-run functions place memory input strings n (n + k) (omega arith)) h
 
-pub one-end : {source : List ℕ} {place : Placement} {memory : ℕ} {input : List ℕ} {s t : State} → SourceRunEnds source place memory input s → SourceRunEnds source place memory input t → s ≡ t
+pub one-end : {source : List ℕ} {place : Placement} {memory : ℕ} {input : List ℕ} {s t : State} → SourceRunEnds source place memory input s
+    → SourceRunEnds source place memory input t → s ≡ t
 one-end {source} {place} {memory} {input} {s} {t} a b = over-once (reached a (omega arith)) (reached b (omega arith))
   where
     reached : {u : State} (c : SourceRunEnds source place memory input u) → c .fuel ≤ a .fuel + b .fuel

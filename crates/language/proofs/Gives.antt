@@ -1,121 +1,119 @@
--- What a reader gives, when it gives a tree at all: one rule for each way to put readers together.
-use Prim.Native.Nat.{ℕ, zero, suc}
+-- What a reader answers, when it gives a tree at all: one rule for each way to put readers together, over one source.
+use Prim.Native.Nat.{ℕ, zero, suc, _+_}
+use mathlib.Core.Path.{_≡_, refl}
 use mathlib.Core.Bool.{Bool, true, false, cond}
 use lib.ListN.{length}
-use Rattle.language.specs.Kinds.{COMMA, SEMICOLON, CLOSE, END, NAME}
-use Rattle.language.specs.Reader.{Source, Out, ok, no, Reader, onOut, _>>=_, return, kindAt, is, unexpected, any, here, the, optional, aName, whenHere, endOr, manyUpTo, many, moreUpTo, items, isComma, furtherItems, oneUpToClose, upToClose}
+use borrow.Author.Tests.{eqb-true}
+use Rattle.language.specs.Kinds.{COMMA, SEMICOLON, CLOSE, END}
+use Rattle.language.specs.Reader.{Source, Out, ok, no, Reader, onOut, kindAt, is, unexpected, the, manyUpTo, many, moreUpTo, items, isComma}
+use Rattle.language.specs.Reader.{furtherItems, oneUpToClose, upToClose}
+use Rattle.language.specs.Expressions.{Readers, Inside, opening}
+use Rattle.language.proofs.Levels.{InsideOf, none-left, some-left}
 
+-- what is given has the property
 pub data Of {A : Type 0} (P : A → Type 0) : Out A → Type 0 where
   given : {a : A} {next : ℕ} → P a → Of P (ok a next)
   refused : {number at : ℕ} → Of P (no number at)
 
--- what the reader gives has the property
-pub record Gives {A : Type 0} (P : A → Type 0) (r : Reader A) : Type 0 where
-  pub at-each : (s : Source) (at : ℕ) → Of P (r s at)
+-- what is given, and the position after it, are so related
+pub data Answer {A : Type 0} (R : A → ℕ → Type 0) : Out A → Type 0 where
+  answer : {a : A} {next : ℕ} → R a next → Answer R (ok a next)
+  refusal : {number at : ℕ} → Answer R (no number at)
 
--- a property that everything has
-pub data Any {A : Type 0} (a : A) : Type 0 where
-  whatever : Any a
+module _ {A B : Type 0} {Q : B → ℕ → Type 0} where
+  pub bind : {R : A → ℕ → Type 0} {o : Out A} {f : A → ℕ → Out B} → Answer R o → ((a : A) (n : ℕ) → R a n → Answer Q (f a n)) → Answer Q (onOut o f)
+  bind (answer r) g = g _ _ r
+  bind refusal g = refusal
 
-module _ {A B : Type 0} {P : A → Type 0} {Q : B → Type 0} where
-  on-out : {o : Out A} {f : A → ℕ → Out B} → Of P o → ((a : A) (next : ℕ) → P a → Of Q (f a next)) → Of Q (onOut o f)
-  on-out (given p) q = q _ _ p
-  on-out refused q = refused
+  -- what is given first does not matter
+  pub on : (o : Out A) {f : A → ℕ → Out B} → ((a : A) (n : ℕ) → Answer Q (f a n)) → Answer Q (onOut o f)
+  on (ok a n) g = g a n
+  on (no number at) g = refusal
 
-  pub gives-bind : (r : Reader A) (f : A → Reader B) → Gives P r → ((a : A) → P a → Gives Q (f a)) → Gives Q (r >>= f)
-  gives-bind r f p q = record { at-each = λ s at. on-out (p .at-each s at) (λ a next h. q a h .at-each s next) }
+module _ {A : Type 0} {R : A → ℕ → Type 0} where
+  -- a function, so that what is to be shown is known where it is shown
+  pub give : {a : A} {n : ℕ} → R a n → Answer R (ok a n)
+  give r = answer r
 
-module _ {A : Type 0} {P : A → Type 0} where
-  pub gives-return : (a : A) → P a → Gives P (return a)
-  gives-return a p = record { at-each = λ s at. given p }
+  pub related : {Q : A → ℕ → Type 0} {o : Out A} → Answer R o → ((a : A) (n : ℕ) → R a n → Q a n) → Answer Q o
+  related (answer r) g = answer (g _ _ r)
+  related refusal g = refusal
 
-  either : (b : Bool) {x y : Out A} → Of P x → Of P y → Of P (cond b x y)
-  either true p q = p
-  either false p q = q
+  pub either : {x y : Out A} (b : Bool) → (b ≡ true → Answer R x) → (b ≡ false → Answer R y) → Answer R (cond b x y)
+  either true f g = f refl
+  either false f g = g refl
 
-  pub gives-cond : (b : Source → ℕ → Bool) (r t : Reader A) → Gives P r → Gives P t → Gives P (λ s at. cond (b s at) (r s at) (t s at))
-  gives-cond b r t p q = record { at-each = λ s at. either (b s at) (p .at-each s at) (q .at-each s at) }
+  pub both : {x y : Out A} (b : Bool) → Answer R x → Answer R y → Answer R (cond b x y)
+  both b p q = either b (λ _. p) (λ _. q)
 
-  pub gives-unexpected : Gives P unexpected
-  unfolding unexpected
-  gives-unexpected = record { at-each = λ s at. refused }
+  pub opened : {P : Readers → Type 0} {inner : Inside} {s : Source} {at : ℕ} (form : Readers → Reader A) → InsideOf P inner
+      → ((r : Readers) → P r → Answer R (form r s at)) → Answer R (opening inner form s at)
+  unfolding opening
+  opened form none-left f = refusal
+  opened form (some-left {r = r} p) f = f r p
 
-module _ where
-  pub gives-any : Gives Any any
-  unfolding any
-  gives-any = record { at-each = λ s at. given whatever }
+  choice : {x y : Out A} (b : Bool) → (b ≡ true → Answer R x) → (b ≡ false → Answer R y) → Answer R (elim b [ true ↦ x | false ↦ y ])
+  choice true f g = f refl
+  choice false f g = g refl
 
-  pub gives-here : Gives Any here
-  unfolding here
-  gives-here = record { at-each = λ s at. given whatever }
+-- past a symbol of a kind
+pub record Past (s : Source) (at k n : ℕ) : Type 0 where
+  pub kind : kindAt s at ≡ k
+  pub next : n ≡ at + 1
 
-  pub gives-the : (kind : ℕ) → Gives Any (the kind)
-  unfolding the unexpected
-  gives-the kind = record { at-each = λ s at. either (is kind s at) (given whatever) refused }
+pub past : (s : Source) (at kind : ℕ) → Answer (λ _ n. Past s at kind n) (the kind s at)
+unfolding the unexpected
+past s at kind = either (is kind s at) (λ e. answer (record { kind = eqb-true _ _ e; next = refl })) (λ _. refusal)
 
-  pub gives-optional : (kind : ℕ) → Gives Any (optional kind)
-  unfolding optional
-  gives-optional kind = record { at-each = λ s at. either (is kind s at) (given whatever) (given whatever) }
+-- Lists, whose parts between two positions are so related. An item goes before a list
+abbrev pub Put : {A : Type 0} → (ℕ → A → ℕ → Type 0) → ℕ → Out (A → A) → Type 0
+Put {A} I at o = Answer (λ put n. (a : A) (m : ℕ) → I n a m → I at (put a) m) o
 
-  pub gives-name : Gives Any aName
-  unfolding aName unexpected
-  gives-name = record { at-each = λ s at. either (is NAME s at) (given whatever) refused }
+-- the list of no items stands between a position and itself
+module _ {A : Type 0} (s : Source) (I : ℕ → A → ℕ → Type 0) (none : A) (nil : (at : ℕ) → I at none at) (item : Reader (A → A)) where
+  before : {at : ℕ} {o : Out (A → A)} {rest : ℕ → Out A} → Put I at o → ((n : ℕ) → Answer (I n) (rest n))
+      → Answer (I at) (onOut o (λ put n. onOut (rest n) (λ x m. ok (put x) m)))
+  before p f = bind p (λ put n keep. bind (f n) (λ x m i. answer (keep x m i)))
 
--- a list, none of whose items takes the property away
-module _ {A : Type 0} (P : A → Type 0) where
-  -- what is put before a list that has the property leaves it the property
-  pub record Keeps (put : A → A) : Type 0 where
-    pub keeps : (a : A) → P a → P (put a)
+  module _ (begins : ℕ → Bool) (g : (at : ℕ) → begins (kindAt s at) ≡ true → Put I at (item s at)) where
+    pub many-up-to : (n at : ℕ) → Answer (I at) (manyUpTo n none begins item s at)
+    unfolding manyUpTo
+    many-up-to zero at = answer (nil at)
+    many-up-to (suc n) at = choice (begins (kindAt s at)) (λ e. before (g at e) (many-up-to n)) (λ _. answer (nil at))
 
-  choice : (b : Bool) {x y : Out A} → Of P x → Of P y → Of P (elim b [ true ↦ x | false ↦ y ])
-  choice true p q = p
-  choice false p q = q
+    pub many-of : (at : ℕ) → Answer (I at) (many none begins item s at)
+    unfolding many
+    many-of at = many-up-to (length (s .symbols)) at
 
-  module _ (none : A) (p : P none) where
-    pub gives-when : (begins : ℕ → Bool) (r : Reader A) → Gives P r → Gives P (whenHere begins none r)
-    gives-when begins r q = record { at-each = λ s at. choice (begins (kindAt s at)) (q .at-each s at) (given p) }
+  module _ (skip : (at : ℕ) (a : A) (m : ℕ) → I (at + 1) a m → I at a m) (g : (at : ℕ) → Put I at (item s at)) where
+    at-end : {at : ℕ} {x : Out A} → Answer (I at) x → Answer (I at) (elim (is END s at) [ true ↦ ok none (at + 1) | false ↦ x ])
+    at-end {at} f = choice (is END s at) (λ _. answer (skip at none (at + 1) (nil (at + 1)))) (λ _. f)
 
-    pub gives-end : (r : Reader A) → Gives P r → Gives P (endOr none r)
-    gives-end r q = record { at-each = λ s at. choice (is END s at) (given p) (q .at-each s at) }
+    skipped : {at n : ℕ} {o : Out A} → Past s at SEMICOLON n → Answer (I n) o → Answer (I at) o
+    skipped {at} q f = related f (λ a m i. skip at a m (rw (q .next) at i))
 
-    module _ (item : Reader (A → A)) (k : Gives Keeps item) where
-      pub gives-put : (rest : Reader A) → Gives P rest → Gives P (do put ← item; x ← rest; return (put x))
-      gives-put rest q = gives-bind item _ k (λ put h. gives-bind rest _ q (λ x g. gives-return (put x) (h .keeps x g)))
+    more-of : (n at : ℕ) → Answer (I at) (moreUpTo n none item s at)
+    unfolding moreUpTo unexpected
+    more-of zero at = refusal
+    more-of (suc n) at = at-end (bind (past s at SEMICOLON) (λ _ m q. skipped q (at-end (before (g m) (more-of n)))))
 
-      pub gives-many-up-to : (n : ℕ) (begins : ℕ → Bool) → Gives P (manyUpTo n none begins item)
-      unfolding manyUpTo
-      gives-many-up-to zero begins = gives-return none p
-      gives-many-up-to (suc n) begins = gives-when begins _ (gives-put _ (gives-many-up-to n begins))
+    pub items-of : (at : ℕ) → Answer (I at) (items none item s at)
+    unfolding items
+    items-of at = before (g at) (more-of (length (s .symbols)))
 
-      pub gives-many : (begins : ℕ → Bool) → Gives P (many none begins item)
-      unfolding many
-      gives-many begins =
-          record { at-each = λ s at. gives-many-up-to (length (s .symbols)) begins .at-each s at }
-
-      pub gives-more : (n : ℕ) → Gives P (moreUpTo n none item)
-      unfolding moreUpTo
-      gives-more zero = gives-unexpected
-      gives-more (suc n) =
-          gives-end _ (gives-bind (the SEMICOLON) _ (gives-the SEMICOLON) (λ _ _. gives-end _ (gives-put _ (gives-more n))))
-
-      pub gives-items : Gives P (items none item)
-      unfolding items
-      gives-items = record { at-each = λ s at. gives-put _ (gives-more (length (s .symbols))) .at-each s at }
-
-  module _ (none : A) (p : P none) (item : Reader (A → A)) (k : Gives Keeps item) where
-    comma : Gives Keeps (do _ ← the COMMA; item)
-    comma = gives-bind (the COMMA) _ (gives-the COMMA) (λ _ _. k)
-
-    pub gives-further : Gives P (furtherItems none item)
+module _ {A : Type 0} (s : Source) (I : ℕ → A → ℕ → Type 0) (none : A) (nil : (at : ℕ) → I at none at) (item : Reader (A → A)) where
+  module _ (skip : (at : ℕ) (a : A) (m : ℕ) → I (at + 1) a m → I at a m) (g : (at : ℕ) → Put I at (item s at)) where
+    pub further-of : (at : ℕ) → Answer (I at) (furtherItems none item s at)
     unfolding furtherItems
-    gives-further = gives-many none p _ comma isComma
+    further-of =
+        many-of s I none nil _ isComma
+        (λ at _. bind (past s at COMMA) (λ _ n q. related (g n) (λ put m keep a k i. skip at (put a) k (rw (q .next) at (keep a k i)))))
 
-    pub gives-one-up-to-close : Gives P (oneUpToClose none item)
-    unfolding oneUpToClose
-    gives-one-up-to-close =
-        gives-bind item _ k (λ put h. gives-bind (furtherItems none item) _ gives-further (λ rest g. gives-bind (the CLOSE) _ (gives-the CLOSE) (λ _ _. gives-return (put rest) (h .keeps rest g))))
-
-    pub gives-up-to-close : Gives P (upToClose none item)
-    unfolding upToClose
-    gives-up-to-close =
-        record { at-each = λ s at. either (is CLOSE s at) (given p) (gives-one-up-to-close .at-each s at) }
+    -- up to a closing bracket, which may change the relation
+    pub close-of : (J : ℕ → A → ℕ → Type 0) → ((at : ℕ) (a : A) (m : ℕ) → kindAt s m ≡ CLOSE → I at a m → J at a (m + 1))
+        → (at : ℕ) → Answer (J at) (upToClose none item s at)
+    unfolding upToClose oneUpToClose
+    close-of J close at =
+        either (is CLOSE s at) (λ e. answer (close at none at (eqb-true _ _ e) (nil at)))
+        (λ _. bind (g at) λ put n keep. bind (further-of n) λ a m i. bind (past s m CLOSE) λ _ k q.
+        answer (rw (q .next) (close at (put a) m (q .kind) (keep a m i))))

@@ -73,7 +73,8 @@ module _ (first : ℕ) where
     kept-sem zero = record { evaluate = λ e p h s l. k-unfinished; run = λ c p h s l. k-unfinished; turn = λ o p h s l. k-unfinished }
     kept-sem (suc n) = in-sem first memory memory Keeping (keeping memory) functions place input n n (kept-sem n)
 
-    pub kept-called : (fuel v base : ℕ) (vs : List ℕ) (s : State) → first ≤ base → Kept first s (called functions place memory input (sem functions place memory input fuel) v base vs s)
+    pub kept-called : (fuel v base : ℕ) (vs : List ℕ) (s : State) → first ≤ base
+        → Kept first s (called functions place memory input (sem functions place memory input fuel) v base vs s)
     kept-called fuel v base vs s l = in-called first memory memory Keeping (keeping memory) _ _ (kept-sem fuel) functions place input v base vs s l
 
 -- ---- the start of a source run
@@ -98,7 +99,8 @@ module _ (functions : List Fun) (strings : List (List ℕ)) (place : Placement) 
   unfolding cellsAtStart
   start-globals n l = rw (le-leb 16 (16 + n) (omega arith), lt-ltb (16 + n) 416 (omega arith)) held
 
-  start-strings : (k i : ℕ) → k < length strings → length (place .strings) ≡ length strings → i < length (pairs (length (getD strings k [])) (getD strings k []))
+  start-strings : (k i : ℕ) → k < length strings → length (place .strings) ≡ length strings
+      → i < length (pairs (length (getD strings k [])) (getD strings k []))
       → 416 ≤ getD (place .strings) k 0 + i → Held (cellsAtStart functions strings place (getD (place .strings) k 0 + i))
   unfolding cellsAtStart
   start-strings k i l e m above =
@@ -108,14 +110,19 @@ module _ (functions : List Fun) (strings : List (List ℕ)) (place : Placement) 
   -- ---- and its end
 
   module _ (memory : ℕ) (input : List ℕ) where
-    pub ended-keeps : (fuel : ℕ) (s : State) → Over (runWith fuel functions strings place memory input) s → Keeps (place .first) (atStart functions strings place) s
+    pub ended-keeps : (fuel : ℕ) (s : State) → Over (runWith fuel functions strings place memory input) s
+        → Keeps (place .first) (atStart functions strings place) s
     unfolding runWith
-    ended-keeps fuel s over = over-keeps (kept-called (place .first) functions place memory input fuel _ (place .first + 2) [] (atStart functions strings place) (omega arith)) over
+    ended-keeps fuel s over =
+        over-keeps (kept-called (place .first) functions place memory input fuel _ (place .first + 2) [] (atStart functions strings place)
+        (omega arith)) over
 
-    pub ended-globals : (fuel : ℕ) (s : State) → Over (runWith fuel functions strings place memory input) s → (n : ℕ) → n < 400 → 16 + n < place .first → Held (s .cells (16 + n))
+    pub ended-globals : (fuel : ℕ) (s : State) → Over (runWith fuel functions strings place memory input) s → (n : ℕ) → n < 400
+        → 16 + n < place .first → Held (s .cells (16 + n))
     ended-globals fuel s over n l below = ended-keeps fuel s over (16 + n) below (start-globals n l)
 
     pub ended-strings : (fuel : ℕ) (s : State) → Over (runWith fuel functions strings place memory input) s
-        → (k i : ℕ) → k < length strings → length (place .strings) ≡ length strings → i < length (pairs (length (getD strings k [])) (getD strings k []))
+        → (k i : ℕ) → k < length strings → length (place .strings) ≡ length strings
+        → i < length (pairs (length (getD strings k [])) (getD strings k []))
         → 416 ≤ getD (place .strings) k 0 + i → getD (place .strings) k 0 + i < place .first → Held (s .cells (getD (place .strings) k 0 + i))
     ended-strings fuel s over k i l e m above below = ended-keeps fuel s over _ below (start-strings k i l e m above)

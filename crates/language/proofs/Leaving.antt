@@ -1,4 +1,5 @@
--- A text without refusal 13 has BREAK and LOOP in loops, ENDCASE in a SWITCHON and RESULTIS in a VALOF only, after it is resolved too.
+-- A tree without refusals, after it is resolved: it is formed, and, for refusal 13, has BREAK and LOOP in loops, ENDCASE in a SWITCHON and
+-- RESULTIS in a VALOF only.
 use Prim.Native.Nat.{ℕ, _+_}
 use mathlib.Core.Path.{_≡_, refl, sym, _∙_}
 use mathlib.Core.Bool.{Bool, true, false, cond}
@@ -7,33 +8,45 @@ use native.Mathlib.Omega.{arith}
 use lib.Dec.{eqb}
 use lib.ListN.{length}
 use borrow.Author.Tests.{eqb-true}
-use Rattle.language.specs.Kinds.{member, IF, UNLESS, WHILE, UNTIL, REPEATWHILE, BREAK, LOOP, ENDCASE, RETURN, PLING, AT}
+use Rattle.language.specs.Kinds.{member, IF, UNLESS, WHILE, UNTIL, REPEATWHILE, BREAK, LOOP, ENDCASE, RETURN}
 use Rattle.language.specs.Binding.{isGuard}
 use Rattle.language.specs.Tree as T
-use Rattle.language.specs.Tree.{placeOf, Label, Expression, Expressions, Suffixes, Operations, Command, Commands, Unlabelled, Repeats}
+use Rattle.language.specs.Tree.{Label, Expression, Expressions, Suffixes, Operations, Command, Commands, Unlabelled, Repeats}
 use Rattle.language.specs.Names as N
 use Rattle.language.specs.Names.{Found, Scope, opened, declared, lookup}
-use Rattle.language.specs.Constants.{Fault, fault, faultsOf, forVector, judgedWord}
+use Rattle.language.specs.Constants.{Fault, fault, forVector, judgedWord}
 use Rattle.language.specs.Resolve as E
-use Rattle.language.specs.Resolve.{declareAll, ofMeaning, sideOf, targetOf, addressOf, under, pairUp, valuesBefore, scopeAfter, labelsBefore, leaving}
+use Rattle.language.specs.Resolve.{declareAll, ofMeaning, sideOf, targetOf, addressOf, under, pairUp, valuesBefore, scopeAfter, labelsBefore}
+use Rattle.language.specs.Resolve.{leaving}
 use Rattle.language.specs.Resolved as R
 use Rattle.language.specs.Resolved.{Expr, Exprs, Target, Pairs, Cmd, Cmds, Cases, Locals, Body}
-use Rattle.language.specs.Faults.{unlessSide, misplaced, byFaults, twice, doubled, Leavable, inLoop, inSwitch, inValof, repeated, unless, leaves, inExpression, inSuffixes, inOperations, inExpressions, inRightSides, inSides, inCommand, inCase, inRepeats, inUnlabelled, inLocals, inCommands, inCases}
-use Rattle.language.specs.Fine.{Fine, FineList, FineSuffixes, FineOperations, FineCommand, FineCommands, FineUnlabelled, FineRepeats, FineLocals}
+use Rattle.language.specs.Faults.{Leavable, inLoop, inSwitch, inValof, repeated, unless, leaves, inExpression, inSuffixes, inOperations}
+use Rattle.language.specs.Faults.{inExpressions, inRightSides, inSides, inCommand, inCase, inRepeats, inUnlabelled, inLocals, inCommands}
+use Rattle.language.specs.Faults.{inCases}
+use Rattle.language.specs.Heights as H
+use Rattle.language.proofs.Formed.{FormedE, FormedA, FormedC, FormedB, FormedS, FormedL}
+use Rattle.language.proofs.Resolving.{Scoped, scoped-up, lookup-known, declared-all, under-more, formed-name, formed-monadic, formed-leaving}
+use Rattle.language.proofs.Resolving.{Sides, formed-pairs, formed-values, formed-labels, formed-by, vector-size, count-same, height-same}
+use Rattle.language.proofs.Resolving.{scope-after, few-cases, open-scoped, for-scope, vector-scope, before-fine}
+use Rattle.language.proofs.Cases.{clash, by-monadic, by-side}
+use Rattle.language.specs.Fine.{Fine, FineList, FineSuffixes, FineOperations, FineCommand, FineCommands, FineUnlabelled, FineRepeats}
+use Rattle.language.specs.Fine.{FineLocals}
 
 -- ---- no refusal at all is none on either side
 
 pub none-left : (xs ys : List Fault) → xs ++ ys ≡ [] → xs ≡ []
 none-left [] ys h = refl
-none-left (x ∷ xs) ys h = let z : _≡_ {A = ℕ} 0 1 = cc in absurd (omega arith)
+none-left (x ∷ xs) ys h = cc
 
 pub none-right : (xs ys : List Fault) → xs ++ ys ≡ [] → ys ≡ []
 none-right [] ys h = h
-none-right (x ∷ xs) ys h = let z : _≡_ {A = ℕ} 0 1 = cc in absurd (omega arith)
+none-right (x ∷ xs) ys h = cc
 
 unless-true : (b : Bool) (place : ℕ) → unless b (fault place 13) ≡ [] → b ≡ true
 unless-true true place h = refl
-unless-true false place h = let z : _≡_ {A = ℕ} 0 1 = cc in absurd (omega arith)
+unless-true false place h = cc
+
+pub ruleset nones = (none-left, none-right)
 
 -- whether a loop, a SWITCHON and a VALOF are there to be left
 unfoldable mutual
@@ -117,49 +130,16 @@ leave-name (N.known (N.manifest v)) = tt
 leave-name (N.known (N.function k)) = tt
 
 leave-address : (e : Expr) → LeavesE e → LeavesE (addressOf (sideOf e))
-unfolding LeavesE sideOf
-leave-address (R.local k) p = tt
-leave-address (R.global n) p = tt
-leave-address (R.contents e) p = p
-leave-address (R.index a b) p = p
-leave-address (R.constant v) p = tt
-leave-address (R.function k) p = tt
-leave-address (R.string k) p = tt
-leave-address (R.addressOfLocal k) p = tt
-leave-address (R.addressOfGlobal n) p = tt
-leave-address (R.addressOfContents e) p = tt
-leave-address (R.addressOfIndex a b) p = tt
-leave-address (R.unary o e) p = tt
-leave-address (R.binary o a b) p = tt
-leave-address (R.call e es) p = tt
-leave-address (R.valof c) p = tt
+unfolding LeavesE
+leave-address e p = by-side (λ e x. LeavesE e → LeavesE (addressOf x)) (λ _ _. tt) (λ _ _. tt) (λ _ p. p) (λ _ _ p. p) (λ _ _. tt) e p
 
 leave-target : (e : Expr) → LeavesE e → LeavesT (targetOf (sideOf e))
-unfolding LeavesE sideOf
-leave-target (R.local k) p = tt
-leave-target (R.global n) p = tt
-leave-target (R.contents e) p = p
-leave-target (R.index a b) p = p
-leave-target (R.constant v) p = tt
-leave-target (R.function k) p = tt
-leave-target (R.string k) p = tt
-leave-target (R.addressOfLocal k) p = tt
-leave-target (R.addressOfGlobal n) p = tt
-leave-target (R.addressOfContents e) p = tt
-leave-target (R.addressOfIndex a b) p = tt
-leave-target (R.unary o e) p = tt
-leave-target (R.binary o a b) p = tt
-leave-target (R.call e es) p = tt
-leave-target (R.valof c) p = tt
+unfolding LeavesE
+leave-target e p = by-side (λ e x. LeavesE e → LeavesT (targetOf x)) (λ _ _. tt) (λ _ _. tt) (λ _ p. p) (λ _ _ p. p) (λ _ _. tt) e p
 
 leave-monadic : (o : ℕ) (e : Expr) → LeavesE e → LeavesE (E.resolvedMonadic o e)
 unfolding LeavesE
-leave-monadic o e p = go (eqb o PLING) (eqb o AT)
-  where
-    go : (a b : Bool) → LeavesE (cond a (R.contents e) (cond b (addressOf (sideOf e)) (R.unary o e)))
-    go true b = p
-    go false true = leave-address e p
-    go false false = p
+leave-monadic o e p = by-monadic LeavesE o e p (leave-address e p) p
 
 leave-leaving : (l : Leavable) (w : ℕ) → leaves l w ≡ true → Leave l (leaving w)
 unfolding LeavesE
@@ -189,136 +169,184 @@ again T.noRepeats l x p = p
 again (T.repeat rs) l x p = p
 again (T.repeatOn w e rs) l x p = p
 
+-- formed, and leaves only what is there
+abbrev Both : (functions strings : ℕ) → Leavable → ℕ → Cmd → Type 0
+Both functions strings l h c = FormedC functions strings h c × Leave l c
+
 -- IF and UNLESS are no loops, WHILE and UNTIL are
-leave-guard : (l : Leavable) (w : ℕ) (e : Expr) (c : Cmd) {x y : List Fault} → isGuard w ≡ true → LeavesE e → cond (eqb w IF) x (cond (eqb w UNLESS) x y) ≡ []
-    → (x ≡ [] → Leave l c) → (y ≡ [] → Leave (inLoop l) c)
-    → Leave l (cond (eqb w WHILE) (R.while true e c) (cond (eqb w UNTIL) (R.while false e c) (R.when (eqb w IF) e c)))
-unfolding LeavesE isGuard member
-leave-guard l w e c {x} {y} g p n f k = go (eqb w IF) refl (eqb w UNLESS) refl (eqb w WHILE) refl (eqb w UNTIL) refl g n
+good-guard : (functions strings : ℕ) (l : Leavable) (h w : ℕ) (e : Expr) (c : Cmd) {x y : List Fault} → isGuard w ≡ true
+    → FormedE functions strings h e × LeavesE e → cond (eqb w IF) x (cond (eqb w UNLESS) x y) ≡ []
+    → (x ≡ [] → FormedC functions strings h c × Leave l c) → (y ≡ [] → FormedC functions strings h c × Leave (inLoop l) c)
+    → Both functions strings l h (cond (eqb w WHILE) (R.while true e c) (cond (eqb w UNTIL) (R.while false e c) (R.when (eqb w IF) e c)))
+unfolding FormedE LeavesE isGuard member
+good-guard functions strings l h w e c {x} {y} g p n f k = go (eqb w IF) refl (eqb w UNLESS) refl (eqb w WHILE) refl (eqb w UNTIL) refl g n
   where
     no : {P : Type 0} → (i j : ℕ) → w ≡ i → w ≡ j → (i ≡ j → ⊥) → P
     no i j a b h = absurd (h (sym a ∙ b))
 
     go : (a : Bool) → eqb w IF ≡ a → (b : Bool) → eqb w UNLESS ≡ b → (c₁ : Bool) → eqb w WHILE ≡ c₁ → (d : Bool) → eqb w UNTIL ≡ d
         → cond a true (cond b true (cond c₁ true (cond d true false))) ≡ true → cond a x (cond b x y) ≡ []
-        → Leave l (cond c₁ (R.while true e c) (cond d (R.while false e c) (R.when a e c)))
+        → Both functions strings l h (cond c₁ (R.while true e c) (cond d (R.while false e c) (R.when a e c)))
     go true ea b eb true ec d ed g n = no IF WHILE (eqb-true _ _ ea) (eqb-true _ _ ec) (λ z. omega arith)
     go true ea b eb false ec true ed g n = no IF UNTIL (eqb-true _ _ ea) (eqb-true _ _ ed) (λ z. omega arith)
-    go true ea b eb false ec false ed g n = (p, f n)
+    go true ea b eb false ec false ed g n = ((p .0, f n .0), (p .1, f n .1))
     go false ea true eb true ec d ed g n = no UNLESS WHILE (eqb-true _ _ eb) (eqb-true _ _ ec) (λ z. omega arith)
     go false ea true eb false ec true ed g n = no UNLESS UNTIL (eqb-true _ _ eb) (eqb-true _ _ ed) (λ z. omega arith)
-    go false ea true eb false ec false ed g n = (p, f n)
-    go false ea false eb true ec d ed g n = (p, k n)
-    go false ea false eb false ec true ed g n = (p, k n)
-    go false ea false eb false ec false ed g n = let z : _≡_ {A = ℕ} 0 1 = cc in absurd (omega arith)
+    go false ea true eb false ec false ed g n = ((p .0, f n .0), (p .1, f n .1))
+    go false ea false eb true ec d ed g n = ((p .0, k n .0), (p .1, k n .1))
+    go false ea false eb false ec true ed g n = ((p .0, k n .0), (p .1, k n .1))
+    go false ea false eb false ec false ed g n = clash (cc)
 
-module _ (strings : ℕ) (text : List ℕ) where
+-- ---- a tree without refusals: it is formed, and leaves only what is there
+
+module _ (functions strings : ℕ) (text : List ℕ) where
+  abbrev GoodE : ℕ → Expr → Type 0
+  GoodE h e = FormedE functions strings h e × LeavesE e
+
+  abbrev GoodC : Leavable → ℕ → Cmd → Type 0
+  GoodC = Both functions strings
+
   mutual
-    unfolding LeavesE inExpression E.expression Fine
+    unfolding E.expression Fine FormedE LeavesE inExpression Sides under
 
-    pub leave-e : (s : Scope) (l : Leavable) (h : ℕ) (e : Expression) → inExpression text s l h e ≡ [] → Fine strings e → (s′ : Scope) (h′ : ℕ) → LeavesE (E.expression text s′ h′ e)
-    leave-e s l h (T.number place v) n f s′ h′ = tt
-    leave-e s l h (T.string place k) n f s′ h′ = tt
-    leave-e s l h (T.name x) n f s′ h′ = leave-name (lookup text s′ x)
-    leave-e s l h (T.bracketed place e) n f s′ h′ = leave-e s l h e n f s′ h′
-    leave-e s l h (T.valof place c) n f s′ h′ = leave-c s (inValof l) h c n f s′ h′
-    leave-e s l h (T.monadic place o e) n f s′ h′ = leave-monadic o (E.expression text s′ h′ e) (leave-e s l h e (none-left _ _ n) f s′ h′)
-    leave-e s l h (T.suffixed e ss) n f s′ h′ =
-        leave-x s l h ss (none-right (inExpression text s l (under ss h) e) _ n) (f .1) s′ h′ (E.expression text s′ (under ss h′) e) (leave-e s l (under ss h) e (none-left _ _ n) (f .0) s′ (under ss h′))
-    leave-e s l h (T.dyadic e os) n f s′ h′ =
-        leave-o s l h os (none-right (inExpression text s l h e) _ n) (f .1) s′ h′ (E.expression text s′ h′ e) (leave-e s l h e (none-left _ _ n) (f .0) s′ h′)
+    pub good-e : (s : Scope) (l : Leavable) (h : ℕ) (e : Expression) → Scoped functions h s → Fine strings e → inExpression text s l h e ≡ []
+        → GoodE h (E.expression text s h e)
+    good-e s l h (T.number place v) sc f n = (f, tt)
+    good-e s l h (T.string place k) sc f n = (f, tt)
+    good-e s l h (T.name x) sc f n =
+        (formed-name functions strings text h (lookup text s x) (lookup-known functions h text s x sc), leave-name (lookup text s x))
+    good-e s l h (T.bracketed place e) sc f n = good-e s l h e sc f n
+    good-e s l h (T.valof place c) sc f n = good-c s (inValof l) h c sc f n
+    good-e s l h (T.monadic place o e) sc f n =
+        let p = good-e s l h e sc f (search nones) in (formed-monadic functions strings text h o _ (p .0), leave-monadic o _ (p .1))
+    good-e s l h (T.suffixed e ss) sc f n =
+        good-x s l h ss sc (f .1) (search nones) _ (good-e s l (under ss h) e (scoped-up functions s (under-more ss h) sc) (f .0) (search nones))
+    good-e s l h (T.dyadic e os) sc f n = good-o s l h os sc (f .1) (search nones) _ (good-e s l h e sc (f .0) (search nones))
 
-    leave-a : (s : Scope) (l : Leavable) (h : ℕ) (es : Expressions) → inExpressions text s l h es ≡ [] → FineList strings es → (s′ : Scope) (h′ : ℕ) → LeavesA (E.expressions text s′ h′ es)
-    leave-a s l h T.noExpressions n f s′ h′ = tt
-    leave-a s l h (T.andExpression e es) n f s′ h′ = (leave-e s l h e (none-left _ _ n) (f .0) s′ h′, leave-a s l (h + 1) es (none-right (inExpression text s l h e) _ n) (f .1) s′ (h′ + 1))
+    good-x : (s : Scope) (l : Leavable) (h : ℕ) (ss : Suffixes) → Scoped functions h s → FineSuffixes strings ss → inSuffixes text s l h ss ≡ []
+        → (x : Expr) → GoodE (under ss h) x → GoodE h (E.suffixes text s h x ss)
+    good-x s l h T.noSuffixes sc f n x p = p
+    good-x s l h (T.call es ss) sc f n x p =
+        let g : ℕ = under ss h + 2 in
+        let a = good-a s l g es (scoped-up functions s (omega (arith, under-more ss h)) sc) (f .0) (search nones) in
+        good-x s l h ss sc (f .1) (search nones) (R.call x (E.expressions text s g es))
+        ((a .0, rw (count-same functions strings text s g es) (p .0)), (a .1, p .1))
+    good-x s l h (T.index e ss) sc f n x p =
+        let g : ℕ = under ss h + 1 in
+        let d = good-e s l g e (scoped-up functions s (omega (arith, under-more ss h)) sc) (f .0) (search nones) in
+        good-x s l h ss sc (f .1) (search nones) (R.index x (E.expression text s g e)) ((p .0, d .0), (p .1, d .1))
 
-    leave-right : (s : Scope) (l : Leavable) (h : ℕ) (es : Expressions) → inRightSides text s l h es ≡ [] → FineList strings es → (s′ : Scope) (h′ : ℕ) → LeavesA (E.sides text s′ h′ es)
-    leave-right s l h T.noExpressions n f s′ h′ = tt
-    leave-right s l h (T.andExpression e es) n f s′ h′ = (leave-e s l h e (none-left _ _ n) (f .0) s′ h′, leave-right s l h es (none-right (inExpression text s l h e) _ n) (f .1) s′ h′)
+    good-o : (s : Scope) (l : Leavable) (h : ℕ) (os : Operations) → Scoped functions h s → FineOperations strings os → inOperations text s l h os ≡ []
+        → (x : Expr) → GoodE h x → GoodE h (E.operations text s h x os)
+    good-o s l h T.noOperations sc f n x p = p
+    good-o s l h (T.operation o e os) sc f n x p =
+        let d = good-e s l (h + 1) e (scoped-up functions s (omega arith) sc) (f .0) (search nones) in
+        good-o s l h os sc (f .1) (search nones) (R.binary o x (E.expression text s (h + 1) e)) ((p .0, d .0), (p .1, d .1))
 
-    leave-sides : (s : Scope) (l : Leavable) (h : ℕ) (es : Expressions) → inSides text s l h es ≡ [] → FineList strings es → (s′ : Scope) (h′ : ℕ) → LeavesA (E.sides text s′ h′ es)
-    leave-sides s l h T.noExpressions n f s′ h′ = tt
-    leave-sides s l h (T.andExpression e es) n f s′ h′ =
-        let one : List Fault = inExpression text s l h e ++ unlessSide (placeOf e) (sideOf (E.expression text s h e)) in
-        (leave-e s l h e (none-left (inExpression text s l h e) _ (none-left one (inSides text s l h es) n)) (f .0) s′ h′, leave-sides s l h es (none-right one (inSides text s l h es) n) (f .1) s′ h′)
+    good-a : (s : Scope) (l : Leavable) (h : ℕ) (es : Expressions) → Scoped functions h s → FineList strings es → inExpressions text s l h es ≡ []
+        → FormedA functions strings h (E.expressions text s h es) × LeavesA (E.expressions text s h es)
+    good-a s l h T.noExpressions sc f n = (tt, tt)
+    good-a s l h (T.andExpression e es) sc f n =
+        let p = good-e s l h e sc (f .0) (search nones) in
+        let q = good-a s l (h + 1) es (scoped-up functions s (omega arith) sc) (f .1) (search nones) in
+        ((p .0, q .0), (p .1, q .1))
 
-    leave-x : (s : Scope) (l : Leavable) (h : ℕ) (ss : Suffixes) → inSuffixes text s l h ss ≡ [] → FineSuffixes strings ss → (s′ : Scope) (h′ : ℕ) (x : Expr) → LeavesE x → LeavesE (E.suffixes text s′ h′ x ss)
-    leave-x s l h T.noSuffixes n f s′ h′ x p = p
-    leave-x s l h (T.call es ss) n f s′ h′ x p =
-        leave-x s l h ss (none-right (inExpressions text s l (under ss h + 2) es) _ n) (f .1) s′ h′ (R.call x (E.expressions text s′ (under ss h′ + 2) es)) (leave-a s l (under ss h + 2) es (none-left _ _ n) (f .0) s′ (under ss h′ + 2), p)
-    leave-x s l h (T.index e ss) n f s′ h′ x p =
-        leave-x s l h ss (none-right (inExpression text s l (under ss h + 1) e) _ n) (f .1) s′ h′ (R.index x (E.expression text s′ (under ss h′ + 1) e)) (p, leave-e s l (under ss h + 1) e (none-left _ _ n) (f .0) s′ (under ss h′ + 1))
+    good-right : (s : Scope) (l : Leavable) (h : ℕ) (es : Expressions) → Scoped functions h s → FineList strings es → inRightSides text s l h es ≡ []
+        → Sides functions strings text h (E.sides text s h es) × LeavesA (E.sides text s h es)
+    good-right s l h T.noExpressions sc f n = (tt, tt)
+    good-right s l h (T.andExpression e es) sc f n =
+        let p = good-e s l h e sc (f .0) (search nones) in
+        let q = good-right s l h es sc (f .1) (search nones) in ((p .0, q .0), (p .1, q .1))
 
-    leave-o : (s : Scope) (l : Leavable) (h : ℕ) (os : Operations) → inOperations text s l h os ≡ [] → FineOperations strings os → (s′ : Scope) (h′ : ℕ) (x : Expr) → LeavesE x → LeavesE (E.operations text s′ h′ x os)
-    leave-o s l h T.noOperations n f s′ h′ x p = p
-    leave-o s l h (T.operation o e os) n f s′ h′ x p =
-        leave-o s l h os (none-right (inExpression text s l (h + 1) e) _ n) (f .1) s′ h′ (R.binary o x (E.expression text s′ (h′ + 1) e)) (p, leave-e s l (h + 1) e (none-left _ _ n) (f .0) s′ (h′ + 1))
+    good-sides : (s : Scope) (l : Leavable) (h : ℕ) (es : Expressions) → Scoped functions h s → FineList strings es → inSides text s l h es ≡ []
+        → Sides functions strings text h (E.sides text s h es) × LeavesA (E.sides text s h es)
+    good-sides s l h T.noExpressions sc f n = (tt, tt)
+    good-sides s l h (T.andExpression e es) sc f n =
+        let p = good-e s l h e sc (f .0) (search nones) in
+        let q = good-sides s l h es sc (f .1) (search nones) in ((p .0, q .0), (p .1, q .1))
 
-    pub leave-c : (s : Scope) (l : Leavable) (h : ℕ) (c : Command) → inCommand text s l h c ≡ [] → FineCommand strings c → (s′ : Scope) (h′ : ℕ) → Leave l (E.command text s′ h′ c)
-    leave-c s l h (T.command ls u rs) n f s′ h′ =
-        let m = none-left (misplaced text s ls ++ inUnlabelled text s (repeated rs l) h u) (inRepeats text s l h rs) n in
-        leave-r s l h rs (none-right (misplaced text s ls ++ inUnlabelled text s (repeated rs l) h u) (inRepeats text s l h rs) n) (f .2) s′ h′ (E.unlabelled text s′ h′ u)
-        (leave-u s (repeated rs l) h u (none-right (misplaced text s ls) (inUnlabelled text s (repeated rs l) h u) m) (f .1) s′ h′)
+    pub good-c : (s : Scope) (l : Leavable) (h : ℕ) (c : Command) → Scoped functions h s → FineCommand strings c → inCommand text s l h c ≡ []
+        → GoodC l h (E.command text s h c)
+    good-c s l h (T.command ls u rs) sc f n = good-r s l h rs sc (f .2) (search nones) _ (good-u s (repeated rs l) h u sc (f .1) (search nones))
 
-    leave-case : (s : Scope) (l : Leavable) (h : ℕ) (c : Command) → inCase text s l h c ≡ [] → FineCommand strings c → (s′ : Scope) (h′ : ℕ) → Leave l (E.command text s′ h′ c)
-    leave-case s l h (T.command ls u rs) n f s′ h′ =
-        leave-r s l h rs (none-right (inUnlabelled text s (repeated rs l) h u) _ n) (f .2) s′ h′ (E.unlabelled text s′ h′ u) (leave-u s (repeated rs l) h u (none-left _ (inRepeats text s l h rs) n) (f .1) s′ h′)
+    good-case : (s : Scope) (l : Leavable) (h : ℕ) (c : Command) → Scoped functions h s → FineCommand strings c → inCase text s l h c ≡ []
+        → GoodC l h (E.command text s h c)
+    good-case s l h (T.command ls u rs) sc f n = good-r s l h rs sc (f .2) (search nones) _ (good-u s (repeated rs l) h u sc (f .1) (search nones))
 
-    leave-r : (s : Scope) (l : Leavable) (h : ℕ) (rs : Repeats) → inRepeats text s l h rs ≡ [] → FineRepeats strings rs → (s′ : Scope) (h′ : ℕ) (x : Cmd) → Leave (repeated rs l) x → Leave l (E.repeats text s′ h′ x rs)
-    leave-r s l h T.noRepeats n f s′ h′ x p = p
-    leave-r s l h (T.repeat rs) n f s′ h′ x p = leave-r s l h rs n f s′ h′ (R.repeat x) (again rs l x p)
-    leave-r s l h (T.repeatOn w e rs) n f s′ h′ x p =
-        leave-r s l h rs (none-right (inExpression text s l h e) _ n) (f .1) s′ h′ (R.repeatWhile (eqb w REPEATWHILE) x (E.expression text s′ h′ e)) (again rs l x p, leave-e s l h e (none-left _ _ n) (f .0) s′ h′)
+    good-r : (s : Scope) (l : Leavable) (h : ℕ) (rs : Repeats) → Scoped functions h s → FineRepeats strings rs → inRepeats text s l h rs ≡ []
+        → (x : Cmd) → GoodC (repeated rs l) h x → GoodC l h (E.repeats text s h x rs)
+    good-r s l h T.noRepeats sc f n x p = p
+    good-r s l h (T.repeat rs) sc f n x p = good-r s l h rs sc f n (R.repeat x) (p .0, again rs l x (p .1))
+    good-r s l h (T.repeatOn w e rs) sc f n x p =
+        let q = good-e s l h e sc (f .0) (search nones) in
+        good-r s l h rs sc (f .1) (search nones) (R.repeatWhile (eqb w REPEATWHILE) x (E.expression text s h e))
+        ((p .0, q .0), (again rs l x (p .1), q .1))
 
-    leave-u : (s : Scope) (l : Leavable) (h : ℕ) (u : Unlabelled) → inUnlabelled text s l h u ≡ [] → FineUnlabelled strings u → (s′ : Scope) (h′ : ℕ) → Leave l (E.unlabelled text s′ h′ u)
-    leave-u s l h T.empty n f s′ h′ = tt
-    leave-u s l h (T.assignment left right) n f s′ h′ =
-        leave-pairs (E.sides text s′ (h′ + 1) left) (E.sides text s′ h′ right) (leave-sides s l (h + 1) left (none-left _ _ n) (f .0) s′ (h′ + 1)) (leave-right s l h right (none-right (inSides text s l (h + 1) left) _ n) (f .1) s′ h′)
-    leave-u s l h (T.callCommand e) n f s′ h′ = leave-e s l h e n (f .0) s′ h′
-    leave-u s l h (T.test e c d) n f s′ h′ =
-        let m = none-left (inExpression text s l h e ++ inCommand text s l h c) (inCommand text s l h d) n in (
-          leave-e s l h e (none-left _ (inCommand text s l h c) m) (f .0) s′ h′,
-          leave-c s l h c (none-right (inExpression text s l h e) _ m) (f .1) s′ h′,
-          leave-c s l h d (none-right (inExpression text s l h e ++ inCommand text s l h c) _ n) (f .2) s′ h′,
-        )
-    leave-u s l h (T.guarded w e c) n f s′ h′ =
-        leave-guard l w (E.expression text s′ h′ e) (E.command text s′ h′ c) (f .2) (leave-e s l h e (none-left _ _ n) (f .0) s′ h′) (none-right (inExpression text s l h e) _ n)
-        (λ q. leave-c s l h c q (f .1) s′ h′) (λ q. leave-c s (inLoop l) h c q (f .1) s′ h′)
-    leave-u s l h (T.for x e d k c) n f s′ h′ =
-        let three : List Fault = inExpression text s l h e ++ inExpression text s l (h + 1) d ++ byFaults text s k in
-        let m = none-left three (inCommand text (declared (opened s) x (N.local h)) (inLoop l) (h + 2) c) n in
-        let j = none-left (inExpression text s l h e ++ inExpression text s l (h + 1) d) _ m in (
-          leave-e s l h e (none-left _ (inExpression text s l (h + 1) d) j) (f .0) s′ h′,
-          leave-e s l (h + 1) d (none-right (inExpression text s l h e) _ j) (f .1) s′ (h′ + 1),
-          leave-c (declared (opened s) x (N.local h)) (inLoop l) (h + 2) c (none-right three (inCommand text (declared (opened s) x (N.local h)) (inLoop l) (h + 2) c) n) (f .3) (declared (opened s′) x (N.local h′)) (h′ + 2),
-        )
-    leave-u s l h (T.switchon e cs) n f s′ h′ = (leave-e s l h e (none-left _ _ n) (f .0) s′ h′, leave-s s (inSwitch l) h _ cs (none-right (inExpression text s l h e) _ n) (f .1) s′ h′)
-    leave-u s l h (T.resultis place e) n f s′ h′ =
-        (leave-e s l h e (none-right (unless (l .valof) (fault place 13)) _ n) f s′ h′, unless-true (l .valof) place (none-left (unless (l .valof) (fault place 13)) _ n))
-    leave-u s l h (T.leave w place) n f s′ h′ = leave-leaving l w (unless-true (leaves l w) place n)
-    leave-u s l h (T.block ls cs) n f s′ h′ = (
-      leave-l (opened s) l h ls (none-left _ _ n) (f .0) (opened s′) h′,
-      leave-b (scopeAfter text (opened s) h ls) l (E.heightAfter text (opened s) h ls) cs (none-right (inLocals text (opened s) l h ls) _ n) (f .1) (scopeAfter text (opened s′) h′ ls) (E.heightAfter text (opened s′) h′ ls),
-    )
+    good-u : (s : Scope) (l : Leavable) (h : ℕ) (u : Unlabelled) → Scoped functions h s → FineUnlabelled strings u → inUnlabelled text s l h u ≡ []
+        → GoodC l h (E.unlabelled text s h u)
+    good-u s l h T.empty sc f n = (tt, tt)
+    good-u s l h (T.assignment left right) sc f n =
+        let p = good-sides s l (h + 1) left (scoped-up functions s (omega arith) sc) (f .0) (search nones) in
+        let q = good-right s l h right sc (f .1) (search nones) in
+        let xs : Exprs = E.sides text s (h + 1) left in
+        let ys : Exprs = E.sides text s h right in
+        (formed-pairs functions strings text h xs ys (p .0) (q .0), leave-pairs xs ys (p .1) (q .1))
+    good-u s l h (T.callCommand e) sc f n = good-e s l h e sc (f .0) n
+    good-u s l h (T.test e c d) sc f n =
+        let p = good-e s l h e sc (f .0) (search nones) in
+        let q = good-c s l h c sc (f .1) (search nones) in
+        let r = good-c s l h d sc (f .2) (search nones) in ((p .0, q .0, r .0), (p .1, q .1, r .1))
+    good-u s l h (T.guarded w e c) sc f n =
+        let p = good-e s l h e sc (f .0) (search nones) in
+        good-guard functions strings l h w (E.expression text s h e) (E.command text s h c) (f .2) p (search nones)
+        (λ q. good-c s l h c sc (f .1) q) (λ q. good-c s (inLoop l) h c sc (f .1) q)
+    good-u s l h (T.for x e d k c) sc f n =
+        let p = good-e s l h e sc (f .0) (search nones) in
+        let q = good-e s l (h + 1) d (scoped-up functions s (omega arith) sc) (f .1) (search nones) in
+        let s′ : Scope = declared (opened s) x (N.local h) in
+        let r = good-c s′ (inLoop l) (h + 2) c (for-scope functions strings text s h x sc) (f .3) (search nones) in
+        ((p .0, q .0, r .0, formed-by functions strings text s h sc k (f .2)), (p .1, q .1, r .1))
+    good-u s l h (T.switchon e cs) sc f n =
+        let p = good-e s l h e sc (f .0) (search nones) in
+        let q = good-s s (inSwitch l) h [] cs sc (f .1) (search nones) in
+        ((p .0, q .0, few-cases functions strings text s h cs (f .2)), (p .1, q .1))
+    good-u s l h (T.resultis place e) sc f n =
+        let p = good-e s l h e sc f (search nones) in (p .0, (p .1, unless-true (l .valof) place (search nones)))
+    good-u s l h (T.leave w place) sc f n = (formed-leaving functions strings text h w, leave-leaving l w (unless-true (leaves l w) place n))
+    good-u s l h (T.block ls cs) sc f n =
+        let o = open-scoped functions strings text s h sc in
+        let p = good-l (opened s) l h ls o (f .0) (search nones) in
+        let sc′ = scope-after functions strings text (opened s) h o ls in
+        let q = good-b (scopeAfter text (opened s) h ls) l (E.heightAfter text (opened s) h ls) cs sc′ (f .1) (search nones) in
+        ((p .0, rw (height-same functions strings text (opened s) h ls (f .0)) (q .0)), (p .1, q .1))
 
-    leave-l : (s : Scope) (l : Leavable) (h : ℕ) (ls : T.Locals) → inLocals text s l h ls ≡ [] → FineLocals strings ls → (s′ : Scope) (h′ : ℕ) → LeavesL (E.locals text s′ h′ ls)
-    leave-l s l h T.noLocals n f s′ h′ = tt
-    leave-l s l h (T.vector x k ls) n f s′ h′ =
-        leave-l (declared s x (N.local h)) l (h + 2 + judgedWord (forVector text s k)) ls
-        (none-right (faultsOf (forVector text s k) ++ twice text s h (x ∷ [])) (inLocals text (declared s x (N.local h)) l (h + 2 + judgedWord (forVector text s k)) ls) n) (f .1)
-        (declared s′ x (N.local h′)) (h′ + 2 + judgedWord (forVector text s′ k))
-    leave-l s l h (T.values ns es ls) n f s′ h′ =
-        leave-values (E.expressions text s′ h′ es) (E.locals text (declareAll s′ h′ ns) (h′ + length ns) ls)
-        (leave-a s l h es (none-left (inExpressions text s l h es) _ (none-left (inExpressions text s l h es ++ twice text s h ns) (inLocals text (declareAll s h ns) l (h + length ns) ls) n)) (f .0) s′ h′)
-        (leave-l (declareAll s h ns) l (h + length ns) ls (none-right (inExpressions text s l h es ++ twice text s h ns) (inLocals text (declareAll s h ns) l (h + length ns) ls) n) (f .1) (declareAll s′ h′ ns) (h′ + length ns))
+    good-l : (s : Scope) (l : Leavable) (h : ℕ) (ls : T.Locals) → Scoped functions h s → FineLocals strings ls → inLocals text s l h ls ≡ []
+        → FormedL functions strings h (E.locals text s h ls) × LeavesL (E.locals text s h ls)
+    good-l s l h T.noLocals sc f n = (tt, tt)
+    good-l s l h (T.vector x k ls) sc f n =
+        let m : ℕ = h + 2 + judgedWord (forVector text s k) in
+        let p = good-l (declared s x (N.local h)) l m ls (vector-scope functions strings text s h x _ sc) (f .1) (search nones) in
+        ((p .0, vector-size functions strings text s k), p .1)
+    good-l s l h (T.values ns es ls) sc f n =
+        let z : H.count (E.expressions text s h es) ≡ length ns = count-same functions strings text s h es ∙ f .2 in
+        let p = good-a s l h es sc (f .0) (search nones) in
+        let q = good-l (declareAll s h ns) l (h + length ns) ls (declared-all functions s h ns sc) (f .1) (search nones) in
+        let ls′ : Locals = E.locals text (declareAll s h ns) (h + length ns) ls in
+        let xs : Exprs = E.expressions text s h es in
+        (formed-values functions strings text h xs ls′ (p .0) (rw z (q .0)), leave-values xs ls′ (p .1) (q .1))
 
-    leave-b : (s : Scope) (l : Leavable) (h : ℕ) (cs : Commands) → inCommands text s l h cs ≡ [] → FineCommands strings cs → (s′ : Scope) (h′ : ℕ) → LeavesB (l .loop) (l .switch) (l .valof) (E.commands text s′ h′ cs)
-    leave-b s l h T.noCommands n f s′ h′ = tt
-    leave-b s l h (T.andCommand c cs) n f s′ h′ = (leave-c s l h c (none-left _ _ n) (f .0) s′ h′, leave-b s l h cs (none-right (inCommand text s l h c) _ n) (f .1) s′ h′)
+    good-b : (s : Scope) (l : Leavable) (h : ℕ) (cs : Commands) → Scoped functions h s → FineCommands strings cs → inCommands text s l h cs ≡ []
+        → FormedB functions strings h (E.commands text s h cs) × LeavesB (l .loop) (l .switch) (l .valof) (E.commands text s h cs)
+    good-b s l h T.noCommands sc f n = (tt, tt)
+    good-b s l h (T.andCommand c cs) sc f n =
+        let p = good-c s l h c sc (f .0) (search nones) in
+        let q = good-b s l h cs sc (f .1) (search nones) in ((p .0, q .0), (p .1, q .1))
 
-    leave-s : (s : Scope) (l : Leavable) (h : ℕ) (d : List Label) (cs : Commands) → inCases text s l h d cs ≡ [] → FineCommands strings cs → (s′ : Scope) (h′ : ℕ) → LeavesS (l .loop) (l .switch) (l .valof) (E.caseList text s′ h′ cs)
-    leave-s s l h d T.noCommands n f s′ h′ = tt
-    leave-s s l h d (T.andCommand c cs) n f s′ h′ =
-        let two : List Fault = doubled text s d (labelsBefore c) ++ inCase text s l h c in
-        let m = none-left two (inCases text s l h (d ++ labelsBefore c) cs) n in
-        (leave-case s l h c (none-right (doubled text s d (labelsBefore c)) (inCase text s l h c) m) (f .0) s′ h′, leave-s s l h (d ++ labelsBefore c) cs (none-right two (inCases text s l h (d ++ labelsBefore c) cs) n) (f .1) s′ h′)
+    good-s : (s : Scope) (l : Leavable) (h : ℕ) (d : List Label) (cs : Commands) → Scoped functions h s → FineCommands strings cs
+        → inCases text s l h d cs ≡ []
+        → FormedS functions strings h (E.caseList text s h cs) × LeavesS (l .loop) (l .switch) (l .valof) (E.caseList text s h cs)
+    good-s s l h d T.noCommands sc f n = (tt, tt)
+    good-s s l h d (T.andCommand c cs) sc f n =
+        let p = good-case s l h c sc (f .0) (search nones) in
+        let q = good-s s l h (d ++ labelsBefore c) cs sc (f .1) (search nones) in
+        ((p .0, q .0, formed-labels functions strings text s h sc (labelsBefore c) (before-fine functions strings text c (f .0))), (p .1, q .1))

@@ -30,7 +30,8 @@ module _ (limit : ℕ) where
   both-from l e (b-ok m f) = b-ok (le-trans l m) (λ j. e (le-trans m j) ∙ f j)
 
   both-after : {A B : Type 0} {i : ℕ} {x y : Result A} {m n : State → Result B} {f g : A → State → Result B} → Both limit i x y
-      → ((t : State) → Both limit (t .used) (m t) (n t)) → ((a : A) (t : State) → Both limit (t .used) (f a t) (g a t)) → Both limit i (after x m f) (after y n g)
+      → ((t : State) → Both limit (t .used) (m t) (n t)) → ((a : A) (t : State) → Both limit (t .used) (f a t) (g a t))
+      → Both limit i (after x m f) (after y n g)
   both-after b-unfinished h k = b-unfinished
   both-after b-undefined h k = b-undefined
   both-after {n = n} {g = g} (b-finished l e) h k = b-finished l (λ j. ap (λ z. after z n g) (e j))
@@ -51,7 +52,8 @@ module _ (limit : ℕ) where
       grown true e = let l : s .used < p + k = ltb-true _ _ e in (omega arith, le-refl (p + k))
       grown false e = (le-refl (s .used), ltb-false _ _ e)
 
-      go : (a b : Bool) → leb (p + k) limit ≡ b → (c : Bool) → ltb (s .used) (p + k) ≡ c → Both limit (s .used) (cond a (f (u c)) undefined) (cond b (g (u c)) undefined)
+      go : (a b : Bool) → leb (p + k) limit ≡ b → (c : Bool) → ltb (s .used) (p + k) ≡ c
+          → Both limit (s .used) (cond a (f (u c)) undefined) (cond b (g (u c)) undefined)
       go false b eb c ec = b-undefined
       go true true eb c ec = both-from (grown c ec .0) (λ j. refl) (h (u c))
       go true false eb c ec =
@@ -87,7 +89,8 @@ module _ (limit : ℕ) where
 
     pub both-called : (q r : Sem) → Agreeing q r → (v base : ℕ) (vs : List ℕ) (s : State)
         → Both limit (s .used) (called functions place memory input q v base vs s) (called functions place limit input r v base vs s)
-    both-called q r parts v base vs s = in-called 0 memory limit Bounded (bounded memory) q r (related parts) functions place input v base vs s (omega arith)
+    both-called q r parts v base vs s =
+        in-called 0 memory limit Bounded (bounded memory) q r (related parts) functions place input v base vs s (omega arith)
 
     both-related : (fuel : ℕ) → Related 0 Bounded (sem functions place memory input fuel) (sem functions place limit input fuel)
     unfolding sem

@@ -5,7 +5,6 @@ use Prim.Native.Nat.{ℕ, suc}
 use mathlib.Core.Path.{_≡_, refl, sym, ap, _∙_}
 use mathlib.Core.Bool.{Bool, true, false, cond, _&&_}
 use mathlib.Core.List.{List, [], _∷_}
-use native.Mathlib.Omega.{arith}
 use lib.ListN.{length}
 use lib.Dec.{eqb}
 use borrow.Author.Tests.{eqb-true}
@@ -21,6 +20,7 @@ use Rattle.language.specs.Grammar.{treeOf}
 use Rattle.language.specs.Source.{onFault, symbolsOf, Read, read, onTree, readSymbols, onSymbols, parsed}
 use Rattle.language.proofs.Extra.{without, others, flush, Rest, both-end, alike, extra, longer-rest, Kept, gave, refuses}
 use Rattle.language.proofs.ExtraGrammar.{program}
+use Rattle.language.proofs.Cases.{clash}
 
 -- ---- the definition, by any first list
 
@@ -43,8 +43,7 @@ module _ (list text : List ℕ) where
 
 -- the first list as it was in document 01
 abbrev pub formerly : List ℕ
-formerly =
-    K.BREAK ∷ K.RETURN ∷ K.FINISH ∷ K.ENDCASE ∷ K.REPEAT ∷ K.CLOSE ∷ K.END ∷ K.NAME ∷ K.STRING ∷ K.NUMBER ∷ K.TRUE ∷ K.FALSE ∷ []
+formerly = K.BREAK ∷ K.RETURN ∷ K.FINISH ∷ K.ENDCASE ∷ K.REPEAT ∷ K.CLOSE ∷ K.END ∷ K.NAME ∷ K.STRING ∷ K.NUMBER ∷ K.TRUE ∷ K.FALSE ∷ []
 
 -- the definition's own list gives the definition
 after-own : (text : List ℕ) (before : Symbol) (ss : List Symbol) → afterBy firsts text before ss ≡ semicolonsAfter text before ss
@@ -94,7 +93,7 @@ numbered-after text k before (s ∷ r) = go (eqb (s .kind) K.STRING) (λ j. numb
 -- ---- the two lists of symbols
 
 apart : true ≡ false → ⊥
-apart e = let z : _≡_ {A = ℕ} 0 1 = cc in omega arith
+apart e = clash (cc)
 
 without-member : (k x : ℕ) (ks : List ℕ) → member k (without x ks) ≡ cond (eqb k x) false (member k ks)
 unfolding member
@@ -164,7 +163,7 @@ module _ (text : List ℕ) where
 
 on-kept : {s t : Source} {i : Bool} {x y : Out Program} (p : Program) → Kept s t i x y → onTree s x ≡ read p → onTree t y ≡ read p
 on-kept p (gave q) e = e
-on-kept p refuses e = let z : _≡_ {A = ℕ} 0 1 = cc in absurd (omega arith)
+on-kept p refuses e = cc
 
 same-tree : {s t : Source} (p : Program) → t .size ≡ s .size → Rest flush (s .symbols) (t .symbols) → readSymbols s ≡ read p → readSymbols t ≡ read p
 unfolding readSymbols treeOf

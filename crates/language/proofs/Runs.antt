@@ -15,8 +15,12 @@ use Rattle.language.specs.Resolved as R
 use Rattle.language.specs.Resolved.{Expr, Exprs, Target, Pairs, Cmd, Cmds, Cases, Locals, Body, Fun}
 use Rattle.language.specs.Heights.{count, heightWith}
 use Rattle.language.specs.Operators.{applyDyadic}
-use Rattle.language.specs.State.{Cell, gone, unset, holds, Value, absent, word, State, Result, unfinished, undefined, finished, returned, ok, bind, step, readCell, writeCell, demand, forget, put}
-use Rattle.language.specs.Run.{Placement, Sem, Flow, normal, broke, looped, ended, gave, Loop, whiling, repeating, repeatingWhile, counting, onwards, around, valueOf, selected, isTrue, same, goesOn, noFun, positionOf, nth, demandAll, reach, received, sent, atEnd, ofRoutine, runBody, ofFunction, enterAt, called, arguments, two, orUndefined, evaluated, assigned, assignedAll, sequence, cases, declared, tested, leaving, executed, turned, sem, parameters, vectorWords}
+use Rattle.language.specs.State.{Cell, gone, unset, holds, Value, absent, word, State, Result, unfinished, undefined, finished, returned, ok}
+use Rattle.language.specs.State.{bind, step, readCell, writeCell, demand, forget, put}
+use Rattle.language.specs.Run.{Placement, Sem, Flow, normal, broke, looped, ended, gave, Loop, whiling, repeating, repeatingWhile, counting}
+use Rattle.language.specs.Run.{onwards, around, valueOf, selected, isTrue, same, goesOn, noFun, positionOf, nth, demandAll, reach, received}
+use Rattle.language.specs.Run.{sent, atEnd, ofRoutine, runBody, ofFunction, enterAt, called, arguments, two, orUndefined, evaluated, assigned}
+use Rattle.language.specs.Run.{assignedAll, sequence, cases, declared, tested, leaving, executed, turned, sem, parameters, vectorWords}
 
 -- ---- what a relation has to bear
 
@@ -48,7 +52,8 @@ pub record Closed (first memory limit : ℕ) (T : Relation) : Type 1 where
   pub returns : {A : Type 0} {s : State} → T A s (returned s) (returned s)
   pub gives : {A : Type 0} {a : A} {s : State} → T _ s (ok a s) (ok a s)
   pub changes : {A : Type 0} {s t : State} {x y : Result A} → Change first s t → T _ t x y → T _ s x y
-  pub reaches : {A : Type 0} (p h : ℕ) (s : State) {f g : State → Result A} → ((t : State) → T _ t (f t) (g t)) → T _ s (reach memory p h s f) (reach limit p h s g)
+  pub reaches : {A : Type 0} (p h : ℕ) (s : State) {f g : State → Result A} → ((t : State) → T _ t (f t) (g t))
+      → T _ s (reach memory p h s f) (reach limit p h s g)
   pub goes-on : {A B : Type 0} {s : State} {x y : Result A} {m n : State → Result B} {f g : A → State → Result B} → T _ s x y
       → ((t : State) → T _ t (m t) (n t)) → ((a : A) (t : State) → T _ t (f a t) (g a t)) → T _ s (after x m f) (after y n g)
 
@@ -116,7 +121,8 @@ routine-after base (ok f s) = refl
 module _ (first memory limit : ℕ) (T : Relation) (closed : Closed first memory limit T) where
   open Closed closed using (stops, finishes, returns, gives, changes, reaches, goes-on)
 
-  binds : {A B : Type 0} {s : State} {x y : Result A} {f g : A → State → Result B} → T _ s x y → ((a : A) (t : State) → T _ t (f a t) (g a t)) → T _ s (bind x f) (bind y g)
+  binds : {A B : Type 0} {s : State} {x y : Result A} {f g : A → State → Result B} → T _ s x y → ((a : A) (t : State) → T _ t (f a t) (g a t))
+      → T _ s (bind x f) (bind y g)
   binds {x = x} {y = y} {f = f} {g = g} b h = rw (bind-after x f, bind-after y g) (goes-on b (λ t. returns) h)
 
   chooses : {A : Type 0} {s : State} {x y x′ y′ : Result A} (b : Bool) → T _ s x y → T _ s x′ y′ → T _ s (cond b x x′) (cond b y y′)
@@ -127,7 +133,8 @@ module _ (first memory limit : ℕ) (T : Relation) (closed : Closed first memory
   demands absent h = stops
   demands (word w) h = h w
 
-  demands-all : {A : Type 0} {s : State} (vs : List Value) (ws : List ℕ) {f g : List ℕ → Result A} → ((us : List ℕ) → T _ s (f us) (g us)) → T _ s (demandAll vs ws f) (demandAll vs ws g)
+  demands-all : {A : Type 0} {s : State} (vs : List Value) (ws : List ℕ) {f g : List ℕ → Result A} → ((us : List ℕ) → T _ s (f us) (g us))
+      → T _ s (demandAll vs ws f) (demandAll vs ws g)
   demands-all [] ws h = h ws
   demands-all (v ∷ vs) ws h = demands v (λ w. demands-all vs (ws ++ (w ∷ [])) h)
 
@@ -142,7 +149,8 @@ module _ (first memory limit : ℕ) (T : Relation) (closed : Closed first memory
   writes (holds v) h = h
 
   -- a value written at an address
-  stores : {A : Type 0} {s : State} (b w : ℕ) {f g : State → Result A} → ((t : State) → T _ t (f t) (g t)) → T _ s (writeCell (s .cells b) (f (put b (holds w) s))) (writeCell (s .cells b) (g (put b (holds w) s)))
+  stores : {A : Type 0} {s : State} (b w : ℕ) {f g : State → Result A} → ((t : State) → T _ t (f t) (g t))
+      → T _ s (writeCell (s .cells b) (f (put b (holds w) s))) (writeCell (s .cells b) (g (put b (holds w) s)))
   stores {s = s} b w h = writes (s .cells b) (changes (stored b w) (h (put b (holds w) s)))
 
   or-undefined : (x : Option ℕ) (s : State) → T _ s (orUndefined x s) (orUndefined x s)
@@ -198,7 +206,8 @@ module _ (first memory limit : ℕ) (T : Relation) (closed : Closed first memory
         rw (routine-after base (q .run c base h s), routine-after base (r .run c base h s))
         (goes-on (parts .run c base h s l) (λ t. changes (forgotten base l) gives) (ends base l))
 
-    tests : (e : Expr) (p h : ℕ) (s : State) → first ≤ p → {f g : Bool → State → Result Flow} → ((b : Bool) (t : State) → T _ t (f b t) (g b t)) → T _ s (tested q e p h s f) (tested r e p h s g)
+    tests : (e : Expr) (p h : ℕ) (s : State) → first ≤ p → {f g : Bool → State → Result Flow} → ((b : Bool) (t : State) → T _ t (f b t) (g b t))
+        → T _ s (tested q e p h s f) (tested r e p h s g)
     tests e p h s l k = binds (parts .evaluate e p h s l) (λ v t. demands v (λ w. k (isTrue w) t))
 
     in-sequence : (cs : Cmds) (p h : ℕ) (s : State) → first ≤ p → T _ s (sequence q cs p h s) (sequence r cs p h s)
@@ -211,17 +220,20 @@ module _ (first memory limit : ℕ) (T : Relation) (closed : Closed first memory
     in-cases R.noCases p h s l = gives
     in-cases (R.cases ls c cs) p h s l = binds (parts .run c p h s l) (λ f t. goes-onwards f t (λ u. in-cases cs p h u l))
 
-    in-arguments : (es : Exprs) (p h : ℕ) (s : State) → first ≤ p → {f g : List Value → State → Result Value} → ((vs : List Value) (t : State) → T _ t (f vs t) (g vs t))
+    in-arguments : (es : Exprs) (p h : ℕ) (s : State) → first ≤ p → {f g : List Value → State → Result Value}
+        → ((vs : List Value) (t : State) → T _ t (f vs t) (g vs t))
         → T _ s (arguments memory q es p h s f) (arguments limit r es p h s g)
     unfolding arguments
     in-arguments R.none p h s l k = k [] s
     in-arguments (R.and e es) p h s l k =
         binds (parts .evaluate e p h s l) (λ v t. reaches p (h + 1) t (λ u. in-arguments es p (h + 1) u l (λ vs w. k (v ∷ vs) w)))
 
-    in-two : (a b : Expr) (p h : ℕ) (s : State) → first ≤ p → {f g : ℕ → ℕ → State → Result Value} → ((v w : ℕ) (t : State) → T _ t (f v w t) (g v w t))
+    in-two : (a b : Expr) (p h : ℕ) (s : State) → first ≤ p → {f g : ℕ → ℕ → State → Result Value}
+        → ((v w : ℕ) (t : State) → T _ t (f v w t) (g v w t))
         → T _ s (two memory q a b p h s f) (two limit r a b p h s g)
     in-two a b p h s l k =
-        binds (parts .evaluate a p h s l) (λ v t. reaches p (h + 1) t (λ u. binds (parts .evaluate b p (h + 1) u l) (λ w x. demands v (λ m. demands w (λ n. k m n x)))))
+        binds (parts .evaluate a p h s l) (λ v t. reaches p (h + 1) t (λ u.
+        binds (parts .evaluate b p (h + 1) u l) (λ w x. demands v (λ m. demands w (λ n. k m n x)))))
 
     in-assigned : (t : Target) (v : Value) (p h : ℕ) (s : State) → first ≤ p → {f g : State → Result Flow} → ((u : State) → T _ u (f u) (g u))
         → T _ s (assigned memory q t v p h s f) (assigned limit r t v p h s g)
@@ -234,8 +246,7 @@ module _ (first memory limit : ℕ) (T : Relation) (closed : Closed first memory
         reaches p (h + 1) s (λ t.
         binds (parts .evaluate a p (h + 1) t l) (λ x u.
         reaches p (h + 2) u (λ y.
-        binds (parts .evaluate b p (h + 2) y l) (λ z k.
-        demands v (λ w. demands x (λ i. demands z (λ j. stores (add i j) w m)))))))
+        binds (parts .evaluate b p (h + 2) y l) (λ z k. demands v (λ w. demands x (λ i. demands z (λ j. stores (add i j) w m)))))))
 
     in-pairs : (ps : Pairs) (p h : ℕ) (s : State) → first ≤ p → T _ s (assignedAll memory q ps p h s) (assignedAll limit r ps p h s)
     unfolding assignedAll
@@ -247,7 +258,8 @@ module _ (first memory limit : ℕ) (T : Relation) (closed : Closed first memory
     unfolding declared
     in-declared R.noLocals p h s l m = m s
     in-declared (R.vector n ls) p h s l m =
-        changes stepped (changes (vector (p + h + 1) n (omega arith)) (changes (stored (p + h) (p + h + 1)) (reaches p (h + 2 + n) _ (λ t. in-declared ls p (h + 2 + n) t l m))))
+        changes stepped (changes (vector (p + h + 1) n (omega arith))
+        (changes (stored (p + h) (p + h + 1)) (reaches p (h + 2 + n) _ (λ t. in-declared ls p (h + 2 + n) t l m))))
     in-declared (R.value e ls) p h s l m =
         binds (parts .evaluate e p h s l) (λ v t.
         demands v (λ w. changes stepped (changes (stored (p + h) w) (reaches p (h + 1) _ (λ u. in-declared ls p (h + 1) u l m)))))
@@ -258,7 +270,8 @@ module _ (first memory limit : ℕ) (T : Relation) (closed : Closed first memory
     in-executed (R.assign ps) p h s l = changes stepped (in-pairs ps p h (step s) l)
     in-executed (R.perform e) p h s l = binds (parts .evaluate e p h s l) (λ v t. gives)
     in-executed (R.test e c d) p h s l = changes stepped (tests e p h (step s) l (λ b t. chooses b (parts .run c p h t l) (parts .run d p h t l)))
-    in-executed (R.when sense e c) p h s l = changes stepped (tests e p h (step s) l (λ b t. chooses (same sense b) (parts .run c p h t l) (gives {a = normal})))
+    in-executed (R.when sense e c) p h s l =
+        changes stepped (tests e p h (step s) l (λ b t. chooses (same sense b) (parts .run c p h t l) (gives {a = normal})))
     in-executed (R.while sense e c) p h s l = changes stepped (parts .turn (whiling sense e c) p h (step s) l)
     in-executed (R.repeat c) p h s l = parts .turn (repeating c) p h s l
     in-executed (R.repeatWhile sense c e) p h s l = parts .turn (repeatingWhile sense c e) p h s l
@@ -275,14 +288,17 @@ module _ (first memory limit : ℕ) (T : Relation) (closed : Closed first memory
     in-executed R.endcase p h s l = changes stepped gives
     in-executed R.return p h s l = changes stepped returns
     in-executed R.finish p h s l = changes stepped finishes
-    in-executed (R.block ls cs) p h s l = changes stepped (leaves (p + h) (omega arith) (in-declared ls p h (step s) l (λ t. in-sequence cs p (heightWith h ls) t l)))
+    in-executed (R.block ls cs) p h s l =
+        changes stepped (leaves (p + h) (omega arith) (in-declared ls p h (step s) l (λ t. in-sequence cs p (heightWith h ls) t l)))
 
     pub in-turned : (o : Loop) (p h : ℕ) (s : State) → first ≤ p → T _ s (turned q o p h s) (turned r o p h s)
     unfolding turned
     in-turned (whiling sense e c) p h s l =
         tests e p h s l (λ b t.
-        chooses (same sense b) (changes stepped (binds (parts .run c p h (step t) l) (λ f u. goes-around f u (λ w. parts .turn (whiling sense e c) p h w l)))) (gives {a = normal}))
-    in-turned (repeating c) p h s l = changes stepped (binds (parts .run c p h (step s) l) (λ f u. goes-around f u (λ w. parts .turn (repeating c) p h w l)))
+        chooses (same sense b) (changes stepped (binds (parts .run c p h (step t) l) (λ f u.
+        goes-around f u (λ w. parts .turn (whiling sense e c) p h w l)))) (gives {a = normal}))
+    in-turned (repeating c) p h s l =
+        changes stepped (binds (parts .run c p h (step s) l) (λ f u. goes-around f u (λ w. parts .turn (repeating c) p h w l)))
     in-turned (repeatingWhile sense c e) p h s l =
         changes stepped (binds (parts .run c p h (step s) l) (λ f u.
         goes-around f u (λ w. tests e p h w l (λ b x. chooses (same sense b) (parts .turn (repeatingWhile sense c e) p h x l) (gives {a = normal})))))
@@ -296,20 +312,24 @@ module _ (first memory limit : ℕ) (T : Relation) (closed : Closed first memory
         gives))
 
     module _ (functions : List Fun) where
-      in-enter : (x : Option ℕ) (base : ℕ) (vs : List ℕ) (s : State) → first ≤ base → T _ s (enterAt functions memory q x base vs s) (enterAt functions limit r x base vs s)
+      in-enter : (x : Option ℕ) (base : ℕ) (vs : List ℕ) (s : State) → first ≤ base
+          → T _ s (enterAt functions memory q x base vs s) (enterAt functions limit r x base vs s)
       in-enter none base vs s l = stops
       in-enter (some k) base vs s l =
           reaches base (2 + getD functions k noFun .parameters) s (λ t.
-          changes (given base (getD functions k noFun .parameters) vs l) (body (getD functions k noFun .body) base (2 + getD functions k noFun .parameters) _ l))
+          changes (given base (getD functions k noFun .parameters) vs l)
+          (body (getD functions k noFun .body) base (2 + getD functions k noFun .parameters) _ l))
 
       module _ (place : Placement) (input : List ℕ) where
-        pub in-called : (v base : ℕ) (vs : List ℕ) (s : State) → first ≤ base → T _ s (called functions place memory input q v base vs s) (called functions place limit input r v base vs s)
+        pub in-called : (v base : ℕ) (vs : List ℕ) (s : State) → first ≤ base
+            → T _ s (called functions place memory input q v base vs s) (called functions place limit input r v base vs s)
         unfolding called
         in-called v base vs s l =
             chooses (eqb v 3) (reaches base 2 s (receives input))
             (chooses (eqb v 5) (reaches base 3 s (sends (nth vs 0))) (in-enter (positionOf v (place .entries) 0) base vs s l))
 
-        pub in-evaluated : (e : Expr) (p h : ℕ) (s : State) → first ≤ p → T _ s (evaluated functions place memory input q e p h s) (evaluated functions place limit input r e p h s)
+        pub in-evaluated : (e : Expr) (p h : ℕ) (s : State) → first ≤ p
+            → T _ s (evaluated functions place memory input q e p h s) (evaluated functions place limit input r e p h s)
         unfolding evaluated
         in-evaluated (R.constant v) p h s l = gives
         in-evaluated (R.local k) p h s l = reads (s .cells (p + k)) s
@@ -333,7 +353,8 @@ module _ (first memory limit : ℕ) (T : Relation) (closed : Closed first memory
 
   -- ---- one more of fuel on both sides
 
-  pub in-sem : (functions : List Fun) (place : Placement) (input : List ℕ) (n m : ℕ) → Related first T (sem functions place memory input n) (sem functions place limit input m)
+  pub in-sem : (functions : List Fun) (place : Placement) (input : List ℕ) (n m : ℕ)
+      → Related first T (sem functions place memory input n) (sem functions place limit input m)
       → Related first T (sem functions place memory input (suc n)) (sem functions place limit input (suc m))
   unfolding sem
   in-sem functions place input n m parts =

@@ -10,26 +10,45 @@ use Rattle.text.specs.Written.{bytes}
 use Rattle.language.specs.Bytes.{classOf}
 use Rattle.language.specs.Kinds.{reserved, signs, member}
 use Rattle.language.specs.Symbols as S
-use Rattle.language.specs.Symbols.{begins, wordWidth, kindIn, kindOf, word, digits, valueOf, decimal, octal, string, signIn, toLineEnd, comment, sign, signOrComment, byClass, scanFrom, scan}
+use Rattle.language.specs.Symbols.{begins, wordWidth, kindIn, kindOf, word, digits, valueOf, decimal, octal, string, signIn, toLineEnd, comment}
+use Rattle.language.specs.Symbols.{sign, signOrComment, byClass, scanFrom, scan}
 use Rattle.language.specs.Brackets.{closing, bracket, brackets}
 use Rattle.language.specs.Strings.{numbered}
 use Rattle.language.specs.Semicolons.{endsLine, beginsLine, linesDiffer, gains, semicolonsAfter, semicolons}
 use Rattle.language.specs.Tree.{withSuffixes, withOperations, endsInCall, isCall, count}
-use Rattle.language.specs.Reader.{unexpected, any, here, the, optional, aName, manyUpTo, many, moreUpTo, items, furtherItems, oneUpToClose, upToClose}
-use Rattle.language.specs.Binding.{bindingOf, isMonadic, reachOf, isSuffix, isLabel, isGuard, isLeave, isRepeat, goesOnAssignment, isDeclaration, beginsExpression, beginsCommand}
-use Rattle.language.specs.Expressions.{opening, numeral, truth, quotation, named, bracketed, valof, primary, monadic, arguments, subscript, index, suffix, suffixed, operand, operation, mostOf, operations, chain, products, sums, relations, shifts, negations, conjunctions, disjunctions, expression, literal, truthLiteral, known, simple, positive, negative, constant}
-use Rattle.language.specs.Commands.{test, guarded, by, optionalBy, for, listed, switchon, resultis, leave, further, vector, values, given, furtherName, local, semicolonEnd, commandsToEnd, block, furtherSide, assignment, callCommand, afterExpression, assignmentOrCall, unlabelled, repeat, repeatOn, repeatForm, repeated, emptyCommand, case, default, label, afterLabels, command}
-use Rattle.language.specs.Grammar.{within, item, globals, manifests, value, routine, body, parameter, function, andFunction, functions, declaration, declared, whole, program, treeOf}
+use Rattle.language.specs.Reader.{unexpected, any, here, the, optional, aName, manyUpTo, many, moreUpTo, items, furtherItems, oneUpToClose}
+use Rattle.language.specs.Reader.{upToClose}
+use Rattle.language.specs.Binding.{bindingOf, isMonadic, reachOf, isSuffix, isLabel, isGuard, isLeave, isRepeat, goesOnAssignment}
+use Rattle.language.specs.Binding.{isDeclaration, beginsExpression, beginsCommand}
+use Rattle.language.specs.Expressions as E
+use Rattle.language.specs.Expressions.{index, suffix, suffixed, operand, operation, mostOf, operations, chain, products, sums, relations}
+use Rattle.language.specs.Commands as C
+use Rattle.language.specs.Commands.{furtherName, local, semicolonEnd, commandsToEnd, block, furtherSide, assignment, callCommand}
+use Rattle.language.specs.Grammar as G
+use Rattle.language.specs.Grammar.{declaration, declared, whole, program, treeOf}
 use Rattle.language.specs.Source.{Symbols, symbolsOf, Read, read, refused, tooLong, scratchTooShort, readSymbols, parsed, readSource}
 
 -- a text's symbols, or its refusal
 unfoldable pub symbolsIn : String → Symbols
-unfolding quoted Q.character byNumber byDigits escape newlines lineOf classOf reserved signs begins wordWidth kindIn kindOf word digits valueOf decimal octal S.character string signIn toLineEnd comment sign signOrComment byClass scanFrom scan closing bracket brackets member endsLine beginsLine linesDiffer gains semicolonsAfter semicolons numbered symbolsOf
+unfolding quoted Q.character byNumber byDigits escape newlines lineOf classOf reserved signs begins wordWidth kindIn kindOf word digits valueOf
+    decimal octal S.character string signIn toLineEnd comment sign signOrComment byClass scanFrom scan closing bracket brackets member endsLine
+    beginsLine linesDiffer gains semicolonsAfter semicolons numbered symbolsOf
 symbolsIn text = symbolsOf (bytes text)
 
 -- the program of some bytes, or its refusal, with scratch enough for any text
 unfoldable pub answer : List ℕ → Read
-unfolding quoted Q.character byNumber byDigits escape newlines lineOf classOf reserved signs begins wordWidth kindIn kindOf word digits valueOf decimal octal S.character string signIn toLineEnd comment sign signOrComment byClass scanFrom scan closing bracket brackets member endsLine beginsLine linesDiffer gains semicolonsAfter semicolons numbered symbolsOf withSuffixes withOperations endsInCall isCall count unexpected any here the optional aName manyUpTo many moreUpTo items furtherItems oneUpToClose upToClose bindingOf isMonadic reachOf isSuffix isLabel isGuard isLeave isRepeat goesOnAssignment isDeclaration beginsExpression beginsCommand opening numeral truth quotation named bracketed valof primary monadic arguments subscript index suffix suffixed operand operation mostOf operations chain products sums relations shifts negations conjunctions disjunctions expression literal truthLiteral known simple positive negative constant test guarded by optionalBy for listed switchon resultis leave further vector values given furtherName local semicolonEnd commandsToEnd block furtherSide assignment callCommand afterExpression assignmentOrCall unlabelled repeat repeatOn repeatForm repeated emptyCommand case default label afterLabels command within item globals manifests value routine body parameter function andFunction functions declaration declared whole program treeOf tooLong scratchTooShort readSymbols parsed readSource
+unfolding quoted Q.character byNumber byDigits escape newlines lineOf classOf reserved signs begins wordWidth kindIn kindOf word digits valueOf
+    decimal octal S.character string signIn toLineEnd comment sign signOrComment byClass scanFrom scan closing bracket brackets member endsLine
+    beginsLine linesDiffer gains semicolonsAfter semicolons numbered symbolsOf withSuffixes withOperations endsInCall isCall count unexpected any here
+    the optional aName manyUpTo many moreUpTo items furtherItems oneUpToClose upToClose bindingOf isMonadic reachOf isSuffix isLabel isGuard isLeave
+    isRepeat goesOnAssignment isDeclaration beginsExpression beginsCommand E.opening E.numeral E.truth E.quotation E.named E.bracketed E.valof
+    E.primary E.monadic E.arguments E.subscript E.index E.suffix E.suffixed E.operand E.operation E.mostOf E.operations E.chain E.products E.sums
+    E.relations E.shifts E.negations E.conjunctions E.disjunctions E.expression E.literal E.truthLiteral E.known E.simple E.positive E.negative
+    E.constant C.test C.guarded C.by C.optionalBy C.for C.listed C.switchon C.resultis C.leave C.further C.vector C.values C.given C.furtherName
+    C.local C.semicolonEnd C.commandsToEnd C.block C.furtherSide C.assignment C.callCommand C.afterExpression C.assignmentOrCall C.unlabelled C.repeat
+    C.repeatOn C.repeatForm C.repeated C.emptyCommand C.case C.default C.label C.afterLabels C.command G.within G.item G.globals G.manifests G.value
+    G.routine G.body G.parameter G.function G.andFunction G.functions G.declaration G.declared G.whole G.program G.treeOf tooLong scratchTooShort
+    readSymbols parsed readSource
 answer text = readSource text 131136
 
 unfoldable pub programIn : String → Read

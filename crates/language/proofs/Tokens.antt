@@ -8,7 +8,9 @@ use mathlib.Core.Option.{Option, none, some}
 use lib.ListN.{length}
 use Rattle.language.specs.Tree as T
 use Rattle.language.specs.Fine.{EmptyAfterLabels}
-use Rattle.language.specs.Tree.{Constant, Label, Expression, Expressions, Suffixes, Operations, Command, Commands, Unlabelled, Repeats, Locals, Body, Function, Declaration, Program}
+use Rattle.language.specs.Tree.{Constant, Label, Expression, Expressions, Suffixes, Operations, Command, Commands, Unlabelled, Repeats, Locals}
+use Rattle.language.specs.Tree.{Body, Function, Declaration, Program}
+use Rattle.language.proofs.Cases.{clash}
 
 unfoldable pub labelsTokens : List Label → ℕ
 labelsTokens [] = 0
@@ -37,21 +39,18 @@ started u = cond (begun u) 1 0
 
 not-begun : (u : Unlabelled) → begun u ≡ false → u ≡ T.empty
 not-begun T.empty e = refl
-not-begun (T.assignment l r) e = let z : _≡_ {A = ℕ} 0 1 = cc in absurd (omega arith)
-not-begun (T.callCommand x) e = let z : _≡_ {A = ℕ} 0 1 = cc in absurd (omega arith)
-not-begun (T.test x c d) e = let z : _≡_ {A = ℕ} 0 1 = cc in absurd (omega arith)
-not-begun (T.guarded w x c) e = let z : _≡_ {A = ℕ} 0 1 = cc in absurd (omega arith)
-not-begun (T.for n x d k c) e = let z : _≡_ {A = ℕ} 0 1 = cc in absurd (omega arith)
-not-begun (T.switchon x cs) e = let z : _≡_ {A = ℕ} 0 1 = cc in absurd (omega arith)
-not-begun (T.resultis place x) e = let z : _≡_ {A = ℕ} 0 1 = cc in absurd (omega arith)
-not-begun (T.leave w place) e = let z : _≡_ {A = ℕ} 0 1 = cc in absurd (omega arith)
-not-begun (T.block ls cs) e = let z : _≡_ {A = ℕ} 0 1 = cc in absurd (omega arith)
-
-pub begun-started : (u : Unlabelled) → begun u ≡ true → 1 ≤ started u
-begun-started u e = rw e (omega arith)
+not-begun (T.assignment l r) e = cc
+not-begun (T.callCommand x) e = cc
+not-begun (T.test x c d) e = cc
+not-begun (T.guarded w x c) e = cc
+not-begun (T.for n x d k c) e = cc
+not-begun (T.switchon x cs) e = cc
+not-begun (T.resultis place x) e = cc
+not-begun (T.leave w place) e = cc
+not-begun (T.block ls cs) e = cc
 
 pub begun-not-empty : (u : Unlabelled) → begun u ≡ true → u ≡ T.empty → ⊥
-begun-not-empty u e z = let b : begun T.empty ≡ true = rw z at e in let y : _≡_ {A = ℕ} 0 1 = cc in omega arith
+begun-not-empty u e z = let b : begun T.empty ≡ true = rw z at e in clash (cc)
 
 pub labels-tokens : (ls : List Label) → length ls ≤ labelsTokens ls
 unfolding labelsTokens
@@ -136,7 +135,7 @@ module _ (loops : ℕ) where
 
   pub begun-tokens : (u : Unlabelled) → begun u ≡ true → 1 ≤ unlabelledTokens u
   unfolding tokens
-  begun-tokens T.empty e = let z : _≡_ {A = ℕ} 0 1 = cc in absurd (omega arith)
+  begun-tokens T.empty e = clash (cc)
   begun-tokens (T.assignment l r) e = omega arith
   begun-tokens (T.callCommand x) e = some-tokens x
   begun-tokens (T.test x c d) e = omega arith

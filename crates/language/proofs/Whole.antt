@@ -12,11 +12,15 @@ use Rattle.language.specs.Resolve.{declareAll, sideOf, under, scopeAfter
 use Rattle.language.specs.Faults.{twice, misplaced, doubled, inExpression}
 use Rattle.language.specs.Heights as H
 use Rattle.language.specs.Heights.{greatest, largestHeight, heightsOf}
-use Rattle.language.specs.Program.{Refused, accepted, refused, globalsAfter, manifestsAfter, functionsAfter, declaredBy, resolved, functionFaults, globalFaults, manifestFaults, takenAfter, afterDeclaration, among, groupNameFaults, groupFaults, groupOf, faultsFrom, functionsFrom, faultsOfProgram, functionsOf, heightFaults, hasStart, leastFrom, rulesRefuse}
+use Rattle.language.specs.Program.{Refused, accepted, refused, globalsAfter, manifestsAfter, functionsAfter, declaredBy, resolved}
+use Rattle.language.specs.Program.{functionFaults, globalFaults, manifestFaults, takenAfter, afterDeclaration, among, groupNameFaults}
+use Rattle.language.specs.Program.{groupFaults, groupOf, faultsFrom, functionsFrom, faultsOfProgram, functionsOf, heightFaults, hasStart}
+use Rattle.language.specs.Program.{leastFrom, rulesRefuse}
 use Rattle.language.specs.Resolved.{hasCase, hasDefault, Fun}
 use Rattle.language.specs.Operators.{applyMonadic, applyDyadic}
 use Rattle.language.specs.State.{Value, State, Result, unfinished, undefined, finished, returned, ok, bind}
-use Rattle.language.specs.Run.{Placement, from, selected, nth, positionOf, called, arguments, evaluated, assigned, assignedAll, sequence, cases, declared, executed, turned, sem}
+use Rattle.language.specs.Run.{Placement, from, selected, nth, positionOf, called, arguments, evaluated, assigned, assignedAll, sequence, cases}
+use Rattle.language.specs.Run.{declared, executed, turned, sem}
 use Rattle.language.specs.Whole.{refusalOf, onRead, funs, functionsIn, stringsAmong, stringsIn, globalsWith, stringCell, cellsAtStart, runWith}
 use Rattle.words.specs.Words.{value, wordOf, mul, quot, rem, below, shl, shr}
 use Rattle.text.specs.Packed.{pairs}
@@ -29,7 +33,10 @@ numberAndPlace (refused number place) = (number, place)
 
 -- a text's refusal, with scratch enough for any text: its number and place, or 0 and 0
 unfoldable pub judgedBytes : List ℕ → ℕ × ℕ
-unfolding answer placeOf sameBytes lookup inBlock judge declareAll sideOf under scopeAfter R.heightAfter labelsOf R.expression twice misplaced hasCase hasDefault among doubled inExpression H.count H.heightWith H.ofExpr heightsOf greatest largestHeight globalsAfter manifestsAfter functionsAfter declaredBy resolved functionFaults globalFaults manifestFaults takenAfter afterDeclaration groupNameFaults groupFaults groupOf faultsFrom functionsFrom faultsOfProgram functionsOf heightFaults hasStart leastFrom rulesRefuse
+unfolding answer placeOf sameBytes lookup inBlock judge declareAll sideOf under scopeAfter R.heightAfter labelsOf R.expression twice misplaced hasCase
+    hasDefault among doubled inExpression H.count H.heightWith H.ofExpr heightsOf greatest largestHeight globalsAfter manifestsAfter functionsAfter
+    declaredBy resolved functionFaults globalFaults manifestFaults takenAfter afterDeclaration groupNameFaults groupFaults groupOf faultsFrom
+    functionsFrom faultsOfProgram functionsOf heightFaults hasStart leastFrom rulesRefuse
 judgedBytes text = numberAndPlace (onRead text (answer text))
 
 unfoldable pub judged : String → ℕ × ℕ
@@ -62,7 +69,11 @@ tell (returned s) = tellState s
 tell (ok v s) = tellState s
 
 unfoldable pub runOf : (memory fuel : ℕ) → List ℕ → (input : List ℕ) → Result Value
-unfolding answer placeOf sameBytes lookup inBlock judge declareAll sideOf under scopeAfter R.heightAfter labelsOf R.expression H.count H.heightWith globalsAfter manifestsAfter functionsAfter declaredBy resolved takenAfter afterDeclaration groupOf functionsFrom functionsOf funs functionsIn stringsAmong stringsIn globalsWith stringCell cellsAtStart runWith applyMonadic applyDyadic bind hasCase hasDefault from selected nth positionOf called arguments evaluated assigned assignedAll sequence cases declared executed turned sem value wordOf mul quot rem below shl shr noGlobals pairs placed
+unfolding answer placeOf sameBytes lookup inBlock judge declareAll sideOf under scopeAfter R.heightAfter labelsOf R.expression H.count H.heightWith
+    globalsAfter manifestsAfter functionsAfter declaredBy resolved takenAfter afterDeclaration groupOf functionsFrom functionsOf funs functionsIn
+    stringsAmong stringsIn globalsWith stringCell cellsAtStart runWith applyMonadic applyDyadic bind hasCase hasDefault from selected nth positionOf
+    called arguments evaluated assigned assignedAll sequence cases declared executed turned sem value wordOf mul quot rem below shl shr noGlobals
+    pairs placed
 runOf memory fuel text input = runWith fuel (functionsIn text) (stringsIn text) (placed (functionsIn text) (stringsIn text)) memory input
 
 unfoldable pub ranBytes : (fuel : ℕ) → List ℕ → (input : List ℕ) → Told
