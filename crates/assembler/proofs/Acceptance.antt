@@ -1,12 +1,7 @@
 -- What an accepted text satisfies: the bounds of the image, and a table of labels that differ.
-use Prim.Native.Nat.{ℕ, zero, suc, _+_, _-_, _<_, _≤_}
-use mathlib.Core.Path.{_≡_, refl, sym, ap, _∙_}
-use mathlib.Core.Bool.{Bool, true, false, _&&_}
-use mathlib.Core.List.{List, [], _∷_, _++_}
-use native.Mathlib.Omega.{arith}
-use lib.Dec.{eqb, leb}
-use lib.ListN.{length, getD, replicate}
-use borrow.Author.Tests.{eqb-false, ne-eqb, leb-true}
+use Rattle.laws.proofs.Basics.{ℕ, zero, suc, _+_, _-_, _<_, _≤_, _≡_, refl, sym, ap, _∙_, List, [], _∷_, _++_, Bool, true, false, _&&_, length, getD}
+use Rattle.laws.proofs.Basics.{replicate, eqb, leb, arith, eqb-false, ne-eqb, leb-true}
+use Rattle.laws.proofs.Cases.{by-cases, contradiction, both-true}
 use Rattle.text.specs.Line.{refusal}
 use Rattle.items.specs.Item as I
 use Rattle.items.specs.Scan.{Ending, whole, unreadable, scan}
@@ -17,7 +12,7 @@ use Rattle.assembler.specs.Assemble.{start, image, refuse, accept, onUnk
 use Rattle.words.specs.Globals.{noGlobals}
 use Rattle.assembler.specs.Passes.{put, filled}
 use Rattle.assembler.specs.declared.Assembled.the-variants.{Accepted, Refused}
-use Rattle.assembler.proofs.Operands.{both-true, label-range}
+use Rattle.assembler.proofs.Operands.{label-range}
 use Rattle.assembler.proofs.Faults.{no-fault-ranged, no-fault-placed, no-fault-fits, label-placed}
 use Rattle.assembler.proofs.Writing.{length-put}
 use Rattle.assembler.proofs.Image.{ending, Ends, laid-ends, image-is}
@@ -32,18 +27,15 @@ Proper memory (l ∷ ls) = (defined ls (l .number) ≡ false) × (1 ≤ l .numbe
 module _ (n : ℕ) where
   not-first : (l : Label) (ls : List Label) → defined (l ∷ ls) n ≡ false → (l .number ≡ n → ⊥) × (defined ls n ≡ false)
   unfolding defined
-  not-first l ls h = go (eqb (l .number) n) refl
-    where
-      go : (t : Bool) → eqb (l .number) n ≡ t → (l .number ≡ n → ⊥) × (defined ls n ≡ false)
-      go true e = let y : true ≡ false = rw e at h in let z : _≡_ {A = ℕ} 0 1 = cc in absurd (omega arith)
-      go false e = (eqb-false _ _ e, rw e at h)
+  not-first l ls h = by-cases (eqb (l .number) n) (λ e. let y : true ≡ false = rw e at h in contradiction cc) (λ e. (eqb-false _ _ e, rw e at h))
 
   not-last : (ls : List Label) (l : Label) → defined ls n ≡ false → (l .number ≡ n → ⊥) → defined (ls ++ (l ∷ [])) n ≡ false
   unfolding defined
   not-last [] l h k = rw (ne-eqb (l .number) n k)
   not-last (m ∷ ls) l h k = rw (ne-eqb (m .number) n (not-first m ls h .0)) (not-last ls l (not-first m ls h .1) k)
 
-proper-more : (memory : ℕ) (ls : List Label) (l : Label) → Proper memory ls → defined ls (l .number) ≡ false → (1 ≤ l .number) × (l .number ≤ 32767) → l .address ≤ memory
+proper-more : (memory : ℕ) (ls : List Label) (l : Label) → Proper memory ls → defined ls (l .number) ≡ false → (1 ≤ l .number) × (l .number ≤ 32767)
+    → l .address ≤ memory
     → Proper memory (ls ++ (l ∷ []))
 unfolding Proper defined
 proper-more memory [] l p d r a = (refl, r .0, r .1, a, tt)
@@ -57,7 +49,8 @@ not-there (l ∷ ls) d n zero k h e = not-first n l ls h .0 e
 not-there (l ∷ ls) d n (suc j) k h e = not-there ls d n j (omega arith) (not-first n l ls h .1) e
 
 -- the numbers at two places of the table differ
-pub proper-differ : (memory : ℕ) (ls : List Label) (d : Label) → Proper memory ls → (i j : ℕ) → i < j → j < length ls → getD ls i d .number ≡ getD ls j d .number → ⊥
+pub proper-differ : (memory : ℕ) (ls : List Label) (d : Label) → Proper memory ls → (i j : ℕ) → i < j → j < length ls
+    → getD ls i d .number ≡ getD ls j d .number → ⊥
 unfolding Proper
 proper-differ memory [] d p i j h k e = omega arith
 proper-differ memory (l ∷ ls) d p i zero h k e = omega arith
@@ -65,7 +58,8 @@ proper-differ memory (l ∷ ls) d p zero (suc j) h k e = not-there ls d (l .numb
 proper-differ memory (l ∷ ls) d p (suc i) (suc j) h k e = proper-differ memory ls d (p .4) i j (omega arith) (omega arith) e
 
 module _ (memory room : ℕ) where
-  noted-proper : (at : ℕ) (labels : List Label) (i : I.Item) → at ≤ memory → fault memory room at labels i ≡ 0 → Proper memory labels → Proper memory (noted at labels i)
+  noted-proper : (at : ℕ) (labels : List Label) (i : I.Item) → at ≤ memory → fault memory room at labels i ≡ 0 → Proper memory labels
+      → Proper memory (noted at labels i)
   unfolding noted misplaced inRange
   noted-proper at labels (I.label n) a f p =
       proper-more memory labels (record { number = n; address = at }) p
@@ -85,10 +79,11 @@ module _ (memory room : ℕ) where
       go (fault memory room at labels (q .item)) refl (λ b r k. laid-proper (at + size (q .item)) (noted at labels (q .item)) qs b r k)
     where
       go : (n : ℕ) → fault memory room at labels (q .item) ≡ n
-          → (at + size (q .item) ≤ memory → Proper memory (noted at labels (q .item)) → lay memory room (at + size (q .item)) (noted at labels (q .item)) qs ≡ laid ls end → Proper memory ls)
+          → (at + size (q .item) ≤ memory → Proper memory (noted at labels (q .item)) → lay memory room (at + size (q .item))
+          (noted at labels (q .item)) qs ≡ laid ls end → Proper memory ls)
           → Proper memory ls
       go zero e more = more (no-fault-fits memory room at labels (q .item) e a) (noted-proper at labels (q .item) a e p) (rw e at h)
-      go (suc k) e more = let y : refused (suc k) (q .place) ≡ laid ls end = rw e at h in let z : _≡_ {A = ℕ} 0 1 = cc in absurd (omega arith)
+      go (suc k) e more = let y : refused (suc k) (q .place) ≡ laid ls end = rw e at h in contradiction cc
 
 -- ---- the image
 
@@ -100,9 +95,11 @@ ending-more at (p ∷ ps) = let h : at + size (p .item) ≤ ending (at + size (p
 length-filled : (labels : List Label) (at : ℕ) (memory : List ℕ) (items : List I.Placed) → length (filled labels at memory items) ≡ length memory
 unfolding filled
 length-filled labels at memory [] = refl
-length-filled labels at memory (p ∷ ps) = length-filled labels (at + size (p .item)) (put labels at memory (p .item)) ps ∙ length-put labels at memory (p .item)
+length-filled labels at memory (p ∷ ps) =
+    length-filled labels (at + size (p .item)) (put labels at memory (p .item)) ps ∙ length-put labels at memory (p .item)
 
-length-image : (memory : ℕ) (labels : List Label) (items : List I.Placed) (end : ℕ) → 416 ≤ memory → Ends memory 416 items end → length (image memory labels items end) ≡ memory
+length-image : (memory : ℕ) (labels : List Label) (items : List I.Placed) (end : ℕ) → 416 ≤ memory → Ends memory 416 items end
+    → length (image memory labels items end) ≡ memory
 length-image memory labels items end h e =
     ap length (sym (image-is memory labels items end h e))
     ∙ length-filled labels 416 (start ++ noGlobals ++ replicate (memory - 416) 0) items
@@ -129,7 +126,7 @@ module _ (text : List ℕ) (memory room : ℕ) {end : ℕ} where
     known-all : (us : List ℕ) → onUnknowns text memory room us labels to (scan text .items) .answer ≡ Accepted end → (us ≡ []) × (to ≡ end)
     unfolding accept refuse
     known-all [] h = (refl, cc)
-    known-all (u ∷ us) h = let z : _≡_ {A = ℕ} 0 1 = cc in absurd (omega arith)
+    known-all (u ∷ us) h = contradiction cc
 
     ended-whole : (e : Ending) → onEnding text memory room e labels to (scan text .items) .answer ≡ Accepted end
         → (e ≡ whole) × (unknowns labels (scan text .items) ≡ []) × (to ≡ end)
@@ -137,12 +134,14 @@ module _ (text : List ℕ) (memory room : ℕ) {end : ℕ} where
     ended-whole whole h =
         let k : (unknowns labels (scan text .items) ≡ []) × (to ≡ end) = known-all (unknowns labels (scan text .items)) h in
         (refl, k .0, k .1)
-    ended-whole (unreadable p) h = let z : _≡_ {A = ℕ} 0 1 = cc in absurd (omega arith)
+    ended-whole (unreadable p) h = contradiction cc
 
-  module _ (least : 512 ≤ memory) (most : memory ≤ 32768) (within : assembled text memory room ≡ onLaid text memory room (lay memory room 416 [] (scan text .items)) (scan text)) where
-    by-layout : (o : Laid) → lay memory room 416 [] (scan text .items) ≡ o → onLaid text memory room o (scan text) .answer ≡ Accepted end → Acceptance text memory room end
+  module _ (least : 512 ≤ memory) (most : memory ≤ 32768) (within : assembled text memory room ≡ onLaid text memory room
+      (lay memory room 416 [] (scan text .items)) (scan text)) where
+    by-layout : (o : Laid) → lay memory room 416 [] (scan text .items) ≡ o → onLaid text memory room o (scan text) .answer ≡ Accepted end
+        → Acceptance text memory room end
     unfolding refuse accept Proper
-    by-layout (refused n p) e h = let z : _≡_ {A = ℕ} 0 1 = cc in absurd (omega arith)
+    by-layout (refused n p) e h = contradiction cc
     by-layout (laid ls to) e h =
         let w : (scan text .ending ≡ whole) × (unknowns ls (scan text .items) ≡ []) × (to ≡ end) = ended-whole ls (scan text .ending) h in
         let l : lay memory room 416 [] (scan text .items) ≡ laid ls end = e ∙ rw (w .2) in
@@ -173,5 +172,4 @@ module _ (text : List ℕ) (memory room : ℕ) {end : ℕ} where
           (lay memory room 416 [] (scan text .items)) refl (rw e at h)
       go false e =
           let y : Refused (refusal text 24 0) ≡ Accepted end = rw e at h in
-          let z : _≡_ {A = ℕ} 0 1 = cc in
-          absurd (omega arith)
+          contradiction cc

@@ -1,17 +1,15 @@
 -- Both passes together: each way through `assemble` gives what the definition says.
-use Prim.Native.Nat.{ℕ, _-_, _<_, _≤_}
-use mathlib.Core.Path.{_≡_, refl, sym, ap, _∙_}
-use mathlib.Core.List.{List, [], _∷_, _++_}
-use native.Mathlib.Omega.{arith}
-use lib.ListN.{length, replicate, take, length-replicate}
-use borrow.Author.Tests.{le-leb, lt-leb}
+use Rattle.laws.proofs.Basics.{ℕ, _-_, _<_, _≤_, _≡_, refl, sym, ap, _∙_, List, [], _∷_, _++_, length, take, replicate, length-replicate, arith}
+use Rattle.laws.proofs.Basics.{le-leb, lt-leb}
+use Rattle.laws.proofs.Cases.{contradiction}
 use Rattle.items.specs.Item.{Placed}
 use Rattle.items.specs.Scan.{Ending, whole, unreadable, Scan, ends, scan}
 use Rattle.assembler.specs.declared.Label.{Label}
 use Rattle.assembler.specs.Layout.{vacant, Laid, laid, refused, lay, unknowns}
 use Rattle.assembler.specs.Assemble.{start, image, Assembly, refuse, accept, onLaid, assembled}
 use Rattle.words.specs.Globals.{noGlobals}
-use Rattle.assembler.specs.Passes.{records, listed, Table, afterEnding, laidBy, Lays, FitsAll, asWritten, WritesAll, Ready, Gives, AssemblesKeys}
+use Rattle.assembler.specs.Passes.{records, listed, Table, afterEnding, laidBy, Lays, FitsAll, asWritten, WritesAll, Ready, Gives}
+use Rattle.assembler.specs.Passes.{AssemblesKeys}
 use Rattle.assembler.specs.declared.Assembled.{Assembled}
 use Rattle.assembler.specs.declared.Assembled.the-variants.{Accepted}
 use Rattle.assembler.specs.declared.Placing.{Placing}
@@ -28,8 +26,8 @@ use Rattle.assembler.proofs.Image.{Ends, laid-ends, image-is}
 laid-was : (e : Ending) (o : Laid) {labels : List Label} {end : ℕ} → laid labels end ≡ afterEnding e o → (e ≡ whole) × (o ≡ laid labels end)
 unfolding afterEnding
 laid-was whole o h = (refl, sym h)
-laid-was (unreadable p) (laid ls n) h = let z : _≡_ {A = ℕ} 0 1 = cc in absurd (omega arith)
-laid-was (unreadable p) (refused k q) h = let z : _≡_ {A = ℕ} 0 1 = cc in absurd (omega arith)
+laid-was (unreadable p) (laid ls n) h = contradiction cc
+laid-was (unreadable p) (refused k q) h = contradiction cc
 
 module _ (text : List ℕ) (memory room number place : ℕ) where
   same-refusal : {n p : ℕ} → refused number place ≡ refused n p → refuse text memory room number place ≡ refuse text memory room n p
@@ -43,7 +41,7 @@ module _ (text : List ℕ) (memory room number place : ℕ) where
   unfolding afterEnding
   refused-was (refused n p) whole items h = same-refusal h
   refused-was (refused n p) (unreadable q) items h = same-refusal h
-  refused-was (laid ls n) whole items h = let z : _≡_ {A = ℕ} 0 1 = cc in absurd (omega arith)
+  refused-was (laid ls n) whole items h = contradiction cc
   refused-was (laid ls n) (unreadable q) items h = same-refusal h
 
 -- ---- the table of an accepted text
@@ -76,7 +74,8 @@ module _ (text m₀ table : List ℕ) (s : Scan) {layout : Placing} {table₁ in
   unfolding laidBy
   gives-fault {number} {place} q g =
       let h : refused number place ≡ afterEnding (s .ending) (lay (length m₀) (length table) 416 [] (s .items)) = (rw q at (l .answers)) in
-      let e : refuse text (length m₀) (length table) number place ≡ wanted = refused-was text (length m₀) (length table) number place (lay (length m₀) (length table) 416 [] (s .items)) (s .ending) (s .items) h in
+      let e : refuse text (length m₀) (length table) number place ≡ wanted = refused-was text (length m₀) (length table) number place
+      (lay (length m₀) (length table) 416 [] (s .items)) (s .ending) (s .items) h in
       rw (← e, ← l .same) g
 
   module _ {end : ℕ} (q : layout ≡ P.Placed end) (b : 416 ≤ length m₀) where
@@ -101,7 +100,7 @@ module _ (text m₀ table : List ℕ) (s : Scan) {layout : Placing} {table₁ in
         known-all : (us : List ℕ) → W.Whole ≡ asWritten us → us ≡ []
         unfolding asWritten
         known-all [] h = refl
-        known-all (u ∷ us) h = let z : _≡_ {A = ℕ} 0 1 = cc in absurd (omega arith)
+        known-all (u ∷ us) h = contradiction cc
 
         pub gives-image : written ≡ W.Whole → Gives wanted (Accepted end) m₂ table₁
         unfolding accept
@@ -117,7 +116,7 @@ module _ (text m₀ table : List ℕ) (s : Scan) {layout : Placing} {table₁ in
 
         unknown-first : (us : List ℕ) {place : ℕ} → W.Unknown place ≡ asWritten us → (v : List ℕ) × (us ≡ place ∷ v)
         unfolding asWritten
-        unknown-first [] h = let z : _≡_ {A = ℕ} 0 1 = cc in absurd (omega arith)
+        unknown-first [] h = contradiction cc
         unknown-first (u ∷ us) {place} h = let z : u ≡ place = cc in (us, rw z)
 
         pub gives-unknown : {place : ℕ} {answer : Assembled} {m′ t′ : List ℕ} → written ≡ W.Unknown place
@@ -148,13 +147,15 @@ module _ (text m₀ t₀ : List ℕ) {m₁ t₁ : List ℕ} (m : m₁ ≡ replic
     unfolding assembled
     assembles-short h g = assembles (rw (lt-leb 512 (length m₁) h)) g
 
-    pub assembles-long : 512 ≤ length m₁ → 32768 < length m₁ → Gives (refuse text (length m₁) (length t₁) 24 0) answer m′ t′ → AssemblesKeys text m₀ t₀ answer m′ t′
+    pub assembles-long : 512 ≤ length m₁ → 32768 < length m₁ → Gives (refuse text (length m₁) (length t₁) 24 0) answer m′ t′
+        → AssemblesKeys text m₀ t₀ answer m′ t′
     unfolding assembled
     assembles-long h k g = assembles (rw (le-leb 512 (length m₁) h, lt-leb (length m₁) 32768 k)) g
 
     module _ (h : 512 ≤ length m₁) (k : length m₁ ≤ 32768) where
       pub assembles-from : (s : Scan) → scan text ≡ s
-          → Gives (onLaid text (length m₁) (length t₁) (lay (length m₁) (length t₁) 416 [] (s .items)) s) answer m′ t′ → AssemblesKeys text m₀ t₀ answer m′ t′
+          → Gives (onLaid text (length m₁) (length t₁) (lay (length m₁) (length t₁) 416 [] (s .items)) s) answer m′ t′ → AssemblesKeys text m₀ t₀
+          answer m′ t′
       unfolding assembled
       assembles-from s e g = assembles (rw (le-leb 512 (length m₁) h, le-leb (length m₁) 32768 k, e)) g
 

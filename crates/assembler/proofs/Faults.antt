@@ -1,12 +1,6 @@
 -- An item's fault: out of range, or by what `misplaced` says of one in range; and what an item without fault satisfies.
-use Prim.Native.Nat.{ℕ, _+_, _<_, _≤_}
-use mathlib.Core.Path.{_≡_, refl}
-use mathlib.Core.Bool.{Bool, true, false}
-use mathlib.Core.List.{List}
-use native.Mathlib.Omega.{arith}
-use lib.Dec.{leb, ltb}
-use lib.ListN.{length}
-use borrow.Author.Tests.{leb-false, ltb-false}
+use Rattle.laws.proofs.Basics.{ℕ, _+_, _<_, _≤_, _≡_, refl, List, Bool, true, false, length, ltb, leb, arith, ltb-false, leb-false}
+use Rattle.laws.proofs.Cases.{by-cases}
 use Rattle.items.specs.Item as I
 use Rattle.assembler.specs.Words.{inRange, size}
 use Rattle.assembler.specs.declared.Label.{Label}
@@ -28,11 +22,7 @@ module _ (memory room at : ℕ) (labels : List Label) (i : I.Item) where
 module _ (memory room at : ℕ) (labels : List Label) where
   pub no-fault-ranged : (i : I.Item) → fault memory room at labels i ≡ 0 → inRange i ≡ true
   unfolding fault
-  no-fault-ranged i h = go (inRange i) refl
-    where
-      go : (t : Bool) → inRange i ≡ t → inRange i ≡ true
-      go true e = e
-      go false e = let z : _≡_ {A = ℕ} 23 0 = rw e at h in absurd (omega arith)
+  no-fault-ranged i h = by-cases (inRange i) (λ e. e) (λ e. let z : _≡_ {A = ℕ} 23 0 = rw e at h in absurd (omega arith))
 
   pub no-fault-placed : (i : I.Item) → fault memory room at labels i ≡ 0 → misplaced memory room at labels i ≡ 0
   unfolding fault
@@ -47,11 +37,7 @@ module _ (memory room at : ℕ) (labels : List Label) where
       go false false p q = (p, leb-false _ _ q)
 
   within : (words : ℕ) → beyond memory at words ≡ 0 → at + words ≤ memory
-  within words h = go (ltb memory (at + words)) refl
-    where
-      go : (t : Bool) → ltb memory (at + words) ≡ t → at + words ≤ memory
-      go true e = let z : _≡_ {A = ℕ} 24 0 = rw e at h in absurd (omega arith)
-      go false e = ltb-false _ _ e
+  within words h = by-cases (ltb memory (at + words)) (λ e. let z : _≡_ {A = ℕ} 24 0 = rw e at h in absurd (omega arith)) (λ e. ltb-false _ _ e)
 
   pub no-fault-label : (n : ℕ) → fault memory room at labels (I.label n) ≡ 0 → (n ≤ 32767) × (length labels < room) × (defined labels n ≡ false)
   unfolding misplaced inRange

@@ -1,12 +1,9 @@
 -- The memory after every item is the image: items written one after another are words in a row, and globals beside them.
-use Prim.Native.Nat.{ℕ, zero, suc, _+_, _-_, _/_, _<_, _≤_}
-use mathlib.Core.Path.{_≡_, refl, ap, _∙_}
-use mathlib.Core.Bool.{Bool, true, false, cond}
-use mathlib.Core.List.{List, [], _∷_, _++_, append-assoc, append-nil}
-use native.Mathlib.Omega.{arith}
-use native.Mathlib.Nat.{sub-zero}
-use lib.ListN.{length, set, replicate, drop, length-append, length-replicate, length-set, replicate-append-replicate}
-use lib.Seq.{sets, sets-eq, set-append-left, take-at, drop-at, drop-append-add}
+use Rattle.laws.proofs.Basics.{ℕ, zero, suc, _+_, _-_, _<_, _≤_, _≡_, refl, ap, _∙_, List, [], _∷_, _++_, append-assoc, append-nil, Bool, true, false}
+use Rattle.laws.proofs.Basics.{cond, length, set, drop, replicate, length-append, length-set, length-replicate, replicate-append-replicate, take-at}
+use Rattle.laws.proofs.Basics.{drop-at, drop-append-add, sets, sets-eq, sub-zero, arith}
+use Rattle.laws.proofs.Cases.{contradiction}
+use lib.Seq.{set-append-left}
 use Rattle.items.specs.Item as I
 use Rattle.assembler.specs.Words.{short, inRange, size, words}
 use Rattle.text.proofs.Packed.{length-pairs}
@@ -33,7 +30,8 @@ drop-zeros n k h =
     rw (← e) (drop-at (replicate n 0) (replicate (k - n) 0) n (length-replicate n 0))
 
 -- words over zeros
-over-zeros : (front ws : List ℕ) (k : ℕ) → length ws ≤ k → sets (front ++ replicate k 0) (length front) ws ≡ front ++ ws ++ replicate (k - length ws) 0
+over-zeros : (front ws : List ℕ) (k : ℕ) → length ws ≤ k
+    → sets (front ++ replicate k 0) (length front) ws ≡ front ++ ws ++ replicate (k - length ws) 0
 over-zeros front ws k h =
     let n : length (front ++ replicate k 0) ≡ length front + k = length-append front (replicate k 0) ∙ rw length-replicate in
     sets-eq ws (front ++ replicate k 0) (length front) (omega arith)
@@ -66,19 +64,22 @@ pub record Ends (memory at : ℕ) (items : List I.Placed) (end : ℕ) : Type 0 w
   pub within : end ≤ memory
 
 module _ (memory room : ℕ) where
-  pub laid-ends : (at : ℕ) (labels : List Label) (items : List I.Placed) {ls : List Label} {end : ℕ} → at ≤ memory → lay memory room at labels items ≡ laid ls end → Ends memory at items end
+  pub laid-ends : (at : ℕ) (labels : List Label) (items : List I.Placed) {ls : List Label} {end : ℕ} → at ≤ memory
+      → lay memory room at labels items ≡ laid ls end → Ends memory at items end
   unfolding lay ending FitsAll
   laid-ends at labels [] {ls} {end} l h = let z : at ≡ end = cc in record { fits = tt; ends = z; within = rw z at l }
-  laid-ends at labels (p ∷ ps) {ls} {end} l h = go (fault memory room at labels (p .item)) refl (λ b k. laid-ends (at + size (p .item)) (noted at labels (p .item)) ps b k)
+  laid-ends at labels (p ∷ ps) {ls} {end} l h =
+      go (fault memory room at labels (p .item)) refl (λ b k. laid-ends (at + size (p .item)) (noted at labels (p .item)) ps b k)
     where
       go : (n : ℕ) → fault memory room at labels (p .item) ≡ n
-          → (at + size (p .item) ≤ memory → lay memory room (at + size (p .item)) (noted at labels (p .item)) ps ≡ laid ls end → Ends memory (at + size (p .item)) ps end)
+          → (at + size (p .item) ≤ memory → lay memory room (at + size (p .item)) (noted at labels (p .item)) ps ≡ laid ls end → Ends memory
+          (at + size (p .item)) ps end)
           → Ends memory at (p ∷ ps) end
       go zero e more =
           let b : at + size (p .item) ≤ memory = no-fault-fits memory room at labels (p .item) e l in
           let r : Ends memory (at + size (p .item)) ps end = more b (rw e at h) in
           record { fits = (no-fault-ranged memory room at labels (p .item) e, b, r .fits); ends = r .ends; within = r .within }
-      go (suc k) e more = let y : refused (suc k) (p .place) ≡ laid ls end = rw e at h in let z : _≡_ {A = ℕ} 0 1 = cc in absurd (omega arith)
+      go (suc k) e more = let y : refused (suc k) (p .place) ≡ laid ls end = rw e at h in contradiction cc
 
 -- ---- one item after another, past a start of 16 words
 
@@ -93,7 +94,8 @@ module _ (labels : List Label) (st : List ℕ) (sixteen : length st ≡ 16) wher
 
     put-words : (ws : List ℕ) → length ws ≤ k → sets (so-far gs pr k) at ws ≡ so-far gs (pr ++ ws) (k - length ws)
     put-words ws h =
-        let o : sets (so-far gs pr k) (length (st ++ gs ++ pr)) ws ≡ st ++ gs ++ pr ++ ws ++ replicate (k - length ws) 0 = over-zeros (st ++ gs ++ pr) ws k h in
+        let o : sets (so-far gs pr k) (length (st ++ gs ++ pr)) ws ≡ st ++ gs ++ pr ++ ws ++ replicate (k - length ws) 0 = over-zeros (st ++ gs ++ pr)
+        ws k h in
         (rw front-length at o) ∙ rw (append-assoc (st ++ gs) pr ws)
 
     put-global : (n v : ℕ) → n < 400 → set (so-far gs pr k) (16 + n) v ≡ so-far (set gs n v) pr k
@@ -104,7 +106,8 @@ module _ (labels : List Label) (st : List ℕ) (sixteen : length st ≡ 16) wher
         set-append-left (st ++ gs ++ pr) (replicate k 0) (16 + n) v p
         ∙ rw (set-append-left (st ++ gs) pr (16 + n) v (omega arith), q)
 
-    put-item : (i : I.Item) → size i ≤ k → sets (so-far gs pr k) at (words (addressOf labels) i) ≡ so-far gs (pr ++ words (addressOf labels) i) (k - size i)
+    put-item : (i : I.Item) → size i ≤ k
+        → sets (so-far gs pr k) at (words (addressOf labels) i) ≡ so-far gs (pr ++ words (addressOf labels) i) (k - size i)
     put-item i h =
         let n : length (words (addressOf labels) i) ≡ size i = length-words (addressOf labels) i in
         rw (← n) (put-words (words (addressOf labels) i) (omega arith))
@@ -131,13 +134,16 @@ module _ (labels : List Label) (st : List ℕ) (sixteen : length st ≡ 16) wher
   length-after gs (I.string cs) = refl
   length-after gs (I.global n m) = length-set gs n (addressOf labels m)
 
-  filled-is : (items : List I.Placed) (gs pr : List ℕ) (k at memory : ℕ) → 416 + length pr ≡ at → length gs ≡ 400 → at + k ≡ memory → FitsAll memory at items
-      → filled labels at (so-far gs pr k) items ≡ st ++ globals labels gs items ++ (pr ++ program labels items) ++ replicate (memory - ending at items) 0
+  filled-is : (items : List I.Placed) (gs pr : List ℕ) (k at memory : ℕ) → 416 + length pr ≡ at → length gs ≡ 400 → at + k ≡ memory
+      → FitsAll memory at items
+      → filled labels at (so-far gs pr k) items ≡ st ++ globals labels gs items ++ (pr ++ program labels items) ++ replicate
+      (memory - ending at items) 0
   unfolding filled globals program FitsAll ending
   filled-is [] gs pr k at memory e g s f = let z : memory - at ≡ k = omega arith in rw (append-nil, z)
   filled-is (p ∷ ps) gs pr k at memory e g s f =
       let n : length (words (addressOf labels) (p .item)) ≡ size (p .item) = length-words (addressOf labels) (p .item) in
-      let l : length (pr ++ words (addressOf labels) (p .item)) ≡ length pr + length (words (addressOf labels) (p .item)) = length-append pr (words (addressOf labels) (p .item)) in
+      let l : length (pr ++ words (addressOf labels) (p .item)) ≡ length pr + length (words (addressOf labels) (p .item)) = length-append pr
+      (words (addressOf labels) (p .item)) in
       let h : at + size (p .item) ≤ memory = f .1 in
       rw (put-is gs pr k at e g (p .item) (f .0) (omega arith))
       (filled-is ps (globalsAfter labels gs (p .item)) (pr ++ words (addressOf labels) (p .item)) (k - size (p .item)) (at + size (p .item)) memory

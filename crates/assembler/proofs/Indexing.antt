@@ -1,13 +1,8 @@
 -- The index of the labels: what its entries say, what a new one adds, and that it serves for the records in both passes.
-use Prim.Native.Nat.{ℕ, zero, suc, _+_, _<_}
-use mathlib.Core.Path.{_≡_, refl, sym, ap, _∙_}
-use mathlib.Core.Bool.{Bool, true, false, cond}
-use mathlib.Core.List.{List, [], _∷_, _++_}
-use native.Mathlib.Omega.{arith}
-use lib.Dec.{eqb}
-use lib.ListN.{length, getD, set, replicate, length-append, length-replicate, length-set}
-use lib.Seq.{getD-set-same, getD-set-other}
-use borrow.Author.Tests.{eq-eqb, ne-eqb, eqb-true, eqb-false}
+use Rattle.laws.proofs.Basics.{ℕ, zero, suc, _+_, _<_, _≡_, refl, sym, ap, _∙_, List, [], _∷_, _++_, Bool, true, false, cond, length, getD, set}
+use Rattle.laws.proofs.Basics.{replicate, length-append, length-set, length-replicate, getD-set-same, getD-set-other, eqb, arith, eqb-true, eqb-false}
+use Rattle.laws.proofs.Basics.{eq-eqb, ne-eqb}
+use Rattle.laws.proofs.Cases.{by-cases, contradiction}
 use Rattle.items.specs.Item as I
 use Rattle.items.specs.Scan.{Scan}
 use Rattle.assembler.specs.Words.{words, operandWord}
@@ -27,7 +22,7 @@ entry (suc a) = At (suc a)
 
 entry-missing : (a : ℕ) → entry a ≡ Missing → a ≡ 0
 entry-missing zero e = refl
-entry-missing (suc a) e = let z : _≡_ {A = ℕ} 0 1 = cc in absurd (omega arith)
+entry-missing (suc a) e = contradiction cc
 
 entry-at : (a : ℕ) → (a ≡ 0 → ⊥) → entry a ≡ At a
 entry-at zero h = absurd (h refl)
@@ -88,20 +83,12 @@ one-more k (suc n) a (suc b ∷ index) h e = ap suc (one-more (suc k) n a index 
 -- a label that is not there differs from the first one, and is not behind it
 not-first : (l : Label) (ls : List Label) (n : ℕ) → defined (l ∷ ls) n ≡ false → (l .number ≡ n → ⊥) × (defined ls n ≡ false)
 unfolding defined
-not-first l ls n h = go (eqb (l .number) n) refl
-  where
-    go : (b : Bool) → eqb (l .number) n ≡ b → (l .number ≡ n → ⊥) × (defined ls n ≡ false)
-    go true e = let y : true ≡ false = rw e at h in let z : _≡_ {A = ℕ} 0 1 = cc in absurd (omega arith)
-    go false e = (eqb-false _ _ e, rw e at h)
+not-first l ls n h = by-cases (eqb (l .number) n) (λ e. let y : true ≡ false = rw e at h in contradiction cc) (λ e. (eqb-false _ _ e, rw e at h))
 
 found-more : (labels : List Label) (n a m : ℕ) → defined labels n ≡ false
     → asFound (labels ++ (record { number = n; address = a } ∷ [])) m ≡ cond (eqb n m) (At a) (asFound labels m)
 unfolding asFound defined addressOf
-found-more [] n a m h = go (eqb n m) refl
-  where
-    go : (b : Bool) → eqb n m ≡ b → asFound (record { number = n; address = a } ∷ []) m ≡ cond (eqb n m) (At a) Missing
-    go true e = simp e
-    go false e = simp e
+found-more [] n a m h = by-cases (eqb n m) (λ e. simp e) (λ e. simp e)
 found-more (l ∷ ls) n a m h = go (eqb (l .number) m) refl (found-more ls n a m (not-first l ls n h .1))
   where
     go : (b : Bool) → eqb (l .number) m ≡ b → asFound (ls ++ (record { number = n; address = a } ∷ [])) m ≡ cond (eqb n m) (At a) (asFound ls m)

@@ -1,10 +1,6 @@
 -- The first pass: what its loop keeps, and what each of its answers gives.
-use Prim.Native.Nat.{ℕ, zero, suc, _+_, _<_, _≤_}
-use mathlib.Core.Path.{_≡_, refl, sym, _∙_}
-use mathlib.Core.Bool.{true}
-use mathlib.Core.List.{List, []}
-use native.Mathlib.Omega.{arith}
-use lib.ListN.{length, replicate, take, drop}
+use Rattle.laws.proofs.Basics.{ℕ, zero, suc, _+_, _<_, _≤_, _≡_, refl, sym, _∙_, List, [], true, length, take, drop, replicate, arith}
+use Rattle.laws.proofs.Cases.{contradiction}
 use Rattle.items.specs.Item as I
 use Rattle.items.specs.Scan.{Ending, whole, unreadable, Scan, ends, goesOn, body}
 use Rattle.items.specs.declared.Item.{Item}
@@ -33,7 +29,8 @@ module _ (memory room at : ℕ) (labels : List Label) (place : ℕ) (i : I.Item)
   lay-refused zero e h = absurd (h refl)
   lay-refused (suc k) e h = rw e (after-refused (s .ending) (suc k) place)
 
-  lay-on : fault memory room at labels i ≡ 0 → laying memory room at labels (goesOn place i s) ≡ laying memory room (at + size i) (noted at labels i) s
+  lay-on : fault memory room at labels i ≡ 0
+      → laying memory room at labels (goesOn place i s) ≡ laying memory room (at + size i) (noted at labels i) s
   unfolding lay
   lay-on e = rw e
 
@@ -84,7 +81,7 @@ module _ (text : List ℕ) (memory from : ℕ) (table₀ : List ℕ) (place at c
         answers = sym (l .so-far ∙ e);
         tabled = l .tabled;
         indexed = l .indexed;
-        fits = λ d q. let z : _≡_ {A = ℕ} 0 1 = cc in absurd (omega arith);
+        fits = λ d q. contradiction cc;
       }
 
   pub laying-not : {p : ℕ} → body 0 place (drop place text) ≡ ends (unreadable p)
@@ -106,7 +103,9 @@ module _ (text : List ℕ) (memory from : ℕ) (table₀ : List ℕ) (place at c
     fault-is = sym (fault-blank memory (length table₀) at (records (take count table)) (i .read)) ∙ (rw (i .same) at known-fault)
 
     pub laying-fault : (r ≡ 0 → ⊥) → Lays memory (body 0 from (drop from text)) table₀ (P.Fault r first) table index
-    laying-fault h = refusal-lays r first (rw (i .goes-on) (lay-refused memory (length table₀) at (records (take count table)) first (i .read) (body 0 past (drop past text)) r fault-is h))
+    laying-fault h =
+        refusal-lays r first (rw (i .goes-on) (lay-refused memory (length table₀) at (records (take count table)) first (i .read)
+        (body 0 past (drop past text)) r fault-is h))
 
     module _ (z : r ≡ 0) where
       pub laying-in-range : inRange (itemOf blank item) ≡ true

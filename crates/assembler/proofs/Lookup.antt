@@ -1,14 +1,7 @@
 -- Looking a label up: what an answer says, and the public look-up.
-use Prim.Native.Nat.{ℕ, zero, suc, _+_, _<_, _≤_}
-use mathlib.Core.Path.{_≡_, refl, sym, _∙_}
-use mathlib.Core.Bool.{Bool, true, false}
-use mathlib.Core.List.{List, [], _∷_, _++_}
-use native.Mathlib.Omega.{arith}
-use native.Mathlib.Numerals.{add-one}
-use lib.ListN.{length, getD, replicate, drop, drop-of-length-le, length-map}
-use lib.Seq.{drop-cons}
-use lib.Dec.{eqb}
-use borrow.Author.Tests.{eq-eqb, ne-eqb, le-leb, lt-leb}
+use Rattle.laws.proofs.Basics.{ℕ, zero, suc, _+_, _<_, _≤_, _≡_, refl, sym, _∙_, List, [], _∷_, _++_, Bool, true, false, length, getD, drop}
+use Rattle.laws.proofs.Basics.{replicate, length-map, drop-of-length-le, drop-cons, eqb, add-one, eq-eqb, ne-eqb, le-leb, lt-leb}
+use Rattle.laws.proofs.Cases.{by-cases, contradiction}
 use Rattle.assembler.specs.declared.Label.{Label}
 use Rattle.assembler.specs.Layout.{vacant, defined, addressOf}
 use Rattle.assembler.specs.Assemble.{lookedUp}
@@ -17,21 +10,18 @@ use Rattle.assembler.specs.declared.Found.{Found}
 use Rattle.assembler.specs.declared.Found.the-variants.{At, Missing}
 
 -- an answer's two readings
-pub was-at : (labels : List Label) (n : ℕ) {f : Found} {a : ℕ} → f ≡ asFound labels n → f ≡ At a → (defined labels n ≡ true) × (addressOf labels n ≡ a)
+pub was-at : (labels : List Label) (n : ℕ) {f : Found} {a : ℕ} → f ≡ asFound labels n → f ≡ At a
+    → (defined labels n ≡ true) × (addressOf labels n ≡ a)
 unfolding asFound
-was-at labels n {f} {a} p q = go (defined labels n) refl
-  where
-    go : (t : Bool) → defined labels n ≡ t → (defined labels n ≡ true) × (addressOf labels n ≡ a)
-    go true e = let z : At (addressOf labels n) ≡ At a = (rw e at (sym p)) ∙ q in (e, cc)
-    go false e = let y : Missing ≡ At a = (rw e at (sym p)) ∙ q in let z : _≡_ {A = ℕ} 0 1 = cc in absurd (omega arith)
+was-at labels n {f} {a} p q =
+    by-cases (defined labels n) (λ e. let z : At (addressOf labels n) ≡ At a = (rw e at (sym p)) ∙ q in (e, cc))
+    (λ e. let y : Missing ≡ At a = (rw e at (sym p)) ∙ q in contradiction cc)
 
 pub was-missing : (labels : List Label) (n : ℕ) {f : Found} → f ≡ asFound labels n → f ≡ Missing → defined labels n ≡ false
 unfolding asFound
-was-missing labels n {f} p q = go (defined labels n) refl
-  where
-    go : (t : Bool) → defined labels n ≡ t → defined labels n ≡ false
-    go true e = let y : At (addressOf labels n) ≡ Missing = (rw e at (sym p)) ∙ q in let z : _≡_ {A = ℕ} 0 1 = cc in absurd (omega arith)
-    go false e = e
+was-missing labels n {f} p q =
+    by-cases (defined labels n) (λ e. let y : At (addressOf labels n) ≡ Missing = (rw e at (sym p)) ∙ q in contradiction cc)
+    (λ e. e)
 
 pub length-records : (keys : List ℕ) → length (records keys) ≡ length keys
 unfolding records
@@ -52,11 +42,9 @@ module _ (room : ℕ) (labels : List Label) (count n : ℕ) {f : Found} (l : len
 
 first-told : (l : Label) (ls : List Label) → lookedUp (l ∷ ls) (l .number) ≡ toldBy l
 unfolding lookedUp defined addressOf
-first-told l ls = go (eqb (l .number) 0) refl
-  where
-    go : (b : Bool) → eqb (l .number) 0 ≡ b → lookedUp (l ∷ ls) (l .number) ≡ toldBy l
-    go true e = simp (eq-eqb (l .number) (l .number) refl, e)
-    go false e = simp (eq-eqb (l .number) (l .number) refl, e)
+first-told l ls =
+    by-cases (eqb (l .number) 0) (λ e. simp (eq-eqb (l .number) (l .number) refl, e))
+    (λ e. simp (eq-eqb (l .number) (l .number) refl, e))
 
 first-other : (l : Label) (ls : List Label) (n : ℕ) → (l .number ≡ n → ⊥) → lookedUp (l ∷ ls) n ≡ lookedUp ls n
 unfolding lookedUp defined addressOf
@@ -68,7 +56,8 @@ looked-none labels n = refl
 module _ (labels : List Label) (n i : ℕ) (inv : lookedUp labels n ≡ lookedUp (drop i labels) n) where
   pub looked-at : {r : Found} → i < length labels → getD labels i vacant .number ≡ n → r ≡ toldBy (getD labels i vacant) → r ≡ lookedUp labels n
   looked-at h e q =
-      let t : lookedUp (getD labels i vacant ∷ drop (suc i) labels) n ≡ toldBy (getD labels i vacant) = rw (← e) (first-told (getD labels i vacant) (drop (suc i) labels)) in
+      let t : lookedUp (getD labels i vacant ∷ drop (suc i) labels) n ≡ toldBy (getD labels i vacant) = rw (← e)
+      (first-told (getD labels i vacant) (drop (suc i) labels)) in
       sym (inv ∙ rw (drop-cons labels i vacant h) t ∙ sym q)
 
   pub looked-on : i < length labels → (getD labels i vacant .number ≡ n → ⊥) → lookedUp labels n ≡ lookedUp (drop (i + 1) labels) n
@@ -89,6 +78,7 @@ unfolding lookedUp defined addressOf asFound
 looked-in-labels [] more n h = none-vacant more n h
 looked-in-labels (l ∷ ls) more n h = go (eqb (l .number) n) refl (looked-in-labels ls more n h)
   where
-    go : (b : Bool) → eqb (l .number) n ≡ b → lookedUp (ls ++ replicate more vacant) n ≡ asFound ls n → lookedUp (l ∷ (ls ++ replicate more vacant)) n ≡ asFound (l ∷ ls) n
+    go : (b : Bool) → eqb (l .number) n ≡ b → lookedUp (ls ++ replicate more vacant) n ≡ asFound ls n
+        → lookedUp (l ∷ (ls ++ replicate more vacant)) n ≡ asFound (l ∷ ls) n
     go true e rest = simp (e, ne-eqb n 0 h)
     go false e rest = simp e rest

@@ -1,14 +1,7 @@
 -- A label's record: what a new key adds to the table, and which items may be noted.
-use Prim.Native.Nat.{ℕ, suc, _+_, _-_, _*_, _/_, _%_, _<_, _≤_}
-use mathlib.Core.Path.{_≡_, refl, sym, ap, _∙_}
-use mathlib.Core.Bool.{false}
-use mathlib.Core.List.{List, [], _∷_, _++_, append-assoc}
-use native.Mathlib.Omega.{arith}
-use native.Mathlib.Nat.{sub-zero}
-use native.Mathlib.Numerals.{add-one}
+use Rattle.laws.proofs.Basics.{ℕ, suc, _+_, _-_, _*_, _/_, _%_, _<_, _≤_, _≡_, refl, sym, ap, _∙_, List, [], _∷_, _++_, append-assoc, false, length}
+use Rattle.laws.proofs.Basics.{set, take, replicate, length-set, length-take-le, take-suc-set, set-at, sub-zero, add-one, arith}
 use lib.Arith.{digits-div, digits-mod}
-use lib.ListN.{length, set, replicate, take, length-set}
-use lib.Seq.{length-take-le, take-suc-set, set-at}
 use Rattle.items.specs.Item as I
 use Rattle.items.specs.declared.Item.{Item}
 use Rattle.items.specs.declared.Item.the-variants as C

@@ -1,15 +1,8 @@
 -- No text has more than 32,767 labels: they differ, and lie from 1 to 32,767. So a table of more records serves as one of 32,767.
-use Prim.Native.Nat.{ℕ, zero, suc, _+_, _-_, _<_, _≤_}
-use mathlib.Core.Path.{_≡_, refl, sym, ap, subst, _∙_}
-use mathlib.Core.Bool.{Bool, true, false, cond, _&&_}
-use mathlib.Core.Logic.{_⊎_, inl, inr}
-use mathlib.Core.List.{List, [], _∷_, _++_, append-assoc}
-use native.Mathlib.Omega.{arith}
-use native.Mathlib.Nat.{sub-zero, eq-or-lt-of-le}
-use lib.Dec.{eqb, leb}
-use lib.ListN.{length, take, replicate, length-append, replicate-append-replicate}
-use lib.Seq.{length-take-le, take-at}
-use borrow.Author.Tests.{eqb-true, eqb-false, eq-eqb, ne-eqb, lt-leb}
+use Rattle.laws.proofs.Basics.{ℕ, zero, suc, _+_, _-_, _<_, _≤_, _≡_, refl, sym, ap, subst, _∙_, List, [], _∷_, _++_, append-assoc, Bool, true, false}
+use Rattle.laws.proofs.Basics.{_&&_, cond, _⊎_, inl, inr, length, take, replicate, length-append, replicate-append-replicate, length-take-le, take-at}
+use Rattle.laws.proofs.Basics.{eqb, leb, eq-or-lt-of-le, sub-zero, arith, eqb-true, eqb-false, eq-eqb, ne-eqb, lt-leb}
+use Rattle.laws.proofs.Cases.{by-cases, contradiction}
 use Rattle.items.specs.Item as I
 use Rattle.items.specs.Scan.{Ending, whole, unreadable, Scan, scan}
 use Rattle.assembler.specs.Words.{inRange, size}
@@ -40,12 +33,9 @@ either false d e = refl
 
 defined-more : (ls : List Label) (l : Label) (n : ℕ) → defined (ls ++ (l ∷ [])) n ≡ cond (defined ls n) true (eqb (l .number) n)
 unfolding defined
-defined-more [] l n = go (eqb (l .number) n)
-  where
-    go : (b : Bool) → cond b true false ≡ b
-    go true = refl
-    go false = refl
-defined-more (k ∷ ls) l n = ap (λ (b : Bool). cond (eqb (k .number) n) true b) (defined-more ls l n) ∙ either (eqb (k .number) n) (defined ls n) (eqb (l .number) n)
+defined-more [] l n = by-cases (eqb (l .number) n) (λ outcome. rw outcome) (λ outcome. rw outcome)
+defined-more (k ∷ ls) l n =
+    ap (λ (b : Bool). cond (eqb (k .number) n) true b) (defined-more ls l n) ∙ either (eqb (k .number) n) (defined ls n) (eqb (l .number) n)
 
 module _ (ls : List Label) (l : Label) where
   abbrev more : List Label
@@ -101,7 +91,8 @@ module _ (ls : List Label) (l : Label) where
 abbrev Counted : ℕ → List Label → Type 0
 Counted limit ls = length ls + free ls limit ≡ limit
 
-module _ (limit : ℕ) (ls : List Label) (l : Label) (c : Counted limit ls) (u : defined ls (l .number) ≡ false) (h : 1 ≤ l .number) (m : l .number ≤ limit) where
+module _ (limit : ℕ) (ls : List Label) (l : Label) (c : Counted limit ls) (u : defined ls (l .number) ≡ false) (h : 1 ≤ l .number)
+    (m : l .number ≤ limit) where
   counted-few : length ls < limit
   counted-few = let f : suc (free (ls ++ (l ∷ [])) limit) ≡ free ls limit = free-from ls l u limit h m in omega (arith, c, f)
 
@@ -117,7 +108,8 @@ module _ (limit room : ℕ) (w : limit ≡ 32767) (r : limit ≤ room) (memory :
   same-fault at ls (I.label n) c = go (inRange (I.label n)) (defined ls n) refl refl
     where
       go : (b d : Bool) → inRange (I.label n) ≡ b → defined ls n ≡ d
-          → _≡_ {A = ℕ} (cond (inRange (I.label n)) (cond (defined ls n) 21 (cond (leb room (length ls)) 25 0)) 23) (cond (inRange (I.label n)) (cond (defined ls n) 21 (cond (leb limit (length ls)) 25 0)) 23)
+          → _≡_ {A = ℕ} (cond (inRange (I.label n)) (cond (defined ls n) 21 (cond (leb room (length ls)) 25 0)) 23)
+          (cond (inRange (I.label n)) (cond (defined ls n) 21 (cond (leb limit (length ls)) 25 0)) 23)
       go false d p q = rw p
       go true true p q = rw (p, q)
       go true false p q =
@@ -134,7 +126,8 @@ module _ (limit room : ℕ) (w : limit ≡ 32767) (r : limit ≤ room) (memory :
   counted-noted at ls (I.label n) e c =
       let p : inRange (I.label n) ≡ true = no-fault-ranged memory limit at ls (I.label n) e in
       let v : (1 ≤ n) × (n ≤ 32767) = label-range n p in
-      counted-more limit ls (record { number = n; address = at }) c (label-placed memory limit at ls n (no-fault-placed memory limit at ls (I.label n) e) .0) (v .0) (omega (arith, v .1, w))
+      counted-more limit ls (record { number = n; address = at }) c (label-placed memory limit at ls n
+      (no-fault-placed memory limit at ls (I.label n) e) .0) (v .0) (omega (arith, v .1, w))
   counted-noted at ls (I.instruction f i b x) e c = c
   counted-noted at ls (I.constant x) e c = c
   counted-noted at ls (I.string cs) e c = c
@@ -145,25 +138,32 @@ module _ (limit room : ℕ) (w : limit ≡ 32767) (r : limit ≤ room) (memory :
   same-lay at ls [] c = refl
   same-lay at ls (p ∷ ps) c =
       ap (λ (f : ℕ). onFault f (p .place) (lay memory room (at + size (p .item)) (noted at ls (p .item)) ps)) (same-fault at ls (p .item) c)
-      ∙ go (λ e. same-lay (at + size (p .item)) (noted at ls (p .item)) ps (counted-noted at ls (p .item) e c)) (fault memory limit at ls (p .item)) refl
+      ∙ go (λ e. same-lay (at + size (p .item)) (noted at ls (p .item)) ps (counted-noted at ls (p .item) e c)) (fault memory limit at ls (p .item))
+      refl
     where
-      go : (fault memory limit at ls (p .item) ≡ 0 → lay memory room (at + size (p .item)) (noted at ls (p .item)) ps ≡ lay memory limit (at + size (p .item)) (noted at ls (p .item)) ps)
+      go : (fault memory limit at ls (p .item) ≡ 0
+          → lay memory room (at + size (p .item)) (noted at ls (p .item)) ps ≡ lay memory limit (at + size (p .item)) (noted at ls (p .item)) ps)
           → (f : ℕ) → fault memory limit at ls (p .item) ≡ f
-          → onFault f (p .place) (lay memory room (at + size (p .item)) (noted at ls (p .item)) ps) ≡ onFault f (p .place) (lay memory limit (at + size (p .item)) (noted at ls (p .item)) ps)
+          → onFault f (p .place) (lay memory room (at + size (p .item)) (noted at ls (p .item)) ps) ≡ onFault f (p .place)
+          (lay memory limit (at + size (p .item)) (noted at ls (p .item)) ps)
       go rec zero e = rec e
       go rec (suc k) e = refl
 
   -- and no more labels than that
-  few-laid : (at : ℕ) (ls : List Label) (items : List I.Placed) → Counted limit ls → (labels : List Label) (end : ℕ) → lay memory limit at ls items ≡ laid labels end → length labels ≤ limit
+  few-laid : (at : ℕ) (ls : List Label) (items : List I.Placed) → Counted limit ls → (labels : List Label) (end : ℕ)
+      → lay memory limit at ls items ≡ laid labels end → length labels ≤ limit
   unfolding lay
   few-laid at ls [] c labels end e = let z : ls ≡ labels = cc in let y : length ls ≤ limit = omega (arith, c) in rw z at y
-  few-laid at ls (p ∷ ps) c labels end e = go (λ q h. few-laid (at + size (p .item)) (noted at ls (p .item)) ps (counted-noted at ls (p .item) q c) labels end h) (fault memory limit at ls (p .item)) refl e
+  few-laid at ls (p ∷ ps) c labels end e =
+      go (λ q h. few-laid (at + size (p .item)) (noted at ls (p .item)) ps (counted-noted at ls (p .item) q c) labels end h)
+      (fault memory limit at ls (p .item)) refl e
     where
-      go : (fault memory limit at ls (p .item) ≡ 0 → lay memory limit (at + size (p .item)) (noted at ls (p .item)) ps ≡ laid labels end → length labels ≤ limit)
+      go : (fault memory limit at ls (p .item) ≡ 0 → lay memory limit (at + size (p .item)) (noted at ls (p .item)) ps ≡ laid labels end
+          → length labels ≤ limit)
           → (f : ℕ) → fault memory limit at ls (p .item) ≡ f
           → onFault f (p .place) (lay memory limit (at + size (p .item)) (noted at ls (p .item)) ps) ≡ laid labels end → length labels ≤ limit
       go rec zero q h = rec q h
-      go rec (suc k) q h = let z : _≡_ {A = ℕ} 0 1 = cc in absurd (omega arith)
+      go rec (suc k) q h = contradiction cc
 
   none-counted : Counted limit []
   none-counted = let z : free [] limit ≡ limit = free-none limit in omega (arith, z)
@@ -181,9 +181,14 @@ module _ (text : List ℕ) (memory limit room : ℕ) (r : limit ≤ room) where
   unfolding refuse
   wider-refuse number place =
       let e : limit + (room - limit) ≡ room = omega (arith, r) in
-      record { answers = refl; fills = refl; tables = sym (replicate-append-replicate limit (room - limit) vacant ∙ ap (λ (n : ℕ). replicate n vacant) e) }
+      record {
+        answers = refl;
+        fills = refl;
+        tables = sym (replicate-append-replicate limit (room - limit) vacant ∙ ap (λ (n : ℕ). replicate n vacant) e);
+      }
 
-  wider-accept : (labels : List Label) (end : ℕ) (items : List I.Placed) → length labels ≤ limit → Wider (room - limit) (accept text memory limit labels end items) (accept text memory room labels end items)
+  wider-accept : (labels : List Label) (end : ℕ) (items : List I.Placed) → length labels ≤ limit
+      → Wider (room - limit) (accept text memory limit labels end items) (accept text memory room labels end items)
   unfolding accept
   wider-accept labels end items h =
       let e : (limit - length labels) + (room - limit) ≡ room - length labels = omega (arith, r, h) in
@@ -191,18 +196,22 @@ module _ (text : List ℕ) (memory limit room : ℕ) (r : limit ≤ room) where
         answers = refl;
         fills = refl;
         tables = sym (append-assoc labels (replicate (limit - length labels) vacant) (replicate (room - limit) vacant)
-            ∙ ap (λ (l : List Label). labels ++ l) (replicate-append-replicate (limit - length labels) (room - limit) vacant ∙ ap (λ (n : ℕ). replicate n vacant) e));
+            ∙ ap (λ (l : List Label). labels ++ l) (replicate-append-replicate (limit - length labels) (room - limit) vacant ∙
+            ap (λ (n : ℕ). replicate n vacant) e));
       }
 
-  wider-laid : (o : Laid) (s : Scan) → ((labels : List Label) (end : ℕ) → o ≡ laid labels end → length labels ≤ limit) → Wider (room - limit) (onLaid text memory limit o s) (onLaid text memory room o s)
+  wider-laid : (o : Laid) (s : Scan) → ((labels : List Label) (end : ℕ) → o ≡ laid labels end → length labels ≤ limit)
+      → Wider (room - limit) (onLaid text memory limit o s) (onLaid text memory room o s)
   wider-laid (refused number place) s h = wider-refuse number place
   wider-laid (laid labels end) s h = ending (s .ending)
     where
-      known : (us : List ℕ) → Wider (room - limit) (onUnknowns text memory limit us labels end (s .items)) (onUnknowns text memory room us labels end (s .items))
+      known : (us : List ℕ)
+          → Wider (room - limit) (onUnknowns text memory limit us labels end (s .items)) (onUnknowns text memory room us labels end (s .items))
       known [] = wider-accept labels end (s .items) (h labels end refl)
       known (u ∷ us) = wider-refuse 22 u
 
-      ending : (e : Ending) → Wider (room - limit) (onEnding text memory limit e labels end (s .items)) (onEnding text memory room e labels end (s .items))
+      ending : (e : Ending)
+          → Wider (room - limit) (onEnding text memory limit e labels end (s .items)) (onEnding text memory room e labels end (s .items))
       ending (unreadable place) = wider-refuse 20 place
       ending whole = known (unknowns labels (s .items))
 
@@ -210,28 +219,36 @@ module _ (text : List ℕ) (memory limit room : ℕ) (r : limit ≤ room) where
   unfolding assembled
   wider w = go (leb 512 memory && leb memory 32768)
     where
-      go : (b : Bool) → Wider (room - limit) (cond b (onLaid text memory limit (lay memory limit 416 [] (scan text .items)) (scan text)) (refuse text memory limit 24 0))
+      go : (b : Bool)
+          → Wider (room - limit) (cond b (onLaid text memory limit (lay memory limit 416 [] (scan text .items)) (scan text))
+          (refuse text memory limit 24 0))
           (cond b (onLaid text memory room (lay memory room 416 [] (scan text .items)) (scan text)) (refuse text memory room 24 0))
       go true =
           rw (same-lay limit room w r memory 416 [] (scan text .items) (none-counted limit room w r memory))
-          (wider-laid (lay memory limit 416 [] (scan text .items)) (scan text) (few-laid limit room w r memory 416 [] (scan text .items) (none-counted limit room w r memory)))
+          (wider-laid (lay memory limit 416 [] (scan text .items)) (scan text)
+          (few-laid limit room w r memory 416 [] (scan text .items) (none-counted limit room w r memory)))
       go false = wider-refuse 24 0
 
 -- ---- the keys that serve a table of so many records
 
 pub assembles : {text memory : List ℕ} {labels : List Label} {answer : Assembled} {memory′ keys : List ℕ} {labels′ : List Label}
-    → Serves (assembled text (length memory) (length labels)) (length labels) answer memory′ keys → labels′ ≡ tableOf keys (length labels) → Assembles text memory labels answer memory′ labels′
+    → Serves (assembled text (length memory) (length labels)) (length labels) answer memory′ keys → labels′ ≡ tableOf keys (length labels) → Assembles
+    text memory labels answer memory′ labels′
 assembles s e = record { answers = s .answers; tells = ap numbers (s .answers); fills = s .fills; tables = e ∙ s .tables }
 
 pub loads : {text memory : List ℕ} (room : ℕ) {labels : List Label} {answer : Assembled} {memory′ : List ℕ} {labels′ : List Label}
     → room ≡ length labels → Assembles text memory labels answer memory′ labels′ → Loads (assembled text (length memory) room) answer memory′
-loads {text} {memory} room {labels} {answer} {memory′} e a = subst (λ (n : ℕ). Loads (assembled text (length memory) n) answer memory′) (sym e) (record { answers = a .answers; tells = a .tells; fills = a .fills })
+loads {text} {memory} room {labels} {answer} {memory′} e a =
+    subst (λ (n : ℕ). Loads (assembled text (length memory) n) answer memory′) (sym e)
+    (record { answers = a .answers; tells = a .tells; fills = a .fills })
 
 module _ (text memory : List ℕ) {answer : Assembled} {memory′ : List ℕ} where
-  pub serves-within : (keys : List ℕ) (room : ℕ) → length keys ≡ 32767 → room < 32767 → {part part′ : List ℕ} (rest : List ℕ) → part ≡ take (room - 0) keys → length part′ ≡ length part
+  pub serves-within : (keys : List ℕ) (room : ℕ) → length keys ≡ 32767 → room < 32767 → {part part′ : List ℕ} (rest : List ℕ)
+      → part ≡ take (room - 0) keys → length part′ ≡ length part
       → AssemblesKeys text memory part answer memory′ part′ → Serves (assembled text (length memory) room) room answer memory′ (part′ ++ rest)
   serves-within keys room n h {part} {part′} rest p s a =
-      let k : length part ≡ room = ap length p ∙ ap (λ (i : ℕ). length (take i keys)) (sub-zero room) ∙ length-take-le room keys (omega (arith, n, h)) in
+      let k : length part ≡ room = ap length p ∙ ap (λ (i : ℕ). length (take i keys)) (sub-zero room) ∙ length-take-le room keys (omega (arith, n, h))
+      in
       let g : Gives (assembled text (length memory) room) answer memory′ part′ = rw k at (a .gives) in
       let e : length part′ ≡ room = s ∙ k in
       let t : take room (part′ ++ rest) ≡ part′ = take-at part′ rest room e in
@@ -241,10 +258,12 @@ module _ (text memory : List ℕ) {answer : Assembled} {memory′ : List ℕ} wh
   pub serves-all : (keys : List ℕ) (room : ℕ) {keys′ : List ℕ} → length keys ≡ 32767 → 32767 ≤ room → length keys′ ≡ length keys
       → AssemblesKeys text memory keys answer memory′ keys′ → Serves (assembled text (length memory) room) room answer memory′ keys′
   serves-all keys room {keys′} n h s a =
-      let w : Wider (room - length keys) (assembled text (length memory) (length keys)) (assembled text (length memory) room) = wider text (length memory) (length keys) room (omega (arith, n, h)) n in
+      let w : Wider (room - length keys) (assembled text (length memory) (length keys)) (assembled text (length memory) room) = wider text
+      (length memory) (length keys) room (omega (arith, n, h)) n in
       let e : length keys′ + (room - length keys) ≡ room = omega (arith, n, s, h) in
       record {
         answers = a .gives .answers ∙ sym (w .answers);
         fills = a .gives .fills ∙ sym (w .fills);
-        tables = ap (tableOf keys′) (sym e) ∙ table-past keys′ (room - length keys) ∙ ap (λ (l : List Label). l ++ replicate (room - length keys) vacant) (a .gives .tables) ∙ sym (w .tables);
+        tables = ap (tableOf keys′) (sym e) ∙ table-past keys′ (room - length keys) ∙
+            ap (λ (l : List Label). l ++ replicate (room - length keys) vacant) (a .gives .tables) ∙ sym (w .tables);
       }

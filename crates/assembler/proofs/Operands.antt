@@ -1,10 +1,6 @@
 -- Operands in range.
-use Prim.Native.Nat.{ℕ, _<_, _≤_}
-use mathlib.Core.Path.{_≡_, refl}
-use mathlib.Core.Bool.{Bool, true, false, _&&_}
-use native.Mathlib.Omega.{arith}
-use lib.Dec.{leb}
-use borrow.Author.Tests.{leb-true}
+use Rattle.laws.proofs.Basics.{ℕ, _<_, _≤_, _≡_, Bool, true, false, leb, arith, leb-true}
+use Rattle.laws.proofs.Cases.{both-true}
 use Rattle.items.specs.Item.{number}
 use Rattle.assembler.specs.Words.{labelInRange, operandInRange}
 
@@ -12,10 +8,6 @@ pub number-below : (minus : Bool) {size : ℕ} → operandInRange (number minus 
 unfolding operandInRange
 number-below true {size} h = let z : size ≤ 32768 = leb-true _ _ h in omega arith
 number-below false {size} h = let z : size ≤ 65535 = leb-true _ _ h in omega arith
-
-pub both-true : (a b : Bool) → (a && b) ≡ true → (a ≡ true) × (b ≡ true)
-both-true true b h = (refl, h)
-both-true false b h = (h, let z : _≡_ {A = ℕ} 0 1 = cc in absurd (omega arith))
 
 pub label-range : (n : ℕ) → labelInRange n ≡ true → (1 ≤ n) × (n ≤ 32767)
 label-range n h =

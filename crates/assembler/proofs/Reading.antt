@@ -1,9 +1,5 @@
 -- What `items::next_in` answers, as the passes use it: the item that stands next, and the scan from past it.
-use Prim.Native.Nat.{ℕ, _+_, _-_, _<_, _≤_}
-use mathlib.Core.Path.{_≡_, refl, ap, _∙_}
-use mathlib.Core.List.{List}
-use native.Mathlib.Omega.{arith}
-use lib.ListN.{length, drop, length-replicate, length-drop}
+use Rattle.laws.proofs.Basics.{ℕ, _+_, _-_, _<_, _≤_, _≡_, refl, ap, _∙_, List, length, drop, length-drop, length-replicate, arith}
 use Rattle.items.specs.Item as I
 use Rattle.items.specs.Scan.{whole, unreadable, ends, goesOn, body, scan}
 use Rattle.items.specs.Next as N
@@ -112,7 +108,8 @@ sound-item (I.constant x) h = tt
 sound-item (I.string cs) h = h .short
 sound-item (I.global n m) h = tt
 
-spelled-string : (text : List ℕ) (place : ℕ) {cs : List ℕ} → G.Between (drop place text) cs → Quoting text place × (letters text place ≡ cs) × (place ≤ length text)
+spelled-string : (text : List ℕ) (place : ℕ) {cs : List ℕ} → G.Between (drop place text) cs
+    → Quoting text place × (letters text place ≡ cs) × (place ≤ length text)
 unfolding letters
 spelled-string text place {cs} b =
     let c : Closed 255 0 (length (drop place text)) cs (b .width) = is-closed 34 255 0 (drop place text) (b .reading) in

@@ -1,15 +1,10 @@
 -- The records of keys: vacant ones, and so many of them for the lent table.
-use Prim.Native.Nat.{ℕ, zero, suc, _+_, _-_, _<_, _≤_, _/_, _%_}
-use mathlib.Core.Path.{_≡_, refl, sym, ap, _∙_}
-use mathlib.Core.List.{List, [], _∷_, _++_, append-nil}
-use native.Mathlib.Omega.{arith}
-use native.Mathlib.Numerals.{add-one}
-use lib.ListN.{length, getD, set, replicate, take, drop, length-append, drop-of-length-le, List·getD-eq-default}
-use lib.Seq.{take-suc, take-length, drop-cons, set-at}
+use Rattle.laws.proofs.Basics.{ℕ, zero, suc, _+_, _<_, _≤_, _≡_, refl, sym, ap, _∙_, List, [], _∷_, _++_, append-nil, length, getD, set, take, drop}
+use Rattle.laws.proofs.Basics.{replicate, length-append, drop-of-length-le, List·getD-eq-default, take-length, drop-cons, set-at, add-one, arith}
+use lib.Seq.{take-suc}
 use Rattle.assembler.specs.declared.Label.{Label}
 use Rattle.assembler.specs.Layout.{vacant}
 use Rattle.assembler.specs.Passes.{recordOf, records, tableOf}
-use Rattle.assembler.proofs.Lookup.{length-records}
 use Rattle.assembler.proofs.Noting.{records-append}
 
 pub vacant-records : (n : ℕ) → records (replicate n 0) ≡ replicate n vacant
@@ -65,7 +60,8 @@ length-table : (keys : List ℕ) (n : ℕ) → length (tableOf keys n) ≡ n
 unfolding tableOf
 length-table keys zero = refl
 length-table keys (suc n) =
-    let z : length (tableOf keys n ++ (recordOf (getD keys n 0) ∷ [])) ≡ length (tableOf keys n) + 1 = length-append (tableOf keys n) (recordOf (getD keys n 0) ∷ []) in
+    let z : length (tableOf keys n ++ (recordOf (getD keys n 0) ∷ [])) ≡ length (tableOf keys n) + 1 = length-append (tableOf keys n)
+    (recordOf (getD keys n 0) ∷ []) in
     let y : length (tableOf keys n) ≡ n = length-table keys n in
     omega (arith, z, y)
 
@@ -73,7 +69,8 @@ pub filled-none : (table : List Label) (keys : List ℕ) → table ≡ tableOf k
 unfolding tableOf
 filled-none table keys = refl
 
-pub filled-more : (table : List Label) (keys : List ℕ) (i : ℕ) {now : List Label} {r : Label} → i < length table → now ≡ tableOf keys i ++ drop i table → r ≡ recordOf (getD keys i 0)
+pub filled-more : (table : List Label) (keys : List ℕ) (i : ℕ) {now : List Label} {r : Label} → i < length table
+    → now ≡ tableOf keys i ++ drop i table → r ≡ recordOf (getD keys i 0)
     → set now i r ≡ tableOf keys (i + 1) ++ drop (i + 1) table
 unfolding tableOf
 filled-more table keys i {now} {r} h e q =
@@ -84,7 +81,8 @@ filled-more table keys i {now} {r} h e q =
     ∙ sym (append-twice (tableOf keys i) (recordOf (getD keys i 0) ∷ []) (drop (suc i) table))
     ∙ ap (λ (n : ℕ). tableOf keys n ++ drop n table) (sym (add-one i))
 
-pub filled-all : (table : List Label) (keys : List ℕ) (i : ℕ) {now : List Label} → i ≤ length table → length table ≤ i → now ≡ tableOf keys i ++ drop i table → now ≡ tableOf keys (length table)
+pub filled-all : (table : List Label) (keys : List ℕ) (i : ℕ) {now : List Label} → i ≤ length table → length table ≤ i
+    → now ≡ tableOf keys i ++ drop i table → now ≡ tableOf keys (length table)
 filled-all table keys i h k e =
     let z : i ≡ length table = omega (arith, h, k) in
     e ∙ ap (λ (l : List Label). tableOf keys i ++ l) (drop-of-length-le table k) ∙ append-nil (tableOf keys i) ∙ ap (tableOf keys) z

@@ -1,26 +1,20 @@
 -- A text of rendered items is refused only by 24 or 25, where its items' numbers are in range, its labels differ and every label that is
 -- used is there: by what its items' labels and numbers say, and by nothing else.
-use Prim.Native.Nat.{ℕ, zero, suc, _+_}
-use mathlib.Core.Path.{_≡_, refl, sym, ap, _∙_}
-use mathlib.Core.Bool.{Bool, true, false, cond, _&&_}
-use mathlib.Core.Logic.{_⊎_, inl, inr}
-use mathlib.Core.List.{List, [], _∷_, _++_, append-assoc, append-nil}
-use native.Mathlib.Omega.{arith}
-use lib.Dec.{eqb, leb, ltb}
-use lib.ListN.{length}
+use Rattle.laws.proofs.Basics.{ℕ, _+_, _≡_, refl, sym, ap, List, [], _∷_, _++_, append-assoc, append-nil, Bool, true, false, _&&_, cond, _⊎_, inl}
+use Rattle.laws.proofs.Basics.{inr, length, eqb, ltb, leb, arith}
+use Rattle.laws.proofs.Cases.{contradiction}
 use Rattle.text.specs.Line.{refusal}
 use Rattle.text.specs.declared.Refusal.{Refusal}
 use Rattle.items.specs.Item as I
-use Rattle.items.specs.Item.{Item, Placed}
-use Rattle.items.specs.Scan.{Scan, whole, scan}
+use Rattle.items.specs.Item.{Item}
+use Rattle.items.specs.Scan.{whole}
 use Rattle.items.specs.Render.{render, renderAll}
-use Rattle.items.proofs.Sound.{Sound}
 use Rattle.items.proofs.Rendered.{AllSound, places, rendered}
 use Rattle.assembler.specs.Words.{operandInRange, inRange, size}
 use Rattle.assembler.specs.declared.Label.{Label}
 use Rattle.assembler.specs.Layout.{defined, noted, Laid, laid, refused, onFault, misplaced, fault, lay, uses, known, unknowns}
-use Rattle.assembler.specs.Assemble.{Assembly, refuse, accept, onUnknowns, onEnding, onLaid, assembled}
-use Rattle.assembler.specs.declared.Assembled.the-variants.{Accepted, Refused}
+use Rattle.assembler.specs.Assemble.{refuse, accept, onUnknowns, onLaid, assembled}
+use Rattle.assembler.specs.declared.Assembled.the-variants.{Refused}
 
 -- ---- the labels by their numbers
 
@@ -108,15 +102,19 @@ module _ (memory room : ℕ) where
     long : (place : ℕ) {ns : List ℕ} → Lays (refused 24 place) ns
     many : (place : ℕ) {ns : List ℕ} → Lays (refused 25 place) ns
 
-  lay-clean : (is : List Item) (p at : ℕ) (labels : List Label) → Clean (numbersOf labels) is → Lays (lay memory room at labels (places p is)) (numbersOf labels ++ labelsOf is)
+  lay-clean : (is : List Item) (p at : ℕ) (labels : List Label) → Clean (numbersOf labels) is
+      → Lays (lay memory room at labels (places p is)) (numbersOf labels ++ labelsOf is)
   unfolding lay places labelsOf
   lay-clean [] p at labels h = lays labels at (sym (append-nil (numbersOf labels)))
   lay-clean (i ∷ is) p at labels h =
-      go (fault-only at labels i (h .0) (h .1)) (lay-clean is (p + length (render i) + 1) (at + size i) (noted at labels i) (rw (numbers-noted at labels i) (h .2)))
+      go (fault-only at labels i (h .0) (h .1)) (lay-clean is (p + length (render i) + 1) (at + size i) (noted at labels i)
+      (rw (numbers-noted at labels i) (h .2)))
     where
       go : {n : ℕ} → OnlyLong n
-          → Lays (lay memory room (at + size i) (noted at labels i) (places (p + length (render i) + 1) is)) (numbersOf (noted at labels i) ++ labelsOf is)
-          → Lays (onFault n p (lay memory room (at + size i) (noted at labels i) (places (p + length (render i) + 1) is))) (numbersOf labels ++ (labelOf i ++ labelsOf is))
+          → Lays (lay memory room (at + size i) (noted at labels i) (places (p + length (render i) + 1) is))
+          (numbersOf (noted at labels i) ++ labelsOf is)
+          → Lays (onFault n p (lay memory room (at + size i) (noted at labels i) (places (p + length (render i) + 1) is)))
+          (numbersOf labels ++ (labelOf i ++ labelsOf is))
       go none k = rw (sym (append-assoc (numbersOf labels) (labelOf i) (labelsOf is)), sym (numbers-noted at labels i)) k
       go too-long k = long p
       go too-many k = many p
@@ -129,13 +127,14 @@ known-all labels (i ∷ is) p h = rw (defined-seen labels (uses i), h .0) (known
 -- ---- the law
 
 module _ (is : List Item) (sound : AllSound is) (clean : Clean [] is) (known-labels : AllKnown (labelsOf is) is) (memory room : ℕ) where
-  answered : {o : Laid} → Lays memory room o (labelsOf is) → {r : Refusal} → onLaid (renderAll is) memory room o (record { items = places 2 is; ending = whole }) .answer ≡ Refused r
+  answered : {o : Laid} → Lays memory room o (labelsOf is) → {r : Refusal}
+      → onLaid (renderAll is) memory room o (record { items = places 2 is; ending = whole }) .answer ≡ Refused r
       → (r .number ≡ 24) ⊎ (r .number ≡ 25)
   unfolding refuse accept refusal
   answered (lays labels end e) {r} h =
       let k : unknowns labels (places 2 is) ≡ [] = known-all labels is 2 (rw e known-labels) in
       let z : onUnknowns (renderAll is) memory room [] labels end (places 2 is) .answer ≡ Refused r = rw k at h in
-      let y : _≡_ {A = ℕ} 0 1 = cc in absurd (omega arith)
+      contradiction cc
   answered (long place) h = inl cc
   answered (many place) h = inr cc
 
@@ -145,7 +144,8 @@ module _ (is : List Item) (sound : AllSound is) (clean : Clean [] is) (known-lab
     where
       go : (t : Bool) → (leb 512 memory && leb memory 32768) ≡ t → (r .number ≡ 24) ⊎ (r .number ≡ 25)
       go true e =
-          let z : onLaid (renderAll is) memory room (lay memory room 416 [] (places 2 is)) (record { items = places 2 is; ending = whole }) .answer ≡ Refused r = rw (e, rendered is sound) at h in
+          let z : onLaid (renderAll is) memory room (lay memory room 416 [] (places 2 is)) (record { items = places 2 is; ending = whole }) .answer ≡
+          Refused r = rw (e, rendered is sound) at h in
           answered (lay-clean memory room is 2 416 [] clean) z
       go false e = let z : Refused (refusal (renderAll is) 24 0) ≡ Refused r = rw e at h in inl cc
 
@@ -156,8 +156,10 @@ sample = I.label 1 ∷ I.instruction 3 false I.none (I.address 1) ∷ I.constant
 
 sample-sound : AllSound sample
 unfolding sample
-sample-sound = (omega arith, (record { eight = omega arith; sound = omega arith }, (omega arith, (record { first = omega arith; second = omega arith }, tt))))
+sample-sound =
+    (omega arith, (record { eight = omega arith; sound = omega arith }, (omega arith, (record { first = omega arith; second = omega arith }, tt))))
 
 sample-only : (memory room : ℕ) (r : Refusal) → assembled (renderAll sample) memory room .answer ≡ Refused r → (r .number ≡ 24) ⊎ (r .number ≡ 25)
 unfolding sample inRange operandInRange uses seen labelsOf
-sample-only memory room r h = rendered-only sample sample-sound ((refl, refl, (refl, tt, (refl, tt, (refl, tt, tt))))) (refl, (refl, (refl, (refl, tt)))) memory room r h
+sample-only memory room r h =
+    rendered-only sample sample-sound ((refl, refl, (refl, tt, (refl, tt, (refl, tt, tt))))) (refl, (refl, (refl, (refl, tt)))) memory room r h

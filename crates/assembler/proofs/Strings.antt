@@ -1,12 +1,7 @@
 -- A string's words: the loop that decodes two characters and stores one word a turn.
-use Prim.Native.Nat.{ℕ, suc, _+_, _-_, _*_, _<_, _≤_}
-use mathlib.Core.Path.{_≡_, refl, sym, ap, _∙_}
-use mathlib.Core.List.{List, [], _∷_}
-use native.Mathlib.Omega.{arith}
-use native.Mathlib.Numerals.{add-one}
-use lib.ListN.{length, set, drop, length-set, length-drop}
-use lib.Seq.{sets, drop-drop}
-use Rattle.text.specs.Quoted.{quoted, is, closing, ended, mistake, character}
+use Rattle.laws.proofs.Basics.{ℕ, suc, _+_, _-_, _*_, _<_, _≤_, _≡_, sym, ap, _∙_, List, [], _∷_, length, set, drop, length-set, length-drop, sets}
+use Rattle.laws.proofs.Basics.{add-one, arith}
+use Rattle.text.specs.Quoted.{is, closing, ended, mistake, character}
 use Rattle.text.proofs.Quotes.{Written, is-written}
 use Rattle.text.proofs.Constants.{Continues, closed-next, closed-end, closed-goes-on, closed-right}
 use Rattle.text.specs.Packed.{pairs}
@@ -48,7 +43,8 @@ pub record Spells (text : List ℕ) (memory₀ : List ℕ) (at from first place 
   pub same : length memory ≡ length memory₀
   pub so-far : sets memory₀ at (pairs first (letters text from)) ≡ sets memory to (pairs high (letters text place))
 
-module _ (text : List ℕ) (memory₀ : List ℕ) (at from first place to high : ℕ) (memory : List ℕ) (s : Spells text memory₀ at from first place to high memory) where
+module _ (text : List ℕ) (memory₀ : List ℕ) (at from first place to high : ℕ) (memory : List ℕ)
+    (s : Spells text memory₀ at from first place to high memory) where
   quoting : Quoting text place
   quoting = s .spelling .quoting
 

@@ -1,14 +1,7 @@
 -- An item's words in the memory: each kind of item, known or not.
-use Prim.Native.Nat.{ℕ, _+_, _*_, _/_, _<_, _≤_}
-use mathlib.Core.Path.{_≡_, refl, sym, ap, _∙_}
-use mathlib.Core.Bool.{Bool, true, false, cond}
-use mathlib.Core.List.{List}
-use native.Mathlib.Omega.{arith}
-use native.Mathlib.Numerals.{add-one}
-use lib.Dec.{eqb, leb}
-use lib.ListN.{length, set, length-set}
-use lib.Seq.{sets, length-sets}
-use borrow.Author.Tests.{ne-eqb, leb-true, ltb-true}
+use Rattle.laws.proofs.Basics.{ℕ, _+_, _*_, _/_, _<_, _≤_, _≡_, refl, sym, ap, _∙_, List, Bool, true, false, cond, length, set, length-set, sets}
+use Rattle.laws.proofs.Basics.{length-sets, eqb, leb, add-one, arith, ne-eqb, ltb-true, leb-true}
+use Rattle.laws.proofs.Cases.{contradiction, both-true}
 use Rattle.items.specs.Item as I
 use Rattle.assembler.specs.Words.{labelInRange, operandInRange, inRange, short, signed, size, indirectBit, baseBit, operandWord, words}
 use Rattle.text.specs.Packed.{pairs}
@@ -18,7 +11,7 @@ use Rattle.assembler.specs.Passes.{asFound, valueOf, put, Writable, Writ
 use Rattle.assembler.specs.declared.Found.{Found}
 use Rattle.assembler.specs.declared.Found.the-variants.{At, Missing}
 use Rattle.assembler.specs.declared.Step.the-variants as S
-use Rattle.assembler.proofs.Operands.{both-true, label-range}
+use Rattle.assembler.proofs.Operands.{label-range}
 use Rattle.assembler.proofs.Lookup.{was-at, was-missing}
 
 -- ---- an item that is known, and one that is not
@@ -37,7 +30,7 @@ module _ (labels : List Label) (i : I.Item) (at : ℕ) (memory : List ℕ) where
       record {
         same = refl;
         answers = rw h;
-        writes = λ t. let y : true ≡ false = sym t ∙ h in let z : _≡_ {A = ℕ} 0 1 = cc in absurd (omega arith);
+        writes = λ t. let y : true ≡ false = sym t ∙ h in contradiction cc;
       }
 
   pub writes-known : {a : ℕ} {memory′ : List ℕ} → known labels i ≡ true → a ≡ at + size i → memory′ ≡ put labels at memory i
@@ -66,7 +59,7 @@ module _ (labels : List Label) {f : Found} where
 
   value-missing : (x : I.Operand) → operandInRange x ≡ true → f ≡ valueOf labels x → f ≡ Missing → used labels (usedBy x) ≡ false
   unfolding operandInRange valueOf
-  value-missing (I.number minus s) h p q = let z : _≡_ {A = ℕ} 0 1 = cc in absurd (omega arith)
+  value-missing (I.number minus s) h p q = contradiction cc
   value-missing (I.address n) h p q = used-label labels n h ∙ was-missing labels n p q
 
   pub short-below : (x : I.Operand) {w : ℕ} → f ≡ valueOf labels x → f ≡ At w → short x ≡ true → w < 512
@@ -75,7 +68,7 @@ module _ (labels : List Label) {f : Found} where
       let z : signed minus s ≡ w = cc in
       let l : signed minus s < 512 = ltb-true (signed minus s) 512 h in
       rw z at l
-  short-below (I.address n) p q h = let z : _≡_ {A = ℕ} 0 1 = cc in absurd (omega arith)
+  short-below (I.address n) p q h = contradiction cc
 
 -- ---- an instruction
 
@@ -92,7 +85,8 @@ module _ (f : ℕ) (i : Bool) (b : I.Base) (x : I.Operand) where
   unfolding size
   second-fits at {n} e h = let k : at + 2 ≤ n = rw e at h in omega arith
 
-  module _ (labels : List Label) (at : ℕ) (memory : List ℕ) {found : Found} (r : Writable (I.instruction f i b x) at memory) (p : found ≡ valueOf labels x) where
+  module _ (labels : List Label) (at : ℕ) (memory : List ℕ) {found : Found} (r : Writable (I.instruction f i b x) at memory)
+      (p : found ≡ valueOf labels x) where
     ranged : operandInRange x ≡ true
     unfolding inRange
     ranged = r .ranged
@@ -110,7 +104,8 @@ module _ (f : ℕ) (i : Bool) (b : I.Base) (x : I.Operand) where
           (rw s)
           (rw (s, value-at labels x ranged p q .1, ← e))
 
-      pub instruction-long : short x ≡ false → Writes labels (I.instruction f i b x) at memory (S.To (at + 2)) (set (set memory at (word + 512)) (at + 1) w)
+      pub instruction-long : short x ≡ false
+          → Writes labels (I.instruction f i b x) at memory (S.To (at + 2)) (set (set memory at (word + 512)) (at + 1) w)
       unfolding known uses put words size
       instruction-long s =
           writes-known labels (I.instruction f i b x) at memory
@@ -120,7 +115,8 @@ module _ (f : ℕ) (i : Bool) (b : I.Base) (x : I.Operand) where
 
 -- ---- a constant
 
-module _ (x : I.Operand) (labels : List Label) (at : ℕ) (memory : List ℕ) {found : Found} (r : Writable (I.constant x) at memory) (p : found ≡ valueOf labels x) where
+module _ (x : I.Operand) (labels : List Label) (at : ℕ) (memory : List ℕ) {found : Found} (r : Writable (I.constant x) at memory)
+    (p : found ≡ valueOf labels x) where
   constant-ranged : operandInRange x ≡ true
   unfolding inRange
   constant-ranged = r .ranged
@@ -145,7 +141,8 @@ global-range n m h =
     let b : (leb n 399 ≡ true) × (labelInRange m ≡ true) = both-true (leb n 399) (labelInRange m) h in
     (leb-true n 399 (b .0), b .1)
 
-module _ (n m : ℕ) (labels : List Label) (at : ℕ) (memory : List ℕ) {found : Found} (r : Writable (I.global n m) at memory) (p : found ≡ asFound labels m) where
+module _ (n m : ℕ) (labels : List Label) (at : ℕ) (memory : List ℕ) {found : Found} (r : Writable (I.global n m) at memory)
+    (p : found ≡ asFound labels m) where
   pub global-unknown : found ≡ Missing → Writes labels (I.global n m) at memory S.Unknown memory
   unfolding known uses
   global-unknown q = writes-unknown labels (I.global n m) at memory (used-label labels m (global-range n m (r .ranged) .1) ∙ was-missing labels m p q)
@@ -164,7 +161,8 @@ pub label-writes : (n : ℕ) (labels : List Label) (at : ℕ) (memory : List ℕ
 unfolding known uses put size
 label-writes n labels at memory = writes-known labels (I.label n) at memory refl (omega arith) refl
 
-module _ (text : List ℕ) (place n at : ℕ) (memory : List ℕ) (r : Writable (I.string (letters text place)) at memory) (q : Quoting text place × (length (letters text place) ≡ n) × (place ≤ length text)) where
+module _ (text : List ℕ) (place n at : ℕ) (memory : List ℕ) (r : Writable (I.string (letters text place)) at memory)
+    (q : Quoting text place × (length (letters text place) ≡ n) × (place ≤ length text)) where
   pub string-length : n ≤ 255
   string-length = omega (arith, r .sound, q .1)
 

@@ -1,5 +1,5 @@
 -- What `assemble` answers and leaves in the lent memory and label table (document 01, "Start", "Assembly text", "Refusal numbers").
-use Prim.Native.Nat.{ℕ, zero, suc, _+_, _-_, _*_}
+use Prim.Native.Nat.{ℕ, _-_}
 use mathlib.Core.Bool.{not, cond, _&&_}
 use mathlib.Core.Path.{_≡_}
 use mathlib.Core.List.{List, [], _∷_, _++_}

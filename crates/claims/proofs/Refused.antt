@@ -1,8 +1,5 @@
 -- A call on a source that is refused: LET START() BE FOO() is 8 at place 15, line 1, and text and scratch end as zeros.
-use Prim.Native.Nat.{ℕ}
-use mathlib.Core.Path.{_≡_, refl}
-use mathlib.Core.List.{List}
-use lib.ListN.{replicate}
+use Rattle.laws.proofs.Basics.{ℕ, _≡_, refl, List, replicate}
 use Rattle.text.specs.Line.{newlines, lineOf, refusal}
 use Rattle.text.specs.Written.{bytes}
 use Rattle.language.specs.Program.{refused}

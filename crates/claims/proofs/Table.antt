@@ -1,19 +1,15 @@
 -- The rows that document 01 marks P under "Proved table": one table, one proved claim about the definitions.
-use Prim.Native.Nat.{ℕ, _+_, _≤_}
+use Rattle.laws.proofs.Basics.{ℕ, _+_, _≤_, _≡_, refl, _∙_, List, [], _∷_, some, length, take, drop, le-leb}
 use Prim.Native.String.{String}
-use mathlib.Core.Path.{_≡_, refl, _∙_}
-use mathlib.Core.List.{List, [], _∷_}
-use mathlib.Core.Option.{some}
-use lib.ListN.{length, take, drop}
-use borrow.Author.Tests.{le-leb}
 use Rattle.words.specs.Words.{value, wordOf, quot, rem}
 use Rattle.machine.specs.Outcome.{Out, ok, stop}
 use Rattle.machine.specs.Acts.{Act, unlisted, indirect, negate, invert, back, finish, switch, rdch, wrch, dyadic, actOf}
-use Rattle.machine.specs.Run.{Outcome, steps, resume, run}
+use Rattle.machine.specs.Run.{steps, resume, run}
 use Rattle.text.specs.Written.{bytes}
 use Rattle.text.specs.Quoted.{quoted, character, byDigits, byNumber, escape}
 use Rattle.items.specs.Reader.{head, byte, optional, digits, digitCount, decimal}
-use Rattle.items.specs.Read.{ended, quotedCharacter, quotedString, negative, quotation, labelled, positive, operand, base, labelItem, instructionItem, constantItem, stringItem, globalItem, functionOf, item}
+use Rattle.items.specs.Read.{ended, quotedCharacter, quotedString, negative, quotation, labelled, positive, operand, base, labelItem, instructionItem}
+use Rattle.items.specs.Read.{constantItem, stringItem, globalItem, functionOf, item}
 use Rattle.items.specs.Scan.{gaps, mark, trailing, body, scan}
 use Rattle.assembler.specs.Words.{operandInRange, inRange, short, size, operandWord, words}
 use Rattle.text.specs.Packed.{pairs}
@@ -24,8 +20,8 @@ use Rattle.assembler.specs.declared.Assembled.the-variants.{Accepted}
 use Rattle.language.specs.Kinds.{NAME, NUMBER, OPEN, CLOSE, SEMICOLON, SLASH, REM}
 use Rattle.language.specs.Operators.{applyDyadic}
 use Rattle.language.specs.Symbols.{Symbol}
-use Rattle.language.specs.Source.{Symbols, good, faulty, symbolsOf}
-use Rattle.language.specs.Program.{Refused, refused}
+use Rattle.language.specs.Source.{good, faulty, symbolsOf}
+use Rattle.language.specs.Program.{refused}
 use Rattle.language.specs.Whole.{refusalOf}
 use Rattle.language.proofs.Texts.{symbolsIn, symbols-are}
 use Rattle.language.proofs.Whole.{empty-source}
@@ -81,7 +77,10 @@ record ProvedTable : Type 0 where
   budget-count : (first : ℕ) (memory input output : List ℕ) → Fits memory → run first memory input output 0 .count ≡ 0
 
 proved-table : ProvedTable
-unfolding applyDyadic symbolsIn value wordOf quot rem steps resume quoted character byNumber byDigits escape head byte optional digits digitCount decimal ended quotedCharacter quotedString negative quotation labelled positive operand base labelItem instructionItem constantItem stringItem globalItem functionOf item gaps mark trailing body scan operandInRange inRange short size pairs operandWord words defined addressOf noted misplaced fault lay uses known unknowns noGlobals globalsAfter globals program image refuse accept assembled
+unfolding applyDyadic symbolsIn value wordOf quot rem steps resume quoted character byNumber byDigits escape head byte optional digits digitCount
+    decimal ended quotedCharacter quotedString negative quotation labelled positive operand base labelItem instructionItem constantItem stringItem
+    globalItem functionOf item gaps mark trailing body scan operandInRange inRange short size pairs operandWord words defined addressOf noted
+    misplaced fault lay uses known unknowns noGlobals globalsAfter globals program image refuse accept assembled
 proved-table =
     record {
       load = record { accepts = refl; stand = refl };

@@ -1,11 +1,6 @@
 -- Arguments: each waits in the word of its height until the call uses them all.
-use Prim.Native.Nat.{ℕ, zero, suc, _+_, _≤_, _<_}
-use mathlib.Core.Path.{_≡_, refl, _∙_}
-use mathlib.Core.List.{List, [], _∷_, _++_, append-assoc}
-use mathlib.Core.Option.{none, some}
-use native.Mathlib.Omega.{arith}
-use native.Mathlib.Nat.{le-refl}
-use lib.ListN.{getD}
+use Rattle.laws.proofs.Basics.{ℕ, zero, suc, _+_, _<_, _≤_, _≡_, refl, _∙_, List, [], _∷_, _++_, append-assoc, some, none, getD, le-refl, arith}
+use Rattle.laws.proofs.Cases.{contradiction}
 use Rattle.language.specs.Resolved as R
 use Rattle.language.specs.Resolved.{Exprs}
 use Rattle.language.specs.Heights.{count}
@@ -19,7 +14,6 @@ use Rattle.code.proofs.Related.{Rel, Runs, then, weaken, paid, reaching
 use Rattle.code.proofs.Steps.{step-SP}
 use Rattle.language.proofs.Formed.{FormedA}
 use Rattle.code.proofs.Goals.{F, S, Fits, Sims}
-use Rattle.language.proofs.Cases.{clash}
 
 -- values in the words from a on, below z
 pub data Loaded (m : List ℕ) (z : ℕ) : List Value → ℕ → Type 0 where
@@ -37,7 +31,7 @@ pub record Holding (m : List ℕ) (ws : List ℕ) (a : ℕ) : Type 0 where
 
 pub holding-none : (m : List ℕ) (a : ℕ) → Holding m [] a
 unfolding nth
-holding-none m a = record { at = λ i x e. clash (cc) }
+holding-none m a = record { at = λ i x e. contradiction cc }
 
 holding-more : {m ws : List ℕ} {a b : ℕ} (w : ℕ) → getD m a 0 ≡ w → suc a ≡ b → Holding m ws b → Holding m (w ∷ ws) a
 unfolding nth

@@ -1,10 +1,5 @@
 -- The simulation of assignments: from a right side in A, which may wait in the word of the height, to each kind of left side.
-use Prim.Native.Nat.{ℕ, suc, _+_, _≤_}
-use mathlib.Core.Path.{_≡_, ap, _∙_}
-use mathlib.Core.List.{List}
-use native.Mathlib.Omega.{arith}
-use native.Mathlib.Nat.{le-refl}
-use lib.ListN.{getD}
+use Rattle.laws.proofs.Basics.{ℕ, suc, _+_, _≤_, _≡_, ap, _∙_, List, getD, le-refl, arith}
 use Rattle.words.specs.Words.{add}
 use Rattle.language.specs.Resolved as R
 use Rattle.language.specs.Resolved.{Target, Pairs}

@@ -1,11 +1,7 @@
 -- The simulation of blocks: names given their words, then the commands; on leaving, the words are live no longer.
-use Prim.Native.Nat.{ℕ, suc, _+_, _≤_, _<_}
-use mathlib.Core.Path.{_≡_, refl, sym, _∙_}
-use native.Mathlib.Omega.{arith}
-use native.Mathlib.Nat.{le-refl}
+use Rattle.laws.proofs.Basics.{ℕ, suc, _+_, _<_, _≤_, _≡_, refl, sym, _∙_, getD, le-refl, arith, le-leb, lt-leb}
+use Rattle.laws.proofs.Cases.{contradiction}
 use native.Mathlib.Decide.{ℕ-discrete, decLt}
-use lib.ListN.{getD}
-use borrow.Author.Tests.{le-leb, lt-leb}
 use Rattle.language.specs.Resolved as R
 use Rattle.language.specs.Resolved.{Cmds, Locals}
 use Rattle.language.specs.Heights.{heightWith}
@@ -79,8 +75,7 @@ module _ (Γ : Env) {p h : ℕ} {s : State} {v : Mach} (r : Rel Γ p h s v) wher
       val a y k g (no q) (no d) =
           let z : unset ≡ holds y
           = sym (vector-at (p + h + 1) n s a (omega arith) (omega arith)) ∙ sym (put-other Γ vs (p + h) (holds (p + h + 1)) a q) ∙ g in
-          let j : _≡_ {A = ℕ} 0 1 = cc in
-          absurd (omega arith)
+          contradiction cc
 
 module _ (Γ : Env) (fits : Fits Γ) (q : Sem) (ih : Sims Γ q) where
   pub sim-locals : (ls : Locals) (n : ℕ) {Q : Flow → Mach → Type 0} {t p h₀ h h₃ a b : ℕ} {s : State} {v : Mach} (more : State → Result Flow)

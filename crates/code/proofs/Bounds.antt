@@ -1,14 +1,8 @@
 -- No more than one inner label a symbol, and three a REPEAT form; no more than eight program words a symbol.
-use Prim.Native.Nat.{ℕ, _+_, _*_, _≤_}
-use mathlib.Core.Path.{_≡_}
-use mathlib.Core.Bool.{Bool, true, false, cond}
-use mathlib.Core.List.{List, [], _∷_, _++_}
-use native.Mathlib.Omega.{arith}
-use lib.Dec.{eqb}
-use lib.ListN.{length, length-append}
+use Rattle.laws.proofs.Basics.{ℕ, _+_, _*_, _≤_, _≡_, List, [], _∷_, _++_, Bool, true, false, cond, length, length-append, eqb, arith}
 use Rattle.language.specs.Kinds.{IF, WHILE, UNTIL, REPEATWHILE}
 use Rattle.language.specs.Tree as T
-use Rattle.language.specs.Tree.{Label, Expression, Expressions, Suffixes, Operations, Command, Commands, Unlabelled, Repeats, Function, Declaration}
+use Rattle.language.specs.Tree.{Expression, Expressions, Suffixes, Operations, Command, Commands, Unlabelled, Repeats, Function, Declaration}
 use Rattle.language.specs.Tree.{Program}
 use Rattle.language.specs.Names as N
 use Rattle.language.specs.Names.{Found, Scope, opened, declared, lookup}

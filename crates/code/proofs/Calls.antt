@@ -1,14 +1,6 @@
 -- The simulation of calls: RDCH, WRCH, and functions of the text, which return from their end or from a RETURN.
-use Prim.Native.Nat.{ℕ, suc, _+_, _%_, _≤_, _<_}
-use mathlib.Core.Path.{_≡_, refl, ap, _∙_}
-use mathlib.Core.Bool.{Bool, true, false}
-use mathlib.Core.List.{List, [], _∷_, _++_}
-use mathlib.Core.Option.{Option, none, some}
-use native.Mathlib.Omega.{arith}
-use native.Mathlib.Nat.{le-refl}
-use lib.Dec.{eqb, ltb}
-use lib.ListN.{length, getD}
-use borrow.Author.Tests.{eqb-true}
+use Rattle.laws.proofs.Basics.{ℕ, suc, _+_, _%_, _<_, _≤_, _≡_, refl, ap, _∙_, List, [], _∷_, _++_, Bool, true, false, Option, some, none, length}
+use Rattle.laws.proofs.Basics.{getD, eqb, ltb, le-refl, arith, eqb-true}
 use Rattle.items.specs.Item as I
 use Rattle.machine.specs.Acts as MA
 use Rattle.language.specs.Resolved as R

@@ -1,11 +1,5 @@
 -- The simulation of commands, but for loops, SWITCHON and blocks: one lemma for each form.
-use Prim.Native.Nat.{ℕ, suc, _+_}
-use mathlib.Core.Path.{_≡_, refl, _∙_}
-use mathlib.Core.Bool.{Bool, true, false, not, cond}
-use native.Mathlib.Omega.{arith}
-use native.Mathlib.Nat.{le-refl}
-use lib.Dec.{eqb}
-use borrow.Author.Tests.{not-true, not-false}
+use Rattle.laws.proofs.Basics.{ℕ, suc, _+_, _≡_, refl, _∙_, Bool, true, false, not, cond, eqb, le-refl, arith, not-true, not-false}
 use Rattle.language.specs.Resolved as R
 use Rattle.language.specs.Resolved.{Expr, Pairs, Cmd, Cmds}
 use Rattle.language.specs.State.{State, Result, ok, step}

@@ -1,13 +1,7 @@
 -- The simulation of expressions, but for calls: one lemma for each form.
-use Prim.Native.Nat.{ℕ, suc, _+_, _≤_, _<_}
-use mathlib.Core.Path.{_≡_, refl, ap, _∙_}
-use mathlib.Core.Bool.{Bool, true, false, cond}
-use mathlib.Core.List.{List, []}
-use mathlib.Core.Option.{Option, none, some}
-use native.Mathlib.Omega.{arith}
-use native.Mathlib.Nat.{le-refl}
-use lib.Dec.{eqb}
-use lib.ListN.{getD}
+use Rattle.laws.proofs.Basics.{ℕ, suc, _+_, _<_, _≤_, _≡_, refl, ap, _∙_, List, [], Bool, true, false, cond, Option, some, none, getD, eqb, le-refl}
+use Rattle.laws.proofs.Basics.{arith}
+use Rattle.laws.proofs.Cases.{contradiction}
 use Rattle.words.specs.Words.{add, neg, complement, mul, quot, rem, eq, ne, lt, ge, gt, le, conj, disj, shl, shr}
 use Rattle.items.specs.Item as I
 use Rattle.items.specs.Item.{P}
@@ -28,7 +22,6 @@ use Rattle.code.proofs.Related.{Rel, Runs, then, weaken, paid, over, re
 use Rattle.code.proofs.Steps.{step-L, step-LP, step-LG, step-LIP, step-LIG, step-SP, step-AIP, step-X1, step-X2, step-X3, step-dyadic}
 use Rattle.language.proofs.Formed.{FormedE}
 use Rattle.code.proofs.Goals.{F, S, Fits, Valued, Where, w-normal, w-gave, Sims}
-use Rattle.language.proofs.Cases.{clash}
 
 -- ---- the operators: the machine's act does what the source's operator says, by the same function of words
 
@@ -46,7 +39,7 @@ acts-unless f v w e = record { is = λ y q. (M.unlessZero f, e, go y (eqb w 0) (
     go y false z r = cc
 
 acts-none : {k : ℕ} (v w : ℕ) → ActsAs k none v w
-acts-none v w = record { is = λ y q. clash (cc) }
+acts-none v w = record { is = λ y q. contradiction cc }
 
 acts-cond : {k k′ : ℕ} {x x′ : Option ℕ} {v w : ℕ} (b : Bool) → ActsAs k x v w → ActsAs k′ x′ v w → ActsAs (cond b k k′) (cond b x x′) v w
 acts-cond true f g = f

@@ -1,10 +1,5 @@
 -- What the simulation says of each kind of part, and what it rests on: the functions' code, RDCH and WRCH in place.
-use Prim.Native.Nat.{ℕ, suc, _+_, _≤_, _<_}
-use mathlib.Core.Path.{_≡_}
-use mathlib.Core.Bool.{Bool}
-use mathlib.Core.List.{List, [], _∷_, _++_}
-use mathlib.Core.Option.{some}
-use lib.ListN.{length, getD}
+use Rattle.laws.proofs.Basics.{ℕ, suc, _+_, _<_, _≤_, _≡_, List, [], _∷_, _++_, Bool, some, length, getD}
 use Rattle.items.specs.Item.{Item, label}
 use Rattle.language.specs.Resolved as R
 use Rattle.language.specs.Resolved.{Expr, Cmd}

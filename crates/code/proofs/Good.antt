@@ -1,7 +1,5 @@
 -- What is used of a source that is accepted.
-use Prim.Native.Nat.{ℕ, _+_, _<_}
-use mathlib.Core.List.{List}
-use lib.ListN.{length, getD}
+use Rattle.laws.proofs.Basics.{ℕ, _+_, _<_, List, length, getD}
 use Rattle.items.proofs.Rendered.{AllSound}
 use Rattle.language.specs.Run.{noFun}
 use Rattle.language.specs.Whole.{functionsIn, stringsIn}

@@ -1,12 +1,7 @@
 -- Every source that is accepted is good: its items can be written and read back, and its functions are formed.
-use Prim.Native.Nat.{ℕ, suc, _+_, _*_, _≤_, _<_}
-use mathlib.Core.Path.{_≡_, refl, ap}
-use mathlib.Core.Bool.{Bool, true, false, cond}
-use mathlib.Core.List.{List, [], _∷_, _++_}
-use native.Mathlib.Omega.{arith}
-use lib.Dec.{ltb}
-use lib.ListN.{length}
-use borrow.Author.Tests.{ltb-true, ltb-false}
+use Rattle.laws.proofs.Basics.{ℕ, suc, _+_, _*_, _<_, _≤_, _≡_, refl, ap, List, [], _∷_, _++_, Bool, true, false, cond, length, ltb, arith, ltb-true}
+use Rattle.laws.proofs.Basics.{ltb-false}
+use Rattle.laws.proofs.Cases.{contradiction}
 use Rattle.items.specs.Item as I
 use Rattle.language.specs.Tree as T
 use Rattle.language.specs.Resolved as R
@@ -34,7 +29,6 @@ use Rattle.code.proofs.Measures.{funLabels}
 use Rattle.code.proofs.Good.{Good}
 use Rattle.code.proofs.Faithful.{faithful}
 use Rattle.code.proofs.WellPlaced.{well-placed}
-use Rattle.language.proofs.Cases.{clash}
 
 -- ---- heights
 
@@ -57,7 +51,7 @@ first-low n ns h = go (ltb 8192 (largestHeight (n .fun))) refl h
   where
     go : (b : Bool) → ltb 8192 (largestHeight (n .fun)) ≡ b → cond b (fault (n .name .place) 16) [] ++ heightFaults ns ≡ []
         → (largestHeight (n .fun) ≤ 8192) × (heightFaults ns ≡ [])
-    go true e q = clash (cc)
+    go true e q = contradiction cc
     go false e q = (ltb-false 8192 (largestHeight (n .fun)) e, q)
 
 -- ---- items

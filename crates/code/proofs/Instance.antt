@@ -1,9 +1,5 @@
 -- A closed instance of the theorem, against vacuity: a small source, its text, its image and its runs, computed.
-use Prim.Native.Nat.{ℕ, zero, suc, _+_, _≤_, _<_}
-use mathlib.Core.Path.{_≡_, refl}
-use mathlib.Core.List.{List, [], _∷_, _++_}
-use native.Mathlib.Omega.{arith}
-use lib.ListN.{length, getD}
+use Rattle.laws.proofs.Basics.{ℕ, zero, suc, _+_, _<_, _≤_, _≡_, refl, List, [], _∷_, _++_, length, getD, arith}
 use Rattle.text.specs.Written.{bytes}
 use Rattle.text.specs.declared.Refusal.{Refusal}
 use Rattle.words.specs.Words.{value, wordOf}

@@ -1,13 +1,7 @@
 -- The compiler's text is at most 64 bytes a source byte and 1,024 more: 10 bytes an instruction or constant, 7 a label, 13 a start in a
 -- global, and a string twice its characters and 4.
-use Prim.Native.Nat.{ℕ, zero, suc, _+_, _*_, _/_, _%_, _≤_, _<_}
-use mathlib.Core.Path.{_≡_, refl}
-use mathlib.Core.Bool.{Bool, true, false, cond, _&&_}
-use mathlib.Core.List.{List, [], _∷_, _++_}
-use native.Mathlib.Omega.{arith}
-use lib.Dec.{eqb, leb, ltb}
-use lib.ListN.{length, length-append}
-use borrow.Author.Tests.{lt-ltb}
+use Rattle.laws.proofs.Basics.{ℕ, zero, suc, _+_, _*_, _/_, _%_, _<_, _≤_, _≡_, refl, List, [], _∷_, _++_, Bool, true, false, _&&_, cond, length}
+use Rattle.laws.proofs.Basics.{length-append, eqb, ltb, leb, arith, lt-ltb}
 use Rattle.items.specs.Item as I
 use Rattle.items.specs.Item.{Operand, number, address, Base, Item, label, instruction, constant}
 use Rattle.items.specs.Render.{numeral, numeralOf, operandText, baseText, indirectText, plainText, characterText, charactersText, render, renderLines}

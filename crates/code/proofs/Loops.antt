@@ -1,12 +1,5 @@
 -- The simulation of loops: WHILE and UNTIL, the REPEAT forms, and FOR in both directions. The jump back is counted with the turn's own step.
-use Prim.Native.Nat.{ℕ, suc, _+_, _≤_}
-use mathlib.Core.Path.{_≡_, refl, ap, _∙_}
-use mathlib.Core.Bool.{Bool, true, false, not, cond}
-use mathlib.Core.List.{List}
-use native.Mathlib.Omega.{arith}
-use native.Mathlib.Nat.{le-refl}
-use lib.Dec.{eqb, leb}
-use lib.ListN.{getD}
+use Rattle.laws.proofs.Basics.{ℕ, suc, _+_, _≤_, _≡_, refl, ap, _∙_, List, Bool, true, false, not, cond, getD, eqb, leb, le-refl, arith}
 use Rattle.words.specs.Words as W
 use Rattle.words.specs.Words.{add, below, ge, le}
 use Rattle.machine.specs.Outcome.{Out}

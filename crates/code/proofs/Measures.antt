@@ -1,12 +1,7 @@
 -- Sums over the items of the code, where instructions and constants count alike, and the labels by a function u that grows: a part whose
 -- first label is n has just the labels from n up to some m, each once, so that they add up to u m - u n. With u n = n they are counted, with
 -- u n whether n has passed some label that label is.
-use Prim.Native.Nat.{ℕ, suc, _+_, _-_, _*_, _≤_}
-use mathlib.Core.Path.{_≡_, refl, ap}
-use mathlib.Core.List.{List, [], _∷_, _++_}
-use native.Mathlib.Omega.{arith}
-use lib.Dec.{eqb}
-use lib.ListN.{length}
+use Rattle.laws.proofs.Basics.{ℕ, suc, _+_, _-_, _*_, _≤_, _≡_, refl, ap, List, [], _∷_, _++_, length, eqb, arith}
 use Rattle.items.specs.Item as I
 use Rattle.items.specs.Item.{Item, label, instruction, constant}
 use Rattle.assembler.specs.Words.{size, short}

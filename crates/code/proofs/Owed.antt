@@ -1,13 +1,7 @@
 -- Demand 3 of a run that goes to a finish: what it says of every budget and every output room.
-use Prim.Native.Nat.{ℕ, zero, suc, _+_, _-_, _*_, _≤_, _<_}
-use mathlib.Core.Path.{_≡_, refl, sym, ap, _∙_}
-use mathlib.Core.Logic.{_⊎_, inl, inr}
-use mathlib.Core.List.{List, [], _++_}
-use native.Mathlib.Omega.{arith}
+use Rattle.laws.proofs.Basics.{ℕ, zero, suc, _+_, _-_, _*_, _<_, _≤_, _≡_, refl, sym, ap, _∙_, List, [], _++_, _⊎_, inl, inr, length, getD, take}
+use Rattle.laws.proofs.Basics.{replicate, length-append, length-replicate, length-take-le, getD-take, ext-getD, arith, le-leb}
 use native.Mathlib.Decide.{decLt}
-use lib.ListN.{length, getD, take, replicate, length-append, length-replicate}
-use lib.Seq.{ext-getD, length-take-le, getD-take}
-use borrow.Author.Tests.{le-leb}
 use Rattle.machine.specs.State as M
 use Rattle.machine.specs.State.{at, startRegisters, withC}
 use Rattle.machine.specs.Step.{finished, step}

@@ -1,13 +1,7 @@
 -- The assembler's image has the code of its items at their addresses.
-use Prim.Native.Nat.{ℕ, zero, suc, _+_, _*_, _≤_, _<_}
-use mathlib.Core.Path.{_≡_, refl, sym, ap, _∙_}
-use mathlib.Core.Bool.{Bool, true, false, cond}
-use mathlib.Core.List.{List, [], _∷_, _++_, append-assoc}
-use native.Mathlib.Omega.{arith}
-use lib.Dec.{eqb, ltb}
-use lib.ListN.{length, getD, length-append, List·getD-append}
-use lib.Seq.{getD-append-add}
-use borrow.Author.Tests.{ltb-true, eq-eqb}
+use Rattle.laws.proofs.Basics.{ℕ, zero, suc, _+_, _*_, _<_, _≤_, _≡_, refl, sym, ap, _∙_, List, [], _∷_, _++_, append-assoc, Bool, true, false, cond}
+use Rattle.laws.proofs.Basics.{length, getD, length-append, List·getD-append, getD-append-add, eqb, ltb, arith, eq-eqb, ltb-true}
+use Rattle.laws.proofs.Cases.{contradiction}
 use Rattle.items.specs.Item.{number, address, Base, Item, label, instruction, constant, string, global, Placed}
 use Rattle.items.specs.Render.{render}
 use Rattle.items.proofs.Rendered.{places}
@@ -22,7 +16,6 @@ use Rattle.assembler.proofs.Faults.{no-fault-ranged, no-fault-placed, label-pla
 use Rattle.code.proofs.Standing.{Env, At, Is, is-number, is-address, is-label, is-word, is-place, is-string, is-global, is-minus, is-negative}
 use Rattle.code.proofs.Standing.{Code, end, next}
 use Rattle.code.proofs.Fetching.{short-bits, long-bits, fetch-short, fetch-long}
-use Rattle.language.proofs.Cases.{clash}
 
 -- ---- an item's words are as many as its size
 
@@ -84,7 +77,7 @@ module _ (memory room : ℕ) where
           (lay memory room (at + size (p .item)) (noted at ls (p .item)) ps) ≡ laid labels end
           → (fault memory room at ls (p .item) ≡ 0) × Lays (at + size (p .item)) (noted at ls (p .item)) ps labels end
       go zero e h = (e, record { is = rw e at h })
-      go (suc k) e h = let y : refused (suc k) (p .place) ≡ laid labels end = rw e at h in clash (cc)
+      go (suc k) e h = let y : refused (suc k) (p .place) ≡ laid labels end = rw e at h in contradiction cc
 
   -- the labels found so far stay in front
   pub record Extends (ls labels : List Label) : Type 0 where

@@ -1,14 +1,8 @@
 -- A whole program in an accepted image: its labels' addresses, its functions' code, its strings' words, its globals.
-use Prim.Native.Nat.{ℕ, zero, suc, _+_, _-_, _*_, _≤_, _<_}
-use mathlib.Core.Path.{_≡_, refl, sym, ap, _∙_}
-use mathlib.Core.Bool.{Bool, true, false, cond}
-use mathlib.Core.List.{List, [], _∷_, _++_, append-assoc}
-use mathlib.Core.Option.{none, some}
-use native.Mathlib.Omega.{arith}
-use lib.Dec.{eqb, leb, ltb}
-use lib.ListN.{length, getD, set, replicate, length-append, length-set, List·getD-append}
-use lib.Seq.{getD-append-add}
-use borrow.Author.Tests.{ltb-true, le-leb, lt-ltb, le-ltb, eqb-true, ne-eqb}
+use Rattle.laws.proofs.Basics.{ℕ, zero, suc, _+_, _-_, _*_, _<_, _≤_, _≡_, refl, sym, ap, _∙_, List, [], _∷_, _++_, append-assoc, Bool, true, false}
+use Rattle.laws.proofs.Basics.{cond, some, none, length, getD, set, replicate, length-append, length-set, List·getD-append, getD-append-add, eqb, ltb}
+use Rattle.laws.proofs.Basics.{leb, arith, eqb-true, ne-eqb, ltb-true, lt-ltb, le-ltb, le-leb}
+use Rattle.laws.proofs.Cases.{contradiction}
 use Rattle.items.specs.Item as I
 use Rattle.items.specs.Item.{Item, label, instruction, constant, string, global}
 use Rattle.items.specs.Scan.{scan, whole}
@@ -32,7 +26,6 @@ use Rattle.code.proofs.Measures.{sum, no-others}
 use Rattle.code.proofs.Steps.{Sized}
 use Rattle.language.proofs.Formed.{FormedF}
 use Rattle.code.proofs.Goals.{Entered, Fits}
-use Rattle.language.proofs.Cases.{clash}
 
 -- ---- labels and the table
 
@@ -75,7 +68,7 @@ record Found (v : ℕ) (es : List ℕ) (i k : ℕ) : Type 0 where
 
 position-found : (v : ℕ) (es : List ℕ) (i k : ℕ) → positionOf v es i ≡ some k → Found v es i k
 unfolding positionOf
-position-found v [] i k h = clash (cc)
+position-found v [] i k h = contradiction cc
 position-found v (a ∷ es) i k h = go (eqb v a) refl h (λ e. position-found v es (suc i) k e)
   where
     go : (b : Bool) → eqb v a ≡ b → cond b (some i) (positionOf v es (suc i)) ≡ some k → (positionOf v es (suc i) ≡ some k → Found v es (suc i) k)
@@ -297,8 +290,8 @@ module _
       go : (p : Bool) → ltb x 16 ≡ p → (q r : Bool) → ltb x codeEnd ≡ r → cond p true (cond q r false) ≡ true → x < first
       go true e q r f h = let l : x < 16 = ltb-true x 16 e in omega (arith, b .past-start)
       go false e true true f h = let l : x < codeEnd = ltb-true x codeEnd f in omega (arith, codeEnd-first)
-      go false e true false f h = clash (cc)
-      go false e false r f h = clash (cc)
+      go false e true false f h = contradiction cc
+      go false e false r f h = contradiction cc
 
   near : (n : ℕ) → addressOf (b .labels) n < 65536
   near n = omega (arith, address-near memory (b .labels) n (b .proper), b .most)

@@ -1,13 +1,6 @@
 -- The compiler's text has a label a source byte at most, and is refused only by 24 or 25: its labels differ and those used are there.
-use Prim.Native.Nat.{ℕ, suc, _+_, _-_, _≤_}
-use mathlib.Core.Path.{_≡_, refl}
-use mathlib.Core.Bool.{Bool, true, false, cond}
-use mathlib.Core.Logic.{_⊎_}
-use mathlib.Core.List.{List, [], _∷_, _++_}
-use native.Mathlib.Omega.{arith}
-use lib.Dec.{eqb, ltb}
-use lib.ListN.{length}
-use borrow.Author.Tests.{eqb-true, eqb-false, ltb-true, ltb-false, eq-eqb}
+use Rattle.laws.proofs.Basics.{ℕ, suc, _+_, _-_, _≤_, _≡_, refl, List, [], _∷_, _++_, Bool, true, false, cond, _⊎_, length, eqb, ltb, arith, eqb-true}
+use Rattle.laws.proofs.Basics.{eqb-false, eq-eqb, ltb-true, ltb-false}
 use Rattle.text.specs.declared.Refusal.{Refusal}
 use Rattle.items.specs.Item as I
 use Rattle.items.specs.Item.{Operand, number, address, Item, label, instruction, constant}

@@ -1,15 +1,9 @@
 -- The relation between a state of the source run and one of the machine, and runs of the machine that keep it.
 -- A run starts at a height h, below which words that are gone are kept, and ends at a height h′, above which all words are gone.
-use Prim.Native.Nat.{ℕ, _+_, _*_, _≤_, _<_}
-use mathlib.Core.Path.{_≡_, refl, sym, _∙_}
-use mathlib.Core.Bool.{true, false}
-use mathlib.Core.List.{List}
-use native.Mathlib.Omega.{arith}
+use Rattle.laws.proofs.Basics.{ℕ, _+_, _*_, _<_, _≤_, _≡_, refl, sym, _∙_, List, true, false, length, getD, set, length-set, getD-set-same}
+use Rattle.laws.proofs.Basics.{getD-set-other, leb, arith, eq-eqb, ne-eqb, leb-true, le-leb}
+use Rattle.laws.proofs.Cases.{contradiction}
 use native.Mathlib.Decide.{ℕ-discrete, decLt}
-use lib.Dec.{leb}
-use lib.ListN.{length, getD, set, length-set}
-use lib.Seq.{getD-set-same, getD-set-other}
-use borrow.Author.Tests.{le-leb, leb-true, ne-eqb, eq-eqb}
 use Rattle.items.specs.Item as I
 use Rattle.machine.specs.State as M
 use Rattle.language.specs.State.{Cell, gone, holds, State, Result, ok, bind, step, put, forget}
@@ -19,14 +13,14 @@ use Rattle.code.proofs.Results.{live-unset, live-holds}
 use Rattle.code.proofs.Machine.{Mach, Goes, goes-not, goes-on}
 use Rattle.code.proofs.Standing.{Env, Agree, At}
 use Rattle.code.proofs.Instructions.{withMem}
-use Rattle.language.proofs.Cases.{clash, by-cond}
+use Rattle.language.proofs.Cases.{by-cond}
 
 pub gone-holds : {c : Cell} {v : ℕ} → c ≡ gone → c ≡ holds v → ⊥
-gone-holds e f = clash (cc)
+gone-holds e f = contradiction cc
 
 pub gone-live : {c : Cell} → Live c → c ≡ gone → ⊥
-gone-live live-unset e = clash (cc)
-gone-live live-holds e = clash (cc)
+gone-live live-unset e = contradiction cc
+gone-live live-holds e = contradiction cc
 
 -- ---- cells forgotten
 

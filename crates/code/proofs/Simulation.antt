@@ -1,5 +1,5 @@
 -- The simulation: the source run of every part, with any fuel, is followed by the machine's run of its code.
-use Prim.Native.Nat.{ℕ, zero, suc}
+use Rattle.laws.proofs.Basics.{ℕ, zero, suc}
 use Rattle.language.specs.Resolved as R
 use Rattle.language.specs.Resolved.{Expr, Cmd}
 use Rattle.language.specs.Run.{Loop, whiling, repeating, repeatingWhile, counting, Sem, sem}

@@ -1,9 +1,5 @@
 -- The compiler's text makes at most eight program words a source symbol and sixteen more, its strings' own words apart.
-use Prim.Native.Nat.{ℕ, _+_, _*_, _≤_}
-use mathlib.Core.Path.{_≡_, refl}
-use mathlib.Core.List.{List, [], _∷_}
-use native.Mathlib.Omega.{arith}
-use lib.ListN.{length}
+use Rattle.laws.proofs.Basics.{ℕ, _+_, _*_, _≤_, _≡_, refl, List, [], _∷_, length, arith}
 use Rattle.items.specs.Item as I
 use Rattle.items.specs.Item.{Item}
 use Rattle.items.specs.Scan as Z

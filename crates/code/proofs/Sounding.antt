@@ -1,11 +1,6 @@
 -- The code of formed functions whose heights and labels are bounded can be written and read back.
-use Prim.Native.Nat.{ℕ, suc, _+_, _≤_, _<_}
-use mathlib.Core.Path.{_≡_, refl}
-use mathlib.Core.Bool.{Bool, true, false, cond, _&&_}
-use mathlib.Core.List.{List, [], _∷_, _++_}
-use native.Mathlib.Omega.{arith}
-use lib.Dec.{eqb, leb}
-use borrow.Author.Tests.{le-leb}
+use Rattle.laws.proofs.Basics.{ℕ, suc, _+_, _<_, _≤_, _≡_, refl, List, [], _∷_, _++_, Bool, true, false, _&&_, cond, eqb, leb, arith, le-leb}
+use Rattle.laws.proofs.Cases.{contradiction}
 use Rattle.items.specs.Item as I
 use Rattle.items.specs.Item.{Operand, number, address, Base, Item, label, instruction, constant, string, global}
 use Rattle.items.proofs.Sound.{Sound, SoundOperand, SoundString}
@@ -20,7 +15,6 @@ use Rattle.code.specs.Generate.{exprsLabels, targetLabels, pairsLabels, 
 use Rattle.code.specs.Generate.{tableOf, exprCode, exprsCode, targetCode, pairsCode, cmdCode, cmdsCode, casesCode, localsCode}
 use Rattle.language.proofs.Leaving.{LeavesE, LeavesA, LeavesT, LeavesP, LeavesC, LeavesB, LeavesS, LeavesL}
 use Rattle.language.proofs.Formed.{FormedCases, FormedE, FormedA, FormedT, FormedP, FormedC, FormedB, FormedS, FormedL}
-use Rattle.language.proofs.Cases.{clash}
 
 -- ---- items whose labels lie from 1 up to some number, and whose other numbers are in range
 
@@ -197,7 +191,7 @@ near-switch : {T : ℕ} {a b v : Bool} {x : Exits} {m : ℕ} → Within T m → 
 near-switch l q = record { break = q .break; loop = q .loop; endcase = λ _. l; result = q .result }
 
 never : {P : Type 0} → false ≡ true → P
-never e = clash (cc)
+never e = contradiction cc
 
 near-valof : {T m : ℕ} → Within T m → Near T false false true (inValof m)
 near-valof l = record { break = λ e. never e; loop = λ e. never e; endcase = λ e. never e; result = λ _. l }

@@ -1,10 +1,5 @@
 -- What stands in memory while a program runs: its code, told by what each instruction's fetch gives, with start and end addresses.
-use Prim.Native.Nat.{ℕ, suc, _+_, _≤_, _<_}
-use mathlib.Core.Path.{_≡_, refl}
-use mathlib.Core.Bool.{Bool, true, false, cond}
-use mathlib.Core.List.{List, [], _∷_, _++_}
-use mathlib.Core.Option.{none}
-use lib.ListN.{length, getD}
+use Rattle.laws.proofs.Basics.{ℕ, suc, _+_, _<_, _≤_, _≡_, refl, List, [], _∷_, _++_, Bool, true, false, cond, none, length, getD}
 use Rattle.words.specs.Words.{add}
 use Rattle.items.specs.Item as I
 use Rattle.items.specs.Item.{number, address, Base, P, G, Item, label, instruction, constant, string, global}

@@ -1,15 +1,8 @@
 -- The start: the machine at word 0 of an accepted image and the source run's first state are related, and the call of START follows.
-use Prim.Native.Nat.{ℕ, suc, _+_, _-_, _≤_, _<_}
-use mathlib.Core.Path.{_≡_, refl, _∙_}
-use mathlib.Core.Bool.{Bool, true, false, cond}
-use mathlib.Core.List.{List, [], _∷_}
-use mathlib.Core.Option.{Option, none, some}
-use native.Mathlib.Omega.{arith}
-use native.Mathlib.Nat.{le-refl}
+use Rattle.laws.proofs.Basics.{ℕ, suc, _+_, _-_, _<_, _≤_, _≡_, refl, _∙_, List, [], _∷_, Bool, true, false, cond, Option, some, none, length, getD}
+use Rattle.laws.proofs.Basics.{eqb, ltb, leb, le-refl, arith, ltb-true, le-ltb, leb-true, leb-false, le-leb, lt-leb}
+use Rattle.laws.proofs.Cases.{contradiction}
 use native.Mathlib.Decide.{decLt}
-use lib.Dec.{eqb, leb, ltb}
-use lib.ListN.{length, getD}
-use borrow.Author.Tests.{ltb-true, leb-true, leb-false, le-leb, lt-leb, le-ltb}
 use Rattle.text.specs.Packed.{packed}
 use Rattle.words.specs.Globals.{noGlobals}
 use Rattle.machine.specs.State.{startRegisters}
@@ -35,7 +28,6 @@ use Rattle.language.proofs.Limits.{Both, b-finished, b-ok, both-called, both-se
 use Rattle.code.proofs.Placing.{past}
 use Rattle.code.proofs.Program as G
 use Rattle.code.proofs.Program.{Built}
-use Rattle.language.proofs.Cases.{clash}
 
 -- ---- the strings' cells
 
@@ -71,7 +63,7 @@ string-cells : (Γ : Env) (table : List Label) → ((n : ℕ) → 1 ≤ n → ad
     → Code Γ a (stringsCode l ss) b
     → Stringed (Γ .image) a b x (stringCell ss (addressesFrom table l (length ss)) x)
 unfolding stringsCode stringCell addressesFrom
-string-cells Γ table same x l [] h (end e) = record { before = λ k. refl; past-end = λ k. refl; value = λ w k. clash (cc) }
+string-cells Γ table same x l [] h (end e) = record { before = λ k. refl; past-end = λ k. refl; value = λ w k. contradiction cc }
 string-cells Γ table same x l (cs ∷ ss) {a} {b} h (next (is-label t e) (next (is-string f g) k)) =
     let r = string-cells Γ table same x (suc l) ss (omega arith) k in
     let z : addressOf table l ≡ a = same l h ∙ t in

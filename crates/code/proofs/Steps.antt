@@ -1,11 +1,5 @@
 -- Instructions as runs: what follows gets the machine after one as a variable, with what is known of it.
-use Prim.Native.Nat.{ℕ, _+_, _≤_, _<_}
-use mathlib.Core.Path.{_≡_, refl, ap}
-use mathlib.Core.Bool.{Bool, true, false, cond}
-use native.Mathlib.Omega.{arith}
-use lib.Dec.{eqb}
-use lib.ListN.{length, getD}
-use lib.Seq.{getD-set-same, getD-set-other}
+use Rattle.laws.proofs.Basics.{ℕ, _+_, _<_, _≤_, _≡_, refl, ap, Bool, true, false, cond, length, getD, getD-set-same, getD-set-other, eqb, arith}
 use Rattle.words.specs.Words.{add, neg, complement}
 use Rattle.items.specs.Item as I
 use Rattle.items.specs.Item.{P, G}

@@ -1,12 +1,5 @@
 -- The strings of a source can be written: at most 255 characters each, that a string may hold.
-use Prim.Native.Nat.{ℕ, suc}
-use mathlib.Core.Path.{_≡_, refl}
-use mathlib.Core.Bool.{Bool, true, false, cond}
-use mathlib.Core.List.{List, [], _∷_}
-use native.Mathlib.Omega.{arith}
-use lib.Dec.{eqb}
-use lib.ListN.{length, drop}
-use borrow.Author.Tests.{eqb-true}
+use Rattle.laws.proofs.Basics.{ℕ, suc, _≡_, refl, List, [], _∷_, Bool, true, false, cond, length, drop, eqb, arith, eqb-true}
 use Rattle.text.specs.Quoted.{Quoted, closed, unclosed, faulty, charactersOf, quoted}
 use Rattle.text.proofs.Quotes.{is-closed, Writable}
 use Rattle.items.specs.Item as I
@@ -14,6 +7,7 @@ use Rattle.language.specs.Kinds.{STRING}
 use Rattle.language.specs.Symbols.{Symbol, string}
 use Rattle.language.specs.Whole.{stringsAmong}
 use Rattle.code.specs.Generate.{stringsCode}
+use Rattle.language.proofs.Elements.{closes-short}
 use Rattle.language.proofs.SymbolFacts.{charactersAt, AllWords, symbolsNow, words-now}
 use Rattle.code.proofs.Sounding.{Span, span, Sounds, s-none, s-more}
 
@@ -40,7 +34,8 @@ module _ (text : List ℕ) where
           → Sounds T (stringsCode l (cond b (charactersAt text (x .place) ∷ stringsAmong text xs) (stringsAmong text xs)))
       go true e k f g =
           s-more {x = I.label l} (record { first = k .one; last = omega (arith, k .room) })
-          (s-more {x = I.string (charactersAt text (x .place))} (record { short = h .0 .short (eqb-true _ _ e); each = writable-at (x .place) })
+          (s-more {x = I.string (charactersAt text (x .place))}
+          (record { short = closes-short (h .0 .closes (eqb-true _ _ e)); each = writable-at (x .place) })
           (f (span (omega arith) (omega (arith, k .room)))))
       go false e k f g = g k
 

@@ -1,14 +1,6 @@
 -- The simulation of SWITCHON: the machine's search goes to the command that the source selects, or to the end.
-use Prim.Native.Nat.{ℕ, suc, _+_}
-use mathlib.Core.Path.{_≡_, refl, sym, ap, _∙_}
-use mathlib.Core.Bool.{Bool, true, false, cond}
-use mathlib.Core.List.{List, [], _∷_}
-use mathlib.Core.Option.{Option, none, some}
-use native.Mathlib.Omega.{arith}
-use native.Mathlib.Nat.{le-refl}
-use lib.Dec.{eqb}
-use lib.ListN.{length}
-use borrow.Author.Tests.{lt-ltb, eq-eqb, ne-eqb, eqb-true, eqb-false}
+use Rattle.laws.proofs.Basics.{ℕ, suc, _+_, _≡_, refl, sym, ap, _∙_, List, [], _∷_, Bool, true, false, cond, Option, some, none, length, eqb, le-refl}
+use Rattle.laws.proofs.Basics.{arith, eqb-true, eqb-false, eq-eqb, ne-eqb, lt-ltb}
 use Rattle.words.specs.Words.{add}
 use Rattle.machine.specs.Outcome as O
 use Rattle.machine.specs.Acts.{search}

@@ -1,10 +1,5 @@
 -- What is owed for every source that is accepted: its text is faithful to it and follows the rules on the compiler's text.
-use Prim.Native.Nat.{ℕ, _+_, _*_, _≤_}
-use mathlib.Core.Path.{_≡_}
-use mathlib.Core.Logic.{_⊎_}
-use mathlib.Core.List.{List, []}
-use native.Mathlib.Omega.{arith}
-use lib.ListN.{length}
+use Rattle.laws.proofs.Basics.{ℕ, _+_, _*_, _≤_, _≡_, List, [], _⊎_, length, arith}
 use Rattle.items.specs.Scan.{scan}
 use Rattle.assembler.specs.Assemble.{assembled}
 use Rattle.language.specs.Symbols as Y

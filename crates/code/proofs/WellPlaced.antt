@@ -1,15 +1,8 @@
 -- The placement rules of the compiler's text: every function and string labelled, entries that differ, strings in place and apart.
-use Prim.Native.Nat.{ℕ, zero, suc, _+_, _-_, _≤_, _<_}
-use mathlib.Core.Path.{_≡_, refl, sym, _∙_}
-use mathlib.Core.Bool.{Bool, true, false, cond}
-use mathlib.Core.Logic.{inl}
-use mathlib.Core.List.{List, [], _∷_, _++_, append-assoc}
-use native.Mathlib.Omega.{arith}
+use Rattle.laws.proofs.Basics.{ℕ, zero, suc, _+_, _-_, _<_, _≤_, _≡_, refl, sym, _∙_, List, [], _∷_, _++_, append-assoc, Bool, true, false, cond, inl}
+use Rattle.laws.proofs.Basics.{length, getD, take, drop, replicate, length-drop, length-take-le, getD-take, getD-drop, ext-getD, eqb, arith, eq-eqb}
+use Rattle.laws.proofs.Basics.{ne-eqb}
 use native.Mathlib.Decide.{decLt}
-use lib.Dec.{eqb}
-use lib.ListN.{length, getD, take, drop, replicate, length-drop}
-use lib.Seq.{ext-getD, getD-take, getD-drop, length-take-le}
-use borrow.Author.Tests.{eq-eqb, ne-eqb}
 use Rattle.items.specs.Item.{Item, label}
 use Rattle.items.specs.Render.{render}
 use Rattle.items.proofs.Rendered.{places}

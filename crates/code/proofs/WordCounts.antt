@@ -1,5 +1,5 @@
 -- Program words of resolved trees at most, counted as two an instruction and two a constant.
-use Prim.Native.Nat.{ℕ, _+_, _*_}
+use Rattle.laws.proofs.Basics.{ℕ, _+_, _*_}
 use Rattle.language.specs.Resolved as R
 use Rattle.language.specs.Resolved.{Expr, Exprs, Target, Pairs, Cmd, Cmds, Cases, Locals, Body, caseCount}
 

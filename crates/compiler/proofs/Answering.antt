@@ -1,8 +1,8 @@
 -- From the walk of the tree to the answer: what the walk asks holds of every tree that is read, and what it leaves is the generator's text.
-use Rattle.compiler.proofs.Basics.{ℕ, zero, suc, _+_, _*_, _-_, _≤_, _≡_, refl, sym, ap, _∙_, Bool, true, false, not, cond, List, [], _∷_}
-use Rattle.compiler.proofs.Basics.{_++_, append-assoc, arith, length, getD, replicate, take, drop, length-append, List·getD-append}
-use Rattle.compiler.proofs.Basics.{getD-append-add, length-take-le, eqb, ltb, ne-eqb, eqb-true, ltb-false}
-use native.Mathlib.Numerals.{add-one}
+use Rattle.laws.proofs.Basics.{ℕ, zero, suc, _+_, _-_, _*_, _≤_, _≡_, refl, sym, ap, _∙_, List, [], _∷_, _++_, append-assoc, Bool, true, false, not}
+use Rattle.laws.proofs.Basics.{cond, length, getD, take, drop, replicate, length-append, List·getD-append, length-take-le, getD-append-add, eqb, ltb}
+use Rattle.laws.proofs.Basics.{add-one, arith, eqb-true, ne-eqb, ltb-false}
+use Rattle.laws.proofs.Cases.{contradiction}
 use Rattle.text.specs.Quoted.{charactersOf, quoted}
 use Rattle.language.specs.Kinds.{STRING}
 use Rattle.items.specs.Item.{Item}
@@ -91,7 +91,7 @@ record Somewhere (ns : List Named) : Type 0 where
 
 found-start : (ns : List Named) → hasStart ns ≡ true → Somewhere ns
 unfolding hasStart startsOf funs
-found-start [] h = let z : _≡_ {A = ℕ} 0 1 = cc in absurd (omega arith)
+found-start [] h = contradiction cc
 found-start (f ∷ ns) h = go (f .fun .start) refl h (found-start ns)
   where
     after : Somewhere ns → Somewhere (f ∷ ns)
@@ -108,12 +108,12 @@ found-start (f ∷ ns) h = go (f .fun .start) refl h (found-start ns)
 
 no-start : (ns : List Named) → hasStart ns ≡ false → (l : ℕ) → getD (startsOf (funs ns)) l nowhere ≡ inGlobal 1 → ⊥
 unfolding hasStart startsOf funs
-no-start [] h l e = let z : _≡_ {A = ℕ} 0 1 = cc in omega arith
-no-start (f ∷ ns) h zero e = let z : true ≡ false = rw e at h in let k : _≡_ {A = ℕ} 0 1 = cc in omega arith
+no-start [] h l e = contradiction cc
+no-start (f ∷ ns) h zero e = let z : true ≡ false = rw e at h in contradiction cc
 no-start (f ∷ ns) h (suc l) e = no-start ns (go (startsInOne (f .fun .start)) h) l e
   where
     go : (b : Bool) → cond b true (hasStart ns) ≡ false → hasStart ns ≡ false
-    go true h = let z : _≡_ {A = ℕ} 0 1 = cc in absurd (omega arith)
+    go true h = contradiction cc
     go false h = h
 
 -- the table has a label for global 1 just where a function starts there
@@ -197,14 +197,14 @@ behind-gave {source} {s} {s′} {table} {t} {t₁} {t₂} {t₃} {count} {names}
 -- what is accepted has no faults, and room
 no-faults : (fs : List Fault) (x : Refused) → leastOr fs x ≡ accepted → fs ≡ []
 no-faults [] x h = refl
-no-faults (f ∷ fs) x h = let z : _≡_ {A = ℕ} 0 1 = cc in absurd (omega arith)
+no-faults (f ∷ fs) x h = contradiction cc
 
 fitting : (size room : ℕ) (x : Refused) → unlessFits size room x ≡ accepted → (x ≡ accepted) × (size ≤ room)
-fitting size room (refused number place) h = let z : _≡_ {A = ℕ} 0 1 = cc in absurd (omega arith)
+fitting size room (refused number place) h = contradiction cc
 fitting size room accepted h = (refl, go (ltb room size) refl h)
   where
     go : (b : Bool) → ltb room size ≡ b → cond b (refused 15 0) accepted ≡ accepted → size ≤ room
-    go true e h = let z : _≡_ {A = ℕ} 0 1 = cc in absurd (omega arith)
+    go true e h = contradiction cc
     go false e h = ltb-false room size e
 
 -- ---- what the walk asks
@@ -248,7 +248,7 @@ module _ {source s : List ℕ} {count end : ℕ} (y : ReadyTree source s count e
     where
       go : (f : Y.Fault) → S.onFault f (symbolsNow source) ≡ good (y .symbols) → y .symbols ≡ symbolsNow source
       go Y.none e = cc
-      go (Y.fault number place) e = let z : _≡_ {A = ℕ} 0 1 = cc in absurd (omega arith)
+      go (Y.fault number place) e = contradiction cc
 
   tree-now : treeOf (sourceNow source) ≡ ok p (y .next)
   tree-now = ap (λ (z : List Symbol). treeOf (record { symbols = z; size = length source })) (sym symbols-now) ∙ y .parses

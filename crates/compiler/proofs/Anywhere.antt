@@ -1,5 +1,5 @@
 -- What an expression may leave is of no account but for RETURN: its faults are the same anywhere.
-use Rattle.compiler.proofs.Basics.{ℕ, _+_, _≡_, refl, List, _++_}
+use Rattle.laws.proofs.Basics.{ℕ, _+_, _≡_, refl, List, _++_}
 use Rattle.language.specs.Tree as T
 use Rattle.compiler.proofs.Language.{Expression, Expressions, Suffixes, Operations, Scope, Fault, under, Leavable, inExpression, inSuffixes}
 use Rattle.compiler.proofs.Language.{inOperations, inExpressions}

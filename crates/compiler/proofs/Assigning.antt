@@ -1,6 +1,6 @@
 -- The loop over the sides of an assignment: a left side and a right side at a time.
-use Rattle.compiler.proofs.Basics.{ℕ, _+_, _*_, _-_, _≤_, _<_, _≡_, refl, sym, ap, subst, _∙_, List, [], _∷_, _++_, append-assoc, arith}
-use Rattle.compiler.proofs.Basics.{length, getD, length-append}
+use Rattle.laws.proofs.Basics.{ℕ, _+_, _-_, _*_, _<_, _≤_, _≡_, refl, sym, ap, subst, _∙_, List, [], _∷_, _++_, append-assoc, length, getD}
+use Rattle.laws.proofs.Basics.{length-append, arith}
 use Rattle.language.specs.Tree as T
 use Rattle.compiler.proofs.Language.{Expression, Expressions, Unlabelled, placeOf, depth, expressionsDepth, unlabelledDepth, Scope, Fault}
 use Rattle.compiler.proofs.Language.{expression, unlabelled, sides, pairUp, sideOf, targetOf, ofExpr, ofTarget, ofPairs, ofCmd, Leavable}

@@ -1,6 +1,5 @@
 -- BREAK, LOOP, ENDCASE, RETURN and FINISH: a jump or an act, or 13 where there is nothing to leave. And a call as a command.
-use Rattle.compiler.proofs.Basics.{ℕ, _+_, _-_, _≤_, _≡_, refl, sym, ap, subst, _∙_, true, false, List, [], _∷_, arith, length, getD, eq-eqb}
-use Rattle.compiler.proofs.Basics.{ne-eqb}
+use Rattle.laws.proofs.Basics.{ℕ, _+_, _-_, _≤_, _≡_, refl, sym, ap, subst, _∙_, List, [], _∷_, true, false, length, getD, arith, eq-eqb, ne-eqb}
 use Rattle.language.specs.Kinds as K
 use Rattle.language.specs.Tree as T
 use Rattle.compiler.proofs.Language.{Expression, Unlabelled, depth, unlabelledDepth, unlabelled, FineUnlabelled, inUnlabelled, ofCmd, encode}

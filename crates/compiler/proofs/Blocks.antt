@@ -1,6 +1,5 @@
 -- Lists of commands, locals and blocks.
-use Rattle.compiler.proofs.Basics.{ℕ, suc, _+_, _*_, _-_, _≤_, _<_, _≡_, refl, sym, ap, subst, _∙_, List, _++_, append-assoc, arith, length}
-use Rattle.compiler.proofs.Basics.{getD}
+use Rattle.laws.proofs.Basics.{ℕ, suc, _+_, _-_, _*_, _<_, _≤_, _≡_, refl, sym, ap, subst, _∙_, List, _++_, append-assoc, length, getD, arith}
 use Rattle.language.specs.Tree as T
 use Rattle.compiler.proofs.Language.{Name, Expressions, Command, Commands, Unlabelled, commandDepth, commandsDepth, unlabelledDepth}
 use Rattle.compiler.proofs.Language.{localsDepth, Scope, opened, declared, forVector, judgedWord, expressions, commands, unlabelled, locals}

@@ -1,5 +1,5 @@
 -- A function's body: a value, from which nothing is left, or a routine, which only RETURN leaves.
-use Rattle.compiler.proofs.Basics.{ℕ, _≡_, refl, sym, ap, subst, _∙_, Bool, true, false, not, List, arith, length, eq-eqb, ne-eqb}
+use Rattle.laws.proofs.Basics.{ℕ, _≡_, refl, sym, ap, subst, _∙_, List, Bool, true, false, not, length, arith, eq-eqb, ne-eqb}
 use Rattle.language.specs.Kinds as K
 use Rattle.language.specs.Tree as T
 use Rattle.compiler.proofs.Language.{inExpression, depth, commandDepth, bodyDepth, encode, encodeCommand, encodeBody, bodyWord}

@@ -1,6 +1,7 @@
 -- Arguments, and what follows a primary.
-use Rattle.compiler.proofs.Basics.{ℕ, suc, _+_, _*_, _-_, _≤_, _<_, _≡_, refl, sym, ap, subst, _∙_, List, [], _∷_, _++_, append-nil}
-use Rattle.compiler.proofs.Basics.{append-assoc, arith, length, getD, length-append, List·getD-append, getD-append-add}
+use Rattle.laws.proofs.Basics.{ℕ, suc, _+_, _-_, _*_, _<_, _≤_, _≡_, refl, sym, ap, subst, _∙_, List, [], _∷_, _++_, append-assoc, append-nil, length}
+use Rattle.laws.proofs.Basics.{getD, length-append, List·getD-append, getD-append-add, arith}
+use Rattle.laws.proofs.Cases.{Order, lt, ge, order}
 use Rattle.language.specs.Tree as T
 use Rattle.compiler.proofs.Language.{Expression, Expressions, Suffixes, depth, expressionsDepth, suffixesDepth, Scope, Expr, expression}
 use Rattle.compiler.proofs.Language.{expressions, suffixes, under, ofExpr, ofExprs, Leavable, inExpression, inExpressions, inSuffixes, behind}
@@ -12,7 +13,7 @@ use Rattle.code.specs.Generate.{exprCode, exprsCode, exprLabels, exprsLabels}
 use Rattle.compiler.proofs.Vocabulary.{Keeps, State, Here, Node, FineE, FineEs, FineSs, inside, raised, leavable, NodeAt, Did, Emits, Reached}
 use Rattle.compiler.proofs.Vocabulary.{exprSays, exprsSays, Lies, Ready, Result, ReadyE, GaveE, faultsE, codeE, ReadyArgs, GaveArgs, Counts}
 use Rattle.compiler.proofs.Vocabulary.{encodeApplied, codeA, ReadySuffixes, GaveSuffixes, GaveIndexed, GavePassed}
-use Rattle.compiler.proofs.Scoping.{keeps-all, keeps-then, Order, lt, ge, order}
+use Rattle.compiler.proofs.Scoping.{keeps-all, keeps-then}
 use Rattle.compiler.proofs.Done.{did-emit, did-put, did-after, did-none, did-then, did-as, same-refl, same-eq, same-swap, same-then, code-is}
 use Rattle.compiler.proofs.Trees.{first, second, find, IsTwo, is-two, Case, aNumber, aString, aName, aBracket, aValof, aMonadic, aSuffixed}
 use Rattle.compiler.proofs.Trees.{aCalled, aDyadic}

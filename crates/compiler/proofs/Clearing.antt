@@ -1,9 +1,9 @@
 -- Zeros from a place on, where scratch holds nothing but zeros, and `compile`'s contract once they are written.
-use Rattle.compiler.proofs.Basics.{ℕ, zero, suc, _+_, _-_, _<_, _≤_, _≡_, refl, sym, ap, _∙_, List, [], _∷_, _++_, append-assoc, append-nil}
-use Rattle.compiler.proofs.Basics.{arith, length, getD, set, take, drop, replicate, length-append, length-drop, length-replicate}
-use Rattle.compiler.proofs.Basics.{drop-of-length-le, replicate-append-replicate, take-append-drop, List·getD-append, length-take-le, set-at}
-use Rattle.compiler.proofs.Basics.{drop-cons, ext-getD, getD-append-add, getD-drop, take-at}
-use native.Mathlib.Numerals.{add-one}
+use Rattle.laws.proofs.Basics.{ℕ, zero, suc, _+_, _-_, _≤_, _≡_, refl, sym, ap, _∙_, List, _++_, append-assoc, length, getD}
+use Rattle.laws.proofs.Basics.{take, drop, replicate, length-append, length-drop, length-replicate}
+use Rattle.laws.proofs.Basics.{replicate-append-replicate, List·getD-append, length-take-le, take-at, getD-drop, getD-append-add, ext-getD}
+use Rattle.laws.proofs.Basics.{arith}
+use Rattle.laws.proofs.Cases.{Order, lt, ge, order, contradiction}
 use Rattle.text.specs.declared.Refusal.{Refusal}
 use Rattle.language.specs.Program.{Refused, accepted, refused}
 use Rattle.language.specs.Whole.{refusalOf, refusalIn, unlessFits}
@@ -13,31 +13,9 @@ use Rattle.code.specs.Generate.{textOf}
 use Rattle.compiler.specs.declared.Compiled.{Compiled}
 use Rattle.compiler.specs.declared.Compiled.the-variants as C
 use Rattle.compiler.specs.Compiles.{decided, answerOf, textAfter, Begins, Compiles, Translates, Clean}
-use Rattle.compiler.proofs.Scoping.{Order, lt, ge, order}
-
-module _ (s₀ : List ℕ) (from i : ℕ) where
-  abbrev pub cleared : List ℕ
-  cleared = (take from s₀ ++ replicate (i - from) 0) ++ drop i s₀
-
-module _ (s₀ : List ℕ) (from i : ℕ) (h : from ≤ i) {s : List ℕ} (e : s ≡ cleared s₀ from i) where
-  pub clear-more : i < length s₀ → set s i 0 ≡ cleared s₀ from (i + 1)
-  clear-more k =
-      let d : drop i s₀ ≡ getD s₀ i 0 ∷ drop (i + 1) s₀ = drop-cons s₀ i 0 k ∙ rw add-one in
-      let l : length (take from s₀ ++ replicate (i - from) 0) ≡ i = length-append (take from s₀) (replicate (i - from) 0)
-      ∙ (let z : length (take from s₀) + length (replicate (i - from) 0) ≡ i = omega
-      (arith, length-take-le from s₀ (omega arith), length-replicate {A = ℕ} (i - from) 0) in z) in
-      let z : i + 1 - from ≡ i - from + 1 = omega arith in
-      let r : replicate {A = ℕ} (i + 1 - from) 0 ≡ replicate (i - from) 0 ++ (0 ∷ []) = rw z (sym (replicate-append-replicate (i - from) 1 0)) in
-      rw (e, d, set-at (take from s₀ ++ replicate {A = ℕ} (i - from) 0) (getD s₀ i 0) (drop (i + 1) s₀) 0 i l, r) (simp append-assoc)
-
-  pub clear-all : i ≤ length s₀ → length s₀ ≤ i → s ≡ take from s₀ ++ replicate (length s₀ - from) 0
-  clear-all k l = let z : i ≡ length s₀ = omega arith in e ∙ rw (drop-of-length-le s₀ l, append-nil, z)
 
 pub cleared-all : (s : List ℕ) {s′ : List ℕ} → s′ ≡ take 0 s ++ replicate (length s - 0) 0 → s′ ≡ replicate (length s) 0
 cleared-all s e = let z : length s - 0 ≡ length s = omega arith in rw (e, z)
-
-pub clear-start : (s : List ℕ) (from : ℕ) → s ≡ cleared s from from
-clear-start s from = let z : from - from ≡ 0 = omega arith in rw (z, append-nil) (sym (take-append-drop from s))
 
 -- ---- entries, and zeros behind them
 
@@ -101,11 +79,11 @@ zeros-behind s front k e h f w =
 accepted-text : (source text t′ : List ℕ) (n : ℕ) (d : Refused) → C.Accepted n ≡ answerOf source d → Begins source t′ d → length t′ ≡ length text
     → (n ≤ length t′) × (take n t′ ++ replicate (length t′ - n) 0 ≡ textAfter source (length text) d)
 accepted-text source text t′ n accepted e b l = let z : n ≡ length (textOf source) = cc in (omega arith, rw (z, l, b .0))
-accepted-text source text t′ n (refused number place) e b l = let z : _≡_ {A = ℕ} 0 1 = cc in absurd (omega arith)
+accepted-text source text t′ n (refused number place) e b l = contradiction cc
 
 refused-text : (source text t′ : List ℕ) (w : Refusal) (d : Refused) → C.Refused w ≡ answerOf source d → length t′ ≡ length text
     → replicate {A = ℕ} (length t′ - 0) 0 ≡ textAfter source (length text) d
-refused-text source text t′ w accepted e l = let z : _≡_ {A = ℕ} 0 1 = cc in absurd (omega arith)
+refused-text source text t′ w accepted e l = contradiction cc
 refused-text source text t′ w (refused number place) e l = let z : length t′ - 0 ≡ length text = omega arith in rw z
 
 -- what is accepted is faithful and proper

@@ -1,6 +1,5 @@
 -- What each form of command needs of its parts, and gives.
-use Rattle.compiler.proofs.Basics.{ℕ, _+_, _*_, _-_, _≤_, _<_, _≡_, refl, sym, ap, subst, List, [], _∷_, _++_, append-nil, arith, length, getD}
-use Rattle.compiler.proofs.Basics.{ne-eqb}
+use Rattle.laws.proofs.Basics.{ℕ, _+_, _-_, _*_, _<_, _≤_, _≡_, refl, sym, ap, subst, List, [], _∷_, _++_, append-nil, length, getD, arith, ne-eqb}
 use Rattle.items.specs.Item as I
 use Rattle.language.specs.Tree as T
 use Rattle.compiler.proofs.Language.{Expression, Command, Unlabelled, depth, commandDepth, unlabelledDepth, Scope, opened, declared, fault}

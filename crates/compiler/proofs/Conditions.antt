@@ -1,6 +1,6 @@
 -- TEST, WHILE and UNTIL.
-use Rattle.compiler.proofs.Basics.{ℕ, _+_, _-_, _≤_, _<_, _≡_, refl, sym, ap, subst, _∙_, cond, List, [], _∷_, _++_, append-assoc, arith}
-use Rattle.compiler.proofs.Basics.{length, getD, length-append, eqb, ne-eqb}
+use Rattle.laws.proofs.Basics.{ℕ, _+_, _-_, _<_, _≤_, _≡_, refl, sym, ap, subst, _∙_, List, [], _∷_, _++_, append-assoc, cond, length, getD}
+use Rattle.laws.proofs.Basics.{length-append, eqb, arith, ne-eqb}
 use Rattle.items.specs.Item as I
 use Rattle.language.specs.Kinds as K
 use Rattle.language.specs.Tree as T

@@ -1,5 +1,5 @@
 -- How many items a list in scratch has: the loop over them, and lists of expressions, REPEAT forms and commands.
-use Rattle.compiler.proofs.Basics.{ℕ, suc, _+_, _≤_, _<_, _≡_, refl, sym, ap, _∙_, List, [], _∷_, _++_, arith, length, getD, length-append}
+use Rattle.laws.proofs.Basics.{ℕ, suc, _+_, _<_, _≤_, _≡_, refl, sym, ap, _∙_, List, [], _∷_, _++_, length, getD, length-append, arith}
 use Rattle.language.specs.Tree as T
 use Rattle.compiler.proofs.Language.{Expressions, Repeats, Commands, Scope, caseList, encode, encodeExpressions, encodeRepeats, encodeCommand}
 use Rattle.compiler.proofs.Language.{encodeCommands}

@@ -1,9 +1,9 @@
 -- The least key of faults is that of the least fault, if places and numbers fit; and the answer by the least keys is that of the rules.
-use Rattle.compiler.proofs.Basics.{ℕ, _+_, _*_, _/_, _%_, _<_, _≤_, _^_, _≡_, refl, sym, ap, _∙_, Bool, true, false, not, cond, List, [], _∷_}
-use Rattle.compiler.proofs.Basics.{arith, eqb, ltb, length, lt-ltb, le-ltb, eq-eqb, ne-eqb}
+use Rattle.laws.proofs.Basics.{ℕ, _+_, _*_, _/_, _%_, _^_, _<_, _≤_, _≡_, refl, sym, ap, _∙_, List, [], _∷_, Bool, true, false, not, cond, length}
+use Rattle.laws.proofs.Basics.{eqb, ltb, arith, eq-eqb, ne-eqb, lt-ltb, le-ltb}
+use Rattle.laws.proofs.Cases.{Order, lt, ge, order}
 use mathlib.Core.Logic.{_≢_}
 use Rattle.language.specs.Constants.{Fault}
-use Rattle.compiler.proofs.Scoping.{Order, lt, ge, order}
 use Rattle.compiler.specs.Walked.{key, least, AllFit, andFit}
 use Rattle.text.specs.Line.{refusal}
 use Rattle.language.specs.Program.{before, leastFrom, leastOr, Refused, accepted, refused}

@@ -1,5 +1,5 @@
 -- Names declared one after another.
-use Rattle.compiler.proofs.Basics.{ℕ, _+_, _*_, _≤_, _<_, _^_, _≡_, refl, sym, ap, subst, _∙_, List, [], _∷_, arith, length, getD}
+use Rattle.laws.proofs.Basics.{ℕ, _+_, _*_, _^_, _<_, _≤_, _≡_, refl, sym, ap, subst, _∙_, List, [], _∷_, length, getD, arith}
 use Rattle.compiler.proofs.Language.{Name, Scope, declared, inBlock, onFound, fault, declareAll, twice, encodeName, encodeNames, FineName}
 use Rattle.compiler.proofs.Language.{FineNames}
 use Rattle.language.specs.Names as N

@@ -1,6 +1,7 @@
 -- Laws of what is done: faults, items, heights and labels, one after another.
-use Rattle.compiler.proofs.Basics.{ℕ, suc, _+_, _*_, _-_, _≤_, _<_, _/_, _%_, _^_, min, _≡_, refl, sym, ap, _∙_, true, false, cond, List, []}
-use Rattle.compiler.proofs.Basics.{_∷_, _++_, append-nil, arith, length, getD, ltb, lt-ltb, le-ltb, eq-eqb, ne-eqb}
+use Rattle.laws.proofs.Basics.{ℕ, suc, _+_, _-_, _*_, _/_, _%_, _^_, _<_, _≤_, min, _≡_, refl, sym, ap, _∙_, List, [], _∷_, _++_, append-nil, true}
+use Rattle.laws.proofs.Basics.{false, cond, length, getD, ltb, arith, eq-eqb, ne-eqb, lt-ltb, le-ltb}
+use Rattle.laws.proofs.Cases.{Order, lt, ge, order}
 use Rattle.items.specs.Item as I
 use Rattle.compiler.proofs.Language.{local, global, manifest, function, Found, unknown, known, onFound, Fault, fault, ofExpr, greatest}
 use Rattle.compiler.proofs.Language.{ofMeaning}
@@ -10,7 +11,6 @@ use Rattle.writing.specs.Text.{Puts, line, lines}
 use Rattle.writing.proofs.Laws.{puts-none, puts-then, puts-as, lines-then}
 use Rattle.compiler.proofs.Vocabulary.{code, found, State, Here, Node, inside, NodeAt, key, least, AllFit, noFit, andFit, Code, Did, Emits}
 use Rattle.compiler.proofs.Vocabulary.{Reached, Faulted, Means, Fresh, LeavesTo, exprSays}
-use Rattle.compiler.proofs.Scoping.{Order, lt, ge, order}
 
 -- ---- folds
 

@@ -1,7 +1,6 @@
 -- The labels of a list after INTO judged one after another, with those before each marked: what is refused in them.
-use Rattle.compiler.proofs.Basics.{ℕ, _+_, _-_, _/_, _%_, _≤_, _<_, _^_, _≡_, refl, sym, ap, _∙_, Bool, true, false, cond, List, [], _∷_, _++_}
-use Rattle.compiler.proofs.Basics.{append-nil, append-assoc, arith, length, getD, set, replicate, length-set, length-replicate, eqb, eqb-true}
-use Rattle.compiler.proofs.Basics.{eqb-false}
+use Rattle.laws.proofs.Basics.{ℕ, _+_, _-_, _/_, _%_, _^_, _<_, _≤_, _≡_, refl, sym, ap, _∙_, List, [], _∷_, _++_, append-assoc, append-nil, Bool}
+use Rattle.laws.proofs.Basics.{true, false, cond, length, getD, set, replicate, length-set, length-replicate, eqb, arith, eqb-true, eqb-false}
 use Rattle.language.specs.Tree as T
 use Rattle.compiler.proofs.Language.{Label, Commands, Scope, fault, Judged, good, refused, judge, judgedWord, CaseLabel, hasCase, hasDefault}
 use Rattle.compiler.proofs.Language.{labelsBefore, labelsOf, goodCase, doubledCase, doubledLabel, doubled}

@@ -1,6 +1,7 @@
 -- What `expr` asks can be had: the number 5 alone, with no names in scope. And what `table` and `doubled` ask: CASE 5 before an empty
 -- command, of which nothing is refused.
-use Rattle.compiler.proofs.Basics.{ℕ, zero, suc, _+_, _<_, _^_, _≡_, refl, false, List, [], _∷_, arith, length, getD}
+use Rattle.laws.proofs.Basics.{ℕ, zero, suc, _+_, _^_, _<_, _≡_, refl, List, [], _∷_, false, length, getD, arith}
+use Rattle.laws.proofs.Cases.{contradiction}
 use Rattle.language.specs.Tree as T
 use Rattle.compiler.proofs.Language.{depth, outermost, judge, hasCase, labelsOf, doubled, encode, encodeCommands, encodeCommand, encodeLabels}
 use Rattle.compiler.proofs.Language.{encodeConstant, encodePositive, encodeUnlabelled, encodeRepeats, labelled, Fine, FineCommands}
@@ -71,7 +72,7 @@ ready-labels = record {
   fine = (
     (
       (
-        record { small = λ v e. let z : 5 ≡ v = literal-is e in omega arith; place = λ n e q. let z : _≡_ {A = ℕ} 0 1 = cc in absurd (omega arith) },
+        record { small = λ v e. let z : 5 ≡ v = literal-is e in omega arith; place = λ n e q. contradiction cc },
         tt,
       ),
       tt,

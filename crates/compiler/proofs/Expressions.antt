@@ -1,6 +1,6 @@
 -- What each form of expression needs of its parts, and gives.
-use Rattle.compiler.proofs.Basics.{ℕ, _+_, _-_, _≤_, _<_, _≡_, refl, sym, ap, subst, _∙_, List, [], _∷_, _++_, append-nil, append-assoc, arith}
-use Rattle.compiler.proofs.Basics.{length, getD}
+use Rattle.laws.proofs.Basics.{ℕ, _+_, _-_, _<_, _≤_, _≡_, refl, sym, ap, subst, _∙_, List, [], _∷_, _++_, append-assoc, append-nil, length, getD}
+use Rattle.laws.proofs.Basics.{arith}
 use Rattle.language.specs.Tree as T
 use Rattle.compiler.proofs.Language.{Name, Expression, Operations, depth, operationsDepth, Scope, lookup, onFound, Fault, fault, Expr}
 use Rattle.compiler.proofs.Language.{expression, operations, ofMeaning, ofExpr, inExpression, inOperations, encode, encodeOperations, Fine}

@@ -1,7 +1,6 @@
 -- Flags, eight in an entry: what one more changes.
-use Rattle.compiler.proofs.Basics.{ℕ, zero, suc, _+_, _/_, _%_, _≤_, _<_, _^_, zero-le, _≡_, refl, sym, ap, _∙_, List, arith, length, getD}
-use Rattle.compiler.proofs.Basics.{set, replicate, getD-replicate, List·getD-eq-default, getD-set-same, getD-set-other, eqb, Bool, true, false}
-use Rattle.compiler.proofs.Basics.{eqb-true, eqb-false}
+use Rattle.laws.proofs.Basics.{ℕ, zero, suc, _+_, _/_, _%_, _^_, _<_, _≤_, zero-le, _≡_, refl, sym, ap, _∙_, List, Bool, true, false, length, getD}
+use Rattle.laws.proofs.Basics.{set, replicate, getD-replicate, List·getD-eq-default, getD-set-same, getD-set-other, eqb, arith, eqb-true, eqb-false}
 use native.Mathlib.Nat.{pow-suc, zero-div}
 use native.Mathlib.Numerals.{one-add}
 use lib.Pow.{shr-shr}

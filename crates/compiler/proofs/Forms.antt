@@ -1,7 +1,7 @@
 -- A command by the kind of its record: what it is and where its parts stand.
-use Rattle.compiler.proofs.Basics.{ℕ, _+_, _-_, _≤_, _≡_, refl, sym, subst, _∙_, Bool, true, false, cond, List, [], _∷_, _++_, arith, length}
-use Rattle.compiler.proofs.Basics.{getD, eqb, eqb-true}
-use mathlib.Core.Option.{Option}
+use Rattle.laws.proofs.Basics.{ℕ, _+_, _-_, _≤_, _≡_, refl, sym, subst, _∙_, List, [], _∷_, _++_, Bool, true, false, cond, Option, length, getD, eqb}
+use Rattle.laws.proofs.Basics.{arith, eqb-true}
+use Rattle.laws.proofs.Cases.{contradiction}
 use Rattle.language.specs.Kinds as K
 use Rattle.language.specs.Kinds.{member}
 use Rattle.language.specs.Tree as T
@@ -40,7 +40,7 @@ one-of P k a others m p f = go (eqb k a) refl m
 
 none-of : {P : Type 0} (k : ℕ) → member k [] ≡ true → P
 unfolding member
-none-of k m = let z : _≡_ {A = ℕ} 0 1 = cc in absurd (omega arith)
+none-of k m = contradiction cc
 
 pub guard-word : (w : ℕ) → isGuard w ≡ true → GuardWord w
 unfolding isGuard
@@ -127,13 +127,13 @@ module _ (s : List ℕ) (lo end : ℕ) where
   -- a call's record has its own kind
   called-kind : (e : Expression) → isCall e ≡ true → Lies s lo (encode e) → end ≡ lo + length (encode e) → getD s (end - 1) 0 ≡ O.CALLED
   unfolding isCall encode suffixedKind
-  called-kind (T.number p v) f h q = let z : _≡_ {A = ℕ} 0 1 = cc in absurd (omega arith)
-  called-kind (T.string p v) f h q = let z : _≡_ {A = ℕ} 0 1 = cc in absurd (omega arith)
-  called-kind (T.name n) f h q = let z : _≡_ {A = ℕ} 0 1 = cc in absurd (omega arith)
-  called-kind (T.bracketed p d) f h q = let z : _≡_ {A = ℕ} 0 1 = cc in absurd (omega arith)
-  called-kind (T.valof p c) f h q = let z : _≡_ {A = ℕ} 0 1 = cc in absurd (omega arith)
-  called-kind (T.monadic p o d) f h q = let z : _≡_ {A = ℕ} 0 1 = cc in absurd (omega arith)
-  called-kind (T.dyadic d os) f h q = let z : _≡_ {A = ℕ} 0 1 = cc in absurd (omega arith)
+  called-kind (T.number p v) f h q = contradiction cc
+  called-kind (T.string p v) f h q = contradiction cc
+  called-kind (T.name n) f h q = contradiction cc
+  called-kind (T.bracketed p d) f h q = contradiction cc
+  called-kind (T.valof p c) f h q = contradiction cc
+  called-kind (T.monadic p o d) f h q = contradiction cc
+  called-kind (T.dyadic d os) f h q = contradiction cc
   called-kind (T.suffixed d ss) f h q =
       rw (kind-is (encode d ++ O.encodeSuffixes ss) (length (encode d)) (placeOf d) (suffixedKind (endsInCall false ss)) h q, f)
 

@@ -1,7 +1,6 @@
 -- FOR: its test, its parts, and its block.
-use Rattle.compiler.proofs.Basics.{ℕ, _+_, _*_, _-_, _≤_, _≡_, refl, sym, ap, subst, _∙_, List, [], _∷_, _++_, append-nil, append-assoc, arith}
-use Rattle.compiler.proofs.Basics.{length, getD, length-append}
-use mathlib.Core.Option.{Option, none, some}
+use Rattle.laws.proofs.Basics.{ℕ, _+_, _-_, _*_, _≤_, _≡_, refl, sym, ap, subst, _∙_, List, [], _∷_, _++_, append-assoc, append-nil, Option, some}
+use Rattle.laws.proofs.Basics.{none, length, getD, length-append, arith}
 use Rattle.items.specs.Item as I
 use Rattle.language.specs.Kinds as K
 use Rattle.language.specs.Tree as T

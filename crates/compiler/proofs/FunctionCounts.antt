@@ -1,5 +1,5 @@
 -- How many functions a program has: the loop over its declarations.
-use Rattle.compiler.proofs.Basics.{ℕ, _+_, _≤_, _<_, _≡_, refl, ap, subst, _∙_, List, [], _∷_, _++_, arith, length, getD, length-append}
+use Rattle.laws.proofs.Basics.{ℕ, _+_, _<_, _≤_, _≡_, refl, ap, subst, _∙_, List, [], _∷_, _++_, length, getD, length-append, arith}
 use Rattle.language.specs.Kinds as K
 use Rattle.language.specs.Tree as T
 use Rattle.compiler.proofs.Language.{Declaration, Program, encodeProgram}

@@ -1,6 +1,6 @@
 -- A function: where its parameters and its body stand, and what its walk does, step after step.
-use Rattle.compiler.proofs.Basics.{ℕ, _+_, _*_, _-_, _/_, _≤_, _<_, _^_, _≡_, refl, _∙_, not, List, [], _∷_, _++_, arith, length, getD}
-use Rattle.compiler.proofs.Basics.{length-append, eqb}
+use Rattle.laws.proofs.Basics.{ℕ, _+_, _-_, _*_, _/_, _^_, _<_, _≤_, _≡_, refl, _∙_, List, [], _∷_, _++_, not, length, getD, length-append, eqb}
+use Rattle.laws.proofs.Basics.{arith}
 use Rattle.items.specs.Item as I
 use Rattle.language.specs.Kinds as K
 use Rattle.compiler.proofs.Language.{Function, opened, declareAll, heightsOf, encodeName, encodeNames, encodeBody, bodyWord}

@@ -1,6 +1,6 @@
 -- The functions of a group, one after another: what each adds to the faults, the code and the heights, and the loop.
-use Rattle.compiler.proofs.Basics.{ℕ, suc, _+_, _*_, _≤_, _<_, _^_, _≡_, refl, sym, ap, subst, _∙_, Bool, true, false, cond, List, [], _∷_}
-use Rattle.compiler.proofs.Basics.{_++_, append-nil, append-assoc, arith, length, getD, length-append, ltb, lt-ltb, le-ltb}
+use Rattle.laws.proofs.Basics.{ℕ, suc, _+_, _*_, _^_, _<_, _≤_, _≡_, refl, sym, ap, subst, _∙_, List, [], _∷_, _++_, append-assoc, append-nil, Bool}
+use Rattle.laws.proofs.Basics.{true, false, cond, length, getD, length-append, ltb, arith, lt-ltb, le-ltb}
 use Rattle.items.specs.Item as I
 use Rattle.compiler.proofs.Language.{Function, Scope, lookup, Fault, fault, Fun, Start, heightsOf, greatest, largestHeight, FineFunctions}
 use Rattle.compiler.proofs.Language.{functionsDepth, encodeName, encodeNames, encodeBody, bodyWord, encodeFunctions}

@@ -1,6 +1,7 @@
 -- The names of functions, and the table of globals.
-use Rattle.compiler.proofs.Basics.{ℕ, _+_, _*_, _/_, _%_, _≤_, _<_, _≡_, refl, sym, ap, _∙_, Bool, true, false, cond, List, [], _∷_, arith}
-use Rattle.compiler.proofs.Basics.{length, getD, set, length-set, getD-set-same, getD-set-other, eqb, eqb-true, eqb-false}
+use Rattle.laws.proofs.Basics.{ℕ, _+_, _*_, _/_, _%_, _<_, _≤_, _≡_, refl, sym, ap, _∙_, List, [], _∷_, Bool, true, false, cond, length, getD, set}
+use Rattle.laws.proofs.Basics.{length-set, getD-set-same, getD-set-other, eqb, arith, eqb-true, eqb-false}
+use Rattle.laws.proofs.Cases.{contradiction}
 use Rattle.compiler.proofs.Language.{Name, Function, Scope, declared, fault, encodeFunctions}
 use Rattle.language.specs.Names as N
 use Rattle.language.specs.Program.{among, startOf, withFunction, nameFault, alsoTaken}
@@ -68,7 +69,7 @@ taken-more {table} {ns} {n} {v} k l p = record { long = length-set table n v ∙
     free i li a = go (eqb i n) refl a
       where
         go : (b : Bool) → eqb i n ≡ b → cond b true (among i ns) ≡ false → getD (set table n v) i 0 ≡ 0
-        go true q z = let w : _≡_ {A = Bool} true false = z in let y : _≡_ {A = ℕ} 0 1 = cc in absurd (omega arith)
+        go true q z = let w : _≡_ {A = Bool} true false = z in contradiction cc
         go false q z = getD-set-other table n i v 0 (eqb-false i n q) ∙ k .free i li z
 
     used : (i : ℕ) → i < 400 → among i (n ∷ ns) ≡ true → 0 < getD (set table n v) i 0

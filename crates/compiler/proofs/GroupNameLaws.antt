@@ -1,7 +1,8 @@
 -- The names of a group: the loop over its functions, and where they start.
-use Rattle.compiler.proofs.Basics.{ℕ, suc, _+_, _*_, _≤_, _<_, _^_, _≡_, refl, sym, ap, subst, _∙_, Bool, true, false, cond, List, [], _∷_}
-use Rattle.compiler.proofs.Basics.{_++_, append-nil, append-assoc, arith, length, getD, set, length-append, List·getD-append}
-use Rattle.compiler.proofs.Basics.{List·getD-eq-default, getD-set-same, getD-set-other, getD-append-seam, eqb, eqb-true, eqb-false}
+use Rattle.laws.proofs.Basics.{ℕ, suc, _+_, _*_, _^_, _<_, _≤_, _≡_, refl, sym, ap, subst, _∙_, List, [], _∷_, _++_, append-assoc, append-nil, Bool}
+use Rattle.laws.proofs.Basics.{true, false, cond, length, getD, set, length-append, List·getD-append, List·getD-eq-default, getD-set-same}
+use Rattle.laws.proofs.Basics.{getD-set-other, getD-append-seam, eqb, arith, eqb-true, eqb-false}
+use Rattle.laws.proofs.Cases.{Order, lt, ge, order, contradiction}
 use Rattle.compiler.proofs.Language.{Name, Function, Scope, lookup, Fault, fault, Start, nowhere, inGlobal, encodeName, encodeNames}
 use Rattle.compiler.proofs.Language.{encodeBody, encodeFunctions, FineName, FineFunctions}
 use Rattle.language.specs.Names as N
@@ -10,7 +11,7 @@ use Rattle.compiler.proofs.Vocabulary.{Shows, Keeps, Looked, found, nam
 use Rattle.compiler.specs.Commands.{nothing}
 use Rattle.compiler.specs.Groups.{Small, Taken, Starting, startsIn, started, NameFaults, Enters, encodeFunction, FineF, FineFs, ReadyGroup}
 use Rattle.compiler.specs.Groups.{GroupNames}
-use Rattle.compiler.proofs.Scoping.{keeps-all, keeps-then, keeps-lower, keeps-name, Order, lt, ge, order}
+use Rattle.compiler.proofs.Scoping.{keeps-all, keeps-then, keeps-lower, keeps-name}
 use Rattle.compiler.proofs.Done.{nil-left, nil-right, did-none, did-then, did-as, same-refl}
 use Rattle.compiler.proofs.Trees.{first}
 use Rattle.compiler.proofs.GroupLaws.{is-function, no-function}
@@ -19,7 +20,7 @@ use Rattle.compiler.proofs.Rendered.{small-found}
 -- ---- where functions start: one more
 
 nowhere-not : {n : ℕ} → nowhere ≡ inGlobal n → ⊥
-nowhere-not e = let z : _≡_ {A = ℕ} 0 1 = cc in omega arith
+nowhere-not e = contradiction cc
 
 -- the starts with one more at their end, which is function k's
 module _ (ss : List Start) {k : ℕ} (x : Start) (e : length ss ≡ k) where

@@ -1,6 +1,6 @@
 -- IF and UNLESS.
-use Rattle.compiler.proofs.Basics.{ℕ, _+_, _-_, _≤_, _≡_, refl, sym, ap, subst, _∙_, false, cond, List, [], _∷_, _++_, append-assoc, arith}
-use Rattle.compiler.proofs.Basics.{length, getD, length-append, eqb}
+use Rattle.laws.proofs.Basics.{ℕ, _+_, _-_, _≤_, _≡_, refl, sym, ap, subst, _∙_, List, [], _∷_, _++_, append-assoc, false, cond, length, getD}
+use Rattle.laws.proofs.Basics.{length-append, eqb, arith}
 use Rattle.items.specs.Item as I
 use Rattle.language.specs.Tree as T
 use Rattle.compiler.proofs.Language.{Expression, Command, Unlabelled, endsInCall, placeOf, depth, commandDepth, unlabelledDepth, Scope}

@@ -1,6 +1,6 @@
 -- The items of GLOBAL and MANIFEST.
-use Rattle.compiler.proofs.Basics.{ℕ, _+_, _*_, _≤_, _<_, _^_, _≡_, refl, sym, ap, subst, _∙_, Bool, true, false, List, [], _∷_, _++_}
-use Rattle.compiler.proofs.Basics.{append-assoc, arith, length, getD, length-append}
+use Rattle.laws.proofs.Basics.{ℕ, _+_, _*_, _^_, _<_, _≤_, _≡_, refl, sym, ap, subst, _∙_, List, [], _∷_, _++_, append-assoc, Bool, true, false}
+use Rattle.laws.proofs.Basics.{length, getD, length-append, arith}
 use Rattle.language.specs.Tree as T
 use Rattle.compiler.proofs.Language.{Item, Scope, declared, inBlock, onFound, fault, Judged, judgedWord, faultsOf, encodeName, encodeConstant}
 use Rattle.compiler.proofs.Language.{encodeItems, FineName, FineConstant, FineItem, FineItems}

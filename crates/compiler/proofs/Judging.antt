@@ -1,6 +1,6 @@
 -- Constants, and one declaration of locals.
-use Rattle.compiler.proofs.Basics.{ℕ, _+_, _*_, _-_, _≤_, _<_, _/_, _%_, _^_, _≡_, refl, sym, ap, subst, _∙_, Bool, true, false, cond, List}
-use Rattle.compiler.proofs.Basics.{[], _∷_, _++_, append-nil, arith, length, getD, length-append, leb, le-leb, lt-leb}
+use Rattle.laws.proofs.Basics.{ℕ, _+_, _-_, _*_, _/_, _%_, _^_, _<_, _≤_, _≡_, refl, sym, ap, subst, _∙_, List, [], _∷_, _++_, append-nil, Bool, true}
+use Rattle.laws.proofs.Basics.{false, cond, length, getD, length-append, leb, arith, le-leb, lt-leb}
 use Rattle.words.specs.Words.{word}
 use Rattle.language.specs.Tree as T
 use Rattle.compiler.proofs.Language.{Name, Simple, Constant, Expressions, expressionsDepth, Scope, lookup, fault, Judged, good, refused, judge}

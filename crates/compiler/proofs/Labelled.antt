@@ -1,6 +1,7 @@
 -- A command with its labels, and without them.
-use Rattle.compiler.proofs.Basics.{ℕ, _+_, _-_, _≤_, _≡_, refl, sym, ap, subst, _∙_, List, [], _∷_, _++_, append-assoc, arith, length, getD}
-use Rattle.compiler.proofs.Basics.{length-append}
+use Rattle.laws.proofs.Basics.{ℕ, _+_, _-_, _≤_, _≡_, refl, sym, ap, subst, _∙_, List, [], _∷_, _++_, append-assoc, length, getD, length-append}
+use Rattle.laws.proofs.Basics.{arith}
+use Rattle.laws.proofs.Cases.{contradiction}
 use Rattle.language.specs.Tree as T
 use Rattle.compiler.proofs.Language.{Label, Command, Unlabelled, Repeats, commandDepth, command, repeats, unlabelled, ofCmd, FineLabels}
 use Rattle.compiler.proofs.Language.{FineCommand, inCommand, inCase, inUnlabelled, inRepeats, misplaced, closed, encodeCommand}
@@ -154,15 +155,15 @@ data Emptiness (u : Unlabelled) : Type 0 where
 
 emptiness : (u : Unlabelled) → Emptiness u
 emptiness T.empty = isEmpty refl
-emptiness (T.assignment ls rs) = isFull (λ e. let z : _≡_ {A = ℕ} 0 1 = cc in omega arith)
-emptiness (T.callCommand d) = isFull (λ e. let z : _≡_ {A = ℕ} 0 1 = cc in omega arith)
-emptiness (T.test d c c′) = isFull (λ e. let z : _≡_ {A = ℕ} 0 1 = cc in omega arith)
-emptiness (T.guarded w d c) = isFull (λ e. let z : _≡_ {A = ℕ} 0 1 = cc in omega arith)
-emptiness (T.for x d d′ k c) = isFull (λ e. let z : _≡_ {A = ℕ} 0 1 = cc in omega arith)
-emptiness (T.switchon d cs) = isFull (λ e. let z : _≡_ {A = ℕ} 0 1 = cc in omega arith)
-emptiness (T.resultis p d) = isFull (λ e. let z : _≡_ {A = ℕ} 0 1 = cc in omega arith)
-emptiness (T.leave w p) = isFull (λ e. let z : _≡_ {A = ℕ} 0 1 = cc in omega arith)
-emptiness (T.block ls cs) = isFull (λ e. let z : _≡_ {A = ℕ} 0 1 = cc in omega arith)
+emptiness (T.assignment ls rs) = isFull (λ e. contradiction cc)
+emptiness (T.callCommand d) = isFull (λ e. contradiction cc)
+emptiness (T.test d c c′) = isFull (λ e. contradiction cc)
+emptiness (T.guarded w d c) = isFull (λ e. contradiction cc)
+emptiness (T.for x d d′ k c) = isFull (λ e. contradiction cc)
+emptiness (T.switchon d cs) = isFull (λ e. contradiction cc)
+emptiness (T.resultis p d) = isFull (λ e. contradiction cc)
+emptiness (T.leave w p) = isFull (λ e. contradiction cc)
+emptiness (T.block ls cs) = isFull (λ e. contradiction cc)
 
 pub closed-long : {x : List ℕ} → IsClosed x → 4 ≤ length x
 closed-long u = omega (arith, ap length (u .is), length-append (u .inner) (length (u .inner) ∷ u .value ∷ u .place ∷ u .kind ∷ []))

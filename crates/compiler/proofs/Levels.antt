@@ -1,6 +1,6 @@
 -- One declaration of the outermost level: the items of GLOBAL and MANIFEST, or a group of functions, and where the walk then stands.
-use Rattle.compiler.proofs.Basics.{ℕ, suc, _+_, _*_, _≤_, _<_, _≡_, refl, sym, ap, subst, _∙_, Bool, true, false, cond, List, [], _∷_}
-use Rattle.compiler.proofs.Basics.{append-nil, arith, length, length-append, eqb, leb, eq-eqb, ne-eqb, leb-true}
+use Rattle.laws.proofs.Basics.{ℕ, suc, _+_, _*_, _<_, _≤_, _≡_, refl, sym, ap, subst, _∙_, List, [], _∷_, append-nil, Bool, true, false, cond, length}
+use Rattle.laws.proofs.Basics.{length-append, eqb, leb, arith, eq-eqb, ne-eqb, leb-true}
 use Rattle.language.specs.Kinds as K
 use Rattle.language.specs.Tree as T
 use Rattle.compiler.proofs.Language.{Item, Function, Declaration, Scope, lookup, Fault, fault, Judged, judge, within, judgedWord}

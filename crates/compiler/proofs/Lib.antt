@@ -1,4 +1,3 @@
-pub mod Basics
 pub mod Vocabulary
 pub mod Language
 pub mod Scoping

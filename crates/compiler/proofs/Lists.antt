@@ -1,6 +1,5 @@
 -- Lists in scratch: each item has its size and a word in front. What an item is, and a loop over the items.
-use Rattle.compiler.proofs.Basics.{ℕ, _+_, _*_, _≤_, _<_, _^_, _≡_, refl, sym, ap, subst, _∙_, List, [], _∷_, _++_, arith, length, getD}
-use Rattle.compiler.proofs.Basics.{length-append}
+use Rattle.laws.proofs.Basics.{ℕ, _+_, _*_, _^_, _<_, _≤_, _≡_, refl, sym, ap, subst, _∙_, List, [], _∷_, _++_, length, getD, length-append, arith}
 use Rattle.language.specs.Constants.{Fault}
 use Rattle.compiler.proofs.Vocabulary.{Keeps, State, Here, Did, Code, Lies, Ready}
 use Rattle.compiler.proofs.Scoping.{keeps-all, keeps-then}

@@ -1,5 +1,5 @@
 -- From a tree that is ready to its parts.
-use Rattle.compiler.proofs.Basics.{ℕ, _+_, _*_, _≤_, _<_, _^_, _≡_, List, arith, length}
+use Rattle.laws.proofs.Basics.{ℕ, _+_, _*_, _^_, _<_, _≤_, _≡_, List, length, arith}
 use Rattle.language.specs.Names.{Scope}
 use Rattle.compiler.proofs.Vocabulary.{Shows, Keeps, State, Here, Lies, Ready}
 use Rattle.compiler.proofs.Scoping.{keeps-shows}

@@ -1,6 +1,7 @@
 -- The whole program: its declarations one after another, with the walk, the faults and the functions so far.
-use Rattle.compiler.proofs.Basics.{ℕ, suc, _+_, _*_, _≤_, _<_, _≡_, refl, sym, ap, subst, _∙_, Bool, true, false, List, [], _∷_, _++_}
-use Rattle.compiler.proofs.Basics.{append-nil, append-assoc, arith, length, getD, replicate, length-append, length-replicate, getD-replicate}
+use Rattle.laws.proofs.Basics.{ℕ, suc, _+_, _*_, _<_, _≤_, _≡_, refl, sym, ap, subst, _∙_, List, [], _∷_, _++_, append-assoc, append-nil, Bool, true}
+use Rattle.laws.proofs.Basics.{false, length, getD, replicate, length-append, length-replicate, getD-replicate, arith}
+use Rattle.laws.proofs.Cases.{contradiction}
 use Rattle.language.specs.Tree as T
 use Rattle.compiler.proofs.Language.{Declaration, Program, Fault, Start, nowhere, inGlobal, FineDeclaration, FineProgram, declarationDepth}
 use Rattle.compiler.proofs.Language.{programDepth, encodeProgram}
@@ -53,13 +54,13 @@ unfolding among
 none-taken e = record {
   long = ap length e ∙ length-replicate {A = ℕ} 400 0;
   free = λ n l q. rw (e, getD-replicate {A = ℕ} 400 n 0 0 l);
-  used = λ n l q. let z : _≡_ {A = Bool} false true = q in let y : _≡_ {A = ℕ} 0 1 = cc in absurd (omega arith);
+  used = λ n l q. let z : _≡_ {A = Bool} false true = q in contradiction cc;
 }
 
 none-starting : {table : List ℕ} → table ≡ replicate 400 0 → Starting table []
 none-starting {table} e = record {
   is = λ n l m q. let z : getD table n 0 ≡ 0 = rw (e, getD-replicate {A = ℕ} 400 n 0 0 m) in absurd (omega arith);
-  has = λ n l q. let z : _≡_ {A = Start} nowhere (inGlobal n) = q in let y : _≡_ {A = ℕ} 0 1 = cc in absurd (omega arith);
+  has = λ n l q. let z : _≡_ {A = Start} nowhere (inGlobal n) = q in contradiction cc;
 }
 
 none-small : Small (begin .scope)

@@ -1,5 +1,6 @@
 -- The text as lines; globals in scope.
-use Rattle.compiler.proofs.Basics.{ℕ, _<_, _≡_, refl, ap, _∙_, Bool, true, false, cond, List, [], _∷_, _++_, append-assoc, arith}
+use Rattle.laws.proofs.Basics.{ℕ, _<_, _≡_, refl, ap, _∙_, List, [], _∷_, _++_, append-assoc, Bool, true, false, cond, arith}
+use Rattle.laws.proofs.Cases.{contradiction}
 use Rattle.items.specs.Item.{Item}
 use Rattle.items.specs.Render.{render, renderLines, renderAll}
 use Rattle.writing.specs.Text.{line, lines}
@@ -20,7 +21,7 @@ rendered is = rw (lines-end is)
 -- a global that is found has its place in the table
 pub small-found : (text : List ℕ) (sc : Scope) (n : Name) (m : ℕ) → Small sc → lookup text sc n ≡ N.known (N.global m) → m < 400
 unfolding Small lookup
-small-found text N.outermost n m h e = let z : _≡_ {A = ℕ} 0 1 = cc in absurd (omega arith)
+small-found text N.outermost n m h e = contradiction cc
 small-found text (N.opened s) n m h e = small-found text s n m h e
 small-found text (N.declared s x w) n m h e = go w h (sameName text x n) e (small-found text s n m)
   where
@@ -28,9 +29,9 @@ small-found text (N.declared s x w) n m h e = go w h (sameName text x n) e (smal
         → (Small s → lookup text s n ≡ N.known (N.global m) → m < 400) → m < 400
     go (N.global k) h true e ih = let z : k ≡ m = cc in omega arith
     go (N.global k) h false e ih = ih (h .1) e
-    go (N.local k) h true e ih = let z : _≡_ {A = ℕ} 0 1 = cc in absurd (omega arith)
+    go (N.local k) h true e ih = contradiction cc
     go (N.local k) h false e ih = ih h e
-    go (N.manifest k) h true e ih = let z : _≡_ {A = ℕ} 0 1 = cc in absurd (omega arith)
+    go (N.manifest k) h true e ih = contradiction cc
     go (N.manifest k) h false e ih = ih h e
-    go (N.function k) h true e ih = let z : _≡_ {A = ℕ} 0 1 = cc in absurd (omega arith)
+    go (N.function k) h true e ih = contradiction cc
     go (N.function k) h false e ih = ih h e

@@ -1,6 +1,6 @@
 -- REPEAT forms: one of a list, the loop over them, and a command with them.
-use Rattle.compiler.proofs.Basics.{ℕ, zero, suc, _+_, _*_, _-_, _≤_, _<_, _^_, _≡_, refl, sym, ap, subst, _∙_, cond, List, [], _∷_, _++_}
-use Rattle.compiler.proofs.Basics.{append-nil, append-assoc, arith, length, getD, length-append, eqb}
+use Rattle.laws.proofs.Basics.{ℕ, zero, suc, _+_, _-_, _*_, _^_, _<_, _≤_, _≡_, refl, sym, ap, subst, _∙_, List, [], _∷_, _++_, append-assoc}
+use Rattle.laws.proofs.Basics.{append-nil, cond, length, getD, length-append, eqb, arith}
 use Rattle.items.specs.Item as I
 use Rattle.language.specs.Kinds as K
 use Rattle.language.specs.Tree as T

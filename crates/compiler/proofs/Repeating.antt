@@ -1,6 +1,6 @@
 -- The code of a command with REPEAT forms, and the loop over them.
-use Rattle.compiler.proofs.Basics.{ℕ, zero, suc, _+_, _*_, _-_, _≤_, _≡_, refl, sym, ap, subst, _∙_, List, [], _∷_, _++_, append-nil}
-use Rattle.compiler.proofs.Basics.{append-assoc, arith, eqb}
+use Rattle.laws.proofs.Basics.{ℕ, zero, suc, _+_, _-_, _*_, _≤_, _≡_, refl, sym, ap, subst, _∙_, List, [], _∷_, _++_, append-assoc, append-nil, eqb}
+use Rattle.laws.proofs.Basics.{arith}
 use Rattle.items.specs.Item as I
 use Rattle.language.specs.Tree as T
 use Rattle.compiler.proofs.Language.{Repeats, Scope, Cmd, expression, repeats, ofExpr, ofCmd, greatest}

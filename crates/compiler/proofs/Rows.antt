@@ -1,7 +1,6 @@
 -- Items of a list by their ends: the loop over them; labels, one by one and before each command of a list; BY's constant.
-use Rattle.compiler.proofs.Basics.{ℕ, _+_, _-_, _≤_, _<_, _^_, _≡_, refl, sym, ap, _∙_, Bool, true, false, cond, List, [], _∷_, _++_}
-use Rattle.compiler.proofs.Basics.{append-nil, arith, length, getD, length-append, eqb, eq-eqb, ne-eqb}
-use mathlib.Core.Option.{Option, none, some}
+use Rattle.laws.proofs.Basics.{ℕ, _+_, _-_, _^_, _<_, _≤_, _≡_, refl, sym, ap, _∙_, List, [], _∷_, _++_, append-nil, Bool, true, false, cond, Option}
+use Rattle.laws.proofs.Basics.{some, none, length, getD, length-append, eqb, arith, eq-eqb, ne-eqb}
 use Rattle.language.specs.Tree as T
 use Rattle.compiler.proofs.Language.{Simple, Constant, Label, Scope, fault, Judged, good, refused, judge, within, faultsOf, misplaced}
 use Rattle.compiler.proofs.Language.{FineConstant, FineBy, FineLabels, closed, encodeName, encodeConstant, encodePositive, encodeNegative}

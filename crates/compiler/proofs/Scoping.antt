@@ -1,7 +1,7 @@
 -- Laws of spelling, of the stack of names, and of what is pushed on it.
-use Rattle.compiler.proofs.Basics.{_≡_, refl, sym, ap, _∙_, List, [], _∷_, Bool, true, false, cond, ℕ, zero, suc, _+_, _*_, _-_, _/_, _%_, _≤_}
-use Rattle.compiler.proofs.Basics.{_<_, min, arith, length, set, getD, take, drop, length-set, length-take, length-drop, getD-drop}
-use Rattle.compiler.proofs.Basics.{getD-set-same, getD-set-other, eqb, eq-eqb, ne-eqb}
+use Rattle.laws.proofs.Basics.{ℕ, zero, suc, _+_, _-_, _*_, _/_, _%_, _<_, _≤_, min, _≡_, refl, sym, ap, _∙_, List, [], _∷_, Bool, true, false, cond}
+use Rattle.laws.proofs.Basics.{length, getD, set, take, drop, length-set, length-take, length-drop, getD-drop, getD-set-same, getD-set-other, eqb}
+use Rattle.laws.proofs.Basics.{arith, eq-eqb, ne-eqb}
 use native.Mathlib.Numerals.{unary-clauses}
 use Rattle.compiler.proofs.Language.{Name, Meaning, local, global, manifest, function, Found, unknown, known, Scope, opened, declared, lookup}
 use Rattle.compiler.proofs.Language.{inBlock, sameBytes, sameName, FineName}
@@ -281,16 +281,3 @@ pub pushed-leaf : {s s′ : List ℕ} {top leaf m width place : ℕ} → Pushed 
 pushed-leaf {s} {top = top} {leaf} {m} {width} {place} h ew ep f =
     let e : place * 65536 + width ≡ packed (nameAt s leaf) = omega arith in
     record { pushed = record { is = rw (h .is, e) }; fine = f }
-
-pub data Order (n m : ℕ) : Type 0 where
-  lt : n < m → Order n m
-  ge : m ≤ n → Order n m
-
-pub order : (n m : ℕ) → Order n m
-order n zero = ge (omega arith)
-order zero (suc m) = lt (omega arith)
-order (suc n) (suc m) = grow (order n m)
-  where
-    grow : Order n m → Order (suc n) (suc m)
-    grow (lt h) = lt (omega arith)
-    grow (ge h) = ge (omega arith)

@@ -1,6 +1,7 @@
 -- Monadic operators, what @ may take, and left sides.
-use Rattle.compiler.proofs.Basics.{ℕ, _+_, _*_, _-_, _≤_, _<_, _/_, _%_, _≡_, refl, sym, ap, subst, _∙_, Bool, true, false, cond, List, []}
-use Rattle.compiler.proofs.Basics.{_∷_, _++_, append-nil, append-assoc, arith, length, getD, length-append, eqb, ne-eqb}
+use Rattle.laws.proofs.Basics.{ℕ, _+_, _-_, _*_, _/_, _%_, _<_, _≤_, _≡_, refl, sym, ap, subst, _∙_, List, [], _∷_, _++_, append-assoc, append-nil}
+use Rattle.laws.proofs.Basics.{Bool, true, false, cond, length, getD, length-append, eqb, arith, ne-eqb}
+use Rattle.laws.proofs.Cases.{Order, lt, ge, order, contradiction}
 use Rattle.items.specs.Item as I
 use Rattle.language.specs.Tree as T
 use Rattle.compiler.proofs.Language.{Expression, Expressions, Suffixes, Operations, placeOf, endsInCall, depth, Scope, lookup, onFound, Fault}
@@ -14,7 +15,7 @@ use Rattle.code.specs.Generate.{exprCode, exprLabels, monadicAct}
 use Rattle.tree.specs.Encoding as O
 use Rattle.compiler.proofs.Vocabulary.{code, found, nameAt, Looked, State, Here, Node, FineE, inside, raised, leavable, NodeAt, Code, Did}
 use Rattle.compiler.proofs.Vocabulary.{Emits, Faulted, Lies, Result, ReadyE, GaveE, ReadySuffixes, GaveSuffixes, faultsE, codeE}
-use Rattle.compiler.proofs.Scoping.{keeps-all, keeps-then, code-not, Order, lt, ge, order}
+use Rattle.compiler.proofs.Scoping.{keeps-all, keeps-then, code-not}
 use Rattle.compiler.specs.Commands.{exprSays, targetSays, GaveMonadic, GaveAddress, GaveAddressIndex, GaveSide, GaveSideIndex, IndexKind}
 use Rattle.compiler.specs.Commands.{GaveRefused, AddressOf, StoreTo}
 use Rattle.compiler.proofs.Done.{emits-did, did-emit, did-put, did-after, did-then, did-as, same-refl, same-eq, code-is, nil-right}
@@ -246,7 +247,7 @@ module _ (text : List ℕ) (sc : Scope) (h : ℕ) where
   no-call b E T.noSuffixes e f = f e
   no-call b E (T.call es ss) e f = no-call true (R.call E (expressions text sc (under ss h + 2) es)) ss e (λ z. refl)
   no-call b E (T.index d ss) e f =
-      no-call false (R.index E (expression text sc (under ss h + 1) d)) ss e (λ z. let x : _≡_ {A = ℕ} 0 1 = cc in absurd (omega arith))
+      no-call false (R.index E (expression text sc (under ss h + 1) d)) ss e (λ z. contradiction cc)
 
   call-of : (b : Bool) → (O.suffixedKind b ≡ 129 → ⊥) → b ≡ true
   unfolding O.suffixedKind
@@ -265,7 +266,7 @@ module _ (text : List ℕ) (sc : Scope) (h : ℕ) where
   no-side (T.monadic p o e) f n1 n2 n3 n4 = no-monadic o (expression text sc h e) (n4 refl)
   no-side (T.suffixed e ss) f n1 n2 n3 n4 =
       no-call false (expression text sc (under ss h) e) ss (call-of (endsInCall false ss) n3)
-      (λ z. let x : _≡_ {A = ℕ} 0 1 = cc in absurd (omega arith))
+      (λ z. contradiction cc)
   no-side (T.dyadic e T.noOperations) f n1 n2 n3 n4 = absurd (f .2 refl)
   no-side (T.dyadic e (T.operation o d os)) f n1 n2 n3 n4 = no-operation (R.binary o (expression text sc h e) (expression text sc (h + 1) d)) os refl
 
@@ -349,7 +350,7 @@ index-tag (anIndex u) e = refl
 index-tag (aCall u) e = absurd (no (u .init) (u .part) false (rw (u .same) at e))
   where
     no : (ss : Suffixes) (es : Expressions) (b : Bool) → endsInCall b (snoc (T.call es) ss) ≡ false → ⊥
-    no T.noSuffixes es b q = let z : _≡_ {A = ℕ} 0 1 = cc in omega arith
+    no T.noSuffixes es b q = contradiction cc
     no (T.call ds ss) es b q = no ss es true q
     no (T.index d ss) es b q = no ss es false q
 

@@ -1,6 +1,7 @@
 -- The text of the globals in which functions start: one function by its label, and all in turn.
-use Rattle.compiler.proofs.Basics.{ℕ, suc, _+_, _≤_, _<_, _≡_, refl, sym, ap, _∙_, List, [], _∷_, _++_, append-assoc, append-nil, arith}
-use Rattle.compiler.proofs.Basics.{length, getD, length-append, List·getD-eq-default}
+use Rattle.laws.proofs.Basics.{ℕ, suc, _+_, _<_, _≤_, _≡_, refl, sym, ap, _∙_, List, [], _∷_, _++_, append-assoc, append-nil, length, getD}
+use Rattle.laws.proofs.Basics.{length-append, List·getD-eq-default, arith}
+use Rattle.laws.proofs.Cases.{Order, lt, ge, order}
 use Rattle.items.specs.Item as I
 use Rattle.language.specs.Resolved.{Start, nowhere, inGlobal, Fun}
 use Rattle.code.specs.Generate.{startIn, startsCode}
@@ -8,7 +9,6 @@ use Rattle.writing.specs.Text.{Puts, line, lines}
 use Rattle.writing.proofs.Laws.{puts-then, puts-as, puts-none, lines-then}
 use Rattle.compiler.specs.Groups.{Starting}
 use Rattle.compiler.specs.Programs.{startsOf}
-use Rattle.compiler.proofs.Scoping.{Order, lt, ge, order}
 use Rattle.compiler.specs.Strings.{FindsGlobal, StartsAt, WritesStart, WritesStarts}
 
 -- ---- the global of a label: none of the first n entries is it

@@ -1,6 +1,6 @@
 -- SWITCHON: the loop over the list after INTO, and the whole.
-use Rattle.compiler.proofs.Basics.{ℕ, suc, _+_, _*_, _-_, _≤_, _<_, _^_, _≡_, refl, sym, ap, subst, _∙_, List, [], _∷_, _++_, append-assoc}
-use Rattle.compiler.proofs.Basics.{arith, length, getD, length-append, ne-eqb}
+use Rattle.laws.proofs.Basics.{ℕ, suc, _+_, _-_, _*_, _^_, _<_, _≤_, _≡_, refl, sym, ap, subst, _∙_, List, [], _∷_, _++_, append-assoc, length, getD}
+use Rattle.laws.proofs.Basics.{length-append, arith, ne-eqb}
 use Rattle.items.specs.Item as I
 use Rattle.language.specs.Kinds as K
 use Rattle.language.specs.Tree as T

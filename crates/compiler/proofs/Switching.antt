@@ -1,6 +1,7 @@
 -- The labels of a list after INTO: where they stand, which there are, and the words after X23.
-use Rattle.compiler.proofs.Basics.{ℕ, suc, _+_, _-_, _≤_, _<_, _^_, _≡_, refl, sym, ap, _∙_, Bool, true, false, cond, List, [], _∷_, _++_}
-use Rattle.compiler.proofs.Basics.{arith, length, getD, length-append}
+use Rattle.laws.proofs.Basics.{ℕ, suc, _+_, _-_, _^_, _<_, _≤_, _≡_, refl, sym, ap, _∙_, List, [], _∷_, _++_, Bool, true, false, cond, length, getD}
+use Rattle.laws.proofs.Basics.{length-append, arith}
+use Rattle.laws.proofs.Cases.{contradiction}
 use Rattle.items.specs.Item as I
 use Rattle.language.specs.Kinds.{member}
 use Rattle.language.specs.Binding.{isGuard, isLeave}
@@ -63,11 +64,11 @@ labelled-at {s} {lo} {end} ls w f h e =
 
 guard-not : {w : ℕ} → isGuard w ≡ true → w ≡ 132 → ⊥
 unfolding isGuard member
-guard-not f e = let z : isGuard 132 ≡ true = rw e at f in let x : _≡_ {A = ℕ} 0 1 = cc in omega arith
+guard-not f e = let z : isGuard 132 ≡ true = rw e at f in contradiction cc
 
 leave-not : {w : ℕ} → isLeave w ≡ true → w ≡ 132 → ⊥
 unfolding isLeave member
-leave-not f e = let z : isLeave 132 ≡ true = rw e at f in let x : _≡_ {A = ℕ} 0 1 = cc in omega arith
+leave-not f e = let z : isLeave 132 ≡ true = rw e at f in contradiction cc
 
 suffixed-low : (b : Bool) → O.suffixedKind b ≤ 131
 unfolding O.suffixedKind
@@ -312,7 +313,7 @@ sound-right (T.default p ∷ ls) ms (anyDefault s) = sound-right ls ms s
 
 says-is : {j : Verdict} {x : Judged} {v : ℕ} → Says j x → x ≡ good v → x ≡ good (j .word)
 says-is (fit q) e = refl
-says-is (unfit a b w) e = let z : _≡_ {A = ℕ} 0 1 = cc in absurd (omega arith)
+says-is (unfit a b w) e = contradiction cc
 
 module _ (text : List ℕ) {s : List ℕ} {end top : ℕ} (n : Node) (nd : NodeAt s end n) where
   pub pair-not : {k : ℕ} {t : List ℕ} {st : State} → (n .kind ≡ 28 → ⊥) → WritesPair text s end top k t t st st

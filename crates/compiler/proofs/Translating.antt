@@ -1,6 +1,7 @@
 -- From the readers' answers to the refusals of the source, and to what the walk of the tree asks.
-use Rattle.compiler.proofs.Basics.{ℕ, _+_, _*_, _-_, _≤_, _^_, _≡_, refl, sym, ap, subst, _∙_, Bool, true, false, List, _++_, arith, length}
-use Rattle.compiler.proofs.Basics.{replicate, take, drop, length-append, take-at, drop-at, length-take-le, le-ltb, ltb-false}
+use Rattle.laws.proofs.Basics.{ℕ, _+_, _-_, _*_, _^_, _≤_, _≡_, refl, sym, ap, subst, _∙_, List, _++_, Bool, true, false, length, take, drop}
+use Rattle.laws.proofs.Basics.{replicate, length-append, length-take-le, take-at, drop-at, arith, ltb-false, le-ltb}
+use Rattle.laws.proofs.Cases.{contradiction}
 use Rattle.text.specs.declared.Refusal.{Refusal}
 use Rattle.text.specs.Line.{refusal}
 use Rattle.language.specs.Symbols.{Symbol}
@@ -109,7 +110,7 @@ module _ {source s s′ : List ℕ} {a : SymbolsRead} (l : Lent source (length s
       go (good ss) q w z =
           let k : count ≡ length ss = cc in let stand = z ∙ ap (λ (n : ℕ). outcome n (good ss) .scratch) (sym same) in
           record { lent = lent-still l same; symbols = ss; reads = q; counts = k; stand = stand }
-      go (faulty number place) q w z = let k : _≡_ {A = ℕ} 0 1 = cc in absurd (omega arith)
+      go (faulty number place) q w z = contradiction cc
 
   pub symbols-answer : {number place : ℕ} {t t′ : List ℕ} {w : Refusal} → a ≡ YA.Refused number place → w ≡ refusal source number place
       → Translates source s s′ t t′ (C.Refused w)
@@ -118,22 +119,22 @@ module _ {source s s′ : List ℕ} {a : SymbolsRead} (l : Lent source (length s
       refusing q (symbols-refused l (length t) number place k) (symbols-left (l .short) room r (faulty number place) k)
     where
       go : (x : Symbols) → YA.Refused number place ≡ outcome (length s) x .answer → x ≡ faulty number place
-      go (good ss) w = let k : _≡_ {A = ℕ} 0 1 = cc in absurd (omega arith)
+      go (good ss) w = contradiction cc
       go (faulty m p) w = let k : m ≡ number = cc in let j : p ≡ place = cc in rw (k, j) refl
 
   pub never-long : a ≡ YA.TooLong → ⊥
   never-long e = go (symbolsOf source) (sym e ∙ answer-is)
     where
       go : (x : Symbols) → YA.TooLong ≡ outcome (length s) x .answer → ⊥
-      go (good ss) w = let k : _≡_ {A = ℕ} 0 1 = cc in omega arith
-      go (faulty m p) w = let k : _≡_ {A = ℕ} 0 1 = cc in omega arith
+      go (good ss) w = contradiction cc
+      go (faulty m p) w = contradiction cc
 
   pub never-short : a ≡ YA.TooShort → ⊥
   never-short e = go (symbolsOf source) (sym e ∙ answer-is)
     where
       go : (x : Symbols) → YA.TooShort ≡ outcome (length s) x .answer → ⊥
-      go (good ss) w = let k : _≡_ {A = ℕ} 0 1 = cc in omega arith
-      go (faulty m p) w = let k : _≡_ {A = ℕ} 0 1 = cc in omega arith
+      go (good ss) w = contradiction cc
+      go (faulty m p) w = contradiction cc
 
 -- ---- after `read_tree`, which is lent eight entries a symbol and 64
 
@@ -228,7 +229,7 @@ module _ {source s : List ℕ} {count : ℕ} (y : ReadySymbols source s count) w
               ends = k;
               room = within;
             }
-        go (no number at) q w z = let k : _≡_ {A = ℕ} 0 1 = cc in absurd (omega arith)
+        go (no number at) q w z = contradiction cc
 
     -- the symbols are cleared
     pub tree-answer : {number place : ℕ} {t t′ z : List ℕ} {w : Refusal} → a ≡ RA.Refused number place → w ≡ refusal source number place
@@ -238,7 +239,7 @@ module _ {source s : List ℕ} {count : ℕ} (y : ReadySymbols source s count) w
       where
         go : (o : Out Program) → treeOf src ≡ o → RA.Refused number place ≡ R.answerOf src count o → front ≡ leftBy count (take most s) o
             → Translates source s (z ++ drop (count * 3) s′) t t′ (C.Refused w)
-        go (ok p next) k v l = let k : _≡_ {A = ℕ} 0 1 = cc in absurd (omega arith)
+        go (ok p next) k v l = contradiction cc
         go (no m at) k v l =
             let i : m ≡ number = cc in let j : placeAt src at ≡ place = cc in let few : length ss ≤ most = omega (arith, size) in let stand = whole ss
             few (l ∙ ap (padded (length (take most s))) symbols-first) in let same = as-long ss few stand in let clean : Clean (count * 3) s′
@@ -250,8 +251,8 @@ module _ {source s : List ℕ} {count : ℕ} (y : ReadySymbols source s count) w
     never-unfit e = go (treeOf src) (sym e ∙ answer-by)
       where
         go : (o : Out Program) → RA.TooShort ≡ R.answerOf src count o → ⊥
-        go (ok p next) w = let k : _≡_ {A = ℕ} 0 1 = cc in omega arith
-        go (no m at) w = let k : _≡_ {A = ℕ} 0 1 = cc in omega arith
+        go (ok p next) w = contradiction cc
+        go (no m at) w = contradiction cc
 
 -- ---- the scratch that is lent on
 

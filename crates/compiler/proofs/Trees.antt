@@ -1,6 +1,6 @@
 -- What stands in scratch: a node by its kind, and its parts.
-use Rattle.compiler.proofs.Basics.{ℕ, _+_, _-_, _≤_, _<_, _≡_, refl, sym, ap, subst, _∙_, Bool, true, false, List, [], _∷_, _++_, arith}
-use Rattle.compiler.proofs.Basics.{length, getD, length-append, List·getD-append, getD-append-add}
+use Rattle.laws.proofs.Basics.{ℕ, _+_, _-_, _<_, _≤_, _≡_, refl, sym, ap, subst, _∙_, List, [], _∷_, _++_, Bool, true, false, length, getD}
+use Rattle.laws.proofs.Basics.{length-append, List·getD-append, getD-append-add, arith}
 use Rattle.language.specs.Tree as T
 use Rattle.language.specs.Tree.{Name, Expression, Suffixes, Operations, Command, placeOf, endsInCall}
 use Rattle.tree.specs.Encoding.{closed, encode, encodeName, encodeSuffixes, encodeOperations, encodeCommand, suffixedKind}

@@ -23,6 +23,7 @@ use crate::strings::starts;
 use crate::strings::string_count;
 use crate::strings::strings;
 use symbols::SymbolsRead;
+use symbols::clear_from;
 use symbols::read_symbols;
 use symbols::scratch_too_short;
 use symbols::too_long;
@@ -49,19 +50,7 @@ const NONE: usize = 137438953472;
 const DEPTH: usize = 520;
 
 // Zeros from a place on.
-fn clear_scratch(scratch: &mut [u32], from: usize)
-    requires { ⌜ from ≤ length (now scratch) ⌝ }
-    ensures { λ _. ⌜ now (scratch .exit) ≡ take from (now (scratch .entry)) ++ replicate (length (now (scratch .entry)) - from) 0 ⌝ }
-{
-    let mut i = from;
-    while i < scratch.len() {
-        scratch[i] = 0;
-        i += 1;
-    }
-}
-
 fn clear_text(text: &mut [u8], from: usize)
-    requires { ⌜ from ≤ length (now text) ⌝ }
     ensures { λ _. ⌜ now (text .exit) ≡ take from (now (text .entry)) ++ replicate (length (now (text .entry)) - from) 0 ⌝ }
 {
     let mut i = from;
@@ -178,7 +167,7 @@ fn walked(source: &[u8], s: &mut [u32], count: usize, end: usize, text: &mut [u8
         d,
     );
     let last = behind(source, s, count, names, text, functions, &table, e.state.at);
-    clear_scratch(&mut s[..end], 0);
+    clear_from(&mut s[..end], 0);
     decide(
         source,
         e.state.worst,
@@ -197,7 +186,7 @@ fn parsed(source: &[u8], s: &mut [u32], count: usize, text: &mut [u8]) -> Compil
     match read_tree(&mut s[..count * 8 + 64], count, source.len()) {
         TreeRead::Read(end) => walked(source, s, count, end, text),
         TreeRead::Refused { number, place } => {
-            clear_scratch(&mut s[..count * 3], 0);
+            clear_from(&mut s[..count * 3], 0);
             Compiled::Refused(refuse(source, number, place))
         }
         TreeRead::TooShort => Compiled::Refused(refuse(source, 15, 0)),
@@ -224,7 +213,7 @@ fn in_part(source: &[u8], scratch: &mut [u32], text: &mut [u8]) -> Compiled
 {
     let asked = source.len() * 8 + 64;
     let r = translated(source, &mut scratch[..asked], text);
-    clear_scratch(scratch, asked);
+    clear_from(scratch, asked);
     r
 }
 
@@ -233,11 +222,11 @@ fn attempt(source: &[u8], scratch: &mut [u32], text: &mut [u8]) -> Compiled
     ensures { λ r. ⌜ Translates (now (source .entry)) (now (scratch .entry)) (now (scratch .exit)) (now (text .entry)) (now (text .exit)) r ⌝ }
 {
     if too_long(source) {
-        clear_scratch(scratch, 0);
+        clear_from(scratch, 0);
         return Compiled::Refused(refuse(source, 1, 0));
     }
     if scratch_too_short(source, scratch) {
-        clear_scratch(scratch, 0);
+        clear_from(scratch, 0);
         return Compiled::Refused(refuse(source, 15, 0));
     }
     in_part(source, scratch, text)

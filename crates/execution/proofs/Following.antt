@@ -1,17 +1,13 @@
 -- From the contracts of `compile`, `load` and `run` to that of all three together.
-use Prim.Native.Nat.{ℕ, _+_, _-_, _≤_}
-use mathlib.Core.Path.{_≡_, refl, sym, ap, subst, _∙_}
-use mathlib.Core.List.{List, _++_}
-use native.Mathlib.Omega.{arith}
-use lib.ListN.{length, take, replicate, length-append}
-use lib.Seq.{take-append-seam, length-take-le}
+use Rattle.laws.proofs.Basics.{ℕ, _-_, _≤_, _≡_, refl, sym, ap, subst, _∙_, List, _++_, length, take, replicate, length-append, length-take-le, arith}
+use Rattle.laws.proofs.Cases.{contradiction}
+use lib.Seq.{take-append-seam}
 use Rattle.text.specs.declared.Refusal.{Refusal}
 use Rattle.text.specs.Line.{refusal}
 use Rattle.machine.specs.Run.{run}
 use Rattle.machine.specs.Answers.{Ends}
 use Rattle.machine.proofs.Parts.{came-out}
 use Rattle.machine.specs.declared.Ran.{Ran}
-use Rattle.assembler.specs.Assemble.{Assembly, assembled}
 use Rattle.assembler.specs.Passes.{Loads}
 use Rattle.assembler.specs.declared.Assembled.{Assembled}
 use Rattle.assembler.specs.declared.Assembled.the-variants as A
@@ -24,7 +20,7 @@ use Rattle.compiler.specs.declared.Compiled.{Compiled}
 use Rattle.compiler.specs.declared.Compiled.the-variants as C
 use Rattle.execution.specs.declared.Executed.{Executed}
 use Rattle.execution.specs.declared.Executed.the-variants as E
-use Rattle.execution.specs.Executes.{image, RanFrom, RanBy, RunsText, ExecutedBy, Delivers, Executes}
+use Rattle.execution.specs.Executes.{image, RanBy, RunsText, ExecutedBy, Delivers, Executes}
 
 -- ---- a text
 
@@ -32,15 +28,21 @@ module _ {text memory memory₁ input output : List ℕ} {budget : ℕ} {a : Ass
   pub text-refused : {r : Refusal} → a ≡ A.Refused r → RunsText text memory memory₁ input output output budget (E.Unassembled r)
   text-refused {r} e = record {
     by =
-        subst (λ (x : Assembled). RanBy (image text (length memory)) x memory₁ input output output budget (E.Unassembled r)) (sym e ∙ l .answers) (refl, l .fills, refl);
+        subst (λ (x : Assembled). RanBy (image text (length memory)) x memory₁ input output output budget (E.Unassembled r)) (sym e ∙ l .answers)
+        (refl, l .fills, refl);
   }
 
-  pub text-ran : {first : ℕ} {ran : Ran} {memory₂ output₂ : List ℕ} → a ≡ A.Accepted first → Ends (run first memory₁ input output budget) ran memory₂ output₂
+  pub text-ran : {first : ℕ} {ran : Ran} {memory₂ output₂ : List ℕ} → a ≡ A.Accepted first
+      → Ends (run first memory₁ input output budget) ran memory₂ output₂
       → RunsText text memory memory₂ input output output₂ budget (E.Ran ran)
   text-ran {first} {ran} {memory₂} {output₂} e x = record {
     by =
         subst (λ (x : Assembled). RanBy (image text (length memory)) x memory₂ input output output₂ budget (E.Ran ran)) (sym e ∙ l .answers)
-        (record { ran = ran; answers = refl; ends = subst (λ (m : List ℕ). Ends (run first m input output budget) ran memory₂ output₂) (l .fills) x });
+        (record {
+          ran = ran;
+          answers = refl;
+          ends = subst (λ (m : List ℕ). Ends (run first m input output budget) ran memory₂ output₂) (l .fills) x;
+        });
   }
 
 -- ---- a source
@@ -49,16 +51,17 @@ module _ {source scratch scratch′ text text′ : List ℕ} {a : Compiled} (c :
   abbrev d : Refused
   d = decided source (length scratch) (length text)
 
-  pub source-refused : {memory input output : List ℕ} {budget : ℕ} {r : Refusal} → a ≡ C.Refused r → Executes source scratch scratch′ text text′ memory memory input output output budget (E.Uncompiled r)
+  pub source-refused : {memory input output : List ℕ} {budget : ℕ} {r : Refusal} → a ≡ C.Refused r
+      → Executes source scratch scratch′ text text′ memory memory input output output budget (E.Uncompiled r)
   source-refused {memory} {input} {output} {budget} {r} e = record {
     clears = c .clears;
     writes = c .writes;
     becomes = go d (sym e ∙ c .answers);
-    delivers = λ ran q. let z : _≡_ {A = ℕ} 0 1 = cc in absurd (omega arith);
+    delivers = λ ran q. contradiction cc;
   }
     where
       go : (x : Refused) → C.Refused r ≡ answerOf source x → ExecutedBy source x memory memory input output output budget (E.Uncompiled r)
-      go accepted q = let z : _≡_ {A = ℕ} 0 1 = cc in absurd (omega arith)
+      go accepted q = contradiction cc
       go (refused number place) q = let z : r ≡ refusal source number place = cc in (ap E.Uncompiled z, refl, refl)
 
   -- what is accepted is the generator's text, at the front
@@ -71,7 +74,7 @@ module _ {source scratch scratch′ text text′ : List ℕ} {a : Compiled} (c :
   front {n} e = go d refl (sym e ∙ c .answers) (c .writes)
     where
       go : (x : Refused) → d ≡ x → C.Accepted n ≡ answerOf source x → text′ ≡ textAfter source (length text) x → Front n
-      go (refused number place) k q w = let z : _≡_ {A = ℕ} 0 1 = cc in absurd (omega arith)
+      go (refused number place) k q w = contradiction cc
       go accepted k q w =
           let z : n ≡ length (textOf source) = cc in
           let zeros : List ℕ = replicate (length text - length (textOf source)) 0 in
@@ -96,13 +99,15 @@ module _ {source scratch scratch′ text text′ : List ℕ} {a : Compiled} (c :
     delivered ran q = record {
       follows = λ first k s over below.
           let came = go (image (textOf source) (length memory) .answer) first k (runs .by) in
-          subst (Follows (stringsIn source) (placementOf source (image (textOf source) (length memory) .table) first) s (length output) budget) (came-out came)
+          subst (Follows (stringsIn source) (placementOf source (image (textOf source) (length memory) .table) first) s (length output) budget)
+          (came-out came)
           (c .faithful (front e .accepts) .follows (length memory) 32767 first k input s over below output budget);
     }
       where
-        go : (y : Assembled) (first : ℕ) → y ≡ A.Accepted first → RanBy (image (textOf source) (length memory)) y memory′ input output output′ budget x
+        go : (y : Assembled) (first : ℕ) → y ≡ A.Accepted first
+            → RanBy (image (textOf source) (length memory)) y memory′ input output output′ budget x
             → Ends (run first (image (textOf source) (length memory) .memory) input output budget) ran memory′ output′
-        go (A.Refused w) first k z = let u : _≡_ {A = ℕ} 0 1 = cc in absurd (omega arith)
+        go (A.Refused w) first k z = contradiction cc
         go (A.Accepted m) first k z =
             let u : m ≡ first = cc in
             let v : z .ran ≡ ran = cc in

@@ -1,12 +1,7 @@
 -- Decimals, digit by digit.
-use Prim.Native.Nat.{ℕ, suc, _+_, _-_, _*_, _<_, _≤_}
-use mathlib.Core.Path.{_≡_, refl, sym, _∙_}
-use mathlib.Core.Bool.{Bool, true, false, cond}
-use mathlib.Core.List.{List}
-use native.Mathlib.Omega.{arith}
-use lib.Dec.{leb}
-use lib.ListN.{length, getD, drop}
-use borrow.Author.Tests.{le-leb, lt-leb, leb-true}
+use Rattle.laws.proofs.Basics.{ℕ, suc, _+_, _-_, _*_, _<_, _≤_, _≡_, refl, sym, _∙_, List, Bool, true, false, cond, length, getD, drop, leb, leb-true}
+use Rattle.laws.proofs.Basics.{le-leb, lt-leb}
+use Rattle.laws.proofs.Cases.{contradiction}
 use Rattle.text.proofs.Bytes.{at-byte, past-end}
 use Rattle.items.specs.Item.{capped}
 use Rattle.items.specs.Reader.{Got, got, nothing, head, isDigit, digits, digitCount, decimal}
@@ -26,7 +21,7 @@ digit-bounds c = low (leb 48 c) refl
   where
     low : (t : Bool) → leb 48 c ≡ t → cond t (leb c 57) false ≡ true → (48 ≤ c) × (c ≤ 57)
     low true k e = (leb-true 48 c k, leb-true c 57 e)
-    low false k e = absurd (let z : _≡_ {A = ℕ} 0 1 = cc in omega arith)
+    low false k e = contradiction cc
 
 -- what one digit more asks for
 pub digit-ready : {n : ℕ} (c : ℕ) → n ≤ 65536 → isDigit c ≡ true → (n ≤ 65536) × (48 ≤ c) × (c ≤ 57)
@@ -46,7 +41,9 @@ module _ (text : List ℕ) (i n : ℕ) where
     unfolding digits digitCount
     digits-stop k = (at-byte (digits n) text i h here ∙ rw k, at-byte digitCount text i h here ∙ rw k)
 
-    pub digits-more : isDigit c ≡ true → (digits n (drop i text) ≡ digits (capped (n * 10 + (c - 48))) (drop (i + 1) text)) × (digitCount (drop i text) ≡ suc (digitCount (drop (i + 1) text)))
+    pub digits-more : isDigit c ≡ true
+        → (digits n (drop i text) ≡ digits (capped (n * 10 + (c - 48))) (drop (i + 1) text)) ×
+        (digitCount (drop i text) ≡ suc (digitCount (drop (i + 1) text)))
     unfolding digits digitCount
     digits-more k = (at-byte (digits n) text i h here ∙ rw k, at-byte digitCount text i h here ∙ rw k)
 
@@ -58,7 +55,8 @@ module _ (text : List ℕ) (at : ℕ) where
     unfolding decimal asDecimal
     no-decimal k = rw (← e, k)
 
-    pub a-decimal : {n i : ℕ} → isDigit c ≡ true → n ≡ digits 0 (drop at text) → i ≡ at + digitCount (drop at text) → D.Got n i ≡ asDecimal at (decimal (drop at text))
+    pub a-decimal : {n i : ℕ} → isDigit c ≡ true → n ≡ digits 0 (drop at text) → i ≡ at + digitCount (drop at text)
+        → D.Got n i ≡ asDecimal at (decimal (drop at text))
     unfolding decimal asDecimal
     a-decimal k p q = rw (← e, k, p, q)
 
@@ -69,12 +67,12 @@ module _ (text : List ℕ) (at : ℕ) where
       where
         by : (g : Got ℕ) → decimal (drop at text) ≡ g → r ≡ asDecimal at g → Reads decimal text at v p
         by (got a n) d j = record { width = n; reading = cc; ends = cc }
-        by nothing d j = absurd (let z : _≡_ {A = ℕ} 0 1 = cc in omega arith)
+        by nothing d j = contradiction cc
 
     pub decimal-fails : r ≡ D.Nothing → decimal (drop at text) ≡ nothing
     unfolding asDecimal
     decimal-fails k = by (decimal (drop at text)) e
       where
         by : (g : Got ℕ) → r ≡ asDecimal at g → g ≡ nothing
-        by (got a n) j = absurd (let z : _≡_ {A = ℕ} 0 1 = cc in omega arith)
+        by (got a n) j = contradiction cc
         by nothing j = refl

@@ -1,12 +1,5 @@
 -- What stands next at a place, and where the items begin: the code's answers.
-use Prim.Native.Nat.{ℕ, _+_, _-_, _<_}
-use mathlib.Core.Path.{_≡_, sym, _∙_}
-use mathlib.Core.Bool.{Bool, true, false}
-use mathlib.Core.List.{List}
-use native.Mathlib.Omega.{arith}
-use lib.ListN.{length, drop, length-drop}
-use lib.Seq.{drop-drop}
-use borrow.Author.Tests.{eq-eqb, ne-eqb}
+use Rattle.laws.proofs.Basics.{ℕ, _+_, _-_, _<_, _≡_, sym, _∙_, List, Bool, true, false, length, drop, length-drop, drop-drop, arith, eq-eqb, ne-eqb}
 use Rattle.items.specs.Reader.{nothing, head}
 use Rattle.items.specs.Read.{item}
 use Rattle.items.specs.Scan.{gaps, mark, trailing}
@@ -34,13 +27,24 @@ module _ (text : List ℕ) (at : ℕ) (e : head (drop at text) ≡ 90) {t : Bool
     unfolding elementAt asNext trailing
     last-whole h =
         let i : at < length text = inside text at e (omega arith) in
-        rw (e, mark-got 90 _ (sym m ∙ k), drop-drop 1 at text, eq-eqb (gaps false (drop (at + 1) text)) (length (drop (at + 1) text)) (omega (arith, l)))
+        rw (
+          e,
+          mark-got 90 _ (sym m ∙ k),
+          drop-drop 1 at text,
+          eq-eqb (gaps false (drop (at + 1) text)) (length (drop (at + 1) text)) (omega (arith, l)),
+        )
 
     pub last-more : (end ≡ length text → ⊥) → M.Unreadable end ≡ asNext (elementAt at (drop at text))
     unfolding elementAt asNext trailing
     last-more h =
         let i : at < length text = inside text at e (omega arith) in
-        rw (e, mark-got 90 _ (sym m ∙ k), drop-drop 1 at text, ne-eqb (gaps false (drop (at + 1) text)) (length (drop (at + 1) text)) (λ j. h (omega (arith, l))), g)
+        rw (
+          e,
+          mark-got 90 _ (sym m ∙ k),
+          drop-drop 1 at text,
+          ne-eqb (gaps false (drop (at + 1) text)) (length (drop (at + 1) text)) (λ j. h (omega (arith, l))),
+          g,
+        )
 
 -- ---- an item
 

@@ -1,14 +1,15 @@
 -- Worked examples by computation: the corners of document 01's "Assembly text".
-use Prim.Native.Nat.{ℕ}
-use mathlib.Core.Path.{_≡_, refl}
-use mathlib.Core.Bool.{true, false}
-use mathlib.Core.List.{List, [], _∷_, map}
+use Rattle.laws.proofs.Basics.{ℕ, refl, List, [], _∷_, true, false}
+use Rattle.laws.proofs.Table.{Table, _gives_, Each}
+use Prim.Native.String.{String}
+use Rattle.text.specs.Written.{bytes}
 use Rattle.text.specs.Quoted.{quoted, character, byDigits, byNumber, escape}
 use Rattle.items.specs.Item.{number, address, none, P, Item, Placed, label, instruction, constant, string, global}
-use Rattle.items.specs.Reader.{got, nothing, head, byte, optional, digits, digitCount, decimal}
-use Rattle.items.specs.Read.{ended, quotedCharacter, quotedString, negative, quotation, labelled, positive, operand, base, labelItem, instructionItem, constantItem, stringItem, globalItem, functionOf, item}
+use Rattle.items.specs.Reader.{Got, got, nothing, head, byte, optional, digits, digitCount, decimal}
+use Rattle.items.specs.Read.{ended, quotedCharacter, quotedString, negative, quotation, labelled, positive, operand, base, labelItem}
+use Rattle.items.specs.Read.{instructionItem, constantItem, stringItem, globalItem, functionOf, item}
 use Rattle.items.specs.Scan.{gaps, whole, unreadable, Scan, mark, trailing, body, scan}
-use Rattle.items.specs.Next.{one, over, elementAt, nextIn, from, not as unbegun, startIn}
+use Rattle.items.specs.Next.{Next, one, over, elementAt, nextIn, Start, from, not as unbegun, startIn}
 
 abbrev at : ℕ → Item → Placed
 at p i = record { place = p; item = i }
@@ -21,93 +22,55 @@ stops p is = record { items = is; ending = unreadable p }
 
 -- ---- one item
 
--- LIP2; JL5; D-0; D'*N'; D'"'; DL40000; C"a*""; G400L1; 007: with what follows a label at once
--- each is read as it is written: what is out of range is refused later
-abbrev Readable : Type 0
-Readable = map item (
-    (76 ∷ 73 ∷ 80 ∷ 50 ∷ []) ∷
-    (74 ∷ 76 ∷ 53 ∷ 10 ∷ []) ∷
-    (68 ∷ 45 ∷ 48 ∷ []) ∷
-    (68 ∷ 39 ∷ 42 ∷ 78 ∷ 39 ∷ []) ∷
-    (68 ∷ 39 ∷ 34 ∷ 39 ∷ []) ∷
-    (68 ∷ 76 ∷ 52 ∷ 48 ∷ 48 ∷ 48 ∷ 48 ∷ []) ∷
-    (67 ∷ 34 ∷ 97 ∷ 42 ∷ 34 ∷ 34 ∷ []) ∷
-    (71 ∷ 52 ∷ 48 ∷ 48 ∷ 76 ∷ 49 ∷ []) ∷
-    (48 ∷ 48 ∷ 55 ∷ 58 ∷ 88 ∷ []) ∷ [])
-    ≡
-    got (instruction 0 true P (number false 2)) 4 ∷
-    got (instruction 3 false none (address 5)) 3 ∷
-    got (constant (number true 0)) 3 ∷
-    got (constant (number false 10)) 5 ∷
-    got (constant (number false 34)) 4 ∷
-    got (constant (address 40000)) 7 ∷
-    got (string (97 ∷ 34 ∷ [])) 6 ∷
-    got (global 400 1) 6 ∷
-    got (label 7) 4 ∷ []
+abbrev item-table : Table String (Got Item)
+item-table =
+    -- each is read as it is written: what is out of range is refused later
+    "LIP2" gives got (instruction 0 true P (number false 2)) 4 ∷
+    "JL5\n" gives got (instruction 3 false none (address 5)) 3 ∷
+    "D-0" gives got (constant (number true 0)) 3 ∷
+    "D'*N'" gives got (constant (number false 10)) 5 ∷
+    "D'\"'" gives got (constant (number false 34)) 4 ∷
+    "DL40000" gives got (constant (address 40000)) 7 ∷
+    "C\"a*\"\"" gives got (string (97 ∷ 34 ∷ [])) 6 ∷
+    "G400L1" gives got (global 400 1) 6 ∷
+    -- what follows a label may stand at once
+    "007:X" gives got (label 7) 4 ∷
+    -- unreadable; L1X does not end, and 12 has no colon
+    "JL-5" gives nothing ∷ "DI5" gives nothing ∷ "-5:" gives nothing ∷ "G-1L2" gives nothing ∷ "D-" gives nothing ∷ "D''" gives nothing ∷
+    "D'ab'" gives nothing ∷ "C\"" gives nothing ∷ "LP" gives nothing ∷ "\t" gives nothing ∷ "" gives nothing ∷ "L1X" gives nothing ∷
+    "QL1" gives nothing ∷ "12 " gives nothing ∷ []
 
--- JL-5; DI5; -5:; G-1L2; D-; D''; D'ab'; C"; LP; a tab; nothing; L1X, which does not end; QL1; 12 without a colon
-abbrev Unreadable : Type 0
-Unreadable = map item (
-    (74 ∷ 76 ∷ 45 ∷ 53 ∷ []) ∷
-    (68 ∷ 73 ∷ 53 ∷ []) ∷
-    (45 ∷ 53 ∷ 58 ∷ []) ∷
-    (71 ∷ 45 ∷ 49 ∷ 76 ∷ 50 ∷ []) ∷
-    (68 ∷ 45 ∷ []) ∷
-    (68 ∷ 39 ∷ 39 ∷ []) ∷
-    (68 ∷ 39 ∷ 97 ∷ 98 ∷ 39 ∷ []) ∷
-    (67 ∷ 34 ∷ []) ∷
-    (76 ∷ 80 ∷ []) ∷
-    (9 ∷ []) ∷
-    [] ∷
-    (76 ∷ 49 ∷ 88 ∷ []) ∷
-    (81 ∷ 76 ∷ 49 ∷ []) ∷
-    (49 ∷ 50 ∷ 32 ∷ []) ∷ [])
-    ≡ nothing ∷ nothing ∷ nothing ∷ nothing ∷ nothing ∷ nothing ∷ nothing ∷ nothing ∷ nothing ∷ nothing ∷ nothing ∷ nothing ∷ nothing ∷ nothing ∷ []
-
--- 65535, 65536 and a number of nine digits: the last two are out of range alike
-abbrev Capped : Type 0
-Capped = map decimal (
-    (54 ∷ 53 ∷ 53 ∷ 51 ∷ 53 ∷ []) ∷
-    (54 ∷ 53 ∷ 53 ∷ 51 ∷ 54 ∷ []) ∷
-    (57 ∷ 57 ∷ 57 ∷ 57 ∷ 57 ∷ 57 ∷ 57 ∷ 57 ∷ 57 ∷ []) ∷ [])
-    ≡ got 65535 5 ∷ got 65536 5 ∷ got 65536 9 ∷ []
+-- the last two are out of range alike
+abbrev number-table : Table String (Got ℕ)
+number-table = "65535" gives got 65535 5 ∷ "65536" gives got 65536 5 ∷ "999999999" gives got 65536 9 ∷ []
 
 -- ---- whole texts
 
--- `$ 12: LIP2 Z`; comments before $ and directly after $ and Z; `$Z`, where $ does not end; nothing but a gap; no Z; an item
--- after Z; a second $; an item before $; `1:X22`, where only the colon stands between two items
-abbrev Texts : Type 0
-Texts = map scan (
-    (36 ∷ 32 ∷ 49 ∷ 50 ∷ 58 ∷ 32 ∷ 76 ∷ 73 ∷ 80 ∷ 50 ∷ 32 ∷ 90 ∷ []) ∷
-    (47 ∷ 36 ∷ 10 ∷ 36 ∷ 47 ∷ 10 ∷ 90 ∷ 47 ∷ 90 ∷ 10 ∷ 32 ∷ []) ∷
-    (36 ∷ 90 ∷ []) ∷
-    (32 ∷ 10 ∷ []) ∷
-    (36 ∷ 32 ∷ 68 ∷ 49 ∷ 32 ∷ []) ∷
-    (36 ∷ 32 ∷ 90 ∷ 32 ∷ 68 ∷ 49 ∷ []) ∷
-    (36 ∷ 32 ∷ 36 ∷ 32 ∷ 90 ∷ []) ∷
-    (68 ∷ 49 ∷ 32 ∷ 36 ∷ 32 ∷ 90 ∷ []) ∷
-    (36 ∷ 10 ∷ 49 ∷ 58 ∷ 88 ∷ 50 ∷ 50 ∷ 10 ∷ 90 ∷ 10 ∷ []) ∷ [])
-    ≡
-    read (at 2 (label 12) ∷ at 6 (instruction 0 true P (number false 2)) ∷ []) ∷
-    read [] ∷
-    stops 0 [] ∷
-    stops 2 [] ∷
-    stops 5 (at 2 (constant (number false 1)) ∷ []) ∷
-    stops 4 [] ∷
-    stops 2 [] ∷
-    stops 0 [] ∷
-    read (at 2 (label 1) ∷ at 4 (instruction 7 false none (number false 22)) ∷ []) ∷ []
+abbrev text-table : Table String Scan
+text-table =
+    "$ 12: LIP2 Z" gives read (at 2 (label 12) ∷ at 6 (instruction 0 true P (number false 2)) ∷ []) ∷
+    -- comments before $, and directly after $ and Z; only the colon stands between two items
+    "/$\n$/\nZ/Z\n " gives read [] ∷
+    "$\n1:X22\nZ\n" gives read (at 2 (label 1) ∷ at 4 (instruction 7 false none (number false 22)) ∷ []) ∷
+    -- $ does not end; nothing but a gap; no Z; an item after Z; a second $; an item before $
+    "$Z" gives stops 0 [] ∷
+    " \n" gives stops 2 [] ∷
+    "$ D1 " gives stops 5 (at 2 (constant (number false 1)) ∷ []) ∷
+    "$ Z D1" gives stops 4 [] ∷
+    "$ $ Z" gives stops 2 [] ∷
+    "D1 $ Z" gives stops 0 [] ∷ []
 
--- the same text `$ 12: LIP2 Z` one item at a time, from past $, and from past the end
-abbrev Steps : Type 0
-Steps = map (nextIn (36 ∷ 32 ∷ 49 ∷ 50 ∷ 58 ∷ 32 ∷ 76 ∷ 73 ∷ 80 ∷ 50 ∷ 32 ∷ 90 ∷ [])) (1 ∷ 5 ∷ 10 ∷ 99 ∷ [])
-    ≡ one 2 (label 12) 5 ∷ one 6 (instruction 0 true P (number false 2)) 10 ∷ over whole ∷ over (unreadable 99) ∷ []
+-- one item at a time, from past $, and from past the end
+abbrev next-table : Table ℕ Next
+next-table =
+    1 gives one 2 (label 12) 5 ∷ 5 gives one 6 (instruction 0 true P (number false 2)) 10 ∷ 10 gives over whole ∷ 99 gives over (unreadable 99) ∷ []
 
-abbrev Starts : Type 0
-Starts = map startIn ((47 ∷ 10 ∷ 32 ∷ 36 ∷ 10 ∷ []) ∷ (32 ∷ 68 ∷ 49 ∷ []) ∷ []) ≡ from 4 ∷ unbegun 1 ∷ []
+abbrev start-table : Table String Start
+start-table = "/\n $\n" gives from 4 ∷ " D1" gives unbegun 1 ∷ []
 
--- ----
-
-examples : Readable × Unreadable × Capped × Texts × Steps × Starts
-unfolding quoted character byNumber byDigits escape head byte optional digits digitCount decimal ended quotedCharacter quotedString negative quotation labelled positive operand base labelItem instructionItem constantItem stringItem globalItem functionOf item gaps mark trailing body scan elementAt nextIn startIn
-examples = (refl, refl, refl, refl, refl, refl)
+examples : Each (λ t. item (bytes t)) item-table × Each (λ t. decimal (bytes t)) number-table × Each (λ t. scan (bytes t)) text-table ×
+    Each (nextIn (bytes "$ 12: LIP2 Z")) next-table × Each (λ t. startIn (bytes t)) start-table
+unfolding quoted character byNumber byDigits escape head byte optional digits digitCount decimal ended quotedCharacter quotedString negative quotation
+    labelled positive operand base labelItem instructionItem constantItem stringItem globalItem functionOf item gaps mark trailing body scan elementAt
+    nextIn startIn
+examples = (refl, refl, refl, refl, refl)

@@ -1,11 +1,6 @@
 -- Gaps, byte by byte.
-use Prim.Native.Nat.{ℕ, suc, _+_, _<_, _≤_}
-use mathlib.Core.Path.{_≡_, refl, _∙_}
-use mathlib.Core.Bool.{Bool, true, false, cond}
-use mathlib.Core.List.{List, [], _∷_}
-use lib.Dec.{eqb}
-use lib.ListN.{length, getD, drop}
-use borrow.Author.Tests.{eqb-true, ne-eqb}
+use Rattle.laws.proofs.Basics.{ℕ, suc, _+_, _<_, _≤_, _≡_, refl, _∙_, List, [], _∷_, Bool, true, false, cond, length, getD, drop, eqb, eqb-true}
+use Rattle.laws.proofs.Basics.{ne-eqb}
 use Rattle.text.proofs.Bytes.{at-byte, past-end, Unlike}
 use Rattle.items.specs.Scan.{gaps}
 use Rattle.items.specs.Parts.{inGap, inComment}
@@ -19,11 +14,14 @@ gap-byte false c r = first (eqb c 32) refl
     third true e = rw e
     third false e = refl
 
-    second : (t : Bool) → eqb c 10 ≡ t → cond t (suc (gaps false r)) (cond (eqb c 47) (suc (gaps true r)) 0) ≡ cond (cond t true (eqb c 47)) (suc (gaps (eqb c 47) r)) 0
+    second : (t : Bool) → eqb c 10 ≡ t
+        → cond t (suc (gaps false r)) (cond (eqb c 47) (suc (gaps true r)) 0) ≡ cond (cond t true (eqb c 47)) (suc (gaps (eqb c 47) r)) 0
     second true e = rw (eqb-true c 10 e)
     second false e = third (eqb c 47) refl
 
-    first : (t : Bool) → eqb c 32 ≡ t → cond t (suc (gaps false r)) (cond (eqb c 10) (suc (gaps false r)) (cond (eqb c 47) (suc (gaps true r)) 0)) ≡ cond (cond t true (cond (eqb c 10) true (eqb c 47))) (suc (gaps (eqb c 47) r)) 0
+    first : (t : Bool) → eqb c 32 ≡ t
+        → cond t (suc (gaps false r)) (cond (eqb c 10) (suc (gaps false r)) (cond (eqb c 47) (suc (gaps true r)) 0)) ≡ cond
+        (cond t true (cond (eqb c 10) true (eqb c 47))) (suc (gaps (eqb c 47) r)) 0
     first true e = rw (eqb-true c 32 e)
     first false e = second (eqb c 10) refl
 

@@ -1,18 +1,13 @@
 -- Items by their parts: each answer of the code, from what its readers of parts answered.
-use Prim.Native.Nat.{ℕ, suc, _+_, _-_, _<_, _≤_}
-use mathlib.Core.Path.{_≡_, refl, sym, ap, _∙_}
-use mathlib.Core.Bool.{Bool, true, false}
-use mathlib.Core.List.{List, [], _∷_}
-use native.Mathlib.Omega.{arith}
-use lib.Dec.{ltb}
-use lib.ListN.{length, drop}
-use lib.Seq.{drop-drop}
-use borrow.Author.Tests.{ne-eqb, lt-ltb, le-ltb, ltb-true, ltb-false}
+use Rattle.laws.proofs.Basics.{ℕ, _+_, _<_, _≤_, _≡_, refl, sym, ap, _∙_, List, [], _∷_, Bool, true, false, length, drop, drop-drop, eqb, ltb, arith}
+use Rattle.laws.proofs.Basics.{ne-eqb, ltb-true, ltb-false, lt-ltb, le-ltb}
+use Rattle.laws.proofs.Cases.{by-cases, contradiction}
 use Rattle.text.specs.Quoted.{unclosed, faulty, quoted}
 use Rattle.text.proofs.Bytes.{Unlike}
 use Rattle.text.proofs.Answers.{Counted}
 use Rattle.items.specs.Reader.{Got, got, nothing, Reader, wide, head, byte, optional, isDigit, decimal}
-use Rattle.items.specs.Read.{ended, quotedString, operand, base, labelItem, instructionItem, constantItem, stringItem, globalItem, functionOf, item}
+use Rattle.items.specs.Read.{ended, quotedString, operand, base, labelItem, instructionItem, constantItem, stringItem, globalItem, functionOf}
+use Rattle.items.specs.Read.{item}
 use Rattle.items.specs.Answers.{asItem}
 use Rattle.items.specs.Parts.{asItemAt, globalLabel}
 use Rattle.items.specs.declared.Operand.{Operand}
@@ -27,14 +22,14 @@ use Rattle.items.specs.declared.ReadItem.the-variants as C
 
 -- ---- the answer, from a reading and back
 
-module _ (reader : Reader I.Item) (text : List ℕ) (at : ℕ) where
-  pub an-item : {i : I.Item} {p : ℕ} → Reads reader text at i p → C.Got (asItem i) p ≡ asItemAt at (reader (drop at text))
-  unfolding asItemAt
-  an-item h = rw (h .reading, h .ends)
+pub an-item : (reader : Reader I.Item) (text : List ℕ) (at : ℕ) {i : I.Item} {p : ℕ} → Reads reader text at i p
+    → C.Got (asItem i) p ≡ asItemAt at (reader (drop at text))
+unfolding asItemAt
+an-item reader text at h = rw (h .reading, h .ends)
 
-  pub no-item : reader (drop at text) ≡ nothing → C.Nothing ≡ asItemAt at (reader (drop at text))
-  unfolding asItemAt
-  no-item h = rw h
+pub no-item : (at : ℕ) {g : Got I.Item} → g ≡ nothing → C.Nothing ≡ asItemAt at g
+unfolding asItemAt
+no-item at h = rw h
 
 -- an answer that stands for an item that was read
 pub record ItemRead (text : List ℕ) (at : ℕ) (r : Item) (past : ℕ) : Type 0 where
@@ -49,14 +44,14 @@ module _ (text : List ℕ) (at : ℕ) {r : ReadItem} (e : r ≡ asItemAt at (ite
     where
       by : (g : Got I.Item) → item (drop at text) ≡ g → r ≡ asItemAt at g → ItemRead text at i p
       by (got x n) d j = record { value = x; same = cc; reads = record { width = n; reading = d; ends = cc } }
-      by nothing d j = absurd (let z : _≡_ {A = ℕ} 0 1 = cc in omega arith)
+      by nothing d j = contradiction cc
 
   pub item-fails : r ≡ C.Nothing → item (drop at text) ≡ nothing
   unfolding asItemAt
   item-fails k = by (item (drop at text)) e
     where
       by : (g : Got I.Item) → r ≡ asItemAt at g → g ≡ nothing
-      by (got x n) j = absurd (let z : _≡_ {A = ℕ} 0 1 = cc in omega arith)
+      by (got x n) j = contradiction cc
       by nothing j = refl
 
 -- the same item, n bytes on
@@ -69,13 +64,14 @@ moved n at e nothing = refl
 
 module _ (text : List ℕ) (at : ℕ) where
   module _ {n p : ℕ} (h : Reads decimal text at n p) where
-    pub label-reads : head (drop p text) ≡ 58 → Reads labelItem text at (I.label n) (p + 1)
-    unfolding labelItem
-    label-reads e =
+    pub a-label : eqb (head (drop p text)) 58 ≡ true → C.Got (K.Label n) (p + 1) ≡ asItemAt at (labelItem (drop at text))
+    unfolding labelItem asItem
+    a-label e =
         let b : Reads (byte 58) text p true (p + 1) = byte-reads text p 58 e in
-        record { width = h .width + (b .width + 0); reading = rw (h .reading, onto h, b .reading); ends = omega arith }
+        an-item labelItem text at {i = I.label n}
+        (record { width = h .width + (b .width + 0); reading = rw (h .reading, onto h, b .reading); ends = omega arith })
 
-    pub label-fails : (head (drop p text) ≡ 58 → ⊥) → labelItem (drop at text) ≡ nothing
+    pub label-fails : eqb (head (drop p text)) 58 ≡ false → labelItem (drop at text) ≡ nothing
     unfolding labelItem
     label-fails e = rw (h .reading, onto h, byte-fails text p 58 e)
 
@@ -93,9 +89,16 @@ module _ (text : List ℕ) (at : ℕ) where
 
   module _ (n : ℕ) where
     module _ (b : Reads (byte 76) text at true (at + 1)) where
-      pub global-reads : {m p : ℕ} → Reads decimal text (at + 1) m p → Reads ended text p true p → Reads (globalLabel n) text at (I.global n m) p
-      unfolding globalLabel
-      global-reads h k = record { width = b .width + (h .width + (k .width + 0)); reading = rw (b .reading, onto b, h .reading, onto h, k .reading); ends = omega arith }
+      pub a-global : {m p : ℕ} → Reads decimal text (at + 1) m p → Reads ended text p true p
+          → C.Got (K.Global n m) p ≡ asItemAt at (globalLabel n (drop at text))
+      unfolding globalLabel asItem
+      a-global h k =
+          an-item (globalLabel n) text at {i = I.global n _}
+          (record {
+            width = b .width + (h .width + (k .width + 0));
+            reading = rw (b .reading, onto b, h .reading, onto h, k .reading);
+            ends = omega arith;
+          })
 
       pub global-open : {m p : ℕ} → Reads decimal text (at + 1) m p → ended (drop p text) ≡ nothing → globalLabel n (drop at text) ≡ nothing
       unfolding globalLabel
@@ -105,7 +108,7 @@ module _ (text : List ℕ) (at : ℕ) where
       unfolding globalLabel
       global-unlabelled h = rw (b .reading, onto b, h)
 
-    pub global-short : (head (drop at text) ≡ 76 → ⊥) → globalLabel n (drop at text) ≡ nothing
+    pub global-short : eqb (head (drop at text)) 76 ≡ false → globalLabel n (drop at text) ≡ nothing
     unfolding globalLabel
     global-short h = rw (byte-fails text at 76 h)
 
@@ -123,12 +126,18 @@ module _ (text : List ℕ) (at : ℕ) where
   constant-none e = rw e
 
   module _ (f : ℕ) {i : Bool} {b : I.Base} {s t : ℕ} (hi : Reads (optional 73) text at i s) (hb : Reads base text s b t) where
-    pub instruction-reads : {x : I.Operand} {p : ℕ} → Reads operand text t x p → Reads ended text p true p → Reads (instructionItem f) text at (I.instruction f i b x) p
+    pub instruction-reads : {x : I.Operand} {p : ℕ} → Reads operand text t x p → Reads ended text p true p
+        → Reads (instructionItem f) text at (I.instruction f i b x) p
     unfolding instructionItem
     instruction-reads h k =
-        record { width = hi .width + (hb .width + (h .width + (k .width + 0))); reading = rw (hi .reading, onto hi, hb .reading, onto hb, h .reading, onto h, k .reading); ends = omega arith }
+        record {
+          width = hi .width + (hb .width + (h .width + (k .width + 0)));
+          reading = rw (hi .reading, onto hi, hb .reading, onto hb, h .reading, onto h, k .reading);
+          ends = omega arith;
+        }
 
-    pub instruction-open : {x : I.Operand} {p : ℕ} → Reads operand text t x p → ended (drop p text) ≡ nothing → instructionItem f (drop at text) ≡ nothing
+    pub instruction-open : {x : I.Operand} {p : ℕ} → Reads operand text t x p → ended (drop p text) ≡ nothing
+        → instructionItem f (drop at text) ≡ nothing
     unfolding instructionItem
     instruction-open h k = rw (hi .reading, onto hi, hb .reading, onto hb, h .reading, onto h, k)
 
@@ -142,7 +151,8 @@ module _ (text : List ℕ) (at : ℕ) {p : ℕ} {o : Operand} where
   unfolding asItem
   a-constant h k = rw (h .same) (an-item constantItem text at (constant-reads text at (h .reads) k))
 
-  pub an-instruction : (f : ℕ) {i : Bool} {s : ℕ} {b : Based} → Reads (optional 73) text at i s → BaseRead text s b → OperandRead text (b .past) o p → Reads ended text p true p → C.Got (K.Instruction f i (b .base) o) p ≡ asItemAt at (instructionItem f (drop at text))
+  pub an-instruction : (f : ℕ) {i : Bool} {s : ℕ} {b : Based} → Reads (optional 73) text at i s → BaseRead text s b → OperandRead text (b .past) o p
+      → Reads ended text p true p → C.Got (K.Instruction f i (b .base) o) p ≡ asItemAt at (instructionItem f (drop at text))
   unfolding asItem
   an-instruction f hi hb h k = rw (hb .same, h .same) (an-item (instructionItem f) text at (instruction-reads text at f hi (hb .reads) (h .reads) k))
 
@@ -175,7 +185,7 @@ module _ (text : List ℕ) (at : ℕ) where
     unfolding stringItem quotedString
     string-faulty h = rw (b .reading, onto b, h)
 
-  pub string-none : (head (drop at text) ≡ 34 → ⊥) → stringItem (drop at text) ≡ nothing
+  pub string-none : eqb (head (drop at text)) 34 ≡ false → stringItem (drop at text) ≡ nothing
   unfolding stringItem
   string-none h = rw (byte-fails text at 34 h)
 
@@ -187,7 +197,7 @@ module _ (text : List ℕ) (at : ℕ) where
 -- ---- one item, by the byte that it begins with
 
 module _ (text : List ℕ) (at : ℕ) {c : ℕ} (e : c ≡ head (drop at text)) where
-  pub item-label : isDigit c ≡ true → labelItem (drop at text) ≡ item (drop at text)
+  pub item-label : isDigit c ≡ true → asItemAt at (labelItem (drop at text)) ≡ asItemAt at (item (drop at text))
   unfolding item
   item-label k = rw (← e, k)
 
@@ -216,11 +226,9 @@ module _ (text : List ℕ) (at : ℕ) {c : ℕ} (e : c ≡ head (drop at text)) 
 
   pub function-inside : {f : ℕ} → f ≡ functionOf c → f < 8 → at < length text
   unfolding functionOf
-  function-inside h k = go (ltb at (length text)) refl
-    where
-      go : (t : Bool) → ltb at (length text) ≡ t → at < length text
-      go true l = ltb-true at (length text) l
-      go false l = absurd (omega (arith, rw (e, head-past text at (ltb-false at (length text) l)) at h))
+  function-inside h k =
+      by-cases (ltb at (length text)) (λ l. ltb-true at (length text) l)
+      (λ l. absurd (omega (arith, rw (e, head-past text at (ltb-false at (length text) l)) at h)))
 
 pub no-function : (c : ℕ) → Unlike c (88 ∷ 75 ∷ 70 ∷ 84 ∷ 74 ∷ 65 ∷ 83 ∷ 76 ∷ []) → functionOf c ≡ 8
 unfolding functionOf

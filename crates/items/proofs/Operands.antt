@@ -1,14 +1,7 @@
 -- Operands and bases, by the byte that they begin with.
-use Prim.Native.Nat.{ℕ, _+_, _-_}
-use mathlib.Core.Path.{_≡_, refl, sym, ap, _∙_}
-use mathlib.Core.Bool.{Bool, true, false, cond}
-use mathlib.Core.List.{List, [], _∷_}
-use native.Mathlib.Omega.{arith}
-use native.Mathlib.Nat.{add-zero}
-use lib.Dec.{eqb}
-use lib.ListN.{length, drop}
-use lib.Seq.{drop-drop}
-use borrow.Author.Tests.{eq-eqb, ne-eqb}
+use Rattle.laws.proofs.Basics.{ℕ, _+_, _≡_, refl, sym, ap, _∙_, List, [], _∷_, Bool, true, false, cond, length, drop, drop-drop, eqb, add-zero, arith}
+use Rattle.laws.proofs.Basics.{eq-eqb, ne-eqb}
+use Rattle.laws.proofs.Cases.{contradiction}
 use Rattle.text.specs.Quoted.{character, closed, unclosed, faulty, quoted}
 use Rattle.text.specs.Parts.{valueOf}
 use Rattle.text.proofs.Bytes.{Unlike}
@@ -28,14 +21,14 @@ use Rattle.items.specs.declared.Base.the-variants as B
 
 -- ---- the answer, from a reading and back
 
-module _ (reader : Reader I.Operand) (text : List ℕ) (at : ℕ) where
-  pub an-operand : {x : I.Operand} {p : ℕ} → Reads reader text at x p → A.Got (asOperand x) p ≡ asOperandAt at (reader (drop at text))
-  unfolding asOperandAt
-  an-operand h = rw (h .reading, h .ends)
+pub an-operand : (reader : Reader I.Operand) (text : List ℕ) (at : ℕ) {x : I.Operand} {p : ℕ} → Reads reader text at x p
+    → A.Got (asOperand x) p ≡ asOperandAt at (reader (drop at text))
+unfolding asOperandAt
+an-operand reader text at h = rw (h .reading, h .ends)
 
-  pub no-operand : reader (drop at text) ≡ nothing → A.Nothing ≡ asOperandAt at (reader (drop at text))
-  unfolding asOperandAt
-  no-operand h = rw h
+pub no-operand : (at : ℕ) {g : Got I.Operand} → g ≡ nothing → A.Nothing ≡ asOperandAt at g
+unfolding asOperandAt
+no-operand at h = rw h
 
 -- an answer o stands for an operand that was read
 pub record OperandRead (text : List ℕ) (at : ℕ) (o : Operand) (past : ℕ) : Type 0 where
@@ -50,14 +43,14 @@ module _ (text : List ℕ) (at : ℕ) {r : ReadOperand} (e : r ≡ asOperandAt a
     where
       by : (g : Got I.Operand) → operand (drop at text) ≡ g → r ≡ asOperandAt at g → OperandRead text at o p
       by (got x n) d j = record { value = x; same = cc; reads = record { width = n; reading = d; ends = cc } }
-      by nothing d j = absurd (let z : _≡_ {A = ℕ} 0 1 = cc in omega arith)
+      by nothing d j = contradiction cc
 
   pub operand-fails : r ≡ A.Nothing → operand (drop at text) ≡ nothing
   unfolding asOperandAt
   operand-fails k = by (operand (drop at text)) e
     where
       by : (g : Got I.Operand) → r ≡ asOperandAt at g → g ≡ nothing
-      by (got x n) j = absurd (let z : _≡_ {A = ℕ} 0 1 = cc in omega arith)
+      by (got x n) j = contradiction cc
       by nothing j = refl
 
 -- ---- each kind of operand
@@ -66,13 +59,13 @@ module _ (text : List ℕ) (at : ℕ) {v p : ℕ} where
   pub negative-reads : head (drop at text) ≡ 45 → Reads decimal text (at + 1) v p → Reads negative text at (I.number true v) p
   unfolding negative
   negative-reads e h =
-      let b : Reads (byte 45) text at true (at + 1) = byte-reads text at 45 e in
+      let b : Reads (byte 45) text at true (at + 1) = byte-reads text at 45 (eq-eqb _ 45 e) in
       record { width = b .width + (h .width + 0); reading = rw (b .reading, onto b, h .reading); ends = omega arith }
 
   pub labelled-reads : head (drop at text) ≡ 76 → Reads decimal text (at + 1) v p → Reads labelled text at (I.address v) p
   unfolding labelled
   labelled-reads e h =
-      let b : Reads (byte 76) text at true (at + 1) = byte-reads text at 76 e in
+      let b : Reads (byte 76) text at true (at + 1) = byte-reads text at 76 (eq-eqb _ 76 e) in
       record { width = b .width + (h .width + 0); reading = rw (b .reading, onto b, h .reading); ends = omega arith }
 
   pub positive-reads : Reads decimal text at v p → Reads positive text at (I.number false v) p
@@ -82,11 +75,11 @@ module _ (text : List ℕ) (at : ℕ) {v p : ℕ} where
 module _ (text : List ℕ) (at : ℕ) where
   pub negative-fails : head (drop at text) ≡ 45 → decimal (drop (at + 1) text) ≡ nothing → negative (drop at text) ≡ nothing
   unfolding negative
-  negative-fails e h = let b : Reads (byte 45) text at true (at + 1) = byte-reads text at 45 e in rw (b .reading, onto b, h)
+  negative-fails e h = let b : Reads (byte 45) text at true (at + 1) = byte-reads text at 45 (eq-eqb _ 45 e) in rw (b .reading, onto b, h)
 
   pub labelled-fails : head (drop at text) ≡ 76 → decimal (drop (at + 1) text) ≡ nothing → labelled (drop at text) ≡ nothing
   unfolding labelled
-  labelled-fails e h = let b : Reads (byte 76) text at true (at + 1) = byte-reads text at 76 e in rw (b .reading, onto b, h)
+  labelled-fails e h = let b : Reads (byte 76) text at true (at + 1) = byte-reads text at 76 (eq-eqb _ 76 e) in rw (b .reading, onto b, h)
 
   pub positive-fails : decimal (drop at text) ≡ nothing → positive (drop at text) ≡ nothing
   unfolding positive
@@ -148,21 +141,17 @@ module _ (bytes : List ℕ) {c : ℕ} (e : c ≡ head bytes) where
   unfolding operand
   operand-plain h = rw (← e, ne-eqb c 45 (h .0 .0 .1), ne-eqb c 39 (h .0 .1), ne-eqb c 76 (h .1))
 
-  pub base-p : c ≡ 80 → base bytes ≡ got I.P 1
-  unfolding base
-  base-p k = rw (← e, k)
+  pub based-p : (at : ℕ) → c ≡ 80 → record { base = B.P; past = at + 1 } ≡ asBased at (base bytes)
+  unfolding base asBased asBase
+  based-p at k = rw (← e, k)
 
-  pub base-g : c ≡ 71 → base bytes ≡ got I.G 1
-  unfolding base
-  base-g k = rw (← e, k)
+  pub based-g : (at : ℕ) → c ≡ 71 → record { base = B.G; past = at + 1 } ≡ asBased at (base bytes)
+  unfolding base asBased asBase
+  based-g at k = rw (← e, k)
 
-  pub base-none : Unlike c (71 ∷ 80 ∷ []) → base bytes ≡ got I.none 0
-  unfolding base
-  base-none h = rw (← e, ne-eqb c 80 (h .0 .1), ne-eqb c 71 (h .1))
-
-pub based-none : (at : ℕ) (bytes : List ℕ) → base bytes ≡ got I.none 0 → record { base = B.Plain; past = at } ≡ asBased at (base bytes)
-unfolding asBased asBase
-based-none at bytes h = rw (h, add-zero)
+  pub based-none : (at : ℕ) → Unlike c (71 ∷ 80 ∷ []) → record { base = B.Plain; past = at } ≡ asBased at (base bytes)
+  unfolding base asBased asBase
+  based-none at h = rw (← e, ne-eqb c 80 (h .0 .1), ne-eqb c 71 (h .1), add-zero)
 
 -- a base is always read
 pub record BaseRead (text : List ℕ) (at : ℕ) (r : Based) : Type 0 where
@@ -175,14 +164,15 @@ unfolding base
 base-got bytes = by (eqb (head bytes) 80) (eqb (head bytes) 71)
   where
     by : (s t : Bool) → cond s (got I.P 1) (cond t (got I.G 1) (got I.none 0)) ≡ nothing → ⊥
-    by true t k = let z : _≡_ {A = ℕ} 0 1 = cc in omega arith
-    by false true k = let z : _≡_ {A = ℕ} 0 1 = cc in omega arith
-    by false false k = let z : _≡_ {A = ℕ} 0 1 = cc in omega arith
+    by true t k = contradiction cc
+    by false true k = contradiction cc
+    by false false k = contradiction cc
 
 pub base-reads : (text : List ℕ) (at : ℕ) {r : Based} → r ≡ asBased at (base (drop at text)) → BaseRead text at r
 unfolding asBased
 base-reads text at {r} e = by (base (drop at text)) refl e
   where
     by : (g : Got I.Base) → base (drop at text) ≡ g → r ≡ asBased at g → BaseRead text at r
-    by (got b n) d j = record { value = b; same = ap (λ (x : Based). x .base) j; reads = record { width = n; reading = d; ends = ap (λ (x : Based). x .past) j } }
+    by (got b n) d j =
+        record { value = b; same = ap (λ (x : Based). x .base) j; reads = record { width = n; reading = d; ends = ap (λ (x : Based). x .past) j } }
     by nothing d j = absurd (base-got (drop at text) d)

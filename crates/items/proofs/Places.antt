@@ -1,13 +1,7 @@
 -- Readers at a place of a text: the byte there, and reading on from place to place.
-use Prim.Native.Nat.{ℕ, _+_, _<_, _≤_}
-use mathlib.Core.Path.{_≡_, refl, sym, ap, _∙_}
-use mathlib.Core.Bool.{Bool, true, false, cond}
-use mathlib.Core.List.{List, [], _∷_}
-use native.Mathlib.Omega.{arith}
-use lib.Dec.{eqb, ltb}
-use lib.ListN.{length, getD, drop}
-use lib.Seq.{drop-drop}
-use borrow.Author.Tests.{ltb-true, ltb-false, eq-eqb, ne-eqb, eqb-true, eqb-false}
+use Rattle.laws.proofs.Basics.{ℕ, _+_, _<_, _≤_, _≡_, refl, sym, ap, _∙_, List, [], _∷_, Bool, true, false, cond, length, getD, drop, drop-drop, eqb}
+use Rattle.laws.proofs.Basics.{ltb, arith, eqb-true, ne-eqb, ltb-true, ltb-false}
+use Rattle.laws.proofs.Cases.{by-cases, contradiction}
 use Rattle.text.proofs.Bytes.{at-byte, past-end, Unlike}
 use Rattle.items.specs.Reader.{Got, got, nothing, Reader, wide, onGot, head, byte, optional}
 use Rattle.items.specs.Read.{ended}
@@ -26,11 +20,9 @@ module _ (text : List ℕ) (at : ℕ) where
   head-past h = past-end head text at h
 
   pub inside : {c : ℕ} → head (drop at text) ≡ c → c < 256 → at < length text
-  inside {c} e h = go (ltb at (length text)) refl
-    where
-      go : (t : Bool) → ltb at (length text) ≡ t → at < length text
-      go true k = ltb-true at (length text) k
-      go false k = absurd (omega (arith, head-past (ltb-false at (length text) k)))
+  inside {c} e h =
+      by-cases (ltb at (length text)) (λ k. ltb-true at (length text) k)
+      (λ k. absurd (omega (arith, head-past (ltb-false at (length text) k))))
 
 -- ---- one reader after another
 
@@ -41,21 +33,23 @@ pub record Reads {A : Type 0} (reader : Reader A) (text : List ℕ) (at : ℕ) (
   pub ends : past ≡ at + width
 
 -- what follows the part that was read
-pub onto : {A : Type 0} {reader : Reader A} {text : List ℕ} {at : ℕ} {value : A} {past : ℕ} (h : Reads reader text at value past) → drop (h .width) (drop at text) ≡ drop past text
+pub onto : {A : Type 0} {reader : Reader A} {text : List ℕ} {at : ℕ} {value : A} {past : ℕ} (h : Reads reader text at value past)
+    → drop (h .width) (drop at text) ≡ drop past text
 onto {text = text} {at = at} h = drop-drop (h .width) at text ∙ ap (λ (n : ℕ). drop n text) (sym (h .ends))
 
 -- ---- a byte that is wanted, or may stand there; an item's end
 
 module _ (text : List ℕ) (at c : ℕ) where
-  pub byte-reads : head (drop at text) ≡ c → Reads (byte c) text at true (at + 1)
+  pub byte-reads : eqb (head (drop at text)) c ≡ true → Reads (byte c) text at true (at + 1)
   unfolding byte
-  byte-reads e = record { width = 1; reading = rw (eq-eqb _ c e); ends = refl }
+  byte-reads e = record { width = 1; reading = rw e; ends = refl }
 
-  pub byte-fails : (head (drop at text) ≡ c → ⊥) → byte c (drop at text) ≡ nothing
+  pub byte-fails : eqb (head (drop at text)) c ≡ false → byte c (drop at text) ≡ nothing
   unfolding byte
-  byte-fails e = rw (ne-eqb _ c e)
+  byte-fails e = rw e
 
-  pub optional-reads : {t : Bool} {p : ℕ} → t ≡ eqb (head (drop at text)) c → p ≡ at + cond (eqb (head (drop at text)) c) 1 0 → Reads (optional c) text at t p
+  pub optional-reads : {t : Bool} {p : ℕ} → t ≡ eqb (head (drop at text)) c → p ≡ at + cond (eqb (head (drop at text)) c) 1 0
+      → Reads (optional c) text at t p
   unfolding optional
   optional-reads e h = record { width = cond (eqb (head (drop at text)) c) 1 0; reading = rw e (by (eqb (head (drop at text)) c)); ends = h }
     where
@@ -64,14 +58,26 @@ module _ (text : List ℕ) (at c : ℕ) where
       by false = refl
 
 -- by the byte at the head alone
-pub ended-by : (bytes : List ℕ) (c : ℕ) → head bytes ≡ c → ended bytes ≡ ended (c ∷ [])
+ended-by : (bytes : List ℕ) (c : ℕ) → head bytes ≡ c → ended bytes ≡ ended (c ∷ [])
 unfolding ended head
 ended-by bytes c e = rw e
 
-pub not-ended : (bytes : List ℕ) {c : ℕ} → c ≡ head bytes → Unlike c (256 ∷ 47 ∷ 10 ∷ 32 ∷ []) → ended bytes ≡ nothing
+pub ending-bytes : (isGot (ended (32 ∷ [])) ≡ true) × (isGot (ended (10 ∷ [])) ≡ true) × (isGot (ended (47 ∷ [])) ≡ true) ×
+    (isGot (ended (256 ∷ [])) ≡ true)
+unfolding ended head isGot
+ending-bytes = (refl, refl, refl, refl)
+
+pub is-ended : {r k : ℕ} (bytes : List ℕ) → r ≡ head bytes → r ≡ k → isGot (ended (k ∷ [])) ≡ true → true ≡ isGot (ended bytes)
+is-ended {k = k} bytes e f h = sym (ap isGot (ended-by bytes k (sym e ∙ f)) ∙ h)
+
+not-ended : (bytes : List ℕ) {c : ℕ} → c ≡ head bytes → Unlike c (256 ∷ 47 ∷ 10 ∷ 32 ∷ []) → ended bytes ≡ nothing
 unfolding ended
 not-ended bytes e h =
     rw (← e, ne-eqb _ 32 (h .0 .0 .0 .1), ne-eqb _ 10 (h .0 .0 .1), ne-eqb _ 47 (h .0 .1), ne-eqb _ 256 (h .1))
+
+pub is-not-ended : {r : ℕ} (bytes : List ℕ) → r ≡ head bytes → Unlike r (256 ∷ 47 ∷ 10 ∷ 32 ∷ []) → false ≡ isGot (ended bytes)
+unfolding isGot
+is-not-ended bytes e h = rw (not-ended bytes e h)
 
 -- an item's end takes no byte
 ended-got : (bytes : List ℕ) → isGot (ended bytes) ≡ true → ended bytes ≡ got true 0
@@ -80,15 +86,16 @@ ended-got bytes =
     either (eqb (head bytes) 32) (either (eqb (head bytes) 10) (either (eqb (head bytes) 47) (either (eqb (head bytes) 256) none)))
   where
     none : isGot nothing ≡ true → nothing ≡ got true 0
-    none e = absurd (let z : _≡_ {A = ℕ} 0 1 = cc in omega arith)
+    none e = contradiction cc
 
-    either : (t : Bool) {other : Got Bool} → (isGot other ≡ true → other ≡ got true 0) → isGot (cond t (got true 0) other) ≡ true → cond t (got true 0) other ≡ got true 0
+    either : (t : Bool) {other : Got Bool} → (isGot other ≡ true → other ≡ got true 0) → isGot (cond t (got true 0) other) ≡ true
+        → cond t (got true 0) other ≡ got true 0
     either true p e = refl
     either false p e = p e
 
 pub got-none : (g : Got Bool) → isGot g ≡ false → g ≡ nothing
 unfolding isGot
-got-none (got a n) k = absurd (let z : _≡_ {A = ℕ} 0 1 = cc in omega arith)
+got-none (got a n) k = contradiction cc
 got-none nothing k = refl
 
 module _ (text : List ℕ) (at : ℕ) {t : Bool} (e : t ≡ isGot (ended (drop at text))) where
@@ -105,13 +112,17 @@ wide-got n (got a m) = refl
 wide-got n nothing = refl
 
 module _ (text : List ℕ) (at c : ℕ) where
-  pub mark-at : head (drop at text) ≡ c → isGot (ended (drop (at + 1) text)) ≡ isGot (mark c (drop at text))
+  pub mark-at : eqb (head (drop at text)) c ≡ true → isGot (ended (drop (at + 1) text)) ≡ isGot (mark c (drop at text))
   unfolding mark byte
-  mark-at e = rw (eq-eqb _ c e, drop-drop 1 at text) (sym (wide-got 1 (ended (drop (at + 1) text))))
+  mark-at e = rw (e, drop-drop 1 at text) (sym (wide-got 1 (ended (drop (at + 1) text))))
 
-  pub mark-not : (head (drop at text) ≡ c → ⊥) → mark c (drop at text) ≡ nothing
+  pub mark-not : eqb (head (drop at text)) c ≡ false → mark c (drop at text) ≡ nothing
   unfolding mark
   mark-not h = rw (byte-fails text at c h)
+
+  pub not-marked : eqb (head (drop at text)) c ≡ false → false ≡ isGot (mark c (drop at text))
+  unfolding isGot
+  not-marked h = rw (mark-not h)
 
 pub mark-got : (c : ℕ) (bytes : List ℕ) → isGot (mark c bytes) ≡ true → mark c bytes ≡ got true 1
 unfolding mark byte isGot
@@ -120,16 +131,17 @@ mark-got c bytes = by (eqb (head bytes) c)
     wider : (g : Got Bool) → (isGot g ≡ true → g ≡ got true 0) → isGot (wide 1 g) ≡ true → wide 1 g ≡ got true 1
     wider g f e = ap (wide 1) (f (sym (wide-got 1 g) ∙ e))
 
-    by : (t : Bool) → isGot (onGot (cond t (got true 1) nothing) (λ _ n. wide n (ended (drop n bytes)))) ≡ true → onGot (cond t (got true 1) nothing) (λ _ n. wide n (ended (drop n bytes))) ≡ got true 1
+    by : (t : Bool) → isGot (onGot (cond t (got true 1) nothing) (λ _ n. wide n (ended (drop n bytes)))) ≡ true
+        → onGot (cond t (got true 1) nothing) (λ _ n. wide n (ended (drop n bytes))) ≡ got true 1
     by true e = wider (ended (drop 1 bytes)) (ended-got (drop 1 bytes)) e
-    by false e = absurd (let z : _≡_ {A = ℕ} 0 1 = cc in omega arith)
+    by false e = contradiction cc
 
 pub mark-inside : (text : List ℕ) (at c : ℕ) → isGot (mark c (drop at text)) ≡ true → c < 256 → at < length text
 mark-inside text at c e h = by (eqb (head (drop at text)) c) refl
   where
     never : mark c (drop at text) ≡ nothing → ⊥
-    never k = let g : got true 1 ≡ nothing = sym (mark-got c (drop at text) e) ∙ k in let z : _≡_ {A = ℕ} 0 1 = cc in omega arith
+    never k = let g : got true 1 ≡ nothing = sym (mark-got c (drop at text) e) ∙ k in contradiction cc
 
     by : (t : Bool) → eqb (head (drop at text)) c ≡ t → at < length text
     by true k = inside text at (eqb-true _ c k) h
-    by false k = absurd (never (mark-not text at c (eqb-false _ c k)))
+    by false k = absurd (never (mark-not text at c k))

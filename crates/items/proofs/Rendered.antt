@@ -1,22 +1,19 @@
 -- What is rendered is read back: an item alone, and a whole text. Every item that is read (`Sound`) can be rendered.
-use Prim.Native.Nat.{ℕ, zero, suc, _+_, _-_, _*_, _/_, _%_, _<_, _≤_}
-use mathlib.Core.Path.{_≡_, refl, sym, ap, _∙_}
-use mathlib.Core.Bool.{Bool, true, false, cond, _&&_}
-use mathlib.Core.List.{List, [], _∷_, _++_, append-assoc}
-use native.Mathlib.Omega.{arith}
-use native.Mathlib.Numerals.{add-one}
-use lib.Dec.{eqb, leb, ltb}
-use lib.ListN.{length, drop, length-append}
-use lib.Seq.{drop-drop, drop-append-seam, drop-append-add}
-use borrow.Author.Tests.{ltb-true, ltb-false, leb-true, eqb-true, eqb-false, ne-eqb, le-leb}
+use Rattle.laws.proofs.Basics.{ℕ, zero, suc, _+_, _-_, _*_, _/_, _%_, _<_, _≤_, _≡_, refl, sym, ap, _∙_, List, [], _∷_, _++_, append-assoc, Bool}
+use Rattle.laws.proofs.Basics.{true, false, _&&_, cond, length, drop, length-append, drop-drop, drop-append-add, eqb, ltb, leb, add-one, arith}
+use Rattle.laws.proofs.Basics.{eqb-true, eqb-false, ne-eqb, ltb-true, ltb-false, leb-true, le-leb}
+use Rattle.laws.proofs.Cases.{by-cases, contradiction}
+use lib.Seq.{drop-append-seam}
 use Rattle.text.specs.Quoted.{is, byNumber, escape, character, closed, quoted}
 use Rattle.text.proofs.Quotes.{Writable, at-quote, at-asterisk, at-plain, no-letter, a-byte, quoted-next, quoted-end}
 use Rattle.items.specs.Item.{capped, Operand, number, address, Base, none, P, G, Item, Placed, label, instruction, constant, string, global}
 use Rattle.items.specs.Reader.{got, wide, head, byte, optional, isDigit, digits, digitCount, decimal}
-use Rattle.items.specs.Read.{ended, quotedString, negative, labelled, positive, operand, base, labelItem, instructionItem, constantItem, stringItem, globalItem, functionOf, item}
+use Rattle.items.specs.Read.{ended, quotedString, negative, labelled, positive, operand, base, labelItem, instructionItem, constantItem}
+use Rattle.items.specs.Read.{stringItem, globalItem, functionOf, item}
 use Rattle.items.specs.Scan.{gaps, whole, goesOn, mark, trailing, body, scan}
 use Rattle.items.specs.Next.{one, elementAt}
-use Rattle.items.specs.Render.{numeral, numeralOf, operandText, baseText, indirectText, letter, plainText, characterText, charactersText, render, renderLines, renderAll}
+use Rattle.items.specs.Render.{numeral, numeralOf, operandText, baseText, indirectText, letter, plainText, characterText, charactersText}
+use Rattle.items.specs.Render.{render, renderLines, renderAll}
 use Rattle.items.proofs.Decimals.{digit-bounds}
 use Rattle.items.proofs.Scans.{onNext, body-element}
 use Rattle.items.proofs.Sound.{SoundOperand, SoundString, SoundInstruction, SoundGlobal, Sound}
@@ -54,7 +51,8 @@ unfolding numeral
 numeral-writes zero n h l = absurd (omega arith)
 numeral-writes (suc k) n h l = by (ltb n 10) refl (λ j. numeral-writes k (n / 10) (omega arith) (omega arith))
   where
-    by : (t : Bool) → ltb n 10 ≡ t → (10 ≤ n → Writes (numeral k (n / 10)) (n / 10)) → Writes (cond t ((48 + n) ∷ []) (numeral k (n / 10) ++ ((48 + n % 10) ∷ []))) n
+    by : (t : Bool) → ltb n 10 ≡ t → (10 ≤ n → Writes (numeral k (n / 10)) (n / 10))
+        → Writes (cond t ((48 + n) ∷ []) (numeral k (n / 10) ++ ((48 + n % 10) ∷ []))) n
     by true e more = one-digit n (ltb-true n 10 e)
     by false e more = more-digits n l (more (ltb-false n 10 e))
 
@@ -99,14 +97,15 @@ module _ (rest : List ℕ) (e : isDigit (head rest) ≡ false) where
   operand-text : (x : Operand) → SoundOperand x → operand (operandText x ++ rest) ≡ got x (length (operandText x))
   unfolding operand operandText head
   operand-text (number true n) h = negative-text n h ∙ ap (got (number true n)) (omega arith)
-  operand-text (number false n) h = plain-operand (numeralOf n ++ rest) (numeral-of n h .first rest) ∙ positive-text n h ∙ ap (got (number false n)) (omega arith)
+  operand-text (number false n) h =
+      plain-operand (numeralOf n ++ rest) (numeral-of n h .first rest) ∙ positive-text n h ∙ ap (got (number false n)) (omega arith)
   operand-text (address n) h = labelled-text n h ∙ ap (got (address n)) (omega arith)
 
   -- an operand begins with a minus, an L or a digit
   operand-begins : (c : ℕ) → (c ≡ 45 → ⊥) → (c ≡ 76 → ⊥) → isDigit c ≡ false → (x : Operand) → SoundOperand x → head (operandText x ++ rest) ≡ c → ⊥
   unfolding operandText head
   operand-begins c minus l d (number true n) h k = minus (sym k)
-  operand-begins c minus l d (number false n) h k = let z : true ≡ false = sym (numeral-of n h .first rest) ∙ ap isDigit k ∙ d in let y : _≡_ {A = ℕ} 0 1 = cc in omega arith
+  operand-begins c minus l d (number false n) h k = let z : true ≡ false = sym (numeral-of n h .first rest) ∙ ap isDigit k ∙ d in contradiction cc
   operand-begins c minus l d (address n) h k = l (sym k)
 
 optional-text : (i : Bool) (rest : List ℕ) → (head rest ≡ 73 → ⊥) → optional 73 (indirectText i ++ rest) ≡ got i (length (indirectText i))
@@ -132,12 +131,10 @@ base-begins G rest h k = omega arith
 record Shows (rest : List ℕ) (c : ℕ) (l : List ℕ) : Type 0 where
   pub shows : character 34 (l ++ rest) ≡ is c (length l)
 
-escaped : {rest l : List ℕ} {c : ℕ} (e k : ℕ) → character 34 (42 ∷ e ∷ rest) ≡ is k 2 → ((c ≡ k → ⊥) → Shows rest c l) → Shows rest c (cond (eqb c k) (42 ∷ e ∷ []) l)
-escaped {rest} {l} {c} e k h more = by (eqb c k) refl
-  where
-    by : (t : Bool) → eqb c k ≡ t → Shows rest c (cond t (42 ∷ e ∷ []) l)
-    by true j = record { shows = h ∙ ap (λ (v : ℕ). is v 2) (sym (eqb-true c k j)) }
-    by false j = more (eqb-false c k j)
+escaped : {rest l : List ℕ} {c : ℕ} (e k : ℕ) → character 34 (42 ∷ e ∷ rest) ≡ is k 2 → ((c ≡ k → ⊥) → Shows rest c l)
+    → Shows rest c (cond (eqb c k) (42 ∷ e ∷ []) l)
+escaped {rest} {l} {c} e k h more =
+    by-cases (eqb c k) (λ j. rw j (record { shows = h ∙ ap (λ (v : ℕ). is v 2) (sym (eqb-true c k j)) })) (λ j. rw j (more (eqb-false c k j)))
 
 -- three digits of a byte
 three-digits : (c : ℕ) → c ≤ 255 → (rest : List ℕ) → escape ((48 + c / 100) ∷ (48 + c / 10 % 10) ∷ (48 + c % 10) ∷ rest) ≡ is c 4
@@ -189,7 +186,13 @@ module _ (rest : List ℕ) where
   label-text : (n : ℕ) → n ≤ 65536 → item (render (label n) ++ (10 ∷ rest)) ≡ got (label n) (length (render (label n)))
   unfolding render item labelItem byte head
   label-text n h =
-      rw (append-assoc, numeral-of n h .first (58 ∷ 10 ∷ rest), decimal-text n (58 ∷ 10 ∷ rest) h refl, drop-append-seam (numeralOf n) (58 ∷ 10 ∷ rest), length-append (numeralOf n) (58 ∷ []))
+      rw (
+        append-assoc,
+        numeral-of n h .first (58 ∷ 10 ∷ rest),
+        decimal-text n (58 ∷ 10 ∷ rest) h refl,
+        drop-append-seam (numeralOf n) (58 ∷ 10 ∷ rest),
+        length-append (numeralOf n) (58 ∷ []),
+      )
 
   constant-text : (x : Operand) → SoundOperand x → item (render (constant x) ++ (10 ∷ rest)) ≡ got (constant x) (length (render (constant x)))
   unfolding render item constantItem ended head
@@ -199,7 +202,14 @@ module _ (rest : List ℕ) where
   global-text : (n m : ℕ) → SoundGlobal n m → item (render (global n m) ++ (10 ∷ rest)) ≡ got (global n m) (length (render (global n m)))
   unfolding render item globalItem ended byte head
   global-text n m h =
-      rw (append-assoc, decimal-text n (76 ∷ (numeralOf m ++ (10 ∷ rest))) (h .first) refl, drop-append-seam (numeralOf n) (76 ∷ (numeralOf m ++ (10 ∷ rest))), decimal-text m (10 ∷ rest) (h .second) refl, drop-append-seam (numeralOf m) (10 ∷ rest), length-append (numeralOf n) (76 ∷ numeralOf m))
+      rw (
+        append-assoc,
+        decimal-text n (76 ∷ (numeralOf m ++ (10 ∷ rest))) (h .first) refl,
+        drop-append-seam (numeralOf n) (76 ∷ (numeralOf m ++ (10 ∷ rest))),
+        decimal-text m (10 ∷ rest) (h .second) refl,
+        drop-append-seam (numeralOf m) (10 ∷ rest),
+        length-append (numeralOf n) (76 ∷ numeralOf m),
+      )
       (ap (got (global n m)) (omega arith))
 
   string-text : (cs : List ℕ) → SoundString cs → item (render (string cs) ++ (10 ∷ rest)) ≡ got (string cs) (length (render (string cs)))
@@ -231,7 +241,8 @@ a-letter (suc (suc (suc (suc (suc (suc zero)))))) h = record { reads = λ bytes.
 a-letter (suc (suc (suc (suc (suc (suc (suc zero))))))) h = record { reads = λ bytes. refl; low = refl; high = refl }
 a-letter (suc (suc (suc (suc (suc (suc (suc (suc f)))))))) h = absurd (omega arith)
 
-instruction-text : (rest : List ℕ) (f : ℕ) (i : Bool) (b : Base) (x : Operand) → SoundInstruction f x → item (render (instruction f i b x) ++ (10 ∷ rest)) ≡ got (instruction f i b x) (length (render (instruction f i b x)))
+instruction-text : (rest : List ℕ) (f : ℕ) (i : Bool) (b : Base) (x : Operand) → SoundInstruction f x
+    → item (render (instruction f i b x) ++ (10 ∷ rest)) ≡ got (instruction f i b x) (length (render (instruction f i b x)))
 unfolding render instructionItem ended head
 instruction-text rest f i b x h =
     rw (
@@ -240,7 +251,8 @@ instruction-text rest f i b x h =
       append-assoc (baseText b) (operandText x) (10 ∷ rest),
       optional-text i (baseText b ++ (operandText x ++ (10 ∷ rest))) (base-begins b _ (begins 73 (λ k. omega arith) (λ k. omega arith) refl)),
       drop-append-seam (indirectText i) (baseText b ++ (operandText x ++ (10 ∷ rest))),
-      base-text b (operandText x ++ (10 ∷ rest)) (begins 80 (λ k. omega arith) (λ k. omega arith) refl) (begins 71 (λ k. omega arith) (λ k. omega arith) refl),
+      base-text b (operandText x ++ (10 ∷ rest)) (begins 80 (λ k. omega arith) (λ k. omega arith) refl)
+          (begins 71 (λ k. omega arith) (λ k. omega arith) refl),
       drop-append-seam (baseText b) (operandText x ++ (10 ∷ rest)),
       operand-text (10 ∷ rest) refl x (h .sound),
       drop-append-seam (operandText x) (10 ∷ rest),
@@ -276,7 +288,7 @@ begins-with c r l h =
 
 digit-begins : (bytes : List ℕ) → isDigit (head bytes) ≡ true → Begins bytes
 unfolding head
-digit-begins [] e = absurd (let z : _≡_ {A = ℕ} 0 1 = cc in omega arith)
+digit-begins [] e = contradiction cc
 digit-begins (c ∷ r) e = let b : (48 ≤ c) × (c ≤ 57) = digit-bounds c e in begins-with c r (b .0) (omega arith)
 
 item-begins : (i : Item) (rest : List ℕ) → Sound i → Begins (render i ++ rest)
@@ -311,7 +323,8 @@ unfolding elementAt
 item-element p i rest h = rw (ne-eqb _ 90 (item-begins i (10 ∷ rest) h .no-end), rendered-item i rest h)
 
 -- from the newline before a line on
-body-lines : (text : List ℕ) (items : List Item) (p : ℕ) → drop p text ≡ 10 ∷ renderLines items → AllSound items → body 0 p (drop p text) ≡ record { items = places (p + 1) items; ending = whole }
+body-lines : (text : List ℕ) (items : List Item) (p : ℕ) → drop p text ≡ 10 ∷ renderLines items → AllSound items
+    → body 0 p (drop p text) ≡ record { items = places (p + 1) items; ending = whole }
 unfolding renderLines places
 body-lines text [] p e h = rw e (last-line p)
 body-lines text (i ∷ items) p e h =

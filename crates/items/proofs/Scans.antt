@@ -1,13 +1,6 @@
 -- A scan of a whole text is the items that `nextIn` gives one after another, from where `startIn` says that they begin.
-use Prim.Native.Nat.{ℕ, zero, suc, _+_, _-_, _≤_}
-use mathlib.Core.Path.{_≡_, refl, ap, _∙_}
-use mathlib.Core.Bool.{Bool, true, false, not, cond}
-use mathlib.Core.List.{List, [], _∷_}
-use native.Mathlib.Omega.{arith}
-use native.Mathlib.Nat.{add-zero}
-use lib.Dec.{eqb}
-use lib.ListN.{length, drop}
-use lib.Seq.{drop-drop}
+use Rattle.laws.proofs.Basics.{ℕ, zero, suc, _+_, _-_, _≤_, _≡_, refl, ap, _∙_, List, [], _∷_, Bool, true, false, not, cond, length, drop, drop-drop}
+use Rattle.laws.proofs.Basics.{eqb, add-zero, arith}
 use Rattle.items.specs.Item.{Item}
 use Rattle.items.specs.Reader.{Got, got, nothing, head}
 use Rattle.items.specs.Read.{item, functionOf}
@@ -43,7 +36,8 @@ gaps-passed comment [] = refl
 gaps-passed true (c ∷ r) = gaps-passed (not (eqb c 10)) r
 gaps-passed false (c ∷ r) = by (inGap false c) (gap-byte false c r) (gaps-passed (inComment false c) r)
   where
-    by : (t : Bool) → gaps false (c ∷ r) ≡ cond t (suc (gaps (inComment false c) r)) 0 → gaps false (drop (gaps (inComment false c) r) r) ≡ 0 → gaps false (drop (gaps false (c ∷ r)) (c ∷ r)) ≡ 0
+    by : (t : Bool) → gaps false (c ∷ r) ≡ cond t (suc (gaps (inComment false c) r)) 0 → gaps false (drop (gaps (inComment false c) r) r) ≡ 0
+        → gaps false (drop (gaps false (c ∷ r)) (c ∷ r)) ≡ 0
     by true e h = rw e h
     by false e h = rw e e
 
@@ -77,7 +71,9 @@ body-element text (c ∷ r) at e h = rw h (by (eqb c 90))
         let q : drop m r ≡ drop (at + suc m) text = ap (drop (suc m)) e ∙ drop-drop (suc m) at text in
         ap (goesOn at i) (rw (n, ← q, ← p) (body-over m (suc at) r (omega arith)))
 
-    by : (t : Bool) → cond t (onLast at (mark 90 (c ∷ r)) (c ∷ r)) (onItem at (item (c ∷ r)) (λ k. body k (suc at) r)) ≡ onNext text (cond t (lastOf at (mark 90 (c ∷ r)) (c ∷ r)) (oneOf at (item (c ∷ r))))
+    by : (t : Bool)
+        → cond t (onLast at (mark 90 (c ∷ r)) (c ∷ r)) (onItem at (item (c ∷ r)) (λ k. body k (suc at) r)) ≡ onNext text
+        (cond t (lastOf at (mark 90 (c ∷ r)) (c ∷ r)) (oneOf at (item (c ∷ r))))
     by true = ended (mark 90 (c ∷ r))
     by false = read (item (c ∷ r)) refl
 
@@ -95,7 +91,8 @@ body-gap (c ∷ r) at = by (gaps false (c ∷ r)) refl (gaps-within false (c ∷
 pub body-next : (text : List ℕ) (at : ℕ) → body 0 at (drop at text) ≡ onNext text (nextIn text at)
 unfolding nextIn
 body-next text at =
-    let d : drop (gaps false (drop at text)) (drop at text) ≡ drop (at + gaps false (drop at text)) text = drop-drop (gaps false (drop at text)) at text in
+    let d : drop (gaps false (drop at text)) (drop at text) ≡ drop (at + gaps false (drop at text)) text = drop-drop (gaps false (drop at text)) at
+    text in
     body-gap (drop at text) at ∙ rw d (body-element text _ (at + gaps false (drop at text)) refl (rw d at (gaps-passed false (drop at text))))
 
 pub scan-start : (text : List ℕ) → scan text ≡ onStart text (startIn text)

@@ -1,19 +1,14 @@
 -- What every item that is read satisfies: it takes one byte or more of those there, its numbers are capped and its
 -- characters are bytes.
-use Prim.Native.Nat.{ℕ, suc, _+_, _-_, _*_, _<_, _≤_}
-use mathlib.Core.Path.{_≡_, refl}
-use mathlib.Core.Bool.{Bool, true, false, cond}
-use mathlib.Core.List.{List, [], _∷_}
-use native.Mathlib.Omega.{arith}
-use lib.Dec.{eqb, leb, ltb}
-use lib.ListN.{length, drop, length-drop}
-use lib.Seq.{drop-drop}
-use borrow.Author.Tests.{eqb-true, ltb-true, leb-true}
+use Rattle.laws.proofs.Basics.{ℕ, suc, _+_, _-_, _*_, _<_, _≤_, _≡_, refl, List, [], _∷_, Bool, true, false, cond, length, drop, length-drop}
+use Rattle.laws.proofs.Basics.{drop-drop, eqb, ltb, arith, eqb-true, ltb-true}
+use Rattle.laws.proofs.Cases.{contradiction}
 use Rattle.text.specs.Quoted.{Quoted, closed, unclosed, faulty, quoted}
 use Rattle.text.proofs.Quotes.{Writable, each-byte, Closed, is-closed}
 use Rattle.items.specs.Item.{capped, Operand, number, address, Item, label, instruction, constant, string, global}
 use Rattle.items.specs.Reader.{Got, got, nothing, wide, onGot, head, byte, optional, isDigit, digits, digitCount, decimal}
-use Rattle.items.specs.Read.{ended, asCharacter, quotedCharacter, asString, quotedString, negative, quotation, labelled, positive, operand, base, labelItem, instructionItem, constantItem, stringItem, globalItem, functionOf, past, item}
+use Rattle.items.specs.Read.{ended, asCharacter, quotedCharacter, asString, quotedString, negative, quotation, labelled, positive, operand}
+use Rattle.items.specs.Read.{base, labelItem, instructionItem, constantItem, stringItem, globalItem, functionOf, past, item}
 use Rattle.items.specs.Scan.{mark}
 use Rattle.items.specs.Next.{one, oneOf, lastOf, elementAt, nextIn}
 
@@ -88,7 +83,8 @@ either true p q = p refl
 either false p q = q
 
 -- one reader after another
-then : {A B : Type 0} {l k : ℕ} {P : A → Type 0} {Q : B → Type 0} {f : A → ℕ → Got B} (bytes : List ℕ) (g : Got A) → Meets (length bytes) l P g → ((a : A) (n : ℕ) → P a → Meets (length (drop n bytes)) k Q (f a n)) → Meets (length bytes) (l + k) Q (onGot g (λ a n. wide n (f a n)))
+then : {A B : Type 0} {l k : ℕ} {P : A → Type 0} {Q : B → Type 0} {f : A → ℕ → Got B} (bytes : List ℕ) (g : Got A) → Meets (length bytes) l P g
+    → ((a : A) (n : ℕ) → P a → Meets (length (drop n bytes)) k Q (f a n)) → Meets (length bytes) (l + k) Q (onGot g (λ a n. wide n (f a n)))
 then bytes nothing h more = fails
 then {B = B} {l = l} {k = k} {Q = Q} {f = f} bytes (got a n) h more = on (f a n) (more a n (h .met .holds))
   where
@@ -267,7 +263,9 @@ string-meets c (d ∷ r) = by (eqb d 34)
         (λ s n h. then (drop n r) (ended (drop n r)) (ended-meets (drop n r))
         (λ _ _ _. returns s h))
 
-    by : (t : Bool) → Meets (suc (length r)) 2 (Stands (c ∷ d ∷ r)) (onGot (cond t (got true 1) nothing) (λ _ k. wide k (onGot (quotedString (drop k (d ∷ r))) (λ s n. wide n (onGot (ended (drop n (drop k (d ∷ r)))) (λ _ m. wide m (got s 0)))))))
+    by : (t : Bool)
+        → Meets (suc (length r)) 2 (Stands (c ∷ d ∷ r)) (onGot (cond t (got true 1) nothing)
+        (λ _ k. wide k (onGot (quotedString (drop k (d ∷ r))) (λ s n. wide n (onGot (ended (drop n (drop k (d ∷ r)))) (λ _ m. wide m (got s 0)))))))
     by true = after rest rest-meets
     by false = fails
 
@@ -280,7 +278,8 @@ item-meets (c ∷ r) =
     (either (eqb c 67) (λ _. fewer (wide 1 (stringItem r)) (after (stringItem r) (string-meets c r)))
     (either (eqb c 71) (λ _. fewer (wide 1 (globalItem r)) (after (globalItem r) (global-meets (c ∷ r) r)))
     (either (ltb (functionOf c) 8)
-    (λ e. fewer (wide 1 (instructionItem (functionOf c) r)) (after (instructionItem (functionOf c) r) (instruction-meets (c ∷ r) r (functionOf c) (ltb-true (functionOf c) 8 e))))
+    (λ e. fewer (wide 1 (instructionItem (functionOf c) r)) (after (instructionItem (functionOf c) r)
+    (instruction-meets (c ∷ r) r (functionOf c) (ltb-true (functionOf c) 8 e))))
     fails))))
 
 -- ---- what was read
@@ -295,16 +294,17 @@ pub record NextGiven (text : List ℕ) (at place : ℕ) (i : Item) (past : ℕ) 
   pub reading : item (drop place text) ≡ got i (past - place)
   pub stands : Stands (drop place text) i
 
-element-given : (text : List ℕ) {place p q : ℕ} {i : Item} (at : ℕ) → at ≤ place → elementAt place (drop place text) ≡ one p i q → NextGiven text at p i q
+element-given : (text : List ℕ) {place p q : ℕ} {i : Item} (at : ℕ) → at ≤ place → elementAt place (drop place text) ≡ one p i q
+    → NextGiven text at p i q
 unfolding elementAt
 element-given text {place} {p} {q} {i} at from e = by (eqb (head (drop place text)) 90) e
   where
     last : (g : Got Bool) → lastOf place g (drop place text) ≡ one p i q → NextGiven text at p i q
-    last (got t n) k = absurd (let z : _≡_ {A = ℕ} 0 1 = cc in omega arith)
-    last nothing k = absurd (let z : _≡_ {A = ℕ} 0 1 = cc in omega arith)
+    last (got t n) k = contradiction cc
+    last nothing k = contradiction cc
 
     found : (g : Got Item) → item (drop place text) ≡ g → oneOf place g ≡ one p i q → NextGiven text at p i q
-    found nothing d k = absurd (let z : _≡_ {A = ℕ} 0 1 = cc in omega arith)
+    found nothing d k = contradiction cc
     found (got j n) d k =
         let h : Given (length (drop place text)) 1 (Stands (drop place text)) j n = item-given (drop place text) d in
         let m : place + n - place ≡ n = omega arith in
@@ -314,7 +314,8 @@ element-given text {place} {p} {q} {i} at from e = by (eqb (head (drop place tex
         let c : q ≡ place + n = cc in
         rw (a, b, c) (record { from = from; some = omega arith; within = omega arith; reading = rw m d; stands = h .holds })
 
-    by : (t : Bool) → cond t (lastOf place (mark 90 (drop place text)) (drop place text)) (oneOf place (item (drop place text))) ≡ one p i q → NextGiven text at p i q
+    by : (t : Bool) → cond t (lastOf place (mark 90 (drop place text)) (drop place text)) (oneOf place (item (drop place text))) ≡ one p i q
+        → NextGiven text at p i q
     by true k = last (mark 90 (drop place text)) k
     by false k = found (item (drop place text)) refl k
 

@@ -1,5 +1,4 @@
 -- What the code's enums say of the definitions' values. The code's string item has only the number of its characters.
-use Prim.Native.Nat.{ℕ}
 use lib.ListN.{length}
 use Rattle.items.specs.Item as I
 use Rattle.items.specs.Scan as S

@@ -1,5 +1,5 @@
 -- The items of MINICODE text (document 01, "Assembly text").
-use Prim.Native.Nat.{ℕ, _*_, _+_, min}
+use Prim.Native.Nat.{ℕ, min}
 use mathlib.Core.Bool.{Bool}
 use mathlib.Core.List.{List}
 

@@ -1,13 +1,13 @@
 -- A scan one item at a time: what stands next at a place of a text, its gap passed over.
 use Prim.Native.Nat.{ℕ, _+_}
-use mathlib.Core.Bool.{Bool, true, false, cond}
-use mathlib.Core.List.{List, [], _∷_}
+use mathlib.Core.Bool.{Bool, false, cond}
+use mathlib.Core.List.{List}
 use lib.ListN.{drop}
 use lib.Dec.{eqb}
 use Rattle.items.specs.Item.{Item}
 use Rattle.items.specs.Reader.{Got, got, nothing, head}
 use Rattle.items.specs.Read.{item}
-use Rattle.items.specs.Scan.{gaps, Ending, whole, unreadable, mark, trailing}
+use Rattle.items.specs.Scan.{gaps, Ending, unreadable, mark, trailing}
 
 -- an item with its place and the place past it, or how the text ends
 pub data Next : Type 0 where

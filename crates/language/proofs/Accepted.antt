@@ -1,12 +1,7 @@
 -- What a source that is accepted satisfies: it is read as a program that is fine, written with at least its tokens, and has no refusal.
-use Prim.Native.Nat.{ℕ, _+_, _*_, _≤_, _<_}
-use mathlib.Core.Path.{_≡_, refl, ap, _∙_}
-use mathlib.Core.Bool.{Bool, true, false, cond}
-use mathlib.Core.List.{List, [], _∷_}
-use native.Mathlib.Omega.{arith}
-use lib.Dec.{ltb}
-use lib.ListN.{length, getD, take}
-use borrow.Author.Tests.{ltb-false}
+use Rattle.laws.proofs.Basics.{ℕ, _+_, _*_, _<_, _≤_, _≡_, refl, ap, _∙_, List, [], _∷_, Bool, true, false, cond, length, getD, take, ltb, arith}
+use Rattle.laws.proofs.Basics.{ltb-false}
+use Rattle.laws.proofs.Cases.{contradiction}
 use Rattle.language.specs.Tree.{Program}
 use Rattle.language.specs.Constants.{Fault}
 use Rattle.language.specs.Brackets.{firstFault, brackets}
@@ -27,7 +22,6 @@ use Rattle.language.proofs.SymbolFacts.{scan-length, cost, cost-length,
 use Rattle.language.proofs.Widths.{covered}
 use Rattle.language.proofs.Formed.{FormedF}
 use Rattle.language.proofs.Forming.{formed-at, program-formed}
-use Rattle.language.proofs.Cases.{clash}
 
 -- a text that is read, its symbols and its tree
 pub record IsRead (text : List ℕ) (p : Program) : Type 0 where
@@ -42,12 +36,12 @@ parsed-read text p h = go (firstFault (length text) (brackets [] (scan text .sym
     onto : (o : Out Program) → treeOf (sourceNow text) ≡ o → symbolsOf text ≡ S.good (symbolsNow text) → S.onTree (sourceNow text) o ≡ S.read p
         → IsRead text p
     onto (ok q n) e k m = let z : q ≡ p = cc in record { symbols = k; next = n; tree = e ∙ ap (λ (x : Program). ok x n) z }
-    onto (no number at) e k m = clash (cc)
+    onto (no number at) e k m = contradiction cc
 
     go : (f : Y.Fault) → firstFault (length text) (brackets [] (scan text .symbols)) (scan text .ending) ≡ f
         → S.onSymbols (length text) (S.onFault f (symbolsNow text)) ≡ S.read p → IsRead text p
     go Y.none e m = onto (treeOf (sourceNow text)) refl (rw e refl) m
-    go (Y.fault number place) e m = clash (cc)
+    go (Y.fault number place) e m = contradiction cc
 
 module _ (text : List ℕ) (p : Program) (r : IsRead text p) where
   pub strings-are : stringsIn text ≡ stringsAmong text (symbolsNow text)
@@ -80,7 +74,7 @@ pub record Facts (source : List ℕ) : Type 0 where
 
 or-else : (fs : List Fault) (x : Refused) → leastOr fs x ≡ accepted → (fs ≡ []) × (x ≡ accepted)
 or-else [] x h = (refl, h)
-or-else (f ∷ fs) x h = clash (cc)
+or-else (f ∷ fs) x h = contradiction cc
 
 functions-of : (source : List ℕ) (p : Program) → parsed source ≡ S.read p → functionsIn source ≡ funs (functionsOf source p)
 unfolding functionsIn
@@ -91,7 +85,7 @@ unfolding refusalOf readSource tooLong scratchTooShort rulesRefuse
 facts source scratch h = go (ltb 16384 (length source)) refl (ltb scratch (8 * length source + 64)) (parsed source) refl h
   where
     onto : (x : S.Read) → parsed source ≡ x → length source ≤ 16384 → onRead source x ≡ accepted → Facts source
-    onto (S.refused number place) e l m = clash (cc)
+    onto (S.refused number place) e l m = contradiction cc
     onto (S.read p) e l m =
         let r : IsRead source p = parsed-read source p e in
         let f = read-fine source p r 1 (omega arith) (omega arith) (omega (arith, cost-length (scan source .symbols), scan-length source)) in
@@ -113,8 +107,8 @@ facts source scratch h = go (ltb 16384 (length source)) refl (ltb scratch (8 * l
 
     go : (a : Bool) → ltb 16384 (length source) ≡ a → (b : Bool) → (x : S.Read) → parsed source ≡ x
         → onRead source (cond a (S.refused 1 0) (cond b (S.refused 15 0) x)) ≡ accepted → Facts source
-    go true ea b x ex m = clash (cc)
-    go false ea true x ex m = clash (cc)
+    go true ea b x ex m = contradiction cc
+    go false ea true x ex m = contradiction cc
     go false ea false x ex m = onto x ex (ltb-false 16384 (length source) ea) m
 
 -- its functions are formed

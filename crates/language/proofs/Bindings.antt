@@ -1,11 +1,7 @@
 -- The bindings, one after another: an expression of a binding is a chain of the operators of that binding, its left
 -- operands of the binding before. Right operands are so too, but a shift's are sums. The binding of NOT has no dyadic operator: there
 -- stands NOT and a shift expression, or a shift expression.
-use Prim.Native.Nat.{ℕ, zero, suc, _≤_}
-use mathlib.Core.Path.{_≡_, refl}
-use mathlib.Core.Bool.{cond}
-use native.Mathlib.Omega.{arith}
-use lib.Dec.{eqb}
+use Rattle.laws.proofs.Basics.{ℕ, zero, suc, _≤_, _≡_, refl, cond, eqb, arith}
 use Rattle.language.specs.Kinds.{NOT}
 use Rattle.language.specs.Binding.{NEGATION}
 use Rattle.language.specs.Reader.{Source, is}

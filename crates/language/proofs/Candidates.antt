@@ -1,23 +1,11 @@
 -- The candidates of a word (document 02, Req 03) alone decide its kind, and of no list of bytes are there more than three.
-use Prim.Native.Nat.{ℕ, suc, _≤_}
-use mathlib.Core.Path.{_≡_, refl, sym, _∙_}
-use mathlib.Core.Bool.{Bool, true, false, cond, _&&_}
-use mathlib.Core.List.{List, [], _∷_}
-use native.Mathlib.Omega.{arith}
-use lib.Dec.{eqb, leb, eqb·zero-suc, eqb·suc-zero}
-use lib.ListN.{length, getD}
-use borrow.Author.Tests.{eqb-true, leb-true}
+use Rattle.laws.proofs.Basics.{ℕ, suc, _≤_, _≡_, refl, sym, _∙_, List, [], _∷_, Bool, true, false, _&&_, cond, length, getD, eqb, leb, arith}
+use Rattle.laws.proofs.Basics.{eqb-true, leb-true}
+use Rattle.laws.proofs.Cases.{both-left, both-right}
+use lib.Dec.{eqb·zero-suc, eqb·suc-zero}
 use Rattle.language.specs.Kinds.{Spelled, reserved}
 use Rattle.language.specs.Symbols.{begins, same, kindIn, kindOf}
 use Rattle.language.specs.Candidates.{alike, keep, candidatesIn, candidates, comparedIn, compared}
-
-pub both-left : (a b : Bool) → (a && b) ≡ true → a ≡ true
-both-left true b e = refl
-both-left false b e = e
-
-pub both-right : (a b : Bool) → (a && b) ≡ true → b ≡ true
-both-right true b e = e
-both-right false b e = cc
 
 -- ---- the kind is that of the first candidate that is the same, or a name's
 

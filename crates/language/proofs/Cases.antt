@@ -1,17 +1,9 @@
 -- A property of what the resolver makes by cases: it holds if it holds in each case.
-use Prim.Native.Nat.{ℕ}
-use native.Mathlib.Omega.{arith}
-use mathlib.Core.Path.{_≡_}
-use mathlib.Core.Bool.{Bool, true, false, cond}
-use lib.Dec.{eqb}
+use Rattle.laws.proofs.Basics.{ℕ, Bool, true, false, cond, eqb}
 use Rattle.language.specs.Kinds.{BREAK, LOOP, ENDCASE, RETURN, PLING, AT}
 use Rattle.language.specs.Resolve.{Side, side, noSide, sideOf, addressOf, resolvedMonadic, leaving}
 use Rattle.language.specs.Resolved as R
 use Rattle.language.specs.Resolved.{Expr, Cmd}
-
--- a case that cannot be: two constructors are never equal, by `cc`
-pub clash : {P : Type 0} → _≡_ {A = ℕ} 0 1 → P
-clash z = absurd (omega arith)
 
 pub by-cond : {A : Type 0} (P : A → Type 0) (b : Bool) {x y : A} → P x → P y → P (cond b x y)
 by-cond P true p q = p

@@ -1,9 +1,5 @@
 -- The depth of commands, and of whole programs: at most 8 for each of the 64 levels, and 8 more.
-use Prim.Native.Nat.{ℕ, zero, suc, _+_, _*_, _≤_}
-use mathlib.Core.List.{List, [], _∷_}
-use native.Mathlib.Omega.{arith}
-use lib.ListN.{length}
-use lib.Dec.{eqb}
+use Rattle.laws.proofs.Basics.{ℕ, zero, suc, _+_, _*_, _≤_, List, [], _∷_, length, eqb, arith}
 use Rattle.language.specs.Kinds as K
 use Rattle.language.specs.Binding.{LOOSEST, isLabel, isGuard, isLeave, isRepeat, isDeclaration, goesOnAssignment, beginsCommand}
 use Rattle.language.specs.Tree as T

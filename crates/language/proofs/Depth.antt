@@ -1,7 +1,6 @@
 -- The depth of a tree: how many expressions and commands lie inside one another. Lists add nothing, and a command's labels and REPEAT
 -- forms are part of it. Every recursion on trees takes the depth left; Depths and CommandDepths bound it by the levels.
-use Prim.Native.Nat.{ℕ, suc, max}
-use mathlib.Core.List.{List, [], _∷_}
+use Rattle.laws.proofs.Basics.{ℕ, suc, max, List, [], _∷_}
 use Rattle.language.specs.Tree as T
 use Rattle.language.specs.Tree.{Expression, Expressions, Suffixes, Operations, Command, Commands, Unlabelled, Repeats, Locals, Body, Function}
 use Rattle.language.specs.Tree.{Declaration, Program}

@@ -1,7 +1,6 @@
 -- The depth of what the readers give is bounded by the levels: a tree read with so many levels left is at most 8 deep for each of
 -- them, and 8 more.
-use Prim.Native.Nat.{ℕ, suc, _+_, _≤_}
-use native.Mathlib.Omega.{arith}
+use Rattle.laws.proofs.Basics.{ℕ, suc, _+_, _≤_, arith}
 use Rattle.language.specs.Kinds as K
 use Rattle.language.specs.Binding.{LOOSEST, isMonadic, isSuffix}
 use Rattle.language.specs.Tree as T

@@ -1,22 +1,15 @@
--- What is known of the elements that a source is scanned into: a number is a word, a name no wider than the bytes there, a string of at most
--- 255 characters; and a REPEAT form takes three bytes, a string its characters and two, any other one.
-use Prim.Native.Nat.{ℕ, suc, _+_, _-_, min, _≤_, _<_}
-use mathlib.Core.Path.{_≡_, refl}
-use mathlib.Core.Bool.{Bool, true, false, not, cond, _&&_}
-use mathlib.Core.List.{List, [], _∷_}
-use native.Mathlib.Omega.{arith}
-use lib.Dec.{eqb, leb}
-use lib.ListN.{length, take, drop, length-take, length-drop}
-use borrow.Author.Tests.{eqb-true, eqb-false, leb-true, ne-eqb, not-true}
+-- What is known of the elements that a source is scanned into: a number is a word, a name no wider than the bytes there, a string
+-- closed; and a REPEAT form takes three bytes, a string its characters and two, any other one.
+use Rattle.laws.proofs.Basics.{ℕ, suc, _+_, _-_, _<_, _≤_, min, _≡_, refl, List, [], _∷_, Bool, true, false, not, _&&_, cond, length, take, drop}
+use Rattle.laws.proofs.Basics.{length-take, length-drop, eqb, leb, arith, eqb-true, eqb-false, ne-eqb, leb-true, not-true}
+use Rattle.laws.proofs.Cases.{contradiction, both-true}
 use Rattle.text.specs.Quoted.{Quoted, closed, unclosed, faulty, charactersOf, quoted}
 use Rattle.text.proofs.Quotes.{Closed, is-closed, each-byte}
-use Rattle.text.proofs.Booleans.{both-true}
 use Rattle.language.specs.Kinds.{Spelled, member, NAME, NUMBER, STRING, reserved, signs}
 use Rattle.language.specs.Bytes.{LETTER, DIGIT, HASH, QUOTE, DOUBLE, SIGN, SEPARATOR, NEWLINE, classOf}
 use Rattle.language.specs.Binding.{isRepeat}
 use Rattle.language.specs.Symbols.{Element, symbol, gap, wrong, same, begins, inWord, wordWidth, kindIn, kindOf, word, digits, valueOf, decimal}
 use Rattle.language.specs.Symbols.{octal, asCharacter, character, asString, string, signIn, comment, sign, signOrComment, byClass}
-use Rattle.language.proofs.Cases.{clash}
 
 -- the bytes that a kind takes at least, and the characters if it is a string's
 abbrev pub needs : (kind : ℕ) (characters : List ℕ) → ℕ
@@ -26,11 +19,20 @@ needs kind cs = cond (isRepeat kind) 3 (cond (eqb kind STRING) (length cs + 2) 1
 abbrev pub inside : List ℕ → List ℕ
 inside bs = charactersOf (quoted 34 255 0 (drop 1 bs))
 
+-- a string's characters and its quote stand there
+pub record Closes (bs : List ℕ) : Type 0 where
+  pub characters : List ℕ
+  pub width : ℕ
+  pub closes : quoted 34 255 0 bs ≡ closed characters width
+
+pub closes-short : {bs : List ℕ} → Closes bs → length (charactersOf (quoted 34 255 0 bs)) ≤ 255
+closes-short {bs} c = rw (c .closes) (is-closed 34 255 0 bs (c .closes) .short)
+
 pub record Known (bs : List ℕ) (kind value width : ℕ) : Type 0 where
   pub number : kind ≡ NUMBER → value < 65536
   pub name : kind ≡ NAME → value ≤ length bs
   pub wide : needs kind (inside bs) ≤ suc (min (width - 1) (length bs - 1))
-  pub short : kind ≡ STRING → length (inside bs) ≤ 255
+  pub closes : kind ≡ STRING → Closes (drop 1 bs)
 
 pub data KnownElement (bs : List ℕ) : Element → Type 0 where
   a-symbol : {kind value width : ℕ} → Known bs kind value width → KnownElement bs (symbol kind value width)
@@ -59,7 +61,7 @@ record Spelling (kind : ℕ) (bs : List ℕ) : Type 0 where
 
 spelling-in : (ws : List Spelled) (bs : List ℕ) → allOf long ws ≡ true → Spelling (kindIn ws bs) bs
 unfolding kindIn allOf isRepeat member
-spelling-in [] bs h = record { long = λ e. clash (cc); string = λ e. omega arith; number = λ e. omega arith }
+spelling-in [] bs h = record { long = λ e. contradiction cc; string = λ e. omega arith; number = λ e. omega arith }
 spelling-in (w ∷ ws) bs h =
     let p = both-true (long w) (allOf long ws) h in
     go (same (w .spelling) bs) refl (both-true _ (not (eqb (w .kind) NUMBER)) (p .0)) (spelling-in ws bs (p .1))
@@ -100,7 +102,7 @@ module _ (bs : List ℕ) where
       go : (kind : ℕ) → Spelling kind (take (wordWidth bs) bs) → KnownElement bs (symbol kind (wordWidth bs) (wordWidth bs))
       go kind k =
           is-symbol (record
-          { number = λ e. absurd (k .number e); name = λ _. word-within bs; wide = by (isRepeat kind) refl; short = λ e. absurd (k .string e) })
+          { number = λ e. absurd (k .number e); name = λ _. word-within bs; wide = by (isRepeat kind) refl; closes = λ e. absurd (k .string e) })
         where
           by : (b : Bool) → isRepeat kind ≡ b → needs kind (inside bs) ≤ suc (min (wordWidth bs - 1) (length bs - 1))
           by true e = rw e (omega (arith, k .long e, length-take (wordWidth bs) bs, word-within bs))
@@ -108,7 +110,7 @@ module _ (bs : List ℕ) where
 
   is-number : {v w : ℕ} → v < 65536 → KnownElement bs (symbol NUMBER v w)
   unfolding isRepeat member
-  is-number l = is-symbol (record { number = λ _. l; name = λ e. absurd (omega arith); wide = omega arith; short = λ e. absurd (omega arith) })
+  is-number l = is-symbol (record { number = λ _. l; name = λ e. absurd (omega arith); wide = omega arith; closes = λ e. absurd (omega arith) })
 
   known-decimal : KnownElement bs (decimal bs)
   unfolding decimal
@@ -142,7 +144,7 @@ module _ (bs : List ℕ) where
             number = λ z. absurd (omega arith);
             name = λ z. absurd (omega arith);
             wide = rw e (omega (arith, k .enough, k .within, length-drop 1 bs));
-            short = λ _. rw e (k .short);
+            closes = λ _. record { characters = cs; width = n; closes = e };
           })
       go unclosed e = a-fault
       go (faulty number n) e = a-fault
@@ -162,7 +164,7 @@ module _ (bs : List ℕ) where
             number = λ _. omega arith;
             name = λ _. omega arith;
             wide = rw (not-true (isRepeat (w .kind)) (q .0), z) (omega arith);
-            short = λ e. absurd (eqb-false (w .kind) STRING z e);
+            closes = λ e. absurd (eqb-false (w .kind) STRING z e);
           })
       go false q f = f
 

@@ -1,8 +1,6 @@
 -- Worked examples: the candidates of a word and how many are compared whole (document 02, Req 03).
-use Prim.Native.Nat.{ℕ}
+use Rattle.laws.proofs.Basics.{ℕ, _≡_, refl, List, [], _∷_}
 use Prim.Native.String.{String}
-use mathlib.Core.Path.{_≡_, refl}
-use mathlib.Core.List.{List, [], _∷_}
 use Rattle.text.specs.Written.{bytes}
 use Rattle.language.specs.Kinds as K
 use Rattle.language.specs.Kinds.{Spelled, reserved}

@@ -1,8 +1,5 @@
 -- The laws of all runs (`Fuel`, `Limits`, `Held`) at one program, which writes a global and a word of its string.
-use Prim.Native.Nat.{ℕ, _+_, _<_}
-use mathlib.Core.Path.{_≡_, refl, subst}
-use mathlib.Core.List.{List, [], _∷_}
-use native.Mathlib.Omega.{arith}
+use Rattle.laws.proofs.Basics.{ℕ, _+_, _<_, _≡_, refl, subst, List, [], _∷_, arith}
 use Rattle.text.specs.Written.{bytes}
 use Rattle.text.specs.Packed.{pairs}
 use Rattle.words.specs.Globals.{noGlobals}

@@ -1,11 +1,9 @@
 -- Worked examples: how expressions group.
-use Prim.Native.Nat.{ℕ}
+use Rattle.laws.proofs.Basics.{ℕ, refl, [], _∷_}
 use Prim.Native.String.{String}
-use mathlib.Core.Path.{refl}
-use mathlib.Core.List.{[], _∷_}
 use Rattle.text.specs.Written.{bytes}
 use Rattle.language.specs.Kinds as K
-use Rattle.language.proofs.Table.{Table, _gives_, Each}
+use Rattle.laws.proofs.Table.{Table, _gives_, Each}
 use Rattle.language.proofs.Texts.{verdict}
 use Rattle.language.proofs.Shapes.{Shape, named, number, one, two, called, none, and, grouped}
 

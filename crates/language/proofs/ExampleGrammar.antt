@@ -1,10 +1,8 @@
 -- Worked examples: what the grammar takes and refuses.
-use Prim.Native.Nat.{ℕ}
+use Rattle.laws.proofs.Basics.{ℕ, refl, List, [], _∷_, _++_}
 use Prim.Native.String.{String, _++_ as joined}
-use mathlib.Core.Path.{refl}
-use mathlib.Core.List.{List, [], _∷_, _++_}
 use Rattle.text.specs.Written.{bytes}
-use Rattle.language.proofs.Table.{Table, _gives_, Each}
+use Rattle.laws.proofs.Table.{Table, _gives_, Each}
 use Rattle.language.proofs.Texts.{verdict, verdictOf, times}
 
 unfoldable verdict-table : Table String (ℕ × ℕ)

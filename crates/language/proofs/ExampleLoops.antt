@@ -1,9 +1,6 @@
 -- Worked examples: a line that ends in LOOP, before and after LOOP joined the first list of the inserted semicolon (document 02, Req 01).
-use Prim.Native.Nat.{ℕ}
-use mathlib.Core.Path.{_≡_, refl}
-use mathlib.Core.List.{List, [], _∷_}
+use Rattle.laws.proofs.Basics.{ℕ, _≡_, refl, List, [], _∷_, length}
 use Prim.Native.String.{String}
-use lib.ListN.{length}
 use Rattle.text.specs.Written.{bytes}
 use Rattle.language.specs.Symbols.{scan}
 use Rattle.language.specs.Strings.{numbered}

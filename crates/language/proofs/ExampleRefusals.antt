@@ -1,13 +1,9 @@
 -- Worked examples: refusals 1 to 5, 40 to 43, and 15 for scratch; 0 at 0 for none.
-use Prim.Native.Nat.{ℕ}
+use Rattle.laws.proofs.Basics.{ℕ, _≡_, refl, List, [], _∷_, _++_, false, replicate}
 use Prim.Native.String.{String}
-use mathlib.Core.Path.{_≡_, refl}
-use mathlib.Core.Bool.{false}
-use mathlib.Core.List.{List, [], _∷_, _++_}
-use lib.ListN.{replicate}
 use Rattle.text.specs.Written.{bytes}
 use Rattle.language.specs.Source.{tooLong, scratchTooShort, readSource}
-use Rattle.language.proofs.Table.{Table, _gives_, Each}
+use Rattle.laws.proofs.Table.{Table, _gives_, Each}
 use Rattle.language.proofs.Texts.{numberAndPlace, answer, verdict, verdictOf, times}
 
 -- 1: a source of 16,385 bytes; one of 16,384 bytes is not too long. 15: an empty source with 63 entries of scratch; 64 are enough

@@ -1,11 +1,9 @@
 -- Worked examples of refusals 8 to 14 and 16: the number and place of a whole text's refusal, or 0 and 0.
-use Prim.Native.Nat.{ℕ}
+use Rattle.laws.proofs.Basics.{ℕ, _≡_, refl, [], _∷_}
 use Prim.Native.String.{String}
-use mathlib.Core.Path.{_≡_, refl}
-use mathlib.Core.List.{[], _∷_}
 use Rattle.text.specs.Line.{newlines, lineOf}
 use Rattle.text.specs.Written.{bytes}
-use Rattle.language.proofs.Table.{Table, _gives_, Each}
+use Rattle.laws.proofs.Table.{Table, _gives_, Each}
 use Rattle.language.proofs.Whole.{judged}
 
 unfoldable judged-table : Table String (ℕ × ℕ)

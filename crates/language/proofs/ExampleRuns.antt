@@ -1,10 +1,8 @@
 -- Worked examples of source runs: their steps, input taken and output, and every kind of undefined act.
-use Prim.Native.Nat.{ℕ}
+use Rattle.laws.proofs.Basics.{ℕ, _≡_, refl, List, [], _∷_, _++_}
 use Prim.Native.String.{String, _++_ as joined}
-use mathlib.Core.Path.{_≡_, refl}
-use mathlib.Core.List.{List, [], _∷_, _++_}
 use Rattle.text.specs.Written.{bytes}
-use Rattle.language.proofs.Table.{Table, _gives_, Each}
+use Rattle.laws.proofs.Table.{Table, _gives_, Each}
 use Rattle.language.proofs.Whole.{usedBy, ranIn, ranBytes, Told, told, undefined-act, not-over}
 
 -- what a run writes; a run that does not end writes nothing that could be taken for it

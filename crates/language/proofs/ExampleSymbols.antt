@@ -1,12 +1,10 @@
 -- Worked examples: texts and their symbols.
-use Prim.Native.Nat.{ℕ}
+use Rattle.laws.proofs.Basics.{ℕ, refl, [], _∷_}
 use Prim.Native.String.{String}
-use mathlib.Core.Path.{refl}
-use mathlib.Core.List.{[], _∷_}
 use Rattle.language.specs.Kinds as K
 use Rattle.language.specs.Symbols.{Symbol}
 use Rattle.language.specs.Source.{Symbols, good}
-use Rattle.language.proofs.Table.{Table, _gives_, Each}
+use Rattle.laws.proofs.Table.{Table, _gives_, Each}
 use Rattle.language.proofs.Texts.{symbolsIn}
 
 abbrev symbol : (kind value place : ℕ) → Symbol

@@ -1,9 +1,7 @@
 -- Worked examples: whole texts, some of them damaged, with their refusals up to 7; 0 at 0 for none.
-use Prim.Native.Nat.{ℕ}
+use Rattle.laws.proofs.Basics.{ℕ, refl, [], _∷_}
 use Prim.Native.String.{String, _++_}
-use mathlib.Core.Path.{refl}
-use mathlib.Core.List.{[], _∷_}
-use Rattle.language.proofs.Table.{Table, _gives_, Each}
+use Rattle.laws.proofs.Table.{Table, _gives_, Each}
 use Rattle.language.proofs.Texts.{verdict}
 
 unfoldable verdict-table : Table String (ℕ × ℕ)

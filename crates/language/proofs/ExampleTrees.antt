@@ -1,8 +1,5 @@
 -- Worked examples: texts and their trees.
-use Prim.Native.Nat.{ℕ}
-use mathlib.Core.Path.{_≡_, refl}
-use mathlib.Core.Bool.{true, false}
-use mathlib.Core.List.{[], _∷_}
+use Rattle.laws.proofs.Basics.{ℕ, _≡_, refl, [], _∷_, true, false}
 use Rattle.language.specs.Kinds as K
 use Rattle.language.specs.Tree as T
 use Rattle.language.specs.Tree.{Name, Command, Expression, Constant, noExpressions, andExpression, noSuffixes, noOperations, operation, command}

@@ -1,15 +1,9 @@
 -- Two sources, the second with extra semicolons, each between a LOOP and a symbol of the second list of inserted semicolons, but for a
 -- bracket. What a reader gives of the first it gives of the second. Here are the rules for the ways to put readers together, with
 -- those of Local, so that the grammar is gone through once for both; ExtraGrammar has the grammar, Loops the texts.
-use Prim.Native.Nat.{ℕ, zero, suc, _+_, _≤_}
-use mathlib.Core.Path.{_≡_, refl, sym, ap, _∙_}
-use mathlib.Core.Bool.{Bool, true, false, cond}
-use mathlib.Core.List.{List, [], _∷_}
-use native.Mathlib.Omega.{arith}
-use lib.ListN.{length, getD, drop}
-use lib.Seq.{getD-drop, drop-drop}
-use lib.Dec.{eqb}
-use borrow.Author.Tests.{eqb-true}
+use Rattle.laws.proofs.Basics.{ℕ, zero, suc, _+_, _≤_, _≡_, refl, sym, ap, _∙_, List, [], _∷_, Bool, true, false, cond, length, getD, drop, drop-drop}
+use Rattle.laws.proofs.Basics.{getD-drop, eqb, arith, eqb-true}
+use Rattle.laws.proofs.Cases.{contradiction}
 use Rattle.language.specs.Kinds as K
 use Rattle.language.specs.Kinds.{member}
 use Rattle.language.specs.Symbols.{Symbol}
@@ -18,7 +12,6 @@ use Rattle.language.specs.Reader.{Source, Out, ok, no, Reader, onOut, _>
 use Rattle.language.specs.Reader.{aName, manyUpTo, many, moreUpTo, items, isComma, furtherItems, oneUpToClose, upToClose}
 use Rattle.language.proofs.Local as L
 use Rattle.language.proofs.Local.{Local, Ahead, took, refused, self, ended, none-here}
-use Rattle.language.proofs.Cases.{clash}
 
 abbrev pub without : ℕ → List ℕ → List ℕ
 without x [] = []
@@ -173,7 +166,7 @@ tested {s = s} {t = t} true b h w at x p f =
     near-cases p (λ q. f (ap b (same-kind w q)) (λ _. q))
     (λ e m _. let no-t : b (kindAt t x) ≡ false = ap b e ∙ none-of b (K.SEMICOLON ∷ others) K.SEMICOLON h refl in
     let no-s : b (kindAt s at) ≡ false = none-of b (K.SEMICOLON ∷ others) (kindAt s at) h (one-more (kindAt s at) K.SEMICOLON others m) in
-    f (no-t ∙ sym no-s) (λ y. clash (cc)))
+    f (no-t ∙ sym no-s) (λ y. contradiction cc))
 
 -- ---- readers put together
 

@@ -1,11 +1,6 @@
 -- What the grammar reads of a source it reads of one with extra semicolons after LOOP. An expression or a command may end before such a
 -- semicolon, and nothing goes on there; a local declaration takes it as its own.
-use Prim.Native.Nat.{ℕ, zero, suc}
-use mathlib.Core.Path.{_≡_, refl}
-use mathlib.Core.Bool.{Bool, true, false, cond}
-use mathlib.Core.List.{List, [], _∷_}
-use lib.ListN.{length}
-use lib.Dec.{eqb}
+use Rattle.laws.proofs.Basics.{ℕ, zero, suc, _≡_, refl, List, [], _∷_, Bool, true, false, cond, length, eqb}
 use Rattle.language.specs.Kinds as K
 use Rattle.language.specs.Kinds.{member}
 use Rattle.language.specs.Binding.{bindingOf, RELATION, LOOSEST, isMonadic, reachOf, isSuffix, isLabel, isGuard, isLeave, isRepeat}

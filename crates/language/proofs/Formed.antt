@@ -1,7 +1,6 @@
 -- What is known of a resolved tree: constants are words, locals lie below the height, globals are below 400, functions and strings are
 -- among those of the text. The height is that of the place.
-use Prim.Native.Nat.{ℕ, _+_, _≤_, _<_}
-use mathlib.Core.List.{List, [], _∷_}
+use Rattle.laws.proofs.Basics.{ℕ, _+_, _<_, _≤_, List, [], _∷_}
 use Rattle.language.specs.Resolved as R
 use Rattle.language.specs.Resolved.{CaseLabel, Expr, Exprs, Target, Pairs, Cmd, Cmds, Cases, Locals, Body, caseCount}
 use Rattle.language.specs.Heights.{count, heightWith}

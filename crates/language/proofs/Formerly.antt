@@ -1,13 +1,7 @@
 -- Texts accepted with document 01's strings and characters keep their meaning: its reading of constants, in which any fault was 4 at the opening
 -- quote, and that whatever it read is read the same now.
-use Prim.Native.Nat.{ℕ, zero, suc, _-_, _≤_}
-use mathlib.Core.Path.{_≡_, refl, ap}
-use mathlib.Core.Bool.{Bool, true, false, cond}
-use mathlib.Core.List.{List, [], _∷_}
-use native.Mathlib.Omega.{arith}
-use lib.Dec.{eqb, leb}
-use lib.ListN.{length, drop}
-use borrow.Author.Tests.{eqb-true, leb-true, ne-eqb}
+use Rattle.laws.proofs.Basics.{ℕ, zero, suc, _-_, _≤_, _≡_, refl, ap, List, [], _∷_, Bool, true, false, cond, length, drop, eqb, leb, arith, eqb-true}
+use Rattle.laws.proofs.Basics.{ne-eqb, leb-true}
 use Rattle.text.specs.Quoted as Q
 use Rattle.text.specs.Quoted.{Quoted, closed, wider, after, onCharacter, quoted}
 use Rattle.language.specs.Bytes.{QUOTE, DOUBLE, classOf}

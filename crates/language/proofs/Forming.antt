@@ -1,10 +1,5 @@
 -- The functions of a text that is accepted are formed.
-use Prim.Native.Nat.{ℕ, zero, suc, _+_, _≤_, _<_}
-use mathlib.Core.Path.{_≡_, refl, ap}
-use mathlib.Core.Bool.{true, false}
-use mathlib.Core.List.{List, [], _∷_, _++_}
-use native.Mathlib.Omega.{arith}
-use lib.ListN.{length, getD, length-append}
+use Rattle.laws.proofs.Basics.{ℕ, zero, suc, _+_, _<_, _≤_, _≡_, refl, ap, List, [], _∷_, _++_, true, false, length, getD, length-append, arith}
 use Rattle.language.specs.Tree as T
 use Rattle.language.specs.Tree.{Item, Function, Declaration, Program}
 use Rattle.language.specs.Names as N

@@ -1,10 +1,5 @@
 -- More fuel gives the same result: a run that is over within some fuel is the same run with more, so a source run ends in one state.
-use Prim.Native.Nat.{ℕ, zero, suc, _+_, _≤_}
-use mathlib.Core.Path.{_≡_, refl}
-use mathlib.Core.Bool.{Bool, true, false, cond}
-use mathlib.Core.List.{List, []}
-use native.Mathlib.Omega.{arith}
-use lib.Dec.{leb}
+use Rattle.laws.proofs.Basics.{ℕ, zero, suc, _+_, _≤_, _≡_, refl, List, [], Bool, true, false, cond, leb, arith}
 use Rattle.language.specs.Resolved.{Fun}
 use Rattle.language.specs.State.{State, Result, unfinished, undefined, finished, returned, ok}
 use Rattle.language.specs.Run.{Placement, called, sem}

@@ -1,9 +1,5 @@
 -- What a reader answers, when it gives a tree at all: one rule for each way to put readers together, over one source.
-use Prim.Native.Nat.{ℕ, zero, suc, _+_}
-use mathlib.Core.Path.{_≡_, refl}
-use mathlib.Core.Bool.{Bool, true, false, cond}
-use lib.ListN.{length}
-use borrow.Author.Tests.{eqb-true}
+use Rattle.laws.proofs.Basics.{ℕ, zero, suc, _+_, _≡_, refl, Bool, true, false, cond, length, eqb-true}
 use Rattle.language.specs.Kinds.{COMMA, SEMICOLON, CLOSE, END}
 use Rattle.language.specs.Reader.{Source, Out, ok, no, Reader, onOut, kindAt, is, unexpected, the, manyUpTo, many, moreUpTo, items, isComma}
 use Rattle.language.specs.Reader.{furtherItems, oneUpToClose, upToClose}

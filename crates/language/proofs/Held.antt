@@ -1,13 +1,7 @@
 -- A word below a call's frame that holds a value keeps holding one, whatever the call does: further frames stand above it, and elsewhere a
 -- value is only written over a value. So where a source run ends, the globals and the strings, below the stack, all hold values.
-use Prim.Native.Nat.{ℕ, zero, suc, _+_, _≤_, _<_}
-use mathlib.Core.Path.{_≡_, refl}
-use mathlib.Core.Bool.{Bool, true, false, cond}
-use mathlib.Core.List.{List, [], _∷_}
-use native.Mathlib.Omega.{arith}
-use lib.Dec.{leb, ltb}
-use lib.ListN.{length, getD}
-use borrow.Author.Tests.{le-leb, lt-ltb, le-ltb}
+use Rattle.laws.proofs.Basics.{ℕ, zero, suc, _+_, _<_, _≤_, _≡_, refl, List, [], _∷_, Bool, true, false, cond, length, getD, ltb, leb, arith, lt-ltb}
+use Rattle.laws.proofs.Basics.{le-ltb, le-leb}
 use Rattle.text.specs.Packed.{pairs}
 use Rattle.language.specs.Resolved.{Fun}
 use Rattle.language.specs.State.{Cell, holds, State, Result, unfinished, undefined, finished, returned, ok}

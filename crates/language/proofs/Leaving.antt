@@ -1,13 +1,7 @@
 -- A tree without refusals, after it is resolved: it is formed, and, for refusal 13, has BREAK and LOOP in loops, ENDCASE in a SWITCHON and
 -- RESULTIS in a VALOF only.
-use Prim.Native.Nat.{ℕ, _+_}
-use mathlib.Core.Path.{_≡_, refl, sym, _∙_}
-use mathlib.Core.Bool.{Bool, true, false, cond}
-use mathlib.Core.List.{List, [], _∷_, _++_}
-use native.Mathlib.Omega.{arith}
-use lib.Dec.{eqb}
-use lib.ListN.{length}
-use borrow.Author.Tests.{eqb-true}
+use Rattle.laws.proofs.Basics.{ℕ, _+_, _≡_, refl, sym, _∙_, List, [], _∷_, _++_, Bool, true, false, cond, length, eqb, arith, eqb-true}
+use Rattle.laws.proofs.Cases.{contradiction}
 use Rattle.language.specs.Kinds.{member, IF, UNLESS, WHILE, UNTIL, REPEATWHILE, BREAK, LOOP, ENDCASE, RETURN}
 use Rattle.language.specs.Binding.{isGuard}
 use Rattle.language.specs.Tree as T
@@ -28,7 +22,7 @@ use Rattle.language.proofs.Formed.{FormedE, FormedA, FormedC, FormedB, 
 use Rattle.language.proofs.Resolving.{Scoped, scoped-up, lookup-known, declared-all, under-more, formed-name, formed-monadic, formed-leaving}
 use Rattle.language.proofs.Resolving.{Sides, formed-pairs, formed-values, formed-labels, formed-by, vector-size, count-same, height-same}
 use Rattle.language.proofs.Resolving.{scope-after, few-cases, open-scoped, for-scope, vector-scope, before-fine}
-use Rattle.language.proofs.Cases.{clash, by-monadic, by-side}
+use Rattle.language.proofs.Cases.{by-monadic, by-side}
 use Rattle.language.specs.Fine.{Fine, FineList, FineSuffixes, FineOperations, FineCommand, FineCommands, FineUnlabelled, FineRepeats}
 use Rattle.language.specs.Fine.{FineLocals}
 
@@ -195,7 +189,7 @@ good-guard functions strings l h w e c {x} {y} g p n f k = go (eqb w IF) refl (e
     go false ea true eb false ec false ed g n = ((p .0, f n .0), (p .1, f n .1))
     go false ea false eb true ec d ed g n = ((p .0, k n .0), (p .1, k n .1))
     go false ea false eb false ec true ed g n = ((p .0, k n .0), (p .1, k n .1))
-    go false ea false eb false ec false ed g n = clash (cc)
+    go false ea false eb false ec false ed g n = contradiction cc
 
 -- ---- a tree without refusals: it is formed, and leaves only what is there
 

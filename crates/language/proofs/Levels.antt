@@ -1,6 +1,5 @@
 -- The recursions of the grammar's readers, for any property of theirs: on the levels left, and on the bindings of operators.
-use Prim.Native.Nat.{ℕ, zero, suc, _≤_}
-use native.Mathlib.Omega.{arith}
+use Rattle.laws.proofs.Basics.{ℕ, zero, suc, _≤_, arith}
 use Rattle.language.specs.Tree.{Expression}
 use Rattle.language.specs.Reader.{Reader}
 use Rattle.language.specs.Expressions as E

@@ -1,4 +1,3 @@
-pub mod Table
 pub mod Texts
 pub mod Shapes
 pub mod ExampleSymbols

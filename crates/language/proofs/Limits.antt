@@ -1,12 +1,6 @@
 -- The greatest use only grows, and a run that uses no word from a limit on is the run in a memory of that many words.
-use Prim.Native.Nat.{ℕ, zero, suc, _+_, _≤_, _<_}
-use mathlib.Core.Path.{_≡_, refl, ap, _∙_}
-use mathlib.Core.Bool.{Bool, true, false, cond}
-use mathlib.Core.List.{List, []}
-use native.Mathlib.Omega.{arith}
-use native.Mathlib.Nat.{le-refl, le-trans}
-use lib.Dec.{leb, ltb}
-use borrow.Author.Tests.{leb-false, ltb-true, ltb-false}
+use Rattle.laws.proofs.Basics.{ℕ, zero, suc, _+_, _<_, _≤_, _≡_, refl, ap, _∙_, List, [], Bool, true, false, cond, ltb, leb, le-refl, le-trans, arith}
+use Rattle.laws.proofs.Basics.{ltb-true, ltb-false, leb-false}
 use Rattle.language.specs.Resolved.{Expr, Cmd, Fun}
 use Rattle.language.specs.State.{State, Result, unfinished, undefined, finished, returned, ok}
 use Rattle.language.specs.Run.{Placement, Sem, Loop, reach, called, sem}

@@ -1,11 +1,6 @@
 -- What a reader answers depends only on the symbols up to where it ends: up to the symbol after what it read, or up to the symbol that
 -- it refuses. Here are the rules for the ways to put readers together; Locality has the grammar.
-use Prim.Native.Nat.{ℕ, zero, suc, _+_, _≤_}
-use mathlib.Core.Path.{_≡_, refl, sym, ap, _∙_}
-use mathlib.Core.Bool.{Bool, true, false, cond}
-use native.Mathlib.Omega.{arith}
-use lib.ListN.{length, List·getD-eq-default}
-use lib.Dec.{eqb}
+use Rattle.laws.proofs.Basics.{ℕ, zero, suc, _+_, _≤_, _≡_, refl, sym, ap, _∙_, Bool, true, false, cond, length, List·getD-eq-default, eqb, arith}
 use Rattle.language.specs.Kinds as K
 use Rattle.language.specs.Symbols.{Symbol}
 use Rattle.language.specs.Reader.{Source, Out, ok, no, Reader, onOut, _>>=_, return, symbolAt, kindAt, is, unexpected, any, here, the, manyUpTo}

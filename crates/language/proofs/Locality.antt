@@ -1,7 +1,5 @@
 -- A refusal 6 or 7 depends only on the symbols up to the one refused: a source that has the same symbols up to there is refused alike.
-use Prim.Native.Nat.{ℕ}
-use mathlib.Core.Path.{_≡_, _∙_}
-use native.Mathlib.Omega.{arith}
+use Rattle.laws.proofs.Basics.{ℕ, _≡_, _∙_, arith}
 use Rattle.language.specs.Reader.{Source, no}
 use Rattle.language.specs.Grammar.{treeOf}
 use Rattle.language.proofs.Local.{Agree, stopped}

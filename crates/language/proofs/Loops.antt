@@ -1,13 +1,8 @@
 -- LOOP joined the first list of the inserted semicolon (document 02, Req 01). A text that was read as a program before is read as the same
 -- program, unless a ( stands next after a LOOP on a later line. The symbols need not be the same: the semicolon after a local declaration
 -- is optional, and there one may be inserted now (ExampleLoops).
-use Prim.Native.Nat.{ℕ, suc}
-use mathlib.Core.Path.{_≡_, refl, sym, ap, _∙_}
-use mathlib.Core.Bool.{Bool, true, false, cond, _&&_}
-use mathlib.Core.List.{List, [], _∷_}
-use lib.ListN.{length}
-use lib.Dec.{eqb}
-use borrow.Author.Tests.{eqb-true}
+use Rattle.laws.proofs.Basics.{ℕ, suc, _≡_, refl, sym, ap, _∙_, List, [], _∷_, Bool, true, false, _&&_, cond, length, eqb, eqb-true}
+use Rattle.laws.proofs.Cases.{contradiction}
 use Rattle.language.specs.Kinds as K
 use Rattle.language.specs.Kinds.{member}
 use Rattle.language.specs.Symbols.{Symbol, Fault, none, fault, scan}
@@ -20,7 +15,6 @@ use Rattle.language.specs.Grammar.{treeOf}
 use Rattle.language.specs.Source.{onFault, symbolsOf, Read, read, onTree, readSymbols, onSymbols, parsed}
 use Rattle.language.proofs.Extra.{without, others, flush, Rest, both-end, alike, extra, longer-rest, Kept, gave, refuses}
 use Rattle.language.proofs.ExtraGrammar.{program}
-use Rattle.language.proofs.Cases.{clash}
 
 -- ---- the definition, by any first list
 
@@ -93,7 +87,7 @@ numbered-after text k before (s ∷ r) = go (eqb (s .kind) K.STRING) (λ j. numb
 -- ---- the two lists of symbols
 
 apart : true ≡ false → ⊥
-apart e = clash (cc)
+apart e = contradiction cc
 
 without-member : (k x : ℕ) (ks : List ℕ) → member k (without x ks) ≡ cond (eqb k x) false (member k ks)
 unfolding member

@@ -1,13 +1,7 @@
 -- What the grammar reads: no tree is written with fewer symbols than its tokens, and its numbers and strings are fine.
-use Prim.Native.Nat.{ℕ, zero, suc, _+_, _≤_, _<_}
-use mathlib.Core.Path.{_≡_, refl, sym, ap, _∙_}
-use mathlib.Core.Bool.{Bool, true, false, not, cond, _&&_}
-use mathlib.Core.List.{List, [], _∷_}
-use native.Mathlib.Omega.{arith}
-use lib.Dec.{eqb, leb}
-use lib.ListN.{length}
-use borrow.Author.Tests.{eqb-true, eqb-false, leb-true, not-true}
-use Rattle.text.proofs.Booleans.{both-true}
+use Rattle.laws.proofs.Basics.{ℕ, zero, suc, _+_, _<_, _≤_, _≡_, refl, sym, ap, _∙_, List, [], _∷_, Bool, true, false, not, _&&_, cond, length, eqb}
+use Rattle.laws.proofs.Basics.{leb, arith, eqb-true, eqb-false, leb-true, not-true}
+use Rattle.laws.proofs.Cases.{contradiction, both-true}
 use Rattle.language.specs.Kinds as K
 use Rattle.language.specs.Kinds.{member}
 use Rattle.language.specs.Binding.{bindingOf, LOOSEST, isMonadic, reachOf, isSuffix, isLabel, isGuard, isLeave, isRepeat, isDeclaration}
@@ -33,7 +27,6 @@ use Rattle.language.proofs.Gives.{Answer, answer, refusal, bind, either
 use Rattle.language.proofs.Takes.{Counts, Solid, Of, given, refused, NameHere, Written, got, take, putting, the-one, the-semicolon}
 use Rattle.language.proofs.Takes.{optional-semicolon, a-name, any-one, again-one, again-the, many-up-to, many-of, items-of, further-of}
 use Rattle.language.proofs.Takes.{close-of}
-use Rattle.language.proofs.Cases.{clash}
 
 -- ---- kinds that are symbols, and no semicolons
 
@@ -43,7 +36,7 @@ solidAll (k ∷ ks) = (leb 1 k && not (eqb k 54)) && solidAll ks
 
 member-solid : (ks : List ℕ) (kind : ℕ) → solidAll ks ≡ true → member kind ks ≡ true → Solid kind
 unfolding member solidAll
-member-solid [] kind a m = clash (cc)
+member-solid [] kind a m = contradiction cc
 member-solid (k ∷ ks) kind a m = go (eqb kind k) refl m (λ e. member-solid ks kind (both-true (leb 1 k && not (eqb k 54)) (solidAll ks) a .1) e)
   where
     go : (b : Bool) → eqb kind k ≡ b → cond b true (member kind ks) ≡ true → (member kind ks ≡ true → Solid kind) → Solid kind
@@ -109,14 +102,14 @@ module _ {loops : ℕ} (s : Source) (strings : ℕ) (c : ℕ → ℕ) (k : Count
       → Fine strings (withSuffixes e ss) × (tokens loops (withSuffixes e ss) ≤ tokens loops e + suffixesTokens loops ss)
   unfolding withSuffixes Fine tokens FineSuffixes suffixesTokens
   with-suffixes e T.noSuffixes p f = (p, omega arith)
-  with-suffixes e (T.call es ss) p f = ((p, f, λ z. clash (cc)), omega arith)
-  with-suffixes e (T.index d ss) p f = ((p, f, λ z. clash (cc)), omega arith)
+  with-suffixes e (T.call es ss) p f = ((p, f, λ z. contradiction cc), omega arith)
+  with-suffixes e (T.index d ss) p f = ((p, f, λ z. contradiction cc), omega arith)
 
   with-operations : (e : Expression) (os : Operations) → Fine strings e → FineOperations strings os
       → Fine strings (withOperations e os) × (tokens loops (withOperations e os) ≤ tokens loops e + operationsTokens loops os)
   unfolding withOperations Fine tokens FineOperations operationsTokens
   with-operations e T.noOperations p f = (p, omega arith)
-  with-operations e (T.operation o d os) p f = ((p, f, λ z. clash (cc)), omega arith)
+  with-operations e (T.operation o d os) p f = ((p, f, λ z. contradiction cc), omega arith)
 
   chain : (b : ℕ) → 1 ≤ b → (left right : Reader Expression) → ((n : ℕ) → OE n (left s n)) → ((n : ℕ) → OE n (right s n)) → (at : ℕ)
       → OE at (E.chain b left right s at)
@@ -194,10 +187,10 @@ module _ {loops : ℕ} (s : Source) (strings : ℕ) (c : ℕ → ℕ) (k : Count
     here : (n : Name) → x ≡ T.known n → placeAt s at ≡ n .place
 
   fine-literal : (at v : ℕ) → v < 65536 → FineSimple at (T.literal v)
-  fine-literal at v l = record { small = λ w e. let z : v ≡ w = cc in omega arith; here = λ n e. clash (cc) }
+  fine-literal at v l = record { small = λ w e. let z : v ≡ w = cc in omega arith; here = λ n e. contradiction cc }
 
   fine-known : (at : ℕ) (n : Name) → NameHere s at n → FineSimple at (T.known n)
-  fine-known at n q = record { small = λ v e. clash (cc); here = λ m e. let z : n ≡ m = cc in cc (q .stands-here) }
+  fine-known at n q = record { small = λ v e. contradiction cc; here = λ m e. let z : n ≡ m = cc in cc (q .stands-here) }
 
   simple : (at : ℕ) → O (FineSimple at) (λ _. 1) at (E.simple s at)
   unfolding E.simple E.literal E.truthLiteral E.known
@@ -217,7 +210,7 @@ module _ {loops : ℕ} (s : Source) (strings : ℕ) (c : ℕ → ℕ) (k : Count
       (λ _. opened _ i λ r j.
       take (the-one k K.MINUS at (omega arith)) λ place n₁ _ l₁.
       take (simple n₁) λ x n₂ q l₂.
-      got (record { small = q .small; place = λ n e f. clash (cc) }) (omega arith))
+      got (record { small = q .small; place = λ n e f. contradiction cc }) (omega arith))
       (λ _. take (simple at) λ x n₂ q l₂. got (record { small = q .small; place = λ n e f. q .here n e }) (omega arith))
 
   -- ---- commands

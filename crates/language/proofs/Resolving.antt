@@ -1,15 +1,7 @@
 -- From a tree to a resolved tree that is formed: names mean what stands in the scope, and the scope's words lie below the height. Here are
 -- the parts; Leaving goes through the tree.
-use Prim.Native.Nat.{ℕ, suc, _+_, _≤_, _<_}
-use mathlib.Core.Path.{_≡_, refl, ap, _∙_}
-use mathlib.Core.Bool.{Bool, true, false, cond}
-use mathlib.Core.List.{List, [], _∷_}
-use mathlib.Core.Option.{Option, none, some}
-use native.Mathlib.Omega.{arith}
-use native.Mathlib.Nat.{le-refl}
-use lib.Dec.{leb}
-use lib.ListN.{length}
-use borrow.Author.Tests.{leb-true}
+use Rattle.laws.proofs.Basics.{ℕ, suc, _+_, _<_, _≤_, _≡_, refl, ap, _∙_, List, [], _∷_, Bool, true, false, cond, Option, some, none, length, leb}
+use Rattle.laws.proofs.Basics.{le-refl, arith, leb-true}
 use Rattle.language.specs.Tree as T
 use Rattle.language.specs.Tree.{Name, Simple, Constant, Label, Expressions, Suffixes, Command, Commands}
 use Rattle.language.specs.Names as N

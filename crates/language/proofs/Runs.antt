@@ -1,15 +1,8 @@
 -- One induction over all forms of the source run. A relation between two results that come of one state is `Closed` where it bears what the
 -- forms do: end, change the state, reach a height, and go on from one result to the next. If the meanings of the parts are so related
 -- (`Related`), then so are an expression, a command, a turn of a loop and a call of them. `Limits`, `Fuel` and `Held` are its instances.
-use Prim.Native.Nat.{ℕ, suc, _+_, _≤_, _<_}
-use mathlib.Core.Path.{_≡_, refl}
-use mathlib.Core.Bool.{Bool, true, false, cond}
-use mathlib.Core.List.{List, [], _∷_, _++_}
-use mathlib.Core.Option.{Option, none, some}
-use native.Mathlib.Omega.{arith}
-use lib.Dec.{eqb, leb, ltb}
-use lib.ListN.{length, getD}
-use borrow.Author.Tests.{leb-true}
+use Rattle.laws.proofs.Basics.{ℕ, suc, _+_, _<_, _≤_, _≡_, refl, List, [], _∷_, _++_, Bool, true, false, cond, Option, some, none, length, getD, eqb}
+use Rattle.laws.proofs.Basics.{ltb, leb, arith, leb-true}
 use Rattle.words.specs.Words.{add}
 use Rattle.language.specs.Resolved as R
 use Rattle.language.specs.Resolved.{Expr, Exprs, Target, Pairs, Cmd, Cmds, Cases, Locals, Body, Fun}

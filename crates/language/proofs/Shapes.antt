@@ -1,8 +1,6 @@
 -- How the expression of a text groups, for the examples.
-use Prim.Native.Nat.{ℕ}
+use Rattle.laws.proofs.Basics.{ℕ, List, [], _∷_, take, drop}
 use Prim.Native.String.{String, _++_}
-use mathlib.Core.List.{List, [], _∷_}
-use lib.ListN.{take, drop}
 use Rattle.text.specs.Written.{bytes}
 use Rattle.language.specs.Kinds.{PLING}
 use Rattle.language.specs.Tree as T

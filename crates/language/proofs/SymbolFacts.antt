@@ -1,14 +1,8 @@
 -- What is known of a source's symbols: numbers are words, as are the places and widths of names, strings have their positions, and no more
 -- symbols are counted than were scanned.
-use Prim.Native.Nat.{ℕ, zero, suc, _+_, _-_, _≤_, _<_}
-use mathlib.Core.Path.{_≡_, refl, sym, ap, _∙_}
-use mathlib.Core.Bool.{Bool, true, false, cond}
-use mathlib.Core.List.{List, [], _∷_}
-use native.Mathlib.Omega.{arith}
-use lib.Dec.{eqb}
-use lib.ListN.{length, getD, take, drop}
-use lib.Seq.{drop-drop}
-use borrow.Author.Tests.{eqb-true, eqb-false, ne-eqb}
+use Rattle.laws.proofs.Basics.{ℕ, zero, suc, _+_, _-_, _<_, _≤_, _≡_, refl, sym, ap, _∙_, List, [], _∷_, Bool, true, false, cond, length, getD, take}
+use Rattle.laws.proofs.Basics.{drop, drop-drop, eqb, arith, eqb-true, eqb-false, ne-eqb}
+use Rattle.laws.proofs.Cases.{contradiction}
 use Rattle.text.specs.Quoted.{charactersOf, quoted}
 use Rattle.language.specs.Kinds.{member, NOTHING, NAME, NUMBER, STRING, SEMICOLON}
 use Rattle.language.specs.Bytes.{classOf}
@@ -19,8 +13,7 @@ use Rattle.language.specs.Whole.{stringsAmong}
 use Rattle.language.specs.Binding.{isRepeat}
 use Rattle.language.specs.Reader.{Source, symbolAt}
 use Rattle.language.proofs.Takes.{Counts}
-use Rattle.language.proofs.Elements.{KnownElement, a-symbol, known-element}
-use Rattle.language.proofs.Cases.{clash}
+use Rattle.language.proofs.Elements.{Closes, KnownElement, a-symbol, known-element}
 
 -- ---- the symbols
 
@@ -28,11 +21,11 @@ use Rattle.language.proofs.Cases.{clash}
 abbrev pub charactersAt : (text : List ℕ) (place : ℕ) → List ℕ
 charactersAt text place = charactersOf (quoted 34 255 0 (drop (suc place) text))
 
--- a number's value is a word, a name lies within the text, and a string is short
+-- a number's value is a word, a name lies within the text, and a string is closed
 pub record Worded (text : List ℕ) (x : Symbol) : Type 0 where
   pub number : x .kind ≡ NUMBER → x .value < 65536
   pub name : x .kind ≡ NAME → x .place + x .value ≤ length text
-  pub short : x .kind ≡ STRING → length (charactersAt text (x .place)) ≤ 255
+  pub closes : x .kind ≡ STRING → Closes (drop (suc (x .place)) text)
 
 unfoldable pub AllWords : (text : List ℕ) → List Symbol → Type 0
 AllWords text [] = Unit {0}
@@ -47,7 +40,7 @@ module _ (text : List ℕ) where
   unfolding AllWords
   on-element place bs (symbol kind value width) more q l (a-symbol k) h =
       let z = next-drop text place q in
-      (record { number = k .number; name = λ e. omega (arith, k .name e); short = λ e. rw z at (k .short e) }, h (width - 1))
+      (record { number = k .number; name = λ e. omega (arith, k .name e); closes = λ e. rw z at (k .closes e) }, h (width - 1))
   on-element place bs (gap width) more q l k h = h (width - 1)
   on-element place bs (wrong number offset) more q l k h = tt
 
@@ -79,7 +72,7 @@ scan-length text = scanned-length 0 0 text
 
 -- a symbol of another kind
 other : {text : List ℕ} (x : Symbol) → (x .kind ≡ NUMBER → ⊥) × (x .kind ≡ NAME → ⊥) × (x .kind ≡ STRING → ⊥) → Worded text x
-other x h = record { number = λ e. absurd (h .0 e); name = λ e. absurd (h .1 e); short = λ e. absurd (h .2 e) }
+other x h = record { number = λ e. absurd (h .0 e); name = λ e. absurd (h .1 e); closes = λ e. absurd (h .2 e) }
 
 -- strings counted; each has a position below
 unfoldable pub countStrings : List Symbol → ℕ
@@ -137,7 +130,7 @@ unfolding AllWords Below countStrings cost stringsAmong
 with-number text n m x xs ys e l k =
     let z : x .kind ≡ STRING = eqb-true _ _ e in
     record {
-      words = λ f. (record { number = λ q. absurd (omega arith); name = λ q. absurd (omega arith); short = f .0 .short }, k .words (f .1));
+      words = λ f. (record { number = λ q. absurd (omega arith); name = λ q. absurd (omega arith); closes = f .0 .closes }, k .words (f .1));
       below = ((λ q. l), k .below);
       count = rw (k .count) refl;
       fewer = λ loops. rw (k .fewer loops) refl;
@@ -226,7 +219,7 @@ unfolding isRepeat member
 again-weight loops kind h = go (eqb kind SEMICOLON) refl
   where
     go : (b : Bool) → eqb kind SEMICOLON ≡ b → loops ≤ cond b 0 (cond (isRepeat kind) loops 1)
-    go true e = let q : kind ≡ SEMICOLON = eqb-true _ _ e in let z : false ≡ true = rw q at h in clash (cc)
+    go true e = let q : kind ≡ SEMICOLON = eqb-true _ _ e in let z : false ≡ true = rw q at h in contradiction cc
     go false e = rw h (omega arith)
 
 cost-one : (loops : ℕ) → 1 ≤ loops → (xs : List Symbol) (d : Symbol) (n : ℕ) → d .kind ≡ NOTHING → 1 ≤ getD xs n d .kind
@@ -239,7 +232,7 @@ cost-one loops l (x ∷ xs) d (suc n) e h f = omega (arith, cost-one loops l xs 
 cost-again : (loops : ℕ) (xs : List Symbol) (d : Symbol) (n : ℕ) → isRepeat (d .kind) ≡ false → isRepeat (getD xs n d .kind) ≡ true
     → cost loops (take n xs) + loops ≤ cost loops (take (suc n) xs)
 unfolding cost
-cost-again loops [] d n e h = let z : false ≡ true = sym e ∙ h in clash (cc)
+cost-again loops [] d n e h = let z : false ≡ true = sym e ∙ h in contradiction cc
 cost-again loops (x ∷ xs) d zero e h = omega (arith, again-weight loops (x .kind) h)
 cost-again loops (x ∷ xs) d (suc n) e h = omega (arith, cost-again loops xs d n e h)
 

@@ -1,9 +1,5 @@
 -- What a reader gives, and how many symbols it takes: rules for each way to put readers together, over one source.
-use Prim.Native.Nat.{ℕ, suc, _+_, _≤_, _<_}
-use mathlib.Core.Path.{_≡_, refl, sym, _∙_}
-use mathlib.Core.Bool.{Bool, true}
-use native.Mathlib.Omega.{arith}
-use borrow.Author.Tests.{eqb-true}
+use Rattle.laws.proofs.Basics.{ℕ, suc, _+_, _<_, _≤_, _≡_, refl, sym, _∙_, Bool, true, arith, eqb-true}
 use Rattle.language.specs.Kinds.{SEMICOLON, CLOSE, NAME, NUMBER, STRING}
 use Rattle.language.specs.Binding.{isRepeat}
 use Rattle.language.specs.Tree.{Name}

@@ -1,7 +1,5 @@
 -- Texts as they are written, for the examples: what the definitions give for a text in quotes.
-use Prim.Native.Nat.{ℕ, zero, suc}
-use mathlib.Core.Path.{_≡_, refl}
-use mathlib.Core.List.{List, [], _++_}
+use Rattle.laws.proofs.Basics.{ℕ, zero, suc, _≡_, refl, List, [], _++_}
 use Rattle.text.specs.Line.{lineOf, newlines}
 use Rattle.text.specs.Quoted as Q
 use Rattle.text.specs.Quoted.{quoted, byDigits, byNumber, escape}

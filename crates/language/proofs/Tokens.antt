@@ -1,16 +1,10 @@
 -- How many symbols a tree is written with at least, inserted semicolons apart.
-use Prim.Native.Nat.{ℕ, _+_, _≤_}
-use mathlib.Core.Path.{_≡_, refl}
-use mathlib.Core.Bool.{Bool, true, false, cond}
-use mathlib.Core.List.{List, [], _∷_}
-use native.Mathlib.Omega.{arith}
-use mathlib.Core.Option.{Option, none, some}
-use lib.ListN.{length}
+use Rattle.laws.proofs.Basics.{ℕ, _+_, _≤_, _≡_, refl, List, [], _∷_, Bool, true, false, cond, Option, some, none, length, arith}
+use Rattle.laws.proofs.Cases.{contradiction}
 use Rattle.language.specs.Tree as T
 use Rattle.language.specs.Fine.{EmptyAfterLabels}
 use Rattle.language.specs.Tree.{Constant, Label, Expression, Expressions, Suffixes, Operations, Command, Commands, Unlabelled, Repeats, Locals}
 use Rattle.language.specs.Tree.{Body, Function, Declaration, Program}
-use Rattle.language.proofs.Cases.{clash}
 
 unfoldable pub labelsTokens : List Label → ℕ
 labelsTokens [] = 0
@@ -50,7 +44,7 @@ not-begun (T.leave w place) e = cc
 not-begun (T.block ls cs) e = cc
 
 pub begun-not-empty : (u : Unlabelled) → begun u ≡ true → u ≡ T.empty → ⊥
-begun-not-empty u e z = let b : begun T.empty ≡ true = rw z at e in clash (cc)
+begun-not-empty u e z = let b : begun T.empty ≡ true = rw z at e in contradiction cc
 
 pub labels-tokens : (ls : List Label) → length ls ≤ labelsTokens ls
 unfolding labelsTokens
@@ -135,7 +129,7 @@ module _ (loops : ℕ) where
 
   pub begun-tokens : (u : Unlabelled) → begun u ≡ true → 1 ≤ unlabelledTokens u
   unfolding tokens
-  begun-tokens T.empty e = clash (cc)
+  begun-tokens T.empty e = contradiction cc
   begun-tokens (T.assignment l r) e = omega arith
   begun-tokens (T.callCommand x) e = some-tokens x
   begun-tokens (T.test x c d) e = omega arith

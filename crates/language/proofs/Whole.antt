@@ -1,8 +1,6 @@
 -- Whole texts as they are written, for the examples: their refusals and their source runs.
-use Prim.Native.Nat.{ℕ, _+_}
+use Rattle.laws.proofs.Basics.{ℕ, _+_, _≡_, refl, List, [], _∷_}
 use Prim.Native.String.{String}
-use mathlib.Core.Path.{_≡_, refl}
-use mathlib.Core.List.{List, [], _∷_}
 use Rattle.text.specs.Written.{bytes}
 use Rattle.language.specs.Tree.{placeOf}
 use Rattle.language.specs.Names.{sameBytes, lookup, inBlock}

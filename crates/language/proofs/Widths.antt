@@ -1,12 +1,6 @@
 -- A source is at least as long as its symbols: a REPEAT form three bytes, a string its characters and two, any other one.
-use Prim.Native.Nat.{ℕ, zero, suc, _+_, _-_, _≤_}
-use mathlib.Core.Path.{_≡_, refl}
-use mathlib.Core.Bool.{Bool, true, false, cond}
-use mathlib.Core.List.{List, [], _∷_}
-use native.Mathlib.Omega.{arith}
-use lib.Dec.{eqb}
-use lib.ListN.{length, drop}
-use borrow.Author.Tests.{eqb-true}
+use Rattle.laws.proofs.Basics.{ℕ, zero, suc, _+_, _-_, _≤_, _≡_, refl, List, [], _∷_, Bool, true, false, cond, length, drop, eqb, arith, eqb-true}
+use Rattle.laws.proofs.Cases.{contradiction}
 use Rattle.language.specs.Bytes.{classOf}
 use Rattle.language.specs.Kinds.{member, STRING, SEMICOLON}
 use Rattle.language.specs.Binding.{isRepeat}
@@ -14,7 +8,6 @@ use Rattle.language.specs.Symbols.{Symbol, Element, symbol, gap, wrong, 
 use Rattle.language.specs.Whole.{stringsAmong}
 use Rattle.language.proofs.Elements.{needs, KnownElement, a-symbol, known-element}
 use Rattle.language.proofs.SymbolFacts.{charactersAt, next-drop, cost, countStrings}
-use Rattle.language.proofs.Cases.{clash}
 
 -- the bytes of strings, with their quotes
 unfoldable pub stringBytes : List (List ℕ) → ℕ
@@ -58,7 +51,7 @@ module _ (text : List ℕ) where
       go : (a b : Bool) → isRepeat (x .kind) ≡ b → (c : Bool) → eqb (x .kind) STRING ≡ c → cost 3 xs + countStrings xs ≤ covers xs
           → (cond a 0 (cond b 3 1) + cost 3 xs) + cond c (suc (countStrings xs)) (countStrings xs) ≤ cond b 3
           (cond c (length (charactersAt text (x .place)) + 2) 1) + covers xs
-      go a true e true f l = let q : x .kind ≡ STRING = eqb-true _ _ f in let z : false ≡ true = rw q at e in clash (cc)
+      go a true e true f l = let q : x .kind ≡ STRING = eqb-true _ _ f in let z : false ≡ true = rw q at e in contradiction cc
       go true true e false f l = omega arith
       go true false e true f l = omega arith
       go true false e false f l = omega arith
@@ -78,7 +71,7 @@ module _ (text : List ℕ) where
       go : (b : Bool) → isRepeat (x .kind) ≡ b → (c : Bool) → eqb (x .kind) STRING ≡ c → stringBytes (stringsAmong text xs) ≤ covers xs
           → stringBytes (cond c (charactersAt text (x .place) ∷ stringsAmong text xs) (stringsAmong text xs)) ≤ cond b 3
           (cond c (length (charactersAt text (x .place)) + 2) 1) + covers xs
-      go true e true f l = let q : x .kind ≡ STRING = eqb-true _ _ f in let z : false ≡ true = rw q at e in clash (cc)
+      go true e true f l = let q : x .kind ≡ STRING = eqb-true _ _ f in let z : false ≡ true = rw q at e in contradiction cc
       go true e false f l = omega arith
       go false e true f l = omega arith
       go false e false f l = omega arith

@@ -1,17 +1,10 @@
 -- Runs by their budgets: a run of n + m instructions is the run of n, then of m where the first stopped for budget; output only grows,
 -- so that a smaller budget writes a beginning of what a larger one writes.
-use Prim.Native.Nat.{ℕ, zero, suc, _+_, _-_, _<_, _≤_}
-use mathlib.Core.Path.{_≡_, refl, sym, ap, _∙_}
-use mathlib.Core.Bool.{Bool, true, false, cond, _&&_}
-use mathlib.Core.List.{List}
-use native.Mathlib.Omega.{arith}
-use native.Mathlib.Nat.{le-trans, le-refl, lt-of-lt-of-le}
-use lib.Dec.{eqb, leb}
-use lib.ListN.{length, getD, length-set}
-use lib.Seq.{getD-set-other}
-use borrow.Author.Tests.{ne-eqb}
+use Rattle.laws.proofs.Basics.{ℕ, zero, suc, _+_, _-_, _<_, _≤_, _≡_, refl, ap, _∙_, List, Bool, true, false, _&&_, length, getD, length-set}
+use Rattle.laws.proofs.Basics.{getD-set-other, eqb, leb, le-refl, le-trans, lt-of-lt-of-le, arith, ne-eqb}
+use Rattle.laws.proofs.Cases.{by-cases}
 use Rattle.machine.specs.State.{State, at, startRegisters}
-use Rattle.machine.specs.Step.{StepResult, done, finished, stopped, step}
+use Rattle.machine.specs.Step.{StepResult}
 use Rattle.machine.specs.Run.{Outcome, after, onTurn, steps, resume, carriedOn, run}
 use Rattle.machine.proofs.Shape.{Shape, quiet, one-more, ends, halts, Quiet, OneMore, shape}
 
@@ -103,17 +96,14 @@ steps-grow input zero s = grows-not s
 steps-grow input (suc n) s = grows-turn s (shape input s) (λ t. steps input n t) (λ u. steps-grow input n u)
 
 grows-carried : (o : Outcome) (f : State → Outcome) → Grows (o .state) (f (o .state) .state) → Grows (o .state) (carriedOn o f .state)
-grows-carried o f h = go (eqb (o .stop) 31) refl
-  where
-    go : (b : Bool) → eqb (o .stop) 31 ≡ b → Grows (o .state) (carriedOn o f .state)
-    go true e = rw e h
-    go false e = rw e (grows-not (o .state))
+grows-carried o f h = by-cases (eqb (o .stop) 31) (λ e. rw e h) (λ e. rw e (grows-not (o .state)))
 
 -- a smaller budget writes a beginning of what a larger one writes
 pub budget-beginning : (input : List ℕ) {n n′ : ℕ} (s : State) → n ≤ n′ → Grows (steps input n s .state) (steps input n′ s .state)
 budget-beginning input {n} {n′} s h =
     let e : n′ ≡ n + (n′ - n) = omega arith in
-    rw (e, steps-add input n (n′ - n) s) (grows-carried (steps input n s) (λ t. steps input (n′ - n) t) (steps-grow input (n′ - n) (steps input n s .state)))
+    rw (e, steps-add input n (n′ - n) s) (grows-carried (steps input n s) (λ t. steps input (n′ - n) t)
+    (steps-grow input (n′ - n) (steps input n s .state)))
 
 -- ---- the same of `resume`, whose memory keeps its length
 
@@ -122,19 +112,11 @@ fits n = leb 512 n && leb n 32768
 
 pub resume-add : (input : List ℕ) (n m : ℕ) (s : State) → resume input (n + m) s ≡ carriedOn (resume input n s) (λ t. resume input m t)
 unfolding resume
-resume-add input n m s = go (fits (length (s .mem))) refl
-  where
-    go : (b : Bool) → fits (length (s .mem)) ≡ b → resume input (n + m) s ≡ carriedOn (resume input n s) (λ t. resume input m t)
-    go true e = simp (e, steps-grow input n s .memory) (steps-add input n m s)
-    go false e = simp e
+resume-add input n m s = by-cases (fits (length (s .mem))) (λ e. simp (e, steps-grow input n s .memory) (steps-add input n m s)) (λ e. simp e)
 
 pub resume-grows : (input : List ℕ) (n : ℕ) (s : State) → Grows s (resume input n s .state)
 unfolding resume
-resume-grows input n s = go (fits (length (s .mem))) refl
-  where
-    go : (b : Bool) → fits (length (s .mem)) ≡ b → Grows s (resume input n s .state)
-    go true e = rw e (steps-grow input n s)
-    go false e = rw e (grows-not s)
+resume-grows input n s = by-cases (fits (length (s .mem))) (λ e. rw e (steps-grow input n s)) (λ e. rw e (grows-not s))
 
 -- a run from the start writes no more bytes than the output has room for
 pub run-within : (first : ℕ) (memory input output : List ℕ) (n : ℕ) → run first memory input output n .state .regs .written ≤ length output

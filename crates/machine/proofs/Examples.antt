@@ -1,13 +1,9 @@
 -- Worked examples by computation: small images, each stop, and closed instances of the laws.
-use Prim.Native.Nat.{ℕ, _+_, _-_, _≤_}
-use mathlib.Core.Path.{_≡_, refl}
-use mathlib.Core.Bool.{Bool, true, false, cond}
-use mathlib.Core.List.{List, [], _∷_, _++_}
-use lib.Dec.{lit≤}
-use lib.ListN.{length, getD, take, drop, replicate}
+use Rattle.laws.proofs.Basics.{ℕ, _+_, _-_, _≡_, refl, List, [], _∷_, _++_, Bool, true, false, length, getD, replicate, lit≤}
+use Rattle.laws.proofs.Table.{Table, _gives_, Each}
 use Rattle.words.specs.Words.{value, wordOf, mul, quot, rem, below, shl, shr}
 use Rattle.machine.specs.Outcome.{read, write}
-use Rattle.machine.specs.State.{State, at, startRegisters}
+use Rattle.machine.specs.State.{at, startRegisters}
 use Rattle.machine.specs.Fetch.{fetch}
 use Rattle.machine.specs.Acts.{indirected, returned, combined, search, switched, received, sent}
 use Rattle.machine.specs.Step.{keep, stored, called, jumped, perform, execute, step}
@@ -40,72 +36,49 @@ choice n = image (n ∷ 57367 ∷ 2 ∷ 40 ∷ 1 ∷ 20 ∷ 2 ∷ 30 ∷ [])
 ran : ℕ → List ℕ → Outcome
 ran budget m = run 100 m [] (7 ∷ []) budget
 
+-- by a budget and an image: the stop and the count
+abbrev end-table : Table (ℕ × List ℕ) (ℕ × ℕ)
+end-table =
+    -- finished: six instructions; two hundred turns
+    (100, letter) gives (30, 6) ∷
+    (1000, countdown) gives (30, 402) ∷
+    -- 31: the budget is over; the jump at 3 is not done
+    (3, countdown) gives (31, 3) ∷
+    -- 32: L600 I, an operand past the memory; C past the memory at the next fetch, the jump done and counted
+    (9, image (4608 ∷ 600 ∷ [])) gives (32, 0) ∷
+    (9, image (25088 ∷ 600 ∷ [])) gives (32, 1) ∷
+    -- 32: K411 stores at 511 and 512, so at neither
+    (9, image (49563 ∷ [])) gives (32, 0) ∷
+    -- 33: 0 / 0; 34: X20; 35: a second byte
+    (9, image (57350 ∷ [])) gives (33, 0) ∷
+    (9, image (57364 ∷ [])) gives (34, 0) ∷
+    (9, image (65 ∷ 57372 ∷ 57372 ∷ [])) gives (35, 2) ∷
+    -- 24: memory of 511 words; nothing changed
+    (9, replicate 511 0) gives (24, 0) ∷ []
+
+-- where C stands
+abbrev place-table : Table (ℕ × List ℕ) ℕ
+place-table =
+    -- past the X22 at 2; before the operand that is not there; a switch on 1, 2 and 3
+    (100, letter) gives 3 ∷ (9, image (4608 ∷ 600 ∷ [])) gives 0 ∷ (2, choice 1) gives 20 ∷ (2, choice 2) gives 30 ∷ (2, choice 3) gives 40 ∷ []
+
+-- the byte of output
+abbrev output-table : Table (ℕ × List ℕ) (List ℕ)
+output-table = (100, letter) gives (65 ∷ []) ∷ (9, image (65 ∷ 57372 ∷ 57372 ∷ [])) gives (65 ∷ []) ∷ []
+
 record Runs : Type 0 where
-  -- finished: six instructions, C past the X22 at 2, one byte written
-  stops : ran 100 letter .stop ≡ 30
-  counts : ran 100 letter .count ≡ 6
-  at-finish : ran 100 letter .state .regs .c ≡ 3
-  writes : ran 100 letter .state .out ≡ 65 ∷ []
+  ends : Each (λ g. (ran (g .0) (g .1) .stop, ran (g .0) (g .1) .count)) end-table
+  places : Each (λ g. ran (g .0) (g .1) .state .regs .c) place-table
+  writes : Each (λ g. ran (g .0) (g .1) .state .out) output-table
   written : ran 100 letter .state .regs .written ≡ 1
-  loops : ran 1000 countdown .count ≡ 402
-  -- 31: the budget is over; the jump at 3 is not done
-  budget : ran 3 countdown .stop ≡ 31
-  budget-count : ran 3 countdown .count ≡ 3
-  -- 32: L600 I, an operand past the memory; C stands before it
-  operand-past : ran 9 (image (4608 ∷ 600 ∷ [])) .stop ≡ 32
-  operand-undone : ran 9 (image (4608 ∷ 600 ∷ [])) .state .regs .c ≡ 0
-  -- 32: C past the memory at the next fetch; the jump was done and counted
-  jump-past : ran 9 (image (25088 ∷ 600 ∷ [])) .count ≡ 1
-  jump-past-stop : ran 9 (image (25088 ∷ 600 ∷ [])) .stop ≡ 32
-  -- 33: 0 / 0
-  zero-divisor : ran 9 (image (57350 ∷ [])) .stop ≡ 33
-  -- 34: X20
-  unlisted : ran 9 (image (57364 ∷ [])) .stop ≡ 34
-  -- 35: a second byte
-  output-full : ran 9 (image (65 ∷ 57372 ∷ 57372 ∷ [])) .stop ≡ 35
-  output-full-kept : ran 9 (image (65 ∷ 57372 ∷ 57372 ∷ [])) .state .out ≡ 65 ∷ []
-  -- 32: K411 stores at 511 and 512, so at neither
-  half-call : ran 9 (image (49563 ∷ [])) .stop ≡ 32
   half-call-kept : getD (ran 9 (image (49563 ∷ [])) .state .mem) 511 9 ≡ 0
-  -- a switch on 1, 2 and 3
-  switch-one : ran 2 (choice 1) .state .regs .c ≡ 20
-  switch-two : ran 2 (choice 2) .state .regs .c ≡ 30
-  switch-none : ran 2 (choice 3) .state .regs .c ≡ 40
   -- the end of the input is -1
   end-of-input : ran 1 (image (57371 ∷ [])) .state .regs .a ≡ 65535
-  -- 24: memory of 511 words; nothing changed
-  short-memory : ran 9 (replicate 511 0) .stop ≡ 24
-  short-memory-count : ran 9 (replicate 511 0) .count ≡ 0
 
 runs : Runs
-unfolding image letter countdown choice ran value wordOf mul quot rem below shl shr read write fetch indirected returned combined search switched received sent keep stored called jumped perform execute step steps resume
-runs =
-    record {
-      stops = refl;
-      counts = refl;
-      at-finish = refl;
-      writes = refl;
-      written = refl;
-      loops = refl;
-      budget = refl;
-      budget-count = refl;
-      operand-past = refl;
-      operand-undone = refl;
-      jump-past = refl;
-      jump-past-stop = refl;
-      zero-divisor = refl;
-      unlisted = refl;
-      output-full = refl;
-      output-full-kept = refl;
-      half-call = refl;
-      half-call-kept = refl;
-      switch-one = refl;
-      switch-two = refl;
-      switch-none = refl;
-      end-of-input = refl;
-      short-memory = refl;
-      short-memory-count = refl;
-    }
+unfolding image letter countdown choice ran value wordOf mul quot rem below shl shr read write fetch indirected returned combined search switched
+    received sent keep stored called jumped perform execute step steps resume
+runs = record { ends = refl; places = refl; writes = refl; written = refl; half-call-kept = refl; end-of-input = refl }
 
 -- ---- the last store (document 02, Req 07)
 
@@ -120,44 +93,32 @@ said o = (o .state .regs .stored, o .state .regs .from, o .state .regs .words)
 nothing : Bool × ℕ × ℕ
 nothing = (false, 0, 0)
 
-record Stores : Type 0 where
-  -- at the start, after the L, after the S, and after the next L
-  at-start : said (ran 0 storing) ≡ nothing
-  after-load : said (ran 1 storing) ≡ nothing
-  after-store : said (ran 2 storing) ≡ (true, 300, 1)
-  after-other : said (ran 3 storing) ≡ nothing
-  -- K2, P being 100
-  after-call : said (ran 2 letter) ≡ (true, 102, 2)
-  -- S300 and X22: the finish is done, and stores nothing
-  after-finish : said (ran 9 (image (8492 ∷ 57366 ∷ []))) ≡ nothing
-  -- S300, and an instruction that is not done: X20, X6 by zero, a second S past the memory, half a K
-  act-undone : said (ran 9 (image (8492 ∷ 57364 ∷ []))) ≡ (true, 300, 1)
-  quotient-undone : said (ran 9 (image (8492 ∷ 57350 ∷ []))) ≡ (true, 300, 1)
-  store-undone : said (ran 9 (image (8492 ∷ 8704 ∷ 600 ∷ []))) ≡ (true, 300, 1)
-  call-undone : said (ran 9 (image (8492 ∷ 49563 ∷ []))) ≡ (true, 300, 1)
+abbrev store-table : Table (ℕ × List ℕ) (Bool × ℕ × ℕ)
+store-table =
+    -- at the start, after the L, after the S, and after the next L
+    (0, storing) gives nothing ∷ (1, storing) gives nothing ∷ (2, storing) gives (true, 300, 1) ∷ (3, storing) gives nothing ∷
+    -- K2, P being 100
+    (2, letter) gives (true, 102, 2) ∷
+    -- S300 and X22: the finish is done, and stores nothing
+    (9, image (8492 ∷ 57366 ∷ [])) gives nothing ∷
+    -- S300, and an instruction that is not done: X20, X6 by zero, a second S past the memory, half a K
+    (9, image (8492 ∷ 57364 ∷ [])) gives (true, 300, 1) ∷
+    (9, image (8492 ∷ 57350 ∷ [])) gives (true, 300, 1) ∷
+    (9, image (8492 ∷ 8704 ∷ 600 ∷ [])) gives (true, 300, 1) ∷
+    (9, image (8492 ∷ 49563 ∷ [])) gives (true, 300, 1) ∷ []
 
-stores : Stores
-unfolding image letter storing ran said nothing value wordOf mul quot rem below shl shr read write fetch indirected returned combined search switched received sent keep stored called jumped perform execute step steps resume
-stores =
-    record {
-      at-start = refl;
-      after-load = refl;
-      after-store = refl;
-      after-other = refl;
-      after-call = refl;
-      after-finish = refl;
-      act-undone = refl;
-      quotient-undone = refl;
-      store-undone = refl;
-      call-undone = refl;
-    }
+stores : Each (λ g. said (ran (g .0) (g .1))) store-table
+unfolding image letter storing ran said nothing value wordOf mul quot rem below shl shr read write fetch indirected returned combined search switched
+    received sent keep stored called jumped perform execute step steps resume
+stores = refl
 
 -- a closed instance of the law of Unchanged: the letter's run, and the same run without the last store, which finishes too
 unchanged : bareOutcome (run 100 letter [] (7 ∷ []) 100) ≡ W.run 100 letter [] (7 ∷ []) 100
 unchanged = run-unchanged 100 letter [] (7 ∷ []) 100
 
 unchanged-count : W.run 100 letter [] (7 ∷ []) 100 .count ≡ 6
-unfolding letter value wordOf mul quot rem below shl shr read write search W.fetch W.indirected W.returned W.combined W.switched W.received W.sent W.keep W.stored W.called W.jumped W.perform W.execute W.step W.steps W.resume
+unfolding letter value wordOf mul quot rem below shl shr read write search W.fetch W.indirected W.returned W.combined W.switched W.received W.sent
+    W.keep W.stored W.called W.jumped W.perform W.execute W.step W.steps W.resume
 unchanged-count = refl
 
 -- ---- parts and places (document 02, Req 08)
@@ -172,39 +133,21 @@ from-places : (taken written budget : ℕ) → Outcome
 from-places taken written budget = resume (10 ∷ 11 ∷ []) budget (at (placed taken written) (image (65 ∷ 57371 ∷ 57372 ∷ [])) (7 ∷ []))
 
 record Places : Type 0 where
-  -- an input place past the end reads -1, and stays
-  reads-end : from-places 9 0 2 .state .regs .a ≡ 65535
+  -- an input place past the end reads -1, the largest place too, and stays
+  reads-end : Each (λ taken. from-places taken 0 2 .state .regs .a) (9 gives 65535 ∷ largest gives 65535 ∷ [])
   takes-none : from-places 9 0 2 .state .regs .taken ≡ 9
-  -- so does the largest place
-  reads-end-largest : from-places largest 0 2 .state .regs .a ≡ 65535
-  -- an output place past the room stops 35 at the next write: the two instructions before it are done
-  stops-full : from-places 0 9 9 .stop ≡ 35
-  done-before : from-places 0 9 9 .count ≡ 2
-  place-kept : from-places 0 9 9 .state .regs .written ≡ 9
+  -- an output place past the room stops 35 at the next write: the two instructions before it are done, place and room are kept
+  stops-full : from-places 0 9 9 .stop ∷ from-places 0 9 9 .count ∷ from-places 0 9 9 .state .regs .written ∷ [] ≡ 35 ∷ 2 ∷ 9 ∷ []
   room-kept : from-places 0 9 9 .state .out ≡ 7 ∷ []
   -- two parts of the letter's run: two instructions, then four of 98 allowed; the whole run's six
-  first-part : ran 2 letter .count ≡ 2
-  second-part : resume [] 98 (ran 2 letter .state) .count ≡ 4
-  whole-run : ran 100 letter .count ≡ 6
+  counts : ran 2 letter .count ∷ resume [] 98 (ran 2 letter .state) .count ∷ ran 100 letter .count ∷ [] ≡ 2 ∷ 4 ∷ 6 ∷ []
   -- a further budget is cut at the largest budget number
   cut : allowed (largest - 3) 5 ≡ 3
 
 places : Places
-unfolding image letter ran placed from-places value wordOf mul quot rem below shl shr read write fetch indirected returned combined search switched received sent keep stored called jumped perform execute step steps resume
-places =
-    record {
-      reads-end = refl;
-      takes-none = refl;
-      reads-end-largest = refl;
-      stops-full = refl;
-      done-before = refl;
-      place-kept = refl;
-      room-kept = refl;
-      first-part = refl;
-      second-part = refl;
-      whole-run = refl;
-      cut = refl;
-    }
+unfolding image letter ran placed from-places value wordOf mul quot rem below shl shr read write fetch indirected returned combined search switched
+    received sent keep stored called jumped perform execute step steps resume
+places = record { reads-end = refl; takes-none = refl; stops-full = refl; room-kept = refl; counts = refl; cut = refl }
 
 -- closed instances of the laws of Parts: the letter's run in two parts, and in three
 halves : TwoParts (ran (2 + 98) letter) (ran 2 letter) (resume [] 98 (ran 2 letter .state))

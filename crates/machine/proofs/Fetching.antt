@@ -1,16 +1,10 @@
 -- The fetch by its parts, and the forms of a word that `fetch` tells at once: what the functions' answers cite.
-use Prim.Native.Nat.{ℕ, _+_, _/_, _%_, _<_}
-use mathlib.Core.Path.{_≡_, refl, sym, ap, _∙_}
-use mathlib.Core.Bool.{Bool, true, false, cond}
-use mathlib.Core.List.{List}
+use Rattle.laws.proofs.Basics.{ℕ, _/_, _%_, _<_, _≡_, List, cond, arith, eq-eqb, ne-eqb}
 use mathlib.Core.Logic.{_≢_}
-use native.Mathlib.Omega.{arith}
-use lib.Dec.{eqb}
-use borrow.Author.Tests.{eq-eqb, ne-eqb}
 use Rattle.words.specs.Words.{add}
-use Rattle.machine.specs.Outcome.{Out, ok, stop, _>>=_, read}
+use Rattle.machine.specs.Outcome.{ok, _>>=_, read}
 use Rattle.machine.specs.State.{withC}
-use Rattle.machine.specs.Fetch.{Fetch, fetch, bit}
+use Rattle.machine.specs.Fetch.{fetch, bit}
 use Rattle.machine.specs.Forms.{fetchedAt, fetchedFrom, decoded}
 use Rattle.machine.specs.Answers.{asWord, asFetched}
 use Rattle.machine.specs.declared.Registers.{Registers}
@@ -51,11 +45,13 @@ module _ (r : Registers) (m : List ℕ) (w : ℕ) where
     unfolding decoded asFetched
     decode-past q = simp (eq-eqb _ _ h, ← hi, is-stop _ pa q)
 
-    pub decode-long : {n e : ℕ} {d : Fetched} → a ≡ W.Is n → e ≡ add (r .c) 2 → d ≡ asFetched r (fetchedFrom r m w n e) → d ≡ asFetched r (decoded r m w)
+    pub decode-long : {n e : ℕ} {d : Fetched} → a ≡ W.Is n → e ≡ add (r .c) 2 → d ≡ asFetched r (fetchedFrom r m w n e)
+        → d ≡ asFetched r (decoded r m w)
     unfolding decoded
     decode-long q he hd = simp (eq-eqb _ _ h, ← hi, is-ok _ pa q, ← he) hd
 
-  pub decode-short : {e : ℕ} {d : Fetched} → w / 512 % 2 ≢ 1 → e ≡ add (r .c) 1 → d ≡ asFetched r (fetchedFrom r m w (w % 512) e) → d ≡ asFetched r (decoded r m w)
+  pub decode-short : {e : ℕ} {d : Fetched} → w / 512 % 2 ≢ 1 → e ≡ add (r .c) 1 → d ≡ asFetched r (fetchedFrom r m w (w % 512) e)
+      → d ≡ asFetched r (decoded r m w)
   unfolding decoded
   decode-short h he hd = simp (ne-eqb _ _ h, ← he) hd
 
@@ -69,11 +65,14 @@ sum-one n p = omega arith
 
 module _ (r : Registers) (m : List ℕ) (w : ℕ) where
   module _ (h512 : w / 512 % 2 ≢ 1) (h1024 : w / 1024 % 2 ≢ 1) where
-    decoded-plain : (f : ℕ) → w / 8192 ≡ f → w / 2048 % 2 ≢ 1 → w / 4096 % 2 ≢ 1 → decoded r m w ≡ ok (record { function = f; operand = w % 512; past = add (r .c) 1 })
+    decoded-plain : (f : ℕ) → w / 8192 ≡ f → w / 2048 % 2 ≢ 1 → w / 4096 % 2 ≢ 1
+        → decoded r m w ≡ ok (record { function = f; operand = w % 512; past = add (r .c) 1 })
     unfolding decoded fetchedFrom
-    decoded-plain f hf h2048 h4096 = simp (ne-eqb _ _ h512, ne-eqb _ _ h1024, ne-eqb _ _ h2048, ne-eqb _ _ h4096, sum-none (w % 512) (omega arith), hf)
+    decoded-plain f hf h2048 h4096 =
+        simp (ne-eqb _ _ h512, ne-eqb _ _ h1024, ne-eqb _ _ h2048, ne-eqb _ _ h4096, sum-none (w % 512) (omega arith), hf)
 
-    decoded-p : (f : ℕ) → w / 8192 ≡ f → w / 2048 % 2 ≡ 1 → w / 4096 % 2 ≢ 1 → decoded r m w ≡ ok (record { function = f; operand = add (w % 512) (r .p); past = add (r .c) 1 })
+    decoded-p : (f : ℕ) → w / 8192 ≡ f → w / 2048 % 2 ≡ 1 → w / 4096 % 2 ≢ 1
+        → decoded r m w ≡ ok (record { function = f; operand = add (w % 512) (r .p); past = add (r .c) 1 })
     unfolding decoded fetchedFrom
     decoded-p f hf h2048 h4096 = simp (ne-eqb _ _ h512, ne-eqb _ _ h1024, eq-eqb _ _ h2048, ne-eqb _ _ h4096, sum-one (w % 512) (r .p), hf)
 
@@ -97,7 +96,8 @@ module _ (r : Registers) (m : List ℕ) {a : Word} (pa : a ≡ asWord (read m (r
     fetch-any e = rw fetch-is e
 
     module _ {e : ℕ} (he : e ≡ add (r .c) 1) where
-      plain : (f : ℕ) {t : Registers} → w / 8192 ≡ f → w / 2048 % 2 ≢ 1 → w / 4096 % 2 ≢ 1 → w / 512 % 2 ≢ 1 → w / 1024 % 2 ≢ 1 → t ≡ withC e r → F.One f (w % 512) t ≡ asFetched r (fetch r m)
+      plain : (f : ℕ) {t : Registers} → w / 8192 ≡ f → w / 2048 % 2 ≢ 1 → w / 4096 % 2 ≢ 1 → w / 512 % 2 ≢ 1 → w / 1024 % 2 ≢ 1 → t ≡ withC e r
+          → F.One f (w % 512) t ≡ asFetched r (fetch r m)
       unfolding asFetched
       plain f hf h2 h4 h5 h1 ht = simp (fetch-is, decoded-plain r m w h5 h1 f hf h2 h4, ← he, ht)
 
@@ -112,8 +112,20 @@ module _ (r : Registers) (m : List ℕ) {a : Word} (pa : a ≡ asWord (read m (r
       -- SP n
       pub fetch-sp : {x : ℕ} {t : Registers} → w / 512 ≡ 20 → x ≡ add (w % 512) (r .p) → t ≡ withC e r → F.One 1 x t ≡ asFetched r (fetch r m)
       unfolding asFetched
-      fetch-sp k hx ht = simp (fetch-is, decoded-p r m w (omega (arith, k)) (omega (arith, k)) 1 (omega (arith, k)) (omega (arith, k)) (omega (arith, k)), ← hx, ← he, ht)
+      fetch-sp k hx ht = simp (
+        fetch-is,
+        decoded-p r m w (omega (arith, k)) (omega (arith, k)) 1 (omega (arith, k)) (omega (arith, k)) (omega (arith, k)),
+        ← hx,
+        ← he,
+        ht,
+      )
 
       -- LIP n
-      pub fetch-lip : {x : ℕ} {d : Fetched} → w / 512 ≡ 12 → x ≡ add (w % 512) (r .p) → d ≡ asFetched r (fetchedAt m 0 x e) → d ≡ asFetched r (fetch r m)
-      fetch-lip k hx hd = simp (fetch-is, decoded-ip r m w (omega (arith, k)) (omega (arith, k)) 0 (omega (arith, k)) (omega (arith, k)) (omega (arith, k)), ← hx, ← he) hd
+      pub fetch-lip : {x : ℕ} {d : Fetched} → w / 512 ≡ 12 → x ≡ add (w % 512) (r .p) → d ≡ asFetched r (fetchedAt m 0 x e)
+          → d ≡ asFetched r (fetch r m)
+      fetch-lip k hx hd = simp (
+        fetch-is,
+        decoded-ip r m w (omega (arith, k)) (omega (arith, k)) 0 (omega (arith, k)) (omega (arith, k)) (omega (arith, k)),
+        ← hx,
+        ← he,
+      ) hd

@@ -1,12 +1,8 @@
 -- What the functions' answers cite: from an enum's answer back to the outcome that it stands for, and each act's
 -- outcome from those of its parts.
-use Prim.Native.Nat.{ℕ, zero, suc, _+_, _-_, _/_, _%_, _<_, _≤_}
-use mathlib.Core.Path.{_≡_, refl, sym, ap, _∙_}
-use mathlib.Core.Bool.{Bool, true, false, cond}
-use mathlib.Core.List.{List}
-use native.Mathlib.Omega.{arith}
-use lib.ListN.{length, getD, set, length-set}
-use borrow.Author.Tests.{lt-ltb, le-ltb, eq-eqb, ne-eqb}
+use Rattle.laws.proofs.Basics.{ℕ, zero, suc, _-_, _%_, _<_, _≤_, _≡_, refl, ap, _∙_, List, Bool, true, false, length, getD, set, length-set, arith}
+use Rattle.laws.proofs.Basics.{eq-eqb, ne-eqb, lt-ltb, le-ltb}
+use Rattle.laws.proofs.Cases.{contradiction}
 use Rattle.words.specs.Words.{add}
 use Rattle.machine.specs.Outcome.{Out, ok, stop, _>>=_, read, write}
 use Rattle.machine.specs.State.{State, at, withA, withC, framed, havingStored, took, wrote}
@@ -24,11 +20,11 @@ use Rattle.machine.specs.declared.StepResult.the-variants as T
 pub is-ok : (o : Out ℕ) {r : Word} {v : ℕ} → r ≡ asWord o → r ≡ W.Is v → o ≡ ok v
 unfolding asWord
 is-ok (ok a) p q = cc
-is-ok (stop k) p q = let z : _≡_ {A = ℕ} 0 1 = cc in absurd (omega arith)
+is-ok (stop k) p q = contradiction cc
 
 pub is-stop : (o : Out ℕ) {r : Word} {k : ℕ} → r ≡ asWord o → r ≡ W.Stopped k → o ≡ stop k
 unfolding asWord
-is-stop (ok a) p q = let z : _≡_ {A = ℕ} 0 1 = cc in absurd (omega arith)
+is-stop (ok a) p q = contradiction cc
 is-stop (stop k) p q = cc
 
 -- ---- reads and writes, within the memory and past it
@@ -62,7 +58,8 @@ pub turns : (s : State) (t : StepResult) {d : D.StepResult} {m o : List ℕ} →
 turns s t e f g =
     record { answers = e; stops = ap numberOf e; leaves = ap (registersOf (s .regs)) e ∙ left-registers s t; stores = f; writes = g }
 
-pub turned : {s : State} {o : Out State} {r : Registers} {m out : List ℕ} → o ≡ ok (at r m out) → {r′ : Registers} → r′ ≡ r → Steps s (turn o) (T.Done r′) m out
+pub turned : {s : State} {o : Out State} {r : Registers} {m out : List ℕ} → o ≡ ok (at r m out) → {r′ : Registers} → r′ ≡ r
+    → Steps s (turn o) (T.Done r′) m out
 unfolding asTurn left
 turned e q = turns _ _ (simp (e, q)) (simp e) (simp e)
 

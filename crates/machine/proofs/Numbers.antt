@@ -1,9 +1,7 @@
 -- The acts by their numbers, and the functions by theirs: what a `match` on a number answers.
-use Prim.Native.Nat.{ℕ}
-use mathlib.Core.Path.{_≡_, refl, sym, ap, subst, _∙_}
-use mathlib.Core.Bool.{Bool, true, false, cond}
-use mathlib.Core.List.{List, [], _∷_}
-use lib.Dec.{T as IsT, eqb}
+use Rattle.laws.proofs.Basics.{ℕ, _≡_, refl, sym, ap, subst, _∙_, List, [], _∷_, Bool, true, false, cond, eqb}
+use Rattle.laws.proofs.Cases.{by-cases}
+use lib.Dec.{T as IsT}
 use Rattle.words.specs.Answers.{divided}
 use Rattle.words.specs.declared.Divided.{Divided}
 use Rattle.words.specs.declared.Divided.the-variants.{Is, ByZero}
@@ -40,11 +38,7 @@ dyadic-act-is b a k e q = rw e (ap asWord q)
 
 quotient-word : (a v : ℕ) → asQuotient (divided a v) ≡ asWord (cond (eqb a 0) (stop 33) (ok v))
 unfolding asQuotient divided asWord
-quotient-word a v = go (eqb a 0) refl
-  where
-    go : (t : Bool) → eqb a 0 ≡ t → asQuotient (divided a v) ≡ asWord (cond (eqb a 0) (stop 33) (ok v))
-    go true e = simp e
-    go false e = simp e
+quotient-word a v = by-cases (eqb a 0) (λ e. simp e) (λ e. simp e)
 
 pub quotient-is : {d : Divided} {v : ℕ} → d ≡ Is v → W.Is v ≡ asQuotient d
 unfolding asQuotient

@@ -1,15 +1,10 @@
 -- A run in parts (document 02, Req 08): with budget n, then carried on with m from what is left, it is the run with n + m; so in any number of
 -- parts. What `carry_on` cites.
-use Prim.Native.Nat.{ℕ, zero, suc, _+_, _-_, _<_, _≤_}
-use mathlib.Core.Path.{_≡_, refl, sym, ap, _∙_}
-use mathlib.Core.Bool.{Bool, true, false, cond, _&&_}
-use mathlib.Core.List.{List, [], _∷_}
-use native.Mathlib.Omega.{arith}
-use lib.Dec.{eqb, leb}
+use Rattle.laws.proofs.Basics.{ℕ, zero, suc, _+_, _-_, _<_, _≤_, _≡_, refl, sym, ap, _∙_, List, [], _∷_, Bool, true, false, _&&_, cond, length, eqb}
+use Rattle.laws.proofs.Basics.{leb, arith, eq-eqb, ne-eqb, leb-true, le-leb, lt-leb}
+use Rattle.laws.proofs.Cases.{by-cases}
 use mir.Syntax.{w64}
 use mir.Val.{Fits}
-use lib.ListN.{length}
-use borrow.Author.Tests.{eq-eqb, ne-eqb, le-leb, lt-leb, leb-true}
 use Rattle.machine.specs.State.{State, at}
 use Rattle.machine.specs.Step.{StepResult, done, finished, stopped, step}
 use Rattle.machine.specs.Run.{Outcome, after, onTurn, steps, resume, carriedOn, largest, allowed}
@@ -83,11 +78,9 @@ steps-count input (suc n) s = counts-turn s (step input s) n (λ t. steps input 
 
 pub resume-count : (input : List ℕ) (n : ℕ) (s : State) → resume input n s .count ≤ n
 unfolding resume
-resume-count input n s = go (leb 512 (length (s .mem)) && leb (length (s .mem)) 32768) refl
-  where
-    go : (b : Bool) → leb 512 (length (s .mem)) && leb (length (s .mem)) 32768 ≡ b → resume input n s .count ≤ n
-    go true e = rw e (steps-count input n s)
-    go false e = rw e (omega arith)
+resume-count input n s =
+    by-cases (leb 512 (length (s .mem)) && leb (length (s .mem)) 32768) (λ e. rw e (steps-count input n s))
+    (λ e. rw e (omega arith))
 
 -- ---- `allowed`
 
@@ -98,11 +91,9 @@ pub allowed-left : (count m : ℕ) → largest - count < m → largest - count �
 allowed-left count m h = simp (lt-leb m (largest - count) h)
 
 allowed-fits : (count m : ℕ) → count ≤ largest → count + allowed count m ≤ largest
-allowed-fits count m l = go (leb m (largest - count)) refl
-  where
-    go : (b : Bool) → leb m (largest - count) ≡ b → count + allowed count m ≤ largest
-    go true e = let h = leb-true m (largest - count) e in rw e (omega arith)
-    go false e = rw e (omega arith)
+allowed-fits count m l =
+    by-cases (leb m (largest - count)) (λ e. let h = leb-true m (largest - count) e in rw e (omega arith))
+    (λ e. rw e (omega arith))
 
 -- ---- `carry_on`
 

@@ -1,23 +1,18 @@
 -- Runs by their room: with less room for output a run does the same until it stops 35, having written a beginning.
-use Prim.Native.Nat.{ℕ, zero, suc, _+_, _%_, _<_, _≤_}
-use mathlib.Core.Path.{_≡_, refl, sym, ap, _∙_}
-use mathlib.Core.Bool.{Bool, true, false, cond}
-use mathlib.Core.List.{List}
-use native.Mathlib.Omega.{arith}
+use Rattle.laws.proofs.Basics.{ℕ, zero, suc, _+_, _%_, _<_, _≤_, _≡_, refl, sym, _∙_, List, Bool, true, false, length, getD, set, length-set}
+use Rattle.laws.proofs.Basics.{getD-set-same, getD-set-other, ltb, lt-of-lt-of-le, arith, ltb-true, lt-ltb}
+use Rattle.laws.proofs.Cases.{by-cases}
 use native.Mathlib.Decide.{ℕ-discrete}
-use native.Mathlib.Nat.{le-refl, lt-of-lt-of-le, eq-or-lt-of-le, le-of-suc-le-suc}
-use lib.Dec.{ltb, eqb}
-use lib.ListN.{length, getD, set, length-set}
-use lib.Seq.{getD-set-same, getD-set-other}
-use borrow.Author.Tests.{ltb-true, lt-ltb}
 use Rattle.machine.specs.Outcome.{Out, ok, stop, _>>=_, write}
 use Rattle.machine.specs.State.{State, at, withC}
 use Rattle.machine.specs.Fetch.{Fetch, fetch}
 use Rattle.machine.specs.Acts.{Act, unlisted, indirect, negate, invert, back, finish, switch, rdch, wrch, dyadic, actOf, combined, sent}
-use Rattle.machine.specs.Step.{StepResult, done, finished, stopped, turn, keep, stored, called, perform, Function, L, S, A, J, T, F, K, X, functionOf, execute, onFetch, step}
+use Rattle.machine.specs.Step.{StepResult, done, finished, stopped, turn, keep, stored, called, perform, Function, L, S, A, J, T, F, K, X}
+use Rattle.machine.specs.Step.{functionOf, execute, onFetch, step}
 use Rattle.machine.specs.Run.{Outcome, after, onTurn, steps}
 use Rattle.machine.specs.declared.Registers.{Registers}
-use Rattle.machine.proofs.Shape.{Yields, gives, stops, yields-bind, Any, SameWritten, yields-indirected, yields-returned, yields-switched, yields-received, yields-jumped, Sound, sound-act}
+use Rattle.machine.proofs.Shape.{Yields, gives, stops, yields-bind, SameWritten, yields-indirected, yields-returned, yields-switched}
+use Rattle.machine.proofs.Shape.{yields-received, yields-jumped, Sound, sound-act}
 use Rattle.machine.proofs.Budget.{Grows, steps-grow}
 
 -- two outputs that agree on the bytes written, the second with at least as much room
@@ -42,7 +37,8 @@ module _ (r : Registers) {o o′ : List ℕ} (h : Roomier (r .written) o o′) w
   alike-keep m (stops {k = k} l) = both-stopped k
 
   -- a memory written, and other registers that leave the output's place
-  alike-memory : {r′ : Registers} → SameWritten r r′ → (p : Out (List ℕ)) → Alike (turn (p >>= λ m. ok (at r′ m o))) (turn (p >>= λ m. ok (at r′ m o′)))
+  alike-memory : {r′ : Registers} → SameWritten r r′ → (p : Out (List ℕ))
+      → Alike (turn (p >>= λ m. ok (at r′ m o))) (turn (p >>= λ m. ok (at r′ m o′)))
   alike-memory {r′} e (ok m) = both-done r′ m (moved e)
   alike-memory e (stop k) = both-stopped k
 
@@ -72,13 +68,10 @@ module _ (r : Registers) {o o′ : List ℕ} (h : Roomier (r .written) o o′) w
 
   alike-sent : (m : List ℕ) → Alike (turn (sent (at r m o))) (turn (sent (at r m o′)))
   unfolding sent
-  alike-sent m = go (ltb (r .written) (length o)) refl
-    where
-      go : (b : Bool) → ltb (r .written) (length o) ≡ b → Alike (turn (sent (at r m o))) (turn (sent (at r m o′)))
-      go true e =
-          let l = ltb-true _ _ e in
-          rw (e, lt-ltb (r .written) (length o′) (lt-of-lt-of-le l (h .room))) (both-done _ m (one-byte (r .a % 256) l))
-      go false e = rw e (full _)
+  alike-sent m =
+      by-cases (ltb (r .written) (length o))
+      (λ e. let l = ltb-true _ _ e in rw (e, lt-ltb (r .written) (length o′) (lt-of-lt-of-le l (h .room))) (both-done _ m (one-byte (r .a % 256) l)))
+      (λ e. rw e (full _))
 
   alike-perform : (input : List ℕ) (a : Act) (m : List ℕ) → Sound a → Alike (perform input a (at r m o)) (perform input a (at r m o′))
   unfolding perform combined
@@ -140,4 +133,5 @@ pub room-beginning : (input : List ℕ) (n : ℕ) (r : Registers) (m o o′ : Li
 unfolding steps
 room-beginning input zero r m o o′ h = whole 31 0 r m h
 room-beginning input (suc n) r m o o′ h =
-    turn-beginning r m h (λ t. steps input n t) (λ r₁ m₁ o₁ o₂ k. room-beginning input n r₁ m₁ o₁ o₂ k) (alike input r m h) (steps-grow input (suc n) (at r m o′))
+    turn-beginning r m h (λ t. steps input n t) (λ r₁ m₁ o₁ o₂ k. room-beginning input n r₁ m₁ o₁ o₂ k) (alike input r m h)
+    (steps-grow input (suc n) (at r m o′))

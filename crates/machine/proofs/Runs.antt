@@ -1,10 +1,6 @@
 -- One instruction, and a run of them: what `step`, `run_steps` and `resume` cite.
-use Prim.Native.Nat.{ℕ, zero, suc, _+_, _-_, _<_, _≤_}
-use mathlib.Core.Path.{_≡_, refl, sym, ap, _∙_}
-use mathlib.Core.List.{List}
-use native.Mathlib.Omega.{arith}
-use borrow.Author.Tests.{le-leb, lt-leb}
-use lib.ListN.{length}
+use Rattle.laws.proofs.Basics.{ℕ, zero, suc, _+_, _-_, _<_, _≤_, _≡_, refl, sym, ap, _∙_, List, length, arith, le-leb, lt-leb}
+use Rattle.laws.proofs.Cases.{contradiction}
 use Rattle.machine.specs.Outcome.{Out, ok, stop}
 use Rattle.machine.specs.State.{State, at, withC, startRegisters}
 use Rattle.machine.specs.Fetch.{Fetch, fetch}
@@ -33,15 +29,16 @@ fetched-one r (ok t) {f = f} {x = x} p q =
     let e : t .function ≡ f = cc in
     let g : t .operand ≡ x = cc in
     record { past = t .past; fetched = λ i. ok (record { function = e i; operand = g i; past = t .past }); moved = cc }
-fetched-one r (stop k) p q = let z : _≡_ {A = ℕ} 0 1 = cc in absurd (omega arith)
+fetched-one r (stop k) p q = contradiction cc
 
 fetched-stop : (r : Registers) (o : Out Fetch) {a : Fetched} {k : ℕ} → a ≡ asFetched r o → a ≡ F.Stopped k → o ≡ stop k
 unfolding asFetched
-fetched-stop r (ok t) p q = let z : _≡_ {A = ℕ} 0 1 = cc in absurd (omega arith)
+fetched-stop r (ok t) p q = contradiction cc
 fetched-stop r (stop k) p q = cc
 
 -- a turn said from a state with other registers
-from-other : (r r′ : Registers) (m out : List ℕ) (t : StepResult) {d : D.StepResult} {m′ o′ : List ℕ} → Steps (at r′ m out) t d m′ o′ → Steps (at r m out) t d m′ o′
+from-other : (r r′ : Registers) (m out : List ℕ) (t : StepResult) {d : D.StepResult} {m′ o′ : List ℕ} → Steps (at r′ m out) t d m′ o′
+    → Steps (at r m out) t d m′ o′
 unfolding left
 from-other r r′ m out (done t) h = turns _ _ (h .answers) (h .stores) (h .writes)
 from-other r r′ m out (finished t) h = turns _ _ (h .answers) (h .stores) (h .writes)
@@ -52,7 +49,8 @@ module _ (input : List ℕ) (r : Registers) (m out : List ℕ) {a : Fetched} (p 
   unfolding step asTurn left
   step-stop q = let e = fetched-stop r (fetch r m) p q in turns _ _ (simp e) (simp e) (simp e)
 
-  step-from : {f x c : ℕ} {r′ : Registers} {d : D.StepResult} {m′ o′ : List ℕ} → fetch r m ≡ ok (record { function = f; operand = x; past = c }) → r′ ≡ withC c r
+  step-from : {f x c : ℕ} {r′ : Registers} {d : D.StepResult} {m′ o′ : List ℕ} → fetch r m ≡ ok (record { function = f; operand = x; past = c })
+      → r′ ≡ withC c r
       → Steps (at r′ m out) (execute input (functionOf f) x (at r′ m out)) d m′ o′ → Steps (at r m out) (step input (at r m out)) d m′ o′
   unfolding step
   step-from {f} {x} {c} g e h =
@@ -65,21 +63,23 @@ module _ (input : List ℕ) (r : Registers) (m out : List ℕ) {a : Fetched} (p 
 
 -- ---- a turn's answer, matched
 
-turned-done : {s : State} (t : StepResult) {d : D.StepResult} {r : Registers} {m out : List ℕ} → Steps s t d m out → d ≡ T.Done r → t ≡ done (at r m out)
+turned-done : {s : State} (t : StepResult) {d : D.StepResult} {r : Registers} {m out : List ℕ} → Steps s t d m out → d ≡ T.Done r
+    → t ≡ done (at r m out)
 unfolding asTurn left
 turned-done (done t) {r = r} h q =
     let e : t .regs ≡ r = cc (h .answers) in
     λ i. done (record { regs = e i; mem = sym (h .stores) i; out = sym (h .writes) i })
-turned-done (finished t) h q = let z : _≡_ {A = ℕ} 0 1 = cc (h .answers) in absurd (omega arith)
-turned-done (stopped k) h q = let z : _≡_ {A = ℕ} 0 1 = cc (h .answers) in absurd (omega arith)
+turned-done (finished t) h q = contradiction cc (h .answers)
+turned-done (stopped k) h q = contradiction cc (h .answers)
 
-turned-finished : {s : State} (t : StepResult) {d : D.StepResult} {r : Registers} {m out : List ℕ} → Steps s t d m out → d ≡ T.Finished r → t ≡ finished (at r m out)
+turned-finished : {s : State} (t : StepResult) {d : D.StepResult} {r : Registers} {m out : List ℕ} → Steps s t d m out → d ≡ T.Finished r
+    → t ≡ finished (at r m out)
 unfolding asTurn left
 turned-finished (finished t) {r = r} h q =
     let e : t .regs ≡ r = cc (h .answers) in
     λ i. finished (record { regs = e i; mem = sym (h .stores) i; out = sym (h .writes) i })
-turned-finished (done t) h q = let z : _≡_ {A = ℕ} 0 1 = cc (h .answers) in absurd (omega arith)
-turned-finished (stopped k) h q = let z : _≡_ {A = ℕ} 0 1 = cc (h .answers) in absurd (omega arith)
+turned-finished (done t) h q = contradiction cc (h .answers)
+turned-finished (stopped k) h q = contradiction cc (h .answers)
 
 record Stuck (s : State) (t : StepResult) (k : ℕ) (m out : List ℕ) : Type 0 where
   stops : t ≡ stopped k
@@ -88,8 +88,8 @@ record Stuck (s : State) (t : StepResult) (k : ℕ) (m out : List ℕ) : Type 0 
 
 turned-stopped : {s : State} (t : StepResult) {d : D.StepResult} {k : ℕ} {m out : List ℕ} → Steps s t d m out → d ≡ T.Stopped k → Stuck s t k m out
 unfolding asTurn left
-turned-stopped (done t) h q = let z : _≡_ {A = ℕ} 0 1 = cc (h .answers) in absurd (omega arith)
-turned-stopped (finished t) h q = let z : _≡_ {A = ℕ} 0 1 = cc (h .answers) in absurd (omega arith)
+turned-stopped (done t) h q = contradiction cc (h .answers)
+turned-stopped (finished t) h q = contradiction cc (h .answers)
 turned-stopped (stopped k) h q = record { stops = cc (h .answers); stores = h .stores; writes = h .writes }
 
 -- ---- a run's first turn
@@ -122,8 +122,11 @@ module _ (input : List ℕ) (n : ℕ) (s₀ : State) (rest : ℕ) (r : Registers
       rw q (record { stops = refl; counts = omega arith; leaves = refl; stores = refl; writes = refl })
 
   module _ (pos : 0 < rest) {d : D.StepResult} {m′ out′ : List ℕ} (did : Steps (at r m out) (step input (at r m out)) d m′ out′) where
-    first : {t : StepResult} → step input (at r m out) ≡ t → steps input n s₀ ≡ after (n - rest) (onTurn (at r m out) t (λ u. steps input (rest - 1) u))
-    first e = h .whole ∙ ap (after (n - rest)) (steps-turn input rest (at r m out) pos ∙ ap (λ (t : StepResult). onTurn (at r m out) t (λ u. steps input (rest - 1) u)) e)
+    first : {t : StepResult} → step input (at r m out) ≡ t
+        → steps input n s₀ ≡ after (n - rest) (onTurn (at r m out) t (λ u. steps input (rest - 1) u))
+    first e =
+        h .whole ∙ ap (after (n - rest)) (steps-turn input rest (at r m out) pos ∙
+        ap (λ (t : StepResult). onTurn (at r m out) t (λ u. steps input (rest - 1) u)) e)
 
     pub left-run-steps : {t : Registers} → d ≡ T.Done t → Left input n s₀ (rest - 1) (at t m′ out′)
     left-run-steps q =
@@ -156,7 +159,8 @@ module _ (input : List ℕ) (n : ℕ) (r : Registers) (m out : List ℕ) where
   unfolding resume
   resume-long h k = refused (simp (le-leb 512 (length m) h, lt-leb (length m) 32768 k))
 
-  pub resume-goes : {e : Ran} {m′ out′ : List ℕ} → 512 ≤ length m → length m ≤ 32768 → Ends (steps input n (at r m out)) e m′ out′ → Ends (resume input n (at r m out)) e m′ out′
+  pub resume-goes : {e : Ran} {m′ out′ : List ℕ} → 512 ≤ length m → length m ≤ 32768 → Ends (steps input n (at r m out)) e m′ out′
+      → Ends (resume input n (at r m out)) e m′ out′
   unfolding resume
   resume-goes h k z = simp (le-leb 512 (length m) h, le-leb (length m) 32768 k) z
 

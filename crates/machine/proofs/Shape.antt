@@ -1,17 +1,14 @@
 -- What every instruction keeps to: the numbers that it stops with, the memory's length, and what it does to the output.
-use Prim.Native.Nat.{ℕ, zero, suc, _+_, _%_, _<_, _≤_}
-use mathlib.Core.Path.{_≡_, refl, ap, _∙_}
-use mathlib.Core.Bool.{Bool, true, false, cond}
-use mathlib.Core.List.{List, [], _∷_}
-use native.Mathlib.Omega.{arith}
-use lib.Dec.{ltb, eqb, lit<}
-use lib.ListN.{length, getD, set, length-set}
-use borrow.Author.Tests.{ltb-true}
+use Rattle.laws.proofs.Basics.{ℕ, zero, suc, _+_, _%_, _<_, _≡_, refl, _∙_, List, [], _∷_, Bool, true, false, cond, length, getD, set, length-set}
+use Rattle.laws.proofs.Basics.{eqb, ltb, lit<, ltb-true}
+use Rattle.laws.proofs.Cases.{by-cases}
 use Rattle.machine.specs.Outcome.{Out, ok, stop, _>>=_, read, write}
-use Rattle.machine.specs.State.{State, at, withA, withC}
+use Rattle.machine.specs.State.{State, at, withC}
 use Rattle.machine.specs.Fetch.{Fetch, fetch, bit}
-use Rattle.machine.specs.Acts.{Act, unlisted, indirect, negate, invert, back, finish, switch, rdch, wrch, dyadic, unlessZero, acts, actOf, indirected, returned, combined, search, switched, received, sent}
-use Rattle.machine.specs.Step.{StepResult, done, finished, stopped, turn, keep, stored, called, jumped, perform, Function, L, S, A, J, T, F, K, X, functionOf, execute, step, onFetch}
+use Rattle.machine.specs.Acts.{Act, unlisted, indirect, negate, invert, back, finish, switch, rdch, wrch, dyadic, unlessZero, acts, actOf}
+use Rattle.machine.specs.Acts.{indirected, returned, combined, search, switched, received, sent}
+use Rattle.machine.specs.Step.{StepResult, done, finished, stopped, turn, keep, stored, called, jumped, perform, Function, L, S, A, J, T, F, K}
+use Rattle.machine.specs.Step.{X, functionOf, execute, step, onFetch}
 use Rattle.machine.specs.declared.Registers.{Registers}
 
 -- ---- what a part gives satisfies P, or it stops with a number above 31, which is kept for the budget
@@ -20,7 +17,8 @@ pub data Yields {A : Type 0} (P : A → Type 0) : Out A → Type 0 where
   gives : {a : A} → P a → Yields P (ok a)
   stops : {k : ℕ} → 31 < k → Yields P (stop k)
 
-pub yields-bind : {A B : Type 0} {P : A → Type 0} {Q : B → Type 0} {o : Out A} {f : A → Out B} → Yields P o → ((a : A) → P a → Yields Q (f a)) → Yields Q (o >>= f)
+pub yields-bind : {A B : Type 0} {P : A → Type 0} {Q : B → Type 0} {o : Out A} {f : A → Out B} → Yields P o → ((a : A) → P a → Yields Q (f a))
+    → Yields Q (o >>= f)
 yields-bind (gives p) k = k _ p
 yields-bind (stops h) k = stops h
 
@@ -56,15 +54,12 @@ yields-search m a d (suc n) i = yields-bind (yields-read m i) (λ v _. yields-co
 pub yields-switched : (r : Registers) (m : List ℕ) → Yields (SameWritten r) (switched r m)
 unfolding switched
 yields-switched r m =
-    yields-bind (yields-read m _) (λ n _. yields-bind (yields-read m _) (λ d _. yields-bind (yields-search m (r .a) d n _) (λ c _. gives (record { same = refl }))))
+    yields-bind (yields-read m _) (λ n _. yields-bind (yields-read m _)
+    (λ d _. yields-bind (yields-search m (r .a) d n _) (λ c _. gives (record { same = refl }))))
 
 pub yields-received : (r : Registers) (input : List ℕ) → SameWritten r (received r input)
 unfolding received
-yields-received r input = go (ltb (r .taken) (length input)) refl
-  where
-    go : (b : Bool) → ltb (r .taken) (length input) ≡ b → SameWritten r (received r input)
-    go true e = rw e (record { same = refl })
-    go false e = rw e (record { same = refl })
+yields-received r input = by-cases (ltb (r .taken) (length input)) (λ e. rw e (record { same = refl })) (λ e. rw e (record { same = refl }))
 
 pub yields-jumped : (b : Bool) (x : ℕ) (r : Registers) → SameWritten r (jumped b x r)
 unfolding jumped
@@ -97,83 +92,18 @@ all-at P d p (x ∷ xs) h (suc n) = all-at P d p xs (h .1) n
 divides : (f : ℕ → ℕ → ℕ) (b a : ℕ) → Yields {A = ℕ} Any (unlessZero f b a)
 divides f b a = yields-cond (eqb a 0) (stops (lit< tt)) (gives tt)
 
+-- of the first, and of all others
+_&_ : {P Q : Type 0} → P → Q → P × Q
+p & q = (p, q)
+
+infixr 5 _&_
+any : (f : ℕ → ℕ → ℕ) (b a : ℕ) → Yields {A = ℕ} Any (ok (f b a))
+any f b a = gives tt
+
 sound-acts : All Sound acts
-sound-acts = (
-  tt,
-  (
-    tt,
-    (
-      tt,
-      (
-        tt,
-        (
-          tt,
-          (
-            λ b a. gives tt,
-            (
-              divides _,
-              (
-                divides _,
-                (
-                  λ b a. gives tt,
-                  (
-                    λ b a. gives tt,
-                    (
-                      λ b a. gives tt,
-                      (
-                        λ b a. gives tt,
-                        (
-                          λ b a. gives tt,
-                          (
-                            λ b a. gives tt,
-                            (
-                              λ b a. gives tt,
-                              (
-                                λ b a. gives tt,
-                                (
-                                  λ b a. gives tt,
-                                  (
-                                    λ b a. gives tt,
-                                    (
-                                      λ b a. gives tt,
-                                      (
-                                        λ b a. gives tt,
-                                        (
-                                          tt,
-                                          (
-                                            tt,
-                                            (
-                                              tt,
-                                              (
-                                                tt,
-                                                (
-                                                  tt,
-                                                  (tt, (tt, (tt, (tt, tt)))),
-                                                ),
-                                              ),
-                                            ),
-                                          ),
-                                        ),
-                                      ),
-                                    ),
-                                  ),
-                                ),
-                              ),
-                            ),
-                          ),
-                        ),
-                      ),
-                    ),
-                  ),
-                ),
-              ),
-            ),
-          ),
-        ),
-      ),
-    ),
-  ),
-)
+sound-acts =
+    tt & tt & tt & tt & tt & any _ & divides _ & divides _ & any _ & any _ & any _ & any _ & any _ & any _ & any _ & any _ & any _ & any _ & any _
+    & any _ & tt & tt & tt & tt & tt & tt & tt & tt & tt & tt
 
 pub sound-act : (n : ℕ) → Sound (actOf n)
 sound-act n = all-at Sound unlisted tt acts sound-acts n
@@ -230,11 +160,10 @@ shape-called x s =
 
 shape-sent : (s : State) → Shape s (turn (sent s))
 unfolding sent
-shape-sent s = go (ltb (s .regs .written) (length (s .out))) refl
-  where
-    go : (b : Bool) → ltb (s .regs .written) (length (s .out)) ≡ b → Shape s (turn (sent s))
-    go true e = rw e (one-more (record { memory = refl; byte = s .regs .a % 256; room = ltb-true _ _ e; output = refl; place = refl }))
-    go false e = rw e (halts (lit< tt))
+shape-sent s =
+    by-cases (ltb (s .regs .written) (length (s .out)))
+    (λ e. rw e (one-more (record { memory = refl; byte = s .regs .a % 256; room = ltb-true _ _ e; output = refl; place = refl })))
+    (λ e. rw e (halts (lit< tt)))
 
 shape-perform : (input : List ℕ) (a : Act) (s : State) → Sound a → Shape s (perform input a s)
 unfolding perform combined
@@ -275,7 +204,8 @@ from-fetched (ends q) = ends (record { memory = q .memory; output = q .output; p
 from-fetched (halts h) = halts h
 
 shape-fetched : (input : List ℕ) (s : State) (o : Out Fetch) → Yields Any o → Shape s (onFetch input s o)
-shape-fetched input s (ok f) y = from-fetched {c = f .past} (shape-execute input (functionOf (f .function)) (f .operand) (at (withC (f .past) (s .regs)) (s .mem) (s .out)))
+shape-fetched input s (ok f) y =
+    from-fetched {c = f .past} (shape-execute input (functionOf (f .function)) (f .operand) (at (withC (f .past) (s .regs)) (s .mem) (s .out)))
 shape-fetched input s (stop k) (stops h) = halts h
 
 pub shape : (input : List ℕ) (s : State) → Shape s (step input s)

@@ -1,16 +1,14 @@
 -- The last store changes nothing else (document 02, Req 07: "Word values, output and count are the same as without it"): taken off the
 -- registers, every instruction and every run is that of the machine without it, whatever the registers say of the last store.
-use Prim.Native.Nat.{ℕ, zero, suc, _+_}
-use mathlib.Core.Path.{_≡_, refl, ap, _∙_}
-use mathlib.Core.Bool.{Bool, true, false, not, cond, _&&_}
-use mathlib.Core.List.{List}
-use lib.Dec.{ltb, leb, eqb}
-use lib.ListN.{length}
+use Rattle.laws.proofs.Basics.{ℕ, zero, suc, _≡_, refl, ap, _∙_, List, Bool, true, false, _&&_, length, ltb, leb}
+use Rattle.laws.proofs.Cases.{by-cases}
 use Rattle.machine.specs.Outcome.{Out, ok, stop, _>>=_, read, write}
 use Rattle.machine.specs.State.{State, at}
 use Rattle.machine.specs.Fetch.{Fetch, fetch}
-use Rattle.machine.specs.Acts.{Act, unlisted, indirect, negate, invert, back, finish, switch, rdch, wrch, dyadic, actOf, indirected, returned, combined, search, switched, received, sent}
-use Rattle.machine.specs.Step.{StepResult, done, finished, stopped, turn, keep, stored, called, jumped, perform, Function, L, S, A, J, T, F, K, X, functionOf, execute, onFetch, step}
+use Rattle.machine.specs.Acts.{Act, unlisted, indirect, negate, invert, back, finish, switch, rdch, wrch, dyadic, actOf, indirected, returned}
+use Rattle.machine.specs.Acts.{combined, search, switched, received, sent}
+use Rattle.machine.specs.Step.{StepResult, done, finished, stopped, turn, keep, stored, called, jumped, perform, Function, L, S, A, J, T, F, K}
+use Rattle.machine.specs.Step.{X, functionOf, execute, onFetch, step}
 use Rattle.machine.specs.Run.{Outcome, onTurn, steps, resume, run}
 use Rattle.machine.specs.declared.Registers.{Registers}
 use Rattle.machine.proofs.Without as W
@@ -76,11 +74,7 @@ module _ (r : Registers) (m : List ℕ) where
   -- m is the input
   same-received : bare (received r m) ≡ W.received (bare r) m
   unfolding received W.received
-  same-received = go (ltb (r .taken) (length m)) refl
-    where
-      go : (b : Bool) → ltb (r .taken) (length m) ≡ b → bare (received r m) ≡ W.received (bare r) m
-      go true e = rw e refl
-      go false e = rw e refl
+  same-received = by-cases (ltb (r .taken) (length m)) (λ e. rw e refl) (λ e. rw e refl)
 
 same-jumped : (b : Bool) (x : ℕ) (r : Registers) → bare (jumped b x r) ≡ W.jumped b x (bare r)
 unfolding jumped W.jumped
@@ -89,11 +83,7 @@ same-jumped false x r = refl
 
 same-sent : (s : State) → map bareState (sent s) ≡ W.sent (bareState s)
 unfolding sent W.sent
-same-sent s = go (ltb (s .regs .written) (length (s .out))) refl
-  where
-    go : (b : Bool) → ltb (s .regs .written) (length (s .out)) ≡ b → map bareState (sent s) ≡ W.sent (bareState s)
-    go true e = rw e refl
-    go false e = rw e refl
+same-sent s = by-cases (ltb (s .regs .written) (length (s .out))) (λ e. rw e refl) (λ e. rw e refl)
 
 same-stored : (x : ℕ) (s : State) → map bareState (stored x s) ≡ W.stored x (bareState s)
 unfolding stored W.stored
@@ -154,11 +144,9 @@ steps-unchanged input (suc n) s =
 
 pub resume-unchanged : (input : List ℕ) (n : ℕ) (s : State) → bareOutcome (resume input n s) ≡ W.resume input n (bareState s)
 unfolding resume W.resume
-resume-unchanged input n s = go (leb 512 (length (s .mem)) && leb (length (s .mem)) 32768) refl
-  where
-    go : (b : Bool) → leb 512 (length (s .mem)) && leb (length (s .mem)) 32768 ≡ b → bareOutcome (resume input n s) ≡ W.resume input n (bareState s)
-    go true e = rw e (steps-unchanged input n s)
-    go false e = rw e refl
+resume-unchanged input n s =
+    by-cases (leb 512 (length (s .mem)) && leb (length (s .mem)) 32768) (λ e. rw e (steps-unchanged input n s))
+    (λ e. rw e refl)
 
 pub run-unchanged : (first : ℕ) (memory input output : List ℕ) (n : ℕ)
     → bareOutcome (run first memory input output n) ≡ W.run first memory input output n

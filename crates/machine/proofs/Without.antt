@@ -1,10 +1,6 @@
 -- The machine without the last store, as it was before document 02's Req 07: the definitions of `specs/` over registers that have no such
 -- fields. `Unchanged` proves that all else is the same with it.
-use Prim.Native.Nat.{ℕ, zero, suc, _+_, _/_, _%_}
-use mathlib.Core.Bool.{Bool, true, false, not, cond, _&&_}
-use mathlib.Core.List.{List}
-use lib.ListN.{length, getD, set}
-use lib.Dec.{ltb, leb, eqb}
+use Rattle.laws.proofs.Basics.{ℕ, zero, suc, _+_, _/_, _%_, List, Bool, true, false, not, _&&_, cond, length, getD, set, eqb, ltb, leb}
 use Rattle.words.specs.Words.{add, neg, complement}
 use Rattle.machine.specs.Outcome.{Out, ok, stop, _>>=_, read, write}
 use Rattle.machine.specs.Fetch.{Fetch, bit}

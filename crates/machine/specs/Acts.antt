@@ -1,10 +1,10 @@
 -- The numbered acts of X (document 01, "Machine"): the table of their numbers, and what each does.
 use Prim.Native.Nat.{ℕ, zero, suc, _%_}
-use mathlib.Core.Bool.{Bool, cond}
+use mathlib.Core.Bool.{cond}
 use mathlib.Core.List.{List, [], _∷_}
 use lib.ListN.{length, getD, set}
 use lib.Dec.{ltb, eqb}
-use Rattle.words.specs.Words.{add, sub, neg, complement, mul, quot, rem, eq, ne, lt, ge, gt, le, conj, disj, shl, shr}
+use Rattle.words.specs.Words.{add, sub, mul, quot, rem, eq, ne, lt, ge, gt, le, conj, disj, shl, shr}
 use Rattle.machine.specs.Outcome.{Out, ok, stop, _>>=_, read}
 use Rattle.machine.specs.State.{State, at, withA, withC, framed, took, wrote}
 use Rattle.machine.specs.declared.Registers.{Registers}

@@ -1,6 +1,6 @@
 -- The fetch by its parts, as the code goes. Only private functions' contracts cite these.
 use Prim.Native.Nat.{ℕ, _/_, _%_}
-use mathlib.Core.Bool.{Bool, cond}
+use mathlib.Core.Bool.{cond}
 use mathlib.Core.List.{List}
 use Rattle.words.specs.Words.{add}
 use Rattle.machine.specs.Outcome.{Out, ok, _>>=_, read}

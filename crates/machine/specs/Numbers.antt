@@ -1,6 +1,6 @@
 -- The value of the acts 5 to 19, apart from the registers: what `value` in the code computes.
 use Prim.Native.Nat.{ℕ}
-use Rattle.machine.specs.Outcome.{Out, ok, stop}
+use Rattle.machine.specs.Outcome.{Out, stop}
 use Rattle.machine.specs.Acts.{Act, unlisted, indirect, negate, invert, back, finish, switch, rdch, wrch, dyadic}
 
 -- 34 for any other act: the code asks only once the others are told apart

@@ -1,6 +1,6 @@
 -- One instruction (document 01, "Machine" and "Stops"). Checks: budget (in Run), fetch, operand, act.
 use Prim.Native.Nat.{ℕ}
-use mathlib.Core.Bool.{Bool, true, false, not, cond}
+use mathlib.Core.Bool.{Bool, true, false, not}
 use mathlib.Core.List.{List, [], _∷_}
 use lib.ListN.{getD}
 use lib.Dec.{eqb}

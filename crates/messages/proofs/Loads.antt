@@ -1,9 +1,5 @@
 -- The number of bytes read, once matched, is within the buffer: for the programs, which lend that part of it.
-use Prim.Native.Nat.{ℕ, _≤_}
-use mathlib.Core.Path.{_≡_, sym}
-use mathlib.Core.List.{List}
-use lib.ListN.{length, take}
-use lib.Seq.{length-take-le}
+use Rattle.laws.proofs.Basics.{ℕ, _≤_, _≡_, sym, List, length, take, length-take-le}
 use Rattle.messages.specs.Fits.{Fits}
 use Rattle.messages.specs.declared.given.Loaded.{Loaded}
 use Rattle.messages.specs.declared.given.Loaded.the-variants.{Is}

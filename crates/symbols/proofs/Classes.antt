@@ -1,9 +1,5 @@
 -- The table of classes: each byte's entry is its class, as a digit.
-use Prim.Native.Nat.{ℕ, _+_, _-_, _<_, _≤_}
-use mathlib.Core.Path.{_≡_, _∙_}
-use mathlib.Core.List.{List}
-use native.Mathlib.Omega.{arith}
-use lib.ListN.{getD}
+use Rattle.laws.proofs.Basics.{ℕ, _+_, _-_, _<_, _≤_, _≡_, _∙_, List, getD, arith}
 use Rattle.language.specs.Bytes.{classOf}
 use Rattle.symbols.specs.Parts.{Classes}
 use Rattle.symbols.proofs.Table.{tabulate, tabulate-at}

@@ -1,7 +1,5 @@
 -- Worked examples by computation: what small sources leave in scratch.
-use Prim.Native.Nat.{ℕ}
-use mathlib.Core.Path.{_≡_, refl}
-use mathlib.Core.List.{List, [], _∷_}
+use Rattle.laws.proofs.Basics.{ℕ, _≡_, refl, List, [], _∷_}
 use Rattle.language.specs.Source.{tooLong}
 use Rattle.language.proofs.Texts.{symbolsIn}
 use Rattle.symbols.specs.Read.{entries, Outcome, outcome, symbolsRead}

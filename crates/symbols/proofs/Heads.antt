@@ -1,16 +1,14 @@
 -- What stands at a place, by the class of the byte there; words and comments.
-use Prim.Native.Nat.{ℕ, _+_, _<_, _≤_}
-use mathlib.Core.Path.{_≡_, refl, sym, _∙_}
-use mathlib.Core.Bool.{Bool, true, false, _&&_}
-use mathlib.Core.List.{List, [], _∷_}
-use lib.Dec.{eqb, leb}
-use lib.ListN.{length, getD, take, drop}
-use borrow.Author.Tests.{eq-eqb, ne-eqb, eqb-true, eqb-false, le-leb, lt-leb}
+use Rattle.laws.proofs.Basics.{ℕ, _+_, _<_, _≤_, _≡_, refl, sym, _∙_, List, [], _∷_, Bool, true, false, _&&_, length, getD, take, drop, drop-drop}
+use Rattle.laws.proofs.Basics.{eqb, leb, eqb-true, eqb-false, eq-eqb, ne-eqb, le-leb, lt-leb}
+use Rattle.laws.proofs.Cases.{by-cases}
 use Rattle.text.proofs.Bytes.{at-byte, past-end, Unlike}
 use Rattle.language.specs.Bytes.{classOf}
 use Rattle.language.specs.Symbols.{wrong, begins, inWord, wordWidth, kindOf, word, toLineEnd, comment, sign, signOrComment, byClass}
 use Rattle.symbols.specs.Parts.{slashes}
 use Rattle.symbols.specs.Answers.{asElement}
+use Rattle.language.specs.Symbols as S
+use Rattle.symbols.specs.declared.elements.Element as E′
 use Rattle.symbols.specs.declared.elements.Element.the-variants as E
 
 -- ---- words
@@ -32,11 +30,7 @@ unfolding comment asElement
 a-comment bs e = rw e
 
 swapped : (a b : ℕ) → eqb a b ≡ eqb b a
-swapped a b = go (eqb a b) refl
-  where
-    go : (t : Bool) → eqb a b ≡ t → t ≡ eqb b a
-    go true e = sym (eq-eqb b a (sym (eqb-true a b e)))
-    go false e = sym (ne-eqb b a (λ k. eqb-false a b e (sym k)))
+swapped a b = by-cases (eqb a b) (λ e. rw e (sym (eq-eqb b a (sym (eqb-true a b e))))) (λ e. rw e (sym (ne-eqb b a (λ k. eqb-false a b e (sym k)))))
 
 alone : (t : Bool) → (t && true) ≡ t
 alone true = refl
@@ -57,6 +51,11 @@ module _ (text : List ℕ) (at : ℕ) (h : at < length text) where
     one-slash k =
         sym (at-byte slashes text at h e ∙ at-byte (λ (l : List ℕ). slashes (47 ∷ l)) text (at + 1) k refl
         ∙ alone (eqb 47 (getD text (at + 1) 0)) ∙ swapped 47 (getD text (at + 1) 0))
+
+-- what is read from the next byte on
+pub past-first : (f : List ℕ → S.Element) (text : List ℕ) (at : ℕ) {r : E′.Element} → r ≡ asElement (f (drop (at + 1) text))
+    → r ≡ asElement (f (drop 1 (drop at text)))
+past-first f text at e = rw (drop-drop 1 at text) e
 
 module _ (bs : List ℕ) where
   pub is-comment : slashes bs ≡ true → signOrComment bs ≡ comment bs

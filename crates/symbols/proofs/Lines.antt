@@ -1,29 +1,21 @@
 -- What stands at a place is at least a byte, ends within the text, and holds no newline, unless it is a gap of that one byte.
-use Prim.Native.Nat.{ℕ, zero, suc, _+_, _-_, _<_, _≤_}
-use mathlib.Core.Path.{_≡_, refl, sym, ap, _∙_}
-use mathlib.Core.Bool.{Bool, true, false, not, cond, _&&_}
-use mathlib.Core.List.{List, [], _∷_}
-use native.Mathlib.Omega.{arith}
-use lib.Dec.{T, T-not, eqb, leb, ltb}
-use lib.ListN.{length, take}
-use borrow.Author.Tests.{ne-eqb, eqb-true, leb-true, ltb-true, lt-ltb}
+use Rattle.laws.proofs.Basics.{ℕ, zero, suc, _+_, _-_, _<_, _≤_, _≡_, refl, sym, ap, _∙_, List, [], _∷_, Bool, true, false, not, _&&_, cond, length}
+use Rattle.laws.proofs.Basics.{take, eqb, ltb, leb, arith, eqb-true, ne-eqb, ltb-true, lt-ltb, leb-true}
+use Rattle.laws.proofs.Cases.{either, contradiction, both-true, both-left, both-right}
+use lib.Dec.{T, T-not}
 use Rattle.text.specs.Line.{newlines}
 use Rattle.text.specs.Quoted as Q
 use Rattle.text.specs.Quoted.{Quoted, closed, unclosed, faulty, quoted}
-use Rattle.text.proofs.Booleans.{both-true}
 use Rattle.text.proofs.Quotes.{Written, is-written, each-byte, digit-bounds, Closed, is-closed, fault-within}
 use Rattle.language.specs.Bytes.{between, classOf, LETTER, DIGIT, HASH, QUOTE, DOUBLE, SIGN, SEPARATOR, NEWLINE}
 use Rattle.language.specs.Kinds.{Spelled, reserved, signs}
-use Rattle.language.specs.Symbols.{Element, symbol, gap, wrong, begins, inWord, wordWidth, same, kindIn, kindOf, word, digitOf, digits, valueOf, decimal, octal, asCharacter, character, asString, string, signIn, sign, comment, signOrComment, byClass}
+use Rattle.language.specs.Symbols.{Element, symbol, gap, wrong, begins, inWord, wordWidth, same, kindIn, kindOf, word, digitOf, digits, valueOf}
+use Rattle.language.specs.Symbols.{decimal, octal, asCharacter, character, asString, string, signIn, sign, comment, signOrComment, byClass}
 use Rattle.symbols.proofs.Runs.{Run, word-run, digits-run, comment-run, run-within, run-line}
 use Rattle.symbols.proofs.Numbers.{from-digits}
 use Rattle.symbols.proofs.Table.{every}
 
 -- ---- characters between quotes
-
-either : {A : Type 0} (P : A → Type 0) (t : Bool) {a b : A} → (t ≡ true → P a) → (t ≡ false → P b) → P (cond t a b)
-either P true p q = p refl
-either P false p q = q refl
 
 abbrev CharacterLine : List ℕ → Q.Character → Type 0
 CharacterLine bs (Q.is v w) = newlines (take w bs) ≡ 0
@@ -53,7 +45,8 @@ escape-line : (bs : List ℕ) → OneLine (42 ∷ bs) (Q.escape bs)
 unfolding Q.escape newlines
 escape-line [] = record { line = tt }
 escape-line (c ∷ r) =
-    one 78 10 refl (one 83 32 refl (one 84 9 refl (one 66 8 refl (one 80 12 refl (one 67 13 refl (one 42 42 refl (one 39 39 refl (one 34 34 refl (number-line (c ∷ r))))))))))
+    one 78 10 refl (one 83 32 refl (one 84 9 refl (one 66 8 refl (one 80 12 refl
+    (one 67 13 refl (one 42 42 refl (one 39 39 refl (one 34 34 refl (number-line (c ∷ r))))))))))
   where
     one : (k v : ℕ) {other : Q.Character} → eqb k 10 ≡ false → OneLine (42 ∷ c ∷ r) other → OneLine (42 ∷ c ∷ r) (cond (eqb c k) (Q.is v 2) other)
     one k v n p = either (OneLine (42 ∷ c ∷ r)) (eqb c k) (λ e. record { line = rw (eqb-true c k e, n) }) (λ e. p)
@@ -120,14 +113,6 @@ Given bs lines (symbol k v w) = Stood bs 0 w × (k < 62) × (v ≤ 65535 + w)
 Given bs lines (gap w) = Stood bs lines w
 Given bs lines (wrong n k) = k < length bs
 
-both-left : (a b : Bool) → (a && b) ≡ true → a ≡ true
-both-left true b e = refl
-both-left false b e = e
-
-both-right : (a b : Bool) → (a && b) ≡ true → b ≡ true
-both-right true b e = e
-both-right false b e = let z : _≡_ {A = ℕ} 0 1 = cc in absurd (omega arith)
-
 -- every kind of a word and of a sign is below 62, and every sign is a byte or more, on one line
 abbrev known : Spelled → Bool
 known s = ltb (s .kind) 62
@@ -147,7 +132,7 @@ kind-known (w ∷ ws) bs t = by (same (w .spelling) bs) (ltb-true (w .kind) 62 (
 begins-within : (ss bs : List ℕ) → begins ss bs ≡ true → (length ss ≤ length bs) × (newlines (take (length ss) bs) ≡ newlines ss)
 unfolding begins newlines
 begins-within [] bs e = (omega arith, refl)
-begins-within (s ∷ ss) [] e = let z : _≡_ {A = ℕ} 0 1 = cc in absurd (omega arith)
+begins-within (s ∷ ss) [] e = contradiction cc
 begins-within (s ∷ ss) (b ∷ bs) e =
     let k : s ≡ b = eqb-true s b (both-left (eqb s b) (begins ss bs) e) in
     let h : (length ss ≤ length bs) × (newlines (take (length ss) bs) ≡ newlines ss) = begins-within ss bs (both-right (eqb s b) (begins ss bs) e) in
@@ -157,12 +142,14 @@ sign-given : (ss : List Spelled) (bs : List ℕ) (lines : ℕ) → 0 < length bs
     → Given bs lines (signIn ss bs)
 unfolding signIn
 sign-given [] bs lines l t = l
-sign-given (s ∷ ss) bs lines l t = by (begins (s .spelling) bs) refl (both-left (onOneLine s) _ t) (sign-given ss bs lines l (both-right (onOneLine s) _ t))
+sign-given (s ∷ ss) bs lines l t =
+    by (begins (s .spelling) bs) refl (both-left (onOneLine s) _ t) (sign-given ss bs lines l (both-right (onOneLine s) _ t))
   where
     by : (b : Bool) → begins (s .spelling) bs ≡ b → onOneLine s ≡ true → Given bs lines (signIn ss bs)
         → Given bs lines (elim b [ true ↦ symbol (s .kind) 0 (length (s .spelling)) | false ↦ signIn ss bs ])
     by true e o h =
-        let w : (length (s .spelling) ≤ length bs) × (newlines (take (length (s .spelling)) bs) ≡ newlines (s .spelling)) = begins-within (s .spelling) bs e in
+        let w : (length (s .spelling) ≤ length bs) × (newlines (take (length (s .spelling)) bs) ≡ newlines (s .spelling)) = begins-within
+        (s .spelling) bs e in
         let p : (eqb (newlines (s .spelling)) 0 && known s) ≡ true = both-right (leb 1 (length (s .spelling))) _ o in (
           record {
             some = leb-true 1 (length (s .spelling)) (both-left (leb 1 (length (s .spelling))) _ o);

@@ -1,14 +1,7 @@
 -- Brackets: the stack as the definitions' list, and the first refusal, one symbol at a time.
-use Prim.Native.Nat.{ℕ, zero, suc, _+_, _-_, _<_, _≤_}
-use mathlib.Core.Path.{_≡_, refl, sym, ap, _∙_}
-use mathlib.Core.Bool.{Bool, true, false, cond}
-use mathlib.Core.List.{List, [], _∷_}
-use native.Mathlib.Omega.{arith}
-use native.Mathlib.Numerals.{add-one}
-use lib.Dec.{eqb}
-use lib.ListN.{length, getD, set, length-set}
-use lib.Seq.{sets, getD-set-same, getD-set-other}
-use borrow.Author.Tests.{eq-eqb, ne-eqb}
+use Rattle.laws.proofs.Basics.{ℕ, zero, suc, _+_, _-_, _<_, _≤_, _≡_, refl, sym, ap, _∙_, List, [], _∷_, Bool, length, getD, set}
+use Rattle.laws.proofs.Basics.{length-set, getD-set-same, getD-set-other, sets, eqb, add-one, arith, eq-eqb, ne-eqb}
+use Rattle.laws.proofs.Cases.{by-cases}
 use Rattle.text.proofs.Bytes.{Unlike}
 use Rattle.language.specs.Symbols.{Fault, none, fault, Scan, goesOn, scan}
 use Rattle.language.specs.Brackets as B
@@ -46,36 +39,32 @@ module _ (s : List ℕ) (depth kind : ℕ) (h : depth ≡ 0 → ⊥) where
 module _ (s : List ℕ) (depth : ℕ) where
   -- an opening bracket
   module _ (kind wanted : ℕ) (b : (ws : List ℕ) (value place : ℕ) → B.bracket ws (symbolOf kind value place) ≡ matched (wanted ∷ ws)) where
-    pub match-open : {k : ℕ} {r : Depth} {s′ : List ℕ} → k ≡ kind → depth < length s → r ≡ D.Is (depth + 1) → s′ ≡ sets s depth (wanted ∷ []) → Matches k depth s r s′
+    pub match-open : {k : ℕ} {r : Depth} {s′ : List ℕ} → k ≡ kind → depth < length s → r ≡ D.Is (depth + 1) → s′ ≡ sets s depth (wanted ∷ [])
+        → Matches k depth s r s′
     unfolding asMatching AtMost
     match-open e h p q =
         rw (e, p, q) (record {
           same = length-set s depth wanted;
-          gives = λ value place. rw (add-one, getD-set-same s depth wanted 0 h, stacked-set s depth wanted depth (omega arith)) (sym (b (stacked s depth) value place));
+          gives = λ value place. rw (add-one, getD-set-same s depth wanted 0 h, stacked-set s depth wanted depth (omega arith))
+              (sym (b (stacked s depth) value place));
           low = omega arith;
         })
 
   -- a closing one
-  module _ (kind : ℕ) (b : (ws : List ℕ) (value place : ℕ) → B.bracket ws (symbolOf kind value place) ≡ B.closing ws (symbolOf kind value place)) where
-    pub match-close : {k : ℕ} {r : Depth} → k ≡ kind → r ≡ wanting s depth kind → Matches k depth s r s
-    unfolding asMatching AtMost B.closing
-    match-close e p = rw (e, p) (record { same = refl; gives = λ value place. go depth value place ∙ sym (b (stacked s depth) value place); low = low depth })
-      where
-        go : (d value place : ℕ) → asMatching place (wanting s d kind) s ≡ B.closing (stacked s d) (symbolOf kind value place)
-        go zero value place = refl
-        go (suc d) value place = by (eqb kind (getD s d 0))
-          where
-            by : (t : Bool) → asMatching place (cond t (D.Is d) D.Unmatched) s ≡ cond t (matched (stacked s d)) (unmatched place)
-            by true = refl
-            by false = refl
+  module _ (kind : ℕ) (b : (ws : List ℕ) (value place : ℕ) → B.bracket ws (symbolOf kind value place) ≡ B.closing ws (symbolOf kind value place))
+    where
+      pub match-close : {k : ℕ} {r : Depth} → k ≡ kind → r ≡ wanting s depth kind → Matches k depth s r s
+      unfolding asMatching AtMost B.closing
+      match-close e p =
+          rw (e, p) (record { same = refl; gives = λ value place. go depth value place ∙ sym (b (stacked s depth) value place); low = low depth })
+        where
+          go : (d value place : ℕ) → asMatching place (wanting s d kind) s ≡ B.closing (stacked s d) (symbolOf kind value place)
+          go zero value place = refl
+          go (suc d) value place = by-cases (eqb kind (getD s d 0)) (λ outcome. rw outcome) (λ outcome. rw outcome)
 
-        low : (d : ℕ) → AtMost (d + 1) (wanting s d kind)
-        low zero = tt
-        low (suc d) = by (eqb kind (getD s d 0))
-          where
-            by : (t : Bool) → AtMost (suc d + 1) (cond t (D.Is d) D.Unmatched)
-            by true = omega arith
-            by false = tt
+          low : (d : ℕ) → AtMost (d + 1) (wanting s d kind)
+          low zero = tt
+          low (suc d) = by-cases (eqb kind (getD s d 0)) (λ outcome. rw outcome (omega arith)) (λ outcome. rw outcome tt)
 
   pub match-other : (k : ℕ) → Unlike k (58 ∷ 52 ∷ 57 ∷ 51 ∷ []) → Matches k depth s (D.Is depth) s
   unfolding asMatching AtMost B.bracket
@@ -150,13 +139,15 @@ module _ (text s₀ : List ℕ) (at depth : ℕ) (s : List ℕ) (g : Going text 
       pub going-unmatched : after ≡ D.Unmatched → faultFrom text [] (scan text) ≡ fault 5 place
       unfolding faultFrom asMatching brackets
       going-unmatched u =
-          let b : B.bracket (stacked s depth) (symbolOf kind value place) ≡ unmatched place = sym (m .gives value place) ∙ ap (λ (d : Depth). asMatching place d s′) u in
+          let b : B.bracket (stacked s depth) (symbolOf kind value place) ≡ unmatched place = sym (m .gives value place) ∙
+          ap (λ (d : Depth). asMatching place d s′) u in
           on-symbol ∙ rw b
 
       pub going-on : {d : ℕ} → after ≡ D.Is d → Going text s₀ past d s′
       unfolding faultFrom asMatching AtMost brackets
       going-on {d} u =
-          let b : B.bracket (stacked s depth) (symbolOf kind value place) ≡ matched (stacked s′ d) = sym (m .gives value place) ∙ ap (λ (d : Depth). asMatching place d s′) u in
+          let b : B.bracket (stacked s depth) (symbolOf kind value place) ≡ matched (stacked s′ d) = sym (m .gives value place) ∙
+          ap (λ (d : Depth). asMatching place d s′) u in
           let l : d ≤ depth + 1 = rw u at (m .low) in
           record {
             same = m .same ∙ g .same;

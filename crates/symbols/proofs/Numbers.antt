@@ -1,14 +1,8 @@
 -- Numbers: their value, digit by digit, with 65,536 for all that are larger; and what is read by it.
-use Prim.Native.Nat.{ℕ, suc, _+_, _-_, _*_, _<_, _≤_}
-use mathlib.Core.Path.{_≡_, refl, sym, ap, _∙_}
-use mathlib.Core.Logic.{_⊎_, inl, inr, ⊎-elim}
-use mathlib.Core.Bool.{Bool, true, false, _&&_}
-use mathlib.Core.List.{List, [], _∷_}
-use native.Mathlib.Omega.{arith}
+use Rattle.laws.proofs.Basics.{ℕ, suc, _+_, _-_, _*_, _<_, _≤_, _≡_, refl, sym, ap, _∙_, List, [], _∷_, Bool, true, false, _&&_, _⊎_, inl, inr}
+use Rattle.laws.proofs.Basics.{⊎-elim, length, getD, drop, ltb, leb, arith, ltb-true, ltb-false, lt-ltb, le-ltb, leb-true, le-leb, lt-leb}
+use Rattle.laws.proofs.Cases.{by-cases, contradiction}
 use native.Mathlib.Nat.{mul-le-mul, le-mul-of-pos-right}
-use lib.Dec.{leb, ltb}
-use lib.ListN.{length, getD, drop}
-use borrow.Author.Tests.{lt-ltb, le-ltb, le-leb, lt-leb, leb-true, ltb-true, ltb-false}
 use Rattle.text.proofs.Bytes.{at-byte, past-end}
 use Rattle.language.specs.Symbols.{digitOf, digits, valueOf, decimal, octal}
 use Rattle.symbols.specs.Parts.{capped}
@@ -24,11 +18,9 @@ pub from-digits : (base c : ℕ) → 48 ≤ c → digitOf base c ≡ ltb c (48 +
 from-digits base c h = rw (le-leb 48 c h)
 
 pub digit-from : (base c : ℕ) → digitOf base c ≡ true → 48 ≤ c
-digit-from base c e = go (leb 48 c) refl
-  where
-    go : (t : Bool) → leb 48 c ≡ t → 48 ≤ c
-    go true k = leb-true 48 c k
-    go false k = let y : false ≡ true = sym (ap (λ (t : Bool). (t && (ltb c (48 + base)))) k) ∙ e in let z : _≡_ {A = ℕ} 0 1 = cc in absurd (omega arith)
+digit-from base c e =
+    by-cases (leb 48 c) (λ k. leb-true 48 c k)
+    (λ k. let y : false ≡ true = sym (ap (λ (t : Bool). (t && (ltb c (48 + base)))) k) ∙ e in contradiction cc)
 
 -- ---- large values
 
@@ -41,11 +33,7 @@ unfolding capped
 capped-high n h = rw (le-ltb n 65536 h)
 
 either-side : (n : ℕ) → (n < 65536) ⊎ (65536 ≤ n)
-either-side n = go (ltb n 65536) refl
-  where
-    go : (t : Bool) → ltb n 65536 ≡ t → (n < 65536) ⊎ (65536 ≤ n)
-    go true e = inl (ltb-true n 65536 e)
-    go false e = inr (ltb-false n 65536 e)
+either-side n = by-cases (ltb n 65536) (λ e. inl (ltb-true n 65536 e)) (λ e. inr (ltb-false n 65536 e))
 
 pub capped-within : (n : ℕ) → capped n ≤ 65536
 capped-within n = ⊎-elim (λ h. omega (arith, capped-low n h)) (λ h. omega (arith, capped-high n h)) (either-side n)
@@ -78,10 +66,12 @@ alike-digit base d v w h =
 alike-value : (base : ℕ) → 1 ≤ base → (bytes : List ℕ) (v w : ℕ) → Alike v w → Alike (valueOf base v bytes) (valueOf base w bytes)
 unfolding valueOf
 alike-value base h [] v w a = a
-alike-value base h (c ∷ r) v w a = by (digitOf base c) (alike-value base h r (v * base + (c - 48)) (w * base + (c - 48)) (alike-digit base (c - 48) v w h a))
+alike-value base h (c ∷ r) v w a =
+    by (digitOf base c) (alike-value base h r (v * base + (c - 48)) (w * base + (c - 48)) (alike-digit base (c - 48) v w h a))
   where
     by : (t : Bool) → Alike (valueOf base (v * base + (c - 48)) r) (valueOf base (w * base + (c - 48)) r)
-        → Alike (elim t [ true ↦ valueOf base (v * base + (c - 48)) r | false ↦ v ]) (elim t [ true ↦ valueOf base (w * base + (c - 48)) r | false ↦ w ])
+        → Alike (elim t [ true ↦ valueOf base (v * base + (c - 48)) r | false ↦ v ])
+        (elim t [ true ↦ valueOf base (w * base + (c - 48)) r | false ↦ w ])
     by true m = m
     by false m = a
 
@@ -101,18 +91,21 @@ module _ (base n : ℕ) (text : List ℕ) (i : ℕ) where
     value-stop k l = ap capped (at-byte (valueOf base n) text i h (sym e) ∙ stopped (digitOf base c) k) ∙ capped-own n l
       where
         stopped : (t : Bool) → t ≡ false → elim t [ true ↦ valueOf base (n * base + (c - 48)) (drop (i + 1) text) | false ↦ n ] ≡ n
-        stopped true j = let z : _≡_ {A = ℕ} 0 1 = cc in absurd (omega arith)
+        stopped true j = contradiction cc
         stopped false j = refl
 
-    pub value-more : 1 ≤ base → digitOf base c ≡ true → capped (valueOf base n (drop i text)) ≡ capped (valueOf base (capped (n * base + (c - 48))) (drop (i + 1) text))
+    pub value-more : 1 ≤ base → digitOf base c ≡ true
+        → capped (valueOf base n (drop i text)) ≡ capped (valueOf base (capped (n * base + (c - 48))) (drop (i + 1) text))
     unfolding valueOf
     value-more b k =
         ap capped (at-byte (valueOf base n) text i h (sym e) ∙ went (digitOf base c) k) ∙
         sym (alike-capped _ _ (alike-value base b (drop (i + 1) text) _ _ (capped-alike (n * base + (c - 48)))))
       where
-        went : (t : Bool) → t ≡ true → elim t [ true ↦ valueOf base (n * base + (c - 48)) (drop (i + 1) text) | false ↦ n ] ≡ valueOf base (n * base + (c - 48)) (drop (i + 1) text)
+        went : (t : Bool) → t ≡ true
+            → elim t [ true ↦ valueOf base (n * base + (c - 48)) (drop (i + 1) text) | false ↦ n ] ≡ valueOf base (n * base + (c - 48))
+            (drop (i + 1) text)
         went true j = refl
-        went false j = let z : _≡_ {A = ℕ} 0 1 = cc in absurd (omega arith)
+        went false j = contradiction cc
 
 -- ---- what is read
 
@@ -124,7 +117,9 @@ module _ (bs : List ℕ) where
 
     pub no-decimal : 32767 < v → E.Wrong 3 0 ≡ asElement (decimal bs)
     unfolding decimal asElement
-    no-decimal h = let k : 32767 < valueOf 10 0 bs = ⊎-elim (λ l. omega (arith, uncapped _ e l)) (λ l. omega (arith, uncapped-high _ e l)) (either-side v) in rw (lt-leb _ 32767 k)
+    no-decimal h =
+        let k : 32767 < valueOf 10 0 bs = ⊎-elim (λ l. omega (arith, uncapped _ e l)) (λ l. omega (arith, uncapped-high _ e l)) (either-side v)
+        in rw (lt-leb _ 32767 k)
 
   module _ {n : ℕ} (d : n ≡ digits 8 bs) where
     pub no-digits : n < 1 → E.Wrong 3 0 ≡ asElement (octal bs)

@@ -1,9 +1,5 @@
 -- Characters and strings of the source, from what is read between their quotes.
-use Prim.Native.Nat.{ℕ, suc, _+_, _-_, _<_}
-use mathlib.Core.Path.{_≡_, refl, sym, _∙_}
-use mathlib.Core.List.{List, [], _∷_}
-use native.Mathlib.Omega.{arith}
-use lib.ListN.{length, drop, length-drop}
+use Rattle.laws.proofs.Basics.{ℕ, suc, _+_, _<_, _≡_, _∙_, List, [], _∷_, length, drop, length-drop, arith}
 use Rattle.text.specs.Quoted as Q
 use Rattle.text.specs.Quoted.{closed, unclosed, faulty, quoted}
 use Rattle.text.specs.Parts.{valueOf}

@@ -1,13 +1,6 @@
 -- The whole: each answer of `read_symbols`, and what it leaves in scratch.
-use Prim.Native.Nat.{ℕ, _-_, _*_, _<_, _≤_}
-use mathlib.Core.Path.{_≡_, sym, ap, _∙_}
-use mathlib.Core.Bool.{Bool, true, false}
-use mathlib.Core.List.{List, [], _++_}
-use native.Mathlib.Omega.{arith}
-use lib.Dec.{ltb}
-use lib.ListN.{length, take, replicate}
-use lib.Seq.{length-take-le}
-use borrow.Author.Tests.{lt-ltb, le-ltb, ltb-false}
+use Rattle.laws.proofs.Basics.{ℕ, _-_, _*_, _<_, _≤_, _≡_, sym, ap, _∙_, List, [], _++_, Bool, true, false, length, take, replicate, length-take-le}
+use Rattle.laws.proofs.Basics.{ltb, arith, ltb-false, lt-ltb, le-ltb}
 use Rattle.language.specs.Symbols.{Fault, none, fault, scan}
 use Rattle.language.specs.Source.{good, faulty, onFault, symbolsOf, tooLong}
 use Rattle.symbols.specs.Read.{entries, outcome, symbolsRead, numbers, Reads}

@@ -1,12 +1,7 @@
 -- Runs of bytes that pass a test: the letters of a word, the digits of a number, the bytes of a comment.
-use Prim.Native.Nat.{ℕ, suc, _+_, _<_, _≤_}
-use mathlib.Core.Path.{_≡_, refl, sym, ap, _∙_}
-use mathlib.Core.Bool.{Bool, true, false, not, cond}
-use mathlib.Core.List.{List, [], _∷_}
-use native.Mathlib.Omega.{arith}
-use lib.Dec.{eqb}
-use lib.ListN.{length, getD, take, drop}
-use borrow.Author.Tests.{eqb-true}
+use Rattle.laws.proofs.Basics.{ℕ, suc, _+_, _<_, _≤_, _≡_, refl, sym, ap, _∙_, List, [], _∷_, Bool, true, false, not, cond, length, getD, take, drop}
+use Rattle.laws.proofs.Basics.{eqb, arith, eqb-true}
+use Rattle.laws.proofs.Cases.{contradiction}
 use Rattle.text.specs.Line.{newlines}
 use Rattle.text.proofs.Bytes.{at-byte, past-end}
 use Rattle.language.specs.Bytes.{classOf}
@@ -70,5 +65,5 @@ module _ {p : ℕ → Bool} {f : List ℕ → ℕ} (run : Run p f) where
     where
       by : (t : Bool) → p c ≡ t → (u : Bool) → eqb c 10 ≡ u → newlines (take (f r) r) ≡ 0 → newlines (take (cond t (suc (f r)) 0) (c ∷ r)) ≡ 0
       by false e u k h = refl
-      by true e true k h = let z : c ≡ 10 = eqb-true c 10 k in absurd (let y : false ≡ true = sym out ∙ ap p (sym z) ∙ e in let x : _≡_ {A = ℕ} 0 1 = cc in omega arith)
+      by true e true k h = let z : c ≡ 10 = eqb-true c 10 k in absurd (let y : false ≡ true = sym out ∙ ap p (sym z) ∙ e in contradiction cc)
       by true e false k h = rw k h

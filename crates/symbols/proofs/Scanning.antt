@@ -1,15 +1,8 @@
 -- From symbol to symbol: a scan is what stands at its place and the scan of the rest, and lines are counted on the way.
-use Prim.Native.Nat.{ℕ, zero, suc, _+_, _-_, _<_, _≤_}
-use mathlib.Core.Path.{_≡_, refl, sym, ap, _∙_}
-use mathlib.Core.Bool.{Bool, true, false, not, cond}
-use mathlib.Core.List.{List, [], _∷_, _++_}
-use native.Mathlib.Omega.{arith}
-use native.Mathlib.Numerals.{add-one}
-use native.Mathlib.Nat.{add-zero}
-use lib.Dec.{eqb}
-use lib.ListN.{length, getD, take, drop, length-drop, drop-of-length-le}
-use lib.Seq.{drop-cons, drop-drop, take-add}
-use borrow.Author.Tests.{eq-eqb, ne-eqb}
+use Rattle.laws.proofs.Basics.{ℕ, zero, suc, _+_, _-_, _<_, _≤_, _≡_, refl, sym, ap, _∙_, List, [], _∷_, _++_, Bool, true, false, not, cond, length}
+use Rattle.laws.proofs.Basics.{getD, take, drop, length-drop, drop-of-length-le, drop-cons, drop-drop, eqb, add-zero, add-one, arith, eq-eqb, ne-eqb}
+use Rattle.laws.proofs.Cases.{contradiction}
+use lib.Seq.{take-add}
 use Rattle.text.specs.Line.{newlines, lineOf}
 use Rattle.language.specs.Bytes.{classOf}
 use Rattle.language.specs.Symbols.{Element, symbol, gap, wrong, byClass, none, fault, Scan, ends, goesOn, onElement, scanFrom}
@@ -26,19 +19,19 @@ use Rattle.symbols.proofs.Lines.{Stood, Given, element-given}
 pub when-symbol : (e : Element) {r : C.Element} {k v w : ℕ} → r ≡ asElement e → r ≡ E.Symbol k v w → e ≡ symbol k v w
 unfolding asElement
 when-symbol (symbol a b c) p q = cc
-when-symbol (gap a) p q = absurd (let z : _≡_ {A = ℕ} 0 1 = cc in omega arith)
-when-symbol (wrong a b) p q = absurd (let z : _≡_ {A = ℕ} 0 1 = cc in omega arith)
+when-symbol (gap a) p q = contradiction cc
+when-symbol (wrong a b) p q = contradiction cc
 
 pub when-gap : (e : Element) {r : C.Element} {w : ℕ} → r ≡ asElement e → r ≡ E.Gap w → e ≡ gap w
 unfolding asElement
-when-gap (symbol a b c) p q = absurd (let z : _≡_ {A = ℕ} 0 1 = cc in omega arith)
+when-gap (symbol a b c) p q = contradiction cc
 when-gap (gap a) p q = cc
-when-gap (wrong a b) p q = absurd (let z : _≡_ {A = ℕ} 0 1 = cc in omega arith)
+when-gap (wrong a b) p q = contradiction cc
 
 pub when-wrong : (e : Element) {r : C.Element} {n k : ℕ} → r ≡ asElement e → r ≡ E.Wrong n k → e ≡ wrong n k
 unfolding asElement
-when-wrong (symbol a b c) p q = absurd (let z : _≡_ {A = ℕ} 0 1 = cc in omega arith)
-when-wrong (gap a) p q = absurd (let z : _≡_ {A = ℕ} 0 1 = cc in omega arith)
+when-wrong (symbol a b c) p q = contradiction cc
+when-wrong (gap a) p q = contradiction cc
 when-wrong (wrong a b) p q = cc
 
 -- ---- lines
@@ -48,14 +41,16 @@ unfolding newlines
 newlines-append [] b = let z : newlines b ≡ 0 + newlines b = omega arith in z
 newlines-append (c ∷ a) b = by (eqb c 10) (newlines-append a b)
   where
-    by : (t : Bool) → newlines (a ++ b) ≡ newlines a + newlines b → cond t (suc (newlines (a ++ b))) (newlines (a ++ b)) ≡ cond t (suc (newlines a)) (newlines a) + newlines b
+    by : (t : Bool) → newlines (a ++ b) ≡ newlines a + newlines b
+        → cond t (suc (newlines (a ++ b))) (newlines (a ++ b)) ≡ cond t (suc (newlines a)) (newlines a) + newlines b
     by true e = omega arith
     by false e = e
 
 pub line-past : (text : List ℕ) (i w : ℕ) → lineOf text (i + w) ≡ lineOf text i + newlines (take w (drop i text))
 unfolding lineOf
 line-past text i w =
-    let e : newlines (take (i + w) text) ≡ newlines (take i text) + newlines (take w (drop i text)) = ap newlines (take-add i w text) ∙ newlines-append (take i text) (take w (drop i text)) in
+    let e : newlines (take (i + w) text) ≡ newlines (take i text) + newlines (take w (drop i text)) = ap newlines (take-add i w text) ∙
+    newlines-append (take i text) (take w (drop i text)) in
     omega arith
 
 line-after : (text : List ℕ) (at i : ℕ) → at ≤ i → lineOf text at ≤ lineOf text i
@@ -176,7 +171,8 @@ module _ (text : List ℕ) (at i : ℕ) {newline : Bool} (s : Seeking text at i 
           }
         where
           by : (t : Bool) → newlines (take w (drop i text)) ≡ cond t 1 0 → cond t true newline ≡ broken text at (i + w)
-          by true k = sym (ap not (ne-eqb (lineOf text at) (lineOf text (i + w)) (λ j. omega (arith, line-past text i w, line-after text at i (s .after)))))
+          by true k =
+              sym (ap not (ne-eqb (lineOf text at) (lineOf text (i + w)) (λ j. omega (arith, line-past text i w, line-after text at i (s .after)))))
           by false k = let z : lineOf text (i + w) ≡ lineOf text i = omega (arith, line-past text i w) in rw z (s .breaks)
 
 -- ---- what `next_symbol` found

@@ -1,13 +1,7 @@
 -- Semicolons and strings, one symbol at a time. The symbols, inserted semicolons among them, are no more than the bytes.
-use Prim.Native.Nat.{ℕ, zero, suc, _+_, _-_, _<_, _≤_}
-use mathlib.Core.Path.{_≡_, refl, sym, ap, _∙_}
-use mathlib.Core.Bool.{Bool, true, false, not, cond, _&&_}
-use mathlib.Core.List.{List, [], _∷_}
-use native.Mathlib.Omega.{arith}
-use native.Mathlib.Numerals.{add-one}
-use lib.Dec.{eqb, ltb}
-use lib.ListN.{length, drop, length-drop}
-use borrow.Author.Tests.{eq-eqb, ltb-true, ltb-false}
+use Rattle.laws.proofs.Basics.{ℕ, zero, suc, _+_, _-_, _<_, _≤_, _≡_, refl, sym, ap, _∙_, List, [], _∷_, Bool, true, false, not, _&&_, cond, length}
+use Rattle.laws.proofs.Basics.{drop, length-drop, eqb, ltb, add-one, arith, eq-eqb, ltb-true, ltb-false}
+use Rattle.laws.proofs.Cases.{contradiction}
 use Rattle.text.specs.Line.{lineOf}
 use Rattle.language.specs.Symbols.{Element, symbol, gap, wrong, Symbol, Fault, Scan, ends, goesOn, scan}
 use Rattle.language.specs.Kinds.{member}
@@ -18,7 +12,8 @@ use Rattle.symbols.proofs.Lines.{Stood}
 use Rattle.symbols.proofs.Scanning.{elementAt, scanAt, scan-end, symbol-given, symbol-line, scan-symbol, gap-given, scan-gap, scan-wrong}
 
 -- only the kind and the line of the symbol before count
-after-line : (text : List ℕ) (kind v w a b : ℕ) (ss : List Symbol) → lineOf text a ≡ lineOf text b → semicolonsAfter text (symbolOf kind v a) ss ≡ semicolonsAfter text (symbolOf kind w b) ss
+after-line : (text : List ℕ) (kind v w a b : ℕ) (ss : List Symbol) → lineOf text a ≡ lineOf text b
+    → semicolonsAfter text (symbolOf kind v a) ss ≡ semicolonsAfter text (symbolOf kind w b) ss
 unfolding semicolonsAfter gains linesDiffer
 after-line text kind v w a b [] e = refl
 after-line text kind v w a b (s ∷ r) e = rw e
@@ -34,7 +29,9 @@ numbered-one : (k kind value place : ℕ) (r : List Symbol) {number k′ : ℕ} 
 unfolding numbered
 numbered-one k kind value place r p q = rw (p, q) (by (eqb kind 61))
   where
-    by : (t : Bool) → cond t (symbolOf kind k place ∷ numbered (suc k) r) (symbolOf kind value place ∷ numbered k r) ≡ symbolOf kind (cond t k value) place ∷ numbered (cond t (k + 1) k) r
+    by : (t : Bool)
+        → cond t (symbolOf kind k place ∷ numbered (suc k) r) (symbolOf kind value place ∷ numbered k r) ≡ symbolOf kind (cond t k value) place ∷
+        numbered (cond t (k + 1) k) r
     by true = rw add-one
     by false = refl
 
@@ -44,9 +41,11 @@ abbrev pub following : (text : List ℕ) (before at strings : ℕ) → List Symb
 following text before at strings ss = semicolonsAfter text (symbolOf before 0 at) (numbered strings ss)
 
 module _ (text : List ℕ) (before at strings past : ℕ) where
-  pub following-symbol : {s : Scan} {kind value place number strings′ : ℕ} {ss : List Symbol} {f : Fault} → s ≡ goesOn (symbolOf kind value place) (record { symbols = ss; ending = f })
+  pub following-symbol : {s : Scan} {kind value place number strings′ : ℕ} {ss : List Symbol} {f : Fault}
+      → s ≡ goesOn (symbolOf kind value place) (record { symbols = ss; ending = f })
       → number ≡ cond (eqb kind 61) strings value → strings′ ≡ cond (eqb kind 61) (strings + 1) strings → lineOf text past ≡ lineOf text place
-      → following text before at strings (s .symbols) ≡ inserted (gain before kind (broken text at place)) (symbolOf kind number place) (symbolOf kind number place ∷ following text kind past strings′ ss)
+      → following text before at strings (s .symbols) ≡ inserted (gain before kind (broken text at place)) (symbolOf kind number place)
+      (symbolOf kind number place ∷ following text kind past strings′ ss)
   unfolding semicolonsAfter gains linesDiffer
   following-symbol {s} {kind} {value} {place} {number} {strings′} {ss} e m n l =
       ap (λ (t : Scan). following text before at strings (t .symbols)) e ∙
@@ -64,8 +63,8 @@ gain-breaks before kind t = go (endsLine before) (beginsLine kind)
   where
     go : (a b : Bool) → (a && (b && t)) ≡ true → t ≡ true
     go true true e = e
-    go true false e = let z : _≡_ {A = ℕ} 0 1 = cc in absurd (omega arith)
-    go false b e = let z : _≡_ {A = ℕ} 0 1 = cc in absurd (omega arith)
+    go true false e = contradiction cc
+    go false b e = contradiction cc
 
 -- places on different lines are different
 apart : (text : List ℕ) (from to : ℕ) → from ≤ to → broken text from to ≡ true → from < to
@@ -76,8 +75,7 @@ apart text from to h e = go (ltb from to) refl
     go false k =
         let z : from ≡ to = omega (arith, ltb-false from to k) in
         let y : true ≡ false = sym e ∙ ap not (eq-eqb (lineOf text from) (lineOf text to) (ap (lineOf text) z)) in
-        let x : _≡_ {A = ℕ} 0 1 = cc in
-        absurd (omega arith)
+        contradiction cc
 
 inserted-length : (t : Bool) (s : Symbol) (r : List Symbol) → length (inserted t s (s ∷ r)) ≡ cond t 2 1 + length r
 inserted-length true s r = omega arith
@@ -85,30 +83,36 @@ inserted-length false s r = omega arith
 
 -- the symbols from a place on, after one that ended at or before it, with `fuel` bytes or fewer left
 abbrev Few : List ℕ → (fuel : ℕ) → Type 0
-Few text fuel = (at before from strings : ℕ) → length text ≤ at + fuel → from ≤ at → at ≤ length text → length (following text before from strings (scanAt text at .symbols)) ≤ length text - from
+Few text fuel =
+    (at before from strings : ℕ) → length text ≤ at + fuel → from ≤ at → at ≤ length text → length
+    (following text before from strings (scanAt text at .symbols)) ≤ length text - from
 
-few-ended : (text : List ℕ) (before from strings : ℕ) (s : Scan) {f : Fault} → s ≡ ends f → length (following text before from strings (s .symbols)) ≤ length text - from
+few-ended : (text : List ℕ) (before from strings : ℕ) (s : Scan) {f : Fault} → s ≡ ends f
+    → length (following text before from strings (s .symbols)) ≤ length text - from
 unfolding numbered semicolonsAfter
 few-ended text before from strings s e = rw e (omega arith)
 
 few-more : (text : List ℕ) (fuel : ℕ) → Few text fuel → Few text (suc fuel)
 few-more text fuel ih at before from strings h k l = go (ltb at (length text)) refl
   where
-    by : at < length text → (e : Element) → elementAt text at ≡ e → length (following text before from strings (scanAt text at .symbols)) ≤ length text - from
+    by : at < length text → (e : Element) → elementAt text at ≡ e
+        → length (following text before from strings (scanAt text at .symbols)) ≤ length text - from
     by i (symbol kind v w) e =
         let g : Stood (drop at text) 0 w = symbol-given text at i e .0 in
         let n : at + w ≤ length text = omega (arith, g .within, length-drop at text) in
-        let q : length (following text kind (at + w) (cond (eqb kind 61) (strings + 1) strings) (scanAt text (at + w) .symbols)) ≤ length text - (at + w) =
-        ih (at + w) kind (at + w) _ (omega (arith, g .some)) (omega arith) n in
+        let more = following text kind (at + w) (cond (eqb kind 61) (strings + 1) strings) (scanAt text (at + w) .symbols) in
+        let q : length more ≤ length text - (at + w) = ih (at + w) kind (at + w) _ (omega (arith, g .some)) (omega arith) n in
         rw (following-symbol text before from strings (at + w) (scan-symbol text at i e) refl refl (symbol-line text at i e), inserted-length)
         (count (gain before kind (broken text from at)) refl g q)
       where
-        count : (t : Bool) → gain before kind (broken text from at) ≡ t → Stood (drop at text) 0 w → {m : ℕ} → m ≤ length text - (at + w) → cond t 2 1 + m ≤ length text - from
+        count : (t : Bool) → gain before kind (broken text from at) ≡ t → Stood (drop at text) 0 w → {m : ℕ} → m ≤ length text - (at + w)
+            → cond t 2 1 + m ≤ length text - from
         count true j g q = omega (arith, g .some, g .within, length-drop at text, apart text from at k (gain-breaks before kind _ j))
         count false j g q = omega (arith, g .some, g .within, length-drop at text)
     by i (gap w) e =
         let g : Stood (drop at text) _ w = gap-given text at i e in
-        rw (scan-gap text at i e) (ih (at + w) before from strings (omega (arith, g .some)) (omega arith) (omega (arith, g .within, length-drop at text)))
+        rw (scan-gap text at i e) (ih (at + w) before from strings (omega (arith, g .some)) (omega arith)
+        (omega (arith, g .within, length-drop at text)))
     by i (wrong n k) e = few-ended text before from strings (scanAt text at) (scan-wrong text at i e)
 
     go : (t : Bool) → ltb at (length text) ≡ t → length (following text before from strings (scanAt text at .symbols)) ≤ length text - from
@@ -122,5 +126,6 @@ few-from text (suc fuel) = few-more text fuel (few-from text fuel)
 pub few : (text : List ℕ) → length (symbolsIn text) ≤ length text
 unfolding symbolsIn scan
 few text =
-    let h : length (following text 0 0 0 (scanAt text 0 .symbols)) ≤ length text - 0 = few-from text (length text) 0 0 0 0 (omega arith) (omega arith) (omega arith) in
+    let h : length (following text 0 0 0 (scanAt text 0 .symbols)) ≤ length text - 0 = few-from text (length text) 0 0 0 0 (omega arith) (omega arith)
+    (omega arith) in
     rw (first-after text 0 (numbered 0 (scan text .symbols))) (omega (arith, h))

@@ -1,21 +1,16 @@
 -- The table of spellings, and the search of a word or a sign in it, one row at a time.
-use Prim.Native.Nat.{ℕ, suc, _+_, _*_, _/_, _%_, _<_, _≤_}
-use mathlib.Core.Path.{_≡_, refl, sym, ap, _∙_}
-use mathlib.Core.Bool.{Bool, true, false, cond, _&&_}
-use mathlib.Core.List.{List, [], _∷_}
-use native.Mathlib.Omega.{arith}
-use native.Mathlib.Numerals.{add-one}
-use native.Mathlib.Nat.{add-zero}
+use Rattle.laws.proofs.Basics.{ℕ, suc, _+_, _*_, _/_, _%_, _<_, _≤_, _≡_, refl, sym, ap, _∙_, List, [], _∷_, Bool, true, false, _&&_, cond, length}
+use Rattle.laws.proofs.Basics.{getD, take, drop, length-take, length-drop, drop-of-length-le, List·getD-append, length-take-le, take-length}
+use Rattle.laws.proofs.Basics.{drop-cons, getD-take, getD-drop, eqb, leb, add-zero, add-one, arith, eqb-true, eq-eqb, ne-eqb}
+use Rattle.laws.proofs.Cases.{contradiction, both-left, both-right}
 use lib.Arith.{digits-div, digits-mod}
-use lib.Dec.{T, eqb, leb, leb→le}
-use lib.ListN.{length, getD, take, drop, drop-of-length-le, List·getD-append, length-drop, length-take}
-use lib.Seq.{drop-cons, length-take-le, take-length, getD-take, getD-drop, slice, slice-cons}
-use borrow.Author.Tests.{eqb-true, eq-eqb, ne-eqb}
+use lib.Dec.{T, leb→le}
+use lib.Seq.{slice, slice-cons}
 use Rattle.text.specs.Written.{bytes}
 use Rattle.language.specs.Kinds.{Spelled, reserved, signs, member}
 use Rattle.language.specs.Symbols.{Element, symbol, wrong, begins, same, kindIn, kindOf, signIn, sign}
 use Rattle.language.specs.Candidates.{keep, candidates, candidatesIn, comparedIn, compared}
-use Rattle.language.proofs.Candidates.{both-left, both-right, kind-cons, kind-by-candidates, compared-at-most-three}
+use Rattle.language.proofs.Candidates.{kind-cons, kind-by-candidates, compared-at-most-three}
 use Rattle.symbols.specs.Spellings.{nothing, byLetter, spelled, spelledAt, spellingAt, entryOf, Rows, ofLength, Spans, Skips}
 use Rattle.symbols.specs.Answers.{asElement}
 use Rattle.symbols.specs.declared.elements.Element.the-variants as E
@@ -64,7 +59,8 @@ module _ (ss text : List ℕ) (i place : ℕ) (h : i < length ss) where
     unfolding begins
     begins-differs n = rw (spelling-cons, text-cons, ne-eqb (getD ss i 32) (getD text place 0) (λ e. n (sym e)))
 
-    pub begins-more : {next : ℕ} → getD text place 0 ≡ getD ss i 32 → next ≡ place + 1 → begins (drop i ss) (drop place text) ≡ begins (drop (i + 1) ss) (drop next text)
+    pub begins-more : {next : ℕ} → getD text place 0 ≡ getD ss i 32 → next ≡ place + 1
+        → begins (drop i ss) (drop place text) ≡ begins (drop (i + 1) ss) (drop next text)
     unfolding begins
     begins-more e n = rw (n, spelling-cons, text-cons, eq-eqb (getD ss i 32) (getD text place 0) (sym e))
 
@@ -174,8 +170,7 @@ no-candidates (w ∷ ws) byte rest t n =
         → keep (a && eqb (length (w .spelling)) (suc (length rest))) w (candidatesIn ws (byte ∷ rest)) ≡ []
     go true e ih =
         let q : member byte letters ≡ true = rw (← eqb-true (getD (w .spelling) 0 0) byte e) (both-left (lettered w) (every lettered nothing ws) t) in
-        let z : _≡_ {A = ℕ} 0 1 = cc in
-        absurd (omega arith)
+        contradiction cc
     go false e ih = ih
 
 pub no-span : (byte : ℕ) → NoneOf letters byte → Spans byte 0 0

@@ -1,12 +1,7 @@
 -- Tables: one whose entries a function gives, which antt computes and compares with the code's, and a test that every entry of one passes.
-use Prim.Native.Nat.{ℕ, zero, suc, _+_, _<_}
-use mathlib.Core.Path.{_≡_, ap, _∙_, sym}
-use mathlib.Core.Bool.{Bool, true, false, _&&_}
-use mathlib.Core.List.{List, [], _∷_}
-use native.Mathlib.Omega.{arith}
-use native.Mathlib.Nat.{add-zero, le-of-suc-le-suc, not-suc-le-zero}
+use Rattle.laws.proofs.Basics.{ℕ, zero, suc, _+_, _<_, _≡_, sym, ap, _∙_, List, [], _∷_, Bool, true, false, _&&_, length, getD, add-zero, arith}
+use native.Mathlib.Nat.{le-of-suc-le-suc, not-suc-le-zero}
 use lib.Dec.{T}
-use lib.ListN.{length, getD}
 
 abbrev pub tabulate : (ℕ → ℕ) → (from count : ℕ) → List ℕ
 tabulate f i zero = []

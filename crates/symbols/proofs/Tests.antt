@@ -1,11 +1,7 @@
 -- The small tests: kinds that end and begin a line, by their tables, and the room in scratch.
-use Prim.Native.Nat.{ℕ, _+_, _-_, _*_, _/_, _<_, _≤_}
-use mathlib.Core.Path.{_≡_, refl, sym}
-use mathlib.Core.Bool.{Bool, true, false, cond, _&&_}
-use native.Mathlib.Omega.{arith}
-use lib.Dec.{eqb, ltb}
-use lib.ListN.{getD}
-use borrow.Author.Tests.{lt-ltb, le-ltb, ltb-true, ltb-false}
+use Rattle.laws.proofs.Basics.{ℕ, _+_, _-_, _*_, _/_, _<_, _≤_, _≡_, refl, sym, Bool, true, false, _&&_, cond, getD, eqb, ltb, arith, ltb-true}
+use Rattle.laws.proofs.Basics.{ltb-false, lt-ltb, le-ltb}
+use Rattle.laws.proofs.Cases.{by-cases}
 use Rattle.language.specs.Semicolons.{endsLine, beginsLine}
 use Rattle.symbols.specs.Parts.{gain}
 use Rattle.symbols.proofs.Table.{tabulate, tabulate-at}
@@ -44,8 +40,6 @@ module _ (room size : ℕ) where
   room-short h = sym (lt-ltb room (8 * size + 64) (omega arith))
 
   pub room-rest : 64 ≤ room → ltb ((room - 64) / 8) size ≡ ltb room (8 * size + 64)
-  room-rest h = by (ltb ((room - 64) / 8) size) refl
-    where
-      by : (t : Bool) → ltb ((room - 64) / 8) size ≡ t → t ≡ ltb room (8 * size + 64)
-      by true e = sym (lt-ltb room (8 * size + 64) (omega (arith, ltb-true ((room - 64) / 8) size e)))
-      by false e = sym (le-ltb room (8 * size + 64) (omega (arith, ltb-false ((room - 64) / 8) size e)))
+  room-rest h =
+      by-cases (ltb ((room - 64) / 8) size) (λ e. rw e (sym (lt-ltb room (8 * size + 64) (omega (arith, ltb-true ((room - 64) / 8) size e)))))
+      (λ e. rw e (sym (le-ltb room (8 * size + 64) (omega (arith, ltb-false ((room - 64) / 8) size e)))))

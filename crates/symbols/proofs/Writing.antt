@@ -1,13 +1,7 @@
 -- Writing the symbols: their entries are appended in threes, and what follows them is cleared.
-use Prim.Native.Nat.{ℕ, _+_, _-_, _*_, _<_, _≤_}
-use mathlib.Core.Path.{_≡_, refl, sym, ap, _∙_}
-use mathlib.Core.Bool.{Bool, true, false, cond}
-use mathlib.Core.List.{List, [], _∷_, _++_, append-assoc, append-nil}
-use native.Mathlib.Omega.{arith}
-use native.Mathlib.Numerals.{add-one, add-two}
-use lib.Dec.{eqb}
-use lib.ListN.{length, getD, set, take, drop, replicate, length-append, length-replicate, drop-of-length-le, replicate-append-replicate, take-append-drop}
-use lib.Seq.{sets, sets-eq, length-sets, take-at, length-take-le, set-at, drop-cons}
+use Rattle.laws.proofs.Basics.{ℕ, _+_, _*_, _<_, _≤_, _≡_, refl, sym, ap, _∙_, List, [], _∷_, _++_, append-assoc, append-nil, Bool, true, false, cond}
+use Rattle.laws.proofs.Basics.{length, set, take, drop, length-append, length-take-le, take-at, sets, sets-eq, length-sets, eqb, add-one, arith}
+use native.Mathlib.Numerals.{add-two}
 use Rattle.language.specs.Symbols.{Symbol, Scan, scan}
 use Rattle.language.specs.Semicolons.{inserted, semicolonsAfter}
 use Rattle.language.specs.Strings.{numbered}
@@ -27,13 +21,15 @@ length-entries (s ∷ r) = omega (arith, length-entries r)
 
 -- three entries more
 module _ (s : List ℕ) (count kind value place : ℕ) (h : count * 3 + 3 ≤ length s) where
-  pub put-is : {s′ : List ℕ} → s′ ≡ set (set (set s (count * 3) kind) (count * 3 + 1) value) (count * 3 + 2) place → s′ ≡ sets s (count * 3) (kind ∷ value ∷ place ∷ [])
+  pub put-is : {s′ : List ℕ} → s′ ≡ set (set (set s (count * 3) kind) (count * 3 + 1) value) (count * 3 + 2) place
+      → s′ ≡ sets s (count * 3) (kind ∷ value ∷ place ∷ [])
   put-is e = e ∙ rw (add-one, add-two)
 
   pub put-length : {s′ : List ℕ} → s′ ≡ sets s (count * 3) (kind ∷ value ∷ place ∷ []) → length s′ ≡ length s
   put-length e = ap length e ∙ length-sets s (count * 3) (kind ∷ value ∷ place ∷ [])
 
-  put-takes : {n : ℕ} → n ≡ count * 3 + 3 → take n (sets s (count * 3) (kind ∷ value ∷ place ∷ [])) ≡ take (count * 3) s ++ (kind ∷ value ∷ place ∷ [])
+  put-takes : {n : ℕ} → n ≡ count * 3 + 3
+      → take n (sets s (count * 3) (kind ∷ value ∷ place ∷ [])) ≡ take (count * 3) s ++ (kind ∷ value ∷ place ∷ [])
   put-takes {n} e =
       let l : length (take (count * 3) s) ≡ count * 3 = length-take-le (count * 3) s (omega arith) in
       rw (sets-eq (kind ∷ value ∷ place ∷ []) s (count * 3) h)
@@ -41,7 +37,8 @@ module _ (s : List ℕ) (count kind value place : ℕ) (h : count * 3 + 3 ≤ le
       (length-append (take (count * 3) s) (kind ∷ value ∷ place ∷ []) ∙ (let z : length (take (count * 3) s) + 3 ≡ n = omega arith in z)))
 
 module _ (s : List ℕ) (count kind value place : ℕ) where
-  pub writes-one : {s′ : List ℕ} → count * 3 + 3 ≤ length s → s′ ≡ sets s (count * 3) (kind ∷ value ∷ place ∷ []) → Writes count false kind value place s (count + 1) s′
+  pub writes-one : {s′ : List ℕ} → count * 3 + 3 ≤ length s → s′ ≡ sets s (count * 3) (kind ∷ value ∷ place ∷ [])
+      → Writes count false kind value place s (count + 1) s′
   unfolding entries
   writes-one h e =
       rw e (record {
@@ -50,18 +47,22 @@ module _ (s : List ℕ) (count kind value place : ℕ) where
         writes = put-takes s count kind value place h (let z : (count + 1) * 3 ≡ count * 3 + 3 = omega arith in z);
       })
 
-  pub writes-two : {s₁ s₂ : List ℕ} → count * 3 + 6 ≤ length s → s₁ ≡ sets s (count * 3) (54 ∷ 0 ∷ place ∷ []) → s₂ ≡ sets s₁ ((count + 1) * 3) (kind ∷ value ∷ place ∷ [])
+  pub writes-two : {s₁ s₂ : List ℕ} → count * 3 + 6 ≤ length s → s₁ ≡ sets s (count * 3) (54 ∷ 0 ∷ place ∷ [])
+      → s₂ ≡ sets s₁ ((count + 1) * 3) (kind ∷ value ∷ place ∷ [])
       → Writes count true kind value place s (count + 2) s₂
   unfolding entries
   writes-two {s₁} {s₂} h p q =
       let n : length s₁ ≡ length s = ap length p ∙ length-sets s (count * 3) (54 ∷ 0 ∷ place ∷ []) in
-      let a : take ((count + 1) * 3) s₁ ≡ take (count * 3) s ++ (54 ∷ 0 ∷ place ∷ []) = ap (take ((count + 1) * 3)) p ∙ put-takes s count 54 0 place (omega arith) (let z : (count + 1) * 3 ≡ count * 3 + 3 = omega arith in z) in
+      let a : take ((count + 1) * 3) s₁ ≡ take (count * 3) s ++ (54 ∷ 0 ∷ place ∷ []) = ap (take ((count + 1) * 3)) p ∙ put-takes s count 54 0 place
+      (omega arith) (let z : (count + 1) * 3 ≡ count * 3 + 3 = omega arith in z) in
       record {
         same = ap length q ∙ length-sets s₁ ((count + 1) * 3) (kind ∷ value ∷ place ∷ []) ∙ n;
         counts = refl;
         writes =
-            ap (take ((count + 2) * 3)) q ∙ put-takes s₁ (count + 1) kind value place (omega arith) (let z : (count + 2) * 3 ≡ (count + 1) * 3 + 3 = omega arith in z) ∙
-            ap (λ (l : List ℕ). l ++ (kind ∷ value ∷ place ∷ [])) a ∙ append-assoc (take (count * 3) s) (54 ∷ 0 ∷ place ∷ []) (kind ∷ value ∷ place ∷ []);
+            ap (take ((count + 2) * 3)) q ∙ put-takes s₁ (count + 1) kind value place (omega arith)
+            (let z : (count + 2) * 3 ≡ (count + 1) * 3 + 3 = omega arith in z) ∙
+            ap (λ (l : List ℕ). l ++ (kind ∷ value ∷ place ∷ [])) a ∙ append-assoc (take (count * 3) s) (54 ∷ 0 ∷ place ∷ [])
+            (kind ∷ value ∷ place ∷ []);
       }
 
 -- ---- a symbol and the semicolon before it
@@ -116,7 +117,8 @@ module _ (text s₀ : List ℕ) (at count before strings : ℕ) (s : List ℕ) (
     module _ {semicolon : Bool} (g : semicolon ≡ gain before kind newline) where
       -- the rest, from this symbol on
       next-entries : {number strings′ : ℕ} → number ≡ cond (eqb kind 61) strings value → strings′ ≡ cond (eqb kind 61) (strings + 1) strings
-          → rest text at before strings ≡ entries (inserted semicolon (symbolOf kind number place) (symbolOf kind number place ∷ [])) ++ rest text past kind strings′
+          → rest text at before strings ≡ entries (inserted semicolon (symbolOf kind number place) (symbolOf kind number place ∷ [])) ++ rest text
+          past kind strings′
       unfolding scanBy
       next-entries {number} {strings′} m n =
           let more = following text kind past strings′ (scanAt text past .symbols) in
@@ -142,7 +144,8 @@ module _ (text s₀ : List ℕ) (at count before strings : ℕ) (s : List ℕ) (
             length-inserted semicolon (symbolOf kind number place),
           )
 
-      module _ {number strings′ count′ : ℕ} {s′ : List ℕ} (m : number ≡ cond (eqb kind 61) strings value) (n : strings′ ≡ cond (eqb kind 61) (strings + 1) strings)
+      module _ {number strings′ count′ : ℕ} {s′ : List ℕ} (m : number ≡ cond (eqb kind 61) strings value)
+          (n : strings′ ≡ cond (eqb kind 61) (strings + 1) strings)
           (w : Writes count semicolon kind number place s count′ s′) where
         fits-more : count′ * 3 ≤ length s′
         fits-more = go semicolon room-for (w .counts)
@@ -206,28 +209,3 @@ module _ (text s₀ : List ℕ) (at count before strings : ℕ) (s : List ℕ) (
 
         pub place-fits : place < 65536
         place-fits = omega (arith, found f e .some, found f e .within)
-
--- ---- zeros from a place on
-
-module _ (s₀ : List ℕ) (from i : ℕ) where
-  abbrev pub cleared : List ℕ
-  cleared = (take from s₀ ++ replicate (i - from) 0) ++ drop i s₀
-
-module _ (s₀ : List ℕ) (from i : ℕ) (h : from ≤ i) {s : List ℕ} (e : s ≡ cleared s₀ from i) where
-  pub clear-more : i < length s₀ → set s i 0 ≡ cleared s₀ from (i + 1)
-  clear-more k =
-      let d : drop i s₀ ≡ getD s₀ i 0 ∷ drop (i + 1) s₀ = drop-cons s₀ i 0 k ∙ rw add-one in
-      let l : length (take from s₀ ++ replicate (i - from) 0) ≡ i =
-      length-append (take from s₀) (replicate (i - from) 0) ∙
-      (let z : length (take from s₀) + length (replicate (i - from) 0) ≡ i = omega (arith, length-take-le from s₀ (omega arith), length-replicate {A = ℕ} (i - from) 0) in z) in
-      let z : i + 1 - from ≡ i - from + 1 = omega arith in
-      let r : replicate {A = ℕ} (i + 1 - from) 0 ≡ replicate (i - from) 0 ++ (0 ∷ []) = rw z (sym (replicate-append-replicate (i - from) 1 0)) in
-      rw (e, d, set-at (take from s₀ ++ replicate {A = ℕ} (i - from) 0) (getD s₀ i 0) (drop (i + 1) s₀) 0 i l, r) (simp append-assoc)
-
-  pub clear-all : i ≤ length s₀ → length s₀ ≤ i → s ≡ take from s₀ ++ replicate (length s₀ - from) 0
-  clear-all k l =
-      let z : i ≡ length s₀ = omega arith in
-      e ∙ rw (drop-of-length-le s₀ l, append-nil, z)
-
-pub clear-start : (s : List ℕ) (from : ℕ) → s ≡ cleared s from from
-clear-start s from = let z : from - from ≡ 0 = omega arith in rw (z, append-nil) (sym (take-append-drop from s))

@@ -242,8 +242,8 @@ fn write(
     count + 1
 }
 
-fn clear_from(scratch: &mut [u32], from: usize)
-    requires { ⌜ from ≤ length (now scratch) ⌝ }
+// Zeros from that entry on, to the end.
+pub fn clear_from(scratch: &mut [u32], from: usize)
     ensures { λ r. ⌜ now (scratch .exit) ≡ take from (now (scratch .entry)) ++ replicate (length (now (scratch .entry)) - from) 0 ⌝ }
 {
     let mut i = from;

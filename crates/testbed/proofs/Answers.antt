@@ -1,8 +1,5 @@
 -- From the library's answers to the exported numbers.
-use mathlib.Core.List.{List, [], _∷_}
-use mathlib.Core.Path.{_≡_, refl, sym, ap, subst, _∙_}
-use Prim.Native.Nat.{ℕ}
-use lib.ListN.{length}
+use Rattle.laws.proofs.Basics.{ℕ, _≡_, refl, sym, ap, subst, _∙_, List, [], _∷_, length}
 use Rattle.assembler.specs.Assemble as A
 use Rattle.assembler.specs.Assemble.{Assembles, assembled}
 use Rattle.assembler.specs.declared.Label.{Label}
@@ -18,7 +15,8 @@ use Rattle.symbols.specs.declared.SymbolsRead.{SymbolsRead}
 use Rattle.tree.specs.Read.{ReadsTree}
 use Rattle.tree.specs.declared.TreeRead.{TreeRead}
 use Rattle.tree.specs.declared.TreeRead.the-variants as T
-use Rattle.testbed.specs.Exported.{AssembleExported, RunExported, SymbolsExported, TreeAnswered, AfterSymbols, TreeExported, CompileExported, flagOf, ranNumbers, treeNumbers, compiledNumbers}
+use Rattle.testbed.specs.Exported.{AssembleExported, RunExported, SymbolsExported, TreeAnswered, AfterSymbols, TreeExported, CompileExported}
+use Rattle.testbed.specs.Exported.{flagOf, ranNumbers, treeNumbers, compiledNumbers}
 use Rattle.text.specs.Line.{refusal}
 use Rattle.language.specs.Program.{Refused, accepted, refused}
 use Rattle.compiler.specs.Compiles.{decided, answerOf, Compiles}
@@ -35,7 +33,8 @@ pub told : (ran : Ran) {flag : ℕ} → flag ≡ flagOf (ran .registers .stored)
 told ran e = ap (λ (f : ℕ). toldNumbers ran f) e
 
 -- a run's answer, told
-pub run-exported : {o : Outcome} {r : Ran} {memory output numbers : List ℕ} → Ends o r memory output → numbers ≡ ranNumbers r → RunExported o memory output numbers
+pub run-exported : {o : Outcome} {r : Ran} {memory output numbers : List ℕ} → Ends o r memory output → numbers ≡ ranNumbers r
+    → RunExported o memory output numbers
 run-exported e q =
     record {
       stores = e .stores;
@@ -44,7 +43,8 @@ run-exported e q =
     }
 
 -- an assembly's answer, told
-pub assemble-exported : {text memory : List ℕ} {table : List Label} {answer : Assembled} {memory′ : List ℕ} {table′ : List Label} {numbers : List ℕ} → Assembles text memory table answer memory′ table′
+pub assemble-exported : {text memory : List ℕ} {table : List Label} {answer : Assembled} {memory′ : List ℕ} {table′ : List Label} {numbers : List ℕ}
+    → Assembles text memory table answer memory′ table′
     → numbers ≡ A.numbers answer → AssembleExported (assembled text (length memory) (length table)) memory′ table′ numbers
 assemble-exported e q = record { fills = e .fills; tables = e .tables; answers = q ∙ e .tells }
 
@@ -60,12 +60,14 @@ symbols-refused {text} {scratch} {number = number} {place = place} {scratch′ =
     subst (λ (l : ℕ). SymbolsExported text scratch scratch′ (number ∷ place ∷ l ∷ [])) (sym h) (symbols-exported e q)
 
 -- a tree's answer, matched
-pub tree-answered : {text : List ℕ} {count : ℕ} {scratch : List ℕ} {answer matched : TreeRead} {scratch′ : List ℕ} → ReadsTree scratch count (length text) answer scratch′
+pub tree-answered : {text : List ℕ} {count : ℕ} {scratch : List ℕ} {answer matched : TreeRead} {scratch′ : List ℕ}
+    → ReadsTree scratch count (length text) answer scratch′
     → answer ≡ matched → TreeAnswered text count scratch scratch′ (treeNumbers text matched)
 tree-answered {text} e q = record { leaves = e .leaves; answers = ap (treeNumbers text) (sym q ∙ e .answers) }
 
 -- with the line that was found
-pub tree-refused : {text : List ℕ} {count : ℕ} {scratch : List ℕ} {answer : TreeRead} {number place line : ℕ} {scratch′ : List ℕ} → ReadsTree scratch count (length text) answer scratch′
+pub tree-refused : {text : List ℕ} {count : ℕ} {scratch : List ℕ} {answer : TreeRead} {number place line : ℕ} {scratch′ : List ℕ}
+    → ReadsTree scratch count (length text) answer scratch′
     → answer ≡ T.Refused number place → line ≡ lineOf text place → TreeAnswered text count scratch scratch′ (number ∷ place ∷ line ∷ [])
 tree-refused {text} {count} {scratch} {number = number} {place = place} {scratch′ = scratch′} e q h =
     subst (λ (l : ℕ). TreeAnswered text count scratch scratch′ (number ∷ place ∷ l ∷ [])) (sym h) (tree-answered e q)

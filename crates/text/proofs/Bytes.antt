@@ -1,10 +1,5 @@
 -- A byte of a text, as the head of what follows its place.
-use Prim.Native.Nat.{ℕ, _+_, _<_, _≤_}
-use mathlib.Core.Path.{_≡_}
-use mathlib.Core.List.{List, [], _∷_}
-use native.Mathlib.Numerals.{add-one}
-use lib.ListN.{length, getD, drop, drop-of-length-le}
-use lib.Seq.{drop-cons}
+use Rattle.laws.proofs.Basics.{ℕ, _+_, _<_, _≤_, _≡_, List, [], _∷_, length, getD, drop, drop-of-length-le, drop-cons, add-one}
 
 -- what holds of a byte and the rest holds where that byte stands
 module _ {A : Type 0} (f : List ℕ → A) (text : List ℕ) (at : ℕ) where

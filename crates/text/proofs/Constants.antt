@@ -1,11 +1,7 @@
 -- A constant from a place of a text on, as the code reads it: character by character.
-use Prim.Native.Nat.{ℕ, zero, suc, _+_, _-_, _<_, _≤_}
-use mathlib.Core.Path.{_≡_, refl, sym, ap, _∙_}
-use mathlib.Core.Bool.{Bool, true, false}
-use mathlib.Core.List.{List, [], _∷_}
-use native.Mathlib.Omega.{arith}
-use lib.ListN.{length, drop, length-drop}
-use lib.Seq.{drop-drop}
+use Rattle.laws.proofs.Basics.{ℕ, zero, suc, _+_, _-_, _<_, _≤_, _≡_, refl, sym, ap, _∙_, List, [], _∷_, true, false, length, drop, length-drop}
+use Rattle.laws.proofs.Basics.{drop-drop, arith}
+use Rattle.laws.proofs.Cases.{contradiction}
 use Rattle.text.specs.Quoted.{is, closing, ended, mistake, character, Quoted, closed, unclosed, faulty, faultBefore, quoted}
 use Rattle.text.specs.Parts.{isClosed, widened}
 use Rattle.text.specs.Answers.{asQuoted}
@@ -45,7 +41,7 @@ module _ (number offset : ℕ) (q : Quoted) where
     where
       by : (q : Quoted) → isClosed q ≡ true → Faulty number offset ≡ asQuoted (widened offset (faultBefore number q))
       by (closed cs n) e = ap (Faulty number) (omega arith)
-      by unclosed e = absurd (let z : _≡_ {A = ℕ} 0 1 = cc in omega arith)
+      by unclosed e = contradiction cc
       by (faulty k n) e = ap (Faulty number) (omega arith)
 
   pub fault-unclosed : isClosed q ≡ false → Unclosed ≡ asQuoted (widened offset (faultBefore number q))
@@ -53,20 +49,20 @@ module _ (number offset : ℕ) (q : Quoted) where
   fault-unclosed = by q
     where
       by : (q : Quoted) → isClosed q ≡ false → Unclosed ≡ asQuoted (widened offset (faultBefore number q))
-      by (closed cs n) e = absurd (let z : _≡_ {A = ℕ} 0 1 = cc in omega arith)
+      by (closed cs n) e = contradiction cc
       by unclosed e = refl
-      by (faulty k n) e = absurd (let z : _≡_ {A = ℕ} 0 1 = cc in omega arith)
+      by (faulty k n) e = contradiction cc
 
 -- a fault in front depends on the rest's closing alone
 fault-alike : (number : ℕ) (p q : Quoted) → isClosed p ≡ isClosed q → faultBefore number p ≡ faultBefore number q
 fault-alike number (closed cs n) (closed ds m) e = refl
-fault-alike number (closed cs n) unclosed e = absurd (let z : _≡_ {A = ℕ} 0 1 = cc in omega arith)
+fault-alike number (closed cs n) unclosed e = contradiction cc
 fault-alike number (closed cs n) (faulty k m) e = refl
-fault-alike number unclosed (closed ds m) e = absurd (let z : _≡_ {A = ℕ} 0 1 = cc in omega arith)
+fault-alike number unclosed (closed ds m) e = contradiction cc
 fault-alike number unclosed unclosed e = refl
-fault-alike number unclosed (faulty k m) e = absurd (let z : _≡_ {A = ℕ} 0 1 = cc in omega arith)
+fault-alike number unclosed (faulty k m) e = contradiction cc
 fault-alike number (faulty j n) (closed ds m) e = refl
-fault-alike number (faulty j n) unclosed e = absurd (let z : _≡_ {A = ℕ} 0 1 = cc in omega arith)
+fault-alike number (faulty j n) unclosed e = contradiction cc
 fault-alike number (faulty j n) (faulty k m) e = refl
 
 -- ---- the whole of it, n characters and k bytes before those that are read
@@ -156,9 +152,9 @@ pub record Continues (quote room : ℕ) (text : List ℕ) (past v k : ℕ) (cs :
   pub wide : w ≡ k + width
 
 no-fault : {A : Type 0} (number : ℕ) (q : Quoted) {cs : List ℕ} {w : ℕ} → faultBefore number q ≡ closed cs w → A
-no-fault number (closed ds n) e = absurd (let z : _≡_ {A = ℕ} 0 1 = cc in omega arith)
-no-fault number unclosed e = absurd (let z : _≡_ {A = ℕ} 0 1 = cc in omega arith)
-no-fault number (faulty k n) e = absurd (let z : _≡_ {A = ℕ} 0 1 = cc in omega arith)
+no-fault number (closed ds n) e = contradiction cc
+no-fault number unclosed e = contradiction cc
+no-fault number (faulty k n) e = contradiction cc
 
 module _ (quote room : ℕ) (text : List ℕ) (i : ℕ) {cs : List ℕ} {w : ℕ} (h : quoted quote room 0 (drop i text) ≡ closed cs w) where
   pub closed-next : {v k : ℕ} → character quote (drop i text) ≡ is v k → Continues quote room text (i + k) v k cs w
@@ -174,8 +170,8 @@ module _ (quote room : ℕ) (text : List ℕ) (i : ℕ) {cs : List ℕ} {w : ℕ
           go (closed ds n) f g =
               let b : length ds ≤ a = Q.is-closed quote a 0 (drop (i + k) text) f .short in
               record { rest = ds; width = n; more = Q.with-room quote a (suc a) 0 (drop (i + k) text) f (omega arith); are = cc; wide = cc }
-          go unclosed f g = absurd (let z : _≡_ {A = ℕ} 0 1 = cc in omega arith)
-          go (faulty number n) f g = absurd (let z : _≡_ {A = ℕ} 0 1 = cc in omega arith)
+          go unclosed f g = contradiction cc
+          go (faulty number n) f g = contradiction cc
 
   pub closed-end : character quote (drop i text) ≡ closing → cs ≡ []
   closed-end e = let y : closed [] 1 ≡ closed cs w = sym (quoted-end quote room (drop i text) e) ∙ h in cc
@@ -183,8 +179,7 @@ module _ (quote room : ℕ) (text : List ℕ) (i : ℕ) {cs : List ℕ} {w : ℕ
   pub closed-goes-on : character quote (drop i text) ≡ ended → ⊥
   closed-goes-on e =
       let y : unclosed ≡ closed cs w = sym (quoted-ended quote room (drop i text) e) ∙ h in
-      let z : _≡_ {A = ℕ} 0 1 = cc in
-      omega arith
+      contradiction cc
 
   pub closed-right : {number : ℕ} → character quote (drop i text) ≡ mistake number → ⊥
   closed-right {number} e = no-fault number (quoted quote room 0 (drop 1 (drop i text))) (sym (quoted-mistake quote room (drop i text) e) ∙ h)

@@ -1,9 +1,6 @@
 -- Worked examples by computation: lines, escapes and quotes (document 01, "Escapes in both").
-use Prim.Native.Nat.{ℕ}
-use mathlib.Core.Path.{_≡_, refl}
+use Rattle.laws.proofs.Basics.{ℕ, _≡_, refl, [], _∷_, _++_, map, replicate}
 use Prim.Native.String.{String}
-use mathlib.Core.List.{[], _∷_, _++_, map}
-use lib.ListN.{replicate}
 use Rattle.text.specs.Line.{newlines, lineOf}
 use Rattle.text.specs.Quoted.{is, closing, ended, mistake, byDigits, byNumber, escape, character, closed, unclosed, faulty, quoted}
 use Rattle.text.specs.Written.{bytes}

@@ -1,4 +1,3 @@
-pub mod Booleans
 pub mod Bytes
 pub mod Lines
 pub mod Quotes

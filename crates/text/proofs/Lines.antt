@@ -1,13 +1,7 @@
 -- The newlines before a place, counted one byte at a time.
-use Prim.Native.Nat.{ℕ, suc, _+_, _-_, _<_, _≤_}
-use mathlib.Core.Path.{_≡_}
-use mathlib.Core.List.{List, _∷_}
-use native.Mathlib.Omega.{arith}
-use native.Mathlib.Numerals.{add-one}
-use native.Mathlib.Nat.{sub-zero}
-use lib.ListN.{length, getD, take, drop, drop-of-length-le}
-use lib.Seq.{drop-cons, take-nil}
-use borrow.Author.Tests.{eq-eqb, ne-eqb}
+use Rattle.laws.proofs.Basics.{ℕ, suc, _+_, _-_, _<_, _≤_, _≡_, List, _∷_, length, getD, take, drop, drop-of-length-le, drop-cons, sub-zero, add-one}
+use Rattle.laws.proofs.Basics.{arith, eq-eqb, ne-eqb}
+use lib.Seq.{take-nil}
 use Rattle.text.specs.Line.{newlines, lineOf}
 
 -- the newlines from i up to a place

@@ -1,9 +1,5 @@
 -- How many words a string makes.
-use Prim.Native.Nat.{ℕ, suc, _/_}
-use mathlib.Core.Path.{_≡_, refl}
-use mathlib.Core.List.{List, [], _∷_}
-use native.Mathlib.Omega.{arith}
-use lib.ListN.{length}
+use Rattle.laws.proofs.Basics.{ℕ, suc, _/_, _≡_, refl, List, [], _∷_, length, arith}
 use Rattle.text.specs.Packed.{pairs}
 
 pub length-pairs : (high : ℕ) (cs : List ℕ) → length (pairs high cs) ≡ suc (length cs / 2)

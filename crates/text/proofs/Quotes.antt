@@ -1,14 +1,8 @@
 -- Characters between quotes: one at a time, and what every reading of them satisfies.
-use Prim.Native.Nat.{ℕ, zero, suc, _+_, _-_, _<_, _≤_}
-use mathlib.Core.Path.{_≡_, refl, sym, ap, _∙_}
-use mathlib.Core.Bool.{Bool, true, false, cond, _&&_}
-use mathlib.Core.List.{List, [], _∷_}
-use native.Mathlib.Omega.{arith}
-use lib.ListN.{length, getD, drop, length-drop}
-use lib.Dec.{eqb, leb}
-use borrow.Author.Tests.{eq-eqb, ne-eqb, le-leb, lt-leb, leb-true, leb-false}
-use Rattle.text.proofs.Booleans.{both-true}
-use Rattle.text.proofs.Bytes.{Unlike, at-byte}
+use Rattle.laws.proofs.Basics.{ℕ, zero, suc, _+_, _-_, _<_, _≤_, _≡_, refl, sym, ap, _∙_, List, [], _∷_, Bool, true, false, _&&_, cond, length, getD}
+use Rattle.laws.proofs.Basics.{drop, length-drop, eqb, leb, arith, eq-eqb, ne-eqb, leb-true, le-leb, lt-leb}
+use Rattle.laws.proofs.Cases.{either, contradiction, both-true}
+use Rattle.text.proofs.Bytes.{Unlike, at-byte, past-end}
 use Rattle.text.specs.Quoted.{Character, is, closing, ended, mistake, digit, numberOf, byDigits, byNumber, escape, character}
 use Rattle.text.specs.Quoted.{Quoted, closed, unclosed, faulty, wider, after, faultBefore, onCharacter, quoted}
 use Rattle.text.specs.Parts.{valueOf, isClosed, widened}
@@ -59,6 +53,27 @@ no-letter c r h =
       ne-eqb c 34 (h .1),
     )
 
+-- at a place of a text
+module _ (text : List ℕ) (at : ℕ) where
+  pub character-past : (quote : ℕ) → length text ≤ at → character quote (drop at text) ≡ ended
+  unfolding character
+  character-past quote h = past-end (character quote) text at h
+
+  pub escape-past : length text ≤ at → escape (drop at text) ≡ mistake 41
+  unfolding escape
+  escape-past h = past-end escape text at h
+
+  module _ (h : at < length text) where
+    pub character-here : (quote : ℕ) {ch : Character} → character quote (getD text at 0 ∷ drop (at + 1) text) ≡ ch
+        → character quote (drop at text) ≡ ch
+    character-here quote e = at-byte (character quote) text at h refl ∙ e
+
+    pub escape-here : {c : ℕ} {ch : Character} → getD text at 0 ≡ c → escape (c ∷ drop (at + 1) text) ≡ ch → escape (drop at text) ≡ ch
+    escape-here k e = at-byte escape text at h k ∙ e
+
+    pub by-number-here : Unlike (getD text at 0) (34 ∷ 39 ∷ 42 ∷ 67 ∷ 80 ∷ 66 ∷ 84 ∷ 83 ∷ 78 ∷ []) → byNumber (drop at text) ≡ escape (drop at text)
+    by-number-here u = at-byte byNumber text at h refl ∙ sym (at-byte escape text at h refl ∙ no-letter _ _ u)
+
 -- ---- a character by its number
 
 pub digit-bounds : (c : ℕ) → digit c ≡ true → (48 ≤ c) × (c ≤ 57)
@@ -66,7 +81,10 @@ digit-bounds c = by (leb 48 c) refl
   where
     by : (t : Bool) → leb 48 c ≡ t → cond t (leb c 57) false ≡ true → (48 ≤ c) × (c ≤ 57)
     by true l h = (leb-true 48 c l, leb-true c 57 h)
-    by false l h = let z : _≡_ {A = ℕ} 0 1 = cc in absurd (omega arith)
+    by false l h = contradiction cc
+
+pub digit-least : (c : ℕ) → digit c ≡ true → 48 ≤ c
+digit-least c e = digit-bounds c e .0
 
 module _ (a b c : ℕ) where
   pub no-first : digit a ≡ false → byDigits a b c ≡ mistake 41
@@ -140,19 +158,15 @@ IfIs n (mistake number) = Unit {0}
 record Fits (n : ℕ) (ch : Character) : Type 0 where
   pub fits : IfIs n ch
 
-either : {n : ℕ} {a b : Character} (t : Bool) → (t ≡ true → Fits n a) → Fits n b → Fits n (cond t a b)
-either true p q = p refl
-either false p q = q
-
 number-written : (bytes : List ℕ) → Fits (suc (length bytes)) (byNumber bytes)
 unfolding byNumber byDigits
 number-written [] = record { fits = tt }
 number-written (a ∷ []) = record { fits = tt }
 number-written (a ∷ b ∷ []) = record { fits = tt }
 number-written (a ∷ b ∷ c ∷ r) =
-    either (digit a && (digit b && (digit c && leb (numberOf a b c) 255)))
+    either (Fits _) (digit a && (digit b && (digit c && leb (numberOf a b c) 255)))
     (λ e. record { fits = record { some = omega arith; within = omega arith; one = small e } })
-    (record { fits = tt })
+    (λ _. record { fits = tt })
   where
     small : (digit a && (digit b && (digit c && leb (numberOf a b c) 255))) ≡ true → numberOf a b c ≤ 255
     small e = leb-true (numberOf a b c) 255 (both-true (digit c) _ (both-true (digit b) _ (both-true (digit a) _ e .1) .1) .1)
@@ -165,20 +179,20 @@ escape-written (c ∷ r) =
     (each 67 13 (omega arith) (each 42 42 (omega arith) (each 39 39 (omega arith) (each 34 34 (omega arith) (number-written (c ∷ r))))))))))
   where
     each : (k v : ℕ) {other : Character} → v ≤ 255 → Fits (suc (suc (length r))) other → Fits (suc (suc (length r))) (cond (eqb c k) (is v 2) other)
-    each k v w p = either (eqb c k) (λ _. record { fits = record { some = omega arith; within = omega arith; one = w } }) p
+    each k v w p = either (Fits _) (eqb c k) (λ _. record { fits = record { some = omega arith; within = omega arith; one = w } }) (λ _. p)
 
 character-written : (quote : ℕ) (bytes : List ℕ) → Fits (length bytes) (character quote bytes)
 unfolding character
 character-written quote [] = record { fits = tt }
 character-written quote (c ∷ r) =
-    either (eqb c quote) (λ _. record { fits = tt })
-    (either (eqb c 42) (λ _. escape-written r)
-    (either (eqb c 10) (λ _. record { fits = tt })
-    (either (leb 32 c)
-    (λ _. either (leb c 126)
+    either (Fits _) (eqb c quote) (λ _. record { fits = tt })
+    (λ _. either (Fits _) (eqb c 42) (λ _. escape-written r)
+    (λ _. either (Fits _) (eqb c 10) (λ _. record { fits = tt })
+    (λ _. either (Fits _) (leb 32 c)
+    (λ _. either (Fits _) (leb c 126)
     (λ h. record { fits = record { some = omega arith; within = omega arith; one = omega (arith, leb-true c 126 h) } })
-    (record { fits = tt }))
-    (record { fits = tt }))))
+    (λ _. record { fits = tt }))
+    (λ _. record { fits = tt }))))
 
 pub is-written : (quote : ℕ) (bytes : List ℕ) {v w : ℕ} → character quote bytes ≡ is v w → Written (length bytes) v w
 is-written quote bytes e = (rw e at (character-written quote bytes)) .fits
@@ -200,10 +214,10 @@ module _ (quote : ℕ) (text : List ℕ) (at : ℕ) where
       by (c ∷ r) k l = omega arith
 
   pub closing-inside : character quote (drop at text) ≡ closing → at < length text
-  closing-inside e = some-inside (λ k. let z : _≡_ {A = ℕ} 0 1 = cc in absurd (omega arith))
+  closing-inside e = some-inside (λ k. contradiction cc)
 
   pub mistake-inside : {number : ℕ} → character quote (drop at text) ≡ mistake number → at < length text
-  mistake-inside e = some-inside (λ k. let z : _≡_ {A = ℕ} 0 1 = cc in absurd (omega arith))
+  mistake-inside e = some-inside (λ k. contradiction cc)
 
 -- ---- a constant by the character at its head
 
@@ -251,7 +265,7 @@ module _ (quote room : ℕ) where
 
   pub quoted-end : (bytes : List ℕ) → character quote bytes ≡ closing → quoted quote room 0 bytes ≡ closed [] 1
   unfolding quoted character
-  quoted-end [] e = absurd (let z : _≡_ {A = ℕ} 0 1 = cc in omega arith)
+  quoted-end [] e = contradiction cc
   quoted-end (c ∷ r) e = rw e
 
   pub quoted-ended : (bytes : List ℕ) → character quote bytes ≡ ended → quoted quote room 0 bytes ≡ unclosed
@@ -262,7 +276,7 @@ module _ (quote room : ℕ) where
   pub quoted-mistake : (bytes : List ℕ) {number : ℕ} → character quote bytes ≡ mistake number
       → quoted quote room 0 bytes ≡ faultBefore number (quoted quote room 0 (drop 1 bytes))
   unfolding quoted character
-  quoted-mistake [] e = absurd (let z : _≡_ {A = ℕ} 0 1 = cc in omega arith)
+  quoted-mistake [] e = contradiction cc
   quoted-mistake (c ∷ r) e = rw e
 
 -- a character that there is no room for
@@ -363,24 +377,24 @@ fault-within quote room k bytes e = rw e at (quoted-each quote room k bytes)
 pub first-is : (quote room : ℕ) (bytes : List ℕ) {c : ℕ} {cs : List ℕ} {w : ℕ} → quoted quote room 0 bytes ≡ closed (c ∷ cs) w
     → valueOf (character quote bytes) ≡ c
 unfolding quoted
-first-is quote room [] e = absurd (let z : _≡_ {A = ℕ} 0 1 = cc in omega arith)
+first-is quote room [] e = contradiction cc
 first-is quote room (b ∷ r) {c} {cs} {w} e = by (character quote (b ∷ r)) room e
   where
     after-first : (v : ℕ) (q : Quoted) → after v q ≡ closed (c ∷ cs) w → v ≡ c
     after-first v (closed ds n) k = cc
-    after-first v unclosed k = absurd (let z : _≡_ {A = ℕ} 0 1 = cc in omega arith)
-    after-first v (faulty number n) k = absurd (let z : _≡_ {A = ℕ} 0 1 = cc in omega arith)
+    after-first v unclosed k = contradiction cc
+    after-first v (faulty number n) k = contradiction cc
 
     no-fault : {A : Type 0} (number : ℕ) (q : Quoted) → faultBefore number q ≡ closed (c ∷ cs) w → A
-    no-fault number (closed ds n) k = absurd (let z : _≡_ {A = ℕ} 0 1 = cc in omega arith)
-    no-fault number unclosed k = absurd (let z : _≡_ {A = ℕ} 0 1 = cc in omega arith)
-    no-fault number (faulty j n) k = absurd (let z : _≡_ {A = ℕ} 0 1 = cc in omega arith)
+    no-fault number (closed ds n) k = contradiction cc
+    no-fault number unclosed k = contradiction cc
+    no-fault number (faulty j n) k = contradiction cc
 
     by : (ch : Character) (room : ℕ) → onCharacter ch room (λ a k. quoted quote a k r) ≡ closed (c ∷ cs) w → valueOf ch ≡ c
     by (is v n) (suc a) k = after-first v (quoted quote a (n - 1) r) k
     by (is v n) zero k = no-fault 43 (quoted quote 0 (n - 1) r) k
-    by closing room k = absurd (let z : _≡_ {A = ℕ} 0 1 = cc in omega arith)
-    by ended room k = absurd (let z : _≡_ {A = ℕ} 0 1 = cc in omega arith)
+    by closing room k = contradiction cc
+    by ended room k = contradiction cc
     by (mistake number) room k = no-fault number (quoted quote room 0 r) k
 
 -- ---- a constant that is closed is so in any room for its characters

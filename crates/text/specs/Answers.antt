@@ -1,5 +1,4 @@
 -- What the code's answer enums say of the definitions' values.
-use Prim.Native.Nat.{ℕ}
 use lib.ListN.{length}
 use Rattle.text.specs.Quoted as Q
 use Rattle.text.specs.declared.Character.{Character}

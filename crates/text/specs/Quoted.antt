@@ -1,7 +1,7 @@
 -- Constants between quotes, in source and in assembly alike (document 01: "Escapes in both", "Neither may hold a byte outside 32 to 126"; document
 -- 02, Req 04: characters by number), and what is wrong with one, and where (document 02, Req 02).
 use Prim.Native.Nat.{ℕ, zero, suc, _+_, _-_, _*_}
-use mathlib.Core.Bool.{Bool, true, false, cond, _&&_}
+use mathlib.Core.Bool.{Bool, false, cond, _&&_}
 use mathlib.Core.List.{List, [], _∷_}
 use lib.Dec.{eqb, leb}
 

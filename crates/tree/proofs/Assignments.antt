@@ -1,10 +1,6 @@
 -- Assignments and calls: what their parts make together.
-use Prim.Native.Nat.{ℕ, _+_, _-_}
-use mathlib.Core.Path.{_≡_, refl, sym, ap, subst, _∙_}
-use mathlib.Core.Bool.{Bool, true, false}
-use mathlib.Core.List.{List, [], _++_, append-assoc, append-nil}
-use native.Mathlib.Omega.{arith}
-use lib.ListN.{length, length-append}
+use Rattle.laws.proofs.Basics.{ℕ, _+_, _-_, _≡_, refl, sym, ap, subst, _∙_, List, [], _++_, append-assoc, append-nil, Bool, true, false, length}
+use Rattle.laws.proofs.Basics.{length-append, arith}
 use Rattle.language.specs.Kinds as K
 use Rattle.language.specs.Tree as T
 use Rattle.language.specs.Tree.{Expression}

@@ -1,12 +1,6 @@
 -- What the last two entries of an expression's words say: its place, and whether it is a call.
-use Prim.Native.Nat.{ℕ, _+_, _-_, _≤_, _<_}
-use mathlib.Core.Path.{_≡_, refl, sym, ap, _∙_}
-use mathlib.Core.Bool.{Bool, true, false}
-use mathlib.Core.List.{List, [], _∷_, _++_, append-assoc}
-use native.Mathlib.Omega.{arith}
-use lib.ListN.{length, take, getD, length-append}
-use lib.Seq.{getD-take, length-take-le, getD-append-add}
-use lib.Dec.{eqb}
+use Rattle.laws.proofs.Basics.{ℕ, _+_, _-_, _<_, _≤_, _≡_, refl, sym, ap, _∙_, List, [], _∷_, _++_, append-assoc, Bool, true, false, length, getD}
+use Rattle.laws.proofs.Basics.{take, length-append, length-take-le, getD-take, getD-append-add, eqb, arith}
 use Rattle.language.specs.Kinds as K
 use Rattle.language.specs.Tree as T
 use Rattle.language.specs.Tree.{Expression, isCall, endsInCall, placeOf}

@@ -1,12 +1,6 @@
 -- Chains: a first part, and then a list of operations or of suffixes.
-use Prim.Native.Nat.{ℕ, suc, _+_, _-_, _≤_, _<_}
-use mathlib.Core.Path.{_≡_, refl, sym, ap, _∙_}
-use mathlib.Core.Bool.{Bool, true, false, cond}
-use mathlib.Core.List.{List, [], _∷_, _++_, append-assoc, append-nil}
-use native.Mathlib.Omega.{arith}
-use lib.ListN.{length, length-append}
-use lib.Dec.{eqb}
-use borrow.Author.Tests.{eq-eqb, ne-eqb}
+use Rattle.laws.proofs.Basics.{ℕ, suc, _+_, _-_, _<_, _≤_, _≡_, refl, sym, ap, _∙_, List, [], _∷_, _++_, append-assoc, append-nil, Bool, true, false}
+use Rattle.laws.proofs.Basics.{cond, length, length-append, eqb, arith, eq-eqb, ne-eqb}
 use Rattle.language.specs.Kinds.{member}
 use Rattle.language.specs.Tree as T
 use Rattle.language.specs.Tree.{Expressions, Suffixes, Operations, withOperations, withSuffixes, count, endsInCall}

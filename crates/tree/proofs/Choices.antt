@@ -1,11 +1,5 @@
 -- Choices by the symbol here: what the next call reads is what is to be read.
-use Prim.Native.Nat.{ℕ, zero, suc, _-_}
-use mathlib.Core.Path.{_≡_, refl, sym, ap, _∙_}
-use mathlib.Core.Bool.{Bool, true, false, cond}
-use mathlib.Core.List.{List, [], _∷_}
-use native.Mathlib.Omega.{arith}
-use lib.Dec.{eqb, leb}
-use borrow.Author.Tests.{eq-eqb, ne-eqb}
+use Rattle.laws.proofs.Basics.{ℕ, zero, suc, _-_, _≡_, refl, sym, ap, _∙_, List, [], _∷_, Bool, true, false, cond, eqb, leb, arith, eq-eqb, ne-eqb}
 use Rattle.language.specs.Kinds as K
 use Rattle.language.specs.Reader.{Source, no, Reader, kindAt, the}
 use Rattle.language.specs.Binding.{isMonadic, NEGATION}

@@ -1,12 +1,7 @@
 -- The classes of symbols: `Binding` says them kind by kind, the code by a letter for each kind. That both agree is computed over all kinds.
-use Prim.Native.Nat.{ℕ, zero, suc, _+_, _<_, _≤_}
-use mathlib.Core.Path.{_≡_, refl, sym, ap, _∙_}
-use mathlib.Core.Bool.{Bool, true, false, cond, _&&_}
-use mathlib.Core.List.{List, [], _∷_}
-use native.Mathlib.Omega.{arith}
-use lib.Dec.{T, eqb, ltb}
-use lib.ListN.{length, getD, List·getD-eq-default}
-use borrow.Author.Tests.{ne-eqb, ltb-true, ltb-false}
+use Rattle.laws.proofs.Basics.{ℕ, zero, suc, _+_, _<_, _≤_, _≡_, refl, sym, ap, _∙_, List, [], _∷_, Bool, true, false, _&&_, cond, length, getD}
+use Rattle.laws.proofs.Basics.{List·getD-eq-default, eqb, ltb, arith, ne-eqb, ltb-true, ltb-false}
+use lib.Dec.{T}
 use Rattle.text.specs.Written.{bytes}
 use Rattle.text.proofs.Bytes.{Unlike}
 use Rattle.language.specs.Kinds as K

@@ -1,10 +1,5 @@
 -- Constants with a minus, and the choice.
-use Prim.Native.Nat.{ℕ, _+_, _-_, _<_}
-use mathlib.Core.Path.{_≡_, refl, sym, ap, _∙_}
-use mathlib.Core.Bool.{true}
-use mathlib.Core.List.{List, [], _∷_, _++_}
-use native.Mathlib.Omega.{arith}
-use borrow.Author.Tests.{ne-eqb}
+use Rattle.laws.proofs.Basics.{ℕ, _+_, _-_, _<_, _≡_, refl, sym, ap, _∙_, List, [], _∷_, _++_, true, arith, ne-eqb}
 use Rattle.language.specs.Kinds as K
 use Rattle.language.specs.Tree as T
 use Rattle.language.specs.Tree.{Simple, Constant}

@@ -1,13 +1,7 @@
 -- The source that scratch holds: its symbols lie there. What the reading of it makes of scratch, and when scratch is fit for it.
-use Prim.Native.Nat.{ℕ, zero, suc, _+_, _*_, _-_, _/_, _≤_, _<_, _^_}
-use mathlib.Core.Path.{_≡_, refl, sym, ap, subst, _∙_}
-use mathlib.Core.Bool.{Bool, true, false, cond}
-use mathlib.Core.List.{List, _++_}
-use native.Mathlib.Omega.{arith}
-use lib.ListN.{length, take, getD, drop, replicate, List·getD-eq-default}
-use lib.Seq.{getD-drop, length-take-le}
-use lib.Dec.{ltb}
-use borrow.Author.Tests.{ltb-true, ltb-false, lt-ltb, le-ltb}
+use Rattle.laws.proofs.Basics.{ℕ, zero, suc, _+_, _-_, _*_, _/_, _^_, _<_, _≤_, _≡_, refl, sym, ap, subst, _∙_, List, _++_, Bool, true, false, cond}
+use Rattle.laws.proofs.Basics.{length, getD, take, drop, replicate, List·getD-eq-default, length-take-le, getD-drop, ltb, arith, ltb-true, ltb-false}
+use Rattle.laws.proofs.Basics.{lt-ltb, le-ltb}
 use Rattle.language.specs.Symbols.{Symbol}
 use Rattle.language.specs.Reader.{Source, Out, ok, no, placeAt}
 use Rattle.language.specs.Tree.{Program}

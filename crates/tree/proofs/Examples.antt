@@ -1,11 +1,6 @@
 -- Worked examples by computation: what small texts leave in scratch, and what is refused.
-use Prim.Native.Nat.{ℕ}
+use Rattle.laws.proofs.Basics.{ℕ, _≡_, refl, List, [], _∷_, _++_, false, length, take, drop, replicate, arith}
 use Prim.Native.String.{String}
-use mathlib.Core.Path.{_≡_, refl}
-use mathlib.Core.Bool.{false}
-use mathlib.Core.List.{List, [], _∷_, _++_}
-use native.Mathlib.Omega.{arith}
-use lib.ListN.{length, take, drop, replicate}
 use Rattle.text.specs.Written.{bytes}
 use Rattle.language.specs.Kinds as K
 use Rattle.language.specs.Symbols.{Symbol}

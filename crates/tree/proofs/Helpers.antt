@@ -1,10 +1,7 @@
 -- Laws of scratch: what the functions that read and write single entries leave.
-use Prim.Native.Nat.{ℕ, zero, suc, _+_, _*_, _-_, _≤_, _<_, _^_}
-use mathlib.Core.Path.{_≡_, refl, sym, ap, _∙_}
-use mathlib.Core.List.{List, [], _∷_, _++_, append-assoc}
-use native.Mathlib.Omega.{arith}
-use lib.ListN.{length, take, set, length-set}
-use lib.Seq.{take-suc-set, take-take, take-append-le, length-take-le}
+use Rattle.laws.proofs.Basics.{ℕ, zero, suc, _+_, _-_, _*_, _^_, _<_, _≤_, _≡_, refl, sym, ap, _∙_, List, [], _∷_, _++_, append-assoc, length, set}
+use Rattle.laws.proofs.Basics.{take, length-set, length-take-le, take-suc-set, arith}
+use lib.Seq.{take-take, take-append-le}
 use Rattle.tree.specs.Reads.{Ready, LeavesRoom, TakesRoom, Refuses, Adds, SetsSize, nextOf, freeOf, lowOf, live, reach, recordFrom, behindFrom}
 use Rattle.tree.specs.declared.scratch.State.{State}
 use Rattle.tree.specs.declared.scratch.State.the-variants.{Read, Refused}

@@ -1,11 +1,5 @@
 -- Symbols that are leaves of the tree.
-use Prim.Native.Nat.{ℕ, _+_, _-_, _<_}
-use mathlib.Core.Path.{_≡_, refl, sym, ap, _∙_}
-use mathlib.Core.Bool.{Bool, true, false}
-use mathlib.Core.List.{List, [], _∷_}
-use native.Mathlib.Omega.{arith}
-use lib.Dec.{eqb}
-use borrow.Author.Tests.{ne-eqb, eqb-true}
+use Rattle.laws.proofs.Basics.{ℕ, _+_, _-_, _<_, _≡_, refl, sym, ap, _∙_, List, [], _∷_, Bool, true, false, eqb, arith, eqb-true, ne-eqb}
 use Rattle.language.specs.Kinds as K
 use Rattle.language.specs.Tree as T
 use Rattle.language.specs.Tree.{Simple, Constant}

@@ -1,12 +1,6 @@
 -- { ; item } [;] $): one turn, by the symbol here and the symbol after the semicolon.
-use Prim.Native.Nat.{ℕ, zero, suc, _+_, _-_, _<_}
-use mathlib.Core.Path.{_≡_, refl, sym, ap, subst, _∙_}
-use mathlib.Core.Bool.{true, false}
-use mathlib.Core.List.{List, [], _++_, append-nil}
-use native.Mathlib.Omega.{arith}
-use lib.ListN.{length}
-use lib.Dec.{eqb}
-use borrow.Author.Tests.{eq-eqb, ne-eqb}
+use Rattle.laws.proofs.Basics.{ℕ, zero, suc, _+_, _-_, _<_, _≡_, refl, sym, ap, subst, _∙_, List, [], _++_, append-nil, true, false, length, eqb}
+use Rattle.laws.proofs.Basics.{arith, eq-eqb, ne-eqb}
 use Rattle.language.specs.Kinds as K
 use Rattle.language.specs.Reader.{Source, Out, ok, no, Reader, onOut, kindAt, unexpected, the, moreUpTo, items}
 use Rattle.tree.specs.Reads.{KindHere, FollowsBy, Follows, Prepends, Reads, Refuses}

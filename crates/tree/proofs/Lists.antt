@@ -1,11 +1,6 @@
 -- Lists: an item whose size is set when it is read, and the loop that reads one item after another.
-use Prim.Native.Nat.{ℕ, zero, suc, _+_, _-_, _≤_, _<_}
-use mathlib.Core.Path.{_≡_, refl, sym, ap, subst, _∙_}
-use mathlib.Core.Bool.{Bool, true, false}
-use mathlib.Core.List.{List, [], _∷_, _++_, append-assoc, append-nil}
-use native.Mathlib.Omega.{arith}
-use lib.ListN.{length, take, set, length-append}
-use lib.Seq.{length-take-le}
+use Rattle.laws.proofs.Basics.{ℕ, zero, suc, _+_, _-_, _<_, _≤_, _≡_, refl, sym, ap, subst, _∙_, List, [], _∷_, _++_, append-assoc, append-nil, Bool}
+use Rattle.laws.proofs.Basics.{true, false, length, set, take, length-append, length-take-le, arith}
 use Rattle.language.specs.Reader.{Source, Out, ok, no, Reader, onOut, manyUpTo, kindAt}
 use Rattle.tree.specs.Reads.{Wrote, FollowsBy, Follows, Adds, SetsSize, freeOf}
 use Rattle.tree.specs.Encoding.{item}

@@ -1,9 +1,5 @@
 -- The loops that read lists: what holds of the items so far, another turn, and the end.
-use Prim.Native.Nat.{ℕ, _-_, _<_}
-use mathlib.Core.Path.{_≡_, refl, sym, ap, subst, _∙_}
-use mathlib.Core.Bool.{Bool, true, false}
-use mathlib.Core.List.{List, [], _++_, append-assoc}
-use lib.ListN.{length}
+use Rattle.laws.proofs.Basics.{ℕ, _-_, _<_, _≡_, refl, sym, ap, subst, _∙_, List, [], _++_, append-assoc, Bool, true, false, length}
 use Rattle.language.specs.Kinds as K
 use Rattle.language.specs.Reader.{Source, ok, Reader, onOut, the, manyUpTo, moreUpTo}
 use Rattle.tree.specs.Reads.{HoldsSymbols, Ready, LeavesRoom, TakesRoom, Follows, Encodes, Prepends, Refuses, Reading, ReadingAt}

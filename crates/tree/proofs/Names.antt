@@ -1,11 +1,5 @@
 -- Names, one and after commas, and what may be left out: a symbol, and BY with its constant.
-use Prim.Native.Nat.{ℕ}
-use mathlib.Core.Path.{_≡_, refl, sym, ap, _∙_}
-use mathlib.Core.Bool.{Bool, true, false, cond}
-use mathlib.Core.List.{List, []}
-use mathlib.Core.Option.{none, some}
-use native.Mathlib.Omega.{arith}
-use borrow.Author.Tests.{eq-eqb, ne-eqb}
+use Rattle.laws.proofs.Basics.{ℕ, _≡_, refl, sym, ap, _∙_, List, [], Bool, true, false, cond, some, none, arith, eq-eqb, ne-eqb}
 use Rattle.language.specs.Kinds as K
 use Rattle.language.specs.Tree.{Name}
 use Rattle.language.specs.Reader.{Source, Out, ok, no, onOut, kindAt, valueAt, the, optional, aName}

@@ -1,12 +1,5 @@
 -- Laws of room: what one call after another leaves of what the symbols read allow, and what the next call may ask.
-use Prim.Native.Nat.{ℕ, _+_, _*_, _-_, _≤_, _<_, _^_}
-use mathlib.Core.Path.{_≡_, ap, _∙_}
-use mathlib.Core.Bool.{true}
-use mathlib.Core.List.{List}
-use native.Mathlib.Omega.{arith}
-use lib.ListN.{length, take}
-use lib.Dec.{leb}
-use borrow.Author.Tests.{leb-true}
+use Rattle.laws.proofs.Basics.{ℕ, _+_, _-_, _*_, _^_, _<_, _≤_, _≡_, ap, _∙_, List, true, length, take, leb, arith, leb-true}
 use Rattle.tree.specs.Reads.{Ready, LeavesRoom, TakesRoom, nextOf, lowOf, freeOf, live, reach}
 use Rattle.tree.proofs.Helpers.{itself, base, low}
 use Rattle.tree.specs.declared.scratch.State.{State}

@@ -1,11 +1,6 @@
 -- After `read_symbols`: eight entries a byte and 64 more are enough for every text, and what is read is the text's tree.
-use Prim.Native.Nat.{ℕ, _+_, _*_, _-_, _≤_, _<_, _^_}
-use mathlib.Core.Path.{_≡_, refl, ap, subst}
-use mathlib.Core.Bool.{false}
-use mathlib.Core.List.{List, [], _∷_, _++_}
-use native.Mathlib.Omega.{arith}
-use lib.ListN.{length, replicate, length-append, length-replicate}
-use borrow.Author.Tests.{le-ltb}
+use Rattle.laws.proofs.Basics.{ℕ, _+_, _-_, _*_, _^_, _<_, _≤_, _≡_, refl, ap, subst, List, [], _∷_, _++_, false, length, replicate, length-append}
+use Rattle.laws.proofs.Basics.{length-replicate, arith, le-ltb}
 use Rattle.language.specs.Symbols.{Symbol, Fault, none, fault, scan}
 use Rattle.language.specs.Brackets.{firstFault, brackets}
 use Rattle.language.specs.Source.{Symbols, good, faulty, onFault, symbolsOf, Read, read, refused, onTree, readSymbols, parsed}

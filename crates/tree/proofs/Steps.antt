@@ -1,9 +1,5 @@
 -- How what the callees ensure makes what a reader ensures: one law for each way to go on.
-use Prim.Native.Nat.{ℕ, _+_}
-use mathlib.Core.Path.{_≡_, refl, sym, ap, subst, _∙_}
-use mathlib.Core.List.{List, [], _++_, append-assoc, append-nil}
-use native.Mathlib.Omega.{arith}
-use lib.ListN.{length, take, length-append}
+use Rattle.laws.proofs.Basics.{ℕ, _+_, _≡_, refl, sym, ap, subst, _∙_, List, [], _++_, append-assoc, append-nil, length, take, length-append, arith}
 use Rattle.language.specs.Reader.{Out, ok, no, onOut}
 use Rattle.tree.specs.Reads.{FollowsBy, Follows, Reads, PassesBy, Passes, Refuses, Adds, freeOf}
 use Rattle.tree.specs.declared.scratch.State.{State}

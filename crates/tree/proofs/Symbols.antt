@@ -1,13 +1,6 @@
 -- Laws of the symbols that stand in scratch.
-use Prim.Native.Nat.{ℕ, _+_, _*_, _≤_, _<_}
-use mathlib.Core.Path.{_≡_, refl, sym, ap, _∙_}
-use mathlib.Core.Bool.{Bool, true, false, cond}
-use mathlib.Core.List.{List, [], append-nil}
-use native.Mathlib.Omega.{arith}
-use lib.ListN.{take, getD, List·getD-eq-default}
-use lib.Seq.{getD-take}
-use lib.Dec.{eqb, ltb}
-use borrow.Author.Tests.{eq-eqb, ne-eqb, eqb-true, ltb-true, ltb-false}
+use Rattle.laws.proofs.Basics.{ℕ, _+_, _*_, _<_, _≤_, _≡_, refl, sym, ap, _∙_, List, [], append-nil, Bool, true, false, cond, getD, take}
+use Rattle.laws.proofs.Basics.{List·getD-eq-default, getD-take, eqb, ltb, arith, eqb-true, eq-eqb, ne-eqb, ltb-true, ltb-false}
 use Rattle.language.specs.Symbols.{Symbol}
 use Rattle.language.specs.Reader.{Source, Out, ok, no, onOut, kindAt, valueAt, placeAt, is, unexpected, the}
 use Rattle.tree.specs.Reads.{HoldsSymbols, Here, KindHere, Follows, Encodes, Reads, Passes, nextOf}

@@ -11,6 +11,7 @@ mod scratch;
 
 use crate::declarations::program;
 use crate::scratch::State;
+use symbols::clear_from;
 ghost use Prim.Native.Nat.{_*_, _-_, _≤_};
 ghost use mathlib.Core.Path.{_≡_};
 ghost use mathlib.Core.List.{_++_};
@@ -44,18 +45,6 @@ fn too_short(s: &[u32], count: usize) -> bool
         return true;
     }
     (room - 64) / 8 < count
-}
-
-// Zeros from that entry on.
-fn clear_from(s: &mut [u32], from: usize)
-    requires { ⌜ from ≤ length (now s) ⌝ }
-    ensures { λ _. ⌜ now (s .exit) ≡ take from (now (s .entry)) ++ replicate (length (now (s .entry)) - from) 0 ⌝ }
-{
-    let mut i = from;
-    while i < s.len() {
-        s[i] = 0;
-        i += 1;
-    }
 }
 
 // Reads so many symbols, which stand in scratch and come from a text of that size, and writes their tree behind them, and zeros

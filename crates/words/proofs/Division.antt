@@ -1,12 +1,9 @@
 -- Quotient and remainder are what a reader expects of signed division: quotient * divisor + remainder is the dividend,
 -- the remainder is smaller than the divisor and has the dividend's sign. One pair wraps: -32768 / -1.
-use Prim.Native.Nat.{ℕ, zero, suc, _+_, _-_, _*_, _/_, _%_, _<_, _≤_, suc-le-suc}
-use mathlib.Core.Path.{_≡_, refl, sym, ap, _∙_}
-use mathlib.Core.Bool.{Bool, true, false, not}
-use mathlib.Core.Logic.{_⊎_, inl, inr}
-use native.Mathlib.Omega.{arith}
-use native.Mathlib.Nat.{div-add-mod', mod-lt, zero-mul, div-le-self, div-lt-self, lt-of-le-of-lt, lt-of-lt-of-le, le-trans, le-suc, eq-or-lt-of-le, zero-lt-suc}
-use lib.IntN.{ℤ, pos, negsuc, negℤ, natAbs, _+ℤ_, _*ℤ_, negℤ-+ℤ, pos-+ℤ-pos}
+use Rattle.laws.proofs.Basics.{ℕ, zero, suc, _+_, _-_, _*_, _/_, _%_, _<_, _≤_, suc-le-suc, _≡_, refl, sym, ap, _∙_, false, _⊎_, inl, inr, le-trans}
+use Rattle.laws.proofs.Basics.{lt-of-lt-of-le, lt-of-le-of-lt, eq-or-lt-of-le, arith}
+use native.Mathlib.Nat.{div-add-mod', mod-lt, zero-mul, div-le-self, div-lt-self, le-suc, zero-lt-suc}
+use lib.IntN.{ℤ, pos, negsuc, negℤ, natAbs, _+ℤ_, _*ℤ_, negℤ-+ℤ}
 use lib.Signed.{mag, mag-rem, nonNeg, quotZ, remZ}
 use Rattle.words.specs.Words.{value, wordOf, quot, rem}
 use Rattle.words.proofs.Laws.{halves, value-low, value-high, magnitude-positive}
@@ -88,8 +85,10 @@ pub record Divides (x y : ℕ) : Type 0 where
 pub divides : (x y : ℕ) → x < 65536 → y < 65536 → (y ≡ 0 → ⊥) → (value x ≡ negsuc 32767 → value y ≡ negsuc 0 → ⊥) → Divides x y
 unfolding quot rem
 divides x y hx hy nz corner =
-    let q : value (quot x y) ≡ quotZ (value x) (value y) = value-of-word (quotZ (value x) (value y)) (quotient-small (value x) (value y) (value-small x hx) corner) in
-    let r : value (rem x y) ≡ remZ (value x) (value y) = value-of-word (remZ (value x) (value y)) (lt-of-le-of-lt (mag-rem (value x) (value y)) (value-small x hx)) in
+    let q : value (quot x y) ≡ quotZ (value x) (value y) = value-of-word (quotZ (value x) (value y))
+    (quotient-small (value x) (value y) (value-small x hx) corner) in
+    let r : value (rem x y) ≡ remZ (value x) (value y) = value-of-word (remZ (value x) (value y))
+    (lt-of-le-of-lt (mag-rem (value x) (value y)) (value-small x hx)) in
     record {
       whole = rw (q, r) (quotZ-remZ (value x) (value y));
       smaller = rw r (remZ-smaller (value x) (value y) (magnitude-positive y hy nz));

@@ -1,8 +1,6 @@
 -- Worked examples by computation: the corners that document 01 names.
-use Prim.Native.Nat.{ℕ}
-use mathlib.Core.Path.{_≡_, refl}
-use native.Mathlib.Omega.{arith}
-use lib.Dec.{lit<}
+use Rattle.laws.proofs.Basics.{ℕ, _≡_, refl, lit<, arith}
+use Rattle.laws.proofs.Cases.{contradiction}
 use Rattle.words.specs.Words.{value, wordOf, add, sub, neg, complement, mul, quot, rem, below, eq, ne, lt, ge, gt, le, conj, disj, shl, shr}
 use Rattle.words.proofs.Division.{Divides, divides}
 
@@ -95,4 +93,4 @@ ors = refl
 -- a closed instance of the law of division: -7 by 2
 minus-seven-by-two : Divides 65529 2
 unfolding value
-minus-seven-by-two = divides 65529 2 (lit< tt) (lit< tt) (λ e. omega arith) (λ p q. let z : _≡_ {A = ℕ} 0 1 = cc in omega arith)
+minus-seven-by-two = divides 65529 2 (lit< tt) (lit< tt) (λ e. omega arith) (λ p q. contradiction cc)

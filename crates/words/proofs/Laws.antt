@@ -1,16 +1,12 @@
 -- What the functions' answers cite: a word's signed number by its half, the signed order, and each act from its parts.
-use Prim.Native.Nat.{ℕ, zero, suc, _+_, _-_, _*_, _/_, _%_, _^_, _<_, _≤_}
-use mathlib.Core.Path.{_≡_, refl, sym, ap, _∙_}
-use mathlib.Core.Bool.{Bool, true, false, not, cond}
-use native.Mathlib.Omega.{arith}
-use native.Mathlib.Nat.{mul-le-mul, lt-of-le-of-lt}
-use lib.Dec.{ltb, leb, eqb, lit<}
+use Rattle.laws.proofs.Basics.{ℕ, zero, suc, _+_, _-_, _*_, _/_, _%_, _^_, _<_, _≤_, _≡_, refl, sym, ap, _∙_, Bool, true, false, not, cond, ltb, leb}
+use Rattle.laws.proofs.Basics.{lit<, lt-of-le-of-lt, arith, eq-eqb, ne-eqb, ltb-true, ltb-false, lt-ltb, le-ltb, le-leb, lt-leb}
+use Rattle.laws.proofs.Cases.{by-cases}
+use native.Mathlib.Nat.{mul-le-mul}
 use lib.IntN.{ℤ, pos, negsuc, negℤ, natAbs}
-use lib.Signed.{ltZ, nonNeg, quotZ, remZ}
-use borrow.Author.Tests.{lt-ltb, le-ltb, le-leb, lt-leb, ltb-true, ltb-false, eq-eqb, ne-eqb}
+use lib.Signed.{nonNeg, quotZ, remZ}
 use Rattle.words.specs.Words.{value, wordOf, add, neg, quot, rem, below, shl, shr}
 use Rattle.words.specs.Answers.{divided}
-use Rattle.words.specs.declared.Divided.{Divided}
 use Rattle.words.specs.declared.Divided.the-variants.{Is, ByZero}
 
 -- ---- the signed number of a word, by its half
@@ -25,11 +21,7 @@ value-high x h = simp (le-ltb x 32768 h)
 
 -- by cases on the half that a word stands in
 pub halves : {P : Type 0} (x : ℕ) → (x < 32768 → P) → (32768 ≤ x → P) → P
-halves {P} x low high = go (ltb x 32768) refl
-  where
-    go : (t : Bool) → ltb x 32768 ≡ t → P
-    go true e = low (ltb-true x 32768 e)
-    go false e = high (ltb-false x 32768 e)
+halves {P} x low high = by-cases (ltb x 32768) (λ e. low (ltb-true x 32768 e)) (λ e. high (ltb-false x 32768 e))
 
 pub negative-is : (x : ℕ) → leb 32768 x ≡ not (nonNeg (value x))
 negative-is x =
@@ -53,11 +45,7 @@ magnitude-low x k = simp (value-low x k)
 -- ---- the signed order: adding 32768 keeps it
 
 same-test : (a b c d : ℕ) → (a < b → c < d) → (b ≤ a → d ≤ c) → ltb a b ≡ ltb c d
-same-test a b c d f g = go (ltb a b) refl
-  where
-    go : (t : Bool) → ltb a b ≡ t → ltb a b ≡ ltb c d
-    go true e = e ∙ sym (lt-ltb c d (f (ltb-true a b e)))
-    go false e = e ∙ sym (le-ltb c d (g (ltb-false a b e)))
+same-test a b c d f g = by-cases (ltb a b) (λ e. e ∙ sym (lt-ltb c d (f (ltb-true a b e)))) (λ e. e ∙ sym (le-ltb c d (g (ltb-false a b e))))
 
 pub below-is : {p q : ℕ} (x y : ℕ) → x < 65536 → y < 65536 → p ≡ add x 32768 → q ≡ add y 32768 → ltb p q ≡ below x y
 unfolding below
@@ -111,18 +99,21 @@ divided-is : (y : ℕ) {r v : ℕ} → (y ≡ 0 → ⊥) → r ≡ v → Is r �
 unfolding divided
 divided-is y h e = simp (ne-eqb y 0 h) (ap Is e)
 
-module _ (x y : ℕ) {a b r : ℕ} {u : Bool} (nz : y ≡ 0 → ⊥) (ha : a ≡ natAbs (value x)) (hb : b ≡ natAbs (value y)) (hu : u ≡ not (nonNeg (value x))) where
-  pub quot-minus : {v : Bool} → u ≡ true → v ≡ not (nonNeg (value y)) → r ≡ wordOf (cond (not v) (negℤ (pos (a / b))) (pos (a / b))) → Is r ≡ divided y (quot x y)
-  unfolding quot
-  quot-minus e hv h = divided-is y nz (simp (quot-signs, ← ha, ← hb, ← hu, ← hv, e) h)
+module _ (x y : ℕ) {a b r : ℕ} {u : Bool} (nz : y ≡ 0 → ⊥) (ha : a ≡ natAbs (value x)) (hb : b ≡ natAbs (value y)) (hu : u ≡ not (nonNeg (value x)))
+  where
+    pub quot-minus : {v : Bool} → u ≡ true → v ≡ not (nonNeg (value y)) → r ≡ wordOf (cond (not v) (negℤ (pos (a / b))) (pos (a / b)))
+        → Is r ≡ divided y (quot x y)
+    unfolding quot
+    quot-minus e hv h = divided-is y nz (simp (quot-signs, ← ha, ← hb, ← hu, ← hv, e) h)
 
-  pub quot-plus : {v : Bool} → u ≡ false → v ≡ not (nonNeg (value y)) → r ≡ wordOf (cond v (negℤ (pos (a / b))) (pos (a / b))) → Is r ≡ divided y (quot x y)
-  unfolding quot
-  quot-plus e hv h = divided-is y nz (simp (quot-signs, ← ha, ← hb, ← hu, ← hv, e) h)
+    pub quot-plus : {v : Bool} → u ≡ false → v ≡ not (nonNeg (value y)) → r ≡ wordOf (cond v (negℤ (pos (a / b))) (pos (a / b)))
+        → Is r ≡ divided y (quot x y)
+    unfolding quot
+    quot-plus e hv h = divided-is y nz (simp (quot-signs, ← ha, ← hb, ← hu, ← hv, e) h)
 
-  pub rem-is : r ≡ wordOf (cond u (negℤ (pos (a % b))) (pos (a % b))) → Is r ≡ divided y (rem x y)
-  unfolding rem
-  rem-is h = divided-is y nz (simp (rem-signs, ← ha, ← hb, ← hu) h)
+    pub rem-is : r ≡ wordOf (cond u (negℤ (pos (a % b))) (pos (a % b))) → Is r ≡ divided y (rem x y)
+    unfolding rem
+    rem-is h = divided-is y nz (simp (rem-signs, ← ha, ← hb, ← hu) h)
 
 -- ---- products and shifts
 

@@ -1,7 +1,7 @@
 -- Sixteen-bit words: the acts that the machine and the source run share (document 01, "The source run", first paragraph).
 -- A word is a number below 65,536. It stands for a signed number, its `value`: 65535 for -1, 32768 for -32768.
 -- Relations, quotients and remainders are those of the signed numbers; a result wraps to the word that stands for it.
-use Prim.Native.Nat.{ℕ, suc, _+_, _-_, _*_, _/_, _%_, _^_}
+use Prim.Native.Nat.{ℕ, _+_, _-_, _*_, _/_, _%_, _^_}
 use mathlib.Core.Bool.{Bool, true, false, not, cond}
 use lib.Dec.{ltb, eqb}
 use lib.Bits.{bitAnd, bitOr}

@@ -1,7 +1,5 @@
 -- Worked examples by computation: what is written with room and without.
-use mathlib.Core.Path.{_≡_, refl}
-use mathlib.Core.Bool.{true, false}
-use mathlib.Core.List.{[], _∷_}
+use Rattle.laws.proofs.Basics.{_≡_, refl, [], _∷_, true, false}
 use Rattle.items.specs.Item.{label, instruction, constant, P, number, address}
 use Rattle.items.specs.Render.{render, operandText, indirectText, baseText, letter, numeralOf, numeral}
 use Rattle.writing.specs.Text.{over, upto, line, lines}

@@ -1,13 +1,8 @@
 -- Laws of what is written: bytes over the room, numbers, items and their lines.
-use mathlib.Core.Path.{_≡_, refl, sym, ap, subst, _∙_}
-use mathlib.Core.Bool.{cond}
-use mathlib.Core.List.{List, [], _∷_, _++_, append-assoc, append-nil}
-use Prim.Native.Nat.{ℕ, zero, suc, _+_, _*_, _-_, _≤_, _<_, _/_, _%_}
-use native.Mathlib.Omega.{arith}
-use lib.ListN.{length, set, length-append, List·getD-eq-default}
-use lib.Dec.{leb, ltb}
-use borrow.Author.Tests.{le-leb, lt-leb, lt-ltb, le-ltb, leb-true}
-use mathlib.Core.Bool.{Bool, false}
+use Rattle.laws.proofs.Basics.{ℕ, zero, suc, _+_, _/_, _%_, _<_, _≤_, _≡_, refl, sym, ap, subst, _∙_, List, [], _∷_, _++_, append-assoc, append-nil}
+use Rattle.laws.proofs.Basics.{Bool, false, length, set, length-append, List·getD-eq-default, ltb, leb, arith, ltb-false, lt-ltb, le-ltb, leb-true}
+use Rattle.laws.proofs.Basics.{leb-false, le-leb, lt-leb}
+use Rattle.laws.proofs.Cases.{by-cases}
 use Rattle.items.specs.Item as I
 use Rattle.items.specs.Render.{numeral, numeralOf, letter, indirectText, baseText, operandText, render}
 use Rattle.writing.specs.Text.{over, upto, Text, Puts, line, lines}
@@ -41,32 +36,13 @@ pub upto-past : (room n : ℕ) → room < n → upto room n ≡ room + 1
 unfolding upto
 upto-past room n h = rw (lt-leb n room h)
 
-data Order (n m : ℕ) : Type 0 where
-  le : n ≤ m → Order n m
-  gt : m < n → Order n m
-
-order : (n m : ℕ) → Order n m
-order zero m = le (omega arith)
-order (suc n) zero = gt (omega arith)
-order (suc n) (suc m) = grow (order n m)
-  where
-    grow : Order n m → Order (suc n) (suc m)
-    grow (le h) = le (omega arith)
-    grow (gt h) = gt (omega arith)
-
 at-room : {room n at : ℕ} → at ≡ upto room n → at < room → at ≡ n
-at-room {room} {n} {at} e h = by (order n room)
-  where
-    by : Order n room → at ≡ n
-    by (le k) = e ∙ upto-in room n k
-    by (gt k) = absurd (omega (arith, upto-past room n k))
+at-room {room} {n} e h =
+    by-cases (leb n room) (λ k. e ∙ upto-in room n (leb-true n room k)) (λ k. absurd (omega (arith, upto-past room n (leb-false n room k))))
 
 past-room : {room n at : ℕ} → at ≡ upto room n → room ≤ at → room ≤ n
-past-room {room} {n} {at} e h = by (order n room)
-  where
-    by : Order n room → room ≤ n
-    by (le k) = omega (arith, upto-in room n k)
-    by (gt k) = omega arith
+past-room {room} {n} e h =
+    by-cases (leb n room) (λ k. omega (arith, upto-in room n (leb-true n room k))) (λ k. omega (arith, leb-false n room k))
 
 -- a byte that has room, and one that has none
 pub emitted : {t : List ℕ} {at : ℕ} (b : ℕ) → at < length t → Puts (b ∷ []) at (at + 1) t (set t at b)
@@ -110,15 +86,9 @@ enough : (f g n : ℕ) → n < f → n < g → numeral f n ≡ numeral g n
 unfolding numeral
 enough zero g n a b = absurd (omega arith)
 enough (suc f) zero n a b = absurd (omega arith)
-enough (suc f) (suc g) n a b = by (order n 9) (λ h. enough f g (n / 10) (omega arith) (omega arith))
-  where
-    digits : List ℕ → List ℕ
-    digits l = cond (ltb n 10) ((48 + n) ∷ []) (l ++ ((48 + n % 10) ∷ []))
-
-    by : Order n 9 → (10 ≤ n → numeral f (n / 10) ≡ numeral g (n / 10))
-        → digits (numeral f (n / 10)) ≡ digits (numeral g (n / 10))
-    by (le h) k = rw (lt-ltb n 10 (omega arith))
-    by (gt h) k = ap digits (k (omega arith))
+enough (suc f) (suc g) n a b =
+    by-cases (ltb n 10) (λ e. rw e)
+    (λ e. let l : 10 ≤ n = ltb-false n 10 e in rw (e, enough f g (n / 10) (omega arith) (omega arith)))
 
 pub numeral-one : (n : ℕ) → n < 10 → numeralOf n ≡ (48 + n) ∷ []
 unfolding numeralOf numeral

@@ -1,10 +1,8 @@
-use mathlib.Core.Path.{refl}
+use Rattle.laws.proofs.Basics.{refl, needs}
 use Rattle.assembler.proofs.Numbered.{serves-within, serves-all}
-use borrow.Author.Needs.{needs}
 use Rattle.assembler.proofs.assemble_for.Statement.{statement}
 use Rattle.assembler.proofs.assemble_for.Tie as tie
 
--- src/lib.rt:526:9
 returns : tie.Need-returns
 returns c =
     serves-within _ _ (c .before .before .before .before .before .before .before .before .before .before .before .args .keys .now) _
@@ -15,5 +13,5 @@ returns c =
 pub assemble-for-spec : {M : Type 1} → statement M
 assemble-for-spec =
     tie.close
-    (tie.spec (search needs) (search needs) (search needs) (search needs) (search needs) (search needs) returns
-    (search needs) (search needs) (search needs) (λ c. search serves-all))
+    (tie.spec (search needs) (search needs) (search needs) (search needs) (search needs) (search needs) returns (search needs) (search needs)
+    (search needs) (λ c. search serves-all))

@@ -1,6 +1,5 @@
-use native.Mathlib.Omega.{arith}
+use Rattle.laws.proofs.Basics.{arith, needs}
 use Rattle.assembler.proofs.Assembling.{gives-fault, placed-fits, gives-image, gives-unknown}
-use borrow.Author.Needs.{needs}
 use Rattle.assembler.proofs.assemble_from.Statement.{statement}
 use Rattle.assembler.proofs.assemble_from.Tie as tie
 
@@ -38,8 +37,7 @@ returns-3 c =
 
 pub assemble-from-spec : {M : Type 1} → statement M
 assemble-from-spec =
-    tie.close (tie.spec (λ c κs. search needs) (λ c κs. search needs) (λ c. search needs) (λ c κs. search needs) (λ c. search needs)
-    (λ c κs. search needs) write-items-requires
-    (λ c. search needs) (λ c κs. search needs) (λ c. search needs) cast-t33 (λ c. search needs) (λ c. search needs)
-    (λ c. search gives-fault) (λ c. search needs) (λ c. search needs) returns-2 (λ c. search needs)
-    (λ c. search needs) returns-3)
+    tie.close
+    (tie.spec (λ c κs. search needs) (λ c κs. search needs) (λ c. search needs) (λ c κs. search needs) (λ c. search needs) (λ c κs. search needs)
+    write-items-requires (λ c. search needs) (λ c κs. search needs) (λ c. search needs) cast-t33 (λ c. search needs) (λ c. search needs)
+    (λ c. search gives-fault) (λ c. search needs) (λ c. search needs) returns-2 (λ c. search needs) (λ c. search needs) returns-3)

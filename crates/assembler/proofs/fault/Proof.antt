@@ -1,11 +1,8 @@
-use mathlib.Core.Path.{_≡_, sym, _∙_}
-use mathlib.Core.Bool.{true}
-use borrow.Author.Tests.{not-true, not-false}
+use Rattle.laws.proofs.Basics.{_≡_, sym, _∙_, true, needs, not-true, not-false}
 use Rattle.assembler.specs.Words.{inRange}
 use Rattle.assembler.specs.Layout.{misplaced}
 use Rattle.assembler.specs.Passes.{itemOf, blank}
 use Rattle.assembler.proofs.Faults.{fault-out, fault-in}
-use borrow.Author.Needs.{needs}
 use Rattle.assembler.proofs.fault.Statement.{statement}
 use Rattle.assembler.proofs.fault.Tie as tie
 
@@ -15,18 +12,6 @@ label-fault-requires c κs =
     let ranged : inRange (itemOf blank (c .before .before .before .before .before .args .item)) ≡ true =
     sym (c .before .before .before .before .in-range .ensures) ∙ (search not-false) in
     (search needs, rw (c .before .item .given .1) at ranged)
-
-returns : tie.Need-returns
-returns c = fault-out _ _ _ _ _ (sym (c .before .in-range .ensures) ∙ (search not-true))
-
-size-requires : tie.Need-size-requires
-size-requires c κs = sym (c .before .before .before .in-range .ensures) ∙ (search not-false)
-
-size-requires-2 : tie.Need-size-requires-2
-size-requires-2 c κs = sym (c .before .before .before .in-range .ensures) ∙ (search not-false)
-
-size-requires-3 : tie.Need-size-requires-3
-size-requires-3 c κs = sym (c .before .before .before .in-range .ensures) ∙ (search not-false)
 
 returns-2 : tie.Need-returns-2
 unfolding misplaced itemOf
@@ -52,13 +37,12 @@ returns-5 c =
     fault-in _ _ _ _ _ (sym (c .before .before .before .before .before .in-range .ensures) ∙ (search not-false))
     (rw (c .before .before .enum-told3 .given .1) (rw (c .before .size3 .ensures, c .before .before .enum-told3 .given .1) at (c .beyond3 .ensures)))
 
-returns-6 : tie.Need-returns-6
-unfolding misplaced itemOf
-returns-6 c = fault-in _ _ _ _ _ (sym (c .before .before .before .in-range .ensures) ∙ (search not-false)) (rw (c .enum-told4 .given .1))
-
 pub fault-spec : {M : Type 1} → statement M
+unfolding misplaced itemOf
 fault-spec =
     tie.close
-    (tie.spec (search needs) returns (search needs) label-fault-requires (search needs) size-requires (search needs)
-    (search needs) size-requires-2 (search needs) (search needs) size-requires-3 (search needs) (search needs)
-    returns-2 returns-3 returns-4 returns-5 returns-6)
+    (tie.spec (search needs) (λ c. fault-out _ _ _ _ _ (sym (c .before .in-range .ensures) ∙ (search not-true))) (search needs) label-fault-requires
+    (search needs) (λ c κs. sym (c .before .before .before .in-range .ensures) ∙ (search not-false)) (search needs) (search needs)
+    (λ c κs. sym (c .before .before .before .in-range .ensures) ∙ (search not-false)) (search needs) (search needs)
+    (λ c κs. sym (c .before .before .before .in-range .ensures) ∙ (search not-false)) (search needs) (search needs) returns-2 returns-3 returns-4
+    returns-5 (λ c. fault-in _ _ _ _ _ (sym (c .before .before .before .in-range .ensures) ∙ (search not-false)) (rw (c .enum-told4 .given .1))))

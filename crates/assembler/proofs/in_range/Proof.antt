@@ -1,7 +1,6 @@
 use Rattle.assembler.specs.Words.{inRange}
 use Rattle.assembler.specs.Passes.{itemOf}
-use borrow.Author.Tests.{le-leb, lt-leb}
-use borrow.Author.Needs.{needs}
+use Rattle.laws.proofs.Basics.{needs, le-leb, lt-leb}
 use Rattle.assembler.proofs.in_range.Statement.{statement}
 use Rattle.assembler.proofs.in_range.Tie as tie
 
@@ -29,5 +28,5 @@ pub in-range-spec : {M : Type 1} → statement M
 unfolding inRange itemOf
 in-range-spec =
     tie.close
-    (tie.spec (search needs) (search needs) (search needs) (search needs) (search needs) (search needs) (search needs)
-    (search needs) (search needs) returns returns-2 returns-3 (λ c. rw (c .enum-told .given .1)) returns-5 returns-6)
+    (tie.spec (search needs) (search needs) (search needs) (search needs) (search needs) (search needs) (search needs) (search needs) (search needs)
+    returns returns-2 returns-3 (λ c. rw (c .enum-told .given .1)) returns-5 returns-6)

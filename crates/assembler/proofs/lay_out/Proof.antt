@@ -1,8 +1,5 @@
 -- What the layout of the items from `place` on gives, after the labels so far, is what all of them give (`Laying`).
-use Prim.Native.Nat.{_-_}
-use lib.ListN.{length}
-use borrow.Author.Needs.{needs}
-use native.Mathlib.Omega.{arith}
+use Rattle.laws.proofs.Basics.{_-_, length, arith, needs}
 use Rattle.assembler.proofs.Reading.{reads-one, reads-whole, reads-not}
 use Rattle.assembler.proofs.Laying.{Laying, laying-start, laying-whole, laying-not, laying-count}
 use Rattle.assembler.proofs.Laying.{laying-fault, laying-in-range, laying-notable, laying-size, laying-on}
@@ -15,9 +12,6 @@ Inv-loop text from memory labels₀ index₀ room place₀ at₀ count₀ labels
 
 abbrev μ-loop : tie.MeasureT-loop
 μ-loop text from memory labels₀ index₀ room place₀ at₀ count₀ labels index place at count = length text - place
-
-fault-requires : tie.Need-fault-requires Inv-loop μ-loop
-fault-requires c κs = (laying-count _ _ _ _ _ _ _ _ _ (c .before .before .before .before .before .loop .inv), search needs)
 
 returns-3 : tie.Need-returns-3 Inv-loop μ-loop
 returns-3 c =
@@ -63,8 +57,8 @@ loop-again c =
 
 pub lay-out-spec : {M : Type 1} → statement M
 lay-out-spec =
-    tie.close (tie.spec Inv-loop μ-loop (λ c. search laying-start)
-    (search needs) (search needs) (search needs) (λ c. search (laying-whole, reads-whole))
-    (search needs) (search needs) (λ c. search (laying-not, reads-not))
-    (search needs) fault-requires
-    (search needs) returns-3 note-requires size-requires add-at loop-less loop-again)
+    tie.close
+    (tie.spec Inv-loop μ-loop (λ c. search laying-start) (search needs) (search needs) (search needs) (λ c. search (laying-whole, reads-whole))
+    (search needs) (search needs) (λ c. search (laying-not, reads-not)) (search needs)
+    (λ c κs. (laying-count _ _ _ _ _ _ _ _ _ (c .before .before .before .before .before .loop .inv), search needs)) (search needs) returns-3
+    note-requires size-requires add-at loop-less loop-again)

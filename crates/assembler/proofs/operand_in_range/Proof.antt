@@ -1,6 +1,6 @@
 use Rattle.assembler.specs.Words.{operandInRange}
 use Rattle.assembler.specs.Passes.{operandOf}
-use borrow.Author.Needs.{needs}
+use Rattle.laws.proofs.Basics.{needs}
 use Rattle.assembler.proofs.operand_in_range.Statement.{statement}
 use Rattle.assembler.proofs.operand_in_range.Tie as tie
 

@@ -1,10 +1,9 @@
 use Rattle.assembler.proofs.Records.{past-record}
-use borrow.Author.Needs.{needs}
+use Rattle.laws.proofs.Basics.{needs}
 use Rattle.assembler.proofs.record_at.Statement.{statement}
 use Rattle.assembler.proofs.record_at.Tie as tie
 
 pub record-at-spec : {M : Type 1} → statement M
 record-at-spec =
     tie.close
-    (tie.spec (λ c. search needs) (λ c. search needs) (λ c κs. search needs) (λ c κs. search needs) (λ c. search needs)
-    (λ c. search past-record))
+    (tie.spec (λ c. search needs) (λ c. search needs) (λ c κs. search needs) (λ c κs. search needs) (λ c. search needs) (λ c. search past-record))

@@ -1,8 +1,7 @@
 use Rattle.assembler.specs.Assemble.{refuse}
-use mathlib.Core.Path.{ap}
+use Rattle.laws.proofs.Basics.{ap, needs}
 use Rattle.assembler.proofs.Records.{cleared-records}
 use Rattle.assembler.specs.declared.Assembled.the-variants.{Refused}
-use borrow.Author.Needs.{needs}
 use Rattle.assembler.proofs.refuse.Statement.{statement}
 use Rattle.assembler.proofs.refuse.Tie as tie
 

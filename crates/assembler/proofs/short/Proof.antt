@@ -1,7 +1,7 @@
 use Rattle.assembler.specs.Words.{short}
 use Rattle.assembler.specs.Passes.{operandOf}
 use Rattle.assembler.proofs.Operands.{number-below}
-use borrow.Author.Needs.{needs}
+use Rattle.laws.proofs.Basics.{needs}
 use Rattle.assembler.proofs.short.Statement.{statement}
 use Rattle.assembler.proofs.short.Tie as tie
 
@@ -12,5 +12,6 @@ signed-requires c κs = number-below _ (rw (c .before .x .given .1) at (c .befor
 pub short-spec : {M : Type 1} → statement M
 unfolding short operandOf
 short-spec =
-    tie.close (tie.spec (search needs) signed-requires (search needs)
-    (λ c. rw (c .before .before .x .given .1, c .signed .ensures)) (λ c. rw (c .enum-told .given .1)))
+    tie.close
+    (tie.spec (search needs) signed-requires (search needs) (λ c. rw (c .before .before .x .given .1, c .signed .ensures))
+    (λ c. rw (c .enum-told .given .1)))

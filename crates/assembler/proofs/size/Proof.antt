@@ -1,8 +1,6 @@
 use Rattle.assembler.specs.Words.{inRange, size}
 use Rattle.assembler.specs.Passes.{itemOf}
-use lib.ListN.{length-replicate}
-use native.Mathlib.Numerals.{add-one}
-use borrow.Author.Needs.{needs}
+use Rattle.laws.proofs.Basics.{length-replicate, add-one, needs}
 use Rattle.assembler.proofs.size.Statement.{statement}
 use Rattle.assembler.proofs.size.Tie as tie
 
@@ -27,5 +25,4 @@ unfolding itemOf size
 size-spec =
     tie.close
     (tie.spec (search needs) (search needs) short-requires (search needs) (search needs) (search needs) (search needs)
-    (λ c. rw (c .enum-told .given .1)) returns-2 returns-3 (λ c. rw (c .enum-told2 .given .1)) returns-5
-    (λ c. rw (c .enum-told3 .given .1)))
+    (λ c. rw (c .enum-told .given .1)) returns-2 returns-3 (λ c. rw (c .enum-told2 .given .1)) returns-5 (λ c. rw (c .enum-told3 .given .1)))

@@ -1,4 +1,4 @@
-use borrow.Author.Tests.{eq-eqb, ne-eqb}
+use Rattle.laws.proofs.Basics.{eq-eqb, ne-eqb}
 use Rattle.assembler.proofs.told.Statement.{statement}
 use Rattle.assembler.proofs.told.Tie as tie
 

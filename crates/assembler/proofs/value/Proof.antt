@@ -1,9 +1,8 @@
 use Rattle.assembler.specs.Words.{operandInRange}
 use Rattle.assembler.specs.Passes.{operandOf, valueOf}
 use Rattle.assembler.proofs.Operands.{number-below}
-use mathlib.Core.Path.{ap}
+use Rattle.laws.proofs.Basics.{ap, needs}
 use Rattle.assembler.specs.declared.Found.the-variants.{At}
-use borrow.Author.Needs.{needs}
 use Rattle.assembler.proofs.value.Statement.{statement}
 use Rattle.assembler.proofs.value.Tie as tie
 
@@ -22,5 +21,5 @@ returns c = rw (c .before .before .x .given .1) (ap At (c .signed .ensures))
 pub value-spec : {M : Type 1} → statement M
 unfolding valueOf operandOf
 value-spec =
-    tie.close (tie.spec (search needs) signed-requires (search needs) find-requires returns
-    (λ c. rw (c .before .before .x2 .given .1) (c .find .ensures)))
+    tie.close
+    (tie.spec (search needs) signed-requires (search needs) find-requires returns (λ c. rw (c .before .before .x2 .given .1) (c .find .ensures)))

@@ -1,9 +1,6 @@
 use Rattle.assembler.specs.Words.{inRange}
 use Rattle.assembler.proofs.Writing.{short-below, first-fits, second-fits, instruction-unknown, instruction-short, instruction-long}
-use mathlib.Core.Path.{sym, _∙_}
-use native.Mathlib.Omega.{arith}
-use lib.ListN.{length-set}
-use borrow.Author.Needs.{needs}
+use Rattle.laws.proofs.Basics.{sym, _∙_, length-set, arith, needs}
 use Rattle.assembler.proofs.write_instruction.Statement.{statement}
 use Rattle.assembler.proofs.write_instruction.Tie as tie
 
@@ -36,8 +33,8 @@ returns-3 c =
 pub write-instruction-spec : {M : Type 1} → statement M
 unfolding inRange
 write-instruction-spec =
-    tie.close (tie.spec (λ c κs. search needs) (λ c κs. search needs) (λ c. search needs) (λ c. search needs)
-    (λ c κs. search needs) add-memory (λ c. search needs) (λ c. search first-fits) (λ c. search needs)
-    (λ c. search needs) returns (λ c. search needs) (λ c. search needs) (λ c. search first-fits) (λ c. search needs)
-    (λ c. search needs) slice-write-memory-3 (λ c. search needs) (λ c. search instruction-unknown) (λ c. search needs)
-    returns-3)
+    tie.close
+    (tie.spec (λ c κs. search needs) (λ c κs. search needs) (λ c. search needs) (λ c. search needs) (λ c κs. search needs) add-memory
+    (λ c. search needs) (λ c. search first-fits) (λ c. search needs) (λ c. search needs) returns (λ c. search needs) (λ c. search needs)
+    (λ c. search first-fits) (λ c. search needs) (λ c. search needs) slice-write-memory-3 (λ c. search needs) (λ c. search instruction-unknown)
+    (λ c. search needs) returns-3)

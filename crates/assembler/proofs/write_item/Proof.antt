@@ -1,7 +1,6 @@
 use Rattle.assembler.specs.Passes.{itemOf}
 use Rattle.assembler.proofs.Writing.{label-writes, string-length, string-spelling, string-writes}
-use native.Mathlib.Omega.{arith}
-use borrow.Author.Needs.{needs}
+use Rattle.laws.proofs.Basics.{arith, needs}
 use Rattle.assembler.proofs.write_item.Statement.{statement}
 use Rattle.assembler.proofs.write_item.Tie as tie
 
@@ -62,7 +61,8 @@ returns-5 c = rw (c .before .before .before .before .before .item4 .given .1) (c
 pub write-item-spec : {M : Type 1} → statement M
 unfolding itemOf
 write-item-spec =
-    tie.close (tie.spec (search needs) (search needs) write-instruction-requires (search needs) write-constant-requires
-    (search needs) add-write-string cast-write-string write-string-requires (search needs) (search needs)
-    (search needs) write-global-requires (λ c. rw (c .enum-told .given .1) (search label-writes))
-    (search needs) returns-2 (search needs) returns-3 (search needs) returns-4 (search needs) returns-5)
+    tie.close
+    (tie.spec (search needs) (search needs) write-instruction-requires (search needs) write-constant-requires (search needs) add-write-string
+    cast-write-string write-string-requires (search needs) (search needs) (search needs) write-global-requires
+    (λ c. rw (c .enum-told .given .1) (search label-writes)) (search needs) returns-2 (search needs) returns-3 (search needs) returns-4
+    (search needs) returns-5)

@@ -1,8 +1,5 @@
 -- The items from `place` on, written from `at` on, make what all of them make (`Filling`).
-use Prim.Native.Nat.{_-_}
-use lib.ListN.{length}
-use borrow.Author.Needs.{needs}
-use native.Mathlib.Omega.{arith}
+use Rattle.laws.proofs.Basics.{_-_, length, arith, needs}
 use Rattle.assembler.specs.Passes.{listed}
 use Rattle.assembler.proofs.Reading.{reads-one, reads-whole, reads-not}
 use Rattle.assembler.proofs.Filling.{Filling, filling-start, filling-end, filling-writable, filling-spelled, filling-unknown, filling-on}
@@ -52,7 +49,6 @@ loop-less c =
 
 pub write-items-spec : {M : Type 1} → statement M
 write-items-spec =
-    tie.close (tie.spec Inv-loop μ-loop (λ c. search filling-start)
-    (search needs) (search needs) (search needs) returns (search needs) (search needs) returns-2 (search needs)
-    write-item-requires (search needs) (search needs) returns-3 (search needs) loop-less
-    (λ c. search (filling-on, reads-one)))
+    tie.close
+    (tie.spec Inv-loop μ-loop (λ c. search filling-start) (search needs) (search needs) (search needs) returns (search needs) (search needs) returns-2
+    (search needs) write-item-requires (search needs) (search needs) returns-3 (search needs) loop-less (λ c. search (filling-on, reads-one)))

@@ -1,14 +1,12 @@
 use Rattle.assembler.proofs.Cleared.{fixed-is}
-use native.Mathlib.Omega.{arith}
-use lib.ListN.{length-set}
-use borrow.Author.Needs.{needs}
+use Rattle.laws.proofs.Basics.{length-set, arith, needs}
 use Rattle.assembler.proofs.write_start.Statement.{statement}
 use Rattle.assembler.proofs.write_start.Tie as tie
 
 pub write-start-spec : {M : Type 1} → statement M
 write-start-spec =
-    tie.close (tie.spec (search needs) (λ c. simp length-set (omega arith)) (λ c. simp length-set (omega arith))
+    tie.close
+    (tie.spec (search needs) (λ c. simp length-set (omega arith)) (λ c. simp length-set (omega arith)) (λ c. simp length-set (omega arith))
     (λ c. simp length-set (omega arith)) (λ c. simp length-set (omega arith)) (λ c. simp length-set (omega arith))
-    (λ c. simp length-set (omega arith)) (λ c. simp length-set (omega arith)) (λ c. simp length-set (omega arith))
-    (λ c. simp length-set (omega arith))
-    (search needs) (λ c. search fixed-is))
+    (λ c. simp length-set (omega arith)) (λ c. simp length-set (omega arith)) (λ c. simp length-set (omega arith)) (search needs)
+    (λ c. search fixed-is))

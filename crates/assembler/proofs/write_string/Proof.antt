@@ -1,12 +1,8 @@
 -- The words of the characters from `place` on, written from `to` on, make what all of them make (`Spells`).
-use Prim.Native.Nat.{_+_}
-use Prim.Native.Nat.{_-_}
-use mathlib.Core.Path.{refl}
-use lib.ListN.{length}
-use borrow.Author.Needs.{needs}
-use native.Mathlib.Omega.{arith}
+use Rattle.laws.proofs.Basics.{_+_, _-_, refl, length, arith, needs}
 use Rattle.text.proofs.Answers.{when-is, when-closing, when-ended, when-mistake}
-use Rattle.assembler.proofs.Strings.{Spells, not-ended, no-mistake, past-character, spells-end, second-not-ended, second-no-mistake, spells-odd, spells-on}
+use Rattle.assembler.proofs.Strings.{Spells, not-ended, no-mistake, past-character, spells-end, second-not-ended, second-no-mistake}
+use Rattle.assembler.proofs.Strings.{spells-odd, spells-on}
 use Rattle.assembler.proofs.write_string.Statement.{statement}
 use Rattle.assembler.proofs.write_string.Tie as tie
 
@@ -15,9 +11,6 @@ Inv-loop memory₀ at text from first place₀ to₀ high₀ memory place to hig
 
 abbrev μ-loop : tie.MeasureT-loop
 μ-loop memory₀ at text from first place₀ to₀ high₀ memory place to high = length text - place
-
-loop-holds : tie.Need-loop-holds Inv-loop μ-loop
-loop-holds c = record { spelling = c .before .before .pre; same = refl; so-far = refl }
 
 returns : tie.Need-returns Inv-loop μ-loop
 returns c =
@@ -108,9 +101,9 @@ loop-less c =
 pub write-string-spec : {M : Type 1} → statement M
 write-string-spec =
     tie.close
-    (tie.spec Inv-loop μ-loop loop-holds (λ c κs. search needs) (λ c. search needs) (λ c. search needs) returns
-    (λ c. search needs) (λ c. search needs) returns-2 (λ c. search needs) (λ c κs. search needs) (λ c. search needs) (λ c. omega arith)
-    (λ c. search needs) (λ c. search (spells-end, when-closing)) (λ c. search needs) (λ c κs. search needs) (λ c. search needs)
-    (λ c. omega arith) add-place (λ c κs. search needs) (λ c. search needs) (λ c. search needs) returns-4
-    (λ c. search needs) (λ c. search needs) returns-5 (λ c. search needs) (λ c. search needs) returns-6 (λ c. search needs)
-    (λ c κs. search needs) add-place-2 (λ c. omega arith) loop-less (λ c. search (spells-on, when-is)))
+    (tie.spec Inv-loop μ-loop (λ c. record { spelling = c .before .before .pre; same = refl; so-far = refl }) (λ c κs. search needs)
+    (λ c. search needs) (λ c. search needs) returns (λ c. search needs) (λ c. search needs) returns-2 (λ c. search needs) (λ c κs. search needs)
+    (λ c. search needs) (λ c. omega arith) (λ c. search needs) (λ c. search (spells-end, when-closing)) (λ c. search needs) (λ c κs. search needs)
+    (λ c. search needs) (λ c. omega arith) add-place (λ c κs. search needs) (λ c. search needs) (λ c. search needs) returns-4 (λ c. search needs)
+    (λ c. search needs) returns-5 (λ c. search needs) (λ c. search needs) returns-6 (λ c. search needs) (λ c κs. search needs) add-place-2
+    (λ c. omega arith) loop-less (λ c. search (spells-on, when-is)))

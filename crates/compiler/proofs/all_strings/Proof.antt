@@ -1,4 +1,4 @@
-use Rattle.compiler.proofs.Basics.{sym, arith, length-take-le, needs}
+use Rattle.laws.proofs.Basics.{sym, length-take-le, arith, needs}
 use Rattle.compiler.proofs.Answering.{no-strings, strings-gave}
 use Rattle.compiler.proofs.all_strings.Statement.{statement}
 use Rattle.compiler.proofs.all_strings.Tie as tie

@@ -1,5 +1,5 @@
 use Rattle.compiler.proofs.Translating.{too-long, too-short, serves, with-scratch}
-use borrow.Author.Needs.{needs}
+use Rattle.laws.proofs.Basics.{needs}
 use Rattle.compiler.proofs.attempt.Statement.{statement}
 use Rattle.compiler.proofs.attempt.Tie as tie
 

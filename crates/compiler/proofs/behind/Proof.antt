@@ -1,5 +1,5 @@
 use Rattle.compiler.proofs.Answering.{behind-gave}
-use borrow.Author.Needs.{needs}
+use Rattle.laws.proofs.Basics.{needs}
 use Rattle.compiler.proofs.behind.Statement.{statement}
 use Rattle.compiler.proofs.behind.Tie as tie
 

@@ -1,5 +1,5 @@
 use Rattle.compiler.proofs.Clearing.{accepted-fits, compiles-accepted, compiles-refused}
-use borrow.Author.Needs.{needs}
+use Rattle.laws.proofs.Basics.{needs}
 use Rattle.compiler.proofs.compile.Statement.{statement}
 use Rattle.compiler.proofs.compile.Tie as tie
 

@@ -1,4 +1,4 @@
-use Rattle.compiler.proofs.Basics.{ap, _∙_, needs}
+use Rattle.laws.proofs.Basics.{ap, _∙_, needs}
 use Rattle.compiler.specs.declared.Compiled.the-variants as C
 use Rattle.compiler.proofs.Deciding.{by-worst, by-tall, by-none, by-past, by-end}
 use Rattle.compiler.proofs.decide.Statement.{statement}

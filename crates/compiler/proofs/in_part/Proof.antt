@@ -1,4 +1,4 @@
-use Rattle.compiler.proofs.Basics.{sym, arith, length-take-le, needs}
+use Rattle.laws.proofs.Basics.{sym, length-take-le, arith, needs}
 use Rattle.compiler.proofs.Translating.{front-lent, front-inside, more-scratch}
 use Rattle.compiler.proofs.in_part.Statement.{statement}
 use Rattle.compiler.proofs.in_part.Tie as tie

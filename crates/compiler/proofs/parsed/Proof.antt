@@ -1,4 +1,4 @@
-use Rattle.compiler.proofs.Basics.{sym, arith, length-take-le, needs}
+use Rattle.laws.proofs.Basics.{sym, length-take-le, arith, needs}
 use Rattle.compiler.proofs.Translating.{tree-room, symbols-room, ready-tree, with-scratch, tree-answer, never-unfit}
 use Rattle.compiler.proofs.parsed.Statement.{statement}
 use Rattle.compiler.proofs.parsed.Tie as tie

@@ -1,5 +1,5 @@
 use Rattle.compiler.proofs.Translating.{ready-symbols, with-scratch, symbols-answer, never-short, never-long}
-use borrow.Author.Needs.{needs}
+use Rattle.laws.proofs.Basics.{needs}
 use Rattle.compiler.proofs.translated.Statement.{statement}
 use Rattle.compiler.proofs.translated.Tie as tie
 

@@ -1,4 +1,4 @@
-use Rattle.compiler.proofs.Basics.{_+_, _≤_, sym, _∙_, arith, length-take-le, needs}
+use Rattle.laws.proofs.Basics.{_+_, _≤_, sym, _∙_, length-take-le, arith, needs}
 use Rattle.compiler.proofs.Answering.{end-inside, few-symbols, few-labels, ready-behind, ready-program, translates}
 use Rattle.compiler.proofs.walked.Statement.{statement}
 use Rattle.compiler.proofs.walked.Tie as tie
@@ -20,13 +20,13 @@ behind-requires c κs =
     let f = s .before .before in
     ready-behind (f .before .before .before .before .before .pre) (f .function-count .ensures) (s .string-count .ensures) (search needs)
 
-slice-relend-prefix-clear-scratch : tie.Need-slice-relend-prefix-clear-scratch
-slice-relend-prefix-clear-scratch c =
+slice-relend-prefix-clear-from : tie.Need-slice-relend-prefix-clear-from
+slice-relend-prefix-clear-from c =
     let p = c .before .before .before .before .before .before .before .before .before .before .before .before .before .before .before in
     end-inside (p .before .before .before .before .before .before .before .before .before .before .before .before .before .before .pre) (search needs)
 
-slice-aggregate-clear-scratch : tie.Need-slice-aggregate-clear-scratch
-slice-aggregate-clear-scratch c =
+slice-aggregate-clear-from : tie.Need-slice-aggregate-clear-from
+slice-aggregate-clear-from c =
     let p = c .before .before .before .before .before .before .before .before .before .before .before .before .before .before .before .before in
     sym (length-take-le _ _ (end-inside
     (p .before .before .before .before .before .before .before .before .before .before .before .before .before .before .pre) (search needs)))
@@ -42,12 +42,12 @@ returns c =
     translates (f .before .before .before .before .before .pre) (f .function-count .ensures) (s .string-count .ensures) (o .opening .ensures)
     (p .program .ensures) (o .before .before .no-starts .ensures) (b .behind .ensures) (c .before .entry .ensures .0)
     (b .behind .kept .1 .1 .1 .1 .0 ∙ (p .program .kept .1 .1 .1 .1 .1 .1 .1 .0 ∙ o .opening .kept .0)) (c .decide .ensures)
-    (b .behind .kept .1 .0 ∙ p .program .kept .1 .0) (a .clear-scratch .ensures)
+    (b .behind .kept .1 .0 ∙ p .program .kept .1 .0) (a .clear-from .ensures)
 
 pub walked-spec : {M : Type 1} → statement M
 walked-spec =
     tie.close (tie.spec (search needs) function-count-requires string-count-requires (search needs) (search needs)
     (λ c. omega (arith, labels (c .before .before .before .before .before))) (λ c. omega (arith, labels (c .before .before .before .before .before)))
     (search needs) (λ c. omega (arith, labels (c .before .before .before .before .before .before .before))) (λ c κs. search ready-program)
-    (search needs) behind-requires slice-relend-prefix-clear-scratch slice-aggregate-clear-scratch (search needs) (search needs) (search needs)
+    (search needs) behind-requires slice-relend-prefix-clear-from slice-aggregate-clear-from (search needs) (search needs) (search needs)
     (search needs) (search needs) (search needs) returns)

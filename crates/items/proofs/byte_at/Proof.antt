@@ -1,10 +1,7 @@
-use mathlib.Core.Path.{_∙_, sym}
+use Rattle.laws.proofs.Basics.{sym, _∙_, needs}
 use Rattle.items.proofs.Places.{head-in, head-past}
-use borrow.Author.Needs.{needs}
 use Rattle.items.proofs.byte_at.Statement.{statement}
 use Rattle.items.proofs.byte_at.Tie as tie
 
 pub byte-at-spec : {M : Type 1} → statement M
-byte-at-spec =
-    tie.close (tie.spec (search needs) (search needs) (λ c. c .wide .ensures ∙ sym (search head-in))
-    (λ c. sym (search head-past)))
+byte-at-spec = tie.close (tie.spec (search needs) (search needs) (λ c. c .wide .ensures ∙ sym (search head-in)) (λ c. sym (search head-past)))

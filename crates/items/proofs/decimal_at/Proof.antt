@@ -1,10 +1,5 @@
 use Rattle.items.proofs.Decimals.{digit-ready, digits-end, digits-stop, digits-more, no-decimal, a-decimal}
-use mathlib.Core.Path.{sym, _≡_, _∙_}
-use Prim.Native.Nat.{_+_, _-_, _≤_}
-use native.Mathlib.Omega.{arith}
-use borrow.Author.Needs.{needs}
-use borrow.Author.Tests.{not-true, not-false}
-use lib.ListN.{length, drop}
+use Rattle.laws.proofs.Basics.{_+_, _-_, _≤_, _≡_, sym, _∙_, length, drop, arith, needs, not-true, not-false}
 use Rattle.items.specs.Reader.{digits, digitCount}
 use Rattle.items.proofs.decimal_at.Statement.{statement}
 use Rattle.items.proofs.decimal_at.Tie as tie
@@ -15,12 +10,6 @@ Inv-loop text at first n₀ i₀ n i =
 
 abbrev μ-loop : tie.MeasureT-loop
 μ-loop text at first n₀ i₀ n i = length text - i
-
-returns : tie.Need-returns Inv-loop μ-loop
-returns c =
-    let text = c .before .before .before .before .args .text .now in
-    let at = c .before .before .before .before .args .at in
-    no-decimal text at (c .before .before .byte-at .ensures) (sym (c .before .is-digit .ensures) ∙ (search not-true))
 
 returns-2 : tie.Need-returns-2 Inv-loop μ-loop
 returns-2 c =
@@ -38,15 +27,14 @@ returns-2 c =
           (c .before .before .byte-at2 .ensures) (sym (c .before .is-digit2 .ensures) ∙ not-true _ (c .if2 .taken)) .1,
     ))
 
-and-digit-requires : tie.Need-and-digit-requires Inv-loop μ-loop
-and-digit-requires c κs = digit-ready _ (omega arith) (sym (c .before .is-digit2 .ensures) ∙ (search not-false))
-
 loop-again : tie.Need-loop-again Inv-loop μ-loop
 loop-again c =
     let text = c .before .before .before .before .before .before .before .before .before .before .args .text .now in (
       omega arith,
       rw (c .and-digit .ensures)
-          (sym (digits-more text (c .before .before .before .before .before .loop .i) (c .before .before .before .before .before .loop .n) (omega arith) (c .before .before .before .byte-at2 .ensures) (sym (c .before .before .is-digit2 .ensures) ∙ (search not-false)) .0) ∙ c .before .before .before .before .before .loop .inv .1),
+          (sym (digits-more text (c .before .before .before .before .before .loop .i) (c .before .before .before .before .before .loop .n)
+          (omega arith) (c .before .before .before .byte-at2 .ensures) (sym (c .before .before .is-digit2 .ensures) ∙ (search not-false)) .0) ∙
+          c .before .before .before .before .before .loop .inv .1),
       omega (
         arith,
         digits-more text (c .before .before .before .before .before .loop .i) (c .before .before .before .before .before .loop .n)
@@ -66,5 +54,7 @@ returns-3 c =
 pub decimal-at-spec : {M : Type 1} → statement M
 decimal-at-spec =
     tie.close
-    (tie.spec Inv-loop μ-loop (search needs) (search needs) returns (search needs) (search needs) (search needs)
-    returns-2 and-digit-requires (λ c. omega arith) (λ c. omega arith) loop-again returns-3)
+    (tie.spec Inv-loop μ-loop (search needs) (search needs)
+    (λ c. no-decimal _ _ (c .before .before .byte-at .ensures) (sym (c .before .is-digit .ensures) ∙ (search not-true))) (search needs)
+    (search needs) (search needs) returns-2 (λ c κs. digit-ready _ (omega arith) (sym (c .before .is-digit2 .ensures) ∙ (search not-false)))
+    (λ c. omega arith) (λ c. omega arith) loop-again returns-3)

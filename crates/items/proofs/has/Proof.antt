@@ -1,4 +1,4 @@
-use borrow.Author.Needs.{needs}
+use Rattle.laws.proofs.Basics.{needs}
 use Rattle.items.proofs.has.Statement.{statement}
 use Rattle.items.proofs.has.Tie as tie
 

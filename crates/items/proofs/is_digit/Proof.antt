@@ -1,4 +1,4 @@
-use mathlib.Core.Path.{sym}
+use Rattle.laws.proofs.Basics.{sym}
 use Rattle.items.proofs.Decimals.{below-digits, from-digits}
 use Rattle.items.proofs.is_digit.Statement.{statement}
 use Rattle.items.proofs.is_digit.Tie as tie

@@ -1,8 +1,6 @@
-use native.Mathlib.Omega.{arith}
-use borrow.Author.Tests.{not-true, not-false}
+use Rattle.laws.proofs.Basics.{arith, needs, not-true, not-false}
 use Rattle.items.proofs.Places.{inside}
 use Rattle.items.proofs.Elements.{last-unread, last-whole, last-more}
-use borrow.Author.Needs.{needs}
 use Rattle.items.proofs.last_at.Statement.{statement}
 use Rattle.items.proofs.last_at.Tie as tie
 
@@ -14,5 +12,6 @@ add-past-gap c =
 
 pub last-at-spec : {M : Type 1} → statement M
 last-at-spec =
-    tie.close (tie.spec (search needs) (λ c. search (last-unread, not-true)) add-past-gap (search needs)
-    (λ c. search (last-whole, not-false)) (λ c. search (last-more, not-false)))
+    tie.close
+    (tie.spec (search needs) (λ c. search (last-unread, not-true)) add-past-gap (search needs) (λ c. search (last-whole, not-false))
+    (λ c. search (last-more, not-false)))

@@ -1,28 +1,17 @@
-use native.Mathlib.Omega.{arith}
+use Rattle.laws.proofs.Basics.{arith, needs}
 use Rattle.items.specs.Read.{negative}
 use Rattle.items.specs.Answers.{asOperand}
 use Rattle.items.proofs.Places.{inside}
 use Rattle.items.proofs.Decimals.{decimal-reads, decimal-fails}
 use Rattle.items.proofs.Operands.{an-operand, no-operand, negative-reads, negative-fails}
-use borrow.Author.Needs.{needs}
 use Rattle.items.proofs.negative.Statement.{statement}
 use Rattle.items.proofs.negative.Tie as tie
 
-add-decimal-at : tie.Need-add-decimal-at
-add-decimal-at c = omega (arith, inside (c .before .args .text .now) (c .before .args .at) (c .before .pre) (omega arith))
-
-returns : tie.Need-returns
-unfolding asOperand
-returns c =
-    let text = c .before .before .before .before .before .args .text .now in
-    let at = c .before .before .before .before .before .args .at in
-    an-operand negative text at (negative-reads text at (c .before .before .before .before .before .pre) (search decimal-reads))
-
-returns-2 : tie.Need-returns-2
-returns-2 c =
-    let text = c .before .before .before .before .args .text .now in
-    let at = c .before .before .before .before .args .at in
-    no-operand negative text at (search (negative-fails, decimal-fails))
-
 pub negative-spec : {M : Type 1} → statement M
-negative-spec = tie.close (tie.spec add-decimal-at (search needs) (search needs) (search needs) returns returns-2)
+unfolding asOperand
+negative-spec =
+    tie.close
+    (tie.spec (λ c. omega (arith, inside (c .before .args .text .now) (c .before .args .at) (c .before .pre) (omega arith))) (search needs)
+    (search needs) (search needs)
+    (λ c. an-operand negative _ _ (negative-reads _ _ (c .before .before .before .before .before .pre) (search decimal-reads)))
+    (λ c. search (no-operand, negative-fails, decimal-fails)))

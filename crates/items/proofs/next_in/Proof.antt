@@ -1,14 +1,9 @@
-use mathlib.Core.Path.{_∙_, sym, ap}
-use borrow.Author.Tests.{eqb-true, eqb-false}
+use Rattle.laws.proofs.Basics.{sym, ap, _∙_, needs, eqb-true, eqb-false}
 use Rattle.items.specs.Answers.{asNext}
 use Rattle.items.proofs.Items.{item-reads, item-fails}
 use Rattle.items.proofs.Elements.{next-at, element-one, element-none}
-use borrow.Author.Needs.{needs}
 use Rattle.items.proofs.next_in.Statement.{statement}
 use Rattle.items.proofs.next_in.Tie as tie
-
-last-at-requires : tie.Need-last-at-requires
-last-at-requires c κs = eqb-true _ _ (sym (c .before .has .ensures) ∙ c .if1 .taken)
 
 returns-2 : tie.Need-returns-2
 returns-2 c =
@@ -25,5 +20,5 @@ returns-3 c =
 pub next-in-spec : {M : Type 1} → statement M
 next-in-spec =
     tie.close
-    (tie.spec (search needs) (search needs) last-at-requires (λ c. c .last-at .ensures ∙ ap asNext (search next-at))
-    (search needs) (search needs) (search needs) returns-2 returns-3)
+    (tie.spec (search needs) (search needs) (λ c κs. eqb-true _ _ (sym (c .before .has .ensures) ∙ c .if1 .taken))
+    (λ c. c .last-at .ensures ∙ ap asNext (search next-at)) (search needs) (search needs) (search needs) returns-2 returns-3)

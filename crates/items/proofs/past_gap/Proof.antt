@@ -1,10 +1,4 @@
-use borrow.Author.Tests.{not-true, not-false}
-use Prim.Native.Nat.{_+_, _-_}
-use mathlib.Core.Path.{_≡_}
-use mathlib.Core.Bool.{false}
-use lib.ListN.{length, drop}
-use native.Mathlib.Omega.{arith}
-use borrow.Author.Needs.{needs}
+use Rattle.laws.proofs.Basics.{_+_, _-_, _≡_, false, length, drop, arith, needs, not-true, not-false}
 use Rattle.items.specs.Scan.{gaps}
 use Rattle.items.proofs.Gaps.{gap-end, gap-stops, gap-goes}
 use Rattle.items.proofs.past_gap.Statement.{statement}
@@ -34,11 +28,8 @@ loop-again c =
           (omega arith) (c .before .before .in-gap .ensures) (not-false _ (c .before .if1 .left)) (c .in-comment .ensures),
     )
 
-returns-2 : tie.Need-returns-2 Inv-loop μ-loop
-returns-2 c = omega (arith, gap-end (c .before .before .before .args .text .now) (c .before .loop .i) (c .before .loop .comment) (omega arith))
-
 pub past-gap-spec : {M : Type 1} → statement M
 past-gap-spec =
     tie.close
-    (tie.spec Inv-loop μ-loop (search needs) (search needs) (search needs) returns (search needs) (λ c. omega arith)
-    (λ c. omega arith) loop-again returns-2)
+    (tie.spec Inv-loop μ-loop (search needs) (search needs) (search needs) returns (search needs) (λ c. omega arith) (λ c. omega arith) loop-again
+    (λ c. omega (arith, gap-end (c .before .before .before .args .text .now) (c .before .loop .i) (c .before .loop .comment) (omega arith))))

@@ -1,8 +1,6 @@
-use mathlib.Core.Path.{_∙_, sym}
-use native.Mathlib.Omega.{arith}
+use Rattle.laws.proofs.Basics.{sym, _∙_, arith, needs}
 use Rattle.items.proofs.Places.{mark-inside}
 use Rattle.items.proofs.Elements.{start-from, start-none}
-use borrow.Author.Needs.{needs}
 use Rattle.items.proofs.start_in.Statement.{statement}
 use Rattle.items.proofs.start_in.Tie as tie
 
@@ -12,5 +10,4 @@ add-t4 c =
     omega (arith, mark-inside text (c .before .before .past-gap .result) 36 (sym (c .before .marked .ensures) ∙ c .if1 .taken) (omega arith))
 
 pub start-in-spec : {M : Type 1} → statement M
-start-in-spec =
-    tie.close (tie.spec (search needs) (search needs) add-t4 (λ c. search start-from) (λ c. search start-none))
+start-in-spec = tie.close (tie.spec (search needs) (search needs) add-t4 (λ c. search start-from) (λ c. search start-none))

@@ -1,4 +1,4 @@
-use borrow.Author.Needs.{needs}
+use Rattle.laws.proofs.Basics.{needs}
 use Rattle.machine.proofs.Parts.{allowed-all, allowed-left}
 use Rattle.machine.proofs.allowed.Statement.{statement}
 use Rattle.machine.proofs.allowed.Tie as tie

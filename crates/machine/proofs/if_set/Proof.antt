@@ -1,4 +1,4 @@
-use borrow.Author.Tests.{eq-eqb, ne-eqb}
+use Rattle.laws.proofs.Basics.{eq-eqb, ne-eqb}
 use Rattle.machine.proofs.if_set.Statement.{statement}
 use Rattle.machine.proofs.if_set.Tie as tie
 

@@ -1,8 +1,7 @@
 use Rattle.machine.proofs.Numbers.{quotient-is, quotient-by-zero}
-use borrow.Author.Needs.{needs}
+use Rattle.laws.proofs.Basics.{needs}
 use Rattle.machine.proofs.quotient_word.Statement.{statement}
 use Rattle.machine.proofs.quotient_word.Tie as tie
 
 pub quotient-word-spec : {M : Type 1} → statement M
-quotient-word-spec =
-    tie.close (tie.spec (search needs) (search needs) (λ c. search quotient-is) (λ c. search quotient-by-zero))
+quotient-word-spec = tie.close (tie.spec (search needs) (search needs) (λ c. search quotient-is) (λ c. search quotient-by-zero))

@@ -1,5 +1,5 @@
 use Rattle.machine.proofs.Runs.{run-starts}
-use borrow.Author.Needs.{needs}
+use Rattle.laws.proofs.Basics.{needs}
 use Rattle.machine.proofs.run.Statement.{statement}
 use Rattle.machine.proofs.run.Tie as tie
 

@@ -1,7 +1,4 @@
-use mathlib.Core.Path.{_≡_, refl}
-use native.Mathlib.Omega.{arith}
-use borrow.Author.Needs.{needs}
-use lib.ListN.{length}
+use Rattle.laws.proofs.Basics.{_≡_, refl, length, arith, needs}
 use Rattle.machine.specs.State.{at}
 use Rattle.machine.proofs.Runs.{Left, left-all, left-out, left-run-steps, left-finish, left-stop}
 use Rattle.machine.proofs.run_steps.Statement.{statement}
@@ -16,8 +13,8 @@ abbrev μ-loop : tie.MeasureT-loop
 
 pub run-steps-spec : {M : Type 1} → statement M
 run-steps-spec =
-    tie.close (tie.spec Inv-loop μ-loop (λ _. (left-all _ _ _, refl, refl))
-    (search needs) (search needs) (search needs) (λ c. omega arith) (λ c. omega arith) (λ c. search left-stop)
-    (search needs) (search needs) (λ c. omega arith) (λ c. omega arith) (λ c. omega arith) (λ c. search left-finish)
-    (search needs) (λ c. omega arith) (λ c. omega arith) (λ c. (search left-run-steps, omega arith, omega arith))
-    (λ c. omega arith) (λ c. omega arith) (λ c. search left-out))
+    tie.close
+    (tie.spec Inv-loop μ-loop (λ _. (left-all _ _ _, refl, refl)) (search needs) (search needs) (search needs) (λ c. omega arith) (λ c. omega arith)
+    (λ c. search left-stop) (search needs) (search needs) (λ c. omega arith) (λ c. omega arith) (λ c. omega arith) (λ c. search left-finish)
+    (search needs) (λ c. omega arith) (λ c. omega arith) (λ c. (search left-run-steps, omega arith, omega arith)) (λ c. omega arith)
+    (λ c. omega arith) (λ c. search left-out))

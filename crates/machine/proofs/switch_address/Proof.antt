@@ -1,6 +1,4 @@
-use mathlib.Core.Path.{_≡_, refl}
-use native.Mathlib.Omega.{arith}
-use borrow.Author.Needs.{needs}
+use Rattle.laws.proofs.Basics.{_≡_, refl, arith, needs}
 use Rattle.machine.specs.Acts.{search as searched}
 use Rattle.machine.proofs.Laws.{switch-address-stops, switch-address-hits, switch-address-goes, switch-address-none}
 use Rattle.machine.proofs.switch_address.Statement.{statement}
@@ -14,7 +12,7 @@ abbrev μ-loop : tie.MeasureT-loop
 
 pub switch-address-spec : {M : Type 1} → statement M
 switch-address-spec =
-    tie.close (tie.spec Inv-loop μ-loop (λ _. refl)
-    (search needs) (search needs) (λ c. search switch-address-stops)
-    (search needs) (search needs) (search needs) (λ c. search switch-address-hits)
-    (search needs) (λ c. omega arith) (λ c. omega arith) (λ c. search switch-address-goes) (λ c. search switch-address-none))
+    tie.close
+    (tie.spec Inv-loop μ-loop (λ _. refl) (search needs) (search needs) (λ c. search switch-address-stops) (search needs) (search needs)
+    (search needs) (λ c. search switch-address-hits) (search needs) (λ c. omega arith) (λ c. omega arith) (λ c. search switch-address-goes)
+    (λ c. search switch-address-none))

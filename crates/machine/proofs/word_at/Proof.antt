@@ -1,12 +1,11 @@
-use borrow.Author.Tests.{lt-ltb, le-ltb}
+use Rattle.laws.proofs.Basics.{needs, lt-ltb, le-ltb}
 use Rattle.machine.specs.Outcome.{read}
 use Rattle.machine.specs.Answers.{asWord}
-use borrow.Author.Needs.{needs}
 use Rattle.machine.proofs.word_at.Statement.{statement}
 use Rattle.machine.proofs.word_at.Tie as tie
 
 pub word-at-spec : {M : Type 1} → statement M
 unfolding read asWord
 word-at-spec =
-    tie.close (tie.spec (search needs) (search needs) (λ c. simp (lt-ltb _ _ (c .before .if1 .taken)))
-    (λ c. simp (le-ltb _ _ (c .if1 .left))))
+    tie.close
+    (tie.spec (search needs) (search needs) (λ c. simp (lt-ltb _ _ (c .before .if1 .taken))) (λ c. simp (le-ltb _ _ (c .if1 .left))))

@@ -1,5 +1,4 @@
-use borrow.Author.Needs.{needs}
-use Prim.Native.Nat.{_-_}
+use Rattle.laws.proofs.Basics.{_-_, needs}
 use Rattle.reading_test.proofs.main.Statement.{statement}
 use Rattle.reading_test.proofs.main.Tie as tie
 
@@ -9,57 +8,8 @@ Inv-loop count i₀ i = Unit {0}
 abbrev μ-loop : tie.MeasureT-loop
 μ-loop count i₀ i = count - i
 
-arg-count-requires : tie.Need-arg-count-requires Inv-loop μ-loop
-arg-count-requires c κs = search needs
-
-loop-holds : tie.Need-loop-holds Inv-loop μ-loop
-loop-holds c = search needs
-
-buffer-requires : tie.Need-buffer-requires Inv-loop μ-loop
-buffer-requires c κs = search needs
-
-slice-aggregate-arg : tie.Need-slice-aggregate-arg Inv-loop μ-loop
-slice-aggregate-arg c = search needs
-
-arg-requires : tie.Need-arg-requires Inv-loop μ-loop
-arg-requires c κs = search needs
-
-array-share-prefix-path : tie.Need-array-share-prefix-path Inv-loop μ-loop
-array-share-prefix-path c = search needs
-
-slice-aggregate-show-file : tie.Need-slice-aggregate-show-file Inv-loop μ-loop
-slice-aggregate-show-file c = search needs
-
-show-file-requires : tie.Need-show-file-requires Inv-loop μ-loop
-show-file-requires c κs = search needs
-
-add-i : tie.Need-add-i Inv-loop μ-loop
-add-i c = search needs
-
-loop-less : tie.Need-loop-less Inv-loop μ-loop
-loop-less c = search needs
-
-loop-again : tie.Need-loop-again Inv-loop μ-loop
-loop-again c = search needs
-
-returns : tie.Need-returns Inv-loop μ-loop
-returns c = search needs
-
 pub main-spec : {M : Type 1} → statement M
 main-spec =
     tie.close
-    (tie.spec
-    Inv-loop
-    μ-loop
-    arg-count-requires
-    loop-holds
-    buffer-requires
-    slice-aggregate-arg
-    arg-requires
-    array-share-prefix-path
-    slice-aggregate-show-file
-    show-file-requires
-    add-i
-    loop-less
-    loop-again
-    returns)
+    (tie.spec Inv-loop μ-loop (search needs) (search needs) (search needs) (search needs) (search needs) (search needs) (search needs) (search needs)
+    (search needs) (search needs) (search needs) (search needs))

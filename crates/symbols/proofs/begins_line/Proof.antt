@@ -1,7 +1,7 @@
 use Rattle.language.specs.Semicolons.{beginsLine}
 use Rattle.language.specs.Kinds.{member}
 use Rattle.symbols.proofs.Tests.{marked}
-use borrow.Author.Needs.{needs}
+use Rattle.laws.proofs.Basics.{needs}
 use Rattle.symbols.proofs.begins_line.Statement.{statement}
 use Rattle.symbols.proofs.begins_line.Tie as tie
 

@@ -1,13 +1,11 @@
 use Rattle.symbols.proofs.Matching.{match-open, match-close, match-other, opens-round, opens-block, closes-round, closes-block}
-use borrow.Author.Needs.{needs}
+use Rattle.laws.proofs.Basics.{needs}
 use Rattle.symbols.proofs.bracket.Statement.{statement}
 use Rattle.symbols.proofs.bracket.Tie as tie
 
 pub bracket-spec : {M : Type 1} → statement M
 bracket-spec =
     tie.close
-    (tie.spec (search needs) (search needs) (search needs) (search needs) (search needs) (search needs) (search needs)
-    (search needs) (search needs) (λ c. search (match-open, opens-round))
-    (search needs) (λ c. search (match-open, opens-block))
-    (search needs) (λ c. search (match-close, closes-round))
-    (search needs) (λ c. search (match-close, closes-block)) (λ c. search match-other))
+    (tie.spec (search needs) (search needs) (search needs) (search needs) (search needs) (search needs) (search needs) (search needs) (search needs)
+    (λ c. search (match-open, opens-round)) (search needs) (λ c. search (match-open, opens-block)) (search needs)
+    (λ c. search (match-close, closes-round)) (search needs) (λ c. search (match-close, closes-block)) (λ c. search match-other))

@@ -1,31 +1,16 @@
-use Prim.Native.Nat.{_-_, _≤_}
-use mathlib.Core.Path.{_≡_}
-use native.Mathlib.Omega.{arith}
-use lib.ListN.{length}
-use borrow.Author.Needs.{needs}
-use Rattle.symbols.proofs.Writing.{cleared, clear-start, clear-more, clear-all}
+use Rattle.laws.proofs.Basics.{_-_, length, needs}
+use Rattle.laws.proofs.Clearing.{Clearing, clearing-starts, clearing-goes-on, clearing-ends}
 use Rattle.symbols.proofs.clear_from.Statement.{statement}
 use Rattle.symbols.proofs.clear_from.Tie as tie
 
 abbrev Inv-loop : tie.InvT-loop
-Inv-loop scratch₀ from i₀ scratch i = (from ≤ i) × (i ≤ length scratch₀) × (scratch ≡ cleared scratch₀ from i) × (length scratch ≡ length scratch₀)
+Inv-loop scratch₀ from i₀ scratch i = Clearing scratch₀ from scratch i
 
 abbrev μ-loop : tie.MeasureT-loop
 μ-loop scratch₀ from i₀ scratch i = length scratch₀ - i
 
-loop-again : tie.Need-loop-again Inv-loop μ-loop
-loop-again c =
-    let args = c .before .before .args in
-    let loop = c .before .loop in
-    (search needs, search needs, clear-more (args .scratch .now) (args .from) (loop .i) (loop .inv .0) (loop .inv .2) (search needs), search needs)
-
-returns : tie.Need-returns Inv-loop μ-loop
-returns c =
-    let args = c .before .before .args in
-    let loop = c .before .loop in
-    clear-all (args .scratch .now) (args .from) (loop .i) (loop .inv .0) (loop .inv .2) (search needs) (search needs)
-
 pub clear-from-spec : {M : Type 1} → statement M
 clear-from-spec =
-    tie.close (tie.spec Inv-loop μ-loop (λ c. (omega arith, c .pre, search clear-start, search needs))
-    (search needs) (search needs) (search needs) (search needs) loop-again (search needs) returns)
+    tie.close
+    (tie.spec Inv-loop μ-loop (λ c. search clearing-starts) (search needs) (search needs) (search needs) (search needs)
+    (λ c. search (needs, clearing-goes-on)) (search needs) (λ c. search (needs, clearing-ends)))

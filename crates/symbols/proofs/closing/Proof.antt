@@ -1,10 +1,9 @@
 use Rattle.symbols.proofs.Matching.{on-top, not-on-top}
-use borrow.Author.Needs.{needs}
+use Rattle.laws.proofs.Basics.{needs}
 use Rattle.symbols.proofs.closing.Statement.{statement}
 use Rattle.symbols.proofs.closing.Tie as tie
 
 pub closing-spec : {M : Type 1} → statement M
 closing-spec =
     tie.close
-    (tie.spec (λ c. search needs) (λ c. search needs) (λ c. search needs) (λ c. search needs) (λ c. search on-top)
-    (λ c. search not-on-top))
+    (tie.spec (λ c. search needs) (λ c. search needs) (λ c. search needs) (λ c. search needs) (λ c. search on-top) (λ c. search not-on-top))

@@ -1,5 +1,4 @@
-use Prim.Native.Nat.{ℕ}
-use lib.ListN.{length-replicate}
+use Rattle.laws.proofs.Basics.{ℕ, length-replicate}
 use Rattle.symbols.proofs.empty_stack.Statement.{statement}
 use Rattle.symbols.proofs.empty_stack.Tie as tie
 

@@ -1,17 +1,7 @@
-use mathlib.Core.Path.{_∙_, sym}
-use borrow.Author.Tests.{not-true, not-false}
-use borrow.Author.Needs.{needs}
+use Rattle.laws.proofs.Basics.{sym, _∙_, needs, not-true, not-false}
 use Rattle.symbols.proofs.Tests.{gain-within, gain-between}
 use Rattle.symbols.proofs.gains.Statement.{statement}
 use Rattle.symbols.proofs.gains.Tie as tie
-
-returns : tie.Need-returns
-returns c =
-    let args = c .before .args in
-    rw (not-true (args .newline) (c .if1 .taken)) (sym (gain-within (args .before) (args .kind)))
-
-returns-2 : tie.Need-returns-2
-returns-2 c = rw (sym (c .before .ends-line .ensures) ∙ not-true _ (c .if2 .taken))
 
 returns-3 : tie.Need-returns-3
 returns-3 c =
@@ -21,4 +11,7 @@ returns-3 c =
     (c .begins-line .ensures ∙ sym (gain-between (args .before) (args .kind) ends))
 
 pub gains-spec : {M : Type 1} → statement M
-gains-spec = tie.close (tie.spec returns (search needs) returns-2 (search needs) returns-3)
+gains-spec =
+    tie.close
+    (tie.spec (λ c. let args = c .before .args in rw (not-true (args .newline) (c .if1 .taken)) (sym (gain-within (args .before) (args .kind))))
+    (search needs) (λ c. rw (sym (c .before .ends-line .ensures) ∙ not-true _ (c .if2 .taken))) (search needs) returns-3)

@@ -1,8 +1,6 @@
-use Prim.Native.Nat.{_-_}
-use native.Mathlib.Omega.{arith}
-use lib.ListN.{length}
-use borrow.Author.Needs.{needs}
-use Rattle.symbols.proofs.Scanning.{when-symbol, when-gap, when-wrong, elementAt, Seeking, seek-start, seek-end, seek-wrong, seek-symbol, gap-inside, symbol-inside, wrong-inside, seek-gap}
+use Rattle.laws.proofs.Basics.{_-_, length, arith, needs}
+use Rattle.symbols.proofs.Scanning.{when-symbol, when-gap, when-wrong, elementAt, Seeking, seek-start, seek-end, seek-wrong, seek-symbol}
+use Rattle.symbols.proofs.Scanning.{gap-inside, symbol-inside, wrong-inside, seek-gap}
 use Rattle.symbols.proofs.next_symbol.Statement.{statement}
 use Rattle.symbols.proofs.next_symbol.Tie as tie
 
@@ -63,7 +61,7 @@ loop-less c =
 
 pub next-symbol-spec : {M : Type 1} → statement M
 next-symbol-spec =
-    tie.close (tie.spec Inv-loop μ-loop (λ c. search seek-start) (λ c κs. search needs) (λ c. search needs) add-t16
-    (λ c. search (seek-symbol, when-symbol)) (λ c. search needs) add-t17 (λ c. search (seek-wrong, when-wrong))
-    (λ c. search needs) (λ c. search needs) (λ c κs. search needs) add-i loop-less
+    tie.close
+    (tie.spec Inv-loop μ-loop (λ c. search seek-start) (λ c κs. search needs) (λ c. search needs) add-t16 (λ c. search (seek-symbol, when-symbol))
+    (λ c. search needs) add-t17 (λ c. search (seek-wrong, when-wrong)) (λ c. search needs) (λ c. search needs) (λ c κs. search needs) add-i loop-less
     (λ c. rw (c .or-newline .ensures) (search (seek-gap, when-gap))) (λ c. search seek-end))

@@ -1,4 +1,4 @@
-use borrow.Author.Tests.{eq-eqb, ne-eqb}
+use Rattle.laws.proofs.Basics.{eq-eqb, ne-eqb}
 use Rattle.symbols.proofs.numbered.Statement.{statement}
 use Rattle.symbols.proofs.numbered.Tie as tie
 

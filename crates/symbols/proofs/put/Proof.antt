@@ -1,7 +1,5 @@
-use native.Mathlib.Omega.{arith}
-use lib.ListN.{length-set}
+use Rattle.laws.proofs.Basics.{length-set, arith, needs}
 use Rattle.symbols.proofs.Writing.{put-is}
-use borrow.Author.Needs.{needs}
 use Rattle.symbols.proofs.put.Statement.{statement}
 use Rattle.symbols.proofs.put.Tie as tie
 
@@ -9,6 +7,5 @@ pub put-spec : {M : Type 1} → statement M
 put-spec =
     tie.close
     (tie.spec (search needs) (search needs) (search needs) (search needs) (search needs) (search needs) (search needs)
-    (λ c. simp length-set (omega arith))
-    (search needs) (search needs) (search needs) (λ c. simp length-set (omega arith))
-    (search needs) (λ c. search put-is))
+    (λ c. simp length-set (omega arith)) (search needs) (search needs) (search needs) (λ c. simp length-set (omega arith)) (search needs)
+    (λ c. search put-is))

@@ -1,6 +1,4 @@
-use Prim.Native.Nat.{_-_}
-use lib.ListN.{length}
-use borrow.Author.Needs.{needs}
+use Rattle.laws.proofs.Basics.{_-_, length, needs}
 use Rattle.symbols.proofs.Scanning.{kind-known, kind-fits, nearer-end}
 use Rattle.symbols.proofs.Matching.{Going, going-start, going-wrong, going-whole, going-open, stack-fits, going-unmatched, going-on}
 use Rattle.symbols.proofs.Writing.{Putting, putting-start, putting-end, room-for, number-fits, place-fits, strings-fit, putting-on}
@@ -19,10 +17,9 @@ pub read-all-spec : {M : Type 1} → statement M
 read-all-spec =
     tie.close
     (tie.spec Inv-loop μ-loop (λ c. (going-start _ _, search putting-start)) (λ c κs. (c .loop .inv .0 .within, search needs, search needs))
-    (search needs) (search needs) (search needs) (search needs) (λ c. search (refused, going-wrong))
-    (search needs) (search needs) (search needs) (search needs) (λ c. search (refused, going-open))
-    (search needs) (search needs) (search needs) (search needs) (λ c. search (written, going-whole, putting-end))
-    (search needs) (λ c κs. search stack-fits)
-    (search needs) (search needs) (search needs) (search needs) (search needs) (λ c. search (refused, going-unmatched))
-    (λ c κs. search kind-known) (search needs) (λ c κs. search (room-for, kind-fits, number-fits, place-fits))
-    (λ c κs. search strings-fit) (λ c. search nearer-end) (λ c. search (going-on, putting-on)))
+    (search needs) (search needs) (search needs) (search needs) (λ c. search (refused, going-wrong)) (search needs) (search needs) (search needs)
+    (search needs) (λ c. search (refused, going-open)) (search needs) (search needs) (search needs) (search needs)
+    (λ c. search (written, going-whole, putting-end)) (search needs) (λ c κs. search stack-fits) (search needs) (search needs) (search needs)
+    (search needs) (search needs) (λ c. search (refused, going-unmatched)) (λ c κs. search kind-known) (search needs)
+    (λ c κs. search (room-for, kind-fits, number-fits, place-fits)) (λ c κs. search strings-fit) (λ c. search nearer-end)
+    (λ c. search (going-on, putting-on)))

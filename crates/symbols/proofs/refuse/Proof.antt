@@ -1,6 +1,4 @@
-use mathlib.Core.Path.{refl, _∙_}
-use native.Mathlib.Nat.{sub-zero}
-use borrow.Author.Needs.{needs}
+use Rattle.laws.proofs.Basics.{refl, _∙_, sub-zero, needs}
 use Rattle.symbols.proofs.refuse.Statement.{statement}
 use Rattle.symbols.proofs.refuse.Tie as tie
 

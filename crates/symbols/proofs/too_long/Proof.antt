@@ -1,5 +1,5 @@
 use Rattle.language.specs.Source.{tooLong}
-use mathlib.Core.Path.{refl}
+use Rattle.laws.proofs.Basics.{refl}
 use Rattle.symbols.proofs.too_long.Statement.{statement}
 use Rattle.symbols.proofs.too_long.Tie as tie
 

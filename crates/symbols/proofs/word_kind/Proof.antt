@@ -1,4 +1,4 @@
-use borrow.Author.Needs.{needs}
+use Rattle.laws.proofs.Basics.{needs}
 use Rattle.symbols.proofs.Spelling.{search-all}
 use Rattle.symbols.proofs.word_kind.Statement.{statement}
 use Rattle.symbols.proofs.word_kind.Tie as tie

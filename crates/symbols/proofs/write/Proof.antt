@@ -1,6 +1,5 @@
 use Rattle.symbols.proofs.Writing.{put-length, writes-one, writes-two}
-use native.Mathlib.Omega.{arith}
-use borrow.Author.Needs.{needs}
+use Rattle.laws.proofs.Basics.{arith, needs}
 use Rattle.symbols.proofs.write.Statement.{statement}
 use Rattle.symbols.proofs.write.Tie as tie
 
@@ -54,5 +53,5 @@ returns-2 c =
 
 pub write-spec : {M : Type 1} → statement M
 write-spec =
-    tie.close (tie.spec put-requires (search needs) put-requires-2 (search needs) (search needs) returns put-requires-3
-    (search needs) (search needs) returns-2)
+    tie.close
+    (tie.spec put-requires (search needs) put-requires-2 (search needs) (search needs) returns put-requires-3 (search needs) (search needs) returns-2)

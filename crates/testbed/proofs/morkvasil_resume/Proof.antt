@@ -1,5 +1,5 @@
 use Rattle.testbed.proofs.Answers.{run-exported}
-use borrow.Author.Needs.{needs}
+use Rattle.laws.proofs.Basics.{needs}
 use Rattle.testbed.proofs.morkvasil_resume.Statement.{statement}
 use Rattle.testbed.proofs.morkvasil_resume.Tie as tie
 

@@ -1,4 +1,4 @@
-use borrow.Author.Needs.{needs}
+use Rattle.laws.proofs.Basics.{needs}
 use Rattle.testbed.proofs.Answers.{told}
 use Rattle.testbed.proofs.tell_run.Statement.{statement}
 use Rattle.testbed.proofs.tell_run.Tie as tie
@@ -6,5 +6,5 @@ use Rattle.testbed.proofs.tell_run.Tie as tie
 pub tell-run-spec : {M : Type 1} → statement M
 tell-run-spec =
     tie.close
-    (tie.spec (search needs) (search needs) (search needs) (search needs) (search needs) (search needs) (search needs)
-    (search needs) (search needs) (λ c. search told))
+    (tie.spec (search needs) (search needs) (search needs) (search needs) (search needs) (search needs) (search needs) (search needs) (search needs)
+    (λ c. search told))

@@ -1,18 +1,8 @@
-use mathlib.Core.Path.{ap, sym, _∙_}
-use native.Mathlib.Omega.{arith}
-use borrow.Author.Needs.{needs}
+use Rattle.laws.proofs.Basics.{sym, ap, _∙_, arith, needs}
 use Rattle.text.specs.Answers.{asCharacter}
 use Rattle.text.proofs.Quotes.{three-bytes, few-bytes}
 use Rattle.text.proofs.by_number.Statement.{statement}
 use Rattle.text.proofs.by_number.Tie as tie
-
-returns : tie.Need-returns
-unfolding asCharacter
-returns c = sym (ap asCharacter (few-bytes (c .before .before .args .text .now) (c .before .before .args .at) (omega arith)))
-
-returns-2 : tie.Need-returns-2
-unfolding asCharacter
-returns-2 c = sym (ap asCharacter (few-bytes (c .before .before .before .args .text .now) (c .before .before .before .args .at) (omega arith)))
 
 returns-3 : tie.Need-returns-3
 returns-3 c =
@@ -21,6 +11,9 @@ returns-3 c =
     by-digits .ensures ∙ sym (ap asCharacter (three-bytes (args .text .now) (args .at) (omega arith)))
 
 pub by-number-spec : {M : Type 1} → statement M
+unfolding asCharacter
 by-number-spec =
     tie.close
-    (tie.spec returns (search needs) returns-2 (search needs) (search needs) (search needs) (search needs) (search needs) (search needs) returns-3)
+    (tie.spec (λ c. sym (ap asCharacter (few-bytes (c .before .before .args .text .now) (c .before .before .args .at) (omega arith)))) (search needs)
+    (λ c. sym (ap asCharacter (few-bytes (c .before .before .before .args .text .now) (c .before .before .before .args .at) (omega arith))))
+    (search needs) (search needs) (search needs) (search needs) (search needs) (search needs) returns-3)

@@ -1,8 +1,4 @@
-use Prim.Native.Nat.{_-_}
-use mathlib.Core.Path.{_≡_, refl, sym, _∙_}
-use native.Mathlib.Omega.{arith}
-use lib.ListN.{length, drop}
-use borrow.Author.Needs.{needs}
+use Rattle.laws.proofs.Basics.{_-_, _≡_, refl, sym, _∙_, length, drop, arith, needs}
 use Rattle.text.specs.Quoted.{quoted}
 use Rattle.text.specs.Parts.{isClosed}
 use Rattle.text.proofs.Answers.{when-is, when-closing, when-ended, when-mistake}
@@ -20,15 +16,25 @@ abbrev μ-loop : tie.MeasureT-loop
 add-i : tie.Need-add-i Inv-loop μ-loop
 add-i c =
     let args = c .before .before .before .before .before .before .args in
-    omega (arith, is-inside (args .quote) (args .text .now) (c .before .before .before .before .loop .i) (when-is _ (c .before .before .before .character-at .ensures) (c .before .c .given .1)))
+    omega (
+      arith,
+      is-inside (args .quote) (args .text .now) (c .before .before .before .before .loop .i)
+          (when-is _ (c .before .before .before .character-at .ensures) (c .before .c .given .1)),
+    )
 
 loop-less : tie.Need-loop-less Inv-loop μ-loop
 loop-less c =
     let args = c .before .before .before .before .before .before .args in
-    omega (arith, is-inside (args .quote) (args .text .now) (c .before .before .before .before .loop .i) (when-is _ (c .before .before .before .character-at .ensures) (c .before .c .given .1)))
+    omega (
+      arith,
+      is-inside (args .quote) (args .text .now) (c .before .before .before .before .loop .i)
+          (when-is _ (c .before .before .before .character-at .ensures) (c .before .c .given .1)),
+    )
 
 loop-again : tie.Need-loop-again Inv-loop μ-loop
-loop-again c = c .before .before .before .before .loop .inv ∙ closes-next _ _ _ (when-is _ (c .before .before .before .character-at .ensures) (c .before .c .given .1))
+loop-again c =
+    c .before .before .before .before .loop .inv ∙ closes-next _ _ _
+    (when-is _ (c .before .before .before .character-at .ensures) (c .before .c .given .1))
 
 returns : tie.Need-returns Inv-loop μ-loop
 returns c =
@@ -43,17 +49,26 @@ returns-2 c =
 add-i-2 : tie.Need-add-i-2 Inv-loop μ-loop
 add-i-2 c =
     let args = c .before .before .before .before .before .args in
-    omega (arith, mistake-inside (args .quote) (args .text .now) (c .before .before .before .loop .i) (when-mistake _ (c .before .before .character-at .ensures) (c .enum-told3 .given .1)))
+    omega (
+      arith,
+      mistake-inside (args .quote) (args .text .now) (c .before .before .before .loop .i)
+          (when-mistake _ (c .before .before .character-at .ensures) (c .enum-told3 .given .1)),
+    )
 
 loop-less-2 : tie.Need-loop-less-2 Inv-loop μ-loop
 loop-less-2 c =
     let args = c .before .before .before .before .before .args in
-    omega (arith, mistake-inside (args .quote) (args .text .now) (c .before .before .before .loop .i) (when-mistake _ (c .before .before .character-at .ensures) (c .enum-told3 .given .1)))
+    omega (
+      arith,
+      mistake-inside (args .quote) (args .text .now) (c .before .before .before .loop .i)
+          (when-mistake _ (c .before .before .character-at .ensures) (c .enum-told3 .given .1)),
+    )
 
 loop-again-2 : tie.Need-loop-again-2 Inv-loop μ-loop
 loop-again-2 c =
     let args = c .before .before .before .before .before .args in
-    c .before .before .before .loop .inv ∙ closes-mistake (args .quote) (args .text .now) (c .before .before .before .loop .i) (when-mistake _ (c .before .before .character-at .ensures) (c .enum-told3 .given .1))
+    c .before .before .before .loop .inv ∙ closes-mistake (args .quote) (args .text .now) (c .before .before .before .loop .i)
+    (when-mistake _ (c .before .before .character-at .ensures) (c .enum-told3 .given .1))
 
 pub closes-spec : {M : Type 1} → statement M
 closes-spec =

@@ -1,6 +1,4 @@
-use mathlib.Core.Path.{sym, _∙_}
-use lib.ListN.{drop}
-use borrow.Author.Needs.{needs}
+use Rattle.laws.proofs.Basics.{sym, _∙_, drop, needs}
 use Rattle.text.specs.Quoted.{quoted}
 use Rattle.text.proofs.Constants.{fault-closed, fault-unclosed}
 use Rattle.text.proofs.fault_at.Statement.{statement}
@@ -10,13 +8,13 @@ returns : tie.Need-returns
 returns c =
     let args = c .before .before .before .args in
     let rest = quoted (args .quote) 0 0 (drop (args .at) (args .text .now)) in
-    fault-closed (args .number) (args .offset) rest (sym (c .before .closes .ensures) ∙ c .if1 .taken)
+    fault-closed _ _ rest (sym (c .before .closes .ensures) ∙ c .if1 .taken)
 
 returns-2 : tie.Need-returns-2
 returns-2 c =
     let args = c .before .before .before .args in
     let rest = quoted (args .quote) 0 0 (drop (args .at) (args .text .now)) in
-    fault-unclosed (args .number) (args .offset) rest (sym (c .before .closes .ensures) ∙ c .if1 .left)
+    fault-unclosed _ _ rest (sym (c .before .closes .ensures) ∙ c .if1 .left)
 
 pub fault-at-spec : {M : Type 1} → statement M
 fault-at-spec = tie.close (tie.spec (search needs) returns returns-2)

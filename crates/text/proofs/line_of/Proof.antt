@@ -1,9 +1,4 @@
-use Prim.Native.Nat.{_≤_, _+_, _-_}
-use mathlib.Core.Path.{_≡_}
-use native.Mathlib.Omega.{arith}
-use lib.ListN.{length}
-use mathlib.Core.Logic.{⊎-elim}
-use borrow.Author.Needs.{needs}
+use Rattle.laws.proofs.Basics.{_+_, _-_, _≤_, _≡_, ⊎-elim, length, arith, needs}
 use Rattle.text.specs.Line.{lineOf}
 use Rattle.text.proofs.Lines.{between, between-all, between-none, between-past, between-newline, between-other}
 use Rattle.text.proofs.line_of.Statement.{statement}
@@ -15,9 +10,6 @@ Inv-loop text place line₀ i₀ line i =
 
 abbrev μ-loop : tie.MeasureT-loop
 μ-loop text place line₀ i₀ line i = length text - i
-
-loop-holds : tie.Need-loop-holds Inv-loop μ-loop
-loop-holds c = omega (arith, between-all (c .args .text .now) (c .args .place))
 
 returns : tie.Need-returns Inv-loop μ-loop
 returns c =
@@ -40,10 +32,9 @@ loop-again c =
     ))
     (c .if2 .came)
 
-returns-2 : tie.Need-returns-2 Inv-loop μ-loop
-returns-2 c = omega (arith, between-past (c .before .before .args .text .now) (c .before .before .args .place) (c .before .loop .i) (omega arith))
-
 pub line-of-spec : {M : Type 1} → statement M
 line-of-spec =
-    tie.close (tie.spec Inv-loop μ-loop loop-holds returns (search needs) (λ c. omega arith) (λ c. omega arith)
-    (λ c. omega arith) loop-again returns-2)
+    tie.close
+    (tie.spec Inv-loop μ-loop (λ c. omega (arith, between-all (c .args .text .now) (c .args .place))) returns (search needs) (λ c. omega arith)
+    (λ c. omega arith) (λ c. omega arith) loop-again
+    (λ c. omega (arith, between-past (c .before .before .args .text .now) (c .before .before .args .place) (c .before .loop .i) (omega arith))))

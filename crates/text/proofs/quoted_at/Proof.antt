@@ -1,8 +1,4 @@
-use Prim.Native.Nat.{_+_, _-_, _≤_}
-use mathlib.Core.Path.{_≡_, sym, _∙_}
-use native.Mathlib.Omega.{arith}
-use lib.ListN.{length, drop}
-use borrow.Author.Needs.{needs}
+use Rattle.laws.proofs.Basics.{_+_, _-_, _≤_, _≡_, sym, _∙_, length, drop, arith, needs}
 use Rattle.text.specs.Quoted.{quoted}
 use Rattle.text.specs.Answers.{asQuoted}
 use Rattle.text.proofs.Answers.{when-is, when-closing, when-ended, when-mistake}
@@ -19,26 +15,32 @@ Inv-loop text at quote room n₀ i₀ n i =
 abbrev μ-loop : tie.MeasureT-loop
 μ-loop text at quote room n₀ i₀ n i = length text - i
 
-loop-holds : tie.Need-loop-holds Inv-loop μ-loop
-loop-holds c = let args = c .before .args in (omega arith, omega arith, constant-start (args .quote) (args .room) (args .text .now) (args .at))
-
 returns : tie.Need-returns Inv-loop μ-loop
 returns c =
     let args = c .before .before .before .before .before .before .before .before .args in
     let loop = c .before .before .before .before .before .before .loop in
     c .fault-at .ensures ∙
-    constant-full (args .quote) (args .room) (args .text .now) (args .at) (loop .i) (loop .n) (when-is _ (c .before .before .before .before .before .character-at .ensures) (c .before .before .before .c .given .1)) (c .before .if1 .taken) ∙
+    constant-full (args .quote) (args .room) (args .text .now) (args .at) (loop .i) (loop .n)
+    (when-is _ (c .before .before .before .before .before .character-at .ensures) (c .before .before .before .c .given .1)) (c .before .if1 .taken) ∙
     sym (loop .inv .2)
 
 add-i : tie.Need-add-i Inv-loop μ-loop
 add-i c =
     let args = c .before .before .before .before .before .before .before .args in
-    omega (arith, is-inside (args .quote) (args .text .now) (c .before .before .before .before .before .loop .i) (when-is _ (c .before .before .before .before .character-at .ensures) (c .before .before .c .given .1)))
+    omega (
+      arith,
+      is-inside (args .quote) (args .text .now) (c .before .before .before .before .before .loop .i)
+          (when-is _ (c .before .before .before .before .character-at .ensures) (c .before .before .c .given .1)),
+    )
 
 loop-less : tie.Need-loop-less Inv-loop μ-loop
 loop-less c =
     let args = c .before .before .before .before .before .before .before .args in
-    omega (arith, is-inside (args .quote) (args .text .now) (c .before .before .before .before .before .loop .i) (when-is _ (c .before .before .before .before .character-at .ensures) (c .before .before .c .given .1)))
+    omega (
+      arith,
+      is-inside (args .quote) (args .text .now) (c .before .before .before .before .before .loop .i)
+          (when-is _ (c .before .before .before .before .character-at .ensures) (c .before .before .c .given .1)),
+    )
 
 loop-again : tie.Need-loop-again Inv-loop μ-loop
 loop-again c =
@@ -53,13 +55,11 @@ loop-again c =
 add-t13 : tie.Need-add-t13 Inv-loop μ-loop
 add-t13 c =
     let args = c .before .before .before .before .before .args in
-    omega (arith, closing-inside (args .quote) (args .text .now) (c .before .before .before .loop .i) (when-closing _ (c .before .before .character-at .ensures) (c .enum-told .given .1)))
-
-returns-2 : tie.Need-returns-2 Inv-loop μ-loop
-returns-2 c =
-    let args = c .before .before .before .before .before .args in
-    let loop = c .before .before .before .loop in
-    constant-end (args .quote) (args .room) (args .text .now) (args .at) (loop .i) (loop .n) (search when-closing) ∙ sym (loop .inv .2)
+    omega (
+      arith,
+      closing-inside (args .quote) (args .text .now) (c .before .before .before .loop .i)
+          (when-closing _ (c .before .before .character-at .ensures) (c .enum-told .given .1)),
+    )
 
 returns-3 : tie.Need-returns-3 Inv-loop μ-loop
 returns-3 c =
@@ -72,12 +72,15 @@ returns-4 c =
     let args = c .before .before .before .before .before .before .before .args in
     let loop = c .before .before .before .before .before .loop in
     c .fault-at2 .ensures ∙
-    constant-mistake (args .quote) (args .room) (args .text .now) (args .at) (loop .i) (loop .n) (when-mistake _ (c .before .before .before .before .character-at .ensures) (c .before .before .c2 .given .1)) ∙
+    constant-mistake (args .quote) (args .room) (args .text .now) (args .at) (loop .i) (loop .n)
+    (when-mistake _ (c .before .before .before .before .character-at .ensures) (c .before .before .c2 .given .1)) ∙
     sym (loop .inv .2)
 
 pub quoted-at-spec : {M : Type 1} → statement M
 quoted-at-spec =
     tie.close
-    (tie.spec Inv-loop μ-loop loop-holds (search needs) (search needs) (search needs) (search needs)
-    returns (λ c. omega arith) add-i loop-less loop-again (search needs) (search needs) add-t13 returns-2 (search needs) returns-3 (search needs)
-    (search needs) (search needs) returns-4)
+    (tie.spec Inv-loop μ-loop
+    (λ c. let args = c .before .args in (omega arith, omega arith, constant-start (args .quote) (args .room) (args .text .now) (args .at)))
+    (search needs) (search needs) (search needs) (search needs) returns (λ c. omega arith) add-i loop-less loop-again (search needs) (search needs)
+    add-t13 (λ c. let loop = c .before .before .before .loop in constant-end _ _ _ _ _ _ (search when-closing) ∙ sym (loop .inv .2)) (search needs)
+    returns-3 (search needs) (search needs) (search needs) returns-4)

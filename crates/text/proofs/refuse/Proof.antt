@@ -1,5 +1,5 @@
 use Rattle.text.specs.Line.{refusal}
-use borrow.Author.Needs.{needs}
+use Rattle.laws.proofs.Basics.{needs}
 use Rattle.text.proofs.refuse.Statement.{statement}
 use Rattle.text.proofs.refuse.Tie as tie
 

@@ -1,7 +1,5 @@
-use native.Mathlib.Omega.{arith}
-use Prim.Native.Nat.{_+_, _*_}
+use Rattle.laws.proofs.Basics.{_+_, _*_, arith, needs}
 use Rattle.tree.proofs.Decoded.{lies, place-past}
-use borrow.Author.Needs.{needs}
 use Rattle.tree.proofs.place_at.Statement.{statement}
 use Rattle.tree.proofs.place_at.Tie as tie
 

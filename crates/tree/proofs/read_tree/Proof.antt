@@ -1,7 +1,5 @@
-use native.Mathlib.Omega.{arith}
-use mathlib.Core.Path.{sym, _∙_}
+use Rattle.laws.proofs.Basics.{sym, _∙_, arith, needs}
 use Rattle.tree.proofs.Decoded.{lies, starts, tree-short, tree-read, tree-refused, end-inside}
-use borrow.Author.Needs.{needs}
 use Rattle.tree.proofs.read_tree.Statement.{statement}
 use Rattle.tree.proofs.read_tree.Tie as tie
 

@@ -1,4 +1,4 @@
-use native.Mathlib.Omega.{arith}
+use Rattle.laws.proofs.Basics.{arith}
 use Rattle.tree.proofs.Decoded.{too-short-long, too-short-few, too-short-rest}
 use Rattle.tree.proofs.too_short.Statement.{statement}
 use Rattle.tree.proofs.too_short.Tie as tie

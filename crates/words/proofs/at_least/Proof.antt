@@ -1,12 +1,9 @@
-use mathlib.Core.Path.{_∙_, ap}
-use mathlib.Core.Bool.{Bool, not}
+use Rattle.laws.proofs.Basics.{ap, _∙_, Bool, not, needs}
 use Rattle.words.specs.Words.{truth}
-use borrow.Author.Needs.{needs}
 use Rattle.words.proofs.at_least.Statement.{statement}
 use Rattle.words.proofs.at_least.Tie as tie
 
-returns : tie.Need-returns
-returns c = c .truth .ensures ∙ ap (λ (t : Bool). truth (not t)) (c .before .below .ensures)
-
 pub at-least-spec : {M : Type 1} → statement M
-at-least-spec = tie.close (tie.spec (search needs) (search needs) returns)
+at-least-spec =
+    tie.close
+    (tie.spec (search needs) (search needs) (λ c. c .truth .ensures ∙ ap (λ (t : Bool). truth (not t)) (c .before .below .ensures)))

@@ -1,9 +1,7 @@
 use Rattle.words.proofs.Laws.{magnitude-high, magnitude-low}
-use borrow.Author.Needs.{needs}
+use Rattle.laws.proofs.Basics.{needs}
 use Rattle.words.proofs.magnitude.Statement.{statement}
 use Rattle.words.proofs.magnitude.Tie as tie
 
 pub magnitude-spec : {M : Type 1} → statement M
-magnitude-spec =
-    tie.close (tie.spec (search needs) (search needs) (λ c. search (needs, magnitude-high))
-    (λ c. search magnitude-low))
+magnitude-spec = tie.close (tie.spec (search needs) (search needs) (λ c. search (needs, magnitude-high)) (λ c. search magnitude-low))

@@ -1,5 +1,5 @@
 use Rattle.words.proofs.Laws.{shl-in, shl-out}
-use borrow.Author.Needs.{needs}
+use Rattle.laws.proofs.Basics.{needs}
 use Rattle.words.proofs.shift_left.Statement.{statement}
 use Rattle.words.proofs.shift_left.Tie as tie
 

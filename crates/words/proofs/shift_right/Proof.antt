@@ -1,5 +1,5 @@
 use Rattle.words.proofs.Laws.{shr-in, shr-out}
-use borrow.Author.Needs.{needs}
+use Rattle.laws.proofs.Basics.{needs}
 use Rattle.words.proofs.shift_right.Statement.{statement}
 use Rattle.words.proofs.shift_right.Tie as tie
 

@@ -1,5 +1,5 @@
 use Rattle.words.proofs.Laws.{signed-minus, signed-plus}
-use borrow.Author.Needs.{needs}
+use Rattle.laws.proofs.Basics.{needs}
 use Rattle.words.proofs.signed.Statement.{statement}
 use Rattle.words.proofs.signed.Tie as tie
 

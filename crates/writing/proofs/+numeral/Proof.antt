@@ -1,7 +1,5 @@
 use Rattle.writing.proofs.Laws.{puts-as, puts-then, numeral-one, numeral-more}
-use native.Mathlib.Omega.{arith}
-use borrow.Author.Needs.{needs}
-use Prim.Native.Nat.{ℕ, _<_}
+use Rattle.laws.proofs.Basics.{ℕ, _<_, arith, needs}
 use borrow.Fn.Kinds.{In}
 use borrow.Fn.PlainCycle.{Measures, is, falls, and}
 use Rattle.writing.proofs.numeral.Reads as numeral

@@ -1,6 +1,6 @@
 use Rattle.items.specs.Render.{baseText}
 use Rattle.writing.proofs.Laws.{puts-none}
-use borrow.Author.Needs.{needs}
+use Rattle.laws.proofs.Basics.{needs}
 use Rattle.writing.proofs.base_letter.Statement.{statement}
 use Rattle.writing.proofs.base_letter.Tie as tie
 
@@ -15,6 +15,6 @@ returns-3 c = rw (c .before .before .before .before .enum-told3 .given .1) (c .b
 pub base-letter-spec : {M : Type 1} → statement M
 unfolding baseText
 base-letter-spec =
-    tie.close (tie.spec (search needs) (search needs) (search needs) (search needs) (search needs)
-    (λ c. rw (c .enum-told .given .1) puts-none)
-    (search needs) returns-2 (search needs) returns-3)
+    tie.close
+    (tie.spec (search needs) (search needs) (search needs) (search needs) (search needs) (λ c. rw (c .enum-told .given .1) puts-none) (search needs)
+    returns-2 (search needs) returns-3)

@@ -1,5 +1,5 @@
 use Rattle.writing.proofs.Laws.{global-put}
-use borrow.Author.Needs.{needs}
+use Rattle.laws.proofs.Basics.{needs}
 use Rattle.writing.proofs.global.Statement.{statement}
 use Rattle.writing.proofs.global.Tie as tie
 

@@ -1,6 +1,6 @@
 use Rattle.items.specs.Render.{indirectText}
 use Rattle.writing.proofs.Laws.{puts-none}
-use borrow.Author.Needs.{needs}
+use Rattle.laws.proofs.Basics.{needs}
 use Rattle.writing.proofs.indirect.Statement.{statement}
 use Rattle.writing.proofs.indirect.Tie as tie
 

@@ -1,7 +1,7 @@
 use Rattle.writing.proofs.Laws.{puts-then}
 use Rattle.writing.specs.Text.{line}
 use Rattle.items.specs.Render.{render, operandText}
-use borrow.Author.Needs.{needs}
+use Rattle.laws.proofs.Basics.{needs}
 use Rattle.writing.proofs.label_word.Statement.{statement}
 use Rattle.writing.proofs.label_word.Tie as tie
 

@@ -1,8 +1,7 @@
 use Rattle.writing.proofs.Laws.{labelled-put}
-use borrow.Author.Needs.{needs}
+use Rattle.laws.proofs.Basics.{needs}
 use Rattle.writing.proofs.labelled.Statement.{statement}
 use Rattle.writing.proofs.labelled.Tie as tie
 
 pub labelled-spec : {M : Type 1} → statement M
-labelled-spec =
-    tie.close (tie.spec (search needs) (search needs) (search needs) (search needs) (λ c. search labelled-put))
+labelled-spec = tie.close (tie.spec (search needs) (search needs) (search needs) (search needs) (λ c. search labelled-put))

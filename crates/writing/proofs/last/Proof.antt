@@ -1,5 +1,5 @@
 use Rattle.writing.proofs.Laws.{puts-then}
-use borrow.Author.Needs.{needs}
+use Rattle.laws.proofs.Basics.{needs}
 use Rattle.writing.proofs.last.Statement.{statement}
 use Rattle.writing.proofs.last.Tie as tie
 

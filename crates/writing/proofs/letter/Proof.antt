@@ -1,7 +1,6 @@
 use Rattle.items.specs.Render.{letter}
-use mathlib.Core.Path.{refl}
+use Rattle.laws.proofs.Basics.{refl, needs}
 use Rattle.writing.proofs.Laws.{letter-past}
-use borrow.Author.Needs.{needs}
 use Rattle.writing.proofs.letter.Statement.{statement}
 use Rattle.writing.proofs.letter.Tie as tie
 

@@ -1,4 +1,4 @@
-use Rattle.compiler.proofs.Basics.{_-_, _+_, _≤_, arith, needs, _≡_, _∙_, length}
+use Rattle.laws.proofs.Basics.{_+_, _-_, _≤_, _≡_, _∙_, length, arith, needs}
 use Rattle.compiler.specs.Labels.{CommandAt, Listed, Sound, Still, flat}
 use Rattle.compiler.proofs.Switching.{still-here, still-then, TablePart, table-begin, table-next, table-end}
 use Rattle.compiler.proofs.labels.all_pairs.Statement.{statement}

@@ -1,5 +1,5 @@
 use Rattle.compiler.proofs.Rows.{by-none, by-judged, by-zero}
-use borrow.Author.Needs.{needs}
+use Rattle.laws.proofs.Basics.{needs}
 use Rattle.compiler.proofs.labels.by_constant.Statement.{statement}
 use Rattle.compiler.proofs.labels.by_constant.Tie as tie
 

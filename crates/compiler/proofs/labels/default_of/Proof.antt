@@ -1,4 +1,4 @@
-use Rattle.compiler.proofs.Basics.{_-_, _+_, _≤_, arith, needs, List}
+use Rattle.laws.proofs.Basics.{_+_, _-_, _≤_, List, arith, needs}
 use Rattle.language.specs.Tree.{Label}
 use Rattle.compiler.specs.Labels.{CommandAt, Row}
 use Rattle.compiler.proofs.Switching.{DefaultPart, default-begin, default-found, default-next, default-end}

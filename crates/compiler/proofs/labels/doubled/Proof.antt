@@ -1,4 +1,4 @@
-use Rattle.compiler.proofs.Basics.{_-_, arith, needs, _≡_, _∙_, length}
+use Rattle.laws.proofs.Basics.{_-_, _≡_, _∙_, length, arith, needs}
 use Rattle.compiler.specs.Switching.{ReadyLabels}
 use Rattle.compiler.proofs.Doubling.{marks-long, ListPart, list-begin, list-next, list-end}
 use Rattle.compiler.proofs.labels.doubled.Statement.{statement}

@@ -1,4 +1,4 @@
-use Rattle.compiler.proofs.Basics.{_-_, arith, needs, _≡_, refl, _∙_, List, length}
+use Rattle.laws.proofs.Basics.{_-_, _≡_, refl, _∙_, List, length, arith, needs}
 use Rattle.compiler.proofs.Language.{Label, labelsOf}
 use Rattle.compiler.specs.Labels.{LabelAt, Listed, Marks}
 use Rattle.compiler.proofs.Doubling.{OwnPart, own-begin, own-next, own-end}

@@ -1,5 +1,5 @@
 use Rattle.compiler.proofs.Doubling.{label-default, label-refused, label-case}
-use borrow.Author.Needs.{needs}
+use Rattle.laws.proofs.Basics.{needs}
 use Rattle.compiler.proofs.labels.doubled_label.Statement.{statement}
 use Rattle.compiler.proofs.labels.doubled_label.Tie as tie
 

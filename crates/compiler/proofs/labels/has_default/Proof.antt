@@ -1,4 +1,4 @@
-use Rattle.compiler.proofs.Basics.{_-_, arith, needs, List}
+use Rattle.laws.proofs.Basics.{_-_, List, arith, needs}
 use Rattle.language.specs.Tree.{Label}
 use Rattle.compiler.specs.Labels.{LabelAt, Row}
 use Rattle.compiler.proofs.Switching.{AmongPart, among-begin, among-next, among-found, among-end}

@@ -1,5 +1,5 @@
 use Rattle.compiler.proofs.Switching.{spans-bare, spans-none, spans-is}
-use borrow.Author.Needs.{needs}
+use Rattle.laws.proofs.Basics.{needs}
 use Rattle.compiler.proofs.labels.labels_of.Statement.{statement}
 use Rattle.compiler.proofs.labels.labels_of.Tie as tie
 

@@ -1,4 +1,4 @@
-use Rattle.compiler.proofs.Basics.{_-_, arith, needs}
+use Rattle.laws.proofs.Basics.{_-_, arith, needs}
 use Rattle.compiler.specs.Switching.{ReadyMisplaced}
 use Rattle.compiler.proofs.Rows.{MisplacedPart, misplaced-begin, misplaced-next, misplaced-end}
 use Rattle.compiler.proofs.labels.misplaced.Statement.{statement}

@@ -1,5 +1,5 @@
 use Rattle.compiler.proofs.Rows.{misplaced-default, misplaced-case}
-use borrow.Author.Needs.{needs}
+use Rattle.laws.proofs.Basics.{needs}
 use Rattle.compiler.proofs.labels.misplaced_label.Statement.{statement}
 use Rattle.compiler.proofs.labels.misplaced_label.Tie as tie
 

@@ -1,4 +1,4 @@
-use Rattle.compiler.proofs.Basics.{_/_, arith, refl, needs}
+use Rattle.laws.proofs.Basics.{_/_, refl, arith, needs}
 use Rattle.compiler.proofs.Flags.{flag-fits}
 use Rattle.compiler.proofs.Doubling.{note-first, note-again, note-none}
 use Rattle.compiler.proofs.labels.note.Statement.{statement}

@@ -1,5 +1,5 @@
 use Rattle.compiler.proofs.Switching.{one-case-is, one-case-not}
-use borrow.Author.Needs.{needs}
+use Rattle.laws.proofs.Basics.{needs}
 use Rattle.compiler.proofs.labels.one_case.Statement.{statement}
 use Rattle.compiler.proofs.labels.one_case.Tie as tie
 

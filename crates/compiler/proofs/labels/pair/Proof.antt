@@ -1,5 +1,5 @@
 use Rattle.compiler.proofs.Switching.{pair-not, pair-is}
-use borrow.Author.Needs.{needs}
+use Rattle.laws.proofs.Basics.{needs}
 use Rattle.compiler.proofs.labels.pair.Statement.{statement}
 use Rattle.compiler.proofs.labels.pair.Tie as tie
 

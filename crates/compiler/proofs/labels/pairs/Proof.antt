@@ -1,4 +1,4 @@
-use Rattle.compiler.proofs.Basics.{_-_, arith, needs, _≡_, refl, _∙_, length}
+use Rattle.laws.proofs.Basics.{_-_, _≡_, refl, _∙_, length, arith, needs}
 use Rattle.compiler.specs.Labels.{LabelAt, Listed, Sound, Still}
 use Rattle.compiler.proofs.Switching.{still-here, still-then, PairsPart, pairs-begin, pairs-next, pairs-end}
 use Rattle.compiler.proofs.labels.pairs.Statement.{statement}

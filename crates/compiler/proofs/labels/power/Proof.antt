@@ -1,4 +1,4 @@
-use native.Mathlib.Omega.{arith}
+use Rattle.laws.proofs.Basics.{arith}
 use Rattle.compiler.proofs.Flags.{last-of-eight}
 use Rattle.compiler.proofs.labels.power.Statement.{statement}
 use Rattle.compiler.proofs.labels.power.Tie as tie

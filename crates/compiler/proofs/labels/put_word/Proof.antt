@@ -1,5 +1,5 @@
 use Rattle.compiler.proofs.Done.{emits-one}
-use borrow.Author.Needs.{needs}
+use Rattle.laws.proofs.Basics.{needs}
 use Rattle.compiler.proofs.labels.put_word.Statement.{statement}
 use Rattle.compiler.proofs.labels.put_word.Tie as tie
 

@@ -1,5 +1,5 @@
 use Rattle.compiler.proofs.Switching.{table-gave}
-use borrow.Author.Needs.{needs}
+use Rattle.laws.proofs.Basics.{needs}
 use Rattle.compiler.proofs.labels.table.Statement.{statement}
 use Rattle.compiler.proofs.labels.table.Tie as tie
 

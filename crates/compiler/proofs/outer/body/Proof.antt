@@ -1,5 +1,5 @@
 use Rattle.compiler.proofs.Bodies.{ready-value, ready-routine, gave-value, gave-routine}
-use borrow.Author.Needs.{needs}
+use Rattle.laws.proofs.Basics.{needs}
 use Rattle.compiler.proofs.outer.body.Statement.{statement}
 use Rattle.compiler.proofs.outer.body.Tie as tie
 

@@ -1,4 +1,4 @@
-use Rattle.compiler.proofs.Basics.{refl, needs}
+use Rattle.laws.proofs.Basics.{refl, needs}
 use Rattle.compiler.proofs.GroupLaws.{enters-global, enters-far, enters-name}
 use Rattle.compiler.proofs.outer.enter.Statement.{statement}
 use Rattle.compiler.proofs.outer.enter.Tie as tie

@@ -1,4 +1,4 @@
-use Rattle.compiler.proofs.Basics.{_+_, _*_, _/_, _^_, _≤_, _<_, _∙_, arith, needs, length}
+use Rattle.laws.proofs.Basics.{_+_, _*_, _/_, _^_, _<_, _≤_, _∙_, length, arith, needs}
 use Rattle.compiler.proofs.FunctionLaws.{function-room, function-names, function-body, function-gave}
 use Rattle.compiler.proofs.outer.function.Statement.{statement}
 use Rattle.compiler.proofs.outer.function.Tie as tie

@@ -1,4 +1,4 @@
-use Rattle.compiler.proofs.Basics.{_-_, _≤_, arith, needs}
+use Rattle.laws.proofs.Basics.{_-_, _≤_, arith, needs}
 use Rattle.compiler.proofs.FunctionCounts.{Counted, counted-begin, counted-group, counted-past, counted-other, counted-end}
 use Rattle.compiler.proofs.outer.function_count.Statement.{statement}
 use Rattle.compiler.proofs.outer.function_count.Tie as tie

@@ -1,4 +1,4 @@
-use Rattle.compiler.proofs.Basics.{_+_, _-_, _≤_, arith, needs}
+use Rattle.laws.proofs.Basics.{_+_, _-_, _≤_, arith, needs}
 use Rattle.compiler.proofs.GroupLaws.{Counting, count-begin, count-next, count-end}
 use Rattle.compiler.proofs.outer.group_count.Statement.{statement}
 use Rattle.compiler.proofs.outer.group_count.Tie as tie

@@ -1,4 +1,4 @@
-use Rattle.compiler.proofs.Basics.{_-_, _≡_, refl, _∙_, arith, needs, length}
+use Rattle.laws.proofs.Basics.{_-_, _≡_, refl, _∙_, length, arith, needs}
 use Rattle.compiler.specs.Groups.{ReadyGroup}
 use Rattle.compiler.proofs.GroupNameLaws.{GroupPart, names-begin, names-fit, names-next, names-end, Fits}
 use Rattle.compiler.proofs.outer.group_names.Statement.{statement}

@@ -1,5 +1,5 @@
 use Rattle.compiler.proofs.ItemLaws.{item-global, item-manifest}
-use borrow.Author.Needs.{needs}
+use Rattle.laws.proofs.Basics.{needs}
 use Rattle.compiler.proofs.outer.item_constant.Statement.{statement}
 use Rattle.compiler.proofs.outer.item_constant.Tie as tie
 

@@ -1,4 +1,4 @@
-use Rattle.compiler.proofs.Basics.{_+_, _*_, _-_, _≤_, arith, needs, _≡_, refl, _∙_, length}
+use Rattle.laws.proofs.Basics.{_+_, _-_, _*_, _≤_, _≡_, refl, _∙_, length, arith, needs}
 use Rattle.compiler.specs.Items.{ReadyItems}
 use Rattle.compiler.proofs.ItemLaws.{ItemsPart, items-begin, items-fit, items-next, items-end, items-out, code-small, Fits}
 use Rattle.compiler.proofs.outer.items.Statement.{statement}

@@ -1,5 +1,5 @@
 use Rattle.compiler.proofs.ItemLaws.{meaning-global, meaning-manifest}
-use borrow.Author.Needs.{needs}
+use Rattle.laws.proofs.Basics.{needs}
 use Rattle.compiler.proofs.outer.meaning.Statement.{statement}
 use Rattle.compiler.proofs.outer.meaning.Tie as tie
 

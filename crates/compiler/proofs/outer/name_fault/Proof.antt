@@ -1,5 +1,5 @@
 use Rattle.compiler.proofs.GroupLaws.{fault-unknown, fault-free, fault-so}
-use Rattle.compiler.proofs.Basics.{_∙_, needs}
+use Rattle.laws.proofs.Basics.{_∙_, needs}
 use Rattle.compiler.proofs.outer.name_fault.Statement.{statement}
 use Rattle.compiler.proofs.outer.name_fault.Tie as tie
 

@@ -1,5 +1,5 @@
 -- `declaration` meets its contract: by the tag, a group of functions or items.
-use borrow.Author.Needs.{needs}
+use Rattle.laws.proofs.Basics.{needs}
 use Rattle.compiler.proofs.Levels.{ready-items, gave-items, ready-let, gave-let}
 use Rattle.compiler.proofs.program.declaration.Statement.{statement}
 use Rattle.compiler.proofs.program.declaration.Tie as tie

@@ -1,5 +1,5 @@
 -- `functions` meets its contract: names, then functions, by the laws of `Levels`.
-use Rattle.compiler.proofs.Basics.{arith, needs}
+use Rattle.laws.proofs.Basics.{arith, needs}
 use Rattle.compiler.proofs.Levels.{ready-group, ready-fs, gave-group}
 use Rattle.compiler.proofs.program.functions.Statement.{statement}
 use Rattle.compiler.proofs.program.functions.Tie as tie

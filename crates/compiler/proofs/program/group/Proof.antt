@@ -1,5 +1,5 @@
 -- `group` meets its contract: the loop's invariant is `GroupPart`, for every scope and number of functions before the group.
-use Rattle.compiler.proofs.Basics.{ℕ, _-_, _≡_, refl, _∙_, arith, needs, length}
+use Rattle.laws.proofs.Basics.{ℕ, _-_, _≡_, refl, _∙_, length, arith, needs}
 use Rattle.language.specs.Names.{Scope, outermost}
 use Rattle.compiler.specs.Groups.{ReadyFs}
 use Rattle.compiler.proofs.FunctionLists.{GroupPart, group-begin, group-ready, group-fits, group-next, group-end}

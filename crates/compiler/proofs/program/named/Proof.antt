@@ -1,5 +1,5 @@
 -- `named` meets its contract: `items` has done it all but taken the height away.
-use Rattle.compiler.proofs.Basics.{refl, needs}
+use Rattle.laws.proofs.Basics.{refl, needs}
 use Rattle.compiler.proofs.Levels.{items-flat}
 use Rattle.compiler.proofs.program.named.Statement.{statement}
 use Rattle.compiler.proofs.program.named.Tie as tie

@@ -1,5 +1,5 @@
 -- `program` meets its contract: the loop's invariant is `ProgramPart`.
-use Rattle.compiler.proofs.Basics.{_-_, _≡_, refl, _∙_, arith, needs, length}
+use Rattle.laws.proofs.Basics.{_-_, _≡_, refl, _∙_, length, arith, needs}
 use Rattle.compiler.specs.Programs.{ReadyProgram}
 use Rattle.compiler.proofs.ProgramLoop.{ProgramPart, program-begin, program-ready, program-next, program-end}
 use Rattle.compiler.proofs.program.program.Statement.{statement}

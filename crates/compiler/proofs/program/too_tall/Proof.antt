@@ -1,5 +1,5 @@
 -- `too_tall` meets its contract: each answer by the case of `least`.
-use borrow.Author.Needs.{needs}
+use Rattle.laws.proofs.Basics.{needs}
 use Rattle.compiler.proofs.FunctionLists.{tall-new, tall-old, tall-low}
 use Rattle.compiler.proofs.program.too_tall.Statement.{statement}
 use Rattle.compiler.proofs.program.too_tall.Tie as tie

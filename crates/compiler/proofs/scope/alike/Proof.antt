@@ -1,4 +1,4 @@
-use Rattle.compiler.proofs.Basics.{_+_, _-_, sym, _∙_, arith, needs}
+use Rattle.laws.proofs.Basics.{_+_, _-_, sym, _∙_, arith, needs}
 use Rattle.compiler.proofs.Scoping.{differs}
 use Rattle.compiler.proofs.scope.alike.Statement.{statement}
 use Rattle.compiler.proofs.scope.alike.Tie as tie

@@ -1,4 +1,4 @@
-use Rattle.compiler.proofs.Basics.{sym, arith, List·getD-eq-default, needs}
+use Rattle.laws.proofs.Basics.{sym, List·getD-eq-default, arith, needs}
 use Rattle.compiler.proofs.scope.byte_at.Statement.{statement}
 use Rattle.compiler.proofs.scope.byte_at.Tie as tie
 

@@ -1,4 +1,4 @@
-use Rattle.compiler.proofs.Basics.{arith, _∙_, needs}
+use Rattle.laws.proofs.Basics.{_∙_, arith, needs}
 use Rattle.compiler.proofs.Scoping.{not-long, long}
 use Rattle.compiler.proofs.scope.cut.Statement.{statement}
 use Rattle.compiler.proofs.scope.cut.Tie as tie

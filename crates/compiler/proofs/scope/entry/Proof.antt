@@ -1,4 +1,4 @@
-use Rattle.compiler.proofs.Basics.{arith, refl, sym, List·getD-eq-default, needs}
+use Rattle.laws.proofs.Basics.{refl, sym, List·getD-eq-default, arith, needs}
 use Rattle.compiler.proofs.scope.entry.Statement.{statement}
 use Rattle.compiler.proofs.scope.entry.Tie as tie
 

@@ -1,4 +1,4 @@
-use Rattle.compiler.proofs.Basics.{_≤_, sym, ap, _∙_, arith, needs}
+use Rattle.laws.proofs.Basics.{_≤_, sym, ap, _∙_, arith, needs}
 use Rattle.language.specs.Names.{Scope, inBlock}
 use Rattle.compiler.specs.Scope.{Shows, nameAt, found}
 use Rattle.compiler.proofs.Scoping.{shows-low, Left, left-all, left-then, in-outer, in-open, in-other, in-found}

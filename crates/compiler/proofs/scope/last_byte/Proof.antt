@@ -1,4 +1,4 @@
-use borrow.Author.Needs.{needs}
+use Rattle.laws.proofs.Basics.{needs}
 use Rattle.compiler.proofs.scope.last_byte.Statement.{statement}
 use Rattle.compiler.proofs.scope.last_byte.Tie as tie
 

@@ -1,4 +1,4 @@
-use Rattle.compiler.proofs.Basics.{length-set, arith, needs}
+use Rattle.laws.proofs.Basics.{length-set, arith, needs}
 use Rattle.compiler.proofs.scope.push.Statement.{statement}
 use Rattle.compiler.proofs.scope.push.Tie as tie
 

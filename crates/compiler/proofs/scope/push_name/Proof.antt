@@ -1,4 +1,4 @@
-use borrow.Author.Needs.{needs}
+use Rattle.laws.proofs.Basics.{needs}
 use Rattle.compiler.proofs.Scoping.{pushed-leaf}
 use Rattle.compiler.proofs.scope.push_name.Statement.{statement}
 use Rattle.compiler.proofs.scope.push_name.Tie as tie

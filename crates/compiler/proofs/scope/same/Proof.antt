@@ -1,4 +1,4 @@
-use Rattle.compiler.proofs.Basics.{_≤_, arith, _≡_, refl, sym, _∙_, take, drop, needs}
+use Rattle.laws.proofs.Basics.{_≤_, _≡_, refl, sym, _∙_, take, drop, arith, needs}
 use Rattle.language.specs.Names.{sameBytes}
 use Rattle.compiler.proofs.Scoping.{one-fewer, differs, all-passed}
 use Rattle.compiler.proofs.scope.same.Statement.{statement}

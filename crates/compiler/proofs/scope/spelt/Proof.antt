@@ -1,4 +1,4 @@
-use borrow.Author.Needs.{needs}
+use Rattle.laws.proofs.Basics.{needs}
 use Rattle.compiler.proofs.Scoping.{other-width, same-width}
 use Rattle.compiler.proofs.scope.spelt.Statement.{statement}
 use Rattle.compiler.proofs.scope.spelt.Tie as tie

@@ -1,4 +1,4 @@
-use Rattle.compiler.proofs.Basics.{arith, refl, needs}
+use Rattle.laws.proofs.Basics.{refl, arith, needs}
 use Rattle.compiler.proofs.scope.stacked.Statement.{statement}
 use Rattle.compiler.proofs.scope.stacked.Tie as tie
 

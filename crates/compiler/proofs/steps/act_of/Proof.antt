@@ -1,4 +1,4 @@
-use borrow.Author.Tests.{ne-eqb}
+use Rattle.laws.proofs.Basics.{ne-eqb}
 use Rattle.code.specs.Generate.{dyadicAct}
 use Rattle.compiler.proofs.steps.act_of.Statement.{statement}
 use Rattle.compiler.proofs.steps.act_of.Tie as tie

@@ -1,5 +1,5 @@
 use Rattle.compiler.proofs.Declarations.{again-not, again-so}
-use borrow.Author.Needs.{needs}
+use Rattle.laws.proofs.Basics.{needs}
 use Rattle.compiler.proofs.steps.again.Statement.{statement}
 use Rattle.compiler.proofs.steps.again.Tie as tie
 

@@ -1,5 +1,5 @@
 use Rattle.compiler.proofs.Aways.{away-break, away-loop, away-endcase, away-return, away-finish, away-nowhere, away-no-routine}
-use borrow.Author.Needs.{needs}
+use Rattle.laws.proofs.Basics.{needs}
 use Rattle.compiler.proofs.steps.away.Statement.{statement}
 use Rattle.compiler.proofs.steps.away.Tie as tie
 

@@ -1,5 +1,5 @@
 use Rattle.compiler.proofs.Judging.{blame-none, blame-some}
-use borrow.Author.Needs.{needs}
+use Rattle.laws.proofs.Basics.{needs}
 use Rattle.compiler.proofs.steps.blame.Statement.{statement}
 use Rattle.compiler.proofs.steps.blame.Tie as tie
 

@@ -1,4 +1,4 @@
-use Rattle.compiler.proofs.Basics.{_+_, _*_, _-_, _≤_, _<_, _^_, arith, needs, _≡_, refl, _∙_, length}
+use Rattle.laws.proofs.Basics.{_+_, _-_, _*_, _^_, _<_, _≤_, _≡_, refl, _∙_, length, arith, needs}
 use Rattle.compiler.proofs.Vocabulary.{nameAt}
 use Rattle.language.specs.Fine.{FineName}
 use Rattle.compiler.specs.Commands.{ReadyNames}

@@ -1,4 +1,4 @@
-use Rattle.compiler.proofs.Basics.{_∙_, arith, needs}
+use Rattle.laws.proofs.Basics.{_∙_, arith, needs}
 use Rattle.compiler.proofs.Done.{emits-then}
 use Rattle.compiler.proofs.steps.for_step.Statement.{statement}
 use Rattle.compiler.proofs.steps.for_step.Tie as tie

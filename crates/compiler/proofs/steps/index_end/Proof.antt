@@ -1,5 +1,5 @@
 use Rattle.compiler.proofs.Done.{emits-then}
-use borrow.Author.Needs.{needs}
+use Rattle.laws.proofs.Basics.{needs}
 use Rattle.compiler.proofs.steps.index_end.Statement.{statement}
 use Rattle.compiler.proofs.steps.index_end.Tie as tie
 

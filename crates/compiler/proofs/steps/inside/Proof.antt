@@ -1,5 +1,5 @@
 use Rattle.compiler.proofs.Done.{inside-is}
-use borrow.Author.Needs.{needs}
+use Rattle.laws.proofs.Basics.{needs}
 use Rattle.compiler.proofs.steps.inside.Statement.{statement}
 use Rattle.compiler.proofs.steps.inside.Tie as tie
 

@@ -1,5 +1,5 @@
 use Rattle.compiler.proofs.Judging.{judge-number, judge-name, judge-negative, judge-negated}
-use borrow.Author.Needs.{needs}
+use Rattle.laws.proofs.Basics.{needs}
 use Rattle.compiler.proofs.steps.judge.Statement.{statement}
 use Rattle.compiler.proofs.steps.judge.Tie as tie
 

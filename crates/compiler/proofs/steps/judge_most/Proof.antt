@@ -1,5 +1,5 @@
 use Rattle.compiler.proofs.Judging.{most-big, most-fits}
-use borrow.Author.Needs.{needs}
+use Rattle.laws.proofs.Basics.{needs}
 use Rattle.compiler.proofs.steps.judge_most.Statement.{statement}
 use Rattle.compiler.proofs.steps.judge_most.Tie as tie
 

@@ -1,4 +1,4 @@
-use borrow.Author.Tests.{eq-eqb, ne-eqb}
+use Rattle.laws.proofs.Basics.{eq-eqb, ne-eqb}
 use Rattle.compiler.proofs.steps.jump_unless.Statement.{statement}
 use Rattle.compiler.proofs.steps.jump_unless.Tie as tie
 

@@ -1,5 +1,5 @@
 use Rattle.compiler.proofs.Done.{leaves-wrong, leaves-jump}
-use borrow.Author.Needs.{needs}
+use Rattle.laws.proofs.Basics.{needs}
 use Rattle.compiler.proofs.steps.leave.Statement.{statement}
 use Rattle.compiler.proofs.steps.leave.Tie as tie
 

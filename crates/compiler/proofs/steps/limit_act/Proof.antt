@@ -1,4 +1,4 @@
-use borrow.Author.Tests.{le-leb, lt-leb}
+use Rattle.laws.proofs.Basics.{le-leb, lt-leb}
 use Rattle.compiler.proofs.steps.limit_act.Statement.{statement}
 use Rattle.compiler.proofs.steps.limit_act.Tie as tie
 

@@ -1,4 +1,4 @@
-use Rattle.compiler.proofs.Basics.{needs}
+use Rattle.laws.proofs.Basics.{needs}
 use Rattle.code.specs.Generate as G
 use Rattle.compiler.proofs.Sides.{of-local, of-global, of-unknown, of-other, sayTarget, local-target, global-target}
 use Rattle.compiler.proofs.steps.name_store.Statement.{statement}

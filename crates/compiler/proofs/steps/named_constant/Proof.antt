@@ -1,5 +1,5 @@
 use Rattle.compiler.proofs.Judging.{named-unknown, named-manifest, named-other}
-use borrow.Author.Needs.{needs}
+use Rattle.laws.proofs.Basics.{needs}
 use Rattle.compiler.proofs.steps.named_constant.Statement.{statement}
 use Rattle.compiler.proofs.steps.named_constant.Tie as tie
 

@@ -1,5 +1,5 @@
 use Rattle.compiler.proofs.Done.{node-is}
-use borrow.Author.Needs.{needs}
+use Rattle.laws.proofs.Basics.{needs}
 use Rattle.compiler.proofs.steps.node_at.Statement.{statement}
 use Rattle.compiler.proofs.steps.node_at.Tie as tie
 

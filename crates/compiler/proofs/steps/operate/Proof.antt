@@ -1,5 +1,5 @@
 use Rattle.compiler.proofs.Done.{emits-then}
-use borrow.Author.Needs.{needs}
+use Rattle.laws.proofs.Basics.{needs}
 use Rattle.compiler.proofs.steps.operate.Statement.{statement}
 use Rattle.compiler.proofs.steps.operate.Tie as tie
 

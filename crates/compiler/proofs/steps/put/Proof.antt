@@ -1,5 +1,5 @@
 use Rattle.compiler.proofs.Done.{emits-one}
-use borrow.Author.Needs.{needs}
+use Rattle.laws.proofs.Basics.{needs}
 use Rattle.compiler.proofs.steps.put.Statement.{statement}
 use Rattle.compiler.proofs.steps.put.Tie as tie
 

@@ -1,5 +1,5 @@
 use Rattle.compiler.proofs.Judging.{signed-minus}
-use borrow.Author.Needs.{needs}
+use Rattle.laws.proofs.Basics.{needs}
 use Rattle.compiler.proofs.steps.signed.Statement.{statement}
 use Rattle.compiler.proofs.steps.signed.Tie as tie
 

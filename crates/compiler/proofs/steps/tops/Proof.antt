@@ -1,4 +1,4 @@
-use Rattle.compiler.proofs.Basics.{_-_, _≤_, _≡_, refl, [], arith, needs, length}
+use Rattle.laws.proofs.Basics.{_-_, _≤_, _≡_, refl, [], length, arith, needs}
 use Rattle.compiler.specs.Walked.{Emits}
 use Rattle.compiler.specs.Repeats.{topsCode}
 use Rattle.compiler.proofs.Repeating.{tops-none, tops-next, tops-all}

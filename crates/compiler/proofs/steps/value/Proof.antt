@@ -1,5 +1,5 @@
 use Rattle.compiler.proofs.Done.{value-0, value-1, value-2, value-3, value-4}
-use borrow.Author.Needs.{needs}
+use Rattle.laws.proofs.Basics.{needs}
 use Rattle.compiler.proofs.steps.value.Statement.{statement}
 use Rattle.compiler.proofs.steps.value.Tie as tie
 

@@ -1,4 +1,4 @@
-use Rattle.compiler.proofs.Basics.{refl, arith, needs}
+use Rattle.laws.proofs.Basics.{refl, arith, needs}
 use Rattle.compiler.proofs.Judging.{vector-names, vector-gave}
 use Rattle.compiler.proofs.steps.vector.Statement.{statement}
 use Rattle.compiler.proofs.steps.vector.Tie as tie

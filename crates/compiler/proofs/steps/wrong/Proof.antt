@@ -1,5 +1,5 @@
 use Rattle.compiler.proofs.Done.{faulted-new, faulted-old}
-use borrow.Author.Needs.{needs}
+use Rattle.laws.proofs.Basics.{needs}
 use Rattle.compiler.proofs.steps.wrong.Statement.{statement}
 use Rattle.compiler.proofs.steps.wrong.Tie as tie
 

@@ -1,4 +1,4 @@
-use borrow.Author.Needs.{needs}
+use Rattle.laws.proofs.Basics.{needs}
 use Rattle.compiler.proofs.StringTexts.{put-plain, put-starred}
 use Rattle.compiler.proofs.strings.character.Statement.{statement}
 use Rattle.compiler.proofs.strings.character.Tie as tie

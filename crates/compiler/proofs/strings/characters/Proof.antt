@@ -1,4 +1,4 @@
-use Rattle.compiler.proofs.Basics.{_-_, _≡_, refl, arith, needs, length}
+use Rattle.laws.proofs.Basics.{_-_, _≡_, refl, length, arith, needs}
 use Rattle.text.proofs.Answers.{when-is, when-closing, when-ended, when-mistake}
 use Rattle.text.proofs.Quotes.{is-inside}
 use Rattle.compiler.proofs.StringTexts.{Spelling, spelling-begin, spelling-next, spelling-end, spelling-ended, spelling-mistake}

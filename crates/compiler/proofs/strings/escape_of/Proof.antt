@@ -1,4 +1,4 @@
-use Rattle.compiler.proofs.Basics.{refl, arith}
+use Rattle.laws.proofs.Basics.{refl, arith}
 use Rattle.items.specs.Render.{characterText}
 use Rattle.compiler.proofs.StringTexts.{escapes, no-escape}
 use Rattle.compiler.proofs.strings.escape_of.Statement.{statement}

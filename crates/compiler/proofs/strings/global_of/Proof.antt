@@ -1,4 +1,4 @@
-use Rattle.compiler.proofs.Basics.{_-_, arith, needs}
+use Rattle.laws.proofs.Basics.{_-_, arith, needs}
 use Rattle.compiler.proofs.StartTexts.{Passed, passed-begin, passed-next, passed-found, passed-end}
 use Rattle.compiler.proofs.strings.global_of.Statement.{statement}
 use Rattle.compiler.proofs.strings.global_of.Tie as tie

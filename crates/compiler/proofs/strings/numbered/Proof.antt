@@ -1,4 +1,4 @@
-use borrow.Author.Needs.{needs}
+use Rattle.laws.proofs.Basics.{needs}
 use Rattle.compiler.proofs.StringTexts.{four-bytes}
 use Rattle.compiler.proofs.strings.numbered.Statement.{statement}
 use Rattle.compiler.proofs.strings.numbered.Tie as tie

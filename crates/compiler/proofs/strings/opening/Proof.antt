@@ -1,4 +1,4 @@
-use borrow.Author.Needs.{needs}
+use Rattle.laws.proofs.Basics.{needs}
 use Rattle.compiler.proofs.StringTexts.{two-bytes}
 use Rattle.compiler.proofs.strings.opening.Statement.{statement}
 use Rattle.compiler.proofs.strings.opening.Tie as tie

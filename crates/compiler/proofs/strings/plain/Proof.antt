@@ -1,4 +1,4 @@
-use borrow.Author.Needs.{needs}
+use Rattle.laws.proofs.Basics.{needs}
 use Rattle.compiler.proofs.StringTexts.{plain-low, plain-high, plain-itself}
 use Rattle.compiler.proofs.strings.plain.Statement.{statement}
 use Rattle.compiler.proofs.strings.plain.Tie as tie

@@ -1,4 +1,4 @@
-use borrow.Author.Needs.{needs}
+use Rattle.laws.proofs.Basics.{needs}
 use Rattle.compiler.proofs.StartTexts.{start-put, start-none}
 use Rattle.compiler.proofs.strings.start.Statement.{statement}
 use Rattle.compiler.proofs.strings.start.Tie as tie

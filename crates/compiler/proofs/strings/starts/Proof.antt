@@ -1,4 +1,4 @@
-use Rattle.compiler.proofs.Basics.{_-_, _≡_, refl, length, needs}
+use Rattle.laws.proofs.Basics.{_-_, _≡_, refl, length, needs}
 use Rattle.compiler.proofs.StartTexts.{StartsSoFar, starts-begin, starts-next, starts-end}
 use Rattle.compiler.proofs.strings.starts.Statement.{statement}
 use Rattle.compiler.proofs.strings.starts.Tie as tie

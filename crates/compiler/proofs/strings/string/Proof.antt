@@ -1,4 +1,4 @@
-use borrow.Author.Needs.{needs}
+use Rattle.laws.proofs.Basics.{needs}
 use Rattle.compiler.proofs.StringTexts.{string-put}
 use Rattle.compiler.proofs.strings.string.Statement.{statement}
 use Rattle.compiler.proofs.strings.string.Tie as tie

@@ -1,4 +1,4 @@
-use Rattle.compiler.proofs.Basics.{_-_, arith, needs}
+use Rattle.laws.proofs.Basics.{_-_, arith, needs}
 use Rattle.compiler.proofs.StringTexts.{oneIf-small, Counted, counted-begin, counted-next, counted-end}
 use Rattle.compiler.proofs.strings.string_count.Statement.{statement}
 use Rattle.compiler.proofs.strings.string_count.Tie as tie

@@ -1,4 +1,4 @@
-use borrow.Author.Needs.{needs}
+use Rattle.laws.proofs.Basics.{needs}
 use Rattle.compiler.proofs.StringTexts.{symbol-none, symbol-put}
 use Rattle.compiler.proofs.strings.string_symbol.Statement.{statement}
 use Rattle.compiler.proofs.strings.string_symbol.Tie as tie

@@ -1,4 +1,4 @@
-use Rattle.compiler.proofs.Basics.{_+_, _-_, _≤_, _≡_, refl, arith, length, needs}
+use Rattle.laws.proofs.Basics.{_+_, _-_, _≤_, _≡_, refl, length, arith, needs}
 use Rattle.compiler.proofs.StringTexts.{oneIf-small, Listing, listing-begin, listing-next, listing-end}
 use Rattle.compiler.proofs.strings.strings.Statement.{statement}
 use Rattle.compiler.proofs.strings.strings.Tie as tie

@@ -1,10 +1,10 @@
 use Rattle.machine.proofs.Laws.{back-past, back-half, back-in}
-use borrow.Author.Needs.{needs}
+use Rattle.laws.proofs.Basics.{needs}
 use Rattle.machine.proofs.Registers.back.Statement.{statement}
 use Rattle.machine.proofs.Registers.back.Tie as tie
 
 pub back-spec : {M : Type 1} → statement M
 back-spec =
     tie.close
-    (tie.spec (search needs) (search needs) (search needs) (search needs) (search needs) (search needs) (search needs)
-    (search needs) (λ c. search back-past) (λ c. search back-half) (λ c. search back-in))
+    (tie.spec (search needs) (search needs) (search needs) (search needs) (search needs) (search needs) (search needs) (search needs)
+    (λ c. search back-past) (λ c. search back-half) (λ c. search back-in))

@@ -1,12 +1,11 @@
 use Rattle.machine.proofs.Laws.{turned-stop, called-turns, called-half, called-past}
-use borrow.Author.Needs.{needs}
+use Rattle.laws.proofs.Basics.{needs}
 use Rattle.machine.proofs.Registers.call.Statement.{statement}
 use Rattle.machine.proofs.Registers.call.Tie as tie
 
 pub call-spec : {M : Type 1} → statement M
 call-spec =
     tie.close
-    (tie.spec (λ c κs. search needs) (λ c. search needs) (λ c κs. search needs) (λ c. search needs) (λ c. search needs)
-    (λ c. search needs) (λ c. search needs) (λ c. search needs) (λ c κs. search needs) (λ c κs. search needs)
-    (λ c. search needs) (λ c. search called-turns) (λ c. search (turned-stop, called-half))
-    (λ c. search (turned-stop, called-past)))
+    (tie.spec (λ c κs. search needs) (λ c. search needs) (λ c κs. search needs) (λ c. search needs) (λ c. search needs) (λ c. search needs)
+    (λ c. search needs) (λ c. search needs) (λ c κs. search needs) (λ c κs. search needs) (λ c. search needs) (λ c. search called-turns)
+    (λ c. search (turned-stop, called-half)) (λ c. search (turned-stop, called-past)))

@@ -1,9 +1,9 @@
 use Rattle.machine.proofs.Numbers.{combine-dyadic-act, combine-stop}
-use borrow.Author.Needs.{needs}
+use Rattle.laws.proofs.Basics.{needs}
 use Rattle.machine.proofs.Registers.combine.Statement.{statement}
 use Rattle.machine.proofs.Registers.combine.Tie as tie
 
 pub combine-spec : {M : Type 1} → statement M
 combine-spec =
-    tie.close (tie.spec (search needs) (search needs) (search needs) (search needs) (λ c. search combine-stop)
-    (λ c. search combine-dyadic-act))
+    tie.close
+    (tie.spec (search needs) (search needs) (search needs) (search needs) (λ c. search combine-stop) (λ c. search combine-dyadic-act))

@@ -1,7 +1,7 @@
 use Rattle.machine.specs.Step.{jumped, execute}
 use Rattle.machine.proofs.Laws.{kept-to}
 use Rattle.machine.proofs.Numbers.{function-at, function-x}
-use borrow.Author.Needs.{needs}
+use Rattle.laws.proofs.Basics.{needs}
 use Rattle.machine.proofs.Registers.execute.Statement.{statement}
 use Rattle.machine.proofs.Registers.execute.Tie as tie
 
@@ -9,9 +9,7 @@ pub execute-spec : {M : Type 1} → statement M
 unfolding execute jumped
 execute-spec =
     tie.close
-    (tie.spec (search needs) (search needs) (search needs) (search needs) (search needs) (search needs) (search needs)
-    (search needs) (λ c. search (function-at, kept-to))
-    (search needs) (search needs) (λ c. search function-at) (λ c. search (function-at, kept-to))
-    (λ c. search (function-at, kept-to)) (λ c. search (function-at, kept-to)) (λ c. search (function-at, kept-to))
-    (search needs) (search needs) (λ c. search function-at)
-    (search needs) (search needs) (λ c. search function-x))
+    (tie.spec (search needs) (search needs) (search needs) (search needs) (search needs) (search needs) (search needs) (search needs)
+    (λ c. search (function-at, kept-to)) (search needs) (search needs) (λ c. search function-at) (λ c. search (function-at, kept-to))
+    (λ c. search (function-at, kept-to)) (λ c. search (function-at, kept-to)) (λ c. search (function-at, kept-to)) (search needs) (search needs)
+    (λ c. search function-at) (search needs) (search needs) (λ c. search function-x))

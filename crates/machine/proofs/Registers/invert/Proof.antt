@@ -1,5 +1,5 @@
 use Rattle.machine.proofs.Laws.{put-a}
-use borrow.Author.Needs.{needs}
+use Rattle.laws.proofs.Basics.{needs}
 use Rattle.machine.proofs.Registers.invert.Statement.{statement}
 use Rattle.machine.proofs.Registers.invert.Tie as tie
 

@@ -1,5 +1,5 @@
 use Rattle.machine.proofs.Laws.{jump-taken, jump-passed}
-use borrow.Author.Needs.{needs}
+use Rattle.laws.proofs.Basics.{needs}
 use Rattle.machine.proofs.Registers.jump.Statement.{statement}
 use Rattle.machine.proofs.Registers.jump.Tie as tie
 

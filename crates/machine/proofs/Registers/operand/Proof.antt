@@ -1,5 +1,5 @@
 use Rattle.machine.proofs.Fetching.{operand-read, operand-plain}
-use borrow.Author.Needs.{needs}
+use Rattle.laws.proofs.Basics.{needs}
 use Rattle.machine.proofs.Registers.operand.Statement.{statement}
 use Rattle.machine.proofs.Registers.operand.Tie as tie
 
@@ -11,5 +11,4 @@ returns-2 c =
 pub operand-spec : {M : Type 1} → statement M
 operand-spec =
     tie.close
-    (tie.spec (search needs) (search needs) (search needs) (search needs) (search needs) (λ c. search operand-read)
-    (search needs) returns-2)
+    (tie.spec (search needs) (search needs) (search needs) (search needs) (search needs) (λ c. search operand-read) (search needs) returns-2)

@@ -1,10 +1,10 @@
 use Rattle.machine.proofs.Runs.{step-stop, step-one}
-use borrow.Author.Needs.{needs}
+use Rattle.laws.proofs.Basics.{needs}
 use Rattle.machine.proofs.Registers.step.Statement.{statement}
 use Rattle.machine.proofs.Registers.step.Tie as tie
 
 pub step-spec : {M : Type 1} → statement M
 step-spec =
     tie.close
-    (tie.spec (search needs) (search needs) (search needs) (search needs) (search needs) (λ c. search step-stop)
-    (search needs) (search needs) (λ c. search step-one))
+    (tie.spec (search needs) (search needs) (search needs) (search needs) (search needs) (λ c. search step-stop) (search needs) (search needs)
+    (λ c. search step-one))

@@ -1,10 +1,9 @@
 use Rattle.machine.proofs.Laws.{turned, turned-stop, stored-in, stored-past}
-use borrow.Author.Needs.{needs}
+use Rattle.laws.proofs.Basics.{needs}
 use Rattle.machine.proofs.Registers.store.Statement.{statement}
 use Rattle.machine.proofs.Registers.store.Tie as tie
 
 pub store-spec : {M : Type 1} → statement M
 store-spec =
     tie.close
-    (tie.spec (search needs) (search needs) (search needs) (search needs) (λ c. search (turned, stored-in))
-    (λ c. search (turned-stop, stored-past)))
+    (tie.spec (search needs) (search needs) (search needs) (search needs) (λ c. search (turned, stored-in)) (λ c. search (turned-stop, stored-past)))

@@ -1,10 +1,10 @@
-use mathlib.Core.Path.{refl}
+use Rattle.laws.proofs.Basics.{refl, needs}
 use Rattle.machine.proofs.Laws.{turned, turned-stop, sent-in, sent-full}
-use borrow.Author.Needs.{needs}
 use Rattle.machine.proofs.Registers.wrch.Statement.{statement}
 use Rattle.machine.proofs.Registers.wrch.Tie as tie
 
 pub wrch-spec : {M : Type 1} → statement M
 wrch-spec =
-    tie.close (tie.spec (search needs) (search needs) (search needs) (search needs)
-    (λ c. turned (sent-in _ _ _ (c .before .if1 .taken)) refl) (λ c. search (turned-stop, sent-full)))
+    tie.close
+    (tie.spec (search needs) (search needs) (search needs) (search needs) (λ c. turned (sent-in _ _ _ (c .before .if1 .taken)) refl)
+    (λ c. search (turned-stop, sent-full)))

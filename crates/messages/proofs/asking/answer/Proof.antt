@@ -1,6 +1,5 @@
 -- Each turn is one try less.
-use mathlib.Core.Path.{_≡_, refl}
-use borrow.Author.Needs.{needs}
+use Rattle.laws.proofs.Basics.{_≡_, refl, needs}
 use Rattle.messages.proofs.asking.answer.Statement.{statement}
 use Rattle.messages.proofs.asking.answer.Tie as tie
 
@@ -13,6 +12,5 @@ abbrev μ-loop : tie.MeasureT-loop
 pub answer-spec : {M : Type 1} → statement M
 answer-spec =
     tie.close
-    (tie.spec Inv-loop μ-loop (λ c. refl) (search needs) (search needs) (search needs) (search needs) (search needs)
-    (search needs) (search needs) (search needs) (search needs) (search needs) (search needs) (λ c. refl)
-    (search needs))
+    (tie.spec Inv-loop μ-loop (λ c. refl) (search needs) (search needs) (search needs) (search needs) (search needs) (search needs) (search needs)
+    (search needs) (search needs) (search needs) (search needs) (λ c. refl) (search needs))

@@ -1,7 +1,5 @@
 -- Going back from a place, what is left of the way falls at each turn, and the column is no more than the bytes passed and 1.
-use borrow.Author.Needs.{needs}
-use Prim.Native.Nat.{_+_, _-_, _≤_}
-use lib.ListN.{length}
+use Rattle.laws.proofs.Basics.{_+_, _≤_, length, needs}
 use Rattle.messages.proofs.excerpt.column_of.Statement.{statement}
 use Rattle.messages.proofs.excerpt.column_of.Tie as tie
 
@@ -14,15 +12,5 @@ abbrev μ-loop : tie.MeasureT-loop
 pub column-of-spec : {M : Type 1} → statement M
 column-of-spec =
     tie.close
-    (tie.spec
-    Inv-loop
-    μ-loop
-    (search needs)
-    (search needs)
-    (search needs)
-    (search needs)
-    (search needs)
-    (search needs)
-    (search needs)
-    (search needs)
+    (tie.spec Inv-loop μ-loop (search needs) (search needs) (search needs) (search needs) (search needs) (search needs) (search needs) (search needs)
     (search needs))

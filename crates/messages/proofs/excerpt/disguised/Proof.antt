@@ -1,7 +1,5 @@
 -- What is left of the text falls at each turn.
-use borrow.Author.Needs.{needs}
-use Prim.Native.Nat.{_-_}
-use lib.ListN.{length}
+use Rattle.laws.proofs.Basics.{_-_, length, needs}
 use Rattle.messages.proofs.excerpt.disguised.Statement.{statement}
 use Rattle.messages.proofs.excerpt.disguised.Tie as tie
 
@@ -14,16 +12,5 @@ abbrev μ-loop : tie.MeasureT-loop
 pub disguised-spec : {M : Type 1} → statement M
 disguised-spec =
     tie.close
-    (tie.spec
-    Inv-loop
-    μ-loop
-    (search needs)
-    (search needs)
-    (search needs)
-    (search needs)
-    (search needs)
-    (search needs)
-    (search needs)
-    (search needs)
-    (search needs)
-    (search needs))
+    (tie.spec Inv-loop μ-loop (search needs) (search needs) (search needs) (search needs) (search needs) (search needs) (search needs) (search needs)
+    (search needs) (search needs))

@@ -1,7 +1,5 @@
 -- What is left of the text falls at each turn.
-use borrow.Author.Needs.{needs}
-use Prim.Native.Nat.{_-_}
-use lib.ListN.{length}
+use Rattle.laws.proofs.Basics.{_-_, length, needs}
 use Rattle.messages.proofs.excerpt.line_end.Statement.{statement}
 use Rattle.messages.proofs.excerpt.line_end.Tie as tie
 
@@ -14,13 +12,4 @@ abbrev μ-loop : tie.MeasureT-loop
 pub line-end-spec : {M : Type 1} → statement M
 line-end-spec =
     tie.close
-    (tie.spec
-    Inv-loop
-    μ-loop
-    (search needs)
-    (search needs)
-    (search needs)
-    (search needs)
-    (search needs)
-    (search needs)
-    (search needs))
+    (tie.spec Inv-loop μ-loop (search needs) (search needs) (search needs) (search needs) (search needs) (search needs) (search needs))

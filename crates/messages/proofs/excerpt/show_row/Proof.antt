@@ -1,11 +1,5 @@
 -- The row keeps its 96 bytes, of which n are filled.
-use borrow.Author.Needs.{needs}
-use mathlib.Core.Path.{_≡_, sym}
-use mathlib.Core.List.{List}
-use lib.Seq.{length-take-le}
-use Prim.Native.Nat.{ℕ, _-_, _≤_}
-use lib.ListN.{length, take}
-use native.Mathlib.Omega.{arith}
+use Rattle.laws.proofs.Basics.{ℕ, _-_, _≤_, _≡_, sym, List, length, take, length-take-le, arith, needs}
 use Rattle.messages.proofs.excerpt.show_row.Statement.{statement}
 use Rattle.messages.proofs.excerpt.show_row.Tie as tie
 
@@ -19,24 +13,9 @@ Inv-loop source from end under row₀ n₀ i₀ row n i = (n ≤ 96) × (length 
 abbrev μ-loop : tie.MeasureT-loop
 μ-loop source from end under row₀ n₀ i₀ row n i = length source - i
 
-slice-aggregate-say : tie.Need-slice-aggregate-say Inv-loop μ-loop
-slice-aggregate-say c = taken _ (c .before .before .loop .row) (omega (arith, c .before .before .loop .inv))
-
 pub show-row-spec : {M : Type 1} → statement M
 show-row-spec =
     tie.close
-    (tie.spec
-    Inv-loop
-    μ-loop
-    (search needs)
-    (search needs)
-    (search needs)
-    (search needs)
-    (search needs)
-    (search needs)
-    (search needs)
-    (λ c. search needs)
-    (search needs)
-    slice-aggregate-say
-    (search needs)
+    (tie.spec Inv-loop μ-loop (search needs) (search needs) (search needs) (search needs) (search needs) (search needs) (search needs)
+    (λ c. search needs) (search needs) (λ c. taken _ (c .before .before .loop .row) (omega (arith, c .before .before .loop .inv))) (search needs)
     (search needs))

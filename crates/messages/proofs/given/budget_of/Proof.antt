@@ -1,7 +1,5 @@
 -- What is left of the digits falls at each turn; the tests keep the value within 64 bits.
-use borrow.Author.Needs.{needs}
-use Prim.Native.Nat.{_≤_, _-_}
-use lib.ListN.{length}
+use Rattle.laws.proofs.Basics.{_-_, _≤_, length, needs}
 use Rattle.messages.proofs.given.budget_of.Statement.{statement}
 use Rattle.messages.proofs.given.budget_of.Tie as tie
 
@@ -14,21 +12,5 @@ abbrev μ-loop : tie.MeasureT-loop
 pub budget-of-spec : {M : Type 1} → statement M
 budget-of-spec =
     tie.close
-    (tie.spec
-    Inv-loop
-    μ-loop
-    (search needs)
-    (search needs)
-    (search needs)
-    (search needs)
-    (search needs)
-    (search needs)
-    (search needs)
-    (search needs)
-    (search needs)
-    (search needs)
-    (search needs)
-    (search needs)
-    (search needs)
-    (search needs)
-    (search needs))
+    (tie.spec Inv-loop μ-loop (search needs) (search needs) (search needs) (search needs) (search needs) (search needs) (search needs) (search needs)
+    (search needs) (search needs) (search needs) (search needs) (search needs) (search needs) (search needs))

@@ -1,11 +1,6 @@
 -- Each turn that goes on did more instructions than the last one that had a full output, or adds to the budget; memory and output keep
 -- their lengths.
-use borrow.Author.Needs.{needs}
-use mathlib.Core.Logic.{⊎-elim}
-use mathlib.Core.Path.{_≡_}
-use native.Mathlib.Omega.{arith}
-use Prim.Native.Nat.{_+_, _-_, _≤_}
-use lib.ListN.{length}
+use Rattle.laws.proofs.Basics.{_+_, _-_, _≤_, _≡_, ⊎-elim, length, arith, needs}
 use Rattle.messages.proofs.running.carry_on.Statement.{statement}
 use Rattle.messages.proofs.running.carry_on.Tie as tie
 
@@ -28,8 +23,7 @@ loop-again c =
 pub carry-on-spec : {M : Type 1} → statement M
 carry-on-spec =
     tie.close
-    (tie.spec Inv-loop μ-loop (search needs) (search needs) (search needs) (search needs) (search needs)
-    (search needs) (search needs) (search needs) (search needs) (search needs) (search needs) (search needs)
-    (search needs) (search needs) (search needs) (search needs) (search needs) (search needs) (search needs)
-    (search needs) (search needs) (search needs) (search needs) (search needs) (search needs) (search needs)
+    (tie.spec Inv-loop μ-loop (search needs) (search needs) (search needs) (search needs) (search needs) (search needs) (search needs) (search needs)
+    (search needs) (search needs) (search needs) (search needs) (search needs) (search needs) (search needs) (search needs) (search needs)
+    (search needs) (search needs) (search needs) (search needs) (search needs) (search needs) (search needs) (search needs) (search needs)
     (search needs) loop-less loop-again)

@@ -1,7 +1,5 @@
 -- What is left of the text falls at each turn, by the tests of the places.
-use borrow.Author.Needs.{needs}
-use Prim.Native.Nat.{_-_}
-use lib.ListN.{length}
+use Rattle.laws.proofs.Basics.{_-_, length, needs}
 use Rattle.minicode.proofs.listing.list_items.Statement.{statement}
 use Rattle.minicode.proofs.listing.list_items.Tie as tie
 
@@ -14,24 +12,6 @@ abbrev μ-loop : tie.MeasureT-loop
 pub list-items-spec : {M : Type 1} → statement M
 list-items-spec =
     tie.close
-    (tie.spec
-    Inv-loop
-    μ-loop
-    (search needs)
-    (search needs)
-    (search needs)
-    (search needs)
-    (search needs)
-    (search needs)
-    (search needs)
-    (search needs)
-    (search needs)
-    (search needs)
-    (search needs)
-    (search needs)
-    (search needs)
-    (search needs)
-    (search needs)
-    (search needs)
-    (search needs)
+    (tie.spec Inv-loop μ-loop (search needs) (search needs) (search needs) (search needs) (search needs) (search needs) (search needs) (search needs)
+    (search needs) (search needs) (search needs) (search needs) (search needs) (search needs) (search needs) (search needs) (search needs)
     (search needs))

@@ -1,7 +1,5 @@
 -- What is left of the words falls at each turn.
-use borrow.Author.Needs.{needs}
-use Prim.Native.Nat.{_-_}
-use lib.ListN.{length}
+use Rattle.laws.proofs.Basics.{_-_, length, needs}
 use Rattle.minicode.proofs.listing.put_rest.Statement.{statement}
 use Rattle.minicode.proofs.listing.put_rest.Tie as tie
 
@@ -14,17 +12,5 @@ abbrev μ-loop : tie.MeasureT-loop
 pub put-rest-spec : {M : Type 1} → statement M
 put-rest-spec =
     tie.close
-    (tie.spec
-    Inv-loop
-    μ-loop
-    (search needs)
-    (search needs)
-    (search needs)
-    (search needs)
-    (search needs)
-    (search needs)
-    (search needs)
-    (search needs)
-    (search needs)
-    (search needs)
-    (search needs))
+    (tie.spec Inv-loop μ-loop (search needs) (search needs) (search needs) (search needs) (search needs) (search needs) (search needs) (search needs)
+    (search needs) (search needs) (search needs))

@@ -1,14 +1,10 @@
 use Rattle.symbols.proofs.Heads.{no-slash, last-slash, one-slash}
-use native.Mathlib.Omega.{arith}
-use borrow.Author.Needs.{needs}
+use Rattle.laws.proofs.Basics.{arith, needs}
 use Rattle.symbols.proofs.elements.begins_comment.Statement.{statement}
 use Rattle.symbols.proofs.elements.begins_comment.Tie as tie
 
-returns-3 : tie.Need-returns-3
-returns-3 c = one-slash _ _ (c .before .before .before .before .pre) (c .before .before .if1 .left) (omega arith)
-
 pub begins-comment-spec : {M : Type 1} → statement M
 begins-comment-spec =
-    tie.close (tie.spec (search needs) (λ c. search no-slash)
-    (search needs) (λ c. search last-slash)
-    (search needs) (search needs) returns-3)
+    tie.close
+    (tie.spec (search needs) (λ c. search no-slash) (search needs) (λ c. search last-slash) (search needs) (search needs)
+    (λ c. one-slash _ _ (c .before .before .before .before .pre) (c .before .before .if1 .left) (omega arith)))

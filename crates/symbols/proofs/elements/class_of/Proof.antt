@@ -1,5 +1,5 @@
 use Rattle.symbols.proofs.Classes.{class-digit, class-is}
-use borrow.Author.Needs.{needs}
+use Rattle.laws.proofs.Basics.{needs}
 use Rattle.symbols.proofs.elements.class_of.Statement.{statement}
 use Rattle.symbols.proofs.elements.class_of.Tie as tie
 

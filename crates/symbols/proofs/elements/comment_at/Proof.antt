@@ -1,10 +1,4 @@
-use Prim.Native.Nat.{_+_, _-_, _≤_}
-use mathlib.Core.Path.{_≡_, ap}
-use mathlib.Core.Bool.{not}
-use native.Mathlib.Omega.{arith}
-use lib.ListN.{length, drop}
-use borrow.Author.Tests.{eq-eqb, ne-eqb}
-use borrow.Author.Needs.{needs}
+use Rattle.laws.proofs.Basics.{_+_, _-_, _≤_, _≡_, ap, not, length, drop, arith, needs, eq-eqb, ne-eqb}
 use Rattle.language.specs.Symbols.{toLineEnd}
 use Rattle.symbols.proofs.Runs.{comment-run, run-end, run-stop, run-more}
 use Rattle.symbols.proofs.Heads.{a-comment}
@@ -29,11 +23,8 @@ loop-again c =
     let loop = c .before .before .before .loop in
     omega (arith, run-more comment-run (args .text .now) (loop .i) (omega arith) (ap not (ne-eqb _ 10 (c .if1 .left))))
 
-returns-2 : tie.Need-returns-2 Inv-loop μ-loop
-returns-2 c = a-comment _ (omega (arith, run-end comment-run (c .before .before .args .text .now) (c .before .loop .i) (omega arith)))
-
 pub comment-at-spec : {M : Type 1} → statement M
 comment-at-spec =
     tie.close
-    (tie.spec Inv-loop μ-loop (search needs) (search needs) (search needs) returns (search needs) (search needs)
-    loop-again (search needs) returns-2)
+    (tie.spec Inv-loop μ-loop (search needs) (search needs) (search needs) returns (search needs) (search needs) loop-again (search needs)
+    (λ c. a-comment _ (omega (arith, run-end comment-run (c .before .before .args .text .now) (c .before .loop .i) (omega arith)))))

@@ -1,5 +1,5 @@
 use Rattle.symbols.proofs.Numbers.{a-decimal, no-decimal}
-use borrow.Author.Needs.{needs}
+use Rattle.laws.proofs.Basics.{needs}
 use Rattle.symbols.proofs.elements.decimal_at.Statement.{statement}
 use Rattle.symbols.proofs.elements.decimal_at.Tie as tie
 

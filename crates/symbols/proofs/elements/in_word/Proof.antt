@@ -1,5 +1,5 @@
 use Rattle.symbols.proofs.Heads.{below-words, from-words}
-use borrow.Author.Needs.{needs}
+use Rattle.laws.proofs.Basics.{needs}
 use Rattle.symbols.proofs.elements.in_word.Statement.{statement}
 use Rattle.symbols.proofs.elements.in_word.Tie as tie
 

@@ -1,6 +1,5 @@
-use mathlib.Core.Path.{sym}
+use Rattle.laws.proofs.Basics.{sym, needs}
 use Rattle.symbols.proofs.Numbers.{below-digits, from-digits}
-use borrow.Author.Needs.{needs}
 use Rattle.symbols.proofs.elements.is_digit.Statement.{statement}
 use Rattle.symbols.proofs.elements.is_digit.Tie as tie
 

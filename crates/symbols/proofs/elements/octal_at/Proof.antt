@@ -1,8 +1,6 @@
-use native.Mathlib.Omega.{arith}
-use lib.ListN.{drop, length-drop}
+use Rattle.laws.proofs.Basics.{drop, length-drop, arith, needs}
 use Rattle.symbols.proofs.Runs.{digits-run, run-within}
 use Rattle.symbols.proofs.Numbers.{no-digits, an-octal, no-octal}
-use borrow.Author.Needs.{needs}
 use Rattle.symbols.proofs.elements.octal_at.Statement.{statement}
 use Rattle.symbols.proofs.elements.octal_at.Tie as tie
 
@@ -12,5 +10,4 @@ add-t5 c =
     omega (arith, run-within (digits-run 8) (drop (args .at) (args .text .now)), length-drop (args .at) (args .text .now))
 
 pub octal-at-spec : {M : Type 1} → statement M
-octal-at-spec =
-    tie.close (tie.spec (search needs) (λ c. search no-digits) add-t5 (λ c. search an-octal) (λ c. search no-octal))
+octal-at-spec = tie.close (tie.spec (search needs) (λ c. search no-digits) add-t5 (λ c. search an-octal) (λ c. search no-octal))

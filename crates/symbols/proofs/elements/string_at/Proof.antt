@@ -1,9 +1,7 @@
-use Prim.Native.Nat.{_+_}
-use native.Mathlib.Omega.{arith}
+use Rattle.laws.proofs.Basics.{arith, needs}
 use Rattle.text.proofs.Answers.{when-closed, when-unclosed, when-faulty}
 use Rattle.text.proofs.Constants.{closed-inside}
 use Rattle.symbols.proofs.Quotations.{fault-inside, a-string, string-unclosed, string-faulty}
-use borrow.Author.Needs.{needs}
 use Rattle.symbols.proofs.elements.string_at.Statement.{statement}
 use Rattle.symbols.proofs.elements.string_at.Tie as tie
 

@@ -1,15 +1,16 @@
-use native.Mathlib.Omega.{arith}
-use lib.ListN.{drop, length-drop}
+use Rattle.laws.proofs.Basics.{drop, length-drop, arith, needs}
 use Rattle.symbols.proofs.Runs.{word-run, run-within}
 use Rattle.symbols.proofs.Heads.{a-word}
-use borrow.Author.Needs.{needs}
 use Rattle.symbols.proofs.elements.word_at.Statement.{statement}
 use Rattle.symbols.proofs.elements.word_at.Tie as tie
 
 kind-of-requires : tie.Need-kind-of-requires
 kind-of-requires c κs = (
-  omega
-      (arith, run-within word-run (drop (c .before .before .args .at) (c .before .before .args .text .now)), length-drop (c .before .before .args .at) (c .before .before .args .text .now)),
+  omega (
+    arith,
+    run-within word-run (drop (c .before .before .args .at) (c .before .before .args .text .now)),
+    length-drop (c .before .before .args .at) (c .before .before .args .text .now),
+  ),
   c .before .before .pre .2,
 )
 

@@ -1,9 +1,4 @@
-use Prim.Native.Nat.{_+_, _-_, _≤_}
-use mathlib.Core.Path.{_≡_, _∙_, sym}
-use native.Mathlib.Omega.{arith}
-use lib.ListN.{length, drop}
-use borrow.Author.Tests.{not-true, not-false}
-use borrow.Author.Needs.{needs}
+use Rattle.laws.proofs.Basics.{_+_, _-_, _≤_, _≡_, sym, _∙_, length, drop, arith, needs, not-true, not-false}
 use Rattle.language.specs.Symbols.{wordWidth}
 use Rattle.symbols.proofs.Runs.{word-run, run-end, run-stop, run-more}
 use Rattle.symbols.proofs.elements.word_width.Statement.{statement}
@@ -27,11 +22,9 @@ loop-again c =
     let loop = c .before .before .before .before .loop in
     omega (arith, run-more word-run (args .text .now) (loop .i) (omega arith) (sym (c .before .in-word .ensures) ∙ not-false _ (c .if1 .left)))
 
-returns-2 : tie.Need-returns-2 Inv-loop μ-loop
-returns-2 c = omega (arith, run-end word-run (c .before .before .before .args .text .now) (c .before .loop .i) (omega arith))
-
 pub word-width-spec : {M : Type 1} → statement M
 word-width-spec =
     tie.close
-    (tie.spec Inv-loop μ-loop (λ c. search needs) (λ c. search needs) (λ c κs. search needs) (λ c. search needs)
-    returns (λ c. search needs) (λ c. search needs) loop-again (λ c. search needs) returns-2)
+    (tie.spec Inv-loop μ-loop (λ c. search needs) (λ c. search needs) (λ c κs. search needs) (λ c. search needs) returns (λ c. search needs)
+    (λ c. search needs) loop-again (λ c. search needs)
+    (λ c. omega (arith, run-end word-run (c .before .before .before .args .text .now) (c .before .loop .i) (omega arith))))

@@ -1,9 +1,5 @@
 use Rattle.symbols.specs.Spellings.{spellingAt}
-use Prim.Native.Nat.{_+_, _-_, _≤_}
-use mathlib.Core.Path.{_≡_, _∙_, sym}
-use native.Mathlib.Omega.{arith}
-use lib.ListN.{length, drop}
-use borrow.Author.Needs.{needs}
+use Rattle.laws.proofs.Basics.{_+_, _-_, _≤_, _≡_, sym, _∙_, length, drop, arith, needs}
 use Rattle.language.specs.Symbols.{begins}
 use Rattle.symbols.proofs.Spelling.{short-row, letter-is, begins-past, begins-differs, begins-more, begins-start, begins-whole}
 use Rattle.symbols.proofs.spellings.begins_at.Statement.{statement}
@@ -22,14 +18,6 @@ returns c =
     let loop = c .before .before .loop in
     let args = c .before .before .before .before .before .args in
     sym (loop .inv .2 ∙ begins-past (spellingAt (args .row)) (args .text .now) (loop .i) (args .at + loop .i) (omega arith) (c .if1 .taken))
-
-entry-requires-2 : tie.Need-entry-requires-2 Inv-loop μ-loop
-entry-requires-2 c κs = (
-  search needs,
-  omega
-      (arith, short-row (c .before .before .before .before .before .before .before .args .row) (c .before .before .before .before .before .before .before .pre .1)),
-  search needs,
-)
 
 returns-2 : tie.Need-returns-2 Inv-loop μ-loop
 returns-2 c =
@@ -61,6 +49,8 @@ returns-3 c =
 
 pub begins-at-spec : {M : Type 1} → statement M
 begins-at-spec =
-    tie.close (tie.spec Inv-loop μ-loop (λ c κs. search needs) (λ c. (omega arith, omega arith, search begins-start))
-    (λ c. omega arith) returns (λ c. omega arith) (λ c. omega arith) (λ c κs. search needs) (λ c. omega arith)
-    entry-requires-2 returns-2 (λ c. omega arith) (λ c. omega arith) loop-again returns-3)
+    tie.close
+    (tie.spec Inv-loop μ-loop (λ c κs. search needs) (λ c. (omega arith, omega arith, search begins-start)) (λ c. omega arith) returns
+    (λ c. omega arith) (λ c. omega arith) (λ c κs. search needs) (λ c. omega arith)
+    (λ c κs. (search needs, omega (arith, short-row _ (c .before .before .before .before .before .before .before .pre .1)), search needs)) returns-2
+    (λ c. omega arith) (λ c. omega arith) loop-again returns-3)

@@ -1,4 +1,4 @@
-use mathlib.Core.Path.{refl}
+use Rattle.laws.proofs.Basics.{refl}
 use Rattle.language.specs.Kinds.{reserved, signs}
 use Rattle.language.specs.Symbols.{begins, signIn, sign}
 use Rattle.symbols.specs.Spellings.{byLetter, spelled}

@@ -1,9 +1,4 @@
-use Prim.Native.Nat.{_-_}
-use mathlib.Core.Logic.{⊎-elim}
-use mathlib.Core.Path.{_∙_, sym}
-use native.Mathlib.Omega.{arith}
-use lib.ListN.{take, drop}
-use borrow.Author.Needs.{needs}
+use Rattle.laws.proofs.Basics.{_-_, sym, _∙_, ⊎-elim, take, drop, arith, needs}
 use Rattle.symbols.proofs.Spelling.{no-bytes, Searching, search-starts, search-ends, search-passes, search-finds, search-goes-on}
 use Rattle.symbols.proofs.spellings.kind_of.Statement.{statement}
 use Rattle.symbols.proofs.spellings.kind_of.Tie as tie
@@ -41,12 +36,10 @@ loop-again c =
     (c .before .before .before .before .before .rows-of .ensures .words) (λ e. w .0 .left (c .before .entry .ensures ∙ e))))
     (c .if3 .came)
 
-returns-3 : tie.Need-returns-3 Inv-loop μ-loop
-returns-3 c = search-ends _ _ _ (c .before .before .before .before .before .before .before .pre .0) (c .before .before .loop .inv) (c .if2 .left)
-
 pub kind-of-spec : {M : Type 1} → statement M
 kind-of-spec =
-    tie.close (tie.spec Inv-loop μ-loop (λ c. no-bytes _ (c .if1 .taken)) (λ c. omega arith) (λ c κs. search needs)
-    (λ c. search search-starts) (λ c κs. (omega arith, omega arith, search needs)) add-compared
-    (λ c κs. (omega arith, omega arith, search needs)) (λ c κs. (omega arith, omega arith, search needs)) returns-2
-    (λ c. omega arith) (λ c. omega arith) loop-again returns-3)
+    tie.close
+    (tie.spec Inv-loop μ-loop (λ c. no-bytes _ (c .if1 .taken)) (λ c. omega arith) (λ c κs. search needs) (λ c. search search-starts)
+    (λ c κs. (omega arith, omega arith, search needs)) add-compared (λ c κs. (omega arith, omega arith, search needs))
+    (λ c κs. (omega arith, omega arith, search needs)) returns-2 (λ c. omega arith) (λ c. omega arith) loop-again
+    (λ c. search-ends _ _ _ (c .before .before .before .before .before .before .before .pre .0) (c .before .before .loop .inv) (c .if2 .left)))

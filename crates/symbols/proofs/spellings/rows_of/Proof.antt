@@ -1,4 +1,4 @@
-use mathlib.Core.Path.{refl}
+use Rattle.laws.proofs.Basics.{refl}
 use Rattle.language.specs.Kinds.{reserved}
 use Rattle.language.specs.Candidates.{candidatesIn, candidates}
 use Rattle.symbols.specs.Spellings.{byLetter, ofLength}
@@ -18,5 +18,4 @@ rows-of-spec =
     (λ c. spans 78 17 18 tt (λ _. refl) (c .match .keys11)) (λ c. spans 79 18 19 tt (λ _. refl) (c .match .keys12))
     (λ c. spans 82 19 25 tt (λ _. refl) (c .match .keys13)) (λ c. spans 83 25 26 tt (λ _. refl) (c .match .keys14))
     (λ c. spans 84 26 30 tt (λ _. refl) (c .match .keys15)) (λ c. spans 85 30 32 tt (λ _. refl) (c .match .keys16))
-    (λ c. spans 86 32 34 tt (λ _. refl) (c .match .keys17)) (λ c. spans 87 34 35 tt (λ _. refl) (c .match .keys18))
-    (λ c. no-span _ (c .match .rest)))
+    (λ c. spans 86 32 34 tt (λ _. refl) (c .match .keys17)) (λ c. spans 87 34 35 tt (λ _. refl) (c .match .keys18)) (λ c. no-span _ (c .match .rest)))

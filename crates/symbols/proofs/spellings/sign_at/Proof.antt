@@ -1,8 +1,4 @@
-use Prim.Native.Nat.{_-_}
-use mathlib.Core.Path.{_≡_, _∙_, sym, ap}
-use native.Mathlib.Omega.{arith}
-use lib.ListN.{drop}
-use borrow.Author.Needs.{needs}
+use Rattle.laws.proofs.Basics.{_-_, _≡_, sym, ap, _∙_, drop, arith, needs}
 use Rattle.language.specs.Symbols.{sign, signIn}
 use Rattle.symbols.specs.Spellings.{spelled}
 use Rattle.symbols.specs.Answers.{asElement}
@@ -30,13 +26,10 @@ loop-again c =
     let loop-test = c .before .before .loop-test in
     loop .inv ∙ sign-next _ _ (loop-test .taken) (sym (c .before .begins-at .ensures) ∙ c .if1 .left)
 
-returns-2 : tie.Need-returns-2 Inv-loop μ-loop
-unfolding asElement
-returns-2 c = ap asElement (sym (c .before .loop .inv ∙ sign-end _ _ (c .loop-test .left)))
-
 pub sign-at-spec : {M : Type 1} → statement M
+unfolding asElement
 sign-at-spec =
     tie.close
     (tie.spec Inv-loop μ-loop (search needs) (search needs) (λ c. search sign-from) (λ c κs. (omega arith, omega arith, search needs))
-    (λ c κs. (omega arith, omega arith, search needs)) (λ c κs. (omega arith, omega arith, search needs)) returns
-    (λ c. omega arith) (λ c. omega arith) loop-again returns-2)
+    (λ c κs. (omega arith, omega arith, search needs)) (λ c κs. (omega arith, omega arith, search needs)) returns (λ c. omega arith)
+    (λ c. omega arith) loop-again (λ c. ap asElement (sym (c .before .loop .inv ∙ sign-end _ _ (c .loop-test .left)))))

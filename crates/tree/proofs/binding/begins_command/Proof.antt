@@ -1,4 +1,4 @@
-use mathlib.Core.Path.{_∙_}
+use Rattle.laws.proofs.Basics.{_∙_}
 use Rattle.language.specs.Kinds.{member}
 use Rattle.tree.proofs.Classes.{arm, command, command-else}
 use Rattle.tree.proofs.binding.begins_command.Statement.{statement}

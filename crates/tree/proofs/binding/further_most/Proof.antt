@@ -1,6 +1,5 @@
-use borrow.Author.Tests.{eq-eqb, ne-eqb}
+use Rattle.laws.proofs.Basics.{needs, eq-eqb, ne-eqb}
 use Rattle.tree.specs.Between.{furtherMost}
-use borrow.Author.Needs.{needs}
 use Rattle.tree.proofs.binding.further_most.Statement.{statement}
 use Rattle.tree.proofs.binding.further_most.Tie as tie
 

@@ -1,5 +1,4 @@
-use borrow.Author.Tests.{eq-eqb, ne-eqb}
-use mathlib.Core.Path.{refl}
+use Rattle.laws.proofs.Basics.{refl, eq-eqb, ne-eqb}
 use Rattle.tree.proofs.binding.is_vector.Statement.{statement}
 use Rattle.tree.proofs.binding.is_vector.Tie as tie
 

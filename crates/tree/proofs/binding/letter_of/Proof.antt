@@ -1,4 +1,4 @@
-use borrow.Author.Needs.{needs}
+use Rattle.laws.proofs.Basics.{needs}
 use Rattle.tree.proofs.Classes.{letter-in, letter-past}
 use Rattle.tree.proofs.binding.letter_of.Statement.{statement}
 use Rattle.tree.proofs.binding.letter_of.Tie as tie

@@ -1,4 +1,4 @@
-use native.Mathlib.Omega.{arith}
+use Rattle.laws.proofs.Basics.{arith}
 use Rattle.tree.proofs.Classes.{reach-arm, other-reach}
 use Rattle.tree.proofs.binding.reach_of.Statement.{statement}
 use Rattle.tree.proofs.binding.reach_of.Tie as tie

@@ -1,8 +1,5 @@
-use mathlib.Core.Path.{refl}
-use native.Mathlib.Omega.{arith}
-use borrow.Author.Tests.{eq-eqb, ne-eqb}
+use Rattle.laws.proofs.Basics.{refl, arith, needs, eq-eqb, ne-eqb}
 use Rattle.tree.specs.Between.{rightOf}
-use borrow.Author.Needs.{needs}
 use Rattle.tree.proofs.binding.right_of.Statement.{statement}
 use Rattle.tree.proofs.binding.right_of.Tie as tie
 

@@ -1,9 +1,8 @@
 use Rattle.tree.proofs.Classes.{unlike2}
 use Rattle.tree.proofs.Programs.{declaration-globals, declaration-manifests, declaration-functions}
-use borrow.Author.Needs.{needs}
+use Rattle.laws.proofs.Basics.{refl, needs}
 use Rattle.tree.proofs.Rooms.{leaves-less}
 use Rattle.tree.proofs.Steps.{pair}
-use mathlib.Core.Path.{refl}
 use Rattle.tree.proofs.declarations.declaration.Statement.{statement}
 use Rattle.tree.proofs.declarations.declaration.Tie as tie
 

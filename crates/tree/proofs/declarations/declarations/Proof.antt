@@ -1,7 +1,4 @@
-use native.Mathlib.Omega.{arith}
-use borrow.Author.Needs.{needs}
-use mathlib.Core.List.{[]}
-use mathlib.Core.Path.{refl, sym, _∙_}
+use Rattle.laws.proofs.Basics.{refl, sym, _∙_, [], arith, needs}
 use Rattle.language.specs.Reader.{manyUpTo}
 use Rattle.language.specs.Binding.{isDeclaration}
 use Rattle.language.specs.Grammar as G

@@ -1,8 +1,7 @@
-use mathlib.Core.Path.{refl}
+use Rattle.laws.proofs.Basics.{refl, needs}
 use Rattle.tree.proofs.Helpers.{low-past}
 use Rattle.tree.proofs.Symbols.{lies-still}
 use Rattle.tree.proofs.Programs.{declared-read}
-use borrow.Author.Needs.{needs}
 use Rattle.tree.proofs.Rooms.{ready-leaves, ready-part, item-low, left, room-left, ready-takes, _plus_, _less_}
 use Rattle.tree.proofs.Steps.{pair}
 use Rattle.tree.proofs.declarations.declared.Statement.{statement}

@@ -1,11 +1,8 @@
-use native.Mathlib.Omega.{arith}
-use Prim.Native.Nat.{ℕ}
-use mathlib.Core.Path.{refl, ap, _∙_}
+use Rattle.laws.proofs.Basics.{ℕ, refl, ap, _∙_, arith, needs}
 use Rattle.tree.proofs.Helpers.{low}
 use Rattle.tree.proofs.Symbols.{lies-still}
 use Rattle.tree.specs.Reads.{freeOf}
 use Rattle.tree.proofs.Programs.{function-here}
-use borrow.Author.Needs.{needs}
 use Rattle.tree.proofs.Rooms.{freed, size-small, ready-leaves, ready-takes, ready-part, item-low, taken, room-left, _plus_}
 use Rattle.tree.proofs.Steps.{pair}
 use Rattle.tree.proofs.declarations.function.Statement.{statement}

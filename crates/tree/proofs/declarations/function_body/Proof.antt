@@ -1,7 +1,6 @@
-use mathlib.Core.Path.{refl}
+use Rattle.laws.proofs.Basics.{refl, needs}
 use Rattle.tree.proofs.Steps.{goes-on, adds-on, _then_, pair}
 use Rattle.tree.proofs.Programs.{body-value, body-routine}
-use borrow.Author.Needs.{needs}
 use Rattle.tree.proofs.Rooms.{ready-leaves, left, room-left, _plus_, _less_}
 use Rattle.tree.proofs.declarations.function_body.Statement.{statement}
 use Rattle.tree.proofs.declarations.function_body.Tie as tie

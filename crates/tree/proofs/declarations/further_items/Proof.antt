@@ -1,7 +1,4 @@
-use native.Mathlib.Omega.{arith}
-use borrow.Author.Needs.{needs}
-use mathlib.Core.List.{[]}
-use mathlib.Core.Path.{refl}
+use Rattle.laws.proofs.Basics.{refl, [], arith, needs}
 use Rattle.language.specs.Reader.{moreUpTo}
 use Rattle.language.specs.Grammar as G
 use Rattle.tree.specs.Encoding.{encodeItems}

@@ -1,8 +1,6 @@
-use native.Mathlib.Omega.{arith}
-use mathlib.Core.Path.{refl}
+use Rattle.laws.proofs.Basics.{refl, arith, needs}
 use Rattle.tree.proofs.Symbols.{lies-still}
 use Rattle.tree.proofs.Programs.{item-list-read}
-use borrow.Author.Needs.{needs}
 use Rattle.tree.proofs.Rooms.{ready-leaves, ready-part, left, room-left, _plus_}
 use Rattle.tree.proofs.Steps.{pair}
 use Rattle.tree.proofs.declarations.item_list.Statement.{statement}

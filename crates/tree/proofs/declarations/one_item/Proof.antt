@@ -1,9 +1,7 @@
-use native.Mathlib.Omega.{arith}
-use mathlib.Core.Path.{refl}
+use Rattle.laws.proofs.Basics.{refl, arith, needs}
 use Rattle.tree.proofs.Helpers.{low}
 use Rattle.tree.proofs.Symbols.{lies-still}
 use Rattle.tree.proofs.Programs.{item-here}
-use borrow.Author.Needs.{needs}
 use Rattle.tree.proofs.Rooms.{ready-leaves, ready-takes, ready-part, item-low, taken, room-left, _plus_}
 use Rattle.tree.proofs.Steps.{pair}
 use Rattle.tree.proofs.declarations.one_item.Statement.{statement}

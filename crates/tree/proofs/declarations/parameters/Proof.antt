@@ -1,8 +1,7 @@
 use Rattle.tree.proofs.Symbols.{lies-still}
 use Rattle.tree.proofs.Programs.{no-parameters, some-parameters}
-use borrow.Author.Needs.{needs}
+use Rattle.laws.proofs.Basics.{refl, needs}
 use Rattle.tree.proofs.Steps.{pair}
-use mathlib.Core.Path.{refl}
 use Rattle.tree.proofs.Rooms.{left, room-left, _plus_}
 use Rattle.tree.proofs.declarations.parameters.Statement.{statement}
 use Rattle.tree.proofs.declarations.parameters.Tie as tie

@@ -1,9 +1,8 @@
 use Rattle.tree.proofs.Symbols.{lies-still}
 use Rattle.tree.proofs.Programs.{program-read, program-refused}
-use borrow.Author.Needs.{needs}
+use Rattle.laws.proofs.Basics.{refl, needs}
 use Rattle.tree.proofs.Steps.{pair}
 use Rattle.tree.proofs.Rooms.{left, room-left, _plus_}
-use mathlib.Core.Path.{refl}
 use Rattle.tree.proofs.declarations.program.Statement.{statement}
 use Rattle.tree.proofs.declarations.program.Tie as tie
 

@@ -1,5 +1,5 @@
 use Rattle.tree.proofs.Names.{a-name-read}
-use borrow.Author.Needs.{needs}
+use Rattle.laws.proofs.Basics.{needs}
 use Rattle.tree.proofs.parts.a_name.Statement.{statement}
 use Rattle.tree.proofs.parts.a_name.Tie as tie
 

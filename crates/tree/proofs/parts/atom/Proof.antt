@@ -1,5 +1,5 @@
 use Rattle.tree.proofs.Leaves.{number-read, string-read, name-read, true-read, false-read, other-read}
-use borrow.Author.Needs.{needs}
+use Rattle.laws.proofs.Basics.{needs}
 use Rattle.tree.proofs.parts.atom.Statement.{statement}
 use Rattle.tree.proofs.parts.atom.Tie as tie
 

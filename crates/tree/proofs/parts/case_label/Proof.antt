@@ -1,9 +1,7 @@
-use native.Mathlib.Omega.{arith}
-use mathlib.Core.Path.{refl}
+use Rattle.laws.proofs.Basics.{refl, arith, needs}
 use Rattle.tree.proofs.Symbols.{lies-still}
 use Rattle.tree.proofs.Helpers.{low-past}
 use Rattle.tree.proofs.Cases.{case-read, label-case}
-use borrow.Author.Needs.{needs}
 use Rattle.tree.proofs.Rooms.{freed, ready-leaves, ready-takes, item-low, left, room-left, _plus_, _less_}
 use Rattle.tree.proofs.Steps.{pair}
 use Rattle.tree.proofs.parts.case_label.Statement.{statement}

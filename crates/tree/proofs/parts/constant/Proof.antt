@@ -1,5 +1,5 @@
 use Rattle.tree.proofs.Constants.{constant-negative, constant-positive}
-use borrow.Author.Needs.{needs}
+use Rattle.laws.proofs.Basics.{needs}
 use Rattle.tree.proofs.parts.constant.Statement.{statement}
 use Rattle.tree.proofs.parts.constant.Tie as tie
 

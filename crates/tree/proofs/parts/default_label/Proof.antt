@@ -1,11 +1,9 @@
-use mathlib.Core.Path.{refl}
+use Rattle.laws.proofs.Basics.{refl, arith, needs}
 use Rattle.tree.proofs.Symbols.{lies-still}
 use Rattle.tree.proofs.Helpers.{low-past}
 use Rattle.tree.proofs.Cases.{default-read, label-default}
-use borrow.Author.Needs.{needs}
 use Rattle.tree.proofs.Rooms.{freed, ready-leaves, ready-takes, item-low, left, room-left, _plus_, _less_}
 use Rattle.tree.proofs.Steps.{pair}
-use native.Mathlib.Omega.{arith}
 use Rattle.tree.proofs.parts.default_label.Statement.{statement}
 use Rattle.tree.proofs.parts.default_label.Tie as tie
 

@@ -1,8 +1,4 @@
-use borrow.Author.Needs.{needs}
-use native.Mathlib.Omega.{arith}
-use mathlib.Core.Path.{refl}
-use mathlib.Core.List.{[]}
-use borrow.Author.Tests.{eq-eqb, ne-eqb}
+use Rattle.laws.proofs.Basics.{refl, [], arith, needs, eq-eqb, ne-eqb}
 use Rattle.language.specs.Reader.{manyUpTo, isComma}
 use Rattle.tree.specs.Between.{aFurtherName}
 use Rattle.tree.specs.Encoding.{encodeNames}

@@ -1,7 +1,5 @@
-use mathlib.Core.Path.{subst}
-use Prim.Native.Nat.{ℕ}
+use Rattle.laws.proofs.Basics.{ℕ, subst, needs}
 use Rattle.tree.specs.Reads.{KindHere}
-use borrow.Author.Needs.{needs}
 use Rattle.tree.proofs.Steps.{pair}
 use Rattle.tree.proofs.parts.label.Statement.{statement}
 use Rattle.tree.proofs.parts.label.Tie as tie

@@ -1,7 +1,4 @@
-use borrow.Author.Needs.{needs}
-use native.Mathlib.Omega.{arith}
-use mathlib.Core.Path.{refl, sym, _∙_}
-use mathlib.Core.List.{[]}
+use Rattle.laws.proofs.Basics.{refl, sym, _∙_, [], arith, needs}
 use Rattle.language.specs.Reader.{manyUpTo}
 use Rattle.language.specs.Binding.{isLabel}
 use Rattle.language.specs.Commands as C

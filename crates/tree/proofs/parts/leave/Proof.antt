@@ -1,5 +1,5 @@
 use Rattle.tree.proofs.Leaves.{leave-read}
-use borrow.Author.Needs.{needs}
+use Rattle.laws.proofs.Basics.{needs}
 use Rattle.tree.proofs.parts.leave.Statement.{statement}
 use Rattle.tree.proofs.parts.leave.Tie as tie
 

@@ -1,8 +1,7 @@
 use Rattle.tree.proofs.Leaves.{negated-read}
-use borrow.Author.Needs.{needs}
+use Rattle.laws.proofs.Basics.{refl, needs}
 use Rattle.tree.proofs.Steps.{pair}
 use Rattle.tree.proofs.Rooms.{left, room-left, _less_}
-use mathlib.Core.Path.{refl}
 use Rattle.tree.proofs.parts.negated.Statement.{statement}
 use Rattle.tree.proofs.parts.negated.Tie as tie
 

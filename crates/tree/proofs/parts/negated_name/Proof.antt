@@ -1,7 +1,6 @@
 use Rattle.tree.proofs.Constants.{negated-name-read}
-use borrow.Author.Needs.{needs}
+use Rattle.laws.proofs.Basics.{refl, needs}
 use Rattle.tree.proofs.Steps.{pair}
-use mathlib.Core.Path.{refl}
 use Rattle.tree.proofs.Rooms.{left, room-taken, _less_}
 use Rattle.tree.proofs.parts.negated_name.Statement.{statement}
 use Rattle.tree.proofs.parts.negated_name.Tie as tie

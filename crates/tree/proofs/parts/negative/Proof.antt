@@ -1,5 +1,5 @@
 use Rattle.tree.proofs.Constants.{negative-shut, negative-number, negative-true, negative-false, negative-name}
-use borrow.Author.Needs.{needs}
+use Rattle.laws.proofs.Basics.{needs}
 use Rattle.tree.proofs.parts.negative.Statement.{statement}
 use Rattle.tree.proofs.parts.negative.Tie as tie
 

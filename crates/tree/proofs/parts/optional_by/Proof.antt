@@ -1,8 +1,7 @@
 use Rattle.tree.proofs.Names.{by-read, no-by}
-use borrow.Author.Needs.{needs}
+use Rattle.laws.proofs.Basics.{refl, needs}
 use Rattle.tree.proofs.Rooms.{leaves-all, left, room-left, _plus_}
 use Rattle.tree.proofs.Steps.{pair}
-use mathlib.Core.Path.{refl}
 use Rattle.tree.proofs.parts.optional_by.Statement.{statement}
 use Rattle.tree.proofs.parts.optional_by.Tie as tie
 

@@ -1,5 +1,5 @@
 use Rattle.tree.proofs.Leaves.{positive-number, positive-true, positive-false, positive-name}
-use borrow.Author.Needs.{needs}
+use Rattle.laws.proofs.Basics.{needs}
 use Rattle.tree.proofs.parts.positive.Statement.{statement}
 use Rattle.tree.proofs.parts.positive.Tie as tie
 

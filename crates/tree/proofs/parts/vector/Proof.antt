@@ -1,9 +1,7 @@
 use Rattle.tree.proofs.Steps.{goes-on, adds-on, _then_, pair}
-use native.Mathlib.Omega.{arith}
-use mathlib.Core.Path.{refl}
+use Rattle.laws.proofs.Basics.{refl, arith, needs}
 use Rattle.tree.proofs.Helpers.{low}
 use Rattle.tree.proofs.Lets.{vector-read}
-use borrow.Author.Needs.{needs}
 use Rattle.tree.proofs.Rooms.{measured, ready-leaves, left, room-left, _plus_, _less_}
 use Rattle.tree.proofs.parts.vector.Statement.{statement}
 use Rattle.tree.proofs.parts.vector.Tie as tie

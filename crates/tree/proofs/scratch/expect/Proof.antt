@@ -1,6 +1,6 @@
 use Rattle.tree.proofs.Helpers.{refused-fits, next-fits}
 use Rattle.tree.proofs.Symbols.{expect-ok, expect-other, expect-end, expect-refused}
-use borrow.Author.Needs.{needs}
+use Rattle.laws.proofs.Basics.{needs}
 use Rattle.tree.proofs.scratch.expect.Statement.{statement}
 use Rattle.tree.proofs.scratch.expect.Tie as tie
 

@@ -1,6 +1,5 @@
-use mathlib.Core.Path.{sym}
+use Rattle.laws.proofs.Basics.{sym, needs}
 use Rattle.tree.proofs.Helpers.{free-is, free-of-refused}
-use borrow.Author.Needs.{needs}
 use Rattle.tree.proofs.scratch.free_of.Statement.{statement}
 use Rattle.tree.proofs.scratch.free_of.Tie as tie
 

@@ -1,7 +1,6 @@
-use native.Mathlib.Omega.{arith}
+use Rattle.laws.proofs.Basics.{arith, needs}
 use Rattle.tree.proofs.Helpers.{room-is}
 use Rattle.tree.proofs.Calls.{call-short, call-kind, call-refused}
-use borrow.Author.Needs.{needs}
 use Rattle.tree.proofs.scratch.is_call.Statement.{statement}
 use Rattle.tree.proofs.scratch.is_call.Tie as tie
 

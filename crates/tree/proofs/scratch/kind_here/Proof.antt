@@ -1,5 +1,5 @@
 use Rattle.tree.proofs.Symbols.{kind-in, kind-past, kind-refused}
-use borrow.Author.Needs.{needs}
+use Rattle.laws.proofs.Basics.{needs}
 use Rattle.tree.proofs.scratch.kind_here.Statement.{statement}
 use Rattle.tree.proofs.scratch.kind_here.Tie as tie
 

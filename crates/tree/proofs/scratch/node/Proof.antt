@@ -1,7 +1,5 @@
-use lib.ListN.{length-set}
-use native.Mathlib.Omega.{arith}
+use Rattle.laws.proofs.Basics.{length-set, arith, needs}
 use Rattle.tree.proofs.Helpers.{room-is, record-written, adds-refused, refused-grows}
-use borrow.Author.Needs.{needs}
 use Rattle.tree.proofs.scratch.node.Statement.{statement}
 use Rattle.tree.proofs.scratch.node.Tie as tie
 

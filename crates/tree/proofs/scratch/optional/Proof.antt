@@ -1,5 +1,5 @@
 use Rattle.tree.proofs.Names.{optional-here, optional-not}
-use borrow.Author.Needs.{needs}
+use Rattle.laws.proofs.Basics.{needs}
 use Rattle.tree.proofs.scratch.optional.Statement.{statement}
 use Rattle.tree.proofs.scratch.optional.Tie as tie
 

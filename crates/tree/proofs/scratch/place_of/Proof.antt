@@ -1,7 +1,6 @@
-use native.Mathlib.Omega.{arith}
+use Rattle.laws.proofs.Basics.{arith, needs}
 use Rattle.tree.proofs.Helpers.{room-is}
 use Rattle.tree.proofs.Calls.{place-short, place-entry, place-refused}
-use borrow.Author.Needs.{needs}
 use Rattle.tree.proofs.scratch.place_of.Statement.{statement}
 use Rattle.tree.proofs.scratch.place_of.Tie as tie
 

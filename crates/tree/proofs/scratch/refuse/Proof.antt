@@ -1,5 +1,5 @@
 use Rattle.tree.proofs.Helpers.{refused-fits, refuses-read, refuses-refused}
-use borrow.Author.Needs.{needs}
+use Rattle.laws.proofs.Basics.{needs}
 use Rattle.tree.proofs.scratch.refuse.Statement.{statement}
 use Rattle.tree.proofs.scratch.refuse.Tie as tie
 

@@ -1,8 +1,5 @@
-use Prim.Native.Nat.{ℕ, _-_}
-use native.Mathlib.Omega.{arith}
-use mathlib.Core.Path.{ap, _∙_}
+use Rattle.laws.proofs.Basics.{ℕ, _-_, ap, _∙_, arith, needs}
 use Rattle.tree.proofs.Helpers.{room-is, set-size-fits, set-kept, sized-set, sized-past, sized-refused}
-use borrow.Author.Needs.{needs}
 use Rattle.tree.proofs.scratch.set_size.Statement.{statement}
 use Rattle.tree.proofs.scratch.set_size.Tie as tie
 

@@ -1,4 +1,4 @@
-use mathlib.Core.Path.{refl}
+use Rattle.laws.proofs.Basics.{refl}
 use Rattle.tree.specs.Encoding.{suffixedKind}
 use Rattle.tree.proofs.scratch.suffixed_kind.Statement.{statement}
 use Rattle.tree.proofs.scratch.suffixed_kind.Tie as tie

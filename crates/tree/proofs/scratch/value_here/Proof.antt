@@ -1,5 +1,5 @@
 use Rattle.tree.proofs.Symbols.{value-in, here-past, here-refused}
-use borrow.Author.Needs.{needs}
+use Rattle.laws.proofs.Basics.{needs}
 use Rattle.tree.proofs.scratch.value_here.Statement.{statement}
 use Rattle.tree.proofs.scratch.value_here.Tie as tie
 

@@ -2,7 +2,7 @@
 use Rattle.compiler.proofs as proofs
 use Rattle.compiler.proofs.walk.+address+applied+args+assign+bare+block+cases+chain+command+expr+for_to+form+forms+indexed+list+local+locals+located+monadic+passed+plain+refuse+repeated+side+stored+switch+test+when+while_do as cycle
 use Rattle.compiler.specs.Commands.{ReadyList}
-use Rattle.compiler.proofs.Basics.{_-_, ℕ, _∙_, _≡_, refl, length, arith, needs}
+use Rattle.laws.proofs.Basics.{ℕ, _-_, _≡_, refl, _∙_, length, arith, needs}
 use Rattle.compiler.proofs.Blocks.{ListPart, list-begin, list-part, list-next, list-end, LocalsPart, locals-begin, locals-part, locals-next}
 use Rattle.compiler.proofs.Blocks.{locals-end, locals-ready-at, list-ready-at, local-gave-at, locals-gave-at, list-gave-at, block-room}
 use Rattle.compiler.proofs.Blocks.{block-locals, block-list, block-gave}

@@ -1,7 +1,7 @@
 -- A primary with what follows it: indices and calls, and their arguments.
 use Rattle.compiler.proofs as proofs
 use Rattle.compiler.proofs.walk.+address+applied+args+assign+bare+block+cases+chain+command+expr+for_to+form+forms+indexed+list+local+locals+located+monadic+passed+plain+refuse+repeated+side+stored+switch+test+when+while_do as cycle
-use Rattle.compiler.proofs.Basics.{_<_, _-_, ℕ, _∙_, _≡_, refl, length, arith, needs}
+use Rattle.laws.proofs.Basics.{ℕ, _-_, _<_, _≡_, refl, _∙_, length, arith, needs}
 use Rattle.compiler.proofs.Vocabulary.{raised, ReadyArgs}
 use Rattle.compiler.proofs.Calls.{indexed-gave, passed-gave, with-state, args-with, ArgsPart, args-begin, args-part, args-next, args-end}
 use Rattle.compiler.proofs.Calls.{LastRead, last-read, primary-part, primary-gave, index-left, index-right, index-gave, call-args, call-callee}

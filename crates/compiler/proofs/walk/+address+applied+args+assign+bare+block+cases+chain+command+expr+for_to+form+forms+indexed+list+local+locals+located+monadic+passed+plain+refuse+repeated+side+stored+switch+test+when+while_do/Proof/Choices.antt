@@ -5,7 +5,7 @@ use Rattle.compiler.proofs.Switches.{CasesPart, cases-begin, case-part,
 use Rattle.compiler.proofs.Switches.{switch-gave, gave-cases-at}
 use Rattle.compiler.specs.Commands.{ReadyCases}
 use Rattle.compiler.proofs.Conditions.{test-first, test-body, test-rest, test-gave}
-use Rattle.compiler.proofs.Basics.{_+_, _^_, _≤_, _-_, ℕ, _∙_, _≡_, refl, length, arith, needs}
+use Rattle.laws.proofs.Basics.{ℕ, _+_, _-_, _^_, _≤_, _≡_, refl, _∙_, length, arith, needs}
 use Rattle.compiler.proofs.Guards.{guard-test, guard-body, guard-gave}
 use borrow.Fn.PlainCycle.{is}
 use proofs.walk.args.Reads as args

@@ -5,7 +5,7 @@ use Rattle.compiler.proofs.Labelled.{labelled-labels, labelled-bare, la
 use Rattle.compiler.proofs.Labelled.{bare-part, bare-gave, command-some, gave-r-at}
 use Rattle.compiler.proofs.Conditions.{while-while, while-until}
 use Rattle.compiler.proofs.Aways.{performed-part, performed-gave, away-gave}
-use Rattle.compiler.proofs.Basics.{ℕ, refl, arith, needs}
+use Rattle.laws.proofs.Basics.{ℕ, refl, arith, needs}
 use Rattle.compiler.proofs.Assigning.{assigned-part, assigned-gave}
 use Rattle.compiler.proofs.Guards.{when-if, when-unless}
 use Rattle.compiler.proofs.Commands.{result-part, result-gave}

@@ -6,7 +6,7 @@ use Rattle.compiler.proofs.Fors.{for-room, for-first, for-limit, for-na
 use Rattle.compiler.proofs.Conditions.{while-test, while-body, while-gave}
 use Rattle.compiler.proofs.RepeatForms.{FormsPart, forms-begin, forms-part, forms-next, forms-end, form-alone, form-tested, repeated-few}
 use Rattle.compiler.proofs.RepeatForms.{repeated-body, repeated-forms, repeated-gave, once-part, once-gave}
-use Rattle.compiler.proofs.Basics.{_*_, _^_, _+_, _≤_, _-_, ℕ, _∙_, _≡_, refl, length, arith, needs}
+use Rattle.laws.proofs.Basics.{ℕ, _+_, _-_, _*_, _^_, _≤_, _≡_, refl, _∙_, length, arith, needs}
 use Rattle.compiler.specs.Walked.{raised}
 use Rattle.compiler.proofs.Commands.{gave-c-at, gave-u-at}
 use Rattle.compiler.proofs.Expressions.{ready-at, gave-at, left-at}

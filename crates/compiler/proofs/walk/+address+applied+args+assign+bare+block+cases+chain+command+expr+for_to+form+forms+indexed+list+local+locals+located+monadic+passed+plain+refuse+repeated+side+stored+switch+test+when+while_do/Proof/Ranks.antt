@@ -1,5 +1,5 @@
 -- The measures of the walk's cycle: the levels left, and below that a rank, so that a call that opens no level goes to a smaller one.
-use Rattle.compiler.proofs.Basics.{ℕ, _+_, _*_, _<_, List}
+use Rattle.laws.proofs.Basics.{ℕ, _+_, _*_, _<_, List}
 use borrow.Fn.Kind.{PK}
 use borrow.Fn.Kinds.{In}
 use borrow.Fn.PlainCycle.{Measures, is, falls, and}

@@ -1,7 +1,7 @@
 -- What @ and := take: an address, a left side, an assignment.
 use Rattle.compiler.proofs as proofs
 use Rattle.compiler.proofs.walk.+address+applied+args+assign+bare+block+cases+chain+command+expr+for_to+form+forms+indexed+list+local+locals+located+monadic+passed+plain+refuse+repeated+side+stored+switch+test+when+while_do as cycle
-use Rattle.compiler.proofs.Basics.{_-_, ℕ, ap, _∙_, _≡_, refl, length, arith, needs}
+use Rattle.laws.proofs.Basics.{ℕ, _-_, _≡_, refl, ap, _∙_, length, arith, needs}
 use Rattle.compiler.proofs.Assigning.{AssignPart, assign-begin, assign-is, assign-right, assign-left, assign-next, assign-end}
 use Rattle.compiler.proofs.Sides.{side-open, side-refused, side-name, side-part, side-pling, side-left, side-right, side-index-gave}
 use Rattle.compiler.proofs.Sides.{gave-side-at, gave-refused-at, monadic-part, refuse-gave, address-open, address-pling, address-refused}

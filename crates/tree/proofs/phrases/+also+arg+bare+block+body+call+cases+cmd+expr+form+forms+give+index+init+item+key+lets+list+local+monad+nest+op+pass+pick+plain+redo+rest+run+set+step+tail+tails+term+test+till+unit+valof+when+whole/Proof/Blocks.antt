@@ -5,7 +5,7 @@ use Rattle.tree.proofs.phrases.+also+arg+bare+block+body+call+cases+cmd
 use Rattle.language.specs.Kinds as K
 use Rattle.language.specs.Tree as T
 use Rattle.language.specs.Commands as C
-use Prim.Native.Nat.{ℕ, _+_}
+use Rattle.laws.proofs.Basics.{ℕ, _+_, refl, sym, ap, _∙_, eqb, arith, needs, eq-eqb, ne-eqb}
 use Rattle.language.specs.Grammar.{within, readers}
 use Rattle.language.specs.Reader.{manyUpTo, moreUpTo}
 use Rattle.tree.proofs.Blocks.{for-read, switchon-read, block-read, listed-read, no-command-words, no-commands, semicolon-commands}
@@ -22,11 +22,6 @@ use Rattle.tree.proofs.Steps.{pair, goes-on, adds-on, _then_}
 use Rattle.tree.proofs.Symbols.{lies-still}
 use Rattle.tree.specs.Encoding.{encodeCommands, encodeLocals}
 use Rattle.tree.specs.Reads.{freeOf}
-use borrow.Author.Needs.{needs}
-use borrow.Author.Tests.{eq-eqb, ne-eqb}
-use lib.Dec.{eqb}
-use mathlib.Core.Path.{refl, sym, ap, _∙_}
-use native.Mathlib.Omega.{arith}
 use proofs.parts.a_name.Reads as a-name
 use proofs.scratch.begin_item.Reads as begin-item
 use proofs.scratch.expect.Reads as expect

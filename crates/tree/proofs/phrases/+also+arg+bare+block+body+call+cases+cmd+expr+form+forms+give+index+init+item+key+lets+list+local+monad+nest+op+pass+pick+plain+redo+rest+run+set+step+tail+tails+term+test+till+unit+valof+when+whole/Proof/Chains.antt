@@ -4,7 +4,7 @@ use Rattle.tree.proofs.phrases as phrases
 use Rattle.tree.proofs.phrases.+also+arg+bare+block+body+call+cases+cmd+expr+form+forms+give+index+init+item+key+lets+list+local+monad+nest+op+pass+pick+plain+redo+rest+run+set+step+tail+tails+term+test+till+unit+valof+when+whole as cycle
 use Rattle.language.specs.Tree as T
 use Rattle.language.specs.Expressions as E
-use Prim.Native.Nat.{ℕ}
+use Rattle.laws.proofs.Basics.{ℕ, refl, sym, _∙_, eqb, arith, needs, eq-eqb, ne-eqb}
 use Rattle.language.specs.Binding.{bindingOf}
 use Rattle.language.specs.Grammar.{within}
 use Rattle.language.specs.Reader.{manyUpTo}
@@ -19,11 +19,6 @@ use Rattle.tree.proofs.Rooms.{left, room-left, ready-leaves, ready-take
 use Rattle.tree.proofs.Steps.{pair, triple}
 use Rattle.tree.proofs.Symbols.{lies-still}
 use Rattle.tree.specs.Encoding.{encodeOperations}
-use borrow.Author.Needs.{needs}
-use borrow.Author.Tests.{eq-eqb, ne-eqb}
-use lib.Dec.{eqb}
-use mathlib.Core.Path.{refl, sym, _∙_}
-use native.Mathlib.Omega.{arith}
 use proofs.scratch.begin_item.Reads as begin-item
 use proofs.binding.binding_of.Reads as binding-of
 use proofs.scratch.expect.Reads as expect

@@ -4,7 +4,7 @@ use Rattle.tree.proofs.phrases as phrases
 use Rattle.tree.proofs.phrases.+also+arg+bare+block+body+call+cases+cmd+expr+form+forms+give+index+init+item+key+lets+list+local+monad+nest+op+pass+pick+plain+redo+rest+run+set+step+tail+tails+term+test+till+unit+valof+when+whole as cycle
 use Rattle.language.specs.Tree as T
 use Rattle.language.specs.Commands as C
-use Prim.Native.Nat.{ℕ}
+use Rattle.laws.proofs.Basics.{ℕ, refl, sym, ap, _∙_, arith, needs}
 use Rattle.language.specs.Binding.{isRepeat}
 use Rattle.language.specs.Grammar.{within, readers}
 use Rattle.language.specs.Reader.{manyUpTo}
@@ -23,9 +23,6 @@ use Rattle.tree.proofs.Steps.{pair, goes-on, adds-on, refuses-on, _then
 use Rattle.tree.proofs.Symbols.{lies-still}
 use Rattle.tree.specs.Encoding.{encodeRepeats}
 use Rattle.tree.specs.Reads.{freeOf}
-use borrow.Author.Needs.{needs}
-use mathlib.Core.Path.{refl, sym, ap, _∙_}
-use native.Mathlib.Omega.{arith}
 use proofs.scratch.begin_item.Reads as begin-item
 use proofs.binding.begins_command.Reads as begins-command
 use proofs.scratch.expect.Reads as expect

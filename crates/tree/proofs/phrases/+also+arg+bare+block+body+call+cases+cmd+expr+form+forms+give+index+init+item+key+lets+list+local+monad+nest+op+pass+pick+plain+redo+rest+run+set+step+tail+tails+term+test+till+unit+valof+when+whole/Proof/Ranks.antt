@@ -1,8 +1,7 @@
 -- The measures of the cycle: 64 for each level left and a rank below 64. A call that opens a level takes one, and every other call goes
 -- to a smaller rank. An expression's rank grows with its binding: 20 and four for each step of it. Below stand its operands, from 16 to 9;
 -- above it lists of expressions, 50 to 52, what commands are made of, 51 to 59, a command 55, and 60 and 61 for what stands after labels.
-use Prim.Native.Nat.{ℕ, _+_, _*_, _<_}
-use mathlib.Core.List.{List}
+use Rattle.laws.proofs.Basics.{ℕ, _+_, _*_, _<_, List}
 use borrow.Fn.Kind.{PK}
 use borrow.Fn.Kinds.{In}
 use borrow.Fn.PlainCycle.{Measures, is, falls, and}

@@ -5,7 +5,7 @@ use Rattle.tree.proofs.phrases.+also+arg+bare+block+body+call+cases+cmd
 use Rattle.language.specs.Tree as T
 use Rattle.language.specs.Expressions as E
 use Rattle.language.specs.Commands as C
-use Prim.Native.Nat.{ℕ, _+_, _-_}
+use Rattle.laws.proofs.Basics.{ℕ, _+_, _-_, _≡_, refl, sym, _∙_, arith, needs, eq-eqb, ne-eqb}
 use Rattle.language.specs.Binding.{isSuffix}
 use Rattle.language.specs.Grammar.{within, readers}
 use Rattle.language.specs.Reader.{manyUpTo, isComma}
@@ -27,10 +27,6 @@ use Rattle.tree.proofs.Symbols.{lies-still}
 use Rattle.tree.specs.Between.{aFurther}
 use Rattle.tree.specs.Encoding.{encodeExpressions}
 use Rattle.tree.specs.Reads.{Encodes}
-use borrow.Author.Needs.{needs}
-use borrow.Author.Tests.{eq-eqb, ne-eqb}
-use mathlib.Core.Path.{_≡_, refl, sym, _∙_}
-use native.Mathlib.Omega.{arith}
 use proofs.parts.atom.Reads as atom
 use proofs.scratch.begin_item.Reads as begin-item
 use proofs.scratch.close_item.Reads as close-item

@@ -1,6 +1,5 @@
 -- Tables of examples: what stands in a row, and what is expected of it. One computed test serves for all rows of a table.
-use mathlib.Core.Path.{_≡_}
-use mathlib.Core.List.{List, map}
+use Rattle.laws.proofs.Basics.{_≡_, List, map}
 
 abbrev pub Table : Type 0 → Type 0 → Type 0
 Table A B = List (A × B)

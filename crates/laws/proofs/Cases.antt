@@ -1,0 +1,51 @@
+-- Ways to go on: by a test's two outcomes, by the order of two numbers, and from what cannot be.
+use Rattle.laws.proofs.Basics.{ℕ, _<_, _≤_, _≡_, refl, sym, _∙_, Bool, true, false, not, _&&_, cond, ltb, arith, ltb-true, ltb-false}
+use Rattle.laws.proofs.Basics.{not-true, not-false}
+
+pub by-cases {ℓ} : {P : Type ℓ} (b : Bool) → (b ≡ true → P) → (b ≡ false → P) → P
+by-cases true h k = h refl
+by-cases false h k = k refl
+
+-- of what a test chooses
+pub either : {A : Type 0} (P : A → Type 0) (b : Bool) {x y : A} → (b ≡ true → P x) → (b ≡ false → P y) → P (cond b x y)
+either P true h k = h refl
+either P false h k = k refl
+
+pub data Order (n m : ℕ) : Type 0 where
+  lt : n < m → Order n m
+  ge : m ≤ n → Order n m
+
+pub order : (n m : ℕ) → Order n m
+order n m = by-cases (ltb n m) (λ e. lt (ltb-true n m e)) (λ e. ge (ltb-false n m e))
+
+-- two constructors that are not the same: `contradiction cc`
+pub contradiction {ℓ} : {P : Type ℓ} → _≡_ {A = ℕ} 0 1 → P
+contradiction z = absurd (omega arith)
+
+-- ---- what a branch says of the test that was called: its answer is b
+
+pub holds : {r b : Bool} → r ≡ b → r ≡ true → b ≡ true
+holds e f = sym e ∙ f
+
+pub fails : {r b : Bool} → r ≡ b → r ≡ false → b ≡ false
+fails e f = sym e ∙ f
+
+-- the same where the branch tests that it is not so
+
+pub held : {r b : Bool} → r ≡ b → not r ≡ false → b ≡ true
+held {r} e f = sym e ∙ not-false r f
+
+pub failed : {r b : Bool} → r ≡ b → not r ≡ true → b ≡ false
+failed {r} e f = sym e ∙ not-true r f
+
+-- ---- a conjunction that is true
+
+pub both-true : (a b : Bool) → (a && b) ≡ true → (a ≡ true) × (b ≡ true)
+both-true true b h = (refl, h)
+both-true false b h = contradiction cc
+
+pub both-left : (a b : Bool) → (a && b) ≡ true → a ≡ true
+both-left a b h = both-true a b h .0
+
+pub both-right : (a b : Bool) → (a && b) ≡ true → b ≡ true
+both-right a b h = both-true a b h .1

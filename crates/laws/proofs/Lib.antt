@@ -1,0 +1,4 @@
+pub mod Basics
+pub mod Cases
+pub mod Clearing
+pub mod Table
