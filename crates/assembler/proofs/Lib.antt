@@ -6,6 +6,7 @@ pub mod Records
 pub mod Numbered
 pub mod Local
 pub mod Turns
+pub mod Walking
 pub mod Faults
 pub mod Noting
 pub mod Reading
