@@ -2,6 +2,7 @@
 -- global, and a string twice its characters and 4.
 use Rattle.laws.proofs.Basics.{ℕ, zero, suc, _+_, _*_, _/_, _%_, _<_, _≤_, _≡_, refl, List, [], _∷_, _++_, Bool, true, false, _&&_, cond, length}
 use Rattle.laws.proofs.Basics.{length-append, eqb, ltb, leb, arith, lt-ltb}
+use Rattle.laws.proofs.Cases.{by-cases}
 use Rattle.items.specs.Item as I
 use Rattle.items.specs.Item.{Operand, number, address, Base, Item, label, instruction, constant}
 use Rattle.items.specs.Render.{numeral, numeralOf, operandText, baseText, indirectText, plainText, characterText, charactersText, render, renderLines}
@@ -33,11 +34,9 @@ one-digit (suc k) n h = rw (lt-ltb n 10 h) (omega arith)
 more-digits : (m c : ℕ) → ((k n : ℕ) → n < m → length (numeral k n) ≤ c) → (k n : ℕ) → n < 10 * m → length (numeral k n) ≤ suc c
 unfolding numeral
 more-digits m c f zero n h = omega arith
-more-digits m c f (suc k) n h = go (ltb n 10)
-  where
-    go : (t : Bool) → length (cond t ((48 + n) ∷ []) (numeral k (n / 10) ++ ((48 + n % 10) ∷ []))) ≤ suc c
-    go true = omega arith
-    go false = omega (arith, length-append (numeral k (n / 10)) ((48 + n % 10) ∷ []), f k (n / 10) (omega arith))
+more-digits m c f (suc k) n h =
+    by-cases (ltb n 10) (λ outcome. rw outcome (omega arith))
+    (λ outcome. rw outcome (omega (arith, length-append (numeral k (n / 10)) ((48 + n % 10) ∷ []), f k (n / 10) (omega arith))))
 
 five-digits : (n : ℕ) → n ≤ 65536 → length (numeralOf n) ≤ 5
 unfolding numeralOf
@@ -64,11 +63,7 @@ indirect-short false = omega arith
 
 plain-short : (c : ℕ) → length (plainText c) ≤ 4
 unfolding plainText
-plain-short c = by (leb 32 c && leb c 126)
-  where
-    by : (t : Bool) → length (cond t (c ∷ []) (42 ∷ (48 + c / 100) ∷ (48 + c / 10 % 10) ∷ (48 + c % 10) ∷ [])) ≤ 4
-    by true = omega arith
-    by false = omega arith
+plain-short c = by-cases (leb 32 c && leb c 126) (λ outcome. rw outcome (omega arith)) (λ outcome. rw outcome (omega arith))
 
 character-short : (c : ℕ) → length (characterText c) ≤ 4
 unfolding characterText

@@ -1,5 +1,6 @@
 -- The simulation of loops: WHILE and UNTIL, the REPEAT forms, and FOR in both directions. The jump back is counted with the turn's own step.
 use Rattle.laws.proofs.Basics.{ℕ, suc, _+_, _≤_, _≡_, refl, ap, _∙_, List, Bool, true, false, not, cond, getD, eqb, leb, le-refl, arith}
+use Rattle.laws.proofs.Cases.{by-cases}
 use Rattle.words.specs.Words as W
 use Rattle.words.specs.Words.{add, below, ge, le}
 use Rattle.machine.specs.Outcome.{Out}
@@ -29,12 +30,7 @@ abbrev onward : (by i limit : ℕ) → Bool
 onward by i limit = cond (leb 32768 by) (not (below i limit)) (not (below limit i))
 
 limit-acts : (by i m : ℕ) → (g : ℕ → ℕ → Out ℕ) × (M.actOf (limitAct by) ≡ M.dyadic g) × (g i m ≡ O.ok (W.truth (onward by i m)))
-limit-acts by i m = go (leb 32768 by)
-  where
-    go : (b : Bool)
-        → (g : ℕ → ℕ → Out ℕ) × (M.actOf (cond b 13 15) ≡ M.dyadic g) × (g i m ≡ O.ok (W.truth (cond b (not (below i m)) (not (below m i)))))
-    go true = (M.always ge, refl, refl)
-    go false = (M.always le, refl, refl)
+limit-acts by i m = by-cases (leb 32768 by) (λ outcome. rw outcome (M.always ge, refl, refl)) (λ outcome. rw outcome (M.always le, refl, refl))
 
 jump-on : (z : Bool) (k b : ℕ) → z ≡ true → cond (eqb (W.truth z) 0) k b ≡ b
 jump-on true k b e = refl

@@ -1,6 +1,7 @@
 -- The compiler's text has a label a source byte at most, and is refused only by 24 or 25: its labels differ and those used are there.
 use Rattle.laws.proofs.Basics.{ℕ, suc, _+_, _-_, _≤_, _≡_, refl, List, [], _∷_, _++_, Bool, true, false, cond, _⊎_, length, eqb, ltb, arith, eqb-true}
 use Rattle.laws.proofs.Basics.{eqb-false, eq-eqb, ltb-true, ltb-false}
+use Rattle.laws.proofs.Cases.{by-cases}
 use Rattle.text.specs.declared.Refusal.{Refusal}
 use Rattle.items.specs.Item as I
 use Rattle.items.specs.Item.{Operand, number, address, Item, label, instruction, constant}
@@ -127,11 +128,7 @@ module _ (T : ℕ) (low : T ≤ 32768) where
 
   module _ (labels : List ℕ) (there : (k : ℕ) → Within T k → seen labels k ≡ true) where
     one-known : (k : ℕ) → Within T k → cond (eqb k 0) true (seen labels k) ≡ true
-    one-known k w = go (eqb k 0)
-      where
-        go : (t : Bool) → cond t true (seen labels k) ≡ true
-        go true = refl
-        go false = there k w
+    one-known k w = by-cases (eqb k 0) (λ outcome. rw outcome) (λ outcome. rw outcome (there k w))
 
     operand-known : (x : Operand) → RightOperand T x → cond (eqb (usedBy x) 0) true (seen labels (usedBy x)) ≡ true
     operand-known (number true n) p = absurd p

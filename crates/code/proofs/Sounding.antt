@@ -1,6 +1,6 @@
 -- The code of formed functions whose heights and labels are bounded can be written and read back.
 use Rattle.laws.proofs.Basics.{ℕ, suc, _+_, _<_, _≤_, _≡_, refl, List, [], _∷_, _++_, Bool, true, false, _&&_, cond, eqb, leb, arith, le-leb}
-use Rattle.laws.proofs.Cases.{contradiction}
+use Rattle.laws.proofs.Cases.{by-cases, contradiction}
 use Rattle.items.specs.Item as I
 use Rattle.items.specs.Item.{Operand, number, address, Base, Item, label, instruction, constant, string, global}
 use Rattle.items.proofs.Sound.{Sound, SoundOperand, SoundString}
@@ -156,11 +156,7 @@ act-small o =
     pick x y false p q = q
 
 limit-small : (by : ℕ) → limitAct by ≤ 19
-limit-small by = go (leb 32768 by)
-  where
-    go : (b : Bool) → cond b 13 15 ≤ 19
-    go true = omega arith
-    go false = omega arith
+limit-small by = by-cases (leb 32768 by) (λ outcome. rw outcome (omega arith)) (λ outcome. rw outcome (omega arith))
 
 sense-small : (b : Bool) (x y : ℕ) → x < 8 → y < 8 → cond b x y < 8
 sense-small true x y p q = p

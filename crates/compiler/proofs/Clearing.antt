@@ -1,8 +1,7 @@
 -- Zeros from a place on, where scratch holds nothing but zeros, and `compile`'s contract once they are written.
-use Rattle.laws.proofs.Basics.{ℕ, zero, suc, _+_, _-_, _≤_, _≡_, refl, sym, ap, _∙_, List, _++_, append-assoc, length, getD}
-use Rattle.laws.proofs.Basics.{take, drop, replicate, length-append, length-drop, length-replicate}
-use Rattle.laws.proofs.Basics.{replicate-append-replicate, List·getD-append, length-take-le, take-at, getD-drop, getD-append-add, ext-getD}
-use Rattle.laws.proofs.Basics.{arith}
+use Rattle.laws.proofs.Basics.{ℕ, zero, suc, _+_, _-_, _≤_, _≡_, refl, sym, ap, _∙_, List, _++_, append-assoc, length, getD, take, drop, replicate}
+use Rattle.laws.proofs.Basics.{length-append, length-drop, length-replicate, replicate-append-replicate, List·getD-append, length-take-le, take-at}
+use Rattle.laws.proofs.Basics.{getD-drop, getD-append-add, ext-getD, arith}
 use Rattle.laws.proofs.Cases.{Order, lt, ge, order, contradiction}
 use Rattle.text.specs.declared.Refusal.{Refusal}
 use Rattle.language.specs.Program.{Refused, accepted, refused}

@@ -1,6 +1,5 @@
 -- How many strings there are, and that every string among a source's symbols ends.
-use Rattle.laws.proofs.Basics.{ℕ, suc, _≡_, refl, ap, List, [], _∷_, Bool, true, false, cond, length, drop}
-use Rattle.laws.proofs.Basics.{eqb}
+use Rattle.laws.proofs.Basics.{ℕ, suc, _≡_, refl, ap, List, [], _∷_, Bool, true, false, cond, length, drop, eqb}
 use Rattle.laws.proofs.Cases.{contradiction}
 use Rattle.text.specs.Quoted.{charactersOf, quoted}
 use Rattle.language.specs.Kinds.{STRING}

@@ -3,7 +3,7 @@
 -- those of Local, so that the grammar is gone through once for both; ExtraGrammar has the grammar, Loops the texts.
 use Rattle.laws.proofs.Basics.{ℕ, zero, suc, _+_, _≤_, _≡_, refl, sym, ap, _∙_, List, [], _∷_, Bool, true, false, cond, length, getD, drop, drop-drop}
 use Rattle.laws.proofs.Basics.{getD-drop, eqb, arith, eqb-true}
-use Rattle.laws.proofs.Cases.{contradiction}
+use Rattle.laws.proofs.Cases.{by-cases, contradiction}
 use Rattle.language.specs.Kinds as K
 use Rattle.language.specs.Kinds.{member}
 use Rattle.language.specs.Symbols.{Symbol}
@@ -146,11 +146,7 @@ none-of b (j ∷ ks) k h m = go (eqb k j) refl (b j) refl h m (none-of b ks k)
 
 one-more : (k j : ℕ) (ks : List ℕ) → member k ks ≡ true → member k (j ∷ ks) ≡ true
 unfolding member
-one-more k j ks m = go (eqb k j)
-  where
-    go : (q : Bool) → cond q true (member k ks) ≡ true
-    go true = refl
-    go false = m
+one-more k j ks m = by-cases (eqb k j) (λ outcome. rw outcome) (λ outcome. rw outcome m)
 
 -- from near, a test that holds neither of a semicolon nor of what may stand after an extra one
 abbrev pub blind : Bool → (ℕ → Bool) → Bool
@@ -263,11 +259,7 @@ module _ {A B : Type 0} {k m o : Bool} {r : Reader A} {f : A → Reader B} where
 -- ---- symbols
 
 not-loop : (b : ℕ → Bool) (k : ℕ) → b K.LOOP ≡ false → b k ≡ true → eqb k K.LOOP ≡ false
-not-loop b k h e = go (eqb k K.LOOP) refl
-  where
-    go : (q : Bool) → eqb k K.LOOP ≡ q → q ≡ false
-    go true z = let y : true ≡ false = sym e ∙ ap b (eqb-true k K.LOOP z) ∙ h in y
-    go false z = refl
+not-loop b k h e = by-cases (eqb k K.LOOP) (λ z. rw z (let y : true ≡ false = sym e ∙ ap b (eqb-true k K.LOOP z) ∙ h in y)) (λ z. rw z)
 
 pub keeps-any : {k : Bool} → Keeps k flush near any
 unfolding any

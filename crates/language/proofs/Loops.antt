@@ -2,7 +2,7 @@
 -- program, unless a ( stands next after a LOOP on a later line. The symbols need not be the same: the semicolon after a local declaration
 -- is optional, and there one may be inserted now (ExampleLoops).
 use Rattle.laws.proofs.Basics.{ℕ, suc, _≡_, refl, sym, ap, _∙_, List, [], _∷_, Bool, true, false, _&&_, cond, length, eqb, eqb-true}
-use Rattle.laws.proofs.Cases.{contradiction}
+use Rattle.laws.proofs.Cases.{by-cases, contradiction}
 use Rattle.language.specs.Kinds as K
 use Rattle.language.specs.Kinds.{member}
 use Rattle.language.specs.Symbols.{Symbol, Fault, none, fault, scan}
@@ -91,11 +91,7 @@ apart e = contradiction cc
 
 without-member : (k x : ℕ) (ks : List ℕ) → member k (without x ks) ≡ cond (eqb k x) false (member k ks)
 unfolding member
-without-member k x [] = go (eqb k x)
-  where
-    go : (c : Bool) → false ≡ cond c false false
-    go true = refl
-    go false = refl
+without-member k x [] = by-cases (eqb k x) (λ outcome. rw outcome) (λ outcome. rw outcome)
 without-member k x (j ∷ ks) = go (eqb j x) refl (eqb k j) refl (eqb k x) refl (without-member k x ks)
   where
     go : (a : Bool) → eqb j x ≡ a → (b : Bool) → eqb k j ≡ b → (c : Bool) → eqb k x ≡ c → member k (without x ks) ≡ cond c false (member k ks)
@@ -147,11 +143,9 @@ module _ (text : List ℕ) where
   numbered-bracket : (k : ℕ) (ss : List Symbol) → bracketAfterLoop text (numbered k ss) ≡ bracketAfterLoop text ss
   unfolding bracketAfterLoop numbered
   numbered-bracket k [] = refl
-  numbered-bracket k (s ∷ r) = go (eqb (s .kind) K.STRING)
-    where
-      go : (b : Bool) → bracketAfterLoop text (cond b (withValue k s ∷ numbered (suc k) r) (s ∷ numbered k r)) ≡ bracketAfter text s r
-      go true = value-apart text k s (numbered (suc k) r) ∙ numbered-after text (suc k) s r
-      go false = numbered-after text k s r
+  numbered-bracket k (s ∷ r) =
+      by-cases (eqb (s .kind) K.STRING) (λ outcome. rw outcome (value-apart text k s (numbered (suc k) r) ∙ numbered-after text (suc k) s r))
+      (λ outcome. rw outcome (numbered-after text k s r))
 
 -- ---- the law
 

@@ -1,12 +1,13 @@
 -- From a tree to a resolved tree that is formed: names mean what stands in the scope, and the scope's words lie below the height. Here are
 -- the parts; Leaving goes through the tree.
-use Rattle.laws.proofs.Basics.{ℕ, suc, _+_, _<_, _≤_, _≡_, refl, ap, _∙_, List, [], _∷_, Bool, true, false, cond, Option, some, none, length, leb}
-use Rattle.laws.proofs.Basics.{le-refl, arith, leb-true}
+use Rattle.laws.proofs.Basics.{ℕ, suc, _+_, _<_, _≤_, _≡_, refl, ap, _∙_, List, [], _∷_, Bool, true, false, Option, some, none, length, leb, le-refl}
+use Rattle.laws.proofs.Basics.{arith, leb-true}
+use Rattle.laws.proofs.Cases.{by-cases}
 use Rattle.language.specs.Tree as T
 use Rattle.language.specs.Tree.{Name, Simple, Constant, Label, Expressions, Suffixes, Command, Commands}
 use Rattle.language.specs.Names as N
 use Rattle.language.specs.Names.{Meaning, Found, Scope, opened, declared, outermost, lookup, sameName}
-use Rattle.language.specs.Constants.{Judged, good, refused, fault, signed, ofFound, ofSimple, judge, within, forVector, judgedWord}
+use Rattle.language.specs.Constants.{Judged, good, refused, signed, ofFound, ofSimple, judge, within, forVector, judgedWord}
 use Rattle.language.specs.Resolve as E
 use Rattle.language.specs.Resolve.{declareAll, ofMeaning, sideOf, targetOf, addressOf, under, scopeAfter, pairUp, valuesBefore, goodCase}
 use Rattle.language.specs.Resolve.{labelsBefore, labelsOf, byOf, leaving}
@@ -93,11 +94,7 @@ within-word c test (good v) l = by-cond (λ j. judgedWord j < 65536) (test v) l 
 within-word c test (refused fs) l = omega arith
 
 pub within-most : (c : Constant) (most : ℕ) (j : Judged) → judgedWord (within c (λ v. leb v most) j) ≤ most
-within-most c most (good v) = go (leb v most) refl
-  where
-    go : (b : Bool) → leb v most ≡ b → judgedWord (cond b (good v) (refused (fault (c .place) 11))) ≤ most
-    go true e = leb-true v most e
-    go false e = omega arith
+within-most c most (good v) = by-cases (leb v most) (λ e. rw e (leb-true v most e)) (λ e. rw e (omega arith))
 within-most c most (refused fs) = omega arith
 
 -- ---- heights

@@ -3,6 +3,7 @@
 -- (`Related`), then so are an expression, a command, a turn of a loop and a call of them. `Limits`, `Fuel` and `Held` are its instances.
 use Rattle.laws.proofs.Basics.{ℕ, suc, _+_, _<_, _≤_, _≡_, refl, List, [], _∷_, _++_, Bool, true, false, cond, Option, some, none, length, getD, eqb}
 use Rattle.laws.proofs.Basics.{ltb, leb, arith, leb-true}
+use Rattle.laws.proofs.Cases.{by-cases}
 use Rattle.words.specs.Words.{add}
 use Rattle.language.specs.Resolved as R
 use Rattle.language.specs.Resolved.{Expr, Exprs, Target, Pairs, Cmd, Cmds, Cases, Locals, Body, Fun}
@@ -61,11 +62,7 @@ pub record Related (first : ℕ) (T : Relation) (q r : Sem) : Type 0 where
 module _ {first : ℕ} where
   -- words are changed only from an address on that is above the first stack word
   above : (a b : ℕ) (c d : Cell) → first ≤ b → a < first → Held d → Held (cond (leb b a) c d)
-  above a b c d l m h = go (leb b a) refl
-    where
-      go : (t : Bool) → leb b a ≡ t → Held (cond t c d)
-      go true e = let k : b ≤ a = leb-true b a e in absurd (omega arith)
-      go false e = h
+  above a b c d l m h = by-cases (leb b a) (λ e. rw e (let k : b ≤ a = leb-true b a e in absurd (omega arith))) (λ e. rw e h)
 
   stepped : {s : State} → Change first s (step s)
   stepped = record { keeps = λ a m h. h; used = refl }

@@ -2,7 +2,7 @@
 -- symbols are counted than were scanned.
 use Rattle.laws.proofs.Basics.{ℕ, zero, suc, _+_, _-_, _<_, _≤_, _≡_, refl, sym, ap, _∙_, List, [], _∷_, Bool, true, false, cond, length, getD, take}
 use Rattle.laws.proofs.Basics.{drop, drop-drop, eqb, arith, eqb-true, eqb-false, ne-eqb}
-use Rattle.laws.proofs.Cases.{contradiction}
+use Rattle.laws.proofs.Cases.{by-cases, contradiction}
 use Rattle.text.specs.Quoted.{charactersOf, quoted}
 use Rattle.language.specs.Kinds.{member, NOTHING, NAME, NUMBER, STRING, SEMICOLON}
 use Rattle.language.specs.Bytes.{classOf}
@@ -216,11 +216,9 @@ one-weight loops kind l f = rw (ne-eqb kind SEMICOLON f) (go (isRepeat kind))
 
 again-weight : (loops kind : ℕ) → isRepeat kind ≡ true → loops ≤ weight loops kind
 unfolding isRepeat member
-again-weight loops kind h = go (eqb kind SEMICOLON) refl
-  where
-    go : (b : Bool) → eqb kind SEMICOLON ≡ b → loops ≤ cond b 0 (cond (isRepeat kind) loops 1)
-    go true e = let q : kind ≡ SEMICOLON = eqb-true _ _ e in let z : false ≡ true = rw q at h in contradiction cc
-    go false e = rw h (omega arith)
+again-weight loops kind h =
+    by-cases (eqb kind SEMICOLON) (λ e. rw e (let q : kind ≡ SEMICOLON = eqb-true _ _ e in let z : false ≡ true = rw q at h in contradiction cc))
+    (λ e. rw e (rw h (omega arith)))
 
 cost-one : (loops : ℕ) → 1 ≤ loops → (xs : List Symbol) (d : Symbol) (n : ℕ) → d .kind ≡ NOTHING → 1 ≤ getD xs n d .kind
     → (getD xs n d .kind ≡ SEMICOLON → ⊥) → suc (cost loops (take n xs)) ≤ cost loops (take (suc n) xs)

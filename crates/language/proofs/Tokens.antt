@@ -1,6 +1,6 @@
 -- How many symbols a tree is written with at least, inserted semicolons apart.
 use Rattle.laws.proofs.Basics.{ℕ, _+_, _≤_, _≡_, refl, List, [], _∷_, Bool, true, false, cond, Option, some, none, length, arith}
-use Rattle.laws.proofs.Cases.{contradiction}
+use Rattle.laws.proofs.Cases.{by-cases, contradiction}
 use Rattle.language.specs.Tree as T
 use Rattle.language.specs.Fine.{EmptyAfterLabels}
 use Rattle.language.specs.Tree.{Constant, Label, Expression, Expressions, Suffixes, Operations, Command, Commands, Unlabelled, Repeats, Locals}
@@ -54,11 +54,7 @@ labels-tokens (T.default place ∷ ls) = omega (arith, labels-tokens ls)
 
 -- a command has a label or a symbol of its own
 pub not-bare : {ls : List Label} {u : Unlabelled} {rs : Repeats} → EmptyAfterLabels ls u rs → 1 ≤ labelsTokens ls + started u
-not-bare {ls} {u} f = go (begun u) refl
-  where
-    go : (b : Bool) → begun u ≡ b → 1 ≤ labelsTokens ls + cond b 1 0
-    go true e = omega arith
-    go false e = omega (arith, f .labels (not-begun u e), labels-tokens ls)
+not-bare {ls} {u} f = by-cases (begun u) (λ e. rw e (omega arith)) (λ e. rw e (omega (arith, f .labels (not-begun u e), labels-tokens ls)))
 
 -- a REPEAT form is counted as so many
 module _ (loops : ℕ) where
@@ -141,11 +137,7 @@ module _ (loops : ℕ) where
   begun-tokens (T.block ls cs) e = omega arith
 
   pub started-tokens : (u : Unlabelled) → started u ≤ unlabelledTokens u
-  started-tokens u = go (begun u) refl
-    where
-      go : (b : Bool) → begun u ≡ b → cond b 1 0 ≤ unlabelledTokens u
-      go true e = begun-tokens u e
-      go false e = omega arith
+  started-tokens u = by-cases (begun u) (λ e. rw e (begun-tokens u e)) (λ e. rw e (omega arith))
 
 -- ---- a function is written with four symbols more than its parameters and body: its name, brackets, and = or BE
 
