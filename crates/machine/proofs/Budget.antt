@@ -5,7 +5,7 @@ use Rattle.laws.proofs.Basics.{getD-set-other, eqb, leb, le-refl, le-trans, lt-
 use Rattle.laws.proofs.Cases.{by-cases}
 use Rattle.machine.specs.State.{State, at, startRegisters}
 use Rattle.machine.specs.Step.{StepResult}
-use Rattle.machine.specs.Run.{Outcome, after, onTurn, steps, resume, carriedOn, run}
+use Rattle.machine.specs.Run.{Outcome, after, onResult, steps, resume, carriedOn, run}
 use Rattle.machine.proofs.Shape.{Shape, quiet, one-more, ends, halts, Quiet, OneMore, shape}
 
 after-carried : (o : Outcome) (more : State → Outcome) → after 1 (carriedOn o more) ≡ carriedOn (after 1 o) more
@@ -18,12 +18,12 @@ after-carried o more = go (eqb (o .stop) 31) refl
         rw e (λ i. record { stop = r .stop; count = z i; state = r .state })
     go false e = rw e refl
 
-turn-carried : (s : State) {t : StepResult} → Shape s t → (f g h : State → Outcome) → ((u : State) → f u ≡ carriedOn (g u) h)
-    → onTurn s t f ≡ carriedOn (onTurn s t g) h
-turn-carried s (quiet {t = t} q) f g h e = ap (after 1) (e t) ∙ after-carried (g t) h
-turn-carried s (one-more {t = t} q) f g h e = ap (after 1) (e t) ∙ after-carried (g t) h
-turn-carried s (ends q) f g h e = refl
-turn-carried s (halts {k = k} l) f g h e = rw (ne-eqb k 31 (λ z. absurd (omega arith))) refl
+result-carried : (s : State) {t : StepResult} → Shape s t → (f g h : State → Outcome) → ((u : State) → f u ≡ carriedOn (g u) h)
+    → onResult s t f ≡ carriedOn (onResult s t g) h
+result-carried s (quiet {t = t} q) f g h e = ap (after 1) (e t) ∙ after-carried (g t) h
+result-carried s (one-more {t = t} q) f g h e = ap (after 1) (e t) ∙ after-carried (g t) h
+result-carried s (ends q) f g h e = refl
+result-carried s (halts {k = k} l) f g h e = rw (ne-eqb k 31 (λ z. absurd (omega arith))) refl
 
 pub steps-add : (input : List ℕ) (n m : ℕ) (s : State) → steps input (n + m) s ≡ carriedOn (steps input n s) (λ t. steps input m t)
 unfolding steps
@@ -33,7 +33,7 @@ steps-add input zero m s =
     rw e (λ i. record { stop = steps input m s .stop; count = z i; state = steps input m s .state })
 steps-add input (suc n) m s =
     let e : suc n + m ≡ suc (n + m) = omega arith in
-    rw e (turn-carried s (shape input s) (λ t. steps input (n + m) t) (λ t. steps input n t) (λ t. steps input m t) (λ u. steps-add input n m u))
+    rw e (result-carried s (shape input s) (λ t. steps input (n + m) t) (λ t. steps input n t) (λ t. steps input m t) (λ u. steps-add input n m u))
 
 -- ---- output only grows
 
@@ -84,16 +84,16 @@ grows-one {s} {t} q =
       within = λ l. let h = q .room in omega arith;
     }
 
-grows-turn : (s : State) {t : StepResult} → Shape s t → (f : State → Outcome) → ((u : State) → Grows u (f u .state)) → Grows s (onTurn s t f .state)
-grows-turn s (quiet {t = t} q) f h = grows-on (grows-quiet q) (h t)
-grows-turn s (one-more {t = t} q) f h = grows-on (grows-one q) (h t)
-grows-turn s (ends q) f h = grows-quiet q
-grows-turn s (halts l) f h = grows-not s
+grows-result : (s : State) {t : StepResult} → Shape s t → (f : State → Outcome) → ((u : State) → Grows u (f u .state)) → Grows s (onResult s t f .state)
+grows-result s (quiet {t = t} q) f h = grows-on (grows-quiet q) (h t)
+grows-result s (one-more {t = t} q) f h = grows-on (grows-one q) (h t)
+grows-result s (ends q) f h = grows-quiet q
+grows-result s (halts l) f h = grows-not s
 
 pub steps-grow : (input : List ℕ) (n : ℕ) (s : State) → Grows s (steps input n s .state)
 unfolding steps
 steps-grow input zero s = grows-not s
-steps-grow input (suc n) s = grows-turn s (shape input s) (λ t. steps input n t) (λ u. steps-grow input n u)
+steps-grow input (suc n) s = grows-result s (shape input s) (λ t. steps input n t) (λ u. steps-grow input n u)
 
 grows-carried : (o : Outcome) (f : State → Outcome) → Grows (o .state) (f (o .state) .state) → Grows (o .state) (carriedOn o f .state)
 grows-carried o f h = by-cases (eqb (o .stop) 31) (λ e. rw e h) (λ e. rw e (grows-not (o .state)))

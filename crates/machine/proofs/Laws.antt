@@ -7,8 +7,8 @@ use Rattle.words.specs.Words.{add}
 use Rattle.machine.specs.Outcome.{Out, ok, stop, _>>=_, read, write}
 use Rattle.machine.specs.State.{State, at, withA, withC, framed, havingStored, took, wrote}
 use Rattle.machine.specs.Acts.{indirected, returned, search, switched, received, sent}
-use Rattle.machine.specs.Step.{StepResult, done, finished, stopped, turn, keep, stored, called, jumped}
-use Rattle.machine.specs.Answers.{asWord, asActed, asTurn, numberOf, registersOf, left, Steps}
+use Rattle.machine.specs.Step.{StepResult, done, finished, stopped, resultOf, keep, stored, called, jumped}
+use Rattle.machine.specs.Answers.{asWord, asActed, asResult, numberOf, registersOf, left, Steps}
 use Rattle.machine.specs.declared.Registers.{Registers}
 use Rattle.machine.specs.declared.Word.{Word}
 use Rattle.machine.specs.declared.Word.the-variants as W
@@ -46,39 +46,39 @@ module _ (m : List ℕ) (i : ℕ) where
   unfolding write
   write-past v h = simp (le-ltb _ _ h)
 
--- ---- a turn, from an outcome
+-- ---- a step, from an outcome
 
-left-registers : (s : State) (t : StepResult) → registersOf (s .regs) (asTurn t) ≡ left s t .regs
-unfolding asTurn left
+left-registers : (s : State) (t : StepResult) → registersOf (s .regs) (asResult t) ≡ left s t .regs
+unfolding asResult left
 left-registers s (done t) = refl
 left-registers s (finished t) = refl
 left-registers s (stopped k) = refl
 
-pub turns : (s : State) (t : StepResult) {d : D.StepResult} {m o : List ℕ} → d ≡ asTurn t → m ≡ left s t .mem → o ≡ left s t .out → Steps s t d m o
-turns s t e f g =
+pub steps-by : (s : State) (t : StepResult) {d : D.StepResult} {m o : List ℕ} → d ≡ asResult t → m ≡ left s t .mem → o ≡ left s t .out → Steps s t d m o
+steps-by s t e f g =
     record { answers = e; stops = ap numberOf e; leaves = ap (registersOf (s .regs)) e ∙ left-registers s t; stores = f; writes = g }
 
-pub turned : {s : State} {o : Out State} {r : Registers} {m out : List ℕ} → o ≡ ok (at r m out) → {r′ : Registers} → r′ ≡ r
-    → Steps s (turn o) (T.Done r′) m out
-unfolding asTurn left
-turned e q = turns _ _ (simp (e, q)) (simp e) (simp e)
+pub stepped : {s : State} {o : Out State} {r : Registers} {m out : List ℕ} → o ≡ ok (at r m out) → {r′ : Registers} → r′ ≡ r
+    → Steps s (resultOf o) (T.Done r′) m out
+unfolding asResult left
+stepped e q = steps-by _ _ (simp (e, q)) (simp e) (simp e)
 
-pub turned-stop : {s : State} {o : Out State} {k : ℕ} → o ≡ stop k → Steps s (turn o) (T.Stopped k) (s .mem) (s .out)
-unfolding asTurn left
-turned-stop e = turns _ _ (simp e) (simp e) (simp e)
+pub stepped-stop : {s : State} {o : Out State} {k : ℕ} → o ≡ stop k → Steps s (resultOf o) (T.Stopped k) (s .mem) (s .out)
+unfolding asResult left
+stepped-stop e = steps-by _ _ (simp e) (simp e) (simp e)
 
 pub kept : (s : State) (o : Out Registers) {d : D.StepResult} → d ≡ asActed o → Steps s (keep s o) d (s .mem) (s .out)
-unfolding keep asActed asTurn left
-kept s (ok r) e = turns s _ e refl refl
-kept s (stop k) e = turns s _ e refl refl
+unfolding keep asActed asResult left
+kept s (ok r) e = steps-by s _ e refl refl
+kept s (stop k) e = steps-by s _ e refl refl
 
 pub kept-to : (s : State) {r r′ : Registers} → r′ ≡ r → Steps s (keep s (ok r)) (T.Done r′) (s .mem) (s .out)
-unfolding keep asTurn left
-kept-to s e = turns s _ (ap T.Done e) refl refl
+unfolding keep asResult left
+kept-to s e = steps-by s _ (ap T.Done e) refl refl
 
 pub kept-finished : (s : State) → Steps s (finished s) (T.Finished (s .regs)) (s .mem) (s .out)
-unfolding asTurn left
-kept-finished s = turns s _ refl refl refl
+unfolding asResult left
+kept-finished s = steps-by s _ refl refl refl
 
 -- ---- A, and acts 1 to 4
 
@@ -132,9 +132,9 @@ module _ (x : ℕ) (r : Registers) (m out : List ℕ) where
       called-in h k = simp (← hq, ← hj, write-in m q (r .p) h, write-in (set m q (r .p)) j (r .c) (simp length-set k))
 
       -- the frame put, then what was stored
-      pub called-turns : q < length m → j < length m → {t u : Registers} → t ≡ framed q (r .a) r → u ≡ havingStored q 2 t
-          → Steps (at r m out) (turn (called x (at r m out))) (T.Done u) (set (set m q (r .p)) j (r .c)) out
-      called-turns h k e f = turned (called-in h k) (f ∙ ap (havingStored q 2) e)
+      pub called-steps : q < length m → j < length m → {t u : Registers} → t ≡ framed q (r .a) r → u ≡ havingStored q 2 t
+          → Steps (at r m out) (resultOf (called x (at r m out))) (T.Done u) (set (set m q (r .p)) j (r .c)) out
+      called-steps h k e f = stepped (called-in h k) (f ∙ ap (havingStored q 2) e)
 
       pub called-half : q < length m → length m ≤ j → called x (at r m out) ≡ stop 32
       unfolding called

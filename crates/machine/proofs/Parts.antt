@@ -7,7 +7,7 @@ use mir.Syntax.{w64}
 use mir.Val.{Fits}
 use Rattle.machine.specs.State.{State, at}
 use Rattle.machine.specs.Step.{StepResult, done, finished, stopped, step}
-use Rattle.machine.specs.Run.{Outcome, after, onTurn, steps, resume, carriedOn, largest, allowed}
+use Rattle.machine.specs.Run.{Outcome, after, onResult, steps, resume, carriedOn, largest, allowed}
 use Rattle.machine.specs.Answers.{Ends, outcomeOf, CarriesOn}
 use Rattle.machine.specs.declared.Ran.{Ran}
 use Rattle.machine.proofs.Budget.{resume-add}
@@ -66,15 +66,15 @@ parts-are-whole input (n ∷ ns) s =
 
 -- ---- a run does no more instructions than its budget
 
-counts-turn : (s : State) (t : StepResult) (n : ℕ) (f : State → Outcome) → ((u : State) → f u .count ≤ n) → onTurn s t f .count ≤ suc n
-counts-turn s (done t) n f h = let l = h t in omega arith
-counts-turn s (finished t) n f h = omega arith
-counts-turn s (stopped k) n f h = omega arith
+counts-result : (s : State) (t : StepResult) (n : ℕ) (f : State → Outcome) → ((u : State) → f u .count ≤ n) → onResult s t f .count ≤ suc n
+counts-result s (done t) n f h = let l = h t in omega arith
+counts-result s (finished t) n f h = omega arith
+counts-result s (stopped k) n f h = omega arith
 
 steps-count : (input : List ℕ) (n : ℕ) (s : State) → steps input n s .count ≤ n
 unfolding steps
 steps-count input zero s = omega arith
-steps-count input (suc n) s = counts-turn s (step input s) n (λ t. steps input n t) (λ u. steps-count input n u)
+steps-count input (suc n) s = counts-result s (step input s) n (λ t. steps input n t) (λ u. steps-count input n u)
 
 pub resume-count : (input : List ℕ) (n : ℕ) (s : State) → resume input n s .count ≤ n
 unfolding resume

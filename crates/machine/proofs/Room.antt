@@ -7,9 +7,9 @@ use Rattle.machine.specs.Outcome.{Out, ok, stop, _>>=_, write}
 use Rattle.machine.specs.State.{State, at, withC}
 use Rattle.machine.specs.Fetch.{Fetch, fetch}
 use Rattle.machine.specs.Acts.{Act, unlisted, indirect, negate, invert, back, finish, switch, rdch, wrch, dyadic, actOf, combined, sent}
-use Rattle.machine.specs.Step.{StepResult, done, finished, stopped, turn, keep, stored, called, perform, Function, L, S, A, J, T, F, K, X}
+use Rattle.machine.specs.Step.{StepResult, done, finished, stopped, resultOf, keep, stored, called, perform, Function, L, S, A, J, T, F, K, X}
 use Rattle.machine.specs.Step.{functionOf, execute, onFetch, step}
-use Rattle.machine.specs.Run.{Outcome, after, onTurn, steps}
+use Rattle.machine.specs.Run.{Outcome, after, onResult, steps}
 use Rattle.machine.specs.declared.Registers.{Registers}
 use Rattle.machine.proofs.Shape.{Yields, gives, stops, yields-bind, SameWritten, yields-indirected, yields-returned, yields-switched}
 use Rattle.machine.proofs.Shape.{yields-received, yields-jumped, Sound, sound-act}
@@ -20,7 +20,7 @@ pub record Roomier (written : ℕ) (o o′ : List ℕ) : Type 0 where
   pub room : length o ≤ length o′
   pub same : (i : ℕ) → i < written → getD o i 0 ≡ getD o′ i 0
 
--- two turns alike but for the output's room, or the first stopped for it
+-- two steps alike but for the output's room, or the first stopped for it
 data Alike : StepResult → StepResult → Type 0 where
   both-done : (r : Registers) (m : List ℕ) {o o′ : List ℕ} → Roomier (r .written) o o′ → Alike (done (at r m o)) (done (at r m o′))
   both-finished : (r : Registers) (m : List ℕ) {o o′ : List ℕ} → Roomier (r .written) o o′ → Alike (finished (at r m o)) (finished (at r m o′))
@@ -38,20 +38,20 @@ module _ (r : Registers) {o o′ : List ℕ} (h : Roomier (r .written) o o′) w
 
   -- a memory written, and other registers that leave the output's place
   alike-memory : {r′ : Registers} → SameWritten r r′ → (p : Out (List ℕ))
-      → Alike (turn (p >>= λ m. ok (at r′ m o))) (turn (p >>= λ m. ok (at r′ m o′)))
+      → Alike (resultOf (p >>= λ m. ok (at r′ m o))) (resultOf (p >>= λ m. ok (at r′ m o′)))
   alike-memory {r′} e (ok m) = both-done r′ m (moved e)
   alike-memory e (stop k) = both-stopped k
 
   alike-memories : {r′ : Registers} → SameWritten r r′ → (p : Out (List ℕ)) (f : List ℕ → Out (List ℕ))
-      → Alike (turn (p >>= λ m. (f m >>= λ n. ok (at r′ n o)))) (turn (p >>= λ m. (f m >>= λ n. ok (at r′ n o′))))
+      → Alike (resultOf (p >>= λ m. (f m >>= λ n. ok (at r′ n o)))) (resultOf (p >>= λ m. (f m >>= λ n. ok (at r′ n o′))))
   alike-memories e (ok m) f = alike-memory e (f m)
   alike-memories e (stop k) f = both-stopped k
 
-  alike-stored : (x : ℕ) (m : List ℕ) → Alike (turn (stored x (at r m o))) (turn (stored x (at r m o′)))
+  alike-stored : (x : ℕ) (m : List ℕ) → Alike (resultOf (stored x (at r m o))) (resultOf (stored x (at r m o′)))
   unfolding stored
   alike-stored x m = alike-memory (record { same = refl }) (write m x (r .a))
 
-  alike-called : (x : ℕ) (m : List ℕ) → Alike (turn (called x (at r m o))) (turn (called x (at r m o′)))
+  alike-called : (x : ℕ) (m : List ℕ) → Alike (resultOf (called x (at r m o))) (resultOf (called x (at r m o′)))
   unfolding called
   alike-called x m = alike-memories (record { same = refl }) (write m _ (r .p)) (λ n. write n _ (r .c))
 
@@ -66,7 +66,7 @@ module _ (r : Registers) {o o′ : List ℕ} (h : Roomier (r .written) o o′) w
       go i k (yes e) = rw e (getD-set-same o (r .written) v 0 l ∙ sym (getD-set-same o′ (r .written) v 0 (lt-of-lt-of-le l (h .room))))
       go i k (no e) = getD-set-other o (r .written) i v 0 e ∙ h .same i (omega arith) ∙ sym (getD-set-other o′ (r .written) i v 0 e)
 
-  alike-sent : (m : List ℕ) → Alike (turn (sent (at r m o))) (turn (sent (at r m o′)))
+  alike-sent : (m : List ℕ) → Alike (resultOf (sent (at r m o))) (resultOf (sent (at r m o′)))
   unfolding sent
   alike-sent m =
       by-cases (ltb (r .written) (length o))
@@ -119,19 +119,19 @@ one-later : {x y : Outcome} → Beginning x y → Beginning (after 1 x) (after 1
 one-later (whole k n r m h) = whole k (1 + n) r m h
 one-later (cut n s x h k) = cut (1 + n) s (after 1 x) h k
 
-turn-beginning : (r : Registers) (m : List ℕ) {o o′ : List ℕ} → Roomier (r .written) o o′ → (f : State → Outcome)
+result-beginning : (r : Registers) (m : List ℕ) {o o′ : List ℕ} → Roomier (r .written) o o′ → (f : State → Outcome)
     → ((r₁ : Registers) (m₁ o₁ o₂ : List ℕ) → Roomier (r₁ .written) o₁ o₂ → Beginning (f (at r₁ m₁ o₁)) (f (at r₁ m₁ o₂)))
-    → {t t′ : StepResult} → Alike t t′ → Grows (at r m o′) (onTurn (at r m o′) t′ f .state)
-    → Beginning (onTurn (at r m o) t f) (onTurn (at r m o′) t′ f)
-turn-beginning r m h f ih (both-done r₁ m₁ {o = o₁} {o′ = o₂} k) g = one-later (ih r₁ m₁ o₁ o₂ k)
-turn-beginning r m h f ih (both-finished r₁ m₁ k) g = whole 30 1 r₁ m₁ k
-turn-beginning r m h f ih (both-stopped k) g = whole k 0 r m h
-turn-beginning r m {o} h f ih (full t) g = cut 0 (at r m o) _ (g .place) (λ i l. h .same i l ∙ sym (g .kept i l))
+    → {t t′ : StepResult} → Alike t t′ → Grows (at r m o′) (onResult (at r m o′) t′ f .state)
+    → Beginning (onResult (at r m o) t f) (onResult (at r m o′) t′ f)
+result-beginning r m h f ih (both-done r₁ m₁ {o = o₁} {o′ = o₂} k) g = one-later (ih r₁ m₁ o₁ o₂ k)
+result-beginning r m h f ih (both-finished r₁ m₁ k) g = whole 30 1 r₁ m₁ k
+result-beginning r m h f ih (both-stopped k) g = whole k 0 r m h
+result-beginning r m {o} h f ih (full t) g = cut 0 (at r m o) _ (g .place) (λ i l. h .same i l ∙ sym (g .kept i l))
 
 pub room-beginning : (input : List ℕ) (n : ℕ) (r : Registers) (m o o′ : List ℕ) → Roomier (r .written) o o′
     → Beginning (steps input n (at r m o)) (steps input n (at r m o′))
 unfolding steps
 room-beginning input zero r m o o′ h = whole 31 0 r m h
 room-beginning input (suc n) r m o o′ h =
-    turn-beginning r m h (λ t. steps input n t) (λ r₁ m₁ o₁ o₂ k. room-beginning input n r₁ m₁ o₁ o₂ k) (alike input r m h)
+    result-beginning r m h (λ t. steps input n t) (λ r₁ m₁ o₁ o₂ k. room-beginning input n r₁ m₁ o₁ o₂ k) (alike input r m h)
     (steps-grow input (suc n) (at r m o′))

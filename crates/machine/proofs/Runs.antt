@@ -5,15 +5,15 @@ use Rattle.machine.specs.Outcome.{Out, ok, stop}
 use Rattle.machine.specs.State.{State, at, withC, startRegisters}
 use Rattle.machine.specs.Fetch.{Fetch, fetch}
 use Rattle.machine.specs.Step.{StepResult, done, finished, stopped, functionOf, execute, step}
-use Rattle.machine.specs.Run.{Outcome, after, onTurn, steps, resume, run}
-use Rattle.machine.specs.Answers.{asFetched, asTurn, left, Steps, Ends}
+use Rattle.machine.specs.Run.{Outcome, after, onResult, steps, resume, run}
+use Rattle.machine.specs.Answers.{asFetched, asResult, left, Steps, Ends}
 use Rattle.machine.specs.declared.Registers.{Registers}
 use Rattle.machine.specs.declared.Ran.{Ran}
 use Rattle.machine.specs.declared.Fetched.{Fetched}
 use Rattle.machine.specs.declared.Fetched.the-variants as F
 use Rattle.machine.specs.declared.StepResult as D
 use Rattle.machine.specs.declared.StepResult.the-variants as T
-use Rattle.machine.proofs.Laws.{turns}
+use Rattle.machine.proofs.Laws.{steps-by}
 
 -- ---- one instruction, from the fetch's answer, matched
 
@@ -36,18 +36,18 @@ unfolding asFetched
 fetched-stop r (ok t) p q = contradiction cc
 fetched-stop r (stop k) p q = cc
 
--- a turn said from a state with other registers
+-- a step said from a state with other registers
 from-other : (r r′ : Registers) (m out : List ℕ) (t : StepResult) {d : D.StepResult} {m′ o′ : List ℕ} → Steps (at r′ m out) t d m′ o′
     → Steps (at r m out) t d m′ o′
 unfolding left
-from-other r r′ m out (done t) h = turns _ _ (h .answers) (h .stores) (h .writes)
-from-other r r′ m out (finished t) h = turns _ _ (h .answers) (h .stores) (h .writes)
-from-other r r′ m out (stopped k) h = turns _ _ (h .answers) (h .stores) (h .writes)
+from-other r r′ m out (done t) h = steps-by _ _ (h .answers) (h .stores) (h .writes)
+from-other r r′ m out (finished t) h = steps-by _ _ (h .answers) (h .stores) (h .writes)
+from-other r r′ m out (stopped k) h = steps-by _ _ (h .answers) (h .stores) (h .writes)
 
 module _ (input : List ℕ) (r : Registers) (m out : List ℕ) {a : Fetched} (p : a ≡ asFetched r (fetch r m)) where
   pub step-stop : {k : ℕ} → a ≡ F.Stopped k → Steps (at r m out) (step input (at r m out)) (T.Stopped k) m out
-  unfolding step asTurn left
-  step-stop q = let e = fetched-stop r (fetch r m) p q in turns _ _ (simp e) (simp e) (simp e)
+  unfolding step asResult left
+  step-stop q = let e = fetched-stop r (fetch r m) p q in steps-by _ _ (simp e) (simp e) (simp e)
 
   step-from : {f x c : ℕ} {r′ : Registers} {d : D.StepResult} {m′ o′ : List ℕ} → fetch r m ≡ ok (record { function = f; operand = x; past = c })
       → r′ ≡ withC c r
@@ -61,43 +61,43 @@ module _ (input : List ℕ) (r : Registers) (m out : List ℕ) {a : Fetched} (p 
       → Steps (at r′ m out) (execute input (functionOf f) x (at r′ m out)) d m′ o′ → Steps (at r m out) (step input (at r m out)) d m′ o′
   step-one q h = let one = fetched-one r (fetch r m) p q in step-from (one .fetched) (one .moved) h
 
--- ---- a turn's answer, matched
+-- ---- a step's answer, matched
 
-turned-done : {s : State} (t : StepResult) {d : D.StepResult} {r : Registers} {m out : List ℕ} → Steps s t d m out → d ≡ T.Done r
+stepped-done : {s : State} (t : StepResult) {d : D.StepResult} {r : Registers} {m out : List ℕ} → Steps s t d m out → d ≡ T.Done r
     → t ≡ done (at r m out)
-unfolding asTurn left
-turned-done (done t) {r = r} h q =
+unfolding asResult left
+stepped-done (done t) {r = r} h q =
     let e : t .regs ≡ r = cc (h .answers) in
     λ i. done (record { regs = e i; mem = sym (h .stores) i; out = sym (h .writes) i })
-turned-done (finished t) h q = contradiction cc (h .answers)
-turned-done (stopped k) h q = contradiction cc (h .answers)
+stepped-done (finished t) h q = contradiction cc (h .answers)
+stepped-done (stopped k) h q = contradiction cc (h .answers)
 
-turned-finished : {s : State} (t : StepResult) {d : D.StepResult} {r : Registers} {m out : List ℕ} → Steps s t d m out → d ≡ T.Finished r
+stepped-finished : {s : State} (t : StepResult) {d : D.StepResult} {r : Registers} {m out : List ℕ} → Steps s t d m out → d ≡ T.Finished r
     → t ≡ finished (at r m out)
-unfolding asTurn left
-turned-finished (finished t) {r = r} h q =
+unfolding asResult left
+stepped-finished (finished t) {r = r} h q =
     let e : t .regs ≡ r = cc (h .answers) in
     λ i. finished (record { regs = e i; mem = sym (h .stores) i; out = sym (h .writes) i })
-turned-finished (done t) h q = contradiction cc (h .answers)
-turned-finished (stopped k) h q = contradiction cc (h .answers)
+stepped-finished (done t) h q = contradiction cc (h .answers)
+stepped-finished (stopped k) h q = contradiction cc (h .answers)
 
 record Stuck (s : State) (t : StepResult) (k : ℕ) (m out : List ℕ) : Type 0 where
   stops : t ≡ stopped k
   stores : m ≡ s .mem
   writes : out ≡ s .out
 
-turned-stopped : {s : State} (t : StepResult) {d : D.StepResult} {k : ℕ} {m out : List ℕ} → Steps s t d m out → d ≡ T.Stopped k → Stuck s t k m out
-unfolding asTurn left
-turned-stopped (done t) h q = contradiction cc (h .answers)
-turned-stopped (finished t) h q = contradiction cc (h .answers)
-turned-stopped (stopped k) h q = record { stops = cc (h .answers); stores = h .stores; writes = h .writes }
+stepped-stopped : {s : State} (t : StepResult) {d : D.StepResult} {k : ℕ} {m out : List ℕ} → Steps s t d m out → d ≡ T.Stopped k → Stuck s t k m out
+unfolding asResult left
+stepped-stopped (done t) h q = contradiction cc (h .answers)
+stepped-stopped (finished t) h q = contradiction cc (h .answers)
+stepped-stopped (stopped k) h q = record { stops = cc (h .answers); stores = h .stores; writes = h .writes }
 
--- ---- a run's first turn
+-- ---- a run's first step
 
-pub steps-turn : (input : List ℕ) (n : ℕ) (s : State) → 0 < n → steps input n s ≡ onTurn s (step input s) (λ t. steps input (n - 1) t)
+pub steps-first : (input : List ℕ) (n : ℕ) (s : State) → 0 < n → steps input n s ≡ onResult s (step input s) (λ t. steps input (n - 1) t)
 unfolding steps
-steps-turn input zero s h = absurd (omega arith)
-steps-turn input (suc n) s h = let z : suc n - 1 ≡ n = omega arith in simp z
+steps-first input zero s h = absurd (omega arith)
+steps-first input (suc n) s h = let z : suc n - 1 ≡ n = omega arith in simp z
 
 after-after : (a b c : ℕ) (o : Outcome) → a + b ≡ c → after a (after b o) ≡ after c o
 after-after a b c o e = let z : a + (b + o .count) ≡ c + o .count = omega arith in λ i. record { stop = o .stop; count = z i; state = o .state }
@@ -123,25 +123,25 @@ module _ (input : List ℕ) (n : ℕ) (s₀ : State) (rest : ℕ) (r : Registers
 
   module _ (pos : 0 < rest) {d : D.StepResult} {m′ out′ : List ℕ} (did : Steps (at r m out) (step input (at r m out)) d m′ out′) where
     first : {t : StepResult} → step input (at r m out) ≡ t
-        → steps input n s₀ ≡ after (n - rest) (onTurn (at r m out) t (λ u. steps input (rest - 1) u))
+        → steps input n s₀ ≡ after (n - rest) (onResult (at r m out) t (λ u. steps input (rest - 1) u))
     first e =
-        h .whole ∙ ap (after (n - rest)) (steps-turn input rest (at r m out) pos ∙
-        ap (λ (t : StepResult). onTurn (at r m out) t (λ u. steps input (rest - 1) u)) e)
+        h .whole ∙ ap (after (n - rest)) (steps-first input rest (at r m out) pos ∙
+        ap (λ (t : StepResult). onResult (at r m out) t (λ u. steps input (rest - 1) u)) e)
 
     pub left-run-steps : {t : Registers} → d ≡ T.Done t → Left input n s₀ (rest - 1) (at t m′ out′)
     left-run-steps q =
         let le = h .within in
         record {
           within = omega arith;
-          whole = first (turned-done _ did q) ∙ after-after (n - rest) 1 (n - (rest - 1)) _ (omega arith);
+          whole = first (stepped-done _ did q) ∙ after-after (n - rest) 1 (n - (rest - 1)) _ (omega arith);
         }
 
     pub left-finish : {t : Registers} → d ≡ T.Finished t → Ends (steps input n s₀) (record { stop = 30; count = n - rest + 1; registers = t }) m′ out′
-    left-finish q = rw (first (turned-finished _ did q)) (record { stops = refl; counts = refl; leaves = refl; stores = refl; writes = refl })
+    left-finish q = rw (first (stepped-finished _ did q)) (record { stops = refl; counts = refl; leaves = refl; stores = refl; writes = refl })
 
     pub left-stop : {k : ℕ} → d ≡ T.Stopped k → Ends (steps input n s₀) (record { stop = k; count = n - rest; registers = r }) m′ out′
     left-stop q =
-        let e = turned-stopped _ did q in
+        let e = stepped-stopped _ did q in
         rw (first (e .stops)) (record { stops = refl; counts = omega arith; leaves = refl; stores = e .stores; writes = e .writes })
 
 -- ---- the memory's length

@@ -7,7 +7,7 @@ use Rattle.machine.specs.State.{State, at, withC}
 use Rattle.machine.specs.Fetch.{Fetch, fetch, bit}
 use Rattle.machine.specs.Acts.{Act, unlisted, indirect, negate, invert, back, finish, switch, rdch, wrch, dyadic, unlessZero, acts, actOf}
 use Rattle.machine.specs.Acts.{indirected, returned, combined, search, switched, received, sent}
-use Rattle.machine.specs.Step.{StepResult, done, finished, stopped, turn, keep, stored, called, jumped, perform, Function, L, S, A, J, T, F, K}
+use Rattle.machine.specs.Step.{StepResult, done, finished, stopped, resultOf, keep, stored, called, jumped, perform, Function, L, S, A, J, T, F, K}
 use Rattle.machine.specs.Step.{X, functionOf, execute, step, onFetch}
 use Rattle.machine.specs.declared.Registers.{Registers}
 
@@ -108,7 +108,7 @@ sound-acts =
 pub sound-act : (n : ℕ) → Sound (actOf n)
 sound-act n = all-at Sound unlisted tt acts sound-acts n
 
--- ---- a turn: done or finished with the output as it was, or with one byte more; or a stop above 31
+-- ---- a step: done or finished with the output as it was, or with one byte more; or a stop above 31
 
 pub record Quiet (s t : State) : Type 0 where
   pub memory : length (t .mem) ≡ length (s .mem)
@@ -136,9 +136,9 @@ unfolding keep
 shape-keep s (gives e) = quiet (record { memory = refl; output = refl; place = e .same })
 shape-keep s (stops h) = halts h
 
-shape-turn : {s : State} {o : Out State} → Yields (Quiet s) o → Shape s (turn o)
-shape-turn (gives e) = quiet e
-shape-turn (stops h) = halts h
+shape-result : {s : State} {o : Out State} → Yields (Quiet s) o → Shape s (resultOf o)
+shape-result (gives e) = quiet e
+shape-result (stops h) = halts h
 
 record SameLength (m m′ : List ℕ) : Type 0 where
   same : length m′ ≡ length m
@@ -147,18 +147,18 @@ yields-write : (m : List ℕ) (i v : ℕ) → Yields (SameLength m) (write m i v
 unfolding write
 yields-write m i v = yields-cond (ltb i (length m)) (gives (record { same = length-set m i v })) (stops (lit< tt))
 
-shape-stored : (x : ℕ) (s : State) → Shape s (turn (stored x s))
+shape-stored : (x : ℕ) (s : State) → Shape s (resultOf (stored x s))
 unfolding stored
-shape-stored x s = shape-turn (yields-bind (yields-write (s .mem) x _) (λ m e. gives (record { memory = e .same; output = refl; place = refl })))
+shape-stored x s = shape-result (yields-bind (yields-write (s .mem) x _) (λ m e. gives (record { memory = e .same; output = refl; place = refl })))
 
-shape-called : (x : ℕ) (s : State) → Shape s (turn (called x s))
+shape-called : (x : ℕ) (s : State) → Shape s (resultOf (called x s))
 unfolding called
 shape-called x s =
-    shape-turn
+    shape-result
     (yields-bind (yields-write (s .mem) _ _) (λ m e.
     yields-bind (yields-write m _ _) (λ n f. gives (record { memory = f .same ∙ e .same; output = refl; place = refl }))))
 
-shape-sent : (s : State) → Shape s (turn (sent s))
+shape-sent : (s : State) → Shape s (resultOf (sent s))
 unfolding sent
 shape-sent s =
     by-cases (ltb (s .regs .written) (length (s .out)))

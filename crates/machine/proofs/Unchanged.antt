@@ -7,9 +7,9 @@ use Rattle.machine.specs.State.{State, at}
 use Rattle.machine.specs.Fetch.{Fetch, fetch}
 use Rattle.machine.specs.Acts.{Act, unlisted, indirect, negate, invert, back, finish, switch, rdch, wrch, dyadic, actOf, indirected, returned}
 use Rattle.machine.specs.Acts.{combined, search, switched, received, sent}
-use Rattle.machine.specs.Step.{StepResult, done, finished, stopped, turn, keep, stored, called, jumped, perform, Function, L, S, A, J, T, F, K}
+use Rattle.machine.specs.Step.{StepResult, done, finished, stopped, resultOf, keep, stored, called, jumped, perform, Function, L, S, A, J, T, F, K}
 use Rattle.machine.specs.Step.{X, functionOf, execute, onFetch, step}
-use Rattle.machine.specs.Run.{Outcome, onTurn, steps, resume, run}
+use Rattle.machine.specs.Run.{Outcome, onResult, steps, resume, run}
 use Rattle.machine.specs.declared.Registers.{Registers}
 use Rattle.machine.proofs.Without as W
 
@@ -21,10 +21,10 @@ bare r = record { a = r .a; b = r .b; c = r .c; p = r .p; g = r .g; taken = r .t
 abbrev pub bareState : State → W.State
 bareState s = W.at (bare (s .regs)) (s .mem) (s .out)
 
-abbrev pub bareTurn : StepResult → W.StepResult
-bareTurn (done t) = W.done (bareState t)
-bareTurn (finished t) = W.finished (bareState t)
-bareTurn (stopped k) = W.stopped k
+abbrev pub bareResult : StepResult → W.StepResult
+bareResult (done t) = W.done (bareState t)
+bareResult (finished t) = W.finished (bareState t)
+bareResult (stopped k) = W.stopped k
 
 abbrev pub bareOutcome : Outcome → W.Outcome
 bareOutcome o = record { stop = o .stop; count = o .count; state = bareState (o .state) }
@@ -39,14 +39,14 @@ map-bind : {A B C : Type 0} (h : B → C) (o : Out A) (f : A → Out B) {g : A �
 map-bind h (ok a) f e = e a
 map-bind h (stop k) f e = refl
 
-same-keep : (s : State) (o : Out Registers) {o′ : Out W.Registers} → map bare o ≡ o′ → bareTurn (keep s o) ≡ W.keep (bareState s) o′
+same-keep : (s : State) (o : Out Registers) {o′ : Out W.Registers} → map bare o ≡ o′ → bareResult (keep s o) ≡ W.keep (bareState s) o′
 unfolding keep W.keep
 same-keep s (ok r) e = rw (← e) refl
 same-keep s (stop k) e = rw (← e) refl
 
-same-turn : (o : Out State) {o′ : Out W.State} → map bareState o ≡ o′ → bareTurn (turn o) ≡ W.turn o′
-same-turn (ok s) e = rw (← e) refl
-same-turn (stop k) e = rw (← e) refl
+same-result : (o : Out State) {o′ : Out W.State} → map bareState o ≡ o′ → bareResult (resultOf o) ≡ W.resultOf o′
+same-result (ok s) e = rw (← e) refl
+same-result (stop k) e = rw (← e) refl
 
 -- ---- the acts
 
@@ -95,7 +95,7 @@ same-called x s = map-bind bareState (write (s .mem) _ (s .regs .p)) _ (λ m. ma
 
 -- ---- one instruction
 
-same-perform : (input : List ℕ) (a : Act) (s : State) → bareTurn (perform input a s) ≡ W.perform input a (bareState s)
+same-perform : (input : List ℕ) (a : Act) (s : State) → bareResult (perform input a s) ≡ W.perform input a (bareState s)
 unfolding perform W.perform
 same-perform input unlisted s = refl
 same-perform input indirect s = same-keep s _ (same-indirected (s .regs) (s .mem))
@@ -106,41 +106,41 @@ same-perform input (dyadic f) s = same-keep s _ (same-combined (s .regs) (s .mem
 same-perform input finish s = refl
 same-perform input switch s = same-keep s _ (same-switched (s .regs) (s .mem))
 same-perform input rdch s = same-keep s _ (ap ok (same-received (s .regs) input))
-same-perform input wrch s = same-turn (sent s) (same-sent s)
+same-perform input wrch s = same-result (sent s) (same-sent s)
 
-same-execute : (input : List ℕ) (f : Function) (x : ℕ) (s : State) → bareTurn (execute input f x s) ≡ W.execute input f x (bareState s)
+same-execute : (input : List ℕ) (f : Function) (x : ℕ) (s : State) → bareResult (execute input f x s) ≡ W.execute input f x (bareState s)
 unfolding execute W.execute
 same-execute input L x s = same-keep s _ refl
-same-execute input S x s = same-turn (stored x s) (same-stored x s)
+same-execute input S x s = same-result (stored x s) (same-stored x s)
 same-execute input A x s = same-keep s _ refl
 same-execute input J x s = same-keep s _ refl
 same-execute input T x s = same-keep s _ (ap ok (same-jumped _ x (s .regs)))
 same-execute input F x s = same-keep s _ (ap ok (same-jumped _ x (s .regs)))
-same-execute input K x s = same-turn (called x s) (same-called x s)
+same-execute input K x s = same-result (called x s) (same-called x s)
 same-execute input X x s = same-perform input (actOf x) s
 
-same-fetched : (input : List ℕ) (s : State) (o : Out Fetch) → bareTurn (onFetch input s o) ≡ W.onFetch input (bareState s) o
+same-fetched : (input : List ℕ) (s : State) (o : Out Fetch) → bareResult (onFetch input s o) ≡ W.onFetch input (bareState s) o
 same-fetched input s (ok f) = same-execute input (functionOf (f .function)) (f .operand) _
 same-fetched input s (stop k) = refl
 
-pub step-unchanged : (input : List ℕ) (s : State) → bareTurn (step input s) ≡ W.step input (bareState s)
+pub step-unchanged : (input : List ℕ) (s : State) → bareResult (step input s) ≡ W.step input (bareState s)
 unfolding step W.step
 step-unchanged input s = same-fetched input s (fetch (s .regs) (s .mem)) ∙ ap (W.onFetch input (bareState s)) (same-fetch (s .regs) (s .mem))
 
 -- ---- a run, whatever its stop
 
-same-on-turn : (s : State) (t : StepResult) (f : State → Outcome) (g : W.State → W.Outcome) → ((u : State) → bareOutcome (f u) ≡ g (bareState u))
-    → bareOutcome (onTurn s t f) ≡ W.onTurn (bareState s) (bareTurn t) g
-same-on-turn s (done t) f g e = ap (W.after 1) (e t)
-same-on-turn s (finished t) f g e = refl
-same-on-turn s (stopped k) f g e = refl
+same-on-result : (s : State) (t : StepResult) (f : State → Outcome) (g : W.State → W.Outcome) → ((u : State) → bareOutcome (f u) ≡ g (bareState u))
+    → bareOutcome (onResult s t f) ≡ W.onResult (bareState s) (bareResult t) g
+same-on-result s (done t) f g e = ap (W.after 1) (e t)
+same-on-result s (finished t) f g e = refl
+same-on-result s (stopped k) f g e = refl
 
 pub steps-unchanged : (input : List ℕ) (n : ℕ) (s : State) → bareOutcome (steps input n s) ≡ W.steps input n (bareState s)
 unfolding steps W.steps
 steps-unchanged input zero s = refl
 steps-unchanged input (suc n) s =
-    same-on-turn s (step input s) (λ t. steps input n t) (λ t. W.steps input n t) (λ t. steps-unchanged input n t)
-    ∙ ap (λ (t : W.StepResult). W.onTurn (bareState s) t (λ u. W.steps input n u)) (step-unchanged input s)
+    same-on-result s (step input s) (λ t. steps input n t) (λ t. W.steps input n t) (λ t. steps-unchanged input n t)
+    ∙ ap (λ (t : W.StepResult). W.onResult (bareState s) t (λ u. W.steps input n u)) (step-unchanged input s)
 
 pub resume-unchanged : (input : List ℕ) (n : ℕ) (s : State) → bareOutcome (resume input n s) ≡ W.resume input n (bareState s)
 unfolding resume W.resume

@@ -95,9 +95,9 @@ pub data StepResult : Type 0 where
   done finished : State → StepResult
   stopped : ℕ → StepResult
 
-abbrev pub turn : Out State → StepResult
-turn (ok s) = done s
-turn (stop k) = stopped k
+abbrev pub resultOf : Out State → StepResult
+resultOf (ok s) = done s
+resultOf (stop k) = stopped k
 
 unfoldable pub keep : State → Out Registers → StepResult
 keep s (ok r) = done (at r (s .mem) (s .out))
@@ -129,16 +129,16 @@ perform input (dyadic f) s = keep s (combined f (s .regs))
 perform input finish s = finished s
 perform input switch s = keep s (switched (s .regs) (s .mem))
 perform input rdch s = keep s (ok (received (s .regs) input))
-perform input wrch s = turn (sent s)
+perform input wrch s = resultOf (sent s)
 
 unfoldable pub execute : List ℕ → Function → ℕ → State → StepResult
 execute input L x s = keep s (ok (loaded x (s .regs)))
-execute input S x s = turn (stored x s)
+execute input S x s = resultOf (stored x s)
 execute input A x s = keep s (ok (withA (add (s .regs .a) x) (s .regs)))
 execute input J x s = keep s (ok (withC x (s .regs)))
 execute input T x s = keep s (ok (jumped (not (eqb (s .regs .a) 0)) x (s .regs)))
 execute input F x s = keep s (ok (jumped (eqb (s .regs .a) 0) x (s .regs)))
-execute input K x s = turn (called x s)
+execute input K x s = resultOf (called x s)
 execute input X x s = perform input (actOf x) s
 
 abbrev pub onFetch : List ℕ → State → Out Fetch → StepResult
@@ -158,14 +158,14 @@ pub record Outcome : Type 0 where
 abbrev pub after : ℕ → Outcome → Outcome
 after n o = record { stop = o .stop; count = n + o .count; state = o .state }
 
-abbrev pub onTurn : State → StepResult → (State → Outcome) → Outcome
-onTurn s (done t) more = after 1 (more t)
-onTurn s (finished t) more = record { stop = 30; count = 1; state = t }
-onTurn s (stopped k) more = record { stop = k; count = 0; state = s }
+abbrev pub onResult : State → StepResult → (State → Outcome) → Outcome
+onResult s (done t) more = after 1 (more t)
+onResult s (finished t) more = record { stop = 30; count = 1; state = t }
+onResult s (stopped k) more = record { stop = k; count = 0; state = s }
 
 unfoldable pub steps : List ℕ → (budget : ℕ) → State → Outcome
 steps input zero s = record { stop = 31; count = 0; state = s }
-steps input (suc n) s = onTurn s (step input s) (λ t. steps input n t)
+steps input (suc n) s = onResult s (step input s) (λ t. steps input n t)
 
 unfoldable pub resume : List ℕ → (budget : ℕ) → State → Outcome
 resume input n s =

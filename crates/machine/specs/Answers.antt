@@ -37,10 +37,10 @@ unfoldable pub asActed : Out Registers → StepResult
 asActed (ok r) = T.Done r
 asActed (stop k) = T.Stopped k
 
-unfoldable pub asTurn : S.StepResult → StepResult
-asTurn (S.done t) = T.Done (t .regs)
-asTurn (S.finished t) = T.Finished (t .regs)
-asTurn (S.stopped k) = T.Stopped k
+unfoldable pub asResult : S.StepResult → StepResult
+asResult (S.done t) = T.Done (t .regs)
+asResult (S.finished t) = T.Finished (t .regs)
+asResult (S.stopped k) = T.Stopped k
 
 -- document 01's numbers of an answer: 30 finished, or the stop, and 0 where the run goes on; and the registers, which a stop leaves as
 -- they were
@@ -54,19 +54,19 @@ registersOf r (T.Done t) = t
 registersOf r (T.Finished t) = t
 registersOf r (T.Stopped k) = r
 
--- where a turn leaves the state: a stop leaves it as it was
+-- where a step leaves the state: a stop leaves it as it was
 unfoldable pub left : State → S.StepResult → State
 left s (S.done t) = t
 left s (S.finished t) = t
 left s (S.stopped k) = s
 
--- an answer, and the lent memory and output at exit, are what a turn from a state gives
-pub record Steps (s : State) (turn : S.StepResult) (answer : StepResult) (memory output : List ℕ) : Type 0 where
-  pub answers : answer ≡ asTurn turn
-  pub stops : numberOf answer ≡ numberOf (asTurn turn)
-  pub leaves : registersOf (s .regs) answer ≡ left s turn .regs
-  pub stores : memory ≡ left s turn .mem
-  pub writes : output ≡ left s turn .out
+-- an answer, and the lent memory and output at exit, are what a step from a state gives
+pub record Steps (s : State) (result : S.StepResult) (answer : StepResult) (memory output : List ℕ) : Type 0 where
+  pub answers : answer ≡ asResult result
+  pub stops : numberOf answer ≡ numberOf (asResult result)
+  pub leaves : registersOf (s .regs) answer ≡ left s result .regs
+  pub stores : memory ≡ left s result .mem
+  pub writes : output ≡ left s result .out
 
 -- a run's answer, and the lent memory and output at exit, are what the definition gives
 pub record Ends (outcome : Outcome) (answer : Ran) (memory output : List ℕ) : Type 0 where

@@ -17,15 +17,15 @@ abbrev pub after : ℕ → Outcome → Outcome
 after n o = record { stop = o .stop; count = n + o .count; state = o .state }
 
 -- 30: finished, which is counted. On any other stop the state is the one before the instruction met
-abbrev pub onTurn : State → StepResult → (State → Outcome) → Outcome
-onTurn s (done t) more = after 1 (more t)
-onTurn s (finished t) more = record { stop = 30; count = 1; state = t }
-onTurn s (stopped k) more = record { stop = k; count = 0; state = s }
+abbrev pub onResult : State → StepResult → (State → Outcome) → Outcome
+onResult s (done t) more = after 1 (more t)
+onResult s (finished t) more = record { stop = 30; count = 1; state = t }
+onResult s (stopped k) more = record { stop = k; count = 0; state = s }
 
 -- at most so many instructions; 31: budget
 unfoldable pub steps : List ℕ → (budget : ℕ) → State → Outcome
 steps input zero s = record { stop = 31; count = 0; state = s }
-steps input (suc n) s = onTurn s (step input s) (λ t. steps input n t)
+steps input (suc n) s = onResult s (step input s) (λ t. steps input n t)
 
 -- From any registers and places, as they are handed in: an input place past the end reads -1 and stays, an output place past the room stops
 -- 35 at the next write, and what the registers say of the last store stays until an instruction is done.

@@ -16,9 +16,9 @@ pub data StepResult : Type 0 where
   done finished : State → StepResult
   stopped : ℕ → StepResult
 
-abbrev pub turn : Out State → StepResult
-turn (ok s) = done s
-turn (stop k) = stopped k
+abbrev pub resultOf : Out State → StepResult
+resultOf (ok s) = done s
+resultOf (stop k) = stopped k
 
 -- the state with what an act on the registers gives
 unfoldable pub keep : State → Out Registers → StepResult
@@ -55,7 +55,7 @@ perform input (dyadic f) s = keep s (combined f (s .regs))
 perform input finish s = finished s
 perform input switch s = keep s (switched (s .regs) (s .mem))
 perform input rdch s = keep s (ok (received (s .regs) input))
-perform input wrch s = turn (sent s)
+perform input wrch s = resultOf (sent s)
 
 pub data Function : Type 0 where
   L S A J T F K X : Function
@@ -69,12 +69,12 @@ functionOf n = getD functions n X
 -- what a function does with its operand, C being past the instruction
 unfoldable pub execute : List ℕ → Function → ℕ → State → StepResult
 execute input L x s = keep s (ok (loaded x (s .regs)))
-execute input S x s = turn (stored x s)
+execute input S x s = resultOf (stored x s)
 execute input A x s = keep s (ok (withA (add (s .regs .a) x) (s .regs)))
 execute input J x s = keep s (ok (withC x (s .regs)))
 execute input T x s = keep s (ok (jumped (not (eqb (s .regs .a) 0)) x (s .regs)))
 execute input F x s = keep s (ok (jumped (eqb (s .regs .a) 0) x (s .regs)))
-execute input K x s = turn (called x s)
+execute input K x s = resultOf (called x s)
 execute input X x s = perform input (actOf x) s
 
 abbrev pub onFetch : List ℕ → State → Out Fetch → StepResult

@@ -12,7 +12,7 @@ ghost use Rattle.machine.specs.State.{at, startRegisters, withA, withC, 
 ghost use Rattle.machine.specs.Fetch.{fetch};
 ghost use Rattle.machine.specs.Forms.{fetchedAt, fetchedFrom, decoded};
 ghost use Rattle.machine.specs.Acts.{actOf, indirected, returned, combined, search, switched, received, sent};
-ghost use Rattle.machine.specs.Step.{turn, stored, called, jumped, perform, functionOf, execute, step};
+ghost use Rattle.machine.specs.Step.{resultOf, stored, called, jumped, perform, functionOf, execute, step};
 ghost use Rattle.machine.specs.Run.{steps, resume, allowed, run};
 ghost use Rattle.machine.specs.Answers.{asWord, asQuotient, asFetched, asActed, Steps, Ends, CarriesOn};
 ghost use Rattle.machine.specs.Numbers.{valueOf};
@@ -423,7 +423,7 @@ impl Registers {
 
     // X28.
     fn wrch(self, memory: &mut [u16], output: &mut [u8]) -> StepResult
-        ensures { λ r. ⌜ Steps (at self (now (memory .entry)) (now (output .entry))) (turn (sent (at self (now (memory .entry)) (now (output .entry))))) r (now (memory .exit)) (now (output .exit)) ⌝ }
+        ensures { λ r. ⌜ Steps (at self (now (memory .entry)) (now (output .entry))) (resultOf (sent (at self (now (memory .entry)) (now (output .entry))))) r (now (memory .exit)) (now (output .exit)) ⌝ }
     {
         let written = self.written;
         if written < output.len() {
@@ -447,7 +447,7 @@ impl Registers {
 
     // S.
     fn store(self, x: u16, memory: &mut [u16], output: &mut [u8]) -> StepResult
-        ensures { λ r. ⌜ Steps (at self (now (memory .entry)) (now (output .entry))) (turn (stored x (at self (now (memory .entry)) (now (output .entry))))) r (now (memory .exit)) (now (output .exit)) ⌝ }
+        ensures { λ r. ⌜ Steps (at self (now (memory .entry)) (now (output .entry))) (resultOf (stored x (at self (now (memory .entry)) (now (output .entry))))) r (now (memory .exit)) (now (output .exit)) ⌝ }
     {
         let i = x as usize;
         let a = self.a;
@@ -461,7 +461,7 @@ impl Registers {
 
     // K.
     fn call(self, x: u16, memory: &mut [u16], output: &mut [u8]) -> StepResult
-        ensures { λ r. ⌜ Steps (at self (now (memory .entry)) (now (output .entry))) (turn (called x (at self (now (memory .entry)) (now (output .entry))))) r (now (memory .exit)) (now (output .exit)) ⌝ }
+        ensures { λ r. ⌜ Steps (at self (now (memory .entry)) (now (output .entry))) (resultOf (called x (at self (now (memory .entry)) (now (output .entry))))) r (now (memory .exit)) (now (output .exit)) ⌝ }
     {
         let frame = words::sum(self.p, x);
         let p = self.p;

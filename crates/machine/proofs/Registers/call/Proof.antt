@@ -1,4 +1,4 @@
-use Rattle.machine.proofs.Laws.{turned-stop, called-turns, called-half, called-past}
+use Rattle.machine.proofs.Laws.{stepped-stop, called-steps, called-half, called-past}
 use Rattle.laws.proofs.Basics.{needs}
 use Rattle.machine.proofs.Registers.call.Statement.{statement}
 use Rattle.machine.proofs.Registers.call.Tie as tie
@@ -7,5 +7,5 @@ pub call-spec : {M : Type 1} → statement M
 call-spec =
     tie.close
     (tie.spec (λ c κs. search needs) (λ c. search needs) (λ c κs. search needs) (λ c. search needs) (λ c. search needs) (λ c. search needs)
-    (λ c. search needs) (λ c. search needs) (λ c κs. search needs) (λ c κs. search needs) (λ c. search needs) (λ c. search called-turns)
-    (λ c. search (turned-stop, called-half)) (λ c. search (turned-stop, called-past)))
+    (λ c. search needs) (λ c. search needs) (λ c κs. search needs) (λ c κs. search needs) (λ c. search needs) (λ c. search called-steps)
+    (λ c. search (stepped-stop, called-half)) (λ c. search (stepped-stop, called-past)))

@@ -1,4 +1,4 @@
-use Rattle.machine.proofs.Laws.{turned, turned-stop, stored-in, stored-past}
+use Rattle.machine.proofs.Laws.{stepped, stepped-stop, stored-in, stored-past}
 use Rattle.laws.proofs.Basics.{needs}
 use Rattle.machine.proofs.Registers.store.Statement.{statement}
 use Rattle.machine.proofs.Registers.store.Tie as tie
@@ -6,4 +6,4 @@ use Rattle.machine.proofs.Registers.store.Tie as tie
 pub store-spec : {M : Type 1} → statement M
 store-spec =
     tie.close
-    (tie.spec (search needs) (search needs) (search needs) (search needs) (λ c. search (turned, stored-in)) (λ c. search (turned-stop, stored-past)))
+    (tie.spec (search needs) (search needs) (search needs) (search needs) (λ c. search (stepped, stored-in)) (λ c. search (stepped-stop, stored-past)))
