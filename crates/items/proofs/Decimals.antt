@@ -1,5 +1,6 @@
 -- Decimals, digit by digit.
-use Rattle.laws.proofs.Basics.{ℕ, suc, _+_, _-_, _*_, _<_, _≤_, _≡_, refl, sym, _∙_, List, Bool, true, false, cond, length, getD, drop, leb, leb-true}
+use Rattle.laws.proofs.Basics.{ℕ, suc, _+_, _-_, _*_, _<_, _≤_, _≡_, refl, sym, _∙_, List, Bool, true, false, cond, length, getD, drop, leb, arith}
+use Rattle.laws.proofs.Basics.{leb-true}
 use Rattle.laws.proofs.Basics.{le-leb, lt-leb}
 use Rattle.laws.proofs.Cases.{contradiction}
 use Rattle.text.proofs.Bytes.{at-byte, past-end}
@@ -27,25 +28,45 @@ digit-bounds c = low (leb 48 c) refl
 pub digit-ready : {n : ℕ} (c : ℕ) → n ≤ 65536 → isDigit c ≡ true → (n ≤ 65536) × (48 ≤ c) × (c ≤ 57)
 digit-ready c h e = let d : (48 ≤ c) × (c ≤ 57) = digit-bounds c e in (h, d .0, d .1)
 
--- a turn of the loop over digits, at the byte c
-module _ (text : List ℕ) (i n : ℕ) where
-  pub digits-end : length text ≤ i → (digits n (drop i text) ≡ n) × (digitCount (drop i text) ≡ 0)
+-- ---- the loop over digits
+
+-- the number so far is n, and the digits from i on make of it what all of them make
+pub record SoFar (text : List ℕ) (at n i : ℕ) : Type 0 where
+  pub small : n ≤ 65536
+  pub value : digits n (drop i text) ≡ digits 0 (drop at text)
+  pub place : i + digitCount (drop i text) ≡ at + digitCount (drop at text)
+
+pub digits-start : (text : List ℕ) (at : ℕ) → SoFar text at 0 at
+digits-start text at = record { small = omega arith; value = refl; place = refl }
+
+-- the number is read, and ends at i
+record Whole (text : List ℕ) (at n i : ℕ) : Type 0 where
+  value : n ≡ digits 0 (drop at text)
+  place : i ≡ at + digitCount (drop at text)
+
+module _ {text : List ℕ} {at n i : ℕ} (s : SoFar text at n i) where
+  digits-end : length text ≤ i → Whole text at n i
   unfolding digits digitCount
-  digits-end h = (past-end (digits n) text i h, past-end digitCount text i h)
+  digits-end h = record { value = sym (past-end (digits n) text i h) ∙ s .value; place = omega (arith, past-end digitCount text i h, s .place) }
 
   module _ (h : i < length text) {c : ℕ} (e : c ≡ head (drop i text)) where
     here : getD text i 0 ≡ c
     here = sym (head-in text i h) ∙ sym e
 
-    pub digits-stop : isDigit c ≡ false → (digits n (drop i text) ≡ n) × (digitCount (drop i text) ≡ 0)
+    digits-stop : isDigit c ≡ false → Whole text at n i
     unfolding digits digitCount
-    digits-stop k = (at-byte (digits n) text i h here ∙ rw k, at-byte digitCount text i h here ∙ rw k)
+    digits-stop k = record {
+      value = sym (at-byte (digits n) text i h here ∙ rw k) ∙ s .value;
+      place = let z : digitCount (drop i text) ≡ 0 = at-byte digitCount text i h here ∙ rw k in omega arith;
+    }
 
-    pub digits-more : isDigit c ≡ true
-        → (digits n (drop i text) ≡ digits (capped (n * 10 + (c - 48))) (drop (i + 1) text)) ×
-        (digitCount (drop i text) ≡ suc (digitCount (drop (i + 1) text)))
+    pub digits-more : {m : ℕ} → isDigit c ≡ true → m ≡ capped (n * 10 + (c - 48)) → SoFar text at m (i + 1)
     unfolding digits digitCount
-    digits-more k = (at-byte (digits n) text i h here ∙ rw k, at-byte digitCount text i h here ∙ rw k)
+    digits-more k q = record {
+      small = omega arith;
+      value = rw q (sym (at-byte (digits n) text i h here ∙ rw k) ∙ s .value);
+      place = let z : digitCount (drop i text) ≡ suc (digitCount (drop (i + 1) text)) = at-byte digitCount text i h here ∙ rw k in omega arith;
+    }
 
 -- ---- the answer, from the definition and back
 
@@ -55,10 +76,16 @@ module _ (text : List ℕ) (at : ℕ) where
     unfolding decimal asDecimal
     no-decimal k = rw (← e, k)
 
-    pub a-decimal : {n i : ℕ} → isDigit c ≡ true → n ≡ digits 0 (drop at text) → i ≡ at + digitCount (drop at text)
-        → D.Got n i ≡ asDecimal at (decimal (drop at text))
-    unfolding decimal asDecimal
-    a-decimal k p q = rw (← e, k, p, q)
+    module _ (k : isDigit c ≡ true) {n i : ℕ} (s : SoFar text at n i) where
+      whole : Whole text at n i → D.Got n i ≡ asDecimal at (decimal (drop at text))
+      unfolding decimal asDecimal
+      whole w = rw (← e, k, w .value, w .place)
+
+      pub decimal-stops : {d : ℕ} → i < length text → d ≡ head (drop i text) → isDigit d ≡ false → D.Got n i ≡ asDecimal at (decimal (drop at text))
+      decimal-stops h f l = whole (digits-stop s h f l)
+
+      pub decimal-ends : length text ≤ i → D.Got n i ≡ asDecimal at (decimal (drop at text))
+      decimal-ends h = whole (digits-end s h)
 
   module _ {r : ReadDecimal} (e : r ≡ asDecimal at (decimal (drop at text))) where
     pub decimal-reads : {v p : ℕ} → r ≡ D.Got v p → Reads decimal text at v p

@@ -84,7 +84,8 @@ grows-one {s} {t} q =
       within = λ l. let h = q .room in omega arith;
     }
 
-grows-result : (s : State) {t : StepResult} → Shape s t → (f : State → Outcome) → ((u : State) → Grows u (f u .state)) → Grows s (onResult s t f .state)
+grows-result : (s : State) {t : StepResult} → Shape s t → (f : State → Outcome) → ((u : State) → Grows u (f u .state))
+    → Grows s (onResult s t f .state)
 grows-result s (quiet {t = t} q) f h = grows-on (grows-quiet q) (h t)
 grows-result s (one-more {t = t} q) f h = grows-on (grows-one q) (h t)
 grows-result s (ends q) f h = grows-quiet q

@@ -54,7 +54,8 @@ left-registers s (done t) = refl
 left-registers s (finished t) = refl
 left-registers s (stopped k) = refl
 
-pub steps-by : (s : State) (t : StepResult) {d : D.StepResult} {m o : List ℕ} → d ≡ asResult t → m ≡ left s t .mem → o ≡ left s t .out → Steps s t d m o
+pub steps-by : (s : State) (t : StepResult) {d : D.StepResult} {m o : List ℕ} → d ≡ asResult t → m ≡ left s t .mem → o ≡ left s t .out
+    → Steps s t d m o
 steps-by s t e f g =
     record { answers = e; stops = ap numberOf e; leaves = ap (registersOf (s .regs)) e ∙ left-registers s t; stores = f; writes = g }
 

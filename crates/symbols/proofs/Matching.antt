@@ -1,6 +1,6 @@
 -- Brackets: the stack as the definitions' list, and the first refusal, one symbol at a time.
-use Rattle.laws.proofs.Basics.{ℕ, zero, suc, _+_, _-_, _<_, _≤_, _≡_, refl, sym, ap, _∙_, List, [], _∷_, Bool, length, getD, set}
-use Rattle.laws.proofs.Basics.{length-set, getD-set-same, getD-set-other, sets, eqb, add-one, arith, eq-eqb, ne-eqb}
+use Rattle.laws.proofs.Basics.{ℕ, zero, suc, _+_, _-_, _<_, _≤_, _≡_, refl, sym, ap, _∙_, List, [], _∷_, Bool, length, getD, set, length-set}
+use Rattle.laws.proofs.Basics.{getD-set-same, getD-set-other, sets, eqb, add-one, arith, eq-eqb, ne-eqb}
 use Rattle.laws.proofs.Cases.{by-cases}
 use Rattle.text.proofs.Bytes.{Unlike}
 use Rattle.language.specs.Symbols.{Fault, none, fault, Scan, goesOn, scan}

@@ -3,6 +3,7 @@ use Rattle.laws.proofs.Basics.{ℕ, suc, _+_, _-_, _*_, _<_, _≤_, _≡_, refl
 use Rattle.laws.proofs.Basics.{⊎-elim, length, getD, drop, ltb, leb, arith, ltb-true, ltb-false, lt-ltb, le-ltb, leb-true, le-leb, lt-leb}
 use Rattle.laws.proofs.Cases.{by-cases, contradiction}
 use native.Mathlib.Nat.{mul-le-mul, le-mul-of-pos-right}
+use Rattle.symbols.proofs.Runs.{digits-run, Running, run-starts, run-ends, run-stops, run-goes-on}
 use Rattle.text.proofs.Bytes.{at-byte, past-end}
 use Rattle.language.specs.Symbols.{digitOf, digits, valueOf, decimal, octal}
 use Rattle.symbols.specs.Parts.{capped}
@@ -80,30 +81,51 @@ alike-value base h (c ∷ r) v w a =
 pub product : (n base : ℕ) → n ≤ 65536 → base ≤ 10 → n * base ≤ 655360
 product n base h k = mul-le-mul h k
 
-module _ (base n : ℕ) (text : List ℕ) (i : ℕ) where
-  pub value-end : length text ≤ i → n ≤ 65536 → capped (valueOf base n (drop i text)) ≡ n
+-- the digits from i on make of the number n so far what all of them make
+pub record Digits (base : ℕ) (text : List ℕ) (at n i : ℕ) : Type 0 where
+  pub run : Running (digits-run base) text at i
+  pub small : n ≤ 65536
+  pub value : capped (valueOf base n (drop i text)) ≡ capped (valueOf base 0 (drop at text))
+
+pub digits-start : (base : ℕ) (text : List ℕ) (at : ℕ) → Digits base text at 0 at
+digits-start base text at = record { run = run-starts (digits-run base) text at; small = omega arith; value = refl }
+
+-- how many there are, and what they make
+abbrev Read : (base : ℕ) (text : List ℕ) (at n i : ℕ) → Type 0
+Read base text at n i = (i - at ≡ digits base (drop at text)) × (n ≡ capped (valueOf base 0 (drop at text)))
+
+module _ {base : ℕ} {text : List ℕ} {at n i : ℕ} (s : Digits base text at n i) where
+  pub digits-end : length text ≤ i → Read base text at n i
   unfolding valueOf
-  value-end h k = ap capped (past-end (valueOf base n) text i h) ∙ capped-own n k
+  digits-end h = (
+    run-ends (digits-run base) (s .run) h,
+    sym (ap capped (past-end (valueOf base n) text i h) ∙ capped-own n (s .small)) ∙ s .value,
+  )
 
   module _ (h : i < length text) {c : ℕ} (e : c ≡ getD text i 0) where
-    pub value-stop : digitOf base c ≡ false → n ≤ 65536 → capped (valueOf base n (drop i text)) ≡ n
+    pub digits-stop : digitOf base c ≡ false → Read base text at n i
     unfolding valueOf
-    value-stop k l = ap capped (at-byte (valueOf base n) text i h (sym e) ∙ stopped (digitOf base c) k) ∙ capped-own n l
+    digits-stop k = (
+      run-stops (digits-run base) (s .run) h (rw e at k),
+      sym (ap capped (at-byte (valueOf base n) text i h (sym e) ∙ stopped (digitOf base c) k) ∙ capped-own n (s .small)) ∙ s .value,
+    )
       where
         stopped : (t : Bool) → t ≡ false → elim t [ true ↦ valueOf base (n * base + (c - 48)) (drop (i + 1) text) | false ↦ n ] ≡ n
         stopped true j = contradiction cc
         stopped false j = refl
 
-    pub value-more : 1 ≤ base → digitOf base c ≡ true
-        → capped (valueOf base n (drop i text)) ≡ capped (valueOf base (capped (n * base + (c - 48))) (drop (i + 1) text))
+    pub digits-more : {m : ℕ} → 1 ≤ base → digitOf base c ≡ true → m ≡ capped (n * base + (c - 48)) → Digits base text at m (i + 1)
     unfolding valueOf
-    value-more b k =
-        ap capped (at-byte (valueOf base n) text i h (sym e) ∙ went (digitOf base c) k) ∙
-        sym (alike-capped _ _ (alike-value base b (drop (i + 1) text) _ _ (capped-alike (n * base + (c - 48)))))
+    digits-more b k q = record {
+      run = run-goes-on (digits-run base) (s .run) h (rw e at k);
+      small = rw q (capped-within _);
+      value = rw q (alike-capped _ _ (alike-value base b (drop (i + 1) text) _ _ (capped-alike (n * base + (c - 48)))))
+          ∙ sym (ap capped (at-byte (valueOf base n) text i h (sym e) ∙ went (digitOf base c) k)) ∙ s .value;
+    }
       where
         went : (t : Bool) → t ≡ true
-            → elim t [ true ↦ valueOf base (n * base + (c - 48)) (drop (i + 1) text) | false ↦ n ] ≡ valueOf base (n * base + (c - 48))
-            (drop (i + 1) text)
+            → elim t [ true ↦ valueOf base (n * base + (c - 48)) (drop (i + 1) text) | false ↦ n ]
+            ≡ valueOf base (n * base + (c - 48)) (drop (i + 1) text)
         went true j = refl
         went false j = contradiction cc
 

@@ -1,5 +1,6 @@
 -- Runs of bytes that pass a test: the letters of a word, the digits of a number, the bytes of a comment.
-use Rattle.laws.proofs.Basics.{ℕ, suc, _+_, _<_, _≤_, _≡_, refl, sym, ap, _∙_, List, [], _∷_, Bool, true, false, not, cond, length, getD, take, drop}
+use Rattle.laws.proofs.Basics.{ℕ, suc, _+_, _-_, _<_, _≤_, _≡_, refl, sym, ap, _∙_, List, [], _∷_, Bool, true, false, not, cond, length, getD, take}
+use Rattle.laws.proofs.Basics.{drop}
 use Rattle.laws.proofs.Basics.{eqb, arith, eqb-true}
 use Rattle.laws.proofs.Cases.{contradiction}
 use Rattle.text.specs.Line.{newlines}
@@ -36,17 +37,26 @@ comment-run = record { none = refl; some = λ c r. by (eqb c 10) (toLineEnd r) }
     by false n = refl
 
 module _ {p : ℕ → Bool} {f : List ℕ → ℕ} (run : Run p f) where
-  -- ---- at a place of a text
-  module _ (text : List ℕ) (i : ℕ) where
-    pub run-end : length text ≤ i → f (drop i text) ≡ 0
-    run-end h = past-end f text i h ∙ run .none
+  -- ---- the loop over a run: from i on it goes on as from its beginning
+  pub record Running (text : List ℕ) (at i : ℕ) : Type 0 where
+    pub begun : at ≤ i
+    pub same : i + f (drop i text) ≡ at + f (drop at text)
+
+  pub run-starts : (text : List ℕ) (at : ℕ) → Running text at at
+  run-starts text at = record { begun = omega arith; same = refl }
+
+  module _ {text : List ℕ} {at i : ℕ} (r : Running text at i) where
+    pub run-ends : length text ≤ i → i - at ≡ f (drop at text)
+    run-ends h = omega (arith, past-end f text i h ∙ run .none)
 
     module _ (h : i < length text) where
-      pub run-stop : p (getD text i 0) ≡ false → f (drop i text) ≡ 0
-      run-stop e = at-byte f text i h refl ∙ run .some _ _ ∙ rw e
+      pub run-stops : p (getD text i 0) ≡ false → i - at ≡ f (drop at text)
+      run-stops e = let z : f (drop i text) ≡ 0 = at-byte f text i h refl ∙ run .some _ _ ∙ rw e in omega arith
 
-      pub run-more : p (getD text i 0) ≡ true → f (drop i text) ≡ suc (f (drop (i + 1) text))
-      run-more e = at-byte f text i h refl ∙ run .some _ _ ∙ rw e
+      pub run-goes-on : p (getD text i 0) ≡ true → Running text at (i + 1)
+      run-goes-on e =
+          let z : f (drop i text) ≡ suc (f (drop (i + 1) text)) = at-byte f text i h refl ∙ run .some _ _ ∙ rw e in
+          record { begun = omega arith; same = omega arith }
 
   -- ---- all of them
   pub run-within : (bytes : List ℕ) → f bytes ≤ length bytes

@@ -15,45 +15,40 @@ abbrev μ-loop : tie.MeasureT-loop
 
 returns-3 : tie.Need-returns-3 Inv-loop μ-loop
 returns-3 c =
-    laying-fault _ _ _ _ _ _ _ _ _ (c .before .before .before .before .before .before .before .loop .inv)
-    (reads-one _ _ (c .before .before .before .before .before .before .next-in .ensures) (c .before .before .before .before .next2 .given .1))
-    (c .before .fault .ensures) (c .if1 .taken)
+    let read = c .before .before .before .before in let called = read .before .before in
+    let one = reads-one _ _ (called .next-in .ensures) (read .next2 .given .1) in
+    laying-fault _ _ _ _ _ _ _ _ _ (called .before .loop .inv) one (c .before .fault .ensures) (c .if1 .taken)
 
 note-requires : tie.Need-note-requires Inv-loop μ-loop
 note-requires c κs =
-    let x = c .before .before in
-    laying-notable _ _ _ _ _ _ _ _ _ (x .before .before .before .before .before .before .before .loop .inv)
-    (reads-one _ _ (x .before .before .before .before .before .before .next-in .ensures) (x .before .before .before .before .next2 .given .1))
-    (x .before .fault .ensures) (x .if1 .left) (omega arith)
+    let x = c .before .before in let read = x .before .before .before .before in let called = read .before .before in
+    let one = reads-one _ _ (called .next-in .ensures) (read .next2 .given .1) in
+    laying-notable _ _ _ _ _ _ _ _ _ (called .before .loop .inv) one (x .before .fault .ensures) (x .if1 .left) (omega arith)
 
 size-requires : tie.Need-size-requires Inv-loop μ-loop
 size-requires c κs =
-    let x = c .before .before .before .before .before in
-    laying-in-range _ _ _ _ _ _ _ _ _ (x .before .before .before .before .before .before .before .loop .inv)
-    (reads-one _ _ (x .before .before .before .before .before .before .next-in .ensures) (x .before .before .before .before .next2 .given .1))
-    (x .before .fault .ensures) (x .if1 .left)
+    let x = c .before .before .before .before .before in let read = x .before .before .before .before in let called = read .before .before in
+    let one = reads-one _ _ (called .next-in .ensures) (read .next2 .given .1) in
+    laying-in-range _ _ _ _ _ _ _ _ _ (called .before .loop .inv) one (x .before .fault .ensures) (x .if1 .left)
 
 add-at : tie.Need-add-at Inv-loop μ-loop
 add-at c =
-    let x = c .before .before .before .before .before .before in
-    let fits = laying-size _ _ _ _ _ _ _ _ _ (x .before .before .before .before .before .before .before .loop .inv)
-    (reads-one _ _ (x .before .before .before .before .before .before .next-in .ensures) (x .before .before .before .before .next2 .given .1))
-    (x .before .fault .ensures) (x .if1 .left) (c .size .ensures) in
+    let x = c .before .before .before .before .before .before in let read = x .before .before .before .before in let called = read .before .before in
+    let one = reads-one _ _ (called .next-in .ensures) (read .next2 .given .1) in
+    let fits = laying-size _ _ _ _ _ _ _ _ _ (called .before .loop .inv) one (x .before .fault .ensures) (x .if1 .left) (c .size .ensures) in
     omega (arith, fits)
 
 loop-less : tie.Need-loop-less Inv-loop μ-loop
 loop-less c =
-    let x = c .before .before .before .before .before .before in
-    let read =
-    reads-one _ _ (x .before .before .before .before .before .before .next-in .ensures) (x .before .before .before .before .next2 .given .1) in
-    omega (arith, read .onward, read .within)
+    let x = c .before .before .before .before .before .before in let read = x .before .before .before .before in
+    let one = reads-one _ _ (read .before .before .next-in .ensures) (read .next2 .given .1) in
+    omega (arith, one .onward, one .within)
 
 loop-again : tie.Need-loop-again Inv-loop μ-loop
 loop-again c =
-    let x = c .before .before .before .before .before .before in
-    laying-on _ _ _ _ _ _ _ _ _ (x .before .before .before .before .before .before .before .loop .inv)
-    (reads-one _ _ (x .before .before .before .before .before .before .next-in .ensures) (x .before .before .before .before .next2 .given .1))
-    (x .before .fault .ensures) (x .if1 .left) (c .before .before .before .note .ensures) (c .size .ensures)
+    let noted = c .before .before .before in let x = noted .before .before .before in let read = x .before .before .before .before in
+    let called = read .before .before in let one = reads-one _ _ (called .next-in .ensures) (read .next2 .given .1) in
+    laying-on _ _ _ _ _ _ _ _ _ (called .before .loop .inv) one (x .before .fault .ensures) (x .if1 .left) (noted .note .ensures) (c .size .ensures)
 
 pub lay-out-spec : {M : Type 1} → statement M
 lay-out-spec =

@@ -19,18 +19,14 @@ add-write-string c =
 cast-write-string : tie.Need-cast-write-string
 unfolding itemOf
 cast-write-string c =
-    omega (
-      arith,
-      string-length _ _ _ _ _
-          (rw (c .before .before .item3 .given .1) at (c .before .before .before .before .before .before .pre .0))
-          (c .before .before .before .before .before .before .pre .1 .spelled _ (c .before .before .item3 .given .1)),
-    )
+    let matched = c .before .before in let start = matched .before .before .before .before in let is = matched .item3 .given .1 in
+    omega (arith, string-length _ _ _ _ _ (rw is at (start .pre .0)) (start .pre .1 .spelled _ is))
 
 write-string-requires : tie.Need-write-string-requires
 unfolding itemOf
 write-string-requires c κs =
-    string-spelling _ _ _ _ _ (rw (c .before .before .item3 .given .1) at (c .before .before .before .before .before .before .pre .0))
-    (c .before .before .before .before .before .before .pre .1 .spelled _ (c .before .before .item3 .given .1))
+    let matched = c .before .before in let start = matched .before .before .before .before in let is = matched .item3 .given .1 in
+    string-spelling _ _ _ _ _ (rw is at (start .pre .0)) (start .pre .1 .spelled _ is)
 
 write-global-requires : tie.Need-write-global-requires
 unfolding itemOf
@@ -47,12 +43,9 @@ returns-3 c = rw (c .before .before .before .before .before .item2 .given .1) (c
 returns-4 : tie.Need-returns-4
 unfolding itemOf
 returns-4 c =
-    rw (c .before .before .before .before .before .item3 .given .1)
-    (string-writes _ _ _ _ _
-    (rw (c .before .before .before .before .before .item3 .given .1) at
-    (c .before .before .before .before .before .before .before .before .before .pre .0))
-    (c .before .before .before .before .before .before .before .before .before .pre .1 .spelled _
-    (c .before .before .before .before .before .item3 .given .1)) _ (c .before .before .write-string .ensures))
+    let matched = c .before .before .before .before .before in let start = matched .before .before .before .before in
+    let is = matched .item3 .given .1 in
+    rw is (string-writes _ _ _ _ _ (rw is at (start .pre .0)) (start .pre .1 .spelled _ is) _ (c .before .before .write-string .ensures))
 
 returns-5 : tie.Need-returns-5
 unfolding itemOf

@@ -14,89 +14,58 @@ abbrev μ-loop : tie.MeasureT-loop
 
 returns : tie.Need-returns Inv-loop μ-loop
 returns c =
-    let loop = c .before .before .before .loop in
-    let character-at = c .before .before .character-at in
-    let enum-told = c .enum-told in
-    absurd (not-ended _ _ (loop .inv .spelling .quoting) (when-ended _ (character-at .ensures) (enum-told .given .1)))
+    let called = c .before .before in
+    absurd (not-ended _ _ (called .before .loop .inv .spelling .quoting) (when-ended _ (called .character-at .ensures) (c .enum-told .given .1)))
 
 returns-2 : tie.Need-returns-2 Inv-loop μ-loop
 returns-2 c =
-    let loop = c .before .before .before .loop in
-    let character-at = c .before .before .character-at in
-    let enum-told2 = c .enum-told2 in
-    absurd (no-mistake _ _ (loop .inv .spelling .quoting) (when-mistake _ (character-at .ensures) (enum-told2 .given .1)))
+    let called = c .before .before in
+    absurd (no-mistake _ _ (called .before .loop .inv .spelling .quoting) (when-mistake _ (called .character-at .ensures) (c .enum-told2 .given .1)))
 
 add-place : tie.Need-add-place Inv-loop μ-loop
 add-place c =
-    omega (
-      arith,
-      past-character (c .before .before .before .before .before .before .before .before .args .text .now)
-          (c .before .before .before .before .before .loop .place)
-          (when-is _ (c .before .before .before .before .character-at .ensures) (c .before .before .one .given .1)) .0,
-    )
+    let matched = c .before .before in let called = matched .before .before in let head = called .before in
+    let one = when-is _ (called .character-at .ensures) (matched .one .given .1) in
+    omega (arith, past-character (head .before .before .before .args .text .now) (head .loop .place) one .0)
 
 returns-4 : tie.Need-returns-4 Inv-loop μ-loop
 returns-4 c =
-    let loop = c .before .before .before .before .before .before .before .before .loop in
-    let character-at = c .before .before .before .before .before .before .before .character-at in
-    let one = c .before .before .before .before .before .one in
-    let pair2 = c .before .before .before .pair2 in
-    let character-at2 = c .before .before .character-at2 in
-    let enum-told4 = c .enum-told4 in
-    absurd
-    (second-not-ended _ _ _ _ _ _ _ _ _ (loop .inv) (when-is _ (character-at .ensures) (one .given .1)) (pair2 .ensures)
-    (when-ended _ (character-at2 .ensures) (enum-told4 .given .1)))
+    let again = c .before .before in let paired = again .before in let matched = paired .before .before in let called = matched .before .before in
+    let one = when-is _ (called .character-at .ensures) (matched .one .given .1) in
+    let ended = when-ended _ (again .character-at2 .ensures) (c .enum-told4 .given .1) in
+    absurd (second-not-ended _ _ _ _ _ _ _ _ _ (called .before .loop .inv) one (paired .pair2 .ensures) ended)
 
 returns-5 : tie.Need-returns-5 Inv-loop μ-loop
 returns-5 c =
-    let loop = c .before .before .before .before .before .before .before .before .loop in
-    let character-at = c .before .before .before .before .before .before .before .character-at in
-    let one = c .before .before .before .before .before .one in
-    let pair2 = c .before .before .before .pair2 in
-    let character-at2 = c .before .before .character-at2 in
-    let enum-told5 = c .enum-told5 in
-    absurd
-    (second-no-mistake _ _ _ _ _ _ _ _ _ (loop .inv) (when-is _ (character-at .ensures) (one .given .1)) (pair2 .ensures)
-    (when-mistake _ (character-at2 .ensures) (enum-told5 .given .1)))
+    let again = c .before .before in let paired = again .before in let matched = paired .before .before in let called = matched .before .before in
+    let one = when-is _ (called .character-at .ensures) (matched .one .given .1) in
+    let mistake = when-mistake _ (again .character-at2 .ensures) (c .enum-told5 .given .1) in
+    absurd (second-no-mistake _ _ _ _ _ _ _ _ _ (called .before .loop .inv) one (paired .pair2 .ensures) mistake)
 
 returns-6 : tie.Need-returns-6 Inv-loop μ-loop
 returns-6 c =
-    let loop = c .before .before .before .before .before .before .before .before .loop in
-    let character-at = c .before .before .before .before .before .before .before .character-at in
-    let one = c .before .before .before .before .before .one in
-    let pair2 = c .before .before .before .pair2 in
-    spells-odd _ _ _ _ _ _ _ _ _ (loop .inv) (when-is _ (character-at .ensures) (one .given .1)) (pair2 .ensures) (search when-closing)
+    let paired = c .before .before .before in let matched = paired .before .before in let called = matched .before .before in
+    let one = when-is _ (called .character-at .ensures) (matched .one .given .1) in
+    spells-odd _ _ _ _ _ _ _ _ _ (called .before .loop .inv) one (paired .pair2 .ensures) (search when-closing)
 
 add-place-2 : tie.Need-add-place-2 Inv-loop μ-loop
 add-place-2 c =
+    let two = when-is _ (c .before .before .before .before .character-at2 .ensures) (c .before .before .two .given .1) in
     omega (
       arith,
       past-character
           (c .before .before .before .before .before .before .before .before .before .before .before .before .before .args .text .now)
           (c .before .before .before .before .before .before .before .before .before .before .loop .place +
-          c .before .before .before .before .before .before .before .one .given .0 .1 .0)
-          (when-is _ (c .before .before .before .before .character-at2 .ensures) (c .before .before .two .given .1)) .0,
+          c .before .before .before .before .before .before .before .one .given .0 .1 .0) two .0,
     )
 
 loop-less : tie.Need-loop-less Inv-loop μ-loop
 loop-less c =
-    let args = c .before .before .before .before .before .before .before .before .before .before .before .before .before .args in
-    let loop = c .before .before .before .before .before .before .before .before .before .before .loop in
-    let character-at = c .before .before .before .before .before .before .before .before .before .character-at in
-    let one = c .before .before .before .before .before .before .before .one in
-    let character-at2 = c .before .before .before .before .character-at2 in
-    let two = c .before .before .two in
-    omega (
-      arith,
-      past-character
-          (args .text .now)
-          (loop .place)
-          (when-is _ (character-at .ensures) (one .given .1)),
-      past-character (args .text .now)
-          (loop .place +
-          one .given .0 .1 .0)
-          (when-is _ (character-at2 .ensures) (two .given .1)),
-    )
+    let second = c .before .before in let again = second .before .before in let matched = again .before .before .before in
+    let called = matched .before .before in let head = called .before in let text = head .before .before .before .args .text .now in
+    let one = when-is _ (called .character-at .ensures) (matched .one .given .1) in
+    let two = when-is _ (again .character-at2 .ensures) (second .two .given .1) in
+    omega (arith, past-character text (head .loop .place) one, past-character text (head .loop .place + matched .one .given .0 .1 .0) two)
 
 pub write-string-spec : {M : Type 1} → statement M
 write-string-spec =

@@ -12,52 +12,29 @@ abbrev μ-loop : tie.MeasureT-loop
 
 add-t16 : tie.Need-add-t16 Inv-loop μ-loop
 add-t16 c =
-    let args = c .before .before .before .before .before .before .before .args in
-    let loop = c .before .before .before .before .before .loop in
-    let loop-test = c .before .before .before .before .loop-test in
-    let element-at = c .before .before .before .element-at in
-    omega (
-      arith,
-      symbol-inside (args .text .now) (loop .i) (loop-test .taken)
-          (when-symbol (elementAt (args .text .now) (loop .i)) (element-at .ensures) (c .before .element .given .1)),
-    )
+    let called = c .before .before .before in let head = called .before .before in let text = head .before .before .args .text .now in
+    let read = when-symbol (elementAt text (head .loop .i)) (called .element-at .ensures) (c .before .element .given .1) in
+    omega (arith, symbol-inside text (head .loop .i) (called .before .loop-test .taken) read)
 
 add-t17 : tie.Need-add-t17 Inv-loop μ-loop
 add-t17 c =
-    let args = c .before .before .before .before .before .before .before .args in
-    let loop = c .before .before .before .before .before .loop in
-    let loop-test = c .before .before .before .before .loop-test in
-    let element-at = c .before .before .before .element-at in
-    let element2 = c .before .element2 in
-    let text = args .text .now in
-    let i = loop .i in
-    omega (arith, wrong-inside text i (loop-test .taken) (when-wrong (elementAt text i) (element-at .ensures) (element2 .given .1)))
+    let called = c .before .before .before in let head = called .before .before in let text = head .before .before .args .text .now in
+    let read = when-wrong (elementAt text (head .loop .i)) (called .element-at .ensures) (c .before .element2 .given .1) in
+    omega (arith, wrong-inside text (head .loop .i) (called .before .loop-test .taken) read)
 
 add-i : tie.Need-add-i Inv-loop μ-loop
 add-i c =
-    let args = c .before .before .before .before .before .before .before .before .before .args in
-    let loop = c .before .before .before .before .before .before .before .loop in
-    let loop-test = c .before .before .before .before .before .before .loop-test in
-    let element-at = c .before .before .before .before .before .element-at in
-    let element3 = c .before .before .before .element3 in
-    omega (
-      arith,
-      gap-inside (args .text .now) (args .at) (loop .i) (loop .inv) (loop-test .taken)
-          (when-gap (elementAt (args .text .now) (loop .i)) (element-at .ensures) (element3 .given .1)),
-    )
+    let matched = c .before .before .before in let called = matched .before .before in let head = called .before .before in
+    let text = head .before .before .args .text .now in
+    let read = when-gap (elementAt text (head .loop .i)) (called .element-at .ensures) (matched .element3 .given .1) in
+    omega (arith, gap-inside _ _ _ (head .loop .inv) (called .before .loop-test .taken) read)
 
 loop-less : tie.Need-loop-less Inv-loop μ-loop
 loop-less c =
-    let args = c .before .before .before .before .before .before .before .before .before .args in
-    let loop = c .before .before .before .before .before .before .before .loop in
-    let loop-test = c .before .before .before .before .before .before .loop-test in
-    let element-at = c .before .before .before .before .before .element-at in
-    let element3 = c .before .before .before .element3 in
-    omega (
-      arith,
-      gap-inside (args .text .now) (args .at) (loop .i) (loop .inv) (loop-test .taken)
-          (when-gap (elementAt (args .text .now) (loop .i)) (element-at .ensures) (element3 .given .1)),
-    )
+    let matched = c .before .before .before in let called = matched .before .before in let head = called .before .before in
+    let text = head .before .before .args .text .now in
+    let read = when-gap (elementAt text (head .loop .i)) (called .element-at .ensures) (matched .element3 .given .1) in
+    omega (arith, gap-inside _ _ _ (head .loop .inv) (called .before .loop-test .taken) read)
 
 pub next-symbol-spec : {M : Type 1} → statement M
 next-symbol-spec =

@@ -15,60 +15,46 @@ abbrev μ-loop : tie.MeasureT-loop
 
 add-i : tie.Need-add-i Inv-loop μ-loop
 add-i c =
-    let args = c .before .before .before .before .before .before .args in
-    omega (
-      arith,
-      is-inside (args .quote) (args .text .now) (c .before .before .before .before .loop .i)
-          (when-is _ (c .before .before .before .character-at .ensures) (c .before .c .given .1)),
-    )
+    let called = c .before .before .before in let head = called .before in let args = head .before .before .args in
+    omega (arith, is-inside (args .quote) (args .text .now) (head .loop .i) (when-is _ (called .character-at .ensures) (c .before .c .given .1)))
 
 loop-less : tie.Need-loop-less Inv-loop μ-loop
 loop-less c =
-    let args = c .before .before .before .before .before .before .args in
-    omega (
-      arith,
-      is-inside (args .quote) (args .text .now) (c .before .before .before .before .loop .i)
-          (when-is _ (c .before .before .before .character-at .ensures) (c .before .c .given .1)),
-    )
+    let called = c .before .before .before in let head = called .before in let args = head .before .before .args in
+    omega (arith, is-inside (args .quote) (args .text .now) (head .loop .i) (when-is _ (called .character-at .ensures) (c .before .c .given .1)))
 
 loop-again : tie.Need-loop-again Inv-loop μ-loop
 loop-again c =
-    c .before .before .before .before .loop .inv ∙ closes-next _ _ _
-    (when-is _ (c .before .before .before .character-at .ensures) (c .before .c .given .1))
+    let called = c .before .before .before in
+    called .before .loop .inv ∙ closes-next _ _ _ (when-is _ (called .character-at .ensures) (c .before .c .given .1))
 
 returns : tie.Need-returns Inv-loop μ-loop
 returns c =
-    let args = c .before .before .before .before .before .args in
-    sym (c .before .before .before .loop .inv ∙ closes-end (args .quote) (args .text .now) (c .before .before .before .loop .i) (search when-closing))
+    let head = c .before .before .before in let args = head .before .before .args in
+    sym (head .loop .inv ∙ closes-end (args .quote) (args .text .now) (head .loop .i) (search when-closing))
 
 returns-2 : tie.Need-returns-2 Inv-loop μ-loop
 returns-2 c =
-    let args = c .before .before .before .before .before .args in
-    sym (c .before .before .before .loop .inv ∙ closes-never (args .quote) (args .text .now) (c .before .before .before .loop .i) (search when-ended))
+    let head = c .before .before .before in let args = head .before .before .args in
+    sym (head .loop .inv ∙ closes-never (args .quote) (args .text .now) (head .loop .i) (search when-ended))
 
 add-i-2 : tie.Need-add-i-2 Inv-loop μ-loop
 add-i-2 c =
-    let args = c .before .before .before .before .before .args in
-    omega (
-      arith,
-      mistake-inside (args .quote) (args .text .now) (c .before .before .before .loop .i)
-          (when-mistake _ (c .before .before .character-at .ensures) (c .enum-told3 .given .1)),
-    )
+    let called = c .before .before in let head = called .before in let args = head .before .before .args in
+    let mistake = when-mistake _ (called .character-at .ensures) (c .enum-told3 .given .1) in
+    omega (arith, mistake-inside (args .quote) (args .text .now) (head .loop .i) mistake)
 
 loop-less-2 : tie.Need-loop-less-2 Inv-loop μ-loop
 loop-less-2 c =
-    let args = c .before .before .before .before .before .args in
-    omega (
-      arith,
-      mistake-inside (args .quote) (args .text .now) (c .before .before .before .loop .i)
-          (when-mistake _ (c .before .before .character-at .ensures) (c .enum-told3 .given .1)),
-    )
+    let called = c .before .before in let head = called .before in let args = head .before .before .args in
+    let mistake = when-mistake _ (called .character-at .ensures) (c .enum-told3 .given .1) in
+    omega (arith, mistake-inside (args .quote) (args .text .now) (head .loop .i) mistake)
 
 loop-again-2 : tie.Need-loop-again-2 Inv-loop μ-loop
 loop-again-2 c =
-    let args = c .before .before .before .before .before .args in
-    c .before .before .before .loop .inv ∙ closes-mistake (args .quote) (args .text .now) (c .before .before .before .loop .i)
-    (when-mistake _ (c .before .before .character-at .ensures) (c .enum-told3 .given .1))
+    let called = c .before .before in let head = called .before in
+    let mistake = when-mistake _ (called .character-at .ensures) (c .enum-told3 .given .1) in
+    head .loop .inv ∙ closes-mistake _ (head .before .before .args .text .now) (head .loop .i) mistake
 
 pub closes-spec : {M : Type 1} → statement M
 closes-spec =

@@ -18,19 +18,9 @@ returns c =
 
 loop-again : tie.Need-loop-again Inv-loop μ-loop
 loop-again c =
-    let text = c .before .before .before .before .before .args .text .now in
-    ⊎-elim
-    (λ w. omega (
-      arith,
-      between-newline text (c .before .before .before .before .before .args .place)
-          (c .before .before .before .before .loop .i) (omega arith) (omega arith) (w .0 .taken),
-    ))
-    (λ w. omega (
-      arith,
-      between-other text (c .before .before .before .before .before .args .place)
-          (c .before .before .before .before .loop .i) (omega arith) (omega arith) (w .0 .left),
-    ))
-    (c .if2 .came)
+    let head = c .before .before .before .before in let args = head .before .args in let i = head .loop .i in
+    ⊎-elim (λ w. omega (arith, between-newline (args .text .now) (args .place) i (omega arith) (omega arith) (w .0 .taken)))
+    (λ w. omega (arith, between-other (args .text .now) (args .place) i (omega arith) (omega arith) (w .0 .left))) (c .if2 .came)
 
 pub line-of-spec : {M : Type 1} → statement M
 line-of-spec =

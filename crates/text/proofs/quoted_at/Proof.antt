@@ -17,64 +17,46 @@ abbrev μ-loop : tie.MeasureT-loop
 
 returns : tie.Need-returns Inv-loop μ-loop
 returns c =
-    let args = c .before .before .before .before .before .before .before .before .args in
-    let loop = c .before .before .before .before .before .before .loop in
-    c .fault-at .ensures ∙
-    constant-full (args .quote) (args .room) (args .text .now) (args .at) (loop .i) (loop .n)
-    (when-is _ (c .before .before .before .before .before .character-at .ensures) (c .before .before .before .c .given .1)) (c .before .if1 .taken) ∙
-    sym (loop .inv .2)
+    let matched = c .before .before .before in let called = matched .before .before in let head = called .before in
+    let one = when-is _ (called .character-at .ensures) (matched .c .given .1) in
+    c .fault-at .ensures ∙ constant-full _ _ _ _ (head .loop .i) (head .loop .n) one (c .before .if1 .taken) ∙ sym (head .loop .inv .2)
 
 add-i : tie.Need-add-i Inv-loop μ-loop
 add-i c =
-    let args = c .before .before .before .before .before .before .before .args in
-    omega (
-      arith,
-      is-inside (args .quote) (args .text .now) (c .before .before .before .before .before .loop .i)
-          (when-is _ (c .before .before .before .before .character-at .ensures) (c .before .before .c .given .1)),
-    )
+    let matched = c .before .before in let called = matched .before .before in let head = called .before in let args = head .before .before .args in
+    omega (arith, is-inside (args .quote) (args .text .now) (head .loop .i) (when-is _ (called .character-at .ensures) (matched .c .given .1)))
 
 loop-less : tie.Need-loop-less Inv-loop μ-loop
 loop-less c =
-    let args = c .before .before .before .before .before .before .before .args in
-    omega (
-      arith,
-      is-inside (args .quote) (args .text .now) (c .before .before .before .before .before .loop .i)
-          (when-is _ (c .before .before .before .before .character-at .ensures) (c .before .before .c .given .1)),
-    )
+    let matched = c .before .before in let called = matched .before .before in let head = called .before in let args = head .before .before .args in
+    omega (arith, is-inside (args .quote) (args .text .now) (head .loop .i) (when-is _ (called .character-at .ensures) (matched .c .given .1)))
 
 loop-again : tie.Need-loop-again Inv-loop μ-loop
 loop-again c =
-    let args = c .before .before .before .before .before .before .before .args in
-    let loop = c .before .before .before .before .before .loop in
-    let e = when-is _ (c .before .before .before .before .character-at .ensures) (c .before .before .c .given .1) in (
+    let matched = c .before .before in let called = matched .before .before in let head = called .before in let args = head .before .before .args in
+    let one = when-is _ (called .character-at .ensures) (matched .c .given .1) in (
       omega arith,
-      omega (arith, is-inside (args .quote) (args .text .now) (loop .i) e),
-      loop .inv .2 ∙ constant-next (args .quote) (args .room) (args .text .now) (args .at) (loop .i) (loop .n) e (omega arith) (omega arith),
+      omega (arith, is-inside (args .quote) (args .text .now) (head .loop .i) one),
+      head .loop .inv .2 ∙ constant-next _ _ _ _ (head .loop .i) (head .loop .n) one (omega arith) (omega arith),
     )
 
 add-t13 : tie.Need-add-t13 Inv-loop μ-loop
 add-t13 c =
-    let args = c .before .before .before .before .before .args in
-    omega (
-      arith,
-      closing-inside (args .quote) (args .text .now) (c .before .before .before .loop .i)
-          (when-closing _ (c .before .before .character-at .ensures) (c .enum-told .given .1)),
-    )
+    let called = c .before .before in let head = called .before in let args = head .before .before .args in
+    let closing = when-closing _ (called .character-at .ensures) (c .enum-told .given .1) in
+    omega (arith, closing-inside (args .quote) (args .text .now) (head .loop .i) closing)
 
 returns-3 : tie.Need-returns-3 Inv-loop μ-loop
 returns-3 c =
-    let args = c .before .before .before .before .before .args in
-    let loop = c .before .before .before .loop in
-    constant-unclosed (args .quote) (args .room) (args .text .now) (args .at) (loop .i) (loop .n) (search when-ended) ∙ sym (loop .inv .2)
+    let called = c .before .before in let head = called .before in
+    let ended = when-ended _ (called .character-at .ensures) (c .enum-told2 .given .1) in
+    constant-unclosed _ _ _ _ (head .loop .i) (head .loop .n) ended ∙ sym (head .loop .inv .2)
 
 returns-4 : tie.Need-returns-4 Inv-loop μ-loop
 returns-4 c =
-    let args = c .before .before .before .before .before .before .before .args in
-    let loop = c .before .before .before .before .before .loop in
-    c .fault-at2 .ensures ∙
-    constant-mistake (args .quote) (args .room) (args .text .now) (args .at) (loop .i) (loop .n)
-    (when-mistake _ (c .before .before .before .before .character-at .ensures) (c .before .before .c2 .given .1)) ∙
-    sym (loop .inv .2)
+    let matched = c .before .before in let called = matched .before .before in let head = called .before in
+    let mistake = when-mistake _ (called .character-at .ensures) (matched .c2 .given .1) in
+    c .fault-at2 .ensures ∙ constant-mistake _ _ _ _ (head .loop .i) (head .loop .n) mistake ∙ sym (head .loop .inv .2)
 
 pub quoted-at-spec : {M : Type 1} → statement M
 quoted-at-spec =
@@ -82,5 +64,7 @@ quoted-at-spec =
     (tie.spec Inv-loop μ-loop
     (λ c. let args = c .before .args in (omega arith, omega arith, constant-start (args .quote) (args .room) (args .text .now) (args .at)))
     (search needs) (search needs) (search needs) (search needs) returns (λ c. omega arith) add-i loop-less loop-again (search needs) (search needs)
-    add-t13 (λ c. let loop = c .before .before .before .loop in constant-end _ _ _ _ _ _ (search when-closing) ∙ sym (loop .inv .2)) (search needs)
-    returns-3 (search needs) (search needs) (search needs) returns-4)
+    add-t13
+    (λ c. constant-end _ _ _ _ _ _ (search when-closing) ∙ sym (c .before .before .before .loop .inv .2)) (search needs)
+    returns-3 (search needs) (search needs)
+    (search needs) returns-4)

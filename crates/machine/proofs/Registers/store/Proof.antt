@@ -6,4 +6,5 @@ use Rattle.machine.proofs.Registers.store.Tie as tie
 pub store-spec : {M : Type 1} → statement M
 store-spec =
     tie.close
-    (tie.spec (search needs) (search needs) (search needs) (search needs) (λ c. search (stepped, stored-in)) (λ c. search (stepped-stop, stored-past)))
+    (tie.spec (search needs) (search needs) (search needs) (search needs) (λ c. search (stepped, stored-in))
+    (λ c. search (stepped-stop, stored-past)))

@@ -7,36 +7,24 @@ use Rattle.symbols.proofs.elements.character_at.Tie as tie
 
 add-t12 : tie.Need-add-t12
 add-t12 c =
-    let args = c .before .before .before .before .before .before .before .before .args in
-    let quoted-at = c .before .before .before .before .before .before .quoted-at in
-    let constant = c .before .before .before .before .constant in
-    omega (arith, closed-inside 39 1 (args .text .now) (args .at) (when-closed _ (quoted-at .ensures) (constant .given .1)))
+    let matched = c .before .before .before .before in let called = matched .before .before in let args = called .before .before .args in
+    omega (arith, closed-inside 39 1 (args .text .now) (args .at) (when-closed _ (called .quoted-at .ensures) (matched .constant .given .1)))
 
 add-t13 : tie.Need-add-t13
 add-t13 c =
-    let args = c .before .before .before .before .before .args in
-    let quoted-at = c .before .before .before .quoted-at in
-    let constant2 = c .before .constant2 in
-    omega (arith, fault-inside (args .text .now) (args .at) 39 1 (when-faulty _ (quoted-at .ensures) (constant2 .given .1)))
+    let matched = c .before in let called = matched .before .before in let args = called .before .before .args in
+    omega (arith, fault-inside (args .text .now) (args .at) 39 1 (when-faulty _ (called .quoted-at .ensures) (matched .constant2 .given .1)))
 
 returns : tie.Need-returns
 returns c =
-    let args = c .before .before .before .before .before .before .args in
-    let quoted-at = c .before .before .before .before .quoted-at in
-    let constant = c .before .before .constant in
-    let if1 = c .if1 in
-    no-character (args .text .now) (args .at) (when-closed _ (quoted-at .ensures) (constant .given .1)) (if1 .taken)
+    let matched = c .before .before in let called = matched .before .before in
+    no-character _ (called .before .before .args .at) (when-closed _ (called .quoted-at .ensures) (matched .constant .given .1)) (c .if1 .taken)
 
 returns-2 : tie.Need-returns-2
 returns-2 c =
-    let wide = c .wide in
-    let args = c .before .before .before .before .before .before .before .before .args in
-    let quoted-at = c .before .before .before .before .before .before .quoted-at in
-    let constant = c .before .before .before .before .constant in
-    let if1 = c .before .before .if1 in
-    let value-at = c .before .value-at in
-    rw (wide .ensures .0)
-    (a-character (args .text .now) (args .at) (when-closed _ (quoted-at .ensures) (constant .given .1)) (if1 .left) (value-at .ensures))
+    let matched = c .before .before .before .before in let called = matched .before .before in
+    let constant = when-closed _ (called .quoted-at .ensures) (matched .constant .given .1) in
+    rw (c .wide .ensures .0) (a-character _ (called .before .before .args .at) constant (c .before .before .if1 .left) (c .before .value-at .ensures))
 
 pub character-at-spec : {M : Type 1} → statement M
 character-at-spec =
