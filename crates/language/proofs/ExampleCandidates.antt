@@ -1,5 +1,6 @@
 -- Worked examples: the candidates of a word and how many are compared whole (document 02, Req 03).
-use Rattle.laws.proofs.Basics.{ℕ, _≡_, refl, List, [], _∷_}
+use Rattle.laws.proofs.Basics.{ℕ, refl, List, [], _∷_}
+use Rattle.laws.proofs.Table.{Table, _gives_, Each}
 use Prim.Native.String.{String}
 use Rattle.text.specs.Written.{bytes}
 use Rattle.language.specs.Kinds as K
@@ -16,47 +17,25 @@ unfoldable found : String → List ℕ × (ℕ × ℕ)
 unfolding reserved begins kindIn kindOf candidatesIn candidates comparedIn compared
 found word = (kinds (candidates (bytes word)), (compared (bytes word), kindOf (bytes word)))
 
--- no reserved word has the letter, or the letter and the length
-no-letter : found "X" ≡ ([], (0, K.NAME))
-unfolding found
-no-letter = refl
+unfoldable found-table : Table String (List ℕ × (ℕ × ℕ))
+found-table =
+    -- no reserved word has the letter, or the letter and the length
+    "X" gives ([], (0, K.NAME)) ∷
+    "READ" gives ([], (0, K.NAME)) ∷
+    "" gives ([], (0, K.NAME)) ∷
+    -- the first candidate is the word: the second is not compared
+    "REPEATWHILE" gives (K.REPEATWHILE ∷ K.REPEATUNTIL ∷ [], (1, K.REPEATWHILE)) ∷
+    "REPEATUNTIL" gives (K.REPEATWHILE ∷ K.REPEATUNTIL ∷ [], (2, K.REPEATUNTIL)) ∷
+    -- a reserved word that is the only one of its letter and length
+    "UNTIL" gives (K.UNTIL ∷ [], (1, K.UNTIL)) ∷
+    -- the worst case: TRUE, TEST and THEN (whose kind is that of DO) have a letter and a length in common
+    "THEN" gives (K.TRUE ∷ K.TEST ∷ K.DO ∷ [], (3, K.DO)) ∷
+    "TIME" gives (K.TRUE ∷ K.TEST ∷ K.DO ∷ [], (3, K.NAME)) ∷
+    -- names that differ from a candidate only at the end
+    "REPEATUNTIM" gives (K.REPEATWHILE ∷ K.REPEATUNTIL ∷ [], (2, K.NAME)) ∷
+    "BREA1" gives (K.BREAK ∷ [], (1, K.NAME)) ∷
+    []
 
-no-length : found "READ" ≡ ([], (0, K.NAME))
-unfolding found
-no-length = refl
-
-nothing : found "" ≡ ([], (0, K.NAME))
-unfolding found
-nothing = refl
-
--- the first candidate is the word: the second is not compared
-repeatwhile : found "REPEATWHILE" ≡ (K.REPEATWHILE ∷ K.REPEATUNTIL ∷ [], (1, K.REPEATWHILE))
-unfolding found
-repeatwhile = refl
-
-repeatuntil : found "REPEATUNTIL" ≡ (K.REPEATWHILE ∷ K.REPEATUNTIL ∷ [], (2, K.REPEATUNTIL))
-unfolding found
-repeatuntil = refl
-
--- a reserved word that is the only one of its letter and length
-only : found "UNTIL" ≡ (K.UNTIL ∷ [], (1, K.UNTIL))
-unfolding found
-only = refl
-
--- the worst case: TRUE, TEST and THEN (whose kind is that of DO) have a letter and a length in common
-three : found "THEN" ≡ (K.TRUE ∷ K.TEST ∷ K.DO ∷ [], (3, K.DO))
-unfolding found
-three = refl
-
-three-for-a-name : found "TIME" ≡ (K.TRUE ∷ K.TEST ∷ K.DO ∷ [], (3, K.NAME))
-unfolding found
-three-for-a-name = refl
-
--- names that differ from a candidate only at the end
-last-letter : found "REPEATUNTIM" ≡ (K.REPEATWHILE ∷ K.REPEATUNTIL ∷ [], (2, K.NAME))
-unfolding found
-last-letter = refl
-
-last-digit : found "BREA1" ≡ (K.BREAK ∷ [], (1, K.NAME))
-unfolding found
-last-digit = refl
+found-examples : Each found found-table
+unfolding found found-table
+found-examples = refl

@@ -1,15 +1,16 @@
 -- Worked examples: a line that ends in LOOP, before and after LOOP joined the first list of the inserted semicolon (document 02, Req 01).
 use Rattle.laws.proofs.Basics.{ℕ, _≡_, refl, List, [], _∷_, length}
+use Rattle.laws.proofs.Table.{Table, _gives_, Each}
 use Prim.Native.String.{String}
 use Rattle.text.specs.Written.{bytes}
 use Rattle.language.specs.Symbols.{scan}
 use Rattle.language.specs.Strings.{numbered}
 use Rattle.language.specs.Semicolons.{firsts}
-use Rattle.language.specs.Source.{Read, parsed}
+use Rattle.language.specs.Source.{Read, refused, parsed}
 use Rattle.language.specs.Kinds as K
 use Rattle.language.specs.Tree as T
 use Rattle.language.specs.Tree.{Expression, noExpressions, andExpression, noSuffixes, noLocals, Commands, noCommands, andCommand}
-use Rattle.language.proofs.Texts.{answer, programIn, numberAndPlace}
+use Rattle.language.proofs.Texts.{answer, programIn}
 use Rattle.language.proofs.ExampleTrees.{at, name, routine, plain, called}
 use Rattle.language.proofs.Loops.{afterBy, semicolonsBy, parsedBy, formerly, bracketAfter, bracketAfterLoop, reading-kept}
 
@@ -23,22 +24,6 @@ unfoldable countBy : List ℕ → String → ℕ
 unfolding answer afterBy semicolonsBy
 countBy list text = length (semicolonsBy list (bytes text) (numbered 0 (scan (bytes text) .symbols)))
 
--- a loop was refused at what stands after the LOOP, and is read now
-abbrev loop : String
-loop = "LET F() BE WHILE A DO $( IF B DO LOOP\nG() $)"
-
-loop-refused : numberAndPlace (formerlyIn loop) ≡ (6, 38)
-unfolding formerlyIn
-loop-refused = refl
-
-loop-read :
-    programIn loop ≡
-    routine (plain (T.guarded K.WHILE (name 17)
-    (plain (T.block noLocals (andCommand (plain (T.guarded K.IF (name 28) (plain (T.leave K.LOOP 33))))
-    (andCommand (plain (called 38)) noCommands))))))
-unfolding programIn
-loop-read = refl
-
 -- VALOF WHILE G DO LOOP, from place 20 on
 abbrev waiting : Expression
 waiting = T.valof 20 (plain (T.guarded K.WHILE (name 32) (plain (T.leave K.LOOP 37))))
@@ -47,21 +32,13 @@ waiting = T.valof 20 (plain (T.guarded K.WHILE (name 32) (plain (T.leave K.LOOP 
 abbrev giving : Expression → Commands → Read
 giving e cs = routine (plain (T.block (T.values (at 18 ∷ []) (andExpression e noExpressions) noLocals) cs))
 
+-- a loop was refused at what stands after the LOOP, and is read now
+abbrev loop : String
+loop = "LET F() BE WHILE A DO $( IF B DO LOOP\nG() $)"
+
 -- a ( next after a LOOP that ends a VALOF called its value, and now begins a command
 abbrev bracket : String
 bracket = "LET F() BE $( LET A=VALOF WHILE G DO LOOP\n(B)() $)"
-
-bracket-before :
-    formerlyIn bracket ≡
-    giving (T.suffixed waiting (T.call (andExpression (name 43) noExpressions) (T.call noExpressions noSuffixes))) noCommands
-unfolding formerlyIn
-bracket-before = refl
-
-bracket-now :
-    programIn bracket ≡
-    giving waiting (andCommand (plain (T.callCommand (T.suffixed (T.bracketed 42 (name 43)) (T.call noExpressions noSuffixes)))) noCommands)
-unfolding programIn
-bracket-now = refl
 
 -- the semicolon after a local declaration is optional: where one is inserted now the symbols differ, and the program is the same
 abbrev corner : String
@@ -72,23 +49,43 @@ its-program =
     giving waiting
     (andCommand (plain (T.assignment (andExpression (name 42) noExpressions) (andExpression (T.number 45 1) noExpressions))) noCommands)
 
-symbols-before : countBy formerly corner ≡ 18
-unfolding countBy
-symbols-before = refl
+unfoldable before-table : Table String Read
+before-table =
+    loop gives refused 6 38 ∷
+    bracket gives giving (T.suffixed waiting (T.call (andExpression (name 43) noExpressions) (T.call noExpressions noSuffixes))) noCommands ∷
+    corner gives its-program ∷
+    []
 
-symbols-now : countBy firsts corner ≡ 19
-unfolding countBy
-symbols-now = refl
+before-examples : Each formerlyIn before-table
+unfolding formerlyIn before-table
+before-examples = refl
 
-program-before : formerlyIn corner ≡ its-program
-unfolding formerlyIn
-program-before = refl
+unfoldable now-table : Table String Read
+now-table =
+    loop gives
+    routine (plain (T.guarded K.WHILE (name 17)
+    (plain (T.block noLocals (andCommand (plain (T.guarded K.IF (name 28) (plain (T.leave K.LOOP 33))))
+    (andCommand (plain (called 38)) noCommands)))))) ∷
+    bracket gives
+    giving waiting (andCommand (plain (T.callCommand (T.suffixed (T.bracketed 42 (name 43)) (T.call noExpressions noSuffixes)))) noCommands) ∷
+    corner gives its-program ∷
+    []
 
-program-now : programIn corner ≡ its-program
-unfolding programIn
-program-now = refl
+now-examples : Each programIn now-table
+unfolding programIn now-table
+now-examples = refl
+
+unfoldable count-table : Table (List ℕ) ℕ
+count-table =
+    formerly gives 18 ∷
+    firsts gives 19 ∷
+    []
+
+count-examples : Each (λ list. countBy list corner) count-table
+unfolding countBy count-table
+count-examples = refl
 
 -- the same by the law
 program-kept : parsed (bytes corner) ≡ its-program
 unfolding formerlyIn bracketAfter bracketAfterLoop
-program-kept = reading-kept (bytes corner) _ program-before refl
+program-kept = reading-kept (bytes corner) _ refl refl

@@ -35,9 +35,7 @@ symbolsIn text = symbolsOf (bytes text)
 
 -- the program of some bytes, or its refusal, with scratch enough for any text
 unfoldable pub answer : List ℕ → Read
-unfolding quoted Q.character byNumber byDigits escape newlines lineOf classOf reserved signs begins wordWidth kindIn kindOf word digits valueOf
-    decimal octal S.character string signIn toLineEnd comment sign signOrComment byClass scanFrom scan closing bracket brackets member endsLine
-    beginsLine linesDiffer gains semicolonsAfter semicolons numbered symbolsOf withSuffixes withOperations endsInCall isCall count unexpected any here
+unfolding symbolsIn withSuffixes withOperations endsInCall isCall count unexpected any here
     the optional aName manyUpTo many moreUpTo items furtherItems oneUpToClose upToClose bindingOf isMonadic reachOf isSuffix isLabel isGuard isLeave
     isRepeat goesOnAssignment isDeclaration beginsExpression beginsCommand E.opening E.numeral E.truth E.quotation E.named E.bracketed E.valof
     E.primary E.monadic E.arguments E.subscript E.index E.suffix E.suffixed E.operand E.operation E.mostOf E.operations E.chain E.products E.sums
