@@ -1,5 +1,5 @@
 -- What an accepted text satisfies: the bounds of the image, and a table of labels that differ.
-use Rattle.laws.proofs.Basics.{ℕ, zero, suc, _+_, _-_, _<_, _≤_, _≡_, refl, sym, ap, _∙_, List, [], _∷_, _++_, Bool, true, false, _&&_, length, getD}
+use Rattle.laws.proofs.Basics.{ℕ, zero, suc, _+_, _-_, _<_, _≤_, _≡_, refl, sym, ap, _∙_, List, [], _∷_, _++_, true, false, _&&_, length, getD}
 use Rattle.laws.proofs.Basics.{replicate, eqb, leb, arith, eqb-false, ne-eqb, leb-true}
 use Rattle.laws.proofs.Cases.{by-cases, contradiction, both-true}
 use Rattle.text.specs.Line.{refusal}
@@ -163,13 +163,8 @@ module _ (text : List ℕ) (memory room : ℕ) {end : ℕ} where
 
   pub acceptance : assembled text memory room .answer ≡ Accepted end → Acceptance text memory room end
   unfolding assembled refuse
-  acceptance h = go (leb 512 memory && leb memory 32768) refl
-    where
-      go : (t : Bool) → leb 512 memory && leb memory 32768 ≡ t → Acceptance text memory room end
-      go true e =
-          let b : (leb 512 memory ≡ true) × (leb memory 32768 ≡ true) = both-true (leb 512 memory) (leb memory 32768) e in
-          by-layout (leb-true 512 memory (b .0)) (leb-true memory 32768 (b .1)) (rw e)
-          (lay memory room 416 [] (scan text .items)) refl (rw e at h)
-      go false e =
-          let y : Refused (refusal text 24 0) ≡ Accepted end = rw e at h in
-          contradiction cc
+  acceptance h =
+      by-cases (leb 512 memory && leb memory 32768)
+      (λ e. let b = both-true (leb 512 memory) (leb memory 32768) e in
+      by-layout (leb-true 512 memory (b .0)) (leb-true memory 32768 (b .1)) (rw e) (lay memory room 416 [] (scan text .items)) refl (rw e at h))
+      (λ e. let y : Refused (refusal text 24 0) ≡ Accepted end = rw e at h in contradiction cc)

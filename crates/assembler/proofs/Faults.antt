@@ -1,6 +1,6 @@
 -- An item's fault: out of range, or by what `misplaced` says of one in range; and what an item without fault satisfies.
-use Rattle.laws.proofs.Basics.{ℕ, _+_, _<_, _≤_, _≡_, refl, List, Bool, true, false, length, ltb, leb, arith, ltb-false, leb-false}
-use Rattle.laws.proofs.Cases.{by-cases}
+use Rattle.laws.proofs.Basics.{ℕ, _+_, _<_, _≤_, _≡_, List, true, false, length, ltb, arith, ltb-false, le-leb}
+use Rattle.laws.proofs.Cases.{by-cases, by-order}
 use Rattle.items.specs.Item as I
 use Rattle.assembler.specs.Words.{inRange, size}
 use Rattle.assembler.specs.declared.Label.{Label}
@@ -29,12 +29,10 @@ module _ (memory room at : ℕ) (labels : List Label) where
   no-fault-placed i h = rw (no-fault-ranged i h) at h
 
   pub label-placed : (n : ℕ) → labelFault room labels n ≡ 0 → (defined labels n ≡ false) × (length labels < room)
-  label-placed n h = go (defined labels n) (leb room (length labels)) refl refl
-    where
-      go : (d f : Bool) → defined labels n ≡ d → leb room (length labels) ≡ f → (defined labels n ≡ false) × (length labels < room)
-      go true f p q = let z : _≡_ {A = ℕ} 21 0 = rw p at h in absurd (omega arith)
-      go false true p q = let z : _≡_ {A = ℕ} 25 0 = rw (p, q) at h in absurd (omega arith)
-      go false false p q = (p, leb-false _ _ q)
+  label-placed n h =
+      by-cases (defined labels n) (λ p. let z : _≡_ {A = ℕ} 21 0 = rw p at h in absurd (omega arith)) (λ p.
+      by-order (length labels) room (λ l. (p, l)) (λ l.
+      let z : _≡_ {A = ℕ} 25 0 = rw (p, le-leb room (length labels) l) at h in absurd (omega arith)))
 
   within : (words : ℕ) → beyond memory at words ≡ 0 → at + words ≤ memory
   within words h = by-cases (ltb memory (at + words)) (λ e. let z : _≡_ {A = ℕ} 24 0 = rw e at h in absurd (omega arith)) (λ e. ltb-false _ _ e)

@@ -1,8 +1,8 @@
 -- The memory after every item is the image: items written one after another are words in a row, and globals beside them.
-use Rattle.laws.proofs.Basics.{ℕ, zero, suc, _+_, _-_, _<_, _≤_, _≡_, refl, ap, _∙_, List, [], _∷_, _++_, append-assoc, append-nil, Bool, true, false}
-use Rattle.laws.proofs.Basics.{cond, length, set, drop, replicate, length-append, length-set, length-replicate, replicate-append-replicate, take-at}
-use Rattle.laws.proofs.Basics.{drop-at, drop-append-add, sets, sets-eq, sub-zero, arith}
-use Rattle.laws.proofs.Cases.{contradiction}
+use Rattle.laws.proofs.Basics.{ℕ, zero, suc, _+_, _-_, _<_, _≤_, _≡_, refl, ap, _∙_, List, [], _∷_, _++_, append-assoc, append-nil, true, length, set}
+use Rattle.laws.proofs.Basics.{drop, replicate, length-append, length-set, length-replicate, replicate-append-replicate, take-at, drop-at}
+use Rattle.laws.proofs.Basics.{drop-append-add, sets, sets-eq, sub-zero, arith}
+use Rattle.laws.proofs.Cases.{by-cases, contradiction}
 use lib.Seq.{set-append-left}
 use Rattle.items.specs.Item as I
 use Rattle.assembler.specs.Words.{short, inRange, size, words}
@@ -42,11 +42,7 @@ over-zeros front ws k h =
 pub length-words : (at : ℕ → ℕ) (i : I.Item) → length (words at i) ≡ size i
 unfolding words size
 length-words at (I.label n) = refl
-length-words at (I.instruction f i b x) = go _ _ _ (short x)
-  where
-    go : (u v w : ℕ) (t : Bool) → length (cond t (u ∷ []) (v ∷ w ∷ [])) ≡ cond t 1 2
-    go u v w true = refl
-    go u v w false = refl
+length-words at (I.instruction f i b x) = by-cases (short x) (λ e. rw e refl) (λ e. rw e refl)
 length-words at (I.constant x) = refl
 length-words at (I.string cs) = length-pairs (length cs) cs
 length-words at (I.global n m) = refl

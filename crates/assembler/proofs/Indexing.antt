@@ -89,14 +89,10 @@ found-more : (labels : List Label) (n a m : ℕ) → defined labels n ≡ false
     → asFound (labels ++ (record { number = n; address = a } ∷ [])) m ≡ cond (eqb n m) (At a) (asFound labels m)
 unfolding asFound defined addressOf
 found-more [] n a m h = by-cases (eqb n m) (λ e. simp e) (λ e. simp e)
-found-more (l ∷ ls) n a m h = go (eqb (l .number) m) refl (found-more ls n a m (not-first l ls n h .1))
-  where
-    go : (b : Bool) → eqb (l .number) m ≡ b → asFound (ls ++ (record { number = n; address = a } ∷ [])) m ≡ cond (eqb n m) (At a) (asFound ls m)
-        → asFound (l ∷ (ls ++ (record { number = n; address = a } ∷ []))) m ≡ cond (eqb n m) (At a) (asFound (l ∷ ls) m)
-    go true e rest =
-        let q : l .number ≡ m = eqb-true _ _ e in
-        simp (e, ne-eqb n m (λ p. not-first l ls n h .0 (q ∙ sym p)))
-    go false e rest = simp e rest
+found-more (l ∷ ls) n a m h =
+    by-cases (eqb (l .number) m)
+    (λ e. let q : l .number ≡ m = eqb-true _ _ e in simp (e, ne-eqb n m (λ p. not-first l ls n h .0 (q ∙ sym p))))
+    (λ e. simp e (found-more ls n a m (not-first l ls n h .1)))
 
 pub indexes-more : (index : List ℕ) (labels : List Label) (n a : ℕ) → Indexes index labels → n < 32768 → 0 < a → defined labels n ≡ false
     → Indexes (set index n a) (labels ++ (record { number = n; address = a } ∷ []))

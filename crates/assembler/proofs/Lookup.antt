@@ -1,6 +1,6 @@
 -- Looking a label up: what an answer says, and the public look-up.
-use Rattle.laws.proofs.Basics.{ℕ, zero, suc, _+_, _<_, _≤_, _≡_, refl, sym, _∙_, List, [], _∷_, _++_, Bool, true, false, length, getD, drop}
-use Rattle.laws.proofs.Basics.{replicate, length-map, drop-of-length-le, drop-cons, eqb, add-one, eq-eqb, ne-eqb, le-leb, lt-leb}
+use Rattle.laws.proofs.Basics.{ℕ, zero, suc, _+_, _<_, _≤_, _≡_, refl, sym, _∙_, List, [], _∷_, _++_, true, false, length, getD, drop, replicate}
+use Rattle.laws.proofs.Basics.{length-map, drop-of-length-le, drop-cons, eqb, add-one, eq-eqb, ne-eqb, le-leb, lt-leb}
 use Rattle.laws.proofs.Cases.{by-cases, contradiction}
 use Rattle.assembler.specs.declared.Label.{Label}
 use Rattle.assembler.specs.Layout.{vacant, defined, addressOf}
@@ -76,9 +76,5 @@ none-vacant (suc more) n h = first-other vacant (replicate more vacant) n (λ e.
 pub looked-in-labels : (labels : List Label) (more n : ℕ) → (n ≡ 0 → ⊥) → lookedUp (labels ++ replicate more vacant) n ≡ asFound labels n
 unfolding lookedUp defined addressOf asFound
 looked-in-labels [] more n h = none-vacant more n h
-looked-in-labels (l ∷ ls) more n h = go (eqb (l .number) n) refl (looked-in-labels ls more n h)
-  where
-    go : (b : Bool) → eqb (l .number) n ≡ b → lookedUp (ls ++ replicate more vacant) n ≡ asFound ls n
-        → lookedUp (l ∷ (ls ++ replicate more vacant)) n ≡ asFound (l ∷ ls) n
-    go true e rest = simp (e, ne-eqb n 0 h)
-    go false e rest = simp e rest
+looked-in-labels (l ∷ ls) more n h =
+    by-cases (eqb (l .number) n) (λ e. simp (e, ne-eqb n 0 h)) (λ e. simp e (looked-in-labels ls more n h))

@@ -1,8 +1,8 @@
 -- No text has more than 32,767 labels: they differ, and lie from 1 to 32,767. So a table of more records serves as one of 32,767.
 use Rattle.laws.proofs.Basics.{ℕ, zero, suc, _+_, _-_, _<_, _≤_, _≡_, refl, sym, ap, subst, _∙_, List, [], _∷_, _++_, append-assoc, Bool, true, false}
-use Rattle.laws.proofs.Basics.{_&&_, cond, _⊎_, inl, inr, length, take, replicate, length-append, replicate-append-replicate, length-take-le, take-at}
-use Rattle.laws.proofs.Basics.{eqb, leb, eq-or-lt-of-le, sub-zero, arith, eqb-true, eqb-false, eq-eqb, ne-eqb, lt-leb}
-use Rattle.laws.proofs.Cases.{by-cases, contradiction}
+use Rattle.laws.proofs.Basics.{_&&_, cond, length, take, replicate, length-append, replicate-append-replicate, length-take-le, take-at, eqb, leb}
+use Rattle.laws.proofs.Basics.{sub-zero, arith, eqb-true, eqb-false, eq-eqb, ne-eqb, lt-leb}
+use Rattle.laws.proofs.Cases.{by-cases, by-equal, contradiction}
 use Rattle.items.specs.Item as I
 use Rattle.items.specs.Scan.{Ending, whole, unreadable, Scan, scan}
 use Rattle.assembler.specs.Words.{inRange, size}
@@ -43,11 +43,7 @@ module _ (ls : List Label) (l : Label) where
 
   -- any number but the label's own is as it was
   other : (n : ℕ) → (l .number ≡ n → ⊥) → defined more n ≡ defined ls n
-  other n h = defined-more ls l n ∙ rw (ne-eqb _ _ h) (go (defined ls n))
-    where
-      go : (b : Bool) → cond b true false ≡ b
-      go true = refl
-      go false = refl
+  other n h = defined-more ls l n ∙ rw (ne-eqb _ _ h) (by-cases (defined ls n) (λ e. rw e refl) (λ e. rw e refl))
 
   free-below : (k : ℕ) → k < l .number → free more k ≡ free ls k
   unfolding free
@@ -58,11 +54,7 @@ module _ (ls : List Label) (l : Label) where
   own u = defined-more ls l (l .number) ∙ rw (u, eq-eqb (l .number) (l .number) refl)
 
   below : {k : ℕ} → (l .number ≡ suc k → ⊥) → l .number ≤ suc k → l .number ≤ k
-  below {k} n m = go (eq-or-lt-of-le m)
-    where
-      go : (l .number ≡ suc k) ⊎ (l .number < suc k) → l .number ≤ k
-      go (inl e) = absurd (n e)
-      go (inr h) = omega (arith, h)
+  below {k} n m = by-equal (l .number) (suc k) (λ e. absurd (n e)) (λ e. omega arith)
 
   free-from : defined ls (l .number) ≡ false → (k : ℕ) → 1 ≤ l .number → l .number ≤ k → suc (free more k) ≡ free ls k
   unfolding free

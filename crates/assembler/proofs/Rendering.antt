@@ -2,7 +2,7 @@
 -- used is there: by what its items' labels and numbers say, and by nothing else.
 use Rattle.laws.proofs.Basics.{ℕ, _+_, _≡_, refl, sym, ap, List, [], _∷_, _++_, append-assoc, append-nil, Bool, true, false, _&&_, cond, _⊎_, inl}
 use Rattle.laws.proofs.Basics.{inr, length, eqb, ltb, leb, arith}
-use Rattle.laws.proofs.Cases.{contradiction}
+use Rattle.laws.proofs.Cases.{by-cases, contradiction}
 use Rattle.text.specs.Line.{refusal}
 use Rattle.text.specs.declared.Refusal.{Refusal}
 use Rattle.items.specs.Item as I
@@ -140,14 +140,10 @@ module _ (is : List Item) (sound : AllSound is) (clean : Clean [] is) (known-lab
 
   pub rendered-only : (r : Refusal) → assembled (renderAll is) memory room .answer ≡ Refused r → (r .number ≡ 24) ⊎ (r .number ≡ 25)
   unfolding assembled refuse refusal numbersOf
-  rendered-only r h = go (leb 512 memory && leb memory 32768) refl
-    where
-      go : (t : Bool) → (leb 512 memory && leb memory 32768) ≡ t → (r .number ≡ 24) ⊎ (r .number ≡ 25)
-      go true e =
-          let z : onLaid (renderAll is) memory room (lay memory room 416 [] (places 2 is)) (record { items = places 2 is; ending = whole }) .answer ≡
-          Refused r = rw (e, rendered is sound) at h in
-          answered (lay-clean memory room is 2 416 [] clean) z
-      go false e = let z : Refused (refusal (renderAll is) 24 0) ≡ Refused r = rw e at h in inl cc
+  rendered-only r h =
+      by-cases (leb 512 memory && leb memory 32768)
+      (λ e. answered (lay-clean memory room is 2 416 [] clean) (rw (e, rendered is sound) at h))
+      (λ e. let z : Refused (refusal (renderAll is) 24 0) ≡ Refused r = rw e at h in inl cc)
 
 -- ---- a closed instance: 1: JL1 D7 G1L1
 

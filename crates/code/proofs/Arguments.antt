@@ -1,5 +1,6 @@
 -- Arguments: each waits in the word of its height until the call uses them all.
-use Rattle.laws.proofs.Basics.{ℕ, zero, suc, _+_, _<_, _≤_, _≡_, refl, _∙_, List, [], _∷_, _++_, append-assoc, some, none, getD, le-refl, arith}
+use Rattle.laws.proofs.Basics.{ℕ, zero, suc, _+_, _<_, _≤_, _≡_, refl, _∙_, List, [], _∷_, _++_, append-assoc, append-nil, some, none, getD, le-refl}
+use Rattle.laws.proofs.Basics.{arith}
 use Rattle.laws.proofs.Cases.{contradiction}
 use Rattle.language.specs.Resolved as R
 use Rattle.language.specs.Resolved.{Exprs}

@@ -139,10 +139,10 @@ module _ (Γ : Env) where
     pub sim-return : GoalC q R.return
     unfolding executed cmdCode FormedC
     sim-return p h n a b x s v k f pc r =
-        cut-number Γ k λ b₁ i₁ k₁. p-returned (record { h′ = h; v′ = v; sim = new-step (ticked Γ r); past = b₁; return = rw pc i₁ })
-      where
-        new-step : Rel Γ p h (step s) v → Sim Γ 0 p h h s v (step s) v
-        new-step r = record { n = 0; goes = goes-not (Γ .input) v; rel = r; keep = λ y l g. g; frame = λ y l g. refl; time = omega arith }
+        cut-number Γ k λ b₁ i₁ k₁.
+        let t : Sim Γ 0 p h h s v (step s) v
+        = record { n = 0; goes = goes-not (Γ .input) v; rel = ticked Γ r; keep = λ y l g. g; frame = λ y l g. refl; time = omega arith } in
+        p-returned (record { h′ = h; v′ = v; sim = t; past = b₁; return = rw pc i₁ })
 
     pub sim-finish : GoalC q R.finish
     unfolding executed cmdCode

@@ -1,7 +1,6 @@
 -- Every source that is accepted is good: its items can be written and read back, and its functions are formed.
-use Rattle.laws.proofs.Basics.{ℕ, suc, _+_, _*_, _<_, _≤_, _≡_, refl, ap, List, [], _∷_, _++_, Bool, true, false, cond, length, ltb, arith, ltb-true}
-use Rattle.laws.proofs.Basics.{ltb-false}
-use Rattle.laws.proofs.Cases.{contradiction}
+use Rattle.laws.proofs.Basics.{ℕ, suc, _+_, _*_, _≤_, _≡_, ap, List, [], _∷_, _++_, false, cond, length, ltb, arith, lt-ltb, le-ltb}
+use Rattle.laws.proofs.Cases.{by-order, contradiction}
 use Rattle.items.specs.Item as I
 use Rattle.language.specs.Tree as T
 use Rattle.language.specs.Resolved as R
@@ -35,11 +34,10 @@ use Rattle.code.proofs.WellPlaced.{well-placed}
 greatest-low : (x : ℕ) (hs : List ℕ) → greatest x hs ≤ 8192 → (x ≤ 8192) × Low hs
 unfolding greatest Low
 greatest-low x [] l = (l, tt)
-greatest-low x (h ∷ hs) l = go (ltb x h) refl (greatest-low (cond (ltb x h) h x) hs l)
-  where
-    go : (b : Bool) → ltb x h ≡ b → (cond (ltb x h) h x ≤ 8192) × Low hs → (x ≤ 8192) × ((h ≤ 8192) × Low hs)
-    go true e p = let k : h ≤ 8192 = rw e at (p .0) in let m : x < h = ltb-true x h e in (omega arith, (k, p .1))
-    go false e p = let k : x ≤ 8192 = rw e at (p .0) in let m : h ≤ x = ltb-false x h e in (k, (omega arith, p .1))
+greatest-low x (h ∷ hs) l =
+    let p = greatest-low (cond (ltb x h) h x) hs l in
+    by-order x h (λ m. let k : h ≤ 8192 = rw (lt-ltb x h m) at (p .0) in (omega arith, (k, p .1))) (λ m.
+    let k : x ≤ 8192 = rw (le-ltb x h m) at (p .0) in (k, (omega arith, p .1)))
 
 heights-low : (f : Fun) → largestHeight f ≤ 8192 → (2 + f .parameters ≤ 8192) × Low (ofBody (2 + f .parameters) (f .body))
 unfolding largestHeight heightsOf Low
@@ -47,12 +45,10 @@ heights-low f l = let p = greatest-low 0 ((2 + f .parameters) ∷ ofBody (2 + f 
 
 first-low : (n : Named) (ns : List Named) → heightFaults (n ∷ ns) ≡ [] → (largestHeight (n .fun) ≤ 8192) × (heightFaults ns ≡ [])
 unfolding heightFaults
-first-low n ns h = go (ltb 8192 (largestHeight (n .fun))) refl h
-  where
-    go : (b : Bool) → ltb 8192 (largestHeight (n .fun)) ≡ b → cond b (fault (n .name .place) 16) [] ++ heightFaults ns ≡ []
-        → (largestHeight (n .fun) ≤ 8192) × (heightFaults ns ≡ [])
-    go true e q = contradiction cc
-    go false e q = (ltb-false 8192 (largestHeight (n .fun)) e, q)
+first-low n ns h =
+    by-order 8192 (largestHeight (n .fun))
+    (λ l. let z : fault (n .name .place) 16 ++ heightFaults ns ≡ [] = rw (lt-ltb 8192 (largestHeight (n .fun)) l) at h in contradiction cc)
+    (λ l. (l, rw (le-ltb 8192 (largestHeight (n .fun)) l) at h))
 
 -- ---- items
 

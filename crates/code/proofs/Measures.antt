@@ -2,6 +2,7 @@
 -- first label is n has just the labels from n up to some m, each once, so that they add up to u m - u n. With u n = n they are counted, with
 -- u n whether n has passed some label that label is.
 use Rattle.laws.proofs.Basics.{ℕ, suc, _+_, _-_, _*_, _≤_, _≡_, refl, ap, List, [], _∷_, _++_, length, eqb, arith}
+use Rattle.laws.proofs.Cases.{by-cond}
 use Rattle.items.specs.Item as I
 use Rattle.items.specs.Item.{Item, label, instruction, constant}
 use Rattle.assembler.specs.Words.{size, short}
@@ -10,7 +11,6 @@ use Rattle.language.specs.Resolved as R
 use Rattle.language.specs.Resolved.{CaseLabel, Expr, Exprs, Target, Pairs, Cmd, Cmds, Cases, Locals, Body, Fun, Start, nowhere, inGlobal, casesOf}
 use Rattle.language.specs.Resolved.{caseCount}
 use Rattle.language.specs.Heights.{count, heightWith}
-use Rattle.language.proofs.Cases.{by-cond}
 use Rattle.code.specs.Generate.{Exits, inLoop, inSwitch, inValof, monadicAct, commandsIn, exprLabels, exprsLabels, targetLabels, pairsLabels}
 use Rattle.code.specs.Generate.{cmdLabels, cmdsLabels, casesLabels, localsLabels, bodyLabels, pairsOf, tableOf, exprCode, exprsCode, targetCode}
 use Rattle.code.specs.Generate.{pairsCode, cmdCode, cmdsCode, casesCode, localsCode, bodyCode, functionsCode, stringsCode, startIn, startsCode}

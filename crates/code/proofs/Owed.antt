@@ -1,6 +1,7 @@
 -- Demand 3 of a run that goes to a finish: what it says of every budget and every output room.
 use Rattle.laws.proofs.Basics.{ℕ, zero, suc, _+_, _-_, _*_, _<_, _≤_, _≡_, refl, sym, ap, _∙_, List, [], _++_, _⊎_, inl, inr, length, getD, take}
 use Rattle.laws.proofs.Basics.{replicate, length-append, length-replicate, length-take-le, getD-take, ext-getD, arith, le-leb}
+use Rattle.laws.proofs.Cases.{by-order}
 use native.Mathlib.Decide.{decLt}
 use Rattle.machine.specs.State as M
 use Rattle.machine.specs.State.{at, startRegisters, withC}
@@ -141,14 +142,12 @@ module _ (Γ : Env) (strings : List (List ℕ)) (least : 512 ≤ length (Γ .ima
     })
 
     prefix : (b : ℕ) → Prefix s (steps (Γ .input) b (begin o))
-    prefix b = go (decLt b (e .n + 1))
-      where
-        go : Dec (b < e .n + 1) → Prefix s (steps (Γ .input) b (begin o))
-        go (no h) = rw (done-run b (omega arith)) prefix-last
-        go (yes h) =
-            let g : Grows (steps (Γ .input) b (begin o) .state) (x .last)
-            = rw (done-run (e .n + 1) (omega arith)) at (budget-beginning (Γ .input) {n = b} {n′ = e .n + 1} (begin o) (omega arith)) in
-            record { within = omega (arith, g .place, x .written); each = λ i l. sym (g .kept i l) ∙ prefix-last .each i (omega (arith, g .place)) }
+    prefix b =
+        by-order b (e .n + 1)
+        (λ h. let g : Grows (steps (Γ .input) b (begin o) .state) (x .last)
+        = rw (done-run (e .n + 1) (omega arith)) at (budget-beginning (Γ .input) {n = b} {n′ = e .n + 1} (begin o) (omega arith)) in
+        record { within = omega (arith, g .place, x .written); each = λ i l. sym (g .kept i l) ∙ prefix-last .each i (omega (arith, g .place)) })
+        (λ h. rw (done-run b h) prefix-last)
 
     pauses : (b : ℕ) → b < e .n + 1 → Pauses s (steps (Γ .input) b (begin o))
     pauses b h = record {

@@ -1,6 +1,6 @@
 -- The assembler's image has the code of its items at their addresses.
-use Rattle.laws.proofs.Basics.{ℕ, zero, suc, _+_, _*_, _<_, _≤_, _≡_, refl, sym, ap, _∙_, List, [], _∷_, _++_, append-assoc, Bool, true, false, cond}
-use Rattle.laws.proofs.Basics.{length, getD, length-append, List·getD-append, getD-append-add, eqb, ltb, arith, eq-eqb, ltb-true}
+use Rattle.laws.proofs.Basics.{ℕ, zero, suc, _+_, _*_, _<_, _≤_, _≡_, refl, sym, ap, _∙_, List, [], _∷_, _++_, append-assoc, append-nil, Bool, true}
+use Rattle.laws.proofs.Basics.{false, cond, length, getD, length-append, List·getD-append, getD-append-add, eqb, ltb, arith, eq-eqb, ltb-true}
 use Rattle.laws.proofs.Cases.{contradiction}
 use Rattle.items.specs.Item.{number, address, Base, Item, label, instruction, constant, string, global, Placed}
 use Rattle.items.specs.Render.{render}

@@ -1,8 +1,8 @@
 -- A whole program in an accepted image: its labels' addresses, its functions' code, its strings' words, its globals.
 use Rattle.laws.proofs.Basics.{ℕ, zero, suc, _+_, _-_, _*_, _<_, _≤_, _≡_, refl, sym, ap, _∙_, List, [], _∷_, _++_, append-assoc, Bool, true, false}
 use Rattle.laws.proofs.Basics.{cond, some, none, length, getD, set, replicate, length-append, length-set, List·getD-append, getD-append-add, eqb, ltb}
-use Rattle.laws.proofs.Basics.{leb, arith, eqb-true, ne-eqb, ltb-true, lt-ltb, le-ltb, le-leb}
-use Rattle.laws.proofs.Cases.{contradiction}
+use Rattle.laws.proofs.Basics.{leb, arith, eqb-true, ne-eqb, ltb-true, lt-ltb, le-ltb, le-leb, lt-leb}
+use Rattle.laws.proofs.Cases.{by-cases, by-order, by-cond, contradiction}
 use Rattle.items.specs.Item as I
 use Rattle.items.specs.Item.{Item, label, instruction, constant, string, global}
 use Rattle.items.specs.Scan.{scan, whole}
@@ -32,11 +32,7 @@ use Rattle.code.proofs.Goals.{Entered, Fits}
 address-near : (memory : ℕ) (ls : List Label) (n : ℕ) → Proper memory ls → addressOf ls n ≤ memory
 unfolding Proper addressOf
 address-near memory [] n p = omega arith
-address-near memory (l ∷ ls) n p = go (eqb (l .number) n) (p .3) (address-near memory ls n (p .4))
-  where
-    go : (b : Bool) → l .address ≤ memory → addressOf ls n ≤ memory → cond b (l .address) (addressOf ls n) ≤ memory
-    go true x y = x
-    go false x y = y
+address-near memory (l ∷ ls) n p = by-cond (λ a. a ≤ memory) (eqb (l .number) n) (p .3) (address-near memory ls n (p .4))
 
 no-address : (k n : ℕ) → 1 ≤ n → addressOf (replicate k vacant) n ≡ 0
 unfolding addressOf
@@ -69,12 +65,12 @@ record Found (v : ℕ) (es : List ℕ) (i k : ℕ) : Type 0 where
 position-found : (v : ℕ) (es : List ℕ) (i k : ℕ) → positionOf v es i ≡ some k → Found v es i k
 unfolding positionOf
 position-found v [] i k h = contradiction cc
-position-found v (a ∷ es) i k h = go (eqb v a) refl h (λ e. position-found v es (suc i) k e)
-  where
-    go : (b : Bool) → eqb v a ≡ b → cond b (some i) (positionOf v es (suc i)) ≡ some k → (positionOf v es (suc i) ≡ some k → Found v es (suc i) k)
-        → Found v (a ∷ es) i k
-    go true e q f = let z : i ≡ k = cc in record { at = 0; is = omega arith; within = omega arith; entry = sym (eqb-true v a e) }
-    go false e q f = let x = f q in record { at = suc (x .at); is = omega (arith, x .is); within = omega (arith, x .within); entry = x .entry }
+position-found v (a ∷ es) i k h =
+    by-cases (eqb v a)
+    (λ e. let f : some i ≡ some k = rw e at h in let z : i ≡ k = cc in
+    record { at = 0; is = omega arith; within = omega arith; entry = sym (eqb-true v a e) })
+    (λ e. let x = position-found v es (suc i) k (rw e at h) in
+    record { at = suc (x .at); is = omega (arith, x .is); within = omega (arith, x .within); entry = x .entry })
 
 -- ---- globals
 
@@ -285,13 +281,10 @@ module _
   in-code x l h = rw (le-ltb x 16 (omega arith), le-leb 416 x l, lt-ltb x codeEnd h) refl
 
   pub code-below : (x : ℕ) → env .isCode x ≡ true → x < first
-  code-below x h = go (ltb x 16) refl (leb 416 x) (ltb x codeEnd) refl h
-    where
-      go : (p : Bool) → ltb x 16 ≡ p → (q r : Bool) → ltb x codeEnd ≡ r → cond p true (cond q r false) ≡ true → x < first
-      go true e q r f h = let l : x < 16 = ltb-true x 16 e in omega (arith, b .past-start)
-      go false e true true f h = let l : x < codeEnd = ltb-true x codeEnd f in omega (arith, codeEnd-first)
-      go false e true false f h = contradiction cc
-      go false e false r f h = contradiction cc
+  code-below x h =
+      by-order x 16 (λ l. omega (arith, b .past-start)) (λ l.
+      by-order x 416 (λ m. let z : false ≡ true = rw (le-ltb x 16 l, lt-leb 416 x m) at h in contradiction cc) (λ m.
+      omega (arith, ltb-true x codeEnd (rw (le-ltb x 16 l, le-leb 416 x m) at h), codeEnd-first)))
 
   near : (n : ℕ) → addressOf (b .labels) n < 65536
   near n = omega (arith, address-near memory (b .labels) n (b .proper), b .most)

@@ -1,7 +1,7 @@
 -- The compiler's text has a label a source byte at most, and is refused only by 24 or 25: its labels differ and those used are there.
-use Rattle.laws.proofs.Basics.{ℕ, suc, _+_, _-_, _≤_, _≡_, refl, List, [], _∷_, _++_, Bool, true, false, cond, _⊎_, length, eqb, ltb, arith, eqb-true}
-use Rattle.laws.proofs.Basics.{eqb-false, eq-eqb, ltb-true, ltb-false}
-use Rattle.laws.proofs.Cases.{by-cases}
+use Rattle.laws.proofs.Basics.{ℕ, suc, _+_, _-_, _≤_, _≡_, refl, List, [], _∷_, _++_, true, false, cond, _⊎_, length, eqb, ltb, arith, eq-eqb, ne-eqb}
+use Rattle.laws.proofs.Basics.{lt-ltb, le-ltb}
+use Rattle.laws.proofs.Cases.{by-cases, by-order, by-cond}
 use Rattle.text.specs.declared.Refusal.{Refusal}
 use Rattle.items.specs.Item as I
 use Rattle.items.specs.Item.{Operand, number, address, Item, label, instruction, constant}
@@ -44,28 +44,16 @@ abbrev passed : ℕ → ℕ → ℕ
 passed k n = cond (ltb k n) 1 0
 
 passed-up : (k a b : ℕ) → a ≤ b → passed k a ≤ passed k b
-passed-up k a b l = go (ltb k a) refl (ltb k b) refl
-  where
-    go : (s : Bool) → ltb k a ≡ s → (t : Bool) → ltb k b ≡ t → cond s 1 0 ≤ cond t 1 0
-    go true e true f = omega arith
-    go true e false f = absurd (omega (arith, ltb-true k a e, ltb-false k b f))
-    go false e true f = omega arith
-    go false e false f = omega arith
+passed-up k a b l = by-order k a (λ e. rw (lt-ltb k a e, lt-ltb k b (omega arith)) (omega arith)) (λ e. rw (le-ltb k a e) (omega arith))
 
 abbrev point : ℕ → ℕ → ℕ
 point k n = cond (eqb n k) 1 0
 
 passed-point : (k n : ℕ) → passed k (suc n) - passed k n ≡ point k n
-passed-point k n = go (ltb k (suc n)) refl (ltb k n) refl (eqb n k) refl
-  where
-    go : (s : Bool) → ltb k (suc n) ≡ s → (t : Bool) → ltb k n ≡ t → (r : Bool) → eqb n k ≡ r → cond s 1 0 - cond t 1 0 ≡ cond r 1 0
-    go true e true f true g = absurd (omega (arith, ltb-true k n f, eqb-true n k g))
-    go true e true f false g = refl
-    go true e false f true g = refl
-    go true e false f false g = absurd (eqb-false n k g (omega (arith, ltb-true k (suc n) e, ltb-false k n f)))
-    go false e true f r g = absurd (omega (arith, ltb-false k (suc n) e, ltb-true k n f))
-    go false e false f true g = absurd (omega (arith, ltb-false k (suc n) e, eqb-true n k g))
-    go false e false f false g = refl
+passed-point k n =
+    by-order k n (λ l. rw (lt-ltb k n l, lt-ltb k (suc n) (omega arith), ne-eqb n k (λ e. omega arith)) refl) (λ l.
+    by-order n k (λ m. rw (le-ltb k n l, le-ltb k (suc n) m, ne-eqb n k (λ e. omega arith)) refl) (λ m.
+    rw (le-ltb k n l, lt-ltb k (suc n) (omega arith), eq-eqb n k (omega arith)) refl))
 
 unfoldable times : ℕ → List ℕ → ℕ
 times k [] = 0
@@ -88,20 +76,15 @@ times-marks k (I.global n m ∷ is) = omega (arith, times-marks k is)
 seen-none : (k : ℕ) (ns : List ℕ) → times k ns ≤ 0 → seen ns k ≡ false
 unfolding seen times
 seen-none k [] l = refl
-seen-none k (n ∷ ns) l = go (eqb n k) l (λ m. seen-none k ns m)
-  where
-    go : (t : Bool) → cond t 1 0 + times k ns ≤ 0 → (times k ns ≤ 0 → seen ns k ≡ false) → cond t true (seen ns k) ≡ false
-    go true m f = absurd (omega arith)
-    go false m f = f (omega arith)
+seen-none k (n ∷ ns) l =
+    by-cases (eqb n k) (λ e. let z : 1 + times k ns ≤ 0 = rw e at l in absurd (omega arith)) (λ e.
+    let z : 0 + times k ns ≤ 0 = rw e at l in rw e (seen-none k ns (omega arith)))
 
 seen-some : (k : ℕ) (ns : List ℕ) → 1 ≤ times k ns → seen ns k ≡ true
 unfolding seen times
 seen-some k [] l = absurd (omega arith)
-seen-some k (n ∷ ns) l = go (eqb n k) l (λ m. seen-some k ns m)
-  where
-    go : (t : Bool) → 1 ≤ cond t 1 0 + times k ns → (1 ≤ times k ns → seen ns k ≡ true) → cond t true (seen ns k) ≡ true
-    go true m f = refl
-    go false m f = f (omega arith)
+seen-some k (n ∷ ns) l =
+    by-cases (eqb n k) (λ e. rw e refl) (λ e. let z : 1 ≤ 0 + times k ns = rw e at l in rw e (seen-some k ns (omega arith)))
 
 -- ---- labels that differ, and labels that are there
 
@@ -160,20 +143,12 @@ module _ (source : List ℕ) (x : Facts source) where
       (items-marks (passed k) (passed-up k) (funs (ns source x)) (stringsIn source) (total source x) all-labels)
 
   at-most-once : (k : ℕ) → times k (labelsOf items) ≤ 1
-  at-most-once k = omega (arith, often k, one (ltb k (total source x)))
-    where
-      one : (t : Bool) → cond t 1 0 ≤ 1
-      one true = omega arith
-      one false = omega arith
+  at-most-once k = omega (arith, often k, by-cond (λ n. n ≤ 1) (ltb k (total source x)) {x = 1} {y = 0} (omega arith) (omega arith))
 
   once : (k : ℕ) → Within (total source x) k → seen (labelsOf items) k ≡ true
-  once k w = seen-some k (labelsOf items) (go (ltb k 1) refl (ltb k (total source x)) refl (often k))
-    where
-      go : (s : Bool) → ltb k 1 ≡ s → (t : Bool) → ltb k (total source x) ≡ t → times k (labelsOf items) + cond s 1 0 ≡ cond t 1 0
-          → 1 ≤ times k (labelsOf items)
-      go true e t f h = absurd (omega (arith, ltb-true k 1 e, w .first))
-      go false e true f h = omega arith
-      go false e false f h = absurd (omega (arith, ltb-false k (total source x) f, w .last))
+  once k w =
+      let h : times k (labelsOf items) + 0 ≡ 1 = rw (le-ltb k 1 (w .first), lt-ltb k (total source x) (w .last)) at (often k) in
+      seen-some k (labelsOf items) (omega arith)
 
   same-items : itemsOf (functionsIn source) (stringsIn source) ≡ items
   unfolding items ns

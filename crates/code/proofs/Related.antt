@@ -2,8 +2,7 @@
 -- A run starts at a height h, below which words that are gone are kept, and ends at a height h′, above which all words are gone.
 use Rattle.laws.proofs.Basics.{ℕ, _+_, _*_, _<_, _≤_, _≡_, refl, sym, _∙_, List, true, false, length, getD, set, length-set, getD-set-same}
 use Rattle.laws.proofs.Basics.{getD-set-other, leb, arith, eq-eqb, ne-eqb, leb-true, le-leb}
-use Rattle.laws.proofs.Cases.{contradiction}
-use native.Mathlib.Decide.{ℕ-discrete, decLt}
+use Rattle.laws.proofs.Cases.{by-order, by-equal, by-cond, contradiction}
 use Rattle.items.specs.Item as I
 use Rattle.machine.specs.State as M
 use Rattle.language.specs.State.{Cell, gone, holds, State, Result, ok, bind, step, put, forget}
@@ -13,7 +12,6 @@ use Rattle.code.proofs.Results.{live-unset, live-holds}
 use Rattle.code.proofs.Machine.{Mach, Goes, goes-not, goes-on}
 use Rattle.code.proofs.Standing.{Env, Agree, At}
 use Rattle.code.proofs.Instructions.{withMem}
-use Rattle.language.proofs.Cases.{by-cond}
 
 pub gone-holds : {c : Cell} {v : ℕ} → c ≡ gone → c ≡ holds v → ⊥
 gone-holds e f = contradiction cc
@@ -255,11 +253,8 @@ module _ (Γ : Env) where
   pub sink-rel : {p h h′ : ℕ} {s s′ : State} {v v′ : Mach} → Rel p h s v → h ≤ h′ → Rel p h′ s′ v′
       → ((a : ℕ) → a < p + h′ → s .cells a ≡ gone → s′ .cells a ≡ gone) → Rel p h s′ v′
   sink-rel {p} {h} {h′} {s} {s′} r l x keep =
-      with-cells x (omega (arith, x .room)) (x .vals) (λ a k. pick a k (decLt a (p + h′))) (x .code-gone) refl refl
-    where
-      pick : (a : ℕ) → p + h ≤ a → Dec (a < p + h′) → s′ .cells a ≡ gone
-      pick a k (yes m) = keep a m (r .above a k)
-      pick a k (no m) = x .above a (omega arith)
+      with-cells x (omega (arith, x .room)) (x .vals) (λ a k. by-order a (p + h′) (λ m. keep a m (r .above a k)) (λ m. x .above a m))
+      (x .code-gone) refl refl
 
   pub sink : {t p h h′ : ℕ} {s s′ : State} {v v′ : Mach} → Rel p h s v → h ≤ h′ → Sim t p h′ h′ s v s′ v′ → Rel p h s′ v′
   sink r l x = sink-rel r l (x .rel) (x .keep)
@@ -297,15 +292,12 @@ module _ (Γ : Env) where
   open-scope {p} {h} {h′} {s} {u} {v} r l k same vals above eo et es = record {
     n = 0;
     goes = goes-not (Γ .input) v;
-    rel = with-cells r l (λ a w g. pick a w g (decLt a (p + h))) above (λ a c. same a (omega (arith, r .base a c)) ∙ r .code-gone a c) eo et;
+    rel = with-cells r l (λ a w g. by-order a (p + h) (λ j. r .vals a w (sym (same a j) ∙ g)) (λ j. vals a w j g)) above
+        (λ a c. same a (omega (arith, r .base a c)) ∙ r .code-gone a c) eo et;
     keep = λ a j g. same a j ∙ g;
     frame = λ a j g. refl;
     time = omega arith;
   }
-    where
-      pick : (a w : ℕ) → u .cells a ≡ holds w → Dec (a < p + h) → getD (v .mem) a 0 ≡ w
-      pick a w g (yes j) = r .vals a w (sym (same a j) ∙ g)
-      pick a w g (no j) = vals a w (omega arith) g
 
   -- they are live no longer
   pub close-scope : {A : Type 0} {Q : A → Mach → Type 0} {t p h h′ : ℕ} {s : State} {v : Mach} {x : Result A} → h ≤ h′
@@ -326,11 +318,7 @@ module _ (Γ : Env) where
 
   -- a cell that is live lies below the height
   pub live-below : {p h : ℕ} {s : State} {v : Mach} → Rel p h s v → (a : ℕ) → (s .cells a ≡ gone → ⊥) → a < p + h
-  live-below {p} {h} r a n = pick (decLt a (p + h))
-    where
-      pick : Dec (a < p + h) → a < p + h
-      pick (yes l) = l
-      pick (no k) = absurd (n (r .above a (omega arith)))
+  live-below {p} {h} r a n = by-order a (p + h) (λ l. l) (λ k. absurd (n (r .above a k)))
 
   -- ---- instructions
 
@@ -418,7 +406,8 @@ module _ (Γ : Env) where
       globals-at = r .globals-at;
       room = r .room;
       base = r .base;
-      vals = λ x y g. val x y g (ℕ-discrete x a);
+      vals = λ x y g. by-equal x a (written x y g)
+          (λ q. getD-set-other (v .mem) a x (v .regs .a) 0 q ∙ r .vals x y (sym (put-other s a (holds w) x q) ∙ g));
       above = λ x k. other x (r .above x k);
       code-gone = λ x c. other x (r .code-gone x c);
       bytes = r .bytes;
@@ -432,8 +421,7 @@ module _ (Γ : Env) where
       other : (x : ℕ) → s .cells x ≡ gone → put a (holds w) s .cells x ≡ gone
       other x g = put-other s a (holds w) x (λ q. n (rw (← q) g)) ∙ g
 
-      val : (x y : ℕ) → put a (holds w) s .cells x ≡ holds y → Dec (x ≡ a) → getD (set (v .mem) a (v .regs .a)) x 0 ≡ y
-      val x y g (yes q) =
+      written : (x y : ℕ) → put a (holds w) s .cells x ≡ holds y → x ≡ a → getD (set (v .mem) a (v .regs .a)) x 0 ≡ y
+      written x y g q =
           let k : holds w ≡ holds y = sym (put-same s a (holds w)) ∙ (rw q at g) in
           rw q (getD-set-same (v .mem) a (v .regs .a) 0 (omega (arith, r .agree .size)) ∙ (cc))
-      val x y g (no q) = getD-set-other (v .mem) a x (v .regs .a) 0 q ∙ r .vals x y (sym (put-other s a (holds w) x q) ∙ g)

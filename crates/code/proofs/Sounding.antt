@@ -1,6 +1,6 @@
 -- The code of formed functions whose heights and labels are bounded can be written and read back.
 use Rattle.laws.proofs.Basics.{ℕ, suc, _+_, _<_, _≤_, _≡_, refl, List, [], _∷_, _++_, Bool, true, false, _&&_, cond, eqb, leb, arith, le-leb}
-use Rattle.laws.proofs.Cases.{by-cases, contradiction}
+use Rattle.laws.proofs.Cases.{by-cases, by-cond, contradiction}
 use Rattle.items.specs.Item as I
 use Rattle.items.specs.Item.{Operand, number, address, Base, Item, label, instruction, constant, string, global}
 use Rattle.items.proofs.Sound.{Sound, SoundOperand, SoundString}
@@ -109,9 +109,6 @@ pub record Span (T n m : ℕ) : Type 0 where
 pub span : {T n m : ℕ} → 1 ≤ n → n + m ≤ T → Span T n m
 span o r = record { one = o; room = r }
 
-is-within : {T n : ℕ} → 1 ≤ n → n < T → Within T n
-is-within o l = record { first = o; last = l }
-
 -- ---- heights
 
 unfoldable pub Low : List ℕ → Type 0
@@ -152,25 +149,17 @@ act-small o =
     (pick 17 _ (eqb o RIGHT) (omega arith) (pick 18 _ (eqb o AMPERSAND) (omega arith) (pick 19 _ (eqb o BAR) (omega arith) (omega arith)))))))))))))))
   where
     pick : (x y : ℕ) (b : Bool) → x ≤ 19 → y ≤ 19 → cond b x y ≤ 19
-    pick x y true p q = p
-    pick x y false p q = q
+    pick x y b p q = by-cond (λ n. n ≤ 19) b p q
 
 limit-small : (by : ℕ) → limitAct by ≤ 19
 limit-small by = by-cases (leb 32768 by) (λ outcome. rw outcome (omega arith)) (λ outcome. rw outcome (omega arith))
 
 sense-small : (b : Bool) (x y : ℕ) → x < 8 → y < 8 → cond b x y < 8
-sense-small true x y p q = p
-sense-small false x y p q = q
+sense-small b x y p q = by-cond (λ n. n < 8) b p q
 
 sound-monadic : {T : ℕ} (o : ℕ) → Sounds T (monadicAct o)
 unfolding monadicAct
-sound-monadic {T} o = go (eqb o MINUS) (eqb o NOT)
-  where
-    go : (b c : Bool)
-        → Sounds T (cond b (instruction 7 false I.none (number false 2) ∷ []) (cond c (instruction 7 false I.none (number false 3) ∷ []) []))
-    go true c = num (omega arith) s-none
-    go false true = num (omega arith) s-none
-    go false false = s-none
+sound-monadic {T} o = by-cond (Sounds T) (eqb o MINUS) (num (omega arith) s-none) (by-cond (Sounds T) (eqb o NOT) (num (omega arith) s-none) s-none)
 
 -- ---- labels that are left to
 
@@ -186,14 +175,11 @@ near-loop l q = record { break = λ _. l .1; loop = λ _. l .0; endcase = q .end
 near-switch : {T : ℕ} {a b v : Bool} {x : Exits} {m : ℕ} → Within T m → Near T a b v x → Near T a true v (inSwitch m x)
 near-switch l q = record { break = q .break; loop = q .loop; endcase = λ _. l; result = q .result }
 
-never : {P : Type 0} → false ≡ true → P
-never e = contradiction cc
-
 near-valof : {T m : ℕ} → Within T m → Near T false false true (inValof m)
-near-valof l = record { break = λ e. never e; loop = λ e. never e; endcase = λ e. never e; result = λ _. l }
+near-valof l = record { break = λ e. contradiction cc; loop = λ e. contradiction cc; endcase = λ e. contradiction cc; result = λ _. l }
 
 pub near-none : {T : ℕ} → Near T false false false nowhereElse
-near-none = record { break = λ e. never e; loop = λ e. never e; endcase = λ e. never e; result = λ e. never e }
+near-none = record { break = λ e. contradiction cc; loop = λ e. contradiction cc; endcase = λ e. contradiction cc; result = λ e. contradiction cc }
 
 sound-pairs-of : {T : ℕ} (l : ℕ) → Within T l → (ls : List CaseLabel) → FormedCases ls → Sounds T (pairsOf l ls)
 unfolding pairsOf FormedCases
@@ -204,11 +190,7 @@ sound-pairs-of l m (R.default ∷ ls) f = sound-pairs-of l m ls f
 default-near : {T : ℕ} (l e : ℕ) (cs : Cases) → Span T l (commandsIn cs) → Within T e → Within T (defaultOf l e cs)
 unfolding defaultOf commandsIn
 default-near l e R.noCases p q = q
-default-near {T} l e (R.cases ls c cs) p q = go (hasDefault ls) (default-near (suc l) e cs (omega arith) q)
-  where
-    go : (b : Bool) → Within T (defaultOf (suc l) e cs) → Within T (cond b l (defaultOf (suc l) e cs))
-    go true k = omega arith
-    go false k = k
+default-near {T} l e (R.cases ls c cs) p q = by-cond (Within T) (hasDefault ls) (omega arith) (default-near (suc l) e cs (omega arith) q)
 
 module _ (T functions strings : ℕ) (few : suc functions + strings ≤ T) where
   sound-table : (l h : ℕ) (cs : Cases) → Span T l (commandsIn cs) → FormedS functions strings h cs → Sounds T (tableOf l cs)

@@ -1,8 +1,7 @@
 -- The start: the machine at word 0 of an accepted image and the source run's first state are related, and the call of START follows.
 use Rattle.laws.proofs.Basics.{ℕ, suc, _+_, _-_, _<_, _≤_, _≡_, refl, _∙_, List, [], _∷_, Bool, true, false, cond, Option, some, none, length, getD}
 use Rattle.laws.proofs.Basics.{eqb, ltb, leb, le-refl, arith, ltb-true, le-ltb, leb-true, leb-false, le-leb, lt-leb}
-use Rattle.laws.proofs.Cases.{contradiction}
-use native.Mathlib.Decide.{decLt}
+use Rattle.laws.proofs.Cases.{by-order, contradiction}
 use Rattle.text.specs.Packed.{packed}
 use Rattle.words.specs.Globals.{noGlobals}
 use Rattle.machine.specs.State.{startRegisters}
@@ -150,18 +149,12 @@ module _
     -- the call of START, from word 0 on
     runs : (fuel : ℕ) → Runs Γ (Valued Γ 2) 5 first 2 2 s₀ v₀ (runWith fuel fs ss (Γ .place) (memory - 8) input)
     unfolding runWith
-    runs fuel = go (decLt (memory - 8) (first + 2))
-      where
-        go : Dec (memory - 8 < first + 2)
-            → Runs Γ (Valued Γ 2) 5 first 2 2 s₀ v₀
-            (called fs (Γ .place) (memory - 8) input (sem fs (Γ .place) (memory - 8) input fuel)
-            (getD (globalsWith fs (Γ .place .entries) noGlobals) 1 0) (first + 2) [] s₀)
-        go (yes l) = not-called (memory - 8) (first + 2) _ _ s₀ l
-        go (no l) =
-            step-LIG Γ (fits .sized) (le-refl 2) (starts (omega arith)) refl (G.start-0 input b) (omega (arith, b .least)) λ w r c a.
-            sim-called Γ fits (sem fs (Γ .place) (memory - 8) input fuel) (sims Γ fits fuel)
-            (getD (globalsWith fs (Γ .place .entries) noGlobals) 1 0) [] r c
-            (G.start-1 input b) (a ∙ G.global-word input b 1 (omega arith)) (holding-none (w .mem) (first + 2 + 2))
+    runs fuel =
+        by-order (memory - 8) (first + 2) (λ l. not-called (memory - 8) (first + 2) _ _ s₀ l) (λ l.
+        step-LIG Γ (fits .sized) (le-refl 2) (starts (omega arith)) refl (G.start-0 input b) (omega (arith, b .least)) λ w r c a.
+        sim-called Γ fits (sem fs (Γ .place) (memory - 8) input fuel) (sims Γ fits fuel)
+        (getD (globalsWith fs (Γ .place .entries) noGlobals) 1 0) [] r c
+        (G.start-1 input b) (a ∙ G.global-word input b 1 (omega arith)) (holding-none (w .mem) (first + 2 + 2)))
 
     -- a source run that ends below the last eight words is followed to a finish
     pub finishes : (fuel : ℕ) (s : State) → Over (runWith fuel fs ss (Γ .place) memory input) s → s .used + 8 ≤ memory → Ends Γ 5 s₀ v₀ s

@@ -1,6 +1,7 @@
 -- The simulation of SWITCHON: the machine's search goes to the command that the source selects, or to the end.
 use Rattle.laws.proofs.Basics.{ℕ, suc, _+_, _≡_, refl, sym, ap, _∙_, List, [], _∷_, Bool, true, false, cond, Option, some, none, length, eqb, le-refl}
 use Rattle.laws.proofs.Basics.{arith, eqb-true, eqb-false, eq-eqb, ne-eqb, lt-ltb}
+use Rattle.laws.proofs.Cases.{by-cases}
 use Rattle.words.specs.Words.{add}
 use Rattle.machine.specs.Outcome as O
 use Rattle.machine.specs.Acts.{search}
@@ -74,12 +75,8 @@ module _ (Γ : Env) (sized : Sized Γ) (m : List ℕ) (agree : Agree Γ m) (w d 
   unfolding caseCount tableOf labelAt search
   search-table l other R.noCases e k = ap (λ (x : ℕ). O.ok x) e
   search-table l other (R.cases ls c cs) {i} {j} e k =
-      cut Γ (pairsOf l ls) _ k λ b₁ k₁ k₂. search-labels l ls (caseCount cs) k₁ ∙ go (hasCase w ls) (search-table (suc l) other cs e k₂)
-    where
-      go : {x : O.Out ℕ} (b : Bool) → x ≡ O.ok (Γ .lab (labelAt (hasCase w) (suc l) other cs))
-          → cond b (O.ok (Γ .lab l)) x ≡ O.ok (Γ .lab (cond b l (labelAt (hasCase w) (suc l) other cs)))
-      go true q = refl
-      go false q = q
+      cut Γ (pairsOf l ls) _ k λ b₁ k₁ k₂. search-labels l ls (caseCount cs) k₁
+      ∙ by-cases (hasCase w ls) (λ t. rw t refl) (λ t. rw t (search-table (suc l) other cs e k₂))
 
 module _ (Γ : Env) where
   -- the commands that are run, at their label

@@ -1,8 +1,7 @@
 -- The placement rules of the compiler's text: every function and string labelled, entries that differ, strings in place and apart.
-use Rattle.laws.proofs.Basics.{ℕ, zero, suc, _+_, _-_, _<_, _≤_, _≡_, refl, sym, _∙_, List, [], _∷_, _++_, append-assoc, Bool, true, false, cond, inl}
-use Rattle.laws.proofs.Basics.{length, getD, take, drop, replicate, length-drop, length-take-le, getD-take, getD-drop, ext-getD, eqb, arith, eq-eqb}
-use Rattle.laws.proofs.Basics.{ne-eqb}
-use native.Mathlib.Decide.{decLt}
+use Rattle.laws.proofs.Basics.{ℕ, zero, suc, _+_, _-_, _<_, _≤_, _≡_, refl, sym, _∙_, List, [], _∷_, _++_, append-assoc, true, false, inl, length}
+use Rattle.laws.proofs.Basics.{getD, take, drop, replicate, length-drop, length-take-le, getD-take, getD-drop, ext-getD, eqb, arith, eq-eqb, ne-eqb}
+use Rattle.laws.proofs.Cases.{by-order, by-cond}
 use Rattle.items.specs.Item.{Item, label}
 use Rattle.items.specs.Render.{render}
 use Rattle.items.proofs.Rendered.{places}
@@ -55,11 +54,7 @@ in-strings l (cs ∷ ss) (suc k) h = let z : l + suc k ≡ suc l + k = omega ari
 defined-in : (ls more : List Label) (n at : ℕ) → defined (ls ++ (record { number = n; address = at } ∷ more)) n ≡ true
 unfolding defined
 defined-in [] more n at = rw (eq-eqb n n refl) refl
-defined-in (l ∷ ls) more n at = go (eqb (l .number) n) (defined-in ls more n at)
-  where
-    go : {x : Bool} (b : Bool) → x ≡ true → cond b true x ≡ true
-    go true e = refl
-    go false e = e
+defined-in (l ∷ ls) more n at = by-cond (λ x. x ≡ true) (eqb (l .number) n) refl (defined-in ls more n at)
 
 module _ (memory room : ℕ) where
   laid-defined : {n : ℕ} {xs : List Item} → In n xs → (at p : ℕ) (ls : List Label) {labels : List Label} {end : ℕ}
@@ -175,19 +170,16 @@ module _
 
   pub labelled : (n : ℕ) → 1 ≤ n → n ≤ length fs + length ss → defined table n ≡ true
   unfolding itemsOf
-  labelled n l h = rw (b .table-is) (table-defined (b .labels) (room - length (b .labels)) n l ∙ go (decLt (length fs) n))
+  labelled n l h = rw (b .table-is) (table-defined (b .labels) (room - length (b .labels)) n l ∙ laid-defined memory room place 416 2 [] (b .lays))
     where
-      at-label : In n (itemsOf fs ss) → defined (b .labels) n ≡ true
-      at-label i = laid-defined memory room i 416 2 [] (b .lays)
-
-      go : Dec (length fs < n) → defined (b .labels) n ≡ true
-      go (no k) =
-          let z : 1 + (n - 1) ≡ n = omega arith in
-          at-label (in-left _ (rw z at (in-functions (suc (length fs)) 1 (suc (length fs) + length ss) fs (n - 1) (omega arith))))
-      go (yes k) =
-          let z : suc (length fs) + (n - suc (length fs)) ≡ n = omega arith in
-          at-label (in-right (functionsCode (suc (length fs)) 1 (suc (length fs) + length ss) fs)
+      place : In n (itemsOf fs ss)
+      place =
+          by-order (length fs) n
+          (λ k. let z : suc (length fs) + (n - suc (length fs)) ≡ n = omega arith in
+          in-right (functionsCode (suc (length fs)) 1 (suc (length fs) + length ss) fs)
           (in-left _ (rw z at (in-strings (suc (length fs)) ss (n - suc (length fs)) (omega arith)))))
+          (λ k. let z : 1 + (n - 1) ≡ n = omega arith in
+          in-left _ (rw z at (in-functions (suc (length fs)) 1 (suc (length fs) + length ss) fs (n - 1) (omega arith))))
 
   up : Up memory room (b .labels) 1 416 (length fs)
   unfolding itemsOf
@@ -203,12 +195,8 @@ module _
       → getD (addressesFrom table 1 (length fs)) i 0 ≡ getD (addressesFrom table 1 (length fs)) j 0 → i ≡ j
   entries-differ i j h k e =
       let q : addressOf (b .labels) (1 + i) ≡ addressOf (b .labels) (1 + j) = sym (entry i h) ∙ e ∙ entry j k in
-      go q (decLt i j) (decLt j i)
-    where
-      go : addressOf (b .labels) (1 + i) ≡ addressOf (b .labels) (1 + j) → Dec (i < j) → Dec (j < i) → i ≡ j
-      go q (yes l) d = absurd (omega (arith, up .strict i j l k))
-      go q (no l) (yes m) = absurd (omega (arith, up .strict j i m h))
-      go q (no l) (no m) = omega arith
+      by-order i j (λ l. absurd (omega (arith, up .strict i j l k))) (λ l.
+      by-order j i (λ m. absurd (omega (arith, up .strict j i m h))) (λ m. omega arith))
 
   pub entry-high : (i : ℕ) → i < length fs → 416 ≤ getD (addressesFrom table 1 (length fs)) i 0
   entry-high i h = rw (entry i h) (up .low i h)

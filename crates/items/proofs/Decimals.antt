@@ -1,9 +1,9 @@
 -- Decimals, digit by digit.
-use Rattle.laws.proofs.Basics.{ℕ, suc, _+_, _-_, _*_, _<_, _≤_, _≡_, refl, sym, _∙_, List, Bool, true, false, cond, length, getD, drop, leb, arith}
-use Rattle.laws.proofs.Basics.{leb-true}
-use Rattle.laws.proofs.Basics.{le-leb, lt-leb}
+use Rattle.laws.proofs.Basics.{ℕ, suc, _+_, _-_, _*_, _<_, _≤_, _≡_, refl, sym, _∙_, List, true, false, length, getD, drop, leb, arith, le-leb}
+use Rattle.laws.proofs.Basics.{lt-leb}
 use Rattle.laws.proofs.Cases.{contradiction}
 use Rattle.text.proofs.Bytes.{at-byte, past-end}
+use Rattle.text.proofs.Quotes.{digit-bounds}
 use Rattle.items.specs.Item.{capped}
 use Rattle.items.specs.Reader.{Got, got, nothing, head, isDigit, digits, digitCount, decimal}
 use Rattle.items.specs.Parts.{asDecimal}
@@ -16,13 +16,6 @@ below-digits c h = rw (lt-leb 48 c h)
 
 pub from-digits : (c : ℕ) → 48 ≤ c → isDigit c ≡ leb c 57
 from-digits c h = rw (le-leb 48 c h)
-
-pub digit-bounds : (c : ℕ) → isDigit c ≡ true → (48 ≤ c) × (c ≤ 57)
-digit-bounds c = low (leb 48 c) refl
-  where
-    low : (t : Bool) → leb 48 c ≡ t → cond t (leb c 57) false ≡ true → (48 ≤ c) × (c ≤ 57)
-    low true k e = (leb-true 48 c k, leb-true c 57 e)
-    low false k e = contradiction cc
 
 -- what one digit more asks for
 pub digit-ready : {n : ℕ} (c : ℕ) → n ≤ 65536 → isDigit c ≡ true → (n ≤ 65536) × (48 ≤ c) × (c ≤ 57)

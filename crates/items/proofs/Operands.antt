@@ -1,7 +1,7 @@
 -- Operands and bases, by the byte that they begin with.
-use Rattle.laws.proofs.Basics.{ℕ, _+_, _≡_, refl, sym, ap, _∙_, List, [], _∷_, Bool, true, false, cond, length, drop, drop-drop, eqb, add-zero, arith}
-use Rattle.laws.proofs.Basics.{eq-eqb, ne-eqb}
-use Rattle.laws.proofs.Cases.{contradiction}
+use Rattle.laws.proofs.Basics.{ℕ, _+_, _≡_, refl, sym, ap, _∙_, List, [], _∷_, true, false, length, drop, drop-drop, eqb, add-zero, arith, eq-eqb}
+use Rattle.laws.proofs.Basics.{ne-eqb}
+use Rattle.laws.proofs.Cases.{by-cond, contradiction}
 use Rattle.text.specs.Quoted.{character, closed, unclosed, faulty, quoted}
 use Rattle.text.specs.Parts.{valueOf}
 use Rattle.text.proofs.Bytes.{Unlike}
@@ -161,12 +161,9 @@ pub record BaseRead (text : List ℕ) (at : ℕ) (r : Based) : Type 0 where
 
 base-got : (bytes : List ℕ) → base bytes ≡ nothing → ⊥
 unfolding base
-base-got bytes = by (eqb (head bytes) 80) (eqb (head bytes) 71)
-  where
-    by : (s t : Bool) → cond s (got I.P 1) (cond t (got I.G 1) (got I.none 0)) ≡ nothing → ⊥
-    by true t k = contradiction cc
-    by false true k = contradiction cc
-    by false false k = contradiction cc
+base-got bytes =
+    by-cond (λ g. g ≡ nothing → ⊥) (eqb (head bytes) 80) (λ k. contradiction cc)
+    (by-cond (λ g. g ≡ nothing → ⊥) (eqb (head bytes) 71) (λ k. contradiction cc) (λ k. contradiction cc))
 
 pub base-reads : (text : List ℕ) (at : ℕ) {r : Based} → r ≡ asBased at (base (drop at text)) → BaseRead text at r
 unfolding asBased

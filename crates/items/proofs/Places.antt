@@ -1,7 +1,7 @@
 -- Readers at a place of a text: the byte there, and reading on from place to place.
 use Rattle.laws.proofs.Basics.{ℕ, _+_, _<_, _≤_, _≡_, refl, sym, ap, _∙_, List, [], _∷_, Bool, true, false, cond, length, getD, drop, drop-drop, eqb}
 use Rattle.laws.proofs.Basics.{ltb, arith, eqb-true, ne-eqb, ltb-true, ltb-false}
-use Rattle.laws.proofs.Cases.{by-cases, contradiction}
+use Rattle.laws.proofs.Cases.{by-cases, by-cond, contradiction}
 use Rattle.text.proofs.Bytes.{at-byte, past-end, Unlike}
 use Rattle.items.specs.Reader.{Got, got, nothing, Reader, wide, onGot, head, byte, optional}
 use Rattle.items.specs.Read.{ended}
@@ -82,16 +82,11 @@ is-not-ended bytes e h = rw (not-ended bytes e h)
 -- an item's end takes no byte
 ended-got : (bytes : List ℕ) → isGot (ended bytes) ≡ true → ended bytes ≡ got true 0
 unfolding ended isGot
-ended-got bytes =
-    either (eqb (head bytes) 32) (either (eqb (head bytes) 10) (either (eqb (head bytes) 47) (either (eqb (head bytes) 256) none)))
+ended-got bytes = orAt 32 (orAt 10 (orAt 47 (orAt 256 (λ e. contradiction cc))))
   where
-    none : isGot nothing ≡ true → nothing ≡ got true 0
-    none e = contradiction cc
-
-    either : (t : Bool) {other : Got Bool} → (isGot other ≡ true → other ≡ got true 0) → isGot (cond t (got true 0) other) ≡ true
-        → cond t (got true 0) other ≡ got true 0
-    either true p e = refl
-    either false p e = p e
+    orAt : (c : ℕ) {other : Got Bool} → (isGot other ≡ true → other ≡ got true 0) → isGot (cond (eqb (head bytes) c) (got true 0) other) ≡ true
+        → cond (eqb (head bytes) c) (got true 0) other ≡ got true 0
+    orAt c = by-cond (λ g. isGot g ≡ true → g ≡ got true 0) (eqb (head bytes) c) (λ _. refl)
 
 pub got-none : (g : Got Bool) → isGot g ≡ false → g ≡ nothing
 unfolding isGot
@@ -126,22 +121,12 @@ module _ (text : List ℕ) (at c : ℕ) where
 
 pub mark-got : (c : ℕ) (bytes : List ℕ) → isGot (mark c bytes) ≡ true → mark c bytes ≡ got true 1
 unfolding mark byte isGot
-mark-got c bytes = by (eqb (head bytes) c)
-  where
-    wider : (g : Got Bool) → (isGot g ≡ true → g ≡ got true 0) → isGot (wide 1 g) ≡ true → wide 1 g ≡ got true 1
-    wider g f e = ap (wide 1) (f (sym (wide-got 1 g) ∙ e))
-
-    by : (t : Bool) → isGot (onGot (cond t (got true 1) nothing) (λ _ n. wide n (ended (drop n bytes)))) ≡ true
-        → onGot (cond t (got true 1) nothing) (λ _ n. wide n (ended (drop n bytes))) ≡ got true 1
-    by true e = wider (ended (drop 1 bytes)) (ended-got (drop 1 bytes)) e
-    by false e = contradiction cc
+mark-got c bytes =
+    by-cond (λ g. isGot (onGot g (λ _ n. wide n (ended (drop n bytes)))) ≡ true → onGot g (λ _ n. wide n (ended (drop n bytes))) ≡ got true 1)
+    (eqb (head bytes) c) {y = nothing} (λ e. ap (wide 1) (ended-got (drop 1 bytes) (sym (wide-got 1 (ended (drop 1 bytes))) ∙ e)))
+    (λ e. contradiction cc)
 
 pub mark-inside : (text : List ℕ) (at c : ℕ) → isGot (mark c (drop at text)) ≡ true → c < 256 → at < length text
-mark-inside text at c e h = by (eqb (head (drop at text)) c) refl
-  where
-    never : mark c (drop at text) ≡ nothing → ⊥
-    never k = let g : got true 1 ≡ nothing = sym (mark-got c (drop at text) e) ∙ k in contradiction cc
-
-    by : (t : Bool) → eqb (head (drop at text)) c ≡ t → at < length text
-    by true k = inside text at (eqb-true _ c k) h
-    by false k = absurd (never (mark-not text at c k))
+mark-inside text at c e h =
+    by-cases (eqb (head (drop at text)) c) (λ k. inside text at (eqb-true _ c k) h) (λ k.
+    let g : got true 1 ≡ nothing = sym (mark-got c (drop at text) e) ∙ mark-not text at c k in contradiction cc)

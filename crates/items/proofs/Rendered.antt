@@ -2,10 +2,10 @@
 use Rattle.laws.proofs.Basics.{ℕ, zero, suc, _+_, _-_, _*_, _/_, _%_, _<_, _≤_, _≡_, refl, sym, ap, _∙_, List, [], _∷_, _++_, append-assoc, Bool}
 use Rattle.laws.proofs.Basics.{true, false, _&&_, cond, length, drop, length-append, drop-drop, drop-append-add, eqb, ltb, leb, add-one, arith}
 use Rattle.laws.proofs.Basics.{eqb-true, eqb-false, ne-eqb, ltb-true, ltb-false, leb-true, le-leb}
-use Rattle.laws.proofs.Cases.{by-cases, contradiction}
+use Rattle.laws.proofs.Cases.{by-cases, either, contradiction, both-true}
 use lib.Seq.{drop-append-seam}
 use Rattle.text.specs.Quoted.{is, byNumber, escape, character, closed, quoted}
-use Rattle.text.proofs.Quotes.{Writable, at-quote, at-asterisk, at-plain, no-letter, a-byte, quoted-next, quoted-end}
+use Rattle.text.proofs.Quotes.{Writable, digit-bounds, at-quote, at-asterisk, at-plain, no-letter, a-byte, quoted-next, quoted-end}
 use Rattle.items.specs.Item.{capped, Operand, number, address, Base, none, P, G, Item, Placed, label, instruction, constant, string, global}
 use Rattle.items.specs.Reader.{got, wide, head, byte, optional, isDigit, digits, digitCount, decimal}
 use Rattle.items.specs.Read.{ended, quotedString, negative, labelled, positive, operand, base, labelItem, instructionItem, constantItem}
@@ -14,7 +14,6 @@ use Rattle.items.specs.Scan.{gaps, whole, goesOn, mark, trailing, body, 
 use Rattle.items.specs.Next.{one, elementAt}
 use Rattle.items.specs.Render.{numeral, numeralOf, operandText, baseText, indirectText, letter, plainText, characterText, charactersText}
 use Rattle.items.specs.Render.{render, renderLines, renderAll}
-use Rattle.items.proofs.Decimals.{digit-bounds}
 use Rattle.items.proofs.Scans.{onNext, body-element}
 use Rattle.items.proofs.Sound.{SoundOperand, SoundString, SoundInstruction, SoundGlobal, Sound}
 
@@ -49,12 +48,9 @@ more-digits {l} n h w =
 numeral-writes : (k n : ℕ) → n < k → n ≤ 65536 → Writes (numeral k n) n
 unfolding numeral
 numeral-writes zero n h l = absurd (omega arith)
-numeral-writes (suc k) n h l = by (ltb n 10) refl (λ j. numeral-writes k (n / 10) (omega arith) (omega arith))
-  where
-    by : (t : Bool) → ltb n 10 ≡ t → (10 ≤ n → Writes (numeral k (n / 10)) (n / 10))
-        → Writes (cond t ((48 + n) ∷ []) (numeral k (n / 10) ++ ((48 + n % 10) ∷ []))) n
-    by true e more = one-digit n (ltb-true n 10 e)
-    by false e more = more-digits n l (more (ltb-false n 10 e))
+numeral-writes (suc k) n h l =
+    either (λ xs. Writes xs n) (ltb n 10) (λ e. one-digit n (ltb-true n 10 e)) (λ e.
+    let j = ltb-false n 10 e in more-digits n l (numeral-writes k (n / 10) (omega arith) (omega arith)))
 
 numeral-of : (n : ℕ) → n ≤ 65536 → Writes (numeralOf n) n
 unfolding numeralOf
@@ -147,16 +143,10 @@ three-digits c h rest =
 
 plain-text : (c : ℕ) (rest : List ℕ) → c ≤ 255 → (c ≡ 34 → ⊥) → (c ≡ 42 → ⊥) → Shows rest c (plainText c)
 unfolding plainText
-plain-text c rest h n34 n42 = by (leb 32 c) (leb c 126) refl refl
-  where
-    numbered : Shows rest c (42 ∷ (48 + c / 100) ∷ (48 + c / 10 % 10) ∷ (48 + c % 10) ∷ [])
-    numbered = record { shows = at-asterisk 34 42 _ (λ e. omega arith) refl ∙ three-digits c h rest }
-
-    by : (s t : Bool) → leb 32 c ≡ s → leb c 126 ≡ t
-        → Shows rest c (cond (s && t) (c ∷ []) (42 ∷ (48 + c / 100) ∷ (48 + c / 10 % 10) ∷ (48 + c % 10) ∷ []))
-    by true true e f = record { shows = at-plain 34 c rest n34 n42 (leb-true 32 c e) (leb-true c 126 f) }
-    by true false e f = numbered
-    by false t e f = numbered
+plain-text c rest h n34 n42 =
+    either (Shows rest c) (leb 32 c && leb c 126)
+    (λ e. let b = both-true (leb 32 c) (leb c 126) e in record { shows = at-plain 34 c rest n34 n42 (leb-true 32 c (b .0)) (leb-true c 126 (b .1)) })
+    (λ _. record { shows = at-asterisk 34 42 _ (λ e. omega arith) refl ∙ three-digits c h rest })
 
 -- every byte is read back
 character-text : (c : ℕ) (rest : List ℕ) → c ≤ 255 → Shows rest c (characterText c)

@@ -1,6 +1,7 @@
 -- A scan of a whole text is the items that `nextIn` gives one after another, from where `startIn` says that they begin.
 use Rattle.laws.proofs.Basics.{ℕ, zero, suc, _+_, _-_, _≤_, _≡_, refl, ap, _∙_, List, [], _∷_, Bool, true, false, not, cond, length, drop, drop-drop}
 use Rattle.laws.proofs.Basics.{eqb, add-zero, arith}
+use Rattle.laws.proofs.Cases.{by-cond}
 use Rattle.items.specs.Item.{Item}
 use Rattle.items.specs.Reader.{Got, got, nothing, head}
 use Rattle.items.specs.Read.{item, functionOf}
@@ -23,11 +24,8 @@ onStart text (unbegun place) = ends (unreadable place)
 pub gaps-within : (comment : Bool) (bytes : List ℕ) → gaps comment bytes ≤ length bytes
 unfolding gaps
 gaps-within comment [] = omega arith
-gaps-within comment (c ∷ r) = rw (gap-byte comment c r) (by (inGap comment c) (gaps-within (inComment comment c) r))
-  where
-    by : (t : Bool) {n : ℕ} → n ≤ length r → cond t (suc n) 0 ≤ suc (length r)
-    by true h = omega arith
-    by false h = omega arith
+gaps-within comment (c ∷ r) = rw (gap-byte comment c r)
+    (by-cond (λ n. n ≤ suc (length r)) (inGap comment c) (omega (arith, gaps-within (inComment comment c) r)) (omega arith))
 
 -- no gap follows a gap
 pub gaps-passed : (comment : Bool) (bytes : List ℕ) → gaps false (drop (gaps comment bytes) bytes) ≡ 0

@@ -2,7 +2,7 @@
 -- characters are bytes.
 use Rattle.laws.proofs.Basics.{ℕ, suc, _+_, _-_, _*_, _<_, _≤_, _≡_, refl, List, [], _∷_, Bool, true, false, cond, length, drop, length-drop}
 use Rattle.laws.proofs.Basics.{drop-drop, eqb, ltb, arith, eqb-true, ltb-true}
-use Rattle.laws.proofs.Cases.{contradiction}
+use Rattle.laws.proofs.Cases.{by-cond, contradiction}
 use Rattle.text.specs.Quoted.{Quoted, closed, unclosed, faulty, quoted}
 use Rattle.text.proofs.Quotes.{Writable, each-byte, Closed, is-closed}
 use Rattle.items.specs.Item.{capped, Operand, number, address, Item, label, instruction, constant, string, global}
@@ -125,20 +125,12 @@ base-meets (c ∷ r) =
 digits-small : (v : ℕ) (bytes : List ℕ) → v ≤ 65536 → digits v bytes ≤ 65536
 unfolding digits
 digits-small v [] h = h
-digits-small v (c ∷ r) h = by (isDigit c) (digits-small (capped (v * 10 + (c - 48))) r (omega arith))
-  where
-    by : (t : Bool) → digits (capped (v * 10 + (c - 48))) r ≤ 65536 → cond t (digits (capped (v * 10 + (c - 48))) r) v ≤ 65536
-    by true k = k
-    by false k = h
+digits-small v (c ∷ r) h = by-cond (λ n. n ≤ 65536) (isDigit c) (digits-small (capped (v * 10 + (c - 48))) r (omega arith)) h
 
 digits-within : (bytes : List ℕ) → digitCount bytes ≤ length bytes
 unfolding digitCount
 digits-within [] = omega arith
-digits-within (c ∷ r) = by (isDigit c) (digits-within r)
-  where
-    by : (t : Bool) → digitCount r ≤ length r → cond t (suc (digitCount r)) 0 ≤ suc (length r)
-    by true h = omega arith
-    by false h = omega arith
+digits-within (c ∷ r) = by-cond (λ n. n ≤ suc (length r)) (isDigit c) (omega (arith, digits-within r)) (omega arith)
 
 decimal-meets : (bytes : List ℕ) → Meets (length bytes) 1 (λ (n : ℕ). n ≤ 65536) (decimal bytes)
 unfolding decimal head digitCount

@@ -1,7 +1,7 @@
 -- The candidates of a word (document 02, Req 03) alone decide its kind, and of no list of bytes are there more than three.
 use Rattle.laws.proofs.Basics.{ℕ, suc, _≤_, _≡_, refl, sym, _∙_, List, [], _∷_, Bool, true, false, _&&_, cond, length, getD, eqb, leb, arith}
 use Rattle.laws.proofs.Basics.{eqb-true, leb-true}
-use Rattle.laws.proofs.Cases.{both-left, both-right}
+use Rattle.laws.proofs.Cases.{by-cases, by-cond, both-true, both-left, both-right}
 use lib.Dec.{eqb·zero-suc, eqb·suc-zero}
 use Rattle.language.specs.Kinds.{Spelled, reserved}
 use Rattle.language.specs.Symbols.{begins, same, kindIn, kindOf}
@@ -26,11 +26,9 @@ same-alike (s ∷ ss) (b ∷ bs) e = go (eqb s b) (eqb (length (s ∷ ss)) (leng
 -- by whether the first word is that of the bytes
 pub kind-cons : (w : Spelled) (ws : List Spelled) (bs : List ℕ) → kindIn (w ∷ ws) bs ≡ cond (same (w .spelling) bs) (w .kind) (kindIn ws bs)
 unfolding kindIn
-kind-cons w ws bs = by (same (w .spelling) bs)
-  where
-    by : (t : Bool) → elim t [ true ↦ w .kind | false ↦ kindIn ws bs ] ≡ cond t (w .kind) (kindIn ws bs)
-    by true = refl
-    by false = refl
+kind-cons w ws bs =
+    elim (same (w .spelling) bs) as (λ t. elim t [ true ↦ w .kind | false ↦ kindIn ws bs ] ≡ cond t (w .kind) (kindIn ws bs))
+    [ true ↦ refl | false ↦ refl ]
 
 kind-in-candidates : (ws : List Spelled) (bs : List ℕ) → kindIn ws bs ≡ kindIn (candidatesIn ws bs) bs
 unfolding candidatesIn
@@ -51,11 +49,8 @@ kind-by-candidates bs = kind-in-candidates reserved bs
 compared-within : (ws : List Spelled) (bs : List ℕ) → comparedIn ws bs ≤ length ws
 unfolding comparedIn
 compared-within [] bs = omega arith
-compared-within (w ∷ ws) bs = go (same (w .spelling) bs) (compared-within ws bs)
-  where
-    go : (t : Bool) → comparedIn ws bs ≤ length ws → suc (cond t 0 (comparedIn ws bs)) ≤ suc (length ws)
-    go true h = omega arith
-    go false h = omega arith
+compared-within (w ∷ ws) bs =
+    by-cond (λ n. suc n ≤ suc (length ws)) (same (w .spelling) bs) (omega arith) (omega (arith, compared-within ws bs))
 
 -- bytes alike have the same candidates
 alike-candidates : (ws : List Spelled) (ss bs : List ℕ) → alike ss bs ≡ true → candidatesIn ws ss ≡ candidatesIn ws bs
@@ -79,14 +74,10 @@ few-candidates : (ws : List Spelled) (bs : List ℕ) → few ws ≡ true → (le
 unfolding candidatesIn candidates
 few-candidates [] bs t k = k (omega arith)
 few-candidates (w ∷ ws) bs t k =
-    go (alike (w .spelling) bs) refl k (λ k. few-candidates ws bs (both-right (leb (length (candidates (w .spelling))) 3) (few ws) t) k)
-  where
-    go : (a : Bool) → alike (w .spelling) bs ≡ a → (length (keep a w (candidatesIn ws bs)) ≤ 3 → Few bs)
-        → ((length (candidatesIn ws bs) ≤ 3 → Few bs) → Few bs) → Few bs
-    go true e k further =
-        let h : Few (w .spelling) = leb-true _ _ (both-left (leb (length (candidates (w .spelling))) 3) (few ws) t) in
-        rw (← alike-candidates reserved (w .spelling) bs e) h
-    go false e k further = further k
+    let b = both-true (leb (length (candidates (w .spelling))) 3) (few ws) t in
+    by-cases (alike (w .spelling) bs)
+    (λ e. let h : Few (w .spelling) = leb-true _ _ (b .0) in rw (← alike-candidates reserved (w .spelling) bs e) h)
+    (λ e. few-candidates ws bs (b .1) (rw e at k))
 
 at-most-three : (bs : List ℕ) → Few bs
 unfolding candidatesIn candidates reserved

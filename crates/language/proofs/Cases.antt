@@ -1,13 +1,10 @@
 -- A property of what the resolver makes by cases: it holds if it holds in each case.
 use Rattle.laws.proofs.Basics.{ℕ, Bool, true, false, cond, eqb}
+use Rattle.laws.proofs.Cases.{by-cond}
 use Rattle.language.specs.Kinds.{BREAK, LOOP, ENDCASE, RETURN, PLING, AT}
 use Rattle.language.specs.Resolve.{Side, side, noSide, sideOf, addressOf, resolvedMonadic, leaving}
 use Rattle.language.specs.Resolved as R
 use Rattle.language.specs.Resolved.{Expr, Cmd}
-
-pub by-cond : {A : Type 0} (P : A → Type 0) (b : Bool) {x y : A} → P x → P y → P (cond b x y)
-by-cond P true p q = p
-by-cond P false p q = q
 
 pub by-monadic : (P : Expr → Type 0) (o : ℕ) (e : Expr) → P (R.contents e) → P (addressOf (sideOf e)) → P (R.unary o e) → P (resolvedMonadic o e)
 by-monadic P o e p q r = by-cond P (eqb o PLING) p (by-cond P (eqb o AT) q r)

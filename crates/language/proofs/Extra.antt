@@ -136,13 +136,9 @@ noneOf b (k ∷ ks) = cond (b k) false (noneOf b ks)
 pub none-of : (b : ℕ → Bool) (ks : List ℕ) (k : ℕ) → noneOf b ks ≡ true → member k ks ≡ true → b k ≡ false
 unfolding member
 none-of b [] k h m = cc
-none-of b (j ∷ ks) k h m = go (eqb k j) refl (b j) refl h m (none-of b ks k)
-  where
-    go : (q : Bool) → eqb k j ≡ q → (c : Bool) → b j ≡ c → cond c false (noneOf b ks) ≡ true → cond q true (member k ks) ≡ true
-        → (noneOf b ks ≡ true → member k ks ≡ true → b k ≡ false) → b k ≡ false
-    go q e true g h m f = cc
-    go true e false g h m f = ap b (eqb-true k j e) ∙ g
-    go false e false g h m f = f h m
+none-of b (j ∷ ks) k h m =
+    by-cases (b j) (λ g. let z : false ≡ true = rw g at h in contradiction cc) (λ g.
+    by-cases (eqb k j) (λ e. ap b (eqb-true k j e) ∙ g) (λ e. none-of b ks k (rw g at h) (rw e at m)))
 
 one-more : (k j : ℕ) (ks : List ℕ) → member k ks ≡ true → member k (j ∷ ks) ≡ true
 unfolding member

@@ -2,6 +2,7 @@
 -- quote, and that whatever it read is read the same now.
 use Rattle.laws.proofs.Basics.{ℕ, zero, suc, _-_, _≤_, _≡_, refl, ap, List, [], _∷_, Bool, true, false, cond, length, drop, eqb, leb, arith, eqb-true}
 use Rattle.laws.proofs.Basics.{ne-eqb, leb-true}
+use Rattle.laws.proofs.Cases.{either as either-of}
 use Rattle.text.specs.Quoted as Q
 use Rattle.text.specs.Quoted.{Quoted, closed, wider, after, onCharacter, quoted}
 use Rattle.language.specs.Bytes.{QUOTE, DOUBLE, classOf}
@@ -198,14 +199,10 @@ module _ (class : ℕ) (bs : List ℕ) where
 
   element-kept : KeptElement (formerByClass class bs) (byClass class bs)
   unfolding formerByClass
-  element-kept = by (eqb class QUOTE) (eqb class DOUBLE) refl refl
-    where
-      by : (s t : Bool) → eqb class QUOTE ≡ s → eqb class DOUBLE ≡ t
-          → KeptElement (cond s (asCharacter (formerly 39 0 (drop 1 bs))) (cond t (asString (formerly 34 0 (drop 1 bs))) (byClass class bs)))
-          (byClass class bs)
-      by true t e f = quotes-kept (eqb-true class QUOTE e)
-      by false true e f = doubles-kept (eqb-true class DOUBLE f)
-      by false false e f = same-element (byClass class bs)
+  element-kept =
+      either-of (λ x. KeptElement x (byClass class bs)) (eqb class QUOTE) (λ e. quotes-kept (eqb-true class QUOTE e)) (λ _.
+      either-of (λ x. KeptElement x (byClass class bs)) (eqb class DOUBLE) (λ e. doubles-kept (eqb-true class DOUBLE e)) (λ _.
+      same-element (byClass class bs)))
 
 -- ---- and so is every text
 

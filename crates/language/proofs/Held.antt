@@ -2,9 +2,10 @@
 -- value is only written over a value. So where a source run ends, the globals and the strings, below the stack, all hold values.
 use Rattle.laws.proofs.Basics.{ℕ, zero, suc, _+_, _<_, _≤_, _≡_, refl, List, [], _∷_, Bool, true, false, cond, length, getD, ltb, leb, arith, lt-ltb}
 use Rattle.laws.proofs.Basics.{le-ltb, le-leb}
+use Rattle.laws.proofs.Cases.{by-cond}
 use Rattle.text.specs.Packed.{pairs}
 use Rattle.language.specs.Resolved.{Fun}
-use Rattle.language.specs.State.{Cell, holds, State, Result, unfinished, undefined, finished, returned, ok}
+use Rattle.language.specs.State.{State, Result, unfinished, undefined, finished, returned, ok}
 use Rattle.language.specs.Run.{Placement, called, sem}
 use Rattle.language.specs.Whole.{atStart, cellsAtStart, stringCell, runWith, Over, byReturn, byFinish}
 use Rattle.language.proofs.Runs.{Held, held, after, Relation, Closed, Related, in-called, in-sem}
@@ -81,12 +82,8 @@ string-held (cs ∷ strings) [] k i b l e m at = absurd (omega arith)
 string-held (cs ∷ strings) (a ∷ addresses) zero i b l e m at =
     rw (le-leb a b (omega arith), lt-ltb b (a + length (pairs (length cs) cs)) (omega arith)) held
 string-held (cs ∷ strings) (a ∷ addresses) (suc k) i b l e m at =
-    go _ (leb a b) (ltb b (a + length (pairs (length cs) cs))) (string-held strings addresses k i b (omega arith) (omega arith) m at)
-  where
-    go : (v : ℕ) {c : Cell} (x y : Bool) → Held c → Held (cond x (cond y (holds v) c) c)
-    go v true true h = held
-    go v true false h = h
-    go v false y h = h
+    let h = string-held strings addresses k i b (omega arith) (omega arith) m at in
+    by-cond Held (leb a b) (by-cond Held (ltb b (a + length (pairs (length cs) cs))) held h) h
 
 module _ (functions : List Fun) (strings : List (List ℕ)) (place : Placement) where
   start-globals : (n : ℕ) → n < 400 → Held (cellsAtStart functions strings place (16 + n))

@@ -1,7 +1,7 @@
 -- A tree without refusals, after it is resolved: it is formed, and, for refusal 13, has BREAK and LOOP in loops, ENDCASE in a SWITCHON and
 -- RESULTIS in a VALOF only.
 use Rattle.laws.proofs.Basics.{ℕ, _+_, _≡_, refl, sym, _∙_, List, [], _∷_, _++_, Bool, true, false, cond, length, eqb, arith, eqb-true}
-use Rattle.laws.proofs.Cases.{contradiction}
+use Rattle.laws.proofs.Cases.{by-cases, by-cond, contradiction}
 use Rattle.language.specs.Kinds.{member, IF, UNLESS, WHILE, UNTIL, REPEATWHILE, BREAK, LOOP, ENDCASE, RETURN}
 use Rattle.language.specs.Binding.{isGuard}
 use Rattle.language.specs.Tree as T
@@ -137,15 +137,9 @@ leave-monadic o e p = by-monadic LeavesE o e p (leave-address e p) p
 
 leave-leaving : (l : Leavable) (w : ℕ) → leaves l w ≡ true → Leave l (leaving w)
 unfolding LeavesE
-leave-leaving l w h = go (eqb w BREAK) (eqb w LOOP) (eqb w ENDCASE) (eqb w RETURN) h
-  where
-    go : (a b c d : Bool) → cond a (l .loop) (cond b (l .loop) (cond c (l .switch) (cond d (l .routine) true))) ≡ true
-        → Leave l (cond a R.break (cond b R.loop (cond c R.endcase (cond d R.return R.finish))))
-    go true b c d e = e
-    go false true c d e = e
-    go false false true d e = e
-    go false false false true e = tt
-    go false false false false e = tt
+leave-leaving l w h =
+    by-cases (eqb w BREAK) (λ e. rw e (rw e at h)) (λ e. rw e (by-cases (eqb w LOOP) (λ f. rw f (rw (e, f) at h)) (λ f. rw f
+    (by-cases (eqb w ENDCASE) (λ g. rw g (rw (e, f, g) at h)) (λ g. rw g (by-cond (Leave l) (eqb w RETURN) tt tt))))))
 
 leave-pairs : (l r : Exprs) → LeavesA l → LeavesA r → LeavesP (pairUp l r)
 unfolding LeavesE

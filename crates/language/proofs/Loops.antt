@@ -92,18 +92,12 @@ apart e = contradiction cc
 without-member : (k x : ℕ) (ks : List ℕ) → member k (without x ks) ≡ cond (eqb k x) false (member k ks)
 unfolding member
 without-member k x [] = by-cases (eqb k x) (λ outcome. rw outcome) (λ outcome. rw outcome)
-without-member k x (j ∷ ks) = go (eqb j x) refl (eqb k j) refl (eqb k x) refl (without-member k x ks)
-  where
-    go : (a : Bool) → eqb j x ≡ a → (b : Bool) → eqb k j ≡ b → (c : Bool) → eqb k x ≡ c → member k (without x ks) ≡ cond c false (member k ks)
-        → member k (cond a (without x ks) (j ∷ without x ks)) ≡ cond c false (cond b true (member k ks))
-    go true e true f true g ih = ih
-    go true e true f false g ih = absurd (apart (sym e ∙ ap (λ (n : ℕ). eqb n x) (sym (eqb-true k j f)) ∙ g))
-    go true e false f true g ih = ih
-    go true e false f false g ih = ih
-    go false e true f true g ih = absurd (apart (sym g ∙ ap (λ (n : ℕ). eqb n x) (eqb-true k j f) ∙ e))
-    go false e true f false g ih = rw f refl
-    go false e false f true g ih = rw f ih
-    go false e false f false g ih = rw f ih
+without-member k x (j ∷ ks) =
+    by-cases (eqb j x)
+    (λ e. by-cases (eqb k j) (λ f. let g : eqb k x ≡ true = rw (eqb-true k j f) e in rw (e, g) (rw g at (without-member k x ks)))
+    (λ f. rw (e, f) (without-member k x ks)))
+    (λ e. by-cases (eqb k j) (λ f. let g : eqb k x ≡ false = rw (eqb-true k j f) e in rw (e, g) (rw f refl))
+    (λ f. rw e (rw f (without-member k x ks))))
 
 -- one symbol further: `l` where a LOOP stands before it, `n` where the wider list has what stands before, `b` where it begins a line,
 -- `o` where it is a bracket, `d` where it is on another line

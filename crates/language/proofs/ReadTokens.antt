@@ -1,7 +1,7 @@
 -- What the grammar reads: no tree is written with fewer symbols than its tokens, and its numbers and strings are fine.
 use Rattle.laws.proofs.Basics.{ℕ, zero, suc, _+_, _<_, _≤_, _≡_, refl, sym, ap, _∙_, List, [], _∷_, Bool, true, false, not, _&&_, cond, length, eqb}
 use Rattle.laws.proofs.Basics.{leb, arith, eqb-true, eqb-false, leb-true, not-true}
-use Rattle.laws.proofs.Cases.{contradiction, both-true}
+use Rattle.laws.proofs.Cases.{by-cases, contradiction, both-true}
 use Rattle.language.specs.Kinds as K
 use Rattle.language.specs.Kinds.{member}
 use Rattle.language.specs.Binding.{bindingOf, LOOSEST, isMonadic, reachOf, isSuffix, isLabel, isGuard, isLeave, isRepeat, isDeclaration}
@@ -37,14 +37,11 @@ solidAll (k ∷ ks) = (leb 1 k && not (eqb k 54)) && solidAll ks
 member-solid : (ks : List ℕ) (kind : ℕ) → solidAll ks ≡ true → member kind ks ≡ true → Solid kind
 unfolding member solidAll
 member-solid [] kind a m = contradiction cc
-member-solid (k ∷ ks) kind a m = go (eqb kind k) refl m (λ e. member-solid ks kind (both-true (leb 1 k && not (eqb k 54)) (solidAll ks) a .1) e)
-  where
-    go : (b : Bool) → eqb kind k ≡ b → cond b true (member kind ks) ≡ true → (member kind ks ≡ true → Solid kind) → Solid kind
-    go true e h f =
-        let q : kind ≡ k = eqb-true kind k e in
-        let w = both-true (leb 1 k) (not (eqb k 54)) (both-true (leb 1 k && not (eqb k 54)) (solidAll ks) a .0) in
-        rw q (leb-true 1 k (w .0), eqb-false k 54 (not-true (eqb k 54) (w .1)))
-    go false e h f = f h
+member-solid (k ∷ ks) kind a m =
+    let b = both-true (leb 1 k && not (eqb k 54)) (solidAll ks) a in
+    let w = both-true (leb 1 k) (not (eqb k 54)) (b .0) in
+    by-cases (eqb kind k) (λ e. rw (eqb-true kind k e) (leb-true 1 k (w .0), eqb-false k 54 (not-true (eqb k 54) (w .1))))
+    (λ e. member-solid ks kind (b .1) (rw e at m))
 
 monadic-solid : (kind : ℕ) → isMonadic kind ≡ true → Solid kind
 unfolding isMonadic solidAll

@@ -2,7 +2,7 @@
 -- the parts; Leaving goes through the tree.
 use Rattle.laws.proofs.Basics.{ℕ, suc, _+_, _<_, _≤_, _≡_, refl, ap, _∙_, List, [], _∷_, Bool, true, false, Option, some, none, length, leb, le-refl}
 use Rattle.laws.proofs.Basics.{arith, leb-true}
-use Rattle.laws.proofs.Cases.{by-cases}
+use Rattle.laws.proofs.Cases.{by-cases, by-cond}
 use Rattle.language.specs.Tree as T
 use Rattle.language.specs.Tree.{Name, Simple, Constant, Label, Expressions, Suffixes, Command, Commands}
 use Rattle.language.specs.Names as N
@@ -15,7 +15,7 @@ use Rattle.language.specs.Resolved as R
 use Rattle.language.specs.Resolved.{Expr, Exprs, Locals, casesOf, caseCount}
 use Rattle.language.specs.Heights as H
 use Rattle.language.specs.Fine.{labelCount, FineConstant, FineBy, FineLabels, FineCommand, FineLocals}
-use Rattle.language.proofs.Cases.{by-cond, by-monadic, by-leaving, by-side}
+use Rattle.language.proofs.Cases.{by-monadic, by-leaving, by-side}
 use Rattle.language.proofs.Formed.{FormedCases, FormedE, FormedA, FormedT, FormedP, FormedC, FormedL}
 
 -- ---- scopes

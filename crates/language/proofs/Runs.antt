@@ -3,7 +3,7 @@
 -- (`Related`), then so are an expression, a command, a turn of a loop and a call of them. `Limits`, `Fuel` and `Held` are its instances.
 use Rattle.laws.proofs.Basics.{ℕ, suc, _+_, _<_, _≤_, _≡_, refl, List, [], _∷_, _++_, Bool, true, false, cond, Option, some, none, length, getD, eqb}
 use Rattle.laws.proofs.Basics.{ltb, leb, arith, leb-true}
-use Rattle.laws.proofs.Cases.{by-cases}
+use Rattle.laws.proofs.Cases.{by-cases, by-cond}
 use Rattle.words.specs.Words.{add}
 use Rattle.language.specs.Resolved as R
 use Rattle.language.specs.Resolved.{Expr, Exprs, Target, Pairs, Cmd, Cmds, Cases, Locals, Body, Fun}
@@ -78,11 +78,7 @@ module _ {first : ℕ} where
 
   -- a value is put into a word anywhere
   stored : {s : State} (b v : ℕ) → Change first s (put b (holds v) s)
-  stored {s} b v = record { keeps = λ a m h. go (eqb a b) h; used = refl }
-    where
-      go : {c : Cell} (t : Bool) → Held c → Held (cond t (holds v) c)
-      go true h = held
-      go false h = h
+  stored {s} b v = record { keeps = λ a m h. by-cond Held (eqb a b) held h; used = refl }
 
 -- ---- the forms that go on after a result
 

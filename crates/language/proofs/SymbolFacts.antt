@@ -2,7 +2,7 @@
 -- symbols are counted than were scanned.
 use Rattle.laws.proofs.Basics.{ℕ, zero, suc, _+_, _-_, _<_, _≤_, _≡_, refl, sym, ap, _∙_, List, [], _∷_, Bool, true, false, cond, length, getD, take}
 use Rattle.laws.proofs.Basics.{drop, drop-drop, eqb, arith, eqb-true, eqb-false, ne-eqb}
-use Rattle.laws.proofs.Cases.{by-cases, contradiction}
+use Rattle.laws.proofs.Cases.{by-cases, by-cond, either, contradiction}
 use Rattle.text.specs.Quoted.{charactersOf, quoted}
 use Rattle.language.specs.Kinds.{member, NOTHING, NAME, NUMBER, STRING, SEMICOLON}
 use Rattle.language.specs.Bytes.{classOf}
@@ -141,13 +141,10 @@ numbered-kept : (text : List ℕ) (n m : ℕ) (xs : List Symbol) → n + countSt
 unfolding numbered countStrings
 numbered-kept text n m [] h = kept-none text m
 numbered-kept text n m (x ∷ xs) h =
-    go (eqb (x .kind) STRING) refl h (λ l. numbered-kept text (suc n) m xs l) (λ l. numbered-kept text n m xs l)
-  where
-    go : (b : Bool) → eqb (x .kind) STRING ≡ b → n + cond b (suc (countStrings xs)) (countStrings xs) ≤ m
-        → (suc n + countStrings xs ≤ m → Kept text m xs (numbered (suc n) xs)) → (n + countStrings xs ≤ m → Kept text m xs (numbered n xs))
-        → Kept text m (x ∷ xs) (cond b (withValue n x ∷ numbered (suc n) xs) (x ∷ numbered n xs))
-    go true e l f g = with-number text n m x xs _ e (omega arith) (f (omega arith))
-    go false e l f g = one-more text m x xs _ (λ q. absurd (eqb-false _ _ e q)) (g l)
+    either (Kept text m (x ∷ xs)) (eqb (x .kind) STRING)
+    (λ e. let l : n + suc (countStrings xs) ≤ m = rw e at h in
+    with-number text n m x xs _ e (omega arith) (numbered-kept text (suc n) m xs (omega arith)))
+    (λ e. one-more text m x xs _ (λ q. absurd (eqb-false _ _ e q)) (numbered-kept text n m xs (rw e at h)))
 
 with-semicolon : (text : List ℕ) (m : ℕ) (x : Symbol) (xs ys : List Symbol) → Kept text m xs ys → (b : Bool) → Kept text m xs (inserted b x ys)
 unfolding AllWords Below countStrings cost stringsAmong
@@ -175,13 +172,8 @@ kept-all m text (x ∷ xs) g = one-more text m x xs (semicolonsAfter text x xs) 
 strings-count : (text : List ℕ) (xs : List Symbol) → length (stringsAmong text xs) ≡ countStrings xs
 unfolding stringsAmong countStrings
 strings-count text [] = refl
-strings-count text (x ∷ xs) = go (eqb (x .kind) STRING) (strings-count text xs)
-  where
-    go : (b : Bool) → length (stringsAmong text xs) ≡ countStrings xs
-        → length (cond b (charactersOf (quoted 34 255 0 (drop (suc (x .place)) text)) ∷ stringsAmong text xs) (stringsAmong text xs))
-        ≡ cond b (suc (countStrings xs)) (countStrings xs)
-    go true e = ap suc e
-    go false e = e
+strings-count text (x ∷ xs) =
+    by-cases (eqb (x .kind) STRING) (λ t. rw t (ap suc (strings-count text xs))) (λ t. rw t (strings-count text xs))
 
 -- ---- by position
 
@@ -208,11 +200,7 @@ cost-up loops (x ∷ xs) zero = omega arith
 cost-up loops (x ∷ xs) (suc n) = omega (arith, cost-up loops xs n)
 
 one-weight : (loops kind : ℕ) → 1 ≤ loops → (kind ≡ SEMICOLON → ⊥) → 1 ≤ weight loops kind
-one-weight loops kind l f = rw (ne-eqb kind SEMICOLON f) (go (isRepeat kind))
-  where
-    go : (b : Bool) → 1 ≤ cond b loops 1
-    go true = l
-    go false = omega arith
+one-weight loops kind l f = rw (ne-eqb kind SEMICOLON f) (by-cond (λ n. 1 ≤ n) (isRepeat kind) l (omega arith))
 
 again-weight : (loops kind : ℕ) → isRepeat kind ≡ true → loops ≤ weight loops kind
 unfolding isRepeat member
@@ -245,12 +233,10 @@ cost-most loops (x ∷ xs) (suc n) = omega (arith, cost-most loops xs n)
 pub cost-length : (xs : List Symbol) → cost 1 xs ≤ length xs
 unfolding cost
 cost-length [] = omega arith
-cost-length (x ∷ xs) = go (eqb (x .kind) SEMICOLON) (isRepeat (x .kind)) (cost-length xs)
-  where
-    go : (a b : Bool) → cost 1 xs ≤ length xs → cond a 0 (cond b 1 1) + cost 1 xs ≤ suc (length xs)
-    go true b l = omega arith
-    go false true l = omega arith
-    go false false l = omega arith
+cost-length (x ∷ xs) =
+    let one : weight 1 (x .kind) ≤ 1
+    = by-cond (λ n. n ≤ 1) (eqb (x .kind) SEMICOLON) (omega arith) (by-cond (λ n. n ≤ 1) (isRepeat (x .kind)) (omega arith) (omega arith)) in
+    omega (arith, cost-length xs)
 
 -- ---- the symbols of a source
 

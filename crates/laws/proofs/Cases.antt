@@ -1,12 +1,23 @@
 -- Ways to go on: by a test's two outcomes, by the order of two numbers, and from what cannot be.
-use Rattle.laws.proofs.Basics.{ℕ, _<_, _≤_, _≡_, refl, sym, _∙_, Bool, true, false, not, _&&_, cond, ltb, arith, ltb-true, ltb-false}
-use Rattle.laws.proofs.Basics.{not-true, not-false}
+use Rattle.laws.proofs.Basics.{ℕ, _<_, _≤_, _≡_, refl, sym, _∙_, Bool, true, false, not, _&&_, cond, eqb, ltb, arith}
+use Rattle.laws.proofs.Basics.{eqb-true, eqb-false, ltb-true, ltb-false, not-true, not-false}
 
 pub by-cases {ℓ} : {P : Type ℓ} (b : Bool) → (b ≡ true → P) → (b ≡ false → P) → P
 by-cases true h k = h refl
 by-cases false h k = k refl
 
+pub by-order {ℓ} : {P : Type ℓ} (n m : ℕ) → (n < m → P) → (m ≤ n → P) → P
+by-order n m h k = by-cases (ltb n m) (λ e. h (ltb-true n m e)) (λ e. k (ltb-false n m e))
+
+pub by-equal {ℓ} : {P : Type ℓ} (n m : ℕ) → (n ≡ m → P) → ((n ≡ m → ⊥) → P) → P
+by-equal n m h k = by-cases (eqb n m) (λ e. h (eqb-true n m e)) (λ e. k (eqb-false n m e))
+
 -- of what a test chooses
+pub by-cond : {A : Type 0} (P : A → Type 0) (b : Bool) {x y : A} → P x → P y → P (cond b x y)
+by-cond P true p q = p
+by-cond P false p q = q
+
+-- the same, where the outcome is used
 pub either : {A : Type 0} (P : A → Type 0) (b : Bool) {x y : A} → (b ≡ true → P x) → (b ≡ false → P y) → P (cond b x y)
 either P true h k = h refl
 either P false h k = k refl
@@ -16,7 +27,7 @@ pub data Order (n m : ℕ) : Type 0 where
   ge : m ≤ n → Order n m
 
 pub order : (n m : ℕ) → Order n m
-order n m = by-cases (ltb n m) (λ e. lt (ltb-true n m e)) (λ e. ge (ltb-false n m e))
+order n m = by-order n m lt ge
 
 -- two constructors that are not the same: `contradiction cc`
 pub contradiction {ℓ} : {P : Type ℓ} → _≡_ {A = ℕ} 0 1 → P

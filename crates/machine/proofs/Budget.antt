@@ -1,7 +1,7 @@
 -- Runs by their budgets: a run of n + m instructions is the run of n, then of m where the first stopped for budget; output only grows,
 -- so that a smaller budget writes a beginning of what a larger one writes.
-use Rattle.laws.proofs.Basics.{ℕ, zero, suc, _+_, _-_, _<_, _≤_, _≡_, refl, ap, _∙_, List, Bool, true, false, _&&_, length, getD, length-set}
-use Rattle.laws.proofs.Basics.{getD-set-other, eqb, leb, le-refl, le-trans, lt-of-lt-of-le, arith, ne-eqb}
+use Rattle.laws.proofs.Basics.{ℕ, zero, suc, _+_, _-_, _<_, _≤_, _≡_, refl, ap, _∙_, List, Bool, _&&_, length, getD, length-set, getD-set-other, eqb}
+use Rattle.laws.proofs.Basics.{leb, le-refl, le-trans, lt-of-lt-of-le, arith, ne-eqb}
 use Rattle.laws.proofs.Cases.{by-cases}
 use Rattle.machine.specs.State.{State, at, startRegisters}
 use Rattle.machine.specs.Step.{StepResult}
@@ -9,14 +9,10 @@ use Rattle.machine.specs.Run.{Outcome, after, onResult, steps, resume, c
 use Rattle.machine.proofs.Shape.{Shape, quiet, one-more, ends, halts, Quiet, OneMore, shape}
 
 after-carried : (o : Outcome) (more : State → Outcome) → after 1 (carriedOn o more) ≡ carriedOn (after 1 o) more
-after-carried o more = go (eqb (o .stop) 31) refl
-  where
-    go : (b : Bool) → eqb (o .stop) 31 ≡ b → after 1 (carriedOn o more) ≡ carriedOn (after 1 o) more
-    go true e =
-        let r = more (o .state) in
-        let z : 1 + (o .count + r .count) ≡ 1 + o .count + r .count = omega arith in
-        rw e (λ i. record { stop = r .stop; count = z i; state = r .state })
-    go false e = rw e refl
+after-carried o more =
+    let r = more (o .state) in
+    let z : 1 + (o .count + r .count) ≡ 1 + o .count + r .count = omega arith in
+    by-cases (eqb (o .stop) 31) (λ e. rw e (λ i. record { stop = r .stop; count = z i; state = r .state })) (λ e. rw e refl)
 
 result-carried : (s : State) {t : StepResult} → Shape s t → (f g h : State → Outcome) → ((u : State) → f u ≡ carriedOn (g u) h)
     → onResult s t f ≡ carriedOn (onResult s t g) h

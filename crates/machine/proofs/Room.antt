@@ -1,8 +1,7 @@
 -- Runs by their room: with less room for output a run does the same until it stops 35, having written a beginning.
-use Rattle.laws.proofs.Basics.{ℕ, zero, suc, _+_, _%_, _<_, _≤_, _≡_, refl, sym, _∙_, List, Bool, true, false, length, getD, set, length-set}
-use Rattle.laws.proofs.Basics.{getD-set-same, getD-set-other, ltb, lt-of-lt-of-le, arith, ltb-true, lt-ltb}
-use Rattle.laws.proofs.Cases.{by-cases}
-use native.Mathlib.Decide.{ℕ-discrete}
+use Rattle.laws.proofs.Basics.{ℕ, zero, suc, _+_, _%_, _<_, _≤_, _≡_, refl, sym, _∙_, List, length, getD, set, length-set, getD-set-same}
+use Rattle.laws.proofs.Basics.{getD-set-other, ltb, lt-of-lt-of-le, arith, ltb-true, lt-ltb}
+use Rattle.laws.proofs.Cases.{by-cases, by-equal}
 use Rattle.machine.specs.Outcome.{Out, ok, stop, _>>=_, write}
 use Rattle.machine.specs.State.{State, at, withC}
 use Rattle.machine.specs.Fetch.{Fetch, fetch}
@@ -59,12 +58,10 @@ module _ (r : Registers) {o o′ : List ℕ} (h : Roomier (r .written) o o′) w
   one-byte v l =
       record {
         room = let a = length-set o (r .written) v in let b = length-set o′ (r .written) v in let c = h .room in omega arith;
-        same = λ i k. go i k (ℕ-discrete i (r .written));
+        same = λ i k. by-equal i (r .written)
+            (λ e. rw e (getD-set-same o (r .written) v 0 l ∙ sym (getD-set-same o′ (r .written) v 0 (lt-of-lt-of-le l (h .room)))))
+            (λ e. getD-set-other o (r .written) i v 0 e ∙ h .same i (omega arith) ∙ sym (getD-set-other o′ (r .written) i v 0 e));
       }
-    where
-      go : (i : ℕ) → i < r .written + 1 → Dec (i ≡ r .written) → getD (set o (r .written) v) i 0 ≡ getD (set o′ (r .written) v) i 0
-      go i k (yes e) = rw e (getD-set-same o (r .written) v 0 l ∙ sym (getD-set-same o′ (r .written) v 0 (lt-of-lt-of-le l (h .room))))
-      go i k (no e) = getD-set-other o (r .written) i v 0 e ∙ h .same i (omega arith) ∙ sym (getD-set-other o′ (r .written) i v 0 e)
 
   alike-sent : (m : List ℕ) → Alike (resultOf (sent (at r m o))) (resultOf (sent (at r m o′)))
   unfolding sent

@@ -1,7 +1,7 @@
 -- Characters between quotes: one at a time, and what every reading of them satisfies.
-use Rattle.laws.proofs.Basics.{ℕ, zero, suc, _+_, _-_, _<_, _≤_, _≡_, refl, sym, ap, _∙_, List, [], _∷_, Bool, true, false, _&&_, cond, length, getD}
-use Rattle.laws.proofs.Basics.{drop, length-drop, eqb, leb, arith, eq-eqb, ne-eqb, leb-true, le-leb, lt-leb}
-use Rattle.laws.proofs.Cases.{either, contradiction, both-true}
+use Rattle.laws.proofs.Basics.{ℕ, zero, suc, _+_, _-_, _<_, _≤_, _≡_, refl, sym, ap, _∙_, List, [], _∷_, true, false, _&&_, cond, length, getD, drop}
+use Rattle.laws.proofs.Basics.{length-drop, eqb, leb, arith, eq-eqb, ne-eqb, leb-true, le-leb, lt-leb}
+use Rattle.laws.proofs.Cases.{by-cases, either, contradiction, both-true}
 use Rattle.text.proofs.Bytes.{Unlike, at-byte, past-end}
 use Rattle.text.specs.Quoted.{Character, is, closing, ended, mistake, digit, numberOf, byDigits, byNumber, escape, character}
 use Rattle.text.specs.Quoted.{Quoted, closed, unclosed, faulty, wider, after, faultBefore, onCharacter, quoted}
@@ -77,11 +77,8 @@ module _ (text : List ℕ) (at : ℕ) where
 -- ---- a character by its number
 
 pub digit-bounds : (c : ℕ) → digit c ≡ true → (48 ≤ c) × (c ≤ 57)
-digit-bounds c = by (leb 48 c) refl
-  where
-    by : (t : Bool) → leb 48 c ≡ t → cond t (leb c 57) false ≡ true → (48 ≤ c) × (c ≤ 57)
-    by true l h = (leb-true 48 c l, leb-true c 57 h)
-    by false l h = contradiction cc
+digit-bounds c e =
+    by-cases (leb 48 c) (λ l. (leb-true 48 c l, leb-true c 57 (rw l at e))) (λ l. let z : false ≡ true = rw l at e in contradiction cc)
 
 pub digit-least : (c : ℕ) → digit c ≡ true → 48 ≤ c
 digit-least c e = digit-bounds c e .0
