@@ -675,17 +675,17 @@ impl Maker<'_> {
 
     fn expression(&mut self, depth: usize) {
         let loosest = self.random.below(OPERATORS.len() + 1);
-        self.ladder(loosest, depth);
+        self.at_level(loosest, depth);
     }
 
-    fn ladder(&mut self, level: usize, depth: usize) {
+    fn at_level(&mut self, level: usize, depth: usize) {
         if level == OPERATORS.len() {
             return self.operand(depth);
         }
         // Here nothing but & and | follows, as nothing else can.
         if level == SHIFTS && depth > 0 && self.random.one_in(12) {
             self.add("NOT");
-            return self.ladder(SHIFTS, depth - 1);
+            return self.at_level(SHIFTS, depth - 1);
         }
         let more = match self.random.below(12) {
             _ if depth == 0 => 0,
@@ -693,7 +693,7 @@ impl Maker<'_> {
             0..=3 => 1,
             _ => 0,
         };
-        self.ladder(level + 1, depth);
+        self.at_level(level + 1, depth);
         for _ in 0..more {
             let operator = self.random.pick(OPERATORS[level]);
             self.add(operator);
@@ -702,7 +702,7 @@ impl Maker<'_> {
                 self.nonzero(depth - 1);
             } else {
                 // The right operand of a shift is a sum.
-                self.ladder(if level == SHIFTS { SUM } else { level + 1 }, depth - 1);
+                self.at_level(if level == SHIFTS { SUM } else { level + 1 }, depth - 1);
             }
         }
     }
@@ -734,11 +734,11 @@ impl Maker<'_> {
             }
             2 => {
                 self.one_of(&["-", "+"]);
-                self.ladder(PRODUCT, depth - 1);
+                self.at_level(PRODUCT, depth - 1);
             }
             3 => {
                 self.add("( NOT");
-                self.ladder(SHIFTS, depth - 1);
+                self.at_level(SHIFTS, depth - 1);
                 self.add(")");
             }
             4 => self.valof(depth - 1),

@@ -656,7 +656,7 @@ fn reading_g3_valof() {
 }
 
 #[test]
-fn reading_g4_ladder() {
+fn reading_g4_levels() {
     refused_at_mark(6, "LET F() = A >> 5 ^= 14");
     refused_at_mark(6, "LET F() = 1 < A ^< 3");
     refused_at_mark(6, "LET F() = A = NOT B = C ^~= D");
@@ -892,7 +892,9 @@ fn vectors_runs() {
         let [name, "steps", steps, "taken", taken] = line.split(' ').collect::<Vec<&str>>()[..] else {
             panic!("not a run's steps and input taken: {line}")
         };
-        [steps, taken].map(|field| field.parse::<u64>().expect("a number"));
+        for field in [steps, taken] {
+            field.parse::<u64>().expect("a number");
+        }
         assert_eq!(refusal_of(&file(&folder.join(format!("runs/{name}.b")))), None, "{line}");
     }
 }

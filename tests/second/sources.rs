@@ -189,11 +189,11 @@ const SUFFIXED: usize = 6;
 const OPERATORS: [&[&str]; 6] =
     [&["|"], &["&"], &["<<", ">>"], &["=", "~=", "<", "<=", ">", ">="], &["+", "-"], &["*", "/", "REM"]];
 
-/// What NOT is where an operand begins: its own rung, first in an expression or after & or |; the beginning of a tighter
-/// operator's operand; or nothing that may stand there, since a relation follows its rung.
+/// What NOT is where an operand begins: a binding level of its own, first in an expression or after & or |; the beginning
+/// of a tighter operator's operand; or nothing that may stand there, since a relation follows its level.
 #[derive(Clone, Copy, PartialEq)]
 enum Not {
-    Rung,
+    Level,
     Within,
     Never,
 }
@@ -409,7 +409,7 @@ impl Maker<'_> {
                 0 => self.expression(depth, false),
                 1 => {
                     self.add("!");
-                    self.ladder(SUFFIXED, depth, false, Not::Within);
+                    self.at_level(SUFFIXED, depth, false, Not::Within);
                 }
                 2 => {
                     self.name();
@@ -506,11 +506,11 @@ impl Maker<'_> {
 
     fn expression(&mut self, depth: usize, closed: bool) {
         let loosest = self.random.below(SUFFIXED + 1);
-        self.ladder(loosest, depth, closed, Not::Rung);
+        self.at_level(loosest, depth, closed, Not::Level);
     }
 
     /// Operands and operators of one binding level; the tighter levels are within the operands.
-    fn ladder(&mut self, level: usize, depth: usize, closed: bool, not: Not) {
+    fn at_level(&mut self, level: usize, depth: usize, closed: bool, not: Not) {
         let small = depth == 0 || self.full();
         let more = match self.random.below(6) {
             _ if small => 0,
@@ -530,15 +530,15 @@ impl Maker<'_> {
             }
             return;
         }
-        let first = if level == RELATION && more > 0 && not == Not::Rung { Not::Never } else { not };
-        self.ladder(level + 1, depth, closed && more == 0, first);
+        let first = if level == RELATION && more > 0 && not == Not::Level { Not::Never } else { not };
+        self.at_level(level + 1, depth, closed && more == 0, first);
         for index in 1..=more {
             let operator = self.random.pick(OPERATORS[level]);
             self.add(operator);
             // The right operand of a shift is a sum.
             let right = if level == SHIFTS { SUM } else { level + 1 };
-            let not = if level < SHIFTS { Not::Rung } else { Not::Within };
-            self.ladder(right, depth.saturating_sub(1), closed && index == more, not);
+            let not = if level < SHIFTS { Not::Level } else { Not::Within };
+            self.at_level(right, depth.saturating_sub(1), closed && index == more, not);
         }
     }
 
@@ -556,16 +556,16 @@ impl Maker<'_> {
             2 => {
                 let operator = self.random.pick(&["!", "@"]);
                 self.add(operator);
-                self.ladder(SUFFIXED, inner, closed, Not::Within);
+                self.at_level(SUFFIXED, inner, closed, Not::Within);
             }
             3 => {
                 let operator = self.random.pick(&["+", "-"]);
                 self.add(operator);
-                self.ladder(PRODUCT, inner, closed, Not::Within);
+                self.at_level(PRODUCT, inner, closed, Not::Within);
             }
             4 if not != Not::Never => {
                 self.add("NOT");
-                self.ladder(SHIFTS, inner, closed, Not::Within);
+                self.at_level(SHIFTS, inner, closed, Not::Within);
             }
             5 => {
                 self.add("VALOF");

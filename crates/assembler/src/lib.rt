@@ -24,7 +24,9 @@ ghost use Rattle.text.specs.Packed.{pairs};
 ghost use Rattle.assembler.specs.Layout.{fault, lay};
 ghost use Rattle.assembler.specs.Assemble.{Assembles, assembled, lookedUp, refuse, onLaid, start};
 ghost use Rattle.words.specs.Globals.{noGlobals};
-ghost use Rattle.assembler.specs.Passes.{operandOf, baseOf, itemOf, blank, asFound, listed, labelFault, beyond, Notable, Notes, Lays, valueOf, Writable, Writes, letters, Spelling, itemAt, Spelled, FitsAll, WritesAll, Zeros, Ready, Gives, AssemblesKeys, recordOf, tableOf, Serves, Loads, toldBy};
+ghost use Rattle.assembler.specs.Passes.{operandOf, baseOf, itemOf, blank, asFound, listed, labelFault, beyond, Notable, Notes, Lays, valueOf};
+ghost use Rattle.assembler.specs.Passes.{Writable, Writes, letters, Spelling, itemAt, Spelled, FitsAll, WritesAll, Zeros, Ready, Gives};
+ghost use Rattle.assembler.specs.Passes.{AssemblesKeys, recordOf, tableOf, Serves, Loads, toldBy};
 
 // A record of the label table.
 #[repr(C)]
@@ -306,7 +308,8 @@ fn write_instruction(
     x: Operand,
 ) -> Step
     requires { ⌜ Writable (I.instruction function indirect (baseOf base) (operandOf x)) at (now memory) ⌝ }
-    ensures { λ r. ⌜ Writes (listed (now (index .entry))) (I.instruction function indirect (baseOf base) (operandOf x)) at (now (memory .entry)) r (now (memory .exit)) ⌝ }
+    ensures { λ r. ⌜ Writes (listed (now (index .entry))) (I.instruction function indirect (baseOf base) (operandOf x)) at (now (memory .entry))
+        r (now (memory .exit)) ⌝ }
 {
     let word = head(function, indirect, base);
     let found = value(index, x);
@@ -452,7 +455,8 @@ fn write_item(
 // The second pass: the words of every item, up to one whose label is unknown.
 fn write_items(memory: &mut [u16], index: &[u16; 32768], text: &[u8], from: usize) -> Written
     requires { ⌜ (416 ≤ length (now memory)) × FitsAll (length (now memory)) 416 (body 0 from (drop from (now text)) .items) ⌝ }
-    ensures { λ r. ⌜ WritesAll (listed (now (index .entry))) (body 0 from (drop from (now (text .entry)))) (now (memory .entry)) r (now (memory .exit)) ⌝ }
+    ensures { λ r. ⌜ WritesAll (listed (now (index .entry))) (body 0 from (drop from (now (text .entry)))) (now (memory .entry))
+        r (now (memory .exit)) ⌝ }
 {
     let mut place = from;
     let mut at: usize = 416;
@@ -506,7 +510,8 @@ fn refuse(
     number: u16,
     place: usize,
 ) -> Assembled
-    ensures { λ r. ⌜ Gives (refuse (now (text .entry)) (length (now (memory .entry))) (length (now (labels .entry))) number place) r (now (memory .exit)) (now (labels .exit)) ⌝ }
+    ensures { λ r. ⌜ Gives (refuse (now (text .entry)) (length (now (memory .entry))) (length (now (labels .entry))) number place) r
+        (now (memory .exit)) (now (labels .exit)) ⌝ }
 {
     clear_words(memory);
     clear_labels(labels);
@@ -517,7 +522,9 @@ fn refuse(
 // Both passes, from past `$` on.
 fn assemble_from(text: &[u8], from: usize, memory: &mut [u16], labels: &mut [u32]) -> Assembled
     requires { ⌜ Ready (now memory) (now labels) ⌝ }
-    ensures { λ r. ⌜ Gives (onLaid (now (text .entry)) (length (now (memory .entry))) (length (now (labels .entry))) (lay (length (now (memory .entry))) (length (now (labels .entry))) 416 [] (body 0 from (drop from (now (text .entry))) .items)) (body 0 from (drop from (now (text .entry))))) r (now (memory .exit)) (now (labels .exit)) ⌝ }
+    ensures { λ r. ⌜ Gives (onLaid (now (text .entry)) (length (now (memory .entry))) (length (now (labels .entry)))
+        (lay (length (now (memory .entry))) (length (now (labels .entry))) 416 [] (body 0 from (drop from (now (text .entry))) .items))
+        (body 0 from (drop from (now (text .entry))))) r (now (memory .exit)) (now (labels .exit)) ⌝ }
 {
     let mut index = no_addresses();
     let layout = lay_out(text, from, memory.len(), labels, &mut index);

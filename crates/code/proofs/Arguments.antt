@@ -11,7 +11,7 @@ use Rattle.code.specs.Generate.{exprCode, exprsCode, exprLabels}
 use Rattle.code.proofs.Results.{Post, post-demand, Has, has-same}
 use Rattle.code.proofs.Machine.{Mach}
 use Rattle.code.proofs.Standing.{Env, Code, cut, cut-number, at-end}
-use Rattle.code.proofs.Related.{Rel, Runs, then, weaken, paid, reaching, raise, sink-rel, like-rel}
+use Rattle.code.proofs.Related.{Rel, Runs, then, weaken, in-a-step, reaching, raise, sink-rel, like-rel}
 use Rattle.code.proofs.Steps.{step-SP}
 use Rattle.language.proofs.Formed.{FormedA}
 use Rattle.code.proofs.Goals.{F, S, Fits, Sims}
@@ -66,7 +66,7 @@ module _ (Γ : Env) (fits : Fits Γ) (q : Sem) (ih : Sims Γ q) where
       cut Γ (exprCode (suc (F Γ)) h n e) _ k λ b₁ k₁ k₂.
       cut-number Γ k₂ λ b₂ i₂ k₃.
       let up : h ≤ h + 1 = omega arith in
-      weaken Γ (paid Γ (then Γ le (ih .evaluate e n k₁ (f .0) pc r) λ x s₁ v₁ x₁ y₁.
+      weaken Γ (in-a-step Γ (then Γ le (ih .evaluate e n k₁ (f .0) pc r) λ x s₁ v₁ x₁ y₁.
       reaching Γ (h + 1) (λ u. arguments (Γ .limit) q es p (h + 1) u (λ xs w. more (x ∷ xs) w)) λ u like l.
       step-SP Γ (fits .sized) le (like-rel Γ like (x₁ .rel)) (y₁ .at) i₂ (le-refl h) (omega arith) λ v₂ r₂ c₂ _ g₂ o₂.
       sim-arguments es (n + exprLabels e) (λ xs w. more (x ∷ xs) w) (omega arith) t9 (omega arith) k₃ (f .1) c₂ (raise Γ r₂ up l)

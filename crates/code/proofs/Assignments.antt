@@ -9,7 +9,7 @@ use Rattle.code.specs.Generate.{Exits, exprCode, exprLabels, targetCode,
 use Rattle.code.proofs.Results.{post-demand, post-write, Has, has-same}
 use Rattle.code.proofs.Machine.{Mach}
 use Rattle.code.proofs.Standing.{Env, Code, cut, cut-number, at-end}
-use Rattle.code.proofs.Related.{Rel, Runs, then, weaken, paid, over, reaching, raise, sink, sink-rel, like-rel}
+use Rattle.code.proofs.Related.{Rel, Runs, then, weaken, in-a-step, over, reaching, raise, sink, sink-rel, like-rel}
 use Rattle.code.proofs.Steps.{step-LIP, step-SP, step-AIP, cell-P, cell-G, cell-IP}
 use Rattle.language.proofs.Formed.{FormedT, FormedP}
 use Rattle.code.proofs.Goals.{F, S, Fits, Where, w-normal, Sims}
@@ -88,6 +88,6 @@ module _ (Γ : Env) (fits : Fits Γ) (q : Sem) (ih : Sims Γ q) where
   sim-pairs (R.pair t e ps) n {h = h} k f pc r =
       cut Γ (exprCode (suc (F Γ)) h n e) _ k λ b₁ k₁ k₂.
       cut Γ (targetCode (suc (F Γ)) h (n + exprLabels e) t) _ k₂ λ b₂ k₃ k₄.
-      paid Γ (then Γ (le-refl h) (ih .evaluate e n k₁ (f .0) pc r) λ y s₁ v₁ x₁ y₁.
+      in-a-step Γ (then Γ (le-refl h) (ih .evaluate e n k₁ (f .0) pc r) λ y s₁ v₁ x₁ y₁.
       sim-target (n + exprLabels e) (y₁ .at) (y₁ .has) (x₁ .rel) _
       (λ u w r₂ c₂. sim-pairs ps (n + exprLabels e + targetLabels t) k₄ (f .2) c₂ r₂) t k₃ (f .1)) (omega arith)

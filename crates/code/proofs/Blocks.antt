@@ -11,7 +11,7 @@ use Rattle.code.specs.Generate.{exprCode, exprLabels, localsCode, locals
 use Rattle.code.proofs.Results.{post-demand}
 use Rattle.code.proofs.Machine.{Mach}
 use Rattle.code.proofs.Standing.{Env, Code, cut, cut-number, at-end}
-use Rattle.code.proofs.Related.{gone-holds, Like, Rel, Sim, Runs, after, then, weaken, paid, lower, reaching-on, open-scope, close-scope}
+use Rattle.code.proofs.Related.{gone-holds, Like, Rel, Sim, Runs, after, then, weaken, in-a-step, lower, reaching-on, open-scope, close-scope}
 use Rattle.code.proofs.Related.{put-same, put-other, ticked}
 use Rattle.code.proofs.Steps.{step-LP, step-SP}
 use Rattle.language.proofs.Formed.{FormedC, FormedL}
@@ -88,14 +88,14 @@ module _ (Γ : Env) (fits : Fits Γ) (q : Sem) (ih : Sims Γ q) where
       cut-number Γ k λ b₁ i₁ k₁.
       cut-number Γ k₁ λ b₂ i₂ k₂.
       reaching-on Γ p (h + 2 + m) (λ u. declared (Γ .limit) q ls p (h + 2 + m) u more) λ u like l.
-      weaken Γ (paid Γ (step-LP Γ (fits .sized) le (ticked Γ r) pc i₁ (omega (arith, fits .sized .slack, fits .sized .most)) λ v₁ r₁ c₁ a₁.
+      weaken Γ (in-a-step Γ (step-LP Γ (fits .sized) le (ticked Γ r) pc i₁ (omega (arith, fits .sized .slack, fits .sized .most)) λ v₁ r₁ c₁ a₁.
       step-SP Γ (fits .sized) le r₁ c₁ i₂ (le-refl h) (omega arith) λ v₂ r₂ c₂ _ g₂ _.
       let x₂ : Sim Γ 0 p h (h + 2 + m) (step s) v₂ u v₂ = new-vector Γ r₂ m (omega (arith, g₂, a₁)) l u like in
       after Γ le x₂ (sim-locals ls n more (omega arith) t9 k₂ (f .0) c₂ (x₂ .rel) g)) (omega arith)) (omega arith)
   sim-locals (R.value e ls) n {p = p} {h = h} more le t9 k f pc r g =
       cut Γ (exprCode (suc (F Γ)) h n e) _ k λ b₁ k₁ k₂.
       cut-number Γ k₂ λ b₂ i₂ k₃.
-      weaken Γ (paid Γ (then Γ le (ih .evaluate e n k₁ (f .0) pc r) λ y s₁ v₁ x₁ y₁.
+      weaken Γ (in-a-step Γ (then Γ le (ih .evaluate e n k₁ (f .0) pc r) λ y s₁ v₁ x₁ y₁.
       post-demand (y₁ .has) λ w ew.
       reaching-on Γ p (h + 1) (λ u. declared (Γ .limit) q ls p (h + 1) u more) λ u like l.
       step-SP Γ (fits .sized) le (x₁ .rel) (y₁ .at) i₂ (le-refl h) (omega arith) λ v₂ r₂ c₂ _ g₂ _.
@@ -107,5 +107,5 @@ module _ (Γ : Env) (fits : Fits Γ) (q : Sem) (ih : Sims Γ q) where
   sim-block ls cs p h n a b x s v k f pc r =
       cut Γ (localsCode (suc (F Γ)) h n ls) _ k λ b₁ k₁ k₂.
       let up : h ≤ heightWith h ls = height-more h ls in
-      close-scope Γ up (paid Γ (sim-locals ls n (λ t. sequence q cs p (heightWith h ls) t) (le-refl h) (omega arith) k₁ (f .0) pc (ticked Γ r)
+      close-scope Γ up (in-a-step Γ (sim-locals ls n (λ t. sequence q cs p (heightWith h ls) t) (le-refl h) (omega arith) k₁ (f .0) pc (ticked Γ r)
       λ u w r₁ c₁. lower Γ up (sim-sequence Γ fits q ih cs (n + localsLabels ls) k₂ (f .1) c₁ r₁)) (omega arith))

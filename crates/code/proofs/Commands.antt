@@ -8,7 +8,7 @@ use Rattle.code.specs.Generate.{Exits, exprCode, exprLabels, cmdCode, cm
 use Rattle.code.proofs.Results.{p-returned, p-finished, post-cond, post-demand, has-same}
 use Rattle.code.proofs.Machine.{Mach, goes-not}
 use Rattle.code.proofs.Standing.{Env, Code, cut, cut-number, cut-address, cut-label, at-end}
-use Rattle.code.proofs.Related.{Rel, Sim, Runs, at-finish, then, ending, weaken, paid, over, ticked}
+use Rattle.code.proofs.Related.{Rel, Sim, Runs, at-finish, then, ending, weaken, in-a-step, over, ticked}
 use Rattle.code.proofs.Steps.{step-J, step-F, step-unless}
 use Rattle.language.proofs.Formed.{FormedC, FormedB}
 use Rattle.code.proofs.Goals.{F, S, Fits, Where, w-normal, w-broke, w-looped, w-ended, w-gave, Sims}
@@ -63,7 +63,7 @@ module _ (Γ : Env) where
 
     pub sim-assign : (ps : Pairs) → GoalC q (R.assign ps)
     unfolding executed cmdCode FormedC
-    sim-assign ps p h n a b x s v k f pc r = paid Γ (sim-pairs Γ fits q ih ps n k f pc (ticked Γ r)) (omega arith)
+    sim-assign ps p h n a b x s v k f pc r = in-a-step Γ (sim-pairs Γ fits q ih ps n k f pc (ticked Γ r)) (omega arith)
 
     pub sim-perform : (e : Expr) → GoalC q (R.perform e)
     unfolding executed cmdCode FormedC
@@ -80,7 +80,7 @@ module _ (Γ : Env) where
         cut-label Γ k₆ λ e₇ k₇.
         cut Γ (cmdCode (suc (F Γ)) h (n + 2 + exprLabels e + cmdLabels c) x d) _ k₇ λ b₈ k₈ k₉.
         cut-label Γ k₉ λ e₉ l₉.
-        paid Γ (then Γ (le-refl h) (part Γ fits q ih e (n + 2) k₁ (f .0) pc (ticked Γ r)) λ y s₁ v₁ x₁ y₁.
+        in-a-step Γ (then Γ (le-refl h) (part Γ fits q ih e (n + 2) k₁ (f .0) pc (ticked Γ r)) λ y s₁ v₁ x₁ y₁.
         post-demand (y₁ .has) λ w ew.
         step-F Γ (fits .sized) (le-refl h) (x₁ .rel) (y₁ .at) i₂ λ v₂ r₂ c₂ _.
         post-cond (isTrue w)
@@ -99,7 +99,7 @@ module _ (Γ : Env) where
         cut-address Γ k₂ λ b₂ _ i₂ k₃.
         cut Γ (cmdCode (suc (F Γ)) h (n + 1 + exprLabels e) x c) _ k₃ λ b₃ k₄ k₅.
         cut-label Γ k₅ λ e₆ k₆.
-        paid Γ (then Γ (le-refl h) (part Γ fits q ih e (n + 1) k₁ (f .0) pc (ticked Γ r)) λ y s₁ v₁ x₁ y₁.
+        in-a-step Γ (then Γ (le-refl h) (part Γ fits q ih e (n + 1) k₁ (f .0) pc (ticked Γ r)) λ y s₁ v₁ x₁ y₁.
         post-demand (y₁ .has) λ w ew.
         step-unless Γ (fits .sized) (le-refl h) (x₁ .rel) (y₁ .at) sense i₂ λ v₂ r₂ c₂ _.
         post-cond (same sense (isTrue w))
@@ -114,7 +114,7 @@ module _ (Γ : Env) where
     sim-resultis e p h n a b x s v k f pc r =
         cut Γ (exprCode (suc (F Γ)) h n e) _ k λ b₁ k₁ k₂.
         cut-address Γ k₂ λ b₂ o₂ i₂ k₃.
-        paid Γ (then Γ (le-refl h) (part Γ fits q ih e n k₁ f pc (ticked Γ r)) λ y s₁ v₁ x₁ y₁.
+        in-a-step Γ (then Γ (le-refl h) (part Γ fits q ih e n k₁ f pc (ticked Γ r)) λ y s₁ v₁ x₁ y₁.
         step-J Γ (fits .sized) (le-refl h) (x₁ .rel) (y₁ .at) i₂ λ v₂ r₂ c₂ a₂ _.
         over Γ (le-refl h) r₂ (w-gave o₂ c₂ (has-same (y₁ .has) a₂))) (omega arith)
 
@@ -122,19 +122,19 @@ module _ (Γ : Env) where
     unfolding executed cmdCode
     sim-break p h n a b x s v k f pc r =
         cut-address Γ k λ b₁ o₁ i₁ k₁.
-        paid Γ (step-J Γ (fits .sized) (le-refl h) (ticked Γ r) pc i₁ λ v₂ r₂ c₂ _ _. over Γ (le-refl h) r₂ (w-broke o₁ c₂)) (omega arith)
+        in-a-step Γ (step-J Γ (fits .sized) (le-refl h) (ticked Γ r) pc i₁ λ v₂ r₂ c₂ _ _. over Γ (le-refl h) r₂ (w-broke o₁ c₂)) (omega arith)
 
     pub sim-loop : GoalC q R.loop
     unfolding executed cmdCode
     sim-loop p h n a b x s v k f pc r =
         cut-address Γ k λ b₁ o₁ i₁ k₁.
-        paid Γ (step-J Γ (fits .sized) (le-refl h) (ticked Γ r) pc i₁ λ v₂ r₂ c₂ _ _. over Γ (le-refl h) r₂ (w-looped o₁ c₂)) (omega arith)
+        in-a-step Γ (step-J Γ (fits .sized) (le-refl h) (ticked Γ r) pc i₁ λ v₂ r₂ c₂ _ _. over Γ (le-refl h) r₂ (w-looped o₁ c₂)) (omega arith)
 
     pub sim-endcase : GoalC q R.endcase
     unfolding executed cmdCode
     sim-endcase p h n a b x s v k f pc r =
         cut-address Γ k λ b₁ o₁ i₁ k₁.
-        paid Γ (step-J Γ (fits .sized) (le-refl h) (ticked Γ r) pc i₁ λ v₂ r₂ c₂ _ _. over Γ (le-refl h) r₂ (w-ended o₁ c₂)) (omega arith)
+        in-a-step Γ (step-J Γ (fits .sized) (le-refl h) (ticked Γ r) pc i₁ λ v₂ r₂ c₂ _ _. over Γ (le-refl h) r₂ (w-ended o₁ c₂)) (omega arith)
 
     pub sim-return : GoalC q R.return
     unfolding executed cmdCode FormedC

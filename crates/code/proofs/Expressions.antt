@@ -18,7 +18,7 @@ use Rattle.code.specs.Generate.{exprCode, exprLabels, cmdCode, dyadicAct
 use Rattle.code.proofs.Results.{p-undefined, post-read, post-demand, Has, has-none, has-word, has-same}
 use Rattle.code.proofs.Machine.{Mach}
 use Rattle.code.proofs.Standing.{Env, At, Code, cut, cut-number, cut-address, cut-label, at-end}
-use Rattle.code.proofs.Related.{Rel, Runs, then, weaken, paid, over, reaching, raise, sink, like-rel, live-below, gone-holds}
+use Rattle.code.proofs.Related.{Rel, Runs, then, weaken, in-a-step, over, reaching, raise, sink, like-rel, live-below, gone-holds}
 use Rattle.code.proofs.Steps.{step-L, step-LP, step-LG, step-LIP, step-LIG, step-SP, step-AIP, step-X1, step-X2, step-X3, step-dyadic}
 use Rattle.language.proofs.Formed.{FormedE}
 use Rattle.code.proofs.Goals.{F, S, Fits, Valued, Where, w-normal, w-gave, Sims}
@@ -78,10 +78,10 @@ module _ (Γ : Env) where
   done {h = h} r c k has = over Γ (le-refl h) r (record { at = c ∙ at-end Γ k; has = has })
 
   module _ (fits : Fits Γ) (q : Sem) (ih : Sims Γ q) where
-    -- a part, paid by its own step
+    -- a part, within its own step
     pub part : (e : Expr) (n : ℕ) {p h a b : ℕ} {s : State} {v : Mach} → Code Γ a (exprCode (suc (F Γ)) h n e) b → FormedE (F Γ) (S Γ) h e
         → v .regs .c ≡ a → Rel Γ p h s v → Runs Γ (Valued Γ b) 0 p h h s v (q .evaluate e p h s)
-    part e n k f pc r = paid Γ (ih .evaluate e n k f pc r) (omega arith)
+    part e n k f pc r = in-a-step Γ (ih .evaluate e n k f pc r) (omega arith)
 
     -- a number, or a label's place
     loads : {p h a b₁ b k x : ℕ} {s : State} {v : Mach} → At Γ a 0 false I.none k b₁ → Code Γ b₁ [] b → k ≡ x → v .regs .c ≡ a → Rel Γ p h s v

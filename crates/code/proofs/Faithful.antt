@@ -12,7 +12,7 @@ use Rattle.code.proofs.Program.{Built, built, addresses-length}
 use Rattle.code.proofs.Start.{Γ, finishes}
 use Rattle.code.proofs.Good.{Good}
 use Rattle.code.proofs.WellPlaced as W
-use Rattle.code.proofs.Owed.{Holds, follows}
+use Rattle.code.proofs.AnyBudget.{Holds, follows}
 use Rattle.language.proofs.Held.{ended-globals, ended-strings}
 use Rattle.language.specs.Resolved.{Fun}
 
@@ -45,13 +45,13 @@ module _ (source : List ℕ) (good : Good source) (memory room first : ℕ) (acc
             (omega arith) (omega arith);
       }
 
-  owed : (output : List ℕ) (budget : ℕ)
+  demanded : (output : List ℕ) (budget : ℕ)
       → Follows (stringsIn source) (placementOf source (assembled (textOf source) memory room .table) first) s (length output) budget
       (run first (assembled (textOf source) memory room .memory) input output budget)
   unfolding image table
-  owed output budget =
+  demanded output budget =
       follows (Γ input stands) (stringsIn source) (omega (arith, stands .fills, stands .least)) (omega (arith, stands .fills, stands .most)) _ s refl
       (finishes input stands (good .formed) (runs .fuel) s (runs .over) below) holding output budget
 
 pub faithful : (source : List ℕ) → Good source → Faithful source (textOf source)
-faithful source good = record { follows = owed source good }
+faithful source good = record { follows = demanded source good }

@@ -65,7 +65,7 @@ module _ (Γ : Env) where
     at-for : (n n′ : ℕ) {limit by : ℕ} {c : Cmd} → Code Γ a (forCode (suc F) h n n′ x by c) b → FormedC F S (h + 2) c
         → s .cells (p + (h + 1)) ≡ gone → getD (v .mem) (p + (h + 1)) 0 ≡ limit → Turning x p h a b s v (counting limit by c)
 
-  -- a FOR keeps two words, and its last test is paid by what stands around it
+  -- a FOR keeps two words, and its last test is counted with what stands around it
   abbrev pub inner : Loop → ℕ → ℕ
   inner (whiling sense e c) h = h
   inner (repeating c) h = h

@@ -136,10 +136,10 @@ unfolding made value wordOf M.read M.write fetch A.indirected A.returned A.combi
 machine-runs = record { stops = refl; counts = refl; writes = refl }
 
 -- every budget and every room, by the theorem
-owed : (output : List ℕ) (budget : ℕ)
+demanded : (output : List ℕ) (budget : ℕ)
     → Follows (stringsIn source) (placementOf source (assembled (textOf source) 512 4 .table) 421) final (length output) budget
     (run 421 (assembled (textOf source) 512 4 .memory) [] output budget)
-owed output budget = faithful source good .follows 512 4 421 (rw written answers) [] final runs low output budget
+demanded output budget = faithful source good .follows 512 4 421 (rw written answers) [] final runs low output budget
 
 -- ---- it is accepted, and without room for a label its text is refused
 

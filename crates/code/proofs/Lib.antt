@@ -30,7 +30,7 @@ pub mod Program
 pub mod Start
 pub mod Good
 pub mod WellPlaced
-pub mod Owed
+pub mod AnyBudget
 pub mod Faithful
 -- every accepted source is good: its items can be written and read back, its labels differ, its sizes
 pub mod Sounding

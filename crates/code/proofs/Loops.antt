@@ -15,7 +15,7 @@ use Rattle.code.specs.Generate.{Exits, inLoop, exprCode, exprLabels, cmd
 use Rattle.code.proofs.Results.{post-cond, post-demand, post-reading, post-write}
 use Rattle.code.proofs.Machine.{Mach}
 use Rattle.code.proofs.Standing.{Env, cut, cut-number, cut-address, cut-label, at-end}
-use Rattle.code.proofs.Related.{Rel, Sim, Runs, after, then, weaken, paid, lower, over, reaching, reaching-on, close-scope, raise, like-rel}
+use Rattle.code.proofs.Related.{Rel, Sim, Runs, after, then, weaken, in-a-step, lower, over, reaching, reaching-on, close-scope, raise, like-rel}
 use Rattle.code.proofs.Related.{put-other, ticked}
 use Rattle.code.proofs.Steps.{step-LIP, step-SP, step-A, step-J, step-F, step-when, step-unless, step-dyadic, cell-P}
 use Rattle.language.proofs.Formed.{FormedC}
@@ -65,12 +65,12 @@ module _ (Γ : Env) where
         cut Γ (cmdCode (suc (F Γ)) h (n + 2 + exprLabels e) (inLoop n (n + 1) x) c) _ k₃ λ b₄ k₄ k₅.
         cut-address Γ k₅ λ b₆ _ i₆ k₆.
         cut-label Γ k₆ λ e₇ k₇.
-        paid Γ (then Γ (le-refl h) (ih .evaluate e (n + 2) k₁ (f .0) pc r) λ y s₁ v₁ x₁ y₁.
+        in-a-step Γ (then Γ (le-refl h) (ih .evaluate e (n + 2) k₁ (f .0) pc r) λ y s₁ v₁ x₁ y₁.
         post-demand (y₁ .has) λ w ew.
         step-unless Γ (fits .sized) (le-refl h) (x₁ .rel) (y₁ .at) sense i₂ λ v₂ r₂ c₂ _.
         post-cond (same sense (isTrue w))
         (λ t. let c₃ : v₂ .regs .c ≡ b₂ = (rw ew at c₂) ∙ as-wanted sense (eqb w 0) _ b₂ t in
-        paid Γ (then Γ (le-refl h) (ih .run c (n + 2 + exprLabels e) k₄ (f .1) c₃ (ticked Γ r₂)) λ g s₃ v₃ x₃ y₃.
+        in-a-step Γ (then Γ (le-refl h) (ih .run c (n + 2 + exprLabels e) k₄ (f .1) c₃ (ticked Γ r₂)) λ g s₃ v₃ x₃ y₃.
         comes-round g _ (x₃ .rel) y₃ (e₇ ∙ at-end Γ k₇)
         (λ c₄. weaken Γ {t′ = 1} (step-J Γ (fits .sized) (le-refl h) (x₃ .rel) c₄ i₆ λ v₅ r₅ c₅ _ _.
         ih .turn (whiling sense e c) (at-while n k f) (c₅ ∙ e₀) r₅) (omega arith))
@@ -86,7 +86,7 @@ module _ (Γ : Env) where
         cut-label Γ k₂ λ e₃ k₃.
         cut-address Γ k₃ λ b₄ _ i₄ k₄.
         cut-label Γ k₄ λ e₅ k₅.
-        paid Γ (then Γ (le-refl h) (ih .run c (n + 3) k₁ f pc (ticked Γ r)) λ g s₃ v₃ x₃ y₃.
+        in-a-step Γ (then Γ (le-refl h) (ih .run c (n + 3) k₁ f pc (ticked Γ r)) λ g s₃ v₃ x₃ y₃.
         let round : v₃ .regs .c ≡ b₁ → Runs Γ (Where Γ b x) 1 p h h s₃ v₃ (q .turn (repeating c) p h s₃)
         = λ c₄. step-J Γ (fits .sized) (le-refl h) (x₃ .rel) c₄ i₄ λ v₅ r₅ c₅ _ _. ih .turn (repeating c) (at-repeat n k f) (c₅ ∙ e₀) r₅ in
         comes-round g _ (x₃ .rel) y₃ (e₅ ∙ at-end Γ k₅) round (λ c₄. round (c₄ ∙ e₃))) (omega arith)
@@ -100,9 +100,9 @@ module _ (Γ : Env) where
         cut Γ (exprCode (suc (F Γ)) h (n + 3 + cmdLabels c) e) _ k₃ λ b₄ k₄ k₅.
         cut-address Γ k₅ λ b₆ _ i₆ k₆.
         cut-label Γ k₆ λ e₇ k₇.
-        paid Γ (then Γ (le-refl h) (ih .run c (n + 3) k₁ (f .0) pc (ticked Γ r)) λ g s₃ v₃ x₃ y₃.
+        in-a-step Γ (then Γ (le-refl h) (ih .run c (n + 3) k₁ (f .0) pc (ticked Γ r)) λ g s₃ v₃ x₃ y₃.
         let round : v₃ .regs .c ≡ b₁ → Runs Γ (Where Γ b x) 0 p h h s₃ v₃ (bind (q .evaluate e p h s₃) _)
-        = λ c₄. paid Γ (then Γ (le-refl h) (ih .evaluate e (n + 3 + cmdLabels c) k₄ (f .1) c₄ (x₃ .rel)) λ y s₅ v₅ x₅ y₅.
+        = λ c₄. in-a-step Γ (then Γ (le-refl h) (ih .evaluate e (n + 3 + cmdLabels c) k₄ (f .1) c₄ (x₃ .rel)) λ y s₅ v₅ x₅ y₅.
         post-demand (y₅ .has) λ w ew.
         step-when Γ (fits .sized) (le-refl h) (x₅ .rel) (y₅ .at) sense i₆ λ v₆ r₆ c₆ _.
         post-cond (same sense (isTrue w))
@@ -141,7 +141,7 @@ module _ (Γ : Env) where
         let mem₄ : v₄ .mem ≡ v .mem = m₄ ∙ m₃ ∙ m₂ ∙ m₁ in
         post-cond (onward by i limit)
         (λ t. let c₅ : v₄ .regs .c ≡ b₄ = (rw a₃ at c₄) ∙ jump-on (onward by i limit) _ b₄ t in
-        paid Γ (then Γ (le-refl (h + 2)) (ih .run c n′ k₅ f c₅ (ticked Γ r₄)) λ g s₆ v₆ x₆ y₆.
+        in-a-step Γ (then Γ (le-refl (h + 2)) (ih .run c n′ k₅ f c₅ (ticked Γ r₄)) λ g s₆ v₆ x₆ y₆.
         let lost₆ : s₆ .cells (p + (h + 1)) ≡ gone = x₆ .keep (p + (h + 1)) (omega arith) lost in
         let kept₆ : getD (v₆ .mem) (p + (h + 1)) 0 ≡ limit
         = x₆ .frame (p + (h + 1)) (omega arith) lost ∙ ap (λ (m : List ℕ). getD m (p + (h + 1)) 0) mem₄ ∙ kept in
@@ -163,7 +163,7 @@ module _ (Γ : Env) where
 
     pub sim-while : (sense : Bool) (e : Expr) (c : Cmd) → GoalC Γ q (R.while sense e c)
     unfolding executed
-    sim-while sense e c p h n a b x s v k f pc r = paid Γ (ih .turn (whiling sense e c) (at-while n k f) pc (ticked Γ r)) (omega arith)
+    sim-while sense e c p h n a b x s v k f pc r = in-a-step Γ (ih .turn (whiling sense e c) (at-while n k f) pc (ticked Γ r)) (omega arith)
 
     pub sim-repeat : (c : Cmd) → GoalC Γ q (R.repeat c)
     unfolding executed
@@ -181,7 +181,7 @@ module _ (Γ : Env) where
         cut Γ (exprCode (suc (F Γ)) (h + 1) (n + 3 + exprLabels first) limit) _ k₃ λ b₄ k₄ k₅.
         cut-number Γ k₅ λ b₆ i₆ k₆.
         let up : h ≤ h + 1 = omega arith in
-        paid Γ (then Γ (le-refl h) (part Γ fits q ih first (n + 3) k₁ (f .0) pc (ticked Γ r)) λ y s₁ v₁ x₁ y₁.
+        in-a-step Γ (then Γ (le-refl h) (part Γ fits q ih first (n + 3) k₁ (f .0) pc (ticked Γ r)) λ y s₁ v₁ x₁ y₁.
         post-demand (y₁ .has) λ i ei.
         reaching-on Γ p (h + 1) (λ u. bind (q .evaluate limit p (h + 1) u) _) λ u like l.
         step-SP Γ (fits .sized) (le-refl h) (x₁ .rel) (y₁ .at) i₂ (le-refl h) (omega arith) λ v₂ r₂ c₂ _ g₂ _.

@@ -178,9 +178,9 @@ module _ (Γ : Env) where
   weaken z l = loose (omega arith, (λ n m k. omega arith), (λ a. refl)) z
 
   -- one step of the source more allows 16 instructions more
-  pub paid : {A : Type 0} {Q : A → Mach → Type 0} {t p h h₂ : ℕ} {s : State} {v : Mach} {x : Result A}
+  pub in-a-step : {A : Type 0} {Q : A → Mach → Type 0} {t p h h₂ : ℕ} {s : State} {v : Mach} {x : Result A}
       → Runs Q t p h h₂ (step s) v x → t ≤ 16 → Runs Q 0 p h h₂ s v x
-  paid z l = loose (omega arith, (λ n m k. omega arith), (λ a. refl)) z
+  in-a-step z l = loose (omega arith, (λ n m k. omega arith), (λ a. refl)) z
 
   pub lower : {A : Type 0} {Q : A → Mach → Type 0} {t p h h₁ h₂ : ℕ} {s : State} {v : Mach} {x : Result A} → h ≤ h₁
       → Runs Q t p h₁ h₂ s v x → Runs Q t p h h₂ s v x

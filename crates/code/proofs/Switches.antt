@@ -14,7 +14,7 @@ use Rattle.code.proofs.Results.{post-demand}
 use Rattle.code.proofs.Machine.{Mach}
 use Rattle.code.proofs.Standing.{Env, Agree, Word, Code, end, cut, cut-number, cut-label, cut-word, cut-place, at-end}
 use Rattle.code.proofs.Instructions.{do-X23}
-use Rattle.code.proofs.Related.{Rel, Sim, Runs, after, then, paid, over, quiet, ticked}
+use Rattle.code.proofs.Related.{Rel, Sim, Runs, after, then, in-a-step, over, quiet, ticked}
 use Rattle.code.proofs.Steps.{Sized}
 use Rattle.language.proofs.Formed.{FormedC, FormedS}
 use Rattle.code.proofs.Goals.{F, S, Fits, Where, w-normal, w-broke, w-looped, w-ended, w-gave, Sims}
@@ -134,7 +134,7 @@ module _ (Γ : Env) where
         cut Γ (casesCode (suc (F Γ)) h (n + exprLabels e + 1) (n + exprLabels e + 1 + commandsIn cs)
         (inSwitch (n + exprLabels e) x) cs) _ k₇ λ b₈ k₈ k₉.
         cut-label Γ k₉ λ e₉ l₉.
-        paid Γ (then Γ (le-refl h) (part Γ fits q ih e n k₁ (f .0) pc (ticked Γ r)) λ y s₁ v₁ x₁ y₁.
+        in-a-step Γ (then Γ (le-refl h) (part Γ fits q ih e n k₁ (f .0) pc (ticked Γ r)) λ y s₁ v₁ x₁ y₁.
         post-demand (y₁ .has) λ w ew.
         let none-left : Chosen h b₈ (inSwitch (n + exprLabels e) x) R.noCases (n + exprLabels e)
         = record { first = 0; labels = 0; code = end e₉; formed = tt } in

@@ -1,4 +1,4 @@
--- What is owed for every source that is accepted: its text is faithful to it and follows the rules on the compiler's text.
+-- What is demanded for every source that is accepted: its text is faithful to it and follows the rules on the compiler's text.
 use Rattle.laws.proofs.Basics.{ℕ, _+_, _*_, _≤_, _≡_, List, [], _⊎_, length, arith}
 use Rattle.items.specs.Scan.{scan}
 use Rattle.assembler.specs.Assemble.{assembled}
@@ -32,10 +32,10 @@ module _ (source : List ℕ) (scratch : ℕ) (accepts : refusalOf source scratch
 
 -- ---- on the closed instance
 
-owed : (output : List ℕ) (budget : ℕ)
+demanded : (output : List ℕ) (budget : ℕ)
     → Follows (stringsIn source) (placementOf source (assembled (textOf source) 512 4 .table) 421) final (length output) budget
     (run 421 (assembled (textOf source) 512 4 .memory) [] output budget)
-owed output budget = faithful source 1000 accepts .follows 512 4 421 (rw written answers) [] final runs low output budget
+demanded output budget = faithful source 1000 accepts .follows 512 4 421 (rw written answers) [] final runs low output budget
 
 words : wordCount (scan (textOf source) .items) ≤ 8 * length (Y.scan source .symbols) + 16 + stringWords (stringsIn source)
 words = proper source 1000 accepts .few-words

@@ -11,7 +11,8 @@ use Rattle.items.specs.Item.{number, address, none, P, G, Item, label, instruct
 use Rattle.items.specs.Render.{renderAll}
 use Rattle.language.specs.Kinds.{PLUS, MINUS, STAR, SLASH, REM, EQUAL, UNEQUAL, LESS, ATMOST, MORE, ATLEAST, LEFT, RIGHT, AMPERSAND, BAR, NOT}
 use Rattle.language.specs.Resolved as R
-use Rattle.language.specs.Resolved.{CaseLabel, hasDefault, caseCount, Expr, Exprs, Target, Pairs, Cmd, Cmds, Cases, Locals, Body, Start, nowhere, inGlobal, Fun}
+use Rattle.language.specs.Resolved.{CaseLabel, hasDefault, caseCount, Expr, Exprs, Target, Pairs, Cmd, Cmds, Cases, Locals, Body, Start, nowhere}
+use Rattle.language.specs.Resolved.{inGlobal, Fun}
 use Rattle.language.specs.Heights.{count, heightWith}
 use Rattle.language.specs.Whole.{functionsIn, stringsIn}
 

@@ -64,7 +64,8 @@ wordCount (p ∷ ps) = size (p .item) + wordCount ps
 -- ---- all the rules
 pub record Proper (source text : List ℕ) : Type 0 where
   pub well-placed : (memory room first : ℕ) → assembled text memory room .answer ≡ Accepted first
-      → WellPlaced source (placementOf source (assembled text memory room .table) first) (assembled text memory room .table) (assembled text memory room .memory)
+      → WellPlaced source (placementOf source (assembled text memory room .table) first) (assembled text memory room .table)
+      (assembled text memory room .memory)
   pub few-words : wordCount (scan text .items) ≤ 8 * length (Y.scan source .symbols) + 16 + stringWords (stringsIn source)
   pub few-labels : labelCount (scan text .items) ≤ length source + 8
   pub short : length text ≤ 64 * length source + 1024

@@ -13,10 +13,12 @@ use Rattle.language.specs.Names as N
 use Rattle.language.specs.Names.{Scope}
 use Rattle.language.specs.Constants.{Fault, fault}
 use Rattle.language.specs.Resolved.{Expr, Target, Pairs, Cmd, Cmds, Cases}
-use Rattle.language.specs.Resolve.{leaving, expression, command, unlabelled, repeats, commands, caseList, sideOf, targetOf, addressOf, ofMeaning, resolvedMonadic, declareAll}
+use Rattle.language.specs.Resolve.{leaving, expression, command, unlabelled, repeats, commands, caseList, sideOf, targetOf, addressOf, ofMeaning}
+use Rattle.language.specs.Resolve.{resolvedMonadic, declareAll}
 use Rattle.language.specs.Heights.{ofExpr, ofTarget, ofPairs, ofCmd, ofCmds, ofCases}
 use Rattle.code.specs.Generate as G
-use Rattle.language.specs.Faults.{Leavable, unless, leaves, inExpression, inCommand, inCase, inUnlabelled, inRepeats, inCommands, twice, repeated, unlessSide}
+use Rattle.language.specs.Faults.{Leavable, unless, leaves, inExpression, inCommand, inCase, inUnlabelled, inRepeats, inCommands, twice, repeated}
+use Rattle.language.specs.Faults.{unlessSide}
 use Rattle.tree.specs.Encoding as O
 use Rattle.tree.specs.Encoding.{encode, encodeCommand, encodeCommands, encodeUnlabelled, encodeRepeats, encodeNames}
 use Rattle.compiler.specs.Scope.{Shows, Keeps, found}
@@ -54,12 +56,14 @@ ReadyC = Ready encodeCommand commandDepth FineC
 -- a command anywhere: its labels are misplaced
 abbrev pub GaveC : (text s s′ : List ℕ) → ℕ → Here → Ways → (t t′ : List ℕ) → (st st′ : State) → Type 0
 GaveC text s s′ end x w t t′ st st′ =
-    Gave encodeCommand commandDepth FineC (λ sc c. inCommand text sc (leavableBy w x) (x .height) c) (λ sc c. cmdSays x w (command text sc (x .height) c)) s s′ end x t t′ st st′
+    Gave encodeCommand commandDepth FineC (λ sc c. inCommand text sc (leavableBy w x) (x .height) c)
+    (λ sc c. cmdSays x w (command text sc (x .height) c)) s s′ end x t t′ st st′
 
 -- a command of the list after INTO, its labels aside
 abbrev pub GaveCase : (text s s′ : List ℕ) → ℕ → Here → Ways → (t t′ : List ℕ) → (st st′ : State) → Type 0
 GaveCase text s s′ end x w t t′ st st′ =
-    Gave encodeCommand commandDepth FineC (λ sc c. inCase text sc (leavableBy w x) (x .height) c) (λ sc c. cmdSays x w (command text sc (x .height) c)) s s′ end x t t′ st st′
+    Gave encodeCommand commandDepth FineC (λ sc c. inCase text sc (leavableBy w x) (x .height) c)
+    (λ sc c. cmdSays x w (command text sc (x .height) c)) s s′ end x t t′ st st′
 
 -- a command without labels and REPEAT forms
 abbrev pub ReadyU : List ℕ → ℕ → Here → State → Type 0
@@ -67,7 +71,8 @@ ReadyU = Ready encodeUnlabelled unlabelledDepth FinePlain
 
 abbrev pub GaveU : (text s s′ : List ℕ) → ℕ → Here → Ways → (t t′ : List ℕ) → (st st′ : State) → Type 0
 GaveU text s s′ end x w t t′ st st′ =
-    Gave encodeUnlabelled unlabelledDepth FinePlain (λ sc u. inUnlabelled text sc (leavableBy w x) (x .height) u) (λ sc u. cmdSays x w (unlabelled text sc (x .height) u)) s s′ end x t t′ st st′
+    Gave encodeUnlabelled unlabelledDepth FinePlain (λ sc u. inUnlabelled text sc (leavableBy w x) (x .height) u)
+    (λ sc u. cmdSays x w (unlabelled text sc (x .height) u)) s s′ end x t t′ st st′
 
 -- a list of commands, from `from` on
 pub record ReadyList (s : List ℕ) (from end : ℕ) (x : Here) (st : State) : Type 0 where
@@ -76,7 +81,8 @@ pub record ReadyList (s : List ℕ) (from end : ℕ) (x : Here) (st : State) : T
 
 pub record GaveList (text s s′ : List ℕ) (from end : ℕ) (x : Here) (w : Ways) (t t′ : List ℕ) (st st′ : State) : Type 0 where
   pub by : (y : ReadyList s from end x st) → let z = y .ready in
-      Result (inCommands text (z .scope) (leavableBy w x) (x .height) (z .tree)) (cmdsSays x w (commands text (z .scope) (x .height) (z .tree))) (length (encodeCommands (z .tree))) (z .base) x s s′ t t′ st st′
+      Result (inCommands text (z .scope) (leavableBy w x) (x .height) (z .tree)) (cmdsSays x w (commands text (z .scope) (x .height) (z .tree)))
+      (length (encodeCommands (z .tree))) (z .base) x s s′ t t′ st st′
 
 -- BREAK, LOOP, ENDCASE, RETURN or FINISH, or 13
 pub record GoesAway (x : Here) (w : Ways) (word place : ℕ) (t t′ : List ℕ) (st st′ : State) : Type 0 where
@@ -106,7 +112,8 @@ GaveSideIndex text s s′ end x t t′ st st′ = (place : ℕ) → GaveSide tex
 
 -- with 10 there is nothing written to speak of
 pub record GaveRefused (text s s′ : List ℕ) (end place : ℕ) (x : Here) (t t′ : List ℕ) (st st′ : State) : Type 0 where
-  pub by : (c : Scope → Expression → ℕ → Code) → Gave encode depth FineE (λ sc e. inExpression text sc (leavable x) (x .height) e ++ fault place 10) c s s′ end x t t′ st st′
+  pub by : (c : Scope → Expression → ℕ → Code)
+      → Gave encode depth FineE (λ sc e. inExpression text sc (leavable x) (x .height) e ++ fault place 10) c s s′ end x t t′ st st′
 
 pub record IndexKind (s : List ℕ) (end : ℕ) : Type 0 where
   pub is : getD s (end - 1) 0 ≡ 129
@@ -116,16 +123,19 @@ pub record BlockKind (s : List ℕ) (end : ℕ) : Type 0 where
 
 -- whatever m stands for
 pub record AddressOf (m name place : ℕ) (t t′ : List ℕ) (st st′ : State) : Type 0 where
-  pub by : (x : Here) (f : N.Found) → m ≡ found f → Did (N.onFound f (fault name 8) [] ++ unlessSide place (sideOf (ofMeaning f))) (exprSays x (addressOf (sideOf (ofMeaning f)))) 0 t t′ st st′
+  pub by : (x : Here) (f : N.Found) → m ≡ found f
+      → Did (N.onFound f (fault name 8) [] ++ unlessSide place (sideOf (ofMeaning f))) (exprSays x (addressOf (sideOf (ofMeaning f)))) 0 t t′ st st′
 
 pub record StoreTo (m name place : ℕ) (t t′ : List ℕ) (st st′ : State) : Type 0 where
-  pub by : (x : Here) (f : N.Found) → m ≡ found f → Did (N.onFound f (fault name 8) [] ++ unlessSide place (sideOf (ofMeaning f))) (targetSays x (targetOf (sideOf (ofMeaning f)))) 0 t t′ st st′
+  pub by : (x : Here) (f : N.Found) → m ≡ found f
+      → Did (N.onFound f (fault name 8) [] ++ unlessSide place (sideOf (ofMeaning f))) (targetSays x (targetOf (sideOf (ofMeaning f)))) 0 t t′ st st′
 
 -- an operand with a resolvedMonadic operator before it
 abbrev pub GaveMonadic : (text s s′ : List ℕ) → (operator end : ℕ) → Here → (t t′ : List ℕ) → (st st′ : State) → Type 0
 GaveMonadic text s s′ o end x t t′ st st′ =
     Gave encode depth FineE
-    (λ sc e. inExpression text sc (leavable x) (x .height) e ++ cond (eqb o AT) (unlessSide (placeOf e) (sideOf (expression text sc (x .height) e))) [])
+    (λ sc e. inExpression text sc (leavable x) (x .height) e
+    ++ cond (eqb o AT) (unlessSide (placeOf e) (sideOf (expression text sc (x .height) e))) [])
     (λ sc e. exprSays x (resolvedMonadic o (expression text sc (x .height) e))) s s′ end x t t′ st st′
 
 -- ---- a command with REPEAT forms after it
@@ -147,11 +157,14 @@ abbrev pub ReadyR : List ℕ → ℕ → Here → State → Type 0
 ReadyR = Ready encodeRepeated deepRepeated FineRepeated
 
 abbrev pub faultsR : List ℕ → Here → Ways → Scope → Repeated → List Fault
-faultsR text x w sc r = inUnlabelled text sc (repeated (r .forms) (leavableBy w x)) (x .height) (r .body) ++ inRepeats text sc (leavableBy w x) (x .height) (r .forms)
+faultsR text x w sc r =
+    inUnlabelled text sc (repeated (r .forms) (leavableBy w x)) (x .height) (r .body)
+    ++ inRepeats text sc (leavableBy w x) (x .height) (r .forms)
 
 abbrev pub GaveR : (text s s′ : List ℕ) → ℕ → Here → Ways → (t t′ : List ℕ) → (st st′ : State) → Type 0
 GaveR text s s′ end x w t t′ st st′ =
-    Gave encodeRepeated deepRepeated FineRepeated (faultsR text x w) (λ sc r. cmdSays x w (repeats text sc (x .height) (unlabelled text sc (x .height) (r .body)) (r .forms))) s s′ end x t t′ st st′
+    Gave encodeRepeated deepRepeated FineRepeated (faultsR text x w)
+    (λ sc r. cmdSays x w (repeats text sc (x .height) (unlabelled text sc (x .height) (r .body)) (r .forms))) s s′ end x t t′ st st′
 
 -- the forms alone, from the innermost out, from `from` on; the innermost one's labels start at `own`. All their own labels are taken
 -- before the command, so only their conditions take more
@@ -164,7 +177,8 @@ pub record ReadyForms (s : List ℕ) (from end : ℕ) (x : Here) (st : State) : 
 
 pub record GaveForms (text s s′ : List ℕ) (from end own : ℕ) (x : Here) (t t′ : List ℕ) (st st′ : State) : Type 0 where
   pub by : (y : ReadyForms s from end x st) → let z = y .ready in
-      Result (inRepeats text (z .scope) (leavable x) (x .height) (z .tree)) (formsSays text x (z .scope) own (z .tree)) (conditions (z .tree)) (z .base) x s s′ t t′ st st′
+      Result (inRepeats text (z .scope) (leavable x) (x .height) (z .tree)) (formsSays text x (z .scope) own (z .tree)) (conditions (z .tree))
+      (z .base) x s s′ t t′ st st′
 
 -- one of them: a condition of so many entries that ends there, or none after REPEAT alone
 abbrev pub formSays : List ℕ → Here → Scope → (word own : ℕ) → Expression → ℕ → Code
@@ -176,7 +190,8 @@ formSays text x sc word own e n = let r = expression text sc (x .height) e in re
 
 pub record GaveForm (text s s′ : List ℕ) (end size word own : ℕ) (x : Here) (t t′ : List ℕ) (st st′ : State) : Type 0 where
   pub plain : size ≡ 0 → (s′ ≡ s) × Emits (G.JL own ∷ []) [] t t′ st st′
-  pub on : (size ≡ 0 → ⊥) → Gave encode depth FineE (λ sc e. inExpression text sc (leavable x) (x .height) e) (λ sc e. formSays text x sc word own e) s s′ end x t t′ st st′
+  pub on : (size ≡ 0 → ⊥) → Gave encode depth FineE (λ sc e. inExpression text sc (leavable x) (x .height) e) (λ sc e. formSays text x sc word own e)
+      s s′ end x t t′ st st′
 
 pub record ReadyForm (s : List ℕ) (end size : ℕ) (x : Here) (st : State) : Type 0 where
   pub on : (size ≡ 0 → ⊥) → Ready encode depth FineE s end x st
@@ -201,7 +216,11 @@ casesFaults text s l h T.noCommands = []
 casesFaults text s l h (T.andCommand c cs) = inCase text s l h c ++ casesFaults text s l h cs
 
 abbrev pub casesSays : Here → Ways → (l : ℕ) → Cases → ℕ → Code
-casesSays x w l cs n = record { items = G.casesCode (x .strings) (x .height) l n (exits w) cs; heights = ofCases (x .height) cs; labels = G.casesLabels cs }
+casesSays x w l cs n = record {
+  items = G.casesCode (x .strings) (x .height) l n (exits w) cs;
+  heights = ofCases (x .height) cs;
+  labels = G.casesLabels cs;
+}
 
 -- the entries of the commands themselves: the label of each is taken before all of them
 unfoldable pub entriesIn : Commands → ℕ
@@ -217,7 +236,8 @@ pub record ReadyCases (s : List ℕ) (from end : ℕ) (x : Here) (st : State) : 
 
 pub record GaveCases (text s s′ : List ℕ) (from end l : ℕ) (x : Here) (w : Ways) (t t′ : List ℕ) (st st′ : State) : Type 0 where
   pub by : (y : ReadyCases s from end x st) → let z = y .ready in
-      Result (casesFaults text (z .scope) (leavableBy w x) (x .height) (z .tree)) (casesSays x w l (caseList text (z .scope) (x .height) (z .tree))) (entriesIn (z .tree)) (z .base) x s s′ t t′ st st′
+      Result (casesFaults text (z .scope) (leavableBy w x) (x .height) (z .tree)) (casesSays x w l (caseList text (z .scope) (x .height) (z .tree)))
+      (entriesIn (z .tree)) (z .base) x s s′ t t′ st st′
 
 -- ---- names declared one after another at frame words from a height on; their leaves stand from `from` on
 

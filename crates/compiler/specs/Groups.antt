@@ -26,7 +26,8 @@ use Rattle.compiler.specs.Commands.{nothing}
 use Rattle.compiler.specs.declared.steps.State.{State}
 use Rattle.compiler.specs.declared.steps.Here.{Here}
 use Rattle.language.specs.Whole.{funs}
-use Rattle.language.specs.Program.{Named, bodyOf, bodyFaults, startOf, withFunction, functionsAfter, takenAfter, groupNameFaults, groupFaults, functionFaults, resolved, groupOf, heightFaults, nameFault, alsoTaken}
+use Rattle.language.specs.Program.{Named, bodyOf, bodyFaults, startOf, withFunction, functionsAfter, takenAfter, groupNameFaults, groupFaults}
+use Rattle.language.specs.Program.{functionFaults, resolved, groupOf, heightFaults, nameFault, alsoTaken}
 use Rattle.compiler.specs.declared.outer.Known.{Known}
 use Rattle.compiler.specs.declared.program.Done.{Done}
 
@@ -50,7 +51,8 @@ pub record Taken (table : List ℕ) (ns : List ℕ) : Type 0 where
 -- where the functions of a group start
 unfoldable pub startsIn : List ℕ → (k : ℕ) → Scope → List Function → List Start
 startsIn text k s [] = []
-startsIn text k s (f ∷ fs) = startOf (lookup text s (f .name)) ∷ startsIn text (k + 1) (withFunction s (f .name) k (startOf (lookup text s (f .name)))) fs
+startsIn text k s (f ∷ fs) =
+    startOf (lookup text s (f .name)) ∷ startsIn text (k + 1) (withFunction s (f .name) k (startOf (lookup text s (f .name)))) fs
 
 -- function l, from 0, starts in n if n's entry is its label
 pub record Starting (table : List ℕ) (ss : List Start) : Type 0 where
@@ -59,7 +61,8 @@ pub record Starting (table : List ℕ) (ss : List Start) : Type 0 where
 
 -- 9 at a function's name, by what it means
 pub record NameFaults (table : List ℕ) (m place : ℕ) (st st′ : State) : Type 0 where
-  pub by : (f : N.Found) (ns : List ℕ) → m ≡ found f → Taken table ns → ((n : ℕ) → f ≡ N.known (N.global n) → n < 400) → (t : List ℕ) → Did (nameFault place ns f) nothing 0 t t st st′
+  pub by : (f : N.Found) (ns : List ℕ) → m ≡ found f → Taken table ns → ((n : ℕ) → f ≡ N.known (N.global n) → n < 400) → (t : List ℕ)
+      → Did (nameFault place ns f) nothing 0 t t st st′
 
 -- the table where function k starts there
 abbrev pub started : List ℕ → (k : ℕ) → Start → List ℕ
@@ -75,7 +78,9 @@ pub record Enters (s s′ table table′ : List ℕ) (top leaf m k r : ℕ) : Ty
       × (table′ ≡ started table k (startOf f))
 
 abbrev pub encodeFunction : Function → List ℕ
-encodeFunction f = closed (encodeName (f .name) ++ (encodeNames (f .parameters) ++ encodeBody (f .body))) (length (encodeNames (f .parameters))) 0 (bodyWord (f .body))
+encodeFunction f =
+    closed (encodeName (f .name) ++ (encodeNames (f .parameters) ++ encodeBody (f .body))) (length (encodeNames (f .parameters))) 0
+    (bodyWord (f .body))
 
 abbrev pub functionDepth : Function → ℕ
 functionDepth f = bodyDepth (f .body)
@@ -108,13 +113,15 @@ pub record ReadyGroup (s table : List ℕ) (from end top k : ℕ) : Type 0 where
   pub few : k + length functions < 2 ^ 29
   pub fine : FineFs functions
 
-pub record GroupKnown (text s s′ table table′ : List ℕ) (base : ℕ) (sc : Scope) (ns : List ℕ) (fs : List Function) (top k : ℕ) (st : State) (r : Known) : Type 0 where
+pub record GroupKnown (text s s′ table table′ : List ℕ) (base : ℕ) (sc : Scope) (ns : List ℕ) (fs : List Function) (top k : ℕ) (st : State)
+    (r : Known) : Type 0 where
   pub shows : Shows s′ (r .top) (functionsAfter text k sc fs)
   pub keeps : Keeps base top s s′
   pub up : (top ≤ r .top) × (r .top ≤ top + 2 * length fs)
   pub taken : Taken table′ (takenAfter text k sc ns fs)
   pub did : (t : List ℕ) → Did (groupNameFaults text k sc ns fs) nothing 0 t t st (r .state)
-  pub starting : groupNameFaults text k sc ns fs ≡ [] → (ss : List Start) → length ss ≡ k → Starting table ss → Starting table′ (ss ++ startsIn text k sc fs)
+  pub starting : groupNameFaults text k sc ns fs ≡ [] → (ss : List Start) → length ss ≡ k → Starting table ss
+      → Starting table′ (ss ++ startsIn text k sc fs)
 
 pub record GroupNames (text s s′ table table′ : List ℕ) (from end top k : ℕ) (st : State) (r : Known) : Type 0 where
   pub by : (y : ReadyGroup s table from end top k) → GroupKnown text s s′ table table′ (y .base) (y .scope) (y .taken) (y .functions) top k st r
@@ -136,7 +143,8 @@ pub record ReadyBody (s : List ℕ) (end : ℕ) (x : Here) (st : State) (word : 
 
 pub record GaveBody (text s s′ : List ℕ) (end word : ℕ) (x : Here) (t t′ : List ℕ) (st st′ : State) : Type 0 where
   pub by : (y : ReadyBody s end x st word) → let z = y .ready in
-      Result (bodyFaults text (z .scope) (x .height) (z .tree)) (bodySays text x (z .scope) (z .tree)) (length (encodeBody (z .tree))) (z .base) x s s′ t t′ st st′
+      Result (bodyFaults text (z .scope) (x .height) (z .tree)) (bodySays text x (z .scope) (z .tree)) (length (encodeBody (z .tree)))
+      (z .base) x s s′ t t′ st st′
 
 abbrev pub functionSays : (text : List ℕ) → (strings label : ℕ) → Scope → Function → ℕ → Code
 functionSays text strings l sc f n = let r = resolved text sc nowhere f in record {
@@ -149,7 +157,9 @@ abbrev pub ReadyF : List ℕ → ℕ → Here → State → Type 0
 ReadyF = Ready encodeFunction functionDepth FineF
 
 abbrev pub GaveF : (text s s′ : List ℕ) → (label end : ℕ) → Here → (t t′ : List ℕ) → (st st′ : State) → Type 0
-GaveF text s s′ l end x t t′ st st′ = Gave encodeFunction functionDepth FineF (λ sc f. functionFaults text sc f) (λ sc f. functionSays text (x .strings) l sc f) s s′ end x t t′ st st′
+GaveF text s s′ l end x t t′ st st′ =
+    Gave encodeFunction functionDepth FineF (λ sc f. functionFaults text sc f)
+    (λ sc f. functionSays text (x .strings) l sc f) s s′ end x t t′ st st′
 
 -- labels of the inner parts
 unfoldable pub innerLabels : List Fun → ℕ
@@ -181,8 +191,10 @@ pub record ReadyFs (s : List ℕ) (from end : ℕ) (x : Here) (d : Done) : Type 
   pub low : d .state .high ≡ 0
 
 -- heights are folded for each function by itself: 16 in `tall`
-pub record GroupWalked (text : List ℕ) (sc : Scope) (fs : List Function) (gs : List Named) (l base : ℕ) (x : Here) (s s′ t t′ : List ℕ) (d d′ : Done) : Type 0 where
-  pub result : Result (groupFaults text sc fs) (functionsSays (x .strings) l (funs gs)) (length (encodeFunctions fs)) base x s s′ t t′ (d .state) (d′ .state)
+pub record GroupWalked (text : List ℕ) (sc : Scope) (fs : List Function) (gs : List Named) (l base : ℕ) (x : Here) (s s′ t t′ : List ℕ) (d d′ : Done)
+    : Type 0 where
+  pub result : Result (groupFaults text sc fs) (functionsSays (x .strings) l (funs gs)) (length (encodeFunctions fs)) base x s s′ t t′
+      (d .state) (d′ .state)
   pub tall : groupFaults text sc fs ≡ [] → d′ .tall ≡ least (d .tall) (heightFaults gs)
   pub fits : AllFit (heightFaults gs)
   pub low : d′ .state .high ≡ 0

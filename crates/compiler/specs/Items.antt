@@ -40,7 +40,8 @@ FineIs is = FineItems STRINGS is
 
 -- an item's constant
 pub record JudgesItem (g : Bool) (text s : List ℕ) (end top : ℕ) (r : Verdict) : Type 0 where
-  pub by : (sc : Scope) (lo : ℕ) (c : T.Constant) → Shows s top sc → FineConstant c → Lies s lo (encodeConstant c) → end ≡ lo + length (encodeConstant c) → Says r (judged g text sc c)
+  pub by : (sc : Scope) (lo : ℕ) (c : T.Constant) → Shows s top sc → FineConstant c → Lies s lo (encodeConstant c)
+      → end ≡ lo + length (encodeConstant c) → Says r (judged g text sc c)
   pub fits : (r .place < 2 ^ 32) × (r .number < 32)
   pub low : r .word < 2 ^ 30
 

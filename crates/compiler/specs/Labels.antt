@@ -28,7 +28,8 @@ use Rattle.compiler.specs.Commands.{nothing}
 -- the items of a list, each by where it ends
 pub data Row {A : Type 0} (P : ℕ → A → Type 0) (s : List ℕ) (end : ℕ) : ℕ → List A → Type 0 where
   noMore : {at : ℕ} → end ≡ at → Row P s end at []
-  andMore : {at : ℕ} {x : A} {xs : List A} → at + 2 + getD s at 0 ≤ end → P (at + 2 + getD s at 0) x → Row P s end (at + 2 + getD s at 0) xs → Row P s end at (x ∷ xs)
+  andMore : {at : ℕ} {x : A} {xs : List A} → at + 2 + getD s at 0 ≤ end → P (at + 2 + getD s at 0) x → Row P s end (at + 2 + getD s at 0) xs
+      → Row P s end at (x ∷ xs)
 
 pub record NextItem (s : List ℕ) (at end r : ℕ) : Type 0 where
   pub further : at < r
@@ -39,7 +40,8 @@ pub record NextItem (s : List ℕ) (at end r : ℕ) : Type 0 where
 
 -- a label whose record ends there
 pub data LabelAt (s : List ℕ) (end : ℕ) : Label → Type 0 where
-  aCase : {place lo : ℕ} {c : Constant} → getD s (end - 1) 0 ≡ K.CASE → getD s (end - 2) 0 ≡ place → Lies s lo (encodeConstant c) → end - 4 ≡ lo + length (encodeConstant c) → FineConstant c
+  aCase : {place lo : ℕ} {c : Constant} → getD s (end - 1) 0 ≡ K.CASE → getD s (end - 2) 0 ≡ place → Lies s lo (encodeConstant c)
+      → end - 4 ≡ lo + length (encodeConstant c) → FineConstant c
       → LabelAt s end (T.case place c)
   aDefault : {place : ℕ} → getD s (end - 1) 0 ≡ K.DEFAULT → getD s (end - 2) 0 ≡ place → LabelAt s end (T.default place)
 
@@ -122,15 +124,18 @@ pub record Still (st st′ : State) : Type 0 where
 
 pub record WritesPair (text s : List ℕ) (end top l : ℕ) (t t′ : List ℕ) (st st′ : State) : Type 0 where
   pub still : Still st st′
-  pub by : (sc : Scope) (x : Label) → Shows s top sc → LabelAt s end x → Sound text sc (x ∷ []) → Emits (G.pairsOf l (labelsOf text sc (x ∷ []))) [] t t′ st st′
+  pub by : (sc : Scope) (x : Label) → Shows s top sc → LabelAt s end x → Sound text sc (x ∷ [])
+      → Emits (G.pairsOf l (labelsOf text sc (x ∷ []))) [] t t′ st st′
 
 pub record WritesPairs (text s : List ℕ) (from end top l : ℕ) (t t′ : List ℕ) (st st′ : State) : Type 0 where
   pub still : Still st st′
-  pub by : (y : Listed (LabelAt s) s from end top) → Sound text (y .scope) (y .all) → Emits (G.pairsOf l (labelsOf text (y .scope) (y .all))) [] t t′ st st′
+  pub by : (y : Listed (LabelAt s) s from end top) → Sound text (y .scope) (y .all)
+      → Emits (G.pairsOf l (labelsOf text (y .scope) (y .all))) [] t t′ st st′
 
 pub record WritesAll (text s : List ℕ) (from end top l : ℕ) (t t′ : List ℕ) (st st′ : State) : Type 0 where
   pub still : Still st st′
-  pub by : (y : Listed (CommandAt s) s from end top) → Sound text (y .scope) (flat (y .all)) → Emits (tableAmong text (y .scope) l (y .all)) [] t t′ st st′
+  pub by : (y : Listed (CommandAt s) s from end top) → Sound text (y .scope) (flat (y .all))
+      → Emits (tableAmong text (y .scope) l (y .all)) [] t t′ st st′
 
 -- ---- a label after those before it, which are marked
 

@@ -42,14 +42,16 @@ pub record NamedConstant (m : ℕ) (minus : Bool) (name place : ℕ) (r : Verdic
 
 -- whatever constant ends there
 pub record Judges (text s : List ℕ) (end top : ℕ) (r : Verdict) : Type 0 where
-  pub by : (sc : Scope) (lo : ℕ) (c : Constant) → Shows s top sc → FineConstant c → Lies s lo (encodeConstant c) → end ≡ lo + length (encodeConstant c) → Says r (judge text sc c)
+  pub by : (sc : Scope) (lo : ℕ) (c : Constant) → Shows s top sc → FineConstant c → Lies s lo (encodeConstant c)
+      → end ≡ lo + length (encodeConstant c) → Says r (judge text sc c)
   pub fits : (r .place < 2 ^ 32) × (r .number < 32)
   -- it is a meaning's word
   pub low : r .word < 2 ^ 30
 
 -- 11 where it is greater than that
 pub record JudgesMost (most : ℕ) (text s : List ℕ) (end top : ℕ) (r : Verdict) : Type 0 where
-  pub by : (sc : Scope) (lo : ℕ) (c : Constant) → Shows s top sc → FineConstant c → Lies s lo (encodeConstant c) → end ≡ lo + length (encodeConstant c)
+  pub by : (sc : Scope) (lo : ℕ) (c : Constant) → Shows s top sc → FineConstant c → Lies s lo (encodeConstant c)
+      → end ≡ lo + length (encodeConstant c)
       → Says r (within c (λ v. leb v most) (judge text sc c))
   pub fits : (r .place < 2 ^ 32) × (r .number < 32)
   pub small : r .word ≤ most
@@ -130,7 +132,8 @@ pub record ReadyLocals (s : List ℕ) (from end : ℕ) (x : Here) (st : State) :
 
 pub record LocalsDone (text : List ℕ) (sc : Scope) (ls : T.Locals) (base : ℕ) (x : Here) (s s′ t t′ : List ℕ) (st : State) (r : Placed) : Type 0 where
   pub after : After (scopeAfter text sc (x .height) ls) (heightAfter text sc (x .height) ls) (length (encodeLocals ls)) base x s s′ r
-  pub did : Did (inLocals text sc (leavable x) (x .height) ls) (localsSays x (x .height) (locals text sc (x .height) ls)) (2 * length (encodeLocals ls)) t t′ st (r .done)
+  pub did : Did (inLocals text sc (leavable x) (x .height) ls) (localsSays x (x .height) (locals text sc (x .height) ls))
+      (2 * length (encodeLocals ls)) t t′ st (r .done)
 
 pub record GaveLocals (text s s′ : List ℕ) (from end : ℕ) (x : Here) (t t′ : List ℕ) (st : State) (r : Placed) : Type 0 where
   pub by : (y : ReadyLocals s from end x st) → let z = y .ready in LocalsDone text (z .scope) (z .tree) (z .base) x s s′ t t′ st r

@@ -116,7 +116,8 @@ pub record ReadyProgram (s table : List ℕ) (base end left strings : ℕ) (d : 
   pub empty : table ≡ replicate 400 0
 
 pub record Walked (text : List ℕ) (p : Program) (base strings : ℕ) (s s′ table table′ t t′ : List ℕ) (d d′ : Done) : Type 0 where
-  pub did : Did (faultsFrom text begin p) (functionsSays strings 1 (funs (functionsFrom text begin p))) (2 * length (encodeProgram p)) t t′ (d .state) (d′ .state)
+  pub did : Did (faultsFrom text begin p) (functionsSays strings 1 (funs (functionsFrom text begin p))) (2 * length (encodeProgram p)) t t′
+      (d .state) (d′ .state)
   pub tall : faultsFrom text begin p ≡ [] → d′ .tall ≡ least (d .tall) (heightFaults (functionsFrom text begin p))
   pub fits : AllFit (heightFaults (functionsFrom text begin p))
   pub starting : faultsFrom text begin p ≡ [] → Starting table′ (startsOf (funs (functionsFrom text begin p)))

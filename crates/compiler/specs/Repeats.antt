@@ -34,7 +34,8 @@ unfoldable pub formsCode : (text : List ℕ) → Scope → (strings h own : ℕ)
 formsCode text sc strings h own T.noRepeats n = []
 formsCode text sc strings h own (T.repeat rs) n = I.label (own + 1) ∷ G.JL own ∷ I.label (own + 2) ∷ formsCode text sc strings h (own - 3) rs n
 formsCode text sc strings h own (T.repeatOn w e rs) n = let E = expression text sc h e in
-    I.label (own + 1) ∷ (G.exprCode strings h n E ++ (G.jumpWhen (eqb w 21) own ∷ I.label (own + 2) ∷ formsCode text sc strings h (own - 3) rs (n + G.exprLabels E)))
+    I.label (own + 1) ∷ (G.exprCode strings h n E
+    ++ (G.jumpWhen (eqb w 21) own ∷ I.label (own + 2) ∷ formsCode text sc strings h (own - 3) rs (n + G.exprLabels E)))
 
 unfoldable pub formsHeights : (text : List ℕ) → Scope → (h : ℕ) → Repeats → List ℕ
 formsHeights text sc h T.noRepeats = []
@@ -47,7 +48,11 @@ formsLabels text sc h (T.repeat rs) = formsLabels text sc h rs
 formsLabels text sc h (T.repeatOn w e rs) = G.exprLabels (expression text sc h e) + formsLabels text sc h rs
 
 abbrev pub formsSays : List ℕ → Here → Scope → (own : ℕ) → Repeats → ℕ → Code
-formsSays text here sc own rs n = record { items = formsCode text sc (here .strings) (here .height) own rs n; heights = formsHeights text sc (here .height) rs; labels = formsLabels text sc (here .height) rs }
+formsSays text here sc own rs n = record {
+  items = formsCode text sc (here .strings) (here .height) own rs n;
+  heights = formsHeights text sc (here .height) rs;
+  labels = formsLabels text sc (here .height) rs;
+}
 
 -- where BREAK and LOOP go in a command with k forms whose labels start at n
 abbrev pub innermost : (n k : ℕ) → G.Exits → G.Exits

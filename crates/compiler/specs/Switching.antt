@@ -80,5 +80,6 @@ byJudged text s none = good 1
 byJudged text s (some c) = forBy text s c
 
 pub record JudgesBy (text s : List ℕ) (from end top : ℕ) (r : Verdict) : Type 0 where
-  pub by : (sc : Scope) (k : Option Constant) → Shows s top sc → FineBy k → Lies s from (encodeBy k) → end ≡ from + length (encodeBy k) → Says r (byJudged text sc k)
+  pub by : (sc : Scope) (k : Option Constant) → Shows s top sc → FineBy k → Lies s from (encodeBy k) → end ≡ from + length (encodeBy k)
+      → Says r (byJudged text sc k)
   pub fits : (r .place < 2 ^ 32) × (r .number < 32)

@@ -50,8 +50,10 @@ pub record Result (fs : List Fault) (code : ℕ → Code) (n base : ℕ) (here :
   pub keeps : Keeps base (here .top) s s′
   pub did : Did fs code (2 * n) t t′ st st′
 
-pub record Gave {A : Type 0} (enc : A → List ℕ) (deep : A → ℕ) (Fine : A → Type 0) (fs : Scope → A → List Fault) (code : Scope → A → ℕ → Code) (s s′ : List ℕ) (end : ℕ) (here : Here) (t t′ : List ℕ) (st st′ : State) : Type 0 where
-  pub by : (y : Ready enc deep Fine s end here st) → Result (fs (y .scope) (y .tree)) (code (y .scope) (y .tree)) (length (enc (y .tree))) (y .base) here s s′ t t′ st st′
+pub record Gave {A : Type 0} (enc : A → List ℕ) (deep : A → ℕ) (Fine : A → Type 0) (fs : Scope → A → List Fault) (code : Scope → A → ℕ → Code)
+    (s s′ : List ℕ) (end : ℕ) (here : Here) (t t′ : List ℕ) (st st′ : State) : Type 0 where
+  pub by : (y : Ready enc deep Fine s end here st)
+      → Result (fs (y .scope) (y .tree)) (code (y .scope) (y .tree)) (length (enc (y .tree))) (y .base) here s s′ t t′ st st′
 
 -- ---- an expression
 
@@ -75,7 +77,8 @@ pub record ReadyArgs (s : List ℕ) (from end : ℕ) (here : Here) (st : State) 
 
 pub record GaveArgs (text s s′ : List ℕ) (from end : ℕ) (here : Here) (t t′ : List ℕ) (st st′ : State) : Type 0 where
   pub by : (y : ReadyArgs s from end here st) → let z = y .ready in
-      Result (inExpressions text (z .scope) (leavable here) (here .height) (z .tree)) (exprsSays (here .strings) (here .height) (expressions text (z .scope) (here .height) (z .tree)))
+      Result (inExpressions text (z .scope) (leavable here) (here .height) (z .tree))
+      (exprsSays (here .strings) (here .height) (expressions text (z .scope) (here .height) (z .tree)))
       (length (encodeExpressions (z .tree))) (z .base) here s s′ t t′ st st′
 
 -- ---- operations, after the first operand; the list starts at `from`
@@ -95,7 +98,11 @@ chainLabels text sc h T.noOperations = 0
 chainLabels text sc h (T.operation o d os) = exprLabels (expression text sc (h + 1) d) + chainLabels text sc h os
 
 abbrev pub chainSays : List ℕ → Here → Scope → Operations → ℕ → Code
-chainSays text here sc os n = record { items = chainCode text sc (here .strings) (here .height) os n; heights = chainHeights text sc (here .height) os; labels = chainLabels text sc (here .height) os }
+chainSays text here sc os n = record {
+  items = chainCode text sc (here .strings) (here .height) os n;
+  heights = chainHeights text sc (here .height) os;
+  labels = chainLabels text sc (here .height) os;
+}
 
 pub record ReadyChain (s : List ℕ) (from end : ℕ) (here : Here) (st : State) : Type 0 where
   pub ready : Ready encodeOperations operationsDepth FineOs s end here st
@@ -123,11 +130,13 @@ FineApplied a = FineE (a .primary) × FineSs (a .suffixes)
 
 abbrev pub faultsA : List ℕ → Here → Scope → Applied → List Fault
 faultsA text here sc a =
-    inExpression text sc (leavable here) (under (a .suffixes) (here .height)) (a .primary) ++ inSuffixes text sc (leavable here) (here .height) (a .suffixes)
+    inExpression text sc (leavable here) (under (a .suffixes) (here .height)) (a .primary)
+    ++ inSuffixes text sc (leavable here) (here .height) (a .suffixes)
 
 abbrev pub codeA : List ℕ → Here → Scope → Applied → ℕ → Code
 codeA text here sc a =
-    exprSays (here .strings) (here .height) (suffixes text sc (here .height) (expression text sc (under (a .suffixes) (here .height)) (a .primary)) (a .suffixes))
+    exprSays (here .strings) (here .height)
+    (suffixes text sc (here .height) (expression text sc (under (a .suffixes) (here .height)) (a .primary)) (a .suffixes))
 
 pub record ReadySuffixes (s : List ℕ) (middle end : ℕ) (here : Here) (st : State) : Type 0 where
   pub ready : Ready encodeApplied deepApplied FineApplied s end here st
@@ -135,7 +144,8 @@ pub record ReadySuffixes (s : List ℕ) (middle end : ℕ) (here : Here) (st : S
 
 pub record GaveSuffixes (text s s′ : List ℕ) (middle end : ℕ) (here : Here) (t t′ : List ℕ) (st st′ : State) : Type 0 where
   pub by : (y : ReadySuffixes s middle end here st) → let z = y .ready in
-      Result (faultsA text here (z .scope) (z .tree)) (codeA text here (z .scope) (z .tree)) (length (encodeApplied (z .tree))) (z .base) here s s′ t t′ st st′
+      Result (faultsA text here (z .scope) (z .tree)) (codeA text here (z .scope) (z .tree)) (length (encodeApplied (z .tree))) (z .base)
+      here s s′ t t′ st st′
 
 -- an index after what is in A
 abbrev pub codeIndexed : List ℕ → Here → Scope → Expression → ℕ → Code
@@ -146,7 +156,9 @@ codeIndexed text here sc e n = let b = expression text sc (here .height + 1) e i
 }
 
 pub record GaveIndexed (text s s′ : List ℕ) (end : ℕ) (here : Here) (t t′ : List ℕ) (st st′ : State) : Type 0 where
-  pub by : (y : ReadyE s end (raised 1 here) st) → Result (faultsE text (raised 1 here) (y .scope) (y .tree)) (codeIndexed text here (y .scope) (y .tree)) (length (encode (y .tree))) (y .base) here s s′ t t′ st st′
+  pub by : (y : ReadyE s end (raised 1 here) st)
+      → Result (faultsE text (raised 1 here) (y .scope) (y .tree)) (codeIndexed text here (y .scope) (y .tree)) (length (encode (y .tree))) (y .base)
+      here s s′ t t′ st st′
 
 -- the arguments of a call
 abbrev pub codePassed : List ℕ → Here → Scope → Expressions → ℕ → Code
@@ -158,7 +170,8 @@ codePassed text here sc es n = let rs = expressions text sc (here .height + 2) e
 
 pub record GavePassed (text s s′ : List ℕ) (from end : ℕ) (here : Here) (t t′ : List ℕ) (st st′ : State) : Type 0 where
   pub by : (y : ReadyArgs s from end (raised 2 here) st) → let z = y .ready in
-      Result (inExpressions text (z .scope) (leavable here) (here .height + 2) (z .tree)) (codePassed text here (z .scope) (z .tree)) (length (encodeExpressions (z .tree))) (z .base) here s s′ t t′ st st′
+      Result (inExpressions text (z .scope) (leavable here) (here .height + 2) (z .tree)) (codePassed text here (z .scope) (z .tree))
+      (length (encodeExpressions (z .tree))) (z .base) here s s′ t t′ st st′
 
 -- items stand one after another up to `end`, each with its size and a tag in front: so many of them
 pub data Items (s : List ℕ) (end : ℕ) : (from n : ℕ) → Type 0 where

@@ -21,7 +21,8 @@ ghost use lib.ListN.{length, getD, replicate};
 ghost use Rattle.code.specs.Generate as G;
 ghost use Rattle.compiler.specs.Walked.{Emits};
 ghost use Rattle.compiler.specs.Switching.{ReadyLabels, JudgesLabels, WritesTable, ReadyMisplaced, Misplaces, JudgesBy};
-ghost use Rattle.compiler.specs.Labels.{NextItem, Spans, MisplacesLabel, CountsLabel, CountsCases, CountsAll, HasDefault, FindsDefault, WritesPair, WritesPairs, WritesAll, Notes, JudgesLabel, JudgesCommand};
+ghost use Rattle.compiler.specs.Labels.{NextItem, Spans, MisplacesLabel, CountsLabel, CountsCases, CountsAll, HasDefault, FindsDefault};
+ghost use Rattle.compiler.specs.Labels.{WritesPair, WritesPairs, WritesAll, Notes, JudgesLabel, JudgesCommand};
 
 // The constant of BY between `from` and `end`; 1 where there is none.
 pub(crate) fn by_constant(source: &[u8], s: &[u32], from: usize, end: usize, top: usize) -> Verdict

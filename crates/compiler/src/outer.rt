@@ -34,7 +34,8 @@ ghost use Rattle.compiler.specs.Scope.{code, nameAt};
 ghost use Rattle.compiler.specs.Walks.{ReadyE, GaveE};
 ghost use Rattle.compiler.specs.Commands.{ReadyC, GaveC};
 ghost use Rattle.compiler.specs.Items.{meaning, JudgesItem, Items, ReadyItems};
-ghost use Rattle.compiler.specs.Groups.{NameFaults, Enters, ReadyGroup, GroupNames, ReadyBody, GaveBody, ReadyF, GaveF, CountsFunctions, CountsGroup};
+ghost use Rattle.compiler.specs.Groups.{NameFaults, Enters, ReadyGroup, GroupNames, ReadyBody, GaveBody, ReadyF, GaveF, CountsFunctions};
+ghost use Rattle.compiler.specs.Groups.{CountsGroup};
 
 // What is done, and the end of the names in scope.
 pub struct Known {
@@ -146,7 +147,8 @@ pub(crate) fn group_names(
     st: State,
 ) -> Known
     requires { ⌜ ReadyGroup (now s) (now table) from end top before ⌝ }
-    ensures { λ r. ⌜ GroupNames (now (source .entry)) (now (s .entry)) (now (s .exit)) (now (table .entry)) (now (table .exit)) from end top before st r ⌝ }
+    ensures { λ r. ⌜ GroupNames (now (source .entry)) (now (s .entry)) (now (s .exit)) (now (table .entry)) (now (table .exit))
+        from end top before st r ⌝ }
 {
     let mut at = from;
     let mut k = before;

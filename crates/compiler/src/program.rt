@@ -125,7 +125,8 @@ fn functions(
     l: Progress,
 ) -> Progress
     requires { ⌜ ReadyDeclaration (now s) (now table) from end K.LET left strings l ⌝ }
-    ensures { λ r. ⌜ GaveDeclaration (now (source .entry)) (now (s .entry)) (now (s .exit)) (now (table .entry)) (now (table .exit)) from end K.LET left strings (now (text .entry)) (now (text .exit)) l r ⌝ }
+    ensures { λ r. ⌜ GaveDeclaration (now (source .entry)) (now (s .entry)) (now (s .exit)) (now (table .entry)) (now (table .exit))
+        from end K.LET left strings (now (text .entry)) (now (text .exit)) l r ⌝ }
 {
     let n = group_count(s, from, end);
     let k = group_names(
@@ -178,7 +179,8 @@ fn declaration(
     l: Progress,
 ) -> Progress
     requires { ⌜ ReadyDeclaration (now s) (now table) from end tag left strings l ⌝ }
-    ensures { λ r. ⌜ GaveDeclaration (now (source .entry)) (now (s .entry)) (now (s .exit)) (now (table .entry)) (now (table .exit)) from end tag left strings (now (text .entry)) (now (text .exit)) l r ⌝ }
+    ensures { λ r. ⌜ GaveDeclaration (now (source .entry)) (now (s .entry)) (now (s .exit)) (now (table .entry)) (now (table .exit))
+        from end tag left strings (now (text .entry)) (now (text .exit)) l r ⌝ }
 {
     if tag == LET {
         return functions(source, s, table, from, end, left, strings, text, l);
@@ -199,7 +201,8 @@ pub(crate) fn program(
     d: Done,
 ) -> Done
     requires { ⌜ ReadyProgram (now s) (now table) base end left strings d ⌝ }
-    ensures { λ r. ⌜ GaveProgram (now (source .entry)) (now (s .entry)) (now (s .exit)) (now (table .entry)) (now (table .exit)) base end left strings (now (text .entry)) (now (text .exit)) d r ⌝ }
+    ensures { λ r. ⌜ GaveProgram (now (source .entry)) (now (s .entry)) (now (s .exit)) (now (table .entry)) (now (table .exit))
+        base end left strings (now (text .entry)) (now (text .exit)) d r ⌝ }
 {
     let mut at = base;
     let mut l = Progress {

@@ -39,11 +39,15 @@ ghost use Rattle.items.specs.Item as I;
 ghost use Rattle.writing.specs.Text.{baseOf};
 ghost use Rattle.code.specs.Generate as G;
 ghost use Rattle.language.specs.Kinds as K;
-ghost use Rattle.compiler.specs.Walked.{NodeAt, Emits, Reached, Faulted, Means, Fresh, LeavesTo, inside, raised, marked, placed, inValof, inLoop, inSwitch};
+ghost use Rattle.compiler.specs.Walked.{NodeAt, Emits, Reached, Faulted, Means, Fresh, LeavesTo, inside, raised, marked, placed, inValof};
+ghost use Rattle.compiler.specs.Walked.{inLoop, inSwitch};
 ghost use Rattle.compiler.specs.Repeats.{topsCode};
-ghost use Rattle.compiler.specs.Walks.{ReadyE, GaveE, ReadyArgs, GaveArgs, ReadyChain, GaveChain, ReadySuffixes, GaveSuffixes, GaveIndexed, GavePassed, Counts};
+ghost use Rattle.compiler.specs.Walks.{ReadyE, GaveE, ReadyArgs, GaveArgs, ReadyChain, GaveChain, ReadySuffixes, GaveSuffixes, GaveIndexed};
+ghost use Rattle.compiler.specs.Walks.{GavePassed, Counts};
 ghost use Rattle.language.specs.Constants.{signed};
-ghost use Rattle.compiler.specs.Commands.{ReadyC, GaveC, ReadyU, GaveU, WhenKind, ReadyNames, Declares, Again, ReadyList, GaveList, BlockKind, GaveMonadic, GaveAddress, GaveAddressIndex, GaveSide, GaveSideIndex, GaveRefused, IndexKind, AddressOf, StoreTo, GoesAway};
+ghost use Rattle.compiler.specs.Commands.{ReadyC, GaveC, ReadyU, GaveU, WhenKind, ReadyNames, Declares, Again, ReadyList, GaveList, BlockKind};
+ghost use Rattle.compiler.specs.Commands.{GaveMonadic, GaveAddress, GaveAddressIndex, GaveSide, GaveSideIndex, GaveRefused, IndexKind};
+ghost use Rattle.compiler.specs.Commands.{AddressOf, StoreTo, GoesAway};
 ghost use Rattle.compiler.specs.Assigns.{ReadyAssign, GaveAssign};
 ghost use Rattle.compiler.specs.Locals.{NamedConstant, Judges, JudgesMost, Blames, ReadyLocal, GaveLocal, ReadyLocals, GaveLocals, VectorKind};
 
@@ -364,7 +368,8 @@ pub(crate) fn limit_act(by: usize) -> usize
 // The test of a FOR, whose word is at the height and its limit one above: past it, to `n + 2`.
 pub(crate) fn for_test(text: &mut [u8], st: State, h: usize, by: usize, n: usize) -> State
     requires { ⌜ (h < 2 ^ 32) × (n < 2 ^ 32) ⌝ }
-    ensures { λ r. ⌜ Emits (I.label n ∷ G.LIP h ∷ G.LIP (h + 1) ∷ G.X (G.limitAct by) ∷ G.FL (n + 2) ∷ []) [] (now (text .entry)) (now (text .exit)) st r ⌝ }
+    ensures { λ r. ⌜ Emits (I.label n ∷ G.LIP h ∷ G.LIP (h + 1) ∷ G.X (G.limitAct by) ∷ G.FL (n + 2) ∷ []) []
+        (now (text .entry)) (now (text .exit)) st r ⌝ }
 {
     let a = mark(text, st, n);
     let b = put(text, a, 0, true, Base::P, h);
@@ -376,7 +381,8 @@ pub(crate) fn for_test(text: &mut [u8], st: State, h: usize, by: usize, n: usize
 // The step of a FOR, and its end.
 pub(crate) fn for_step(text: &mut [u8], st: State, h: usize, by: usize, n: usize) -> State
     requires { ⌜ (h < 2 ^ 32) × (n < 2 ^ 32) ⌝ }
-    ensures { λ r. ⌜ Emits (I.label (n + 1) ∷ G.LIP h ∷ G.A by ∷ G.SP h ∷ G.JL n ∷ I.label (n + 2) ∷ []) [] (now (text .entry)) (now (text .exit)) st r ⌝ }
+    ensures { λ r. ⌜ Emits (I.label (n + 1) ∷ G.LIP h ∷ G.A by ∷ G.SP h ∷ G.JL n ∷ I.label (n + 2) ∷ []) []
+        (now (text .entry)) (now (text .exit)) st r ⌝ }
 {
     let a = mark(text, st, n + 1);
     let b = put(text, a, 0, true, Base::P, h);

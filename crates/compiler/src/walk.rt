@@ -85,10 +85,15 @@ ghost use lib.ListN.{length, getD};
 ghost use Rattle.items.specs.Item as I;
 ghost use Rattle.writing.specs.Text.{baseOf};
 ghost use Rattle.code.specs.Generate as G;
-ghost use Rattle.compiler.specs.Walked.{NodeAt, Emits, Reached, Faulted, Means, Fresh, LeavesTo, inside, raised, marked, placed, inValof, inLoop};
-ghost use Rattle.compiler.specs.Walks.{ReadyE, GaveE, ReadyArgs, GaveArgs, ReadyChain, GaveChain, ReadySuffixes, GaveSuffixes, GaveIndexed, GavePassed, Counts};
+ghost use Rattle.compiler.specs.Walked.{NodeAt, Emits, Reached, Faulted, Means, Fresh, LeavesTo, inside, raised, marked, placed, inValof};
+ghost use Rattle.compiler.specs.Walked.{inLoop};
+ghost use Rattle.compiler.specs.Walks.{ReadyE, GaveE, ReadyArgs, GaveArgs, ReadyChain, GaveChain, ReadySuffixes, GaveSuffixes, GaveIndexed};
+ghost use Rattle.compiler.specs.Walks.{GavePassed, Counts};
 ghost use Rattle.language.specs.Constants.{signed};
-ghost use Rattle.compiler.specs.Commands.{ReadyC, GaveC, GaveCase, ReadyR, GaveR, ReadyForms, GaveForms, ReadyForm, GaveForm, ReadyU, GaveU, KindIs, WhenKind, WhileKind, ReadyCases, GaveCases, ReadyNames, Declares, Again, ReadyList, GaveList, BlockKind, GaveMonadic, GaveAddress, GaveAddressIndex, GaveSide, GaveSideIndex, GaveRefused, IndexKind, AddressOf, StoreTo};
+ghost use Rattle.compiler.specs.Commands.{ReadyC, GaveC, GaveCase, ReadyR, GaveR, ReadyForms, GaveForms, ReadyForm, GaveForm, ReadyU, GaveU};
+ghost use Rattle.compiler.specs.Commands.{KindIs, WhenKind, WhileKind, ReadyCases, GaveCases, ReadyNames, Declares, Again, ReadyList, GaveList};
+ghost use Rattle.compiler.specs.Commands.{BlockKind, GaveMonadic, GaveAddress, GaveAddressIndex, GaveSide, GaveSideIndex, GaveRefused};
+ghost use Rattle.compiler.specs.Commands.{IndexKind, AddressOf, StoreTo};
 ghost use Rattle.compiler.specs.Assigns.{ReadyAssign, GaveAssign};
 ghost use Rattle.compiler.specs.Locals.{NamedConstant, Judges, JudgesMost, Blames, ReadyLocal, GaveLocal, ReadyLocals, GaveLocals, VectorKind};
 ghost use Rattle.language.specs.Kinds as K;
@@ -207,7 +212,8 @@ fn applied(
     st: State,
 ) -> State
     requires { ⌜ ReadySuffixes (now s) middle end here st ⌝ }
-    ensures { λ r. ⌜ GaveSuffixes (now (source .entry)) (now (s .entry)) (now (s .exit)) middle end here (now (text .entry)) (now (text .exit)) st r ⌝ }
+    ensures { λ r. ⌜ GaveSuffixes (now (source .entry)) (now (s .entry)) (now (s .exit)) middle end here
+        (now (text .entry)) (now (text .exit)) st r ⌝ }
 {
     if end <= middle {
         return expr(source, s, middle, text, here, st);
@@ -269,7 +275,8 @@ fn monadic(
     operator: usize,
 ) -> State
     requires { ⌜ ReadyE (now s) end here st ⌝ }
-    ensures { λ r. ⌜ GaveMonadic (now (source .entry)) (now (s .entry)) (now (s .exit)) operator end here (now (text .entry)) (now (text .exit)) st r ⌝ }
+    ensures { λ r. ⌜ GaveMonadic (now (source .entry)) (now (s .entry)) (now (s .exit)) operator end here
+        (now (text .entry)) (now (text .exit)) st r ⌝ }
 {
     if operator == AT {
         let n = node_at(s, end);
@@ -417,7 +424,8 @@ fn assign(
     st: State,
 ) -> State
     requires { ⌜ ReadyAssign (now s) left right end here st ⌝ }
-    ensures { λ r. ⌜ GaveAssign (now (source .entry)) (now (s .entry)) (now (s .exit)) left right end here (now (text .entry)) (now (text .exit)) st r ⌝ }
+    ensures { λ r. ⌜ GaveAssign (now (source .entry)) (now (s .entry)) (now (s .exit)) left right end here
+        (now (text .entry)) (now (text .exit)) st r ⌝ }
 {
     let mut l = left;
     let mut at = right;
@@ -493,7 +501,8 @@ fn list(
     st: State,
 ) -> State
     requires { ⌜ ReadyList (now s) from end here st ⌝ }
-    ensures { λ r. ⌜ GaveList (now (source .entry)) (now (s .entry)) (now (s .exit)) from end here ways (now (text .entry)) (now (text .exit)) st r ⌝ }
+    ensures { λ r. ⌜ GaveList (now (source .entry)) (now (s .entry)) (now (s .exit)) from end here ways
+        (now (text .entry)) (now (text .exit)) st r ⌝ }
 {
     let mut at = from;
     let mut r = st;
@@ -626,7 +635,8 @@ fn forms(
     innermost: usize,
 ) -> State
     requires { ⌜ ReadyForms (now s) from end here st × (innermost < 2 ^ 32) ⌝ }
-    ensures { λ r. ⌜ GaveForms (now (source .entry)) (now (s .entry)) (now (s .exit)) from end innermost here (now (text .entry)) (now (text .exit)) st r ⌝ }
+    ensures { λ r. ⌜ GaveForms (now (source .entry)) (now (s .entry)) (now (s .exit)) from end innermost here
+        (now (text .entry)) (now (text .exit)) st r ⌝ }
 {
     let mut at = from;
     let mut own = innermost;
@@ -657,7 +667,8 @@ fn form(
     own: usize,
 ) -> State
     requires { ⌜ ReadyForm (now s) end size here st ⌝ }
-    ensures { λ r. ⌜ GaveForm (now (source .entry)) (now (s .entry)) (now (s .exit)) end size word own here (now (text .entry)) (now (text .exit)) st r ⌝ }
+    ensures { λ r. ⌜ GaveForm (now (source .entry)) (now (s .entry)) (now (s .exit)) end size word own here
+        (now (text .entry)) (now (text .exit)) st r ⌝ }
 {
     if size == 0 {
         return put_to(text, st, 3, own);
@@ -886,7 +897,8 @@ fn cases(
     first: usize,
 ) -> State
     requires { ⌜ ReadyCases (now s) from end here st × (first < 2 ^ 32) ⌝ }
-    ensures { λ r. ⌜ GaveCases (now (source .entry)) (now (s .entry)) (now (s .exit)) from end first here ways (now (text .entry)) (now (text .exit)) st r ⌝ }
+    ensures { λ r. ⌜ GaveCases (now (source .entry)) (now (s .entry)) (now (s .exit)) from end first here ways
+        (now (text .entry)) (now (text .exit)) st r ⌝ }
 {
     let mut at = from;
     let mut k = 0;

@@ -45,7 +45,8 @@ pub record RunsText (text memory memory′ input output output′ : List ℕ) (b
 abbrev pub ExecutedBy : (source : List ℕ) → Refused → (memory memory′ input output output′ : List ℕ) (budget : ℕ) → Executed → Type 0
 ExecutedBy source (refused number place) memory memory′ input output output′ budget executed =
     (executed ≡ E.Uncompiled (refusal source number place)) × (memory′ ≡ memory) × (output′ ≡ output)
-ExecutedBy source accepted memory memory′ input output output′ budget executed = RunsText (textOf source) memory memory′ input output output′ budget executed
+ExecutedBy source accepted memory memory′ input output output′ budget executed =
+    RunsText (textOf source) memory memory′ input output output′ budget executed
 
 -- demand 3, of what came out: where the text is accepted and a source run with that image's placement ends with no undefined act, and
 -- uses none of the memory's last eight words, the machine's run follows it
@@ -56,7 +57,8 @@ pub record Delivers (source memory memory′ input output output′ : List ℕ) 
       → Follows (stringsIn source) (placementOf source (image (textOf source) (length memory) .table) first) s (length output) budget
       (outcomeOf ran memory′ output′)
 
-pub record Executes (source scratch scratch′ text text′ memory memory′ input output output′ : List ℕ) (budget : ℕ) (executed : Executed) : Type 0 where
+pub record Executes (source scratch scratch′ text text′ memory memory′ input output output′ : List ℕ) (budget : ℕ) (executed : Executed)
+    : Type 0 where
   -- scratch and text as `compile` leaves them
   pub clears : scratch′ ≡ replicate (length scratch) 0
   pub writes : text′ ≡ textAfter source (length text) (decided source (length scratch) (length text))

@@ -25,7 +25,8 @@ fn run_text(
     output: &mut [u8],
     budget: u64,
 ) -> Executed
-    ensures { λ r. ⌜ RunsText (now (text .entry)) (now (memory .entry)) (now (memory .exit)) (now (input .entry)) (now (output .entry)) (now (output .exit)) budget r ⌝ }
+    ensures { λ r. ⌜ RunsText (now (text .entry)) (now (memory .entry)) (now (memory .exit)) (now (input .entry)) (now (output .entry))
+        (now (output .exit)) budget r ⌝ }
 {
     match load(text, memory) {
         Assembled::Refused(r) => Executed::Unassembled(r),
@@ -43,7 +44,8 @@ pub fn execute(
     output: &mut [u8],
     budget: u64,
 ) -> Executed
-    ensures { λ r. ⌜ Executes (now (source .entry)) (now (scratch .entry)) (now (scratch .exit)) (now (text .entry)) (now (text .exit)) (now (memory .entry)) (now (memory .exit)) (now (input .entry)) (now (output .entry)) (now (output .exit)) budget r ⌝ }
+    ensures { λ r. ⌜ Executes (now (source .entry)) (now (scratch .entry)) (now (scratch .exit)) (now (text .entry)) (now (text .exit))
+        (now (memory .entry)) (now (memory .exit)) (now (input .entry)) (now (output .entry)) (now (output .exit)) budget r ⌝ }
 {
     match compile(source, scratch, text) {
         Compiled::Refused(r) => Executed::Uncompiled(r),

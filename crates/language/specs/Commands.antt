@@ -9,7 +9,8 @@ use lib.Dec.{eqb}
 use Rattle.language.specs.Kinds as K
 use Rattle.language.specs.Binding.{LOOSEST, isLabel, isGuard, isLeave, isRepeat, goesOnAssignment, beginsCommand}
 use Rattle.language.specs.Tree as T
-use Rattle.language.specs.Tree.{Name, Constant, Label, Expression, Expressions, noExpressions, andExpression, Command, Commands, noCommands, andCommand, Unlabelled, Repeats, noRepeats, Locals, noLocals, isCall, count}
+use Rattle.language.specs.Tree.{Name, Constant, Label, Expression, Expressions, noExpressions, andExpression, Command, Commands, noCommands}
+use Rattle.language.specs.Tree.{andCommand, Unlabelled, Repeats, noRepeats, Locals, noLocals, isCall, count}
 use Rattle.language.specs.Reader.{ok, Reader, _>>=_, return, kindAt, is, unexpected, any, the, optional, aName, many, items, furtherItems}
 use Rattle.language.specs.Expressions.{Readers, Inside, opening, constant}
 

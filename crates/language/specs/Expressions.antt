@@ -14,7 +14,8 @@ use lib.Dec.{eqb}
 use Rattle.language.specs.Kinds as K
 use Rattle.language.specs.Binding.{bindingOf, RELATION, LOOSEST, isMonadic, reachOf, isSuffix}
 use Rattle.language.specs.Tree as T
-use Rattle.language.specs.Tree.{Simple, Constant, Expression, noExpressions, andExpression, Suffixes, noSuffixes, Operations, noOperations, Command, withSuffixes, withOperations}
+use Rattle.language.specs.Tree.{Simple, Constant, Expression, noExpressions, andExpression, Suffixes, noSuffixes, Operations, noOperations}
+use Rattle.language.specs.Tree.{Command, withSuffixes, withOperations}
 use Rattle.language.specs.Reader.{Source, no, Reader, _>>=_, return, kindAt, is, unexpected, any, here, the, aName, manyUpTo, many, upToClose}
 
 -- the readers at some number of levels left: of expressions, by the loosest binding that their operators may have, of commands and

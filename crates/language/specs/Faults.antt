@@ -7,7 +7,8 @@ use lib.ListN.{length}
 use lib.Dec.{eqb}
 use Rattle.language.specs.Kinds.{IF, UNLESS, BREAK, LOOP, ENDCASE, RETURN, AT}
 use Rattle.language.specs.Tree as T
-use Rattle.language.specs.Tree.{Name, Constant, Label, Expression, Expressions, Suffixes, Operations, Command, Commands, Unlabelled, Repeats, placeOf}
+use Rattle.language.specs.Tree.{Name, Constant, Label, Expression, Expressions, Suffixes, Operations, Command, Commands, Unlabelled, Repeats}
+use Rattle.language.specs.Tree.{placeOf}
 use Rattle.language.specs.Names as N
 use Rattle.language.specs.Names.{Scope, opened, declared, lookup, inBlock, onFound}
 use Rattle.language.specs.Constants.{Fault, fault, Judged, good, refused, judge, forVector, forBy, faultsOf, judgedWord}
@@ -147,7 +148,9 @@ unfoldable mutual
   inUnlabelled text s l h (T.switchon e cs) = inExpression text s l h e ++ inCases text s (inSwitch l) h [] cs
   inUnlabelled text s l h (T.resultis place e) = unless (l .valof) (fault place 13) ++ inExpression text s l h e
   inUnlabelled text s l h (T.leave w place) = unless (leaves l w) (fault place 13)
-  inUnlabelled text s l h (T.block ls cs) = inLocals text (opened s) l h ls ++ inCommands text (scopeAfter text (opened s) h ls) l (heightAfter text (opened s) h ls) cs
+  inUnlabelled text s l h (T.block ls cs) =
+      inLocals text (opened s) l h ls
+      ++ inCommands text (scopeAfter text (opened s) h ls) l (heightAfter text (opened s) h ls) cs
 
   pub inLocals : List ℕ → Scope → Leavable → ℕ → T.Locals → List Fault
   inLocals text s l h T.noLocals = []

@@ -9,7 +9,8 @@ use mathlib.Core.Option.{Option, none, some}
 use lib.ListN.{length}
 use Rattle.language.specs.Binding.{isGuard, isLeave}
 use Rattle.language.specs.Tree as T
-use Rattle.language.specs.Tree.{Name, Constant, Label, Expression, Expressions, Suffixes, Operations, Command, Commands, Unlabelled, Repeats, Locals, Body, Function, Declaration, Item, Program, isCall, count}
+use Rattle.language.specs.Tree.{Name, Constant, Label, Expression, Expressions, Suffixes, Operations, Command, Commands, Unlabelled, Repeats}
+use Rattle.language.specs.Tree.{Locals, Body, Function, Declaration, Item, Program, isCall, count}
 
 -- the labels before the commands of a list
 unfoldable pub labelCount : Commands → ℕ

@@ -129,7 +129,8 @@ unfoldable pub groupNameFaults : List ℕ → (k : ℕ) → Scope → List ℕ �
 groupNameFaults text k s taken [] = []
 groupNameFaults text k s taken (f ∷ fs) =
     nameFault (f .name .place) taken (lookup text s (f .name))
-    ++ groupNameFaults text (k + 1) (withFunction s (f .name) k (startOf (lookup text s (f .name)))) (alsoTaken (startOf (lookup text s (f .name))) taken) fs
+    ++ groupNameFaults text (k + 1) (withFunction s (f .name) k (startOf (lookup text s (f .name))))
+    (alsoTaken (startOf (lookup text s (f .name))) taken) fs
 
 unfoldable pub groupFaults : List ℕ → Scope → List Function → List Fault
 groupFaults text s [] = []

@@ -173,11 +173,13 @@ unfoldable mutual
       (cond (eqb w UNTIL) (R.while false (expression text s h e) (command text s h c))
       (R.when (eqb w IF) (expression text s h e) (command text s h c)))
   unlabelled text s h (T.for n first limit by c) =
-      R.for (expression text s h first) (expression text s (h + 1) limit) (byOf text s by) (command text (declared (opened s) n (N.local h)) (h + 2) c)
+      R.for (expression text s h first) (expression text s (h + 1) limit) (byOf text s by)
+      (command text (declared (opened s) n (N.local h)) (h + 2) c)
   unlabelled text s h (T.switchon e cs) = R.switch (expression text s h e) (caseList text s h cs)
   unlabelled text s h (T.resultis place e) = R.resultis (expression text s h e)
   unlabelled text s h (T.leave w place) = leaving w
-  unlabelled text s h (T.block ls cs) = R.block (locals text (opened s) h ls) (commands text (scopeAfter text (opened s) h ls) (heightAfter text (opened s) h ls) cs)
+  unlabelled text s h (T.block ls cs) =
+      R.block (locals text (opened s) h ls) (commands text (scopeAfter text (opened s) h ls) (heightAfter text (opened s) h ls) cs)
 
   pub locals : List ℕ → Scope → ℕ → T.Locals → Locals
   locals text s h T.noLocals = R.noLocals

@@ -12,7 +12,8 @@ use Rattle.language.specs.Resolved as R
 use Rattle.language.specs.Resolved.{Expr, Exprs, Target, Pairs, Cmd, Cmds, Cases, CaseLabel, hasCase, hasDefault, Locals, Body, Fun, nowhere}
 use Rattle.language.specs.Heights.{heightWith, count}
 use Rattle.language.specs.Operators.{applyMonadic, applyDyadic}
-use Rattle.language.specs.State.{Cell, unset, holds, Value, absent, word, State, Result, unfinished, undefined, finished, returned, ok, bind, step, withCells, put, forget, read, write, demand}
+use Rattle.language.specs.State.{Cell, unset, holds, Value, absent, word, State, Result, unfinished, undefined, finished, returned, ok, bind}
+use Rattle.language.specs.State.{step, withCells, put, forget, read, write, demand}
 
 -- how a command ends: to the next one, by BREAK, LOOP or ENDCASE, or by RESULTIS
 pub data Flow : Type 0 where
@@ -198,7 +199,8 @@ goesOn by i limit = cond (leb 32768 by) (not (below i limit)) (not (below limit 
 
 unfoldable pub turned : Sem → Loop → (p h : ℕ) → State → Result Flow
 turned r (whiling sense e c) p h s =
-    tested r e p h s (λ b t. cond (same sense b) (bind (r .run c p h (step t)) (λ f u. around f u (λ w. r .turn (whiling sense e c) p h w))) (ok normal t))
+    tested r e p h s (λ b t. cond (same sense b) (bind (r .run c p h (step t)) (λ f u. around f u (λ w. r .turn (whiling sense e c) p h w)))
+    (ok normal t))
 turned r (repeating c) p h s = bind (r .run c p h (step s)) (λ f u. around f u (λ w. r .turn (repeating c) p h w))
 turned r (repeatingWhile sense c e) p h s =
     bind (r .run c p h (step s)) (λ f u.
@@ -219,7 +221,13 @@ module _ (memory : ℕ) where
   abbrev pub reach : {A : Type 0} → (p h : ℕ) → State → (State → Result A) → Result A
   reach p h s more =
       cond (leb (p + h) memory)
-      (more (record { cells = s .cells; taken = s .taken; output = s .output; steps = s .steps; used = cond (ltb (s .used) (p + h)) (p + h) (s .used) }))
+      (more (record {
+        cells = s .cells;
+        taken = s .taken;
+        output = s .output;
+        steps = s .steps;
+        used = cond (ltb (s .used) (p + h)) (p + h) (s .used);
+      }))
       undefined
 
   -- parameters start at word 2 of the frame
@@ -236,7 +244,8 @@ module _ (memory : ℕ) where
 
   abbrev pub two : Sem → Expr → Expr → (p h : ℕ) → State → (ℕ → ℕ → State → Result Value) → Result Value
   two r a b p h s more =
-      bind (r .evaluate a p h s) (λ v t. reach p (h + 1) t (λ u. bind (r .evaluate b p (h + 1) u) (λ w x. demand v (λ m. demand w (λ n. more m n x)))))
+      bind (r .evaluate a p h s) (λ v t. reach p (h + 1) t
+      (λ u. bind (r .evaluate b p (h + 1) u) (λ w x. demand v (λ m. demand w (λ n. more m n x)))))
 
   -- ---- assignment: the right side, then the left side's parts; in lists each pair in turn
 

@@ -8,7 +8,8 @@ use Rattle.words.specs.Words.{add, neg, complement}
 use Rattle.machine.specs.Outcome.{Out, ok, stop, _>>=_, write}
 use Rattle.machine.specs.State.{State, at, withA, withC, loaded, framed, havingStored}
 use Rattle.machine.specs.Fetch.{Fetch, fetch}
-use Rattle.machine.specs.Acts.{Act, unlisted, indirect, negate, invert, back, finish, switch, rdch, wrch, dyadic, actOf, indirected, returned, combined, switched, received, sent}
+use Rattle.machine.specs.Acts.{Act, unlisted, indirect, negate, invert, back, finish, switch, rdch, wrch, dyadic, actOf, indirected, returned}
+use Rattle.machine.specs.Acts.{combined, switched, received, sent}
 use Rattle.machine.specs.declared.Registers.{Registers}
 
 -- an instruction is done, is done and finishes the run, or is not done because of a stop

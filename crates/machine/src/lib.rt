@@ -423,7 +423,8 @@ impl Registers {
 
     // X28.
     fn wrch(self, memory: &mut [u16], output: &mut [u8]) -> StepResult
-        ensures { λ r. ⌜ Steps (at self (now (memory .entry)) (now (output .entry))) (resultOf (sent (at self (now (memory .entry)) (now (output .entry))))) r (now (memory .exit)) (now (output .exit)) ⌝ }
+        ensures { λ r. ⌜ Steps (at self (now (memory .entry)) (now (output .entry)))
+            (resultOf (sent (at self (now (memory .entry)) (now (output .entry))))) r (now (memory .exit)) (now (output .exit)) ⌝ }
     {
         let written = self.written;
         if written < output.len() {
@@ -447,7 +448,8 @@ impl Registers {
 
     // S.
     fn store(self, x: u16, memory: &mut [u16], output: &mut [u8]) -> StepResult
-        ensures { λ r. ⌜ Steps (at self (now (memory .entry)) (now (output .entry))) (resultOf (stored x (at self (now (memory .entry)) (now (output .entry))))) r (now (memory .exit)) (now (output .exit)) ⌝ }
+        ensures { λ r. ⌜ Steps (at self (now (memory .entry)) (now (output .entry)))
+            (resultOf (stored x (at self (now (memory .entry)) (now (output .entry))))) r (now (memory .exit)) (now (output .exit)) ⌝ }
     {
         let i = x as usize;
         let a = self.a;
@@ -461,7 +463,8 @@ impl Registers {
 
     // K.
     fn call(self, x: u16, memory: &mut [u16], output: &mut [u8]) -> StepResult
-        ensures { λ r. ⌜ Steps (at self (now (memory .entry)) (now (output .entry))) (resultOf (called x (at self (now (memory .entry)) (now (output .entry))))) r (now (memory .exit)) (now (output .exit)) ⌝ }
+        ensures { λ r. ⌜ Steps (at self (now (memory .entry)) (now (output .entry)))
+            (resultOf (called x (at self (now (memory .entry)) (now (output .entry))))) r (now (memory .exit)) (now (output .exit)) ⌝ }
     {
         let frame = words::sum(self.p, x);
         let p = self.p;
@@ -483,7 +486,9 @@ impl Registers {
 
     // X.
     fn perform(self, n: u16, memory: &mut [u16], input: &[u8], output: &mut [u8]) -> StepResult
-        ensures { λ r. ⌜ Steps (at self (now (memory .entry)) (now (output .entry))) (perform (now (input .entry)) (actOf n) (at self (now (memory .entry)) (now (output .entry)))) r (now (memory .exit)) (now (output .exit)) ⌝ }
+        ensures { λ r. ⌜ Steps (at self (now (memory .entry)) (now (output .entry)))
+            (perform (now (input .entry)) (actOf n) (at self (now (memory .entry)) (now (output .entry))))
+            r (now (memory .exit)) (now (output .exit)) ⌝ }
     {
         match n {
             1 => self.indirect(memory),
@@ -507,7 +512,9 @@ impl Registers {
         input: &[u8],
         output: &mut [u8],
     ) -> StepResult
-        ensures { λ r. ⌜ Steps (at self (now (memory .entry)) (now (output .entry))) (execute (now (input .entry)) (functionOf f) x (at self (now (memory .entry)) (now (output .entry)))) r (now (memory .exit)) (now (output .exit)) ⌝ }
+        ensures { λ r. ⌜ Steps (at self (now (memory .entry)) (now (output .entry)))
+            (execute (now (input .entry)) (functionOf f) x (at self (now (memory .entry)) (now (output .entry))))
+            r (now (memory .exit)) (now (output .exit)) ⌝ }
     {
         match f {
             0 => StepResult::Done(self.load(x)),
@@ -523,7 +530,8 @@ impl Registers {
 
     // One instruction.
     pub fn step(self, memory: &mut [u16], input: &[u8], output: &mut [u8]) -> StepResult
-        ensures { λ r. ⌜ Steps (at self (now (memory .entry)) (now (output .entry))) (step (now (input .entry)) (at self (now (memory .entry)) (now (output .entry)))) r (now (memory .exit)) (now (output .exit)) ⌝ }
+        ensures { λ r. ⌜ Steps (at self (now (memory .entry)) (now (output .entry)))
+            (step (now (input .entry)) (at self (now (memory .entry)) (now (output .entry)))) r (now (memory .exit)) (now (output .exit)) ⌝ }
     {
         match self.fetch(memory) {
             Fetched::Stopped(k) => StepResult::Stopped(k),
@@ -540,7 +548,8 @@ fn run_steps(
     output: &mut [u8],
     budget: u64,
 ) -> Ran
-    ensures { λ r. ⌜ Ends (steps (now (input .entry)) budget (at start (now (memory .entry)) (now (output .entry)))) r (now (memory .exit)) (now (output .exit)) ⌝ }
+    ensures { λ r. ⌜ Ends (steps (now (input .entry)) budget (at start (now (memory .entry)) (now (output .entry))))
+        r (now (memory .exit)) (now (output .exit)) ⌝ }
 {
     let mut r = start;
     let mut left = budget;
@@ -582,7 +591,8 @@ pub fn resume(
     output: &mut [u8],
     budget: u64,
 ) -> Ran
-    ensures { λ r. ⌜ Ends (resume (now (input .entry)) budget (at registers (now (memory .entry)) (now (output .entry)))) r (now (memory .exit)) (now (output .exit)) ⌝ }
+    ensures { λ r. ⌜ Ends (resume (now (input .entry)) budget (at registers (now (memory .entry)) (now (output .entry))))
+        r (now (memory .exit)) (now (output .exit)) ⌝ }
 {
     if memory.len() < 512 {
         return Ran {
@@ -612,7 +622,8 @@ fn allowed(done: u64, budget: u64) -> u64
 // Carries a first part on with a further budget, in the buffers that it was lent: what one run with both budgets gives. A first part that
 // stopped otherwise than for budget is the whole run.
 pub fn carry_on(first: Ran, memory: &mut [u16], input: &[u8], output: &mut [u8], budget: u64) -> Ran
-    ensures { λ r. ⌜ CarriesOn (now (input .entry)) first (now (memory .entry)) (now (output .entry)) budget r (now (memory .exit)) (now (output .exit)) ⌝ }
+    ensures { λ r. ⌜ CarriesOn (now (input .entry)) first (now (memory .entry)) (now (output .entry)) budget
+        r (now (memory .exit)) (now (output .exit)) ⌝ }
 {
     if first.stop != 31 {
         return first;
@@ -630,7 +641,8 @@ pub fn carry_on(first: Ran, memory: &mut [u16], input: &[u8], output: &mut [u8],
 
 // Runs an image from its start, with its first stack word.
 pub fn run(memory: &mut [u16], first: u16, input: &[u8], output: &mut [u8], budget: u64) -> Ran
-    ensures { λ r. ⌜ Ends (run first (now (memory .entry)) (now (input .entry)) (now (output .entry)) budget) r (now (memory .exit)) (now (output .exit)) ⌝ }
+    ensures { λ r. ⌜ Ends (run first (now (memory .entry)) (now (input .entry)) (now (output .entry)) budget)
+        r (now (memory .exit)) (now (output .exit)) ⌝ }
 {
     resume(Registers::start(first), memory, input, output, budget)
 }

@@ -4,7 +4,8 @@ ghost use lib.ListN.{length};
 ghost use Rattle.assembler.specs.Assemble.{assembled, numbers};
 ghost use Rattle.machine.specs.Run.{resume, run};
 ghost use Rattle.machine.specs.State.{at};
-ghost use Rattle.testbed.specs.Exported.{registersOf, flagOf, ranNumbers, AssembleExported, RunExported, SymbolsExported, TreeExported, TreeAnswered, CompileExported};
+ghost use Rattle.testbed.specs.Exported.{registersOf, flagOf, ranNumbers, AssembleExported, RunExported, SymbolsExported, TreeExported};
+ghost use Rattle.testbed.specs.Exported.{TreeAnswered, CompileExported};
 use assembler::Assembled;
 use assembler::Label;
 use compiler::Compiled;
@@ -20,7 +21,8 @@ pub extern "C" fn morkvasil_assemble(
     labels: &mut [Label],
     answer: &mut [u64; 3],
 )
-    ensures { λ _. ⌜ AssembleExported (assembled (now (text .entry)) (length (now (memory .entry))) (length (now (labels .entry)))) (now (memory .exit)) (now (labels .exit)) (now (answer .exit)) ⌝ }
+    ensures { λ _. ⌜ AssembleExported (assembled (now (text .entry)) (length (now (memory .entry))) (length (now (labels .entry))))
+        (now (memory .exit)) (now (labels .exit)) (now (answer .exit)) ⌝ }
 {
     let assembly = assembler::assemble(text, memory, labels);
     tell(assembly, answer);
@@ -48,7 +50,8 @@ pub extern "C" fn morkvasil_run(
     budget: u64,
     answer: &mut [u64; 12],
 )
-    ensures { λ _. ⌜ RunExported (run first (now (memory .entry)) (now (input .entry)) (now (output .entry)) budget) (now (memory .exit)) (now (output .exit)) (now (answer .exit)) ⌝ }
+    ensures { λ _. ⌜ RunExported (run first (now (memory .entry)) (now (input .entry)) (now (output .entry)) budget)
+        (now (memory .exit)) (now (output .exit)) (now (answer .exit)) ⌝ }
 {
     let ran = machine::run(memory, first, input, output, budget);
     tell_run(ran, answer);
@@ -72,7 +75,9 @@ pub extern "C" fn morkvasil_resume(
     budget: u64,
     answer: &mut [u64; 12],
 )
-    ensures { λ _. ⌜ RunExported (resume (now (input .entry)) budget (at (registersOf a b c p g taken written stored from words) (now (memory .entry)) (now (output .entry)))) (now (memory .exit)) (now (output .exit)) (now (answer .exit)) ⌝ }
+    ensures { λ _. ⌜ RunExported (resume (now (input .entry)) budget
+        (at (registersOf a b c p g taken written stored from words) (now (memory .entry)) (now (output .entry))))
+        (now (memory .exit)) (now (output .exit)) (now (answer .exit)) ⌝ }
 {
     let registers = Registers {
         a: a,
@@ -184,7 +189,8 @@ pub extern "C" fn morkvasil_compile(
     text: &mut [u8],
     answer: &mut [u64; 3],
 )
-    ensures { λ _. ⌜ CompileExported (now (source .entry)) (now (scratch .entry)) (now (scratch .exit)) (now (text .entry)) (now (text .exit)) (now (answer .exit)) ⌝ }
+    ensures { λ _. ⌜ CompileExported (now (source .entry)) (now (scratch .entry)) (now (scratch .exit)) (now (text .entry)) (now (text .exit))
+        (now (answer .exit)) ⌝ }
 {
     let compiled = compiler::compile(source, scratch, text);
     match compiled {

@@ -8,7 +8,8 @@ ghost use mathlib.Core.Path.{_≡_};
 ghost use mathlib.Core.Bool.{not, cond};
 ghost use lib.IntN.{pos, negℤ, natAbs};
 ghost use lib.Signed.{nonNeg};
-ghost use Rattle.words.specs.Words.{value, wordOf, add, sub, neg, complement, mul, quot, rem, truth, below, eq, ne, lt, ge, gt, le, conj, disj, shl, shr};
+ghost use Rattle.words.specs.Words.{value, wordOf, add, sub, neg, complement, mul, quot, rem, truth, below, eq, ne, lt, ge, gt, le, conj, disj};
+ghost use Rattle.words.specs.Words.{shl, shr};
 ghost use Rattle.words.specs.Answers.{divided};
 
 // A quotient or a remainder.
