@@ -4,7 +4,7 @@ use Rattle.laws.proofs.Basics.{ℕ, zero, suc, _-_, _%_, _<_, _≤_, _≡_, ref
 use Rattle.laws.proofs.Basics.{eq-eqb, ne-eqb, lt-ltb, le-ltb}
 use Rattle.laws.proofs.Cases.{contradiction}
 use Rattle.words.specs.Words.{add}
-use Rattle.machine.specs.Outcome.{Out, ok, stop, _>>=_, read, write}
+use Rattle.machine.specs.Outcome.{Out, ok, stop, read, write}
 use Rattle.machine.specs.State.{State, at, withA, withC, framed, havingStored, took, wrote}
 use Rattle.machine.specs.Acts.{indirected, returned, search, switched, received, sent}
 use Rattle.machine.specs.Step.{StepResult, done, finished, stopped, resultOf, keep, stored, called, jumped}
@@ -27,17 +27,9 @@ unfolding asWord
 is-stop (ok a) p q = contradiction cc
 is-stop (stop k) p q = cc
 
--- ---- reads and writes, within the memory and past it
+-- ---- writes, within the memory and past it
 
 module _ (m : List ℕ) (i : ℕ) where
-  pub read-in : i < length m → read m i ≡ ok (getD m i 0)
-  unfolding read
-  read-in h = simp (lt-ltb _ _ h)
-
-  pub read-past : length m ≤ i → read m i ≡ stop 32
-  unfolding read
-  read-past h = simp (le-ltb _ _ h)
-
   pub write-in : (v : ℕ) → i < length m → write m i v ≡ ok (set m i v)
   unfolding write
   write-in v h = simp (lt-ltb _ _ h)

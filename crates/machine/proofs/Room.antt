@@ -46,14 +46,6 @@ module _ (r : Registers) {o o′ : List ℕ} (h : Roomier (r .written) o o′) w
   alike-memories e (ok m) f = alike-memory e (f m)
   alike-memories e (stop k) f = both-stopped k
 
-  alike-stored : (x : ℕ) (m : List ℕ) → Alike (resultOf (stored x (at r m o))) (resultOf (stored x (at r m o′)))
-  unfolding stored
-  alike-stored x m = alike-memory (record { same = refl }) (write m x (r .a))
-
-  alike-called : (x : ℕ) (m : List ℕ) → Alike (resultOf (called x (at r m o))) (resultOf (called x (at r m o′)))
-  unfolding called
-  alike-called x m = alike-memories (record { same = refl }) (write m _ (r .p)) (λ n. write n _ (r .c))
-
   one-byte : (v : ℕ) → r .written < length o → Roomier (r .written + 1) (set o (r .written) v) (set o′ (r .written) v)
   one-byte v l =
       record {
@@ -84,14 +76,14 @@ module _ (r : Registers) {o o′ : List ℕ} (h : Roomier (r .written) o o′) w
   alike-perform input (dyadic f) m k = alike-keep m (yields-bind (k (r .b) (r .a)) (λ v _. gives (record { same = refl })))
 
   alike-execute : (input : List ℕ) (f : Function) (x : ℕ) (m : List ℕ) → Alike (execute input f x (at r m o)) (execute input f x (at r m o′))
-  unfolding execute
+  unfolding execute stored called
   alike-execute input L x m = alike-keep m (gives (record { same = refl }))
-  alike-execute input S x m = alike-stored x m
+  alike-execute input S x m = alike-memory (record { same = refl }) (write m x (r .a))
   alike-execute input A x m = alike-keep m (gives (record { same = refl }))
   alike-execute input J x m = alike-keep m (gives (record { same = refl }))
   alike-execute input T x m = alike-keep m (gives (yields-jumped _ x r))
   alike-execute input F x m = alike-keep m (gives (yields-jumped _ x r))
-  alike-execute input K x m = alike-called x m
+  alike-execute input K x m = alike-memories (record { same = refl }) (write m _ (r .p)) (λ n. write n _ (r .c))
   alike-execute input X x m = alike-perform input (actOf x) m (sound-act x)
 
 module _ (input : List ℕ) (r : Registers) (m : List ℕ) {o o′ : List ℕ} (h : Roomier (r .written) o o′) where

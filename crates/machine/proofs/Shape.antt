@@ -148,17 +148,6 @@ yields-write : (m : List ℕ) (i v : ℕ) → Yields (SameLength m) (write m i v
 unfolding write
 yields-write m i v = yields-cond (ltb i (length m)) (gives (record { same = length-set m i v })) (stops (lit< tt))
 
-shape-stored : (x : ℕ) (s : State) → Shape s (resultOf (stored x s))
-unfolding stored
-shape-stored x s = shape-result (yields-bind (yields-write (s .mem) x _) (λ m e. gives (record { memory = e .same; output = refl; place = refl })))
-
-shape-called : (x : ℕ) (s : State) → Shape s (resultOf (called x s))
-unfolding called
-shape-called x s =
-    shape-result
-    (yields-bind (yields-write (s .mem) _ _) (λ m e.
-    yields-bind (yields-write m _ _) (λ n f. gives (record { memory = f .same ∙ e .same; output = refl; place = refl }))))
-
 shape-sent : (s : State) → Shape s (resultOf (sent s))
 unfolding sent
 shape-sent s =
@@ -180,14 +169,17 @@ shape-perform input wrch s h = shape-sent s
 shape-perform input (dyadic f) s h = shape-keep s (yields-bind (h (s .regs .b) (s .regs .a)) (λ v _. gives (record { same = refl })))
 
 shape-execute : (input : List ℕ) (f : Function) (x : ℕ) (s : State) → Shape s (execute input f x s)
-unfolding execute
+unfolding execute stored called
 shape-execute input L x s = shape-keep s (gives (record { same = refl }))
-shape-execute input S x s = shape-stored x s
+shape-execute input S x s =
+    shape-result (yields-bind (yields-write (s .mem) x _) (λ m e. gives (record { memory = e .same; output = refl; place = refl })))
 shape-execute input A x s = shape-keep s (gives (record { same = refl }))
 shape-execute input J x s = shape-keep s (gives (record { same = refl }))
 shape-execute input T x s = shape-keep s (gives (yields-jumped _ x (s .regs)))
 shape-execute input F x s = shape-keep s (gives (yields-jumped _ x (s .regs)))
-shape-execute input K x s = shape-called x s
+shape-execute input K x s =
+    shape-result (yields-bind (yields-write (s .mem) _ _) (λ m e.
+    yields-bind (yields-write m _ _) (λ n f. gives (record { memory = f .same ∙ e .same; output = refl; place = refl }))))
 shape-execute input X x s = shape-perform input (actOf x) s (sound-act x)
 
 yields-fetch : (r : Registers) (m : List ℕ) → Yields Any (fetch r m)

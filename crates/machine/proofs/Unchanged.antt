@@ -49,33 +49,11 @@ same-result : (o : Out State) {o′ : Out W.State} → map bareState o ≡ o′ 
 same-result (ok s) e = rw (← e) refl
 same-result (stop k) e = rw (← e) refl
 
--- ---- the acts
+-- ---- one instruction
 
-module _ (r : Registers) (m : List ℕ) where
-  same-fetch : fetch r m ≡ W.fetch (bare r) m
-  unfolding fetch W.fetch
-  same-fetch = refl
-
-  same-indirected : map bare (indirected r m) ≡ W.indirected (bare r) m
-  unfolding indirected W.indirected
-  same-indirected = map-bind bare (read m (r .a)) _ (λ v. refl)
-
-  same-returned : map bare (returned r m) ≡ W.returned (bare r) m
-  unfolding returned W.returned
-  same-returned = map-bind bare (read m _) _ (λ c. map-bind bare (read m (r .p)) _ (λ p. refl))
-
-  same-switched : map bare (switched r m) ≡ W.switched (bare r) m
-  unfolding switched W.switched
-  same-switched = map-bind bare (read m (r .c)) _ (λ n. map-bind bare (read m _) _ (λ d. map-bind bare (search m (r .a) d n _) _ (λ c. refl)))
-
-  same-combined : (f : ℕ → ℕ → Out ℕ) → map bare (combined f r) ≡ W.combined f (bare r)
-  unfolding combined W.combined
-  same-combined f = map-bind bare (f (r .b) (r .a)) _ (λ v. refl)
-
-  -- m is the input
-  same-received : bare (received r m) ≡ W.received (bare r) m
-  unfolding received W.received
-  same-received = by-cases (ltb (r .taken) (length m)) (λ e. rw e refl) (λ e. rw e refl)
+same-received : (r : Registers) (input : List ℕ) → bare (received r input) ≡ W.received (bare r) input
+unfolding received W.received
+same-received r input = by-cases (ltb (r .taken) (length input)) (λ e. rw e refl) (λ e. rw e refl)
 
 same-jumped : (b : Bool) (x : ℕ) (r : Registers) → bare (jumped b x r) ≡ W.jumped b x (bare r)
 unfolding jumped W.jumped
@@ -86,38 +64,30 @@ same-sent : (s : State) → map bareState (sent s) ≡ W.sent (bareState s)
 unfolding sent W.sent
 same-sent s = by-cases (ltb (s .regs .written) (length (s .out))) (λ e. rw e refl) (λ e. rw e refl)
 
-same-stored : (x : ℕ) (s : State) → map bareState (stored x s) ≡ W.stored x (bareState s)
-unfolding stored W.stored
-same-stored x s = map-bind bareState (write (s .mem) x (s .regs .a)) _ (λ m. refl)
-
-same-called : (x : ℕ) (s : State) → map bareState (called x s) ≡ W.called x (bareState s)
-unfolding called W.called
-same-called x s = map-bind bareState (write (s .mem) _ (s .regs .p)) _ (λ m. map-bind bareState (write m _ (s .regs .c)) _ (λ n. refl))
-
--- ---- one instruction
-
 same-perform : (input : List ℕ) (a : Act) (s : State) → bareResult (perform input a s) ≡ W.perform input a (bareState s)
-unfolding perform W.perform
+unfolding perform W.perform indirected W.indirected returned W.returned combined W.combined switched W.switched
 same-perform input unlisted s = refl
-same-perform input indirect s = same-keep s _ (same-indirected (s .regs) (s .mem))
+same-perform input indirect s = same-keep s _ (map-bind bare (read (s .mem) (s .regs .a)) _ (λ v. refl))
 same-perform input negate s = same-keep s _ refl
 same-perform input invert s = same-keep s _ refl
-same-perform input back s = same-keep s _ (same-returned (s .regs) (s .mem))
-same-perform input (dyadic f) s = same-keep s _ (same-combined (s .regs) (s .mem) f)
+same-perform input back s = same-keep s _ (map-bind bare (read (s .mem) _) _ (λ c. map-bind bare (read (s .mem) (s .regs .p)) _ (λ p. refl)))
+same-perform input (dyadic f) s = same-keep s _ (map-bind bare (f (s .regs .b) (s .regs .a)) _ (λ v. refl))
 same-perform input finish s = refl
-same-perform input switch s = same-keep s _ (same-switched (s .regs) (s .mem))
+same-perform input switch s = same-keep s _ (map-bind bare (read (s .mem) (s .regs .c)) _ (λ n.
+    map-bind bare (read (s .mem) _) _ (λ d. map-bind bare (search (s .mem) (s .regs .a) d n _) _ (λ c. refl))))
 same-perform input rdch s = same-keep s _ (ap ok (same-received (s .regs) input))
 same-perform input wrch s = same-result (sent s) (same-sent s)
 
 same-execute : (input : List ℕ) (f : Function) (x : ℕ) (s : State) → bareResult (execute input f x s) ≡ W.execute input f x (bareState s)
-unfolding execute W.execute
+unfolding execute W.execute stored W.stored called W.called
 same-execute input L x s = same-keep s _ refl
-same-execute input S x s = same-result (stored x s) (same-stored x s)
+same-execute input S x s = same-result (stored x s) (map-bind bareState (write (s .mem) x (s .regs .a)) _ (λ m. refl))
 same-execute input A x s = same-keep s _ refl
 same-execute input J x s = same-keep s _ refl
 same-execute input T x s = same-keep s _ (ap ok (same-jumped _ x (s .regs)))
 same-execute input F x s = same-keep s _ (ap ok (same-jumped _ x (s .regs)))
-same-execute input K x s = same-result (called x s) (same-called x s)
+same-execute input K x s = same-result (called x s) (map-bind bareState (write (s .mem) _ (s .regs .p)) _ (λ m.
+    map-bind bareState (write m _ (s .regs .c)) _ (λ n. refl)))
 same-execute input X x s = same-perform input (actOf x) s
 
 same-fetched : (input : List ℕ) (s : State) (o : Out Fetch) → bareResult (onFetch input s o) ≡ W.onFetch input (bareState s) o
@@ -125,8 +95,8 @@ same-fetched input s (ok f) = same-execute input (functionOf (f .function)) (f .
 same-fetched input s (stop k) = refl
 
 pub step-unchanged : (input : List ℕ) (s : State) → bareResult (step input s) ≡ W.step input (bareState s)
-unfolding step W.step
-step-unchanged input s = same-fetched input s (fetch (s .regs) (s .mem)) ∙ ap (W.onFetch input (bareState s)) (same-fetch (s .regs) (s .mem))
+unfolding step W.step fetch W.fetch
+step-unchanged input s = same-fetched input s (fetch (s .regs) (s .mem))
 
 -- ---- a run, whatever its stop
 
