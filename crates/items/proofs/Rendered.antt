@@ -2,7 +2,7 @@
 use Rattle.laws.proofs.Basics.{ℕ, zero, suc, _+_, _-_, _*_, _/_, _%_, _<_, _≤_, _≡_, refl, sym, ap, _∙_, List, [], _∷_, _++_, append-assoc, Bool}
 use Rattle.laws.proofs.Basics.{true, false, _&&_, cond, length, drop, length-append, drop-drop, drop-append-add, eqb, ltb, leb, add-one, arith}
 use Rattle.laws.proofs.Basics.{eqb-true, eqb-false, ne-eqb, ltb-true, ltb-false, leb-true, le-leb}
-use Rattle.laws.proofs.Cases.{by-cases, either, contradiction, both-true}
+use Rattle.laws.proofs.Cases.{by-cases, either, contradiction, _&_, both-true}
 use lib.Seq.{drop-append-seam}
 use Rattle.text.specs.Quoted.{is, byNumber, escape, character, closed, quoted}
 use Rattle.text.proofs.Quotes.{Writable, digit-bounds, at-quote, at-asterisk, at-plain, no-letter, a-byte, quoted-next, quoted-end}
@@ -15,7 +15,7 @@ use Rattle.items.specs.Next.{one, elementAt}
 use Rattle.items.specs.Render.{numeral, numeralOf, operandText, baseText, indirectText, letter, plainText, characterText, charactersText}
 use Rattle.items.specs.Render.{render, renderLines, renderAll}
 use Rattle.items.proofs.Scans.{onNext, body-element}
-use Rattle.items.proofs.Sound.{SoundOperand, SoundString, SoundInstruction, SoundGlobal, Sound}
+use Rattle.items.proofs.Sound.{SoundOperand, Sound}
 
 -- ---- numerals
 
@@ -72,18 +72,6 @@ decimal-text n rest h e =
 -- ---- operands
 
 module _ (rest : List ℕ) (e : isDigit (head rest) ≡ false) where
-  negative-text : (n : ℕ) → n ≤ 65536 → negative (45 ∷ (numeralOf n ++ rest)) ≡ got (number true n) (1 + (length (numeralOf n) + 0))
-  unfolding negative byte head
-  negative-text n h = rw (decimal-text n rest h e)
-
-  labelled-text : (n : ℕ) → n ≤ 65536 → labelled (76 ∷ (numeralOf n ++ rest)) ≡ got (address n) (1 + (length (numeralOf n) + 0))
-  unfolding labelled byte head
-  labelled-text n h = rw (decimal-text n rest h e)
-
-  positive-text : (n : ℕ) → n ≤ 65536 → positive (numeralOf n ++ rest) ≡ got (number false n) (length (numeralOf n) + 0)
-  unfolding positive
-  positive-text n h = rw (decimal-text n rest h e)
-
   plain-operand : (bytes : List ℕ) → isDigit (head bytes) ≡ true → operand bytes ≡ positive bytes
   unfolding operand
   plain-operand bytes d =
@@ -91,11 +79,11 @@ module _ (rest : List ℕ) (e : isDigit (head rest) ≡ false) where
       rw (ne-eqb (head bytes) 45 (λ k. omega arith), ne-eqb (head bytes) 39 (λ k. omega arith), ne-eqb (head bytes) 76 (λ k. omega arith))
 
   operand-text : (x : Operand) → SoundOperand x → operand (operandText x ++ rest) ≡ got x (length (operandText x))
-  unfolding operand operandText head
-  operand-text (number true n) h = negative-text n h ∙ ap (got (number true n)) (omega arith)
+  unfolding operand operandText negative labelled positive byte head
+  operand-text (number true n) h = rw (decimal-text n rest h e) (ap (got (number true n)) (omega arith))
   operand-text (number false n) h =
-      plain-operand (numeralOf n ++ rest) (numeral-of n h .first rest) ∙ positive-text n h ∙ ap (got (number false n)) (omega arith)
-  operand-text (address n) h = labelled-text n h ∙ ap (got (address n)) (omega arith)
+      plain-operand (numeralOf n ++ rest) (numeral-of n h .first rest) ∙ rw (decimal-text n rest h e) (ap (got (number false n)) (omega arith))
+  operand-text (address n) h = rw (decimal-text n rest h e) (ap (got (address n)) (omega arith))
 
   -- an operand begins with a minus, an L or a digit
   operand-begins : (c : ℕ) → (c ≡ 45 → ⊥) → (c ≡ 76 → ⊥) → isDigit c ≡ false → (x : Operand) → SoundOperand x → head (operandText x ++ rest) ≡ c → ⊥
@@ -172,47 +160,6 @@ characters-text (suc room) (c ∷ cs) rest l w =
 
 -- ---- items
 
-module _ (rest : List ℕ) where
-  label-text : (n : ℕ) → n ≤ 65536 → item (render (label n) ++ (10 ∷ rest)) ≡ got (label n) (length (render (label n)))
-  unfolding render item labelItem byte head
-  label-text n h =
-      rw (
-        append-assoc,
-        numeral-of n h .first (58 ∷ 10 ∷ rest),
-        decimal-text n (58 ∷ 10 ∷ rest) h refl,
-        drop-append-seam (numeralOf n) (58 ∷ 10 ∷ rest),
-        length-append (numeralOf n) (58 ∷ []),
-      )
-
-  constant-text : (x : Operand) → SoundOperand x → item (render (constant x) ++ (10 ∷ rest)) ≡ got (constant x) (length (render (constant x)))
-  unfolding render item constantItem ended head
-  constant-text x h =
-      rw (operand-text (10 ∷ rest) refl x h, drop-append-seam (operandText x) (10 ∷ rest)) (ap (got (constant x)) (omega arith))
-
-  global-text : (n m : ℕ) → SoundGlobal n m → item (render (global n m) ++ (10 ∷ rest)) ≡ got (global n m) (length (render (global n m)))
-  unfolding render item globalItem ended byte head
-  global-text n m h =
-      rw (
-        append-assoc,
-        decimal-text n (76 ∷ (numeralOf m ++ (10 ∷ rest))) (h .first) refl,
-        drop-append-seam (numeralOf n) (76 ∷ (numeralOf m ++ (10 ∷ rest))),
-        decimal-text m (10 ∷ rest) (h .second) refl,
-        drop-append-seam (numeralOf m) (10 ∷ rest),
-        length-append (numeralOf n) (76 ∷ numeralOf m),
-      )
-      (ap (got (global n m)) (omega arith))
-
-  string-text : (cs : List ℕ) → SoundString cs → item (render (string cs) ++ (10 ∷ rest)) ≡ got (string cs) (length (render (string cs)))
-  unfolding render item stringItem quotedString ended byte head
-  string-text cs h =
-      rw (
-        append-assoc,
-        characters-text 255 cs (10 ∷ rest) (h .short) (h .each),
-        drop-append-add (charactersText cs) (34 ∷ 10 ∷ rest) 1,
-        length-append (charactersText cs) (34 ∷ []),
-      )
-      (ap (got (string cs)) (omega arith))
-
 -- a function's letter, from A to X, begins its instruction
 record Letter (f : ℕ) : Type 0 where
   pub reads : (bytes : List ℕ) → item (letter f ∷ bytes) ≡ wide 1 (instructionItem f bytes)
@@ -231,10 +178,17 @@ a-letter (suc (suc (suc (suc (suc (suc zero)))))) h = record { reads = λ bytes.
 a-letter (suc (suc (suc (suc (suc (suc (suc zero))))))) h = record { reads = λ bytes. refl; low = refl; high = refl }
 a-letter (suc (suc (suc (suc (suc (suc (suc (suc f)))))))) h = absurd (omega arith)
 
-instruction-text : (rest : List ℕ) (f : ℕ) (i : Bool) (b : Base) (x : Operand) → SoundInstruction f x
-    → item (render (instruction f i b x) ++ (10 ∷ rest)) ≡ got (instruction f i b x) (length (render (instruction f i b x)))
-unfolding render instructionItem ended head
-instruction-text rest f i b x h =
+pub rendered-item : (i : Item) (rest : List ℕ) → Sound i → item (render i ++ (10 ∷ rest)) ≡ got i (length (render i))
+unfolding render item labelItem instructionItem constantItem stringItem globalItem quotedString ended byte head
+rendered-item (label n) rest h =
+    rw (
+      append-assoc,
+      numeral-of n h .first (58 ∷ 10 ∷ rest),
+      decimal-text n (58 ∷ 10 ∷ rest) h refl,
+      drop-append-seam (numeralOf n) (58 ∷ 10 ∷ rest),
+      length-append (numeralOf n) (58 ∷ []),
+    )
+rendered-item (instruction f i b x) rest h =
     rw (
       a-letter f (h .eight) .reads ((indirectText i ++ (baseText b ++ operandText x)) ++ (10 ∷ rest)),
       append-assoc (indirectText i) (baseText b ++ operandText x) (10 ∷ rest),
@@ -253,13 +207,26 @@ instruction-text rest f i b x h =
   where
     begins : (c : ℕ) → (c ≡ 45 → ⊥) → (c ≡ 76 → ⊥) → isDigit c ≡ false → head (operandText x ++ (10 ∷ rest)) ≡ c → ⊥
     begins c m l d = operand-begins (10 ∷ rest) refl c m l d x (h .sound)
-
-pub rendered-item : (i : Item) (rest : List ℕ) → Sound i → item (render i ++ (10 ∷ rest)) ≡ got i (length (render i))
-rendered-item (label n) rest h = label-text rest n h
-rendered-item (instruction f i b x) rest h = instruction-text rest f i b x h
-rendered-item (constant x) rest h = constant-text rest x h
-rendered-item (string cs) rest h = string-text rest cs h
-rendered-item (global n m) rest h = global-text rest n m h
+rendered-item (constant x) rest h =
+    rw (operand-text (10 ∷ rest) refl x h, drop-append-seam (operandText x) (10 ∷ rest)) (ap (got (constant x)) (omega arith))
+rendered-item (string cs) rest h =
+    rw (
+      append-assoc,
+      characters-text 255 cs (10 ∷ rest) (h .short) (h .each),
+      drop-append-add (charactersText cs) (34 ∷ 10 ∷ rest) 1,
+      length-append (charactersText cs) (34 ∷ []),
+    )
+    (ap (got (string cs)) (omega arith))
+rendered-item (global n m) rest h =
+    rw (
+      append-assoc,
+      decimal-text n (76 ∷ (numeralOf m ++ (10 ∷ rest))) (h .first) refl,
+      drop-append-seam (numeralOf n) (76 ∷ (numeralOf m ++ (10 ∷ rest))),
+      decimal-text m (10 ∷ rest) (h .second) refl,
+      drop-append-seam (numeralOf m) (10 ∷ rest),
+      length-append (numeralOf n) (76 ∷ numeralOf m),
+    )
+    (ap (got (global n m)) (omega arith))
 
 -- ---- a whole text
 
@@ -368,22 +335,14 @@ sample-text = refl
 
 sample-sound : AllSound sample
 unfolding sample
-sample-sound = (
-  omega arith,
-  (
-    record { eight = omega arith; sound = omega arith },
-    (
-      record { eight = omega arith; sound = omega arith },
-      (
-        omega arith,
-        (
-          record { short = omega arith; each = (omega arith, (omega arith, (omega arith, (omega arith, (omega arith, (omega arith, tt)))))) },
-          (record { first = omega arith; second = omega arith }, tt),
-        ),
-      ),
-    ),
-  ),
-)
+sample-sound =
+    omega arith &
+    record { eight = omega arith; sound = omega arith } &
+    record { eight = omega arith; sound = omega arith } &
+    omega arith &
+    record { short = omega arith; each = omega arith & omega arith & omega arith & omega arith & omega arith & omega arith & tt } &
+    record { first = omega arith; second = omega arith } &
+    tt
 
 sample-read : scan (renderAll sample) ≡ record { items = places 2 sample; ending = whole }
 sample-read = rendered sample sample-sound

@@ -49,7 +49,12 @@ held {r} e f = sym e ∙ not-false r f
 pub failed : {r b : Bool} → r ≡ b → not r ≡ true → b ≡ false
 failed {r} e f = sym e ∙ not-true r f
 
--- ---- a conjunction that is true
+-- ---- a conjunction: of the first, and of all others
+infixr 5 _&_
+pub _&_ : {P Q : Type 0} → P → Q → P × Q
+p & q = (p, q)
+
+-- that of two truth values is true
 
 pub both-true : (a b : Bool) → (a && b) ≡ true → (a ≡ true) × (b ≡ true)
 both-true true b h = (refl, h)

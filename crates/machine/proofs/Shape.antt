@@ -1,7 +1,7 @@
 -- What every instruction keeps to: the numbers that it stops with, the memory's length, and what it does to the output.
 use Rattle.laws.proofs.Basics.{ℕ, zero, suc, _+_, _%_, _<_, _≡_, refl, _∙_, List, [], _∷_, Bool, true, false, cond, length, getD, set, length-set}
 use Rattle.laws.proofs.Basics.{eqb, ltb, lit<, ltb-true}
-use Rattle.laws.proofs.Cases.{by-cases}
+use Rattle.laws.proofs.Cases.{by-cases, _&_}
 use Rattle.machine.specs.Outcome.{Out, ok, stop, _>>=_, read, write}
 use Rattle.machine.specs.State.{State, at, withC}
 use Rattle.machine.specs.Fetch.{Fetch, fetch, bit}
@@ -93,11 +93,6 @@ all-at P d p (x ∷ xs) h (suc n) = all-at P d p xs (h .1) n
 divides : (f : ℕ → ℕ → ℕ) (b a : ℕ) → Yields {A = ℕ} Any (unlessZero f b a)
 divides f b a = yields-cond (eqb a 0) (stops (lit< tt)) (gives tt)
 
--- of the first, and of all others
-_&_ : {P Q : Type 0} → P → Q → P × Q
-p & q = (p, q)
-
-infixr 5 _&_
 any : (f : ℕ → ℕ → ℕ) (b a : ℕ) → Yields {A = ℕ} Any (ok (f b a))
 any f b a = gives tt
 
