@@ -27,9 +27,7 @@ operand-back (I.address n) = refl
 
 base-back : (b : I.Base) → baseOf (asBase b) ≡ b
 unfolding baseOf asBase
-base-back I.none = refl
-base-back I.P = refl
-base-back I.G = refl
+base-back = elim [ I.none ↦ refl | I.P ↦ refl | I.G ↦ refl ]
 
 -- the item with a string's characters blanked
 abbrev blanked : I.Item → I.Item
@@ -58,22 +56,15 @@ item-back letters (I.global n m) h = refl
 
 size-blanked : (i : I.Item) → size (blanked i) ≡ size i
 unfolding size
-size-blanked (I.label n) = refl
-size-blanked (I.instruction f i b x) = refl
-size-blanked (I.constant x) = refl
-size-blanked (I.string cs) = rw length-replicate
-size-blanked (I.global n m) = refl
+size-blanked =
+    elim [ I.label n ↦ refl | I.instruction f i b x ↦ refl | I.constant x ↦ refl | I.string cs ↦ rw length-replicate | I.global n m ↦ refl ]
 
 pub size-blank : (i : I.Item) → size (itemOf blank (asItem i)) ≡ size i
 size-blank i = rw (blank-item i) (size-blanked i)
 
 noted-blanked : (at : ℕ) (labels : List Label) (i : I.Item) → noted at labels (blanked i) ≡ noted at labels i
 unfolding noted
-noted-blanked at labels (I.label n) = refl
-noted-blanked at labels (I.instruction f i b x) = refl
-noted-blanked at labels (I.constant x) = refl
-noted-blanked at labels (I.string cs) = refl
-noted-blanked at labels (I.global n m) = refl
+noted-blanked at labels = elim [ I.label n ↦ refl | I.instruction f i b x ↦ refl | I.constant x ↦ refl | I.string cs ↦ refl | I.global n m ↦ refl ]
 
 pub noted-blank : (at : ℕ) (labels : List Label) (i : I.Item) → noted at labels (itemOf blank (asItem i)) ≡ noted at labels i
 noted-blank at labels i = rw (blank-item i) (noted-blanked at labels i)

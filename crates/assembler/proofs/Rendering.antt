@@ -33,11 +33,7 @@ defined-seen (l ∷ ls) n = ap (cond (eqb (l .number) n) true) (defined-seen ls 
 
 -- the label of an item, if it is one
 abbrev pub labelOf : Item → List ℕ
-labelOf (I.label n) = n ∷ []
-labelOf (I.instruction f i b x) = []
-labelOf (I.constant x) = []
-labelOf (I.string cs) = []
-labelOf (I.global n m) = []
+labelOf = elim [ I.label n ↦ n ∷ [] | I.instruction f i b x ↦ [] | I.constant x ↦ [] | I.string cs ↦ [] | I.global n m ↦ [] ]
 
 unfoldable pub labelsOf : List Item → List ℕ
 labelsOf [] = []

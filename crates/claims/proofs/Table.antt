@@ -2,8 +2,9 @@
 use Rattle.laws.proofs.Basics.{ℕ, _+_, _≤_, _≡_, refl, _∙_, List, [], _∷_, some, length, take, drop, le-leb}
 use Prim.Native.String.{String}
 use Rattle.words.specs.Words.{value, wordOf, quot, rem}
-use Rattle.machine.specs.Outcome.{Out, ok, stop}
-use Rattle.machine.specs.Acts.{Act, unlisted, indirect, negate, invert, back, finish, switch, rdch, wrch, dyadic, actOf}
+use Rattle.machine.specs.Outcome.{ok}
+use Rattle.machine.specs.Acts.{actOf}
+use Rattle.machine.specs.Numbers.{valueOf}
 use Rattle.machine.specs.Run.{steps, resume, run}
 use Rattle.text.specs.Written.{bytes}
 use Rattle.text.specs.Quoted.{quoted, character, byDigits, byNumber, escape}
@@ -36,19 +37,6 @@ record Makes (text : String) (program-words : List ℕ) : Type 0 where
   accepts : assembled (bytes text) 512 0 .answer ≡ Accepted (416 + length program-words)
   stand : take (length program-words) (drop 416 (assembled (bytes text) 512 0 .memory)) ≡ program-words
 
--- what an act that is an operator gives, of B and A
-abbrev acting : Act → (b a : ℕ) → Out ℕ
-acting (dyadic f) b a = f b a
-acting unlisted b a = stop 34
-acting indirect b a = stop 34
-acting negate b a = stop 34
-acting invert b a = stop 34
-acting back b a = stop 34
-acting finish b a = stop 34
-acting switch b a = stop 34
-acting rdch b a = stop 34
-acting wrch b a = stop 34
-
 abbrev symbol : (kind value place : ℕ) → Symbol
 symbol kind value place = record { kind = kind; value = value; place = place }
 
@@ -63,8 +51,8 @@ record ProvedTable : Type 0 where
   remainder : rem 7 65534 ≡ 1
   source-quotient : applyDyadic SLASH 7 65534 ≡ some 65533
   source-remainder : applyDyadic REM 7 65534 ≡ some 1
-  act-6 : acting (actOf 6) 7 65534 ≡ ok 65533
-  act-7 : acting (actOf 7) 7 65534 ≡ ok 1
+  act-6 : valueOf (actOf 6) 7 65534 ≡ ok 65533
+  act-7 : valueOf (actOf 7) 7 65534 ≡ ok 1
   -- F, newline, (X) gains a semicolon
   semicolon : symbolsOf (bytes "F\n(X)") ≡ good (symbol NAME 1 0 ∷ symbol SEMICOLON 0 2 ∷ symbol OPEN 0 2 ∷ symbol NAME 1 3 ∷ symbol CLOSE 0 4 ∷ [])
   -- empty source, with 64 scratch entries: 14 at 0
@@ -77,7 +65,7 @@ record ProvedTable : Type 0 where
   budget-count : (first : ℕ) (memory input output : List ℕ) → Fits memory → run first memory input output 0 .count ≡ 0
 
 proved-table : ProvedTable
-unfolding applyDyadic symbolsIn value wordOf quot rem steps resume quoted character byNumber byDigits escape head byte optional digits digitCount
+unfolding applyDyadic symbolsIn valueOf value wordOf quot rem steps resume quoted character byNumber byDigits escape head byte optional digits digitCount
     decimal ended quotedCharacter quotedString negative quotation labelled positive operand base labelItem instructionItem constantItem stringItem
     globalItem functionOf item gaps mark trailing body scan operandInRange inRange short size pairs operandWord words defined addressOf noted
     misplaced fault lay uses known unknowns noGlobals globalsAfter globals program image refuse accept assembled

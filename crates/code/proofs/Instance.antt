@@ -100,11 +100,7 @@ unfolding place addressesFrom addressOf
 place-is = rw (written, tables, functions-are, strings-are) refl
 
 abbrev lastOf : Result Value → State
-lastOf unfinished = atStart [] [] place
-lastOf undefined = atStart [] [] place
-lastOf (finished s) = s
-lastOf (returned s) = s
-lastOf (ok v s) = s
+lastOf = elim [ unfinished ↦ atStart [] [] place | undefined ↦ atStart [] [] place | finished s ↦ s | returned s ↦ s | ok v s ↦ s ]
 
 pub final : State
 final = lastOf (runWith 10 (start ∷ []) [] place 512 [])

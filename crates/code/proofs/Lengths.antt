@@ -52,9 +52,7 @@ operand-short (address n) h = omega (arith, five-digits n h)
 
 base-short : (b : Base) → length (baseText b) ≤ 1
 unfolding baseText
-base-short I.none = omega arith
-base-short I.P = omega arith
-base-short I.G = omega arith
+base-short = elim [ I.none ↦ omega arith | I.P ↦ omega arith | I.G ↦ omega arith ]
 
 indirect-short : (b : Bool) → length (indirectText b) ≤ 1
 unfolding indirectText

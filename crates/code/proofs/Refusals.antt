@@ -114,9 +114,7 @@ module _ (T : ℕ) (low : T ≤ 32768) where
     one-known k w = by-cases (eqb k 0) (λ outcome. rw outcome) (λ outcome. rw outcome (there k w))
 
     operand-known : (x : Operand) → RightOperand T x → cond (eqb (usedBy x) 0) true (seen labels (usedBy x)) ≡ true
-    operand-known (number true n) p = absurd p
-    operand-known (number false n) p = refl
-    operand-known (address n) p = one-known n p
+    operand-known = elim [ number true n ↦ λ p. absurd p | number false n ↦ λ p. refl | address n ↦ λ p. one-known n p ]
 
     known-all : {is : List Item} → Sounds T is → AllKnown labels is
     unfolding uses

@@ -53,9 +53,7 @@ sounds-both (s-more p r) q = s-more p (sounds-both r q)
 -- they can be written and read back, and are in range
 module _ (T : ℕ) (low : T ≤ 32768) where
   operand-sound : (x : Operand) → RightOperand T x → SoundOperand x
-  operand-sound (number true n) p = absurd p
-  operand-sound (number false n) p = omega arith
-  operand-sound (address n) p = omega (arith, p .last)
+  operand-sound = elim [ number true n ↦ λ p. absurd p | number false n ↦ λ p. omega arith | address n ↦ λ p. omega (arith, p .last) ]
 
   right-sound : (x : Item) → Right T x → Sound x
   right-sound (label n) p = omega (arith, p .last)
@@ -69,9 +67,7 @@ module _ (T : ℕ) (low : T ≤ 32768) where
 
   operand-range : (x : Operand) → RightOperand T x → operandInRange x ≡ true
   unfolding operandInRange
-  operand-range (number true n) p = absurd p
-  operand-range (number false n) p = le-leb n 65535 p
-  operand-range (address n) p = label-range n p
+  operand-range = elim [ number true n ↦ λ p. absurd p | number false n ↦ λ p. le-leb n 65535 p | address n ↦ λ p. label-range n p ]
 
   pub right-range : (x : Item) → Right T x → inRange x ≡ true
   unfolding inRange

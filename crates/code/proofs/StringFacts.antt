@@ -16,9 +16,7 @@ module _ (text : List ℕ) where
   writable-at place = go (quoted 34 255 0 (drop (suc place) text)) refl
     where
       go : (q : Quoted) → quoted 34 255 0 (drop (suc place) text) ≡ q → Writable (charactersOf q)
-      go (closed cs n) e = is-closed 34 255 0 (drop (suc place) text) e .each
-      go unclosed e = tt
-      go (faulty number n) e = tt
+      go = elim [ closed cs n ↦ λ e. is-closed 34 255 0 (drop (suc place) text) e .each | unclosed ↦ λ e. tt | faulty number n ↦ λ e. tt ]
 
   -- the strings' items
   strings-sound : {T : ℕ} (l : ℕ) (xs : List Symbol) → AllWords text xs → Span T l (length (stringsAmong text xs))

@@ -27,21 +27,13 @@ place = record { entries = 1000 ∷ []; strings = 2000 ∷ []; first = 20000 }
 
 -- the state that a run is over in
 abbrev stateOf : Result Value → State → State
-stateOf unfinished other = other
-stateOf undefined other = other
-stateOf (finished s) other = s
-stateOf (returned s) other = s
-stateOf (ok v s) other = s
+stateOf = elim [ unfinished ↦ λ other. other | undefined ↦ λ other. other | finished s ↦ λ other. s | returned s ↦ λ other. s | ok v s ↦ λ other. s ]
 
 end : State
 end = stateOf (runWith 20 (functionsIn text) (stringsIn text) place 32768 []) (atStart [] [] place)
 
 abbrev IsOver : Result Value → Type 0
-IsOver unfinished = ⊥
-IsOver undefined = ⊥
-IsOver (finished s) = Unit {0}
-IsOver (returned s) = ⊥
-IsOver (ok v s) = Unit {0}
+IsOver = elim [ unfinished ↦ ⊥ | undefined ↦ ⊥ | finished s ↦ Unit {0} | returned s ↦ ⊥ | ok v s ↦ Unit {0} ]
 
 -- what is computed
 record Computed : Type 0 where

@@ -7,9 +7,7 @@ use Rattle.language.proofs.Whole.{usedBy, ranIn, ranBytes, Told, told, 
 
 -- what a run writes; a run that does not end writes nothing that could be taken for it
 abbrev written : Told → List ℕ
-written (told steps taken output) = output
-written undefined-act = bytes "undefined act"
-written not-over = bytes "not over"
+written = elim [ told steps taken output ↦ output | undefined-act ↦ bytes "undefined act" | not-over ↦ bytes "not over" ]
 
 -- what START does, in a text that declares RDCH, WRCH and A, on an input
 abbrev started : String × String → Told

@@ -161,9 +161,7 @@ KeptElement (gap w) e = e ≡ gap w
 KeptElement (wrong n k) e = Unit {0}
 
 same-element : (e : Element) → KeptElement e e
-same-element (symbol k v w) = refl
-same-element (gap w) = refl
-same-element (wrong n k) = tt
+same-element = elim [ symbol k v w ↦ refl | gap w ↦ refl | wrong n k ↦ tt ]
 
 quotation-kept : (bs : List ℕ) → KeptElement (asCharacter (formerly 39 0 bs)) (character bs)
 unfolding character

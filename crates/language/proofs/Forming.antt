@@ -121,9 +121,7 @@ module _ (functions strings : ℕ) (text : List ℕ) where
       (none-right (groupNameFaults text (w .functions) (w .scope) (w .taken) fs) _ n)
 
   declaration-length : (w : Walk) (d : Declaration) → length (declarationFunctions text w d) ≡ P.functionCount d
-  declaration-length w (T.globals is) = refl
-  declaration-length w (T.manifests is) = refl
-  declaration-length w (T.functions fs) = group-length (w .functions) (w .scope) _ fs
+  declaration-length w = elim [ T.globals is ↦ refl | T.manifests is ↦ refl | T.functions fs ↦ group-length (w .functions) (w .scope) _ fs ]
 
   all-formed : (w : Walk) (p : Program) → w .functions + length (functionsFrom text w p) ≤ functions → FineProgram strings p
       → Scoped functions 0 (w .scope) → faultsFrom text w p ≡ []

@@ -84,25 +84,13 @@ module _ {first : ℕ} where
 
 bind-after : {A B : Type 0} (x : Result A) (f : A → State → Result B) → bind x f ≡ after x returned f
 unfolding bind
-bind-after unfinished f = refl
-bind-after undefined f = refl
-bind-after (finished s) f = refl
-bind-after (returned s) f = refl
-bind-after (ok a s) f = refl
+bind-after = elim [ unfinished ↦ λ f. refl | undefined ↦ λ f. refl | finished s ↦ λ f. refl | returned s ↦ λ f. refl | ok a s ↦ λ f. refl ]
 
 function-after : (base : ℕ) (x : Result Value) → ofFunction base x ≡ after x (λ s. undefined) (λ v s. ok v (forget base s))
-function-after base unfinished = refl
-function-after base undefined = refl
-function-after base (finished s) = refl
-function-after base (returned s) = refl
-function-after base (ok v s) = refl
+function-after base = elim [ unfinished ↦ refl | undefined ↦ refl | finished s ↦ refl | returned s ↦ refl | ok v s ↦ refl ]
 
 routine-after : (base : ℕ) (x : Result Flow) → ofRoutine base x ≡ after x (λ s. ok absent (forget base s)) (atEnd base)
-routine-after base unfinished = refl
-routine-after base undefined = refl
-routine-after base (finished s) = refl
-routine-after base (returned s) = refl
-routine-after base (ok f s) = refl
+routine-after base = elim [ unfinished ↦ refl | undefined ↦ refl | finished s ↦ refl | returned s ↦ refl | ok f s ↦ refl ]
 
 module _ (first memory limit : ℕ) (T : Relation) (closed : Closed first memory limit T) where
   open Closed closed using (stops, finishes, returns, gives, changes, reaches, goes-on)
@@ -125,14 +113,10 @@ module _ (first memory limit : ℕ) (T : Relation) (closed : Closed first memory
   demands-all (v ∷ vs) ws h = demands v (λ w. demands-all vs (ws ++ (w ∷ [])) h)
 
   reads : (c : Cell) (s : State) → T _ s (readCell c s) (readCell c s)
-  reads gone s = stops
-  reads unset s = stops
-  reads (holds v) s = gives
+  reads = elim [ gone ↦ λ s. stops | unset ↦ λ s. stops | holds v ↦ λ s. gives ]
 
   writes : {A : Type 0} {s : State} (c : Cell) {x y : Result A} → T _ s x y → T _ s (writeCell c x) (writeCell c y)
-  writes gone h = stops
-  writes unset h = h
-  writes (holds v) h = h
+  writes = elim [ gone ↦ λ h. stops | unset ↦ λ h. h | holds v ↦ λ h. h ]
 
   -- a value written at an address
   stores : {A : Type 0} {s : State} (b w : ℕ) {f g : State → Result A} → ((t : State) → T _ t (f t) (g t))
@@ -144,11 +128,7 @@ module _ (first memory limit : ℕ) (T : Relation) (closed : Closed first memory
   or-undefined (some v) s = gives
 
   value : (f : Flow) (s : State) → T _ s (valueOf f s) (valueOf f s)
-  value normal s = gives
-  value broke s = stops
-  value looped s = stops
-  value ended s = stops
-  value (gave v) s = gives
+  value = elim [ normal ↦ λ s. gives | broke ↦ λ s. stops | looped ↦ λ s. stops | ended ↦ λ s. stops | gave v ↦ λ s. gives ]
 
   goes-onwards : (f : Flow) (s : State) {m n : State → Result Flow} → ((t : State) → T _ t (m t) (n t)) → T _ s (onwards f s m) (onwards f s n)
   goes-onwards normal s k = k s
@@ -168,11 +148,8 @@ module _ (first memory limit : ℕ) (T : Relation) (closed : Closed first memory
   leaves b l h = binds h (λ f t. changes (forgotten b l) gives)
 
   ends : (base : ℕ) → first ≤ base → (f : Flow) (s : State) → T _ s (atEnd base f s) (atEnd base f s)
-  ends base l normal s = changes (forgotten base l) gives
-  ends base l broke s = stops
-  ends base l looped s = stops
-  ends base l ended s = stops
-  ends base l (gave v) s = stops
+  ends base l =
+      elim [ normal ↦ λ s. changes (forgotten base l) gives | broke ↦ λ s. stops | looped ↦ λ s. stops | ended ↦ λ s. stops | gave v ↦ λ s. stops ]
 
   receives : (input : List ℕ) (s : State) → T _ s (received input s) (received input s)
   receives input s = chooses (ltb (s .taken) (length input)) (changes (record { keeps = λ a m h. h; used = refl }) gives) gives

@@ -60,11 +60,7 @@ abbrev tellState : State → Told
 tellState s = told (s .steps) (s .taken) (s .output)
 
 abbrev tell : Result Value → Told
-tell unfinished = not-over
-tell undefined = undefined-act
-tell (finished s) = tellState s
-tell (returned s) = tellState s
-tell (ok v s) = tellState s
+tell = elim [ unfinished ↦ not-over | undefined ↦ undefined-act | finished s ↦ tellState s | returned s ↦ tellState s | ok v s ↦ tellState s ]
 
 unfoldable pub runOf : (memory fuel : ℕ) → List ℕ → (input : List ℕ) → Result Value
 unfolding answer placeOf sameBytes lookup inBlock judge declareAll sideOf under scopeAfter R.heightAfter labelsOf R.expression H.count H.heightWith
@@ -80,11 +76,7 @@ ranBytes fuel text input = tell (runOf 32768 fuel text input)
 
 -- the greatest use of a run that ends, or 0
 abbrev useOf : Result Value → ℕ
-useOf unfinished = 0
-useOf undefined = 0
-useOf (finished s) = s .used
-useOf (returned s) = s .used
-useOf (ok v s) = s .used
+useOf = elim [ unfinished ↦ 0 | undefined ↦ 0 | finished s ↦ s .used | returned s ↦ s .used | ok v s ↦ s .used ]
 
 unfoldable pub usedBy : String → ℕ
 unfolding runOf

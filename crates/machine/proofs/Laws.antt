@@ -42,9 +42,7 @@ module _ (m : List ℕ) (i : ℕ) where
 
 left-registers : (s : State) (t : StepResult) → registersOf (s .regs) (asResult t) ≡ left s t .regs
 unfolding asResult left
-left-registers s (done t) = refl
-left-registers s (finished t) = refl
-left-registers s (stopped k) = refl
+left-registers s = elim [ done t ↦ refl | finished t ↦ refl | stopped k ↦ refl ]
 
 pub steps-by : (s : State) (t : StepResult) {d : D.StepResult} {m o : List ℕ} → d ≡ asResult t → m ≡ left s t .mem → o ≡ left s t .out
     → Steps s t d m o

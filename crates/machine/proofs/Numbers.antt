@@ -134,14 +134,7 @@ pub function-at : {f : ℕ} {d : D.StepResult} {m o : List ℕ} (input : List �
 function-at input x s k e h = rw e h
 
 isX : Function → Bool
-isX L = false
-isX S = false
-isX A = false
-isX J = false
-isX T = false
-isX F = false
-isX K = false
-isX X = true
+isX = elim [ L ↦ false | S ↦ false | A ↦ false | J ↦ false | T ↦ false | F ↦ false | K ↦ false | X ↦ true ]
 
 is-x : (k : Function) → isX k ≡ true → k ≡ X
 unfolding isX

@@ -68,9 +68,7 @@ fault-alike number (faulty j n) (faulty k m) e = refl
 -- ---- the whole of it, n characters and k bytes before those that are read
 
 abbrev pub added : (n k : ℕ) → D.Quoted → D.Quoted
-added n k (Closed m w) = Closed (n + m) (k + w)
-added n k Unclosed = Unclosed
-added n k (Faulty number w) = Faulty number (k + w)
+added n k = elim [ Closed m w ↦ Closed (n + m) (k + w) | Unclosed ↦ Unclosed | Faulty number w ↦ Faulty number (k + w) ]
 
 added-none : (k : ℕ) → k ≡ 0 → (r : D.Quoted) → r ≡ added 0 k r
 added-none k e (Closed m w) = let a : m ≡ 0 + m = omega arith in let b : w ≡ k + w = omega arith in cc
@@ -110,9 +108,7 @@ module _ (quote room : ℕ) (text : List ℕ) (at i n : ℕ) where
 
   moved : (number : ℕ) (q : Quoted) → asQuoted (widened (i - at) (faultBefore number q)) ≡ added n (i - at) (asQuoted (faultBefore number q))
   unfolding asQuoted
-  moved number (closed cs m) = refl
-  moved number unclosed = refl
-  moved number (faulty k m) = refl
+  moved number = elim [ closed cs m ↦ refl | unclosed ↦ refl | faulty k m ↦ refl ]
 
   module _ (number : ℕ) (q : Quoted) (e : quoted quote (room - n) 0 (drop i text) ≡ faultBefore number q) where
     faulted : isClosed (quoted quote 0 0 (drop i text)) ≡ isClosed q
@@ -152,9 +148,7 @@ pub record Continues (quote room : ℕ) (text : List ℕ) (past v k : ℕ) (cs :
   pub wide : w ≡ k + width
 
 no-fault : {A : Type 0} (number : ℕ) (q : Quoted) {cs : List ℕ} {w : ℕ} → faultBefore number q ≡ closed cs w → A
-no-fault number (closed ds n) e = contradiction cc
-no-fault number unclosed e = contradiction cc
-no-fault number (faulty k n) e = contradiction cc
+no-fault number = elim [ closed ds n ↦ λ e. contradiction cc | unclosed ↦ λ e. contradiction cc | faulty k n ↦ λ e. contradiction cc ]
 
 module _ (quote room : ℕ) (text : List ℕ) (i : ℕ) {cs : List ℕ} {w : ℕ} (h : quoted quote room 0 (drop i text) ≡ closed cs w) where
   pub closed-next : {v k : ℕ} → character quote (drop i text) ≡ is v k → Continues quote room text (i + k) v k cs w

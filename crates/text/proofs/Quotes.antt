@@ -225,24 +225,16 @@ onward v w unclosed = unclosed
 onward v w (faulty number n) = faulty number (w + n)
 
 widened-zero : (q : Quoted) → widened 0 q ≡ q
-widened-zero (closed cs n) = ap (closed cs) (omega arith)
-widened-zero unclosed = refl
-widened-zero (faulty number n) = ap (faulty number) (omega arith)
+widened-zero = elim [ closed cs n ↦ ap (closed cs) (omega arith) | unclosed ↦ refl | faulty number n ↦ ap (faulty number) (omega arith) ]
 
 widened-suc : (k : ℕ) (q : Quoted) → wider (widened k q) ≡ widened (suc k) q
-widened-suc k (closed cs n) = ap (closed cs) (omega arith)
-widened-suc k unclosed = refl
-widened-suc k (faulty number n) = ap (faulty number) (omega arith)
+widened-suc k = elim [ closed cs n ↦ ap (closed cs) (omega arith) | unclosed ↦ refl | faulty number n ↦ ap (faulty number) (omega arith) ]
 
 after-widened : (v w : ℕ) (q : Quoted) → after v (widened w q) ≡ onward v (suc w) q
-after-widened v w (closed cs n) = ap (closed (v ∷ cs)) (omega arith)
-after-widened v w unclosed = refl
-after-widened v w (faulty number n) = ap (faulty number) (omega arith)
+after-widened v w = elim [ closed cs n ↦ ap (closed (v ∷ cs)) (omega arith) | unclosed ↦ refl | faulty number n ↦ ap (faulty number) (omega arith) ]
 
 fault-widened : (number w : ℕ) (q : Quoted) → faultBefore number (widened w q) ≡ faultBefore number q
-fault-widened number w (closed cs n) = refl
-fault-widened number w unclosed = refl
-fault-widened number w (faulty k n) = refl
+fault-widened number w = elim [ closed cs n ↦ refl | unclosed ↦ refl | faulty k n ↦ refl ]
 
 pub quoted-over : (quote room k : ℕ) (bytes : List ℕ) → quoted quote room k bytes ≡ widened k (quoted quote room 0 (drop k bytes))
 unfolding quoted
@@ -289,19 +281,13 @@ quoted-full quote (c ∷ r) {v = v} {w = suc w} e =
 -- ---- whether a constant is closed, however much room there is
 
 closed-wider : (q : Quoted) → isClosed (wider q) ≡ isClosed q
-closed-wider (closed cs n) = refl
-closed-wider unclosed = refl
-closed-wider (faulty number n) = refl
+closed-wider = elim [ closed cs n ↦ refl | unclosed ↦ refl | faulty number n ↦ refl ]
 
 closed-after : (v : ℕ) (q : Quoted) → isClosed (after v q) ≡ isClosed q
-closed-after v (closed cs n) = refl
-closed-after v unclosed = refl
-closed-after v (faulty number n) = refl
+closed-after v = elim [ closed cs n ↦ refl | unclosed ↦ refl | faulty number n ↦ refl ]
 
 pub closed-fault : (number : ℕ) (q : Quoted) → isClosed (faultBefore number q) ≡ isClosed q
-closed-fault number (closed cs n) = refl
-closed-fault number unclosed = refl
-closed-fault number (faulty k n) = refl
+closed-fault number = elim [ closed cs n ↦ refl | unclosed ↦ refl | faulty k n ↦ refl ]
 
 pub closed-alike : (quote room k : ℕ) (bytes : List ℕ) → isClosed (quoted quote room k bytes) ≡ isClosed (quoted quote 0 k bytes)
 unfolding quoted
@@ -345,9 +331,7 @@ after-closed v room k n unclosed one h = tt
 after-closed v room k n (faulty number w) one h = omega arith
 
 fault-closed : (number room k n : ℕ) (q : Quoted) → IfClosed room k (suc n) (faultBefore number q)
-fault-closed number room k n (closed cs w) = omega arith
-fault-closed number room k n unclosed = tt
-fault-closed number room k n (faulty j w) = omega arith
+fault-closed number room k n = elim [ closed cs w ↦ omega arith | unclosed ↦ tt | faulty j w ↦ omega arith ]
 
 quoted-each : (quote room k : ℕ) (bytes : List ℕ) → IfClosed room k (length bytes) (quoted quote room k bytes)
 unfolding quoted
@@ -378,14 +362,10 @@ first-is quote room [] e = contradiction cc
 first-is quote room (b ∷ r) {c} {cs} {w} e = by (character quote (b ∷ r)) room e
   where
     after-first : (v : ℕ) (q : Quoted) → after v q ≡ closed (c ∷ cs) w → v ≡ c
-    after-first v (closed ds n) k = cc
-    after-first v unclosed k = contradiction cc
-    after-first v (faulty number n) k = contradiction cc
+    after-first v = elim [ closed ds n ↦ λ k. cc | unclosed ↦ λ k. contradiction cc | faulty number n ↦ λ k. contradiction cc ]
 
     no-fault : {A : Type 0} (number : ℕ) (q : Quoted) → faultBefore number q ≡ closed (c ∷ cs) w → A
-    no-fault number (closed ds n) k = contradiction cc
-    no-fault number unclosed k = contradiction cc
-    no-fault number (faulty j n) k = contradiction cc
+    no-fault number = elim [ closed ds n ↦ λ k. contradiction cc | unclosed ↦ λ k. contradiction cc | faulty j n ↦ λ k. contradiction cc ]
 
     by : (ch : Character) (room : ℕ) → onCharacter ch room (λ a k. quoted quote a k r) ≡ closed (c ∷ cs) w → valueOf ch ≡ c
     by (is v n) (suc a) k = after-first v (quoted quote a (n - 1) r) k
@@ -412,14 +392,10 @@ after-same v room unclosed q h = tt
 after-same v room (faulty number n) q h = tt
 
 after-full : (v : ℕ) (p q : Quoted) → IfSame 0 (after v p) q
-after-full v (closed cs w) q = λ l. absurd (omega arith)
-after-full v unclosed q = tt
-after-full v (faulty number n) q = tt
+after-full v = elim [ closed cs w ↦ λ q. λ l. absurd (omega arith) | unclosed ↦ λ q. tt | faulty number n ↦ λ q. tt ]
 
 fault-same : (number room : ℕ) (p q : Quoted) → IfSame room (faultBefore number p) q
-fault-same number room (closed cs w) q = tt
-fault-same number room unclosed q = tt
-fault-same number room (faulty k n) q = tt
+fault-same number room = elim [ closed cs w ↦ λ q. tt | unclosed ↦ λ q. tt | faulty k n ↦ λ q. tt ]
 
 quoted-same : (quote some other k : ℕ) (bytes : List ℕ) → IfSame other (quoted quote some k bytes) (quoted quote other k bytes)
 unfolding quoted
