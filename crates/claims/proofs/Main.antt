@@ -62,7 +62,8 @@ module _ {source scratch scratch′ text text′ : List ℕ} {answer : Compiled}
       let tables : labels′ ≡ asm .table = a .tables ∙ ap (λ (x : Assembly). x .table) same in
       let fills : memory′ ≡ asm .memory = a .fills ∙ ap (λ (x : Assembly). x .memory) same in
       let placed = subst (λ (ls : List Label). SourceRunEnds source (placementOf source ls first) (length memory) input s) tables over in
-      let demanded = call .faithful (f .accepts) .follows (length memory) (length labels) first (sym (a .answers ∙ ap (λ (x : Assembly). x .answer) same))
+      let demanded = call .faithful (f .accepts) .follows (length memory) (length labels) first
+          (sym (a .answers ∙ ap (λ (x : Assembly). x .answer) same))
       input s placed below output budget in
       let there = subst (λ (ls : List Label). Follows (stringsIn source) (placementOf source ls first) s (length output) budget
       (run first (asm .memory) input output budget)) (sym tables) demanded in

@@ -65,7 +65,8 @@ record ProvedTable : Type 0 where
   budget-count : (first : ℕ) (memory input output : List ℕ) → Fits memory → run first memory input output 0 .count ≡ 0
 
 proved-table : ProvedTable
-unfolding applyDyadic symbolsIn valueOf value wordOf quot rem steps resume quoted character byNumber byDigits escape head byte optional digits digitCount
+unfolding applyDyadic symbolsIn valueOf value wordOf quot rem steps resume quoted character byNumber byDigits escape head byte optional digits
+    digitCount
     decimal ended quotedCharacter quotedString negative quotation labelled positive operand base labelItem instructionItem constantItem stringItem
     globalItem functionOf item gaps mark trailing body scan operandInRange inRange short size pairs operandWord words defined addressOf noted
     misplaced fault lay uses known unknowns noGlobals globalsAfter globals program image refuse accept assembled

@@ -2,8 +2,7 @@
 use Rattle.laws.proofs.Basics.{ℕ, _+_, _*_, _≤_, _≡_, List, [], _∷_, _++_, Bool, true, false, cond, length, length-append, eqb, arith}
 use Rattle.language.specs.Kinds.{IF, WHILE, UNTIL, REPEATWHILE}
 use Rattle.language.specs.Tree as T
-use Rattle.language.specs.Tree.{Expression, Expressions, Suffixes, Operations, Command, Commands, Unlabelled, Repeats, Function, Declaration}
-use Rattle.language.specs.Tree.{Program}
+use Rattle.language.specs.Tree.{Expression, Expressions, Suffixes, Operations, Command, Commands, Unlabelled, Repeats, Function, Declaration, Program}
 use Rattle.language.specs.Names as N
 use Rattle.language.specs.Names.{Found, Scope, opened, declared, lookup}
 use Rattle.language.specs.Constants.{forVector, judgedWord}

@@ -15,8 +15,8 @@ use Rattle.code.specs.Generate.{Exits, inLoop, exprCode, exprLabels, cmd
 use Rattle.code.proofs.Results.{post-cond, post-demand, post-reading, post-write}
 use Rattle.code.proofs.Machine.{Mach}
 use Rattle.code.proofs.Standing.{Env, cut, cut-number, cut-address, cut-label, at-end}
-use Rattle.code.proofs.Related.{Rel, Sim, Runs, after, then, weaken, in-a-step, lower, over, reaching, reaching-on, close-scope, raise, like-rel}
-use Rattle.code.proofs.Related.{put-other, ticked}
+use Rattle.code.proofs.Related.{Rel, Sim, Runs, after, then, weaken, in-a-step, lower, over, reaching, reaching-on, close-scope, raise}
+use Rattle.code.proofs.Related.{like-rel, put-other, ticked}
 use Rattle.code.proofs.Steps.{step-LIP, step-SP, step-A, step-J, step-F, step-when, step-unless, step-dyadic, cell-P}
 use Rattle.language.proofs.Formed.{FormedC}
 use Rattle.code.proofs.Goals.{F, Fits, Where, w-normal, w-broke, w-looped, w-ended, w-gave, Turning, at-while, at-repeat, at-repeatWhile}

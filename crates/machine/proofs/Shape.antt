@@ -7,9 +7,8 @@ use Rattle.machine.specs.State.{State, at, withC}
 use Rattle.machine.specs.Fetch.{Fetch, fetch, bit}
 use Rattle.machine.specs.Acts.{Act, unlisted, indirect, negate, invert, back, finish, switch, rdch, wrch, dyadic, unlessZero, acts, actOf}
 use Rattle.machine.specs.Acts.{indirected, returned, combined, search, switched, received, sent}
-use Rattle.machine.specs.Step.{StepResult, done, finished, stopped, resultOf, keep, stored, called, jumped, perform}
-use Rattle.machine.specs.Step.{Function, L, S, A, J, T, F, K}
-use Rattle.machine.specs.Step.{X, functionOf, execute, step, onFetch}
+use Rattle.machine.specs.Step.{StepResult, done, finished, stopped, resultOf, keep, stored, called, jumped, perform, Function, L, S, A, J, T, F}
+use Rattle.machine.specs.Step.{K, X, functionOf, execute, step, onFetch}
 use Rattle.machine.specs.declared.Registers.{Registers}
 
 -- ---- what a part gives satisfies P, or it stops with a number above 31, which is kept for the budget

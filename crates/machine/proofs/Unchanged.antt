@@ -7,9 +7,8 @@ use Rattle.machine.specs.State.{State, at}
 use Rattle.machine.specs.Fetch.{Fetch, fetch}
 use Rattle.machine.specs.Acts.{Act, unlisted, indirect, negate, invert, back, finish, switch, rdch, wrch, dyadic, actOf, indirected, returned}
 use Rattle.machine.specs.Acts.{combined, search, switched, received, sent}
-use Rattle.machine.specs.Step.{StepResult, done, finished, stopped, resultOf, keep, stored, called, jumped, perform}
-use Rattle.machine.specs.Step.{Function, L, S, A, J, T, F, K}
-use Rattle.machine.specs.Step.{X, functionOf, execute, onFetch, step}
+use Rattle.machine.specs.Step.{StepResult, done, finished, stopped, resultOf, keep, stored, called, jumped, perform, Function, L, S, A, J, T, F}
+use Rattle.machine.specs.Step.{K, X, functionOf, execute, onFetch, step}
 use Rattle.machine.specs.Run.{Outcome, onResult, steps, resume, run}
 use Rattle.machine.specs.declared.Registers.{Registers}
 use Rattle.machine.proofs.Without as W

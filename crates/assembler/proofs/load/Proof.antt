@@ -5,11 +5,10 @@ use Rattle.assembler.proofs.Walking.{id⊢, Lft, Share, Fml, ftrue, fat
 use Rattle.assembler.proofs.Walking.{tables, tablesOf, Given, ‵, _⊛_, _$_, _∵_, !, qed, move, keep, leave, use1, rewrite, split, join, fsplit}
 use Rattle.assembler.proofs.Walking.{fjoin, feqL, suffices, frame, done, look, init, stop, hop, fld, from, addr, of-opd, and-then, no-more}
 use Rattle.assembler.proofs.Walking.{returns, enter, alloc1, alloc0, params1, pass1, pass0, free1, free0, agg, whole, sub, look-in, lft-end}
-use Rattle.assembler.proofs.Walking.{fmOf, yes, owns, Is, mem, pointee, Array, array-lawful, u8, u16, RefT, plain, sliceTy, sliceVal}
-use Rattle.assembler.proofs.Walking.{MutSlice, ShrSlice, Room, slice-vals, mut-slice-tells, shr-slice-tells, shr-slice-copy, only, owned}
-use Rattle.assembler.proofs.Walking.{nothing, onEntry, Meets, entered, cited, says, Stays, stay-none-slice, gave-slice, walkOf}
-use Rattle.assembler.proofs.Walking.{goes-none-slice, goes-gave-slice, ends-at, calls-to, asks-none, local, frees-cell, slice-of, lent}
-use Rattle.assembler.proofs.Walking.{in-slice, walk-met}
+use Rattle.assembler.proofs.Walking.{fmOf, yes, owns, Is, mem, pointee, Array, array-lawful, u8, u16, RefT, plain, sliceTy, sliceVal, MutSlice}
+use Rattle.assembler.proofs.Walking.{ShrSlice, Room, slice-vals, mut-slice-tells, shr-slice-tells, shr-slice-copy, only, owned, nothing}
+use Rattle.assembler.proofs.Walking.{onEntry, Meets, entered, cited, says, Stays, stay-none-slice, gave-slice, walkOf, goes-none-slice}
+use Rattle.assembler.proofs.Walking.{goes-gave-slice, ends-at, calls-to, asks-none, local, frees-cell, slice-of, lent, in-slice, walk-met}
 use denote.Enum.Laws as EL
 use denote.Struct.Laws as LL
 use Rattle.assembler.specs.Assemble.{Assembles}
