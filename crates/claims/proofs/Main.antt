@@ -63,7 +63,7 @@ module _ {source scratch scratch′ text text′ : List ℕ} {answer : Compiled}
       let fills : memory′ ≡ asm .memory = a .fills ∙ ap (λ (x : Assembly). x .memory) same in
       let placed = subst (λ (ls : List Label). SourceRunEnds source (placementOf source ls first) (length memory) input s) tables over in
       let demanded = call .faithful (f .accepts) .follows (length memory) (length labels) first
-          (sym (a .answers ∙ ap (λ (x : Assembly). x .answer) same))
+      (sym (a .answers ∙ ap (λ (x : Assembly). x .answer) same))
       input s placed below output budget in
       let there = subst (λ (ls : List Label). Follows (stringsIn source) (placementOf source ls first) s (length output) budget
       (run first (asm .memory) input output budget)) (sym tables) demanded in

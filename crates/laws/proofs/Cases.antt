@@ -17,7 +17,12 @@ pub by-cond : {A : Type 0} (P : A → Type 0) (b : Bool) {x y : A} → P x → P
 by-cond P true p q = p
 by-cond P false p q = q
 
--- the same, where the outcome is used
+-- the same of a choice by `elim`
+pub by-choice : {A : Type 0} (P : A → Type 0) (b : Bool) {x y : A} → P x → P y → P (elim b as (λ _. A) [ true ↦ x | false ↦ y ])
+by-choice P true p q = p
+by-choice P false p q = q
+
+-- where the outcome is used
 pub either : {A : Type 0} (P : A → Type 0) (b : Bool) {x y : A} → (b ≡ true → P x) → (b ≡ false → P y) → P (cond b x y)
 either P true h k = h refl
 either P false h k = k refl

@@ -1,7 +1,7 @@
 -- What stands at a place is at least a byte, ends within the text, and holds no newline, unless it is a gap of that one byte.
 use Rattle.laws.proofs.Basics.{ℕ, zero, suc, _+_, _-_, _<_, _≤_, _≡_, refl, sym, ap, _∙_, List, [], _∷_, Bool, true, false, not, _&&_, cond, length}
 use Rattle.laws.proofs.Basics.{take, eqb, ltb, leb, arith, eqb-true, ne-eqb, ltb-true, lt-ltb, leb-true}
-use Rattle.laws.proofs.Cases.{either, contradiction, both-true, both-left, both-right}
+use Rattle.laws.proofs.Cases.{by-choice, either, contradiction, both-true, both-left, both-right}
 use lib.Dec.{T, T-not}
 use Rattle.text.specs.Line.{newlines}
 use Rattle.text.specs.Quoted as Q
@@ -70,9 +70,7 @@ QuotedLine k bs (faulty number n) = Unit {0}
 
 wider-line : (c : ℕ) (r : List ℕ) (k : ℕ) (q : Quoted) → QuotedLine k r q → QuotedLine (suc k) (c ∷ r) (Q.wider q)
 unfolding newlines
-wider-line c r k (closed cs m) h = rw h
-wider-line c r k unclosed h = tt
-wider-line c r k (faulty number n) h = tt
+wider-line c r k = elim [ closed cs m ↦ λ h. rw h | unclosed ↦ λ h. tt | faulty number n ↦ λ h. tt ]
 
 after-line : (v w c : ℕ) (r : List ℕ) (q : Quoted) → newlines (take (suc w) (c ∷ r)) ≡ 0 → QuotedLine w r q → QuotedLine 0 (c ∷ r) (Q.after v q)
 unfolding newlines
@@ -81,9 +79,7 @@ after-line v w c r unclosed h k = tt
 after-line v w c r (faulty number n) h k = tt
 
 fault-line : (number k : ℕ) (bs : List ℕ) (q : Quoted) → QuotedLine k bs (Q.faultBefore number q)
-fault-line number k bs (closed cs m) = tt
-fault-line number k bs unclosed = tt
-fault-line number k bs (faulty j n) = tt
+fault-line number k bs = elim [ closed cs m ↦ tt | unclosed ↦ tt | faulty j n ↦ tt ]
 
 quoted-line : (quote : ℕ) → eqb quote 10 ≡ false → (room k : ℕ) (bs : List ℕ) → QuotedLine k bs (quoted quote room k bs)
 unfolding quoted newlines
@@ -123,11 +119,8 @@ onOneLine s = (leb 1 (length (s .spelling)) && (eqb (newlines (s .spelling)) 0 &
 kind-known : (ws : List Spelled) (bs : List ℕ) → every known (record { spelling = []; kind = 0 }) ws ≡ true → kindIn ws bs < 62
 unfolding kindIn
 kind-known [] bs t = omega arith
-kind-known (w ∷ ws) bs t = by (same (w .spelling) bs) (ltb-true (w .kind) 62 (both-left (known w) _ t)) (kind-known ws bs (both-right (known w) _ t))
-  where
-    by : (b : Bool) → w .kind < 62 → kindIn ws bs < 62 → elim b [ true ↦ w .kind | false ↦ kindIn ws bs ] < 62
-    by true h k = h
-    by false h k = k
+kind-known (w ∷ ws) bs t =
+    by-choice (λ k. k < 62) (same (w .spelling) bs) (ltb-true (w .kind) 62 (both-left (known w) _ t)) (kind-known ws bs (both-right (known w) _ t))
 
 begins-within : (ss bs : List ℕ) → begins ss bs ≡ true → (length ss ≤ length bs) × (newlines (take (length ss) bs) ≡ newlines ss)
 unfolding begins newlines

@@ -68,13 +68,9 @@ alike-value : (base : ℕ) → 1 ≤ base → (bytes : List ℕ) (v w : ℕ) →
 unfolding valueOf
 alike-value base h [] v w a = a
 alike-value base h (c ∷ r) v w a =
-    by (digitOf base c) (alike-value base h r (v * base + (c - 48)) (w * base + (c - 48)) (alike-digit base (c - 48) v w h a))
-  where
-    by : (t : Bool) → Alike (valueOf base (v * base + (c - 48)) r) (valueOf base (w * base + (c - 48)) r)
-        → Alike (elim t [ true ↦ valueOf base (v * base + (c - 48)) r | false ↦ v ])
-        (elim t [ true ↦ valueOf base (w * base + (c - 48)) r | false ↦ w ])
-    by true m = m
-    by false m = a
+    elim (digitOf base c) as (λ t. Alike (elim t [ true ↦ valueOf base (v * base + (c - 48)) r | false ↦ v ])
+    (elim t [ true ↦ valueOf base (w * base + (c - 48)) r | false ↦ w ]))
+    [ true ↦ alike-value base h r (v * base + (c - 48)) (w * base + (c - 48)) (alike-digit base (c - 48) v w h a) | false ↦ a ]
 
 -- ---- a turn of the loop over digits
 

@@ -1,8 +1,7 @@
 -- Runs of bytes that pass a test: the letters of a word, the digits of a number, the bytes of a comment.
 use Rattle.laws.proofs.Basics.{ℕ, suc, _+_, _-_, _<_, _≤_, _≡_, refl, sym, ap, _∙_, List, [], _∷_, Bool, true, false, not, cond, length, getD, take}
-use Rattle.laws.proofs.Basics.{drop}
-use Rattle.laws.proofs.Basics.{eqb, arith, eqb-true}
-use Rattle.laws.proofs.Cases.{contradiction}
+use Rattle.laws.proofs.Basics.{drop, eqb, arith, ne-eqb}
+use Rattle.laws.proofs.Cases.{by-cases, by-equal, by-cond, contradiction}
 use Rattle.text.specs.Line.{newlines}
 use Rattle.text.proofs.Bytes.{at-byte, past-end}
 use Rattle.language.specs.Bytes.{classOf}
@@ -61,19 +60,12 @@ module _ {p : ℕ → Bool} {f : List ℕ → ℕ} (run : Run p f) where
   -- ---- all of them
   pub run-within : (bytes : List ℕ) → f bytes ≤ length bytes
   run-within [] = omega (arith, run .none)
-  run-within (c ∷ r) = rw (run .some c r) (by (p c) (run-within r))
-    where
-      by : (t : Bool) {n : ℕ} → n ≤ length r → cond t (suc n) 0 ≤ suc (length r)
-      by true h = omega arith
-      by false h = omega arith
+  run-within (c ∷ r) = rw (run .some c r) (by-cond (λ n. n ≤ suc (length r)) (p c) (omega (arith, run-within r)) (omega arith))
 
   -- a run of bytes other than a newline is on one line
   pub run-line : p 10 ≡ false → (bytes : List ℕ) → newlines (take (f bytes) bytes) ≡ 0
   unfolding newlines
   run-line out [] = rw (run .none)
-  run-line out (c ∷ r) = rw (run .some c r) (by (p c) refl (eqb c 10) refl (run-line out r))
-    where
-      by : (t : Bool) → p c ≡ t → (u : Bool) → eqb c 10 ≡ u → newlines (take (f r) r) ≡ 0 → newlines (take (cond t (suc (f r)) 0) (c ∷ r)) ≡ 0
-      by false e u k h = refl
-      by true e true k h = let z : c ≡ 10 = eqb-true c 10 k in absurd (let y : false ≡ true = sym out ∙ ap p (sym z) ∙ e in contradiction cc)
-      by true e false k h = rw k h
+  run-line out (c ∷ r) =
+      rw (run .some c r) (by-cases (p c) (λ e. rw e (by-equal c 10 (λ z. let y : false ≡ true = sym out ∙ ap p (sym z) ∙ e in contradiction cc)
+      (λ k. rw (ne-eqb c 10 k) (run-line out r)))) (λ e. rw e refl))

@@ -1,7 +1,7 @@
 -- From symbol to symbol: a scan is what stands at its place and the scan of the rest, and lines are counted on the way.
 use Rattle.laws.proofs.Basics.{ℕ, zero, suc, _+_, _-_, _<_, _≤_, _≡_, refl, sym, ap, _∙_, List, [], _∷_, _++_, Bool, true, false, not, cond, length}
 use Rattle.laws.proofs.Basics.{getD, take, drop, length-drop, drop-of-length-le, drop-cons, drop-drop, eqb, add-zero, add-one, arith, eq-eqb, ne-eqb}
-use Rattle.laws.proofs.Cases.{contradiction}
+use Rattle.laws.proofs.Cases.{by-cases, contradiction}
 use lib.Seq.{take-add}
 use Rattle.text.specs.Line.{newlines, lineOf}
 use Rattle.language.specs.Bytes.{classOf}
@@ -39,12 +39,8 @@ when-wrong (wrong a b) p q = cc
 newlines-append : (a b : List ℕ) → newlines (a ++ b) ≡ newlines a + newlines b
 unfolding newlines
 newlines-append [] b = let z : newlines b ≡ 0 + newlines b = omega arith in z
-newlines-append (c ∷ a) b = by (eqb c 10) (newlines-append a b)
-  where
-    by : (t : Bool) → newlines (a ++ b) ≡ newlines a + newlines b
-        → cond t (suc (newlines (a ++ b))) (newlines (a ++ b)) ≡ cond t (suc (newlines a)) (newlines a) + newlines b
-    by true e = omega arith
-    by false e = e
+newlines-append (c ∷ a) b =
+    by-cases (eqb c 10) (λ t. rw t (omega (arith, newlines-append a b))) (λ t. rw t (newlines-append a b))
 
 pub line-past : (text : List ℕ) (i w : ℕ) → lineOf text (i + w) ≡ lineOf text i + newlines (take w (drop i text))
 unfolding lineOf

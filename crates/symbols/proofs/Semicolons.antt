@@ -1,7 +1,7 @@
 -- Semicolons and strings, one symbol at a time. The symbols, inserted semicolons among them, are no more than the bytes.
 use Rattle.laws.proofs.Basics.{ℕ, zero, suc, _+_, _-_, _<_, _≤_, _≡_, refl, sym, ap, _∙_, List, [], _∷_, Bool, true, false, not, _&&_, cond, length}
 use Rattle.laws.proofs.Basics.{drop, length-drop, eqb, ltb, add-one, arith, eq-eqb, ltb-true, ltb-false}
-use Rattle.laws.proofs.Cases.{contradiction}
+use Rattle.laws.proofs.Cases.{by-cases, by-order, contradiction, both-right}
 use Rattle.text.specs.Line.{lineOf}
 use Rattle.language.specs.Symbols.{Element, symbol, gap, wrong, Symbol, Fault, Scan, ends, goesOn, scan}
 use Rattle.language.specs.Kinds.{member}
@@ -27,13 +27,7 @@ first-after text place (s ∷ r) = refl
 numbered-one : (k kind value place : ℕ) (r : List Symbol) {number k′ : ℕ} → number ≡ cond (eqb kind 61) k value → k′ ≡ cond (eqb kind 61) (k + 1) k
     → numbered k (symbolOf kind value place ∷ r) ≡ symbolOf kind number place ∷ numbered k′ r
 unfolding numbered
-numbered-one k kind value place r p q = rw (p, q) (by (eqb kind 61))
-  where
-    by : (t : Bool)
-        → cond t (symbolOf kind k place ∷ numbered (suc k) r) (symbolOf kind value place ∷ numbered k r) ≡ symbolOf kind (cond t k value) place ∷
-        numbered (cond t (k + 1) k) r
-    by true = rw add-one
-    by false = refl
+numbered-one k kind value place r p q = rw (p, q) (by-cases (eqb kind 61) (λ t. rw (t, add-one)) (λ t. rw t refl))
 
 -- ---- some symbols, after one of a kind that ended at a place and with so many strings before them
 
@@ -59,23 +53,15 @@ unfoldable pub symbolsIn : List ℕ → List Symbol
 symbolsIn text = semicolons text (numbered 0 (scan text .symbols))
 
 gain-breaks : (before kind : ℕ) (t : Bool) → gain before kind t ≡ true → t ≡ true
-gain-breaks before kind t = go (endsLine before) (beginsLine kind)
-  where
-    go : (a b : Bool) → (a && (b && t)) ≡ true → t ≡ true
-    go true true e = e
-    go true false e = contradiction cc
-    go false b e = contradiction cc
+gain-breaks before kind t e = both-right (beginsLine kind) t (both-right (endsLine before) (beginsLine kind && t) e)
 
 -- places on different lines are different
 apart : (text : List ℕ) (from to : ℕ) → from ≤ to → broken text from to ≡ true → from < to
-apart text from to h e = go (ltb from to) refl
-  where
-    go : (t : Bool) → ltb from to ≡ t → from < to
-    go true k = ltb-true from to k
-    go false k =
-        let z : from ≡ to = omega (arith, ltb-false from to k) in
-        let y : true ≡ false = sym e ∙ ap not (eq-eqb (lineOf text from) (lineOf text to) (ap (lineOf text) z)) in
-        contradiction cc
+apart text from to h e =
+    by-order from to (λ l. l) (λ k.
+    let z : from ≡ to = omega arith in
+    let y : true ≡ false = sym e ∙ ap not (eq-eqb (lineOf text from) (lineOf text to) (ap (lineOf text) z)) in
+    contradiction cc)
 
 inserted-length : (t : Bool) (s : Symbol) (r : List Symbol) → length (inserted t s (s ∷ r)) ≡ cond t 2 1 + length r
 inserted-length true s r = omega arith

@@ -2,14 +2,14 @@
 use Rattle.laws.proofs.Basics.{ℕ, suc, _+_, _*_, _/_, _%_, _<_, _≤_, _≡_, refl, sym, ap, _∙_, List, [], _∷_, Bool, true, false, _&&_, cond, length}
 use Rattle.laws.proofs.Basics.{getD, take, drop, length-take, length-drop, drop-of-length-le, List·getD-append, length-take-le, take-length}
 use Rattle.laws.proofs.Basics.{drop-cons, getD-take, getD-drop, eqb, leb, add-zero, add-one, arith, eqb-true, eq-eqb, ne-eqb}
-use Rattle.laws.proofs.Cases.{contradiction, both-left, both-right}
+use Rattle.laws.proofs.Cases.{by-cases, contradiction, both-true}
 use lib.Arith.{digits-div, digits-mod}
 use lib.Dec.{T, leb→le}
 use lib.Seq.{slice, slice-cons}
 use Rattle.text.specs.Written.{bytes}
 use Rattle.language.specs.Kinds.{Spelled, reserved, signs, member}
 use Rattle.language.specs.Symbols.{Element, symbol, wrong, begins, same, kindIn, kindOf, signIn, sign}
-use Rattle.language.specs.Candidates.{keep, candidates, candidatesIn, comparedIn, compared}
+use Rattle.language.specs.Candidates.{candidates, candidatesIn, comparedIn, compared}
 use Rattle.language.proofs.Candidates.{kind-cons, kind-by-candidates, compared-at-most-three}
 use Rattle.symbols.specs.Spellings.{nothing, byLetter, spelled, spelledAt, spellingAt, entryOf, Rows, ofLength, Spans, Skips}
 use Rattle.symbols.specs.Answers.{asElement}
@@ -83,9 +83,6 @@ module _ (ss text : List ℕ) (at width : ℕ) (h : at + width ≤ length text) 
   taken : length (take width (drop at text)) ≡ width
   taken = length-take-le width (drop at text) (omega (arith, length-drop at text))
 
-  pub same-not : (length ss ≡ width → ⊥) → same ss (take width (drop at text)) ≡ false
-  same-not n = rw (taken, ne-eqb (length ss) width n)
-
   pub same-is : length ss ≡ width → same ss (take width (drop at text)) ≡ begins ss (drop at text)
   same-is e = rw (taken, eq-eqb (length ss) width e, ← e) (begins-take ss (drop at text))
 
@@ -107,11 +104,9 @@ asSign s = symbol (s .kind) 0 (length (s .spelling))
 
 sign-cons : (s : Spelled) (ss : List Spelled) (bs : List ℕ) → signIn (s ∷ ss) bs ≡ cond (begins (s .spelling) bs) (asSign s) (signIn ss bs)
 unfolding signIn
-sign-cons s ss bs = by (begins (s .spelling) bs)
-  where
-    by : (t : Bool) → elim t [ true ↦ asSign s | false ↦ signIn ss bs ] ≡ cond t (asSign s) (signIn ss bs)
-    by true = refl
-    by false = refl
+sign-cons s ss bs =
+    elim (begins (s .spelling) bs) as (λ t. elim t [ true ↦ asSign s | false ↦ signIn ss bs ] ≡ cond t (asSign s) (signIn ss bs))
+    [ true ↦ refl | false ↦ refl ]
 
 module _ (bs : List ℕ) where
   pub sign-start : sign bs ≡ signIn (drop 35 spelled) bs
@@ -164,14 +159,10 @@ no-candidates : (ws : List Spelled) (byte : ℕ) (rest : List ℕ) → every let
 unfolding candidatesIn
 no-candidates [] byte rest t n = refl
 no-candidates (w ∷ ws) byte rest t n =
-    go (eqb (getD (w .spelling) 0 0) byte) refl (no-candidates ws byte rest (both-right (lettered w) (every lettered nothing ws) t) n)
-  where
-    go : (a : Bool) → eqb (getD (w .spelling) 0 0) byte ≡ a → candidatesIn ws (byte ∷ rest) ≡ []
-        → keep (a && eqb (length (w .spelling)) (suc (length rest))) w (candidatesIn ws (byte ∷ rest)) ≡ []
-    go true e ih =
-        let q : member byte letters ≡ true = rw (← eqb-true (getD (w .spelling) 0 0) byte e) (both-left (lettered w) (every lettered nothing ws) t) in
-        contradiction cc
-    go false e ih = ih
+    let b = both-true (lettered w) (every lettered nothing ws) t in
+    by-cases (eqb (getD (w .spelling) 0 0) byte)
+    (λ e. let q : member byte letters ≡ true = rw (← eqb-true (getD (w .spelling) 0 0) byte e) (b .0) in contradiction cc)
+    (λ e. rw e (no-candidates ws byte rest (b .1) n))
 
 pub no-span : (byte : ℕ) → NoneOf letters byte → Spans byte 0 0
 unfolding candidates reserved ofLength member
