@@ -1,6 +1,7 @@
 -- Writing the symbols: their entries are appended in threes, and what follows them is cleared.
 use Rattle.laws.proofs.Basics.{ℕ, _+_, _*_, _<_, _≤_, _≡_, refl, sym, ap, _∙_, List, [], _∷_, _++_, append-assoc, append-nil, Bool, true, false, cond}
 use Rattle.laws.proofs.Basics.{length, set, take, drop, length-append, length-take-le, take-at, sets, sets-eq, length-sets, eqb, add-one, arith}
+use Rattle.laws.proofs.Cases.{by-cond}
 use native.Mathlib.Numerals.{add-two}
 use Rattle.language.specs.Symbols.{Symbol, Scan, scan}
 use Rattle.language.specs.Semicolons.{inserted, semicolonsAfter}
@@ -102,6 +103,11 @@ putting-start text s h =
       writes = ap entries (sym (first-after text 0 (numbered 0 (scan text .symbols))));
     }
 
+-- three entries for each of one symbol or two
+thrice : (two : Bool) → (cond two 6 3 ≡ 3 * cond two 2 1) × (1 ≤ cond two 2 1)
+thrice true = (refl, omega arith)
+thrice false = (refl, omega arith)
+
 module _ (text s₀ : List ℕ) (at count before strings : ℕ) (s : List ℕ) (p : Putting text s₀ at count before strings s)
     {next : Next} (f : Finds text at next) where
   taken : length (take (count * 3) s) ≡ count * 3
@@ -147,29 +153,19 @@ module _ (text s₀ : List ℕ) (at count before strings : ℕ) (s : List ℕ) (
       module _ {number strings′ count′ : ℕ} {s′ : List ℕ} (m : number ≡ cond (eqb kind 61) strings value)
           (n : strings′ ≡ cond (eqb kind 61) (strings + 1) strings)
           (w : Writes count semicolon kind number place s count′ s′) where
-        fits-more : count′ * 3 ≤ length s′
-        fits-more = go semicolon room-for (w .counts)
-          where
-            go : (t : Bool) → count * 3 + cond t 6 3 ≤ length s → count′ ≡ count + cond t 2 1 → count′ * 3 ≤ length s′
-            go true h k = omega (arith, w .same)
-            go false h k = omega (arith, w .same)
-
-        strings-more : strings′ ≤ count′
-        strings-more = go (eqb kind 61) semicolon n (w .counts)
-          where
-            go : (a b : Bool) → strings′ ≡ cond a (strings + 1) strings → count′ ≡ count + cond b 2 1 → strings′ ≤ count′
-            go true true h k = omega (arith, p .strings-few)
-            go true false h k = omega (arith, p .strings-few)
-            go false true h k = omega (arith, p .strings-few)
-            go false false h k = omega (arith, p .strings-few)
-
         pub putting-on : Putting text s₀ past count′ kind strings′ s′
         putting-on =
             record {
               same = w .same ∙ p .same;
               room = p .room;
-              fits = fits-more;
-              strings-few = strings-more;
+              fits = omega (arith, room-for, w .counts, w .same, thrice semicolon);
+              strings-few = omega (
+                arith,
+                w .counts,
+                p .strings-few,
+                thrice semicolon,
+                by-cond (λ k. k ≤ strings + 1) (eqb kind 61) {x = strings + 1} {y = strings} (omega arith) (omega arith),
+              );
               known = found f e .known;
               writes =
                   ap (λ (l : List ℕ). l ++ rest text past kind strings′) (w .writes) ∙
@@ -190,22 +186,15 @@ module _ (text s₀ : List ℕ) (at count before strings : ℕ) (s : List ℕ) (
               simp length-append at (ap length (p .writes)),
               simp length-append at (ap length (next-entries refl refl)),
               length-inserted semicolon (symbolOf kind number place),
-              some semicolon,
+              thrice semicolon,
             )
-          where
-            some : (t : Bool) → 3 ≤ cond t 6 3
-            some true = omega arith
-            some false = omega arith
 
         pub strings-fit : strings < 16384
         strings-fit = omega (arith, p .strings-few, counted)
 
         pub number-fits : {number : ℕ} → number ≡ cond (eqb kind 61) strings value → number < 131072
-        number-fits {number} m = go (eqb kind 61) m
-          where
-            go : (t : Bool) → number ≡ cond t strings value → number < 131072
-            go true k = omega (arith, strings-fit)
-            go false k = omega (arith, found f e .small, found f e .within)
+        number-fits {number} m =
+            rw m (by-cond (λ k. k < 131072) (eqb kind 61) (omega (arith, strings-fit)) (omega (arith, found f e .small, found f e .within)))
 
         pub place-fits : place < 65536
         place-fits = omega (arith, found f e .some, found f e .within)
