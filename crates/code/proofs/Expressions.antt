@@ -1,6 +1,6 @@
 -- The simulation of expressions, but for calls: one lemma for each form.
-use Rattle.laws.proofs.Basics.{ℕ, suc, _+_, _<_, _≤_, _≡_, refl, ap, _∙_, List, [], Bool, true, false, cond, Option, some, none, getD, eqb, le-refl}
-use Rattle.laws.proofs.Basics.{arith}
+use Rattle.laws.proofs.Basics.{ℕ, suc, _+_, _<_, _≤_, _≡_, refl, ap, _∙_, List, _∷_, _++_, [], Bool, true, false, cond, Option, some, none, getD, eqb}
+use Rattle.laws.proofs.Basics.{le-refl, arith}
 use Rattle.laws.proofs.Cases.{contradiction}
 use Rattle.words.specs.Words.{add, neg, complement, mul, quot, rem, eq, ne, lt, ge, gt, le, conj, disj, shl, shr}
 use Rattle.items.specs.Item as I
@@ -14,7 +14,7 @@ use Rattle.language.specs.Resolved.{Expr, Cmd}
 use Rattle.language.specs.Operators.{applyMonadic, applyDyadic}
 use Rattle.language.specs.State.{Value, word, State, Result, ok, bind}
 use Rattle.language.specs.Run.{Flow, normal, broke, looped, ended, gave, Sem, evaluated, two, orUndefined, valueOf}
-use Rattle.code.specs.Generate.{exprCode, exprLabels, cmdCode, dyadicAct, monadicAct, inValof}
+use Rattle.code.specs.Generate.{SP, exprCode, exprLabels, cmdCode, dyadicAct, monadicAct, inValof}
 use Rattle.code.proofs.Results.{p-undefined, post-read, post-demand, Has, has-none, has-word, has-same}
 use Rattle.code.proofs.Machine.{Mach}
 use Rattle.code.proofs.Standing.{Env, At, Code, cut, cut-number, cut-address, cut-label, at-end}
@@ -149,14 +149,17 @@ module _ (Γ : Env) where
         step-X1 Γ (fits .sized) (le-refl h) (x₁ .rel) (y₁ .at) i₂ a₁ g λ v₂ r₂ c₂ a₂. done r₂ c₂ k₃ (has-word a₂)) (omega arith)
 
     -- two operands: the left one waits in the word of the height, the right one is in A
-    pub sim-two : (d e : Expr) (n : ℕ) {Q : Value → Mach → Type 0} {t p h c₀ c₁ c₂ c₃ : ℕ} {s : State} {v : Mach}
-        (more : ℕ → ℕ → State → Result Value) → Code Γ c₀ (exprCode (suc (F Γ)) h n d) c₁ → At Γ c₁ 1 false P h c₂
-        → Code Γ c₂ (exprCode (suc (F Γ)) (h + 1) (n + exprLabels d) e) c₃
-        → FormedE (F Γ) (S Γ) h d × FormedE (F Γ) (S Γ) (h + 1) e → v .regs .c ≡ c₀ → Rel Γ p h s v
-        → ((x y : ℕ) (u : State) (w : Mach) → Rel Γ p h u w → w .regs .c ≡ c₃ → getD (w .mem) (p + h) 0 ≡ x → w .regs .a ≡ y → p + (h + 1) ≤ Γ .limit
-        → Runs Γ Q t p h h u w (more x y u))
+    pub sim-two : (d e : Expr) (n : ℕ) {Q : Value → Mach → Type 0} {t p h a b : ℕ} {s : State} {v : Mach} {rest : List I.Item}
+        (more : ℕ → ℕ → State → Result Value)
+        → Code Γ a (exprCode (suc (F Γ)) h n d ++ (SP h ∷ (exprCode (suc (F Γ)) (h + 1) (n + exprLabels d) e ++ rest))) b
+        → FormedE (F Γ) (S Γ) h d × FormedE (F Γ) (S Γ) (h + 1) e → v .regs .c ≡ a → Rel Γ p h s v
+        → ((c : ℕ) → Code Γ c rest b → (x y : ℕ) (u : State) (w : Mach) → Rel Γ p h u w → w .regs .c ≡ c → getD (w .mem) (p + h) 0 ≡ x → w .regs .a ≡ y
+        → p + (h + 1) ≤ Γ .limit → Runs Γ Q t p h h u w (more x y u))
         → Runs Γ Q (1 + t) p h h s v (two (Γ .limit) q d e p h s more)
-    sim-two d e n {p = p} {h = h} more k₁ i₂ k₃ f pc r g =
+    sim-two d e n {p = p} {h = h} more k f pc r g =
+        cut Γ (exprCode (suc (F Γ)) h n d) _ k λ b₁ k₁ k₂.
+        cut-number Γ k₂ λ b₂ i₂ k₄.
+        cut Γ (exprCode (suc (F Γ)) (h + 1) (n + exprLabels d) e) _ k₄ λ b₃ k₃ k₅.
         weaken Γ (then Γ (le-refl h) (part d n k₁ (f .0) pc r) λ x s₁ v₁ x₁ y₁.
         reaching Γ (h + 1) (λ u. bind (q .evaluate e p (h + 1) u) _) λ u like l.
         let r₁ : Rel Γ p h u v₁ = like-rel Γ like (x₁ .rel) in
@@ -164,28 +167,22 @@ module _ (Γ : Env) where
         let up : h ≤ h + 1 = omega arith in
         then Γ up (part e (n + exprLabels d) k₃ (f .1) c₂ (raise Γ r₂ up l)) λ y s₃ v₃ x₃ y₃.
         let kept : getD (v₃ .mem) (p + h) 0 ≡ v₁ .regs .a = x₃ .frame (p + h) (omega arith) (r₁ .above (p + h) (omega arith)) ∙ g₂ in
-        post-demand (has-same (y₁ .has) kept) λ m em. post-demand (y₃ .has) λ w ew. g m w s₃ v₃ (sink Γ r₂ up x₃) (y₃ .at) em ew l) (omega arith)
+        post-demand (has-same (y₁ .has) kept) λ m em. post-demand (y₃ .has) λ w ew. g b₃ k₅ m w s₃ v₃ (sink Γ r₂ up x₃) (y₃ .at) em ew l) (omega arith)
 
     pub sim-addressOfIndex : (d e : Expr) → GoalE q (R.addressOfIndex d e)
     unfolding evaluated exprCode FormedE
     sim-addressOfIndex d e p h n a b s v k f pc r =
-        cut Γ (exprCode (suc (F Γ)) h n d) _ k λ b₁ k₁ k₂.
-        cut-number Γ k₂ λ b₂ i₂ k₃.
-        cut Γ (exprCode (suc (F Γ)) (h + 1) (n + exprLabels d) e) _ k₃ λ b₃ k₄ k₅.
+        weaken Γ (sim-two d e n _ k f pc r λ b₃ k₅ x y u w r₁ c₁ m₁ a₁ l.
         cut-number Γ k₅ λ b₆ i₆ k₆.
-        weaken Γ (sim-two d e n _ k₁ i₂ k₄ f pc r λ x y u w r₁ c₁ m₁ a₁ l.
         step-AIP Γ (fits .sized) (le-refl h) r₁ c₁ i₆ (omega arith) λ v₂ r₂ c₂ a₂ _.
         done r₂ c₂ k₆ (has-word (omega (arith, a₂, a₁, m₁)))) (omega arith)
 
     pub sim-index : (d e : Expr) → GoalE q (R.index d e)
     unfolding evaluated exprCode FormedE
     sim-index d e p h n a b s v k f pc r =
-        cut Γ (exprCode (suc (F Γ)) h n d) _ k λ b₁ k₁ k₂.
-        cut-number Γ k₂ λ b₂ i₂ k₃.
-        cut Γ (exprCode (suc (F Γ)) (h + 1) (n + exprLabels d) e) _ k₃ λ b₃ k₄ k₅.
+        weaken Γ (sim-two d e n _ k f pc r λ b₃ k₅ x y u w r₁ c₁ m₁ a₁ l.
         cut-number Γ k₅ λ b₆ i₆ k₆.
         cut-number Γ k₆ λ b₇ i₇ k₇.
-        weaken Γ (sim-two d e n _ k₁ i₂ k₄ f pc r λ x y u w r₁ c₁ m₁ a₁ l.
         post-read (u .cells (add x y)) u λ z g.
         step-AIP Γ (fits .sized) (le-refl h) r₁ c₁ i₆ (omega arith) λ v₂ r₂ c₂ a₂ _.
         let sum : v₂ .regs .a ≡ add x y = omega (arith, a₂, a₁, m₁) in
@@ -194,14 +191,11 @@ module _ (Γ : Env) where
     pub sim-binary : (o : ℕ) (d e : Expr) → GoalE q (R.binary o d e)
     unfolding evaluated exprCode FormedE
     sim-binary o d e p h n a b s v k f pc r =
-        cut Γ (exprCode (suc (F Γ)) h n d) _ k λ b₁ k₁ k₂.
-        cut-number Γ k₂ λ b₂ i₂ k₃.
-        cut Γ (exprCode (suc (F Γ)) (h + 1) (n + exprLabels d) e) _ k₃ λ b₃ k₄ k₅.
+        weaken Γ (sim-two d e n _ k f pc r λ b₃ k₅ x y u w r₁ c₁ m₁ a₁ l.
         cut-number Γ k₅ λ b₆ i₆ k₆.
         cut-number Γ k₆ λ b₇ i₇ k₇.
         cut-number Γ k₇ λ b₈ i₈ k₈.
         cut-number Γ k₈ λ b₉ i₉ k₉.
-        weaken Γ (sim-two d e n _ k₁ i₂ k₄ f pc r λ x y u w r₁ c₁ m₁ a₁ l.
         finish x y u w (applyDyadic o x y) refl r₁ c₁ m₁ a₁ l i₆ i₇ i₈ i₉ (at-end Γ k₉)) (omega arith)
       where
         finish : (x y : ℕ) (u : State) (w : Mach) (z : Option ℕ) → applyDyadic o x y ≡ z → Rel Γ p h u w → {b₃ b₆ b₇ b₈ b₉ : ℕ} → w .regs .c ≡ b₃
