@@ -1,10 +1,9 @@
 -- The simulation of expressions, but for calls: one lemma for each form.
-use Rattle.laws.proofs.Basics.{ℕ, suc, _+_, _<_, _≤_, _≡_, refl, ap, _∙_, List, _∷_, _++_, [], Bool, true, false, cond, Option, some, none, getD, eqb}
+use Rattle.laws.proofs.Basics.{ℕ, suc, _+_, _<_, _≤_, _≡_, refl, ap, _∙_, List, [], _∷_, _++_, Bool, true, false, cond, Option, some, none, getD, eqb}
 use Rattle.laws.proofs.Basics.{le-refl, arith}
-use Rattle.laws.proofs.Cases.{contradiction}
+use Rattle.laws.proofs.Cases.{by-cases, contradiction}
 use Rattle.words.specs.Words.{add, neg, complement, mul, quot, rem, eq, ne, lt, ge, gt, le, conj, disj, shl, shr}
 use Rattle.items.specs.Item as I
-use Rattle.items.specs.Item.{P}
 use Rattle.machine.specs.Outcome.{Out}
 use Rattle.machine.specs.Outcome as O
 use Rattle.machine.specs.Acts as M
@@ -13,9 +12,9 @@ use Rattle.language.specs.Resolved as R
 use Rattle.language.specs.Resolved.{Expr, Cmd}
 use Rattle.language.specs.Operators.{applyMonadic, applyDyadic}
 use Rattle.language.specs.State.{Value, word, State, Result, ok, bind}
-use Rattle.language.specs.Run.{Flow, normal, broke, looped, ended, gave, Sem, evaluated, two, orUndefined, valueOf}
+use Rattle.language.specs.Run.{Flow, normal, broke, looped, ended, gave, Sem, evaluated, two, valueOf}
 use Rattle.code.specs.Generate.{SP, exprCode, exprLabels, cmdCode, dyadicAct, monadicAct, inValof}
-use Rattle.code.proofs.Results.{p-undefined, post-read, post-demand, Has, has-none, has-word, has-same}
+use Rattle.code.proofs.Results.{p-undefined, post-read, post-demand, post-some, Has, has-none, has-word, has-same}
 use Rattle.code.proofs.Machine.{Mach}
 use Rattle.code.proofs.Standing.{Env, At, Code, cut, cut-number, cut-address, cut-label, at-end}
 use Rattle.code.proofs.Related.{Rel, Runs, then, weaken, in-a-step, over, reaching, raise, sink, like-rel, live-below, gone-holds}
@@ -196,43 +195,31 @@ module _ (Γ : Env) where
         cut-number Γ k₆ λ b₇ i₇ k₇.
         cut-number Γ k₇ λ b₈ i₈ k₈.
         cut-number Γ k₈ λ b₉ i₉ k₉.
-        finish x y u w (applyDyadic o x y) refl r₁ c₁ m₁ a₁ l i₆ i₇ i₈ i₉ (at-end Γ k₉)) (omega arith)
-      where
-        finish : (x y : ℕ) (u : State) (w : Mach) (z : Option ℕ) → applyDyadic o x y ≡ z → Rel Γ p h u w → {b₃ b₆ b₇ b₈ b₉ : ℕ} → w .regs .c ≡ b₃
-            → getD (w .mem) (p + h) 0 ≡ x → w .regs .a ≡ y
-            → p + (h + 1) ≤ Γ .limit → At Γ b₃ 1 false P (h + 1) b₆ → At Γ b₆ 0 true P h b₇ → At Γ b₇ 0 true P (h + 1) b₈
-            → At Γ b₈ 7 false I.none (dyadicAct o) b₉ → b₉ ≡ b
-            → Runs Γ (Valued Γ b) 4 p h h u w (orUndefined z u)
-        finish x y u w none t r₁ c₁ m₁ a₁ l i₆ i₇ i₈ i₉ z = p-undefined
-        finish x y u w (some s′) t r₁ c₁ m₁ a₁ l i₆ i₇ i₈ i₉ z =
-            let act : (g : ℕ → ℕ → Out ℕ) × (M.actOf (dyadicAct o) ≡ M.dyadic g) × (g x y ≡ O.ok s′) = acts-dyadic o x y .is s′ t in
-            weaken Γ (step-SP Γ (fits .sized) (le-refl h) r₁ c₁ i₆ (omega arith) (omega arith) λ v₂ r₂ c₂ _ g₂ o₂.
-            step-LIP Γ (fits .sized) (le-refl h) r₂ c₂ i₇ (omega arith) λ v₃ r₃ c₃ a₃ _ e₃.
-            step-LIP Γ (fits .sized) (le-refl h) r₃ c₃ i₈ (omega arith) λ v₄ r₄ c₄ a₄ d₄ _.
-            let left : v₄ .regs .b ≡ x = d₄ ∙ a₃ ∙ o₂ (p + h) (λ q. omega arith) ∙ m₁ in
-            let right : v₄ .regs .a ≡ y = a₄ ∙ ap (λ (m : List ℕ). getD m (p + (h + 1)) 0) e₃ ∙ g₂ ∙ a₁ in
-            step-dyadic Γ (fits .sized) (le-refl h) r₄ c₄ (act .0) i₉ (act .1) (rw (left, right) (act .2)) λ v₅ r₅ c₅ a₅ _.
-            over Γ (le-refl h) r₅ (record { at = c₅ ∙ z; has = has-word a₅ })) (omega arith)
+        post-some (applyDyadic o x y) u λ s′ t.
+        let act : (g : ℕ → ℕ → Out ℕ) × (M.actOf (dyadicAct o) ≡ M.dyadic g) × (g x y ≡ O.ok s′) = acts-dyadic o x y .is s′ t in
+        step-SP Γ (fits .sized) (le-refl h) r₁ c₁ i₆ (omega arith) (omega arith) λ v₂ r₂ c₂ _ g₂ o₂.
+        step-LIP Γ (fits .sized) (le-refl h) r₂ c₂ i₇ (omega arith) λ v₃ r₃ c₃ a₃ _ e₃.
+        step-LIP Γ (fits .sized) (le-refl h) r₃ c₃ i₈ (omega arith) λ v₄ r₄ c₄ a₄ d₄ _.
+        let left : v₄ .regs .b ≡ x = d₄ ∙ a₃ ∙ o₂ (p + h) (λ q. omega arith) ∙ m₁ in
+        let right : v₄ .regs .a ≡ y = a₄ ∙ ap (λ (m : List ℕ). getD m (p + (h + 1)) 0) e₃ ∙ g₂ ∙ a₁ in
+        step-dyadic Γ (fits .sized) (le-refl h) r₄ c₄ (act .0) i₉ (act .1) (rw (left, right) (act .2)) λ v₅ r₅ c₅ a₅ _.
+        done r₅ c₅ k₉ (has-word a₅)) (omega arith)
 
     pub sim-unary : (o : ℕ) (e : Expr) → GoalE q (R.unary o e)
     unfolding evaluated exprCode FormedE monadicAct applyMonadic
     sim-unary o e p h n a b s v k f pc r =
         cut Γ (exprCode (suc (F Γ)) h n e) _ k λ b₁ k₁ k₂.
         weaken Γ (then Γ (le-refl h) (part e n k₁ f pc r) λ x s₁ v₁ x₁ y₁.
-        post-demand (y₁ .has) λ w a₁. finish w s₁ v₁ (eqb o MINUS) refl (eqb o NOT) refl (x₁ .rel) (y₁ .at) a₁ k₂) (omega arith)
-      where
-        finish : (w : ℕ) (u : State) (v₁ : Mach) (m : Bool) → eqb o MINUS ≡ m → (t : Bool) → eqb o NOT ≡ t → Rel Γ p h u v₁ → {b₁ : ℕ}
-            → v₁ .regs .c ≡ b₁ → v₁ .regs .a ≡ w
-            → Code Γ b₁ (monadicAct o) b → Runs Γ (Valued Γ b) 1 p h h u v₁ (ok (word (applyMonadic o w)) u)
-        finish w u v₁ true m t t′ r₁ c₁ a₁ k₂ =
-            cut-number Γ (rw m at k₂) λ b₃ i₃ k₃.
-            rw m (step-X2 Γ (fits .sized) (le-refl h) r₁ c₁ i₃ λ v₂ r₂ c₂ a₂. done r₂ c₂ k₃ (has-word (a₂ ∙ ap neg a₁)))
-        finish w u v₁ false m true t′ r₁ c₁ a₁ k₂ =
-            cut-number Γ (rw (m, t′) at k₂) λ b₃ i₃ k₃.
-            rw (m, t′) (step-X3 Γ (fits .sized) (le-refl h) r₁ c₁ i₃ λ v₂ r₂ c₂ a₂. done r₂ c₂ k₃ (has-word (a₂ ∙ ap complement a₁)))
-        finish w u v₁ false m false t′ r₁ c₁ a₁ k₂ =
-            let k₃ : Code Γ _ [] b = rw (m, t′) at k₂ in
-            rw (m, t′) (weaken Γ (done r₁ c₁ k₃ (has-word a₁)) (omega arith))
+        post-demand (y₁ .has) λ w a₁.
+        let acted : Runs Γ (Valued Γ b) 1 p h h s₁ v₁ (ok (word (applyMonadic o w)) s₁) =
+        by-cases (eqb o MINUS)
+        (λ m. cut-number Γ (rw m at k₂) λ b₃ i₃ k₃.
+        rw m (step-X2 Γ (fits .sized) (le-refl h) (x₁ .rel) (y₁ .at) i₃ λ v₂ r₂ c₂ a₂. done r₂ c₂ k₃ (has-word (a₂ ∙ ap neg a₁))))
+        (λ m. by-cases (eqb o NOT)
+        (λ t. cut-number Γ (rw (m, t) at k₂) λ b₃ i₃ k₃.
+        rw (m, t) (step-X3 Γ (fits .sized) (le-refl h) (x₁ .rel) (y₁ .at) i₃ λ v₂ r₂ c₂ a₂. done r₂ c₂ k₃ (has-word (a₂ ∙ ap complement a₁))))
+        (λ t. rw (m, t) (weaken Γ (done (x₁ .rel) (y₁ .at) (rw (m, t) at k₂) (has-word a₁)) (omega arith)))) in
+        acted) (omega arith)
 
     -- what VALOF makes of its command's end
     valof-end : {p h b n a : ℕ} {s : State} {v : Mach} (w : Flow) → Rel Γ p h s v → Where Γ a (inValof n) w v → Γ .lab n ≡ a → a ≡ b
