@@ -1,7 +1,6 @@
 -- The simulation of blocks: names given their words, then the commands; on leaving, the words are live no longer.
 use Rattle.laws.proofs.Basics.{ℕ, suc, _+_, _<_, _≤_, _≡_, refl, sym, _∙_, getD, le-refl, arith, le-leb, lt-leb}
-use Rattle.laws.proofs.Cases.{contradiction}
-use native.Mathlib.Decide.{ℕ-discrete, decLt}
+use Rattle.laws.proofs.Cases.{by-order, by-equal, contradiction}
 use Rattle.language.specs.Resolved as R
 use Rattle.language.specs.Resolved.{Cmds, Locals}
 use Rattle.language.specs.Heights.{heightWith}
@@ -41,15 +40,11 @@ module _ (Γ : Env) {p h : ℕ} {s : State} {v : Mach} (r : Rel Γ p h s v) wher
   new-word w e l u like =
       open-scope Γ r l (omega arith)
       (λ a k. like .cells a ∙ put-other Γ s (p + h) (holds w) a (λ q. omega arith))
-      (λ a y k g. val a y k (sym (like .cells a) ∙ g) (ℕ-discrete a (p + h)))
+      (λ a y k g. let t = sym (like .cells a) ∙ g in
+      by-equal a (p + h) (λ q. let z : holds w ≡ holds y = sym (put-same Γ s (p + h) (holds w)) ∙ (rw q at t) in rw q (e ∙ (cc)))
+      (λ q. absurd (gone-holds (r .above a k) (sym (put-other Γ s (p + h) (holds w) a q) ∙ t))))
       (λ a k. like .cells a ∙ put-other Γ s (p + h) (holds w) a (λ q. omega arith) ∙ r .above a (omega arith))
       (like .output) (like .taken) (omega (arith, like .steps))
-    where
-      val : (a y : ℕ) → p + h ≤ a → put (p + h) (holds w) (step s) .cells a ≡ holds y → Dec (a ≡ p + h) → getD (v .mem) a 0 ≡ y
-      val a y k g (yes q) =
-          let z : holds w ≡ holds y = sym (put-same Γ s (p + h) (holds w)) ∙ (rw q at g) in
-          rw q (e ∙ (cc))
-      val a y k g (no q) = absurd (gone-holds (r .above a k) (sym (put-other Γ s (p + h) (holds w) a q) ∙ g))
 
   -- a vector's name's word with its address, and its words
   pub new-vector : (n : ℕ) → getD (v .mem) (p + h) 0 ≡ p + h + 1 → p + (h + 2 + n) ≤ Γ .limit → (u : State)
@@ -57,25 +52,17 @@ module _ (Γ : Env) {p h : ℕ} {s : State} {v : Mach} (r : Rel Γ p h s v) wher
   new-vector n e l u like =
       open-scope Γ r l (omega arith)
       (λ a k. like .cells a ∙ put-other Γ vs (p + h) (holds (p + h + 1)) a (λ q. omega arith) ∙ vector-below (p + h + 1) n s a (omega arith))
-      (λ a y k g. val a y k (sym (like .cells a) ∙ g) (ℕ-discrete a (p + h)) (decLt (p + h + 1 + n) a))
+      (λ a y k g. let t = sym (like .cells a) ∙ g in
+      by-equal a (p + h) (λ q. let z : holds (p + h + 1) ≡ holds y = sym (put-same Γ vs (p + h) (holds (p + h + 1))) ∙ (rw q at t) in rw q (e ∙ (cc)))
+      (λ q. let o = sym (put-other Γ vs (p + h) (holds (p + h + 1)) a q) ∙ t in
+      by-order (p + h + 1 + n) a (λ d. absurd (gone-holds (vector-above (p + h + 1) n s a d ∙ r .above a k) o)) (λ d.
+      let z : unset ≡ holds y = sym (vector-at (p + h + 1) n s a (omega arith) d) ∙ o in contradiction cc)))
       (λ a k. like .cells a ∙ put-other Γ vs (p + h) (holds (p + h + 1)) a (λ q. omega arith) ∙ vector-above (p + h + 1) n s a (omega arith)
       ∙ r .above a (omega arith))
       (like .output) (like .taken) (omega (arith, like .steps))
     where
       vs : State
       vs = vectorWords (p + h + 1) n s
-
-      val : (a y : ℕ) → p + h ≤ a → put (p + h) (holds (p + h + 1)) vs .cells a ≡ holds y → Dec (a ≡ p + h) → Dec (p + h + 1 + n < a)
-          → getD (v .mem) a 0 ≡ y
-      val a y k g (yes q) d =
-          let z : holds (p + h + 1) ≡ holds y = sym (put-same Γ vs (p + h) (holds (p + h + 1))) ∙ (rw q at g) in
-          rw q (e ∙ (cc))
-      val a y k g (no q) (yes d) =
-          absurd (gone-holds (vector-above (p + h + 1) n s a d ∙ r .above a k) (sym (put-other Γ vs (p + h) (holds (p + h + 1)) a q) ∙ g))
-      val a y k g (no q) (no d) =
-          let z : unset ≡ holds y
-          = sym (vector-at (p + h + 1) n s a (omega arith) (omega arith)) ∙ sym (put-other Γ vs (p + h) (holds (p + h + 1)) a q) ∙ g in
-          contradiction cc
 
 module _ (Γ : Env) (fits : Fits Γ) (q : Sem) (ih : Sims Γ q) where
   pub sim-locals : (ls : Locals) (n : ℕ) {Q : Flow → Mach → Type 0} {t p h₀ h h₃ a b : ℕ} {s : State} {v : Mach} (more : State → Result Flow)

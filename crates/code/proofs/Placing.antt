@@ -1,7 +1,7 @@
 -- The assembler's image has the code of its items at their addresses.
 use Rattle.laws.proofs.Basics.{ℕ, zero, suc, _+_, _*_, _<_, _≤_, _≡_, refl, sym, ap, _∙_, List, [], _∷_, _++_, append-assoc, append-nil, Bool, true}
-use Rattle.laws.proofs.Basics.{false, cond, length, getD, length-append, List·getD-append, getD-append-add, eqb, ltb, arith, eq-eqb, ltb-true}
-use Rattle.laws.proofs.Cases.{contradiction}
+use Rattle.laws.proofs.Basics.{false, length, getD, length-append, List·getD-append, getD-append-add, eqb, ltb, arith, eq-eqb, ltb-true}
+use Rattle.laws.proofs.Cases.{by-cases, contradiction}
 use Rattle.items.specs.Item.{number, address, Base, Item, label, instruction, constant, string, global, Placed}
 use Rattle.items.specs.Render.{render}
 use Rattle.items.proofs.Rendered.{places}
@@ -104,13 +104,8 @@ module _ (memory room : ℕ) where
   found-at : (ls more : List Label) (n at : ℕ) → defined ls n ≡ false → addressOf (ls ++ (record { number = n; address = at } ∷ more)) n ≡ at
   unfolding addressOf defined
   found-at [] more n at h = rw (eq-eqb n n refl) refl
-  found-at (l ∷ ls) more n at h = go (eqb (l .number) n) h (λ k. found-at ls more n at k)
-    where
-      go : (b : Bool) → cond b true (defined ls n) ≡ false
-          → (defined ls n ≡ false → addressOf (ls ++ (record { number = n; address = at } ∷ more)) n ≡ at)
-          → cond b (l .address) (addressOf (ls ++ (record { number = n; address = at } ∷ more)) n) ≡ at
-      go true e f = cc
-      go false e f = f e
+  found-at (l ∷ ls) more n at h =
+      by-cases (eqb (l .number) n) (λ e. let z : true ≡ false = rw e at h in contradiction cc) (λ e. rw e (found-at ls more n at (rw e at h)))
 
   pub lays-end : (at p : ℕ) (ls : List Label) (xs : List Item) {labels : List Label} {end : ℕ} → Lays at ls (places p xs) labels end
       → past at xs ≡ end
@@ -175,26 +170,17 @@ module _ (memory room : ℕ) where
         → Spot labels (Γ .image) at (record { place = p; item = x } ∷ ps) → Coded at x → Is Γ at x (at + size x)
     unfolding size words operandWord short inRange operandInRange
     item-is {at} (label n) h s c = is-to (is-label (lab-is n ∙ label-found h) refl) (omega arith)
-    item-is {at} {ls = ls} (instruction f i base (number false k)) h s c = go (ltb k 512) refl c (spot-word s)
-      where
-        k< : k < 65536
-        k< = number-below false (no-fault-ranged memory room at ls (instruction f i base (number false k)) (lay-step h .0))
-
-        go : (b : Bool) → ltb k 512 ≡ b → ((j : ℕ) → j < cond (ltb k 512) 1 2 → (Γ .isCode (at + j) ≡ true) × (at + j < length (Γ .image)))
-            → ((j : ℕ) → j < length (cond (ltb k 512) ((f * 8192 + indirectBit i + baseBit base + k) ∷ [])
-            ((f * 8192 + indirectBit i + baseBit base + 512) ∷ k ∷ []))
-            → getD (Γ .image) (at + j) 0 ≡ getD (cond (ltb k 512) ((f * 8192 + indirectBit i + baseBit base + k) ∷ [])
-            ((f * 8192 + indirectBit i + baseBit base + 512) ∷ k ∷ [])) j 0)
-            → Is Γ at (instruction f i base (number false k)) (at + cond (ltb k 512) 1 2)
-        go true e c w =
-            let c′ : (j : ℕ) → j < 1 → (Γ .isCode (at + j) ≡ true) × (at + j < length (Γ .image)) = rw e at c in
-            let w′ : (j : ℕ) → j < 1 → getD (Γ .image) (at + j) 0 ≡ getD ((f * 8192 + indirectBit i + baseBit base + k) ∷ []) j 0 = rw e at w in
-            rw e (is-to (is-number (at-short f k i base (ltb-true k 512 e) (c′ 0 (omega arith)) (w′ 0 (omega arith)))) (omega arith))
-        go false e c w =
-            let c′ : (j : ℕ) → j < 2 → (Γ .isCode (at + j) ≡ true) × (at + j < length (Γ .image)) = rw e at c in
-            let w′ : (j : ℕ) → j < 2 → getD (Γ .image) (at + j) 0 ≡ getD ((f * 8192 + indirectBit i + baseBit base + 512) ∷ k ∷ []) j 0 = rw e at w in
-            rw e (is-to (is-number (at-long f k i base k< (c′ 0 (omega arith)) (c′ 1 (omega arith)) (w′ 0 (omega arith)) (w′ 1 (omega arith))))
-            (omega arith))
+    item-is {at} {ls = ls} (instruction f i base (number false k)) h s c =
+        let k< = number-below false (no-fault-ranged memory room at ls (instruction f i base (number false k)) (lay-step h .0)) in
+        let first = f * 8192 + indirectBit i + baseBit base in
+        by-cases (ltb k 512)
+        (λ e. let c′ : (j : ℕ) → j < 1 → (Γ .isCode (at + j) ≡ true) × (at + j < length (Γ .image)) = rw e at c in
+        let w′ : (j : ℕ) → j < 1 → getD (Γ .image) (at + j) 0 ≡ getD ((first + k) ∷ []) j 0 = rw e at (spot-word s) in
+        rw e (is-to (is-number (at-short f k i base (ltb-true k 512 e) (c′ 0 (omega arith)) (w′ 0 (omega arith)))) (omega arith)))
+        (λ e. let c′ : (j : ℕ) → j < 2 → (Γ .isCode (at + j) ≡ true) × (at + j < length (Γ .image)) = rw e at c in
+        let w′ : (j : ℕ) → j < 2 → getD (Γ .image) (at + j) 0 ≡ getD ((first + 512) ∷ k ∷ []) j 0 = rw e at (spot-word s) in
+        rw e (is-to (is-number (at-long f k i base k< (c′ 0 (omega arith)) (c′ 1 (omega arith)) (w′ 0 (omega arith)) (w′ 1 (omega arith))))
+        (omega arith)))
     item-is {at} {ls = ls} (instruction f i base (number true k)) h s c = is-minus
     item-is {at} {ls = ls} (instruction f i base (address l)) h s c =
         let r : (1 ≤ l) × (l ≤ 32767) = label-range l (no-fault-ranged memory room at ls (instruction f i base (address l)) (lay-step h .0)) in

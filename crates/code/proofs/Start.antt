@@ -1,6 +1,6 @@
 -- The start: the machine at word 0 of an accepted image and the source run's first state are related, and the call of START follows.
-use Rattle.laws.proofs.Basics.{ℕ, suc, _+_, _-_, _<_, _≤_, _≡_, refl, _∙_, List, [], _∷_, Bool, true, false, cond, Option, some, none, length, getD}
-use Rattle.laws.proofs.Basics.{eqb, ltb, leb, le-refl, arith, ltb-true, le-ltb, leb-true, leb-false, le-leb, lt-leb}
+use Rattle.laws.proofs.Basics.{ℕ, suc, _+_, _-_, _<_, _≤_, _≡_, refl, _∙_, List, [], _∷_, true, false, cond, Option, some, none, length, getD, eqb}
+use Rattle.laws.proofs.Basics.{ltb, leb, le-refl, arith, ltb-true, lt-ltb, le-ltb, leb-true, le-leb, lt-leb}
 use Rattle.laws.proofs.Cases.{by-order, contradiction}
 use Rattle.text.specs.Packed.{packed}
 use Rattle.words.specs.Globals.{noGlobals}
@@ -39,24 +39,16 @@ record Stringed (mem : List ℕ) (a b x : ℕ) (c : Cell) : Type 0 where
 one-string : {mem : List ℕ} {a c b x : ℕ} (ws : List ℕ) (d : Cell) → ((j : ℕ) → j < length ws → getD mem (a + j) 0 ≡ getD ws j 0) → a + length ws ≡ c
     → c ≤ b → Stringed mem c b x d
     → Stringed mem a b x (cond (leb a x) (cond (ltb x (a + length ws)) (holds (getD ws (x - a) 0)) d) d)
-one-string {mem} {a} {c} {b} {x} ws d f e l s = go (leb a x) refl (ltb x (a + length ws)) refl
-  where
-    go : (p : Bool) → leb a x ≡ p → (q : Bool) → ltb x (a + length ws) ≡ q → Stringed mem a b x (cond p (cond q (holds (getD ws (x - a) 0)) d) d)
-    go false ep q eq =
-        let u : x < a = leb-false a x ep in
-        record { before = λ h. s .before (omega arith); past-end = s .past-end; value = s .value }
-    go true ep false eq =
-        let u : a ≤ x = leb-true a x ep in
-        record { before = λ h. absurd (omega arith); past-end = s .past-end; value = s .value }
-    go true ep true eq =
-        let u : a ≤ x = leb-true a x ep in
-        let v : x < a + length ws = ltb-true x (a + length ws) eq in
-        let z : a + (x - a) ≡ x = omega arith in
-        record {
-          before = λ h. absurd (omega arith);
-          past-end = λ h. absurd (omega arith);
-          value = λ w h. let k : getD ws (x - a) 0 ≡ w = cc in (rw z at (f (x - a) (omega arith))) ∙ k;
-        }
+one-string {mem} {a} {c} {b} {x} ws d f e l s =
+    by-order x a (λ u. rw (lt-leb a x u) (record { before = λ h. s .before (omega arith); past-end = s .past-end; value = s .value })) (λ u.
+    by-order x (a + length ws)
+    (λ v. let z : a + (x - a) ≡ x = omega arith in
+    rw (le-leb a x u, lt-ltb x (a + length ws) v) (record {
+      before = λ h. absurd (omega arith);
+      past-end = λ h. absurd (omega arith);
+      value = λ w h. let k : getD ws (x - a) 0 ≡ w = cc in (rw z at (f (x - a) (omega arith))) ∙ k;
+    }))
+    (λ v. rw (le-leb a x u, le-ltb x (a + length ws) v) (record { before = λ h. absurd (omega arith); past-end = s .past-end; value = s .value })))
 
 string-cells : (Γ : Env) (table : List Label) → ((n : ℕ) → 1 ≤ n → addressOf table n ≡ Γ .lab n) → (x l : ℕ) (ss : List (List ℕ)) {a b : ℕ} → 1 ≤ l
     → Code Γ a (stringsCode l ss) b
@@ -94,9 +86,11 @@ module _
     globals-at = refl;
     room = l;
     base = G.code-below input b;
-    vals = λ a w g. val a w (leb 16 a) refl (ltb a 416) refl g;
+    vals = val;
     above = λ a k. out a (omega arith) (cells-of a .past-end (omega (arith, G.strings-first input b)));
-    code-gone = λ a c. lost a (ltb a 16) refl (leb 416 a) refl (ltb a (G.codeEnd input b)) refl c;
+    code-gone = λ a c. by-order a 16 (λ u. rw (lt-leb 16 a u) refl) (λ u.
+        by-order a 416 (λ t. let z : false ≡ true = rw (le-ltb a 16 u, lt-leb 416 a t) at c in contradiction cc) (λ t.
+        out a t (cells-of a .before (ltb-true a _ (rw (le-ltb a 16 u, le-leb 416 a t) at c)))));
     bytes = refl;
     taken = refl;
   }
@@ -104,24 +98,15 @@ module _
       out : (a : ℕ) → 416 ≤ a → stringCell ss (Γ .place .strings) a ≡ gone → s₀ .cells a ≡ gone
       out a k g = rw (le-leb 16 a (omega arith), le-ltb a 416 k) g
 
-      val : (a w : ℕ) → (p : Bool) → leb 16 a ≡ p → (q : Bool) → ltb a 416 ≡ q
-          → cond p (cond q (holds (getD (globalsWith fs (Γ .place .entries) noGlobals) (a - 16) 0))
-          (stringCell ss (Γ .place .strings) a)) gone ≡ holds w → getD mem a 0 ≡ w
-      val a w false ep q eq g = cc
-      val a w true ep false eq g = cells-of a .value w g
-      val a w true ep true eq g =
-          let u : 16 ≤ a = leb-true 16 a ep in
-          let t : a < 416 = ltb-true a 416 eq in
+      val : (a w : ℕ) → s₀ .cells a ≡ holds w → getD mem a 0 ≡ w
+      val a w g =
+          by-order a 16 (λ u. let z : gone ≡ holds w = rw (lt-leb 16 a u) at g in contradiction cc) (λ u.
+          by-order a 416
+          (λ t. let c : holds (getD (globalsWith fs (Γ .place .entries) noGlobals) (a - 16) 0) ≡ holds w = rw (le-leb 16 a u, lt-ltb a 416 t) at g in
           let z : 16 + (a - 16) ≡ a = omega arith in
           let k : getD (globalsWith fs (Γ .place .entries) noGlobals) (a - 16) 0 ≡ w = cc in
-          (rw z at (G.global-word input b (a - 16) (omega arith))) ∙ k
-
-      lost : (a : ℕ) → (p : Bool) → ltb a 16 ≡ p → (q : Bool) → leb 416 a ≡ q → (r : Bool) → ltb a (G.codeEnd input b) ≡ r
-          → cond p true (cond q r false) ≡ true → s₀ .cells a ≡ gone
-      lost a true ep q eq r er g = let u : a < 16 = ltb-true a 16 ep in rw (lt-leb 16 a u) refl
-      lost a false ep true eq true er g = out a (leb-true 416 a eq) (cells-of a .before (ltb-true a _ er))
-      lost a false ep true eq false er g = cc
-      lost a false ep false eq r er g = cc
+          (rw z at (G.global-word input b (a - 16) (omega arith))) ∙ k)
+          (λ t. cells-of a .value w (rw (le-leb 16 a u, le-ltb a 416 t) at g)))
 
   -- a frame past the limit
   no-room : {A : Type 0} {Q : A → State → Type 0} {L E : State → Type 0} (limit base k : ℕ) (s : State) (more : State → Result A) → limit < base

@@ -1,7 +1,7 @@
 -- The simulation of SWITCHON: the machine's search goes to the command that the source selects, or to the end.
-use Rattle.laws.proofs.Basics.{ℕ, suc, _+_, _≡_, refl, sym, ap, _∙_, List, [], _∷_, Bool, true, false, cond, Option, some, none, length, eqb, le-refl}
-use Rattle.laws.proofs.Basics.{arith, eqb-true, eqb-false, eq-eqb, ne-eqb, lt-ltb}
-use Rattle.laws.proofs.Cases.{by-cases}
+use Rattle.laws.proofs.Basics.{ℕ, suc, _+_, _≡_, refl, sym, ap, _∙_, List, [], _∷_, Bool, cond, Option, some, none, length, le-refl, arith, eq-eqb}
+use Rattle.laws.proofs.Basics.{ne-eqb, lt-ltb}
+use Rattle.laws.proofs.Cases.{by-cases, by-equal}
 use Rattle.words.specs.Words.{add}
 use Rattle.machine.specs.Outcome as O
 use Rattle.machine.specs.Acts.{search}
@@ -60,15 +60,8 @@ module _ (Γ : Env) (sized : Sized Γ) (m : List ℕ) (agree : Agree Γ m) (w d 
       cut-word Γ k λ x k₁.
       cut-place Γ k₁ λ y k₂.
       let z : suc (casesOf ls) + n ≡ suc (casesOf ls + n) = omega arith in
-      rw z (go x y (search-labels l ls n k₂) (eqb v w) refl)
-    where
-      go : Word Γ i v → Word Γ (suc i) (Γ .lab l)
-          → search m w d (casesOf ls + n) (suc (suc i)) ≡ cond (hasCase w ls) (O.ok (Γ .lab l)) (search m w d n j) → (b : Bool) → eqb v w ≡ b
-          → search m w d (suc (casesOf ls + n)) i ≡ cond (cond (eqb w v) true (hasCase w ls)) (O.ok (Γ .lab l)) (search m w d n j)
-      go x y k₂ true e = let q : v ≡ w = eqb-true v w e in rw (pair-hit (casesOf ls + n) x y q, eq-eqb w v (sym q)) refl
-      go x y k₂ false e =
-          let q : v ≡ w → ⊥ = eqb-false v w e in
-          rw (ne-eqb w v (λ t. q (sym t))) (pair-miss (casesOf ls + n) x y q ∙ k₂)
+      rw z (by-equal v w (λ q. rw (pair-hit (casesOf ls + n) x y q, eq-eqb w v (sym q)) refl) (λ q.
+      rw (ne-eqb w v (λ t. q (sym t))) (pair-miss (casesOf ls + n) x y q ∙ search-labels l ls n k₂)))
 
   search-table : (l other : ℕ) (cs : Cases) {i j : ℕ} → d ≡ Γ .lab other → Code Γ i (tableOf l cs) j
       → search m w d (caseCount cs) i ≡ O.ok (Γ .lab (labelAt (hasCase w) l other cs))
@@ -94,12 +87,8 @@ module _ (Γ : Env) where
   chosen {h} {b} {x} test l n other (R.cases ls c cs) {a} {cs′} k f o =
       cut-label Γ k λ e k₀.
       cut Γ (cmdCode (suc (F Γ)) h n x c) _ k₀ λ b₁ k₁ k₂.
-      go (test ls) (record { first = l; labels = n; code = rw e k; formed = f }) (chosen test (suc l) (n + cmdLabels c) other cs k₂ (f .1) o)
-    where
-      go : (t : Bool) → Chosen h b x (R.cases ls c cs) l → Chosen h b x (orElse (from test cs) cs′) (labelAt test (suc l) other cs)
-          → Chosen h b x (orElse (cond t (some (R.cases ls c cs)) (from test cs)) cs′) (cond t l (labelAt test (suc l) other cs))
-      go true y z = y
-      go false y z = z
+      by-cases (test ls) (λ t. rw t (record { first = l; labels = n; code = rw e k; formed = f })) (λ t.
+      rw t (chosen test (suc l) (n + cmdLabels c) other cs k₂ (f .1) o))
 
   module _ (fits : Fits Γ) (q : Sem) (ih : Sims Γ q) where
     sim-cases : (cs : Cases) (l n : ℕ) {p h a b : ℕ} {x : Exits} {s : State} {v : Mach} → Code Γ a (casesCode (suc (F Γ)) h l n x cs) b
