@@ -2,7 +2,7 @@
 -- closed; and a REPEAT form takes three bytes, a string its characters and two, any other one.
 use Rattle.laws.proofs.Basics.{ℕ, suc, _+_, _-_, _<_, _≤_, min, _≡_, refl, List, [], _∷_, Bool, true, false, not, _&&_, cond, length, take, drop}
 use Rattle.laws.proofs.Basics.{length-take, length-drop, eqb, leb, arith, eqb-true, eqb-false, ne-eqb, leb-true, not-true}
-use Rattle.laws.proofs.Cases.{contradiction, both-true}
+use Rattle.laws.proofs.Cases.{by-choice, contradiction, both-true}
 use Rattle.text.specs.Quoted.{Quoted, closed, unclosed, faulty, charactersOf, quoted}
 use Rattle.text.proofs.Quotes.{Closed, is-closed, each-byte}
 use Rattle.language.specs.Kinds.{Spelled, member, NAME, NUMBER, STRING, reserved, signs}
@@ -84,11 +84,7 @@ spelling-in (w ∷ ws) bs h =
 word-within : (bs : List ℕ) → wordWidth bs ≤ length bs
 unfolding wordWidth
 word-within [] = omega arith
-word-within (c ∷ r) = go (inWord (classOf c)) (word-within r)
-  where
-    go : (b : Bool) → wordWidth r ≤ length r → elim b [ true ↦ suc (wordWidth r) | false ↦ 0 ] ≤ suc (length r)
-    go true l = omega arith
-    go false l = omega arith
+word-within (c ∷ r) = by-choice (λ n. n ≤ suc (length r)) (inWord (classOf c)) (omega (arith, word-within r)) (omega arith)
 
 either : {bs : List ℕ} (b : Bool) {x y : Element} → (b ≡ true → KnownElement bs x) → KnownElement bs y → KnownElement bs (cond b x y)
 either true f g = f refl

@@ -1,7 +1,7 @@
 -- A tree without refusals, after it is resolved: it is formed, and, for refusal 13, has BREAK and LOOP in loops, ENDCASE in a SWITCHON and
 -- RESULTIS in a VALOF only.
-use Rattle.laws.proofs.Basics.{ℕ, _+_, _≡_, refl, sym, _∙_, List, [], _∷_, _++_, Bool, true, false, cond, length, eqb, arith, eqb-true}
-use Rattle.laws.proofs.Cases.{by-cases, by-cond, contradiction}
+use Rattle.laws.proofs.Basics.{ℕ, _+_, _≡_, refl, _∙_, List, [], _∷_, _++_, Bool, true, false, cond, length, eqb, arith, ne-eqb}
+use Rattle.laws.proofs.Cases.{by-cases, by-equal, by-cond, contradiction}
 use Rattle.language.specs.Kinds.{member, IF, UNLESS, WHILE, UNTIL, REPEATWHILE, BREAK, LOOP, ENDCASE, RETURN}
 use Rattle.language.specs.Binding.{isGuard}
 use Rattle.language.specs.Tree as T
@@ -167,23 +167,13 @@ good-guard : (functions strings : ℕ) (l : Leavable) (h w : ℕ) (e : Expr) (c 
     → (x ≡ [] → FormedC functions strings h c × Leave l c) → (y ≡ [] → FormedC functions strings h c × Leave (inLoop l) c)
     → Both functions strings l h (cond (eqb w WHILE) (R.while true e c) (cond (eqb w UNTIL) (R.while false e c) (R.when (eqb w IF) e c)))
 unfolding FormedE LeavesE isGuard member
-good-guard functions strings l h w e c {x} {y} g p n f k = go (eqb w IF) refl (eqb w UNLESS) refl (eqb w WHILE) refl (eqb w UNTIL) refl g n
-  where
-    no : {P : Type 0} → (i j : ℕ) → w ≡ i → w ≡ j → (i ≡ j → ⊥) → P
-    no i j a b h = absurd (h (sym a ∙ b))
-
-    go : (a : Bool) → eqb w IF ≡ a → (b : Bool) → eqb w UNLESS ≡ b → (c₁ : Bool) → eqb w WHILE ≡ c₁ → (d : Bool) → eqb w UNTIL ≡ d
-        → cond a true (cond b true (cond c₁ true (cond d true false))) ≡ true → cond a x (cond b x y) ≡ []
-        → Both functions strings l h (cond c₁ (R.while true e c) (cond d (R.while false e c) (R.when a e c)))
-    go true ea b eb true ec d ed g n = no IF WHILE (eqb-true _ _ ea) (eqb-true _ _ ec) (λ z. omega arith)
-    go true ea b eb false ec true ed g n = no IF UNTIL (eqb-true _ _ ea) (eqb-true _ _ ed) (λ z. omega arith)
-    go true ea b eb false ec false ed g n = ((p .0, f n .0), (p .1, f n .1))
-    go false ea true eb true ec d ed g n = no UNLESS WHILE (eqb-true _ _ eb) (eqb-true _ _ ec) (λ z. omega arith)
-    go false ea true eb false ec true ed g n = no UNLESS UNTIL (eqb-true _ _ eb) (eqb-true _ _ ed) (λ z. omega arith)
-    go false ea true eb false ec false ed g n = ((p .0, f n .0), (p .1, f n .1))
-    go false ea false eb true ec d ed g n = ((p .0, k n .0), (p .1, k n .1))
-    go false ea false eb false ec true ed g n = ((p .0, k n .0), (p .1, k n .1))
-    go false ea false eb false ec false ed g n = contradiction cc
+good-guard functions strings l h w e c {x} {y} g p n f k =
+    by-equal w IF (λ q. let m : x ≡ [] = rw q at n in rw q ((p .0, f m .0), (p .1, f m .1))) (λ a.
+    by-equal w UNLESS (λ q. let m : x ≡ [] = rw q at n in rw q ((p .0, f m .0), (p .1, f m .1))) (λ b.
+    let m : y ≡ [] = rw (ne-eqb w IF a, ne-eqb w UNLESS b) at n in
+    by-equal w WHILE (λ q. rw q ((p .0, k m .0), (p .1, k m .1))) (λ d.
+    by-equal w UNTIL (λ q. rw q ((p .0, k m .0), (p .1, k m .1))) (λ o.
+    let z : false ≡ true = rw (ne-eqb w IF a, ne-eqb w UNLESS b, ne-eqb w WHILE d, ne-eqb w UNTIL o) at g in contradiction cc))))
 
 -- ---- a tree without refusals: it is formed, and leaves only what is there
 

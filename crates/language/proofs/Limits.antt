@@ -1,6 +1,7 @@
 -- The greatest use only grows, and a run that uses no word from a limit on is the run in a memory of that many words.
-use Rattle.laws.proofs.Basics.{ℕ, zero, suc, _+_, _<_, _≤_, _≡_, refl, ap, _∙_, List, [], Bool, true, false, cond, ltb, leb, le-refl, le-trans, arith}
-use Rattle.laws.proofs.Basics.{ltb-true, ltb-false, leb-false}
+use Rattle.laws.proofs.Basics.{ℕ, zero, suc, _+_, _≤_, _≡_, refl, ap, _∙_, List, [], cond, ltb, leb, le-refl, le-trans, arith, lt-ltb, le-ltb, le-leb}
+use Rattle.laws.proofs.Basics.{lt-leb}
+use Rattle.laws.proofs.Cases.{by-order, by-cond}
 use Rattle.language.specs.Resolved.{Expr, Cmd, Fun}
 use Rattle.language.specs.State.{State, Result, unfinished, undefined, finished, returned, ok}
 use Rattle.language.specs.Run.{Placement, Sem, Loop, reach, called, sem}
@@ -37,23 +38,15 @@ module _ (limit : ℕ) where
 
   both-reach : {A : Type 0} (memory p k : ℕ) (s : State) {f g : State → Result A} → ((u : State) → Both limit (u .used) (f u) (g u))
       → Both limit (s .used) (reach memory p k s f) (reach limit p k s g)
-  both-reach memory p k s {f} {g} h = go (leb (p + k) memory) (leb (p + k) limit) refl (ltb (s .used) (p + k)) refl
-    where
-      u : Bool → State
-      u b = record { cells = s .cells; taken = s .taken; output = s .output; steps = s .steps; used = cond b (p + k) (s .used) }
-
-      grown : (b : Bool) → ltb (s .used) (p + k) ≡ b → (s .used ≤ u b .used) × (p + k ≤ u b .used)
-      grown true e = let l : s .used < p + k = ltb-true _ _ e in (omega arith, le-refl (p + k))
-      grown false e = (le-refl (s .used), ltb-false _ _ e)
-
-      go : (a b : Bool) → leb (p + k) limit ≡ b → (c : Bool) → ltb (s .used) (p + k) ≡ c
-          → Both limit (s .used) (cond a (f (u c)) undefined) (cond b (g (u c)) undefined)
-      go false b eb c ec = b-undefined
-      go true true eb c ec = both-from (grown c ec .0) (λ j. refl) (h (u c))
-      go true false eb c ec =
-          let l : limit < p + k = leb-false _ _ eb in
-          let m : p + k ≤ u c .used = grown c ec .1 in
-          both-from (grown c ec .0) (λ j. absurd (omega arith)) (h (u c))
+  both-reach memory p k s {f} {g} h =
+      let n : ℕ = cond (ltb (s .used) (p + k)) (p + k) (s .used) in
+      let u : State = record { cells = s .cells; taken = s .taken; output = s .output; steps = s .steps; used = n } in
+      let grown : (s .used ≤ n) × (p + k ≤ n) = by-order (s .used) (p + k) (λ l. rw (lt-ltb (s .used) (p + k) l) (omega arith, omega arith)) (λ l.
+      rw (le-ltb (s .used) (p + k) l) (omega arith, omega arith)) in
+      by-cond (λ x. Both limit (s .used) x (cond (leb (p + k) limit) (g u) undefined)) (leb (p + k) memory)
+      (by-order limit (p + k) (λ l. rw (lt-leb (p + k) limit l) (both-from (grown .0) (λ j. absurd (omega (arith, grown .1))) (h u))) (λ l.
+      rw (le-leb (p + k) limit l) (both-from (grown .0) (λ j. refl) (h u))))
+      b-undefined
 
   bounded : (memory : ℕ) → Closed 0 memory limit Bounded
   bounded memory =

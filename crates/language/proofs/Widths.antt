@@ -1,13 +1,13 @@
 -- A source is at least as long as its symbols: a REPEAT form three bytes, a string its characters and two, any other one.
-use Rattle.laws.proofs.Basics.{ℕ, zero, suc, _+_, _-_, _≤_, _≡_, refl, List, [], _∷_, Bool, true, false, cond, length, drop, eqb, arith, eqb-true}
-use Rattle.laws.proofs.Cases.{contradiction}
+use Rattle.laws.proofs.Basics.{ℕ, zero, suc, _+_, _-_, _≤_, _≡_, refl, List, [], _∷_, cond, length, drop, eqb, arith, ne-eqb}
+use Rattle.laws.proofs.Cases.{by-equal, by-cond}
 use Rattle.language.specs.Bytes.{classOf}
 use Rattle.language.specs.Kinds.{member, STRING, SEMICOLON}
 use Rattle.language.specs.Binding.{isRepeat}
 use Rattle.language.specs.Symbols.{Symbol, Element, symbol, gap, wrong, byClass, Scan, onElement, scanFrom, scan}
 use Rattle.language.specs.Whole.{stringsAmong}
 use Rattle.language.proofs.Elements.{needs, KnownElement, a-symbol, known-element}
-use Rattle.language.proofs.SymbolFacts.{charactersAt, next-drop, cost, countStrings}
+use Rattle.language.proofs.SymbolFacts.{weight, charactersAt, next-drop, cost, countStrings}
 
 -- the bytes of strings, with their quotes
 unfoldable pub stringBytes : List (List ℕ) → ℕ
@@ -46,18 +46,11 @@ module _ (text : List ℕ) where
   count-covers : (xs : List Symbol) → cost 3 xs + countStrings xs ≤ covers xs
   unfolding cost countStrings covers isRepeat member
   count-covers [] = omega arith
-  count-covers (x ∷ xs) = go (eqb (x .kind) SEMICOLON) (isRepeat (x .kind)) refl (eqb (x .kind) STRING) refl (count-covers xs)
-    where
-      go : (a b : Bool) → isRepeat (x .kind) ≡ b → (c : Bool) → eqb (x .kind) STRING ≡ c → cost 3 xs + countStrings xs ≤ covers xs
-          → (cond a 0 (cond b 3 1) + cost 3 xs) + cond c (suc (countStrings xs)) (countStrings xs) ≤ cond b 3
-          (cond c (length (charactersAt text (x .place)) + 2) 1) + covers xs
-      go a true e true f l = let q : x .kind ≡ STRING = eqb-true _ _ f in let z : false ≡ true = rw q at e in contradiction cc
-      go true true e false f l = omega arith
-      go true false e true f l = omega arith
-      go true false e false f l = omega arith
-      go false true e false f l = omega arith
-      go false false e true f l = omega arith
-      go false false e false f l = omega arith
+  count-covers (x ∷ xs) =
+      by-equal (x .kind) STRING (λ q. rw q (omega (arith, count-covers xs))) (λ q.
+      let w : weight 3 (x .kind) ≤ cond (isRepeat (x .kind)) 3 1
+      = by-cond (λ n. n ≤ cond (isRepeat (x .kind)) 3 1) (eqb (x .kind) SEMICOLON) (omega arith) (omega arith) in
+      rw (ne-eqb (x .kind) STRING q) (omega (arith, count-covers xs)))
 
   -- symbols with REPEAT forms as three, and strings once more
   pub covered : cost 3 (scan text .symbols) + countStrings (scan text .symbols) ≤ length text
@@ -66,15 +59,8 @@ module _ (text : List ℕ) where
   bytes-covers : (xs : List Symbol) → stringBytes (stringsAmong text xs) ≤ covers xs
   unfolding stringBytes stringsAmong covers isRepeat member
   bytes-covers [] = omega arith
-  bytes-covers (x ∷ xs) = go (isRepeat (x .kind)) refl (eqb (x .kind) STRING) refl (bytes-covers xs)
-    where
-      go : (b : Bool) → isRepeat (x .kind) ≡ b → (c : Bool) → eqb (x .kind) STRING ≡ c → stringBytes (stringsAmong text xs) ≤ covers xs
-          → stringBytes (cond c (charactersAt text (x .place) ∷ stringsAmong text xs) (stringsAmong text xs)) ≤ cond b 3
-          (cond c (length (charactersAt text (x .place)) + 2) 1) + covers xs
-      go true e true f l = let q : x .kind ≡ STRING = eqb-true _ _ f in let z : false ≡ true = rw q at e in contradiction cc
-      go true e false f l = omega arith
-      go false e true f l = omega arith
-      go false e false f l = omega arith
+  bytes-covers (x ∷ xs) =
+      by-equal (x .kind) STRING (λ q. rw q (omega (arith, bytes-covers xs))) (λ q. rw (ne-eqb (x .kind) STRING q) (omega (arith, bytes-covers xs)))
 
   pub string-bytes : stringBytes (stringsAmong text (scan text .symbols)) ≤ length text
   string-bytes = omega (arith, covers-scan, bytes-covers (scan text .symbols))
