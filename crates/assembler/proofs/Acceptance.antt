@@ -13,7 +13,7 @@ use Rattle.words.specs.Globals.{noGlobals}
 use Rattle.assembler.specs.Passes.{put, filled}
 use Rattle.assembler.specs.declared.Assembled.the-variants.{Accepted, Refused}
 use Rattle.assembler.proofs.Operands.{label-range}
-use Rattle.assembler.proofs.Faults.{no-fault-ranged, no-fault-placed, no-fault-fits, label-placed}
+use Rattle.assembler.proofs.Faults.{laid-first, no-fault-ranged, no-fault-placed, no-fault-fits, label-placed}
 use Rattle.assembler.proofs.Writing.{length-put}
 use Rattle.assembler.proofs.Image.{ending, Ends, laid-ends, image-is}
 use Rattle.assembler.proofs.Assembling.{length-fixed}
@@ -75,15 +75,10 @@ module _ (memory room : ℕ) where
       → lay memory room at labels items ≡ laid ls end → Proper memory ls
   unfolding lay
   laid-proper at labels [] {ls} a p h = let z : labels ≡ ls = cc in rw z at p
-  laid-proper at labels (q ∷ qs) {ls} {end} a p h =
-      go (fault memory room at labels (q .item)) refl (λ b r k. laid-proper (at + size (q .item)) (noted at labels (q .item)) qs b r k)
-    where
-      go : (n : ℕ) → fault memory room at labels (q .item) ≡ n
-          → (at + size (q .item) ≤ memory → Proper memory (noted at labels (q .item)) → lay memory room (at + size (q .item))
-          (noted at labels (q .item)) qs ≡ laid ls end → Proper memory ls)
-          → Proper memory ls
-      go zero e more = more (no-fault-fits memory room at labels (q .item) e a) (noted-proper at labels (q .item) a e p) (rw e at h)
-      go (suc k) e more = let y : refused (suc k) (q .place) ≡ laid ls end = rw e at h in contradiction cc
+  laid-proper at labels (q ∷ qs) a p h =
+      let f = laid-first memory room at labels q qs h in
+      laid-proper (at + size (q .item)) (noted at labels (q .item)) qs (no-fault-fits memory room at labels (q .item) (f .0) a)
+      (noted-proper at labels (q .item) a (f .0) p) (f .1)
 
 -- ---- the image
 

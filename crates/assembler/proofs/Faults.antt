@@ -1,10 +1,10 @@
 -- An item's fault: out of range, or by what `misplaced` says of one in range; and what an item without fault satisfies.
-use Rattle.laws.proofs.Basics.{ℕ, _+_, _<_, _≤_, _≡_, List, true, false, length, ltb, arith, ltb-false, le-leb}
-use Rattle.laws.proofs.Cases.{by-cases, by-order}
+use Rattle.laws.proofs.Basics.{ℕ, zero, suc, _+_, _<_, _≤_, _≡_, refl, List, _∷_, true, false, length, ltb, arith, ltb-false, le-leb}
+use Rattle.laws.proofs.Cases.{by-cases, by-order, contradiction}
 use Rattle.items.specs.Item as I
 use Rattle.assembler.specs.Words.{inRange, size}
 use Rattle.assembler.specs.declared.Label.{Label}
-use Rattle.assembler.specs.Layout.{defined, misplaced, fault}
+use Rattle.assembler.specs.Layout.{defined, noted, Laid, laid, onFault, misplaced, fault, lay}
 use Rattle.assembler.specs.Passes.{labelFault, beyond}
 use Rattle.assembler.proofs.Operands.{label-range}
 
@@ -16,6 +16,22 @@ module _ (memory room at : ℕ) (labels : List Label) (i : I.Item) where
   pub fault-in : {r : ℕ} → inRange i ≡ true → r ≡ misplaced memory room at labels i → r ≡ fault memory room at labels i
   unfolding fault
   fault-in h e = rw h e
+
+-- ---- the first item of a layout: where there is a layout, it has no fault
+
+no-fault : (number place : ℕ) {o : Laid} {ls : List Label} {end : ℕ} → onFault number place o ≡ laid ls end → (number ≡ 0) × (o ≡ laid ls end)
+no-fault zero place h = (refl, h)
+no-fault (suc k) place h = contradiction cc
+
+pub laid-first : (memory room at : ℕ) (labels : List Label) (p : I.Placed) (ps : List I.Placed) {ls : List Label} {end : ℕ}
+    → lay memory room at labels (p ∷ ps) ≡ laid ls end
+    → (fault memory room at labels (p .item) ≡ 0) × (lay memory room (at + size (p .item)) (noted at labels (p .item)) ps ≡ laid ls end)
+unfolding lay
+laid-first memory room at labels p ps h = no-fault (fault memory room at labels (p .item)) (p .place) h
+
+pub on-fault-alike : (number place : ℕ) {o o′ : Laid} → (number ≡ 0 → o ≡ o′) → onFault number place o ≡ onFault number place o′
+on-fault-alike zero place h = h refl
+on-fault-alike (suc k) place h = refl
 
 -- ---- what an item without fault satisfies
 

@@ -1,18 +1,18 @@
 -- The memory after every item is the image: items written one after another are words in a row, and globals beside them.
-use Rattle.laws.proofs.Basics.{ℕ, zero, suc, _+_, _-_, _<_, _≤_, _≡_, refl, ap, _∙_, List, [], _∷_, _++_, append-assoc, append-nil, true, length, set}
-use Rattle.laws.proofs.Basics.{drop, replicate, length-append, length-set, length-replicate, replicate-append-replicate, take-at, drop-at}
-use Rattle.laws.proofs.Basics.{drop-append-add, sets, sets-eq, sub-zero, arith}
-use Rattle.laws.proofs.Cases.{by-cases, contradiction}
+use Rattle.laws.proofs.Basics.{ℕ, suc, _+_, _-_, _<_, _≤_, _≡_, refl, ap, _∙_, List, [], _∷_, _++_, append-assoc, append-nil, true, length, set, drop}
+use Rattle.laws.proofs.Basics.{replicate, length-append, length-set, length-replicate, replicate-append-replicate, take-at, drop-at, drop-append-add}
+use Rattle.laws.proofs.Basics.{sets, sets-eq, sub-zero, arith}
+use Rattle.laws.proofs.Cases.{by-cases}
 use lib.Seq.{set-append-left}
 use Rattle.items.specs.Item as I
 use Rattle.assembler.specs.Words.{short, inRange, size, words}
 use Rattle.text.proofs.Packed.{length-pairs}
 use Rattle.assembler.specs.declared.Label.{Label}
-use Rattle.assembler.specs.Layout.{addressOf, noted, laid, refused, fault, lay}
+use Rattle.assembler.specs.Layout.{addressOf, noted, laid, lay}
 use Rattle.assembler.specs.Assemble.{start, globalsAfter, globals, program, image}
 use Rattle.words.specs.Globals.{noGlobals}
 use Rattle.assembler.specs.Passes.{put, filled, FitsAll}
-use Rattle.assembler.proofs.Faults.{no-fault-ranged, no-fault-fits}
+use Rattle.assembler.proofs.Faults.{laid-first, no-fault-ranged, no-fault-fits}
 use Rattle.assembler.proofs.Writing.{global-range}
 
 -- ---- lists
@@ -65,17 +65,10 @@ module _ (memory room : ℕ) where
   unfolding lay ending FitsAll
   laid-ends at labels [] {ls} {end} l h = let z : at ≡ end = cc in record { fits = tt; ends = z; within = rw z at l }
   laid-ends at labels (p ∷ ps) {ls} {end} l h =
-      go (fault memory room at labels (p .item)) refl (λ b k. laid-ends (at + size (p .item)) (noted at labels (p .item)) ps b k)
-    where
-      go : (n : ℕ) → fault memory room at labels (p .item) ≡ n
-          → (at + size (p .item) ≤ memory → lay memory room (at + size (p .item)) (noted at labels (p .item)) ps ≡ laid ls end → Ends memory
-          (at + size (p .item)) ps end)
-          → Ends memory at (p ∷ ps) end
-      go zero e more =
-          let b : at + size (p .item) ≤ memory = no-fault-fits memory room at labels (p .item) e l in
-          let r : Ends memory (at + size (p .item)) ps end = more b (rw e at h) in
-          record { fits = (no-fault-ranged memory room at labels (p .item) e, b, r .fits); ends = r .ends; within = r .within }
-      go (suc k) e more = let y : refused (suc k) (p .place) ≡ laid ls end = rw e at h in contradiction cc
+      let f = laid-first memory room at labels p ps h in
+      let b = no-fault-fits memory room at labels (p .item) (f .0) l in
+      let r : Ends memory (at + size (p .item)) ps end = laid-ends (at + size (p .item)) (noted at labels (p .item)) ps b (f .1) in
+      record { fits = (no-fault-ranged memory room at labels (p .item) (f .0), b, r .fits); ends = r .ends; within = r .within }
 
 -- ---- one item after another, past a start of 16 words
 

@@ -1,8 +1,8 @@
 -- The index of the labels: what its entries say, what a new one adds, and that it serves for the records in both passes.
-use Rattle.laws.proofs.Basics.{ℕ, zero, suc, _+_, _<_, _≡_, refl, sym, ap, _∙_, List, [], _∷_, _++_, Bool, true, false, cond, length, getD, set}
-use Rattle.laws.proofs.Basics.{replicate, length-append, length-set, length-replicate, getD-set-same, getD-set-other, eqb, arith, eqb-true, eqb-false}
-use Rattle.laws.proofs.Basics.{eq-eqb, ne-eqb}
-use Rattle.laws.proofs.Cases.{by-cases, contradiction}
+use Rattle.laws.proofs.Basics.{ℕ, zero, suc, _+_, _<_, _≡_, refl, sym, ap, _∙_, List, [], _∷_, _++_, true, false, cond, length, getD, set, replicate}
+use Rattle.laws.proofs.Basics.{length-append, length-set, length-replicate, getD-set-same, getD-set-other, eqb, arith, eqb-true, eqb-false, eq-eqb}
+use Rattle.laws.proofs.Basics.{ne-eqb}
+use Rattle.laws.proofs.Cases.{by-cases, by-equal, contradiction}
 use Rattle.items.specs.Item as I
 use Rattle.items.specs.Scan.{Scan}
 use Rattle.assembler.specs.Words.{words, operandWord}
@@ -102,7 +102,9 @@ indexes-more index labels n (suc a) i h p f =
     record {
       sized = rw length-set (i .sized);
       counts = one-more 0 n a index within vacant ∙ rw length-append (omega (arith, i .counts));
-      tells = λ m. told (set index n (suc a)) m ∙ go m (eqb n m) refl ∙ sym (found-more labels n (suc a) m f);
+      tells = λ m. told (set index n (suc a)) m ∙ by-equal n m (λ q. rw (eq-eqb n m q, ← q, getD-set-same index n (suc a) 0 within))
+          (λ q. rw (ne-eqb n m q, getD-set-other index n m (suc a) 0 (λ k. q (sym k))) (sym (told index m) ∙ i .tells m))
+          ∙ sym (found-more labels n (suc a) m f);
     }
   where
     within : n < length index
@@ -114,10 +116,6 @@ indexes-more index labels n (suc a) i h p f =
     vacant : getD index n 0 ≡ 0
     vacant = entry-missing (getD index n 0) (sym (told index n) ∙ i .tells n ∙ missing)
 
-    go : (m : ℕ) (b : Bool) → eqb n m ≡ b → entry (getD (set index n (suc a)) m 0) ≡ cond (eqb n m) (At (suc a)) (asFound labels m)
-    go m true e = let q : n ≡ m = eqb-true _ _ e in rw (e, ← q, getD-set-same index n (suc a) 0 within)
-    go m false e = rw (e, getD-set-other index n m (suc a) 0 (λ q. eqb-false _ _ e (sym q))) (sym (told index m) ∙ i .tells m)
-
 -- ---- tables that tell the same
 
 undefined-zero : (labels : List Label) (n : ℕ) → defined labels n ≡ false → addressOf labels n ≡ 0
@@ -128,16 +126,11 @@ undefined-zero (l ∷ ls) n h = simp (ne-eqb (l .number) n (not-first l ls n h .
 module _ (a b : List Label) (same : (n : ℕ) → asFound a n ≡ asFound b n) where
   told-same : (n : ℕ) → (defined a n ≡ defined b n) × (addressOf a n ≡ addressOf b n)
   unfolding asFound
-  told-same n = go (defined a n) refl
-    where
-      go : (t : Bool) → defined a n ≡ t → (defined a n ≡ defined b n) × (addressOf a n ≡ addressOf b n)
-      go true e =
-          let f : asFound a n ≡ At (addressOf a n) = rw e in
-          (e ∙ sym (was-at b n (same n) f .0), sym (was-at b n (same n) f .1))
-      go false e =
-          let f : asFound a n ≡ Missing = rw e in
-          let g : defined b n ≡ false = was-missing b n (same n) f in
-          (e ∙ sym g, undefined-zero a n e ∙ sym (undefined-zero b n g))
+  told-same n =
+      by-cases (defined a n)
+      (λ e. let f : asFound a n ≡ At (addressOf a n) = rw e in (e ∙ sym (was-at b n (same n) f .0), sym (was-at b n (same n) f .1)))
+      (λ e. let f : asFound a n ≡ Missing = rw e in
+      let g : defined b n ≡ false = was-missing b n (same n) f in (e ∙ sym g, undefined-zero a n e ∙ sym (undefined-zero b n g)))
 
   known-same : (i : I.Item) → known a i ≡ known b i
   unfolding known

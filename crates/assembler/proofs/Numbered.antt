@@ -1,8 +1,8 @@
 -- No text has more than 32,767 labels: they differ, and lie from 1 to 32,767. So a table of more records serves as one of 32,767.
 use Rattle.laws.proofs.Basics.{ℕ, zero, suc, _+_, _-_, _<_, _≤_, _≡_, refl, sym, ap, subst, _∙_, List, [], _∷_, _++_, append-assoc, Bool, true, false}
 use Rattle.laws.proofs.Basics.{_&&_, cond, length, take, replicate, length-append, replicate-append-replicate, length-take-le, take-at, eqb, leb}
-use Rattle.laws.proofs.Basics.{sub-zero, arith, eqb-true, eqb-false, eq-eqb, ne-eqb, lt-leb}
-use Rattle.laws.proofs.Cases.{by-cases, by-equal, contradiction}
+use Rattle.laws.proofs.Basics.{sub-zero, arith, eq-eqb, ne-eqb, lt-leb}
+use Rattle.laws.proofs.Cases.{by-cases, by-equal}
 use Rattle.items.specs.Item as I
 use Rattle.items.specs.Scan.{Ending, whole, unreadable, Scan, scan}
 use Rattle.assembler.specs.Words.{inRange, size}
@@ -12,7 +12,7 @@ use Rattle.assembler.specs.Assemble.{Assembly, refuse, accept, onUnknown
 use Rattle.assembler.specs.Passes.{records, tableOf, Gives, AssemblesKeys, Serves, Loads}
 use Rattle.assembler.specs.declared.Assembled.{Assembled}
 use Rattle.assembler.proofs.Operands.{label-range}
-use Rattle.assembler.proofs.Faults.{no-fault-ranged, no-fault-placed, label-placed}
+use Rattle.assembler.proofs.Faults.{laid-first, on-fault-alike, no-fault-ranged, no-fault-placed, label-placed}
 use Rattle.assembler.proofs.Records.{table-within, table-past}
 
 -- how many of the numbers 1 to k are no label's
@@ -59,23 +59,13 @@ module _ (ls : List Label) (l : Label) where
   free-from : defined ls (l .number) ≡ false → (k : ℕ) → 1 ≤ l .number → l .number ≤ k → suc (free more k) ≡ free ls k
   unfolding free
   free-from u zero h m = absurd (omega (arith, h, m))
-  free-from u (suc k) h m = go (λ (j : l .number ≤ k). free-from u k h j) (eqb (l .number) (suc k)) refl
-    where
-      go : (l .number ≤ k → suc (free more k) ≡ free ls k) → (b : Bool) → eqb (l .number) (suc k) ≡ b
-          → suc (cond (defined more (suc k)) (free more k) (suc (free more k))) ≡ cond (defined ls (suc k)) (free ls k) (suc (free ls k))
-      go rec true e =
-          let n : l .number ≡ suc k = eqb-true _ _ e in
-          let o : defined more (suc k) ≡ true = ap (defined more) (sym n) ∙ own u in
-          let v : defined ls (suc k) ≡ false = ap (defined ls) (sym n) ∙ u in
-          rw (o, v, free-below k (omega (arith, n)))
-      go rec false e =
-          let n : l .number ≡ suc k → ⊥ = eqb-false _ _ e in
-          let f : suc (free more k) ≡ free ls k = rec (below n m) in
-          rw (other (suc k) n, ← f) (same (defined ls (suc k)))
-        where
-          same : (b : Bool) → suc (cond b (free more k) (suc (free more k))) ≡ cond b (suc (free more k)) (suc (suc (free more k)))
-          same true = refl
-          same false = refl
+  free-from u (suc k) h m =
+      by-equal (l .number) (suc k)
+      (λ n. let o : defined more (suc k) ≡ true = ap (defined more) (sym n) ∙ own u in
+      let v : defined ls (suc k) ≡ false = ap (defined ls) (sym n) ∙ u in
+      rw (o, v, free-below k (omega (arith, n))))
+      (λ n. let f : suc (free more k) ≡ free ls k = free-from u k h (below n m) in
+      rw (other (suc k) n, ← f) (by-cases (defined ls (suc k)) (λ e. rw e refl) (λ e. rw e refl)))
 
 -- ---- the labels of a layout
 
@@ -130,16 +120,8 @@ module _ (limit room : ℕ) (w : limit ≡ 32767) (r : limit ≤ room) (memory :
   same-lay at ls [] c = refl
   same-lay at ls (p ∷ ps) c =
       ap (λ (f : ℕ). onFault f (p .place) (lay memory room (at + size (p .item)) (noted at ls (p .item)) ps)) (same-fault at ls (p .item) c)
-      ∙ go (λ e. same-lay (at + size (p .item)) (noted at ls (p .item)) ps (counted-noted at ls (p .item) e c)) (fault memory limit at ls (p .item))
-      refl
-    where
-      go : (fault memory limit at ls (p .item) ≡ 0
-          → lay memory room (at + size (p .item)) (noted at ls (p .item)) ps ≡ lay memory limit (at + size (p .item)) (noted at ls (p .item)) ps)
-          → (f : ℕ) → fault memory limit at ls (p .item) ≡ f
-          → onFault f (p .place) (lay memory room (at + size (p .item)) (noted at ls (p .item)) ps) ≡ onFault f (p .place)
-          (lay memory limit (at + size (p .item)) (noted at ls (p .item)) ps)
-      go rec zero e = rec e
-      go rec (suc k) e = refl
+      ∙ on-fault-alike (fault memory limit at ls (p .item)) (p .place)
+      (λ e. same-lay (at + size (p .item)) (noted at ls (p .item)) ps (counted-noted at ls (p .item) e c))
 
   -- and no more labels than that
   few-laid : (at : ℕ) (ls : List Label) (items : List I.Placed) → Counted limit ls → (labels : List Label) (end : ℕ)
@@ -147,15 +129,8 @@ module _ (limit room : ℕ) (w : limit ≡ 32767) (r : limit ≤ room) (memory :
   unfolding lay
   few-laid at ls [] c labels end e = let z : ls ≡ labels = cc in let y : length ls ≤ limit = omega (arith, c) in rw z at y
   few-laid at ls (p ∷ ps) c labels end e =
-      go (λ q h. few-laid (at + size (p .item)) (noted at ls (p .item)) ps (counted-noted at ls (p .item) q c) labels end h)
-      (fault memory limit at ls (p .item)) refl e
-    where
-      go : (fault memory limit at ls (p .item) ≡ 0 → lay memory limit (at + size (p .item)) (noted at ls (p .item)) ps ≡ laid labels end
-          → length labels ≤ limit)
-          → (f : ℕ) → fault memory limit at ls (p .item) ≡ f
-          → onFault f (p .place) (lay memory limit (at + size (p .item)) (noted at ls (p .item)) ps) ≡ laid labels end → length labels ≤ limit
-      go rec zero q h = rec q h
-      go rec (suc k) q h = contradiction cc
+      let f = laid-first memory limit at ls p ps e in
+      few-laid (at + size (p .item)) (noted at ls (p .item)) ps (counted-noted at ls (p .item) (f .0) c) labels end (f .1)
 
   none-counted : Counted limit []
   none-counted = let z : free [] limit ≡ limit = free-none limit in omega (arith, z)
@@ -209,17 +184,12 @@ module _ (text : List ℕ) (memory limit room : ℕ) (r : limit ≤ room) where
 
   pub wider : limit ≡ 32767 → Wider (room - limit) (assembled text memory limit) (assembled text memory room)
   unfolding assembled
-  wider w = go (leb 512 memory && leb memory 32768)
-    where
-      go : (b : Bool)
-          → Wider (room - limit) (cond b (onLaid text memory limit (lay memory limit 416 [] (scan text .items)) (scan text))
-          (refuse text memory limit 24 0))
-          (cond b (onLaid text memory room (lay memory room 416 [] (scan text .items)) (scan text)) (refuse text memory room 24 0))
-      go true =
-          rw (same-lay limit room w r memory 416 [] (scan text .items) (none-counted limit room w r memory))
-          (wider-laid (lay memory limit 416 [] (scan text .items)) (scan text)
-          (few-laid limit room w r memory 416 [] (scan text .items) (none-counted limit room w r memory)))
-      go false = wider-refuse 24 0
+  wider w =
+      by-cases (leb 512 memory && leb memory 32768)
+      (λ e. rw (e, same-lay limit room w r memory 416 [] (scan text .items) (none-counted limit room w r memory))
+      (wider-laid (lay memory limit 416 [] (scan text .items)) (scan text)
+      (few-laid limit room w r memory 416 [] (scan text .items) (none-counted limit room w r memory))))
+      (λ e. rw e (wider-refuse 24 0))
 
 -- ---- the keys that serve a table of so many records
 

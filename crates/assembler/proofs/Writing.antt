@@ -1,7 +1,7 @@
 -- An item's words in the memory: each kind of item, known or not.
 use Rattle.laws.proofs.Basics.{ℕ, _+_, _*_, _/_, _<_, _≤_, _≡_, refl, sym, ap, _∙_, List, Bool, true, false, cond, length, set, length-set, sets}
 use Rattle.laws.proofs.Basics.{length-sets, eqb, leb, add-one, arith, ne-eqb, ltb-true, leb-true}
-use Rattle.laws.proofs.Cases.{contradiction, both-true}
+use Rattle.laws.proofs.Cases.{by-cond, contradiction, both-true}
 use Rattle.items.specs.Item as I
 use Rattle.assembler.specs.Words.{labelInRange, operandInRange, inRange, short, signed, size, indirectBit, baseBit, operandWord, words}
 use Rattle.text.specs.Packed.{pairs}
@@ -75,11 +75,7 @@ module _ (labels : List Label) {f : Found} where
 module _ (f : ℕ) (i : Bool) (b : I.Base) (x : I.Operand) where
   pub first-fits : (at : ℕ) {n : ℕ} → at + size (I.instruction f i b x) ≤ n → at < n
   unfolding size
-  first-fits at {n} h = go (short x) h
-    where
-      go : (t : Bool) → at + cond t 1 2 ≤ n → at < n
-      go true k = omega arith
-      go false k = omega arith
+  first-fits at {n} h = omega (arith, h, by-cond (λ k. 1 ≤ k) (short x) {x = 1} {y = 2} (omega arith) (omega arith))
 
   pub second-fits : (at : ℕ) {n : ℕ} → short x ≡ false → at + size (I.instruction f i b x) ≤ n → at + 1 < n
   unfolding size

@@ -1,6 +1,6 @@
 -- The assembler's image has the code of its items at their addresses.
-use Rattle.laws.proofs.Basics.{ℕ, zero, suc, _+_, _*_, _<_, _≤_, _≡_, refl, sym, ap, _∙_, List, [], _∷_, _++_, append-assoc, append-nil, Bool, true}
-use Rattle.laws.proofs.Basics.{false, length, getD, length-append, List·getD-append, getD-append-add, eqb, ltb, arith, eq-eqb, ltb-true}
+use Rattle.laws.proofs.Basics.{ℕ, suc, _+_, _*_, _<_, _≤_, _≡_, refl, sym, ap, _∙_, List, [], _∷_, _++_, append-assoc, append-nil, Bool, true, false}
+use Rattle.laws.proofs.Basics.{length, getD, length-append, List·getD-append, getD-append-add, eqb, ltb, arith, eq-eqb, ltb-true}
 use Rattle.laws.proofs.Cases.{by-cases, contradiction}
 use Rattle.items.specs.Item.{number, address, Base, Item, label, instruction, constant, string, global, Placed}
 use Rattle.items.specs.Render.{render}
@@ -9,10 +9,10 @@ use Rattle.assembler.specs.Words.{inRange, operandInRange, short, size, indirec
 use Rattle.text.proofs.Packed.{length-pairs}
 use Rattle.assembler.proofs.Image.{length-words}
 use Rattle.assembler.specs.declared.Label.{Label}
-use Rattle.assembler.specs.Layout.{defined, addressOf, noted, laid, refused, onFault, misplaced, fault, lay}
+use Rattle.assembler.specs.Layout.{defined, addressOf, noted, laid, misplaced, fault, lay}
 use Rattle.assembler.specs.Assemble.{program}
 use Rattle.assembler.proofs.Operands.{number-below, label-range}
-use Rattle.assembler.proofs.Faults.{no-fault-ranged, no-fault-placed, label-placed}
+use Rattle.assembler.proofs.Faults.{laid-first, no-fault-ranged, no-fault-placed, label-placed}
 use Rattle.code.proofs.Standing.{Env, At, Is, is-number, is-address, is-label, is-word, is-place, is-string, is-global, is-minus, is-negative}
 use Rattle.code.proofs.Standing.{Code, end, next}
 use Rattle.code.proofs.Fetching.{short-bits, long-bits, fetch-short, fetch-long}
@@ -69,15 +69,7 @@ module _ (memory room : ℕ) where
 
   pub lay-step : {at : ℕ} {ls labels : List Label} {p : Placed} {ps : List Placed} {end : ℕ} → Lays at ls (p ∷ ps) labels end
       → (fault memory room at ls (p .item) ≡ 0) × Lays (at + size (p .item)) (noted at ls (p .item)) ps labels end
-  unfolding lay
-  lay-step {at} {ls} {labels} {p} {ps} {end} h = go (fault memory room at ls (p .item)) refl (h .is)
-    where
-      go : (n : ℕ) → fault memory room at ls (p .item) ≡ n
-          → onFault (fault memory room at ls (p .item)) (p .place)
-          (lay memory room (at + size (p .item)) (noted at ls (p .item)) ps) ≡ laid labels end
-          → (fault memory room at ls (p .item) ≡ 0) × Lays (at + size (p .item)) (noted at ls (p .item)) ps labels end
-      go zero e h = (e, record { is = rw e at h })
-      go (suc k) e h = let y : refused (suc k) (p .place) ≡ laid labels end = rw e at h in contradiction cc
+  lay-step {at} {ls} {labels} {p} {ps} h = let f = laid-first memory room at ls p ps (h .is) in (f .0, record { is = f .1 })
 
   -- the labels found so far stay in front
   pub record Extends (ls labels : List Label) : Type 0 where

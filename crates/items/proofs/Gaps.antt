@@ -1,6 +1,6 @@
 -- Gaps, byte by byte.
-use Rattle.laws.proofs.Basics.{ℕ, suc, _+_, _<_, _≤_, _≡_, refl, _∙_, List, [], _∷_, Bool, true, false, cond, length, getD, drop, eqb, eqb-true}
-use Rattle.laws.proofs.Basics.{ne-eqb}
+use Rattle.laws.proofs.Basics.{ℕ, suc, _+_, _<_, _≤_, _≡_, refl, _∙_, List, [], _∷_, Bool, true, false, cond, length, getD, drop, ne-eqb}
+use Rattle.laws.proofs.Cases.{by-equal}
 use Rattle.text.proofs.Bytes.{at-byte, past-end, Unlike}
 use Rattle.items.specs.Scan.{gaps}
 use Rattle.items.specs.Parts.{inGap, inComment}
@@ -8,22 +8,9 @@ use Rattle.items.specs.Parts.{inGap, inComment}
 pub gap-byte : (comment : Bool) (c : ℕ) (r : List ℕ) → gaps comment (c ∷ r) ≡ cond (inGap comment c) (suc (gaps (inComment comment c) r)) 0
 unfolding gaps inGap inComment
 gap-byte true c r = refl
-gap-byte false c r = first (eqb c 32) refl
-  where
-    third : (t : Bool) → eqb c 47 ≡ t → cond t (suc (gaps true r)) 0 ≡ cond t (suc (gaps (eqb c 47) r)) 0
-    third true e = rw e
-    third false e = refl
-
-    second : (t : Bool) → eqb c 10 ≡ t
-        → cond t (suc (gaps false r)) (cond (eqb c 47) (suc (gaps true r)) 0) ≡ cond (cond t true (eqb c 47)) (suc (gaps (eqb c 47) r)) 0
-    second true e = rw (eqb-true c 10 e)
-    second false e = third (eqb c 47) refl
-
-    first : (t : Bool) → eqb c 32 ≡ t
-        → cond t (suc (gaps false r)) (cond (eqb c 10) (suc (gaps false r)) (cond (eqb c 47) (suc (gaps true r)) 0)) ≡ cond
-        (cond t true (cond (eqb c 10) true (eqb c 47))) (suc (gaps (eqb c 47) r)) 0
-    first true e = rw (eqb-true c 32 e)
-    first false e = second (eqb c 10) refl
+gap-byte false c r =
+    by-equal c 32 (λ e. rw e refl) (λ a. by-equal c 10 (λ e. rw e refl) (λ b. by-equal c 47 (λ e. rw e refl) (λ d.
+    rw (ne-eqb c 32 a, ne-eqb c 10 b, ne-eqb c 47 d) refl)))
 
 module _ (text : List ℕ) (i : ℕ) (comment : Bool) where
   pub gap-end : length text ≤ i → gaps comment (drop i text) ≡ 0

@@ -1,7 +1,7 @@
 -- A scan of a whole text is the items that `nextIn` gives one after another, from where `startIn` says that they begin.
 use Rattle.laws.proofs.Basics.{ℕ, zero, suc, _+_, _-_, _≤_, _≡_, refl, ap, _∙_, List, [], _∷_, Bool, true, false, not, cond, length, drop, drop-drop}
 use Rattle.laws.proofs.Basics.{eqb, add-zero, arith}
-use Rattle.laws.proofs.Cases.{by-cond}
+use Rattle.laws.proofs.Cases.{by-cases, by-cond}
 use Rattle.items.specs.Item.{Item}
 use Rattle.items.specs.Reader.{Got, got, nothing, head}
 use Rattle.items.specs.Read.{item, functionOf}
@@ -32,12 +32,10 @@ pub gaps-passed : (comment : Bool) (bytes : List ℕ) → gaps false (drop (gaps
 unfolding gaps
 gaps-passed comment [] = refl
 gaps-passed true (c ∷ r) = gaps-passed (not (eqb c 10)) r
-gaps-passed false (c ∷ r) = by (inGap false c) (gap-byte false c r) (gaps-passed (inComment false c) r)
-  where
-    by : (t : Bool) → gaps false (c ∷ r) ≡ cond t (suc (gaps (inComment false c) r)) 0 → gaps false (drop (gaps (inComment false c) r) r) ≡ 0
-        → gaps false (drop (gaps false (c ∷ r)) (c ∷ r)) ≡ 0
-    by true e h = rw e h
-    by false e h = rw e e
+gaps-passed false (c ∷ r) =
+    by-cases (inGap false c)
+    (λ t. let e : gaps false (c ∷ r) ≡ suc (gaps (inComment false c) r) = rw t at (gap-byte false c r) in rw e (gaps-passed (inComment false c) r))
+    (λ t. let e : gaps false (c ∷ r) ≡ 0 = rw t at (gap-byte false c r) in rw e e)
 
 pub body-over : (k place : ℕ) (bytes : List ℕ) → k ≤ length bytes → body k place bytes ≡ body 0 (place + k) (drop k bytes)
 unfolding body
