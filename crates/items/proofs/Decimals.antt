@@ -5,10 +5,10 @@ use Rattle.laws.proofs.Cases.{contradiction}
 use Rattle.text.proofs.Bytes.{at-byte, past-end}
 use Rattle.text.proofs.Quotes.{digit-bounds}
 use Rattle.items.specs.Item.{capped}
-use Rattle.items.specs.Reader.{Got, got, nothing, head, isDigit, digits, digitCount, decimal}
+use Rattle.items.specs.Reader.{Got, nothing, head, isDigit, digits, digitCount, decimal}
 use Rattle.items.specs.Parts.{asDecimal}
 use Rattle.items.specs.declared.ReadDecimal.{ReadDecimal}
-use Rattle.items.proofs.Places.{Reads, head-in}
+use Rattle.items.proofs.Places.{by-got, Reads, head-in}
 use Rattle.items.specs.declared.ReadDecimal.the-variants as D
 
 pub below-digits : (c : ℕ) → c < 48 → isDigit c ≡ false
@@ -83,16 +83,10 @@ module _ (text : List ℕ) (at : ℕ) where
   module _ {r : ReadDecimal} (e : r ≡ asDecimal at (decimal (drop at text))) where
     pub decimal-reads : {v p : ℕ} → r ≡ D.Got v p → Reads decimal text at v p
     unfolding asDecimal
-    decimal-reads {v} {p} k = by (decimal (drop at text)) refl e
-      where
-        by : (g : Got ℕ) → decimal (drop at text) ≡ g → r ≡ asDecimal at g → Reads decimal text at v p
-        by (got a n) d j = record { width = n; reading = cc; ends = cc }
-        by nothing d j = contradiction cc
+    decimal-reads {v} {p} k =
+        by-got (decimal (drop at text)) (λ a n d. let j : r ≡ D.Got a (at + n) = rw d at e in record { width = n; reading = cc; ends = cc })
+        (λ d. let j : r ≡ D.Nothing = rw d at e in contradiction cc)
 
     pub decimal-fails : r ≡ D.Nothing → decimal (drop at text) ≡ nothing
     unfolding asDecimal
-    decimal-fails k = by (decimal (drop at text)) e
-      where
-        by : (g : Got ℕ) → r ≡ asDecimal at g → g ≡ nothing
-        by (got a n) j = contradiction cc
-        by nothing j = refl
+    decimal-fails k = by-got (decimal (drop at text)) (λ a n d. let j : r ≡ D.Got a (at + n) = rw d at e in contradiction cc) (λ d. d)

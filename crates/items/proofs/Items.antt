@@ -14,7 +14,7 @@ use Rattle.items.specs.declared.Operand.{Operand}
 use Rattle.items.specs.declared.Based.{Based}
 use Rattle.items.specs.declared.Item.{Item}
 use Rattle.items.specs.declared.ReadItem.{ReadItem}
-use Rattle.items.proofs.Places.{Reads, onto, head-past, byte-reads, byte-fails}
+use Rattle.items.proofs.Places.{by-got, Reads, onto, head-past, byte-reads, byte-fails}
 use Rattle.items.proofs.Operands.{OperandRead, BaseRead}
 use Rattle.items.specs.Item as I
 use Rattle.items.specs.declared.Item.the-variants as K
@@ -40,19 +40,15 @@ pub record ItemRead (text : List ℕ) (at : ℕ) (r : Item) (past : ℕ) : Type 
 module _ (text : List ℕ) (at : ℕ) {r : ReadItem} (e : r ≡ asItemAt at (item (drop at text))) where
   pub item-reads : {i : Item} {p : ℕ} → r ≡ C.Got i p → ItemRead text at i p
   unfolding asItemAt
-  item-reads {i} {p} k = by (item (drop at text)) refl e
-    where
-      by : (g : Got I.Item) → item (drop at text) ≡ g → r ≡ asItemAt at g → ItemRead text at i p
-      by (got x n) d j = record { value = x; same = cc; reads = record { width = n; reading = d; ends = cc } }
-      by nothing d j = contradiction cc
+  item-reads {i} {p} k =
+      by-got (item (drop at text))
+      (λ x n d. let j : r ≡ C.Got (asItem x) (at + n) = rw d at e in record { value = x; same = cc; reads = record { width = n; reading = d; ends = cc } })
+      (λ d. let j : r ≡ C.Nothing = rw d at e in contradiction cc)
 
   pub item-fails : r ≡ C.Nothing → item (drop at text) ≡ nothing
   unfolding asItemAt
-  item-fails k = by (item (drop at text)) e
-    where
-      by : (g : Got I.Item) → r ≡ asItemAt at g → g ≡ nothing
-      by (got x n) j = contradiction cc
-      by nothing j = refl
+  item-fails k =
+      by-got (item (drop at text)) (λ x n d. let j : r ≡ C.Got (asItem x) (at + n) = rw d at e in contradiction cc) (λ d. d)
 
 -- the same item, n bytes on
 moved : {p : ℕ} (n at : ℕ) → p ≡ at + n → (g : Got I.Item) → asItemAt p g ≡ asItemAt at (wide n g)

@@ -14,7 +14,7 @@ use Rattle.items.specs.Parts.{asOperandAt, asBased}
 use Rattle.items.specs.declared.Operand.{Operand}
 use Rattle.items.specs.declared.ReadOperand.{ReadOperand}
 use Rattle.items.specs.declared.Based.{Based}
-use Rattle.items.proofs.Places.{Reads, onto, byte-reads}
+use Rattle.items.proofs.Places.{by-got, Reads, onto, byte-reads}
 use Rattle.items.specs.Item as I
 use Rattle.items.specs.declared.ReadOperand.the-variants as A
 use Rattle.items.specs.declared.Base.the-variants as B
@@ -39,19 +39,15 @@ pub record OperandRead (text : List ℕ) (at : ℕ) (o : Operand) (past : ℕ) :
 module _ (text : List ℕ) (at : ℕ) {r : ReadOperand} (e : r ≡ asOperandAt at (operand (drop at text))) where
   pub operand-reads : {o : Operand} {p : ℕ} → r ≡ A.Got o p → OperandRead text at o p
   unfolding asOperandAt
-  operand-reads {o} {p} k = by (operand (drop at text)) refl e
-    where
-      by : (g : Got I.Operand) → operand (drop at text) ≡ g → r ≡ asOperandAt at g → OperandRead text at o p
-      by (got x n) d j = record { value = x; same = cc; reads = record { width = n; reading = d; ends = cc } }
-      by nothing d j = contradiction cc
+  operand-reads {o} {p} k =
+      by-got (operand (drop at text))
+      (λ x n d. let j : r ≡ A.Got (asOperand x) (at + n) = rw d at e in record { value = x; same = cc; reads = record { width = n; reading = d; ends = cc } })
+      (λ d. let j : r ≡ A.Nothing = rw d at e in contradiction cc)
 
   pub operand-fails : r ≡ A.Nothing → operand (drop at text) ≡ nothing
   unfolding asOperandAt
-  operand-fails k = by (operand (drop at text)) e
-    where
-      by : (g : Got I.Operand) → r ≡ asOperandAt at g → g ≡ nothing
-      by (got x n) j = contradiction cc
-      by nothing j = refl
+  operand-fails k =
+      by-got (operand (drop at text)) (λ x n d. let j : r ≡ A.Got (asOperand x) (at + n) = rw d at e in contradiction cc) (λ d. d)
 
 -- ---- each kind of operand
 

@@ -26,6 +26,11 @@ module _ (text : List ℕ) (at : ℕ) where
 
 -- ---- one reader after another
 
+-- by what a reader gives
+pub by-got : {A T : Type 0} (g : Got A) → ((a : A) (n : ℕ) → g ≡ got a n → T) → (g ≡ nothing → T) → T
+by-got (got a n) f k = f a n refl
+by-got nothing f k = k refl
+
 -- the reader reads the value there, up to the place past it
 pub record Reads {A : Type 0} (reader : Reader A) (text : List ℕ) (at : ℕ) (value : A) (past : ℕ) : Type 0 where
   pub width : ℕ
