@@ -152,8 +152,8 @@ module _ (Γ : Env) where
         (more : ℕ → ℕ → State → Result Value)
         → Code Γ a (exprCode (suc (F Γ)) h n d ++ (SP h ∷ (exprCode (suc (F Γ)) (h + 1) (n + exprLabels d) e ++ rest))) b
         → FormedE (F Γ) (S Γ) h d × FormedE (F Γ) (S Γ) (h + 1) e → v .regs .c ≡ a → Rel Γ p h s v
-        → ((c : ℕ) → Code Γ c rest b → (x y : ℕ) (u : State) (w : Mach) → Rel Γ p h u w → w .regs .c ≡ c → getD (w .mem) (p + h) 0 ≡ x → w .regs .a ≡ y
-        → p + (h + 1) ≤ Γ .limit → Runs Γ Q t p h h u w (more x y u))
+        → ((c : ℕ) → Code Γ c rest b → (x y : ℕ) (u : State) (w : Mach) → Rel Γ p h u w → w .regs .c ≡ c → getD (w .mem) (p + h) 0 ≡ x
+        → w .regs .a ≡ y → p + (h + 1) ≤ Γ .limit → Runs Γ Q t p h h u w (more x y u))
         → Runs Γ Q (1 + t) p h h s v (two (Γ .limit) q d e p h s more)
     sim-two d e n {p = p} {h = h} more k f pc r g =
         cut Γ (exprCode (suc (F Γ)) h n d) _ k λ b₁ k₁ k₂.
@@ -166,7 +166,8 @@ module _ (Γ : Env) where
         let up : h ≤ h + 1 = omega arith in
         then Γ up (part e (n + exprLabels d) k₃ (f .1) c₂ (raise Γ r₂ up l)) λ y s₃ v₃ x₃ y₃.
         let kept : getD (v₃ .mem) (p + h) 0 ≡ v₁ .regs .a = x₃ .frame (p + h) (omega arith) (r₁ .above (p + h) (omega arith)) ∙ g₂ in
-        post-demand (has-same (y₁ .has) kept) λ m em. post-demand (y₃ .has) λ w ew. g b₃ k₅ m w s₃ v₃ (sink Γ r₂ up x₃) (y₃ .at) em ew l) (omega arith)
+        post-demand (has-same (y₁ .has) kept) λ m em.
+        post-demand (y₃ .has) λ w ew. g b₃ k₅ m w s₃ v₃ (sink Γ r₂ up x₃) (y₃ .at) em ew l) (omega arith)
 
     pub sim-addressOfIndex : (d e : Expr) → GoalE q (R.addressOfIndex d e)
     unfolding evaluated exprCode FormedE

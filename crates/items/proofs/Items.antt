@@ -42,7 +42,8 @@ module _ (text : List ℕ) (at : ℕ) {r : ReadItem} (e : r ≡ asItemAt at (ite
   unfolding asItemAt
   item-reads {i} {p} k =
       by-got (item (drop at text))
-      (λ x n d. let j : r ≡ C.Got (asItem x) (at + n) = rw d at e in record { value = x; same = cc; reads = record { width = n; reading = d; ends = cc } })
+      (λ x n d. let j : r ≡ C.Got (asItem x) (at + n) = rw d at e in
+      record { value = x; same = cc; reads = record { width = n; reading = d; ends = cc } })
       (λ d. let j : r ≡ C.Nothing = rw d at e in contradiction cc)
 
   pub item-fails : r ≡ C.Nothing → item (drop at text) ≡ nothing

@@ -41,7 +41,8 @@ module _ (text : List ℕ) (at : ℕ) {r : ReadOperand} (e : r ≡ asOperandAt a
   unfolding asOperandAt
   operand-reads {o} {p} k =
       by-got (operand (drop at text))
-      (λ x n d. let j : r ≡ A.Got (asOperand x) (at + n) = rw d at e in record { value = x; same = cc; reads = record { width = n; reading = d; ends = cc } })
+      (λ x n d. let j : r ≡ A.Got (asOperand x) (at + n) = rw d at e in
+      record { value = x; same = cc; reads = record { width = n; reading = d; ends = cc } })
       (λ d. let j : r ≡ A.Nothing = rw d at e in contradiction cc)
 
   pub operand-fails : r ≡ A.Nothing → operand (drop at text) ≡ nothing
