@@ -1,7 +1,7 @@
 -- The index of the labels: what its entries say, what a new one adds, and that it serves for the records in both passes.
 use Rattle.laws.proofs.Basics.{ℕ, zero, suc, _+_, _<_, _≡_, refl, sym, ap, _∙_, List, [], _∷_, _++_, true, false, cond, length, getD, set, replicate}
-use Rattle.laws.proofs.Basics.{length-append, length-set, length-replicate, getD-set-same, getD-set-other, eqb, arith, eqb-true, eqb-false, eq-eqb}
-use Rattle.laws.proofs.Basics.{ne-eqb}
+use Rattle.laws.proofs.Basics.{length-append, length-set, length-replicate, getD-set-same, getD-set-other, eqb, add-zero, arith, eqb-true, eqb-false}
+use Rattle.laws.proofs.Basics.{eq-eqb, ne-eqb, add-shift}
 use Rattle.laws.proofs.Cases.{by-cases, by-equal, contradiction}
 use Rattle.items.specs.Item as I
 use Rattle.items.specs.Scan.{Scan}
@@ -38,12 +38,11 @@ below k m (suc a ∷ index) h = simp (ne-eqb k m (λ e. omega arith)) (below (su
 told-from : (k n : ℕ) (index : List ℕ) → asFound (listedFrom k index) (k + n) ≡ entry (getD index n 0)
 unfolding listedFrom asFound defined addressOf
 told-from k n [] = refl
-told-from k zero (zero ∷ index) = let e : k + 0 ≡ k = omega arith in rw e (below (suc k) k index (omega arith))
-told-from k zero (suc a ∷ index) = let e : k + 0 ≡ k = omega arith in rw e (simp (eq-eqb k k refl))
-told-from k (suc n) (zero ∷ index) = let e : k + suc n ≡ suc k + n = omega arith in rw e (told-from (suc k) n index)
+told-from k zero (zero ∷ index) = rw (add-zero k) (below (suc k) k index (omega arith))
+told-from k zero (suc a ∷ index) = rw (add-zero k) (simp (eq-eqb k k refl))
+told-from k (suc n) (zero ∷ index) = rw (add-shift k n) (told-from (suc k) n index)
 told-from k (suc n) (suc a ∷ index) =
-    let e : k + suc n ≡ suc k + n = omega arith in
-    rw e (simp (ne-eqb k (suc k + n) (λ q. omega arith)) (told-from (suc k) n index))
+    rw (add-shift k n) (simp (ne-eqb k (suc k + n) (λ q. omega arith)) (told-from (suc k) n index))
 
 module _ (index : List ℕ) (n : ℕ) where
   told : asFound (listed index) n ≡ entry (getD index n 0)

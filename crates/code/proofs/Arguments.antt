@@ -1,6 +1,6 @@
 -- Arguments: each waits in the word of its height until the call uses them all.
 use Rattle.laws.proofs.Basics.{ℕ, zero, suc, _+_, _<_, _≤_, _≡_, refl, _∙_, List, [], _∷_, _++_, append-assoc, append-nil, some, none, getD, le-refl}
-use Rattle.laws.proofs.Basics.{arith}
+use Rattle.laws.proofs.Basics.{add-zero, arith}
 use Rattle.laws.proofs.Cases.{contradiction}
 use Rattle.language.specs.Resolved as R
 use Rattle.language.specs.Resolved.{Exprs}
@@ -39,7 +39,7 @@ unfolding nth
 holding-more {m} {ws} {a} {b} w g e h = record { at = go }
   where
     go : (i x : ℕ) → nth (w ∷ ws) i ≡ some x → getD m (a + i) 0 ≡ x
-    go zero x q = let z : a + 0 ≡ a = omega arith in rw z (g ∙ (cc))
+    go zero x q = rw (add-zero a) (g ∙ (cc))
     go (suc i) x q = let z : a + suc i ≡ b + i = omega arith in rw z (h .at i x q)
 
 pub post-demandAll : {A : Type 0} {Q : A → State → Type 0} {L E : State → Type 0} {m : List ℕ} {z a : ℕ} {xs : List Value} (more : List ℕ → Result A)

@@ -1,6 +1,6 @@
 -- The assembler's image has the code of its items at their addresses.
 use Rattle.laws.proofs.Basics.{ℕ, suc, _+_, _*_, _<_, _≤_, _≡_, refl, sym, ap, _∙_, List, [], _∷_, _++_, append-assoc, append-nil, Bool, true, false}
-use Rattle.laws.proofs.Basics.{length, getD, length-append, List·getD-append, getD-append-add, eqb, ltb, arith, eq-eqb, ltb-true}
+use Rattle.laws.proofs.Basics.{length, getD, length-append, List·getD-append, getD-append-add, eqb, ltb, add-zero, arith, eq-eqb, ltb-true}
 use Rattle.laws.proofs.Cases.{by-cases, contradiction}
 use Rattle.items.specs.Item.{number, address, Base, Item, label, instruction, constant, string, global, Placed}
 use Rattle.items.specs.Render.{render}
@@ -140,9 +140,8 @@ module _ (memory room : ℕ) where
     at-long f x i base {at} l c₀ c₁ w₀ w₁ = record {
       small = l;
       is = λ r m agree pc.
-          let z : at + 0 ≡ at = omega arith in
           let o : at + 1 ≡ suc at = omega arith in
-          let g : getD m at 0 ≡ f * 8192 + indirectBit i + baseBit base + 512 = rw z at (agree .same (at + 0) (c₀ .0) ∙ w₀) in
+          let g : getD m at 0 ≡ f * 8192 + indirectBit i + baseBit base + 512 = rw (add-zero at) at (agree .same (at + 0) (c₀ .0) ∙ w₀) in
           let k : getD m (suc at) 0 ≡ x = rw o at (agree .same (at + 1) (c₁ .0) ∙ w₁) in
           fetch-long r m pc (omega (arith, agree .size, c₀ .1)) g base x (long-bits f i base) (omega (arith, c₁ .1))
           (omega (arith, agree .size, c₁ .1)) k;
@@ -153,8 +152,7 @@ module _ (memory room : ℕ) where
     at-short f x i base {at} l c₀ w₀ = record {
       small = omega arith;
       is = λ r m agree pc.
-          let z : at + 0 ≡ at = omega arith in
-          let g : getD m at 0 ≡ f * 8192 + indirectBit i + baseBit base + x = rw z at (agree .same (at + 0) (c₀ .0) ∙ w₀) in
+          let g : getD m at 0 ≡ f * 8192 + indirectBit i + baseBit base + x = rw (add-zero at) at (agree .same (at + 0) (c₀ .0) ∙ w₀) in
           fetch-short r m pc (omega (arith, agree .size, c₀ .1)) g base (short-bits f x l i base) (omega (arith, c₀ .1));
     }
 
@@ -180,15 +178,13 @@ module _ (memory room : ℕ) where
         is-to (is-address (r .0) (at-long f (Γ .lab l) i base lt (c 0 (omega arith)) (c 1 (omega arith)) (spot-word s 0 (omega arith))
         (spot-word s 1 (omega arith) ∙ sym (lab-is l)))) (omega arith)
     item-is {at} {ls = ls} (constant (number false k)) h s c =
-        let z : at + 0 ≡ at = omega arith in
-        let w : getD (Γ .image) at 0 ≡ k = rw z at (spot-word s 0 (omega arith)) in
-        let o = rw z at (c 0 (omega arith)) in
+        let w : getD (Γ .image) at 0 ≡ k = rw (add-zero at) at (spot-word s 0 (omega arith)) in
+        let o = rw (add-zero at) at (c 0 (omega arith)) in
         is-to (is-word (record { below = o .1; is = λ m agree. agree .same at (o .0) ∙ w }) refl) (omega arith)
     item-is {at} (constant (number true k)) h s c = is-negative
     item-is {at} (constant (address l)) h s c =
-        let z : at + 0 ≡ at = omega arith in
-        let w : getD (Γ .image) at 0 ≡ Γ .lab l = rw z at (spot-word s 0 (omega arith) ∙ sym (lab-is l)) in
-        let o = rw z at (c 0 (omega arith)) in
+        let w : getD (Γ .image) at 0 ≡ Γ .lab l = rw (add-zero at) at (spot-word s 0 (omega arith) ∙ sym (lab-is l)) in
+        let o = rw (add-zero at) at (c 0 (omega arith)) in
         is-to (is-place (record { below = o .1; is = λ m agree. agree .same at (o .0) ∙ w }) refl) (omega arith)
     item-is {at} (string cs) h s c = is-string (spot-word s) (ap (at +_) (length-pairs (length cs) cs))
     item-is {at} (global n m) h s c = let z : at ≡ at + 0 = omega arith in is-global z

@@ -1,7 +1,7 @@
 -- A whole program in an accepted image: its labels' addresses, its functions' code, its strings' words, its globals.
 use Rattle.laws.proofs.Basics.{ℕ, zero, suc, _+_, _-_, _*_, _<_, _≤_, _≡_, refl, sym, ap, _∙_, List, [], _∷_, _++_, append-assoc, Bool, true, false}
 use Rattle.laws.proofs.Basics.{cond, some, none, length, getD, set, replicate, length-append, length-set, List·getD-append, getD-append-add, eqb, ltb}
-use Rattle.laws.proofs.Basics.{leb, arith, eqb-true, ne-eqb, ltb-true, lt-ltb, le-ltb, le-leb, lt-leb}
+use Rattle.laws.proofs.Basics.{leb, add-zero, arith, eqb-true, ne-eqb, ltb-true, lt-ltb, le-ltb, le-leb, lt-leb, add-shift}
 use Rattle.laws.proofs.Cases.{by-cases, by-order, by-cond, contradiction}
 use Rattle.items.specs.Item as I
 use Rattle.items.specs.Item.{Item, label, instruction, constant, string, global}
@@ -47,8 +47,8 @@ table-address (l ∷ ls) k n h = rw (table-address ls k n h) refl
 pub addresses-at : (table : List Label) (n c k : ℕ) → k < c → getD (addressesFrom table n c) k 0 ≡ addressOf table (n + k)
 unfolding addressesFrom
 addresses-at table n zero k l = absurd (omega arith)
-addresses-at table n (suc c) zero l = let z : n + 0 ≡ n = omega arith in rw z refl
-addresses-at table n (suc c) (suc k) l = let z : n + suc k ≡ suc n + k = omega arith in rw z (addresses-at table (suc n) c k (omega arith))
+addresses-at table n (suc c) zero l = rw (add-zero n) refl
+addresses-at table n (suc c) (suc k) l = rw (add-shift n k) (addresses-at table (suc n) c k (omega arith))
 
 pub addresses-length : (table : List Label) (n c : ℕ) → length (addressesFrom table n c) ≡ c
 unfolding addressesFrom
@@ -144,14 +144,12 @@ module _ (Γ : Env) where
       cut-label Γ c λ e c₀.
       cut Γ (bodyCode strings (2 + f .parameters) n (f .body)) _ c₀ λ b₁ c₁ c₂.
       cut-number Γ c₂ λ b₃ i₃ c₃.
-      let z : l + 0 ≡ l = omega arith in
-      rw (z, e) (record { labels = n; end = b₃; code = code-append Γ c₁ (next (is-number i₃) (end refl)) })
+      rw (add-zero l, e) (record { labels = n; end = b₃; code = code-append Γ c₁ (next (is-number i₃) (end refl)) })
   function-at strings (f ∷ fs) l n (suc k) c h =
       cut-label Γ c λ e c₀.
       cut Γ (bodyCode strings (2 + f .parameters) n (f .body)) _ c₀ λ b₁ c₁ c₂.
       cut-number Γ c₂ λ b₃ i₃ c₃.
-      let z : l + suc k ≡ suc l + k = omega arith in
-      rw z (function-at strings fs (suc l) (n + bodyLabels (f .body)) k c₃ (omega arith))
+      rw (add-shift l k) (function-at strings fs (suc l) (n + bodyLabels (f .body)) k c₃ (omega arith))
 
   -- strings are laid upwards
   pub strings-up : (l : ℕ) (ss : List (List ℕ)) {a b : ℕ} → Code Γ a (stringsCode l ss) b → a ≤ b

@@ -1,6 +1,7 @@
 -- The placement rules of the compiler's text: every function and string labelled, entries that differ, strings in place and apart.
 use Rattle.laws.proofs.Basics.{ℕ, zero, suc, _+_, _-_, _<_, _≤_, _≡_, refl, sym, _∙_, List, [], _∷_, _++_, append-assoc, true, false, inl, length}
-use Rattle.laws.proofs.Basics.{getD, take, drop, replicate, length-drop, length-take-le, getD-take, getD-drop, ext-getD, eqb, arith, eq-eqb, ne-eqb}
+use Rattle.laws.proofs.Basics.{getD, take, drop, replicate, length-drop, length-take-le, getD-take, getD-drop, ext-getD, eqb, add-zero, arith, eq-eqb}
+use Rattle.laws.proofs.Basics.{ne-eqb, add-shift}
 use Rattle.laws.proofs.Cases.{by-order, by-cond}
 use Rattle.items.specs.Item.{Item, label}
 use Rattle.items.specs.Render.{render}
@@ -39,17 +40,16 @@ in-right (x ∷ xs) i = there (in-right xs i)
 in-functions : (strings l n : ℕ) (fs : List Fun) (k : ℕ) → k < length fs → In (l + k) (functionsCode strings l n fs)
 unfolding functionsCode
 in-functions strings l n [] k h = absurd (omega arith)
-in-functions strings l n (f ∷ fs) zero h = let z : l + 0 ≡ l = omega arith in rw z here
+in-functions strings l n (f ∷ fs) zero h = rw (add-zero l) here
 in-functions strings l n (f ∷ fs) (suc k) h =
-    let z : l + suc k ≡ suc l + k = omega arith in
-    rw z (there (in-right (bodyCode strings (2 + f .parameters) n (f .body))
+    rw (add-shift l k) (there (in-right (bodyCode strings (2 + f .parameters) n (f .body))
     (there (in-functions strings (suc l) (n + bodyLabels (f .body)) fs k (omega arith)))))
 
 in-strings : (l : ℕ) (ss : List (List ℕ)) (k : ℕ) → k < length ss → In (l + k) (stringsCode l ss)
 unfolding stringsCode
 in-strings l [] k h = absurd (omega arith)
-in-strings l (cs ∷ ss) zero h = let z : l + 0 ≡ l = omega arith in rw z here
-in-strings l (cs ∷ ss) (suc k) h = let z : l + suc k ≡ suc l + k = omega arith in rw z (there (there (in-strings (suc l) ss k (omega arith))))
+in-strings l (cs ∷ ss) zero h = rw (add-zero l) here
+in-strings l (cs ∷ ss) (suc k) h = rw (add-shift l k) (there (there (in-strings (suc l) ss k (omega arith))))
 
 defined-in : (ls more : List Label) (n at : ℕ) → defined (ls ++ (record { number = n; address = at } ∷ more)) n ≡ true
 unfolding defined
@@ -97,20 +97,16 @@ module _ (memory room : ℕ) where
     where
       low′ : {b : ℕ} → addressOf labels l ≡ at → Up labels (suc l) (b + 1) (length fs) → at + 0 ≤ b → (k : ℕ) → k < suc (length fs)
           → at ≤ addressOf labels (l + k)
-      low′ a u m zero j = let z : l + 0 ≡ l = omega arith in rw z (omega arith)
-      low′ a u m (suc k) j = let z : l + suc k ≡ suc l + k = omega arith in rw z (omega (arith, u .low k (omega arith)))
+      low′ a u m zero j = rw (add-zero l) (omega arith)
+      low′ a u m (suc k) j = rw (add-shift l k) (omega (arith, u .low k (omega arith)))
 
       strict′ : {b : ℕ} → addressOf labels l ≡ at → Up labels (suc l) (b + 1) (length fs) → at + 0 ≤ b → (i j : ℕ) → i < j → j < suc (length fs)
           → addressOf labels (l + i) < addressOf labels (l + j)
       strict′ a u m i zero v w = absurd (omega arith)
       strict′ a u m zero (suc j) v w =
-          let y : l + 0 ≡ l = omega arith in
-          let z : l + suc j ≡ suc l + j = omega arith in
-          rw (y, z) (omega (arith, u .low j (omega arith)))
+          rw (add-zero l, add-shift l j) (omega (arith, u .low j (omega arith)))
       strict′ a u m (suc i) (suc j) v w =
-          let y : l + suc i ≡ suc l + i = omega arith in
-          let z : l + suc j ≡ suc l + j = omega arith in
-          rw (y, z) (u .strict i j (omega arith) (omega arith))
+          rw (add-shift l i, add-shift l j) (u .strict i j (omega arith) (omega arith))
 
 -- ---- strings
 
@@ -125,13 +121,11 @@ module _ (Γ : Env) where
   unfolding stringsCode
   string-at l [] c k h = absurd (omega arith)
   string-at l (cs ∷ ss) {a} {b} (next (is-label t e) (next (is-string f g) c)) zero h =
-      let z : l + 0 ≡ l = omega arith in
       let u = G.strings-up Γ (suc l) ss c in
-      rw (z, t, e) (record { low = omega arith; high = omega arith; words = f })
+      rw (add-zero l, t, e) (record { low = omega arith; high = omega arith; words = f })
   string-at l (cs ∷ ss) {a} {b} (next (is-label t e) (next (is-string f g) c)) (suc k) h =
-      let z : l + suc k ≡ suc l + k = omega arith in
       let r = string-at (suc l) ss c k (omega arith) in
-      rw z (record { low = omega (arith, r .low); high = r .high; words = r .words })
+      rw (add-shift l k) (record { low = omega (arith, r .low); high = r .high; words = r .words })
 
   strings-apart : (l : ℕ) (ss : List (List ℕ)) {a b : ℕ} → Code Γ a (stringsCode l ss) b → (i j : ℕ) → i < j → j < length ss
       → Γ .lab (l + i) + length (packed (getD ss i [])) ≤ Γ .lab (l + j)
@@ -139,14 +133,10 @@ module _ (Γ : Env) where
   strings-apart l [] c i j u h = absurd (omega arith)
   strings-apart l (cs ∷ ss) c i zero u h = absurd (omega arith)
   strings-apart l (cs ∷ ss) (next (is-label t e) (next (is-string f g) c)) zero (suc j) u h =
-      let y : l + 0 ≡ l = omega arith in
-      let z : l + suc j ≡ suc l + j = omega arith in
       let r = string-at (suc l) ss c j (omega arith) in
-      rw (y, z) (omega (arith, r .low))
+      rw (add-zero l, add-shift l j) (omega (arith, r .low))
   strings-apart l (cs ∷ ss) (next (is-label t e) (next (is-string f g) c)) (suc i) (suc j) u h =
-      let y : l + suc i ≡ suc l + i = omega arith in
-      let z : l + suc j ≡ suc l + j = omega arith in
-      rw (y, z) (strings-apart (suc l) ss c i j (omega arith) (omega arith))
+      rw (add-shift l i, add-shift l j) (strings-apart (suc l) ss c i j (omega arith) (omega arith))
 
 -- ---- the table has the labels
 

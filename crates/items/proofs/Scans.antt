@@ -1,6 +1,6 @@
 -- A scan of a whole text is the items that `nextIn` gives one after another, from where `startIn` says that they begin.
 use Rattle.laws.proofs.Basics.{ℕ, zero, suc, _+_, _-_, _≤_, _≡_, refl, ap, _∙_, List, [], _∷_, Bool, true, false, not, cond, length, drop, drop-drop}
-use Rattle.laws.proofs.Basics.{eqb, add-zero, arith}
+use Rattle.laws.proofs.Basics.{eqb, add-zero, arith, add-shift}
 use Rattle.laws.proofs.Cases.{by-cases, by-cond}
 use Rattle.items.specs.Item.{Item}
 use Rattle.items.specs.Reader.{Got, got, nothing, head}
@@ -42,8 +42,7 @@ unfolding body
 body-over zero place bytes h = rw (add-zero place)
 body-over (suc k) place [] h = absurd (omega arith)
 body-over (suc k) place (c ∷ r) h =
-    let e : place + suc k ≡ suc place + k = omega arith in
-    rw e (body-over k (suc place) r (omega arith))
+    rw (add-shift place k) (body-over k (suc place) r (omega arith))
 
 -- ---- one element at a time
 
@@ -81,8 +80,7 @@ body-gap (c ∷ r) at = by (gaps false (c ∷ r)) refl (gaps-within false (c ∷
     by : (g : ℕ) → gaps false (c ∷ r) ≡ g → g ≤ suc (length r) → body 0 at (c ∷ r) ≡ body 0 (at + g) (drop g (c ∷ r))
     by zero e h = rw (add-zero at)
     by (suc k) e h =
-        let p : at + suc k ≡ suc at + k = omega arith in
-        rw (e, p) (body-over k (suc at) r (omega arith))
+        rw (e, add-shift at k) (body-over k (suc at) r (omega arith))
 
 pub body-next : (text : List ℕ) (at : ℕ) → body 0 at (drop at text) ≡ onNext text (nextIn text at)
 unfolding nextIn

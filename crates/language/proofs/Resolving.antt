@@ -1,7 +1,7 @@
 -- From a tree to a resolved tree that is formed: names mean what stands in the scope, and the scope's words lie below the height. Here are
 -- the parts; Leaving goes through the tree.
 use Rattle.laws.proofs.Basics.{ℕ, suc, _+_, _<_, _≤_, _≡_, refl, ap, _∙_, List, [], _∷_, Bool, true, false, Option, some, none, length, leb, le-refl}
-use Rattle.laws.proofs.Basics.{arith, leb-true}
+use Rattle.laws.proofs.Basics.{add-zero, arith, leb-true}
 use Rattle.laws.proofs.Cases.{by-cases, by-cond}
 use Rattle.language.specs.Tree as T
 use Rattle.language.specs.Tree.{Name, Simple, Constant, Label, Expressions, Suffixes, Command, Commands}
@@ -150,7 +150,7 @@ module _ (functions strings : ℕ) (text : List ℕ) where
   pub formed-values : (h : ℕ) (es : Exprs) (ls : Locals) → FormedA functions strings h es → FormedL functions strings (h + H.count es) ls
       → FormedL functions strings h (valuesBefore es ls)
   unfolding FormedE H.count
-  formed-values h R.none ls p q = let z : h + 0 ≡ h = omega arith in rw z at q
+  formed-values h R.none ls p q = rw (add-zero h) at q
   formed-values h (R.and e es) ls p q =
       let z : h + suc (H.count es) ≡ h + 1 + H.count es = omega arith in
       (p .0, formed-values (h + 1) es ls (p .1) (rw z at q))
@@ -179,7 +179,7 @@ module _ (functions strings : ℕ) (text : List ℕ) where
 
   height-values : (h : ℕ) (es : Exprs) (ls : Locals) → H.heightWith h (valuesBefore es ls) ≡ H.heightWith (h + H.count es) ls
   unfolding H.heightWith H.count
-  height-values h R.none ls = let z : h + 0 ≡ h = omega arith in rw z refl
+  height-values h R.none ls = rw (add-zero h) refl
   height-values h (R.and e es) ls = let z : h + suc (H.count es) ≡ h + 1 + H.count es = omega arith in rw z (height-values (h + 1) es ls)
 
   -- the height after declarations is the same, before and after they are resolved

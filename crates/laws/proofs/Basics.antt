@@ -17,3 +17,7 @@ pub use native.Mathlib.Omega.{arith}
 pub use borrow.Author.Needs.{needs}
 pub use borrow.Author.Tests.{eqb-true, eqb-false, eq-eqb, ne-eqb, ltb-true, ltb-false, lt-ltb, le-ltb, leb-true, leb-false, le-leb, lt-leb}
 pub use borrow.Author.Tests.{not-true, not-false}
+
+-- one more on the other side
+pub add-shift : (n m : ℕ) → n + suc m ≡ suc n + m
+add-shift n m = omega arith

@@ -1,6 +1,7 @@
 -- From symbol to symbol: a scan is what stands at its place and the scan of the rest, and lines are counted on the way.
 use Rattle.laws.proofs.Basics.{ℕ, zero, suc, _+_, _-_, _<_, _≤_, _≡_, refl, sym, ap, _∙_, List, [], _∷_, _++_, Bool, true, false, not, cond, length}
 use Rattle.laws.proofs.Basics.{getD, take, drop, length-drop, drop-of-length-le, drop-cons, drop-drop, eqb, add-zero, add-one, arith, eq-eqb, ne-eqb}
+use Rattle.laws.proofs.Basics.{add-shift}
 use Rattle.laws.proofs.Cases.{by-cases, contradiction}
 use lib.Seq.{take-add}
 use Rattle.text.specs.Line.{newlines, lineOf}
@@ -58,7 +59,7 @@ scan-over : (k place : ℕ) (bs : List ℕ) → scanFrom k place bs ≡ scanFrom
 unfolding scanFrom
 scan-over zero place bs = rw (add-zero place)
 scan-over (suc k) place [] = refl
-scan-over (suc k) place (c ∷ r) = let e : place + suc k ≡ suc place + k = omega arith in rw e (scan-over k (suc place) r)
+scan-over (suc k) place (c ∷ r) = rw (add-shift place k) (scan-over k (suc place) r)
 
 abbrev pub elementAt : List ℕ → ℕ → Element
 elementAt text i = byClass (classOf (getD text i 0)) (drop i text)
