@@ -82,20 +82,9 @@ module _ (T : ℕ) (low : T ≤ 32768) where
   all-sound s-none = tt
   all-sound (s-more {x = x} p q) = (right-sound x p, all-sound q)
 
-num : {T f k : ℕ} {i : Bool} {b : Base} {xs : List Item} → (f < 8) × (k ≤ 65535) → Sounds T xs → Sounds T (instruction f i b (number false k) ∷ xs)
-num {T} {f} {k} {i} {b} l q = s-more {x = instruction f i b (number false k)} (record { eight = l .0; right = l .1 }) q
-
-adr : {T f k : ℕ} {i : Bool} {b : Base} {xs : List Item} → (f < 8) × Within T k → Sounds T xs → Sounds T (instruction f i b (address k) ∷ xs)
-adr {T} {f} {k} {i} {b} l q = s-more {x = instruction f i b (address k)} (record { eight = l .0; right = l .1 }) q
-
-lab : {T n : ℕ} {xs : List Item} → Within T n → Sounds T xs → Sounds T (label n ∷ xs)
-lab {T} {n} l q = s-more {x = label n} l q
-
-dat : {T n : ℕ} {xs : List Item} → n ≤ 65535 → Sounds T xs → Sounds T (constant (number false n) ∷ xs)
-dat {T} {n} l q = s-more {x = constant (number false n)} l q
-
-plc : {T n : ℕ} {xs : List Item} → Within T n → Sounds T xs → Sounds T (constant (address n) ∷ xs)
-plc {T} {n} l q = s-more {x = constant (address n)} l q
+-- s-more, by the item that stands there
+item : {T : ℕ} {x : Item} {xs : List Item} → Right T x → Sounds T xs → Sounds T (x ∷ xs)
+item p q = s-more p q
 
 -- so many labels from a first one on
 pub record Span (T n m : ℕ) : Type 0 where
@@ -155,7 +144,7 @@ sense-small b x y p q = by-cond (λ n. n < 8) b p q
 
 sound-monadic : {T : ℕ} (o : ℕ) → Sounds T (monadicAct o)
 unfolding monadicAct
-sound-monadic {T} o = by-cond (Sounds T) (eqb o MINUS) (num (omega arith) s-none) (by-cond (Sounds T) (eqb o NOT) (num (omega arith) s-none) s-none)
+sound-monadic {T} o = by-cond (Sounds T) (eqb o MINUS) (item (omega arith) s-none) (by-cond (Sounds T) (eqb o NOT) (item (omega arith) s-none) s-none)
 
 -- ---- labels that are left to
 
@@ -180,7 +169,7 @@ near-none = record { break = λ e. contradiction cc; loop = λ e. contradiction 
 sound-pairs-of : {T : ℕ} (l : ℕ) → Within T l → (ls : List CaseLabel) → FormedCases ls → Sounds T (pairsOf l ls)
 unfolding pairsOf FormedCases
 sound-pairs-of l m [] f = s-none
-sound-pairs-of l m (R.case v ∷ ls) f = let w : v < 65536 = f .0 in dat (omega arith) (plc m (sound-pairs-of l m ls (f .1)))
+sound-pairs-of l m (R.case v ∷ ls) f = let w : v < 65536 = f .0 in item (omega arith) (item m (sound-pairs-of l m ls (f .1)))
 sound-pairs-of l m (R.default ∷ ls) f = sound-pairs-of l m ls f
 
 default-near : {T : ℕ} (l e : ℕ) (cs : Cases) → Span T l (commandsIn cs) → Within T e → Within T (defaultOf l e cs)
@@ -199,33 +188,33 @@ module _ (T functions strings : ℕ) (few : suc functions + strings ≤ T) where
 
     pub sound-e : (h n : ℕ) (e : Expr) → h ≤ 8192 → Span T n (exprLabels e) → FormedE functions strings h e → Low (ofExpr h e) → LeavesE e
         → Sounds T (exprCode (suc functions) h n e)
-    sound-e h n (R.constant v) l m f w y = let z : v < 65536 = f in num (omega arith) s-none
-    sound-e h n (R.local k) l m f w y = let z : k < h = f in num (omega arith) s-none
-    sound-e h n (R.global k) l m f w y = let z : k < 400 = f in num (omega arith) s-none
-    sound-e h n (R.function k) l m f w y = let z : k < functions = f in adr (omega arith) s-none
-    sound-e h n (R.string k) l m f w y = let z : k < strings = f in adr (omega arith) s-none
-    sound-e h n (R.addressOfLocal k) l m f w y = let z : k < h = f in num (omega arith) s-none
-    sound-e h n (R.addressOfGlobal k) l m f w y = let z : k < 400 = f in num (omega arith) s-none
+    sound-e h n (R.constant v) l m f w y = let z : v < 65536 = f in item (omega arith) s-none
+    sound-e h n (R.local k) l m f w y = let z : k < h = f in item (omega arith) s-none
+    sound-e h n (R.global k) l m f w y = let z : k < 400 = f in item (omega arith) s-none
+    sound-e h n (R.function k) l m f w y = let z : k < functions = f in item (omega arith) s-none
+    sound-e h n (R.string k) l m f w y = let z : k < strings = f in item (omega arith) s-none
+    sound-e h n (R.addressOfLocal k) l m f w y = let z : k < h = f in item (omega arith) s-none
+    sound-e h n (R.addressOfGlobal k) l m f w y = let z : k < 400 = f in item (omega arith) s-none
     sound-e h n (R.addressOfContents e) l m f w y = sound-e h n e l m f w y
     sound-e h n (R.addressOfIndex a b) l m f w y =
-        sounds-both (sound-e h n a l (omega arith) (f .0) (search lows) (y .0)) (num (omega arith)
-        (sounds-both (sound-e (h + 1) (n + exprLabels a) b (search lows) (omega arith) (f .1) (search lows) (y .1)) (num (omega arith) s-none)))
-    sound-e h n (R.contents e) l m f w y = sounds-both (sound-e h n e l m f w y) (num (omega arith) s-none)
+        sounds-both (sound-e h n a l (omega arith) (f .0) (search lows) (y .0)) (item (omega arith)
+        (sounds-both (sound-e (h + 1) (n + exprLabels a) b (search lows) (omega arith) (f .1) (search lows) (y .1)) (item (omega arith) s-none)))
+    sound-e h n (R.contents e) l m f w y = sounds-both (sound-e h n e l m f w y) (item (omega arith) s-none)
     sound-e h n (R.index a b) l m f w y =
-        sounds-both (sound-e h n a l (omega arith) (f .0) (search lows) (y .0)) (num (omega arith)
+        sounds-both (sound-e h n a l (omega arith) (f .0) (search lows) (y .0)) (item (omega arith)
         (sounds-both (sound-e (h + 1) (n + exprLabels a) b (search lows) (omega arith) (f .1) (search lows) (y .1))
-        (num (omega arith) (num (omega arith) s-none))))
+        (item (omega arith) (item (omega arith) s-none))))
     sound-e h n (R.unary o e) l m f w y = sounds-both (sound-e h n e l m f w y) (sound-monadic o)
     sound-e h n (R.binary o a b) l m f w y =
-        sounds-both (sound-e h n a l (omega arith) (f .0) (search lows) (y .0)) (num (omega arith)
+        sounds-both (sound-e h n a l (omega arith) (f .0) (search lows) (y .0)) (item (omega arith)
         (sounds-both (sound-e (h + 1) (n + exprLabels a) b (search lows) (omega arith) (f .1) (search lows) (y .1))
-        (num (omega arith) (num (omega arith) (num (omega arith) (num (omega (arith, act-small o)) s-none))))))
+        (item (omega arith) (item (omega arith) (item (omega arith) (item (omega (arith, act-small o)) s-none))))))
     sound-e h n (R.call e es) l m f w y =
         sounds-both (sound-a (h + 2) n es (search lows) (omega arith) (f .0) (search lows) (y .0))
         (sounds-both (sound-e (h + 2 + count es) (n + exprsLabels es) e (high (h + 2) es (search lows) (search lows)) (omega arith) (f .1)
-        (search lows) (y .1)) (num (omega arith) s-none))
+        (search lows) (y .1)) (item (omega arith) s-none))
     sound-e h n (R.valof c) l m f w y =
-        sounds-both (sound-c h (n + 1) _ c l (omega arith) (near-valof (omega arith)) f w y) (lab (omega arith) s-none)
+        sounds-both (sound-c h (n + 1) _ c l (omega arith) (near-valof (omega arith)) f w y) (item (omega arith) s-none)
 
     -- the height after arguments
     high : (h : ℕ) (es : Exprs) → h ≤ 8192 → Low (ofExprs h es) → h + count es ≤ 8192
@@ -237,18 +226,18 @@ module _ (T functions strings : ℕ) (few : suc functions + strings ≤ T) where
     sound-a h n R.none l m f w y = s-none
     sound-a h n (R.and e es) l m f w y =
         sounds-both (sound-e h n e l (omega arith) (f .0) (search lows) (y .0))
-        (num (omega arith) (sound-a (h + 1) (n + exprLabels e) es (search lows) (omega arith) (f .1) (search lows) (y .1)))
+        (item (omega arith) (sound-a (h + 1) (n + exprLabels e) es (search lows) (omega arith) (f .1) (search lows) (y .1)))
 
     sound-t : (h n : ℕ) (t : Target) → h ≤ 8192 → Span T n (targetLabels t) → FormedT functions strings h t → Low (ofTarget h t) → LeavesT t
         → Sounds T (targetCode (suc functions) h n t)
-    sound-t h n (R.toLocal k) l m f w y = let z : k < h + 1 = f in num (omega arith) s-none
-    sound-t h n (R.toGlobal k) l m f w y = let z : k < 400 = f in num (omega arith) s-none
+    sound-t h n (R.toLocal k) l m f w y = let z : k < h + 1 = f in item (omega arith) s-none
+    sound-t h n (R.toGlobal k) l m f w y = let z : k < 400 = f in item (omega arith) s-none
     sound-t h n (R.toContents e) l m f w y =
-        num (omega arith) (sounds-both (sound-e (h + 1) n e (w .0) m f (w .1) y) (num (omega arith) (num (omega arith) (num (omega arith) s-none))))
+        item (omega arith) (sounds-both (sound-e (h + 1) n e (w .0) m f (w .1) y) (item (omega arith) (item (omega arith) (item (omega arith) s-none))))
     sound-t h n (R.toIndex a b) l m f w y =
-        num (omega arith) (sounds-both (sound-e (h + 1) n a (search lows) (omega arith) (f .0) (search lows) (y .0)) (num (omega arith)
+        item (omega arith) (sounds-both (sound-e (h + 1) n a (search lows) (omega arith) (f .0) (search lows) (y .0)) (item (omega arith)
         (sounds-both (sound-e (h + 2) (n + exprLabels a) b (search lows) (omega arith) (f .1) (search lows) (y .1))
-        (num (omega arith) (num (omega arith) (num (omega arith) (num (omega arith) s-none)))))))
+        (item (omega arith) (item (omega arith) (item (omega arith) (item (omega arith) s-none)))))))
 
     sound-p : (h n : ℕ) (ps : Pairs) → h ≤ 8192 → Span T n (pairsLabels ps) → FormedP functions strings h ps → Low (ofPairs h ps) → LeavesP ps
         → Sounds T (pairsCode (suc functions) h n ps)
@@ -264,47 +253,47 @@ module _ (T functions strings : ℕ) (few : suc functions + strings ≤ T) where
     sound-c h n x (R.assign ps) l m q f w y = sound-p h n ps l m f w y
     sound-c h n x (R.perform e) l m q f w y = sound-e h n e l m f w y
     sound-c h n x (R.test e c d) l m q f w y =
-        sounds-both (sound-e h (n + 2) e l (omega arith) (f .0) (search lows) (y .0)) (adr (omega arith)
-        (sounds-both (sound-c h (n + 2 + exprLabels e) x c l (omega arith) q (f .1) (search lows) (y .1)) (adr (omega arith) (lab (omega arith)
+        sounds-both (sound-e h (n + 2) e l (omega arith) (f .0) (search lows) (y .0)) (item (omega arith)
+        (sounds-both (sound-c h (n + 2 + exprLabels e) x c l (omega arith) q (f .1) (search lows) (y .1)) (item (omega arith) (item (omega arith)
         (sounds-both (sound-c h (n + 2 + exprLabels e + cmdLabels c) x d l (omega arith) q (f .2) (search lows) (y .2))
-        (lab (omega arith) s-none))))))
+        (item (omega arith) s-none))))))
     sound-c h n x (R.when sense e c) l m q f w y =
         sounds-both (sound-e h (n + 1) e l (omega arith) (f .0) (search lows) (y .0))
-        (adr (omega (arith, sense-small sense 5 4 (omega arith) (omega arith)))
-        (sounds-both (sound-c h (n + 1 + exprLabels e) x c l (omega arith) q (f .1) (search lows) (y .1)) (lab (omega arith) s-none)))
+        (item (omega (arith, sense-small sense 5 4 (omega arith) (omega arith)))
+        (sounds-both (sound-c h (n + 1 + exprLabels e) x c l (omega arith) q (f .1) (search lows) (y .1)) (item (omega arith) s-none)))
     sound-c h n x (R.while sense e c) l m q f w y =
-        lab (omega arith) (sounds-both (sound-e h (n + 2) e l (omega arith) (f .0) (search lows) (y .0))
-        (adr (omega (arith, sense-small sense 5 4 (omega arith) (omega arith)))
+        item (omega arith) (sounds-both (sound-e h (n + 2) e l (omega arith) (f .0) (search lows) (y .0))
+        (item (omega (arith, sense-small sense 5 4 (omega arith) (omega arith)))
         (sounds-both (sound-c h (n + 2 + exprLabels e) _ c l (omega arith) (near-loop (omega arith) q) (f .1) (search lows) (y .1))
-        (adr (omega arith) (lab (omega arith) s-none)))))
+        (item (omega arith) (item (omega arith) s-none)))))
     sound-c h n x (R.repeat c) l m q f w y =
-        lab (omega arith) (sounds-both (sound-c h (n + 3) _ c l (omega arith) (near-loop (omega arith) q) f w y)
-        (lab (omega arith) (adr (omega arith) (lab (omega arith) s-none))))
+        item (omega arith) (sounds-both (sound-c h (n + 3) _ c l (omega arith) (near-loop (omega arith) q) f w y)
+        (item (omega arith) (item (omega arith) (item (omega arith) s-none))))
     sound-c h n x (R.repeatWhile sense c e) l m q f w y =
-        lab (omega arith) (sounds-both (sound-c h (n + 3) _ c l (omega arith) (near-loop (omega arith) q) (f .0) (search lows) (y .0))
-        (lab (omega arith) (sounds-both (sound-e h (n + 3 + cmdLabels c) e l (omega arith) (f .1) (search lows) (y .1))
-        (adr (omega (arith, sense-small sense 4 5 (omega arith) (omega arith))) (lab (omega arith) s-none)))))
+        item (omega arith) (sounds-both (sound-c h (n + 3) _ c l (omega arith) (near-loop (omega arith) q) (f .0) (search lows) (y .0))
+        (item (omega arith) (sounds-both (sound-e h (n + 3 + cmdLabels c) e l (omega arith) (f .1) (search lows) (y .1))
+        (item (omega (arith, sense-small sense 4 5 (omega arith) (omega arith))) (item (omega arith) s-none)))))
     sound-c h n x (R.for first limit by c) l m q f w y =
         let z : by < 65536 = f .3 in
-        sounds-both (sound-e h (n + 3) first l (omega arith) (f .0) (search lows) (y .0)) (num (omega arith)
+        sounds-both (sound-e h (n + 3) first l (omega arith) (f .0) (search lows) (y .0)) (item (omega arith)
         (sounds-both (sound-e (h + 1) (n + 3 + exprLabels first) limit (search lows) (omega arith) (f .1) (search lows) (y .1))
-        (num (omega arith) (lab (omega arith) (num (omega arith) (num (omega arith)
-        (num (omega (arith, limit-small by)) (adr (omega arith)
+        (item (omega arith) (item (omega arith) (item (omega arith) (item (omega arith)
+        (item (omega (arith, limit-small by)) (item (omega arith)
         (sounds-both (sound-c (h + 2) (n + 3 + exprLabels first + exprLabels limit) _ c (search lows) (omega arith) (near-loop (omega arith) q) (f .2)
         (search lows) (y .2))
-        (lab (omega arith) (num (omega arith) (num (omega arith) (num (omega arith) (adr (omega arith) (lab (omega arith) s-none)))))))))))))))
+        (item (omega arith) (item (omega arith) (item (omega arith) (item (omega arith) (item (omega arith) (item (omega arith) s-none)))))))))))))))
     sound-c h n x (R.switch e cs) l m q f w y =
         sounds-both (sound-e h n e l (omega arith) (f .0) (search lows) (y .0))
-        (num (omega arith) (dat (omega (arith, f .2)) (plc (default-near _ _ cs (omega arith) (omega arith))
+        (item (omega arith) (item (omega (arith, f .2)) (item (default-near _ _ cs (omega arith) (omega arith))
         (sounds-both (sound-table _ h cs (omega arith) (f .1))
         (sounds-both (sound-s h _ _ _ cs l (omega arith) (omega arith) (near-switch (omega arith) q) (f .1) (search lows) (y .1))
-        (lab (omega arith) s-none))))))
-    sound-c h n x (R.resultis e) l m q f w y = sounds-both (sound-e h n e l m f w (y .0)) (adr (omega (arith, q .result (y .1))) s-none)
-    sound-c h n x R.break l m q f w y = adr (omega (arith, q .break y)) s-none
-    sound-c h n x R.loop l m q f w y = adr (omega (arith, q .loop y)) s-none
-    sound-c h n x R.endcase l m q f w y = adr (omega (arith, q .endcase y)) s-none
-    sound-c h n x R.return l m q f w y = num (omega arith) s-none
-    sound-c h n x R.finish l m q f w y = num (omega arith) s-none
+        (item (omega arith) s-none))))))
+    sound-c h n x (R.resultis e) l m q f w y = sounds-both (sound-e h n e l m f w (y .0)) (item (omega (arith, q .result (y .1))) s-none)
+    sound-c h n x R.break l m q f w y = item (omega (arith, q .break y)) s-none
+    sound-c h n x R.loop l m q f w y = item (omega (arith, q .loop y)) s-none
+    sound-c h n x R.endcase l m q f w y = item (omega (arith, q .endcase y)) s-none
+    sound-c h n x R.return l m q f w y = item (omega arith) s-none
+    sound-c h n x R.finish l m q f w y = item (omega arith) s-none
     sound-c h n x (R.block ls cs) l m q f w y =
         sounds-both (sound-l h n ls l (omega arith) (f .0) (search lows) (y .0))
         (sound-b (heightWith h ls) (n + localsLabels ls) x cs (after-low h ls l (search lows)) (omega arith) q (f .1) (search lows) (y .1))
@@ -325,13 +314,13 @@ module _ (T functions strings : ℕ) (few : suc functions + strings ≤ T) where
         → FormedS functions strings h cs → Low (ofCases h cs) → LeavesS a b v cs → Sounds T (casesCode (suc functions) h t n x cs)
     sound-s h t n x R.noCases l k m q f w y = s-none
     sound-s h t n x (R.cases ls c cs) l k m q f w y =
-        lab (omega arith) (sounds-both (sound-c h n x c l (omega arith) q (f .0) (search lows) (y .0))
+        item (omega arith) (sounds-both (sound-c h n x c l (omega arith) q (f .0) (search lows) (y .0))
         (sound-s h (suc t) (n + cmdLabels c) x cs l (omega arith) (omega arith) q (f .1) (search lows) (y .1)))
 
     sound-l : (h n : ℕ) (ls : Locals) → h ≤ 8192 → Span T n (localsLabels ls) → FormedL functions strings h ls → Low (ofLocals h ls) → LeavesL ls
         → Sounds T (localsCode (suc functions) h n ls)
     sound-l h n R.noLocals l m f w y = s-none
-    sound-l h n (R.vector k ls) l m f w y = num (omega arith) (num (omega arith) (sound-l (h + 2 + k) n ls (w .0) m (f .0) (w .1) y))
+    sound-l h n (R.vector k ls) l m f w y = item (omega arith) (item (omega arith) (sound-l (h + 2 + k) n ls (w .0) m (f .0) (w .1) y))
     sound-l h n (R.value e ls) l m f w y =
         sounds-both (sound-e h n e l (omega arith) (f .0) (search lows) (y .0))
-        (num (omega arith) (sound-l (h + 1) (n + exprLabels e) ls (search lows) (omega arith) (f .1) (search lows) (y .1)))
+        (item (omega arith) (sound-l (h + 1) (n + exprLabels e) ls (search lows) (omega arith) (f .1) (search lows) (y .1)))
