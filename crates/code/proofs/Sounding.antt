@@ -1,8 +1,9 @@
 -- The code of formed functions whose heights and labels are bounded can be written and read back.
-use Rattle.laws.proofs.Basics.{ℕ, suc, _+_, _<_, _≤_, _≡_, refl, List, [], _∷_, _++_, Bool, true, false, _&&_, cond, eqb, leb, arith, le-leb}
+use Rattle.laws.proofs.Basics.{ℕ, suc, _+_, _<_, _≤_, _≡_, refl, List, [], _∷_, _++_, Bool, true, false, _&&_, cond, eqb, leb, arith, leb-true}
+use Rattle.laws.proofs.Basics.{le-leb}
 use Rattle.laws.proofs.Cases.{by-cases, by-cond, contradiction}
 use Rattle.items.specs.Item as I
-use Rattle.items.specs.Item.{Operand, number, address, Base, Item, label, instruction, constant, string, global}
+use Rattle.items.specs.Item.{Operand, number, address, Item, label, instruction, constant, string, global}
 use Rattle.items.proofs.Sound.{Sound, SoundOperand, SoundString}
 use Rattle.items.proofs.Rendered.{AllSound}
 use Rattle.assembler.specs.Words.{operandInRange, inRange}
@@ -125,16 +126,12 @@ ruleset lows = (low-left, low-right, low-head, low-tail)
 act-small : (o : ℕ) → dyadicAct o ≤ 19
 unfolding dyadicAct
 act-small o =
-    pick 5 _ (eqb o STAR) (omega arith) (pick 6 _ (eqb o SLASH) (omega arith)
-    (pick 7 _ (eqb o REM) (omega arith) (pick 8 _ (eqb o PLUS) (omega arith)
-    (pick 9 _ (eqb o MINUS) (omega arith) (pick 10 _ (eqb o EQUAL) (omega arith)
-    (pick 11 _ (eqb o UNEQUAL) (omega arith) (pick 12 _ (eqb o LESS) (omega arith)
-    (pick 15 _ (eqb o ATMOST) (omega arith) (pick 14 _ (eqb o MORE) (omega arith)
-    (pick 13 _ (eqb o ATLEAST) (omega arith) (pick 16 _ (eqb o LEFT) (omega arith)
-    (pick 17 _ (eqb o RIGHT) (omega arith) (pick 18 _ (eqb o AMPERSAND) (omega arith) (pick 19 _ (eqb o BAR) (omega arith) (omega arith)))))))))))))))
+    pick STAR 5 _ refl (pick SLASH 6 _ refl (pick REM 7 _ refl (pick PLUS 8 _ refl (pick MINUS 9 _ refl (pick EQUAL 10 _ refl (pick UNEQUAL 11 _ refl
+    (pick LESS 12 _ refl (pick ATMOST 15 _ refl (pick MORE 14 _ refl (pick ATLEAST 13 _ refl (pick LEFT 16 _ refl (pick RIGHT 17 _ refl
+    (pick AMPERSAND 18 _ refl (pick BAR 19 _ refl (omega arith)))))))))))))))
   where
-    pick : (x y : ℕ) (b : Bool) → x ≤ 19 → y ≤ 19 → cond b x y ≤ 19
-    pick x y b p q = by-cond (λ n. n ≤ 19) b p q
+    pick : (k x y : ℕ) → leb x 19 ≡ true → y ≤ 19 → cond (eqb o k) x y ≤ 19
+    pick k x y p q = by-cond (λ n. n ≤ 19) (eqb o k) (leb-true x 19 p) q
 
 limit-small : (by : ℕ) → limitAct by ≤ 19
 limit-small by = by-cases (leb 32768 by) (λ outcome. rw outcome (omega arith)) (λ outcome. rw outcome (omega arith))
