@@ -5,5 +5,5 @@ use Rattle.compiler.proofs.all_strings.Tie as tie
 
 pub all-strings-spec : {M : Type 1} → statement M
 all-strings-spec =
-    tie.close (tie.spec (λ c. search no-strings) (search needs) (λ c. omega arith) (λ c. sym (length-take-le _ _ (omega arith)))
-    (search needs) (search needs) (search needs) (search needs) (λ c. search strings-gave))
+    tie.close (tie.spec (λ c. search no-strings) (search needs) (λ c. omega arith) (λ c. sym (length-take-le _ _ (omega arith))) (search needs)
+    (search needs) (search needs) (search needs) (λ c. search strings-gave))

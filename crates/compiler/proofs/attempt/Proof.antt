@@ -5,6 +5,5 @@ use Rattle.compiler.proofs.attempt.Tie as tie
 
 pub attempt-spec : {M : Type 1} → statement M
 attempt-spec =
-    tie.close (tie.spec (search needs) (search needs) (search needs) (search needs) (λ c. search too-long)
-    (search needs) (search needs) (search needs) (search needs) (λ c. search too-short)
-    (λ c κs. search serves) (search needs) (search needs) (λ c. search with-scratch))
+    tie.close (tie.spec (search needs) (search needs) (search needs) (search needs) (λ c. search too-long) (search needs) (search needs)
+    (search needs) (search needs) (λ c. search too-short) (λ c κs. search serves) (search needs) (search needs) (λ c. search with-scratch))

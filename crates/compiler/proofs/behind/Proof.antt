@@ -4,4 +4,5 @@ use Rattle.compiler.proofs.behind.Statement.{statement}
 use Rattle.compiler.proofs.behind.Tie as tie
 
 pub behind-spec : {M : Type 1} → statement M
-behind-spec = tie.close (tie.spec (search needs) (search needs) (search needs) (search needs) (search needs) (search needs) (λ c. search behind-gave))
+behind-spec =
+    tie.close (tie.spec (search needs) (search needs) (search needs) (search needs) (search needs) (search needs) (λ c. search behind-gave))

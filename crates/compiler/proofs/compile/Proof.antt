@@ -5,6 +5,5 @@ use Rattle.compiler.proofs.compile.Tie as tie
 
 pub compile-spec : {M : Type 1} → statement M
 compile-spec =
-    tie.close (tie.spec (search needs) (search needs) (λ c κs. search accepted-fits)
-    (search needs) (search needs) (search needs) (search needs) (λ c. search compiles-accepted)
-    (search needs) (search needs) (λ c. search compiles-refused))
+    tie.close (tie.spec (search needs) (search needs) (λ c κs. search accepted-fits) (search needs) (search needs) (search needs) (search needs)
+    (λ c. search compiles-accepted) (search needs) (search needs) (λ c. search compiles-refused))

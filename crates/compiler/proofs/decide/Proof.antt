@@ -6,7 +6,6 @@ use Rattle.compiler.proofs.decide.Tie as tie
 
 pub decide-spec : {M : Type 1} → statement M
 decide-spec =
-    tie.close (tie.spec (search needs) (search needs) (λ c. ap C.Refused (c .refuse .ensures) ∙ (search by-worst))
-    (search needs) (search needs) (λ c. ap C.Refused (c .refuse2 .ensures) ∙ (search by-tall))
-    (search needs) (λ c. ap C.Refused (c .refuse3 .ensures) ∙ (search by-none))
+    tie.close (tie.spec (search needs) (search needs) (λ c. ap C.Refused (c .refuse .ensures) ∙ (search by-worst)) (search needs) (search needs)
+    (λ c. ap C.Refused (c .refuse2 .ensures) ∙ (search by-tall)) (search needs) (λ c. ap C.Refused (c .refuse3 .ensures) ∙ (search by-none))
     (search needs) (λ c. ap C.Refused (c .refuse4 .ensures) ∙ (search by-past)) (λ c. search by-end))

@@ -5,6 +5,6 @@ use Rattle.compiler.proofs.translated.Tie as tie
 
 pub translated-spec : {M : Type 1} → statement M
 translated-spec =
-    tie.close (tie.spec (search needs) (search needs) (λ c κs. search ready-symbols)
-    (search needs) (search needs) (search needs) (search needs) (search needs) (search needs) (search needs) (search needs) (λ c. search with-scratch)
-    (search needs) (λ c. search symbols-answer) (search needs) (λ c. search never-short) (search needs) (λ c. search never-long))
+    tie.close (tie.spec (search needs) (search needs) (λ c κs. search ready-symbols) (search needs) (search needs) (search needs) (search needs)
+    (search needs) (search needs) (search needs) (search needs) (λ c. search with-scratch) (search needs) (λ c. search symbols-answer) (search needs)
+    (λ c. search never-short) (search needs) (λ c. search never-long))

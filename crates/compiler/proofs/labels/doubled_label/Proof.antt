@@ -5,5 +5,5 @@ use Rattle.compiler.proofs.labels.doubled_label.Tie as tie
 
 pub doubled-label-spec : {M : Type 1} → statement M
 doubled-label-spec =
-    tie.close (tie.spec (search needs) (search needs) (search needs) (λ c. search label-default)
-    (search needs) (search needs) (λ c. search label-refused) (search needs) (search needs) (λ c. search label-case))
+    tie.close (tie.spec (search needs) (search needs) (search needs) (λ c. search label-default) (search needs) (search needs)
+    (λ c. search label-refused) (search needs) (search needs) (λ c. search label-case))

@@ -4,4 +4,5 @@ use Rattle.compiler.proofs.labels.put_address.Statement.{statement}
 use Rattle.compiler.proofs.labels.put_address.Tie as tie
 
 pub put-address-spec : {M : Type 1} → statement M
-put-address-spec = tie.close (tie.spec (search needs) (search needs) (λ c. search emits-one))
+put-address-spec =
+    tie.close (tie.spec (search needs) (search needs) (λ c. search emits-one))

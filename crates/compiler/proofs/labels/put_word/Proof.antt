@@ -4,4 +4,5 @@ use Rattle.compiler.proofs.labels.put_word.Statement.{statement}
 use Rattle.compiler.proofs.labels.put_word.Tie as tie
 
 pub put-word-spec : {M : Type 1} → statement M
-put-word-spec = tie.close (tie.spec (search needs) (search needs) (λ c. search emits-one))
+put-word-spec =
+    tie.close (tie.spec (search needs) (search needs) (λ c. search emits-one))

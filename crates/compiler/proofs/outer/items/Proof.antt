@@ -18,29 +18,6 @@ fit c = let start = c .before .before .before .before in
     items-fit (start .args .global) (start .args .source .now) (start .args .st) (c .before .loop .k) (c .loop-test .taken) (start .pre)
     (c .before .loop .inv .1 (start .pre))
 
-push-name-requires : tie.Need-push-name-requires Inv-loop μ-loop
-push-name-requires c κs =
-    let after-item-constant = c .before .before .before .before .before .before .before .before in
-    let after-loop-test = after-item-constant .before .before .before .before in let w = fit after-loop-test in
-    let v = code-small (after-loop-test .before .before .before .before .args .global) (after-item-constant .item-constant .result .word)
-    (after-item-constant .item-constant .ensures .low) in
-    (omega arith, omega arith, omega arith, w .name)
-
-loop-again : tie.Need-loop-again Inv-loop μ-loop
-loop-again c =
-    let after-meaning = c .before .before .before in let after-again = after-meaning .before .before in let after-blame = after-again .before in
-    let after-entry2 = after-blame .before in let after-in-block = after-entry2 .before .before in
-    let after-item-constant = after-in-block .before .before in let after-entry = after-item-constant .before .before in
-    let after-loop-test = after-entry .before .before in let after-loop = after-loop-test .before in let start =
-    after-loop .before .before .before in (
-      c .before .before .push-name .kept .0 ∙ after-loop .loop .inv .0,
-      λ y. items-next (start .args .global) (start .args .source .now)
-          (start .args .st) (after-loop .loop .k) (after-loop-test .loop-test .taken) (after-entry .entry .ensures .0) refl
-          (after-item-constant .item-constant .ensures) (after-in-block .in-block .ensures) (after-entry2 .entry2 .ensures .0)
-          (after-blame .blame .ensures) (after-again .again .ensures) (c .before .before .push-name .ensures) (after-meaning .meaning .ensures) y
-          (after-loop .loop .inv .1 y),
-    )
-
 out : (c : tie.At-loop Inv-loop μ-loop) → let start = c .before .before .before in start .args .top + 2 * c .loop .k ≤ length (start .args .s .now)
 out c = let start = c .before .before .before in
     items-out (start .args .global) (start .args .source .now) (start .args .st) (c .loop .k) (start .pre) (c .loop .inv .1 (start .pre))
@@ -52,15 +29,28 @@ items-spec =
     (λ c κs. omega (arith, fit (c .before .before .before))) (λ c. omega (arith, fit (c .before .before .before .before .before)))
     (λ c. omega (arith, fit (c .before .before .before .before .before))) (λ c. omega arith)
     (λ c κs. omega (arith, fit (c .before .before .before .before .before))) (λ c. omega arith) (search needs) (search needs)
-    (λ c _. c .before .entry2 .ensures .1) (λ c. omega (
-      arith,
-      fit (c .before .before .before .before .before .before .before .before .before .before .before),
-    )) (λ c. omega (arith, fit (c .before .before .before .before .before .before .before .before .before .before .before))) (λ c. omega (
-      arith,
-      fit (c .before .before .before .before .before .before .before .before .before .before .before),
-    )) (search needs) push-name-requires
+    (λ c _. c .before .entry2 .ensures .1)
+    (λ c. omega (arith, fit (c .before .before .before .before .before .before .before .before .before .before .before)))
+    (λ c. omega (arith, fit (c .before .before .before .before .before .before .before .before .before .before .before)))
+    (λ c. omega (arith, fit (c .before .before .before .before .before .before .before .before .before .before .before))) (search needs)
+    (λ c κs. let after-item-constant = c .before .before .before .before .before .before .before .before in
+    let after-loop-test = after-item-constant .before .before .before .before in let w = fit after-loop-test in
+    let v = code-small (after-loop-test .before .before .before .before .args .global) (after-item-constant .item-constant .result .word)
+    (after-item-constant .item-constant .ensures .low) in (omega arith, omega arith, omega arith, w .name))
     (λ c. omega (
       arith,
-      fit (c .before .before .before .before .before .before .before .before .before .before .before .before .before .before .before),
-    )) (λ c. omega arith) loop-again (λ c. omega (arith, out (c .before))) (λ c. omega (arith, out (c .before))) (search needs)
-    (λ c. search items-end))
+      fit (c .before .before .before .before .before .before .before .before .before .before .before .before .before .before
+          .before),
+    )) (λ c. omega arith)
+    (λ c. let after-meaning = c .before .before .before in let after-again = after-meaning .before .before in
+    let after-blame = after-again .before in let after-entry2 = after-blame .before in let after-in-block = after-entry2 .before .before in
+    let after-item-constant = after-in-block .before .before in let after-entry = after-item-constant .before .before in
+    let after-loop-test = after-entry .before .before in let after-loop = after-loop-test .before in
+    let start = after-loop .before .before .before in (
+      c .before .before .push-name .kept .0 ∙ after-loop .loop .inv .0,
+      λ y. items-next (start .args .global) (start .args .source .now)
+          (start .args .st) (after-loop .loop .k) (after-loop-test .loop-test .taken) (after-entry .entry .ensures .0) refl
+          (after-item-constant .item-constant .ensures) (after-in-block .in-block .ensures) (after-entry2 .entry2 .ensures .0)
+          (after-blame .blame .ensures) (after-again .again .ensures) (c .before .before .push-name .ensures) (after-meaning .meaning .ensures) y
+          (after-loop .loop .inv .1 y),
+    )) (λ c. omega (arith, out (c .before))) (λ c. omega (arith, out (c .before))) (search needs) (λ c. search items-end))

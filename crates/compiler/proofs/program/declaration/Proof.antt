@@ -6,6 +6,5 @@ use Rattle.compiler.proofs.program.declaration.Tie as tie
 
 pub declaration-spec : {M : Type 1} → statement M
 declaration-spec =
-    tie.close (tie.spec (λ c κs. search ready-let)
-    (search needs) (search needs) (search needs) (λ c. search gave-let) (λ c κs. (search ready-items, search needs))
-    (search needs) (λ c. search gave-items))
+    tie.close (tie.spec (λ c κs. search ready-let) (search needs) (search needs) (search needs) (λ c. search gave-let)
+    (λ c κs. (search ready-items, search needs)) (search needs) (λ c. search gave-items))

@@ -5,4 +5,5 @@ use Rattle.compiler.proofs.program.too_tall.Statement.{statement}
 use Rattle.compiler.proofs.program.too_tall.Tie as tie
 
 pub too-tall-spec : {M : Type 1} → statement M
-too-tall-spec = tie.close (tie.spec (search needs) (search needs) (λ c. search tall-new) (λ c. search tall-old) (λ c. search tall-low))
+too-tall-spec =
+    tie.close (tie.spec (search needs) (search needs) (λ c. search tall-new) (λ c. search tall-old) (λ c. search tall-low))

@@ -5,5 +5,5 @@ use Rattle.compiler.proofs.scope.push_name.Tie as tie
 
 pub push-name-spec : {M : Type 1} → statement M
 push-name-spec =
-    tie.close (tie.spec (search needs) (search needs) (search needs) (search needs) (search needs) (search needs) (search needs)
-    (search needs) (λ c. search pushed-leaf))
+    tie.close (tie.spec (search needs) (search needs) (search needs) (search needs) (search needs) (search needs) (search needs) (search needs)
+    (λ c. search pushed-leaf))

@@ -4,4 +4,5 @@ use Rattle.compiler.proofs.steps.again.Statement.{statement}
 use Rattle.compiler.proofs.steps.again.Tie as tie
 
 pub again-spec : {M : Type 1} → statement M
-again-spec = tie.close (tie.spec (λ c. search again-not) (search needs) (λ c. search again-so))
+again-spec =
+    tie.close (tie.spec (λ c. search again-not) (search needs) (λ c. search again-so))

@@ -4,4 +4,5 @@ use Rattle.compiler.proofs.steps.blame.Statement.{statement}
 use Rattle.compiler.proofs.steps.blame.Tie as tie
 
 pub blame-spec : {M : Type 1} → statement M
-blame-spec = tie.close (tie.spec (λ c. search blame-none) (search needs) (λ c. search blame-some))
+blame-spec =
+    tie.close (tie.spec (λ c. search blame-none) (search needs) (λ c. search blame-some))

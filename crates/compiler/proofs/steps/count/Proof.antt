@@ -6,10 +6,7 @@ use Rattle.compiler.proofs.steps.count.Tie as tie
 abbrev Inv-loop : tie.InvT-loop
 Inv-loop s from end at₀ n₀ at n = (n ≤ at) × Counting s from end at n
 
-abbrev μ-loop : tie.MeasureT-loop
-μ-loop s from end at₀ n₀ at n = end - at
-
 pub count-spec : {M : Type 1} → statement M
 count-spec =
-    tie.close (tie.spec Inv-loop μ-loop (λ c. (omega arith, count-begin)) (λ c. omega arith)
-    (search needs) (λ c. omega arith) (λ c. omega arith) (λ c. omega arith) (λ c. (omega arith, search count-next)) (λ c. search count-end))
+    tie.close (tie.spec Inv-loop (λ s from end at₀ n₀ at n. end - at) (λ c. (omega arith, count-begin)) (λ c. omega arith) (search needs)
+    (λ c. omega arith) (λ c. omega arith) (λ c. omega arith) (λ c. (omega arith, search count-next)) (λ c. search count-end))

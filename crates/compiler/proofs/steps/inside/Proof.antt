@@ -4,4 +4,5 @@ use Rattle.compiler.proofs.steps.inside.Statement.{statement}
 use Rattle.compiler.proofs.steps.inside.Tie as tie
 
 pub inside-spec : {M : Type 1} → statement M
-inside-spec = tie.close (tie.spec (search needs) (λ c. search inside-is))
+inside-spec =
+    tie.close (tie.spec (search needs) (λ c. search inside-is))

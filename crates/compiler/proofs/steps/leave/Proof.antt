@@ -4,4 +4,5 @@ use Rattle.compiler.proofs.steps.leave.Statement.{statement}
 use Rattle.compiler.proofs.steps.leave.Tie as tie
 
 pub leave-spec : {M : Type 1} → statement M
-leave-spec = tie.close (tie.spec (search needs) (λ c. search leaves-wrong) (search needs) (search needs) (λ c. search leaves-jump))
+leave-spec =
+    tie.close (tie.spec (search needs) (λ c. search leaves-wrong) (search needs) (search needs) (λ c. search leaves-jump))

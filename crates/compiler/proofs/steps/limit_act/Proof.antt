@@ -3,4 +3,5 @@ use Rattle.compiler.proofs.steps.limit_act.Statement.{statement}
 use Rattle.compiler.proofs.steps.limit_act.Tie as tie
 
 pub limit-act-spec : {M : Type 1} → statement M
-limit-act-spec = tie.close (tie.spec (λ c. rw (le-leb _ _ (c .if1 .taken))) (λ c. rw (lt-leb _ _ (c .if1 .left))))
+limit-act-spec =
+    tie.close (tie.spec (λ c. rw (le-leb _ _ (c .if1 .taken))) (λ c. rw (lt-leb _ _ (c .if1 .left))))

@@ -4,4 +4,5 @@ use Rattle.compiler.proofs.steps.mark.Statement.{statement}
 use Rattle.compiler.proofs.steps.mark.Tie as tie
 
 pub mark-spec : {M : Type 1} → statement M
-mark-spec = tie.close (tie.spec (search needs) (search needs) (λ c. search emits-one))
+mark-spec =
+    tie.close (tie.spec (search needs) (search needs) (λ c. search emits-one))

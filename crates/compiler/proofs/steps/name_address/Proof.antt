@@ -4,25 +4,17 @@ use Rattle.compiler.proofs.Sides.{of-local, of-global, of-unknown, of-o
 use Rattle.compiler.proofs.steps.name_address.Statement.{statement}
 use Rattle.compiler.proofs.steps.name_address.Tie as tie
 
-returns-2 : tie.Need-returns-2
-returns-2 c =
-    record {
+pub name-address-spec : {M : Type 1} → statement M
+name-address-spec =
+    tie.close (tie.spec (search needs) (search needs) (search needs) (search needs) (λ c. record { by = search (of-unknown sayAddress) })
+    (search needs) (search needs)
+    (λ c. record {
       by = of-local sayAddress (c .before .before .before .before .before .before .args .name)
           (c .before .before .before .before .before .before .args .place) G.LP local-address (c .before .before .before .before .match .keys1)
           (c .before .before .put .ensures);
-    }
-
-returns-3 : tie.Need-returns-3
-returns-3 c =
-    record {
+    }) (search needs)
+    (λ c. record {
       by = of-global sayAddress (c .before .before .before .before .before .before .args .name)
           (c .before .before .before .before .before .before .args .place) G.LG global-address (c .before .before .before .before .match .keys2)
           (c .before .before .put2 .ensures);
-    }
-
-pub name-address-spec : {M : Type 1} → statement M
-name-address-spec =
-    tie.close (tie.spec (search needs) (search needs) (search needs) (search needs)
-    (λ c. record { by = search (of-unknown sayAddress) }) (search needs) (search needs)
-    returns-2 (search needs) returns-3
-    (λ c. record { by = search (of-other sayAddress) }))
+    }) (λ c. record { by = search (of-other sayAddress) }))

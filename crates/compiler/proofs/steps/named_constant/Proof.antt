@@ -4,4 +4,5 @@ use Rattle.compiler.proofs.steps.named_constant.Statement.{statement}
 use Rattle.compiler.proofs.steps.named_constant.Tie as tie
 
 pub named-constant-spec : {M : Type 1} → statement M
-named-constant-spec = tie.close (tie.spec (λ c. search named-unknown) (search needs) (λ c. search named-manifest) (λ c. search named-other))
+named-constant-spec =
+    tie.close (tie.spec (λ c. search named-unknown) (search needs) (λ c. search named-manifest) (λ c. search named-other))

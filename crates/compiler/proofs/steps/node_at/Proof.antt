@@ -5,5 +5,5 @@ use Rattle.compiler.proofs.steps.node_at.Tie as tie
 
 pub node-at-spec : {M : Type 1} → statement M
 node-at-spec =
-    tie.close (tie.spec (search needs) (search needs) (search needs) (search needs) (search needs) (search needs) (search needs)
-    (search needs) (search needs) (λ c. search node-is))
+    tie.close (tie.spec (search needs) (search needs) (search needs) (search needs) (search needs) (search needs) (search needs) (search needs)
+    (search needs) (λ c. search node-is))

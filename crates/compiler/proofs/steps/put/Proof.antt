@@ -4,4 +4,5 @@ use Rattle.compiler.proofs.steps.put.Statement.{statement}
 use Rattle.compiler.proofs.steps.put.Tie as tie
 
 pub put-spec : {M : Type 1} → statement M
-put-spec = tie.close (tie.spec (search needs) (search needs) (λ c. search emits-one))
+put-spec =
+    tie.close (tie.spec (search needs) (search needs) (λ c. search emits-one))

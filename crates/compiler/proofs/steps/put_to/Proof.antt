@@ -4,4 +4,5 @@ use Rattle.compiler.proofs.steps.put_to.Statement.{statement}
 use Rattle.compiler.proofs.steps.put_to.Tie as tie
 
 pub put-to-spec : {M : Type 1} → statement M
-put-to-spec = tie.close (tie.spec (search needs) (search needs) (λ c. search emits-one))
+put-to-spec =
+    tie.close (tie.spec (search needs) (search needs) (λ c. search emits-one))

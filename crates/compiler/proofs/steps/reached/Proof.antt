@@ -3,4 +3,5 @@ use Rattle.compiler.proofs.steps.reached.Statement.{statement}
 use Rattle.compiler.proofs.steps.reached.Tie as tie
 
 pub reached-spec : {M : Type 1} → statement M
-reached-spec = tie.close (tie.spec (λ c. search reached-up) (λ c. search reached-low))
+reached-spec =
+    tie.close (tie.spec (λ c. search reached-up) (λ c. search reached-low))

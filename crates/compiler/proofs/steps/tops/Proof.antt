@@ -8,10 +8,7 @@ use Rattle.compiler.proofs.steps.tops.Tie as tie
 abbrev Inv-loop : tie.InvT-loop
 Inv-loop text₀ first k i₀ r₀ text i r = (length text ≡ length text₀) × (i ≤ k) × Emits (topsCode first i) [] text₀ text r₀ r
 
-abbrev μ-loop : tie.MeasureT-loop
-μ-loop text₀ first k i₀ r₀ text i r = k - i
-
 pub tops-spec : {M : Type 1} → statement M
 tops-spec =
-    tie.close (tie.spec Inv-loop μ-loop (λ c. (refl, omega arith, tops-none _)) (λ c. omega arith) (λ c. omega arith)
+    tie.close (tie.spec Inv-loop (λ text₀ first k i₀ r₀ text i r. k - i) (λ c. (refl, omega arith, tops-none _)) (λ c. omega arith) (λ c. omega arith)
     (search needs) (λ c. omega arith) (λ c. omega arith) (λ c. search (needs, tops-next)) (λ c. c .before .loop .inv .0) (λ c. search tops-all))

@@ -5,6 +5,5 @@ use Rattle.compiler.proofs.steps.value.Tie as tie
 
 pub value-spec : {M : Type 1} → statement M
 value-spec =
-    tie.close (tie.spec (search needs) (search needs) (search needs) (search needs) (λ c. search value-0)
-    (search needs) (search needs) (λ c. search value-1) (search needs) (λ c. search value-2) (search needs) (λ c. search value-3)
-    (search needs) (λ c. search value-4))
+    tie.close (tie.spec (search needs) (search needs) (search needs) (search needs) (λ c. search value-0) (search needs) (search needs)
+    (λ c. search value-1) (search needs) (λ c. search value-2) (search needs) (λ c. search value-3) (search needs) (λ c. search value-4))

@@ -5,5 +5,5 @@ use Rattle.compiler.proofs.strings.character.Tie as tie
 
 pub character-spec : {M : Type 1} → statement M
 character-spec =
-    tie.close (tie.spec (search needs) (search needs) (search needs) (λ c. search put-plain)
-    (search needs) (search needs) (search needs) (λ c. search put-starred))
+    tie.close (tie.spec (search needs) (search needs) (search needs) (λ c. search put-plain) (search needs) (search needs) (search needs)
+    (λ c. search put-starred))

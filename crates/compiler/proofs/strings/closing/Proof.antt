@@ -4,4 +4,5 @@ use Rattle.compiler.proofs.strings.closing.Statement.{statement}
 use Rattle.compiler.proofs.strings.closing.Tie as tie
 
 pub closing-spec : {M : Type 1} → statement M
-closing-spec = tie.close (tie.spec (search needs) (search needs) (search needs) (λ c. search two-bytes))
+closing-spec =
+    tie.close (tie.spec (search needs) (search needs) (search needs) (λ c. search two-bytes))

@@ -3,4 +3,5 @@ use Rattle.compiler.proofs.strings.one_if.Statement.{statement}
 use Rattle.compiler.proofs.strings.one_if.Tie as tie
 
 pub one-if-spec : {M : Type 1} → statement M
-one-if-spec = tie.close (tie.spec (λ c. search oneIf-yes) (λ c. search oneIf-no))
+one-if-spec =
+    tie.close (tie.spec (λ c. search oneIf-yes) (λ c. search oneIf-no))

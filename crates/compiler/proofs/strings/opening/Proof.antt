@@ -4,4 +4,5 @@ use Rattle.compiler.proofs.strings.opening.Statement.{statement}
 use Rattle.compiler.proofs.strings.opening.Tie as tie
 
 pub opening-spec : {M : Type 1} → statement M
-opening-spec = tie.close (tie.spec (search needs) (search needs) (search needs) (λ c. search two-bytes))
+opening-spec =
+    tie.close (tie.spec (search needs) (search needs) (search needs) (λ c. search two-bytes))

@@ -5,5 +5,5 @@ use Rattle.compiler.proofs.strings.string.Tie as tie
 
 pub string-spec : {M : Type 1} → statement M
 string-spec =
-    tie.close
-    (tie.spec (search needs) (search needs) (search needs) (search needs) (search needs) (search needs) (search needs) (λ c. search string-put))
+    tie.close (tie.spec (search needs) (search needs) (search needs) (search needs) (search needs) (search needs) (search needs)
+    (λ c. search string-put))

@@ -31,84 +31,45 @@ use proofs.steps.away.Reads as away
 use proofs.steps.inside.Reads as inside
 use proofs.steps.leave.Reads as leave
 use proofs.steps.node_at.Reads as node-at
-use cycle.Proof.Ranks.{at, below, both, assign-rank, bare-rank, block-rank, command-rank, expr-rank, for-to-rank, plain-rank, repeated-rank}
+use cycle.Proof.Ranks.{at, below, both, eleven, assign-rank, bare-rank, block-rank, command-rank, expr-rank, for-to-rank, plain-rank, repeated-rank}
 use cycle.Proof.Ranks.{switch-rank, test-rank, when-rank, while-do-rank}
 
 abbrev command-cs : ℕ → command-lts.Claims
 command-cs t = (node-at.Asked, node-at.Learnt, misplaced.Asked, misplaced.Learnt, below bare-rank t, bare.Post)
 
-command-misplaced-requires : (t : ℕ) → command-lts.Need-misplaced-requires (command-cs t) (at command-rank t) command.Post
-command-misplaced-requires t c κs =
-    labelled-labels _ (c .before .before .before .before .node-at .ensures) (c .before .before .if1 .taken) refl
-    (c .before .before .before .before .before .before .before .before .before .pre .1) .small
-
-command-bare-requires : (t : ℕ) → command-lts.Need-bare-requires (command-cs t) (at command-rank t) command.Post
-command-bare-requires t c κs =
-    let after-if1 = c .before .before .before .before .before in let after-node-at = after-if1 .before .before in
-    let start = after-node-at .before .before .before .before .before in
-    both (omega (arith, start .pre .0))
-    (labelled-bare _ (after-node-at .node-at .ensures) (after-if1 .if1 .taken) refl _ (c .before .before .misplaced .ensures) (start .pre .1))
-
 pub command-ok : {M : Type 1} (t : ℕ) → command-lts.Closed (command-cs t) (at command-rank t) command.Post M
 command-ok t =
-    command-lts.spec (command-cs t) (at command-rank t) command.Post (λ c κs. search needs) (λ c. omega arith) (command-misplaced-requires t)
-    (command-bare-requires t) (λ c. search needs) (λ c. search needs) (λ c. search labelled-gave) (λ c κs. search needs) (λ c. search needs)
-    (λ c. search needs) (λ c. search unlabelled-gave)
+    command-lts.spec (command-cs t) (at command-rank t) command.Post (λ c κs. search needs) (λ c. omega arith)
+    (λ c κs. labelled-labels _ (c .before .before .before .before .node-at .ensures) (c .before .before .if1 .taken) refl
+    (c .before .before .before .before .before .before .before .before .before .pre .1) .small)
+    (λ c κs. let after-if1 = c .before .before .before .before .before in let after-node-at = after-if1 .before .before in
+    let start = after-node-at .before .before .before .before .before in both (omega (arith, start .pre .0)) (labelled-bare _
+    (after-node-at .node-at .ensures) (after-if1 .if1 .taken) refl _ (c .before .before .misplaced .ensures) (start .pre .1))) (λ c. search needs)
+    (λ c. search needs) (λ c. search labelled-gave) (λ c κs. search needs) (λ c. search needs) (λ c. search needs) (λ c. search unlabelled-gave)
 
 abbrev bare-cs : ℕ → bare-lts.Claims
 bare-cs t = (node-at.Asked, node-at.Learnt, inside.Asked, inside.Learnt, below repeated-rank t, repeated.Post)
 
-bare-repeated-requires : (t : ℕ) → bare-lts.Need-repeated-requires (bare-cs t) (at bare-rank t) bare.Post
-bare-repeated-requires t c κs =
-    let after-if2 = c .before .before .before in let after-if1 = after-if2 .before .before .before in let after-node-at = after-if1 .before .before in
-    let start = after-node-at .before .before .before .before .before in
-    both (omega (arith, start .pre .0, left-at, command-some)) (ready-at (c .inside .ensures)
-    (labelled-rest _ (after-node-at .node-at .ensures) (after-if1 .if1 .taken) refl (after-if2 .if2 .left) (start .pre .1)))
-
-bare-returns-2 : (t : ℕ) → bare-lts.Need-returns-2 (bare-cs t) (at bare-rank t) bare.Post
-bare-returns-2 t c =
-    let after-repeated = c .before .before .before .before in let after-inside = after-repeated .before in
-    let after-if2 = after-inside .before .before .before in let after-if1 = after-if2 .before .before .before in
-    let after-node-at = after-if1 .before .before in
-    bare-labelled _ (after-node-at .node-at .ensures) (after-if1 .if1 .taken) refl (after-if2 .if2 .left) _ _
-    (gave-r-at _ (after-inside .inside .ensures) refl (after-repeated .repeated .ensures))
-
-bare-repeated-requires-2 : (t : ℕ) → bare-lts.Need-repeated-requires-2 (bare-cs t) (at bare-rank t) bare.Post
-bare-repeated-requires-2 t c κs =
-    both (omega (arith, c .before .before .before .before .before .before .before .before .before .before .pre .0, left-at, command-some))
-    (search (ready-at, bare-part))
-
 pub bare-ok : {M : Type 1} (t : ℕ) → bare-lts.Closed (bare-cs t) (at bare-rank t) bare.Post M
 bare-ok t =
     bare-lts.spec (bare-cs t) (at bare-rank t) bare.Post (λ c κs. search needs) (λ c. omega arith) (λ c. search needs) (λ c. search bare-empty)
-    (λ c κs. search needs) (bare-repeated-requires t) (λ c. search needs) (λ c. search needs) (bare-returns-2 t) (λ c κs. search needs)
-    (bare-repeated-requires-2 t) (λ c. search needs) (λ c. search needs) (λ c. search (bare-gave, gave-r-at))
+    (λ c κs. search needs)
+    (λ c κs. let after-if2 = c .before .before .before in let after-if1 = after-if2 .before .before .before in
+    let after-node-at = after-if1 .before .before in let start = after-node-at .before .before .before .before .before in
+    both (omega (arith, start .pre .0, left-at, command-some)) (ready-at (c .inside .ensures) (labelled-rest _
+    (after-node-at .node-at .ensures) (after-if1 .if1 .taken) refl (after-if2 .if2 .left) (start .pre .1)))) (λ c. search needs) (λ c. search needs)
+    (λ c. let after-repeated = c .before .before .before .before in let after-inside = after-repeated .before in
+    let after-if2 = after-inside .before .before .before in let after-if1 = after-if2 .before .before .before in
+    let after-node-at = after-if1 .before .before in bare-labelled _ (after-node-at .node-at .ensures) (after-if1 .if1 .taken) refl
+    (after-if2 .if2 .left) _ _ (gave-r-at _ (after-inside .inside .ensures) refl (after-repeated .repeated .ensures))) (λ c κs. search needs)
+    (λ c κs. both (omega (arith, c .before .before .before .before .before .before .before .before .before .before .pre .0, left-at, command-some))
+    (search (ready-at, bare-part))) (λ c. search needs) (λ c. search needs) (λ c. search (bare-gave, gave-r-at))
 
 abbrev plain-cs : ℕ → plain-lts.Claims
-plain-cs t = (
-  node-at.Asked,
-  node-at.Learnt,
-  below expr-rank t,
-  expr.Post,
-  leave.Asked,
-  leave.Learnt,
-  below when-rank t,
-  when.Post,
-  below block-rank t,
-  block.Post,
-  below assign-rank t,
-  assign.Post,
-  below test-rank t,
-  test.Post,
-  below while-do-rank t,
-  while-do.Post,
-  below for-to-rank t,
-  for-to.Post,
-  below switch-rank t,
-  switch.Post,
-  away.Asked,
-  away.Learnt,
-)
+plain-cs t =
+    eleven (node-at.Asked, node-at.Learnt) (below expr-rank t, expr.Post) (leave.Asked, leave.Learnt) (below when-rank t, when.Post)
+    (below block-rank t, block.Post) (below assign-rank t, assign.Post) (below test-rank t, test.Post) (below while-do-rank t, while-do.Post)
+    (below for-to-rank t, for-to.Post) (below switch-rank t, switch.Post) (away.Asked, away.Learnt)
 
 pub plain-ok : {M : Type 1} (t : ℕ) → plain-lts.Closed (plain-cs t) (at plain-rank t) plain.Post M
 plain-ok t =

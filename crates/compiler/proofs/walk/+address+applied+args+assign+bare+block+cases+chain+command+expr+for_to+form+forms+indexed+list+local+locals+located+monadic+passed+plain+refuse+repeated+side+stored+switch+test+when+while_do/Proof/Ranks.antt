@@ -40,6 +40,24 @@ abbrev pub nine : {A B C D E F G H I J K L M N O P Q R : Type 1} → A × B → 
     → A × B × C × D × E × F × G × H × I × J × K × L × M × N × O × P × Q × R
 nine a b c d e f g h i = (a .0, a .1, b .0, b .1, c .0, c .1, d .0, d .1, e .0, e .1, f .0, f .1, g .0, g .1, h .0, h .1, i .0, i .1)
 
+abbrev pub eleven : {A B C D E F G H I J K L M N O P Q R S T U W : Type 1}
+    → A × B → C × D → E × F → G × H → I × J → K × L → M × N → O × P → Q × R → S × T → U × W
+    → A × B × C × D × E × F × G × H × I × J × K × L × M × N × O × P × Q × R × S × T × U × W
+eleven (a, b) (c, d) (e, f) (g, h) (i, j) (k, l) (m, n) (o, p) (q, r) (s, t) (u, w) =
+    (a, b, c, d, e, f, g, h, i, j, k, l, m, n, o, p, q, r, s, t, u, w)
+
+abbrev pub fourteen : {A B C D E F G H I J K L M N O P Q R S T U W X Y Z A′ B′ C′ : Type 1}
+    → A × B → C × D → E × F → G × H → I × J → K × L → M × N → O × P → Q × R → S × T → U × W → X × Y → Z × A′ → B′ × C′
+    → A × B × C × D × E × F × G × H × I × J × K × L × M × N × O × P × Q × R × S × T × U × W × X × Y × Z × A′ × B′ × C′
+fourteen (a, b) (c, d) (e, f) (g, h) (i, j) (k, l) (m, n) (o, p) (q, r) (s, t) (u, w) (x, y) (z, a′) (b′, c′) =
+    (a, b, c, d, e, f, g, h, i, j, k, l, m, n, o, p, q, r, s, t, u, w, x, y, z, a′, b′, c′)
+
+abbrev pub fifteen : {A B C D E F G H I J K L M N O P Q R S T U W X Y Z A′ B′ C′ D′ E′ : Type 1}
+    → A × B → C × D → E × F → G × H → I × J → K × L → M × N → O × P → Q × R → S × T → U × W → X × Y → Z × A′ → B′ × C′ → D′ × E′
+    → A × B × C × D × E × F × G × H × I × J × K × L × M × N × O × P × Q × R × S × T × U × W × X × Y × Z × A′ × B′ × C′ × D′ × E′
+fifteen (a, b) (c, d) (e, f) (g, h) (i, j) (k, l) (m, n) (o, p) (q, r) (s, t) (u, w) (x, y) (z, a′) (b′, c′) (d′, e′) =
+    (a, b, c, d, e, f, g, h, i, j, k, l, m, n, o, p, q, r, s, t, u, w, x, y, z, a′, b′, c′, d′, e′)
+
 abbrev pub address-rank : Member
 address-rank = record { ps = walk.address.Kinds.ps; measure = λ κs a. a .1 .1 .1 .1 .0 .left * 4294967300 + 5; pre = walk.address.Reads.Pre }
 
