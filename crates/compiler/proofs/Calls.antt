@@ -335,48 +335,46 @@ module _ {s : List ℕ} {middle end tag inner start : ℕ} {here : Here} {st : S
   pub the-last : (y : ReadySuffixes s middle end here st) → Last s middle end (y .ready .tree .suffixes) tag
   the-last y = rw (r .tag-is) (last (y .ready .tree .suffixes) (applied-lies y) (applied-ends y) (r .some))
 
-  -- the primary with all but the last one
   module _ {A : Type 0} {enc : A → List ℕ} {cons : A → Suffixes → Suffixes} where
+    pub last-well : (y : ReadySuffixes s middle end here st) (u : IsLast enc cons s middle end (y .ready .tree .suffixes)) → let c = cons (u .part) in
+        (suffixesDepth (u .init) ≤ here .left) × (suffixesDepth (c T.noSuffixes) ≤ here .left) × FineSs (u .init) × FineSs (c T.noSuffixes)
+    last-well y u = let d = deep-snoc (cons (u .part)) (u .init) {k = here .left} (omega (arith, ap suffixesDepth (u .same))) in
+        let f = fine-snoc (cons (u .part)) (u .init) (subst FineSs (u .same) (y .ready .fine .1)) in (d .0, d .1, f .0, f .1)
+
+    -- the primary with all but the last one
     abbrev pub init-part : {s₁ : List ℕ} (here′ : Here) {st′ : State} (y : ReadySuffixes s middle end here st)
         → Keeps (y .ready .base) (here .top) s s₁ → (u : IsLast enc cons s middle end (y .ready .tree .suffixes)) → here′ .top ≡ here .top
         → here′ .strings ≡ here .strings → here′ .left ≡ here .left
         → here′ .height ≤ here .height + 2 + length (enc (u .part)) → st′ .label ≤ st .label + 2 * length (enc (u .part)) → 0 < st′ .label
-        → suffixesDepth (u .init) ≤ here .left → FineSs (u .init) → ReadySuffixes s₁ middle start here′ st′
-    init-part here′ {st′} y k u top strings left height label some deep fine = let z = y .ready in let a = z .tree in record {
+        → ReadySuffixes s₁ middle start here′ st′
+    init-part here′ {st′} y k u top strings left height label some = let z = y .ready in let a = z .tree in record {
       ready = sub {part = record { primary = a .primary; suffixes = u .init }} z k (both (encode (a .primary)) (encodeSuffixes (u .init))
           (first (encode (a .primary)) (encodeSuffixes (a .suffixes)) (z .lies)) (u .lies) (y .parts)) top (omega (
             arith,
             start-of r u,
             length-append (encode (a .primary)) (encodeSuffixes (u .init)),
-          )) (z .fine .0, fine);
+            last-well y u .0,
+          )) (z .fine .0, last-well y u .2);
       parts = y .parts;
     }
 
   -- an index
   module _ (q : tag ≡ 49) where
-    pub index-deep : (y : ReadySuffixes s middle end here st)
-        → let u = is-index q (the-last y) in (suffixesDepth (u .init) ≤ here .left) × (depth (u .part) ≤ here .left)
-    unfolding suffixesDepth
-    index-deep y = let u = is-index q (the-last y) in let p = deep-snoc (T.index (u .part)) (u .init) {k = here .left}
-        (omega (arith, ap suffixesDepth (u .same))) in
-        (p .0, omega arith)
-
-    pub index-fine : (y : ReadySuffixes s middle end here st) → let u = is-index q (the-last y) in FineSs (u .init) × FineE (u .part)
-    unfolding FineSuffixes
-    index-fine y = let u = is-index q (the-last y) in
-        let p = fine-snoc (T.index (u .part)) (u .init) (subst FineSs (u .same) (y .ready .fine .1)) in (p .0, p .1 .0)
+    pub index-well : (y : ReadySuffixes s middle end here st) → let u = is-index q (the-last y) in (depth (u .part) ≤ here .left) × FineE (u .part)
+    unfolding suffixesDepth FineSuffixes
+    index-well y = let w = last-well y (is-index q (the-last y)) in (omega arith, w .3 .0)
 
     abbrev pub index-left : ReadySuffixes s middle end here st → ReadySuffixes s middle start here st
     index-left y =
         let u = is-index q (the-last y) in
-        init-part here y keeps-all u refl refl refl (omega arith) (omega arith) (y .ready .some) (index-deep y .0) (index-fine y .0)
+        init-part here y keeps-all u refl refl refl (omega arith) (omega arith) (y .ready .some)
 
     module _ (text : List ℕ) {s₁ t t₁ : List ℕ} {a : State} (g : GaveSuffixes text s s₁ middle start here t t₁ st a) where
       abbrev pub index-right : ReadySuffixes s middle end here st → ReadyE s₁ inner (raised 1 here) a
       index-right y = let z = y .ready in let u = is-index q (the-last y) in let x = g .by (index-left y) in
           let n : length (encodeApplied (record { primary = z .tree .primary; suffixes = u .init })) ≡ length (encode (z .tree .primary)) + length
           (encodeSuffixes (u .init)) = length-append (encode (z .tree .primary)) (encodeSuffixes (u .init)) in
-          sub z (x .keeps) (u .lies-part) refl (omega (arith, index-deep y .1)) (index-fine y .1)
+          sub z (x .keeps) (u .lies-part) refl (omega (arith, index-well y .0)) (index-well y .1)
 
       pub index-gave : {s₂ t₂ : List ℕ} {d : State} → GaveIndexed text s₁ s₂ inner here t₁ t₂ a d → GaveSuffixes text s s₂ middle end here t t₂ st d
       unfolding exprCode ofExpr exprLabels
@@ -396,21 +394,14 @@ module _ {s : List ℕ} {middle end tag inner start : ℕ} {here : Here} {st : S
 
   -- a call
   module _ (q : tag ≡ 49 → ⊥) where
-    pub call-deep : (y : ReadySuffixes s middle end here st)
-        → let u = is-call q (the-last y) in (suffixesDepth (u .init) ≤ here .left) × (expressionsDepth (u .part) ≤ here .left)
-    unfolding suffixesDepth
-    call-deep y = let u = is-call q (the-last y) in let p = deep-snoc (T.call (u .part)) (u .init) {k = here .left}
-        (omega (arith, ap suffixesDepth (u .same))) in
-        (p .0, omega arith)
-
-    pub call-fine : (y : ReadySuffixes s middle end here st) → let u = is-call q (the-last y) in FineSs (u .init) × FineEs (u .part)
-    unfolding FineSuffixes
-    call-fine y = let u = is-call q (the-last y) in
-        let p = fine-snoc (T.call (u .part)) (u .init) (subst FineSs (u .same) (y .ready .fine .1)) in (p .0, p .1 .0)
+    pub call-well : (y : ReadySuffixes s middle end here st)
+        → let u = is-call q (the-last y) in (expressionsDepth (u .part) ≤ here .left) × FineEs (u .part)
+    unfolding suffixesDepth FineSuffixes
+    call-well y = let w = last-well y (is-call q (the-last y)) in (omega arith, w .3 .0)
 
     abbrev pub call-args : ReadySuffixes s middle end here st → ReadyArgs s start inner (raised 2 here) st
     call-args y = let z = y .ready in let u = is-call q (the-last y) in record {
-      ready = sub z keeps-all (u .lies-part) refl (omega (arith, call-deep y .1)) (call-fine y .1);
+      ready = sub z keeps-all (u .lies-part) refl (omega (arith, call-well y .0)) (call-well y .1);
       starts = sym (start-of r u);
     }
 
@@ -424,7 +415,7 @@ module _ {s : List ℕ} {middle end tag inner start : ℕ} {here : Here} {st : S
       abbrev pub call-callee : ReadySuffixes s middle end here st → ReadySuffixes s₁ middle start (raised (n + 2) here) b
       call-callee y = let z = y .ready in let u = is-call q (the-last y) in let x = g .by (call-args y) in
           init-part (raised (n + 2) here) y (x .keeps) u refl refl refl (omega (arith, call-count k y, count-few (u .part))) (omega arith)
-          (omega arith) (call-deep y .0) (call-fine y .0)
+          (omega arith)
 
       pub call-gave : {s₂ t₂ t₃ : List ℕ} {c d : State} → GaveSuffixes text s₁ s₂ middle start (raised (n + 2) here) t₁ t₂ b c
           → Emits (G.K (here .height) ∷ []) [] t₂ t₃ c d → GaveSuffixes text s s₂ middle end here t t₃ st d
@@ -483,14 +474,11 @@ module _ {s : List ℕ} {end : ℕ} {here : Here} {st : State} (n : Node) (nd : 
   pub suffixed-is : (y : ReadyE s end here st) → IsTwo encode encodeSuffixes T.suffixed s (y .lo) end (y .tree)
   suffixed-is y = is-suffixed n1 n2 n3 n4 n5 n6 n7 (find n nd refl y)
 
-  pub suffixed-deep : (y : ReadyE s end here st)
-      → let u = suffixed-is y in (depth (u .left) + 1 ≤ here .left) × (suffixesDepth (u .list) + 1 ≤ here .left)
-  unfolding depth
-  suffixed-deep y = let u = suffixed-is y in (omega (arith, ap depth (u .same)), omega (arith, ap depth (u .same)))
-
-  pub suffixed-fine : (y : ReadyE s end here st) → let u = suffixed-is y in FineE (u .left) × FineSs (u .list)
-  unfolding Fine
-  suffixed-fine y = let f = subst FineE (suffixed-is y .same) (y .fine) in (f .0, f .1)
+  pub suffixed-well : (y : ReadyE s end here st) → let u = suffixed-is y in
+      (depth (u .left) + 1 ≤ here .left) × (suffixesDepth (u .list) + 1 ≤ here .left) × FineE (u .left) × FineSs (u .list)
+  unfolding depth Fine
+  suffixed-well y = let u = suffixed-is y in let e = ap depth (u .same) in let f = subst FineE (u .same) (y .fine) in
+      (omega arith, omega arith, f .0, f .1)
 
   pub suffixed-middle : (y : ReadyE s end here st) → middle ≡ y .lo + length (encode (suffixed-is y .left))
   suffixed-middle y = let u = suffixed-is y in omega arith
@@ -499,7 +487,7 @@ module _ {s : List ℕ} {end : ℕ} {here : Here} {st : State} (n : Node) (nd : 
   suffixed-part y = let u = suffixed-is y in let k = length-append (encode (u .left)) (encodeSuffixes (u .list)) in record {
     ready =
         sub {part = record { primary = u .left; suffixes = u .list }} y keeps-all (both (encode (u .left)) (encodeSuffixes (u .list)) (u .lies)
-        (u .lies-list) refl) refl (omega (arith, suffixed-deep y .0, suffixed-deep y .1)) (suffixed-fine y);
+        (u .lies-list) refl) refl (omega (arith, suffixed-well y .0, suffixed-well y .1)) (suffixed-well y .2, suffixed-well y .3);
     parts = suffixed-middle y;
   }
 

@@ -19,7 +19,7 @@ use Rattle.compiler.proofs.Lists.{First, first-of, Kind, Part, begins, 
 use Rattle.compiler.proofs.Lists.{ended}
 
 -- with more labels allowed
-more : {fs : List Fault} {f : ℕ → Code} {m : ℕ} (k : ℕ) {t t′ : List ℕ} {st r : State} → Did fs f m t t′ st r → m ≤ k → Did fs f k t t′ st r
+pub more : {fs : List Fault} {f : ℕ → Code} {m : ℕ} (k : ℕ) {t t′ : List ℕ} {st r : State} → Did fs f m t t′ st r → m ≤ k → Did fs f k t t′ st r
 more {f = f} k d l = did-as f k d same-refl (λ n e. refl) l
 
 -- a result of another tree that is the same
@@ -65,17 +65,12 @@ module _ (text : List ℕ) {s t t′ : List ℕ} {end : ℕ} {here : Here} {st r
 -- ---- brackets
 
 module _ {s : List ℕ} {end : ℕ} {here : Here} {st : State} (n : Node) (nd : NodeAt s end n) (q : n .kind ≡ 51) where
-  pub shallower : (y : ReadyE s end here st) {p : ℕ} {e : Expression} → y .tree ≡ T.bracketed p e → depth e + 1 ≤ here .left
-  unfolding depth
-  shallower y {p} {e} h = omega (arith, ap depth h)
-
-  pub bracket-fine : (y : ReadyE s end here st) {p : ℕ} {e : Expression} → y .tree ≡ T.bracketed p e → FineE e
-  unfolding Fine
-  bracket-fine y h = subst FineE h (y .fine)
+  pub bracket-well : (y : ReadyE s end here st) {p : ℕ} {e : Expression} → y .tree ≡ T.bracketed p e → (depth e + 1 ≤ here .left) × FineE e
+  unfolding depth Fine
+  bracket-well y h = (omega (arith, ap depth h), subst FineE h (y .fine))
 
   abbrev pub bracket-part : ReadyE s end here st → ReadyE s (n .inner) (inside here) st
-  bracket-part y = let u = is-bracket (find n nd q y) in
-      sub y keeps-all (u .lies) refl (omega (arith, shallower y (u .same))) (bracket-fine y (u .same))
+  bracket-part y = let u = is-bracket (find n nd q y) in let w = bracket-well y (u .same) in sub y keeps-all (u .lies) refl (omega arith) (w .1)
 
   pub bracket-gave : (text : List ℕ) {s′ t t′ : List ℕ} {r : State} → GaveE text s s′ (n .inner) (inside here) t t′ st r
       → GaveE text s s′ end here t t′ st r
@@ -121,26 +116,22 @@ gave-at text {s} {s′} {t} {t′} {end} {st = st} {r} e g = rw e at g
 
 module _ {s : List ℕ} {end : ℕ} {here : Here} {st : State} (n : Node) (nd : NodeAt s end n) (q : n .kind ≡ 131) {middle : ℕ}
     (m : middle ≡ n .start + n .value) where
-  pub deep-left : (y : ReadyE s end here st) {e : Expression} {os : Operations} → y .tree ≡ T.dyadic e os
-      → (depth e + 1 ≤ here .left) × (operationsDepth os + 1 ≤ here .left)
-  unfolding depth
-  deep-left y {e} {os} h = (omega (arith, ap depth h), omega (arith, ap depth h))
-
-  pub dyadic-fine : (y : ReadyE s end here st) {e : Expression} {os : Operations} → y .tree ≡ T.dyadic e os → FineE e × FineOs os
-  unfolding Fine
-  dyadic-fine y h = let f = subst FineE h (y .fine) in (f .0, f .1)
+  pub dyadic-well : (y : ReadyE s end here st) {e : Expression} {os : Operations} → y .tree ≡ T.dyadic e os
+      → (depth e + 1 ≤ here .left) × (operationsDepth os + 1 ≤ here .left) × FineE e × FineOs os
+  unfolding depth Fine
+  dyadic-well y h = let f = subst FineE h (y .fine) in (omega (arith, ap depth h), omega (arith, ap depth h), f .0, f .1)
 
   pub middle-is : (y : ReadyE s end here st) → middle ≡ y .lo + length (encode (is-dyadic (find n nd q y) .left))
   middle-is y = let u = is-dyadic (find n nd q y) in omega arith
 
   abbrev pub dyadic-left : ReadyE s end here st → ReadyE s middle (inside here) st
   dyadic-left y = let u = is-dyadic (find n nd q y) in
-      sub y keeps-all (u .lies) refl (omega (arith, middle-is y, deep-left y (u .same) .0)) (dyadic-fine y (u .same) .0)
+      sub y keeps-all (u .lies) refl (omega (arith, middle-is y, dyadic-well y (u .same) .0)) (dyadic-well y (u .same) .2)
 
   module _ (text : List ℕ) {s₁ t t₁ : List ℕ} {a : State} (g : GaveE text s s₁ middle (inside here) t t₁ st a) where
     abbrev pub dyadic-rest : ReadyE s end here st → ReadyChain s₁ middle (n .inner) (inside here) a
     dyadic-rest y = let u = is-dyadic (find n nd q y) in let x = g .by (dyadic-left y) in record {
-      ready = sub y (x .keeps) (u .lies-list) refl (omega (arith, deep-left y (u .same) .1)) (dyadic-fine y (u .same) .1);
+      ready = sub y (x .keeps) (u .lies-list) refl (omega (arith, dyadic-well y (u .same) .1)) (dyadic-well y (u .same) .3);
       starts = sym (middle-is y);
     }
 

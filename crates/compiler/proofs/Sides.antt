@@ -21,7 +21,7 @@ use Rattle.compiler.specs.Commands.{GaveRefused, AddressOf, StoreTo}
 use Rattle.compiler.proofs.Done.{emits-did, did-emit, did-put, did-after, did-then, did-as, same-refl, same-eq, code-is, nil-right}
 use Rattle.compiler.proofs.Trees.{IsTwo, Case, aMonadic, find, is-bracket, is-name, value-is, place-is}
 use Rattle.compiler.proofs.Parts.{sub}
-use Rattle.compiler.proofs.Expressions.{bracket-part}
+use Rattle.compiler.proofs.Expressions.{more, bracket-part}
 use Rattle.compiler.proofs.Calls.{IsLast, index-faults, index-means, Last, aCall, anIndex, last, snoc, is-index, the-last, no-suffix}
 use Rattle.compiler.proofs.Calls.{last-read, index-left, index-right, applied-lies, applied-ends, suffixed-is, suffixed-part, suffixed-middle}
 use Rattle.compiler.proofs.Calls.{with-state}
@@ -50,9 +50,6 @@ place-closed (T.monadic p o e) = refl
 place-closed (T.suffixed e ss) = refl
 place-closed (T.dyadic e os) = refl
 
-more : {fs : List Fault} {f : ℕ → Code} {m : ℕ} (k : ℕ) {t t′ : List ℕ} {st r : State} → Did fs f m t t′ st r → m ≤ k → Did fs f k t t′ st r
-more {f = f} k d l = did-as f k d same-refl (λ n e. refl) l
-
 -- ---- resolvedMonadic operators
 
 pub record IsMonadic (s : List ℕ) (lo end : ℕ) (e : Expression) : Type 0 where
@@ -71,16 +68,12 @@ module _ {s : List ℕ} {end : ℕ} {here : Here} {st : State} (n : Node) (nd : 
   pub monadic-is : (y : ReadyE s end here st) → IsMonadic s (y .lo) end (y .tree)
   monadic-is y = is-monadic (find n nd q y)
 
-  pub monadic-deep : (y : ReadyE s end here st) → depth (monadic-is y .part) + 1 ≤ here .left
-  unfolding depth
-  monadic-deep y = omega (arith, ap depth (monadic-is y .same))
-
-  pub monadic-fine : (y : ReadyE s end here st) → FineE (monadic-is y .part)
-  unfolding Fine
-  monadic-fine y = subst FineE (monadic-is y .same) (y .fine)
+  pub monadic-well : (y : ReadyE s end here st) → (depth (monadic-is y .part) + 1 ≤ here .left) × FineE (monadic-is y .part)
+  unfolding depth Fine
+  monadic-well y = (omega (arith, ap depth (monadic-is y .same)), subst FineE (monadic-is y .same) (y .fine))
 
   abbrev pub monadic-part : ReadyE s end here st → ReadyE s (n .inner) (inside here) st
-  monadic-part y = let u = monadic-is y in sub y keeps-all (u .lies) refl (omega (arith, monadic-deep y)) (monadic-fine y)
+  monadic-part y = let u = monadic-is y in let w = monadic-well y in sub y keeps-all (u .lies) refl (omega arith) (w .1)
 
   pub monadic-gave : (text : List ℕ) {s′ t t′ : List ℕ} {r : State} → GaveMonadic text s s′ (n .value) (n .inner) (inside here) t t′ st r
       → GaveE text s s′ end here t t′ st r
@@ -110,30 +103,17 @@ module _ (text : List ℕ) {s s₁ t t₂ : List ℕ} {o end : ℕ} {here : Here
     };
   })
 
-module _ (text : List ℕ) {s s₁ t t₁ t₂ : List ℕ} {o end : ℕ} {here : Here} {st a r : State} where
-  pub monadic-pling : o ≡ 49 → GaveE text s s₁ end here t t₁ st a → Emits (G.X 1 ∷ []) [] t₁ t₂ a r → GaveMonadic text s s₁ o end here t t₂ st r
-  unfolding exprCode ofExpr exprLabels
-  monadic-pling e g f =
-      so text e (record {
-        by = λ y. let x = g .by y in record
-            { keeps = x .keeps; did = did-as _ _ (did-put (x .did) f) (same-eq (sym (append-nil _))) (λ n v. refl) (omega arith) };
-      })
-
-  pub monadic-minus : o ≡ 36 → GaveE text s s₁ end here t t₁ st a → Emits (G.X 2 ∷ []) [] t₁ t₂ a r → GaveMonadic text s s₁ o end here t t₂ st r
-  unfolding exprCode ofExpr exprLabels monadicAct
-  monadic-minus e g f =
-      so text e (record {
-        by = λ y. let x = g .by y in record
-            { keeps = x .keeps; did = did-as _ _ (did-put (x .did) f) (same-eq (sym (append-nil _))) (λ n v. refl) (omega arith) };
-      })
-
-  pub monadic-not : o ≡ 11 → GaveE text s s₁ end here t t₁ st a → Emits (G.X 3 ∷ []) [] t₁ t₂ a r → GaveMonadic text s s₁ o end here t t₂ st r
-  unfolding exprCode ofExpr exprLabels monadicAct
-  monadic-not e g f =
-      so text e (record {
-        by = λ y. let x = g .by y in record
-            { keeps = x .keeps; did = did-as _ _ (did-put (x .did) f) (same-eq (sym (append-nil _))) (λ n v. refl) (omega arith) };
-      })
+-- !, - and NOT: the act of each
+pub monadic-acts : (l k : ℕ) → eqb l 50 ≡ false → ((x : Here) (E : Expr) (n : ℕ) → exprSays x (resolvedMonadic l E) n
+    ≡ record { items = exprCode (x .strings) (x .height) n E ++ (G.X k ∷ []); heights = ofExpr (x .height) E; labels = exprLabels E })
+    → (text : List ℕ) {s s₁ t t₁ t₂ : List ℕ} {o end : ℕ} {here : Here} {st a r : State} → o ≡ l → GaveE text s s₁ end here t t₁ st a
+    → Emits (G.X k ∷ []) [] t₁ t₂ a r → GaveMonadic text s s₁ o end here t t₂ st r
+monadic-acts l k nt acts text {here = here} e g f = so text e (record {
+  by = λ y. let x = g .by y in let E = expression text (y .scope) (here .height) (y .tree) in record {
+    keeps = x .keeps;
+    did = did-as _ _ (did-put (x .did) f) (same-eq (sym (append-nil _) ∙ rw nt)) (λ n v. sym (acts here E n)) (omega arith);
+  };
+})
 
 pub monadic-other : (text : List ℕ) {s s₁ t t₁ : List ℕ} {o end : ℕ} {here : Here} {st r : State} → (o ≡ 50 → ⊥) → (o ≡ 49 → ⊥) → (o ≡ 36 → ⊥)
     → (o ≡ 11 → ⊥) → GaveE text s s₁ end here t t₁ st r → GaveMonadic text s s₁ o end here t t₁ st r
@@ -158,29 +138,26 @@ Of say name place m t t′ st r =
     (x : Here) (f : N.Found) → m ≡ found f → Did (onFound f (fault name 8) [] ++ unlessSide place (sideOf (ofMeaning f)))
     (say x (sideOf (ofMeaning f))) 0 t t′ st r
 
+module _ (say : Here → Side → ℕ → Code) (i : ℕ → I.Item) where
+  pub of-local : ((x : Here) (k n : ℕ) → say x (side (R.toLocal k)) n ≡ record { items = i k ∷ []; heights = []; labels = 0 }) → (name place : ℕ)
+      {m : ℕ} {t t′ : List ℕ} {st r : State} → m % 4 ≡ 1 → Emits (i (m / 4) ∷ []) [] t t′ st r → Of say name place m t t′ st r
+  unfolding found code sideOf
+  of-local es name place {m} q f x N.unknown e = absurd (omega arith)
+  of-local es name place {m} q f x (N.known (N.local k)) e = let z : m / 4 ≡ k = omega arith in emits-did _ f (λ n. rw (es x k n, z))
+  of-local es name place {m} q f x (N.known (N.global k)) e = absurd (omega arith)
+  of-local es name place {m} q f x (N.known (N.manifest k)) e = absurd (omega arith)
+  of-local es name place {m} q f x (N.known (N.function k)) e = absurd (omega arith)
+
+  pub of-global : ((x : Here) (k n : ℕ) → say x (side (R.toGlobal k)) n ≡ record { items = i k ∷ []; heights = []; labels = 0 }) → (name place : ℕ)
+      {m : ℕ} {t t′ : List ℕ} {st r : State} → m % 4 ≡ 2 → Emits (i (m / 4) ∷ []) [] t t′ st r → Of say name place m t t′ st r
+  unfolding found code sideOf
+  of-global es name place {m} q f x N.unknown e = absurd (omega arith)
+  of-global es name place {m} q f x (N.known (N.local k)) e = absurd (omega arith)
+  of-global es name place {m} q f x (N.known (N.global k)) e = let z : m / 4 ≡ k = omega arith in emits-did _ f (λ n. rw (es x k n, z))
+  of-global es name place {m} q f x (N.known (N.manifest k)) e = absurd (omega arith)
+  of-global es name place {m} q f x (N.known (N.function k)) e = absurd (omega arith)
+
 module _ (say : Here → Side → ℕ → Code) (name place : ℕ) {m : ℕ} {t t′ : List ℕ} {st r : State} where
-  pub of-local : (i : ℕ → I.Item) → ((x : Here) (k n : ℕ) → say x (side (R.toLocal k)) n ≡ record { items = i k ∷ []; heights = []; labels = 0 })
-      → m % 4 ≡ 1 → Emits (i (m / 4) ∷ []) [] t t′ st r → Of say name place m t t′ st r
-  unfolding found code sideOf
-  of-local i es q f x N.unknown e = absurd (omega arith)
-  of-local i es q f x (N.known (N.local k)) e =
-      let z : m / 4 ≡ k = omega arith in
-      emits-did _ f (λ n. rw (es x k n, z))
-  of-local i es q f x (N.known (N.global k)) e = absurd (omega arith)
-  of-local i es q f x (N.known (N.manifest k)) e = absurd (omega arith)
-  of-local i es q f x (N.known (N.function k)) e = absurd (omega arith)
-
-  pub of-global : (i : ℕ → I.Item) → ((x : Here) (k n : ℕ) → say x (side (R.toGlobal k)) n ≡ record { items = i k ∷ []; heights = []; labels = 0 })
-      → m % 4 ≡ 2 → Emits (i (m / 4) ∷ []) [] t t′ st r → Of say name place m t t′ st r
-  unfolding found code sideOf
-  of-global i es q f x N.unknown e = absurd (omega arith)
-  of-global i es q f x (N.known (N.local k)) e = absurd (omega arith)
-  of-global i es q f x (N.known (N.global k)) e =
-      let z : m / 4 ≡ k = omega arith in
-      emits-did _ f (λ n. rw (es x k n, z))
-  of-global i es q f x (N.known (N.manifest k)) e = absurd (omega arith)
-  of-global i es q f x (N.known (N.function k)) e = absurd (omega arith)
-
   pub of-unknown : {a : State} → m ≡ 0 → Faulted name 8 st a → Faulted place 10 a r → t′ ≡ t → Of say name place m t t′ st r
   unfolding found sideOf
   of-unknown q f g et x N.unknown e = rw et (did-as (say x noSide) 0 (did-then (f .by (say x noSide) t) (g .by (say x noSide) t)) same-refl
@@ -200,22 +177,6 @@ sayAddress x z = exprSays x (addressOf z)
 
 abbrev pub sayTarget : Here → Side → ℕ → Code
 sayTarget x z = targetSays x (targetOf z)
-
-pub local-address : (x : Here) (k n : ℕ) → sayAddress x (side (R.toLocal k)) n ≡ record { items = G.LP k ∷ []; heights = []; labels = 0 }
-unfolding exprCode ofExpr exprLabels
-local-address x k n = refl
-
-pub global-address : (x : Here) (k n : ℕ) → sayAddress x (side (R.toGlobal k)) n ≡ record { items = G.LG k ∷ []; heights = []; labels = 0 }
-unfolding exprCode ofExpr exprLabels
-global-address x k n = refl
-
-pub local-target : (x : Here) (k n : ℕ) → sayTarget x (side (R.toLocal k)) n ≡ record { items = G.SP k ∷ []; heights = []; labels = 0 }
-unfolding G.targetCode ofTarget G.targetLabels
-local-target x k n = refl
-
-pub global-target : (x : Here) (k n : ℕ) → sayTarget x (side (R.toGlobal k)) n ≡ record { items = G.SG k ∷ []; heights = []; labels = 0 }
-unfolding G.targetCode ofTarget G.targetLabels
-global-target x k n = refl
 
 -- ---- what has no address and is no left side
 

@@ -1,60 +1,47 @@
 -- A primary with what follows it: indices and calls, and their arguments.
 use Rattle.compiler.proofs as proofs
+use proofs.walk as walk
+use proofs.steps as steps
 use Rattle.compiler.proofs.walk.+address+applied+args+assign+bare+block+cases+chain+command+expr+for_to+form+forms+indexed+list+local+locals+located+monadic+passed+plain+refuse+repeated+side+stored+switch+test+when+while_do as cycle
 use Rattle.laws.proofs.Basics.{ℕ, _-_, _<_, _≡_, refl, _∙_, length, arith, needs}
-use Rattle.compiler.proofs.Vocabulary.{raised, ReadyArgs}
+use Rattle.compiler.proofs.Vocabulary.{ReadyArgs}
 use Rattle.compiler.proofs.Calls.{indexed-gave, passed-gave, with-state, args-with, ArgsPart, args-begin, args-part, args-next, args-end}
 use Rattle.compiler.proofs.Calls.{LastRead, last-read, primary-part, primary-gave, index-left, index-right, index-gave, call-args, call-callee}
 use Rattle.compiler.proofs.Calls.{call-gave, call-few}
 use Rattle.compiler.proofs.Calls.{args-ready-at, suffixes-ready-at, args-gave-at, suffixes-gave-at}
 use Rattle.compiler.proofs.Expressions.{ready-at, gave-at, left-at}
-use proofs.walk.applied.Reads as applied
-use cycle.Lts-applied as applied-lts
-use proofs.walk.args.Reads as args
-use cycle.Lts-args as args-lts
-use proofs.walk.expr.Reads as expr
-use proofs.walk.indexed.Reads as indexed
-use cycle.Lts-indexed as indexed-lts
-use proofs.walk.passed.Reads as passed
-use cycle.Lts-passed as passed-lts
-use proofs.scope.entry.Reads as entry
-use proofs.steps.count.Reads as count
-use proofs.steps.index_end.Reads as index-end
-use proofs.steps.keep.Reads as keep
-use proofs.steps.less.Reads as less
-use proofs.steps.put.Reads as put
-use proofs.steps.raised.Reads as raised-reads
-use proofs.steps.reached.Reads as reached
-use cycle.Proof.Ranks.{at, below, both, nine, applied-rank, args-rank, expr-rank, indexed-rank, passed-rank}
+use cycle.Proof.Ranks.{at, below, both, three, four, nine, applied-rank, args-rank, expr-rank, indexed-rank, passed-rank}
 
-abbrev applied-cs : ℕ → applied-lts.Claims
+abbrev applied-cs : ℕ → cycle.Lts-applied.Claims
 applied-cs t =
-    nine (below expr-rank t, expr.Post) (less.Asked, less.Learnt) (entry.Asked, entry.Learnt) (below applied-rank t, applied.Post)
-    (below indexed-rank t, indexed.Post) (count.Asked, count.Learnt) (below passed-rank t, passed.Post) (raised-reads.Asked, raised-reads.Learnt)
-    (put.Asked, put.Learnt)
+    nine (below expr-rank t, walk.expr.Reads.Post) (steps.less.Reads.Asked, steps.less.Reads.Learnt)
+    (proofs.scope.entry.Reads.Asked, proofs.scope.entry.Reads.Learnt) (below applied-rank t, walk.applied.Reads.Post)
+    (below indexed-rank t, walk.indexed.Reads.Post) (steps.count.Reads.Asked, steps.count.Reads.Learnt) (below passed-rank t, walk.passed.Reads.Post)
+    (steps.raised.Reads.Asked, steps.raised.Reads.Learnt) (steps.put.Reads.Asked, steps.put.Reads.Learnt)
 
-abbrev applied-start : (t : ℕ) → applied-lts.After-entry2 (applied-cs t) (at applied-rank t) applied.Post → applied-lts.Start (applied-cs t)
-    (at applied-rank t) applied.Post
+abbrev applied-start : (t : ℕ) → cycle.Lts-applied.After-entry2 (applied-cs t) (at applied-rank t) walk.applied.Reads.Post
+    → cycle.Lts-applied.Start (applied-cs t) (at applied-rank t) walk.applied.Reads.Post
 applied-start t c = c .before .before .before .before .before .before .before .before .before .before .before
 
-applied-read : (t : ℕ) (c : applied-lts.After-entry2 (applied-cs t) (at applied-rank t) applied.Post) → let args = applied-start t c .args in
-    LastRead (args .s .now) (args .middle) (args .end) (c .entry2 .result) (c .before .before .before .before .before .before .less .result)
-    (c .before .before .before .less2 .result)
+applied-read : (t : ℕ) (c : cycle.Lts-applied.After-entry2 (applied-cs t) (at applied-rank t) walk.applied.Reads.Post)
+    → let args = applied-start t c .args in LastRead (args .s .now) (args .middle) (args .end) (c .entry2 .result)
+    (c .before .before .before .before .before .before .less .result) (c .before .before .before .less2 .result)
 applied-read t c =
     let after-less2 = c .before .before .before in let after-less = after-less2 .before .before .before in
     last-read (after-less .before .if1 .left) (c .before .less3 .ensures) (c .entry2 .ensures .0) (after-less .less .ensures)
     (after-less2 .before .entry .ensures .0) (after-less2 .less2 .ensures)
 
-applied-few : (t : ℕ) (c : applied-lts.After-count (applied-cs t) (at applied-rank t) applied.Post) → c .count .result < applied-start t
-    (c .before .before .before) .args .end
+applied-few : (t : ℕ) (c : cycle.Lts-applied.After-count (applied-cs t) (at applied-rank t) walk.applied.Reads.Post)
+    → c .count .result < applied-start t (c .before .before .before) .args .end
 applied-few t c =
     let r = c .before .before .before in
     call-few (applied-read t r) (c .before .before .if2 .left) (c .count .ensures) (applied-start t r .pre .1)
 
-pub applied-ok : {M : Type 1} (t : ℕ) → applied-lts.Closed (applied-cs t) (at applied-rank t) applied.Post M
+pub applied-ok : {M : Type 1} (t : ℕ) → cycle.Lts-applied.Closed (applied-cs t) (at applied-rank t) walk.applied.Reads.Post M
 applied-ok t =
-    applied-lts.spec (applied-cs t) (at applied-rank t) applied.Post (λ c κs. search (needs, primary-part)) (λ c. search needs) (λ c. search needs)
-    (λ c. search primary-gave) (λ c κs. search needs) (λ c κs. search needs) (λ c κs. search needs) (λ c κs. search needs) (λ c κs. search needs)
+    cycle.Lts-applied.spec (applied-cs t) (at applied-rank t) walk.applied.Reads.Post (λ c κs. search (needs, primary-part)) (λ c. search needs)
+    (λ c. search needs) (λ c. search primary-gave) (λ c κs. search needs) (λ c κs. search needs) (λ c κs. search needs) (λ c κs. search needs)
+    (λ c κs. search needs)
     (λ c κs. let r = c .before .before .before in let start = applied-start t r in both (omega (arith, start .pre .0, applied-read t r))
     (index-left (applied-read t r) (c .before .before .if2 .taken) (start .pre .1)))
     (λ c κs. let after-applied = c .before .before .before .before .before .before in let after-if2 = after-applied .before .before .before in
@@ -81,17 +68,20 @@ applied-ok t =
     call-gave (applied-read t (after-if2 .before)) (after-if2 .if2 .left) _ (after-count .count .ensures) (after-passed .passed .ensures)
     (suffixes-gave-at (after-raised .raised .ensures) (after-applied2 .applied2 .ensures)) (c .before .before .put .ensures))
 
-abbrev args-cs : ℕ → args-lts.Claims
-args-cs t = (entry.Asked, entry.Learnt, raised-reads.Asked, raised-reads.Learnt, below expr-rank t, expr.Post, keep.Asked, keep.Learnt)
+abbrev args-cs : ℕ → cycle.Lts-args.Claims
+args-cs t =
+    four (proofs.scope.entry.Reads.Asked, proofs.scope.entry.Reads.Learnt) (steps.raised.Reads.Asked, steps.raised.Reads.Learnt)
+    (below expr-rank t, walk.expr.Reads.Post) (steps.keep.Reads.Asked, steps.keep.Reads.Learnt)
 
-abbrev args-Inv-loop : args-lts.InvT-loop
+abbrev args-Inv-loop : cycle.Lts-args.InvT-loop
 args-Inv-loop source s₀ from end text₀ here at₀ k₀ r₀ s text at k r =
     (length s ≡ length s₀) × (length text ≡ length text₀) × ((y : ReadyArgs s₀ from end here r₀) → ArgsPart source text₀ y s text at k r)
 
-pub args-ok : {M : Type 1} (t : ℕ) → args-lts.Closed (args-cs t) (at args-rank t) args.Post M
+pub args-ok : {M : Type 1} (t : ℕ) → cycle.Lts-args.Closed (args-cs t) (at args-rank t) walk.args.Reads.Post M
 args-ok t =
-    args-lts.spec (args-cs t) (at args-rank t) args.Post args-Inv-loop (λ source s₀ from end text₀ here at₀ k₀ r₀ s text at k r. end - at)
-    (λ c. search (needs, args-begin)) (λ c. omega arith) (λ c κs. search needs) (λ c. omega (arith, c .entry .ensures .1))
+    cycle.Lts-args.spec (args-cs t) (at args-rank t) walk.args.Reads.Post args-Inv-loop
+    (λ source s₀ from end text₀ here at₀ k₀ r₀ s text at k r. end - at) (λ c. search (needs, args-begin)) (λ c. omega arith) (λ c κs. search needs)
+    (λ c. omega (arith, c .entry .ensures .1))
     (λ c κs. omega (
       arith,
       c .before .before .before .before .before .loop .inv .2
@@ -122,23 +112,27 @@ args-ok t =
     )) (λ c. search needs) (λ c. search needs)
     (λ c. args-end _ _ (c .before .loop .k) (c .loop-test .left) (c .before .loop .inv .2))
 
-abbrev indexed-cs : ℕ → indexed-lts.Claims
-indexed-cs t = (keep.Asked, keep.Learnt, raised-reads.Asked, raised-reads.Learnt, below expr-rank t, expr.Post, index-end.Asked, index-end.Learnt)
+abbrev indexed-cs : ℕ → cycle.Lts-indexed.Claims
+indexed-cs t =
+    four (steps.keep.Reads.Asked, steps.keep.Reads.Learnt) (steps.raised.Reads.Asked, steps.raised.Reads.Learnt)
+    (below expr-rank t, walk.expr.Reads.Post) (steps.index_end.Reads.Asked, steps.index_end.Reads.Learnt)
 
-pub indexed-ok : {M : Type 1} (t : ℕ) → indexed-lts.Closed (indexed-cs t) (at indexed-rank t) indexed.Post M
+pub indexed-ok : {M : Type 1} (t : ℕ) → cycle.Lts-indexed.Closed (indexed-cs t) (at indexed-rank t) walk.indexed.Reads.Post M
 indexed-ok t =
-    indexed-lts.spec (indexed-cs t) (at indexed-rank t) indexed.Post (λ c κs. omega arith) (λ c κs. omega arith)
+    cycle.Lts-indexed.spec (indexed-cs t) (at indexed-rank t) walk.indexed.Reads.Post (λ c κs. omega arith) (λ c κs. omega arith)
     (λ c κs. (
       omega (arith, c .before .before .before .before .before .before .before .before .before .before .pre .0, left-at),
       search (ready-at, with-state),
     )) (λ c κs. search needs) (λ c. search needs) (λ c. search needs) (λ c. search (indexed-gave, gave-at))
 
-abbrev passed-cs : ℕ → passed-lts.Claims
-passed-cs t = (reached.Asked, reached.Learnt, raised-reads.Asked, raised-reads.Learnt, below args-rank t, args.Post)
+abbrev passed-cs : ℕ → cycle.Lts-passed.Claims
+passed-cs t =
+    three (steps.reached.Reads.Asked, steps.reached.Reads.Learnt) (steps.raised.Reads.Asked, steps.raised.Reads.Learnt)
+    (below args-rank t, walk.args.Reads.Post)
 
-pub passed-ok : {M : Type 1} (t : ℕ) → passed-lts.Closed (passed-cs t) (at passed-rank t) passed.Post M
+pub passed-ok : {M : Type 1} (t : ℕ) → cycle.Lts-passed.Closed (passed-cs t) (at passed-rank t) walk.passed.Reads.Post M
 passed-ok t =
-    passed-lts.spec (passed-cs t) (at passed-rank t) passed.Post (λ c. omega arith) (λ c κs. search needs) (λ c κs. omega arith)
+    cycle.Lts-passed.spec (passed-cs t) (at passed-rank t) walk.passed.Reads.Post (λ c. omega arith) (λ c κs. search needs) (λ c κs. omega arith)
     (λ c κs. let after-reached = c .before .before .before in let start = after-reached .before .before .before .before .before in
     both (omega (arith, left-at)) (args-ready-at (c .raised .ensures) (args-with (after-reached .reached .ensures .by (start .args .text .now) .label)
     (start .pre .1)))) (λ c. search needs) (λ c. search needs) (λ c. search (passed-gave, args-gave-at))

@@ -1,5 +1,7 @@
 -- IF, TEST and SWITCHON.
 use Rattle.compiler.proofs as proofs
+use proofs.walk as walk
+use proofs.steps as steps
 use Rattle.compiler.proofs.walk.+address+applied+args+assign+bare+block+cases+chain+command+expr+for_to+form+forms+indexed+list+local+locals+located+monadic+passed+plain+refuse+repeated+side+stored+switch+test+when+while_do as cycle
 use Rattle.compiler.proofs.Switches.{CasesPart, cases-begin, case-part, cases-next, cases-end, switch-value, switch-few, switch-cases}
 use Rattle.compiler.proofs.Switches.{switch-gave, gave-cases-at}
@@ -7,39 +9,18 @@ use Rattle.compiler.specs.Commands.{ReadyCases}
 use Rattle.compiler.proofs.Conditions.{test-first, test-body, test-rest, test-gave}
 use Rattle.laws.proofs.Basics.{ℕ, _+_, _-_, _^_, _≤_, _≡_, refl, _∙_, length, arith, needs}
 use Rattle.compiler.proofs.Guards.{guard-test, guard-body, guard-gave}
-use borrow.Fn.PlainCycle.{is}
-use proofs.walk.args.Reads as args
-use proofs.walk.bare.Reads as bare
-use proofs.walk.cases.Reads as cases
-use cycle.Lts-cases as cases-lts
-use proofs.walk.command.Reads as command
-use proofs.walk.expr.Reads as expr
-use proofs.walk.switch.Reads as switch
-use cycle.Lts-switch as switch-lts
-use proofs.walk.test.Reads as test
-use cycle.Lts-test as test-lts
-use proofs.walk.when.Reads as when
-use cycle.Lts-when as when-lts
-use proofs.labels.doubled.Reads as doubled
-use proofs.labels.table.Reads as table
-use proofs.scope.entry.Reads as entry
-use proofs.steps.count.Reads as count
-use proofs.steps.fresh.Reads as fresh
-use proofs.steps.in_switch.Reads as in-switch
-use proofs.steps.jump_unless.Reads as jump-unless
-use proofs.steps.mark.Reads as mark
-use proofs.steps.node_at.Reads as node-at
-use proofs.steps.put_to.Reads as put-to
-use cycle.Proof.Ranks.{at, below, both, six, seven, nine, bare-rank, cases-rank, command-rank, expr-rank, switch-rank, test-rank, when-rank}
+use cycle.Proof.Ranks.{at, below, both, three, six, seven, nine, bare-rank, cases-rank, command-rank, expr-rank, switch-rank, test-rank, when-rank}
 
-abbrev when-cs : ℕ → when-lts.Claims
+abbrev when-cs : ℕ → cycle.Lts-when.Claims
 when-cs t =
-    seven (node-at.Asked, node-at.Learnt) (fresh.Asked, fresh.Learnt) (below expr-rank t, expr.Post) (jump-unless.Asked, jump-unless.Learnt)
-    (put-to.Asked, put-to.Learnt) (below command-rank t, command.Post) (mark.Asked, mark.Learnt)
+    seven (steps.node_at.Reads.Asked, steps.node_at.Reads.Learnt) (steps.fresh.Reads.Asked, steps.fresh.Reads.Learnt)
+    (below expr-rank t, walk.expr.Reads.Post) (steps.jump_unless.Reads.Asked, steps.jump_unless.Reads.Learnt)
+    (steps.put_to.Reads.Asked, steps.put_to.Reads.Learnt) (below command-rank t, walk.command.Reads.Post)
+    (steps.mark.Reads.Asked, steps.mark.Reads.Learnt)
 
-pub when-ok : {M : Type 1} (t : ℕ) → when-lts.Closed (when-cs t) (at when-rank t) when.Post M
+pub when-ok : {M : Type 1} (t : ℕ) → cycle.Lts-when.Closed (when-cs t) (at when-rank t) walk.when.Reads.Post M
 when-ok t =
-    when-lts.spec (when-cs t) (at when-rank t) when.Post (λ c κs. search needs) (λ c κs. search needs) (λ c κs. omega arith)
+    cycle.Lts-when.spec (when-cs t) (at when-rank t) walk.when.Reads.Post (λ c κs. search needs) (λ c κs. search needs) (λ c κs. omega arith)
     (λ c κs. search (needs, guard-test)) (λ c κs. search needs) (λ c κs. search needs)
     (λ c κs. let after-put-to = c .before .before .before .before in
     let after-expr = after-put-to .before .before .before .before .before .before .before in
@@ -56,14 +37,16 @@ when-ok t =
     (after-node-at2 .node-at2 .ensures) (start .pre .1 .1 .word) _ (after-fresh .fresh .ensures) (after-expr .expr .ensures)
     (after-put-to .put-to .ensures) _ (after-jump-unless .jump-unless .ensures) (after-command .command .ensures) (c .before .before .mark .ensures))
 
-abbrev test-cs : ℕ → test-lts.Claims
+abbrev test-cs : ℕ → cycle.Lts-test.Claims
 test-cs t =
-    six (node-at.Asked, node-at.Learnt) (fresh.Asked, fresh.Learnt) (below expr-rank t, expr.Post) (put-to.Asked, put-to.Learnt)
-    (below command-rank t, command.Post) (mark.Asked, mark.Learnt)
+    six (steps.node_at.Reads.Asked, steps.node_at.Reads.Learnt) (steps.fresh.Reads.Asked, steps.fresh.Reads.Learnt)
+    (below expr-rank t, walk.expr.Reads.Post) (steps.put_to.Reads.Asked, steps.put_to.Reads.Learnt) (below command-rank t, walk.command.Reads.Post)
+    (steps.mark.Reads.Asked, steps.mark.Reads.Learnt)
 
-pub test-ok : {M : Type 1} (t : ℕ) → test-lts.Closed (test-cs t) (at test-rank t) test.Post M
+pub test-ok : {M : Type 1} (t : ℕ) → cycle.Lts-test.Closed (test-cs t) (at test-rank t) walk.test.Reads.Post M
 test-ok t =
-    test-lts.spec (test-cs t) (at test-rank t) test.Post (λ c κs. search needs) (λ c κs. search needs) (λ c κs. search needs) (λ c κs. omega arith)
+    cycle.Lts-test.spec (test-cs t) (at test-rank t) walk.test.Reads.Post (λ c κs. search needs) (λ c κs. search needs) (λ c κs. search needs)
+    (λ c κs. omega arith)
     (λ c κs. let after-node-at3 = c .before .before .before in let after-node-at2 = after-node-at3 .before .before in
     let after-node-at = after-node-at2 .before .before in let start = after-node-at .before .before .before .before .before in
     both (omega (arith, start .pre .0)) (test-first _ _ _ (after-node-at .node-at .ensures) (after-node-at2 .node-at2 .ensures)
@@ -114,13 +97,15 @@ test-ok t =
     (after-fresh .fresh .ensures) (after-expr .expr .ensures) (after-put-to .put-to .ensures) _ (after-command .command .ensures)
     (after-put-to2 .put-to2 .ensures) (after-mark .mark .ensures) (after-command2 .command2 .ensures) (c .before .before .mark2 .ensures))
 
-abbrev switch-cs : ℕ → switch-lts.Claims
+abbrev switch-cs : ℕ → cycle.Lts-switch.Claims
 switch-cs t =
-    nine (node-at.Asked, node-at.Learnt) (below expr-rank t, expr.Post) (count.Asked, count.Learnt) (fresh.Asked, fresh.Learnt)
-    (doubled.Asked, doubled.Learnt) (table.Asked, table.Learnt) (in-switch.Asked, in-switch.Learnt) (below cases-rank t, cases.Post)
-    (mark.Asked, mark.Learnt)
+    nine (steps.node_at.Reads.Asked, steps.node_at.Reads.Learnt) (below expr-rank t, walk.expr.Reads.Post)
+    (steps.count.Reads.Asked, steps.count.Reads.Learnt) (steps.fresh.Reads.Asked, steps.fresh.Reads.Learnt)
+    (proofs.labels.doubled.Reads.Asked, proofs.labels.doubled.Reads.Learnt) (proofs.labels.table.Reads.Asked, proofs.labels.table.Reads.Learnt)
+    (steps.in_switch.Reads.Asked, steps.in_switch.Reads.Learnt) (below cases-rank t, walk.cases.Reads.Post)
+    (steps.mark.Reads.Asked, steps.mark.Reads.Learnt)
 
-switch-fit : (t : ℕ) (c : switch-lts.After-count (switch-cs t) (at switch-rank t) switch.Post)
+switch-fit : (t : ℕ) (c : cycle.Lts-switch.After-count (switch-cs t) (at switch-rank t) walk.switch.Reads.Post)
     → let after-expr = c .before .before .before .before .before .before in
     (after-expr .expr .result .label + c .count .result + 1 ≤ 2 ^ 29) ×
     (after-expr .before .before .before .before .before .before .before .before .before .args .st .label ≤ after-expr .expr .result .label)
@@ -130,10 +115,10 @@ switch-fit t c =
     switch-few _ (after-node-at .node-at .ensures) (start .pre .1 .1 .is) refl (start .args .source .now) (after-expr .expr .ensures)
     (c .count .ensures) (start .pre .1 .0)
 
-pub switch-ok : {M : Type 1} (t : ℕ) → switch-lts.Closed (switch-cs t) (at switch-rank t) switch.Post M
+pub switch-ok : {M : Type 1} (t : ℕ) → cycle.Lts-switch.Closed (switch-cs t) (at switch-rank t) walk.switch.Reads.Post M
 switch-ok t =
-    switch-lts.spec (switch-cs t) (at switch-rank t) switch.Post (λ c κs. search needs) (λ c. omega arith) (λ c κs. search (needs, switch-value))
-    (λ c κs. omega arith) (λ c. omega (arith, switch-fit t c)) (λ c κs. omega (arith, switch-fit t c))
+    cycle.Lts-switch.spec (switch-cs t) (at switch-rank t) walk.switch.Reads.Post (λ c κs. search needs) (λ c. omega arith)
+    (λ c κs. search (needs, switch-value)) (λ c κs. omega arith) (λ c. omega (arith, switch-fit t c)) (λ c κs. omega (arith, switch-fit t c))
     (λ c κs. let after-node-at = c .before .before .before .before .before .before .before .before .before .before .before .before in
     let start = after-node-at .before .before .before .before .before in
     omega (arith, after-node-at .node-at .ensures .inner, start .pre .1 .0 .small))
@@ -167,17 +152,19 @@ switch-ok t =
     (after-table .table .ensures) _ (gave-cases-at (after-in-switch .in-switch .ensures) (after-cases .cases .ensures))
     (c .before .before .mark .ensures))
 
-abbrev cases-cs : ℕ → cases-lts.Claims
-cases-cs t = (entry.Asked, entry.Learnt, mark.Asked, mark.Learnt, below bare-rank t, bare.Post)
+abbrev cases-cs : ℕ → cycle.Lts-cases.Claims
+cases-cs t =
+    three (proofs.scope.entry.Reads.Asked, proofs.scope.entry.Reads.Learnt) (steps.mark.Reads.Asked, steps.mark.Reads.Learnt)
+    (below bare-rank t, walk.bare.Reads.Post)
 
-abbrev cases-Inv-loop : cases-lts.InvT-loop
+abbrev cases-Inv-loop : cycle.Lts-cases.InvT-loop
 cases-Inv-loop source s₀ from end text₀ here ways first at₀ k₀ r₀ s text at k r =
     (length s ≡ length s₀) × (length text ≡ length text₀) × (k ≤ at) ×
     ((y : ReadyCases s₀ from end here r₀) → CasesPart source text₀ ways first y s text at k r)
 
-pub cases-ok : {M : Type 1} (t : ℕ) → cases-lts.Closed (cases-cs t) (at cases-rank t) cases.Post M
+pub cases-ok : {M : Type 1} (t : ℕ) → cycle.Lts-cases.Closed (cases-cs t) (at cases-rank t) walk.cases.Reads.Post M
 cases-ok t =
-    cases-lts.spec (cases-cs t) (at cases-rank t) cases.Post cases-Inv-loop
+    cycle.Lts-cases.spec (cases-cs t) (at cases-rank t) walk.cases.Reads.Post cases-Inv-loop
     (λ source s₀ from end text₀ here ways first at₀ k₀ r₀ s text at k r. end - at) (λ c. search (needs, cases-begin)) (λ c. omega arith)
     (λ c κs. search needs) (λ c. omega arith) (λ c. omega arith) (λ c κs. search needs)
     (λ c κs. let after-mark = c .before .before .before .before in let after-entry = after-mark .before .before in

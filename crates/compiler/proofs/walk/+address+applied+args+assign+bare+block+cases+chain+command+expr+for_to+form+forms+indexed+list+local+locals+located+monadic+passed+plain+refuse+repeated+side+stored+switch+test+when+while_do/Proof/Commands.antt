@@ -1,5 +1,7 @@
 -- A command: its labels, and then by its kind.
 use Rattle.compiler.proofs as proofs
+use proofs.walk as walk
+use proofs.steps as steps
 use Rattle.compiler.proofs.walk.+address+applied+args+assign+bare+block+cases+chain+command+expr+for_to+form+forms+indexed+list+local+locals+located+monadic+passed+plain+refuse+repeated+side+stored+switch+test+when+while_do as cycle
 use Rattle.compiler.proofs.Labelled.{labelled-labels, labelled-bare, labelled-gave, unlabelled-gave, bare-empty, labelled-rest, bare-labelled}
 use Rattle.compiler.proofs.Labelled.{bare-part, bare-gave, command-some, gave-r-at}
@@ -11,35 +13,17 @@ use Rattle.compiler.proofs.Guards.{when-if, when-unless}
 use Rattle.compiler.proofs.Commands.{result-part, result-gave}
 use Rattle.compiler.proofs.Expressions.{ready-at, left-at}
 use borrow.Fn.PlainCycle.{is}
-use proofs.walk.assign.Reads as assign
-use proofs.walk.bare.Reads as bare
-use cycle.Lts-bare as bare-lts
-use proofs.walk.block.Reads as block
-use proofs.walk.command.Reads as command
-use cycle.Lts-command as command-lts
-use proofs.walk.expr.Reads as expr
-use proofs.walk.for_to.Reads as for-to
-use proofs.walk.plain.Reads as plain
-use cycle.Lts-plain as plain-lts
-use proofs.walk.repeated.Reads as repeated
-use proofs.walk.switch.Reads as switch
-use proofs.walk.test.Reads as test
-use proofs.walk.when.Reads as when
-use proofs.walk.while_do.Reads as while-do
-use proofs.labels.misplaced.Reads as misplaced
-use proofs.steps.away.Reads as away
-use proofs.steps.inside.Reads as inside
-use proofs.steps.leave.Reads as leave
-use proofs.steps.node_at.Reads as node-at
-use cycle.Proof.Ranks.{at, below, both, eleven, assign-rank, bare-rank, block-rank, command-rank, expr-rank, for-to-rank, plain-rank, repeated-rank}
-use cycle.Proof.Ranks.{switch-rank, test-rank, when-rank, while-do-rank}
+use cycle.Proof.Ranks.{at, below, both, three, eleven, assign-rank, bare-rank, block-rank, command-rank, expr-rank, for-to-rank, plain-rank}
+use cycle.Proof.Ranks.{repeated-rank, switch-rank, test-rank, when-rank, while-do-rank}
 
-abbrev command-cs : ℕ → command-lts.Claims
-command-cs t = (node-at.Asked, node-at.Learnt, misplaced.Asked, misplaced.Learnt, below bare-rank t, bare.Post)
+abbrev command-cs : ℕ → cycle.Lts-command.Claims
+command-cs t =
+    three (steps.node_at.Reads.Asked, steps.node_at.Reads.Learnt) (proofs.labels.misplaced.Reads.Asked, proofs.labels.misplaced.Reads.Learnt)
+    (below bare-rank t, walk.bare.Reads.Post)
 
-pub command-ok : {M : Type 1} (t : ℕ) → command-lts.Closed (command-cs t) (at command-rank t) command.Post M
+pub command-ok : {M : Type 1} (t : ℕ) → cycle.Lts-command.Closed (command-cs t) (at command-rank t) walk.command.Reads.Post M
 command-ok t =
-    command-lts.spec (command-cs t) (at command-rank t) command.Post (λ c κs. search needs) (λ c. omega arith)
+    cycle.Lts-command.spec (command-cs t) (at command-rank t) walk.command.Reads.Post (λ c κs. search needs) (λ c. omega arith)
     (λ c κs. labelled-labels _ (c .before .before .before .before .node-at .ensures) (c .before .before .if1 .taken) refl
     (c .before .before .before .before .before .before .before .before .before .pre .1) .small)
     (λ c κs. let after-if1 = c .before .before .before .before .before in let after-node-at = after-if1 .before .before in
@@ -47,13 +31,15 @@ command-ok t =
     (after-node-at .node-at .ensures) (after-if1 .if1 .taken) refl _ (c .before .before .misplaced .ensures) (start .pre .1))) (λ c. search needs)
     (λ c. search needs) (λ c. search labelled-gave) (λ c κs. search needs) (λ c. search needs) (λ c. search needs) (λ c. search unlabelled-gave)
 
-abbrev bare-cs : ℕ → bare-lts.Claims
-bare-cs t = (node-at.Asked, node-at.Learnt, inside.Asked, inside.Learnt, below repeated-rank t, repeated.Post)
+abbrev bare-cs : ℕ → cycle.Lts-bare.Claims
+bare-cs t =
+    three (steps.node_at.Reads.Asked, steps.node_at.Reads.Learnt) (steps.inside.Reads.Asked, steps.inside.Reads.Learnt)
+    (below repeated-rank t, walk.repeated.Reads.Post)
 
-pub bare-ok : {M : Type 1} (t : ℕ) → bare-lts.Closed (bare-cs t) (at bare-rank t) bare.Post M
+pub bare-ok : {M : Type 1} (t : ℕ) → cycle.Lts-bare.Closed (bare-cs t) (at bare-rank t) walk.bare.Reads.Post M
 bare-ok t =
-    bare-lts.spec (bare-cs t) (at bare-rank t) bare.Post (λ c κs. search needs) (λ c. omega arith) (λ c. search needs) (λ c. search bare-empty)
-    (λ c κs. search needs)
+    cycle.Lts-bare.spec (bare-cs t) (at bare-rank t) walk.bare.Reads.Post (λ c κs. search needs) (λ c. omega arith) (λ c. search needs)
+    (λ c. search bare-empty) (λ c κs. search needs)
     (λ c κs. let after-if2 = c .before .before .before in let after-if1 = after-if2 .before .before .before in
     let after-node-at = after-if1 .before .before in let start = after-node-at .before .before .before .before .before in
     both (omega (arith, start .pre .0, left-at, command-some)) (ready-at (c .inside .ensures) (labelled-rest _
@@ -65,21 +51,23 @@ bare-ok t =
     (λ c κs. both (omega (arith, c .before .before .before .before .before .before .before .before .before .before .pre .0, left-at, command-some))
     (search (ready-at, bare-part))) (λ c. search needs) (λ c. search needs) (λ c. search (bare-gave, gave-r-at))
 
-abbrev plain-cs : ℕ → plain-lts.Claims
+abbrev plain-cs : ℕ → cycle.Lts-plain.Claims
 plain-cs t =
-    eleven (node-at.Asked, node-at.Learnt) (below expr-rank t, expr.Post) (leave.Asked, leave.Learnt) (below when-rank t, when.Post)
-    (below block-rank t, block.Post) (below assign-rank t, assign.Post) (below test-rank t, test.Post) (below while-do-rank t, while-do.Post)
-    (below for-to-rank t, for-to.Post) (below switch-rank t, switch.Post) (away.Asked, away.Learnt)
+    eleven (steps.node_at.Reads.Asked, steps.node_at.Reads.Learnt) (below expr-rank t, walk.expr.Reads.Post)
+    (steps.leave.Reads.Asked, steps.leave.Reads.Learnt) (below when-rank t, walk.when.Reads.Post) (below block-rank t, walk.block.Reads.Post)
+    (below assign-rank t, walk.assign.Reads.Post) (below test-rank t, walk.test.Reads.Post) (below while-do-rank t, walk.while_do.Reads.Post)
+    (below for-to-rank t, walk.for_to.Reads.Post) (below switch-rank t, walk.switch.Reads.Post) (steps.away.Reads.Asked, steps.away.Reads.Learnt)
 
-pub plain-ok : {M : Type 1} (t : ℕ) → plain-lts.Closed (plain-cs t) (at plain-rank t) plain.Post M
+pub plain-ok : {M : Type 1} (t : ℕ) → cycle.Lts-plain.Closed (plain-cs t) (at plain-rank t) walk.plain.Reads.Post M
 plain-ok t =
-    plain-lts.spec (plain-cs t) (at plain-rank t) plain.Post (λ c κs. search needs) (λ c κs. search (needs, result-part)) (λ c κs. search needs)
-    (λ c κs. search (needs, when-if)) (λ c κs. search (needs, when-unless)) (λ c κs. search needs) (λ c. omega arith) (λ c. omega arith)
-    (λ c κs. search (needs, assigned-part)) (λ c κs. search needs) (λ c κs. search (needs, while-while)) (λ c κs. search (needs, while-until))
-    (λ c κs. (omega arith, (search needs, record { is = cc }))) (λ c κs. (omega arith, (search needs, record { is = cc })))
-    (λ c κs. search (needs, performed-part)) (λ c _. c .before .before .node-at .ensures .place-fits) (λ c. search needs) (λ c. search needs)
-    (λ c. search result-gave) (λ c. search needs) (λ c. search needs) (λ c. c .before .before .before .before .when .ensures) (λ c. search needs)
-    (λ c. search needs) (λ c. c .before .before .before .before .when2 .ensures) (λ c. search needs) (λ c. search needs)
+    cycle.Lts-plain.spec (plain-cs t) (at plain-rank t) walk.plain.Reads.Post (λ c κs. search needs) (λ c κs. search (needs, result-part))
+    (λ c κs. search needs) (λ c κs. search (needs, when-if)) (λ c κs. search (needs, when-unless)) (λ c κs. search needs) (λ c. omega arith)
+    (λ c. omega arith) (λ c κs. search (needs, assigned-part)) (λ c κs. search needs) (λ c κs. search (needs, while-while))
+    (λ c κs. search (needs, while-until)) (λ c κs. (omega arith, (search needs, record { is = cc })))
+    (λ c κs. (omega arith, (search needs, record { is = cc }))) (λ c κs. search (needs, performed-part))
+    (λ c _. c .before .before .node-at .ensures .place-fits) (λ c. search needs) (λ c. search needs) (λ c. search result-gave) (λ c. search needs)
+    (λ c. search needs) (λ c. c .before .before .before .before .when .ensures) (λ c. search needs) (λ c. search needs)
+    (λ c. c .before .before .before .before .when2 .ensures) (λ c. search needs) (λ c. search needs)
     (λ c. c .before .before .before .before .block .ensures) (λ c. search needs) (λ c. search needs) (λ c. search assigned-gave) (λ c. search needs)
     (λ c. search needs) (λ c. c .before .before .before .before .test .ensures) (λ c. search needs) (λ c. search needs)
     (λ c. c .before .before .before .before .while-do .ensures) (λ c. search needs) (λ c. search needs)

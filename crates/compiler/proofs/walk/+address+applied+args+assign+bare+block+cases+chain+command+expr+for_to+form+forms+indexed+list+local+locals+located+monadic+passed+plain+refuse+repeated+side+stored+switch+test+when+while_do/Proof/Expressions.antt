@@ -1,52 +1,35 @@
 -- An expression, operators of one binding level, a monadic operator.
 use Rattle.compiler.proofs as proofs
+use proofs.walk as walk
+use proofs.steps as steps
 use Rattle.compiler.proofs.walk.+address+applied+args+assign+bare+block+cases+chain+command+expr+for_to+form+forms+indexed+list+local+locals+located+monadic+passed+plain+refuse+repeated+side+stored+switch+test+when+while_do as cycle
+use Rattle.code.specs.Generate.{exprCode, exprLabels, monadicAct}
+use Rattle.language.specs.Heights.{ofExpr}
 use Rattle.laws.proofs.Basics.{ℕ, _-_, _≡_, refl, _∙_, length, arith, needs}
-use Rattle.compiler.proofs.Sides.{monadic-part, monadic-gave, monadic-address, monadic-pling, monadic-minus, monadic-not, monadic-other}
+use Rattle.compiler.proofs.Sides.{monadic-part, monadic-gave, monadic-address, monadic-acts, monadic-other}
 use Rattle.compiler.proofs.Sides.{gave-monadic-at}
-use Rattle.compiler.proofs.Vocabulary.{raised, ReadyChain}
+use Rattle.compiler.proofs.Vocabulary.{ReadyChain}
 use Rattle.compiler.proofs.Calls.{suffixes-ready-at, suffixes-gave-at, suffixed-part, suffixed-gave}
 use Rattle.compiler.proofs.Commands.{valof-part, valof-gave, gave-c-at}
 use Rattle.compiler.proofs.Expressions.{ChainPart, chain-begin, chain-part, chain-next, chain-end, number-gave, string-gave, name-gave}
 use Rattle.compiler.proofs.Expressions.{bracket-part, bracket-gave, dyadic-left, dyadic-rest, dyadic-gave, ready-at, gave-at, chain-ready-at}
 use Rattle.compiler.proofs.Expressions.{chain-gave-at, left-at, some-left}
-use proofs.walk.address.Reads as address
-use proofs.walk.applied.Reads as applied
-use proofs.walk.chain.Reads as chain
-use cycle.Lts-chain as chain-lts
-use proofs.walk.command.Reads as command
-use proofs.walk.expr.Reads as expr
-use cycle.Lts-expr as expr-lts
-use proofs.walk.monadic.Reads as monadic
-use cycle.Lts-monadic as monadic-lts
-use proofs.scope.entry.Reads as entry
-use proofs.scope.lookup.Reads as lookup
-use proofs.steps.act_of.Reads as act-of
-use proofs.steps.fresh.Reads as fresh
-use proofs.steps.in_valof.Reads as in-valof
-use proofs.steps.inside.Reads as inside
-use proofs.steps.keep.Reads as keep
-use proofs.steps.mark.Reads as mark
-use proofs.steps.node_at.Reads as node-at
-use proofs.steps.operate.Reads as operate
-use proofs.steps.put.Reads as put
-use proofs.steps.put_to.Reads as put-to
-use proofs.steps.raised.Reads as raised-reads
-use proofs.steps.value.Reads as value
-use cycle.Proof.Ranks.{at, below, both, fourteen, six, address-rank, applied-rank, chain-rank, command-rank, expr-rank, monadic-rank}
+use cycle.Proof.Ranks.{at, below, both, four, six, fourteen, address-rank, applied-rank, chain-rank, command-rank, expr-rank, monadic-rank}
 
-abbrev expr-cs : ℕ → expr-lts.Claims
+abbrev expr-cs : ℕ → cycle.Lts-expr.Claims
 expr-cs t =
-    fourteen (node-at.Asked, node-at.Learnt) (put.Asked, put.Learnt) (put-to.Asked, put-to.Learnt) (lookup.Asked, lookup.Learnt)
-    (value.Asked, value.Learnt) (inside.Asked, inside.Learnt) (below expr-rank t, expr.Post) (below chain-rank t, chain.Post)
-    (fresh.Asked, fresh.Learnt) (in-valof.Asked, in-valof.Learnt) (below command-rank t, command.Post) (mark.Asked, mark.Learnt)
-    (below monadic-rank t, monadic.Post) (below applied-rank t, applied.Post)
+    fourteen (steps.node_at.Reads.Asked, steps.node_at.Reads.Learnt) (steps.put.Reads.Asked, steps.put.Reads.Learnt)
+    (steps.put_to.Reads.Asked, steps.put_to.Reads.Learnt) (proofs.scope.lookup.Reads.Asked, proofs.scope.lookup.Reads.Learnt)
+    (steps.value.Reads.Asked, steps.value.Reads.Learnt) (steps.inside.Reads.Asked, steps.inside.Reads.Learnt)
+    (below expr-rank t, walk.expr.Reads.Post) (below chain-rank t, walk.chain.Reads.Post) (steps.fresh.Reads.Asked, steps.fresh.Reads.Learnt)
+    (steps.in_valof.Reads.Asked, steps.in_valof.Reads.Learnt) (below command-rank t, walk.command.Reads.Post)
+    (steps.mark.Reads.Asked, steps.mark.Reads.Learnt) (below monadic-rank t, walk.monadic.Reads.Post) (below applied-rank t, walk.applied.Reads.Post)
 
-pub expr-ok : {M : Type 1} (t : ℕ) → expr-lts.Closed (expr-cs t) (at expr-rank t) expr.Post M
+pub expr-ok : {M : Type 1} (t : ℕ) → cycle.Lts-expr.Closed (expr-cs t) (at expr-rank t) walk.expr.Reads.Post M
 expr-ok t =
-    expr-lts.spec (expr-cs t) (at expr-rank t) expr.Post (λ c κs. search needs) (λ c κs. search needs) (λ c. omega arith) (λ c κs. search needs)
-    (λ c κs. omega arith) (λ c κs. search needs) (λ c κs. search needs) (λ c κs. (omega (arith, left-at, some-left), search (ready-at, bracket-part)))
-    (λ c κs. search needs) (λ c. omega arith)
+    cycle.Lts-expr.spec (expr-cs t) (at expr-rank t) walk.expr.Reads.Post (λ c κs. search needs) (λ c κs. search needs) (λ c. omega arith)
+    (λ c κs. search needs) (λ c κs. omega arith) (λ c κs. search needs) (λ c κs. search needs)
+    (λ c κs. (omega (arith, left-at, some-left), search (ready-at, bracket-part))) (λ c κs. search needs) (λ c. omega arith)
     (λ c κs. both (omega (arith, c .before .before .before .before .before .before .before .before .before .before .pre .0, left-at, some-left))
     (search (ready-at, dyadic-left)))
     (λ c κs. let after-expr2 = c .before .before .before .before .before .before in
@@ -86,20 +69,21 @@ expr-ok t =
     (after-match .match .rest .0 .1) (after-match .match .rest .1) refl _ (suffixes-gave-at (after-inside5 .inside5 .ensures)
     (after-applied .applied .ensures)))
 
-abbrev chain-cs : ℕ → chain-lts.Claims
+abbrev chain-cs : ℕ → cycle.Lts-chain.Claims
 chain-cs t =
-    six (entry.Asked, entry.Learnt) (keep.Asked, keep.Learnt) (raised-reads.Asked, raised-reads.Learnt) (below expr-rank t, expr.Post)
-    (act-of.Asked, act-of.Learnt) (operate.Asked, operate.Learnt)
+    six (proofs.scope.entry.Reads.Asked, proofs.scope.entry.Reads.Learnt) (steps.keep.Reads.Asked, steps.keep.Reads.Learnt)
+    (steps.raised.Reads.Asked, steps.raised.Reads.Learnt) (below expr-rank t, walk.expr.Reads.Post)
+    (steps.act_of.Reads.Asked, steps.act_of.Reads.Learnt) (steps.operate.Reads.Asked, steps.operate.Reads.Learnt)
 
-abbrev chain-Inv-loop : chain-lts.InvT-loop
+abbrev chain-Inv-loop : cycle.Lts-chain.InvT-loop
 chain-Inv-loop source s₀ from end text₀ here at₀ r₀ s text at r =
     (length s ≡ length s₀) × (length text ≡ length text₀) × ((y : ReadyChain s₀ from end here r₀) → ChainPart source text₀ y s text at r)
 
-pub chain-ok : {M : Type 1} (t : ℕ) → chain-lts.Closed (chain-cs t) (at chain-rank t) chain.Post M
+pub chain-ok : {M : Type 1} (t : ℕ) → cycle.Lts-chain.Closed (chain-cs t) (at chain-rank t) walk.chain.Reads.Post M
 chain-ok t =
-    chain-lts.spec (chain-cs t) (at chain-rank t) chain.Post chain-Inv-loop (λ source s₀ from end text₀ here at₀ r₀ s text at r. end - at)
-    (λ c. search (needs, chain-begin)) (λ c κs. search needs) (λ c. omega arith) (λ c κs. search needs) (λ c. omega arith)
-    (λ c. omega (arith, c .before .before .entry .ensures .1)) (λ c κs. omega arith) (λ c κs. omega arith)
+    cycle.Lts-chain.spec (chain-cs t) (at chain-rank t) walk.chain.Reads.Post chain-Inv-loop
+    (λ source s₀ from end text₀ here at₀ r₀ s text at r. end - at) (λ c. search (needs, chain-begin)) (λ c κs. search needs) (λ c. omega arith)
+    (λ c κs. search needs) (λ c. omega arith) (λ c. omega (arith, c .before .before .entry .ensures .1)) (λ c κs. omega arith) (λ c κs. omega arith)
     (λ c κs. let after-keep = c .before .before .before .before .before in let after-entry2 = after-keep .before .before in
     let after-entry = after-entry2 .before .before in let after-loop-test = after-entry .before .before in
     let after-loop = after-loop-test .before in let start = after-loop .before .before .before .before in
@@ -123,12 +107,16 @@ chain-ok t =
           (after-loop .loop .inv .2 y),
     )) (λ c. search needs) (λ c. search needs) (λ c. search chain-end)
 
-abbrev monadic-cs : ℕ → monadic-lts.Claims
-monadic-cs t = (node-at.Asked, node-at.Learnt, below address-rank t, address.Post, below expr-rank t, expr.Post, put.Asked, put.Learnt)
+abbrev monadic-cs : ℕ → cycle.Lts-monadic.Claims
+monadic-cs t =
+    four (steps.node_at.Reads.Asked, steps.node_at.Reads.Learnt) (below address-rank t, walk.address.Reads.Post)
+    (below expr-rank t, walk.expr.Reads.Post) (steps.put.Reads.Asked, steps.put.Reads.Learnt)
 
-pub monadic-ok : {M : Type 1} (t : ℕ) → monadic-lts.Closed (monadic-cs t) (at monadic-rank t) monadic.Post M
+pub monadic-ok : {M : Type 1} (t : ℕ) → cycle.Lts-monadic.Closed (monadic-cs t) (at monadic-rank t) walk.monadic.Reads.Post M
+unfolding exprCode ofExpr exprLabels monadicAct
 monadic-ok t =
-    monadic-lts.spec (monadic-cs t) (at monadic-rank t) monadic.Post (λ c κs. search needs) (λ c κs. search needs) (λ c. search needs)
-    (λ c. search needs) (λ c. search monadic-address) (λ c κs. search needs) (λ c κs. search needs) (λ c κs. search needs) (λ c κs. search needs)
-    (λ c. search needs) (λ c. search needs) (λ c. search monadic-pling) (λ c. search needs) (λ c. search needs) (λ c. search monadic-minus)
-    (λ c. search needs) (λ c. search needs) (λ c. search monadic-not) (λ c. search needs) (λ c. search needs) (λ c. search monadic-other)
+    cycle.Lts-monadic.spec (monadic-cs t) (at monadic-rank t) walk.monadic.Reads.Post (λ c κs. search needs) (λ c κs. search needs)
+    (λ c. search needs) (λ c. search needs) (λ c. search monadic-address) (λ c κs. search needs) (λ c κs. search needs) (λ c κs. search needs)
+    (λ c κs. search needs) (λ c. search needs) (λ c. search needs) (λ c. search (monadic-acts 49 1 refl (λ x E n. refl))) (λ c. search needs)
+    (λ c. search needs) (λ c. search (monadic-acts 36 2 refl (λ x E n. refl))) (λ c. search needs) (λ c. search needs)
+    (λ c. search (monadic-acts 11 3 refl (λ x E n. refl))) (λ c. search needs) (λ c. search needs) (λ c. search monadic-other)

@@ -1,5 +1,7 @@
 -- WHILE, FOR, and a command with REPEAT forms.
 use Rattle.compiler.proofs as proofs
+use proofs.walk as walk
+use proofs.steps as steps
 use Rattle.compiler.proofs.walk.+address+applied+args+assign+bare+block+cases+chain+command+expr+for_to+form+forms+indexed+list+local+locals+located+monadic+passed+plain+refuse+repeated+side+stored+switch+test+when+while_do as cycle
 use Rattle.compiler.specs.Commands.{ReadyForms}
 use Rattle.compiler.proofs.Fors.{for-room, for-first, for-limit, for-name-fine, for-body, for-gave}
@@ -7,56 +9,22 @@ use Rattle.compiler.proofs.Conditions.{while-test, while-body, while-ga
 use Rattle.compiler.proofs.RepeatForms.{FormsPart, forms-begin, forms-part, forms-next, forms-end, form-alone, form-tested, repeated-few}
 use Rattle.compiler.proofs.RepeatForms.{repeated-body, repeated-forms, repeated-gave, once-part, once-gave}
 use Rattle.laws.proofs.Basics.{ℕ, _+_, _-_, _*_, _^_, _≤_, _≡_, refl, _∙_, length, arith, needs}
-use Rattle.compiler.specs.Walked.{raised}
 use Rattle.compiler.proofs.Commands.{gave-c-at, gave-u-at}
 use Rattle.compiler.proofs.Expressions.{ready-at, gave-at, left-at}
-use borrow.Fn.PlainCycle.{is}
-use proofs.walk.args.Reads as args
-use proofs.walk.command.Reads as command
-use proofs.walk.expr.Reads as expr
-use proofs.walk.for_to.Reads as for-to
-use cycle.Lts-for_to as for-to-lts
-use proofs.walk.form.Reads as form
-use cycle.Lts-form as form-lts
-use proofs.walk.forms.Reads as forms
-use cycle.Lts-forms as forms-lts
-use proofs.walk.plain.Reads as plain
-use proofs.walk.repeated.Reads as repeated
-use cycle.Lts-repeated as repeated-lts
-use proofs.walk.while_do.Reads as while-do
-use cycle.Lts-while_do as while-do-lts
-use proofs.labels.by_constant.Reads as by-constant
-use proofs.scope.entry.Reads as entry
-use proofs.scope.push.Reads as push
-use proofs.scope.push_name.Reads as push-name
-use proofs.steps.blame.Reads as blame
-use proofs.steps.count.Reads as count
-use proofs.steps.for_step.Reads as for-step
-use proofs.steps.for_test.Reads as for-test
-use proofs.steps.fresh.Reads as fresh
-use proofs.steps.in_loop.Reads as in-loop
-use proofs.steps.jump_unless.Reads as jump-unless
-use proofs.steps.jump_when.Reads as jump-when
-use proofs.steps.keep.Reads as keep
-use proofs.steps.less.Reads as less
-use proofs.steps.mark.Reads as mark
-use proofs.steps.node_at.Reads as node-at
-use proofs.steps.put_to.Reads as put-to
-use proofs.steps.raised.Reads as raised-reads
-use proofs.steps.set_at.Reads as set-at
-use proofs.steps.tops.Reads as tops
-use cycle.Proof.Ranks.{at, below, both, fifteen, eight, command-rank, expr-rank, for-to-rank, form-rank, forms-rank, plain-rank, repeated-rank}
-use cycle.Proof.Ranks.{while-do-rank}
+use cycle.Proof.Ranks.{at, below, both, three, four, eight, fifteen, command-rank, expr-rank, for-to-rank, form-rank, forms-rank, plain-rank}
+use cycle.Proof.Ranks.{repeated-rank, while-do-rank}
 
-abbrev while-do-cs : ℕ → while-do-lts.Claims
+abbrev while-do-cs : ℕ → cycle.Lts-while_do.Claims
 while-do-cs t =
-    eight (node-at.Asked, node-at.Learnt) (fresh.Asked, fresh.Learnt) (mark.Asked, mark.Learnt) (below expr-rank t, expr.Post)
-    (jump-unless.Asked, jump-unless.Learnt) (put-to.Asked, put-to.Learnt) (in-loop.Asked, in-loop.Learnt) (below command-rank t, command.Post)
+    eight (steps.node_at.Reads.Asked, steps.node_at.Reads.Learnt) (steps.fresh.Reads.Asked, steps.fresh.Reads.Learnt)
+    (steps.mark.Reads.Asked, steps.mark.Reads.Learnt) (below expr-rank t, walk.expr.Reads.Post)
+    (steps.jump_unless.Reads.Asked, steps.jump_unless.Reads.Learnt) (steps.put_to.Reads.Asked, steps.put_to.Reads.Learnt)
+    (steps.in_loop.Reads.Asked, steps.in_loop.Reads.Learnt) (below command-rank t, walk.command.Reads.Post)
 
-pub while-do-ok : {M : Type 1} (t : ℕ) → while-do-lts.Closed (while-do-cs t) (at while-do-rank t) while-do.Post M
+pub while-do-ok : {M : Type 1} (t : ℕ) → cycle.Lts-while_do.Closed (while-do-cs t) (at while-do-rank t) walk.while_do.Reads.Post M
 while-do-ok t =
-    while-do-lts.spec (while-do-cs t) (at while-do-rank t) while-do.Post (λ c κs. search needs) (λ c κs. search needs) (λ c κs. omega arith)
-    (λ c κs. search needs)
+    cycle.Lts-while_do.spec (while-do-cs t) (at while-do-rank t) walk.while_do.Reads.Post (λ c κs. search needs) (λ c κs. search needs)
+    (λ c κs. omega arith) (λ c κs. search needs)
     (λ c κs. let after-mark = c .before .before .before .before in let after-fresh = after-mark .before .before in
     let after-node-at2 = after-fresh .before in let after-node-at = after-node-at2 .before .before in
     let start = after-node-at .before .before .before .before .before in both (omega (arith, start .pre .0)) (while-test _ _
@@ -95,20 +63,23 @@ while-do-ok t =
     (after-expr .expr .ensures) (after-put-to .put-to .ensures) _ (after-jump-unless .jump-unless .ensures) (gave-c-at _ refl
     (after-in-loop .in-loop .ensures) (after-command .command .ensures)) (after-put-to2 .put-to2 .ensures) (c .before .before .mark2 .ensures))
 
-abbrev for-to-cs : ℕ → for-to-lts.Claims
+abbrev for-to-cs : ℕ → cycle.Lts-for_to.Claims
 for-to-cs t =
-    fifteen (node-at.Asked, node-at.Learnt) (less.Asked, less.Learnt) (fresh.Asked, fresh.Learnt) (below expr-rank t, expr.Post)
-    (keep.Asked, keep.Learnt) (raised-reads.Asked, raised-reads.Learnt) (by-constant.Asked, by-constant.Learnt) (blame.Asked, blame.Learnt)
-    (for-test.Asked, for-test.Learnt) (push.Asked, push.Learnt) (push-name.Asked, push-name.Learnt) (set-at.Asked, set-at.Learnt)
-    (in-loop.Asked, in-loop.Learnt) (below command-rank t, command.Post) (for-step.Asked, for-step.Learnt)
+    fifteen (steps.node_at.Reads.Asked, steps.node_at.Reads.Learnt) (steps.less.Reads.Asked, steps.less.Reads.Learnt)
+    (steps.fresh.Reads.Asked, steps.fresh.Reads.Learnt) (below expr-rank t, walk.expr.Reads.Post) (steps.keep.Reads.Asked, steps.keep.Reads.Learnt)
+    (steps.raised.Reads.Asked, steps.raised.Reads.Learnt) (proofs.labels.by_constant.Reads.Asked, proofs.labels.by_constant.Reads.Learnt)
+    (steps.blame.Reads.Asked, steps.blame.Reads.Learnt) (steps.for_test.Reads.Asked, steps.for_test.Reads.Learnt)
+    (proofs.scope.push.Reads.Asked, proofs.scope.push.Reads.Learnt) (proofs.scope.push_name.Reads.Asked, proofs.scope.push_name.Reads.Learnt)
+    (steps.set_at.Reads.Asked, steps.set_at.Reads.Learnt) (steps.in_loop.Reads.Asked, steps.in_loop.Reads.Learnt)
+    (below command-rank t, walk.command.Reads.Post) (steps.for_step.Reads.Asked, steps.for_step.Reads.Learnt)
 
-abbrev for-to-start : (t : ℕ) → for-to-lts.After-for-test (for-to-cs t) (at for-to-rank t) for-to.Post → for-to-lts.Start (for-to-cs t)
-    (at for-to-rank t) for-to.Post
+abbrev for-to-start : (t : ℕ) → cycle.Lts-for_to.After-for-test (for-to-cs t) (at for-to-rank t) walk.for_to.Reads.Post
+    → cycle.Lts-for_to.Start (for-to-cs t) (at for-to-rank t) walk.for_to.Reads.Post
 for-to-start t c = c .before .before .before .before .before .before .before .before .before .before .before .before .before .before .before .before
     .before .before .before .before .before .before .before .before .before .before .before .before .before .before .before .before .before .before
     .before .before .before .before .before .before
 
-for-to-room : (t : ℕ) (c : for-to-lts.After-for-test (for-to-cs t) (at for-to-rank t) for-to.Post)
+for-to-room : (t : ℕ) (c : cycle.Lts-for_to.After-for-test (for-to-cs t) (at for-to-rank t) walk.for_to.Reads.Post)
     → for-to-start t c .args .here .top + 4 ≤ for-to-start t c .pre .1 .0 .base
 for-to-room t c =
     let after-node-at3 = c .before .before .before .before .before .before .before .before .before .before .before .before .before .before .before
@@ -118,9 +89,9 @@ for-to-room t c =
     for-room _ _ _ (after-node-at .node-at .ensures) (after-node-at2 .node-at2 .ensures) (after-less .less .ensures)
     (after-node-at3 .node-at3 .ensures) (start .pre .1 .1 .is) (start .pre .1 .0)
 
-pub for-to-ok : {M : Type 1} (t : ℕ) → for-to-lts.Closed (for-to-cs t) (at for-to-rank t) for-to.Post M
+pub for-to-ok : {M : Type 1} (t : ℕ) → cycle.Lts-for_to.Closed (for-to-cs t) (at for-to-rank t) walk.for_to.Reads.Post M
 for-to-ok t =
-    for-to-lts.spec (for-to-cs t) (at for-to-rank t) for-to.Post (λ c κs. search needs) (λ c κs. search needs) (λ c κs. search needs)
+    cycle.Lts-for_to.spec (for-to-cs t) (at for-to-rank t) walk.for_to.Reads.Post (λ c κs. search needs) (λ c κs. search needs) (λ c κs. search needs)
     (λ c κs. search needs) (λ c κs. omega arith)
     (λ c κs. let after-node-at3 = c .before .before .before in let after-less = after-node-at3 .before .before in
     let after-node-at2 = after-less .before in let after-node-at = after-node-at2 .before .before in
@@ -242,26 +213,30 @@ for-to-ok t =
     (gave-c-at _ (after-set-at .set-at .ensures) (after-in-loop .in-loop .ensures) (after-command .command .ensures))
     (c .before .before .for-step .ensures))
 
-abbrev form-cs : ℕ → form-lts.Claims
-form-cs t = (put-to.Asked, put-to.Learnt, below expr-rank t, expr.Post, jump-when.Asked, jump-when.Learnt)
+abbrev form-cs : ℕ → cycle.Lts-form.Claims
+form-cs t =
+    three (steps.put_to.Reads.Asked, steps.put_to.Reads.Learnt) (below expr-rank t, walk.expr.Reads.Post)
+    (steps.jump_when.Reads.Asked, steps.jump_when.Reads.Learnt)
 
-pub form-ok : {M : Type 1} (t : ℕ) → form-lts.Closed (form-cs t) (at form-rank t) form.Post M
+pub form-ok : {M : Type 1} (t : ℕ) → cycle.Lts-form.Closed (form-cs t) (at form-rank t) walk.form.Reads.Post M
 form-ok t =
-    form-lts.spec (form-cs t) (at form-rank t) form.Post (λ c κs. search needs) (λ c. search needs) (λ c. search form-alone)
+    cycle.Lts-form.spec (form-cs t) (at form-rank t) walk.form.Reads.Post (λ c κs. search needs) (λ c. search needs) (λ c. search form-alone)
     (λ c κs. (omega arith, c .before .before .before .before .before .before .pre .1 .on (c .before .before .if1 .left))) (λ c κs. search needs)
     (λ c κs. search needs) (λ c. search needs) (λ c. search needs) (λ c. search form-tested)
 
-abbrev forms-cs : ℕ → forms-lts.Claims
-forms-cs t = (entry.Asked, entry.Learnt, mark.Asked, mark.Learnt, below form-rank t, form.Post, less.Asked, less.Learnt)
+abbrev forms-cs : ℕ → cycle.Lts-forms.Claims
+forms-cs t =
+    four (proofs.scope.entry.Reads.Asked, proofs.scope.entry.Reads.Learnt) (steps.mark.Reads.Asked, steps.mark.Reads.Learnt)
+    (below form-rank t, walk.form.Reads.Post) (steps.less.Reads.Asked, steps.less.Reads.Learnt)
 
-abbrev forms-Inv-loop : forms-lts.InvT-loop
+abbrev forms-Inv-loop : cycle.Lts-forms.InvT-loop
 forms-Inv-loop source s₀ from end text₀ here innermost at₀ own₀ r₀ s text at own r =
     (length s ≡ length s₀) × (length text ≡ length text₀) × (own ≤ innermost) ×
     ((y : ReadyForms s₀ from end here r₀) → FormsPart source text₀ innermost y s text at own r)
 
-pub forms-ok : {M : Type 1} (t : ℕ) → forms-lts.Closed (forms-cs t) (at forms-rank t) forms.Post M
+pub forms-ok : {M : Type 1} (t : ℕ) → cycle.Lts-forms.Closed (forms-cs t) (at forms-rank t) walk.forms.Reads.Post M
 forms-ok t =
-    forms-lts.spec (forms-cs t) (at forms-rank t) forms.Post forms-Inv-loop
+    cycle.Lts-forms.spec (forms-cs t) (at forms-rank t) walk.forms.Reads.Post forms-Inv-loop
     (λ source s₀ from end text₀ here innermost at₀ own₀ r₀ s text at own r. end - at) (λ c. search (needs, forms-begin)) (λ c κs. search needs)
     (λ c. omega arith) (λ c κs. search needs) (λ c. omega arith) (λ c. omega arith) (λ c. omega arith) (λ c κs. search needs)
     (λ c κs. let after-mark = c .before .before .before .before in let after-entry2 = after-mark .before .before in
@@ -290,21 +265,23 @@ forms-ok t =
     (λ c. c .before .loop .inv .0) (λ c. c .before .loop .inv .1)
     (λ c. forms-end _ _ (c .before .before .before .before .before .args .innermost) (c .loop-test .left) (c .before .loop .inv .3))
 
-abbrev repeated-cs : ℕ → repeated-lts.Claims
+abbrev repeated-cs : ℕ → cycle.Lts-repeated.Claims
 repeated-cs t =
-    eight (node-at.Asked, node-at.Learnt) (count.Asked, count.Learnt) (less.Asked, less.Learnt) (fresh.Asked, fresh.Learnt) (tops.Asked, tops.Learnt)
-    (in-loop.Asked, in-loop.Learnt) (below plain-rank t, plain.Post) (below forms-rank t, forms.Post)
+    eight (steps.node_at.Reads.Asked, steps.node_at.Reads.Learnt) (steps.count.Reads.Asked, steps.count.Reads.Learnt)
+    (steps.less.Reads.Asked, steps.less.Reads.Learnt) (steps.fresh.Reads.Asked, steps.fresh.Reads.Learnt)
+    (steps.tops.Reads.Asked, steps.tops.Reads.Learnt) (steps.in_loop.Reads.Asked, steps.in_loop.Reads.Learnt)
+    (below plain-rank t, walk.plain.Reads.Post) (below forms-rank t, walk.forms.Reads.Post)
 
-repeated-fit : (t : ℕ) (c : repeated-lts.After-count (repeated-cs t) (at repeated-rank t) repeated.Post) → (1 ≤ c .count .result) ×
+repeated-fit : (t : ℕ) (c : cycle.Lts-repeated.After-count (repeated-cs t) (at repeated-rank t) walk.repeated.Reads.Post) → (1 ≤ c .count .result) ×
     (c .before .before .before .before .before .before .before .before .before .before .args .st .label + 3 * c .count .result + 3 ≤ 2 ^ 29)
 repeated-fit t c =
     repeated-few _ (c .before .before .before .before .before .node-at .ensures) (c .before .before .before .if1 .taken) refl (c .count .ensures)
     (c .before .before .before .before .before .before .before .before .before .before .pre .1)
 
-pub repeated-ok : {M : Type 1} (t : ℕ) → repeated-lts.Closed (repeated-cs t) (at repeated-rank t) repeated.Post M
+pub repeated-ok : {M : Type 1} (t : ℕ) → cycle.Lts-repeated.Closed (repeated-cs t) (at repeated-rank t) walk.repeated.Reads.Post M
 repeated-ok t =
-    repeated-lts.spec (repeated-cs t) (at repeated-rank t) repeated.Post (λ c κs. search needs) (λ c. omega arith) (λ c κs. omega arith)
-    (λ c. omega (arith, repeated-fit t c)) (λ c. omega (arith, repeated-fit t (c .before))) (λ c κs. search needs)
+    cycle.Lts-repeated.spec (repeated-cs t) (at repeated-rank t) walk.repeated.Reads.Post (λ c κs. search needs) (λ c. omega arith)
+    (λ c κs. omega arith) (λ c. omega (arith, repeated-fit t c)) (λ c. omega (arith, repeated-fit t (c .before))) (λ c κs. search needs)
     (λ c. omega (arith, repeated-fit t (c .before .before))) (λ c κs. omega (arith, repeated-fit t (c .before .before)))
     (λ c κs. omega (arith, repeated-fit t (c .before .before .before .before)))
     (λ c. omega (arith, repeated-fit t (c .before .before .before .before .before .before .before .before .before)))

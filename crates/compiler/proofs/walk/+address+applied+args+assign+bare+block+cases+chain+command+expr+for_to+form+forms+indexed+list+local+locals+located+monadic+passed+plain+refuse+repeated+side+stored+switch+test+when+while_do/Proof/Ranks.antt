@@ -24,21 +24,27 @@ abbrev pub both : {A B : Type 0} → A → B → A × B
 both a b = (a, b)
 
 -- what is asked and learnt of so many functions that are called
+abbrev pub three : {A B C D E F : Type 1} → A × B → C × D → E × F → A × B × C × D × E × F
+three (a, b) (c, d) (e, f) = (a, b, c, d, e, f)
+
+abbrev pub four : {A B C D E F G H : Type 1} → A × B → C × D → E × F → G × H → A × B × C × D × E × F × G × H
+four (a, b) (c, d) (e, f) (g, h) = (a, b, c, d, e, f, g, h)
+
 abbrev pub six : {A B C D E F G H I J K L : Type 1} → A × B → C × D → E × F → G × H → I × J → K × L
     → A × B × C × D × E × F × G × H × I × J × K × L
-six a b c d e f = (a .0, a .1, b .0, b .1, c .0, c .1, d .0, d .1, e .0, e .1, f .0, f .1)
+six (a, b) (c, d) (e, f) (g, h) (i, j) (k, l) = (a, b, c, d, e, f, g, h, i, j, k, l)
 
 abbrev pub seven : {A B C D E F G H I J K L M N : Type 1} → A × B → C × D → E × F → G × H → I × J → K × L → M × N
     → A × B × C × D × E × F × G × H × I × J × K × L × M × N
-seven a b c d e f g = (a .0, a .1, b .0, b .1, c .0, c .1, d .0, d .1, e .0, e .1, f .0, f .1, g .0, g .1)
+seven (a, b) (c, d) (e, f) (g, h) (i, j) (k, l) (m, n) = (a, b, c, d, e, f, g, h, i, j, k, l, m, n)
 
 abbrev pub eight : {A B C D E F G H I J K L M N O P : Type 1} → A × B → C × D → E × F → G × H → I × J → K × L → M × N → O × P
     → A × B × C × D × E × F × G × H × I × J × K × L × M × N × O × P
-eight a b c d e f g h = (a .0, a .1, b .0, b .1, c .0, c .1, d .0, d .1, e .0, e .1, f .0, f .1, g .0, g .1, h .0, h .1)
+eight (a, b) (c, d) (e, f) (g, h) (i, j) (k, l) (m, n) (o, p) = (a, b, c, d, e, f, g, h, i, j, k, l, m, n, o, p)
 
 abbrev pub nine : {A B C D E F G H I J K L M N O P Q R : Type 1} → A × B → C × D → E × F → G × H → I × J → K × L → M × N → O × P → Q × R
     → A × B × C × D × E × F × G × H × I × J × K × L × M × N × O × P × Q × R
-nine a b c d e f g h i = (a .0, a .1, b .0, b .1, c .0, c .1, d .0, d .1, e .0, e .1, f .0, f .1, g .0, g .1, h .0, h .1, i .0, i .1)
+nine (a, b) (c, d) (e, f) (g, h) (i, j) (k, l) (m, n) (o, p) (q, r) = (a, b, c, d, e, f, g, h, i, j, k, l, m, n, o, p, q, r)
 
 abbrev pub eleven : {A B C D E F G H I J K L M N O P Q R S T U W : Type 1}
     → A × B → C × D → E × F → G × H → I × J → K × L → M × N → O × P → Q × R → S × T → U × W

@@ -1,5 +1,7 @@
 -- What @ and := take: an address, a left side, an assignment.
 use Rattle.compiler.proofs as proofs
+use proofs.walk as walk
+use proofs.steps as steps
 use Rattle.compiler.proofs.walk.+address+applied+args+assign+bare+block+cases+chain+command+expr+for_to+form+forms+indexed+list+local+locals+located+monadic+passed+plain+refuse+repeated+side+stored+switch+test+when+while_do as cycle
 use Rattle.laws.proofs.Basics.{ℕ, _-_, _≡_, refl, ap, _∙_, length, arith, needs}
 use Rattle.compiler.proofs.Assigning.{AssignPart, assign-begin, assign-is, assign-right, assign-left, assign-next, assign-end}
@@ -10,45 +12,19 @@ use Rattle.compiler.specs.Assigns.{ReadyAssign}
 use Rattle.compiler.proofs.Vocabulary.{Here, raised}
 use Rattle.compiler.proofs.Calls.{suffixes-ready-at, suffixes-gave-at}
 use Rattle.compiler.proofs.Expressions.{bracket-part, ready-at, gave-at, left-at, some-left}
-use proofs.walk.address.Reads as address
-use cycle.Lts-address as address-lts
-use proofs.walk.applied.Reads as applied
-use proofs.walk.args.Reads as args
-use proofs.walk.assign.Reads as assign
-use cycle.Lts-assign as assign-lts
-use proofs.walk.expr.Reads as expr
-use proofs.walk.located.Reads as located
-use cycle.Lts-located as located-lts
-use proofs.walk.refuse.Reads as refuse
-use cycle.Lts-refuse as refuse-lts
-use proofs.walk.side.Reads as side
-use cycle.Lts-side as side-lts
-use proofs.walk.stored.Reads as stored
-use cycle.Lts-stored as stored-lts
-use proofs.scope.entry.Reads as entry
-use proofs.scope.lookup.Reads as lookup
-use proofs.steps.inside.Reads as inside
-use proofs.steps.keep.Reads as keep
-use proofs.steps.less.Reads as less
-use proofs.steps.name_address.Reads as name-address
-use proofs.steps.name_store.Reads as name-store
-use proofs.steps.node_at.Reads as node-at
-use proofs.steps.put.Reads as put
-use proofs.steps.raised.Reads as raised-reads
-use proofs.steps.store_indexed.Reads as store-indexed
-use proofs.steps.store_through.Reads as store-through
-use proofs.steps.wrong.Reads as wrong
-use cycle.Proof.Ranks.{at, below, both, eleven, eight, nine, address-rank, applied-rank, assign-rank, expr-rank, located-rank, refuse-rank, side-rank}
-use cycle.Proof.Ranks.{stored-rank}
+use cycle.Proof.Ranks.{at, below, both, four, eight, nine, eleven, address-rank, applied-rank, assign-rank, expr-rank, located-rank, refuse-rank}
+use cycle.Proof.Ranks.{side-rank, stored-rank}
 
-abbrev address-cs : ℕ → address-lts.Claims
+abbrev address-cs : ℕ → cycle.Lts-address.Claims
 address-cs t =
-    eight (node-at.Asked, node-at.Learnt) (inside.Asked, inside.Learnt) (below address-rank t, address.Post) (lookup.Asked, lookup.Learnt)
-    (name-address.Asked, name-address.Learnt) (below located-rank t, located.Post) (below expr-rank t, expr.Post) (below refuse-rank t, refuse.Post)
+    eight (steps.node_at.Reads.Asked, steps.node_at.Reads.Learnt) (steps.inside.Reads.Asked, steps.inside.Reads.Learnt)
+    (below address-rank t, walk.address.Reads.Post) (proofs.scope.lookup.Reads.Asked, proofs.scope.lookup.Reads.Learnt)
+    (steps.name_address.Reads.Asked, steps.name_address.Reads.Learnt) (below located-rank t, walk.located.Reads.Post)
+    (below expr-rank t, walk.expr.Reads.Post) (below refuse-rank t, walk.refuse.Reads.Post)
 
-pub address-ok : {M : Type 1} (t : ℕ) → address-lts.Closed (address-cs t) (at address-rank t) address.Post M
+pub address-ok : {M : Type 1} (t : ℕ) → cycle.Lts-address.Closed (address-cs t) (at address-rank t) walk.address.Reads.Post M
 address-ok t =
-    address-lts.spec (address-cs t) (at address-rank t) address.Post (λ c κs. search needs) (λ c κs. search needs)
+    cycle.Lts-address.spec (address-cs t) (at address-rank t) walk.address.Reads.Post (λ c κs. search needs) (λ c κs. search needs)
     (λ c κs. (omega (arith, left-at, some-left), (search (ready-at, bracket-part), search needs))) (λ c κs. omega arith) (λ c κs. search needs)
     (λ c κs. search needs) (λ c κs. search needs)
     (λ c κs. both (omega (
@@ -72,16 +48,17 @@ address-ok t =
     let after-node-at = after-match .before in address-refused _ _ _ (after-node-at .node-at .ensures) (after-match .match .rest .0 .0 .0 .1)
     (after-match .match .rest .0 .0 .1) (after-match .match .rest .0 .1) (λ e v. after-match .match .rest .1 e) (after-refuse2 .refuse2 .ensures))
 
-abbrev located-cs : ℕ → located-lts.Claims
+abbrev located-cs : ℕ → cycle.Lts-located.Claims
 located-cs t =
-    nine (node-at.Asked, node-at.Learnt) (less.Asked, less.Learnt) (entry.Asked, entry.Learnt) (inside.Asked, inside.Learnt)
-    (below applied-rank t, applied.Post) (keep.Asked, keep.Learnt) (raised-reads.Asked, raised-reads.Learnt) (below expr-rank t, expr.Post)
-    (put.Asked, put.Learnt)
+    nine (steps.node_at.Reads.Asked, steps.node_at.Reads.Learnt) (steps.less.Reads.Asked, steps.less.Reads.Learnt)
+    (proofs.scope.entry.Reads.Asked, proofs.scope.entry.Reads.Learnt) (steps.inside.Reads.Asked, steps.inside.Reads.Learnt)
+    (below applied-rank t, walk.applied.Reads.Post) (steps.keep.Reads.Asked, steps.keep.Reads.Learnt)
+    (steps.raised.Reads.Asked, steps.raised.Reads.Learnt) (below expr-rank t, walk.expr.Reads.Post) (steps.put.Reads.Asked, steps.put.Reads.Learnt)
 
-pub located-ok : {M : Type 1} (t : ℕ) → located-lts.Closed (located-cs t) (at located-rank t) located.Post M
+pub located-ok : {M : Type 1} (t : ℕ) → cycle.Lts-located.Closed (located-cs t) (at located-rank t) walk.located.Reads.Post M
 located-ok t =
-    located-lts.spec (located-cs t) (at located-rank t) located.Post (λ c κs. search needs) (λ c κs. search needs) (λ c κs. search needs)
-    (λ c κs. search needs) (λ c κs. search needs) (λ c. omega arith)
+    cycle.Lts-located.spec (located-cs t) (at located-rank t) walk.located.Reads.Post (λ c κs. search needs) (λ c κs. search needs)
+    (λ c κs. search needs) (λ c κs. search needs) (λ c κs. search needs) (λ c. omega arith)
     (λ c κs. let after-inside = c .before .before .before in let after-less2 = after-inside .before in let after-entry = after-less2 .before in
     let after-less = after-entry .before .before in let after-node-at = after-less .before in
     let start = after-node-at .before .before .before .before .before in
@@ -118,23 +95,25 @@ located-ok t =
     (after-inside .inside .ensures) (after-applied .applied .ensures)) (after-keep .keep .ensures) (gave-at _ (after-raised .raised .ensures
     ∙ ap (raised 1) (after-inside .inside .ensures)) (after-expr .expr .ensures)) (c .before .before .put .ensures))
 
-abbrev refuse-cs : ℕ → refuse-lts.Claims
-refuse-cs t = (below expr-rank t, expr.Post, wrong.Asked, wrong.Learnt)
+abbrev refuse-cs : ℕ → cycle.Lts-refuse.Claims
+refuse-cs t = (below expr-rank t, walk.expr.Reads.Post, steps.wrong.Reads.Asked, steps.wrong.Reads.Learnt)
 
-pub refuse-ok : {M : Type 1} (t : ℕ) → refuse-lts.Closed (refuse-cs t) (at refuse-rank t) refuse.Post M
+pub refuse-ok : {M : Type 1} (t : ℕ) → cycle.Lts-refuse.Closed (refuse-cs t) (at refuse-rank t) walk.refuse.Reads.Post M
 refuse-ok t =
-    refuse-lts.spec (refuse-cs t) (at refuse-rank t) refuse.Post (λ c κs. search needs) (λ c κs. search needs) (λ c. search needs) (λ c. search needs)
-    (λ c. search refuse-gave)
+    cycle.Lts-refuse.spec (refuse-cs t) (at refuse-rank t) walk.refuse.Reads.Post (λ c κs. search needs) (λ c κs. search needs) (λ c. search needs)
+    (λ c. search needs) (λ c. search refuse-gave)
 
-abbrev side-cs : ℕ → side-lts.Claims
+abbrev side-cs : ℕ → cycle.Lts-side.Claims
 side-cs t =
-    eleven (node-at.Asked, node-at.Learnt) (inside.Asked, inside.Learnt) (below side-rank t, side.Post) (lookup.Asked, lookup.Learnt)
-    (name-store.Asked, name-store.Learnt) (below stored-rank t, stored.Post) (keep.Asked, keep.Learnt) (raised-reads.Asked, raised-reads.Learnt)
-    (below expr-rank t, expr.Post) (store-through.Asked, store-through.Learnt) (below refuse-rank t, refuse.Post)
+    eleven (steps.node_at.Reads.Asked, steps.node_at.Reads.Learnt) (steps.inside.Reads.Asked, steps.inside.Reads.Learnt)
+    (below side-rank t, walk.side.Reads.Post) (proofs.scope.lookup.Reads.Asked, proofs.scope.lookup.Reads.Learnt)
+    (steps.name_store.Reads.Asked, steps.name_store.Reads.Learnt) (below stored-rank t, walk.stored.Reads.Post)
+    (steps.keep.Reads.Asked, steps.keep.Reads.Learnt) (steps.raised.Reads.Asked, steps.raised.Reads.Learnt) (below expr-rank t, walk.expr.Reads.Post)
+    (steps.store_through.Reads.Asked, steps.store_through.Reads.Learnt) (below refuse-rank t, walk.refuse.Reads.Post)
 
-pub side-ok : {M : Type 1} (t : ℕ) → side-lts.Closed (side-cs t) (at side-rank t) side.Post M
+pub side-ok : {M : Type 1} (t : ℕ) → cycle.Lts-side.Closed (side-cs t) (at side-rank t) walk.side.Reads.Post M
 side-ok t =
-    side-lts.spec (side-cs t) (at side-rank t) side.Post (λ c κs. search needs) (λ c κs. search needs)
+    cycle.Lts-side.spec (side-cs t) (at side-rank t) walk.side.Reads.Post (λ c κs. search needs) (λ c κs. search needs)
     (λ c κs. let after-match = c .before .before .before in let after-node-at = after-match .before in
     let start = after-node-at .before .before .before .before .before in both (omega (arith, left-at, some-left))
     (both (ready-at (ap (raised 1) (c .inside .ensures)) (bracket-part _ (after-node-at .node-at .ensures) (after-match .match .keys1)
@@ -179,15 +158,17 @@ side-ok t =
     (after-match .match .rest .0 .0 .0 .1) (after-match .match .rest .0 .0 .1) (after-match .match .rest .0 .1) (λ e v. after-match .match .rest .1 e)
     (gave-refused-at (after-raised3 .raised3 .ensures) (after-refuse2 .refuse2 .ensures)))
 
-abbrev stored-cs : ℕ → stored-lts.Claims
+abbrev stored-cs : ℕ → cycle.Lts-stored.Claims
 stored-cs t =
-    nine (node-at.Asked, node-at.Learnt) (less.Asked, less.Learnt) (entry.Asked, entry.Learnt) (inside.Asked, inside.Learnt)
-    (raised-reads.Asked, raised-reads.Learnt) (keep.Asked, keep.Learnt) (below applied-rank t, applied.Post) (below expr-rank t, expr.Post)
-    (store-indexed.Asked, store-indexed.Learnt)
+    nine (steps.node_at.Reads.Asked, steps.node_at.Reads.Learnt) (steps.less.Reads.Asked, steps.less.Reads.Learnt)
+    (proofs.scope.entry.Reads.Asked, proofs.scope.entry.Reads.Learnt) (steps.inside.Reads.Asked, steps.inside.Reads.Learnt)
+    (steps.raised.Reads.Asked, steps.raised.Reads.Learnt) (steps.keep.Reads.Asked, steps.keep.Reads.Learnt)
+    (below applied-rank t, walk.applied.Reads.Post) (below expr-rank t, walk.expr.Reads.Post)
+    (steps.store_indexed.Reads.Asked, steps.store_indexed.Reads.Learnt)
 
-pub stored-ok : {M : Type 1} (t : ℕ) → stored-lts.Closed (stored-cs t) (at stored-rank t) stored.Post M
+pub stored-ok : {M : Type 1} (t : ℕ) → cycle.Lts-stored.Closed (stored-cs t) (at stored-rank t) walk.stored.Reads.Post M
 stored-ok t =
-    stored-lts.spec (stored-cs t) (at stored-rank t) stored.Post (λ c κs. search needs) (λ c κs. search needs) (λ c κs. search needs)
+    cycle.Lts-stored.spec (stored-cs t) (at stored-rank t) walk.stored.Reads.Post (λ c κs. search needs) (λ c κs. search needs) (λ c κs. search needs)
     (λ c κs. search needs) (λ c κs. search needs)
     (λ c κs. omega (
       arith,
@@ -272,16 +253,18 @@ stored-ok t =
     (gave-at _ (after-raised2 .raised2 .ensures ∙ ap (raised 1) (after-raised .raised .ensures ∙ ap (raised 1) (after-inside .inside .ensures)))
     (after-expr .expr .ensures)) (c .before .before .store-indexed .ensures))
 
-abbrev assign-cs : ℕ → assign-lts.Claims
-assign-cs t = (entry.Asked, entry.Learnt, below expr-rank t, expr.Post, node-at.Asked, node-at.Learnt, below side-rank t, side.Post)
+abbrev assign-cs : ℕ → cycle.Lts-assign.Claims
+assign-cs t =
+    four (proofs.scope.entry.Reads.Asked, proofs.scope.entry.Reads.Learnt) (below expr-rank t, walk.expr.Reads.Post)
+    (steps.node_at.Reads.Asked, steps.node_at.Reads.Learnt) (below side-rank t, walk.side.Reads.Post)
 
-abbrev assign-Inv-loop : assign-lts.InvT-loop
+abbrev assign-Inv-loop : cycle.Lts-assign.InvT-loop
 assign-Inv-loop source s₀ left right end text₀ here l₀ at₀ r₀ s text l at r =
     (length s ≡ length s₀) × (length text ≡ length text₀) × ((y : ReadyAssign s₀ left right end here r₀) → AssignPart source text₀ y s text l at r)
 
-pub assign-ok : {M : Type 1} (t : ℕ) → assign-lts.Closed (assign-cs t) (at assign-rank t) assign.Post M
+pub assign-ok : {M : Type 1} (t : ℕ) → cycle.Lts-assign.Closed (assign-cs t) (at assign-rank t) walk.assign.Reads.Post M
 assign-ok t =
-    assign-lts.spec (assign-cs t) (at assign-rank t) assign.Post assign-Inv-loop
+    cycle.Lts-assign.spec (assign-cs t) (at assign-rank t) walk.assign.Reads.Post assign-Inv-loop
     (λ source s₀ left right end text₀ here l₀ at₀ r₀ s text l at r. end - at) (λ c. search (needs, assign-begin)) (λ c. omega arith)
     (λ c κs. search needs) (λ c. omega (arith, c .entry .ensures .1))
     (λ c κs. let after-loop-test = c .before .before .before .before in let after-loop = after-loop-test .before in
