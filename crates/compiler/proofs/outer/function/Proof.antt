@@ -10,30 +10,9 @@ room c = function-room _ (c .node-at .ensures) (c .before .before .before .befor
 
 pub function-spec : {M : Type 1} → statement M
 function-spec =
-    tie.close (tie.spec (search needs) (search needs) (search needs) (search needs)
-    (λ c κs. (room (c .before .before .before .before .before .before .before .before) .0, omega arith, omega arith))
-    (λ c. omega (arith, room (c .before .before .before .before .before .before .before .before .before .before .before .before .before)))
-    (λ c κs. search function-names) (search needs) (search needs)
-    (λ c. omega (
-      arith,
-      room (c .before .before .before .before .before .before .before .before .before .before .before .before .before .before
-          .before .before .before .before),
-    ))
-    (λ c. omega (
-      arith,
-      room (c .before .before .before .before .before .before .before .before .before .before .before .before .before .before
-          .before .before .before .before),
-    ))
-    (λ c. omega (
-      arith,
-      room (c .before .before .before .before .before .before .before .before .before .before .before .before .before .before
-          .before .before .before .before),
-    ))
-    (λ c. omega (
-      arith,
-      room (c .before .before .before .before .before .before .before .before .before .before .before .before .before .before
-          .before .before .before .before),
-    ))
+    tie.close (tie.spec (search needs) (search needs) (search needs) (search needs) (λ c κs. (room (search) .0, omega arith, omega arith))
+    (λ c. omega (arith, room (search))) (λ c κs. search function-names) (search needs) (search needs) (λ c. omega (arith, room (search)))
+    (λ c. omega (arith, room (search))) (λ c. omega (arith, room (search))) (λ c. omega (arith, room (search)))
     (λ c κs. let after-reached = c .before .before .before .before in let after-declare = after-reached .before .before .before in
     let after-push = after-declare .before .before .before .before .before in let after-mark = after-push .before .before .before .before in
     let after-node-at = after-mark .before .before .before .before .before in let start = after-node-at .before .before .before .before .before in

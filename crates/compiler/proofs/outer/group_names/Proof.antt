@@ -21,15 +21,8 @@ fit c = let start = c .before .before .before .before .before in
 pub group-names-spec : {M : Type 1} → statement M
 group-names-spec =
     tie.close (tie.spec Inv-loop μ-loop (λ c. (refl, refl, λ y. search names-begin)) (λ c. omega arith) (search needs) (λ c. omega arith)
-    (λ c. omega arith) (λ c κs. omega (arith, fit (c .before .before .before))) (λ c. omega arith) (search needs) (λ c κs. search (needs, names-fit))
-    (λ c. omega arith)
-    (λ c κs. let w = fit (c .before .before .before .before .before .before .before .before .before .before) in
-    (omega arith, omega arith, w .few, w .name))
-    (λ c. omega (
-      arith,
-      fit (c .before .before .before .before .before .before .before .before .before .before .before .before .before .before
-          .before),
-    )) (λ c. omega arith)
+    (λ c. omega arith) (λ c κs. omega (arith, fit (search))) (λ c. omega arith) (search needs) (λ c κs. search (needs, names-fit)) (λ c. omega arith)
+    (λ c κs. let w = fit (search) in (omega arith, omega arith, w .few, w .name)) (λ c. omega (arith, fit (search))) (λ c. omega arith)
     (λ c. let after-enter = c .before .before .before .before in let after-name-fault = after-enter .before .before .before in
     let after-entry2 = after-name-fault .before .before in let after-lookup = after-entry2 .before .before in
     let after-entry = after-lookup .before .before in let after-loop-test = after-entry .before .before in

@@ -25,23 +25,15 @@ out c = let start = c .before .before .before in
 pub items-spec : {M : Type 1} → statement M
 items-spec =
     tie.close (tie.spec Inv-loop μ-loop (λ c. (refl, λ y. search items-begin)) (λ c. omega arith) (search needs) (λ c. omega arith)
-    (λ c. omega (arith, fit (c .before .before .before))) (λ c. omega (arith, fit (c .before .before .before)))
-    (λ c κs. omega (arith, fit (c .before .before .before))) (λ c. omega (arith, fit (c .before .before .before .before .before)))
-    (λ c. omega (arith, fit (c .before .before .before .before .before))) (λ c. omega arith)
-    (λ c κs. omega (arith, fit (c .before .before .before .before .before))) (λ c. omega arith) (search needs) (search needs)
-    (λ c _. c .before .entry2 .ensures .1)
-    (λ c. omega (arith, fit (c .before .before .before .before .before .before .before .before .before .before .before)))
-    (λ c. omega (arith, fit (c .before .before .before .before .before .before .before .before .before .before .before)))
-    (λ c. omega (arith, fit (c .before .before .before .before .before .before .before .before .before .before .before))) (search needs)
+    (λ c. omega (arith, fit (search))) (λ c. omega (arith, fit (search))) (λ c κs. omega (arith, fit (search))) (λ c. omega (arith, fit (search)))
+    (λ c. omega (arith, fit (search))) (λ c. omega arith) (λ c κs. omega (arith, fit (search))) (λ c. omega arith) (search needs) (search needs)
+    (λ c _. c .before .entry2 .ensures .1) (λ c. omega (arith, fit (search))) (λ c. omega (arith, fit (search))) (λ c. omega (arith, fit (search)))
+    (search needs)
     (λ c κs. let after-item-constant = c .before .before .before .before .before .before .before .before in
     let after-loop-test = after-item-constant .before .before .before .before in let w = fit after-loop-test in
     let v = code-small (after-loop-test .before .before .before .before .args .global) (after-item-constant .item-constant .result .word)
-    (after-item-constant .item-constant .ensures .low) in (omega arith, omega arith, omega arith, w .name))
-    (λ c. omega (
-      arith,
-      fit (c .before .before .before .before .before .before .before .before .before .before .before .before .before .before
-          .before),
-    )) (λ c. omega arith)
+    (after-item-constant .item-constant .ensures .low) in (omega arith, omega arith, omega arith, w .name)) (λ c. omega (arith, fit (search)))
+    (λ c. omega arith)
     (λ c. let after-meaning = c .before .before .before in let after-again = after-meaning .before .before in
     let after-blame = after-again .before in let after-entry2 = after-blame .before in let after-in-block = after-entry2 .before .before in
     let after-item-constant = after-in-block .before .before in let after-entry = after-item-constant .before .before in
@@ -53,4 +45,4 @@ items-spec =
           (after-item-constant .item-constant .ensures) (after-in-block .in-block .ensures) (after-entry2 .entry2 .ensures .0)
           (after-blame .blame .ensures) (after-again .again .ensures) (c .before .before .push-name .ensures) (after-meaning .meaning .ensures) y
           (after-loop .loop .inv .1 y),
-    )) (λ c. omega (arith, out (c .before))) (λ c. omega (arith, out (c .before))) (search needs) (λ c. search items-end))
+    )) (λ c. omega (arith, out (search))) (λ c. omega (arith, out (search))) (search needs) (λ c. search items-end))

@@ -22,15 +22,11 @@ fit c = let start = c .before .before .before .before in
 
 pub declare-spec : {M : Type 1} → statement M
 declare-spec =
-    tie.close (tie.spec Inv-loop μ-loop (λ c. (refl, λ y. search names-begin)) (λ c. omega (arith, fit (c .before)))
-    (λ c. omega (arith, fit (c .before))) (λ c κs. search (needs, names-fit)) (λ c. omega arith) (search needs) (λ c _. c .entry .ensures .1)
-    (λ c. omega (arith, fit (c .before .before .before .before .before .before)))
-    (λ c. omega (arith, fit (c .before .before .before .before .before .before)))
-    (λ c. omega (arith, fit (c .before .before .before .before .before .before)))
-    (λ c. omega (arith, fit (c .before .before .before .before .before .before)))
-    (λ c. omega (arith, fit (c .before .before .before .before .before .before)))
-    (λ c κs. let w = fit (c .before .before .before .before .before .before) in (omega arith, omega arith, omega arith, w .4))
-    (λ c. omega (arith, fit (c .before .before .before .before .before .before .before .before .before))) (λ c. omega arith) (λ c. omega arith)
+    tie.close (tie.spec Inv-loop μ-loop (λ c. (refl, λ y. search names-begin)) (λ c. omega (arith, fit (search))) (λ c. omega (arith, fit (search)))
+    (λ c κs. search (needs, names-fit)) (λ c. omega arith) (search needs) (λ c _. c .entry .ensures .1) (λ c. omega (arith, fit (search)))
+    (λ c. omega (arith, fit (search))) (λ c. omega (arith, fit (search))) (λ c. omega (arith, fit (search))) (λ c. omega (arith, fit (search)))
+    (λ c κs. let w = fit (search) in (omega arith, omega arith, omega arith, w .4)) (λ c. omega (arith, fit (search))) (λ c. omega arith)
+    (λ c. omega arith)
     (λ c. let after-again = c .before .before .before .before in let after-entry = after-again .before in
     let after-in-block = after-entry .before .before in let after-loop-test = after-in-block .before .before in
     let after-loop = after-loop-test .before in let start = after-loop .before .before .before in (
