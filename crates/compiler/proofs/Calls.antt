@@ -331,35 +331,36 @@ pub start-of : {s : List ℕ} {middle end tag inner start : ℕ} → LastRead s 
     → start ≡ middle + length (encodeSuffixes (u .init))
 start-of {s} r u = let z = ap (λ (n : ℕ). getD s n 0) (r .inner-is) ∙ u .size-of in omega arith
 
-module _ {s : List ℕ} {middle end tag inner start : ℕ} {here : Here} {st : State} (r : LastRead s middle end tag inner start) where
-  pub the-last : (y : ReadySuffixes s middle end here st) → Last s middle end (y .ready .tree .suffixes) tag
-  the-last y = rw (r .tag-is) (last (y .ready .tree .suffixes) (applied-lies y) (applied-ends y) (r .some))
+module _ {s : List ℕ} {middle end tag inner start : ℕ} (r : LastRead s middle end tag inner start) where
+  module _ {here : Here} {st : State} where
+    pub the-last : (y : ReadySuffixes s middle end here st) → Last s middle end (y .ready .tree .suffixes) tag
+    the-last y = rw (r .tag-is) (last (y .ready .tree .suffixes) (applied-lies y) (applied-ends y) (r .some))
 
-  module _ {A : Type 0} {enc : A → List ℕ} {cons : A → Suffixes → Suffixes} where
-    pub last-well : (y : ReadySuffixes s middle end here st) (u : IsLast enc cons s middle end (y .ready .tree .suffixes)) → let c = cons (u .part) in
-        (suffixesDepth (u .init) ≤ here .left) × (suffixesDepth (c T.noSuffixes) ≤ here .left) × FineSs (u .init) × FineSs (c T.noSuffixes)
-    last-well y u = let d = deep-snoc (cons (u .part)) (u .init) {k = here .left} (omega (arith, ap suffixesDepth (u .same))) in
-        let f = fine-snoc (cons (u .part)) (u .init) (subst FineSs (u .same) (y .ready .fine .1)) in (d .0, d .1, f .0, f .1)
+    module _ {A : Type 0} {enc : A → List ℕ} {cons : A → Suffixes → Suffixes} where
+      pub last-well : (y : ReadySuffixes s middle end here st) (u : IsLast enc cons s middle end (y .ready .tree .suffixes)) → let c = cons (u .part) in
+          (suffixesDepth (u .init) ≤ here .left) × (suffixesDepth (c T.noSuffixes) ≤ here .left) × FineSs (u .init) × FineSs (c T.noSuffixes)
+      last-well y u = let d = deep-snoc (cons (u .part)) (u .init) {k = here .left} (omega (arith, ap suffixesDepth (u .same))) in
+          let f = fine-snoc (cons (u .part)) (u .init) (subst FineSs (u .same) (y .ready .fine .1)) in (d .0, d .1, f .0, f .1)
 
-    -- the primary with all but the last one
-    abbrev pub init-part : {s₁ : List ℕ} (here′ : Here) {st′ : State} (y : ReadySuffixes s middle end here st)
-        → Keeps (y .ready .base) (here .top) s s₁ → (u : IsLast enc cons s middle end (y .ready .tree .suffixes)) → here′ .top ≡ here .top
-        → here′ .strings ≡ here .strings → here′ .left ≡ here .left
-        → here′ .height ≤ here .height + 2 + length (enc (u .part)) → st′ .label ≤ st .label + 2 * length (enc (u .part)) → 0 < st′ .label
-        → ReadySuffixes s₁ middle start here′ st′
-    init-part here′ {st′} y k u top strings left height label some = let z = y .ready in let a = z .tree in record {
-      ready = sub {part = record { primary = a .primary; suffixes = u .init }} z k (both (encode (a .primary)) (encodeSuffixes (u .init))
-          (first (encode (a .primary)) (encodeSuffixes (a .suffixes)) (z .lies)) (u .lies) (y .parts)) top (omega (
-            arith,
-            start-of r u,
-            length-append (encode (a .primary)) (encodeSuffixes (u .init)),
-            last-well y u .0,
-          )) (z .fine .0, last-well y u .2);
-      parts = y .parts;
-    }
+      -- the primary with all but the last one
+      abbrev pub init-part : {s₁ : List ℕ} (here′ : Here) {st′ : State} (y : ReadySuffixes s middle end here st)
+          → Keeps (y .ready .base) (here .top) s s₁ → (u : IsLast enc cons s middle end (y .ready .tree .suffixes)) → here′ .top ≡ here .top
+          → here′ .strings ≡ here .strings → here′ .left ≡ here .left
+          → here′ .height ≤ here .height + 2 + length (enc (u .part)) → st′ .label ≤ st .label + 2 * length (enc (u .part)) → 0 < st′ .label
+          → ReadySuffixes s₁ middle start here′ st′
+      init-part here′ {st′} y k u top strings left height label some = let z = y .ready in let a = z .tree in record {
+        ready = sub {part = record { primary = a .primary; suffixes = u .init }} z k (both (encode (a .primary)) (encodeSuffixes (u .init))
+            (first (encode (a .primary)) (encodeSuffixes (a .suffixes)) (z .lies)) (u .lies) (y .parts)) top (omega (
+              arith,
+              start-of r u,
+              length-append (encode (a .primary)) (encodeSuffixes (u .init)),
+              last-well y u .0,
+            )) (z .fine .0, last-well y u .2);
+        parts = y .parts;
+      }
 
   -- an index
-  module _ (q : tag ≡ 49) where
+  module _ (q : tag ≡ 49) {here : Here} {st : State} where
     pub index-well : (y : ReadySuffixes s middle end here st) → let u = is-index q (the-last y) in (depth (u .part) ≤ here .left) × FineE (u .part)
     unfolding suffixesDepth FineSuffixes
     index-well y = let w = last-well y (is-index q (the-last y)) in (omega arith, w .3 .0)
@@ -393,7 +394,7 @@ module _ {s : List ℕ} {middle end tag inner start : ℕ} {here : Here} {st : S
       }
 
   -- a call
-  module _ (q : tag ≡ 49 → ⊥) where
+  module _ (q : tag ≡ 49 → ⊥) {here : Here} {st : State} where
     pub call-well : (y : ReadySuffixes s middle end here st)
         → let u = is-call q (the-last y) in (expressionsDepth (u .part) ≤ here .left) × FineEs (u .part)
     unfolding suffixesDepth FineSuffixes

@@ -11,9 +11,8 @@ pub walked-spec : {M : Type 1} → statement M
 walked-spec =
     tie.close (tie.spec (search needs) (λ c κs. omega (arith, few-symbols (c .before .before .before .before .pre)))
     (λ c κs. omega (arith, few-symbols (c .before .before .before .before .before .before .pre))) (search needs) (search needs)
-    (λ c. omega (arith, labels (c .before .before .before .before .before))) (λ c. omega (arith, labels (c .before .before .before .before .before)))
-    (search needs) (λ c. omega (arith, labels (c .before .before .before .before .before .before .before))) (λ c κs. search ready-program)
-    (search needs)
+    (λ c. omega (arith, labels (search))) (λ c. omega (arith, labels (search))) (search needs) (λ c. omega (arith, labels (search)))
+    (λ c κs. search ready-program) (search needs)
     (λ c κs. let p = c .before .before .before .before .before .before .before .before in
     let s = p .before .before .before .before .before .before .before .before .before in let f = s .before .before in
     ready-behind (f .before .before .before .before .before .pre) (f .function-count .ensures) (s .string-count .ensures) (search needs))

@@ -42,31 +42,22 @@ applied-ok t =
     cycle.Lts-applied.spec (applied-cs t) (at applied-rank t) walk.applied.Reads.Post (λ c κs. search (needs, primary-part)) (λ c. search needs)
     (λ c. search needs) (λ c. search primary-gave) (λ c κs. search needs) (λ c κs. search needs) (λ c κs. search needs) (λ c κs. search needs)
     (λ c κs. search needs)
-    (λ c κs. let r = c .before .before .before in let start = applied-start t r in both (omega (arith, start .pre .0, applied-read t r))
-    (index-left (applied-read t r) (c .before .before .if2 .taken) (start .pre .1)))
-    (λ c κs. let after-applied = c .before .before .before .before .before .before in let after-if2 = after-applied .before .before .before in
-    let start = applied-start t (after-if2 .before) in both (omega (arith, start .pre .0)) (index-right (applied-read t (after-if2 .before))
-    (after-if2 .if2 .taken) _ (after-applied .applied .ensures) (start .pre .1))) (λ c. search needs) (λ c. search needs)
-    (λ c. let after-indexed = c .before .before .before .before in
-    let after-applied = after-indexed .before .before .before .before .before .before .before in
-    let after-if2 = after-applied .before .before .before in index-gave (applied-read t (after-if2 .before)) (after-if2 .if2 .taken) _
-    (after-applied .applied .ensures) (after-indexed .indexed .ensures)) (λ c κs. omega arith)
-    (λ c κs. let after-if2 = c .before .before .before .before in let start = applied-start t (after-if2 .before) in
-    both (omega (arith, start .pre .0)) (call-args (applied-read t (after-if2 .before)) (after-if2 .if2 .left) (start .pre .1)))
-    (λ c. let h = c .before .before .before .before .before .before .before .before .before in
-    let y = applied-start t (h .before .before .before) .pre .1 .ready in omega (arith, applied-few t h))
-    (λ c κs. let h = c .before .before .before .before .before .before .before .before .before in
-    let y = applied-start t (h .before .before .before) .pre .1 .ready in omega (arith, applied-few t h))
-    (λ c κs. let after-passed = c .before .before .before .before .before .before .before in
-    let after-count = after-passed .before .before .before in let after-if2 = after-count .before .before in let r = after-if2 .before in
-    let start = applied-start t r in both (omega (arith, start .pre .0, left-at, applied-read t r)) (suffixes-ready-at (c .raised .ensures)
-    (call-callee (applied-read t r) (after-if2 .if2 .left) _ (after-count .count .ensures) (after-passed .passed .ensures) (start .pre .1))))
+    (λ c κs. let start = applied-start t (search) in let r = applied-read t (search) in both (omega (arith, start .pre .0)) (search (index-left r)))
+    (λ c κs. let start = applied-start t (search) in both (omega (arith, start .pre .0)) (index-right (applied-read t (search)) (search) _
+    (c .before .before .before .before .before .before .applied .ensures) (start .pre .1))) (λ c. search needs) (λ c. search needs)
+    (λ c. let after-indexed = c .before .before .before .before in index-gave (applied-read t (search)) (search) _
+    (after-indexed .before .before .before .before .before .before .before .applied .ensures) (after-indexed .indexed .ensures)) (λ c κs. omega arith)
+    (λ c κs. let start = applied-start t (search) in both (omega (arith, start .pre .0)) (search (call-args (applied-read t (search)))))
+    (λ c. let y = applied-start t (search) .pre .1 .ready in omega (arith, applied-few t (search)))
+    (λ c κs. let y = applied-start t (search) .pre .1 .ready in omega (arith, applied-few t (search)))
+    (λ c κs. let start = applied-start t (search) in let r = applied-read t (search) in
+    let after-passed = c .before .before .before .before .before .before .before in both (omega (arith, start .pre .0, left-at))
+    (suffixes-ready-at (c .raised .ensures) (call-callee r (search) _ (search) (after-passed .passed .ensures) (start .pre .1))))
     (λ c κs. search needs) (λ c. search needs) (λ c. search needs)
     (λ c. let after-applied2 = c .before .before .before .before .before .before .before .before in let after-raised = after-applied2 .before in
-    let after-passed = after-raised .before .before .before .before .before .before .before in
-    let after-count = after-passed .before .before .before in let after-if2 = after-count .before .before in
-    call-gave (applied-read t (after-if2 .before)) (after-if2 .if2 .left) _ (after-count .count .ensures) (after-passed .passed .ensures)
-    (suffixes-gave-at (after-raised .raised .ensures) (after-applied2 .applied2 .ensures)) (c .before .before .put .ensures))
+    let after-passed = after-raised .before .before .before .before .before .before .before in call-gave (applied-read t (search)) (search) _ (search)
+    (after-passed .passed .ensures) (suffixes-gave-at (after-raised .raised .ensures) (after-applied2 .applied2 .ensures))
+    (c .before .before .put .ensures))
 
 abbrev args-cs : ℕ → cycle.Lts-args.Claims
 args-cs t =

@@ -121,13 +121,12 @@ switch-ok t =
     (λ c κs. search (needs, switch-value)) (λ c κs. omega arith) (λ c. omega (arith, switch-fit t c)) (λ c κs. omega (arith, switch-fit t c))
     (λ c κs. let after-node-at = c .before .before .before .before .before .before .before .before .before .before .before .before in
     let start = after-node-at .before .before .before .before .before in
-    omega (arith, after-node-at .node-at .ensures .inner, start .pre .1 .0 .small))
-    (λ c. omega (arith, switch-fit t (c .before .before .before .before .before .before)))
+    omega (arith, after-node-at .node-at .ensures .inner, start .pre .1 .0 .small)) (λ c. omega (arith, switch-fit t (search)))
     (λ c κs. let after-count = c .before .before .before .before .before .before in
     let after-node-at = after-count .before .before .before .before .before .before .before .before .before .before in
     let start = after-node-at .before .before .before .before .before in let f = switch-fit t after-count in
     (omega (arith, after-node-at .node-at .ensures .inner, start .pre .1 .0 .small), omega arith, omega arith)) (λ c κs. search needs)
-    (λ c. omega (arith, switch-fit t (c .before .before .before .before .before .before .before .before .before .before .before .before .before)))
+    (λ c. omega (arith, switch-fit t (search)))
     (λ c κs. let after-table = c .before .before .before .before .before .before in
     let after-doubled = after-table .before .before .before .before in let after-fresh = after-doubled .before .before in
     let after-count = after-fresh .before in let after-expr = after-count .before .before .before .before .before .before in

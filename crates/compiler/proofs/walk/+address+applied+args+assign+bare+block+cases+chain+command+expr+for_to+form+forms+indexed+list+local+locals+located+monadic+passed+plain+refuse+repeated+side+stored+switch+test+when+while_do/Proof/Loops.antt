@@ -73,14 +73,15 @@ for-to-cs t =
     (steps.set_at.Reads.Asked, steps.set_at.Reads.Learnt) (steps.in_loop.Reads.Asked, steps.in_loop.Reads.Learnt)
     (below command-rank t, walk.command.Reads.Post) (steps.for_step.Reads.Asked, steps.for_step.Reads.Learnt)
 
-abbrev for-to-start : (t : ℕ) → cycle.Lts-for_to.After-for-test (for-to-cs t) (at for-to-rank t) walk.for_to.Reads.Post
-    → cycle.Lts-for_to.Start (for-to-cs t) (at for-to-rank t) walk.for_to.Reads.Post
+abbrev ForToTested : ℕ → Type 0
+ForToTested t = cycle.Lts-for_to.After-for-test (for-to-cs t) (at for-to-rank t) walk.for_to.Reads.Post
+
+abbrev for-to-start : (t : ℕ) → ForToTested t → cycle.Lts-for_to.Start (for-to-cs t) (at for-to-rank t) walk.for_to.Reads.Post
 for-to-start t c = c .before .before .before .before .before .before .before .before .before .before .before .before .before .before .before .before
     .before .before .before .before .before .before .before .before .before .before .before .before .before .before .before .before .before .before
     .before .before .before .before .before .before
 
-for-to-room : (t : ℕ) (c : cycle.Lts-for_to.After-for-test (for-to-cs t) (at for-to-rank t) walk.for_to.Reads.Post)
-    → for-to-start t c .args .here .top + 4 ≤ for-to-start t c .pre .1 .0 .base
+for-to-room : (t : ℕ) (c : ForToTested t) → for-to-start t c .args .here .top + 4 ≤ for-to-start t c .pre .1 .0 .base
 for-to-room t c =
     let after-node-at3 = c .before .before .before .before .before .before .before .before .before .before .before .before .before .before .before
     .before .before .before .before .before .before .before .before .before .before .before .before .before .before .before in
@@ -124,16 +125,14 @@ for-to-ok t =
     .before .before .before .before .before .before .before .before .before .before .before .before .before .before .before .before .before
     .before .before .before .before .before .before .before .before in
     (omega (arith, start .pre .1 .0 .height), omega (arith, start .pre .1 .0 .label)))
-    (λ c κs. let h = c .before .before .before in let y = for-to-start t h .pre .1 .0 in
+    (λ c κs. let h : ForToTested t = search in let y = for-to-start t h .pre .1 .0 in
     let k = h .before .before .before .before .before .before .before .before .before .before .before .before .before .before .expr2 .kept in
     let l = h .before .before .before .before .before .before .before .before .before .before .before .before .before .before .before .before
     .before .before .before .before .before .before .before .before .before .before .expr .kept in
     (omega (arith, for-to-room t h), omega arith, omega arith))
-    (λ c. let h = c .before .before .before .before .before .before .before .before in let y = for-to-start t h .pre .1 .0 in
-    omega (arith, for-to-room t h))
-    (λ c. let y = for-to-start t (c .before .before .before .before .before .before .before .before .before) .pre .1 .0 in omega arith)
-    (λ c. let y = for-to-start t (c .before .before .before .before .before .before .before .before .before) .pre .1 .0 in omega arith)
-    (λ c κs. let h = c .before .before .before .before .before .before .before .before .before in let y = for-to-start t h .pre .1 .0 in
+    (λ c. let h : ForToTested t = search in let y = for-to-start t h .pre .1 .0 in omega (arith, for-to-room t h))
+    (λ c. let y = for-to-start t (search) .pre .1 .0 in omega arith) (λ c. let y = for-to-start t (search) .pre .1 .0 in omega arith)
+    (λ c κs. let h : ForToTested t = search in let y = for-to-start t h .pre .1 .0 in
     let k = h .before .before .before .before .before .before .before .before .before .before .before .before .before .before .expr2 .kept in
     let l = h .before .before .before .before .before .before .before .before .before .before .before .before .before .before .before .before
     .before .before .before .before .before .before .before .before .before .before .expr .kept in
@@ -152,14 +151,10 @@ for-to-ok t =
     (after-keep .keep .ensures) (gave-at _ (after-raised .raised .ensures) (after-expr2 .expr2 .ensures)) (after-keep2 .keep2 .ensures)
     (after-by-constant .by-constant .ensures) (after-blame .blame .ensures) (after-for-test .for-test .ensures) (after-push .push .ensures)
     (start .pre .1 .0) in (omega (arith, for-to-room t h), omega arith, omega arith, f))
-    (λ c. let h = c .before .before .before .before .before .before .before .before .before .before .before .before .before in
-    let y = for-to-start t h .pre .1 .0 in omega (arith, for-to-room t h))
-    (λ c. let y = for-to-start t (c .before .before .before .before .before .before .before .before .before .before .before .before .before .before)
-    .pre .1 .0 in omega arith) (λ c κs. search needs)
-    (λ c. let y = for-to-start t (c .before .before .before .before .before .before .before .before .before .before .before .before .before .before
-    .before .before .before .before) .pre .1 .0 in omega arith)
-    (λ c. let y = for-to-start t (c .before .before .before .before .before .before .before .before .before .before .before .before .before .before
-    .before .before .before .before .before) .pre .1 .0 in omega arith) (λ c κs. search needs)
+    (λ c. let h : ForToTested t = search in let y = for-to-start t h .pre .1 .0 in omega (arith, for-to-room t h))
+    (λ c. let y = for-to-start t (search) .pre .1 .0 in omega arith) (λ c κs. search needs)
+    (λ c. let y = for-to-start t (search) .pre .1 .0 in omega arith) (λ c. let y = for-to-start t (search) .pre .1 .0 in omega arith)
+    (λ c κs. search needs)
     (λ c κs. let after-set-at = c .before .before .before .before .before in
     let after-push-name = after-set-at .before .before .before .before .before in
     let after-push = after-push-name .before .before .before .before .before .before in
@@ -281,11 +276,9 @@ repeated-fit t c =
 pub repeated-ok : {M : Type 1} (t : ℕ) → cycle.Lts-repeated.Closed (repeated-cs t) (at repeated-rank t) walk.repeated.Reads.Post M
 repeated-ok t =
     cycle.Lts-repeated.spec (repeated-cs t) (at repeated-rank t) walk.repeated.Reads.Post (λ c κs. search needs) (λ c. omega arith)
-    (λ c κs. omega arith) (λ c. omega (arith, repeated-fit t c)) (λ c. omega (arith, repeated-fit t (c .before))) (λ c κs. search needs)
-    (λ c. omega (arith, repeated-fit t (c .before .before))) (λ c κs. omega (arith, repeated-fit t (c .before .before)))
-    (λ c κs. omega (arith, repeated-fit t (c .before .before .before .before)))
-    (λ c. omega (arith, repeated-fit t (c .before .before .before .before .before .before .before .before .before)))
-    (λ c. omega (arith, repeated-fit t (c .before .before .before .before .before .before .before .before .before))) (λ c κs. search needs)
+    (λ c κs. omega arith) (λ c. omega (arith, repeated-fit t c)) (λ c. omega (arith, repeated-fit t (search))) (λ c κs. search needs)
+    (λ c. omega (arith, repeated-fit t (search))) (λ c κs. omega (arith, repeated-fit t (search))) (λ c κs. omega (arith, repeated-fit t (search)))
+    (λ c. omega (arith, repeated-fit t (search))) (λ c. omega (arith, repeated-fit t (search))) (λ c κs. search needs)
     (λ c κs. let after-tops = c .before .before .before .before .before in let after-fresh = after-tops .before .before in
     let after-count = after-fresh .before .before .before in let after-if1 = after-count .before .before .before in
     let after-node-at = after-if1 .before .before in let start = after-node-at .before .before .before .before .before in
