@@ -337,8 +337,9 @@ module _ {s : List ℕ} {middle end tag inner start : ℕ} (r : LastRead s middl
     the-last y = rw (r .tag-is) (last (y .ready .tree .suffixes) (applied-lies y) (applied-ends y) (r .some))
 
     module _ {A : Type 0} {enc : A → List ℕ} {cons : A → Suffixes → Suffixes} where
-      pub last-well : (y : ReadySuffixes s middle end here st) (u : IsLast enc cons s middle end (y .ready .tree .suffixes)) → let c = cons (u .part) in
-          (suffixesDepth (u .init) ≤ here .left) × (suffixesDepth (c T.noSuffixes) ≤ here .left) × FineSs (u .init) × FineSs (c T.noSuffixes)
+      pub last-well : (y : ReadySuffixes s middle end here st) (u : IsLast enc cons s middle end (y .ready .tree .suffixes))
+          → let c = cons (u .part) in (suffixesDepth (u .init) ≤ here .left) × (suffixesDepth (c T.noSuffixes) ≤ here .left) × FineSs (u .init)
+          × FineSs (c T.noSuffixes)
       last-well y u = let d = deep-snoc (cons (u .part)) (u .init) {k = here .left} (omega (arith, ap suffixesDepth (u .same))) in
           let f = fine-snoc (cons (u .part)) (u .init) (subst FineSs (u .same) (y .ready .fine .1)) in (d .0, d .1, f .0, f .1)
 

@@ -3,25 +3,22 @@ use Rattle.compiler.proofs.Answering.{end-inside, few-symbols, few-labe
 use Rattle.compiler.proofs.walked.Statement.{statement}
 use Rattle.compiler.proofs.walked.Tie as tie
 
+abbrev start : tie.After-program → tie.Start
+start c = c .before .before .before .before .before .before .before .before .before .before .before .before .before .before .before .before
+
 labels : (c : tie.After-string-count) → c .before .before .function-count .result + 1 + c .string-count .result ≤ 98305
-labels c = let f = c .before .before in
-    few-labels (f .before .before .before .before .before .pre) (f .function-count .ensures) (c .string-count .ensures)
+labels c =
+    let f = c .before .before in few-labels (f .before .before .before .before .before .pre) (f .function-count .ensures) (c .string-count .ensures)
 
 pub walked-spec : {M : Type 1} → statement M
 walked-spec =
-    tie.close (tie.spec (search needs) (λ c κs. omega (arith, few-symbols (c .before .before .before .before .pre)))
-    (λ c κs. omega (arith, few-symbols (c .before .before .before .before .before .before .pre))) (search needs) (search needs)
+    tie.close (tie.spec (search needs) (λ c κs. omega (arith, few-symbols)) (λ c κs. omega (arith, few-symbols)) (search needs) (search needs)
     (λ c. omega (arith, labels (search))) (λ c. omega (arith, labels (search))) (search needs) (λ c. omega (arith, labels (search)))
     (λ c κs. search ready-program) (search needs)
-    (λ c κs. let p = c .before .before .before .before .before .before .before .before in
-    let s = p .before .before .before .before .before .before .before .before .before in let f = s .before .before in
+    (λ c κs. let p : tie.After-program = search in let s : tie.After-string-count = search in let f = s .before .before in
     ready-behind (f .before .before .before .before .before .pre) (f .function-count .ensures) (s .string-count .ensures) (search needs))
-    (λ c. let p = c .before .before .before .before .before .before .before .before .before .before .before .before .before .before .before in
-    end-inside (p .before .before .before .before .before .before .before .before .before .before .before .before .before .before .pre)
-    (search needs))
-    (λ c. let p = c .before .before .before .before .before .before .before .before .before .before .before .before .before .before .before .before in
-    sym (length-take-le _ _ (end-inside
-    (p .before .before .before .before .before .before .before .before .before .before .before .before .before .before .pre) (search needs))))
+    (λ c. end-inside (start (search) .pre) (search needs))
+    (λ c. sym (length-take-le _ _ (end-inside (start (search) .pre) (search needs))))
     (search needs) (search needs) (search needs) (search needs) (search needs) (search needs)
     (λ c. let a = c .before .before .before .before .before in let b = a .before .before .before .before .before .before in
     let p = b .before .before .before .before .before .before .before .before .before in let o = p .before .before .before .before .before .before in

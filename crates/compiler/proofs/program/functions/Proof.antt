@@ -7,16 +7,6 @@ use Rattle.compiler.proofs.program.functions.Tie as tie
 pub functions-spec : {M : Type 1} → statement M
 functions-spec =
     tie.close (tie.spec (search needs) (λ c κs. search ready-group) (search needs) (search needs) (λ c κs. (search ready-fs, omega arith))
-    (λ c. omega (
-      arith,
-      c .before .before .before .before .before .before .before .before .before .before .before .before .before .before
-          .before .before .before .before .before .before .before .before .before .pre .few,
-      c .before .before .before .before .before .before .before .before .before .before .before .before .before .before .before .before .before
-          .before .before .before .before .before .before .pre .small,
-      c .before .before .before .before .before .before .before .before .before .before .before .before .before .before .before .before .before
-          .group-count .ensures .1,
-    )) (search needs) (search needs) (search needs)
-    (λ c. gave-group (c .before .before .before .before .before .before .before .before .before .before .before .before .before .before .before
-    .before .before .group-count .ensures .0)
-    (c .before .before .before .before .before .before .before .before .before .before .before .before .before .before .group-names .ensures)
-    (c .before .before .before .before .before .before .before .level .ensures) (c .before .before .before .before .before .group .ensures)))
+    (λ c. let counted : tie.After-group-count = search in let start : tie.Start = search in omega arith) (search needs) (search needs) (search needs)
+    (λ c. let named : tie.After-group-names = search in let counted : tie.After-group-count = search in gave-group (counted .group-count .ensures .0)
+    (named .group-names .ensures) (c .before .before .before .before .before .before .before .level .ensures) (search)))

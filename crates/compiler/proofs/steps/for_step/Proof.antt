@@ -6,11 +6,7 @@ use Rattle.compiler.proofs.steps.for_step.Tie as tie
 pub for-step-spec : {M : Type 1} → statement M
 for-step-spec =
     tie.close (tie.spec (search needs) (search needs) (search needs) (search needs) (search needs) (search needs)
-    (λ c. omega (
-      arith,
-      c .before .before .before .before .before .before .before .before .before .before .before .before .before .before .before
-          .before .before .before .before .before .before .before .pre,
-    )) (search needs)
+    (λ c. let put : tie.After-put = search in let start : tie.Start = search in omega arith) (search needs)
     (λ c. let after-put-to = c .before .before .before .before .before .before in let after-put3 = after-put-to .before .before .before .before in
     let after-put2 = after-put3 .before .before .before .before in let after-put = after-put2 .before .before .before .before in
     let after-mark = after-put .before .before .before .before in c .before .before .mark2 .kept .0 ∙ after-put-to .put-to .kept .0

@@ -7,11 +7,7 @@ use Rattle.compiler.proofs.steps.for_test.Tie as tie
 pub for-test-spec : {M : Type 1} → statement M
 for-test-spec =
     tie.close (tie.spec (search needs) (search needs) (search needs) (search needs) (search needs) (search needs)
-    (λ c. omega (
-      arith,
-      c .before .before .before .before .before .before .before .before .before .before .before .before .before .before .before
-          .before .before .before .before .pre,
-    )) (search needs)
+    (λ c. let start : tie.Start = search in omega arith) (search needs)
     (λ c. let after-put3 = c .before .before .before .before .before .before in let after-put2 = after-put3 .before .before .before .before .before in
     let after-put = after-put2 .before .before .before .before in let after-mark = after-put .before .before .before .before in
     c .before .before .put-to .kept .0 ∙ after-put3 .put3 .kept .0 ∙ after-put2 .put2 .kept .0 ∙ after-put .put .kept .0 ∙ after-mark .mark .kept .0)

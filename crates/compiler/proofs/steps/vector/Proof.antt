@@ -6,16 +6,10 @@ use Rattle.compiler.proofs.steps.vector.Tie as tie
 pub vector-spec : {M : Type 1} → statement M
 vector-spec =
     tie.close (tie.spec (search needs) (search needs) (λ c _. c .judge-most .ensures .fits) (search needs) (λ c κs. search vector-names)
-    (λ c κs. let y = c .before .before .before .before .before .before .before .before .before .before .before .before .before .before .pre .0 in
-    (omega arith, omega arith))
-    (λ c. let y = c .before .before .before .before .before .before .before .before .before .before .before .before .before .before .before .before
-    .before .before .pre .0 in omega arith)
-    (λ c. let y = c .before .before .before .before .before .before .before .before .before .before .before .before .before .before .before .before
-    .before .before .before .pre .0 in omega arith)
-    (λ c. let y = c .before .before .before .before .before .before .before .before .before .before .before .before .before .before .before .before
-    .before .before .before .before .pre .0 in
-    let j = c .before .before .before .before .before .before .before .before .before .before .before .before .before .judge-most .ensures in
-    omega arith) (search needs) (search needs)
+    (λ c κs. let y : tie.Start = search in (omega arith, omega arith))
+    (λ c. let j : tie.After-judge-most = search in let y : tie.Start = search in omega arith)
+    (λ c. let j : tie.After-judge-most = search in let y : tie.Start = search in omega arith)
+    (λ c. let j : tie.After-judge-most = search in let y : tie.Start = search in omega arith) (search needs) (search needs)
     (λ c. let after-vector-code = c .before .before .before .before .before in
     let after-declare = after-vector-code .before .before .before .before in let after-blame = after-declare .before .before .before in
     let after-judge-most = after-blame .before in let after-node-at = after-judge-most .before .before in
