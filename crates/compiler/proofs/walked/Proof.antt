@@ -17,8 +17,7 @@ walked-spec =
     (λ c κs. search ready-program) (search needs)
     (λ c κs. let p : tie.After-program = search in let s : tie.After-string-count = search in let f = s .before .before in
     ready-behind (f .before .before .before .before .before .pre) (f .function-count .ensures) (s .string-count .ensures) (search needs))
-    (λ c. end-inside (start (search) .pre) (search needs))
-    (λ c. sym (length-take-le _ _ (end-inside (start (search) .pre) (search needs))))
+    (λ c. end-inside (start (search) .pre) (search needs)) (λ c. sym (length-take-le _ _ (end-inside (start (search) .pre) (search needs))))
     (search needs) (search needs) (search needs) (search needs) (search needs) (search needs)
     (λ c. let a = c .before .before .before .before .before in let b = a .before .before .before .before .before .before in
     let p = b .before .before .before .before .before .before .before .before .before in let o = p .before .before .before .before .before .before in

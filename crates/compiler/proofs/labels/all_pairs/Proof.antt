@@ -19,10 +19,9 @@ all-pairs-spec =
       omega arith,
       (let after-labels-of = c .before .before .before .before in
           let after-next-item = after-labels-of .before in let after-loop-test = after-next-item .before in
-          let after-loop = after-loop-test .before in let start = after-loop .before .before .before .before in
-          λ y so. table-next (start .args .source .now) (start .args .first) (start .args .text .now) (start .args .st)
-          (after-loop-test .loop-test .taken) (after-next-item .next-item .ensures) (after-labels-of .labels-of .ensures)
-          (c .before .before .pairs .ensures) y (after-loop .loop .inv .3 y so)),
+          let after-loop = after-loop-test .before in λ y so. table-next _ _ _ _ (after-loop-test .loop-test .taken)
+          (after-next-item .next-item .ensures) (after-labels-of .labels-of .ensures) (c .before .before .pairs .ensures) y
+          (after-loop .loop .inv .3 y so)),
     )) (search needs)
-    (λ c. let start = c .before .before .before .before .before in table-end (start .args .source .now) (start .args .first) (start .args .text .now)
-    (start .args .st) (c .before .loop .k) (c .loop-test .left) (c .before .loop .inv .1) (c .before .loop .inv .3)))
+    (λ c. let start = c .before .before .before .before .before in table-end _ _ _ (start .args .st) _ (c .loop-test .left) (c .before .loop .inv .1)
+    (c .before .loop .inv .3)))

@@ -21,11 +21,11 @@ count-all-spec =
         c .before .before .next-item .ensures .further,
       ),
       (let after-loop-test = c .before .before .before in
-          let after-loop = after-loop-test .before in let start = after-loop .before .before in λ lss r. count-next (commands (start .args .s .now))
-          (start .args .s .now) (start .args .end) (after-loop .loop .n) (after-loop-test .loop-test .taken) (c .before .before .next-item .ensures)
-          (λ ls q. c .count-cases .ensures .by ls (c .before .labels-of .ensures .by ls q)) lss (after-loop .loop .inv .1 lss r)),
+          let after-loop = after-loop-test .before in let start = after-loop .before .before in λ lss r. count-next (commands _)
+          (start .args .s .now) _ _ (after-loop-test .loop-test .taken) (c .before .before .next-item .ensures) (λ ls q. c .count-cases .ensures .by
+          ls (c .before .labels-of .ensures .by ls q)) lss (after-loop .loop .inv .1 lss r)),
     ))
     (λ c. record {
-      by = λ lss r. count-end (commands (c .before .before .before .args .s .now)) (c .before .before .before .args .s .now)
-          (c .before .before .before .args .end) (c .loop-test .left) lss (c .before .loop .inv .1 lss r);
+      by = λ lss r. count-end (commands _) _ (c .before .before .before .args .end) (c .loop-test .left) lss
+          (c .before .loop .inv .1 lss r);
     }))

@@ -21,13 +21,12 @@ count-cases-spec =
         c .before .next-item .ensures .further,
         c .before .next-item .ensures .within,
       ),
-      (let after-loop = c .before .before .before in let start = after-loop .before .before in
-          λ ls r. count-next (labels (start .args .s .now)) (start .args .s .now) (start .args .end) (after-loop .loop .n)
+      (let after-loop = c .before .before .before in λ ls r. count-next (labels _) _ _ _
           (c .before .before .loop-test .taken) (c .before .next-item .ensures) (λ x q. c .one-case .ensures .by x q) ls
           (after-loop .loop .inv .2 ls r)),
     ))
     (λ c. record {
       few = omega (arith, c .before .loop .inv .1);
-      by = λ ls r. count-end (labels (c .before .before .before .args .s .now))
-          (c .before .before .before .args .s .now) (c .before .before .before .args .end) (c .loop-test .left) ls (c .before .loop .inv .2 ls r);
+      by = λ ls r. count-end (labels _) (c .before .before .before .args .s .now) _
+          (c .loop-test .left) ls (c .before .loop .inv .2 ls r);
     }))

@@ -16,10 +16,8 @@ default-of-spec =
     (λ c. (
       omega arith,
       (let after-next-item = c .before .before .before in let after-loop-test = after-next-item .before in
-          let after-loop = after-loop-test .before in let start = after-loop .before .before in λ lss r. default-next (start .args .s .now)
-          (start .args .end) (start .args .first) (start .args .done) (after-loop .loop .k) (after-loop-test .loop-test .taken)
-          (after-next-item .next-item .ensures) (c .before .before .labels-of .ensures) (c .before .has-default .ensures) (c .if1 .left) lss
-          (after-loop .loop .inv .1 lss r)),
+          let after-loop = after-loop-test .before in let start = after-loop .before .before in λ lss r. default-next _ (start .args .end) _ _ _
+          (after-loop-test .loop-test .taken) (after-next-item .next-item .ensures) (c .before .before .labels-of .ensures)
+          (c .before .has-default .ensures) (c .if1 .left) lss (after-loop .loop .inv .1 lss r)),
     ))
-    (λ c. let start = c .before .before .before in default-end (start .args .s .now) (start .args .end) (start .args .first) (start .args .done)
-    (c .before .loop .k) (c .loop-test .left) (c .before .loop .inv .1)))
+    (λ c. default-end _ _ _ _ (c .before .loop .k) (c .loop-test .left) (c .before .loop .inv .1)))

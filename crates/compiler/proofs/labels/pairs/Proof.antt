@@ -17,8 +17,7 @@ pairs-spec =
       c .before .before .pair .kept .1 .1 .1 .1 .0 ∙ c .before .before .before .before .before .before .loop .inv .0,
       search still-then,
       (let after-next-item = c .before .before .before .before in let after-loop-test = after-next-item .before in
-          let after-loop = after-loop-test .before in let start = after-loop .before .before .before .before in
-          λ y so. pairs-next (start .args .source .now) (start .args .k) (start .args .text .now) (start .args .st)
-          (after-loop-test .loop-test .taken) (after-next-item .next-item .ensures) (c .before .before .pair .ensures) y
-          (after-loop .loop .inv .2 y so)),
-    )) (search needs) (λ c. search pairs-end))
+          let after-loop = after-loop-test .before in λ y so. pairs-next _ _ _ _ (after-loop-test .loop-test .taken)
+          (after-next-item .next-item .ensures) (c .before .before .pair .ensures) y (after-loop .loop .inv .2 y so)),
+    )) (search needs)
+    (λ c. search pairs-end))

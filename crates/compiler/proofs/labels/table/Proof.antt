@@ -10,6 +10,6 @@ table-spec =
     .before .before .before in (start .pre .0, start .pre .1)) (search needs)
     (λ c. let after-put-address = c .before .before .before .before .before .before in let after-default-of = after-put-address .before .before in
     let after-put-word = after-default-of .before .before .before in let after-count-all = after-put-word .before .before in
-    let after-put = after-count-all .before .before .before in let start = after-put .before .before .before .before .before in
-    table-gave (start .args .source .now) (after-put .put .ensures) (after-count-all .count-all .ensures) (after-put-word .put-word .ensures)
-    (after-default-of .default-of .ensures) (after-put-address .put-address .ensures) (c .before .before .all-pairs .ensures)))
+    let after-put = after-count-all .before .before .before in table-gave _ (after-put .put .ensures) (after-count-all .count-all .ensures)
+    (after-put-word .put-word .ensures) (after-default-of .default-of .ensures) (after-put-address .put-address .ensures)
+    (c .before .before .all-pairs .ensures)))

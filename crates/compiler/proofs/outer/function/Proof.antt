@@ -16,8 +16,8 @@ function-spec =
     (λ c κs. let after-reached = c .before .before .before .before in let after-declare = after-reached .before .before .before in
     let after-push = after-declare .before .before .before .before .before in let after-mark = after-push .before .before .before .before in
     let after-node-at = after-mark .before .before .before .before .before in let start = after-node-at .before .before .before .before .before in
-    function-body _ (after-node-at .node-at .ensures) (after-push .push .ensures) (start .args .source .now) (after-mark .mark .ensures)
-    (after-declare .declare .ensures) (after-reached .reached .ensures) (start .pre)) (search needs)
+    function-body _ (after-node-at .node-at .ensures) (after-push .push .ensures) _ (after-mark .mark .ensures) (after-declare .declare .ensures)
+    (after-reached .reached .ensures) (start .pre)) (search needs)
     (λ c. let after-body = c .before .before .before .before .before .before .before .before in
     let after-declare = after-body .before .before .before .before .before .before .before .before in
     let after-push = after-declare .before .before .before .before .before in after-body .body .kept .1 .0 ∙ after-declare .declare .kept .1 .0
@@ -28,6 +28,6 @@ function-spec =
     (λ c. let after-body = c .before .before .before .before .before .before .before .before in
     let after-reached = after-body .before .before .before .before .before in let after-declare = after-reached .before .before .before in
     let after-push = after-declare .before .before .before .before .before in let after-mark = after-push .before .before .before .before in
-    let after-node-at = after-mark .before .before .before .before .before in let start = after-node-at .before .before .before .before .before in
-    function-gave _ (after-node-at .node-at .ensures) (after-push .push .ensures) (start .args .source .now) (after-mark .mark .ensures)
-    (after-declare .declare .ensures) (after-reached .reached .ensures) (after-body .body .ensures) (c .before .before .put .ensures)))
+    let after-node-at = after-mark .before .before .before .before .before in function-gave _ (after-node-at .node-at .ensures)
+    (after-push .push .ensures) _ (after-mark .mark .ensures) (after-declare .declare .ensures) (after-reached .reached .ensures)
+    (after-body .body .ensures) (c .before .before .put .ensures)))

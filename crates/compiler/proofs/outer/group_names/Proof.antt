@@ -30,9 +30,7 @@ group-names-spec =
       after-enter .enter .kept .0 ∙ after-loop .loop .inv .0,
       after-enter .enter .kept .1 .0 ∙ after-loop .loop .inv .1,
       λ y. names-next
-          (start .args .source .now) (start .args .st) (after-loop-test .loop-test .taken) (after-entry .entry .ensures .0) refl
-          (after-lookup .lookup .ensures .0) (after-entry2 .entry2 .ensures .0) (after-name-fault .name-fault .ensures) (after-enter .enter .ensures)
-          y (after-loop .loop .inv .2 y),
-    )) (λ c. c .before .loop .inv .0) (λ c. c .before .loop .inv .1)
-    (λ c. names-end (c .before .before .before .before .before .args .source .now) (c .before .before .before .before .before .args .st)
-    (c .loop-test .left) (c .before .loop .inv .2)))
+          (start .args .source .now) _ (after-loop-test .loop-test .taken) (after-entry .entry .ensures .0) refl (after-lookup .lookup .ensures .0)
+          (after-entry2 .entry2 .ensures .0) (after-name-fault .name-fault .ensures) (after-enter .enter .ensures) y (after-loop .loop .inv .2 y),
+    ))
+    (λ c. c .before .loop .inv .0) (λ c. c .before .loop .inv .1) (λ c. names-end _ _ (c .loop-test .left) (c .before .loop .inv .2)))

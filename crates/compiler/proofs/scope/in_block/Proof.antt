@@ -18,16 +18,14 @@ in-block-spec =
     (λ c κs. omega arith)
     (λ c. let after-loop = c .before .before .before in let start = after-loop .before .before .before .before .before .before .before in
     record {
-      by = λ sc h. let l = after-loop .loop .inv .1 sc h in sym (ap found (l .same ∙ in-open (start .args .source .now) (start .args .s .now)
-          (start .args .leaf) (after-loop .loop .at) (c .before .before .loop-test .taken) (c .before .stacked .ensures .0) (l .shows)
-          (c .if2 .taken)));
-    })
-    (λ c κs. omega arith) (λ c κs. search needs)
+      by = λ sc h. let l = after-loop .loop .inv .1 sc h in sym (ap found (l .same ∙ in-open _ _ (start .args .leaf) _
+          (c .before .before .loop-test .taken) (c .before .stacked .ensures .0) (l .shows) (c .if2 .taken)));
+    }) (λ c κs. omega arith)
+    (λ c κs. search needs)
     (λ c. let after-if2 = c .before .before .before in let after-stacked = after-if2 .before in let after-loop-test = after-stacked .before in
     let after-loop = after-loop-test .before in let after-entry2 = after-loop .before .before in let after-entry = after-entry2 .before in
-    let start = after-entry .before .before .before .before in record {
-      by = λ sc h. let l = after-loop .loop .inv .1 sc h in
-          in-found (start .args .source .now) (start .args .s .now) (start .args .leaf) (after-loop .loop .at) (after-loop-test .loop-test .taken)
+    record {
+      by = λ sc h. let l = after-loop .loop .inv .1 sc h in in-found _ _ _ _ (after-loop-test .loop-test .taken)
           (after-stacked .stacked .ensures .0) (after-if2 .if2 .left) (c .before .before .stacked2 .ensures .0) (after-entry .entry .ensures .0)
           (after-entry2 .entry2 .ensures .0) (l .shows) (sym (c .if3 .taken) ∙ c .before .spelt .ensures) ∙ ap found (sym (l .same));
     }) (λ c. omega arith)
@@ -36,13 +34,8 @@ in-block-spec =
       (let after-if2 = c .before .before .before in let after-stacked = after-if2 .before in
           let after-loop-test = after-stacked .before in let after-loop = after-loop-test .before in let after-entry2 = after-loop .before .before in
           let after-entry = after-entry2 .before in let start = after-entry .before .before .before .before in
-          λ sc h. let l = after-loop .loop .inv .1 sc h in left-then _ sc l (in-other (start .args .source .now) (start .args .s .now)
-          (start .args .leaf) (after-loop .loop .at) (after-loop-test .loop-test .taken) (after-stacked .stacked .ensures .0) (after-if2 .if2 .left)
-          (c .before .before .stacked2 .ensures .0) (after-entry .entry .ensures .0) (after-entry2 .entry2 .ensures .0) (l .shows)
-          (sym (c .if3 .left) ∙ c .before .spelt .ensures))),
+          λ sc h. let l = after-loop .loop .inv .1 sc h in left-then _ sc l (in-other _ _ (start .args .leaf) _ (after-loop-test .loop-test .taken)
+          (after-stacked .stacked .ensures .0) (after-if2 .if2 .left) (c .before .before .stacked2 .ensures .0) (after-entry .entry .ensures .0)
+          (after-entry2 .entry2 .ensures .0) (l .shows) (sym (c .if3 .left) ∙ c .before .spelt .ensures))),
     ))
-    (λ c. (let start = c .before .before .before .before .before .before .before .before in record {
-      by = λ sc h. let l = c .before .loop .inv .1 sc
-          h in sym (ap found (l .same ∙ in-outer (start .args .source .now) (start .args .s .now) (start .args .leaf) (c .before .loop .at) (l .shows)
-          (omega arith)));
-    })))
+    (λ c. (record { by = λ sc h. let l = c .before .loop .inv .1 sc h in sym (ap found (l .same ∙ in-outer _ _ _ _ (l .shows) (omega arith))) })))

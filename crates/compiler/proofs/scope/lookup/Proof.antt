@@ -26,40 +26,35 @@ lookup-spec =
     (λ c. (
       (let start = c .before .before .before .before .before .before .before .before .before in
           record {
-            by = λ sc h. let l = c .before .loop .inv .2 sc h in sym (ap found (l .same ∙ at-outer (start .args .source .now)
-                (start .args .s .now) (start .args .leaf) (c .before .loop .at) (l .shows) (c .if2 .taken)));
+            by = λ sc h. let l = c .before .loop .inv .2 sc h in sym (ap found (l .same ∙ at-outer _ (start .args .s .now) _ _ (l .shows)
+                (c .if2 .taken)));
           }),
       omega arith,
-    )) (λ c. omega arith)
-    (λ c κs. omega arith) (λ c. omega arith)
+    )) (λ c. omega arith) (λ c κs. omega arith) (λ c. omega arith)
     (λ c. (
       omega arith,
-      (let after-loop = c .before .before .before in
-          let start = after-loop .before .before .before .before .before .before .before .before in λ sc h. let l = after-loop .loop .inv .2 sc h in
-          left-then _ sc l (at-open (start .args .source .now) (start .args .s .now) (start .args .leaf) (after-loop .loop .at)
-          (c .before .before .if2 .left) (c .before .stacked .ensures .0) (l .shows) (c .if3 .taken))),
-    )) (λ c κs. omega arith) (λ c κs. search needs)
-    (λ c. omega arith)
+      (let after-loop = c .before .before .before in λ sc h. let l = after-loop .loop .inv .2 sc h in
+          left-then _ sc l (at-open _ _ _ _ (c .before .before .if2 .left) (c .before .stacked .ensures .0) (l .shows) (c .if3 .taken))),
+    ))
+    (λ c κs. omega arith) (λ c κs. search needs) (λ c. omega arith)
     (λ c. (
       omega arith,
       omega arith,
       (let after-if3 = c .before .before .before in let after-stacked = after-if3 .before in
           let after-if2 = after-stacked .before in let after-loop = after-if2 .before in let after-entry2 = after-loop .before .before .before in
           let after-entry = after-entry2 .before in let start = after-entry .before .before .before .before in
-          λ sc h. let l = after-loop .loop .inv .2 sc h in left-then _ sc l (at-other (start .args .source .now) (start .args .s .now)
-          (start .args .leaf) (after-loop .loop .at) (after-if2 .if2 .left) (after-stacked .stacked .ensures .0) (after-if3 .if3 .left)
-          (c .before .before .stacked2 .ensures .0) (after-entry .entry .ensures .0) (after-entry2 .entry2 .ensures .0) (l .shows)
-          (sym (c .if4 .left) ∙ c .before .spelt .ensures))),
+          λ sc h. let l = after-loop .loop .inv .2 sc h in left-then _ sc l (at-other _ _ (start .args .leaf) _ (after-if2 .if2 .left)
+          (after-stacked .stacked .ensures .0) (after-if3 .if3 .left) (c .before .before .stacked2 .ensures .0) (after-entry .entry .ensures .0)
+          (after-entry2 .entry2 .ensures .0) (l .shows) (sym (c .if4 .left) ∙ c .before .spelt .ensures))),
     )) (λ c. omega arith) (λ c κs. omega arith)
     (λ c. let after-stacked2 = c .before .before .before in let after-if3 = after-stacked2 .before in let after-stacked = after-if3 .before in
     let after-if2 = after-stacked .before in let after-loop = after-if2 .before in let after-entry2 = after-loop .before .before .before in
     let after-entry = after-entry2 .before in let start = after-entry .before .before .before .before in (
       record {
-        by = λ sc h. let l = after-loop .loop .inv .2 sc h in at-found (start .args .source .now) (start .args .s .now)
-            (start .args .leaf) (after-loop .loop .at) (after-if2 .if2 .left) (c .stacked3 .ensures .0) (λ e. after-if3 .if3 .left
-            (after-stacked .stacked .ensures .0 ∙ sym (c .stacked3 .ensures .0) ∙ e)) (after-stacked2 .stacked2 .ensures .0)
-            (after-entry .entry .ensures .0) (after-entry2 .entry2 .ensures .0) (l .shows) (sym (c .before .if4 .taken)
-            ∙ c .before .before .spelt .ensures) ∙ ap found (sym (l .same));
+        by = λ sc h. let l = after-loop .loop .inv .2 sc h in at-found _ _ (start .args .leaf) _ (after-if2 .if2 .left)
+            (c .stacked3 .ensures .0) (λ e. after-if3 .if3 .left (after-stacked .stacked .ensures .0 ∙ sym (c .stacked3 .ensures .0) ∙ e))
+            (after-stacked2 .stacked2 .ensures .0) (after-entry .entry .ensures .0) (after-entry2 .entry2 .ensures .0) (l .shows)
+            (sym (c .before .if4 .taken) ∙ c .before .before .spelt .ensures) ∙ ap found (sym (l .same));
       },
       c .stacked3 .ensures .1,
     )))

@@ -29,10 +29,9 @@ declare-spec =
     (λ c. omega arith)
     (λ c. let after-again = c .before .before .before .before in let after-entry = after-again .before in
     let after-in-block = after-entry .before .before in let after-loop-test = after-in-block .before .before in
-    let after-loop = after-loop-test .before in let start = after-loop .before .before .before in (
+    let after-loop = after-loop-test .before in (
       c .before .before .push-name .kept .0 ∙ after-loop .loop .inv .0,
-      λ y. names-next (start .args .source .now) (after-loop .loop .k)
-          (after-loop-test .loop-test .taken) (after-in-block .in-block .ensures) (after-entry .entry .ensures .0) (after-again .again .ensures)
-          (c .before .before .push-name .ensures) refl y (after-loop .loop .inv .1 y),
-    )) (search needs)
-    (λ c. names-end (c .before .before .before .before .args .source .now) (c .before .loop .k) (c .loop-test .left) (c .before .loop .inv .1)))
+      λ y. names-next _ _ (after-loop-test .loop-test .taken)
+          (after-in-block .in-block .ensures) (after-entry .entry .ensures .0) (after-again .again .ensures) (c .before .before .push-name .ensures)
+          refl y (after-loop .loop .inv .1 y),
+    )) (search needs) (λ c. names-end _ _ (c .loop-test .left) (c .before .loop .inv .1)))
