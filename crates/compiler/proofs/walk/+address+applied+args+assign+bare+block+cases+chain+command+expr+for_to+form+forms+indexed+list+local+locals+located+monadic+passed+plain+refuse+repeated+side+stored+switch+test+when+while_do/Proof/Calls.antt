@@ -3,7 +3,7 @@ use Rattle.compiler.proofs as proofs
 use proofs.walk as walk
 use proofs.steps as steps
 use Rattle.compiler.proofs.walk.+address+applied+args+assign+bare+block+cases+chain+command+expr+for_to+form+forms+indexed+list+local+locals+located+monadic+passed+plain+refuse+repeated+side+stored+switch+test+when+while_do as cycle
-use Rattle.laws.proofs.Basics.{ℕ, _-_, _<_, _≡_, refl, _∙_, length, arith, needs}
+use Rattle.laws.proofs.Basics.{ℕ, _-_, _<_, _≡_, refl, _∙_, [], length, arith, needs}
 use Rattle.compiler.proofs.Vocabulary.{ReadyArgs}
 use Rattle.compiler.proofs.Calls.{indexed-gave, passed-gave, with-state, args-with, ArgsPart, args-begin, args-part, args-next, args-end}
 use Rattle.compiler.proofs.Calls.{LastRead, last-read, primary-part, primary-gave, index-left, index-right, index-gave, call-args, call-callee}
@@ -80,8 +80,8 @@ args-ok t =
     ))
     (λ c κs. let after-entry = c .before .before .before in let after-loop-test = after-entry .before .before in
     let after-loop = after-loop-test .before in let start = after-loop .before .before .before .before in
-    both (omega (arith, start .pre .0, left-at)) (ready-at (c .raised .ensures) (args-part _ _ (after-loop .loop .k)
-    (after-loop-test .loop-test .taken) (after-entry .entry .ensures .0) refl (start .pre .1) (after-loop .loop .inv .2 (start .pre .1)))))
+    both (omega (arith, start .pre .0, left-at)) (ready-at (c .raised .ensures) (args-part _ _ _ (after-loop-test .loop-test .taken)
+    (after-entry .entry .ensures .0) refl (start .pre .1) (after-loop .loop .inv .2 (start .pre .1)))))
     (λ c. let after-loop = c .before .before .before .before .before .before .before .before .before .before .before .before .before in
     let start = after-loop .before .before .before .before in
     omega (arith, after-loop .loop .inv .2 (start .pre .1) .height, start .pre .1 .ready .height))
@@ -97,11 +97,10 @@ args-ok t =
       after-expr .expr .kept .1 .0 ∙ after-loop .loop .inv .0,
       c .before .before .keep .kept .0 ∙ after-expr .expr .kept .1 .1 .1 .0
           ∙ after-loop .loop .inv .1,
-      λ y. args-next _ _ (after-loop .loop .k) (after-loop-test .loop-test .taken) (after-entry .entry .ensures .0)
-          refl (gave-at _ (after-raised .raised .ensures) (after-expr .expr .ensures)) (c .before .before .keep .ensures) y
-          (after-loop .loop .inv .2 y),
-    )) (λ c. search needs) (λ c. search needs)
-    (λ c. args-end _ _ (c .before .loop .k) (c .loop-test .left) (c .before .loop .inv .2))
+      λ y. args-next _ _ _ (after-loop-test .loop-test .taken) (after-entry .entry .ensures .0) refl
+          (gave-at _ (after-raised .raised .ensures) (after-expr .expr .ensures)) (c .before .before .keep .ensures) y (after-loop .loop .inv .2 y),
+    ))
+    (λ c. search needs) (λ c. search needs) (λ c. args-end _ _ _ (c .loop-test .left) (c .before .loop .inv .2))
 
 abbrev indexed-cs : ℕ → cycle.Lts-indexed.Claims
 indexed-cs t =
@@ -125,5 +124,5 @@ pub passed-ok : {M : Type 1} (t : ℕ) → cycle.Lts-passed.Closed (passed-cs t)
 passed-ok t =
     cycle.Lts-passed.spec (passed-cs t) (at passed-rank t) walk.passed.Reads.Post (λ c. omega arith) (λ c κs. search needs) (λ c κs. omega arith)
     (λ c κs. let after-reached = c .before .before .before in let start = after-reached .before .before .before .before .before in
-    both (omega (arith, left-at)) (args-ready-at (c .raised .ensures) (args-with (after-reached .reached .ensures .by (start .args .text .now) .label)
-    (start .pre .1)))) (λ c. search needs) (λ c. search needs) (λ c. search (passed-gave, args-gave-at))
+    both (omega (arith, left-at)) (args-ready-at (c .raised .ensures) (args-with (after-reached .reached .ensures .by [] .label) (start .pre .1))))
+    (λ c. search needs) (λ c. search needs) (λ c. search (passed-gave, args-gave-at))

@@ -168,22 +168,20 @@ cases-ok t =
     (λ c κs. search needs) (λ c. omega arith) (λ c. omega arith) (λ c κs. search needs)
     (λ c κs. let after-mark = c .before .before .before .before in let after-entry = after-mark .before .before in
     let after-loop-test = after-entry .before .before in let after-loop = after-loop-test .before in
-    let start = after-loop .before .before .before .before in both (omega (arith, start .pre .0)) (case-part _ _ _ (start .args .first)
-    (after-loop .loop .k) (after-loop-test .loop-test .taken) (after-entry .entry .ensures .0) refl (after-mark .mark .ensures)
-    (start .pre .1 .0) (after-loop .loop .inv .3 (start .pre .1 .0))))
+    let start = after-loop .before .before .before .before in both (omega (arith, start .pre .0)) (case-part _ _ _ _ (after-loop .loop .k)
+    (after-loop-test .loop-test .taken) (after-entry .entry .ensures .0) refl (after-mark .mark .ensures) (start .pre .1 .0)
+    (after-loop .loop .inv .3 (start .pre .1 .0))))
     (λ c. let after-loop-test = c .before .before .before .before .before .before .before .before .before .before .before .before .before in
     let after-loop = after-loop-test .before in let start = after-loop .before .before .before .before in
     omega (arith, after-loop .loop .inv .2, after-loop-test .loop-test .taken, start .pre .1 .0 .ready .small)) (λ c. omega arith)
     (λ c. let after-bare = c .before .before .before .before in let after-mark = after-bare .before .before .before .before .before in
     let after-entry = after-mark .before .before in let after-loop-test = after-entry .before .before in
-    let after-loop = after-loop-test .before in let start = after-loop .before .before .before .before in (
+    let after-loop = after-loop-test .before in (
       after-bare .bare .kept .1 .0 ∙ after-loop .loop .inv .0,
       after-bare .bare .kept .1 .1 .1 .0 ∙ after-mark .mark .kept .0
           ∙ after-loop .loop .inv .1,
       omega (arith, after-loop .loop .inv .2),
-      λ y. cases-next _ _ _ (start .args .first) (after-loop .loop .k)
-          (after-loop-test .loop-test .taken) (after-entry .entry .ensures .0) refl (after-mark .mark .ensures) (after-bare .bare .ensures) y
-          (after-loop .loop .inv .3 y),
-    )) (λ c. c .before .loop .inv .0) (λ c. c .before .loop .inv .1)
-    (λ c. cases-end _ _ _ (c .before .before .before .before .before .args .first) (c .before .loop .k) (c .loop-test .left)
-    (c .before .loop .inv .3))
+      λ y. cases-next _ _ _ _ _ (after-loop-test .loop-test .taken)
+          (after-entry .entry .ensures .0) refl (after-mark .mark .ensures) (after-bare .bare .ensures) y (after-loop .loop .inv .3 y),
+    ))
+    (λ c. c .before .loop .inv .0) (λ c. c .before .loop .inv .1) (λ c. cases-end _ _ _ _ _ (c .loop-test .left) (c .before .loop .inv .3))

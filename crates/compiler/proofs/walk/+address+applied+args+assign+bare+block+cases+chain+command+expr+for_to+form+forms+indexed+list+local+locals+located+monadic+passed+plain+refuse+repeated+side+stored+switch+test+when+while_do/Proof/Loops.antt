@@ -237,9 +237,8 @@ forms-ok t =
     (λ c κs. let after-mark = c .before .before .before .before in let after-entry2 = after-mark .before .before in
     let after-entry = after-entry2 .before .before in let after-loop-test = after-entry .before .before in
     let after-loop = after-loop-test .before in let start = after-loop .before .before .before .before in both (omega (arith, start .pre .0))
-    (forms-part _ _ (start .args .innermost) (after-loop-test .loop-test .taken) (after-entry .entry .ensures .0)
-    (after-entry2 .entry2 .ensures .0) refl (after-mark .mark .ensures .label) (start .pre .1 .0) (after-loop .loop .inv .3
-    (start .pre .1 .0))))
+    (forms-part _ _ _ (after-loop-test .loop-test .taken) (after-entry .entry .ensures .0) (after-entry2 .entry2 .ensures .0) refl
+    (after-mark .mark .ensures .label) (start .pre .1 .0) (after-loop .loop .inv .3 (start .pre .1 .0))))
     (λ c. let after-loop = c .before .before .before .before .before .before .before .before .before .before .before .before .before .before .before
     .before .before in let start = after-loop .before .before .before .before in omega (arith, after-loop .loop .inv .2, start .pre .1 .1))
     (λ c κs. search needs) (λ c κs. search needs)
@@ -257,8 +256,7 @@ forms-ok t =
           (start .args .innermost) (after-loop-test .loop-test .taken) (after-entry .entry .ensures .0) (after-entry2 .entry2 .ensures .0) refl
           (after-mark .mark .ensures) (after-form .form .ensures) (after-mark2 .mark2 .ensures) (c .less .ensures) y (after-loop .loop .inv .3 y),
     ))
-    (λ c. c .before .loop .inv .0) (λ c. c .before .loop .inv .1)
-    (λ c. forms-end _ _ (c .before .before .before .before .before .args .innermost) (c .loop-test .left) (c .before .loop .inv .3))
+    (λ c. c .before .loop .inv .0) (λ c. c .before .loop .inv .1) (λ c. forms-end _ _ _ (c .loop-test .left) (c .before .loop .inv .3))
 
 abbrev repeated-cs : ℕ → cycle.Lts-repeated.Claims
 repeated-cs t =
@@ -290,8 +288,8 @@ repeated-ok t =
     let after-if1 = after-count .before .before .before in let after-node-at = after-if1 .before .before in
     let start = after-node-at .before .before .before .before .before in both (omega (arith, start .pre .0))
     (both (repeated-forms _ (after-node-at .node-at .ensures) (after-if1 .if1 .taken) refl (after-count .count .ensures)
-    (after-fresh .fresh .ensures) (after-tops .tops .ensures) (start .args .source .now) (start .args .ways) (after-less .less .ensures)
-    (gave-u-at (start .args .source .now) refl (after-in-loop .in-loop .ensures) (after-plain .plain .ensures)) (start .pre .1))
+    (after-fresh .fresh .ensures) (after-tops .tops .ensures) _ (start .args .ways) (after-less .less .ensures) (gave-u-at _ refl
+    (after-in-loop .in-loop .ensures) (after-plain .plain .ensures)) (start .pre .1))
     (omega (arith, repeated-fit t after-count, after-less .less .ensures)))) (λ c. search needs) (λ c. search needs)
     (λ c. let after-forms = c .before .before .before .before in
     let after-plain = after-forms .before .before .before .before .before .before .before in let after-in-loop = after-plain .before in

@@ -3,7 +3,7 @@ use Rattle.compiler.proofs as proofs
 use proofs.walk as walk
 use proofs.steps as steps
 use Rattle.compiler.proofs.walk.+address+applied+args+assign+bare+block+cases+chain+command+expr+for_to+form+forms+indexed+list+local+locals+located+monadic+passed+plain+refuse+repeated+side+stored+switch+test+when+while_do as cycle
-use Rattle.laws.proofs.Basics.{ℕ, _-_, _≡_, refl, ap, _∙_, length, arith, needs}
+use Rattle.laws.proofs.Basics.{ℕ, _-_, _≡_, refl, ap, _∙_, [], length, arith, needs}
 use Rattle.compiler.proofs.Assigning.{AssignPart, assign-begin, assign-is, assign-right, assign-left, assign-next, assign-end}
 use Rattle.compiler.proofs.Sides.{side-open, side-refused, side-name, side-part, side-pling, side-left, side-right, side-index-gave}
 use Rattle.compiler.proofs.Sides.{gave-side-at, gave-refused-at, monadic-part, refuse-gave, address-open, address-pling, address-refused}
@@ -40,10 +40,9 @@ address-ok t =
     (λ c. search needs)
     (λ c. let after-refuse = c .before .before .before .before in let after-if1 = after-refuse .before .before .before in
     let after-match = after-if1 .before .before in let after-node-at = after-match .before in
-    let start = after-node-at .before .before .before .before .before in address-refused (start .args .source .now) (start .args .place) _
-    (after-node-at .node-at .ensures) (λ e. omega (arith, e, after-match .match .keys4)) (λ e. omega (arith, e, after-match .match .keys4))
-    (λ e. omega (arith, e, after-match .match .keys4)) (λ e v. after-if1 .if1 .left v) (after-refuse .refuse .ensures)) (λ c. search needs)
-    (λ c. search needs)
+    address-refused _ _ _ (after-node-at .node-at .ensures) (λ e. omega (arith, e, after-match .match .keys4))
+    (λ e. omega (arith, e, after-match .match .keys4)) (λ e. omega (arith, e, after-match .match .keys4)) (λ e v. after-if1 .if1 .left v)
+    (after-refuse .refuse .ensures)) (λ c. search needs) (λ c. search needs)
     (λ c. let after-refuse2 = c .before .before .before .before in let after-match = after-refuse2 .before .before .before in
     let after-node-at = after-match .before in address-refused _ _ _ (after-node-at .node-at .ensures) (after-match .match .rest .0 .0 .0 .1)
     (after-match .match .rest .0 .0 .1) (after-match .match .rest .0 .1) (λ e v. after-match .match .rest .1 e) (after-refuse2 .refuse2 .ensures))
@@ -128,8 +127,8 @@ side-ok t =
     (λ c κs. let after-keep = c .before .before .before .before .before .before in
     let after-match = after-keep .before .before .before .before in let after-node-at = after-match .before in
     let start = after-node-at .before .before .before .before .before in both (omega (arith, start .pre .0, left-at, some-left))
-    (ready-at (c .raised .ensures ∙ ap (raised 1) (c .before .inside2 .ensures)) (side-part (start .args .source .now) (start .args .place) _
-    (after-node-at .node-at .ensures) (after-match .match .keys4) (after-keep .keep .ensures) (start .pre .1 .0))))
+    (ready-at (c .raised .ensures ∙ ap (raised 1) (c .before .inside2 .ensures)) (side-part [] 0 _ (after-node-at .node-at .ensures)
+    (after-match .match .keys4) (after-keep .keep .ensures) (start .pre .1 .0))))
     (λ c κs. let start = c .before .before .before .before .before .before .before .before .before .before .before .before .before .before .before
     .before .before .before .before .before .before .before in omega (arith, start .pre .1 .0 .height)) (λ c. search needs) (λ c. search needs)
     (λ c. let after-expr = c .before .before .before .before .before .before .before .before in let after-raised = after-expr .before in
@@ -147,16 +146,15 @@ side-ok t =
     (λ c. search needs)
     (λ c. let after-refuse = c .before .before .before .before in let after-raised2 = after-refuse .before in
     let after-if1 = after-raised2 .before .before .before in let after-match = after-if1 .before .before in
-    let after-node-at = after-match .before in let start = after-node-at .before .before .before .before .before in
-    side-refused (start .args .source .now) (start .args .place) (start .args .here) _ (after-node-at .node-at .ensures)
+    let after-node-at = after-match .before in side-refused _ _ _ _ (after-node-at .node-at .ensures)
     (λ e. omega (arith, e, after-match .match .keys4)) (λ e. omega (arith, e, after-match .match .keys4))
     (λ e. omega (arith, e, after-match .match .keys4)) (λ e v. after-if1 .if1 .left v) (gave-refused-at (after-raised2 .raised2 .ensures)
     (after-refuse .refuse .ensures))) (λ c. search needs) (λ c. search needs)
     (λ c. let after-refuse2 = c .before .before .before .before in let after-raised3 = after-refuse2 .before in
     let after-match = after-raised3 .before .before .before in let after-node-at = after-match .before in
-    let start = after-node-at .before .before .before .before .before in side-refused _ _ (start .args .here) _ (after-node-at .node-at .ensures)
-    (after-match .match .rest .0 .0 .0 .1) (after-match .match .rest .0 .0 .1) (after-match .match .rest .0 .1) (λ e v. after-match .match .rest .1 e)
-    (gave-refused-at (after-raised3 .raised3 .ensures) (after-refuse2 .refuse2 .ensures)))
+    side-refused _ _ _ _ (after-node-at .node-at .ensures) (after-match .match .rest .0 .0 .0 .1) (after-match .match .rest .0 .0 .1)
+    (after-match .match .rest .0 .1) (λ e v. after-match .match .rest .1 e) (gave-refused-at (after-raised3 .raised3 .ensures)
+    (after-refuse2 .refuse2 .ensures)))
 
 abbrev stored-cs : ℕ → cycle.Lts-stored.Claims
 stored-cs t =
@@ -196,7 +194,7 @@ stored-ok t =
       after-less2 .less2 .ensures,
     )) (suffixes-ready-at (after-raised .raised .ensures ∙ ap (raised 1) (after-inside .inside .ensures))
     (side-left _ (after-node-at .node-at .ensures) (start .pre .1 .1) refl (after-less .less .ensures) (after-entry .entry .ensures .0)
-    (after-less2 .less2 .ensures) (start .args .source .now) (after-keep .keep .ensures) (start .pre .1 .0))))
+    (after-less2 .less2 .ensures) [] (after-keep .keep .ensures) (start .pre .1 .0))))
     (λ c. let start = c .before .before .before .before .before .before .before .before .before .before .before .before .before .before .before
     .before .before .before .before .before .before .before .before .before .before in omega (arith, start .pre .1 .0 .height))
     (λ c κs. let start = c .before .before .before .before .before .before .before .before .before .before .before .before .before .before .before
@@ -280,8 +278,8 @@ assign-ok t =
     let start = after-loop .before .before .before .before in
     omega (
       arith,
-      assign-is (start .args .source .now) (start .args .text .now) (after-loop-test .loop-test .taken)
-          (after-entry .entry .ensures .0) refl (start .pre .1) (after-loop .loop .inv .2 (start .pre .1)) .before,
+      assign-is _ _ (after-loop-test .loop-test .taken) (after-entry .entry .ensures .0) refl (start .pre .1)
+          (after-loop .loop .inv .2 (start .pre .1)) .before,
       start .pre .1 .ready .small,
       after-loop .loop .inv .2 (start .pre .1) .starts,
       after-loop-test .loop-test .taken,
@@ -291,8 +289,8 @@ assign-ok t =
     let start = after-loop .before .before .before .before in
     omega (
       arith,
-      assign-is (start .args .source .now) (start .args .text .now) (after-loop-test .loop-test .taken)
-          (after-entry .entry .ensures .0) refl (start .pre .1) (after-loop .loop .inv .2 (start .pre .1)) .before,
+      assign-is _ _ (after-loop-test .loop-test .taken) (after-entry .entry .ensures .0) refl (start .pre .1)
+          (after-loop .loop .inv .2 (start .pre .1)) .before,
       start .pre .1 .ready .small,
       after-loop .loop .inv .2 (start .pre .1) .starts,
       after-loop-test .loop-test .taken,
