@@ -1,6 +1,5 @@
 -- A block, its declarations and its commands.
 use Rattle.compiler.proofs as proofs
-use proofs.walk as walk
 use proofs.steps as steps
 use Rattle.compiler.proofs.walk.+address+applied+args+assign+bare+block+cases+chain+command+expr+for_to+form+forms+indexed+list+local+locals+located+monadic+passed+plain+refuse+repeated+side+stored+switch+test+when+while_do as cycle
 use Rattle.compiler.specs.Commands.{ReadyList}
@@ -11,17 +10,16 @@ use Rattle.compiler.proofs.Blocks.{block-locals, block-list, block-gave
 use Rattle.compiler.proofs.Judging.{values-args, values-names, values-gave}
 use Rattle.compiler.specs.Locals.{ReadyLocals}
 use Rattle.compiler.proofs.Expressions.{ready-at, left-at}
-use cycle.Proof.Ranks.{at, below, both, three, four, six, args-rank, block-rank, command-rank, list-rank, local-rank, locals-rank}
+use cycle.Proof.Ranks.{rank, at, below, calls, both, three, four, six, args, block, command, list, local, locals}
 
 abbrev block-cs : ℕ → cycle.Lts-block.Claims
 block-cs t =
     six (steps.node_at.Reads.Asked, steps.node_at.Reads.Learnt) (proofs.scope.push.Reads.Asked, proofs.scope.push.Reads.Learnt)
-    (steps.marked.Reads.Asked, steps.marked.Reads.Learnt) (below locals-rank t, walk.locals.Reads.Post)
-    (steps.set_at.Reads.Asked, steps.set_at.Reads.Learnt) (below list-rank t, walk.list.Reads.Post)
+    (steps.marked.Reads.Asked, steps.marked.Reads.Learnt) (calls locals t) (steps.set_at.Reads.Asked, steps.set_at.Reads.Learnt) (calls list t)
 
-pub block-ok : {M : Type 1} (t : ℕ) → cycle.Lts-block.Closed (block-cs t) (at block-rank t) walk.block.Reads.Post M
+pub block-ok : {M : Type 1} (t : ℕ) → cycle.Lts-block.Closed (block-cs t) (at block t) (rank block .post) M
 block-ok t =
-    cycle.Lts-block.spec (block-cs t) (at block-rank t) walk.block.Reads.Post (λ c κs. search needs) (λ c. omega arith)
+    cycle.Lts-block.spec (block-cs t) (at block t) (rank block .post) (λ c κs. search needs) (λ c. omega arith)
     (λ c κs. let start = c .before .before .before .before .before .before .before in
     (block-room _ (c .before .before .node-at .ensures) (start .pre .1 .1 .is) refl (start .pre .1 .0) .1, omega arith, omega arith))
     (λ c κs. let after-node-at = c .before .before .before .before .before .before .before in
@@ -51,17 +49,16 @@ block-ok t =
     (after-set-at .set-at .ensures) (after-list .list .ensures)))
 
 abbrev list-cs : ℕ → cycle.Lts-list.Claims
-list-cs t = (proofs.scope.entry.Reads.Asked, proofs.scope.entry.Reads.Learnt, below command-rank t, walk.command.Reads.Post)
+list-cs t = (proofs.scope.entry.Reads.Asked, proofs.scope.entry.Reads.Learnt, below command t, rank command .post)
 
 abbrev list-Inv-loop : cycle.Lts-list.InvT-loop
 list-Inv-loop source s₀ from end text₀ here ways at₀ r₀ s text at r =
     (length s ≡ length s₀) × (length text ≡ length text₀) × ((y : ReadyList s₀ from end here r₀) → ListPart source text₀ ways y s text at r)
 
-pub list-ok : {M : Type 1} (t : ℕ) → cycle.Lts-list.Closed (list-cs t) (at list-rank t) walk.list.Reads.Post M
+pub list-ok : {M : Type 1} (t : ℕ) → cycle.Lts-list.Closed (list-cs t) (at list t) (rank list .post) M
 list-ok t =
-    cycle.Lts-list.spec (list-cs t) (at list-rank t) walk.list.Reads.Post list-Inv-loop
-    (λ source s₀ from end text₀ here ways at₀ r₀ s text at r. end - at) (λ c. search (needs, list-begin)) (λ c. omega arith) (λ c κs. search needs)
-    (λ c. omega (arith, c .entry .ensures .1))
+    cycle.Lts-list.spec (list-cs t) (at list t) (rank list .post) list-Inv-loop (λ source s₀ from end text₀ here ways at₀ r₀ s text at r. end - at)
+    (λ c. search (needs, list-begin)) (λ c. omega arith) (λ c κs. search needs) (λ c. omega (arith, c .entry .ensures .1))
     (λ c κs. let after-loop-test = c .before .before .before .before in let after-loop = after-loop-test .before in
     let start = after-loop .before .before .before .before in both (omega arith) (list-part _ _ _ (after-loop-test .loop-test .taken)
     (c .before .before .entry .ensures .0) refl (start .pre .1) (after-loop .loop .inv .2 (start .pre .1)))) (λ c. omega arith)
@@ -70,12 +67,12 @@ list-ok t =
 
 abbrev local-cs : ℕ → cycle.Lts-local.Claims
 local-cs t =
-    four (steps.node_at.Reads.Asked, steps.node_at.Reads.Learnt) (steps.vector.Reads.Asked, steps.vector.Reads.Learnt)
-    (below args-rank t, walk.args.Reads.Post) (steps.declare.Reads.Asked, steps.declare.Reads.Learnt)
+    four (steps.node_at.Reads.Asked, steps.node_at.Reads.Learnt) (steps.vector.Reads.Asked, steps.vector.Reads.Learnt) (calls args t)
+    (steps.declare.Reads.Asked, steps.declare.Reads.Learnt)
 
-pub local-ok : {M : Type 1} (t : ℕ) → cycle.Lts-local.Closed (local-cs t) (at local-rank t) walk.local.Reads.Post M
+pub local-ok : {M : Type 1} (t : ℕ) → cycle.Lts-local.Closed (local-cs t) (at local t) (rank local .post) M
 local-ok t =
-    cycle.Lts-local.spec (local-cs t) (at local-rank t) walk.local.Reads.Post (λ c κs. search needs) (λ c κs. search needs) (λ c. search needs)
+    cycle.Lts-local.spec (local-cs t) (at local t) (rank local .post) (λ c κs. search needs) (λ c κs. search needs) (λ c. search needs)
     (λ c. search needs) (λ c. c .before .before .before .before .vector .ensures) (λ c. omega arith) (λ c κs. search (needs, values-args))
     (λ c κs. search values-names)
     (λ c. let after-node-at = c .before .before .before .before .before .before .before .before .before .before .before .before .before .before
@@ -98,8 +95,7 @@ local-ok t =
 
 abbrev locals-cs : ℕ → cycle.Lts-locals.Claims
 locals-cs t =
-    three (proofs.scope.entry.Reads.Asked, proofs.scope.entry.Reads.Learnt) (steps.set_at.Reads.Asked, steps.set_at.Reads.Learnt)
-    (below local-rank t, walk.local.Reads.Post)
+    three (proofs.scope.entry.Reads.Asked, proofs.scope.entry.Reads.Learnt) (steps.set_at.Reads.Asked, steps.set_at.Reads.Learnt) (calls local t)
 
 abbrev locals-Inv-loop : cycle.Lts-locals.InvT-loop
 locals-Inv-loop source s₀ from end text₀ here at₀ r₀ s text at r =
@@ -108,9 +104,9 @@ locals-Inv-loop source s₀ from end text₀ here at₀ r₀ s text at r =
 abbrev locals-μ-loop : cycle.Lts-locals.MeasureT-loop
 locals-μ-loop source s₀ from end text₀ here at₀ r₀ s text at r = end - at
 
-pub locals-ok : {M : Type 1} (t : ℕ) → cycle.Lts-locals.Closed (locals-cs t) (at locals-rank t) walk.locals.Reads.Post M
+pub locals-ok : {M : Type 1} (t : ℕ) → cycle.Lts-locals.Closed (locals-cs t) (at locals t) (rank locals .post) M
 locals-ok t =
-    cycle.Lts-locals.spec (locals-cs t) (at locals-rank t) walk.locals.Reads.Post locals-Inv-loop locals-μ-loop (λ c. search (needs, locals-begin))
+    cycle.Lts-locals.spec (locals-cs t) (at locals t) (rank locals .post) locals-Inv-loop locals-μ-loop (λ c. search (needs, locals-begin))
     (λ c. omega arith) (λ c κs. search needs) (λ c. omega (arith, c .entry .ensures .1)) (λ c κs. search needs)
     (λ c κs. let after-set-at = c .before .before .before in let after-entry = after-set-at .before in
     let after-loop-test = after-entry .before .before in let after-loop = after-loop-test .before in

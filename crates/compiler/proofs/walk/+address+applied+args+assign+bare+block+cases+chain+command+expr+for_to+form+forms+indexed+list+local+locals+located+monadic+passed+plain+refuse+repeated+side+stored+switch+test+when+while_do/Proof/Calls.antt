@@ -1,6 +1,5 @@
 -- A primary with what follows it: indices and calls, and their arguments.
 use Rattle.compiler.proofs as proofs
-use proofs.walk as walk
 use proofs.steps as steps
 use Rattle.compiler.proofs.walk.+address+applied+args+assign+bare+block+cases+chain+command+expr+for_to+form+forms+indexed+list+local+locals+located+monadic+passed+plain+refuse+repeated+side+stored+switch+test+when+while_do as cycle
 use Rattle.laws.proofs.Basics.{ℕ, _-_, _<_, _≡_, refl, _∙_, [], length, arith, needs}
@@ -10,20 +9,19 @@ use Rattle.compiler.proofs.Calls.{LastRead, last-read, primary-part, pr
 use Rattle.compiler.proofs.Calls.{call-gave, call-few}
 use Rattle.compiler.proofs.Calls.{args-ready-at, suffixes-ready-at, args-gave-at, suffixes-gave-at}
 use Rattle.compiler.proofs.Expressions.{ready-at, gave-at, left-at}
-use cycle.Proof.Ranks.{at, below, both, three, four, nine, applied-rank, args-rank, expr-rank, indexed-rank, passed-rank}
+use cycle.Proof.Ranks.{rank, at, calls, both, three, four, nine, applied, args, expr, indexed, passed}
 
 abbrev applied-cs : ℕ → cycle.Lts-applied.Claims
 applied-cs t =
-    nine (below expr-rank t, walk.expr.Reads.Post) (steps.less.Reads.Asked, steps.less.Reads.Learnt)
-    (proofs.scope.entry.Reads.Asked, proofs.scope.entry.Reads.Learnt) (below applied-rank t, walk.applied.Reads.Post)
-    (below indexed-rank t, walk.indexed.Reads.Post) (steps.count.Reads.Asked, steps.count.Reads.Learnt) (below passed-rank t, walk.passed.Reads.Post)
+    nine (calls expr t) (steps.less.Reads.Asked, steps.less.Reads.Learnt) (proofs.scope.entry.Reads.Asked, proofs.scope.entry.Reads.Learnt)
+    (calls applied t) (calls indexed t) (steps.count.Reads.Asked, steps.count.Reads.Learnt) (calls passed t)
     (steps.raised.Reads.Asked, steps.raised.Reads.Learnt) (steps.put.Reads.Asked, steps.put.Reads.Learnt)
 
-abbrev applied-start : (t : ℕ) → cycle.Lts-applied.After-entry2 (applied-cs t) (at applied-rank t) walk.applied.Reads.Post
-    → cycle.Lts-applied.Start (applied-cs t) (at applied-rank t) walk.applied.Reads.Post
+abbrev applied-start : (t : ℕ) → cycle.Lts-applied.After-entry2 (applied-cs t) (at applied t) (rank applied .post)
+    → cycle.Lts-applied.Start (applied-cs t) (at applied t) (rank applied .post)
 applied-start t c = c .before .before .before .before .before .before .before .before .before .before .before
 
-applied-read : (t : ℕ) (c : cycle.Lts-applied.After-entry2 (applied-cs t) (at applied-rank t) walk.applied.Reads.Post)
+applied-read : (t : ℕ) (c : cycle.Lts-applied.After-entry2 (applied-cs t) (at applied t) (rank applied .post))
     → let args = applied-start t c .args in LastRead (args .s .now) (args .middle) (args .end) (c .entry2 .result)
     (c .before .before .before .before .before .before .less .result) (c .before .before .before .less2 .result)
 applied-read t c =
@@ -31,15 +29,15 @@ applied-read t c =
     last-read (after-less .before .if1 .left) (c .before .less3 .ensures) (c .entry2 .ensures .0) (after-less .less .ensures)
     (after-less2 .before .entry .ensures .0) (after-less2 .less2 .ensures)
 
-applied-few : (t : ℕ) (c : cycle.Lts-applied.After-count (applied-cs t) (at applied-rank t) walk.applied.Reads.Post)
+applied-few : (t : ℕ) (c : cycle.Lts-applied.After-count (applied-cs t) (at applied t) (rank applied .post))
     → c .count .result < applied-start t (c .before .before .before) .args .end
 applied-few t c =
     let r = c .before .before .before in
     call-few (applied-read t r) (c .before .before .if2 .left) (c .count .ensures) (applied-start t r .pre .1)
 
-pub applied-ok : {M : Type 1} (t : ℕ) → cycle.Lts-applied.Closed (applied-cs t) (at applied-rank t) walk.applied.Reads.Post M
+pub applied-ok : {M : Type 1} (t : ℕ) → cycle.Lts-applied.Closed (applied-cs t) (at applied t) (rank applied .post) M
 applied-ok t =
-    cycle.Lts-applied.spec (applied-cs t) (at applied-rank t) walk.applied.Reads.Post (λ c κs. search (needs, primary-part)) (λ c. search needs)
+    cycle.Lts-applied.spec (applied-cs t) (at applied t) (rank applied .post) (λ c κs. search (needs, primary-part)) (λ c. search needs)
     (λ c. search needs) (λ c. search primary-gave) (λ c κs. search needs) (λ c κs. search needs) (λ c κs. search needs) (λ c κs. search needs)
     (λ c κs. search needs)
     (λ c κs. let start = applied-start t (search) in let r = applied-read t (search) in both (omega (arith, start .pre .0)) (search (index-left r)))
@@ -61,18 +59,17 @@ applied-ok t =
 
 abbrev args-cs : ℕ → cycle.Lts-args.Claims
 args-cs t =
-    four (proofs.scope.entry.Reads.Asked, proofs.scope.entry.Reads.Learnt) (steps.raised.Reads.Asked, steps.raised.Reads.Learnt)
-    (below expr-rank t, walk.expr.Reads.Post) (steps.keep.Reads.Asked, steps.keep.Reads.Learnt)
+    four (proofs.scope.entry.Reads.Asked, proofs.scope.entry.Reads.Learnt) (steps.raised.Reads.Asked, steps.raised.Reads.Learnt) (calls expr t)
+    (steps.keep.Reads.Asked, steps.keep.Reads.Learnt)
 
 abbrev args-Inv-loop : cycle.Lts-args.InvT-loop
 args-Inv-loop source s₀ from end text₀ here at₀ k₀ r₀ s text at k r =
     (length s ≡ length s₀) × (length text ≡ length text₀) × ((y : ReadyArgs s₀ from end here r₀) → ArgsPart source text₀ y s text at k r)
 
-pub args-ok : {M : Type 1} (t : ℕ) → cycle.Lts-args.Closed (args-cs t) (at args-rank t) walk.args.Reads.Post M
+pub args-ok : {M : Type 1} (t : ℕ) → cycle.Lts-args.Closed (args-cs t) (at args t) (rank args .post) M
 args-ok t =
-    cycle.Lts-args.spec (args-cs t) (at args-rank t) walk.args.Reads.Post args-Inv-loop
-    (λ source s₀ from end text₀ here at₀ k₀ r₀ s text at k r. end - at) (λ c. search (needs, args-begin)) (λ c. omega arith) (λ c κs. search needs)
-    (λ c. omega (arith, c .entry .ensures .1))
+    cycle.Lts-args.spec (args-cs t) (at args t) (rank args .post) args-Inv-loop (λ source s₀ from end text₀ here at₀ k₀ r₀ s text at k r. end - at)
+    (λ c. search (needs, args-begin)) (λ c. omega arith) (λ c κs. search needs) (λ c. omega (arith, c .entry .ensures .1))
     (λ c κs. omega (
       arith,
       c .before .before .before .before .before .loop .inv .2
@@ -104,25 +101,23 @@ args-ok t =
 
 abbrev indexed-cs : ℕ → cycle.Lts-indexed.Claims
 indexed-cs t =
-    four (steps.keep.Reads.Asked, steps.keep.Reads.Learnt) (steps.raised.Reads.Asked, steps.raised.Reads.Learnt)
-    (below expr-rank t, walk.expr.Reads.Post) (steps.index_end.Reads.Asked, steps.index_end.Reads.Learnt)
+    four (steps.keep.Reads.Asked, steps.keep.Reads.Learnt) (steps.raised.Reads.Asked, steps.raised.Reads.Learnt) (calls expr t)
+    (steps.index_end.Reads.Asked, steps.index_end.Reads.Learnt)
 
-pub indexed-ok : {M : Type 1} (t : ℕ) → cycle.Lts-indexed.Closed (indexed-cs t) (at indexed-rank t) walk.indexed.Reads.Post M
+pub indexed-ok : {M : Type 1} (t : ℕ) → cycle.Lts-indexed.Closed (indexed-cs t) (at indexed t) (rank indexed .post) M
 indexed-ok t =
-    cycle.Lts-indexed.spec (indexed-cs t) (at indexed-rank t) walk.indexed.Reads.Post (λ c κs. omega arith) (λ c κs. omega arith)
+    cycle.Lts-indexed.spec (indexed-cs t) (at indexed t) (rank indexed .post) (λ c κs. omega arith) (λ c κs. omega arith)
     (λ c κs. (
       omega (arith, c .before .before .before .before .before .before .before .before .before .before .pre .0, left-at),
       search (ready-at, with-state),
     )) (λ c κs. search needs) (λ c. search needs) (λ c. search needs) (λ c. search (indexed-gave, gave-at))
 
 abbrev passed-cs : ℕ → cycle.Lts-passed.Claims
-passed-cs t =
-    three (steps.reached.Reads.Asked, steps.reached.Reads.Learnt) (steps.raised.Reads.Asked, steps.raised.Reads.Learnt)
-    (below args-rank t, walk.args.Reads.Post)
+passed-cs t = three (steps.reached.Reads.Asked, steps.reached.Reads.Learnt) (steps.raised.Reads.Asked, steps.raised.Reads.Learnt) (calls args t)
 
-pub passed-ok : {M : Type 1} (t : ℕ) → cycle.Lts-passed.Closed (passed-cs t) (at passed-rank t) walk.passed.Reads.Post M
+pub passed-ok : {M : Type 1} (t : ℕ) → cycle.Lts-passed.Closed (passed-cs t) (at passed t) (rank passed .post) M
 passed-ok t =
-    cycle.Lts-passed.spec (passed-cs t) (at passed-rank t) walk.passed.Reads.Post (λ c. omega arith) (λ c κs. search needs) (λ c κs. omega arith)
+    cycle.Lts-passed.spec (passed-cs t) (at passed t) (rank passed .post) (λ c. omega arith) (λ c κs. search needs) (λ c κs. omega arith)
     (λ c κs. let after-reached = c .before .before .before in let start = after-reached .before .before .before .before .before in
     both (omega (arith, left-at)) (args-ready-at (c .raised .ensures) (args-with (after-reached .reached .ensures .by [] .label) (start .pre .1))))
     (λ c. search needs) (λ c. search needs) (λ c. search (passed-gave, args-gave-at))

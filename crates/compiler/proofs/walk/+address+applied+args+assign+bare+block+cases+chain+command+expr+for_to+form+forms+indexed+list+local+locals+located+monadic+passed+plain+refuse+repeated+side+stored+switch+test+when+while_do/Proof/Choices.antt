@@ -1,6 +1,5 @@
 -- IF, TEST and SWITCHON.
 use Rattle.compiler.proofs as proofs
-use proofs.walk as walk
 use proofs.steps as steps
 use Rattle.compiler.proofs.walk.+address+applied+args+assign+bare+block+cases+chain+command+expr+for_to+form+forms+indexed+list+local+locals+located+monadic+passed+plain+refuse+repeated+side+stored+switch+test+when+while_do as cycle
 use Rattle.compiler.proofs.Switches.{CasesPart, cases-begin, case-part, cases-next, cases-end, switch-value, switch-few, switch-cases}
@@ -9,18 +8,17 @@ use Rattle.compiler.specs.Commands.{ReadyCases}
 use Rattle.compiler.proofs.Conditions.{test-first, test-body, test-rest, test-gave}
 use Rattle.laws.proofs.Basics.{ℕ, _+_, _-_, _^_, _≤_, _≡_, refl, _∙_, length, arith, needs}
 use Rattle.compiler.proofs.Guards.{guard-test, guard-body, guard-gave}
-use cycle.Proof.Ranks.{at, below, both, three, six, seven, nine, bare-rank, cases-rank, command-rank, expr-rank, switch-rank, test-rank, when-rank}
+use cycle.Proof.Ranks.{rank, at, calls, both, three, six, seven, nine, bare, cases, command, expr, switch, test, when}
 
 abbrev when-cs : ℕ → cycle.Lts-when.Claims
 when-cs t =
-    seven (steps.node_at.Reads.Asked, steps.node_at.Reads.Learnt) (steps.fresh.Reads.Asked, steps.fresh.Reads.Learnt)
-    (below expr-rank t, walk.expr.Reads.Post) (steps.jump_unless.Reads.Asked, steps.jump_unless.Reads.Learnt)
-    (steps.put_to.Reads.Asked, steps.put_to.Reads.Learnt) (below command-rank t, walk.command.Reads.Post)
+    seven (steps.node_at.Reads.Asked, steps.node_at.Reads.Learnt) (steps.fresh.Reads.Asked, steps.fresh.Reads.Learnt) (calls expr t)
+    (steps.jump_unless.Reads.Asked, steps.jump_unless.Reads.Learnt) (steps.put_to.Reads.Asked, steps.put_to.Reads.Learnt) (calls command t)
     (steps.mark.Reads.Asked, steps.mark.Reads.Learnt)
 
-pub when-ok : {M : Type 1} (t : ℕ) → cycle.Lts-when.Closed (when-cs t) (at when-rank t) walk.when.Reads.Post M
+pub when-ok : {M : Type 1} (t : ℕ) → cycle.Lts-when.Closed (when-cs t) (at when t) (rank when .post) M
 when-ok t =
-    cycle.Lts-when.spec (when-cs t) (at when-rank t) walk.when.Reads.Post (λ c κs. search needs) (λ c κs. search needs) (λ c κs. omega arith)
+    cycle.Lts-when.spec (when-cs t) (at when t) (rank when .post) (λ c κs. search needs) (λ c κs. search needs) (λ c κs. omega arith)
     (λ c κs. search (needs, guard-test)) (λ c κs. search needs) (λ c κs. search needs)
     (λ c κs. let after-put-to = c .before .before .before .before in
     let after-expr = after-put-to .before .before .before .before .before .before .before in
@@ -39,13 +37,12 @@ when-ok t =
 
 abbrev test-cs : ℕ → cycle.Lts-test.Claims
 test-cs t =
-    six (steps.node_at.Reads.Asked, steps.node_at.Reads.Learnt) (steps.fresh.Reads.Asked, steps.fresh.Reads.Learnt)
-    (below expr-rank t, walk.expr.Reads.Post) (steps.put_to.Reads.Asked, steps.put_to.Reads.Learnt) (below command-rank t, walk.command.Reads.Post)
-    (steps.mark.Reads.Asked, steps.mark.Reads.Learnt)
+    six (steps.node_at.Reads.Asked, steps.node_at.Reads.Learnt) (steps.fresh.Reads.Asked, steps.fresh.Reads.Learnt) (calls expr t)
+    (steps.put_to.Reads.Asked, steps.put_to.Reads.Learnt) (calls command t) (steps.mark.Reads.Asked, steps.mark.Reads.Learnt)
 
-pub test-ok : {M : Type 1} (t : ℕ) → cycle.Lts-test.Closed (test-cs t) (at test-rank t) walk.test.Reads.Post M
+pub test-ok : {M : Type 1} (t : ℕ) → cycle.Lts-test.Closed (test-cs t) (at test t) (rank test .post) M
 test-ok t =
-    cycle.Lts-test.spec (test-cs t) (at test-rank t) walk.test.Reads.Post (λ c κs. search needs) (λ c κs. search needs) (λ c κs. search needs)
+    cycle.Lts-test.spec (test-cs t) (at test t) (rank test .post) (λ c κs. search needs) (λ c κs. search needs) (λ c κs. search needs)
     (λ c κs. omega arith)
     (λ c κs. let after-node-at3 = c .before .before .before in let after-node-at2 = after-node-at3 .before .before in
     let after-node-at = after-node-at2 .before .before in let start = after-node-at .before .before .before .before .before in
@@ -99,13 +96,12 @@ test-ok t =
 
 abbrev switch-cs : ℕ → cycle.Lts-switch.Claims
 switch-cs t =
-    nine (steps.node_at.Reads.Asked, steps.node_at.Reads.Learnt) (below expr-rank t, walk.expr.Reads.Post)
-    (steps.count.Reads.Asked, steps.count.Reads.Learnt) (steps.fresh.Reads.Asked, steps.fresh.Reads.Learnt)
-    (proofs.labels.doubled.Reads.Asked, proofs.labels.doubled.Reads.Learnt) (proofs.labels.table.Reads.Asked, proofs.labels.table.Reads.Learnt)
-    (steps.in_switch.Reads.Asked, steps.in_switch.Reads.Learnt) (below cases-rank t, walk.cases.Reads.Post)
+    nine (steps.node_at.Reads.Asked, steps.node_at.Reads.Learnt) (calls expr t) (steps.count.Reads.Asked, steps.count.Reads.Learnt)
+    (steps.fresh.Reads.Asked, steps.fresh.Reads.Learnt) (proofs.labels.doubled.Reads.Asked, proofs.labels.doubled.Reads.Learnt)
+    (proofs.labels.table.Reads.Asked, proofs.labels.table.Reads.Learnt) (steps.in_switch.Reads.Asked, steps.in_switch.Reads.Learnt) (calls cases t)
     (steps.mark.Reads.Asked, steps.mark.Reads.Learnt)
 
-switch-fit : (t : ℕ) (c : cycle.Lts-switch.After-count (switch-cs t) (at switch-rank t) walk.switch.Reads.Post)
+switch-fit : (t : ℕ) (c : cycle.Lts-switch.After-count (switch-cs t) (at switch t) (rank switch .post))
     → let after-expr = c .before .before .before .before .before .before in
     (after-expr .expr .result .label + c .count .result + 1 ≤ 2 ^ 29) ×
     (after-expr .before .before .before .before .before .before .before .before .before .args .st .label ≤ after-expr .expr .result .label)
@@ -115,9 +111,9 @@ switch-fit t c =
     switch-few _ (after-node-at .node-at .ensures) (start .pre .1 .1 .is) refl (start .args .source .now) (after-expr .expr .ensures)
     (c .count .ensures) (start .pre .1 .0)
 
-pub switch-ok : {M : Type 1} (t : ℕ) → cycle.Lts-switch.Closed (switch-cs t) (at switch-rank t) walk.switch.Reads.Post M
+pub switch-ok : {M : Type 1} (t : ℕ) → cycle.Lts-switch.Closed (switch-cs t) (at switch t) (rank switch .post) M
 switch-ok t =
-    cycle.Lts-switch.spec (switch-cs t) (at switch-rank t) walk.switch.Reads.Post (λ c κs. search needs) (λ c. omega arith)
+    cycle.Lts-switch.spec (switch-cs t) (at switch t) (rank switch .post) (λ c κs. search needs) (λ c. omega arith)
     (λ c κs. search (needs, switch-value)) (λ c κs. omega arith) (λ c. omega (arith, switch-fit t c)) (λ c κs. omega (arith, switch-fit t c))
     (λ c κs. let after-node-at = c .before .before .before .before .before .before .before .before .before .before .before .before in
     let start = after-node-at .before .before .before .before .before in
@@ -152,18 +148,16 @@ switch-ok t =
     (c .before .before .mark .ensures))
 
 abbrev cases-cs : ℕ → cycle.Lts-cases.Claims
-cases-cs t =
-    three (proofs.scope.entry.Reads.Asked, proofs.scope.entry.Reads.Learnt) (steps.mark.Reads.Asked, steps.mark.Reads.Learnt)
-    (below bare-rank t, walk.bare.Reads.Post)
+cases-cs t = three (proofs.scope.entry.Reads.Asked, proofs.scope.entry.Reads.Learnt) (steps.mark.Reads.Asked, steps.mark.Reads.Learnt) (calls bare t)
 
 abbrev cases-Inv-loop : cycle.Lts-cases.InvT-loop
 cases-Inv-loop source s₀ from end text₀ here ways first at₀ k₀ r₀ s text at k r =
     (length s ≡ length s₀) × (length text ≡ length text₀) × (k ≤ at) ×
     ((y : ReadyCases s₀ from end here r₀) → CasesPart source text₀ ways first y s text at k r)
 
-pub cases-ok : {M : Type 1} (t : ℕ) → cycle.Lts-cases.Closed (cases-cs t) (at cases-rank t) walk.cases.Reads.Post M
+pub cases-ok : {M : Type 1} (t : ℕ) → cycle.Lts-cases.Closed (cases-cs t) (at cases t) (rank cases .post) M
 cases-ok t =
-    cycle.Lts-cases.spec (cases-cs t) (at cases-rank t) walk.cases.Reads.Post cases-Inv-loop
+    cycle.Lts-cases.spec (cases-cs t) (at cases t) (rank cases .post) cases-Inv-loop
     (λ source s₀ from end text₀ here ways first at₀ k₀ r₀ s text at k r. end - at) (λ c. search (needs, cases-begin)) (λ c. omega arith)
     (λ c κs. search needs) (λ c. omega arith) (λ c. omega arith) (λ c κs. search needs)
     (λ c κs. let after-mark = c .before .before .before .before in let after-entry = after-mark .before .before in

@@ -1,6 +1,5 @@
 -- A command: its labels, and then by its kind.
 use Rattle.compiler.proofs as proofs
-use proofs.walk as walk
 use proofs.steps as steps
 use Rattle.compiler.proofs.walk.+address+applied+args+assign+bare+block+cases+chain+command+expr+for_to+form+forms+indexed+list+local+locals+located+monadic+passed+plain+refuse+repeated+side+stored+switch+test+when+while_do as cycle
 use Rattle.compiler.proofs.Labelled.{labelled-labels, labelled-bare, labelled-gave, unlabelled-gave, bare-empty, labelled-rest, bare-labelled}
@@ -13,17 +12,17 @@ use Rattle.compiler.proofs.Guards.{when-if, when-unless}
 use Rattle.compiler.proofs.Commands.{result-part, result-gave}
 use Rattle.compiler.proofs.Expressions.{ready-at, left-at}
 use borrow.Fn.PlainCycle.{is}
-use cycle.Proof.Ranks.{at, below, both, three, eleven, assign-rank, bare-rank, block-rank, command-rank, expr-rank, for-to-rank, plain-rank}
-use cycle.Proof.Ranks.{repeated-rank, switch-rank, test-rank, when-rank, while-do-rank}
+use cycle.Proof.Ranks.{rank, at, calls, both, three, eleven, assign, bare, block, command, expr, for-to, plain, repeated, switch, test, when}
+use cycle.Proof.Ranks.{while-do}
 
 abbrev command-cs : ℕ → cycle.Lts-command.Claims
 command-cs t =
     three (steps.node_at.Reads.Asked, steps.node_at.Reads.Learnt) (proofs.labels.misplaced.Reads.Asked, proofs.labels.misplaced.Reads.Learnt)
-    (below bare-rank t, walk.bare.Reads.Post)
+    (calls bare t)
 
-pub command-ok : {M : Type 1} (t : ℕ) → cycle.Lts-command.Closed (command-cs t) (at command-rank t) walk.command.Reads.Post M
+pub command-ok : {M : Type 1} (t : ℕ) → cycle.Lts-command.Closed (command-cs t) (at command t) (rank command .post) M
 command-ok t =
-    cycle.Lts-command.spec (command-cs t) (at command-rank t) walk.command.Reads.Post (λ c κs. search needs) (λ c. omega arith)
+    cycle.Lts-command.spec (command-cs t) (at command t) (rank command .post) (λ c κs. search needs) (λ c. omega arith)
     (λ c κs. labelled-labels _ (c .before .before .before .before .node-at .ensures) (c .before .before .if1 .taken) refl
     (c .before .before .before .before .before .before .before .before .before .pre .1) .small)
     (λ c κs. let after-if1 = c .before .before .before .before .before in let after-node-at = after-if1 .before .before in
@@ -32,13 +31,11 @@ command-ok t =
     (λ c. search needs) (λ c. search labelled-gave) (λ c κs. search needs) (λ c. search needs) (λ c. search needs) (λ c. search unlabelled-gave)
 
 abbrev bare-cs : ℕ → cycle.Lts-bare.Claims
-bare-cs t =
-    three (steps.node_at.Reads.Asked, steps.node_at.Reads.Learnt) (steps.inside.Reads.Asked, steps.inside.Reads.Learnt)
-    (below repeated-rank t, walk.repeated.Reads.Post)
+bare-cs t = three (steps.node_at.Reads.Asked, steps.node_at.Reads.Learnt) (steps.inside.Reads.Asked, steps.inside.Reads.Learnt) (calls repeated t)
 
-pub bare-ok : {M : Type 1} (t : ℕ) → cycle.Lts-bare.Closed (bare-cs t) (at bare-rank t) walk.bare.Reads.Post M
+pub bare-ok : {M : Type 1} (t : ℕ) → cycle.Lts-bare.Closed (bare-cs t) (at bare t) (rank bare .post) M
 bare-ok t =
-    cycle.Lts-bare.spec (bare-cs t) (at bare-rank t) walk.bare.Reads.Post (λ c κs. search needs) (λ c. omega arith) (λ c. search needs)
+    cycle.Lts-bare.spec (bare-cs t) (at bare t) (rank bare .post) (λ c κs. search needs) (λ c. omega arith) (λ c. search needs)
     (λ c. search bare-empty) (λ c κs. search needs)
     (λ c κs. let after-if2 = c .before .before .before in let after-if1 = after-if2 .before .before .before in
     let after-node-at = after-if1 .before .before in let start = after-node-at .before .before .before .before .before in
@@ -53,14 +50,13 @@ bare-ok t =
 
 abbrev plain-cs : ℕ → cycle.Lts-plain.Claims
 plain-cs t =
-    eleven (steps.node_at.Reads.Asked, steps.node_at.Reads.Learnt) (below expr-rank t, walk.expr.Reads.Post)
-    (steps.leave.Reads.Asked, steps.leave.Reads.Learnt) (below when-rank t, walk.when.Reads.Post) (below block-rank t, walk.block.Reads.Post)
-    (below assign-rank t, walk.assign.Reads.Post) (below test-rank t, walk.test.Reads.Post) (below while-do-rank t, walk.while_do.Reads.Post)
-    (below for-to-rank t, walk.for_to.Reads.Post) (below switch-rank t, walk.switch.Reads.Post) (steps.away.Reads.Asked, steps.away.Reads.Learnt)
+    eleven (steps.node_at.Reads.Asked, steps.node_at.Reads.Learnt) (calls expr t) (steps.leave.Reads.Asked, steps.leave.Reads.Learnt) (calls when t)
+    (calls block t) (calls assign t) (calls test t) (calls while-do t) (calls for-to t) (calls switch t)
+    (steps.away.Reads.Asked, steps.away.Reads.Learnt)
 
-pub plain-ok : {M : Type 1} (t : ℕ) → cycle.Lts-plain.Closed (plain-cs t) (at plain-rank t) walk.plain.Reads.Post M
+pub plain-ok : {M : Type 1} (t : ℕ) → cycle.Lts-plain.Closed (plain-cs t) (at plain t) (rank plain .post) M
 plain-ok t =
-    cycle.Lts-plain.spec (plain-cs t) (at plain-rank t) walk.plain.Reads.Post (λ c κs. search needs) (λ c κs. search (needs, result-part))
+    cycle.Lts-plain.spec (plain-cs t) (at plain t) (rank plain .post) (λ c κs. search needs) (λ c κs. search (needs, result-part))
     (λ c κs. search needs) (λ c κs. search (needs, when-if)) (λ c κs. search (needs, when-unless)) (λ c κs. search needs) (λ c. omega arith)
     (λ c. omega arith) (λ c κs. search (needs, assigned-part)) (λ c κs. search needs) (λ c κs. search (needs, while-while))
     (λ c κs. search (needs, while-until)) (λ c κs. (omega arith, (search needs, record { is = cc })))

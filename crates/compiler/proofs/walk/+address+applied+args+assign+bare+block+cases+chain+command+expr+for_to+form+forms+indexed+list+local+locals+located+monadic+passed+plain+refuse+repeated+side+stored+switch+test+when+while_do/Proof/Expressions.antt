@@ -1,6 +1,5 @@
 -- An expression, operators of one binding level, a monadic operator.
 use Rattle.compiler.proofs as proofs
-use proofs.walk as walk
 use proofs.steps as steps
 use Rattle.compiler.proofs.walk.+address+applied+args+assign+bare+block+cases+chain+command+expr+for_to+form+forms+indexed+list+local+locals+located+monadic+passed+plain+refuse+repeated+side+stored+switch+test+when+while_do as cycle
 use Rattle.code.specs.Generate.{exprCode, exprLabels, monadicAct}
@@ -14,20 +13,19 @@ use Rattle.compiler.proofs.Commands.{valof-part, valof-gave, gave-c-at}
 use Rattle.compiler.proofs.Expressions.{ChainPart, chain-begin, chain-part, chain-next, chain-end, number-gave, string-gave, name-gave}
 use Rattle.compiler.proofs.Expressions.{bracket-part, bracket-gave, dyadic-left, dyadic-rest, dyadic-gave, ready-at, gave-at, chain-ready-at}
 use Rattle.compiler.proofs.Expressions.{chain-gave-at, left-at, some-left}
-use cycle.Proof.Ranks.{at, below, both, four, six, fourteen, address-rank, applied-rank, chain-rank, command-rank, expr-rank, monadic-rank}
+use cycle.Proof.Ranks.{rank, at, calls, both, four, six, fourteen, address, applied, chain, command, expr, monadic}
 
 abbrev expr-cs : ℕ → cycle.Lts-expr.Claims
 expr-cs t =
     fourteen (steps.node_at.Reads.Asked, steps.node_at.Reads.Learnt) (steps.put.Reads.Asked, steps.put.Reads.Learnt)
     (steps.put_to.Reads.Asked, steps.put_to.Reads.Learnt) (proofs.scope.lookup.Reads.Asked, proofs.scope.lookup.Reads.Learnt)
-    (steps.value.Reads.Asked, steps.value.Reads.Learnt) (steps.inside.Reads.Asked, steps.inside.Reads.Learnt)
-    (below expr-rank t, walk.expr.Reads.Post) (below chain-rank t, walk.chain.Reads.Post) (steps.fresh.Reads.Asked, steps.fresh.Reads.Learnt)
-    (steps.in_valof.Reads.Asked, steps.in_valof.Reads.Learnt) (below command-rank t, walk.command.Reads.Post)
-    (steps.mark.Reads.Asked, steps.mark.Reads.Learnt) (below monadic-rank t, walk.monadic.Reads.Post) (below applied-rank t, walk.applied.Reads.Post)
+    (steps.value.Reads.Asked, steps.value.Reads.Learnt) (steps.inside.Reads.Asked, steps.inside.Reads.Learnt) (calls expr t) (calls chain t)
+    (steps.fresh.Reads.Asked, steps.fresh.Reads.Learnt) (steps.in_valof.Reads.Asked, steps.in_valof.Reads.Learnt) (calls command t)
+    (steps.mark.Reads.Asked, steps.mark.Reads.Learnt) (calls monadic t) (calls applied t)
 
-pub expr-ok : {M : Type 1} (t : ℕ) → cycle.Lts-expr.Closed (expr-cs t) (at expr-rank t) walk.expr.Reads.Post M
+pub expr-ok : {M : Type 1} (t : ℕ) → cycle.Lts-expr.Closed (expr-cs t) (at expr t) (rank expr .post) M
 expr-ok t =
-    cycle.Lts-expr.spec (expr-cs t) (at expr-rank t) walk.expr.Reads.Post (λ c κs. search needs) (λ c κs. search needs) (λ c. omega arith)
+    cycle.Lts-expr.spec (expr-cs t) (at expr t) (rank expr .post) (λ c κs. search needs) (λ c κs. search needs) (λ c. omega arith)
     (λ c κs. search needs) (λ c κs. omega arith) (λ c κs. search needs) (λ c κs. search needs)
     (λ c κs. (omega (arith, left-at, some-left), search (ready-at, bracket-part))) (λ c κs. search needs) (λ c. omega arith)
     (λ c κs. both (omega (arith, c .before .before .before .before .before .before .before .before .before .before .pre .0, left-at, some-left))
@@ -72,18 +70,18 @@ expr-ok t =
 abbrev chain-cs : ℕ → cycle.Lts-chain.Claims
 chain-cs t =
     six (proofs.scope.entry.Reads.Asked, proofs.scope.entry.Reads.Learnt) (steps.keep.Reads.Asked, steps.keep.Reads.Learnt)
-    (steps.raised.Reads.Asked, steps.raised.Reads.Learnt) (below expr-rank t, walk.expr.Reads.Post)
-    (steps.act_of.Reads.Asked, steps.act_of.Reads.Learnt) (steps.operate.Reads.Asked, steps.operate.Reads.Learnt)
+    (steps.raised.Reads.Asked, steps.raised.Reads.Learnt) (calls expr t) (steps.act_of.Reads.Asked, steps.act_of.Reads.Learnt)
+    (steps.operate.Reads.Asked, steps.operate.Reads.Learnt)
 
 abbrev chain-Inv-loop : cycle.Lts-chain.InvT-loop
 chain-Inv-loop source s₀ from end text₀ here at₀ r₀ s text at r =
     (length s ≡ length s₀) × (length text ≡ length text₀) × ((y : ReadyChain s₀ from end here r₀) → ChainPart source text₀ y s text at r)
 
-pub chain-ok : {M : Type 1} (t : ℕ) → cycle.Lts-chain.Closed (chain-cs t) (at chain-rank t) walk.chain.Reads.Post M
+pub chain-ok : {M : Type 1} (t : ℕ) → cycle.Lts-chain.Closed (chain-cs t) (at chain t) (rank chain .post) M
 chain-ok t =
-    cycle.Lts-chain.spec (chain-cs t) (at chain-rank t) walk.chain.Reads.Post chain-Inv-loop
-    (λ source s₀ from end text₀ here at₀ r₀ s text at r. end - at) (λ c. search (needs, chain-begin)) (λ c κs. search needs) (λ c. omega arith)
-    (λ c κs. search needs) (λ c. omega arith) (λ c. omega (arith, c .before .before .entry .ensures .1)) (λ c κs. omega arith) (λ c κs. omega arith)
+    cycle.Lts-chain.spec (chain-cs t) (at chain t) (rank chain .post) chain-Inv-loop (λ source s₀ from end text₀ here at₀ r₀ s text at r. end - at)
+    (λ c. search (needs, chain-begin)) (λ c κs. search needs) (λ c. omega arith) (λ c κs. search needs) (λ c. omega arith)
+    (λ c. omega (arith, c .before .before .entry .ensures .1)) (λ c κs. omega arith) (λ c κs. omega arith)
     (λ c κs. let after-keep = c .before .before .before .before .before in let after-entry2 = after-keep .before .before in
     let after-entry = after-entry2 .before .before in let after-loop-test = after-entry .before .before in
     let after-loop = after-loop-test .before in let start = after-loop .before .before .before .before in
@@ -109,14 +107,13 @@ chain-ok t =
 
 abbrev monadic-cs : ℕ → cycle.Lts-monadic.Claims
 monadic-cs t =
-    four (steps.node_at.Reads.Asked, steps.node_at.Reads.Learnt) (below address-rank t, walk.address.Reads.Post)
-    (below expr-rank t, walk.expr.Reads.Post) (steps.put.Reads.Asked, steps.put.Reads.Learnt)
+    four (steps.node_at.Reads.Asked, steps.node_at.Reads.Learnt) (calls address t) (calls expr t) (steps.put.Reads.Asked, steps.put.Reads.Learnt)
 
-pub monadic-ok : {M : Type 1} (t : ℕ) → cycle.Lts-monadic.Closed (monadic-cs t) (at monadic-rank t) walk.monadic.Reads.Post M
+pub monadic-ok : {M : Type 1} (t : ℕ) → cycle.Lts-monadic.Closed (monadic-cs t) (at monadic t) (rank monadic .post) M
 unfolding exprCode ofExpr exprLabels monadicAct
 monadic-ok t =
-    cycle.Lts-monadic.spec (monadic-cs t) (at monadic-rank t) walk.monadic.Reads.Post (λ c κs. search needs) (λ c κs. search needs)
-    (λ c. search needs) (λ c. search needs) (λ c. search monadic-address) (λ c κs. search needs) (λ c κs. search needs) (λ c κs. search needs)
-    (λ c κs. search needs) (λ c. search needs) (λ c. search needs) (λ c. search (monadic-acts 49 1 refl (λ x E n. refl))) (λ c. search needs)
-    (λ c. search needs) (λ c. search (monadic-acts 36 2 refl (λ x E n. refl))) (λ c. search needs) (λ c. search needs)
+    cycle.Lts-monadic.spec (monadic-cs t) (at monadic t) (rank monadic .post) (λ c κs. search needs) (λ c κs. search needs) (λ c. search needs)
+    (λ c. search needs) (λ c. search monadic-address) (λ c κs. search needs) (λ c κs. search needs) (λ c κs. search needs) (λ c κs. search needs)
+    (λ c. search needs) (λ c. search needs) (λ c. search (monadic-acts 49 1 refl (λ x E n. refl))) (λ c. search needs) (λ c. search needs)
+    (λ c. search (monadic-acts 36 2 refl (λ x E n. refl))) (λ c. search needs) (λ c. search needs)
     (λ c. search (monadic-acts 11 3 refl (λ x E n. refl))) (λ c. search needs) (λ c. search needs) (λ c. search monadic-other)

@@ -1,6 +1,5 @@
 -- WHILE, FOR, and a command with REPEAT forms.
 use Rattle.compiler.proofs as proofs
-use proofs.walk as walk
 use proofs.steps as steps
 use Rattle.compiler.proofs.walk.+address+applied+args+assign+bare+block+cases+chain+command+expr+for_to+form+forms+indexed+list+local+locals+located+monadic+passed+plain+refuse+repeated+side+stored+switch+test+when+while_do as cycle
 use Rattle.compiler.specs.Commands.{ReadyForms}
@@ -11,20 +10,18 @@ use Rattle.compiler.proofs.RepeatForms.{repeated-body, repeated-forms, 
 use Rattle.laws.proofs.Basics.{ℕ, _+_, _-_, _*_, _^_, _≤_, _≡_, refl, _∙_, length, arith, needs}
 use Rattle.compiler.proofs.Commands.{gave-c-at, gave-u-at}
 use Rattle.compiler.proofs.Expressions.{ready-at, gave-at, left-at}
-use cycle.Proof.Ranks.{at, below, both, three, four, eight, fifteen, command-rank, expr-rank, for-to-rank, form-rank, forms-rank, plain-rank}
-use cycle.Proof.Ranks.{repeated-rank, while-do-rank}
+use cycle.Proof.Ranks.{rank, at, calls, both, three, four, eight, fifteen, command, expr, for-to, form, forms, plain, repeated, while-do}
 
 abbrev while-do-cs : ℕ → cycle.Lts-while_do.Claims
 while-do-cs t =
     eight (steps.node_at.Reads.Asked, steps.node_at.Reads.Learnt) (steps.fresh.Reads.Asked, steps.fresh.Reads.Learnt)
-    (steps.mark.Reads.Asked, steps.mark.Reads.Learnt) (below expr-rank t, walk.expr.Reads.Post)
-    (steps.jump_unless.Reads.Asked, steps.jump_unless.Reads.Learnt) (steps.put_to.Reads.Asked, steps.put_to.Reads.Learnt)
-    (steps.in_loop.Reads.Asked, steps.in_loop.Reads.Learnt) (below command-rank t, walk.command.Reads.Post)
+    (steps.mark.Reads.Asked, steps.mark.Reads.Learnt) (calls expr t) (steps.jump_unless.Reads.Asked, steps.jump_unless.Reads.Learnt)
+    (steps.put_to.Reads.Asked, steps.put_to.Reads.Learnt) (steps.in_loop.Reads.Asked, steps.in_loop.Reads.Learnt) (calls command t)
 
-pub while-do-ok : {M : Type 1} (t : ℕ) → cycle.Lts-while_do.Closed (while-do-cs t) (at while-do-rank t) walk.while_do.Reads.Post M
+pub while-do-ok : {M : Type 1} (t : ℕ) → cycle.Lts-while_do.Closed (while-do-cs t) (at while-do t) (rank while-do .post) M
 while-do-ok t =
-    cycle.Lts-while_do.spec (while-do-cs t) (at while-do-rank t) walk.while_do.Reads.Post (λ c κs. search needs) (λ c κs. search needs)
-    (λ c κs. omega arith) (λ c κs. search needs)
+    cycle.Lts-while_do.spec (while-do-cs t) (at while-do t) (rank while-do .post) (λ c κs. search needs) (λ c κs. search needs) (λ c κs. omega arith)
+    (λ c κs. search needs)
     (λ c κs. let after-mark = c .before .before .before .before in let after-fresh = after-mark .before .before in
     let after-node-at2 = after-fresh .before in let after-node-at = after-node-at2 .before .before in
     let start = after-node-at .before .before .before .before .before in both (omega (arith, start .pre .0)) (while-test _ _
@@ -66,17 +63,17 @@ while-do-ok t =
 abbrev for-to-cs : ℕ → cycle.Lts-for_to.Claims
 for-to-cs t =
     fifteen (steps.node_at.Reads.Asked, steps.node_at.Reads.Learnt) (steps.less.Reads.Asked, steps.less.Reads.Learnt)
-    (steps.fresh.Reads.Asked, steps.fresh.Reads.Learnt) (below expr-rank t, walk.expr.Reads.Post) (steps.keep.Reads.Asked, steps.keep.Reads.Learnt)
+    (steps.fresh.Reads.Asked, steps.fresh.Reads.Learnt) (calls expr t) (steps.keep.Reads.Asked, steps.keep.Reads.Learnt)
     (steps.raised.Reads.Asked, steps.raised.Reads.Learnt) (proofs.labels.by_constant.Reads.Asked, proofs.labels.by_constant.Reads.Learnt)
     (steps.blame.Reads.Asked, steps.blame.Reads.Learnt) (steps.for_test.Reads.Asked, steps.for_test.Reads.Learnt)
     (proofs.scope.push.Reads.Asked, proofs.scope.push.Reads.Learnt) (proofs.scope.push_name.Reads.Asked, proofs.scope.push_name.Reads.Learnt)
-    (steps.set_at.Reads.Asked, steps.set_at.Reads.Learnt) (steps.in_loop.Reads.Asked, steps.in_loop.Reads.Learnt)
-    (below command-rank t, walk.command.Reads.Post) (steps.for_step.Reads.Asked, steps.for_step.Reads.Learnt)
+    (steps.set_at.Reads.Asked, steps.set_at.Reads.Learnt) (steps.in_loop.Reads.Asked, steps.in_loop.Reads.Learnt) (calls command t)
+    (steps.for_step.Reads.Asked, steps.for_step.Reads.Learnt)
 
 abbrev ForToTested : ℕ → Type 0
-ForToTested t = cycle.Lts-for_to.After-for-test (for-to-cs t) (at for-to-rank t) walk.for_to.Reads.Post
+ForToTested t = cycle.Lts-for_to.After-for-test (for-to-cs t) (at for-to t) (rank for-to .post)
 
-abbrev for-to-start : (t : ℕ) → ForToTested t → cycle.Lts-for_to.Start (for-to-cs t) (at for-to-rank t) walk.for_to.Reads.Post
+abbrev for-to-start : (t : ℕ) → ForToTested t → cycle.Lts-for_to.Start (for-to-cs t) (at for-to t) (rank for-to .post)
 for-to-start t c = c .before .before .before .before .before .before .before .before .before .before .before .before .before .before .before .before
     .before .before .before .before .before .before .before .before .before .before .before .before .before .before .before .before .before .before
     .before .before .before .before .before .before
@@ -90,9 +87,9 @@ for-to-room t c =
     for-room _ _ _ (after-node-at .node-at .ensures) (after-node-at2 .node-at2 .ensures) (after-less .less .ensures)
     (after-node-at3 .node-at3 .ensures) (start .pre .1 .1 .is) (start .pre .1 .0)
 
-pub for-to-ok : {M : Type 1} (t : ℕ) → cycle.Lts-for_to.Closed (for-to-cs t) (at for-to-rank t) walk.for_to.Reads.Post M
+pub for-to-ok : {M : Type 1} (t : ℕ) → cycle.Lts-for_to.Closed (for-to-cs t) (at for-to t) (rank for-to .post) M
 for-to-ok t =
-    cycle.Lts-for_to.spec (for-to-cs t) (at for-to-rank t) walk.for_to.Reads.Post (λ c κs. search needs) (λ c κs. search needs) (λ c κs. search needs)
+    cycle.Lts-for_to.spec (for-to-cs t) (at for-to t) (rank for-to .post) (λ c κs. search needs) (λ c κs. search needs) (λ c κs. search needs)
     (λ c κs. search needs) (λ c κs. omega arith)
     (λ c κs. let after-node-at3 = c .before .before .before in let after-less = after-node-at3 .before .before in
     let after-node-at2 = after-less .before in let after-node-at = after-node-at2 .before .before in
@@ -209,29 +206,27 @@ for-to-ok t =
     (c .before .before .for-step .ensures))
 
 abbrev form-cs : ℕ → cycle.Lts-form.Claims
-form-cs t =
-    three (steps.put_to.Reads.Asked, steps.put_to.Reads.Learnt) (below expr-rank t, walk.expr.Reads.Post)
-    (steps.jump_when.Reads.Asked, steps.jump_when.Reads.Learnt)
+form-cs t = three (steps.put_to.Reads.Asked, steps.put_to.Reads.Learnt) (calls expr t) (steps.jump_when.Reads.Asked, steps.jump_when.Reads.Learnt)
 
-pub form-ok : {M : Type 1} (t : ℕ) → cycle.Lts-form.Closed (form-cs t) (at form-rank t) walk.form.Reads.Post M
+pub form-ok : {M : Type 1} (t : ℕ) → cycle.Lts-form.Closed (form-cs t) (at form t) (rank form .post) M
 form-ok t =
-    cycle.Lts-form.spec (form-cs t) (at form-rank t) walk.form.Reads.Post (λ c κs. search needs) (λ c. search needs) (λ c. search form-alone)
+    cycle.Lts-form.spec (form-cs t) (at form t) (rank form .post) (λ c κs. search needs) (λ c. search needs) (λ c. search form-alone)
     (λ c κs. (omega arith, c .before .before .before .before .before .before .pre .1 .on (c .before .before .if1 .left))) (λ c κs. search needs)
     (λ c κs. search needs) (λ c. search needs) (λ c. search needs) (λ c. search form-tested)
 
 abbrev forms-cs : ℕ → cycle.Lts-forms.Claims
 forms-cs t =
-    four (proofs.scope.entry.Reads.Asked, proofs.scope.entry.Reads.Learnt) (steps.mark.Reads.Asked, steps.mark.Reads.Learnt)
-    (below form-rank t, walk.form.Reads.Post) (steps.less.Reads.Asked, steps.less.Reads.Learnt)
+    four (proofs.scope.entry.Reads.Asked, proofs.scope.entry.Reads.Learnt) (steps.mark.Reads.Asked, steps.mark.Reads.Learnt) (calls form t)
+    (steps.less.Reads.Asked, steps.less.Reads.Learnt)
 
 abbrev forms-Inv-loop : cycle.Lts-forms.InvT-loop
 forms-Inv-loop source s₀ from end text₀ here innermost at₀ own₀ r₀ s text at own r =
     (length s ≡ length s₀) × (length text ≡ length text₀) × (own ≤ innermost) ×
     ((y : ReadyForms s₀ from end here r₀) → FormsPart source text₀ innermost y s text at own r)
 
-pub forms-ok : {M : Type 1} (t : ℕ) → cycle.Lts-forms.Closed (forms-cs t) (at forms-rank t) walk.forms.Reads.Post M
+pub forms-ok : {M : Type 1} (t : ℕ) → cycle.Lts-forms.Closed (forms-cs t) (at forms t) (rank forms .post) M
 forms-ok t =
-    cycle.Lts-forms.spec (forms-cs t) (at forms-rank t) walk.forms.Reads.Post forms-Inv-loop
+    cycle.Lts-forms.spec (forms-cs t) (at forms t) (rank forms .post) forms-Inv-loop
     (λ source s₀ from end text₀ here innermost at₀ own₀ r₀ s text at own r. end - at) (λ c. search (needs, forms-begin)) (λ c κs. search needs)
     (λ c. omega arith) (λ c κs. search needs) (λ c. omega arith) (λ c. omega arith) (λ c. omega arith) (λ c κs. search needs)
     (λ c κs. let after-mark = c .before .before .before .before in let after-entry2 = after-mark .before .before in
@@ -262,19 +257,18 @@ abbrev repeated-cs : ℕ → cycle.Lts-repeated.Claims
 repeated-cs t =
     eight (steps.node_at.Reads.Asked, steps.node_at.Reads.Learnt) (steps.count.Reads.Asked, steps.count.Reads.Learnt)
     (steps.less.Reads.Asked, steps.less.Reads.Learnt) (steps.fresh.Reads.Asked, steps.fresh.Reads.Learnt)
-    (steps.tops.Reads.Asked, steps.tops.Reads.Learnt) (steps.in_loop.Reads.Asked, steps.in_loop.Reads.Learnt)
-    (below plain-rank t, walk.plain.Reads.Post) (below forms-rank t, walk.forms.Reads.Post)
+    (steps.tops.Reads.Asked, steps.tops.Reads.Learnt) (steps.in_loop.Reads.Asked, steps.in_loop.Reads.Learnt) (calls plain t) (calls forms t)
 
-repeated-fit : (t : ℕ) (c : cycle.Lts-repeated.After-count (repeated-cs t) (at repeated-rank t) walk.repeated.Reads.Post) → (1 ≤ c .count .result) ×
+repeated-fit : (t : ℕ) (c : cycle.Lts-repeated.After-count (repeated-cs t) (at repeated t) (rank repeated .post)) → (1 ≤ c .count .result) ×
     (c .before .before .before .before .before .before .before .before .before .before .args .st .label + 3 * c .count .result + 3 ≤ 2 ^ 29)
 repeated-fit t c =
     repeated-few _ (c .before .before .before .before .before .node-at .ensures) (c .before .before .before .if1 .taken) refl (c .count .ensures)
     (c .before .before .before .before .before .before .before .before .before .before .pre .1)
 
-pub repeated-ok : {M : Type 1} (t : ℕ) → cycle.Lts-repeated.Closed (repeated-cs t) (at repeated-rank t) walk.repeated.Reads.Post M
+pub repeated-ok : {M : Type 1} (t : ℕ) → cycle.Lts-repeated.Closed (repeated-cs t) (at repeated t) (rank repeated .post) M
 repeated-ok t =
-    cycle.Lts-repeated.spec (repeated-cs t) (at repeated-rank t) walk.repeated.Reads.Post (λ c κs. search needs) (λ c. omega arith)
-    (λ c κs. omega arith) (λ c. omega (arith, repeated-fit t c)) (λ c. omega (arith, repeated-fit t (search))) (λ c κs. search needs)
+    cycle.Lts-repeated.spec (repeated-cs t) (at repeated t) (rank repeated .post) (λ c κs. search needs) (λ c. omega arith) (λ c κs. omega arith)
+    (λ c. omega (arith, repeated-fit t c)) (λ c. omega (arith, repeated-fit t (search))) (λ c κs. search needs)
     (λ c. omega (arith, repeated-fit t (search))) (λ c κs. omega (arith, repeated-fit t (search))) (λ c κs. omega (arith, repeated-fit t (search)))
     (λ c. omega (arith, repeated-fit t (search))) (λ c. omega (arith, repeated-fit t (search))) (λ c κs. search needs)
     (λ c κs. let after-tops = c .before .before .before .before .before in let after-fresh = after-tops .before .before in

@@ -1,6 +1,5 @@
 -- What @ and := take: an address, a left side, an assignment.
 use Rattle.compiler.proofs as proofs
-use proofs.walk as walk
 use proofs.steps as steps
 use Rattle.compiler.proofs.walk.+address+applied+args+assign+bare+block+cases+chain+command+expr+for_to+form+forms+indexed+list+local+locals+located+monadic+passed+plain+refuse+repeated+side+stored+switch+test+when+while_do as cycle
 use Rattle.laws.proofs.Basics.{ℕ, _-_, _≡_, refl, ap, _∙_, [], length, arith, needs}
@@ -12,19 +11,17 @@ use Rattle.compiler.specs.Assigns.{ReadyAssign}
 use Rattle.compiler.proofs.Vocabulary.{Here, raised}
 use Rattle.compiler.proofs.Calls.{suffixes-ready-at, suffixes-gave-at}
 use Rattle.compiler.proofs.Expressions.{bracket-part, ready-at, gave-at, left-at, some-left}
-use cycle.Proof.Ranks.{at, below, both, four, eight, nine, eleven, address-rank, applied-rank, assign-rank, expr-rank, located-rank, refuse-rank}
-use cycle.Proof.Ranks.{side-rank, stored-rank}
+use cycle.Proof.Ranks.{rank, at, below, calls, both, four, eight, nine, eleven, address, applied, assign, expr, located, refuse, side, stored}
 
 abbrev address-cs : ℕ → cycle.Lts-address.Claims
 address-cs t =
-    eight (steps.node_at.Reads.Asked, steps.node_at.Reads.Learnt) (steps.inside.Reads.Asked, steps.inside.Reads.Learnt)
-    (below address-rank t, walk.address.Reads.Post) (proofs.scope.lookup.Reads.Asked, proofs.scope.lookup.Reads.Learnt)
-    (steps.name_address.Reads.Asked, steps.name_address.Reads.Learnt) (below located-rank t, walk.located.Reads.Post)
-    (below expr-rank t, walk.expr.Reads.Post) (below refuse-rank t, walk.refuse.Reads.Post)
+    eight (steps.node_at.Reads.Asked, steps.node_at.Reads.Learnt) (steps.inside.Reads.Asked, steps.inside.Reads.Learnt) (calls address t)
+    (proofs.scope.lookup.Reads.Asked, proofs.scope.lookup.Reads.Learnt) (steps.name_address.Reads.Asked, steps.name_address.Reads.Learnt)
+    (calls located t) (calls expr t) (calls refuse t)
 
-pub address-ok : {M : Type 1} (t : ℕ) → cycle.Lts-address.Closed (address-cs t) (at address-rank t) walk.address.Reads.Post M
+pub address-ok : {M : Type 1} (t : ℕ) → cycle.Lts-address.Closed (address-cs t) (at address t) (rank address .post) M
 address-ok t =
-    cycle.Lts-address.spec (address-cs t) (at address-rank t) walk.address.Reads.Post (λ c κs. search needs) (λ c κs. search needs)
+    cycle.Lts-address.spec (address-cs t) (at address t) (rank address .post) (λ c κs. search needs) (λ c κs. search needs)
     (λ c κs. (omega (arith, left-at, some-left), (search (ready-at, bracket-part), search needs))) (λ c κs. omega arith) (λ c κs. search needs)
     (λ c κs. search needs) (λ c κs. search needs)
     (λ c κs. both (omega (
@@ -50,14 +47,14 @@ address-ok t =
 abbrev located-cs : ℕ → cycle.Lts-located.Claims
 located-cs t =
     nine (steps.node_at.Reads.Asked, steps.node_at.Reads.Learnt) (steps.less.Reads.Asked, steps.less.Reads.Learnt)
-    (proofs.scope.entry.Reads.Asked, proofs.scope.entry.Reads.Learnt) (steps.inside.Reads.Asked, steps.inside.Reads.Learnt)
-    (below applied-rank t, walk.applied.Reads.Post) (steps.keep.Reads.Asked, steps.keep.Reads.Learnt)
-    (steps.raised.Reads.Asked, steps.raised.Reads.Learnt) (below expr-rank t, walk.expr.Reads.Post) (steps.put.Reads.Asked, steps.put.Reads.Learnt)
+    (proofs.scope.entry.Reads.Asked, proofs.scope.entry.Reads.Learnt) (steps.inside.Reads.Asked, steps.inside.Reads.Learnt) (calls applied t)
+    (steps.keep.Reads.Asked, steps.keep.Reads.Learnt) (steps.raised.Reads.Asked, steps.raised.Reads.Learnt) (calls expr t)
+    (steps.put.Reads.Asked, steps.put.Reads.Learnt)
 
-pub located-ok : {M : Type 1} (t : ℕ) → cycle.Lts-located.Closed (located-cs t) (at located-rank t) walk.located.Reads.Post M
+pub located-ok : {M : Type 1} (t : ℕ) → cycle.Lts-located.Closed (located-cs t) (at located t) (rank located .post) M
 located-ok t =
-    cycle.Lts-located.spec (located-cs t) (at located-rank t) walk.located.Reads.Post (λ c κs. search needs) (λ c κs. search needs)
-    (λ c κs. search needs) (λ c κs. search needs) (λ c κs. search needs) (λ c. omega arith)
+    cycle.Lts-located.spec (located-cs t) (at located t) (rank located .post) (λ c κs. search needs) (λ c κs. search needs) (λ c κs. search needs)
+    (λ c κs. search needs) (λ c κs. search needs) (λ c. omega arith)
     (λ c κs. let after-inside = c .before .before .before in let after-less2 = after-inside .before in let after-entry = after-less2 .before in
     let after-less = after-entry .before .before in let after-node-at = after-less .before in
     let start = after-node-at .before .before .before .before .before in
@@ -95,24 +92,23 @@ located-ok t =
     ∙ ap (raised 1) (after-inside .inside .ensures)) (after-expr .expr .ensures)) (c .before .before .put .ensures))
 
 abbrev refuse-cs : ℕ → cycle.Lts-refuse.Claims
-refuse-cs t = (below expr-rank t, walk.expr.Reads.Post, steps.wrong.Reads.Asked, steps.wrong.Reads.Learnt)
+refuse-cs t = (below expr t, rank expr .post, steps.wrong.Reads.Asked, steps.wrong.Reads.Learnt)
 
-pub refuse-ok : {M : Type 1} (t : ℕ) → cycle.Lts-refuse.Closed (refuse-cs t) (at refuse-rank t) walk.refuse.Reads.Post M
+pub refuse-ok : {M : Type 1} (t : ℕ) → cycle.Lts-refuse.Closed (refuse-cs t) (at refuse t) (rank refuse .post) M
 refuse-ok t =
-    cycle.Lts-refuse.spec (refuse-cs t) (at refuse-rank t) walk.refuse.Reads.Post (λ c κs. search needs) (λ c κs. search needs) (λ c. search needs)
+    cycle.Lts-refuse.spec (refuse-cs t) (at refuse t) (rank refuse .post) (λ c κs. search needs) (λ c κs. search needs) (λ c. search needs)
     (λ c. search needs) (λ c. search refuse-gave)
 
 abbrev side-cs : ℕ → cycle.Lts-side.Claims
 side-cs t =
-    eleven (steps.node_at.Reads.Asked, steps.node_at.Reads.Learnt) (steps.inside.Reads.Asked, steps.inside.Reads.Learnt)
-    (below side-rank t, walk.side.Reads.Post) (proofs.scope.lookup.Reads.Asked, proofs.scope.lookup.Reads.Learnt)
-    (steps.name_store.Reads.Asked, steps.name_store.Reads.Learnt) (below stored-rank t, walk.stored.Reads.Post)
-    (steps.keep.Reads.Asked, steps.keep.Reads.Learnt) (steps.raised.Reads.Asked, steps.raised.Reads.Learnt) (below expr-rank t, walk.expr.Reads.Post)
-    (steps.store_through.Reads.Asked, steps.store_through.Reads.Learnt) (below refuse-rank t, walk.refuse.Reads.Post)
+    eleven (steps.node_at.Reads.Asked, steps.node_at.Reads.Learnt) (steps.inside.Reads.Asked, steps.inside.Reads.Learnt) (calls side t)
+    (proofs.scope.lookup.Reads.Asked, proofs.scope.lookup.Reads.Learnt) (steps.name_store.Reads.Asked, steps.name_store.Reads.Learnt) (calls stored t)
+    (steps.keep.Reads.Asked, steps.keep.Reads.Learnt) (steps.raised.Reads.Asked, steps.raised.Reads.Learnt) (calls expr t)
+    (steps.store_through.Reads.Asked, steps.store_through.Reads.Learnt) (calls refuse t)
 
-pub side-ok : {M : Type 1} (t : ℕ) → cycle.Lts-side.Closed (side-cs t) (at side-rank t) walk.side.Reads.Post M
+pub side-ok : {M : Type 1} (t : ℕ) → cycle.Lts-side.Closed (side-cs t) (at side t) (rank side .post) M
 side-ok t =
-    cycle.Lts-side.spec (side-cs t) (at side-rank t) walk.side.Reads.Post (λ c κs. search needs) (λ c κs. search needs)
+    cycle.Lts-side.spec (side-cs t) (at side t) (rank side .post) (λ c κs. search needs) (λ c κs. search needs)
     (λ c κs. let after-match = c .before .before .before in let after-node-at = after-match .before in
     let start = after-node-at .before .before .before .before .before in both (omega (arith, left-at, some-left))
     (both (ready-at (ap (raised 1) (c .inside .ensures)) (bracket-part _ (after-node-at .node-at .ensures) (after-match .match .keys1)
@@ -160,13 +156,12 @@ abbrev stored-cs : ℕ → cycle.Lts-stored.Claims
 stored-cs t =
     nine (steps.node_at.Reads.Asked, steps.node_at.Reads.Learnt) (steps.less.Reads.Asked, steps.less.Reads.Learnt)
     (proofs.scope.entry.Reads.Asked, proofs.scope.entry.Reads.Learnt) (steps.inside.Reads.Asked, steps.inside.Reads.Learnt)
-    (steps.raised.Reads.Asked, steps.raised.Reads.Learnt) (steps.keep.Reads.Asked, steps.keep.Reads.Learnt)
-    (below applied-rank t, walk.applied.Reads.Post) (below expr-rank t, walk.expr.Reads.Post)
+    (steps.raised.Reads.Asked, steps.raised.Reads.Learnt) (steps.keep.Reads.Asked, steps.keep.Reads.Learnt) (calls applied t) (calls expr t)
     (steps.store_indexed.Reads.Asked, steps.store_indexed.Reads.Learnt)
 
-pub stored-ok : {M : Type 1} (t : ℕ) → cycle.Lts-stored.Closed (stored-cs t) (at stored-rank t) walk.stored.Reads.Post M
+pub stored-ok : {M : Type 1} (t : ℕ) → cycle.Lts-stored.Closed (stored-cs t) (at stored t) (rank stored .post) M
 stored-ok t =
-    cycle.Lts-stored.spec (stored-cs t) (at stored-rank t) walk.stored.Reads.Post (λ c κs. search needs) (λ c κs. search needs) (λ c κs. search needs)
+    cycle.Lts-stored.spec (stored-cs t) (at stored t) (rank stored .post) (λ c κs. search needs) (λ c κs. search needs) (λ c κs. search needs)
     (λ c κs. search needs) (λ c κs. search needs)
     (λ c κs. omega (
       arith,
@@ -253,16 +248,16 @@ stored-ok t =
 
 abbrev assign-cs : ℕ → cycle.Lts-assign.Claims
 assign-cs t =
-    four (proofs.scope.entry.Reads.Asked, proofs.scope.entry.Reads.Learnt) (below expr-rank t, walk.expr.Reads.Post)
-    (steps.node_at.Reads.Asked, steps.node_at.Reads.Learnt) (below side-rank t, walk.side.Reads.Post)
+    four (proofs.scope.entry.Reads.Asked, proofs.scope.entry.Reads.Learnt) (calls expr t) (steps.node_at.Reads.Asked, steps.node_at.Reads.Learnt)
+    (calls side t)
 
 abbrev assign-Inv-loop : cycle.Lts-assign.InvT-loop
 assign-Inv-loop source s₀ left right end text₀ here l₀ at₀ r₀ s text l at r =
     (length s ≡ length s₀) × (length text ≡ length text₀) × ((y : ReadyAssign s₀ left right end here r₀) → AssignPart source text₀ y s text l at r)
 
-pub assign-ok : {M : Type 1} (t : ℕ) → cycle.Lts-assign.Closed (assign-cs t) (at assign-rank t) walk.assign.Reads.Post M
+pub assign-ok : {M : Type 1} (t : ℕ) → cycle.Lts-assign.Closed (assign-cs t) (at assign t) (rank assign .post) M
 assign-ok t =
-    cycle.Lts-assign.spec (assign-cs t) (at assign-rank t) walk.assign.Reads.Post assign-Inv-loop
+    cycle.Lts-assign.spec (assign-cs t) (at assign t) (rank assign .post) assign-Inv-loop
     (λ source s₀ left right end text₀ here l₀ at₀ r₀ s text l at r. end - at) (λ c. search (needs, assign-begin)) (λ c. omega arith)
     (λ c κs. search needs) (λ c. omega (arith, c .entry .ensures .1))
     (λ c κs. let after-loop-test = c .before .before .before .before in let after-loop = after-loop-test .before in
