@@ -458,23 +458,26 @@ module _ {s : List ℕ} {middle end : ℕ} {d d′ : Here} {st : State} where
       → GaveSuffixes text s s′ middle end d t t′ st r
   suffixes-gave-at e g = rw e at g
 
-pub is-suffixed : {s : List ℕ} {lo end k : ℕ} {e : Expression} → (k ≡ 60 → ⊥) → (k ≡ 61 → ⊥) → (k ≡ 59 → ⊥) → (k ≡ 51 → ⊥) → (k ≡ 131 → ⊥)
-    → (k ≡ 7 → ⊥) → (k ≡ 128 → ⊥) → Case s lo end k e → IsTwo encode encodeSuffixes T.suffixed s lo end e
-is-suffixed n1 n2 n3 n4 n5 n6 n7 (aNumber h) = absurd (n1 refl)
-is-suffixed n1 n2 n3 n4 n5 n6 n7 (aString h) = absurd (n2 refl)
-is-suffixed n1 n2 n3 n4 n5 n6 n7 (aName w p q) = absurd (n3 refl)
-is-suffixed n1 n2 n3 n4 n5 n6 n7 (aBracket h q) = absurd (n4 refl)
-is-suffixed n1 n2 n3 n4 n5 n6 n7 (aValof h q) = absurd (n6 refl)
-is-suffixed n1 n2 n3 n4 n5 n6 n7 (aMonadic v h q) = absurd (n7 refl)
-is-suffixed n1 n2 n3 n4 n5 n6 n7 (aDyadic h z v q) = absurd (n5 refl)
-is-suffixed n1 n2 n3 n4 n5 n6 n7 (aSuffixed {e} {ss} h z v q) = is-two encode encodeSuffixes T.suffixed e ss h z v q
-is-suffixed n1 n2 n3 n4 n5 n6 n7 (aCalled {e} {ss} h z v q) = is-two encode encodeSuffixes T.suffixed e ss h z v q
+-- no other kind, as a match has it
+abbrev pub NotOther : ℕ → Type 0
+NotOther k =
+    ((((((Unit × (k ≡ 60 → ⊥)) × (k ≡ 61 → ⊥)) × (k ≡ 59 → ⊥)) × (k ≡ 51 → ⊥)) × (k ≡ 131 → ⊥)) × (k ≡ 7 → ⊥)) × (k ≡ 128 → ⊥)
 
-module _ {s : List ℕ} {end : ℕ} {here : Here} {st : State} (n : Node) (nd : NodeAt s end n)
-    (n1 : n .kind ≡ 60 → ⊥) (n2 : n .kind ≡ 61 → ⊥) (n3 : n .kind ≡ 59 → ⊥) (n4 : n .kind ≡ 51 → ⊥) (n5 : n .kind ≡ 131 → ⊥) (n6 : n .kind ≡ 7 → ⊥)
-    (n7 : n .kind ≡ 128 → ⊥) {middle : ℕ} (m : middle ≡ n .start + n .value) where
+pub is-suffixed : {s : List ℕ} {lo end k : ℕ} {e : Expression} → NotOther k → Case s lo end k e → IsTwo encode encodeSuffixes T.suffixed s lo end e
+is-suffixed n (aNumber h) = absurd (n .0 .0 .0 .0 .0 .0 .1 refl)
+is-suffixed n (aString h) = absurd (n .0 .0 .0 .0 .0 .1 refl)
+is-suffixed n (aName w p q) = absurd (n .0 .0 .0 .0 .1 refl)
+is-suffixed n (aBracket h q) = absurd (n .0 .0 .0 .1 refl)
+is-suffixed n (aDyadic h z v q) = absurd (n .0 .0 .1 refl)
+is-suffixed n (aValof h q) = absurd (n .0 .1 refl)
+is-suffixed n (aMonadic v h q) = absurd (n .1 refl)
+is-suffixed n (aSuffixed {e} {ss} h z v q) = is-two encode encodeSuffixes T.suffixed e ss h z v q
+is-suffixed n (aCalled {e} {ss} h z v q) = is-two encode encodeSuffixes T.suffixed e ss h z v q
+
+module _ {s : List ℕ} {end : ℕ} {here : Here} {st : State} (n : Node) (nd : NodeAt s end n) (no-other : NotOther (n .kind)) {middle : ℕ}
+    (m : middle ≡ n .start + n .value) where
   pub suffixed-is : (y : ReadyE s end here st) → IsTwo encode encodeSuffixes T.suffixed s (y .lo) end (y .tree)
-  suffixed-is y = is-suffixed n1 n2 n3 n4 n5 n6 n7 (find n nd refl y)
+  suffixed-is y = is-suffixed no-other (find n nd refl y)
 
   pub suffixed-well : (y : ReadyE s end here st) → let u = suffixed-is y in
       (depth (u .left) + 1 ≤ here .left) × (suffixesDepth (u .list) + 1 ≤ here .left) × FineE (u .left) × FineSs (u .list)

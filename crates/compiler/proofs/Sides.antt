@@ -196,6 +196,10 @@ no-monadic o E n = rw (ne-eqb o 49 n) (by (eqb o 50))
     by true = no-address (sideOf E)
     by false = refl
 
+-- a kind that is no side, as a match has it
+abbrev pub NoSide : ℕ → Type 0
+NoSide k = ((Unit × (k ≡ 51 → ⊥)) × (k ≡ 59 → ⊥)) × (k ≡ 129 → ⊥)
+
 module _ (text : List ℕ) (sc : Scope) (h : ℕ) where
   no-operation : (E : Expr) (os : Operations) → sideOf E ≡ noSide → sideOf (operations text sc h E os) ≡ noSide
   unfolding operations sideOf
@@ -215,21 +219,20 @@ module _ (text : List ℕ) (sc : Scope) (h : ℕ) where
   call-of true n = refl
   call-of false n = absurd (n refl)
 
-  pub no-side : (e : Expression) → FineE e → (expression-closed e .kind ≡ 51 → ⊥) → (expression-closed e .kind ≡ 59 → ⊥)
-      → (expression-closed e .kind ≡ 129 → ⊥) → (expression-closed e .kind ≡ 128 → expression-closed e .value ≡ 49 → ⊥)
-      → sideOf (expression text sc h e) ≡ noSide
+  pub no-side : (e : Expression) → FineE e → NoSide (expression-closed e .kind)
+      → (expression-closed e .kind ≡ 128 → expression-closed e .value ≡ 49 → ⊥) → sideOf (expression text sc h e) ≡ noSide
   unfolding expression sideOf Fine expression-closed shut operations
-  no-side (T.number p v) f n1 n2 n3 n4 = refl
-  no-side (T.string p v) f n1 n2 n3 n4 = refl
-  no-side (T.name n) f n1 n2 n3 n4 = absurd (n2 refl)
-  no-side (T.bracketed p e) f n1 n2 n3 n4 = absurd (n1 refl)
-  no-side (T.valof p c) f n1 n2 n3 n4 = refl
-  no-side (T.monadic p o e) f n1 n2 n3 n4 = no-monadic o (expression text sc h e) (n4 refl)
-  no-side (T.suffixed e ss) f n1 n2 n3 n4 =
-      no-call false (expression text sc (under ss h) e) ss (call-of (endsInCall false ss) n3)
+  no-side (T.number p v) f n m = refl
+  no-side (T.string p v) f n m = refl
+  no-side (T.name x) f n m = absurd (n .0 .1 refl)
+  no-side (T.bracketed p e) f n m = absurd (n .0 .0 .1 refl)
+  no-side (T.valof p c) f n m = refl
+  no-side (T.monadic p o e) f n m = no-monadic o (expression text sc h e) (m refl)
+  no-side (T.suffixed e ss) f n m =
+      no-call false (expression text sc (under ss h) e) ss (call-of (endsInCall false ss) (n .1))
       (λ z. contradiction cc)
-  no-side (T.dyadic e T.noOperations) f n1 n2 n3 n4 = absurd (f .2 refl)
-  no-side (T.dyadic e (T.operation o d os)) f n1 n2 n3 n4 = no-operation (R.binary o (expression text sc h e) (expression text sc (h + 1) d)) os refl
+  no-side (T.dyadic e T.noOperations) f n m = absurd (f .2 refl)
+  no-side (T.dyadic e (T.operation o d os)) f n m = no-operation (R.binary o (expression text sc h e) (expression text sc (h + 1) d)) os refl
 
 fault-not : (fs : List Fault) (place : ℕ) → fs ++ fault place 10 ≡ [] → ⊥
 fault-not fs place e = let z : length (fault place 10) ≡ 0 = ap length (nil-right fs (fault place 10) e) in omega arith
@@ -275,13 +278,12 @@ module _ (text : List ℕ) {s s′ t t′ : List ℕ} {end : ℕ} (place : ℕ) 
         (record { keeps = x .keeps; did = did-as _ _ (x .did) (same-eq (sym (append-nil _) ∙ sym (append-nil _))) (λ m v. refl) (omega arith) });
   }
 
-  pub address-refused : (n .kind ≡ 51 → ⊥) → (n .kind ≡ 59 → ⊥) → (n .kind ≡ 129 → ⊥) → (n .kind ≡ 128 → n .value ≡ 49 → ⊥)
-      → GaveRefused text s s′ end place here t t′ st r → GaveAddress text s s′ end place here t t′ st r
-  address-refused n1 n2 n3 n4 g = record {
+  pub address-refused : NoSide (n .kind) → (n .kind ≡ 128 → n .value ≡ 49 → ⊥) → GaveRefused text s s′ end place here t t′ st r → GaveAddress text s s′ end place here t t′ st r
+  address-refused no-side-kind not-pling g = record {
     by = λ y.
         let sc = y .scope in let e = y .tree in let c = expression-closed e in let E = expression text sc (here .height) e in
         let k = nd .kind ∙ kind-of c (y .lies) (y .ends) in let v = nd .value ∙ value-of c (y .lies) (y .ends) in
-        let z = no-side text sc (here .height) e (y .fine) (λ i. n1 (k ∙ i)) (λ i. n2 (k ∙ i)) (λ i. n3 (k ∙ i)) (λ i j. n4 (k ∙ i) (v ∙ j)) in
+        let z = no-side text sc (here .height) e (y .fine) (subst NoSide k no-side-kind) (λ i j. not-pling (k ∙ i) (v ∙ j)) in
         let x = g .by (λ sc e. exprSays here (addressOf (sideOf (expression text sc (here .height) e)))) .by y in
         record { keeps = x .keeps; did = did-as _ _ (x .did) (same-eq (rw z)) (λ m v. refl) (omega arith) };
   }
@@ -330,19 +332,13 @@ some-suffix ss n = by (order 0 (length (encodeSuffixes ss)))
 module _ {s : List ℕ} {end : ℕ} {here : Here} {st : State} (n : Node) (nd : NodeAt s end n) (q : IndexKind s end) {middle : ℕ}
     (m : middle ≡ n .start + n .value) where
   abbrev pub indexed-is : (y : ReadyE s end here st) → IsTwo encode encodeSuffixes T.suffixed s (y .lo) end (y .tree)
-  indexed-is y =
-      suffixed-is n nd (λ e. omega arith) (λ e. omega arith) (λ e. omega arith) (λ e. omega arith)
-      (λ e. omega arith) (λ e. omega arith) (λ e. omega arith) m y
+  indexed-is y = suffixed-is n nd (omega arith) m y
 
   abbrev pub indexed-part : ReadyE s end here st → ReadySuffixes s middle (n .inner) (inside here) st
-  indexed-part y =
-      suffixed-part n nd (λ e. omega arith) (λ e. omega arith) (λ e. omega arith) (λ e. omega arith)
-      (λ e. omega arith) (λ e. omega arith) (λ e. omega arith) m y
+  indexed-part y = suffixed-part n nd (omega arith) m y
 
   pub indexed-middle : (y : ReadyE s end here st) → middle ≡ y .lo + length (encode (indexed-is y .left))
-  indexed-middle y =
-      suffixed-middle n nd (λ e. omega arith) (λ e. omega arith) (λ e. omega arith) (λ e. omega arith) (λ e. omega arith) (λ e. omega arith)
-      (λ e. omega arith) m y
+  indexed-middle y = suffixed-middle n nd (omega arith) m y
 
   pub indexed-some : (y : ReadyE s end here st) → middle < n .inner
   unfolding Fine
@@ -414,13 +410,12 @@ module _ (text : List ℕ) {s s′ t t′ : List ℕ} {end : ℕ} (place : ℕ) 
         (sym (u .same)) (record { keeps = x .keeps; did = more _ (x .did) (omega arith) });
   }
 
-  pub side-refused : (n .kind ≡ 51 → ⊥) → (n .kind ≡ 59 → ⊥) → (n .kind ≡ 129 → ⊥) → (n .kind ≡ 128 → n .value ≡ 49 → ⊥)
-      → GaveRefused text s s′ end place (raised 1 here) t t′ st r → GaveSide text s s′ end place here t t′ st r
-  side-refused n1 n2 n3 n4 g = record {
+  pub side-refused : NoSide (n .kind) → (n .kind ≡ 128 → n .value ≡ 49 → ⊥) → GaveRefused text s s′ end place (raised 1 here) t t′ st r → GaveSide text s s′ end place here t t′ st r
+  side-refused no-side-kind not-pling g = record {
     by = λ y.
         let sc = y .scope in let e = y .tree in let c = expression-closed e in let h = here .height in
         let k = nd .kind ∙ kind-of c (y .lies) (y .ends) in let v = nd .value ∙ value-of c (y .lies) (y .ends) in
-        let z = no-side text sc (h + 1) e (y .fine) (λ i. n1 (k ∙ i)) (λ i. n2 (k ∙ i)) (λ i. n3 (k ∙ i)) (λ i j. n4 (k ∙ i) (v ∙ j)) in
+        let z = no-side text sc (h + 1) e (y .fine) (subst NoSide k no-side-kind) (λ i j. not-pling (k ∙ i) (v ∙ j)) in
         let x = g .by (λ sc e. targetSays here (targetOf (sideOf (expression text sc (h + 1) e)))) .by y in
         record { keeps = x .keeps; did = did-as _ _ (x .did) (same-eq (rw z)) (λ m v. refl) (omega arith) };
   }

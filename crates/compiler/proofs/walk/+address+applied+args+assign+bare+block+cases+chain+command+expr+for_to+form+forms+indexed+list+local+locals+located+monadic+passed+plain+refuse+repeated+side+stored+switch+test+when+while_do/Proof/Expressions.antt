@@ -62,9 +62,7 @@ expr-ok t =
     (λ c. search needs) (λ c. search (monadic-gave, gave-monadic-at)) (λ c. search needs) (λ c. search needs)
     (λ c. let after-applied = c .before .before .before .before in let after-inside5 = after-applied .before in
     let after-match = after-inside5 .before .before .before .before in let after-node-at = after-match .before in
-    suffixed-gave _ (after-node-at .node-at .ensures) (after-match .match .rest .0 .0 .0 .0 .0 .0 .1) (after-match .match .rest .0 .0 .0 .0 .0 .1)
-    (after-match .match .rest .0 .0 .0 .0 .1) (after-match .match .rest .0 .0 .0 .1) (after-match .match .rest .0 .0 .1)
-    (after-match .match .rest .0 .1) (after-match .match .rest .1) refl _ (suffixes-gave-at (after-inside5 .inside5 .ensures)
+    suffixed-gave _ (after-node-at .node-at .ensures) (after-match .match .rest) refl _ (suffixes-gave-at (after-inside5 .inside5 .ensures)
     (after-applied .applied .ensures)))
 
 abbrev chain-cs : ℕ → cycle.Lts-chain.Claims

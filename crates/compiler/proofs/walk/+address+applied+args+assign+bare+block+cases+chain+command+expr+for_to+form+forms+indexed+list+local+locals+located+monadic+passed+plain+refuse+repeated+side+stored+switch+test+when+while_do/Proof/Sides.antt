@@ -37,12 +37,11 @@ address-ok t =
     (λ c. search needs)
     (λ c. let after-refuse = c .before .before .before .before in let after-if1 = after-refuse .before .before .before in
     let after-match = after-if1 .before .before in let after-node-at = after-match .before in
-    address-refused _ _ _ (after-node-at .node-at .ensures) (λ e. omega (arith, e, after-match .match .keys4))
-    (λ e. omega (arith, e, after-match .match .keys4)) (λ e. omega (arith, e, after-match .match .keys4)) (λ e v. after-if1 .if1 .left v)
+    address-refused _ _ _ (after-node-at .node-at .ensures) (omega (arith, after-match .match .keys4)) (λ e v. after-if1 .if1 .left v)
     (after-refuse .refuse .ensures)) (λ c. search needs) (λ c. search needs)
     (λ c. let after-refuse2 = c .before .before .before .before in let after-match = after-refuse2 .before .before .before in
-    let after-node-at = after-match .before in address-refused _ _ _ (after-node-at .node-at .ensures) (after-match .match .rest .0 .0 .0 .1)
-    (after-match .match .rest .0 .0 .1) (after-match .match .rest .0 .1) (λ e v. after-match .match .rest .1 e) (after-refuse2 .refuse2 .ensures))
+    let after-node-at = after-match .before in address-refused _ _ _ (after-node-at .node-at .ensures) (after-match .match .rest .0)
+    (λ e v. after-match .match .rest .1 e) (after-refuse2 .refuse2 .ensures))
 
 abbrev located-cs : ℕ → cycle.Lts-located.Claims
 located-cs t =
@@ -143,14 +142,12 @@ side-ok t =
     (λ c. let after-refuse = c .before .before .before .before in let after-raised2 = after-refuse .before in
     let after-if1 = after-raised2 .before .before .before in let after-match = after-if1 .before .before in
     let after-node-at = after-match .before in side-refused _ _ _ _ (after-node-at .node-at .ensures)
-    (λ e. omega (arith, e, after-match .match .keys4)) (λ e. omega (arith, e, after-match .match .keys4))
-    (λ e. omega (arith, e, after-match .match .keys4)) (λ e v. after-if1 .if1 .left v) (gave-refused-at (after-raised2 .raised2 .ensures)
+    (omega (arith, after-match .match .keys4)) (λ e v. after-if1 .if1 .left v) (gave-refused-at (after-raised2 .raised2 .ensures)
     (after-refuse .refuse .ensures))) (λ c. search needs) (λ c. search needs)
     (λ c. let after-refuse2 = c .before .before .before .before in let after-raised3 = after-refuse2 .before in
     let after-match = after-raised3 .before .before .before in let after-node-at = after-match .before in
-    side-refused _ _ _ _ (after-node-at .node-at .ensures) (after-match .match .rest .0 .0 .0 .1) (after-match .match .rest .0 .0 .1)
-    (after-match .match .rest .0 .1) (λ e v. after-match .match .rest .1 e) (gave-refused-at (after-raised3 .raised3 .ensures)
-    (after-refuse2 .refuse2 .ensures)))
+    side-refused _ _ _ _ (after-node-at .node-at .ensures) (after-match .match .rest .0) (λ e v. after-match .match .rest .1 e) (gave-refused-at
+    (after-raised3 .raised3 .ensures) (after-refuse2 .refuse2 .ensures)))
 
 abbrev stored-cs : ℕ → cycle.Lts-stored.Claims
 stored-cs t =
