@@ -1,7 +1,7 @@
 -- Arguments, and what follows a primary.
 use Rattle.laws.proofs.Basics.{ℕ, suc, _+_, _-_, _*_, _<_, _≤_, _≡_, refl, sym, ap, subst, _∙_, List, [], _∷_, _++_, append-assoc, append-nil, length}
-use Rattle.laws.proofs.Basics.{getD, length-append, List·getD-append, getD-append-add, arith}
-use Rattle.laws.proofs.Cases.{Order, lt, ge, order}
+use Rattle.laws.proofs.Basics.{getD, length-append, List·getD-append, getD-append-add, ltb, arith, ltb-true, ltb-false}
+use Rattle.laws.proofs.Cases.{by-cases}
 use Rattle.language.specs.Tree as T
 use Rattle.compiler.proofs.Language.{Expression, Expressions, Suffixes, depth, expressionsDepth, suffixesDepth, Scope, Expr, expression}
 use Rattle.compiler.proofs.Language.{expressions, suffixes, under, ofExpr, ofExprs, Leavable, inExpression, inExpressions, inSuffixes, behind}
@@ -104,14 +104,12 @@ pub behind-length : (tag : ℕ) (x y : List ℕ) → length (behind tag x ++ y) 
 behind-length tag x y = omega (arith, length-append (behind tag x) y, length-append x (length x ∷ tag ∷ []))
 
 pub both : {s : List ℕ} {lo m : ℕ} (x y : List ℕ) → Lies s lo x → Lies s m y → m ≡ lo + length x → Lies s lo (x ++ y)
-both {s} {lo} {m} x y f g e = record { at = λ i l. by i l (order i (length x)) }
-  where
-    by : (i : ℕ) → i < length (x ++ y) → Order i (length x) → getD s (lo + i) 0 ≡ getD (x ++ y) i 0
-    by i l (lt h) = f .at i h ∙ sym (List·getD-append x y 0 i h)
-    by i l (ge h) =
-        let j = i - length x in let q : i ≡ length x + j = omega arith in let p : lo + i ≡ m + j = omega arith in
-        ap (λ (k : ℕ). getD s k 0) p ∙ g .at j (omega (arith, length-append x y)) ∙ sym (getD-append-add x y j 0) ∙ ap (λ (k : ℕ). getD (x ++ y) k 0)
-        (sym q)
+both {s} {lo} {m} x y f g e = record {
+  at = λ i l. by-cases (ltb i (length x)) (λ b. let h = ltb-true i (length x) b in f .at i h ∙ sym (List·getD-append x y 0 i h)) (λ b.
+      let h = ltb-false i (length x) b in let j = i - length x in let q : i ≡ length x + j = omega arith in let p : lo + i ≡ m + j = omega arith in
+      ap (λ (k : ℕ). getD s k 0) p ∙ g .at j (omega (arith, length-append x y)) ∙ sym (getD-append-add x y j 0) ∙ ap (λ (k : ℕ). getD (x ++ y) k 0)
+      (sym q));
+}
 
 -- one more at the end: a call or an index, by what it puts before others
 unfoldable pub snoc : (Suffixes → Suffixes) → Suffixes → Suffixes
@@ -183,17 +181,10 @@ module _ {A : Type 0} (enc : A → List ℕ) (cons : A → Suffixes → Suffixes
     step : (IsLast enc cons s m end (cons a ss) → Last s m end (cons a ss) tag)
         → ((k : ℕ) → Lies s k (encodeSuffixes ss) → end ≡ k + length (encodeSuffixes ss) → k < end → Last s k end ss (getD s (end - 1) 0))
         → Last s m end (cons a ss) (getD s (end - 1) 0)
-    step is rest = by (order (m + length w) end)
-      where
-        w : List ℕ
-        w = behind tag (enc a)
-
-        k : length (w ++ encodeSuffixes ss) ≡ length w + length (encodeSuffixes ss)
-        k = length-append w (encodeSuffixes ss)
-
-        by : Order (m + length w) end → Last s m end (cons a ss) (getD s (end - 1) 0)
-        by (lt l) = before-last (rest (m + length w) (second w (encodeSuffixes ss) (m + length w) h refl) (omega (arith, k)) l)
-        by (ge l) = alone (omega (arith, k)) is
+    step is rest =
+        let w = behind tag (enc a) in let k = length-append w (encodeSuffixes ss) in let n = m + length w in
+        by-cases (ltb n end) (λ b. before-last (rest n (second w (encodeSuffixes ss) n h refl) (omega arith) (ltb-true n end b)))
+        (λ b. alone (omega (arith, ltb-false n end b)) is)
 
 pub last : {s : List ℕ} {m end : ℕ} (ss : Suffixes) → Lies s m (encodeSuffixes ss) → end ≡ m + length (encodeSuffixes ss) → m < end
     → Last s m end ss (getD s (end - 1) 0)

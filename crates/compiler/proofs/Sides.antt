@@ -1,7 +1,7 @@
 -- Monadic operators, what @ may take, and left sides.
 use Rattle.laws.proofs.Basics.{ℕ, _+_, _-_, _*_, _/_, _%_, _<_, _≤_, _≡_, refl, sym, ap, subst, _∙_, List, [], _∷_, _++_, append-assoc, append-nil}
-use Rattle.laws.proofs.Basics.{Bool, true, false, cond, length, getD, length-append, eqb, arith, ne-eqb}
-use Rattle.laws.proofs.Cases.{Order, lt, ge, order, contradiction}
+use Rattle.laws.proofs.Basics.{Bool, true, false, cond, length, getD, length-append, eqb, ltb, arith, ne-eqb, ltb-true, ltb-false}
+use Rattle.laws.proofs.Cases.{by-cases, contradiction}
 use Rattle.items.specs.Item as I
 use Rattle.language.specs.Tree as T
 use Rattle.compiler.proofs.Language.{Expression, Expressions, Suffixes, Operations, placeOf, endsInCall, depth, Scope, lookup, onFound, Fault}
@@ -190,11 +190,7 @@ no-address noSide = refl
 
 no-monadic : (o : ℕ) (E : Expr) → (o ≡ 49 → ⊥) → sideOf (resolvedMonadic o E) ≡ noSide
 unfolding sideOf
-no-monadic o E n = rw (ne-eqb o 49 n) (by (eqb o 50))
-  where
-    by : (b : Bool) → sideOf (cond b (addressOf (sideOf E)) (R.unary o E)) ≡ noSide
-    by true = no-address (sideOf E)
-    by false = refl
+no-monadic o E n = rw (ne-eqb o 49 n) (by-cases (eqb o 50) (λ e. rw e (no-address (sideOf E))) (λ e. rw e))
 
 -- a kind that is no side, as a match has it
 abbrev pub NoSide : ℕ → Type 0
@@ -323,11 +319,8 @@ index-of true n = absurd (omega arith)
 index-of false n = refl
 
 some-suffix : (ss : Suffixes) → (ss ≡ T.noSuffixes → ⊥) → 0 < length (encodeSuffixes ss)
-some-suffix ss n = by (order 0 (length (encodeSuffixes ss)))
-  where
-    by : Order 0 (length (encodeSuffixes ss)) → 0 < length (encodeSuffixes ss)
-    by (lt l) = l
-    by (ge l) = absurd (n (no-suffix ss (omega arith)))
+some-suffix ss n = let k = length (encodeSuffixes ss) in
+    by-cases (ltb 0 k) (λ e. ltb-true 0 k e) (λ e. absurd (n (no-suffix ss (omega (arith, ltb-false 0 k e)))))
 
 module _ {s : List ℕ} {end : ℕ} {here : Here} {st : State} (n : Node) (nd : NodeAt s end n) (q : IndexKind s end) {middle : ℕ}
     (m : middle ≡ n .start + n .value) where
