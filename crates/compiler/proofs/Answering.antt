@@ -1,9 +1,8 @@
 -- From the walk of the tree to the answer: what the walk asks holds of every tree that is read, and what it leaves is the generator's text.
 use Rattle.laws.proofs.Basics.{ℕ, zero, suc, _+_, _-_, _*_, _≤_, _≡_, refl, sym, ap, _∙_, List, [], _∷_, _++_, append-assoc, Bool, true, false, not}
-use Rattle.laws.proofs.Basics.{cond, length, getD, take, drop, replicate, length-append, List·getD-append, length-take-le, getD-append-add, eqb, ltb}
-use Rattle.laws.proofs.Basics.{add-one, arith, eqb-true, ne-eqb, ltb-false}
+use Rattle.laws.proofs.Basics.{cond, length, getD, take, drop, replicate, length-append, List·getD-append, length-take-le, getD-append-add, eqb}
+use Rattle.laws.proofs.Basics.{ltb, add-one, arith, eqb-true, ne-eqb, ltb-false}
 use Rattle.laws.proofs.Cases.{by-cases, contradiction}
-use Rattle.text.specs.Quoted.{charactersOf, quoted}
 use Rattle.language.specs.Kinds.{STRING}
 use Rattle.items.specs.Item.{Item}
 use Rattle.language.specs.Symbols as Y
@@ -16,8 +15,8 @@ use Rattle.language.specs.Grammar.{treeOf}
 use Rattle.language.specs.Tree as T
 use Rattle.compiler.proofs.Language.{Program, Function, Fault, Start, nowhere, inGlobal, programDepth, FineProgram, encodeItems}
 use Rattle.compiler.proofs.Language.{encodeFunctions, encodeProgram}
-use Rattle.language.specs.Program.{Refused, accepted, refused, leastOr, rulesRefuse, Walk, begin, Named, afterDeclaration, functionsFrom, functionsOf}
-use Rattle.language.specs.Program.{faultsFrom, faultsOfProgram, heightFaults, hasStart, startsInOne, functionsAfter, groupOf}
+use Rattle.language.specs.Program.{Refused, accepted, refused, leastOr, rulesRefuse, Walk, begin, Named, afterDeclaration, functionsFrom}
+use Rattle.language.specs.Program.{functionsOf, faultsFrom, faultsOfProgram, heightFaults, hasStart, startsInOne, functionsAfter, groupOf}
 use Rattle.language.specs.Whole.{functionsIn, stringsIn, stringsAmong, funs, unlessFits}
 use Rattle.language.proofs.CommandDepths.{LowProgram, low-program}
 use Rattle.language.proofs.Forming.{length-funs, group-length}

@@ -1,18 +1,18 @@
 -- Arguments, and what follows a primary.
-use Rattle.laws.proofs.Basics.{ℕ, suc, _+_, _-_, _*_, _<_, _≤_, _≡_, refl, sym, ap, subst, _∙_, List, [], _∷_, _++_, append-assoc, append-nil, length}
-use Rattle.laws.proofs.Basics.{getD, length-append, List·getD-append, getD-append-add, ltb, arith, ltb-true, ltb-false}
+use Rattle.laws.proofs.Basics.{ℕ, suc, _+_, _-_, _*_, _<_, _≤_, _≡_, refl, sym, ap, subst, _∙_, List, [], _∷_, _++_, append-assoc, append-nil}
+use Rattle.laws.proofs.Basics.{length, getD, length-append, List·getD-append, getD-append-add, ltb, arith, ltb-true, ltb-false}
 use Rattle.laws.proofs.Cases.{by-cases}
 use Rattle.language.specs.Tree as T
 use Rattle.compiler.proofs.Language.{Expression, Expressions, Suffixes, depth, expressionsDepth, suffixesDepth, Scope, Expr, expression}
-use Rattle.compiler.proofs.Language.{expressions, suffixes, under, ofExpr, ofExprs, Leavable, inExpression, inExpressions, inSuffixes, behind}
-use Rattle.compiler.proofs.Language.{encode, encodeExpressions, encodeSuffixes, Fine, FineList, FineSuffixes}
+use Rattle.compiler.proofs.Language.{expressions, suffixes, under, ofExpr, ofExprs, Leavable, inExpression, inExpressions, inSuffixes}
+use Rattle.compiler.proofs.Language.{behind, encode, encodeExpressions, encodeSuffixes, Fine, FineList, FineSuffixes}
 use Rattle.language.specs.Resolved as R
 use Rattle.language.specs.Heights as H
 use Rattle.code.specs.Generate as G
 use Rattle.code.specs.Generate.{exprCode, exprsCode, exprLabels, exprsLabels}
-use Rattle.compiler.proofs.Vocabulary.{Keeps, State, Here, Node, FineE, FineEs, FineSs, inside, raised, leavable, NodeAt, Did, Emits, Reached}
-use Rattle.compiler.proofs.Vocabulary.{exprSays, exprsSays, Lies, Ready, Result, ReadyE, GaveE, faultsE, codeE, ReadyArgs, GaveArgs, Counts}
-use Rattle.compiler.proofs.Vocabulary.{encodeApplied, codeA, ReadySuffixes, GaveSuffixes, GaveIndexed, GavePassed}
+use Rattle.compiler.proofs.Vocabulary.{Keeps, State, Here, Node, FineE, FineEs, FineSs, inside, raised, leavable, NodeAt, Did, Emits}
+use Rattle.compiler.proofs.Vocabulary.{Reached, exprSays, exprsSays, Lies, Ready, Result, ReadyE, GaveE, faultsE, codeE, ReadyArgs, GaveArgs}
+use Rattle.compiler.proofs.Vocabulary.{Counts, encodeApplied, codeA, ReadySuffixes, GaveSuffixes, GaveIndexed, GavePassed}
 use Rattle.compiler.proofs.Scoping.{keeps-all, keeps-then}
 use Rattle.compiler.proofs.Done.{did-emit, did-put, did-after, did-none, did-then, did-as, same-refl, same-eq, same-swap, same-then, code-is}
 use Rattle.compiler.proofs.Trees.{first, second, find, IsTwo, is-two, Case, aNumber, aString, aName, aBracket, aValof, aMonadic, aSuffixed}

@@ -4,10 +4,10 @@ use Rattle.laws.proofs.Basics.{Bool, true, false, cond, length, getD, length-ap
 use Rattle.laws.proofs.Cases.{by-cases, contradiction}
 use Rattle.items.specs.Item as I
 use Rattle.language.specs.Tree as T
-use Rattle.compiler.proofs.Language.{Expression, Expressions, Suffixes, Operations, placeOf, endsInCall, depth, Scope, lookup, onFound, Fault}
-use Rattle.compiler.proofs.Language.{fault, Expr, expression, expressions, suffixes, operations, ofMeaning, Side, side, noSide, sideOf}
-use Rattle.compiler.proofs.Language.{targetOf, addressOf, resolvedMonadic, under, ofExpr, ofTarget, unlessSide, inExpression, inSuffixes}
-use Rattle.compiler.proofs.Language.{encode, encodeSuffixes, Fine}
+use Rattle.compiler.proofs.Language.{Expression, Expressions, Suffixes, Operations, placeOf, endsInCall, depth, Scope, lookup, onFound}
+use Rattle.compiler.proofs.Language.{Fault, fault, Expr, expression, expressions, suffixes, operations, ofMeaning, Side, side, noSide}
+use Rattle.compiler.proofs.Language.{sideOf, targetOf, addressOf, resolvedMonadic, under, ofExpr, ofTarget, unlessSide, inExpression}
+use Rattle.compiler.proofs.Language.{inSuffixes, encode, encodeSuffixes, Fine}
 use Rattle.language.specs.Names as N
 use Rattle.language.specs.Resolved as R
 use Rattle.code.specs.Generate as G
@@ -23,8 +23,8 @@ use Rattle.compiler.proofs.Trees.{IsTwo, Case, aMonadic, find, is-brack
 use Rattle.compiler.proofs.Parts.{sub}
 use Rattle.compiler.proofs.Expressions.{more, bracket-part}
 use Rattle.compiler.proofs.Calls.{IsLast, index-faults, index-means, Last, aCall, anIndex, last, snoc, is-index, the-last, no-suffix}
-use Rattle.compiler.proofs.Calls.{last-read, index-left, index-right, applied-lies, applied-ends, suffixed-is, suffixed-part, suffixed-middle}
-use Rattle.compiler.proofs.Calls.{with-state}
+use Rattle.compiler.proofs.Calls.{last-read, index-left, index-right, applied-lies, applied-ends, suffixed-is, suffixed-part}
+use Rattle.compiler.proofs.Calls.{suffixed-middle, with-state}
 use Rattle.compiler.proofs.Guards.{IsClosed, expression-closed, kind-of, shut}
 
 -- ---- places and values of records

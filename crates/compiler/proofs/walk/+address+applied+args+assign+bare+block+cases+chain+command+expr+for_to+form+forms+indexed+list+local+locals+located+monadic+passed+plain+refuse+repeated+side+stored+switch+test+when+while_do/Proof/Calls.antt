@@ -5,9 +5,8 @@ use Rattle.compiler.proofs.walk.+address+applied+args+assign+bare+block
 use Rattle.laws.proofs.Basics.{ℕ, _-_, _<_, _≡_, refl, _∙_, [], length, arith, needs}
 use Rattle.compiler.proofs.Vocabulary.{ReadyArgs}
 use Rattle.compiler.proofs.Calls.{indexed-gave, passed-gave, with-state, args-with, ArgsPart, args-begin, args-part, args-next, args-end}
-use Rattle.compiler.proofs.Calls.{LastRead, last-read, primary-part, primary-gave, index-left, index-right, index-gave, call-args, call-callee}
-use Rattle.compiler.proofs.Calls.{call-gave, call-few}
-use Rattle.compiler.proofs.Calls.{args-ready-at, suffixes-ready-at, args-gave-at, suffixes-gave-at}
+use Rattle.compiler.proofs.Calls.{LastRead, last-read, primary-part, primary-gave, index-left, index-right, index-gave, call-args}
+use Rattle.compiler.proofs.Calls.{call-callee, call-gave, call-few, args-ready-at, suffixes-ready-at, args-gave-at, suffixes-gave-at}
 use Rattle.compiler.proofs.Expressions.{ready-at, gave-at, left-at}
 use cycle.Proof.Ranks.{rank, at, calls, both, three, four, nine, applied, args, expr, indexed, passed}
 

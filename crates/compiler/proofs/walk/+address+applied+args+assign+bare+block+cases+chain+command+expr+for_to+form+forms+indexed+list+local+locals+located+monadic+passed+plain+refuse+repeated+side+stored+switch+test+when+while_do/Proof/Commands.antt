@@ -2,8 +2,8 @@
 use Rattle.compiler.proofs as proofs
 use proofs.steps as steps
 use Rattle.compiler.proofs.walk.+address+applied+args+assign+bare+block+cases+chain+command+expr+for_to+form+forms+indexed+list+local+locals+located+monadic+passed+plain+refuse+repeated+side+stored+switch+test+when+while_do as cycle
-use Rattle.compiler.proofs.Labelled.{labelled-labels, labelled-bare, labelled-gave, unlabelled-gave, bare-empty, labelled-rest, bare-labelled}
-use Rattle.compiler.proofs.Labelled.{bare-part, bare-gave, command-some, gave-r-at}
+use Rattle.compiler.proofs.Labelled.{labelled-labels, labelled-bare, labelled-gave, unlabelled-gave, bare-empty, labelled-rest}
+use Rattle.compiler.proofs.Labelled.{bare-labelled, bare-part, bare-gave, command-some, gave-r-at}
 use Rattle.compiler.proofs.Conditions.{while-while, while-until}
 use Rattle.compiler.proofs.Aways.{performed-part, performed-gave, away-gave}
 use Rattle.laws.proofs.Basics.{ℕ, refl, arith, needs}

@@ -5,8 +5,7 @@ use Rattle.compiler.proofs.walk.+address+applied+args+assign+bare+block
 use Rattle.code.specs.Generate.{exprCode, exprLabels, monadicAct}
 use Rattle.language.specs.Heights.{ofExpr}
 use Rattle.laws.proofs.Basics.{ℕ, _-_, _≡_, refl, _∙_, length, arith, needs}
-use Rattle.compiler.proofs.Sides.{monadic-part, monadic-gave, monadic-address, monadic-acts, monadic-other}
-use Rattle.compiler.proofs.Sides.{gave-monadic-at}
+use Rattle.compiler.proofs.Sides.{monadic-part, monadic-gave, monadic-address, monadic-acts, monadic-other, gave-monadic-at}
 use Rattle.compiler.proofs.Vocabulary.{ReadyChain}
 use Rattle.compiler.proofs.Calls.{suffixes-ready-at, suffixes-gave-at, suffixed-part, suffixed-gave}
 use Rattle.compiler.proofs.Commands.{valof-part, valof-gave, gave-c-at}
