@@ -14,16 +14,11 @@ count-all-spec =
     tie.close (tie.spec Inv-loop (λ s from end at₀ n₀ at n. end - at) (λ c. (omega arith, λ lss r. search count-begin)) (search needs)
     (λ c κs. omega arith) (λ c _. c .labels-of .ensures .small) (λ c. omega arith) (λ c. omega arith)
     (λ c. (
-      omega (
-        arith,
-        c .before .before .before .before .loop .inv .0,
-        c .count-cases .ensures .few,
-        c .before .before .next-item .ensures .further,
-      ),
-      (let after-loop-test = c .before .before .before in
-          let after-loop = after-loop-test .before in let start = after-loop .before .before in λ lss r. count-next (commands _)
-          (start .args .s .now) _ _ (after-loop-test .loop-test .taken) (c .before .before .next-item .ensures) (λ ls q. c .count-cases .ensures .by
-          ls (c .before .labels-of .ensures .by ls q)) lss (after-loop .loop .inv .1 lss r)),
+      omega arith,
+      (let after-loop-test = c .before .before .before in let after-loop = after-loop-test .before in
+          let start = after-loop .before .before in λ lss r. count-next (commands _) (start .args .s .now) _ _ (after-loop-test .loop-test .taken)
+          (c .before .before .next-item .ensures) (λ ls q. c .count-cases .ensures .by ls (c .before .labels-of .ensures .by ls q)) lss
+          (after-loop .loop .inv .1 lss r)),
     ))
     (λ c. record {
       by = λ lss r. count-end (commands _) _ (c .before .before .before .args .end) (c .loop-test .left) lss

@@ -12,21 +12,9 @@ pub count-cases-spec : {M : Type 1} → statement M
 count-cases-spec =
     tie.close (tie.spec Inv-loop (λ s from end at₀ n₀ at n. end - at) (λ c. (omega arith, omega arith, λ ls r. search count-begin)) (search needs)
     (search needs) (λ c. omega arith) (λ c. omega arith)
-    (λ c. (
-      omega (arith, c .before .before .before .loop .inv .0, c .one-case .ensures .few, c .before .next-item .ensures .further),
-      omega (
-        arith,
-        c .before .before .before .loop .inv .0,
-        c .one-case .ensures .few,
-        c .before .next-item .ensures .further,
-        c .before .next-item .ensures .within,
-      ),
-      (let after-loop = c .before .before .before in λ ls r. count-next (labels _) _ _ _
-          (c .before .before .loop-test .taken) (c .before .next-item .ensures) (λ x q. c .one-case .ensures .by x q) ls
-          (after-loop .loop .inv .2 ls r)),
-    ))
+    (λ c. (omega arith, omega arith, λ ls r. search (count-next, labels, c .before .before .before .loop .inv .2)))
     (λ c. record {
-      few = omega (arith, c .before .loop .inv .1);
-      by = λ ls r. count-end (labels _) (c .before .before .before .args .s .now) _
-          (c .loop-test .left) ls (c .before .loop .inv .2 ls r);
+      few = omega arith;
+      by = λ ls r. count-end (labels _) (c .before .before .before .args .s .now) _ (c .loop-test .left) ls
+          (c .before .loop .inv .2 ls r);
     }))

@@ -13,11 +13,5 @@ pub default-of-spec : {M : Type 1} → statement M
 default-of-spec =
     tie.close (tie.spec Inv-loop (λ s from end first done at₀ k₀ at k. end - at) (λ c. (omega arith, λ lss r. search default-begin)) (search needs)
     (λ c κs. omega arith) (λ c _. c .labels-of .ensures .small) (λ c. search default-found) (λ c. omega arith) (λ c. omega arith)
-    (λ c. (
-      omega arith,
-      (let after-next-item = c .before .before .before in let after-loop-test = after-next-item .before in
-          let after-loop = after-loop-test .before in let start = after-loop .before .before in λ lss r. default-next _ (start .args .end) _ _ _
-          (after-loop-test .loop-test .taken) (after-next-item .next-item .ensures) (c .before .before .labels-of .ensures)
-          (c .before .has-default .ensures) (c .if1 .left) lss (after-loop .loop .inv .1 lss r)),
-    ))
+    (λ c. (omega arith, λ lss r. search (default-next, c .before .before .before .before .before .loop .inv .1)))
     (λ c. default-end _ _ _ _ (c .before .loop .k) (c .loop-test .left) (c .before .loop .inv .1)))
