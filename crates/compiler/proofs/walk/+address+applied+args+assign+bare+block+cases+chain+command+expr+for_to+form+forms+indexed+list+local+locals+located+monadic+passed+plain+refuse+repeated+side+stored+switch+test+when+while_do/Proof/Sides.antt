@@ -2,7 +2,7 @@
 use Rattle.compiler.proofs as proofs
 use proofs.steps as steps
 use Rattle.compiler.proofs.walk.+address+applied+args+assign+bare+block+cases+chain+command+expr+for_to+form+forms+indexed+list+local+locals+located+monadic+passed+plain+refuse+repeated+side+stored+switch+test+when+while_do as cycle
-use Rattle.laws.proofs.Basics.{ℕ, _-_, _≡_, refl, ap, _∙_, [], length, arith, needs}
+use Rattle.laws.proofs.Basics.{ℕ, _-_, _^_, _<_, _≡_, refl, ap, _∙_, [], length, arith, needs}
 use Rattle.compiler.proofs.Assigning.{AssignPart, assign-begin, assign-is, assign-right, assign-left, assign-next, assign-end}
 use Rattle.compiler.proofs.Sides.{side-open, side-refused, side-name, side-part, side-pling, side-left, side-right, side-index-gave}
 use Rattle.compiler.proofs.Sides.{gave-side-at, gave-refused-at, monadic-part, refuse-gave, address-open, address-pling, address-refused}
@@ -252,11 +252,19 @@ abbrev assign-Inv-loop : cycle.Lts-assign.InvT-loop
 assign-Inv-loop source s₀ left right end text₀ here l₀ at₀ r₀ s text l at r =
     (length s ≡ length s₀) × (length text ≡ length text₀) × ((y : ReadyAssign s₀ left right end here r₀) → AssignPart source text₀ y s text l at r)
 
+abbrev assign-μ-loop : cycle.Lts-assign.MeasureT-loop
+assign-μ-loop source s₀ left right end text₀ here l₀ at₀ r₀ s text l at r = end - at
+
+-- the left sides stand below the right ones
+assign-low : (t : ℕ) (c : cycle.Lts-assign.In-loop (assign-cs t) (at assign t) (rank assign .post) assign-Inv-loop assign-μ-loop)
+    → c .before .loop .l < 2 ^ 32
+assign-low t c = let y = c .before .before .before .before .before .pre .1 in let p = c .before .loop .inv .2 y in
+    omega (arith, assign-is _ _ (c .loop-test .taken) refl refl y p .before, y .ready .small, p .starts, c .loop-test .taken)
+
 pub assign-ok : {M : Type 1} (t : ℕ) → cycle.Lts-assign.Closed (assign-cs t) (at assign t) (rank assign .post) M
 assign-ok t =
-    cycle.Lts-assign.spec (assign-cs t) (at assign t) (rank assign .post) assign-Inv-loop
-    (λ source s₀ left right end text₀ here l₀ at₀ r₀ s text l at r. end - at) (λ c. search (needs, assign-begin)) (λ c. omega arith)
-    (λ c κs. search needs) (λ c. omega (arith, c .entry .ensures .1))
+    cycle.Lts-assign.spec (assign-cs t) (at assign t) (rank assign .post) assign-Inv-loop assign-μ-loop (λ c. search (needs, assign-begin))
+    (λ c. omega arith) (λ c κs. search needs) (λ c. omega (arith, c .entry .ensures .1))
     (λ c κs. let after-loop-test = c .before .before .before .before in let after-loop = after-loop-test .before in
     let start = after-loop .before .before .before .before in both (omega arith) (assign-right _ _ (after-loop-test .loop-test .taken)
     (c .before .before .entry .ensures .0) refl (start .pre .1) (after-loop .loop .inv .2 (start .pre .1)))) (λ c κs. search needs)
@@ -265,28 +273,7 @@ assign-ok t =
     let after-loop = after-loop-test .before in let start = after-loop .before .before .before .before in both (omega (arith, start .pre .0))
     (both (assign-left _ _ (after-loop-test .loop-test .taken) (after-entry .entry .ensures .0) refl (after-expr .expr .ensures)
     (start .pre .1) (after-loop .loop .inv .2 (start .pre .1))) (c .before .before .node-at .ensures .place-fits)))
-    (λ c. let after-entry = c .before .before .before .before .before .before .before .before .before .before .before .before .before .before
-    .before .before in let after-loop-test = after-entry .before .before in let after-loop = after-loop-test .before in
-    let start = after-loop .before .before .before .before in
-    omega (
-      arith,
-      assign-is _ _ (after-loop-test .loop-test .taken) (after-entry .entry .ensures .0) refl (start .pre .1)
-          (after-loop .loop .inv .2 (start .pre .1)) .before,
-      start .pre .1 .ready .small,
-      after-loop .loop .inv .2 (start .pre .1) .starts,
-      after-loop-test .loop-test .taken,
-    )) (λ c κs. search needs)
-    (λ c. let after-entry = c .before .before .before .before .before .before .before .before .before .before .before .before .before .before
-    .before .before .before .before in let after-loop-test = after-entry .before .before in let after-loop = after-loop-test .before in
-    let start = after-loop .before .before .before .before in
-    omega (
-      arith,
-      assign-is _ _ (after-loop-test .loop-test .taken) (after-entry .entry .ensures .0) refl (start .pre .1)
-          (after-loop .loop .inv .2 (start .pre .1)) .before,
-      start .pre .1 .ready .small,
-      after-loop .loop .inv .2 (start .pre .1) .starts,
-      after-loop-test .loop-test .taken,
-    ))
+    (λ c. omega (arith, assign-low t (search))) (λ c κs. search needs) (λ c. omega (arith, assign-low t (search)))
     (λ c. let after-loop-test = c .before .before .before .before .before .before .before .before .before .before .before .before .before .before
     .before .before .before .before .before .before in omega (arith, after-loop-test .loop-test .taken))
     (λ c. let after-side = c .before .before .before .before .before .before in let after-node-at = after-side .before .before .before in
