@@ -1,6 +1,5 @@
 use Rattle.laws.proofs.Basics.{_+_, _≤_, sym, _∙_, length-take-le, arith, needs}
 use Rattle.compiler.proofs.Answering.{end-inside, few-symbols, few-labels, ready-behind, ready-program, translates}
-use Rattle.compiler.proofs.walked.Statement.{statement}
 use Rattle.compiler.proofs.walked.Tie as tie
 
 abbrev start : tie.After-program → tie.Start
@@ -10,7 +9,7 @@ labels : (c : tie.After-string-count) → c .before .before .function-count .res
 labels c =
     let f = c .before .before in few-labels (f .before .before .before .before .before .pre) (f .function-count .ensures) (c .string-count .ensures)
 
-pub walked-spec : {M : Type 1} → statement M
+pub walked-spec : {M : Type 1} → Rattle.compiler.proofs.walked.Statement.statement M
 walked-spec =
     tie.close (tie.spec (search needs) (λ c κs. omega (arith, few-symbols)) (λ c κs. omega (arith, few-symbols)) (search needs) (search needs)
     (λ c. omega (arith, labels (search))) (λ c. omega (arith, labels (search))) (search needs) (λ c. omega (arith, labels (search)))

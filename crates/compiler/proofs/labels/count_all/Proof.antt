@@ -2,14 +2,13 @@ use Rattle.laws.proofs.Basics.{_-_, _*_, _^_, _≤_, List, arith, needs}
 use Rattle.language.specs.Tree.{Label}
 use Rattle.compiler.specs.Labels.{CommandAt, Row}
 use Rattle.compiler.proofs.Switching.{commands, CountPart, count-begin, count-next, count-end}
-use Rattle.compiler.proofs.labels.count_all.Statement.{statement}
 use Rattle.compiler.proofs.labels.count_all.Tie as tie
 
 abbrev Inv-loop : tie.InvT-loop
 Inv-loop s from end at₀ n₀ at n =
     (n ≤ at * 2 ^ 32) × ((lss : List (List Label)) → Row (CommandAt s) s end from lss → CountPart (commands s) s end at n lss)
 
-pub count-all-spec : {M : Type 1} → statement M
+pub count-all-spec : {M : Type 1} → Rattle.compiler.proofs.labels.count_all.Statement.statement M
 count-all-spec =
     tie.close (tie.spec Inv-loop (λ s from end at₀ n₀ at n. end - at) (λ c. (omega arith, λ lss r. search count-begin)) (search needs)
     (λ c κs. omega arith) (λ c _. c .labels-of .ensures .small) (λ c. omega arith) (λ c. omega arith)

@@ -2,7 +2,6 @@ use Rattle.laws.proofs.Basics.{_-_, _≡_, refl, _∙_, List, length, arith, ne
 use Rattle.compiler.proofs.Language.{Label, labelsOf}
 use Rattle.compiler.specs.Labels.{LabelAt, Listed, Marks}
 use Rattle.compiler.proofs.Doubling.{OwnPart, own-begin, own-next, own-end}
-use Rattle.compiler.proofs.labels.doubled_in.Statement.{statement}
 use Rattle.compiler.proofs.labels.doubled_in.Tie as tie
 
 abbrev Inv-loop : tie.InvT-loop
@@ -11,7 +10,7 @@ Inv-loop source s from end top seen₀ at₀ r₀ seen at r =
     ((y : Listed (LabelAt s) s from end top) (first : List Label) → Marks seen₀ (labelsOf source (y .scope) first) → OwnPart source r₀ y first seen
     at r)
 
-pub doubled-in-spec : {M : Type 1} → statement M
+pub doubled-in-spec : {M : Type 1} → Rattle.compiler.proofs.labels.doubled_in.Statement.statement M
 doubled-in-spec =
     tie.close (tie.spec Inv-loop (λ source s from end top seen₀ at₀ r₀ seen at r. end - at) (λ c. (refl, λ y first m. search own-begin))
     (search needs) (λ c κs. omega arith) (λ c. omega arith)

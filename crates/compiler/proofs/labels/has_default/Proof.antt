@@ -2,13 +2,12 @@ use Rattle.laws.proofs.Basics.{_-_, List, arith, needs}
 use Rattle.language.specs.Tree.{Label}
 use Rattle.compiler.specs.Labels.{LabelAt, Row}
 use Rattle.compiler.proofs.Switching.{AmongPart, among-begin, among-next, among-found, among-end}
-use Rattle.compiler.proofs.labels.has_default.Statement.{statement}
 use Rattle.compiler.proofs.labels.has_default.Tie as tie
 
 abbrev Inv-loop : tie.InvT-loop
 Inv-loop s from end at₀ at = (ls : List Label) → Row (LabelAt s) s end from ls → AmongPart s end at ls
 
-pub has-default-spec : {M : Type 1} → statement M
+pub has-default-spec : {M : Type 1} → Rattle.compiler.proofs.labels.has_default.Statement.statement M
 has-default-spec =
     tie.close (tie.spec Inv-loop (λ s from end at₀ at. end - at) (λ c. λ ls r. search among-begin) (search needs) (search needs)
     (λ c. record {

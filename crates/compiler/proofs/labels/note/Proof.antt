@@ -1,10 +1,9 @@
 use Rattle.laws.proofs.Basics.{_/_, refl, arith, needs}
 use Rattle.compiler.proofs.Flags.{flag-fits}
 use Rattle.compiler.proofs.Doubling.{note-first, note-again, note-none}
-use Rattle.compiler.proofs.labels.note.Statement.{statement}
 use Rattle.compiler.proofs.labels.note.Tie as tie
 
-pub note-spec : {M : Type 1} → statement M
+pub note-spec : {M : Type 1} → Rattle.compiler.proofs.labels.note.Statement.statement M
 note-spec =
     tie.close (tie.spec (search needs) (λ c. omega (arith, c .before .before .slice-known .given (c .before .before .before .args .i / 8)))
     (search needs) (search needs)

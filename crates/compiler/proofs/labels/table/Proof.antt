@@ -1,9 +1,8 @@
 use Rattle.compiler.proofs.Switching.{table-gave}
 use Rattle.laws.proofs.Basics.{needs}
-use Rattle.compiler.proofs.labels.table.Statement.{statement}
 use Rattle.compiler.proofs.labels.table.Tie as tie
 
-pub table-spec : {M : Type 1} → statement M
+pub table-spec : {M : Type 1} → Rattle.compiler.proofs.labels.table.Statement.statement M
 table-spec =
     tie.close (tie.spec (search needs) (search needs) (search needs) (search needs) (search needs)
     (λ c κs. let start = c .before .before .before .before .before .before .before .before .before .before .before .before .before .before .before

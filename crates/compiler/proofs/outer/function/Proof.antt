@@ -1,6 +1,5 @@
 use Rattle.laws.proofs.Basics.{_+_, _*_, _/_, _^_, _<_, _≤_, _∙_, length, arith, needs}
 use Rattle.compiler.proofs.FunctionLaws.{function-room, function-names, function-body, function-gave}
-use Rattle.compiler.proofs.outer.function.Statement.{statement}
 use Rattle.compiler.proofs.outer.function.Tie as tie
 
 room : (c : tie.After-node-at) → let start = c .before .before .before .before .before in let top = start .args .here .top in
@@ -8,7 +7,7 @@ room : (c : tie.After-node-at) → let start = c .before .before .before .before
     × (start .pre .base < 2 ^ 32)
 room c = function-room _ (c .node-at .ensures) (c .before .before .before .before .before .pre)
 
-pub function-spec : {M : Type 1} → statement M
+pub function-spec : {M : Type 1} → Rattle.compiler.proofs.outer.function.Statement.statement M
 function-spec =
     tie.close (tie.spec (search needs) (search needs) (search needs) (search needs) (λ c κs. (room (search) .0, omega arith, omega arith))
     (λ c. omega (arith, room (search))) (λ c κs. search function-names) (search needs) (search needs) (λ c. omega (arith, room (search)))

@@ -1,7 +1,6 @@
 use Rattle.laws.proofs.Basics.{_-_, _≡_, refl, _∙_, length, arith, needs}
 use Rattle.compiler.specs.Groups.{ReadyGroup}
 use Rattle.compiler.proofs.GroupNameLaws.{GroupPart, names-begin, names-fit, names-next, names-end, Fits}
-use Rattle.compiler.proofs.outer.group_names.Statement.{statement}
 use Rattle.compiler.proofs.outer.group_names.Tie as tie
 
 abbrev Inv-loop : tie.InvT-loop
@@ -18,7 +17,7 @@ fit : (c : tie.In-loop Inv-loop μ-loop) → let start = c .before .before .befo
 fit c = let start = c .before .before .before .before .before in
     names-fit (start .args .source .now) (start .args .st) (c .loop-test .taken) (start .pre) (c .before .loop .inv .2 (start .pre))
 
-pub group-names-spec : {M : Type 1} → statement M
+pub group-names-spec : {M : Type 1} → Rattle.compiler.proofs.outer.group_names.Statement.statement M
 group-names-spec =
     tie.close (tie.spec Inv-loop μ-loop (λ c. (refl, refl, λ y. search names-begin)) (λ c. omega arith) (search needs) (λ c. omega arith)
     (λ c. omega arith) (λ c κs. omega (arith, fit (search))) (λ c. omega arith) (search needs) (λ c κs. search (needs, names-fit)) (λ c. omega arith)

@@ -1,7 +1,6 @@
 use Rattle.laws.proofs.Basics.{_+_, _-_, _*_, _≤_, _≡_, refl, _∙_, length, arith, needs}
 use Rattle.compiler.specs.Items.{ReadyItems}
 use Rattle.compiler.proofs.ItemLaws.{ItemsPart, items-begin, items-fit, items-next, items-end, items-out, code-small, Fits}
-use Rattle.compiler.proofs.outer.items.Statement.{statement}
 use Rattle.compiler.proofs.outer.items.Tie as tie
 
 abbrev Inv-loop : tie.InvT-loop
@@ -22,7 +21,7 @@ out : (c : tie.At-loop Inv-loop μ-loop) → let start = c .before .before .befo
 out c = let start = c .before .before .before in
     items-out (start .args .global) (start .args .source .now) (start .args .st) (c .loop .k) (start .pre) (c .loop .inv .1 (start .pre))
 
-pub items-spec : {M : Type 1} → statement M
+pub items-spec : {M : Type 1} → Rattle.compiler.proofs.outer.items.Statement.statement M
 items-spec =
     tie.close (tie.spec Inv-loop μ-loop (λ c. (refl, λ y. search items-begin)) (λ c. omega arith) (search needs) (λ c. omega arith)
     (λ c. omega (arith, fit (search))) (λ c. omega (arith, fit (search))) (λ c κs. omega (arith, fit (search))) (λ c. omega (arith, fit (search)))

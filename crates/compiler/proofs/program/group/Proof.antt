@@ -3,7 +3,6 @@ use Rattle.laws.proofs.Basics.{ℕ, _-_, _≡_, refl, _∙_, length, arith, nee
 use Rattle.language.specs.Names.{Scope, outermost}
 use Rattle.compiler.specs.Groups.{ReadyFs}
 use Rattle.compiler.proofs.FunctionLists.{GroupPart, group-begin, group-ready, group-fits, group-next, group-end}
-use Rattle.compiler.proofs.program.group.Statement.{statement}
 use Rattle.compiler.proofs.program.group.Tie as tie
 
 abbrev Inv-loop : tie.InvT-loop
@@ -12,7 +11,7 @@ Inv-loop source s₀ from end text₀ here label at₀ l₀ r₀ tall₀ s text 
     × ((y : ReadyFs s₀ from end here (record { tall = tall₀; state = r₀ })) (before : Scope) (k : ℕ)
     → GroupPart source text₀ label (record { tall = tall₀; state = r₀ }) y before k s text at l (record { tall = tall; state = r }))
 
-pub group-spec : {M : Type 1} → statement M
+pub group-spec : {M : Type 1} → Rattle.compiler.proofs.program.group.Statement.statement M
 group-spec =
     tie.close (tie.spec Inv-loop (λ source s₀ from end text₀ here label at₀ l₀ r₀ tall₀ s text at l r tall. end - at)
     (λ c. (refl, refl, λ y before k. search group-begin)) (λ c. omega arith) (search needs) (λ c. omega arith)

@@ -1,10 +1,9 @@
 -- `named` meets its contract: `items` has done it all but taken the height away.
 use Rattle.laws.proofs.Basics.{refl, needs}
 use Rattle.compiler.proofs.Levels.{items-flat}
-use Rattle.compiler.proofs.program.named.Statement.{statement}
 use Rattle.compiler.proofs.program.named.Tie as tie
 
-pub named-spec : {M : Type 1} → statement M
+pub named-spec : {M : Type 1} → Rattle.compiler.proofs.program.named.Statement.statement M
 named-spec =
     tie.close (tie.spec (λ c κs. search needs) (λ c κs. search needs) (λ c. search needs)
     (λ c. record {

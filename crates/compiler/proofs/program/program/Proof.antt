@@ -2,7 +2,6 @@
 use Rattle.laws.proofs.Basics.{_-_, _≡_, refl, _∙_, length, arith, needs}
 use Rattle.compiler.specs.Programs.{ReadyProgram}
 use Rattle.compiler.proofs.ProgramLoop.{ProgramPart, program-begin, program-ready, program-next, program-end}
-use Rattle.compiler.proofs.program.program.Statement.{statement}
 use Rattle.compiler.proofs.program.program.Tie as tie
 
 abbrev Inv-loop : tie.InvT-loop
@@ -10,7 +9,7 @@ Inv-loop source s₀ table₀ base end left strings text₀ at₀ l₀ s table t
     (length s ≡ length s₀) × (length table ≡ length table₀) × (length text ≡ length text₀)
     × ((y : ReadyProgram s₀ table₀ base end left strings (l₀ .done)) → ProgramPart source text₀ (l₀ .done) y s table text at l)
 
-pub program-spec : {M : Type 1} → statement M
+pub program-spec : {M : Type 1} → Rattle.compiler.proofs.program.program.Statement.statement M
 program-spec =
     tie.close (tie.spec Inv-loop (λ source s₀ table₀ base end left strings text₀ at₀ l₀ s table text at l. end - at)
     (λ c. (refl, refl, refl, λ y. search program-begin)) (λ c. omega arith) (search needs) (λ c. omega arith) (λ c. omega arith) (search needs)

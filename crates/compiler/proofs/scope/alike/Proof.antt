@@ -1,9 +1,8 @@
 use Rattle.laws.proofs.Basics.{_+_, _-_, sym, _∙_, arith, needs}
 use Rattle.compiler.proofs.Scoping.{differs}
-use Rattle.compiler.proofs.scope.alike.Statement.{statement}
 use Rattle.compiler.proofs.scope.alike.Tie as tie
 
-pub alike-spec : {M : Type 1} → statement M
+pub alike-spec : {M : Type 1} → Rattle.compiler.proofs.scope.alike.Statement.statement M
 alike-spec =
     tie.close (tie.spec (λ c. search needs) (λ c κs. search needs) (λ c. search needs) (λ c. search needs) (λ c κs. search needs) (λ c. search needs)
     (λ c. search needs) (λ c. search needs) (λ c. search needs)

@@ -1,8 +1,7 @@
 use Rattle.laws.proofs.Basics.{refl, sym, List·getD-eq-default, arith, needs}
-use Rattle.compiler.proofs.scope.entry.Statement.{statement}
 use Rattle.compiler.proofs.scope.entry.Tie as tie
 
-pub entry-spec : {M : Type 1} → statement M
+pub entry-spec : {M : Type 1} → Rattle.compiler.proofs.scope.entry.Statement.statement M
 entry-spec =
     tie.close (tie.spec (search needs) (search needs) (λ c. omega (arith, c .shared-slice-known .given (c .before .before .args .i)))
     (λ c. (refl, omega (arith, c .shared-slice-known .given (c .before .before .args .i))))

@@ -2,14 +2,13 @@ use Rattle.laws.proofs.Basics.{_≤_, sym, ap, _∙_, arith, needs}
 use Rattle.language.specs.Names.{Scope, inBlock}
 use Rattle.compiler.specs.Scope.{Shows, nameAt, found}
 use Rattle.compiler.proofs.Scoping.{shows-low, Left, left-all, left-then, in-outer, in-open, in-other, in-found}
-use Rattle.compiler.proofs.scope.in_block.Statement.{statement}
 use Rattle.compiler.proofs.scope.in_block.Tie as tie
 
 abbrev Inv-loop : tie.InvT-loop
 Inv-loop source s top leaf width place last at₀ at =
     (at ≤ top) × ((sc : Scope) → Shows s top sc → Left (λ (k : Scope). inBlock source k (nameAt s leaf)) s at sc)
 
-pub in-block-spec : {M : Type 1} → statement M
+pub in-block-spec : {M : Type 1} → Rattle.compiler.proofs.scope.in_block.Statement.statement M
 unfolding found
 in-block-spec =
     tie.close (tie.spec Inv-loop (λ source s top leaf width place last at₀ at. at)

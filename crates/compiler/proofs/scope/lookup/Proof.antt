@@ -2,7 +2,6 @@ use Rattle.laws.proofs.Basics.{_≤_, sym, ap, _∙_, arith, needs}
 use Rattle.language.specs.Names.{Scope, lookup}
 use Rattle.compiler.specs.Scope.{Shows, nameAt, found}
 use Rattle.compiler.proofs.Scoping.{shows-low, Left, left-all, left-then, at-outer, at-open, at-other, at-found}
-use Rattle.compiler.proofs.scope.lookup.Statement.{statement}
 use Rattle.compiler.proofs.scope.lookup.Tie as tie
 
 abbrev Inv-loop : tie.InvT-loop
@@ -16,7 +15,7 @@ Inv-search source s top leaf width place last at₀ at =
 abbrev μ-search : tie.MeasureT-search
 μ-search source s top leaf width place last at₀ at = at
 
-pub lookup-spec : {M : Type 1} → statement M
+pub lookup-spec : {M : Type 1} → Rattle.compiler.proofs.scope.lookup.Statement.statement M
 unfolding found
 lookup-spec =
     tie.close (tie.spec Inv-loop (λ source s top leaf width place last at₀ at. at) Inv-search μ-search

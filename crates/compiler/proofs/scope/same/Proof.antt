@@ -1,14 +1,13 @@
 use Rattle.laws.proofs.Basics.{_≤_, _≡_, refl, sym, _∙_, take, drop, arith, needs}
 use Rattle.language.specs.Names.{sameBytes}
 use Rattle.compiler.proofs.Scoping.{one-fewer, differs, all-passed}
-use Rattle.compiler.proofs.scope.same.Statement.{statement}
 use Rattle.compiler.proofs.scope.same.Tie as tie
 
 abbrev Inv-loop : tie.InvT-loop
 Inv-loop source p q n i₀ i =
     (i ≤ n) × (sameBytes (take n (drop p source)) (take n (drop q source)) ≡ sameBytes (take i (drop p source)) (take i (drop q source)))
 
-pub same-spec : {M : Type 1} → statement M
+pub same-spec : {M : Type 1} → Rattle.compiler.proofs.scope.same.Statement.statement M
 same-spec =
     tie.close (tie.spec Inv-loop (λ source p q n i₀ i. i) (λ c. (omega arith, refl)) (λ c. omega arith) (λ c. omega arith) (λ c. omega arith)
     (λ c. omega arith) (λ c. omega arith)

@@ -1,9 +1,8 @@
 use Rattle.laws.proofs.Basics.{ne-eqb}
 use Rattle.code.specs.Generate.{dyadicAct}
-use Rattle.compiler.proofs.steps.act_of.Statement.{statement}
 use Rattle.compiler.proofs.steps.act_of.Tie as tie
 
-pub act-of-spec : {M : Type 1} → statement M
+pub act-of-spec : {M : Type 1} → Rattle.compiler.proofs.steps.act_of.Statement.statement M
 unfolding dyadicAct
 act-of-spec =
     tie.close (tie.spec (λ c. rw (c .match .keys1)) (λ c. rw (c .match .keys2)) (λ c. rw (c .match .keys3)) (λ c. rw (c .match .keys4))

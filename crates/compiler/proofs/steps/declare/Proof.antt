@@ -3,7 +3,6 @@ use Rattle.compiler.proofs.Vocabulary.{nameAt}
 use Rattle.language.specs.Fine.{FineName}
 use Rattle.compiler.specs.Commands.{ReadyNames}
 use Rattle.compiler.proofs.Declarations.{NamesPart, names-begin, names-next, names-end, names-fit}
-use Rattle.compiler.proofs.steps.declare.Statement.{statement}
 use Rattle.compiler.proofs.steps.declare.Tie as tie
 
 abbrev Inv-loop : tie.InvT-loop
@@ -20,7 +19,7 @@ fit : (c : tie.In-loop Inv-loop μ-loop) → let start = c .before .before .befo
 fit c = let start = c .before .before .before .before in
     names-fit (start .args .source .now) (c .before .loop .k) (c .loop-test .taken) (start .pre) (c .before .loop .inv .1 (start .pre))
 
-pub declare-spec : {M : Type 1} → statement M
+pub declare-spec : {M : Type 1} → Rattle.compiler.proofs.steps.declare.Statement.statement M
 declare-spec =
     tie.close (tie.spec Inv-loop μ-loop (λ c. (refl, λ y. search names-begin)) (λ c. omega (arith, fit (search))) (λ c. omega (arith, fit (search)))
     (λ c κs. search (needs, names-fit)) (λ c. omega arith) (search needs) (λ c _. c .entry .ensures .1) (λ c. omega (arith, fit (search)))

@@ -1,9 +1,8 @@
 use Rattle.laws.proofs.Basics.{_∙_, arith, needs}
 use Rattle.compiler.proofs.Done.{emits-then}
-use Rattle.compiler.proofs.steps.for_step.Statement.{statement}
 use Rattle.compiler.proofs.steps.for_step.Tie as tie
 
-pub for-step-spec : {M : Type 1} → statement M
+pub for-step-spec : {M : Type 1} → Rattle.compiler.proofs.steps.for_step.Statement.statement M
 for-step-spec =
     tie.close (tie.spec (search needs) (search needs) (search needs) (search needs) (search needs) (search needs)
     (λ c. let put : tie.After-put = search in let start : tie.Start = search in omega arith) (search needs)

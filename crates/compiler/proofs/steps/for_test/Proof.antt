@@ -1,10 +1,9 @@
 use Rattle.laws.proofs.Basics.{_∙_, arith, needs}
 use Rattle.compiler.proofs.Done.{emits-then}
 use Rattle.compiler.proofs.Fors.{act-is}
-use Rattle.compiler.proofs.steps.for_test.Statement.{statement}
 use Rattle.compiler.proofs.steps.for_test.Tie as tie
 
-pub for-test-spec : {M : Type 1} → statement M
+pub for-test-spec : {M : Type 1} → Rattle.compiler.proofs.steps.for_test.Statement.statement M
 for-test-spec =
     tie.close (tie.spec (search needs) (search needs) (search needs) (search needs) (search needs) (search needs)
     (λ c. let start : tie.Start = search in omega arith) (search needs)

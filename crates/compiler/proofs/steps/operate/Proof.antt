@@ -1,9 +1,8 @@
 use Rattle.compiler.proofs.Done.{emits-then}
 use Rattle.laws.proofs.Basics.{needs}
-use Rattle.compiler.proofs.steps.operate.Statement.{statement}
 use Rattle.compiler.proofs.steps.operate.Tie as tie
 
-pub operate-spec : {M : Type 1} → statement M
+pub operate-spec : {M : Type 1} → Rattle.compiler.proofs.steps.operate.Statement.statement M
 operate-spec =
     tie.close (tie.spec (search needs) (search needs) (search needs) (search needs) (search needs) (search needs) (search needs)
     (λ c. emits-then (c .before .before .before .before .before .before .before .before .before .before .before .before .before .before .put .ensures)

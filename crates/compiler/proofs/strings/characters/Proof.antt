@@ -2,13 +2,12 @@ use Rattle.laws.proofs.Basics.{_-_, _≡_, refl, length, arith, needs}
 use Rattle.text.proofs.Answers.{when-is, when-closing, when-ended, when-mistake}
 use Rattle.text.proofs.Quotes.{is-inside}
 use Rattle.compiler.proofs.StringTexts.{Spelling, spelling-begin, spelling-next, spelling-end, spelling-ended, spelling-mistake}
-use Rattle.compiler.proofs.strings.characters.Statement.{statement}
 use Rattle.compiler.proofs.strings.characters.Tie as tie
 
 abbrev Inv-loop : tie.InvT-loop
 Inv-loop source from text₀ at i₀ x₀ text i x = (length text ≡ length text₀) × Spelling source from i at x text₀ text
 
-pub characters-spec : {M : Type 1} → statement M
+pub characters-spec : {M : Type 1} → Rattle.compiler.proofs.strings.characters.Statement.statement M
 characters-spec =
     tie.close (tie.spec Inv-loop (λ source from text₀ at i₀ x₀ text i x. length source - i) (λ _. (refl, spelling-begin)) (search needs)
     (search needs) (search needs)
