@@ -200,8 +200,7 @@ module _ (text t₀ : List ℕ) {s₀ : List ℕ} {left right end : ℕ} {here :
                 (2 * (length (encodeSides (p .lefts)) + length (encodeExpressions (p .rights)))) t t′ st st′) (sym (v .same)) (did-as (pairsSays
                 here (R.pair T′ E PS)) _ (did-then (x .did) (did-then (subst (λ (i : ℕ). Did (inExpression text sc L (h + 1) (u .left) ++
                 unlessSide i (sideOf D)) (targetSays here T′) (2 * length (encode (u .left))) t₁ t₂ a r) pl (w .did)) d)) (same-pairs fr fl
-                (inSides text sc L (h + 1) (u .lefts)) (inRightSides text sc L h (v .more))) (λ m e. code-is refl (sym (append-assoc (ofExpr h E)
-                (ofTarget h T′) (ofPairs h PS))) (omega arith))
+                (inSides text sc L (h + 1) (u .lefts)) (inRightSides text sc L h (v .more))) (λ m e. code-is refl (simp append-assoc) (omega arith))
                 (omega (arith, assign-length y p .0, assign-length y p .1, sides-short (u .lefts))))));
           }
 

@@ -89,9 +89,8 @@ module _ (text t₀ : List ℕ) {s₀ : List ℕ} {from end : ℕ} {here : Here}
         let n = rest-length z (y .starts) l es en p in let E = expression text sc h (u .part) in let e1 : here .height + (k + 1) ≡ h + 1
         = omega arith in
         goes-on z (y .starts) l es en p (x .keeps) (omega arith) (omega arith) (omega arith)
-        (λ t′ st′ d. did-as _ _ (did-then (did-emit (x .did) f) (rw e1 at d)) same-refl (λ n c. code-is (append-assoc (exprCode (here .strings) h n E)
-        (G.SP h ∷ []) (exprsCode (here .strings) (h + 1) (n + exprLabels E) (expressions text sc (h + 1) (u .more)))) (append-assoc (ofExpr h E)
-        ((h + 1) ∷ []) (ofExprs (h + 1) (expressions text sc (h + 1) (u .more)))) refl) (omega arith))
+        (λ t′ st′ d. did-as _ _ (did-then (did-emit (x .did) f) (rw e1 at d)) same-refl
+        (λ n c. code-is (simp append-assoc) (simp append-assoc) refl) (omega arith))
 
   pub args-end : (k : ℕ) {s t : List ℕ} {at : ℕ} {st : State} → end ≤ at → ((y : ReadyArgs s₀ from end here st₀) → ArgsPart y s t at k st)
       → GaveArgs text s₀ s from end here t₀ t st₀ st

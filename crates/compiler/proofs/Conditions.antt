@@ -106,17 +106,12 @@ is-while : {s : List ℕ} {lo end w : ℕ} {u : Unlabelled} → WhileWord w → 
 is-while aWhile (F.aWhile h q) = guarded-of h q
 is-while anUntil (F.anUntil h q) = guarded-of h q
 
-while-means : (text : List ℕ) (sc : Scope) (h : ℕ) {w : ℕ} → WhileWord w → (e : Expression) (c : Command)
-    → unlabelled text sc h (T.guarded w e c) ≡ R.while (eqb w K.WHILE) (expression text sc h e) (command text sc h c)
-unfolding unlabelled
-while-means text sc h aWhile e c = refl
-while-means text sc h anUntil e c = refl
-
-while-faults : (text : List ℕ) (sc : Scope) (l : Leavable) (h : ℕ) {w : ℕ} → WhileWord w → (e : Expression) (c : Command)
-    → inUnlabelled text sc l h (T.guarded w e c) ≡ inExpression text sc l h e ++ inCommand text sc (Y.inLoop l) h c
-unfolding inUnlabelled
-while-faults text sc l h aWhile e c = refl
-while-faults text sc l h anUntil e c = refl
+while-says : (text : List ℕ) (sc : Scope) (l : Leavable) (h : ℕ) {w : ℕ} → WhileWord w → (e : Expression) (c : Command)
+    → (unlabelled text sc h (T.guarded w e c) ≡ R.while (eqb w K.WHILE) (expression text sc h e) (command text sc h c))
+    × (inUnlabelled text sc l h (T.guarded w e c) ≡ inExpression text sc l h e ++ inCommand text sc (Y.inLoop l) h c)
+unfolding unlabelled inUnlabelled
+while-says text sc l h aWhile e c = (refl, refl)
+while-says text sc l h anUntil e c = (refl, refl)
 
 -- in a loop that ends at a label, a loop may be left
 pub leaves-loop : (here : Here) (ways : Ways) (next end : ℕ) → 0 < end → leavableBy (inLoop next end ways) here ≡ Y.inLoop (leavableBy ways here)
@@ -146,8 +141,8 @@ module _ {s : List ℕ} {end : ℕ} {here : Here} {st : State} (n b : Node) (nd 
         by = λ y. let u = while-is y in let x = g .by (while-test y) in let z = g₂ .by (while-body y) in let sc = y .scope in let h = here .height in
             let L = st .label in let S = here .strings in let E = expression text sc h (u .test) in let C = command text sc h (u .body) in
             let W = getD s (end - 1) 0 in let lv = leavableBy ways here in let w′ = exits (inLoop L (L + 1) ways) in
-            let em = ap (unlabelled text sc h) (u .same) ∙ while-means text sc h w (u .test) (u .body) in let ef = ap (inUnlabelled text sc lv h)
-            (u .same) ∙ while-faults text sc lv h w (u .test) (u .body) in let jj : j ≡ cond (eqb W K.WHILE) 5 4 = rw (ej, nd .kind) in
+            let says = while-says text sc lv h w (u .test) (u .body) in let em = ap (unlabelled text sc h) (u .same) ∙ says .0 in
+            let ef = ap (inUnlabelled text sc lv h) (u .same) ∙ says .1 in let jj : j ≡ cond (eqb W K.WHILE) 5 4 = rw (ej, nd .kind) in
             let lo = leaves-loop here ways L (L + 1) (omega arith) in
             record {
               keeps = keeps-then (x .keeps) (z .keeps);

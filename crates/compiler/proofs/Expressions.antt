@@ -83,27 +83,16 @@ module _ {s : List ℕ} {end : ℕ} {here : Here} {st : State} (n : Node) (nd : 
 -- ---- operators of one binding level
 
 module _ (text : List ℕ) (sc : Scope) (strings h : ℕ) where
-  chain-items : (e : Expr) (os : Operations) (n : ℕ)
-      → exprCode strings h n (operations text sc h e os) ≡ exprCode strings h n e ++ chainCode text sc strings h os (n + exprLabels e)
-  unfolding operations chainCode exprCode exprLabels
-  chain-items e T.noOperations n = sym (append-nil (exprCode strings h n e))
-  chain-items e (T.operation o d os) n =
-      let D = expression text sc (h + 1) d in let a = exprCode strings h n e in let b = exprCode strings (h + 1) (n + exprLabels e) D in
-      let z = G.SP (h + 1) ∷ G.LIP h ∷ G.LIP (h + 1) ∷ G.X (G.dyadicAct o) ∷ [] in let k : n + (exprLabels e + exprLabels D) ≡ n + exprLabels e
-      + exprLabels D = omega arith in
-      simp (chain-items (R.binary o e D) os n, append-assoc, k)
-
-  pub chain-heights : (e : Expr) (os : Operations) → ofExpr h (operations text sc h e os) ≡ ofExpr h e ++ chainHeights text sc h os
-  unfolding operations chainHeights ofExpr
-  chain-heights e T.noOperations = sym (append-nil (ofExpr h e))
-  chain-heights e (T.operation o d os) =
-      let D = expression text sc (h + 1) d in
-      chain-heights (R.binary o e D) os ∙ append-assoc (ofExpr h e) ((h + 1) ∷ ofExpr (h + 1) D) (chainHeights text sc h os)
-
-  chain-labels : (e : Expr) (os : Operations) → exprLabels (operations text sc h e os) ≡ exprLabels e + chainLabels text sc h os
-  unfolding operations chainLabels exprLabels
-  chain-labels e T.noOperations = omega arith
-  chain-labels e (T.operation o d os) = chain-labels (R.binary o e (expression text sc (h + 1) d)) os ∙ omega arith
+  chain-is : (e : Expr) (os : Operations) (n : ℕ) → exprSays strings h (operations text sc h e os) n ≡ record {
+    items = exprCode strings h n e ++ chainCode text sc strings h os (n + exprLabels e);
+    heights = ofExpr h e ++ chainHeights text sc h os;
+    labels = exprLabels e + chainLabels text sc h os;
+  }
+  unfolding operations chainCode chainHeights chainLabels exprCode ofExpr exprLabels
+  chain-is e T.noOperations n = code-is (sym (append-nil _)) (sym (append-nil _)) (omega arith)
+  chain-is e (T.operation o d os) n =
+      let D = expression text sc (h + 1) d in let k : n + (exprLabels e + exprLabels D) ≡ n + exprLabels e + exprLabels D = omega arith in
+      chain-is (R.binary o e D) os n ∙ code-is (simp (append-assoc, k)) (simp append-assoc) (omega arith)
 
 -- another name of the same place
 pub ready-at : {A : Type 0} {enc : A → List ℕ} {deep : A → ℕ} {Fine : A → Type 0} {s : List ℕ} {end : ℕ} {d d′ : Here} {st : State} → d′ ≡ d
@@ -145,8 +134,7 @@ module _ {s : List ℕ} {end : ℕ} {here : Here} {st : State} (n : Node) (nd : 
           so text here sc (u .same) (record {
             keeps = keeps-then (x .keeps) (z .keeps);
             did = did-as (exprSays (here .strings) h (operations text sc h e (u .list))) _ (did-then (x .did) (z .did)) same-refl
-                (λ k c. code-is (sym (chain-items text sc (here .strings) h e (u .list) k))
-                (sym (chain-heights text sc (here .strings) h e (u .list))) (sym (chain-labels text sc (here .strings) h e (u .list)))) (omega arith);
+                (λ k c. sym (chain-is text sc (here .strings) h e (u .list) k)) (omega arith);
           });
     }
 

@@ -116,17 +116,12 @@ is-guarded : {s : List ℕ} {lo end w : ℕ} {u : Unlabelled} → WhenWord w →
 is-guarded anIf (F.anIf h q) = guarded-of h q
 is-guarded anUnless (F.anUnless h q) = guarded-of h q
 
-when-means : (text : List ℕ) (sc : Scope) (h : ℕ) {w : ℕ} → WhenWord w → (e : Expression) (c : Command)
-    → unlabelled text sc h (T.guarded w e c) ≡ R.when (eqb w 16) (expression text sc h e) (command text sc h c)
-unfolding unlabelled
-when-means text sc h anIf e c = refl
-when-means text sc h anUnless e c = refl
-
-when-faults : (text : List ℕ) (sc : Scope) (l : Leavable) (h : ℕ) {w : ℕ} → WhenWord w → (e : Expression) (c : Command)
-    → inUnlabelled text sc l h (T.guarded w e c) ≡ inExpression text sc l h e ++ inCommand text sc l h c
-unfolding inUnlabelled
-when-faults text sc l h anIf e c = refl
-when-faults text sc l h anUnless e c = refl
+when-says : (text : List ℕ) (sc : Scope) (l : Leavable) (h : ℕ) {w : ℕ} → WhenWord w → (e : Expression) (c : Command)
+    → (unlabelled text sc h (T.guarded w e c) ≡ R.when (eqb w 16) (expression text sc h e) (command text sc h c))
+    × (inUnlabelled text sc l h (T.guarded w e c) ≡ inExpression text sc l h e ++ inCommand text sc l h c)
+unfolding unlabelled inUnlabelled
+when-says text sc l h anIf e c = (refl, refl)
+when-says text sc l h anUnless e c = (refl, refl)
 
 module _ {s : List ℕ} {end : ℕ} {here : Here} {st : State} (n b : Node) (nd : NodeAt s end n) (bd : NodeAt s (n .inner) b)
     (w : WhenWord (getD s (end - 1) 0)) where
@@ -149,9 +144,8 @@ module _ {s : List ℕ} {end : ℕ} {here : Here} {st : State} (n b : Node) (nd 
     guard-gave ways {s₂} {t₃} {t₄} {k} {r} ej g₂ f₂ = record {
       by = λ y. let u = guard-is y in let x = g .by (guard-test e y) in let z = g₂ .by (guard-body y) in let sc = y .scope in let h = here .height in
           let E = expression text sc h (u .test) in let C = command text sc h (u .body) in let W = getD s (end - 1) 0 in let L = st .label in
-          let em = ap (unlabelled text sc h) (u .same) ∙ when-means text sc h w (u .test) (u .body) in
-          let ef = ap (inUnlabelled text sc (leavableBy ways here) h) (u .same) ∙ when-faults text sc (leavableBy ways here) h w (u .test)
-          (u .body) in let jj : j ≡ cond (eqb W 16) 5 4 = rw (ej, nd .kind) in
+          let lv = leavableBy ways here in let says = when-says text sc lv h w (u .test) (u .body) in
+          let em = ap (unlabelled text sc h) (u .same) ∙ says .0 in let ef = ap (inUnlabelled text sc lv h) (u .same) ∙ says .1 in let jj : j ≡ cond (eqb W 16) 5 4 = rw (ej, nd .kind) in
           record {
             keeps = keeps-then (x .keeps) (z .keeps);
             did =

@@ -274,7 +274,8 @@ module _ (text : List ℕ) {s s′ t t′ : List ℕ} {end : ℕ} (place : ℕ) 
         (record { keeps = x .keeps; did = did-as _ _ (x .did) (same-eq (sym (append-nil _) ∙ sym (append-nil _))) (λ m v. refl) (omega arith) });
   }
 
-  pub address-refused : NoSide (n .kind) → (n .kind ≡ 128 → n .value ≡ 49 → ⊥) → GaveRefused text s s′ end place here t t′ st r → GaveAddress text s s′ end place here t t′ st r
+  pub address-refused : NoSide (n .kind) → (n .kind ≡ 128 → n .value ≡ 49 → ⊥) → GaveRefused text s s′ end place here t t′ st r
+      → GaveAddress text s s′ end place here t t′ st r
   address-refused no-side-kind not-pling g = record {
     by = λ y.
         let sc = y .scope in let e = y .tree in let c = expression-closed e in let E = expression text sc (here .height) e in
@@ -403,7 +404,8 @@ module _ (text : List ℕ) {s s′ t t′ : List ℕ} {end : ℕ} (place : ℕ) 
         (sym (u .same)) (record { keeps = x .keeps; did = more _ (x .did) (omega arith) });
   }
 
-  pub side-refused : NoSide (n .kind) → (n .kind ≡ 128 → n .value ≡ 49 → ⊥) → GaveRefused text s s′ end place (raised 1 here) t t′ st r → GaveSide text s s′ end place here t t′ st r
+  pub side-refused : NoSide (n .kind) → (n .kind ≡ 128 → n .value ≡ 49 → ⊥) → GaveRefused text s s′ end place (raised 1 here) t t′ st r
+      → GaveSide text s s′ end place here t t′ st r
   side-refused no-side-kind not-pling g = record {
     by = λ y.
         let sc = y .scope in let e = y .tree in let c = expression-closed e in let h = here .height in
