@@ -198,8 +198,7 @@ module _ (text t₀ : List ℕ) {s₀ : List ℕ} {left right end : ℕ} {here :
                 (subst (λ (rs : Expressions). Did (inSides text sc L (h + 1) (T.andExpression (u .left) (u .lefts)) ++ inRightSides text sc L h rs)
                 (pairsSays here (pairUp (sides text sc (h + 1) (T.andExpression (u .left) (u .lefts))) (sides text sc h rs)))
                 (2 * (length (encodeSides (p .lefts)) + length (encodeExpressions (p .rights)))) t t′ st st′) (sym (v .same)) (did-as (pairsSays
-                here (R.pair T′ E PS)) _ (did-then (x .did) (did-then (subst (λ (i : ℕ). Did (inExpression text sc L (h + 1) (u .left) ++
-                unlessSide i (sideOf D)) (targetSays here T′) (2 * length (encode (u .left))) t₁ t₂ a r) pl (w .did)) d)) (same-pairs fr fl
+                here (R.pair T′ E PS)) _ (did-then (x .did) (did-then (rw pl at (w .did)) d)) (same-pairs fr fl
                 (inSides text sc L (h + 1) (u .lefts)) (inRightSides text sc L h (v .more))) (λ m e. code-is refl (simp append-assoc) (omega arith))
                 (omega (arith, assign-length y p .0, assign-length y p .1, sides-short (u .lefts))))));
           }

@@ -18,6 +18,7 @@ use Rattle.compiler.proofs.Done.{did-emit, did-put, did-after, did-none
 use Rattle.compiler.proofs.Trees.{first, second, find, IsTwo, is-two, Case, aNumber, aString, aName, aBracket, aValof, aMonadic, aSuffixed}
 use Rattle.compiler.proofs.Trees.{aCalled, aDyadic}
 use Rattle.compiler.proofs.Counting.{expression-items}
+use Rattle.compiler.proofs.Expressions.{so}
 use Rattle.compiler.proofs.Parts.{sub}
 use Rattle.compiler.proofs.Lists.{First, first-of, Kind, Part, begins, ready-one, item, rest-length, goes-on, ended}
 
@@ -491,8 +492,7 @@ module _ {s : List ℕ} {end : ℕ} {here : Here} {st : State} (n : Node) (nd : 
   unfolding inExpression expression
   suffixed-gave text {s′} {t} {t′} {r} g = record {
     by = λ y. let u = suffixed-is y in let x = g .by (suffixed-part y) in let k = length-append (encode (u .left)) (encodeSuffixes (u .list)) in
-        subst (λ (e : Expression). Result (faultsE text here (y .scope) e) (codeE text here (y .scope) e) (length (encode (y .tree))) (y .base) here s
-        s′ t t′ st r) (sym (u .same)) (record { keeps = x .keeps; did = did-as _ _ (x .did) same-refl (λ m v. refl) (omega arith) });
+        so text here (y .scope) (u .same) (record { keeps = x .keeps; did = did-as _ _ (x .did) same-refl (λ m v. refl) (omega arith) });
   }
 
 pub call-few : {s : List ℕ} {middle end tag inner start n : ℕ} {here : Here} {st : State} (r : LastRead s middle end tag inner start)

@@ -24,7 +24,7 @@ more {f = f} k d l = did-as f k d same-refl (λ n e. refl) l
 
 -- a result of another tree that is the same
 module _ (text : List ℕ) {s s′ t t′ : List ℕ} {st r : State} (here : Here) where
-  so : (sc : Scope) {e d : Expression} {n base : ℕ} → e ≡ d → Result (faultsE text here sc d) (codeE text here sc d) n base here s s′ t t′ st r
+  pub so : (sc : Scope) {e d : Expression} {n base : ℕ} → e ≡ d → Result (faultsE text here sc d) (codeE text here sc d) n base here s s′ t t′ st r
       → Result (faultsE text here sc e) (codeE text here sc e) n base here s s′ t t′ st r
   so sc {n = n} {base} q x = rw q x
 

@@ -21,7 +21,7 @@ use Rattle.compiler.specs.Commands.{GaveRefused, AddressOf, StoreTo}
 use Rattle.compiler.proofs.Done.{emits-did, did-emit, did-put, did-after, did-then, did-as, same-refl, same-eq, code-is, nil-right}
 use Rattle.compiler.proofs.Trees.{IsTwo, Case, aMonadic, find, is-bracket, is-name, value-is, place-is}
 use Rattle.compiler.proofs.Parts.{sub}
-use Rattle.compiler.proofs.Expressions.{more, bracket-part}
+use Rattle.compiler.proofs.Expressions.{more, so as same-tree, bracket-part}
 use Rattle.compiler.proofs.Calls.{IsLast, index-faults, index-means, Last, aCall, anIndex, last, snoc, is-index, the-last, no-suffix}
 use Rattle.compiler.proofs.Calls.{last-read, index-left, index-right, applied-lies, applied-ends, suffixed-is, suffixed-part}
 use Rattle.compiler.proofs.Calls.{suffixed-middle, with-state}
@@ -80,9 +80,7 @@ module _ {s : List ℕ} {end : ℕ} {here : Here} {st : State} (n : Node) (nd : 
   unfolding inExpression expression
   monadic-gave text {s′} {t} {t′} {r} g = record {
     by = λ y. let u = monadic-is y in let x = g .by (monadic-part y) in let sc = y .scope in let h = here .height in
-        subst (λ (e : Expression). Result (faultsE text here sc e) (codeE text here sc e) (length (encode (y .tree))) (y .base) here s s′ t t′ st r)
-        (sym (u .same))
-        (record {
+        same-tree text here sc (u .same) (record {
           keeps = x .keeps;
           did = more _ (subst (λ (o : ℕ). Did (inExpression text sc (leavable here) h (u .part) ++ cond (eqb o 50) (unlessSide (placeOf (u .part))
               (sideOf (expression text sc h (u .part)))) []) (exprSays here (resolvedMonadic o (expression text sc h (u .part)))) (2 * length (encode
