@@ -23,19 +23,11 @@ block-ok t =
     (λ c κs. let start = c .before .before .before .before .before .before .before in
     (block-room _ (c .before .before .node-at .ensures) (start .pre .1 .1 .is) refl (start .pre .1 .0) .1, omega arith, omega arith))
     (λ c κs. let after-node-at = c .before .before .before .before .before .before .before in
-    let start = after-node-at .before .before .before .before .before in
-    omega (
-      arith,
-      block-room _ (after-node-at .node-at .ensures) (start .pre .1 .1 .is) refl (start .pre .1 .0) .0,
-      start .pre .1 .0 .above,
-      start .pre .1 .0 .ends,
-      start .pre .1 .0 .small,
-    ))
-    (λ c κs. both (omega (
-      arith,
-      c .before .before .before .before .before .before .before .before .before .before .before .before .before .pre .0,
-      left-at,
-    )) (search (locals-ready-at, block-locals))) (λ c κs. search needs)
+    let start = after-node-at .before .before .before .before .before in let block-room-is = block-room _ (after-node-at .node-at .ensures)
+    (start .pre .1 .1 .is) refl (start .pre .1 .0) .0 in let above = start .pre .1 .0 .above in let ends = start .pre .1 .0 .ends in
+    let small = start .pre .1 .0 .small in omega arith)
+    (λ c κs. both (let falls = c .before .before .before .before .before .before .before .before .before .before .before .before .before .pre .0 in
+    omega (arith, left-at)) (search (locals-ready-at, block-locals))) (λ c κs. search needs)
     (λ c κs. let after-locals = c .before .before .before .before .before .before .before .before in let after-marked = after-locals .before in
     let after-push = after-marked .before .before .before .before .before in let after-node-at = after-push .before .before .before in
     let start = after-node-at .before .before .before .before .before in both (omega (arith, start .pre .0, left-at)) (list-ready-at
@@ -77,14 +69,8 @@ local-ok t =
     (λ c κs. search values-names)
     (λ c. let after-node-at = c .before .before .before .before .before .before .before .before .before .before .before .before .before .before
     .before .before in let start = after-node-at .before .before .before .before .before in
-    omega (
-      arith,
-      after-node-at .node-at .ensures .value-fits,
-      start .pre .1 .room,
-      start .pre .1 .above,
-      start .pre .1 .ends,
-      start .pre .1 .small,
-    ))
+    let value-fits = after-node-at .node-at .ensures .value-fits in let room = start .pre .1 .room in let above = start .pre .1 .above in
+    let ends = start .pre .1 .ends in let small = start .pre .1 .small in omega arith)
     (λ c. let after-node-at = c .before .before .before .before .before .before .before .before .before .before .before .before .before .before
     .before .before .before .before in let start = after-node-at .before .before .before .before .before in
     omega (arith, after-node-at .node-at .ensures .value-fits, start .pre .1 .height)) (λ c. search needs) (λ c. search needs)

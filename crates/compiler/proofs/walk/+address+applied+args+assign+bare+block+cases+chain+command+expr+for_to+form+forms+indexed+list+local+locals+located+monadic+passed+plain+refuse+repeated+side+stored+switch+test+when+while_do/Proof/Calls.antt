@@ -69,11 +69,8 @@ pub args-ok : {M : Type 1} (t : ℕ) → cycle.Lts-args.Closed (args-cs t) (at a
 args-ok t =
     cycle.Lts-args.spec (args-cs t) (at args t) (rank args .post) args-Inv-loop (λ source s₀ from end text₀ here at₀ k₀ r₀ s text at k r. end - at)
     (λ c. search (needs, args-begin)) (λ c. omega arith) (λ c κs. search needs) (λ c. omega (arith, c .entry .ensures .1))
-    (λ c κs. omega (
-      arith,
-      c .before .before .before .before .before .loop .inv .2
-          (c .before .before .before .before .before .before .before .before .before .pre .1) .height,
-    ))
+    (λ c κs. let height = c .before .before .before .before .before .loop .inv .2
+    (c .before .before .before .before .before .before .before .before .before .pre .1) .height in omega arith)
     (λ c κs. let after-entry = c .before .before .before in let after-loop-test = after-entry .before .before in
     let after-loop = after-loop-test .before in let start = after-loop .before .before .before .before in
     both (omega (arith, start .pre .0, left-at)) (ready-at (c .raised .ensures) (args-part _ _ _ (after-loop-test .loop-test .taken)

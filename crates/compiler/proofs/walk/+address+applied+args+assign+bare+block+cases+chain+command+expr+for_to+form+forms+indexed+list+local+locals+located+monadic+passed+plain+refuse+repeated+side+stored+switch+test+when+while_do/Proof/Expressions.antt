@@ -35,23 +35,14 @@ expr-ok t =
     both (omega (arith, start .pre .0, left-at, some-left)) (chain-ready-at (after-inside2 .inside2 .ensures) (dyadic-rest _
     (after-node-at .node-at .ensures) (after-match .match .keys5) refl _ (gave-at _ (after-inside2 .inside2 .ensures)
     (after-expr2 .expr2 .ensures)) (start .pre .1)))) (λ c κs. omega arith) (λ c κs. search needs) (λ c κs. search needs)
-    (λ c κs. both (omega (
-      arith,
-      c .before .before .before .before .before .before .before .before .before .before .before .pre .0,
-      left-at,
-      some-left,
-    )) (search (ready-at, valof-part))) (λ c κs. search needs) (λ c κs. search needs)
+    (λ c κs. both (let falls = c .before .before .before .before .before .before .before .before .before .before .before .pre .0 in
+    omega (arith, left-at, some-left)) (search (ready-at, valof-part))) (λ c κs. search needs) (λ c κs. search needs)
     (λ c κs. (omega (arith, left-at, some-left), search (ready-at, monadic-part))) (λ c. omega arith) (λ c κs. search needs)
-    (λ c κs. both (omega (
-      arith,
-      c .before .before .before .before .before .before .before .before .before .before .pre .0,
-      left-at,
-      some-left,
-      c .before .before .before .before .before .before .before .before .before .before .pre .1 .small,
-    )) (search (suffixes-ready-at, suffixed-part)))
-    (λ c. search needs) (λ c. search needs) (λ c. search number-gave) (λ c. search needs) (λ c. search needs) (λ c. search string-gave)
-    (λ c. search needs) (λ c. search needs) (λ c. search name-gave) (λ c. search needs) (λ c. search needs) (λ c. search (bracket-gave, gave-at))
-    (λ c. search needs) (λ c. search needs)
+    (λ c κs. both (let falls = c .before .before .before .before .before .before .before .before .before .before .pre .0 in
+    let small = c .before .before .before .before .before .before .before .before .before .before .pre .1 .small in
+    omega (arith, left-at, some-left)) (search (suffixes-ready-at, suffixed-part))) (λ c. search needs) (λ c. search needs) (λ c. search number-gave)
+    (λ c. search needs) (λ c. search needs) (λ c. search string-gave) (λ c. search needs) (λ c. search needs) (λ c. search name-gave)
+    (λ c. search needs) (λ c. search needs) (λ c. search (bracket-gave, gave-at)) (λ c. search needs) (λ c. search needs)
     (λ c. let after-chain = c .before .before .before .before in
     let after-expr2 = after-chain .before .before .before .before .before .before .before in
     let after-inside2 = after-expr2 .before .before .before .before in let after-match = after-inside2 .before in

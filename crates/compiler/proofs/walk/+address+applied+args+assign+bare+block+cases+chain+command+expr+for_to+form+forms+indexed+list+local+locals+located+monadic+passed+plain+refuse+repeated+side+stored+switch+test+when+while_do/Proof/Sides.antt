@@ -24,14 +24,11 @@ address-ok t =
     cycle.Lts-address.spec (address-cs t) (at address t) (rank address .post) (λ c κs. search needs) (λ c κs. search needs)
     (λ c κs. (omega (arith, left-at, some-left), (search (ready-at, bracket-part), search needs))) (λ c κs. omega arith) (λ c κs. search needs)
     (λ c κs. search needs) (λ c κs. search needs)
-    (λ c κs. both (omega (
-      arith,
-      c .before .before .before .before .before .before .before .before .before .before .before .pre .0,
-      left-at,
-      some-left,
-    )) (search (ready-at, monadic-part))) (λ c. search needs) (λ c. search needs) (λ c. search (address-pling, gave-at))
-    (λ c κs. search needs) (λ c κs. search needs) (λ c. search needs) (λ c. search needs) (λ c. search (address-open, gave-address-at))
-    (λ c. search needs) (λ c. search needs) (λ c. search address-name) (λ c. search needs) (λ c. search needs)
+    (λ c κs. both (let falls = c .before .before .before .before .before .before .before .before .before .before .before .pre .0 in
+    omega (arith, left-at, some-left)) (search (ready-at, monadic-part))) (λ c. search needs) (λ c. search needs)
+    (λ c. search (address-pling, gave-at)) (λ c κs. search needs) (λ c κs. search needs) (λ c. search needs) (λ c. search needs)
+    (λ c. search (address-open, gave-address-at)) (λ c. search needs) (λ c. search needs) (λ c. search address-name) (λ c. search needs)
+    (λ c. search needs)
     (λ c. c .before .before .before .before .located .ensures
     (c .before .before .before .before .before .before .before .before .before .before .before .before .before .args .place)) (λ c. search needs)
     (λ c. search needs)
@@ -113,12 +110,8 @@ side-ok t =
     (both (ready-at (ap (raised 1) (c .inside .ensures)) (bracket-part _ (after-node-at .node-at .ensures) (after-match .match .keys1)
     (start .pre .1 .0))) (start .pre .1 .1))) (λ c κs. omega arith) (λ c κs. search needs) (λ c κs. search needs) (λ c κs. omega arith)
     (λ c κs. search needs)
-    (λ c κs. omega (
-      arith,
-      c .before .before .before .before .before .before .before .before .before .before .before .before .before .before .before
-          .pre .1 .0 .height,
-      ap (λ (x : Here). x .height) (c .inside2 .ensures),
-    ))
+    (λ c κs. let height = c .before .before .before .before .before .before .before .before .before .before .before .before .before .before .before
+    .pre .1 .0 .height in let same-height = ap (λ (x : Here). x .height) (c .inside2 .ensures) in omega arith)
     (λ c κs. let after-keep = c .before .before .before .before .before .before in
     let after-match = after-keep .before .before .before .before in let after-node-at = after-match .before in
     let start = after-node-at .before .before .before .before .before in both (omega (arith, start .pre .0, left-at, some-left))
@@ -160,66 +153,42 @@ pub stored-ok : {M : Type 1} (t : ℕ) → cycle.Lts-stored.Closed (stored-cs t)
 stored-ok t =
     cycle.Lts-stored.spec (stored-cs t) (at stored t) (rank stored .post) (λ c κs. search needs) (λ c κs. search needs) (λ c κs. search needs)
     (λ c κs. search needs) (λ c κs. search needs)
-    (λ c κs. omega (
-      arith,
-      c .before .before .before .before .before .before .before .before .before .before .pre .1 .0 .height,
-      ap (λ (x : Here).
-          x .height) (c .inside .ensures),
-    )) (λ c κs. omega arith)
+    (λ c κs. let height = c .before .before .before .before .before .before .before .before .before .before .pre .1 .0 .height in
+    let same-height = ap (λ (x : Here). x .height) (c .inside .ensures) in omega arith) (λ c κs. omega arith)
     (λ c. let after-node-at = c .before .before .before .before .before .before .before .before .before .before .before .before in
     let start = after-node-at .before .before .before .before .before in
     omega (arith, after-node-at .node-at .ensures .value-fits, after-node-at .node-at .ensures .start, start .pre .1 .0 .small))
     (λ c κs. let after-keep = c .before .before .before .before .before in let after-raised = after-keep .before .before in
     let after-inside = after-raised .before in let after-less2 = after-inside .before in let after-entry = after-less2 .before in
     let after-less = after-entry .before .before in let after-node-at = after-less .before in
-    let start = after-node-at .before .before .before .before .before in
-    both (omega (
-      arith,
-      start .pre .0,
-      left-at (after-raised .raised .ensures),
-      left-at (after-inside .inside .ensures),
-      some-left
-          (start .pre .1 .0),
-      start .pre .1 .0 .small,
-      after-node-at .node-at .ensures .inner,
-      after-less .less .ensures,
-      after-less2 .less2 .ensures,
-    )) (suffixes-ready-at (after-raised .raised .ensures ∙ ap (raised 1) (after-inside .inside .ensures))
-    (side-left _ (after-node-at .node-at .ensures) (start .pre .1 .1) refl (after-less .less .ensures) (after-entry .entry .ensures .0)
-    (after-less2 .less2 .ensures) [] (after-keep .keep .ensures) (start .pre .1 .0))))
+    let start = after-node-at .before .before .before .before .before in both (let falls = start .pre .0 in
+    let left = left-at (after-raised .raised .ensures) in let left2 = left-at (after-inside .inside .ensures) in
+    let some = some-left (start .pre .1 .0) in let small = start .pre .1 .0 .small in let inner = after-node-at .node-at .ensures .inner in
+    let less-is = after-less .less .ensures in let less2-is = after-less2 .less2 .ensures in omega arith) (suffixes-ready-at
+    (after-raised .raised .ensures ∙ ap (raised 1) (after-inside .inside .ensures)) (side-left _ (after-node-at .node-at .ensures) (start .pre .1 .1)
+    refl (after-less .less .ensures) (after-entry .entry .ensures .0) (after-less2 .less2 .ensures) [] (after-keep .keep .ensures)
+    (start .pre .1 .0))))
     (λ c. let start = c .before .before .before .before .before .before .before .before .before .before .before .before .before .before .before
     .before .before .before .before .before .before .before .before .before .before in omega (arith, start .pre .1 .0 .height))
     (λ c κs. let start = c .before .before .before .before .before .before .before .before .before .before .before .before .before .before .before
     .before .before .before .before .before .before .before .before .before .before in omega (arith, start .pre .1 .0 .height))
-    (λ c κs. let after-raised = c .before .before .before .before .before .before .before .before .before .before .before .before .before
-    .before .before .before .before .before .before in let after-inside = after-raised .before in
+    (λ c κs. let after-raised = c .before .before .before .before .before .before .before .before .before .before .before .before .before .before
+    .before .before .before .before .before in let after-inside = after-raised .before in
     let start = after-inside .before .before .before .before .before .before .before .before .before .before in
-    omega (
-      arith,
-      start .pre .1 .0 .height,
-      ap (λ (x : Here). x .height) (after-raised .raised .ensures),
-      ap (λ (x : Here). x .height)
-          (after-inside .inside .ensures),
-    ))
+    let height = start .pre .1 .0 .height in let same-height = ap (λ (x : Here). x .height) (after-raised .raised .ensures) in
+    let same-height2 = ap (λ (x : Here). x .height) (after-inside .inside .ensures) in omega arith)
     (λ c κs. let after-keep2 = c .before .before .before .before .before in
     let after-applied = after-keep2 .before .before .before .before .before .before .before in
     let after-keep = after-applied .before .before .before .before .before .before in let after-raised = after-keep .before .before in
     let after-inside = after-raised .before in let after-less2 = after-inside .before in let after-entry = after-less2 .before in
     let after-less = after-entry .before .before in let after-node-at = after-less .before in
-    let start = after-node-at .before .before .before .before .before in
-    both (omega (
-      arith,
-      start .pre .0,
-      left-at (c .raised2 .ensures),
-      left-at (after-raised .raised .ensures),
-      left-at
-          (after-inside .inside .ensures),
-      some-left (start .pre .1 .0),
-    )) (ready-at (c .raised2 .ensures ∙ ap (raised 1)
-    (after-raised .raised .ensures ∙ ap (raised 1) (after-inside .inside .ensures))) (side-right _ (after-node-at .node-at .ensures)
-    (start .pre .1 .1) refl (after-less .less .ensures) (after-entry .entry .ensures .0) (after-less2 .less2 .ensures) _
-    (after-keep .keep .ensures) (suffixes-gave-at (after-raised .raised .ensures ∙ ap (raised 1) (after-inside .inside .ensures))
-    (after-applied .applied .ensures)) (after-keep2 .keep2 .ensures) (start .pre .1 .0))))
+    let start = after-node-at .before .before .before .before .before in both (let falls = start .pre .0 in
+    let left = left-at (c .raised2 .ensures) in let left2 = left-at (after-raised .raised .ensures) in
+    let left3 = left-at (after-inside .inside .ensures) in let some = some-left (start .pre .1 .0) in omega arith) (ready-at (c .raised2 .ensures
+    ∙ ap (raised 1) (after-raised .raised .ensures ∙ ap (raised 1) (after-inside .inside .ensures))) (side-right _ (after-node-at .node-at .ensures)
+    (start .pre .1 .1) refl (after-less .less .ensures) (after-entry .entry .ensures .0) (after-less2 .less2 .ensures) _ (after-keep .keep .ensures)
+    (suffixes-gave-at (after-raised .raised .ensures ∙ ap (raised 1) (after-inside .inside .ensures)) (after-applied .applied .ensures))
+    (after-keep2 .keep2 .ensures) (start .pre .1 .0))))
     (λ c κs. let start = c .before .before .before .before .before .before .before .before .before .before .before .before .before .before
     .before .before .before .before .before .before .before .before .before .before .before .before .before .before .before .before .before
     .before .before .before .before .before .before in omega (arith, start .pre .1 .0 .height))
