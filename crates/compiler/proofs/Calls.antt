@@ -342,12 +342,9 @@ module _ {s : List ℕ} {middle end tag inner start : ℕ} (r : LastRead s middl
           → ReadySuffixes s₁ middle start here′ st′
       init-part here′ {st′} y k u top strings left height label some = let z = y .ready in let a = z .tree in record {
         ready = sub {part = record { primary = a .primary; suffixes = u .init }} z k (both (encode (a .primary)) (encodeSuffixes (u .init))
-            (first (encode (a .primary)) (encodeSuffixes (a .suffixes)) (z .lies)) (u .lies) (y .parts)) top (omega (
-              arith,
-              start-of r u,
-              length-append (encode (a .primary)) (encodeSuffixes (u .init)),
-              last-well y u .0,
-            )) (z .fine .0, last-well y u .2);
+            (first (encode (a .primary)) (encodeSuffixes (a .suffixes)) (z .lies)) (u .lies) (y .parts)) top
+            (omega (arith, start-of r u, length-append (encode (a .primary)) (encodeSuffixes (u .init)), last-well y u .0))
+            (z .fine .0, last-well y u .2);
         parts = y .parts;
       }
 

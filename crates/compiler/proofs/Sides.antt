@@ -371,12 +371,8 @@ module _ {s : List ℕ} {end : ℕ} {here : Here} {st : State} (n : Node) (nd : 
             (record {
               keeps = keeps-then (x .keeps) (w .keeps);
               did = did-as (exprSays here (addressOf (sideOf E))) _ (did-put (did-then (did-emit (x .did) f) (w .did)) f₂)
-                  (same-eq (simp (ef, append-nil, er))) (λ k v. code-is (simp (append-assoc, er)) (simp (append-assoc, er)) (rw er)) (omega (
-                    arith,
-                    applied-ends Y,
-                    indexed-middle y,
-                    length-append (encode p) (encodeSuffixes (u .init)),
-                  ));
+                  (same-eq (simp (ef, append-nil, er))) (λ k v. code-is (simp (append-assoc, er)) (simp (append-assoc, er)) (rw er))
+                  (omega (arith, applied-ends Y, indexed-middle y, length-append (encode p) (encodeSuffixes (u .init))));
             });
       }
 

@@ -13,7 +13,7 @@ all-pairs-spec =
     tie.close (tie.spec Inv-loop (λ source s from end top text₀ first at₀ k₀ r₀ text at k r. end - at) (λ c. search (needs, still-here, table-begin))
     (search needs) (λ c κs. omega arith) (λ c _. c .before .labels-of .ensures .small) (λ c. omega arith) (λ c. omega arith)
     (λ c. (
-      c .before .before .pairs .kept .1 .1 .1 .1 .1 .0 ∙ c .before .before .before .before .before .before .before .loop .inv .0,
+      cc,
       search still-then,
       omega arith,
       (let after-labels-of = c .before .before .before .before in

@@ -13,8 +13,7 @@ doubled-spec =
     (λ c _. c .before .labels-of .ensures .small) (λ c. omega arith)
     (λ c. let after-labels-of = c .before .before .before in let after-next-item = after-labels-of .before in
     let after-loop-test = after-next-item .before in let after-loop = after-loop-test .before in (
-      c .before .doubled-in .kept .1 .1 .1 .1 .1 .0 ∙ after-loop .loop .inv .0,
-      λ y. list-next _ _ (after-loop-test .loop-test .taken)
-          (after-next-item .next-item .ensures) (after-labels-of .labels-of .ensures) (c .before .doubled-in .ensures) y
-          (after-loop .loop .inv .1 y),
+      cc,
+      λ y. list-next _ _ (after-loop-test .loop-test .taken) (after-next-item .next-item .ensures) (after-labels-of .labels-of .ensures)
+          (c .before .doubled-in .ensures) y (after-loop .loop .inv .1 y),
     )) (λ c. list-end _ _ (c .loop-test .left) (c .before .loop .inv .1)))

@@ -16,8 +16,7 @@ doubled-in-spec =
     (search needs) (λ c κs. omega arith) (λ c. omega arith)
     (λ c. let after-next-item = c .before .before .before .before in let after-loop-test = after-next-item .before in
     let after-loop = after-loop-test .before in let start = after-loop .before .before .before .before in (
-      c .before .before .doubled-label .kept .1 .1 .1 .1 .0 ∙ after-loop .loop .inv .0,
-      λ y first m. own-next _ (start .args .st)
-          (after-loop-test .loop-test .taken) (after-next-item .next-item .ensures) (c .before .before .doubled-label .ensures) y first
-          (after-loop .loop .inv .1 y first m),
+      cc,
+      λ y first m. own-next _ (start .args .st) (after-loop-test .loop-test .taken) (after-next-item .next-item .ensures)
+          (c .before .before .doubled-label .ensures) y first (after-loop .loop .inv .1 y first m),
     )) (search needs) (λ c. search own-end))

@@ -13,7 +13,7 @@ pairs-spec =
     tie.close (tie.spec Inv-loop (λ source s from end top text₀ k at₀ r₀ text at r. end - at) (λ c. (refl, still-here, λ y so. search pairs-begin))
     (search needs) (λ c κs. omega arith) (λ c. omega arith)
     (λ c. (
-      c .before .before .pair .kept .1 .1 .1 .1 .0 ∙ c .before .before .before .before .before .before .loop .inv .0,
+      cc,
       search still-then,
       (let after-next-item = c .before .before .before .before in let after-loop-test = after-next-item .before in
           let after-loop = after-loop-test .before in λ y so. pairs-next _ _ _ _ (after-loop-test .loop-test .taken)

@@ -19,18 +19,15 @@ group-spec =
     let start = after-loop .before .before .before .before .before in group-ready _ _ _ _ (after-loop-test .loop-test .taken)
     (c .before .before .entry .ensures .0) refl (start .pre .0) (after-loop .loop .inv .2 (start .pre .0) outermost 0)) (λ c. omega arith)
     (search needs) (λ c _. c .entry2 .ensures .1) (search needs)
-    (λ c. omega (
-      arith,
-      (let after-entry = c .before .before .before .before .before .before .before .before .before .before .before in
-          let after-loop-test = after-entry .before .before in let after-loop = after-loop-test .before in
-          let start = after-loop .before .before .before .before .before in group-fits _ _ _ _ (after-loop-test .loop-test .taken)
-          (after-entry .entry .ensures .0) refl (start .pre .0) (after-loop .loop .inv .2 (start .pre .0) outermost 0)),
-    )) (λ c. omega arith)
+    (λ c. let after-entry = c .before .before .before .before .before .before .before .before .before .before .before in
+    let after-loop-test = after-entry .before .before in let after-loop = after-loop-test .before in
+    let start = after-loop .before .before .before .before .before in let fits = group-fits _ _ _ _ (after-loop-test .loop-test .taken)
+    (after-entry .entry .ensures .0) refl (start .pre .0) (after-loop .loop .inv .2 (start .pre .0) outermost 0) in omega arith) (λ c. omega arith)
     (λ c. let after-function = c .before .before .before .before .before .before .before .before in
     let after-entry = after-function .before .before .before in let after-loop-test = after-entry .before .before in
     let after-loop = after-loop-test .before in (
-      after-function .function .kept .1 .0 ∙ after-loop .loop .inv .0,
-      after-function .function .kept .1 .1 .1 .0 ∙ after-loop .loop .inv .1,
+      cc,
+      cc,
       λ y before k. group-next _ _ _ _ (after-loop-test .loop-test .taken) (after-entry .entry .ensures .0) refl y
           (after-loop .loop .inv .2 y before k) (after-function .function .ensures) (c .before .before .entry2 .ensures .0)
           (c .before .before .entry2 .ensures .1) (c .before .too-tall .ensures) (c .level .ensures),

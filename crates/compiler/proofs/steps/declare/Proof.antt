@@ -29,8 +29,8 @@ declare-spec =
     (λ c. let after-again = c .before .before .before .before in let after-entry = after-again .before in
     let after-in-block = after-entry .before .before in let after-loop-test = after-in-block .before .before in
     let after-loop = after-loop-test .before in (
-      c .before .before .push-name .kept .0 ∙ after-loop .loop .inv .0,
-      λ y. names-next _ _ (after-loop-test .loop-test .taken)
-          (after-in-block .in-block .ensures) (after-entry .entry .ensures .0) (after-again .again .ensures) (c .before .before .push-name .ensures)
-          refl y (after-loop .loop .inv .1 y),
-    )) (search needs) (λ c. names-end _ _ (c .loop-test .left) (c .before .loop .inv .1)))
+      cc,
+      λ y. names-next _ _ (after-loop-test .loop-test .taken) (after-in-block .in-block .ensures) (after-entry .entry .ensures .0)
+          (after-again .again .ensures) (c .before .before .push-name .ensures) refl y (after-loop .loop .inv .1 y),
+    )) (search needs)
+    (λ c. names-end _ _ (c .loop-test .left) (c .before .loop .inv .1)))

@@ -101,9 +101,9 @@ locals-ok t =
     (start .pre .1) (after-loop .loop .inv .2 (start .pre .1))))) (λ c. omega arith)
     (λ c. let after-local = c .before .before .before .before in let after-set-at = after-local .before .before .before .before in
     let after-entry = after-set-at .before in let after-loop-test = after-entry .before .before in let after-loop = after-loop-test .before in (
-      after-local .local .kept .1 .0 ∙ after-loop .loop .inv .0,
-      after-local .local .kept .1 .1 .1 .0 ∙ after-loop .loop .inv .1,
-      λ y.
-          locals-next _ _ (after-loop-test .loop-test .taken) (after-entry .entry .ensures .0) refl (local-gave-at (after-set-at .set-at .ensures)
-          (after-local .local .ensures)) y (after-loop .loop .inv .2 y),
-    )) (λ c. search needs) (λ c. search needs) (λ c. search locals-end)
+      cc,
+      cc,
+      λ y. locals-next _ _ (after-loop-test .loop-test .taken) (after-entry .entry .ensures .0) refl (local-gave-at
+          (after-set-at .set-at .ensures) (after-local .local .ensures)) y (after-loop .loop .inv .2 y),
+    )) (λ c. search needs) (λ c. search needs)
+    (λ c. search locals-end)

@@ -171,9 +171,8 @@ cases-ok t =
     (λ c. let after-bare = c .before .before .before .before in let after-mark = after-bare .before .before .before .before .before in
     let after-entry = after-mark .before .before in let after-loop-test = after-entry .before .before in
     let after-loop = after-loop-test .before in (
-      after-bare .bare .kept .1 .0 ∙ after-loop .loop .inv .0,
-      after-bare .bare .kept .1 .1 .1 .0 ∙ after-mark .mark .kept .0
-          ∙ after-loop .loop .inv .1,
+      cc,
+      cc,
       omega (arith, after-loop .loop .inv .2),
       λ y. cases-next _ _ _ _ _ (after-loop-test .loop-test .taken)
           (after-entry .entry .ensures .0) refl (after-mark .mark .ensures) (after-bare .bare .ensures) y (after-loop .loop .inv .3 y),

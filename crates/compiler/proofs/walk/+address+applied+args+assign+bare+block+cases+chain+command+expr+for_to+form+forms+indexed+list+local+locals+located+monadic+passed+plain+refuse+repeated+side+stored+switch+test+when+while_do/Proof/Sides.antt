@@ -248,11 +248,9 @@ assign-ok t =
     (λ c. let after-side = c .before .before .before .before .before .before in let after-node-at = after-side .before .before .before in
     let after-expr = after-node-at .before .before .before .before .before .before in let after-entry = after-expr .before .before .before in
     let after-loop-test = after-entry .before .before in let after-loop = after-loop-test .before in (
-      after-side .side .kept .1 .0 ∙ after-expr .expr .kept .1 .0 ∙ after-loop .loop .inv .0,
-      after-side .side .kept .1 .1 .1 .0
-          ∙ after-expr .expr .kept .1 .1 .1 .0 ∙ after-loop .loop .inv .1,
-      λ y. assign-next _ _ (after-loop-test .loop-test .taken)
-          (after-entry .entry .ensures .0) refl (after-expr .expr .ensures) _ (after-node-at .node-at .ensures) (after-side .side .ensures)
-          (c .entry2 .ensures .0) refl y (after-loop .loop .inv .2 y),
-    )) (λ c. search needs) (λ c. search needs)
-    (λ c. assign-end _ _ (c .loop-test .left) (c .before .loop .inv .2))
+      cc,
+      cc,
+      λ y. assign-next _ _ (after-loop-test .loop-test .taken) (after-entry .entry .ensures .0) refl (after-expr .expr .ensures) _
+          (after-node-at .node-at .ensures) (after-side .side .ensures) (c .entry2 .ensures .0) refl y (after-loop .loop .inv .2 y),
+    )) (λ c. search needs)
+    (λ c. search needs) (λ c. assign-end _ _ (c .loop-test .left) (c .before .loop .inv .2))
