@@ -87,8 +87,7 @@ module _ (text t₀ : List ℕ) {s₀ : List ℕ} {from end : ℕ} {here : Here}
     unfolding inExpressions expressions exprsCode ofExprs exprsLabels
     args-next g f y p =
         let z = y .ready in let u = item z (y .starts) l es en p in let x = g .by (args-part y p) in let sc = z .scope in let h = here .height + k in
-        let n = rest-length z (y .starts) l es en p in let E = expression text sc h (u .part) in let e1 : here .height + (k + 1) ≡ h + 1
-        = omega arith in
+        let n = rest-length z (y .starts) l es en p in let e1 : here .height + (k + 1) ≡ h + 1 = omega arith in
         goes-on z (y .starts) l es en p (x .keeps) (omega arith) (omega arith) (omega arith)
         (λ t′ st′ d. did-as _ _ (did-then (did-emit (x .did) f) (rw e1 at d)) same-refl
         (λ n c. code-is (simp append-assoc) (simp append-assoc) refl) (omega arith))

@@ -139,8 +139,7 @@ module _ {s : List ℕ} {end : ℕ} {here : Here} {st : State} (n b : Node) (nd 
       unfolding G.cmdCode ofCmd G.cmdLabels
       while-gave ways {s₂} {t₄} {t₅} {t₆} {k} {l} {r} ej g₂ f₂ f₃ = record {
         by = λ y. let u = while-is y in let x = g .by (while-test y) in let z = g₂ .by (while-body y) in let sc = y .scope in let h = here .height in
-            let L = st .label in let S = here .strings in let E = expression text sc h (u .test) in let C = command text sc h (u .body) in
-            let W = getD s (end - 1) 0 in let lv = leavableBy ways here in let w′ = exits (inLoop L (L + 1) ways) in
+            let L = st .label in let W = getD s (end - 1) 0 in let lv = leavableBy ways here in
             let says = while-says text sc lv h w (u .test) (u .body) in let em = ap (unlabelled text sc h) (u .same) ∙ says .0 in
             let ef = ap (inUnlabelled text sc lv h) (u .same) ∙ says .1 in let jj : j ≡ cond (eqb W K.WHILE) 5 4 = rw (ej, nd .kind) in
             let lo = leaves-loop here ways L (L + 1) (omega arith) in

@@ -210,7 +210,7 @@ module _ (text t₀ : List ℕ) {s₀ : List ℕ} {from end : ℕ} {here : Here}
     unfolding inOperations chainCode chainHeights chainLabels
     chain-next {act} ea e g f y p =
         let z = y .ready in let u = item z (y .starts) l es en p in let x = g .by (chain-part (e .label) y p) in let sc = z .scope in
-        let h = here .height in let n = rest-length z (y .starts) l es en p in let D = expression text sc (h + 1) (u .part .operand) in
+        let h = here .height in let n = rest-length z (y .starts) l es en p in
         let op : act ≡ G.dyadicAct (u .part .operator) = ea ∙ ap G.dyadicAct (one-word z (y .starts) l es en p eo) in
         goes-on z (y .starts) l es en p (x .keeps) (omega arith) (omega arith) (omega arith)
         (λ t′ st′ d. did-as _ _ (did-after e (did-then (did-put (x .did) f) d)) same-refl (λ k c. code-is (simp (append-assoc, op)) refl refl)

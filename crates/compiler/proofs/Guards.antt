@@ -143,9 +143,9 @@ module _ {s : List ℕ} {end : ℕ} {here : Here} {st : State} (n b : Node) (nd 
     unfolding G.cmdCode ofCmd G.cmdLabels
     guard-gave ways {s₂} {t₃} {t₄} {k} {r} ej g₂ f₂ = record {
       by = λ y. let u = guard-is y in let x = g .by (guard-test e y) in let z = g₂ .by (guard-body y) in let sc = y .scope in let h = here .height in
-          let E = expression text sc h (u .test) in let C = command text sc h (u .body) in let W = getD s (end - 1) 0 in let L = st .label in
-          let lv = leavableBy ways here in let says = when-says text sc lv h w (u .test) (u .body) in
-          let em = ap (unlabelled text sc h) (u .same) ∙ says .0 in let ef = ap (inUnlabelled text sc lv h) (u .same) ∙ says .1 in let jj : j ≡ cond (eqb W 16) 5 4 = rw (ej, nd .kind) in
+          let W = getD s (end - 1) 0 in let lv = leavableBy ways here in let says = when-says text sc lv h w (u .test) (u .body) in
+          let em = ap (unlabelled text sc h) (u .same) ∙ says .0 in let ef = ap (inUnlabelled text sc lv h) (u .same) ∙ says .1 in
+          let jj : j ≡ cond (eqb W 16) 5 4 = rw (ej, nd .kind) in
           record {
             keeps = keeps-then (x .keeps) (z .keeps);
             did =

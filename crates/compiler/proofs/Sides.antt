@@ -95,7 +95,7 @@ module _ (text : List ℕ) {s s₁ t t₂ : List ℕ} {o end : ℕ} {here : Here
   pub monadic-address : (n : Node) → NodeAt s end n → o ≡ 50 → GaveAddress text s s₁ end (n .place) here t t₂ st r
       → GaveMonadic text s s₁ o end here t t₂ st r
   monadic-address n nd e g = so e (record {
-    by = λ y. let x = g .by y in let sc = y .scope in let h = here .height in record {
+    by = λ y. let x = g .by y in record {
       keeps = x .keeps;
       did = rw (nd .place ∙ place-of (expression-closed (y .tree)) (y .lies) (y .ends) ∙ place-closed (y .tree)) at (x .did);
     };
@@ -363,7 +363,6 @@ module _ {s : List ℕ} {end : ℕ} {here : Here} {st : State} (n : Node) (nd : 
         by = λ y.
             let U = indexed-is y in let Y = indexed-part y in let sc = y .scope in let h = here .height in let p = U .left in let u = last-index y in
             let x = g .by (address-left y) in let w = g₂ .by (address-right y) in let L = leavable here in
-            let A = suffixes text sc h (expression text sc (under (u .init) h) p) (u .init) in let B = expression text sc (h + 1) (u .part) in
             let ef = index-faults text sc h p (u .init) (u .part) (u .same) L in let er = index-means text sc h p (u .init) (u .part) (u .same) in
             let E = suffixes text sc h (expression text sc (under (U .list) h) p) (U .list) in
             subst (λ (e : Expression). Result (inExpression text sc L h e ++ unlessSide place (sideOf (expression text sc h e)))
@@ -468,9 +467,8 @@ module _ {s : List ℕ} {end : ℕ} {here : Here} {st : State} (n : Node) (nd : 
               let y₀ = with-state (f₀ .label) y in let U = indexed-is n nd q m y₀ in let Y = indexed-part n nd q m y₀ in let sc = y .scope in
               let h = here .height in let k = h + 1 in let p = U .left in let u = last-index n nd q m ei ez es y₀ in let x = g .by (side-left y) in
               let w = g₂ .by (side-right y) in let L = leavable here in let kk : k + 1 ≡ h + 2 = omega arith in
-              let A = suffixes text sc k (expression text sc (under (u .init) k) p) (u .init) in let B = expression text sc (k + 1) (u .part) in
               let ef = index-faults text sc k p (u .init) (u .part) (u .same) L in let er = index-means text sc k p (u .init) (u .part) (u .same) in
-              let E = suffixes text sc k (expression text sc (under (U .list) k) p) (U .list) in let Z = G.AIP k ∷ G.SP k ∷ G.LIP h ∷ G.SIP k ∷ [] in
+              let E = suffixes text sc k (expression text sc (under (U .list) k) p) (U .list) in
               subst (λ (e : Expression). Result (inExpression text sc L k e ++ unlessSide place (sideOf (expression text sc k e)))
               (targetSays here (targetOf (sideOf (expression text sc k e)))) (length (encode (y .tree))) (y .base) (raised 1 here) s s₂ t t₄ st d)
               (sym (U .same))
