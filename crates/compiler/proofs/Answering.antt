@@ -1,9 +1,8 @@
 -- From the walk of the tree to the answer: what the walk asks holds of every tree that is read, and what it leaves is the generator's text.
 use Rattle.laws.proofs.Basics.{ℕ, zero, suc, _+_, _-_, _*_, _≤_, _≡_, refl, sym, ap, _∙_, List, [], _∷_, _++_, append-assoc, Bool, true, false, not}
-use Rattle.laws.proofs.Basics.{cond, length, getD, take, drop, replicate, length-append, List·getD-append, length-take-le, getD-append-add, eqb, ltb}
-use Rattle.laws.proofs.Basics.{add-one, arith, eqb-true, ne-eqb, ltb-false}
-use Rattle.laws.proofs.Cases.{contradiction}
-use Rattle.text.specs.Quoted.{charactersOf, quoted}
+use Rattle.laws.proofs.Basics.{cond, length, getD, take, drop, replicate, length-append, List·getD-append, length-take-le, getD-append-add, eqb}
+use Rattle.laws.proofs.Basics.{ltb, add-one, arith, eqb-true, ne-eqb, ltb-false}
+use Rattle.laws.proofs.Cases.{by-cases, contradiction}
 use Rattle.language.specs.Kinds.{STRING}
 use Rattle.items.specs.Item.{Item}
 use Rattle.language.specs.Symbols as Y
@@ -16,8 +15,8 @@ use Rattle.language.specs.Grammar.{treeOf}
 use Rattle.language.specs.Tree as T
 use Rattle.compiler.proofs.Language.{Program, Function, Fault, Start, nowhere, inGlobal, programDepth, FineProgram, encodeItems}
 use Rattle.compiler.proofs.Language.{encodeFunctions, encodeProgram}
-use Rattle.language.specs.Program.{Refused, accepted, refused, leastOr, rulesRefuse, Walk, begin, Named, afterDeclaration, functionsFrom, functionsOf}
-use Rattle.language.specs.Program.{faultsFrom, faultsOfProgram, heightFaults, hasStart, startsInOne, functionsAfter, groupOf}
+use Rattle.language.specs.Program.{Refused, accepted, refused, leastOr, rulesRefuse, Walk, begin, Named, afterDeclaration, functionsFrom}
+use Rattle.language.specs.Program.{functionsOf, faultsFrom, faultsOfProgram, heightFaults, hasStart, startsInOne, functionsAfter, groupOf}
 use Rattle.language.specs.Whole.{functionsIn, stringsIn, stringsAmong, funs, unlessFits}
 use Rattle.language.proofs.CommandDepths.{LowProgram, low-program}
 use Rattle.language.proofs.Forming.{length-funs, group-length}
@@ -75,12 +74,8 @@ few-functions (T.functions fs ∷ p) = omega (arith, length-append (encodeFuncti
 few-strings : (text : List ℕ) (ss : List Symbol) → length (stringsAmong text ss) ≤ length ss
 unfolding stringsAmong
 few-strings text [] = omega arith
-few-strings text (s ∷ ss) = go (eqb (s .kind) STRING) (few-strings text ss)
-  where
-    go : (b : Bool) → length (stringsAmong text ss) ≤ length ss → length (cond b (charactersOf (quoted 34 255 0 (drop (suc (s .place)) text))
-        ∷ stringsAmong text ss) (stringsAmong text ss)) ≤ suc (length ss)
-    go true h = omega arith
-    go false h = omega arith
+few-strings text (s ∷ ss) =
+    let h = few-strings text ss in by-cases (eqb (s .kind) STRING) (λ e. rw e (omega arith)) (λ e. rw e (omega arith))
 
 -- ---- START
 
@@ -110,11 +105,8 @@ no-start : (ns : List Named) → hasStart ns ≡ false → (l : ℕ) → getD (s
 unfolding hasStart startsOf funs
 no-start [] h l e = contradiction cc
 no-start (f ∷ ns) h zero e = let z : true ≡ false = rw e at h in contradiction cc
-no-start (f ∷ ns) h (suc l) e = no-start ns (go (startsInOne (f .fun .start)) h) l e
-  where
-    go : (b : Bool) → cond b true (hasStart ns) ≡ false → hasStart ns ≡ false
-    go true h = contradiction cc
-    go false h = h
+no-start (f ∷ ns) h (suc l) e =
+    no-start ns (by-cases (startsInOne (f .fun .start)) (λ b. let z : true ≡ false = rw b at h in contradiction cc) (λ b. rw b at h)) l e
 
 -- the table has a label for global 1 just where a function starts there
 start-told : (table : List ℕ) (ns : List Named) → Starting table (startsOf (funs ns)) → eqb (getD table 1 0) 0 ≡ not (hasStart ns)
@@ -201,11 +193,8 @@ no-faults (f ∷ fs) x h = contradiction cc
 
 fitting : (size room : ℕ) (x : Refused) → unlessFits size room x ≡ accepted → (x ≡ accepted) × (size ≤ room)
 fitting size room (refused number place) h = contradiction cc
-fitting size room accepted h = (refl, go (ltb room size) refl h)
-  where
-    go : (b : Bool) → ltb room size ≡ b → cond b (refused 15 0) accepted ≡ accepted → size ≤ room
-    go true e h = contradiction cc
-    go false e h = ltb-false room size e
+fitting size room accepted h =
+    (refl, by-cases (ltb room size) (λ e. let z : refused 15 0 ≡ accepted = rw e at h in contradiction cc) (λ e. ltb-false room size e))
 
 -- ---- what the walk asks
 

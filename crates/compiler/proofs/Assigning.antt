@@ -148,12 +148,8 @@ module _ (text t₀ : List ℕ) {s₀ : List ℕ} {left right end : ℕ} {here :
         (depth (u .left) ≤ here .left) × (expressionsDepth (u .lefts) ≤ here .left) × (depth (u .right .part) ≤ here .left)
         × (expressionsDepth (u .right .more) ≤ here .left)
     unfolding expressionsDepth
-    assign-deep y p = let u = assign-is y p in (
-      omega (arith, ap expressionsDepth (u .same)),
-      omega (arith, ap expressionsDepth (u .same)),
-      omega (arith, p .shallow .1, ap expressionsDepth (u .right .same)),
-      omega (arith, ap expressionsDepth (u .right .same)),
-    )
+    assign-deep y p = let u = assign-is y p in let e = ap expressionsDepth (u .same) in let f = ap expressionsDepth (u .right .same) in
+        (omega arith, omega arith, omega arith, omega arith)
 
     pub assign-fine : (y : ReadyAssign s₀ left right end here st₀) (p : AssignPart y s t l at st)
         → let u = assign-is y p in (FineE (u .left) × FineEs (u .lefts)) × (FineE (u .right .part) × FineEs (u .right .more))
@@ -202,10 +198,8 @@ module _ (text t₀ : List ℕ) {s₀ : List ℕ} {left right end : ℕ} {here :
                 (subst (λ (rs : Expressions). Did (inSides text sc L (h + 1) (T.andExpression (u .left) (u .lefts)) ++ inRightSides text sc L h rs)
                 (pairsSays here (pairUp (sides text sc (h + 1) (T.andExpression (u .left) (u .lefts))) (sides text sc h rs)))
                 (2 * (length (encodeSides (p .lefts)) + length (encodeExpressions (p .rights)))) t t′ st st′) (sym (v .same)) (did-as (pairsSays
-                here (R.pair T′ E PS)) _ (did-then (x .did) (did-then (subst (λ (i : ℕ). Did (inExpression text sc L (h + 1) (u .left) ++
-                unlessSide i (sideOf D)) (targetSays here T′) (2 * length (encode (u .left))) t₁ t₂ a r) pl (w .did)) d)) (same-pairs fr fl
-                (inSides text sc L (h + 1) (u .lefts)) (inRightSides text sc L h (v .more))) (λ m e. code-is refl (sym (append-assoc (ofExpr h E)
-                (ofTarget h T′) (ofPairs h PS))) (omega arith))
+                here (R.pair T′ E PS)) _ (did-then (x .did) (did-then (rw pl at (w .did)) d)) (same-pairs fr fl
+                (inSides text sc L (h + 1) (u .lefts)) (inRightSides text sc L h (v .more))) (λ m e. code-is refl (simp append-assoc) (omega arith))
                 (omega (arith, assign-length y p .0, assign-length y p .1, sides-short (u .lefts))))));
           }
 
@@ -270,22 +264,17 @@ module _ {s : List ℕ} {end : ℕ} {here : Here} {st : State} (n : Node) (nd : 
   pub assigned-is : (y : ReadyU s end here st) → IsAssign s (y .lo) end (y .tree)
   assigned-is y = is-assign (form-at n nd q y)
 
-  pub assigned-fine : (y : ReadyU s end here st) → FineBoth (record { left = assigned-is y .left; right = assigned-is y .right })
-  unfolding FineUnlabelled
-  assigned-fine y = let f = subst FinePlain (assigned-is y .same) (y .fine) in (f .0 .3, f .0 .0, f .0 .1)
-
-  pub assigned-deep : (y : ReadyU s end here st) → deepBoth (record { left = assigned-is y .left; right = assigned-is y .right }) ≤ here .left
-  unfolding unlabelledDepth
-  assigned-deep y = omega (arith, ap unlabelledDepth (assigned-is y .same))
-
-  pub assigned-start : (y : ReadyU s end here st) → n .start ≡ y .lo
-  assigned-start y = let u = assigned-is y in omega arith
+  pub assigned-well : (y : ReadyU s end here st) → let u = assigned-is y in
+      (deepBoth (record { left = u .left; right = u .right }) ≤ here .left) × FineBoth (record { left = u .left; right = u .right })
+  unfolding unlabelledDepth FineUnlabelled
+  assigned-well y = let q = assigned-is y .same in let f = subst FinePlain q (y .fine) .0 in (omega (arith, ap unlabelledDepth q), (f .3, f .0, f .1))
 
   abbrev pub assigned-part : ReadyU s end here st → ReadyAssign s left right (n .inner) here st
   assigned-part y = let u = assigned-is y in record {
-    ready = sub {part = record { left = u .left; right = u .right }} y keeps-all (u .lies) refl (omega (arith, assigned-deep y)) (assigned-fine y);
-    first = omega (arith, assigned-start y);
-    second = omega (arith, assigned-start y);
+    ready = sub {part = record { left = u .left; right = u .right }} y keeps-all (u .lies) refl (omega (arith, assigned-well y .0))
+        (assigned-well y .1);
+    first = omega arith;
+    second = omega arith;
   }
 
   pub assigned-gave : (text : List ℕ) (ways : Ways) {s₁ t t₁ : List ℕ} {r : State} → GaveAssign text s s₁ left right (n .inner) here t t₁ st r

@@ -1,23 +1,24 @@
 -- Arguments, and what follows a primary.
-use Rattle.laws.proofs.Basics.{ℕ, suc, _+_, _-_, _*_, _<_, _≤_, _≡_, refl, sym, ap, subst, _∙_, List, [], _∷_, _++_, append-assoc, append-nil, length}
-use Rattle.laws.proofs.Basics.{getD, length-append, List·getD-append, getD-append-add, arith}
-use Rattle.laws.proofs.Cases.{Order, lt, ge, order}
+use Rattle.laws.proofs.Basics.{ℕ, suc, _+_, _-_, _*_, _<_, _≤_, _≡_, refl, sym, ap, subst, _∙_, List, [], _∷_, _++_, append-assoc, append-nil}
+use Rattle.laws.proofs.Basics.{length, getD, length-append, List·getD-append, getD-append-add, ltb, arith, ltb-true, ltb-false}
+use Rattle.laws.proofs.Cases.{by-cases}
 use Rattle.language.specs.Tree as T
 use Rattle.compiler.proofs.Language.{Expression, Expressions, Suffixes, depth, expressionsDepth, suffixesDepth, Scope, Expr, expression}
-use Rattle.compiler.proofs.Language.{expressions, suffixes, under, ofExpr, ofExprs, Leavable, inExpression, inExpressions, inSuffixes, behind}
-use Rattle.compiler.proofs.Language.{encode, encodeExpressions, encodeSuffixes, Fine, FineList, FineSuffixes}
+use Rattle.compiler.proofs.Language.{expressions, suffixes, under, ofExpr, ofExprs, Leavable, inExpression, inExpressions, inSuffixes}
+use Rattle.compiler.proofs.Language.{behind, encode, encodeExpressions, encodeSuffixes, Fine, FineList, FineSuffixes}
 use Rattle.language.specs.Resolved as R
 use Rattle.language.specs.Heights as H
 use Rattle.code.specs.Generate as G
 use Rattle.code.specs.Generate.{exprCode, exprsCode, exprLabels, exprsLabels}
-use Rattle.compiler.proofs.Vocabulary.{Keeps, State, Here, Node, FineE, FineEs, FineSs, inside, raised, leavable, NodeAt, Did, Emits, Reached}
-use Rattle.compiler.proofs.Vocabulary.{exprSays, exprsSays, Lies, Ready, Result, ReadyE, GaveE, faultsE, codeE, ReadyArgs, GaveArgs, Counts}
-use Rattle.compiler.proofs.Vocabulary.{encodeApplied, codeA, ReadySuffixes, GaveSuffixes, GaveIndexed, GavePassed}
+use Rattle.compiler.proofs.Vocabulary.{Keeps, State, Here, Node, FineE, FineEs, FineSs, inside, raised, leavable, NodeAt, Did, Emits}
+use Rattle.compiler.proofs.Vocabulary.{Reached, exprSays, exprsSays, Lies, Ready, Result, ReadyE, GaveE, faultsE, codeE, ReadyArgs, GaveArgs}
+use Rattle.compiler.proofs.Vocabulary.{Counts, encodeApplied, codeA, ReadySuffixes, GaveSuffixes, GaveIndexed, GavePassed}
 use Rattle.compiler.proofs.Scoping.{keeps-all, keeps-then}
 use Rattle.compiler.proofs.Done.{did-emit, did-put, did-after, did-none, did-then, did-as, same-refl, same-eq, same-swap, same-then, code-is}
 use Rattle.compiler.proofs.Trees.{first, second, find, IsTwo, is-two, Case, aNumber, aString, aName, aBracket, aValof, aMonadic, aSuffixed}
 use Rattle.compiler.proofs.Trees.{aCalled, aDyadic}
 use Rattle.compiler.proofs.Counting.{expression-items}
+use Rattle.compiler.proofs.Expressions.{so}
 use Rattle.compiler.proofs.Parts.{sub}
 use Rattle.compiler.proofs.Lists.{First, first-of, Kind, Part, begins, ready-one, item, rest-length, goes-on, ended}
 
@@ -86,12 +87,10 @@ module _ (text t₀ : List ℕ) {s₀ : List ℕ} {from end : ℕ} {here : Here}
     unfolding inExpressions expressions exprsCode ofExprs exprsLabels
     args-next g f y p =
         let z = y .ready in let u = item z (y .starts) l es en p in let x = g .by (args-part y p) in let sc = z .scope in let h = here .height + k in
-        let n = rest-length z (y .starts) l es en p in let E = expression text sc h (u .part) in let e1 : here .height + (k + 1) ≡ h + 1
-        = omega arith in
+        let n = rest-length z (y .starts) l es en p in let e1 : here .height + (k + 1) ≡ h + 1 = omega arith in
         goes-on z (y .starts) l es en p (x .keeps) (omega arith) (omega arith) (omega arith)
-        (λ t′ st′ d. did-as _ _ (did-then (did-emit (x .did) f) (rw e1 at d)) same-refl (λ n c. code-is (append-assoc (exprCode (here .strings) h n E)
-        (G.SP h ∷ []) (exprsCode (here .strings) (h + 1) (n + exprLabels E) (expressions text sc (h + 1) (u .more)))) (append-assoc (ofExpr h E)
-        ((h + 1) ∷ []) (ofExprs (h + 1) (expressions text sc (h + 1) (u .more)))) refl) (omega arith))
+        (λ t′ st′ d. did-as _ _ (did-then (did-emit (x .did) f) (rw e1 at d)) same-refl
+        (λ n c. code-is (simp append-assoc) (simp append-assoc) refl) (omega arith))
 
   pub args-end : (k : ℕ) {s t : List ℕ} {at : ℕ} {st : State} → end ≤ at → ((y : ReadyArgs s₀ from end here st₀) → ArgsPart y s t at k st)
       → GaveArgs text s₀ s from end here t₀ t st₀ st
@@ -104,14 +103,12 @@ pub behind-length : (tag : ℕ) (x y : List ℕ) → length (behind tag x ++ y) 
 behind-length tag x y = omega (arith, length-append (behind tag x) y, length-append x (length x ∷ tag ∷ []))
 
 pub both : {s : List ℕ} {lo m : ℕ} (x y : List ℕ) → Lies s lo x → Lies s m y → m ≡ lo + length x → Lies s lo (x ++ y)
-both {s} {lo} {m} x y f g e = record { at = λ i l. by i l (order i (length x)) }
-  where
-    by : (i : ℕ) → i < length (x ++ y) → Order i (length x) → getD s (lo + i) 0 ≡ getD (x ++ y) i 0
-    by i l (lt h) = f .at i h ∙ sym (List·getD-append x y 0 i h)
-    by i l (ge h) =
-        let j = i - length x in let q : i ≡ length x + j = omega arith in let p : lo + i ≡ m + j = omega arith in
-        ap (λ (k : ℕ). getD s k 0) p ∙ g .at j (omega (arith, length-append x y)) ∙ sym (getD-append-add x y j 0) ∙ ap (λ (k : ℕ). getD (x ++ y) k 0)
-        (sym q)
+both {s} {lo} {m} x y f g e = record {
+  at = λ i l. by-cases (ltb i (length x)) (λ b. let h = ltb-true i (length x) b in f .at i h ∙ sym (List·getD-append x y 0 i h)) (λ b.
+      let h = ltb-false i (length x) b in let j = i - length x in let q : i ≡ length x + j = omega arith in let p : lo + i ≡ m + j = omega arith in
+      ap (λ (k : ℕ). getD s k 0) p ∙ g .at j (omega (arith, length-append x y)) ∙ sym (getD-append-add x y j 0) ∙ ap (λ (k : ℕ). getD (x ++ y) k 0)
+      (sym q));
+}
 
 -- one more at the end: a call or an index, by what it puts before others
 unfoldable pub snoc : (Suffixes → Suffixes) → Suffixes → Suffixes
@@ -183,17 +180,10 @@ module _ {A : Type 0} (enc : A → List ℕ) (cons : A → Suffixes → Suffixes
     step : (IsLast enc cons s m end (cons a ss) → Last s m end (cons a ss) tag)
         → ((k : ℕ) → Lies s k (encodeSuffixes ss) → end ≡ k + length (encodeSuffixes ss) → k < end → Last s k end ss (getD s (end - 1) 0))
         → Last s m end (cons a ss) (getD s (end - 1) 0)
-    step is rest = by (order (m + length w) end)
-      where
-        w : List ℕ
-        w = behind tag (enc a)
-
-        k : length (w ++ encodeSuffixes ss) ≡ length w + length (encodeSuffixes ss)
-        k = length-append w (encodeSuffixes ss)
-
-        by : Order (m + length w) end → Last s m end (cons a ss) (getD s (end - 1) 0)
-        by (lt l) = before-last (rest (m + length w) (second w (encodeSuffixes ss) (m + length w) h refl) (omega (arith, k)) l)
-        by (ge l) = alone (omega (arith, k)) is
+    step is rest =
+        let w = behind tag (enc a) in let k = length-append w (encodeSuffixes ss) in let n = m + length w in
+        by-cases (ltb n end) (λ b. before-last (rest n (second w (encodeSuffixes ss) n h refl) (omega arith) (ltb-true n end b)))
+        (λ b. alone (omega (arith, ltb-false n end b)) is)
 
 pub last : {s : List ℕ} {m end : ℕ} (ss : Suffixes) → Lies s m (encodeSuffixes ss) → end ≡ m + length (encodeSuffixes ss) → m < end
     → Last s m end ss (getD s (end - 1) 0)
@@ -331,52 +321,49 @@ pub start-of : {s : List ℕ} {middle end tag inner start : ℕ} → LastRead s 
     → start ≡ middle + length (encodeSuffixes (u .init))
 start-of {s} r u = let z = ap (λ (n : ℕ). getD s n 0) (r .inner-is) ∙ u .size-of in omega arith
 
-module _ {s : List ℕ} {middle end tag inner start : ℕ} {here : Here} {st : State} (r : LastRead s middle end tag inner start) where
-  pub the-last : (y : ReadySuffixes s middle end here st) → Last s middle end (y .ready .tree .suffixes) tag
-  the-last y = rw (r .tag-is) (last (y .ready .tree .suffixes) (applied-lies y) (applied-ends y) (r .some))
+module _ {s : List ℕ} {middle end tag inner start : ℕ} (r : LastRead s middle end tag inner start) where
+  module _ {here : Here} {st : State} where
+    pub the-last : (y : ReadySuffixes s middle end here st) → Last s middle end (y .ready .tree .suffixes) tag
+    the-last y = rw (r .tag-is) (last (y .ready .tree .suffixes) (applied-lies y) (applied-ends y) (r .some))
 
-  -- the primary with all but the last one
-  module _ {A : Type 0} {enc : A → List ℕ} {cons : A → Suffixes → Suffixes} where
-    abbrev pub init-part : {s₁ : List ℕ} (here′ : Here) {st′ : State} (y : ReadySuffixes s middle end here st)
-        → Keeps (y .ready .base) (here .top) s s₁ → (u : IsLast enc cons s middle end (y .ready .tree .suffixes)) → here′ .top ≡ here .top
-        → here′ .strings ≡ here .strings → here′ .left ≡ here .left
-        → here′ .height ≤ here .height + 2 + length (enc (u .part)) → st′ .label ≤ st .label + 2 * length (enc (u .part)) → 0 < st′ .label
-        → suffixesDepth (u .init) ≤ here .left → FineSs (u .init) → ReadySuffixes s₁ middle start here′ st′
-    init-part here′ {st′} y k u top strings left height label some deep fine = let z = y .ready in let a = z .tree in record {
-      ready = sub {part = record { primary = a .primary; suffixes = u .init }} z k (both (encode (a .primary)) (encodeSuffixes (u .init))
-          (first (encode (a .primary)) (encodeSuffixes (a .suffixes)) (z .lies)) (u .lies) (y .parts)) top (omega (
-            arith,
-            start-of r u,
-            length-append (encode (a .primary)) (encodeSuffixes (u .init)),
-          )) (z .fine .0, fine);
-      parts = y .parts;
-    }
+    module _ {A : Type 0} {enc : A → List ℕ} {cons : A → Suffixes → Suffixes} where
+      pub last-well : (y : ReadySuffixes s middle end here st) (u : IsLast enc cons s middle end (y .ready .tree .suffixes))
+          → let c = cons (u .part) in (suffixesDepth (u .init) ≤ here .left) × (suffixesDepth (c T.noSuffixes) ≤ here .left) × FineSs (u .init)
+          × FineSs (c T.noSuffixes)
+      last-well y u = let d = deep-snoc (cons (u .part)) (u .init) {k = here .left} (omega (arith, ap suffixesDepth (u .same))) in
+          let f = fine-snoc (cons (u .part)) (u .init) (subst FineSs (u .same) (y .ready .fine .1)) in (d .0, d .1, f .0, f .1)
+
+      -- the primary with all but the last one
+      abbrev pub init-part : {s₁ : List ℕ} (here′ : Here) {st′ : State} (y : ReadySuffixes s middle end here st)
+          → Keeps (y .ready .base) (here .top) s s₁ → (u : IsLast enc cons s middle end (y .ready .tree .suffixes)) → here′ .top ≡ here .top
+          → here′ .strings ≡ here .strings → here′ .left ≡ here .left
+          → here′ .height ≤ here .height + 2 + length (enc (u .part)) → st′ .label ≤ st .label + 2 * length (enc (u .part)) → 0 < st′ .label
+          → ReadySuffixes s₁ middle start here′ st′
+      init-part here′ {st′} y k u top strings left height label some = let z = y .ready in let a = z .tree in record {
+        ready = sub {part = record { primary = a .primary; suffixes = u .init }} z k (both (encode (a .primary)) (encodeSuffixes (u .init))
+            (first (encode (a .primary)) (encodeSuffixes (a .suffixes)) (z .lies)) (u .lies) (y .parts)) top
+            (omega (arith, start-of r u, length-append (encode (a .primary)) (encodeSuffixes (u .init)), last-well y u .0))
+            (z .fine .0, last-well y u .2);
+        parts = y .parts;
+      }
 
   -- an index
-  module _ (q : tag ≡ 49) where
-    pub index-deep : (y : ReadySuffixes s middle end here st)
-        → let u = is-index q (the-last y) in (suffixesDepth (u .init) ≤ here .left) × (depth (u .part) ≤ here .left)
-    unfolding suffixesDepth
-    index-deep y = let u = is-index q (the-last y) in let p = deep-snoc (T.index (u .part)) (u .init) {k = here .left}
-        (omega (arith, ap suffixesDepth (u .same))) in
-        (p .0, omega arith)
-
-    pub index-fine : (y : ReadySuffixes s middle end here st) → let u = is-index q (the-last y) in FineSs (u .init) × FineE (u .part)
-    unfolding FineSuffixes
-    index-fine y = let u = is-index q (the-last y) in
-        let p = fine-snoc (T.index (u .part)) (u .init) (subst FineSs (u .same) (y .ready .fine .1)) in (p .0, p .1 .0)
+  module _ (q : tag ≡ 49) {here : Here} {st : State} where
+    pub index-well : (y : ReadySuffixes s middle end here st) → let u = is-index q (the-last y) in (depth (u .part) ≤ here .left) × FineE (u .part)
+    unfolding suffixesDepth FineSuffixes
+    index-well y = let w = last-well y (is-index q (the-last y)) in (omega arith, w .3 .0)
 
     abbrev pub index-left : ReadySuffixes s middle end here st → ReadySuffixes s middle start here st
     index-left y =
         let u = is-index q (the-last y) in
-        init-part here y keeps-all u refl refl refl (omega arith) (omega arith) (y .ready .some) (index-deep y .0) (index-fine y .0)
+        init-part here y keeps-all u refl refl refl (omega arith) (omega arith) (y .ready .some)
 
     module _ (text : List ℕ) {s₁ t t₁ : List ℕ} {a : State} (g : GaveSuffixes text s s₁ middle start here t t₁ st a) where
       abbrev pub index-right : ReadySuffixes s middle end here st → ReadyE s₁ inner (raised 1 here) a
       index-right y = let z = y .ready in let u = is-index q (the-last y) in let x = g .by (index-left y) in
           let n : length (encodeApplied (record { primary = z .tree .primary; suffixes = u .init })) ≡ length (encode (z .tree .primary)) + length
           (encodeSuffixes (u .init)) = length-append (encode (z .tree .primary)) (encodeSuffixes (u .init)) in
-          sub z (x .keeps) (u .lies-part) refl (omega (arith, index-deep y .1)) (index-fine y .1)
+          sub z (x .keeps) (u .lies-part) refl (omega (arith, index-well y .0)) (index-well y .1)
 
       pub index-gave : {s₂ t₂ : List ℕ} {d : State} → GaveIndexed text s₁ s₂ inner here t₁ t₂ a d → GaveSuffixes text s s₂ middle end here t t₂ st d
       unfolding exprCode ofExpr exprLabels
@@ -395,22 +382,15 @@ module _ {s : List ℕ} {middle end tag inner start : ℕ} {here : Here} {st : S
       }
 
   -- a call
-  module _ (q : tag ≡ 49 → ⊥) where
-    pub call-deep : (y : ReadySuffixes s middle end here st)
-        → let u = is-call q (the-last y) in (suffixesDepth (u .init) ≤ here .left) × (expressionsDepth (u .part) ≤ here .left)
-    unfolding suffixesDepth
-    call-deep y = let u = is-call q (the-last y) in let p = deep-snoc (T.call (u .part)) (u .init) {k = here .left}
-        (omega (arith, ap suffixesDepth (u .same))) in
-        (p .0, omega arith)
-
-    pub call-fine : (y : ReadySuffixes s middle end here st) → let u = is-call q (the-last y) in FineSs (u .init) × FineEs (u .part)
-    unfolding FineSuffixes
-    call-fine y = let u = is-call q (the-last y) in
-        let p = fine-snoc (T.call (u .part)) (u .init) (subst FineSs (u .same) (y .ready .fine .1)) in (p .0, p .1 .0)
+  module _ (q : tag ≡ 49 → ⊥) {here : Here} {st : State} where
+    pub call-well : (y : ReadySuffixes s middle end here st)
+        → let u = is-call q (the-last y) in (expressionsDepth (u .part) ≤ here .left) × FineEs (u .part)
+    unfolding suffixesDepth FineSuffixes
+    call-well y = let w = last-well y (is-call q (the-last y)) in (omega arith, w .3 .0)
 
     abbrev pub call-args : ReadySuffixes s middle end here st → ReadyArgs s start inner (raised 2 here) st
     call-args y = let z = y .ready in let u = is-call q (the-last y) in record {
-      ready = sub z keeps-all (u .lies-part) refl (omega (arith, call-deep y .1)) (call-fine y .1);
+      ready = sub z keeps-all (u .lies-part) refl (omega (arith, call-well y .0)) (call-well y .1);
       starts = sym (start-of r u);
     }
 
@@ -424,7 +404,7 @@ module _ {s : List ℕ} {middle end tag inner start : ℕ} {here : Here} {st : S
       abbrev pub call-callee : ReadySuffixes s middle end here st → ReadySuffixes s₁ middle start (raised (n + 2) here) b
       call-callee y = let z = y .ready in let u = is-call q (the-last y) in let x = g .by (call-args y) in
           init-part (raised (n + 2) here) y (x .keeps) u refl refl refl (omega (arith, call-count k y, count-few (u .part))) (omega arith)
-          (omega arith) (call-deep y .0) (call-fine y .0)
+          (omega arith)
 
       pub call-gave : {s₂ t₂ t₃ : List ℕ} {c d : State} → GaveSuffixes text s₁ s₂ middle start (raised (n + 2) here) t₁ t₂ b c
           → Emits (G.K (here .height) ∷ []) [] t₂ t₃ c d → GaveSuffixes text s s₂ middle end here t t₃ st d
@@ -465,32 +445,32 @@ module _ {s : List ℕ} {middle end : ℕ} {d d′ : Here} {st : State} where
       → GaveSuffixes text s s′ middle end d t t′ st r
   suffixes-gave-at e g = rw e at g
 
-pub is-suffixed : {s : List ℕ} {lo end k : ℕ} {e : Expression} → (k ≡ 60 → ⊥) → (k ≡ 61 → ⊥) → (k ≡ 59 → ⊥) → (k ≡ 51 → ⊥) → (k ≡ 131 → ⊥)
-    → (k ≡ 7 → ⊥) → (k ≡ 128 → ⊥) → Case s lo end k e → IsTwo encode encodeSuffixes T.suffixed s lo end e
-is-suffixed n1 n2 n3 n4 n5 n6 n7 (aNumber h) = absurd (n1 refl)
-is-suffixed n1 n2 n3 n4 n5 n6 n7 (aString h) = absurd (n2 refl)
-is-suffixed n1 n2 n3 n4 n5 n6 n7 (aName w p q) = absurd (n3 refl)
-is-suffixed n1 n2 n3 n4 n5 n6 n7 (aBracket h q) = absurd (n4 refl)
-is-suffixed n1 n2 n3 n4 n5 n6 n7 (aValof h q) = absurd (n6 refl)
-is-suffixed n1 n2 n3 n4 n5 n6 n7 (aMonadic v h q) = absurd (n7 refl)
-is-suffixed n1 n2 n3 n4 n5 n6 n7 (aDyadic h z v q) = absurd (n5 refl)
-is-suffixed n1 n2 n3 n4 n5 n6 n7 (aSuffixed {e} {ss} h z v q) = is-two encode encodeSuffixes T.suffixed e ss h z v q
-is-suffixed n1 n2 n3 n4 n5 n6 n7 (aCalled {e} {ss} h z v q) = is-two encode encodeSuffixes T.suffixed e ss h z v q
+-- no other kind, as a match has it
+abbrev pub NotOther : ℕ → Type 0
+NotOther k =
+    ((((((Unit × (k ≡ 60 → ⊥)) × (k ≡ 61 → ⊥)) × (k ≡ 59 → ⊥)) × (k ≡ 51 → ⊥)) × (k ≡ 131 → ⊥)) × (k ≡ 7 → ⊥)) × (k ≡ 128 → ⊥)
 
-module _ {s : List ℕ} {end : ℕ} {here : Here} {st : State} (n : Node) (nd : NodeAt s end n)
-    (n1 : n .kind ≡ 60 → ⊥) (n2 : n .kind ≡ 61 → ⊥) (n3 : n .kind ≡ 59 → ⊥) (n4 : n .kind ≡ 51 → ⊥) (n5 : n .kind ≡ 131 → ⊥) (n6 : n .kind ≡ 7 → ⊥)
-    (n7 : n .kind ≡ 128 → ⊥) {middle : ℕ} (m : middle ≡ n .start + n .value) where
+pub is-suffixed : {s : List ℕ} {lo end k : ℕ} {e : Expression} → NotOther k → Case s lo end k e → IsTwo encode encodeSuffixes T.suffixed s lo end e
+is-suffixed n (aNumber h) = absurd (n .0 .0 .0 .0 .0 .0 .1 refl)
+is-suffixed n (aString h) = absurd (n .0 .0 .0 .0 .0 .1 refl)
+is-suffixed n (aName w p q) = absurd (n .0 .0 .0 .0 .1 refl)
+is-suffixed n (aBracket h q) = absurd (n .0 .0 .0 .1 refl)
+is-suffixed n (aDyadic h z v q) = absurd (n .0 .0 .1 refl)
+is-suffixed n (aValof h q) = absurd (n .0 .1 refl)
+is-suffixed n (aMonadic v h q) = absurd (n .1 refl)
+is-suffixed n (aSuffixed {e} {ss} h z v q) = is-two encode encodeSuffixes T.suffixed e ss h z v q
+is-suffixed n (aCalled {e} {ss} h z v q) = is-two encode encodeSuffixes T.suffixed e ss h z v q
+
+module _ {s : List ℕ} {end : ℕ} {here : Here} {st : State} (n : Node) (nd : NodeAt s end n) (no-other : NotOther (n .kind)) {middle : ℕ}
+    (m : middle ≡ n .start + n .value) where
   pub suffixed-is : (y : ReadyE s end here st) → IsTwo encode encodeSuffixes T.suffixed s (y .lo) end (y .tree)
-  suffixed-is y = is-suffixed n1 n2 n3 n4 n5 n6 n7 (find n nd refl y)
+  suffixed-is y = is-suffixed no-other (find n nd refl y)
 
-  pub suffixed-deep : (y : ReadyE s end here st)
-      → let u = suffixed-is y in (depth (u .left) + 1 ≤ here .left) × (suffixesDepth (u .list) + 1 ≤ here .left)
-  unfolding depth
-  suffixed-deep y = let u = suffixed-is y in (omega (arith, ap depth (u .same)), omega (arith, ap depth (u .same)))
-
-  pub suffixed-fine : (y : ReadyE s end here st) → let u = suffixed-is y in FineE (u .left) × FineSs (u .list)
-  unfolding Fine
-  suffixed-fine y = let f = subst FineE (suffixed-is y .same) (y .fine) in (f .0, f .1)
+  pub suffixed-well : (y : ReadyE s end here st) → let u = suffixed-is y in
+      (depth (u .left) + 1 ≤ here .left) × (suffixesDepth (u .list) + 1 ≤ here .left) × FineE (u .left) × FineSs (u .list)
+  unfolding depth Fine
+  suffixed-well y = let u = suffixed-is y in let e = ap depth (u .same) in let f = subst FineE (u .same) (y .fine) in
+      (omega arith, omega arith, f .0, f .1)
 
   pub suffixed-middle : (y : ReadyE s end here st) → middle ≡ y .lo + length (encode (suffixed-is y .left))
   suffixed-middle y = let u = suffixed-is y in omega arith
@@ -499,7 +479,7 @@ module _ {s : List ℕ} {end : ℕ} {here : Here} {st : State} (n : Node) (nd : 
   suffixed-part y = let u = suffixed-is y in let k = length-append (encode (u .left)) (encodeSuffixes (u .list)) in record {
     ready =
         sub {part = record { primary = u .left; suffixes = u .list }} y keeps-all (both (encode (u .left)) (encodeSuffixes (u .list)) (u .lies)
-        (u .lies-list) refl) refl (omega (arith, suffixed-deep y .0, suffixed-deep y .1)) (suffixed-fine y);
+        (u .lies-list) refl) refl (omega (arith, suffixed-well y .0, suffixed-well y .1)) (suffixed-well y .2, suffixed-well y .3);
     parts = suffixed-middle y;
   }
 
@@ -508,8 +488,7 @@ module _ {s : List ℕ} {end : ℕ} {here : Here} {st : State} (n : Node) (nd : 
   unfolding inExpression expression
   suffixed-gave text {s′} {t} {t′} {r} g = record {
     by = λ y. let u = suffixed-is y in let x = g .by (suffixed-part y) in let k = length-append (encode (u .left)) (encodeSuffixes (u .list)) in
-        subst (λ (e : Expression). Result (faultsE text here (y .scope) e) (codeE text here (y .scope) e) (length (encode (y .tree))) (y .base) here s
-        s′ t t′ st r) (sym (u .same)) (record { keeps = x .keeps; did = did-as _ _ (x .did) same-refl (λ m v. refl) (omega arith) });
+        so text here (y .scope) (u .same) (record { keeps = x .keeps; did = did-as _ _ (x .did) same-refl (λ m v. refl) (omega arith) });
   }
 
 pub call-few : {s : List ℕ} {middle end tag inner start n : ℕ} {here : Here} {st : State} (r : LastRead s middle end tag inner start)

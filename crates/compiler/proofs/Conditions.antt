@@ -11,14 +11,14 @@ use Rattle.language.specs.Resolved as R
 use Rattle.code.specs.Generate as G
 use Rattle.language.specs.Faults as Y
 use Rattle.compiler.proofs.Scoping.{keeps-all, keeps-then}
-use Rattle.compiler.proofs.Vocabulary.{State, Here, Ways, Node, FineE, FineC, FinePlain, inLoop, leavableBy, exits, NodeAt, Emits, Fresh, Lies}
-use Rattle.compiler.proofs.Vocabulary.{Result, ReadyE, GaveE}
+use Rattle.compiler.proofs.Vocabulary.{State, Here, Ways, Node, FineE, FineC, FinePlain, inLoop, leavableBy, exits, NodeAt, Emits, Fresh}
+use Rattle.compiler.proofs.Vocabulary.{Lies, Result, ReadyE, GaveE}
 use Rattle.compiler.specs.Commands.{cmdSays, ReadyC, GaveC, ReadyU, GaveU, WhileWord, aWhile, anUntil, WhileKind}
 use Rattle.compiler.proofs.Done.{emits-then, did-put, did-after, did-then, did-at, did-fresh, same-refl, same-eq, code-is}
 use Rattle.compiler.proofs.Trees.{first, second}
 use Rattle.compiler.proofs.Parts.{sub}
 use Rattle.compiler.proofs.Anywhere.{with-ways}
-use Rattle.compiler.proofs.Guards.{IsGuarded, guarded-of, closed-start, command-closed}
+use Rattle.compiler.proofs.Guards.{IsGuarded, guarded-of, guarded-well, guarded-middle, closed-start, command-closed}
 use Rattle.compiler.proofs.Forms as F
 use Rattle.compiler.proofs.Forms.{Form, form-at}
 
@@ -48,49 +48,38 @@ is-test {lo = lo} (F.aTest {e} {c} {d} h q) =
       ends = omega (arith, length-append a (b ++ g), length-append b g);
     }
 
-test-shape : (e x c y d z : List I.Item) → ((((e ++ x) ++ c) ++ y) ++ d) ++ z ≡ e ++ (x ++ (c ++ (y ++ (d ++ z))))
-test-shape e x c y d z =
-    append-assoc (((e ++ x) ++ c) ++ y) d z ∙ append-assoc ((e ++ x) ++ c) y (d ++ z) ∙ append-assoc (e ++ x) c (y ++ (d ++ z)) ∙ append-assoc e x
-    (c ++ (y ++ (d ++ z)))
-
 module _ {s : List ℕ} {end : ℕ} {here : Here} {st : State} (n o b : Node) (nd : NodeAt s end n) (od : NodeAt s (n .inner) o)
     (bd : NodeAt s (o .start) b) (q : getD s (end - 1) 0 ≡ K.TEST) where
   pub test-is : (y : ReadyU s end here st) → IsTest s (y .lo) end (y .tree)
   test-is y = is-test (form-at n nd (nd .kind ∙ q) y)
 
-  pub test-fine : (y : ReadyU s end here st) → FineE (test-is y .test) × FineC (test-is y .body) × FineC (test-is y .other)
-  unfolding FineUnlabelled
-  test-fine y = subst FinePlain (test-is y .same) (y .fine) .0
-
-  pub test-deep : (y : ReadyU s end here st)
-      → (depth (test-is y .test) ≤ here .left) × (commandDepth (test-is y .body) ≤ here .left) × (commandDepth (test-is y .other) ≤ here .left)
-  unfolding unlabelledDepth
-  test-deep y =
-      let e = ap unlabelledDepth (test-is y .same) in
-      (omega arith, omega arith, omega arith)
+  pub test-well : (y : ReadyU s end here st) → let u = test-is y in (depth (u .test) ≤ here .left) × (commandDepth (u .body) ≤ here .left)
+      × (commandDepth (u .other) ≤ here .left) × (FineE (u .test) × FineC (u .body) × FineC (u .other))
+  unfolding unlabelledDepth FineUnlabelled
+  test-well y = let q = test-is y .same in let e = ap unlabelledDepth q in (omega arith, omega arith, omega arith, subst FinePlain q (y .fine) .0)
 
   pub test-other : (y : ReadyU s end here st) → o .start ≡ y .lo + length (encode (test-is y .test)) + length (encodeCommand (test-is y .body))
   test-other y = let u = test-is y in
-      od .start ∙ sym (closed-start {end = n .inner} (command-closed (u .other) (test-fine y .2)) (u .lies-other) (omega arith) .0)
+      od .start ∙ sym (closed-start {end = n .inner} (command-closed (u .other) (test-well y .3 .2)) (u .lies-other) (omega arith) .0)
 
   pub test-start : (y : ReadyU s end here st) → b .start ≡ y .lo + length (encode (test-is y .test))
   test-start y = let u = test-is y in
-      bd .start ∙ sym (closed-start {end = o .start} (command-closed (u .body) (test-fine y .1)) (u .lies-body) (test-other y) .0)
+      bd .start ∙ sym (closed-start {end = o .start} (command-closed (u .body) (test-well y .3 .1)) (u .lies-body) (test-other y) .0)
 
   abbrev pub test-first : {a : State} → Fresh 2 st a → ReadyU s end here st → ReadyE s (b .start) here a
-  test-first e y = let u = test-is y in sub y keeps-all (u .lies) refl (omega (arith, test-start y, test-deep y .0)) (test-fine y .0)
+  test-first e y = let u = test-is y in sub y keeps-all (u .lies) refl (omega (arith, test-start y, test-well y .0)) (test-well y .3 .0)
 
   module _ (text : List ℕ) {s₁ t t₁ t₂ : List ℕ} {a c d : State} (e : Fresh 2 st a) (g : GaveE text s s₁ (b .start) here t t₁ a c)
       (f : Emits (G.FL (st .label) ∷ []) [] t₁ t₂ c d) where
     abbrev pub test-body : ReadyU s end here st → ReadyC s₁ (o .start) here d
     test-body y = let u = test-is y in let x = g .by (test-first e y) in
-        sub y (x .keeps) (u .lies-body) refl (omega (arith, test-other y, test-deep y .1)) (test-fine y .1)
+        sub y (x .keeps) (u .lies-body) refl (omega (arith, test-other y, test-well y .1)) (test-well y .3 .1)
 
     module _ (ways : Ways) {s₂ t₃ t₄ t₅ : List ℕ} {i j k : State} (g₂ : GaveC text s₁ s₂ (o .start) here ways t₂ t₃ d i)
         (f₂ : Emits (G.JL (st .label + 1) ∷ []) [] t₃ t₄ i j) (f₃ : Emits (I.label (st .label) ∷ []) [] t₄ t₅ j k) where
       abbrev pub test-rest : ReadyU s end here st → ReadyC s₂ (n .inner) here k
       test-rest y = let u = test-is y in let x = g .by (test-first e y) in let z = g₂ .by (test-body y) in
-          sub y (keeps-then (x .keeps) (z .keeps)) (u .lies-other) refl (omega (arith, test-deep y .2)) (test-fine y .2)
+          sub y (keeps-then (x .keeps) (z .keeps)) (u .lies-other) refl (omega (arith, test-well y .2)) (test-well y .3 .2)
 
       pub test-gave : {s₃ t₆ t₇ : List ℕ} {l r : State} → GaveC text s₂ s₃ (n .inner) here ways t₅ t₆ k l
           → Emits (I.label (st .label + 1) ∷ []) [] t₆ t₇ l r → GaveU text s s₃ end here ways t t₇ st r
@@ -99,7 +88,7 @@ module _ {s : List ℕ} {end : ℕ} {here : Here} {st : State} (n o b : Node) (n
         by = λ y.
             let u = test-is y in let x = g .by (test-first e y) in let z = g₂ .by (test-body y) in let v = g₃ .by (test-rest y) in
             let sc = y .scope in let h = here .height in let E = expression text sc h (u .test) in let C = command text sc h (u .body) in
-            let D = command text sc h (u .other) in let L = st .label in let S = here .strings in let w = exits ways in
+            let D = command text sc h (u .other) in let L = st .label in
             let m : L + 2 + (G.exprLabels E + G.cmdLabels C) ≡ L + 2 + G.exprLabels E + G.cmdLabels C = omega arith in
             subst (λ (p : Unlabelled). Result (inUnlabelled text sc (leavableBy ways here) h p) (cmdSays here ways (unlabelled text sc h p))
             (length (encodeUnlabelled (y .tree))) (y .base) here s s₃ t t₇ st r) (sym (u .same))
@@ -107,11 +96,7 @@ module _ {s : List ℕ} {end : ℕ} {here : Here} {st : State} (n o b : Node) (n
               keeps = keeps-then (keeps-then (x .keeps) (z .keeps)) (v .keeps);
               did = did-at (cmdSays here ways (R.test E C D)) _ (did-fresh e
                   (did-put (did-then (did-put (did-then (did-put (with-ways text sc here ways h (u .test) (x .did)) f) (z .did)) (emits-then f₂ f₃))
-                  (v .did)) f₄)) same-refl (λ p. code-is (rw (
-                    test-shape (G.exprCode S h (L + 2) E) (G.FL L ∷ []) (G.cmdCode S h (L + 2 + G.exprLabels E) w C) (G.JL (L + 1) ∷ I.label L ∷ [])
-                        (G.cmdCode S h (L + 2 + (G.exprLabels E + G.cmdLabels C)) w D) (I.label (L + 1) ∷ []),
-                    m,
-                  )) refl (omega arith)) (omega arith);
+                  (v .did)) f₄)) same-refl (λ p. code-is (simp (append-assoc, m)) refl (omega arith)) (omega arith);
             });
       }
 
@@ -121,17 +106,12 @@ is-while : {s : List ℕ} {lo end w : ℕ} {u : Unlabelled} → WhileWord w → 
 is-while aWhile (F.aWhile h q) = guarded-of h q
 is-while anUntil (F.anUntil h q) = guarded-of h q
 
-while-means : (text : List ℕ) (sc : Scope) (h : ℕ) {w : ℕ} → WhileWord w → (e : Expression) (c : Command)
-    → unlabelled text sc h (T.guarded w e c) ≡ R.while (eqb w K.WHILE) (expression text sc h e) (command text sc h c)
-unfolding unlabelled
-while-means text sc h aWhile e c = refl
-while-means text sc h anUntil e c = refl
-
-while-faults : (text : List ℕ) (sc : Scope) (l : Leavable) (h : ℕ) {w : ℕ} → WhileWord w → (e : Expression) (c : Command)
-    → inUnlabelled text sc l h (T.guarded w e c) ≡ inExpression text sc l h e ++ inCommand text sc (Y.inLoop l) h c
-unfolding inUnlabelled
-while-faults text sc l h aWhile e c = refl
-while-faults text sc l h anUntil e c = refl
+while-says : (text : List ℕ) (sc : Scope) (l : Leavable) (h : ℕ) {w : ℕ} → WhileWord w → (e : Expression) (c : Command)
+    → (unlabelled text sc h (T.guarded w e c) ≡ R.while (eqb w K.WHILE) (expression text sc h e) (command text sc h c))
+    × (inUnlabelled text sc l h (T.guarded w e c) ≡ inExpression text sc l h e ++ inCommand text sc (Y.inLoop l) h c)
+unfolding unlabelled inUnlabelled
+while-says text sc l h aWhile e c = (refl, refl)
+while-says text sc l h anUntil e c = (refl, refl)
 
 -- in a loop that ends at a label, a loop may be left
 pub leaves-loop : (here : Here) (ways : Ways) (next end : ℕ) → 0 < end → leavableBy (inLoop next end ways) here ≡ Y.inLoop (leavableBy ways here)
@@ -142,27 +122,16 @@ module _ {s : List ℕ} {end : ℕ} {here : Here} {st : State} (n b : Node) (nd 
   pub while-is : (y : ReadyU s end here st) → IsGuarded s (y .lo) end (getD s (end - 1) 0) (y .tree)
   while-is y = is-while w (form-at n nd (nd .kind) y)
 
-  pub while-fine : (y : ReadyU s end here st) → FineE (while-is y .test) × FineC (while-is y .body)
-  unfolding FineUnlabelled
-  while-fine y = let f = subst FinePlain (while-is y .same) (y .fine) in (f .0 .0, f .0 .1)
-
-  pub while-deep : (y : ReadyU s end here st) → (depth (while-is y .test) ≤ here .left) × (commandDepth (while-is y .body) ≤ here .left)
-  unfolding unlabelledDepth
-  while-deep y = let e = ap unlabelledDepth (while-is y .same) in (omega arith, omega arith)
-
-  pub while-middle : (y : ReadyU s end here st) → b .start ≡ y .lo + length (encode (while-is y .test))
-  while-middle y = let u = while-is y in
-      bd .start ∙ sym (closed-start {end = n .inner} (command-closed (u .body) (while-fine y .1)) (u .lies-body) (omega arith) .0)
-
   module _ {t t₁ : List ℕ} {a c : State} (e : Fresh 2 st a) (m : Emits (I.label (st .label) ∷ []) [] t t₁ a c) where
     abbrev pub while-test : ReadyU s end here st → ReadyE s (b .start) here c
-    while-test y = let u = while-is y in sub y keeps-all (u .lies) refl (omega (arith, while-middle y, while-deep y .0)) (while-fine y .0)
+    while-test y = let u = while-is y in let w = guarded-well y u in
+        sub y keeps-all (u .lies) refl (omega (arith, guarded-middle n b nd bd y u, w .0)) (w .2)
 
     module _ (text : List ℕ) {s₁ t₂ t₃ : List ℕ} {d i : State} {j : ℕ} (g : GaveE text s s₁ (b .start) here t₁ t₂ c d)
         (f : Emits (G.to j (st .label + 1) ∷ []) [] t₂ t₃ d i) where
       abbrev pub while-body : ReadyU s end here st → ReadyC s₁ (n .inner) here i
-      while-body y = let u = while-is y in let x = g .by (while-test y) in
-          sub y (x .keeps) (u .lies-body) refl (omega (arith, while-deep y .1)) (while-fine y .1)
+      while-body y = let u = while-is y in let x = g .by (while-test y) in let w = guarded-well y u in
+          sub y (x .keeps) (u .lies-body) refl (omega (arith, w .1)) (w .3)
 
       pub while-gave : (ways : Ways) {s₂ t₄ t₅ t₆ : List ℕ} {k l r : State} → j ≡ cond (eqb (n .kind) K.WHILE) 5 4
           → GaveC text s₁ s₂ (n .inner) here (inLoop (st .label) (st .label + 1) ways) t₃ t₄ i k
@@ -170,10 +139,9 @@ module _ {s : List ℕ} {end : ℕ} {here : Here} {st : State} (n b : Node) (nd 
       unfolding G.cmdCode ofCmd G.cmdLabels
       while-gave ways {s₂} {t₄} {t₅} {t₆} {k} {l} {r} ej g₂ f₂ f₃ = record {
         by = λ y. let u = while-is y in let x = g .by (while-test y) in let z = g₂ .by (while-body y) in let sc = y .scope in let h = here .height in
-            let L = st .label in let S = here .strings in let E = expression text sc h (u .test) in let C = command text sc h (u .body) in
-            let W = getD s (end - 1) 0 in let lv = leavableBy ways here in let w′ = exits (inLoop L (L + 1) ways) in
-            let em = ap (unlabelled text sc h) (u .same) ∙ while-means text sc h w (u .test) (u .body) in let ef = ap (inUnlabelled text sc lv h)
-            (u .same) ∙ while-faults text sc lv h w (u .test) (u .body) in let jj : j ≡ cond (eqb W K.WHILE) 5 4 = rw (ej, nd .kind) in
+            let L = st .label in let W = getD s (end - 1) 0 in let lv = leavableBy ways here in
+            let says = while-says text sc lv h w (u .test) (u .body) in let em = ap (unlabelled text sc h) (u .same) ∙ says .0 in
+            let ef = ap (inUnlabelled text sc lv h) (u .same) ∙ says .1 in let jj : j ≡ cond (eqb W K.WHILE) 5 4 = rw (ej, nd .kind) in
             let lo = leaves-loop here ways L (L + 1) (omega arith) in
             record {
               keeps = keeps-then (x .keeps) (z .keeps);

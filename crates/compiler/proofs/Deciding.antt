@@ -1,7 +1,7 @@
 -- The least key of faults is that of the least fault, if places and numbers fit; and the answer by the least keys is that of the rules.
-use Rattle.laws.proofs.Basics.{ℕ, _+_, _*_, _/_, _%_, _^_, _<_, _≤_, _≡_, refl, sym, ap, _∙_, List, [], _∷_, Bool, true, false, not, cond, length}
-use Rattle.laws.proofs.Basics.{eqb, ltb, arith, eq-eqb, ne-eqb, lt-ltb, le-ltb}
-use Rattle.laws.proofs.Cases.{Order, lt, ge, order}
+use Rattle.laws.proofs.Basics.{ℕ, _+_, _*_, _/_, _%_, _^_, _<_, _≤_, _≡_, refl, ap, _∙_, List, [], _∷_, Bool, true, false, not, cond, length, eqb}
+use Rattle.laws.proofs.Basics.{ltb, arith, eq-eqb, ne-eqb, eqb-true, eqb-false, lt-ltb, le-ltb, ltb-true, ltb-false}
+use Rattle.laws.proofs.Cases.{by-cases}
 use mathlib.Core.Logic.{_≢_}
 use Rattle.language.specs.Constants.{Fault}
 use Rattle.compiler.specs.Walked.{key, least, AllFit, andFit}
@@ -19,37 +19,20 @@ abbrev earlier : (p n q m : ℕ) → Bool
 earlier p n q m = cond (ltb p q) true (cond (eqb p q) (ltb n m) false)
 
 keys : (p n q m : ℕ) → n < 32 → m < 32 → ltb (p * 32 + n) (q * 32 + m) ≡ earlier p n q m
-keys p n q m a b = at (order p q)
+keys p n q m a b =
+    by-cases (ltb p q) (λ e. rw e (lt-ltb (p * 32 + n) (q * 32 + m) (omega (arith, ltb-true p q e)))) (λ e. rw e (by-cases (eqb p q)
+    (λ f. rw f (same (eqb-true p q f))) (λ f. rw f (le-ltb (p * 32 + n) (q * 32 + m) (omega (arith, ltb-false p q e, eqb-false p q f))))))
   where
-    same : p ≡ q → Order n m → ltb (p * 32 + n) (q * 32 + m) ≡ ltb n m
-    same e (lt h) = lt-ltb (p * 32 + n) (q * 32 + m) (omega arith) ∙ sym (lt-ltb n m h)
-    same e (ge h) = le-ltb (p * 32 + n) (q * 32 + m) (omega arith) ∙ sym (le-ltb n m h)
-
-    over : q ≤ p → Order q p → ltb (p * 32 + n) (q * 32 + m) ≡ cond (eqb p q) (ltb n m) false
-    over h (lt k) = rw (ne-eqb p q (λ e. omega arith)) (le-ltb (p * 32 + n) (q * 32 + m) (omega arith))
-    over h (ge k) = let e : p ≡ q = omega arith in rw (eq-eqb p q e) (same e (order n m))
-
-    at : Order p q → ltb (p * 32 + n) (q * 32 + m) ≡ earlier p n q m
-    at (lt h) = rw (lt-ltb p q h) (lt-ltb (p * 32 + n) (q * 32 + m) (omega arith))
-    at (ge h) = rw (le-ltb p q h) (over h (order q p))
-
-cond-key : (b : Bool) (f g : Fault) → cond b (key g) (key f) ≡ key (cond b g f)
-cond-key true f g = refl
-cond-key false f g = refl
-
-cond-small : (b : Bool) (f g : Fault) → f .number < 32 → g .number < 32 → (cond b g f) .number < 32
-cond-small true f g a c = c
-cond-small false f g a c = a
+    same : p ≡ q → ltb (p * 32 + n) (q * 32 + m) ≡ ltb n m
+    same e = by-cases (ltb n m) (λ f. rw f (lt-ltb (p * 32 + n) (q * 32 + m) (omega (arith, ltb-true n m f))))
+        (λ f. rw f (le-ltb (p * 32 + n) (q * 32 + m) (omega (arith, ltb-false n m f))))
 
 pub least-from : (f : Fault) (fs : List Fault) → f .number < 32 → AllFit fs → least (key f) fs ≡ key (leastFrom f fs)
 unfolding least leastFrom
 least-from f [] a h = refl
 least-from f (g ∷ gs) a (andFit p n h) =
-    rw (
-      keys (g .place) (g .number) (f .place) (f .number) n a,
-      cond-key (before g f) f g,
-      least-from (cond (before g f) g f) gs (cond-small (before g f) f g a n) h,
-    )
+    rw (keys (g .place) (g .number) (f .place) (f .number) n a)
+    (by-cases (before g f) (λ e. simp e (least-from g gs n h)) (λ e. simp e (least-from f gs a h)))
 
 -- from a number above all keys
 pub least-first : (f : Fault) (fs : List Fault) → AllFit (f ∷ fs) → least (2 ^ 37) (f ∷ fs) ≡ key (leastFrom f fs)
@@ -65,11 +48,8 @@ record Fits (f : Fault) : Type 0 where
 least-fits : (f : Fault) (fs : List Fault) → Fits f → AllFit fs → Fits (leastFrom f fs)
 unfolding leastFrom
 least-fits f [] a h = a
-least-fits f (g ∷ gs) a (andFit p n h) = least-fits (cond (before g f) g f) gs (either (before g f)) h
-  where
-    either : (b : Bool) → Fits (cond b g f)
-    either true = record { place = p; number = n }
-    either false = a
+least-fits f (g ∷ gs) a (andFit p n h) =
+    by-cases (before g f) (λ e. rw e (least-fits g gs (record { place = p; number = n }) h)) (λ e. rw e (least-fits f gs a h))
 
 -- as `answerOf`, of a text of any length
 abbrev answer : List ℕ → (size : ℕ) → Refused → Compiled
@@ -101,11 +81,9 @@ by-least source k size room (f ∷ fs) (andFit p n h) e other rest o =
 -- the end of the text, as far as it is told
 by-room : (source : List ℕ) (at size room : ℕ) → at ≡ upto room size
     → cond (ltb room at) (C.Refused (refusal source 15 0)) (C.Accepted at) ≡ answer source size (unlessFits size room accepted)
-by-room source at size room e = go (order room size)
-  where
-    go : Order room size → cond (ltb room at) (C.Refused (refusal source 15 0)) (C.Accepted at) ≡ answer source size (unlessFits size room accepted)
-    go (lt h) = rw (e, upto-past room size h, lt-ltb room (room + 1) (omega arith), lt-ltb room size h) refl
-    go (ge h) = rw (e, upto-in room size h, le-ltb room size h) refl
+by-room source at size room e =
+    by-cases (ltb room size) (λ h. rw (e, upto-past room size (ltb-true room size h), lt-ltb room (room + 1) (omega arith), h))
+    (λ h. rw (e, upto-in room size (ltb-false room size h), h))
 
 by-start : (source : List ℕ) (b : Bool) (start at size room : ℕ) → eqb start 0 ≡ not b → at ≡ upto room size
     → cond (eqb start 0) (C.Refused (refusal source 14 0)) (cond (ltb room at) (C.Refused (refusal source 15 0)) (C.Accepted at))

@@ -19,12 +19,12 @@ use Rattle.compiler.proofs.Lists.{First, first-of, Kind, Part, begins, 
 use Rattle.compiler.proofs.Lists.{ended}
 
 -- with more labels allowed
-more : {fs : List Fault} {f : ℕ → Code} {m : ℕ} (k : ℕ) {t t′ : List ℕ} {st r : State} → Did fs f m t t′ st r → m ≤ k → Did fs f k t t′ st r
+pub more : {fs : List Fault} {f : ℕ → Code} {m : ℕ} (k : ℕ) {t t′ : List ℕ} {st r : State} → Did fs f m t t′ st r → m ≤ k → Did fs f k t t′ st r
 more {f = f} k d l = did-as f k d same-refl (λ n e. refl) l
 
 -- a result of another tree that is the same
 module _ (text : List ℕ) {s s′ t t′ : List ℕ} {st r : State} (here : Here) where
-  so : (sc : Scope) {e d : Expression} {n base : ℕ} → e ≡ d → Result (faultsE text here sc d) (codeE text here sc d) n base here s s′ t t′ st r
+  pub so : (sc : Scope) {e d : Expression} {n base : ℕ} → e ≡ d → Result (faultsE text here sc d) (codeE text here sc d) n base here s s′ t t′ st r
       → Result (faultsE text here sc e) (codeE text here sc e) n base here s s′ t t′ st r
   so sc {n = n} {base} q x = rw q x
 
@@ -65,17 +65,12 @@ module _ (text : List ℕ) {s t t′ : List ℕ} {end : ℕ} {here : Here} {st r
 -- ---- brackets
 
 module _ {s : List ℕ} {end : ℕ} {here : Here} {st : State} (n : Node) (nd : NodeAt s end n) (q : n .kind ≡ 51) where
-  pub shallower : (y : ReadyE s end here st) {p : ℕ} {e : Expression} → y .tree ≡ T.bracketed p e → depth e + 1 ≤ here .left
-  unfolding depth
-  shallower y {p} {e} h = omega (arith, ap depth h)
-
-  pub bracket-fine : (y : ReadyE s end here st) {p : ℕ} {e : Expression} → y .tree ≡ T.bracketed p e → FineE e
-  unfolding Fine
-  bracket-fine y h = subst FineE h (y .fine)
+  pub bracket-well : (y : ReadyE s end here st) {p : ℕ} {e : Expression} → y .tree ≡ T.bracketed p e → (depth e + 1 ≤ here .left) × FineE e
+  unfolding depth Fine
+  bracket-well y h = (omega (arith, ap depth h), subst FineE h (y .fine))
 
   abbrev pub bracket-part : ReadyE s end here st → ReadyE s (n .inner) (inside here) st
-  bracket-part y = let u = is-bracket (find n nd q y) in
-      sub y keeps-all (u .lies) refl (omega (arith, shallower y (u .same))) (bracket-fine y (u .same))
+  bracket-part y = let u = is-bracket (find n nd q y) in let w = bracket-well y (u .same) in sub y keeps-all (u .lies) refl (omega arith) (w .1)
 
   pub bracket-gave : (text : List ℕ) {s′ t t′ : List ℕ} {r : State} → GaveE text s s′ (n .inner) (inside here) t t′ st r
       → GaveE text s s′ end here t t′ st r
@@ -88,27 +83,16 @@ module _ {s : List ℕ} {end : ℕ} {here : Here} {st : State} (n : Node) (nd : 
 -- ---- operators of one binding level
 
 module _ (text : List ℕ) (sc : Scope) (strings h : ℕ) where
-  chain-items : (e : Expr) (os : Operations) (n : ℕ)
-      → exprCode strings h n (operations text sc h e os) ≡ exprCode strings h n e ++ chainCode text sc strings h os (n + exprLabels e)
-  unfolding operations chainCode exprCode exprLabels
-  chain-items e T.noOperations n = sym (append-nil (exprCode strings h n e))
-  chain-items e (T.operation o d os) n =
-      let D = expression text sc (h + 1) d in let a = exprCode strings h n e in let b = exprCode strings (h + 1) (n + exprLabels e) D in
-      let z = G.SP (h + 1) ∷ G.LIP h ∷ G.LIP (h + 1) ∷ G.X (G.dyadicAct o) ∷ [] in let k : n + (exprLabels e + exprLabels D) ≡ n + exprLabels e
-      + exprLabels D = omega arith in
-      simp (chain-items (R.binary o e D) os n, append-assoc, k)
-
-  pub chain-heights : (e : Expr) (os : Operations) → ofExpr h (operations text sc h e os) ≡ ofExpr h e ++ chainHeights text sc h os
-  unfolding operations chainHeights ofExpr
-  chain-heights e T.noOperations = sym (append-nil (ofExpr h e))
-  chain-heights e (T.operation o d os) =
-      let D = expression text sc (h + 1) d in
-      chain-heights (R.binary o e D) os ∙ append-assoc (ofExpr h e) ((h + 1) ∷ ofExpr (h + 1) D) (chainHeights text sc h os)
-
-  chain-labels : (e : Expr) (os : Operations) → exprLabels (operations text sc h e os) ≡ exprLabels e + chainLabels text sc h os
-  unfolding operations chainLabels exprLabels
-  chain-labels e T.noOperations = omega arith
-  chain-labels e (T.operation o d os) = chain-labels (R.binary o e (expression text sc (h + 1) d)) os ∙ omega arith
+  chain-is : (e : Expr) (os : Operations) (n : ℕ) → exprSays strings h (operations text sc h e os) n ≡ record {
+    items = exprCode strings h n e ++ chainCode text sc strings h os (n + exprLabels e);
+    heights = ofExpr h e ++ chainHeights text sc h os;
+    labels = exprLabels e + chainLabels text sc h os;
+  }
+  unfolding operations chainCode chainHeights chainLabels exprCode ofExpr exprLabels
+  chain-is e T.noOperations n = code-is (sym (append-nil _)) (sym (append-nil _)) (omega arith)
+  chain-is e (T.operation o d os) n =
+      let D = expression text sc (h + 1) d in let k : n + (exprLabels e + exprLabels D) ≡ n + exprLabels e + exprLabels D = omega arith in
+      chain-is (R.binary o e D) os n ∙ code-is (simp (append-assoc, k)) (simp append-assoc) (omega arith)
 
 -- another name of the same place
 pub ready-at : {A : Type 0} {enc : A → List ℕ} {deep : A → ℕ} {Fine : A → Type 0} {s : List ℕ} {end : ℕ} {d d′ : Here} {st : State} → d′ ≡ d
@@ -121,26 +105,22 @@ gave-at text {s} {s′} {t} {t′} {end} {st = st} {r} e g = rw e at g
 
 module _ {s : List ℕ} {end : ℕ} {here : Here} {st : State} (n : Node) (nd : NodeAt s end n) (q : n .kind ≡ 131) {middle : ℕ}
     (m : middle ≡ n .start + n .value) where
-  pub deep-left : (y : ReadyE s end here st) {e : Expression} {os : Operations} → y .tree ≡ T.dyadic e os
-      → (depth e + 1 ≤ here .left) × (operationsDepth os + 1 ≤ here .left)
-  unfolding depth
-  deep-left y {e} {os} h = (omega (arith, ap depth h), omega (arith, ap depth h))
-
-  pub dyadic-fine : (y : ReadyE s end here st) {e : Expression} {os : Operations} → y .tree ≡ T.dyadic e os → FineE e × FineOs os
-  unfolding Fine
-  dyadic-fine y h = let f = subst FineE h (y .fine) in (f .0, f .1)
+  pub dyadic-well : (y : ReadyE s end here st) {e : Expression} {os : Operations} → y .tree ≡ T.dyadic e os
+      → (depth e + 1 ≤ here .left) × (operationsDepth os + 1 ≤ here .left) × FineE e × FineOs os
+  unfolding depth Fine
+  dyadic-well y h = let f = subst FineE h (y .fine) in (omega (arith, ap depth h), omega (arith, ap depth h), f .0, f .1)
 
   pub middle-is : (y : ReadyE s end here st) → middle ≡ y .lo + length (encode (is-dyadic (find n nd q y) .left))
   middle-is y = let u = is-dyadic (find n nd q y) in omega arith
 
   abbrev pub dyadic-left : ReadyE s end here st → ReadyE s middle (inside here) st
   dyadic-left y = let u = is-dyadic (find n nd q y) in
-      sub y keeps-all (u .lies) refl (omega (arith, middle-is y, deep-left y (u .same) .0)) (dyadic-fine y (u .same) .0)
+      sub y keeps-all (u .lies) refl (omega (arith, middle-is y, dyadic-well y (u .same) .0)) (dyadic-well y (u .same) .2)
 
   module _ (text : List ℕ) {s₁ t t₁ : List ℕ} {a : State} (g : GaveE text s s₁ middle (inside here) t t₁ st a) where
     abbrev pub dyadic-rest : ReadyE s end here st → ReadyChain s₁ middle (n .inner) (inside here) a
     dyadic-rest y = let u = is-dyadic (find n nd q y) in let x = g .by (dyadic-left y) in record {
-      ready = sub y (x .keeps) (u .lies-list) refl (omega (arith, deep-left y (u .same) .1)) (dyadic-fine y (u .same) .1);
+      ready = sub y (x .keeps) (u .lies-list) refl (omega (arith, dyadic-well y (u .same) .1)) (dyadic-well y (u .same) .3);
       starts = sym (middle-is y);
     }
 
@@ -154,8 +134,7 @@ module _ {s : List ℕ} {end : ℕ} {here : Here} {st : State} (n : Node) (nd : 
           so text here sc (u .same) (record {
             keeps = keeps-then (x .keeps) (z .keeps);
             did = did-as (exprSays (here .strings) h (operations text sc h e (u .list))) _ (did-then (x .did) (z .did)) same-refl
-                (λ k c. code-is (sym (chain-items text sc (here .strings) h e (u .list) k))
-                (sym (chain-heights text sc (here .strings) h e (u .list))) (sym (chain-labels text sc (here .strings) h e (u .list)))) (omega arith);
+                (λ k c. sym (chain-is text sc (here .strings) h e (u .list) k)) (omega arith);
           });
     }
 
@@ -231,7 +210,7 @@ module _ (text t₀ : List ℕ) {s₀ : List ℕ} {from end : ℕ} {here : Here}
     unfolding inOperations chainCode chainHeights chainLabels
     chain-next {act} ea e g f y p =
         let z = y .ready in let u = item z (y .starts) l es en p in let x = g .by (chain-part (e .label) y p) in let sc = z .scope in
-        let h = here .height in let n = rest-length z (y .starts) l es en p in let D = expression text sc (h + 1) (u .part .operand) in
+        let h = here .height in let n = rest-length z (y .starts) l es en p in
         let op : act ≡ G.dyadicAct (u .part .operator) = ea ∙ ap G.dyadicAct (one-word z (y .starts) l es en p eo) in
         goes-on z (y .starts) l es en p (x .keeps) (omega arith) (omega arith) (omega arith)
         (λ t′ st′ d. did-as _ _ (did-after e (did-then (did-put (x .did) f) d)) same-refl (λ k c. code-is (simp (append-assoc, op)) refl refl)

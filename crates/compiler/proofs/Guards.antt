@@ -101,58 +101,51 @@ guarded-of {lo = lo} {e = e} {c} h q = record {
   ends = omega (arith, length-append (encode e) (encodeCommand c));
 }
 
+module _ {s : List ℕ} {end w : ℕ} {here : Here} {st : State} where
+  pub guarded-well : (y : ReadyU s end here st) (u : IsGuarded s (y .lo) end w (y .tree))
+      → (depth (u .test) ≤ here .left) × (commandDepth (u .body) ≤ here .left) × FineE (u .test) × FineC (u .body)
+  unfolding unlabelledDepth FineUnlabelled
+  guarded-well y u = let e = ap unlabelledDepth (u .same) in let f = subst FinePlain (u .same) (y .fine) .0 in (omega arith, omega arith, f .0, f .1)
+
+  pub guarded-middle : (n b : Node) → NodeAt s end n → NodeAt s (n .inner) b → (y : ReadyU s end here st) (u : IsGuarded s (y .lo) end w (y .tree))
+      → b .start ≡ y .lo + length (encode (u .test))
+  guarded-middle n b nd bd y u =
+      bd .start ∙ sym (closed-start {end = n .inner} (command-closed (u .body) (guarded-well y u .3)) (u .lies-body) (omega arith) .0)
+
 is-guarded : {s : List ℕ} {lo end w : ℕ} {u : Unlabelled} → WhenWord w → Form s lo end w u → IsGuarded s lo end w u
 is-guarded anIf (F.anIf h q) = guarded-of h q
 is-guarded anUnless (F.anUnless h q) = guarded-of h q
 
-when-means : (text : List ℕ) (sc : Scope) (h : ℕ) {w : ℕ} → WhenWord w → (e : Expression) (c : Command)
-    → unlabelled text sc h (T.guarded w e c) ≡ R.when (eqb w 16) (expression text sc h e) (command text sc h c)
-unfolding unlabelled
-when-means text sc h anIf e c = refl
-when-means text sc h anUnless e c = refl
-
-when-faults : (text : List ℕ) (sc : Scope) (l : Leavable) (h : ℕ) {w : ℕ} → WhenWord w → (e : Expression) (c : Command)
-    → inUnlabelled text sc l h (T.guarded w e c) ≡ inExpression text sc l h e ++ inCommand text sc l h c
-unfolding inUnlabelled
-when-faults text sc l h anIf e c = refl
-when-faults text sc l h anUnless e c = refl
+when-says : (text : List ℕ) (sc : Scope) (l : Leavable) (h : ℕ) {w : ℕ} → WhenWord w → (e : Expression) (c : Command)
+    → (unlabelled text sc h (T.guarded w e c) ≡ R.when (eqb w 16) (expression text sc h e) (command text sc h c))
+    × (inUnlabelled text sc l h (T.guarded w e c) ≡ inExpression text sc l h e ++ inCommand text sc l h c)
+unfolding unlabelled inUnlabelled
+when-says text sc l h anIf e c = (refl, refl)
+when-says text sc l h anUnless e c = (refl, refl)
 
 module _ {s : List ℕ} {end : ℕ} {here : Here} {st : State} (n b : Node) (nd : NodeAt s end n) (bd : NodeAt s (n .inner) b)
     (w : WhenWord (getD s (end - 1) 0)) where
   pub guard-is : (y : ReadyU s end here st) → IsGuarded s (y .lo) end (getD s (end - 1) 0) (y .tree)
   guard-is y = is-guarded w (form-at n nd (nd .kind) y)
 
-  pub guard-fine : (y : ReadyU s end here st) → FineE (guard-is y .test) × FineC (guard-is y .body)
-  unfolding FineUnlabelled
-  guard-fine y = let f = subst FinePlain (guard-is y .same) (y .fine) in (f .0 .0, f .0 .1)
-
-  pub guard-deep : (y : ReadyU s end here st) → (depth (guard-is y .test) ≤ here .left) × (commandDepth (guard-is y .body) ≤ here .left)
-  unfolding unlabelledDepth
-  guard-deep y = (omega (arith, ap unlabelledDepth (guard-is y .same)), omega (arith, ap unlabelledDepth (guard-is y .same)))
-
-  pub guard-middle : (y : ReadyU s end here st) → b .start ≡ y .lo + length (encode (guard-is y .test))
-  guard-middle y = let u = guard-is y in let k = closed-start {end = n .inner} (command-closed (u .body) (guard-fine y .1)) (u .lies-body)
-      (omega arith) in
-      bd .start ∙ sym (k .0)
-
   abbrev pub guard-test : {a : State} → Fresh 1 st a → ReadyU s end here st → ReadyE s (b .start) here a
-  guard-test e y = let u = guard-is y in sub y keeps-all (u .lies) refl (omega (arith, guard-middle y, guard-deep y .0)) (guard-fine y .0)
+  guard-test e y = let u = guard-is y in let w = guarded-well y u in
+      sub y keeps-all (u .lies) refl (omega (arith, guarded-middle n b nd bd y u, w .0)) (w .2)
 
   module _ (text : List ℕ) {s₁ t t₁ t₂ : List ℕ} {a c d : State} {j : ℕ} (e : Fresh 1 st a) (g : GaveE text s s₁ (b .start) here t t₁ a c)
       (f : Emits (G.to j (st .label) ∷ []) [] t₁ t₂ c d) where
     abbrev pub guard-body : ReadyU s end here st → ReadyC s₁ (n .inner) here d
-    guard-body y = let u = guard-is y in let x = g .by (guard-test e y) in
-        sub y (x .keeps) (u .lies-body) refl (omega (arith, guard-deep y .1)) (guard-fine y .1)
+    guard-body y = let u = guard-is y in let x = g .by (guard-test e y) in let w = guarded-well y u in
+        sub y (x .keeps) (u .lies-body) refl (omega (arith, w .1)) (w .3)
 
     pub guard-gave : (ways : Ways) {s₂ t₃ t₄ : List ℕ} {k r : State} → j ≡ cond (eqb (n .kind) 16) 5 4
         → GaveC text s₁ s₂ (n .inner) here ways t₂ t₃ d k → Emits (I.label (st .label) ∷ []) [] t₃ t₄ k r → GaveU text s s₂ end here ways t t₄ st r
     unfolding G.cmdCode ofCmd G.cmdLabels
     guard-gave ways {s₂} {t₃} {t₄} {k} {r} ej g₂ f₂ = record {
       by = λ y. let u = guard-is y in let x = g .by (guard-test e y) in let z = g₂ .by (guard-body y) in let sc = y .scope in let h = here .height in
-          let E = expression text sc h (u .test) in let C = command text sc h (u .body) in let W = getD s (end - 1) 0 in let L = st .label in
-          let em = ap (unlabelled text sc h) (u .same) ∙ when-means text sc h w (u .test) (u .body) in
-          let ef = ap (inUnlabelled text sc (leavableBy ways here) h) (u .same) ∙ when-faults text sc (leavableBy ways here) h w (u .test)
-          (u .body) in let jj : j ≡ cond (eqb W 16) 5 4 = rw (ej, nd .kind) in
+          let W = getD s (end - 1) 0 in let lv = leavableBy ways here in let says = when-says text sc lv h w (u .test) (u .body) in
+          let em = ap (unlabelled text sc h) (u .same) ∙ says .0 in let ef = ap (inUnlabelled text sc lv h) (u .same) ∙ says .1 in
+          let jj : j ≡ cond (eqb W 16) 5 4 = rw (ej, nd .kind) in
           record {
             keeps = keeps-then (x .keeps) (z .keeps);
             did =

@@ -1,11 +1,11 @@
 -- One declaration of the outermost level: the items of GLOBAL and MANIFEST, or a group of functions, and where the walk then stands.
-use Rattle.laws.proofs.Basics.{ℕ, suc, _+_, _*_, _<_, _≤_, _≡_, refl, sym, ap, subst, _∙_, List, [], _∷_, append-nil, Bool, true, false, cond, length}
+use Rattle.laws.proofs.Basics.{ℕ, suc, _+_, _*_, _<_, _≤_, _≡_, refl, sym, ap, subst, _∙_, List, [], _∷_, append-nil, Bool, true, false, length}
 use Rattle.laws.proofs.Basics.{length-append, eqb, leb, arith, eq-eqb, ne-eqb, leb-true}
+use Rattle.laws.proofs.Cases.{by-cases}
 use Rattle.language.specs.Kinds as K
 use Rattle.language.specs.Tree as T
-use Rattle.compiler.proofs.Language.{Item, Function, Declaration, Scope, lookup, Fault, fault, Judged, judge, within, judgedWord}
-use Rattle.compiler.proofs.Language.{FineDeclaration, declarationDepth, functionsDepth, encodeName, encodeConstant, encodeItems}
-use Rattle.compiler.proofs.Language.{encodeFunctions}
+use Rattle.compiler.proofs.Language.{Item, Function, Declaration, Scope, lookup, Fault, Judged, judge, within, judgedWord, FineDeclaration}
+use Rattle.compiler.proofs.Language.{declarationDepth, functionsDepth, encodeName, encodeConstant, encodeItems, encodeFunctions}
 use Rattle.language.specs.Constants as J
 use Rattle.language.specs.Program.{Walk, startOf, withFunction, resolved, globalsAfter, manifestsAfter, functionsAfter, declaredBy, groupNameFaults}
 use Rattle.language.specs.Program.{groupFaults, groupOf, heightFaults, afterDeclaration}
@@ -30,11 +30,7 @@ use Rattle.compiler.proofs.FunctionLists.{flat, did-flat, functions-lon
 -- ---- every global in scope stays below 400
 
 word-small : (c : T.Constant) (j : Judged) → judgedWord (within c (λ v. leb v 399) j) < 400
-word-small c (J.good v) = go (leb v 399) refl
-  where
-    go : (b : Bool) → leb v 399 ≡ b → judgedWord (cond b (J.good v) (J.refused (fault (c .place) 11))) < 400
-    go true e = omega (arith, leb-true v 399 e)
-    go false e = omega arith
+word-small c (J.good v) = by-cases (leb v 399) (λ e. rw e (omega (arith, leb-true v 399 e))) (λ e. rw e (omega arith))
 word-small c (J.refused fs) = omega arith
 
 small-globals : (text : List ℕ) (sc : Scope) (is : List Item) → Small sc → Small (globalsAfter text sc is)

@@ -1,13 +1,13 @@
 -- Monadic operators, what @ may take, and left sides.
 use Rattle.laws.proofs.Basics.{ℕ, _+_, _-_, _*_, _/_, _%_, _<_, _≤_, _≡_, refl, sym, ap, subst, _∙_, List, [], _∷_, _++_, append-assoc, append-nil}
-use Rattle.laws.proofs.Basics.{Bool, true, false, cond, length, getD, length-append, eqb, arith, ne-eqb}
-use Rattle.laws.proofs.Cases.{Order, lt, ge, order, contradiction}
+use Rattle.laws.proofs.Basics.{Bool, true, false, cond, length, getD, length-append, eqb, ltb, arith, ne-eqb, ltb-true, ltb-false}
+use Rattle.laws.proofs.Cases.{by-cases, contradiction}
 use Rattle.items.specs.Item as I
 use Rattle.language.specs.Tree as T
-use Rattle.compiler.proofs.Language.{Expression, Expressions, Suffixes, Operations, placeOf, endsInCall, depth, Scope, lookup, onFound, Fault}
-use Rattle.compiler.proofs.Language.{fault, Expr, expression, expressions, suffixes, operations, ofMeaning, Side, side, noSide, sideOf}
-use Rattle.compiler.proofs.Language.{targetOf, addressOf, resolvedMonadic, under, ofExpr, ofTarget, unlessSide, inExpression, inSuffixes}
-use Rattle.compiler.proofs.Language.{encode, encodeSuffixes, Fine}
+use Rattle.compiler.proofs.Language.{Expression, Expressions, Suffixes, Operations, placeOf, endsInCall, depth, Scope, lookup, onFound}
+use Rattle.compiler.proofs.Language.{Fault, fault, Expr, expression, expressions, suffixes, operations, ofMeaning, Side, side, noSide}
+use Rattle.compiler.proofs.Language.{sideOf, targetOf, addressOf, resolvedMonadic, under, ofExpr, ofTarget, unlessSide, inExpression}
+use Rattle.compiler.proofs.Language.{inSuffixes, encode, encodeSuffixes, Fine}
 use Rattle.language.specs.Names as N
 use Rattle.language.specs.Resolved as R
 use Rattle.code.specs.Generate as G
@@ -21,10 +21,10 @@ use Rattle.compiler.specs.Commands.{GaveRefused, AddressOf, StoreTo}
 use Rattle.compiler.proofs.Done.{emits-did, did-emit, did-put, did-after, did-then, did-as, same-refl, same-eq, code-is, nil-right}
 use Rattle.compiler.proofs.Trees.{IsTwo, Case, aMonadic, find, is-bracket, is-name, value-is, place-is}
 use Rattle.compiler.proofs.Parts.{sub}
-use Rattle.compiler.proofs.Expressions.{bracket-part}
+use Rattle.compiler.proofs.Expressions.{more, so as same-tree, bracket-part}
 use Rattle.compiler.proofs.Calls.{IsLast, index-faults, index-means, Last, aCall, anIndex, last, snoc, is-index, the-last, no-suffix}
-use Rattle.compiler.proofs.Calls.{last-read, index-left, index-right, applied-lies, applied-ends, suffixed-is, suffixed-part, suffixed-middle}
-use Rattle.compiler.proofs.Calls.{with-state}
+use Rattle.compiler.proofs.Calls.{last-read, index-left, index-right, applied-lies, applied-ends, suffixed-is, suffixed-part}
+use Rattle.compiler.proofs.Calls.{suffixed-middle, with-state}
 use Rattle.compiler.proofs.Guards.{IsClosed, expression-closed, kind-of, shut}
 
 -- ---- places and values of records
@@ -50,9 +50,6 @@ place-closed (T.monadic p o e) = refl
 place-closed (T.suffixed e ss) = refl
 place-closed (T.dyadic e os) = refl
 
-more : {fs : List Fault} {f : ℕ → Code} {m : ℕ} (k : ℕ) {t t′ : List ℕ} {st r : State} → Did fs f m t t′ st r → m ≤ k → Did fs f k t t′ st r
-more {f = f} k d l = did-as f k d same-refl (λ n e. refl) l
-
 -- ---- resolvedMonadic operators
 
 pub record IsMonadic (s : List ℕ) (lo end : ℕ) (e : Expression) : Type 0 where
@@ -71,25 +68,19 @@ module _ {s : List ℕ} {end : ℕ} {here : Here} {st : State} (n : Node) (nd : 
   pub monadic-is : (y : ReadyE s end here st) → IsMonadic s (y .lo) end (y .tree)
   monadic-is y = is-monadic (find n nd q y)
 
-  pub monadic-deep : (y : ReadyE s end here st) → depth (monadic-is y .part) + 1 ≤ here .left
-  unfolding depth
-  monadic-deep y = omega (arith, ap depth (monadic-is y .same))
-
-  pub monadic-fine : (y : ReadyE s end here st) → FineE (monadic-is y .part)
-  unfolding Fine
-  monadic-fine y = subst FineE (monadic-is y .same) (y .fine)
+  pub monadic-well : (y : ReadyE s end here st) → (depth (monadic-is y .part) + 1 ≤ here .left) × FineE (monadic-is y .part)
+  unfolding depth Fine
+  monadic-well y = (omega (arith, ap depth (monadic-is y .same)), subst FineE (monadic-is y .same) (y .fine))
 
   abbrev pub monadic-part : ReadyE s end here st → ReadyE s (n .inner) (inside here) st
-  monadic-part y = let u = monadic-is y in sub y keeps-all (u .lies) refl (omega (arith, monadic-deep y)) (monadic-fine y)
+  monadic-part y = let u = monadic-is y in let w = monadic-well y in sub y keeps-all (u .lies) refl (omega arith) (w .1)
 
   pub monadic-gave : (text : List ℕ) {s′ t t′ : List ℕ} {r : State} → GaveMonadic text s s′ (n .value) (n .inner) (inside here) t t′ st r
       → GaveE text s s′ end here t t′ st r
   unfolding inExpression expression
   monadic-gave text {s′} {t} {t′} {r} g = record {
     by = λ y. let u = monadic-is y in let x = g .by (monadic-part y) in let sc = y .scope in let h = here .height in
-        subst (λ (e : Expression). Result (faultsE text here sc e) (codeE text here sc e) (length (encode (y .tree))) (y .base) here s s′ t t′ st r)
-        (sym (u .same))
-        (record {
+        same-tree text here sc (u .same) (record {
           keeps = x .keeps;
           did = more _ (subst (λ (o : ℕ). Did (inExpression text sc (leavable here) h (u .part) ++ cond (eqb o 50) (unlessSide (placeOf (u .part))
               (sideOf (expression text sc h (u .part)))) []) (exprSays here (resolvedMonadic o (expression text sc h (u .part)))) (2 * length (encode
@@ -104,36 +95,23 @@ module _ (text : List ℕ) {s s₁ t t₂ : List ℕ} {o end : ℕ} {here : Here
   pub monadic-address : (n : Node) → NodeAt s end n → o ≡ 50 → GaveAddress text s s₁ end (n .place) here t t₂ st r
       → GaveMonadic text s s₁ o end here t t₂ st r
   monadic-address n nd e g = so e (record {
-    by = λ y. let x = g .by y in let sc = y .scope in let h = here .height in record {
+    by = λ y. let x = g .by y in record {
       keeps = x .keeps;
       did = rw (nd .place ∙ place-of (expression-closed (y .tree)) (y .lies) (y .ends) ∙ place-closed (y .tree)) at (x .did);
     };
   })
 
-module _ (text : List ℕ) {s s₁ t t₁ t₂ : List ℕ} {o end : ℕ} {here : Here} {st a r : State} where
-  pub monadic-pling : o ≡ 49 → GaveE text s s₁ end here t t₁ st a → Emits (G.X 1 ∷ []) [] t₁ t₂ a r → GaveMonadic text s s₁ o end here t t₂ st r
-  unfolding exprCode ofExpr exprLabels
-  monadic-pling e g f =
-      so text e (record {
-        by = λ y. let x = g .by y in record
-            { keeps = x .keeps; did = did-as _ _ (did-put (x .did) f) (same-eq (sym (append-nil _))) (λ n v. refl) (omega arith) };
-      })
-
-  pub monadic-minus : o ≡ 36 → GaveE text s s₁ end here t t₁ st a → Emits (G.X 2 ∷ []) [] t₁ t₂ a r → GaveMonadic text s s₁ o end here t t₂ st r
-  unfolding exprCode ofExpr exprLabels monadicAct
-  monadic-minus e g f =
-      so text e (record {
-        by = λ y. let x = g .by y in record
-            { keeps = x .keeps; did = did-as _ _ (did-put (x .did) f) (same-eq (sym (append-nil _))) (λ n v. refl) (omega arith) };
-      })
-
-  pub monadic-not : o ≡ 11 → GaveE text s s₁ end here t t₁ st a → Emits (G.X 3 ∷ []) [] t₁ t₂ a r → GaveMonadic text s s₁ o end here t t₂ st r
-  unfolding exprCode ofExpr exprLabels monadicAct
-  monadic-not e g f =
-      so text e (record {
-        by = λ y. let x = g .by y in record
-            { keeps = x .keeps; did = did-as _ _ (did-put (x .did) f) (same-eq (sym (append-nil _))) (λ n v. refl) (omega arith) };
-      })
+-- !, - and NOT: the act of each
+pub monadic-acts : (l k : ℕ) → eqb l 50 ≡ false → ((x : Here) (E : Expr) (n : ℕ) → exprSays x (resolvedMonadic l E) n
+    ≡ record { items = exprCode (x .strings) (x .height) n E ++ (G.X k ∷ []); heights = ofExpr (x .height) E; labels = exprLabels E })
+    → (text : List ℕ) {s s₁ t t₁ t₂ : List ℕ} {o end : ℕ} {here : Here} {st a r : State} → o ≡ l → GaveE text s s₁ end here t t₁ st a
+    → Emits (G.X k ∷ []) [] t₁ t₂ a r → GaveMonadic text s s₁ o end here t t₂ st r
+monadic-acts l k nt acts text {here = here} e g f = so text e (record {
+  by = λ y. let x = g .by y in let E = expression text (y .scope) (here .height) (y .tree) in record {
+    keeps = x .keeps;
+    did = did-as _ _ (did-put (x .did) f) (same-eq (sym (append-nil _) ∙ rw nt)) (λ n v. sym (acts here E n)) (omega arith);
+  };
+})
 
 pub monadic-other : (text : List ℕ) {s s₁ t t₁ : List ℕ} {o end : ℕ} {here : Here} {st r : State} → (o ≡ 50 → ⊥) → (o ≡ 49 → ⊥) → (o ≡ 36 → ⊥)
     → (o ≡ 11 → ⊥) → GaveE text s s₁ end here t t₁ st r → GaveMonadic text s s₁ o end here t t₁ st r
@@ -158,29 +136,26 @@ Of say name place m t t′ st r =
     (x : Here) (f : N.Found) → m ≡ found f → Did (onFound f (fault name 8) [] ++ unlessSide place (sideOf (ofMeaning f)))
     (say x (sideOf (ofMeaning f))) 0 t t′ st r
 
+module _ (say : Here → Side → ℕ → Code) (i : ℕ → I.Item) where
+  pub of-local : ((x : Here) (k n : ℕ) → say x (side (R.toLocal k)) n ≡ record { items = i k ∷ []; heights = []; labels = 0 }) → (name place : ℕ)
+      {m : ℕ} {t t′ : List ℕ} {st r : State} → m % 4 ≡ 1 → Emits (i (m / 4) ∷ []) [] t t′ st r → Of say name place m t t′ st r
+  unfolding found code sideOf
+  of-local es name place {m} q f x N.unknown e = absurd (omega arith)
+  of-local es name place {m} q f x (N.known (N.local k)) e = let z : m / 4 ≡ k = omega arith in emits-did _ f (λ n. rw (es x k n, z))
+  of-local es name place {m} q f x (N.known (N.global k)) e = absurd (omega arith)
+  of-local es name place {m} q f x (N.known (N.manifest k)) e = absurd (omega arith)
+  of-local es name place {m} q f x (N.known (N.function k)) e = absurd (omega arith)
+
+  pub of-global : ((x : Here) (k n : ℕ) → say x (side (R.toGlobal k)) n ≡ record { items = i k ∷ []; heights = []; labels = 0 }) → (name place : ℕ)
+      {m : ℕ} {t t′ : List ℕ} {st r : State} → m % 4 ≡ 2 → Emits (i (m / 4) ∷ []) [] t t′ st r → Of say name place m t t′ st r
+  unfolding found code sideOf
+  of-global es name place {m} q f x N.unknown e = absurd (omega arith)
+  of-global es name place {m} q f x (N.known (N.local k)) e = absurd (omega arith)
+  of-global es name place {m} q f x (N.known (N.global k)) e = let z : m / 4 ≡ k = omega arith in emits-did _ f (λ n. rw (es x k n, z))
+  of-global es name place {m} q f x (N.known (N.manifest k)) e = absurd (omega arith)
+  of-global es name place {m} q f x (N.known (N.function k)) e = absurd (omega arith)
+
 module _ (say : Here → Side → ℕ → Code) (name place : ℕ) {m : ℕ} {t t′ : List ℕ} {st r : State} where
-  pub of-local : (i : ℕ → I.Item) → ((x : Here) (k n : ℕ) → say x (side (R.toLocal k)) n ≡ record { items = i k ∷ []; heights = []; labels = 0 })
-      → m % 4 ≡ 1 → Emits (i (m / 4) ∷ []) [] t t′ st r → Of say name place m t t′ st r
-  unfolding found code sideOf
-  of-local i es q f x N.unknown e = absurd (omega arith)
-  of-local i es q f x (N.known (N.local k)) e =
-      let z : m / 4 ≡ k = omega arith in
-      emits-did _ f (λ n. rw (es x k n, z))
-  of-local i es q f x (N.known (N.global k)) e = absurd (omega arith)
-  of-local i es q f x (N.known (N.manifest k)) e = absurd (omega arith)
-  of-local i es q f x (N.known (N.function k)) e = absurd (omega arith)
-
-  pub of-global : (i : ℕ → I.Item) → ((x : Here) (k n : ℕ) → say x (side (R.toGlobal k)) n ≡ record { items = i k ∷ []; heights = []; labels = 0 })
-      → m % 4 ≡ 2 → Emits (i (m / 4) ∷ []) [] t t′ st r → Of say name place m t t′ st r
-  unfolding found code sideOf
-  of-global i es q f x N.unknown e = absurd (omega arith)
-  of-global i es q f x (N.known (N.local k)) e = absurd (omega arith)
-  of-global i es q f x (N.known (N.global k)) e =
-      let z : m / 4 ≡ k = omega arith in
-      emits-did _ f (λ n. rw (es x k n, z))
-  of-global i es q f x (N.known (N.manifest k)) e = absurd (omega arith)
-  of-global i es q f x (N.known (N.function k)) e = absurd (omega arith)
-
   pub of-unknown : {a : State} → m ≡ 0 → Faulted name 8 st a → Faulted place 10 a r → t′ ≡ t → Of say name place m t t′ st r
   unfolding found sideOf
   of-unknown q f g et x N.unknown e = rw et (did-as (say x noSide) 0 (did-then (f .by (say x noSide) t) (g .by (say x noSide) t)) same-refl
@@ -201,22 +176,6 @@ sayAddress x z = exprSays x (addressOf z)
 abbrev pub sayTarget : Here → Side → ℕ → Code
 sayTarget x z = targetSays x (targetOf z)
 
-pub local-address : (x : Here) (k n : ℕ) → sayAddress x (side (R.toLocal k)) n ≡ record { items = G.LP k ∷ []; heights = []; labels = 0 }
-unfolding exprCode ofExpr exprLabels
-local-address x k n = refl
-
-pub global-address : (x : Here) (k n : ℕ) → sayAddress x (side (R.toGlobal k)) n ≡ record { items = G.LG k ∷ []; heights = []; labels = 0 }
-unfolding exprCode ofExpr exprLabels
-global-address x k n = refl
-
-pub local-target : (x : Here) (k n : ℕ) → sayTarget x (side (R.toLocal k)) n ≡ record { items = G.SP k ∷ []; heights = []; labels = 0 }
-unfolding G.targetCode ofTarget G.targetLabels
-local-target x k n = refl
-
-pub global-target : (x : Here) (k n : ℕ) → sayTarget x (side (R.toGlobal k)) n ≡ record { items = G.SG k ∷ []; heights = []; labels = 0 }
-unfolding G.targetCode ofTarget G.targetLabels
-global-target x k n = refl
-
 -- ---- what has no address and is no left side
 
 no-address : (x : Side) → sideOf (addressOf x) ≡ noSide
@@ -229,11 +188,11 @@ no-address noSide = refl
 
 no-monadic : (o : ℕ) (E : Expr) → (o ≡ 49 → ⊥) → sideOf (resolvedMonadic o E) ≡ noSide
 unfolding sideOf
-no-monadic o E n = rw (ne-eqb o 49 n) (by (eqb o 50))
-  where
-    by : (b : Bool) → sideOf (cond b (addressOf (sideOf E)) (R.unary o E)) ≡ noSide
-    by true = no-address (sideOf E)
-    by false = refl
+no-monadic o E n = rw (ne-eqb o 49 n) (by-cases (eqb o 50) (λ e. rw e (no-address (sideOf E))) (λ e. rw e))
+
+-- a kind that is no side, as a match has it
+abbrev pub NoSide : ℕ → Type 0
+NoSide k = ((Unit × (k ≡ 51 → ⊥)) × (k ≡ 59 → ⊥)) × (k ≡ 129 → ⊥)
 
 module _ (text : List ℕ) (sc : Scope) (h : ℕ) where
   no-operation : (E : Expr) (os : Operations) → sideOf E ≡ noSide → sideOf (operations text sc h E os) ≡ noSide
@@ -254,21 +213,20 @@ module _ (text : List ℕ) (sc : Scope) (h : ℕ) where
   call-of true n = refl
   call-of false n = absurd (n refl)
 
-  pub no-side : (e : Expression) → FineE e → (expression-closed e .kind ≡ 51 → ⊥) → (expression-closed e .kind ≡ 59 → ⊥)
-      → (expression-closed e .kind ≡ 129 → ⊥) → (expression-closed e .kind ≡ 128 → expression-closed e .value ≡ 49 → ⊥)
-      → sideOf (expression text sc h e) ≡ noSide
+  pub no-side : (e : Expression) → FineE e → NoSide (expression-closed e .kind)
+      → (expression-closed e .kind ≡ 128 → expression-closed e .value ≡ 49 → ⊥) → sideOf (expression text sc h e) ≡ noSide
   unfolding expression sideOf Fine expression-closed shut operations
-  no-side (T.number p v) f n1 n2 n3 n4 = refl
-  no-side (T.string p v) f n1 n2 n3 n4 = refl
-  no-side (T.name n) f n1 n2 n3 n4 = absurd (n2 refl)
-  no-side (T.bracketed p e) f n1 n2 n3 n4 = absurd (n1 refl)
-  no-side (T.valof p c) f n1 n2 n3 n4 = refl
-  no-side (T.monadic p o e) f n1 n2 n3 n4 = no-monadic o (expression text sc h e) (n4 refl)
-  no-side (T.suffixed e ss) f n1 n2 n3 n4 =
-      no-call false (expression text sc (under ss h) e) ss (call-of (endsInCall false ss) n3)
+  no-side (T.number p v) f n m = refl
+  no-side (T.string p v) f n m = refl
+  no-side (T.name x) f n m = absurd (n .0 .1 refl)
+  no-side (T.bracketed p e) f n m = absurd (n .0 .0 .1 refl)
+  no-side (T.valof p c) f n m = refl
+  no-side (T.monadic p o e) f n m = no-monadic o (expression text sc h e) (m refl)
+  no-side (T.suffixed e ss) f n m =
+      no-call false (expression text sc (under ss h) e) ss (call-of (endsInCall false ss) (n .1))
       (λ z. contradiction cc)
-  no-side (T.dyadic e T.noOperations) f n1 n2 n3 n4 = absurd (f .2 refl)
-  no-side (T.dyadic e (T.operation o d os)) f n1 n2 n3 n4 = no-operation (R.binary o (expression text sc h e) (expression text sc (h + 1) d)) os refl
+  no-side (T.dyadic e T.noOperations) f n m = absurd (f .2 refl)
+  no-side (T.dyadic e (T.operation o d os)) f n m = no-operation (R.binary o (expression text sc h e) (expression text sc (h + 1) d)) os refl
 
 fault-not : (fs : List Fault) (place : ℕ) → fs ++ fault place 10 ≡ [] → ⊥
 fault-not fs place e = let z : length (fault place 10) ≡ 0 = ap length (nil-right fs (fault place 10) e) in omega arith
@@ -314,13 +272,13 @@ module _ (text : List ℕ) {s s′ t t′ : List ℕ} {end : ℕ} (place : ℕ) 
         (record { keeps = x .keeps; did = did-as _ _ (x .did) (same-eq (sym (append-nil _) ∙ sym (append-nil _))) (λ m v. refl) (omega arith) });
   }
 
-  pub address-refused : (n .kind ≡ 51 → ⊥) → (n .kind ≡ 59 → ⊥) → (n .kind ≡ 129 → ⊥) → (n .kind ≡ 128 → n .value ≡ 49 → ⊥)
-      → GaveRefused text s s′ end place here t t′ st r → GaveAddress text s s′ end place here t t′ st r
-  address-refused n1 n2 n3 n4 g = record {
+  pub address-refused : NoSide (n .kind) → (n .kind ≡ 128 → n .value ≡ 49 → ⊥) → GaveRefused text s s′ end place here t t′ st r
+      → GaveAddress text s s′ end place here t t′ st r
+  address-refused no-side-kind not-pling g = record {
     by = λ y.
         let sc = y .scope in let e = y .tree in let c = expression-closed e in let E = expression text sc (here .height) e in
         let k = nd .kind ∙ kind-of c (y .lies) (y .ends) in let v = nd .value ∙ value-of c (y .lies) (y .ends) in
-        let z = no-side text sc (here .height) e (y .fine) (λ i. n1 (k ∙ i)) (λ i. n2 (k ∙ i)) (λ i. n3 (k ∙ i)) (λ i j. n4 (k ∙ i) (v ∙ j)) in
+        let z = no-side text sc (here .height) e (y .fine) (subst NoSide k no-side-kind) (λ i j. not-pling (k ∙ i) (v ∙ j)) in
         let x = g .by (λ sc e. exprSays here (addressOf (sideOf (expression text sc (here .height) e)))) .by y in
         record { keeps = x .keeps; did = did-as _ _ (x .did) (same-eq (rw z)) (λ m v. refl) (omega arith) };
   }
@@ -360,28 +318,19 @@ index-of true n = absurd (omega arith)
 index-of false n = refl
 
 some-suffix : (ss : Suffixes) → (ss ≡ T.noSuffixes → ⊥) → 0 < length (encodeSuffixes ss)
-some-suffix ss n = by (order 0 (length (encodeSuffixes ss)))
-  where
-    by : Order 0 (length (encodeSuffixes ss)) → 0 < length (encodeSuffixes ss)
-    by (lt l) = l
-    by (ge l) = absurd (n (no-suffix ss (omega arith)))
+some-suffix ss n = let k = length (encodeSuffixes ss) in
+    by-cases (ltb 0 k) (λ e. ltb-true 0 k e) (λ e. absurd (n (no-suffix ss (omega (arith, ltb-false 0 k e)))))
 
 module _ {s : List ℕ} {end : ℕ} {here : Here} {st : State} (n : Node) (nd : NodeAt s end n) (q : IndexKind s end) {middle : ℕ}
     (m : middle ≡ n .start + n .value) where
   abbrev pub indexed-is : (y : ReadyE s end here st) → IsTwo encode encodeSuffixes T.suffixed s (y .lo) end (y .tree)
-  indexed-is y =
-      suffixed-is n nd (λ e. omega arith) (λ e. omega arith) (λ e. omega arith) (λ e. omega arith)
-      (λ e. omega arith) (λ e. omega arith) (λ e. omega arith) m y
+  indexed-is y = suffixed-is n nd (omega arith) m y
 
   abbrev pub indexed-part : ReadyE s end here st → ReadySuffixes s middle (n .inner) (inside here) st
-  indexed-part y =
-      suffixed-part n nd (λ e. omega arith) (λ e. omega arith) (λ e. omega arith) (λ e. omega arith)
-      (λ e. omega arith) (λ e. omega arith) (λ e. omega arith) m y
+  indexed-part y = suffixed-part n nd (omega arith) m y
 
   pub indexed-middle : (y : ReadyE s end here st) → middle ≡ y .lo + length (encode (indexed-is y .left))
-  indexed-middle y =
-      suffixed-middle n nd (λ e. omega arith) (λ e. omega arith) (λ e. omega arith) (λ e. omega arith) (λ e. omega arith) (λ e. omega arith)
-      (λ e. omega arith) m y
+  indexed-middle y = suffixed-middle n nd (omega arith) m y
 
   pub indexed-some : (y : ReadyE s end here st) → middle < n .inner
   unfolding Fine
@@ -414,7 +363,6 @@ module _ {s : List ℕ} {end : ℕ} {here : Here} {st : State} (n : Node) (nd : 
         by = λ y.
             let U = indexed-is y in let Y = indexed-part y in let sc = y .scope in let h = here .height in let p = U .left in let u = last-index y in
             let x = g .by (address-left y) in let w = g₂ .by (address-right y) in let L = leavable here in
-            let A = suffixes text sc h (expression text sc (under (u .init) h) p) (u .init) in let B = expression text sc (h + 1) (u .part) in
             let ef = index-faults text sc h p (u .init) (u .part) (u .same) L in let er = index-means text sc h p (u .init) (u .part) (u .same) in
             let E = suffixes text sc h (expression text sc (under (U .list) h) p) (U .list) in
             subst (λ (e : Expression). Result (inExpression text sc L h e ++ unlessSide place (sideOf (expression text sc h e)))
@@ -422,12 +370,8 @@ module _ {s : List ℕ} {end : ℕ} {here : Here} {st : State} (n : Node) (nd : 
             (record {
               keeps = keeps-then (x .keeps) (w .keeps);
               did = did-as (exprSays here (addressOf (sideOf E))) _ (did-put (did-then (did-emit (x .did) f) (w .did)) f₂)
-                  (same-eq (simp (ef, append-nil, er))) (λ k v. code-is (simp (append-assoc, er)) (simp (append-assoc, er)) (rw er)) (omega (
-                    arith,
-                    applied-ends Y,
-                    indexed-middle y,
-                    length-append (encode p) (encodeSuffixes (u .init)),
-                  ));
+                  (same-eq (simp (ef, append-nil, er))) (λ k v. code-is (simp (append-assoc, er)) (simp (append-assoc, er)) (rw er))
+                  (omega (arith, applied-ends Y, indexed-middle y, length-append (encode p) (encodeSuffixes (u .init))));
             });
       }
 
@@ -453,13 +397,13 @@ module _ (text : List ℕ) {s s′ t t′ : List ℕ} {end : ℕ} (place : ℕ) 
         (sym (u .same)) (record { keeps = x .keeps; did = more _ (x .did) (omega arith) });
   }
 
-  pub side-refused : (n .kind ≡ 51 → ⊥) → (n .kind ≡ 59 → ⊥) → (n .kind ≡ 129 → ⊥) → (n .kind ≡ 128 → n .value ≡ 49 → ⊥)
-      → GaveRefused text s s′ end place (raised 1 here) t t′ st r → GaveSide text s s′ end place here t t′ st r
-  side-refused n1 n2 n3 n4 g = record {
+  pub side-refused : NoSide (n .kind) → (n .kind ≡ 128 → n .value ≡ 49 → ⊥) → GaveRefused text s s′ end place (raised 1 here) t t′ st r
+      → GaveSide text s s′ end place here t t′ st r
+  side-refused no-side-kind not-pling g = record {
     by = λ y.
         let sc = y .scope in let e = y .tree in let c = expression-closed e in let h = here .height in
         let k = nd .kind ∙ kind-of c (y .lies) (y .ends) in let v = nd .value ∙ value-of c (y .lies) (y .ends) in
-        let z = no-side text sc (h + 1) e (y .fine) (λ i. n1 (k ∙ i)) (λ i. n2 (k ∙ i)) (λ i. n3 (k ∙ i)) (λ i j. n4 (k ∙ i) (v ∙ j)) in
+        let z = no-side text sc (h + 1) e (y .fine) (subst NoSide k no-side-kind) (λ i j. not-pling (k ∙ i) (v ∙ j)) in
         let x = g .by (λ sc e. targetSays here (targetOf (sideOf (expression text sc (h + 1) e)))) .by y in
         record { keeps = x .keeps; did = did-as _ _ (x .did) (same-eq (rw z)) (λ m v. refl) (omega arith) };
   }
@@ -523,9 +467,8 @@ module _ {s : List ℕ} {end : ℕ} {here : Here} {st : State} (n : Node) (nd : 
               let y₀ = with-state (f₀ .label) y in let U = indexed-is n nd q m y₀ in let Y = indexed-part n nd q m y₀ in let sc = y .scope in
               let h = here .height in let k = h + 1 in let p = U .left in let u = last-index n nd q m ei ez es y₀ in let x = g .by (side-left y) in
               let w = g₂ .by (side-right y) in let L = leavable here in let kk : k + 1 ≡ h + 2 = omega arith in
-              let A = suffixes text sc k (expression text sc (under (u .init) k) p) (u .init) in let B = expression text sc (k + 1) (u .part) in
               let ef = index-faults text sc k p (u .init) (u .part) (u .same) L in let er = index-means text sc k p (u .init) (u .part) (u .same) in
-              let E = suffixes text sc k (expression text sc (under (U .list) k) p) (U .list) in let Z = G.AIP k ∷ G.SP k ∷ G.LIP h ∷ G.SIP k ∷ [] in
+              let E = suffixes text sc k (expression text sc (under (U .list) k) p) (U .list) in
               subst (λ (e : Expression). Result (inExpression text sc L k e ++ unlessSide place (sideOf (expression text sc k e)))
               (targetSays here (targetOf (sideOf (expression text sc k e)))) (length (encode (y .tree))) (y .base) (raised 1 here) s s₂ t t₄ st d)
               (sym (U .same))

@@ -2,39 +2,18 @@ use Rattle.laws.proofs.Basics.{_-_, _≤_, List, arith, needs}
 use Rattle.language.specs.Tree.{Label}
 use Rattle.compiler.specs.Labels.{LabelAt, Row}
 use Rattle.compiler.proofs.Switching.{labels, CountPart, count-begin, count-next, count-end}
-use Rattle.compiler.proofs.labels.count_cases.Statement.{statement}
 use Rattle.compiler.proofs.labels.count_cases.Tie as tie
 
 abbrev Inv-loop : tie.InvT-loop
 Inv-loop s from end at₀ n₀ at n = (n ≤ at) × (n ≤ end) × ((ls : List Label) → Row (LabelAt s) s end from ls → CountPart (labels s) s end at n ls)
 
-abbrev μ-loop : tie.MeasureT-loop
-μ-loop s from end at₀ n₀ at n = end - at
-
-loop-again : tie.Need-loop-again Inv-loop μ-loop
-loop-again c = (
-  omega (arith, c .before .before .before .loop .inv .0, c .one-case .ensures .few, c .before .next-item .ensures .further),
-  omega (
-    arith,
-    c .before .before .before .loop .inv .0,
-    c .one-case .ensures .few,
-    c .before .next-item .ensures .further,
-    c .before .next-item .ensures .within,
-  ),
-  (let after-loop = c .before .before .before in let start = after-loop .before .before in λ ls r. count-next (labels (start .args .s .now))
-      (start .args .s .now) (start .args .end) (after-loop .loop .n) (c .before .before .loop-test .taken) (c .before .next-item .ensures)
-      (λ x q. c .one-case .ensures .by x q) ls (after-loop .loop .inv .2 ls r)),
-)
-
-returns : tie.Need-returns Inv-loop μ-loop
-returns c =
-    record {
-      few = omega (arith, c .before .loop .inv .1);
-      by = λ ls r. count-end (labels (c .before .before .before .args .s .now))
-          (c .before .before .before .args .s .now) (c .before .before .before .args .end) (c .loop-test .left) ls (c .before .loop .inv .2 ls r);
-    }
-
-pub count-cases-spec : {M : Type 1} → statement M
+pub count-cases-spec : {M : Type 1} → Rattle.compiler.proofs.labels.count_cases.Statement.statement M
 count-cases-spec =
-    tie.close (tie.spec Inv-loop μ-loop (λ c. (omega arith, omega arith, λ ls r. search count-begin))
-    (search needs) (search needs) (λ c. omega arith) (λ c. omega arith) loop-again returns)
+    tie.close (tie.spec Inv-loop (λ s from end at₀ n₀ at n. end - at) (λ c. (omega arith, omega arith, λ ls r. search count-begin)) (search needs)
+    (search needs) (λ c. omega arith) (λ c. omega arith)
+    (λ c. (omega arith, omega arith, λ ls r. search (count-next, labels, c .before .before .before .loop .inv .2)))
+    (λ c. record {
+      few = omega arith;
+      by = λ ls r. count-end (labels _) (c .before .before .before .args .s .now) _ (c .loop-test .left) ls
+          (c .before .loop .inv .2 ls r);
+    }))

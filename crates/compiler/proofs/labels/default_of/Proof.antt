@@ -2,33 +2,15 @@ use Rattle.laws.proofs.Basics.{_+_, _-_, _≤_, List, arith, needs}
 use Rattle.language.specs.Tree.{Label}
 use Rattle.compiler.specs.Labels.{CommandAt, Row}
 use Rattle.compiler.proofs.Switching.{DefaultPart, default-begin, default-found, default-next, default-end}
-use Rattle.compiler.proofs.labels.default_of.Statement.{statement}
 use Rattle.compiler.proofs.labels.default_of.Tie as tie
 
 abbrev Inv-loop : tie.InvT-loop
 Inv-loop s from end first done at₀ k₀ at k =
     (k ≤ first + at) × ((lss : List (List Label)) → Row (CommandAt s) s end from lss → DefaultPart s end first done at k lss)
 
-abbrev μ-loop : tie.MeasureT-loop
-μ-loop s from end first done at₀ k₀ at k = end - at
-
-loop-again : tie.Need-loop-again Inv-loop μ-loop
-loop-again c = (
-  omega arith,
-  (let after-next-item = c .before .before .before in let after-loop-test = after-next-item .before in let after-loop = after-loop-test .before
-      in let start = after-loop .before .before in λ lss r. default-next (start .args .s .now) (start .args .end) (start .args .first)
-      (start .args .done) (after-loop .loop .k) (after-loop-test .loop-test .taken) (after-next-item .next-item .ensures)
-      (c .before .before .labels-of .ensures) (c .before .has-default .ensures) (c .if1 .left) lss (after-loop .loop .inv .1 lss r)),
-)
-
-returns-2 : tie.Need-returns-2 Inv-loop μ-loop
-returns-2 c =
-    let start = c .before .before .before in
-    default-end (start .args .s .now) (start .args .end) (start .args .first) (start .args .done) (c .before .loop .k) (c .loop-test .left)
-    (c .before .loop .inv .1)
-
-pub default-of-spec : {M : Type 1} → statement M
+pub default-of-spec : {M : Type 1} → Rattle.compiler.proofs.labels.default_of.Statement.statement M
 default-of-spec =
-    tie.close (tie.spec Inv-loop μ-loop (λ c. (omega arith, λ lss r. search default-begin))
-    (search needs) (λ c κs. omega arith) (λ c _. c .labels-of .ensures .small) (λ c. search default-found)
-    (λ c. omega arith) (λ c. omega arith) loop-again returns-2)
+    tie.close (tie.spec Inv-loop (λ s from end first done at₀ k₀ at k. end - at) (λ c. (omega arith, λ lss r. search default-begin)) (search needs)
+    (λ c κs. omega arith) (λ c _. c .labels-of .ensures .small) (λ c. search default-found) (λ c. omega arith) (λ c. omega arith)
+    (λ c. (omega arith, λ lss r. search (default-next, c .before .before .before .before .before .loop .inv .1)))
+    (λ c. default-end _ _ _ _ (c .before .loop .k) (c .loop-test .left) (c .before .loop .inv .1)))

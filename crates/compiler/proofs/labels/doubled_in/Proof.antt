@@ -2,7 +2,6 @@ use Rattle.laws.proofs.Basics.{_-_, _≡_, refl, _∙_, List, length, arith, ne
 use Rattle.compiler.proofs.Language.{Label, labelsOf}
 use Rattle.compiler.specs.Labels.{LabelAt, Listed, Marks}
 use Rattle.compiler.proofs.Doubling.{OwnPart, own-begin, own-next, own-end}
-use Rattle.compiler.proofs.labels.doubled_in.Statement.{statement}
 use Rattle.compiler.proofs.labels.doubled_in.Tie as tie
 
 abbrev Inv-loop : tie.InvT-loop
@@ -11,19 +10,13 @@ Inv-loop source s from end top seen₀ at₀ r₀ seen at r =
     ((y : Listed (LabelAt s) s from end top) (first : List Label) → Marks seen₀ (labelsOf source (y .scope) first) → OwnPart source r₀ y first seen
     at r)
 
-abbrev μ-loop : tie.MeasureT-loop
-μ-loop source s from end top seen₀ at₀ r₀ seen at r = end - at
-
-loop-again : tie.Need-loop-again Inv-loop μ-loop
-loop-again c =
-    let after-next-item = c .before .before .before .before in let after-loop-test = after-next-item .before in
-    let after-loop = after-loop-test .before in let start = after-loop .before .before .before .before in (
-      c .before .before .doubled-label .kept .1 .1 .1 .1 .0 ∙ after-loop .loop .inv .0,
-      λ y first m. own-next (start .args .source .now) (start .args .st) (after-loop-test .loop-test .taken) (after-next-item .next-item .ensures)
-          (c .before .before .doubled-label .ensures) y first (after-loop .loop .inv .1 y first m),
-    )
-
-pub doubled-in-spec : {M : Type 1} → statement M
+pub doubled-in-spec : {M : Type 1} → Rattle.compiler.proofs.labels.doubled_in.Statement.statement M
 doubled-in-spec =
-    tie.close (tie.spec Inv-loop μ-loop (λ c. (refl, λ y first m. search own-begin))
-    (search needs) (λ c κs. omega arith) (λ c. omega arith) loop-again (search needs) (λ c. search own-end))
+    tie.close (tie.spec Inv-loop (λ source s from end top seen₀ at₀ r₀ seen at r. end - at) (λ c. (refl, λ y first m. search own-begin))
+    (search needs) (λ c κs. omega arith) (λ c. omega arith)
+    (λ c. let after-next-item = c .before .before .before .before in let after-loop-test = after-next-item .before in
+    let after-loop = after-loop-test .before in let start = after-loop .before .before .before .before in (
+      cc,
+      λ y first m. own-next _ (start .args .st) (after-loop-test .loop-test .taken) (after-next-item .next-item .ensures)
+          (c .before .before .doubled-label .ensures) y first (after-loop .loop .inv .1 y first m),
+    )) (search needs) (λ c. search own-end))

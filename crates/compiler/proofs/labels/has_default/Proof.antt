@@ -2,38 +2,19 @@ use Rattle.laws.proofs.Basics.{_-_, List, arith, needs}
 use Rattle.language.specs.Tree.{Label}
 use Rattle.compiler.specs.Labels.{LabelAt, Row}
 use Rattle.compiler.proofs.Switching.{AmongPart, among-begin, among-next, among-found, among-end}
-use Rattle.compiler.proofs.labels.has_default.Statement.{statement}
 use Rattle.compiler.proofs.labels.has_default.Tie as tie
 
 abbrev Inv-loop : tie.InvT-loop
 Inv-loop s from end at₀ at = (ls : List Label) → Row (LabelAt s) s end from ls → AmongPart s end at ls
 
-abbrev μ-loop : tie.MeasureT-loop
-μ-loop s from end at₀ at = end - at
-
-returns : tie.Need-returns Inv-loop μ-loop
-returns c =
-    record {
-      by = λ ls r. among-found (c .before .before .before .before .before .before .args .s .now)
-          (c .before .before .before .before .before .before .args .end) (c .before .before .before .loop-test .taken)
-          (c .before .before .next-item .ensures) (c .before .one-case .ensures) (c .if1 .taken) ls
-          (c .before .before .before .before .loop .inv ls r);
-    }
-
-loop-again : tie.Need-loop-again Inv-loop μ-loop
-loop-again c =
-    λ ls r. among-next (c .before .before .before .before .before .before .args .s .now)
-    (c .before .before .before .before .before .before .args .end) (c .before .before .before .loop-test .taken)
-    (c .before .before .next-item .ensures) (c .before .one-case .ensures) (c .if1 .left) ls (c .before .before .before .before .loop .inv ls r)
-
-returns-2 : tie.Need-returns-2 Inv-loop μ-loop
-returns-2 c =
-    record {
-      by = λ ls r. among-end (c .before .before .before .args .s .now) (c .before .before .before .args .end) (c .loop-test .left) ls
-          (c .before .loop .inv ls r);
-    }
-
-pub has-default-spec : {M : Type 1} → statement M
+pub has-default-spec : {M : Type 1} → Rattle.compiler.proofs.labels.has_default.Statement.statement M
 has-default-spec =
-    tie.close (tie.spec Inv-loop μ-loop (λ c. λ ls r. search among-begin)
-    (search needs) (search needs) returns (λ c. omega arith) loop-again returns-2)
+    tie.close (tie.spec Inv-loop (λ s from end at₀ at. end - at) (λ c. λ ls r. search among-begin) (search needs) (search needs)
+    (λ c. record {
+      by = λ ls r. among-found _ (c .before .before .before .before .before .before .args .end)
+          (c .before .before .before .loop-test .taken) (c .before .before .next-item .ensures) (c .before .one-case .ensures) (c .if1 .taken) ls
+          (c .before .before .before .before .loop .inv ls r);
+    }) (λ c. omega arith)
+    (λ c. λ ls r. among-next _ (c .before .before .before .before .before .before .args .end) (c .before .before .before .loop-test .taken)
+    (c .before .before .next-item .ensures) (c .before .one-case .ensures) (c .if1 .left) ls (c .before .before .before .before .loop .inv ls r))
+    (λ c. record { by = λ ls r. among-end _ _ (c .loop-test .left) ls (c .before .loop .inv ls r) }))

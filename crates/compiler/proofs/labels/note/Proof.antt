@@ -1,28 +1,15 @@
 use Rattle.laws.proofs.Basics.{_/_, refl, arith, needs}
 use Rattle.compiler.proofs.Flags.{flag-fits}
 use Rattle.compiler.proofs.Doubling.{note-first, note-again, note-none}
-use Rattle.compiler.proofs.labels.note.Statement.{statement}
 use Rattle.compiler.proofs.labels.note.Tie as tie
 
-cast-x : tie.Need-cast-x
-cast-x c = omega (arith, c .before .before .slice-known .given (c .before .before .before .args .i / 8))
-
-add-seen : tie.Need-add-seen
-add-seen c = omega (arith, c .before .before .before .before .slice-known .given (c .before .before .before .before .before .args .i / 8))
-
-cast-seen : tie.Need-cast-seen
-cast-seen c =
-    omega (
-      arith,
-      flag-fits (c .before .before .before .before .before .args .seen .now) (c .before .before .before .before .before .args .i) refl
-          (c .before .power .ensures .0) (c .if2 .taken)
-          (omega (arith, c .before .before .before .before .slice-known .given (c .before .before .before .before .before .args .i / 8))),
-    )
-
-returns-2 : tie.Need-returns-2
-returns-2 c = note-again refl (c .before .before .power .ensures .0) (c .before .if2 .left) (c .wrong .ensures)
-
-pub note-spec : {M : Type 1} → statement M
+pub note-spec : {M : Type 1} → Rattle.compiler.proofs.labels.note.Statement.statement M
 note-spec =
-    tie.close (tie.spec (search needs) cast-x (search needs) (search needs) add-seen cast-seen (search needs) (search needs) (λ c. search note-first)
-    (search needs) returns-2 (λ c. search note-none))
+    tie.close (tie.spec (search needs) (λ c. omega (arith, c .before .before .slice-known .given (c .before .before .before .args .i / 8)))
+    (search needs) (search needs)
+    (λ c. omega (arith, c .before .before .before .before .slice-known .given (c .before .before .before .before .before .args .i / 8)))
+    (λ c. let fits = flag-fits (c .before .before .before .before .before .args .seen .now)
+    (c .before .before .before .before .before .args .i) refl (c .before .power .ensures .0) (c .if2 .taken)
+    (omega (arith, c .before .before .before .before .slice-known .given (c .before .before .before .before .before .args .i / 8))) in
+    omega arith) (search needs) (search needs) (λ c. search note-first) (search needs)
+    (λ c. note-again refl (c .before .before .power .ensures .0) (c .before .if2 .left) (c .wrong .ensures)) (λ c. search note-none))

@@ -1,21 +1,14 @@
 use Rattle.compiler.proofs.Switching.{table-gave}
 use Rattle.laws.proofs.Basics.{needs}
-use Rattle.compiler.proofs.labels.table.Statement.{statement}
 use Rattle.compiler.proofs.labels.table.Tie as tie
 
-all-pairs-requires : tie.Need-all-pairs-requires
-all-pairs-requires c κs =
-    let start =
-    c .before .before .before .before .before .before .before .before .before .before .before .before .before .before .before .before .before .before
-    in (start .pre .0, start .pre .1)
-
-returns : tie.Need-returns
-returns c =
-    let after-put-address = c .before .before .before .before .before .before in let after-default-of = after-put-address .before .before in
+pub table-spec : {M : Type 1} → Rattle.compiler.proofs.labels.table.Statement.statement M
+table-spec =
+    tie.close (tie.spec (search needs) (search needs) (search needs) (search needs) (search needs)
+    (λ c κs. let start = c .before .before .before .before .before .before .before .before .before .before .before .before .before .before .before
+    .before .before .before in (start .pre .0, start .pre .1)) (search needs)
+    (λ c. let after-put-address = c .before .before .before .before .before .before in let after-default-of = after-put-address .before .before in
     let after-put-word = after-default-of .before .before .before in let after-count-all = after-put-word .before .before in
-    let after-put = after-count-all .before .before .before in let start = after-put .before .before .before .before .before in
-    table-gave (start .args .source .now) (after-put .put .ensures) (after-count-all .count-all .ensures) (after-put-word .put-word .ensures)
-    (after-default-of .default-of .ensures) (after-put-address .put-address .ensures) (c .before .before .all-pairs .ensures)
-
-pub table-spec : {M : Type 1} → statement M
-table-spec = tie.close (tie.spec (search needs) (search needs) (search needs) (search needs) (search needs) all-pairs-requires (search needs) returns)
+    let after-put = after-count-all .before .before .before in table-gave _ (after-put .put .ensures) (after-count-all .count-all .ensures)
+    (after-put-word .put-word .ensures) (after-default-of .default-of .ensures) (after-put-address .put-address .ensures)
+    (c .before .before .all-pairs .ensures)))

@@ -1,6 +1,5 @@
 use Rattle.laws.proofs.Basics.{_+_, _*_, _/_, _^_, _<_, _≤_, _∙_, length, arith, needs}
 use Rattle.compiler.proofs.FunctionLaws.{function-room, function-names, function-body, function-gave}
-use Rattle.compiler.proofs.outer.function.Statement.{statement}
 use Rattle.compiler.proofs.outer.function.Tie as tie
 
 room : (c : tie.After-node-at) → let start = c .before .before .before .before .before in let top = start .args .here .top in
@@ -8,60 +7,26 @@ room : (c : tie.After-node-at) → let start = c .before .before .before .before
     × (start .pre .base < 2 ^ 32)
 room c = function-room _ (c .node-at .ensures) (c .before .before .before .before .before .pre)
 
-body-requires : tie.Need-body-requires
-body-requires c κs =
-    let after-reached = c .before .before .before .before in let after-declare = after-reached .before .before .before in
+pub function-spec : {M : Type 1} → Rattle.compiler.proofs.outer.function.Statement.statement M
+function-spec =
+    tie.close (tie.spec (search needs) (search needs) (search needs) (search needs) (λ c κs. (room (search) .0, omega arith, omega arith))
+    (λ c. omega (arith, room (search))) (λ c κs. search function-names) (search needs) (search needs) (λ c. omega (arith, room (search)))
+    (λ c. omega (arith, room (search))) (λ c. omega (arith, room (search))) (λ c. omega (arith, room (search)))
+    (λ c κs. let after-reached = c .before .before .before .before in let after-declare = after-reached .before .before .before in
     let after-push = after-declare .before .before .before .before .before in let after-mark = after-push .before .before .before .before in
     let after-node-at = after-mark .before .before .before .before .before in let start = after-node-at .before .before .before .before .before in
-    function-body _ (after-node-at .node-at .ensures) (after-push .push .ensures) (start .args .source .now) (after-mark .mark .ensures)
-    (after-declare .declare .ensures) (after-reached .reached .ensures) (start .pre)
-
-same-length : tie.Need-same-length
-same-length c =
-    let after-body = c .before .before .before .before .before .before .before .before in
+    function-body _ (after-node-at .node-at .ensures) (after-push .push .ensures) _ (after-mark .mark .ensures) (after-declare .declare .ensures)
+    (after-reached .reached .ensures) (start .pre)) (search needs)
+    (λ c. let after-body = c .before .before .before .before .before .before .before .before in
     let after-declare = after-body .before .before .before .before .before .before .before .before in
-    let after-push = after-declare .before .before .before .before .before in
-    after-body .body .kept .1 .0 ∙ after-declare .declare .kept .1 .0 ∙ after-push .push .kept .0
-
-same-length-2 : tie.Need-same-length-2
-same-length-2 c =
-    c .before .before .put .kept .0 ∙ c .before .before .before .before .before .before .before .before .body .kept .1 .1 .1 .0 ∙
-    c .before .before .before .before .before .before .before .before .before .before .before .before .before .before .before .before .before .before
-    .before .before .before .before .before .before .before .mark .kept .0
-
-returns : tie.Need-returns
-returns c =
-    let after-body = c .before .before .before .before .before .before .before .before in
+    let after-push = after-declare .before .before .before .before .before in after-body .body .kept .1 .0 ∙ after-declare .declare .kept .1 .0
+    ∙ after-push .push .kept .0)
+    (λ c. c .before .before .put .kept .0 ∙ c .before .before .before .before .before .before .before .before .body .kept .1 .1 .1 .0
+    ∙ c .before .before .before .before .before .before .before .before .before .before .before .before .before .before .before .before .before
+    .before .before .before .before .before .before .before .before .mark .kept .0)
+    (λ c. let after-body = c .before .before .before .before .before .before .before .before in
     let after-reached = after-body .before .before .before .before .before in let after-declare = after-reached .before .before .before in
     let after-push = after-declare .before .before .before .before .before in let after-mark = after-push .before .before .before .before in
-    let after-node-at = after-mark .before .before .before .before .before in let start = after-node-at .before .before .before .before .before in
-    function-gave _ (after-node-at .node-at .ensures) (after-push .push .ensures) (start .args .source .now) (after-mark .mark .ensures)
-    (after-declare .declare .ensures) (after-reached .reached .ensures) (after-body .body .ensures) (c .before .before .put .ensures)
-
-pub function-spec : {M : Type 1} → statement M
-function-spec =
-    tie.close (tie.spec (search needs) (search needs) (search needs) (search needs)
-    (λ c κs. (room (c .before .before .before .before .before .before .before .before) .0, omega arith, omega arith))
-    (λ c. omega (arith, room (c .before .before .before .before .before .before .before .before .before .before .before .before .before)))
-    (λ c κs. search function-names) (search needs) (search needs)
-    (λ c. omega (
-      arith,
-      room (c .before .before .before .before .before .before .before .before .before .before .before .before .before .before
-          .before .before .before .before),
-    ))
-    (λ c. omega (
-      arith,
-      room (c .before .before .before .before .before .before .before .before .before .before .before .before .before .before
-          .before .before .before .before),
-    ))
-    (λ c. omega (
-      arith,
-      room (c .before .before .before .before .before .before .before .before .before .before .before .before .before .before
-          .before .before .before .before),
-    ))
-    (λ c. omega (
-      arith,
-      room (c .before .before .before .before .before .before .before .before .before .before .before .before .before .before
-          .before .before .before .before),
-    ))
-    body-requires (search needs) same-length same-length-2 returns)
+    let after-node-at = after-mark .before .before .before .before .before in function-gave _ (after-node-at .node-at .ensures)
+    (after-push .push .ensures) _ (after-mark .mark .ensures) (after-declare .declare .ensures) (after-reached .reached .ensures)
+    (after-body .body .ensures) (c .before .before .put .ensures)))

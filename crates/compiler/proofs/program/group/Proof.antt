@@ -3,7 +3,6 @@ use Rattle.laws.proofs.Basics.{ℕ, _-_, _≡_, refl, _∙_, length, arith, nee
 use Rattle.language.specs.Names.{Scope, outermost}
 use Rattle.compiler.specs.Groups.{ReadyFs}
 use Rattle.compiler.proofs.FunctionLists.{GroupPart, group-begin, group-ready, group-fits, group-next, group-end}
-use Rattle.compiler.proofs.program.group.Statement.{statement}
 use Rattle.compiler.proofs.program.group.Tie as tie
 
 abbrev Inv-loop : tie.InvT-loop
@@ -12,44 +11,25 @@ Inv-loop source s₀ from end text₀ here label at₀ l₀ r₀ tall₀ s text 
     × ((y : ReadyFs s₀ from end here (record { tall = tall₀; state = r₀ })) (before : Scope) (k : ℕ)
     → GroupPart source text₀ label (record { tall = tall₀; state = r₀ }) y before k s text at l (record { tall = tall; state = r }))
 
-abbrev μ-loop : tie.MeasureT-loop
-μ-loop source s₀ from end text₀ here label at₀ l₀ r₀ tall₀ s text at l r tall = end - at
-
-function-requires : tie.Need-function-requires Inv-loop μ-loop
-function-requires c κs =
-    let after-loop-test = c .before .before .before .before in let after-loop = after-loop-test .before in
-    let start = after-loop .before .before .before .before .before in
-    group-ready _ _ _ _ (after-loop-test .loop-test .taken) (c .before .before .entry .ensures .0) refl (start .pre .0)
-    (after-loop .loop .inv .2 (start .pre .0) outermost 0)
-
-add-l : tie.Need-add-l Inv-loop μ-loop
-add-l c =
-    omega (
-      arith,
-      (let after-entry = c .before .before .before .before .before .before .before .before .before .before .before in let after-loop-test =
-          after-entry .before .before in let after-loop = after-loop-test .before in let start = after-loop .before .before .before .before .before in
-          group-fits _ _ _ _ (after-loop-test .loop-test .taken) (after-entry .entry .ensures .0) refl (start .pre .0)
-          (after-loop .loop .inv .2 (start .pre .0) outermost 0)),
-    )
-
-loop-again : tie.Need-loop-again Inv-loop μ-loop
-loop-again c =
-    let after-function = c .before .before .before .before .before .before .before .before in
+pub group-spec : {M : Type 1} → Rattle.compiler.proofs.program.group.Statement.statement M
+group-spec =
+    tie.close (tie.spec Inv-loop (λ source s₀ from end text₀ here label at₀ l₀ r₀ tall₀ s text at l r tall. end - at)
+    (λ c. (refl, refl, λ y before k. search group-begin)) (λ c. omega arith) (search needs) (λ c. omega arith)
+    (λ c κs. let after-loop-test = c .before .before .before .before in let after-loop = after-loop-test .before in
+    let start = after-loop .before .before .before .before .before in group-ready _ _ _ _ (after-loop-test .loop-test .taken)
+    (c .before .before .entry .ensures .0) refl (start .pre .0) (after-loop .loop .inv .2 (start .pre .0) outermost 0)) (λ c. omega arith)
+    (search needs) (λ c _. c .entry2 .ensures .1) (search needs)
+    (λ c. let after-entry = c .before .before .before .before .before .before .before .before .before .before .before in
+    let after-loop-test = after-entry .before .before in let after-loop = after-loop-test .before in
+    let start = after-loop .before .before .before .before .before in let fits = group-fits _ _ _ _ (after-loop-test .loop-test .taken)
+    (after-entry .entry .ensures .0) refl (start .pre .0) (after-loop .loop .inv .2 (start .pre .0) outermost 0) in omega arith) (λ c. omega arith)
+    (λ c. let after-function = c .before .before .before .before .before .before .before .before in
     let after-entry = after-function .before .before .before in let after-loop-test = after-entry .before .before in
     let after-loop = after-loop-test .before in (
-      after-function .function .kept .1 .0 ∙ after-loop .loop .inv .0,
-      after-function .function .kept .1 .1 .1 .0 ∙ after-loop .loop .inv .1,
+      cc,
+      cc,
       λ y before k. group-next _ _ _ _ (after-loop-test .loop-test .taken) (after-entry .entry .ensures .0) refl y
-          (after-loop .loop .inv .2 y before k)
-          (after-function .function .ensures) (c .before .before .entry2 .ensures .0) (c .before .before .entry2 .ensures .1)
-          (c .before .too-tall .ensures) (c .level .ensures),
-    )
-
-returns : tie.Need-returns Inv-loop μ-loop
-returns c = group-end _ _ _ _ (c .loop-test .left) (c .before .loop .inv .2)
-
-pub group-spec : {M : Type 1} → statement M
-group-spec =
-    tie.close (tie.spec Inv-loop μ-loop (λ c. (refl, refl, λ y before k. search group-begin)) (λ c. omega arith)
-    (search needs) (λ c. omega arith) function-requires (λ c. omega arith) (search needs) (λ c _. c .entry2 .ensures .1)
-    (search needs) add-l (λ c. omega arith) loop-again (search needs) (search needs) returns)
+          (after-loop .loop .inv .2 y before k) (after-function .function .ensures) (c .before .before .entry2 .ensures .0)
+          (c .before .before .entry2 .ensures .1) (c .before .too-tall .ensures) (c .level .ensures),
+    )) (search needs) (search needs)
+    (λ c. group-end _ _ _ _ (c .loop-test .left) (c .before .loop .inv .2)))

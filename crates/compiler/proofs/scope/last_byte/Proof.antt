@@ -1,9 +1,6 @@
 use Rattle.laws.proofs.Basics.{needs}
-use Rattle.compiler.proofs.scope.last_byte.Statement.{statement}
 use Rattle.compiler.proofs.scope.last_byte.Tie as tie
 
-returns : tie.Need-returns
-returns c = rw (c .byte-at .ensures, c .before .less .ensures)
-
-pub last-byte-spec : {M : Type 1} → statement M
-last-byte-spec = tie.close (tie.spec (search needs) (search needs) (search needs) returns)
+pub last-byte-spec : {M : Type 1} → Rattle.compiler.proofs.scope.last_byte.Statement.statement M
+last-byte-spec =
+    tie.close (tie.spec (search needs) (search needs) (search needs) (λ c. rw (c .byte-at .ensures, c .before .less .ensures)))

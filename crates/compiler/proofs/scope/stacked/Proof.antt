@@ -1,12 +1,7 @@
 use Rattle.laws.proofs.Basics.{refl, arith, needs}
-use Rattle.compiler.proofs.scope.stacked.Statement.{statement}
 use Rattle.compiler.proofs.scope.stacked.Tie as tie
 
-cast-result : tie.Need-cast-result
-cast-result c = omega (arith, c .shared-slice-known .given (c .before .args .i))
-
-returns : tie.Need-returns
-returns c = (refl, omega (arith, c .shared-slice-known .given (c .before .args .i)))
-
-pub stacked-spec : {M : Type 1} → statement M
-stacked-spec = tie.close (tie.spec (search needs) (search needs) cast-result returns)
+pub stacked-spec : {M : Type 1} → Rattle.compiler.proofs.scope.stacked.Statement.statement M
+stacked-spec =
+    tie.close (tie.spec (search needs) (search needs) (λ c. omega (arith, c .shared-slice-known .given (c .before .args .i)))
+    (λ c. (refl, omega (arith, c .shared-slice-known .given (c .before .args .i)))))

@@ -3,7 +3,6 @@ use Rattle.compiler.proofs.Vocabulary.{nameAt}
 use Rattle.language.specs.Fine.{FineName}
 use Rattle.compiler.specs.Commands.{ReadyNames}
 use Rattle.compiler.proofs.Declarations.{NamesPart, names-begin, names-next, names-end, names-fit}
-use Rattle.compiler.proofs.steps.declare.Statement.{statement}
 use Rattle.compiler.proofs.steps.declare.Tie as tie
 
 abbrev Inv-loop : tie.InvT-loop
@@ -20,31 +19,18 @@ fit : (c : tie.In-loop Inv-loop μ-loop) → let start = c .before .before .befo
 fit c = let start = c .before .before .before .before in
     names-fit (start .args .source .now) (c .before .loop .k) (c .loop-test .taken) (start .pre) (c .before .loop .inv .1 (start .pre))
 
-push-name-requires : tie.Need-push-name-requires Inv-loop μ-loop
-push-name-requires c κs = let w = fit (c .before .before .before .before .before .before) in (omega arith, omega arith, omega arith, w .4)
-
-loop-again : tie.Need-loop-again Inv-loop μ-loop
-loop-again c =
-    let after-again = c .before .before .before .before in let after-entry = after-again .before in
-    let after-in-block = after-entry .before .before in let after-loop-test = after-in-block .before .before in
-    let after-loop = after-loop-test .before in let start = after-loop .before .before .before in (
-      c .before .before .push-name .kept .0 ∙ after-loop .loop .inv .0,
-      λ y. names-next (start .args .source .now) (after-loop .loop .k)
-          (after-loop-test .loop-test .taken) (after-in-block .in-block .ensures) (after-entry .entry .ensures .0) (after-again .again .ensures)
-          (c .before .before .push-name .ensures) refl y (after-loop .loop .inv .1 y),
-    )
-
-returns : tie.Need-returns Inv-loop μ-loop
-returns c = names-end (c .before .before .before .before .args .source .now) (c .before .loop .k) (c .loop-test .left) (c .before .loop .inv .1)
-
-pub declare-spec : {M : Type 1} → statement M
+pub declare-spec : {M : Type 1} → Rattle.compiler.proofs.steps.declare.Statement.statement M
 declare-spec =
-    tie.close (tie.spec Inv-loop μ-loop (λ c. (refl, λ y. search names-begin)) (λ c. omega (arith, fit (c .before)))
-    (λ c. omega (arith, fit (c .before))) (λ c κs. search (needs, names-fit)) (λ c. omega arith) (search needs) (λ c _. c .entry .ensures .1)
-    (λ c. omega (arith, fit (c .before .before .before .before .before .before)))
-    (λ c. omega (arith, fit (c .before .before .before .before .before .before)))
-    (λ c. omega (arith, fit (c .before .before .before .before .before .before)))
-    (λ c. omega (arith, fit (c .before .before .before .before .before .before)))
-    (λ c. omega (arith, fit (c .before .before .before .before .before .before))) push-name-requires
-    (λ c. omega (arith, fit (c .before .before .before .before .before .before .before .before .before))) (λ c. omega arith) (λ c. omega arith)
-    loop-again (search needs) returns)
+    tie.close (tie.spec Inv-loop μ-loop (λ c. (refl, λ y. search names-begin)) (λ c. omega (arith, fit (search))) (λ c. omega (arith, fit (search)))
+    (λ c κs. search (needs, names-fit)) (λ c. omega arith) (search needs) (λ c _. c .entry .ensures .1) (λ c. omega (arith, fit (search)))
+    (λ c. omega (arith, fit (search))) (λ c. omega (arith, fit (search))) (λ c. omega (arith, fit (search))) (λ c. omega (arith, fit (search)))
+    (λ c κs. let w = fit (search) in (omega arith, omega arith, omega arith, w .4)) (λ c. omega (arith, fit (search))) (λ c. omega arith)
+    (λ c. omega arith)
+    (λ c. let after-again = c .before .before .before .before in let after-entry = after-again .before in
+    let after-in-block = after-entry .before .before in let after-loop-test = after-in-block .before .before in
+    let after-loop = after-loop-test .before in (
+      cc,
+      λ y. names-next _ _ (after-loop-test .loop-test .taken) (after-in-block .in-block .ensures) (after-entry .entry .ensures .0)
+          (after-again .again .ensures) (c .before .before .push-name .ensures) refl y (after-loop .loop .inv .1 y),
+    )) (search needs)
+    (λ c. names-end _ _ (c .loop-test .left) (c .before .loop .inv .1)))

@@ -1,10 +1,8 @@
 use Rattle.compiler.proofs.Done.{emits-then}
 use Rattle.laws.proofs.Basics.{needs}
-use Rattle.compiler.proofs.steps.index_end.Statement.{statement}
 use Rattle.compiler.proofs.steps.index_end.Tie as tie
 
-returns : tie.Need-returns
-returns c = emits-then (c .before .before .before .before .before .before .put .ensures) (c .before .before .put2 .ensures)
-
-pub index-end-spec : {M : Type 1} → statement M
-index-end-spec = tie.close (tie.spec (search needs) (search needs) (search needs) returns)
+pub index-end-spec : {M : Type 1} → Rattle.compiler.proofs.steps.index_end.Statement.statement M
+index-end-spec =
+    tie.close (tie.spec (search needs) (search needs) (search needs)
+    (λ c. emits-then (c .before .before .before .before .before .before .put .ensures) (c .before .before .put2 .ensures)))

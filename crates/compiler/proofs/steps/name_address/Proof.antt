@@ -1,28 +1,12 @@
-use Rattle.laws.proofs.Basics.{needs}
+use Rattle.laws.proofs.Basics.{refl, needs}
+use Rattle.language.specs.Heights.{ofExpr}
 use Rattle.code.specs.Generate as G
-use Rattle.compiler.proofs.Sides.{of-local, of-global, of-unknown, of-other, sayAddress, local-address, global-address}
-use Rattle.compiler.proofs.steps.name_address.Statement.{statement}
+use Rattle.compiler.proofs.Sides.{of-local, of-global, of-unknown, of-other, sayAddress}
 use Rattle.compiler.proofs.steps.name_address.Tie as tie
 
-returns-2 : tie.Need-returns-2
-returns-2 c =
-    record {
-      by = of-local sayAddress (c .before .before .before .before .before .before .args .name)
-          (c .before .before .before .before .before .before .args .place) G.LP local-address (c .before .before .before .before .match .keys1)
-          (c .before .before .put .ensures);
-    }
-
-returns-3 : tie.Need-returns-3
-returns-3 c =
-    record {
-      by = of-global sayAddress (c .before .before .before .before .before .before .args .name)
-          (c .before .before .before .before .before .before .args .place) G.LG global-address (c .before .before .before .before .match .keys2)
-          (c .before .before .put2 .ensures);
-    }
-
-pub name-address-spec : {M : Type 1} → statement M
+pub name-address-spec : {M : Type 1} → Rattle.compiler.proofs.steps.name_address.Statement.statement M
+unfolding G.exprCode ofExpr G.exprLabels
 name-address-spec =
-    tie.close (tie.spec (search needs) (search needs) (search needs) (search needs)
-    (λ c. record { by = search (of-unknown sayAddress) }) (search needs) (search needs)
-    returns-2 (search needs) returns-3
-    (λ c. record { by = search (of-other sayAddress) }))
+    tie.close (tie.spec (search needs) (search needs) (search needs) (search needs) (λ c. record { by = search (of-unknown sayAddress) })
+    (search needs) (search needs) (λ c. record { by = search (of-local sayAddress G.LP (λ x k n. refl)) }) (search needs)
+    (λ c. record { by = search (of-global sayAddress G.LG (λ x k n. refl)) }) (λ c. record { by = search (of-other sayAddress) }))

@@ -1,28 +1,12 @@
-use Rattle.laws.proofs.Basics.{needs}
+use Rattle.laws.proofs.Basics.{refl, needs}
+use Rattle.language.specs.Heights.{ofTarget}
 use Rattle.code.specs.Generate as G
-use Rattle.compiler.proofs.Sides.{of-local, of-global, of-unknown, of-other, sayTarget, local-target, global-target}
-use Rattle.compiler.proofs.steps.name_store.Statement.{statement}
+use Rattle.compiler.proofs.Sides.{of-local, of-global, of-unknown, of-other, sayTarget}
 use Rattle.compiler.proofs.steps.name_store.Tie as tie
 
-returns-2 : tie.Need-returns-2
-returns-2 c =
-    record {
-      by = of-local sayTarget (c .before .before .before .before .before .before .args .name)
-          (c .before .before .before .before .before .before .args .place) G.SP local-target (c .before .before .before .before .match .keys1)
-          (c .before .before .put .ensures);
-    }
-
-returns-3 : tie.Need-returns-3
-returns-3 c =
-    record {
-      by = of-global sayTarget (c .before .before .before .before .before .before .args .name)
-          (c .before .before .before .before .before .before .args .place) G.SG global-target (c .before .before .before .before .match .keys2)
-          (c .before .before .put2 .ensures);
-    }
-
-pub name-store-spec : {M : Type 1} → statement M
+pub name-store-spec : {M : Type 1} → Rattle.compiler.proofs.steps.name_store.Statement.statement M
+unfolding G.targetCode ofTarget G.targetLabels
 name-store-spec =
-    tie.close (tie.spec (search needs) (search needs) (search needs) (search needs)
-    (λ c. record { by = search (of-unknown sayTarget) }) (search needs) (search needs)
-    returns-2 (search needs) returns-3
-    (λ c. record { by = search (of-other sayTarget) }))
+    tie.close (tie.spec (search needs) (search needs) (search needs) (search needs) (λ c. record { by = search (of-unknown sayTarget) })
+    (search needs) (search needs) (λ c. record { by = search (of-local sayTarget G.SP (λ x k n. refl)) }) (search needs)
+    (λ c. record { by = search (of-global sayTarget G.SG (λ x k n. refl)) }) (λ c. record { by = search (of-other sayTarget) }))

@@ -1,24 +1,17 @@
 use Rattle.laws.proofs.Basics.{refl, arith, needs}
 use Rattle.compiler.proofs.Judging.{vector-names, vector-gave}
-use Rattle.compiler.proofs.steps.vector.Statement.{statement}
 use Rattle.compiler.proofs.steps.vector.Tie as tie
 
-returns : tie.Need-returns
-returns c =
-    let after-vector-code = c .before .before .before .before .before in let after-declare = after-vector-code .before .before .before .before in
-    let after-blame = after-declare .before .before .before in let after-judge-most = after-blame .before in
-    let after-node-at = after-judge-most .before .before in let start = after-node-at .before .before .before .before .before in
-    vector-gave _ (after-node-at .node-at .ensures) (start .pre .1 .is) (start .args .source .now) refl (after-judge-most .judge-most .ensures)
-    (after-blame .blame .ensures) (after-declare .declare .ensures) (after-vector-code .vector-code .ensures) refl
-
-pub vector-spec : {M : Type 1} → statement M
+pub vector-spec : {M : Type 1} → Rattle.compiler.proofs.steps.vector.Statement.statement M
 vector-spec =
     tie.close (tie.spec (search needs) (search needs) (λ c _. c .judge-most .ensures .fits) (search needs) (λ c κs. search vector-names)
-    (λ c κs. let y = c .before .before .before .before .before .before .before .before .before .before .before .before .before .before .pre .0 in
-    (omega arith, omega arith)) (λ c. let y = c .before .before .before .before .before .before .before .before .before .before .before .before
-    .before .before .before .before .before .before .pre .0 in
-    omega arith) (λ c. let y = c .before .before .before .before .before .before .before .before .before .before .before .before .before .before
-    .before .before .before .before .before .pre .0 in
-    omega arith) (λ c. let y = c .before .before .before .before .before .before .before .before .before .before .before .before .before .before
-    .before .before .before .before .before .before .pre .0 in let j = c .before .before .before .before .before .before .before .before .before
-    .before .before .before .before .judge-most .ensures in omega arith) (search needs) (search needs) returns)
+    (λ c κs. let y : tie.Start = search in (omega arith, omega arith))
+    (λ c. let j : tie.After-judge-most = search in let y : tie.Start = search in omega arith)
+    (λ c. let j : tie.After-judge-most = search in let y : tie.Start = search in omega arith)
+    (λ c. let j : tie.After-judge-most = search in let y : tie.Start = search in omega arith) (search needs) (search needs)
+    (λ c. let after-vector-code = c .before .before .before .before .before in
+    let after-declare = after-vector-code .before .before .before .before in let after-blame = after-declare .before .before .before in
+    let after-judge-most = after-blame .before in let after-node-at = after-judge-most .before .before in
+    let start = after-node-at .before .before .before .before .before in vector-gave _ (after-node-at .node-at .ensures) (start .pre .1 .is)
+    (start .args .source .now) refl (after-judge-most .judge-most .ensures) (after-blame .blame .ensures) (after-declare .declare .ensures)
+    (after-vector-code .vector-code .ensures) refl))

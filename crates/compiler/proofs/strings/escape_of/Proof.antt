@@ -1,10 +1,9 @@
 use Rattle.laws.proofs.Basics.{refl, arith}
 use Rattle.items.specs.Render.{characterText}
 use Rattle.compiler.proofs.StringTexts.{escapes, no-escape}
-use Rattle.compiler.proofs.strings.escape_of.Statement.{statement}
 use Rattle.compiler.proofs.strings.escape_of.Tie as tie
 
-pub escape-of-spec : {M : Type 1} → statement M
+pub escape-of-spec : {M : Type 1} → Rattle.compiler.proofs.strings.escape_of.Statement.statement M
 unfolding characterText
 escape-of-spec =
     tie.close (tie.spec (λ c. escapes 10 78 (c .match .keys1) (λ z. omega arith) refl) (λ c. escapes 9 84 (c .match .keys2) (λ z. omega arith) refl)

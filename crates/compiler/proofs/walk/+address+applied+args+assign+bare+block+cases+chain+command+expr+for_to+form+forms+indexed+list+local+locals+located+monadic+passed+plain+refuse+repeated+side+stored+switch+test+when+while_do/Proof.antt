@@ -10,9 +10,8 @@ mod Commands
 use Rattle.compiler.proofs.walk.+address+applied+args+assign+bare+block+cases+chain+command+expr+for_to+form+forms+indexed+list+local+locals+located+monadic+passed+plain+refuse+repeated+side+stored+switch+test+when+while_do as cycle
 use cycle.{statement}
 use cycle.Tie.{close}
-use Ranks.{address-rank, applied-rank, args-rank, assign-rank, bare-rank, block-rank, cases-rank, chain-rank, command-rank, expr-rank, for-to-rank}
-use Ranks.{form-rank, forms-rank, indexed-rank, list-rank, local-rank, locals-rank, located-rank, monadic-rank, passed-rank, plain-rank, refuse-rank}
-use Ranks.{repeated-rank, side-rank, stored-rank, switch-rank, test-rank, when-rank, while-do-rank}
+use Ranks.{rank, address, applied, args, assign, bare, block, cases, chain, command, expr, for-to, form, forms, indexed, list, local, locals}
+use Ranks.{located, monadic, passed, plain, refuse, repeated, side, stored, switch, test, when, while-do}
 use Expressions.{expr-ok, chain-ok, monadic-ok}
 use Calls.{applied-ok, args-ok, indexed-ok, passed-ok}
 use Sides.{address-ok, located-ok, refuse-ok, side-ok, stored-ok, assign-ok}
@@ -24,10 +23,10 @@ use Commands.{command-ok, bare-ok, plain-ok}
 pub
     +address+applied+args+assign+bare+block+cases+chain+command+expr+for-to+form+forms+indexed+list+local+locals+located+monadic+passed+plain+refuse+repeated+side+stored+switch+test+when+while-do-spec : {M : Type 1} → statement M
 +address+applied+args+assign+bare+block+cases+chain+command+expr+for-to+form+forms+indexed+list+local+locals+located+monadic+passed+plain+refuse+repeated+side+stored+switch+test+when+while-do-spec =
-    close (address-rank .measure) (applied-rank .measure) (args-rank .measure) (assign-rank .measure) (bare-rank .measure) (block-rank .measure)
-    (cases-rank .measure) (chain-rank .measure) (command-rank .measure) (expr-rank .measure) (for-to-rank .measure) (form-rank .measure)
-    (forms-rank .measure) (indexed-rank .measure) (list-rank .measure) (local-rank .measure) (locals-rank .measure) (located-rank .measure)
-    (monadic-rank .measure) (passed-rank .measure) (plain-rank .measure) (refuse-rank .measure) (repeated-rank .measure) (side-rank .measure)
-    (stored-rank .measure) (switch-rank .measure) (test-rank .measure) (when-rank .measure) (while-do-rank .measure) address-ok applied-ok args-ok
+    close (rank address .measure) (rank applied .measure) (rank args .measure) (rank assign .measure) (rank bare .measure) (rank block .measure)
+    (rank cases .measure) (rank chain .measure) (rank command .measure) (rank expr .measure) (rank for-to .measure) (rank form .measure)
+    (rank forms .measure) (rank indexed .measure) (rank list .measure) (rank local .measure) (rank locals .measure) (rank located .measure)
+    (rank monadic .measure) (rank passed .measure) (rank plain .measure) (rank refuse .measure) (rank repeated .measure) (rank side .measure)
+    (rank stored .measure) (rank switch .measure) (rank test .measure) (rank when .measure) (rank while-do .measure) address-ok applied-ok args-ok
     assign-ok bare-ok block-ok cases-ok chain-ok command-ok expr-ok for-to-ok form-ok forms-ok indexed-ok list-ok local-ok locals-ok located-ok
     monadic-ok passed-ok plain-ok refuse-ok repeated-ok side-ok stored-ok switch-ok test-ok when-ok while-do-ok

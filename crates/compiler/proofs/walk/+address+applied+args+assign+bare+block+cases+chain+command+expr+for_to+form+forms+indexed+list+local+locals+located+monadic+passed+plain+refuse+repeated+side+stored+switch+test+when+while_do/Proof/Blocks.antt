@@ -1,5 +1,6 @@
 -- A block, its declarations and its commands.
 use Rattle.compiler.proofs as proofs
+use proofs.steps as steps
 use Rattle.compiler.proofs.walk.+address+applied+args+assign+bare+block+cases+chain+command+expr+for_to+form+forms+indexed+list+local+locals+located+monadic+passed+plain+refuse+repeated+side+stored+switch+test+when+while_do as cycle
 use Rattle.compiler.specs.Commands.{ReadyList}
 use Rattle.laws.proofs.Basics.{ℕ, _-_, _≡_, refl, _∙_, length, arith, needs}
@@ -9,166 +10,100 @@ use Rattle.compiler.proofs.Blocks.{block-locals, block-list, block-gave
 use Rattle.compiler.proofs.Judging.{values-args, values-names, values-gave}
 use Rattle.compiler.specs.Locals.{ReadyLocals}
 use Rattle.compiler.proofs.Expressions.{ready-at, left-at}
-use borrow.Fn.PlainCycle.{is}
-use proofs.walk.args.Reads as args
-use proofs.walk.block.Reads as block
-use cycle.Lts-block as block-lts
-use proofs.walk.command.Reads as command
-use proofs.walk.list.Reads as list
-use cycle.Lts-list as list-lts
-use proofs.walk.local.Reads as local
-use cycle.Lts-local as local-lts
-use proofs.walk.locals.Reads as locals
-use cycle.Lts-locals as locals-lts
-use proofs.scope.entry.Reads as entry
-use proofs.scope.push.Reads as push
-use proofs.steps.declare.Reads as declare
-use proofs.steps.marked.Reads as marked
-use proofs.steps.node_at.Reads as node-at
-use proofs.steps.set_at.Reads as set-at
-use proofs.steps.vector.Reads as vector
-use cycle.Proof.Ranks.{at, below, both, six, args-rank, block-rank, command-rank, list-rank, local-rank, locals-rank}
+use cycle.Proof.Ranks.{rank, at, below, calls, both, three, four, six, args, block, command, list, local, locals}
 
-abbrev block-cs : ℕ → block-lts.Claims
+abbrev block-cs : ℕ → cycle.Lts-block.Claims
 block-cs t =
-    six (node-at.Asked, node-at.Learnt) (push.Asked, push.Learnt) (marked.Asked, marked.Learnt) (below locals-rank t, locals.Post)
-    (set-at.Asked, set-at.Learnt) (below list-rank t, list.Post)
+    six (steps.node_at.Reads.Asked, steps.node_at.Reads.Learnt) (proofs.scope.push.Reads.Asked, proofs.scope.push.Reads.Learnt)
+    (steps.marked.Reads.Asked, steps.marked.Reads.Learnt) (calls locals t) (steps.set_at.Reads.Asked, steps.set_at.Reads.Learnt) (calls list t)
 
-block-push-requires : (t : ℕ) → block-lts.Need-push-requires (block-cs t) (at block-rank t) block.Post
-block-push-requires t c κs =
-    let start = c .before .before .before .before .before .before .before in
-    (block-room _ (c .before .before .node-at .ensures) (start .pre .1 .1 .is) refl (start .pre .1 .0) .1, omega arith, omega arith)
-
-block-marked-requires : (t : ℕ) → block-lts.Need-marked-requires (block-cs t) (at block-rank t) block.Post
-block-marked-requires t c κs =
-    let after-node-at = c .before .before .before .before .before .before .before in
-    let start = after-node-at .before .before .before .before .before in
-    omega (
-      arith,
-      block-room _ (after-node-at .node-at .ensures) (start .pre .1 .1 .is) refl (start .pre .1 .0) .0,
-      start .pre .1 .0 .above,
-      start .pre .1 .0 .ends,
-      start .pre .1 .0 .small,
-    )
-
-block-locals-requires : (t : ℕ) → block-lts.Need-locals-requires (block-cs t) (at block-rank t) block.Post
-block-locals-requires t c κs =
-    both (omega (arith, c .before .before .before .before .before .before .before .before .before .before .before .before .before .pre .0, left-at))
-    (search (locals-ready-at, block-locals))
-
-block-list-requires : (t : ℕ) → block-lts.Need-list-requires (block-cs t) (at block-rank t) block.Post
-block-list-requires t c κs =
-    let after-locals = c .before .before .before .before .before .before .before .before in let after-marked = after-locals .before in
+pub block-ok : {M : Type 1} (t : ℕ) → cycle.Lts-block.Closed (block-cs t) (at block t) (rank block .post) M
+block-ok t =
+    cycle.Lts-block.spec (block-cs t) (at block t) (rank block .post) (λ c κs. search needs) (λ c. omega arith)
+    (λ c κs. let start = c .before .before .before .before .before .before .before in
+    (block-room _ (c .before .before .node-at .ensures) (start .pre .1 .1 .is) refl (start .pre .1 .0) .1, omega arith, omega arith))
+    (λ c κs. let after-node-at = c .before .before .before .before .before .before .before in
+    let start = after-node-at .before .before .before .before .before in let block-room-is = block-room _ (after-node-at .node-at .ensures)
+    (start .pre .1 .1 .is) refl (start .pre .1 .0) .0 in let above = start .pre .1 .0 .above in let ends = start .pre .1 .0 .ends in
+    let small = start .pre .1 .0 .small in omega arith)
+    (λ c κs. both (let falls = c .before .before .before .before .before .before .before .before .before .before .before .before .before .pre .0 in
+    omega (arith, left-at)) (search (locals-ready-at, block-locals))) (λ c κs. search needs)
+    (λ c κs. let after-locals = c .before .before .before .before .before .before .before .before in let after-marked = after-locals .before in
     let after-push = after-marked .before .before .before .before .before in let after-node-at = after-push .before .before .before in
-    let start = after-node-at .before .before .before .before .before in
-    both (omega (arith, start .pre .0, left-at))
-    (list-ready-at (c .set-at .ensures) (block-list _ (after-node-at .node-at .ensures) (start .pre .1 .1 .is) refl (after-push .push .ensures) _
-    (locals-gave-at (after-marked .marked .ensures) (after-locals .locals .ensures)) (start .pre .1 .0)))
-
-block-returns : (t : ℕ) → block-lts.Need-returns (block-cs t) (at block-rank t) block.Post
-block-returns t c =
-    let after-list = c .before .before .before .before in let after-set-at = after-list .before in
+    let start = after-node-at .before .before .before .before .before in both (omega (arith, start .pre .0, left-at)) (list-ready-at
+    (c .set-at .ensures) (block-list _ (after-node-at .node-at .ensures) (start .pre .1 .1 .is) refl (after-push .push .ensures) _
+    (locals-gave-at (after-marked .marked .ensures) (after-locals .locals .ensures)) (start .pre .1 .0)))) (λ c. search needs) (λ c. search needs)
+    (λ c. let after-list = c .before .before .before .before in let after-set-at = after-list .before in
     let after-locals = after-set-at .before .before .before .before .before .before .before .before in let after-marked = after-locals .before in
     let after-push = after-marked .before .before .before .before .before in let after-node-at = after-push .before .before .before in
-    let start = after-node-at .before .before .before .before .before in
-    block-gave _ (after-node-at .node-at .ensures) (start .pre .1 .1 .is) refl (after-push .push .ensures) _
-    (locals-gave-at (after-marked .marked .ensures) (after-locals .locals .ensures)) _
-    (list-gave-at (after-set-at .set-at .ensures) (after-list .list .ensures))
+    let start = after-node-at .before .before .before .before .before in block-gave _ (after-node-at .node-at .ensures) (start .pre .1 .1 .is) refl
+    (after-push .push .ensures) _ (locals-gave-at (after-marked .marked .ensures) (after-locals .locals .ensures)) _ (list-gave-at
+    (after-set-at .set-at .ensures) (after-list .list .ensures)))
 
-pub block-ok : {M : Type 1} (t : ℕ) → block-lts.Closed (block-cs t) (at block-rank t) block.Post M
-block-ok t =
-    block-lts.spec (block-cs t) (at block-rank t) block.Post (λ c κs. search needs) (λ c. omega arith) (block-push-requires t)
-    (block-marked-requires t) (block-locals-requires t) (λ c κs. search needs) (block-list-requires t) (λ c. search needs) (λ c. search needs)
-    (block-returns t)
+abbrev list-cs : ℕ → cycle.Lts-list.Claims
+list-cs t = (proofs.scope.entry.Reads.Asked, proofs.scope.entry.Reads.Learnt, below command t, rank command .post)
 
-abbrev list-cs : ℕ → list-lts.Claims
-list-cs t = (entry.Asked, entry.Learnt, below command-rank t, command.Post)
-
-abbrev list-Inv-loop : list-lts.InvT-loop
+abbrev list-Inv-loop : cycle.Lts-list.InvT-loop
 list-Inv-loop source s₀ from end text₀ here ways at₀ r₀ s text at r =
     (length s ≡ length s₀) × (length text ≡ length text₀) × ((y : ReadyList s₀ from end here r₀) → ListPart source text₀ ways y s text at r)
 
-abbrev list-μ-loop : list-lts.MeasureT-loop
-list-μ-loop source s₀ from end text₀ here ways at₀ r₀ s text at r = end - at
-
-list-command-requires : (t : ℕ) → list-lts.Need-command-requires (list-cs t) (at list-rank t) list.Post list-Inv-loop list-μ-loop
-list-command-requires t c κs =
-    let after-loop-test = c .before .before .before .before in let after-loop = after-loop-test .before in
-    let start = after-loop .before .before .before .before in
-    both (omega arith) (list-part _ _ _ (after-loop-test .loop-test .taken) (c .before .before .entry .ensures .0) refl (start .pre .1)
-    (after-loop .loop .inv .2 (start .pre .1)))
-
-list-loop-again : (t : ℕ) → list-lts.Need-loop-again (list-cs t) (at list-rank t) list.Post list-Inv-loop list-μ-loop
-list-loop-again t c =
-    (cc, cc, λ y. search (list-next, c .before .before .before .before .before .before .before .before .before .before .loop .inv .2))
-
-pub list-ok : {M : Type 1} (t : ℕ) → list-lts.Closed (list-cs t) (at list-rank t) list.Post M
+pub list-ok : {M : Type 1} (t : ℕ) → cycle.Lts-list.Closed (list-cs t) (at list t) (rank list .post) M
 list-ok t =
-    list-lts.spec (list-cs t) (at list-rank t) list.Post list-Inv-loop list-μ-loop (λ c. search (needs, list-begin)) (λ c. omega arith)
-    (λ c κs. search needs) (λ c. omega (arith, c .entry .ensures .1)) (list-command-requires t) (λ c. omega arith) (list-loop-again t)
+    cycle.Lts-list.spec (list-cs t) (at list t) (rank list .post) list-Inv-loop (λ source s₀ from end text₀ here ways at₀ r₀ s text at r. end - at)
+    (λ c. search (needs, list-begin)) (λ c. omega arith) (λ c κs. search needs) (λ c. omega (arith, c .entry .ensures .1))
+    (λ c κs. let after-loop-test = c .before .before .before .before in let after-loop = after-loop-test .before in
+    let start = after-loop .before .before .before .before in both (omega arith) (list-part _ _ _ (after-loop-test .loop-test .taken)
+    (c .before .before .entry .ensures .0) refl (start .pre .1) (after-loop .loop .inv .2 (start .pre .1)))) (λ c. omega arith)
+    (λ c. (cc, cc, λ y. search (list-next, c .before .before .before .before .before .before .before .before .before .before .loop .inv .2)))
     (λ c. search needs) (λ c. search needs) (λ c. search list-end)
 
-abbrev local-cs : ℕ → local-lts.Claims
-local-cs t = (node-at.Asked, node-at.Learnt, vector.Asked, vector.Learnt, below args-rank t, args.Post, declare.Asked, declare.Learnt)
+abbrev local-cs : ℕ → cycle.Lts-local.Claims
+local-cs t =
+    four (steps.node_at.Reads.Asked, steps.node_at.Reads.Learnt) (steps.vector.Reads.Asked, steps.vector.Reads.Learnt) (calls args t)
+    (steps.declare.Reads.Asked, steps.declare.Reads.Learnt)
 
-local-add-t25 : (t : ℕ) → local-lts.Need-add-t25 (local-cs t) (at local-rank t) local.Post
-local-add-t25 t c =
-    let after-node-at =
-    c .before .before .before .before .before .before .before .before .before .before .before .before .before .before .before .before in
-    let start = after-node-at .before .before .before .before .before in
-    omega (arith, after-node-at .node-at .ensures .value-fits, start .pre .1 .room, start .pre .1 .above, start .pre .1 .ends, start .pre .1 .small)
-
-local-add-t27 : (t : ℕ) → local-lts.Need-add-t27 (local-cs t) (at local-rank t) local.Post
-local-add-t27 t c =
-    let after-node-at =
-    c .before .before .before .before .before .before .before .before .before .before .before .before .before .before .before .before .before .before
-    in let start = after-node-at .before .before .before .before .before in
-    omega (arith, after-node-at .node-at .ensures .value-fits, start .pre .1 .height)
-
-local-returns-2 : (t : ℕ) → local-lts.Need-returns-2 (local-cs t) (at local-rank t) local.Post
-local-returns-2 t c =
-    let after-declare = c .before .before .before .before .before .before in
-    let after-args2 = after-declare .before .before .before .before .before .before in let after-if1 = after-args2 .before .before .before .before in
-    let after-node-at = after-if1 .before .before in
-    values-gave _ (after-node-at .node-at .ensures) (after-if1 .if1 .left) refl _ (after-args2 .args2 .ensures) (after-declare .declare .ensures) refl
-    refl
-
-pub local-ok : {M : Type 1} (t : ℕ) → local-lts.Closed (local-cs t) (at local-rank t) local.Post M
+pub local-ok : {M : Type 1} (t : ℕ) → cycle.Lts-local.Closed (local-cs t) (at local t) (rank local .post) M
 local-ok t =
-    local-lts.spec (local-cs t) (at local-rank t) local.Post (λ c κs. search needs) (λ c κs. search needs) (λ c. search needs) (λ c. search needs)
-    (λ c. c .before .before .before .before .vector .ensures) (λ c. omega arith) (λ c κs. search (needs, values-args)) (λ c κs. search values-names)
-    (local-add-t25 t) (local-add-t27 t) (λ c. search needs) (λ c. search needs) (local-returns-2 t)
+    cycle.Lts-local.spec (local-cs t) (at local t) (rank local .post) (λ c κs. search needs) (λ c κs. search needs) (λ c. search needs)
+    (λ c. search needs) (λ c. c .before .before .before .before .vector .ensures) (λ c. omega arith) (λ c κs. search (needs, values-args))
+    (λ c κs. search values-names)
+    (λ c. let after-node-at = c .before .before .before .before .before .before .before .before .before .before .before .before .before .before
+    .before .before in let start = after-node-at .before .before .before .before .before in
+    let value-fits = after-node-at .node-at .ensures .value-fits in let room = start .pre .1 .room in let above = start .pre .1 .above in
+    let ends = start .pre .1 .ends in let small = start .pre .1 .small in omega arith)
+    (λ c. let after-node-at = c .before .before .before .before .before .before .before .before .before .before .before .before .before .before
+    .before .before .before .before in let start = after-node-at .before .before .before .before .before in
+    omega (arith, after-node-at .node-at .ensures .value-fits, start .pre .1 .height)) (λ c. search needs) (λ c. search needs)
+    (λ c. let after-declare = c .before .before .before .before .before .before in
+    let after-args2 = after-declare .before .before .before .before .before .before in let after-if1 = after-args2 .before .before .before .before in
+    let after-node-at = after-if1 .before .before in values-gave _ (after-node-at .node-at .ensures) (after-if1 .if1 .left) refl _
+    (after-args2 .args2 .ensures) (after-declare .declare .ensures) refl refl)
 
-abbrev locals-cs : ℕ → locals-lts.Claims
-locals-cs t = (entry.Asked, entry.Learnt, set-at.Asked, set-at.Learnt, below local-rank t, local.Post)
+abbrev locals-cs : ℕ → cycle.Lts-locals.Claims
+locals-cs t =
+    three (proofs.scope.entry.Reads.Asked, proofs.scope.entry.Reads.Learnt) (steps.set_at.Reads.Asked, steps.set_at.Reads.Learnt) (calls local t)
 
-abbrev locals-Inv-loop : locals-lts.InvT-loop
+abbrev locals-Inv-loop : cycle.Lts-locals.InvT-loop
 locals-Inv-loop source s₀ from end text₀ here at₀ r₀ s text at r =
     (length s ≡ length s₀) × (length text ≡ length text₀) × ((y : ReadyLocals s₀ from end here (r₀ .done)) → LocalsPart source text₀ y s text at r)
 
-abbrev locals-μ-loop : locals-lts.MeasureT-loop
+abbrev locals-μ-loop : cycle.Lts-locals.MeasureT-loop
 locals-μ-loop source s₀ from end text₀ here at₀ r₀ s text at r = end - at
 
-locals-local-requires : (t : ℕ) → locals-lts.Need-local-requires (locals-cs t) (at locals-rank t) locals.Post locals-Inv-loop locals-μ-loop
-locals-local-requires t c κs =
-    let after-set-at = c .before .before .before in let after-entry = after-set-at .before in let after-loop-test = after-entry .before .before in
-    let after-loop = after-loop-test .before in let start = after-loop .before .before .before .before in
-    both (omega (arith, start .pre .0, left-at)) (ready-at (after-set-at .set-at .ensures)
-    (locals-part _ _ (after-loop-test .loop-test .taken) (after-entry .entry .ensures .0) refl (start .pre .1)
-    (after-loop .loop .inv .2 (start .pre .1))))
-
-locals-loop-again : (t : ℕ) → locals-lts.Need-loop-again (locals-cs t) (at locals-rank t) locals.Post locals-Inv-loop locals-μ-loop
-locals-loop-again t c =
-    let after-local = c .before .before .before .before in let after-set-at = after-local .before .before .before .before in
-    let after-entry = after-set-at .before in let after-loop-test = after-entry .before .before in let after-loop = after-loop-test .before in (
-      after-local .local .kept .1 .0 ∙ after-loop .loop .inv .0,
-      after-local .local .kept .1 .1 .1 .0 ∙ after-loop .loop .inv .1,
-      λ y. locals-next _ _ (after-loop-test .loop-test .taken) (after-entry .entry .ensures .0) refl
-          (local-gave-at (after-set-at .set-at .ensures) (after-local .local .ensures)) y (after-loop .loop .inv .2 y),
-    )
-
-pub locals-ok : {M : Type 1} (t : ℕ) → locals-lts.Closed (locals-cs t) (at locals-rank t) locals.Post M
+pub locals-ok : {M : Type 1} (t : ℕ) → cycle.Lts-locals.Closed (locals-cs t) (at locals t) (rank locals .post) M
 locals-ok t =
-    locals-lts.spec (locals-cs t) (at locals-rank t) locals.Post locals-Inv-loop locals-μ-loop (λ c. search (needs, locals-begin)) (λ c. omega arith)
-    (λ c κs. search needs) (λ c. omega (arith, c .entry .ensures .1)) (λ c κs. search needs) (locals-local-requires t) (λ c. omega arith)
-    (locals-loop-again t) (λ c. search needs) (λ c. search needs) (λ c. search locals-end)
+    cycle.Lts-locals.spec (locals-cs t) (at locals t) (rank locals .post) locals-Inv-loop locals-μ-loop (λ c. search (needs, locals-begin))
+    (λ c. omega arith) (λ c κs. search needs) (λ c. omega (arith, c .entry .ensures .1)) (λ c κs. search needs)
+    (λ c κs. let after-set-at = c .before .before .before in let after-entry = after-set-at .before in
+    let after-loop-test = after-entry .before .before in let after-loop = after-loop-test .before in
+    let start = after-loop .before .before .before .before in both (omega (arith, start .pre .0, left-at))
+    (ready-at (after-set-at .set-at .ensures) (locals-part _ _ (after-loop-test .loop-test .taken) (after-entry .entry .ensures .0) refl
+    (start .pre .1) (after-loop .loop .inv .2 (start .pre .1))))) (λ c. omega arith)
+    (λ c. let after-local = c .before .before .before .before in let after-set-at = after-local .before .before .before .before in
+    let after-entry = after-set-at .before in let after-loop-test = after-entry .before .before in let after-loop = after-loop-test .before in (
+      cc,
+      cc,
+      λ y. locals-next _ _ (after-loop-test .loop-test .taken) (after-entry .entry .ensures .0) refl (local-gave-at
+          (after-set-at .set-at .ensures) (after-local .local .ensures)) y (after-loop .loop .inv .2 y),
+    )) (λ c. search needs) (λ c. search needs)
+    (λ c. search locals-end)

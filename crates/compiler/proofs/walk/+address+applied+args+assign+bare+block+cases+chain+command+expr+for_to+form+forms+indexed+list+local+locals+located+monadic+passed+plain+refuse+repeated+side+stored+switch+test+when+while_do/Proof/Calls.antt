@@ -1,189 +1,119 @@
 -- A primary with what follows it: indices and calls, and their arguments.
 use Rattle.compiler.proofs as proofs
+use proofs.steps as steps
 use Rattle.compiler.proofs.walk.+address+applied+args+assign+bare+block+cases+chain+command+expr+for_to+form+forms+indexed+list+local+locals+located+monadic+passed+plain+refuse+repeated+side+stored+switch+test+when+while_do as cycle
-use Rattle.laws.proofs.Basics.{ℕ, _-_, _<_, _≡_, refl, _∙_, length, arith, needs}
-use Rattle.compiler.proofs.Vocabulary.{raised, ReadyArgs}
+use Rattle.laws.proofs.Basics.{ℕ, _-_, _<_, _≡_, refl, _∙_, [], length, arith, needs}
+use Rattle.compiler.proofs.Vocabulary.{ReadyArgs}
 use Rattle.compiler.proofs.Calls.{indexed-gave, passed-gave, with-state, args-with, ArgsPart, args-begin, args-part, args-next, args-end}
-use Rattle.compiler.proofs.Calls.{LastRead, last-read, primary-part, primary-gave, index-left, index-right, index-gave, call-args, call-callee}
-use Rattle.compiler.proofs.Calls.{call-gave, call-few}
-use Rattle.compiler.proofs.Calls.{args-ready-at, suffixes-ready-at, args-gave-at, suffixes-gave-at}
+use Rattle.compiler.proofs.Calls.{LastRead, last-read, primary-part, primary-gave, index-left, index-right, index-gave, call-args}
+use Rattle.compiler.proofs.Calls.{call-callee, call-gave, call-few, args-ready-at, suffixes-ready-at, args-gave-at, suffixes-gave-at}
 use Rattle.compiler.proofs.Expressions.{ready-at, gave-at, left-at}
-use proofs.walk.applied.Reads as applied
-use cycle.Lts-applied as applied-lts
-use proofs.walk.args.Reads as args
-use cycle.Lts-args as args-lts
-use proofs.walk.expr.Reads as expr
-use proofs.walk.indexed.Reads as indexed
-use cycle.Lts-indexed as indexed-lts
-use proofs.walk.passed.Reads as passed
-use cycle.Lts-passed as passed-lts
-use proofs.scope.entry.Reads as entry
-use proofs.steps.count.Reads as count
-use proofs.steps.index_end.Reads as index-end
-use proofs.steps.keep.Reads as keep
-use proofs.steps.less.Reads as less
-use proofs.steps.put.Reads as put
-use proofs.steps.raised.Reads as raised-reads
-use proofs.steps.reached.Reads as reached
-use cycle.Proof.Ranks.{at, below, both, nine, applied-rank, args-rank, expr-rank, indexed-rank, passed-rank}
+use cycle.Proof.Ranks.{rank, at, calls, both, three, four, nine, applied, args, expr, indexed, passed}
 
-abbrev applied-cs : ℕ → applied-lts.Claims
+abbrev applied-cs : ℕ → cycle.Lts-applied.Claims
 applied-cs t =
-    nine (below expr-rank t, expr.Post) (less.Asked, less.Learnt) (entry.Asked, entry.Learnt) (below applied-rank t, applied.Post)
-    (below indexed-rank t, indexed.Post) (count.Asked, count.Learnt) (below passed-rank t, passed.Post) (raised-reads.Asked, raised-reads.Learnt)
-    (put.Asked, put.Learnt)
+    nine (calls expr t) (steps.less.Reads.Asked, steps.less.Reads.Learnt) (proofs.scope.entry.Reads.Asked, proofs.scope.entry.Reads.Learnt)
+    (calls applied t) (calls indexed t) (steps.count.Reads.Asked, steps.count.Reads.Learnt) (calls passed t)
+    (steps.raised.Reads.Asked, steps.raised.Reads.Learnt) (steps.put.Reads.Asked, steps.put.Reads.Learnt)
 
-abbrev applied-start : (t : ℕ) → applied-lts.After-entry2 (applied-cs t) (at applied-rank t) applied.Post → applied-lts.Start (applied-cs t)
-    (at applied-rank t) applied.Post
+abbrev applied-start : (t : ℕ) → cycle.Lts-applied.After-entry2 (applied-cs t) (at applied t) (rank applied .post)
+    → cycle.Lts-applied.Start (applied-cs t) (at applied t) (rank applied .post)
 applied-start t c = c .before .before .before .before .before .before .before .before .before .before .before
 
-applied-read : (t : ℕ) (c : applied-lts.After-entry2 (applied-cs t) (at applied-rank t) applied.Post) → let args = applied-start t c .args in
-    LastRead (args .s .now) (args .middle) (args .end) (c .entry2 .result) (c .before .before .before .before .before .before .less .result)
-    (c .before .before .before .less2 .result)
+applied-read : (t : ℕ) (c : cycle.Lts-applied.After-entry2 (applied-cs t) (at applied t) (rank applied .post))
+    → let args = applied-start t c .args in LastRead (args .s .now) (args .middle) (args .end) (c .entry2 .result)
+    (c .before .before .before .before .before .before .less .result) (c .before .before .before .less2 .result)
 applied-read t c =
     let after-less2 = c .before .before .before in let after-less = after-less2 .before .before .before in
     last-read (after-less .before .if1 .left) (c .before .less3 .ensures) (c .entry2 .ensures .0) (after-less .less .ensures)
     (after-less2 .before .entry .ensures .0) (after-less2 .less2 .ensures)
 
-applied-applied-requires : (t : ℕ) → applied-lts.Need-applied-requires (applied-cs t) (at applied-rank t) applied.Post
-applied-applied-requires t c κs =
-    let r = c .before .before .before in let start = applied-start t r in
-    both (omega (arith, start .pre .0, applied-read t r)) (index-left (applied-read t r) (c .before .before .if2 .taken) (start .pre .1))
-
-applied-indexed-requires : (t : ℕ) → applied-lts.Need-indexed-requires (applied-cs t) (at applied-rank t) applied.Post
-applied-indexed-requires t c κs =
-    let after-applied = c .before .before .before .before .before .before in let after-if2 = after-applied .before .before .before in
-    let start = applied-start t (after-if2 .before) in
-    both (omega (arith, start .pre .0))
-    (index-right (applied-read t (after-if2 .before)) (after-if2 .if2 .taken) _ (after-applied .applied .ensures) (start .pre .1))
-
-applied-returns-2 : (t : ℕ) → applied-lts.Need-returns-2 (applied-cs t) (at applied-rank t) applied.Post
-applied-returns-2 t c =
-    let after-indexed = c .before .before .before .before in let after-applied = after-indexed .before .before .before .before .before .before
-    .before in let after-if2 = after-applied .before .before .before in
-    index-gave (applied-read t (after-if2 .before)) (after-if2 .if2 .taken) _ (after-applied .applied .ensures) (after-indexed .indexed .ensures)
-
-applied-passed-requires : (t : ℕ) → applied-lts.Need-passed-requires (applied-cs t) (at applied-rank t) applied.Post
-applied-passed-requires t c κs =
-    let after-if2 = c .before .before .before .before in let start = applied-start t (after-if2 .before) in
-    both (omega (arith, start .pre .0)) (call-args (applied-read t (after-if2 .before)) (after-if2 .if2 .left) (start .pre .1))
-
-applied-few : (t : ℕ) (c : applied-lts.After-count (applied-cs t) (at applied-rank t) applied.Post) → c .count .result < applied-start t
-    (c .before .before .before) .args .end
+applied-few : (t : ℕ) (c : cycle.Lts-applied.After-count (applied-cs t) (at applied t) (rank applied .post))
+    → c .count .result < applied-start t (c .before .before .before) .args .end
 applied-few t c =
     let r = c .before .before .before in
     call-few (applied-read t r) (c .before .before .if2 .left) (c .count .ensures) (applied-start t r .pre .1)
 
-applied-applied-requires-2 : (t : ℕ) → applied-lts.Need-applied-requires-2 (applied-cs t) (at applied-rank t) applied.Post
-applied-applied-requires-2 t c κs =
-    let after-passed = c .before .before .before .before .before .before .before in let after-count = after-passed .before .before .before in
-    let after-if2 = after-count .before .before in let r = after-if2 .before in let start = applied-start t r in
-    both (omega (arith, start .pre .0, left-at, applied-read t r)) (suffixes-ready-at (c .raised .ensures)
-    (call-callee (applied-read t r) (after-if2 .if2 .left) _ (after-count .count .ensures) (after-passed .passed .ensures) (start .pre .1)))
-
-applied-returns-3 : (t : ℕ) → applied-lts.Need-returns-3 (applied-cs t) (at applied-rank t) applied.Post
-applied-returns-3 t c =
-    let after-applied2 = c .before .before .before .before .before .before .before .before in let after-raised = after-applied2 .before in
-    let after-passed = after-raised .before .before .before .before .before .before .before in
-    let after-count = after-passed .before .before .before in let after-if2 = after-count .before .before in
-    call-gave (applied-read t (after-if2 .before)) (after-if2 .if2 .left) _ (after-count .count .ensures) (after-passed .passed .ensures)
-    (suffixes-gave-at (after-raised .raised .ensures) (after-applied2 .applied2 .ensures)) (c .before .before .put .ensures)
-
-pub applied-ok : {M : Type 1} (t : ℕ) → applied-lts.Closed (applied-cs t) (at applied-rank t) applied.Post M
+pub applied-ok : {M : Type 1} (t : ℕ) → cycle.Lts-applied.Closed (applied-cs t) (at applied t) (rank applied .post) M
 applied-ok t =
-    applied-lts.spec (applied-cs t) (at applied-rank t) applied.Post (λ c κs. search (needs, primary-part)) (λ c. search needs) (λ c. search needs)
-    (λ c. search primary-gave) (λ c κs. search needs) (λ c κs. search needs) (λ c κs. search needs) (λ c κs. search needs) (λ c κs. search needs)
-    (applied-applied-requires t) (applied-indexed-requires t) (λ c. search needs) (λ c. search needs) (applied-returns-2 t) (λ c κs. omega arith)
-    (applied-passed-requires t) (λ c. let h = c .before .before .before .before .before .before .before .before .before in let y = applied-start t
-    (h .before .before .before) .pre .1 .ready in omega (arith, applied-few t h))
-    (λ c κs. let h = c .before .before .before .before .before .before .before .before .before in let y = applied-start t
-    (h .before .before .before) .pre .1 .ready in omega (arith, applied-few t h)) (applied-applied-requires-2 t) (λ c κs. search needs)
-    (λ c. search needs) (λ c. search needs) (applied-returns-3 t)
+    cycle.Lts-applied.spec (applied-cs t) (at applied t) (rank applied .post) (λ c κs. search (needs, primary-part)) (λ c. search needs)
+    (λ c. search needs) (λ c. search primary-gave) (λ c κs. search needs) (λ c κs. search needs) (λ c κs. search needs) (λ c κs. search needs)
+    (λ c κs. search needs)
+    (λ c κs. let start = applied-start t (search) in let r = applied-read t (search) in both (omega (arith, start .pre .0)) (search (index-left r)))
+    (λ c κs. let start = applied-start t (search) in both (omega (arith, start .pre .0)) (index-right (applied-read t (search)) (search) _
+    (c .before .before .before .before .before .before .applied .ensures) (start .pre .1))) (λ c. search needs) (λ c. search needs)
+    (λ c. let after-indexed = c .before .before .before .before in index-gave (applied-read t (search)) (search) _
+    (after-indexed .before .before .before .before .before .before .before .applied .ensures) (after-indexed .indexed .ensures)) (λ c κs. omega arith)
+    (λ c κs. let start = applied-start t (search) in both (omega (arith, start .pre .0)) (search (call-args (applied-read t (search)))))
+    (λ c. let y = applied-start t (search) .pre .1 .ready in omega (arith, applied-few t (search)))
+    (λ c κs. let y = applied-start t (search) .pre .1 .ready in omega (arith, applied-few t (search)))
+    (λ c κs. let start = applied-start t (search) in let r = applied-read t (search) in
+    let after-passed = c .before .before .before .before .before .before .before in both (omega (arith, start .pre .0, left-at))
+    (suffixes-ready-at (c .raised .ensures) (call-callee r (search) _ (search) (after-passed .passed .ensures) (start .pre .1))))
+    (λ c κs. search needs) (λ c. search needs) (λ c. search needs)
+    (λ c. let after-applied2 = c .before .before .before .before .before .before .before .before in let after-raised = after-applied2 .before in
+    let after-passed = after-raised .before .before .before .before .before .before .before in call-gave (applied-read t (search)) (search) _ (search)
+    (after-passed .passed .ensures) (suffixes-gave-at (after-raised .raised .ensures) (after-applied2 .applied2 .ensures))
+    (c .before .before .put .ensures))
 
-abbrev args-cs : ℕ → args-lts.Claims
-args-cs t = (entry.Asked, entry.Learnt, raised-reads.Asked, raised-reads.Learnt, below expr-rank t, expr.Post, keep.Asked, keep.Learnt)
+abbrev args-cs : ℕ → cycle.Lts-args.Claims
+args-cs t =
+    four (proofs.scope.entry.Reads.Asked, proofs.scope.entry.Reads.Learnt) (steps.raised.Reads.Asked, steps.raised.Reads.Learnt) (calls expr t)
+    (steps.keep.Reads.Asked, steps.keep.Reads.Learnt)
 
-abbrev args-Inv-loop : args-lts.InvT-loop
+abbrev args-Inv-loop : cycle.Lts-args.InvT-loop
 args-Inv-loop source s₀ from end text₀ here at₀ k₀ r₀ s text at k r =
     (length s ≡ length s₀) × (length text ≡ length text₀) × ((y : ReadyArgs s₀ from end here r₀) → ArgsPart source text₀ y s text at k r)
 
-abbrev args-μ-loop : args-lts.MeasureT-loop
-args-μ-loop source s₀ from end text₀ here at₀ k₀ r₀ s text at k r = end - at
-
-args-raised-requires : (t : ℕ) → args-lts.Need-raised-requires (args-cs t) (at args-rank t) args.Post args-Inv-loop args-μ-loop
-args-raised-requires t c κs =
-    omega (
-      arith,
-      c .before .before .before .before .before .loop .inv .2
-          (c .before .before .before .before .before .before .before .before .before .pre .1) .height,
-    )
-
-args-expr-requires : (t : ℕ) → args-lts.Need-expr-requires (args-cs t) (at args-rank t) args.Post args-Inv-loop args-μ-loop
-args-expr-requires t c κs =
-    let after-entry = c .before .before .before in let after-loop-test = after-entry .before .before in let after-loop = after-loop-test .before in
-    let start = after-loop .before .before .before .before in
-    both (omega (arith, start .pre .0, left-at)) (ready-at (c .raised .ensures)
-    (args-part _ _ (after-loop .loop .k) (after-loop-test .loop-test .taken) (after-entry .entry .ensures .0) refl (start .pre .1)
-    (after-loop .loop .inv .2 (start .pre .1))))
-
-args-add-keep : (t : ℕ) → args-lts.Need-add-keep (args-cs t) (at args-rank t) args.Post args-Inv-loop args-μ-loop
-args-add-keep t c =
-    let after-loop = c .before .before .before .before .before .before .before .before .before .before .before .before .before in
-    let start = after-loop .before .before .before .before in
-    omega (arith, after-loop .loop .inv .2 (start .pre .1) .height, start .pre .1 .ready .height)
-
-args-keep-requires : (t : ℕ) → args-lts.Need-keep-requires (args-cs t) (at args-rank t) args.Post args-Inv-loop args-μ-loop
-args-keep-requires t c κs =
-    let after-loop = c .before .before .before .before .before .before .before .before .before .before .before .before .before in
-    let start = after-loop .before .before .before .before in
-    omega (arith, after-loop .loop .inv .2 (start .pre .1) .height, start .pre .1 .ready .height)
-
-args-add-k : (t : ℕ) → args-lts.Need-add-k (args-cs t) (at args-rank t) args.Post args-Inv-loop args-μ-loop
-args-add-k t c =
-    let after-loop = c .before .before .before .before .before .before .before .before .before .before .before .before .before .before .before .before
-    in let start = after-loop .before .before .before .before in
-    omega (arith, after-loop .loop .inv .2 (start .pre .1) .height, start .pre .1 .ready .height)
-
-args-loop-again : (t : ℕ) → args-lts.Need-loop-again (args-cs t) (at args-rank t) args.Post args-Inv-loop args-μ-loop
-args-loop-again t c =
-    let after-expr = c .before .before .before .before .before .before .before .before .before in let after-raised = after-expr .before in
-    let after-entry = after-raised .before .before .before in let after-loop-test = after-entry .before .before in
-    let after-loop = after-loop-test .before in (
-      after-expr .expr .kept .1 .0 ∙ after-loop .loop .inv .0,
-      c .before .before .keep .kept .0 ∙ after-expr .expr .kept .1 .1 .1 .0 ∙ after-loop .loop .inv .1,
-      λ y. args-next _ _ (after-loop .loop .k) (after-loop-test .loop-test .taken) (after-entry .entry .ensures .0) refl
-          (gave-at _ (after-raised .raised .ensures) (after-expr .expr .ensures)) (c .before .before .keep .ensures) y (after-loop .loop .inv .2 y),
-    )
-
-pub args-ok : {M : Type 1} (t : ℕ) → args-lts.Closed (args-cs t) (at args-rank t) args.Post M
+pub args-ok : {M : Type 1} (t : ℕ) → cycle.Lts-args.Closed (args-cs t) (at args t) (rank args .post) M
 args-ok t =
-    args-lts.spec (args-cs t) (at args-rank t) args.Post args-Inv-loop args-μ-loop (λ c. search (needs, args-begin)) (λ c. omega arith)
-    (λ c κs. search needs) (λ c. omega (arith, c .entry .ensures .1)) (args-raised-requires t) (args-expr-requires t) (args-add-keep t)
-    (args-keep-requires t) (args-add-k t) (λ c. omega arith) (args-loop-again t) (λ c. search needs) (λ c. search needs)
-    (λ c. args-end _ _ (c .before .loop .k) (c .loop-test .left) (c .before .loop .inv .2))
+    cycle.Lts-args.spec (args-cs t) (at args t) (rank args .post) args-Inv-loop (λ source s₀ from end text₀ here at₀ k₀ r₀ s text at k r. end - at)
+    (λ c. search (needs, args-begin)) (λ c. omega arith) (λ c κs. search needs) (λ c. omega (arith, c .entry .ensures .1))
+    (λ c κs. let height = c .before .before .before .before .before .loop .inv .2
+    (c .before .before .before .before .before .before .before .before .before .pre .1) .height in omega arith)
+    (λ c κs. let after-entry = c .before .before .before in let after-loop-test = after-entry .before .before in
+    let after-loop = after-loop-test .before in let start = after-loop .before .before .before .before in
+    both (omega (arith, start .pre .0, left-at)) (ready-at (c .raised .ensures) (args-part _ _ _ (after-loop-test .loop-test .taken)
+    (after-entry .entry .ensures .0) refl (start .pre .1) (after-loop .loop .inv .2 (start .pre .1)))))
+    (λ c. let after-loop = c .before .before .before .before .before .before .before .before .before .before .before .before .before in
+    let start = after-loop .before .before .before .before in
+    omega (arith, after-loop .loop .inv .2 (start .pre .1) .height, start .pre .1 .ready .height))
+    (λ c κs. let after-loop = c .before .before .before .before .before .before .before .before .before .before .before .before .before in
+    let start = after-loop .before .before .before .before in
+    omega (arith, after-loop .loop .inv .2 (start .pre .1) .height, start .pre .1 .ready .height))
+    (λ c. let after-loop = c .before .before .before .before .before .before .before .before .before .before .before .before .before .before
+    .before .before in let start = after-loop .before .before .before .before in
+    omega (arith, after-loop .loop .inv .2 (start .pre .1) .height, start .pre .1 .ready .height)) (λ c. omega arith)
+    (λ c. let after-expr = c .before .before .before .before .before .before .before .before .before in
+    let after-raised = after-expr .before in let after-entry = after-raised .before .before .before in
+    let after-loop-test = after-entry .before .before in let after-loop = after-loop-test .before in (
+      after-expr .expr .kept .1 .0 ∙ after-loop .loop .inv .0,
+      c .before .before .keep .kept .0 ∙ after-expr .expr .kept .1 .1 .1 .0
+          ∙ after-loop .loop .inv .1,
+      λ y. args-next _ _ _ (after-loop-test .loop-test .taken) (after-entry .entry .ensures .0) refl
+          (gave-at _ (after-raised .raised .ensures) (after-expr .expr .ensures)) (c .before .before .keep .ensures) y (after-loop .loop .inv .2 y),
+    ))
+    (λ c. search needs) (λ c. search needs) (λ c. args-end _ _ _ (c .loop-test .left) (c .before .loop .inv .2))
 
-abbrev indexed-cs : ℕ → indexed-lts.Claims
-indexed-cs t = (keep.Asked, keep.Learnt, raised-reads.Asked, raised-reads.Learnt, below expr-rank t, expr.Post, index-end.Asked, index-end.Learnt)
+abbrev indexed-cs : ℕ → cycle.Lts-indexed.Claims
+indexed-cs t =
+    four (steps.keep.Reads.Asked, steps.keep.Reads.Learnt) (steps.raised.Reads.Asked, steps.raised.Reads.Learnt) (calls expr t)
+    (steps.index_end.Reads.Asked, steps.index_end.Reads.Learnt)
 
-indexed-expr-requires : (t : ℕ) → indexed-lts.Need-expr-requires (indexed-cs t) (at indexed-rank t) indexed.Post
-indexed-expr-requires t c κs =
-    (omega (arith, c .before .before .before .before .before .before .before .before .before .before .pre .0, left-at), search (ready-at, with-state))
-
-pub indexed-ok : {M : Type 1} (t : ℕ) → indexed-lts.Closed (indexed-cs t) (at indexed-rank t) indexed.Post M
+pub indexed-ok : {M : Type 1} (t : ℕ) → cycle.Lts-indexed.Closed (indexed-cs t) (at indexed t) (rank indexed .post) M
 indexed-ok t =
-    indexed-lts.spec (indexed-cs t) (at indexed-rank t) indexed.Post (λ c κs. omega arith) (λ c κs. omega arith) (indexed-expr-requires t)
-    (λ c κs. search needs) (λ c. search needs) (λ c. search needs) (λ c. search (indexed-gave, gave-at))
+    cycle.Lts-indexed.spec (indexed-cs t) (at indexed t) (rank indexed .post) (λ c κs. omega arith) (λ c κs. omega arith)
+    (λ c κs. (
+      omega (arith, c .before .before .before .before .before .before .before .before .before .before .pre .0, left-at),
+      search (ready-at, with-state),
+    )) (λ c κs. search needs) (λ c. search needs) (λ c. search needs) (λ c. search (indexed-gave, gave-at))
 
-abbrev passed-cs : ℕ → passed-lts.Claims
-passed-cs t = (reached.Asked, reached.Learnt, raised-reads.Asked, raised-reads.Learnt, below args-rank t, args.Post)
+abbrev passed-cs : ℕ → cycle.Lts-passed.Claims
+passed-cs t = three (steps.reached.Reads.Asked, steps.reached.Reads.Learnt) (steps.raised.Reads.Asked, steps.raised.Reads.Learnt) (calls args t)
 
-passed-args-requires : (t : ℕ) → passed-lts.Need-args-requires (passed-cs t) (at passed-rank t) passed.Post
-passed-args-requires t c κs =
-    let after-reached = c .before .before .before in let start = after-reached .before .before .before .before .before in
-    both (omega (arith, left-at))
-    (args-ready-at (c .raised .ensures) (args-with (after-reached .reached .ensures .by (start .args .text .now) .label) (start .pre .1)))
-
-pub passed-ok : {M : Type 1} (t : ℕ) → passed-lts.Closed (passed-cs t) (at passed-rank t) passed.Post M
+pub passed-ok : {M : Type 1} (t : ℕ) → cycle.Lts-passed.Closed (passed-cs t) (at passed t) (rank passed .post) M
 passed-ok t =
-    passed-lts.spec (passed-cs t) (at passed-rank t) passed.Post (λ c. omega arith) (λ c κs. search needs) (λ c κs. omega arith)
-    (passed-args-requires t) (λ c. search needs) (λ c. search needs) (λ c. search (passed-gave, args-gave-at))
+    cycle.Lts-passed.spec (passed-cs t) (at passed t) (rank passed .post) (λ c. omega arith) (λ c κs. search needs) (λ c κs. omega arith)
+    (λ c κs. let after-reached = c .before .before .before in let start = after-reached .before .before .before .before .before in
+    both (omega (arith, left-at)) (args-ready-at (c .raised .ensures) (args-with (after-reached .reached .ensures .by [] .label) (start .pre .1))))
+    (λ c. search needs) (λ c. search needs) (λ c. search (passed-gave, args-gave-at))

@@ -1,5 +1,6 @@
 -- WHILE, FOR, and a command with REPEAT forms.
 use Rattle.compiler.proofs as proofs
+use proofs.steps as steps
 use Rattle.compiler.proofs.walk.+address+applied+args+assign+bare+block+cases+chain+command+expr+for_to+form+forms+indexed+list+local+locals+located+monadic+passed+plain+refuse+repeated+side+stored+switch+test+when+while_do as cycle
 use Rattle.compiler.specs.Commands.{ReadyForms}
 use Rattle.compiler.proofs.Fors.{for-room, for-first, for-limit, for-name-fine, for-body, for-gave}
@@ -7,220 +8,77 @@ use Rattle.compiler.proofs.Conditions.{while-test, while-body, while-ga
 use Rattle.compiler.proofs.RepeatForms.{FormsPart, forms-begin, forms-part, forms-next, forms-end, form-alone, form-tested, repeated-few}
 use Rattle.compiler.proofs.RepeatForms.{repeated-body, repeated-forms, repeated-gave, once-part, once-gave}
 use Rattle.laws.proofs.Basics.{ℕ, _+_, _-_, _*_, _^_, _≤_, _≡_, refl, _∙_, length, arith, needs}
-use Rattle.compiler.specs.Walked.{raised}
 use Rattle.compiler.proofs.Commands.{gave-c-at, gave-u-at}
 use Rattle.compiler.proofs.Expressions.{ready-at, gave-at, left-at}
-use borrow.Fn.PlainCycle.{is}
-use proofs.walk.args.Reads as args
-use proofs.walk.command.Reads as command
-use proofs.walk.expr.Reads as expr
-use proofs.walk.for_to.Reads as for-to
-use cycle.Lts-for_to as for-to-lts
-use proofs.walk.form.Reads as form
-use cycle.Lts-form as form-lts
-use proofs.walk.forms.Reads as forms
-use cycle.Lts-forms as forms-lts
-use proofs.walk.plain.Reads as plain
-use proofs.walk.repeated.Reads as repeated
-use cycle.Lts-repeated as repeated-lts
-use proofs.walk.while_do.Reads as while-do
-use cycle.Lts-while_do as while-do-lts
-use proofs.labels.by_constant.Reads as by-constant
-use proofs.scope.entry.Reads as entry
-use proofs.scope.push.Reads as push
-use proofs.scope.push_name.Reads as push-name
-use proofs.steps.blame.Reads as blame
-use proofs.steps.count.Reads as count
-use proofs.steps.for_step.Reads as for-step
-use proofs.steps.for_test.Reads as for-test
-use proofs.steps.fresh.Reads as fresh
-use proofs.steps.in_loop.Reads as in-loop
-use proofs.steps.jump_unless.Reads as jump-unless
-use proofs.steps.jump_when.Reads as jump-when
-use proofs.steps.keep.Reads as keep
-use proofs.steps.less.Reads as less
-use proofs.steps.mark.Reads as mark
-use proofs.steps.node_at.Reads as node-at
-use proofs.steps.put_to.Reads as put-to
-use proofs.steps.raised.Reads as raised-reads
-use proofs.steps.set_at.Reads as set-at
-use proofs.steps.tops.Reads as tops
-use cycle.Proof.Ranks.{at, below, both, eight, command-rank, expr-rank, for-to-rank, form-rank, forms-rank, plain-rank, repeated-rank, while-do-rank}
+use cycle.Proof.Ranks.{rank, at, calls, both, three, four, eight, fifteen, command, expr, for-to, form, forms, plain, repeated, while-do}
 
-abbrev while-do-cs : ℕ → while-do-lts.Claims
+abbrev while-do-cs : ℕ → cycle.Lts-while_do.Claims
 while-do-cs t =
-    eight (node-at.Asked, node-at.Learnt) (fresh.Asked, fresh.Learnt) (mark.Asked, mark.Learnt) (below expr-rank t, expr.Post)
-    (jump-unless.Asked, jump-unless.Learnt) (put-to.Asked, put-to.Learnt) (in-loop.Asked, in-loop.Learnt) (below command-rank t, command.Post)
+    eight (steps.node_at.Reads.Asked, steps.node_at.Reads.Learnt) (steps.fresh.Reads.Asked, steps.fresh.Reads.Learnt)
+    (steps.mark.Reads.Asked, steps.mark.Reads.Learnt) (calls expr t) (steps.jump_unless.Reads.Asked, steps.jump_unless.Reads.Learnt)
+    (steps.put_to.Reads.Asked, steps.put_to.Reads.Learnt) (steps.in_loop.Reads.Asked, steps.in_loop.Reads.Learnt) (calls command t)
 
-while-do-expr-requires : (t : ℕ) → while-do-lts.Need-expr-requires (while-do-cs t) (at while-do-rank t) while-do.Post
-while-do-expr-requires t c κs =
-    let after-mark = c .before .before .before .before in let after-fresh = after-mark .before .before in let after-node-at2 = after-fresh .before in
-    let after-node-at = after-node-at2 .before .before in let start = after-node-at .before .before .before .before .before in
-    both (omega (arith, start .pre .0))
-    (while-test _ _ (after-node-at .node-at .ensures) (after-node-at2 .node-at2 .ensures) (start .pre .1 .1 .word) (after-fresh .fresh .ensures)
-    (after-mark .mark .ensures) (start .pre .1 .0))
-
-while-do-add-in-loop : (t : ℕ) → while-do-lts.Need-add-in-loop (while-do-cs t) (at while-do-rank t) while-do.Post
-while-do-add-in-loop t c =
-    let start = c .before .before .before .before .before .before .before .before .before .before .before .before .before .before .before .before
-    .before .before .before .before .before .before .before .before .before .before .before .before in
-    omega (arith, start .pre .1 .0 .label)
-
-while-do-command-requires : (t : ℕ) → while-do-lts.Need-command-requires (while-do-cs t) (at while-do-rank t) while-do.Post
-while-do-command-requires t c κs =
-    let after-put-to = c .before .before .before .before .before .before in
+pub while-do-ok : {M : Type 1} (t : ℕ) → cycle.Lts-while_do.Closed (while-do-cs t) (at while-do t) (rank while-do .post) M
+while-do-ok t =
+    cycle.Lts-while_do.spec (while-do-cs t) (at while-do t) (rank while-do .post) (λ c κs. search needs) (λ c κs. search needs) (λ c κs. omega arith)
+    (λ c κs. search needs)
+    (λ c κs. let after-mark = c .before .before .before .before in let after-fresh = after-mark .before .before in
+    let after-node-at2 = after-fresh .before in let after-node-at = after-node-at2 .before .before in
+    let start = after-node-at .before .before .before .before .before in both (omega (arith, start .pre .0)) (while-test _ _
+    (after-node-at .node-at .ensures) (after-node-at2 .node-at2 .ensures) (start .pre .1 .1 .word) (after-fresh .fresh .ensures)
+    (after-mark .mark .ensures) (start .pre .1 .0))) (λ c κs. search needs) (λ c. omega arith) (λ c κs. search needs)
+    (λ c. let start = c .before .before .before .before .before .before .before .before .before .before .before .before .before .before .before
+    .before .before .before .before .before .before .before .before .before .before .before .before .before in omega (arith, start .pre .1 .0 .label))
+    (λ c κs. search needs)
+    (λ c κs. let after-put-to = c .before .before .before .before .before .before in
     let after-expr = after-put-to .before .before .before .before .before .before .before .before in
     let after-mark = after-expr .before .before .before .before .before in let after-fresh = after-mark .before .before in
     let after-node-at2 = after-fresh .before in let after-node-at = after-node-at2 .before .before in
-    let start = after-node-at .before .before .before .before .before in
-    both (omega (arith, start .pre .0))
-    (while-body _ _ (after-node-at .node-at .ensures) (after-node-at2 .node-at2 .ensures) (start .pre .1 .1 .word) (after-fresh .fresh .ensures)
-    (after-mark .mark .ensures) _ (after-expr .expr .ensures) (after-put-to .put-to .ensures) (start .pre .1 .0))
-
-while-do-add-mark : (t : ℕ) → while-do-lts.Need-add-mark (while-do-cs t) (at while-do-rank t) while-do.Post
-while-do-add-mark t c =
-    let start = c .before .before .before .before .before .before .before .before .before .before .before .before .before .before .before .before
-    .before .before .before .before .before .before .before .before .before .before .before .before .before .before .before .before .before .before
-    .before .before .before .before .before .before in
-    omega (arith, start .pre .1 .0 .label)
-
-while-do-same-length : (t : ℕ) → while-do-lts.Need-same-length (while-do-cs t) (at while-do-rank t) while-do.Post
-while-do-same-length t c =
-    let after-command = c .before .before .before .before .before .before .before .before .before .before .before .before .before in
-    let after-expr =
-    after-command .before .before .before .before .before .before .before .before .before .before .before .before .before .before .before in
-    after-command .command .kept .1 .0 ∙ after-expr .expr .kept .1 .0
-
-while-do-same-length-2 : (t : ℕ) → while-do-lts.Need-same-length-2 (while-do-cs t) (at while-do-rank t) while-do.Post
-while-do-same-length-2 t c =
-    let after-put-to2 = c .before .before .before .before .before .before .before in
+    let start = after-node-at .before .before .before .before .before in both (omega (arith, start .pre .0)) (while-body _ _
+    (after-node-at .node-at .ensures) (after-node-at2 .node-at2 .ensures) (start .pre .1 .1 .word) (after-fresh .fresh .ensures)
+    (after-mark .mark .ensures) _ (after-expr .expr .ensures) (after-put-to .put-to .ensures) (start .pre .1 .0))) (λ c κs. search needs)
+    (λ c. let start = c .before .before .before .before .before .before .before .before .before .before .before .before .before .before .before
+    .before .before .before .before .before .before .before .before .before .before .before .before .before .before .before .before .before
+    .before .before .before .before .before .before .before .before in omega (arith, start .pre .1 .0 .label)) (λ c κs. search needs)
+    (λ c. let after-command = c .before .before .before .before .before .before .before .before .before .before .before .before .before in
+    let after-expr = after-command .before .before .before .before .before .before .before .before .before .before .before .before .before .before
+    .before in after-command .command .kept .1 .0 ∙ after-expr .expr .kept .1 .0)
+    (λ c. let after-put-to2 = c .before .before .before .before .before .before .before in
     let after-command = after-put-to2 .before .before .before .before .before .before in
     let after-put-to = after-command .before .before .before .before .before .before .before in
     let after-expr = after-put-to .before .before .before .before .before .before .before .before in
-    let after-mark = after-expr .before .before .before .before .before in
-    c .before .before .mark2 .kept .0 ∙ after-put-to2 .put-to2 .kept .0 ∙ after-command .command .kept .1 .1 .1 .0 ∙ after-put-to .put-to .kept .0
-    ∙ after-expr .expr .kept .1 .1 .1 .0 ∙ after-mark .mark .kept .0
-
-while-do-returns : (t : ℕ) → while-do-lts.Need-returns (while-do-cs t) (at while-do-rank t) while-do.Post
-while-do-returns t c =
-    let after-put-to2 = c .before .before .before .before .before .before .before in
+    let after-mark = after-expr .before .before .before .before .before in c .before .before .mark2 .kept .0 ∙ after-put-to2 .put-to2 .kept .0
+    ∙ after-command .command .kept .1 .1 .1 .0 ∙ after-put-to .put-to .kept .0 ∙ after-expr .expr .kept .1 .1 .1 .0 ∙ after-mark .mark .kept .0)
+    (λ c. let after-put-to2 = c .before .before .before .before .before .before .before in
     let after-command = after-put-to2 .before .before .before .before .before .before in let after-in-loop = after-command .before in
     let after-put-to = after-in-loop .before .before .before .before .before .before in let after-jump-unless = after-put-to .before .before in
     let after-expr = after-jump-unless .before .before .before .before .before .before in
     let after-mark = after-expr .before .before .before .before .before in let after-fresh = after-mark .before .before in
     let after-node-at2 = after-fresh .before in let after-node-at = after-node-at2 .before .before in
-    let start = after-node-at .before .before .before .before .before in
-    while-gave _ _ (after-node-at .node-at .ensures) (after-node-at2 .node-at2 .ensures) (start .pre .1 .1 .word) (after-fresh .fresh .ensures)
-    (after-mark .mark .ensures) _ (after-expr .expr .ensures) (after-put-to .put-to .ensures) _ (after-jump-unless .jump-unless .ensures)
-    (gave-c-at _ refl (after-in-loop .in-loop .ensures) (after-command .command .ensures)) (after-put-to2 .put-to2 .ensures)
-    (c .before .before .mark2 .ensures)
+    let start = after-node-at .before .before .before .before .before in while-gave _ _ (after-node-at .node-at .ensures)
+    (after-node-at2 .node-at2 .ensures) (start .pre .1 .1 .word) (after-fresh .fresh .ensures) (after-mark .mark .ensures) _
+    (after-expr .expr .ensures) (after-put-to .put-to .ensures) _ (after-jump-unless .jump-unless .ensures) (gave-c-at _ refl
+    (after-in-loop .in-loop .ensures) (after-command .command .ensures)) (after-put-to2 .put-to2 .ensures) (c .before .before .mark2 .ensures))
 
-pub while-do-ok : {M : Type 1} (t : ℕ) → while-do-lts.Closed (while-do-cs t) (at while-do-rank t) while-do.Post M
-while-do-ok t =
-    while-do-lts.spec (while-do-cs t) (at while-do-rank t) while-do.Post (λ c κs. search needs) (λ c κs. search needs) (λ c κs. omega arith)
-    (λ c κs. search needs) (while-do-expr-requires t) (λ c κs. search needs) (λ c. omega arith) (λ c κs. search needs) (while-do-add-in-loop t)
-    (λ c κs. search needs) (while-do-command-requires t) (λ c κs. search needs) (while-do-add-mark t) (λ c κs. search needs) (while-do-same-length t)
-    (while-do-same-length-2 t) (while-do-returns t)
+abbrev for-to-cs : ℕ → cycle.Lts-for_to.Claims
+for-to-cs t =
+    fifteen (steps.node_at.Reads.Asked, steps.node_at.Reads.Learnt) (steps.less.Reads.Asked, steps.less.Reads.Learnt)
+    (steps.fresh.Reads.Asked, steps.fresh.Reads.Learnt) (calls expr t) (steps.keep.Reads.Asked, steps.keep.Reads.Learnt)
+    (steps.raised.Reads.Asked, steps.raised.Reads.Learnt) (proofs.labels.by_constant.Reads.Asked, proofs.labels.by_constant.Reads.Learnt)
+    (steps.blame.Reads.Asked, steps.blame.Reads.Learnt) (steps.for_test.Reads.Asked, steps.for_test.Reads.Learnt)
+    (proofs.scope.push.Reads.Asked, proofs.scope.push.Reads.Learnt) (proofs.scope.push_name.Reads.Asked, proofs.scope.push_name.Reads.Learnt)
+    (steps.set_at.Reads.Asked, steps.set_at.Reads.Learnt) (steps.in_loop.Reads.Asked, steps.in_loop.Reads.Learnt) (calls command t)
+    (steps.for_step.Reads.Asked, steps.for_step.Reads.Learnt)
 
-abbrev for-to-cs : ℕ → for-to-lts.Claims
-for-to-cs t = (
-  node-at.Asked,
-  node-at.Learnt,
-  less.Asked,
-  less.Learnt,
-  fresh.Asked,
-  fresh.Learnt,
-  below expr-rank t,
-  expr.Post,
-  keep.Asked,
-  keep.Learnt,
-  raised-reads.Asked,
-  raised-reads.Learnt,
-  by-constant.Asked,
-  by-constant.Learnt,
-  blame.Asked,
-  blame.Learnt,
-  for-test.Asked,
-  for-test.Learnt,
-  push.Asked,
-  push.Learnt,
-  push-name.Asked,
-  push-name.Learnt,
-  set-at.Asked,
-  set-at.Learnt,
-  in-loop.Asked,
-  in-loop.Learnt,
-  below command-rank t,
-  command.Post,
-  for-step.Asked,
-  for-step.Learnt,
-)
+abbrev ForToTested : ℕ → Type 0
+ForToTested t = cycle.Lts-for_to.After-for-test (for-to-cs t) (at for-to t) (rank for-to .post)
 
-for-to-expr-requires : (t : ℕ) → for-to-lts.Need-expr-requires (for-to-cs t) (at for-to-rank t) for-to.Post
-for-to-expr-requires t c κs =
-    let after-node-at3 = c .before .before .before in let after-less = after-node-at3 .before .before in let after-node-at2 = after-less .before in
-    let after-node-at = after-node-at2 .before .before in let start = after-node-at .before .before .before .before .before in
-    both (omega (arith, start .pre .0))
-    (for-first _ _ _ (after-node-at .node-at .ensures) (after-node-at2 .node-at2 .ensures) (after-less .less .ensures)
-    (after-node-at3 .node-at3 .ensures) (start .pre .1 .1 .is) (c .before .before .fresh .ensures) (start .pre .1 .0))
-
-for-to-keep-requires : (t : ℕ) → for-to-lts.Need-keep-requires (for-to-cs t) (at for-to-rank t) for-to.Post
-for-to-keep-requires t c κs =
-    let start = c .before .before .before .before .before .before .before .before .before .before .before .before .before .before .before .before
-    .before .before .before in
-    omega (arith, start .pre .1 .0 .height)
-
-for-to-raised-requires : (t : ℕ) → for-to-lts.Need-raised-requires (for-to-cs t) (at for-to-rank t) for-to.Post
-for-to-raised-requires t c κs =
-    let start = c .before .before .before .before .before .before .before .before .before .before .before .before .before .before .before .before
-    .before .before .before .before .before .before .before .before in
-    omega (arith, start .pre .1 .0 .height)
-
-for-to-expr-requires-2 : (t : ℕ) → for-to-lts.Need-expr-requires-2 (for-to-cs t) (at for-to-rank t) for-to.Post
-for-to-expr-requires-2 t c κs =
-    let after-keep = c .before .before .before .before .before in let after-expr = after-keep .before .before .before .before .before .before in
-    let after-fresh = after-expr .before .before .before in let after-node-at3 = after-fresh .before in
-    let after-less = after-node-at3 .before .before in let after-node-at2 = after-less .before in
-    let after-node-at = after-node-at2 .before .before in let start = after-node-at .before .before .before .before .before in
-    both (omega (arith, start .pre .0, left-at))
-    (ready-at (c .raised .ensures) (for-limit _ _ _ (after-node-at .node-at .ensures) (after-node-at2 .node-at2 .ensures) (after-less .less .ensures)
-    (after-node-at3 .node-at3 .ensures) (start .pre .1 .1 .is) _ (after-fresh .fresh .ensures) (after-expr .expr .ensures)
-    (after-keep .keep .ensures) (start .pre .1 .0)))
-
-for-to-add-keep : (t : ℕ) → for-to-lts.Need-add-keep (for-to-cs t) (at for-to-rank t) for-to.Post
-for-to-add-keep t c =
-    let start = c .before .before .before .before .before .before .before .before .before .before .before .before .before .before .before .before
-    .before .before .before .before .before .before .before .before .before .before .before .before .before .before .before .before in
-    omega (arith, start .pre .1 .0 .height)
-
-for-to-keep-requires-2 : (t : ℕ) → for-to-lts.Need-keep-requires-2 (for-to-cs t) (at for-to-rank t) for-to.Post
-for-to-keep-requires-2 t c κs =
-    let start = c .before .before .before .before .before .before .before .before .before .before .before .before .before .before .before .before
-    .before .before .before .before .before .before .before .before .before .before .before .before .before .before .before .before in
-    omega (arith, start .pre .1 .0 .height)
-
-for-to-by-constant-requires : (t : ℕ) → for-to-lts.Need-by-constant-requires (for-to-cs t) (at for-to-rank t) for-to.Post
-for-to-by-constant-requires t c κs =
-    let after-node-at2 = c .before .before .before .before .before .before .before .before .before .before .before .before .before .before .before
-    .before .before .before .before .before .before .before .before .before .before .before .before .before .before in
-    let after-node-at = after-node-at2 .before .before in let start = after-node-at .before .before .before .before .before in
-    omega (arith, after-node-at2 .node-at2 .ensures .start, after-node-at .node-at .ensures .inner, start .pre .1 .0 .small)
-
-for-to-for-test-requires : (t : ℕ) → for-to-lts.Need-for-test-requires (for-to-cs t) (at for-to-rank t) for-to.Post
-for-to-for-test-requires t c κs =
-    let start = c .before .before .before .before .before .before .before .before .before .before .before .before .before .before .before .before
-    .before .before .before .before .before .before .before .before .before .before .before .before .before .before .before .before .before .before
-    .before .before .before .before .before in
-    (omega (arith, start .pre .1 .0 .height), omega (arith, start .pre .1 .0 .label))
-
-abbrev for-to-start : (t : ℕ) → for-to-lts.After-for-test (for-to-cs t) (at for-to-rank t) for-to.Post → for-to-lts.Start (for-to-cs t)
-    (at for-to-rank t) for-to.Post
+abbrev for-to-start : (t : ℕ) → ForToTested t → cycle.Lts-for_to.Start (for-to-cs t) (at for-to t) (rank for-to .post)
 for-to-start t c = c .before .before .before .before .before .before .before .before .before .before .before .before .before .before .before .before
     .before .before .before .before .before .before .before .before .before .before .before .before .before .before .before .before .before .before
     .before .before .before .before .before .before
 
-for-to-room : (t : ℕ) (c : for-to-lts.After-for-test (for-to-cs t) (at for-to-rank t) for-to.Post)
-    → for-to-start t c .args .here .top + 4 ≤ for-to-start t c .pre .1 .0 .base
+for-to-room : (t : ℕ) (c : ForToTested t) → for-to-start t c .args .here .top + 4 ≤ for-to-start t c .pre .1 .0 .base
 for-to-room t c =
     let after-node-at3 = c .before .before .before .before .before .before .before .before .before .before .before .before .before .before .before
     .before .before .before .before .before .before .before .before .before .before .before .before .before .before .before in
@@ -229,39 +87,73 @@ for-to-room t c =
     for-room _ _ _ (after-node-at .node-at .ensures) (after-node-at2 .node-at2 .ensures) (after-less .less .ensures)
     (after-node-at3 .node-at3 .ensures) (start .pre .1 .1 .is) (start .pre .1 .0)
 
-for-to-push-requires : (t : ℕ) → for-to-lts.Need-push-requires (for-to-cs t) (at for-to-rank t) for-to.Post
-for-to-push-requires t c κs =
-    let h = c .before .before .before in let y = for-to-start t h .pre .1 .0 in
-    let k = h .before .before .before .before .before .before .before .before .before .before .before .before .before .before .expr2 .kept in
-    let l = h .before .before .before .before .before .before .before .before .before .before .before .before .before .before .before .before .before
-    .before .before .before .before .before .before .before .before .before .expr .kept in
-    (omega (arith, for-to-room t h), omega arith, omega arith)
-
-for-to-push-name-requires : (t : ℕ) → for-to-lts.Need-push-name-requires (for-to-cs t) (at for-to-rank t) for-to.Post
-for-to-push-name-requires t c κs =
-    let h = c .before .before .before .before .before .before .before .before .before in let y = for-to-start t h .pre .1 .0 in
-    let k = h .before .before .before .before .before .before .before .before .before .before .before .before .before .before .expr2 .kept in
-    let l = h .before .before .before .before .before .before .before .before .before .before .before .before .before .before .before .before .before
-    .before .before .before .before .before .before .before .before .before .expr .kept in
-    let n = h .before .before .before .before .before .before .before .before .before .before .before .before .before .before .before .before .before
+pub for-to-ok : {M : Type 1} (t : ℕ) → cycle.Lts-for_to.Closed (for-to-cs t) (at for-to t) (rank for-to .post) M
+for-to-ok t =
+    cycle.Lts-for_to.spec (for-to-cs t) (at for-to t) (rank for-to .post) (λ c κs. search needs) (λ c κs. search needs) (λ c κs. search needs)
+    (λ c κs. search needs) (λ c κs. omega arith)
+    (λ c κs. let after-node-at3 = c .before .before .before in let after-less = after-node-at3 .before .before in
+    let after-node-at2 = after-less .before in let after-node-at = after-node-at2 .before .before in
+    let start = after-node-at .before .before .before .before .before in both (omega (arith, start .pre .0)) (for-first _ _ _
+    (after-node-at .node-at .ensures) (after-node-at2 .node-at2 .ensures) (after-less .less .ensures) (after-node-at3 .node-at3 .ensures)
+    (start .pre .1 .1 .is) (c .before .before .fresh .ensures) (start .pre .1 .0)))
+    (λ c κs. let start = c .before .before .before .before .before .before .before .before .before .before .before .before .before .before .before
+    .before .before .before .before in omega (arith, start .pre .1 .0 .height))
+    (λ c κs. let start = c .before .before .before .before .before .before .before .before .before .before .before .before .before .before .before
+    .before .before .before .before .before .before .before .before .before in omega (arith, start .pre .1 .0 .height))
+    (λ c κs. let after-keep = c .before .before .before .before .before in
+    let after-expr = after-keep .before .before .before .before .before .before in let after-fresh = after-expr .before .before .before in
+    let after-node-at3 = after-fresh .before in let after-less = after-node-at3 .before .before in let after-node-at2 = after-less .before in
+    let after-node-at = after-node-at2 .before .before in let start = after-node-at .before .before .before .before .before in
+    both (omega (arith, start .pre .0, left-at)) (ready-at (c .raised .ensures) (for-limit _ _ _ (after-node-at .node-at .ensures)
+    (after-node-at2 .node-at2 .ensures) (after-less .less .ensures) (after-node-at3 .node-at3 .ensures) (start .pre .1 .1 .is) _
+    (after-fresh .fresh .ensures) (after-expr .expr .ensures) (after-keep .keep .ensures) (start .pre .1 .0))))
+    (λ c. let start = c .before .before .before .before .before .before .before .before .before .before .before .before .before .before .before
+    .before .before .before .before .before .before .before .before .before .before .before .before .before .before .before .before .before in
+    omega (arith, start .pre .1 .0 .height))
+    (λ c κs. let start = c .before .before .before .before .before .before .before .before .before .before .before .before .before .before
     .before .before .before .before .before .before .before .before .before .before .before .before .before .before .before .before .before
-    .before .node-at .ensures in let f = let after-push = c .before .before .before .before .before in
+    .before in omega (arith, start .pre .1 .0 .height))
+    (λ c κs. let after-node-at2 = c .before .before .before .before .before .before .before .before .before .before .before .before .before
+    .before .before .before .before .before .before .before .before .before .before .before .before .before .before .before .before in
+    let after-node-at = after-node-at2 .before .before in let start = after-node-at .before .before .before .before .before in
+    omega (arith, after-node-at2 .node-at2 .ensures .start, after-node-at .node-at .ensures .inner, start .pre .1 .0 .small))
+    (λ c _. c .by-constant .ensures .fits)
+    (λ c κs. let start = c .before .before .before .before .before .before .before .before .before .before .before .before .before .before
+    .before .before .before .before .before .before .before .before .before .before .before .before .before .before .before .before .before
+    .before .before .before .before .before .before .before .before in
+    (omega (arith, start .pre .1 .0 .height), omega (arith, start .pre .1 .0 .label)))
+    (λ c κs. let h : ForToTested t = search in let y = for-to-start t h .pre .1 .0 in
+    let k = h .before .before .before .before .before .before .before .before .before .before .before .before .before .before .expr2 .kept in
+    let l = h .before .before .before .before .before .before .before .before .before .before .before .before .before .before .before .before
+    .before .before .before .before .before .before .before .before .before .before .expr .kept in
+    (omega (arith, for-to-room t h), omega arith, omega arith))
+    (λ c. let h : ForToTested t = search in let y = for-to-start t h .pre .1 .0 in omega (arith, for-to-room t h))
+    (λ c. let y = for-to-start t (search) .pre .1 .0 in omega arith) (λ c. let y = for-to-start t (search) .pre .1 .0 in omega arith)
+    (λ c κs. let h : ForToTested t = search in let y = for-to-start t h .pre .1 .0 in
+    let k = h .before .before .before .before .before .before .before .before .before .before .before .before .before .before .expr2 .kept in
+    let l = h .before .before .before .before .before .before .before .before .before .before .before .before .before .before .before .before
+    .before .before .before .before .before .before .before .before .before .before .expr .kept in
+    let n = h .before .before .before .before .before .before .before .before .before .before .before .before .before .before .before .before
+    .before .before .before .before .before .before .before .before .before .before .before .before .before .before .before .before .before
+    .before .before .node-at .ensures in let f = let after-push = c .before .before .before .before .before in
     let after-for-test = after-push .before .before .before .before in let after-blame = after-for-test .before .before in
     let after-by-constant = after-blame .before in let after-keep2 = after-by-constant .before .before .before .before in
     let after-expr2 = after-keep2 .before .before .before .before .before .before .before in let after-raised = after-expr2 .before in
     let after-keep = after-raised .before .before .before .before .before in
     let after-expr = after-keep .before .before .before .before .before .before in let after-fresh = after-expr .before .before .before in
     let after-node-at3 = after-fresh .before in let after-less = after-node-at3 .before .before in let after-node-at2 = after-less .before in
-    let after-node-at = after-node-at2 .before .before in let start = after-node-at .before .before .before .before .before in for-name-fine _ _ _
-    (after-node-at .node-at .ensures) (after-node-at2 .node-at2 .ensures) (after-less .less .ensures) (after-node-at3 .node-at3 .ensures)
-    (start .pre .1 .1 .is) _ (after-fresh .fresh .ensures) (after-expr .expr .ensures) (after-keep .keep .ensures)
-    (gave-at _ (after-raised .raised .ensures) (after-expr2 .expr2 .ensures)) (after-keep2 .keep2 .ensures) (after-by-constant .by-constant .ensures)
-    (after-blame .blame .ensures) (after-for-test .for-test .ensures) (after-push .push .ensures) (start .pre .1 .0) in
-    (omega (arith, for-to-room t h), omega arith, omega arith, f)
-
-for-to-command-requires : (t : ℕ) → for-to-lts.Need-command-requires (for-to-cs t) (at for-to-rank t) for-to.Post
-for-to-command-requires t c κs =
-    let after-set-at = c .before .before .before .before .before in let after-push-name = after-set-at .before .before .before .before .before in
+    let after-node-at = after-node-at2 .before .before in let start = after-node-at .before .before .before .before .before in
+    for-name-fine _ _ _ (after-node-at .node-at .ensures) (after-node-at2 .node-at2 .ensures) (after-less .less .ensures)
+    (after-node-at3 .node-at3 .ensures) (start .pre .1 .1 .is) _ (after-fresh .fresh .ensures) (after-expr .expr .ensures)
+    (after-keep .keep .ensures) (gave-at _ (after-raised .raised .ensures) (after-expr2 .expr2 .ensures)) (after-keep2 .keep2 .ensures)
+    (after-by-constant .by-constant .ensures) (after-blame .blame .ensures) (after-for-test .for-test .ensures) (after-push .push .ensures)
+    (start .pre .1 .0) in (omega (arith, for-to-room t h), omega arith, omega arith, f))
+    (λ c. let h : ForToTested t = search in let y = for-to-start t h .pre .1 .0 in omega (arith, for-to-room t h))
+    (λ c. let y = for-to-start t (search) .pre .1 .0 in omega arith) (λ c κs. search needs)
+    (λ c. let y = for-to-start t (search) .pre .1 .0 in omega arith) (λ c. let y = for-to-start t (search) .pre .1 .0 in omega arith)
+    (λ c κs. search needs)
+    (λ c κs. let after-set-at = c .before .before .before .before .before in
+    let after-push-name = after-set-at .before .before .before .before .before in
     let after-push = after-push-name .before .before .before .before .before .before in
     let after-for-test = after-push .before .before .before .before in let after-blame = after-for-test .before .before in
     let after-by-constant = after-blame .before in let after-keep2 = after-by-constant .before .before .before .before in
@@ -270,39 +162,32 @@ for-to-command-requires t c κs =
     let after-expr = after-keep .before .before .before .before .before .before in let after-fresh = after-expr .before .before .before in
     let after-node-at3 = after-fresh .before in let after-less = after-node-at3 .before .before in let after-node-at2 = after-less .before in
     let after-node-at = after-node-at2 .before .before in let start = after-node-at .before .before .before .before .before in
-    both (omega (arith, start .pre .0, left-at)) (ready-at (after-set-at .set-at .ensures)
-    (for-body _ _ _ (after-node-at .node-at .ensures) (after-node-at2 .node-at2 .ensures) (after-less .less .ensures)
-    (after-node-at3 .node-at3 .ensures) (start .pre .1 .1 .is) _ (after-fresh .fresh .ensures) (after-expr .expr .ensures)
-    (after-keep .keep .ensures) (gave-at _ (after-raised .raised .ensures) (after-expr2 .expr2 .ensures)) (after-keep2 .keep2 .ensures)
-    (after-by-constant .by-constant .ensures) (after-blame .blame .ensures) (after-for-test .for-test .ensures) (after-push .push .ensures)
-    (after-push-name .push-name .ensures) refl (start .pre .1 .0)))
-
-for-to-same-length : (t : ℕ) → for-to-lts.Need-same-length (for-to-cs t) (at for-to-rank t) for-to.Post
-for-to-same-length t c =
-    let after-command = c .before .before .before .before .before .before .before .before in
+    both (omega (arith, start .pre .0, left-at)) (ready-at (after-set-at .set-at .ensures) (for-body _ _ _ (after-node-at .node-at .ensures)
+    (after-node-at2 .node-at2 .ensures) (after-less .less .ensures) (after-node-at3 .node-at3 .ensures) (start .pre .1 .1 .is) _
+    (after-fresh .fresh .ensures) (after-expr .expr .ensures) (after-keep .keep .ensures) (gave-at _ (after-raised .raised .ensures)
+    (after-expr2 .expr2 .ensures)) (after-keep2 .keep2 .ensures) (after-by-constant .by-constant .ensures) (after-blame .blame .ensures)
+    (after-for-test .for-test .ensures) (after-push .push .ensures) (after-push-name .push-name .ensures) refl (start .pre .1 .0))))
+    (λ c κs. let y = for-to-start t
+    (c .before .before .before .before .before .before .before .before .before .before .before .before .before .before .before .before .before .before
+    .before .before .before .before .before .before .before .before) .pre .1 .0 in (omega arith, omega arith))
+    (λ c. let after-command = c .before .before .before .before .before .before .before .before in
     let after-push-name = after-command .before .before .before .before .before .before .before .before .before .before .before in
     let after-push = after-push-name .before .before .before .before .before .before in
     let after-expr2 = after-push .before .before .before .before .before .before .before .before .before .before .before .before .before .before
     .before .before .before .before in
     let after-expr = after-expr2 .before .before .before .before .before .before .before .before .before .before .before .before in
     after-command .command .kept .1 .0 ∙ after-push-name .push-name .kept .0 ∙ after-push .push .kept .0 ∙ after-expr2 .expr2 .kept .1 .0
-    ∙ after-expr .expr .kept .1 .0
-
-for-to-same-length-2 : (t : ℕ) → for-to-lts.Need-same-length-2 (for-to-cs t) (at for-to-rank t) for-to.Post
-for-to-same-length-2 t c =
-    let after-command = c .before .before .before .before .before .before .before .before in
+    ∙ after-expr .expr .kept .1 .0)
+    (λ c. let after-command = c .before .before .before .before .before .before .before .before in
     let after-for-test = after-command .before .before .before .before .before .before .before .before .before .before .before .before .before .before
     .before .before .before .before .before .before .before in
     let after-keep2 = after-for-test .before .before .before .before .before .before .before in
     let after-expr2 = after-keep2 .before .before .before .before .before .before .before in
     let after-keep = after-expr2 .before .before .before .before .before .before in
-    let after-expr = after-keep .before .before .before .before .before .before in
-    c .before .before .for-step .kept .0 ∙ after-command .command .kept .1 .1 .1 .0 ∙ after-for-test .for-test .kept .0 ∙ after-keep2 .keep2 .kept .0
-    ∙ after-expr2 .expr2 .kept .1 .1 .1 .0 ∙ after-keep .keep .kept .0 ∙ after-expr .expr .kept .1 .1 .1 .0
-
-for-to-returns : (t : ℕ) → for-to-lts.Need-returns (for-to-cs t) (at for-to-rank t) for-to.Post
-for-to-returns t c =
-    let after-command = c .before .before .before .before .before .before .before .before in let after-in-loop = after-command .before in
+    let after-expr = after-keep .before .before .before .before .before .before in c .before .before .for-step .kept .0
+    ∙ after-command .command .kept .1 .1 .1 .0 ∙ after-for-test .for-test .kept .0 ∙ after-keep2 .keep2 .kept .0
+    ∙ after-expr2 .expr2 .kept .1 .1 .1 .0 ∙ after-keep .keep .kept .0 ∙ after-expr .expr .kept .1 .1 .1 .0)
+    (λ c. let after-command = c .before .before .before .before .before .before .before .before in let after-in-loop = after-command .before in
     let after-set-at = after-in-loop .before .before .before .before .before in
     let after-push-name = after-set-at .before .before .before .before .before in
     let after-push = after-push-name .before .before .before .before .before .before in
@@ -318,141 +203,93 @@ for-to-returns t c =
     (gave-at _ (after-raised .raised .ensures) (after-expr2 .expr2 .ensures)) (after-keep2 .keep2 .ensures) (after-by-constant .by-constant .ensures)
     (after-blame .blame .ensures) (after-for-test .for-test .ensures) (after-push .push .ensures) (after-push-name .push-name .ensures) refl _
     (gave-c-at _ (after-set-at .set-at .ensures) (after-in-loop .in-loop .ensures) (after-command .command .ensures))
-    (c .before .before .for-step .ensures)
+    (c .before .before .for-step .ensures))
 
-pub for-to-ok : {M : Type 1} (t : ℕ) → for-to-lts.Closed (for-to-cs t) (at for-to-rank t) for-to.Post M
-for-to-ok t =
-    for-to-lts.spec (for-to-cs t) (at for-to-rank t) for-to.Post (λ c κs. search needs) (λ c κs. search needs) (λ c κs. search needs)
-    (λ c κs. search needs) (λ c κs. omega arith) (for-to-expr-requires t) (for-to-keep-requires t) (for-to-raised-requires t)
-    (for-to-expr-requires-2 t) (for-to-add-keep t) (for-to-keep-requires-2 t) (for-to-by-constant-requires t) (λ c _. c .by-constant .ensures .fits)
-    (for-to-for-test-requires t) (for-to-push-requires t) (λ c. let h = c .before .before .before .before .before .before .before .before in
-    let y = for-to-start t h .pre .1 .0 in omega (arith, for-to-room t h))
-    (λ c. let y = for-to-start t (c .before .before .before .before .before .before .before .before .before) .pre .1 .0 in omega arith)
-    (λ c. let y = for-to-start t (c .before .before .before .before .before .before .before .before .before) .pre .1 .0 in omega arith)
-    (for-to-push-name-requires t) (λ c. let h = c .before .before .before .before .before .before .before .before .before .before .before .before
-    .before in let y = for-to-start t h .pre .1 .0 in omega (arith, for-to-room t h))
-    (λ c. let y = for-to-start t (c .before .before .before .before .before .before .before .before .before .before .before .before .before
-    .before) .pre .1 .0 in omega arith) (λ c κs. search needs)
-    (λ c. let y = for-to-start t (c .before .before .before .before .before .before .before .before .before .before .before .before .before .before
-    .before .before .before .before) .pre .1 .0 in omega arith)
-    (λ c. let y = for-to-start t (c .before .before .before .before .before .before .before .before .before .before .before .before .before .before
-    .before .before .before .before .before) .pre .1 .0 in omega arith)
-    (λ c κs. search needs) (for-to-command-requires t) (λ c κs. let y = for-to-start t
-    (c .before .before .before .before .before .before .before .before .before .before .before .before .before .before .before .before .before .before
-    .before .before .before .before .before .before .before .before) .pre .1 .0 in (omega arith, omega arith))
-    (for-to-same-length t) (for-to-same-length-2 t) (for-to-returns t)
+abbrev form-cs : ℕ → cycle.Lts-form.Claims
+form-cs t = three (steps.put_to.Reads.Asked, steps.put_to.Reads.Learnt) (calls expr t) (steps.jump_when.Reads.Asked, steps.jump_when.Reads.Learnt)
 
-abbrev form-cs : ℕ → form-lts.Claims
-form-cs t = (put-to.Asked, put-to.Learnt, below expr-rank t, expr.Post, jump-when.Asked, jump-when.Learnt)
-
-pub form-ok : {M : Type 1} (t : ℕ) → form-lts.Closed (form-cs t) (at form-rank t) form.Post M
+pub form-ok : {M : Type 1} (t : ℕ) → cycle.Lts-form.Closed (form-cs t) (at form t) (rank form .post) M
 form-ok t =
-    form-lts.spec (form-cs t) (at form-rank t) form.Post (λ c κs. search needs) (λ c. search needs) (λ c. search form-alone)
+    cycle.Lts-form.spec (form-cs t) (at form t) (rank form .post) (λ c κs. search needs) (λ c. search needs) (λ c. search form-alone)
     (λ c κs. (omega arith, c .before .before .before .before .before .before .pre .1 .on (c .before .before .if1 .left))) (λ c κs. search needs)
     (λ c κs. search needs) (λ c. search needs) (λ c. search needs) (λ c. search form-tested)
 
-abbrev forms-cs : ℕ → forms-lts.Claims
-forms-cs t = (entry.Asked, entry.Learnt, mark.Asked, mark.Learnt, below form-rank t, form.Post, less.Asked, less.Learnt)
+abbrev forms-cs : ℕ → cycle.Lts-forms.Claims
+forms-cs t =
+    four (proofs.scope.entry.Reads.Asked, proofs.scope.entry.Reads.Learnt) (steps.mark.Reads.Asked, steps.mark.Reads.Learnt) (calls form t)
+    (steps.less.Reads.Asked, steps.less.Reads.Learnt)
 
-abbrev forms-Inv-loop : forms-lts.InvT-loop
+abbrev forms-Inv-loop : cycle.Lts-forms.InvT-loop
 forms-Inv-loop source s₀ from end text₀ here innermost at₀ own₀ r₀ s text at own r =
     (length s ≡ length s₀) × (length text ≡ length text₀) × (own ≤ innermost) ×
     ((y : ReadyForms s₀ from end here r₀) → FormsPart source text₀ innermost y s text at own r)
 
-abbrev forms-μ-loop : forms-lts.MeasureT-loop
-forms-μ-loop source s₀ from end text₀ here innermost at₀ own₀ r₀ s text at own r = end - at
-
-forms-form-requires : (t : ℕ) → forms-lts.Need-form-requires (forms-cs t) (at forms-rank t) forms.Post forms-Inv-loop forms-μ-loop
-forms-form-requires t c κs =
-    let after-mark = c .before .before .before .before in let after-entry2 = after-mark .before .before in
-    let after-entry = after-entry2 .before .before in let after-loop-test = after-entry .before .before in let after-loop = after-loop-test .before in
-    let start = after-loop .before .before .before .before in
-    both (omega (arith, start .pre .0))
-    (forms-part _ _ (start .args .innermost) (after-loop-test .loop-test .taken) (after-entry .entry .ensures .0) (after-entry2 .entry2 .ensures .0)
-    refl (after-mark .mark .ensures .label) (start .pre .1 .0) (after-loop .loop .inv .3 (start .pre .1 .0)))
-
-forms-add-mark-2 : (t : ℕ) → forms-lts.Need-add-mark-2 (forms-cs t) (at forms-rank t) forms.Post forms-Inv-loop forms-μ-loop
-forms-add-mark-2 t c =
-    let after-loop =
-    c .before .before .before .before .before .before .before .before .before .before .before .before .before .before .before .before .before in
-    let start = after-loop .before .before .before .before in omega (arith, after-loop .loop .inv .2, start .pre .1 .1)
-
-forms-loop-less : (t : ℕ) → forms-lts.Need-loop-less (forms-cs t) (at forms-rank t) forms.Post forms-Inv-loop forms-μ-loop
-forms-loop-less t c =
-    let after-loop-test = c .before .before .before .before .before .before .before .before .before .before .before .before .before .before .before
-    .before .before .before .before .before in
-    omega (arith, after-loop-test .loop-test .taken)
-
-forms-loop-again : (t : ℕ) → forms-lts.Need-loop-again (forms-cs t) (at forms-rank t) forms.Post forms-Inv-loop forms-μ-loop
-forms-loop-again t c =
-    let after-mark2 = c .before .before .before in let after-form = after-mark2 .before .before .before .before .before .before in
-    let after-mark = after-form .before .before .before .before .before in let after-entry2 = after-mark .before .before in
-    let after-entry = after-entry2 .before .before in let after-loop-test = after-entry .before .before in let after-loop = after-loop-test .before in
-    let start = after-loop .before .before .before .before in (
-      after-form .form .kept .1 .0 ∙ after-loop .loop .inv .0,
-      after-mark2 .mark2 .kept .0 ∙ after-form .form .kept .1 .1 .1 .0 ∙ after-mark .mark .kept .0 ∙ after-loop .loop .inv .1,
-      omega (arith, after-loop .loop .inv .2),
-      λ y. forms-next _ _ (start .args .innermost)
-          (after-loop-test .loop-test .taken) (after-entry .entry .ensures .0) (after-entry2 .entry2 .ensures .0) refl (after-mark .mark .ensures)
-          (after-form .form .ensures) (after-mark2 .mark2 .ensures) (c .less .ensures) y (after-loop .loop .inv .3 y),
-    )
-
-pub forms-ok : {M : Type 1} (t : ℕ) → forms-lts.Closed (forms-cs t) (at forms-rank t) forms.Post M
+pub forms-ok : {M : Type 1} (t : ℕ) → cycle.Lts-forms.Closed (forms-cs t) (at forms t) (rank forms .post) M
 forms-ok t =
-    forms-lts.spec (forms-cs t) (at forms-rank t) forms.Post forms-Inv-loop forms-μ-loop (λ c. search (needs, forms-begin)) (λ c κs. search needs)
-    (λ c. omega arith) (λ c κs. search needs) (λ c. omega arith) (λ c. omega arith) (λ c. omega arith) (λ c κs. search needs) (forms-form-requires t)
-    (forms-add-mark-2 t) (λ c κs. search needs) (λ c κs. search needs) (forms-loop-less t) (forms-loop-again t) (λ c. c .before .loop .inv .0)
-    (λ c. c .before .loop .inv .1)
-    (λ c. forms-end _ _ (c .before .before .before .before .before .args .innermost) (c .loop-test .left) (c .before .loop .inv .3))
+    cycle.Lts-forms.spec (forms-cs t) (at forms t) (rank forms .post) forms-Inv-loop
+    (λ source s₀ from end text₀ here innermost at₀ own₀ r₀ s text at own r. end - at) (λ c. search (needs, forms-begin)) (λ c κs. search needs)
+    (λ c. omega arith) (λ c κs. search needs) (λ c. omega arith) (λ c. omega arith) (λ c. omega arith) (λ c κs. search needs)
+    (λ c κs. let after-mark = c .before .before .before .before in let after-entry2 = after-mark .before .before in
+    let after-entry = after-entry2 .before .before in let after-loop-test = after-entry .before .before in
+    let after-loop = after-loop-test .before in let start = after-loop .before .before .before .before in both (omega (arith, start .pre .0))
+    (forms-part _ _ _ (after-loop-test .loop-test .taken) (after-entry .entry .ensures .0) (after-entry2 .entry2 .ensures .0) refl
+    (after-mark .mark .ensures .label) (start .pre .1 .0) (after-loop .loop .inv .3 (start .pre .1 .0))))
+    (λ c. let after-loop = c .before .before .before .before .before .before .before .before .before .before .before .before .before .before .before
+    .before .before in let start = after-loop .before .before .before .before in omega (arith, after-loop .loop .inv .2, start .pre .1 .1))
+    (λ c κs. search needs) (λ c κs. search needs)
+    (λ c. let after-loop-test = c .before .before .before .before .before .before .before .before .before .before .before .before .before .before
+    .before .before .before .before .before .before in omega (arith, after-loop-test .loop-test .taken))
+    (λ c. let after-mark2 = c .before .before .before in let after-form = after-mark2 .before .before .before .before .before .before in
+    let after-mark = after-form .before .before .before .before .before in let after-entry2 = after-mark .before .before in
+    let after-entry = after-entry2 .before .before in let after-loop-test = after-entry .before .before in
+    let after-loop = after-loop-test .before in let start = after-loop .before .before .before .before in (
+      after-form .form .kept .1 .0 ∙ after-loop .loop .inv .0,
+      after-mark2 .mark2 .kept .0 ∙ after-form .form .kept .1 .1 .1 .0
+          ∙ after-mark .mark .kept .0 ∙ after-loop .loop .inv .1,
+      omega (arith, after-loop .loop .inv .2),
+      λ y. forms-next _ _
+          (start .args .innermost) (after-loop-test .loop-test .taken) (after-entry .entry .ensures .0) (after-entry2 .entry2 .ensures .0) refl
+          (after-mark .mark .ensures) (after-form .form .ensures) (after-mark2 .mark2 .ensures) (c .less .ensures) y (after-loop .loop .inv .3 y),
+    ))
+    (λ c. c .before .loop .inv .0) (λ c. c .before .loop .inv .1) (λ c. forms-end _ _ _ (c .loop-test .left) (c .before .loop .inv .3))
 
-abbrev repeated-cs : ℕ → repeated-lts.Claims
+abbrev repeated-cs : ℕ → cycle.Lts-repeated.Claims
 repeated-cs t =
-    eight (node-at.Asked, node-at.Learnt) (count.Asked, count.Learnt) (less.Asked, less.Learnt) (fresh.Asked, fresh.Learnt) (tops.Asked, tops.Learnt)
-    (in-loop.Asked, in-loop.Learnt) (below plain-rank t, plain.Post) (below forms-rank t, forms.Post)
+    eight (steps.node_at.Reads.Asked, steps.node_at.Reads.Learnt) (steps.count.Reads.Asked, steps.count.Reads.Learnt)
+    (steps.less.Reads.Asked, steps.less.Reads.Learnt) (steps.fresh.Reads.Asked, steps.fresh.Reads.Learnt)
+    (steps.tops.Reads.Asked, steps.tops.Reads.Learnt) (steps.in_loop.Reads.Asked, steps.in_loop.Reads.Learnt) (calls plain t) (calls forms t)
 
-repeated-fit : (t : ℕ) (c : repeated-lts.After-count (repeated-cs t) (at repeated-rank t) repeated.Post) → (1 ≤ c .count .result) ×
+repeated-fit : (t : ℕ) (c : cycle.Lts-repeated.After-count (repeated-cs t) (at repeated t) (rank repeated .post)) → (1 ≤ c .count .result) ×
     (c .before .before .before .before .before .before .before .before .before .before .args .st .label + 3 * c .count .result + 3 ≤ 2 ^ 29)
 repeated-fit t c =
     repeated-few _ (c .before .before .before .before .before .node-at .ensures) (c .before .before .before .if1 .taken) refl (c .count .ensures)
     (c .before .before .before .before .before .before .before .before .before .before .pre .1)
 
-repeated-plain-requires : (t : ℕ) → repeated-lts.Need-plain-requires (repeated-cs t) (at repeated-rank t) repeated.Post
-repeated-plain-requires t c κs =
-    let after-tops = c .before .before .before .before .before in let after-fresh = after-tops .before .before in
+pub repeated-ok : {M : Type 1} (t : ℕ) → cycle.Lts-repeated.Closed (repeated-cs t) (at repeated t) (rank repeated .post) M
+repeated-ok t =
+    cycle.Lts-repeated.spec (repeated-cs t) (at repeated t) (rank repeated .post) (λ c κs. search needs) (λ c. omega arith) (λ c κs. omega arith)
+    (λ c. omega (arith, repeated-fit t c)) (λ c. omega (arith, repeated-fit t (search))) (λ c κs. search needs)
+    (λ c. omega (arith, repeated-fit t (search))) (λ c κs. omega (arith, repeated-fit t (search))) (λ c κs. omega (arith, repeated-fit t (search)))
+    (λ c. omega (arith, repeated-fit t (search))) (λ c. omega (arith, repeated-fit t (search))) (λ c κs. search needs)
+    (λ c κs. let after-tops = c .before .before .before .before .before in let after-fresh = after-tops .before .before in
     let after-count = after-fresh .before .before .before in let after-if1 = after-count .before .before .before in
     let after-node-at = after-if1 .before .before in let start = after-node-at .before .before .before .before .before in
-    both (omega (arith, start .pre .0))
-    (repeated-body _ (after-node-at .node-at .ensures) (after-if1 .if1 .taken) refl (after-count .count .ensures) (after-fresh .fresh .ensures)
-    (after-tops .tops .ensures) (start .pre .1))
-
-repeated-forms-requires : (t : ℕ) → repeated-lts.Need-forms-requires (repeated-cs t) (at repeated-rank t) repeated.Post
-repeated-forms-requires t c κs =
-    let after-plain = c .before .before .before .before .before .before in let after-in-loop = after-plain .before in
+    both (omega (arith, start .pre .0)) (repeated-body _ (after-node-at .node-at .ensures) (after-if1 .if1 .taken) refl
+    (after-count .count .ensures) (after-fresh .fresh .ensures) (after-tops .tops .ensures) (start .pre .1)))
+    (λ c κs. let after-plain = c .before .before .before .before .before .before in let after-in-loop = after-plain .before in
+    let after-tops = after-in-loop .before .before .before .before .before in let after-fresh = after-tops .before .before in
+    let after-less = after-fresh .before in let after-count = after-less .before .before in
+    let after-if1 = after-count .before .before .before in let after-node-at = after-if1 .before .before in
+    let start = after-node-at .before .before .before .before .before in both (omega (arith, start .pre .0))
+    (both (repeated-forms _ (after-node-at .node-at .ensures) (after-if1 .if1 .taken) refl (after-count .count .ensures)
+    (after-fresh .fresh .ensures) (after-tops .tops .ensures) _ (start .args .ways) (after-less .less .ensures) (gave-u-at _ refl
+    (after-in-loop .in-loop .ensures) (after-plain .plain .ensures)) (start .pre .1))
+    (omega (arith, repeated-fit t after-count, after-less .less .ensures)))) (λ c. search needs) (λ c. search needs)
+    (λ c. let after-forms = c .before .before .before .before in
+    let after-plain = after-forms .before .before .before .before .before .before .before in let after-in-loop = after-plain .before in
     let after-tops = after-in-loop .before .before .before .before .before in let after-fresh = after-tops .before .before in
     let after-less = after-fresh .before in let after-count = after-less .before .before in let after-if1 = after-count .before .before .before in
-    let after-node-at = after-if1 .before .before in let start = after-node-at .before .before .before .before .before in
-    both (omega (arith, start .pre .0)) (both (repeated-forms _ (after-node-at .node-at .ensures) (after-if1 .if1 .taken) refl
-    (after-count .count .ensures) (after-fresh .fresh .ensures) (after-tops .tops .ensures) (start .args .source .now) (start .args .ways)
-    (after-less .less .ensures) (gave-u-at (start .args .source .now) refl (after-in-loop .in-loop .ensures) (after-plain .plain .ensures))
-    (start .pre .1)) (omega (arith, repeated-fit t after-count, after-less .less .ensures)))
-
-repeated-returns : (t : ℕ) → repeated-lts.Need-returns (repeated-cs t) (at repeated-rank t) repeated.Post
-repeated-returns t c =
-    let after-forms = c .before .before .before .before in let after-plain = after-forms .before .before .before .before .before .before .before in
-    let after-in-loop = after-plain .before in let after-tops = after-in-loop .before .before .before .before .before in
-    let after-fresh = after-tops .before .before in let after-less = after-fresh .before in let after-count = after-less .before .before in
-    let after-if1 = after-count .before .before .before in let after-node-at = after-if1 .before .before in
-    repeated-gave _ (after-node-at .node-at .ensures) (after-if1 .if1 .taken) refl (after-count .count .ensures) (after-fresh .fresh .ensures)
-    (after-tops .tops .ensures) _ _ (after-less .less .ensures) (gave-u-at _ refl (after-in-loop .in-loop .ensures) (after-plain .plain .ensures))
-    (after-forms .forms .ensures)
-
-pub repeated-ok : {M : Type 1} (t : ℕ) → repeated-lts.Closed (repeated-cs t) (at repeated-rank t) repeated.Post M
-repeated-ok t =
-    repeated-lts.spec (repeated-cs t) (at repeated-rank t) repeated.Post (λ c κs. search needs) (λ c. omega arith) (λ c κs. omega arith)
-    (λ c. omega (arith, repeated-fit t c)) (λ c. omega (arith, repeated-fit t (c .before))) (λ c κs. search needs)
-    (λ c. omega (arith, repeated-fit t (c .before .before))) (λ c κs. omega (arith, repeated-fit t (c .before .before)))
-    (λ c κs. omega (arith, repeated-fit t (c .before .before .before .before)))
-    (λ c. omega (arith, repeated-fit t (c .before .before .before .before .before .before .before .before .before)))
-    (λ c. omega (arith, repeated-fit t (c .before .before .before .before .before .before .before .before .before))) (λ c κs. search needs)
-    (repeated-plain-requires t) (repeated-forms-requires t) (λ c. search needs) (λ c. search needs) (repeated-returns t)
-    (λ c κs. search (needs, once-part)) (λ c. search needs) (λ c. search needs) (λ c. search once-gave)
+    let after-node-at = after-if1 .before .before in repeated-gave _ (after-node-at .node-at .ensures) (after-if1 .if1 .taken) refl
+    (after-count .count .ensures) (after-fresh .fresh .ensures) (after-tops .tops .ensures) _ _ (after-less .less .ensures) (gave-u-at _ refl
+    (after-in-loop .in-loop .ensures) (after-plain .plain .ensures)) (after-forms .forms .ensures)) (λ c κs. search (needs, once-part))
+    (λ c. search needs) (λ c. search needs) (λ c. search once-gave)

@@ -1,7 +1,8 @@
 -- What @ and := take: an address, a left side, an assignment.
 use Rattle.compiler.proofs as proofs
+use proofs.steps as steps
 use Rattle.compiler.proofs.walk.+address+applied+args+assign+bare+block+cases+chain+command+expr+for_to+form+forms+indexed+list+local+locals+located+monadic+passed+plain+refuse+repeated+side+stored+switch+test+when+while_do as cycle
-use Rattle.laws.proofs.Basics.{ℕ, _-_, _≡_, refl, ap, _∙_, length, arith, needs}
+use Rattle.laws.proofs.Basics.{ℕ, _-_, _^_, _<_, _≡_, refl, ap, _∙_, [], length, arith, needs}
 use Rattle.compiler.proofs.Assigning.{AssignPart, assign-begin, assign-is, assign-right, assign-left, assign-next, assign-end}
 use Rattle.compiler.proofs.Sides.{side-open, side-refused, side-name, side-part, side-pling, side-left, side-right, side-index-gave}
 use Rattle.compiler.proofs.Sides.{gave-side-at, gave-refused-at, monadic-part, refuse-gave, address-open, address-pling, address-refused}
@@ -10,467 +11,246 @@ use Rattle.compiler.specs.Assigns.{ReadyAssign}
 use Rattle.compiler.proofs.Vocabulary.{Here, raised}
 use Rattle.compiler.proofs.Calls.{suffixes-ready-at, suffixes-gave-at}
 use Rattle.compiler.proofs.Expressions.{bracket-part, ready-at, gave-at, left-at, some-left}
-use proofs.walk.address.Reads as address
-use cycle.Lts-address as address-lts
-use proofs.walk.applied.Reads as applied
-use proofs.walk.args.Reads as args
-use proofs.walk.assign.Reads as assign
-use cycle.Lts-assign as assign-lts
-use proofs.walk.expr.Reads as expr
-use proofs.walk.located.Reads as located
-use cycle.Lts-located as located-lts
-use proofs.walk.refuse.Reads as refuse
-use cycle.Lts-refuse as refuse-lts
-use proofs.walk.side.Reads as side
-use cycle.Lts-side as side-lts
-use proofs.walk.stored.Reads as stored
-use cycle.Lts-stored as stored-lts
-use proofs.scope.entry.Reads as entry
-use proofs.scope.lookup.Reads as lookup
-use proofs.steps.inside.Reads as inside
-use proofs.steps.keep.Reads as keep
-use proofs.steps.less.Reads as less
-use proofs.steps.name_address.Reads as name-address
-use proofs.steps.name_store.Reads as name-store
-use proofs.steps.node_at.Reads as node-at
-use proofs.steps.put.Reads as put
-use proofs.steps.raised.Reads as raised-reads
-use proofs.steps.store_indexed.Reads as store-indexed
-use proofs.steps.store_through.Reads as store-through
-use proofs.steps.wrong.Reads as wrong
-use cycle.Proof.Ranks.{at, below, both, eight, nine, address-rank, applied-rank, assign-rank, expr-rank, located-rank, refuse-rank, side-rank}
-use cycle.Proof.Ranks.{stored-rank}
+use cycle.Proof.Ranks.{rank, at, below, calls, both, four, eight, nine, eleven, address, applied, assign, expr, located, refuse, side, stored}
 
-abbrev address-cs : ℕ → address-lts.Claims
+abbrev address-cs : ℕ → cycle.Lts-address.Claims
 address-cs t =
-    eight (node-at.Asked, node-at.Learnt) (inside.Asked, inside.Learnt) (below address-rank t, address.Post) (lookup.Asked, lookup.Learnt)
-    (name-address.Asked, name-address.Learnt) (below located-rank t, located.Post) (below expr-rank t, expr.Post) (below refuse-rank t, refuse.Post)
+    eight (steps.node_at.Reads.Asked, steps.node_at.Reads.Learnt) (steps.inside.Reads.Asked, steps.inside.Reads.Learnt) (calls address t)
+    (proofs.scope.lookup.Reads.Asked, proofs.scope.lookup.Reads.Learnt) (steps.name_address.Reads.Asked, steps.name_address.Reads.Learnt)
+    (calls located t) (calls expr t) (calls refuse t)
 
-address-expr-requires : (t : ℕ) → address-lts.Need-expr-requires (address-cs t) (at address-rank t) address.Post
-address-expr-requires t c κs =
-    both (omega (arith, c .before .before .before .before .before .before .before .before .before .before .before .pre .0, left-at, some-left))
-    (search (ready-at, monadic-part))
-
-address-returns-4 : (t : ℕ) → address-lts.Need-returns-4 (address-cs t) (at address-rank t) address.Post
-address-returns-4 t c =
-    c .before .before .before .before .located .ensures
-    (c .before .before .before .before .before .before .before .before .before .before .before .before .before .args .place)
-
-address-returns-5 : (t : ℕ) → address-lts.Need-returns-5 (address-cs t) (at address-rank t) address.Post
-address-returns-5 t c =
-    let after-refuse = c .before .before .before .before in let after-if1 = after-refuse .before .before .before in
-    let after-match = after-if1 .before .before in let after-node-at = after-match .before in
-    let start = after-node-at .before .before .before .before .before in
-    address-refused (start .args .source .now) (start .args .place) _ (after-node-at .node-at .ensures)
-    (λ e. omega (arith, e, after-match .match .keys4)) (λ e. omega (arith, e, after-match .match .keys4))
-    (λ e. omega (arith, e, after-match .match .keys4)) (λ e v. after-if1 .if1 .left v) (after-refuse .refuse .ensures)
-
-address-returns-6 : (t : ℕ) → address-lts.Need-returns-6 (address-cs t) (at address-rank t) address.Post
-address-returns-6 t c =
-    let after-refuse2 = c .before .before .before .before in let after-match = after-refuse2 .before .before .before in
-    let after-node-at = after-match .before in
-    address-refused _ _ _ (after-node-at .node-at .ensures) (after-match .match .rest .0 .0 .0 .1) (after-match .match .rest .0 .0 .1)
-    (after-match .match .rest .0 .1) (λ e v. after-match .match .rest .1 e) (after-refuse2 .refuse2 .ensures)
-
-pub address-ok : {M : Type 1} (t : ℕ) → address-lts.Closed (address-cs t) (at address-rank t) address.Post M
+pub address-ok : {M : Type 1} (t : ℕ) → cycle.Lts-address.Closed (address-cs t) (at address t) (rank address .post) M
 address-ok t =
-    address-lts.spec (address-cs t) (at address-rank t) address.Post (λ c κs. search needs) (λ c κs. search needs)
+    cycle.Lts-address.spec (address-cs t) (at address t) (rank address .post) (λ c κs. search needs) (λ c κs. search needs)
     (λ c κs. (omega (arith, left-at, some-left), (search (ready-at, bracket-part), search needs))) (λ c κs. omega arith) (λ c κs. search needs)
-    (λ c κs. search needs) (λ c κs. search needs) (address-expr-requires t) (λ c. search needs) (λ c. search needs)
+    (λ c κs. search needs) (λ c κs. search needs)
+    (λ c κs. both (let falls = c .before .before .before .before .before .before .before .before .before .before .before .pre .0 in
+    omega (arith, left-at, some-left)) (search (ready-at, monadic-part))) (λ c. search needs) (λ c. search needs)
     (λ c. search (address-pling, gave-at)) (λ c κs. search needs) (λ c κs. search needs) (λ c. search needs) (λ c. search needs)
     (λ c. search (address-open, gave-address-at)) (λ c. search needs) (λ c. search needs) (λ c. search address-name) (λ c. search needs)
-    (λ c. search needs) (address-returns-4 t) (λ c. search needs) (λ c. search needs) (address-returns-5 t) (λ c. search needs) (λ c. search needs)
-    (address-returns-6 t)
+    (λ c. search needs)
+    (λ c. c .before .before .before .before .located .ensures
+    (c .before .before .before .before .before .before .before .before .before .before .before .before .before .args .place)) (λ c. search needs)
+    (λ c. search needs)
+    (λ c. let after-refuse = c .before .before .before .before in let after-if1 = after-refuse .before .before .before in
+    let after-match = after-if1 .before .before in let after-node-at = after-match .before in
+    address-refused _ _ _ (after-node-at .node-at .ensures) (omega (arith, after-match .match .keys4)) (λ e v. after-if1 .if1 .left v)
+    (after-refuse .refuse .ensures)) (λ c. search needs) (λ c. search needs)
+    (λ c. let after-refuse2 = c .before .before .before .before in let after-match = after-refuse2 .before .before .before in
+    let after-node-at = after-match .before in address-refused _ _ _ (after-node-at .node-at .ensures) (after-match .match .rest .0)
+    (λ e v. after-match .match .rest .1 e) (after-refuse2 .refuse2 .ensures))
 
-abbrev located-cs : ℕ → located-lts.Claims
+abbrev located-cs : ℕ → cycle.Lts-located.Claims
 located-cs t =
-    nine (node-at.Asked, node-at.Learnt) (less.Asked, less.Learnt) (entry.Asked, entry.Learnt) (inside.Asked, inside.Learnt)
-    (below applied-rank t, applied.Post) (keep.Asked, keep.Learnt) (raised-reads.Asked, raised-reads.Learnt) (below expr-rank t, expr.Post)
-    (put.Asked, put.Learnt)
+    nine (steps.node_at.Reads.Asked, steps.node_at.Reads.Learnt) (steps.less.Reads.Asked, steps.less.Reads.Learnt)
+    (proofs.scope.entry.Reads.Asked, proofs.scope.entry.Reads.Learnt) (steps.inside.Reads.Asked, steps.inside.Reads.Learnt) (calls applied t)
+    (steps.keep.Reads.Asked, steps.keep.Reads.Learnt) (steps.raised.Reads.Asked, steps.raised.Reads.Learnt) (calls expr t)
+    (steps.put.Reads.Asked, steps.put.Reads.Learnt)
 
-located-applied-requires : (t : ℕ) → located-lts.Need-applied-requires (located-cs t) (at located-rank t) located.Post
-located-applied-requires t c κs =
-    let after-inside = c .before .before .before in let after-less2 = after-inside .before in let after-entry = after-less2 .before in
+pub located-ok : {M : Type 1} (t : ℕ) → cycle.Lts-located.Closed (located-cs t) (at located t) (rank located .post) M
+located-ok t =
+    cycle.Lts-located.spec (located-cs t) (at located t) (rank located .post) (λ c κs. search needs) (λ c κs. search needs) (λ c κs. search needs)
+    (λ c κs. search needs) (λ c κs. search needs) (λ c. omega arith)
+    (λ c κs. let after-inside = c .before .before .before in let after-less2 = after-inside .before in let after-entry = after-less2 .before in
     let after-less = after-entry .before .before in let after-node-at = after-less .before in
     let start = after-node-at .before .before .before .before .before in
     both (omega (arith, start .pre .0, left-at, some-left, start .pre .1 .0 .small)) (suffixes-ready-at (after-inside .inside .ensures)
     (address-left _ (after-node-at .node-at .ensures) (start .pre .1 .1) refl (after-less .less .ensures) (after-entry .entry .ensures .0)
-    (after-less2 .less2 .ensures) (start .pre .1 .0)))
-
-located-keep-requires : (t : ℕ) → located-lts.Need-keep-requires (located-cs t) (at located-rank t) located.Post
-located-keep-requires t c κs =
-    let start = c .before .before .before .before .before .before .before .before .before .before .before .before .before .before .before .before
-    .before .before .before in
-    omega (arith, start .pre .1 .0 .height)
-
-located-raised-requires : (t : ℕ) → located-lts.Need-raised-requires (located-cs t) (at located-rank t) located.Post
-located-raised-requires t c κs =
-    let after-inside = c .before .before .before .before .before .before .before .before .before .before .before .before .before .before in
-    let start = after-inside .before .before .before .before .before .before .before .before .before .before in
-    omega (arith, start .pre .1 .0 .height, ap (λ (x : Here). x .height) (after-inside .inside .ensures))
-
-located-expr-requires : (t : ℕ) → located-lts.Need-expr-requires (located-cs t) (at located-rank t) located.Post
-located-expr-requires t c κs =
-    let after-keep = c .before .before .before .before .before in let after-applied = after-keep .before .before .before .before .before .before in
+    (after-less2 .less2 .ensures) (start .pre .1 .0))))
+    (λ c κs. let start = c .before .before .before .before .before .before .before .before .before .before .before .before .before .before .before
+    .before .before .before .before in omega (arith, start .pre .1 .0 .height))
+    (λ c κs. let after-inside = c .before .before .before .before .before .before .before .before .before .before .before .before .before
+    .before in let start = after-inside .before .before .before .before .before .before .before .before .before .before in
+    omega (arith, start .pre .1 .0 .height, ap (λ (x : Here). x .height) (after-inside .inside .ensures)))
+    (λ c κs. let after-keep = c .before .before .before .before .before in
+    let after-applied = after-keep .before .before .before .before .before .before in
     let after-inside = after-applied .before .before .before .before in let after-less2 = after-inside .before in
     let after-entry = after-less2 .before in let after-less = after-entry .before .before in let after-node-at = after-less .before in
-    let start = after-node-at .before .before .before .before .before in
-    both (omega (arith, start .pre .0, left-at, some-left)) (ready-at (c .raised .ensures ∙ ap (raised 1) (after-inside .inside .ensures))
-    (address-right _ (after-node-at .node-at .ensures) (start .pre .1 .1) refl (after-less .less .ensures) (after-entry .entry .ensures .0)
-    (after-less2 .less2 .ensures) _ (suffixes-gave-at (after-inside .inside .ensures) (after-applied .applied .ensures))
-    (after-keep .keep .ensures) (start .pre .1 .0)))
-
-located-same-length : (t : ℕ) → located-lts.Need-same-length (located-cs t) (at located-rank t) located.Post
-located-same-length t c =
-    c .before .before .before .before .before .before .before .before .expr .kept .1 .0
+    let start = after-node-at .before .before .before .before .before in both (omega (arith, start .pre .0, left-at, some-left))
+    (ready-at (c .raised .ensures ∙ ap (raised 1) (after-inside .inside .ensures)) (address-right _ (after-node-at .node-at .ensures)
+    (start .pre .1 .1) refl (after-less .less .ensures) (after-entry .entry .ensures .0) (after-less2 .less2 .ensures) _ (suffixes-gave-at
+    (after-inside .inside .ensures) (after-applied .applied .ensures)) (after-keep .keep .ensures) (start .pre .1 .0)))) (λ c κs. search needs)
+    (λ c. c .before .before .before .before .before .before .before .before .expr .kept .1 .0
     ∙ c .before .before .before .before .before .before .before .before .before .before .before .before .before .before .before .before .before
-    .before .before .before .applied .kept .1 .0
-
-located-same-length-2 : (t : ℕ) → located-lts.Need-same-length-2 (located-cs t) (at located-rank t) located.Post
-located-same-length-2 t c =
-    let after-expr = c .before .before .before .before .before .before .before .before in
+    .before .before .before .applied .kept .1 .0)
+    (λ c. let after-expr = c .before .before .before .before .before .before .before .before in
     let after-keep = after-expr .before .before .before .before .before .before in
-    let after-applied = after-keep .before .before .before .before .before .before in
-    c .before .before .put .kept .0 ∙ after-expr .expr .kept .1 .1 .1 .0 ∙ after-keep .keep .kept .0 ∙ after-applied .applied .kept .1 .1 .1 .1 .0
-
-located-returns : (t : ℕ) → located-lts.Need-returns (located-cs t) (at located-rank t) located.Post
-located-returns t c =
-    let after-expr = c .before .before .before .before .before .before .before .before in let after-raised = after-expr .before in
+    let after-applied = after-keep .before .before .before .before .before .before in c .before .before .put .kept .0
+    ∙ after-expr .expr .kept .1 .1 .1 .0 ∙ after-keep .keep .kept .0 ∙ after-applied .applied .kept .1 .1 .1 .1 .0)
+    (λ c. let after-expr = c .before .before .before .before .before .before .before .before in let after-raised = after-expr .before in
     let after-keep = after-raised .before .before .before .before .before in
     let after-applied = after-keep .before .before .before .before .before .before in
     let after-inside = after-applied .before .before .before .before in let after-less2 = after-inside .before in
     let after-entry = after-less2 .before in let after-less = after-entry .before .before in let after-node-at = after-less .before in
-    let start = after-node-at .before .before .before .before .before in
-    address-index-gave _ (after-node-at .node-at .ensures) (start .pre .1 .1) refl (after-less .less .ensures) (after-entry .entry .ensures .0)
-    (after-less2 .less2 .ensures) _ (suffixes-gave-at (after-inside .inside .ensures) (after-applied .applied .ensures)) (after-keep .keep .ensures)
-    (gave-at _ (after-raised .raised .ensures ∙ ap (raised 1) (after-inside .inside .ensures)) (after-expr .expr .ensures))
-    (c .before .before .put .ensures)
+    let start = after-node-at .before .before .before .before .before in address-index-gave _ (after-node-at .node-at .ensures) (start .pre .1 .1)
+    refl (after-less .less .ensures) (after-entry .entry .ensures .0) (after-less2 .less2 .ensures) _ (suffixes-gave-at
+    (after-inside .inside .ensures) (after-applied .applied .ensures)) (after-keep .keep .ensures) (gave-at _ (after-raised .raised .ensures
+    ∙ ap (raised 1) (after-inside .inside .ensures)) (after-expr .expr .ensures)) (c .before .before .put .ensures))
 
-pub located-ok : {M : Type 1} (t : ℕ) → located-lts.Closed (located-cs t) (at located-rank t) located.Post M
-located-ok t =
-    located-lts.spec (located-cs t) (at located-rank t) located.Post (λ c κs. search needs) (λ c κs. search needs) (λ c κs. search needs)
-    (λ c κs. search needs) (λ c κs. search needs) (λ c. omega arith) (located-applied-requires t) (located-keep-requires t)
-    (located-raised-requires t) (located-expr-requires t) (λ c κs. search needs) (located-same-length t) (located-same-length-2 t) (located-returns t)
+abbrev refuse-cs : ℕ → cycle.Lts-refuse.Claims
+refuse-cs t = (below expr t, rank expr .post, steps.wrong.Reads.Asked, steps.wrong.Reads.Learnt)
 
-abbrev refuse-cs : ℕ → refuse-lts.Claims
-refuse-cs t = (below expr-rank t, expr.Post, wrong.Asked, wrong.Learnt)
-
-pub refuse-ok : {M : Type 1} (t : ℕ) → refuse-lts.Closed (refuse-cs t) (at refuse-rank t) refuse.Post M
+pub refuse-ok : {M : Type 1} (t : ℕ) → cycle.Lts-refuse.Closed (refuse-cs t) (at refuse t) (rank refuse .post) M
 refuse-ok t =
-    refuse-lts.spec (refuse-cs t) (at refuse-rank t) refuse.Post (λ c κs. search needs) (λ c κs. search needs) (λ c. search needs) (λ c. search needs)
-    (λ c. search refuse-gave)
+    cycle.Lts-refuse.spec (refuse-cs t) (at refuse t) (rank refuse .post) (λ c κs. search needs) (λ c κs. search needs) (λ c. search needs)
+    (λ c. search needs) (λ c. search refuse-gave)
 
-abbrev side-cs : ℕ → side-lts.Claims
-side-cs t = (
-  node-at.Asked,
-  node-at.Learnt,
-  inside.Asked,
-  inside.Learnt,
-  below side-rank t,
-  side.Post,
-  lookup.Asked,
-  lookup.Learnt,
-  name-store.Asked,
-  name-store.Learnt,
-  below stored-rank t,
-  stored.Post,
-  keep.Asked,
-  keep.Learnt,
-  raised-reads.Asked,
-  raised-reads.Learnt,
-  below expr-rank t,
-  expr.Post,
-  store-through.Asked,
-  store-through.Learnt,
-  below refuse-rank t,
-  refuse.Post,
-)
+abbrev side-cs : ℕ → cycle.Lts-side.Claims
+side-cs t =
+    eleven (steps.node_at.Reads.Asked, steps.node_at.Reads.Learnt) (steps.inside.Reads.Asked, steps.inside.Reads.Learnt) (calls side t)
+    (proofs.scope.lookup.Reads.Asked, proofs.scope.lookup.Reads.Learnt) (steps.name_store.Reads.Asked, steps.name_store.Reads.Learnt) (calls stored t)
+    (steps.keep.Reads.Asked, steps.keep.Reads.Learnt) (steps.raised.Reads.Asked, steps.raised.Reads.Learnt) (calls expr t)
+    (steps.store_through.Reads.Asked, steps.store_through.Reads.Learnt) (calls refuse t)
 
-side-side-requires : (t : ℕ) → side-lts.Need-side-requires (side-cs t) (at side-rank t) side.Post
-side-side-requires t c κs =
-    let after-match = c .before .before .before in let after-node-at = after-match .before in
-    let start = after-node-at .before .before .before .before .before in
-    both (omega (arith, left-at, some-left)) (both (ready-at (ap (raised 1) (c .inside .ensures))
-    (bracket-part _ (after-node-at .node-at .ensures) (after-match .match .keys1) (start .pre .1 .0))) (start .pre .1 .1))
-
-side-raised-requires : (t : ℕ) → side-lts.Need-raised-requires (side-cs t) (at side-rank t) side.Post
-side-raised-requires t c κs =
-    omega (
-      arith,
-      c .before .before .before .before .before .before .before .before .before .before .before .before .before .before .before .pre .1 .0 .height,
-      ap (λ (x : Here). x .height) (c .inside2 .ensures),
-    )
-
-side-expr-requires : (t : ℕ) → side-lts.Need-expr-requires (side-cs t) (at side-rank t) side.Post
-side-expr-requires t c κs =
-    let after-keep = c .before .before .before .before .before .before in let after-match = after-keep .before .before .before .before in
-    let after-node-at = after-match .before in let start = after-node-at .before .before .before .before .before in
-    both (omega (arith, start .pre .0, left-at, some-left)) (ready-at (c .raised .ensures ∙ ap (raised 1) (c .before .inside2 .ensures))
-    (side-part (start .args .source .now) (start .args .place) _ (after-node-at .node-at .ensures) (after-match .match .keys4)
-    (after-keep .keep .ensures) (start .pre .1 .0)))
-
-side-store-through-requires : (t : ℕ) → side-lts.Need-store-through-requires (side-cs t) (at side-rank t) side.Post
-side-store-through-requires t c κs =
-    let start = c .before .before .before .before .before .before .before .before .before .before .before .before .before .before .before .before
-    .before .before .before .before .before .before in
-    omega (arith, start .pre .1 .0 .height)
-
-side-returns : (t : ℕ) → side-lts.Need-returns (side-cs t) (at side-rank t) side.Post
-side-returns t c =
-    let after-expr = c .before .before .before .before .before .before .before .before in let after-raised = after-expr .before in
+pub side-ok : {M : Type 1} (t : ℕ) → cycle.Lts-side.Closed (side-cs t) (at side t) (rank side .post) M
+side-ok t =
+    cycle.Lts-side.spec (side-cs t) (at side t) (rank side .post) (λ c κs. search needs) (λ c κs. search needs)
+    (λ c κs. let after-match = c .before .before .before in let after-node-at = after-match .before in
+    let start = after-node-at .before .before .before .before .before in both (omega (arith, left-at, some-left))
+    (both (ready-at (ap (raised 1) (c .inside .ensures)) (bracket-part _ (after-node-at .node-at .ensures) (after-match .match .keys1)
+    (start .pre .1 .0))) (start .pre .1 .1))) (λ c κs. omega arith) (λ c κs. search needs) (λ c κs. search needs) (λ c κs. omega arith)
+    (λ c κs. search needs)
+    (λ c κs. let height = c .before .before .before .before .before .before .before .before .before .before .before .before .before .before .before
+    .pre .1 .0 .height in let same-height = ap (λ (x : Here). x .height) (c .inside2 .ensures) in omega arith)
+    (λ c κs. let after-keep = c .before .before .before .before .before .before in
+    let after-match = after-keep .before .before .before .before in let after-node-at = after-match .before in
+    let start = after-node-at .before .before .before .before .before in both (omega (arith, start .pre .0, left-at, some-left))
+    (ready-at (c .raised .ensures ∙ ap (raised 1) (c .before .inside2 .ensures)) (side-part [] 0 _ (after-node-at .node-at .ensures)
+    (after-match .match .keys4) (after-keep .keep .ensures) (start .pre .1 .0))))
+    (λ c κs. let start = c .before .before .before .before .before .before .before .before .before .before .before .before .before .before .before
+    .before .before .before .before .before .before .before in omega (arith, start .pre .1 .0 .height)) (λ c. search needs) (λ c. search needs)
+    (λ c. let after-expr = c .before .before .before .before .before .before .before .before in let after-raised = after-expr .before in
     let after-inside2 = after-raised .before in let after-keep = after-inside2 .before .before .before .before .before in
     let after-if1 = after-keep .before .before in let after-match = after-if1 .before .before in let after-node-at = after-match .before in
     side-pling _ _ _ (after-node-at .node-at .ensures) (after-match .match .keys4) (after-keep .keep .ensures) (after-if1 .if1 .taken)
     (gave-at _ (after-raised .raised .ensures ∙ ap (raised 1) (after-inside2 .inside2 .ensures)) (after-expr .expr .ensures))
-    (c .before .before .store-through .ensures)
-
-side-refuse-requires : (t : ℕ) → side-lts.Need-refuse-requires (side-cs t) (at side-rank t) side.Post
-side-refuse-requires t c κs =
-    both (omega (arith, c .before .before .before .before .before .before .before .before .before .before .before .pre .0, left-at))
-    (both (search ready-at) (search needs))
-
-side-returns-4 : (t : ℕ) → side-lts.Need-returns-4 (side-cs t) (at side-rank t) side.Post
-side-returns-4 t c =
-    c .before .before .before .before .stored .ensures
-    (c .before .before .before .before .before .before .before .before .before .before .before .before .before .args .place)
-
-side-returns-5 : (t : ℕ) → side-lts.Need-returns-5 (side-cs t) (at side-rank t) side.Post
-side-returns-5 t c =
-    let after-refuse = c .before .before .before .before in let after-raised2 = after-refuse .before in
-    let after-if1 = after-raised2 .before .before .before in let after-match = after-if1 .before .before in let after-node-at = after-match .before in
-    let start = after-node-at .before .before .before .before .before in
-    side-refused (start .args .source .now) (start .args .place) (start .args .here) _ (after-node-at .node-at .ensures)
-    (λ e. omega (arith, e, after-match .match .keys4)) (λ e. omega (arith, e, after-match .match .keys4))
-    (λ e. omega (arith, e, after-match .match .keys4)) (λ e v. after-if1 .if1 .left v)
-    (gave-refused-at (after-raised2 .raised2 .ensures) (after-refuse .refuse .ensures))
-
-side-returns-6 : (t : ℕ) → side-lts.Need-returns-6 (side-cs t) (at side-rank t) side.Post
-side-returns-6 t c =
-    let after-refuse2 = c .before .before .before .before in let after-raised3 = after-refuse2 .before in
+    (c .before .before .store-through .ensures)) (λ c κs. omega arith)
+    (λ c κs. both (omega (arith, c .before .before .before .before .before .before .before .before .before .before .before .pre .0, left-at))
+    (search ready-at)) (λ c κs. omega arith) (λ c κs. (omega (arith, left-at), (search ready-at, search needs))) (λ c. search needs)
+    (λ c. search needs) (λ c. search (side-open, gave-side-at)) (λ c. search needs) (λ c. search needs) (λ c. search side-name) (λ c. search needs)
+    (λ c. search needs)
+    (λ c. c .before .before .before .before .stored .ensures
+    (c .before .before .before .before .before .before .before .before .before .before .before .before .before .args .place)) (λ c. search needs)
+    (λ c. search needs)
+    (λ c. let after-refuse = c .before .before .before .before in let after-raised2 = after-refuse .before in
+    let after-if1 = after-raised2 .before .before .before in let after-match = after-if1 .before .before in
+    let after-node-at = after-match .before in side-refused _ _ _ _ (after-node-at .node-at .ensures)
+    (omega (arith, after-match .match .keys4)) (λ e v. after-if1 .if1 .left v) (gave-refused-at (after-raised2 .raised2 .ensures)
+    (after-refuse .refuse .ensures))) (λ c. search needs) (λ c. search needs)
+    (λ c. let after-refuse2 = c .before .before .before .before in let after-raised3 = after-refuse2 .before in
     let after-match = after-raised3 .before .before .before in let after-node-at = after-match .before in
-    let start = after-node-at .before .before .before .before .before in
-    side-refused _ _ (start .args .here) _ (after-node-at .node-at .ensures) (after-match .match .rest .0 .0 .0 .1)
-    (after-match .match .rest .0 .0 .1) (after-match .match .rest .0 .1) (λ e v. after-match .match .rest .1 e)
-    (gave-refused-at (after-raised3 .raised3 .ensures) (after-refuse2 .refuse2 .ensures))
+    side-refused _ _ _ _ (after-node-at .node-at .ensures) (after-match .match .rest .0) (λ e v. after-match .match .rest .1 e) (gave-refused-at
+    (after-raised3 .raised3 .ensures) (after-refuse2 .refuse2 .ensures)))
 
-pub side-ok : {M : Type 1} (t : ℕ) → side-lts.Closed (side-cs t) (at side-rank t) side.Post M
-side-ok t =
-    side-lts.spec (side-cs t) (at side-rank t) side.Post (λ c κs. search needs) (λ c κs. search needs) (side-side-requires t) (λ c κs. omega arith)
-    (λ c κs. search needs) (λ c κs. search needs) (λ c κs. omega arith) (λ c κs. search needs) (side-raised-requires t) (side-expr-requires t)
-    (side-store-through-requires t) (λ c. search needs) (λ c. search needs) (side-returns t) (λ c κs. omega arith) (side-refuse-requires t)
-    (λ c κs. omega arith) (λ c κs. (omega (arith, left-at), (search ready-at, search needs))) (λ c. search needs) (λ c. search needs)
-    (λ c. search (side-open, gave-side-at)) (λ c. search needs) (λ c. search needs) (λ c. search side-name) (λ c. search needs) (λ c. search needs)
-    (side-returns-4 t) (λ c. search needs) (λ c. search needs) (side-returns-5 t) (λ c. search needs) (λ c. search needs) (side-returns-6 t)
-
-abbrev stored-cs : ℕ → stored-lts.Claims
+abbrev stored-cs : ℕ → cycle.Lts-stored.Claims
 stored-cs t =
-    nine (node-at.Asked, node-at.Learnt) (less.Asked, less.Learnt) (entry.Asked, entry.Learnt) (inside.Asked, inside.Learnt)
-    (raised-reads.Asked, raised-reads.Learnt) (keep.Asked, keep.Learnt) (below applied-rank t, applied.Post) (below expr-rank t, expr.Post)
-    (store-indexed.Asked, store-indexed.Learnt)
+    nine (steps.node_at.Reads.Asked, steps.node_at.Reads.Learnt) (steps.less.Reads.Asked, steps.less.Reads.Learnt)
+    (proofs.scope.entry.Reads.Asked, proofs.scope.entry.Reads.Learnt) (steps.inside.Reads.Asked, steps.inside.Reads.Learnt)
+    (steps.raised.Reads.Asked, steps.raised.Reads.Learnt) (steps.keep.Reads.Asked, steps.keep.Reads.Learnt) (calls applied t) (calls expr t)
+    (steps.store_indexed.Reads.Asked, steps.store_indexed.Reads.Learnt)
 
-stored-raised-requires : (t : ℕ) → stored-lts.Need-raised-requires (stored-cs t) (at stored-rank t) stored.Post
-stored-raised-requires t c κs =
-    omega (
-      arith,
-      c .before .before .before .before .before .before .before .before .before .before .pre .1 .0 .height,
-      ap (λ (x : Here). x .height) (c .inside .ensures),
-    )
-
-stored-add-applied : (t : ℕ) → stored-lts.Need-add-applied (stored-cs t) (at stored-rank t) stored.Post
-stored-add-applied t c =
-    let after-node-at = c .before .before .before .before .before .before .before .before .before .before .before .before in
+pub stored-ok : {M : Type 1} (t : ℕ) → cycle.Lts-stored.Closed (stored-cs t) (at stored t) (rank stored .post) M
+stored-ok t =
+    cycle.Lts-stored.spec (stored-cs t) (at stored t) (rank stored .post) (λ c κs. search needs) (λ c κs. search needs) (λ c κs. search needs)
+    (λ c κs. search needs) (λ c κs. search needs)
+    (λ c κs. let height = c .before .before .before .before .before .before .before .before .before .before .pre .1 .0 .height in
+    let same-height = ap (λ (x : Here). x .height) (c .inside .ensures) in omega arith) (λ c κs. omega arith)
+    (λ c. let after-node-at = c .before .before .before .before .before .before .before .before .before .before .before .before in
     let start = after-node-at .before .before .before .before .before in
-    omega (arith, after-node-at .node-at .ensures .value-fits, after-node-at .node-at .ensures .start, start .pre .1 .0 .small)
-
-stored-applied-requires : (t : ℕ) → stored-lts.Need-applied-requires (stored-cs t) (at stored-rank t) stored.Post
-stored-applied-requires t c κs =
-    let after-keep = c .before .before .before .before .before in let after-raised = after-keep .before .before in
+    omega (arith, after-node-at .node-at .ensures .value-fits, after-node-at .node-at .ensures .start, start .pre .1 .0 .small))
+    (λ c κs. let after-keep = c .before .before .before .before .before in let after-raised = after-keep .before .before in
     let after-inside = after-raised .before in let after-less2 = after-inside .before in let after-entry = after-less2 .before in
     let after-less = after-entry .before .before in let after-node-at = after-less .before in
-    let start = after-node-at .before .before .before .before .before in
-    both (omega (
-      arith,
-      start .pre .0,
-      left-at (after-raised .raised .ensures),
-      left-at (after-inside .inside .ensures),
-      some-left (start .pre .1 .0),
-      start .pre .1 .0 .small,
-      after-node-at .node-at .ensures .inner,
-      after-less .less .ensures,
-      after-less2 .less2 .ensures,
-    ))
-    (suffixes-ready-at (after-raised .raised .ensures ∙ ap (raised 1) (after-inside .inside .ensures))
-    (side-left _ (after-node-at .node-at .ensures) (start .pre .1 .1) refl (after-less .less .ensures) (after-entry .entry .ensures .0)
-    (after-less2 .less2 .ensures) (start .args .source .now) (after-keep .keep .ensures) (start .pre .1 .0)))
-
-stored-add-keep : (t : ℕ) → stored-lts.Need-add-keep (stored-cs t) (at stored-rank t) stored.Post
-stored-add-keep t c =
-    let start = c .before .before .before .before .before .before .before .before .before .before .before .before .before .before .before .before
-    .before .before .before .before .before .before .before .before .before in
-    omega (arith, start .pre .1 .0 .height)
-
-stored-keep-requires-2 : (t : ℕ) → stored-lts.Need-keep-requires-2 (stored-cs t) (at stored-rank t) stored.Post
-stored-keep-requires-2 t c κs =
-    let start = c .before .before .before .before .before .before .before .before .before .before .before .before .before .before .before .before
-    .before .before .before .before .before .before .before .before .before in
-    omega (arith, start .pre .1 .0 .height)
-
-stored-raised-requires-2 : (t : ℕ) → stored-lts.Need-raised-requires-2 (stored-cs t) (at stored-rank t) stored.Post
-stored-raised-requires-2 t c κs =
-    let after-raised = c .before .before .before .before .before .before .before .before .before .before .before .before .before .before .before
-    .before .before .before .before in let after-inside = after-raised .before in
+    let start = after-node-at .before .before .before .before .before in both (let falls = start .pre .0 in
+    let left = left-at (after-raised .raised .ensures) in let left2 = left-at (after-inside .inside .ensures) in
+    let some = some-left (start .pre .1 .0) in let small = start .pre .1 .0 .small in let inner = after-node-at .node-at .ensures .inner in
+    let less-is = after-less .less .ensures in let less2-is = after-less2 .less2 .ensures in omega arith) (suffixes-ready-at
+    (after-raised .raised .ensures ∙ ap (raised 1) (after-inside .inside .ensures)) (side-left _ (after-node-at .node-at .ensures) (start .pre .1 .1)
+    refl (after-less .less .ensures) (after-entry .entry .ensures .0) (after-less2 .less2 .ensures) [] (after-keep .keep .ensures)
+    (start .pre .1 .0))))
+    (λ c. let start = c .before .before .before .before .before .before .before .before .before .before .before .before .before .before .before
+    .before .before .before .before .before .before .before .before .before .before in omega (arith, start .pre .1 .0 .height))
+    (λ c κs. let start = c .before .before .before .before .before .before .before .before .before .before .before .before .before .before .before
+    .before .before .before .before .before .before .before .before .before .before in omega (arith, start .pre .1 .0 .height))
+    (λ c κs. let after-raised = c .before .before .before .before .before .before .before .before .before .before .before .before .before .before
+    .before .before .before .before .before in let after-inside = after-raised .before in
     let start = after-inside .before .before .before .before .before .before .before .before .before .before in
-    omega (
-      arith,
-      start .pre .1 .0 .height,
-      ap (λ (x : Here). x .height) (after-raised .raised .ensures),
-      ap (λ (x : Here). x .height) (after-inside .inside .ensures),
-    )
-
-stored-expr-requires : (t : ℕ) → stored-lts.Need-expr-requires (stored-cs t) (at stored-rank t) stored.Post
-stored-expr-requires t c κs =
-    let after-keep2 = c .before .before .before .before .before in
+    let height = start .pre .1 .0 .height in let same-height = ap (λ (x : Here). x .height) (after-raised .raised .ensures) in
+    let same-height2 = ap (λ (x : Here). x .height) (after-inside .inside .ensures) in omega arith)
+    (λ c κs. let after-keep2 = c .before .before .before .before .before in
     let after-applied = after-keep2 .before .before .before .before .before .before .before in
     let after-keep = after-applied .before .before .before .before .before .before in let after-raised = after-keep .before .before in
     let after-inside = after-raised .before in let after-less2 = after-inside .before in let after-entry = after-less2 .before in
     let after-less = after-entry .before .before in let after-node-at = after-less .before in
-    let start = after-node-at .before .before .before .before .before in both
-    (omega (
-      arith,
-      start .pre .0,
-      left-at (c .raised2 .ensures),
-      left-at (after-raised .raised .ensures),
-      left-at (after-inside .inside .ensures),
-      some-left (start .pre .1 .0),
-    ))
-    (ready-at (c .raised2 .ensures ∙ ap (raised 1) (after-raised .raised .ensures ∙ ap (raised 1) (after-inside .inside .ensures)))
-    (side-right _ (after-node-at .node-at .ensures) (start .pre .1 .1) refl (after-less .less .ensures) (after-entry .entry .ensures .0)
-    (after-less2 .less2 .ensures) _ (after-keep .keep .ensures)
+    let start = after-node-at .before .before .before .before .before in both (let falls = start .pre .0 in
+    let left = left-at (c .raised2 .ensures) in let left2 = left-at (after-raised .raised .ensures) in
+    let left3 = left-at (after-inside .inside .ensures) in let some = some-left (start .pre .1 .0) in omega arith) (ready-at (c .raised2 .ensures
+    ∙ ap (raised 1) (after-raised .raised .ensures ∙ ap (raised 1) (after-inside .inside .ensures))) (side-right _ (after-node-at .node-at .ensures)
+    (start .pre .1 .1) refl (after-less .less .ensures) (after-entry .entry .ensures .0) (after-less2 .less2 .ensures) _ (after-keep .keep .ensures)
     (suffixes-gave-at (after-raised .raised .ensures ∙ ap (raised 1) (after-inside .inside .ensures)) (after-applied .applied .ensures))
-    (after-keep2 .keep2 .ensures) (start .pre .1 .0)))
-
-stored-store-indexed-requires : (t : ℕ) → stored-lts.Need-store-indexed-requires (stored-cs t) (at stored-rank t) stored.Post
-stored-store-indexed-requires t c κs =
-    let start = c .before .before .before .before .before .before .before .before .before .before .before .before .before .before .before .before
-    .before .before .before .before .before .before .before .before .before .before .before .before .before .before .before .before .before .before
-    .before .before .before in
-    omega (arith, start .pre .1 .0 .height)
-
-stored-same-length : (t : ℕ) → stored-lts.Need-same-length (stored-cs t) (at stored-rank t) stored.Post
-stored-same-length t c =
-    c .before .before .before .before .before .before .before .before .expr .kept .1 .0
+    (after-keep2 .keep2 .ensures) (start .pre .1 .0))))
+    (λ c κs. let start = c .before .before .before .before .before .before .before .before .before .before .before .before .before .before
+    .before .before .before .before .before .before .before .before .before .before .before .before .before .before .before .before .before
+    .before .before .before .before .before .before in omega (arith, start .pre .1 .0 .height))
+    (λ c. c .before .before .before .before .before .before .before .before .expr .kept .1 .0
     ∙ c .before .before .before .before .before .before .before .before .before .before .before .before .before .before .before .before .before
-    .before .before .before .before .applied .kept .1 .0
-
-stored-same-length-2 : (t : ℕ) → stored-lts.Need-same-length-2 (stored-cs t) (at stored-rank t) stored.Post
-stored-same-length-2 t c =
-    let after-expr = c .before .before .before .before .before .before .before .before in
+    .before .before .before .before .applied .kept .1 .0)
+    (λ c. let after-expr = c .before .before .before .before .before .before .before .before in
     let after-keep2 = after-expr .before .before .before .before .before .before in
     let after-applied = after-keep2 .before .before .before .before .before .before .before in
-    let after-keep = after-applied .before .before .before .before .before .before in
-    c .before .before .store-indexed .kept .0 ∙ after-expr .expr .kept .1 .1 .1 .0 ∙ after-keep2 .keep2 .kept .0
-    ∙ after-applied .applied .kept .1 .1 .1 .1 .0 ∙ after-keep .keep .kept .0
-
-stored-returns : (t : ℕ) → stored-lts.Need-returns (stored-cs t) (at stored-rank t) stored.Post
-stored-returns t c =
-    let after-expr = c .before .before .before .before .before .before .before .before in let after-raised2 = after-expr .before in
+    let after-keep = after-applied .before .before .before .before .before .before in c .before .before .store-indexed .kept .0
+    ∙ after-expr .expr .kept .1 .1 .1 .0 ∙ after-keep2 .keep2 .kept .0 ∙ after-applied .applied .kept .1 .1 .1 .1 .0 ∙ after-keep .keep .kept .0)
+    (λ c. let after-expr = c .before .before .before .before .before .before .before .before in let after-raised2 = after-expr .before in
     let after-keep2 = after-raised2 .before .before .before .before .before in
     let after-applied = after-keep2 .before .before .before .before .before .before .before in
     let after-keep = after-applied .before .before .before .before .before .before in let after-raised = after-keep .before .before in
     let after-inside = after-raised .before in let after-less2 = after-inside .before in let after-entry = after-less2 .before in
     let after-less = after-entry .before .before in let after-node-at = after-less .before in
-    let start = after-node-at .before .before .before .before .before in
-    side-index-gave _ (after-node-at .node-at .ensures) (start .pre .1 .1) refl (after-less .less .ensures) (after-entry .entry .ensures .0)
-    (after-less2 .less2 .ensures) _ (after-keep .keep .ensures)
-    (suffixes-gave-at (after-raised .raised .ensures ∙ ap (raised 1) (after-inside .inside .ensures)) (after-applied .applied .ensures))
-    (after-keep2 .keep2 .ensures)
+    let start = after-node-at .before .before .before .before .before in side-index-gave _ (after-node-at .node-at .ensures) (start .pre .1 .1) refl
+    (after-less .less .ensures) (after-entry .entry .ensures .0) (after-less2 .less2 .ensures) _ (after-keep .keep .ensures) (suffixes-gave-at
+    (after-raised .raised .ensures ∙ ap (raised 1) (after-inside .inside .ensures)) (after-applied .applied .ensures)) (after-keep2 .keep2 .ensures)
     (gave-at _ (after-raised2 .raised2 .ensures ∙ ap (raised 1) (after-raised .raised .ensures ∙ ap (raised 1) (after-inside .inside .ensures)))
-    (after-expr .expr .ensures)) (c .before .before .store-indexed .ensures)
+    (after-expr .expr .ensures)) (c .before .before .store-indexed .ensures))
 
-pub stored-ok : {M : Type 1} (t : ℕ) → stored-lts.Closed (stored-cs t) (at stored-rank t) stored.Post M
-stored-ok t =
-    stored-lts.spec (stored-cs t) (at stored-rank t) stored.Post (λ c κs. search needs) (λ c κs. search needs) (λ c κs. search needs)
-    (λ c κs. search needs) (λ c κs. search needs) (stored-raised-requires t) (λ c κs. omega arith) (stored-add-applied t) (stored-applied-requires t)
-    (stored-add-keep t) (stored-keep-requires-2 t) (stored-raised-requires-2 t) (stored-expr-requires t) (stored-store-indexed-requires t)
-    (stored-same-length t) (stored-same-length-2 t) (stored-returns t)
+abbrev assign-cs : ℕ → cycle.Lts-assign.Claims
+assign-cs t =
+    four (proofs.scope.entry.Reads.Asked, proofs.scope.entry.Reads.Learnt) (calls expr t) (steps.node_at.Reads.Asked, steps.node_at.Reads.Learnt)
+    (calls side t)
 
-abbrev assign-cs : ℕ → assign-lts.Claims
-assign-cs t = (entry.Asked, entry.Learnt, below expr-rank t, expr.Post, node-at.Asked, node-at.Learnt, below side-rank t, side.Post)
-
-abbrev assign-Inv-loop : assign-lts.InvT-loop
+abbrev assign-Inv-loop : cycle.Lts-assign.InvT-loop
 assign-Inv-loop source s₀ left right end text₀ here l₀ at₀ r₀ s text l at r =
     (length s ≡ length s₀) × (length text ≡ length text₀) × ((y : ReadyAssign s₀ left right end here r₀) → AssignPart source text₀ y s text l at r)
 
-abbrev assign-μ-loop : assign-lts.MeasureT-loop
+abbrev assign-μ-loop : cycle.Lts-assign.MeasureT-loop
 assign-μ-loop source s₀ left right end text₀ here l₀ at₀ r₀ s text l at r = end - at
 
-assign-expr-requires : (t : ℕ) → assign-lts.Need-expr-requires (assign-cs t) (at assign-rank t) assign.Post assign-Inv-loop assign-μ-loop
-assign-expr-requires t c κs =
-    let after-loop-test = c .before .before .before .before in let after-loop = after-loop-test .before in
-    let start = after-loop .before .before .before .before in
-    both (omega arith) (assign-right _ _ (after-loop-test .loop-test .taken) (c .before .before .entry .ensures .0) refl (start .pre .1)
-    (after-loop .loop .inv .2 (start .pre .1)))
+-- the left sides stand below the right ones
+assign-low : (t : ℕ) (c : cycle.Lts-assign.In-loop (assign-cs t) (at assign t) (rank assign .post) assign-Inv-loop assign-μ-loop)
+    → c .before .loop .l < 2 ^ 32
+assign-low t c = let y = c .before .before .before .before .before .pre .1 in let p = c .before .loop .inv .2 y in
+    omega (arith, assign-is _ _ (c .loop-test .taken) refl refl y p .before, y .ready .small, p .starts, c .loop-test .taken)
 
-assign-side-requires : (t : ℕ) → assign-lts.Need-side-requires (assign-cs t) (at assign-rank t) assign.Post assign-Inv-loop assign-μ-loop
-assign-side-requires t c κs =
-    let after-expr = c .before .before .before .before .before .before .before .before in let after-entry = after-expr .before .before .before in
-    let after-loop-test = after-entry .before .before in let after-loop = after-loop-test .before in
-    let start = after-loop .before .before .before .before in
-    both (omega (arith, start .pre .0))
-    (both (assign-left _ _ (after-loop-test .loop-test .taken) (after-entry .entry .ensures .0) refl (after-expr .expr .ensures) (start .pre .1)
-    (after-loop .loop .inv .2 (start .pre .1))) (c .before .before .node-at .ensures .place-fits))
-
-assign-add-l : (t : ℕ) → assign-lts.Need-add-l (assign-cs t) (at assign-rank t) assign.Post assign-Inv-loop assign-μ-loop
-assign-add-l t c =
-    let after-entry =
-    c .before .before .before .before .before .before .before .before .before .before .before .before .before .before .before .before in
-    let after-loop-test = after-entry .before .before in let after-loop = after-loop-test .before in
-    let start = after-loop .before .before .before .before in
-    omega (
-      arith,
-      assign-is (start .args .source .now) (start .args .text .now) (after-loop-test .loop-test .taken) (after-entry .entry .ensures .0) refl
-          (start .pre .1) (after-loop .loop .inv .2 (start .pre .1)) .before,
-      start .pre .1 .ready .small,
-      after-loop .loop .inv .2 (start .pre .1) .starts,
-      after-loop-test .loop-test .taken,
-    )
-
-assign-add-l-2 : (t : ℕ) → assign-lts.Need-add-l-2 (assign-cs t) (at assign-rank t) assign.Post assign-Inv-loop assign-μ-loop
-assign-add-l-2 t c =
-    let after-entry =
-    c .before .before .before .before .before .before .before .before .before .before .before .before .before .before .before .before .before .before
-    in let after-loop-test = after-entry .before .before in let after-loop = after-loop-test .before in
-    let start = after-loop .before .before .before .before in
-    omega (
-      arith,
-      assign-is (start .args .source .now) (start .args .text .now) (after-loop-test .loop-test .taken) (after-entry .entry .ensures .0) refl
-          (start .pre .1) (after-loop .loop .inv .2 (start .pre .1)) .before,
-      start .pre .1 .ready .small,
-      after-loop .loop .inv .2 (start .pre .1) .starts,
-      after-loop-test .loop-test .taken,
-    )
-
-assign-loop-less : (t : ℕ) → assign-lts.Need-loop-less (assign-cs t) (at assign-rank t) assign.Post assign-Inv-loop assign-μ-loop
-assign-loop-less t c =
-    let after-loop-test = c .before .before .before .before .before .before .before .before .before .before .before .before .before .before .before
-    .before .before .before .before .before in
-    omega (arith, after-loop-test .loop-test .taken)
-
-assign-loop-again : (t : ℕ) → assign-lts.Need-loop-again (assign-cs t) (at assign-rank t) assign.Post assign-Inv-loop assign-μ-loop
-assign-loop-again t c =
-    let after-side = c .before .before .before .before .before .before in let after-node-at = after-side .before .before .before in
+pub assign-ok : {M : Type 1} (t : ℕ) → cycle.Lts-assign.Closed (assign-cs t) (at assign t) (rank assign .post) M
+assign-ok t =
+    cycle.Lts-assign.spec (assign-cs t) (at assign t) (rank assign .post) assign-Inv-loop assign-μ-loop (λ c. search (needs, assign-begin))
+    (λ c. omega arith) (λ c κs. search needs) (λ c. omega (arith, c .entry .ensures .1))
+    (λ c κs. let after-loop-test = c .before .before .before .before in let after-loop = after-loop-test .before in
+    let start = after-loop .before .before .before .before in both (omega arith) (assign-right _ _ (after-loop-test .loop-test .taken)
+    (c .before .before .entry .ensures .0) refl (start .pre .1) (after-loop .loop .inv .2 (start .pre .1)))) (λ c κs. search needs)
+    (λ c κs. let after-expr = c .before .before .before .before .before .before .before .before in
+    let after-entry = after-expr .before .before .before in let after-loop-test = after-entry .before .before in
+    let after-loop = after-loop-test .before in let start = after-loop .before .before .before .before in both (omega (arith, start .pre .0))
+    (both (assign-left _ _ (after-loop-test .loop-test .taken) (after-entry .entry .ensures .0) refl (after-expr .expr .ensures)
+    (start .pre .1) (after-loop .loop .inv .2 (start .pre .1))) (c .before .before .node-at .ensures .place-fits)))
+    (λ c. omega (arith, assign-low t (search))) (λ c κs. search needs) (λ c. omega (arith, assign-low t (search)))
+    (λ c. let after-loop-test = c .before .before .before .before .before .before .before .before .before .before .before .before .before .before
+    .before .before .before .before .before .before in omega (arith, after-loop-test .loop-test .taken))
+    (λ c. let after-side = c .before .before .before .before .before .before in let after-node-at = after-side .before .before .before in
     let after-expr = after-node-at .before .before .before .before .before .before in let after-entry = after-expr .before .before .before in
     let after-loop-test = after-entry .before .before in let after-loop = after-loop-test .before in (
-      after-side .side .kept .1 .0 ∙ after-expr .expr .kept .1 .0 ∙ after-loop .loop .inv .0,
-      after-side .side .kept .1 .1 .1 .0 ∙ after-expr .expr .kept .1 .1 .1 .0 ∙ after-loop .loop .inv .1,
-      λ y. assign-next _ _ (after-loop-test .loop-test .taken)
-          (after-entry .entry .ensures .0) refl (after-expr .expr .ensures) _ (after-node-at .node-at .ensures) (after-side .side .ensures)
-          (c .entry2 .ensures .0) refl y (after-loop .loop .inv .2 y),
-    )
-
-pub assign-ok : {M : Type 1} (t : ℕ) → assign-lts.Closed (assign-cs t) (at assign-rank t) assign.Post M
-assign-ok t =
-    assign-lts.spec (assign-cs t) (at assign-rank t) assign.Post assign-Inv-loop assign-μ-loop (λ c. search (needs, assign-begin)) (λ c. omega arith)
-    (λ c κs. search needs) (λ c. omega (arith, c .entry .ensures .1)) (assign-expr-requires t) (λ c κs. search needs) (assign-side-requires t)
-    (assign-add-l t) (λ c κs. search needs) (assign-add-l-2 t) (assign-loop-less t) (assign-loop-again t) (λ c. search needs) (λ c. search needs)
-    (λ c. assign-end _ _ (c .loop-test .left) (c .before .loop .inv .2))
+      cc,
+      cc,
+      λ y. assign-next _ _ (after-loop-test .loop-test .taken) (after-entry .entry .ensures .0) refl (after-expr .expr .ensures) _
+          (after-node-at .node-at .ensures) (after-side .side .ensures) (c .entry2 .ensures .0) refl y (after-loop .loop .inv .2 y),
+    )) (λ c. search needs)
+    (λ c. search needs) (λ c. assign-end _ _ (c .loop-test .left) (c .before .loop .inv .2))
