@@ -1,6 +1,5 @@
 use Rattle.laws.proofs.Basics.{arith, needs}
 use Rattle.assembler.proofs.Assembling.{gives-fault, placed-fits, gives-image, gives-unknown}
-use Rattle.assembler.proofs.assemble_from.Statement.{statement}
 use Rattle.assembler.proofs.assemble_from.Tie as tie
 
 write-items-requires : tie.Need-write-items-requires
@@ -35,7 +34,7 @@ returns-3 c =
     (omega arith) (w .write-start .ensures)
     (c .before .before .before .before .write-items .ensures) (c .enum-told .given .1)
 
-pub assemble-from-spec : {M : Type 1} → statement M
+pub assemble-from-spec : {M : Type 1} → Rattle.assembler.proofs.assemble_from.Statement.statement M
 assemble-from-spec =
     tie.close
     (tie.spec (λ c κs. search needs) (λ c κs. search needs) (λ c. search needs) (λ c κs. search needs) (λ c. search needs) (λ c κs. search needs)

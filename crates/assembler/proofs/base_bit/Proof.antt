@@ -1,9 +1,8 @@
 use Rattle.assembler.specs.Passes.{baseOf}
 use Rattle.laws.proofs.Basics.{arith, needs}
-use Rattle.assembler.proofs.base_bit.Statement.{statement}
 use Rattle.assembler.proofs.base_bit.Tie as tie
 
-pub base-bit-spec : {M : Type 1} → statement M
+pub base-bit-spec : {M : Type 1} → Rattle.assembler.proofs.base_bit.Statement.statement M
 unfolding baseOf
 base-bit-spec =
     tie.close

@@ -4,7 +4,6 @@ use Rattle.assembler.specs.Words.{inRange}
 use Rattle.assembler.specs.Layout.{misplaced}
 use Rattle.assembler.specs.Passes.{itemOf, blank}
 use Rattle.assembler.proofs.Faults.{fault-out, fault-in}
-use Rattle.assembler.proofs.fault.Statement.{statement}
 use Rattle.assembler.proofs.fault.Tie as tie
 
 label-fault-requires : tie.Need-label-fault-requires
@@ -13,7 +12,7 @@ label-fault-requires c κs =
     let ranged : inRange (itemOf blank (c .before .before .before .before .before .args .item)) ≡ true = search held in
     (search needs, rw (c .before .item .given .1) at ranged)
 
-pub fault-spec : {M : Type 1} → statement M
+pub fault-spec : {M : Type 1} → Rattle.assembler.proofs.fault.Statement.statement M
 unfolding misplaced itemOf
 fault-spec =
     tie.close

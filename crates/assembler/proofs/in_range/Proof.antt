@@ -1,7 +1,6 @@
 use Rattle.assembler.specs.Words.{inRange}
 use Rattle.assembler.specs.Passes.{itemOf}
 use Rattle.laws.proofs.Basics.{needs, le-leb, lt-leb}
-use Rattle.assembler.proofs.in_range.Statement.{statement}
 use Rattle.assembler.proofs.in_range.Tie as tie
 
 returns : tie.Need-returns
@@ -24,7 +23,7 @@ returns-6 : tie.Need-returns-6
 unfolding inRange itemOf
 returns-6 c = rw (c .before .before .item4 .given .1, lt-leb _ _ (c .if1 .left))
 
-pub in-range-spec : {M : Type 1} → statement M
+pub in-range-spec : {M : Type 1} → Rattle.assembler.proofs.in_range.Statement.statement M
 unfolding inRange itemOf
 in-range-spec =
     tie.close

@@ -3,7 +3,6 @@ use Rattle.laws.proofs.Basics.{_-_, length, arith, needs}
 use Rattle.assembler.proofs.Reading.{reads-one, reads-whole, reads-not}
 use Rattle.assembler.proofs.Laying.{Laying, laying-start, laying-whole, laying-not, laying-count}
 use Rattle.assembler.proofs.Laying.{laying-fault, laying-in-range, laying-notable, laying-size, laying-on}
-use Rattle.assembler.proofs.lay_out.Statement.{statement}
 use Rattle.assembler.proofs.lay_out.Tie as tie
 
 abbrev Inv-loop : tie.InvT-loop
@@ -50,7 +49,7 @@ loop-again c =
     let called = read .before .before in let one = reads-one _ _ (called .next-in .ensures) (read .next2 .given .1) in
     laying-on _ _ _ _ _ _ _ _ _ (called .before .loop .inv) one (x .before .fault .ensures) (x .if1 .left) (noted .note .ensures) (c .size .ensures)
 
-pub lay-out-spec : {M : Type 1} → statement M
+pub lay-out-spec : {M : Type 1} → Rattle.assembler.proofs.lay_out.Statement.statement M
 lay-out-spec =
     tie.close
     (tie.spec Inv-loop μ-loop (λ c. search laying-start) (search needs) (search needs) (search needs) (λ c. search (laying-whole, reads-whole))

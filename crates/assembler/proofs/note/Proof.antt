@@ -2,10 +2,9 @@ use Rattle.assembler.specs.Passes.{itemOf}
 use Rattle.assembler.specs.Layout.{noted}
 use Rattle.assembler.proofs.Noting.{note-label, note-other}
 use Rattle.laws.proofs.Basics.{arith, needs}
-use Rattle.assembler.proofs.note.Statement.{statement}
 use Rattle.assembler.proofs.note.Tie as tie
 
-pub note-spec : {M : Type 1} → statement M
+pub note-spec : {M : Type 1} → Rattle.assembler.proofs.note.Statement.statement M
 unfolding itemOf noted
 note-spec =
     tie.close

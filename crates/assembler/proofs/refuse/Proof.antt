@@ -2,7 +2,6 @@ use Rattle.assembler.specs.Assemble.{refuse}
 use Rattle.laws.proofs.Basics.{ap, needs}
 use Rattle.assembler.proofs.Records.{cleared-records}
 use Rattle.assembler.specs.declared.Assembled.the-variants.{Refused}
-use Rattle.assembler.proofs.refuse.Statement.{statement}
 use Rattle.assembler.proofs.refuse.Tie as tie
 
 returns : tie.Need-returns
@@ -16,5 +15,5 @@ returns c =
           (c .before .before .before .clear-labels .ensures);
     }
 
-pub refuse-spec : {M : Type 1} → statement M
+pub refuse-spec : {M : Type 1} → Rattle.assembler.proofs.refuse.Statement.statement M
 refuse-spec = tie.close (tie.spec (search needs) (search needs) (search needs) (search needs) (search needs) returns)

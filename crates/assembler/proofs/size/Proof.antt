@@ -1,7 +1,6 @@
 use Rattle.assembler.specs.Words.{inRange, size}
 use Rattle.assembler.specs.Passes.{itemOf}
 use Rattle.laws.proofs.Basics.{length-replicate, add-one, needs}
-use Rattle.assembler.proofs.size.Statement.{statement}
 use Rattle.assembler.proofs.size.Tie as tie
 
 short-requires : tie.Need-short-requires
@@ -20,7 +19,7 @@ returns-5 : tie.Need-returns-5
 unfolding itemOf size
 returns-5 c = rw (c .before .item2 .given .1, length-replicate, add-one)
 
-pub size-spec : {M : Type 1} → statement M
+pub size-spec : {M : Type 1} → Rattle.assembler.proofs.size.Statement.statement M
 unfolding itemOf size
 size-spec =
     tie.close

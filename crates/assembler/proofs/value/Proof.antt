@@ -3,7 +3,6 @@ use Rattle.assembler.specs.Passes.{operandOf, valueOf}
 use Rattle.assembler.proofs.Operands.{number-below}
 use Rattle.laws.proofs.Basics.{ap, needs}
 use Rattle.assembler.specs.declared.Found.the-variants.{At}
-use Rattle.assembler.proofs.value.Statement.{statement}
 use Rattle.assembler.proofs.value.Tie as tie
 
 signed-requires : tie.Need-signed-requires
@@ -18,7 +17,7 @@ returns : tie.Need-returns
 unfolding valueOf operandOf
 returns c = rw (c .before .before .x .given .1) (ap At (c .signed .ensures))
 
-pub value-spec : {M : Type 1} → statement M
+pub value-spec : {M : Type 1} → Rattle.assembler.proofs.value.Statement.statement M
 unfolding valueOf operandOf
 value-spec =
     tie.close

@@ -1,9 +1,8 @@
 use Rattle.assembler.proofs.Writing.{global-range, global-unknown, global-known}
 use Rattle.laws.proofs.Basics.{arith, needs}
-use Rattle.assembler.proofs.write_global.Statement.{statement}
 use Rattle.assembler.proofs.write_global.Tie as tie
 
-pub write-global-spec : {M : Type 1} → statement M
+pub write-global-spec : {M : Type 1} → Rattle.assembler.proofs.write_global.Statement.statement M
 write-global-spec =
     tie.close
     (tie.spec (λ c κs. global-range _ _ (c .before .pre .ranged) .1) (search needs) (search needs) (search needs) (search needs)

@@ -1,7 +1,6 @@
 use Rattle.assembler.specs.Words.{inRange}
 use Rattle.assembler.proofs.Writing.{short-below, first-fits, second-fits, instruction-unknown, instruction-short, instruction-long}
 use Rattle.laws.proofs.Basics.{sym, _∙_, length-set, arith, needs}
-use Rattle.assembler.proofs.write_instruction.Statement.{statement}
 use Rattle.assembler.proofs.write_instruction.Tie as tie
 
 add-memory : tie.Need-add-memory
@@ -30,7 +29,7 @@ returns-3 c =
     (c .before .before .before .before .before .value .ensures) (c .before .before .before .before .before .before .head .ensures .0)
     (c .before .before .before .found .given .1) (sym (c .before .short .ensures) ∙ c .if1 .left)
 
-pub write-instruction-spec : {M : Type 1} → statement M
+pub write-instruction-spec : {M : Type 1} → Rattle.assembler.proofs.write_instruction.Statement.statement M
 unfolding inRange
 write-instruction-spec =
     tie.close

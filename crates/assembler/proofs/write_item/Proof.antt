@@ -1,7 +1,6 @@
 use Rattle.assembler.specs.Passes.{itemOf}
 use Rattle.assembler.proofs.Writing.{label-writes, string-length, string-spelling, string-writes}
 use Rattle.laws.proofs.Basics.{arith, needs}
-use Rattle.assembler.proofs.write_item.Statement.{statement}
 use Rattle.assembler.proofs.write_item.Tie as tie
 
 write-instruction-requires : tie.Need-write-instruction-requires
@@ -51,7 +50,7 @@ returns-5 : tie.Need-returns-5
 unfolding itemOf
 returns-5 c = rw (c .before .before .before .before .before .item4 .given .1) (c .before .before .write-global .ensures)
 
-pub write-item-spec : {M : Type 1} → statement M
+pub write-item-spec : {M : Type 1} → Rattle.assembler.proofs.write_item.Statement.statement M
 unfolding itemOf
 write-item-spec =
     tie.close

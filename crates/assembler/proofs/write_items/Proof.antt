@@ -3,7 +3,6 @@ use Rattle.laws.proofs.Basics.{_-_, length, arith, needs}
 use Rattle.assembler.specs.Passes.{listed}
 use Rattle.assembler.proofs.Reading.{reads-one, reads-whole, reads-not}
 use Rattle.assembler.proofs.Filling.{Filling, filling-start, filling-end, filling-writable, filling-spelled, filling-unknown, filling-on}
-use Rattle.assembler.proofs.write_items.Statement.{statement}
 use Rattle.assembler.proofs.write_items.Tie as tie
 
 abbrev Inv-loop : tie.InvT-loop
@@ -47,7 +46,7 @@ loop-less c =
           (c .before .before .before .before .before .before .before .before .next .given .1) .within,
     )
 
-pub write-items-spec : {M : Type 1} → statement M
+pub write-items-spec : {M : Type 1} → Rattle.assembler.proofs.write_items.Statement.statement M
 write-items-spec =
     tie.close
     (tie.spec Inv-loop μ-loop (λ c. search filling-start) (search needs) (search needs) (search needs) returns (search needs) (search needs) returns-2

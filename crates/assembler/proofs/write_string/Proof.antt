@@ -3,7 +3,6 @@ use Rattle.laws.proofs.Basics.{_+_, _-_, refl, length, arith, needs}
 use Rattle.text.proofs.Answers.{when-is, when-closing, when-ended, when-mistake}
 use Rattle.assembler.proofs.Strings.{Spells, not-ended, no-mistake, past-character, spells-end, second-not-ended, second-no-mistake}
 use Rattle.assembler.proofs.Strings.{spells-odd, spells-on}
-use Rattle.assembler.proofs.write_string.Statement.{statement}
 use Rattle.assembler.proofs.write_string.Tie as tie
 
 abbrev Inv-loop : tie.InvT-loop
@@ -67,7 +66,7 @@ loop-less c =
     let two = when-is _ (again .character-at2 .ensures) (second .two .given .1) in
     omega (arith, past-character text (head .loop .place) one, past-character text (head .loop .place + matched .one .given .0 .1 .0) two)
 
-pub write-string-spec : {M : Type 1} → statement M
+pub write-string-spec : {M : Type 1} → Rattle.assembler.proofs.write_string.Statement.statement M
 write-string-spec =
     tie.close
     (tie.spec Inv-loop μ-loop (λ c. record { spelling = c .before .before .pre; same = refl; so-far = refl }) (λ c κs. search needs)

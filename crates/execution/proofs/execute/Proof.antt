@@ -1,6 +1,5 @@
 use Rattle.execution.proofs.Following.{text-fits, text-front, source-refused, source-ran}
 use Rattle.laws.proofs.Basics.{needs}
-use Rattle.execution.proofs.execute.Statement.{statement}
 use Rattle.execution.proofs.execute.Tie as tie
 
 slice-reshare-prefix-run-text : tie.Need-slice-reshare-prefix-run-text
@@ -19,7 +18,7 @@ returns-2 c =
     (c .before .before .before .before .before .before .before .before .before .before .before .before .before .before .before .compile .ensures)
     (c .before .before .before .before .before .before .before .before .before .n .given .1) (c .before .before .before .before .run-text .ensures)
 
-pub execute-spec : {M : Type 1} → statement M
+pub execute-spec : {M : Type 1} → Rattle.execution.proofs.execute.Statement.statement M
 execute-spec =
     tie.close
     (tie.spec (search needs) (search needs) (search needs) slice-reshare-prefix-run-text slice-aggregate-run-text (search needs) (search needs)

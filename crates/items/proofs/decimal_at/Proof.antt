@@ -1,7 +1,6 @@
 use Rattle.laws.proofs.Basics.{_-_, length, arith, needs}
 use Rattle.laws.proofs.Cases.{held, failed}
 use Rattle.items.proofs.Decimals.{SoFar, digit-ready, digits-start, digits-more, no-decimal, decimal-stops, decimal-ends}
-use Rattle.items.proofs.decimal_at.Statement.{statement}
 use Rattle.items.proofs.decimal_at.Tie as tie
 
 abbrev Inv-loop : tie.InvT-loop
@@ -10,7 +9,7 @@ Inv-loop text at first n₀ i₀ n i = SoFar text at n i
 abbrev μ-loop : tie.MeasureT-loop
 μ-loop text at first n₀ i₀ n i = length text - i
 
-pub decimal-at-spec : {M : Type 1} → statement M
+pub decimal-at-spec : {M : Type 1} → Rattle.items.proofs.decimal_at.Statement.statement M
 decimal-at-spec =
     tie.close
     (tie.spec Inv-loop μ-loop (search needs) (search needs) (λ c. search (no-decimal, failed)) (λ c. search digits-start)

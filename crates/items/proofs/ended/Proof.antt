@@ -1,9 +1,8 @@
 use Rattle.laws.proofs.Basics.{needs}
 use Rattle.items.proofs.Places.{ending-bytes, is-ended, is-not-ended}
-use Rattle.items.proofs.ended.Statement.{statement}
 use Rattle.items.proofs.ended.Tie as tie
 
-pub ended-spec : {M : Type 1} → statement M
+pub ended-spec : {M : Type 1} → Rattle.items.proofs.ended.Statement.statement M
 ended-spec =
     tie.close
     (tie.spec (search needs) (λ c. is-ended _ (c .before .byte-at .ensures) (c .match .keys1) (ending-bytes .0))

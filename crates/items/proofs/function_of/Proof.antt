@@ -1,10 +1,9 @@
 use Rattle.laws.proofs.Basics.{sym}
 use Rattle.items.specs.Read.{functionOf}
 use Rattle.items.proofs.Items.{no-function}
-use Rattle.items.proofs.function_of.Statement.{statement}
 use Rattle.items.proofs.function_of.Tie as tie
 
-pub function-of-spec : {M : Type 1} → statement M
+pub function-of-spec : {M : Type 1} → Rattle.items.proofs.function_of.Statement.statement M
 unfolding functionOf
 function-of-spec =
     tie.close

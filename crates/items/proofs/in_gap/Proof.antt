@@ -1,10 +1,9 @@
 use Rattle.laws.proofs.Basics.{sym}
 use Rattle.items.specs.Parts.{inGap}
 use Rattle.items.proofs.Gaps.{in-gap-other}
-use Rattle.items.proofs.in_gap.Statement.{statement}
 use Rattle.items.proofs.in_gap.Tie as tie
 
-pub in-gap-spec : {M : Type 1} → statement M
+pub in-gap-spec : {M : Type 1} → Rattle.items.proofs.in_gap.Statement.statement M
 unfolding inGap
 in-gap-spec =
     tie.close

@@ -2,7 +2,6 @@ use Rattle.laws.proofs.Basics.{needs}
 use Rattle.items.proofs.Places.{optional-reads, ended-reads, ended-fails}
 use Rattle.items.proofs.Operands.{operand-reads, operand-fails, base-reads}
 use Rattle.items.proofs.Items.{no-item, an-instruction, instruction-open, instruction-none}
-use Rattle.items.proofs.instruction_at.Statement.{statement}
 use Rattle.items.proofs.instruction_at.Tie as tie
 
 returns-2 : tie.Need-returns-2
@@ -20,7 +19,7 @@ returns-3 c =
     (instruction-none _ (past .before .before .before .args .at) _ (optional-reads _ _ 73 (past .before .has .ensures) (past .past-byte .ensures))
     (base-reads _ _ (base .base-at .ensures) .reads) (operand-fails _ _ (operand .operand-at .ensures) (c .enum-told .given .1)))
 
-pub instruction-at-spec : {M : Type 1} → statement M
+pub instruction-at-spec : {M : Type 1} → Rattle.items.proofs.instruction_at.Statement.statement M
 instruction-at-spec =
     tie.close
     (tie.spec (search needs) (search needs) (search needs) (search needs) (search needs) (search needs)

@@ -2,7 +2,6 @@ use Rattle.laws.proofs.Basics.{sym, _∙_, arith, needs}
 use Rattle.laws.proofs.Cases.{holds, fails}
 use Rattle.items.proofs.Places.{inside}
 use Rattle.items.proofs.Items.{no-item, item-label, item-constant, item-string, item-global, item-function, item-none, function-inside}
-use Rattle.items.proofs.item_at.Statement.{statement}
 use Rattle.items.proofs.item_at.Tie as tie
 
 add-instruction-at : tie.Need-add-instruction-at
@@ -10,7 +9,7 @@ add-instruction-at c =
     let read = c .before .before .before .before .before in let args = read .before .before .args in
     omega (arith, function-inside (args .text .now) (args .at) (read .byte-at .ensures) (c .before .function-of .ensures) (c .if2 .taken))
 
-pub item-at-spec : {M : Type 1} → statement M
+pub item-at-spec : {M : Type 1} → Rattle.items.proofs.item_at.Statement.statement M
 item-at-spec =
     tie.close
     (tie.spec (search needs) (search needs) (search needs) (λ c. c .label-at .ensures ∙ (search (item-label, holds)))

@@ -2,7 +2,6 @@ use Rattle.laws.proofs.Basics.{sym, _∙_, arith, needs, eqb-true}
 use Rattle.items.proofs.Places.{inside}
 use Rattle.items.proofs.Decimals.{decimal-reads, decimal-fails}
 use Rattle.items.proofs.Items.{no-item, a-label, label-fails, label-none}
-use Rattle.items.proofs.label_at.Statement.{statement}
 use Rattle.items.proofs.label_at.Tie as tie
 
 add-t9 : tie.Need-add-t9
@@ -21,7 +20,7 @@ returns-2 c =
     (label-fails _ _ (decimal-reads _ _ (read .before .before .decimal-at .ensures) (read .n .given .1))
     (sym (c .before .has .ensures) ∙ c .if1 .left))
 
-pub label-at-spec : {M : Type 1} → statement M
+pub label-at-spec : {M : Type 1} → Rattle.items.proofs.label_at.Statement.statement M
 label-at-spec =
     tie.close
     (tie.spec (search needs) (search needs) (search needs) add-t9

@@ -4,10 +4,9 @@ use Rattle.items.specs.Answers.{asOperand}
 use Rattle.items.proofs.Places.{inside}
 use Rattle.items.proofs.Decimals.{decimal-reads, decimal-fails}
 use Rattle.items.proofs.Operands.{an-operand, no-operand, labelled-reads, labelled-fails}
-use Rattle.items.proofs.labelled.Statement.{statement}
 use Rattle.items.proofs.labelled.Tie as tie
 
-pub labelled-spec : {M : Type 1} → statement M
+pub labelled-spec : {M : Type 1} → Rattle.items.proofs.labelled.Statement.statement M
 unfolding asOperand
 labelled-spec =
     tie.close

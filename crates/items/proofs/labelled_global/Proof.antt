@@ -3,7 +3,6 @@ use Rattle.laws.proofs.Cases.{held, failed}
 use Rattle.items.proofs.Places.{inside, byte-reads, ended-reads, ended-fails}
 use Rattle.items.proofs.Decimals.{decimal-reads, decimal-fails}
 use Rattle.items.proofs.Items.{a-global, no-item, global-open, global-unlabelled, global-short}
-use Rattle.items.proofs.labelled_global.Statement.{statement}
 use Rattle.items.proofs.labelled_global.Tie as tie
 
 add-decimal-at : tie.Need-add-decimal-at
@@ -18,7 +17,7 @@ returns-3 c =
     let number = decimal-reads _ _ (called .decimal-at .ensures) (read .m .given .1) in
     no-item _ (global-open _ _ _ (search (byte-reads, held)) number (search ended-fails))
 
-pub labelled-global-spec : {M : Type 1} → statement M
+pub labelled-global-spec : {M : Type 1} → Rattle.items.proofs.labelled_global.Statement.statement M
 labelled-global-spec =
     tie.close
     (tie.spec (search needs) (λ c. search (no-item, global-short, failed)) add-decimal-at (search needs) (search needs) (search needs)

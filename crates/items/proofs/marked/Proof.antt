@@ -1,6 +1,5 @@
 use Rattle.laws.proofs.Basics.{sym, _∙_, arith, needs, eqb-true}
 use Rattle.items.proofs.Places.{inside, mark-at, not-marked}
-use Rattle.items.proofs.marked.Statement.{statement}
 use Rattle.items.proofs.marked.Tie as tie
 
 add-ended : tie.Need-add-ended
@@ -8,7 +7,7 @@ add-ended c =
     let args = c .before .before .before .args in
     omega (arith, inside (args .text .now) (args .at) (eqb-true _ _ (sym (c .before .has .ensures) ∙ c .if1 .taken)) (omega arith))
 
-pub marked-spec : {M : Type 1} → statement M
+pub marked-spec : {M : Type 1} → Rattle.items.proofs.marked.Statement.statement M
 marked-spec =
     tie.close
     (tie.spec (search needs) add-ended (search needs)

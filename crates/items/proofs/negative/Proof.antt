@@ -4,10 +4,9 @@ use Rattle.items.specs.Answers.{asOperand}
 use Rattle.items.proofs.Places.{inside}
 use Rattle.items.proofs.Decimals.{decimal-reads, decimal-fails}
 use Rattle.items.proofs.Operands.{an-operand, no-operand, negative-reads, negative-fails}
-use Rattle.items.proofs.negative.Statement.{statement}
 use Rattle.items.proofs.negative.Tie as tie
 
-pub negative-spec : {M : Type 1} → statement M
+pub negative-spec : {M : Type 1} → Rattle.items.proofs.negative.Statement.statement M
 unfolding asOperand
 negative-spec =
     tie.close

@@ -1,7 +1,6 @@
 use Rattle.laws.proofs.Basics.{_+_, _-_, _≡_, false, length, drop, arith, needs, not-true, not-false}
 use Rattle.items.specs.Scan.{gaps}
 use Rattle.items.proofs.Gaps.{gap-end, gap-stops, gap-goes}
-use Rattle.items.proofs.past_gap.Statement.{statement}
 use Rattle.items.proofs.past_gap.Tie as tie
 
 abbrev Inv-loop : tie.InvT-loop
@@ -28,7 +27,7 @@ loop-again c =
           (omega arith) (c .before .before .in-gap .ensures) (not-false _ (c .before .if1 .left)) (c .in-comment .ensures),
     )
 
-pub past-gap-spec : {M : Type 1} → statement M
+pub past-gap-spec : {M : Type 1} → Rattle.items.proofs.past_gap.Statement.statement M
 past-gap-spec =
     tie.close
     (tie.spec Inv-loop μ-loop (search needs) (search needs) (search needs) returns (search needs) (λ c. omega arith) (λ c. omega arith) loop-again

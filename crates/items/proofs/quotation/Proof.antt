@@ -5,7 +5,6 @@ use Rattle.items.specs.Read.{quotation}
 use Rattle.items.specs.Answers.{asOperand}
 use Rattle.items.proofs.Places.{inside}
 use Rattle.items.proofs.Operands.{an-operand, no-operand, quotation-reads, quotation-none, quotation-unclosed, quotation-faulty}
-use Rattle.items.proofs.quotation.Statement.{statement}
 use Rattle.items.proofs.quotation.Tie as tie
 
 returns : tie.Need-returns
@@ -44,7 +43,7 @@ returns-4 c =
     let called = c .before .before in let start = called .before .before in
     no-operand _ (quotation-faulty _ (start .args .at) (start .pre) (when-faulty _ (called .quoted-at .ensures) (c .enum-told2 .given .1)))
 
-pub quotation-spec : {M : Type 1} → statement M
+pub quotation-spec : {M : Type 1} → Rattle.items.proofs.quotation.Statement.statement M
 quotation-spec =
     tie.close
     (tie.spec (λ c. let start = c .before in omega (arith, inside (start .args .text .now) (start .args .at) (start .pre) (omega arith)))

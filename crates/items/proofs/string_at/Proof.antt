@@ -4,7 +4,6 @@ use Rattle.text.proofs.Answers.{when-closed, when-unclosed, when-faulty}
 use Rattle.text.proofs.Constants.{closed-inside}
 use Rattle.items.proofs.Places.{inside, byte-reads, ended-reads, ended-fails}
 use Rattle.items.proofs.Items.{no-item, a-string, string-open, string-unclosed, string-faulty, string-none}
-use Rattle.items.proofs.string_at.Statement.{statement}
 use Rattle.items.proofs.string_at.Tie as tie
 
 add-quoted-at : tie.Need-add-quoted-at
@@ -44,7 +43,7 @@ returns-5 c =
     let called = c .before .before in let at = called .before .before .before .before .args .at in
     no-item _ (string-faulty _ at (search (byte-reads, held)) (when-faulty _ (called .quoted-at .ensures) (c .enum-told2 .given .1)))
 
-pub string-at-spec : {M : Type 1} → statement M
+pub string-at-spec : {M : Type 1} → Rattle.items.proofs.string_at.Statement.statement M
 string-at-spec =
     tie.close
     (tie.spec (search needs) (λ c. search (no-item, string-none, failed)) add-quoted-at (search needs) (search needs) add-past add-past-2

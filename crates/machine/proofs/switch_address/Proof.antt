@@ -1,7 +1,6 @@
 use Rattle.laws.proofs.Basics.{_≡_, refl, arith, needs}
 use Rattle.machine.specs.Acts.{search as searched}
 use Rattle.machine.proofs.Laws.{switch-address-stops, switch-address-hits, switch-address-goes, switch-address-none}
-use Rattle.machine.proofs.switch_address.Statement.{statement}
 use Rattle.machine.proofs.switch_address.Tie as tie
 
 abbrev Inv-loop : tie.InvT-loop
@@ -10,7 +9,7 @@ Inv-loop memory a default n from i₀ left₀ i left = searched memory a default
 abbrev μ-loop : tie.MeasureT-loop
 μ-loop memory a default n from i₀ left₀ i left = left
 
-pub switch-address-spec : {M : Type 1} → statement M
+pub switch-address-spec : {M : Type 1} → Rattle.machine.proofs.switch_address.Statement.statement M
 switch-address-spec =
     tie.close
     (tie.spec Inv-loop μ-loop (λ _. refl) (search needs) (search needs) (λ c. search switch-address-stops) (search needs) (search needs)

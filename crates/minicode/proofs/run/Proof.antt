@@ -1,10 +1,9 @@
 -- The part of the buffer that is lent was read.
 use Rattle.messages.proofs.Loads.{loaded, loaded-part}
 use Rattle.laws.proofs.Basics.{needs}
-use Rattle.minicode.proofs.run.Statement.{statement}
 use Rattle.minicode.proofs.run.Tie as tie
 
-pub run-spec : {M : Type 1} → statement M
+pub run-spec : {M : Type 1} → Rattle.minicode.proofs.run.Statement.statement M
 run-spec =
     tie.close
     (tie.spec (search needs) (search needs) (search needs) (search needs) (search needs) (search needs) (search needs) (search needs) (search needs)

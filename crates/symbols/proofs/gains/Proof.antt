@@ -1,6 +1,5 @@
 use Rattle.laws.proofs.Basics.{sym, _∙_, needs, not-true, not-false}
 use Rattle.symbols.proofs.Tests.{gain-within, gain-between}
-use Rattle.symbols.proofs.gains.Statement.{statement}
 use Rattle.symbols.proofs.gains.Tie as tie
 
 returns-3 : tie.Need-returns-3
@@ -10,7 +9,7 @@ returns-3 c =
     rw (not-false (args .newline) (c .before .before .before .if1 .left))
     (c .begins-line .ensures ∙ sym (gain-between (args .before) (args .kind) ends))
 
-pub gains-spec : {M : Type 1} → statement M
+pub gains-spec : {M : Type 1} → Rattle.symbols.proofs.gains.Statement.statement M
 gains-spec =
     tie.close
     (tie.spec (λ c. let args = c .before .args in rw (not-true (args .newline) (c .if1 .taken)) (sym (gain-within (args .before) (args .kind))))

@@ -1,7 +1,6 @@
 use Rattle.laws.proofs.Basics.{_-_, length, arith, needs}
 use Rattle.symbols.proofs.Scanning.{when-symbol, when-gap, when-wrong, elementAt, Seeking, seek-start, seek-end, seek-wrong, seek-symbol}
 use Rattle.symbols.proofs.Scanning.{gap-inside, symbol-inside, wrong-inside, seek-gap}
-use Rattle.symbols.proofs.next_symbol.Statement.{statement}
 use Rattle.symbols.proofs.next_symbol.Tie as tie
 
 abbrev Inv-loop : tie.InvT-loop
@@ -36,7 +35,7 @@ loop-less c =
     let read = when-gap (elementAt text (head .loop .i)) (called .element-at .ensures) (matched .element3 .given .1) in
     omega (arith, gap-inside _ _ _ (head .loop .inv) (called .before .loop-test .taken) read)
 
-pub next-symbol-spec : {M : Type 1} → statement M
+pub next-symbol-spec : {M : Type 1} → Rattle.symbols.proofs.next_symbol.Statement.statement M
 next-symbol-spec =
     tie.close
     (tie.spec Inv-loop μ-loop (λ c. search seek-start) (λ c κs. search needs) (λ c. search needs) add-t16 (λ c. search (seek-symbol, when-symbol))

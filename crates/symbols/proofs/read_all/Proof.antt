@@ -3,7 +3,6 @@ use Rattle.symbols.proofs.Scanning.{kind-known, kind-fits, nearer-end}
 use Rattle.symbols.proofs.Matching.{Going, going-start, going-wrong, going-whole, going-open, stack-fits, going-unmatched, going-on}
 use Rattle.symbols.proofs.Writing.{Putting, putting-start, putting-end, room-for, number-fits, place-fits, strings-fit, putting-on}
 use Rattle.symbols.proofs.Reading.{refused, written}
-use Rattle.symbols.proofs.read_all.Statement.{statement}
 use Rattle.symbols.proofs.read_all.Tie as tie
 
 abbrev Inv-loop : tie.InvT-loop
@@ -13,7 +12,7 @@ Inv-loop classes table text stack₀ scratch₀ at₀ depth₀ count₀ before�
 abbrev μ-loop : tie.MeasureT-loop
 μ-loop classes table text stack₀ scratch₀ at₀ depth₀ count₀ before₀ strings₀ stack scratch at depth count before strings = length text - at
 
-pub read-all-spec : {M : Type 1} → statement M
+pub read-all-spec : {M : Type 1} → Rattle.symbols.proofs.read_all.Statement.statement M
 read-all-spec =
     tie.close
     (tie.spec Inv-loop μ-loop (λ c. (going-start _ _, search putting-start)) (λ c κs. (c .loop .inv .0 .within, search needs, search needs))

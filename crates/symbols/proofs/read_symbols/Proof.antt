@@ -1,9 +1,8 @@
 use Rattle.laws.proofs.Basics.{arith, needs}
 use Rattle.symbols.proofs.Reading.{short-text, long, short}
-use Rattle.symbols.proofs.read_symbols.Statement.{statement}
 use Rattle.symbols.proofs.read_symbols.Tie as tie
 
-pub read-symbols-spec : {M : Type 1} → statement M
+pub read-symbols-spec : {M : Type 1} → Rattle.symbols.proofs.read_symbols.Statement.statement M
 read-symbols-spec =
     tie.close
     (tie.spec (search needs) (λ c. search long) (λ c. omega (arith, short-text _ (c .before .too-long .ensures) (c .if1 .left)))

@@ -1,6 +1,5 @@
 use Rattle.symbols.proofs.Writing.{put-length, writes-one, writes-two}
 use Rattle.laws.proofs.Basics.{arith, needs}
-use Rattle.symbols.proofs.write.Statement.{statement}
 use Rattle.symbols.proofs.write.Tie as tie
 
 put-requires : tie.Need-put-requires
@@ -31,7 +30,7 @@ returns-2 c =
     let tested = c .before .before .before .before in let no-more = tested .if1 .left in
     rw no-more (writes-one _ _ _ _ _ (rw no-more at (tested .before .before .pre .0)) (c .before .before .put3 .ensures))
 
-pub write-spec : {M : Type 1} → statement M
+pub write-spec : {M : Type 1} → Rattle.symbols.proofs.write.Statement.statement M
 write-spec =
     tie.close
     (tie.spec put-requires (search needs) put-requires-2 (search needs) (search needs) returns put-requires-3 (search needs) (search needs) returns-2)

@@ -1,6 +1,5 @@
 use Rattle.testbed.proofs.Answers.{tree-answered, tree-refused}
 use Rattle.laws.proofs.Basics.{needs}
-use Rattle.testbed.proofs.answer_tree.Statement.{statement}
 use Rattle.testbed.proofs.answer_tree.Tie as tie
 
 returns : tie.Need-returns
@@ -14,7 +13,7 @@ returns-3 c =
     tree-refused (c .before .before .before .before .before .before .before .read-tree .ensures) (c .before .before .before .read2 .given .1)
     (c .before .line-of .ensures)
 
-pub answer-tree-spec : {M : Type 1} → statement M
+pub answer-tree-spec : {M : Type 1} → Rattle.testbed.proofs.answer_tree.Statement.statement M
 answer-tree-spec =
     tie.close
     (tie.spec (search needs) (search needs) (search needs) (search needs) (search needs) (search needs) (search needs) returns (search needs)

@@ -1,6 +1,5 @@
 use Rattle.testbed.proofs.Answers.{symbols-exported, symbols-refused}
 use Rattle.laws.proofs.Basics.{needs}
-use Rattle.testbed.proofs.morkvasil_symbols.Statement.{statement}
 use Rattle.testbed.proofs.morkvasil_symbols.Tie as tie
 
 returns : tie.Need-returns
@@ -17,7 +16,7 @@ returns-4 c =
     symbols-refused (c .before .before .before .before .before .before .before .read-symbols .ensures) (c .before .before .before .read2 .given .1)
     (c .before .line-of .ensures)
 
-pub morkvasil-symbols-spec : {M : Type 1} → statement M
+pub morkvasil-symbols-spec : {M : Type 1} → Rattle.testbed.proofs.morkvasil_symbols.Statement.statement M
 morkvasil-symbols-spec =
     tie.close
     (tie.spec (search needs) (search needs) (search needs) (search needs) (search needs) (search needs) (search needs) (search needs) returns

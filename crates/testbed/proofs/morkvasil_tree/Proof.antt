@@ -1,6 +1,5 @@
 use Rattle.laws.proofs.Basics.{refl, needs}
 use Rattle.testbed.proofs.Answers.{after-symbols, symbol-refused}
-use Rattle.testbed.proofs.morkvasil_tree.Statement.{statement}
 use Rattle.testbed.proofs.morkvasil_tree.Tie as tie
 
 returns : tie.Need-returns
@@ -19,7 +18,7 @@ returns-4 c =
     symbol-refused (c .before .before .before .before .before .before .before .read-symbols .ensures) (c .before .before .before .read2 .given .1)
     (c .before .line-of .ensures)
 
-pub morkvasil-tree-spec : {M : Type 1} → statement M
+pub morkvasil-tree-spec : {M : Type 1} → Rattle.testbed.proofs.morkvasil_tree.Statement.statement M
 morkvasil-tree-spec =
     tie.close
     (tie.spec (search needs) (search needs) (search needs) (search needs) (search needs) (search needs) (search needs) (search needs) (search needs)

@@ -2,10 +2,9 @@ use Rattle.laws.proofs.Basics.{needs}
 use Rattle.laws.proofs.Cases.{held, failed}
 use Rattle.text.proofs.Answers.{told-is, told-mistake}
 use Rattle.text.proofs.Quotes.{digit-least, no-first, no-second, no-third, too-large, a-byte}
-use Rattle.text.proofs.by_digits.Statement.{statement}
 use Rattle.text.proofs.by_digits.Tie as tie
 
-pub by-digits-spec : {M : Type 1} → statement M
+pub by-digits-spec : {M : Type 1} → Rattle.text.proofs.by_digits.Statement.statement M
 by-digits-spec =
     tie.close
     (tie.spec (search needs) (λ c. search (told-mistake, no-first, failed)) (search needs) (λ c. search (told-mistake, no-second, held, failed))

@@ -1,7 +1,6 @@
 use Rattle.laws.proofs.Basics.{sym, ap, _∙_, arith, needs}
 use Rattle.text.specs.Answers.{asCharacter}
 use Rattle.text.proofs.Quotes.{three-bytes, few-bytes}
-use Rattle.text.proofs.by_number.Statement.{statement}
 use Rattle.text.proofs.by_number.Tie as tie
 
 returns-3 : tie.Need-returns-3
@@ -10,7 +9,7 @@ returns-3 c =
     let args = c .before .before .before .before .before .before .before .args in
     by-digits .ensures ∙ sym (ap asCharacter (three-bytes (args .text .now) (args .at) (omega arith)))
 
-pub by-number-spec : {M : Type 1} → statement M
+pub by-number-spec : {M : Type 1} → Rattle.text.proofs.by_number.Statement.statement M
 unfolding asCharacter
 by-number-spec =
     tie.close

@@ -4,7 +4,6 @@ use Rattle.text.specs.Parts.{isClosed}
 use Rattle.text.proofs.Answers.{when-is, when-closing, when-ended, when-mistake}
 use Rattle.text.proofs.Quotes.{is-inside, mistake-inside}
 use Rattle.text.proofs.Constants.{closes-next, closes-mistake, closes-end, closes-never}
-use Rattle.text.proofs.closes.Statement.{statement}
 use Rattle.text.proofs.closes.Tie as tie
 
 abbrev Inv-loop : tie.InvT-loop
@@ -56,7 +55,7 @@ loop-again-2 c =
     let mistake = when-mistake _ (called .character-at .ensures) (c .enum-told3 .given .1) in
     head .loop .inv ∙ closes-mistake _ (head .before .before .args .text .now) (head .loop .i) mistake
 
-pub closes-spec : {M : Type 1} → statement M
+pub closes-spec : {M : Type 1} → Rattle.text.proofs.closes.Statement.statement M
 closes-spec =
     tie.close
     (tie.spec Inv-loop μ-loop (λ c. refl) (search needs) (search needs) add-i loop-less loop-again (search needs) returns (search needs) returns-2

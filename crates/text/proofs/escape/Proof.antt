@@ -3,10 +3,9 @@ use Rattle.text.specs.Quoted.{escape}
 use Rattle.text.specs.Answers.{asCharacter}
 use Rattle.text.proofs.Answers.{told-is, told-mistake}
 use Rattle.text.proofs.Quotes.{escape-past, escape-here, by-number-here}
-use Rattle.text.proofs.escape.Statement.{statement}
 use Rattle.text.proofs.escape.Tie as tie
 
-pub escape-spec : {M : Type 1} → statement M
+pub escape-spec : {M : Type 1} → Rattle.text.proofs.escape.Statement.statement M
 unfolding escape
 escape-spec =
     tie.close

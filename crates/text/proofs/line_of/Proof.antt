@@ -1,7 +1,6 @@
 use Rattle.laws.proofs.Basics.{_+_, _-_, _≤_, _≡_, ⊎-elim, length, arith, needs}
 use Rattle.text.specs.Line.{lineOf}
 use Rattle.text.proofs.Lines.{between, between-all, between-none, between-past, between-newline, between-other}
-use Rattle.text.proofs.line_of.Statement.{statement}
 use Rattle.text.proofs.line_of.Tie as tie
 
 abbrev Inv-loop : tie.InvT-loop
@@ -22,7 +21,7 @@ loop-again c =
     ⊎-elim (λ w. omega (arith, between-newline (args .text .now) (args .place) i (omega arith) (omega arith) (w .0 .taken)))
     (λ w. omega (arith, between-other (args .text .now) (args .place) i (omega arith) (omega arith) (w .0 .left))) (c .if2 .came)
 
-pub line-of-spec : {M : Type 1} → statement M
+pub line-of-spec : {M : Type 1} → Rattle.text.proofs.line_of.Statement.statement M
 line-of-spec =
     tie.close
     (tie.spec Inv-loop μ-loop (λ c. omega (arith, between-all (c .args .text .now) (c .args .place))) returns (search needs) (λ c. omega arith)

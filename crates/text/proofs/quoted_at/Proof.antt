@@ -4,7 +4,6 @@ use Rattle.text.specs.Answers.{asQuoted}
 use Rattle.text.proofs.Answers.{when-is, when-closing, when-ended, when-mistake}
 use Rattle.text.proofs.Quotes.{is-inside, closing-inside}
 use Rattle.text.proofs.Constants.{added, constant-start, constant-next, constant-end, constant-unclosed, constant-mistake, constant-full}
-use Rattle.text.proofs.quoted_at.Statement.{statement}
 use Rattle.text.proofs.quoted_at.Tie as tie
 
 abbrev Inv-loop : tie.InvT-loop
@@ -58,7 +57,7 @@ returns-4 c =
     let mistake = when-mistake _ (called .character-at .ensures) (matched .c2 .given .1) in
     c .fault-at2 .ensures ∙ constant-mistake _ _ _ _ (head .loop .i) (head .loop .n) mistake ∙ sym (head .loop .inv .2)
 
-pub quoted-at-spec : {M : Type 1} → statement M
+pub quoted-at-spec : {M : Type 1} → Rattle.text.proofs.quoted_at.Statement.statement M
 quoted-at-spec =
     tie.close
     (tie.spec Inv-loop μ-loop

@@ -1,10 +1,9 @@
 use Rattle.laws.proofs.Basics.{sym, ap, needs}
 use Rattle.text.specs.Parts.{valueOf}
 use Rattle.text.proofs.Answers.{when-is, when-closing, when-ended, when-mistake}
-use Rattle.text.proofs.value_at.Statement.{statement}
 use Rattle.text.proofs.value_at.Tie as tie
 
-pub value-at-spec : {M : Type 1} → statement M
+pub value-at-spec : {M : Type 1} → Rattle.text.proofs.value_at.Statement.statement M
 value-at-spec =
     tie.close
     (tie.spec (search needs) (search needs) (search needs) (search needs) (search needs)

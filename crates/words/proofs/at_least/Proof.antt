@@ -1,9 +1,8 @@
 use Rattle.laws.proofs.Basics.{ap, _∙_, Bool, not, needs}
 use Rattle.words.specs.Words.{truth}
-use Rattle.words.proofs.at_least.Statement.{statement}
 use Rattle.words.proofs.at_least.Tie as tie
 
-pub at-least-spec : {M : Type 1} → statement M
+pub at-least-spec : {M : Type 1} → Rattle.words.proofs.at_least.Statement.statement M
 at-least-spec =
     tie.close
     (tie.spec (search needs) (search needs) (λ c. c .truth .ensures ∙ ap (λ (t : Bool). truth (not t)) (c .before .below .ensures)))

@@ -1,7 +1,6 @@
 use Rattle.items.specs.Render.{baseText}
 use Rattle.writing.proofs.Laws.{puts-none}
 use Rattle.laws.proofs.Basics.{needs}
-use Rattle.writing.proofs.base_letter.Statement.{statement}
 use Rattle.writing.proofs.base_letter.Tie as tie
 
 returns-2 : tie.Need-returns-2
@@ -12,7 +11,7 @@ returns-3 : tie.Need-returns-3
 unfolding baseText
 returns-3 c = rw (c .before .before .before .before .enum-told3 .given .1) (c .before .before .emit2 .ensures)
 
-pub base-letter-spec : {M : Type 1} → statement M
+pub base-letter-spec : {M : Type 1} → Rattle.writing.proofs.base_letter.Statement.statement M
 unfolding baseText
 base-letter-spec =
     tie.close

@@ -2,10 +2,9 @@ use Rattle.machine.specs.Step.{jumped, execute}
 use Rattle.machine.proofs.Laws.{kept-to}
 use Rattle.machine.proofs.Numbers.{function-at, function-x}
 use Rattle.laws.proofs.Basics.{needs}
-use Rattle.machine.proofs.Registers.execute.Statement.{statement}
 use Rattle.machine.proofs.Registers.execute.Tie as tie
 
-pub execute-spec : {M : Type 1} → statement M
+pub execute-spec : {M : Type 1} → Rattle.machine.proofs.Registers.execute.Statement.statement M
 unfolding execute jumped
 execute-spec =
     tie.close

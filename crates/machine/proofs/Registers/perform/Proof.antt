@@ -2,10 +2,9 @@ use Rattle.machine.specs.Step.{perform}
 use Rattle.machine.proofs.Laws.{kept, kept-to, kept-finished}
 use Rattle.machine.proofs.Numbers.{act-at, act-combined}
 use Rattle.laws.proofs.Basics.{needs}
-use Rattle.machine.proofs.Registers.perform.Statement.{statement}
 use Rattle.machine.proofs.Registers.perform.Tie as tie
 
-pub perform-spec : {M : Type 1} → statement M
+pub perform-spec : {M : Type 1} → Rattle.machine.proofs.Registers.perform.Statement.statement M
 unfolding perform
 perform-spec =
     tie.close

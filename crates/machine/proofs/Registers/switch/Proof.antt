@@ -1,9 +1,8 @@
 use Rattle.machine.proofs.Laws.{switch-count-past, switch-default-past, switch-pair-past, switch-to}
 use Rattle.laws.proofs.Basics.{needs}
-use Rattle.machine.proofs.Registers.switch.Statement.{statement}
 use Rattle.machine.proofs.Registers.switch.Tie as tie
 
-pub switch-spec : {M : Type 1} → statement M
+pub switch-spec : {M : Type 1} → Rattle.machine.proofs.Registers.switch.Statement.statement M
 switch-spec =
     tie.close
     (tie.spec (search needs) (search needs) (search needs) (search needs) (search needs) (search needs) (search needs) (search needs) (search needs)

@@ -1,7 +1,6 @@
 -- Each turn that goes on did more instructions than the last one that had a full output, or adds to the budget; memory and output keep
 -- their lengths.
 use Rattle.laws.proofs.Basics.{_+_, _-_, _≤_, _≡_, ⊎-elim, length, arith, needs}
-use Rattle.messages.proofs.running.carry_on.Statement.{statement}
 use Rattle.messages.proofs.running.carry_on.Tie as tie
 
 abbrev Inv-loop : tie.InvT-loop
@@ -20,7 +19,7 @@ loop-again c =
     let by = c .before .before .before .before .before .before .before .if3 .came in
     (⊎-elim (λ w. omega arith) (λ w. omega arith) by, ⊎-elim (λ w. omega arith) (λ w. omega arith) by, omega arith, omega arith)
 
-pub carry-on-spec : {M : Type 1} → statement M
+pub carry-on-spec : {M : Type 1} → Rattle.messages.proofs.running.carry_on.Statement.statement M
 carry-on-spec =
     tie.close
     (tie.spec Inv-loop μ-loop (search needs) (search needs) (search needs) (search needs) (search needs) (search needs) (search needs) (search needs)

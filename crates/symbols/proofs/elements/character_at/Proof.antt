@@ -2,7 +2,6 @@ use Rattle.laws.proofs.Basics.{arith, needs}
 use Rattle.text.proofs.Answers.{when-closed, when-unclosed, when-faulty}
 use Rattle.text.proofs.Constants.{closed-inside}
 use Rattle.symbols.proofs.Quotations.{fault-inside, no-character, a-character, character-unclosed, character-faulty}
-use Rattle.symbols.proofs.elements.character_at.Statement.{statement}
 use Rattle.symbols.proofs.elements.character_at.Tie as tie
 
 add-t12 : tie.Need-add-t12
@@ -26,7 +25,7 @@ returns-2 c =
     let constant = when-closed _ (called .quoted-at .ensures) (matched .constant .given .1) in
     rw (c .wide .ensures .0) (a-character _ (called .before .before .args .at) constant (c .before .before .if1 .left) (c .before .value-at .ensures))
 
-pub character-at-spec : {M : Type 1} → statement M
+pub character-at-spec : {M : Type 1} → Rattle.symbols.proofs.elements.character_at.Statement.statement M
 character-at-spec =
     tie.close
     (tie.spec (search needs) (search needs) returns (search needs) (search needs) add-t12 (search needs) (search needs) add-t13 returns-2

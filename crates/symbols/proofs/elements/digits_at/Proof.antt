@@ -1,7 +1,6 @@
 use Rattle.laws.proofs.Basics.{_-_, length, needs}
 use Rattle.laws.proofs.Cases.{held, failed}
 use Rattle.symbols.proofs.Numbers.{Digits, digit-from, digits-start, digits-stop, digits-more, digits-end}
-use Rattle.symbols.proofs.elements.digits_at.Statement.{statement}
 use Rattle.symbols.proofs.elements.digits_at.Tie as tie
 
 abbrev Inv-loop : tie.InvT-loop
@@ -16,7 +15,7 @@ and-digit-requires c κs =
     let digit = digit-from _ _ (held (c .before .is-digit .ensures) (c .if1 .left)) in
     (loop .before .before .pre .1, loop .loop .inv .small, digit, read .wide .ensures .1)
 
-pub digits-at-spec : {M : Type 1} → statement M
+pub digits-at-spec : {M : Type 1} → Rattle.symbols.proofs.elements.digits_at.Statement.statement M
 digits-at-spec =
     tie.close
     (tie.spec Inv-loop μ-loop (λ c. digits-start _ _ _) (search needs) (search needs) (search needs) (search needs)

@@ -2,10 +2,9 @@ use Rattle.laws.proofs.Basics.{ap, _∙_, needs}
 use Rattle.language.specs.Symbols.{octal, character, string, byClass}
 use Rattle.symbols.specs.Answers.{asElement}
 use Rattle.symbols.proofs.Heads.{of-class, no-class, past-first}
-use Rattle.symbols.proofs.elements.element_at.Statement.{statement}
 use Rattle.symbols.proofs.elements.element_at.Tie as tie
 
-pub element-at-spec : {M : Type 1} → statement M
+pub element-at-spec : {M : Type 1} → Rattle.symbols.proofs.elements.element_at.Statement.statement M
 unfolding byClass asElement
 element-at-spec =
     tie.close

@@ -1,10 +1,9 @@
 use Rattle.laws.proofs.Basics.{sym, ap, _∙_, needs}
 use Rattle.symbols.specs.Answers.{asElement}
 use Rattle.symbols.proofs.Heads.{is-comment, is-sign}
-use Rattle.symbols.proofs.elements.sign_or_comment.Statement.{statement}
 use Rattle.symbols.proofs.elements.sign_or_comment.Tie as tie
 
-pub sign-or-comment-spec : {M : Type 1} → statement M
+pub sign-or-comment-spec : {M : Type 1} → Rattle.symbols.proofs.elements.sign_or_comment.Statement.statement M
 sign-or-comment-spec =
     tie.close
     (tie.spec (λ c κs. search needs) (λ c κs. search needs)

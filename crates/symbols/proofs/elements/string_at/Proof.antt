@@ -2,7 +2,6 @@ use Rattle.laws.proofs.Basics.{arith, needs}
 use Rattle.text.proofs.Answers.{when-closed, when-unclosed, when-faulty}
 use Rattle.text.proofs.Constants.{closed-inside}
 use Rattle.symbols.proofs.Quotations.{fault-inside, a-string, string-unclosed, string-faulty}
-use Rattle.symbols.proofs.elements.string_at.Statement.{statement}
 use Rattle.symbols.proofs.elements.string_at.Tie as tie
 
 add-t9 : tie.Need-add-t9
@@ -19,7 +18,7 @@ add-t10 c =
     let constant2 = c .before .constant2 in
     omega (arith, fault-inside (args .text .now) (args .at) 34 255 (when-faulty _ (quoted-at .ensures) (constant2 .given .1)))
 
-pub string-at-spec : {M : Type 1} → statement M
+pub string-at-spec : {M : Type 1} → Rattle.symbols.proofs.elements.string_at.Statement.statement M
 string-at-spec =
     tie.close
     (tie.spec (search needs) (search needs) add-t9 (search needs) (search needs) add-t10 (λ c. search (a-string, when-closed))

@@ -2,7 +2,6 @@ use Rattle.symbols.specs.Spellings.{spellingAt}
 use Rattle.laws.proofs.Basics.{_+_, _-_, _≤_, _≡_, sym, _∙_, length, drop, arith, needs}
 use Rattle.language.specs.Symbols.{begins}
 use Rattle.symbols.proofs.Spelling.{short-row, letter-is, begins-past, begins-differs, begins-more, begins-start, begins-whole}
-use Rattle.symbols.proofs.spellings.begins_at.Statement.{statement}
 use Rattle.symbols.proofs.spellings.begins_at.Tie as tie
 
 abbrev Inv-loop : tie.InvT-loop
@@ -47,7 +46,7 @@ returns-3 c =
     let args = c .before .before .before .before .args in
     sym (c .before .loop .inv .2 ∙ begins-whole (spellingAt (args .row)) _ (c .before .loop .i) (omega arith))
 
-pub begins-at-spec : {M : Type 1} → statement M
+pub begins-at-spec : {M : Type 1} → Rattle.symbols.proofs.spellings.begins_at.Statement.statement M
 begins-at-spec =
     tie.close
     (tie.spec Inv-loop μ-loop (λ c κs. search needs) (λ c. (omega arith, omega arith, search begins-start)) (λ c. omega arith) returns

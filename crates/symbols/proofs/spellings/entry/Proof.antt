@@ -1,8 +1,7 @@
 use Rattle.laws.proofs.Basics.{_∙_, needs}
-use Rattle.symbols.proofs.spellings.entry.Statement.{statement}
 use Rattle.symbols.proofs.spellings.entry.Tie as tie
 
-pub entry-spec : {M : Type 1} → statement M
+pub entry-spec : {M : Type 1} → Rattle.symbols.proofs.spellings.entry.Statement.statement M
 entry-spec =
     tie.close
     (tie.spec (search needs) (search needs) (search needs) (search needs)

@@ -3,10 +3,9 @@ use Rattle.language.specs.Kinds.{reserved, signs}
 use Rattle.language.specs.Symbols.{begins, signIn, sign}
 use Rattle.symbols.specs.Spellings.{byLetter, spelled}
 use Rattle.symbols.proofs.Spelling.{skips, skips-none}
-use Rattle.symbols.proofs.spellings.first_row.Statement.{statement}
 use Rattle.symbols.proofs.spellings.first_row.Tie as tie
 
-pub first-row-spec : {M : Type 1} → statement M
+pub first-row-spec : {M : Type 1} → Rattle.symbols.proofs.spellings.first_row.Statement.statement M
 unfolding begins signIn sign spelled byLetter reserved signs
 first-row-spec =
     tie.close

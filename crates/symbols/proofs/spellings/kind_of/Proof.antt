@@ -1,6 +1,5 @@
 use Rattle.laws.proofs.Basics.{_-_, sym, _∙_, ⊎-elim, take, drop, arith, needs}
 use Rattle.symbols.proofs.Spelling.{no-bytes, Searching, search-starts, search-ends, search-passes, search-finds, search-goes-on}
-use Rattle.symbols.proofs.spellings.kind_of.Statement.{statement}
 use Rattle.symbols.proofs.spellings.kind_of.Tie as tie
 
 abbrev Inv-loop : tie.InvT-loop
@@ -36,7 +35,7 @@ loop-again c =
     (c .before .before .before .before .before .rows-of .ensures .words) (λ e. w .0 .left (c .before .entry .ensures ∙ e))))
     (c .if3 .came)
 
-pub kind-of-spec : {M : Type 1} → statement M
+pub kind-of-spec : {M : Type 1} → Rattle.symbols.proofs.spellings.kind_of.Statement.statement M
 kind-of-spec =
     tie.close
     (tie.spec Inv-loop μ-loop (λ c. no-bytes _ (c .if1 .taken)) (λ c. omega arith) (λ c κs. search needs) (λ c. search search-starts)

@@ -3,10 +3,9 @@ use Rattle.language.specs.Kinds.{reserved}
 use Rattle.language.specs.Candidates.{candidatesIn, candidates}
 use Rattle.symbols.specs.Spellings.{byLetter, ofLength}
 use Rattle.symbols.proofs.Spelling.{spans, no-span}
-use Rattle.symbols.proofs.spellings.rows_of.Statement.{statement}
 use Rattle.symbols.proofs.spellings.rows_of.Tie as tie
 
-pub rows-of-spec : {M : Type 1} → statement M
+pub rows-of-spec : {M : Type 1} → Rattle.symbols.proofs.spellings.rows_of.Statement.statement M
 unfolding reserved candidatesIn candidates byLetter ofLength
 rows-of-spec =
     tie.close

@@ -3,7 +3,6 @@ use Rattle.language.specs.Symbols.{sign, signIn}
 use Rattle.symbols.specs.Spellings.{spelled}
 use Rattle.symbols.specs.Answers.{asElement}
 use Rattle.symbols.proofs.Spelling.{sign-from, sign-end, a-sign, sign-next}
-use Rattle.symbols.proofs.spellings.sign_at.Statement.{statement}
 use Rattle.symbols.proofs.spellings.sign_at.Tie as tie
 
 abbrev Inv-loop : tie.InvT-loop
@@ -26,7 +25,7 @@ loop-again c =
     let loop-test = c .before .before .loop-test in
     loop .inv ∙ sign-next _ _ (loop-test .taken) (sym (c .before .begins-at .ensures) ∙ c .if1 .left)
 
-pub sign-at-spec : {M : Type 1} → statement M
+pub sign-at-spec : {M : Type 1} → Rattle.symbols.proofs.spellings.sign_at.Statement.statement M
 unfolding asElement
 sign-at-spec =
     tie.close
