@@ -68,9 +68,9 @@ is-leave (F.anUnless p q) a b c d e f g h i j l = absurd (c refl)
 is-leave (F.aWhile p q) a b c d e f g h i j l = absurd (g refl)
 is-leave (F.anUntil p q) a b c d e f g h i j l = absurd (h refl)
 is-leave (F.aFor p q r) a b c d e f g h i j l = absurd (i refl)
-is-leave (F.aSwitch p q r) a b c d e f g h i j l = absurd (j refl)
+is-leave (F.aSwitch p) a b c d e f g h i j l = absurd (j refl)
 is-leave (F.aResult p q r) a b c d e f g h i j l = absurd (a refl)
-is-leave (F.aBlock p q r t) a b c d e f g h i j l = absurd (d refl)
+is-leave (F.aBlock p) a b c d e f g h i j l = absurd (d refl)
 is-leave (F.anEndcase {p} x) a b c d e f g h i j l = record { place = p; same = refl; place-of = x }
 is-leave (F.aBreak {p} x) a b c d e f g h i j l = record { place = p; same = refl; place-of = x }
 is-leave (F.aLoop {p} x) a b c d e f g h i j l = record { place = p; same = refl; place-of = x }

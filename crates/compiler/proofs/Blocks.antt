@@ -18,7 +18,7 @@ use Rattle.compiler.specs.Commands.{cmdSays, cmdsSays, ReadyC, GaveC, Re
 use Rattle.compiler.specs.Locals.{Local, aVector, someValues, withLocal, encodeLocal, localDepth, FineLocal, scopeWith, heightWith, faultsL}
 use Rattle.compiler.specs.Locals.{localSays, ReadyLocal, GaveLocal, localsSays, ReadyLocals, GaveLocals}
 use Rattle.compiler.proofs.Done.{did-none, did-then, did-as, same-refl, same-eq, code-is}
-use Rattle.compiler.proofs.Trees.{IsTwo, is-two, ends}
+use Rattle.compiler.proofs.Trees.{IsTwo, ends}
 use Rattle.compiler.proofs.Parts.{moved}
 use Rattle.compiler.proofs.Lists.{First, first-of, Kind, Part, begins, ready-one, rest-length, goes-on, ended}
 use Rattle.compiler.proofs.Calls.{count-resolved}
@@ -313,7 +313,7 @@ module _ (text t₀ : List ℕ) {s₀ : List ℕ} {from end : ℕ} {here : Here}
 -- ---- a block
 
 is-block : {s : List ℕ} {lo end : ℕ} {u : Unlabelled} → Form s lo end 57 u → IsTwo encodeLocals encodeCommands T.block s lo end u
-is-block (F.aBlock {ls} {cs} h v z q) = is-two encodeLocals encodeCommands T.block ls cs h z v q
+is-block (F.aBlock h) = h
 
 -- locals anywhere
 any-locals : (text : List ℕ) (l m : Leavable) (q : l .routine ≡ m .routine) (sc : Scope) (h : ℕ) (ls : T.Locals)

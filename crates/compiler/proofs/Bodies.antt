@@ -6,6 +6,8 @@ use Rattle.compiler.proofs.Language.{inExpression, depth, commandDepth,
 use Rattle.language.specs.Program.{bodyFaults}
 use Rattle.code.specs.Generate as G
 use Rattle.compiler.proofs.Vocabulary.{FineE, FineC, Lies, Ready, Result, ReadyE, GaveE, State, Here, Ways}
+use Rattle.compiler.proofs.Scoping.{keeps-all}
+use Rattle.compiler.proofs.Parts.{sub}
 use Rattle.compiler.specs.Commands.{ReadyC, GaveC}
 use Rattle.compiler.specs.Groups.{FineB, bodySays, ReadyBody, GaveBody}
 
@@ -30,44 +32,20 @@ unfolding bodyWord
 routine-is (T.value e) q = absurd (q refl)
 routine-is (T.routine c) q = record { part = c; same = refl }
 
--- what stands there as another kind of tree, with the same entries
-abbrev pub ready-as : {A B : Type 0} {enc : A → List ℕ} {deep : A → ℕ} {Fine : A → Type 0} (enc′ : B → List ℕ) (deep′ : B → ℕ) (Fine′ : B → Type 0)
-    {s : List ℕ} {end : ℕ} {x : Here} {st : State} (z : Ready enc deep Fine s end x st) (b : B)
-    → enc (z .tree) ≡ enc′ b → deep (z .tree) ≡ deep′ b → Fine′ b → Ready enc′ deep′ Fine′ s end x st
-ready-as enc′ deep′ Fine′ {s} {end} {x} {st} z b q d f =
-    let l = ap length q in
-    record {
-      base = z .base;
-      lo = z .lo;
-      tree = b;
-      scope = z .scope;
-      lies = subst (Lies s (z .lo)) q (z .lies);
-      ends = rw (z .ends, l);
-      above = z .above;
-      long = z .long;
-      small = z .small;
-      shows = z .shows;
-      room = rw l at (z .room);
-      height = rw l at (z .height);
-      label = rw l at (z .label);
-      some = z .some;
-      strings = z .strings;
-      shallow = rw d at (z .shallow);
-      fine = f;
-    }
-
 module _ {s : List ℕ} {end word : ℕ} {x : Here} {st : State} where
   abbrev pub ready-value : word ≡ K.EQUAL → ReadyBody s end x st word → ReadyE s end x st
   unfolding encodeBody bodyDepth
   ready-value e y =
       let z = y .ready in let v = value-is (z .tree) (sym (y .word-is) ∙ e) in
-      ready-as encode depth FineE z (v .part) (ap encodeBody (v .same)) (ap bodyDepth (v .same)) (subst FineB (v .same) (z .fine))
+      let q : encodeBody (z .tree) ≡ encode (v .part) = ap encodeBody (v .same) in
+      sub z keeps-all (rw q at (z .lies)) refl (omega (arith, ap length q, ap bodyDepth (v .same))) (subst FineB (v .same) (z .fine))
 
   abbrev pub ready-routine : (word ≡ K.EQUAL → ⊥) → ReadyBody s end x st word → ReadyC s end x st
   unfolding encodeBody bodyDepth
   ready-routine e y =
       let z = y .ready in let v = routine-is (z .tree) (λ k. e (y .word-is ∙ k)) in
-      ready-as encodeCommand commandDepth FineC z (v .part) (ap encodeBody (v .same)) (ap bodyDepth (v .same)) (subst FineB (v .same) (z .fine))
+      let q : encodeBody (z .tree) ≡ encodeCommand (v .part) = ap encodeBody (v .same) in
+      sub z keeps-all (rw q at (z .lies)) refl (omega (arith, ap length q, ap bodyDepth (v .same))) (subst FineB (v .same) (z .fine))
 
   abbrev Owed : ReadyBody s end x st word → (text s′ t t′ : List ℕ) (r : State) → T.Body → Type 0
   Owed y text s′ t t′ r b = let z = y .ready in

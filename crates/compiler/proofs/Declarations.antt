@@ -3,19 +3,14 @@ use Rattle.laws.proofs.Basics.{ℕ, _+_, _*_, _^_, _<_, _≤_, _≡_, refl, sym
 use Rattle.compiler.proofs.Language.{Name, Scope, declared, inBlock, onFound, fault, declareAll, twice, encodeName, encodeNames, FineName}
 use Rattle.compiler.proofs.Language.{FineNames}
 use Rattle.language.specs.Names as N
-use Rattle.compiler.proofs.Vocabulary.{Shows, Keeps, PushedName, Told, code, found, named, nameAt, State, Did, Faulted, Lies}
-use Rattle.compiler.proofs.Scoping.{keeps-all, keeps-then, keeps-lower, keeps-name, code-not, pushed-keeps, pushed-name}
+use Rattle.compiler.proofs.Vocabulary.{Shows, Keeps, PushedName, Told, code, found, nameAt, State, Did, Faulted, Lies}
+use Rattle.compiler.proofs.Scoping.{keeps-all, keeps-then, keeps-lower, keeps-name, name-there, means-unknown, pushed-keeps, pushed-name}
 use Rattle.compiler.specs.Commands.{nothing, ReadyNames, Declares, Again}
 use Rattle.compiler.proofs.Done.{did-none, did-then, did-as, same-refl}
 use Rattle.compiler.proofs.Trees.{second}
 
 pub again-not : {m place : ℕ} {st : State} → m ≡ 0 → Again m place st st
-unfolding found
-again-not {m} {place} {st} e = record { by = by }
-  where
-    by : (f : N.Found) → m ≡ found f → (t : List ℕ) → Did (onFound f [] (fault place 9)) nothing 0 t t st st
-    by N.unknown q t = did-none 0
-    by (N.known w) q t = absurd (code-not w (sym q ∙ e))
+again-not z = record { by = λ f e t. rw (means-unknown f e z) (did-none 0) }
 
 pub again-so : {m place : ℕ} {st r : State} → (m ≡ 0 → ⊥) → Faulted place 9 st r → Again m place st r
 unfolding found
@@ -75,7 +70,7 @@ is-names {s} {at} (n ∷ ns) h e l = record {
   name = n;
   more = ns;
   same = refl;
-  is = ap (λ (z : ℕ). named z (getD s (at + 1) 0)) (h .at 2 (omega arith)) ∙ ap (λ (z : ℕ). named (n .place) z) (h .at 1 (omega arith));
+  is = name-there s at (h .at 1 (omega arith)) (h .at 2 (omega arith));
   lies-more = second (0 ∷ n .width ∷ n .place ∷ 59 ∷ []) (encodeNames ns) (at + 4) h refl;
   ends = omega arith;
 }

@@ -12,7 +12,8 @@ use Rattle.language.specs.Binding.{isGuard, isLeave}
 use Rattle.tree.specs.Encoding as O
 use Rattle.compiler.proofs.Vocabulary.{State, Here, Node, FinePlain, NodeAt, Lies}
 use Rattle.compiler.specs.Commands.{ReadyU}
-use Rattle.compiler.proofs.Trees.{kid, ends, value-is, place-is, size-is, kind-is}
+use Rattle.compiler.proofs.Trees.{kid, ends, value-is, place-is, size-is, kind-is, IsTwo}
+use Rattle.compiler.proofs.Parts.{two-closed}
 
 -- ---- words that are one of a few
 
@@ -75,13 +76,10 @@ module _ (s : List ℕ) (lo end : ℕ) where
     aFor : {n : Name} {e d : Expression} {k : Option Constant} {c : Command}
         → Lies s lo (encodeName n ++ (encode e ++ (encode d ++ (encodeBy k ++ encodeCommand c)))) → getD s (end - 3) 0 ≡ length (encodeBy k) → end
         ≡ lo + length (encodeName n ++ (encode e ++ (encode d ++ (encodeBy k ++ encodeCommand c)))) + 4 → Form K.FOR (T.for n e d k c)
-    aSwitch : {e : Expression} {cs : Commands} → Lies s lo (encode e ++ encodeCommands cs) → getD s (end - 3) 0 ≡ length (encode e)
-        → end ≡ lo + length (encode e ++ encodeCommands cs) + 4 → Form K.SWITCHON (T.switchon e cs)
+    aSwitch : {u : Unlabelled} → IsTwo encode encodeCommands T.switchon s lo end u → Form K.SWITCHON u
     aResult : {p : ℕ} {e : Expression} → getD s (end - 2) 0 ≡ p → Lies s lo (encode e) → end ≡ lo + length (encode e) + 4
         → Form K.RESULTIS (T.resultis p e)
-    aBlock : {ls : Locals} {cs : Commands} → Lies s lo (encodeLocals ls ++ encodeCommands cs) → getD s (end - 3) 0 ≡ length (encodeLocals ls)
-        → getD s (end - 4) 0 ≡ length (encodeLocals ls ++ encodeCommands cs) → end ≡ lo + length (encodeLocals ls ++ encodeCommands cs) + 4
-        → Form K.BEGIN (T.block ls cs)
+    aBlock : {u : Unlabelled} → IsTwo encodeLocals encodeCommands T.block s lo end u → Form K.BEGIN u
     anEndcase : {p : ℕ} → getD s (end - 2) 0 ≡ p → Form K.ENDCASE (T.leave K.ENDCASE p)
     aBreak : {p : ℕ} → getD s (end - 2) 0 ≡ p → Form K.BREAK (T.leave K.BREAK p)
     aLoop : {p : ℕ} → getD s (end - 2) 0 ≡ p → Form K.LOOP (T.leave K.LOOP p)
@@ -98,9 +96,9 @@ module _ (s : List ℕ) (lo end : ℕ) where
   form-small (aWhile h q) = omega arith
   form-small (anUntil h q) = omega arith
   form-small (aFor h v q) = omega arith
-  form-small (aSwitch h v q) = omega arith
+  form-small (aSwitch h) = omega arith
   form-small (aResult p h q) = omega arith
-  form-small (aBlock h v z q) = omega arith
+  form-small (aBlock h) = omega arith
   form-small (anEndcase h) = omega arith
   form-small (aBreak h) = omega arith
   form-small (aLoop h) = omega arith
@@ -156,16 +154,14 @@ module _ (s : List ℕ) (lo end : ℕ) where
       let w = encodeName n ++ (encode e ++ (encode d ++ (encodeBy k ++ encodeCommand c))) in let v = length (encodeBy k) in
       so (kind-is w v 0 K.FOR h q) (aFor (kid w v 0 K.FOR h q) (value-is w v 0 K.FOR h q) (ends w v 0 K.FOR h q))
   form-of (T.switchon e cs) f h q =
-      let w = encode e ++ encodeCommands cs in let v = length (encode e) in
-      so (kind-is w v 0 K.SWITCHON h q) (aSwitch (kid w v 0 K.SWITCHON h q) (value-is w v 0 K.SWITCHON h q) (ends w v 0 K.SWITCHON h q))
+      so (kind-is (encode e ++ encodeCommands cs) (length (encode e)) 0 K.SWITCHON h q) (aSwitch (two-closed encode encodeCommands T.switchon e cs 0 K.SWITCHON h q))
   form-of (T.resultis p e) f h q =
       so (kind-is (encode e) 0 p K.RESULTIS h q)
       (aResult (place-is (encode e) 0 p K.RESULTIS h q) (kid (encode e) 0 p K.RESULTIS h q) (ends (encode e) 0 p K.RESULTIS h q))
   form-of (T.leave w p) f h q = so (kind-is [] 0 p w h q) (leave-form (leave-word w (f .0)) (place-is [] 0 p w h q))
   form-of (T.block ls cs) f h q =
-      let w = encodeLocals ls ++ encodeCommands cs in let v = length (encodeLocals ls) in
-      so (kind-is w v 0 K.BEGIN h q)
-      (aBlock (kid w v 0 K.BEGIN h q) (value-is w v 0 K.BEGIN h q) (size-is w v 0 K.BEGIN h q) (ends w v 0 K.BEGIN h q))
+      so (kind-is (encodeLocals ls ++ encodeCommands cs) (length (encodeLocals ls)) 0 K.BEGIN h q)
+      (aBlock (two-closed encodeLocals encodeCommands T.block ls cs 0 K.BEGIN h q))
 
 pub form-at : {s : List ℕ} {end k : ℕ} {here : Here} {st : State} (n : Node) → NodeAt s end n → n .kind ≡ k → (y : ReadyU s end here st)
     → Form s (y .lo) end k (y .tree)

@@ -5,18 +5,19 @@ use Rattle.items.specs.Item as I
 use Rattle.language.specs.Kinds as K
 use Rattle.language.specs.Tree as T
 use Rattle.compiler.proofs.Language.{Name, Constant, Expression, Command, Unlabelled, depth, commandDepth, unlabelledDepth, Scope, opened}
-use Rattle.compiler.proofs.Language.{declared, Fault, Judged, judgedWord, faultsOf, expression, command, unlabelled, byOf, ofExpr, ofCmd}
+use Rattle.compiler.proofs.Language.{declared, Fault, judgedWord, faultsOf, expression, command, unlabelled, byOf, ofExpr, ofCmd}
 use Rattle.compiler.proofs.Language.{FineName, FineBy, FineUnlabelled, byFaults, inExpression, inUnlabelled, encode, encodeName, encodeBy}
 use Rattle.compiler.proofs.Language.{encodeCommand, encodeUnlabelled}
 use Rattle.language.specs.Names as N
 use Rattle.language.specs.Resolved as R
 use Rattle.code.specs.Generate as G
-use Rattle.compiler.proofs.Vocabulary.{Shows, Keeps, Pushed, PushedName, named, nameAt, State, Here, Ways, Node, FineE, FineC, FinePlain}
+use Rattle.compiler.proofs.Vocabulary.{Shows, Keeps, Pushed, PushedName, nameAt, State, Here, Ways, Node, FineE, FineC, FinePlain}
 use Rattle.compiler.proofs.Vocabulary.{raised, placed, inLoop, leavableBy, exits, NodeAt, Code, Did, Emits, Fresh, Lies, Result, ReadyE, GaveE}
-use Rattle.compiler.proofs.Scoping.{keeps-all, keeps-then, keeps-shows, keeps-name, pushed-keeps}
+use Rattle.compiler.proofs.Scoping.{keeps-all, keeps-then, keeps-shows, keeps-name, name-there, pushed-keeps}
 use Rattle.compiler.specs.declared.steps.Verdict.{Verdict}
 use Rattle.compiler.specs.Commands.{nothing, cmdSays, ReadyC, GaveC, ReadyU, GaveU}
-use Rattle.compiler.specs.Locals.{Says, fit, unfit, Blames}
+use Rattle.compiler.proofs.Judging.{says-word}
+use Rattle.compiler.specs.Locals.{Says, Blames}
 use Rattle.compiler.specs.Switching.{byJudged, JudgesBy}
 use Rattle.compiler.proofs.Done.{did-emit, did-put, did-then, did-as, did-at, did-fresh, same-refl, same-eq, code-is}
 use Rattle.compiler.proofs.Trees.{first, second, keeps-lies}
@@ -61,7 +62,7 @@ is-for {s} {lo} (F.aFor {n} {e} {d} {k} {c} h v q) =
       by = k;
       body = c;
       same = refl;
-      name-is = ap (λ (z : ℕ). named z (getD s (lo + 1) 0)) (h .at 2 (omega arith)) ∙ ap (λ (z : ℕ). named (n .place) z) (h .at 1 (omega arith));
+      name-is = name-there s lo (h .at 1 (omega arith)) (h .at 2 (omega arith));
       lies-start = first a (b ++ (g ++ i)) r₁;
       lies-limit = first b (g ++ i) r₂;
       lies-by = first g i r₃;
@@ -80,10 +81,6 @@ by-word : (text : List ℕ) (sc : Scope) (k : Option Constant) → judgedWord (b
 by-word text sc none = refl
 by-word text sc (some c) = refl
 
-says-word : {r : Verdict} {x : Judged} → Says r x → r .word ≡ judgedWord x
-says-word (fit e) = refl
-says-word (unfit e n w) = w
-
 -- refusals alone, after what was done
 did-judged : {fs gs : List Fault} {f : ℕ → Code} {m : ℕ} {t t₁ : List ℕ} {st a b : State} → Did fs f m t t₁ st a → Did gs nothing 0 t₁ t₁ a b
     → Did (fs ++ gs) f m t t₁ st b
@@ -97,9 +94,7 @@ abbrev steps : (L h by : ℕ) → List I.Item
 steps L h by = I.label (L + 1) ∷ G.LIP h ∷ G.A by ∷ G.SP h ∷ G.JL L ∷ I.label (L + 2) ∷ []
 
 for-shape : (e a f b t c p : List I.Item) → (((((e ++ a) ++ f) ++ b) ++ t) ++ c) ++ p ≡ e ++ (a ++ (f ++ (b ++ (t ++ (c ++ p)))))
-for-shape e a f b t c p =
-    append-assoc ((((e ++ a) ++ f) ++ b) ++ t) c p ∙ append-assoc (((e ++ a) ++ f) ++ b) t (c ++ p) ∙ append-assoc ((e ++ a) ++ f) b (t ++ (c ++ p))
-    ∙ append-assoc (e ++ a) f (b ++ (t ++ (c ++ p))) ∙ append-assoc e a (f ++ (b ++ (t ++ (c ++ p))))
+for-shape e a f b t c p = simp append-assoc
 
 heights-shape : (e a f b c : List ℕ) → (((e ++ a) ++ f) ++ b) ++ c ≡ (e ++ (a ++ f)) ++ (b ++ c)
 heights-shape e a f b c = simp append-assoc
@@ -218,7 +213,7 @@ module _ {s : List ℕ} {end : ℕ} {here : Here} {st : State} (n b l : Node) {l
               let h = here .height in let L = st .label in let S = here .strings in let lv = leavableBy ways here in
               let sc′ = declared (opened sc) (u .name) (N.local h) in let E = expression text sc h (u .start) in
               let D = expression text sc (h + 1) (u .limit) in let C = command text sc′ (h + 2) (u .body) in let B = byOf text sc (u .by) in
-              let w′ = exits (inLoop (L + 1) (L + 2) ways) in let eb : v .word ≡ B = says-word (for-says y) ∙ by-word text sc (u .by) in
+              let w′ = exits (inLoop (L + 1) (L + 2) ways) in let eb : v .word ≡ B = says-word _ (for-says y) ∙ by-word text sc (u .by) in
               let eh : h + 1 + 1 ≡ h + 2 = omega arith in
               let ec : L + 3 + (G.exprLabels E + G.exprLabels D) ≡ L + 3 + G.exprLabels E + G.exprLabels D = omega arith in
               let ll = leaves-loop here ways (L + 1) (L + 2) (omega arith) in let bf = bl .by (byJudged text sc (u .by)) (for-says y) t₄ in

@@ -3,17 +3,16 @@ use Rattle.laws.proofs.Basics.{ℕ, suc, _+_, _*_, _^_, _<_, _≤_, _≡_, refl
 use Rattle.laws.proofs.Basics.{true, false, cond, length, getD, set, length-append, List·getD-append, List·getD-eq-default, getD-set-same}
 use Rattle.laws.proofs.Basics.{getD-set-other, getD-append-seam, eqb, arith, eqb-true, eqb-false}
 use Rattle.laws.proofs.Cases.{Order, lt, ge, order, contradiction}
-use Rattle.compiler.proofs.Language.{Name, Function, Scope, lookup, Fault, fault, Start, nowhere, inGlobal, encodeName, encodeNames}
-use Rattle.compiler.proofs.Language.{encodeBody, encodeFunctions, FineName, FineFunctions}
+use Rattle.compiler.proofs.Language.{Name, Function, Scope, lookup, Fault, fault, Start, nowhere, inGlobal, encodeName}
+use Rattle.compiler.proofs.Language.{encodeFunctions, FineName, FineFunctions}
 use Rattle.language.specs.Names as N
 use Rattle.language.specs.Program.{among, startOf, withFunction, nameFault, alsoTaken, functionsAfter, takenAfter, groupNameFaults}
-use Rattle.compiler.proofs.Vocabulary.{Shows, Keeps, Looked, found, named, nameAt, State, Did, Lies}
+use Rattle.compiler.proofs.Vocabulary.{Shows, Keeps, Looked, found, nameAt, State, Did, Lies}
 use Rattle.compiler.specs.Commands.{nothing}
 use Rattle.compiler.specs.Groups.{Small, Taken, Starting, startsIn, started, NameFaults, Enters, encodeFunction, FineF, FineFs, ReadyGroup}
 use Rattle.compiler.specs.Groups.{GroupNames}
-use Rattle.compiler.proofs.Scoping.{keeps-all, keeps-then, keeps-lower, keeps-name}
+use Rattle.compiler.proofs.Scoping.{keeps-all, keeps-then, keeps-lower, keeps-name, name-there}
 use Rattle.compiler.proofs.Done.{nil-left, nil-right, did-none, did-then, did-as, same-refl}
-use Rattle.compiler.proofs.Trees.{first}
 use Rattle.compiler.proofs.GroupLaws.{is-function, no-function}
 use Rattle.compiler.proofs.Rendered.{small-found}
 
@@ -132,10 +131,7 @@ fine-first f fs h = h
 -- the name at the front of a function
 name-of : {s : List ℕ} {lo : ℕ} (f : Function) → Lies s lo (encodeFunction f) → nameAt s lo ≡ f .name
 unfolding encodeName
-name-of {s} {lo} f h =
-    let name : List ℕ = encodeName (f .name) in let rest = encodeNames (f .parameters) ++ encodeBody (f .body) in
-    let front : Lies s lo name = first name rest (first (name ++ rest) _ h) in
-    ap (λ (z : ℕ). named z (getD s (lo + 1) 0)) (front .at 2 (omega arith)) ∙ ap (λ (z : ℕ). named (f .name .place) z) (front .at 1 (omega arith))
+name-of {s} {lo} f h = name-there s lo (h .at 1 (omega arith)) (h .at 2 (omega arith))
 
 module _ (text : List ℕ) {s₀ table₀ : List ℕ} {from end top before : ℕ} (st₀ : State) where
   -- `bad` and `begun` are the faults and the starts so far

@@ -15,8 +15,8 @@ use Rattle.compiler.proofs.Scoping.{keeps-all, keeps-then}
 use Rattle.compiler.specs.Repeats.{forms, conditions, topsCode, formsCode, formsHeights, formsLabels, formsSays, innermost}
 use Rattle.compiler.specs.Commands.{cmdSays, ReadyU, GaveU, encodeRepeated, ReadyR, GaveR, ReadyForms, GaveForms, formSays, ReadyForm, GaveForm}
 use Rattle.compiler.proofs.Done.{emits-did, did-none, did-put, did-after, did-then, did-as, did-at, did-fresh, same-refl, same-eq, code-is}
-use Rattle.compiler.proofs.Trees.{first, second, kid, ends, value-is, size-is, kind-is}
-use Rattle.compiler.proofs.Parts.{sub}
+use Rattle.compiler.proofs.Trees.{kind-is}
+use Rattle.compiler.proofs.Parts.{TwoAt, two-at, sub}
 use Rattle.compiler.proofs.Lists.{First, first-of, Kind, Part, begins, item, one-size, one-word, rest-length, both-deep, both-fine, goes-on}
 use Rattle.compiler.proofs.Lists.{ended}
 use Rattle.compiler.proofs.Anywhere.{any-expression}
@@ -229,44 +229,19 @@ form-tested text {t₁ = t₁} {t₂} {own = own} {a = a} {r} n g ej f = record 
 
 -- ---- a command with REPEAT forms
 
-pub record IsRepeated (s : List ℕ) (lo end : ℕ) (u : Unlabelled) (rs : Repeats) : Type 0 where
-  pub some : 1 ≤ forms rs
-  pub lies : Lies s lo (encodeUnlabelled u)
-  pub lies-forms : Lies s (lo + length (encodeUnlabelled u)) (encodeRepeats rs)
-  pub value-of : getD s (end - 3) 0 ≡ length (encodeUnlabelled u)
-  pub size-of : getD s (end - 4) 0 ≡ length (encodeUnlabelled u) + length (encodeRepeats rs)
-  pub ends : end ≡ lo + length (encodeUnlabelled u) + length (encodeRepeats rs) + 4
-
-repeated-of : {s : List ℕ} {lo end : ℕ} (u : Unlabelled) (rs : Repeats) → 1 ≤ forms rs
-    → Lies s lo (O.closed (encodeUnlabelled u ++ encodeRepeats rs) (length (encodeUnlabelled u)) 0 O.REPEATED)
-    → end ≡ lo + length (O.closed (encodeUnlabelled u ++ encodeRepeats rs) (length (encodeUnlabelled u)) 0 O.REPEATED) → IsRepeated s lo end u rs
-repeated-of {lo = lo} u rs k h e =
-    let x = encodeUnlabelled u in let y = encodeRepeats rs in
-    record {
-      some = k;
-      lies = first x y (kid (x ++ y) (length x) 0 O.REPEATED h e);
-      lies-forms = second x y (lo + length x) (kid (x ++ y) (length x) 0 O.REPEATED h e) refl;
-      value-of = value-is (x ++ y) (length x) 0 O.REPEATED h e;
-      size-of = size-is (x ++ y) (length x) 0 O.REPEATED h e ∙ length-append x y;
-      ends = omega (arith, ends (x ++ y) (length x) 0 O.REPEATED h e, length-append x y);
-    }
-
 is-repeated : {s : List ℕ} {lo end : ℕ} (u : Unlabelled) (rs : Repeats) → FinePlain u → Lies s lo (O.repeated (encodeUnlabelled u) (encodeRepeats rs))
-    → end ≡ lo + length (O.repeated (encodeUnlabelled u) (encodeRepeats rs)) → getD s (end - 1) 0 ≡ O.REPEATED → IsRepeated s lo end u rs
+    → end ≡ lo + length (O.repeated (encodeUnlabelled u) (encodeRepeats rs)) → getD s (end - 1) 0 ≡ O.REPEATED
+    → (1 ≤ forms rs) × TwoAt s lo end (encodeUnlabelled u) (encodeRepeats rs)
 unfolding O.repeated encodeRepeats forms
 is-repeated {s} {lo} {end} u T.noRepeats f h e q = absurd (omega (arith, form-small s lo end (form-of s lo end u f h e)))
-is-repeated u (T.repeat rs) f h e q = repeated-of u (T.repeat rs) (omega arith) h e
-is-repeated u (T.repeatOn w d rs) f h e q = repeated-of u (T.repeatOn w d rs) (omega arith) h e
-
-pub record IsOnce (s : List ℕ) (lo end : ℕ) (u : Unlabelled) (rs : Repeats) : Type 0 where
-  pub same : rs ≡ T.noRepeats
-  pub lies : Lies s lo (encodeUnlabelled u)
-  pub ends : end ≡ lo + length (encodeUnlabelled u)
+is-repeated u (T.repeat rs) f h e q = (omega arith, two-at (encodeUnlabelled u) (encodeRepeats (T.repeat rs)) 0 O.REPEATED h e)
+is-repeated u (T.repeatOn w d rs) f h e q = (omega arith, two-at (encodeUnlabelled u) (encodeRepeats (T.repeatOn w d rs)) 0 O.REPEATED h e)
 
 is-once : {s : List ℕ} {lo end : ℕ} (u : Unlabelled) (rs : Repeats) → Lies s lo (O.repeated (encodeUnlabelled u) (encodeRepeats rs))
-    → end ≡ lo + length (O.repeated (encodeUnlabelled u) (encodeRepeats rs)) → (getD s (end - 1) 0 ≡ O.REPEATED → ⊥) → IsOnce s lo end u rs
+    → end ≡ lo + length (O.repeated (encodeUnlabelled u) (encodeRepeats rs)) → (getD s (end - 1) 0 ≡ O.REPEATED → ⊥)
+    → (rs ≡ T.noRepeats) × (O.repeated (encodeUnlabelled u) (encodeRepeats rs) ≡ encodeUnlabelled u)
 unfolding O.repeated encodeRepeats
-is-once u T.noRepeats h e q = record { same = refl; lies = h; ends = e }
+is-once u T.noRepeats h e q = (refl, refl)
 is-once u (T.repeat rs) h e q =
     absurd (q (kind-is (encodeUnlabelled u ++ encodeRepeats (T.repeat rs)) (length (encodeUnlabelled u)) 0 O.REPEATED h e))
 is-once u (T.repeatOn w d rs) h e q =
@@ -299,7 +274,8 @@ innermost-is n (suc k) own ways l e = let q : own ≡ n + 3 * k = omega arith in
 
 module _ {s : List ℕ} {end : ℕ} {here : Here} {st : State} (n : Node) (nd : NodeAt s end n) (q : n .kind ≡ O.REPEATED) {middle : ℕ}
     (m : middle ≡ n .start + n .value) where
-  pub repeated-is : (y : ReadyR s end here st) → IsRepeated s (y .lo) end (y .tree .body) (y .tree .forms)
+  pub repeated-is : (y : ReadyR s end here st) → let r = y .tree in
+      (1 ≤ forms (r .forms)) × TwoAt s (y .lo) end (encodeUnlabelled (r .body)) (encodeRepeats (r .forms))
   repeated-is y = is-repeated (y .tree .body) (y .tree .forms) (y .fine .0) (y .lies) (y .ends) (sym (nd .kind) ∙ q)
 
   pub repeated-middle : (y : ReadyR s end here st) → middle ≡ y .lo + length (encodeUnlabelled (y .tree .body))
@@ -308,7 +284,7 @@ module _ {s : List ℕ} {end : ℕ} {here : Here} {st : State} (n : Node) (nd : 
   module _ {k : ℕ} (c : Counts s middle (n .inner) k) where
     pub repeated-count : (y : ReadyR s end here st) → k ≡ forms (y .tree .forms)
     repeated-count y = let u = repeated-is y in
-        c .by (forms (y .tree .forms)) (repeat-items (y .tree .forms) (rw (repeated-middle y) (u .lies-forms)) (omega (arith, repeated-middle y)))
+        c .by (forms (y .tree .forms)) (repeat-items (y .tree .forms) (rw (repeated-middle y) (u .1 .lies-list)) (omega (arith, repeated-middle y)))
 
     pub repeated-few : (y : ReadyR s end here st) → (1 ≤ k) × (st .label + 3 * k + 3 ≤ 2 ^ 29)
     repeated-few y =
@@ -318,14 +294,14 @@ module _ {s : List ℕ} {end : ℕ} {here : Here} {st : State} (n : Node) (nd : 
     module _ {a b : State} {t t₁ : List ℕ} (e : Fresh (3 * k) st a) (f : Emits (topsCode (st .label) k) [] t t₁ a b) where
       abbrev pub repeated-body : ReadyR s end here st → ReadyU s middle here b
       repeated-body y = let u = repeated-is y in
-          sub y keeps-all (u .lies) refl (omega (arith, repeated-middle y, repeated-count y, forms-entries (y .tree .forms))) (y .fine .0)
+          sub y keeps-all (u .1 .lies) refl (omega (arith, repeated-middle y, repeated-count y, forms-entries (y .tree .forms))) (y .fine .0)
 
       module _ (text : List ℕ) (ways : Ways) {own : ℕ} (eo : own ≡ st .label + 3 * k - 3) {s₁ t₂ : List ℕ} {d : State}
           (g : GaveU text s s₁ middle here (inLoop (own + 1) (own + 2) ways) t₁ t₂ b d) where
         abbrev pub repeated-forms : ReadyR s end here st → ReadyForms s₁ middle (n .inner) here d
         repeated-forms y = let u = repeated-is y in let x = g .by (repeated-body y) in record {
           before = st;
-          ready = sub y (x .keeps) (u .lies-forms) refl (omega arith) (y .fine .1);
+          ready = sub y (x .keeps) (u .1 .lies-list) refl (omega arith) (y .fine .1);
           starts = sym (repeated-middle y);
           label = omega (arith, repeated-count y, forms-entries (y .tree .forms));
           some = omega arith;
@@ -338,8 +314,8 @@ module _ {s : List ℕ} {end : ℕ} {here : Here} {st : State} (n : Node) (nd : 
               let h = here .height in let S = here .strings in let L = st .label in let rs = y .tree .forms in let C = unlabelled text sc h
               (y .tree .body) in let lv = leavableBy ways here in let N = L + 3 * k in let ek = repeated-count y in let l₁ : leavableBy
               (inLoop (own + 1) (own + 2) ways) here ≡ Y.repeated rs lv = leaves-loop here ways (own + 1) (own + 2) (omega arith)
-              ∙ sym (forms-leave rs lv (u .some)) in let ei : exits (inLoop (own + 1) (own + 2) ways) ≡ innermost L (forms rs) (exits ways)
-              = innermost-is L (forms rs) own ways (u .some) (rw (eo, ek)) in
+              ∙ sym (forms-leave rs lv (u .0)) in let ei : exits (inLoop (own + 1) (own + 2) ways) ≡ innermost L (forms rs) (exits ways)
+              = innermost-is L (forms rs) own ways (u .0) (rw (eo, ek)) in
               record {
                 keeps = keeps-then (x .keeps) (z .keeps);
                 did = did-at (cmdSays here ways (repeats text sc h C rs)) _ (did-fresh e (did-after f (did-then (x .did) (z .did))))
@@ -352,19 +328,16 @@ module _ {s : List ℕ} {end : ℕ} {here : Here} {st : State} (n : Node) (nd : 
         }
 
 module _ {s : List ℕ} {end : ℕ} {here : Here} {st : State} (n : Node) (nd : NodeAt s end n) (q : n .kind ≡ O.REPEATED → ⊥) where
-  pub once-is : (y : ReadyR s end here st) → IsOnce s (y .lo) end (y .tree .body) (y .tree .forms)
+  pub once-is : (y : ReadyR s end here st) → (y .tree .forms ≡ T.noRepeats) × (encodeRepeated (y .tree) ≡ encodeUnlabelled (y .tree .body))
   once-is y = is-once (y .tree .body) (y .tree .forms) (y .lies) (y .ends) (λ e. q (nd .kind ∙ e))
 
   abbrev pub once-part : ReadyR s end here st → ReadyU s end here st
-  once-part y = let u = once-is y in sub y keeps-all (u .lies) refl (omega arith) (y .fine .0)
+  once-part y = let e = once-is y .1 in sub y keeps-all (rw e at (y .lies)) refl (omega (arith, ap length e)) (y .fine .0)
 
   pub once-gave : (text : List ℕ) (ways : Ways) {s₁ t t₁ : List ℕ} {r : State} → GaveU text s s₁ end here ways t t₁ st r
       → GaveR text s s₁ end here ways t t₁ st r
-  unfolding inRepeats repeats
-  once-gave text ways {s₁} {t} {t₁} {r} g = record {
-    by = λ y. let u = once-is y in let x = g .by (once-part y) in let sc = y .scope in let h = here .height in let lv = leavableBy ways here in
-        let U = y .tree .body in
-        subst (λ (rs : Repeats). Result (inUnlabelled text sc (Y.repeated rs lv) h U ++ inRepeats text sc lv h rs)
-        (cmdSays here ways (repeats text sc h (unlabelled text sc h U) rs)) (length (encodeRepeated (y .tree))) (y .base) here s s₁ t t₁ st r)
-        (sym (u .same)) (record { keeps = x .keeps; did = did-as _ _ (x .did) (same-eq (sym (append-nil _))) (λ k v. refl) (omega arith) });
+  unfolding inRepeats repeats O.repeated encodeRepeats
+  once-gave text ways g = record {
+    by = λ y. let x = g .by (once-part y) in rw (once-is y .0)
+        (record { keeps = x .keeps; did = did-as _ _ (x .did) (same-eq (sym (append-nil _))) (λ k v. refl) (omega arith) });
   }

@@ -8,42 +8,24 @@ use Rattle.compiler.proofs.Language.{encodeBy, encodeLabels}
 use Rattle.compiler.proofs.Vocabulary.{Shows, State, Node, NodeAt, Did, Faulted, Lies}
 use Rattle.compiler.specs.declared.steps.Verdict.{Verdict}
 use Rattle.compiler.specs.Commands.{nothing}
-use Rattle.compiler.specs.Locals.{Says, fit, unfit, Judges, Blames}
+use Rattle.compiler.specs.Locals.{Says, fit, Judges, Blames}
 use Rattle.compiler.specs.Switching.{JudgesBy, byJudged, ReadyMisplaced, Misplaces}
 use Rattle.compiler.specs.Labels.{Row, noMore, andMore, NextItem, LabelAt, aCase, aDefault, MisplacesLabel}
 use Rattle.compiler.proofs.Done.{did-none, did-then, did-as, same-eq}
 use Rattle.compiler.proofs.Trees.{first, second, kid, ends, place-is, kind-is}
-use Rattle.compiler.proofs.Judging.{place-there}
+use Rattle.compiler.proofs.Judging.{place-there, within-passes, within-fails}
 
 -- ---- the constant of BY
 
-positive-long : (p : ℕ) (x : Simple) → 0 < length (encodePositive p x)
-unfolding encodePositive encodeName
-positive-long p (T.literal v) = omega arith
-positive-long p (T.known n) = omega arith
-
-negative-long : (p : ℕ) (x : Simple) → 0 < length (encodeNegative p x)
-unfolding encodeNegative encodeName
-negative-long p (T.literal v) = omega arith
-negative-long p (T.known n) = omega arith
-
 constant-long : (c : Constant) → 0 < length (encodeConstant c)
-unfolding encodeConstant
-constant-long c = go (c .minus)
+unfolding encodeConstant encodePositive encodeNegative encodeName
+constant-long c = go (c .minus) (c .simple)
   where
-    go : (b : Bool) → 0 < length (cond b (encodeNegative (c .place) (c .simple)) (encodePositive (c .place) (c .simple)))
-    go true = negative-long (c .place) (c .simple)
-    go false = positive-long (c .place) (c .simple)
-
-not-zero : {j : Verdict} (c : Constant) (x : Judged) → (j .number ≡ 0 → j .word ≡ 0 → ⊥) → Says j x
-    → Says j (within c (λ v. cond (eqb v 0) false true) x)
-not-zero {j} c (good v) n (fit q) = rw (ne-eqb (j .word) 0 (n q)) (fit q)
-not-zero c (refused fs) n (unfit a b w) = unfit a b w
-
-a-zero : {j : Verdict} (c : Constant) (x : Judged) {p : ℕ} → j .number ≡ 0 → j .word ≡ 0 → p ≡ c .place → Says j x
-    → Says (record { word = 0; number = 11; place = p }) (within c (λ v. cond (eqb v 0) false true) x)
-a-zero {j} c (good v) {p} e w q (fit z) = rw (eq-eqb (j .word) 0 w) (rw (← q) (unfit refl (λ z. omega arith) refl))
-a-zero c (refused fs) e w q (unfit a b z) = absurd (b (sym a ∙ e))
+    go : (b : Bool) (x : Simple) → 0 < length (cond b (encodeNegative (c .place) x) (encodePositive (c .place) x))
+    go true (T.literal v) = omega arith
+    go true (T.known n) = omega arith
+    go false (T.literal v) = omega arith
+    go false (T.known n) = omega arith
 
 module _ (text : List ℕ) {s : List ℕ} {from end top : ℕ} where
   pub by-none : end ≤ from → JudgesBy text s from end top (record { word = 1; number = 0; place = 0 })
@@ -70,12 +52,13 @@ module _ (text : List ℕ) {s : List ℕ} {from end top : ℕ} where
 
   module _ {j : Verdict} (l : from < end) (g : Judges text s end top j) where
     pub by-judged : (j .number ≡ 0 → j .word ≡ 0 → ⊥) → JudgesBy text s from end top j
-    by-judged n = judges-by l (g .fits) (λ sc c sh f h e. not-zero c (judge text sc c) n (g .by sc from c sh f h e))
+    by-judged n = judges-by l (g .fits) (λ sc c sh f h e. within-passes c (λ v. cond (eqb v 0) false true) (judge text sc c)
+        (λ z. rw (ne-eqb (j .word) 0 (n z))) (g .by sc from c sh f h e))
 
     pub by-zero : {p e₂ : ℕ} → j .number ≡ 0 → j .word ≡ 0 → e₂ ≡ end - 2 → p ≡ getD s e₂ 0 → p < 2 ^ 32
         → JudgesBy text s from end top (record { word = 0; number = 11; place = p })
-    by-zero n w q e f = judges-by l (f, omega arith) (λ sc c sh fine h en. a-zero c (judge text sc c) n w (rw (e, q, place-there c fine h en))
-        (g .by sc from c sh fine h en))
+    by-zero n w q e f = judges-by l (f, omega arith) (λ sc c sh fine h en. within-fails c (λ v. cond (eqb v 0) false true) (judge text sc c)
+        (λ z. n) (rw (eq-eqb (j .word) 0 w)) (rw (e, q, place-there c fine h en)) (g .by sc from c sh fine h en))
 
 -- ---- the loop over items
 

@@ -9,16 +9,16 @@ use Rattle.compiler.specs.Scope.{named, nameAt, packed, code, found, Wor
 
 -- ---- spelling
 
+never : (t : Bool) → cond t false false ≡ false
+never true = refl
+never false = refl
+
 sameBytes-length : (x y : List ℕ) → (length x ≡ length y → ⊥) → sameBytes x y ≡ false
 unfolding sameBytes
 sameBytes-length [] [] h = absurd (h refl)
 sameBytes-length [] (b ∷ y) h = refl
 sameBytes-length (a ∷ x) [] h = refl
-sameBytes-length (a ∷ x) (b ∷ y) h = rw (sameBytes-length x y (λ e. h (ap suc e))) (both (eqb a b))
-  where
-    both : (t : Bool) → cond t false false ≡ false
-    both true = refl
-    both false = refl
+sameBytes-length (a ∷ x) (b ∷ y) h = rw (sameBytes-length x y (λ e. h (ap suc e)), never)
 
 -- only so many bytes as there are
 cut : (n : ℕ) (x : List ℕ) → take n x ≡ take (min n (length x)) x
@@ -68,11 +68,7 @@ unfolding sameBytes
 last-differs i [] y a b e = absurd (omega arith)
 last-differs i (c ∷ x) [] a b e = absurd (omega arith)
 last-differs zero (c ∷ x) (d ∷ y) a b e = rw (ne-eqb c d e) refl
-last-differs (suc i) (c ∷ x) (d ∷ y) a b e = rw (last-differs i x y (omega arith) (omega arith) e) (both (eqb c d))
-  where
-    both : (t : Bool) → cond t false false ≡ false
-    both true = refl
-    both false = refl
+last-differs (suc i) (c ∷ x) (d ∷ y) a b e = rw (last-differs i x y (omega arith) (omega arith) e, never)
 
 module _ (text : List ℕ) (p q i : ℕ) (h : 1 ≤ i) (hp : p + i ≤ length text) (hq : q + i ≤ length text) where
   byte : (p : ℕ) → getD text (p + (i - 1)) 0 ≡ getD (drop p text) (i - 1) 0
@@ -106,6 +102,40 @@ code-not (local k) e = omega arith
 code-not (global k) e = omega arith
 code-not (manifest k) e = omega arith
 code-not (function k) e = omega arith
+
+-- what a code means, by its remainder
+abbrev meant : (n remainder : ℕ) → Meaning
+meant n zero = function (n - 1)
+meant n (suc zero) = local n
+meant n (suc (suc zero)) = global n
+meant n (suc (suc (suc r))) = manifest n
+
+module _ {m : ℕ} where
+  means : (f : Found) → m ≡ found f → f ≡ cond (eqb m 0) unknown (known (meant (m / 4) (m % 4)))
+  unfolding found code
+  means unknown e = rw e
+  means (known (local k)) e = let a : m / 4 ≡ k = omega arith in let b : m % 4 ≡ 1 = omega arith in rw (ne-eqb m 0 (λ z. omega arith), a, b)
+  means (known (global k)) e = let a : m / 4 ≡ k = omega arith in let b : m % 4 ≡ 2 = omega arith in rw (ne-eqb m 0 (λ z. omega arith), a, b)
+  means (known (manifest k)) e = let a : m / 4 ≡ k = omega arith in let b : m % 4 ≡ 3 = omega arith in rw (ne-eqb m 0 (λ z. omega arith), a, b)
+  means (known (function k)) e =
+      let a : m / 4 - 1 ≡ k = omega arith in let b : m % 4 ≡ 0 = omega arith in
+      rw (ne-eqb m 0 (λ z. omega arith), b, a)
+
+  module _ (f : Found) (e : m ≡ found f) where
+    pub means-unknown : m ≡ 0 → f ≡ unknown
+    means-unknown q = means f e ∙ rw q
+
+    pub means-local : m % 4 ≡ 1 → f ≡ known (local (m / 4))
+    means-local q = means f e ∙ rw (ne-eqb m 0 (λ z. omega arith), q)
+
+    pub means-global : m % 4 ≡ 2 → f ≡ known (global (m / 4))
+    means-global q = means f e ∙ rw (ne-eqb m 0 (λ z. omega arith), q)
+
+    pub means-manifest : m % 4 ≡ 3 → f ≡ known (manifest (m / 4))
+    means-manifest q = means f e ∙ rw (ne-eqb m 0 (λ z. omega arith), q)
+
+    pub means-function : (m ≡ 0 → ⊥) → m % 4 ≡ 0 → f ≡ known (function (m / 4 - 1))
+    means-function n q = means f e ∙ rw (ne-eqb m 0 n, q)
 
 -- what is left to search below `at` gives the same as the whole
 pub record Left {A : Type 0} (ask : Scope → A) (s : List ℕ) (at : ℕ) (sc : Scope) : Type 0 where
@@ -231,19 +261,21 @@ keeps-all = record { below = λ i l. refl; above = λ i l. refl; long = refl }
 pub keeps-then : {base top : ℕ} {s s₁ s₂ : List ℕ} → Keeps base top s s₁ → Keeps base top s₁ s₂ → Keeps base top s s₂
 keeps-then a b = record { below = λ i l. b .below i l ∙ a .below i l; above = λ i l. b .above i l ∙ a .above i l; long = b .long ∙ a .long }
 
+-- the name whose leaf stands there
+pub name-there : (s : List ℕ) (leaf : ℕ) {n : Name} → getD s (leaf + 1) 0 ≡ n .width → getD s (leaf + 2) 0 ≡ n .place → nameAt s leaf ≡ n
+name-there s leaf w p = rw (p, w)
+
 -- the tree's leaves are the same
 pub keeps-name : {base top leaf : ℕ} {s s′ : List ℕ} → Keeps base top s s′ → base ≤ leaf → nameAt s′ leaf ≡ nameAt s leaf
-keeps-name {leaf = leaf} {s} {s′} k l =
-    ap (λ (z : ℕ). named z (getD s′ (leaf + 1) 0)) (k .above (leaf + 2) (omega arith)) ∙ ap (λ (z : ℕ). named (getD s (leaf + 2) 0) z)
-    (k .above (leaf + 1) (omega arith))
+keeps-name {leaf = leaf} {s′ = s′} k l = name-there s′ leaf (k .above (leaf + 1) (omega arith)) (k .above (leaf + 2) (omega arith))
 
 -- what keeps a higher stack keeps a lower one
 pub keeps-lower : {base top low : ℕ} {s s′ : List ℕ} → low ≤ top → Keeps base top s s′ → Keeps base low s s′
 keeps-lower h k = record { below = λ i l. k .below i (omega arith); above = k .above; long = k .long }
 
 module _ {s s′ : List ℕ} {top first m base : ℕ} (h : Pushed s s′ top first m) (l : top + 2 ≤ base) (long : base ≤ length s) where
-  push-keeps : Keeps base top s s′
-  push-keeps = record {
+  pub pushed-keeps : Keeps base top s s′
+  pushed-keeps = record {
     below = λ i k. other i (λ e. omega arith) (λ e. omega arith);
     above = λ i k. other i (λ e. omega arith) (λ e. omega arith);
     long = ap length (h .is) ∙ simp length-set;
@@ -261,16 +293,13 @@ module _ {s s′ : List ℕ} {top first m base : ℕ} (h : Pushed s s′ top fir
   push-second =
       ap (λ (z : List ℕ). getD z (top + 1) 0) (h .is) ∙ getD-set-same (set s top first) (top + 1) m 0 (omega (arith, length-set s top first))
 
-  pub pushed-keeps : Keeps base top s s′
-  pushed-keeps = push-keeps
-
   pub pushed-mark : {sc : Scope} → Shows s top sc → m ≡ 0 → Shows s′ (top + 2) (opened sc)
-  pushed-mark sh e = mark (keeps-shows push-keeps (omega arith) sh) refl (omega (arith, push-keeps .long)) (push-second ∙ e)
+  pushed-mark sh e = mark (keeps-shows pushed-keeps (omega arith) sh) refl (omega (arith, pushed-keeps .long)) (push-second ∙ e)
 
   pushed-as : {sc : Scope} (n : Name) (w : Meaning) → Shows s top sc → first ≡ packed n → FineName n → m ≡ code w → Worded w
       → Shows s′ (top + 2) (declared sc n w)
   pushed-as n w sh f g e u =
-      name (keeps-shows push-keeps (omega arith) sh) refl (omega (arith, push-keeps .long)) (push-first ∙ f) g (push-second ∙ e) u
+      name (keeps-shows pushed-keeps (omega arith) sh) refl (omega (arith, pushed-keeps .long)) (push-first ∙ f) g (push-second ∙ e) u
 
 pub pushed-name : {s s′ : List ℕ} {top leaf m base : ℕ} → PushedName s s′ top leaf m → top + 2 ≤ base → base ≤ length s → {sc : Scope} (w : Meaning)
     → Shows s top sc → m ≡ code w → Worded w → Shows s′ (top + 2) (declared sc (nameAt s leaf) w)

@@ -17,10 +17,9 @@ use Rattle.compiler.specs.Commands.{cmdSays, ReadyC, GaveCase, ReadyU, G
 use Rattle.compiler.specs.Switching.{labelFaults, ReadyLabels, JudgesLabels, tableItems, WritesTable}
 use Rattle.compiler.proofs.Done.{did-none, did-put, did-after, did-then, did-as, did-at, did-fresh, Same, same-refl, same-eq, same-swap}
 use Rattle.compiler.proofs.Done.{same-then, same-both, code-is}
-use Rattle.compiler.proofs.Trees.{first, second, keeps-lies}
+use Rattle.compiler.proofs.Trees.{keeps-lies, IsTwo}
 use Rattle.compiler.proofs.Parts.{sub}
 use Rattle.compiler.proofs.Anywhere.{with-ways}
-use Rattle.compiler.proofs.Guards.{closed-start, unlabelled-closed}
 use Rattle.compiler.proofs.Blocks.{commandList}
 use Rattle.compiler.proofs.Lists.{Part, begins, item, ready-one, goes-on, ended}
 use Rattle.compiler.proofs.Counting.{command-items}
@@ -82,25 +81,8 @@ cases-same text sc l h before (T.andCommand c cs) =
 
 -- ---- the whole
 
-pub record IsSwitch (s : List ℕ) (lo end : ℕ) (u : Unlabelled) : Type 0 where
-  pub value : Expression
-  pub list : Commands
-  pub same : u ≡ T.switchon value list
-  pub lies : Lies s lo (encode value)
-  pub lies-list : Lies s (lo + length (encode value)) (encodeCommands list)
-  pub value-of : getD s (end - 3) 0 ≡ length (encode value)
-  pub ends : end ≡ lo + length (encode value) + length (encodeCommands list) + 4
-
-is-switch : {s : List ℕ} {lo end : ℕ} {u : Unlabelled} → Form s lo end K.SWITCHON u → IsSwitch s lo end u
-is-switch {lo = lo} (F.aSwitch {e} {cs} h v q) = record {
-  value = e;
-  list = cs;
-  same = refl;
-  lies = first (encode e) (encodeCommands cs) h;
-  lies-list = second (encode e) (encodeCommands cs) (lo + length (encode e)) h refl;
-  value-of = v;
-  ends = omega (arith, length-append (encode e) (encodeCommands cs));
-}
+is-switch : {s : List ℕ} {lo end : ℕ} {u : Unlabelled} → Form s lo end K.SWITCHON u → IsTwo encode encodeCommands T.switchon s lo end u
+is-switch (F.aSwitch h) = h
 
 -- two entries stand in front of each command
 pub list-entries : (text : List ℕ) (sc : Scope) (h : ℕ) (cs : Commands)
@@ -135,21 +117,19 @@ switchSays x w cs n = record {
 
 module _ {s : List ℕ} {end : ℕ} {here : Here} {st : State} (n : Node) (nd : NodeAt s end n) (q : getD s (end - 1) 0 ≡ K.SWITCHON) {middle : ℕ}
     (m : middle ≡ n .start + n .value) where
-  pub switch-is : (y : ReadyU s end here st) → IsSwitch s (y .lo) end (y .tree)
+  pub switch-is : (y : ReadyU s end here st) → IsTwo encode encodeCommands T.switchon s (y .lo) end (y .tree)
   switch-is y = is-switch (form-at n nd (nd .kind ∙ q) y)
 
-  pub switch-fine : (y : ReadyU s end here st) → FineE (switch-is y .value) × FineCs (switch-is y .list)
+  pub switch-fine : (y : ReadyU s end here st) → FineE (switch-is y .left) × FineCs (switch-is y .list)
   unfolding FineUnlabelled
   switch-fine y = let f = subst FinePlain (switch-is y .same) (y .fine) in (f .0 .0, f .0 .1)
 
-  pub switch-deep : (y : ReadyU s end here st) → (depth (switch-is y .value) ≤ here .left) × (commandsDepth (switch-is y .list) ≤ here .left)
+  pub switch-deep : (y : ReadyU s end here st) → (depth (switch-is y .left) ≤ here .left) × (commandsDepth (switch-is y .list) ≤ here .left)
   unfolding unlabelledDepth
   switch-deep y = let e = ap unlabelledDepth (switch-is y .same) in (omega arith, omega arith)
 
-  pub switch-middle : (y : ReadyU s end here st) → middle ≡ y .lo + length (encode (switch-is y .value))
-  switch-middle y = let u = switch-is y in let k = nd .start ∙ sym (closed-start {end = end} (unlabelled-closed (y .tree) (y .fine)) (y .lies)
-      (y .ends) .0) in
-      omega arith
+  pub switch-middle : (y : ReadyU s end here st) → middle ≡ y .lo + length (encode (switch-is y .left))
+  switch-middle y = let u = switch-is y in omega arith
 
   abbrev pub switch-value : ReadyU s end here st → ReadyE s middle here st
   switch-value y = let u = switch-is y in sub y keeps-all (u .lies) refl (omega (arith, switch-middle y, switch-deep y .0)) (switch-fine y .0)
@@ -204,7 +184,7 @@ module _ {s : List ℕ} {end : ℕ} {here : Here} {st : State} (n : Node) (nd : 
       switch-gave ways {s₂} {t₃} {t₄} {o} {r} g₂ f = record {
         by = λ y. let u = switch-is y in let x = g .by (switch-value y) in let z = g₂ .by (switch-cases y) in let sc = y .scope in
             let h = here .height in let S = here .strings in let lv = leavableBy ways here in let A = a .label in let E = expression text sc h
-            (u .value) in let CS = caseList text sc h (u .list) in let v = list-entries text sc h (u .list) in let ek = switch-count y in
+            (u .left) in let CS = caseList text sc h (u .list) in let v = list-entries text sc h (u .list) in let ek = switch-count y in
             let ls : leavableBy (inSwitch A ways) here ≡ Y.inSwitch lv = leaves-switch here ways A (omega arith) in let en : A + (k + 1) + 0 ≡ A + 1
             + G.commandsIn CS = omega arith in let F = labelFaults text sc [] (u .list) in
             let rest : Did (F ++ casesFaults text sc (leavableBy (inSwitch A ways) here) h (u .list)) (switchSays here ways CS)
@@ -215,8 +195,8 @@ module _ {s : List ℕ} {end : ℕ} {here : Here} {st : State} (n : Node) (nd : 
             (length (encodeUnlabelled (y .tree))) (y .base) here s s₂ t t₄ st r) (sym (u .same))
             (record {
               keeps = keeps-then (x .keeps) (z .keeps);
-              did = did-as (cmdSays here ways (R.switch E CS)) _ (did-then (with-ways text sc here ways h (u .value) (x .did)) rest)
-                  (same-both (same-refl {a = inExpression text sc lv h (u .value)}) (same-then (same-eq (rw ls)) (cases-same text sc (Y.inSwitch lv) h
+              did = did-as (cmdSays here ways (R.switch E CS)) _ (did-then (with-ways text sc here ways h (u .left) (x .did)) rest)
+                  (same-both (same-refl {a = inExpression text sc lv h (u .left)}) (same-then (same-eq (rw ls)) (cases-same text sc (Y.inSwitch lv) h
                   [] (u .list)))) (λ p c. code-is refl refl (omega arith)) (omega arith);
             });
       }

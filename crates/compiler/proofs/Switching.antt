@@ -1,10 +1,8 @@
 -- The labels of a list after INTO: where they stand, which there are, and the words after X23.
-use Rattle.laws.proofs.Basics.{ℕ, suc, _+_, _-_, _^_, _<_, _≤_, _≡_, refl, sym, ap, _∙_, List, [], _∷_, _++_, Bool, true, false, cond, length, getD}
+use Rattle.laws.proofs.Basics.{ℕ, suc, _+_, _-_, _^_, _<_, _≤_, _≡_, refl, sym, ap, subst, _∙_, List, [], _∷_, _++_, Bool, true, false, cond, length, getD}
 use Rattle.laws.proofs.Basics.{length-append, arith}
 use Rattle.laws.proofs.Cases.{contradiction}
 use Rattle.items.specs.Item as I
-use Rattle.language.specs.Kinds.{member}
-use Rattle.language.specs.Binding.{isGuard, isLeave}
 use Rattle.language.specs.Tree as T
 use Rattle.compiler.proofs.Language.{Name, Simple, Constant, Label, Expression, Command, Commands, Unlabelled, endsInCall, Scope, lookup}
 use Rattle.compiler.proofs.Language.{fault, Judged, good, refused, judge, signed, ofFound, ofSimple, faultsOf, CaseLabel, hasDefault, casesOf}
@@ -15,7 +13,6 @@ use Rattle.language.specs.Names as N
 use Rattle.code.specs.Generate as G
 use Rattle.writing.specs.Text.{lines}
 use Rattle.writing.proofs.Laws.{puts-none}
-use Rattle.tree.specs.Encoding as O
 use Rattle.compiler.proofs.Vocabulary.{Shows, State, Node, FineC, FineCs, FinePlain, NodeAt, Emits, Lies}
 use Rattle.compiler.specs.declared.steps.Verdict.{Verdict}
 use Rattle.compiler.specs.declared.labels.Span.{Span}
@@ -26,8 +23,7 @@ use Rattle.compiler.specs.Labels.{Row, noMore, andMore, NextItem, LabelA
 use Rattle.compiler.specs.Labels.{CountsLabel, CountsAll, HasDefault, defaultAmong, FindsDefault, Sound, noLabel, anyDefault, tableAmong, Still}
 use Rattle.compiler.specs.Labels.{WritesPair, WritesPairs, WritesAll}
 use Rattle.compiler.proofs.Done.{emits-then, nil-left, nil-right}
-use Rattle.compiler.proofs.Trees.{first, kid, ends, value-is, size-is, kind-is}
-use Rattle.compiler.proofs.Guards.{expression-closed, kind-of, shut}
+use Rattle.compiler.proofs.Labelled.{is-labelled, is-bare}
 use Rattle.compiler.proofs.Rows.{Left, left-all, left-next, left-end, an-item, labels-row}
 
 -- ---- the labels of a command
@@ -47,75 +43,16 @@ module _ {s : List ℕ} {end : ℕ} (n : Node) (nd : NodeAt s end n) where
         rw (nd .start) (rw b at (c .row (sym (nd .kind) ∙ q)));
   }
 
-labelled-at : {s : List ℕ} {lo end : ℕ} (ls : List Label) (w : List ℕ) → FineLabels ls
-    → Lies s lo (closed (encodeLabels ls ++ w) (length (encodeLabels ls)) 0 132)
-    → end ≡ lo + length (closed (encodeLabels ls ++ w) (length (encodeLabels ls)) 0 132) → CommandAt s end ls
-labelled-at {s} {lo} {end} ls w f h e =
-    let x = encodeLabels ls in let v = length x in
-    let z : getD s (end - 4) 0 ≡ length x + length w = size-is (x ++ w) v 0 132 h e ∙ length-append x w in
-    let en : end ≡ lo + (length x + length w) + 4 = omega (arith, ends (x ++ w) v 0 132 h e, length-append x w) in
-    let a : lo ≡ end - 4 - getD s (end - 4) 0 = omega arith in
-    let b : end - 4 - getD s (end - 4) 0 + getD s (end - 3) 0 ≡ lo + length x = omega (arith, value-is (x ++ w) v 0 132 h e) in
-    record {
-      bare = λ q. absurd (q (kind-is (x ++ w) v 0 132 h e));
-      inside = λ q. omega arith;
-      row = λ q. rw a at (labels-row ls f (first x w (kid (x ++ w) v 0 132 h e)) b);
-    }
-
-guard-not : {w : ℕ} → isGuard w ≡ true → w ≡ 132 → ⊥
-unfolding isGuard member
-guard-not f e = let z : isGuard 132 ≡ true = rw e at f in contradiction cc
-
-leave-not : {w : ℕ} → isLeave w ≡ true → w ≡ 132 → ⊥
-unfolding isLeave member
-leave-not f e = let z : isLeave 132 ≡ true = rw e at f in contradiction cc
-
-suffixed-low : (b : Bool) → O.suffixedKind b ≤ 131
-unfolding O.suffixedKind
-suffixed-low true = omega arith
-suffixed-low false = omega arith
-
--- no expression has labels before it
-expression-low : (e : Expression) → expression-closed e .kind ≤ 131
-unfolding expression-closed shut
-expression-low (T.number p v) = omega arith
-expression-low (T.string p v) = omega arith
-expression-low (T.name n) = omega arith
-expression-low (T.bracketed p d) = omega arith
-expression-low (T.valof p c) = omega arith
-expression-low (T.monadic p o d) = omega arith
-expression-low (T.suffixed d ss) = suffixed-low (endsInCall false ss)
-expression-low (T.dyadic d os) = omega arith
-
-plain-not : {s : List ℕ} {lo end : ℕ} (u : Unlabelled) → FinePlain u → Lies s lo (encodeUnlabelled u) → end ≡ lo + length (encodeUnlabelled u)
-    → getD s (end - 1) 0 ≡ 132 → ⊥
-unfolding FineUnlabelled encodeUnlabelled
-plain-not T.empty f h e q = f .1 refl
-plain-not (T.assignment ls rs) f h e q =
-    omega (arith, kind-is (O.encodeSides ls ++ O.encodeExpressions rs) (length (O.encodeFirst ls)) (length (O.encodeSides ls)) 56 h e)
-plain-not (T.callCommand d) f h e q = omega (arith, expression-low d, kind-of (expression-closed d) h e)
-plain-not (T.test d c c′) f h e q = omega (arith, kind-is (encode d ++ (encodeCommand c ++ encodeCommand c′)) 0 0 13 h e)
-plain-not (T.guarded w d c) f h e q = guard-not (f .0 .2) (sym (kind-is (encode d ++ encodeCommand c) 0 0 w h e) ∙ q)
-plain-not (T.for x d d′ k c) f h e q =
-    omega (arith, kind-is (O.encodeName x ++ (encode d ++ (encode d′ ++ (O.encodeBy k ++ encodeCommand c)))) (length (O.encodeBy k)) 0 23 h e)
-plain-not (T.switchon d cs) f h e q = omega (arith, kind-is (encode d ++ O.encodeCommands cs) (length (encode d)) 0 26 h e)
-plain-not (T.resultis p d) f h e q = omega (arith, kind-is (encode d) 0 p 8 h e)
-plain-not (T.leave w p) f h e q = leave-not (f .0) (sym (kind-is [] 0 p w h e) ∙ q)
-plain-not (T.block ls cs) f h e q = omega (arith, kind-is (O.encodeLocals ls ++ O.encodeCommands cs) (length (O.encodeLocals ls)) 0 57 h e)
-
-no-labels : {s : List ℕ} {end : ℕ} → (getD s (end - 1) 0 ≡ 132 → ⊥) → CommandAt s end []
-no-labels n = record { bare = λ q. refl; inside = λ q. absurd (n q); row = λ q. absurd (n q) }
-
 command-at : {s : List ℕ} {lo end : ℕ} (c : Command) → FineC c → Lies s lo (encodeCommand c) → end ≡ lo + length (encodeCommand c)
     → CommandAt s end (labelsBefore c)
-unfolding FineCommand encodeCommand labelled O.repeated encodeLabels encodeRepeats
-command-at (T.command [] u T.noRepeats) f h e = no-labels (plain-not u (f .1, λ z. omega (arith, f .3 .labels z)) h e)
-command-at (T.command [] u (T.repeat rs)) f h e =
-    no-labels (λ q. omega (arith, kind-is (encodeUnlabelled u ++ encodeRepeats (T.repeat rs)) (length (encodeUnlabelled u)) 0 133 h e))
-command-at (T.command [] u (T.repeatOn w d rs)) f h e =
-    no-labels (λ q. omega (arith, kind-is (encodeUnlabelled u ++ encodeRepeats (T.repeatOn w d rs)) (length (encodeUnlabelled u)) 0 133 h e))
-command-at (T.command (T.case p c ∷ ls) u rs) f h e = labelled-at (T.case p c ∷ ls) (O.repeated (encodeUnlabelled u) (encodeRepeats rs)) (f .0) h e
-command-at (T.command (T.default p ∷ ls) u rs) f h e = labelled-at (T.default p ∷ ls) (O.repeated (encodeUnlabelled u) (encodeRepeats rs)) (f .0) h e
+unfolding FineCommand
+command-at {s} {lo} {end} c f h e = record {
+  bare = λ q. ap labelsBefore (is-bare c h e q .same);
+  inside = λ q. let u = is-labelled c f h e q in omega arith;
+  row = λ q. let u = is-labelled c f h e q in let a : lo ≡ end - 4 - getD s (end - 4) 0 = omega arith in
+      rw (u .same) (subst (λ (k : ℕ). Row (LabelAt s) s (k + getD s (end - 3) 0) k (u .left)) a
+      (labels-row (u .left) (subst FineC (u .same) f .0) (u .lies) (omega arith)));
+}
 
 pub commands-row : {s : List ℕ} {at end : ℕ} (cs : Commands) → FineCs cs → Lies s at (encodeCommands cs) → end ≡ at + length (encodeCommands cs)
     → Row (CommandAt s) s end at (marks cs)
