@@ -1,8 +1,8 @@
 -- The names of a group: the loop over its functions, and where they start.
 use Rattle.laws.proofs.Basics.{ℕ, suc, _+_, _*_, _^_, _<_, _≤_, _≡_, refl, sym, ap, subst, _∙_, List, [], _∷_, _++_, append-assoc, append-nil, Bool}
 use Rattle.laws.proofs.Basics.{true, false, cond, length, getD, set, length-append, List·getD-append, List·getD-eq-default, getD-set-same}
-use Rattle.laws.proofs.Basics.{getD-set-other, getD-append-seam, eqb, arith, eqb-true, eqb-false}
-use Rattle.laws.proofs.Cases.{Order, lt, ge, order, contradiction}
+use Rattle.laws.proofs.Basics.{getD-set-other, getD-append-seam, _⊎_, inl, inr, ⊎-elim, eqb, ltb, arith, eqb-true, eqb-false, ltb-true, ltb-false}
+use Rattle.laws.proofs.Cases.{by-cases, contradiction}
 use Rattle.compiler.proofs.Language.{Name, Function, Scope, lookup, Fault, fault, Start, nowhere, inGlobal, encodeName}
 use Rattle.compiler.proofs.Language.{encodeFunctions, FineName, FineFunctions}
 use Rattle.language.specs.Names as N
@@ -18,85 +18,37 @@ use Rattle.compiler.proofs.Rendered.{small-found}
 
 -- ---- where functions start: one more
 
-nowhere-not : {n : ℕ} → nowhere ≡ inGlobal n → ⊥
-nowhere-not e = contradiction cc
-
--- the starts with one more at their end, which is function k's
-module _ (ss : List Start) {k : ℕ} (x : Start) (e : length ss ≡ k) where
-  start-before : {l : ℕ} → l < k → getD (ss ++ (x ∷ [])) l nowhere ≡ getD ss l nowhere
-  start-before {l} h = List·getD-append ss (x ∷ []) nowhere l (omega arith)
-
-  start-here : getD (ss ++ (x ∷ [])) k nowhere ≡ x
-  start-here = cc (getD-append-seam ss x [] nowhere)
-
-  start-after : {l : ℕ} → k < l → getD (ss ++ (x ∷ [])) l nowhere ≡ nowhere
-  start-after h = List·getD-eq-default (ss ++ (x ∷ [])) nowhere (omega (arith, length-append ss (x ∷ [])))
-
-  start-is : {n l : ℕ} → getD ss l nowhere ≡ inGlobal n → l < k
-  start-is {n} {l} q = go (order l k)
-    where
-      go : Order l k → l < k
-      go (lt h) = h
-      go (ge h) = absurd (nowhere-not (sym (List·getD-eq-default ss nowhere (omega arith)) ∙ q))
-
--- which of the starts one is
-data Which (l k : ℕ) : Type 0 where
-  earlier : l < k → Which l k
-  this : l ≡ k → Which l k
-  later : k < l → Which l k
-
-which : (l k : ℕ) → Which l k
-which l k = go (order l k) (order k l)
+-- the starts with one more at their end, which is function k's: its table has what the old one had, and k's label where that starts
+starting-with : {table table′ : List ℕ} {ss : List Start} {k : ℕ} (x : Start) → length ss ≡ k → Starting table ss
+    → ((n l : ℕ) → getD table n 0 ≡ suc l → getD table′ n 0 ≡ suc l) → ((n : ℕ) → x ≡ inGlobal n → getD table′ n 0 ≡ suc k)
+    → ((n l : ℕ) → getD table′ n 0 ≡ suc l → (getD table n 0 ≡ suc l) ⊎ ((l ≡ k) × (x ≡ inGlobal n))) → Starting table′ (ss ++ (x ∷ []))
+starting-with {table} {table′} {ss} {k} x e z keeps here only = record { is = is; has = has }
   where
-    go : Order l k → Order k l → Which l k
-    go (lt h) o = earlier h
-    go (ge h) (lt i) = later i
-    go (ge h) (ge i) = this (omega arith)
+    end : getD (ss ++ (x ∷ [])) k nowhere ≡ x
+    end = cc (getD-append-seam ss x [] nowhere)
+
+    is : (n l : ℕ) → n < 400 → getD table′ n 0 ≡ suc l → getD (ss ++ (x ∷ [])) l nowhere ≡ inGlobal n
+    is n l h q = ⊎-elim (λ w. by-cases (ltb l k) (λ i. List·getD-append ss (x ∷ []) nowhere l (omega (arith, ltb-true l k i)) ∙ z .is n l h w)
+        (λ i. let v : nowhere ≡ inGlobal n = sym (List·getD-eq-default ss nowhere (omega (arith, ltb-false l k i))) ∙ z .is n l h w in contradiction cc))
+        (λ w. rw (w .0, end) (w .1)) (only n l q)
+
+    has : (n l : ℕ) → getD (ss ++ (x ∷ [])) l nowhere ≡ inGlobal n → getD table′ n 0 ≡ suc l
+    has n l q = by-cases (ltb l k) (λ i. keeps n l (z .has n l (sym (List·getD-append ss (x ∷ []) nowhere l (omega (arith, ltb-true l k i))) ∙ q)))
+        (λ i. by-cases (eqb l k) (λ j. let w = eqb-true l k j in rw w (here n (cc (end))))
+        (λ j. let b = ltb-false l k i in let d = eqb-false l k j in let v : nowhere ≡ inGlobal n =
+        sym (List·getD-eq-default (ss ++ (x ∷ [])) nowhere (omega (arith, length-append ss (x ∷ [])))) ∙ q in contradiction cc))
 
 starting-nowhere : {table : List ℕ} {ss : List Start} {k : ℕ} → length ss ≡ k → Starting table ss → Starting table (ss ++ (nowhere ∷ []))
-starting-nowhere {table} {ss} {k} e z = record { is = is; has = has }
-  where
-    is : (n l : ℕ) → n < 400 → getD table n 0 ≡ suc l → getD (ss ++ (nowhere ∷ [])) l nowhere ≡ inGlobal n
-    is n l h q = let w = z .is n l h q in start-before ss nowhere e (start-is ss nowhere e w) ∙ w
-
-    has : (n l : ℕ) → getD (ss ++ (nowhere ∷ [])) l nowhere ≡ inGlobal n → getD table n 0 ≡ suc l
-    has n l q = go (which l k)
-      where
-        go : Which l k → getD table n 0 ≡ suc l
-        go (earlier h) = z .has n l (sym (start-before ss nowhere e h) ∙ q)
-        go (this h) = absurd (nowhere-not (sym (start-here ss nowhere e) ∙ ap (λ (i : ℕ). getD (ss ++ (nowhere ∷ [])) i nowhere) (sym h) ∙ q))
-        go (later h) = absurd (nowhere-not (sym (start-after ss nowhere e h) ∙ q))
+starting-nowhere e z = starting-with nowhere e z (λ n l q. q) (λ n q. contradiction cc) (λ n l q. inl q)
 
 starting-global : {table : List ℕ} {ss : List Start} {k : ℕ} (m : ℕ) → m < length table → getD table m 0 ≡ 0 → length ss ≡ k → Starting table ss
     → Starting (set table m (k + 1)) (ss ++ (inGlobal m ∷ []))
-starting-global {table} {ss} {k} m lm free e z = record { is = is; has = has }
-  where
-    one : {n : ℕ} → inGlobal m ≡ inGlobal n → m ≡ n
-    one q = cc
-
-    is : (n l : ℕ) → n < 400 → getD (set table m (k + 1)) n 0 ≡ suc l → getD (ss ++ (inGlobal m ∷ [])) l nowhere ≡ inGlobal n
-    is n l h q = go (eqb n m) refl
-      where
-        go : (b : Bool) → eqb n m ≡ b → getD (ss ++ (inGlobal m ∷ [])) l nowhere ≡ inGlobal n
-        go true i =
-            let j : n ≡ m = eqb-true n m i in let w : getD (set table m (k + 1)) n 0 ≡ k + 1 = rw (j, getD-set-same table m (k + 1) 0 lm) in
-            let lk : l ≡ k = omega arith in
-            rw (lk, start-here ss (inGlobal m) e, j)
-        go false i =
-            let w = z .is n l h (sym (getD-set-other table m n (k + 1) 0 (eqb-false n m i)) ∙ q) in
-            start-before ss (inGlobal m) e (start-is ss (inGlobal m) e w) ∙ w
-
-    has : (n l : ℕ) → getD (ss ++ (inGlobal m ∷ [])) l nowhere ≡ inGlobal n → getD (set table m (k + 1)) n 0 ≡ suc l
-    has n l q = go (which l k)
-      where
-        go : Which l k → getD (set table m (k + 1)) n 0 ≡ suc l
-        go (earlier h) =
-            let w : getD table n 0 ≡ suc l = z .has n l (sym (start-before ss (inGlobal m) e h) ∙ q) in
-            getD-set-other table m n (k + 1) 0 (λ i. let v : getD table n 0 ≡ 0 = rw (i, free) in omega arith) ∙ w
-        go (this h) =
-            let j : m ≡ n = one (cc (start-here ss (inGlobal m) e)) in
-            ap (λ (x : ℕ). getD (set table m (k + 1)) x 0) (sym j) ∙ getD-set-same table m (k + 1) 0 lm ∙ omega arith
-        go (later h) = absurd (nowhere-not (sym (start-after ss (inGlobal m) e h) ∙ q))
+starting-global {table} {ss} {k} m lm free e z =
+    let same : getD (set table m (k + 1)) m 0 ≡ k + 1 = getD-set-same table m (k + 1) 0 lm in starting-with (inGlobal m) e z
+    (λ n l q. getD-set-other table m n (k + 1) 0 (λ i. let v : getD table n 0 ≡ 0 = rw (i, free) in omega arith) ∙ q)
+    (λ n q. let j : m ≡ n = cc in rw (← j) (same ∙ omega arith))
+    (λ n l q. by-cases (eqb n m) (λ i. let j = eqb-true n m i in inr (omega (arith, rw j at q), ap inGlobal (sym j)))
+    (λ i. inl (sym (getD-set-other table m n (k + 1) 0 (eqb-false n m i)) ∙ q)))
 
 -- no fault at the name: its global was free
 starting-more : (place : ℕ) (f : N.Found) {table table′ ns : List ℕ} {ss : List Start} {k : ℕ} → Taken table ns
@@ -104,17 +56,14 @@ starting-more : (place : ℕ) (f : N.Found) {table table′ ns : List ℕ} {ss :
     → nameFault place ns f ≡ [] → table′ ≡ started table k (startOf f) → length ss ≡ k → Starting table ss → Starting table′ (ss ++ (startOf f ∷ []))
 starting-more place f {table} {table′} {ns} {ss} {k} tk b q et e z = rw et (go f b q)
   where
-    free : (n : ℕ) → n < 400 → (t : Bool) → among n ns ≡ t → cond t (fault place 9) [] ≡ [] → getD table n 0 ≡ 0
-    free n l false a q = tk .free n l a
-    free n l true a q = let c : length (fault place 9) ≡ 0 = ap length q in absurd (omega arith)
-
     go : (f : N.Found) → ((n : ℕ) → f ≡ N.known (N.global n) → n < 400) → nameFault place ns f ≡ []
         → Starting (started table k (startOf f)) (ss ++ (startOf f ∷ []))
     go N.unknown b q = starting-nowhere e z
     go (N.known (N.local i)) b q = starting-nowhere e z
     go (N.known (N.manifest i)) b q = starting-nowhere e z
     go (N.known (N.function i)) b q = starting-nowhere e z
-    go (N.known (N.global n)) b q = starting-global n (omega (arith, b n refl)) (free n (b n refl) (among n ns) refl q) e z
+    go (N.known (N.global n)) b q = starting-global n (omega (arith, b n refl)) (by-cases (among n ns) (λ a. let c = ap length (rw a at q) in absurd (omega arith))
+        (tk .free n (b n refl))) e z
 
 -- a function's name adds no global
 pub small-with : (sc : Scope) (name : Name) (k : ℕ) (x : Start) → Small sc → Small (withFunction sc name k x)

@@ -2,9 +2,10 @@
 use Rattle.laws.proofs.Basics.{ℕ, suc, _+_, _-_, _*_, _/_, _%_, _<_, _≤_, _≡_, refl, sym, ap, _∙_, List, [], _∷_, _++_, append-assoc, append-nil}
 use Rattle.laws.proofs.Basics.{Bool, true, false, cond, length, getD, drop, length-append, drop-drop, getD-drop, eqb, arith, eq-eqb, ne-eqb, le-leb}
 use Rattle.laws.proofs.Basics.{lt-leb}
+use Rattle.laws.proofs.Cases.{by-cases, either}
 use Rattle.text.specs.Quoted.{closed, charactersOf, quoted, character, is, closing, ended, mistake}
 use Rattle.text.proofs.Bytes.{Unlike}
-use Rattle.text.proofs.Constants.{Continues, closed-next, closed-end, closed-goes-on, closed-right}
+use Rattle.text.proofs.Constants.{closed-next, closed-end, closed-goes-on, closed-right}
 use Rattle.items.specs.Item as I
 use Rattle.items.specs.Render.{plainText, characterText, charactersText, render}
 use Rattle.language.specs.Kinds.{STRING}
@@ -93,28 +94,23 @@ pub spelling-next : {source : List ℕ} {from i at x r c w : ℕ} {t t₁ t₂ :
     → Puts (characterText c) x r t₁ t₂
     → Spelling source from i at x t t₁ → Spelling source from (i + w) at r t t₂
 unfolding charactersText
-spelling-next {source} {from} {i} {at} {x} {r} {c} {w} {t} {t₁} {t₂} e p q = record { by = λ cs width z. go cs (q .by cs width z) }
-  where
-    go : (cs : List ℕ) → CharactersPart source i at x t t₁ cs → CharactersPart source (i + w) at r t t₂ cs
-    go cs k =
-        let n : Continues 34 255 source (i + w) c w (k .rest) (k .width) = closed-next 34 255 source i (k .left) e in
-        record {
-          done = k .done ++ (c ∷ []);
-          rest = n .rest;
-          width = n .width;
-          all = simp (k .all, n .are, append-assoc);
-          left = n .more;
-          puts = puts-as (puts-then (k .puts) p) (simp (characters-then (k .done) (c ∷ []), append-nil));
-        }
+spelling-next {source} {i = i} {c = c} {w} e p q = record {
+  by = λ cs width z. let k = q .by cs width z in let n = closed-next 34 255 source i (k .left) e in record {
+    done = k .done ++ (c ∷ []);
+    rest = n .rest;
+    width = n .width;
+    all = simp (k .all, n .are, append-assoc);
+    left = n .more;
+    puts = puts-as (puts-then (k .puts) p) (simp (characters-then (k .done) (c ∷ []), append-nil));
+  };
+}
 
 pub spelling-end : {source : List ℕ} {from i at x : ℕ} {t t′ : List ℕ} → character 34 (drop i source) ≡ closing
     → Spelling source from i at x t t′ → WritesCharacters source from at x t t′
-spelling-end {source} {from} {i} {at} {x} {t} {t′} e q = record { by = λ cs width z. go cs (q .by cs width z) }
-  where
-    go : (cs : List ℕ) → CharactersPart source i at x t t′ cs → Puts (charactersText cs) at x t t′
-    go cs k =
-        let g : k .rest ≡ [] = closed-end 34 255 source i (k .left) e in
-        puts-as (k .puts) (ap charactersText (simp (k .all, g, append-nil)))
+spelling-end {source} {i = i} e q = record {
+  by = λ cs width z. let k = q .by cs width z in let g = closed-end 34 255 source i (k .left) e in
+      puts-as (k .puts) (ap charactersText (simp (k .all, g, append-nil)));
+}
 
 -- what is closed goes on to its quote, and has no mistake before it
 pub spelling-ended : {source : List ℕ} {from i at x : ℕ} {t t′ : List ℕ} → character 34 (drop i source) ≡ ended
@@ -179,11 +175,7 @@ oneIf-no {kind} e = rw (ne-eqb kind STRING e)
 
 pub oneIf-small : (kind : ℕ) → oneIf kind ≤ 1
 unfolding oneIf
-oneIf-small kind = go (eqb kind STRING)
-  where
-    go : (b : Bool) → cond b 1 0 ≤ 1
-    go true = omega arith
-    go false = omega arith
+oneIf-small kind = either (λ (n : ℕ). n ≤ 1) (eqb kind STRING) (λ e. omega arith) (λ e. omega arith)
 
 -- n are counted among the first i
 pub record Counted (count : ℕ) (s : List ℕ) (i n : ℕ) : Type 0 where
@@ -195,11 +187,7 @@ counted-begin {count} {s} = record { sum = rw (symbols-all count s) (omega arith
 
 count-one : (x : Symbol) (xs : List Symbol) → stringCount (x ∷ xs) ≡ oneIf (x .kind) + stringCount xs
 unfolding stringCount oneIf
-count-one x xs = go (eqb (x .kind) STRING)
-  where
-    go : (b : Bool) → cond b (suc (stringCount xs)) (stringCount xs) ≡ cond b 1 0 + stringCount xs
-    go true = omega arith
-    go false = omega arith
+count-one x xs = by-cases (eqb (x .kind) STRING) (λ e. rw e (omega arith)) (λ e. rw e (omega arith))
 
 pub counted-next : {count : ℕ} {s : List ℕ} {i n k d : ℕ} → i < count → k ≡ getD s (i * 3) 0 → d ≡ oneIf k → Counted count s i n
     → Counted count s (i + 1) (n + d)
@@ -242,30 +230,16 @@ ofSymbol source kind place = cond (eqb kind STRING) (charactersOf (quoted 34 255
 
 of-symbol-code : (source : List ℕ) (kind place l : ℕ) → symbolCode source kind place l ≡ stringsCode l (ofSymbol source kind place)
 unfolding symbolCode stringsCode ofSymbol
-of-symbol-code source kind place l = go (eqb kind STRING)
-  where
-    go : (b : Bool) → cond b (I.label l ∷ I.string (charactersOf (quoted 34 255 0 (drop (suc place) source))) ∷ []) []
-        ≡ stringsCode l (cond b (charactersOf (quoted 34 255 0 (drop (suc place) source)) ∷ []) [])
-    go true = refl
-    go false = refl
+of-symbol-code source kind place l = by-cases (eqb kind STRING) (λ e. rw e) (λ e. rw e)
 
 of-symbol-count : (source : List ℕ) (kind place : ℕ) → length (ofSymbol source kind place) ≡ oneIf kind
 unfolding oneIf ofSymbol
-of-symbol-count source kind place = go (eqb kind STRING)
-  where
-    go : (b : Bool) → length (cond b (charactersOf (quoted 34 255 0 (drop (suc place) source)) ∷ []) []) ≡ cond b 1 0
-    go true = refl
-    go false = refl
+of-symbol-count source kind place = by-cases (eqb kind STRING) (λ e. rw e) (λ e. rw e)
 
 of-symbol-first : (source : List ℕ) (x : Symbol) (xs : List Symbol)
     → stringsAmong source (x ∷ xs) ≡ ofSymbol source (x .kind) (x .place) ++ stringsAmong source xs
 unfolding stringsAmong ofSymbol
-of-symbol-first source x xs = go (eqb (x .kind) STRING)
-  where
-    go : (b : Bool) → cond b (charactersOf (quoted 34 255 0 (drop (suc (x .place)) source)) ∷ stringsAmong source xs) (stringsAmong source xs)
-        ≡ cond b (charactersOf (quoted 34 255 0 (drop (suc (x .place)) source)) ∷ []) [] ++ stringsAmong source xs
-    go true = refl
-    go false = refl
+of-symbol-first source x xs = by-cases (eqb (x .kind) STRING) (λ e. rw e) (λ e. rw e)
 
 pub listing-next : {source s : List ℕ} {count first i n at x r k p d : ℕ} {t t₁ t₂ : List ℕ} → i < count → k ≡ getD s (i * 3) 0
     → p ≡ getD s (i * 3 + 2) 0 → d ≡ oneIf k
