@@ -102,24 +102,20 @@ module _ {s : List ℕ} {end : ℕ} {here : Here} {st : State} (n : Node) (nd : 
   pub call-is : (y : ReadyU s end here st) → IsCall s (y .lo) end (y .tree)
   call-is y = is-call (form-at n nd q y)
 
-  pub call-deep : (y : ReadyU s end here st) → depth (call-is y .part) ≤ here .left
-  unfolding unlabelledDepth
-  call-deep y = omega (arith, ap unlabelledDepth (call-is y .same))
-
-  pub call-fine : (y : ReadyU s end here st) → FineE (call-is y .part)
-  unfolding FineUnlabelled
-  call-fine y = subst FinePlain (call-is y .same) (y .fine) .0 .0
+  pub call-fits : (y : ReadyU s end here st) → (depth (call-is y .part) ≤ here .left) × FineE (call-is y .part)
+  unfolding FineUnlabelled unlabelledDepth
+  call-fits y = let u = call-is y in (omega (arith, ap unlabelledDepth (u .same)), subst FinePlain (u .same) (y .fine) .0 .0)
 
   abbrev pub performed-part : ReadyU s end here st → ReadyE s end here st
-  performed-part y = let u = call-is y in sub y keeps-all (u .lies) refl (omega (arith, call-deep y)) (call-fine y)
+  performed-part y = let u = call-is y in sub y keeps-all (u .lies) refl (omega (arith, call-fits y .0)) (call-fits y .1)
 
   pub performed-gave : (text : List ℕ) (ways : Ways) {s₁ t t₁ : List ℕ} {r : State} → GaveE text s s₁ end here t t₁ st r
       → GaveU text s s₁ end here ways t t₁ st r
   unfolding inUnlabelled unlabelled G.cmdCode ofCmd G.cmdLabels
-  performed-gave text ways {s₁} {t} {t₁} {r} g = record {
-    by = λ y.
-        let u = call-is y in let x = g .by (performed-part y) in let sc = y .scope in let h = here .height in
-        subst (λ (v : Unlabelled). Result (inUnlabelled text sc (leavableBy ways here) h v) (cmdSays here ways (unlabelled text sc h v))
-        (length (encodeUnlabelled (y .tree))) (y .base) here s s₁ t t₁ st r) (sym (u .same))
-        (record { keeps = x .keeps; did = did-as _ _ (with-ways text sc here ways h (u .part) (x .did)) same-refl (λ k v. refl) (omega arith) });
+  performed-gave text ways g = record {
+    by = λ y. let u = call-is y in let x = g .by (performed-part y) in rw (u .same) (record {
+      keeps = x .keeps;
+      did = did-as _ _ (with-ways text (y .scope) here ways (here .height) (u .part) (x .did)) same-refl (λ k v. refl)
+          (omega (arith, ap (λ (v : Unlabelled). length (encodeUnlabelled v)) (u .same)));
+    });
   }

@@ -342,19 +342,13 @@ module _ {s : List ℕ} {end : ℕ} {here : Here} {st : State} (n : Node) (nd : 
   pub block-is : (y : ReadyU s end here st) → IsTwo encodeLocals encodeCommands T.block s (y .lo) end (y .tree)
   block-is y = is-block (form-at n nd (nd .kind ∙ q) y)
 
-  pub block-fine : (y : ReadyU s end here st) → FineLs (block-is y .left) × FineCs (block-is y .list)
-  unfolding FineUnlabelled
-  block-fine y = subst FinePlain (block-is y .same) (y .fine) .0
-
-  pub block-deep : (y : ReadyU s end here st)
-      → (localsDepth (block-is y .left) ≤ here .left) × (commandsDepth (block-is y .list) ≤ here .left)
-  unfolding unlabelledDepth
-  block-deep y = (omega (arith, ap unlabelledDepth (block-is y .same)), omega (arith, ap unlabelledDepth (block-is y .same)))
+  pub block-parts : (y : ReadyU s end here st) → let u = block-is y in
+      (FineLs (u .left) × FineCs (u .list)) × (localsDepth (u .left) ≤ here .left) × (commandsDepth (u .list) ≤ here .left)
+  unfolding FineUnlabelled unlabelledDepth
+  block-parts y = let u = block-is y in let e = ap unlabelledDepth (u .same) in (subst FinePlain (u .same) (y .fine) .0, omega arith, omega arith)
 
   pub block-start : (y : ReadyU s end here st) → (n .start ≡ y .lo) × (middle ≡ y .lo + length (encodeLocals (block-is y .left)))
-  block-start y =
-      let u = block-is y in
-      (omega arith, omega arith)
+  block-start y = let u = block-is y in (omega arith, omega arith)
 
   pub block-room : (y : ReadyU s end here st) → (here .top + 2 ≤ y .base) × (here .top + 2 ≤ length s)
   block-room y = let u = block-is y in (omega arith, omega arith)
@@ -363,7 +357,7 @@ module _ {s : List ℕ} {end : ℕ} {here : Here} {st : State} (n : Node) (nd : 
     abbrev pub block-locals : ReadyU s end here st → ReadyLocals s₁ (n .start) middle (marked here) st
     block-locals y = let u = block-is y in let k = pushed-keeps pu (block-room y .0) (y .long) in record {
       ready = moved y k (opened (y .scope)) (u .lies) (pushed-mark pu (block-room y .0) (y .long) (y .shows) refl) (omega arith)
-          (omega (arith, block-start y .1, block-deep y .0)) (block-fine y .0);
+          (omega (arith, block-start y .1, block-parts y .1)) (block-parts y .0 .0);
       starts = sym (block-start y .0);
     }
 
@@ -374,7 +368,7 @@ module _ {s : List ℕ} {end : ℕ} {here : Here} {st : State} (n : Node) (nd : 
       abbrev pub block-list : ReadyU s end here st → ReadyList s₂ middle (n .inner) (placed (a .top) (a .height) here) (a .done)
       block-list y = let u = block-is y in let x = g .by (block-locals y) in let k = block-keeps y in record {
         ready = moved y k (scopeAfter text (opened (y .scope)) (here .height) (u .left)) (u .lies-list) (x .after .shows) (omega arith)
-            (omega (arith, block-deep y .1)) (block-fine y .1);
+            (omega (arith, block-parts y .2)) (block-parts y .0 .1);
         starts = sym (block-start y .1);
       }
 
@@ -386,10 +380,8 @@ module _ {s : List ℕ} {end : ℕ} {here : Here} {st : State} (n : Node) (nd : 
             let u = block-is y in let x = g .by (block-locals y) in let z = g₂ .by (block-list y) in let sc = opened (y .scope) in
             let h = here .height in let ls = u .left in
             let LS = locals text sc h ls in let sc′ = scopeAfter text sc h ls in let h′ = heightAfter text sc h ls in let l = leavableBy ways here in
-            let eh : H.heightWith h LS ≡ h′ = heights-agree text sc h ls (block-fine y .0) in
-            subst (λ (v : Unlabelled). Result (inUnlabelled text (y .scope) l h v) (cmdSays here ways (unlabelled text (y .scope) h v))
-            (length (encodeUnlabelled (y .tree))) (y .base) here s s₃ t t₂ st r) (sym (u .same))
-            (record {
+            let eh : H.heightWith h LS ≡ h′ = heights-agree text sc h ls (block-parts y .0 .0) in
+            rw (u .same) (record {
               keeps = keeps-then (block-keeps y) (keeps-lower (omega arith) (z .keeps));
               did = did-as (cmdSays here ways (R.block LS (commands text sc′ h′ (u .list)))) _
                   (did-then (x .did) (subst (λ (k : ℕ). Did (inCommands text sc′ l k (u .list))
@@ -399,7 +391,8 @@ module _ {s : List ℕ} {end : ℕ} {here : Here} {st : State} (n : Node) (nd : 
                     labels = G.cmdsLabels (commands text sc′ k (u .list));
                   })
                   (2 * length (encodeCommands (u .list))) t₁ t₂ (a .done) r) (x .after .height) (z .did))) (same-eq (rw (any-locals text
-                  (leavable here) l refl sc h ls))) (λ k e. code-is (rw eh) (rw eh) refl) (omega arith);
+                  (leavable here) l refl sc h ls))) (λ k e. code-is (rw eh) (rw eh) refl)
+                  (omega (arith, ap (λ (v : Unlabelled). length (encodeUnlabelled v)) (u .same)));
             });
       }
 

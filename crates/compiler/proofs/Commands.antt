@@ -26,16 +26,12 @@ pub leaves-valof : (here : Here) {n : ℕ} → 0 < n → leavableBy (inValof n) 
 leaves-valof here {n} h = rw (ne-eqb n 0 (λ e. omega arith))
 
 module _ {s : List ℕ} {end : ℕ} {here : Here} {st : State} (n : Node) (nd : NodeAt s end n) (q : n .kind ≡ 7) where
-  pub valof-deep : (y : ReadyE s end here st) {p : ℕ} {c : Command} → y .tree ≡ T.valof p c → commandDepth c + 1 ≤ here .left
-  unfolding depth
-  valof-deep y h = omega (arith, ap depth h)
-
-  pub valof-fine : (y : ReadyE s end here st) {p : ℕ} {c : Command} → y .tree ≡ T.valof p c → FineC c
-  unfolding Fine
-  valof-fine y h = subst FineE h (y .fine)
+  pub valof-fits : (y : ReadyE s end here st) {p : ℕ} {c : Command} → y .tree ≡ T.valof p c → (commandDepth c + 1 ≤ here .left) × FineC c
+  unfolding depth Fine
+  valof-fits y h = (omega (arith, ap depth h), subst FineE h (y .fine))
 
   abbrev pub valof-part : {a : State} → Fresh 1 st a → ReadyE s end here st → ReadyC s (n .inner) (inside here) a
-  valof-part e y = let u = is-valof (find n nd q y) in sub y keeps-all (u .lies) refl (omega (arith, valof-deep y (u .same))) (valof-fine y (u .same))
+  valof-part e y = let u = is-valof (find n nd q y) in sub y keeps-all (u .lies) refl (omega (arith, valof-fits y (u .same) .0)) (valof-fits y (u .same) .1)
 
   pub valof-gave : (text : List ℕ) {s₁ t t₁ t₂ : List ℕ} {a b c : State} → Fresh 1 st a
       → GaveC text s s₁ (n .inner) (inside here) (inValof (st .label)) t t₁ a b → Emits (I.label (st .label) ∷ []) [] t₁ t₂ b c
@@ -46,13 +42,11 @@ module _ {s : List ℕ} {end : ℕ} {here : Here} {st : State} (n : Node) (nd : 
         let u = is-valof (find n nd q y) in let x = g .by (valof-part e y) in let sc = y .scope in let h = here .height in
         let C = command text sc h (u .part) in
         let l : leavableBy (inValof (st .label)) (inside here) ≡ Y.inValof (leavable here) = leaves-valof here (y .some) in
-        subst (λ (d : Expression). Result (faultsE text here sc d) (codeE text here sc d) (length (encode (y .tree))) (y .base) here s s₁ t t₂ st c)
-        (sym (u .same))
-        (record {
+        rw (u .same) (record {
           keeps = x .keeps;
           did = did-at _ _ (did-put (did-fresh e (x .did)) f) (same-eq (rw l))
               (λ v. code-is (ap (λ (m : ℕ). G.cmdCode (here .strings) h m (G.inValof (st .label)) C ++ (I.label (st .label) ∷ [])) (omega arith)) refl
-              (omega arith)) (omega arith);
+              (omega arith)) (omega (arith, ap (λ (d : Expression). length (encode d)) (u .same)));
         });
   }
 
@@ -73,16 +67,12 @@ module _ {s : List ℕ} {end : ℕ} {here : Here} {st : State} (n : Node) (nd : 
   pub result-is : (y : ReadyU s end here st) → IsResult s (y .lo) end (y .tree)
   result-is y = is-resultis (form-at n nd q y)
 
-  pub result-deep : (y : ReadyU s end here st) → depth (result-is y .part) ≤ here .left
-  unfolding unlabelledDepth
-  result-deep y = omega (arith, ap unlabelledDepth (result-is y .same))
-
-  pub result-fine : (y : ReadyU s end here st) → FineE (result-is y .part)
-  unfolding FineUnlabelled
-  result-fine y = subst FinePlain (result-is y .same) (y .fine) .0
+  pub result-fits : (y : ReadyU s end here st) → (depth (result-is y .part) ≤ here .left) × FineE (result-is y .part)
+  unfolding FineUnlabelled unlabelledDepth
+  result-fits y = let u = result-is y in (omega (arith, ap unlabelledDepth (u .same)), subst FinePlain (u .same) (y .fine) .0)
 
   abbrev pub result-part : ReadyU s end here st → ReadyE s (n .inner) here st
-  result-part y = let u = result-is y in sub y keeps-all (u .lies) refl (omega (arith, result-deep y)) (result-fine y)
+  result-part y = let u = result-is y in sub y keeps-all (u .lies) refl (omega (arith, result-fits y .0)) (result-fits y .1)
 
   pub result-gave : (text : List ℕ) (ways : Ways) {s₁ t t₁ t₂ : List ℕ} {a b : State} → GaveE text s s₁ (n .inner) here t t₁ st a
       → LeavesTo (ways .result) (n .place) t₁ t₂ a b → GaveU text s s₁ end here ways t t₂ st b
@@ -91,13 +81,12 @@ module _ {s : List ℕ} {end : ℕ} {here : Here} {st : State} (n : Node) (nd : 
     by =
         λ y. let u = result-is y in let x = g .by (result-part y) in let sc = y .scope in let h = here .height in
         let E = expression text sc h (u .part) in
-        subst (λ (v : Unlabelled). Result (inUnlabelled text sc (leavableBy ways here) h v) (cmdSays here ways (unlabelled text sc h v))
-        (length (encodeUnlabelled (y .tree))) (y .base) here s s₁ t t₂ st b) (sym (u .same))
-        (record {
+        rw (u .same) (record {
           keeps = x .keeps;
           did = did-as _ _ (did-then (with-ways text sc here ways h (u .part) (x .did)) (f .did))
               (same-then (same-swap (inExpression text sc (leavableBy ways here) h (u .part)) (unless (leavableBy ways here .valof)
-              (fault (n .place) 13))) (same-eq (cc))) (λ m v. code-is refl (append-nil (ofExpr h E)) (omega arith)) (omega arith);
+              (fault (n .place) 13))) (same-eq (cc))) (λ m v. code-is refl (append-nil (ofExpr h E)) (omega arith))
+              (omega (arith, ap (λ (v : Unlabelled). length (encodeUnlabelled v)) (u .same)));
         });
   }
 

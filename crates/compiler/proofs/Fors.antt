@@ -112,9 +112,7 @@ module _ {s : List ℕ} {end : ℕ} {here : Here} {st : State} (n b l : Node) {l
   pub for-deep : (y : ReadyU s end here st)
       → let u = for-is y in (depth (u .start) ≤ here .left) × (depth (u .limit) ≤ here .left) × (commandDepth (u .body) ≤ here .left)
   unfolding unlabelledDepth
-  for-deep y =
-      let e = ap unlabelledDepth (for-is y .same) in
-      (omega arith, omega arith, omega arith)
+  for-deep y = let e = ap unlabelledDepth (for-is y .same) in (omega arith, omega arith, omega arith)
 
   -- where its name's leaf, its body, its limit and its first value stand
   pub for-start : (y : ReadyU s end here st) → n .start ≡ y .lo
@@ -219,9 +217,7 @@ module _ {s : List ℕ} {end : ℕ} {here : Here} {st : State} (n b l : Node) {l
               let ll = leaves-loop here ways (L + 1) (L + 2) (omega arith) in let bf = bl .by (byJudged text sc (u .by)) (for-says y) t₄ in
               let EC = G.exprCode S h (L + 3) E in let DC = G.exprCode S (h + 1) (L + 3 + G.exprLabels E) D in
               let in₃ = (inExpression text sc lv h (u .start) ++ inExpression text sc lv (h + 1) (u .limit)) in
-              subst (λ (i : Unlabelled). Result (inUnlabelled text sc lv h i) (cmdSays here ways (unlabelled text sc h i))
-              (length (encodeUnlabelled (y .tree))) (y .base) here s s₅ t t₇ st r) (sym (u .same))
-              (record {
+              rw (u .same) (record {
                 keeps = after-block (omega arith) (for-block-keeps y) (w .keeps);
                 did = did-at (cmdSays here ways (R.for E D B C)) _ (did-fresh e
                     (did-put (did-then (did-put (did-judged (did-emit (did-then (did-emit (with-ways text sc here ways h (u .start) (x .did)) f)
@@ -236,6 +232,6 @@ module _ {s : List ℕ} {end : ℕ} {here : Here} {st : State} (n b l : Node) {l
                     )) (rw (
                       heights-shape (ofExpr h E) ((h + 1) ∷ []) (ofExpr (h + 1) D) ((h + 1 + 1) ∷ []) (ofCmd (h + 2) C),
                       eh,
-                    )) (omega arith)) (omega arith);
+                    )) (omega arith)) (omega (arith, ap (λ (v : Unlabelled). length (encodeUnlabelled v)) (u .same)));
               });
         }

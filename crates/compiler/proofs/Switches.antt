@@ -120,19 +120,17 @@ module _ {s : List ℕ} {end : ℕ} {here : Here} {st : State} (n : Node) (nd : 
   pub switch-is : (y : ReadyU s end here st) → IsTwo encode encodeCommands T.switchon s (y .lo) end (y .tree)
   switch-is y = is-switch (form-at n nd (nd .kind ∙ q) y)
 
-  pub switch-fine : (y : ReadyU s end here st) → FineE (switch-is y .left) × FineCs (switch-is y .list)
-  unfolding FineUnlabelled
-  switch-fine y = let f = subst FinePlain (switch-is y .same) (y .fine) in (f .0 .0, f .0 .1)
-
-  pub switch-deep : (y : ReadyU s end here st) → (depth (switch-is y .left) ≤ here .left) × (commandsDepth (switch-is y .list) ≤ here .left)
-  unfolding unlabelledDepth
-  switch-deep y = let e = ap unlabelledDepth (switch-is y .same) in (omega arith, omega arith)
+  pub switch-parts : (y : ReadyU s end here st) → let u = switch-is y in
+      (FineE (u .left) × FineCs (u .list)) × (depth (u .left) ≤ here .left) × (commandsDepth (u .list) ≤ here .left)
+  unfolding FineUnlabelled unlabelledDepth
+  switch-parts y = let u = switch-is y in let e = ap unlabelledDepth (u .same) in let f = subst FinePlain (u .same) (y .fine) .0 in
+      ((f .0, f .1), omega arith, omega arith)
 
   pub switch-middle : (y : ReadyU s end here st) → middle ≡ y .lo + length (encode (switch-is y .left))
   switch-middle y = let u = switch-is y in omega arith
 
   abbrev pub switch-value : ReadyU s end here st → ReadyE s middle here st
-  switch-value y = let u = switch-is y in sub y keeps-all (u .lies) refl (omega (arith, switch-middle y, switch-deep y .0)) (switch-fine y .0)
+  switch-value y = let u = switch-is y in sub y keeps-all (u .lies) refl (omega (arith, switch-middle y, switch-parts y .1)) (switch-parts y .0 .0)
 
   module _ (text : List ℕ) {s₁ t t₁ : List ℕ} {a : State} (g : GaveE text s s₁ middle here t t₁ st a) {k : ℕ}
       (c : Counts s₁ middle (n .inner) k) where
@@ -159,7 +157,7 @@ module _ {s : List ℕ} {end : ℕ} {here : Here} {st : State} (n : Node) (nd : 
       above = omega (arith, switch-middle y);
       small = omega arith;
       shows = keeps-shows (g .by (switch-value y) .keeps) (omega arith) (y .shows);
-      fine = switch-fine y .1;
+      fine = switch-parts y .0 .1;
     }
 
     module _ {b i d : State} {t₂ : List ℕ} (e : Fresh (k + 1) a b) (j : JudgesLabels text s₁ middle (n .inner) (here .top) b i) {first : ℕ}
@@ -171,7 +169,7 @@ module _ {s : List ℕ} {end : ℕ} {here : Here} {st : State} (n : Node) (nd : 
       switch-cases y =
           let u = switch-is y in let x = g .by (switch-value y) in let v = list-entries text (y .scope) (here .height) (u .list) in record {
             before = st;
-            ready = sub y (x .keeps) (u .lies-list) refl (omega (arith, switch-deep y .1)) (switch-fine y .1);
+            ready = sub y (x .keeps) (u .lies-list) refl (omega (arith, switch-parts y .2)) (switch-parts y .0 .1);
             starts = sym (switch-middle y);
             label = omega (arith, switch-state y, switch-count y);
             some = omega (arith, switch-state y);
@@ -191,13 +189,11 @@ module _ {s : List ℕ} {end : ℕ} {here : Here} {st : State} (n : Node) (nd : 
             (k + 1 + (0 + 2 * entriesIn (u .list))) t₁ t₄ a r =
             did-at (switchSays here ways CS) _ (did-fresh e (did-put (did-then (table-did h j w (switch-labels y)) (z .did)) f)) same-refl
             (λ p. code-is (rw (append-assoc, ef, en)) refl (omega arith)) (omega arith) in
-            subst (λ (p : Unlabelled). Result (inUnlabelled text sc lv h p) (cmdSays here ways (unlabelled text sc h p))
-            (length (encodeUnlabelled (y .tree))) (y .base) here s s₂ t t₄ st r) (sym (u .same))
-            (record {
+            rw (u .same) (record {
               keeps = keeps-then (x .keeps) (z .keeps);
               did = did-as (cmdSays here ways (R.switch E CS)) _ (did-then (with-ways text sc here ways h (u .left) (x .did)) rest)
                   (same-both (same-refl {a = inExpression text sc lv h (u .left)}) (same-then (same-eq (rw ls)) (cases-same text sc (Y.inSwitch lv) h
-                  [] (u .list)))) (λ p c. code-is refl refl (omega arith)) (omega arith);
+                  [] (u .list)))) (λ p c. code-is refl refl (omega arith)) (omega (arith, ap (λ (v : Unlabelled). length (encodeUnlabelled v)) (u .same)));
             });
       }
 

@@ -122,19 +122,18 @@ module _ {source s s′ : List ℕ} {a : SymbolsRead} (l : Lent source (length s
       go (good ss) w = contradiction cc
       go (faulty m p) w = let k : m ≡ number = cc in let j : p ≡ place = cc in rw (k, j) refl
 
-  pub never-long : a ≡ YA.TooLong → ⊥
-  never-long e = go (symbolsOf source) (sym e ∙ answer-is)
+  answers : (P : SymbolsRead → Type 0) → ((k : ℕ) → P (YA.Read k)) → ((number place : ℕ) → P (YA.Refused number place)) → P a
+  answers P f g = rw answer-is (go (symbolsOf source))
     where
-      go : (x : Symbols) → YA.TooLong ≡ outcome (length s) x .answer → ⊥
-      go (good ss) w = contradiction cc
-      go (faulty m p) w = contradiction cc
+      go : (x : Symbols) → P (outcome (length s) x .answer)
+      go (good ss) = f (length ss)
+      go (faulty number place) = g number place
+
+  pub never-long : a ≡ YA.TooLong → ⊥
+  never-long = answers (λ x. x ≡ YA.TooLong → ⊥) (λ k e. contradiction cc) (λ m p e. contradiction cc)
 
   pub never-short : a ≡ YA.TooShort → ⊥
-  never-short e = go (symbolsOf source) (sym e ∙ answer-is)
-    where
-      go : (x : Symbols) → YA.TooShort ≡ outcome (length s) x .answer → ⊥
-      go (good ss) w = contradiction cc
-      go (faulty m p) w = contradiction cc
+  never-short = answers (λ x. x ≡ YA.TooShort → ⊥) (λ k e. contradiction cc) (λ m p e. contradiction cc)
 
 -- ---- after `read_tree`, which is lent eight entries a symbol and 64
 
