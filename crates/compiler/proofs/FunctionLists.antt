@@ -12,9 +12,10 @@ use Rattle.compiler.specs.Groups.{encodeFunction, functionDepth, FineF, 
 use Rattle.compiler.specs.Groups.{ReadyFs, GaveFs}
 use Rattle.compiler.specs.Programs.{Yields}
 use Rattle.compiler.specs.declared.program.Done.{Done}
-use Rattle.compiler.proofs.Scoping.{keeps-all, keeps-then, keeps-shows}
+use Rattle.compiler.proofs.Scoping.{keeps-shows}
 use Rattle.compiler.proofs.Done.{least-then, fit-then, nil-left, nil-right, did-none, did-then, did-as, same-refl, code-is}
 use Rattle.compiler.proofs.Trees.{keeps-lies}
+use Rattle.compiler.proofs.Lists.{Rest, rest-all, taken-sizes, rest-next}
 use Rattle.compiler.proofs.GroupLaws.{IsFunction, is-function, no-function}
 
 -- ---- the least 16
@@ -187,40 +188,32 @@ pub record FunctionFits (at size end l label : ℕ) : Type 0 where
 module _ (text t₀ : List ℕ) {s₀ : List ℕ} {from end : ℕ} {here : Here} (label : ℕ) (d₀ : Done) where
   -- `rest` is left at `at`; the functions before it are `made`, with their faults
   pub record GroupPart (y : ReadyFs s₀ from end here d₀) (before : Scope) (k : ℕ) (s t : List ℕ) (at l : ℕ) (d : Done) : Type 0 where
-    pub rest : List Function
+    pub left : Rest encodeFunctions (y .base) (here .top) s₀ s end at
     pub found : List Fault
     pub made : List Named
     pub scope : Scope
     pub number : ℕ
     pub used : ℕ
-    pub lies : Lies s₀ at (encodeFunctions rest)
-    pub ends : end ≡ at + length (encodeFunctions rest)
-    pub starts : from ≤ at
-    pub keeps : Keeps (y .base) (here .top) s₀ s
-    pub uses : used + length (encodeFunctions rest) ≤ length (encodeFunctions (y .functions))
-    pub room : here .top * 2 + length (encodeFunctions rest) + 2 ≤ y .base * 2 + 4 * length rest
+    pub uses : used + length (encodeFunctions (left .rest)) ≤ length (encodeFunctions (y .functions))
+    pub room : here .top * 2 + length (encodeFunctions (left .rest)) + 2 ≤ y .base * 2 + 4 * length (left .rest)
     pub some : 0 < d .state .label
     pub low : d .state .high ≡ 0
-    pub shallow : functionsDepth rest ≤ here .left
-    pub fine : FineFs rest
+    pub shallow : functionsDepth (left .rest) ≤ here .left
+    pub fine : FineFs (left .rest)
     pub next : l ≡ label + length made
     pub few : length made ≤ used
-    pub faults-are : found ++ groupFaults text (y .scope) rest ≡ groupFaults text (y .scope) (y .functions)
-    pub made-are : made ++ groupOf text number scope (y .scope) rest ≡ groupOf text k before (y .scope) (y .functions)
+    pub faults-are : found ++ groupFaults text (y .scope) (left .rest) ≡ groupFaults text (y .scope) (y .functions)
+    pub made-are : made ++ groupOf text number scope (y .scope) (left .rest) ≡ groupOf text k before (y .scope) (y .functions)
     pub yields : Yields (here .strings) label found made (2 * used) t₀ t d₀ d
 
   pub group-begin : (y : ReadyFs s₀ from end here d₀) (before : Scope) (k : ℕ) → GroupPart y before k s₀ t₀ from label d₀
   group-begin y before k = record {
-    rest = y .functions;
+    left = rest-all (y .functions) (y .lies) (y .ends) (y .above);
     found = [];
     made = [];
     scope = before;
     number = k;
     used = 0;
-    lies = y .lies;
-    ends = y .ends;
-    starts = omega arith;
-    keeps = keeps-all;
     uses = omega arith;
     room = y .room;
     some = y .some;
@@ -236,32 +229,20 @@ module _ (text t₀ : List ℕ) {s₀ : List ℕ} {from end : ℕ} {here : Here}
 
   module _ {s t : List ℕ} {at l size next : ℕ} {d : Done} (lt : at < end) (es : size ≡ getD s at 0) (en : next ≡ at + 2 + size)
       (y : ReadyFs s₀ from end here d₀) {before : Scope} {k : ℕ} (p : GroupPart y before k s t at l d) where
-    abbrev pub group-one : IsFunction s₀ at end (p .rest)
-    group-one = is-function (p .rest) (p .lies) (p .ends) lt
+    abbrev pub group-one : IsFunction s₀ at end (p .left .rest)
+    group-one = is-function (p .left .rest) (p .left .lies) (p .left .ends) lt
 
-    pub group-size : size ≡ length (encodeFunction (group-one .part))
-    group-size = es ∙ p .keeps .above at (omega arith) ∙ group-one .size-of
-
-    pub group-length : length (encodeFunctions (p .rest)) ≡ 2 + length (encodeFunction (group-one .part)) + length (encodeFunctions (group-one .more))
-    group-length = omega (arith, p .ends, group-one .ends)
-
-    pub group-deep : (functionDepth (group-one .part) ≤ here .left) × (functionsDepth (group-one .more) ≤ here .left)
+    -- its size, what it takes, and how deep it is
+    pub group-sizes : let u = group-one in
+        ((size ≡ length (encodeFunction (u .part)))
+        × (length (encodeFunctions (p .left .rest)) ≡ 2 + length (encodeFunction (u .part)) + length (encodeFunctions (u .more))))
+        × (length (p .left .rest) ≡ suc (length (u .more))) × (functionDepth (u .part) ≤ here .left) × (functionsDepth (u .more) ≤ here .left)
     unfolding functionsDepth
-    group-deep = (omega (arith, ap functionsDepth (group-one .same)), omega (arith, ap functionsDepth (group-one .same)))
+    group-sizes = let e = ap functionsDepth (group-one .same) in (taken-sizes (p .left) group-one es, ap length (group-one .same), omega arith, omega arith)
 
     pub group-fine : FineF (group-one .part) × FineFs (group-one .more)
     unfolding FineFunctions
     group-fine = subst FineFs (group-one .same) (p .fine)
-
-    pub group-many : length (p .rest) ≡ suc (length (group-one .more))
-    group-many = ap length (group-one .same)
-
-    pub group-room : here .top * 2 + length (encodeFunction (group-one .part)) ≤ y .base * 2
-    group-room = omega (arith, group-length, group-many, functions-long (group-one .more))
-
-    pub group-used : p .used + 2 + length (encodeFunction (group-one .part)) + length (encodeFunctions (group-one .more))
-        ≤ length (encodeFunctions (y .functions))
-    group-used = omega (arith, group-length)
 
     abbrev pub group-ready : ReadyF s next here (d .state)
     group-ready = record {
@@ -269,23 +250,23 @@ module _ (text t₀ : List ℕ) {s₀ : List ℕ} {from end : ℕ} {here : Here}
       lo = at + 2;
       tree = group-one .part;
       scope = y .scope;
-      lies = keeps-lies (p .keeps) (omega arith) (group-one .lies);
-      ends = omega (arith, en, group-size);
+      lies = keeps-lies (p .left .keeps) (omega arith) (group-one .lies);
+      ends = omega (arith, en, group-sizes);
       above = omega arith;
       long = omega arith;
-      small = omega (arith, y .small, en, group-size, group-one .ends);
-      shows = keeps-shows (p .keeps) (omega arith) (y .shows);
-      room = group-room;
-      height = omega (arith, group-used);
-      label = omega (arith, group-used);
+      small = omega (arith, y .small, en, group-sizes, group-one .ends);
+      shows = keeps-shows (p .left .keeps) (omega arith) (y .shows);
+      room = omega (arith, group-sizes, functions-long (group-one .more));
+      height = omega (arith, group-sizes);
+      label = omega (arith, group-sizes);
       some = p .some;
       strings = y .strings;
-      shallow = group-deep .0;
+      shallow = group-sizes .2;
       fine = group-fine .0;
     }
 
     pub group-fits : FunctionFits at size end l label
-    group-fits = record { next = omega (arith, group-size, group-one .ends); small = y .small; few = omega arith }
+    group-fits = record { next = omega (arith, group-sizes, group-one .ends); small = y .small; few = omega arith }
 
     pub group-next : {s₁ t₁ : List ℕ} {tall place : ℕ} {a r : State} → GaveF text s s₁ l next here t t₁ (d .state) a → place ≡ getD s₁ (at + 4) 0
         → place < 2 ^ 32 → tall ≡ least (d .tall) (cond (ltb 8192 (a .high)) (fault place 16) []) → r ≡ flat a → GroupPart y before k s₁ t₁ next
@@ -294,30 +275,20 @@ module _ (text t₀ : List ℕ) {s₀ : List ℕ} {from end : ℕ} {here : Here}
     group-next g ep small et er =
         let u = group-one in let f = u .part in let x = g .by group-ready in let start = startOf (lookup text (p .scope) (f .name)) in
         let n = namedBy text (y .scope) start f in let q4 : at + 2 + 2 ≡ at + 4 = omega arith in let one = yields-one text (y .scope) start
-        (here .strings) l f (x .did) (p .low) er (ep ∙ x .keeps .above (at + 4) (omega arith) ∙ p .keeps .above (at + 4) (omega arith)
+        (here .strings) l f (x .did) (p .low) er (ep ∙ x .keeps .above (at + 4) (omega arith) ∙ p .left .keeps .above (at + 4) (omega arith)
         ∙ ap (λ (z : ℕ). getD s₀ z 0) (sym q4) ∙ function-place f (u .lies)) small et in
         record {
-          rest = u .more;
+          left = rest-next (p .left) u es en (x .keeps);
           found = p .found ++ functionFaults text (y .scope) f;
           made = p .made ++ (n ∷ []);
           scope = withFunction (p .scope) (f .name) (p .number) start;
           number = p .number + 1;
           used = p .used + (2 + length (encodeFunction f));
-          lies = subst (λ (z : ℕ). Lies s₀ z (encodeFunctions (u .more))) (omega (arith, en, group-size)) (u .lies-more);
-          ends = omega (arith, en, group-size);
-          starts = omega arith;
-          keeps = keeps-then (p .keeps) (x .keeps);
-          uses = omega arith;
-          room = omega (
-            arith,
-            group-length,
-            group-many,
-            functions-step f (u .more),
-            ap (λ (z : List Function). length (encodeFunctions z)) (u .same),
-          );
+          uses = omega (arith, group-sizes);
+          room = omega (arith, group-sizes, functions-step f (u .more), ap (λ (z : List Function). length (encodeFunctions z)) (u .same));
           some = omega arith;
           low = rw er;
-          shallow = group-deep .1;
+          shallow = group-sizes .3;
           fine = group-fine .1;
           next = omega (arith, length-append (p .made) (n ∷ []));
           few = omega (arith, length-append (p .made) (n ∷ []));
@@ -332,8 +303,8 @@ module _ (text t₀ : List ℕ) {s₀ : List ℕ} {from end : ℕ} {here : Here}
       → GaveFs text s₀ s from end label here t₀ t d₀ d
   unfolding groupFaults groupOf
   group-end lt q = record {
-    by = λ y before k. let p = q y before k in let e = no-function (p .rest) (p .ends) lt in let fe : p .found ≡ groupFaults text (y .scope)
+    by = λ y before k. let p = q y before k in let e = no-function (p .left .rest) (p .left .ends) lt in let fe : p .found ≡ groupFaults text (y .scope)
         (y .functions) = cc (append-nil (p .found)) in let me : p .made ≡ groupOf text k before (y .scope) (y .functions) = cc (append-nil
         (p .made)) in let r = yields-as (2 * length (encodeFunctions (y .functions))) fe me (omega arith) (p .yields) in
-        record { result = record { keeps = p .keeps; did = r .did }; tall = r .tall; fits = r .fits; low = p .low };
+        record { result = record { keeps = p .left .keeps; did = r .did }; tall = r .tall; fits = r .fits; low = p .low };
   }

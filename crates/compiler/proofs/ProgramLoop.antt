@@ -15,9 +15,10 @@ use Rattle.compiler.specs.Programs.{startsOf, encodeDeclared, declaredWo
 use Rattle.compiler.specs.Programs.{GaveProgram}
 use Rattle.compiler.specs.declared.program.Done.{Done}
 use Rattle.compiler.specs.declared.program.Progress.{Progress}
-use Rattle.compiler.proofs.Scoping.{keeps-all, keeps-then, keeps-lower}
+use Rattle.compiler.proofs.Scoping.{keeps-lower}
 use Rattle.compiler.proofs.Done.{nil-left, nil-right}
 use Rattle.compiler.proofs.Trees.{keeps-lies}
+use Rattle.compiler.proofs.Lists.{Rest, rest-all, taken-sizes, rest-next}
 use Rattle.compiler.proofs.FunctionCounts.{IsDeclaration, is-declaration, no-declaration}
 use Rattle.compiler.proofs.FunctionLists.{functions-long, yields-none, yields-then, yields-as}
 use Rattle.compiler.proofs.Levels.{group-long}
@@ -75,39 +76,31 @@ atFirst d = record { top = 0; functions = 0; done = d }
 module _ (text t₀ : List ℕ) {s₀ table₀ : List ℕ} {base end left strings : ℕ} (d₀ : Done) where
   -- `rest` is left at `at`; the declarations before it have these faults and these functions
   pub record ProgramPart (y : ReadyProgram s₀ table₀ base end left strings d₀) (s table t : List ℕ) (at : ℕ) (l : Progress) : Type 0 where
-    pub rest : Program
+    pub left-over : Rest encodeProgram base 0 s₀ s end at
     pub walk : Walk
     pub found : List Fault
     pub made : List Named
     pub used : ℕ
-    pub lies : Lies s₀ at (encodeProgram rest)
-    pub ends : end ≡ at + length (encodeProgram rest)
-    pub starts : base ≤ at
-    pub keeps : Keeps base 0 s₀ s
     pub stands : Stands base s table walk l
-    pub uses : used + length (encodeProgram rest) ≤ length (encodeProgram (y .program))
-    pub room : l .top * 2 + length (encodeProgram rest) ≤ base * 2
-    pub shallow : programDepth rest ≤ left
-    pub fine : FineDs rest
+    pub uses : used + length (encodeProgram (left-over .rest)) ≤ length (encodeProgram (y .program))
+    pub room : l .top * 2 + length (encodeProgram (left-over .rest)) ≤ base * 2
+    pub shallow : programDepth (left-over .rest) ≤ left
+    pub fine : FineDs (left-over .rest)
     pub few : length made ≤ used
     pub many : walk .functions ≡ length made
-    pub faults-are : found ++ faultsFrom text walk rest ≡ faultsFrom text begin (y .program)
-    pub made-are : made ++ functionsFrom text walk rest ≡ functionsFrom text begin (y .program)
+    pub faults-are : found ++ faultsFrom text walk (left-over .rest) ≡ faultsFrom text begin (y .program)
+    pub made-are : made ++ functionsFrom text walk (left-over .rest) ≡ functionsFrom text begin (y .program)
     pub yields : Yields strings 1 found made (2 * used) t₀ t d₀ (l .done)
     pub starting : found ≡ [] → Starting table (startsOf (funs made))
 
   pub program-begin : (y : ReadyProgram s₀ table₀ base end left strings d₀) → ProgramPart y s₀ table₀ t₀ base (atFirst d₀)
   unfolding startsOf funs
   program-begin y = record {
-    rest = y .program;
+    left-over = rest-all (y .program) (y .lies) (y .ends) (omega arith);
     walk = begin;
     found = [];
     made = [];
     used = 0;
-    lies = y .lies;
-    ends = y .ends;
-    starts = omega arith;
-    keeps = keeps-all;
     stands = record { shows = S.nothing refl; globals = none-small; free = none-taken (y .empty); many = refl; some = y .some; low = y .low };
     uses = omega arith;
     room = omega arith;
@@ -123,22 +116,15 @@ module _ (text t₀ : List ℕ) {s₀ table₀ : List ℕ} {base end left string
 
   module _ {s table t : List ℕ} {at size next tag : ℕ} {l : Progress} (lt : at < end) (es : size ≡ getD s at 0) (en : next ≡ at + 2 + size)
       (et : tag ≡ getD s (at + 1) 0) (y : ReadyProgram s₀ table₀ base end left strings d₀) (p : ProgramPart y s table t at l) where
-    abbrev pub program-one : IsDeclaration s₀ at end (p .rest)
-    program-one = is-declaration (p .rest) (p .lies) (p .ends) lt
+    abbrev pub program-one : IsDeclaration s₀ at end (p .left-over .rest)
+    program-one = is-declaration (p .left-over .rest) (p .left-over .lies) (p .left-over .ends) lt
 
-    pub program-size : size ≡ length (encodeDeclared (program-one .part))
-    program-size = es ∙ p .keeps .above at (p .starts) ∙ program-one .size-of
-
-    pub program-word : tag ≡ declaredWord (program-one .part)
-    program-word = et ∙ p .keeps .above (at + 1) (omega arith) ∙ program-one .word-of
-
-    pub program-length : length (encodeProgram (p .rest)) ≡ 2 + length (encodeDeclared (program-one .part))
-        + length (encodeProgram (program-one .more))
-    program-length = omega (arith, p .ends, program-one .ends)
-
-    pub program-deep : (declarationDepth (program-one .part) ≤ left) × (programDepth (program-one .more) ≤ left)
+    pub program-sizes : let u = program-one in
+        ((size ≡ length (encodeDeclared (u .part)))
+        × (length (encodeProgram (p .left-over .rest)) ≡ 2 + length (encodeDeclared (u .part)) + length (encodeProgram (u .more))))
+        × (declarationDepth (u .part) ≤ left) × (programDepth (u .more) ≤ left)
     unfolding programDepth
-    program-deep = (omega (arith, ap programDepth (program-one .same)), omega (arith, ap programDepth (program-one .same)))
+    program-sizes = let e = ap programDepth (program-one .same) in (taken-sizes (p .left-over) program-one es, omega arith, omega arith)
 
     pub program-fine : FineDeclaration STRINGS (program-one .part) × FineDs (program-one .more)
     unfolding FineProgram
@@ -150,18 +136,18 @@ module _ (text t₀ : List ℕ) {s₀ table₀ : List ℕ} {base end left string
       walk = p .walk;
       part = program-one .part;
       stands = p .stands;
-      lies = keeps-lies (p .keeps) (omega arith) (program-one .lies);
-      ends = omega (arith, en, program-size);
-      word = program-word;
+      lies = keeps-lies (p .left-over .keeps) (omega arith) (program-one .lies);
+      ends = omega (arith, en, program-sizes);
+      word = et ∙ p .left-over .keeps .above (at + 1) (omega arith) ∙ program-one .word-of;
       above = omega arith;
       long = omega arith;
-      small = omega (arith, y .small, en, program-size, program-one .ends);
-      room = omega (arith, program-length);
-      height = omega (arith, program-length);
-      label = omega (arith, program-length);
-      few = omega (arith, program-length);
+      small = omega (arith, y .small, en, program-sizes, program-one .ends);
+      room = omega (arith, program-sizes);
+      height = omega (arith, program-sizes);
+      label = omega (arith, program-sizes);
+      few = omega (arith, program-sizes);
       names = omega arith;
-      shallow = program-deep .0;
+      shallow = program-sizes .1;
       fine = program-fine .0;
     }
 
@@ -172,19 +158,15 @@ module _ (text t₀ : List ℕ) {s₀ table₀ : List ℕ} {base end left string
         let u = program-one in let x = g .by program-ready in let w = p .walk in let w′ = afterDeclaration text w (u .part) in
         let fs = declarationFaults text w (u .part) in let gs = declarationFunctions text w (u .part) in
         record {
-          rest = u .more;
+          left-over = rest-next (p .left-over) u es en (keeps-lower (omega arith) (x .keeps));
           walk = w′;
           found = p .found ++ fs;
           made = p .made ++ gs;
           used = p .used + (2 + length (encodeDeclared (u .part)));
-          lies = subst (λ (z : ℕ). Lies s₀ z (encodeProgram (u .more))) (omega (arith, en, program-size)) (u .lies-more);
-          ends = omega (arith, en, program-size);
-          starts = omega arith;
-          keeps = keeps-then (p .keeps) (keeps-lower (omega arith) (x .keeps));
           stands = x .stands;
-          uses = omega arith;
-          room = omega arith;
-          shallow = program-deep .1;
+          uses = omega (arith, program-sizes);
+          room = omega (arith, program-sizes);
+          shallow = program-sizes .2;
           fine = program-fine .1;
           few = omega (arith, length-append (p .made) gs, made-few text w (u .part));
           many = omega (arith, length-append (p .made) gs, made-many text w (u .part));
@@ -204,7 +186,7 @@ module _ (text t₀ : List ℕ) {s₀ table₀ : List ℕ} {base end left string
       → GaveProgram text s₀ s table₀ table base end left strings t₀ t d₀ (l .done)
   unfolding faultsFrom functionsFrom
   program-end {s} {table} {t} {at} lt q = record {
-    by = λ y. let p = q y in let e = no-declaration (p .rest) (p .ends) lt in let fe : p .found ≡ faultsFrom text begin (y .program)
+    by = λ y. let p = q y in let e = no-declaration (p .left-over .rest) (p .left-over .ends) lt in let fe : p .found ≡ faultsFrom text begin (y .program)
         = cc (append-nil (p .found)) in
         let me : p .made ≡ functionsFrom text begin (y .program) = cc (append-nil (p .made)) in let r = yields-as
         (2 * length (encodeProgram (y .program))) fe me (omega arith) (p .yields) in
@@ -214,6 +196,6 @@ module _ (text t₀ : List ℕ) {s₀ table₀ : List ℕ} {base end left string
           fits = r .fits;
           starting = λ c. rw me at (p .starting (fe ∙ c));
           long = p .stands .free .long;
-          keeps = p .keeps;
+          keeps = p .left-over .keeps;
         };
   }
