@@ -12,7 +12,7 @@ use Rattle.language.specs.Heights as H
 use Rattle.code.specs.Generate as G
 use Rattle.compiler.proofs.Vocabulary.{Shows, Keeps, Pushed, State, Here, Ways, Node, FineC, FineCs, FineLs, FinePlain, marked, placed}
 use Rattle.compiler.proofs.Vocabulary.{leavable, leavableBy, exits, NodeAt, Code, Did, Lies, Result}
-use Rattle.compiler.proofs.Scoping.{keeps-all, keeps-then, keeps-lower, pushed-keeps, pushed-mark}
+use Rattle.compiler.proofs.Scoping.{keeps-then, keeps-lower, pushed-keeps, pushed-mark}
 use Rattle.compiler.specs.declared.steps.Placed.{Placed}
 use Rattle.compiler.specs.Commands.{cmdSays, cmdsSays, ReadyC, GaveC, ReadyU, GaveU, ReadyList, GaveList}
 use Rattle.compiler.specs.Locals.{Local, aVector, someValues, withLocal, encodeLocal, localDepth, FineLocal, scopeWith, heightWith, faultsL}
@@ -20,7 +20,8 @@ use Rattle.compiler.specs.Locals.{localSays, ReadyLocal, GaveLocal, loca
 use Rattle.compiler.proofs.Done.{did-none, did-then, did-as, same-refl, same-eq, code-is}
 use Rattle.compiler.proofs.Trees.{IsTwo, ends}
 use Rattle.compiler.proofs.Parts.{moved}
-use Rattle.compiler.proofs.Lists.{First, first-of, Kind, Part, begins, ready-one, rest-length, goes-on, ended}
+use Rattle.compiler.proofs.Lists.{First, first-of, Rest, rest-all, taken-sizes, rest-next, Kind, Part, begins, ready-one, rest-length, goes-on}
+use Rattle.compiler.proofs.Lists.{ended}
 use Rattle.compiler.proofs.Calls.{count-resolved}
 use Rattle.compiler.proofs.Forms as F
 use Rattle.compiler.proofs.Forms.{Form, form-at}
@@ -195,37 +196,29 @@ local-fine (someValues ns es) ls f = ((sym (f .2), f .0, f .3), f .1)
 
 module _ (text t₀ : List ℕ) {s₀ : List ℕ} {from end : ℕ} {here : Here} {st₀ : State} where
   pub record LocalsPart (y : ReadyLocals s₀ from end here st₀) (s t : List ℕ) (at : ℕ) (r : Placed) : Type 0 where
-    pub rest : T.Locals
+    pub left : Rest encodeLocals (y .ready .base) (here .top) s₀ s end at
     pub scope : Scope
-    pub lies : Lies s₀ at (encodeLocals rest)
-    pub ends : end ≡ at + length (encodeLocals rest)
-    pub starts : from ≤ at
     pub shows : Shows s (r .top) scope
-    pub keeps : Keeps (y .ready .base) (here .top) s₀ s
     pub above : here .top ≤ r .top
-    pub room : r .top * 2 + length (encodeLocals rest) ≤ here .top * 2 + length (encodeLocals (y .ready .tree))
-    pub tall : r .height + 4100 * length (encodeLocals rest) ≤ here .height + 4100 * length (encodeLocals (y .ready .tree))
-    pub label : r .done .label + 2 * length (encodeLocals rest) ≤ st₀ .label + 2 * length (encodeLocals (y .ready .tree))
+    pub room : r .top * 2 + length (encodeLocals (left .rest)) ≤ here .top * 2 + length (encodeLocals (y .ready .tree))
+    pub tall : r .height + 4100 * length (encodeLocals (left .rest)) ≤ here .height + 4100 * length (encodeLocals (y .ready .tree))
+    pub label : r .done .label + 2 * length (encodeLocals (left .rest)) ≤ st₀ .label + 2 * length (encodeLocals (y .ready .tree))
     pub some : 0 < r .done .label
-    pub shallow : localsDepth rest ≤ here .left
-    pub fine : FineLs rest
-    pub scopes : scopeAfter text (y .ready .scope) (here .height) (y .ready .tree) ≡ scopeAfter text scope (r .height) rest
-    pub heights : heightAfter text (y .ready .scope) (here .height) (y .ready .tree) ≡ heightAfter text scope (r .height) rest
+    pub shallow : localsDepth (left .rest) ≤ here .left
+    pub fine : FineLs (left .rest)
+    pub scopes : scopeAfter text (y .ready .scope) (here .height) (y .ready .tree) ≡ scopeAfter text scope (r .height) (left .rest)
+    pub heights : heightAfter text (y .ready .scope) (here .height) (y .ready .tree) ≡ heightAfter text scope (r .height) (left .rest)
     pub finish : (t′ : List ℕ) (st′ : State)
-        → Did (inLocals text scope (leavable here) (r .height) rest) (localsSays here (r .height) (locals text scope (r .height) rest))
-        (2 * length (encodeLocals rest)) t t′ (r .done) st′ → Did (inLocals text (y .ready .scope) (leavable here) (here .height) (y .ready .tree))
+        → Did (inLocals text scope (leavable here) (r .height) (left .rest)) (localsSays here (r .height) (locals text scope (r .height) (left .rest)))
+        (2 * length (encodeLocals (left .rest))) t t′ (r .done) st′ → Did (inLocals text (y .ready .scope) (leavable here) (here .height) (y .ready .tree))
         (localsSays here (here .height) (locals text (y .ready .scope) (here .height) (y .ready .tree))) (2 * length (encodeLocals (y .ready .tree)))
         t₀ t′ st₀ st′
 
   pub locals-begin : (y : ReadyLocals s₀ from end here st₀) → LocalsPart y s₀ t₀ from (record { top = here .top; height = here .height; done = st₀ })
   locals-begin y = let z = y .ready in record {
-    rest = z .tree;
+    left = rest-all (z .tree) (rw (y .starts) at (z .lies)) (omega arith) (omega arith);
     scope = z .scope;
-    lies = rw (y .starts) at (z .lies);
-    ends = omega arith;
-    starts = omega arith;
     shows = z .shows;
-    keeps = keeps-all;
     above = omega arith;
     room = omega arith;
     tall = omega arith;
@@ -240,17 +233,14 @@ module _ (text t₀ : List ℕ) {s₀ : List ℕ} {from end : ℕ} {here : Here}
 
   module _ {s t : List ℕ} {at size next : ℕ} {r : Placed} (l : at < end) (es : size ≡ getD s at 0) (en : next ≡ at + 2 + size) where
     module _ (y : ReadyLocals s₀ from end here st₀) (p : LocalsPart y s t at r) where
-      abbrev pub one : First encodeLocals encodeLocal (λ x. 3) withLocal s₀ at end (p .rest)
-      one = is-local (p .rest) (p .lies) (p .ends) l
+      abbrev pub one : First encodeLocals encodeLocal (λ x. 3) withLocal s₀ at end (p .left .rest)
+      one = is-local (p .left .rest) (p .left .lies) (p .left .ends) l
 
-      pub locals-size : size ≡ length (encodeLocal (one .part))
-      locals-size = es ∙ p .keeps .above at (omega arith) ∙ one .size-of
-
-      pub locals-length : length (encodeLocals (p .rest)) ≡ 2 + length (encodeLocal (one .part)) + length (encodeLocals (one .more))
-      locals-length = omega (arith, p .ends, one .ends)
-
-      pub locals-deep : (localDepth (one .part) ≤ here .left) × (localsDepth (one .more) ≤ here .left)
-      locals-deep = local-deep (one .part) (one .more) (rw (one .same) at (p .shallow))
+      pub locals-sizes : ((size ≡ length (encodeLocal (one .part)))
+          × (length (encodeLocals (p .left .rest)) ≡ 2 + length (encodeLocal (one .part)) + length (encodeLocals (one .more))))
+          × (localDepth (one .part) ≤ here .left) × (localsDepth (one .more) ≤ here .left)
+      locals-sizes =
+          let d = local-deep (one .part) (one .more) (rw (one .same) at (p .shallow)) in (taken-sizes (p .left) one es, d .0, d .1)
 
       pub locals-fine : FineLocal (one .part) × FineLs (one .more)
       locals-fine = local-fine (one .part) (one .more) (subst FineLs (one .same) (p .fine))
@@ -258,8 +248,7 @@ module _ (text t₀ : List ℕ) {s₀ : List ℕ} {from end : ℕ} {here : Here}
     abbrev pub locals-part : (y : ReadyLocals s₀ from end here st₀) → LocalsPart y s t at r
         → ReadyLocal s next (placed (r .top) (r .height) here) (r .done)
     locals-part y p = let z = y .ready in let u = one y p in
-        moved z (p .keeps) (p .scope) (u .lies) (p .shows) (omega (arith, locals-length y p))
-        (omega (arith, locals-size y p, locals-length y p, locals-deep y p .0)) (locals-fine y p .0)
+        moved z (p .left .keeps) (p .scope) (u .lies) (p .shows) (omega (arith, locals-sizes y p)) (omega (arith, locals-sizes y p)) (locals-fine y p .0)
 
     pub locals-next : {s₁ t₁ : List ℕ} {r′ : Placed} → GaveLocal text s s₁ next (placed (r .top) (r .height) here) t t₁ (r .done) r′
         → (y : ReadyLocals s₀ from end here st₀) → LocalsPart y s t at r → LocalsPart y s₁ t₁ next r′
@@ -267,41 +256,37 @@ module _ (text t₀ : List ℕ) {s₀ : List ℕ} {from end : ℕ} {here : Here}
         let z = y .ready in let u = one y p in let x = g .by (locals-part y p) in let sc = p .scope in let h = r .height in
         let sc′ = scopeWith text sc h (u .part) in let h′ = heightWith text sc h (u .part) in let k = x .after in let now = placed (r .top) h here in
         record {
-          rest = u .more;
+          left = rest-next (p .left) u es en (keeps-lower (p .above) (k .keeps));
           scope = sc′;
-          lies = subst (λ (n : ℕ). Lies s₀ n (encodeLocals (u .more))) (omega (arith, locals-size y p)) (u .lies-more);
-          ends = omega (arith, locals-size y p);
-          starts = omega arith;
           shows = k .shows;
-          keeps = keeps-then (p .keeps) (keeps-lower (p .above) (k .keeps));
           above = omega arith;
-          room = omega (arith, locals-length y p);
-          tall = omega (arith, locals-length y p);
-          label = omega (arith, locals-length y p);
+          room = omega (arith, locals-sizes y p);
+          tall = omega (arith, locals-sizes y p);
+          label = omega (arith, locals-sizes y p);
           some = omega arith;
-          shallow = locals-deep y p .1;
+          shallow = locals-sizes y p .2;
           fine = locals-fine y p .1;
           scopes = cc (scope-with text sc h (u .part) (u .more));
           heights = cc (height-with text sc h (u .part) (u .more));
           finish = λ t′ st′ d. p .finish t′ st′
               (subst (λ (ls : T.Locals). Did (inLocals text sc (leavable here) h ls) (localsSays here h (locals text sc h ls))
-              (2 * length (encodeLocals (p .rest))) t t′ (r .done) st′) (sym (u .same))
+              (2 * length (encodeLocals (p .left .rest))) t t′ (r .done) st′) (sym (u .same))
               (did-as (localsSays here h (locals text sc h (withLocal (u .part) (u .more)))) _ (did-then (x .did)
               (subst (λ (n : ℕ). Did (inLocals text sc′ (leavable here) n (u .more)) (localsSays here n (locals text sc′ n (u .more)))
               (2 * length (encodeLocals (u .more))) t₁ t′ (r′ .done) st′) (k .height) d))
               (same-eq (sym (faults-with text sc now (u .part) (u .more)))) (λ m e. code-with text sc now m (u .part) (u .more) (locals-fine y p .0))
-              (omega (arith, locals-length y p))));
+              (omega (arith, locals-sizes y p))));
         }
 
   pub locals-end : {s t : List ℕ} {at : ℕ} {r : Placed} → end ≤ at → ((y : ReadyLocals s₀ from end here st₀) → LocalsPart y s t at r)
       → GaveLocals text s₀ s from end here t₀ t st₀ r
   unfolding inLocals locals scopeAfter heightAfter G.localsCode ofLocals G.localsLabels encodeLocals
   locals-end {s} {t} {at} {r} l q = record {
-    by = λ y. let p = q y in let e = no-local (p .rest) (p .ends) l in let z = y .ready in record {
+    by = λ y. let p = q y in let e = no-local (p .left .rest) (p .left .ends) l in let z = y .ready in record {
       after = record {
         shows = rw (p .scopes ∙ ap (scopeAfter text (p .scope) (r .height)) e) (p .shows);
         height = sym (p .heights ∙ ap (heightAfter text (p .scope) (r .height)) e);
-        keeps = p .keeps;
+        keeps = p .left .keeps;
         above = p .above;
         room = omega arith;
         tall = omega arith;

@@ -11,9 +11,10 @@ use Rattle.compiler.proofs.Vocabulary.{Shows, Keeps, Looked, found, nam
 use Rattle.compiler.specs.Commands.{nothing}
 use Rattle.compiler.specs.Groups.{Small, Taken, Starting, startsIn, started, NameFaults, Enters, encodeFunction, FineF, FineFs, ReadyGroup}
 use Rattle.compiler.specs.Groups.{GroupNames}
-use Rattle.compiler.proofs.Scoping.{keeps-all, keeps-then, keeps-lower, keeps-name, name-there}
+use Rattle.compiler.proofs.Scoping.{keeps-lower, keeps-name, name-there}
 use Rattle.compiler.proofs.Done.{nil-left, nil-right, did-none, did-then, did-as, same-refl}
-use Rattle.compiler.proofs.GroupLaws.{is-function, no-function}
+use Rattle.compiler.proofs.GroupLaws.{IsFunction, is-function, no-function}
+use Rattle.compiler.proofs.Lists.{Rest, rest-all, rest-next}
 use Rattle.compiler.proofs.Rendered.{small-found}
 
 -- ---- where functions start: one more
@@ -73,10 +74,6 @@ small-with sc name k (inGlobal n) h = h
 
 -- ---- the loop
 
-fine-first : (f : Function) (fs : List Function) → FineFs (f ∷ fs) → FineF f × FineFs fs
-unfolding FineFunctions
-fine-first f fs h = h
-
 -- the name at the front of a function
 name-of : {s : List ℕ} {lo : ℕ} (f : Function) → Lies s lo (encodeFunction f) → nameAt s lo ≡ f .name
 unfolding encodeName
@@ -85,42 +82,34 @@ name-of {s} {lo} f h = name-there s lo (h .at 1 (omega arith)) (h .at 2 (omega a
 module _ (text : List ℕ) {s₀ table₀ : List ℕ} {from end top before : ℕ} (st₀ : State) where
   -- `bad` and `begun` are the faults and the starts so far
   pub record GroupPart (y : ReadyGroup s₀ table₀ from end top before) (s table : List ℕ) (at k now : ℕ) (st : State) : Type 0 where
-    pub rest : List Function
+    pub left : Rest encodeFunctions (y .base) top s₀ s end at
     pub scope : Scope
     pub taken : List ℕ
     pub bad : List Fault
     pub begun : List Start
-    pub lies : Lies s₀ at (encodeFunctions rest)
-    pub ends : end ≡ at + length (encodeFunctions rest)
-    pub starts : from ≤ at
     pub shows : Shows s now scope
-    pub keeps : Keeps (y .base) top s₀ s
     pub up : top ≤ now
-    pub room : now + 2 * length rest ≤ top + 2 * length (y .functions)
-    pub many : k + length rest ≡ before + length (y .functions)
-    pub fine : FineFs rest
+    pub room : now + 2 * length (left .rest) ≤ top + 2 * length (y .functions)
+    pub many : k + length (left .rest) ≡ before + length (y .functions)
+    pub fine : FineFs (left .rest)
     pub globals : Small scope
     pub free : Taken table taken
-    pub scopes : functionsAfter text before (y .scope) (y .functions) ≡ functionsAfter text k scope rest
-    pub takens : takenAfter text before (y .scope) (y .taken) (y .functions) ≡ takenAfter text k scope taken rest
-    pub faults : groupNameFaults text before (y .scope) (y .taken) (y .functions) ≡ bad ++ groupNameFaults text k scope taken rest
+    pub scopes : functionsAfter text before (y .scope) (y .functions) ≡ functionsAfter text k scope (left .rest)
+    pub takens : takenAfter text before (y .scope) (y .taken) (y .functions) ≡ takenAfter text k scope taken (left .rest)
+    pub faults : groupNameFaults text before (y .scope) (y .taken) (y .functions) ≡ bad ++ groupNameFaults text k scope taken (left .rest)
     pub did : (t : List ℕ) → Did bad nothing 0 t t st₀ st
-    pub started : startsIn text before (y .scope) (y .functions) ≡ begun ++ startsIn text k scope rest
+    pub started : startsIn text before (y .scope) (y .functions) ≡ begun ++ startsIn text k scope (left .rest)
     pub counted : k ≡ before + length begun
     pub starting : bad ≡ [] → (ss : List Start) → length ss ≡ before → Starting table₀ ss → Starting table (ss ++ begun)
 
   pub names-begin : (y : ReadyGroup s₀ table₀ from end top before) → GroupPart y s₀ table₀ from before top st₀
   names-begin y = record {
-    rest = y .functions;
+    left = rest-all (y .functions) (y .lies) (y .ends) (y .above);
     scope = y .scope;
     taken = y .taken;
     bad = [];
     begun = [];
-    lies = y .lies;
-    ends = y .ends;
-    starts = omega arith;
     shows = y .shows;
-    keeps = keeps-all;
     up = omega arith;
     room = omega arith;
     many = refl;
@@ -147,54 +136,51 @@ module _ (text : List ℕ) {s₀ table₀ : List ℕ} {from end top before : ℕ
     pub table-long : length table ≡ 400
     pub name : FineName (nameAt s (at + 2))
 
-  function-name : {s table : List ℕ} {at k now : ℕ} {st : State} (l : at < end)
-      (y : ReadyGroup s₀ table₀ from end top before) (p : GroupPart y s table at k now st) → nameAt s (at + 2) ≡ is-function (p .rest) (p .lies)
-      (p .ends) l .part .name
-  function-name l y p =
-      let u = is-function (p .rest) (p .lies) (p .ends) l in
-      keeps-name (p .keeps) (omega arith) ∙ name-of (u .part) (u .lies)
+  module _ {s table : List ℕ} {at k now : ℕ} {st : State} (l : at < end) (y : ReadyGroup s₀ table₀ from end top before)
+      (p : GroupPart y s table at k now st) where
+    abbrev pub front : IsFunction s₀ at end (p .left .rest)
+    front = is-function (p .left .rest) (p .left .lies) (p .left .ends) l
 
-  pub names-fit : {s table : List ℕ} {at k now : ℕ} {st : State} → at < end
-      → (y : ReadyGroup s₀ table₀ from end top before) → GroupPart y s table at k now st → Fits y s table at k now
-  names-fit {at = at} l y p =
-      let u = is-function (p .rest) (p .lies) (p .ends) l in let c = ap length (u .same) in let low : y .base ≤ at = omega arith in
-      record {
-        next = omega (arith, p .keeps .above at low);
-        room = omega arith;
-        long = omega arith;
-        small = y .small;
-        low = low;
-        few = omega arith;
-        table-long = p .free .long;
-        name = subst FineName (sym (function-name l y p)) (fine-first (u .part) (u .more) (subst FineFs (u .same) (p .fine)) .0 .name);
-      }
+    function-name : nameAt s (at + 2) ≡ front .part .name
+    function-name = keeps-name (p .left .keeps) (omega arith) ∙ name-of (front .part) (front .lies)
+
+    function-fine : FineF (front .part) × FineFs (front .more)
+    unfolding FineFunctions
+    function-fine = subst FineFs (front .same) (p .fine)
+
+    pub names-fit : Fits y s table at k now
+    names-fit = let u = front in let c = ap length (u .same) in record {
+      next = omega (arith, p .left .keeps .above at (p .left .above));
+      room = omega arith;
+      long = omega arith;
+      small = y .small;
+      low = p .left .above;
+      few = omega arith;
+      table-long = p .free .long;
+      name = subst FineName (sym function-name) (function-fine .0 .name);
+    }
 
   pub names-next : {s s′ table table′ : List ℕ} {at k now size next m place now′ : ℕ} {st r : State} → at < end → size ≡ getD s at 0
       → next ≡ at + 2 + size → Looked text s now (at + 2) m → place ≡ getD s (at + 4) 0 → NameFaults table m place st r → Enters s s′ table table′ now
       (at + 2) m k now′ → (y : ReadyGroup s₀ table₀ from end top before) → GroupPart y s table at k now st → GroupPart y s′ table′ next (k + 1) now′ r
   unfolding functionsAfter takenAfter groupNameFaults startsIn
   names-next {s} {s′} {table} {table′} {at} {k} {now} {size} {next} {m} {place} l es en lk ep nf ent y p =
-      let u = is-function (p .rest) (p .lies) (p .ends) l in let w = names-fit l y p in let c = ap length (u .same) in let sc = p .scope in
+      let u = front l y p in let w = names-fit l y p in let c = ap length (u .same) in let sc = p .scope in
       let name = u .part .name in let f = lookup text sc name in let n : nameAt s (at + 2) ≡ name = function-name l y p in let four : at + 4 ≡ at + 2
       + 2 = omega arith in let place-is : place ≡ name .place = cc in let m-is : m ≡ found f = rw (lk .by sc (p .shows), n) in let small : (i : ℕ) → f
       ≡ N.known (N.global i) → i < 400 = λ i e. small-found text sc name i (p .globals) e in let e = ent .by f (y .base) sc (p .taken) name m-is
-      (p .shows) (w .long) (w .room) n (p .free) small in let sz : size ≡ length (encodeFunction (u .part)) = es ∙ p .keeps .above at (w .low)
-      ∙ u .size-of in let x = startOf f in let fs = nameFault (name .place) (p .taken) f in
+      (p .shows) (w .long) (w .room) n (p .free) small in let x = startOf f in let fs = nameFault (name .place) (p .taken) f in
       record {
-        rest = u .more;
+        left = rest-next (p .left) u es en (keeps-lower (p .up) (e .1));
         scope = withFunction sc name k x;
         taken = alsoTaken x (p .taken);
         bad = p .bad ++ fs;
         begun = p .begun ++ (x ∷ []);
-        lies = subst (λ (z : ℕ). Lies s₀ z (encodeFunctions (u .more))) (omega arith) (u .lies-more);
-        ends = omega arith;
-        starts = omega arith;
         shows = e .0;
-        keeps = keeps-then (p .keeps) (keeps-lower (p .up) (e .1));
         up = omega arith;
         room = omega arith;
         many = omega arith;
-        fine = fine-first (u .part) (u .more) (subst FineFs (u .same) (p .fine)) .1;
+        fine = function-fine l y p .1;
         globals = small-with sc name k x (p .globals);
         free = e .2;
         scopes = p .scopes ∙ ap (functionsAfter text k sc) (u .same);
@@ -214,13 +200,13 @@ module _ (text : List ℕ) {s₀ table₀ : List ℕ} {from end top before : ℕ
       → GroupNames text s₀ s table₀ table from end top before st₀ (record { top = now; state = st })
   unfolding functionsAfter takenAfter groupNameFaults startsIn
   names-end {s} {table} {at} {k} l q = record {
-    by = λ y. let p = q y in let e = no-function (p .rest) (p .ends) l in let fs : groupNameFaults text before (y .scope) (y .taken) (y .functions)
+    by = λ y. let p = q y in let e = no-function (p .left .rest) (p .left .ends) l in let fs : groupNameFaults text before (y .scope) (y .taken) (y .functions)
         ≡ p .bad =
         simp (p .faults, e, append-nil) in let ss : startsIn text before (y .scope) (y .functions) ≡ p .begun =
         simp (p .started, e, append-nil) in
         record {
           shows = rw (p .scopes ∙ ap (functionsAfter text k (p .scope)) e) (p .shows);
-          keeps = p .keeps;
+          keeps = p .left .keeps;
           up = (p .up, omega arith);
           taken = rw (p .takens ∙ ap (takenAfter text k (p .scope) (p .taken)) e) (p .free);
           did = λ t. rw fs (p .did t);

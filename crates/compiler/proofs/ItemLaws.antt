@@ -7,11 +7,11 @@ use Rattle.compiler.proofs.Language.{encodeItems, FineName, FineConstan
 use Rattle.language.specs.Constants as K
 use Rattle.compiler.specs.Scope as S
 use Rattle.compiler.proofs.Vocabulary.{Shows, Keeps, PushedName, Worded, code, nameAt, State, Did, Lies, STRINGS}
-use Rattle.compiler.proofs.Scoping.{keeps-all, keeps-then, keeps-lower, keeps-name, name-there, pushed-keeps, pushed-name}
+use Rattle.compiler.proofs.Scoping.{keeps-lower, keeps-name, name-there, pushed-keeps, pushed-name}
 use Rattle.compiler.specs.Commands.{nothing, Again}
 use Rattle.compiler.proofs.Done.{did-none, did-then, did-as, same-refl}
 use Rattle.compiler.proofs.Trees.{second, keeps-lies}
-use Rattle.compiler.proofs.Lists.{First, first-of}
+use Rattle.compiler.proofs.Lists.{First, first-of, Rest, rest-all, rest-next}
 use Rattle.compiler.proofs.Judging.{judged-word, says-word}
 use Rattle.compiler.specs.Locals.{Says, fit, unfit, Judges, JudgesMost, Blames}
 use Rattle.compiler.specs.declared.steps.Verdict.{Verdict}
@@ -91,30 +91,22 @@ faults-none false text sc = refl
 
 module _ (g : Bool) (text : List ℕ) {s₀ : List ℕ} {from end top : ℕ} (st₀ : State) where
   pub record ItemsPart (y : ReadyItems s₀ from end top) (s : List ℕ) (at k : ℕ) (st : State) : Type 0 where
-    pub rest : List Item
+    pub left : Rest encodeItems (y .base) top s₀ s end at
     pub scope : Scope
-    pub lies : Lies s₀ at (encodeItems rest)
-    pub ends : end ≡ at + length (encodeItems rest)
-    pub starts : from ≤ at
     pub shows : Shows s (top + 2 * k) scope
-    pub keeps : Keeps (y .base) top s₀ s
-    pub many : k + length rest ≡ length (y .items)
-    pub fine : FineIs rest
-    pub same : after g text (y .scope) (y .items) ≡ after g text scope rest
-    pub finish : (t : List ℕ) (st′ : State) → Did (faults g text scope rest) nothing 0 t t st st′
+    pub many : k + length (left .rest) ≡ length (y .items)
+    pub fine : FineIs (left .rest)
+    pub same : after g text (y .scope) (y .items) ≡ after g text scope (left .rest)
+    pub finish : (t : List ℕ) (st′ : State) → Did (faults g text scope (left .rest)) nothing 0 t t st st′
         → Did (faults g text (y .scope) (y .items)) nothing 0 t t st₀ st′
 
   pub items-begin : (y : ReadyItems s₀ from end top) → ItemsPart y s₀ from 0 st₀
   items-begin y =
       let a : top ≡ top + 2 * 0 = omega arith in
       record {
-        rest = y .items;
+        left = rest-all (y .items) (y .lies) (y .ends) (y .above);
         scope = y .scope;
-        lies = y .lies;
-        ends = y .ends;
-        starts = omega arith;
         shows = rw a at (y .shows);
-        keeps = keeps-all;
         many = omega arith;
         fine = y .fine;
         same = refl;
@@ -130,58 +122,52 @@ module _ (g : Bool) (text : List ℕ) {s₀ : List ℕ} {from end top : ℕ} (st
     pub low : y .base ≤ end
     pub name : FineName (nameAt s (at + 2))
 
-  item-name : {s : List ℕ} {at : ℕ} (k : ℕ) {st : State} (l : at < end) (y : ReadyItems s₀ from end top) (p : ItemsPart y s at k st)
-      → nameAt s (at + 2) ≡ is-item (p .rest) (p .lies) (p .ends) l .part .name
-  unfolding encodeName
-  item-name {at = at} k l y p = let u = is-item (p .rest) (p .lies) (p .ends) l in
-      keeps-name (p .keeps) (omega arith) ∙ name-there s₀ (at + 2) (u .lies .at 1 (omega arith)) (u .lies .at 2 (omega arith))
+  module _ {s : List ℕ} {at : ℕ} (k : ℕ) {st : State} (l : at < end) (y : ReadyItems s₀ from end top) (p : ItemsPart y s at k st) where
+    abbrev pub front : IsItem s₀ at end (p .left .rest)
+    front = is-item (p .left .rest) (p .left .lies) (p .left .ends) l
 
-  item-fine : {s : List ℕ} {at : ℕ} (k : ℕ) {st : State} (l : at < end) (y : ReadyItems s₀ from end top) (p : ItemsPart y s at k st)
-      → let u = is-item (p .rest) (p .lies) (p .ends) l in FineItem STRINGS (u .part) × FineIs (u .more)
-  unfolding FineItems
-  item-fine k l y p = subst FineIs (is-item (p .rest) (p .lies) (p .ends) l .same) (p .fine)
+    item-name : nameAt s (at + 2) ≡ front .part .name
+    unfolding encodeName
+    item-name = keeps-name (p .left .keeps) (omega arith) ∙ name-there s₀ (at + 2) (front .lies .at 1 (omega arith)) (front .lies .at 2 (omega arith))
 
-  pub items-fit : {s : List ℕ} {at : ℕ} (k : ℕ) {st : State} → at < end → (y : ReadyItems s₀ from end top) → ItemsPart y s at k st → Fits y s at k
-  items-fit {s} {at} k l y p =
-      let u = is-item (p .rest) (p .lies) (p .ends) l in let c : k + 1 + length (u .more) ≡ length (y .items) = omega (arith, ap length (u .same)) in
-      record {
-        next = omega (arith, p .keeps .above at (omega (arith, y .above, p .starts)));
-        room = omega arith;
-        long = omega arith;
-        small = y .small;
-        low = omega arith;
-        name = subst FineName (sym (item-name k l y p)) (item-fine k l y p .0 .name);
-      }
+    item-fine : FineItem STRINGS (front .part) × FineIs (front .more)
+    unfolding FineItems
+    item-fine = subst FineIs (front .same) (p .fine)
 
-  -- its constant judged
-  item-says : {s : List ℕ} {at size next : ℕ} (k : ℕ) {st : State} {c : Verdict} (l : at < end) → size ≡ getD s at 0 → next ≡ at + 2 + size
-      → JudgesItem g text s next (top + 2 * k) c → (y : ReadyItems s₀ from end top) (p : ItemsPart y s at k st) → Says c
-      (judged g text (p .scope) (is-item (p .rest) (p .lies) (p .ends) l .part .constant))
-  unfolding encodeName
-  item-says {s} {at} k l es en ju y p = let u = is-item (p .rest) (p .lies) (p .ends) l in let c = u .part .constant in
-      ju .by (p .scope) (at + 6) c (p .shows) (item-fine k l y p .0 .constant)
-      (keeps-lies (p .keeps) (omega arith) (second (encodeName (u .part .name)) (encodeConstant c) (at + 6) (u .lies) (omega arith))) (omega (arith, p .keeps .above at (omega (arith, y .above, p .starts))))
+    pub items-fit : Fits y s at k
+    items-fit = let u = front in let c : k + 1 + length (u .more) ≡ length (y .items) = omega (arith, ap length (u .same)) in record {
+      next = omega (arith, p .left .keeps .above at (p .left .above));
+      room = omega arith;
+      long = omega arith;
+      small = y .small;
+      low = omega arith;
+      name = subst FineName (sym item-name) (item-fine .0 .name);
+    }
+
+    -- its constant judged
+    item-says : {size next : ℕ} {c : Verdict} → size ≡ getD s at 0 → next ≡ at + 2 + size → JudgesItem g text s next (top + 2 * k) c
+        → Says c (judged g text (p .scope) (front .part .constant))
+    unfolding encodeName
+    item-says es en ju = let u = front in let c = u .part .constant in
+        ju .by (p .scope) (at + 6) c (p .shows) (item-fine .0 .constant)
+        (keeps-lies (p .left .keeps) (omega arith) (second (encodeName (u .part .name)) (encodeConstant c) (at + 6) (u .lies) (omega arith)))
+        (omega (arith, p .left .keeps .above at (p .left .above)))
 
   pub items-next : {s s₁ : List ℕ} {at size next m place x : ℕ} {c : Verdict} (k : ℕ) {st a r : State} → at < end → size ≡ getD s at 0
       → next ≡ at + 2 + size → JudgesItem g text s next (top + 2 * k) c → S.Told text s (top + 2 * k) (at + 2) m → place ≡ getD s (at + 4) 0 → Blames
       c st a → Again m place a r → PushedName s s₁ (top + 2 * k) (at + 2) x → x ≡ code (meaning g (c .word)) → (y : ReadyItems s₀ from end top)
       → ItemsPart y s at k st → ItemsPart y s₁ next (k + 1) r
   items-next {s} {s₁} {at} {size} {next} {m} {place} {x} {c} k {st} {a} {r} l es en ju told ep bl ag pu ex y p =
-      let u = is-item (p .rest) (p .lies) (p .ends) l in let f = items-fit k l y p in let told-k = item-says k l es en ju y p in let i = u .part in
-      let sc = p .scope in let sc′ = scopeWith g text sc i in let j = judged g text sc (i .constant) in let b4 : y .base ≤ at = omega arith in
+      let u = front k l y p in let f = items-fit k l y p in let told-k = item-says k l y p es en ju in let i = u .part in
+      let sc = p .scope in let sc′ = scopeWith g text sc i in let j = judged g text sc (i .constant) in
       let n : nameAt s (at + 2) ≡ i .name = item-name k l y p in let four : at + 4 ≡ at + 2 + 2 = omega arith in let ep′ : place ≡ i .name .place = cc in
       let w : meaning g (c .word) ≡ meaning g (judgedWord j) = ap (meaning g) (says-word j told-k) in
-      let sz : size ≡ length (itemCode i) = es ∙ p .keeps .above at b4 ∙ u .size-of in let nx : at + 2 + length (itemCode i) ≡ next = omega arith in
       let tk : top + 2 * k + 2 ≡ top + 2 * (k + 1) = omega arith in
       record {
-        rest = u .more;
+        left = rest-next (p .left) u es en (keeps-lower (omega arith) (pushed-keeps (pu .pushed) (f .room) (f .long)));
         scope = sc′;
-        lies = rw nx at (u .lies-more);
-        ends = omega arith;
-        starts = omega arith;
         shows = rw tk at (rw n at (pushed-name pu (f .room) (f .long) (meaning g (judgedWord j)) (p .shows) (ex ∙ ap code w)
             (meaning-word g text sc (i .constant) (p .shows) (item-fine k l y p .0 .constant))));
-        keeps = keeps-then (p .keeps) (keeps-lower (omega arith) (pushed-keeps (pu .pushed) (f .room) (f .long)));
         many = omega (arith, ap length (u .same));
         fine = item-fine k l y p .1;
         same = p .same ∙ ap (after g text sc) (u .same) ∙ after-step g text sc i (u .more);
@@ -193,10 +179,10 @@ module _ (g : Bool) (text : List ℕ) {s₀ : List ℕ} {from end top : ℕ} (st
   pub items-end : {s : List ℕ} {at : ℕ} (k : ℕ) {st : State} → end ≤ at → ((y : ReadyItems s₀ from end top) → ItemsPart y s at k st)
       → Items g text s₀ s from end top st₀ (record { top = top + 2 * k; state = st })
   items-end k {st} l q = record {
-    by = λ y. let p = q y in let e = no-item (p .rest) (p .ends) l in let c : k ≡ length (y .items) = omega (arith, ap length e) in record {
+    by = λ y. let p = q y in let e = no-item (p .left .rest) (p .left .ends) l in let c : k ≡ length (y .items) = omega (arith, ap length e) in record {
       moved = omega arith;
       shows = rw (p .same ∙ ap (after g text (p .scope)) e ∙ after-none g text (p .scope)) (p .shows);
-      keeps = p .keeps;
+      keeps = p .left .keeps;
       did = λ t. p .finish t st (rw (ap (faults g text (p .scope)) e ∙ faults-none g text (p .scope)) (did-none 0));
     };
   }
