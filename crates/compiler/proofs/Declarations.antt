@@ -4,10 +4,11 @@ use Rattle.compiler.proofs.Language.{Name, Scope, declared, inBlock, on
 use Rattle.compiler.proofs.Language.{FineNames}
 use Rattle.language.specs.Names as N
 use Rattle.compiler.proofs.Vocabulary.{Shows, Keeps, PushedName, Told, code, found, nameAt, State, Did, Faulted, Lies}
-use Rattle.compiler.proofs.Scoping.{keeps-all, keeps-then, keeps-lower, keeps-name, name-there, means-unknown, pushed-keeps, pushed-name}
+use Rattle.compiler.proofs.Scoping.{keeps-then, keeps-lower, keeps-name, name-there, means-unknown, pushed-keeps, pushed-name}
 use Rattle.compiler.specs.Commands.{nothing, ReadyNames, Declares, Again}
 use Rattle.compiler.proofs.Done.{did-none, did-then, did-as, same-refl}
 use Rattle.compiler.proofs.Trees.{second}
+use Rattle.compiler.proofs.Lists.{Rest, rest-all}
 
 pub again-not : {m place : ℕ} {st : State} → m ≡ 0 → Again m place st st
 again-not z = record { by = λ f e t. rw (means-unknown f e z) (did-none 0) }
@@ -24,30 +25,22 @@ again-so {m} {place} {st} {r} n f = record { by = by }
 
 module _ (text : List ℕ) {s₀ : List ℕ} {from end top height : ℕ} (st₀ : State) where
   pub record NamesPart (y : ReadyNames s₀ from end top height) (s : List ℕ) (at k : ℕ) (st : State) : Type 0 where
-    pub rest : List Name
+    pub left : Rest encodeNames (y .base) top s₀ s end at
     pub scope : Scope
-    pub lies : Lies s₀ at (encodeNames rest)
-    pub ends : end ≡ at + length (encodeNames rest)
-    pub starts : from ≤ at
     pub shows : Shows s (top + 2 * k) scope
-    pub keeps : Keeps (y .base) top s₀ s
-    pub many : k + length rest ≡ length (y .names)
-    pub fine : FineNames rest
-    pub same : declareAll (y .scope) height (y .names) ≡ declareAll scope (height + k) rest
-    pub finish : (t : List ℕ) (st′ : State) → Did (twice text scope (height + k) rest) nothing 0 t t st st′
+    pub many : k + length (left .rest) ≡ length (y .names)
+    pub fine : FineNames (left .rest)
+    pub same : declareAll (y .scope) height (y .names) ≡ declareAll scope (height + k) (left .rest)
+    pub finish : (t : List ℕ) (st′ : State) → Did (twice text scope (height + k) (left .rest)) nothing 0 t t st st′
         → Did (twice text (y .scope) height (y .names)) nothing 0 t t st₀ st′
 
   pub names-begin : (y : ReadyNames s₀ from end top height) → NamesPart y s₀ from 0 st₀
   names-begin y =
       let a : top ≡ top + 2 * 0 = omega arith in let b : height ≡ height + 0 = omega arith in
       record {
-        rest = y .names;
+        left = rest-all (y .names) (y .lies) (y .ends) (y .above);
         scope = y .scope;
-        lies = y .lies;
-        ends = y .ends;
-        starts = omega arith;
         shows = rw a at (y .shows);
-        keeps = keeps-all;
         many = omega arith;
         fine = y .fine;
         same = cc;
@@ -86,18 +79,14 @@ module _ (text : List ℕ) {s₀ : List ℕ} {from end top height : ℕ} {st₀ 
       → (y : ReadyNames s₀ from end top height) → NamesPart text st₀ y s at k st → NamesPart text st₀ y s₁ (at + 4) (k + 1) r
   unfolding declareAll twice code FineNames
   names-next {s} {s₁} {at} k {st} {r} l told ep ag pu ex y p =
-      let u = is-names (p .rest) (p .lies) (p .ends) l in let n : nameAt s at ≡ u .name = keeps-name (p .keeps) (omega arith) ∙ u .is in
+      let u = is-names (p .left .rest) (p .left .lies) (p .left .ends) l in let n : nameAt s at ≡ u .name = keeps-name (p .left .keeps) (omega arith) ∙ u .is in
       let c : k + 1 + length (u .more) ≡ length (y .names) = omega (arith, ap length (u .same)) in let rm : top + 2 * k + 2 ≤ y .base = omega arith in
       let lg : y .base ≤ length s = omega arith in let w = N.local (height + k) in let hk : height + (k + 1) ≡ height + k + 1 = omega arith in
-      let tk : top + 2 * k + 2 ≡ top + 2 * (k + 1) = omega arith in let sc = p .scope in let sc′ = declared sc (u .name) w in
+      let tk : top + 2 * k + 2 ≡ top + 2 * (k + 1) = omega arith in let sc = p .scope in let kept : Keeps (y .base) top s s₁ = keeps-lower (omega arith) (pushed-keeps (pu .pushed) rm lg) in let sc′ = declared sc (u .name) w in
       record {
-        rest = u .more;
+        left = record { rest = u .more; lies = u .lies-more; ends = u .ends; above = omega arith; keeps = keeps-then (p .left .keeps) kept };
         scope = sc′;
-        lies = u .lies-more;
-        ends = u .ends;
-        starts = omega arith;
         shows = rw tk at (rw n at (pushed-name pu rm lg w (p .shows) ex tt));
-        keeps = keeps-then (p .keeps) (keeps-lower (omega arith) (pushed-keeps (pu .pushed) rm lg));
         many = c;
         fine = subst FineNames (u .same) (p .fine) .1;
         same = cc;
@@ -110,10 +99,10 @@ module _ (text : List ℕ) {s₀ : List ℕ} {from end top height : ℕ} {st₀ 
       → Declares text s₀ s from end top height st₀ st
   unfolding declareAll twice encodeNames
   names-end {s} {at} k {st} l q = record {
-    by = λ y. let p = q y in let e = no-names (p .rest) (p .ends) l in let c : top + 2 * k ≡ top + 2 * length (y .names)
+    by = λ y. let p = q y in let e = no-names (p .left .rest) (p .left .ends) l in let c : top + 2 * k ≡ top + 2 * length (y .names)
         = omega (arith, ap length e) in record {
           shows = rw c at (rw (← (p .same ∙ ap (declareAll (p .scope) (height + k)) e)) at (p .shows));
-          keeps = p .keeps;
+          keeps = p .left .keeps;
           did = λ t. p .finish t st (rw e (did-none 0));
         };
   }
@@ -122,11 +111,11 @@ module _ (text : List ℕ) {s₀ : List ℕ} {from end top height : ℕ} {st₀ 
       → (top + 2 * k + 2 ≤ length s) × (height + k < 2 ^ 29) × (at < 2 ^ 32) × (top + 2 * k + 2 ≤ y .base) × FineName (nameAt s at)
   unfolding FineNames
   names-fit k l y p =
-      let u = is-names (p .rest) (p .lies) (p .ends) l in
+      let u = is-names (p .left .rest) (p .left .lies) (p .left .ends) l in
       let c : k + 1 + length (u .more) ≡ length (y .names) = omega (arith, ap length (u .same)) in (
         omega arith,
         omega arith,
         omega arith,
         omega arith,
-        subst FineName (sym (keeps-name (p .keeps) (omega arith) ∙ u .is)) (subst FineNames (u .same) (p .fine) .0),
+        subst FineName (sym (keeps-name (p .left .keeps) (omega arith) ∙ u .is)) (subst FineNames (u .same) (p .fine) .0),
       )

@@ -58,33 +58,27 @@ module _ {s : List ℕ} {end : ℕ} {here : Here} {st : State} (n : Node) (nd : 
   pub function-parts : (y : ReadyF s end here st) → Parted s (y .lo) end (y .tree)
   function-parts y = parted (y .tree) (y .lies) (y .ends)
 
-  pub function-start : (y : ReadyF s end here st) → n .start ≡ y .lo
-  function-start y = let u = function-parts y in omega arith
-
-  pub function-many : (y : ReadyF s end here st) → n .value / 4 ≡ length (y .tree .parameters)
-  function-many y = let u = function-parts y in omega (arith, names-long (y .tree .parameters))
-
-  pub function-length : (y : ReadyF s end here st)
-      → length (encodeFunction (y .tree)) ≡ 8 + 4 * length (y .tree .parameters) + length (encodeBody (y .tree .body))
-  function-length y = omega (arith, function-parts y .ends, names-long (y .tree .parameters))
+  pub function-places : (y : ReadyF s end here st) → (n .start ≡ y .lo) × (n .value / 4 ≡ length (y .tree .parameters))
+      × (length (encodeFunction (y .tree)) ≡ 8 + 4 * length (y .tree .parameters) + length (encodeBody (y .tree .body)))
+  function-places y = let u = function-parts y in let m = names-long (y .tree .parameters) in (omega arith, omega arith, omega (arith, u .ends))
 
   -- room for the mark and the parameters
   pub function-room : (y : ReadyF s end here st)
       → (here .top + 2 ≤ length s) × (here .top + 2 ≤ y .base) × (here .top + 2 + 2 * (n .value / 4) ≤ y .base) × (y .base < 2 ^ 32)
   function-room y =
-      let z = function-length y in let k = function-many y in
+      let z = function-places y in
       (omega arith, omega arith, omega arith, omega arith)
 
   module _ {s₁ : List ℕ} (pu : Pushed s s₁ (here .top) 0 0) where
     abbrev pub function-names : ReadyF s end here st → ReadyNames s₁ (n .start + 4) (n .start + 4 + n .value) (here .top + 2) 2
     function-names y =
         let u = function-parts y in let r = function-room y in let k = pushed-keeps pu (r .1) (y .long) in
-        let z = function-length y in let q = function-start y in
+        let z = function-places y in
         record {
           base = y .base;
           scope = opened (y .scope);
           names = y .tree .parameters;
-          lies = rw q (keeps-lies k (omega arith) (u .lies-names));
+          lies = rw (z .0) (keeps-lies k (omega arith) (u .lies-names));
           ends = omega arith;
           above = omega arith;
           long = omega arith;
@@ -105,11 +99,11 @@ module _ {s : List ℕ} {end : ℕ} {here : Here} {st : State} (n : Node) (nd : 
 
       abbrev pub function-body : ReadyF s end here st → ReadyBody s₂ (n .inner) (within n here) c (n .kind)
       function-body y =
-          let u = function-parts y in let d = de .by (function-names y) in let k = function-keeps y in let z = function-length y in
-          let m = function-many y in let l = function-label y in
+          let u = function-parts y in let d = de .by (function-names y) in let k = function-keeps y in let z = function-places y in
+          let l = function-label y in
           record {
             ready =
-                moved y k (declareAll (opened (y .scope)) 2 (y .tree .parameters)) (u .lies-body) (rw m (d .shows)) (omega arith) (omega arith)
+                moved y k (declareAll (opened (y .scope)) 2 (y .tree .parameters)) (u .lies-body) (rw (z .1) (d .shows)) (omega arith) (omega arith)
                 (y .fine .body);
             word-is = nd .kind ∙ u .kind-of;
             routine-is = refl;
@@ -120,13 +114,13 @@ module _ {s : List ℕ} {end : ℕ} {here : Here} {st : State} (n : Node) (nd : 
       unfolding functionFaults resolved heightsOf
       function-gave g pt = record {
         by = λ y. let f = y .tree in let sc = inside (y .scope) f in let w = de .by (function-names y) in let x = g .by (function-body y) in
-            let body = rw (function-many y) at (x .did) in let top = rw (function-many y) at (re .by t₁) in let h = 2 + length (f .parameters) in
+            let body = rw (function-places y .1) at (x .did) in let top = rw (function-places y .1) at (re .by t₁) in let h = 2 + length (f .parameters) in
             let rb = bodyOf text sc h (f .body) in
             record {
               keeps = keeps-then (function-keeps y) (keeps-lower (omega arith) (x .keeps));
               did =
                   did-as (functionSays text (here .strings) label (y .scope) f) _
                   (did-after em (did-then (w .did t₁) (did-after top (did-put body pt)))) same-refl (λ i e. let q : i + 0 ≡ i = omega arith in
-                  code-is (rw q) refl (omega arith)) (omega (arith, function-length y));
+                  code-is (rw q) refl (omega arith)) (omega (arith, function-places y .2));
             };
       }

@@ -78,30 +78,25 @@ module _ {s : List ℕ} {end : ℕ} {here : Here} {st : State} (n : Node) (nd : 
   pub labelled-is : (y : ReadyC s end here st) → IsLabelled s (y .lo) end (y .tree)
   labelled-is y = is-labelled (y .tree) (y .fine) (y .lies) (y .ends) (sym (nd .kind) ∙ q)
 
-  pub labelled-start : (y : ReadyC s end here st) → n .start ≡ y .lo
-  labelled-start y = let u = labelled-is y in omega arith
-
-  pub labelled-middle : (y : ReadyC s end here st) → middle ≡ y .lo + length (encodeLabels (labelled-is y .left))
-  labelled-middle y = let u = labelled-is y in omega (arith, labelled-start y)
+  pub labelled-start : (y : ReadyC s end here st) → (n .start ≡ y .lo) × (middle ≡ y .lo + length (encodeLabels (labelled-is y .left)))
+  labelled-start y = let u = labelled-is y in (omega arith, omega arith)
 
   pub labelled-fine : (y : ReadyC s end here st) → let u = labelled-is y in FineC (T.command (u .left) (u .list .body) (u .list .forms))
-  labelled-fine y = subst FineC (labelled-is y .same) (y .fine)
-
-  pub labels-fine : (y : ReadyC s end here st) → FineLabels (labelled-is y .left)
+      × FineLabels (u .left)
   unfolding FineCommand
-  labels-fine y = labelled-fine y .0
+  labelled-fine y = let f = subst FineC (labelled-is y .same) (y .fine) in (f, f .0)
 
   abbrev pub labelled-labels : ReadyC s end here st → ReadyMisplaced s (n .start) middle (here .top)
   labelled-labels y = let u = labelled-is y in record {
     base = y .base;
     scope = y .scope;
     labels = u .left;
-    lies = subst (λ (k : ℕ). Lies s k (encodeLabels (u .left))) (sym (labelled-start y)) (u .lies);
-    ends = omega (arith, labelled-middle y, labelled-start y);
+    lies = subst (λ (k : ℕ). Lies s k (encodeLabels (u .left))) (sym (labelled-start y .0)) (u .lies);
+    ends = omega (arith, labelled-start y);
     above = omega (arith, labelled-start y);
-    small = omega (arith, labelled-middle y);
+    small = omega (arith, labelled-start y);
     shows = y .shows;
-    fine = labels-fine y;
+    fine = labelled-fine y .1;
   }
 
   pub labelled-bare : (text : List ℕ) {a : State} → Misplaces text s (n .start) middle (here .top) st a → ReadyC s end here st → ReadyC s end here a
@@ -179,19 +174,19 @@ module _ {s : List ℕ} {end : ℕ} {here : Here} {st : State} (n : Node) (nd : 
     (m : middle ≡ n .start + n .value) where
   pub rest-length : (y : ReadyC s end here st)
       → let u = labelled-is n nd q m y in n .inner ≡ middle + length (O.repeated (encodeUnlabelled (u .list .body)) (encodeRepeats (u .list .forms)))
-  rest-length y = let u = labelled-is n nd q m y in omega (arith, labelled-middle n nd q m y)
+  rest-length y = let u = labelled-is n nd q m y in omega (arith, labelled-start n nd q m y)
 
   pub bare-empty : middle ≡ n .inner → (text : List ℕ) (ways : Ways) {t : List ℕ} → GaveCase text s s end here ways t t st st
   unfolding FineCommand inCase inUnlabelled inRepeats command unlabelled repeats G.cmdCode ofCmd G.cmdLabels
   bare-empty e text ways {t} = record {
-    by = λ y. let u = labelled-is n nd q m y in let f = labelled-fine n nd q m y in let b = u .list .body in let rs = u .list .forms in
+    by = λ y. let u = labelled-is n nd q m y in let f = labelled-fine n nd q m y .0 in let b = u .list .body in let rs = u .list .forms in
         let z = nothing-left b (f .1) (omega (arith, rest-length y, repeated-long (encodeUnlabelled b) (encodeRepeats rs))) in
         rw (u .same, empty-alone (u .left) b rs f z, z) (record { keeps = keeps-all; did = did-none _ });
   }
 
   module _ (some : middle ≡ n .inner → ⊥) where
     abbrev pub labelled-rest : ReadyC s end here st → ReadyR s (n .inner) (inside here) st
-    labelled-rest y = let u = labelled-is n nd q m y in let f = labelled-fine n nd q m y in
+    labelled-rest y = let u = labelled-is n nd q m y in let f = labelled-fine n nd q m y .0 in
         sub y keeps-all (u .lies-list) refl
         (omega (arith, command-deep (u .left) (u .list .body) (u .list .forms) (u .same) (y .shallow))) (something-left (u .left) (u .list .body) (u .list .forms) f
         (λ z. some (omega (arith, rest-length y))))
