@@ -1,14 +1,13 @@
 -- BREAK, LOOP, ENDCASE, RETURN and FINISH: a jump or an act, or 13 where there is nothing to leave. And a call as a command.
-use Rattle.laws.proofs.Basics.{ℕ, _+_, _-_, _≤_, _≡_, refl, sym, ap, subst, _∙_, List, [], _∷_, true, false, length, getD, arith, eq-eqb, ne-eqb}
+use Rattle.laws.proofs.Basics.{ℕ, _+_, _-_, _≤_, _≡_, refl, ap, subst, _∙_, List, [], _∷_, true, false, length, getD, arith, eq-eqb, ne-eqb}
 use Rattle.language.specs.Kinds as K
 use Rattle.language.specs.Tree as T
 use Rattle.compiler.proofs.Language.{Expression, Unlabelled, depth, unlabelledDepth, unlabelled, FineUnlabelled, inUnlabelled, ofCmd, encode}
 use Rattle.compiler.proofs.Language.{encodeUnlabelled}
 use Rattle.tree.specs.Encoding as O
 use Rattle.code.specs.Generate as G
-use Rattle.compiler.proofs.Vocabulary.{State, Here, Ways, Node, FineE, FinePlain, leavableBy, NodeAt, Emits, Faulted, LeavesTo, Lies, Result}
-use Rattle.compiler.proofs.Vocabulary.{ReadyE, GaveE}
-use Rattle.compiler.specs.Commands.{cmdSays, ReadyU, GaveU, GoesAway}
+use Rattle.compiler.proofs.Vocabulary.{State, Here, Ways, Node, FineE, FinePlain, NodeAt, Emits, Faulted, LeavesTo, Lies, ReadyE, GaveE}
+use Rattle.compiler.specs.Commands.{ReadyU, GaveU, GoesAway}
 use Rattle.compiler.proofs.Scoping.{keeps-all}
 use Rattle.compiler.proofs.Done.{emits-did, did-as, same-refl}
 use Rattle.compiler.proofs.Parts.{sub}

@@ -2,10 +2,10 @@
 use Rattle.laws.proofs.Basics.{ℕ, _≡_, refl, sym, ap, subst, _∙_, List, Bool, true, false, not, length, arith, eq-eqb, ne-eqb}
 use Rattle.language.specs.Kinds as K
 use Rattle.language.specs.Tree as T
-use Rattle.compiler.proofs.Language.{inExpression, depth, commandDepth, bodyDepth, encode, encodeCommand, encodeBody, bodyWord}
+use Rattle.compiler.proofs.Language.{inExpression, bodyDepth, encode, encodeCommand, encodeBody, bodyWord}
 use Rattle.language.specs.Program.{bodyFaults}
 use Rattle.code.specs.Generate as G
-use Rattle.compiler.proofs.Vocabulary.{FineE, FineC, Lies, Ready, Result, ReadyE, GaveE, State, Here, Ways}
+use Rattle.compiler.proofs.Vocabulary.{Result, ReadyE, GaveE, State, Here, Ways}
 use Rattle.compiler.proofs.Scoping.{keeps-all}
 use Rattle.compiler.proofs.Parts.{sub}
 use Rattle.compiler.specs.Commands.{ReadyC, GaveC}

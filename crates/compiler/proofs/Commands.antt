@@ -1,5 +1,5 @@
 -- What each form of command needs of its parts, and gives.
-use Rattle.laws.proofs.Basics.{ℕ, _+_, _-_, _*_, _<_, _≤_, _≡_, refl, sym, ap, subst, List, [], _∷_, _++_, append-nil, length, getD, arith, ne-eqb}
+use Rattle.laws.proofs.Basics.{ℕ, _+_, _-_, _*_, _<_, _≤_, _≡_, refl, ap, subst, List, [], _∷_, _++_, append-nil, length, getD, arith, ne-eqb}
 use Rattle.items.specs.Item as I
 use Rattle.language.specs.Tree as T
 use Rattle.compiler.proofs.Language.{Expression, Command, Unlabelled, depth, commandDepth, unlabelledDepth, Scope, opened, declared, fault}
@@ -9,10 +9,9 @@ use Rattle.language.specs.Names as N
 use Rattle.code.specs.Generate as G
 use Rattle.language.specs.Faults as Y
 use Rattle.compiler.proofs.Vocabulary.{Keeps, Shows, Pushed, PushedName, code, nameAt, State, Here, Ways, Node, FineE, FineC, FinePlain}
-use Rattle.compiler.proofs.Vocabulary.{inside, inValof, leavable, leavableBy, NodeAt, Emits, Fresh, LeavesTo, Lies, Result, ReadyE, GaveE}
-use Rattle.compiler.proofs.Vocabulary.{faultsE, codeE}
+use Rattle.compiler.proofs.Vocabulary.{inside, inValof, leavable, leavableBy, NodeAt, Emits, Fresh, LeavesTo, Lies, ReadyE, GaveE}
 use Rattle.compiler.proofs.Scoping.{keeps-all, keeps-then, keeps-lower, keeps-name, pushed-keeps, pushed-mark, pushed-name}
-use Rattle.compiler.specs.Commands.{cmdSays, ReadyC, GaveC, ReadyU, GaveU}
+use Rattle.compiler.specs.Commands.{ReadyC, GaveC, ReadyU, GaveU}
 use Rattle.compiler.proofs.Done.{did-put, did-then, did-as, did-at, did-fresh, same-eq, same-swap, same-then, code-is}
 use Rattle.compiler.proofs.Trees.{find, is-valof, ends}
 use Rattle.compiler.proofs.Parts.{sub}

@@ -9,8 +9,8 @@ use Rattle.code.specs.Generate.{exprCode, exprLabels}
 use Rattle.writing.specs.Text.{Puts, line, lines}
 use Rattle.writing.proofs.Laws.{puts-none, puts-then, puts-as, lines-then}
 use Rattle.compiler.proofs.Scoping.{means-unknown, means-local, means-global, means-manifest, means-function}
-use Rattle.compiler.proofs.Vocabulary.{State, Here, Node, inside, NodeAt, key, least, AllFit, noFit, andFit, Code, Did, Emits}
-use Rattle.compiler.proofs.Vocabulary.{Reached, Faulted, Means, Fresh, LeavesTo, exprSays}
+use Rattle.compiler.proofs.Vocabulary.{State, Here, Node, inside, NodeAt, key, least, AllFit, noFit, andFit, Code, Did, Emits, Reached}
+use Rattle.compiler.proofs.Vocabulary.{Faulted, Means, Fresh, LeavesTo}
 
 -- ---- folds
 

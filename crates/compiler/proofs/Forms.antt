@@ -5,9 +5,9 @@ use Rattle.laws.proofs.Cases.{contradiction}
 use Rattle.language.specs.Kinds as K
 use Rattle.language.specs.Kinds.{member}
 use Rattle.language.specs.Tree as T
-use Rattle.compiler.proofs.Language.{Name, Constant, Expression, Expressions, Command, Commands, Unlabelled, Locals, isCall, endsInCall}
-use Rattle.compiler.proofs.Language.{placeOf, FineUnlabelled, encode, encodeName, encodeBy, encodeCommand, encodeCommands, encodeExpressions}
-use Rattle.compiler.proofs.Language.{encodeSides, encodeFirst, encodeLocals, encodeUnlabelled, suffixedKind}
+use Rattle.compiler.proofs.Language.{Name, Constant, Expression, Expressions, Command, Unlabelled, isCall, endsInCall, placeOf, FineUnlabelled}
+use Rattle.compiler.proofs.Language.{encode, encodeName, encodeBy, encodeCommand, encodeCommands, encodeExpressions, encodeSides, encodeFirst}
+use Rattle.compiler.proofs.Language.{encodeLocals, encodeUnlabelled, suffixedKind}
 use Rattle.language.specs.Binding.{isGuard, isLeave}
 use Rattle.tree.specs.Encoding as O
 use Rattle.compiler.proofs.Vocabulary.{State, Here, Node, FinePlain, NodeAt, Lies}

@@ -5,14 +5,14 @@ use Rattle.items.specs.Item as I
 use Rattle.language.specs.Kinds as K
 use Rattle.language.specs.Tree as T
 use Rattle.compiler.proofs.Language.{Name, Constant, Expression, Command, Unlabelled, depth, commandDepth, unlabelledDepth, Scope, opened}
-use Rattle.compiler.proofs.Language.{declared, Fault, judgedWord, faultsOf, expression, command, unlabelled, byOf, ofExpr, ofCmd}
-use Rattle.compiler.proofs.Language.{FineName, FineBy, FineUnlabelled, byFaults, inExpression, inUnlabelled, encode, encodeName, encodeBy}
-use Rattle.compiler.proofs.Language.{encodeCommand, encodeUnlabelled}
+use Rattle.compiler.proofs.Language.{declared, Fault, judgedWord, faultsOf, expression, command, unlabelled, byOf, ofExpr, ofCmd, FineName}
+use Rattle.compiler.proofs.Language.{FineBy, FineUnlabelled, byFaults, inExpression, inUnlabelled, encode, encodeName, encodeBy, encodeCommand}
+use Rattle.compiler.proofs.Language.{encodeUnlabelled}
 use Rattle.language.specs.Names as N
 use Rattle.language.specs.Resolved as R
 use Rattle.code.specs.Generate as G
-use Rattle.compiler.proofs.Vocabulary.{Shows, Keeps, Pushed, PushedName, nameAt, State, Here, Ways, Node, FineE, FineC, FinePlain}
-use Rattle.compiler.proofs.Vocabulary.{raised, placed, inLoop, leavableBy, exits, NodeAt, Code, Did, Emits, Fresh, Lies, Result, ReadyE, GaveE}
+use Rattle.compiler.proofs.Vocabulary.{Shows, Keeps, Pushed, PushedName, nameAt, State, Here, Ways, Node, FineE, FineC, FinePlain, raised}
+use Rattle.compiler.proofs.Vocabulary.{placed, inLoop, leavableBy, exits, NodeAt, Code, Did, Emits, Fresh, Lies, ReadyE, GaveE}
 use Rattle.compiler.proofs.Scoping.{keeps-all, keeps-then, keeps-shows, keeps-name, name-there, pushed-keeps}
 use Rattle.compiler.specs.declared.steps.Verdict.{Verdict}
 use Rattle.compiler.specs.Commands.{nothing, cmdSays, ReadyC, GaveC, ReadyU, GaveU}

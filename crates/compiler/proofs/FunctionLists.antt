@@ -7,7 +7,7 @@ use Rattle.compiler.proofs.Language.{functionsDepth, encodeName, encode
 use Rattle.language.specs.Program.{Named, startOf, withFunction, resolved, functionFaults, groupFaults, groupOf, heightFaults}
 use Rattle.language.specs.Whole.{funs}
 use Rattle.code.specs.Generate as G
-use Rattle.compiler.proofs.Vocabulary.{Keeps, Did, Code, least, AllFit, noFit, andFit, Lies, State, Here}
+use Rattle.compiler.proofs.Vocabulary.{Did, Code, least, AllFit, noFit, andFit, Lies, State, Here}
 use Rattle.compiler.specs.Groups.{encodeFunction, functionDepth, FineF, FineFs, functionSays, functionsSays, innerLabels, ReadyF, GaveF}
 use Rattle.compiler.specs.Groups.{ReadyFs, GaveFs}
 use Rattle.compiler.specs.Programs.{Yields}

@@ -1,10 +1,10 @@
 -- The names of functions, and the table of globals.
-use Rattle.laws.proofs.Basics.{ℕ, _+_, _*_, _/_, _%_, _<_, _≤_, _≡_, refl, sym, ap, _∙_, List, [], _∷_, Bool, true, false, cond, length, getD, set}
-use Rattle.laws.proofs.Basics.{length-set, getD-set-same, getD-set-other, eqb, arith, eqb-true, eqb-false}
+use Rattle.laws.proofs.Basics.{ℕ, _+_, _*_, _/_, _%_, _<_, _≤_, _≡_, refl, ap, _∙_, List, [], _∷_, Bool, true, false, length, getD, set, length-set}
+use Rattle.laws.proofs.Basics.{getD-set-same, getD-set-other, eqb, arith, eqb-true, eqb-false}
 use Rattle.laws.proofs.Cases.{by-cases, contradiction}
 use Rattle.compiler.proofs.Language.{Function, nowhere, encodeFunctions}
 use Rattle.language.specs.Names as N
-use Rattle.language.specs.Program.{among, startOf, withFunction, nameFault, alsoTaken}
+use Rattle.language.specs.Program.{among, startOf, nameFault}
 use Rattle.compiler.proofs.Vocabulary.{PushedName, code, found, State, Did, Faulted, Lies}
 use Rattle.compiler.specs.Walks.{Items, noItem}
 use Rattle.compiler.proofs.Scoping.{means-unknown, means-global, keeps-all, pushed-keeps, pushed-name}
@@ -14,7 +14,7 @@ use Rattle.compiler.proofs.Lists.{First, first-of}
 use Rattle.compiler.proofs.Counting as C
 use Rattle.compiler.proofs.Counting.{item-first}
 pub use Rattle.compiler.proofs.Counting.{Counting, count-begin, count-next}
-use Rattle.compiler.specs.Groups.{Taken, NameFaults, Enters, started, encodeFunction, CountsGroup}
+use Rattle.compiler.specs.Groups.{Taken, NameFaults, Enters, encodeFunction, CountsGroup}
 
 -- ---- 9 at a function's name
 

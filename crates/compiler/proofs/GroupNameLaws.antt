@@ -1,13 +1,13 @@
 -- The names of a group: the loop over its functions, and where they start.
-use Rattle.laws.proofs.Basics.{ℕ, suc, _+_, _*_, _^_, _<_, _≤_, _≡_, refl, sym, ap, subst, _∙_, List, [], _∷_, _++_, append-assoc, append-nil, Bool}
-use Rattle.laws.proofs.Basics.{true, false, cond, length, getD, set, length-append, List·getD-append, List·getD-eq-default, getD-set-same}
-use Rattle.laws.proofs.Basics.{getD-set-other, getD-append-seam, _⊎_, inl, inr, ⊎-elim, eqb, ltb, arith, eqb-true, eqb-false, ltb-true, ltb-false}
+use Rattle.laws.proofs.Basics.{ℕ, suc, _+_, _*_, _^_, _<_, _≤_, _≡_, refl, sym, ap, subst, _∙_, List, [], _∷_, _++_, append-assoc, append-nil, length}
+use Rattle.laws.proofs.Basics.{getD, set, length-append, List·getD-append, List·getD-eq-default, getD-set-same, getD-set-other, getD-append-seam, _⊎_}
+use Rattle.laws.proofs.Basics.{inl, inr, ⊎-elim, eqb, ltb, arith, eqb-true, eqb-false, ltb-true, ltb-false}
 use Rattle.laws.proofs.Cases.{by-cases, contradiction}
-use Rattle.compiler.proofs.Language.{Name, Function, Scope, lookup, Fault, fault, Start, nowhere, inGlobal, encodeName}
-use Rattle.compiler.proofs.Language.{encodeFunctions, FineName, FineFunctions}
+use Rattle.compiler.proofs.Language.{Name, Function, Scope, lookup, Fault, Start, nowhere, inGlobal, encodeName, encodeFunctions, FineName}
+use Rattle.compiler.proofs.Language.{FineFunctions}
 use Rattle.language.specs.Names as N
 use Rattle.language.specs.Program.{among, startOf, withFunction, nameFault, alsoTaken, functionsAfter, takenAfter, groupNameFaults}
-use Rattle.compiler.proofs.Vocabulary.{Shows, Keeps, Looked, found, nameAt, State, Did, Lies}
+use Rattle.compiler.proofs.Vocabulary.{Shows, Looked, found, nameAt, State, Did, Lies}
 use Rattle.compiler.specs.Commands.{nothing}
 use Rattle.compiler.specs.Groups.{Small, Taken, Starting, startsIn, started, NameFaults, Enters, encodeFunction, FineF, FineFs, ReadyGroup}
 use Rattle.compiler.specs.Groups.{GroupNames}

@@ -3,8 +3,8 @@ use Rattle.laws.proofs.Basics.{ℕ, _+_, _-_, _*_, _/_, _%_, _^_, _<_, _≤_, _
 use Rattle.laws.proofs.Basics.{false, cond, length, getD, length-append, leb, arith, le-leb, lt-leb}
 use Rattle.words.specs.Words.{word}
 use Rattle.language.specs.Tree as T
-use Rattle.compiler.proofs.Language.{Name, Simple, Constant, Expressions, expressionsDepth, Scope, lookup, fault, Judged, good, refused, judge}
-use Rattle.compiler.proofs.Language.{forVector, judgedWord, faultsOf, signed, ofFound, ofSimple, within, declareAll, encodeName, encodeNames}
+use Rattle.compiler.proofs.Language.{Name, Simple, Constant, expressionsDepth, Scope, lookup, fault, Judged, good, refused, judge, forVector}
+use Rattle.compiler.proofs.Language.{judgedWord, faultsOf, signed, ofFound, ofSimple, within, declareAll, encodeName, encodeNames}
 use Rattle.compiler.proofs.Language.{encodeConstant, encodePositive, encodeNegative, encodeExpressions, FineName, FineNames, FineConstant}
 use Rattle.language.specs.Names as N
 use Rattle.code.specs.Generate as G

@@ -1,5 +1,5 @@
 -- From a tree that is ready to its parts.
-use Rattle.laws.proofs.Basics.{ℕ, _+_, _-_, _*_, _^_, _<_, _≤_, _≡_, refl, _∙_, List, [], _∷_, _++_, length, getD, length-append, arith}
+use Rattle.laws.proofs.Basics.{ℕ, _+_, _-_, _*_, _^_, _<_, _≤_, _≡_, refl, _∙_, List, _++_, length, getD, length-append, arith}
 use Rattle.tree.specs.Encoding.{closed}
 use Rattle.language.specs.Names.{Scope}
 use Rattle.compiler.proofs.Vocabulary.{Shows, Keeps, State, Here, Lies, Ready}

@@ -9,10 +9,9 @@ use Rattle.language.specs.Program.{Walk, Named, begin, among, functionsAfter, a
 use Rattle.language.specs.Program.{functionsFrom}
 use Rattle.language.specs.Whole.{funs}
 use Rattle.compiler.specs.Scope as S
-use Rattle.compiler.proofs.Vocabulary.{Keeps, STRINGS, Lies}
+use Rattle.compiler.proofs.Vocabulary.{STRINGS}
 use Rattle.compiler.specs.Groups.{Small, Taken, Starting, FineDs}
-use Rattle.compiler.specs.Programs.{startsOf, encodeDeclared, declaredWord, Stands, Yields, ReadyDeclaration, GaveDeclaration, ReadyProgram}
-use Rattle.compiler.specs.Programs.{GaveProgram}
+use Rattle.compiler.specs.Programs.{startsOf, encodeDeclared, Stands, Yields, ReadyDeclaration, GaveDeclaration, ReadyProgram, GaveProgram}
 use Rattle.compiler.specs.declared.program.Done.{Done}
 use Rattle.compiler.specs.declared.program.Progress.{Progress}
 use Rattle.compiler.proofs.Scoping.{keeps-lower}

@@ -1,5 +1,5 @@
 -- The text as lines; globals in scope.
-use Rattle.laws.proofs.Basics.{ℕ, _<_, _≡_, refl, ap, _∙_, List, [], _∷_, _++_, append-assoc, Bool, true, false, cond, arith}
+use Rattle.laws.proofs.Basics.{ℕ, _<_, _≡_, refl, ap, _∙_, List, [], _∷_, _++_, append-assoc, arith}
 use Rattle.laws.proofs.Cases.{by-cases, contradiction}
 use Rattle.items.specs.Item.{Item}
 use Rattle.items.specs.Render.{render, renderLines, renderAll}

@@ -5,12 +5,12 @@ use Rattle.items.specs.Item as I
 use Rattle.language.specs.Kinds as K
 use Rattle.language.specs.Tree as T
 use Rattle.compiler.proofs.Language.{Expression, Unlabelled, Repeats, depth, repeatsDepth, Scope, Fault, expression, repeats, unlabelled}
-use Rattle.compiler.proofs.Language.{FineRepeats, Leavable, inExpression, inUnlabelled, inRepeats, encode, encodeUnlabelled, encodeRepeats}
+use Rattle.compiler.proofs.Language.{FineRepeats, Leavable, inExpression, inRepeats, encode, encodeUnlabelled, encodeRepeats}
 use Rattle.code.specs.Generate as G
 use Rattle.language.specs.Faults as Y
 use Rattle.tree.specs.Encoding as O
 use Rattle.compiler.proofs.Vocabulary.{Keeps, State, Here, Ways, Node, FineE, FinePlain, FineRs, inLoop, leavable, leavableBy, exits, NodeAt}
-use Rattle.compiler.proofs.Vocabulary.{Code, Did, Emits, Fresh, Lies, Ready, Result, GaveE, Counts}
+use Rattle.compiler.proofs.Vocabulary.{Code, Did, Emits, Fresh, Lies, Ready, GaveE, Counts}
 use Rattle.compiler.proofs.Scoping.{keeps-all, keeps-then}
 use Rattle.compiler.specs.Repeats.{forms, conditions, topsCode, formsCode, formsHeights, formsLabels, formsSays, innermost}
 use Rattle.compiler.specs.Commands.{cmdSays, ReadyU, GaveU, encodeRepeated, ReadyR, GaveR, ReadyForms, GaveForms, formSays, ReadyForm, GaveForm}

@@ -2,9 +2,8 @@
 use Rattle.laws.proofs.Basics.{ℕ, _+_, _-_, _^_, _<_, _≤_, _≡_, refl, sym, ap, _∙_, List, [], _∷_, _++_, append-nil, Bool, true, false, cond, Option}
 use Rattle.laws.proofs.Basics.{some, none, length, getD, length-append, eqb, arith, eq-eqb, ne-eqb}
 use Rattle.language.specs.Tree as T
-use Rattle.compiler.proofs.Language.{Simple, Constant, Label, Scope, fault, Judged, good, refused, judge, within, faultsOf, misplaced}
-use Rattle.compiler.proofs.Language.{FineConstant, FineBy, FineLabels, closed, encodeName, encodeConstant, encodePositive, encodeNegative}
-use Rattle.compiler.proofs.Language.{encodeBy, encodeLabels}
+use Rattle.compiler.proofs.Language.{Simple, Constant, Label, Scope, fault, judge, faultsOf, misplaced, FineConstant, FineBy, FineLabels}
+use Rattle.compiler.proofs.Language.{closed, encodeName, encodeConstant, encodePositive, encodeNegative, encodeBy, encodeLabels}
 use Rattle.compiler.proofs.Vocabulary.{Shows, State, Node, NodeAt, Did, Faulted, Lies}
 use Rattle.compiler.specs.declared.steps.Verdict.{Verdict}
 use Rattle.compiler.specs.Commands.{nothing}

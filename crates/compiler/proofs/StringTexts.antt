@@ -1,7 +1,6 @@
 -- The text of the strings: a character by its escape, a string's line, the lines of one symbol, and loops over all symbols.
 use Rattle.laws.proofs.Basics.{ℕ, suc, _+_, _-_, _*_, _/_, _%_, _<_, _≤_, _≡_, refl, sym, ap, _∙_, List, [], _∷_, _++_, append-assoc, append-nil}
-use Rattle.laws.proofs.Basics.{Bool, true, false, cond, length, getD, drop, length-append, drop-drop, getD-drop, eqb, arith, eq-eqb, ne-eqb, le-leb}
-use Rattle.laws.proofs.Basics.{lt-leb}
+use Rattle.laws.proofs.Basics.{cond, length, getD, drop, length-append, drop-drop, getD-drop, eqb, arith, eq-eqb, ne-eqb, le-leb, lt-leb}
 use Rattle.laws.proofs.Cases.{by-cases, either}
 use Rattle.text.specs.Quoted.{closed, charactersOf, quoted, character, is, closing, ended, mistake}
 use Rattle.text.proofs.Bytes.{Unlike}

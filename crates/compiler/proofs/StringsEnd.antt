@@ -1,10 +1,8 @@
 -- How many strings there are, and that every string among a source's symbols ends.
-use Rattle.laws.proofs.Basics.{ℕ, suc, _≡_, refl, ap, List, [], _∷_, Bool, true, false, cond, length, drop, eqb}
+use Rattle.laws.proofs.Basics.{ℕ, _≡_, refl, List, [], _∷_, length, eqb}
 use Rattle.laws.proofs.Cases.{by-cases, contradiction}
-use Rattle.text.specs.Quoted.{charactersOf, quoted}
 use Rattle.language.specs.Kinds.{STRING}
-use Rattle.language.specs.Symbols.{Symbol}
-use Rattle.language.specs.Symbols.{Fault, none, fault, scan}
+use Rattle.language.specs.Symbols.{Symbol, Fault, none, fault, scan}
 use Rattle.language.specs.Brackets.{firstFault, brackets}
 use Rattle.language.specs.Source as S
 use Rattle.language.specs.Source.{symbolsOf, onFault}

@@ -4,15 +4,15 @@ use Rattle.laws.proofs.Basics.{length-append, arith, ne-eqb}
 use Rattle.items.specs.Item as I
 use Rattle.language.specs.Kinds as K
 use Rattle.language.specs.Tree as T
-use Rattle.compiler.proofs.Language.{Label, Expression, Commands, Unlabelled, depth, commandsDepth, unlabelledDepth, Scope, Fault, expression}
-use Rattle.compiler.proofs.Language.{unlabelled, labelsBefore, caseList, ofCmd, ofCases, FineUnlabelled, Leavable, doubled, inExpression}
-use Rattle.compiler.proofs.Language.{inCase, inCases, inUnlabelled, encode, encodeCommand, encodeCommands, encodeUnlabelled}
+use Rattle.compiler.proofs.Language.{Label, Commands, Unlabelled, depth, commandsDepth, unlabelledDepth, Scope, Fault, expression, unlabelled}
+use Rattle.compiler.proofs.Language.{labelsBefore, caseList, ofCmd, ofCases, FineUnlabelled, Leavable, doubled, inExpression, inCase, inCases}
+use Rattle.compiler.proofs.Language.{inUnlabelled, encode, encodeCommand, encodeCommands, encodeUnlabelled}
 use Rattle.language.specs.Resolved as R
 use Rattle.code.specs.Generate as G
 use Rattle.language.specs.Faults as Y
 use Rattle.compiler.proofs.Scoping.{keeps-all, keeps-then, keeps-shows}
 use Rattle.compiler.proofs.Vocabulary.{State, Here, Ways, Node, FineE, FineCs, FinePlain, inSwitch, leavableBy, exits, NodeAt, Code, Did}
-use Rattle.compiler.proofs.Vocabulary.{Emits, Fresh, Lies, Result, ReadyE, GaveE, Counts}
+use Rattle.compiler.proofs.Vocabulary.{Emits, Fresh, Lies, ReadyE, GaveE, Counts}
 use Rattle.compiler.specs.Commands.{cmdSays, ReadyC, GaveCase, ReadyU, GaveU, casesFaults, casesSays, entriesIn, ReadyCases, GaveCases}
 use Rattle.compiler.specs.Switching.{labelFaults, ReadyLabels, JudgesLabels, tableItems, WritesTable}
 use Rattle.compiler.proofs.Done.{did-none, did-put, did-after, did-then, did-as, did-at, did-fresh, Same, same-refl, same-eq, same-swap}

@@ -1,19 +1,18 @@
 -- The labels of a list after INTO: where they stand, which there are, and the words after X23.
-use Rattle.laws.proofs.Basics.{ℕ, suc, _+_, _-_, _^_, _<_, _≤_, _≡_, refl, sym, ap, subst, _∙_, List, [], _∷_, _++_, Bool, true, false, cond, length, getD}
-use Rattle.laws.proofs.Basics.{length-append, arith}
+use Rattle.laws.proofs.Basics.{ℕ, suc, _+_, _-_, _^_, _<_, _≤_, _≡_, refl, sym, ap, subst, _∙_, List, [], _∷_, _++_, Bool, true, false, cond, length}
+use Rattle.laws.proofs.Basics.{getD, arith}
 use Rattle.laws.proofs.Cases.{contradiction}
 use Rattle.items.specs.Item as I
 use Rattle.language.specs.Tree as T
-use Rattle.compiler.proofs.Language.{Name, Simple, Constant, Label, Expression, Command, Commands, Unlabelled, endsInCall, Scope, lookup}
-use Rattle.compiler.proofs.Language.{fault, Judged, good, refused, judge, signed, ofFound, ofSimple, faultsOf, CaseLabel, hasDefault, casesOf}
-use Rattle.compiler.proofs.Language.{caseCount, labelsBefore, labelsOf, goodCase, caseList, greatest, doubledCase, doubledLabel, doubled}
-use Rattle.compiler.proofs.Language.{FineLabels, FineCommand, FineCommands, FineUnlabelled, closed, encode, encodeLabels, encodeCommand}
-use Rattle.compiler.proofs.Language.{encodeCommands, encodeUnlabelled, encodeRepeats, labelled}
+use Rattle.compiler.proofs.Language.{Name, Simple, Constant, Label, Command, Commands, Scope, lookup, fault, Judged, good, refused, judge}
+use Rattle.compiler.proofs.Language.{signed, ofFound, ofSimple, faultsOf, CaseLabel, hasDefault, casesOf, caseCount, labelsBefore, labelsOf}
+use Rattle.compiler.proofs.Language.{goodCase, caseList, greatest, doubledCase, doubledLabel, doubled, FineCommand, FineCommands}
+use Rattle.compiler.proofs.Language.{encodeCommand, encodeCommands}
 use Rattle.language.specs.Names as N
 use Rattle.code.specs.Generate as G
 use Rattle.writing.specs.Text.{lines}
 use Rattle.writing.proofs.Laws.{puts-none}
-use Rattle.compiler.proofs.Vocabulary.{Shows, State, Node, FineC, FineCs, FinePlain, NodeAt, Emits, Lies}
+use Rattle.compiler.proofs.Vocabulary.{Shows, State, Node, FineC, FineCs, NodeAt, Emits, Lies}
 use Rattle.compiler.specs.declared.steps.Verdict.{Verdict}
 use Rattle.compiler.specs.declared.labels.Span.{Span}
 use Rattle.compiler.specs.Locals.{Says, fit, unfit, Judges}
