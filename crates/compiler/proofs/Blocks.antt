@@ -118,9 +118,7 @@ module _ (strings : ℕ) where
   values-code : (h n : ℕ) (es : R.Exprs) (ls : R.Locals)
       → G.localsCode strings h n (valuesBefore es ls) ≡ G.exprsCode strings h n es ++ G.localsCode strings (h + H.count es) (n + G.exprsLabels es) ls
   unfolding G.localsCode G.exprsCode H.count G.exprsLabels
-  values-code h n R.none ls =
-      let a : h ≡ h + 0 = omega arith in let b : n ≡ n + 0 = omega arith in
-      cc
+  values-code h n R.none ls = let a : h ≡ h + 0 = omega arith in let b : n ≡ n + 0 = omega arith in cc
   values-code h n (R.and e es) ls =
       let a : h + 1 + H.count es ≡ h + suc (H.count es) = omega arith in let b : n + G.exprLabels e + G.exprsLabels es ≡ n
       + (G.exprLabels e + G.exprsLabels es) = omega arith in
@@ -129,8 +127,7 @@ module _ (strings : ℕ) where
 values-heights : (h : ℕ) (es : R.Exprs) (ls : R.Locals) → ofLocals h (valuesBefore es ls) ≡ ofExprs h es ++ ofLocals (h + H.count es) ls
 unfolding ofLocals ofExprs H.count
 values-heights h R.none ls = let a : h ≡ h + 0 = omega arith in cc
-values-heights h (R.and e es) ls =
-    let a : h + 1 + H.count es ≡ h + suc (H.count es) = omega arith in
+values-heights h (R.and e es) ls = let a : h + 1 + H.count es ≡ h + suc (H.count es) = omega arith in
     simp (values-heights (h + 1) es ls, a, append-assoc)
 
 values-labels : (es : R.Exprs) (ls : R.Locals) → G.localsLabels (valuesBefore es ls) ≡ G.exprsLabels es + G.localsLabels ls
@@ -160,8 +157,7 @@ code-with : (text : List ℕ) (sc : Scope) (here : Here) (n : ℕ) (x : Local) (
 unfolding locals localSays scopeWith heightWith FineLocal G.localsCode ofLocals G.localsLabels
 code-with text sc here n (aVector m c) ls f =
     let h = here .height in let h′ = h + 2 + judgedWord (forVector text sc c) in let ls′ = locals text (declared sc m (N.local h)) h′ ls in
-    let a : n + 0 ≡ n = omega arith in
-    code-is (rw a) refl (omega arith)
+    let a : n + 0 ≡ n = omega arith in code-is (rw a) refl (omega arith)
 code-with text sc here n (someValues ns es) ls f =
     let h = here .height in let rs = expressions text sc h es in let ls′ = locals text (declareAll sc h ns) (h + length ns) ls in
     let k = count-is text sc h ns es (f .0) in
@@ -239,8 +235,7 @@ module _ (text t₀ : List ℕ) {s₀ : List ℕ} {from end : ℕ} {here : Here}
       pub locals-sizes : ((size ≡ length (encodeLocal (one .part)))
           × (length (encodeLocals (p .left .rest)) ≡ 2 + length (encodeLocal (one .part)) + length (encodeLocals (one .more))))
           × (localDepth (one .part) ≤ here .left) × (localsDepth (one .more) ≤ here .left)
-      locals-sizes =
-          let d = local-deep (one .part) (one .more) (rw (one .same) at (p .shallow)) in (taken-sizes (p .left) one es, d .0, d .1)
+      locals-sizes = let d = local-deep (one .part) (one .more) (rw (one .same) at (p .shallow)) in (taken-sizes (p .left) one es, d .0, d .1)
 
       pub locals-fine : FineLocal (one .part) × FineLs (one .more)
       locals-fine = local-fine (one .part) (one .more) (subst FineLs (one .same) (p .fine))
@@ -314,8 +309,7 @@ heights-agree : (text : List ℕ) (sc : Scope) (h : ℕ) (ls : T.Locals) → Fin
 unfolding locals heightAfter H.heightWith FineLocals
 heights-agree text sc h T.noLocals f = refl
 heights-agree text sc h (T.vector n c ls) f = heights-agree text (declared sc n (N.local h)) (h + 2 + judgedWord (forVector text sc c)) ls (f .1)
-heights-agree text sc h (T.values ns es ls) f =
-    let ls′ = locals text (declareAll sc h ns) (h + length ns) ls in
+heights-agree text sc h (T.values ns es ls) f = let ls′ = locals text (declareAll sc h ns) (h + length ns) ls in
     rw (
       values-after h (expressions text sc h es) ls′,
       count-is text sc h ns es (sym (f .2)),

@@ -35,15 +35,13 @@ routine-is (T.routine c) q = record { part = c; same = refl }
 module _ {s : List ℕ} {end word : ℕ} {x : Here} {st : State} where
   abbrev pub ready-value : word ≡ K.EQUAL → ReadyBody s end x st word → ReadyE s end x st
   unfolding encodeBody bodyDepth
-  ready-value e y =
-      let z = y .ready in let v = value-is (z .tree) (sym (y .word-is) ∙ e) in
+  ready-value e y = let z = y .ready in let v = value-is (z .tree) (sym (y .word-is) ∙ e) in
       let q : encodeBody (z .tree) ≡ encode (v .part) = ap encodeBody (v .same) in
       sub z keeps-all (rw q at (z .lies)) refl (omega (arith, ap length q, ap bodyDepth (v .same))) (subst FineB (v .same) (z .fine))
 
   abbrev pub ready-routine : (word ≡ K.EQUAL → ⊥) → ReadyBody s end x st word → ReadyC s end x st
   unfolding encodeBody bodyDepth
-  ready-routine e y =
-      let z = y .ready in let v = routine-is (z .tree) (λ k. e (y .word-is ∙ k)) in
+  ready-routine e y = let z = y .ready in let v = routine-is (z .tree) (λ k. e (y .word-is ∙ k)) in
       let q : encodeBody (z .tree) ≡ encodeCommand (v .part) = ap encodeBody (v .same) in
       sub z keeps-all (rw q at (z .lies)) refl (omega (arith, ap length q, ap bodyDepth (v .same))) (subst FineB (v .same) (z .fine))
 

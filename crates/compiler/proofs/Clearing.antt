@@ -23,8 +23,7 @@ module _ (w : List ℕ) (room : ℕ) (h : length w ≤ room) where
   padded-long = omega (arith, length-append w (replicate (room - length w) 0), length-replicate {A = ℕ} (room - length w) 0)
 
   pub padded-on : (n : ℕ) → room ≤ n → padded n w ≡ padded room w ++ replicate (n - room) 0
-  padded-on n k =
-      let z : room - length w + (n - room) ≡ n - length w = omega arith in
+  padded-on n k = let z : room - length w + (n - room) ≡ n - length w = omega arith in
       sym (append-assoc w (replicate (room - length w) 0) (replicate (n - room) 0)
       ∙ ap (λ (r : List ℕ). w ++ r) (replicate-append-replicate (room - length w) (n - room) 0 ∙ ap (λ (m : ℕ). replicate m 0) z))
 
@@ -65,8 +64,7 @@ clean-all {s} {z} {used} c h e =
 -- zeros are written behind a front of zeros
 pub zeros-behind : (s front : List ℕ) {s′ : List ℕ} (k : ℕ) → length (take k s) ≡ k → k ≤ length s → front ≡ replicate (length (take k s)) 0
     → s′ ≡ take k (front ++ drop k s) ++ replicate (length (front ++ drop k s) - k) 0 → s′ ≡ replicate (length s) 0
-zeros-behind s front k e h f w =
-    let l : length front ≡ k = ap length f ∙ (length-replicate {A = ℕ} (length (take k s)) 0 ∙ e) in
+zeros-behind s front k e h f w = let l : length front ≡ k = ap length f ∙ (length-replicate {A = ℕ} (length (take k s)) 0 ∙ e) in
     let m : length (front ++ drop k s) - k ≡ length s - k = omega (arith, length-append front (drop k s), length-drop k s) in
     let n : k + (length s - k) ≡ length s = omega arith in
     w ∙ (ap (λ (i : ℕ). take k (front ++ drop k s) ++ replicate i 0) m

@@ -77,8 +77,7 @@ module _ {s : List ℕ} {end : ℕ} {here : Here} {st : State} (n : Node) (nd : 
       → LeavesTo (ways .result) (n .place) t₁ t₂ a b → GaveU text s s₁ end here ways t t₂ st b
   unfolding inUnlabelled unlabelled G.cmdCode ofCmd G.cmdLabels
   result-gave text ways {s₁} {t} {t₁} {t₂} {a} {b} g f = record {
-    by =
-        λ y. let u = result-is y in let x = g .by (result-part y) in let sc = y .scope in let h = here .height in
+    by = λ y. let u = result-is y in let x = g .by (result-part y) in let sc = y .scope in let h = here .height in
         let E = expression text sc h (u .part) in
         rw (u .same) (record {
           keeps = x .keeps;
@@ -103,8 +102,7 @@ gave-u-at text {s} {s′} {t} {t′} {end} {d} {w′ = w′} {st} {r} e q g = rw
 module _ (h : ℕ) {s s₁ s₂ : List ℕ} {base top leaf m : ℕ} {sc : Scope} (sh : Shows s top sc) (long : base ≤ length s) (room : top + 4 ≤ base)
     (inside-tree : base ≤ leaf) (p : Pushed s s₁ top 0 0) (q : PushedName s₁ s₂ (top + 2) leaf m) (e : m ≡ h * 4 + 1) where
   pub named-block-keeps : Keeps base top s s₂
-  named-block-keeps =
-      keeps-then (pushed-keeps p (omega arith) long)
+  named-block-keeps = keeps-then (pushed-keeps p (omega arith) long)
       (keeps-lower (omega arith) (pushed-keeps (q .pushed) (omega arith) (omega (arith, pushed-keeps p (omega arith) long .long))))
 
   pub named-block-shows : Shows s₂ (top + 4) (declared (opened sc) (nameAt s leaf) (N.local h))

@@ -35,8 +35,7 @@ module _ (text : List ℕ) {s₀ : List ℕ} {from end top height : ℕ} (st₀ 
         → Did (twice text (y .scope) height (y .names)) nothing 0 t t st₀ st′
 
   pub names-begin : (y : ReadyNames s₀ from end top height) → NamesPart y s₀ from 0 st₀
-  names-begin y =
-      let a : top ≡ top + 2 * 0 = omega arith in let b : height ≡ height + 0 = omega arith in
+  names-begin y = let a : top ≡ top + 2 * 0 = omega arith in let b : height ≡ height + 0 = omega arith in
       record {
         left = rest-all (y .names) (y .lies) (y .ends) (y .above);
         scope = y .scope;
@@ -110,8 +109,7 @@ module _ (text : List ℕ) {s₀ : List ℕ} {from end top height : ℕ} {st₀ 
   pub names-fit : {s : List ℕ} {at : ℕ} (k : ℕ) {st : State} → at < end → (y : ReadyNames s₀ from end top height) → NamesPart text st₀ y s at k st
       → (top + 2 * k + 2 ≤ length s) × (height + k < 2 ^ 29) × (at < 2 ^ 32) × (top + 2 * k + 2 ≤ y .base) × FineName (nameAt s at)
   unfolding FineNames
-  names-fit k l y p =
-      let u = is-names (p .left .rest) (p .left .lies) (p .left .ends) l in
+  names-fit k l y p = let u = is-names (p .left .rest) (p .left .lies) (p .left .ends) l in
       let c : k + 1 + length (u .more) ≡ length (y .names) = omega (arith, ap length (u .same)) in (
         omega arith,
         omega arith,

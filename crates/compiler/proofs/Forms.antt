@@ -45,8 +45,7 @@ none-of k m = contradiction cc
 
 pub guard-word : (w : ℕ) → isGuard w ≡ true → GuardWord w
 unfolding isGuard
-guard-word w m =
-    one-of GuardWord w K.IF _ m ifWord (λ m. one-of GuardWord w K.UNLESS _ m unlessWord
+guard-word w m = one-of GuardWord w K.IF _ m ifWord (λ m. one-of GuardWord w K.UNLESS _ m unlessWord
     (λ m. one-of GuardWord w K.WHILE _ m whileWord (λ m. one-of GuardWord w K.UNTIL _ m untilWord (none-of w))))
 
 pub leave-word : (w : ℕ) → isLeave w ≡ true → LeaveWord w
@@ -144,23 +143,19 @@ module _ (s : List ℕ) (lo end : ℕ) where
       (anAssignment (kid w v p K.ASSIGN h q) (value-is w v p K.ASSIGN h q) (place-is w v p K.ASSIGN h q) (size-is w v p K.ASSIGN h q)
       (ends w v p K.ASSIGN h q))
   form-of (T.callCommand e) f h q = so (called-kind e (f .0 .1) h q) (aCall h q (f .0 .1))
-  form-of (T.test e c d) f h q =
-      let w = encode e ++ (encodeCommand c ++ encodeCommand d) in
+  form-of (T.test e c d) f h q = let w = encode e ++ (encodeCommand c ++ encodeCommand d) in
       so (kind-is w 0 0 K.TEST h q) (aTest (kid w 0 0 K.TEST h q) (ends w 0 0 K.TEST h q))
-  form-of (T.guarded v e c) f h q =
-      let w = encode e ++ encodeCommand c in
+  form-of (T.guarded v e c) f h q = let w = encode e ++ encodeCommand c in
       so (kind-is w 0 0 v h q) (guard-form (guard-word v (f .0 .2)) (kid w 0 0 v h q) (ends w 0 0 v h q))
   form-of (T.for n e d k c) f h q =
       let w = encodeName n ++ (encode e ++ (encode d ++ (encodeBy k ++ encodeCommand c))) in let v = length (encodeBy k) in
       so (kind-is w v 0 K.FOR h q) (aFor (kid w v 0 K.FOR h q) (value-is w v 0 K.FOR h q) (ends w v 0 K.FOR h q))
   form-of (T.switchon e cs) f h q =
       so (kind-is (encode e ++ encodeCommands cs) (length (encode e)) 0 K.SWITCHON h q) (aSwitch (two-closed encode encodeCommands T.switchon e cs 0 K.SWITCHON h q))
-  form-of (T.resultis p e) f h q =
-      so (kind-is (encode e) 0 p K.RESULTIS h q)
+  form-of (T.resultis p e) f h q = so (kind-is (encode e) 0 p K.RESULTIS h q)
       (aResult (place-is (encode e) 0 p K.RESULTIS h q) (kid (encode e) 0 p K.RESULTIS h q) (ends (encode e) 0 p K.RESULTIS h q))
   form-of (T.leave w p) f h q = so (kind-is [] 0 p w h q) (leave-form (leave-word w (f .0)) (place-is [] 0 p w h q))
-  form-of (T.block ls cs) f h q =
-      so (kind-is (encodeLocals ls ++ encodeCommands cs) (length (encodeLocals ls)) 0 K.BEGIN h q)
+  form-of (T.block ls cs) f h q = so (kind-is (encodeLocals ls ++ encodeCommands cs) (length (encodeLocals ls)) 0 K.BEGIN h q)
       (aBlock (two-closed encodeLocals encodeCommands T.block ls cs 0 K.BEGIN h q))
 
 pub form-at : {s : List ℕ} {end k : ℕ} {here : Here} {st : State} (n : Node) → NodeAt s end n → n .kind ≡ k → (y : ReadyU s end here st)

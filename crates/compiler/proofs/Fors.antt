@@ -51,8 +51,7 @@ pub record IsFor (s : List ℕ) (lo end : ℕ) (u : Unlabelled) : Type 0 where
 
 is-for : {s : List ℕ} {lo end : ℕ} {u : Unlabelled} → Form s lo end K.FOR u → IsFor s lo end u
 unfolding encodeName
-is-for {s} {lo} (F.aFor {n} {e} {d} {k} {c} h v q) =
-    let a = encode e in let b = encode d in let g = encodeBy k in let i = encodeCommand c in
+is-for {s} {lo} (F.aFor {n} {e} {d} {k} {c} h v q) = let a = encode e in let b = encode d in let g = encodeBy k in let i = encodeCommand c in
     let r₁ = second (encodeName n) (a ++ (b ++ (g ++ i))) (lo + 4) h refl in let r₂ = second a (b ++ (g ++ i)) (lo + 4 + length a) r₁ refl in
     let r₃ = second b (g ++ i) (lo + 4 + length a + length b) r₂ refl in
     record {
@@ -120,16 +119,14 @@ module _ {s : List ℕ} {end : ℕ} {here : Here} {st : State} (n b l : Node) {l
 
   pub for-body-start : (y : ReadyU s end here st)
       → let u = for-is y in b .start ≡ y .lo + 4 + length (encode (u .start)) + length (encode (u .limit)) + length (encodeBy (u .by))
-  for-body-start y =
-      let u = for-is y in
+  for-body-start y = let u = for-is y in
       bd .start ∙ sym (closed-start {end = n .inner} (command-closed (u .body) (for-fine y .3)) (u .lies-body) (omega (arith, nd .inner, u .ends)) .0)
 
   pub for-limit-end : (y : ReadyU s end here st) → let u = for-is y in le ≡ y .lo + 4 + length (encode (u .start)) + length (encode (u .limit))
   for-limit-end y = let u = for-is y in omega (arith, el, for-body-start y, nd .value, u .value-of)
 
   pub for-limit-start : (y : ReadyU s end here st) → l .start ≡ y .lo + 4 + length (encode (for-is y .start))
-  for-limit-start y =
-      let u = for-is y in
+  for-limit-start y = let u = for-is y in
       ld .start ∙ sym (closed-start {end = le} (expression-closed (u .limit)) (u .lies-limit) (for-limit-end y) .0)
 
   -- room for its mark and its name
@@ -157,8 +154,7 @@ module _ {s : List ℕ} {end : ℕ} {here : Here} {st : State} (n b l : Node) {l
       for-name y = keeps-name (for-keeps y) (omega (arith, for-start y)) ∙ ap (nameAt s) (for-start y) ∙ for-is y .name-is
 
       pub for-name-fine : {s₃ : List ℕ} → Pushed s₂ s₃ (here .top) 0 0 → (y : ReadyU s end here st) → FineName (nameAt s₃ (n .start))
-      for-name-fine p y =
-          let k = pushed-keeps {base = y .base} p (omega (arith, for-room y)) (omega (arith, for-keeps y .long)) in
+      for-name-fine p y = let k = pushed-keeps {base = y .base} p (omega (arith, for-room y)) (omega (arith, for-keeps y .long)) in
           subst FineName (sym (keeps-name k (omega (arith, for-start y)) ∙ for-name y)) (for-fine y .4)
 
       pub for-says : (y : ReadyU s end here st) → Says v (byJudged text (y .scope) (for-is y .by))
@@ -169,8 +165,7 @@ module _ {s : List ℕ} {end : ℕ} {here : Here} {st : State} (n b l : Node) {l
 
       pub for-labels : (y : ReadyU s end here st)
           → (m .label ≤ st .label + 3 + 2 * length (encode (for-is y .start)) + 2 * length (encode (for-is y .limit))) × (st .label ≤ m .label)
-      for-labels y =
-          let x = g .by (for-first e y) in let z = g₂ .by (for-limit y) in let w = bl .by
+      for-labels y = let x = g .by (for-first e y) in let z = g₂ .by (for-limit y) in let w = bl .by
           (byJudged text (y .scope) (for-is y .by)) (for-says y) t₄ in (
             omega arith,
             omega (arith, e .label, x .did .grows, f .label, z .did .grows, f₂ .label, w .grows, f₃ .label),
@@ -193,8 +188,7 @@ module _ {s : List ℕ} {end : ℕ} {here : Here} {st : State} (n b l : Node) {l
             rw (for-name y) at w
 
         abbrev pub for-body : ReadyU s end here st → ReadyC s₄ (n .inner) (placed (here .top + 4) (here .height + 2) here) m
-        for-body y =
-            let u = for-is y in let k = for-block-keeps y in let lo′ = y .lo + 4 + length (encode (u .start)) + length (encode (u .limit))
+        for-body y = let u = for-is y in let k = for-block-keeps y in let lo′ = y .lo + 4 + length (encode (u .start)) + length (encode (u .limit))
             + length (encodeBy (u .by)) in
             moved y k (declared (opened (y .scope)) (u .name) (N.local (here .height))) (u .lies-body) (for-block-shows y) (omega arith)
             (omega (arith, nd .inner, u .ends, for-labels y, for-deep y .2)) (for-fine y .3)

@@ -69,8 +69,7 @@ module _ {s : List ℕ} {from end at n size word : ℕ} (l : at < end) (es : siz
   onwards : (m : ℕ)
       → ((d : Declaration) → word ≡ declaredWord d → Lies s (at + 2) (encodeDeclared d) → size ≡ length (encodeDeclared d) → m ≡ ownCount d)
       → Counted s from end (at + 2 + size) (n + m)
-  onwards m own p h e =
-      let c = q p h e in let u = is-declaration (c .rest) (c .lies) (c .ends) l in
+  onwards m own p h e = let c = q p h e in let u = is-declaration (c .rest) (c .lies) (c .ends) l in
       let k : size ≡ length (encodeDeclared (u .part)) = es ∙ u .size-of in
       record {
         rest = u .more;

@@ -27,8 +27,7 @@ pub record Parted (s : List ℕ) (lo end : ℕ) (f : Function) : Type 0 where
 
 pub parted : {s : List ℕ} {lo end : ℕ} (f : Function) → Lies s lo (encodeFunction f) → end ≡ lo + length (encodeFunction f) → Parted s lo end f
 unfolding encodeName
-parted {s} {lo} f h e =
-    let name : List ℕ = encodeName (f .name) in let names = encodeNames (f .parameters) in let body = encodeBody (f .body) in
+parted {s} {lo} f h e = let name : List ℕ = encodeName (f .name) in let names = encodeNames (f .parameters) in let body = encodeBody (f .body) in
     let w = name ++ (names ++ body) in let v = length names in let k = bodyWord (f .body) in let inner = kid w v 0 k h e in let rest = second name
     (names ++ body) (lo + 4) inner refl in let z : length w ≡ 4 + length names + length body = omega (
       arith,
@@ -65,14 +64,11 @@ module _ {s : List ℕ} {end : ℕ} {here : Here} {st : State} (n : Node) (nd : 
   -- room for the mark and the parameters
   pub function-room : (y : ReadyF s end here st)
       → (here .top + 2 ≤ length s) × (here .top + 2 ≤ y .base) × (here .top + 2 + 2 * (n .value / 4) ≤ y .base) × (y .base < 2 ^ 32)
-  function-room y =
-      let z = function-places y in
-      (omega arith, omega arith, omega arith, omega arith)
+  function-room y = let z = function-places y in (omega arith, omega arith, omega arith, omega arith)
 
   module _ {s₁ : List ℕ} (pu : Pushed s s₁ (here .top) 0 0) where
     abbrev pub function-names : ReadyF s end here st → ReadyNames s₁ (n .start + 4) (n .start + 4 + n .value) (here .top + 2) 2
-    function-names y =
-        let u = function-parts y in let r = function-room y in let k = pushed-keeps pu (r .1) (y .long) in
+    function-names y = let u = function-parts y in let r = function-room y in let k = pushed-keeps pu (r .1) (y .long) in
         let z = function-places y in
         record {
           base = y .base;
@@ -98,8 +94,7 @@ module _ {s : List ℕ} {end : ℕ} {here : Here} {st : State} (n : Node) (nd : 
       function-label y = let d = de .by (function-names y) .did t₁ in omega (arith, re .by t₁ .label)
 
       abbrev pub function-body : ReadyF s end here st → ReadyBody s₂ (n .inner) (within n here) c (n .kind)
-      function-body y =
-          let u = function-parts y in let d = de .by (function-names y) in let k = function-keeps y in let z = function-places y in
+      function-body y = let u = function-parts y in let d = de .by (function-names y) in let k = function-keeps y in let z = function-places y in
           let l = function-label y in
           record {
             ready =
@@ -118,8 +113,7 @@ module _ {s : List ℕ} {end : ℕ} {here : Here} {st : State} (n : Node) (nd : 
             let rb = bodyOf text sc h (f .body) in
             record {
               keeps = keeps-then (function-keeps y) (keeps-lower (omega arith) (x .keeps));
-              did =
-                  did-as (functionSays text (here .strings) label (y .scope) f) _
+              did = did-as (functionSays text (here .strings) label (y .scope) f) _
                   (did-after em (did-then (w .did t₁) (did-after top (did-put body pt)))) same-refl (λ i e. let q : i + 0 ≡ i = omega arith in
                   code-is (rw q) refl (omega arith)) (omega (arith, function-places y .2));
             };

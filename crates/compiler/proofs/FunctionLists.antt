@@ -52,9 +52,7 @@ funs-long (g ∷ gs) = ap suc (funs-long gs)
 pub heights-then : (gs hs : List Named) → heightFaults (gs ++ hs) ≡ heightFaults gs ++ heightFaults hs
 unfolding heightFaults
 heights-then [] hs = refl
-heights-then (g ∷ gs) hs =
-    let a = cond (ltb 8192 (largestHeight (g .fun))) (fault (g .name .place) 16) [] in
-    simp (heights-then gs hs, append-assoc)
+heights-then (g ∷ gs) hs = let a = cond (ltb 8192 (largestHeight (g .fun))) (fault (g .name .place) 16) [] in simp (heights-then gs hs, append-assoc)
 
 labels-then : (fs gs : List Fun) → innerLabels (fs ++ gs) ≡ innerLabels fs + innerLabels gs
 unfolding innerLabels
@@ -64,11 +62,8 @@ labels-then (f ∷ fs) gs = omega (arith, labels-then fs gs)
 code-then : (strings l n : ℕ) (fs gs : List Fun) {k m : ℕ} → k ≡ l + length fs → m ≡ n + innerLabels fs
     → G.functionsCode strings l n (fs ++ gs) ≡ G.functionsCode strings l n fs ++ G.functionsCode strings k m gs
 unfolding G.functionsCode innerLabels
-code-then strings l n [] gs {k} {m} a b =
-    let p : l ≡ k = omega arith in let q : n ≡ m = omega arith in
-    rw (p, q)
-code-then strings l n (f ∷ fs) gs {k} {m} a b =
-    let c = G.bodyCode strings (2 + f .parameters) n (f .body) in let n′ = n + G.bodyLabels (f .body) in
+code-then strings l n [] gs {k} {m} a b = let p : l ≡ k = omega arith in let q : n ≡ m = omega arith in rw (p, q)
+code-then strings l n (f ∷ fs) gs {k} {m} a b = let c = G.bodyCode strings (2 + f .parameters) n (f .body) in let n′ = n + G.bodyLabels (f .body) in
     ap (λ (z : List I.Item). I.label l ∷ c ++ (G.X 4 ∷ z)) (code-then strings (suc l) n′ fs gs (omega arith) (omega arith)) ∙ ap
     (λ (z : List I.Item). I.label l ∷ z) (sym (append-assoc c (G.X 4 ∷ G.functionsCode strings (suc l) n′ fs) (G.functionsCode strings k m gs)))
 
@@ -106,8 +101,7 @@ yields-then {strings} {l} k {fs} {fs′} {gs} {gs′} {m} {m′} {t} {t₁} {t�
 
 pub yields-as : {strings l : ℕ} {fs fs′ : List Fault} {gs gs′ : List Named} {m : ℕ} (m′ : ℕ) {t t′ : List ℕ} {d d′ : Done} → fs ≡ fs′ → gs ≡ gs′
     → m ≤ m′ → Yields strings l fs gs m t t′ d d′ → Yields strings l fs′ gs′ m′ t t′ d d′
-yields-as {strings} {l} {fs} {fs′} {gs} m′ {t} {t′} {d} {d′} a b c x =
-    rw (← a) (rw (← b)
+yields-as {strings} {l} {fs} {fs′} {gs} m′ {t} {t′} {d} {d′} a b c x = rw (← a) (rw (← b)
     (record { did = did-as (functionsSays strings l (funs gs)) m′ (x .did) same-refl (λ n e. refl) c; tall = x .tall; fits = x .fits }))
 
 -- ---- the height is taken away
@@ -159,8 +153,7 @@ yields-one text sc start strings l f {m} {tall} {tall′} {place} {t} {t′} {st
 
 pub functions-step : (f : Function) (fs : List Function) → 10 + length (encodeFunctions fs) ≤ length (encodeFunctions (f ∷ fs))
 unfolding encodeFunctions encodeName
-functions-step f fs =
-    let w = encodeNames (f .parameters) ++ encodeBody (f .body) in
+functions-step f fs = let w = encodeNames (f .parameters) ++ encodeBody (f .body) in
     omega (
       arith,
       length-append (encodeFunction f) (encodeFunctions fs),

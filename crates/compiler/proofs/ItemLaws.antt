@@ -100,8 +100,7 @@ module _ (g : Bool) (text : List ℕ) {s₀ : List ℕ} {from end top : ℕ} (st
         → Did (faults g text (y .scope) (y .items)) nothing 0 t t st₀ st′
 
   pub items-begin : (y : ReadyItems s₀ from end top) → ItemsPart y s₀ from 0 st₀
-  items-begin y =
-      let a : top ≡ top + 2 * 0 = omega arith in
+  items-begin y = let a : top ≡ top + 2 * 0 = omega arith in
       record {
         left = rest-all (y .items) (y .lies) (y .ends) (y .above);
         scope = y .scope;

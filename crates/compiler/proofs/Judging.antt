@@ -83,8 +83,7 @@ FineSimple p b x = ((v : ℕ) → x ≡ T.literal v → v < 65536) × ((n : Name
 
 module _ (text : List ℕ) {s : List ℕ} {end : ℕ} (top : ℕ) (n : Node) (nd : NodeAt s end n) where
   abbrev Go : Verdict → Type 0
-  Go r =
-      (sc : Scope) (lo p : ℕ) (b : Bool) (x : Simple) → Shows s top sc → FineSimple p b x → Lies s lo
+  Go r = (sc : Scope) (lo p : ℕ) (b : Bool) (x : Simple) → Shows s top sc → FineSimple p b x → Lies s lo
       (cond b (encodeNegative p x) (encodePositive p x)) → end ≡ lo + length (cond b (encodeNegative p x) (encodePositive p x)) → Says r
       (ofSimple text sc (record { place = p; minus = b; simple = x }) x)
 
@@ -98,8 +97,7 @@ module _ (text : List ℕ) {s : List ℕ} {end : ℕ} (top : ℕ) (n : Node) (nd
   judge-number q = judges (omega arith, omega arith) (omega arith) go
     where
       go : Go (record { word = n .value % 65536; number = 0; place = 0 })
-      go sc lo p false (T.literal v) sh f h e =
-          subst (λ (k : ℕ). Says (record { word = n .value % 65536; number = 0; place = 0 }) (good k))
+      go sc lo p false (T.literal v) sh f h e = subst (λ (k : ℕ). Says (record { word = n .value % 65536; number = 0; place = 0 }) (good k))
           (let z : n .value ≡ v = nd .value ∙ value-is [] v p 60 h e in omega (arith, f .0 v refl)) (fit refl)
       go sc lo p false (T.known x) sh f h e = absurd (omega (arith, kind-is [] (x .width) (x .place) 59 h e))
       go sc lo p true (T.literal v) sh f h e = absurd (omega (arith, kind-is [] v p 36 h e))
@@ -131,8 +129,7 @@ module _ (text : List ℕ) {s : List ℕ} {end : ℕ} (top : ℕ) (n : Node) (nd
       go sc lo p false (T.literal v) sh f h e = absurd (n1 (nd .kind ∙ kind-is [] v p 60 h e))
       go sc lo p false (T.known x) sh f h e = absurd (n2 (nd .kind ∙ kind-is [] (x .width) (x .place) 59 h e))
       go sc lo p true (T.literal v) sh f h e = rw (← (ew ∙ ap (signed true) (nd .value ∙ value-is [] v p 36 h e))) (fit refl)
-      go sc lo p true (T.known x) sh f h e =
-          let c : List ℕ = 0 ∷ x .width ∷ x .place ∷ 59 ∷ [] in
+      go sc lo p true (T.known x) sh f h e = let c : List ℕ = 0 ∷ x .width ∷ x .place ∷ 59 ∷ [] in
           absurd (omega (arith, size-is c 0 p 36 h e, ends c 0 p 36 h e))
 
   pub judge-negated : {m name : ℕ} {r : Verdict} → (n .kind ≡ 60 → ⊥) → (n .kind ≡ 59 → ⊥) → (n .start ≡ n .inner → ⊥)
@@ -287,8 +284,7 @@ module _ {s : List ℕ} {end : ℕ} {here : Here} {st : State} (n : Node) (nd : 
             room = omega (arith, ap (λ (x : Local). length (encodeLocal x)) (u .same));
             tall = omega (arith, ap (λ (x : Local). length (encodeLocal x)) (u .same));
           };
-          did =
-              did-as (localSays text sc here (aVector (u .left) K)) _ (did-emit (did-then (bl .by (forVector text sc K) sa t) (d .did t)) em)
+          did = did-as (localSays text sc here (aVector (u .left) K)) _ (did-emit (did-then (bl .by (forVector text sc K) sa t) (d .did t)) em)
               same-refl (λ m v. code-is refl (rw w) (omega arith)) (omega arith);
         });
   }
@@ -307,9 +303,7 @@ module _ {s : List ℕ} {end : ℕ} {here : Here} {st : State} (n : Node) (nd : 
   values-is y = is-values (y .tree) (y .lies) (y .ends) (λ e. q (nd .kind ∙ e))
 
   pub values-start : (y : ReadyLocal s end here st) → (n .start ≡ y .lo) × (middle ≡ y .lo + length (encodeNames (values-is y .left)))
-  values-start y =
-      let u = values-is y in
-      (omega arith, omega arith)
+  values-start y = let u = values-is y in (omega arith, omega arith)
 
   pub values-fine : (y : ReadyLocal s end here st)
       → (length (values-is y .left) ≡ T.count (values-is y .list)) × FineEs (values-is y .list) × FineNames (values-is y .left)

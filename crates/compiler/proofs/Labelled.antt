@@ -62,12 +62,10 @@ pub is-bare : {s : List ℕ} {lo end : ℕ} (c : Command) → Lies s lo (encodeC
     → (getD s (end - 1) 0 ≡ O.LABELLED → ⊥) → IsBare s lo end c
 unfolding encodeCommand labelled encodeLabels
 is-bare (T.command [] u rs) h e q = record { body = u; forms = rs; same = refl; lies = h; ends = e }
-is-bare (T.command (T.case p c ∷ ls) u rs) h e q =
-    absurd
+is-bare (T.command (T.case p c ∷ ls) u rs) h e q = absurd
     (q (kind-is (encodeLabels (T.case p c ∷ ls) ++ O.repeated (encodeUnlabelled u) (encodeRepeats rs)) (length (encodeLabels (T.case p c ∷ ls))) 0
     O.LABELLED h e))
-is-bare (T.command (T.default p ∷ ls) u rs) h e q =
-    absurd
+is-bare (T.command (T.default p ∷ ls) u rs) h e q = absurd
     (q (kind-is (encodeLabels (T.default p ∷ ls) ++ O.repeated (encodeUnlabelled u) (encodeRepeats rs)) (length (encodeLabels (T.default p ∷ ls))) 0
     O.LABELLED h e))
 

@@ -120,9 +120,7 @@ form-code : (text : List ℕ) (x : Here) (sc : Scope) (own n : ℕ) (f : AForm) 
       labels = c .labels + formsLabels text sc (x .height) rs;
     }) (formsSays text x sc own (withForm f rs) n)
 unfolding formsCode formsHeights formsLabels
-form-code text x sc own n alone rs =
-    let a : n + 0 ≡ n = omega arith in
-    code-is (rw a) refl (omega arith)
+form-code text x sc own n alone rs = let a : n + 0 ≡ n = omega arith in code-is (rw a) refl (omega arith)
 form-code text x sc own n (onTest w e) rs =
     let E = G.exprCode (x .strings) (x .height) n (expression text sc (x .height) e) in let J = G.jumpWhen (eqb w K.REPEATWHILE) own in
     let F = formsCode text sc (x .strings) (x .height) (own - 3) rs (n + G.exprLabels (expression text sc (x .height) e)) in
@@ -185,8 +183,7 @@ module _ (text t₀ : List ℕ) (own₀ : ℕ) {s₀ : List ℕ} {from end : ℕ
                 rw (x .0) keeps-all,
                 did-as _ _ (emits-did _ (x .1) (λ n. refl)) same-refl (λ n e. refl) (omega arith),
               )
-          by (onTest w e) q =
-              let m : length (formEncoding (one .part)) ≡ length (encode e) = rw q in
+          by (onTest w e) q = let m : length (formEncoding (one .part)) ≡ length (encode e) = rw q in
               let x = g .on (λ n. omega (arith, n, forms-size, m, closed-long (expression-closed e))) .by (ready-test w e q) in (
                 x .keeps,
                 rw (← (one-word (y .ready) (y .starts) l es en p ew ∙ ap formWord q)) (x .did),
@@ -287,8 +284,7 @@ module _ {s : List ℕ} {end : ℕ} {here : Here} {st : State} (n : Node) (nd : 
         c .by (forms (y .tree .forms)) (repeat-items (y .tree .forms) (rw (repeated-middle y) (u .1 .lies-list)) (omega (arith, repeated-middle y)))
 
     pub repeated-few : (y : ReadyR s end here st) → (1 ≤ k) × (st .label + 3 * k + 3 ≤ 2 ^ 29)
-    repeated-few y =
-        let u = repeated-is y in
+    repeated-few y = let u = repeated-is y in
         (omega (arith, repeated-count y), omega (arith, repeated-count y, forms-entries (y .tree .forms)))
 
     module _ {a b : State} {t t₁ : List ℕ} (e : Fresh (3 * k) st a) (f : Emits (topsCode (st .label) k) [] t t₁ a b) where

@@ -148,8 +148,7 @@ misplaced-then text sc (T.default p) ls = refl
 
 module _ (text : List ℕ) {s : List ℕ} {from end top : ℕ} (st₀ : State) where
   abbrev pub MisplacedPart : (y : ReadyMisplaced s from end top) (at : ℕ) (st : State) → Type 0
-  MisplacedPart y at st =
-      Left (LabelAt s) s end at
+  MisplacedPart y at st = Left (LabelAt s) s end at
       (λ rest. (t : List ℕ) (st′ : State) → Did (misplaced text (y .scope) rest) nothing 0 t t st st′ → Did (misplaced text (y .scope) (y .labels))
       nothing 0 t t st₀ st′)
 

@@ -117,9 +117,7 @@ module _ {m : ℕ} where
   means (known (local k)) e = let a : m / 4 ≡ k = omega arith in let b : m % 4 ≡ 1 = omega arith in rw (ne-eqb m 0 (λ z. omega arith), a, b)
   means (known (global k)) e = let a : m / 4 ≡ k = omega arith in let b : m % 4 ≡ 2 = omega arith in rw (ne-eqb m 0 (λ z. omega arith), a, b)
   means (known (manifest k)) e = let a : m / 4 ≡ k = omega arith in let b : m % 4 ≡ 3 = omega arith in rw (ne-eqb m 0 (λ z. omega arith), a, b)
-  means (known (function k)) e =
-      let a : m / 4 - 1 ≡ k = omega arith in let b : m % 4 ≡ 0 = omega arith in
-      rw (ne-eqb m 0 (λ z. omega arith), b, a)
+  means (known (function k)) e = let a : m / 4 - 1 ≡ k = omega arith in let b : m % 4 ≡ 0 = omega arith in rw (ne-eqb m 0 (λ z. omega arith), b, a)
 
   module _ (f : Found) (e : m ≡ found f) where
     pub means-unknown : m ≡ 0 → f ≡ unknown
@@ -198,8 +196,7 @@ module _ (text s : List ℕ) (leaf at : ℕ) where
           → t ≡ sameName text (named (x / 65536) (x % 65536)) (named place width) → t ≡ sameName text n (nameAt s leaf)
       told b {n} {t} e y fine f =
           let g : at - 2 ≡ b = omega arith in let v : x ≡ packed n = rx ∙ get-as s g ∙ y in let h : x / 65536 ≡ n .place = omega arith in
-          let l : x % 65536 ≡ n .width = omega arith in
-          cc
+          let l : x % 65536 ≡ n .width = omega arith in cc
 
       code-is : (b : ℕ) (w : Meaning) → at ≡ b + 2 → getD s (b + 1) 0 ≡ code w → z ≡ code w
       code-is b w e y = let g : at - 2 + 1 ≡ b + 1 = omega arith in r ∙ get-as s g ∙ y
@@ -307,6 +304,5 @@ pushed-name {s} {leaf = leaf} h l long w sh e u = pushed-as (h .pushed) l long (
 
 pub pushed-leaf : {s s′ : List ℕ} {top leaf m width place : ℕ} → Pushed s s′ top (place * 65536 + width) m → width ≡ getD s (leaf + 1) 0
     → place ≡ getD s (leaf + 2) 0 → FineName (nameAt s leaf) → PushedName s s′ top leaf m
-pushed-leaf {s} {top = top} {leaf} {m} {width} {place} h ew ep f =
-    let e : place * 65536 + width ≡ packed (nameAt s leaf) = omega arith in
+pushed-leaf {s} {top = top} {leaf} {m} {width} {place} h ew ep f = let e : place * 65536 + width ≡ packed (nameAt s leaf) = omega arith in
     record { pushed = record { is = rw (h .is, e) }; fine = f }

@@ -66,8 +66,7 @@ starts-begin = record { by = λ fs l e s. record { done = []; rest = fs; all = r
 starts-then : (l : ℕ) (a b : List Fun) → startsCode l (a ++ b) ≡ startsCode l a ++ startsCode (l + length a) b
 unfolding startsCode
 starts-then l [] b = let z : l + 0 ≡ l = omega arith in rw z
-starts-then l (f ∷ a) b =
-    let z : suc l + length a ≡ l + suc (length a) = omega arith in
+starts-then l (f ∷ a) b = let z : suc l + length a ≡ l + suc (length a) = omega arith in
     go (f .start) (startsCode (suc l) a) (startsCode (l + suc (length a)) b) (starts-then (suc l) a b ∙ rw z)
   where
     go : (s : Start) (is js : List I.Item) → startsCode (suc l) (a ++ b) ≡ is ++ js → startIn s l (startsCode (suc l) (a ++ b)) ≡ startIn s l is ++ js

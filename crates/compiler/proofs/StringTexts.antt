@@ -154,8 +154,7 @@ symbols-more : (count : ℕ) (s : List ℕ) (i : ℕ) → i < count
     → symbolsFrom count s i ≡
     record { kind = getD s (i * 3) 0; value = getD s (i * 3 + 1) 0; place = getD s (i * 3 + 2) 0 } ∷ symbolsFrom count s (i + 1)
 unfolding symbolsFrom decoded
-symbols-more count s i h =
-    let z : count - i ≡ suc (count - (i + 1)) = omega arith in
+symbols-more count s i h = let z : count - i ≡ suc (count - (i + 1)) = omega arith in
     let y : i * 3 + 3 ≡ (i + 1) * 3 = omega arith in
     let y0 : i * 3 + 0 ≡ i * 3 = omega arith in
     rw (z, getD-drop (i * 3) s 0 0, y0, getD-drop (i * 3) s 1 0, getD-drop (i * 3) s 2 0, drop-drop 3 (i * 3) s, y)
@@ -219,8 +218,7 @@ listing-begin {source} {s} {count} = record {
 strings-then : (l : ℕ) (a b : List (List ℕ)) → stringsCode l (a ++ b) ≡ stringsCode l a ++ stringsCode (l + length a) b
 unfolding stringsCode
 strings-then l [] b = let z : l + 0 ≡ l = omega arith in rw z
-strings-then l (c ∷ a) b =
-    let z : suc l + length a ≡ l + suc (length a) = omega arith in
+strings-then l (c ∷ a) b = let z : suc l + length a ≡ l + suc (length a) = omega arith in
     ap (λ (is : List I.Item). I.label l ∷ I.string c ∷ is) (strings-then (suc l) a b ∙ rw z)
 
 -- the strings of one symbol, as many as oneIf says

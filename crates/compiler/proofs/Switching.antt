@@ -274,8 +274,7 @@ module _ (text : List ℕ) {s : List ℕ} {end top : ℕ} (n : Node) (nd : NodeA
 
 module _ (text : List ℕ) {s : List ℕ} {from end top : ℕ} (k : ℕ) (t₀ : List ℕ) (st₀ : State) where
   abbrev pub PairsPart : (y : Listed (LabelAt s) s from end top) (t : List ℕ) (at : ℕ) (st : State) → Type 0
-  PairsPart y t at st =
-      Left (LabelAt s) s end at (λ rest. Sound text (y .scope) rest
+  PairsPart y t at st = Left (LabelAt s) s end at (λ rest. Sound text (y .scope) rest
       × ((t′ : List ℕ) (st′ : State) → Emits (G.pairsOf k (labelsOf text (y .scope) rest)) [] t t′ st st′ → Emits
       (G.pairsOf k (labelsOf text (y .scope) (y .all))) [] t₀ t′ st₀ st′))
 
@@ -298,8 +297,7 @@ module _ (text : List ℕ) {s : List ℕ} {from end top : ℕ} (k : ℕ) (t₀ :
 
 module _ (text : List ℕ) {s : List ℕ} {from end top : ℕ} (first : ℕ) (t₀ : List ℕ) (st₀ : State) where
   abbrev pub TablePart : (y : Listed (CommandAt s) s from end top) (t : List ℕ) (at k : ℕ) (st : State) → Type 0
-  TablePart y t at k st =
-      Left (CommandAt s) s end at (λ rest. Sound text (y .scope) (flat rest)
+  TablePart y t at k st = Left (CommandAt s) s end at (λ rest. Sound text (y .scope) (flat rest)
       × ((t′ : List ℕ) (st′ : State) → Emits (tableAmong text (y .scope) k rest) [] t t′ st st′ → Emits (tableAmong text (y .scope) first (y .all))
       [] t₀ t′ st₀ st′))
 
@@ -357,8 +355,7 @@ sound-doubled text sc before (T.case p c ∷ ls) e =
     let a = doubledLabel text sc (labelsOf text sc before) (T.case p c) in let b = doubled text sc (before ++ (T.case p c ∷ [])) ls in
     let g = judged-good text sc c (case-good p (judge text sc c) (labelsOf text sc before) (nil-left a b e)) in
     L.goodCase (g .value) (g .is) (sound-doubled text sc (before ++ (T.case p c ∷ [])) ls (nil-right a b e))
-sound-doubled text sc before (T.default p ∷ ls) e =
-    let a = doubledLabel text sc (labelsOf text sc before) (T.default p) in
+sound-doubled text sc before (T.default p ∷ ls) e = let a = doubledLabel text sc (labelsOf text sc before) (T.default p) in
     anyDefault (sound-doubled text sc (before ++ (T.default p ∷ [])) ls (nil-right a (doubled text sc (before ++ (T.default p ∷ [])) ls) e))
 
 sound-then : {text : List ℕ} {sc : Scope} (ls ms : List Label) → Sound text sc ls → Sound text sc ms → Sound text sc (ls ++ ms)
@@ -385,24 +382,20 @@ pub count-is : (text : List ℕ) (sc : Scope) (h : ℕ) (cs : Commands) → Soun
     → caseCount (caseList text sc h cs) ≡ caseItems (flat (marks cs))
 unfolding caseCount caseList caseItems marks flat
 count-is text sc h T.noCommands s = refl
-count-is text sc h (T.andCommand c cs) s =
-    let ls = labelsBefore c in let ms = flat (marks cs) in
+count-is text sc h (T.andCommand c cs) s = let ls = labelsBefore c in let ms = flat (marks cs) in
     omega (arith, cases-are text sc ls (sound-left ls ms s), count-is text sc h cs (sound-right ls ms s), cases-then ls ms)
 
 pub default-is : (text : List ℕ) (sc : Scope) (h l done : ℕ) (cs : Commands)
     → G.defaultOf l done (caseList text sc h cs) ≡ defaultAmong text sc l done (marks cs)
 unfolding G.defaultOf caseList marks defaultAmong
 default-is text sc h l done T.noCommands = refl
-default-is text sc h l done (T.andCommand c cs) =
-    let a : suc l ≡ l + 1 = omega arith in
+default-is text sc h l done (T.andCommand c cs) = let a : suc l ≡ l + 1 = omega arith in
     ap (cond (hasDefault (labelsOf text sc (labelsBefore c))) l) (rw (a, default-is text sc h (l + 1) done cs))
 
 pub table-is : (text : List ℕ) (sc : Scope) (h l : ℕ) (cs : Commands) → G.tableOf l (caseList text sc h cs) ≡ tableAmong text sc l (marks cs)
 unfolding G.tableOf caseList marks tableAmong
 table-is text sc h l T.noCommands = refl
-table-is text sc h l (T.andCommand c cs) =
-    let a : suc l ≡ l + 1 = omega arith in
-    rw (a, table-is text sc h (l + 1) cs)
+table-is text sc h l (T.andCommand c cs) = let a : suc l ≡ l + 1 = omega arith in rw (a, table-is text sc h (l + 1) cs)
 
 pub table-gave : (text : List ℕ) {s : List ℕ} {from end top first done m d : ℕ} {t t₁ t₂ t₃ t₄ : List ℕ} {st a b c r : State}
     → Emits (G.X 23 ∷ []) [] t t₁ st a → CountsAll s from end m → Emits (G.D m ∷ []) [] t₁ t₂ a b → FindsDefault s from end first done d → Emits

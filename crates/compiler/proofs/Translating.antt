@@ -107,15 +107,13 @@ module _ {source s s′ : List ℕ} {a : SymbolsRead} (l : Lent source (length s
     where
       go : (x : Symbols) → symbolsOf source ≡ x → YA.Read count ≡ outcome (length s) x .answer → s′ ≡ outcome (length s) x .scratch
           → ReadySymbols source s′ count
-      go (good ss) q w z =
-          let k : count ≡ length ss = cc in let stand = z ∙ ap (λ (n : ℕ). outcome n (good ss) .scratch) (sym same) in
+      go (good ss) q w z = let k : count ≡ length ss = cc in let stand = z ∙ ap (λ (n : ℕ). outcome n (good ss) .scratch) (sym same) in
           record { lent = lent-still l same; symbols = ss; reads = q; counts = k; stand = stand }
       go (faulty number place) q w z = contradiction cc
 
   pub symbols-answer : {number place : ℕ} {t t′ : List ℕ} {w : Refusal} → a ≡ YA.Refused number place → w ≡ refusal source number place
       → Translates source s s′ t t′ (C.Refused w)
-  symbols-answer {number} {place} {t} e q =
-      let k : symbolsOf source ≡ faulty number place = go (symbolsOf source) (sym e ∙ answer-is) in
+  symbols-answer {number} {place} {t} e q = let k : symbolsOf source ≡ faulty number place = go (symbolsOf source) (sym e ∙ answer-is) in
       refusing q (symbols-refused l (length t) number place k) (symbols-left (l .short) room r (faulty number place) k)
     where
       go : (x : Symbols) → YA.Refused number place ≡ outcome (length s) x .answer → x ≡ faulty number place
@@ -173,14 +171,12 @@ module _ {source s : List ℕ} {count : ℕ} (y : ReadySymbols source s count) w
 
   fits : tooShort (length (take most s)) count ≡ false
   unfolding tooShort
-  fits =
-      let small : most ≤ 2 ^ 32 - 1 = omega (arith, few) in
+  fits = let small : most ≤ 2 ^ 32 - 1 = omega (arith, few) in
       rw (length-take-le most s tree-room, le-ltb most most (omega arith), le-ltb (2 ^ 32 - 1) most small) refl
 
   source-is : sourceIn (take most s) count (length source) ≡ src
   unfolding sourceIn
-  source-is =
-      ap (λ (z : List Symbol). record { symbols = z; size = length source }) (ap (λ (n : ℕ). decoded n (take most s)) (y .counts)
+  source-is = ap (λ (z : List Symbol). record { symbols = z; size = length source }) (ap (λ (n : ℕ). decoded n (take most s)) (y .counts)
       ∙ (ap (decoded (length (y .symbols))) lent-is ∙ decoded-entries (y .symbols) (replicate (most - length ss) 0)))
 
   symbols-first : take (count * 3) (take most s) ≡ ss
@@ -200,9 +196,7 @@ module _ {source s : List ℕ} {count : ℕ} (y : ReadySymbols source s count) w
 
     -- the zeros behind what is lent go on
     whole : (w : List ℕ) → length w ≤ most → front ≡ padded (length (take most s)) w → s′ ≡ padded (length s) w
-    whole w h e =
-        let f : front ≡ padded most w = rw (e, length-take-le most s tree-room) in
-        rw (rest-is, f, padded-on w most h (length s) tree-room)
+    whole w h e = let f : front ≡ padded most w = rw (e, length-take-le most s tree-room) in rw (rest-is, f, padded-on w most h (length s) tree-room)
 
     as-long : (w : List ℕ) → length w ≤ most → s′ ≡ padded (length s) w → length s′ ≡ length s
     as-long w h e = ap length e ∙ padded-long w (length s) (omega (arith, tree-room))
@@ -279,6 +273,5 @@ module _ {source s : List ℕ} (v : Serves source s) where
   pub more-scratch : {s′ front t t′ : List ℕ} {a : Compiled} → Translates source (take (asked source) s) front t t′ a
       → s′ ≡ take (asked source) (front ++ drop (asked source) s) ++ replicate (length (front ++ drop (asked source) s) - asked source) 0
       → Translates source s s′ t t′ a
-  more-scratch {s′} {front} {t} x c =
-      let enough = enough-scratch {m = length s} front-lent (omega (arith, front-long)) (length t) in
+  more-scratch {s′} {front} {t} x c = let enough = enough-scratch {m = length s} front-lent (omega (arith, front-long)) (length t) in
       decided-alike x (by-parsed front-lent (length t) ∙ sym enough) (zeros-behind s front (asked source) front-long (v .long) (x .clears) c)
