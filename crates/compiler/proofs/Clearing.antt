@@ -1,8 +1,8 @@
 -- Zeros from a place on, where scratch holds nothing but zeros, and `compile`'s contract once they are written.
 use Rattle.laws.proofs.Basics.{ℕ, zero, suc, _+_, _-_, _≤_, _≡_, refl, sym, ap, _∙_, List, _++_, append-assoc, length, getD, take, drop, replicate}
 use Rattle.laws.proofs.Basics.{length-append, length-drop, length-replicate, replicate-append-replicate, List·getD-append, length-take-le, take-at}
-use Rattle.laws.proofs.Basics.{getD-drop, getD-append-add, ext-getD, arith}
-use Rattle.laws.proofs.Cases.{Order, lt, ge, order, contradiction}
+use Rattle.laws.proofs.Basics.{getD-drop, getD-append-add, ext-getD, ltb, arith, ltb-true, ltb-false}
+use Rattle.laws.proofs.Cases.{by-cases, contradiction}
 use Rattle.text.specs.declared.Refusal.{Refusal}
 use Rattle.language.specs.Program.{Refused, accepted, refused}
 use Rattle.language.specs.Whole.{refusalOf, refusalIn, unlessFits}
@@ -43,12 +43,10 @@ padded-clean w room e h = record {
 
 -- a front that was lent
 pub clean-front : {s front : List ℕ} {used : ℕ} (k : ℕ) → length front ≡ k → Clean used front → Clean used s → Clean used (front ++ drop k s)
-clean-front {s} {front} {used} k e f c = record { zeros = λ i h. go i h (order i k) }
-  where
-    go : (i : ℕ) → used ≤ i → Order i k → getD (front ++ drop k s) i 0 ≡ 0
-    go i h (lt l) = List·getD-append front (drop k s) 0 i (omega arith) ∙ f .zeros i h
-    go i h (ge l) =
-        at-behind front (drop k s) i (omega arith) ∙ (getD-drop k s (i - length front) 0 ∙ c .zeros (k + (i - length front)) (omega arith))
+clean-front {s} {front} {used} k e f c = record {
+  zeros = λ i h. by-cases (ltb i k) (λ q. List·getD-append front (drop k s) 0 i (omega (arith, ltb-true i k q)) ∙ f .zeros i h) (λ q. let l = ltb-false i k q in
+      at-behind front (drop k s) i (omega arith) ∙ (getD-drop k s (i - length front) 0 ∙ c .zeros (k + (i - length front)) (omega arith)));
+}
 
 -- zeros are written below the place from which there are zeros
 pub clean-all : {s z : List ℕ} {used : ℕ} → Clean used s → used ≤ length s → z ≡ take 0 (take used s) ++ replicate (length (take used s) - 0) 0

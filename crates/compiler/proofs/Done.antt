@@ -1,7 +1,7 @@
 -- Laws of what is done: faults, items, heights and labels, one after another.
 use Rattle.laws.proofs.Basics.{ℕ, suc, _+_, _-_, _*_, _/_, _%_, _^_, _<_, _≤_, min, _≡_, refl, sym, ap, _∙_, List, [], _∷_, _++_, append-nil, true}
-use Rattle.laws.proofs.Basics.{false, cond, length, getD, ltb, arith, eq-eqb, ne-eqb, lt-ltb, le-ltb}
-use Rattle.laws.proofs.Cases.{Order, lt, ge, order}
+use Rattle.laws.proofs.Basics.{false, cond, length, getD, ltb, arith, eq-eqb, ne-eqb, lt-ltb, le-ltb, ltb-true, ltb-false}
+use Rattle.laws.proofs.Cases.{by-cases}
 use Rattle.items.specs.Item as I
 use Rattle.compiler.proofs.Language.{Fault, fault, ofExpr, greatest}
 use Rattle.code.specs.Generate as G
@@ -38,6 +38,9 @@ pub fit-then : {a b : List Fault} → AllFit a → AllFit b → AllFit (a ++ b)
 fit-then noFit q = q
 fit-then (andFit p n r) q = andFit p n (fit-then r q)
 
+pub fault-fits : {place number : ℕ} → (place < 2 ^ 32) × (number < 32) → AllFit (fault place number)
+fault-fits f = andFit (f .0) (f .1) noFit
+
 pub fit-left : (a b : List Fault) → AllFit (a ++ b) → AllFit a
 fit-left [] b q = noFit
 fit-left (f ∷ a) b (andFit p n r) = andFit p n (fit-left a b r)
@@ -72,7 +75,7 @@ module _ {place number : ℕ} {st r : State} (fits : (place < 2 ^ 32) × (number
   faulted : r .worst ≡ least (st .worst) (fault place number) → Faulted place number st r
   faulted e = record {
     by = λ code t. record
-        { worst = e; fits = andFit (fits .0) (fits .1) noFit; few = omega arith; grows = omega arith; clean = λ n. absurd (fault-not n) };
+        { worst = e; fits = fault-fits fits; few = omega arith; grows = omega arith; clean = λ n. absurd (fault-not n) };
   }
 
   pub faulted-new : place * 32 + number < st .worst → r .worst ≡ place * 32 + number → Faulted place number st r
@@ -150,11 +153,7 @@ pub same-eq : {a b : List Fault} → a ≡ b → Same a b
 same-eq e = rw (← e) same-refl
 
 step-min : (k x : ℕ) → cond (ltb k x) k x ≡ min x k
-step-min k x = by (order k x)
-  where
-    by : Order k x → cond (ltb k x) k x ≡ min x k
-    by (lt h) = rw (lt-ltb k x h) (omega arith)
-    by (ge h) = rw (le-ltb k x h) (omega arith)
+step-min k x = by-cases (ltb k x) (λ e. let l = ltb-true k x e in rw e (omega arith)) (λ e. let l = ltb-false k x e in rw e (omega arith))
 
 least-min : (x k : ℕ) (a : List Fault) → least (min x k) a ≡ min (least x a) k
 unfolding least

@@ -1,6 +1,6 @@
 -- What `expr` asks can be had: the number 5 alone, with no names in scope. And what `table` and `doubled` ask: CASE 5 before an empty
 -- command, of which nothing is refused.
-use Rattle.laws.proofs.Basics.{ℕ, zero, suc, _+_, _^_, _<_, _≡_, refl, List, [], _∷_, false, length, getD, arith}
+use Rattle.laws.proofs.Basics.{ℕ, suc, _+_, _^_, _<_, _≡_, refl, List, [], _∷_, false, length, arith}
 use Rattle.laws.proofs.Cases.{contradiction}
 use Rattle.language.specs.Tree as T
 use Rattle.compiler.proofs.Language.{depth, outermost, judge, hasCase, labelsOf, doubled, encode, encodeCommands, encodeCommand, encodeLabels}
@@ -26,7 +26,7 @@ ready = record {
   lo = 2;
   tree = T.number 0 5;
   scope = outermost;
-  lies = record { at = by };
+  lies = record { at = λ i l. let e : 2 + i ≡ suc (suc i) = omega arith in rw e };
   ends = refl;
   above = omega arith;
   long = omega arith;
@@ -40,13 +40,6 @@ ready = record {
   shallow = omega arith;
   fine = omega arith;
 }
-  where
-    by : (i : ℕ) → i < 4 → getD scratch (2 + i) 0 ≡ getD (0 ∷ 5 ∷ 0 ∷ 60 ∷ []) i 0
-    by zero l = refl
-    by (suc zero) l = refl
-    by (suc (suc zero)) l = refl
-    by (suc (suc (suc zero))) l = refl
-    by (suc (suc (suc (suc i)))) l = absurd (omega arith)
 
 abbrev five : T.Constant
 five = record { place = 5; minus = false; simple = T.literal 5 }

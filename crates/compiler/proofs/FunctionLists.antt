@@ -1,19 +1,20 @@
 -- The functions of a group, one after another: what each adds to the faults, the code and the heights, and the loop.
-use Rattle.laws.proofs.Basics.{ℕ, suc, _+_, _*_, _^_, _<_, _≤_, _≡_, refl, sym, ap, subst, _∙_, List, [], _∷_, _++_, append-assoc, append-nil, Bool}
-use Rattle.laws.proofs.Basics.{true, false, cond, length, getD, length-append, ltb, arith, lt-ltb, le-ltb}
+use Rattle.laws.proofs.Basics.{ℕ, suc, _+_, _*_, _^_, _<_, _≤_, _≡_, refl, sym, ap, subst, _∙_, List, [], _∷_, _++_, append-assoc, append-nil, cond}
+use Rattle.laws.proofs.Basics.{length, getD, length-append, ltb, arith, lt-ltb, le-ltb}
+use Rattle.laws.proofs.Cases.{either}
 use Rattle.items.specs.Item as I
 use Rattle.compiler.proofs.Language.{Function, Scope, lookup, Fault, fault, Fun, Start, heightsOf, greatest, largestHeight, FineFunctions}
 use Rattle.compiler.proofs.Language.{functionsDepth, encodeName, encodeNames, encodeBody, bodyWord, encodeFunctions}
 use Rattle.language.specs.Program.{Named, startOf, withFunction, resolved, functionFaults, groupFaults, groupOf, heightFaults}
 use Rattle.language.specs.Whole.{funs}
 use Rattle.code.specs.Generate as G
-use Rattle.compiler.proofs.Vocabulary.{Did, Code, least, AllFit, noFit, andFit, Lies, State, Here}
+use Rattle.compiler.proofs.Vocabulary.{Did, Code, least, AllFit, noFit, Lies, State, Here}
 use Rattle.compiler.specs.Groups.{encodeFunction, functionDepth, FineF, FineFs, functionSays, functionsSays, innerLabels, ReadyF, GaveF}
 use Rattle.compiler.specs.Groups.{ReadyFs, GaveFs}
 use Rattle.compiler.specs.Programs.{Yields}
 use Rattle.compiler.specs.declared.program.Done.{Done}
 use Rattle.compiler.proofs.Scoping.{keeps-shows}
-use Rattle.compiler.proofs.Done.{least-then, fit-then, nil-left, nil-right, did-none, did-then, did-as, same-refl, code-is}
+use Rattle.compiler.proofs.Done.{least-then, fit-then, fault-fits, nil-left, nil-right, did-none, did-then, did-as, same-refl, code-is}
 use Rattle.compiler.proofs.Trees.{keeps-lies}
 use Rattle.compiler.proofs.Lists.{Rest, rest-all, taken-sizes, rest-next}
 use Rattle.compiler.proofs.GroupLaws.{IsFunction, is-function, no-function}
@@ -27,11 +28,7 @@ module _ (tall high place : ℕ) where
 
   pub tall-old : tall ≤ place * 32 + 16 → tall ≡ least tall (cond (ltb 8192 high) (fault place 16) [])
   unfolding least
-  tall-old l = by (ltb 8192 high)
-    where
-      by : (b : Bool) → tall ≡ least tall (cond b (fault place 16) [])
-      by true = rw (le-ltb (place * 32 + 16) tall l)
-      by false = refl
+  tall-old l = either (λ (fs : List Fault). tall ≡ least tall fs) (ltb 8192 high) (λ e. rw (le-ltb (place * 32 + 16) tall l)) (λ e. refl)
 
   pub tall-low : high ≤ 8192 → tall ≡ least tall (cond (ltb 8192 high) (fault place 16) [])
   unfolding least
@@ -136,18 +133,8 @@ yields-one text sc start strings l f {m} {tall} {tall′} {place} {t} {t′} {st
     record {
       did = did-as (functionsSays strings l (funs (g ∷ []))) m (did-flat low e x) same-refl (λ n c. code-is refl refl (omega arith)) (omega arith);
       tall = λ c. let q : a .high ≡ largestHeight (g .fun) = rw (x .clean c .high, low) in simp (et, ep, q, append-nil);
-      fits = fit-then (by (ltb 8192 (largestHeight (g .fun)))) noFit;
+      fits = fit-then (either AllFit (ltb 8192 (largestHeight (g .fun))) (λ _. fault-fits (omega arith)) (λ _. noFit)) noFit;
     }
-  where
-    low-place : f .name .place < 2 ^ 32
-    low-place = omega arith
-
-    low-number : 16 < 32
-    low-number = omega arith
-
-    by : (b : Bool) → AllFit (cond b (fault (f .name .place) 16) [])
-    by true = andFit low-place low-number noFit
-    by false = noFit
 
 -- ---- the size of a function
 

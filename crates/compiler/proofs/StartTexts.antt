@@ -1,7 +1,7 @@
 -- The text of the globals in which functions start: one function by its label, and all in turn.
 use Rattle.laws.proofs.Basics.{ℕ, suc, _+_, _<_, _≤_, _≡_, refl, sym, ap, _∙_, List, [], _∷_, _++_, append-assoc, append-nil, length, getD}
-use Rattle.laws.proofs.Basics.{length-append, List·getD-eq-default, arith}
-use Rattle.laws.proofs.Cases.{Order, lt, ge, order}
+use Rattle.laws.proofs.Basics.{length-append, List·getD-eq-default, ltb, arith, ltb-true, ltb-false}
+use Rattle.laws.proofs.Cases.{by-cases}
 use Rattle.items.specs.Item as I
 use Rattle.language.specs.Resolved.{Start, nowhere, inGlobal, Fun}
 use Rattle.code.specs.Generate.{startIn, startsCode}
@@ -20,11 +20,9 @@ pub passed-begin : {table : List ℕ} {label : ℕ} → Passed table label 0
 passed-begin = record { none = λ m h e. omega arith }
 
 pub passed-next : {table : List ℕ} {label n k : ℕ} → k ≡ getD table n 0 → (k ≡ label → ⊥) → Passed table label n → Passed table label (n + 1)
-passed-next {table} {label} {n} e f p = record { none = λ m h q. go m (order m n) h q }
-  where
-    go : (m : ℕ) → Order m n → m < n + 1 → getD table m 0 ≡ label → ⊥
-    go m (lt l) h q = p .none m l q
-    go m (ge l) h q = let z : m ≡ n = omega arith in f (cc)
+passed-next {n = n} e f p = record {
+  none = λ m h q. by-cases (ltb m n) (λ l. p .none m (ltb-true m n l) q) (λ l. let z : m ≡ n = omega (arith, ltb-false m n l) in f (cc));
+}
 
 pub passed-found : {table : List ℕ} {label n k : ℕ} → n < 400 → k ≡ getD table n 0 → k ≡ label → FindsGlobal table label n
 passed-found h e f = record { is = λ _. sym e ∙ f; none = λ l. absurd (omega arith) }
@@ -82,12 +80,12 @@ one-start : {table : List ℕ} {k : ℕ} {ss : List Start} (s : Start) → lengt
     → StartsAt table (suc k) s
 one-start {table} {k} s l q e = record {
   is = λ n h g. sym e ∙ q .is n k h g;
-  has = λ n g. let z : getD table n 0 ≡ suc k = q .has n k (e ∙ g) in (go n (order n 400) z, z);
+  has = λ n g. let z : getD table n 0 ≡ suc k = q .has n k (e ∙ g) in (
+    by-cases (ltb n 400) (ltb-true n 400)
+        (λ h. absurd (omega (arith, List·getD-eq-default table 0 {n = n} (omega (arith, ltb-false n 400 h))))),
+    z,
+  );
 }
-  where
-    go : (n : ℕ) → Order n 400 → getD table n 0 ≡ suc k → n < 400
-    go n (lt h) z = h
-    go n (ge h) z = absurd (omega (arith, List·getD-eq-default table 0 {n = n} (omega arith)))
 
 pub starts-next : {table : List ℕ} {functions k at x r : ℕ} {t t₁ t₂ : List ℕ} → k < functions → WritesStart table (k + 1) x r t₁ t₂
     → StartsSoFar table functions k at x t t₁ → StartsSoFar table functions (k + 1) at r t t₂

@@ -1,6 +1,6 @@
 -- The labels of a list after INTO: where they stand, which there are, and the words after X23.
 use Rattle.laws.proofs.Basics.{ℕ, suc, _+_, _-_, _^_, _<_, _≤_, _≡_, refl, sym, ap, subst, _∙_, List, [], _∷_, _++_, Bool, true, false, cond, length}
-use Rattle.laws.proofs.Basics.{getD, arith}
+use Rattle.laws.proofs.Basics.{getD, arith, eqb, eq-eqb, ne-eqb}
 use Rattle.laws.proofs.Cases.{contradiction}
 use Rattle.items.specs.Item as I
 use Rattle.language.specs.Tree as T
@@ -146,20 +146,15 @@ one-case-not {s} {end} ei ek q = record { few = omega arith; by = go }
 
 -- ---- DEFAULT among labels, and its command
 
-default-there : (text : List ℕ) (sc : Scope) (l : Label) (ls : List Label) → caseItems (l ∷ []) ≡ 0 → hasDefault (labelsOf text sc (l ∷ ls)) ≡ true
+default-first : (text : List ℕ) (sc : Scope) (l : Label) (ls : List Label)
+    → hasDefault (labelsOf text sc (l ∷ ls)) ≡ cond (eqb (caseItems (l ∷ [])) 0) true (hasDefault (labelsOf text sc ls))
 unfolding caseItems labelsOf hasDefault
-default-there text sc (T.case p c) ls e = absurd (omega arith)
-default-there text sc (T.default p) ls e = refl
-
-default-not : (text : List ℕ) (sc : Scope) (l : Label) (ls : List Label) → (caseItems (l ∷ []) ≡ 0 → ⊥)
-    → hasDefault (labelsOf text sc (l ∷ ls)) ≡ hasDefault (labelsOf text sc ls)
-unfolding caseItems labelsOf hasDefault
-default-not text sc (T.case p c) ls n = go (judge text sc c)
+default-first text sc (T.case p c) ls = go (judge text sc c)
   where
     go : (j : Judged) → hasDefault (goodCase j (labelsOf text sc ls)) ≡ hasDefault (labelsOf text sc ls)
     go (good v) = refl
     go (refused fs) = refl
-default-not text sc (T.default p) ls n = absurd (n refl)
+default-first text sc (T.default p) ls = refl
 
 module _ (s : List ℕ) (end : ℕ) where
   abbrev pub AmongPart : (at : ℕ) → List Label → Type 0
@@ -171,11 +166,11 @@ module _ (s : List ℕ) (end : ℕ) where
 
   module _ {at next k : ℕ} (l : at < end) (n : NextItem s at end next) (f : CountsLabel s next k) where
     pub among-next : (k ≡ 0 → ⊥) → (ls : List Label) → AmongPart at ls → AmongPart next ls
-    among-next z ls p = left-next l n p (λ x xs e q h text sc. h text sc ∙ default-not text sc x xs (λ w. z (f .by x q ∙ w)))
+    among-next z ls p = left-next l n p (λ x xs e q h text sc. h text sc ∙ default-first text sc x xs ∙ rw (ne-eqb (caseItems (x ∷ [])) 0 (λ w. z (f .by x q ∙ w))))
 
     pub among-found : k ≡ 0 → (ls : List Label) → AmongPart at ls → (text : List ℕ) (sc : Scope) → true ≡ hasDefault (labelsOf text sc ls)
     among-found z ls p text sc = left-next {Q′ = λ rest. true ≡ hasDefault (labelsOf text sc ls)} l n p
-        (λ x xs e q h. sym (h text sc ∙ default-there text sc x xs (sym (f .by x q) ∙ z))) .holds
+        (λ x xs e q h. sym (h text sc ∙ default-first text sc x xs ∙ rw (eq-eqb (caseItems (x ∷ [])) 0 (sym (f .by x q) ∙ z)))) .holds
 
   pub among-end : {at : ℕ} → end ≤ at → (ls : List Label) → AmongPart at ls → (text : List ℕ) (sc : Scope) → false ≡ hasDefault (labelsOf text sc ls)
   unfolding labelsOf hasDefault
@@ -336,13 +331,13 @@ found-good c n (N.known (N.global k)) e = fault-not e
 found-good c n (N.known (N.manifest v)) e = record { value = signed (c .minus) v; is = refl }
 found-good c n (N.known (N.function k)) e = fault-not e
 
-simple-good : (text : List ℕ) (sc : Scope) (c : Constant) (x : Simple) → faultsOf (ofSimple text sc c x) ≡ [] → IsGood (ofSimple text sc c x)
-simple-good text sc c (T.literal v) e = record { value = signed (c .minus) v; is = refl }
-simple-good text sc c (T.known n) e = found-good c n (lookup text sc n) e
-
 judged-good : (text : List ℕ) (sc : Scope) (c : Constant) → faultsOf (judge text sc c) ≡ [] → IsGood (judge text sc c)
 unfolding judge
-judged-good text sc c e = simple-good text sc c (c .simple) e
+judged-good text sc c = go (c .simple)
+  where
+    go : (x : Simple) → faultsOf (ofSimple text sc c x) ≡ [] → IsGood (ofSimple text sc c x)
+    go (T.literal v) e = record { value = signed (c .minus) v; is = refl }
+    go (T.known n) e = found-good c n (lookup text sc n) e
 
 case-good : (place : ℕ) (x : Judged) (seen : List CaseLabel) → doubledCase place x seen ≡ [] → faultsOf x ≡ []
 case-good place (good v) seen e = refl
