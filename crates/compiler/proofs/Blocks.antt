@@ -94,51 +94,26 @@ module _ (text t₀ : List ℕ) (w : Ways) {s₀ : List ℕ} {from end : ℕ} {h
 
 -- ---- what one declaration more says
 
-module _ (text : List ℕ) (sc : Scope) (h : ℕ) where
-  scope-with : (x : Local) (ls : T.Locals)
-      → scopeAfter text sc h (withLocal x ls) ≡ scopeAfter text (scopeWith text sc h x) (heightWith text sc h x) ls
-  unfolding scopeAfter scopeWith heightWith
-  scope-with (aVector n c) ls = refl
-  scope-with (someValues ns es) ls = refl
+with-local : (text : List ℕ) (sc : Scope) (here : Here) (x : Local) (ls : T.Locals)
+    → let h = here .height in let sc′ = scopeWith text sc h x in let h′ = heightWith text sc h x in
+    (scopeAfter text sc h (withLocal x ls) ≡ scopeAfter text sc′ h′ ls) × (heightAfter text sc h (withLocal x ls) ≡ heightAfter text sc′ h′ ls)
+    × (inLocals text sc (leavable here) h (withLocal x ls) ≡ faultsL text sc here x ++ inLocals text sc′ (leavable here) h′ ls)
+unfolding scopeAfter heightAfter inLocals faultsL scopeWith heightWith
+with-local text sc here (aVector n c) ls = (refl, refl, refl)
+with-local text sc here (someValues ns es) ls = (refl, refl, refl)
 
-  height-with : (x : Local) (ls : T.Locals)
-      → heightAfter text sc h (withLocal x ls) ≡ heightAfter text (scopeWith text sc h x) (heightWith text sc h x) ls
-  unfolding heightAfter scopeWith heightWith
-  height-with (aVector n c) ls = refl
-  height-with (someValues ns es) ls = refl
-
-faults-with : (text : List ℕ) (sc : Scope) (here : Here) (x : Local) (ls : T.Locals)
-    → inLocals text sc (leavable here) (here .height) (withLocal x ls) ≡ faultsL text sc here x ++ inLocals text (scopeWith text sc (here .height) x)
-    (leavable here) (heightWith text sc (here .height) x) ls
-unfolding inLocals faultsL scopeWith heightWith
-faults-with text sc here (aVector n c) ls = refl
-faults-with text sc here (someValues ns es) ls = refl
-
-module _ (strings : ℕ) where
-  values-code : (h n : ℕ) (es : R.Exprs) (ls : R.Locals)
-      → G.localsCode strings h n (valuesBefore es ls) ≡ G.exprsCode strings h n es ++ G.localsCode strings (h + H.count es) (n + G.exprsLabels es) ls
-  unfolding G.localsCode G.exprsCode H.count G.exprsLabels
-  values-code h n R.none ls = let a : h ≡ h + 0 = omega arith in let b : n ≡ n + 0 = omega arith in cc
-  values-code h n (R.and e es) ls =
-      let a : h + 1 + H.count es ≡ h + suc (H.count es) = omega arith in let b : n + G.exprLabels e + G.exprsLabels es ≡ n
-      + (G.exprLabels e + G.exprsLabels es) = omega arith in
-      simp (values-code (h + 1) (n + G.exprLabels e) es ls, a, b, append-assoc)
-
-values-heights : (h : ℕ) (es : R.Exprs) (ls : R.Locals) → ofLocals h (valuesBefore es ls) ≡ ofExprs h es ++ ofLocals (h + H.count es) ls
-unfolding ofLocals ofExprs H.count
-values-heights h R.none ls = let a : h ≡ h + 0 = omega arith in cc
-values-heights h (R.and e es) ls = let a : h + 1 + H.count es ≡ h + suc (H.count es) = omega arith in
-    simp (values-heights (h + 1) es ls, a, append-assoc)
-
-values-labels : (es : R.Exprs) (ls : R.Locals) → G.localsLabels (valuesBefore es ls) ≡ G.exprsLabels es + G.localsLabels ls
-unfolding G.localsLabels G.exprsLabels
-values-labels R.none ls = omega arith
-values-labels (R.and e es) ls = omega (arith, values-labels es ls)
-
-values-after : (h : ℕ) (es : R.Exprs) (ls : R.Locals) → H.heightWith h (valuesBefore es ls) ≡ H.heightWith (h + H.count es) ls
-unfolding H.heightWith H.count
-values-after h R.none ls = let a : h ≡ h + 0 = omega arith in cc
-values-after h (R.and e es) ls = let a : h + 1 + H.count es ≡ h + suc (H.count es) = omega arith in rw (values-after (h + 1) es ls, a)
+-- values in front of other locals: code, heights, labels, and the height after all
+values-before : (strings h n : ℕ) (es : R.Exprs) (ls : R.Locals) → let vs = valuesBefore es ls in let k = h + H.count es in
+    (G.localsCode strings h n vs ≡ G.exprsCode strings h n es ++ G.localsCode strings k (n + G.exprsLabels es) ls)
+    × (ofLocals h vs ≡ ofExprs h es ++ ofLocals k ls) × (G.localsLabels vs ≡ G.exprsLabels es + G.localsLabels ls)
+    × (H.heightWith h vs ≡ H.heightWith k ls)
+unfolding G.localsCode G.exprsCode H.count G.exprsLabels ofLocals ofExprs G.localsLabels H.heightWith
+values-before strings h n R.none ls =
+    let a : h ≡ h + 0 = omega arith in let b : n ≡ n + 0 = omega arith in (cc, cc, omega arith, cc)
+values-before strings h n (R.and e es) ls =
+    let i = values-before strings (h + 1) (n + G.exprLabels e) es ls in let a : h + 1 + H.count es ≡ h + suc (H.count es) = omega arith in
+    let b : n + G.exprLabels e + G.exprsLabels es ≡ n + (G.exprLabels e + G.exprsLabels es) = omega arith in
+    (simp (i .0, a, b, append-assoc), simp (i .1, a, append-assoc), omega (arith, i .2), rw (i .3, a))
 
 count-is : (text : List ℕ) (sc : Scope) (h : ℕ) (ns : List Name) (es : Expressions) → length ns ≡ T.count es
     → h + H.count (expressions text sc h es) ≡ h + length ns
@@ -160,8 +135,7 @@ code-with text sc here n (aVector m c) ls f =
     let a : n + 0 ≡ n = omega arith in code-is (rw a) refl (omega arith)
 code-with text sc here n (someValues ns es) ls f =
     let h = here .height in let rs = expressions text sc h es in let ls′ = locals text (declareAll sc h ns) (h + length ns) ls in
-    let k = count-is text sc h ns es (f .0) in
-    code-is (cc (values-code (here .strings) h n rs ls′)) (cc (values-heights h rs ls′)) (sym (values-labels rs ls′))
+    let k = count-is text sc h ns es (f .0) in let v = values-before (here .strings) h n rs ls′ in code-is (cc (v .0)) (cc (v .1)) (sym (v .2))
 
 -- ---- one of the list
 
@@ -261,15 +235,15 @@ module _ (text t₀ : List ℕ) {s₀ : List ℕ} {from end : ℕ} {here : Here}
           some = omega arith;
           shallow = locals-sizes y p .2;
           fine = locals-fine y p .1;
-          scopes = cc (scope-with text sc h (u .part) (u .more));
-          heights = cc (height-with text sc h (u .part) (u .more));
+          scopes = cc (with-local text sc now (u .part) (u .more) .0);
+          heights = cc (with-local text sc now (u .part) (u .more) .1);
           finish = λ t′ st′ d. p .finish t′ st′
               (subst (λ (ls : T.Locals). Did (inLocals text sc (leavable here) h ls) (localsSays here h (locals text sc h ls))
               (2 * length (encodeLocals (p .left .rest))) t t′ (r .done) st′) (sym (u .same))
               (did-as (localsSays here h (locals text sc h (withLocal (u .part) (u .more)))) _ (did-then (x .did)
               (subst (λ (n : ℕ). Did (inLocals text sc′ (leavable here) n (u .more)) (localsSays here n (locals text sc′ n (u .more)))
               (2 * length (encodeLocals (u .more))) t₁ t′ (r′ .done) st′) (k .height) d))
-              (same-eq (sym (faults-with text sc now (u .part) (u .more)))) (λ m e. code-with text sc now m (u .part) (u .more) (locals-fine y p .0))
+              (same-eq (sym (with-local text sc now (u .part) (u .more) .2))) (λ m e. code-with text sc now m (u .part) (u .more) (locals-fine y p .0))
               (omega (arith, locals-sizes y p))));
         }
 
@@ -311,7 +285,7 @@ heights-agree text sc h T.noLocals f = refl
 heights-agree text sc h (T.vector n c ls) f = heights-agree text (declared sc n (N.local h)) (h + 2 + judgedWord (forVector text sc c)) ls (f .1)
 heights-agree text sc h (T.values ns es ls) f = let ls′ = locals text (declareAll sc h ns) (h + length ns) ls in
     rw (
-      values-after h (expressions text sc h es) ls′,
+      values-before 0 h 0 (expressions text sc h es) ls′ .3,
       count-is text sc h ns es (sym (f .2)),
       heights-agree text (declareAll sc h ns) (h + length ns) ls (f .1),
     )

@@ -5,7 +5,7 @@ use Rattle.laws.proofs.Cases.{contradiction}
 use Rattle.language.specs.Tree as T
 use Rattle.compiler.proofs.Language.{depth, outermost, judge, hasCase, labelsOf, doubled, encode, encodeCommands, encodeCommand, encodeLabels}
 use Rattle.compiler.proofs.Language.{encodeConstant, encodePositive, encodeUnlabelled, encodeRepeats, labelled, Fine, FineCommands}
-use Rattle.compiler.proofs.Language.{FineCommand, FineLabels, FineUnlabelled, FineRepeats}
+use Rattle.compiler.proofs.Language.{FineConstant, FineCommand, FineLabels, FineUnlabelled, FineRepeats}
 use Rattle.tree.specs.Encoding.{repeated}
 use Rattle.compiler.proofs.Vocabulary.{nothing, State, Here, ReadyE}
 use Rattle.compiler.specs.Switching.{labelFaults, ReadyLabels}
@@ -47,6 +47,9 @@ five = record { place = 5; minus = false; simple = T.literal 5 }
 abbrev list : T.Commands
 list = T.andCommand (T.command (T.case 0 five ∷ []) T.empty T.noRepeats) T.noCommands
 
+five-fine : FineConstant five
+five-fine = record { small = λ v e. let z : 5 ≡ v = cc in omega arith; place = λ n e q. contradiction cc }
+
 list-long : length (encodeCommands list) < 2 ^ 32
 unfolding encodeCommands encodeCommand encodeLabels encodeConstant encodePositive encodeUnlabelled encodeRepeats labelled repeated
 list-long = omega arith
@@ -62,22 +65,8 @@ ready-labels = record {
   above = omega arith;
   small = list-long;
   shows = nothing refl;
-  fine = (
-    (
-      (
-        record { small = λ v e. let z : 5 ≡ v = literal-is e in omega arith; place = λ n e q. contradiction cc },
-        tt,
-      ),
-      tt,
-      tt,
-      record { labels = λ e. omega arith; alone = λ e. refl },
-    ),
-    tt,
-  );
+  fine = (((five-fine, tt), tt, tt, record { labels = λ e. omega arith; alone = λ e. refl }), tt);
 }
-  where
-    literal-is : {v : ℕ} → T.literal 5 ≡ T.literal v → 5 ≡ v
-    literal-is e = cc
 
 pub nothing-refused : labelFaults [] outermost [] list ≡ []
 unfolding labelFaults doubled judge labelsOf hasCase

@@ -64,27 +64,17 @@ meaning-word false text sc c sh f = judged-word text sc c sh f
 abbrev scopeWith : Bool → List ℕ → Scope → Item → Scope
 scopeWith g text sc i = declared sc (i .name) (meaning g (judgedWord (judged g text sc (i .constant))))
 
-after-step : (g : Bool) (text : List ℕ) (sc : Scope) (i : Item) (is : List Item) → after g text sc (i ∷ is) ≡ after g text (scopeWith g text sc i) is
-unfolding after globalsAfter manifestsAfter meaning judged
-after-step true text sc i is = refl
-after-step false text sc i is = refl
+one-more : (g : Bool) (text : List ℕ) (sc : Scope) (i : Item) (is : List Item) → let sc′ = scopeWith g text sc i in
+    (after g text sc (i ∷ is) ≡ after g text sc′ is) × (faults g text sc (i ∷ is)
+    ≡ faultsOf (judged g text sc (i .constant)) ++ (onFound (inBlock text sc (i .name)) [] (fault (i .name .place) 9) ++ faults g text sc′ is))
+unfolding after globalsAfter manifestsAfter faults globalFaults manifestFaults meaning judged
+one-more true text sc i is = (refl, simp append-assoc)
+one-more false text sc i is = (refl, simp append-assoc)
 
-after-none : (g : Bool) (text : List ℕ) (sc : Scope) → after g text sc [] ≡ sc
-unfolding after globalsAfter manifestsAfter
-after-none true text sc = refl
-after-none false text sc = refl
-
-faults-step : (g : Bool) (text : List ℕ) (sc : Scope) (i : Item) (is : List Item) → faults g text sc (i ∷ is)
-    ≡ faultsOf (judged g text sc (i .constant))
-    ++ (onFound (inBlock text sc (i .name)) [] (fault (i .name .place) 9) ++ faults g text (scopeWith g text sc i) is)
-unfolding faults globalFaults manifestFaults meaning judged
-faults-step true text sc i is = simp append-assoc
-faults-step false text sc i is = simp append-assoc
-
-faults-none : (g : Bool) (text : List ℕ) (sc : Scope) → faults g text sc [] ≡ []
-unfolding faults globalFaults manifestFaults
-faults-none true text sc = refl
-faults-none false text sc = refl
+no-more : (g : Bool) (text : List ℕ) (sc : Scope) → (after g text sc [] ≡ sc) × (faults g text sc [] ≡ [])
+unfolding after globalsAfter manifestsAfter faults globalFaults manifestFaults
+no-more true text sc = (refl, refl)
+no-more false text sc = (refl, refl)
 
 -- ---- the loop
 
@@ -168,8 +158,8 @@ module _ (g : Bool) (text : List ℕ) {s₀ : List ℕ} {from end top : ℕ} (st
             (meaning-word g text sc (i .constant) (p .shows) (item-fine k l y p .0 .constant))));
         many = omega (arith, ap length (u .same));
         fine = item-fine k l y p .1;
-        same = p .same ∙ ap (after g text sc) (u .same) ∙ after-step g text sc i (u .more);
-        finish = λ t st′ d. p .finish t st′ (rw (ap (faults g text sc) (u .same) ∙ faults-step g text sc i (u .more))
+        same = p .same ∙ ap (after g text sc) (u .same) ∙ one-more g text sc i (u .more) .0;
+        finish = λ t st′ d. p .finish t st′ (rw (ap (faults g text sc) (u .same) ∙ one-more g text sc i (u .more) .1)
             (did-as nothing 0 (did-then (bl .by j told-k t) (did-then (rw ep′ at (ag .by (inBlock text sc (i .name)) (rw (told .by sc (p .shows), n))
             t)) d)) same-refl (λ v e. refl) (omega arith)));
       }
@@ -179,9 +169,9 @@ module _ (g : Bool) (text : List ℕ) {s₀ : List ℕ} {from end top : ℕ} (st
   items-end k {st} l q = record {
     by = λ y. let p = q y in let e = no-item (p .left .rest) (p .left .ends) l in let c : k ≡ length (y .items) = omega (arith, ap length e) in record {
       moved = omega arith;
-      shows = rw (p .same ∙ ap (after g text (p .scope)) e ∙ after-none g text (p .scope)) (p .shows);
+      shows = rw (p .same ∙ ap (after g text (p .scope)) e ∙ no-more g text (p .scope) .0) (p .shows);
       keeps = p .left .keeps;
-      did = λ t. p .finish t st (rw (ap (faults g text (p .scope)) e ∙ faults-none g text (p .scope)) (did-none 0));
+      did = λ t. p .finish t st (rw (ap (faults g text (p .scope)) e ∙ no-more g text (p .scope) .1) (did-none 0));
     };
   }
 

@@ -4,7 +4,7 @@ use Rattle.tree.specs.Encoding.{closed}
 use Rattle.language.specs.Names.{Scope}
 use Rattle.compiler.proofs.Vocabulary.{Shows, Keeps, State, Here, Lies, Ready}
 use Rattle.compiler.proofs.Scoping.{keeps-shows}
-use Rattle.compiler.proofs.Trees.{first, second, keeps-lies, kid, ends, value-is, size-is, IsTwo}
+use Rattle.compiler.proofs.Trees.{first, second, keeps-lies, kid, ends, value-is, size-is, IsTwo, is-two}
 
 -- two parts, one after the other, in one record
 pub record TwoAt (s : List ℕ) (lo end : ℕ) (x y : List ℕ) : Type 0 where
@@ -27,16 +27,8 @@ two-at {lo = lo} x y p k h e = let w = x ++ y in let v = length x in record {
 pub two-closed : {A L T : Type 0} (one : A → List ℕ) (enc : L → List ℕ) (Is : A → L → T) {s : List ℕ} {lo end : ℕ} (x : A) (xs : L) (p k : ℕ)
     → Lies s lo (closed (one x ++ enc xs) (length (one x)) p k) → end ≡ lo + length (closed (one x ++ enc xs) (length (one x)) p k)
     → IsTwo one enc Is s lo end (Is x xs)
-two-closed one enc Is x xs p k h e = let u = two-at (one x) (enc xs) p k h e in record {
-  left = x;
-  list = xs;
-  same = refl;
-  lies = u .lies;
-  lies-list = u .lies-list;
-  value-of = u .value-of;
-  size-of = u .size-of;
-  ends = u .ends;
-}
+two-closed one enc Is x xs p k h e = let w = one x ++ enc xs in let v = length (one x) in
+    is-two one enc Is x xs (kid w v p k h e) (size-is w v p k h e) (value-is w v p k h e) (ends w v p k h e)
 
 -- a part lies inside, and there are heights, labels and levels for it
 pub record Fits {B : Type 0} (enc : B → List ℕ) (deep : B → ℕ) (lo end : ℕ) (here : Here) (lo′ end′ : ℕ) (here′ : Here) (st′ : State) (part : B)

@@ -12,18 +12,18 @@ use Rattle.language.specs.Names as N
 use Rattle.code.specs.Generate as G
 use Rattle.writing.specs.Text.{lines}
 use Rattle.writing.proofs.Laws.{puts-none}
-use Rattle.compiler.proofs.Vocabulary.{Shows, State, Node, FineC, FineCs, NodeAt, Emits, Lies}
+use Rattle.compiler.proofs.Vocabulary.{State, Node, FineC, FineCs, NodeAt, Emits, Lies}
 use Rattle.compiler.specs.declared.steps.Verdict.{Verdict}
 use Rattle.compiler.specs.declared.labels.Span.{Span}
 use Rattle.compiler.specs.Locals.{Says, fit, unfit, Judges}
 use Rattle.compiler.specs.Switching.{labelFaults, ReadyLabels, WritesTable}
 use Rattle.compiler.specs.Labels as L
-use Rattle.compiler.specs.Labels.{Row, noMore, andMore, NextItem, LabelAt, aCase, aDefault, CommandAt, Spans, Listed, marks, flat, caseItems}
-use Rattle.compiler.specs.Labels.{CountsLabel, CountsAll, HasDefault, defaultAmong, FindsDefault, Sound, noLabel, anyDefault, tableAmong, Still}
-use Rattle.compiler.specs.Labels.{WritesPair, WritesPairs, WritesAll}
+use Rattle.compiler.specs.Labels.{Row, noMore, andMore, NextItem, LabelAt, CommandAt, Spans, Listed, marks, flat, caseItems, CountsLabel}
+use Rattle.compiler.specs.Labels.{CountsAll, HasDefault, defaultAmong, FindsDefault, Sound, noLabel, anyDefault, tableAmong, Still, WritesPair}
+use Rattle.compiler.specs.Labels.{WritesPairs, WritesAll}
 use Rattle.compiler.proofs.Done.{emits-then, nil-left, nil-right}
 use Rattle.compiler.proofs.Labelled.{is-labelled, is-bare}
-use Rattle.compiler.proofs.Rows.{Left, left-all, left-next, left-end, an-item, labels-row}
+use Rattle.compiler.proofs.Rows.{at-case, at-default, Left, left-all, left-next, left-end, an-item, labels-row}
 
 -- ---- the labels of a command
 
@@ -127,22 +127,11 @@ module _ {A : Type 0} (K : Holding A) where
 
 pub one-case-is : {s : List ℕ} {end i k : ℕ} → i ≡ end - 1 → k ≡ getD s i 0 → k ≡ 28 → CountsLabel s end 1
 unfolding caseItems
-one-case-is {s} {end} ei ek q = record { few = omega arith; by = go }
-  where
-    z : getD s (end - 1) 0 ≡ 28
-    z = cc
-
-    go : (l : Label) → LabelAt s end l → 1 ≡ caseItems (l ∷ [])
-    go (T.case p c) (aCase a e h en f) = refl
-    go (T.default p) (aDefault a e) = absurd (omega (arith, z, a))
+one-case-is ei ek q = record { few = omega arith; by = at-case _ (cc) (λ p lo c e h en f. refl) }
 
 pub one-case-not : {s : List ℕ} {end i k : ℕ} → i ≡ end - 1 → k ≡ getD s i 0 → (k ≡ 28 → ⊥) → CountsLabel s end 0
 unfolding caseItems
-one-case-not {s} {end} ei ek q = record { few = omega arith; by = go }
-  where
-    go : (l : Label) → LabelAt s end l → 0 ≡ caseItems (l ∷ [])
-    go (T.case p c) (aCase a e h en f) = absurd (q (rw (ek, ei, a)))
-    go (T.default p) (aDefault a e) = refl
+one-case-not ei ek q = record { few = omega arith; by = at-default _ (λ z. q (rw (ek, ei, z))) (λ p e. refl) }
 
 -- ---- DEFAULT among labels, and its command
 
@@ -242,6 +231,13 @@ sound-right [] ms s = s
 sound-right (T.case p c ∷ ls) ms (L.goodCase v e s) = sound-right ls ms s
 sound-right (T.default p ∷ ls) ms (anyDefault s) = sound-right ls ms s
 
+pub record IsGood (j : Judged) : Type 0 where
+  pub value : ℕ
+  pub is : j ≡ good value
+
+first-good : {text : List ℕ} {sc : Scope} {p : ℕ} {c : Constant} {ls : List Label} → Sound text sc (T.case p c ∷ ls) → IsGood (judge text sc c)
+first-good (L.goodCase v w so) = record { value = v; is = w }
+
 says-is : {j : Verdict} {x : Judged} {v : ℕ} → Says j x → x ≡ good v → x ≡ good (j .word)
 says-is (fit q) e = refl
 says-is (unfit a b w) e = contradiction cc
@@ -249,23 +245,20 @@ says-is (unfit a b w) e = contradiction cc
 module _ (text : List ℕ) {s : List ℕ} {end top : ℕ} (n : Node) (nd : NodeAt s end n) where
   pub pair-not : {k : ℕ} {t : List ℕ} {st : State} → (n .kind ≡ 28 → ⊥) → WritesPair text s end top k t t st st
   unfolding labelsOf G.pairsOf
-  pair-not {k} {t} {st} q = record { still = still-here; by = go }
-    where
-      go : (sc : Scope) (x : Label) → Shows s top sc → LabelAt s end x → Sound text sc (x ∷ [])
-          → Emits (G.pairsOf k (labelsOf text sc (x ∷ []))) [] t t st st
-      go sc (T.case p c) sh (aCase a e h en f) so = absurd (q (nd .kind ∙ a))
-      go sc (T.default p) sh (aDefault a e) so = emits-none
+  pair-not {k} {t} {st} q = record {
+    still = still-here;
+    by = λ sc l sh a so. at-default (λ x. Emits (G.pairsOf k (labelsOf text sc (x ∷ []))) [] t t st st) (λ z. q (nd .kind ∙ z)) (λ p e. emits-none) l a;
+  }
 
   pub pair-is : {k : ℕ} {t t₁ t₂ : List ℕ} {st a r : State} {j : Verdict} → n .kind ≡ 28 → Judges text s (n .inner) top j
       → Emits (G.D (j .word) ∷ []) [] t t₁ st a → Emits (G.DL k ∷ []) [] t₁ t₂ a r → WritesPair text s end top k t t₂ st r
   unfolding labelsOf G.pairsOf
-  pair-is {k} {t} {t₁} {t₂} {st} {a} {r} q g d e = record { still = still-then (emits-still d) (emits-still e); by = go }
-    where
-      go : (sc : Scope) (x : Label) → Shows s top sc → LabelAt s end x → Sound text sc (x ∷ [])
-          → Emits (G.pairsOf k (labelsOf text sc (x ∷ []))) [] t t₂ st r
-      go sc (T.case p c) sh (aCase {lo = lo} a en h z f) (L.goodCase v w so) =
-          emits-as (emits-then d e) (sym (rw (says-is (g .by sc lo c sh f h (nd .inner ∙ z)) w)))
-      go sc (T.default p) sh (aDefault a en) so = absurd (omega arith)
+  pair-is {k} {t} {t₂ = t₂} {st} {r = r} q g d e = record {
+    still = still-then (emits-still d) (emits-still e);
+    by = λ sc l sh a so. at-case (λ x. Sound text sc (x ∷ []) → Emits (G.pairsOf k (labelsOf text sc (x ∷ []))) [] t t₂ st r) (sym (nd .kind) ∙ q)
+        (λ p lo c z h en f so. let w = first-good so in emits-as (emits-then d e) (sym (rw (says-is (g .by sc lo c sh f h (nd .inner ∙ en)) (w .is)))))
+        l a so;
+  }
 
 module _ (text : List ℕ) {s : List ℕ} {from end top : ℕ} (k : ℕ) (t₀ : List ℕ) (st₀ : State) where
   abbrev pub PairsPart : (y : Listed (LabelAt s) s from end top) (t : List ℕ) (at : ℕ) (st : State) → Type 0
@@ -316,10 +309,6 @@ module _ (text : List ℕ) {s : List ℕ} {from end top : ℕ} (first : ℕ) (t�
   table-end k {t} {st} l f p = record { still = f; by = λ y so. left-end l (p y so) .1 t st emits-none }
 
 -- ---- what the code's own definitions say of such labels
-
-pub record IsGood (j : Judged) : Type 0 where
-  pub value : ℕ
-  pub is : j ≡ good value
 
 fault-not : {A : Type 0} {place number : ℕ} → fault place number ≡ [] → A
 fault-not {place = place} {number} e = let z : length (fault place number) ≡ 0 = ap length e in absurd (omega arith)
