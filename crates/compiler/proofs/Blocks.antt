@@ -108,8 +108,7 @@ values-before : (strings h n : ℕ) (es : R.Exprs) (ls : R.Locals) → let vs = 
     × (ofLocals h vs ≡ ofExprs h es ++ ofLocals k ls) × (G.localsLabels vs ≡ G.exprsLabels es + G.localsLabels ls)
     × (H.heightWith h vs ≡ H.heightWith k ls)
 unfolding G.localsCode G.exprsCode H.count G.exprsLabels ofLocals ofExprs G.localsLabels H.heightWith
-values-before strings h n R.none ls =
-    let a : h ≡ h + 0 = omega arith in let b : n ≡ n + 0 = omega arith in (cc, cc, omega arith, cc)
+values-before strings h n R.none ls = let a : h ≡ h + 0 = omega arith in let b : n ≡ n + 0 = omega arith in (cc, cc, omega arith, cc)
 values-before strings h n (R.and e es) ls =
     let i = values-before strings (h + 1) (n + G.exprLabels e) es ls in let a : h + 1 + H.count es ≡ h + suc (H.count es) = omega arith in
     let b : n + G.exprLabels e + G.exprsLabels es ≡ n + (G.exprLabels e + G.exprsLabels es) = omega arith in

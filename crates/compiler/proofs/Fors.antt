@@ -117,30 +117,26 @@ module _ {s : List ℕ} {end : ℕ} {here : Here} {st : State} (n b l : Node) {l
   pub for-start : (y : ReadyU s end here st) → n .start ≡ y .lo
   for-start y = nd .start ∙ sym (closed-start {end = end} (unlabelled-closed (y .tree) (y .fine)) (y .lies) (y .ends) .0)
 
-  pub for-body-start : (y : ReadyU s end here st)
-      → let u = for-is y in b .start ≡ y .lo + 4 + length (encode (u .start)) + length (encode (u .limit)) + length (encodeBy (u .by))
-  for-body-start y = let u = for-is y in
-      bd .start ∙ sym (closed-start {end = n .inner} (command-closed (u .body) (for-fine y .3)) (u .lies-body) (omega (arith, nd .inner, u .ends)) .0)
-
-  pub for-limit-end : (y : ReadyU s end here st) → let u = for-is y in le ≡ y .lo + 4 + length (encode (u .start)) + length (encode (u .limit))
-  for-limit-end y = let u = for-is y in omega (arith, el, for-body-start y, nd .value, u .value-of)
-
-  pub for-limit-start : (y : ReadyU s end here st) → l .start ≡ y .lo + 4 + length (encode (for-is y .start))
-  for-limit-start y = let u = for-is y in
-      ld .start ∙ sym (closed-start {end = le} (expression-closed (u .limit)) (u .lies-limit) (for-limit-end y) .0)
+  pub for-places : (y : ReadyU s end here st) → let u = for-is y in let first = y .lo + 4 + length (encode (u .start)) in
+      (b .start ≡ first + length (encode (u .limit)) + length (encodeBy (u .by))) × (le ≡ first + length (encode (u .limit))) × (l .start ≡ first)
+  for-places y = let u = for-is y in
+      let c : b .start ≡ y .lo + 4 + length (encode (u .start)) + length (encode (u .limit)) + length (encodeBy (u .by)) = bd .start
+      ∙ sym (closed-start {end = n .inner} (command-closed (u .body) (for-fine y .3)) (u .lies-body) (omega (arith, nd .inner, u .ends)) .0) in
+      let e : le ≡ y .lo + 4 + length (encode (u .start)) + length (encode (u .limit)) = omega (arith, el, c, nd .value, u .value-of) in
+      (c, e, ld .start ∙ sym (closed-start {end = le} (expression-closed (u .limit)) (u .lies-limit) e .0))
 
   -- room for its mark and its name
   pub for-room : (y : ReadyU s end here st) → here .top + 4 ≤ y .base
   for-room y = let u = for-is y in omega arith
 
   abbrev pub for-first : {a : State} → Fresh 3 st a → ReadyU s end here st → ReadyE s (l .start) here a
-  for-first e y = let u = for-is y in sub y keeps-all (u .lies-start) refl (omega (arith, for-limit-start y, for-deep y .0)) (for-fine y .0)
+  for-first e y = let u = for-is y in sub y keeps-all (u .lies-start) refl (omega (arith, for-places y .2, for-deep y .0)) (for-fine y .0)
 
   module _ (text : List ℕ) {s₁ t t₁ t₂ : List ℕ} {a c d : State} (e : Fresh 3 st a) (g : GaveE text s s₁ (l .start) here t t₁ a c)
       (f : Emits (G.SP (here .height) ∷ []) ((here .height + 1) ∷ []) t₁ t₂ c d) where
     abbrev pub for-limit : ReadyU s end here st → ReadyE s₁ le (raised 1 here) d
     for-limit y = let u = for-is y in let x = g .by (for-first e y) in
-        sub y (x .keeps) (u .lies-limit) refl (omega (arith, for-limit-end y, for-deep y .1)) (for-fine y .1)
+        sub y (x .keeps) (u .lies-limit) refl (omega (arith, for-places y .1, for-deep y .1)) (for-fine y .1)
 
     module _ {s₂ t₃ t₄ : List ℕ} {i j : State} (g₂ : GaveE text s₁ s₂ le (raised 1 here) t₂ t₃ d i)
         (f₂ : Emits (G.SP (here .height + 1) ∷ []) ((here .height + 1 + 1) ∷ []) t₃ t₄ i j)
@@ -160,8 +156,8 @@ module _ {s : List ℕ} {end : ℕ} {here : Here} {st : State} (n b l : Node) {l
       pub for-says : (y : ReadyU s end here st) → Says v (byJudged text (y .scope) (for-is y .by))
       for-says y = let u = for-is y in
           jb .by (y .scope) (u .by) (keeps-shows (for-keeps y) (omega arith) (y .shows)) (for-fine y .2)
-          (keeps-lies (for-keeps y) (omega (arith, for-limit-end y)) (rw (← (for-limit-end y)) at (u .lies-by)))
-          (omega (arith, for-body-start y, for-limit-end y))
+          (keeps-lies (for-keeps y) (omega (arith, for-places y .1)) (rw (← (for-places y .1)) at (u .lies-by)))
+          (omega (arith, for-places y .0, for-places y .1))
 
       pub for-labels : (y : ReadyU s end here st)
           → (m .label ≤ st .label + 3 + 2 * length (encode (for-is y .start)) + 2 * length (encode (for-is y .limit))) × (st .label ≤ m .label)

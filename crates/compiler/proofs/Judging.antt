@@ -28,6 +28,15 @@ signed-under : (b : Bool) (v k : ℕ) → v < k → 65536 ≤ k → signed b v <
 signed-under true v k l h = omega arith
 signed-under false v k l h = l
 
+-- no name, a manifest, or another name
+pub of-found : (P : Judged → Type 0) (c : Constant) (n : Name) (f : N.Found) → (f ≡ N.unknown → P (refused (fault (n .place) 8)))
+    → ((v : ℕ) → f ≡ N.known (N.manifest v) → P (good (signed (c .minus) v))) → P (refused (fault (c .place) 11)) → P (ofFound c n f)
+of-found P c n N.unknown a b d = a refl
+of-found P c n (N.known (N.local k)) a b d = d
+of-found P c n (N.known (N.global k)) a b d = d
+of-found P c n (N.known (N.manifest v)) a b d = b v refl
+of-found P c n (N.known (N.function k)) a b d = d
+
 module _ {m : ℕ} (minus : Bool) {name place : ℕ} (fits : (name < 2 ^ 32) × (place < 2 ^ 32) × (m < 2 ^ 32)) where
   pub named-unknown : m ≡ 0 → NamedConstant m minus name place (record { word = 0; number = 8; place = name })
   named-unknown e = record {
@@ -45,25 +54,16 @@ module _ {m : ℕ} (minus : Bool) {name place : ℕ} (fits : (name < 2 ^ 32) × 
 
   pub named-other : (m ≡ 0 → ⊥) → (m % 4 ≡ 3 → ⊥) → NamedConstant m minus name place (record { word = 0; number = 11; place = place })
   unfolding found code
-  named-other n0 n3 = record { by = by; fits = (fits .1, omega arith); low = omega arith }
-    where
-      eleven : (c : Constant) → c .place ≡ place → Says (record { word = 0; number = 11; place = place }) (refused (fault (c .place) 11))
-      eleven c ep = rw ep (unfit refl (λ z. omega arith) refl)
-
-      by : (c : Constant) (n : Name) (f : N.Found) → m ≡ found f → c .minus ≡ minus → c .place ≡ place → n .place ≡ name
-          → Says (record { word = 0; number = 11; place = place }) (ofFound c n f)
-      by c n N.unknown q em ep en = absurd (n0 q)
-      by c n (N.known (N.local k)) q em ep en = eleven c ep
-      by c n (N.known (N.global k)) q em ep en = eleven c ep
-      by c n (N.known (N.manifest v)) q em ep en = absurd (n3 (omega arith))
-      by c n (N.known (N.function k)) q em ep en = eleven c ep
+  named-other n0 n3 = record {
+    by = λ c n f q em ep en. of-found (Says (record { word = 0; number = 11; place = place })) c n f (λ z. absurd (n0 (q ∙ ap found z)))
+        (λ v z. let w = q ∙ ap found z in absurd (n3 (omega arith))) (rw ep (unfit refl (λ z. omega arith) refl));
+    fits = (fits .1, omega arith);
+    low = omega arith;
+  }
 
 found-word : (c : Constant) (n : Name) (f : N.Found) → Held f → judgedWord (ofFound c n f) < 65536
-found-word c n N.unknown u = omega arith
-found-word c n (N.known (N.local k)) u = omega arith
-found-word c n (N.known (N.global k)) u = omega arith
-found-word c n (N.known (N.manifest v)) u = signed-under (c .minus) v 65536 u (omega arith)
-found-word c n (N.known (N.function k)) u = omega arith
+found-word c n f u = of-found (λ x. judgedWord x < 65536) c n f (λ e. omega arith) (λ v e. signed-under (c .minus) v 65536 (rw e at u) (omega arith))
+    (omega arith)
 
 -- a constant is a word
 pub judged-word : (text : List ℕ) (sc : Scope) (c : Constant) {s : List ℕ} {top : ℕ} → Shows s top sc → FineConstant c

@@ -23,6 +23,7 @@ use Rattle.compiler.specs.Labels.{CountsAll, HasDefault, defaultAmong, F
 use Rattle.compiler.specs.Labels.{WritesPairs, WritesAll}
 use Rattle.compiler.proofs.Done.{emits-then, nil-left, nil-right}
 use Rattle.compiler.proofs.Labelled.{is-labelled, is-bare}
+use Rattle.compiler.proofs.Judging.{of-found}
 use Rattle.compiler.proofs.Rows.{at-case, at-default, Left, left-all, left-next, left-end, an-item, labels-row}
 
 -- ---- the labels of a command
@@ -314,11 +315,8 @@ fault-not : {A : Type 0} {place number : ℕ} → fault place number ≡ [] → 
 fault-not {place = place} {number} e = let z : length (fault place number) ≡ 0 = ap length e in absurd (omega arith)
 
 found-good : (c : Constant) (n : Name) (f : N.Found) → faultsOf (ofFound c n f) ≡ [] → IsGood (ofFound c n f)
-found-good c n N.unknown e = fault-not e
-found-good c n (N.known (N.local k)) e = fault-not e
-found-good c n (N.known (N.global k)) e = fault-not e
-found-good c n (N.known (N.manifest v)) e = record { value = signed (c .minus) v; is = refl }
-found-good c n (N.known (N.function k)) e = fault-not e
+found-good c n f = of-found (λ x. faultsOf x ≡ [] → IsGood x) c n f (λ z e. fault-not e) (λ v z e. record { value = signed (c .minus) v; is = refl })
+    (λ e. fault-not e)
 
 judged-good : (text : List ℕ) (sc : Scope) (c : Constant) → faultsOf (judge text sc c) ≡ [] → IsGood (judge text sc c)
 unfolding judge
