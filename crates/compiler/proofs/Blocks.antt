@@ -11,7 +11,7 @@ use Rattle.language.specs.Resolved as R
 use Rattle.language.specs.Heights as H
 use Rattle.code.specs.Generate as G
 use Rattle.compiler.proofs.Vocabulary.{Shows, Keeps, Pushed, State, Here, Ways, Node, FineC, FineCs, FineLs, FinePlain, marked, placed}
-use Rattle.compiler.proofs.Vocabulary.{leavable, leavableBy, exits, NodeAt, Code, Did, Lies}
+use Rattle.compiler.proofs.Vocabulary.{leavable, leavableBy, NodeAt, Code, Did, Lies}
 use Rattle.compiler.proofs.Scoping.{keeps-then, keeps-lower, pushed-keeps, pushed-mark}
 use Rattle.compiler.specs.declared.steps.Placed.{Placed}
 use Rattle.compiler.specs.Commands.{cmdSays, cmdsSays, ReadyC, GaveC, ReadyU, GaveU, ReadyList, GaveList}
@@ -236,14 +236,10 @@ module _ (text t₀ : List ℕ) {s₀ : List ℕ} {from end : ℕ} {here : Here}
           fine = locals-fine y p .1;
           scopes = cc (with-local text sc now (u .part) (u .more) .0);
           heights = cc (with-local text sc now (u .part) (u .more) .1);
-          finish = λ t′ st′ d. p .finish t′ st′
-              (subst (λ (ls : T.Locals). Did (inLocals text sc (leavable here) h ls) (localsSays here h (locals text sc h ls))
-              (2 * length (encodeLocals (p .left .rest))) t t′ (r .done) st′) (sym (u .same))
-              (did-as (localsSays here h (locals text sc h (withLocal (u .part) (u .more)))) _ (did-then (x .did)
-              (subst (λ (n : ℕ). Did (inLocals text sc′ (leavable here) n (u .more)) (localsSays here n (locals text sc′ n (u .more)))
-              (2 * length (encodeLocals (u .more))) t₁ t′ (r′ .done) st′) (k .height) d))
-              (same-eq (sym (with-local text sc now (u .part) (u .more) .2))) (λ m e. code-with text sc now m (u .part) (u .more) (locals-fine y p .0))
-              (omega (arith, locals-sizes y p))));
+          finish = λ t′ st′ d. p .finish t′ st′ (rw (u .same) (did-as (localsSays here h (locals text sc h (withLocal (u .part) (u .more)))) _
+              (did-then (x .did) (rw (k .height) at d)) (same-eq (sym (with-local text sc now (u .part) (u .more) .2)))
+              (λ m e. code-with text sc now m (u .part) (u .more) (locals-fine y p .0))
+              (omega (arith, locals-sizes y p, ap (λ (ls : T.Locals). length (encodeLocals ls)) (u .same)))));
         }
 
   pub locals-end : {s t : List ℕ} {at : ℕ} {r : Placed} → end ≤ at → ((y : ReadyLocals s₀ from end here st₀) → LocalsPart y s t at r)
@@ -336,13 +332,7 @@ module _ {s : List ℕ} {end : ℕ} {here : Here} {st : State} (n : Node) (nd : 
             rw (u .same) (record {
               keeps = keeps-then (block-keeps y) (keeps-lower (omega arith) (z .keeps));
               did = did-as (cmdSays here ways (R.block LS (commands text sc′ h′ (u .list)))) _
-                  (did-then (x .did) (subst (λ (k : ℕ). Did (inCommands text sc′ l k (u .list))
-                  (λ m. record {
-                    items = G.cmdsCode (here .strings) k m (exits ways) (commands text sc′ k (u .list));
-                    heights = ofCmds k (commands text sc′ k (u .list));
-                    labels = G.cmdsLabels (commands text sc′ k (u .list));
-                  })
-                  (2 * length (encodeCommands (u .list))) t₁ t₂ (a .done) r) (x .after .height) (z .did))) (same-eq (rw (any-locals text
+                  (did-then (x .did) (rw (x .after .height) at (z .did))) (same-eq (rw (any-locals text
                   (leavable here) l refl sc h ls))) (λ k e. code-is (rw eh) (rw eh) refl)
                   (omega (arith, ap (λ (v : Unlabelled). length (encodeUnlabelled v)) (u .same)));
             });

@@ -97,8 +97,8 @@ module _ (text : List ℕ) {s : List ℕ} {end : ℕ} (top : ℕ) (n : Node) (nd
   judge-number q = judges (omega arith, omega arith) (omega arith) go
     where
       go : Go (record { word = n .value % 65536; number = 0; place = 0 })
-      go sc lo p false (T.literal v) sh f h e = subst (λ (k : ℕ). Says (record { word = n .value % 65536; number = 0; place = 0 }) (good k))
-          (let z : n .value ≡ v = nd .value ∙ value-is [] v p 60 h e in omega (arith, f .0 v refl)) (fit refl)
+      go sc lo p false (T.literal v) sh f h e = let z : n .value ≡ v = nd .value ∙ value-is [] v p 60 h e in
+          let w : v ≡ n .value % 65536 = omega (arith, f .0 v refl) in rw w (fit refl)
       go sc lo p false (T.known x) sh f h e = absurd (omega (arith, kind-is [] (x .width) (x .place) 59 h e))
       go sc lo p true (T.literal v) sh f h e = absurd (omega (arith, kind-is [] v p 36 h e))
       go sc lo p true (T.known x) sh f h e = absurd (omega (arith, kind-is (0 ∷ x .width ∷ x .place ∷ 59 ∷ []) 0 p 36 h e))

@@ -138,69 +138,68 @@ module _ (text t₀ : List ℕ) (own₀ : ℕ) {s₀ : List ℕ} {from end : ℕ
   forms-begin y = begins (y .ready) (y .starts) refl refl (y .some)
 
   module _ {s t : List ℕ} {at size word next own : ℕ} {st : State} (l : at < end) (es : size ≡ getD s at 0) (ew : word ≡ getD s (at + 1) 0)
-      (en : next ≡ at + 2 + size) (y : ReadyForms s₀ from end here st₀) (p : FormsPart y s t at own st) where
-    abbrev pub one : First encodeRepeats formEncoding formWord withForm s₀ at end (p .rest)
-    one = item (y .ready) (y .starts) l es en p
-
-    pub forms-size : size ≡ length (formEncoding (one .part))
-    forms-size = one-size (y .ready) (y .starts) l es en p
-
-    pub forms-conditions : conditions (p .rest) ≡ length (formEncoding (one .part)) + conditions (one .more)
-    forms-conditions = ap conditions (one .same) ∙ form-conditions (one .part) (one .more)
-
-    module _ {a : State} (el : a .label ≡ st .label) where
-      -- what stands there, as its test's expression
-      abbrev ready-test : (w : ℕ) (e : Expression) → one .part ≡ onTest w e → Ready encode depth FineE s next here a
-      ready-test w e q = let z = y .ready in let h = rw q at (one .lies) in let m : length (formEncoding (one .part)) ≡ length (encode e)
-          = rw q in
-          sub z (p .keeps) h refl (omega (
-            arith,
-            forms-size,
-            one .ends,
-            rest-length z (y .starts) l es en p,
-            forms-conditions,
-            rw q at (both-deep z (y .starts) l es en p .0),
-          )) (subst FineForm q (both-fine z (y .starts) l es en p .0))
-
-      ready-form : ReadyForm s next size here a
-      ready-form = record { on = λ n. by n (one .part) refl }
-        where
-          by : (size ≡ 0 → ⊥) → (f : AForm) → one .part ≡ f → Ready encode depth FineE s next here a
-          by n alone q = absurd (n (rw (forms-size, q)))
-          by n (onTest w e) q = ready-test w e q
-
-      -- what it did
-      form-did : {s₁ t₁ t₂ : List ℕ} {b : State} → GaveForm text s s₁ next size word own here t₁ t₂ a b →
-          Keeps (y .ready .base) (here .top) s s₁ × Did (formFaults text (y .ready .scope) here (one .part))
-          (oneSays text here (y .ready .scope) own (one .part)) (2 * length (formEncoding (one .part))) t₁ t₂ a b
-      form-did {s₁} {t₁} {t₂} {b} g = by (one .part) refl
-        where
-          by : (f : AForm) → one .part ≡ f
-              → Keeps (y .ready .base) (here .top) s s₁ × Did (formFaults text (y .ready .scope) here f) (oneSays text here (y .ready .scope) own f)
-              (2 * length (formEncoding f)) t₁ t₂ a b
-          by alone q =
-              let x = g .plain (rw (forms-size, q)) in (
-                rw (x .0) keeps-all,
-                did-as _ _ (emits-did _ (x .1) (λ n. refl)) same-refl (λ n e. refl) (omega arith),
-              )
-          by (onTest w e) q = let m : length (formEncoding (one .part)) ≡ length (encode e) = rw q in
-              let x = g .on (λ n. omega (arith, n, forms-size, m, closed-long (expression-closed e))) .by (ready-test w e q) in (
-                x .keeps,
-                rw (← (one-word (y .ready) (y .starts) l es en p ew ∙ ap formWord q)) (x .did),
-              )
-
-  module _ {s t : List ℕ} {at size word next own : ℕ} {st : State} (l : at < end) (es : size ≡ getD s at 0) (ew : word ≡ getD s (at + 1) 0)
       (en : next ≡ at + 2 + size) where
+    module _ (y : ReadyForms s₀ from end here st₀) (p : FormsPart y s t at own st) where
+      abbrev pub one : First encodeRepeats formEncoding formWord withForm s₀ at end (p .rest)
+      one = item (y .ready) (y .starts) l es en p
+
+      pub forms-size : size ≡ length (formEncoding (one .part))
+      forms-size = one-size (y .ready) (y .starts) l es en p
+
+      pub forms-conditions : conditions (p .rest) ≡ length (formEncoding (one .part)) + conditions (one .more)
+      forms-conditions = ap conditions (one .same) ∙ form-conditions (one .part) (one .more)
+
+      module _ {a : State} (el : a .label ≡ st .label) where
+        -- what stands there, as its test's expression
+        abbrev ready-test : (w : ℕ) (e : Expression) → one .part ≡ onTest w e → Ready encode depth FineE s next here a
+        ready-test w e q = let z = y .ready in let h = rw q at (one .lies) in let m : length (formEncoding (one .part)) ≡ length (encode e)
+            = rw q in
+            sub z (p .keeps) h refl (omega (
+              arith,
+              forms-size,
+              one .ends,
+              rest-length z (y .starts) l es en p,
+              forms-conditions,
+              rw q at (both-deep z (y .starts) l es en p .0),
+            )) (subst FineForm q (both-fine z (y .starts) l es en p .0))
+
+        ready-form : ReadyForm s next size here a
+        ready-form = record { on = λ n. by n (one .part) refl }
+          where
+            by : (size ≡ 0 → ⊥) → (f : AForm) → one .part ≡ f → Ready encode depth FineE s next here a
+            by n alone q = absurd (n (rw (forms-size, q)))
+            by n (onTest w e) q = ready-test w e q
+
+        -- what it did
+        form-did : {s₁ t₁ t₂ : List ℕ} {b : State} → GaveForm text s s₁ next size word own here t₁ t₂ a b →
+            Keeps (y .ready .base) (here .top) s s₁ × Did (formFaults text (y .ready .scope) here (one .part))
+            (oneSays text here (y .ready .scope) own (one .part)) (2 * length (formEncoding (one .part))) t₁ t₂ a b
+        form-did {s₁} {t₁} {t₂} {b} g = by (one .part) refl
+          where
+            by : (f : AForm) → one .part ≡ f
+                → Keeps (y .ready .base) (here .top) s s₁ × Did (formFaults text (y .ready .scope) here f) (oneSays text here (y .ready .scope) own f)
+                (2 * length (formEncoding f)) t₁ t₂ a b
+            by alone q =
+                let x = g .plain (rw (forms-size, q)) in (
+                  rw (x .0) keeps-all,
+                  did-as _ _ (emits-did _ (x .1) (λ n. refl)) same-refl (λ n e. refl) (omega arith),
+                )
+            by (onTest w e) q = let m : length (formEncoding (one .part)) ≡ length (encode e) = rw q in
+                let x = g .on (λ n. omega (arith, n, forms-size, m, closed-long (expression-closed e))) .by (ready-test w e q) in (
+                  x .keeps,
+                  rw (← (one-word (y .ready) (y .starts) l es en p ew ∙ ap formWord q)) (x .did),
+                )
+
     pub forms-part : {a : State} → a .label ≡ st .label → (y : ReadyForms s₀ from end here st₀) → FormsPart y s t at own st
         → ReadyForm s next size here a
-    forms-part el y p = ready-form l es ew en y p el
+    forms-part el y p = ready-form y p el
 
     pub forms-next : {s₁ t₁ t₂ t₃ : List ℕ} {own′ : ℕ} {a b r : State} → Emits (I.label (own + 1) ∷ []) [] t t₁ st a
         → GaveForm text s s₁ next size word own here t₁ t₂ a b → Emits (I.label (own + 2) ∷ []) [] t₂ t₃ b r
         → own′ ≡ own - 3 → (y : ReadyForms s₀ from end here st₀) → FormsPart y s t at own st → FormsPart y s₁ t₃ next own′ r
     forms-next m₁ g m₂ eo y p =
-        let z = y .ready in let u = one l es ew en y p in let x = form-did l es ew en y p (m₁ .label) g in let sc = z .scope in
-        let n = forms-conditions l es ew en y p in
+        let z = y .ready in let u = one y p in let x = form-did y p (m₁ .label) g in let sc = z .scope in
+        let n = forms-conditions y p in
         goes-on z (y .starts) l es en p (x .0) (omega arith) (omega arith) (omega arith)
         (λ t′ st′ d. did-as _ _ (did-then (did-put (did-after m₁ (x .1)) m₂) (rw eo at d))
         (same-eq (sym (form-faults text sc here (u .part) (u .more)))) (λ k c. form-code text here sc own k (u .part) (u .more)) (omega arith))

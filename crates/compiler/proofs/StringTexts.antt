@@ -104,21 +104,20 @@ spelling-next {source} {i = i} {c = c} {w} e p q = record {
   };
 }
 
-pub spelling-end : {source : List ℕ} {from i at x : ℕ} {t t′ : List ℕ} → character 34 (drop i source) ≡ closing
-    → Spelling source from i at x t t′ → WritesCharacters source from at x t t′
-spelling-end {source} {i = i} e q = record {
-  by = λ cs width z. let k = q .by cs width z in let g = closed-end 34 255 source i (k .left) e in
-      puts-as (k .puts) (ap charactersText (simp (k .all, g, append-nil)));
-}
+-- at the quote; and what is closed goes on to its quote, and has no mistake before it
+module _ {source : List ℕ} {from i at x : ℕ} {t t′ : List ℕ} where
+  pub spelling-end : character 34 (drop i source) ≡ closing → Spelling source from i at x t t′ → WritesCharacters source from at x t t′
+  spelling-end e q = record {
+    by = λ cs width z. let k = q .by cs width z in let g = closed-end 34 255 source i (k .left) e in
+        puts-as (k .puts) (ap charactersText (simp (k .all, g, append-nil)));
+  }
 
--- what is closed goes on to its quote, and has no mistake before it
-pub spelling-ended : {source : List ℕ} {from i at x : ℕ} {t t′ : List ℕ} → character 34 (drop i source) ≡ ended
-    → Spelling source from i at x t t′ → WritesCharacters source from at x t t′
-spelling-ended {source} {i = i} e q = record { by = λ cs width z. absurd (closed-goes-on 34 255 source i (q .by cs width z .left) e) }
+  pub spelling-ended : character 34 (drop i source) ≡ ended → Spelling source from i at x t t′ → WritesCharacters source from at x t t′
+  spelling-ended e q = record { by = λ cs width z. absurd (closed-goes-on 34 255 source i (q .by cs width z .left) e) }
 
-pub spelling-mistake : {source : List ℕ} {from i at x number : ℕ} {t t′ : List ℕ} → character 34 (drop i source) ≡ mistake number
-    → Spelling source from i at x t t′ → WritesCharacters source from at x t t′
-spelling-mistake {source} {i = i} e q = record { by = λ cs width z. absurd (closed-right 34 255 source i (q .by cs width z .left) e) }
+  pub spelling-mistake : {number : ℕ} → character 34 (drop i source) ≡ mistake number → Spelling source from i at x t t′
+      → WritesCharacters source from at x t t′
+  spelling-mistake e q = record { by = λ cs width z. absurd (closed-right 34 255 source i (q .by cs width z .left) e) }
 
 -- ---- a string's line, and a symbol's lines
 

@@ -89,49 +89,42 @@ module _ {source s s′ : List ℕ} {a : SymbolsRead} (short : length source ≤
   unfolding symbolsRead tooLong
   both-ways = rw (le-ltb 16384 (length source) short, le-ltb (length s) (length source * 3) room) refl
 
-  symbols-told : a ≡ outcome (length s) (symbolsOf source) .answer
-  symbols-told = rw (r .answers, both-ways)
-
   pub symbols-left : (x : Symbols) → symbolsOf source ≡ x → s′ ≡ outcome (length s) x .scratch
   symbols-left x e = r .leaves ∙ (rw (both-ways, e))
+
+  -- the symbols, or a refusal
+  by-symbols : (P : Type 0) → ((ss : List Symbol) → symbolsOf source ≡ good ss → a ≡ YA.Read (length ss) → P)
+      → ((number place : ℕ) → symbolsOf source ≡ faulty number place → a ≡ YA.Refused number place → P) → P
+  by-symbols P f g = go (symbolsOf source) refl (r .answers ∙ rw both-ways)
+    where
+      go : (x : Symbols) → symbolsOf source ≡ x → a ≡ outcome (length s) x .answer → P
+      go (good ss) q e = f ss q e
+      go (faulty number place) q e = g number place q e
 
 module _ {source s s′ : List ℕ} {a : SymbolsRead} (l : Lent source (length s)) (r : Reads source s a s′) where
   room : length source * 3 ≤ length s
   room = omega arith
 
-  answer-is : a ≡ outcome (length s) (symbolsOf source) .answer
-  answer-is = symbols-told (l .short) room r
-
   pub ready-symbols : {count : ℕ} → length s′ ≡ length s → a ≡ YA.Read count → ReadySymbols source s′ count
-  ready-symbols {count} same e = go (symbolsOf source) refl (sym e ∙ answer-is) (symbols-left (l .short) room r (symbolsOf source) refl)
-    where
-      go : (x : Symbols) → symbolsOf source ≡ x → YA.Read count ≡ outcome (length s) x .answer → s′ ≡ outcome (length s) x .scratch
-          → ReadySymbols source s′ count
-      go (good ss) q w z = let k : count ≡ length ss = cc in let stand = z ∙ ap (λ (n : ℕ). outcome n (good ss) .scratch) (sym same) in
-          record { lent = lent-still l same; symbols = ss; reads = q; counts = k; stand = stand }
-      go (faulty number place) q w z = contradiction cc
+  ready-symbols {count} same e = by-symbols (l .short) room r (ReadySymbols source s′ count) (λ ss q w. record {
+    lent = lent-still l same;
+    symbols = ss;
+    reads = q;
+    counts = cc;
+    stand = symbols-left (l .short) room r (good ss) q ∙ ap (λ (n : ℕ). outcome n (good ss) .scratch) (sym same);
+  }) (λ number place q w. contradiction cc)
 
   pub symbols-answer : {number place : ℕ} {t t′ : List ℕ} {w : Refusal} → a ≡ YA.Refused number place → w ≡ refusal source number place
       → Translates source s s′ t t′ (C.Refused w)
-  symbols-answer {number} {place} {t} e q = let k : symbolsOf source ≡ faulty number place = go (symbolsOf source) (sym e ∙ answer-is) in
-      refusing q (symbols-refused l (length t) number place k) (symbols-left (l .short) room r (faulty number place) k)
-    where
-      go : (x : Symbols) → YA.Refused number place ≡ outcome (length s) x .answer → x ≡ faulty number place
-      go (good ss) w = contradiction cc
-      go (faulty m p) w = let k : m ≡ number = cc in let j : p ≡ place = cc in rw (k, j) refl
-
-  answers : (P : SymbolsRead → Type 0) → ((k : ℕ) → P (YA.Read k)) → ((number place : ℕ) → P (YA.Refused number place)) → P a
-  answers P f g = rw answer-is (go (symbolsOf source))
-    where
-      go : (x : Symbols) → P (outcome (length s) x .answer)
-      go (good ss) = f (length ss)
-      go (faulty number place) = g number place
+  symbols-answer {number} {place} {t} {t′} {w} e q = by-symbols (l .short) room r (Translates source s s′ t t′ (C.Refused w))
+      (λ ss z v. contradiction cc) (λ m p z v. let i : m ≡ number = cc in let j : p ≡ place = cc in
+      refusing q (symbols-refused l (length t) m p z ∙ rw (i, j)) (symbols-left (l .short) room r (faulty m p) z))
 
   pub never-long : a ≡ YA.TooLong → ⊥
-  never-long = answers (λ x. x ≡ YA.TooLong → ⊥) (λ k e. contradiction cc) (λ m p e. contradiction cc)
+  never-long e = by-symbols (l .short) room r ⊥ (λ ss q w. contradiction cc) (λ number place q w. contradiction cc)
 
   pub never-short : a ≡ YA.TooShort → ⊥
-  never-short = answers (λ x. x ≡ YA.TooShort → ⊥) (λ k e. contradiction cc) (λ m p e. contradiction cc)
+  never-short e = by-symbols (l .short) room r ⊥ (λ ss q w. contradiction cc) (λ number place q w. contradiction cc)
 
 -- ---- after `read_tree`, which is lent eight entries a symbol and 64
 
