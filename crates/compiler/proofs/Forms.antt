@@ -1,7 +1,7 @@
 -- A command by the kind of its record: what it is and where its parts stand.
-use Rattle.laws.proofs.Basics.{ℕ, _+_, _-_, _≤_, _≡_, refl, sym, subst, _∙_, List, [], _∷_, _++_, Bool, true, false, cond, Option, length, getD, eqb}
-use Rattle.laws.proofs.Basics.{arith, eqb-true}
-use Rattle.laws.proofs.Cases.{contradiction}
+use Rattle.laws.proofs.Basics.{ℕ, _+_, _-_, _≤_, _≡_, refl, sym, subst, _∙_, List, [], _∷_, _++_, true, false, Option, length, getD, eqb, arith}
+use Rattle.laws.proofs.Basics.{eqb-true}
+use Rattle.laws.proofs.Cases.{by-cases, contradiction}
 use Rattle.language.specs.Kinds as K
 use Rattle.language.specs.Kinds.{member}
 use Rattle.language.specs.Tree as T
@@ -15,44 +15,14 @@ use Rattle.compiler.specs.Commands.{ReadyU}
 use Rattle.compiler.proofs.Trees.{kid, ends, value-is, place-is, size-is, kind-is, IsTwo}
 use Rattle.compiler.proofs.Parts.{two-closed}
 
--- ---- words that are one of a few
-
-pub data GuardWord : ℕ → Type 0 where
-  ifWord : GuardWord K.IF
-  unlessWord : GuardWord K.UNLESS
-  whileWord : GuardWord K.WHILE
-  untilWord : GuardWord K.UNTIL
-
-pub data LeaveWord : ℕ → Type 0 where
-  endcaseWord : LeaveWord K.ENDCASE
-  breakWord : LeaveWord K.BREAK
-  loopWord : LeaveWord K.LOOP
-  returnWord : LeaveWord K.RETURN
-  finishWord : LeaveWord K.FINISH
-
 -- one of a list, where each has what is wanted
 one-of : (P : ℕ → Type 0) (k a : ℕ) (others : List ℕ) → member k (a ∷ others) ≡ true → P a → (member k others ≡ true → P k) → P k
 unfolding member
-one-of P k a others m p f = go (eqb k a) refl m
-  where
-    go : (b : Bool) → eqb k a ≡ b → cond b true (member k others) ≡ true → P k
-    go true e q = subst P (sym (eqb-true k a e)) p
-    go false e q = f q
+one-of P k a others m p f = by-cases (eqb k a) (λ e. rw (eqb-true k a e) p) (λ e. f (rw e at m))
 
 none-of : {P : Type 0} (k : ℕ) → member k [] ≡ true → P
 unfolding member
 none-of k m = contradiction cc
-
-pub guard-word : (w : ℕ) → isGuard w ≡ true → GuardWord w
-unfolding isGuard
-guard-word w m = one-of GuardWord w K.IF _ m ifWord (λ m. one-of GuardWord w K.UNLESS _ m unlessWord
-    (λ m. one-of GuardWord w K.WHILE _ m whileWord (λ m. one-of GuardWord w K.UNTIL _ m untilWord (none-of w))))
-
-pub leave-word : (w : ℕ) → isLeave w ≡ true → LeaveWord w
-unfolding isLeave
-leave-word w m =
-    one-of LeaveWord w K.ENDCASE _ m endcaseWord (λ m. one-of LeaveWord w K.BREAK _ m breakWord (λ m. one-of LeaveWord w K.LOOP _ m loopWord
-    (λ m. one-of LeaveWord w K.RETURN _ m returnWord (λ m. one-of LeaveWord w K.FINISH _ m finishWord (none-of w)))))
 
 -- ---- a command by its kind
 
@@ -107,19 +77,18 @@ module _ (s : List ℕ) (lo end : ℕ) where
   so : {k : ℕ} {u : Unlabelled} → getD s (end - 1) 0 ≡ k → Form k u → Form (getD s (end - 1) 0) u
   so q c = rw q c
 
-  guard-form : {w : ℕ} {e : Expression} {c : Command} → GuardWord w → Lies s lo (encode e ++ encodeCommand c)
+  guard-form : {w : ℕ} {e : Expression} {c : Command} → isGuard w ≡ true → Lies s lo (encode e ++ encodeCommand c)
       → end ≡ lo + length (encode e ++ encodeCommand c) + 4 → Form w (T.guarded w e c)
-  guard-form ifWord h q = anIf h q
-  guard-form unlessWord h q = anUnless h q
-  guard-form whileWord h q = aWhile h q
-  guard-form untilWord h q = anUntil h q
+  unfolding isGuard
+  guard-form {w} {e} {c} m h q = let P : ℕ → Type 0 = λ w. Form w (T.guarded w e c) in
+      one-of P w K.IF _ m (anIf h q) (λ m. one-of P w K.UNLESS _ m (anUnless h q)
+      (λ m. one-of P w K.WHILE _ m (aWhile h q) (λ m. one-of P w K.UNTIL _ m (anUntil h q) (none-of w))))
 
-  leave-form : {w p : ℕ} → LeaveWord w → getD s (end - 2) 0 ≡ p → Form w (T.leave w p)
-  leave-form endcaseWord h = anEndcase h
-  leave-form breakWord h = aBreak h
-  leave-form loopWord h = aLoop h
-  leave-form returnWord h = aReturn h
-  leave-form finishWord h = aFinish h
+  leave-form : {w p : ℕ} → isLeave w ≡ true → getD s (end - 2) 0 ≡ p → Form w (T.leave w p)
+  unfolding isLeave
+  leave-form {w} {p} m h = let P : ℕ → Type 0 = λ w. Form w (T.leave w p) in
+      one-of P w K.ENDCASE _ m (anEndcase h) (λ m. one-of P w K.BREAK _ m (aBreak h) (λ m. one-of P w K.LOOP _ m (aLoop h)
+      (λ m. one-of P w K.RETURN _ m (aReturn h) (λ m. one-of P w K.FINISH _ m (aFinish h) (none-of w)))))
 
   -- a call's record has its own kind
   called-kind : (e : Expression) → isCall e ≡ true → Lies s lo (encode e) → end ≡ lo + length (encode e) → getD s (end - 1) 0 ≡ O.CALLED
@@ -146,7 +115,7 @@ module _ (s : List ℕ) (lo end : ℕ) where
   form-of (T.test e c d) f h q = let w = encode e ++ (encodeCommand c ++ encodeCommand d) in
       so (kind-is w 0 0 K.TEST h q) (aTest (kid w 0 0 K.TEST h q) (ends w 0 0 K.TEST h q))
   form-of (T.guarded v e c) f h q = let w = encode e ++ encodeCommand c in
-      so (kind-is w 0 0 v h q) (guard-form (guard-word v (f .0 .2)) (kid w 0 0 v h q) (ends w 0 0 v h q))
+      so (kind-is w 0 0 v h q) (guard-form (f .0 .2) (kid w 0 0 v h q) (ends w 0 0 v h q))
   form-of (T.for n e d k c) f h q =
       let w = encodeName n ++ (encode e ++ (encode d ++ (encodeBy k ++ encodeCommand c))) in let v = length (encodeBy k) in
       so (kind-is w v 0 K.FOR h q) (aFor (kid w v 0 K.FOR h q) (value-is w v 0 K.FOR h q) (ends w v 0 K.FOR h q))
@@ -154,7 +123,7 @@ module _ (s : List ℕ) (lo end : ℕ) where
       so (kind-is (encode e ++ encodeCommands cs) (length (encode e)) 0 K.SWITCHON h q) (aSwitch (two-closed encode encodeCommands T.switchon e cs 0 K.SWITCHON h q))
   form-of (T.resultis p e) f h q = so (kind-is (encode e) 0 p K.RESULTIS h q)
       (aResult (place-is (encode e) 0 p K.RESULTIS h q) (kid (encode e) 0 p K.RESULTIS h q) (ends (encode e) 0 p K.RESULTIS h q))
-  form-of (T.leave w p) f h q = so (kind-is [] 0 p w h q) (leave-form (leave-word w (f .0)) (place-is [] 0 p w h q))
+  form-of (T.leave w p) f h q = so (kind-is [] 0 p w h q) (leave-form (f .0) (place-is [] 0 p w h q))
   form-of (T.block ls cs) f h q = so (kind-is (encodeLocals ls ++ encodeCommands cs) (length (encodeLocals ls)) 0 K.BEGIN h q)
       (aBlock (two-closed encodeLocals encodeCommands T.block ls cs 0 K.BEGIN h q))
 

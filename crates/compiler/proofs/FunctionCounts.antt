@@ -6,7 +6,8 @@ use Rattle.compiler.proofs.Language.{Declaration, Program, encodeProgra
 use Rattle.compiler.specs.Walks.{Lies}
 use Rattle.compiler.specs.Groups.{functionCount, CountsFunctions, CountsGroup}
 use Rattle.compiler.specs.Programs.{encodeDeclared, declaredWord}
-use Rattle.compiler.proofs.Lists.{First, first-of}
+use Rattle.compiler.proofs.Lists.{First, first-of, Rest, rest-all, rest-next}
+use Rattle.compiler.proofs.Scoping.{keeps-all}
 
 pub program-step : (d : Declaration) (p : Program)
     → encodeProgram (d ∷ p) ≡ (length (encodeDeclared d) ∷ declaredWord d ∷ encodeDeclared d) ++ encodeProgram p
@@ -52,16 +53,14 @@ unfolding functionCount
 count-none = refl
 
 pub record Part (s : List ℕ) (at end n : ℕ) (p : Program) : Type 0 where
-  pub rest : Program
-  pub lies : Lies s at (encodeProgram rest)
-  pub ends : end ≡ at + length (encodeProgram rest)
-  pub sum : n + functionCount rest ≡ functionCount p
+  pub left : Rest encodeProgram 0 0 s s end at
+  pub sum : n + functionCount (left .rest) ≡ functionCount p
 
 abbrev pub Counted : (s : List ℕ) (from end at n : ℕ) → Type 0
 Counted s from end at n = (p : Program) → Lies s from (encodeProgram p) → end ≡ from + length (encodeProgram p) → Part s at end n p
 
 pub counted-begin : {s : List ℕ} {from end : ℕ} → Counted s from end from 0
-counted-begin p h e = record { rest = p; lies = h; ends = e; sum = omega arith }
+counted-begin p h e = record { left = rest-all p h e (omega arith); sum = omega arith }
 
 module _ {s : List ℕ} {from end at n size word : ℕ} (l : at < end) (es : size ≡ getD s at 0) (ew : word ≡ getD s (at + 1) 0)
     (q : Counted s from end at n) where
@@ -69,13 +68,10 @@ module _ {s : List ℕ} {from end at n size word : ℕ} (l : at < end) (es : siz
   onwards : (m : ℕ)
       → ((d : Declaration) → word ≡ declaredWord d → Lies s (at + 2) (encodeDeclared d) → size ≡ length (encodeDeclared d) → m ≡ ownCount d)
       → Counted s from end (at + 2 + size) (n + m)
-  onwards m own p h e = let c = q p h e in let u = is-declaration (c .rest) (c .lies) (c .ends) l in
-      let k : size ≡ length (encodeDeclared (u .part)) = es ∙ u .size-of in
+  onwards m own p h e = let c = q p h e in let u = is-declaration (c .left .rest) (c .left .lies) (c .left .ends) l in
       record {
-        rest = u .more;
-        lies = rw k (u .lies-more);
-        ends = omega arith;
-        sum = omega (arith, ap functionCount (u .same), count-step (u .part) (u .more), own (u .part) (ew ∙ u .word-of) (u .lies) k);
+        left = rest-next (c .left) u es refl keeps-all;
+        sum = omega (arith, ap functionCount (u .same), count-step (u .part) (u .more), own (u .part) (ew ∙ u .word-of) (u .lies) (es ∙ u .size-of));
       }
 
   pub counted-group : {m : ℕ} → word ≡ K.LET → CountsGroup s (at + 2) (at + 2 + size) m → Counted s from end (at + 2 + size) (n + m)
@@ -96,7 +92,7 @@ module _ {s : List ℕ} {from end at n size word : ℕ} (l : at < end) (es : siz
 
   -- a group never reaches past the end
   pub counted-past : end < at + 2 + size → Counted s from end (at + 2 + size) n
-  counted-past g p h e = let c = q p h e in let u = is-declaration (c .rest) (c .lies) (c .ends) l in absurd (omega arith)
+  counted-past g p h e = let c = q p h e in let u = is-declaration (c .left .rest) (c .left .lies) (c .left .ends) l in absurd (omega arith)
 
 pub counted-end : {s : List ℕ} {from end at n : ℕ} → end ≤ at → Counted s from end at n → CountsFunctions s from end n
-counted-end l q = record { by = λ p h e. let c = q p h e in omega (arith, ap functionCount (no-declaration (c .rest) (c .ends) l), count-none) }
+counted-end l q = record { by = λ p h e. let c = q p h e in omega (arith, ap functionCount (no-declaration (c .left .rest) (c .left .ends) l), count-none) }

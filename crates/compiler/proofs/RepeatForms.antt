@@ -197,8 +197,7 @@ module _ (text t₀ : List ℕ) (own₀ : ℕ) {s₀ : List ℕ} {from end : ℕ
     pub forms-next : {s₁ t₁ t₂ t₃ : List ℕ} {own′ : ℕ} {a b r : State} → Emits (I.label (own + 1) ∷ []) [] t t₁ st a
         → GaveForm text s s₁ next size word own here t₁ t₂ a b → Emits (I.label (own + 2) ∷ []) [] t₂ t₃ b r
         → own′ ≡ own - 3 → (y : ReadyForms s₀ from end here st₀) → FormsPart y s t at own st → FormsPart y s₁ t₃ next own′ r
-    forms-next m₁ g m₂ eo y p =
-        let z = y .ready in let u = one y p in let x = form-did y p (m₁ .label) g in let sc = z .scope in
+    forms-next m₁ g m₂ eo y p = let z = y .ready in let u = one y p in let x = form-did y p (m₁ .label) g in let sc = z .scope in
         let n = forms-conditions y p in
         goes-on z (y .starts) l es en p (x .0) (omega arith) (omega arith) (omega arith)
         (λ t′ st′ d. did-as _ _ (did-then (did-put (did-after m₁ (x .1)) m₂) (rw eo at d))

@@ -2,6 +2,7 @@
 use Rattle.laws.proofs.Basics.{ℕ, zero, suc, _+_, _-_, _*_, _/_, _%_, _<_, _≤_, min, _≡_, refl, sym, ap, _∙_, List, [], _∷_, Bool, true, false, cond}
 use Rattle.laws.proofs.Basics.{length, getD, set, take, drop, length-set, length-take, length-drop, getD-drop, getD-set-same, getD-set-other, eqb}
 use Rattle.laws.proofs.Basics.{arith, eq-eqb, ne-eqb}
+use Rattle.laws.proofs.Cases.{by-cases}
 use native.Mathlib.Numerals.{unary-clauses}
 use Rattle.compiler.proofs.Language.{Name, Meaning, local, global, manifest, function, Found, unknown, known, Scope, opened, declared, lookup}
 use Rattle.compiler.proofs.Language.{inBlock, sameBytes, sameName, FineName}
@@ -54,21 +55,13 @@ pub same-width : (text : List ℕ) (x place width : ℕ) {t : Bool} → x % 6553
 same-width text x place width h e = cc (eq-eqb (x % 65536) width h)
 
 -- the bytes up to one, by that one
-last-same : (i : ℕ) (x y : List ℕ) → i < length x → i < length y → getD x i 0 ≡ getD y i 0
-    → sameBytes (take (suc i) x) (take (suc i) y) ≡ sameBytes (take i x) (take i y)
+last-byte : (i : ℕ) (x y : List ℕ) → i < length x → i < length y
+    → sameBytes (take (suc i) x) (take (suc i) y) ≡ cond (eqb (getD x i 0) (getD y i 0)) (sameBytes (take i x) (take i y)) false
 unfolding sameBytes
-last-same i [] y a b e = absurd (omega arith)
-last-same i (c ∷ x) [] a b e = absurd (omega arith)
-last-same zero (c ∷ x) (d ∷ y) a b e = rw (eq-eqb c d e) refl
-last-same (suc i) (c ∷ x) (d ∷ y) a b e = ap (λ (t : Bool). cond (eqb c d) t false) (last-same i x y (omega arith) (omega arith) e)
-
-last-differs : (i : ℕ) (x y : List ℕ) → i < length x → i < length y → (getD x i 0 ≡ getD y i 0 → ⊥)
-    → sameBytes (take (suc i) x) (take (suc i) y) ≡ false
-unfolding sameBytes
-last-differs i [] y a b e = absurd (omega arith)
-last-differs i (c ∷ x) [] a b e = absurd (omega arith)
-last-differs zero (c ∷ x) (d ∷ y) a b e = rw (ne-eqb c d e) refl
-last-differs (suc i) (c ∷ x) (d ∷ y) a b e = rw (last-differs i x y (omega arith) (omega arith) e, never)
+last-byte i [] y a b = absurd (omega arith)
+last-byte i (c ∷ x) [] a b = absurd (omega arith)
+last-byte zero (c ∷ x) (d ∷ y) a b = refl
+last-byte (suc i) (c ∷ x) (d ∷ y) a b = by-cases (eqb c d) (λ e. rw (e, last-byte i x y (omega arith) (omega arith))) (λ e. rw (e, never))
 
 module _ (text : List ℕ) (p q i : ℕ) (h : 1 ≤ i) (hp : p + i ≤ length text) (hq : q + i ≤ length text) where
   byte : (p : ℕ) → getD text (p + (i - 1)) 0 ≡ getD (drop p text) (i - 1) 0
@@ -85,10 +78,11 @@ module _ (text : List ℕ) (p q i : ℕ) (h : 1 ≤ i) (hp : p + i ≤ length te
 
   pub one-fewer : getD text (p + (i - 1)) 0 ≡ getD text (q + (i - 1)) 0
       → sameBytes (take i (drop p text)) (take i (drop q text)) ≡ sameBytes (take (i - 1) (drop p text)) (take (i - 1) (drop q text))
-  one-fewer e = whole ∙ last-same (i - 1) (drop p text) (drop q text) (within p hp) (within q hq) (sym (byte p) ∙ e ∙ byte q)
+  one-fewer e = whole ∙ last-byte (i - 1) (drop p text) (drop q text) (within p hp) (within q hq) ∙ rw (eq-eqb _ _ (sym (byte p) ∙ e ∙ byte q))
 
   pub differs : (getD text (p + (i - 1)) 0 ≡ getD text (q + (i - 1)) 0 → ⊥) → false ≡ sameBytes (take i (drop p text)) (take i (drop q text))
-  differs e = sym (whole ∙ last-differs (i - 1) (drop p text) (drop q text) (within p hp) (within q hq) (λ z. e (byte p ∙ z ∙ sym (byte q))))
+  differs e = sym (whole ∙ last-byte (i - 1) (drop p text) (drop q text) (within p hp) (within q hq)
+      ∙ rw (ne-eqb _ _ (λ z. e (byte p ∙ z ∙ sym (byte q)))))
 
 pub all-passed : (x y : List ℕ) (i : ℕ) → i ≤ 0 → true ≡ sameBytes (take i x) (take i y)
 unfolding sameBytes

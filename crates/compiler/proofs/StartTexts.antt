@@ -87,33 +87,35 @@ one-start {table} {k} s l q e = record {
   );
 }
 
+first-fun : (fs : List Fun) → 0 < length fs → (f : Fun) × (b : List Fun) × (fs ≡ f ∷ b)
+first-fun [] h = absurd (omega arith)
+first-fun (f ∷ b) h = (f, b, refl)
+
+no-fun : (fs : List Fun) → length fs ≡ 0 → fs ≡ []
+no-fun [] h = refl
+no-fun (f ∷ b) h = absurd (omega arith)
+
 pub starts-next : {table : List ℕ} {functions k at x r : ℕ} {t t₁ t₂ : List ℕ} → k < functions → WritesStart table (k + 1) x r t₁ t₂
     → StartsSoFar table functions k at x t t₁ → StartsSoFar table functions (k + 1) at r t t₂
 unfolding startsCode
-starts-next {table} {functions} {k} {at} {x} {r} {t} {t₁} {t₂} h w q =
-    record { by = λ fs l e s. let y = q .by fs l e s in go fs l e s y (y .rest) refl }
-  where
-    go : (fs : List Fun) → length table ≡ 400 → functions ≡ length fs → Starting table (startsOf fs) → (y : StartsPart k at x t t₁ fs)
-        → (rest : List Fun) → y .rest ≡ rest → StartsPart (k + 1) at r t t₂ fs
-    go fs l e s y [] z = absurd (omega (arith, ap length (y .all), length-append (y .done) (y .rest), ap length z))
-    go fs l e s y (f ∷ b) z =
-        let a : fs ≡ y .done ++ (f ∷ b) = rw (y .all, z) in let j : k + 1 ≡ suc k = omega arith in let j′ : 1 + length (y .done) ≡ k + 1
-        = omega arith in let g : getD (startsOf fs) k nowhere ≡ f .start = rw (a, y .count) (starts-at (y .done) f b) in let o : StartsAt table
-        (k + 1) (f .start) = rw j (one-start (f .start) l s g) in
-        record {
-          done = y .done ++ (f ∷ []);
-          rest = b;
-          all = a ∙ sym (append-assoc (y .done) (f ∷ []) b);
-          count = omega (arith, length-append (y .done) (f ∷ []));
-          puts = puts-as (puts-then (y .puts) (w .by (f .start) o))
-              (ap lines (starts-then 1 (y .done) (f ∷ []) ∙ rw j′) ∙ lines-then (startsCode 1 (y .done)) (startIn (f .start) (k + 1) []));
-        }
+starts-next {k = k} h w q = record {
+  by = λ fs l e s. let y = q .by fs l e s in let u = first-fun (y .rest) (omega (arith, ap length (y .all), length-append (y .done) (y .rest))) in
+      let f = u .0 in let b = u .1 in let a : fs ≡ y .done ++ (f ∷ b) = y .all ∙ ap (λ (z : List Fun). y .done ++ z) (u .2) in let j : k + 1 ≡ suc k = omega arith in
+      let j′ : 1 + length (y .done) ≡ k + 1 = omega arith in
+      let g : getD (startsOf fs) k nowhere ≡ f .start = cc (a, y .count, starts-at (y .done) f b) in
+      record {
+        done = y .done ++ (f ∷ []);
+        rest = b;
+        all = a ∙ sym (append-assoc (y .done) (f ∷ []) b);
+        count = omega (arith, length-append (y .done) (f ∷ []));
+        puts = puts-as (puts-then (y .puts) (w .by (f .start) (rw j (one-start (f .start) l s g))))
+            (ap lines (starts-then 1 (y .done) (f ∷ []) ∙ rw j′) ∙ lines-then (startsCode 1 (y .done)) (startIn (f .start) (k + 1) []));
+      };
+}
 
 pub starts-end : {table : List ℕ} {functions k at x : ℕ} {t t′ : List ℕ} → functions ≤ k → StartsSoFar table functions k at x t t′
     → WritesStarts table functions at x t t′
-starts-end {table} {functions} {k} {at} {x} {t} {t′} h q = record { by = λ fs l e s. let y = q .by fs l e s in go fs e y (y .rest) refl }
-  where
-    go : (fs : List Fun) → functions ≡ length fs → (y : StartsPart k at x t t′ fs) → (rest : List Fun) → y .rest ≡ rest
-        → Puts (lines (startsCode 1 fs)) at x t t′
-    go fs e y [] z = puts-as (y .puts) (simp (y .all, z, append-nil))
-    go fs e y (f ∷ b) z = absurd (omega (arith, ap length (y .all), length-append (y .done) (y .rest), ap length z))
+starts-end h q = record {
+  by = λ fs l e s. let y = q .by fs l e s in
+      let z = no-fun (y .rest) (omega (arith, ap length (y .all), length-append (y .done) (y .rest))) in puts-as (y .puts) (simp (y .all, z, append-nil));
+}
