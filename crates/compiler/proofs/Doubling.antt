@@ -1,6 +1,7 @@
 -- The labels of a list after INTO judged one after another, with those before each marked: what is refused in them.
 use Rattle.laws.proofs.Basics.{ℕ, _+_, _-_, _/_, _%_, _^_, _<_, _≤_, _≡_, refl, sym, ap, _∙_, List, [], _∷_, _++_, append-assoc, append-nil, Bool}
 use Rattle.laws.proofs.Basics.{true, false, cond, length, getD, set, replicate, length-set, length-replicate, eqb, arith, eqb-true, eqb-false}
+use Rattle.laws.proofs.Cases.{by-cases}
 use Rattle.language.specs.Tree as T
 use Rattle.compiler.proofs.Language.{Label, Commands, Scope, fault, Judged, good, refused, judge, judgedWord, CaseLabel, hasCase, hasDefault}
 use Rattle.compiler.proofs.Language.{labelsBefore, labelsOf, goodCase, doubledCase, doubledLabel, doubled}
@@ -80,16 +81,11 @@ module _ {v place : ℕ} {seen seen′ : List ℕ} {st r : State} {ls : List Cas
   case-marks : Marks seen′ (ls ++ (R.case v ∷ []))
   case-marks = record {
     long = n .long ∙ m .long;
-    cases = λ w l. go w l (eqb w v) refl;
+    cases = λ w l. by-cases (eqb w v)
+        (λ e. ap (λ (k : ℕ). flag seen′ k) (eqb-true w v e) ∙ n .here (omega arith) ∙ rw (case-after-case w v ls, e))
+        (λ e. n .other w (eqb-false w v e) ∙ m .cases w l ∙ rw (case-after-case w v ls, e));
     default = n .other 65536 (λ e. omega arith) ∙ m .default ∙ ap (λ (b : Bool). cond b 1 0) (sym (default-after-case v ls));
   }
-    where
-      there : (w : ℕ) (b : Bool) → eqb w v ≡ b → _≡_ {A = ℕ} (cond (cond b true (hasCase w ls)) 1 0) (cond (hasCase w (ls ++ (R.case v ∷ []))) 1 0)
-      there w b e = rw (case-after-case w v ls, e)
-
-      go : (w : ℕ) → w < 65536 → (b : Bool) → eqb w v ≡ b → flag seen′ w ≡ cond (hasCase w (ls ++ (R.case v ∷ []))) 1 0
-      go w l true e = ap (λ (k : ℕ). flag seen′ k) (eqb-true w v e) ∙ n .here (omega arith) ∙ there w true e
-      go w l false e = n .other w (eqb-false w v e) ∙ m .cases w l ∙ there w false e
 
   case-did : (t : List ℕ) → Did (cond (hasCase v ls) (fault place 12) []) nothing 0 t t st r
   case-did = note-did n (hasCase v ls) (omega arith) (m .cases v low)
@@ -117,11 +113,8 @@ note-first {i} {place} {x} {p} {seen = seen} l ex ep z e = record {
 
 pub note-again : {i place x p : ℕ} {seen : List ℕ} {st r : State} → x ≡ getD seen (i / 8) 0 → p ≡ 2 ^ (i % 8) → (x / p % 2 ≡ 0 → ⊥)
     → Faulted place 12 st r → Notes i place seen seen st r
-note-again {i} {seen = seen} ex ep n f =
+note-again {i} {seen = seen} ex ep n f = let there : flag seen i ≡ 0 → ⊥ = λ z. n (rw (ex, ep, z)) in
     record { long = refl; here = λ a. flag-taken seen i there; other = λ k n. refl; fresh = λ a z. absurd (there z); again = λ n. f }
-  where
-    there : flag seen i ≡ 0 → ⊥
-    there z = n (rw (ex, ep, z))
 
 pub note-none : {i place : ℕ} {seen : List ℕ} {st : State} → length seen ≤ i / 8 → Notes i place seen seen st st
 note-none {i} {seen = seen} l = record {

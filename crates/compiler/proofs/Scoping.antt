@@ -2,7 +2,7 @@
 use Rattle.laws.proofs.Basics.{ℕ, zero, suc, _+_, _-_, _*_, _/_, _%_, _<_, _≤_, min, _≡_, refl, sym, ap, _∙_, List, [], _∷_, Bool, true, false, cond}
 use Rattle.laws.proofs.Basics.{length, getD, set, take, drop, length-set, length-take, length-drop, getD-drop, getD-set-same, getD-set-other, eqb}
 use Rattle.laws.proofs.Basics.{arith, eq-eqb, ne-eqb}
-use Rattle.laws.proofs.Cases.{by-cases}
+use Rattle.laws.proofs.Cases.{by-cases, either}
 use native.Mathlib.Numerals.{unary-clauses}
 use Rattle.compiler.proofs.Language.{Name, Meaning, local, global, manifest, function, Found, unknown, known, Scope, opened, declared, lookup}
 use Rattle.compiler.proofs.Language.{inBlock, sameBytes, sameName, FineName}
@@ -232,11 +232,7 @@ pub looked-word : (text : List ℕ) (n : Name) {s : List ℕ} {top : ℕ} {sc : 
 unfolding lookup
 looked-word text n (nothing e) = tt
 looked-word text n (mark h e v z) = looked-word text n h
-looked-word text n (name {sc = sc} {n = m} {w = w} h e v p y c u) = go (sameName text m n) (looked-word text n h)
-  where
-    go : (b : Bool) → Held (lookup text sc n) → Held (cond b (known w) (lookup text sc n))
-    go true k = u
-    go false k = k
+looked-word text n (name {n = m} h e v p y c u) = either Held (sameName text m n) (λ b. u) (λ b. looked-word text n h)
 
 -- ---- the stack and the tree stay where other entries change
 
@@ -276,25 +272,18 @@ module _ {s s′ : List ℕ} {top first m base : ℕ} (h : Pushed s s′ top fir
       other i a b = rw (h .is, getD-set-other (set s top first) (top + 1) i m 0 b, getD-set-other s top i first 0 a)
 
   push-first : getD s′ top 0 ≡ first
-  push-first =
-      ap (λ (z : List ℕ). getD z top 0) (h .is) ∙ getD-set-other (set s top first) (top + 1) top m 0 (λ e. omega arith) ∙ getD-set-same s top first 0
-      (omega arith)
+  push-first = rw (h .is, getD-set-other (set s top first) (top + 1) top m 0 (λ e. omega arith), getD-set-same s top first 0 (omega arith))
 
   push-second : getD s′ (top + 1) 0 ≡ m
-  push-second =
-      ap (λ (z : List ℕ). getD z (top + 1) 0) (h .is) ∙ getD-set-same (set s top first) (top + 1) m 0 (omega (arith, length-set s top first))
+  push-second = rw (h .is, getD-set-same (set s top first) (top + 1) m 0 (omega (arith, length-set s top first)))
 
   pub pushed-mark : {sc : Scope} → Shows s top sc → m ≡ 0 → Shows s′ (top + 2) (opened sc)
   pushed-mark sh e = mark (keeps-shows pushed-keeps (omega arith) sh) refl (omega (arith, pushed-keeps .long)) (push-second ∙ e)
 
-  pushed-as : {sc : Scope} (n : Name) (w : Meaning) → Shows s top sc → first ≡ packed n → FineName n → m ≡ code w → Worded w
-      → Shows s′ (top + 2) (declared sc n w)
-  pushed-as n w sh f g e u =
-      name (keeps-shows pushed-keeps (omega arith) sh) refl (omega (arith, pushed-keeps .long)) (push-first ∙ f) g (push-second ∙ e) u
-
 pub pushed-name : {s s′ : List ℕ} {top leaf m base : ℕ} → PushedName s s′ top leaf m → top + 2 ≤ base → base ≤ length s → {sc : Scope} (w : Meaning)
     → Shows s top sc → m ≡ code w → Worded w → Shows s′ (top + 2) (declared sc (nameAt s leaf) w)
-pushed-name {s} {leaf = leaf} h l long w sh e u = pushed-as (h .pushed) l long (nameAt s leaf) w sh refl (h .fine) e u
+pushed-name h l long w sh e u = let p = h .pushed in let k = pushed-keeps p l long in
+    name (keeps-shows k (omega arith) sh) refl (omega (arith, k .long)) (push-first p l long) (h .fine) (push-second p l long ∙ e) u
 
 pub pushed-leaf : {s s′ : List ℕ} {top leaf m width place : ℕ} → Pushed s s′ top (place * 65536 + width) m → width ≡ getD s (leaf + 1) 0
     → place ≡ getD s (leaf + 2) 0 → FineName (nameAt s leaf) → PushedName s s′ top leaf m
