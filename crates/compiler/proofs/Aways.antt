@@ -7,11 +7,8 @@ use Rattle.compiler.proofs.Language.{encodeUnlabelled}
 use Rattle.tree.specs.Encoding as O
 use Rattle.code.specs.Generate as G
 use Rattle.compiler.proofs.Vocabulary.{State, Here, Ways, Node, FineE, FinePlain, NodeAt, Emits, Faulted, LeavesTo, Lies, ReadyE, GaveE}
-use Rattle.compiler.specs.Commands.{ReadyU, GaveU, GoesAway}
-use Rattle.compiler.proofs.Scoping.{keeps-all}
-use Rattle.compiler.proofs.Done.{emits-did, did-as, same-refl}
-use Rattle.compiler.proofs.Parts.{sub}
-use Rattle.compiler.proofs.Anywhere.{with-ways}
+use Rattle.compiler.proofs.Vocabulary.{ReadyU, GaveU, GoesAway}
+use Rattle.compiler.proofs.Common.{keeps-all, emits-did, did-as, same-refl, sub, with-ways}
 use Rattle.compiler.proofs.Forms as F
 use Rattle.compiler.proofs.Forms.{Form, form-at}
 

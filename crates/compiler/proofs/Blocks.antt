@@ -11,21 +11,17 @@ use Rattle.language.specs.Resolved as R
 use Rattle.language.specs.Heights as H
 use Rattle.code.specs.Generate as G
 use Rattle.compiler.proofs.Vocabulary.{Shows, Keeps, Pushed, State, Here, Ways, Node, FineC, FineCs, FineLs, FinePlain, marked, placed}
-use Rattle.compiler.proofs.Vocabulary.{leavable, leavableBy, NodeAt, Code, Did, Lies}
-use Rattle.compiler.proofs.Scoping.{keeps-then, keeps-lower, pushed-keeps, pushed-mark}
+use Rattle.compiler.proofs.Vocabulary.{leavable, leavableBy, NodeAt, Code, Did, Lies, cmdSays, cmdsSays, ReadyC, GaveC, ReadyU, GaveU}
+use Rattle.compiler.proofs.Vocabulary.{ReadyList, GaveList}
+use Rattle.compiler.proofs.Common.{keeps-then, keeps-lower, pushed-keeps, pushed-mark, did-none, did-then, did-as, same-refl, same-eq, code-is}
+use Rattle.compiler.proofs.Common.{IsTwo, ends, moved, First, first-of, Rest, rest-all, taken-sizes, rest-next, Kind, Part, begins, ready-one}
+use Rattle.compiler.proofs.Common.{rest-length, goes-on, ended, any-expressions}
 use Rattle.compiler.specs.declared.steps.Placed.{Placed}
-use Rattle.compiler.specs.Commands.{cmdSays, cmdsSays, ReadyC, GaveC, ReadyU, GaveU, ReadyList, GaveList}
 use Rattle.compiler.specs.Locals.{Local, aVector, someValues, withLocal, encodeLocal, localDepth, FineLocal, scopeWith, heightWith, faultsL}
 use Rattle.compiler.specs.Locals.{localSays, ReadyLocal, GaveLocal, localsSays, ReadyLocals, GaveLocals}
-use Rattle.compiler.proofs.Done.{did-none, did-then, did-as, same-refl, same-eq, code-is}
-use Rattle.compiler.proofs.Trees.{IsTwo, ends}
-use Rattle.compiler.proofs.Parts.{moved}
-use Rattle.compiler.proofs.Lists.{First, first-of, Rest, rest-all, taken-sizes, rest-next, Kind, Part, begins, ready-one, rest-length, goes-on}
-use Rattle.compiler.proofs.Lists.{ended}
 use Rattle.compiler.proofs.Calls.{count-resolved}
 use Rattle.compiler.proofs.Forms as F
 use Rattle.compiler.proofs.Forms.{Form, form-at}
-use Rattle.compiler.proofs.Anywhere.{any-expressions}
 
 -- ---- a list of commands
 

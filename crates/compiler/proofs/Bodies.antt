@@ -5,11 +5,8 @@ use Rattle.language.specs.Tree as T
 use Rattle.compiler.proofs.Language.{inExpression, bodyDepth, encode, encodeCommand, encodeBody, bodyWord}
 use Rattle.language.specs.Program.{bodyFaults}
 use Rattle.code.specs.Generate as G
-use Rattle.compiler.proofs.Vocabulary.{Result, ReadyE, GaveE, State, Here, Ways}
-use Rattle.compiler.proofs.Scoping.{keeps-all}
-use Rattle.compiler.proofs.Parts.{sub}
-use Rattle.compiler.specs.Commands.{ReadyC, GaveC}
-use Rattle.compiler.specs.Groups.{FineB, bodySays, ReadyBody, GaveBody}
+use Rattle.compiler.proofs.Vocabulary.{Result, ReadyE, GaveE, State, Here, Ways, ReadyC, GaveC, FineB, bodySays, ReadyBody, GaveBody}
+use Rattle.compiler.proofs.Common.{keeps-all, sub}
 
 abbrev pub nowhere : Ways
 nowhere = record { after = 0; next = 0; done = 0; result = 0 }

@@ -9,13 +9,10 @@ use Rattle.language.specs.Names as N
 use Rattle.code.specs.Generate as G
 use Rattle.language.specs.Faults as Y
 use Rattle.compiler.proofs.Vocabulary.{Keeps, Shows, Pushed, PushedName, code, nameAt, State, Here, Ways, Node, FineE, FineC, FinePlain}
-use Rattle.compiler.proofs.Vocabulary.{inside, inValof, leavable, leavableBy, NodeAt, Emits, Fresh, LeavesTo, Lies, ReadyE, GaveE}
-use Rattle.compiler.proofs.Scoping.{keeps-all, keeps-then, keeps-lower, keeps-name, pushed-keeps, pushed-mark, pushed-name}
-use Rattle.compiler.specs.Commands.{ReadyC, GaveC, ReadyU, GaveU}
-use Rattle.compiler.proofs.Done.{did-put, did-then, did-as, did-at, did-fresh, same-eq, same-swap, same-then, code-is}
-use Rattle.compiler.proofs.Trees.{find, is-valof, ends}
-use Rattle.compiler.proofs.Parts.{sub}
-use Rattle.compiler.proofs.Anywhere.{with-ways}
+use Rattle.compiler.proofs.Vocabulary.{inside, inValof, leavable, leavableBy, NodeAt, Emits, Fresh, LeavesTo, Lies, ReadyE, GaveE, ReadyC}
+use Rattle.compiler.proofs.Vocabulary.{GaveC, ReadyU, GaveU}
+use Rattle.compiler.proofs.Common.{keeps-all, keeps-then, keeps-lower, keeps-name, pushed-keeps, pushed-mark, pushed-name, did-put, did-then}
+use Rattle.compiler.proofs.Common.{did-as, did-at, did-fresh, same-eq, same-swap, same-then, code-is, find, is-valof, ends, sub, with-ways}
 use Rattle.compiler.proofs.Forms as F
 use Rattle.compiler.proofs.Forms.{Form, form-at}
 

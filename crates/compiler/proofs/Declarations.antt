@@ -3,12 +3,11 @@ use Rattle.laws.proofs.Basics.{ℕ, _+_, _*_, _^_, _<_, _≤_, _≡_, refl, sym
 use Rattle.compiler.proofs.Language.{Name, Scope, declared, inBlock, onFound, fault, declareAll, twice, encodeName, encodeNames, FineName}
 use Rattle.compiler.proofs.Language.{FineNames}
 use Rattle.language.specs.Names as N
-use Rattle.compiler.proofs.Vocabulary.{Shows, Keeps, PushedName, Told, code, found, nameAt, State, Did, Faulted, Lies}
-use Rattle.compiler.proofs.Scoping.{keeps-then, keeps-lower, keeps-name, name-there, means-unknown, pushed-keeps, pushed-name}
-use Rattle.compiler.specs.Commands.{nothing, ReadyNames, Declares, Again}
-use Rattle.compiler.proofs.Done.{did-none, did-then, did-as, same-refl}
-use Rattle.compiler.proofs.Trees.{second}
-use Rattle.compiler.proofs.Lists.{Rest, rest-all}
+use Rattle.compiler.proofs.Vocabulary.{Shows, Keeps, PushedName, Told, code, found, nameAt, State, Did, Faulted, Lies, ReadyNames, Declares}
+use Rattle.compiler.proofs.Vocabulary.{Again}
+use Rattle.compiler.proofs.Common.{keeps-then, keeps-lower, keeps-name, name-there, means-unknown, pushed-keeps, pushed-name, did-none}
+use Rattle.compiler.proofs.Common.{did-then, did-as, same-refl, second, Rest, rest-all}
+use Rattle.compiler.specs.Commands.{nothing}
 
 pub again-not : {m place : ℕ} {st : State} → m ≡ 0 → Again m place st st
 again-not z = record { by = λ f e t. rw (means-unknown f e z) (did-none 0) }

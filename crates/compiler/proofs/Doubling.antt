@@ -6,15 +6,13 @@ use Rattle.language.specs.Tree as T
 use Rattle.compiler.proofs.Language.{Label, Commands, Scope, fault, Judged, good, refused, judge, judgedWord, CaseLabel, hasCase, hasDefault}
 use Rattle.compiler.proofs.Language.{labelsBefore, labelsOf, goodCase, doubledCase, doubledLabel, doubled}
 use Rattle.language.specs.Resolved as R
-use Rattle.compiler.proofs.Vocabulary.{State, Node, NodeAt, Did, Faulted}
-use Rattle.compiler.specs.declared.steps.Verdict.{Verdict}
+use Rattle.compiler.proofs.Vocabulary.{State, Node, NodeAt, Did, Faulted, Verdict, labelFaults, ReadyLabels, JudgesLabels}
 use Rattle.compiler.specs.declared.labels.Span.{Span}
 use Rattle.compiler.specs.Commands.{nothing}
 use Rattle.compiler.specs.Locals.{Says, fit, unfit, Judges, Blames}
-use Rattle.compiler.specs.Switching.{labelFaults, ReadyLabels, JudgesLabels}
 use Rattle.compiler.specs.Labels.{NextItem, LabelAt, CommandAt, Spans, Listed, marks, flag, Marks, Notes, Marked, JudgesLabel, JudgesCommand}
 use Rattle.compiler.specs.Labels.{faultsAmong}
-use Rattle.compiler.proofs.Done.{did-none, did-then, did-as, same-refl}
+use Rattle.compiler.proofs.Common.{did-none, did-then, did-as, same-refl}
 use Rattle.compiler.proofs.Flags.{flag-none, flag-free, flag-here, flag-other, flag-taken, flag-beyond}
 use Rattle.compiler.proofs.Judging.{judged-word}
 use Rattle.compiler.proofs.Rows.{at-case, at-default, Left, left-all, left-next, left-end}

@@ -7,8 +7,7 @@ use Rattle.compiler.proofs.Language.{depth, outermost, judge, hasCase, 
 use Rattle.compiler.proofs.Language.{encodeConstant, encodePositive, encodeUnlabelled, encodeRepeats, labelled, Fine, FineCommands}
 use Rattle.compiler.proofs.Language.{FineConstant, FineCommand, FineLabels, FineUnlabelled, FineRepeats}
 use Rattle.tree.specs.Encoding.{repeated}
-use Rattle.compiler.proofs.Vocabulary.{nothing, State, Here, ReadyE}
-use Rattle.compiler.specs.Switching.{labelFaults, ReadyLabels}
+use Rattle.compiler.proofs.Vocabulary.{nothing, State, Here, ReadyE, labelFaults, ReadyLabels}
 
 abbrev scratch : List ℕ
 scratch = 0 ∷ 0 ∷ 0 ∷ 5 ∷ 0 ∷ 60 ∷ []

@@ -10,10 +10,8 @@ use Rattle.compiler.proofs.Language.{encode, encodeName, encodeBy, enco
 use Rattle.compiler.proofs.Language.{encodeLocals, encodeUnlabelled, suffixedKind}
 use Rattle.language.specs.Binding.{isGuard, isLeave}
 use Rattle.tree.specs.Encoding as O
-use Rattle.compiler.proofs.Vocabulary.{State, Here, Node, FinePlain, NodeAt, Lies}
-use Rattle.compiler.specs.Commands.{ReadyU}
-use Rattle.compiler.proofs.Trees.{kid, ends, value-is, place-is, size-is, kind-is, IsTwo}
-use Rattle.compiler.proofs.Parts.{two-closed}
+use Rattle.compiler.proofs.Vocabulary.{State, Here, Node, FinePlain, NodeAt, Lies, ReadyU}
+use Rattle.compiler.proofs.Common.{kid, ends, value-is, place-is, size-is, kind-is, IsTwo, two-closed}
 
 -- one of a list, where each has what is wanted
 one-of : (P : ℕ → Type 0) (k a : ℕ) (others : List ℕ) → member k (a ∷ others) ≡ true → P a → (member k others ≡ true → P k) → P k

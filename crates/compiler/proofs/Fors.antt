@@ -12,17 +12,13 @@ use Rattle.language.specs.Names as N
 use Rattle.language.specs.Resolved as R
 use Rattle.code.specs.Generate as G
 use Rattle.compiler.proofs.Vocabulary.{Shows, Keeps, Pushed, PushedName, nameAt, State, Here, Ways, Node, FineE, FineC, FinePlain, raised}
-use Rattle.compiler.proofs.Vocabulary.{placed, inLoop, leavableBy, exits, NodeAt, Code, Did, Emits, Fresh, Lies, ReadyE, GaveE}
-use Rattle.compiler.proofs.Scoping.{keeps-all, keeps-then, keeps-shows, keeps-name, name-there, pushed-keeps}
-use Rattle.compiler.specs.declared.steps.Verdict.{Verdict}
-use Rattle.compiler.specs.Commands.{nothing, cmdSays, ReadyC, GaveC, ReadyU, GaveU}
+use Rattle.compiler.proofs.Vocabulary.{placed, inLoop, leavableBy, exits, NodeAt, Code, Did, Emits, Fresh, Lies, ReadyE, GaveE, Verdict}
+use Rattle.compiler.proofs.Vocabulary.{cmdSays, ReadyC, GaveC, ReadyU, GaveU, byJudged, JudgesBy}
+use Rattle.compiler.proofs.Common.{keeps-all, keeps-then, keeps-shows, keeps-name, name-there, pushed-keeps, did-emit, did-put, did-then}
+use Rattle.compiler.proofs.Common.{did-as, did-at, did-fresh, same-refl, same-eq, code-is, first, second, keeps-lies, sub, moved, with-ways}
+use Rattle.compiler.specs.Commands.{nothing}
 use Rattle.compiler.proofs.Judging.{says-word}
 use Rattle.compiler.specs.Locals.{Says, Blames}
-use Rattle.compiler.specs.Switching.{byJudged, JudgesBy}
-use Rattle.compiler.proofs.Done.{did-emit, did-put, did-then, did-as, did-at, did-fresh, same-refl, same-eq, code-is}
-use Rattle.compiler.proofs.Trees.{first, second, keeps-lies}
-use Rattle.compiler.proofs.Parts.{sub, moved}
-use Rattle.compiler.proofs.Anywhere.{with-ways}
 use Rattle.compiler.proofs.Guards.{closed-start, command-closed, expression-closed, unlabelled-closed}
 use Rattle.compiler.proofs.Commands.{named-block-keeps, named-block-shows, after-block}
 use Rattle.compiler.proofs.Conditions.{leaves-loop}

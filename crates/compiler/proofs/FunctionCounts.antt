@@ -4,10 +4,8 @@ use Rattle.language.specs.Kinds as K
 use Rattle.language.specs.Tree as T
 use Rattle.compiler.proofs.Language.{Declaration, Program, encodeProgram}
 use Rattle.compiler.specs.Walks.{Lies}
-use Rattle.compiler.specs.Groups.{functionCount, CountsFunctions, CountsGroup}
-use Rattle.compiler.specs.Programs.{encodeDeclared, declaredWord}
-use Rattle.compiler.proofs.Lists.{First, first-of, Rest, rest-all, rest-next}
-use Rattle.compiler.proofs.Scoping.{keeps-all}
+use Rattle.compiler.proofs.Vocabulary.{functionCount, CountsFunctions, CountsGroup, encodeDeclared, declaredWord}
+use Rattle.compiler.proofs.Common.{First, first-of, Rest, rest-all, rest-next, keeps-all}
 
 pub program-step : (d : Declaration) (p : Program)
     → encodeProgram (d ∷ p) ≡ (length (encodeDeclared d) ∷ declaredWord d ∷ encodeDeclared d) ++ encodeProgram p

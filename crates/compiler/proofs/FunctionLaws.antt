@@ -6,13 +6,10 @@ use Rattle.language.specs.Kinds as K
 use Rattle.compiler.proofs.Language.{Function, opened, declareAll, heightsOf, encodeName, encodeNames, encodeBody, bodyWord}
 use Rattle.language.specs.Program.{inside, bodyOf, functionFaults, resolved}
 use Rattle.code.specs.Generate as G
-use Rattle.compiler.proofs.Vocabulary.{Keeps, Pushed, State, Here, Node, NodeAt, Emits, Reached, Lies}
-use Rattle.compiler.specs.Commands.{ReadyNames, Declares}
-use Rattle.compiler.specs.Groups.{encodeFunction, ReadyBody, GaveBody, functionSays, ReadyF, GaveF}
-use Rattle.compiler.proofs.Scoping.{keeps-then, keeps-lower, pushed-keeps, pushed-mark}
-use Rattle.compiler.proofs.Done.{did-then, did-put, did-after, did-as, same-refl, code-is}
-use Rattle.compiler.proofs.Trees.{first, second, keeps-lies, ends, kid, size-is, value-is, kind-is}
-use Rattle.compiler.proofs.Parts.{moved}
+use Rattle.compiler.proofs.Vocabulary.{Keeps, Pushed, State, Here, Node, NodeAt, Emits, Reached, Lies, ReadyNames, Declares, encodeFunction}
+use Rattle.compiler.proofs.Vocabulary.{ReadyBody, GaveBody, functionSays, ReadyF, GaveF}
+use Rattle.compiler.proofs.Common.{keeps-then, keeps-lower, pushed-keeps, pushed-mark, did-then, did-put, did-after, did-as, same-refl}
+use Rattle.compiler.proofs.Common.{code-is, first, second, keeps-lies, ends, kid, size-is, value-is, kind-is, moved}
 use Rattle.compiler.proofs.Judging.{names-long}
 
 -- ---- where its parts stand

@@ -8,15 +8,11 @@ use Rattle.compiler.proofs.Language.{functionsDepth, encodeName, encode
 use Rattle.language.specs.Program.{Named, startOf, withFunction, resolved, functionFaults, groupFaults, groupOf, heightFaults}
 use Rattle.language.specs.Whole.{funs}
 use Rattle.code.specs.Generate as G
-use Rattle.compiler.proofs.Vocabulary.{Did, Code, least, AllFit, noFit, Lies, State, Here}
-use Rattle.compiler.specs.Groups.{encodeFunction, functionDepth, FineF, FineFs, functionSays, functionsSays, innerLabels, ReadyF, GaveF}
-use Rattle.compiler.specs.Groups.{ReadyFs, GaveFs}
-use Rattle.compiler.specs.Programs.{Yields}
+use Rattle.compiler.proofs.Vocabulary.{Did, Code, least, AllFit, noFit, Lies, State, Here, encodeFunction, functionDepth, FineF, FineFs}
+use Rattle.compiler.proofs.Vocabulary.{functionSays, functionsSays, innerLabels, ReadyF, GaveF, ReadyFs, GaveFs, Yields}
 use Rattle.compiler.specs.declared.program.Done.{Done}
-use Rattle.compiler.proofs.Scoping.{keeps-shows}
-use Rattle.compiler.proofs.Done.{least-then, fit-then, fault-fits, nil-left, nil-right, did-none, did-then, did-as, same-refl, code-is}
-use Rattle.compiler.proofs.Trees.{keeps-lies}
-use Rattle.compiler.proofs.Lists.{Rest, rest-all, taken-sizes, rest-next}
+use Rattle.compiler.proofs.Common.{keeps-shows, least-then, fit-then, fault-fits, nil-left, nil-right, did-none, did-then, did-as, same-refl}
+use Rattle.compiler.proofs.Common.{code-is, keeps-lies, Rest, rest-all, taken-sizes, rest-next}
 use Rattle.compiler.proofs.GroupLaws.{IsFunction, is-function, no-function}
 
 -- ---- the least 16

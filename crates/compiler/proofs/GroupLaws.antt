@@ -5,16 +5,14 @@ use Rattle.laws.proofs.Cases.{by-cases, contradiction}
 use Rattle.compiler.proofs.Language.{Function, nowhere, encodeFunctions}
 use Rattle.language.specs.Names as N
 use Rattle.language.specs.Program.{among, startOf, nameFault}
-use Rattle.compiler.proofs.Vocabulary.{PushedName, code, found, State, Did, Faulted, Lies}
+use Rattle.compiler.proofs.Vocabulary.{PushedName, code, found, State, Did, Faulted, Lies, Taken, NameFaults, Enters, encodeFunction}
+use Rattle.compiler.proofs.Vocabulary.{CountsGroup}
 use Rattle.compiler.specs.Walks.{Items, noItem}
-use Rattle.compiler.proofs.Scoping.{means-unknown, means-global, keeps-all, pushed-keeps, pushed-name}
+use Rattle.compiler.proofs.Common.{means-unknown, means-global, keeps-all, pushed-keeps, pushed-name, did-none, First, first-of}
 use Rattle.compiler.specs.Commands.{nothing}
-use Rattle.compiler.proofs.Done.{did-none}
-use Rattle.compiler.proofs.Lists.{First, first-of}
 use Rattle.compiler.proofs.Counting as C
 use Rattle.compiler.proofs.Counting.{item-first}
 pub use Rattle.compiler.proofs.Counting.{Counting, count-begin, count-next}
-use Rattle.compiler.specs.Groups.{Taken, NameFaults, Enters, encodeFunction, CountsGroup}
 
 -- ---- 9 at a function's name
 

@@ -7,14 +7,12 @@ use Rattle.compiler.proofs.Language.{Name, Function, Scope, lookup, Fau
 use Rattle.compiler.proofs.Language.{FineFunctions}
 use Rattle.language.specs.Names as N
 use Rattle.language.specs.Program.{among, startOf, withFunction, nameFault, alsoTaken, functionsAfter, takenAfter, groupNameFaults}
-use Rattle.compiler.proofs.Vocabulary.{Shows, Looked, found, nameAt, State, Did, Lies}
+use Rattle.compiler.proofs.Vocabulary.{Shows, Looked, found, nameAt, State, Did, Lies, Small, Taken, Starting, startsIn, started, NameFaults}
+use Rattle.compiler.proofs.Vocabulary.{Enters, encodeFunction, FineF, FineFs, ReadyGroup, GroupNames}
 use Rattle.compiler.specs.Commands.{nothing}
-use Rattle.compiler.specs.Groups.{Small, Taken, Starting, startsIn, started, NameFaults, Enters, encodeFunction, FineF, FineFs, ReadyGroup}
-use Rattle.compiler.specs.Groups.{GroupNames}
-use Rattle.compiler.proofs.Scoping.{keeps-lower, keeps-name, name-there}
-use Rattle.compiler.proofs.Done.{nil-left, nil-right, did-none, did-then, did-as, same-refl}
+use Rattle.compiler.proofs.Common.{keeps-lower, keeps-name, name-there, nil-left, nil-right, did-none, did-then, did-as, same-refl, Rest}
+use Rattle.compiler.proofs.Common.{rest-all, rest-next}
 use Rattle.compiler.proofs.GroupLaws.{IsFunction, is-function, no-function}
-use Rattle.compiler.proofs.Lists.{Rest, rest-all, rest-next}
 use Rattle.compiler.proofs.Rendered.{small-found}
 
 -- ---- where functions start: one more

@@ -5,15 +5,12 @@ use Rattle.language.specs.Tree as T
 use Rattle.compiler.proofs.Language.{Item, Scope, declared, inBlock, onFound, fault, judgedWord, faultsOf, encodeName, encodeConstant}
 use Rattle.compiler.proofs.Language.{encodeItems, FineName, FineConstant, FineItem, FineItems}
 use Rattle.compiler.specs.Scope as S
-use Rattle.compiler.proofs.Vocabulary.{Shows, PushedName, Worded, code, nameAt, State, Did, Lies, STRINGS}
-use Rattle.compiler.proofs.Scoping.{keeps-lower, keeps-name, name-there, pushed-keeps, pushed-name}
-use Rattle.compiler.specs.Commands.{nothing, Again}
-use Rattle.compiler.proofs.Done.{did-none, did-then, did-as, same-refl}
-use Rattle.compiler.proofs.Trees.{second, keeps-lies}
-use Rattle.compiler.proofs.Lists.{First, first-of, Rest, rest-all, rest-next}
+use Rattle.compiler.proofs.Vocabulary.{Shows, PushedName, Worded, code, nameAt, State, Did, Lies, STRINGS, Again, Verdict}
+use Rattle.compiler.proofs.Common.{keeps-lower, keeps-name, name-there, pushed-keeps, pushed-name, did-none, did-then, did-as, same-refl}
+use Rattle.compiler.proofs.Common.{second, keeps-lies, First, first-of, Rest, rest-all, rest-next}
+use Rattle.compiler.specs.Commands.{nothing}
 use Rattle.compiler.proofs.Judging.{judged-word, says-word}
 use Rattle.compiler.specs.Locals.{Says, Judges, JudgesMost, Blames}
-use Rattle.compiler.specs.declared.steps.Verdict.{Verdict}
 use Rattle.language.specs.Program.{globalsAfter, manifestsAfter, globalFaults, manifestFaults}
 use Rattle.compiler.specs.Items.{judged, meaning, after, faults, FineIs, JudgesItem, ReadyItems, Items}
 

@@ -9,15 +9,13 @@ use Rattle.compiler.proofs.Language.{encodeConstant, encodePositive, en
 use Rattle.language.specs.Names as N
 use Rattle.code.specs.Generate as G
 use Rattle.compiler.proofs.Vocabulary.{Shows, Looked, code, found, nameAt, State, Here, Node, FineEs, NodeAt, Did, Emits, Faulted, Lies}
-use Rattle.compiler.proofs.Vocabulary.{ReadyArgs, GaveArgs}
-use Rattle.compiler.proofs.Scoping.{keeps-all, keeps-then, keeps-shows, name-there, means-unknown, means-manifest, Held, looked-word}
-use Rattle.compiler.specs.declared.steps.Verdict.{Verdict}
-use Rattle.compiler.specs.Commands.{nothing, ReadyNames, Declares}
+use Rattle.compiler.proofs.Vocabulary.{ReadyArgs, GaveArgs, Verdict, ReadyNames, Declares}
+use Rattle.compiler.proofs.Common.{keeps-all, keeps-then, keeps-shows, name-there, means-unknown, means-manifest, Held, looked-word, did-none}
+use Rattle.compiler.proofs.Common.{did-then, did-emit, did-as, same-refl, code-is, keeps-lies, kid, ends, value-is, place-is, size-is, kind-is}
+use Rattle.compiler.proofs.Common.{IsTwo, two-closed, sub}
+use Rattle.compiler.specs.Commands.{nothing}
 use Rattle.compiler.specs.Locals.{Says, fit, unfit, NamedConstant, Judges, JudgesMost, Blames, Local, aVector, someValues, encodeLocal}
 use Rattle.compiler.specs.Locals.{localDepth, FineLocal, scopeWith, heightWith, faultsL, localSays, ReadyLocal, GaveLocal}
-use Rattle.compiler.proofs.Done.{did-none, did-then, did-emit, did-as, same-refl, code-is}
-use Rattle.compiler.proofs.Trees.{keeps-lies, kid, ends, value-is, place-is, size-is, kind-is, IsTwo}
-use Rattle.compiler.proofs.Parts.{two-closed, sub}
 
 pub signed-minus : {b : Bool} {x : ℕ} (v : ℕ) → b ≡ true → x ≡ 65536 - v → x % 65536 ≡ signed b v
 signed-minus {b} {x} v e q = let z : x % 65536 ≡ (0 + (65536 - v)) % 65536 = ap (λ (k : ℕ). k % 65536) (omega arith) in rw e z

@@ -9,13 +9,9 @@ use Rattle.compiler.proofs.Language.{encodeUnlabelled, encodeRepeats, e
 use Rattle.code.specs.Generate as G
 use Rattle.language.specs.Faults.{repeated}
 use Rattle.tree.specs.Encoding as O
-use Rattle.compiler.proofs.Scoping.{keeps-all}
-use Rattle.compiler.proofs.Vocabulary.{State, Here, Ways, Node, FineC, FinePlain, inside, leavableBy, NodeAt, Lies, STRINGS}
-use Rattle.compiler.specs.Commands.{cmdSays, ReadyC, GaveC, GaveCase, encodeRepeated, deepRepeated, FineRepeated, ReadyR, GaveR}
-use Rattle.compiler.specs.Switching.{ReadyMisplaced, Misplaces}
-use Rattle.compiler.proofs.Done.{did-none, did-then, did-as, same-refl, same-eq, code-is}
-use Rattle.compiler.proofs.Trees.{kind-is, IsTwo}
-use Rattle.compiler.proofs.Parts.{two-closed, sub}
+use Rattle.compiler.proofs.Common.{keeps-all, did-none, did-then, did-as, same-refl, same-eq, code-is, kind-is, IsTwo, two-closed, sub}
+use Rattle.compiler.proofs.Vocabulary.{State, Here, Ways, Node, FineC, FinePlain, inside, leavableBy, NodeAt, Lies, STRINGS, cmdSays, ReadyC}
+use Rattle.compiler.proofs.Vocabulary.{GaveC, GaveCase, encodeRepeated, deepRepeated, FineRepeated, ReadyR, GaveR, ReadyMisplaced, Misplaces}
 use Rattle.compiler.proofs.Calls.{with-state}
 use Rattle.compiler.proofs.Guards.{IsClosed, unlabelled-closed}
 use Rattle.compiler.proofs.Forms.{form-of, form-small}

@@ -9,15 +9,11 @@ use Rattle.language.specs.Program.{Walk, Named, begin, among, functionsAfter, a
 use Rattle.language.specs.Program.{functionsFrom}
 use Rattle.language.specs.Whole.{funs}
 use Rattle.compiler.specs.Scope as S
-use Rattle.compiler.proofs.Vocabulary.{STRINGS}
-use Rattle.compiler.specs.Groups.{Small, Taken, Starting, FineDs}
-use Rattle.compiler.specs.Programs.{startsOf, encodeDeclared, Stands, Yields, ReadyDeclaration, GaveDeclaration, ReadyProgram, GaveProgram}
+use Rattle.compiler.proofs.Vocabulary.{STRINGS, Small, Taken, Starting, FineDs, startsOf, encodeDeclared, Stands, Yields, ReadyDeclaration}
+use Rattle.compiler.proofs.Vocabulary.{GaveDeclaration, ReadyProgram, GaveProgram}
 use Rattle.compiler.specs.declared.program.Done.{Done}
 use Rattle.compiler.specs.declared.program.Progress.{Progress}
-use Rattle.compiler.proofs.Scoping.{keeps-lower}
-use Rattle.compiler.proofs.Done.{nil-left, nil-right}
-use Rattle.compiler.proofs.Trees.{keeps-lies}
-use Rattle.compiler.proofs.Lists.{Rest, rest-all, taken-sizes, rest-next}
+use Rattle.compiler.proofs.Common.{keeps-lower, nil-left, nil-right, keeps-lies, Rest, rest-all, taken-sizes, rest-next}
 use Rattle.compiler.proofs.FunctionCounts.{IsDeclaration, is-declaration, no-declaration}
 use Rattle.compiler.proofs.FunctionLists.{functions-long, yields-none, yields-then, yields-as}
 use Rattle.compiler.proofs.Levels.{group-long}

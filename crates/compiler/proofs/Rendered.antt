@@ -6,7 +6,7 @@ use Rattle.items.specs.Render.{render, renderLines, renderAll}
 use Rattle.writing.specs.Text.{line, lines}
 use Rattle.compiler.proofs.Language.{Name, Scope, lookup, sameName}
 use Rattle.language.specs.Names as N
-use Rattle.compiler.specs.Groups.{Small}
+use Rattle.compiler.proofs.Vocabulary.{Small}
 
 lines-end : (is : List Item) → renderLines is ≡ lines is ++ (90 ∷ 10 ∷ [])
 unfolding renderLines lines line

@@ -10,16 +10,12 @@ use Rattle.code.specs.Generate as G
 use Rattle.language.specs.Faults as Y
 use Rattle.tree.specs.Encoding as O
 use Rattle.compiler.proofs.Vocabulary.{Keeps, State, Here, Ways, Node, FineE, FinePlain, FineRs, inLoop, leavable, leavableBy, exits, NodeAt}
-use Rattle.compiler.proofs.Vocabulary.{Code, Did, Emits, Fresh, Lies, Ready, GaveE, Counts}
-use Rattle.compiler.proofs.Scoping.{keeps-all, keeps-then}
+use Rattle.compiler.proofs.Vocabulary.{Code, Did, Emits, Fresh, Lies, Ready, GaveE, Counts, cmdSays, ReadyU, GaveU, encodeRepeated, ReadyR}
+use Rattle.compiler.proofs.Vocabulary.{GaveR, ReadyForms, GaveForms, formSays, ReadyForm, GaveForm}
+use Rattle.compiler.proofs.Common.{keeps-all, keeps-then, emits-did, did-none, did-put, did-after, did-then, did-as, did-at, did-fresh}
+use Rattle.compiler.proofs.Common.{same-refl, same-eq, code-is, kind-is, TwoAt, two-at, sub, First, first-of, Kind, Part, begins, item}
+use Rattle.compiler.proofs.Common.{one-size, one-word, rest-length, both-deep, both-fine, goes-on, ended, any-expression}
 use Rattle.compiler.specs.Repeats.{forms, conditions, topsCode, formsCode, formsHeights, formsLabels, formsSays, innermost}
-use Rattle.compiler.specs.Commands.{cmdSays, ReadyU, GaveU, encodeRepeated, ReadyR, GaveR, ReadyForms, GaveForms, formSays, ReadyForm, GaveForm}
-use Rattle.compiler.proofs.Done.{emits-did, did-none, did-put, did-after, did-then, did-as, did-at, did-fresh, same-refl, same-eq, code-is}
-use Rattle.compiler.proofs.Trees.{kind-is}
-use Rattle.compiler.proofs.Parts.{TwoAt, two-at, sub}
-use Rattle.compiler.proofs.Lists.{First, first-of, Kind, Part, begins, item, one-size, one-word, rest-length, both-deep, both-fine, goes-on}
-use Rattle.compiler.proofs.Lists.{ended}
-use Rattle.compiler.proofs.Anywhere.{any-expression}
 use Rattle.compiler.proofs.Guards.{expression-closed}
 use Rattle.compiler.proofs.Labelled.{closed-long}
 use Rattle.compiler.proofs.Counting.{repeat-items}

@@ -10,7 +10,7 @@ use Rattle.code.specs.Generate.{Exits, cmdCode, cmdLabels, exprCode, exprLabels
 use Rattle.writing.specs.Text.{lines}
 use Rattle.writing.proofs.Laws.{puts-none}
 use Rattle.compiler.proofs.Vocabulary.{State, Emits}
-use Rattle.compiler.proofs.Done.{emits-then}
+use Rattle.compiler.proofs.Common.{emits-then}
 use Rattle.compiler.specs.Repeats.{forms, topsCode, formsCode, formsHeights, formsLabels, innermost}
 
 tops-snoc : (n k : ℕ) → topsCode n (suc k) ≡ topsCode n k ++ (I.label (n + 3 * k) ∷ [])

@@ -4,14 +4,11 @@ use Rattle.laws.proofs.Basics.{some, none, length, getD, length-append, eqb, ar
 use Rattle.language.specs.Tree as T
 use Rattle.compiler.proofs.Language.{Simple, Constant, Label, Scope, fault, judge, faultsOf, misplaced, FineConstant, FineBy, FineLabels}
 use Rattle.compiler.proofs.Language.{closed, encodeName, encodeConstant, encodePositive, encodeNegative, encodeBy, encodeLabels}
-use Rattle.compiler.proofs.Vocabulary.{Shows, State, Node, NodeAt, Did, Faulted, Lies}
-use Rattle.compiler.specs.declared.steps.Verdict.{Verdict}
+use Rattle.compiler.proofs.Vocabulary.{Shows, State, Node, NodeAt, Did, Faulted, Lies, Verdict, JudgesBy, byJudged, ReadyMisplaced, Misplaces}
 use Rattle.compiler.specs.Commands.{nothing}
 use Rattle.compiler.specs.Locals.{Says, fit, Judges, Blames}
-use Rattle.compiler.specs.Switching.{JudgesBy, byJudged, ReadyMisplaced, Misplaces}
 use Rattle.compiler.specs.Labels.{Row, noMore, andMore, NextItem, LabelAt, aCase, aDefault, MisplacesLabel}
-use Rattle.compiler.proofs.Done.{did-none, did-then, did-as, same-eq}
-use Rattle.compiler.proofs.Trees.{first, second, kid, ends, place-is, kind-is}
+use Rattle.compiler.proofs.Common.{did-none, did-then, did-as, same-eq, first, second, kid, ends, place-is, kind-is}
 use Rattle.compiler.proofs.Judging.{place-there, within-passes, within-fails}
 
 -- ---- the constant of BY

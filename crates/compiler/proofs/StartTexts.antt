@@ -7,8 +7,7 @@ use Rattle.language.specs.Resolved.{Start, nowhere, inGlobal, Fun}
 use Rattle.code.specs.Generate.{startIn, startsCode}
 use Rattle.writing.specs.Text.{Puts, line, lines}
 use Rattle.writing.proofs.Laws.{puts-then, puts-as, puts-none, lines-then}
-use Rattle.compiler.specs.Groups.{Starting}
-use Rattle.compiler.specs.Programs.{startsOf}
+use Rattle.compiler.proofs.Vocabulary.{Starting, startsOf}
 use Rattle.compiler.specs.Strings.{FindsGlobal, StartsAt, WritesStart, WritesStarts}
 
 -- ---- the global of a label: none of the first n entries is it

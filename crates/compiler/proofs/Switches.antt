@@ -10,18 +10,14 @@ use Rattle.compiler.proofs.Language.{inUnlabelled, encode, encodeComman
 use Rattle.language.specs.Resolved as R
 use Rattle.code.specs.Generate as G
 use Rattle.language.specs.Faults as Y
-use Rattle.compiler.proofs.Scoping.{keeps-all, keeps-then, keeps-shows}
+use Rattle.compiler.proofs.Common.{keeps-all, keeps-then, keeps-shows, did-none, did-put, did-after, did-then, did-as, did-at, did-fresh, Same}
+use Rattle.compiler.proofs.Common.{same-refl, same-eq, same-swap, same-then, same-both, code-is, keeps-lies, IsTwo, sub, with-ways, Part}
+use Rattle.compiler.proofs.Common.{begins, item, ready-one, goes-on, ended}
 use Rattle.compiler.proofs.Vocabulary.{State, Here, Ways, Node, FineE, FineCs, FinePlain, inSwitch, leavableBy, exits, NodeAt, Code, Did}
-use Rattle.compiler.proofs.Vocabulary.{Emits, Fresh, Lies, ReadyE, GaveE, Counts}
-use Rattle.compiler.specs.Commands.{cmdSays, ReadyC, GaveCase, ReadyU, GaveU, casesFaults, casesSays, entriesIn, ReadyCases, GaveCases}
-use Rattle.compiler.specs.Switching.{labelFaults, ReadyLabels, JudgesLabels, tableItems, WritesTable}
-use Rattle.compiler.proofs.Done.{did-none, did-put, did-after, did-then, did-as, did-at, did-fresh, Same, same-refl, same-eq, same-swap}
-use Rattle.compiler.proofs.Done.{same-then, same-both, code-is}
-use Rattle.compiler.proofs.Trees.{keeps-lies, IsTwo}
-use Rattle.compiler.proofs.Parts.{sub}
-use Rattle.compiler.proofs.Anywhere.{with-ways}
+use Rattle.compiler.proofs.Vocabulary.{Emits, Fresh, Lies, ReadyE, GaveE, Counts, cmdSays, ReadyC, GaveCase, ReadyU, GaveU, casesFaults}
+use Rattle.compiler.proofs.Vocabulary.{casesSays, entriesIn, ReadyCases, GaveCases, labelFaults, ReadyLabels, JudgesLabels, tableItems}
+use Rattle.compiler.proofs.Vocabulary.{WritesTable}
 use Rattle.compiler.proofs.Blocks.{commandList}
-use Rattle.compiler.proofs.Lists.{Part, begins, item, ready-one, goes-on, ended}
 use Rattle.compiler.proofs.Counting.{command-items}
 use Rattle.compiler.proofs.Forms as F
 use Rattle.compiler.proofs.Forms.{Form, form-at}

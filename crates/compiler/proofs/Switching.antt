@@ -12,16 +12,14 @@ use Rattle.language.specs.Names as N
 use Rattle.code.specs.Generate as G
 use Rattle.writing.specs.Text.{lines}
 use Rattle.writing.proofs.Laws.{puts-none}
-use Rattle.compiler.proofs.Vocabulary.{State, Node, FineC, FineCs, NodeAt, Emits, Lies}
-use Rattle.compiler.specs.declared.steps.Verdict.{Verdict}
+use Rattle.compiler.proofs.Vocabulary.{State, Node, FineC, FineCs, NodeAt, Emits, Lies, Verdict, labelFaults, ReadyLabels, WritesTable}
 use Rattle.compiler.specs.declared.labels.Span.{Span}
 use Rattle.compiler.specs.Locals.{Says, fit, unfit, Judges}
-use Rattle.compiler.specs.Switching.{labelFaults, ReadyLabels, WritesTable}
 use Rattle.compiler.specs.Labels as L
 use Rattle.compiler.specs.Labels.{Row, noMore, andMore, NextItem, LabelAt, CommandAt, Spans, Listed, marks, flat, caseItems, CountsLabel}
 use Rattle.compiler.specs.Labels.{CountsAll, HasDefault, defaultAmong, FindsDefault, Sound, noLabel, anyDefault, tableAmong, Still, WritesPair}
 use Rattle.compiler.specs.Labels.{WritesPairs, WritesAll}
-use Rattle.compiler.proofs.Done.{emits-then, nil-left, nil-right}
+use Rattle.compiler.proofs.Common.{emits-then, nil-left, nil-right}
 use Rattle.compiler.proofs.Labelled.{is-labelled, is-bare}
 use Rattle.compiler.proofs.Judging.{of-found}
 use Rattle.compiler.proofs.Rows.{at-case, at-default, Left, left-all, left-next, left-end, an-item, labels-row}
